@@ -1,0 +1,28 @@
+-- Worked examples: equality of maps, with repeats too.
+use Rattle.std.specs.Prelude.{◌≡◌, ℕ, Bool, true, false, List, [], ◌∷◌, nat_eq, refl}
+use Rattle.vecmap_base.specs.Equality.{agrees, count, has_same_counts}
+
+abbrev equal : List (ℕ × ℕ) → List (ℕ × ℕ) → Bool
+equal = has_same_counts nat_eq nat_eq
+
+another_order : equal ((1, 10) ∷ (2, 20) ∷ []) ((2, 20) ∷ (1, 10) ∷ []) ≡ true
+another_order = refl
+
+nothing_else : (equal ((1, 10) ∷ []) [] ≡ false) × (equal ((1, 10) ∷ []) ((2, 20) ∷ []) ≡ false) × (equal ((1, 10) ∷ []) ((1, 20) ∷ []) ≡ false) × (equal ((1, 10) ∷ []) ((1, 10) ∷ (2, 20) ∷ []) ≡ false)
+nothing_else = (refl, refl, refl, refl)
+
+a_repeat_is_no_other_key : (equal ((1, 5) ∷ (1, 5) ∷ []) ((1, 5) ∷ (2, 5) ∷ []) ≡ false) × (equal ((1, 5) ∷ (2, 5) ∷ []) ((1, 5) ∷ (1, 5) ∷ []) ≡ false)
+a_repeat_is_no_other_key = (refl, refl)
+
+repeats_in_another_order : equal ((1, 5) ∷ (1, 6) ∷ []) ((1, 6) ∷ (1, 5) ∷ []) ≡ true
+repeats_in_another_order = refl
+
+as_long_but_other_counts : (equal ((1, 5) ∷ (1, 5) ∷ (1, 6) ∷ []) ((1, 5) ∷ (1, 6) ∷ (1, 6) ∷ []) ≡ false) × (equal ((1, 5) ∷ (1, 6) ∷ (1, 6) ∷ []) ((1, 5) ∷ (1, 5) ∷ (1, 6) ∷ []) ≡ false)
+as_long_but_other_counts = (refl, refl)
+
+-- a test that looks up the keys alone would call these equal
+lookups_do_not_settle_repeats : agrees nat_eq nat_eq ((1, 5) ∷ (1, 6) ∷ []) ((1, 5) ∷ []) ≡ true
+lookups_do_not_settle_repeats = refl
+
+how_often : count nat_eq nat_eq ((1, 5) ∷ (1, 5) ∷ (1, 6) ∷ []) (1, 5) ≡ 2
+how_often = refl

@@ -1,0 +1,65 @@
+-- Worked examples: what a retaining closure leaves.
+use Rattle.std.specs.Prelude.{◌≡◌, ℕ, ◌+◌, ◌%◌, Bool, true, false, [], ◌∷◌, nat_eq, refl}
+use Rattle.vecmap_base.specs.Kept.{Kept}
+
+-- a closure that counts its calls, writes the count as the value, and answers whether it is even
+abbrev Counts : ℕ → ℕ × ℕ → Bool → ℕ × ℕ → ℕ → Type 0
+Counts calls p answer q after = (after ≡ calls + 1) × (q ≡ (p.0, calls + 1)) × (answer ≡ nat_eq ((calls + 1) % 2) 0)
+
+every_second_one_stays : Kept Counts 0 ((97, 0) ∷ (98, 0) ∷ (99, 0) ∷ (100, 0) ∷ []) ((98, 2) ∷ (100, 4) ∷ []) 4
+every_second_one_stays = (
+  false,
+  (97, 1),
+  1,
+  (98, 2) ∷ (100, 4) ∷ [],
+  (refl, refl, refl),
+  (
+    true,
+    (98, 2),
+    2,
+    (100, 4) ∷ [],
+    (refl, refl, refl),
+    (
+      false,
+      (99, 3),
+      3,
+      (100, 4) ∷ [],
+      (refl, refl, refl),
+      (true, (100, 4), 4, [], (refl, refl, refl), (refl, refl), refl),
+      refl,
+    ),
+    refl,
+  ),
+  refl,
+)
+
+-- a closure that exchanges key and value, and answers whether the value is then even
+abbrev Exchanges : ℕ → ℕ × ℕ → Bool → ℕ × ℕ → ℕ → Type 0
+Exchanges state p answer q after = (after ≡ state) × (q ≡ (p.1, p.0)) × (answer ≡ nat_eq (p.0 % 2) 0)
+
+written_keys_stay_as_written : Kept Exchanges 0 ((0, 0) ∷ (1, 10) ∷ (2, 20) ∷ (3, 30) ∷ []) ((0, 0) ∷ (20, 2) ∷ []) 0
+written_keys_stay_as_written = (
+  true,
+  (0, 0),
+  0,
+  (20, 2) ∷ [],
+  (refl, refl, refl),
+  (
+    false,
+    (10, 1),
+    0,
+    (20, 2) ∷ [],
+    (refl, refl, refl),
+    (
+      true,
+      (20, 2),
+      0,
+      [],
+      (refl, refl, refl),
+      (false, (30, 3), 0, [], (refl, refl, refl), (refl, refl), refl),
+      refl,
+    ),
+    refl,
+  ),
+  refl,
+)

@@ -1,0 +1,79 @@
+-- The keys of a list of pairs, as a list of elements: what changes the pairs changes the keys alike.
+use Rattle.std.specs.Prelude.{◌≡◌, ℕ, suc, ◌-◌, Bool, true, false, List, [], ◌∷◌, ◌++◌, Option, None, Some, drop, if◌then◌else◌, insert, is_some, length, min, remove, take, refl}
+use Rattle.std.specs.Cmp.{IsEquivalence}
+use Rattle.std.specs.List.{IsDistinct}
+use Rattle.std.specs.Map.{keys_of}
+use Rattle.std.specs.Option.{option_map, option_map_or}
+use Rattle.std.proofs.Common.{sym, ap, subst, ◌∙◌}
+use Rattle.std.proofs.lemmas.List.{drop-map, map-append, take-map}
+use Rattle.vecmap_base.specs.Items.{add, add_new, adds, has_item, item_index, without_item}
+use Rattle.vecmap_base.specs.Pairs.{HasDistinctKeys, index_of, put, put_at, put_key, puts, without_key}
+use Rattle.vecmap_base.proofs.ItemsLemmas.{add-cons, add_new-cons, item_index-cons, without_item-cons}
+use Rattle.vecmap_base.proofs.ItemsLemmas.{without_item_absent}
+use Rattle.vecmap_base.proofs.PairsLemmas.{index_of-cons, put-cons, put_at_absent, put_at_present, put_key-cons, without_key-cons}
+use Rattle.vecmap_base.proofs.Places.{is_some-position}
+use Rattle.vecmap_base.proofs.StaysDistinct.{distinct_add, distinct_add_new, distinct_adds, distinct_insert, distinct_remove}
+
+module _ {K V : Type 0} where
+  pub keys_of-remove : (l : List (K × V)) (i : ℕ) → keys_of (remove l i) ≡ remove (keys_of l) i
+  keys_of-remove l i = map-append (λ p. p.0) (take i l) (drop (suc i) l) ∙ sym (λ t. take-map (λ p. p.0) i l t ++ drop-map (λ p. p.0) (suc i) l t)
+
+  pub keys_of-insert : (l : List (K × V)) (i : ℕ) (k : K) (v : V) → keys_of (insert l i (k, v)) ≡ insert (keys_of l) i k
+  keys_of-insert l i k v = map-append (λ p. p.0) (take i l) ((k, v) ∷ drop i l) ∙ sym (λ t. take-map (λ p. p.0) i l t ++ k ∷ drop-map (λ p. p.0) i l t)
+
+module _ {K V : Type 0} (eq : K → K → Bool) where
+  pub index_of_is : (l : List (K × V)) (k : K) → index_of eq l k ≡ item_index eq (keys_of l) k
+  index_of_is [] k = refl
+  index_of_is (p ∷ ps) k = index_of-cons eq p ps k ∙ ap (λ o. if eq k p.0 then Some 0 else option_map suc o) (index_of_is ps k) ∙ sym (item_index-cons eq p.0 (keys_of ps) k)
+
+  pub keys_of-put : (l : List (K × V)) (k : K) (v : V) → keys_of (put eq l k v) ≡ add eq (keys_of l) k
+  keys_of-put [] k v = refl
+  keys_of-put (p ∷ ps) k v = ap keys_of (put-cons eq p ps k v) ∙ by (eq k p.0) (keys_of-put ps k v) ∙ sym (add-cons eq p.0 (keys_of ps) k)
+    where
+      by : (b : Bool) → keys_of (put eq ps k v) ≡ add eq (keys_of ps) k → keys_of (if b then (p.0, v) ∷ ps else p ∷ put eq ps k v) ≡ (if b then p.0 ∷ keys_of ps else p.0 ∷ add eq (keys_of ps) k)
+      by true e = refl
+      by false e = ap (λ ks. p.0 ∷ ks) e
+
+  pub keys_of-puts : (l ps : List (K × V)) → keys_of (puts eq l ps) ≡ adds eq (keys_of l) (keys_of ps)
+  keys_of-puts l [] = refl
+  keys_of-puts l (p ∷ ps) = keys_of-puts (put eq l p.0 p.1) ps ∙ ap (λ ks. adds eq ks (keys_of ps)) (keys_of-put l p.0 p.1)
+
+  pub keys_of-put_key : (l : List (K × V)) (k : K) (v : V) → keys_of (put_key eq l k v) ≡ add_new eq (keys_of l) k
+  keys_of-put_key [] k v = refl
+  keys_of-put_key (p ∷ ps) k v = ap keys_of (put_key-cons eq p ps k v) ∙ by (eq k p.0) (keys_of-put_key ps k v) ∙ sym (add_new-cons eq p.0 (keys_of ps) k)
+    where
+      by : (b : Bool) → keys_of (put_key eq ps k v) ≡ add_new eq (keys_of ps) k → keys_of (if b then (k, v) ∷ ps else p ∷ put_key eq ps k v) ≡ (if b then k ∷ keys_of ps else p.0 ∷ add_new eq (keys_of ps) k)
+      by true e = refl
+      by false e = ap (λ ks. p.0 ∷ ks) e
+
+  pub keys_of-without_key : (l : List (K × V)) (k : K) → keys_of (without_key eq l k) ≡ without_item eq (keys_of l) k
+  keys_of-without_key [] k = refl
+  keys_of-without_key (p ∷ ps) k = ap keys_of (without_key-cons eq p ps k) ∙ by (eq k p.0) (keys_of-without_key ps k) ∙ sym (without_item-cons eq p.0 (keys_of ps) k)
+    where
+      by : (b : Bool) → keys_of (without_key eq ps k) ≡ without_item eq (keys_of ps) k → keys_of (if b then ps else p ∷ without_key eq ps k) ≡ (if b then keys_of ps else p.0 ∷ without_item eq (keys_of ps) k)
+      by true e = refl
+      by false e = ap (λ ks. p.0 ∷ ks) e
+
+  module _ (o : IsEquivalence eq) where
+    pub distinct_put : (l : List (K × V)) (k : K) (v : V) → HasDistinctKeys eq l → HasDistinctKeys eq (put eq l k v)
+    distinct_put l k v d = subst (IsDistinct eq) (sym (keys_of-put l k v)) (distinct_add eq o (keys_of l) k d)
+
+    pub distinct_puts : (l ps : List (K × V)) → HasDistinctKeys eq l → HasDistinctKeys eq (puts eq l ps)
+    distinct_puts l ps d = subst (IsDistinct eq) (sym (keys_of-puts l ps)) (distinct_adds eq o (keys_of l) (keys_of ps) d)
+
+    pub distinct_put_key : (l : List (K × V)) (k : K) (v : V) → HasDistinctKeys eq l → HasDistinctKeys eq (put_key eq l k v)
+    distinct_put_key l k v d = subst (IsDistinct eq) (sym (keys_of-put_key l k v)) (distinct_add_new eq o (keys_of l) k d)
+
+    pub distinct_put_at : (l : List (K × V)) (i : ℕ) (k : K) (v : V) → HasDistinctKeys eq l → HasDistinctKeys eq (put_at eq l i k v)
+    distinct_put_at l i k v d = by (index_of eq l k) refl
+      where
+        by : (found : Option ℕ) → index_of eq l k ≡ found → HasDistinctKeys eq (put_at eq l i k v)
+        by None e =
+            let absent : has_item eq (keys_of l) k ≡ false = sym (is_some-position (eq k) (keys_of l)) ∙ ap is_some (sym (index_of_is l k) ∙ e) in
+            subst (IsDistinct eq) (sym (ap keys_of (put_at_absent eq l i k v e) ∙ keys_of-insert l i k v)) (distinct_insert eq o (keys_of l) i k absent d)
+        by (Some j) e =
+            let n = min i (length l - 1) in
+            let gone : without_item eq (keys_of l) k ≡ remove (keys_of l) j = ap (λ found. option_map_or (λ m. remove (keys_of l) m) found (keys_of l)) (sym (index_of_is l k) ∙ e) in
+            let absent : has_item eq (remove (keys_of l) j) k ≡ false = sym (ap (λ s. has_item eq s k) gone) ∙ without_item_absent eq o (keys_of l) k d in
+            subst (IsDistinct eq) (sym (ap keys_of (put_at_present eq l i k v j e) ∙ keys_of-insert (remove l j) n k v ∙ ap (λ s. insert s n k) (keys_of-remove l j)))
+            (distinct_insert eq o (remove (keys_of l) j) n k absent (distinct_remove eq (keys_of l) j d))

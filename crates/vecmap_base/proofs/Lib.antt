@@ -1,0 +1,17 @@
+pub mod CostLemmas
+pub mod CountLemmas
+pub mod DistinctLemmas
+mod EqualityExamples
+pub mod GatherLemmas
+mod ItemExamples
+pub mod ItemsLemmas
+mod KeptExamples
+pub mod KeyLaws
+pub mod LookupLaws
+pub mod MapEquality
+mod PairExamples
+pub mod PairsLemmas
+pub mod Places
+pub mod SetEquality
+pub mod SetRelations
+pub mod StaysDistinct

@@ -1,0 +1,87 @@
+-- What a lookup finds after a put and after a removal, and that puts in turn are puts of all at once.
+use Rattle.std.specs.Prelude.{◌≡◌, ℕ, Bool, true, false, ◌||◌, List, [], ◌∷◌, ◌++◌, None, Some, drop, if◌then◌else◌, take, refl}
+use Rattle.std.specs.Cmp.{IsEquivalence}
+use Rattle.std.specs.List.{list_any}
+use Rattle.std.specs.Map.{keys_of}
+use Rattle.std.proofs.Common.{sym, ap, subst, ◌∙◌, true≢false, inl, inr}
+use Rattle.std.proofs.lemmas.Bool.{cases_Bool}
+use Rattle.std.proofs.lemmas.List.{take-append-drop}
+use Rattle.std.proofs.lemmas.List.Sums.{fold-append}
+use Rattle.vecmap_base.specs.Items.{has_item}
+use Rattle.vecmap_base.specs.Pairs.{HasDistinctKeys, lookup, put, puts, without_key}
+use Rattle.vecmap_base.proofs.ItemsLemmas.{without_item_absent}
+use Rattle.vecmap_base.proofs.KeyLaws.{keys_of-without_key}
+use Rattle.vecmap_base.proofs.PairsLemmas.{lookup-cons, put-cons, without_key-cons}
+use Rattle.vecmap_base.proofs.PairsLemmas.{puts_apart}
+
+module _ {K V : Type 0} (eq : K → K → Bool) where
+  -- a put of pairs in two goes is a put of all of them
+  pub puts-append : (l a b : List (K × V)) → puts eq l (a ++ b) ≡ puts eq (puts eq l a) b
+  puts-append l a b = fold-append (λ done p. put eq done p.0 p.1) l a b
+
+  -- in a longer list
+  pub look : (p : K × V) (ps : List (K × V)) (k : K) (b : Bool) → eq k p.0 ≡ b → lookup eq (p ∷ ps) k ≡ (if b then Some p.1 else lookup eq ps k)
+  look p ps k b e = lookup-cons eq p ps k ∙ ap (λ c. if c then Some p.1 else lookup eq ps k) e
+
+  pub lookup_absent : (l : List (K × V)) (k : K) → list_any (eq k) (keys_of l) ≡ false → lookup eq l k ≡ None
+  lookup_absent [] k e = refl
+  lookup_absent (p ∷ ps) k e =
+      elim (cases_Bool (eq k p.0)) [
+        | inl h ↦ absurd (true≢false (sym (ap (λ b. b || list_any (eq k) (keys_of ps)) h) ∙ e))
+        | inr h ↦ look p ps k false h ∙ lookup_absent ps k (sym (ap (λ b. b || list_any (eq k) (keys_of ps)) h) ∙ e)
+      ]
+
+  module _ (o : IsEquivalence eq) where
+    -- equal keys find the same value
+    pub lookup_congr : (l : List (K × V)) (x y : K) → eq x y ≡ true → lookup eq l x ≡ lookup eq l y
+    lookup_congr [] x y e = refl
+    lookup_congr (p ∷ ps) x y e =
+        look p ps x (eq y p.0) (o.congr x y p.0 e) ∙ ap (λ v. if eq y p.0 then Some p.1 else v) (lookup_congr ps x y e) ∙ sym (look p ps y (eq y p.0) refl)
+
+    -- after a put, its key has its value
+    pub lookup-put : (l : List (K × V)) (k : K) (v : V) → lookup eq (put eq l k v) k ≡ Some v
+    lookup-put [] k v = look (k, v) [] k true (o.refl k)
+    lookup-put (p ∷ ps) k v =
+        ap (λ l. lookup eq l k) (put-cons eq p ps k v)
+        ∙ elim (cases_Bool (eq k p.0)) [
+          | inl e ↦ ap (λ b. lookup eq (if b then (p.0, v) ∷ ps else p ∷ put eq ps k v) k) e ∙ look (p.0, v) ps k true e
+          | inr e ↦ ap (λ b. lookup eq (if b then (p.0, v) ∷ ps else p ∷ put eq ps k v) k) e ∙ look p (put eq ps k v) k false e ∙ lookup-put ps k v
+        ]
+
+    -- and each other key has what it had
+    pub lookup-put_other : (l : List (K × V)) (k : K) (v : V) (q : K) → eq k q ≡ false → lookup eq (put eq l k v) q ≡ lookup eq l q
+    lookup-put_other [] k v q n = look (k, v) [] q false (o.symm q k ∙ n)
+    lookup-put_other (p ∷ ps) k v q n =
+        ap (λ l. lookup eq l q) (put-cons eq p ps k v)
+        ∙ elim (cases_Bool (eq k p.0)) [
+          | inl e ↦
+              let other : eq q p.0 ≡ false = o.symm q p.0 ∙ sym (o.congr k p.0 q e) ∙ n in
+              ap (λ b. lookup eq (if b then (p.0, v) ∷ ps else p ∷ put eq ps k v) q) e ∙ look (p.0, v) ps q false other ∙ sym (look p ps q false other)
+          | inr e ↦
+              ap (λ b. lookup eq (if b then (p.0, v) ∷ ps else p ∷ put eq ps k v) q) e ∙ look p (put eq ps k v) q (eq q p.0) refl
+              ∙ ap (λ w. if eq q p.0 then Some p.1 else w) (lookup-put_other ps k v q n) ∙ sym (look p ps q (eq q p.0) refl)
+        ]
+
+    -- a key that is taken out of a list of distinct keys is gone
+    pub lookup-without_key : (l : List (K × V)) (k : K) → HasDistinctKeys eq l → lookup eq (without_key eq l k) k ≡ None
+    lookup-without_key l k d = lookup_absent (without_key eq l k) k (ap (λ ks. has_item eq ks k) (keys_of-without_key eq l k) ∙ without_item_absent eq o (keys_of l) k d)
+
+    -- and each other key has what it had
+    pub lookup-without_key_other : (l : List (K × V)) (k q : K) → eq k q ≡ false → lookup eq (without_key eq l k) q ≡ lookup eq l q
+    lookup-without_key_other [] k q n = refl
+    lookup-without_key_other (p ∷ ps) k q n =
+        ap (λ l. lookup eq l q) (without_key-cons eq p ps k)
+        ∙ elim (cases_Bool (eq k p.0)) [
+          | inl e ↦
+              let other : eq q p.0 ≡ false = o.symm q p.0 ∙ sym (o.congr k p.0 q e) ∙ n in
+              ap (λ b. lookup eq (if b then ps else p ∷ without_key eq ps k) q) e ∙ sym (look p ps q false other)
+          | inr e ↦
+              ap (λ b. lookup eq (if b then ps else p ∷ without_key eq ps k) q) e ∙ look p (without_key eq ps k) q (eq q p.0) refl
+              ∙ ap (λ w. if eq q p.0 then Some p.1 else w) (lookup-without_key_other ps k q n) ∙ sym (look p ps q (eq q p.0) refl)
+        ]
+
+    -- a list of distinct keys that was split is whole again once the second part is put to the first
+    pub puts_restore : (l : List (K × V)) (at : ℕ) → HasDistinctKeys eq l → puts eq (take at l) (drop at l) ≡ l
+    puts_restore l at d =
+        let whole : take at l ++ drop at l ≡ l = take-append-drop at l in
+        puts_apart eq o (take at l) (drop at l) (subst (HasDistinctKeys eq) (sym whole) d) ∙ whole

@@ -1,0 +1,181 @@
+-- Worked examples: maps. Keys are numbers, or numbers with a letter that are compared by the number alone.
+use Rattle.std.specs.Prelude.{◌≡◌, ℕ, Bool, List, [], ◌∷◌, None, Some, nat_eq, refl}
+use Rattle.std.specs.List.{IsDistinct}
+use Rattle.std.proofs.Common.{true≢false}
+use Rattle.vecmap_base.specs.Pairs.{HasDistinctKeys, index_of, index_or_length, lookup, lookup_full, lookup_pair, put, put_at, put_key, puts, swap_without_key, with_pair, with_value, without_key}
+use Rattle.vecmap_base.specs.Repeats.{cost}
+
+-- a number and a letter's code
+abbrev pub Tagged : Type 0
+Tagged = ℕ × ℕ
+
+abbrev pub same_number : Tagged → Tagged → Bool
+same_number p q = nat_eq p.0 q.0
+
+abbrev a : ℕ
+a = 97
+
+abbrev pub b : ℕ
+b = 98
+
+abbrev c : ℕ
+c = 99
+
+-- ---- places and values
+
+abbrev letters : List (ℕ × ℕ)
+letters = (a, 1) ∷ (b, 2) ∷ (c, 3) ∷ []
+
+the_place : index_of nat_eq letters b ≡ Some 1
+the_place = refl
+
+no_place : index_of nat_eq letters 100 ≡ None
+no_place = refl
+
+the_length_without_a_place : index_or_length nat_eq letters 100 ≡ 3
+the_length_without_a_place = refl
+
+the_value : lookup nat_eq letters b ≡ Some 2
+the_value = refl
+
+no_value : lookup nat_eq letters 100 ≡ None
+no_value = refl
+
+place_and_value : lookup_full nat_eq letters c ≡ Some (2, 3)
+place_and_value = refl
+
+a_written_value : with_value letters 1 9 ≡ (a, 1) ∷ (b, 9) ∷ (c, 3) ∷ []
+a_written_value = refl
+
+no_place_to_write : with_value letters 3 9 ≡ letters
+no_place_to_write = refl
+
+a_written_pair : with_pair letters 2 a 9 ≡ (a, 1) ∷ (b, 2) ∷ (a, 9) ∷ []
+a_written_pair = refl
+
+-- ---- puts
+
+abbrev pub one_x : Tagged
+one_x = (1, 120)
+
+abbrev pub one_y : Tagged
+one_y = (1, 121)
+
+abbrev one_z : Tagged
+one_z = (1, 122)
+
+abbrev pub two_b : Tagged
+two_b = (2, b)
+
+abbrev pub two_z : Tagged
+two_z = (2, 122)
+
+abbrev three_c : Tagged
+three_c = (3, c)
+
+a_put_keeps_the_stored_key : put {V = ℕ} same_number ((one_x, 10) ∷ []) one_y 20 ≡ (one_x, 20) ∷ []
+a_put_keeps_the_stored_key = refl
+
+a_new_key_goes_last : put {V = ℕ} same_number ((one_x, 10) ∷ []) two_z 5 ≡ (one_x, 10) ∷ (two_z, 5) ∷ []
+a_new_key_goes_last = refl
+
+the_stored_key_is_found : lookup_pair {V = ℕ} same_number ((one_x, 10) ∷ []) one_y ≡ Some (one_x, 10)
+the_stored_key_is_found = refl
+
+no_puts : puts {V = ℕ} nat_eq [] [] ≡ []
+no_puts = refl
+
+one_put : puts {V = ℕ} nat_eq [] ((7, 70) ∷ []) ≡ (7, 70) ∷ []
+one_put = refl
+
+first_keys_and_last_values : puts {V = ℕ} same_number [] ((one_x, 10) ∷ (two_b, 20) ∷ (one_y, 30) ∷ (three_c, 40) ∷ (two_z, 50) ∷ []) ≡ (one_x, 30) ∷ (two_b, 50) ∷ (three_c, 40) ∷ []
+first_keys_and_last_values = refl
+
+keys_that_come_three_times : puts {V = ℕ} same_number [] (((1, 112), 1) ∷ ((1, 113), 2) ∷ ((2, 114), 3) ∷ ((1, 115), 4) ∷ ((3, 116), 5) ∷ ((2, 117), 6) ∷ []) ≡ ((1, 112), 4) ∷ ((2, 114), 6) ∷ ((3, 116), 5) ∷ []
+keys_that_come_three_times = refl
+
+puts_onto_a_list : puts {V = ℕ} nat_eq ((3, c) ∷ (2, b) ∷ (1, a) ∷ []) ((3, 100) ∷ (4, 101) ∷ (5, 102) ∷ []) ≡ (3, 100) ∷ (2, b) ∷ (1, a) ∷ (4, 101) ∷ (5, 102) ∷ []
+puts_onto_a_list = refl
+
+a_put_of_the_new_key : put_key {V = ℕ} same_number ((one_x, 10) ∷ []) one_y 20 ≡ (one_y, 20) ∷ []
+a_put_of_the_new_key = refl
+
+a_put_of_a_new_key_goes_last : put_key {V = ℕ} same_number ((one_y, 20) ∷ []) two_z 5 ≡ (one_y, 20) ∷ (two_z, 5) ∷ []
+a_put_of_a_new_key_goes_last = refl
+
+-- ---- puts at a place
+
+from_the_front_to_the_end : put_at nat_eq letters 3 a 4 ≡ (b, 2) ∷ (c, 3) ∷ (a, 4) ∷ []
+from_the_front_to_the_end = refl
+
+at_the_end_and_there_again : put_at {V = ℕ} nat_eq ((b, 2) ∷ (c, 3) ∷ (a, 4) ∷ []) 3 a 5 ≡ (b, 2) ∷ (c, 3) ∷ (a, 5) ∷ []
+at_the_end_and_there_again = refl
+
+from_the_end_to_the_middle : put_at {V = ℕ} nat_eq ((b, 2) ∷ (c, 3) ∷ (a, 5) ∷ []) 1 a 6 ≡ (b, 2) ∷ (a, 6) ∷ (c, 3) ∷ []
+from_the_end_to_the_middle = refl
+
+-- the place is that in the list from which the old pair is gone
+one_place_on : put_at {V = ℕ} nat_eq ((b, 2) ∷ (a, 6) ∷ (c, 3) ∷ []) 1 b 7 ≡ (a, 6) ∷ (b, 7) ∷ (c, 3) ∷ []
+one_place_on = refl
+
+the_new_key_is_taken : put_at {V = ℕ} same_number ((one_x, 10) ∷ []) 0 one_y 20 ≡ (one_y, 20) ∷ []
+the_new_key_is_taken = refl
+
+a_new_key_comes_in_at_its_place : put_at nat_eq letters 1 100 9 ≡ (a, 1) ∷ (100, 9) ∷ (b, 2) ∷ (c, 3) ∷ []
+a_new_key_comes_in_at_its_place = refl
+
+a_new_key_at_the_end : put_at nat_eq letters 3 100 9 ≡ (a, 1) ∷ (b, 2) ∷ (c, 3) ∷ (100, 9) ∷ []
+a_new_key_at_the_end = refl
+
+-- ---- removals
+
+the_rest_moves_up : without_key nat_eq letters a ≡ (b, 2) ∷ (c, 3) ∷ []
+the_rest_moves_up = refl
+
+nothing_to_remove : without_key nat_eq letters 100 ≡ letters
+nothing_to_remove = refl
+
+abbrev four : List (ℕ × ℕ)
+four = (1, a) ∷ (2, b) ∷ (3, c) ∷ (4, 100) ∷ []
+
+the_last_fills_the_gap : swap_without_key nat_eq four 2 ≡ (1, a) ∷ (4, 100) ∷ (3, c) ∷ []
+the_last_fills_the_gap = refl
+
+the_last_itself_goes : swap_without_key {V = ℕ} nat_eq ((1, a) ∷ (4, 100) ∷ (3, c) ∷ []) 3 ≡ (1, a) ∷ (4, 100) ∷ []
+the_last_itself_goes = refl
+
+nothing_to_swap_out : swap_without_key {V = ℕ} nat_eq ((1, a) ∷ (4, 100) ∷ []) 2 ≡ (1, a) ∷ (4, 100) ∷ []
+nothing_to_swap_out = refl
+
+-- ---- a list with equal keys: each call names the first
+
+abbrev twice : List (ℕ × ℕ)
+twice = (1, a) ∷ (1, b) ∷ (3, c) ∷ []
+
+the_first_of_two : lookup nat_eq twice 1 ≡ Some a
+the_first_of_two = refl
+
+a_put_writes_the_first : put nat_eq twice 1 122 ≡ (1, 122) ∷ (1, b) ∷ (3, c) ∷ []
+a_put_writes_the_first = refl
+
+a_put_at_a_place_moves_the_first : put_at {V = ℕ} nat_eq ((1, 122) ∷ (1, b) ∷ (3, c) ∷ []) 3 1 119 ≡ (1, b) ∷ (3, c) ∷ (1, 119) ∷ []
+a_put_at_a_place_moves_the_first = refl
+
+a_removal_takes_the_first : swap_without_key {V = ℕ} nat_eq ((1, b) ∷ (3, c) ∷ (1, 119) ∷ []) 1 ≡ (1, 119) ∷ (3, c) ∷ []
+a_removal_takes_the_first = refl
+
+no_equal_keys : HasDistinctKeys nat_eq ((1, a) ∷ (2, a) ∷ [])
+unfolding IsDistinct
+no_equal_keys = ((refl, tt), (tt, tt))
+
+equal_keys : HasDistinctKeys nat_eq ((1, a) ∷ (2, b) ∷ (1, a) ∷ []) → ⊥
+unfolding IsDistinct
+equal_keys d = true≢false d.0.1.0
+
+-- ---- comparisons
+
+no_comparison_of_one : (cost 0 ≡ 0) × (cost 1 ≡ 0)
+no_comparison_of_one = (refl, refl)
+
+one_comparison_for_each_two : (cost 2 ≡ 1) × (cost 4 ≡ 6) × (cost 5 ≡ 10) × (cost 6 ≡ 15)
+one_comparison_for_each_two = (refl, refl, refl, refl)

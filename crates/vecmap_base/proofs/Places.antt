@@ -1,0 +1,67 @@
+-- The first place of a list whose element passes a test.
+use Rattle.std.specs.Prelude.{◌≡◌, ℕ, zero, suc, ◌+◌, ◌<◌, Bool, true, false, ◌||◌, not, nat_lt, List, [], ◌∷◌, Option, None, Some, is_some, length, map, position, take, refl}
+use Rattle.std.specs.List.{list_any, position_or_len}
+use Rattle.std.specs.Cmp.{both_ways}
+use Rattle.std.specs.Option.{option_map}
+use Rattle.std.proofs.Common.{cond, sym, ap, ◌∙◌, arith, get_or, true≢false, inl, inr}
+use Rattle.std.proofs.lemmas.Bool.{cases_Bool, lt-ltb, ltb-true}
+
+is_some-map : {X Y : Type 0} (f : X → Y) (o : Option X) → is_some (option_map f o) ≡ is_some o
+is_some-map f None = refl
+is_some-map f (Some x) = refl
+
+module _ {X : Type 0} (p : X → Bool) where
+  -- the first place of a longer list
+  pub position-cons : (x : X) (xs : List X) → position p (x ∷ xs) ≡ cond (p x) (Some 0) (option_map suc (position p xs))
+  position-cons x xs = by (p x)
+    where
+      one_more : (m : ℕ) → nat_lt (1 + m) (suc (length xs)) ≡ nat_lt m (length xs)
+      one_more m = both_ways _ _ (λ e. lt-ltb m (length xs) (let f = ltb-true _ _ e in omega (arith, f))) (λ e. lt-ltb (1 + m) (suc (length xs)) (let f = ltb-true _ _ e in omega (arith, f)))
+
+      place : (b : Bool) (m : ℕ) → cond b (Some (1 + m)) None ≡ option_map suc (cond b (Some m) None)
+      place true m = ap (λ k. Some k) (omega arith)
+      place false m = refl
+
+      by : (b : Bool) → cond (nat_lt (cond (not b) (1 + position_or_len p xs) 0) (suc (length xs))) (Some (cond (not b) (1 + position_or_len p xs) 0)) None ≡ cond b (Some 0) (option_map suc (position p xs))
+      by true = ap (λ c. cond c (Some 0) None) (lt-ltb 0 (suc (length xs)) (omega arith))
+      by false = ap (λ c. cond c (Some (1 + position_or_len p xs)) None) (one_more (position_or_len p xs)) ∙ place (nat_lt (position_or_len p xs) (length xs)) (position_or_len p xs)
+
+  position-hit : (x : X) (xs : List X) → p x ≡ true → position p (x ∷ xs) ≡ Some 0
+  position-hit x xs e = position-cons x xs ∙ ap (λ b. cond b (Some 0) (option_map suc (position p xs))) e
+
+  position-miss : (x : X) (xs : List X) → p x ≡ false → position p (x ∷ xs) ≡ option_map suc (position p xs)
+  position-miss x xs e = position-cons x xs ∙ ap (λ b. cond b (Some 0) (option_map suc (position p xs))) e
+
+  -- there is one exactly where an element passes
+  pub is_some-position : (xs : List X) → is_some (position p xs) ≡ list_any p xs
+  is_some-position [] = refl
+  is_some-position (x ∷ xs) =
+      elim (cases_Bool (p x)) [
+        | inl e ↦ ap is_some (position-hit x xs e) ∙ sym (ap (λ b. b || list_any p xs) e)
+        | inr e ↦ ap is_some (position-miss x xs e) ∙ is_some-map suc (position p xs) ∙ is_some-position xs ∙ sym (ap (λ b. b || list_any p xs) e)
+      ]
+
+  pub position_none : (xs : List X) → list_any p xs ≡ false → position p xs ≡ None
+  position_none xs e = by (position p xs) (is_some-position xs ∙ e)
+    where
+      by : (o : Option ℕ) → is_some o ≡ false → o ≡ None
+      by None f = refl
+      by (Some n) f = absurd (true≢false f)
+
+  -- the place j, which passes, is the first where none before it does
+  pub position_at : (xs : List X) (j : ℕ) (x : X) → j < length xs → x ≡ get_or xs j x → p x ≡ true → position p (take j xs) ≡ None → position p xs ≡ Some j
+  position_at xs j x lt e hit miss = first xs j lt (sym (ap p e) ∙ hit) (sym (is_some-position (take j xs)) ∙ ap is_some miss)
+    where
+      first : (ys : List X) (i : ℕ) → i < length ys → p (get_or ys i x) ≡ true → list_any p (take i ys) ≡ false → position p ys ≡ Some i
+      first [] i l h m = absurd (omega arith)
+      first (y ∷ ys) zero l h m = position-hit y ys h
+      first (y ∷ ys) (suc i) l h m =
+          elim (cases_Bool (p y)) [
+            | inl e ↦ absurd (true≢false (sym (ap (λ b. b || list_any p (take i ys)) e) ∙ m))
+            | inr e ↦ position-miss y ys e ∙ ap (option_map suc) (first ys i (omega arith) h (sym (ap (λ b. b || list_any p (take i ys)) e) ∙ m))
+          ]
+
+module _ {X Y : Type 0} (p : Y → Bool) (f : X → Y) where
+  pub list_any-map : (xs : List X) → list_any p (map f xs) ≡ list_any (λ x. p (f x)) xs
+  list_any-map [] = refl
+  list_any-map (x ∷ xs) = ap (λ b. p (f x) || b) (list_any-map xs)

@@ -1,0 +1,103 @@
+-- The laws of the equality of sets, and of one set within another.
+use Rattle.std.specs.Prelude.{◌≡◌, ◌↔◌, ◌<◌, ◌≤◌, Bool, true, false, ◌||◌, List, [], ◌∷◌, ◌++◌, length, refl}
+use Rattle.std.specs.Cmp.{IsEquivalence, both_ways}
+use Rattle.std.specs.List.{IsDistinct}
+use Rattle.std.specs.List.Sorted.{IsPermutation}
+use Rattle.std.proofs.Common.{sym, ap, ◌∙◌, arith, true≢false, length-append, inl, inr}
+use Rattle.std.proofs.lemmas.Bool.{and_from, and_parts, cases_Bool, false_from_ne_true, or_cases, or_left, or_right}
+use Rattle.std.proofs.lemmas.List.Folds.{list_any-append}
+use Rattle.std.proofs.lemmas.List.Sorted.{list_any-IsPermutation}
+use Rattle.std.proofs.lemmas.Map.Keys.{IsDistinct-push}
+use Rattle.std.proofs.lemmas.Map.Made.{length-le_from_is_member}
+use Rattle.std.proofs.lemmas.Map.Steps.{list_any_congr}
+use Rattle.vecmap_base.specs.Equality.{has_same_items, is_within}
+use Rattle.vecmap_base.specs.Items.{has_item}
+
+module _ {T : Type 0} (eq : T → T → Bool) (o : IsEquivalence eq) where
+  -- what is in a is in b
+  abbrev pub Within : List T → List T → Type 0
+  Within a b = (x : T) → has_item eq a x ≡ true → has_item eq b x ≡ true
+
+  pub within_from_test : (a b : List T) → is_within eq a b ≡ true → Within a b
+  within_from_test [] b e x h = absurd (true≢false (sym h))
+  within_from_test (y ∷ ys) b e x h =
+      let split = and_parts (has_item eq b y) (is_within eq ys b) e in
+      elim (cases_Bool (eq x y)) [
+        | inl i ↦ list_any_congr o x y b i ∙ split.0
+        | inr i ↦ within_from_test ys b split.1 x (sym (ap (λ c. c || has_item eq ys x) i) ∙ h)
+      ]
+
+  pub test_from_within : (a b : List T) → Within a b → is_within eq a b ≡ true
+  test_from_within [] b h = refl
+  test_from_within (y ∷ ys) b h =
+      and_from _ _ (h y (or_left (eq y y) (has_item eq ys y) (o.refl y))) (test_from_within ys b (λ x e. h x (or_right (eq x y) (has_item eq ys x) e)))
+
+  pub set_equality_laws : IsEquivalence (has_same_items eq)
+  set_equality_laws = record {
+    refl = λ a. and_from _ _ (test_from_within a a (λ x e. e)) (test_from_within a a (λ x e. e));
+    symm = λ a b. both_ways _ _ (turn a b) (turn b a);
+    congr = λ a b c e. both_ways _ _ (λ f. chain b a c (turn a b e) f) (λ f. chain a b c e f);
+  }
+    where
+      turn : (a b : List T) → has_same_items eq a b ≡ true → has_same_items eq b a ≡ true
+      turn a b e =
+          let p = and_parts (is_within eq a b) (is_within eq b a) e in
+          and_from _ _ p.1 p.0
+
+      chain : (a b c : List T) → has_same_items eq a b ≡ true → has_same_items eq b c ≡ true → has_same_items eq a c ≡ true
+      chain a b c e f =
+          let p = and_parts (is_within eq a b) (is_within eq b a) e in
+          let q = and_parts (is_within eq b c) (is_within eq c b) f in
+          and_from _ _
+          (test_from_within a c (λ x h. within_from_test b c q.0 x (within_from_test a b p.0 x h)))
+          (test_from_within c a (λ x h. within_from_test b a p.1 x (within_from_test c b q.1 x h)))
+
+  -- the order of the elements makes no difference
+  pub rearranged_sets_equal : (a b : List T) → IsPermutation a b → has_same_items eq a b ≡ true
+  rearranged_sets_equal a b p =
+      and_from _ _
+      (test_from_within a b (λ x e. sym (list_any-IsPermutation (eq x) a b p) ∙ e))
+      (test_from_within b a (λ x e. list_any-IsPermutation (eq x) a b p ∙ e))
+
+  -- two sets within each other are equal
+  pub equal_if_within_each_other : (a b : List T) → has_same_items eq a b ≡ true ↔ ((is_within eq a b ≡ true) × (is_within eq b a ≡ true))
+  equal_if_within_each_other a b = (and_parts (is_within eq a b) (is_within eq b a), λ p. and_from _ _ p.0 p.1)
+
+  -- a distinct list within another is no longer than that
+  pub length_within : (a b : List T) → IsDistinct eq a → is_within eq a b ≡ true → length a ≤ length b
+  length_within a b d e = length-le_from_is_member o a b d (within_from_test a b e)
+
+  -- a longer distinct list is not within a shorter one
+  pub longer_not_within : (a b : List T) → IsDistinct eq a → length b < length a → is_within eq a b ≡ false
+  longer_not_within a b d l = false_from_ne_true (is_within eq a b) (λ e. absurd (let m = length_within a b d e in omega (arith, m)))
+
+  -- the pigeonhole: of one length, each is within the other or neither is
+  pub within_back : (a b : List T) → IsDistinct eq a → length a ≡ length b → Within a b → Within b a
+  within_back a b d n h x i =
+      elim (cases_Bool (has_item eq a x)) [
+        | inl j ↦ j
+        | inr j ↦
+            let one_more : Within (a ++ x ∷ []) b = λ q m.
+            elim (or_cases (has_item eq a q) (eq q x || false) (sym (list_any-append (eq q) a (x ∷ [])) ∙ m)) [
+              | inl e ↦ h q e
+              | inr e ↦
+                  elim (or_cases (eq q x) false e) [
+                    | inl f ↦ list_any_congr o q x b f ∙ i
+                    | inr f ↦ absurd (true≢false (sym f))
+                  ]
+            ] in
+            let long = length-le_from_is_member o (a ++ x ∷ []) b (IsDistinct-push o a x d j) one_more in
+            absurd (omega (arith, long, length-append a (x ∷ [])))
+      ]
+
+  pub set_lengths_differ : (a b : List T) → IsDistinct eq a → IsDistinct eq b → (length a ≡ length b → ⊥) → has_same_items eq a b ≡ false
+  set_lengths_differ a b d e n =
+      false_from_ne_true (has_same_items eq a b) (λ h.
+      let p = and_parts (is_within eq a b) (is_within eq b a) h in
+      n (omega (arith, length_within a b d p.0, length_within b a e p.1)))
+
+  -- of distinct lists of one length, the elements of one settle it
+  pub set_equal_by_half : (a b : List T) → IsDistinct eq a → length a ≡ length b → has_same_items eq a b ≡ is_within eq a b
+  set_equal_by_half a b d n =
+      both_ways _ _ (λ e. (and_parts (is_within eq a b) (is_within eq b a) e).0)
+      (λ e. and_from _ _ e (test_from_within b a (within_back a b d n (within_from_test a b e))))

@@ -1,0 +1,88 @@
+-- What is in both of two lists and in only one of them.
+use Rattle.std.specs.Prelude.{◌≡◌, ◌+◌, Bool, true, false, ◌&&◌, ◌||◌, not, List, [], ◌∷◌, ◌++◌, length, refl}
+use Rattle.std.specs.Cmp.{IsEquivalence}
+use Rattle.std.specs.List.{IsDistinct}
+use Rattle.std.proofs.Common.{sym, ap, ◌∙◌, arith, true≢false, length-append}
+use Rattle.std.proofs.Math.Bool.{and_comm, or_comm}
+use Rattle.std.proofs.lemmas.Bool.{and_from, or_left}
+use Rattle.std.proofs.lemmas.List.Filters.{length-filter_both}
+use Rattle.std.proofs.lemmas.List.Folds.{list_any-append}
+use Rattle.std.proofs.lemmas.Map.Made.{is_member-filter, length-from_same_keys}
+use Rattle.std.proofs.lemmas.Map.Steps.{list_any_congr}
+use Rattle.vecmap_base.specs.Equality.{has_same_items}
+use Rattle.vecmap_base.specs.Items.{both, has_item, only}
+use Rattle.vecmap_base.proofs.SetEquality.{test_from_within}
+use Rattle.vecmap_base.proofs.StaysDistinct.{distinct_append, distinct_filter}
+
+module _ {T : Type 0} (eq : T → T → Bool) (o : IsEquivalence eq) where
+  pub has_item-both : (a b : List T) (x : T) → has_item eq (both eq a b) x ≡ (has_item eq a x && has_item eq b x)
+  has_item-both a b x = is_member-filter o (λ y. has_item eq b y) x (λ y e. list_any_congr o x y b e) a
+
+  pub has_item-only : (a b : List T) (x : T) → has_item eq (only eq a b) x ≡ (has_item eq a x && not (has_item eq b x))
+  has_item-only a b x = is_member-filter o (λ y. not (has_item eq b y)) x (λ y e. ap not (list_any_congr o x y b e)) a
+
+  -- two lists that hold the same, in any order and number
+  pub same_items : (a b : List T) → ((x : T) → has_item eq a x ≡ has_item eq b x) → has_same_items eq a b ≡ true
+  same_items a b h = and_from _ _ (test_from_within eq o a b (λ x e. sym (h x) ∙ e)) (test_from_within eq o b a (λ x e. h x ∙ e))
+
+  -- what is in both, and what is in one or the other, does not depend on the order of the two
+  pub both_turned : (a b : List T) → has_same_items eq (both eq a b) (both eq b a) ≡ true
+  both_turned a b = same_items (both eq a b) (both eq b a) (λ x. has_item-both a b x ∙ and_comm (has_item eq a x) (has_item eq b x) ∙ sym (has_item-both b a x))
+
+  has_item-union : (a b : List T) (x : T) → has_item eq (a ++ only eq b a) x ≡ (has_item eq a x || has_item eq b x)
+  has_item-union a b x = list_any-append (eq x) a (only eq b a) ∙ ap (λ c. has_item eq a x || c) (has_item-only b a x) ∙ by (has_item eq a x) (has_item eq b x)
+    where
+      by : (c d : Bool) → (c || (d && not c)) ≡ (c || d)
+      by true d = refl
+      by false true = refl
+      by false false = refl
+
+  pub union_turned : (a b : List T) → has_same_items eq (a ++ only eq b a) (b ++ only eq a b) ≡ true
+  union_turned a b = same_items (a ++ only eq b a) (b ++ only eq a b) (λ x. has_item-union a b x ∙ or_comm (has_item eq a x) (has_item eq b x) ∙ sym (has_item-union b a x))
+
+  pub symmetric_difference_turned : (a b : List T) → has_same_items eq (only eq a b ++ only eq b a) (only eq b a ++ only eq a b) ≡ true
+  symmetric_difference_turned a b =
+      same_items (only eq a b ++ only eq b a) (only eq b a ++ only eq a b) (λ x.
+      list_any-append (eq x) (only eq a b) (only eq b a) ∙ or_comm (has_item eq (only eq a b) x) (has_item eq (only eq b a) x) ∙ sym (list_any-append (eq x) (only eq b a) (only eq a b)))
+
+  -- a list in which nothing is has no element
+  nothing_in : (a : List T) → ((x : T) → has_item eq a x ≡ false) → a ≡ []
+  nothing_in [] h = refl
+  nothing_in (x ∷ xs) h = absurd (true≢false (sym (or_left (eq x x) (has_item eq xs x) (o.refl x)) ∙ h x))
+
+  -- where nothing of a is in b, nothing of b is in a
+  pub both_empty_turned : (a b : List T) → both eq a b ≡ [] → both eq b a ≡ []
+  both_empty_turned a b e =
+      nothing_in (both eq b a) (λ x. has_item-both b a x ∙ and_comm (has_item eq b x) (has_item eq a x) ∙ sym (has_item-both a b x) ∙ ap (λ l. has_item eq l x) e)
+
+  -- of distinct lists
+
+  pub distinct_both : (a b : List T) → IsDistinct eq a → IsDistinct eq (both eq a b)
+  distinct_both a b = distinct_filter eq (λ x. has_item eq b x) a
+
+  pub distinct_only : (a b : List T) → IsDistinct eq a → IsDistinct eq (only eq a b)
+  distinct_only a b = distinct_filter eq (λ x. not (has_item eq b x)) a
+
+  not_in : (c d : Bool) → (c && not d) ≡ true → d ≡ false
+  not_in true true e = absurd (true≢false (sym e))
+  not_in true false e = refl
+  not_in false d e = absurd (true≢false (sym e))
+
+  pub distinct_union : (a b : List T) → IsDistinct eq a → IsDistinct eq b → IsDistinct eq (a ++ only eq b a)
+  distinct_union a b d e = distinct_append eq o a (only eq b a) d (distinct_only b a e) (λ x m. not_in (has_item eq b x) (has_item eq a x) (sym (has_item-only b a x) ∙ m))
+
+  pub distinct_symmetric_difference : (a b : List T) → IsDistinct eq a → IsDistinct eq b → IsDistinct eq (only eq a b ++ only eq b a)
+  distinct_symmetric_difference a b d e =
+      distinct_append eq o (only eq a b) (only eq b a) (distinct_only a b d) (distinct_only b a e) (λ x m.
+      has_item-only a b x ∙ ap (λ c. c && not (has_item eq b x)) (not_in (has_item eq b x) (has_item eq a x) (sym (has_item-only b a x) ∙ m)))
+
+  pub length-both_turned : (a b : List T) → IsDistinct eq a → IsDistinct eq b → length (both eq a b) ≡ length (both eq b a)
+  length-both_turned a b d e =
+      length-from_same_keys o (both eq a b) (both eq b a) (distinct_both a b d) (distinct_both b a e) (λ x. has_item-both a b x ∙ and_comm (has_item eq a x) (has_item eq b x) ∙ sym (has_item-both b a x))
+
+  pub length-both-only : (a b : List T) → length (both eq a b) + length (only eq a b) ≡ length a
+  length-both-only a b = length-filter_both (λ x. has_item eq b x) (λ x. not (has_item eq b x)) (λ x. refl) a
+
+  -- the lengths of the union and of what is in both add up to those of the two
+  pub length-union : (a b : List T) → IsDistinct eq a → IsDistinct eq b → length (a ++ only eq b a) + length (both eq a b) ≡ length a + length b
+  length-union a b d e = omega (arith, length-append a (only eq b a), length-both_turned a b d e, length-both-only b a)

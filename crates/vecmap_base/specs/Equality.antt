@@ -1,0 +1,46 @@
+-- When two lists are equal as maps or as sets. `key`, `value` and `eq` are the `==` of keys, values and elements.
+use Rattle.std.specs.Prelude.{ℕ, Bool, ◌&&◌, false, true, List, None, Option, Some, nat_eq}
+use Rattle.std.specs.List.{count_by, list_all, list_any}
+use Rattle.std.specs.Map.{keys_of}
+use Rattle.vecmap_base.specs.Pairs.{lookup}
+
+module _ {K V : Type 0} (key : K → K → Bool) (value : V → V → Bool) where
+  -- the keys are equal, and the values are
+  abbrev pub same_pair : K × V → K × V → Bool
+  same_pair p q = key p.0 q.0 && value p.1 q.1
+
+  -- how many pairs of l are the same as p
+  abbrev pub count : List (K × V) → K × V → ℕ
+  count l p = count_by (same_pair p) l
+
+  -- each of these pairs occurs equally often in a and in b
+  abbrev pub counts_agree : List (K × V) → List (K × V) → List (K × V) → Bool
+  counts_agree pairs a b = list_all (λ p. nat_eq (count a p) (count b p)) pairs
+
+  -- equality of maps: each pair of either list occurs equally often in both
+  abbrev pub has_same_counts : List (K × V) → List (K × V) → Bool
+  has_same_counts a b = counts_agree a a b && counts_agree b a b
+
+  -- both are none, or the values are equal
+  abbrev pub same_option : Option V → Option V → Bool
+  same_option None None = true
+  same_option None (Some w) = false
+  same_option (Some v) None = false
+  same_option (Some v) (Some w) = value v w
+
+  -- each of these keys has the same value in both lists, or none in both
+  abbrev pub lookups_agree : List K → List (K × V) → List (K × V) → Bool
+  lookups_agree keys a b = list_all (λ k. same_option (lookup key a k) (lookup key b k)) keys
+
+  -- the lookups of each key of either list agree
+  abbrev pub agrees : List (K × V) → List (K × V) → Bool
+  agrees a b = lookups_agree (keys_of a) a b && lookups_agree (keys_of b) a b
+
+module _ {T : Type 0} (eq : T → T → Bool) where
+  -- each element of a is in b
+  abbrev pub is_within : List T → List T → Bool
+  is_within a b = list_all (λ x. list_any (eq x) b) a
+
+  -- equality of sets: each element of either list is in the other
+  abbrev pub has_same_items : List T → List T → Bool
+  has_same_items a b = is_within a b && is_within b a

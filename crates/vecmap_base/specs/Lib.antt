@@ -1,0 +1,6 @@
+pub mod Clones
+pub mod Equality
+pub mod Items
+pub mod Kept
+pub mod Pairs
+pub mod Repeats

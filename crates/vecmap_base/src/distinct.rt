@@ -1,0 +1,30 @@
+//! Whether a list has repeats.
+ghost use Rattle.std.specs.Prelude.{◌↔◌, IsTrue};
+ghost use Rattle.std.specs.List.{IsDistinct};
+ghost use Rattle.vecmap_base.specs.Pairs.{HasDistinctKeys};
+
+use crate::lookup::{find, find_item};
+
+/// Whether no two places hold equal keys. It compares each key with those after it, and takes no memory.
+pub fn keys_distinct<K: Eq, V>(pairs: &[(K, V)]) -> bool
+    ensures { IsTrue result ↔ HasDistinctKeys K.eq pairs.now }
+{
+    for i in 0..pairs.len() {
+        if find(&pairs[i + 1..], &pairs[i].0).is_some() {
+            return false;
+        }
+    }
+    true
+}
+
+/// Whether no two places hold equal elements. It compares each with those after it, and takes no memory.
+pub fn items_distinct<T: Eq>(items: &[T]) -> bool
+    ensures { IsTrue result ↔ IsDistinct T.eq items.now }
+{
+    for i in 0..items.len() {
+        if find_item(&items[i + 1..], &items[i]).is_some() {
+            return false;
+        }
+    }
+    true
+}

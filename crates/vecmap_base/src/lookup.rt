@@ -1,0 +1,36 @@
+//! The first equal place of a list.
+ghost use Rattle.std.specs.Prelude.{◌≡◌, ◌<◌, IfSome, length, position};
+ghost use Rattle.vecmap_base.specs.Items.{item_index};
+ghost use Rattle.vecmap_base.specs.Pairs.{has_text, index_by, index_of};
+
+/// The first place whose key is equal to `key`, after at most as many comparisons as there are pairs.
+pub fn find<K: Eq, V>(pairs: &[(K, V)], key: &K) -> Option<usize>
+    ensures place { result ≡ index_of K.eq pairs.now key.now }
+    ensures within { IfSome result (λ i. i < length pairs.now) }
+{
+    pairs.iter().position(|pair| *key == pair.0)
+}
+
+/// The first place whose element is equal to `item`, after at most as many comparisons as there are elements.
+pub fn find_item<T: Eq>(items: &[T], item: &T) -> Option<usize>
+    ensures place { result ≡ item_index T.eq items.now item.now }
+    ensures within { IfSome result (λ i. i < length items.now) }
+{
+    items.iter().position(|stored| *item == *stored)
+}
+
+/// The first place whose key has the bytes of `text`. It takes no memory.
+pub fn find_str<V>(pairs: &[(String, V)], text: &str) -> Option<usize>
+    ensures place { result ≡ index_by (has_text text.now) pairs.now }
+    ensures within { IfSome result (λ i. i < length pairs.now) }
+{
+    pairs.iter().position(|pair| pair.0.as_str() == text)
+}
+
+/// The first place whose element has the bytes of `text`. It takes no memory.
+pub fn find_item_str(items: &[String], text: &str) -> Option<usize>
+    ensures place { result ≡ position (has_text text.now) items.now }
+    ensures within { IfSome result (λ i. i < length items.now) }
+{
+    items.iter().position(|item| item.as_str() == text)
+}

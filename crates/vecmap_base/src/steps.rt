@@ -1,0 +1,46 @@
+//! The count of the comparisons that a removal of repeats makes.
+use std::marker::Model;
+
+/// How many comparisons were made. In contracts it is that number.
+#[derive(Debug, Drop)]
+pub struct Steps {
+    made: u128,
+}
+
+impl Model for Steps {
+    ghost use Rattle.std.specs.Prelude.{ℕ};
+
+    ghost Value = { ℕ };
+
+    ghost view = { λ s. s.made };
+}
+
+impl Steps {
+    ghost use Rattle.std.specs.Prelude.{◌≡◌, ◌+◌, ◌<◌};
+
+    /// No comparison yet.
+    pub fn new() -> Steps
+        ensures { result ≡ 0 }
+    {
+        Steps { made: 0 }
+    }
+
+    /// The number of comparisons so far.
+    #[inline]
+    pub fn count(&self) -> u128
+        ensures { result ≡ self.now }
+    {
+        self.made
+    }
+
+    /// Whether `a == b`, in one comparison more.
+    #[inline]
+    pub fn same<T: Eq>(&mut self, a: &T, b: &T) -> bool
+        requires { self.old < u128.MAX }
+        ensures answer { result ≡ T.eq a.now b.now }
+        ensures counted { self.new ≡ self.old + 1 }
+    {
+        self.made += 1;
+        *a == *b
+    }
+}
