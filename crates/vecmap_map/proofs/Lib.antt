@@ -1,0 +1,7 @@
+pub mod BulkLemmas
+mod EntryLemmas
+pub mod EqualityLemmas
+mod LentBoth
+mod LentParts
+pub mod MoveLemmas
+mod Steps

@@ -1,0 +1,11 @@
+use Rattle.std.proofs.Common.{◌≤◌, map}
+use Rattle.vecmap_map.specs.Bulk.{PutsClones}
+use Rattle.vecmap_map.proofs.VecMap.extend_pairs.Given as goal
+
+abbrev pub invariant-loop-pair : goal.invariant-loop-pair
+invariant-loop-pair g l = record {
+  can : (goal.iterator-loop-pair g).can_next l.pair-iterator;
+  finite : (goal.iterator-loop-pair g).is_finite l.pair-iterator;
+  puts : PutsClones g.K.PartialEq.eq g.K.Clone.is_clone g.V.Clone.is_clone l.fn.self (map (λ p. p.now) l.yielded) l.self;
+  capacity : l.fn.self.capacity ≤ l.self.capacity;
+}

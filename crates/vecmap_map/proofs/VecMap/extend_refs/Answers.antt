@@ -1,0 +1,26 @@
+use Rattle.std.proofs.Common.{inr, rules}
+use Rattle.std.specs.Map.Iter.{deref_pair}
+use Rattle.std.proofs.lemmas.Result.{err_from_is_err_and}
+use Rattle.vecmap_map.proofs.BulkLemmas.{lent_clone_put}
+use Rattle.vecmap_map.proofs.VecMap.extend_refs.Goals as goal
+
+pub loop-key-preserved : goal.loop-key-preserved
+loop-key-preserved g c = record {
+  can = c.in-Some.ensures.goes.keeps;
+  finite = (c.in-Some.ensures.goes.on c.loop-key.invariant.finite).1;
+  puts = lent_clone_put g.K.PartialEq.eq g.K.Clone.is_clone g.V.Clone.is_clone deref_pair c.args.self.now.entries c.loop-key.yielded c.loop-key.self.entries c.put_clones.new.self.entries (c.in-Some.key, c.in-Some.value) c.loop-key.invariant.puts c.in_ok-put_clones.ensures.entries;
+  capacity = search rules;
+}
+
+pub returns-in_err-put_clones-clause-err : goal.returns-in_err-put_clones-clause-err
+returns-in_err-put_clones-clause-err g c =
+    let p = err_from_is_err_and c.from_residual-in_err-put_clones.result c.from_residual-in_err-put_clones.ensures.1 in
+    rw (p.1, c.in_err-put_clones.ensures.err) (inr (
+      c.into_iter-key-iterator.result,
+      c.loop-key.yielded,
+      (c.in-Some.key, c.in-Some.value),
+      c.next.new.self,
+      rw c.into_iter-key-iterator.ensures.into_iter_gives c.into_iter-items.ensures.into_iter_gives,
+      (c.loop-key.key-iterator, c.loop-key.yielded_by, c.in-Some.ensures.steps),
+      c.loop-key.invariant.puts,
+    ))

@@ -1,0 +1,12 @@
+use Rattle.std.proofs.Common.{◌≤◌, map}
+use Rattle.std.specs.Map.Iter.{deref_pair}
+use Rattle.vecmap_map.specs.Bulk.{PutsClones}
+use Rattle.vecmap_map.proofs.VecMap.extend_refs.Given as goal
+
+abbrev pub invariant-loop-key : goal.invariant-loop-key
+invariant-loop-key g l = record {
+  can : (goal.iterator-loop-key g).can_next l.key-iterator;
+  finite : (goal.iterator-loop-key g).is_finite l.key-iterator;
+  puts : PutsClones g.K.PartialEq.eq g.K.Clone.is_clone g.V.Clone.is_clone l.fn.self (map deref_pair l.yielded) l.self;
+  capacity : l.fn.self.capacity ≤ l.self.capacity;
+}

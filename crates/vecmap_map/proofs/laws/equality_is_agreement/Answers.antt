@@ -1,0 +1,8 @@
+use Rattle.vecmap_base.proofs.MapEquality.{equality_is_agreement, lookups_from_test}
+use Rattle.vecmap_map.proofs.laws.equality_is_agreement.Goals as goal
+
+pub returns-clause-equality : goal.returns-clause-equality
+returns-clause-equality g c = equality_is_agreement g.K.PartialEq.eq g.V.PartialEq.eq g.met.K.Eq.laws g.met.V.Eq.laws
+
+pub returns-clause-every_key : goal.returns-clause-every_key
+returns-clause-every_key g c = lookups_from_test g.K.PartialEq.eq g.V.PartialEq.eq g.met.K.Eq.laws g.met.V.Eq.laws

@@ -1,0 +1,30 @@
+-- What a contract sees of a `VecMap`.
+use Rattle.std.specs.Prelude.{ℕ, Bool, List}
+use Rattle.std.specs.Option.{option_map_or}
+use Rattle.vecmap_base.specs.Pairs.{index_of, with_pair, with_value}
+
+-- the pairs from front to back, and how many fit before the vector grows
+pub record Contents (K V : Type 0) : Type 0 where
+  pub entries : List (K × V)
+  pub capacity : ℕ
+
+module _ {K V : Type 0} where
+  -- m with other pairs
+  abbrev pub with_entries : Contents K V → List (K × V) → Contents K V
+  with_entries m l = record { entries = l; capacity = m.capacity }
+
+  -- m with v as the value at the place i
+  abbrev pub with_value_at : Contents K V → ℕ → V → Contents K V
+  with_value_at m i v = with_entries m (with_value m.entries i v)
+
+  -- m with the pair p at the place i
+  abbrev pub with_pair_at : Contents K V → ℕ → K × V → Contents K V
+  with_pair_at m i p = with_entries m (with_pair m.entries i p.0 p.1)
+
+  -- m with the pair p in the place of the first pair whose key is equal to k, if there is one
+  abbrev pub with_pair_of : (K → K → Bool) → Contents K V → K → K × V → Contents K V
+  with_pair_of eq m k p = option_map_or (λ i. with_pair_at m i p) (index_of eq m.entries k) m
+
+  -- m with v as the value of the first key that is equal to k, if there is one
+  abbrev pub with_value_of : (K → K → Bool) → Contents K V → K → V → Contents K V
+  with_value_of eq m k v = option_map_or (λ i. with_value_at m i v) (index_of eq m.entries k) m

@@ -1,0 +1,6 @@
+pub mod Bulk
+pub mod Contents
+pub mod Entry
+pub mod EntryLends
+pub mod Lends
+pub mod MapEquality

@@ -1,0 +1,198 @@
+//! Making a map of many pairs, and putting many pairs into one.
+ghost use Rattle.std.specs.Prelude.{◌≡◌, ◌+◌, ◌≤◌, ◌⊎◌, ◌-◌, ◌/◌, IfOk, IsOk, List, OnErr, OnOk, [], if◌then◌else◌, length, map};
+ghost use Rattle.std.specs.Iterator.{Drains, ExtendsWithItems, IsFinite};
+ghost use Rattle.std.specs.Map.Iter.{deref_pair};
+ghost use Rattle.vecmap_base.specs.Clones.{AreClones, IsPairClone};
+ghost use Rattle.vecmap_base.specs.Pairs.{put, puts};
+ghost use Rattle.vecmap_map.specs.Bulk.{HasRoomForAll, Puts, PutsClones, RefusesAfter, StopsAt};
+ghost use Rattle.vecmap_map.specs.Contents.{with_entries};
+
+use crate::VecMap;
+use std::alloc::{AllocError, Global};
+
+impl<K, V> VecMap<K, V> {
+    /// Puts the pairs of an iterator that ends into an empty map, in their order. Refused, nothing is made.
+    ///
+    /// Room is made first, for as many pairs as the lower size hint of the iterator says.
+    pub fn from_iter<I: IntoIterator<Item = (K, V)>>(
+        alloc: Global,
+        iter: I,
+    ) -> Result<VecMap<K, V>, AllocError>
+    where
+        K: Eq + Drop,
+        V: Drop,
+        requires { (it : I.IntoIter) → I.into_iter_gives iter it → I.IntoIter.can_next it × IsFinite (I.IntoIter.remaining it) }
+        ensures { IfOk result (λ map. (it : I.IntoIter) × (pairs : List (K × V)) × I.into_iter_gives iter it × Drains I.IntoIter.next_gives it pairs × (map.entries ≡ puts K.eq [] pairs)) }
+    {
+        let mut map = VecMap::new(alloc);
+        map.extend(iter)?;
+        Ok(map)
+    }
+
+    /// Puts clones of the pairs into an empty map, in their order. Refused, nothing is made.
+    pub fn from_slice(alloc: Global, pairs: &[(K, V)]) -> Result<VecMap<K, V>, AllocError>
+    where
+        K: Eq + Clone,
+        V: Clone,
+        ensures { IfOk result (λ map. (clones : List (K × V)) × AreClones (IsPairClone K.is_clone V.is_clone) pairs.now clones × (map.entries ≡ puts K.eq [] clones)) }
+    {
+        let mut map = VecMap::with_capacity(alloc, pairs.len())?;
+        for pair in pairs {
+            map.put_clones(&pair.0, &pair.1)?;
+        }
+        Ok(map)
+    }
+
+    /// A map of clones of the pairs, in their order. Refused, nothing is made.
+    pub fn clone(&self) -> Result<VecMap<K, V>, AllocError>
+    where
+        K: Clone,
+        V: Clone,
+        ensures { IfOk result (λ map. AreClones (IsPairClone K.is_clone V.is_clone) self.now.entries map.entries) }
+    {
+        Ok(VecMap {
+            pairs: self.to_vec()?,
+        })
+    }
+
+    /// Clones of the pairs, in their order. Refused, nothing is made.
+    pub fn to_vec(&self) -> Result<Vec<(K, V)>, AllocError>
+    where
+        K: Clone,
+        V: Clone,
+        ensures { IfOk result (λ pairs. AreClones (IsPairClone K.is_clone V.is_clone) self.now.entries pairs.items) }
+    {
+        self.pairs.clone()
+    }
+
+    /// Puts the pairs of `other`, in their order, and leaves `other` empty with its capacity.
+    ///
+    /// Room for all of them is made first. Refused at that, nothing has changed in either.
+    pub fn append(&mut self, other: &mut VecMap<K, V>) -> Result<(), AllocError>
+    where
+        K: Eq + Drop,
+        V: Drop,
+        ensures entries { OnOk result (self.new.entries ≡ puts K.eq self.old.entries other.old.entries) }
+        ensures emptied { OnOk result (other.new ≡ with_entries other.old []) }
+        ensures capacity { self.old.capacity ≤ self.new.capacity }
+        ensures enough { length self.old.entries + length other.old.entries ≤ self.old.capacity → IsOk result }
+        ensures stays { length self.old.entries + length other.old.entries ≤ self.old.capacity → self.new.capacity ≡ self.old.capacity }
+        ensures err { OnErr result (self.new ≡ self.old) }
+        ensures other_err { OnErr result (other.new ≡ other.old) }
+    {
+        self.reserve(other.len())?;
+        for (key, value) in other.pairs.drain(..) {
+            let _old = self.insert(key, value).unwrap();
+        }
+        Ok(())
+    }
+
+    /// Puts the pairs of an iterator that ends, in their order.
+    ///
+    /// Room is made first, for as many pairs as the lower size hint of the iterator says where the map is empty, and
+    /// else for half of them, as some keys may be there already. The hint decides nothing else. Refused at that,
+    /// nothing has changed. Refused at a pair, those before it stay, and that pair is dropped with the iterator.
+    pub fn extend<I: IntoIterator<Item = (K, V)>>(&mut self, iter: I) -> Result<(), AllocError>
+    where
+        K: Eq + Drop,
+        V: Drop,
+        requires { (it : I.IntoIter) → I.into_iter_gives iter it → I.IntoIter.can_next it × IsFinite (I.IntoIter.remaining it) }
+        ensures ran { ExtendsWithItems I.into_iter_gives I.IntoIter.next_gives (Puts K.eq) iter self.old self.new result }
+        ensures capacity { self.old.capacity ≤ self.new.capacity }
+        ensures enough { HasRoomForAll I.into_iter_gives I.IntoIter.remaining iter self.old → IsOk result }
+        ensures stays { HasRoomForAll I.into_iter_gives I.IntoIter.remaining iter self.old → self.new.capacity ≡ self.old.capacity }
+
+        // It is refused where room is made, and then nothing has changed, or at a new key where there is no room.
+        ensures err { OnErr result ((self.new ≡ self.old) ⊎ StopsAt I.into_iter_gives I.IntoIter.next_gives iter (λ pairs next. RefusesAfter K.eq self.old pairs next self.new)) }
+    {
+        let items = iter.into_iter();
+        self.reserve(likely_new(self.is_empty(), items.size_hint().0))?;
+        for (key, value) in items {
+            self.insert(key, value)?;
+        }
+        Ok(())
+    }
+
+    /// As `extend`, with clones of the keys and values that the iterator lends.
+    ///
+    /// Refused at the room or at a clone, the pairs before it stay.
+    pub fn extend_refs<'a, I: IntoIterator<Item = (&'a K, &'a V)>>(
+        &mut self,
+        iter: I,
+    ) -> Result<(), AllocError>
+    where
+        K: Eq + Clone + 'a,
+        V: Clone + 'a,
+        requires { (it : I.IntoIter) → I.into_iter_gives iter it → I.IntoIter.can_next it × IsFinite (I.IntoIter.remaining it) }
+        ensures ran { ExtendsWithItems I.into_iter_gives I.IntoIter.next_gives (λ old items new. PutsClones K.eq K.is_clone V.is_clone old (map deref_pair items) new) iter self.old self.new result }
+        ensures capacity { self.old.capacity ≤ self.new.capacity }
+
+        // It is refused where room is made, and then nothing has changed, or at the next item.
+        ensures err { OnErr result ((self.new ≡ self.old) ⊎ StopsAt I.into_iter_gives I.IntoIter.next_gives iter (λ items _. PutsClones K.eq K.is_clone V.is_clone self.old (map deref_pair items) self.new)) }
+    {
+        let items = iter.into_iter();
+        self.reserve(likely_new(self.is_empty(), items.size_hint().0))?;
+        for (key, value) in items {
+            self.put_clones(key, value)?;
+        }
+        Ok(())
+    }
+
+    /// As `extend_refs`, of pairs that the iterator lends.
+    pub fn extend_pairs<'a, I: IntoIterator<Item = &'a (K, V)>>(
+        &mut self,
+        iter: I,
+    ) -> Result<(), AllocError>
+    where
+        K: Eq + Clone + 'a,
+        V: Clone + 'a,
+        requires { (it : I.IntoIter) → I.into_iter_gives iter it → I.IntoIter.can_next it × IsFinite (I.IntoIter.remaining it) }
+        ensures ran { ExtendsWithItems I.into_iter_gives I.IntoIter.next_gives (λ old items new. PutsClones K.eq K.is_clone V.is_clone old (map (λ p. p.now) items) new) iter self.old self.new result }
+        ensures capacity { self.old.capacity ≤ self.new.capacity }
+
+        // It is refused where room is made, and then nothing has changed, or at the next item.
+        ensures err { OnErr result ((self.new ≡ self.old) ⊎ StopsAt I.into_iter_gives I.IntoIter.next_gives iter (λ items _. PutsClones K.eq K.is_clone V.is_clone self.old (map (λ p. p.now) items) self.new)) }
+    {
+        let items = iter.into_iter();
+        self.reserve(likely_new(self.is_empty(), items.size_hint().0))?;
+        for pair in items {
+            self.put_clones(&pair.0, &pair.1)?;
+        }
+        Ok(())
+    }
+
+    // Puts a clone of a pair.
+    fn put_clones(&mut self, key: &K, value: &V) -> Result<(), AllocError>
+    where
+        K: Eq + Clone,
+        V: Clone,
+        ensures entries { OnOk result ((k : K) × (v : V) × K.is_clone key.now k × V.is_clone value.now v × (self.new.entries ≡ put K.eq self.old.entries k v)) }
+        ensures capacity { self.old.capacity ≤ self.new.capacity }
+        ensures err { OnErr result (self.new ≡ self.old) }
+    {
+        self.insert(key.clone()?, value.clone()?)?;
+        Ok(())
+    }
+}
+
+/// Puts the pairs into an empty map, in their order, as the inherent `from_iter` does.
+impl<K: Eq + Drop, V: Drop> FromIterator<(K, V)> for VecMap<K, V> {
+    type Alloc = Global;
+
+    ghost from_iter_gives = { λ pairs map. map.entries ≡ puts K.eq [] pairs };
+
+    fn from_iter<I: IntoIterator<Item = (K, V)>>(
+        alloc: Global,
+        iter: I,
+    ) -> Result<VecMap<K, V>, AllocError> {
+        VecMap::from_iter(alloc, iter)
+    }
+}
+
+// How many new keys to make room for, where `hint` pairs come. A map that is not empty may have some of them.
+fn likely_new(is_empty: bool, hint: usize) -> usize
+    ensures amount { result ≡ (if is_empty then hint else (hint + 1) / 2) }
+    ensures bound { result ≤ hint }
+{
+    if is_empty { hint } else { hint.div_ceil(2) }
+}

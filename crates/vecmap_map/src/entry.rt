@@ -1,0 +1,216 @@
+//! The place of a key in a map, to read, write, fill or empty with one lookup.
+//!
+//! An entry holds the map, the key that was handed in, and the key's place. A clause `writes_back` says what the map
+//! is once the reference that the call lends has ended.
+ghost use Rattle.std.specs.Prelude.{◌≡◌, ◌≤◌, IfErr, IfOk, None, OnErr, Some, length, unwrap_or};
+ghost use Rattle.std.specs.Borrow.{Bor, MutBor, sem};
+ghost use Rattle.std.specs.Fn.{FnOnceReturnsAt};
+ghost use Rattle.std.specs.Map.Calls.{ModifiesValue};
+ghost use Rattle.std.specs.Option.{UnwrapsOrElse, option_map_or};
+ghost use Rattle.vecmap_base.specs.Pairs.{index_of};
+
+mod occupied;
+mod vacant;
+
+use crate::VecMap;
+pub use occupied::OccupiedEntry;
+pub use vacant::VacantEntry;
+use vecmap_base::Refused;
+
+/// The place of a key: one that it has, or the one that it would take.
+#[derive(Debug, Drop)]
+pub enum Entry<'a, K, V> {
+    Occupied(OccupiedEntry<'a, K, V>),
+    Vacant(VacantEntry<'a, K, V>),
+}
+
+impl<K, V> VecMap<K, V> {
+    ghost use Rattle.vecmap_map.specs.Entry.{entry_key, entry_map, entry_place, entry_ref};
+
+    /// The entry of `key`: occupied where an equal key is there, and else vacant.
+    ///
+    /// This is one lookup, so it takes at most as many comparisons as there are pairs, and the entry's own calls take
+    /// none. It needs no memory and changes nothing, nor does an entry that is only dropped.
+    pub fn entry(&mut self, key: K) -> Entry<'_, K, V>
+    where
+        K: Eq,
+        ensures same_map { (entry_ref result).ghost_name ≡ self.entry.ghost_name }
+        ensures unchanged { entry_map result ≡ self.old }
+        ensures key { entry_key result ≡ key }
+        ensures place { entry_place result ≡ index_of K.eq self.old.entries key }
+    {
+        Entry::over(self, key)
+    }
+}
+
+impl<'a, K, V> Entry<'a, K, V> {
+    ghost use Rattle.vecmap_map.specs.Entry.{IsInserted, LeavesSame, entries_with, entry_index, entry_key, entry_map, entry_place, entry_ref, entry_value};
+    ghost use Rattle.vecmap_map.specs.EntryLends.{entry_lends, entry_passes};
+
+    /// As `VecMap::entry`, which calls it.
+    pub fn over(map: &'a mut VecMap<K, V>, key: K) -> Entry<'a, K, V>
+    where
+        K: Eq,
+        ensures same_map { (entry_ref result).ghost_name ≡ map.entry.ghost_name }
+        ensures unchanged { entry_map result ≡ map.old }
+        ensures key { entry_key result ≡ key }
+        ensures place { entry_place result ≡ index_of K.eq map.old.entries key }
+    {
+        match map.get_index_of(&key) {
+            Some(index) => Entry::Occupied(OccupiedEntry { map, key, index }),
+            None => Entry::Vacant(VacantEntry { map, key }),
+        }
+    }
+
+    /// The value of the key. Where it has none, the handed key and `value` go last.
+    ///
+    /// A value that is there stays, and `value` and the handed key are dropped. Memory is needed for a new key where
+    /// there is no room. Refused, the pair comes back and nothing has changed.
+    pub fn or_insert(self, value: V) -> Result<&'a mut V, Refused<(K, V)>>
+    where
+        K: Drop,
+        V: Drop,
+        ensures* writes_back { sem 𝓛 (entry_lends K.row V.row self.entry result) }
+        ensures value { IfOk result (λ x. x.now ≡ unwrap_or (entry_value self.entry) value) }
+
+        // Refused, the pair comes back. Only a new key is refused, and only where there was no room.
+        ensures given { IfErr result (λ refused. refused.given ≡ (entry_key self.entry, value)) }
+        ensures absent { OnErr result (entry_place self.entry ≡ None) }
+        ensures full { OnErr result ((entry_map self.entry).capacity ≤ length (entry_map self.entry).entries) }
+    {
+        match self {
+            Entry::Occupied(occupied) => Ok(occupied.into_mut()),
+            Entry::Vacant(vacant) => vacant.insert(value),
+        }
+    }
+
+    /// As `or_insert`, with the value that `f` makes. `f` is called only where the key has no value.
+    pub fn or_insert_with<F: FnOnce() -> V>(self, f: F) -> Result<&'a mut V, Refused<(K, V)>>
+    where
+        K: Drop,
+        F: Drop,
+        requires { entry_place self ≡ None → F.pre f }
+        ensures* writes_back { sem 𝓛 (entry_lends K.row V.row self.entry result) }
+        ensures value { IfOk result (λ x. UnwrapsOrElse (entry_value self.entry) (F.post f) x.now) }
+
+        // Refused, the pair comes back. Only a new key is refused, and only where there was no room.
+        ensures given_key { IfErr result (λ refused. refused.given.0 ≡ entry_key self.entry) }
+        ensures given_value { IfErr result (λ refused. F.post f refused.given.1) }
+        ensures absent { OnErr result (entry_place self.entry ≡ None) }
+        ensures full { OnErr result ((entry_map self.entry).capacity ≤ length (entry_map self.entry).entries) }
+    {
+        match self {
+            Entry::Occupied(entry) => Ok(entry.into_mut()),
+            Entry::Vacant(entry) => entry.insert(f()),
+        }
+    }
+
+    /// As `or_insert_with`, where `f` is given the handed key.
+    pub fn or_insert_with_key<F: FnOnce(&K) -> V>(self, f: F) -> Result<&'a mut V, Refused<(K, V)>>
+    where
+        K: Drop,
+        F: Drop,
+        requires { entry_place self ≡ None → (p : Bor K) → p.now ≡ entry_key self → F.pre f p }
+        ensures* writes_back { sem 𝓛 (entry_lends K.row V.row self.entry result) }
+        ensures value { IfOk result (λ x. UnwrapsOrElse (entry_value self.entry) (FnOnceReturnsAt F.FnOnce f (entry_key self.entry)) x.now) }
+
+        // Refused, the pair comes back. Only a new key is refused, and only where there was no room.
+        ensures given_key { IfErr result (λ refused. refused.given.0 ≡ entry_key self.entry) }
+        ensures given_value { IfErr result (λ refused. FnOnceReturnsAt F.FnOnce f (entry_key self.entry) refused.given.1) }
+        ensures absent { OnErr result (entry_place self.entry ≡ None) }
+        ensures full { OnErr result ((entry_map self.entry).capacity ≤ length (entry_map self.entry).entries) }
+    {
+        match self {
+            Entry::Occupied(entry) => Ok(entry.into_mut()),
+            Entry::Vacant(entry) => {
+                let value = f(entry.key());
+                entry.insert(value)
+            }
+        }
+    }
+
+    /// As `or_insert_with`, with the value of `V::default()`.
+    pub fn or_default(self) -> Result<&'a mut V, Refused<(K, V)>>
+    where
+        K: Drop,
+        V: Default,
+        ensures* writes_back { sem 𝓛 (entry_lends K.row V.row self.entry result) }
+        ensures value { IfOk result (λ x. UnwrapsOrElse (entry_value self.entry) V.is_default x.now) }
+
+        // Refused, the pair comes back. Only a new key is refused, and only where there was no room.
+        ensures given_key { IfErr result (λ refused. refused.given.0 ≡ entry_key self.entry) }
+        ensures given_value { IfErr result (λ refused. V.is_default refused.given.1) }
+        ensures absent { OnErr result (entry_place self.entry ≡ None) }
+        ensures full { OnErr result ((entry_map self.entry).capacity ≤ length (entry_map self.entry).entries) }
+    {
+        match self {
+            Entry::Occupied(entry) => Ok(entry.into_mut()),
+            Entry::Vacant(entry) => entry.insert(V::default()),
+        }
+    }
+
+    /// The key that was handed in, also where an equal one is stored.
+    pub fn key(&self) -> &K
+        ensures { result.now ≡ entry_key self.now }
+    {
+        match self {
+            Entry::Occupied(entry) => entry.key(),
+            Entry::Vacant(entry) => entry.key(),
+        }
+    }
+
+    /// The place of the key, or the number of pairs where it has none.
+    pub fn index(&self) -> usize
+        ensures { result ≡ entry_index self.now }
+    {
+        match self {
+            Entry::Occupied(entry) => entry.index(),
+            Entry::Vacant(entry) => entry.index(),
+        }
+    }
+
+    /// Calls `f` on the value of the key, if it has one, and hands the entry on.
+    pub fn and_modify<F: FnOnce(&mut V)>(self, f: F) -> Entry<'a, K, V>
+    where
+        F: Drop,
+        requires { (p : MutBor V) → entry_value self ≡ Some p.now → F.pre f p }
+        ensures same_map { (entry_ref result).ghost_name ≡ (entry_ref self.entry).ghost_name }
+        ensures key { entry_key result ≡ entry_key self.entry }
+        ensures place { entry_place result ≡ entry_place self.entry }
+        ensures update { ModifiesValue F.FnOnce f (entry_value self.entry) (entry_value result) }
+        ensures entries { (entry_map result).entries ≡ option_map_or (entries_with self.entry) (entry_value result) (entry_map self.entry).entries }
+        ensures capacity { (entry_map result).capacity ≡ (entry_map self.entry).capacity }
+        ensures later { LeavesSame self.entry result }
+    {
+        match self {
+            Entry::Occupied(mut entry) => {
+                f(entry.get_mut());
+                Entry::Occupied(entry)
+            }
+            Entry::Vacant(entry) => Entry::Vacant(entry),
+        }
+    }
+
+    /// Gives the key the value, and answers its entry.
+    ///
+    /// Where the key has a value, that alone is replaced, and the call never fails. Else a clone of the handed key is
+    /// stored last with `value`, and the entry keeps the handed key. Refused memory, for the clone or for the pair,
+    /// the handed key and `value` come back and nothing has changed.
+    pub fn insert_entry(self, value: V) -> Result<OccupiedEntry<'a, K, V>, Refused<(K, V)>>
+    where
+        K: Clone,
+        V: Drop,
+        ensures ok { IfOk result (IsInserted K.is_clone self.entry value) }
+
+        // Refused, the pair comes back. Only a new key is refused, and where it can be cloned only for want of room.
+        ensures* err { sem 𝓛 (entry_passes K.row V.row self.entry result) }
+        ensures given { IfErr result (λ refused. refused.given ≡ (entry_key self.entry, value)) }
+        ensures absent { OnErr result (entry_place self.entry ≡ None) }
+        ensures full { K.is_infallible (entry_key self.entry) → OnErr result ((entry_map self.entry).capacity ≤ length (entry_map self.entry).entries) }
+    {
+        match self {
+            Entry::Occupied(entry) => entry.into_inserted(value),
+            Entry::Vacant(entry) => entry.insert_entry(value),
+        }
+    }
+}

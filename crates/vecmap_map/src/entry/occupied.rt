@@ -1,0 +1,149 @@
+//! The entry of a key that is there.
+ghost use Rattle.std.specs.Prelude.{◌≡◌, ◌<◌, IfOk, IsOk, Some, length, remove, slice_get};
+ghost use Rattle.std.specs.Borrow.{sem};
+ghost use Rattle.vecmap_base.specs.Items.{swap_without};
+
+use crate::VecMap;
+use std::mem::replace;
+use vecmap_base::Refused;
+
+/// The place of a key that is there, with the key that was handed in. None of its calls takes memory.
+#[derive(Debug, Drop)]
+pub struct OccupiedEntry<'a, K, V> {
+    pub(super) map: &'a mut VecMap<K, V>,
+    pub(super) key: K,
+    pub(super) index: usize,
+    ghost within: { index < length map.now.entries },
+}
+
+impl<'a, K, V> OccupiedEntry<'a, K, V> {
+    ghost use Rattle.vecmap_map.specs.declared.entry.Entry.TheVariants.{Occupied};
+    ghost use Rattle.vecmap_map.specs.Entry.{IsInserted, LeavesSame, entry_index, entry_key, entry_map, entry_ref, entry_value, occupied_with};
+    ghost use Rattle.vecmap_map.specs.EntryLends.{entry_passes, occupied_lends};
+    ghost use Rattle.vecmap_map.specs.Lends.{lends_value_at};
+
+    /// The key that was handed in. The stored one is equal, and may differ.
+    pub fn key(&self) -> &K
+        ensures { result.now ≡ entry_key (Occupied self.now) }
+    {
+        &self.key
+    }
+
+    /// The place of the key.
+    pub fn index(&self) -> usize
+        ensures { result ≡ entry_index (Occupied self.now) }
+    {
+        self.index
+    }
+
+    /// The key that was handed in. The map stays as it is.
+    pub fn into_key(self) -> K
+        ensures key { result ≡ entry_key (Occupied self.entry) }
+        ensures unchanged { self.exit.0.now ≡ entry_map (Occupied self.entry) }
+    {
+        self.key
+    }
+
+    /// The value of the key.
+    pub fn get(&self) -> &V
+        ensures { entry_value (Occupied self.now) ≡ Some result.now }
+    {
+        &self.map[self.index]
+    }
+
+    /// The value of the key, to write.
+    pub fn get_mut(&mut self) -> &mut V
+        ensures* writes_back { sem 𝓛 (occupied_lends K.row V.row self.entry result) }
+        ensures value { entry_value (Occupied self.old) ≡ Some result.now }
+        ensures later { (v : V) → LeavesSame (Occupied self.old) (Occupied (occupied_with self.old v)) }
+    {
+        let index = self.index;
+        self.map.value_mut(index)
+    }
+
+    /// The value of the key, to write for as long as the map is lent.
+    pub fn into_mut(self) -> &'a mut V
+    where
+        K: Drop,
+        ensures* writes_back { sem 𝓛 (lends_value_at K.row V.row (entry_ref (Occupied self.entry)) (entry_index (Occupied self.entry)) result) }
+        ensures value { entry_value (Occupied self.entry) ≡ Some result.now }
+    {
+        let OccupiedEntry { map, key: _, index } = self;
+        map.value_mut(index)
+    }
+
+    /// Replaces the value, and answers the old one. The stored key stays, and so does the handed one.
+    pub fn insert(&mut self, value: V) -> V
+        ensures old { entry_value (Occupied self.old) ≡ Some result }
+        ensures after { self.new ≡ occupied_with self.old value }
+        ensures later { LeavesSame (Occupied self.old) (Occupied self.new) }
+    {
+        replace(self.get_mut(), value)
+    }
+
+    /// Takes out the pair of the key, and answers it with the stored key.
+    ///
+    /// What follows moves up by one place, so this takes as many moves as there are pairs after it.
+    pub fn remove_entry(self) -> (K, V)
+    where
+        K: Drop,
+        ensures pair { slice_get (entry_map (Occupied self.entry)).entries (entry_index (Occupied self.entry)) ≡ Some result }
+        ensures entries { self.exit.0.now.entries ≡ remove (entry_map (Occupied self.entry)).entries (entry_index (Occupied self.entry)) }
+        ensures capacity { self.exit.0.now.capacity ≡ (entry_map (Occupied self.entry)).capacity }
+    {
+        let index = self.index;
+        let _key = self.key;
+        self.map.remove_index(index)
+    }
+
+    /// As `remove_entry`, but the last pair takes its place, which is one move.
+    pub fn swap_remove_entry(self) -> (K, V)
+    where
+        K: Drop,
+        ensures pair { slice_get (entry_map (Occupied self.entry)).entries (entry_index (Occupied self.entry)) ≡ Some result }
+        ensures entries { self.exit.0.now.entries ≡ swap_without (entry_map (Occupied self.entry)).entries (entry_index (Occupied self.entry)) }
+        ensures capacity { self.exit.0.now.capacity ≡ (entry_map (Occupied self.entry)).capacity }
+    {
+        let index = self.index;
+        let _key = self.key;
+        self.map.swap_remove_index(index)
+    }
+
+    /// As `remove_entry`, and answers the value alone.
+    pub fn remove(self) -> V
+    where
+        K: Drop,
+        ensures value { entry_value (Occupied self.entry) ≡ Some result }
+        ensures entries { self.exit.0.now.entries ≡ remove (entry_map (Occupied self.entry)).entries (entry_index (Occupied self.entry)) }
+        ensures capacity { self.exit.0.now.capacity ≡ (entry_map (Occupied self.entry)).capacity }
+    {
+        let (_key, value) = self.remove_entry();
+        value
+    }
+
+    /// As `swap_remove_entry`, and answers the value alone.
+    pub fn swap_remove(self) -> V
+    where
+        K: Drop,
+        ensures value { entry_value (Occupied self.entry) ≡ Some result }
+        ensures entries { self.exit.0.now.entries ≡ swap_without (entry_map (Occupied self.entry)).entries (entry_index (Occupied self.entry)) }
+        ensures capacity { self.exit.0.now.capacity ≡ (entry_map (Occupied self.entry)).capacity }
+    {
+        let (_key, value) = self.swap_remove_entry();
+        value
+    }
+
+    // Replaces the value, and hands the entry on. It never fails.
+    pub(super) fn into_inserted(self, value: V) -> Result<OccupiedEntry<'a, K, V>, Refused<(K, V)>>
+    where
+        K: Clone,
+        V: Drop,
+        ensures* err { sem 𝓛 (entry_passes K.row V.row (Occupied self.entry) result) }
+        ensures ok { IfOk result (IsInserted K.is_clone (Occupied self.entry) value) }
+        ensures never { IsOk result }
+    {
+        let OccupiedEntry { map, key, index } = self;
+        *map.value_mut(index) = value;
+        Ok(OccupiedEntry { map, key, index })
+    }
+}

@@ -1,0 +1,14 @@
+//! Printing.
+use crate::VecMap;
+use std::fmt;
+
+/// Prints as std prints a map: `{key: value, ..}`, in the order of the pairs.
+impl<K: fmt::Debug, V: fmt::Debug> fmt::Debug for VecMap<K, V> {
+    fn fmt<W: fmt::Write>(&self, f: &mut fmt::Formatter<W>) -> fmt::Result {
+        let mut map = f.debug_map();
+        for pair in &self.pairs {
+            map.entry(&pair.0, &pair.1);
+        }
+        map.finish()
+    }
+}

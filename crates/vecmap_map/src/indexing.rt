@@ -1,0 +1,61 @@
+//! `map[index]` and `map[&key]`: the value at a place, and the value of a key.
+ghost use Rattle.std.specs.Prelude.{◌≡◌, ◌<◌, IsSome, Some, length};
+ghost use Rattle.std.specs.Borrow.{sem};
+ghost use Rattle.vecmap_base.specs.Pairs.{index_of, lookup, value_at};
+
+use crate::VecMap;
+use std::ops::{Index, IndexMut};
+
+/// The value at a place below the number of pairs.
+impl<K, V> Index<usize> for VecMap<K, V> {
+    type Output = V;
+
+    ghost can_index = { λ m i. i < length m.entries };
+
+    ghost index_gives = { λ m i v. value_at m.entries i ≡ Some v };
+
+    fn index(&self, index: usize) -> &V {
+        &self.pairs[index].1
+    }
+}
+
+/// The value at a place below the number of pairs, to write.
+impl<K, V> IndexMut<usize> for VecMap<K, V> {
+    ghost use Rattle.vecmap_map.specs.Lends.{lends_value_at};
+
+    fn index_mut(&mut self, index: usize) -> &mut V
+        requires { index < length self.old.entries }
+        ensures* writes_back { sem 𝓛 (lends_value_at K.row V.row self.entry index result) }
+        ensures value { value_at self.old.entries index ≡ Some result.now }
+    {
+        self.value_mut(index)
+    }
+}
+
+/// The value of the first pair whose key is equal to `key`. Such a key is there.
+impl<'q, K: Eq, V> Index<&'q K> for VecMap<K, V> {
+    type Output = V;
+
+    ghost can_index = { λ m k. IsSome (index_of K.eq m.entries k.now) };
+
+    ghost index_gives = { λ m k v. lookup K.eq m.entries k.now ≡ Some v };
+
+    fn index(&self, key: &'q K) -> &V {
+        let place = self.get_index_of(key).unwrap();
+        &self.pairs[place].1
+    }
+}
+
+/// The value of the first pair whose key is equal to `key`, to write. Such a key is there.
+impl<'q, K: Eq, V> IndexMut<&'q K> for VecMap<K, V> {
+    ghost use Rattle.vecmap_map.specs.Lends.{lends_value_of};
+
+    fn index_mut(&mut self, key: &'q K) -> &mut V
+        requires { IsSome (index_of K.eq self.old.entries key.now) }
+        ensures* writes_back { sem 𝓛 (lends_value_of K.row V.row self.entry K.eq key.now result) }
+        ensures value { lookup K.eq self.old.entries key.now ≡ Some result.now }
+    {
+        let place = self.get_index_of(key).unwrap();
+        self.value_mut(place)
+    }
+}

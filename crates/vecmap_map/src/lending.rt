@@ -1,0 +1,144 @@
+//! Calls that lend a value of the map to write.
+ghost use Rattle.std.specs.Prelude.{◌≡◌, ◌-◌, ◌<◌, ◌↔◌, IfSome, IsSome, Some, length, option_map, slice_get};
+ghost use Rattle.std.specs.Borrow.{sem};
+ghost use Rattle.std.specs.Option.{option_copied_mut};
+ghost use Rattle.vecmap_base.specs.Pairs.{index_of, lookup, lookup_pair, value_at};
+ghost use Rattle.vecmap_map.specs.Lends.{lends_value};
+
+use crate::VecMap;
+
+impl<K, V> VecMap<K, V> {
+    ghost use Rattle.vecmap_map.specs.Lends.{lends_beside_key, lends_beside_place, lends_value_at, lends_value_if_of, lends_whole_at, lends_whole_if_at};
+
+    /// The value of the first pair whose key is equal to `key`, to write.
+    pub fn get_mut(&mut self, key: &K) -> Option<&mut V>
+    where
+        K: Eq,
+        ensures* writes_back { sem 𝓛 (lends_value_if_of K.row V.row self.entry K.eq key.now result) }
+        ensures value { option_copied_mut result ≡ lookup K.eq self.old.entries key.now }
+        ensures found { IsSome result ↔ IsSome (index_of K.eq self.old.entries key.now) }
+    {
+        match self.get_index_of(key) {
+            Some(index) => Some(self.value_mut(index)),
+            None => None,
+        }
+    }
+
+    /// The first pair, its value to write.
+    pub fn first_mut(&mut self) -> Option<(&K, &mut V)>
+        ensures* writes_back { sem 𝓛 (lends_beside_key K.row V.row self.entry 0 result) }
+        ensures pair { option_map (λ pair. (pair.0.now, pair.1.now)) result ≡ slice_get self.old.entries 0 }
+        ensures found { IsSome result ↔ (0 < length self.old.entries) }
+    {
+        self.get_index_mut(0)
+    }
+
+    /// The last pair, its value to write.
+    pub fn last_mut(&mut self) -> Option<(&K, &mut V)>
+        ensures* writes_back { sem 𝓛 (lends_beside_key K.row V.row self.entry (length self.old.entries - 1) result) }
+        ensures pair { option_map (λ pair. (pair.0.now, pair.1.now)) result ≡ slice_get self.old.entries (length self.old.entries - 1) }
+        ensures found { IsSome result ↔ (0 < length self.old.entries) }
+    {
+        let (index, map) = self.with_last_place();
+        map.get_index_mut(index)
+    }
+
+    /// The place of the first pair whose key is equal to `key`, with the stored key, and the value to write.
+    pub fn get_full_mut(&mut self, key: &K) -> Option<(usize, &K, &mut V)>
+    where
+        K: Eq,
+        ensures* writes_back { sem 𝓛 (lends_beside_place K.row V.row self.entry K.eq key.now result) }
+        ensures place { option_map (λ found. found.0) result ≡ index_of K.eq self.old.entries key.now }
+        ensures within { IfSome result (λ found. found.0 < length self.old.entries) }
+        ensures pair { option_map (λ found. (found.1.now, found.2.now)) result ≡ lookup_pair K.eq self.old.entries key.now }
+    {
+        let (place, map) = self.with_place_of(key);
+        match place {
+            Some(index) => Some(map.full_mut(index)),
+            None => None,
+        }
+    }
+
+    /// The pair at a place, if there is one, its value to write.
+    pub fn get_index_mut(&mut self, index: usize) -> Option<(&K, &mut V)>
+        ensures* writes_back { sem 𝓛 (lends_beside_key K.row V.row self.entry index result) }
+        ensures pair { option_map (λ pair. (pair.0.now, pair.1.now)) result ≡ slice_get self.old.entries index }
+        ensures found { IsSome result ↔ (index < length self.old.entries) }
+    {
+        match self.whole_at(index) {
+            Some(pair) => Some(ends(pair)),
+            None => None,
+        }
+    }
+
+    // The value at the place `index`, to write.
+    pub(crate) fn value_mut(&mut self, index: usize) -> &mut V
+        requires { index < length self.old.entries }
+        ensures* writes_back { sem 𝓛 (lends_value_at K.row V.row self.entry index result) }
+        ensures value { value_at self.old.entries index ≡ Some result.now }
+    {
+        &mut self.pairs[index].1
+    }
+
+    // The pair at the place `index`, to write, if there is one.
+    pub(crate) fn whole_at(&mut self, index: usize) -> Option<&mut (K, V)>
+        ensures* writes_back { sem 𝓛 (lends_whole_if_at K.row V.row self.entry index result) }
+        ensures pair { option_copied_mut result ≡ slice_get self.old.entries index }
+        ensures found { IsSome result ↔ (index < length self.old.entries) }
+    {
+        if index < self.len() {
+            Some(self.whole_mut(index))
+        } else {
+            None
+        }
+    }
+
+    // The pair at the place `index`, to write.
+    pub(crate) fn whole_mut(&mut self, index: usize) -> &mut (K, V)
+        requires { index < length self.old.entries }
+        ensures* writes_back { sem 𝓛 (lends_whole_at K.row V.row self.entry index result) }
+        ensures pair { slice_get self.old.entries index ≡ Some result.now }
+    {
+        &mut self.pairs[index]
+    }
+
+    // The place `index`, its key, and its value to write.
+    fn full_mut(&mut self, index: usize) -> (usize, &K, &mut V)
+        requires { index < length self.old.entries }
+        ensures* writes_back { sem 𝓛 (lends_value_at K.row V.row self.entry index result.2) }
+        ensures place { result.0 ≡ index }
+        ensures pair { slice_get self.old.entries index ≡ Some (result.1.now, result.2.now) }
+    {
+        let pair = &mut self.pairs[index];
+        (index, &pair.0, &mut pair.1)
+    }
+
+    // The first place whose key is equal to `key`, and the map itself.
+    pub(crate) fn with_place_of(&mut self, key: &K) -> (Option<usize>, &mut VecMap<K, V>)
+    where
+        K: Eq,
+        ensures place { result.0 ≡ index_of K.eq self.old.entries key.now }
+        ensures within { IfSome result.0 (λ i. i < length self.old.entries) }
+        ensures same_map { result.1.ghost_name ≡ self.entry.ghost_name }
+        ensures unchanged { result.1.now ≡ self.old }
+    {
+        (self.get_index_of(key), self)
+    }
+
+    // The last place, or 0 where there is none, and the map itself.
+    fn with_last_place(&mut self) -> (usize, &mut VecMap<K, V>)
+        ensures place { result.0 ≡ length self.old.entries - 1 }
+        ensures same_map { result.1.ghost_name ≡ self.entry.ghost_name }
+        ensures unchanged { result.1.now ≡ self.old }
+    {
+        (self.len().saturating_sub(1), self)
+    }
+}
+
+// The key and the value of a pair, the value to write.
+fn ends<K, V>(pair: &mut (K, V)) -> (&K, &mut V)
+    ensures* writes_back { sem 𝓛 (lends_value K.row V.row pair.entry result.1) }
+    ensures parts { pair.old ≡ (result.0.now, result.1.now) }
+{
+    (&pair.0, &mut pair.1)
+}

@@ -1,0 +1,111 @@
+//! Lookups by key and by place.
+ghost use Rattle.std.specs.Prelude.{◌≡◌, ◌-◌, ◌<◌, IfSome, is_some, length, option_copied, option_map, slice_get};
+ghost use Rattle.vecmap_base.specs.Pairs.{has_text, index_by, index_of, lookup, lookup_by, lookup_full, lookup_pair};
+
+use crate::VecMap;
+use vecmap_base::{find, find_str};
+
+impl<K, V> VecMap<K, V> {
+    /// Whether a key equal to `key` is there.
+    pub fn contains_key(&self, key: &K) -> bool
+    where
+        K: Eq,
+        ensures { result ≡ is_some (index_of K.eq self.now.entries key.now) }
+    {
+        self.get_index_of(key).is_some()
+    }
+
+    /// The first pair.
+    pub fn first(&self) -> Option<(&K, &V)>
+        ensures { option_map (λ pair. (pair.0.now, pair.1.now)) result ≡ slice_get self.now.entries 0 }
+    {
+        self.get_index(0)
+    }
+
+    /// The last pair.
+    pub fn last(&self) -> Option<(&K, &V)>
+        ensures { option_map (λ pair. (pair.0.now, pair.1.now)) result ≡ slice_get self.now.entries (length self.now.entries - 1) }
+    {
+        let len = self.pairs.len();
+        if len == 0 {
+            return None;
+        }
+        self.get_index(len - 1)
+    }
+
+    /// The value of the first pair whose key is equal to `key`.
+    pub fn get(&self, key: &K) -> Option<&V>
+    where
+        K: Eq,
+        ensures { option_copied result ≡ lookup K.eq self.now.entries key.now }
+    {
+        let (_index, _key, value) = self.get_full(key)?;
+        Some(value)
+    }
+
+    /// The pair at a place, if there is one.
+    pub fn get_index(&self, index: usize) -> Option<(&K, &V)>
+        ensures { option_map (λ pair. (pair.0.now, pair.1.now)) result ≡ slice_get self.now.entries index }
+    {
+        let pair = self.pairs.get(index)?;
+        Some((&pair.0, &pair.1))
+    }
+
+    /// The place of the first pair whose key is equal to `key`, with the stored key and its value.
+    pub fn get_full(&self, key: &K) -> Option<(usize, &K, &V)>
+    where
+        K: Eq,
+        ensures place { option_map (λ found. found.0) result ≡ index_of K.eq self.now.entries key.now }
+        ensures within { IfSome result (λ found. found.0 < length self.now.entries) }
+        ensures pair { option_map (λ found. (found.1.now, found.2.now)) result ≡ lookup_pair K.eq self.now.entries key.now }
+    {
+        let index = self.get_index_of(key)?;
+        let pair = &self.pairs[index];
+        Some((index, &pair.0, &pair.1))
+    }
+
+    /// The first pair whose key is equal to `key`, with the stored key.
+    pub fn get_key_value(&self, key: &K) -> Option<(&K, &V)>
+    where
+        K: Eq,
+        ensures { option_map (λ pair. (pair.0.now, pair.1.now)) result ≡ lookup_pair K.eq self.now.entries key.now }
+    {
+        let (_index, stored, value) = self.get_full(key)?;
+        Some((stored, value))
+    }
+
+    /// The place of the first pair whose key is equal to `key`.
+    pub fn get_index_of(&self, key: &K) -> Option<usize>
+    where
+        K: Eq,
+        ensures place { result ≡ index_of K.eq self.now.entries key.now }
+        ensures within { IfSome result (λ i. i < length self.now.entries) }
+    {
+        find(&self.pairs, key)
+    }
+}
+
+impl<V> VecMap<String, V> {
+    /// As `contains_key`, by the bytes of a text. It takes no memory.
+    pub fn contains_key_str(&self, key: &str) -> bool
+        ensures { result ≡ is_some (index_by (has_text key.now) self.now.entries) }
+    {
+        self.get_index_of_str(key).is_some()
+    }
+
+    /// As `get`, by the bytes of a text. It takes no memory.
+    pub fn get_str(&self, key: &str) -> Option<&V>
+        ensures { option_copied result ≡ lookup_by (has_text key.now) self.now.entries }
+    {
+        let index = self.get_index_of_str(key)?;
+        Some(&self.pairs[index].1)
+    }
+
+    /// As `get_index_of`, by the bytes of a text. It takes no memory.
+    pub fn get_index_of_str(&self, key: &str) -> Option<usize>
+        ensures place { result ≡ index_by (has_text key.now) self.now.entries }
+        ensures within { IfSome result (λ i. i < length self.now.entries) }
+    {
+        find_str(&self.pairs, key)
+    }
+}

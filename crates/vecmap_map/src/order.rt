@@ -1,0 +1,24 @@
+//! The order of the pairs.
+ghost use Rattle.std.specs.Prelude.{◌≡◌, ◌<◌, length, reverse, swap};
+
+use crate::VecMap;
+
+impl<K, V> VecMap<K, V> {
+    /// Turns the order of the pairs round.
+    pub fn reverse(&mut self)
+        ensures entries { self.new.entries ≡ reverse self.old.entries }
+        ensures capacity { self.new.capacity ≡ self.old.capacity }
+    {
+        self.pairs.reverse();
+    }
+
+    /// Exchanges the pairs at two places, which the caller knows to be there.
+    pub fn swap_indices(&mut self, a: usize, b: usize)
+        requires a_in_bounds { a < length self.old.entries }
+        requires b_in_bounds { b < length self.old.entries }
+        ensures entries { self.new.entries ≡ swap self.old.entries a b }
+        ensures capacity { self.new.capacity ≡ self.old.capacity }
+    {
+        self.pairs.swap(a, b);
+    }
+}
