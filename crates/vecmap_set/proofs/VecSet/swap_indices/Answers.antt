@@ -1,0 +1,11 @@
+use Rattle.std.proofs.Common.{ap, arith, length}
+use Rattle.vecmap_base.proofs.StaysDistinct.{distinct_swap}
+use Rattle.vecmap_set.proofs.VecSet.swap_indices.Goals as goal
+
+pub invariant_of-self : goal.invariant_of-self
+invariant_of-self g c =
+    let same_length = ap (λ s. length s.elements) c.self.view_is in
+    rw c.swap.ensures.items (distinct_swap _ g.met.T.Eq.laws _ c.args.a c.args.b (omega arith) (omega arith) c.self.invariant)
+
+pub returns-clause-distinct : goal.returns-clause-distinct
+returns-clause-distinct g c = invariant_of-self g c

@@ -1,0 +1,13 @@
+use Rattle.std.proofs.Common.{◌≡◌, arith}
+use Rattle.std.proofs.lemmas.Option.{gets}
+use Rattle.vecmap_base.specs.Items.{swap_without}
+use Rattle.vecmap_base.proofs.StaysDistinct.{distinct_swap_without}
+use Rattle.vecmap_set.proofs.VecSet.swap_remove_index.Goals as goal
+
+pub invariant_of-self : goal.invariant_of-self
+invariant_of-self g c =
+    let left : c.swap_remove.new.self.items ≡ swap_without c.self.inside.items.items c.args.index = grind (arith, gets) in
+    rw left (distinct_swap_without _ g.met.T.Eq.laws _ c.args.index c.self.invariant)
+
+pub returns-clause-distinct : goal.returns-clause-distinct
+returns-clause-distinct g c = invariant_of-self g c

@@ -1,0 +1,7 @@
+-- What a contract sees of a `VecSet`.
+use Rattle.std.specs.Prelude.{ℕ, List}
+
+-- the elements from front to back, and how many fit before the vector grows
+pub record Contents (T : Type 0) : Type 0 where
+  pub elements : List T
+  pub capacity : ℕ

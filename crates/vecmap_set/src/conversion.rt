@@ -1,0 +1,36 @@
+//! Sets made of a vector, in that vector.
+ghost use Rattle.std.specs.Prelude.{◌≡◌, ◌≤◌, [], length, vec_capacity};
+ghost use Rattle.std.specs.List.{IsDistinct};
+ghost use Rattle.vecmap_base.specs.Items.{adds};
+ghost use Rattle.vecmap_base.specs.Repeats.{cost};
+
+use crate::VecSet;
+use vecmap_base::{Steps, dedup_keep_first};
+
+/// Adds the elements in turn, in the vector that they stand in: the first of equal ones stays, in its place.
+///
+/// It makes as many comparisons as `from_vec_counted`, takes no memory and keeps the capacity.
+impl<T: Eq + Drop> From<Vec<T>> for VecSet<T> {
+    ghost from_gives = { λ items set. (set.elements ≡ adds T.eq [] items.items) × IsDistinct T.eq set.elements × (set.capacity ≡ vec_capacity items) };
+
+    fn from(items: Vec<T>) -> VecSet<T> {
+        let (set, _count) = VecSet::from_vec_counted(items);
+        set
+    }
+}
+
+impl<T: Eq + Drop> VecSet<T> {
+    /// As `From<Vec>`, and answers the number of comparisons that it took: at most n(n-1)/2 for n elements, and exactly
+    /// as many where no two are equal.
+    pub fn from_vec_counted(mut items: Vec<T>) -> (VecSet<T>, u128)
+        ensures elements { result.0.elements ≡ adds T.eq [] items.items }
+        ensures distinct { IsDistinct T.eq result.0.elements }
+        ensures capacity { result.0.capacity ≡ vec_capacity items }
+        ensures at_most { result.1 ≤ cost (length items.items) }
+        ensures exact_if_distinct { IsDistinct T.eq items.items → result.1 ≡ cost (length items.items) }
+    {
+        let mut steps = Steps::new();
+        dedup_keep_first(&mut items, &mut steps);
+        (VecSet { items }, steps.count())
+    }
+}

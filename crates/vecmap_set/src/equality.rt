@@ -1,0 +1,90 @@
+//! Equality of sets, and one set within another.
+ghost use Rattle.std.specs.Prelude.{◌≡◌, ◌↔◌, IsTrue, []};
+ghost use Rattle.std.specs.List.{list_any};
+ghost use Rattle.vecmap_base.specs.Equality.{is_within};
+ghost use Rattle.vecmap_base.specs.Items.{both, has_item};
+
+use crate::VecSet;
+use crate::lookup::is_in;
+
+impl<T: Eq> VecSet<T> {
+    /// Whether no element is in both sets. It looks up the elements of the shorter side, up to the first that is found.
+    pub fn is_disjoint(&self, other: &VecSet<T>) -> bool
+        ensures { IsTrue result ↔ (both T.eq self.now.elements other.now.elements ≡ []) }
+    {
+        if self.len() <= other.len() {
+            are_apart(&self.items, &other.items)
+        } else {
+            are_apart(&other.items, &self.items)
+        }
+    }
+
+    /// Whether each element is in `other`. A longer set is no subset, which takes no comparison.
+    pub fn is_subset(&self, other: &VecSet<T>) -> bool
+        ensures { result ≡ is_within T.eq self.now.elements other.now.elements }
+    {
+        let (items, others) = (self.as_slice(), other.as_slice());
+        if items.len() > others.len() {
+            return false;
+        }
+        are_within(items, others)
+    }
+
+    /// Whether each element of `other` is in the set. A shorter set is no superset, which takes no comparison.
+    pub fn is_superset(&self, other: &VecSet<T>) -> bool
+        ensures { result ≡ is_within T.eq other.now.elements self.now.elements }
+    {
+        other.is_subset(self)
+    }
+}
+
+/// Each element of either set is in the other; the order makes no difference.
+///
+/// Where the lengths differ it is false, with no comparison. Else only the elements of the first set are looked up.
+impl<T: Eq> PartialEq for VecSet<T> {
+    ghost use Rattle.std.specs.Cmp.{partial_equiv_from_equiv};
+    ghost use Rattle.std.proofs.lemmas.Cmp.{on_equiv};
+    ghost use Rattle.vecmap_base.specs.Equality.{has_same_items};
+    ghost use Rattle.vecmap_base.proofs.SetEquality.{set_equality_laws};
+
+    ghost eq = { λ a b. has_same_items T.eq a.elements b.elements };
+
+    ghost laws = { partial_equiv_from_equiv (on_equiv (λ set. set.elements) (set_equality_laws T.eq T.Eq.laws)) };
+
+    fn eq(&self, other: &VecSet<T>) -> bool {
+        let (items, others) = (self.as_slice(), other.as_slice());
+        if items.len() != others.len() {
+            return false;
+        }
+        are_within(items, others)
+    }
+}
+
+impl<T: Eq> Eq for VecSet<T> {
+    ghost use Rattle.std.proofs.lemmas.Cmp.{on_equiv};
+    ghost use Rattle.vecmap_base.proofs.SetEquality.{set_equality_laws};
+
+    ghost laws = { on_equiv (λ set. set.elements) (set_equality_laws T.eq T.Eq.laws) };
+}
+
+// Whether each of `items` is one of `others`.
+fn are_within<T: Eq>(items: &[T], others: &[T]) -> bool
+    ensures { result ≡ is_within T.eq items.now others.now }
+{
+    items.iter().all(|item| is_in(others, item))
+}
+
+// Whether none of `items` is one of `others`.
+fn are_apart<T: Eq>(items: &[T], others: &[T]) -> bool
+    ensures apart { IsTrue result ↔ (both T.eq items.now others.now ≡ []) }
+    ensures from_other_side { IsTrue result ↔ (both T.eq others.now items.now ≡ []) }
+{
+    !overlap(items, others)
+}
+
+// Whether one of `items` is one of `others`.
+fn overlap<T: Eq>(items: &[T], others: &[T]) -> bool
+    ensures { result ≡ list_any (has_item T.eq others.now) items.now }
+{
+    items.iter().any(|item| is_in(others, item))
+}

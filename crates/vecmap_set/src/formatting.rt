@@ -1,0 +1,14 @@
+//! Printing.
+use crate::VecSet;
+use std::fmt;
+
+/// Prints as std prints a set: `{element, ..}`, in the order of the elements.
+impl<T: Eq + fmt::Debug> fmt::Debug for VecSet<T> {
+    fn fmt<W: fmt::Write>(&self, f: &mut fmt::Formatter<W>) -> fmt::Result {
+        let mut set = f.debug_set();
+        for item in &self.items {
+            set.entry(item);
+        }
+        set.finish()
+    }
+}

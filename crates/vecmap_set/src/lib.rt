@@ -1,0 +1,36 @@
+//! `VecSet`, an ordered set by equality over one vector of elements.
+#![tactic(auto)]
+
+mod conversion;
+mod equality;
+mod formatting;
+mod indexing;
+mod insertion;
+pub mod laws;
+mod lookup;
+mod make;
+mod order;
+mod removal;
+mod room;
+
+use std::marker::Model;
+
+/// A set that keeps its elements in the order of their insertion, no two of them equal.
+///
+/// Elements need neither `Hash` nor `Ord`: they are found by `==`, one after another, so a lookup takes at most as many
+/// comparisons as there are elements. A contract sees a set as its list of elements and its capacity.
+#[derive(Drop)]
+pub struct VecSet<T: Eq> {
+    items: Vec<T>,
+}
+
+impl<T: Eq> Model for VecSet<T> {
+    ghost use Rattle.std.specs.List.{IsDistinct};
+    ghost use Rattle.vecmap_set.specs.Contents.{Contents};
+
+    ghost Value = { Contents T };
+
+    ghost view = { λ s. record { elements = s.items.items; capacity = s.items.cap } };
+
+    ghost invariant = { λ s. IsDistinct T.eq s.items.items };
+}

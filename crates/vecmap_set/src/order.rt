@@ -1,0 +1,27 @@
+//! The order of the elements.
+ghost use Rattle.std.specs.Prelude.{◌≡◌, ◌<◌, length, reverse, swap};
+ghost use Rattle.std.specs.List.{IsDistinct};
+
+use crate::VecSet;
+
+impl<T: Eq> VecSet<T> {
+    /// Turns the order of the elements round.
+    pub fn reverse(&mut self)
+        ensures elements { self.new.elements ≡ reverse self.old.elements }
+        ensures distinct { IsDistinct T.eq self.new.elements }
+        ensures capacity { self.new.capacity ≡ self.old.capacity }
+    {
+        self.items.reverse();
+    }
+
+    /// Exchanges the elements at two places, which the caller knows to be there.
+    pub fn swap_indices(&mut self, a: usize, b: usize)
+        requires a_in_bounds { a < length self.old.elements }
+        requires b_in_bounds { b < length self.old.elements }
+        ensures elements { self.new.elements ≡ swap self.old.elements a b }
+        ensures distinct { IsDistinct T.eq self.new.elements }
+        ensures capacity { self.new.capacity ≡ self.old.capacity }
+    {
+        self.items.swap(a, b);
+    }
+}
