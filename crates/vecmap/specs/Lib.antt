@@ -1,0 +1,8 @@
+pub mod MapRun
+pub use Rattle.vecmap_base.specs.Clones
+pub use Rattle.vecmap_base.specs.Equality
+pub use Rattle.vecmap_base.specs.Items
+pub use Rattle.vecmap_base.specs.Pairs
+pub use Rattle.vecmap_base.specs.Repeats
+pub use Rattle.vecmap_map.specs.Contents
+pub use Rattle.vecmap_map.specs.Entry

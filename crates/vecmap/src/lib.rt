@@ -1,0 +1,13 @@
+//! Ordered maps and sets by equality, each over one vector: all that users name.
+#![tactic(auto)]
+
+pub mod macros;
+pub mod map;
+mod map_run;
+pub mod set;
+
+pub use map_run::{MapCommand, MapReply, run};
+pub use std::collections::TryReserveError;
+pub use vecmap_base::Refused;
+pub use vecmap_map::VecMap;
+pub use vecmap_set::VecSet;

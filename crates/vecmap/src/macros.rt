@@ -1,0 +1,61 @@
+//! `vecmap!` and `vecset!`, and what they call.
+ghost use Rattle.std.specs.Prelude.{◌≡◌, ◌<◌, OnErr, OnOk, length};
+ghost use Rattle.std.specs.List.{IsDistinct};
+ghost use Rattle.vecmap_base.specs.Items.{add};
+ghost use Rattle.vecmap_base.specs.Pairs.{put};
+
+use crate::{VecMap, VecSet};
+use std::alloc::AllocError;
+
+/// A map of these pairs: room for as many, and then an `insert` of each in turn. It stands in a function's body, and
+/// hands want of memory on by `?`, as an `AllocError`.
+///
+/// `vecmap!(alloc; "a" => 1, "b" => 2)` gives the map of two pairs, and `vecmap!(alloc;)` the empty one.
+#[macro_export]
+macro_rules! vecmap {
+    (@one $key:expr) => { 1usize };
+    ($alloc:expr; $($key:expr => $value:expr),* $(,)?) => {{
+        let mut map = $crate::VecMap::with_capacity($alloc, 0usize $(+ $crate::vecmap!(@one $key))*)?;
+        $($crate::macros::put_pair(&mut map, $key, $value)?;)*
+        map
+    }};
+}
+
+/// A set of these elements: room for as many, and then an `insert` of each in turn. It stands in a function's body, and
+/// hands want of memory on by `?`, as an `AllocError`.
+///
+/// `vecset!(alloc; 2, 1)` gives the set of two elements, and `vecset!(alloc;)` the empty one.
+#[macro_export]
+macro_rules! vecset {
+    (@one $item:expr) => { 1usize };
+    ($alloc:expr; $($item:expr),* $(,)?) => {{
+        let mut set = $crate::VecSet::with_capacity($alloc, 0usize $(+ $crate::vecset!(@one $item))*)?;
+        $($crate::macros::add_item(&mut set, $item)?;)*
+        set
+    }};
+}
+
+/// As `insert` of the map, with `AllocError`. The old value is dropped, and so is a pair that is refused.
+pub fn put_pair<K: Eq + Drop, V: Drop>(
+    map: &mut VecMap<K, V>,
+    key: K,
+    value: V,
+) -> Result<(), AllocError>
+    ensures entries { OnOk result (map.new.entries ≡ put K.eq map.old.entries key value) }
+    ensures room { length map.old.entries < map.old.capacity → map.new.capacity ≡ map.old.capacity }
+    ensures err { OnErr result (map.new ≡ map.old) }
+{
+    map.insert(key, value)?;
+    Ok(())
+}
+
+/// As `insert` of the set, with `AllocError`. An element that is refused is dropped.
+pub fn add_item<T: Eq + Drop>(set: &mut VecSet<T>, item: T) -> Result<(), AllocError>
+    ensures elements { OnOk result (set.new.elements ≡ add T.eq set.old.elements item) }
+    ensures distinct { IsDistinct T.eq set.new.elements }
+    ensures room { length set.old.elements < set.old.capacity → set.new.capacity ≡ set.old.capacity }
+    ensures err { OnErr result (set.new ≡ set.old) }
+{
+    set.insert(item)?;
+    Ok(())
+}

@@ -1,0 +1,2 @@
+//! The set, with the types that go with it.
+pub use vecmap_set::{VecSet, laws};
