@@ -1,0 +1,13 @@
+use Rattle.std.proofs.Common.{◌≡◌, take}
+use Rattle.std.specs.Io.KnownBytes.{Appends}
+use Rattle.vecmap_run.specs.Buffer.{held}
+use Rattle.vecmap_run.proofs.buffer.BufferWrite.write_str.Given as goal
+
+-- what is held has grown by the bytes so far
+abbrev pub invariant-loop-byte : goal.invariant-loop-byte
+invariant-loop-byte g l =
+    let contents = g.W.Write.contents in
+    record {
+      writer : l.self.writer.ghost_name ≡ l.fn.self.writer.ghost_name;
+      held : Appends (held contents l.fn.self) (held contents l.self) (take l.byte-index l.byte-items);
+    }

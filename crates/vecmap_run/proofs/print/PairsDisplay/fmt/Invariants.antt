@@ -1,0 +1,11 @@
+use Rattle.std.proofs.Common.{◌∷◌, take}
+use Rattle.std.specs.Fmt.{HasWritten, IsPlainFormatter}
+use Rattle.std.specs.List.{flat_map}
+use Rattle.vecmap_run.specs.Print.{printed_pair}
+use Rattle.vecmap_run.proofs.print.PairsDisplay.fmt.Given as goal
+
+-- the pairs so far have been written, a space before each
+abbrev pub invariant-loop-pair : goal.invariant-loop-pair
+invariant-loop-pair g l =
+    IsPlainFormatter l.initial.f →
+    HasWritten g.W.Write.write_str_gives l.initial.f (flat_map (λ next. 32 ∷ printed_pair next) (take l.pair-index l.others)) l.f

@@ -1,0 +1,9 @@
+use Rattle.std.proofs.Common.{take}
+use Rattle.vecmap_run.specs.Session.{GoesOn}
+use Rattle.vecmap_run.proofs.serve.Session.take.Given as goal
+
+-- the bytes so far have been read
+abbrev pub invariant-loop-byte : goal.invariant-loop-byte
+invariant-loop-byte g l =
+    let contents = g.W.Write.contents in
+    GoesOn l.fn.self.line l.fn.self.map.entries (take l.byte-index l.bytes) (contents l.fn.writer) (contents l.writer) l.self.line l.self.map.entries

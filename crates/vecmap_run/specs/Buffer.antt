@@ -1,0 +1,8 @@
+-- What a buffer's writer holds, with what is gathered for it.
+use Rattle.std.specs.Prelude.{ℕ, List, Option}
+use Rattle.std.specs.Io.KnownBytes.{append_known}
+use Rattle.vecmap_run.specs.declared.buffer.Buffer.{Buffer}
+
+-- the writer's bytes and then the gathered ones, where those are known
+abbrev pub held : {W : Type 0} → (W → Option (List ℕ)) → Buffer W → Option (List ℕ)
+held contents buffer = append_known (contents buffer.writer.now) buffer.gathered

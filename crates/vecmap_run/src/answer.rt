@@ -1,0 +1,129 @@
+//! What a command is answered.
+ghost use Rattle.std.specs.Prelude.{◌≡◌, IfOk, List, OnErr, OnOk, Some, option_copied, string_eq, unwrap_or, ℕ};
+ghost use Rattle.vecmap.specs.Pairs.{has_text, lookup, lookup_by, put};
+ghost use Rattle.vecmap_run.specs.Lines.{within_limit};
+ghost use Rattle.vecmap_run.specs.Session.{MayAnswer};
+ghost use Rattle.vecmap_run.specs.Steps.{Inserts, InsertsAt, OrInserts, Step, swap_without_text};
+
+use crate::command::{Command, parse};
+use std::alloc::{AllocError, Global};
+use vecmap::VecMap;
+
+/// What a line is answered.
+#[derive(Clone, Copy, Debug, PartialEq, Eq)]
+pub enum Answer {
+    /// The value that the key has, or had, if it was there.
+    Value(Option<i64>),
+    /// The place of the key, if it is there.
+    Place(Option<usize>),
+    /// The place and the value that the key had, if it was there.
+    Moved(Option<(usize, i64)>),
+    /// The number of pairs.
+    Number(usize),
+    /// All pairs.
+    Pairs,
+    /// The line says no command.
+    Fault,
+    /// The place is above the number of pairs.
+    Range,
+    /// There was no memory for what the command puts.
+    Memory,
+}
+
+/// Does what a line says, which is `None` where it is too long.
+pub fn answer_line(alloc: Global, map: &mut VecMap<String, i64>, line: Option<&[u8]>) -> Answer
+    ensures { (whole : List ℕ) → option_copied line.entry ≡ within_limit whole
+        → MayAnswer map.old.entries whole result map.new.entries }
+{
+    let Some(line) = line else {
+        return Answer::Fault;
+    };
+    match parse(line) {
+        Some(command) => act(alloc, map, command),
+        None => Answer::Fault,
+    }
+}
+
+/// Does what a command says.
+fn act(alloc: Global, map: &mut VecMap<String, i64>, command: Command<'_>) -> Answer
+    ensures { Step map.old.entries command.entry result map.new.entries }
+{
+    match command {
+        Command::Insert(key, value) => insert(alloc, map, key, value),
+        Command::InsertAt(index, key, value) => insert_at(alloc, map, index, key, value),
+        Command::OrInsert(key, value) => or_insert(alloc, map, key, value),
+        Command::Get(key) => Answer::Value(map.get_str(key).copied()),
+        Command::IndexOf(key) => Answer::Place(map.get_index_of_str(key)),
+        Command::Remove(key) => Answer::Value(map.remove_str(key)),
+        Command::SwapRemove(key) => Answer::Value(swap_remove(map, key)),
+        Command::Len => Answer::Number(map.len()),
+        Command::List => Answer::Pairs,
+    }
+}
+
+fn insert(alloc: Global, map: &mut VecMap<String, i64>, key: &str, value: i64) -> Answer
+    ensures { Inserts map.old.entries key.now value result map.new.entries }
+{
+    let Ok(key) = key.to_string(alloc) else {
+        return Answer::Memory;
+    };
+    match map.insert(key, value) {
+        Ok(old) => Answer::Value(old),
+        Err(_refused) => Answer::Memory,
+    }
+}
+
+fn insert_at(
+    alloc: Global,
+    map: &mut VecMap<String, i64>,
+    index: usize,
+    key: &str,
+    value: i64,
+) -> Answer
+    ensures { InsertsAt map.old.entries index key.now value result map.new.entries }
+{
+    if map.len() < index {
+        return Answer::Range;
+    }
+    let Ok(key) = key.to_string(alloc) else {
+        return Answer::Memory;
+    };
+    match map.insert_at(index, key, value) {
+        Ok(old) => Answer::Moved(old),
+        Err(_refused) => Answer::Memory,
+    }
+}
+
+fn or_insert(alloc: Global, map: &mut VecMap<String, i64>, key: &str, value: i64) -> Answer
+    ensures { OrInserts map.old.entries key.now value result map.new.entries }
+{
+    let Ok(key) = key.to_string(alloc) else {
+        return Answer::Memory;
+    };
+    match stand(map, key, value) {
+        Ok(stands) => Answer::Value(stands),
+        Err(AllocError) => Answer::Memory,
+    }
+}
+
+/// The value that stands under the key then, which is `value` if it had none.
+fn stand(map: &mut VecMap<String, i64>, key: String, value: i64) -> Result<Option<i64>, AllocError>
+    ensures value { IfOk result (λ stands. stands ≡ Some (unwrap_or (lookup string_eq map.old.entries key) value)) }
+    ensures entries { OnOk result (map.new.entries ≡ put string_eq map.old.entries key (unwrap_or (lookup string_eq map.old.entries key) value)) }
+    ensures err { OnErr result (map.new ≡ map.old) }
+{
+    match map.entry(key).or_insert(value) {
+        Ok(stands) => Ok(Some(*stands)),
+        Err(_refused) => Err(AllocError),
+    }
+}
+
+/// As `swap_remove`, by the bytes of a text. It takes no memory.
+fn swap_remove(map: &mut VecMap<String, i64>, key: &str) -> Option<i64>
+    ensures value { result ≡ lookup_by (has_text key.now) map.old.entries }
+    ensures entries { map.new.entries ≡ swap_without_text map.old.entries key.now }
+{
+    let index = map.get_index_of_str(key)?;
+    let (_key, value) = map.swap_remove_index(index);
+    Some(value)
+}

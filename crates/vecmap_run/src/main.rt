@@ -1,0 +1,23 @@
+//! Reads commands on a map from texts to numbers, a line each, and answers each on a line.
+#![tactic(auto)]
+
+mod answer;
+mod buffer;
+mod bytes;
+mod command;
+mod line;
+mod print;
+mod serve;
+
+use serve::serve;
+use std::io;
+use std::process::ExitCode;
+
+fn main(rt: HostRuntime) -> ExitCode {
+    let mut reader = rt.reader();
+    let mut writer = io::writer(&rt);
+    match serve(rt.alloc(), &mut reader, &mut writer) {
+        Ok(()) => ExitCode::SUCCESS,
+        Err(_fault) => ExitCode::FAILURE,
+    }
+}

@@ -1,0 +1,50 @@
+//! How an answer is printed.
+ghost use Rattle.std.specs.Prelude.{Some};
+ghost use Rattle.vecmap_run.specs.Print.{printed, printed_pairs};
+
+use crate::answer::Answer;
+use std::fmt;
+
+/// An answer with the pairs of the map, as it is printed.
+#[derive(Clone, Copy)]
+pub struct Printed<'m> {
+    pub answer: Answer,
+    pub pairs: &'m [(String, i64)],
+}
+
+impl fmt::Display for Printed<'_> {
+    ghost output = { λ p. Some (printed p.answer p.pairs.now) };
+
+    fn fmt<W: fmt::Write>(&self, f: &mut fmt::Formatter<W>) -> fmt::Result {
+        match self.answer {
+            Answer::Value(None) | Answer::Place(None) | Answer::Moved(None) => write!(f, "none"),
+            Answer::Value(Some(value)) => write!(f, "some {value}"),
+            Answer::Place(Some(index)) => write!(f, "some {index}"),
+            Answer::Moved(Some((index, value))) => write!(f, "some {index} {value}"),
+            Answer::Number(number) => write!(f, "{number}"),
+            Answer::Pairs => write!(f, "{}", Pairs(self.pairs)),
+            Answer::Fault => write!(f, "fault"),
+            Answer::Range => write!(f, "range"),
+            Answer::Memory => write!(f, "memory"),
+        }
+    }
+}
+
+/// Pairs, as they are printed.
+#[derive(Clone, Copy)]
+struct Pairs<'m>(&'m [(String, i64)]);
+
+impl fmt::Display for Pairs<'_> {
+    ghost output = { λ p. Some (printed_pairs p.0.now) };
+
+    fn fmt<W: fmt::Write>(&self, f: &mut fmt::Formatter<W>) -> fmt::Result {
+        let Some((first, others)) = self.0.split_first() else {
+            return write!(f, "empty");
+        };
+        write!(f, "{}={}", first.0, first.1)?;
+        for pair in others {
+            write!(f, " {}={}", pair.0, pair.1)?;
+        }
+        Ok(())
+    }
+}

@@ -1,0 +1,357 @@
+//! Whole runs, over readers and writers in memory.
+use super::{Fault, serve};
+use std::alloc::Global;
+use std::io;
+use std::io::{Error, ErrorKind, Read, Write};
+use std::test::Fail;
+
+/// What is written for an input that is there whole.
+fn served(alloc: Global, input: &[u8]) -> Result<String, Fail> {
+    let mut reader = input;
+    let mut written = Vec::new(alloc);
+    serve(alloc, &mut reader, &mut written)?;
+    Ok(String::from_utf8(written)?)
+}
+
+/// Gives its bytes, at most so many at a time, and then ends, or fails.
+#[derive(Drop)]
+struct FakeReader<'a> {
+    rest: &'a [u8],
+    most: usize,
+    is_interrupted: bool,
+    failure: Option<ErrorKind>,
+    reads: usize,
+}
+
+impl<'a> FakeReader<'a> {
+    fn new(bytes: &'a [u8]) -> FakeReader<'a> {
+        FakeReader {
+            rest: bytes,
+            most: usize::MAX,
+            is_interrupted: false,
+            failure: None,
+            reads: 0,
+        }
+    }
+}
+
+impl Read for FakeReader<'_> {
+    fn read(&mut self, buf: &mut [u8]) -> io::Result<usize> {
+        self.reads = self.reads.saturating_add(1);
+        if self.is_interrupted {
+            self.is_interrupted = false;
+            return Err(Error::from(ErrorKind::Interrupted));
+        }
+        let count = self.rest.len().min(buf.len()).min(self.most);
+        if count == 0 {
+            return match self.failure {
+                Some(kind) => Err(Error::from(kind)),
+                None => Ok(0),
+            };
+        }
+        let (front, rest) = self.rest.split_at(count);
+        buf[..count].copy_from_slice(front);
+        self.rest = rest;
+        Ok(count)
+    }
+}
+
+/// Takes so many bytes, and then fails.
+#[derive(Drop)]
+struct FakeWriter {
+    written: Vec<u8>,
+    room: usize,
+    writes: usize,
+}
+
+impl FakeWriter {
+    fn new(alloc: Global, room: usize) -> FakeWriter {
+        FakeWriter {
+            written: Vec::new(alloc),
+            room,
+            writes: 0,
+        }
+    }
+
+    fn text(&self) -> &str {
+        str::from_utf8(&self.written).unwrap_or("not text")
+    }
+}
+
+impl Write for FakeWriter {
+    fn write(&mut self, buf: &[u8]) -> io::Result<usize> {
+        self.writes = self.writes.saturating_add(1);
+        let count = buf.len().min(self.room);
+        if count == 0 {
+            return Err(Error::from(ErrorKind::BrokenPipe));
+        }
+        self.written.extend_from_slice(&buf[..count])?;
+        self.room -= count;
+        Ok(count)
+    }
+
+    fn flush(&mut self) -> io::Result<()> {
+        Ok(())
+    }
+}
+
+#[test]
+fn answers_each_command(rt: HostRuntime) -> Result<(), Fail> {
+    let runs = [
+        (
+            "insert a 1\ninsert b 2\ninsert a 3\nlist\nget b\nget c\nremove a\nremove a\nlist\nlen\n",
+            "none\nnone\nsome 1\na=3 b=2\nsome 2\nnone\nsome 3\nnone\nb=2\n1\n",
+        ),
+        (
+            "list\ninsert_at 1 a 1\ninsert_at 0 a 1\ninsert_at 1 a 2\nindex a\nor_insert a 9\nswap_remove a\nlen\nor_insert a 7\nlist\n",
+            "empty\nrange\nnone\nsome 0 1\nsome 0\nsome 2\nsome 2\n0\nsome 7\na=7\n",
+        ),
+        (
+            "list\ninsert_at 1 a 1\ninsert_at 0 a 1\nindex a\nindex b\nswap_remove a\nlen\n",
+            "empty\nrange\nnone\nsome 0\nnone\nsome 1\n0\n",
+        ),
+        (
+            "insert a 1\ninsert b 2\ninsert c 3\ninsert_at 3 a 4\nlist\ninsert_at 1 d -5\nlist\ninsert_at 9 d 6\n",
+            "none\nnone\nnone\nsome 0 1\nb=2 c=3 a=4\nnone\nb=2 d=-5 c=3 a=4\nrange\n",
+        ),
+        (
+            "insert a 1\ninsert b 2\ninsert c 3\nswap_remove a\nlist\nswap_remove a\nindex c\n",
+            "none\nnone\nnone\nsome 1\nc=3 b=2\nnone\nsome 0\n",
+        ),
+    ];
+    for (input, output) in runs {
+        assert_eq!(rt;
+            served(rt.alloc(), input.as_bytes())?.as_str(),
+            output,
+            "at {input}"
+        );
+    }
+    Ok(())
+}
+
+#[test]
+fn reads_numbers(rt: HostRuntime) -> Result<(), Fail> {
+    let words = [
+        ("-007", "some -7\n"),
+        ("0", "some 0\n"),
+        ("-0", "some 0\n"),
+        ("999999999999999999", "some 999999999999999999\n"),
+        ("-999999999999999999", "some -999999999999999999\n"),
+        ("000000000000000001", "some 1\n"),
+    ];
+    for (word, output) in words {
+        let input = format!(in rt.alloc(); "insert a {word}\nget a\n")?;
+        let output = format!(in rt.alloc(); "none\n{output}")?;
+        assert_eq!(rt;
+            served(rt.alloc(), input.as_bytes())?.as_str(),
+            output.as_str(),
+            "at {word}"
+        );
+    }
+    Ok(())
+}
+
+#[test]
+fn faults_where_no_command_is_said(rt: HostRuntime) -> Result<(), Fail> {
+    let lines = [
+        "",
+        " ",
+        "a",
+        "insert",
+        "insert a",
+        "insert a ",
+        "insert a 1 ",
+        "insert  a 1",
+        "insert a  1",
+        " insert a 1",
+        "insert a 1 2",
+        "insert a 1\r",
+        "insert a\t1",
+        "Insert a 1",
+        "insert a b",
+        "insert a -",
+        "insert a +1",
+        "insert a --1",
+        "insert a 1-",
+        "insert a 1.5",
+        "insert a 0x1",
+        "insert a 1234567890123456789",
+        "insert a 0000000000000000001",
+        "insert a -1234567890123456789",
+        "insert a= 1",
+        "insert a/b 1",
+        "insert a:b 1",
+        "insert a,b 1",
+        "insert a@b 1",
+        "insert a[b 1",
+        "insert a`b 1",
+        "insert a{b 1",
+        "insert a\u{0}b 1",
+        "insert a\u{7f}b 1",
+        "insert é 1",
+        "insert_at a 1",
+        "insert_at 0 a",
+        "insert_at -1 a 1",
+        "insert_at +0 a 1",
+        "insert_at  0 a 1",
+        "insert_at 0  a 1",
+        "insert_at 1234567890123456789 a 1",
+        "get",
+        "get ",
+        "get a b",
+        "get  a",
+        "remove",
+        "remove a 1",
+        "index",
+        "index 0 a",
+        "swap_remove",
+        "swap_remove a b",
+        "len ",
+        "len a",
+        "LEN",
+        "list ",
+        "list a",
+        "lists",
+    ];
+    for line in lines {
+        let input = format!(in rt.alloc(); "{line}\nlen\n")?;
+        assert_eq!(rt;
+            served(rt.alloc(), input.as_bytes())?.as_str(),
+            "fault\n0\n",
+            "at {line:?}"
+        );
+    }
+    assert_eq!(rt;
+        served(rt.alloc(), b"get \xff\nlen\n")?.as_str(),
+        "fault\n0\n"
+    );
+    Ok(())
+}
+
+#[test]
+fn takes_keys_of_64_bytes(rt: HostRuntime) -> Result<(), Fail> {
+    let longest = "abcdefghijklmnopqrstuvwxyzABCDEFGHIJKLMNOPQRSTUVWXYZ0123456789_-";
+    assert_eq!(rt; longest.len(), 64);
+    let input = format!(in rt.alloc();
+        "insert {longest} 1\ninsert {longest}. 2\ninsert . 3\nlist\n"
+    )?;
+    let output = format!(in rt.alloc(); "none\nfault\nnone\n{longest}=1 .=3\n")?;
+    assert_eq!(rt;
+        served(rt.alloc(), input.as_bytes())?.as_str(),
+        output.as_str()
+    );
+    Ok(())
+}
+
+#[test]
+fn takes_a_long_line_as_one(rt: HostRuntime) -> Result<(), Fail> {
+    for length in [4095, 4096, 4097, 4098, 8192, 8193, 20000] {
+        let mut input = vec![in rt.alloc(); b'a'; length]?;
+        assert_eq!(rt;
+            served(rt.alloc(), &input)?.as_str(),
+            "fault\n",
+            "at {length}"
+        );
+        input.extend_from_slice(b"\nlen")?;
+        assert_eq!(rt;
+            served(rt.alloc(), &input)?.as_str(),
+            "fault\n0\n",
+            "at {length}"
+        );
+    }
+    Ok(())
+}
+
+#[test]
+fn takes_the_last_line_without_its_end(rt: HostRuntime) -> Result<(), Fail> {
+    let runs = [
+        ("", ""),
+        ("len", "0\n"),
+        ("len\n", "0\n"),
+        ("len\nlen", "0\n0\n"),
+        ("len\n\n", "0\nfault\n"),
+        ("\n", "fault\n"),
+        ("a", "fault\n"),
+    ];
+    for (input, output) in runs {
+        assert_eq!(rt;
+            served(rt.alloc(), input.as_bytes())?.as_str(),
+            output,
+            "at {input:?}"
+        );
+    }
+    Ok(())
+}
+
+#[test]
+fn prints_a_list_past_its_buffer(rt: HostRuntime) -> Result<(), Fail> {
+    let mut input = String::new(rt.alloc());
+    let mut output = String::new(rt.alloc());
+    let mut list = String::new(rt.alloc());
+    for number in 0..1000 {
+        input.push_str(format!(in rt.alloc(); "insert key_{number} {number}\n")?.as_str())?;
+        output.push_str("none\n")?;
+        let gap = if number == 0 { "" } else { " " };
+        list.push_str(format!(in rt.alloc(); "{gap}key_{number}={number}")?.as_str())?;
+    }
+    input.push_str("list")?;
+    output.push_str(list.as_str())?;
+    output.push_str("\n")?;
+    assert_eq!(rt;
+        served(rt.alloc(), input.as_bytes())?.as_str(),
+        output.as_str()
+    );
+    Ok(())
+}
+
+#[test]
+fn reads_in_any_pieces(rt: HostRuntime) -> Result<(), Fail> {
+    for most in [1, 2, 3, 7] {
+        let mut reader = FakeReader::new(b"insert a 1\ninsert a 2\nlist");
+        reader.most = most;
+        reader.is_interrupted = true;
+        let mut writer = FakeWriter::new(rt.alloc(), usize::MAX);
+        assert_eq!(rt; serve(rt.alloc(), &mut reader, &mut writer), Ok(()));
+        assert_eq!(rt; writer.text(), "none\nsome 1\na=2\n");
+        assert_eq!(rt; writer.writes, 3);
+    }
+    Ok(())
+}
+
+#[test]
+fn stops_where_a_read_fails(rt: HostRuntime) -> Result<(), Fail> {
+    let runs = [("", ""), ("len", ""), ("insert a 1\nget", "none\n")];
+    for (input, output) in runs {
+        let mut reader = FakeReader::new(input.as_bytes());
+        reader.failure = Some(ErrorKind::Other);
+        let mut writer = FakeWriter::new(rt.alloc(), usize::MAX);
+        assert_eq!(rt;
+            serve(rt.alloc(), &mut reader, &mut writer),
+            Err(Fault::Reading)
+        );
+        assert_eq!(rt; writer.text(), output, "at {input:?}");
+    }
+    Ok(())
+}
+
+#[test]
+fn stops_where_a_write_fails(rt: HostRuntime) -> Result<(), Fail> {
+    let runs = [
+        (0, ""),
+        (2, "no"),
+        (5, "none\n"),
+        (8, "none\nsom"),
+        (12, "none\nsome 1\n"),
+    ];
+    for (room, output) in runs {
+        let mut reader = FakeReader::new(b"insert a 1\ninsert a 2\nlist\n");
+        let mut writer = FakeWriter::new(rt.alloc(), room);
+        assert_eq!(rt;
+            serve(rt.alloc(), &mut reader, &mut writer),
+            Err(Fault::Writing)
+        );
+        assert_eq!(rt; writer.text(), output, "at {room}");
+        assert_eq!(rt; reader.reads, 1, "at {room}");
+    }
+    Ok(())
+}
