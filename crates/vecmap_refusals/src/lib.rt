@@ -1,0 +1,21 @@
+//! Each request for memory refused in turn.
+//!
+//! A test here compares what a call answers and what it leaves, in both outcomes: granted, as when it is just run, and
+//! refused, as when `rt try --test --fail-alloc N` refuses the Nth request of each test. A fixture that is itself
+//! refused ends its test.
+#![tactic(auto)]
+
+#[cfg(test)]
+mod fixtures;
+#[cfg(test)]
+mod map_bulk;
+#[cfg(test)]
+mod map_entry;
+#[cfg(test)]
+mod map_insertion;
+#[cfg(test)]
+mod map_room;
+#[cfg(test)]
+mod map_run;
+#[cfg(test)]
+mod set_single;

@@ -1,0 +1,44 @@
+//! Runs of commands.
+use super::fixtures::full_map;
+use std::alloc::{AllocError, Global};
+use vecmap::{MapCommand, MapReply, run};
+
+const FULL: &[(u32, u32)] = &[(0, 10), (1, 11)];
+
+fn commands(alloc: Global) -> Result<Vec<MapCommand<u32, u32>>, AllocError> {
+    let mut commands = Vec::with_capacity(alloc, 3)?;
+    commands.push(MapCommand::Insert(7, 70))?;
+    commands.push(MapCommand::Insert(0, 20))?;
+    commands.push(MapCommand::Len)?;
+    Ok(commands)
+}
+
+#[test]
+fn a_run_goes_on_after_a_refused_command(rt: HostRuntime) {
+    let Some(mut map) = full_map(rt.alloc(), 2) else {
+        return;
+    };
+    let Ok(commands) = commands(rt.alloc()) else {
+        return;
+    };
+    match run(rt.alloc(), &mut map, commands) {
+        Err(AllocError) => assert_eq!(rt; map.as_slice(), FULL),
+        Ok(replies) => match replies.as_slice() {
+            [
+                MapReply::NoMemory,
+                MapReply::Value(Some(10)),
+                MapReply::Number(2),
+            ] => {
+                assert_eq!(rt; map.as_slice(), [(0, 20), (1, 11)].as_slice());
+            }
+            [
+                MapReply::Value(None),
+                MapReply::Value(Some(10)),
+                MapReply::Number(3),
+            ] => {
+                assert_eq!(rt; map.as_slice(), [(0, 20), (1, 11), (7, 70)].as_slice());
+            }
+            _ => assert!(rt; false, "{replies:?}"),
+        },
+    }
+}

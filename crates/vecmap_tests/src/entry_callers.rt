@@ -1,0 +1,149 @@
+//! Callers of the entries of a map, proved from the contracts of these calls alone. Each says what the map holds
+//! afterwards.
+ghost use Rattle.std.specs.Prelude.{◌≡◌, ◌+◌, ◌++◌, ◌<◌, ◌≤◌, ◌/◌, ◌^◌, ◌∷◌, IfErr, IfOk, IfSome, IsSome, None, OnErr, OnOk, Some, [], length, nat_eq, unwrap_or};
+ghost use Rattle.std.specs.Option.{option_map_or};
+ghost use Rattle.vecmap.specs.Contents.{with_value_of};
+ghost use Rattle.vecmap.specs.Pairs.{index_of, index_or_length, lookup, lookup_pair, put, swap_without_key, without_key};
+
+use vecmap::Refused;
+use vecmap::map::{Entry, VecMap};
+
+/// Counts one more of a word.
+pub fn count_word<K: Eq + Drop>(map: &mut VecMap<K, u64>, word: K) -> Result<(), Refused<(K, u64)>>
+    requires { IfSome (lookup K.eq map.old.entries word) (λ n. n + 1 < 2 ^ 64) }
+    ensures entries { OnOk result (map.new.entries ≡ put K.eq map.old.entries word (unwrap_or (lookup K.eq map.old.entries word) 0 + 1)) }
+    ensures capacity { map.old.capacity ≤ map.new.capacity }
+    ensures there { IsSome (index_of K.eq map.old.entries word) → map.new.capacity ≡ map.old.capacity }
+    ensures room { length map.old.entries < map.old.capacity → map.new.capacity ≡ map.old.capacity }
+    ensures err { OnErr result (map.new ≡ map.old) }
+    ensures absent { OnErr result (index_of K.eq map.old.entries word ≡ None) }
+    ensures full { OnErr result (map.old.capacity ≤ length map.old.entries) }
+{
+    *map.entry(word).or_insert(0)? += 1;
+    Ok(())
+}
+
+/// Adds one to the value of a key, or gives it 42.
+pub fn modify_or_insert<K: Eq + Drop>(
+    map: &mut VecMap<K, u64>,
+    key: K,
+) -> Result<(), Refused<(K, u64)>>
+    requires { (n : _) → lookup K.eq map.old.entries key ≡ Some n → n + 1 < 2 ^ 64 }
+    ensures entries { OnOk result (map.new.entries ≡ put K.eq map.old.entries key (option_map_or (λ n. n + 1) (lookup K.eq map.old.entries key) 42)) }
+    ensures capacity { map.old.capacity ≤ map.new.capacity }
+    ensures there { IsSome (index_of K.eq map.old.entries key) → map.new.capacity ≡ map.old.capacity }
+    ensures err { OnErr result (map.new ≡ map.old) }
+    ensures absent { OnErr result (index_of K.eq map.old.entries key ≡ None) }
+    ensures full { OnErr result (map.old.capacity ≤ length map.old.entries) }
+{
+    map.entry(key).and_modify(|n| *n += 1).or_insert(42)?;
+    Ok(())
+}
+
+/// The value of a number, which is half of it where it has none yet.
+pub fn half_of(map: &mut VecMap<u64, u64>, number: u64) -> Result<u64, Refused<(u64, u64)>>
+    ensures value { IfOk result (λ half. half ≡ unwrap_or (lookup nat_eq map.old.entries number) (number / 2)) }
+    ensures entries { OnOk result (map.new.entries ≡ put nat_eq map.old.entries number (unwrap_or (lookup nat_eq map.old.entries number) (number / 2))) }
+    ensures err { IfErr result (λ refused. refused.given ≡ (number, number / 2)) }
+{
+    Ok(*map.entry(number).or_insert_with_key(|key| *key / 2)?)
+}
+
+/// The value of a key, which is 0 where it has none yet.
+pub fn or_zero<K: Eq + Drop>(map: &mut VecMap<K, u64>, key: K) -> Result<u64, Refused<(K, u64)>>
+    ensures value { IfOk result (λ n. n ≡ unwrap_or (lookup K.eq map.old.entries key) 0) }
+    ensures entries { OnOk result (map.new.entries ≡ put K.eq map.old.entries key (unwrap_or (lookup K.eq map.old.entries key) 0)) }
+    ensures given { IfErr result (λ refused. refused.given ≡ (key, 0)) }
+{
+    Ok(*map.entry(key).or_default()?)
+}
+
+/// Writes the value of a key that is there.
+pub fn write_if_there<K: Eq + Drop>(map: &mut VecMap<K, u64>, key: K, value: u64)
+    ensures { map.new ≡ with_value_of K.eq map.old key value }
+{
+    match map.entry(key) {
+        Entry::Occupied(entry) => *entry.into_mut() = value,
+        Entry::Vacant(entry) => {
+            entry.into_key();
+        }
+    }
+}
+
+/// Writes the value of a key that is there twice, first through a reference and then as a whole.
+pub fn write_twice(map: &mut VecMap<u64, u64>, key: u64)
+    ensures { map.new ≡ with_value_of nat_eq map.old key 9 }
+{
+    if let Entry::Occupied(mut entry) = map.entry(key) {
+        *entry.get_mut() = 8;
+        entry.insert(9);
+    }
+}
+
+/// Takes the pair of a key out, or puts one in.
+pub fn toggle<K: Eq + Drop>(map: &mut VecMap<K, u64>, key: K) -> Result<(), Refused<(K, u64)>>
+    ensures present { IsSome (index_of K.eq map.old.entries key) → map.new.entries ≡ without_key K.eq map.old.entries key }
+    ensures absent { index_of K.eq map.old.entries key ≡ None → OnOk result (map.new.entries ≡ put K.eq map.old.entries key 3) }
+    ensures err { OnErr result (map.new ≡ map.old) }
+{
+    match map.entry(key) {
+        Entry::Occupied(entry) => {
+            entry.remove();
+        }
+        Entry::Vacant(entry) => *entry.insert(0)? = 3,
+    }
+    Ok(())
+}
+
+/// Takes the pair of a key out, and fills the gap with the last one.
+pub fn take<K: Eq + Drop>(map: &mut VecMap<K, u64>, key: K) -> Option<(K, u64)>
+    ensures pair { result ≡ lookup_pair K.eq map.old.entries key }
+    ensures entries { map.new.entries ≡ swap_without_key K.eq map.old.entries key }
+    ensures capacity { map.new.capacity ≡ map.old.capacity }
+{
+    match map.entry(key) {
+        Entry::Occupied(entry) => Some(entry.swap_remove_entry()),
+        Entry::Vacant(entry) => {
+            entry.into_key();
+            None
+        }
+    }
+}
+
+/// Gives a key the value 9, and then 8 through its entry.
+pub fn put_and_write(map: &mut VecMap<u64, u64>, key: u64) -> Result<(), Refused<(u64, u64)>>
+    ensures entries { OnOk result (map.new.entries ≡ put nat_eq map.old.entries key 8) }
+    ensures capacity { map.old.capacity ≤ map.new.capacity }
+    ensures err { OnErr result (map.new ≡ map.old) }
+    ensures absent { OnErr result (index_of nat_eq map.old.entries key ≡ None) }
+    ensures full { OnErr result (map.old.capacity ≤ length map.old.entries) }
+{
+    *map.entry(key).insert_entry(9)?.into_mut() = 8;
+    Ok(())
+}
+
+/// Gives a key the value 9, and takes it out again.
+pub fn put_and_remove(map: &mut VecMap<u64, u64>, key: u64) -> Result<u64, Refused<(u64, u64)>>
+    ensures value { IfOk result (λ value. value ≡ 9) }
+    ensures entries { OnOk result (map.new.entries ≡ without_key nat_eq map.old.entries key) }
+    ensures capacity { map.old.capacity ≤ map.new.capacity }
+    ensures err { OnErr result (map.new ≡ map.old) }
+{
+    Ok(map.entry(key).insert_entry(9)?.remove())
+}
+
+/// Gives a key of any type the value 9, and answers its place and the handed key.
+pub fn put_entry<K: Eq + Clone>(
+    map: &mut VecMap<K, u64>,
+    key: K,
+) -> Result<(usize, K), Refused<(K, u64)>>
+    ensures place { IfOk result (λ done. done.0 ≡ index_or_length K.eq map.old.entries key) }
+    ensures key { IfOk result (λ done. done.1 ≡ key) }
+    ensures present { IsSome (index_of K.eq map.old.entries key) → OnOk result (map.new.entries ≡ put K.eq map.old.entries key 9) }
+    ensures absent { index_of K.eq map.old.entries key ≡ None → OnOk result ((stored : K) × K.is_clone key stored × (map.new.entries ≡ map.old.entries ++ (stored, 9) ∷ [])) }
+    ensures err { OnErr result (map.new ≡ map.old) }
+{
+    let entry = map.entry(key).insert_entry(9)?;
+    let index = entry.index();
+    Ok((index, entry.into_key()))
+}
