@@ -1,6 +1,6 @@
 -- Worked examples: equality of maps, with repeats too.
-use Rattle.std.specs.Prelude.{◌≡◌, ℕ, Bool, true, false, List, [], ◌∷◌, nat_eq, refl}
-use Rattle.vecmap_base.specs.Equality.{agrees, count, has_same_counts}
+use Rattle.std.specs.Prelude.{◌≡◌, ℕ, Bool, true, false, List, [], ◌∷◌, None, Some, nat_eq, refl}
+use Rattle.vecmap_base.specs.Equality.{agrees, count, has_same_counts, lookups_agree, same_option}
 
 abbrev equal : List (ℕ × ℕ) → List (ℕ × ℕ) → Bool
 equal = has_same_counts nat_eq nat_eq
@@ -26,3 +26,13 @@ lookups_do_not_settle_repeats = refl
 
 how_often : count nat_eq nat_eq ((1, 5) ∷ (1, 5) ∷ (1, 6) ∷ []) (1, 5) ≡ 2
 how_often = refl
+
+values_or_none : (same_option {V = ℕ} nat_eq nat_eq None None ≡ true) × (same_option {V = ℕ} nat_eq nat_eq (Some 5) (Some 5) ≡ true) × (same_option {V = ℕ} nat_eq nat_eq (Some 5) None ≡ false) × (same_option {V = ℕ} nat_eq nat_eq (Some 5) (Some 6) ≡ false)
+values_or_none = (refl, refl, refl, refl)
+
+-- the keys of one list alone say too little
+from_one_side : (lookups_agree nat_eq nat_eq (1 ∷ []) ((1, 5) ∷ []) ((1, 5) ∷ (2, 6) ∷ []) ≡ true) × (agrees nat_eq nat_eq ((1, 5) ∷ []) ((1, 5) ∷ (2, 6) ∷ []) ≡ false)
+from_one_side = (refl, refl)
+
+in_another_order_lookups_agree : agrees nat_eq nat_eq ((1, 10) ∷ (2, 20) ∷ []) ((2, 20) ∷ (1, 10) ∷ []) ≡ true
+in_another_order_lookups_agree = refl

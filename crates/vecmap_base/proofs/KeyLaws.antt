@@ -1,18 +1,13 @@
 -- The keys of a list of pairs, as a list of elements: what changes the pairs changes the keys alike.
-use Rattle.std.specs.Prelude.{◌≡◌, ℕ, suc, ◌-◌, Bool, true, false, List, [], ◌∷◌, ◌++◌, Option, None, Some, drop, if◌then◌else◌, insert, is_some, length, min, remove, take, refl}
-use Rattle.std.specs.Cmp.{IsEquivalence}
-use Rattle.std.specs.List.{IsDistinct}
+use Rattle.std.specs.Prelude.{◌≡◌, ℕ, suc, Bool, true, false, List, [], ◌∷◌, ◌++◌, Some, drop, if◌then◌else◌, insert, remove, take, refl}
 use Rattle.std.specs.Map.{keys_of}
-use Rattle.std.specs.Option.{option_map, option_map_or}
-use Rattle.std.proofs.Common.{sym, ap, subst, ◌∙◌}
+use Rattle.std.specs.Option.{option_map}
+use Rattle.std.proofs.Common.{sym, ap, ◌∙◌}
 use Rattle.std.proofs.lemmas.List.{drop-map, map-append, take-map}
-use Rattle.vecmap_base.specs.Items.{add, add_new, adds, has_item, item_index, without_item}
-use Rattle.vecmap_base.specs.Pairs.{HasDistinctKeys, index_of, put, put_at, put_key, puts, without_key}
+use Rattle.vecmap_base.specs.Items.{add, add_new, adds, item_index, without_item}
+use Rattle.vecmap_base.specs.Pairs.{index_of, put, put_key, puts, without_key}
 use Rattle.vecmap_base.proofs.ItemsLemmas.{add-cons, add_new-cons, item_index-cons, without_item-cons}
-use Rattle.vecmap_base.proofs.ItemsLemmas.{without_item_absent}
-use Rattle.vecmap_base.proofs.PairsLemmas.{index_of-cons, put-cons, put_at_absent, put_at_present, put_key-cons, without_key-cons}
-use Rattle.vecmap_base.proofs.Places.{is_some-position}
-use Rattle.vecmap_base.proofs.StaysDistinct.{distinct_add, distinct_add_new, distinct_adds, distinct_insert, distinct_remove}
+use Rattle.vecmap_base.proofs.PairsLemmas.{index_of-cons, put-cons, put_key-cons, without_key-cons}
 
 module _ {K V : Type 0} where
   pub keys_of-remove : (l : List (K × V)) (i : ℕ) → keys_of (remove l i) ≡ remove (keys_of l) i
@@ -53,27 +48,3 @@ module _ {K V : Type 0} (eq : K → K → Bool) where
       by : (b : Bool) → keys_of (without_key eq ps k) ≡ without_item eq (keys_of ps) k → keys_of (if b then ps else p ∷ without_key eq ps k) ≡ (if b then keys_of ps else p.0 ∷ without_item eq (keys_of ps) k)
       by true e = refl
       by false e = ap (λ ks. p.0 ∷ ks) e
-
-  module _ (o : IsEquivalence eq) where
-    pub distinct_put : (l : List (K × V)) (k : K) (v : V) → HasDistinctKeys eq l → HasDistinctKeys eq (put eq l k v)
-    distinct_put l k v d = subst (IsDistinct eq) (sym (keys_of-put l k v)) (distinct_add eq o (keys_of l) k d)
-
-    pub distinct_puts : (l ps : List (K × V)) → HasDistinctKeys eq l → HasDistinctKeys eq (puts eq l ps)
-    distinct_puts l ps d = subst (IsDistinct eq) (sym (keys_of-puts l ps)) (distinct_adds eq o (keys_of l) (keys_of ps) d)
-
-    pub distinct_put_key : (l : List (K × V)) (k : K) (v : V) → HasDistinctKeys eq l → HasDistinctKeys eq (put_key eq l k v)
-    distinct_put_key l k v d = subst (IsDistinct eq) (sym (keys_of-put_key l k v)) (distinct_add_new eq o (keys_of l) k d)
-
-    pub distinct_put_at : (l : List (K × V)) (i : ℕ) (k : K) (v : V) → HasDistinctKeys eq l → HasDistinctKeys eq (put_at eq l i k v)
-    distinct_put_at l i k v d = by (index_of eq l k) refl
-      where
-        by : (found : Option ℕ) → index_of eq l k ≡ found → HasDistinctKeys eq (put_at eq l i k v)
-        by None e =
-            let absent : has_item eq (keys_of l) k ≡ false = sym (is_some-position (eq k) (keys_of l)) ∙ ap is_some (sym (index_of_is l k) ∙ e) in
-            subst (IsDistinct eq) (sym (ap keys_of (put_at_absent eq l i k v e) ∙ keys_of-insert l i k v)) (distinct_insert eq o (keys_of l) i k absent d)
-        by (Some j) e =
-            let n = min i (length l - 1) in
-            let gone : without_item eq (keys_of l) k ≡ remove (keys_of l) j = ap (λ found. option_map_or (λ m. remove (keys_of l) m) found (keys_of l)) (sym (index_of_is l k) ∙ e) in
-            let absent : has_item eq (remove (keys_of l) j) k ≡ false = sym (ap (λ s. has_item eq s k) gone) ∙ without_item_absent eq o (keys_of l) k d in
-            subst (IsDistinct eq) (sym (ap keys_of (put_at_present eq l i k v j e) ∙ keys_of-insert (remove l j) n k v ∙ ap (λ s. insert s n k) (keys_of-remove l j)))
-            (distinct_insert eq o (remove (keys_of l) j) n k absent (distinct_remove eq (keys_of l) j d))

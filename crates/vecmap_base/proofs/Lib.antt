@@ -1,3 +1,4 @@
+pub mod CloneLemmas
 pub mod CostLemmas
 pub mod CountLemmas
 pub mod DistinctLemmas
@@ -7,10 +8,12 @@ mod ItemExamples
 pub mod ItemsLemmas
 mod KeptExamples
 pub mod KeyLaws
+pub mod KeysStayDistinct
 pub mod LookupLaws
 pub mod MapEquality
 mod PairExamples
 pub mod PairsLemmas
+pub mod PlaceLaws
 pub mod Places
 pub mod SetEquality
 pub mod SetRelations

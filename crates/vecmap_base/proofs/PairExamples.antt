@@ -1,8 +1,10 @@
 -- Worked examples: maps. Keys are numbers, or numbers with a letter that are compared by the number alone.
-use Rattle.std.specs.Prelude.{◌≡◌, ℕ, Bool, List, [], ◌∷◌, None, Some, nat_eq, refl}
+use Rattle.std.specs.Prelude.{◌≡◌, ℕ, Bool, List, [], ◌∷◌, None, Some, IsTrue, nat_eq, refl}
 use Rattle.std.specs.List.{IsDistinct}
-use Rattle.std.proofs.Common.{true≢false}
-use Rattle.vecmap_base.specs.Pairs.{HasDistinctKeys, index_of, index_or_length, lookup, lookup_full, lookup_pair, put, put_at, put_key, puts, swap_without_key, with_pair, with_value, without_key}
+use Rattle.std.specs.Cmp.{nat_eq_equiv}
+use Rattle.std.proofs.Common.{subst, true≢false}
+use Rattle.vecmap_base.specs.Clones.{AreClones, ClonesAreSame, IsCloneOf, IsPairClone}
+use Rattle.vecmap_base.specs.Pairs.{HasDistinctKeys, index_by, index_of, index_or_length, lookup, lookup_full, lookup_pair, put, put_at, put_key, puts, swap_without_key, value_at, with_pair, with_value, without_by, without_key}
 use Rattle.vecmap_base.specs.Repeats.{cost}
 
 -- a number and a letter's code
@@ -179,3 +181,34 @@ no_comparison_of_one = (refl, refl)
 
 one_comparison_for_each_two : (cost 2 ≡ 1) × (cost 4 ≡ 6) × (cost 5 ≡ 10) × (cost 6 ≡ 15)
 one_comparison_for_each_two = (refl, refl, refl, refl)
+
+-- ---- by a test of keys, by place
+
+a_place_by_a_test : index_by (λ k. nat_eq k 98) letters ≡ Some 1
+a_place_by_a_test = refl
+
+a_removal_by_a_test : without_by (λ k. nat_eq k 98) letters ≡ (a, 1) ∷ (c, 3) ∷ []
+a_removal_by_a_test = refl
+
+values_by_place : (value_at letters 2 ≡ Some 3) × (value_at letters 3 ≡ None)
+values_by_place = (refl, refl)
+
+of_an_empty_list : (index_or_length {V = ℕ} nat_eq [] 1 ≡ 0) × (lookup_pair {V = ℕ} nat_eq [] 1 ≡ None) × (lookup_full {V = ℕ} nat_eq [] 1 ≡ None)
+of_an_empty_list = (refl, refl, refl)
+
+-- ---- clones, where a clone is the very same
+
+abbrev IsSame : ℕ → ℕ → Type 0
+IsSame m n = m ≡ n
+
+clones_place_by_place : AreClones (IsPairClone IsSame IsSame) letters ((a, 1) ∷ (b, 2) ∷ (c, 3) ∷ [])
+clones_place_by_place = ((refl, refl), ((refl, refl), ((refl, refl), tt)))
+
+a_clone_of_what_is_there : IsCloneOf IsSame None None × IsCloneOf IsSame (Some 7) (Some 7)
+a_clone_of_what_is_there = (tt, refl)
+
+nothing_is_no_clone : IsCloneOf IsSame (Some 7) None → ⊥
+nothing_is_no_clone c = c
+
+clones_are_the_same : ClonesAreSame nat_eq IsSame
+clones_are_the_same m n e = subst (λ k. IsTrue (nat_eq m k)) e (nat_eq_equiv.refl m)

@@ -20,6 +20,7 @@ module _ {F X : Type 0} (R : F → X → Bool → X → F → Type 0) where
     pub at : (before after : List X) (g : F) (x : X) → l ≡ before ++ x ∷ after → FoldsTo SomeCall f before g → Q g x
 
 module _ {F K V : Type 0} where
+  -- the closure may be called at the pair p, with the key and the value to write
   abbrev pub TakesPairMut : Mut F (MutBor K × (MutBor V × Unit {0})) (Bool × (MutBor K × (MutBor V × Unit {0}))) → F → K × V → Type 0
   TakesPairMut c f p = (k : MutBor K) (v : MutBor V) → k.now ≡ p.0 → v.now ≡ p.1 → Takes c f (k, (v, tt))
 

@@ -1,3 +1,4 @@
+pub mod Bulk
 pub mod Clones
 pub mod Equality
 pub mod Items

@@ -58,7 +58,7 @@ fn swap_values<K, V>(pairs: &mut [(K, V)], i: usize, j: usize)
 /// of equal keys, in order, each with its last value. All keys and all values stay in the slice, rearranged.
 ///
 /// It makes at most n(n-1)/2 comparisons for n pairs, and exactly as many where no two keys are equal. It takes no
-/// memory.
+/// memory. The count and n(n-1)/2 must not be above `u128::MAX`, as they never are with a new `Steps`.
 pub fn gather_pairs<K: Eq, V>(pairs: &mut [(K, V)], steps: &mut Steps) -> usize
     requires room { steps.old + cost (length pairs.old) ≤ u128.MAX }
     ensures count { result ≡ length (puts K.eq [] pairs.old) }
@@ -87,7 +87,7 @@ pub fn gather_pairs<K: Eq, V>(pairs: &mut [(K, V)], steps: &mut Steps) -> usize
 /// the slice, rearranged.
 ///
 /// It makes at most n(n-1)/2 comparisons for n elements, and exactly as many where no two are equal. It takes no
-/// memory.
+/// memory. The count and n(n-1)/2 must not be above `u128::MAX`, as they never are with a new `Steps`.
 pub fn gather_items<T: Eq>(items: &mut [T], steps: &mut Steps) -> usize
     requires room { steps.old + cost (length items.old) ≤ u128.MAX }
     ensures count { result ≡ length (adds T.eq [] items.old) }
@@ -111,7 +111,8 @@ pub fn gather_items<T: Eq>(items: &mut [T], steps: &mut Steps) -> usize
 /// Leaves what the puts of all pairs in turn leave: the first of equal keys, in order, each with its last value.
 ///
 /// It makes at most n(n-1)/2 comparisons for n pairs, and exactly as many where no two keys are equal. It takes no
-/// memory, and drops nothing before the last comparison.
+/// memory, and drops nothing before the last comparison. The count and n(n-1)/2 must not be above `u128::MAX`, as they
+/// never are with a new `Steps`.
 pub fn dedup_keep_last_value<K: Eq + Drop, V: Drop>(pairs: &mut Vec<(K, V)>, steps: &mut Steps)
     requires room { steps.old + cost (length pairs.old.items) ≤ u128.MAX }
     ensures pairs { pairs.new.items ≡ puts K.eq [] pairs.old.items }
@@ -127,7 +128,8 @@ pub fn dedup_keep_last_value<K: Eq + Drop, V: Drop>(pairs: &mut Vec<(K, V)>, ste
 /// Leaves the first of equal elements, in order.
 ///
 /// It makes at most n(n-1)/2 comparisons for n elements, and exactly as many where no two are equal. It takes no
-/// memory, and drops nothing before the last comparison.
+/// memory, and drops nothing before the last comparison. The count and n(n-1)/2 must not be above `u128::MAX`, as they
+/// never are with a new `Steps`.
 pub fn dedup_keep_first<T: Eq + Drop>(items: &mut Vec<T>, steps: &mut Steps)
     requires room { steps.old + cost (length items.old.items) ≤ u128.MAX }
     ensures items { items.new.items ≡ adds T.eq [] items.old.items }

@@ -33,7 +33,7 @@ impl Steps {
         self.made
     }
 
-    /// Whether `a == b`, in one comparison more.
+    /// Whether `a == b`, in one comparison more. The count must be below `u128::MAX`: `count` tells.
     #[inline]
     pub fn same<T: Eq>(&mut self, a: &T, b: &T) -> bool
         requires { self.old < u128.MAX }

@@ -1,0 +1,25 @@
+-- One more clone is taken in.
+use Rattle.std.specs.Prelude.{◌≡◌, List, [], ◌∷◌, ◌++◌, fold, map}
+use Rattle.std.proofs.Common.{sym, ap, subst, ◌∙◌}
+use Rattle.std.proofs.lemmas.List.{map_push}
+use Rattle.std.proofs.lemmas.List.Elements.{AllZip-push}
+use Rattle.std.proofs.lemmas.List.Sums.{fold_push}
+use Rattle.vecmap_base.specs.Clones.{AreClones}
+
+module _ {A S : Type 0} (is_clone : A → A → Type 0) (f : S → A → S) where
+  -- clones of the items, taken in one after another, lead from old to new
+  abbrev pub TakesClones : S → List A → S → Type 0
+  TakesClones old items new = (clones : List A) × AreClones is_clone items clones × (new ≡ fold f old clones)
+
+  pub clone_taken : (old : S) (items : List A) (mid new : S) (x y : A) → TakesClones old items mid → is_clone x y → new ≡ f mid y → TakesClones old (items ++ x ∷ []) new
+  clone_taken old items mid new x y h c e =
+      let clones = h.0 in (
+        clones ++ y ∷ [],
+        AllZip-push is_clone items clones x y h.1 c,
+        e ∙ ap (λ s. f s y) h.2 ∙ sym (fold_push f old clones y),
+      )
+
+  -- of items that lend what is cloned
+  pub lent_clone_taken : {L : Type 0} (deref : L → A) (old : S) (items : List L) (mid new : S) (item : L) (y : A) → TakesClones old (map deref items) mid → is_clone (deref item) y → new ≡ f mid y → TakesClones old (map deref (items ++ item ∷ [])) new
+  lent_clone_taken deref old items mid new item y h c e =
+      subst (λ (l : List A). TakesClones old l new) (sym (map_push deref items item)) (clone_taken old (map deref items) mid new (deref item) y h c e)

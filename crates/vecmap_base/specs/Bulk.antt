@@ -1,0 +1,13 @@
+-- Where the calls that take the items of an iterator stop, and when there is room for all of them.
+use Rattle.std.specs.Prelude.{ℕ, ◌+◌, ◌≤◌, List, Option, Some}
+use Rattle.std.specs.Iterator.{Count, YieldsThen, size}
+
+module _ {U T : Type 0} (becomes : U → T → Type 0) where
+  -- what `iter` became gave some items and then one more, and R holds of them
+  abbrev pub StopsAt : {A : Type 0} → (T → Option A → T → Type 0) → U → (List A → A → Type 0) → Type 0
+  StopsAt {A} steps iter R = (it : T) × (items : List A) × (next : A) × (rest : T)
+      × becomes iter it × YieldsThen steps it items (Some next) rest × R items next
+
+  -- beside the n that are there, as many more as `iter` may give fit in a room for c
+  abbrev pub HasRoomForAll : (T → Count) → U → ℕ → ℕ → Type 0
+  HasRoomForAll left iter n c = (it : T) → becomes iter it → n + size (left it) ≤ c
