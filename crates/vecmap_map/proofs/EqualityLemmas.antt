@@ -1,12 +1,11 @@
 -- Equal pairs at the front of two lists do not decide whether the lists are equal as maps.
-use Rattle.std.specs.Prelude.{◌≡◌, ℕ, zero, suc, ◌+◌, ◌-◌, Bool, true, List, [], ◌∷◌, drop, length, take, refl}
+use Rattle.std.specs.Prelude.{◌≡◌, ℕ, zero, suc, Bool, true, List, [], ◌∷◌, drop, take, refl}
 use Rattle.std.specs.Cmp.{IsEquivalence, both_ways}
 use Rattle.std.specs.List.{AllZip}
-use Rattle.std.proofs.Common.{cond, sym, ap, ◌∙◌, arith}
-use Rattle.std.proofs.lemmas.List.{take_rest}
-use Rattle.vecmap_base.specs.Equality.{count, counts_agree, has_same_counts, same_pair}
+use Rattle.std.proofs.Common.{cond, ap, ◌∙◌, arith}
+use Rattle.vecmap_base.specs.Equality.{has_same_counts, same_pair}
 use Rattle.vecmap_base.proofs.CountLemmas.{SameCounts, many-cons, counts_from_test, test_from_counts}
-use Rattle.vecmap_base.proofs.MapEquality.{map_equal_by_half, same_pair_laws}
+use Rattle.vecmap_base.proofs.MapEquality.{same_pair_laws}
 
 module _ {X : Type 0} (same : X → X → Bool) (o : IsEquivalence same) where
   same_counts-cons : (x y : X) (a b : List X) → same x y ≡ true → SameCounts same o a b → SameCounts same o (x ∷ a) (y ∷ b)

@@ -1,4 +1,3 @@
-pub mod BulkLemmas
 mod EntryLemmas
 pub mod EqualityLemmas
 mod LentBoth

@@ -12,6 +12,7 @@ use Rattle.vecmap_map.specs.declared.entry.Entry.TheVariants.{Occupied, Vacant}
 use Rattle.vecmap_map.specs.declared.entry.occupied.OccupiedEntry.{OccupiedEntry}
 
 module _ {K V : Type 0} where
+  -- a written value leaves the length
   length-with_value : (l : List (K × V)) (i : ℕ) (v : V) → length (with_value l i v) ≡ length l
   length-with_value l i v = by (slice_get l i)
     where

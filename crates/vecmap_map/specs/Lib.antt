@@ -1,4 +1,4 @@
-pub mod Bulk
+pub mod MapBulk
 pub mod Contents
 pub mod Entry
 pub mod EntryLends

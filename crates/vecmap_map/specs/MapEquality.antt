@@ -6,6 +6,7 @@ use Rattle.vecmap_base.proofs.MapEquality.{map_equality_laws}
 use Rattle.vecmap_map.specs.Contents.{Contents}
 
 module _ {K V : Type 0} (key : K → K → Bool) (value : V → V → Bool) where
+  -- equality by the lists alone is an equivalence of maps
   pub contents_laws : IsEquivalence key → IsEquivalence value → IsEquivalence {K = Contents K V} (λ a b. has_same_counts key value a.entries b.entries)
   contents_laws k v =
       let laws = map_equality_laws key value k v in

@@ -1,10 +1,11 @@
 //! Making a map of many pairs, and putting many pairs into one.
-ghost use Rattle.std.specs.Prelude.{◌≡◌, ◌+◌, ◌≤◌, ◌⊎◌, ◌-◌, ◌/◌, IfOk, IsOk, List, OnErr, OnOk, [], if◌then◌else◌, length, map};
+ghost use Rattle.std.specs.Prelude.{◌≡◌, ◌+◌, ◌<◌, ◌≤◌, ◌⊎◌, ◌-◌, ◌/◌, IfOk, IsOk, List, OnErr, OnOk, [], if◌then◌else◌, length, map};
 ghost use Rattle.std.specs.Iterator.{Drains, ExtendsWithItems, IsFinite};
 ghost use Rattle.std.specs.Map.Iter.{deref_pair};
+ghost use Rattle.vecmap_base.specs.Bulk.{HasRoomForAll, StopsAt};
 ghost use Rattle.vecmap_base.specs.Clones.{AreClones, IsPairClone};
 ghost use Rattle.vecmap_base.specs.Pairs.{put, puts};
-ghost use Rattle.vecmap_map.specs.Bulk.{HasRoomForAll, Puts, PutsClones, RefusesAfter, StopsAt};
+ghost use Rattle.vecmap_map.specs.MapBulk.{Puts, PutsClones, RefusesAfter};
 ghost use Rattle.vecmap_map.specs.Contents.{with_entries};
 
 use crate::VecMap;
@@ -13,7 +14,7 @@ use std::alloc::{AllocError, Global};
 impl<K, V> VecMap<K, V> {
     /// Puts the pairs of an iterator that ends into an empty map, in their order. Refused, nothing is made.
     ///
-    /// Room is made first, for as many pairs as the lower size hint of the iterator says.
+    /// Room is made first, for as many pairs as the lower size hint of the iterator says. Each pair takes one lookup.
     pub fn from_iter<I: IntoIterator<Item = (K, V)>>(
         alloc: Global,
         iter: I,
@@ -30,6 +31,8 @@ impl<K, V> VecMap<K, V> {
     }
 
     /// Puts clones of the pairs into an empty map, in their order. Refused, nothing is made.
+    ///
+    /// Room for as many is made first. Each pair takes one lookup.
     pub fn from_slice(alloc: Global, pairs: &[(K, V)]) -> Result<VecMap<K, V>, AllocError>
     where
         K: Eq + Clone,
@@ -67,7 +70,7 @@ impl<K, V> VecMap<K, V> {
 
     /// Puts the pairs of `other`, in their order, and leaves `other` empty with its capacity.
     ///
-    /// Room for all of them is made first. Refused at that, nothing has changed in either.
+    /// Room for all of them is made first. Refused at that, nothing has changed in either. Each pair takes one lookup.
     pub fn append(&mut self, other: &mut VecMap<K, V>) -> Result<(), AllocError>
     where
         K: Eq + Drop,
@@ -90,8 +93,9 @@ impl<K, V> VecMap<K, V> {
     /// Puts the pairs of an iterator that ends, in their order.
     ///
     /// Room is made first, for as many pairs as the lower size hint of the iterator says where the map is empty, and
-    /// else for half of them, as some keys may be there already. The hint decides nothing else. Refused at that,
-    /// nothing has changed. Refused at a pair, those before it stay, and that pair is dropped with the iterator.
+    /// else for half of them, rounded up, as some keys may be there already. The hint decides nothing else. Refused at that,
+    /// nothing has changed. Refused at a pair, those before it stay, and that pair is dropped with the iterator. Each
+    /// pair takes one lookup.
     pub fn extend<I: IntoIterator<Item = (K, V)>>(&mut self, iter: I) -> Result<(), AllocError>
     where
         K: Eq + Drop,
@@ -99,8 +103,8 @@ impl<K, V> VecMap<K, V> {
         requires { (it : I.IntoIter) → I.into_iter_gives iter it → I.IntoIter.can_next it × IsFinite (I.IntoIter.remaining it) }
         ensures ran { ExtendsWithItems I.into_iter_gives I.IntoIter.next_gives (Puts K.eq) iter self.old self.new result }
         ensures capacity { self.old.capacity ≤ self.new.capacity }
-        ensures enough { HasRoomForAll I.into_iter_gives I.IntoIter.remaining iter self.old → IsOk result }
-        ensures stays { HasRoomForAll I.into_iter_gives I.IntoIter.remaining iter self.old → self.new.capacity ≡ self.old.capacity }
+        ensures enough { HasRoomForAll I.into_iter_gives I.IntoIter.remaining iter (length self.old.entries) self.old.capacity → IsOk result }
+        ensures stays { HasRoomForAll I.into_iter_gives I.IntoIter.remaining iter (length self.old.entries) self.old.capacity → self.new.capacity ≡ self.old.capacity }
 
         // It is refused where room is made, and then nothing has changed, or at a new key where there is no room.
         ensures err { OnErr result ((self.new ≡ self.old) ⊎ StopsAt I.into_iter_gives I.IntoIter.next_gives iter (λ pairs next. RefusesAfter K.eq self.old pairs next self.new)) }
@@ -126,6 +130,8 @@ impl<K, V> VecMap<K, V> {
         requires { (it : I.IntoIter) → I.into_iter_gives iter it → I.IntoIter.can_next it × IsFinite (I.IntoIter.remaining it) }
         ensures ran { ExtendsWithItems I.into_iter_gives I.IntoIter.next_gives (λ old items new. PutsClones K.eq K.is_clone V.is_clone old (map deref_pair items) new) iter self.old self.new result }
         ensures capacity { self.old.capacity ≤ self.new.capacity }
+        ensures enough { HasRoomForAll I.into_iter_gives I.IntoIter.remaining iter (length self.old.entries) self.old.capacity → ((k : K) → K.is_infallible k) → ((v : V) → V.is_infallible v) → IsOk result }
+        ensures stays { HasRoomForAll I.into_iter_gives I.IntoIter.remaining iter (length self.old.entries) self.old.capacity → self.new.capacity ≡ self.old.capacity }
 
         // It is refused where room is made, and then nothing has changed, or at the next item.
         ensures err { OnErr result ((self.new ≡ self.old) ⊎ StopsAt I.into_iter_gives I.IntoIter.next_gives iter (λ items _. PutsClones K.eq K.is_clone V.is_clone self.old (map deref_pair items) self.new)) }
@@ -149,6 +155,8 @@ impl<K, V> VecMap<K, V> {
         requires { (it : I.IntoIter) → I.into_iter_gives iter it → I.IntoIter.can_next it × IsFinite (I.IntoIter.remaining it) }
         ensures ran { ExtendsWithItems I.into_iter_gives I.IntoIter.next_gives (λ old items new. PutsClones K.eq K.is_clone V.is_clone old (map (λ p. p.now) items) new) iter self.old self.new result }
         ensures capacity { self.old.capacity ≤ self.new.capacity }
+        ensures enough { HasRoomForAll I.into_iter_gives I.IntoIter.remaining iter (length self.old.entries) self.old.capacity → ((k : K) → K.is_infallible k) → ((v : V) → V.is_infallible v) → IsOk result }
+        ensures stays { HasRoomForAll I.into_iter_gives I.IntoIter.remaining iter (length self.old.entries) self.old.capacity → self.new.capacity ≡ self.old.capacity }
 
         // It is refused where room is made, and then nothing has changed, or at the next item.
         ensures err { OnErr result ((self.new ≡ self.old) ⊎ StopsAt I.into_iter_gives I.IntoIter.next_gives iter (λ items _. PutsClones K.eq K.is_clone V.is_clone self.old (map (λ p. p.now) items) self.new)) }
@@ -168,6 +176,8 @@ impl<K, V> VecMap<K, V> {
         V: Clone,
         ensures entries { OnOk result ((k : K) × (v : V) × K.is_clone key.now k × V.is_clone value.now v × (self.new.entries ≡ put K.eq self.old.entries k v)) }
         ensures capacity { self.old.capacity ≤ self.new.capacity }
+        ensures room { length self.old.entries < self.old.capacity → self.new.capacity ≡ self.old.capacity }
+        ensures enough { length self.old.entries < self.old.capacity → K.is_infallible key.now → V.is_infallible value.now → IsOk result }
         ensures err { OnErr result (self.new ≡ self.old) }
     {
         self.insert(key.clone()?, value.clone()?)?;

@@ -20,7 +20,9 @@ use vecmap_base::Refused;
 /// The place of a key: one that it has, or the one that it would take.
 #[derive(Debug, Drop)]
 pub enum Entry<'a, K, V> {
+    /// An equal key is there.
     Occupied(OccupiedEntry<'a, K, V>),
+    /// No equal key is there.
     Vacant(VacantEntry<'a, K, V>),
 }
 

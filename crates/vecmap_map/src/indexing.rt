@@ -6,7 +6,7 @@ ghost use Rattle.vecmap_base.specs.Pairs.{index_of, lookup, value_at};
 use crate::VecMap;
 use std::ops::{Index, IndexMut};
 
-/// The value at a place below the number of pairs.
+/// The value at a place, which must be below the number of pairs: `len` tells.
 impl<K, V> Index<usize> for VecMap<K, V> {
     type Output = V;
 
@@ -19,12 +19,12 @@ impl<K, V> Index<usize> for VecMap<K, V> {
     }
 }
 
-/// The value at a place below the number of pairs, to write.
+/// The value at a place, to write. The place must be below the number of pairs: `len` tells.
 impl<K, V> IndexMut<usize> for VecMap<K, V> {
     ghost use Rattle.vecmap_map.specs.Lends.{lends_value_at};
 
     fn index_mut(&mut self, index: usize) -> &mut V
-        requires { index < length self.old.entries }
+        requires within { index < length self.old.entries }
         ensures* writes_back { sem 𝓛 (lends_value_at K.row V.row self.entry index result) }
         ensures value { value_at self.old.entries index ≡ Some result.now }
     {
@@ -32,7 +32,7 @@ impl<K, V> IndexMut<usize> for VecMap<K, V> {
     }
 }
 
-/// The value of the first pair whose key is equal to `key`. Such a key is there.
+/// The value of the first pair whose key is equal to `key`. Such a key must be there: `contains_key` tells.
 impl<'q, K: Eq, V> Index<&'q K> for VecMap<K, V> {
     type Output = V;
 
@@ -46,12 +46,12 @@ impl<'q, K: Eq, V> Index<&'q K> for VecMap<K, V> {
     }
 }
 
-/// The value of the first pair whose key is equal to `key`, to write. Such a key is there.
+/// The value of the first pair whose key is equal to `key`, to write. Such a key must be there: `contains_key` tells.
 impl<'q, K: Eq, V> IndexMut<&'q K> for VecMap<K, V> {
     ghost use Rattle.vecmap_map.specs.Lends.{lends_value_of};
 
     fn index_mut(&mut self, key: &'q K) -> &mut V
-        requires { IsSome (index_of K.eq self.old.entries key.now) }
+        requires there { IsSome (index_of K.eq self.old.entries key.now) }
         ensures* writes_back { sem 𝓛 (lends_value_of K.row V.row self.entry K.eq key.now result) }
         ensures value { lookup K.eq self.old.entries key.now ≡ Some result.now }
     {

@@ -62,9 +62,10 @@ impl<K, V> VecMap<K, V> {
     /// Puts a pair at a place that is at most the number of pairs, and answers the old place and value of its key.
     ///
     /// A new pair is inserted at `index`, and what stands there and after it moves down by one place. Where an equal
-    /// key is there, its pair is dropped and `(key, value)` stands at `index`, or last where `index` is the length;
-    /// the pairs between the old place and the new one move by one place. Memory is needed for a new key where there
-    /// is no room. Refused, the pair comes back and nothing has changed.
+    /// key is there, its pair goes, the old key is dropped and the old value answered, and `(key, value)` stands at
+    /// `index`, or last where `index` is the length; the pairs between the old place and the new one move by one place.
+    /// Memory is needed for a new key where there is no room. Refused, the pair comes back and nothing has changed.
+    /// That `index` is at most the length is the caller's to know: `len` tells.
     pub fn insert_at(
         &mut self,
         index: usize,

@@ -1,8 +1,10 @@
 //! Laws of the definitions that the contracts cite. A call of one costs nothing, and gives a proof the law.
-ghost use Rattle.std.specs.Prelude.{◌≡◌, IsTrue, List};
+ghost use Rattle.std.specs.Prelude.{◌≡◌, ◌≢◌, ◌<◌, ℕ, Bool, IsTrue, List, [], false, length, remove, reverse, swap, take};
 ghost use Rattle.std.specs.List.Sorted.{IsPermutation};
-ghost use Rattle.vecmap_base.specs.Equality.{agrees, has_same_counts, same_option};
-ghost use Rattle.vecmap_base.specs.Pairs.{HasDistinctKeys, lookup};
+ghost use Rattle.vecmap_base.specs.Clones.{AreClones, ClonesAreSame, IsPairClone};
+ghost use Rattle.vecmap_base.specs.Equality.{agrees, counts_agree, has_same_counts, same_option};
+ghost use Rattle.vecmap_base.specs.Items.{swap_without};
+ghost use Rattle.vecmap_base.specs.Pairs.{HasDistinctKeys, lookup, put, put_at, puts, swap_without_key, with_value, without_by};
 
 /// Equality of maps is reflexive, symmetric and transitive, also where keys repeat.
 pub fn equality_is_an_equivalence<K: Eq, V: Eq>()
@@ -17,8 +19,44 @@ pub fn equality_ignores_order<K: Eq, V: Eq>()
 {}
 
 /// Where no keys repeat, two maps are equal exactly when the lookups of every key agree: both find nothing, or equal
-/// values. It is enough to look the keys of either map up.
+/// values. It is enough to look up the keys of both maps.
 pub fn equality_is_agreement<K: Eq, V: Eq>()
     ensures equality { (a b : List (K × V)) → HasDistinctKeys K.eq a → HasDistinctKeys K.eq b → has_same_counts K.eq V.eq a b ≡ agrees K.eq V.eq a b }
     ensures every_key { (a b : List (K × V)) → IsTrue (agrees K.eq V.eq a b) → (k : K) → IsTrue (same_option K.eq V.eq (lookup K.eq a k) (lookup K.eq b k)) }
+{}
+
+/// Maps of unequal lengths differ, and of maps of one length the pairs of one settle it.
+pub fn lengths_tell_of_equality<K: Eq, V: Eq>()
+    ensures unequal { (a b : List (K × V)) → length a ≢ length b → has_same_counts K.eq V.eq a b ≡ false }
+    ensures half { (a b : List (K × V)) → length a ≡ length b → has_same_counts K.eq V.eq a b ≡ counts_agree K.eq V.eq a a b }
+{}
+
+/// Where no keys repeat, none do after an insertion, a write of a value, or any number of puts.
+pub fn insertion_keeps_keys_distinct<K: Eq, V>()
+    ensures put { (l : List (K × V)) → HasDistinctKeys K.eq l → (k : K) (v : V) → HasDistinctKeys K.eq (put K.eq l k v) }
+    ensures puts { (l : List (K × V)) → HasDistinctKeys K.eq l → (pairs : List (K × V)) → HasDistinctKeys K.eq (puts K.eq l pairs) }
+    ensures made { (pairs : List (K × V)) → HasDistinctKeys K.eq (puts K.eq [] pairs) }
+    ensures at { (l : List (K × V)) → HasDistinctKeys K.eq l → (i : ℕ) (k : K) (v : V) → HasDistinctKeys K.eq (put_at K.eq l i k v) }
+    ensures value { (l : List (K × V)) → HasDistinctKeys K.eq l → (i : ℕ) (v : V) → HasDistinctKeys K.eq (with_value l i v) }
+{}
+
+/// Where no keys repeat, none do after a removal, by a test of the keys or by place, shifting or swapping.
+pub fn removal_keeps_keys_distinct<K: Eq, V>()
+    ensures by_test { (l : List (K × V)) → HasDistinctKeys K.eq l → (test : K → Bool) → HasDistinctKeys K.eq (without_by test l) }
+    ensures by_place { (l : List (K × V)) → HasDistinctKeys K.eq l → (i : ℕ) → HasDistinctKeys K.eq (remove l i) }
+    ensures swap_by_key { (l : List (K × V)) → HasDistinctKeys K.eq l → (k : K) → HasDistinctKeys K.eq (swap_without_key K.eq l k) }
+    ensures swap_by_place { (l : List (K × V)) → HasDistinctKeys K.eq l → (i : ℕ) → HasDistinctKeys K.eq (swap_without l i) }
+    ensures front { (l : List (K × V)) → HasDistinctKeys K.eq l → (n : ℕ) → HasDistinctKeys K.eq (take n l) }
+{}
+
+/// Where no keys repeat, none do in another order.
+pub fn order_keeps_keys_distinct<K: Eq, V>()
+    ensures rearranged { (l m : List (K × V)) → HasDistinctKeys K.eq l → IsPermutation l m → HasDistinctKeys K.eq m }
+    ensures reversed { (l : List (K × V)) → HasDistinctKeys K.eq l → HasDistinctKeys K.eq (reverse l) }
+    ensures swapped { (l : List (K × V)) → HasDistinctKeys K.eq l → (i j : ℕ) → i < length l → j < length l → HasDistinctKeys K.eq (swap l i j) }
+{}
+
+/// Where no keys repeat, none do in clones of the pairs, if each clone of a key is equal to its original.
+pub fn clones_keep_keys_distinct<K: Eq + Clone, V: Clone>()
+    ensures { ClonesAreSame K.eq K.is_clone → (l m : List (K × V)) → AreClones (IsPairClone K.is_clone V.is_clone) l m → HasDistinctKeys K.eq l → HasDistinctKeys K.eq m }
 {}

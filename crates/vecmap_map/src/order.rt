@@ -12,7 +12,7 @@ impl<K, V> VecMap<K, V> {
         self.pairs.reverse();
     }
 
-    /// Exchanges the pairs at two places, which the caller knows to be there.
+    /// Exchanges the pairs at two places, which must be there: `len` tells.
     pub fn swap_indices(&mut self, a: usize, b: usize)
         requires a_in_bounds { a < length self.old.entries }
         requires b_in_bounds { b < length self.old.entries }

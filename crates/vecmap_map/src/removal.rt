@@ -65,7 +65,7 @@ impl<K, V> VecMap<K, V> {
         Some(self.pairs.remove(index))
     }
 
-    /// Takes out the pair at a place, which the caller knows to be there. What follows moves up by one place.
+    /// Takes out the pair at a place, which must be there: `len` tells. What follows moves up by one place.
     pub fn remove_index(&mut self, index: usize) -> (K, V)
         requires within { index < length self.old.entries }
         ensures pair { slice_get self.old.entries index ≡ Some result }
@@ -101,7 +101,7 @@ impl<K, V> VecMap<K, V> {
         Some(self.pairs.swap_remove(index))
     }
 
-    /// Takes out the pair at a place, which the caller knows to be there. The last pair takes its place.
+    /// Takes out the pair at a place, which must be there: `len` tells. The last pair takes its place.
     pub fn swap_remove_index(&mut self, index: usize) -> (K, V)
         requires within { index < length self.old.entries }
         ensures pair { slice_get self.old.entries index ≡ Some result }

@@ -1,16 +1,22 @@
-use Rattle.std.proofs.Common.{inr, rules}
+use Rattle.std.proofs.Common.{arith, inr, rules}
+use Rattle.std.proofs.lemmas.Grind.{common_steps}
 use Rattle.std.specs.Map.Iter.{deref_pair}
 use Rattle.std.proofs.lemmas.Result.{err_from_is_err_and}
-use Rattle.vecmap_map.proofs.BulkLemmas.{lent_clone_put}
+use Rattle.vecmap_base.specs.Clones.{IsPairClone}
+use Rattle.vecmap_base.specs.Pairs.{put}
+use Rattle.vecmap_base.proofs.CloneLemmas.{lent_clone_taken}
 use Rattle.vecmap_map.proofs.VecMap.extend_refs.Goals as goal
 
 pub loop-key-preserved : goal.loop-key-preserved
-loop-key-preserved g c = record {
-  can = c.in-Some.ensures.goes.keeps;
-  finite = (c.in-Some.ensures.goes.on c.loop-key.invariant.finite).1;
-  puts = lent_clone_put g.K.PartialEq.eq g.K.Clone.is_clone g.V.Clone.is_clone deref_pair c.args.self.now.entries c.loop-key.yielded c.loop-key.self.entries c.put_clones.new.self.entries (c.in-Some.key, c.in-Some.value) c.loop-key.invariant.puts c.in_ok-put_clones.ensures.entries;
-  capacity = search rules;
-}
+loop-key-preserved g c =
+    let one = c.in_ok-put_clones.ensures.entries in record {
+      can = c.in-Some.ensures.goes.keeps;
+      finite = (c.in-Some.ensures.goes.on c.loop-key.invariant.finite).1;
+      puts = lent_clone_taken (IsPairClone g.K.Clone.is_clone g.V.Clone.is_clone) (λ done r. put g.K.PartialEq.eq done r.0 r.1) deref_pair c.args.self.now.entries c.loop-key.yielded c.loop-key.self.entries c.put_clones.new.self.entries (c.in-Some.key, c.in-Some.value) (one.0, one.1) c.loop-key.invariant.puts (one.2, one.3) one.4;
+      capacity = search rules;
+      room = grind (arith, common_steps);
+      stays = grind (arith, common_steps);
+    }
 
 pub returns-in_err-put_clones-clause-err : goal.returns-in_err-put_clones-clause-err
 returns-in_err-put_clones-clause-err g c =

@@ -1,6 +1,6 @@
-use Rattle.std.proofs.Common.{◌≤◌, map}
+use Rattle.std.proofs.Common.{◌≡◌, ◌+◌, ◌≤◌, length, map}
 use Rattle.std.specs.Map.Iter.{deref_pair}
-use Rattle.vecmap_map.specs.Bulk.{PutsClones}
+use Rattle.vecmap_map.specs.MapBulk.{PutsClones}
 use Rattle.vecmap_map.proofs.VecMap.extend_refs.Given as goal
 
 abbrev pub invariant-loop-key : goal.invariant-loop-key
@@ -9,4 +9,6 @@ invariant-loop-key g l = record {
   finite : (goal.iterator-loop-key g).is_finite l.key-iterator;
   puts : PutsClones g.K.PartialEq.eq g.K.Clone.is_clone g.V.Clone.is_clone l.fn.self (map deref_pair l.yielded) l.self;
   capacity : l.fn.self.capacity ≤ l.self.capacity;
+  room : length l.self.entries + (goal.iterator-loop-key g).remaining l.key-iterator ≤ length l.fn.self.entries + (goal.iterator-loop-key g).remaining l.initial.key-iterator;
+  stays : length l.fn.self.entries + (goal.iterator-loop-key g).remaining l.initial.key-iterator ≤ l.fn.self.capacity → l.self.capacity ≡ l.fn.self.capacity;
 }

@@ -1,6 +1,8 @@
 use Rattle.std.proofs.Common.{◌+◌, ◌∷◌, [], ◌++◌, ap, sym, subst, take, ◌∙◌, ◌≡◌}
 use Rattle.std.proofs.lemmas.List.{take_more}
-use Rattle.vecmap_map.proofs.BulkLemmas.{TakesClones, clone_put}
+use Rattle.vecmap_base.specs.Clones.{IsPairClone}
+use Rattle.vecmap_base.specs.Pairs.{put}
+use Rattle.vecmap_base.proofs.CloneLemmas.{TakesClones, clone_taken}
 use Rattle.vecmap_map.proofs.VecMap.from_slice.Goals as goal
 
 pub loop-pair-preserved : goal.loop-pair-preserved
@@ -8,6 +10,8 @@ loop-pair-preserved g c =
     let pairs = c.args.pairs.now in
     let i = c.loop-pair.pair-index in
     let p = c.pair-item.result in
+    let one = c.in_ok-put_clones.ensures.entries in
+    let is_clone = IsPairClone g.K.Clone.is_clone g.V.Clone.is_clone in
     let more : take i pairs ++ p ∷ [] ≡ take (i + 1) pairs = ap (λ q. take i pairs ++ q ∷ []) c.pair-item.is ∙ sym (take_more pairs i p c.loop-pair-test.true) in
-    subst (λ l. TakesClones g.K.PartialEq.eq g.K.Clone.is_clone g.V.Clone.is_clone [] l c.put_clones.new.self.entries) more
-    (clone_put g.K.PartialEq.eq g.K.Clone.is_clone g.V.Clone.is_clone [] (take i pairs) c.loop-pair.map.entries c.put_clones.new.self.entries p c.loop-pair.invariant c.in_ok-put_clones.ensures.entries)
+    subst (λ l. TakesClones is_clone (λ done r. put g.K.PartialEq.eq done r.0 r.1) [] l c.put_clones.new.self.entries) more
+    (clone_taken is_clone (λ done r. put g.K.PartialEq.eq done r.0 r.1) [] (take i pairs) c.loop-pair.map.entries c.put_clones.new.self.entries p (one.0, one.1) c.loop-pair.invariant (one.2, one.3) one.4)

@@ -1,6 +1,5 @@
 -- What the calls that take many pairs at once leave.
-use Rattle.std.specs.Prelude.{◌≡◌, ◌+◌, ◌≤◌, Bool, List, None, Option, Some, length}
-use Rattle.std.specs.Iterator.{Count, YieldsThen, size}
+use Rattle.std.specs.Prelude.{◌≡◌, ◌≤◌, Bool, List, None, length}
 use Rattle.vecmap_base.specs.Clones.{AreClones, IsPairClone}
 use Rattle.vecmap_base.specs.Pairs.{index_of, puts}
 use Rattle.vecmap_map.specs.Contents.{Contents}
@@ -17,13 +16,3 @@ module _ {K V : Type 0} (eq : K → K → Bool) where
   -- the pairs were put, and `next` was refused: its key is not there, and there is no room
   abbrev pub RefusesAfter : Contents K V → List (K × V) → K × V → Contents K V → Type 0
   RefusesAfter old pairs next new = Puts old pairs new × (index_of eq new.entries next.0 ≡ None) × (new.capacity ≤ length new.entries)
-
-module _ {U T : Type 0} (becomes : U → T → Type 0) where
-  -- what `iter` became gave some items and then one more, and R holds of them
-  abbrev pub StopsAt : {A : Type 0} → (T → Option A → T → Type 0) → U → (List A → A → Type 0) → Type 0
-  StopsAt {A} steps iter R = (it : T) × (items : List A) × (next : A) × (rest : T)
-      × becomes iter it × YieldsThen steps it items (Some next) rest × R items next
-
-  -- the map has room for as many more pairs as `iter` may give
-  abbrev pub HasRoomForAll : {K V : Type 0} → (T → Count) → U → Contents K V → Type 0
-  HasRoomForAll left iter map = (it : T) → becomes iter it → length map.entries + size (left it) ≤ map.capacity

@@ -1,0 +1,19 @@
+use Rattle.std.proofs.Common.{[]}
+use Rattle.vecmap_base.proofs.DistinctLemmas.{distinct_none}
+use Rattle.vecmap_base.proofs.KeysStayDistinct.{distinct_keys_with_value, distinct_put, distinct_put_at, distinct_puts}
+use Rattle.vecmap_map.proofs.laws.insertion_keeps_keys_distinct.Goals as goal
+
+pub returns-clause-put : goal.returns-clause-put
+returns-clause-put g c = λ l d k v. distinct_put g.K.PartialEq.eq g.met.K.Eq.laws l k v d
+
+pub returns-clause-puts : goal.returns-clause-puts
+returns-clause-puts g c = λ l d pairs. distinct_puts g.K.PartialEq.eq g.met.K.Eq.laws l pairs d
+
+pub returns-clause-made : goal.returns-clause-made
+returns-clause-made g c = λ pairs. distinct_puts g.K.PartialEq.eq g.met.K.Eq.laws [] pairs (distinct_none g.K.PartialEq.eq)
+
+pub returns-clause-at : goal.returns-clause-at
+returns-clause-at g c = λ l d i k v. distinct_put_at g.K.PartialEq.eq g.met.K.Eq.laws l i k v d
+
+pub returns-clause-value : goal.returns-clause-value
+returns-clause-value g c = λ l d i v. distinct_keys_with_value g.K.PartialEq.eq l i v d
