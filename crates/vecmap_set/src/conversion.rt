@@ -19,10 +19,12 @@ impl<T: Eq + Drop> From<Vec<T>> for VecSet<T> {
     }
 }
 
-impl<T: Eq + Drop> VecSet<T> {
+impl<T: Eq> VecSet<T> {
     /// As `From<Vec>`, and answers the number of comparisons that it took: at most n(n-1)/2 for n elements, and exactly
     /// as many where no two are equal.
     pub fn from_vec_counted(mut items: Vec<T>) -> (VecSet<T>, u128)
+    where
+        T: Drop,
         ensures elements { result.0.elements ≡ adds T.eq [] items.items }
         ensures distinct { IsDistinct T.eq result.0.elements }
         ensures capacity { result.0.capacity ≡ vec_capacity items }
@@ -32,5 +34,17 @@ impl<T: Eq + Drop> VecSet<T> {
         let mut steps = Steps::new();
         dedup_keep_first(&mut items, &mut steps);
         (VecSet { items }, steps.count())
+    }
+
+    /// The elements as they are, in the vector that they stand in. No two may be equal: `items_distinct` tells.
+    ///
+    /// It compares nothing and takes no memory.
+    pub fn from_vec_unchecked(items: Vec<T>) -> VecSet<T>
+        requires { IsDistinct T.eq items.items }
+        ensures elements { result.elements ≡ items.items }
+        ensures distinct { IsDistinct T.eq result.elements }
+        ensures capacity { result.capacity ≡ vec_capacity items }
+    {
+        VecSet { items }
     }
 }

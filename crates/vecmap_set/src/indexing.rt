@@ -4,7 +4,7 @@ ghost use Rattle.std.specs.Prelude.{◌≡◌, ◌<◌, Some, length, slice_get}
 use crate::VecSet;
 use std::ops::Index;
 
-/// The element at a place below the number of elements.
+/// The element at a place, which must be below the number of elements: `len` tells.
 impl<T: Eq> Index<usize> for VecSet<T> {
     type Output = T;
 

@@ -1,6 +1,7 @@
 //! `VecSet`, an ordered set by equality over one vector of elements.
 #![tactic(auto)]
 
+mod bulk;
 mod conversion;
 mod equality;
 mod formatting;

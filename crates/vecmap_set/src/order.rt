@@ -14,7 +14,7 @@ impl<T: Eq> VecSet<T> {
         self.items.reverse();
     }
 
-    /// Exchanges the elements at two places, which the caller knows to be there.
+    /// Exchanges the elements at two places, which must be there: `len` tells.
     pub fn swap_indices(&mut self, a: usize, b: usize)
         requires a_in_bounds { a < length self.old.elements }
         requires b_in_bounds { b < length self.old.elements }

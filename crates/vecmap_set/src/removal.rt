@@ -59,7 +59,7 @@ impl<T: Eq> VecSet<T> {
         self.take(item).is_some()
     }
 
-    /// Takes out the element at a place, which the caller knows to be there. What follows moves up by one place.
+    /// Takes out the element at a place, which must be there: `len` tells. What follows moves up by one place.
     #[tactic(auto, using(vecmap_base::proofs::StaysDistinct::distinct_remove))]
     pub fn remove_index(&mut self, index: usize) -> T
         requires within { index < length self.old.elements }
@@ -86,7 +86,7 @@ impl<T: Eq> VecSet<T> {
         self.swap_take(item).is_some()
     }
 
-    /// Takes out the element at a place, which the caller knows to be there. The last element takes its place.
+    /// Takes out the element at a place, which must be there: `len` tells. The last element takes its place.
     #[tactic(auto, using(std::proofs::lemmas::Option::gets))]
     pub fn swap_remove_index(&mut self, index: usize) -> T
         requires within { index < length self.old.elements }

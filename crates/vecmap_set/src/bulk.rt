@@ -1,0 +1,162 @@
+//! Making a set of many elements, and adding many elements to one.
+ghost use Rattle.std.specs.Prelude.{◌≡◌, ◌+◌, ◌≤◌, IfOk, IsOk, List, OnErr, OnOk, [], length, map};
+ghost use Rattle.std.specs.Iterator.{Drains, ExtendsWithItems, IsFinite};
+ghost use Rattle.std.specs.List.{IsDistinct};
+ghost use Rattle.std.specs.Map.Iter.{deref};
+ghost use Rattle.vecmap_base.specs.Bulk.{HasRoomForAll, StopsAt};
+ghost use Rattle.vecmap_base.specs.Clones.{AreClones, ClonesAreSame};
+ghost use Rattle.vecmap_base.specs.Items.{adds};
+ghost use Rattle.vecmap_set.specs.SetBulk.{Adds, RefusesAfter};
+ghost use Rattle.vecmap_set.specs.Contents.{with_elements};
+
+use crate::VecSet;
+use std::alloc::{AllocError, Global};
+
+impl<T: Eq> VecSet<T> {
+    /// Adds the elements of an iterator that ends to an empty set, in their order. Refused, nothing is made.
+    ///
+    /// Each element takes one lookup, and no room is made beforehand, as elements may be equal.
+    pub fn from_iter<I: IntoIterator<Item = T>>(
+        alloc: Global,
+        iter: I,
+    ) -> Result<VecSet<T>, AllocError>
+    where
+        T: Drop,
+        requires { (it : I.IntoIter) → I.into_iter_gives iter it → I.IntoIter.can_next it × IsFinite (I.IntoIter.remaining it) }
+        ensures elements { IfOk result (λ set. (it : I.IntoIter) × (items : List T) × I.into_iter_gives iter it × Drains I.IntoIter.next_gives it items × (set.elements ≡ adds T.eq [] items)) }
+        ensures distinct { IfOk result (λ set. IsDistinct T.eq set.elements) }
+    {
+        let mut set = VecSet::new(alloc);
+        set.extend(iter)?;
+        Ok(set)
+    }
+
+    /// Adds clones of the elements to an empty set, in their order. Refused, nothing is made.
+    ///
+    /// Each element takes one lookup, and no room is made beforehand, as in `from_iter`.
+    pub fn from_slice(alloc: Global, items: &[T]) -> Result<VecSet<T>, AllocError>
+    where
+        T: Clone,
+        ensures elements { IfOk result (λ set. (clones : List T) × AreClones T.is_clone items.now clones × (set.elements ≡ adds T.eq [] clones)) }
+        ensures distinct { IfOk result (λ set. IsDistinct T.eq set.elements) }
+    {
+        let mut set = VecSet::new(alloc);
+        for item in items {
+            set.insert(item.clone()?)?;
+        }
+        Ok(set)
+    }
+
+    /// A set of clones of the elements, in their order. A clone must be equal to its original, so that no two clones
+    /// are equal. Refused, nothing is made.
+    pub fn clone(&self) -> Result<VecSet<T>, AllocError>
+    where
+        T: Clone,
+        requires same { ClonesAreSame T.eq T.is_clone }
+        ensures elements { IfOk result (λ set. AreClones T.is_clone self.now.elements set.elements) }
+        ensures distinct { IfOk result (λ set. IsDistinct T.eq set.elements) }
+    {
+        Ok(VecSet {
+            items: self.items.clone()?,
+        })
+    }
+
+    /// Clones of the elements, in their order. Refused, nothing is made.
+    pub fn to_vec(&self) -> Result<Vec<T>, AllocError>
+    where
+        T: Clone,
+        ensures { IfOk result (λ items. AreClones T.is_clone self.now.elements items.items) }
+    {
+        self.items.clone()
+    }
+
+    /// Adds the elements of `other`, in their order, and leaves `other` empty with its capacity.
+    ///
+    /// Room for all of them is made first. Refused at that, nothing has changed in either. Each element takes one
+    /// lookup.
+    pub fn append(&mut self, other: &mut VecSet<T>) -> Result<(), AllocError>
+    where
+        T: Drop,
+        ensures elements { OnOk result (self.new.elements ≡ adds T.eq self.old.elements other.old.elements) }
+        ensures distinct { IsDistinct T.eq self.new.elements }
+        ensures emptied { OnOk result (other.new ≡ with_elements other.old []) }
+        ensures other_distinct { IsDistinct T.eq other.new.elements }
+        ensures capacity { self.old.capacity ≤ self.new.capacity }
+        ensures enough { length self.old.elements + length other.old.elements ≤ self.old.capacity → IsOk result }
+        ensures stays { length self.old.elements + length other.old.elements ≤ self.old.capacity → self.new.capacity ≡ self.old.capacity }
+        ensures err { OnErr result (self.new ≡ self.old) }
+        ensures other_err { OnErr result (other.new ≡ other.old) }
+    {
+        self.reserve(other.len())?;
+        for item in other.items.drain(..) {
+            let _added = self.insert(item).unwrap();
+        }
+        Ok(())
+    }
+
+    /// Adds the elements of an iterator that ends, in their order. An equal element that is there stays.
+    ///
+    /// Each element takes one lookup, and no room is made beforehand, as elements may be there already. Refused at an
+    /// element, those before it stay, and that element is dropped with the iterator.
+    pub fn extend<I: IntoIterator<Item = T>>(&mut self, iter: I) -> Result<(), AllocError>
+    where
+        T: Drop,
+        requires { (it : I.IntoIter) → I.into_iter_gives iter it → I.IntoIter.can_next it × IsFinite (I.IntoIter.remaining it) }
+        ensures ran { ExtendsWithItems I.into_iter_gives I.IntoIter.next_gives (Adds T.eq) iter self.old self.new result }
+        ensures distinct { IsDistinct T.eq self.new.elements }
+        ensures capacity { self.old.capacity ≤ self.new.capacity }
+        ensures enough { HasRoomForAll I.into_iter_gives I.IntoIter.remaining iter (length self.old.elements) self.old.capacity → IsOk result }
+        ensures stays { HasRoomForAll I.into_iter_gives I.IntoIter.remaining iter (length self.old.elements) self.old.capacity → self.new.capacity ≡ self.old.capacity }
+
+        // It is refused at a new element where there is no room.
+        ensures err { OnErr result (StopsAt I.into_iter_gives I.IntoIter.next_gives iter (λ items next. RefusesAfter T.eq self.old items next self.new)) }
+    {
+        // A proof knows of the invariant where a field is used: the loop needs it at its start.
+        let _ = &self.items;
+        for item in iter {
+            self.insert(item)?;
+        }
+        Ok(())
+    }
+
+    /// As `extend`, with copies of the elements that the iterator lends.
+    ///
+    /// In Rust it is the set's `Extend<&T>`.
+    pub fn extend_copied<'a, I: IntoIterator<Item = &'a T>>(
+        &mut self,
+        iter: I,
+    ) -> Result<(), AllocError>
+    where
+        T: Copy + 'a,
+        requires { (it : I.IntoIter) → I.into_iter_gives iter it → I.IntoIter.can_next it × IsFinite (I.IntoIter.remaining it) }
+        ensures ran { ExtendsWithItems I.into_iter_gives I.IntoIter.next_gives (λ old items new. Adds T.eq old (map deref items) new) iter self.old self.new result }
+        ensures distinct { IsDistinct T.eq self.new.elements }
+        ensures capacity { self.old.capacity ≤ self.new.capacity }
+        ensures enough { HasRoomForAll I.into_iter_gives I.IntoIter.remaining iter (length self.old.elements) self.old.capacity → IsOk result }
+        ensures stays { HasRoomForAll I.into_iter_gives I.IntoIter.remaining iter (length self.old.elements) self.old.capacity → self.new.capacity ≡ self.old.capacity }
+
+        // It is refused at a new element where there is no room.
+        ensures err { OnErr result (StopsAt I.into_iter_gives I.IntoIter.next_gives iter (λ items next. RefusesAfter T.eq self.old (map deref items) (deref next) self.new)) }
+    {
+        // As in `extend`.
+        let _ = &self.items;
+        for item in iter {
+            self.insert(*item)?;
+        }
+        Ok(())
+    }
+}
+
+/// Adds the elements to an empty set, in their order, as the inherent `from_iter` does.
+impl<T: Eq + Drop> FromIterator<T> for VecSet<T> {
+    type Alloc = Global;
+
+    ghost from_iter_gives = { λ items set. (set.elements ≡ adds T.eq [] items) × IsDistinct T.eq set.elements };
+
+    fn from_iter<I: IntoIterator<Item = T>>(
+        alloc: Global,
+        iter: I,
+    ) -> Result<VecSet<T>, AllocError> {
+        VecSet::from_iter(alloc, iter)
+    }
+}
