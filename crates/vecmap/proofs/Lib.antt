@@ -1,1 +1,2 @@
+mod RunExamples
 pub mod RunLemmas

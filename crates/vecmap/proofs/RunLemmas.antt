@@ -1,5 +1,5 @@
 -- How a run of commands goes on by one more.
-use Rattle.std.proofs.Common.{◌≡◌, Bool, List, [], ◌∷◌, ◌++◌, ap, length, refl, suc}
+use Rattle.std.proofs.Common.{Bool, List, [], ◌∷◌, ◌++◌, refl}
 use Rattle.std.specs.declared.clone.Clone as clone
 use Rattle.vecmap.specs.MapRun.{Run, Step}
 use Rattle.vecmap.specs.declared.map_run.MapCommand.{MapCommand}

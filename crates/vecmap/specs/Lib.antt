@@ -1,4 +1,5 @@
 pub mod MapRun
+pub use Rattle.vecmap_base.specs.Bulk
 pub use Rattle.vecmap_base.specs.Clones
 pub use Rattle.vecmap_base.specs.Equality
 pub use Rattle.vecmap_base.specs.Items
@@ -6,3 +7,8 @@ pub use Rattle.vecmap_base.specs.Pairs
 pub use Rattle.vecmap_base.specs.Repeats
 pub use Rattle.vecmap_map.specs.Contents
 pub use Rattle.vecmap_map.specs.Entry
+pub use Rattle.vecmap_map.specs.EntryLends
+pub use Rattle.vecmap_map.specs.Lends
+pub use Rattle.vecmap_map.specs.MapBulk
+pub use Rattle.vecmap_set.specs.Contents as SetContents
+pub use Rattle.vecmap_set.specs.SetBulk

@@ -1,8 +1,8 @@
 //! `vecmap!` and `vecset!`, and what they call.
-ghost use Rattle.std.specs.Prelude.{◌≡◌, ◌<◌, OnErr, OnOk, length};
+ghost use Rattle.std.specs.Prelude.{◌≡◌, ◌<◌, ◌≤◌, IsSome, IsTrue, None, OnErr, OnOk, false, length};
 ghost use Rattle.std.specs.List.{IsDistinct};
-ghost use Rattle.vecmap_base.specs.Items.{add};
-ghost use Rattle.vecmap_base.specs.Pairs.{put};
+ghost use Rattle.vecmap_base.specs.Items.{add, has_item};
+ghost use Rattle.vecmap_base.specs.Pairs.{index_of, put};
 
 use crate::{VecMap, VecSet};
 use std::alloc::AllocError;
@@ -42,8 +42,12 @@ pub fn put_pair<K: Eq + Drop, V: Drop>(
     value: V,
 ) -> Result<(), AllocError>
     ensures entries { OnOk result (map.new.entries ≡ put K.eq map.old.entries key value) }
+    ensures capacity { map.old.capacity ≤ map.new.capacity }
+    ensures there { IsSome (index_of K.eq map.old.entries key) → map.new.capacity ≡ map.old.capacity }
     ensures room { length map.old.entries < map.old.capacity → map.new.capacity ≡ map.old.capacity }
     ensures err { OnErr result (map.new ≡ map.old) }
+    ensures absent { OnErr result (index_of K.eq map.old.entries key ≡ None) }
+    ensures full { OnErr result (map.old.capacity ≤ length map.old.entries) }
 {
     map.insert(key, value)?;
     Ok(())
@@ -53,8 +57,12 @@ pub fn put_pair<K: Eq + Drop, V: Drop>(
 pub fn add_item<T: Eq + Drop>(set: &mut VecSet<T>, item: T) -> Result<(), AllocError>
     ensures elements { OnOk result (set.new.elements ≡ add T.eq set.old.elements item) }
     ensures distinct { IsDistinct T.eq set.new.elements }
+    ensures capacity { set.old.capacity ≤ set.new.capacity }
+    ensures there { IsTrue (has_item T.eq set.old.elements item) → set.new ≡ set.old }
     ensures room { length set.old.elements < set.old.capacity → set.new.capacity ≡ set.old.capacity }
     ensures err { OnErr result (set.new ≡ set.old) }
+    ensures absent { OnErr result (has_item T.eq set.old.elements item ≡ false) }
+    ensures full { OnErr result (set.old.capacity ≤ length set.old.elements) }
 {
     set.insert(item)?;
     Ok(())

@@ -8,21 +8,32 @@ use vecmap_map::VecMap;
 /// What `run` does to a map: each command is the call of its name.
 #[derive(Debug, Drop)]
 pub enum MapCommand<K, V> {
+    /// `insert`, answered by `Value`, the old one, or `NoMemory`.
     Insert(K, V),
+    /// `get`, answered by `Value`, a clone, or `NoMemory` where the clone is refused.
     Get(K),
+    /// `get_index_of`, answered by `Place`.
     IndexOf(K),
+    /// `len`, answered by `Number`.
     Len,
+    /// `remove`, answered by `Value`.
     Remove(K),
+    /// `to_vec`, answered by `Pairs`, clones, or `NoMemory`.
     ToVec,
 }
 
 /// What a command answers: clones where the call lends, and `NoMemory` where it was refused.
 #[derive(Debug, Drop)]
 pub enum MapReply<K, V> {
+    /// A value, if there is one.
     Value(Option<V>),
+    /// The place of a key, if it is there.
     Place(Option<usize>),
+    /// How many pairs there are.
     Number(usize),
+    /// Clones of all pairs, in their order.
     Pairs(Vec<(K, V)>),
+    /// Memory was refused, and nothing has changed.
     NoMemory,
 }
 
