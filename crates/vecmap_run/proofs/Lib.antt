@@ -1,3 +1,3 @@
 pub mod BufferLemmas
 pub mod CommandLemmas
-pub mod SessionLemmas
+pub mod ServiceLemmas

@@ -2,5 +2,5 @@ pub mod Buffer
 pub mod Grammar
 pub mod Lines
 pub mod Print
-pub mod Session
+pub mod Service
 pub mod Steps

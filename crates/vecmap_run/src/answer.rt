@@ -2,7 +2,7 @@
 ghost use Rattle.std.specs.Prelude.{◌≡◌, IfOk, List, OnErr, OnOk, Some, option_copied, string_eq, unwrap_or, ℕ};
 ghost use Rattle.vecmap.specs.Pairs.{has_text, lookup, lookup_by, put};
 ghost use Rattle.vecmap_run.specs.Lines.{within_limit};
-ghost use Rattle.vecmap_run.specs.Session.{MayAnswer};
+ghost use Rattle.vecmap_run.specs.Service.{MayAnswer};
 ghost use Rattle.vecmap_run.specs.Steps.{Inserts, InsertsAt, OrInserts, Step, swap_without_text};
 
 use crate::command::{Command, parse};

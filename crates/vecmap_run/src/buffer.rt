@@ -15,6 +15,7 @@ pub struct Buffer<'w, W> {
 }
 
 impl<'w, W: Write> Buffer<'w, W> {
+    /// A buffer that has gathered nothing.
     pub fn new(writer: &'w mut W) -> Buffer<'w, W>
         ensures writer { result.writer ≡ writer.entry }
         ensures gathered { result.gathered ≡ [] }
@@ -34,6 +35,7 @@ impl<'w, W: Write> Buffer<'w, W> {
         write_bytes(writer, gathered.as_slice())
     }
 
+    /// Gathers a byte, once it has made room for it.
     fn push(&mut self, byte: u8) -> fmt::Result
         ensures writer { self.new.writer.ghost_name ≡ self.old.writer.ghost_name }
         ensures held { OnOk result (Appends (held W.contents self.old) (held W.contents self.new) (byte ∷ [])) }

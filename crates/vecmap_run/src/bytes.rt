@@ -4,6 +4,7 @@ ghost use Rattle.std.specs.Bool.{OnFalse};
 
 use std::marker::Model;
 
+/// How many bytes there is room for.
 pub const CAPACITY: usize = 4096;
 
 /// At most `CAPACITY` bytes. A contract sees them as a list.
@@ -22,6 +23,7 @@ impl Model for Bytes {
 }
 
 impl Bytes {
+    /// No bytes yet.
     pub fn new() -> Bytes
         ensures { result ≡ [] }
     {
@@ -31,18 +33,21 @@ impl Bytes {
         }
     }
 
+    /// The bytes.
     pub fn as_slice(&self) -> &[u8]
         ensures { result.now ≡ self.now }
     {
         &self.items[..self.len]
     }
 
+    /// Whether there are no bytes.
     pub fn is_empty(&self) -> bool
         ensures { result ≡ (length self.now == 0) }
     {
         self.len == 0
     }
 
+    /// Whether there is no room for one more byte.
     pub fn is_full(&self) -> bool
         ensures full { result ≡ (length self.now == 4096) }
         ensures room { OnFalse result (length self.now < 4096) }
@@ -50,6 +55,7 @@ impl Bytes {
         self.len == CAPACITY
     }
 
+    /// Appends a byte.
     pub fn push(&mut self, byte: u8)
         requires { length self.old < 4096 }
         ensures { self.new ≡ self.old ++ byte ∷ [] }
@@ -58,6 +64,7 @@ impl Bytes {
         self.len += 1;
     }
 
+    /// Takes all bytes away.
     pub fn clear(&mut self)
         ensures { self.new ≡ [] }
     {

@@ -20,6 +20,7 @@ impl Model for Line {
 }
 
 impl Line {
+    /// The empty line.
     pub fn new() -> Line
         ensures { result ≡ within_limit [] }
     {
@@ -40,12 +41,14 @@ impl Line {
         }
     }
 
+    /// Whether the line is empty, which one that is too long isn't.
     pub fn is_empty(&self) -> bool
         ensures { (line : List ℕ) → self.now ≡ within_limit line → result ≡ (length line == 0) }
     {
         !self.is_too_long && self.bytes.is_empty()
     }
 
+    /// Takes the next byte of the line.
     pub fn push(&mut self, byte: u8)
         ensures { (line : List ℕ) → self.old ≡ within_limit line → self.new ≡ within_limit (line ++ byte ∷ []) }
     {
@@ -56,6 +59,7 @@ impl Line {
         }
     }
 
+    /// Begins the next line.
     pub fn clear(&mut self)
         ensures { self.new ≡ within_limit [] }
     {

@@ -8,16 +8,15 @@ mod command;
 mod line;
 mod print;
 mod serve;
+mod status;
 
 use serve::serve;
+use status::status;
 use std::io;
 use std::process::ExitCode;
 
 fn main(rt: HostRuntime) -> ExitCode {
     let mut reader = rt.reader();
     let mut writer = io::writer(&rt);
-    match serve(rt.alloc(), &mut reader, &mut writer) {
-        Ok(()) => ExitCode::SUCCESS,
-        Err(_fault) => ExitCode::FAILURE,
-    }
+    status(serve(rt.alloc(), &mut reader, &mut writer))
 }

@@ -3,7 +3,7 @@ ghost use Rattle.std.specs.Prelude.{◌≡◌, ◌∷◌, ◌++◌, [], IfErr, I
 ghost use Rattle.std.specs.Io.KnownBytes.{Appends, IsAtEnd};
 ghost use Rattle.vecmap_run.specs.Lines.{all_lines, ended_lines, within_limit};
 ghost use Rattle.vecmap_run.specs.Print.{printed};
-ghost use Rattle.vecmap_run.specs.Session.{Answers, AnswersLine, GoesOn, HasServed, Serves};
+ghost use Rattle.vecmap_run.specs.Service.{Answers, AnswersLine, GoesOn, HasServed, Serves};
 
 use crate::answer::answer_line;
 use crate::buffer::Buffer;
@@ -21,14 +21,16 @@ mod tests;
 /// Why `serve` stopped before the end of its input.
 #[derive(Clone, Copy, Debug, PartialEq, Eq)]
 pub enum Fault {
+    /// A read failed, or there were too many of them.
     Reading,
+    /// A write failed.
     Writing,
 }
 
 /// Answers each line of `reader` on `writer`, over a map that is empty at first.
 ///
 /// A line ends with a line break or with the input. Each answer is written before the next line is acted on. A read that
-/// is interrupted is made again; one that fails ends the session, and so does a write that fails, which leaves open how
+/// is interrupted is made again; one that fails ends the service, and so does a write that fails, which leaves open how
 /// much of its answer was written. After `u64::MAX` reads this gives up with `Fault::Reading`.
 pub fn serve<R: Read, W: Write>(alloc: Global, reader: &mut R, writer: &mut W) -> Result<(), Fault>
     // At the end of the input all its lines are answered.
@@ -40,12 +42,12 @@ pub fn serve<R: Read, W: Write>(alloc: Global, reader: &mut R, writer: &mut W) -
     ensures reading { IsErrOf result Fault.Reading → Serves ended_lines
         (R.remaining reader.old) (R.remaining reader.new) (W.contents writer.old) (W.contents writer.new) }
 {
-    let mut session = Session::new(alloc);
+    let mut service = Service::new(alloc);
     let mut chunk = [0u8; 4096];
     for _ in 0..u64::MAX {
         match reader.read(&mut chunk) {
-            Ok(0) => return session.finish(writer),
-            Ok(count) => session.take(&chunk[..count], writer)?,
+            Ok(0) => return service.finish(writer),
+            Ok(count) => service.take(&chunk[..count], writer)?,
             Err(error) if error.kind() == ErrorKind::Interrupted => {}
             Err(_error) => return Err(Fault::Reading),
         }
@@ -55,17 +57,17 @@ pub fn serve<R: Read, W: Write>(alloc: Global, reader: &mut R, writer: &mut W) -
 
 /// The map, and the line that is being read.
 #[derive(Drop)]
-struct Session {
+struct Service {
     alloc: Global,
     map: VecMap<String, i64>,
     line: Line,
 }
 
-impl Session {
-    fn new(alloc: Global) -> Session
+impl Service {
+    fn new(alloc: Global) -> Service
         ensures { HasServed result.line result.map.entries [] [] }
     {
-        Session {
+        Service {
             alloc,
             map: VecMap::new(alloc),
             line: Line::new(),

@@ -118,6 +118,10 @@ fn answers_each_command(rt: HostRuntime) -> Result<(), Fail> {
             "insert a 1\ninsert b 2\ninsert c 3\nswap_remove a\nlist\nswap_remove a\nindex c\n",
             "none\nnone\nnone\nsome 1\nc=3 b=2\nnone\nsome 0\n",
         ),
+        (
+            "insert a\ninsert a 1 \n\ninsert a 1234567890123456789\ninsert a -007\nget a\n",
+            "fault\nfault\nfault\nfault\nnone\nsome -7\n",
+        ),
     ];
     for (input, output) in runs {
         assert_eq!(rt;

@@ -1,7 +1,7 @@
 use Rattle.std.proofs.Common.{◌≡◌, arith}
 use Rattle.std.proofs.KnownBytes.{Keeps-refl}
 use Rattle.std.proofs.lemmas.Result.{on_ok_weaker}
-use Rattle.vecmap_run.proofs.SessionLemmas.{Serves-all, Serves-ended, Since-kept, Since-more}
+use Rattle.vecmap_run.proofs.ServiceLemmas.{Serves-all, Serves-ended, Since-kept, Since-more}
 use Rattle.vecmap_run.proofs.serve.serve.Goals as goal
 use Rattle.vecmap_run.proofs.serve.serve.Goals.{in-Ok+in_ok-take-in-Ok, in-Err}
 
@@ -16,8 +16,8 @@ returns-in-Err-2-clause-reading g c _ = Serves-ended _ _ _ _ _ _ _ c.loop.invari
 
 pub loop-preserved : goal.loop-preserved
 loop-preserved g c = elim c.match-read.branch [
-  | in-Ok+in_ok-take-in-Ok w ↦ rw (w.writer-is, w.session-is) (Since-more _ _ _ _ _ _ _ c.loop.invariant _ _ _ _ w.in-Ok.ensures.bytes.0 w.in_ok-take-in-Ok.ensures.ok)
-  | in-Err w ↦ rw (w.writer-is, w.session-is) (Since-kept _ _ _ _ _ _ _ c.loop.invariant w.in-Err.ensures.bytes)
+  | in-Ok+in_ok-take-in-Ok w ↦ rw (w.writer-is, w.service-is) (Since-more _ _ _ _ _ _ _ c.loop.invariant _ _ _ _ w.in-Ok.ensures.bytes.0 w.in_ok-take-in-Ok.ensures.ok)
+  | in-Err w ↦ rw (w.writer-is, w.service-is) (Since-kept _ _ _ _ _ _ _ c.loop.invariant w.in-Err.ensures.bytes)
 ]
 
 pub returns-clause-reading : goal.returns-clause-reading

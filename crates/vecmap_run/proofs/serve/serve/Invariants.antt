@@ -1,4 +1,4 @@
-use Rattle.vecmap_run.proofs.SessionLemmas.{Since}
+use Rattle.vecmap_run.proofs.ServiceLemmas.{Since}
 use Rattle.vecmap_run.proofs.serve.serve.Given as goal
 
 -- what has been read so far, and what has been written for it
@@ -6,4 +6,4 @@ abbrev pub invariant-loop : goal.invariant-loop
 invariant-loop g l =
     let remaining = g.R.Read.remaining in
     let contents = g.W.Write.contents in
-    Since (remaining l.fn.reader) (remaining l.reader) (contents l.fn.writer) (contents l.writer) l.session.line l.session.map.entries
+    Since (remaining l.fn.reader) (remaining l.reader) (contents l.fn.writer) (contents l.writer) l.service.line l.service.map.entries

@@ -1,8 +1,8 @@
 use Rattle.std.proofs.Common.{◌∙◌, [], append-nil, sym}
 use Rattle.std.proofs.KnownBytes.{Appends-nil}
 use Rattle.std.proofs.lemmas.Result.{on_ok_weaker}
-use Rattle.vecmap_run.proofs.SessionLemmas.{answered_all, answered_rest}
-use Rattle.vecmap_run.proofs.serve.Session.finish.Goals as goal
+use Rattle.vecmap_run.proofs.ServiceLemmas.{answered_all, answered_rest}
+use Rattle.vecmap_run.proofs.serve.Service.finish.Goals as goal
 
 pub returns-then-is_empty-clause-ok : goal.returns-then-is_empty-clause-ok
 returns-then-is_empty-clause-ok g c input text served =

@@ -1,8 +1,8 @@
-use Rattle.std.proofs.Common.{◌≡◌, ap, arith, length, take}
+use Rattle.std.proofs.Common.{◌≡◌, arith, length}
 use Rattle.std.proofs.Math.Seq.{take-length}
 use Rattle.std.proofs.lemmas.List.{take_more}
-use Rattle.vecmap_run.proofs.SessionLemmas.{GoesOn-nil, GoesOn-trans}
-use Rattle.vecmap_run.proofs.serve.Session.take.Goals as goal
+use Rattle.vecmap_run.proofs.ServiceLemmas.{GoesOn-nil, GoesOn-trans}
+use Rattle.vecmap_run.proofs.serve.Service.take.Goals as goal
 
 pub loop-byte-init : goal.loop-byte-init
 loop-byte-init g c = GoesOn-nil _ _ _

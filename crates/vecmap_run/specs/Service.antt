@@ -42,7 +42,7 @@ pub record Splits (input : List ℕ) (lines : List (List ℕ)) (rest : List ℕ)
   pub each : All HasNoBreak lines
   pub unended : HasNoBreak rest
 
--- a session that has read the input and written the text: what is unended is kept, and the lines before it are answered
+-- a service that has read the input and written the text: what is unended is kept, and the lines before it are answered
 pub record HasServed (line : Option (List ℕ)) (entries : Entries) (input text : List ℕ) : Type 0 where
   pub lines : List (List ℕ)
   pub rest : List ℕ
@@ -50,7 +50,7 @@ pub record HasServed (line : Option (List ℕ)) (entries : Entries) (input text 
   pub kept : line ≡ within_limit rest
   pub answered : Answers [] lines text entries
 
--- having read these bytes too, a session goes on from a line and entries to others, and appends to what was written
+-- having read these bytes too, a service goes on from a line and entries to others, and appends to what was written
 abbrev pub GoesOn : Option (List ℕ) → Entries → List ℕ → Option (List ℕ) → Option (List ℕ) → Option (List ℕ) → Entries → Type 0
 GoesOn line entries bytes written now new_line new_entries =
     (input text : List ℕ) → HasServed line entries input text

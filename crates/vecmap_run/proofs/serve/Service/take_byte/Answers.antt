@@ -1,6 +1,6 @@
 use Rattle.std.proofs.lemmas.Result.{on_ok_weaker}
-use Rattle.vecmap_run.proofs.SessionLemmas.{GoesOn-answered, GoesOn-pushed}
-use Rattle.vecmap_run.proofs.serve.Session.take_byte.Goals as goal
+use Rattle.vecmap_run.proofs.ServiceLemmas.{GoesOn-answered, GoesOn-pushed}
+use Rattle.vecmap_run.proofs.serve.Service.take_byte.Goals as goal
 
 pub returns-then-byte-eq10-clause-ok : goal.returns-then-byte-eq10-clause-ok
 returns-then-byte-eq10-clause-ok g c =

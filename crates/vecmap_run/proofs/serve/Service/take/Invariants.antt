@@ -1,6 +1,6 @@
 use Rattle.std.proofs.Common.{take}
-use Rattle.vecmap_run.specs.Session.{GoesOn}
-use Rattle.vecmap_run.proofs.serve.Session.take.Given as goal
+use Rattle.vecmap_run.specs.Service.{GoesOn}
+use Rattle.vecmap_run.proofs.serve.Service.take.Given as goal
 
 -- the bytes so far have been read
 abbrev pub invariant-loop-byte : goal.invariant-loop-byte

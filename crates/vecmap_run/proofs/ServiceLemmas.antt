@@ -1,5 +1,5 @@
--- How a session goes on.
-use Rattle.std.proofs.Common.{◌≡◌, ◌≢◌, ◌==◌, ◌∙◌, ◌-◌, ◌+◌, ℕ, All, List, [], ◌∷◌, ◌++◌, Option, ap, append-nil, append_assoc, arith, false, get_or, if◌then◌else◌, length, length-append, lit<, refl, subst, sym, take, true}
+-- How a service goes on.
+use Rattle.std.proofs.Common.{◌≡◌, ◌≢◌, ◌==◌, ◌∙◌, ℕ, All, List, [], ◌∷◌, ◌++◌, Option, ap, append-nil, append_assoc, arith, false, if◌then◌else◌, length, length-append, refl, sym, take, true}
 use Rattle.std.proofs.KnownBytes.{Appends-nil, Appends-trans, Consumes-kept, Consumes-trans}
 use Rattle.std.proofs.Math.Seq.{take-append_seam}
 use Rattle.std.proofs.lemmas.Bool.Decides.{nat_tests}
@@ -9,7 +9,7 @@ use Rattle.std.proofs.lemmas.List.Splits.{slice_split_at, slice_split_none}
 use Rattle.std.specs.Io.KnownBytes.{Appends, Consumes, Keeps}
 use Rattle.std.specs.List.{flat_map}
 use Rattle.vecmap_run.specs.Lines.{all_lines, ended_lines, pieces_of, within_limit, without_empty_last}
-use Rattle.vecmap_run.specs.Session.{Answers, AnswersLine, GoesOn, HasNoBreak, HasServed, Serves, Splits}
+use Rattle.vecmap_run.specs.Service.{Answers, AnswersLine, GoesOn, HasNoBreak, HasServed, Serves, Splits}
 use Rattle.vecmap_run.specs.Steps.{Entries}
 
 -- one more line is answered
@@ -114,7 +114,7 @@ module _ (line : Option (List ℕ)) (entries : Entries) (input text : List ℕ) 
   pub answered_rest : (length served.rest == 0) ≡ false → (answer : List ℕ) (last : Entries) → AnswersLine entries served.rest answer last → Answers [] (all_lines input) (text ++ answer) last
   answered_rest some answer last step = rw (Splits-all_lines input served.lines served.rest served.splits, some) (Answers-more _ entries last served.lines served.rest text answer served.answered step)
 
--- what has been read, and what has been written for it, since a session began
+-- what has been read, and what has been written for it, since a service began
 abbrev pub Since : Option (List ℕ) → Option (List ℕ) → Option (List ℕ) → Option (List ℕ) → Option (List ℕ) → Entries → Type 0
 Since unread left written now line entries = (input text : List ℕ) × Consumes unread left input × Appends written now text × HasServed line entries input text
 

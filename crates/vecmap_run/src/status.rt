@@ -1,0 +1,20 @@
+//! How the program ends.
+ghost use Rattle.std.specs.Prelude.{◌≡◌, OnErr, OnOk};
+ghost use Rattle.std.specs.Process.{exit_status};
+
+use crate::serve::Fault;
+use std::process::ExitCode;
+
+#[cfg(test)]
+mod tests;
+
+/// The status of the program, whose lines were served so.
+pub fn status(served: Result<(), Fault>) -> ExitCode
+    ensures ok { OnOk served (exit_status result ≡ 0) }
+    ensures err { OnErr served (exit_status result ≡ 1) }
+{
+    match served {
+        Ok(()) => ExitCode::SUCCESS,
+        Err(_fault) => ExitCode::FAILURE,
+    }
+}
