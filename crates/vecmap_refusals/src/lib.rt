@@ -8,7 +8,11 @@
 #[cfg(test)]
 mod fixtures;
 #[cfg(test)]
+mod macros;
+#[cfg(test)]
 mod map_bulk;
+#[cfg(test)]
+mod map_clones;
 #[cfg(test)]
 mod map_entry;
 #[cfg(test)]
@@ -17,5 +21,9 @@ mod map_insertion;
 mod map_room;
 #[cfg(test)]
 mod map_run;
+#[cfg(test)]
+mod set_bulk;
+#[cfg(test)]
+mod set_clones;
 #[cfg(test)]
 mod set_single;

@@ -1,8 +1,37 @@
 //! Many pairs at once.
 use super::fixtures::full_map;
+use std::process::Abort;
 use vecmap::VecMap;
 
 const FULL: &[(u32, u32)] = &[(0, 10), (1, 11)];
+
+// More pairs than the room that is made for them: half of them, rounded up, fit for sure.
+const MORE: [(u32, u32); 6] = [(7, 70), (0, 20), (8, 80), (9, 90), (10, 100), (11, 110)];
+
+const EXTENDED: &[(u32, u32)] = &[
+    (0, 20),
+    (1, 11),
+    (7, 70),
+    (8, 80),
+    (9, 90),
+    (10, 100),
+    (11, 110),
+];
+
+// Granted, all pairs are put. Refused at the room, nothing has changed; refused at a later pair, those before it are put
+// and the map is full.
+fn assert_extended(rt: &impl Abort, map: &VecMap<u32, u32>, room: usize, granted: bool) {
+    if granted {
+        assert_eq!(rt; map.as_slice(), EXTENDED);
+    } else if map.len() == 2 {
+        assert_eq!(rt; map.as_slice(), FULL);
+        assert_eq!(rt; map.capacity(), room);
+    } else {
+        assert!(rt; 5 <= map.len() && map.len() < EXTENDED.len());
+        assert!(rt; EXTENDED.starts_with(map.as_slice()));
+        assert_eq!(rt; map.capacity(), map.len());
+    }
+}
 
 #[test]
 fn append_moves_all_or_nothing(rt: HostRuntime) {
@@ -17,6 +46,7 @@ fn append_moves_all_or_nothing(rt: HostRuntime) {
         assert_eq!(rt; map.as_slice(), FULL);
         assert_eq!(rt; map.capacity(), room);
         assert_eq!(rt; other.as_slice(), [(0, 10), (1, 11), (2, 12)].as_slice());
+        assert_eq!(rt; other.capacity(), other_room);
     }
 }
 
@@ -25,17 +55,45 @@ fn extend_puts_the_pairs_before_the_refused_one(rt: HostRuntime) {
     let Some(mut map) = full_map(rt.alloc(), 2) else {
         return;
     };
-    let pairs = [(7, 70), (0, 20), (8, 80)];
-    if map.extend(pairs).is_ok() {
-        assert_eq!(rt;
-            map.as_slice(),
-            [(0, 20), (1, 11), (7, 70), (8, 80)].as_slice()
-        );
-    } else if map.len() == 2 {
-        assert_eq!(rt; map.as_slice(), FULL);
-    } else {
-        assert_eq!(rt; map.as_slice(), [(0, 20), (1, 11), (7, 70)].as_slice());
-        assert_eq!(rt; map.capacity(), map.len());
+    let room = map.capacity();
+    let granted = map.extend(MORE).is_ok();
+    assert_extended(&rt, &map, room, granted);
+}
+
+#[test]
+fn extend_pairs_puts_the_pairs_before_the_refused_one(rt: HostRuntime) {
+    let Some(mut map) = full_map(rt.alloc(), 2) else {
+        return;
+    };
+    let room = map.capacity();
+    let granted = map.extend_pairs(&MORE).is_ok();
+    assert_extended(&rt, &map, room, granted);
+}
+
+#[test]
+fn extend_refs_puts_the_pairs_before_the_refused_one(rt: HostRuntime) {
+    let Some(mut map) = full_map(rt.alloc(), 2) else {
+        return;
+    };
+    let room = map.capacity();
+    let granted = map
+        .extend_refs(MORE.iter().map(|pair| (&pair.0, &pair.1)))
+        .is_ok();
+    assert_extended(&rt, &map, room, granted);
+}
+
+#[test]
+fn making_of_many_pairs_makes_all_or_nothing(rt: HostRuntime) {
+    let pairs = [(1, 10), (2, 20), (1, 30)];
+    if let Ok(map) = VecMap::from_iter(rt.alloc(), pairs) {
+        assert_eq!(rt; map.as_slice(), [(1, 30), (2, 20)].as_slice());
+    }
+    if let Ok(map) = VecMap::from_slice(rt.alloc(), &pairs) {
+        assert_eq!(rt; map.as_slice(), [(1, 30), (2, 20)].as_slice());
+    }
+    let collected: Result<VecMap<u32, u32>, _> = pairs.iter().copied().collect(rt.alloc());
+    if let Ok(map) = collected {
+        assert_eq!(rt; map.as_slice(), [(1, 30), (2, 20)].as_slice());
     }
 }
 

@@ -5,7 +5,7 @@ use vecmap::VecMap;
 const FULL: &[(u32, u32)] = &[(0, 10), (1, 11)];
 
 #[test]
-fn with_capacity_makes_nothing(rt: HostRuntime) {
+fn with_capacity_makes_all_the_room_or_nothing(rt: HostRuntime) {
     let made: Result<VecMap<u32, u32>, _> = VecMap::with_capacity(rt.alloc(), 3);
     if let Ok(map) = made {
         assert!(rt; map.is_empty() && 3 <= map.capacity());
@@ -48,4 +48,19 @@ fn shrinking_without_memory_keeps_the_list(rt: HostRuntime) {
     map.shrink_to_fit();
     assert!(rt; 2 <= map.capacity());
     assert_eq!(rt; map.as_slice(), FULL);
+}
+
+#[test]
+fn reserved_room_takes_inserts_without_memory(rt: HostRuntime) {
+    let mut map = VecMap::new(rt.alloc());
+    if map.reserve(3).is_err() {
+        assert_eq!(rt; (map.len(), map.capacity()), (0, 0));
+        return;
+    }
+    let room = map.capacity();
+    for number in 0..3u32 {
+        assert!(rt; matches!(map.insert(number, number), Ok(None)));
+    }
+    assert_eq!(rt; map.as_slice(), [(0, 0), (1, 1), (2, 2)].as_slice());
+    assert_eq!(rt; map.capacity(), room);
 }

@@ -1,9 +1,11 @@
 //! Runs of commands.
-use super::fixtures::full_map;
+use super::fixtures::{full_map, has_pairs, text_map};
 use std::alloc::{AllocError, Global};
 use vecmap::{MapCommand, MapReply, run};
 
 const FULL: &[(u32, u32)] = &[(0, 10), (1, 11)];
+
+const TEXTS: &[(&str, &str)] = &[("b", "2"), ("a", "1")];
 
 fn commands(alloc: Global) -> Result<Vec<MapCommand<u32, u32>>, AllocError> {
     let mut commands = Vec::with_capacity(alloc, 3)?;
@@ -41,4 +43,50 @@ fn a_run_goes_on_after_a_refused_command(rt: HostRuntime) {
             _ => assert!(rt; false, "{replies:?}"),
         },
     }
+}
+
+#[test]
+fn a_get_whose_clone_is_refused_answers_no_memory(rt: HostRuntime) {
+    let Some(mut map) = text_map(rt.alloc(), TEXTS) else {
+        return;
+    };
+    let (Ok(key), mut commands) = (String::from_str(rt.alloc(), "a"), Vec::new(rt.alloc())) else {
+        return;
+    };
+    if commands.push(MapCommand::Get(key)).is_err() {
+        return;
+    }
+    if let Ok(replies) = run(rt.alloc(), &mut map, commands) {
+        assert_eq!(rt; replies.len(), 1);
+        for reply in &replies {
+            match reply {
+                MapReply::NoMemory => {}
+                MapReply::Value(Some(value)) => assert_eq!(rt; value.as_str(), "1"),
+                _ => assert!(rt; false, "{reply:?}"),
+            }
+        }
+    }
+    assert!(rt; has_pairs(map.as_slice(), TEXTS));
+}
+
+#[test]
+fn a_list_whose_clone_is_refused_answers_no_memory(rt: HostRuntime) {
+    let Some(mut map) = text_map(rt.alloc(), TEXTS) else {
+        return;
+    };
+    let mut commands = Vec::new(rt.alloc());
+    if commands.push(MapCommand::ToVec).is_err() {
+        return;
+    }
+    if let Ok(replies) = run(rt.alloc(), &mut map, commands) {
+        assert_eq!(rt; replies.len(), 1);
+        for reply in &replies {
+            match reply {
+                MapReply::NoMemory => {}
+                MapReply::Pairs(pairs) => assert!(rt; has_pairs(pairs, TEXTS)),
+                _ => assert!(rt; false, "{reply:?}"),
+            }
+        }
+    }
+    assert!(rt; has_pairs(map.as_slice(), TEXTS));
 }

@@ -1,5 +1,6 @@
 //! A set that is full.
 use super::fixtures::full_set;
+use vecmap::VecSet;
 
 const FULL: &[u32] = &[0, 1];
 
@@ -43,4 +44,43 @@ fn the_reserving_calls_leave_all_as_before(rt: HostRuntime) {
         }
         assert_eq!(rt; set.as_slice(), FULL);
     }
+}
+
+#[test]
+fn with_capacity_makes_all_the_room_or_nothing(rt: HostRuntime) {
+    let made: Result<VecSet<u32>, _> = VecSet::with_capacity(rt.alloc(), 3);
+    if let Ok(set) = made {
+        assert!(rt; set.is_empty() && 3 <= set.capacity());
+    }
+}
+
+#[test]
+fn shrinking_without_memory_keeps_the_list(rt: HostRuntime) {
+    let Some(mut set) = full_set(rt.alloc(), 2) else {
+        return;
+    };
+    if set.reserve_exact(8).is_err() {
+        return;
+    }
+    set.shrink_to(5);
+    assert!(rt; 5 <= set.capacity() && set.capacity() <= 10);
+    assert_eq!(rt; set.as_slice(), FULL);
+    set.shrink_to_fit();
+    assert!(rt; 2 <= set.capacity());
+    assert_eq!(rt; set.as_slice(), FULL);
+}
+
+#[test]
+fn reserved_room_takes_inserts_without_memory(rt: HostRuntime) {
+    let mut set = VecSet::new(rt.alloc());
+    if set.reserve(3).is_err() {
+        assert_eq!(rt; (set.len(), set.capacity()), (0, 0));
+        return;
+    }
+    let room = set.capacity();
+    for number in 0..3u32 {
+        assert!(rt; matches!(set.insert(number), Ok(true)));
+    }
+    assert_eq!(rt; set.as_slice(), [0, 1, 2].as_slice());
+    assert_eq!(rt; set.capacity(), room);
 }

@@ -1,29 +1,23 @@
 //! An iterator whose lower size hint says what one likes.
-ghost use Rattle.std.specs.Prelude.{◌+◌, ◌-◌};
+ghost use Rattle.std.specs.Prelude.{◌+◌, length};
 ghost use Rattle.std.specs.Iterator.{at_most};
 
-/// The numbers from `next` to before `end`, each with the character `mark`. As the hint may be above their number,
-/// `remaining` is above it too.
+/// The items of a slice, lent one after another. As the hint may be above their number, `remaining` is above it too.
 #[derive(Drop)]
-pub struct Hinted {
-    pub next: u32,
-    pub end: u32,
-    pub mark: char,
+pub struct Hinted<'a, T> {
+    pub items: &'a [T],
     pub hint: usize,
 }
 
-impl Iterator for Hinted {
-    type Item = (u32, char);
+impl<'a, T> Iterator for Hinted<'a, T> {
+    type Item = &'a T;
 
-    ghost remaining = { λ s. at_most (s.hint + (s.end - s.next)) };
+    ghost remaining = { λ s. at_most (s.hint + length s.items.now) };
 
-    fn next(&mut self) -> Option<(u32, char)> {
-        if self.next >= self.end {
-            return None;
-        }
-        let number = self.next;
-        self.next += 1;
-        Some((number, self.mark))
+    fn next(&mut self) -> Option<&'a T> {
+        let (first, rest) = self.items.split_first()?;
+        self.items = rest;
+        Some(first)
     }
 
     fn size_hint(&self) -> (usize, Option<usize>) {

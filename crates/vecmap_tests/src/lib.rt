@@ -1,6 +1,7 @@
 //! Tests of the maps and sets that users name.
 #![tactic(auto)]
 
+pub mod bulk_callers;
 pub mod entry_callers;
 pub mod equality_callers;
 #[cfg(test)]
@@ -8,6 +9,8 @@ mod hinted;
 #[cfg(test)]
 mod items;
 pub mod lent_callers;
+#[cfg(test)]
+mod lookups;
 pub mod macros;
 #[cfg(test)]
 mod map_bulk;
@@ -15,6 +18,8 @@ mod map_bulk;
 mod map_entry;
 #[cfg(test)]
 mod map_equality;
+#[cfg(test)]
+mod map_hints;
 #[cfg(test)]
 mod map_insertion;
 #[cfg(test)]
@@ -29,6 +34,11 @@ mod map_removal;
 mod map_room;
 #[cfg(test)]
 mod map_run;
+pub mod readme;
+#[cfg(test)]
+mod repeats;
+#[cfg(test)]
+mod set_bulk;
 pub mod set_callers;
 #[cfg(test)]
 mod set_conversion;

@@ -1,10 +1,9 @@
 //! Maps of many pairs at once, with keys that are equal and not identical.
-use super::hinted::Hinted;
 use super::items::{Item, assert_pairs, item_map, make_item};
 use super::told::{Log, told_pairs};
 use std::alloc::{AllocError, Global};
 use std::test::Fail;
-use vecmap::VecMap;
+use vecmap::{VecMap, keys_distinct};
 
 // The items of these pairs, in a vector.
 fn item_pairs(alloc: Global, pairs: &[(u32, char, u32)]) -> Result<Vec<(Item, u32)>, AllocError> {
@@ -89,6 +88,42 @@ fn a_vector_is_made_a_map_by_the_comparisons_it_counts(rt: HostRuntime) -> Resul
 
 #[test]
 fn all_ways_of_many_pairs_agree_with_single_inserts(rt: HostRuntime) -> Result<(), Fail> {
+    let pairs = [
+        (make_item(1, 'x'), 1),
+        (make_item(2, 'b'), 2),
+        (make_item(1, 'y'), 3),
+    ];
+    let mut single = VecMap::new(rt.alloc());
+    let mut appended = VecMap::new(rt.alloc());
+    for pair in pairs {
+        single.insert(pair.0, pair.1)?;
+        let mut other = VecMap::from_slice(rt.alloc(), &[pair])?;
+        appended.append(&mut other)?;
+    }
+    let mut extended = VecMap::new(rt.alloc());
+    extended.extend(pairs)?;
+    let mut by_refs = VecMap::new(rt.alloc());
+    by_refs.extend_refs(pairs.iter().map(|pair| (&pair.0, &pair.1)))?;
+    let mut by_pairs = VecMap::new(rt.alloc());
+    by_pairs.extend_pairs(&pairs)?;
+    for map in [
+        single,
+        appended,
+        extended,
+        by_refs,
+        by_pairs,
+        VecMap::from(pairs.to_vec(rt.alloc())?),
+        VecMap::from_iter(rt.alloc(), pairs)?,
+        VecMap::from_slice(rt.alloc(), &pairs)?,
+        pairs.iter().copied().collect(rt.alloc())?,
+    ] {
+        assert_pairs(&rt, map.as_slice(), &[(1, 'x', 3), (2, 'b', 2)]);
+    }
+    Ok(())
+}
+
+#[test]
+fn the_last_value_of_a_key_is_found(rt: HostRuntime) -> Result<(), Fail> {
     let pairs = [("a", 1), ("b", 2), ("a", 3)];
     let mut single = VecMap::new(rt.alloc());
     for pair in pairs {
@@ -112,17 +147,25 @@ fn all_ways_of_many_pairs_agree_with_single_inserts(rt: HostRuntime) -> Result<(
 
 #[test]
 fn extending_keeps_stored_keys(rt: HostRuntime) -> Result<(), Fail> {
+    let start = || item_map(rt.alloc(), &[(1, 'x', 10)]);
     let more = [(make_item(1, 'y'), 20), (make_item(2, 'z'), 30)];
-    let left = [(1, 'x', 20), (2, 'z', 30)];
-    let mut map = item_map(rt.alloc(), &[(1, 'x', 10)])?;
-    map.extend(more)?;
-    assert_pairs(&rt, map.as_slice(), &left);
-    let mut map = item_map(rt.alloc(), &[(1, 'x', 10)])?;
-    map.extend_pairs(&more)?;
-    assert_pairs(&rt, map.as_slice(), &left);
-    let mut map = item_map(rt.alloc(), &[(1, 'x', 10)])?;
-    map.extend_refs(more.iter().map(|pair| (&pair.0, &pair.1)))?;
-    assert_pairs(&rt, map.as_slice(), &left);
+    let mut single = start()?;
+    for pair in more {
+        single.insert(pair.0, pair.1)?;
+    }
+    let mut extended = start()?;
+    extended.extend(more)?;
+    let mut by_refs = start()?;
+    by_refs.extend_refs(more.iter().map(|pair| (&pair.0, &pair.1)))?;
+    let mut by_pairs = start()?;
+    by_pairs.extend_pairs(&more)?;
+    let mut appended = start()?;
+    let mut other = VecMap::from_slice(rt.alloc(), &more)?;
+    appended.append(&mut other)?;
+    assert!(rt; other.is_empty());
+    for map in [single, extended, by_refs, by_pairs, appended] {
+        assert_pairs(&rt, map.as_slice(), &[(1, 'x', 20), (2, 'z', 30)]);
+    }
     Ok(())
 }
 
@@ -150,53 +193,6 @@ fn append_puts_all_and_leaves_the_room_of_the_other(rt: HostRuntime) -> Result<(
 }
 
 #[test]
-fn a_size_hint_decides_nothing_but_the_room(rt: HostRuntime) -> Result<(), Fail> {
-    let (next, end) = (1, 4);
-    for (hint, room) in [(0, 3), (1, 3), (3, 3), (20, 20)] {
-        let map = VecMap::from_iter(
-            rt.alloc(),
-            Hinted {
-                next,
-                end,
-                mark: 'm',
-                hint,
-            },
-        )?;
-        assert_eq!(rt; map.as_slice(), [(1, 'm'), (2, 'm'), (3, 'm')].as_slice());
-        assert!(rt; room <= map.capacity());
-        let mut map = VecMap::from(vec![in rt.alloc(); (2, 'a')]?);
-        map.extend(Hinted {
-            next,
-            end,
-            mark: 'm',
-            hint,
-        })?;
-        assert_eq!(rt; map.as_slice(), [(2, 'm'), (1, 'm'), (3, 'm')].as_slice());
-        assert!(rt; hint.div_ceil(2) < map.capacity());
-    }
-    Ok(())
-}
-
-#[test]
-fn room_for_the_greatest_hint_is_refused(rt: HostRuntime) -> Result<(), Fail> {
-    let (next, end, mark) = (1, 2, 'm');
-    let one = || Hinted {
-        next,
-        end,
-        mark,
-        hint: usize::MAX,
-    };
-    let mut map = VecMap::new(rt.alloc());
-    assert!(rt; map.extend(one()).is_err());
-    assert_eq!(rt; (map.len(), map.capacity()), (0, 0));
-    map.extend([(5, 'a')])?;
-    assert!(rt; map.extend(one()).is_err());
-    assert_eq!(rt; map.as_slice(), [(5, 'a')].as_slice());
-    assert!(rt; VecMap::from_iter(rt.alloc(), one()).is_err());
-    Ok(())
-}
-
-#[test]
 fn clones_hold_the_pairs_in_their_order(rt: HostRuntime) -> Result<(), Fail> {
     for pairs in [[].as_slice(), [(2, 'b', 20), (1, 'a', 10)].as_slice()] {
         let map = item_map(rt.alloc(), pairs)?;
@@ -209,10 +205,20 @@ fn clones_hold_the_pairs_in_their_order(rt: HostRuntime) -> Result<(), Fail> {
 
 #[test]
 fn slices_of_every_kind_of_pair_come_back(rt: HostRuntime) -> Result<(), Fail> {
-    let numbered = VecMap::from_slice(rt.alloc(), &[(1i64, "foo"), (2, "bar")])?;
-    assert_eq!(rt; numbered.as_slice(), [(1, "foo"), (2, "bar")].as_slice());
-    let named = VecMap::from_slice(rt.alloc(), &[("foo", 1i64), ("bar", 2)])?;
-    assert_eq!(rt; named.as_slice(), [("foo", 1), ("bar", 2)].as_slice());
+    let (foo, bar) = (
+        String::from_str(rt.alloc(), "foo")?,
+        String::from_str(rt.alloc(), "bar")?,
+    );
+    let pairs = [(1i64, foo), (2, bar)];
+    let numbered = VecMap::from_slice(rt.alloc(), &pairs)?;
+    assert_eq!(rt; numbered.as_slice(), pairs.as_slice());
+    let (foo, bar) = (
+        String::from_str(rt.alloc(), "foo")?,
+        String::from_str(rt.alloc(), "bar")?,
+    );
+    let pairs = [(foo, 1i64), (bar, 2)];
+    let named = VecMap::from_slice(rt.alloc(), &pairs)?;
+    assert_eq!(rt; named.as_slice(), pairs.as_slice());
     let told = VecMap::from_slice(rt.alloc(), &[(true, 1i64), (false, 2)])?;
     assert_eq!(rt; told.as_slice(), [(true, 1), (false, 2)].as_slice());
     let flags = VecMap::from_slice(rt.alloc(), &[(1i64, true), (2, false)])?;
@@ -222,18 +228,18 @@ fn slices_of_every_kind_of_pair_come_back(rt: HostRuntime) -> Result<(), Fail> {
 
 #[test]
 fn distinct_keys_are_told_from_repeats(rt: HostRuntime) -> Result<(), Fail> {
-    let no_pairs: Vec<(u32, char)> = Vec::new(rt.alloc());
-    assert!(rt; vecmap_base::keys_distinct(&no_pairs));
-    assert!(rt; VecMap::from_vec_unchecked(no_pairs).has_distinct_keys());
-    for (pairs, is_distinct) in [([(1, 'a'), (2, 'a')], true), ([(1, 'a'), (1, 'b')], false)] {
-        let pairs = pairs.to_vec(rt.alloc())?;
-        if !vecmap_base::keys_distinct(&pairs) {
-            assert!(rt; !is_distinct);
-            continue;
+    for (pairs, is_distinct) in [
+        ([].as_slice(), true),
+        ([(1, 'a'), (2, 'a')].as_slice(), true),
+        ([(1, 'a'), (2, 'b'), (1, 'a')].as_slice(), false),
+    ] {
+        assert_eq!(rt; keys_distinct(pairs), is_distinct);
+        let pairs_again = pairs.to_vec(rt.alloc())?;
+        if keys_distinct(&pairs_again) {
+            let map = VecMap::from_vec_unchecked(pairs_again);
+            assert!(rt; map.has_distinct_keys());
+            assert_eq!(rt; map.as_slice(), pairs);
         }
-        let map = VecMap::from_vec_unchecked(pairs);
-        assert!(rt; is_distinct && map.has_distinct_keys());
-        assert_eq!(rt; map.as_slice(), [(1, 'a'), (2, 'a')].as_slice());
     }
     Ok(())
 }

@@ -1,8 +1,23 @@
 //! Equality of maps.
 use super::items::item_map;
 use super::told::{Log, told_pairs};
+use std::alloc::Global;
 use std::test::Fail;
 use vecmap::VecMap;
+use vecmap::map::MutableKeys;
+
+// The map whose list is these pairs, repeats too: each key is written at its place.
+fn map_with_keys(alloc: Global, pairs: &[(usize, u32)]) -> Result<VecMap<usize, u32>, Fail> {
+    let mut map = VecMap::new(alloc);
+    for (place, pair) in pairs.iter().enumerate() {
+        map.insert(place, pair.1)?;
+    }
+    for (place, pair) in pairs.iter().enumerate() {
+        let (key, _value) = map.get_index_mut2(place).ok_or("nothing there")?;
+        *key = pair.0;
+    }
+    Ok(map)
+}
 
 #[test]
 fn equality_ignores_order_and_nothing_else(rt: HostRuntime) -> Result<(), Fail> {
@@ -30,6 +45,44 @@ fn equality_takes_equal_keys_for_the_same(rt: HostRuntime) -> Result<(), Fail> {
     assert!(rt; one == other && other == one);
     let shifted = item_map(rt.alloc(), &[(3, 'p', 20), (2, 'q', 30), (1, 'y', 10)])?;
     assert!(rt; one != shifted && shifted != one);
+    Ok(())
+}
+
+#[test]
+fn maps_of_the_same_pairs_are_equal(rt: HostRuntime) -> Result<(), Fail> {
+    let one = VecMap::from_slice(rt.alloc(), &[("a", 1)])?;
+    let two = VecMap::from_slice(rt.alloc(), &[("a", 1), ("b", 2)])?;
+    assert!(rt; one == VecMap::from_slice(rt.alloc(), &[("a", 1)])?);
+    assert!(rt; two == VecMap::from_slice(rt.alloc(), &[("a", 1), ("b", 2)])?);
+    assert!(rt; one != two && two != one);
+    Ok(())
+}
+
+#[test]
+fn repeats_are_equal_where_they_occur_equally_often(rt: HostRuntime) -> Result<(), Fail> {
+    for (pairs, others, is_equal) in [
+        (
+            [(1, 5), (1, 5)].as_slice(),
+            [(1, 5), (2, 5)].as_slice(),
+            false,
+        ),
+        (
+            [(1, 5), (1, 6)].as_slice(),
+            [(1, 6), (1, 5)].as_slice(),
+            true,
+        ),
+        (
+            [(1, 5), (1, 5), (1, 6)].as_slice(),
+            [(1, 5), (1, 6), (1, 6)].as_slice(),
+            false,
+        ),
+    ] {
+        let one = map_with_keys(rt.alloc(), pairs)?;
+        let other = map_with_keys(rt.alloc(), others)?;
+        assert!(rt; one.as_slice() == pairs && other.as_slice() == others);
+        assert_eq!(rt; one == other, is_equal);
+        assert_eq!(rt; other == one, is_equal);
+    }
     Ok(())
 }
 

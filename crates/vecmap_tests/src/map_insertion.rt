@@ -24,6 +24,25 @@ fn insert_full_answers_the_place(rt: HostRuntime) -> Result<(), Fail> {
 }
 
 #[test]
+fn insert_full_keeps_the_stored_key(rt: HostRuntime) -> Result<(), Fail> {
+    let mut map = item_map(rt.alloc(), &[(1, 'x', 10), (2, 'b', 20)])?;
+    assert_eq!(rt; map.insert_full(make_item(2, 'y'), 30)?, (1, Some(20)));
+    assert_pairs(&rt, map.as_slice(), &[(1, 'x', 10), (2, 'b', 30)]);
+    Ok(())
+}
+
+#[test]
+fn insert_at_takes_a_key_to_the_front(rt: HostRuntime) -> Result<(), Fail> {
+    let mut map = VecMap::new(rt.alloc());
+    assert_eq!(rt; map.insert_at(0, "a", 1)?, None);
+    assert!(rt; 1 <= map.len());
+    assert_eq!(rt; map.insert_at(1, "b", 2)?, None);
+    assert_eq!(rt; map.insert_at(0, "b", 3)?, Some((1, 2)));
+    assert_eq!(rt; map.as_slice(), [("b", 3), ("a", 1)].as_slice());
+    Ok(())
+}
+
+#[test]
 fn insert_at_moves_a_key_that_is_there(rt: HostRuntime) -> Result<(), Fail> {
     let mut map = VecMap::new(rt.alloc());
     assert_eq!(rt; map.insert_at(0, 'a', 1)?, None);

@@ -1,4 +1,4 @@
-//! Lookups in a map by key, by place and by text.
+//! Lookups in a map by key, by place and by text, and how a map prints.
 use super::items::{assert_pairs, item_map, make_item};
 use std::test::Fail;
 use vecmap::VecMap;
@@ -54,5 +54,15 @@ fn text_keys_are_found_by_their_bytes(rt: HostRuntime) -> Result<(), Fail> {
     assert_eq!(rt; map.len(), 1);
     let (key, value) = map.first().ok_or("empty")?;
     assert_eq!(rt; (key.as_str(), *value), ("a", 1));
+    Ok(())
+}
+
+#[test]
+fn a_map_prints_its_pairs_in_order(rt: HostRuntime) -> Result<(), Fail> {
+    let map = VecMap::from_slice(rt.alloc(), &[("b", 2), ("a", 1)])?;
+    assert_eq!(rt;
+        format!(in rt.alloc(); "{map:?}")?.as_str(),
+        "{\"b\": 2, \"a\": 1}"
+    );
     Ok(())
 }

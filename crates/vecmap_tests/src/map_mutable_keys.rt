@@ -1,6 +1,7 @@
 //! Keys of a map that are lent to be written.
 use super::items::{assert_pairs, item_map, make_item};
 use std::test::Fail;
+use vecmap::VecMap;
 use vecmap::map::MutableKeys;
 
 #[test]
@@ -28,5 +29,16 @@ fn a_key_lends_itself_its_place_and_its_value(rt: HostRuntime) -> Result<(), Fai
     assert_pairs(&rt, map.as_slice(), &[(1, 'a', 1), (3, 'c', 9)]);
     assert!(rt; map.get_full_mut2(&make_item(2, 'z')).is_none());
     assert_pairs(&rt, map.as_slice(), &[(1, 'a', 1), (3, 'c', 9)]);
+    Ok(())
+}
+
+#[test]
+fn a_repeat_stays_when_the_first_is_removed(rt: HostRuntime) -> Result<(), Fail> {
+    let mut map = VecMap::from_slice(rt.alloc(), &[(1, 5), (2, 5)])?;
+    let (key, _value) = map.get_index_mut2(1).ok_or("nothing there")?;
+    *key = 1;
+    assert_eq!(rt; map.as_slice(), [(1, 5), (1, 5)].as_slice());
+    assert_eq!(rt; map.remove(&1), Some(5));
+    assert_eq!(rt; map.as_slice(), [(1, 5)].as_slice());
     Ok(())
 }

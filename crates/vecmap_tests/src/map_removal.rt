@@ -76,3 +76,22 @@ fn the_order_changes_as_named(rt: HostRuntime) -> Result<(), Fail> {
     assert!(rt; map.into_vec().is_empty());
     Ok(())
 }
+
+#[test]
+fn reverse_turns_the_order_round(rt: HostRuntime) -> Result<(), Fail> {
+    let mut map = VecMap::from_slice(rt.alloc(), &[("a", 1), ("b", 2), ("c", 3)])?;
+    map.reverse();
+    assert_eq!(rt; map.as_slice(), [("c", 3), ("b", 2), ("a", 1)].as_slice());
+    Ok(())
+}
+
+#[test]
+fn the_vector_of_a_map_has_its_pairs_and_its_room(rt: HostRuntime) -> Result<(), Fail> {
+    let mut map = VecMap::with_capacity(rt.alloc(), 5)?;
+    map.extend([("b", 2), ("a", 1)])?;
+    let room = map.capacity();
+    let pairs = map.into_vec();
+    assert_eq!(rt; pairs.as_slice(), [("b", 2), ("a", 1)].as_slice());
+    assert_eq!(rt; pairs.capacity(), room);
+    Ok(())
+}

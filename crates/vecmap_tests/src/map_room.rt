@@ -67,3 +67,13 @@ fn shrinking_goes_no_lower_than_its_limit(rt: HostRuntime) -> Result<(), Fail> {
     assert_eq!(rt; map.capacity(), 0);
     Ok(())
 }
+
+#[test]
+fn shrinking_to_fit_keeps_the_pairs(rt: HostRuntime) -> Result<(), Fail> {
+    let mut map = VecMap::with_capacity(rt.alloc(), 10)?;
+    map.extend([("b", 2), ("a", 1)])?;
+    map.shrink_to_fit();
+    assert_eq!(rt; map.as_slice(), [("b", 2), ("a", 1)].as_slice());
+    assert!(rt; 2 <= map.capacity() && map.capacity() < 10);
+    Ok(())
+}

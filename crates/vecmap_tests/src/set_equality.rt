@@ -22,6 +22,10 @@ fn sets_are_related_by_their_elements_alone(rt: HostRuntime) -> Result<(), Fail>
         ([1, 2].as_slice(), [3].as_slice(), false, false, true),
         ([1, 2].as_slice(), [2].as_slice(), false, true, false),
         ([].as_slice(), [1].as_slice(), true, false, true),
+        ([1, 2, 3].as_slice(), [4].as_slice(), false, false, true),
+        ([4].as_slice(), [1, 2, 3].as_slice(), false, false, true),
+        ([1, 2, 3].as_slice(), [3].as_slice(), false, true, false),
+        ([3].as_slice(), [1, 2, 3].as_slice(), true, false, false),
     ] {
         let set: VecSet<u32> = set_of(rt.alloc(), numbers)?;
         let other = set_of(rt.alloc(), others)?;
@@ -46,12 +50,12 @@ fn sets_are_related_by_their_elements_alone(rt: HostRuntime) -> Result<(), Fail>
 
 #[test]
 fn relations_compare_no_more_than_they_say(rt: HostRuntime) -> Result<(), Fail> {
-    for (numbers, others, is_equal, to_equal, to_contain, to_meet) in [
-        ([1, 2, 3].as_slice(), [1, 2].as_slice(), false, 0, 0, 1),
-        ([1, 2].as_slice(), [1, 2, 3].as_slice(), false, 0, 3, 1),
-        ([1, 2, 3].as_slice(), [1, 2, 3].as_slice(), true, 6, 6, 1),
-        ([4, 5, 1].as_slice(), [1, 9].as_slice(), false, 0, 0, 3),
-        ([1, 9].as_slice(), [4, 5, 1].as_slice(), false, 0, 6, 3),
+    for (numbers, others, is_equal, to_equal, to_contain, to_hold, to_meet) in [
+        ([1, 2, 3].as_slice(), [1, 2].as_slice(), false, 0, 0, 3, 1),
+        ([1, 2].as_slice(), [1, 2, 3].as_slice(), false, 0, 3, 0, 1),
+        ([1, 2, 3].as_slice(), [1, 2, 3].as_slice(), true, 6, 6, 6, 1),
+        ([4, 5, 1].as_slice(), [1, 9].as_slice(), false, 0, 0, 6, 3),
+        ([1, 9].as_slice(), [4, 5, 1].as_slice(), false, 0, 6, 0, 3),
     ] {
         let log = Log::new();
         let set = VecSet::from(told_items(rt.alloc(), &log, numbers)?);
@@ -63,8 +67,11 @@ fn relations_compare_no_more_than_they_say(rt: HostRuntime) -> Result<(), Fail> 
         let _is_subset = set.is_subset(&other);
         let contained = log.comparisons();
         assert_eq!(rt; contained.wrapping_sub(equal), to_contain);
+        let _is_superset = set.is_superset(&other);
+        let held = log.comparisons();
+        assert_eq!(rt; held.wrapping_sub(contained), to_hold);
         assert!(rt; !set.is_disjoint(&other));
-        assert_eq!(rt; log.comparisons().wrapping_sub(contained), to_meet);
+        assert_eq!(rt; log.comparisons().wrapping_sub(held), to_meet);
     }
     Ok(())
 }

@@ -1,0 +1,31 @@
+//! The example of the README.
+ghost use Rattle.std.specs.Prelude.{◌≡◌, ◌∷◌, IfOk, List, [], codes, map, ℕ};
+
+use std::alloc::{AllocError, Global};
+use vecmap::VecMap;
+
+/// The README's function, and what a proof knows of the map that it makes.
+pub fn headers(alloc: Global) -> Result<VecMap<&'static str, u32>, AllocError>
+    ensures { IfOk result (λ made. map {B = List ℕ × ℕ} (λ pair. (pair.0.now, pair.1)) made.entries ≡ (codes "age", 30) ∷ (codes "max", 20) ∷ []) }
+{
+    let mut map = VecMap::new(alloc);
+    map.insert("age", 10)?;
+    map.insert("max", 20)?;
+    map.insert("age", 30)?;
+    Ok(map) // [("age", 30), ("max", 20)]
+}
+
+#[cfg(test)]
+mod tests {
+    use super::*;
+    use std::test::Fail;
+
+    #[test]
+    fn the_example_of_the_readme_gives_its_list(rt: HostRuntime) -> Result<(), Fail> {
+        assert_eq!(rt;
+            headers(rt.alloc())?.as_slice(),
+            [("age", 30), ("max", 20)].as_slice()
+        );
+        Ok(())
+    }
+}
