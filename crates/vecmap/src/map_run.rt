@@ -5,7 +5,7 @@ ghost use Rattle.vecmap.specs.MapRun.{Run, Step};
 use std::alloc::{AllocError, Global};
 use vecmap_map::VecMap;
 
-/// What `run` does to a map: each command is the call of its name.
+/// What `run` does to a map: each command is one call.
 #[derive(Debug, Drop)]
 pub enum MapCommand<K, V> {
     /// `insert`, answered by `Value`, the old one, or `NoMemory`.

@@ -1,7 +1,7 @@
--- Keys that are distinct stay so in every list that a call leaves which writes no key.
-use Rattle.std.specs.Prelude.{◌≡◌, ℕ, ◌-◌, ◌<◌, Bool, false, List, [], ◌∷◌, Option, None, Some, insert, is_some, length, min, remove, reverse, slice_get, swap, take, refl}
+-- Keys that are distinct stay so in the lists that calls leave.
+use Rattle.std.specs.Prelude.{◌≡◌, ℕ, ◌-◌, ◌<◌, Bool, false, List, [], ◌∷◌, ◌++◌, Option, None, Some, IsTrue, insert, is_some, length, min, remove, reverse, slice_get, swap, take, refl}
 use Rattle.std.specs.Cmp.{IsEquivalence}
-use Rattle.std.specs.List.{IsDistinct, swap_remove}
+use Rattle.std.specs.List.{IsDistinct, list_any, swap_remove}
 use Rattle.std.specs.List.Sorted.{IsPermutation}
 use Rattle.std.specs.Map.{keys_of}
 use Rattle.std.specs.Option.{option_map_or}
@@ -9,13 +9,14 @@ use Rattle.std.proofs.Common.{sym, ap, subst, get_or, ◌∙◌}
 use Rattle.std.proofs.lemmas.List.{take-map}
 use Rattle.std.proofs.lemmas.List.Sorted.{IsPermutation-map, IsPermutation-reverse, IsPermutation-swap, IsPermutation-swap_remove}
 use Rattle.std.proofs.lemmas.Map.Keys.{IsDistinct-tail}
+use Rattle.std.proofs.lemmas.Map.Steps.{list_any_congr}
 use Rattle.std.proofs.lemmas.Option.{get_or_from_slice_get, slice_get_within}
 use Rattle.vecmap_base.specs.Clones.{AreClones, ClonesAreSame, IsPairClone}
 use Rattle.vecmap_base.specs.Items.{has_item, swap_without, without_item}
 use Rattle.vecmap_base.specs.Pairs.{HasDistinctKeys, index_by, index_of, put, put_at, put_key, puts, swap_without_key, with_value, without_by}
 use Rattle.vecmap_base.proofs.ItemsLemmas.{without_item_absent}
 use Rattle.vecmap_base.proofs.KeyLaws.{index_of_is, keys_of-insert, keys_of-put, keys_of-put_key, keys_of-puts, keys_of-remove}
-use Rattle.vecmap_base.proofs.PairsLemmas.{keys_of-with_value, put_at_absent, put_at_present}
+use Rattle.vecmap_base.proofs.PairsLemmas.{index_of_none, is_some-index_of, keys_of-with_value, put_absent, put_at_absent, put_at_present}
 use Rattle.vecmap_base.proofs.Places.{is_some-position}
 use Rattle.vecmap_base.proofs.StaysDistinct.{distinct_add, distinct_add_new, distinct_adds, distinct_clones, distinct_insert, distinct_rearranged, distinct_remove, distinct_take}
 
@@ -69,6 +70,12 @@ module _ {K V : Type 0} (eq : K → K → Bool) where
         by : (found : Option ℕ) → HasDistinctKeys eq (option_map_or (λ i. swap_without l i) found l)
         by None = d
         by (Some i) = distinct_keys_swap_without l i d
+
+    -- a key that is there for none is stored as a clone
+    pub distinct_keys_stored : (l : List (K × V)) (k stored : K) (v : V) → IsTrue (eq k stored) → index_of eq l k ≡ None → HasDistinctKeys eq l → HasDistinctKeys eq (l ++ (stored, v) ∷ [])
+    distinct_keys_stored l k stored v same e d =
+        let absent : list_any (eq stored) (keys_of l) ≡ false = sym (list_any_congr o k stored (keys_of l) same) ∙ sym (is_some-index_of eq l k) ∙ ap is_some e in
+        subst (HasDistinctKeys eq) (put_absent eq l stored v (index_of_none eq l stored absent)) (subst (IsDistinct eq) (sym (keys_of-put eq l stored v)) (distinct_add eq o (keys_of l) stored d))
 
     pub distinct_keys_clones : (key_clone : K → K → Type 0) (value_clone : V → V → Type 0) → ClonesAreSame eq key_clone → (l m : List (K × V)) → AreClones (IsPairClone key_clone value_clone) l m → HasDistinctKeys eq l → HasDistinctKeys eq m
     distinct_keys_clones C D same l m c = distinct_clones eq o C same (keys_of l) (keys_of m) (keys_of-clones C D l m c)

@@ -1,6 +1,6 @@
 //! Making a map of many pairs, and putting many pairs into one.
 ghost use Rattle.std.specs.Prelude.{◌≡◌, ◌+◌, ◌<◌, ◌≤◌, ◌⊎◌, ◌-◌, ◌/◌, IfOk, IsOk, List, OnErr, OnOk, [], if◌then◌else◌, length, map};
-ghost use Rattle.std.specs.Iterator.{Drains, ExtendsWithItems, IsFinite};
+ghost use Rattle.std.specs.Iterator.{Drains, ExtendsWithItems, IsFiniteIterable};
 ghost use Rattle.std.specs.Map.Iter.{deref_pair};
 ghost use Rattle.vecmap_base.specs.Bulk.{HasRoomForAll, StopsAt};
 ghost use Rattle.vecmap_base.specs.Clones.{AreClones, IsPairClone};
@@ -12,7 +12,7 @@ use crate::VecMap;
 use std::alloc::{AllocError, Global};
 
 impl<K, V> VecMap<K, V> {
-    /// Puts the pairs of an iterator that ends into an empty map, in their order. Refused, nothing is made.
+    /// Puts the pairs of an iterator, which must end, into an empty map, in their order. Refused, nothing is made.
     ///
     /// Room is made first, for as many pairs as the lower size hint of the iterator says. Each pair takes one lookup.
     pub fn from_iter<I: IntoIterator<Item = (K, V)>>(
@@ -22,7 +22,7 @@ impl<K, V> VecMap<K, V> {
     where
         K: Eq + Drop,
         V: Drop,
-        requires { (it : I.IntoIter) → I.into_iter_gives iter it → I.IntoIter.can_next it × IsFinite (I.IntoIter.remaining it) }
+        requires ends { IsFiniteIterable I.into_iter_gives I.IntoIter.can_next I.IntoIter.remaining iter }
         ensures { IfOk result (λ map. (it : I.IntoIter) × (pairs : List (K × V)) × I.into_iter_gives iter it × Drains I.IntoIter.next_gives it pairs × (map.entries ≡ puts K.eq [] pairs)) }
     {
         let mut map = VecMap::new(alloc);
@@ -90,17 +90,17 @@ impl<K, V> VecMap<K, V> {
         Ok(())
     }
 
-    /// Puts the pairs of an iterator that ends, in their order.
+    /// Puts the pairs of an iterator, which must end, in their order.
     ///
     /// Room is made first, for as many pairs as the lower size hint of the iterator says where the map is empty, and
-    /// else for half of them, rounded up, as some keys may be there already. The hint decides nothing else. Refused at that,
-    /// nothing has changed. Refused at a pair, those before it stay, and that pair is dropped with the iterator. Each
-    /// pair takes one lookup.
+    /// else for half of them, rounded up, as some keys may be there already. The hint decides nothing else. Refused at
+    /// the room, nothing has changed. Refused at a pair, those before it stay, and that pair is dropped with the
+    /// iterator. Each pair takes one lookup.
     pub fn extend<I: IntoIterator<Item = (K, V)>>(&mut self, iter: I) -> Result<(), AllocError>
     where
         K: Eq + Drop,
         V: Drop,
-        requires { (it : I.IntoIter) → I.into_iter_gives iter it → I.IntoIter.can_next it × IsFinite (I.IntoIter.remaining it) }
+        requires ends { IsFiniteIterable I.into_iter_gives I.IntoIter.can_next I.IntoIter.remaining iter }
         ensures ran { ExtendsWithItems I.into_iter_gives I.IntoIter.next_gives (Puts K.eq) iter self.old self.new result }
         ensures capacity { self.old.capacity ≤ self.new.capacity }
         ensures enough { HasRoomForAll I.into_iter_gives I.IntoIter.remaining iter (length self.old.entries) self.old.capacity → IsOk result }
@@ -127,7 +127,7 @@ impl<K, V> VecMap<K, V> {
     where
         K: Eq + Clone + 'a,
         V: Clone + 'a,
-        requires { (it : I.IntoIter) → I.into_iter_gives iter it → I.IntoIter.can_next it × IsFinite (I.IntoIter.remaining it) }
+        requires ends { IsFiniteIterable I.into_iter_gives I.IntoIter.can_next I.IntoIter.remaining iter }
         ensures ran { ExtendsWithItems I.into_iter_gives I.IntoIter.next_gives (λ old items new. PutsClones K.eq K.is_clone V.is_clone old (map deref_pair items) new) iter self.old self.new result }
         ensures capacity { self.old.capacity ≤ self.new.capacity }
         ensures enough { HasRoomForAll I.into_iter_gives I.IntoIter.remaining iter (length self.old.entries) self.old.capacity → ((k : K) → K.is_infallible k) → ((v : V) → V.is_infallible v) → IsOk result }
@@ -152,7 +152,7 @@ impl<K, V> VecMap<K, V> {
     where
         K: Eq + Clone + 'a,
         V: Clone + 'a,
-        requires { (it : I.IntoIter) → I.into_iter_gives iter it → I.IntoIter.can_next it × IsFinite (I.IntoIter.remaining it) }
+        requires ends { IsFiniteIterable I.into_iter_gives I.IntoIter.can_next I.IntoIter.remaining iter }
         ensures ran { ExtendsWithItems I.into_iter_gives I.IntoIter.next_gives (λ old items new. PutsClones K.eq K.is_clone V.is_clone old (map (λ p. p.now) items) new) iter self.old self.new result }
         ensures capacity { self.old.capacity ≤ self.new.capacity }
         ensures enough { HasRoomForAll I.into_iter_gives I.IntoIter.remaining iter (length self.old.entries) self.old.capacity → ((k : K) → K.is_infallible k) → ((v : V) → V.is_infallible v) → IsOk result }

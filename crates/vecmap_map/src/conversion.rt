@@ -42,7 +42,7 @@ impl<K, V> VecMap<K, V> {
     pub fn from_vec_unchecked(pairs: Vec<(K, V)>) -> VecMap<K, V>
     where
         K: Eq,
-        requires { HasDistinctKeys K.eq pairs.items }
+        requires distinct { HasDistinctKeys K.eq pairs.items }
         ensures entries { result.entries ≡ pairs.items }
         ensures capacity { result.capacity ≡ vec_capacity pairs }
     {

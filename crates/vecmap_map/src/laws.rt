@@ -1,10 +1,10 @@
 //! Laws of the definitions that the contracts cite. A call of one costs nothing, and gives a proof the law.
-ghost use Rattle.std.specs.Prelude.{◌≡◌, ◌≢◌, ◌<◌, ℕ, Bool, IsTrue, List, [], false, length, remove, reverse, swap, take};
+ghost use Rattle.std.specs.Prelude.{◌≡◌, ◌≢◌, ◌<◌, ◌++◌, ◌∷◌, ℕ, Bool, IsTrue, List, None, [], false, length, remove, reverse, swap, take};
 ghost use Rattle.std.specs.List.Sorted.{IsPermutation};
 ghost use Rattle.vecmap_base.specs.Clones.{AreClones, ClonesAreSame, IsPairClone};
 ghost use Rattle.vecmap_base.specs.Equality.{agrees, counts_agree, has_same_counts, same_option};
 ghost use Rattle.vecmap_base.specs.Items.{swap_without};
-ghost use Rattle.vecmap_base.specs.Pairs.{HasDistinctKeys, lookup, put, put_at, puts, swap_without_key, with_value, without_by};
+ghost use Rattle.vecmap_base.specs.Pairs.{HasDistinctKeys, index_of, lookup, put, put_at, puts, swap_without_key, with_value, without_by};
 
 /// Equality of maps is reflexive, symmetric and transitive, also where keys repeat.
 pub fn equality_is_an_equivalence<K: Eq, V: Eq>()
@@ -31,7 +31,8 @@ pub fn lengths_tell_of_equality<K: Eq, V: Eq>()
     ensures half { (a b : List (K × V)) → length a ≡ length b → has_same_counts K.eq V.eq a b ≡ counts_agree K.eq V.eq a a b }
 {}
 
-/// Where no keys repeat, none do after an insertion, a write of a value, or any number of puts.
+/// Where no keys repeat, none do after an insertion, a write of a value, or any number of puts, nor in what puts make
+/// of the empty list.
 pub fn insertion_keeps_keys_distinct<K: Eq, V>()
     ensures put { (l : List (K × V)) → HasDistinctKeys K.eq l → (k : K) (v : V) → HasDistinctKeys K.eq (put K.eq l k v) }
     ensures puts { (l : List (K × V)) → HasDistinctKeys K.eq l → (pairs : List (K × V)) → HasDistinctKeys K.eq (puts K.eq l pairs) }
@@ -40,7 +41,8 @@ pub fn insertion_keeps_keys_distinct<K: Eq, V>()
     ensures value { (l : List (K × V)) → HasDistinctKeys K.eq l → (i : ℕ) (v : V) → HasDistinctKeys K.eq (with_value l i v) }
 {}
 
-/// Where no keys repeat, none do after a removal, by a test of the keys or by place, shifting or swapping.
+/// Where no keys repeat, none do after a removal, by a test of the keys or by place, shifting or swapping, nor in the
+/// front of the list.
 pub fn removal_keeps_keys_distinct<K: Eq, V>()
     ensures by_test { (l : List (K × V)) → HasDistinctKeys K.eq l → (test : K → Bool) → HasDistinctKeys K.eq (without_by test l) }
     ensures by_place { (l : List (K × V)) → HasDistinctKeys K.eq l → (i : ℕ) → HasDistinctKeys K.eq (remove l i) }
@@ -56,7 +58,9 @@ pub fn order_keeps_keys_distinct<K: Eq, V>()
     ensures swapped { (l : List (K × V)) → HasDistinctKeys K.eq l → (i j : ℕ) → i < length l → j < length l → HasDistinctKeys K.eq (swap l i j) }
 {}
 
-/// Where no keys repeat, none do in clones of the pairs, if each clone of a key is equal to its original.
+/// Where no keys repeat and each clone of a key is equal to its original, none do in clones of the pairs, nor once a
+/// clone of a key that is not there has been stored.
 pub fn clones_keep_keys_distinct<K: Eq + Clone, V: Clone>()
-    ensures { ClonesAreSame K.eq K.is_clone → (l m : List (K × V)) → AreClones (IsPairClone K.is_clone V.is_clone) l m → HasDistinctKeys K.eq l → HasDistinctKeys K.eq m }
+    ensures stored { ClonesAreSame K.eq K.is_clone → (l : List (K × V)) (key clone : K) (v : V) → K.is_clone key clone → index_of K.eq l key ≡ None → HasDistinctKeys K.eq l → HasDistinctKeys K.eq (l ++ (clone, v) ∷ []) }
+    ensures pairs { ClonesAreSame K.eq K.is_clone → (l m : List (K × V)) → AreClones (IsPairClone K.is_clone V.is_clone) l m → HasDistinctKeys K.eq l → HasDistinctKeys K.eq m }
 {}

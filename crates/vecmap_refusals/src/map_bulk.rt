@@ -18,8 +18,8 @@ const EXTENDED: &[(u32, u32)] = &[
     (11, 110),
 ];
 
-// Granted, all pairs are put. Refused at the room, nothing has changed; refused at a later pair, those before it are put
-// and the map is full.
+// Granted, all pairs are put. Refused at the room, nothing has changed; refused at a later pair, those before it are
+// put and the map is full.
 fn assert_extended(rt: &impl Abort, map: &VecMap<u32, u32>, room: usize, granted: bool) {
     if granted {
         assert_eq!(rt; map.as_slice(), EXTENDED);
@@ -95,21 +95,4 @@ fn making_of_many_pairs_makes_all_or_nothing(rt: HostRuntime) {
     if let Ok(map) = collected {
         assert_eq!(rt; map.as_slice(), [(1, 30), (2, 20)].as_slice());
     }
-}
-
-#[test]
-fn copies_leave_the_source(rt: HostRuntime) {
-    let Some(map) = full_map(rt.alloc(), 2) else {
-        return;
-    };
-    if let Ok(copy) = map.clone() {
-        assert_eq!(rt; copy.as_slice(), FULL);
-    }
-    if let Ok(pairs) = map.to_vec() {
-        assert_eq!(rt; pairs.as_slice(), FULL);
-    }
-    if let Ok(copy) = VecMap::from_slice(rt.alloc(), map.as_slice()) {
-        assert_eq!(rt; copy.as_slice(), FULL);
-    }
-    assert_eq!(rt; map.as_slice(), FULL);
 }

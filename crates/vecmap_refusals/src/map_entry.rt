@@ -104,6 +104,28 @@ fn a_vacant_entry_gives_the_pair_back(rt: HostRuntime) {
 }
 
 #[test]
+fn insert_entry_of_a_vacant_entry_gives_the_pair_back(rt: HostRuntime) {
+    let Some(mut map) = full_map(rt.alloc(), 2) else {
+        return;
+    };
+    let room = map.capacity();
+    let Entry::Vacant(entry) = map.entry(7) else {
+        return;
+    };
+    let granted = match entry.insert_entry(70) {
+        Ok(entry) => {
+            assert_eq!(rt; entry.index(), 2);
+            entry.into_key() == 7
+        }
+        Err(refused) => {
+            assert_eq!(rt; refused.given, (7, 70));
+            false
+        }
+    };
+    assert_left(&rt, &map, room, granted);
+}
+
+#[test]
 fn insert_entry_gives_the_pair_back(rt: HostRuntime) {
     let Some(mut map) = full_map(rt.alloc(), 2) else {
         return;

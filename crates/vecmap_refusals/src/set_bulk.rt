@@ -57,17 +57,3 @@ fn making_of_many_elements_makes_all_or_nothing(rt: HostRuntime) {
         assert_eq!(rt; set.as_slice(), [1, 2].as_slice());
     }
 }
-
-#[test]
-fn copies_leave_the_source(rt: HostRuntime) {
-    let Some(set) = full_set(rt.alloc(), 2) else {
-        return;
-    };
-    if let Ok(copy) = set.clone() {
-        assert_eq!(rt; copy.as_slice(), FULL);
-    }
-    if let Ok(items) = set.to_vec() {
-        assert_eq!(rt; items.as_slice(), FULL);
-    }
-    assert_eq!(rt; set.as_slice(), FULL);
-}

@@ -29,9 +29,9 @@ pub enum Fault {
 
 /// Answers each line of `reader` on `writer`, over a map that is empty at first.
 ///
-/// A line ends with a line break or with the input. Each answer is written before the next line is acted on. A read that
-/// is interrupted is made again; one that fails ends the service, and so does a write that fails, which leaves open how
-/// much of its answer was written. After `u64::MAX` reads this gives up with `Fault::Reading`.
+/// A line ends with a line break or with the input. Each answer is written before the next line is acted on. A read
+/// that is interrupted is made again; one that fails ends the service, and so does a write that fails, which leaves
+/// open how much of its answer was written. After `u64::MAX` reads this gives up with `Fault::Reading`.
 pub fn serve<R: Read, W: Write>(alloc: Global, reader: &mut R, writer: &mut W) -> Result<(), Fault>
     // At the end of the input all its lines are answered.
     ensures end { OnOk result (IsAtEnd (R.remaining reader.new)) }

@@ -8,7 +8,7 @@ use std::process::ExitCode;
 #[cfg(test)]
 mod tests;
 
-/// The status of the program, whose lines were served so.
+/// The exit status for this outcome of `serve`.
 pub fn status(served: Result<(), Fault>) -> ExitCode
     ensures ok { OnOk served (exit_status result ≡ 0) }
     ensures err { OnErr served (exit_status result ≡ 1) }

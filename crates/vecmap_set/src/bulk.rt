@@ -1,6 +1,6 @@
 //! Making a set of many elements, and adding many elements to one.
 ghost use Rattle.std.specs.Prelude.{◌≡◌, ◌+◌, ◌≤◌, IfOk, IsOk, List, OnErr, OnOk, [], length, map};
-ghost use Rattle.std.specs.Iterator.{Drains, ExtendsWithItems, IsFinite};
+ghost use Rattle.std.specs.Iterator.{Drains, ExtendsWithItems, IsFiniteIterable};
 ghost use Rattle.std.specs.List.{IsDistinct};
 ghost use Rattle.std.specs.Map.Iter.{deref};
 ghost use Rattle.vecmap_base.specs.Bulk.{HasRoomForAll, StopsAt};
@@ -13,7 +13,7 @@ use crate::VecSet;
 use std::alloc::{AllocError, Global};
 
 impl<T: Eq> VecSet<T> {
-    /// Adds the elements of an iterator that ends to an empty set, in their order. Refused, nothing is made.
+    /// Adds the elements of an iterator, which must end, to an empty set, in their order. Refused, nothing is made.
     ///
     /// Each element takes one lookup, and no room is made beforehand, as elements may be equal.
     pub fn from_iter<I: IntoIterator<Item = T>>(
@@ -22,7 +22,7 @@ impl<T: Eq> VecSet<T> {
     ) -> Result<VecSet<T>, AllocError>
     where
         T: Drop,
-        requires { (it : I.IntoIter) → I.into_iter_gives iter it → I.IntoIter.can_next it × IsFinite (I.IntoIter.remaining it) }
+        requires ends { IsFiniteIterable I.into_iter_gives I.IntoIter.can_next I.IntoIter.remaining iter }
         ensures elements { IfOk result (λ set. (it : I.IntoIter) × (items : List T) × I.into_iter_gives iter it × Drains I.IntoIter.next_gives it items × (set.elements ≡ adds T.eq [] items)) }
         ensures distinct { IfOk result (λ set. IsDistinct T.eq set.elements) }
     {
@@ -94,14 +94,14 @@ impl<T: Eq> VecSet<T> {
         Ok(())
     }
 
-    /// Adds the elements of an iterator that ends, in their order. An equal element that is there stays.
+    /// Adds the elements of an iterator, which must end, in their order. An equal element that is there stays.
     ///
     /// Each element takes one lookup, and no room is made beforehand, as elements may be there already. Refused at an
     /// element, those before it stay, and that element is dropped with the iterator.
     pub fn extend<I: IntoIterator<Item = T>>(&mut self, iter: I) -> Result<(), AllocError>
     where
         T: Drop,
-        requires { (it : I.IntoIter) → I.into_iter_gives iter it → I.IntoIter.can_next it × IsFinite (I.IntoIter.remaining it) }
+        requires ends { IsFiniteIterable I.into_iter_gives I.IntoIter.can_next I.IntoIter.remaining iter }
         ensures ran { ExtendsWithItems I.into_iter_gives I.IntoIter.next_gives (Adds T.eq) iter self.old self.new result }
         ensures distinct { IsDistinct T.eq self.new.elements }
         ensures capacity { self.old.capacity ≤ self.new.capacity }
@@ -128,7 +128,7 @@ impl<T: Eq> VecSet<T> {
     ) -> Result<(), AllocError>
     where
         T: Copy + 'a,
-        requires { (it : I.IntoIter) → I.into_iter_gives iter it → I.IntoIter.can_next it × IsFinite (I.IntoIter.remaining it) }
+        requires ends { IsFiniteIterable I.into_iter_gives I.IntoIter.can_next I.IntoIter.remaining iter }
         ensures ran { ExtendsWithItems I.into_iter_gives I.IntoIter.next_gives (λ old items new. Adds T.eq old (map deref items) new) iter self.old self.new result }
         ensures distinct { IsDistinct T.eq self.new.elements }
         ensures capacity { self.old.capacity ≤ self.new.capacity }

@@ -40,7 +40,7 @@ impl<T: Eq> VecSet<T> {
     ///
     /// It compares nothing and takes no memory.
     pub fn from_vec_unchecked(items: Vec<T>) -> VecSet<T>
-        requires { IsDistinct T.eq items.items }
+        requires unequal { IsDistinct T.eq items.items }
         ensures elements { result.elements ≡ items.items }
         ensures distinct { IsDistinct T.eq result.elements }
         ensures capacity { result.capacity ≡ vec_capacity items }
