@@ -11,7 +11,9 @@ pub mod KeyLaws
 pub mod KeysStayDistinct
 pub mod LookupLaws
 pub mod MapEquality
+pub mod MoveLemmas
 mod PairExamples
+pub mod PairsEqual
 pub mod PairsLemmas
 pub mod PlaceLaws
 pub mod Places

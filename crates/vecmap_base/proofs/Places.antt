@@ -1,8 +1,8 @@
 -- The first place of a list whose element passes a test.
-use Rattle.std.specs.Prelude.{◌≡◌, ℕ, zero, suc, ◌+◌, ◌<◌, Bool, true, false, ◌||◌, not, nat_lt, List, [], ◌∷◌, Option, None, Some, is_some, length, map, position, take, refl}
+use Rattle.std.specs.Prelude.{◌≡◌, ℕ, zero, suc, ◌+◌, ◌<◌, Bool, true, false, ◌||◌, not, nat_lt, List, [], ◌∷◌, Option, None, Some, is_some, length, map, position, slice_get, take, refl}
 use Rattle.std.specs.List.{list_any, position_or_len}
 use Rattle.std.specs.Cmp.{both_ways}
-use Rattle.std.specs.Option.{option_map}
+use Rattle.std.specs.Option.{option_and_then, option_map}
 use Rattle.std.proofs.Common.{cond, sym, ap, ◌∙◌, arith, get_or, true≢false, inl, inr}
 use Rattle.std.proofs.lemmas.Bool.{cases_Bool, lt-ltb, ltb-true}
 
@@ -40,6 +40,22 @@ module _ {X : Type 0} (p : X → Bool) where
         | inl e ↦ ap is_some (position-hit x xs e) ∙ sym (ap (λ b. b || list_any p xs) e)
         | inr e ↦ ap is_some (position-miss x xs e) ∙ is_some-map suc (position p xs) ∙ is_some-position xs ∙ sym (ap (λ b. b || list_any p xs) e)
       ]
+
+  pub list_any_position : (xs : List X) → list_any p xs ≡ is_some (position p xs)
+  list_any_position xs = sym (is_some-position xs)
+
+  -- there is one exactly where a first one is stored
+  pub list_any_stored : (xs : List X) → list_any p xs ≡ is_some (option_and_then (slice_get xs) (position p xs))
+  list_any_stored xs =
+      elim (cases_Bool (nat_lt (position_or_len p xs) (length xs))) [
+        | inl h ↦ list_any_position xs ∙ rw h (sym (some_within xs (position_or_len p xs) (ltb-true _ _ h)))
+        | inr h ↦ list_any_position xs ∙ rw h refl
+      ]
+    where
+      some_within : (ys : List X) (i : ℕ) → i < length ys → is_some (slice_get ys i) ≡ true
+      some_within [] i l = absurd (omega arith)
+      some_within (y ∷ ys) zero l = refl
+      some_within (y ∷ ys) (suc i) l = some_within ys i (omega arith)
 
   pub position_none : (xs : List X) → list_any p xs ≡ false → position p xs ≡ None
   position_none xs e = by (position p xs) (is_some-position xs ∙ e)

@@ -1,7 +1,7 @@
 -- What is in both of two lists and in only one of them.
-use Rattle.std.specs.Prelude.{◌≡◌, ◌+◌, Bool, true, false, ◌&&◌, ◌||◌, not, List, [], ◌∷◌, ◌++◌, length, refl}
+use Rattle.std.specs.Prelude.{◌≡◌, IsTrue, ◌↔◌, ◌+◌, Bool, true, false, ◌&&◌, ◌||◌, not, List, [], ◌∷◌, ◌++◌, filter, if◌then◌else◌, length, refl}
 use Rattle.std.specs.Cmp.{IsEquivalence}
-use Rattle.std.specs.List.{IsDistinct}
+use Rattle.std.specs.List.{IsDistinct, list_any}
 use Rattle.std.proofs.Common.{sym, ap, ◌∙◌, arith, true≢false, length-append}
 use Rattle.std.proofs.Math.Bool.{and_comm, or_comm}
 use Rattle.std.proofs.lemmas.Bool.{and_from, or_left}
@@ -13,6 +13,15 @@ use Rattle.vecmap_base.specs.Equality.{has_same_items}
 use Rattle.vecmap_base.specs.Items.{both, has_item, only}
 use Rattle.vecmap_base.proofs.SetEquality.{test_from_within}
 use Rattle.vecmap_base.proofs.StaysDistinct.{distinct_append, distinct_filter}
+
+-- no element passes exactly where none is left of those that pass
+none_passes : {T : Type 0} (test : T → Bool) (xs : List T) → (list_any test xs ≡ false) ↔ (filter test xs ≡ [])
+none_passes test [] = (λ e. refl, λ e. refl)
+none_passes test (x ∷ xs) = by (test x) (none_passes test xs)
+  where
+    by : (b : Bool) → (list_any test xs ≡ false) ↔ (filter test xs ≡ []) → ((b || list_any test xs) ≡ false) ↔ ((if b then x ∷ filter test xs else filter test xs) ≡ [])
+    by true h = (λ e. cc, λ e. cc)
+    by false h = h
 
 module _ {T : Type 0} (eq : T → T → Bool) (o : IsEquivalence eq) where
   pub has_item-both : (a b : List T) (x : T) → has_item eq (both eq a b) x ≡ (has_item eq a x && has_item eq b x)
@@ -54,6 +63,17 @@ module _ {T : Type 0} (eq : T → T → Bool) (o : IsEquivalence eq) where
   pub both_empty_turned : (a b : List T) → both eq a b ≡ [] → both eq b a ≡ []
   both_empty_turned a b e =
       nothing_in (both eq b a) (λ x. has_item-both b a x ∙ and_comm (has_item eq b x) (has_item eq a x) ∙ sym (has_item-both a b x) ∙ ap (λ l. has_item eq l x) e)
+
+  -- a walk over a finds whether it shares nothing with b
+  pub apart_by_walk : (a b : List T) (found : Bool) → found ≡ list_any (has_item eq b) a → IsTrue (not found) ↔ (both eq a b ≡ [])
+  apart_by_walk a b true e = (λ t. cc, λ f. cc ((none_passes (has_item eq b) a).1 f))
+  apart_by_walk a b false e = (λ t. (none_passes (has_item eq b) a).0 (sym e), λ f. refl)
+
+  -- and so whether b shares nothing with a
+  pub apart_by_walk_turned : (a b : List T) (found : Bool) → found ≡ list_any (has_item eq b) a → IsTrue (not found) ↔ (both eq b a ≡ [])
+  apart_by_walk_turned a b found e =
+      let apart = apart_by_walk a b found e in
+      (λ t. both_empty_turned a b (apart.0 t), λ f. apart.1 (both_empty_turned b a f))
 
   -- of distinct lists
 

@@ -5,13 +5,19 @@
 #![tactic(auto)]
 
 mod distinct;
+mod equality;
 mod lookup;
+mod moving;
 mod refused;
+mod relations;
 mod repeats;
 mod steps;
 
 pub use distinct::{items_distinct, keys_distinct};
-pub use lookup::{find, find_item, find_item_str, find_str};
+pub use equality::pairs_equal;
+pub use lookup::{find, find_item, find_item_str, find_str, is_in, is_in_str};
+pub use moving::replace_and_move;
 pub use refused::Refused;
+pub use relations::{are_apart, are_within};
 pub use repeats::{dedup_keep_first, dedup_keep_last_value, gather_items, gather_pairs};
 pub use steps::Steps;

@@ -1,6 +1,7 @@
-//! The first equal place of a list.
+//! The first equal place of a list, and whether there is one.
 ghost use Rattle.std.specs.Prelude.{◌≡◌, ◌<◌, IfSome, length, position};
-ghost use Rattle.vecmap_base.specs.Items.{item_index};
+ghost use Rattle.std.specs.List.{list_any};
+ghost use Rattle.vecmap_base.specs.Items.{has_item, item_index};
 ghost use Rattle.vecmap_base.specs.Pairs.{has_text, index_by, index_of};
 
 /// The first place whose key is equal to `key`, after at most as many comparisons as there are pairs.
@@ -33,4 +34,18 @@ pub fn find_item_str(items: &[String], text: &str) -> Option<usize>
     ensures within { IfSome result (λ i. i < length items.now) }
 {
     items.iter().position(|item| item.as_str() == text)
+}
+
+/// Whether one of `items` is equal to `item`, after at most as many comparisons as there are elements.
+pub fn is_in<T: Eq>(items: &[T], item: &T) -> bool
+    ensures { result ≡ has_item T.eq items.now item.now }
+{
+    items.iter().any(|stored| *item == *stored)
+}
+
+/// Whether one of `items` has the bytes of `text`. It takes no memory.
+pub fn is_in_str(items: &[String], text: &str) -> bool
+    ensures { result ≡ list_any (has_text text.now) items.now }
+{
+    items.iter().any(|item| item.as_str() == text)
 }

@@ -1,0 +1,22 @@
+use Rattle.std.proofs.Common.{◌≡◌, arith, drop, length, sym, ◌∙◌}
+use Rattle.std.proofs.lemmas.List.{length-drop, take_rest}
+use Rattle.vecmap_base.specs.Equality.{counts_agree}
+use Rattle.vecmap_base.proofs.MapEquality.{map_equal_by_half, map_lengths_differ}
+use Rattle.vecmap_base.proofs.PairsEqual.{past_front}
+use Rattle.vecmap_base.proofs.equality.pairs_equal.Goals as goal
+
+pub returns-then-a-b : goal.returns-then-a-b
+returns-then-a-b g c = sym (map_lengths_differ g.K.PartialEq.eq g.V.PartialEq.eq g.met.K.Eq.laws g.met.V.Eq.laws c.args.a.now c.args.b.now c.if-a-b.true)
+
+pub returns : goal.returns
+returns g c =
+    let key = g.K.PartialEq.eq in
+    let value = g.V.PartialEq.eq in
+    let k = g.met.K.Eq.laws in
+    let v = g.met.V.Eq.laws in
+    let a = c.args.a.now in
+    let b = c.args.b.now in
+    let start = c.equal_front-start.result in
+    let as_long : length (drop start a) ≡ length (drop start b) = omega (arith, length-drop start a, length-drop start b) in
+    c.counts_equal.ensures ∙ (λ t. counts_agree key value (take_rest a start t) (take_rest a start t) (take_rest b start t))
+    ∙ sym (map_equal_by_half key value k v (drop start a) (drop start b) as_long) ∙ past_front key value k v start a b c.equal_front-start.ensures.equal

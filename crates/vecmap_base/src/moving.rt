@@ -1,0 +1,31 @@
+//! Moves within a list.
+ghost use Rattle.std.specs.Prelude.{◌≡◌, ◌<◌, Some, insert, length, remove, slice_get, slice_index_or, vec_capacity};
+
+use std::mem::replace;
+
+/// Puts an item in the place of the one at `from`, which it answers, and moves it to `to`. Those between the two places
+/// move by one place. It takes no memory, and time in the distance of the two places.
+pub fn replace_and_move<T>(items: &mut Vec<T>, from: usize, to: usize, item: T) -> T
+    requires from_within { from < length items.old.items }
+    requires to_within { to < length items.old.items }
+    ensures old { slice_get items.old.items from ≡ Some result }
+    ensures items { items.new.items ≡ insert (remove items.old.items from) to item }
+    ensures capacity { vec_capacity items.new ≡ vec_capacity items.old }
+{
+    let old = replace(&mut items[from], item);
+    move_item(items, from, to);
+    old
+}
+
+// Moves the item at one place to another. Those between the two move by one place.
+fn move_item<T>(items: &mut [T], from: usize, to: usize)
+    requires from_within { from < length items.old }
+    requires to_within { to < length items.old }
+    ensures { (d : T) → items.new ≡ insert (remove items.old from) to (slice_index_or items.old from d) }
+{
+    if from < to {
+        items[from..to + 1].rotate_left(1);
+    } else {
+        items[to..from + 1].rotate_right(1);
+    }
+}
