@@ -1,58 +1,8 @@
--- Lists of pairwise unequal elements.
-use Rattle.std.specs.Prelude.{◌≡◌, ◌↔◌, ℕ, ◌+◌, ◌<◌, ◌≤◌, Bool, true, false, ◌||◌, List, [], ◌∷◌, ◌++◌, drop, length, refl}
-use Rattle.std.specs.Cmp.{IsEquivalence}
-use Rattle.std.specs.List.{IsDistinct, AllByRecursion, list_any}
-use Rattle.std.proofs.Common.{sym, ap, ◌∙◌, subst, get_or, true≢false, inl, inr}
-use Rattle.std.proofs.lemmas.Bool.{cases_Bool}
-use Rattle.std.proofs.lemmas.List.{drop_more, drop_all}
-use Rattle.std.proofs.lemmas.Map.Keys.{IsDistinct-head, IsDistinct-tail, IsDistinct-cons}
-
-module _ {T : Type 0} (eq : T → T → Bool) where
-  pub distinct_none : IsDistinct eq []
-  unfolding IsDistinct
-  distinct_none = tt
-
-  all_apart : (x : T) (xs : List T) → list_any (eq x) xs ≡ false → AllByRecursion (λ y. eq x y ≡ false) xs
-  all_apart x [] e = tt
-  all_apart x (y ∷ ys) e =
-      elim (cases_Bool (eq x y)) [
-        | inl h ↦ absurd (true≢false (sym (ap (λ b. b || list_any (eq x) ys) h) ∙ e))
-        | inr h ↦ (h, all_apart x ys (sym (ap (λ b. b || list_any (eq x) ys) h) ∙ e))
-      ]
-
-  pub none_equal : (x : T) (xs : List T) → AllByRecursion (λ y. eq x y ≡ false) xs → list_any (eq x) xs ≡ false
-  none_equal x [] h = refl
-  none_equal x (y ∷ ys) h = ap (λ b. b || list_any (eq x) ys) h.0 ∙ none_equal x ys h.1
-
-  pub distinct_if_absent : (x : T) (xs : List T) → list_any (eq x) xs ≡ false → IsDistinct eq xs → IsDistinct eq (x ∷ xs)
-  distinct_if_absent x xs e d = IsDistinct-cons eq x xs (all_apart x xs e) d
-
-  -- the walk of a test for repeats: the first i elements are equal to none after them, and the next is not either
-  pub distinct_more : (xs : List T) (i : ℕ) (x : T) → i < length xs → x ≡ get_or xs i x → list_any (eq x) (drop (i + 1) xs) ≡ false
-      → IsDistinct eq (drop i xs) ↔ IsDistinct eq xs → IsDistinct eq (drop (i + 1) xs) ↔ IsDistinct eq xs
-  distinct_more xs i x l e n w =
-      let at : drop i xs ≡ x ∷ drop (i + 1) xs = drop_more xs i x l ∙ ap (λ y. y ∷ drop (i + 1) xs) (sym e) in (
-        λ d. w.0 (subst (IsDistinct eq) (sym at) (distinct_if_absent x (drop (i + 1) xs) n d)),
-        λ d. IsDistinct-tail eq x (drop (i + 1) xs) (subst (IsDistinct eq) at (w.1 d)),
-      )
-
-  -- the next is equal to one after it
-  pub repeat_at : (xs : List T) (i : ℕ) (x : T) → i < length xs → x ≡ get_or xs i x → list_any (eq x) (drop (i + 1) xs) ≡ true
-      → IsDistinct eq (drop i xs) ↔ IsDistinct eq xs → IsDistinct eq xs → ⊥
-  repeat_at xs i x l e n w d =
-      let at : drop i xs ≡ x ∷ drop (i + 1) xs = drop_more xs i x l ∙ ap (λ y. y ∷ drop (i + 1) xs) (sym e) in
-      true≢false (sym n ∙ none_equal x (drop (i + 1) xs) (IsDistinct-head eq x (drop (i + 1) xs) (subst (IsDistinct eq) at (w.1 d))))
-
-  -- the walk has come to the end
-  pub distinct_all : (xs : List T) (i : ℕ) → length xs ≤ i → IsDistinct eq (drop i xs) ↔ IsDistinct eq xs → IsDistinct eq xs
-  distinct_all xs i l w = w.0 (subst (IsDistinct eq) (sym (drop_all i xs l)) distinct_none)
-
-  apart_later : (x y : T) (xs ys : List T) → AllByRecursion (λ z. eq x z ≡ false) (xs ++ y ∷ ys) → eq x y ≡ false
-  apart_later x y [] ys h = h.0
-  apart_later x y (z ∷ zs) ys h = apart_later x y zs ys h.1
-
-  -- no element before one of a distinct list is equal to it
-  pub none_before : (o : IsEquivalence eq) (xs : List T) (y : T) (ys : List T) → IsDistinct eq (xs ++ y ∷ ys) → list_any (eq y) xs ≡ false
-  unfolding IsDistinct
-  none_before o [] y ys d = refl
-  none_before o (x ∷ xs) y ys d = ap (λ b. b || list_any (eq y) xs) (o.symm y x ∙ apart_later x y xs ys d.0) ∙ none_before o xs y ys d.1
+-- Lists of pairwise unequal elements, and of pairs with such keys.
+pub mod Absent
+pub mod Additions
+pub mod Clones
+pub mod Keys
+pub mod Order
+pub mod Removals
+pub mod Walk

@@ -1,6 +1,6 @@
 use Rattle.std.proofs.Common.{◌+◌, is_some, refl, sym, ap, ◌∙◌, true≢false}
-use Rattle.vecmap_base.proofs.DistinctLemmas.{distinct_more, repeat_at, distinct_all}
-use Rattle.vecmap_base.proofs.ItemsLemmas.{is_some-item_index_rest}
+use Rattle.vecmap_base.proofs.DistinctLemmas.Walk.{distinct_more, repeat_at, distinct_all}
+use Rattle.vecmap_base.proofs.ItemsLemmas.Removals.{is_some-item_index_rest}
 use Rattle.vecmap_base.proofs.distinct.items_distinct.Goals as goal
 
 pub returns-then-is_some : goal.returns-then-is_some

@@ -1,8 +1,8 @@
 use Rattle.std.proofs.Common.{◌≡◌, arith, drop, length, sym, ◌∙◌}
 use Rattle.std.proofs.lemmas.List.{length-drop, take_rest}
 use Rattle.vecmap_base.specs.Equality.{counts_agree}
-use Rattle.vecmap_base.proofs.MapEquality.{map_equal_by_half, map_lengths_differ}
-use Rattle.vecmap_base.proofs.PairsEqual.{past_front}
+use Rattle.vecmap_base.proofs.EqualityLemmas.Maps.{map_equal_by_half, map_lengths_differ}
+use Rattle.vecmap_base.proofs.EqualityLemmas.Fronts.{past_front}
 use Rattle.vecmap_base.proofs.equality.pairs_equal.Goals as goal
 
 pub returns-then-a-b : goal.returns-then-a-b

@@ -1,5 +1,5 @@
 use Rattle.std.proofs.Common.{sym, ◌∙◌}
-use Rattle.vecmap_base.proofs.Places.{position_at}
+use Rattle.vecmap_base.proofs.PlaceLemmas.{position_at}
 use Rattle.vecmap_base.proofs.repeats.find_repeat.Goals as goal
 
 pub returns-then-same-clause-place : goal.returns-then-same-clause-place

@@ -3,9 +3,9 @@ use Rattle.std.proofs.lemmas.List.{length_push, length-take, take_all}
 use Rattle.std.proofs.lemmas.List.Sorted.{IsPermutation-trans}
 use Rattle.vecmap_base.specs.Items.{adds, has_item}
 use Rattle.vecmap_base.specs.Repeats.{cost}
-use Rattle.vecmap_base.proofs.CostLemmas.{cost_more, cost_below}
-use Rattle.vecmap_base.proofs.ItemsLemmas.{adds_more, add_absent, add_present, adds_distinct}
-use Rattle.vecmap_base.proofs.GatherLemmas.{front_swapped, rest_more}
+use Rattle.vecmap_base.proofs.RepeatsLemmas.Cost.{cost_more, cost_below}
+use Rattle.vecmap_base.proofs.ItemsLemmas.Additions.{adds_more, add_absent, add_present, adds_distinct}
+use Rattle.vecmap_base.proofs.RepeatsLemmas.Gather.{front_swapped, rest_more}
 use Rattle.vecmap_base.proofs.repeats.gather_items.Goals as goal
 use Rattle.vecmap_base.proofs.repeats.gather_items.Goals.{then-not-is_repeat, else-not-is_repeat}
 

@@ -6,9 +6,9 @@ use Rattle.std.proofs.lemmas.List.{length_push, length-take, take_all}
 use Rattle.std.proofs.lemmas.List.Sorted.{IsPermutation-trans, IsPermutation-map, IsPermutation-swap}
 use Rattle.vecmap_base.specs.Pairs.{index_of, put, puts}
 use Rattle.vecmap_base.specs.Repeats.{cost}
-use Rattle.vecmap_base.proofs.CostLemmas.{cost_more, cost_below}
-use Rattle.vecmap_base.proofs.PairsLemmas.{puts_more, put_absent, puts_distinct}
-use Rattle.vecmap_base.proofs.GatherLemmas.{front_put, front_swapped, rest_more}
+use Rattle.vecmap_base.proofs.RepeatsLemmas.Cost.{cost_more, cost_below}
+use Rattle.vecmap_base.proofs.PairsLemmas.Puts.{puts_more, put_absent, puts_distinct}
+use Rattle.vecmap_base.proofs.RepeatsLemmas.Gather.{front_put, front_swapped, rest_more}
 use Rattle.vecmap_base.proofs.repeats.gather_pairs.Goals as goal
 use Rattle.vecmap_base.proofs.repeats.gather_pairs.Goals.{in-Some, in-None}
 

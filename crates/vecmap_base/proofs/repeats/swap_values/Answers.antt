@@ -1,6 +1,6 @@
 use Rattle.std.proofs.Common.{◌<◌, length, swap, sym, ap, ◌∙◌, arith}
 use Rattle.std.specs.Map.{keys_of, values_of}
-use Rattle.vecmap_base.proofs.GatherLemmas.{keys_of_swapped, values_of_swapped}
+use Rattle.vecmap_base.proofs.RepeatsLemmas.Gather.{keys_of_swapped, values_of_swapped}
 use Rattle.vecmap_base.proofs.repeats.swap_values.Goals as goal
 
 pub returns-clause-keys : goal.returns-clause-keys

@@ -1,24 +1,17 @@
--- What a lookup finds after a put and after a removal, and that puts in turn are puts of all at once.
-use Rattle.std.specs.Prelude.{◌≡◌, ℕ, Bool, true, false, ◌||◌, List, [], ◌∷◌, ◌++◌, None, Some, drop, if◌then◌else◌, take, refl}
+-- What a lookup finds after a put and after a removal.
+use Rattle.std.specs.Prelude.{◌≡◌, Bool, true, false, ◌||◌, List, [], ◌∷◌, None, Some, if◌then◌else◌, refl}
 use Rattle.std.specs.Cmp.{IsEquivalence}
 use Rattle.std.specs.List.{list_any}
 use Rattle.std.specs.Map.{keys_of}
-use Rattle.std.proofs.Common.{sym, ap, subst, ◌∙◌, true≢false, inl, inr}
+use Rattle.std.proofs.Common.{sym, ap, ◌∙◌, true≢false, inl, inr}
 use Rattle.std.proofs.lemmas.Bool.{cases_Bool}
-use Rattle.std.proofs.lemmas.List.{take-append-drop}
-use Rattle.std.proofs.lemmas.List.Sums.{fold-append}
 use Rattle.vecmap_base.specs.Items.{has_item}
-use Rattle.vecmap_base.specs.Pairs.{HasDistinctKeys, lookup, put, puts, without_key}
-use Rattle.vecmap_base.proofs.ItemsLemmas.{without_item_absent}
-use Rattle.vecmap_base.proofs.KeyLaws.{keys_of-without_key}
-use Rattle.vecmap_base.proofs.PairsLemmas.{lookup-cons, put-cons, without_key-cons}
-use Rattle.vecmap_base.proofs.PairsLemmas.{puts_apart}
+use Rattle.vecmap_base.specs.Pairs.{HasDistinctKeys, lookup, put, without_key}
+use Rattle.vecmap_base.proofs.ItemsLemmas.Removals.{without_item_absent}
+use Rattle.vecmap_base.proofs.PairsLemmas.Keys.{keys_of-without_key}
+use Rattle.vecmap_base.proofs.PairsLemmas.Recursion.{lookup-cons, put-cons, without_key-cons}
 
 module _ {K V : Type 0} (eq : K → K → Bool) where
-  -- a put of pairs in two goes is a put of all of them
-  pub puts-append : (l a b : List (K × V)) → puts eq l (a ++ b) ≡ puts eq (puts eq l a) b
-  puts-append l a b = fold-append (λ done p. put eq done p.0 p.1) l a b
-
   -- in a longer list
   pub look : (p : K × V) (ps : List (K × V)) (k : K) (b : Bool) → eq k p.0 ≡ b → lookup eq (p ∷ ps) k ≡ (if b then Some p.1 else lookup eq ps k)
   look p ps k b e = lookup-cons eq p ps k ∙ ap (λ c. if c then Some p.1 else lookup eq ps k) e
@@ -79,9 +72,3 @@ module _ {K V : Type 0} (eq : K → K → Bool) where
               ap (λ b. lookup eq (if b then ps else p ∷ without_key eq ps k) q) e ∙ look p (without_key eq ps k) q (eq q p.0) refl
               ∙ ap (λ w. if eq q p.0 then Some p.1 else w) (lookup-without_key_other ps k q n) ∙ sym (look p ps q (eq q p.0) refl)
         ]
-
-    -- a list of distinct keys that was split is whole again once the second part is put to the first
-    pub puts_restore : (l : List (K × V)) (at : ℕ) → HasDistinctKeys eq l → puts eq (take at l) (drop at l) ≡ l
-    puts_restore l at d =
-        let whole : take at l ++ drop at l ≡ l = take-append-drop at l in
-        puts_apart eq o (take at l) (drop at l) (subst (HasDistinctKeys eq) (sym whole) d) ∙ whole

@@ -1,32 +1,11 @@
--- Worked examples: maps. Keys are numbers, or numbers with a letter that are compared by the number alone.
-use Rattle.std.specs.Prelude.{◌≡◌, ℕ, Bool, List, [], ◌∷◌, None, Some, IsTrue, nat_eq, refl}
+-- Worked examples: lists of pairs.
+use Rattle.std.specs.Prelude.{◌≡◌, ℕ, List, [], ◌∷◌, None, Some, nat_eq, refl}
 use Rattle.std.specs.List.{IsDistinct}
-use Rattle.std.specs.Cmp.{nat_eq_equiv}
-use Rattle.std.proofs.Common.{subst, true≢false}
-use Rattle.vecmap_base.specs.Clones.{AreClones, ClonesAreSame, IsCloneOf, IsPairClone}
+use Rattle.std.proofs.Common.{true≢false}
 use Rattle.vecmap_base.specs.Pairs.{HasDistinctKeys, index_by, index_of, index_or_length, lookup, lookup_full, lookup_pair, put, put_at, put_key, puts, swap_without_key, value_at, with_pair, with_value, without_by, without_key}
-use Rattle.vecmap_base.specs.Repeats.{cost}
-
--- a number and a letter's code
-abbrev pub Tagged : Type 0
-Tagged = ℕ × ℕ
-
-abbrev pub same_number : Tagged → Tagged → Bool
-same_number p q = nat_eq p.0 q.0
-
-abbrev a : ℕ
-a = 97
-
-abbrev pub b : ℕ
-b = 98
-
-abbrev c : ℕ
-c = 99
+use Rattle.vecmap_base.proofs.Examples.Tagged.{a, b, c, one_x, one_y, two_b, two_z, three_c, letters, same_number}
 
 -- ---- places and values
-
-abbrev letters : List (ℕ × ℕ)
-letters = (a, 1) ∷ (b, 2) ∷ (c, 3) ∷ []
 
 the_place : index_of nat_eq letters b ≡ Some 1
 the_place = refl
@@ -56,24 +35,6 @@ a_written_pair : with_pair letters 2 a 9 ≡ (a, 1) ∷ (b, 2) ∷ (a, 9) ∷ []
 a_written_pair = refl
 
 -- ---- puts
-
-abbrev pub one_x : Tagged
-one_x = (1, 120)
-
-abbrev pub one_y : Tagged
-one_y = (1, 121)
-
-abbrev one_z : Tagged
-one_z = (1, 122)
-
-abbrev pub two_b : Tagged
-two_b = (2, b)
-
-abbrev pub two_z : Tagged
-two_z = (2, 122)
-
-abbrev three_c : Tagged
-three_c = (3, c)
 
 a_put_keeps_the_stored_key : put {V = ℕ} same_number ((one_x, 10) ∷ []) one_y 20 ≡ (one_x, 20) ∷ []
 a_put_keeps_the_stored_key = refl
@@ -174,14 +135,6 @@ equal_keys : HasDistinctKeys nat_eq ((1, a) ∷ (2, b) ∷ (1, a) ∷ []) → �
 unfolding IsDistinct
 equal_keys d = true≢false d.0.1.0
 
--- ---- comparisons
-
-no_comparison_of_one : (cost 0 ≡ 0) × (cost 1 ≡ 0)
-no_comparison_of_one = (refl, refl)
-
-one_comparison_for_each_two : (cost 2 ≡ 1) × (cost 4 ≡ 6) × (cost 5 ≡ 10) × (cost 6 ≡ 15)
-one_comparison_for_each_two = (refl, refl, refl, refl)
-
 -- ---- by a test of keys, by place
 
 a_place_by_a_test : index_by (λ k. nat_eq k 98) letters ≡ Some 1
@@ -195,20 +148,3 @@ values_by_place = (refl, refl)
 
 of_an_empty_list : (index_or_length {V = ℕ} nat_eq [] 1 ≡ 0) × (lookup_pair {V = ℕ} nat_eq [] 1 ≡ None) × (lookup_full {V = ℕ} nat_eq [] 1 ≡ None)
 of_an_empty_list = (refl, refl, refl)
-
--- ---- clones, where a clone is the very same
-
-abbrev IsSame : ℕ → ℕ → Type 0
-IsSame m n = m ≡ n
-
-clones_place_by_place : AreClones (IsPairClone IsSame IsSame) letters ((a, 1) ∷ (b, 2) ∷ (c, 3) ∷ [])
-clones_place_by_place = ((refl, refl), ((refl, refl), ((refl, refl), tt)))
-
-a_clone_of_what_is_there : IsCloneOf IsSame None None × IsCloneOf IsSame (Some 7) (Some 7)
-a_clone_of_what_is_there = (tt, refl)
-
-nothing_is_no_clone : IsCloneOf IsSame (Some 7) None → ⊥
-nothing_is_no_clone c = c
-
-clones_are_the_same : ClonesAreSame nat_eq IsSame
-clones_are_the_same m n e = subst (λ k. IsTrue (nat_eq m k)) e (nat_eq_equiv.refl m)

@@ -10,9 +10,9 @@ use Rattle.std.proofs.lemmas.Map.Keys.{IsDistinct-head, IsDistinct-tail}
 use Rattle.std.proofs.lemmas.Map.Steps.{list_any_congr}
 use Rattle.vecmap_base.specs.Equality.{agrees, count, counts_agree, has_same_counts, lookups_agree, same_option, same_pair}
 use Rattle.vecmap_base.specs.Pairs.{HasDistinctKeys, lookup}
-use Rattle.vecmap_base.proofs.CountLemmas.{many-cons, counts_from_test, test_from_counts, as_often_laws, rearranged_as_often, lengths_differ, settled_by_half}
-use Rattle.vecmap_base.proofs.DistinctLemmas.{none_equal}
-use Rattle.vecmap_base.proofs.LookupLaws.{look, lookup_absent, lookup_congr}
+use Rattle.vecmap_base.proofs.EqualityLemmas.Counts.{many-cons, counts_from_test, test_from_counts, as_often_laws, rearranged_as_often, lengths_differ, settled_by_half}
+use Rattle.vecmap_base.proofs.DistinctLemmas.Absent.{none_equal}
+use Rattle.vecmap_base.proofs.PairsLemmas.Lookups.{look, lookup_absent, lookup_congr}
 
 module _ {K V : Type 0} (key : K → K → Bool) (value : V → V → Bool) (k : IsEquivalence key) (v : IsEquivalence value) where
   pub same_pair_laws : IsEquivalence (same_pair key value)

@@ -1,14 +1,14 @@
--- What the definitions say that name a place, of a list with a first pair.
-use Rattle.std.specs.Prelude.{◌≡◌, ℕ, suc, Bool, true, false, List, [], ◌∷◌, Option, None, Some, if◌then◌else◌, length, slice_get, unwrap_or, refl}
+-- What the definitions say that name a place.
+use Rattle.std.specs.Prelude.{◌≡◌, ℕ, suc, Bool, true, false, List, [], ◌∷◌, Option, None, Some, if◌then◌else◌, length, slice_get, unwrap_or, refl, ◌-◌, drop, is_some, take}
 use Rattle.std.specs.Option.{option_and_then, option_map}
-use Rattle.std.proofs.Common.{ap, ◌∙◌}
-use Rattle.vecmap_base.specs.Items.{swap_without}
-use Rattle.vecmap_base.specs.Pairs.{index_of, index_or_length, lookup_full, lookup_pair, value_at, with_pair}
-use Rattle.vecmap_base.proofs.PairsLemmas.{index_of-cons}
-
--- the only element goes
-pub swap_without-one : {T : Type 0} (x : T) → swap_without (x ∷ []) 0 ≡ []
-swap_without-one x = refl
+use Rattle.std.proofs.Common.{ap, ◌∙◌, sym}
+use Rattle.vecmap_base.specs.Pairs.{index_of, index_or_length, lookup_full, lookup_pair, value_at, with_pair, lookup_by}
+use Rattle.vecmap_base.proofs.PairsLemmas.Recursion.{index_of-cons, lookup_by-cons}
+use Rattle.std.specs.List.{list_any}
+use Rattle.std.specs.Map as entries
+use Rattle.std.specs.Map.{keys_of}
+use Rattle.std.proofs.lemmas.List.{drop-map, take_rest}
+use Rattle.vecmap_base.proofs.PlaceLemmas.{is_some-position, list_any-map, position_none}
 
 -- a place and what stands there, counted from one pair further on
 abbrev pub one_on : {V : Type 0} → ℕ × V → ℕ × V
@@ -52,3 +52,20 @@ module _ {K V : Type 0} (p : K × V) (ps : List (K × V)) where
         by true o = refl
         by false None = refl
         by false (Some i) = at i (value_at ps i)
+
+module _ {K V : Type 0} (test : K → Bool) where
+  -- it is the lookup of std's maps
+  pub lookup_by_is : (l : List (K × V)) → lookup_by test l ≡ entries.lookup test l
+  lookup_by_is [] = refl
+  lookup_by_is (p ∷ ps) = lookup_by-cons test p ps ∙ ap (λ o. if test p.0 then Some p.1 else o) (lookup_by_is ps)
+
+module _ {K V : Type 0} (eq : K → K → Bool) where
+  pub is_some-index_of : (l : List (K × V)) (k : K) → is_some (index_of eq l k) ≡ list_any (eq k) (keys_of l)
+  is_some-index_of l k = is_some-position (λ p. eq k p.0) l ∙ sym (list_any-map (eq k) (λ p. p.0) l)
+
+  -- in the rest of the list from the place i on
+  pub is_some-index_of_rest : (l : List (K × V)) (i : ℕ) (k : K) → is_some (index_of eq (take (length l - i) (drop i l)) k) ≡ list_any (eq k) (drop i (keys_of l))
+  is_some-index_of_rest l i k = ap (λ r. is_some (index_of eq r k)) (take_rest l i) ∙ is_some-index_of (drop i l) k ∙ ap (list_any (eq k)) (sym (drop-map (λ p. p.0) i l))
+
+  pub index_of_none : (l : List (K × V)) (k : K) → list_any (eq k) (keys_of l) ≡ false → index_of eq l k ≡ None
+  index_of_none l k e = position_none (λ p. eq k p.0) l (sym (list_any-map (eq k) (λ p. p.0) l) ∙ e)

@@ -14,11 +14,16 @@ use Rattle.std.proofs.lemmas.Option.{get_or_from_slice_get, slice_get_within}
 use Rattle.vecmap_base.specs.Clones.{AreClones, ClonesAreSame, IsPairClone}
 use Rattle.vecmap_base.specs.Items.{has_item, swap_without, without_item}
 use Rattle.vecmap_base.specs.Pairs.{HasDistinctKeys, index_by, index_of, put, put_at, put_key, puts, swap_without_key, with_value, without_by}
-use Rattle.vecmap_base.proofs.ItemsLemmas.{without_item_absent}
-use Rattle.vecmap_base.proofs.KeyLaws.{index_of_is, keys_of-insert, keys_of-put, keys_of-put_key, keys_of-puts, keys_of-remove}
-use Rattle.vecmap_base.proofs.PairsLemmas.{index_of_none, is_some-index_of, keys_of-with_value, put_absent, put_at_absent, put_at_present}
-use Rattle.vecmap_base.proofs.Places.{is_some-position}
-use Rattle.vecmap_base.proofs.StaysDistinct.{distinct_add, distinct_add_new, distinct_adds, distinct_clones, distinct_insert, distinct_rearranged, distinct_remove, distinct_take}
+use Rattle.vecmap_base.proofs.ItemsLemmas.Removals.{without_item_absent}
+use Rattle.vecmap_base.proofs.PairsLemmas.Keys.{index_of_is, keys_of-insert, keys_of-put, keys_of-put_key, keys_of-puts, keys_of-remove}
+use Rattle.vecmap_base.proofs.PairsLemmas.Places.{index_of_none, is_some-index_of}
+use Rattle.vecmap_base.proofs.PairsLemmas.Puts.{put_absent, put_at_absent, put_at_present}
+use Rattle.vecmap_base.proofs.PairsLemmas.Values.{keys_of-with_value}
+use Rattle.vecmap_base.proofs.PlaceLemmas.{is_some-position}
+use Rattle.vecmap_base.proofs.DistinctLemmas.Additions.{distinct_add, distinct_add_new, distinct_adds, distinct_insert}
+use Rattle.vecmap_base.proofs.DistinctLemmas.Clones.{distinct_clones}
+use Rattle.vecmap_base.proofs.DistinctLemmas.Order.{distinct_rearranged}
+use Rattle.vecmap_base.proofs.DistinctLemmas.Removals.{distinct_remove, distinct_take}
 
 -- clones of pairs have clones of their keys
 keys_of-clones : {K V : Type 0} (key_clone : K → K → Type 0) (value_clone : V → V → Type 0) (l m : List (K × V)) → AreClones (IsPairClone key_clone value_clone) l m → AreClones key_clone (keys_of l) (keys_of m)

@@ -6,8 +6,8 @@ use Rattle.std.proofs.Common.{sym, ap, ◌∙◌}
 use Rattle.std.proofs.lemmas.List.{drop-map, map-append, take-map}
 use Rattle.vecmap_base.specs.Items.{add, add_new, adds, item_index, without_item}
 use Rattle.vecmap_base.specs.Pairs.{index_of, put, put_key, puts, without_key}
-use Rattle.vecmap_base.proofs.ItemsLemmas.{add-cons, add_new-cons, item_index-cons, without_item-cons}
-use Rattle.vecmap_base.proofs.PairsLemmas.{index_of-cons, put-cons, put_key-cons, without_key-cons}
+use Rattle.vecmap_base.proofs.ItemsLemmas.Recursion.{add-cons, add_new-cons, item_index-cons, without_item-cons}
+use Rattle.vecmap_base.proofs.PairsLemmas.Recursion.{index_of-cons, put-cons, put_key-cons, without_key-cons}
 
 module _ {K V : Type 0} where
   pub keys_of-remove : (l : List (K × V)) (i : ℕ) → keys_of (remove l i) ≡ remove (keys_of l) i

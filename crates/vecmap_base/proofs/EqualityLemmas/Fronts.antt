@@ -4,8 +4,8 @@ use Rattle.std.specs.Cmp.{IsEquivalence, both_ways}
 use Rattle.std.specs.List.{AllZip}
 use Rattle.std.proofs.Common.{cond, ap, ◌∙◌, arith}
 use Rattle.vecmap_base.specs.Equality.{has_same_counts, same_pair}
-use Rattle.vecmap_base.proofs.CountLemmas.{SameCounts, many-cons, counts_from_test, test_from_counts}
-use Rattle.vecmap_base.proofs.MapEquality.{same_pair_laws}
+use Rattle.vecmap_base.proofs.EqualityLemmas.Counts.{SameCounts, many-cons, counts_from_test, test_from_counts}
+use Rattle.vecmap_base.proofs.EqualityLemmas.Maps.{same_pair_laws}
 
 module _ {X : Type 0} (same : X → X → Bool) (o : IsEquivalence same) where
   same_counts-cons : (x y : X) (a b : List X) → same x y ≡ true → SameCounts same o a b → SameCounts same o (x ∷ a) (y ∷ b)

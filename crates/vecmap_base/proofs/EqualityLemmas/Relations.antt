@@ -11,8 +11,9 @@ use Rattle.std.proofs.lemmas.Map.Made.{is_member-filter, length-from_same_keys}
 use Rattle.std.proofs.lemmas.Map.Steps.{list_any_congr}
 use Rattle.vecmap_base.specs.Equality.{has_same_items}
 use Rattle.vecmap_base.specs.Items.{both, has_item, only}
-use Rattle.vecmap_base.proofs.SetEquality.{test_from_within}
-use Rattle.vecmap_base.proofs.StaysDistinct.{distinct_append, distinct_filter}
+use Rattle.vecmap_base.proofs.EqualityLemmas.Sets.{test_from_within}
+use Rattle.vecmap_base.proofs.DistinctLemmas.Additions.{distinct_append}
+use Rattle.vecmap_base.proofs.DistinctLemmas.Removals.{distinct_filter}
 
 -- no element passes exactly where none is left of those that pass
 none_passes : {T : Type 0} (test : T → Bool) (xs : List T) → (list_any test xs ≡ false) ↔ (filter test xs ≡ [])

@@ -2,7 +2,7 @@
 use Rattle.std.specs.Prelude.{◌≡◌, true, false, [], ◌∷◌, ◌++◌, Some, nat_eq, refl}
 use Rattle.vecmap_base.specs.Equality.{has_same_items, is_within}
 use Rattle.vecmap_base.specs.Items.{add_new, adds, both, item_index, only, stored_item, swap_without_item, without_item}
-use Rattle.vecmap_base.proofs.PairExamples.{one_x, one_y, same_number, two_b, two_z}
+use Rattle.vecmap_base.proofs.Examples.Tagged.{one_x, one_y, same_number, two_b, two_z}
 
 -- ---- additions and removals
 

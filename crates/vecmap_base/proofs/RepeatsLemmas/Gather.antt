@@ -8,7 +8,8 @@ use Rattle.std.proofs.lemmas.List.{drop-map, get_or-map, map-append, map-set, ta
 use Rattle.std.proofs.lemmas.List.Edits.{swap_is}
 use Rattle.std.proofs.lemmas.Map.Entries.{length-values_of}
 use Rattle.vecmap_base.specs.Pairs.{index_of, put, with_value}
-use Rattle.vecmap_base.proofs.PairsLemmas.{keys_of-with_value, put_present, same_pairs, values_of-with_value}
+use Rattle.vecmap_base.proofs.PairsLemmas.Puts.{put_present}
+use Rattle.vecmap_base.proofs.PairsLemmas.Values.{keys_of-with_value, same_pairs, values_of-with_value}
 
 module _ {X : Type 0} where
   -- a front that holds the first of the two places

@@ -1,0 +1,73 @@
+-- What comes into a distinct list and leaves it so.
+use Rattle.std.specs.Prelude.{◌≡◌, ℕ, ◌<◌, Bool, true, false, ◌||◌, List, [], ◌∷◌, ◌++◌, Option, None, Some, if◌then◌else◌, insert, is_some, length, slice_set, suc, zero, refl}
+use Rattle.std.specs.Cmp.{IsEquivalence}
+use Rattle.std.specs.List.{IsDistinct, AllByRecursion, list_any}
+use Rattle.std.specs.Option.{option_map_or}
+use Rattle.std.proofs.Common.{sym, ap, ◌∙◌, subst, get_or, true≢false, arith}
+use Rattle.std.proofs.lemmas.Bool.{false_from_ne_true, or_left, or_right}
+use Rattle.std.proofs.lemmas.List.{append-nil, append_assoc}
+use Rattle.std.proofs.lemmas.List.Folds.{list_any-append}
+use Rattle.std.proofs.lemmas.List.Quantifiers.{position-Some}
+use Rattle.std.proofs.lemmas.List.Sorted.{IsPermutation-insert}
+use Rattle.std.proofs.lemmas.Map.Keys.{IsDistinct-head, IsDistinct-tail, IsDistinct-push}
+use Rattle.std.proofs.lemmas.Map.Steps.{list_any_congr}
+use Rattle.vecmap_base.specs.Items.{add, add_new, adds, has_item, item_index}
+use Rattle.vecmap_base.proofs.PlaceLemmas.{is_some-position}
+use Rattle.vecmap_base.proofs.DistinctLemmas.Absent.{distinct_if_absent, none_equal}
+use Rattle.vecmap_base.proofs.DistinctLemmas.Order.{distinct_rearranged}
+
+module _ {T : Type 0} (eq : T → T → Bool) (o : IsEquivalence eq) where
+  -- an element that is equal to none comes in
+  pub distinct_insert : (xs : List T) (i : ℕ) (y : T) → list_any (eq y) xs ≡ false → IsDistinct eq xs → IsDistinct eq (insert xs i y)
+  distinct_insert xs i y e d = distinct_rearranged eq o (y ∷ xs) (insert xs i y) (IsPermutation-insert xs i y) (distinct_if_absent eq y xs e d)
+
+  pub distinct_append : (xs ys : List T) → IsDistinct eq xs → IsDistinct eq ys → ((y : T) → list_any (eq y) ys ≡ true → list_any (eq y) xs ≡ false) → IsDistinct eq (xs ++ ys)
+  distinct_append xs [] d e h = subst (IsDistinct eq) (sym (append-nil xs)) d
+  distinct_append xs (y ∷ ys) d e h =
+      let moved : (xs ++ y ∷ []) ++ ys ≡ xs ++ y ∷ ys = append_assoc xs (y ∷ []) ys in
+      let absent : list_any (eq y) xs ≡ false = h y (or_left (eq y y) (list_any (eq y) ys) (o.refl y)) in
+      subst (IsDistinct eq) moved
+      (distinct_append (xs ++ y ∷ []) ys (IsDistinct-push o xs y d absent) (IsDistinct-tail eq y ys e) (λ z m.
+      let apart : eq z y ≡ false = false_from_ne_true (eq z y) (λ t. true≢false (sym m ∙ list_any_congr o z y ys t ∙ none_equal eq y ys (IsDistinct-head eq y ys e))) in
+      list_any-append (eq z) xs (y ∷ []) ∙ (λ t. h z (or_right (eq z y) (list_any (eq z) ys) m) t || (apart t || false))))
+
+  all_like : (x y : T) (xs : List T) → eq x y ≡ true → AllByRecursion (λ z. eq x z ≡ false) xs → AllByRecursion (λ z. eq y z ≡ false) xs
+  all_like x y [] e h = tt
+  all_like x y (z ∷ zs) e h = (sym (o.congr x y z e) ∙ h.0, all_like x y zs e h.1)
+
+  all_set : (P : T → Type 0) (xs : List T) (i : ℕ) (y : T) → P y → AllByRecursion P xs → AllByRecursion P (slice_set xs i y)
+  all_set P [] i y p h = h
+  all_set P (x ∷ xs) zero y p h = (p, h.1)
+  all_set P (x ∷ xs) (suc i) y p h = (h.0, all_set P xs i y p h.1)
+
+  apart_at : (x : T) (xs : List T) (i : ℕ) (y : T) → i < length xs → eq y (get_or xs i y) ≡ true → AllByRecursion (λ z. eq x z ≡ false) xs → eq x y ≡ false
+  apart_at x [] i y l e h = absurd (omega arith)
+  apart_at x (z ∷ zs) zero y l e h = o.symm x y ∙ o.congr y z x e ∙ o.symm z x ∙ h.0
+  apart_at x (z ∷ zs) (suc i) y l e h = apart_at x zs i y (omega arith) e h.1
+
+  -- an equal element comes into the place i
+  pub distinct_replace : (xs : List T) (i : ℕ) (y : T) → i < length xs → eq y (get_or xs i y) ≡ true → IsDistinct eq xs → IsDistinct eq (slice_set xs i y)
+  unfolding IsDistinct
+  distinct_replace [] i y l e d = d
+  distinct_replace (x ∷ xs) zero y l e d = (all_like x y xs (o.symm x y ∙ e) d.0, d.1)
+  distinct_replace (x ∷ xs) (suc i) y l e d = (all_set (λ z. eq x z ≡ false) xs i y (apart_at x xs i y (omega arith) e d.0) d.0, distinct_replace xs i y (omega arith) e d.1)
+
+  pub distinct_add : (s : List T) (x : T) → IsDistinct eq s → IsDistinct eq (add eq s x)
+  distinct_add s x d = by (has_item eq s x) refl
+    where
+      by : (b : Bool) → has_item eq s x ≡ b → IsDistinct eq (if b then s else s ++ x ∷ [])
+      by true e = d
+      by false e = IsDistinct-push o s x d e
+
+  pub distinct_adds : (s xs : List T) → IsDistinct eq s → IsDistinct eq (adds eq s xs)
+  distinct_adds s [] d = d
+  distinct_adds s (x ∷ xs) d = distinct_adds (add eq s x) xs (distinct_add s x d)
+
+  pub distinct_add_new : (s : List T) (x : T) → IsDistinct eq s → IsDistinct eq (add_new eq s x)
+  distinct_add_new s x d = by (item_index eq s x) refl
+    where
+      by : (place : Option ℕ) → item_index eq s x ≡ place → IsDistinct eq (option_map_or (λ i. slice_set s i x) place (s ++ x ∷ []))
+      by None e = IsDistinct-push o s x d (sym (is_some-position (eq x) s) ∙ ap is_some e)
+      by (Some i) e =
+          let at = position-Some (eq x) s i x e in
+          distinct_replace s i x at.0 at.1 d

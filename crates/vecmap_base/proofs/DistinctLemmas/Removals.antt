@@ -1,0 +1,86 @@
+-- What is left of a distinct list is distinct.
+use Rattle.std.specs.Prelude.{◌≡◌, ℕ, ◌+◌, ◌≤◌, Bool, true, false, List, [], ◌∷◌, ◌++◌, drop, filter, if◌then◌else◌, remove, suc, take}
+use Rattle.std.specs.List.{between, IsDistinct, AllByRecursion, remove_range}
+use Rattle.std.proofs.Common.{sym, subst, arith}
+use Rattle.std.proofs.lemmas.List.{take-append-drop}
+use Rattle.std.proofs.lemmas.List.Edits.{split_between}
+use Rattle.std.proofs.lemmas.Map.Keys.{IsDistinct-tail}
+use Rattle.vecmap_base.specs.Kept.{Kept}
+
+module _ {T : Type 0} (eq : T → T → Bool) where
+  all_front : (P : T → Type 0) (xs ys : List T) → AllByRecursion P (xs ++ ys) → AllByRecursion P xs
+  all_front P [] ys h = tt
+  all_front P (x ∷ xs) ys h = (h.0, all_front P xs ys h.1)
+
+  pub distinct_front : (xs ys : List T) → IsDistinct eq (xs ++ ys) → IsDistinct eq xs
+  unfolding IsDistinct
+  distinct_front [] ys d = tt
+  distinct_front (x ∷ xs) ys d = (all_front (λ y. eq x y ≡ false) xs ys d.0, distinct_front xs ys d.1)
+
+  pub distinct_back : (xs ys : List T) → IsDistinct eq (xs ++ ys) → IsDistinct eq ys
+  distinct_back [] ys d = d
+  distinct_back (x ∷ xs) ys d = distinct_back xs ys (IsDistinct-tail eq x (xs ++ ys) d)
+
+  pub distinct_take : (n : ℕ) (xs : List T) → IsDistinct eq xs → IsDistinct eq (take n xs)
+  distinct_take n xs d = distinct_front (take n xs) (drop n xs) (rw take-append-drop d)
+
+  pub distinct_drop : (n : ℕ) (xs : List T) → IsDistinct eq xs → IsDistinct eq (drop n xs)
+  distinct_drop n xs d = distinct_back (take n xs) (drop n xs) (rw take-append-drop d)
+
+  all_cut : (P : T → Type 0) (xs ys zs : List T) → AllByRecursion P (xs ++ (ys ++ zs)) → AllByRecursion P (xs ++ zs)
+  all_cut P [] [] zs h = h
+  all_cut P [] (y ∷ ys) zs h = all_cut P [] ys zs h.1
+  all_cut P (x ∷ xs) ys zs h = (h.0, all_cut P xs ys zs h.1)
+
+  -- the part ys goes
+  pub distinct_cut : (xs ys zs : List T) → IsDistinct eq (xs ++ (ys ++ zs)) → IsDistinct eq (xs ++ zs)
+  unfolding IsDistinct
+  distinct_cut [] ys zs d = distinct_back ys zs d
+  distinct_cut (x ∷ xs) ys zs d = (all_cut (λ y. eq x y ≡ false) xs ys zs d.0, distinct_cut xs ys zs d.1)
+
+  pub distinct_remove_range : (xs : List T) (i j : ℕ) → i ≤ j → IsDistinct eq xs → IsDistinct eq (remove_range xs i j)
+  distinct_remove_range xs i j l d = distinct_cut (take i xs) (between i j xs) (drop j xs) (subst (IsDistinct eq) (split_between xs i j l) d)
+
+  pub distinct_remove : (xs : List T) (i : ℕ) → IsDistinct eq xs → IsDistinct eq (remove xs i)
+  distinct_remove xs i d =
+      let n : suc i ≡ i + 1 = omega arith in
+      subst (λ m. IsDistinct eq (take i xs ++ drop m xs)) (sym n) (distinct_remove_range xs i (i + 1) (omega arith) d)
+
+  -- a list with each element of another, by calls that write nothing: what a retaining closure leaves
+  module _ {F : Type 0} (R : F → T → Bool → T → F → Type 0) (keeps : (f g : F) (x y : T) (b : Bool) → R f x b y g → y ≡ x) where
+    all_kept : (P : T → Type 0) (f g : F) (l m : List T) → Kept R f l m g → AllByRecursion P l → AllByRecursion P m
+    all_kept P f g [] m k h = subst (AllByRecursion P) (sym k.0) tt
+    all_kept P f g (x ∷ xs) m k h = subst (AllByRecursion P) (sym k.6) (by k.0 k.1 k.3 (subst P (sym (keeps f k.2 x k.1 k.0 k.4)) h.0) (all_kept P k.2 g xs k.3 k.5 h.1))
+      where
+        by : (b : Bool) (y : T) (ys : List T) → P y → AllByRecursion P ys → AllByRecursion P (if b then y ∷ ys else ys)
+        by true y ys p r = (p, r)
+        by false y ys p r = r
+
+    pub distinct_kept : (f g : F) (l m : List T) → Kept R f l m g → IsDistinct eq l → IsDistinct eq m
+    unfolding IsDistinct
+    distinct_kept f g [] m k d = subst (IsDistinct eq) (sym k.0) tt
+    distinct_kept f g (x ∷ xs) m k d =
+        let same = keeps f k.2 x k.1 k.0 k.4 in
+        let apart : AllByRecursion (λ z. eq k.1 z ≡ false) k.3 = subst (λ y. AllByRecursion (λ z. eq y z ≡ false) k.3) (sym same) (all_kept (λ z. eq x z ≡ false) k.2 g xs k.3 k.5 d.0) in
+        subst (IsDistinct eq) (sym k.6) (by k.0 k.1 k.3 apart (distinct_kept k.2 g xs k.3 k.5 d.1))
+      where
+        by : (b : Bool) (y : T) (ys : List T) → AllByRecursion (λ z. eq y z ≡ false) ys → IsDistinct eq ys → IsDistinct eq (if b then y ∷ ys else ys)
+        by true y ys a r = (a, r)
+        by false y ys a r = r
+
+  all_filter : (P : T → Type 0) (p : T → Bool) (xs : List T) → AllByRecursion P xs → AllByRecursion P (filter p xs)
+  all_filter P p [] h = tt
+  all_filter P p (x ∷ xs) h = by (p x) (all_filter P p xs h.1)
+    where
+      by : (b : Bool) → AllByRecursion P (filter p xs) → AllByRecursion P (if b then x ∷ filter p xs else filter p xs)
+      by true r = (h.0, r)
+      by false r = r
+
+  pub distinct_filter : (p : T → Bool) (xs : List T) → IsDistinct eq xs → IsDistinct eq (filter p xs)
+  unfolding IsDistinct
+  distinct_filter p [] d = tt
+  distinct_filter p (x ∷ xs) d = by (p x) (distinct_filter p xs d.1)
+    where
+      by : (b : Bool) → IsDistinct eq (filter p xs) → IsDistinct eq (if b then x ∷ filter p xs else filter p xs)
+      by true r = (all_filter (λ y. eq x y ≡ false) p xs d.0, r)
+      by false r = r

@@ -1,0 +1,8 @@
+-- Worked examples of the definitions.
+mod Clones
+mod Equality
+mod Items
+mod Kept
+mod Pairs
+mod Repeats
+mod Tagged

@@ -1,0 +1,31 @@
+-- What additions in turn make of a list.
+use Rattle.std.specs.Prelude.{◌≡◌, ℕ, Bool, true, false, List, [], ◌∷◌, ◌++◌, if◌then◌else◌, ◌+◌, ◌<◌, length, take}
+use Rattle.std.specs.Cmp.{IsEquivalence}
+use Rattle.std.specs.List.{IsDistinct}
+use Rattle.std.proofs.Common.{ap, ◌∙◌, get_or, sym, subst}
+use Rattle.std.proofs.lemmas.List.{append-nil, append_assoc}
+use Rattle.std.proofs.lemmas.List.Sums.{fold_more}
+use Rattle.vecmap_base.specs.Items.{add, adds, has_item}
+use Rattle.vecmap_base.proofs.DistinctLemmas.Absent.{none_before}
+
+module _ {T : Type 0} (eq : T → T → Bool) where
+  pub add_absent : (s : List T) (x : T) → has_item eq s x ≡ false → add eq s x ≡ s ++ x ∷ []
+  add_absent s x e = ap (λ b. if b then s else s ++ x ∷ []) e
+
+  pub add_present : (s : List T) (x : T) → has_item eq s x ≡ true → add eq s x ≡ s
+  add_present s x e = ap (λ b. if b then s else s ++ x ∷ []) e
+
+  -- one more addition
+  pub adds_more : (xs : List T) (i : ℕ) (d : T) → i < length xs → adds eq [] (take (i + 1) xs) ≡ add eq (adds eq [] (take i xs)) (get_or xs i d)
+  adds_more xs i d l = fold_more (add eq) [] xs i d l
+
+  module _ (o : IsEquivalence eq) where
+    pub adds_apart : (s xs : List T) → IsDistinct eq (s ++ xs) → adds eq s xs ≡ s ++ xs
+    adds_apart s [] d = sym (append-nil s)
+    adds_apart s (x ∷ xs) d =
+        let moved : (s ++ x ∷ []) ++ xs ≡ s ++ x ∷ xs = append_assoc s (x ∷ []) xs in
+        ap (λ l. adds eq l xs) (add_absent s x (none_before eq o s x xs d)) ∙ adds_apart (s ++ x ∷ []) xs (subst (IsDistinct eq) (sym moved) d) ∙ moved
+
+    -- a distinct list has no repeat to lose
+    pub adds_distinct : (xs : List T) → IsDistinct eq xs → adds eq [] xs ≡ xs
+    adds_distinct xs d = adds_apart [] xs d

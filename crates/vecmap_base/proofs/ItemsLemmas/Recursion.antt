@@ -1,0 +1,100 @@
+-- What the definitions on elements say of an empty list and of a longer one.
+use Rattle.std.specs.Prelude.{◌≡◌, ℕ, suc, Bool, true, false, ◌&&◌, ◌||◌, List, [], ◌∷◌, ◌++◌, Option, None, Some, if◌then◌else◌, not, position, remove, slice_get, slice_set, refl}
+use Rattle.std.specs.Option.{option_and_then, option_map, option_map_or}
+use Rattle.std.proofs.Common.{ap, ◌∙◌}
+use Rattle.vecmap_base.specs.Equality.{is_within}
+use Rattle.vecmap_base.specs.Items.{add, add_new, adds, both, has_item, item_index, only, stored_item, without_first, without_item, swap_without}
+use Rattle.vecmap_base.proofs.PlaceLemmas.{position-cons}
+
+-- the only element goes
+pub swap_without-one : {T : Type 0} (x : T) → swap_without (x ∷ []) 0 ≡ []
+swap_without-one x = refl
+
+module _ {T : Type 0} (test : T → Bool) where
+  without_first-nil : without_first test [] ≡ []
+  without_first-nil = refl
+
+  pub without_first-cons : (x : T) (xs : List T) → without_first test (x ∷ xs) ≡ (if test x then xs else x ∷ without_first test xs)
+  without_first-cons x xs = ap (λ o. option_map_or (λ i. remove (x ∷ xs) i) o (x ∷ xs)) (position-cons test x xs) ∙ by (test x) (position test xs)
+    where
+      by : (b : Bool) (o : Option ℕ) → option_map_or (λ i. remove (x ∷ xs) i) (if b then Some 0 else option_map suc o) (x ∷ xs) ≡ (if b then xs else x ∷ option_map_or (λ i. remove xs i) o xs)
+      by true o = refl
+      by false None = refl
+      by false (Some i) = refl
+
+module _ {T : Type 0} (eq : T → T → Bool) where
+  item_index-nil : (x : T) → item_index eq [] x ≡ None
+  item_index-nil x = refl
+
+  pub item_index-cons : (y : T) (ys : List T) (x : T) → item_index eq (y ∷ ys) x ≡ (if eq x y then Some 0 else option_map suc (item_index eq ys x))
+  item_index-cons y ys x = position-cons (eq x) y ys
+
+  has_item-nil : (x : T) → has_item eq [] x ≡ false
+  has_item-nil x = refl
+
+  has_item-cons : (y : T) (ys : List T) (x : T) → has_item eq (y ∷ ys) x ≡ (eq x y || has_item eq ys x)
+  has_item-cons y ys x = refl
+
+  stored_item-nil : (x : T) → stored_item eq [] x ≡ None
+  stored_item-nil x = refl
+
+  pub stored_item-cons : (y : T) (ys : List T) (x : T) → stored_item eq (y ∷ ys) x ≡ (if eq x y then Some y else stored_item eq ys x)
+  stored_item-cons y ys x = ap (option_and_then (slice_get (y ∷ ys))) (item_index-cons y ys x) ∙ by (eq x y) (item_index eq ys x)
+    where
+      by : (b : Bool) (o : Option ℕ) → option_and_then (slice_get (y ∷ ys)) (if b then Some 0 else option_map suc o) ≡ (if b then Some y else option_and_then (slice_get ys) o)
+      by true o = refl
+      by false None = refl
+      by false (Some i) = refl
+
+  add-nil : (x : T) → add eq [] x ≡ x ∷ []
+  add-nil x = refl
+
+  pub add-cons : (y : T) (ys : List T) (x : T) → add eq (y ∷ ys) x ≡ (if eq x y then y ∷ ys else y ∷ add eq ys x)
+  add-cons y ys x = by (eq x y) (has_item eq ys x)
+    where
+      by : (b c : Bool) → (if b || c then y ∷ ys else y ∷ ys ++ x ∷ []) ≡ (if b then y ∷ ys else y ∷ (if c then ys else ys ++ x ∷ []))
+      by true c = refl
+      by false true = refl
+      by false false = refl
+
+  adds-nil : (s : List T) → adds eq s [] ≡ s
+  adds-nil s = refl
+
+  adds-cons : (s : List T) (x : T) (xs : List T) → adds eq s (x ∷ xs) ≡ adds eq (add eq s x) xs
+  adds-cons s x xs = refl
+
+  add_new-nil : (x : T) → add_new eq [] x ≡ x ∷ []
+  add_new-nil x = refl
+
+  pub add_new-cons : (y : T) (ys : List T) (x : T) → add_new eq (y ∷ ys) x ≡ (if eq x y then x ∷ ys else y ∷ add_new eq ys x)
+  add_new-cons y ys x = ap (λ o. option_map_or (λ i. slice_set (y ∷ ys) i x) o (y ∷ ys ++ x ∷ [])) (item_index-cons y ys x) ∙ by (eq x y) (item_index eq ys x)
+    where
+      by : (b : Bool) (o : Option ℕ) → option_map_or (λ i. slice_set (y ∷ ys) i x) (if b then Some 0 else option_map suc o) (y ∷ ys ++ x ∷ []) ≡ (if b then x ∷ ys else y ∷ option_map_or (λ i. slice_set ys i x) o (ys ++ x ∷ []))
+      by true o = refl
+      by false None = refl
+      by false (Some i) = refl
+
+  pub without_item-cons : (y : T) (ys : List T) (x : T) → without_item eq (y ∷ ys) x ≡ (if eq x y then ys else y ∷ without_item eq ys x)
+  without_item-cons y ys x = without_first-cons (eq x) y ys
+
+  both-nil : (b : List T) → both eq [] b ≡ []
+  both-nil b = refl
+
+  both-cons : (x : T) (a b : List T) → both eq (x ∷ a) b ≡ (if has_item eq b x then x ∷ both eq a b else both eq a b)
+  both-cons x a b = refl
+
+  only-nil : (b : List T) → only eq [] b ≡ []
+  only-nil b = refl
+
+  only-cons : (x : T) (a b : List T) → only eq (x ∷ a) b ≡ (if has_item eq b x then only eq a b else x ∷ only eq a b)
+  only-cons x a b = by (has_item eq b x)
+    where
+      by : (c : Bool) → (if not c then x ∷ only eq a b else only eq a b) ≡ (if c then only eq a b else x ∷ only eq a b)
+      by true = refl
+      by false = refl
+
+  is_within-nil : (b : List T) → is_within eq [] b ≡ true
+  is_within-nil b = refl
+
+  is_within-cons : (x : T) (a b : List T) → is_within eq (x ∷ a) b ≡ (has_item eq b x && is_within eq a b)
+  is_within-cons x a b = refl

@@ -1,0 +1,68 @@
+-- What the definitions on pairs say of an empty list and of a longer one.
+use Rattle.std.specs.Prelude.{◌≡◌, ℕ, suc, Bool, true, false, List, [], ◌∷◌, ◌++◌, Option, None, Some, if◌then◌else◌, refl}
+use Rattle.std.specs.Option.{option_map, option_map_or, option_and_then}
+use Rattle.std.proofs.Common.{ap, ◌∙◌}
+use Rattle.vecmap_base.specs.Pairs.{index_of, lookup, put, put_key, puts, with_pair, with_value, without_key, index_by, lookup_by, value_at}
+use Rattle.vecmap_base.proofs.ItemsLemmas.Recursion.{without_first-cons}
+use Rattle.vecmap_base.proofs.PlaceLemmas.{position-cons}
+use Rattle.vecmap_base.proofs.PairsLemmas.Values.{with_value-cons}
+
+module _ {K V : Type 0} (test : K → Bool) where
+  -- a lookup in a longer list
+  pub lookup_by-cons : (p : K × V) (ps : List (K × V)) → lookup_by test (p ∷ ps) ≡ (if test p.0 then Some p.1 else lookup_by test ps)
+  lookup_by-cons p ps = ap (option_and_then (value_at (p ∷ ps))) (position-cons (λ q. test q.0) p ps) ∙ by (test p.0) (index_by test ps)
+    where
+      by : (b : Bool) (o : Option ℕ) → option_and_then (value_at (p ∷ ps)) (if b then Some 0 else option_map suc o) ≡ (if b then Some p.1 else option_and_then (value_at ps) o)
+      by true o = refl
+      by false None = refl
+      by false (Some i) = refl
+
+module _ {K : Type 0} (V : Type 0) (eq : K → K → Bool) where
+  index_of-nil : (k : K) → index_of {V = V} eq [] k ≡ None
+  index_of-nil k = refl
+
+  lookup-nil : (k : K) → lookup {V = V} eq [] k ≡ None
+  lookup-nil k = refl
+
+  without_key-nil : (k : K) → without_key {V = V} eq [] k ≡ []
+  without_key-nil k = refl
+
+module _ {K V : Type 0} (eq : K → K → Bool) where
+  pub index_of-cons : (p : K × V) (ps : List (K × V)) (k : K) → index_of eq (p ∷ ps) k ≡ (if eq k p.0 then Some 0 else option_map suc (index_of eq ps k))
+  index_of-cons p ps k = position-cons (λ q. eq k q.0) p ps
+
+  pub lookup-cons : (p : K × V) (ps : List (K × V)) (k : K) → lookup eq (p ∷ ps) k ≡ (if eq k p.0 then Some p.1 else lookup eq ps k)
+  lookup-cons p ps k = lookup_by-cons (eq k) p ps
+
+  put-nil : (k : K) (v : V) → put eq [] k v ≡ (k, v) ∷ []
+  put-nil k v = refl
+
+  pub put-cons : (p : K × V) (ps : List (K × V)) (k : K) (v : V) → put eq (p ∷ ps) k v ≡ (if eq k p.0 then (p.0, v) ∷ ps else p ∷ put eq ps k v)
+  put-cons p ps k v = ap (λ o. option_map_or (λ i. with_value (p ∷ ps) i v) o (p ∷ ps ++ (k, v) ∷ [])) (index_of-cons p ps k) ∙ by (eq k p.0) (index_of eq ps k)
+    where
+      by : (b : Bool) (o : Option ℕ) → option_map_or (λ i. with_value (p ∷ ps) i v) (if b then Some 0 else option_map suc o) (p ∷ ps ++ (k, v) ∷ [])
+          ≡ (if b then (p.0, v) ∷ ps else p ∷ option_map_or (λ i. with_value ps i v) o (ps ++ (k, v) ∷ []))
+      by true o = refl
+      by false None = refl
+      by false (Some i) = with_value-cons p ps i v
+
+  puts-nil : (l : List (K × V)) → puts eq l [] ≡ l
+  puts-nil l = refl
+
+  puts-cons : (l : List (K × V)) (p : K × V) (ps : List (K × V)) → puts eq l (p ∷ ps) ≡ puts eq (put eq l p.0 p.1) ps
+  puts-cons l p ps = refl
+
+  put_key-nil : (k : K) (v : V) → put_key eq [] k v ≡ (k, v) ∷ []
+  put_key-nil k v = refl
+
+  pub put_key-cons : (p : K × V) (ps : List (K × V)) (k : K) (v : V) → put_key eq (p ∷ ps) k v ≡ (if eq k p.0 then (k, v) ∷ ps else p ∷ put_key eq ps k v)
+  put_key-cons p ps k v = ap (λ o. option_map_or (λ i. with_pair (p ∷ ps) i k v) o (p ∷ ps ++ (k, v) ∷ [])) (index_of-cons p ps k) ∙ by (eq k p.0) (index_of eq ps k)
+    where
+      by : (b : Bool) (o : Option ℕ) → option_map_or (λ i. with_pair (p ∷ ps) i k v) (if b then Some 0 else option_map suc o) (p ∷ ps ++ (k, v) ∷ [])
+          ≡ (if b then (k, v) ∷ ps else p ∷ option_map_or (λ i. with_pair ps i k v) o (ps ++ (k, v) ∷ []))
+      by true o = refl
+      by false None = refl
+      by false (Some i) = refl
+
+  pub without_key-cons : (p : K × V) (ps : List (K × V)) (k : K) → without_key eq (p ∷ ps) k ≡ (if eq k p.0 then ps else p ∷ without_key eq ps k)
+  without_key-cons p ps k = without_first-cons (λ q. eq k q.0) p ps

@@ -1,0 +1,39 @@
+-- A list of pairs is its keys and its values, and a write of a value leaves the keys.
+use Rattle.std.specs.Prelude.{◌≡◌, ℕ, suc, List, [], ◌∷◌, Option, None, Some, length, refl, zero, ◌<◌, slice_get, slice_set}
+use Rattle.std.specs.Map.{keys_of, values_of}
+use Rattle.std.specs.Option.{option_map_or}
+use Rattle.std.proofs.Common.{ap, ◌∙◌, get_or, set, sym}
+use Rattle.std.proofs.lemmas.List.{get_or-map}
+use Rattle.vecmap_base.specs.Pairs.{with_value}
+
+module _ {K V : Type 0} where
+  pub key_at : (l : List (K × V)) (i : ℕ) (p : K × V) (k : K) → i < length l → (get_or l i p).0 ≡ get_or (keys_of l) i k
+  key_at l i p k h = sym (get_or-map (λ q. q.0) l i p k h)
+
+  -- a list of pairs is its keys and its values
+  pub same_pairs : (l m : List (K × V)) → keys_of l ≡ keys_of m → values_of l ≡ values_of m → l ≡ m
+  same_pairs [] [] e f = refl
+  same_pairs [] (q ∷ qs) e f = absurd (let x : [] ≡ q.0 ∷ keys_of qs = e in cc)
+  same_pairs (p ∷ ps) [] e f = absurd (let x : p.0 ∷ keys_of ps ≡ [] = e in cc)
+  same_pairs (p ∷ ps) (q ∷ qs) e f =
+      let key : p.0 ≡ q.0 = cc in
+      let value : p.1 ≡ q.1 = cc in
+      λ t. (key t, value t) ∷ same_pairs ps qs (cc) (cc) t
+
+  pub with_value-cons : (p : K × V) (ps : List (K × V)) (i : ℕ) (v : V) → with_value (p ∷ ps) (suc i) v ≡ p ∷ with_value ps i v
+  with_value-cons p ps i v = by (slice_get ps i)
+    where
+      by : (o : Option (K × V)) → option_map_or (λ q. p ∷ slice_set ps i (q.0, v)) o (p ∷ ps) ≡ p ∷ option_map_or (λ q. slice_set ps i (q.0, v)) o ps
+      by None = refl
+      by (Some q) = refl
+
+  -- a write of a value leaves each key
+  pub keys_of-with_value : (l : List (K × V)) (i : ℕ) (v : V) → keys_of (with_value l i v) ≡ keys_of l
+  keys_of-with_value [] i v = refl
+  keys_of-with_value (p ∷ ps) zero v = refl
+  keys_of-with_value (p ∷ ps) (suc i) v = ap keys_of (with_value-cons p ps i v) ∙ ap (λ ks. p.0 ∷ ks) (keys_of-with_value ps i v)
+
+  pub values_of-with_value : (l : List (K × V)) (i : ℕ) (v : V) → values_of (with_value l i v) ≡ set (values_of l) i v
+  values_of-with_value [] i v = refl
+  values_of-with_value (p ∷ ps) zero v = refl
+  values_of-with_value (p ∷ ps) (suc i) v = ap values_of (with_value-cons p ps i v) ∙ ap (λ vs. p.1 ∷ vs) (values_of-with_value ps i v)

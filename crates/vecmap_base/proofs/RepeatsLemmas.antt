@@ -1,0 +1,3 @@
+-- Removal of repeats in place, and what it costs.
+pub mod Cost
+pub mod Gather
