@@ -8,6 +8,7 @@ module _ {U T : Type 0} (becomes : U → T → Type 0) where
   StopsAt {A} steps iter R = (it : T) × (items : List A) × (next : A) × (rest : T)
       × becomes iter it × YieldsThen steps it items (Some next) rest × R items next
 
-  -- beside the n that are there, as many more as `iter` may give fit in a room for c
+  -- beside the n that are there, as many more as `iter` may give fit in a room for c. The calls that ask this require
+  -- that `iter` ends: of an endless iterator it would say no more than n ≤ c, since the `size` of no bound is 0
   abbrev pub HasRoomForAll : (T → Count) → U → ℕ → ℕ → Type 0
   HasRoomForAll left iter n c = (it : T) → becomes iter it → n + size (left it) ≤ c

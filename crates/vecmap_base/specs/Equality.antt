@@ -4,6 +4,13 @@ use Rattle.std.specs.List.{count_by, list_all, list_any}
 use Rattle.std.specs.Map.{keys_of}
 use Rattle.vecmap_base.specs.Pairs.{lookup}
 
+-- both are none, or the values are equal
+abbrev pub same_option : {V : Type 0} → (V → V → Bool) → Option V → Option V → Bool
+same_option value None None = true
+same_option value None (Some w) = false
+same_option value (Some v) None = false
+same_option value (Some v) (Some w) = value v w
+
 module _ {K V : Type 0} (key : K → K → Bool) (value : V → V → Bool) where
   -- the keys are equal, and the values are
   abbrev pub same_pair : K × V → K × V → Bool
@@ -21,16 +28,9 @@ module _ {K V : Type 0} (key : K → K → Bool) (value : V → V → Bool) wher
   abbrev pub has_same_counts : List (K × V) → List (K × V) → Bool
   has_same_counts a b = counts_agree a a b && counts_agree b a b
 
-  -- both are none, or the values are equal
-  abbrev pub same_option : Option V → Option V → Bool
-  same_option None None = true
-  same_option None (Some w) = false
-  same_option (Some v) None = false
-  same_option (Some v) (Some w) = value v w
-
   -- each of these keys has the same value in both lists, or none in both
   abbrev pub lookups_agree : List K → List (K × V) → List (K × V) → Bool
-  lookups_agree keys a b = list_all (λ k. same_option (lookup key a k) (lookup key b k)) keys
+  lookups_agree keys a b = list_all (λ k. same_option value (lookup key a k) (lookup key b k)) keys
 
   -- the lookups of each key of either list agree
   abbrev pub agrees : List (K × V) → List (K × V) → Bool

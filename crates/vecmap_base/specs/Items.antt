@@ -12,6 +12,10 @@ module _ {T : Type 0} (test : T → Bool) where
   abbrev pub without_first : List T → List T
   without_first s = option_map_or (λ i. remove s i) (position test s) s
 
+  -- s with its last element in the place of that one
+  abbrev pub swap_without_first : List T → List T
+  swap_without_first s = option_map_or (λ i. swap_without s i) (position test s) s
+
 module _ {T : Type 0} (eq : T → T → Bool) where
   -- the first place whose element is equal to x
   abbrev pub item_index : List T → T → Option ℕ
@@ -43,7 +47,7 @@ module _ {T : Type 0} (eq : T → T → Bool) where
 
   -- s with its last element in the place of the one that is equal to x
   abbrev pub swap_without_item : List T → T → List T
-  swap_without_item s x = option_map_or (λ i. swap_without s i) (item_index s x) s
+  swap_without_item s x = swap_without_first (eq x) s
 
   -- the elements of a that are in b, in the order of a
   abbrev pub both : List T → List T → List T

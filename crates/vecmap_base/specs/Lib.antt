@@ -1,3 +1,4 @@
+pub mod Asked
 pub mod Bulk
 pub mod Clones
 pub mod Equality

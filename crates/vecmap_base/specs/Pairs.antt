@@ -31,6 +31,10 @@ module _ {K V : Type 0} (test : K → Bool) where
   abbrev pub without_by : List (K × V) → List (K × V)
   without_by l = option_map_or (λ i. remove l i) (index_by l) l
 
+  -- l with the last pair in the place of that one
+  abbrev pub swap_without_by : List (K × V) → List (K × V)
+  swap_without_by l = option_map_or (λ i. swap_without l i) (index_by l) l
+
 module _ {K V : Type 0} (eq : K → K → Bool) where
   -- the first place whose key is equal to k
   abbrev pub index_of : List (K × V) → K → Option ℕ
@@ -74,7 +78,7 @@ module _ {K V : Type 0} (eq : K → K → Bool) where
 
   -- l with the last pair in the place of the first whose key is equal to k
   abbrev pub swap_without_key : List (K × V) → K → List (K × V)
-  swap_without_key l k = option_map_or (λ i. swap_without l i) (index_of l k) l
+  swap_without_key l k = swap_without_by (eq k) l
 
   -- no two places hold equal keys
   abbrev pub HasDistinctKeys : List (K × V) → Type 0

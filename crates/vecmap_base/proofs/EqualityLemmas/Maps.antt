@@ -69,14 +69,14 @@ module _ {K V : Type 0} (key : K → K → Bool) (value : V → V → Bool) (k :
             past ∙ rest ∙ ap (λ o. hits o w) (sym (look key p ps x false e))
       ]
 
-  hits_from_same : (a b : Option V) (w : V) → same_option key value a b ≡ true → hits a w ≡ hits b w
+  hits_from_same : (a b : Option V) (w : V) → same_option value a b ≡ true → hits a w ≡ hits b w
   unfolding hits
   hits_from_same None None w e = refl
   hits_from_same None (Some y) w e = absurd (true≢false (sym e))
   hits_from_same (Some x) None w e = absurd (true≢false (sym e))
   hits_from_same (Some x) (Some y) w e = ap (λ b. cond b 1 0) (v.symm w x ∙ v.congr x y w e ∙ v.symm y w)
 
-  same_from_hits : (a b : Option V) → ((w : V) → hits a w ≡ hits b w) → same_option key value a b ≡ true
+  same_from_hits : (a b : Option V) → ((w : V) → hits a w ≡ hits b w) → same_option value a b ≡ true
   unfolding hits
   same_from_hits None None h = refl
   same_from_hits None (Some y) h = absurd (let e : 0 ≡ cond (value y y) 1 0 = h y in let f = rw (v.refl y) at e in omega (arith, f))
@@ -89,14 +89,14 @@ module _ {K V : Type 0} (key : K → K → Bool) (value : V → V → Bool) (k :
 
   -- at each key, the two lookups are both none or equal
   abbrev pub SameLookups : List (K × V) → List (K × V) → Type 0
-  SameLookups a b = (x : K) → same_option key value (lookup key a x) (lookup key b x) ≡ true
+  SameLookups a b = (x : K) → same_option value (lookup key a x) (lookup key b x) ≡ true
 
-  at_key : (keys : List K) (a b : List (K × V)) (x : K) → lookups_agree key value keys a b ≡ true → list_any (key x) keys ≡ true → same_option key value (lookup key a x) (lookup key b x) ≡ true
+  at_key : (keys : List K) (a b : List (K × V)) (x : K) → lookups_agree key value keys a b ≡ true → list_any (key x) keys ≡ true → same_option value (lookup key a x) (lookup key b x) ≡ true
   at_key [] a b x e h = absurd (true≢false (sym h))
   at_key (y ∷ ys) a b x e h =
-      let both = and_parts (same_option key value (lookup key a y) (lookup key b y)) (lookups_agree key value ys a b) e in
+      let both = and_parts (same_option value (lookup key a y) (lookup key b y)) (lookups_agree key value ys a b) e in
       elim (cases_Bool (key x y)) [
-        | inl i ↦ (λ t. same_option key value (lookup_congr key k a x y i t) (lookup_congr key k b x y i t)) ∙ both.0
+        | inl i ↦ (λ t. same_option value (lookup_congr key k a x y i t) (lookup_congr key k b x y i t)) ∙ both.0
         | inr i ↦ at_key ys a b x both.1 (sym (ap (λ c. c || list_any (key x) ys) i) ∙ h)
       ]
 
@@ -108,7 +108,7 @@ module _ {K V : Type 0} (key : K → K → Bool) (value : V → V → Bool) (k :
         | inr h ↦
             elim (cases_Bool (list_any (key x) (keys_of b))) [
               | inl i ↦ at_key (keys_of b) a b x both.1 i
-              | inr i ↦ λ t. same_option key value (lookup_absent key a x h t) (lookup_absent key b x i t)
+              | inr i ↦ λ t. same_option value (lookup_absent key a x h t) (lookup_absent key b x i t)
             ]
       ]
 

@@ -27,7 +27,7 @@ lookups_do_not_settle_repeats = refl
 how_often : count nat_eq nat_eq ((1, 5) ∷ (1, 5) ∷ (1, 6) ∷ []) (1, 5) ≡ 2
 how_often = refl
 
-values_or_none : (same_option {V = ℕ} nat_eq nat_eq None None ≡ true) × (same_option {V = ℕ} nat_eq nat_eq (Some 5) (Some 5) ≡ true) × (same_option {V = ℕ} nat_eq nat_eq (Some 5) None ≡ false) × (same_option {V = ℕ} nat_eq nat_eq (Some 5) (Some 6) ≡ false)
+values_or_none : (same_option {V = ℕ} nat_eq None None ≡ true) × (same_option nat_eq (Some 5) (Some 5) ≡ true) × (same_option nat_eq (Some 5) None ≡ false) × (same_option nat_eq (Some 5) (Some 6) ≡ false)
 values_or_none = (refl, refl, refl, refl)
 
 -- the keys of one list alone say too little
