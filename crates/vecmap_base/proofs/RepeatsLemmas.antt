@@ -1,3 +1,4 @@
 -- Removal of repeats in place, and what it costs.
+pub mod Comparisons
 pub mod Cost
 pub mod Gather

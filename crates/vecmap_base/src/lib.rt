@@ -6,6 +6,7 @@
 
 mod distinct;
 mod equality;
+pub mod laws;
 mod lookup;
 mod moving;
 mod refused;

@@ -1,22 +1,22 @@
 //! Removal of repeats in place: nothing is shifted, and one truncation ends it.
-ghost use Rattle.std.specs.Prelude.{◌≡◌, ◌+◌, ◌<◌, ◌≤◌, [], IfSome, IsNone, false, length, swap, take, vec_capacity};
-ghost use Rattle.std.specs.List.{IsDistinct};
+//!
+//! Each item is compared with those before it that stay, in order, up to the first that is equal to it. So n items take
+//! at most n(n-1)/2 comparisons, and exactly as many where no two are equal (`laws`).
+ghost use Rattle.std.specs.Prelude.{◌≡◌, ◌+◌, ◌<◌, ◌≤◌, [], IfSome, length, swap, take, vec_capacity};
 ghost use Rattle.std.specs.List.Sorted.{IsPermutation};
 ghost use Rattle.std.specs.Map.{keys_of, values_of};
 ghost use Rattle.vecmap_base.specs.Items.{adds, has_item};
-ghost use Rattle.vecmap_base.specs.Pairs.{HasDistinctKeys, index_of, puts};
-ghost use Rattle.vecmap_base.specs.Repeats.{cost};
+ghost use Rattle.vecmap_base.specs.Pairs.{index_of, puts};
+ghost use Rattle.vecmap_base.specs.Repeats.{comparisons, cost, search_cost};
 
 use crate::steps::Steps;
 use std::mem;
 
-// Whether an element of `front` is equal to `item`.
+// Whether an element of `front` is equal to `item`. It stops at the first that is.
 fn is_repeat<T: Eq>(front: &[T], item: &T, steps: &mut Steps) -> bool
-    requires room { steps.old + length front.now ≤ u128.MAX }
+    requires countable { steps.old + length front.now ≤ u128.MAX }
     ensures answer { result ≡ has_item T.eq front.now item.now }
-    ensures grows { steps.old ≤ steps.new }
-    ensures at_most { steps.new ≤ steps.old + length front.now }
-    ensures each_if_new { result ≡ false → steps.new ≡ steps.old + length front.now }
+    ensures counted { steps.new ≡ steps.old + search_cost T.eq front.now item.now }
 {
     for stored in front {
         if steps.same(item, stored) {
@@ -26,14 +26,12 @@ fn is_repeat<T: Eq>(front: &[T], item: &T, steps: &mut Steps) -> bool
     false
 }
 
-// The first place of `front` whose key is equal to `key`.
+// The first place of `front` whose key is equal to `key`. It stops there.
 fn find_repeat<K: Eq, V>(front: &[(K, V)], key: &K, steps: &mut Steps) -> Option<usize>
-    requires room { steps.old + length front.now ≤ u128.MAX }
+    requires countable { steps.old + length front.now ≤ u128.MAX }
     ensures place { result ≡ index_of K.eq front.now key.now }
     ensures within { IfSome result (λ i. i < length front.now) }
-    ensures grows { steps.old ≤ steps.new }
-    ensures at_most { steps.new ≤ steps.old + length front.now }
-    ensures each_if_new { IsNone result → steps.new ≡ steps.old + length front.now }
+    ensures counted { steps.new ≡ steps.old + search_cost K.eq (keys_of front.now) key.now }
 {
     for (place, pair) in front.iter().enumerate() {
         if steps.same(key, &pair.0) {
@@ -57,17 +55,16 @@ fn swap_values<K, V>(pairs: &mut [(K, V)], i: usize, j: usize)
 /// Brings the pairs that the puts of all pairs in turn leave to the front, and answers how many they are: the first
 /// of equal keys, in order, each with its last value. All keys and all values stay in the slice, rearranged.
 ///
-/// It makes at most n(n-1)/2 comparisons for n pairs, and exactly as many where no two keys are equal. It takes no
-/// memory. The count and n(n-1)/2 must not be above `u128::MAX`, as they never are with a new `Steps`.
+/// Each key is compared with those before it that stay, up to the first equal one: at most n(n-1)/2 comparisons for n
+/// pairs, and exactly as many where no two keys are equal. It takes no memory. The count and n(n-1)/2 must not be above
+/// `u128::MAX`, as they never are with a new `Steps`.
 pub fn gather_pairs<K: Eq, V>(pairs: &mut [(K, V)], steps: &mut Steps) -> usize
-    requires room { steps.old + cost (length pairs.old) ≤ u128.MAX }
+    requires countable { steps.old + cost (length pairs.old) ≤ u128.MAX }
     ensures count { result ≡ length (puts K.eq [] pairs.old) }
     ensures front { take result pairs.new ≡ puts K.eq [] pairs.old }
     ensures keys { IsPermutation (keys_of pairs.old) (keys_of pairs.new) }
     ensures values { IsPermutation (values_of pairs.old) (values_of pairs.new) }
-    ensures grows { steps.old ≤ steps.new }
-    ensures at_most { steps.new ≤ steps.old + cost (length pairs.old) }
-    ensures exact_if_distinct { HasDistinctKeys K.eq pairs.old → steps.new ≡ steps.old + cost (length pairs.old) }
+    ensures counted { steps.new ≡ steps.old + comparisons K.eq (keys_of pairs.old) }
 {
     let mut kept = 0;
     for i in 0..pairs.len() {
@@ -86,16 +83,15 @@ pub fn gather_pairs<K: Eq, V>(pairs: &mut [(K, V)], steps: &mut Steps) -> usize
 /// Brings the first of equal elements to the front, in order, and answers how many they are. All elements stay in
 /// the slice, rearranged.
 ///
-/// It makes at most n(n-1)/2 comparisons for n elements, and exactly as many where no two are equal. It takes no
-/// memory. The count and n(n-1)/2 must not be above `u128::MAX`, as they never are with a new `Steps`.
+/// Each element is compared with those before it that stay, up to the first equal one: at most n(n-1)/2 comparisons for
+/// n elements, and exactly as many where no two are equal. It takes no memory. The count and n(n-1)/2 must not be above
+/// `u128::MAX`, as they never are with a new `Steps`.
 pub fn gather_items<T: Eq>(items: &mut [T], steps: &mut Steps) -> usize
-    requires room { steps.old + cost (length items.old) ≤ u128.MAX }
+    requires countable { steps.old + cost (length items.old) ≤ u128.MAX }
     ensures count { result ≡ length (adds T.eq [] items.old) }
     ensures front { take result items.new ≡ adds T.eq [] items.old }
     ensures items { IsPermutation items.old items.new }
-    ensures grows { steps.old ≤ steps.new }
-    ensures at_most { steps.new ≤ steps.old + cost (length items.old) }
-    ensures exact_if_distinct { IsDistinct T.eq items.old → steps.new ≡ steps.old + cost (length items.old) }
+    ensures counted { steps.new ≡ steps.old + comparisons T.eq items.old }
 {
     let mut kept = 0;
     for i in 0..items.len() {
@@ -110,16 +106,14 @@ pub fn gather_items<T: Eq>(items: &mut [T], steps: &mut Steps) -> usize
 
 /// Leaves what the puts of all pairs in turn leave: the first of equal keys, in order, each with its last value.
 ///
-/// It makes at most n(n-1)/2 comparisons for n pairs, and exactly as many where no two keys are equal. It takes no
-/// memory, and drops nothing before the last comparison. The count and n(n-1)/2 must not be above `u128::MAX`, as they
-/// never are with a new `Steps`.
+/// Each key is compared with those before it that stay, up to the first equal one: at most n(n-1)/2 comparisons for n
+/// pairs, and exactly as many where no two keys are equal. It takes no memory, and drops nothing before the last
+/// comparison. The count and n(n-1)/2 must not be above `u128::MAX`, as they never are with a new `Steps`.
 pub fn dedup_keep_last_value<K: Eq + Drop, V: Drop>(pairs: &mut Vec<(K, V)>, steps: &mut Steps)
-    requires room { steps.old + cost (length pairs.old.items) ≤ u128.MAX }
+    requires countable { steps.old + cost (length pairs.old.items) ≤ u128.MAX }
     ensures pairs { pairs.new.items ≡ puts K.eq [] pairs.old.items }
     ensures capacity { vec_capacity pairs.new ≡ vec_capacity pairs.old }
-    ensures grows { steps.old ≤ steps.new }
-    ensures at_most { steps.new ≤ steps.old + cost (length pairs.old.items) }
-    ensures exact_if_distinct { HasDistinctKeys K.eq pairs.old.items → steps.new ≡ steps.old + cost (length pairs.old.items) }
+    ensures counted { steps.new ≡ steps.old + comparisons K.eq (keys_of pairs.old.items) }
 {
     let kept = gather_pairs(pairs, steps);
     pairs.truncate(kept);
@@ -127,16 +121,14 @@ pub fn dedup_keep_last_value<K: Eq + Drop, V: Drop>(pairs: &mut Vec<(K, V)>, ste
 
 /// Leaves the first of equal elements, in order.
 ///
-/// It makes at most n(n-1)/2 comparisons for n elements, and exactly as many where no two are equal. It takes no
-/// memory, and drops nothing before the last comparison. The count and n(n-1)/2 must not be above `u128::MAX`, as they
-/// never are with a new `Steps`.
+/// Each element is compared with those before it that stay, up to the first equal one: at most n(n-1)/2 comparisons for
+/// n elements, and exactly as many where no two are equal. It takes no memory, and drops nothing before the last
+/// comparison. The count and n(n-1)/2 must not be above `u128::MAX`, as they never are with a new `Steps`.
 pub fn dedup_keep_first<T: Eq + Drop>(items: &mut Vec<T>, steps: &mut Steps)
-    requires room { steps.old + cost (length items.old.items) ≤ u128.MAX }
+    requires countable { steps.old + cost (length items.old.items) ≤ u128.MAX }
     ensures items { items.new.items ≡ adds T.eq [] items.old.items }
     ensures capacity { vec_capacity items.new ≡ vec_capacity items.old }
-    ensures grows { steps.old ≤ steps.new }
-    ensures at_most { steps.new ≤ steps.old + cost (length items.old.items) }
-    ensures exact_if_distinct { IsDistinct T.eq items.old.items → steps.new ≡ steps.old + cost (length items.old.items) }
+    ensures counted { steps.new ≡ steps.old + comparisons T.eq items.old.items }
 {
     let kept = gather_items(items, steps);
     items.truncate(kept);

@@ -1,17 +1,17 @@
-use Rattle.std.proofs.Common.{◌≡◌, ◌+◌, ◌<◌, take, length, get_or, [], ◌∷◌, ◌++◌, sym, ap, subst, ◌∙◌, arith}
+use Rattle.std.proofs.Common.{◌≡◌, ◌+◌, ◌<◌, take, length, get_or, [], ◌∷◌, ◌++◌, sym, ap, ◌∙◌, arith}
 use Rattle.std.proofs.lemmas.List.{length_push, length-take, take_all}
 use Rattle.std.proofs.lemmas.List.Sorted.{IsPermutation-trans}
 use Rattle.vecmap_base.specs.Items.{adds, has_item}
-use Rattle.vecmap_base.specs.Repeats.{cost}
-use Rattle.vecmap_base.proofs.RepeatsLemmas.Cost.{cost_more, cost_below}
-use Rattle.vecmap_base.proofs.ItemsLemmas.Additions.{adds_more, add_absent, add_present, adds_distinct}
+use Rattle.vecmap_base.specs.Repeats.{comparisons, search_cost}
+use Rattle.vecmap_base.proofs.RepeatsLemmas.Comparisons.{comparisons_below, comparisons_more}
+use Rattle.vecmap_base.proofs.ItemsLemmas.Additions.{adds_more, add_absent, add_present}
 use Rattle.vecmap_base.proofs.RepeatsLemmas.Gather.{front_swapped, rest_more}
 use Rattle.vecmap_base.proofs.repeats.gather_items.Goals as goal
 use Rattle.vecmap_base.proofs.repeats.gather_items.Goals.{then-not-is_repeat, else-not-is_repeat}
 
 pub is_repeat-requires : goal.is_repeat-requires
 is_repeat-requires g c = record {
-  room = omega (arith, length-take c.loop-i.kept c.loop-i.items, cost_below c.loop-i.i (length c.args.items.now) c.loop-i-test.true);
+  countable = omega (arith, length-take c.loop-i.kept c.loop-i.items, comparisons_below g.T.PartialEq.eq c.args.items.now c.loop-i.i c.loop-i-test.true);
 }
 
 pub loop-i-preserved : goal.loop-i-preserved
@@ -29,7 +29,8 @@ loop-i-preserved g c =
     let s = adds eq [] (take i xs) in
     let more = adds_more eq xs i x l in
     let next : x ≡ get_or xs i x = c.index-shared-i.is ∙ rest.0 in
-    let tried : length (take k ys) ≡ k = omega (arith, length-take k ys) in
+    let next_steps : c.is_repeat.new.steps ≡ c.loop-i.steps + search_cost eq s (get_or xs i x) = c.is_repeat.ensures.counted ∙ (λ t. c.loop-i.steps + search_cost eq (was.front t) (next t)) in
+    let counted : c.is_repeat.new.steps ≡ c.args.steps.now + comparisons eq (take (i + 1) xs) = omega (arith, next_steps, was.counted, comparisons_more eq xs i x l) in
     let answer : c.is_repeat.result ≡ has_item eq s (get_or xs i x) = c.is_repeat.ensures.answer ∙ (λ t. has_item eq (was.front t) (next t)) in
     elim c.if-not-is_repeat.branch [
       | then-not-is_repeat w ↦
@@ -42,9 +43,7 @@ loop-i-preserved g c =
             front = moved.0 ∙ (λ t. was.front t ++ rest.0 t ∷ []) ∙ sym new;
             rest = moved.1 ∙ rest.1;
             items = IsPermutation-trans _ _ _ was.items w.swap.ensures.permutation;
-            grows = omega arith;
-            at_most = omega (arith, cost_more i);
-            exact = λ e. omega (arith, cost_more i, was.exact (omega arith), c.is_repeat.ensures.each_if_new w.if-not-is_repeat.true);
+            counted = counted;
           })
       | else-not-is_repeat w ↦
           rw (w.items-is, w.kept-is) (
@@ -55,18 +54,10 @@ loop-i-preserved g c =
             front = was.front ∙ sym old;
             rest = rest.1;
             items = was.items;
-            grows = omega arith;
-            at_most = omega (arith, cost_more i);
-            exact = λ e. absurd (omega arith);
+            counted = counted;
           })
     ]
 
-pub returns-clause-exact_if_distinct : goal.returns-clause-exact_if_distinct
-returns-clause-exact_if_distinct g c d =
-    let eq = g.T.PartialEq.eq in
-    let xs = c.args.items.now in
-    let i = c.loop-i.i in
-    let n : i ≡ length xs = omega arith in
-    let all : adds eq [] (take i xs) ≡ xs = ap (adds eq []) (take_all i xs (omega arith)) ∙ adds_distinct eq g.met.T.Eq.laws xs d in
-    let k : c.loop-i.kept ≡ i = c.loop-i.invariant.count ∙ ap length all ∙ sym n in
-    subst (λ m. c.loop-i.steps ≡ c.args.steps.now + cost m) n (c.loop-i.invariant.exact k)
+pub returns-clause-counted : goal.returns-clause-counted
+returns-clause-counted g c =
+    c.loop-i.invariant.counted ∙ ap (λ l. c.args.steps.now + comparisons g.T.PartialEq.eq l) (take_all c.loop-i.i c.args.items.now (omega arith))

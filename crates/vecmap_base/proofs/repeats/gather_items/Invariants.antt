@@ -1,7 +1,7 @@
 use Rattle.std.proofs.Common.{◌≡◌, ◌+◌, ◌≤◌, take, drop, [], length}
 use Rattle.std.specs.List.Sorted.{IsPermutation}
 use Rattle.vecmap_base.specs.Items.{adds}
-use Rattle.vecmap_base.specs.Repeats.{cost}
+use Rattle.vecmap_base.specs.Repeats.{comparisons}
 use Rattle.vecmap_base.proofs.repeats.gather_items.Given as goal
 
 abbrev pub invariant-loop-i : goal.invariant-loop-i
@@ -11,7 +11,5 @@ invariant-loop-i g l = record {
   front : take l.kept l.items ≡ adds g.T.PartialEq.eq [] (take l.i l.initial.items);
   rest : drop l.i l.items ≡ drop l.i l.initial.items;
   items : IsPermutation l.initial.items l.items;
-  grows : l.initial.steps ≤ l.steps;
-  at_most : l.steps ≤ l.initial.steps + cost l.i;
-  exact : l.kept ≡ l.i → l.steps ≡ l.initial.steps + cost l.i;
+  counted : l.steps ≡ l.initial.steps + comparisons g.T.PartialEq.eq (take l.i l.initial.items);
 }

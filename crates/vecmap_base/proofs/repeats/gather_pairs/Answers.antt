@@ -1,20 +1,20 @@
-use Rattle.std.proofs.Common.{◌≡◌, ◌+◌, ◌<◌, None, take, length, get_or, [], ◌∷◌, ◌++◌, refl, sym, ap, subst, ◌∙◌, arith}
+use Rattle.std.proofs.Common.{◌≡◌, ◌+◌, ◌<◌, None, take, length, get_or, [], ◌∷◌, ◌++◌, sym, ap, subst, ◌∙◌, arith}
 use Rattle.std.specs.List.Sorted.{IsPermutation}
 use Rattle.std.specs.Map.{keys_of, values_of}
 use Rattle.std.proofs.lemmas.Map.Entries.{length-values_of}
 use Rattle.std.proofs.lemmas.List.{length_push, length-take, take_all}
 use Rattle.std.proofs.lemmas.List.Sorted.{IsPermutation-trans, IsPermutation-map, IsPermutation-swap}
 use Rattle.vecmap_base.specs.Pairs.{index_of, put, puts}
-use Rattle.vecmap_base.specs.Repeats.{cost}
-use Rattle.vecmap_base.proofs.RepeatsLemmas.Cost.{cost_more, cost_below}
-use Rattle.vecmap_base.proofs.PairsLemmas.Puts.{puts_more, put_absent, puts_distinct}
+use Rattle.vecmap_base.specs.Repeats.{comparisons, search_cost}
+use Rattle.vecmap_base.proofs.RepeatsLemmas.Comparisons.{key_comparisons_below, key_comparisons_more}
+use Rattle.vecmap_base.proofs.PairsLemmas.Puts.{puts_more, put_absent}
 use Rattle.vecmap_base.proofs.RepeatsLemmas.Gather.{front_put, front_swapped, rest_more}
 use Rattle.vecmap_base.proofs.repeats.gather_pairs.Goals as goal
 use Rattle.vecmap_base.proofs.repeats.gather_pairs.Goals.{in-Some, in-None}
 
 pub find_repeat-requires : goal.find_repeat-requires
 find_repeat-requires g c = record {
-  room = omega (arith, length-take c.loop-i.kept c.loop-i.pairs, cost_below c.loop-i.i (length c.args.pairs.now) c.loop-i-test.true);
+  countable = omega (arith, length-take c.loop-i.kept c.loop-i.pairs, key_comparisons_below g.K.PartialEq.eq c.args.pairs.now c.loop-i.i c.loop-i-test.true);
 }
 
 pub loop-i-preserved : goal.loop-i-preserved
@@ -32,14 +32,15 @@ loop-i-preserved g c =
     let s = puts eq [] (take i xs) in
     let q = get_or xs i p in
     let more = puts_more eq xs i p l in
-    let tried : length (take n ys) ≡ n = omega (arith, length-take n ys) in
+    let next_steps : c.find_repeat.new.steps ≡ c.loop-i.steps + search_cost eq (keys_of s) q.0 = c.find_repeat.ensures.counted ∙ (λ t. c.loop-i.steps + search_cost eq (keys_of (was.front t)) (rest.0 t).0) in
+    let counted : c.find_repeat.new.steps ≡ c.args.steps.now + comparisons eq (keys_of (take (i + 1) xs)) = omega (arith, next_steps, was.counted, key_comparisons_more eq xs i p l) in
     elim c.match-find_repeat.branch [
       | in-Some w ↦
           rw (w.pairs-is, w.kept-is) (
           let zs = w.swap_values.new.pairs in
           let j = w.in-Some.place in
           let long : length zs ≡ length ys = w.swap_values.auto.pairs in
-          let before : j < n = omega (arith, w.in-Some.ensures.within) in
+          let before : j < n = omega (arith, length-take n ys, w.in-Some.ensures.within) in
           let moved = front_put eq ys zs n j i (get_or ys i p).0 p before was.bound m w.swap_values.ensures.keys w.swap_values.ensures.values (sym w.in-Some.ensures.place) in
           let there : put eq (take n ys) (get_or ys i p).0 (get_or ys i p).1 ≡ puts eq [] (take (i + 1) xs) = (λ t. put eq (was.front t) (rest.0 t).0 (rest.0 t).1) ∙ sym more in
           let kept : length (take n zs) ≡ n = omega (arith, length-take n zs) in
@@ -50,9 +51,7 @@ loop-i-preserved g c =
             rest = moved.1 ∙ rest.1;
             keys = subst (IsPermutation (keys_of xs)) (sym w.swap_values.ensures.keys) was.keys;
             values = IsPermutation-trans _ _ _ was.values (IsPermutation-swap (values_of ys) (values_of zs) j i (omega (arith, length-values_of ys)) (omega (arith, length-values_of ys)) w.swap_values.ensures.values);
-            grows = omega arith;
-            at_most = omega (arith, cost_more i);
-            exact = λ e. absurd (omega arith);
+            counted = counted;
           })
       | in-None w ↦
           rw (w.pairs-is, w.kept-is) (
@@ -66,18 +65,10 @@ loop-i-preserved g c =
             rest = moved.1 ∙ rest.1;
             keys = IsPermutation-trans _ _ _ was.keys (IsPermutation-map (λ r. r.0) _ _ w.swap.ensures.permutation);
             values = IsPermutation-trans _ _ _ was.values (IsPermutation-map (λ r. r.1) _ _ w.swap.ensures.permutation);
-            grows = omega arith;
-            at_most = omega (arith, cost_more i);
-            exact = λ e. omega (arith, cost_more i, was.exact (omega arith), w.in-None.ensures.each_if_new refl);
+            counted = counted;
           })
     ]
 
-pub returns-clause-exact_if_distinct : goal.returns-clause-exact_if_distinct
-returns-clause-exact_if_distinct g c d =
-    let eq = g.K.PartialEq.eq in
-    let xs = c.args.pairs.now in
-    let i = c.loop-i.i in
-    let n : i ≡ length xs = omega arith in
-    let all : puts eq [] (take i xs) ≡ xs = ap (puts eq []) (take_all i xs (omega arith)) ∙ puts_distinct eq g.met.K.Eq.laws xs d in
-    let k : c.loop-i.kept ≡ i = c.loop-i.invariant.count ∙ ap length all ∙ sym n in
-    subst (λ m. c.loop-i.steps ≡ c.args.steps.now + cost m) n (c.loop-i.invariant.exact k)
+pub returns-clause-counted : goal.returns-clause-counted
+returns-clause-counted g c =
+    c.loop-i.invariant.counted ∙ ap (λ l. c.args.steps.now + comparisons g.K.PartialEq.eq (keys_of l)) (take_all c.loop-i.i c.args.pairs.now (omega arith))

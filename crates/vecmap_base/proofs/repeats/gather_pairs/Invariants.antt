@@ -2,7 +2,7 @@ use Rattle.std.proofs.Common.{◌≡◌, ◌+◌, ◌≤◌, take, drop, [], len
 use Rattle.std.specs.List.Sorted.{IsPermutation}
 use Rattle.std.specs.Map.{keys_of, values_of}
 use Rattle.vecmap_base.specs.Pairs.{puts}
-use Rattle.vecmap_base.specs.Repeats.{cost}
+use Rattle.vecmap_base.specs.Repeats.{comparisons}
 use Rattle.vecmap_base.proofs.repeats.gather_pairs.Given as goal
 
 abbrev pub invariant-loop-i : goal.invariant-loop-i
@@ -13,7 +13,5 @@ invariant-loop-i g l = record {
   rest : drop l.i l.pairs ≡ drop l.i l.initial.pairs;
   keys : IsPermutation (keys_of l.initial.pairs) (keys_of l.pairs);
   values : IsPermutation (values_of l.initial.pairs) (values_of l.pairs);
-  grows : l.initial.steps ≤ l.steps;
-  at_most : l.steps ≤ l.initial.steps + cost l.i;
-  exact : l.kept ≡ l.i → l.steps ≡ l.initial.steps + cost l.i;
+  counted : l.steps ≡ l.initial.steps + comparisons g.K.PartialEq.eq (keys_of (take l.i l.initial.pairs));
 }

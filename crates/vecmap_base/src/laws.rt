@@ -1,0 +1,18 @@
+//! Laws of the definitions that the contracts cite. A call of one costs nothing, and gives a proof the law.
+ghost use Rattle.std.specs.Prelude.{◌≡◌, ◌≤◌, List, length};
+ghost use Rattle.std.specs.List.{IsDistinct};
+ghost use Rattle.std.specs.Map.{keys_of};
+ghost use Rattle.vecmap_base.specs.Pairs.{HasDistinctKeys};
+ghost use Rattle.vecmap_base.specs.Repeats.{comparisons, cost};
+
+/// A removal of repeats makes at most one comparison for each two elements, and exactly as many where no two are equal.
+pub fn comparisons_are_bounded<T: Eq>()
+    ensures at_most { (xs : List T) → comparisons T.eq xs ≤ cost (length xs) }
+    ensures exact_if_distinct { (xs : List T) → IsDistinct T.eq xs → comparisons T.eq xs ≡ cost (length xs) }
+{}
+
+/// The same of pairs, whose keys are compared.
+pub fn key_comparisons_are_bounded<K: Eq, V>()
+    ensures at_most { (l : List (K × V)) → comparisons K.eq (keys_of l) ≤ cost (length l) }
+    ensures exact_if_distinct { (l : List (K × V)) → HasDistinctKeys K.eq l → comparisons K.eq (keys_of l) ≡ cost (length l) }
+{}
