@@ -1,6 +1,4 @@
-mod EntryLemmas
+pub mod EntryLemmas
 pub mod EqualityLemmas
-mod LentBoth
-mod LentParts
+mod LentLemmas
 pub mod MoveLemmas
-mod Steps

@@ -1,5 +1,5 @@
--- What a contract sees of a `VecMap`.
-use Rattle.std.specs.Prelude.{ℕ, Bool, List}
+-- What a contract sees of a `VecMap`, and what calls say of its room.
+use Rattle.std.specs.Prelude.{◌≡◌, ◌+◌, ◌≤◌, ℕ, Bool, List, None, Option, IsSome, length}
 use Rattle.std.specs.Option.{option_map_or}
 use Rattle.vecmap_base.specs.Pairs.{index_of, with_pair, with_value}
 
@@ -28,3 +28,27 @@ module _ {K V : Type 0} where
   -- m with v as the value of the first key that is equal to k, if there is one
   abbrev pub with_value_of : (K → K → Bool) → Contents K V → K → V → Contents K V
   with_value_of eq m k v = option_map_or (λ i. with_value_at m i v) (index_of eq m.entries k) m
+
+  -- n more pairs fit before the vector grows
+  abbrev pub HasRoom : Contents K V → ℕ → Type 0
+  HasRoom m n = length m.entries + n ≤ m.capacity
+
+  -- new has no less room than old. A key that has a place takes no memory, nor does a new one while there is room
+  pub record KeepsRoomAt (place : Option ℕ) (old new : Contents K V) : Type 0 where
+    pub capacity : old.capacity ≤ new.capacity
+    pub there : IsSome place → new.capacity ≡ old.capacity
+    pub spare : HasRoom old 1 → new.capacity ≡ old.capacity
+
+  -- a key was refused: nothing has changed, the key has no place, and the map is full
+  pub record RefusesAt (place : Option ℕ) (old new : Contents K V) : Type 0 where
+    pub same : new ≡ old
+    pub absent : place ≡ None
+    pub full : length old.entries ≡ old.capacity
+
+module _ {K V : Type 0} (eq : K → K → Bool) where
+  -- the same at the first place whose key is equal to k
+  abbrev pub KeepsRoom : Contents K V → K → Contents K V → Type 0
+  KeepsRoom old k new = KeepsRoomAt (index_of eq old.entries k) old new
+
+  abbrev pub Refuses : Contents K V → K → Contents K V → Type 0
+  Refuses old k new = RefusesAt (index_of eq old.entries k) old new

@@ -1,25 +1,16 @@
 -- What the contracts of an entry read of it: the map, the key that was handed in, and the key's place.
-use Rattle.std.specs.Prelude.{◌≡◌, ℕ, ◌<◌, ◌≤◌, List, [], ◌∷◌, ◌++◌, Option, None, Some, IsSome, length, refl, remove, slice_get, slice_set, unwrap_or}
+use Rattle.std.specs.Prelude.{◌≡◌, ℕ, List, [], ◌∷◌, ◌++◌, Option, None, Some, length, remove, unwrap_or}
 use Rattle.std.specs.Borrow.{MutBor}
 use Rattle.std.specs.Option.{option_and_then, option_map_or}
-use Rattle.std.proofs.Common.{subst, sym}
-use Rattle.std.proofs.lemmas.List.{length-set}
 use Rattle.vecmap_base.specs.Items.{swap_without}
 use Rattle.vecmap_base.specs.Pairs.{value_at, with_value}
-use Rattle.vecmap_map.specs.Contents.{Contents, with_value_at}
+use Rattle.vecmap_map.specs.Contents.{Contents, KeepsRoomAt, with_value_at}
+use Rattle.vecmap_map.specs.EntryWithin.{still_within}
 use Rattle.vecmap_map.specs.declared.entry.Entry.{Entry}
 use Rattle.vecmap_map.specs.declared.entry.Entry.TheVariants.{Occupied, Vacant}
 use Rattle.vecmap_map.specs.declared.entry.occupied.OccupiedEntry.{OccupiedEntry}
 
 module _ {K V : Type 0} where
-  -- a written value leaves the length
-  length-with_value : (l : List (K × V)) (i : ℕ) (v : V) → length (with_value l i v) ≡ length l
-  length-with_value l i v = by (slice_get l i)
-    where
-      by : (o : Option (K × V)) → length (option_map_or (λ p. slice_set l i (p.0, v)) o l) ≡ length l
-      by None = refl
-      by (Some p) = length-set l i (p.0, v)
-
   -- the reference to the map
   abbrev pub entry_ref : Entry K V → MutBor (Contents K V)
   entry_ref (Occupied o) = o.map
@@ -59,21 +50,11 @@ module _ {K V : Type 0} where
   abbrev pub entries_swap_without : Entry K V → List (K × V)
   entries_swap_without e = option_map_or (swap_without (entry_map e).entries) (entry_place e) (entry_map e).entries
 
-  -- n has no less room than the map of e. A key that is there takes no memory, nor does a new one while there is room
-  pub record KeepsRoom (e : Entry K V) (n : Contents K V) : Type 0 where
-    pub capacity : (entry_map e).capacity ≤ n.capacity
-    pub there : IsSome (entry_place e) → n.capacity ≡ (entry_map e).capacity
-    pub room : length (entry_map e).entries < (entry_map e).capacity → n.capacity ≡ (entry_map e).capacity
-
   -- a later write or removal through d leaves the pairs that it would have left through e
   pub record LeavesSame (e d : Entry K V) : Type 0 where
     pub write : (v : V) → entries_with d v ≡ entries_with e v
     pub removal : entries_without d ≡ entries_without e
     pub swap_removal : entries_swap_without d ≡ entries_swap_without e
-
-  -- a write of a value leaves the place of o below the length
-  pub still_within : (o : OccupiedEntry K V) (v : V) → o.index < length (with_value o.map.now.entries o.index v)
-  still_within o v = subst (λ n. o.index < n) (sym (length-with_value o.map.now.entries o.index v)) o.within
 
   -- o, once v is its value
   abbrev pub occupied_with : OccupiedEntry K V → V → OccupiedEntry K V
@@ -91,7 +72,7 @@ module _ {K V : Type 0} where
     pub index : o.index ≡ entry_index e
     pub value : entry_value (Occupied o) ≡ Some v
     pub entries : AreEntriesWith is_clone e v o.map.now.entries
-    pub room : KeepsRoom e o.map.now
+    pub room : KeepsRoomAt (entry_place e) (entry_map e) o.map.now
     -- what a later write or removal through o leaves
     pub write : (w : V) → AreEntriesWith is_clone e w (entries_with (Occupied o) w)
     pub removal : entries_without (Occupied o) ≡ entries_without e

@@ -2,16 +2,17 @@
 use Rattle.std.specs.Prelude.{◌≡◌, [], Result}
 use Rattle.std.specs.Borrow.{RattleType, Fml, MutBor, LendsSoOk, RestsIfErr, follows}
 use mir.Syntax.{named}
-use Rattle.vecmap_map.specs.Entry.{KeepsRoom, entry_map, entry_ref, entries_with, occupied_with}
+use Rattle.vecmap_map.specs.Contents.{KeepsRoomAt, RefusesAt}
+use Rattle.vecmap_map.specs.Entry.{entry_map, entry_place, entry_ref, entries_with, occupied_with}
 use Rattle.vecmap_map.specs.contracts.VecMap.{the_row}
 use Rattle.vecmap_map.specs.contracts.entry.occupied.OccupiedEntry as occupied
 use Rattle.vecmap_map.specs.declared.entry.Entry.{Entry}
 use Rattle.vecmap_map.specs.declared.entry.occupied.OccupiedEntry.{OccupiedEntry}
 
 module _ (K V : RattleType) where
-  -- once r ends, the last value behind it is the value of the key of e. Refused, the map stays
+  -- once r ends, the last value behind it is the value of the key of e. Refused, the map stays, and it is full
   abbrev pub entry_lends : {E : Type 0} → Entry K.Denot V.Denot → Result (MutBor V.Denot) E → Fml
-  entry_lends e r = LendsSoOk (the_row K V) V (entry_ref e) r (λ n v. (n.entries ≡ entries_with e v) × KeepsRoom e n) (λ n. n ≡ entry_map e)
+  entry_lends e r = LendsSoOk (the_row K V) V (entry_ref e) r (λ n v. (n.entries ≡ entries_with e v) × KeepsRoomAt (entry_place e) (entry_map e) n) (RefusesAt (entry_place e) (entry_map e))
 
   -- an entry that is answered holds the map of e. Refused, the map stays
   abbrev pub entry_passes : {E : Type 0} → Entry K.Denot V.Denot → Result (OccupiedEntry K.Denot V.Denot) E → Fml

@@ -1,6 +1,7 @@
-pub mod MapBulk
 pub mod Contents
 pub mod Entry
 pub mod EntryLends
+pub mod EntryWithin
 pub mod Lends
+pub mod MapBulk
 pub mod MapEquality

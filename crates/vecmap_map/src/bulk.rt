@@ -1,12 +1,12 @@
 //! Making a map of many pairs, and putting many pairs into one.
-ghost use Rattle.std.specs.Prelude.{◌≡◌, ◌+◌, ◌<◌, ◌≤◌, ◌⊎◌, ◌-◌, ◌/◌, IfOk, IsOk, List, OnErr, OnOk, [], if◌then◌else◌, length, map};
+ghost use Rattle.std.specs.Prelude.{◌≡◌, ◌+◌, ◌<◌, ◌≤◌, ◌⊎◌, ◌-◌, ◌/◌, IfOk, IsOk, List, None, OnErr, OnOk, [], if◌then◌else◌, length, map};
 ghost use Rattle.std.specs.Iterator.{Drains, ExtendsWithItems, IsFiniteIterable};
 ghost use Rattle.std.specs.Map.Iter.{deref_pair};
 ghost use Rattle.vecmap_base.specs.Bulk.{HasRoomForAll, StopsAt};
 ghost use Rattle.vecmap_base.specs.Clones.{AreClones, IsPairClone};
 ghost use Rattle.vecmap_base.specs.Pairs.{put, puts};
-ghost use Rattle.vecmap_map.specs.MapBulk.{Puts, PutsClones, RefusesAfter};
-ghost use Rattle.vecmap_map.specs.Contents.{with_entries};
+ghost use Rattle.vecmap_map.specs.Contents.{HasRoom, KeepsRoomAt, Refuses, with_entries};
+ghost use Rattle.vecmap_map.specs.MapBulk.{Puts, PutsClones, RefusesAfter, RefusesClonesAfter};
 
 use crate::VecMap;
 use std::alloc::{AllocError, Global};
@@ -14,7 +14,8 @@ use std::alloc::{AllocError, Global};
 impl<K, V> VecMap<K, V> {
     /// Puts the pairs of an iterator, which must end, into an empty map, in their order. Refused, nothing is made.
     ///
-    /// Room is made first, for as many pairs as the lower size hint of the iterator says. Each pair takes one lookup.
+    /// Room is made first, for as many pairs as the lower size hint of the iterator says. Each pair takes one lookup, so n
+    /// pairs take at most n(n-1)/2 comparisons.
     pub fn from_iter<I: IntoIterator<Item = (K, V)>>(
         alloc: Global,
         iter: I,
@@ -32,7 +33,8 @@ impl<K, V> VecMap<K, V> {
 
     /// Puts clones of the pairs into an empty map, in their order. Refused, nothing is made.
     ///
-    /// Room for as many is made first. Each pair takes one lookup.
+    /// Room for as many is made first. Each pair takes one lookup, so n pairs take at most n(n-1)/2 comparisons. This is
+    /// Rust's `From<&[(K, V)]>`.
     pub fn from_slice(alloc: Global, pairs: &[(K, V)]) -> Result<VecMap<K, V>, AllocError>
     where
         K: Eq + Clone,
@@ -46,31 +48,10 @@ impl<K, V> VecMap<K, V> {
         Ok(map)
     }
 
-    /// A map of clones of the pairs, in their order. Refused, nothing is made.
-    pub fn clone(&self) -> Result<VecMap<K, V>, AllocError>
-    where
-        K: Clone,
-        V: Clone,
-        ensures { IfOk result (λ map. AreClones (IsPairClone K.is_clone V.is_clone) self.now.entries map.entries) }
-    {
-        Ok(VecMap {
-            pairs: self.to_vec()?,
-        })
-    }
-
-    /// Clones of the pairs, in their order. Refused, nothing is made.
-    pub fn to_vec(&self) -> Result<Vec<(K, V)>, AllocError>
-    where
-        K: Clone,
-        V: Clone,
-        ensures { IfOk result (λ pairs. AreClones (IsPairClone K.is_clone V.is_clone) self.now.entries pairs.items) }
-    {
-        self.pairs.clone()
-    }
-
     /// Puts the pairs of `other`, in their order, and leaves `other` empty with its capacity.
     ///
-    /// Room for all of them is made first. Refused at that, nothing has changed in either. Each pair takes one lookup.
+    /// Room for all of them is made first. Refused at that, nothing has changed in either. Each pair takes one lookup, of
+    /// at most as many comparisons as there are pairs by then.
     pub fn append(&mut self, other: &mut VecMap<K, V>) -> Result<(), AllocError>
     where
         K: Eq + Drop,
@@ -78,8 +59,8 @@ impl<K, V> VecMap<K, V> {
         ensures entries { OnOk result (self.new.entries ≡ puts K.eq self.old.entries other.old.entries) }
         ensures emptied { OnOk result (other.new ≡ with_entries other.old []) }
         ensures capacity { self.old.capacity ≤ self.new.capacity }
-        ensures enough { length self.old.entries + length other.old.entries ≤ self.old.capacity → IsOk result }
-        ensures stays { length self.old.entries + length other.old.entries ≤ self.old.capacity → self.new.capacity ≡ self.old.capacity }
+        ensures succeeds { HasRoom self.old (length other.old.entries) → IsOk result }
+        ensures stays { HasRoom self.old (length other.old.entries) → self.new.capacity ≡ self.old.capacity }
         ensures err { OnErr result (self.new ≡ self.old) }
         ensures other_err { OnErr result (other.new ≡ other.old) }
     {
@@ -95,7 +76,9 @@ impl<K, V> VecMap<K, V> {
     /// Room is made first, for as many pairs as the lower size hint of the iterator says where the map is empty, and
     /// else for half of them, rounded up, as some keys may be there already. The hint decides nothing else. Refused at
     /// the room, nothing has changed. Refused at a pair, those before it stay, and that pair is dropped with the
-    /// iterator. Each pair takes one lookup.
+    /// iterator. Each pair takes one lookup, of at most as many comparisons as there are pairs by then.
+    ///
+    /// This is Rust's `Extend<(K, V)>`.
     pub fn extend<I: IntoIterator<Item = (K, V)>>(&mut self, iter: I) -> Result<(), AllocError>
     where
         K: Eq + Drop,
@@ -103,7 +86,7 @@ impl<K, V> VecMap<K, V> {
         requires ends { IsFiniteIterable I.into_iter_gives I.IntoIter.can_next I.IntoIter.remaining iter }
         ensures ran { ExtendsWithItems I.into_iter_gives I.IntoIter.next_gives (Puts K.eq) iter self.old self.new result }
         ensures capacity { self.old.capacity ≤ self.new.capacity }
-        ensures enough { HasRoomForAll I.into_iter_gives I.IntoIter.remaining iter (length self.old.entries) self.old.capacity → IsOk result }
+        ensures succeeds { HasRoomForAll I.into_iter_gives I.IntoIter.remaining iter (length self.old.entries) self.old.capacity → IsOk result }
         ensures stays { HasRoomForAll I.into_iter_gives I.IntoIter.remaining iter (length self.old.entries) self.old.capacity → self.new.capacity ≡ self.old.capacity }
 
         // It is refused where room is made, and then nothing has changed, or at a new key where there is no room.
@@ -119,7 +102,9 @@ impl<K, V> VecMap<K, V> {
 
     /// As `extend`, with clones of the keys and values that the iterator lends.
     ///
-    /// Refused at the room or at a clone, the pairs before it stay.
+    /// Refused at the room, nothing has changed. Refused at a pair, or at its clones, those before it stay.
+    ///
+    /// This is Rust's `Extend<(&K, &V)>`.
     pub fn extend_refs<'a, I: IntoIterator<Item = (&'a K, &'a V)>>(
         &mut self,
         iter: I,
@@ -130,11 +115,12 @@ impl<K, V> VecMap<K, V> {
         requires ends { IsFiniteIterable I.into_iter_gives I.IntoIter.can_next I.IntoIter.remaining iter }
         ensures ran { ExtendsWithItems I.into_iter_gives I.IntoIter.next_gives (λ old items new. PutsClones K.eq K.is_clone V.is_clone old (map deref_pair items) new) iter self.old self.new result }
         ensures capacity { self.old.capacity ≤ self.new.capacity }
-        ensures enough { HasRoomForAll I.into_iter_gives I.IntoIter.remaining iter (length self.old.entries) self.old.capacity → ((k : K) → K.is_infallible k) → ((v : V) → V.is_infallible v) → IsOk result }
+        ensures succeeds { HasRoomForAll I.into_iter_gives I.IntoIter.remaining iter (length self.old.entries) self.old.capacity → ((k : K) → K.is_infallible k) → ((v : V) → V.is_infallible v) → IsOk result }
         ensures stays { HasRoomForAll I.into_iter_gives I.IntoIter.remaining iter (length self.old.entries) self.old.capacity → self.new.capacity ≡ self.old.capacity }
 
-        // It is refused where room is made, and then nothing has changed, or at the next item.
-        ensures err { OnErr result ((self.new ≡ self.old) ⊎ StopsAt I.into_iter_gives I.IntoIter.next_gives iter (λ items _. PutsClones K.eq K.is_clone V.is_clone self.old (map deref_pair items) self.new)) }
+        // It is refused where room is made, and then nothing has changed, or at the next item: where its clones cannot fail,
+        // a clone of its key is new and the map is full.
+        ensures err { OnErr result ((self.new ≡ self.old) ⊎ StopsAt I.into_iter_gives I.IntoIter.next_gives iter (λ items next. RefusesClonesAfter K.eq K.Clone V.Clone self.old (map deref_pair items) (deref_pair next) self.new)) }
     {
         let items = iter.into_iter();
         self.reserve(likely_new(self.is_empty(), items.size_hint().0))?;
@@ -144,7 +130,7 @@ impl<K, V> VecMap<K, V> {
         Ok(())
     }
 
-    /// As `extend_refs`, of pairs that the iterator lends.
+    /// As `extend_refs`, of pairs that the iterator lends. This is Rust's `Extend<&(K, V)>`.
     pub fn extend_pairs<'a, I: IntoIterator<Item = &'a (K, V)>>(
         &mut self,
         iter: I,
@@ -155,11 +141,12 @@ impl<K, V> VecMap<K, V> {
         requires ends { IsFiniteIterable I.into_iter_gives I.IntoIter.can_next I.IntoIter.remaining iter }
         ensures ran { ExtendsWithItems I.into_iter_gives I.IntoIter.next_gives (λ old items new. PutsClones K.eq K.is_clone V.is_clone old (map (λ p. p.now) items) new) iter self.old self.new result }
         ensures capacity { self.old.capacity ≤ self.new.capacity }
-        ensures enough { HasRoomForAll I.into_iter_gives I.IntoIter.remaining iter (length self.old.entries) self.old.capacity → ((k : K) → K.is_infallible k) → ((v : V) → V.is_infallible v) → IsOk result }
+        ensures succeeds { HasRoomForAll I.into_iter_gives I.IntoIter.remaining iter (length self.old.entries) self.old.capacity → ((k : K) → K.is_infallible k) → ((v : V) → V.is_infallible v) → IsOk result }
         ensures stays { HasRoomForAll I.into_iter_gives I.IntoIter.remaining iter (length self.old.entries) self.old.capacity → self.new.capacity ≡ self.old.capacity }
 
-        // It is refused where room is made, and then nothing has changed, or at the next item.
-        ensures err { OnErr result ((self.new ≡ self.old) ⊎ StopsAt I.into_iter_gives I.IntoIter.next_gives iter (λ items _. PutsClones K.eq K.is_clone V.is_clone self.old (map (λ p. p.now) items) self.new)) }
+        // It is refused where room is made, and then nothing has changed, or at the next item: where its clones cannot fail,
+        // a clone of its key is new and the map is full.
+        ensures err { OnErr result ((self.new ≡ self.old) ⊎ StopsAt I.into_iter_gives I.IntoIter.next_gives iter (λ items next. RefusesClonesAfter K.eq K.Clone V.Clone self.old (map (λ p. p.now) items) next.now self.new)) }
     {
         let items = iter.into_iter();
         self.reserve(likely_new(self.is_empty(), items.size_hint().0))?;
@@ -175,10 +162,10 @@ impl<K, V> VecMap<K, V> {
         K: Eq + Clone,
         V: Clone,
         ensures entries { OnOk result ((k : K) × (v : V) × K.is_clone key.now k × V.is_clone value.now v × (self.new.entries ≡ put K.eq self.old.entries k v)) }
-        ensures capacity { self.old.capacity ≤ self.new.capacity }
-        ensures room { length self.old.entries < self.old.capacity → self.new.capacity ≡ self.old.capacity }
-        ensures enough { length self.old.entries < self.old.capacity → K.is_infallible key.now → V.is_infallible value.now → IsOk result }
+        ensures room { KeepsRoomAt None self.old self.new }
+        ensures succeeds { HasRoom self.old 1 → K.is_infallible key.now → V.is_infallible value.now → IsOk result }
         ensures err { OnErr result (self.new ≡ self.old) }
+        ensures full { K.is_infallible key.now → V.is_infallible value.now → OnErr result ((k : K) × K.is_clone key.now k × Refuses K.eq self.old k self.new) }
     {
         self.insert(key.clone()?, value.clone()?)?;
         Ok(())

@@ -1,10 +1,12 @@
-//! Maps made of a vector, in that vector.
-ghost use Rattle.std.specs.Prelude.{◌≡◌, ◌≤◌, ◌↔◌, IsTrue, [], length, vec_capacity};
+//! Maps made of a vector, in that vector, and vectors made of a map.
+ghost use Rattle.std.specs.Prelude.{◌≡◌, ◌≤◌, IfOk, [], length, vec_capacity};
+ghost use Rattle.vecmap_base.specs.Clones.{AreClones, IsPairClone};
 ghost use Rattle.vecmap_base.specs.Pairs.{HasDistinctKeys, puts};
 ghost use Rattle.vecmap_base.specs.Repeats.{cost};
 
 use crate::VecMap;
-use vecmap_base::{Steps, dedup_keep_last_value, keys_distinct};
+use std::alloc::AllocError;
+use vecmap_base::{Steps, dedup_keep_last_value};
 
 /// Puts the pairs in turn, in the vector that they stand in: the first of equal keys stays, in its place, with the
 /// last of their values.
@@ -49,12 +51,15 @@ impl<K, V> VecMap<K, V> {
         VecMap { pairs }
     }
 
-    /// Whether no two keys are equal, after at most n(n-1)/2 comparisons for n pairs. It takes no memory.
-    pub fn has_distinct_keys(&self) -> bool
+    /// Clones of the pairs, in their order. Refused, nothing is made.
+    ///
+    /// It takes one clone of each key and of each value, one block of memory, and no comparison.
+    pub fn to_vec(&self) -> Result<Vec<(K, V)>, AllocError>
     where
-        K: Eq,
-        ensures { IsTrue result ↔ HasDistinctKeys K.eq self.now.entries }
+        K: Clone,
+        V: Clone,
+        ensures { IfOk result (λ pairs. AreClones (IsPairClone K.is_clone V.is_clone) self.now.entries pairs.items) }
     {
-        keys_distinct(&self.pairs)
+        self.pairs.clone()
     }
 }

@@ -75,10 +75,8 @@ impl<'a, K, V> Entry<'a, K, V> {
         ensures* writes_back { sem 𝓛 (entry_lends K.row V.row self.entry result) }
         ensures value { IfOk result (λ x. x.now ≡ unwrap_or (entry_value self.entry) value) }
 
-        // Refused, the pair comes back. Only a new key is refused, and only where there was no room.
+        // Refused, the pair comes back.
         ensures given { IfErr result (λ refused. refused.given ≡ (entry_key self.entry, value)) }
-        ensures absent { OnErr result (entry_place self.entry ≡ None) }
-        ensures full { OnErr result ((entry_map self.entry).capacity ≤ length (entry_map self.entry).entries) }
     {
         match self {
             Entry::Occupied(occupied) => Ok(occupied.into_mut()),
@@ -95,11 +93,9 @@ impl<'a, K, V> Entry<'a, K, V> {
         ensures* writes_back { sem 𝓛 (entry_lends K.row V.row self.entry result) }
         ensures value { IfOk result (λ x. UnwrapsOrElse (entry_value self.entry) (F.post f) x.now) }
 
-        // Refused, the pair comes back. Only a new key is refused, and only where there was no room.
+        // Refused, the pair comes back.
         ensures given_key { IfErr result (λ refused. refused.given.0 ≡ entry_key self.entry) }
         ensures given_value { IfErr result (λ refused. F.post f refused.given.1) }
-        ensures absent { OnErr result (entry_place self.entry ≡ None) }
-        ensures full { OnErr result ((entry_map self.entry).capacity ≤ length (entry_map self.entry).entries) }
     {
         match self {
             Entry::Occupied(entry) => Ok(entry.into_mut()),
@@ -116,11 +112,9 @@ impl<'a, K, V> Entry<'a, K, V> {
         ensures* writes_back { sem 𝓛 (entry_lends K.row V.row self.entry result) }
         ensures value { IfOk result (λ x. UnwrapsOrElse (entry_value self.entry) (FnOnceReturnsAt F.FnOnce f (entry_key self.entry)) x.now) }
 
-        // Refused, the pair comes back. Only a new key is refused, and only where there was no room.
+        // Refused, the pair comes back.
         ensures given_key { IfErr result (λ refused. refused.given.0 ≡ entry_key self.entry) }
         ensures given_value { IfErr result (λ refused. FnOnceReturnsAt F.FnOnce f (entry_key self.entry) refused.given.1) }
-        ensures absent { OnErr result (entry_place self.entry ≡ None) }
-        ensures full { OnErr result ((entry_map self.entry).capacity ≤ length (entry_map self.entry).entries) }
     {
         match self {
             Entry::Occupied(entry) => Ok(entry.into_mut()),
@@ -139,11 +133,9 @@ impl<'a, K, V> Entry<'a, K, V> {
         ensures* writes_back { sem 𝓛 (entry_lends K.row V.row self.entry result) }
         ensures value { IfOk result (λ x. UnwrapsOrElse (entry_value self.entry) V.is_default x.now) }
 
-        // Refused, the pair comes back. Only a new key is refused, and only where there was no room.
+        // Refused, the pair comes back.
         ensures given_key { IfErr result (λ refused. refused.given.0 ≡ entry_key self.entry) }
         ensures given_value { IfErr result (λ refused. V.is_default refused.given.1) }
-        ensures absent { OnErr result (entry_place self.entry ≡ None) }
-        ensures full { OnErr result ((entry_map self.entry).capacity ≤ length (entry_map self.entry).entries) }
     {
         match self {
             Entry::Occupied(entry) => Ok(entry.into_mut()),
@@ -208,7 +200,7 @@ impl<'a, K, V> Entry<'a, K, V> {
         ensures* err { sem 𝓛 (entry_passes K.row V.row self.entry result) }
         ensures given { IfErr result (λ refused. refused.given ≡ (entry_key self.entry, value)) }
         ensures absent { OnErr result (entry_place self.entry ≡ None) }
-        ensures full { K.is_infallible (entry_key self.entry) → OnErr result ((entry_map self.entry).capacity ≤ length (entry_map self.entry).entries) }
+        ensures full { K.is_infallible (entry_key self.entry) → OnErr result (length (entry_map self.entry).entries ≡ (entry_map self.entry).capacity) }
     {
         match self {
             Entry::Occupied(entry) => entry.into_inserted(value),

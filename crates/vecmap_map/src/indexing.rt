@@ -33,6 +33,8 @@ impl<K, V> IndexMut<usize> for VecMap<K, V> {
 }
 
 /// The value of the first pair whose key is equal to `key`. Such a key must be there: `contains_key` tells.
+///
+/// It takes at most as many comparisons as there are pairs.
 impl<'q, K: Eq, V> Index<&'q K> for VecMap<K, V> {
     type Output = V;
 
@@ -47,6 +49,8 @@ impl<'q, K: Eq, V> Index<&'q K> for VecMap<K, V> {
 }
 
 /// The value of the first pair whose key is equal to `key`, to write. Such a key must be there: `contains_key` tells.
+///
+/// It takes at most as many comparisons as there are pairs.
 impl<'q, K: Eq, V> IndexMut<&'q K> for VecMap<K, V> {
     ghost use Rattle.vecmap_map.specs.Lends.{lends_value_of};
 

@@ -1,8 +1,10 @@
 //! Insertion of one pair.
-ghost use Rattle.std.specs.Prelude.{◌≡◌, ◌++◌, ◌∷◌, ◌<◌, ◌≤◌, IfErr, IfOk, IsSome, None, OnErr, OnOk, Some, [], insert, length, remove, slice_get, slice_index_or, vec_capacity};
-ghost use Rattle.vecmap_base.specs.Pairs.{index_of, index_or_length, lookup, lookup_full, put, put_at};
+ghost use Rattle.std.specs.Prelude.{◌≡◌, ◌++◌, ◌∷◌, ◌<◌, ◌≤◌, IfErr, IfOk, None, OnErr, OnOk, Some, [], insert, length, remove, slice_get, slice_index_or, vec_capacity};
+ghost use Rattle.vecmap_base.specs.Pairs.{index_or_length, lookup, lookup_full, put, put_at};
+ghost use Rattle.vecmap_map.specs.Contents.{HasRoom, KeepsRoom, KeepsRoomAt, Refuses, RefusesAt};
 
 use crate::VecMap;
+use std::alloc::AllocError;
 use std::mem::replace;
 use vecmap_base::{Refused, find};
 
@@ -11,45 +13,35 @@ impl<K, V> VecMap<K, V> {
     ///
     /// A key that is there stays, in its place, and only its value changes; `key` is dropped. A new pair goes last.
     /// Memory is needed for a new key where there is no room. Refused, the pair comes back and nothing has changed.
+    ///
+    /// It takes at most as many comparisons as there are pairs, and moves none unless the vector grows.
     pub fn insert(&mut self, key: K, value: V) -> Result<Option<V>, Refused<(K, V)>>
     where
         K: Eq + Drop,
         ensures entries { OnOk result (self.new.entries ≡ put K.eq self.old.entries key value) }
         ensures old { IfOk result (λ old. old ≡ lookup K.eq self.old.entries key) }
-        ensures capacity { self.old.capacity ≤ self.new.capacity }
+        ensures room { KeepsRoom K.eq self.old key self.new }
 
-        // A key that is there takes no memory, nor does a new one while there is room.
-        ensures there { IsSome (index_of K.eq self.old.entries key) → self.new.capacity ≡ self.old.capacity }
-        ensures room { length self.old.entries < self.old.capacity → self.new.capacity ≡ self.old.capacity }
-
-        // Refused, the pair comes back. Only a new key is refused, and only where there was no room.
+        // Refused, the pair comes back. Only a new key is refused, and only where the map is full.
         ensures given { IfErr result (λ refused. refused.given ≡ (key, value)) }
-        ensures err { OnErr result (self.new ≡ self.old) }
-        ensures absent { OnErr result (index_of K.eq self.old.entries key ≡ None) }
-        ensures full { OnErr result (self.old.capacity ≤ length self.old.entries) }
+        ensures err { OnErr result (Refuses K.eq self.old key self.new) }
     {
         let (_index, old) = self.insert_full(key, value)?;
         Ok(old)
     }
 
-    /// As `insert`, and answers the place of the key too.
+    /// As `insert`, at the same cost, and answers the place of the key too.
     pub fn insert_full(&mut self, key: K, value: V) -> Result<(usize, Option<V>), Refused<(K, V)>>
     where
         K: Eq + Drop,
         ensures entries { OnOk result (self.new.entries ≡ put K.eq self.old.entries key value) }
         ensures place { IfOk result (λ done. done.0 ≡ index_or_length K.eq self.old.entries key) }
         ensures old { IfOk result (λ done. done.1 ≡ lookup K.eq self.old.entries key) }
-        ensures capacity { self.old.capacity ≤ self.new.capacity }
+        ensures room { KeepsRoom K.eq self.old key self.new }
 
-        // A key that is there takes no memory, nor does a new one while there is room.
-        ensures there { IsSome (index_of K.eq self.old.entries key) → self.new.capacity ≡ self.old.capacity }
-        ensures room { length self.old.entries < self.old.capacity → self.new.capacity ≡ self.old.capacity }
-
-        // Refused, the pair comes back. Only a new key is refused, and only where there was no room.
+        // Refused, the pair comes back. Only a new key is refused, and only where the map is full.
         ensures given { IfErr result (λ refused. refused.given ≡ (key, value)) }
-        ensures err { OnErr result (self.new ≡ self.old) }
-        ensures absent { OnErr result (index_of K.eq self.old.entries key ≡ None) }
-        ensures full { OnErr result (self.old.capacity ≤ length self.old.entries) }
+        ensures err { OnErr result (Refuses K.eq self.old key self.new) }
     {
         if let Some(index) = find(&self.pairs, &key) {
             return Ok((index, Some(replace(&mut self.pairs[index].1, value))));
@@ -66,6 +58,8 @@ impl<K, V> VecMap<K, V> {
     /// `index`, or last where `index` is the length; the pairs between the old place and the new one move by one place.
     /// Memory is needed for a new key where there is no room. Refused, the pair comes back and nothing has changed.
     /// That `index` is at most the length is the caller's to know: `len` tells.
+    ///
+    /// It takes at most as many comparisons as there are pairs, and as many moves as there are pairs that change place.
     pub fn insert_at(
         &mut self,
         index: usize,
@@ -77,24 +71,18 @@ impl<K, V> VecMap<K, V> {
         requires within { index ≤ length self.old.entries }
         ensures entries { OnOk result (self.new.entries ≡ put_at K.eq self.old.entries index key value) }
         ensures old { IfOk result (λ old. old ≡ lookup_full K.eq self.old.entries key) }
-        ensures capacity { self.old.capacity ≤ self.new.capacity }
+        ensures room { KeepsRoom K.eq self.old key self.new }
 
-        // A key that is there takes no memory, nor does a new one while there is room.
-        ensures there { IsSome (index_of K.eq self.old.entries key) → self.new.capacity ≡ self.old.capacity }
-        ensures room { length self.old.entries < self.old.capacity → self.new.capacity ≡ self.old.capacity }
-
-        // Refused, the pair comes back. Only a new key is refused, and only where there was no room.
+        // Refused, the pair comes back. Only a new key is refused, and only where the map is full.
         ensures given { IfErr result (λ refused. refused.given ≡ (key, value)) }
-        ensures err { OnErr result (self.new ≡ self.old) }
-        ensures absent { OnErr result (index_of K.eq self.old.entries key ≡ None) }
-        ensures full { OnErr result (self.old.capacity ≤ length self.old.entries) }
+        ensures err { OnErr result (Refuses K.eq self.old key self.new) }
     {
         if let Some(from) = find(&self.pairs, &key) {
             let to = index.min(self.pairs.len() - 1);
             let (_key, old) = replace_and_move(&mut self.pairs, from, to, (key, value));
             return Ok(Some((from, old)));
         }
-        if self.reserve(1).is_err() {
+        if self.reserve_one().is_err() {
             return Err(Refused {
                 given: (key, value),
             });
@@ -106,19 +94,30 @@ impl<K, V> VecMap<K, V> {
     // Puts a pair last.
     pub(crate) fn push(&mut self, key: K, value: V) -> Result<(), Refused<(K, V)>>
         ensures entries { OnOk result (self.new.entries ≡ self.old.entries ++ (key, value) ∷ []) }
-        ensures capacity { self.old.capacity ≤ self.new.capacity }
-        ensures room { length self.old.entries < self.old.capacity → self.new.capacity ≡ self.old.capacity }
+        ensures room { KeepsRoomAt None self.old self.new }
         ensures given { IfErr result (λ refused. refused.given ≡ (key, value)) }
-        ensures err { OnErr result (self.new ≡ self.old) }
-        ensures full { OnErr result (self.old.capacity ≤ length self.old.entries) }
+        ensures err { OnErr result (RefusesAt None self.old self.new) }
     {
-        if self.reserve(1).is_err() {
+        if self.reserve_one().is_err() {
             return Err(Refused {
                 given: (key, value),
             });
         }
         self.pairs.push_reserved((key, value));
         Ok(())
+    }
+
+    // Makes room for one more pair.
+    fn reserve_one(&mut self) -> Result<(), AllocError>
+        ensures entries { self.new.entries ≡ self.old.entries }
+        ensures has { OnOk result (HasRoom self.new 1) }
+        ensures room { KeepsRoomAt None self.old self.new }
+        ensures err { OnErr result (RefusesAt None self.old self.new) }
+    {
+        if self.pairs.len() < self.pairs.capacity() {
+            return Ok(());
+        }
+        self.reserve(1)
     }
 }
 

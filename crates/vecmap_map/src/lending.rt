@@ -11,6 +11,8 @@ impl<K, V> VecMap<K, V> {
     ghost use Rattle.vecmap_map.specs.Lends.{lends_beside_key, lends_beside_place, lends_value_at, lends_value_if_of, lends_whole_at, lends_whole_if_at};
 
     /// The value of the first pair whose key is equal to `key`, to write.
+    ///
+    /// It takes at most as many comparisons as there are pairs.
     pub fn get_mut(&mut self, key: &K) -> Option<&mut V>
     where
         K: Eq,
@@ -24,7 +26,7 @@ impl<K, V> VecMap<K, V> {
         }
     }
 
-    /// The first pair, its value to write.
+    /// The first pair, its value to write. It compares nothing.
     pub fn first_mut(&mut self) -> Option<(&K, &mut V)>
         ensures* writes_back { sem 𝓛 (lends_beside_key K.row V.row self.entry 0 result) }
         ensures pair { option_map (λ pair. (pair.0.now, pair.1.now)) result ≡ slice_get self.old.entries 0 }
@@ -33,7 +35,7 @@ impl<K, V> VecMap<K, V> {
         self.get_index_mut(0)
     }
 
-    /// The last pair, its value to write.
+    /// The last pair, its value to write. It compares nothing.
     pub fn last_mut(&mut self) -> Option<(&K, &mut V)>
         ensures* writes_back { sem 𝓛 (lends_beside_key K.row V.row self.entry (length self.old.entries - 1) result) }
         ensures pair { option_map (λ pair. (pair.0.now, pair.1.now)) result ≡ slice_get self.old.entries (length self.old.entries - 1) }
@@ -44,6 +46,8 @@ impl<K, V> VecMap<K, V> {
     }
 
     /// The place of the first pair whose key is equal to `key`, with the stored key, and the value to write.
+    ///
+    /// It takes at most as many comparisons as there are pairs.
     pub fn get_full_mut(&mut self, key: &K) -> Option<(usize, &K, &mut V)>
     where
         K: Eq,
@@ -59,7 +63,7 @@ impl<K, V> VecMap<K, V> {
         }
     }
 
-    /// The pair at a place, if there is one, its value to write.
+    /// The pair at a place, if there is one, its value to write. It compares nothing.
     pub fn get_index_mut(&mut self, index: usize) -> Option<(&K, &mut V)>
         ensures* writes_back { sem 𝓛 (lends_beside_key K.row V.row self.entry index result) }
         ensures pair { option_map (λ pair. (pair.0.now, pair.1.now)) result ≡ slice_get self.old.entries index }

@@ -1,12 +1,12 @@
 //! Lookups by key and by place.
-ghost use Rattle.std.specs.Prelude.{◌≡◌, ◌-◌, ◌<◌, IfSome, is_some, length, option_copied, option_map, slice_get};
-ghost use Rattle.vecmap_base.specs.Pairs.{has_text, index_by, index_of, lookup, lookup_by, lookup_full, lookup_pair};
+ghost use Rattle.std.specs.Prelude.{◌≡◌, ◌-◌, ◌<◌, ◌↔◌, IfSome, IsTrue, is_some, length, option_copied, option_map, slice_get};
+ghost use Rattle.vecmap_base.specs.Pairs.{HasDistinctKeys, has_text, index_by, index_of, lookup, lookup_by, lookup_full, lookup_pair};
 
 use crate::VecMap;
-use vecmap_base::{find, find_str};
+use vecmap_base::{find, find_str, keys_distinct};
 
 impl<K, V> VecMap<K, V> {
-    /// Whether a key equal to `key` is there.
+    /// Whether a key equal to `key` is there. It takes at most as many comparisons as there are pairs.
     pub fn contains_key(&self, key: &K) -> bool
     where
         K: Eq,
@@ -15,14 +15,14 @@ impl<K, V> VecMap<K, V> {
         self.get_index_of(key).is_some()
     }
 
-    /// The first pair.
+    /// The first pair. It compares nothing.
     pub fn first(&self) -> Option<(&K, &V)>
         ensures { option_map (λ pair. (pair.0.now, pair.1.now)) result ≡ slice_get self.now.entries 0 }
     {
         self.get_index(0)
     }
 
-    /// The last pair.
+    /// The last pair. It compares nothing.
     pub fn last(&self) -> Option<(&K, &V)>
         ensures { option_map (λ pair. (pair.0.now, pair.1.now)) result ≡ slice_get self.now.entries (length self.now.entries - 1) }
     {
@@ -34,6 +34,8 @@ impl<K, V> VecMap<K, V> {
     }
 
     /// The value of the first pair whose key is equal to `key`.
+    ///
+    /// It takes at most as many comparisons as there are pairs.
     pub fn get(&self, key: &K) -> Option<&V>
     where
         K: Eq,
@@ -43,7 +45,7 @@ impl<K, V> VecMap<K, V> {
         Some(value)
     }
 
-    /// The pair at a place, if there is one.
+    /// The pair at a place, if there is one. It compares nothing.
     pub fn get_index(&self, index: usize) -> Option<(&K, &V)>
         ensures { option_map (λ pair. (pair.0.now, pair.1.now)) result ≡ slice_get self.now.entries index }
     {
@@ -52,6 +54,8 @@ impl<K, V> VecMap<K, V> {
     }
 
     /// The place of the first pair whose key is equal to `key`, with the stored key and its value.
+    ///
+    /// It takes at most as many comparisons as there are pairs.
     pub fn get_full(&self, key: &K) -> Option<(usize, &K, &V)>
     where
         K: Eq,
@@ -65,6 +69,8 @@ impl<K, V> VecMap<K, V> {
     }
 
     /// The first pair whose key is equal to `key`, with the stored key.
+    ///
+    /// It takes at most as many comparisons as there are pairs.
     pub fn get_key_value(&self, key: &K) -> Option<(&K, &V)>
     where
         K: Eq,
@@ -75,6 +81,8 @@ impl<K, V> VecMap<K, V> {
     }
 
     /// The place of the first pair whose key is equal to `key`.
+    ///
+    /// It takes at most as many comparisons as there are pairs.
     pub fn get_index_of(&self, key: &K) -> Option<usize>
     where
         K: Eq,
@@ -83,17 +91,26 @@ impl<K, V> VecMap<K, V> {
     {
         find(&self.pairs, key)
     }
+
+    /// Whether no two keys are equal, after at most n(n-1)/2 comparisons for n pairs. It takes no memory.
+    pub fn has_distinct_keys(&self) -> bool
+    where
+        K: Eq,
+        ensures { IsTrue result ↔ HasDistinctKeys K.eq self.now.entries }
+    {
+        keys_distinct(&self.pairs)
+    }
 }
 
 impl<V> VecMap<String, V> {
-    /// As `contains_key`, by the bytes of a text. It takes no memory.
+    /// As `contains_key`, by the bytes of a text, at the same cost. It takes no memory.
     pub fn contains_key_str(&self, key: &str) -> bool
         ensures { result ≡ is_some (index_by (has_text key.now) self.now.entries) }
     {
         self.get_index_of_str(key).is_some()
     }
 
-    /// As `get`, by the bytes of a text. It takes no memory.
+    /// As `get`, by the bytes of a text, at the same cost. It takes no memory.
     pub fn get_str(&self, key: &str) -> Option<&V>
         ensures { option_copied result ≡ lookup_by (has_text key.now) self.now.entries }
     {
@@ -101,7 +118,7 @@ impl<V> VecMap<String, V> {
         Some(&self.pairs[index].1)
     }
 
-    /// As `get_index_of`, by the bytes of a text. It takes no memory.
+    /// As `get_index_of`, by the bytes of a text, at the same cost. It takes no memory.
     pub fn get_index_of_str(&self, key: &str) -> Option<usize>
         ensures place { result ≡ index_by (has_text key.now) self.now.entries }
         ensures within { IfSome result (λ i. i < length self.now.entries) }

@@ -1,8 +1,9 @@
 //! Making a map, and what it is made of.
-ghost use Rattle.std.specs.Prelude.{◌≡◌, [], vec_capacity};
+ghost use Rattle.std.specs.Prelude.{◌≡◌, ◌≤◌, IfOk, IsOk, [], vec_capacity};
+ghost use Rattle.vecmap_base.specs.Clones.{AreClones, IsPairClone};
 
 use crate::VecMap;
-use std::alloc::Global;
+use std::alloc::{AllocError, Global};
 
 impl<K, V> VecMap<K, V> {
     /// The empty map, which has taken no memory.
@@ -13,6 +14,20 @@ impl<K, V> VecMap<K, V> {
         VecMap {
             pairs: Vec::new(alloc),
         }
+    }
+
+    /// The empty map, with room for at least `capacity` pairs. For 0 it takes no memory and succeeds.
+    ///
+    /// Refused, nothing is made.
+    pub fn with_capacity(alloc: Global, capacity: usize) -> Result<VecMap<K, V>, AllocError>
+        ensures entries { IfOk result (λ map. map.entries ≡ []) }
+        ensures room { IfOk result (λ map. capacity ≤ map.capacity) }
+        ensures capacity { capacity ≡ 0 → IfOk result (λ map. map.capacity ≡ 0) }
+        ensures succeeds { capacity ≡ 0 → IsOk result }
+    {
+        Ok(VecMap {
+            pairs: Vec::with_capacity(alloc, capacity)?,
+        })
     }
 
     /// The pairs, in their order.
@@ -29,5 +44,19 @@ impl<K, V> VecMap<K, V> {
     {
         let VecMap { pairs } = self;
         pairs
+    }
+
+    /// A map of clones of the pairs, in their order. Refused, nothing is made.
+    ///
+    /// It takes one clone of each key and of each value, one block of memory, and no comparison.
+    pub fn clone(&self) -> Result<VecMap<K, V>, AllocError>
+    where
+        K: Clone,
+        V: Clone,
+        ensures { IfOk result (λ map. AreClones (IsPairClone K.is_clone V.is_clone) self.now.entries map.entries) }
+    {
+        Ok(VecMap {
+            pairs: self.to_vec()?,
+        })
     }
 }

@@ -21,6 +21,8 @@ pub trait MutableKeys: sealed::Sealed {
     type Value;
 
     /// The place of the first pair whose key is equal to `key`, with the stored key and the value, both to write.
+    ///
+    /// It takes at most as many comparisons as there are pairs.
     fn get_full_mut2(
         &mut self,
         key: &Self::Key,
@@ -28,7 +30,7 @@ pub trait MutableKeys: sealed::Sealed {
     where
         Self::Key: Eq;
 
-    /// The pair at a place, if there is one, the key and the value to write.
+    /// The pair at a place, if there is one, the key and the value to write. It compares nothing.
     fn get_index_mut2(&mut self, index: usize) -> Option<(&mut Self::Key, &mut Self::Value)>;
 }
 

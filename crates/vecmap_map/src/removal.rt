@@ -7,7 +7,7 @@ use crate::VecMap;
 use vecmap_base::{find, find_str};
 
 impl<K, V> VecMap<K, V> {
-    /// Drops all pairs. The capacity stays.
+    /// Drops all pairs, and compares and moves none. The capacity stays.
     pub fn clear(&mut self)
     where
         K: Drop,
@@ -18,7 +18,7 @@ impl<K, V> VecMap<K, V> {
         self.pairs.clear();
     }
 
-    /// Keeps the first `len` pairs. Where there are no more than that, nothing changes.
+    /// Keeps the first `len` pairs, and drops the others. Where there are no more than that, nothing changes.
     pub fn truncate(&mut self, len: usize)
     where
         K: Drop,
@@ -29,7 +29,7 @@ impl<K, V> VecMap<K, V> {
         self.pairs.truncate(len);
     }
 
-    /// Takes out the last pair.
+    /// Takes out the last pair. It compares and moves nothing.
     pub fn pop(&mut self) -> Option<(K, V)>
         ensures pair { result ≡ slice_get self.old.entries (length self.old.entries - 1) }
         ensures entries { self.new.entries ≡ take (length self.old.entries - 1) self.old.entries }
@@ -40,8 +40,8 @@ impl<K, V> VecMap<K, V> {
 
     /// Takes out the first pair whose key is equal to `key`, and answers its value.
     ///
-    /// What follows moves up by one place, so beside the lookup this takes as many moves as there are pairs after it.
-    /// Where no key is equal nothing changes.
+    /// What follows moves up by one place: beside at most as many comparisons as there are pairs this takes as many moves
+    /// as there are pairs after it. Where no key is equal nothing changes.
     pub fn remove(&mut self, key: &K) -> Option<V>
     where
         K: Eq + Drop,
@@ -53,7 +53,7 @@ impl<K, V> VecMap<K, V> {
         Some(value)
     }
 
-    /// As `remove`, and answers the stored pair.
+    /// As `remove`, at the same cost, and answers the stored pair.
     pub fn remove_entry(&mut self, key: &K) -> Option<(K, V)>
     where
         K: Eq,
@@ -65,7 +65,8 @@ impl<K, V> VecMap<K, V> {
         Some(self.pairs.remove(index))
     }
 
-    /// Takes out the pair at a place, which must be there: `len` tells. What follows moves up by one place.
+    /// Takes out the pair at a place, which must be there: `len` tells. What follows moves up by one place, and nothing is
+    /// compared.
     pub fn remove_index(&mut self, index: usize) -> (K, V)
         requires within { index < length self.old.entries }
         ensures pair { slice_get self.old.entries index ≡ Some result }
@@ -77,7 +78,8 @@ impl<K, V> VecMap<K, V> {
 
     /// Takes out the first pair whose key is equal to `key`, and answers its value.
     ///
-    /// The last pair takes its place, so beside the lookup this takes one move. Where no key is equal nothing changes.
+    /// The last pair takes its place: beside at most as many comparisons as there are pairs this takes one move. Where no
+    /// key is equal nothing changes.
     pub fn swap_remove(&mut self, key: &K) -> Option<V>
     where
         K: Eq + Drop,
@@ -89,7 +91,7 @@ impl<K, V> VecMap<K, V> {
         Some(value)
     }
 
-    /// As `swap_remove`, and answers the stored pair.
+    /// As `swap_remove`, at the same cost, and answers the stored pair.
     pub fn swap_remove_entry(&mut self, key: &K) -> Option<(K, V)>
     where
         K: Eq,
@@ -101,7 +103,8 @@ impl<K, V> VecMap<K, V> {
         Some(self.pairs.swap_remove(index))
     }
 
-    /// Takes out the pair at a place, which must be there: `len` tells. The last pair takes its place.
+    /// Takes out the pair at a place, which must be there: `len` tells. The last pair takes its place, which is one move,
+    /// and nothing is compared.
     pub fn swap_remove_index(&mut self, index: usize) -> (K, V)
         requires within { index < length self.old.entries }
         ensures pair { slice_get self.old.entries index ≡ Some result }
@@ -113,7 +116,7 @@ impl<K, V> VecMap<K, V> {
 }
 
 impl<V> VecMap<String, V> {
-    /// As `remove`, by the bytes of a text. It takes no memory.
+    /// As `remove`, by the bytes of a text, at the same cost. It takes no memory.
     pub fn remove_str(&mut self, key: &str) -> Option<V>
         ensures value { result ≡ lookup_by (has_text key.now) self.old.entries }
         ensures entries { self.new.entries ≡ without_by (has_text key.now) self.old.entries }

@@ -1,28 +1,17 @@
 //! How many pairs there are, and how many there is room for.
-ghost use Rattle.std.specs.Prelude.{◌≡◌, ◌+◌, ◌<◌, ◌==◌, ◌^◌, ◌↔◌, ◌≤◌, IfOk, IsOk, IsTrue, OnErr, OnOk, [], length, min};
+ghost use Rattle.std.specs.Prelude.{◌≡◌, ◌<◌, ◌==◌, ◌^◌, ◌↔◌, ◌≤◌, IsOk, IsTrue, OnErr, OnOk, [], length, min};
+ghost use Rattle.vecmap_map.specs.Contents.{HasRoom};
 
 use crate::VecMap;
-use std::alloc::{AllocError, Global};
+use std::alloc::AllocError;
 use std::collections::TryReserveError;
 
 impl<K, V> VecMap<K, V> {
-    /// The empty map, with room for at least `capacity` pairs. For 0 it takes no memory and succeeds.
-    pub fn with_capacity(alloc: Global, capacity: usize) -> Result<VecMap<K, V>, AllocError>
-        ensures entries { IfOk result (λ map. map.entries ≡ []) }
-        ensures room { IfOk result (λ map. capacity ≤ map.capacity) }
-        ensures none { capacity ≡ 0 → IfOk result (λ map. map.capacity ≡ 0) }
-        ensures succeeds { capacity ≡ 0 → IsOk result }
-    {
-        Ok(VecMap {
-            pairs: Vec::with_capacity(alloc, capacity)?,
-        })
-    }
-
     /// The number of pairs.
     pub fn len(&self) -> usize
-        ensures len { result ≡ length self.now.entries }
+        ensures count { result ≡ length self.now.entries }
         ensures room { result ≤ self.now.capacity }
-        ensures bound { result < 2 ^ 63 }
+        ensures countable { result < 2 ^ 63 }
     {
         self.pairs.len()
     }
@@ -43,13 +32,14 @@ impl<K, V> VecMap<K, V> {
 
     /// Makes room for `additional` more pairs, and for some beyond them, so that a row of insertions seldom grows.
     ///
-    /// Where the room is there already it succeeds and the capacity stays. Refused, nothing has changed.
+    /// Where the room is there already it succeeds and the capacity stays. Else all pairs may be moved. Refused, nothing
+    /// has changed.
     pub fn reserve(&mut self, additional: usize) -> Result<(), AllocError>
         ensures entries { self.new.entries ≡ self.old.entries }
-        ensures room { OnOk result (length self.old.entries + additional ≤ self.new.capacity) }
+        ensures room { OnOk result (HasRoom self.new additional) }
         ensures capacity { self.old.capacity ≤ self.new.capacity }
-        ensures enough { length self.old.entries + additional ≤ self.old.capacity → IsOk result }
-        ensures stays { length self.old.entries + additional ≤ self.old.capacity → self.new ≡ self.old }
+        ensures succeeds { HasRoom self.old additional → IsOk result }
+        ensures unchanged { HasRoom self.old additional → self.new ≡ self.old }
         ensures err { OnErr result (self.new ≡ self.old) }
     {
         if self.has_room(additional) {
@@ -60,13 +50,14 @@ impl<K, V> VecMap<K, V> {
 
     /// Makes room for `additional` more pairs and no more than the allocator gives.
     ///
-    /// Where the room is there already it succeeds and the capacity stays. Refused, nothing has changed.
+    /// Where the room is there already it succeeds and the capacity stays. Else all pairs may be moved. Refused, nothing
+    /// has changed.
     pub fn reserve_exact(&mut self, additional: usize) -> Result<(), AllocError>
         ensures entries { self.new.entries ≡ self.old.entries }
-        ensures room { OnOk result (length self.old.entries + additional ≤ self.new.capacity) }
+        ensures room { OnOk result (HasRoom self.new additional) }
         ensures capacity { self.old.capacity ≤ self.new.capacity }
-        ensures enough { length self.old.entries + additional ≤ self.old.capacity → IsOk result }
-        ensures stays { length self.old.entries + additional ≤ self.old.capacity → self.new ≡ self.old }
+        ensures succeeds { HasRoom self.old additional → IsOk result }
+        ensures unchanged { HasRoom self.old additional → self.new ≡ self.old }
         ensures err { OnErr result (self.new ≡ self.old) }
     {
         if self.has_room(additional) {
@@ -78,10 +69,10 @@ impl<K, V> VecMap<K, V> {
     /// As `reserve`, with the error that Rust gives this call.
     pub fn try_reserve(&mut self, additional: usize) -> Result<(), TryReserveError>
         ensures entries { self.new.entries ≡ self.old.entries }
-        ensures room { OnOk result (length self.old.entries + additional ≤ self.new.capacity) }
+        ensures room { OnOk result (HasRoom self.new additional) }
         ensures capacity { self.old.capacity ≤ self.new.capacity }
-        ensures enough { length self.old.entries + additional ≤ self.old.capacity → IsOk result }
-        ensures stays { length self.old.entries + additional ≤ self.old.capacity → self.new ≡ self.old }
+        ensures succeeds { HasRoom self.old additional → IsOk result }
+        ensures unchanged { HasRoom self.old additional → self.new ≡ self.old }
         ensures err { OnErr result (self.new ≡ self.old) }
     {
         self.reserve(additional)
@@ -90,10 +81,10 @@ impl<K, V> VecMap<K, V> {
     /// As `reserve_exact`, with the error that Rust gives this call.
     pub fn try_reserve_exact(&mut self, additional: usize) -> Result<(), TryReserveError>
         ensures entries { self.new.entries ≡ self.old.entries }
-        ensures room { OnOk result (length self.old.entries + additional ≤ self.new.capacity) }
+        ensures room { OnOk result (HasRoom self.new additional) }
         ensures capacity { self.old.capacity ≤ self.new.capacity }
-        ensures enough { length self.old.entries + additional ≤ self.old.capacity → IsOk result }
-        ensures stays { length self.old.entries + additional ≤ self.old.capacity → self.new ≡ self.old }
+        ensures succeeds { HasRoom self.old additional → IsOk result }
+        ensures unchanged { HasRoom self.old additional → self.new ≡ self.old }
         ensures err { OnErr result (self.new ≡ self.old) }
     {
         self.reserve_exact(additional)
@@ -123,7 +114,7 @@ impl<K, V> VecMap<K, V> {
 
     // Whether `additional` more pairs fit.
     fn has_room(&self, additional: usize) -> bool
-        ensures { IsTrue result ↔ (length self.now.entries + additional ≤ self.now.capacity) }
+        ensures { IsTrue result ↔ HasRoom self.now additional }
     {
         additional <= self.pairs.capacity() - self.pairs.len()
     }

@@ -52,10 +52,13 @@ impl<'a, K, V> OccupiedEntry<'a, K, V> {
     }
 
     /// The value of the key, to write.
+    ///
+    /// Whatever value is written, the entry is then the one with that value, and a later write or removal through it
+    /// leaves what it would have left without.
     pub fn get_mut(&mut self) -> &mut V
         ensures* writes_back { sem 𝓛 (occupied_lends K.row V.row self.entry result) }
         ensures value { entry_value (Occupied self.old) ≡ Some result.now }
-        ensures later { (v : V) → LeavesSame (Occupied self.old) (Occupied (occupied_with self.old v)) }
+        ensures later { (written : V) → LeavesSame (Occupied self.old) (Occupied (occupied_with self.old written)) }
     {
         let index = self.index;
         self.map.value_mut(index)

@@ -47,9 +47,8 @@ impl<'a, K, V> VacantEntry<'a, K, V> {
         ensures* writes_back { sem 𝓛 (entry_lends K.row V.row (Vacant self.entry) result) }
         ensures value { IfOk result (λ x. x.now ≡ value) }
 
-        // Refused, the pair comes back, and only where there was no room.
+        // Refused, the pair comes back.
         ensures given { IfErr result (λ refused. refused.given ≡ (entry_key (Vacant self.entry), value)) }
-        ensures full { OnErr result ((entry_map (Vacant self.entry)).capacity ≤ length (entry_map (Vacant self.entry)).entries) }
     {
         let VacantEntry { map, key } = self;
         let index = map.len();
@@ -68,10 +67,10 @@ impl<'a, K, V> VacantEntry<'a, K, V> {
         K: Clone,
         ensures ok { IfOk result (IsInserted K.is_clone (Vacant self.entry) value) }
 
-        // Refused, the pair comes back, and where the key can be cloned only for want of room.
+        // Refused, the pair comes back, and where the key can be cloned only where the map is full.
         ensures* err { sem 𝓛 (entry_passes K.row V.row (Vacant self.entry) result) }
         ensures given { IfErr result (λ refused. refused.given ≡ (entry_key (Vacant self.entry), value)) }
-        ensures full { K.is_infallible (entry_key (Vacant self.entry)) → OnErr result ((entry_map (Vacant self.entry)).capacity ≤ length (entry_map (Vacant self.entry)).entries) }
+        ensures full { K.is_infallible (entry_key (Vacant self.entry)) → OnErr result (length (entry_map (Vacant self.entry)).entries ≡ (entry_map (Vacant self.entry)).capacity) }
     {
         let VacantEntry { map, key } = self;
         let Ok(stored) = key.clone() else {

@@ -2,7 +2,7 @@ use Rattle.std.proofs.Common.{ap, refl, subst, sym, ◌∙◌}
 use Rattle.std.specs.Map.Calls.{MayWrite, ModifiesValue}
 use Rattle.std.specs.Option.{option_map_or}
 use Rattle.vecmap_map.specs.Entry.{entries_with, entry_map, entry_value}
-use Rattle.vecmap_map.proofs.EntryLemmas.{value_written}
+use Rattle.vecmap_map.proofs.EntryLemmas.Written.{value_written}
 use Rattle.vecmap_map.proofs.entry.Entry.and_modify.Goals as goal
 
 pub returns-in-Occupied-clause-update : goal.returns-in-Occupied-clause-update

@@ -1,4 +1,4 @@
-use Rattle.std.proofs.Common.{◌≡◌, ap, refl, rules, subst, sym}
+use Rattle.std.proofs.Common.{◌≡◌, ap, refl, subst, sym}
 use Rattle.std.proofs.lemmas.Result.{IfErr-weaker, IfOk-weaker}
 use Rattle.std.specs.Fn.{FnOnceReturnsAt}
 use Rattle.vecmap_map.proofs.entry.Entry.or_insert_with_key.Goals as goal
@@ -15,7 +15,5 @@ returns-in-Vacant g c =
         value = IfOk-weaker _ _ _ (λ x e. subst made (sym e) gave) c.insert.ensures.value;
         given_key = IfErr-weaker c.insert.result (λ y. y.given ≡ pair) (λ y. y.given.0 ≡ pair.0) (λ y e. ap (λ (p : g.row.K.Denot × g.row.V.Denot). p.0) e) c.insert.ensures.given;
         given_value = IfErr-weaker c.insert.result (λ y. y.given ≡ pair) (λ y. made y.given.1) (λ y e. subst made (sym (ap (λ (p : g.row.K.Denot × g.row.V.Denot). p.1) e)) gave) c.insert.ensures.given;
-        absent = search rules;
-        full = c.insert.ensures.full;
       },
     )

@@ -1,0 +1,60 @@
+-- What a set place, and a last one, leave of removals.
+use Rattle.std.proofs.Common.{◌≡◌, ◌≢◌, ℕ, zero, suc, ◌-◌, ◌<◌, ◌≤◌, List, [], ◌∷◌, ◌++◌, Some, ap, arith, get_or, inl, inr, length, refl, remove, set, slice_get, sym, take, take_at, ◌∙◌}
+use Rattle.std.proofs.Math.Nat.{eq-or-lt_of_le}
+use Rattle.std.proofs.lemmas.List.{get_or-set_other, get_or_default, length-append, length-set, set-set, take-set-le}
+use Rattle.std.specs.List.{swap_remove}
+use Rattle.std.specs.Option.{option_map_or}
+use Rattle.vecmap_base.specs.Items.{swap_without}
+
+module _ {X : Type 0} where
+  pub item_there : (l : List X) (i : ℕ) → i < length l → (x : X) × (slice_get l i ≡ Some x)
+  item_there [] i h = absurd (omega arith)
+  item_there (x ∷ l) zero h = (x, refl)
+  item_there (x ∷ l) (suc i) h = item_there l i (omega arith)
+
+  pub slice_get-set : (l : List X) (i : ℕ) (x : X) → i < length l → slice_get (set l i x) i ≡ Some x
+  slice_get-set [] i x h = absurd (omega arith)
+  slice_get-set (y ∷ l) zero x h = refl
+  slice_get-set (y ∷ l) (suc i) x h = slice_get-set l i x (omega arith)
+
+  pub remove-set : (l : List X) (i : ℕ) (x : X) → remove (set l i x) i ≡ remove l i
+  remove-set [] i x = refl
+  remove-set (y ∷ l) zero x = refl
+  remove-set (y ∷ l) (suc i) x = ap (λ m. y ∷ m) (remove-set l i x)
+
+  swap_remove-set : (l : List X) (i : ℕ) (x y : X) → i < length l → swap_remove (set l i x) i x ≡ swap_remove l i y
+  swap_remove-set l i x y h =
+      let n = length l - 1 in
+      let long : length (set l i x) - 1 ≡ n = ap (λ k. k - 1) (length-set l i x) in
+      let within : i ≤ n = omega arith in
+      (λ j. take (long j) (set (set l i x) i (get_or (set l i x) (long j) x))) ∙ ap (take n) (set-set l i x (get_or (set l i x) n x))
+      ∙ elim (eq-or-lt_of_le within) [
+        | inl last ↦ take-set-le n l i _ (omega arith) ∙ sym (take-set-le n l i _ (omega arith))
+        | inr before ↦ let other : n ≢ i = omega arith in ap (λ z. take n (set l i z)) (get_or-set_other l i n x x other ∙ get_or_default l n x y (omega arith))
+      ]
+
+  pub swap_without-set : (l : List X) (i : ℕ) (x : X) → i < length l → swap_without (set l i x) i ≡ swap_without l i
+  swap_without-set l i x h =
+      let there = item_there l i h in
+      ap (λ o. option_map_or (λ z. swap_remove (set l i x) i z) o (set l i x)) (slice_get-set l i x h) ∙ swap_remove-set l i x there.0 h
+      ∙ sym (ap (λ o. option_map_or (λ z. swap_remove l i z) o l) there.1)
+
+  pub slice_get_last : (l : List X) (x : X) → slice_get (l ++ x ∷ []) (length l) ≡ Some x
+  slice_get_last [] x = refl
+  slice_get_last (y ∷ l) x = slice_get_last l x
+
+  pub set_last : (l : List X) (x y : X) → set (l ++ x ∷ []) (length l) y ≡ l ++ y ∷ []
+  set_last [] x y = refl
+  set_last (z ∷ l) x y = ap (λ m. z ∷ m) (set_last l x y)
+
+  pub remove_last : (l : List X) (x : X) → remove (l ++ x ∷ []) (length l) ≡ l
+  remove_last [] x = refl
+  remove_last (y ∷ l) x = ap (λ m. y ∷ m) (remove_last l x)
+
+  pub swap_without_last : (l : List X) (x : X) → swap_without (l ++ x ∷ []) (length l) ≡ l
+  swap_without_last l x =
+      let m = l ++ x ∷ [] in
+      let long : length m - 1 ≡ length l = omega (arith, length-append l (x ∷ [])) in
+      ap (λ o. option_map_or (λ z. swap_remove m (length l) z) o m) (slice_get_last l x)
+      ∙ (λ j. take (long j) (set m (length l) (get_or m (long j) x)))
+      ∙ take-set-le (length l) m (length l) _ (omega arith) ∙ take_at l (x ∷ []) (length l) refl
