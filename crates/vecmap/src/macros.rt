@@ -1,8 +1,9 @@
 //! `vecmap!` and `vecset!`, and what they call.
-ghost use Rattle.std.specs.Prelude.{◌≡◌, ◌<◌, ◌≤◌, IsSome, IsTrue, None, OnErr, OnOk, false, length};
+ghost use Rattle.std.specs.Prelude.{◌≡◌, ◌<◌, ◌≤◌, IsTrue, OnErr, OnOk, false, length};
 ghost use Rattle.std.specs.List.{IsDistinct};
 ghost use Rattle.vecmap_base.specs.Items.{add, has_item};
-ghost use Rattle.vecmap_base.specs.Pairs.{index_of, put};
+ghost use Rattle.vecmap_base.specs.Pairs.{put};
+ghost use Rattle.vecmap_map.specs.Contents.{KeepsRoom, Refuses};
 
 use crate::{VecMap, VecSet};
 use std::alloc::AllocError;
@@ -42,12 +43,8 @@ pub fn put_pair<K: Eq + Drop, V: Drop>(
     value: V,
 ) -> Result<(), AllocError>
     ensures entries { OnOk result (map.new.entries ≡ put K.eq map.old.entries key value) }
-    ensures capacity { map.old.capacity ≤ map.new.capacity }
-    ensures there { IsSome (index_of K.eq map.old.entries key) → map.new.capacity ≡ map.old.capacity }
-    ensures room { length map.old.entries < map.old.capacity → map.new.capacity ≡ map.old.capacity }
-    ensures err { OnErr result (map.new ≡ map.old) }
-    ensures absent { OnErr result (index_of K.eq map.old.entries key ≡ None) }
-    ensures full { OnErr result (map.old.capacity ≤ length map.old.entries) }
+    ensures room { KeepsRoom K.eq map.old key map.new }
+    ensures err { OnErr result (Refuses K.eq map.old key map.new) }
 {
     map.insert(key, value)?;
     Ok(())

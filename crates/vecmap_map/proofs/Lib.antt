@@ -1,4 +1,2 @@
-pub mod EntryLemmas
-pub mod EqualityLemmas
+mod EntryLemmas
 mod LentLemmas
-pub mod MoveLemmas

@@ -2,7 +2,7 @@
 use Rattle.std.specs.Prelude.{Bool}
 use Rattle.std.specs.Cmp.{IsEquivalence}
 use Rattle.vecmap_base.specs.Equality.{has_same_counts}
-use Rattle.vecmap_base.proofs.MapEquality.{map_equality_laws}
+use Rattle.vecmap_base.proofs.EqualityLemmas.Maps.{map_equality_laws}
 use Rattle.vecmap_map.specs.Contents.{Contents}
 
 module _ {K V : Type 0} (key : K → K → Bool) (value : V → V → Bool) where

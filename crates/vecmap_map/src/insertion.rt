@@ -1,12 +1,12 @@
 //! Insertion of one pair.
-ghost use Rattle.std.specs.Prelude.{◌≡◌, ◌++◌, ◌∷◌, ◌<◌, ◌≤◌, IfErr, IfOk, None, OnErr, OnOk, Some, [], insert, length, remove, slice_get, slice_index_or, vec_capacity};
+ghost use Rattle.std.specs.Prelude.{◌≡◌, ◌++◌, ◌∷◌, ◌≤◌, IfErr, IfOk, None, OnErr, OnOk, [], length};
 ghost use Rattle.vecmap_base.specs.Pairs.{index_or_length, lookup, lookup_full, put, put_at};
 ghost use Rattle.vecmap_map.specs.Contents.{HasRoom, KeepsRoom, KeepsRoomAt, Refuses, RefusesAt};
 
 use crate::VecMap;
 use std::alloc::AllocError;
 use std::mem::replace;
-use vecmap_base::{Refused, find};
+use vecmap_base::{Refused, find, replace_and_move};
 
 impl<K, V> VecMap<K, V> {
     /// Puts a pair, and answers the old value of its key.
@@ -118,31 +118,5 @@ impl<K, V> VecMap<K, V> {
             return Ok(());
         }
         self.reserve(1)
-    }
-}
-
-// Takes the item at one place out and inserts another at a second place, by one turn of what lies between the two.
-fn replace_and_move<T>(items: &mut Vec<T>, from: usize, to: usize, item: T) -> T
-    requires from_within { from < length items.old.items }
-    requires to_within { to < length items.old.items }
-    ensures old { slice_get items.old.items from ≡ Some result }
-    ensures items { items.new.items ≡ insert (remove items.old.items from) to item }
-    ensures capacity { vec_capacity items.new ≡ vec_capacity items.old }
-{
-    let old = replace(&mut items[from], item);
-    move_item(items, from, to);
-    old
-}
-
-// Moves the item at one place to another. Those between the two move by one place.
-fn move_item<T>(items: &mut [T], from: usize, to: usize)
-    requires from_within { from < length items.old }
-    requires to_within { to < length items.old }
-    ensures { (d : T) → items.new ≡ insert (remove items.old from) to (slice_index_or items.old from d) }
-{
-    if from < to {
-        items[from..to + 1].rotate_left(1);
-    } else {
-        items[to..from + 1].rotate_right(1);
     }
 }

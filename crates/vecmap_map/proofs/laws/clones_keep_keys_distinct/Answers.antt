@@ -1,4 +1,4 @@
-use Rattle.vecmap_base.proofs.KeysStayDistinct.{distinct_keys_clones, distinct_keys_stored}
+use Rattle.vecmap_base.proofs.DistinctLemmas.Keys.{distinct_keys_clones, distinct_keys_stored}
 use Rattle.vecmap_map.proofs.laws.clones_keep_keys_distinct.Goals as goal
 
 pub returns-clause-stored : goal.returns-clause-stored

@@ -1,4 +1,4 @@
-use Rattle.vecmap_base.proofs.MapEquality.{rearranged_maps_equal}
+use Rattle.vecmap_base.proofs.EqualityLemmas.Maps.{rearranged_maps_equal}
 use Rattle.vecmap_map.proofs.laws.equality_ignores_order.Goals as goal
 
 pub returns : goal.returns

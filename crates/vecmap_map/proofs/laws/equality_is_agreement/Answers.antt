@@ -1,4 +1,4 @@
-use Rattle.vecmap_base.proofs.MapEquality.{equality_is_agreement, lookups_from_test}
+use Rattle.vecmap_base.proofs.EqualityLemmas.Maps.{equality_is_agreement, lookups_from_test}
 use Rattle.vecmap_map.proofs.laws.equality_is_agreement.Goals as goal
 
 pub returns-clause-equality : goal.returns-clause-equality

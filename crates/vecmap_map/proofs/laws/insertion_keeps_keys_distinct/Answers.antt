@@ -1,6 +1,6 @@
 use Rattle.std.proofs.Common.{[]}
-use Rattle.vecmap_base.proofs.DistinctLemmas.{distinct_none}
-use Rattle.vecmap_base.proofs.KeysStayDistinct.{distinct_keys_with_value, distinct_put, distinct_put_at, distinct_puts}
+use Rattle.vecmap_base.proofs.DistinctLemmas.Absent.{distinct_none}
+use Rattle.vecmap_base.proofs.DistinctLemmas.Keys.{distinct_keys_with_value, distinct_put, distinct_put_at, distinct_puts}
 use Rattle.vecmap_map.proofs.laws.insertion_keeps_keys_distinct.Goals as goal
 
 pub returns-clause-put : goal.returns-clause-put

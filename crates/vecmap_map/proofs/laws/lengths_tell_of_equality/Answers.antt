@@ -1,4 +1,4 @@
-use Rattle.vecmap_base.proofs.MapEquality.{map_equal_by_half, map_lengths_differ}
+use Rattle.vecmap_base.proofs.EqualityLemmas.Maps.{map_equal_by_half, map_lengths_differ}
 use Rattle.vecmap_map.proofs.laws.lengths_tell_of_equality.Goals as goal
 
 pub returns-clause-unequal : goal.returns-clause-unequal

@@ -1,4 +1,4 @@
-use Rattle.vecmap_base.proofs.KeysStayDistinct.{distinct_keys_rearranged, distinct_keys_reverse, distinct_keys_swap}
+use Rattle.vecmap_base.proofs.DistinctLemmas.Keys.{distinct_keys_rearranged, distinct_keys_reverse, distinct_keys_swap}
 use Rattle.vecmap_map.proofs.laws.order_keeps_keys_distinct.Goals as goal
 
 pub returns-clause-rearranged : goal.returns-clause-rearranged

@@ -1,7 +1,0 @@
-use Rattle.std.proofs.Common.{◌≡◌, take, true}
-use Rattle.std.specs.List.{AllZip}
-use Rattle.vecmap_base.specs.Equality.{same_pair}
-use Rattle.vecmap_map.proofs.equality.equal_front.Given as goal
-
-abbrev pub invariant-loop-i : goal.invariant-loop-i
-invariant-loop-i g l = AllZip (λ p q. same_pair g.K.PartialEq.eq g.V.PartialEq.eq p q ≡ true) (take l.i l.a) (take l.i l.b)
