@@ -39,7 +39,8 @@ impl<K, V> VecMap<K, V> {
     where
         K: Eq + Clone,
         V: Clone,
-        ensures { IfOk result (λ map. (clones : List (K × V)) × AreClones (IsPairClone K.is_clone V.is_clone) pairs.now clones × (map.entries ≡ puts K.eq [] clones)) }
+        ensures entries { IfOk result (λ map. (clones : List (K × V)) × AreClones (IsPairClone K.is_clone V.is_clone) pairs.now clones × (map.entries ≡ puts K.eq [] clones)) }
+        ensures room { IfOk result (λ map. length pairs.now ≤ map.capacity) }
     {
         let mut map = VecMap::with_capacity(alloc, pairs.len())?;
         for pair in pairs {
@@ -189,7 +190,7 @@ impl<K: Eq + Drop, V: Drop> FromIterator<(K, V)> for VecMap<K, V> {
 // How many new keys to make room for, where `hint` pairs come. A map that is not empty may have some of them.
 fn likely_new(is_empty: bool, hint: usize) -> usize
     ensures amount { result ≡ (if is_empty then hint else (hint + 1) / 2) }
-    ensures bound { result ≤ hint }
+    ensures at_most { result ≤ hint }
 {
     if is_empty { hint } else { hint.div_ceil(2) }
 }

@@ -110,8 +110,9 @@ impl<K, V> VecMap<K, V> {
     // Makes room for one more pair.
     fn reserve_one(&mut self) -> Result<(), AllocError>
         ensures entries { self.new.entries ≡ self.old.entries }
-        ensures has { OnOk result (HasRoom self.new 1) }
-        ensures room { KeepsRoomAt None self.old self.new }
+        ensures room { OnOk result (HasRoom self.new 1) }
+        ensures capacity { self.old.capacity ≤ self.new.capacity }
+        ensures unchanged { HasRoom self.old 1 → self.new ≡ self.old }
         ensures err { OnErr result (RefusesAt None self.old self.new) }
     {
         if self.pairs.len() < self.pairs.capacity() {

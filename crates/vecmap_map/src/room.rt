@@ -90,8 +90,8 @@ impl<K, V> VecMap<K, V> {
         self.reserve_exact(additional)
     }
 
-    /// Gives back as much memory as it can. It is never refused: without the memory for a smaller block, the
-    /// capacity stays.
+    /// Gives back as much memory as it can, for which all pairs may move. It is never refused: without the memory for a
+    /// smaller block, the capacity stays.
     pub fn shrink_to_fit(&mut self)
         ensures entries { self.new.entries ≡ self.old.entries }
         ensures room { length self.old.entries ≤ self.new.capacity }
@@ -101,8 +101,8 @@ impl<K, V> VecMap<K, V> {
         self.pairs.shrink_to_fit();
     }
 
-    /// Gives back memory down to a capacity of `min_capacity` or the number of pairs, whichever is greater. It is
-    /// never refused: without the memory for a smaller block, the capacity stays.
+    /// Gives back memory down to a capacity of `min_capacity` or the number of pairs, whichever is greater, for which all
+    /// pairs may move. It is never refused: without the memory for a smaller block, the capacity stays.
     pub fn shrink_to(&mut self, min_capacity: usize)
         ensures entries { self.new.entries ≡ self.old.entries }
         ensures room { length self.old.entries ≤ self.new.capacity }

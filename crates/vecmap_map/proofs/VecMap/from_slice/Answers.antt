@@ -1,4 +1,4 @@
-use Rattle.std.proofs.Common.{◌+◌, ◌∷◌, [], ◌++◌, ap, sym, subst, take, ◌∙◌, ◌≡◌}
+use Rattle.std.proofs.Common.{◌+◌, ◌∷◌, [], ◌++◌, ap, arith, sym, subst, take, ◌∙◌, ◌≡◌}
 use Rattle.std.proofs.lemmas.List.{take_more}
 use Rattle.vecmap_base.specs.Clones.{IsPairClone}
 use Rattle.vecmap_base.specs.Pairs.{put}
@@ -13,5 +13,8 @@ loop-pair-preserved g c =
     let one = c.in_ok-put_clones.ensures.entries in
     let is_clone = IsPairClone g.K.Clone.is_clone g.V.Clone.is_clone in
     let more : take i pairs ++ p ∷ [] ≡ take (i + 1) pairs = ap (λ q. take i pairs ++ q ∷ []) c.pair-item.is ∙ sym (take_more pairs i p c.loop-pair-test.true) in
-    subst (λ l. TakesClones is_clone (λ done r. put g.K.PartialEq.eq done r.0 r.1) [] l c.put_clones.new.self.entries) more
-    (clone_taken is_clone (λ done r. put g.K.PartialEq.eq done r.0 r.1) [] (take i pairs) c.loop-pair.map.entries c.put_clones.new.self.entries p (one.0, one.1) c.loop-pair.invariant (one.2, one.3) one.4)
+    record {
+      puts = subst (λ l. TakesClones is_clone (λ done r. put g.K.PartialEq.eq done r.0 r.1) [] l c.put_clones.new.self.entries) more
+          (clone_taken is_clone (λ done r. put g.K.PartialEq.eq done r.0 r.1) [] (take i pairs) c.loop-pair.map.entries c.put_clones.new.self.entries p (one.0, one.1) c.loop-pair.invariant.puts (one.2, one.3) one.4);
+      room = omega (arith, c.put_clones.ensures.room.capacity, c.loop-pair.invariant.room);
+    }
