@@ -1,9 +1,10 @@
 //! `vecmap!` and `vecset!`, and what they call.
-ghost use Rattle.std.specs.Prelude.{◌≡◌, ◌<◌, ◌≤◌, IsTrue, OnErr, OnOk, false, length};
+ghost use Rattle.std.specs.Prelude.{◌≡◌, IsTrue, OnErr, OnOk};
 ghost use Rattle.std.specs.List.{IsDistinct};
 ghost use Rattle.vecmap_base.specs.Items.{add, has_item};
 ghost use Rattle.vecmap_base.specs.Pairs.{put};
 ghost use Rattle.vecmap_map.specs.Contents.{KeepsRoom, Refuses};
+ghost use Rattle.vecmap_set.specs.Contents.{KeepsRoom as SetKeepsRoom, Refuses as SetRefuses};
 
 use crate::{VecMap, VecSet};
 use std::alloc::AllocError;
@@ -54,12 +55,9 @@ pub fn put_pair<K: Eq + Drop, V: Drop>(
 pub fn add_item<T: Eq + Drop>(set: &mut VecSet<T>, item: T) -> Result<(), AllocError>
     ensures elements { OnOk result (set.new.elements ≡ add T.eq set.old.elements item) }
     ensures distinct { IsDistinct T.eq set.new.elements }
-    ensures capacity { set.old.capacity ≤ set.new.capacity }
-    ensures there { IsTrue (has_item T.eq set.old.elements item) → set.new ≡ set.old }
-    ensures room { length set.old.elements < set.old.capacity → set.new.capacity ≡ set.old.capacity }
-    ensures err { OnErr result (set.new ≡ set.old) }
-    ensures absent { OnErr result (has_item T.eq set.old.elements item ≡ false) }
-    ensures full { OnErr result (set.old.capacity ≤ length set.old.elements) }
+    ensures unchanged { IsTrue (has_item T.eq set.old.elements item) → set.new ≡ set.old }
+    ensures room { SetKeepsRoom T.eq set.old item set.new }
+    ensures err { OnErr result (SetRefuses T.eq set.old item set.new) }
 {
     set.insert(item)?;
     Ok(())

@@ -1,13 +1,13 @@
 -- What the calls that take many elements at once leave.
-use Rattle.std.specs.Prelude.{◌≡◌, ◌≤◌, Bool, List, false, length}
-use Rattle.vecmap_base.specs.Items.{adds, has_item}
-use Rattle.vecmap_set.specs.Contents.{Contents}
+use Rattle.std.specs.Prelude.{◌≡◌, Bool, List}
+use Rattle.vecmap_base.specs.Items.{adds}
+use Rattle.vecmap_set.specs.Contents.{Contents, Refuses}
 
 module _ {T : Type 0} (eq : T → T → Bool) where
   -- the elements, added in turn, take old to new
   abbrev pub Adds : Contents T → List T → Contents T → Type 0
   Adds old items new = new.elements ≡ adds eq old.elements items
 
-  -- the elements were added, and `next` was refused: no equal one is there, and there is no room
+  -- the elements were added, and then `next` was refused
   abbrev pub RefusesAfter : Contents T → List T → T → Contents T → Type 0
-  RefusesAfter old items next new = Adds old items new × (has_item eq new.elements next ≡ false) × (new.capacity ≤ length new.elements)
+  RefusesAfter old items next new = Adds old items new × Refuses eq new next new

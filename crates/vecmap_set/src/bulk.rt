@@ -1,13 +1,13 @@
 //! Making a set of many elements, and adding many elements to one.
-ghost use Rattle.std.specs.Prelude.{◌≡◌, ◌+◌, ◌≤◌, IfOk, IsOk, List, OnErr, OnOk, [], length, map};
+ghost use Rattle.std.specs.Prelude.{◌≡◌, ◌≤◌, IfOk, IsOk, List, OnErr, OnOk, [], length, map};
 ghost use Rattle.std.specs.Iterator.{Drains, ExtendsWithItems, IsFiniteIterable};
 ghost use Rattle.std.specs.List.{IsDistinct};
 ghost use Rattle.std.specs.Map.Iter.{deref};
 ghost use Rattle.vecmap_base.specs.Bulk.{HasRoomForAll, StopsAt};
-ghost use Rattle.vecmap_base.specs.Clones.{AreClones, ClonesAreSame};
+ghost use Rattle.vecmap_base.specs.Clones.{AreClones};
 ghost use Rattle.vecmap_base.specs.Items.{adds};
+ghost use Rattle.vecmap_set.specs.Contents.{HasRoom, with_elements};
 ghost use Rattle.vecmap_set.specs.SetBulk.{Adds, RefusesAfter};
-ghost use Rattle.vecmap_set.specs.Contents.{with_elements};
 
 use crate::VecSet;
 use std::alloc::{AllocError, Global};
@@ -47,29 +47,6 @@ impl<T: Eq> VecSet<T> {
         Ok(set)
     }
 
-    /// A set of clones of the elements, in their order. A clone must be equal to its original, so that no two clones
-    /// are equal. Refused, nothing is made.
-    pub fn clone(&self) -> Result<VecSet<T>, AllocError>
-    where
-        T: Clone,
-        requires same { ClonesAreSame T.eq T.is_clone }
-        ensures elements { IfOk result (λ set. AreClones T.is_clone self.now.elements set.elements) }
-        ensures distinct { IfOk result (λ set. IsDistinct T.eq set.elements) }
-    {
-        Ok(VecSet {
-            items: self.items.clone()?,
-        })
-    }
-
-    /// Clones of the elements, in their order. Refused, nothing is made.
-    pub fn to_vec(&self) -> Result<Vec<T>, AllocError>
-    where
-        T: Clone,
-        ensures { IfOk result (λ items. AreClones T.is_clone self.now.elements items.items) }
-    {
-        self.items.clone()
-    }
-
     /// Adds the elements of `other`, in their order, and leaves `other` empty with its capacity.
     ///
     /// Room for all of them is made first. Refused at that, nothing has changed in either. Each element takes one
@@ -82,8 +59,8 @@ impl<T: Eq> VecSet<T> {
         ensures emptied { OnOk result (other.new ≡ with_elements other.old []) }
         ensures other_distinct { IsDistinct T.eq other.new.elements }
         ensures capacity { self.old.capacity ≤ self.new.capacity }
-        ensures enough { length self.old.elements + length other.old.elements ≤ self.old.capacity → IsOk result }
-        ensures stays { length self.old.elements + length other.old.elements ≤ self.old.capacity → self.new.capacity ≡ self.old.capacity }
+        ensures succeeds { HasRoom self.old (length other.old.elements) → IsOk result }
+        ensures stays { HasRoom self.old (length other.old.elements) → self.new.capacity ≡ self.old.capacity }
         ensures err { OnErr result (self.new ≡ self.old) }
         ensures other_err { OnErr result (other.new ≡ other.old) }
     {
@@ -105,7 +82,7 @@ impl<T: Eq> VecSet<T> {
         ensures ran { ExtendsWithItems I.into_iter_gives I.IntoIter.next_gives (Adds T.eq) iter self.old self.new result }
         ensures distinct { IsDistinct T.eq self.new.elements }
         ensures capacity { self.old.capacity ≤ self.new.capacity }
-        ensures enough { HasRoomForAll I.into_iter_gives I.IntoIter.remaining iter (length self.old.elements) self.old.capacity → IsOk result }
+        ensures succeeds { HasRoomForAll I.into_iter_gives I.IntoIter.remaining iter (length self.old.elements) self.old.capacity → IsOk result }
         ensures stays { HasRoomForAll I.into_iter_gives I.IntoIter.remaining iter (length self.old.elements) self.old.capacity → self.new.capacity ≡ self.old.capacity }
 
         // It is refused at a new element where there is no room.
@@ -132,7 +109,7 @@ impl<T: Eq> VecSet<T> {
         ensures ran { ExtendsWithItems I.into_iter_gives I.IntoIter.next_gives (λ old items new. Adds T.eq old (map deref items) new) iter self.old self.new result }
         ensures distinct { IsDistinct T.eq self.new.elements }
         ensures capacity { self.old.capacity ≤ self.new.capacity }
-        ensures enough { HasRoomForAll I.into_iter_gives I.IntoIter.remaining iter (length self.old.elements) self.old.capacity → IsOk result }
+        ensures succeeds { HasRoomForAll I.into_iter_gives I.IntoIter.remaining iter (length self.old.elements) self.old.capacity → IsOk result }
         ensures stays { HasRoomForAll I.into_iter_gives I.IntoIter.remaining iter (length self.old.elements) self.old.capacity → self.new.capacity ≡ self.old.capacity }
 
         // It is refused at a new element where there is no room.

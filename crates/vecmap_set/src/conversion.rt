@@ -1,10 +1,12 @@
-//! Sets made of a vector, in that vector.
-ghost use Rattle.std.specs.Prelude.{◌≡◌, ◌≤◌, [], length, vec_capacity};
+//! Sets made of a vector, in that vector, and vectors of clones of the elements of a set.
+ghost use Rattle.std.specs.Prelude.{◌≡◌, ◌≤◌, IfOk, [], length, vec_capacity};
 ghost use Rattle.std.specs.List.{IsDistinct};
+ghost use Rattle.vecmap_base.specs.Clones.{AreClones};
 ghost use Rattle.vecmap_base.specs.Items.{adds};
 ghost use Rattle.vecmap_base.specs.Repeats.{cost};
 
 use crate::VecSet;
+use std::alloc::AllocError;
 use vecmap_base::{Steps, dedup_keep_first};
 
 /// Adds the elements in turn, in the vector that they stand in: the first of equal ones stays, in its place.
@@ -40,11 +42,20 @@ impl<T: Eq> VecSet<T> {
     ///
     /// It compares nothing and takes no memory.
     pub fn from_vec_unchecked(items: Vec<T>) -> VecSet<T>
-        requires unequal { IsDistinct T.eq items.items }
+        requires distinct { IsDistinct T.eq items.items }
         ensures elements { result.elements ≡ items.items }
         ensures distinct { IsDistinct T.eq result.elements }
         ensures capacity { result.capacity ≡ vec_capacity items }
     {
         VecSet { items }
+    }
+
+    /// Clones of the elements, in their order. Refused, nothing is made.
+    pub fn to_vec(&self) -> Result<Vec<T>, AllocError>
+    where
+        T: Clone,
+        ensures { IfOk result (λ items. AreClones T.is_clone self.now.elements items.items) }
+    {
+        self.items.clone()
     }
 }

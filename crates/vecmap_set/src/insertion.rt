@@ -1,7 +1,8 @@
 //! Insertion of one element.
-ghost use Rattle.std.specs.Prelude.{◌≡◌, ◌<◌, ◌≤◌, IfErr, IfOk, IsTrue, OnErr, OnOk, false, length, not};
+ghost use Rattle.std.specs.Prelude.{◌≡◌, IfErr, IfOk, IsTrue, OnErr, OnOk, not};
 ghost use Rattle.std.specs.List.{IsDistinct};
 ghost use Rattle.vecmap_base.specs.Items.{add, has_item};
+ghost use Rattle.vecmap_set.specs.Contents.{KeepsRoom, Refuses};
 
 use crate::VecSet;
 use vecmap_base::{Refused, find_item};
@@ -19,17 +20,12 @@ impl<T: Eq> VecSet<T> {
         ensures elements { OnOk result (self.new.elements ≡ add T.eq self.old.elements item) }
         ensures added { IfOk result (λ added. added ≡ not (has_item T.eq self.old.elements item)) }
         ensures distinct { IsDistinct T.eq self.new.elements }
-        ensures capacity { self.old.capacity ≤ self.new.capacity }
+        ensures unchanged { IsTrue (has_item T.eq self.old.elements item) → self.new ≡ self.old }
+        ensures room { KeepsRoom T.eq self.old item self.new }
 
-        // An equal element takes no memory, nor does a new one while there is room.
-        ensures there { IsTrue (has_item T.eq self.old.elements item) → self.new ≡ self.old }
-        ensures room { length self.old.elements < self.old.capacity → self.new.capacity ≡ self.old.capacity }
-
-        // Refused, the element comes back. Only a new one is refused, and only where there was no room.
+        // Refused, the element comes back. Only a new one is refused, and only where the set is full.
         ensures given { IfErr result (λ refused. refused.given ≡ item) }
-        ensures err { OnErr result (self.new ≡ self.old) }
-        ensures absent { OnErr result (has_item T.eq self.old.elements item ≡ false) }
-        ensures full { OnErr result (self.old.capacity ≤ length self.old.elements) }
+        ensures err { OnErr result (Refuses T.eq self.old item self.new) }
     {
         if find_item(&self.items, &item).is_some() {
             return Ok(false);

@@ -1,9 +1,10 @@
 //! Making a set, and what it is made of.
-ghost use Rattle.std.specs.Prelude.{◌≡◌, [], vec_capacity};
+ghost use Rattle.std.specs.Prelude.{◌≡◌, ◌≤◌, IfOk, IsOk, [], vec_capacity};
 ghost use Rattle.std.specs.List.{IsDistinct};
+ghost use Rattle.vecmap_base.specs.Clones.{AreClones, ClonesAreSame};
 
 use crate::VecSet;
-use std::alloc::Global;
+use std::alloc::{AllocError, Global};
 
 impl<T: Eq> VecSet<T> {
     /// The empty set, which has taken no memory.
@@ -16,6 +17,34 @@ impl<T: Eq> VecSet<T> {
         VecSet {
             items: Vec::new(alloc),
         }
+    }
+
+    /// The empty set, with room for at least `capacity` elements. For 0 it takes no memory and succeeds.
+    #[tactic(auto, using(vecmap_base::proofs::DistinctLemmas::distinct_none))]
+    pub fn with_capacity(alloc: Global, capacity: usize) -> Result<VecSet<T>, AllocError>
+        ensures elements { IfOk result (λ set. set.elements ≡ []) }
+        ensures distinct { IfOk result (λ set. IsDistinct T.eq set.elements) }
+        ensures room { IfOk result (λ set. capacity ≤ set.capacity) }
+        ensures none { capacity ≡ 0 → IfOk result (λ set. set.capacity ≡ 0) }
+        ensures succeeds { capacity ≡ 0 → IsOk result }
+    {
+        Ok(VecSet {
+            items: Vec::with_capacity(alloc, capacity)?,
+        })
+    }
+
+    /// A set of clones of the elements, in their order. A clone must be equal to its original, so that no two clones
+    /// are equal. Refused, nothing is made.
+    pub fn clone(&self) -> Result<VecSet<T>, AllocError>
+    where
+        T: Clone,
+        requires same { ClonesAreSame T.eq T.is_clone }
+        ensures elements { IfOk result (λ set. AreClones T.is_clone self.now.elements set.elements) }
+        ensures distinct { IfOk result (λ set. IsDistinct T.eq set.elements) }
+    {
+        Ok(VecSet {
+            items: self.items.clone()?,
+        })
     }
 
     /// The elements, in their order, no two of them equal.

@@ -16,8 +16,8 @@ impl<T: Eq> VecSet<T> {
 
     /// Exchanges the elements at two places, which must be there: `len` tells.
     pub fn swap_indices(&mut self, a: usize, b: usize)
-        requires a_in_bounds { a < length self.old.elements }
-        requires b_in_bounds { b < length self.old.elements }
+        requires a_within { a < length self.old.elements }
+        requires b_within { b < length self.old.elements }
         ensures elements { self.new.elements ≡ swap self.old.elements a b }
         ensures distinct { IsDistinct T.eq self.new.elements }
         ensures capacity { self.new.capacity ≡ self.old.capacity }

@@ -1,31 +1,18 @@
 //! How many elements there are, and how many there is room for.
-ghost use Rattle.std.specs.Prelude.{◌≡◌, ◌+◌, ◌<◌, ◌==◌, ◌^◌, ◌↔◌, ◌≤◌, IfOk, IsOk, IsTrue, OnErr, OnOk, [], length, min};
+ghost use Rattle.std.specs.Prelude.{◌≡◌, ◌<◌, ◌==◌, ◌^◌, ◌↔◌, ◌≤◌, IsOk, IsTrue, OnErr, OnOk, [], length, min};
 ghost use Rattle.std.specs.List.{IsDistinct};
+ghost use Rattle.vecmap_set.specs.Contents.{HasRoom};
 
 use crate::VecSet;
-use std::alloc::{AllocError, Global};
+use std::alloc::AllocError;
 use std::collections::TryReserveError;
 
 impl<T: Eq> VecSet<T> {
-    /// The empty set, with room for at least `capacity` elements. For 0 it takes no memory and succeeds.
-    #[tactic(auto, using(vecmap_base::proofs::DistinctLemmas::distinct_none))]
-    pub fn with_capacity(alloc: Global, capacity: usize) -> Result<VecSet<T>, AllocError>
-        ensures elements { IfOk result (λ set. set.elements ≡ []) }
-        ensures distinct { IfOk result (λ set. IsDistinct T.eq set.elements) }
-        ensures room { IfOk result (λ set. capacity ≤ set.capacity) }
-        ensures none { capacity ≡ 0 → IfOk result (λ set. set.capacity ≡ 0) }
-        ensures succeeds { capacity ≡ 0 → IsOk result }
-    {
-        Ok(VecSet {
-            items: Vec::with_capacity(alloc, capacity)?,
-        })
-    }
-
     /// The number of elements.
     pub fn len(&self) -> usize
-        ensures len { result ≡ length self.now.elements }
+        ensures count { result ≡ length self.now.elements }
         ensures room { result ≤ self.now.capacity }
-        ensures bound { result < 2 ^ 63 }
+        ensures countable { result < 2 ^ 63 }
     {
         self.items.len()
     }
@@ -46,14 +33,14 @@ impl<T: Eq> VecSet<T> {
 
     /// Makes room for `additional` more elements, and for some beyond them, so that a row of insertions seldom grows.
     ///
-    /// Where the room is there already it succeeds and the capacity stays. Refused, nothing has changed.
+    /// Where the room is there already it succeeds and nothing changes. Refused, nothing has changed.
     pub fn reserve(&mut self, additional: usize) -> Result<(), AllocError>
         ensures elements { self.new.elements ≡ self.old.elements }
         ensures distinct { IsDistinct T.eq self.new.elements }
-        ensures room { OnOk result (length self.old.elements + additional ≤ self.new.capacity) }
+        ensures room { OnOk result (HasRoom self.new additional) }
         ensures capacity { self.old.capacity ≤ self.new.capacity }
-        ensures enough { length self.old.elements + additional ≤ self.old.capacity → IsOk result }
-        ensures stays { length self.old.elements + additional ≤ self.old.capacity → self.new ≡ self.old }
+        ensures succeeds { HasRoom self.old additional → IsOk result }
+        ensures unchanged { HasRoom self.old additional → self.new ≡ self.old }
         ensures err { OnErr result (self.new ≡ self.old) }
     {
         if self.has_room(additional) {
@@ -64,14 +51,14 @@ impl<T: Eq> VecSet<T> {
 
     /// Makes room for `additional` more elements and no more than the allocator gives.
     ///
-    /// Where the room is there already it succeeds and the capacity stays. Refused, nothing has changed.
+    /// Where the room is there already it succeeds and nothing changes. Refused, nothing has changed.
     pub fn reserve_exact(&mut self, additional: usize) -> Result<(), AllocError>
         ensures elements { self.new.elements ≡ self.old.elements }
         ensures distinct { IsDistinct T.eq self.new.elements }
-        ensures room { OnOk result (length self.old.elements + additional ≤ self.new.capacity) }
+        ensures room { OnOk result (HasRoom self.new additional) }
         ensures capacity { self.old.capacity ≤ self.new.capacity }
-        ensures enough { length self.old.elements + additional ≤ self.old.capacity → IsOk result }
-        ensures stays { length self.old.elements + additional ≤ self.old.capacity → self.new ≡ self.old }
+        ensures succeeds { HasRoom self.old additional → IsOk result }
+        ensures unchanged { HasRoom self.old additional → self.new ≡ self.old }
         ensures err { OnErr result (self.new ≡ self.old) }
     {
         if self.has_room(additional) {
@@ -84,10 +71,10 @@ impl<T: Eq> VecSet<T> {
     pub fn try_reserve(&mut self, additional: usize) -> Result<(), TryReserveError>
         ensures elements { self.new.elements ≡ self.old.elements }
         ensures distinct { IsDistinct T.eq self.new.elements }
-        ensures room { OnOk result (length self.old.elements + additional ≤ self.new.capacity) }
+        ensures room { OnOk result (HasRoom self.new additional) }
         ensures capacity { self.old.capacity ≤ self.new.capacity }
-        ensures enough { length self.old.elements + additional ≤ self.old.capacity → IsOk result }
-        ensures stays { length self.old.elements + additional ≤ self.old.capacity → self.new ≡ self.old }
+        ensures succeeds { HasRoom self.old additional → IsOk result }
+        ensures unchanged { HasRoom self.old additional → self.new ≡ self.old }
         ensures err { OnErr result (self.new ≡ self.old) }
     {
         self.reserve(additional)
@@ -97,10 +84,10 @@ impl<T: Eq> VecSet<T> {
     pub fn try_reserve_exact(&mut self, additional: usize) -> Result<(), TryReserveError>
         ensures elements { self.new.elements ≡ self.old.elements }
         ensures distinct { IsDistinct T.eq self.new.elements }
-        ensures room { OnOk result (length self.old.elements + additional ≤ self.new.capacity) }
+        ensures room { OnOk result (HasRoom self.new additional) }
         ensures capacity { self.old.capacity ≤ self.new.capacity }
-        ensures enough { length self.old.elements + additional ≤ self.old.capacity → IsOk result }
-        ensures stays { length self.old.elements + additional ≤ self.old.capacity → self.new ≡ self.old }
+        ensures succeeds { HasRoom self.old additional → IsOk result }
+        ensures unchanged { HasRoom self.old additional → self.new ≡ self.old }
         ensures err { OnErr result (self.new ≡ self.old) }
     {
         self.reserve_exact(additional)
@@ -132,7 +119,7 @@ impl<T: Eq> VecSet<T> {
 
     // Whether `additional` more elements fit.
     fn has_room(&self, additional: usize) -> bool
-        ensures { IsTrue result ↔ (length self.now.elements + additional ≤ self.now.capacity) }
+        ensures { IsTrue result ↔ HasRoom self.now additional }
     {
         additional <= self.items.capacity() - self.items.len()
     }
