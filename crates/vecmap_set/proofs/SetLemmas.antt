@@ -1,13 +1,16 @@
 -- Whether an element is in a list, and where it is found.
-use Rattle.std.specs.Prelude.{◌≡◌, IsTrue, ℕ, zero, suc, ◌<◌, ◌↔◌, ◌||◌, Bool, true, false, List, [], ◌∷◌, filter, if◌then◌else◌, is_some, length, nat_lt, not, position, refl, slice_get}
+use Rattle.std.specs.Prelude.{◌≡◌, IsTrue, ℕ, zero, suc, ◌<◌, ◌↔◌, ◌||◌, Bool, true, false, Contains, List, [], ◌∷◌, filter, if◌then◌else◌, is_some, length, nat_lt, not, position, refl, slice_get}
 use Rattle.std.specs.Cmp.{IsEquivalence}
-use Rattle.std.specs.List.{list_any, position_or_len}
+use Rattle.std.specs.List.{IsDistinct, list_any, position_or_len}
 use Rattle.std.specs.Option.{option_and_then}
 use Rattle.std.proofs.Common.{sym, ◌∙◌, arith, inl, inr}
 use Rattle.std.proofs.lemmas.Bool.{cases_Bool, ltb-true}
+use Rattle.std.proofs.lemmas.List.Elements.{Contains-append_left, Contains-append_right, Contains-push}
+use Rattle.vecmap_base.specs.Clones.{AreClones}
 use Rattle.vecmap_base.specs.Items.{both, has_item}
 use Rattle.vecmap_base.proofs.Places.{is_some-position}
 use Rattle.vecmap_base.proofs.SetRelations.{both_empty_turned}
+use Rattle.vecmap_base.proofs.StaysDistinct.{distinct_clones}
 
 -- an element passes exactly where there is a first place of one
 pub list_any_position : {T : Type 0} (test : T → Bool) (xs : List T) → list_any test xs ≡ is_some (position test xs)
@@ -46,3 +49,16 @@ module _ {T : Type 0} (eq : T → T → Bool) where
   apart_by_walk_turned o a b found e =
       let apart = apart_by_walk a b found e in
       (λ t. both_empty_turned eq o a b (apart.0 t), λ f. apart.1 (both_empty_turned eq o b a f))
+
+  -- clones of some elements of l, beside the fact that their originals are in l
+  clones_within : (C : T → T → Type 0) (l xs ys : List T) → ((x : T) → Contains xs x → Contains l x) → AreClones C xs ys → AreClones (λ x y. Contains l x × C x y) xs ys
+  clones_within C l [] [] h k = tt
+  clones_within C l [] (y ∷ ys) h k = absurd k
+  clones_within C l (x ∷ xs) [] h k = absurd k
+  clones_within C l (x ∷ xs) (y ∷ ys) h k =
+      ((h x (Contains-append_left (x ∷ []) xs x (Contains-push [] x)), k.0), clones_within C l xs ys (λ z c. h z (Contains-append_right (x ∷ []) xs z c)) k.1)
+
+  -- clones of the elements of a distinct list are distinct, where each is equal to its original
+  pub distinct_clones_of : (o : IsEquivalence eq) (C : T → T → Type 0) (xs ys : List T) → ((x y : T) → Contains xs x → C x y → IsTrue (eq x y)) → AreClones C xs ys → IsDistinct eq xs → IsDistinct eq ys
+  distinct_clones_of o C xs ys same k d =
+      distinct_clones eq o (λ x y. Contains xs x × C x y) (λ x y w. same x y w.0 w.1) xs ys (clones_within C xs xs ys (λ x c. c) k) d

@@ -1,7 +1,7 @@
 //! Making a set, and what it is made of.
-ghost use Rattle.std.specs.Prelude.{◌≡◌, ◌≤◌, IfOk, IsOk, [], vec_capacity};
+ghost use Rattle.std.specs.Prelude.{◌≡◌, ◌≤◌, Contains, IfOk, IsOk, IsTrue, [], vec_capacity};
 ghost use Rattle.std.specs.List.{IsDistinct};
-ghost use Rattle.vecmap_base.specs.Clones.{AreClones, ClonesAreSame};
+ghost use Rattle.vecmap_base.specs.Clones.{AreClones};
 
 use crate::VecSet;
 use std::alloc::{AllocError, Global};
@@ -33,12 +33,12 @@ impl<T: Eq> VecSet<T> {
         })
     }
 
-    /// A set of clones of the elements, in their order. A clone must be equal to its original, so that no two clones
-    /// are equal. Refused, nothing is made.
+    /// A set of clones of the elements, in their order. A clone of an element must be equal to it, so that no two
+    /// clones are equal. Refused, nothing is made.
     pub fn clone(&self) -> Result<VecSet<T>, AllocError>
     where
         T: Clone,
-        requires same { ClonesAreSame T.eq T.is_clone }
+        requires same { (x y : T) → Contains self.now.elements x → T.is_clone x y → IsTrue (T.eq x y) }
         ensures elements { IfOk result (λ set. AreClones T.is_clone self.now.elements set.elements) }
         ensures distinct { IfOk result (λ set. IsDistinct T.eq set.elements) }
     {

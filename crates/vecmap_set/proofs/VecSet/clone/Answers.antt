@@ -1,8 +1,10 @@
-use Rattle.vecmap_base.proofs.StaysDistinct.{distinct_clones}
+use Rattle.vecmap_set.proofs.SetLemmas.{distinct_clones_of}
 use Rattle.vecmap_set.proofs.VecSet.clone.Goals as goal
 
 pub invariant_of-result : goal.invariant_of-result
-invariant_of-result g c = distinct_clones g.T.PartialEq.eq g.met.T.Eq.laws g.T.Clone.is_clone c.requires.same _ _ c.in_ok-clone.ensures.cases.0 c.self.invariant
+invariant_of-result g c =
+    let same = rw (← c.self.view_is) at c.requires.same in
+    distinct_clones_of g.T.PartialEq.eq g.met.T.Eq.laws g.T.Clone.is_clone _ _ same c.in_ok-clone.ensures.cases.0 c.self.invariant
 
 pub returns-clause-distinct : goal.returns-clause-distinct
 returns-clause-distinct g c = invariant_of-result g c
