@@ -15,7 +15,8 @@ use std::alloc::{AllocError, Global};
 impl<T: Eq> VecSet<T> {
     /// Adds the elements of an iterator, which must end, to an empty set, in their order. Refused, nothing is made.
     ///
-    /// Each element takes one lookup, and no room is made beforehand, as elements may be equal.
+    /// Each element takes one lookup among those before it, so n elements take at most n(n-1)/2 comparisons. No room is
+    /// made beforehand, as elements may be equal.
     pub fn from_iter<I: IntoIterator<Item = T>>(
         alloc: Global,
         iter: I,
@@ -33,7 +34,8 @@ impl<T: Eq> VecSet<T> {
 
     /// Adds clones of the elements to an empty set, in their order. Refused, nothing is made.
     ///
-    /// Each element takes one lookup, and no room is made beforehand, as in `from_iter`.
+    /// Each element takes one lookup, and no room is made beforehand, as in `from_iter`. In Rust it is the set's
+    /// `From<&[T]>`.
     pub fn from_slice(alloc: Global, items: &[T]) -> Result<VecSet<T>, AllocError>
     where
         T: Clone,
@@ -49,8 +51,8 @@ impl<T: Eq> VecSet<T> {
 
     /// Adds the elements of `other`, in their order, and leaves `other` empty with its capacity.
     ///
-    /// Room for all of them is made first. Refused at that, nothing has changed in either. Each element takes one
-    /// lookup.
+    /// Room for all of them is made first. Refused at that, nothing has changed in either. Each element takes one lookup,
+    /// of at most as many comparisons as there are elements by then.
     pub fn append(&mut self, other: &mut VecSet<T>) -> Result<(), AllocError>
     where
         T: Drop,
@@ -73,8 +75,9 @@ impl<T: Eq> VecSet<T> {
 
     /// Adds the elements of an iterator, which must end, in their order. An equal element that is there stays.
     ///
-    /// Each element takes one lookup, and no room is made beforehand, as elements may be there already. Refused at an
-    /// element, those before it stay, and that element is dropped with the iterator.
+    /// Each element takes one lookup, of at most as many comparisons as there are elements by then. No room is made
+    /// beforehand, as elements may be there already. Refused at an element, those before it stay, and that element is
+    /// dropped with the iterator. In Rust it is the set's `Extend<T>`.
     pub fn extend<I: IntoIterator<Item = T>>(&mut self, iter: I) -> Result<(), AllocError>
     where
         T: Drop,

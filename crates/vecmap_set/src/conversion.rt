@@ -50,7 +50,7 @@ impl<T: Eq> VecSet<T> {
         VecSet { items }
     }
 
-    /// Clones of the elements, in their order. Refused, nothing is made.
+    /// Clones of the elements, in their order: each is cloned once. Refused, nothing is made.
     pub fn to_vec(&self) -> Result<Vec<T>, AllocError>
     where
         T: Clone,

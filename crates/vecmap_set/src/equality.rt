@@ -1,14 +1,14 @@
 //! Equality of sets, and one set within another.
 ghost use Rattle.std.specs.Prelude.{◌≡◌, ◌↔◌, IsTrue, []};
-ghost use Rattle.std.specs.List.{list_any};
 ghost use Rattle.vecmap_base.specs.Equality.{is_within};
-ghost use Rattle.vecmap_base.specs.Items.{both, has_item};
+ghost use Rattle.vecmap_base.specs.Items.{both};
 
 use crate::VecSet;
-use crate::lookup::is_in;
+use vecmap_base::{are_apart, are_within};
 
 impl<T: Eq> VecSet<T> {
-    /// Whether no element is in both sets. It looks up the elements of the shorter side, up to the first that is found.
+    /// Whether no element is in both sets. It looks up the elements of the shorter side in the other, up to the first that
+    /// is found: at most as many comparisons as the product of the lengths.
     pub fn is_disjoint(&self, other: &VecSet<T>) -> bool
         ensures { IsTrue result ↔ (both T.eq self.now.elements other.now.elements ≡ []) }
     {
@@ -19,7 +19,8 @@ impl<T: Eq> VecSet<T> {
         }
     }
 
-    /// Whether each element is in `other`. A longer set is no subset, which takes no comparison.
+    /// Whether each element is in `other`. A longer set is no subset, which takes no comparison. Else it looks up each
+    /// element in `other`, up to the first that is not found: at most as many comparisons as the product of the lengths.
     pub fn is_subset(&self, other: &VecSet<T>) -> bool
         ensures { result ≡ is_within T.eq self.now.elements other.now.elements }
     {
@@ -30,7 +31,8 @@ impl<T: Eq> VecSet<T> {
         are_within(items, others)
     }
 
-    /// Whether each element of `other` is in the set. A shorter set is no superset, which takes no comparison.
+    /// Whether each element of `other` is in the set. A shorter set is no superset, which takes no comparison. Else it
+    /// makes as many as `other.is_subset(self)`.
     pub fn is_superset(&self, other: &VecSet<T>) -> bool
         ensures { result ≡ is_within T.eq other.now.elements self.now.elements }
     {
@@ -40,7 +42,8 @@ impl<T: Eq> VecSet<T> {
 
 /// Each element of either set is in the other; the order makes no difference.
 ///
-/// Where the lengths differ it is false, with no comparison. Else only the elements of the first set are looked up.
+/// Where the lengths differ it is false, with no comparison. Else only the elements of the first set are looked up, up to
+/// the first that is not found: at most as many comparisons as the product of the lengths.
 impl<T: Eq> PartialEq for VecSet<T> {
     ghost use Rattle.std.specs.Cmp.{partial_equiv_from_equiv};
     ghost use Rattle.std.proofs.lemmas.Cmp.{on_equiv};
@@ -65,26 +68,4 @@ impl<T: Eq> Eq for VecSet<T> {
     ghost use Rattle.vecmap_base.proofs.SetEquality.{set_equality_laws};
 
     ghost laws = { on_equiv (λ set. set.elements) (set_equality_laws T.eq T.Eq.laws) };
-}
-
-// Whether each of `items` is one of `others`.
-fn are_within<T: Eq>(items: &[T], others: &[T]) -> bool
-    ensures { result ≡ is_within T.eq items.now others.now }
-{
-    items.iter().all(|item| is_in(others, item))
-}
-
-// Whether none of `items` is one of `others`.
-fn are_apart<T: Eq>(items: &[T], others: &[T]) -> bool
-    ensures apart { IsTrue result ↔ (both T.eq items.now others.now ≡ []) }
-    ensures from_other_side { IsTrue result ↔ (both T.eq others.now items.now ≡ []) }
-{
-    !overlap(items, others)
-}
-
-// Whether one of `items` is one of `others`.
-fn overlap<T: Eq>(items: &[T], others: &[T]) -> bool
-    ensures { result ≡ list_any (has_item T.eq others.now) items.now }
-{
-    items.iter().any(|item| is_in(others, item))
 }

@@ -4,7 +4,7 @@ ghost use Rattle.std.specs.Prelude.{◌≡◌, ◌<◌, Some, length, slice_get}
 use crate::VecSet;
 use std::ops::Index;
 
-/// The element at a place, which must be below the number of elements: `len` tells.
+/// The element at a place, which must be below the number of elements: `len` tells. It takes no comparison.
 impl<T: Eq> Index<usize> for VecSet<T> {
     type Output = T;
 

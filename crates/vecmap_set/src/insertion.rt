@@ -12,8 +12,9 @@ impl<T: Eq> VecSet<T> {
     ///
     /// An equal element that is there stays, in its place; `item` is dropped and nothing changes. A new element goes
     /// last. Memory is needed for a new element where there is no room. Refused, the element comes back and nothing has
-    /// changed.
-    #[tactic(auto, using(crate::proofs::SetLemmas::list_any_position))]
+    /// changed. It takes one lookup, of at most as many comparisons as there are elements; where memory is taken, all
+    /// elements may move.
+    #[tactic(auto, using(vecmap_base::proofs::Places::list_any_position))]
     pub fn insert(&mut self, item: T) -> Result<bool, Refused<T>>
     where
         T: Drop,

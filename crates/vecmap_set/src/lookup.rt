@@ -1,35 +1,38 @@
 //! Lookups by element and by place.
+//!
+//! A lookup by element compares it with one stored element after another, up to the first that is equal: at most as many
+//! comparisons as there are elements. A lookup by place takes none.
 ghost use Rattle.std.specs.Prelude.{◌≡◌, ◌-◌, ◌<◌, IfSome, length, option_copied, option_map, slice_get};
 ghost use Rattle.std.specs.List.{list_any};
 ghost use Rattle.vecmap_base.specs.Items.{has_item, item_index, stored_item};
 ghost use Rattle.vecmap_base.specs.Pairs.{has_text};
 
 use crate::VecSet;
-use vecmap_base::find_item;
+use vecmap_base::{find_item, is_in, is_in_str};
 
 impl<T: Eq> VecSet<T> {
-    /// Whether an element equal to `item` is there.
+    /// Whether an element equal to `item` is there, after at most as many comparisons as there are elements.
     pub fn contains(&self, item: &T) -> bool
         ensures { result ≡ has_item T.eq self.now.elements item.now }
     {
         is_in(&self.items, item)
     }
 
-    /// The first element.
+    /// The first element, with no comparison.
     pub fn first(&self) -> Option<&T>
         ensures { option_copied result ≡ slice_get self.now.elements 0 }
     {
         self.items.first()
     }
 
-    /// The last element.
+    /// The last element, with no comparison.
     pub fn last(&self) -> Option<&T>
         ensures { option_copied result ≡ slice_get self.now.elements (length self.now.elements - 1) }
     {
         self.items.last()
     }
 
-    /// The stored element that is equal to `item`.
+    /// The stored element that is equal to `item`, after at most as many comparisons as there are elements.
     pub fn get(&self, item: &T) -> Option<&T>
         ensures { option_copied result ≡ stored_item T.eq self.now.elements item.now }
     {
@@ -37,14 +40,15 @@ impl<T: Eq> VecSet<T> {
         Some(&self.items[index])
     }
 
-    /// The element at a place, if there is one.
+    /// The element at a place, if there is one, with no comparison.
     pub fn get_index(&self, index: usize) -> Option<&T>
         ensures { option_copied result ≡ slice_get self.now.elements index }
     {
         self.items.get(index)
     }
 
-    /// The place of the element that is equal to `item`, with the stored element.
+    /// The place of the element that is equal to `item`, with the stored element, after at most as many comparisons as
+    /// there are elements.
     pub fn get_full(&self, item: &T) -> Option<(usize, &T)>
         ensures place { option_map (λ found. found.0) result ≡ item_index T.eq self.now.elements item.now }
         ensures within { IfSome result (λ found. found.0 < length self.now.elements) }
@@ -54,7 +58,7 @@ impl<T: Eq> VecSet<T> {
         Some((index, &self.items[index]))
     }
 
-    /// The place of the element that is equal to `item`.
+    /// The place of the element that is equal to `item`, after at most as many comparisons as there are elements.
     pub fn get_index_of(&self, item: &T) -> Option<usize>
         ensures place { result ≡ item_index T.eq self.now.elements item.now }
         ensures within { IfSome result (λ i. i < length self.now.elements) }
@@ -64,17 +68,10 @@ impl<T: Eq> VecSet<T> {
 }
 
 impl VecSet<String> {
-    /// As `contains`, by the bytes of a text. It takes no memory.
+    /// As `contains`, by the bytes of a text. It takes no memory. In Rust it is `contains` at a `&str`.
     pub fn contains_str(&self, item: &str) -> bool
         ensures { result ≡ list_any (has_text item.now) self.now.elements }
     {
-        self.items.iter().any(|stored| stored.as_str() == item)
+        is_in_str(&self.items, item)
     }
-}
-
-// Whether one of `items` is equal to `item`.
-pub(crate) fn is_in<T: Eq>(items: &[T], item: &T) -> bool
-    ensures { result ≡ has_item T.eq items.now item.now }
-{
-    items.iter().any(|stored| *item == *stored)
 }

@@ -19,7 +19,8 @@ impl<T: Eq> VecSet<T> {
         }
     }
 
-    /// The empty set, with room for at least `capacity` elements. For 0 it takes no memory and succeeds.
+    /// The empty set, with room for at least `capacity` elements. For 0 it takes no memory and succeeds. Refused, nothing
+    /// is made.
     #[tactic(auto, using(vecmap_base::proofs::DistinctLemmas::distinct_none))]
     pub fn with_capacity(alloc: Global, capacity: usize) -> Result<VecSet<T>, AllocError>
         ensures elements { IfOk result (λ set. set.elements ≡ []) }
@@ -34,7 +35,7 @@ impl<T: Eq> VecSet<T> {
     }
 
     /// A set of clones of the elements, in their order. A clone of an element must be equal to it, so that no two
-    /// clones are equal. Refused, nothing is made.
+    /// clones are equal. It makes room for them, clones each element once and compares nothing. Refused, nothing is made.
     pub fn clone(&self) -> Result<VecSet<T>, AllocError>
     where
         T: Clone,
@@ -47,7 +48,7 @@ impl<T: Eq> VecSet<T> {
         })
     }
 
-    /// The elements, in their order, no two of them equal.
+    /// The elements, in their order, no two of them equal. It takes no memory and moves nothing.
     pub fn as_slice(&self) -> &[T]
         ensures elements { result.now ≡ self.now.elements }
         ensures distinct { IsDistinct T.eq result.now }
@@ -55,7 +56,7 @@ impl<T: Eq> VecSet<T> {
         self.items.as_slice()
     }
 
-    /// The elements, in their order, in the vector that held them.
+    /// The elements, in their order, in the vector that held them. It takes no memory and moves no element.
     pub fn into_vec(self) -> Vec<T>
         ensures elements { result.items ≡ self.elements }
         ensures distinct { IsDistinct T.eq result.items }

@@ -8,7 +8,7 @@ use crate::VecSet;
 use vecmap_base::{find_item, find_item_str};
 
 impl<T: Eq> VecSet<T> {
-    /// Drops all elements. The capacity stays.
+    /// Drops all elements, one after another. The capacity stays.
     #[tactic(auto, using(vecmap_base::proofs::DistinctLemmas::distinct_none))]
     pub fn clear(&mut self)
     where
@@ -20,7 +20,7 @@ impl<T: Eq> VecSet<T> {
         self.items.clear();
     }
 
-    /// Keeps the first `len` elements. Where there are no more than that, nothing changes.
+    /// Keeps the first `len` elements, and drops those after them. Where there are no more than that, nothing changes.
     #[tactic(auto, using(vecmap_base::proofs::StaysDistinct::distinct_take))]
     pub fn truncate(&mut self, len: usize)
     where
@@ -32,7 +32,7 @@ impl<T: Eq> VecSet<T> {
         self.items.truncate(len);
     }
 
-    /// Takes out the last element.
+    /// Takes out the last element, with no comparison and no move of another.
     #[tactic(auto, using(vecmap_base::proofs::StaysDistinct::distinct_take))]
     pub fn pop(&mut self) -> Option<T>
         ensures element { result ≡ slice_get self.old.elements (length self.old.elements - 1) }
@@ -45,9 +45,9 @@ impl<T: Eq> VecSet<T> {
 
     /// Takes out the element that is equal to `item`, and answers whether there was one.
     ///
-    /// What follows moves up by one place, so beside the lookup this takes as many moves as there are elements after
-    /// it. Where none is equal nothing changes.
-    #[tactic(auto, using(crate::proofs::SetLemmas::list_any_stored))]
+    /// What follows moves up by one place, so beside the lookup, of at most as many comparisons as there are elements,
+    /// this takes as many moves as there are elements after it. Where none is equal nothing changes.
+    #[tactic(auto, using(vecmap_base::proofs::Places::list_any_stored))]
     pub fn remove(&mut self, item: &T) -> bool
     where
         T: Drop,
@@ -59,7 +59,8 @@ impl<T: Eq> VecSet<T> {
         self.take(item).is_some()
     }
 
-    /// Takes out the element at a place, which must be there: `len` tells. What follows moves up by one place.
+    /// Takes out the element at a place, which must be there: `len` tells. What follows moves up by one place, so this
+    /// takes as many moves as there are elements after it.
     #[tactic(auto, using(vecmap_base::proofs::StaysDistinct::distinct_remove))]
     pub fn remove_index(&mut self, index: usize) -> T
         requires within { index < length self.old.elements }
@@ -73,8 +74,9 @@ impl<T: Eq> VecSet<T> {
 
     /// Takes out the element that is equal to `item`, and answers whether there was one.
     ///
-    /// The last element takes its place, so beside the lookup this takes one move. Where none is equal nothing changes.
-    #[tactic(auto, using(crate::proofs::SetLemmas::list_any_stored))]
+    /// The last element takes its place, so beside the lookup, of at most as many comparisons as there are elements, this
+    /// takes one move. Where none is equal nothing changes.
+    #[tactic(auto, using(vecmap_base::proofs::Places::list_any_stored))]
     pub fn swap_remove(&mut self, item: &T) -> bool
     where
         T: Drop,
@@ -86,7 +88,7 @@ impl<T: Eq> VecSet<T> {
         self.swap_take(item).is_some()
     }
 
-    /// Takes out the element at a place, which must be there: `len` tells. The last element takes its place.
+    /// Takes out the element at a place, which must be there: `len` tells. The last element takes its place, in one move.
     #[tactic(auto, using(std::proofs::lemmas::Option::gets))]
     pub fn swap_remove_index(&mut self, index: usize) -> T
         requires within { index < length self.old.elements }
@@ -122,8 +124,8 @@ impl<T: Eq> VecSet<T> {
 }
 
 impl VecSet<String> {
-    /// As `remove`, by the bytes of a text. It takes no memory.
-    #[tactic(auto, using(crate::proofs::SetLemmas::list_any_position))]
+    /// As `remove`, by the bytes of a text. It takes no memory. In Rust it is `remove` at a `&str`.
+    #[tactic(auto, using(vecmap_base::proofs::Places::list_any_position))]
     pub fn remove_str(&mut self, item: &str) -> bool
         ensures found { result ≡ list_any (has_text item.now) self.old.elements }
         ensures elements { self.new.elements ≡ without_first (has_text item.now) self.old.elements }

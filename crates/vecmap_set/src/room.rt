@@ -33,7 +33,8 @@ impl<T: Eq> VecSet<T> {
 
     /// Makes room for `additional` more elements, and for some beyond them, so that a row of insertions seldom grows.
     ///
-    /// Where the room is there already it succeeds and nothing changes. Refused, nothing has changed.
+    /// Where the room is there already it succeeds and nothing changes. Where memory is taken, all elements may move.
+    /// Refused, nothing has changed.
     pub fn reserve(&mut self, additional: usize) -> Result<(), AllocError>
         ensures elements { self.new.elements ≡ self.old.elements }
         ensures distinct { IsDistinct T.eq self.new.elements }
@@ -51,7 +52,8 @@ impl<T: Eq> VecSet<T> {
 
     /// Makes room for `additional` more elements and no more than the allocator gives.
     ///
-    /// Where the room is there already it succeeds and nothing changes. Refused, nothing has changed.
+    /// Where the room is there already it succeeds and nothing changes. Where memory is taken, all elements may move.
+    /// Refused, nothing has changed.
     pub fn reserve_exact(&mut self, additional: usize) -> Result<(), AllocError>
         ensures elements { self.new.elements ≡ self.old.elements }
         ensures distinct { IsDistinct T.eq self.new.elements }
@@ -67,7 +69,7 @@ impl<T: Eq> VecSet<T> {
         self.items.reserve_exact(additional)
     }
 
-    /// As `reserve`, with the error that Rust gives this call.
+    /// As `reserve`, with the error that Rust gives this call. Refused, nothing has changed.
     pub fn try_reserve(&mut self, additional: usize) -> Result<(), TryReserveError>
         ensures elements { self.new.elements ≡ self.old.elements }
         ensures distinct { IsDistinct T.eq self.new.elements }
@@ -80,7 +82,7 @@ impl<T: Eq> VecSet<T> {
         self.reserve(additional)
     }
 
-    /// As `reserve_exact`, with the error that Rust gives this call.
+    /// As `reserve_exact`, with the error that Rust gives this call. Refused, nothing has changed.
     pub fn try_reserve_exact(&mut self, additional: usize) -> Result<(), TryReserveError>
         ensures elements { self.new.elements ≡ self.old.elements }
         ensures distinct { IsDistinct T.eq self.new.elements }
@@ -93,8 +95,8 @@ impl<T: Eq> VecSet<T> {
         self.reserve_exact(additional)
     }
 
-    /// Gives back as much memory as it can. It is never refused: without the memory for a smaller block, the
-    /// capacity stays.
+    /// Gives back as much memory as it can, for which all elements may move. It is never refused: without the memory for a
+    /// smaller block, the capacity stays.
     pub fn shrink_to_fit(&mut self)
         ensures elements { self.new.elements ≡ self.old.elements }
         ensures distinct { IsDistinct T.eq self.new.elements }
@@ -105,8 +107,8 @@ impl<T: Eq> VecSet<T> {
         self.items.shrink_to_fit();
     }
 
-    /// Gives back memory down to a capacity of `min_capacity` or the number of elements, whichever is greater. It is
-    /// never refused: without the memory for a smaller block, the capacity stays.
+    /// Gives back memory down to a capacity of `min_capacity` or the number of elements, whichever is greater, for which
+    /// all elements may move. It is never refused: without the memory for a smaller block, the capacity stays.
     pub fn shrink_to(&mut self, min_capacity: usize)
         ensures elements { self.new.elements ≡ self.old.elements }
         ensures distinct { IsDistinct T.eq self.new.elements }

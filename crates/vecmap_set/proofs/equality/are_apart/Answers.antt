@@ -1,8 +1,0 @@
-use Rattle.vecmap_set.proofs.SetLemmas.{apart_by_walk, apart_by_walk_turned}
-use Rattle.vecmap_set.proofs.equality.are_apart.Goals as goal
-
-pub returns-clause-apart : goal.returns-clause-apart
-returns-clause-apart g c = apart_by_walk g.T.PartialEq.eq c.args.items.now c.args.others.now c.overlap.result c.overlap.ensures
-
-pub returns-clause-from_other_side : goal.returns-clause-from_other_side
-returns-clause-from_other_side g c = apart_by_walk_turned _ g.met.T.Eq.laws c.args.items.now c.args.others.now c.overlap.result c.overlap.ensures
