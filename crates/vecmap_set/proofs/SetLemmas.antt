@@ -4,7 +4,7 @@ use Rattle.std.specs.Cmp.{IsEquivalence}
 use Rattle.std.specs.List.{IsDistinct}
 use Rattle.std.proofs.lemmas.List.Elements.{Contains-append_left, Contains-append_right, Contains-push}
 use Rattle.vecmap_base.specs.Clones.{AreClones}
-use Rattle.vecmap_base.proofs.StaysDistinct.{distinct_clones}
+use Rattle.vecmap_base.proofs.DistinctLemmas.Clones.{distinct_clones}
 
 module _ {T : Type 0} (eq : T → T → Bool) where
   -- clones of some elements of l, beside the fact that their originals are in l

@@ -7,8 +7,8 @@ use crate::VecSet;
 use vecmap_base::{are_apart, are_within};
 
 impl<T: Eq> VecSet<T> {
-    /// Whether no element is in both sets. It looks up the elements of the shorter side in the other, up to the first that
-    /// is found: at most as many comparisons as the product of the lengths.
+    /// Whether no element is in both sets. It looks up the elements of the shorter side in the other, up to the first
+    /// that is found: at most as many comparisons as the product of the lengths.
     pub fn is_disjoint(&self, other: &VecSet<T>) -> bool
         ensures { IsTrue result ↔ (both T.eq self.now.elements other.now.elements ≡ []) }
     {
@@ -48,7 +48,7 @@ impl<T: Eq> PartialEq for VecSet<T> {
     ghost use Rattle.std.specs.Cmp.{partial_equiv_from_equiv};
     ghost use Rattle.std.proofs.lemmas.Cmp.{on_equiv};
     ghost use Rattle.vecmap_base.specs.Equality.{has_same_items};
-    ghost use Rattle.vecmap_base.proofs.SetEquality.{set_equality_laws};
+    ghost use Rattle.vecmap_base.proofs.EqualityLemmas.Sets.{set_equality_laws};
 
     ghost eq = { λ a b. has_same_items T.eq a.elements b.elements };
 
@@ -65,7 +65,7 @@ impl<T: Eq> PartialEq for VecSet<T> {
 
 impl<T: Eq> Eq for VecSet<T> {
     ghost use Rattle.std.proofs.lemmas.Cmp.{on_equiv};
-    ghost use Rattle.vecmap_base.proofs.SetEquality.{set_equality_laws};
+    ghost use Rattle.vecmap_base.proofs.EqualityLemmas.Sets.{set_equality_laws};
 
     ghost laws = { on_equiv (λ set. set.elements) (set_equality_laws T.eq T.Eq.laws) };
 }

@@ -14,7 +14,7 @@ impl<T: Eq> VecSet<T> {
     /// last. Memory is needed for a new element where there is no room. Refused, the element comes back and nothing has
     /// changed. It takes one lookup, of at most as many comparisons as there are elements; where memory is taken, all
     /// elements may move.
-    #[tactic(auto, using(vecmap_base::proofs::Places::list_any_position))]
+    #[tactic(auto, using(vecmap_base::proofs::PlaceLemmas::list_any_position))]
     pub fn insert(&mut self, item: T) -> Result<bool, Refused<T>>
     where
         T: Drop,

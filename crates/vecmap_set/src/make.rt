@@ -8,7 +8,7 @@ use std::alloc::{AllocError, Global};
 
 impl<T: Eq> VecSet<T> {
     /// The empty set, which has taken no memory.
-    #[tactic(auto, using(vecmap_base::proofs::DistinctLemmas::distinct_none))]
+    #[tactic(auto, using(vecmap_base::proofs::DistinctLemmas::Absent::distinct_none))]
     pub fn new(alloc: Global) -> VecSet<T>
         ensures elements { result.elements ≡ [] }
         ensures distinct { IsDistinct T.eq result.elements }
@@ -21,12 +21,12 @@ impl<T: Eq> VecSet<T> {
 
     /// The empty set, with room for at least `capacity` elements. For 0 it takes no memory and succeeds. Refused, nothing
     /// is made.
-    #[tactic(auto, using(vecmap_base::proofs::DistinctLemmas::distinct_none))]
+    #[tactic(auto, using(vecmap_base::proofs::DistinctLemmas::Absent::distinct_none))]
     pub fn with_capacity(alloc: Global, capacity: usize) -> Result<VecSet<T>, AllocError>
         ensures elements { IfOk result (λ set. set.elements ≡ []) }
         ensures distinct { IfOk result (λ set. IsDistinct T.eq set.elements) }
         ensures room { IfOk result (λ set. capacity ≤ set.capacity) }
-        ensures none { capacity ≡ 0 → IfOk result (λ set. set.capacity ≡ 0) }
+        ensures capacity { capacity ≡ 0 → IfOk result (λ set. set.capacity ≡ 0) }
         ensures succeeds { capacity ≡ 0 → IsOk result }
     {
         Ok(VecSet {

@@ -9,7 +9,7 @@ use vecmap_base::{find_item, find_item_str};
 
 impl<T: Eq> VecSet<T> {
     /// Drops all elements, one after another. The capacity stays.
-    #[tactic(auto, using(vecmap_base::proofs::DistinctLemmas::distinct_none))]
+    #[tactic(auto, using(vecmap_base::proofs::DistinctLemmas::Absent::distinct_none))]
     pub fn clear(&mut self)
     where
         T: Drop,
@@ -21,7 +21,7 @@ impl<T: Eq> VecSet<T> {
     }
 
     /// Keeps the first `len` elements, and drops those after them. Where there are no more than that, nothing changes.
-    #[tactic(auto, using(vecmap_base::proofs::StaysDistinct::distinct_take))]
+    #[tactic(auto, using(vecmap_base::proofs::DistinctLemmas::Removals::distinct_take))]
     pub fn truncate(&mut self, len: usize)
     where
         T: Drop,
@@ -33,7 +33,7 @@ impl<T: Eq> VecSet<T> {
     }
 
     /// Takes out the last element, with no comparison and no move of another.
-    #[tactic(auto, using(vecmap_base::proofs::StaysDistinct::distinct_take))]
+    #[tactic(auto, using(vecmap_base::proofs::DistinctLemmas::Removals::distinct_take))]
     pub fn pop(&mut self) -> Option<T>
         ensures element { result ≡ slice_get self.old.elements (length self.old.elements - 1) }
         ensures elements { self.new.elements ≡ take (length self.old.elements - 1) self.old.elements }
@@ -47,7 +47,7 @@ impl<T: Eq> VecSet<T> {
     ///
     /// What follows moves up by one place, so beside the lookup, of at most as many comparisons as there are elements,
     /// this takes as many moves as there are elements after it. Where none is equal nothing changes.
-    #[tactic(auto, using(vecmap_base::proofs::Places::list_any_stored))]
+    #[tactic(auto, using(vecmap_base::proofs::PlaceLemmas::list_any_stored))]
     pub fn remove(&mut self, item: &T) -> bool
     where
         T: Drop,
@@ -61,7 +61,7 @@ impl<T: Eq> VecSet<T> {
 
     /// Takes out the element at a place, which must be there: `len` tells. What follows moves up by one place, so this
     /// takes as many moves as there are elements after it.
-    #[tactic(auto, using(vecmap_base::proofs::StaysDistinct::distinct_remove))]
+    #[tactic(auto, using(vecmap_base::proofs::DistinctLemmas::Removals::distinct_remove))]
     pub fn remove_index(&mut self, index: usize) -> T
         requires within { index < length self.old.elements }
         ensures element { slice_get self.old.elements index ≡ Some result }
@@ -76,7 +76,7 @@ impl<T: Eq> VecSet<T> {
     ///
     /// The last element takes its place, so beside the lookup, of at most as many comparisons as there are elements, this
     /// takes one move. Where none is equal nothing changes.
-    #[tactic(auto, using(vecmap_base::proofs::Places::list_any_stored))]
+    #[tactic(auto, using(vecmap_base::proofs::PlaceLemmas::list_any_stored))]
     pub fn swap_remove(&mut self, item: &T) -> bool
     where
         T: Drop,
@@ -125,7 +125,7 @@ impl<T: Eq> VecSet<T> {
 
 impl VecSet<String> {
     /// As `remove`, by the bytes of a text. It takes no memory. In Rust it is `remove` at a `&str`.
-    #[tactic(auto, using(vecmap_base::proofs::Places::list_any_position))]
+    #[tactic(auto, using(vecmap_base::proofs::PlaceLemmas::list_any_position))]
     pub fn remove_str(&mut self, item: &str) -> bool
         ensures found { result ≡ list_any (has_text item.now) self.old.elements }
         ensures elements { self.new.elements ≡ without_first (has_text item.now) self.old.elements }

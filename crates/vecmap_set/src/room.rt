@@ -95,8 +95,8 @@ impl<T: Eq> VecSet<T> {
         self.reserve_exact(additional)
     }
 
-    /// Gives back as much memory as it can, for which all elements may move. It is never refused: without the memory for a
-    /// smaller block, the capacity stays.
+    /// Gives back as much memory as it can, for which all elements may move. It is never refused: without the memory
+    /// for a smaller block, the capacity stays.
     pub fn shrink_to_fit(&mut self)
         ensures elements { self.new.elements ≡ self.old.elements }
         ensures distinct { IsDistinct T.eq self.new.elements }

@@ -1,7 +1,7 @@
 use Rattle.std.proofs.Common.{arith, ap, subst, sym}
 use Rattle.std.proofs.lemmas.Grind.{common_steps}
 use Rattle.std.specs.List.{IsDistinct}
-use Rattle.vecmap_base.proofs.DistinctLemmas.{distinct_none}
+use Rattle.vecmap_base.proofs.DistinctLemmas.Absent.{distinct_none}
 use Rattle.vecmap_set.proofs.VecSet.append.Goals as goal
 
 pub returns-clause-emptied : goal.returns-clause-emptied

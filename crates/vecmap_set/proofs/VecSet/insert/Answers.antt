@@ -1,7 +1,7 @@
 use Rattle.std.proofs.Common.{◌≡◌, false, arith}
 use Rattle.std.specs.List.{list_any}
 use Rattle.std.proofs.lemmas.Map.Keys.{IsDistinct-push}
-use Rattle.vecmap_base.proofs.Places.{list_any_position}
+use Rattle.vecmap_base.proofs.PlaceLemmas.{list_any_position}
 use Rattle.vecmap_set.proofs.VecSet.insert.Goals as goal
 
 pub invariant_of-self : goal.invariant_of-self

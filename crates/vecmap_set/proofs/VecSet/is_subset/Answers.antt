@@ -1,5 +1,5 @@
 use Rattle.std.proofs.Common.{sym}
-use Rattle.vecmap_base.proofs.SetEquality.{longer_not_within}
+use Rattle.vecmap_base.proofs.EqualityLemmas.Sets.{longer_not_within}
 use Rattle.vecmap_set.proofs.VecSet.is_subset.Goals as goal
 
 pub returns-then-items-others : goal.returns-then-items-others

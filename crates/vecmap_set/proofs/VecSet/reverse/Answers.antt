@@ -1,4 +1,4 @@
-use Rattle.vecmap_base.proofs.StaysDistinct.{distinct_reverse}
+use Rattle.vecmap_base.proofs.DistinctLemmas.Order.{distinct_reverse}
 use Rattle.vecmap_set.proofs.VecSet.reverse.Goals as goal
 
 pub invariant_of-self : goal.invariant_of-self

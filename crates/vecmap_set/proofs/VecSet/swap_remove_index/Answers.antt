@@ -1,7 +1,7 @@
 use Rattle.std.proofs.Common.{◌≡◌, arith}
 use Rattle.std.proofs.lemmas.Option.{gets}
 use Rattle.vecmap_base.specs.Items.{swap_without}
-use Rattle.vecmap_base.proofs.StaysDistinct.{distinct_swap_without}
+use Rattle.vecmap_base.proofs.DistinctLemmas.Order.{distinct_swap_without}
 use Rattle.vecmap_set.proofs.VecSet.swap_remove_index.Goals as goal
 
 pub invariant_of-self : goal.invariant_of-self

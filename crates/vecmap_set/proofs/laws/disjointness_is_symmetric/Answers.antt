@@ -1,4 +1,4 @@
-use Rattle.vecmap_base.proofs.SetRelations.{both_empty_turned}
+use Rattle.vecmap_base.proofs.EqualityLemmas.Relations.{both_empty_turned}
 use Rattle.vecmap_set.proofs.laws.disjointness_is_symmetric.Goals as goal
 
 pub returns : goal.returns

@@ -1,4 +1,4 @@
-use Rattle.vecmap_base.proofs.SetEquality.{rearranged_sets_equal}
+use Rattle.vecmap_base.proofs.EqualityLemmas.Sets.{rearranged_sets_equal}
 use Rattle.vecmap_set.proofs.laws.equality_ignores_order.Goals as goal
 
 pub returns : goal.returns

@@ -1,5 +1,5 @@
 use Rattle.std.proofs.Common.{◌∙◌}
-use Rattle.vecmap_base.proofs.SetEquality.{set_equality_laws}
+use Rattle.vecmap_base.proofs.EqualityLemmas.Sets.{set_equality_laws}
 use Rattle.vecmap_set.proofs.laws.equality_is_an_equivalence.Goals as goal
 
 pub returns-clause-reflexive : goal.returns-clause-reflexive

@@ -1,4 +1,4 @@
-use Rattle.vecmap_base.proofs.SetEquality.{equal_if_within_each_other}
+use Rattle.vecmap_base.proofs.EqualityLemmas.Sets.{equal_if_within_each_other}
 use Rattle.vecmap_set.proofs.laws.equality_is_inclusion_both_ways.Goals as goal
 
 pub returns : goal.returns

@@ -1,4 +1,4 @@
-use Rattle.vecmap_base.proofs.SetEquality.{longer_not_within, set_equal_by_half, set_lengths_differ}
+use Rattle.vecmap_base.proofs.EqualityLemmas.Sets.{longer_not_within, set_equal_by_half, set_lengths_differ}
 use Rattle.vecmap_set.proofs.laws.lengths_tell_of_inclusion.Goals as goal
 
 pub returns-clause-unequal : goal.returns-clause-unequal

@@ -1,5 +1,5 @@
 use Rattle.std.proofs.Common.{sym, ◌∙◌}
-use Rattle.vecmap_base.proofs.SetEquality.{set_equal_by_half, set_lengths_differ}
+use Rattle.vecmap_base.proofs.EqualityLemmas.Sets.{set_equal_by_half, set_lengths_differ}
 use Rattle.vecmap_set.proofs.equality.VecSetPartialEq.eq.Goals as goal
 
 pub returns-then-items-others : goal.returns-then-items-others
