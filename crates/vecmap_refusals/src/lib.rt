@@ -6,24 +6,10 @@
 #![tactic(auto)]
 
 #[cfg(test)]
-mod fixtures;
-#[cfg(test)]
 mod macros;
 #[cfg(test)]
-mod map_bulk;
+mod map;
 #[cfg(test)]
-mod map_clones;
+mod run;
 #[cfg(test)]
-mod map_entry;
-#[cfg(test)]
-mod map_insertion;
-#[cfg(test)]
-mod map_room;
-#[cfg(test)]
-mod map_run;
-#[cfg(test)]
-mod set_bulk;
-#[cfg(test)]
-mod set_clones;
-#[cfg(test)]
-mod set_single;
+mod set;

@@ -1,8 +1,8 @@
 //! `vecmap!`, `vecset!` and what they call hand a refusal on.
-use super::fixtures::{full_map, full_set};
 use std::alloc::{AllocError, Global};
 use vecmap::macros::{add_item, put_pair};
 use vecmap::{VecMap, VecSet, vecmap, vecset};
+use vecmap_fixtures::{full_map, full_set};
 
 fn ages(alloc: Global) -> Result<VecMap<u32, u32>, AllocError> {
     Ok(vecmap!(alloc; 7 => 10, 8 => 20, 7 => 30))
@@ -24,7 +24,7 @@ fn macros_make_all_or_hand_the_refusal_on(rt: HostRuntime) {
 
 #[test]
 fn put_pair_puts_the_pair_or_nothing(rt: HostRuntime) {
-    let Some(mut map) = full_map(rt.alloc(), 2) else {
+    let Ok(mut map) = full_map(rt.alloc(), 2) else {
         return;
     };
     let room = map.capacity();
@@ -42,7 +42,7 @@ fn put_pair_puts_the_pair_or_nothing(rt: HostRuntime) {
 
 #[test]
 fn add_item_adds_the_element_or_nothing(rt: HostRuntime) {
-    let Some(mut set) = full_set(rt.alloc(), 2) else {
+    let Ok(mut set) = full_set(rt.alloc(), 2) else {
         return;
     };
     let room = set.capacity();

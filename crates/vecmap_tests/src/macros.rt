@@ -1,47 +1,26 @@
 //! `vecmap!` and `vecset!`.
-ghost use Rattle.std.specs.Prelude.{◌≡◌, ◌∷◌, IfOk, []};
-
-use std::alloc::{AllocError, Global};
+use std::test::Fail;
 use vecmap::{VecMap, VecSet, vecmap, vecset};
+use vecmap_callers::macros::{ages, ports};
 
-/// What a proof knows of a map that the macro makes.
-pub fn ages(alloc: Global) -> Result<VecMap<u32, u32>, AllocError>
-    ensures { IfOk result (λ map. map.entries ≡ (7, 30) ∷ (8, 20) ∷ []) }
-{
-    Ok(vecmap!(alloc; 7 => 10, 8 => 20, 7 => 30))
+#[test]
+fn macros_insert_in_turn(rt: HostRuntime) -> Result<(), Fail> {
+    let map = vecmap!(rt.alloc(); "a" => 1, "b" => 2, "a" => 3,);
+    assert_eq!(rt; map.as_slice(), [("a", 3), ("b", 2)].as_slice());
+    assert!(rt; 3 <= map.capacity());
+    let set = vecset!(rt.alloc(); 2, 1, 2,);
+    assert_eq!(rt; set.as_slice(), [2, 1].as_slice());
+    assert!(rt; 3 <= set.capacity());
+    assert_eq!(rt; ages(rt.alloc())?.as_slice(), [(7, 30), (8, 20)].as_slice());
+    assert_eq!(rt; ports(rt.alloc())?.as_slice(), [2, 1].as_slice());
+    Ok(())
 }
 
-/// What a proof knows of a set that the macro makes.
-pub fn ports(alloc: Global) -> Result<VecSet<u32>, AllocError>
-    ensures { IfOk result (λ set. set.elements ≡ 2 ∷ 1 ∷ []) }
-{
-    Ok(vecset!(alloc; 2, 1, 2))
-}
-
-#[cfg(test)]
-mod tests {
-    use super::*;
-    use std::test::Fail;
-
-    #[test]
-    fn macros_insert_in_turn(rt: HostRuntime) -> Result<(), Fail> {
-        let map = vecmap!(rt.alloc(); "a" => 1, "b" => 2, "a" => 3,);
-        assert_eq!(rt; map.as_slice(), [("a", 3), ("b", 2)].as_slice());
-        assert!(rt; 3 <= map.capacity());
-        let set = vecset!(rt.alloc(); 2, 1, 2,);
-        assert_eq!(rt; set.as_slice(), [2, 1].as_slice());
-        assert!(rt; 3 <= set.capacity());
-        assert_eq!(rt; ages(rt.alloc())?.as_slice(), [(7, 30), (8, 20)].as_slice());
-        assert_eq!(rt; ports(rt.alloc())?.as_slice(), [2, 1].as_slice());
-        Ok(())
-    }
-
-    #[test]
-    fn macros_of_nothing_take_no_memory(rt: HostRuntime) -> Result<(), Fail> {
-        let map: VecMap<u32, char> = vecmap!(rt.alloc(););
-        assert_eq!(rt; (map.len(), map.capacity()), (0, 0));
-        let set: VecSet<char> = vecset!(rt.alloc(););
-        assert_eq!(rt; (set.len(), set.capacity()), (0, 0));
-        Ok(())
-    }
+#[test]
+fn macros_of_nothing_take_no_memory(rt: HostRuntime) -> Result<(), Fail> {
+    let map: VecMap<u32, char> = vecmap!(rt.alloc(););
+    assert_eq!(rt; (map.len(), map.capacity()), (0, 0));
+    let set: VecSet<char> = vecset!(rt.alloc(););
+    assert_eq!(rt; (set.len(), set.capacity()), (0, 0));
+    Ok(())
 }

@@ -1,0 +1,33 @@
+//! What callers of equality can prove.
+ghost use Rattle.std.specs.Prelude.{◌≡◌, IsTrue, nat_eq};
+ghost use Rattle.vecmap.specs.Equality.{has_same_counts};
+
+use vecmap::map::laws as map_laws;
+use vecmap::set::laws as set_laws;
+use vecmap::{VecMap, VecSet};
+
+/// A map of maps: the `==` of the values is that of maps.
+pub fn are_equal_tables(
+    a: &VecMap<u32, VecMap<u32, u32>>,
+    b: &VecMap<u32, VecMap<u32, u32>>,
+) -> bool
+    ensures { result ≡ has_same_counts nat_eq (λ x y. has_same_counts nat_eq nat_eq x.entries y.entries) a.now.entries b.now.entries }
+{
+    *a == *b
+}
+
+/// A table equals itself.
+pub fn table_equals_itself(table: &VecMap<u32, VecMap<u32, u32>>) -> bool
+    ensures { IsTrue result }
+{
+    map_laws::equality_is_an_equivalence::<u32, VecMap<u32, u32>>();
+    *table == *table
+}
+
+/// A set equals itself.
+pub fn set_equals_itself(set: &VecSet<u32>) -> bool
+    ensures { IsTrue result }
+{
+    set_laws::equality_is_an_equivalence::<u32>();
+    *set == *set
+}

@@ -1,0 +1,10 @@
+//! Functions over maps and sets that are proved from the contracts of what they call, as those of any user are.
+#![tactic(auto)]
+
+pub mod bulk;
+pub mod entry;
+pub mod equality;
+pub mod lending;
+pub mod lookup;
+pub mod macros;
+pub mod removal;

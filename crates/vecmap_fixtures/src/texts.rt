@@ -1,0 +1,42 @@
+//! Maps and sets of texts, which need memory of their own.
+use std::alloc::{AllocError, Global};
+use vecmap::{VecMap, VecSet};
+
+/// The map of single inserts of these pairs of texts.
+pub fn text_map(
+    alloc: Global,
+    pairs: &[(&str, &str)],
+) -> Result<VecMap<String, String>, AllocError> {
+    let mut map = VecMap::new(alloc);
+    for pair in pairs {
+        let key = String::from_str(alloc, pair.0)?;
+        let value = String::from_str(alloc, pair.1)?;
+        map.insert(key, value)?;
+    }
+    Ok(map)
+}
+
+/// The set of single inserts of these texts.
+pub fn text_set(alloc: Global, texts: &[&str]) -> Result<VecSet<String>, AllocError> {
+    let mut set = VecSet::new(alloc);
+    for text in texts {
+        set.insert(String::from_str(alloc, text)?)?;
+    }
+    Ok(set)
+}
+
+/// Whether the pairs are these texts, in this order, and as many.
+pub fn has_text_pairs(pairs: &[(String, String)], expected: &[(&str, &str)]) -> bool {
+    pairs.len() == expected.len()
+        && pairs.iter().zip(expected).all(|(pair, wanted)| (pair.0.as_str(), pair.1.as_str())
+            == *wanted)
+}
+
+/// Whether the elements are these texts, in this order, and as many.
+pub fn has_texts(items: &[String], expected: &[&str]) -> bool {
+    items.len() == expected.len()
+        && items
+            .iter()
+            .zip(expected)
+            .all(|(item, wanted)| item.as_str() == *wanted)
+}

@@ -1,0 +1,110 @@
+//! Maps of many pairs at once, with keys that are equal and not identical.
+use std::test::Fail;
+use vecmap::VecMap;
+use vecmap_fixtures::{has_pairs, item_map, make_item};
+
+#[test]
+fn all_ways_of_many_pairs_agree_with_single_inserts(rt: HostRuntime) -> Result<(), Fail> {
+    let pairs = [
+        (make_item(1, 'x'), 1),
+        (make_item(2, 'b'), 2),
+        (make_item(1, 'y'), 3),
+    ];
+    let mut single = VecMap::new(rt.alloc());
+    let mut appended = VecMap::new(rt.alloc());
+    for pair in pairs {
+        single.insert(pair.0, pair.1)?;
+        let mut other = VecMap::from_slice(rt.alloc(), &[pair])?;
+        appended.append(&mut other)?;
+    }
+    let mut extended = VecMap::new(rt.alloc());
+    extended.extend(pairs)?;
+    let mut by_refs = VecMap::new(rt.alloc());
+    by_refs.extend_refs(pairs.iter().map(|pair| (&pair.0, &pair.1)))?;
+    let mut by_pairs = VecMap::new(rt.alloc());
+    by_pairs.extend_pairs(&pairs)?;
+    for map in [
+        single,
+        appended,
+        extended,
+        by_refs,
+        by_pairs,
+        VecMap::from(pairs.to_vec(rt.alloc())?),
+        VecMap::from_iter(rt.alloc(), pairs)?,
+        VecMap::from_slice(rt.alloc(), &pairs)?,
+        pairs.iter().copied().collect(rt.alloc())?,
+    ] {
+        assert!(rt; has_pairs(map.as_slice(), &[(1, 'x', 3), (2, 'b', 2)]));
+    }
+    Ok(())
+}
+
+#[test]
+fn the_last_value_of_a_key_is_found(rt: HostRuntime) -> Result<(), Fail> {
+    let pairs = [("a", 1), ("b", 2), ("a", 3)];
+    let mut single = VecMap::new(rt.alloc());
+    for pair in pairs {
+        single.insert(pair.0, pair.1)?;
+    }
+    let mut extended = VecMap::new(rt.alloc());
+    extended.extend(pairs)?;
+    for map in [
+        single,
+        extended,
+        VecMap::from(vec![in rt.alloc(); ("a", 1), ("b", 2), ("a", 3)]?),
+        VecMap::from_iter(rt.alloc(), pairs)?,
+        VecMap::from_slice(rt.alloc(), &pairs)?,
+        pairs.iter().copied().collect(rt.alloc())?,
+    ] {
+        assert_eq!(rt; map.as_slice(), [("a", 3), ("b", 2)].as_slice());
+        assert_eq!(rt; map.get(&"a").copied(), Some(3));
+    }
+    Ok(())
+}
+
+#[test]
+fn extending_keeps_stored_keys(rt: HostRuntime) -> Result<(), Fail> {
+    let start = || item_map(rt.alloc(), &[(1, 'x', 10)]);
+    let more = [(make_item(1, 'y'), 20), (make_item(2, 'z'), 30)];
+    let mut single = start()?;
+    for pair in more {
+        single.insert(pair.0, pair.1)?;
+    }
+    let mut extended = start()?;
+    extended.extend(more)?;
+    let mut by_refs = start()?;
+    by_refs.extend_refs(more.iter().map(|pair| (&pair.0, &pair.1)))?;
+    let mut by_pairs = start()?;
+    by_pairs.extend_pairs(&more)?;
+    let mut appended = start()?;
+    let mut other = VecMap::from_slice(rt.alloc(), &more)?;
+    appended.append(&mut other)?;
+    assert!(rt; other.is_empty());
+    for map in [single, extended, by_refs, by_pairs, appended] {
+        assert!(rt; has_pairs(map.as_slice(), &[(1, 'x', 20), (2, 'z', 30)]));
+    }
+    Ok(())
+}
+
+#[test]
+fn append_puts_all_and_leaves_the_room_of_the_other(rt: HostRuntime) -> Result<(), Fail> {
+    let mut map = item_map(rt.alloc(), &[(3, 'c', 3), (2, 'b', 2), (1, 'a', 1)])?;
+    let mut other = item_map(rt.alloc(), &[(3, 'd', 30), (4, 'e', 40), (5, 'f', 50)])?;
+    let room = other.capacity();
+    map.append(&mut other)?;
+    let left = [
+        (3, 'c', 30),
+        (2, 'b', 2),
+        (1, 'a', 1),
+        (4, 'e', 40),
+        (5, 'f', 50),
+    ];
+    assert!(rt; has_pairs(map.as_slice(), &left));
+    assert!(rt; 6 <= map.capacity());
+    assert_eq!(rt; (other.len(), other.capacity()), (0, room));
+    let granted = map.capacity();
+    map.append(&mut other)?;
+    assert!(rt; has_pairs(map.as_slice(), &left));
+    assert_eq!(rt; (map.capacity(), other.capacity()), (granted, room));
+    Ok(())
+}

@@ -1,0 +1,126 @@
+//! Maps made of vectors, and vectors of maps.
+use std::alloc::{AllocError, Global};
+use std::test::Fail;
+use vecmap::{VecMap, keys_distinct};
+use vecmap_fixtures::{Item, Log, has_pairs, item_map, make_item, told_pairs};
+
+// The items of these pairs, in a vector.
+fn item_pairs(alloc: Global, pairs: &[(u32, char, u32)]) -> Result<Vec<(Item, u32)>, AllocError> {
+    let mut made = Vec::with_capacity(alloc, pairs.len())?;
+    for pair in pairs {
+        made.push((make_item(pair.0, pair.1), pair.2))?;
+    }
+    Ok(made)
+}
+
+#[test]
+fn a_vector_keeps_first_keys_and_last_values(rt: HostRuntime) -> Result<(), Fail> {
+    for (pairs, left) in [
+        ([].as_slice(), [].as_slice()),
+        ([(7, 'a', 70)].as_slice(), [(7, 'a', 70)].as_slice()),
+        (
+            [(2, 'b', 2), (1, 'a', 1)].as_slice(),
+            [(2, 'b', 2), (1, 'a', 1)].as_slice(),
+        ),
+        (
+            [(1, 'x', 1), (1, 'y', 2), (1, 'z', 3)].as_slice(),
+            [(1, 'x', 3)].as_slice(),
+        ),
+        (
+            [
+                (1, 'x', 10),
+                (2, 'b', 20),
+                (1, 'y', 30),
+                (3, 'c', 40),
+                (2, 'z', 50),
+            ]
+            .as_slice(),
+            [(1, 'x', 30), (2, 'b', 50), (3, 'c', 40)].as_slice(),
+        ),
+        (
+            [
+                (1, 'p', 1),
+                (1, 'q', 2),
+                (2, 'r', 3),
+                (1, 's', 4),
+                (3, 't', 5),
+                (2, 'u', 6),
+            ]
+            .as_slice(),
+            [(1, 'p', 4), (2, 'r', 6), (3, 't', 5)].as_slice(),
+        ),
+    ] {
+        let vec = item_pairs(rt.alloc(), pairs)?;
+        let room = vec.capacity();
+        let map = VecMap::from(vec);
+        assert!(rt; has_pairs(map.as_slice(), left));
+        assert_eq!(rt; map.capacity(), room);
+        let (map, comparisons) = VecMap::from_vec_counted(item_pairs(rt.alloc(), pairs)?);
+        assert!(rt; has_pairs(map.as_slice(), left));
+        assert!(rt; comparisons <= 15);
+    }
+    Ok(())
+}
+
+#[test]
+fn a_vector_is_made_a_map_by_the_comparisons_it_counts(rt: HostRuntime) -> Result<(), Fail> {
+    for (numbers, expected) in [
+        ([].as_slice(), 0),
+        ([1].as_slice(), 0),
+        ([1, 2].as_slice(), 1),
+        ([1, 2, 3, 4].as_slice(), 6),
+        ([5, 4, 3, 2, 1].as_slice(), 10),
+        ([1, 1, 2, 3].as_slice(), 4),
+    ] {
+        let log = Log::new();
+        let (_map, comparisons) = VecMap::from_vec_counted(told_pairs(rt.alloc(), &log, numbers)?);
+        assert_eq!(rt; comparisons, expected);
+        assert_eq!(rt; u128::from(log.comparisons()), expected);
+        assert!(rt; !log.compares_after_drop());
+        let log = Log::new();
+        let _map = VecMap::from(told_pairs(rt.alloc(), &log, numbers)?);
+        assert_eq!(rt; u128::from(log.comparisons()), expected);
+        assert!(rt; !log.compares_after_drop());
+    }
+    Ok(())
+}
+
+#[test]
+fn clones_hold_the_pairs_in_their_order(rt: HostRuntime) -> Result<(), Fail> {
+    for pairs in [[].as_slice(), [(2, 'b', 20), (1, 'a', 10)].as_slice()] {
+        let map = item_map(rt.alloc(), pairs)?;
+        assert!(rt; has_pairs(map.clone()?.as_slice(), pairs));
+        assert!(rt; has_pairs(map.to_vec()?.as_slice(), pairs));
+        assert!(rt; has_pairs(map.as_slice(), pairs));
+    }
+    Ok(())
+}
+
+#[test]
+fn distinct_keys_are_told_from_repeats(rt: HostRuntime) -> Result<(), Fail> {
+    for (pairs, is_distinct) in [
+        ([].as_slice(), true),
+        ([(1, 'a'), (2, 'a')].as_slice(), true),
+        ([(1, 'a'), (2, 'b'), (1, 'a')].as_slice(), false),
+    ] {
+        assert_eq!(rt; keys_distinct(pairs), is_distinct);
+        let pairs_again = pairs.to_vec(rt.alloc())?;
+        if keys_distinct(&pairs_again) {
+            let map = VecMap::from_vec_unchecked(pairs_again);
+            assert!(rt; map.has_distinct_keys());
+            assert_eq!(rt; map.as_slice(), pairs);
+        }
+    }
+    Ok(())
+}
+
+#[test]
+fn the_vector_of_a_map_has_its_pairs_and_its_room(rt: HostRuntime) -> Result<(), Fail> {
+    let mut map = VecMap::with_capacity(rt.alloc(), 5)?;
+    map.extend([("b", 2), ("a", 1)])?;
+    let room = map.capacity();
+    let pairs = map.into_vec();
+    assert_eq!(rt; pairs.as_slice(), [("b", 2), ("a", 1)].as_slice());
+    assert_eq!(rt; pairs.capacity(), room);
+    Ok(())
+}

@@ -1,0 +1,29 @@
+//! Tests of maps: each file tests the module that it is named for.
+#![tactic(auto)]
+
+#[cfg(test)]
+mod bulk;
+#[cfg(test)]
+mod conversion;
+#[cfg(test)]
+mod entry;
+#[cfg(test)]
+mod equality;
+#[cfg(test)]
+mod hints;
+#[cfg(test)]
+mod insertion;
+#[cfg(test)]
+mod lending;
+#[cfg(test)]
+mod lookup;
+#[cfg(test)]
+mod make;
+#[cfg(test)]
+mod mutable_keys;
+#[cfg(test)]
+mod order;
+#[cfg(test)]
+mod removal;
+#[cfg(test)]
+mod room;

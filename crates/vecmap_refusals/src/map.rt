@@ -1,0 +1,6 @@
+//! Requests of maps.
+mod bulk;
+mod clones;
+mod entry;
+mod insertion;
+mod room;

@@ -1,0 +1,2 @@
+//! Requests of runs of commands.
+mod map_run;

@@ -1,0 +1,5 @@
+//! Requests of sets.
+mod bulk;
+mod clones;
+mod insertion;
+mod room;

@@ -1,0 +1,21 @@
+//! Tests of sets: each file tests the module that it is named for.
+#![tactic(auto)]
+
+#[cfg(test)]
+mod bulk;
+#[cfg(test)]
+mod conversion;
+#[cfg(test)]
+mod equality;
+#[cfg(test)]
+mod insertion;
+#[cfg(test)]
+mod lookup;
+#[cfg(test)]
+mod make;
+#[cfg(test)]
+mod order;
+#[cfg(test)]
+mod removal;
+#[cfg(test)]
+mod room;

@@ -1,0 +1,95 @@
+//! Removal from a set.
+use std::test::Fail;
+use vecmap_fixtures::{has_items, make_item, set_of};
+
+#[test]
+fn a_removal_by_element_shifts_what_follows(rt: HostRuntime) -> Result<(), Fail> {
+    let mut set = set_of(
+        rt.alloc(),
+        &[
+            make_item(1, 'a'),
+            make_item(2, 'b'),
+            make_item(3, 'c'),
+            make_item(4, 'd'),
+        ],
+    )?;
+    let room = set.capacity();
+    assert!(rt; set.remove(&make_item(2, '?')));
+    assert!(rt; has_items(set.as_slice(), &[(1, 'a'), (3, 'c'), (4, 'd')]));
+    assert!(rt; !set.remove(&make_item(2, '?')));
+    assert_eq!(rt;
+        set.take(&make_item(1, '?')).map(|item| item.mark),
+        Some('a')
+    );
+    assert!(rt; has_items(set.as_slice(), &[(3, 'c'), (4, 'd')]));
+    assert!(rt; set.take(&make_item(1, '?')).is_none());
+    assert!(rt; has_items(set.as_slice(), &[(3, 'c'), (4, 'd')]));
+    assert_eq!(rt; set.capacity(), room);
+    Ok(())
+}
+
+#[test]
+fn a_swap_removal_by_element_puts_the_last_in_its_place(rt: HostRuntime) -> Result<(), Fail> {
+    let mut set = set_of(
+        rt.alloc(),
+        &[
+            make_item(1, 'a'),
+            make_item(2, 'b'),
+            make_item(3, 'c'),
+            make_item(4, 'd'),
+        ],
+    )?;
+    let room = set.capacity();
+    assert!(rt; set.swap_remove(&make_item(1, '?')));
+    assert!(rt; has_items(set.as_slice(), &[(4, 'd'), (2, 'b'), (3, 'c')]));
+    assert!(rt; !set.swap_remove(&make_item(1, '?')));
+    assert_eq!(rt;
+        set.swap_take(&make_item(4, '?')).map(|item| item.mark),
+        Some('d')
+    );
+    assert!(rt; has_items(set.as_slice(), &[(3, 'c'), (2, 'b')]));
+    assert_eq!(rt; set.capacity(), room);
+    Ok(())
+}
+
+#[test]
+fn an_element_is_swapped_out_once(rt: HostRuntime) -> Result<(), Fail> {
+    let mut set = set_of(rt.alloc(), &[1, 2, 3])?;
+    assert_eq!(rt; set.swap_take(&2), Some(2));
+    assert_eq!(rt; set.as_slice(), [1, 3].as_slice());
+    assert_eq!(rt; set.swap_take(&2), None);
+    assert_eq!(rt; set.as_slice(), [1, 3].as_slice());
+    Ok(())
+}
+
+#[test]
+fn a_removal_by_place_answers_what_stood_there(rt: HostRuntime) -> Result<(), Fail> {
+    let mut set = set_of(rt.alloc(), &["foo", "bar", "baz", "qux"])?;
+    assert_eq!(rt; set.len(), 4);
+    assert_eq!(rt; set.swap_remove_index(0), "foo");
+    assert_eq!(rt; set.as_slice(), ["qux", "bar", "baz"].as_slice());
+    assert_eq!(rt; set.len(), 3);
+    assert_eq!(rt; set.swap_remove_index(0), "qux");
+    assert_eq!(rt; set.as_slice(), ["baz", "bar"].as_slice());
+    assert_eq!(rt; set.len(), 2);
+    assert_eq!(rt; set.remove_index(0), "baz");
+    assert_eq!(rt; set.as_slice(), ["bar"].as_slice());
+    Ok(())
+}
+
+#[test]
+fn the_end_of_a_set_goes(rt: HostRuntime) -> Result<(), Fail> {
+    let mut set = set_of(rt.alloc(), &[1, 2, 3, 4])?;
+    let room = set.capacity();
+    assert_eq!(rt; set.pop(), Some(4));
+    assert_eq!(rt; set.as_slice(), [1, 2, 3].as_slice());
+    set.truncate(3);
+    assert_eq!(rt; set.as_slice(), [1, 2, 3].as_slice());
+    set.truncate(1);
+    assert_eq!(rt; set.as_slice(), [1].as_slice());
+    set.clear();
+    assert!(rt; set.is_empty());
+    assert_eq!(rt; set.pop(), None);
+    assert_eq!(rt; set.capacity(), room);
+    Ok(())
+}

@@ -1,0 +1,5 @@
+//! Tests of lists.
+mod distinct;
+mod lookup;
+mod repeats;
+mod steps;

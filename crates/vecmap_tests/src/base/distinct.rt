@@ -1,0 +1,27 @@
+//! Whether a list has repeats, and how many comparisons tell it.
+use std::test::Fail;
+use vecmap_base::{items_distinct, keys_distinct};
+use vecmap_fixtures::{Log, told_items, told_pairs};
+
+#[test]
+fn repeats_are_looked_for_with_one_comparison_a_couple(rt: HostRuntime) -> Result<(), Fail> {
+    for (numbers, is_distinct, most) in [
+        ([].as_slice(), true, 0),
+        ([1].as_slice(), true, 0),
+        ([1, 1].as_slice(), false, 1),
+        ([1, 2, 3, 4].as_slice(), true, 6),
+        ([1, 2, 3, 3].as_slice(), false, 6),
+        ([1, 2, 3, 1].as_slice(), false, 3),
+    ] {
+        let log = Log::new();
+        let pairs = told_pairs(rt.alloc(), &log, numbers)?;
+        let items = told_items(rt.alloc(), &log, numbers)?;
+        let before = log.comparisons();
+        assert_eq!(rt; keys_distinct(&pairs), is_distinct);
+        let told = log.comparisons();
+        assert!(rt; told.wrapping_sub(before) <= most);
+        assert_eq!(rt; items_distinct(&items), is_distinct);
+        assert!(rt; log.comparisons().wrapping_sub(told) <= most);
+    }
+    Ok(())
+}

@@ -1,0 +1,78 @@
+//! Lookups in lists, and how many comparisons they make.
+use std::test::Fail;
+use vecmap_base::{find, find_item, find_item_str, find_str};
+use vecmap_fixtures::{Log, make_item, told_items, told_pairs};
+
+#[test]
+fn find_answers_the_first_of_equal_keys(rt: HostRuntime) {
+    let pairs = [
+        (make_item(2, 'b'), 20),
+        (make_item(1, 'x'), 10),
+        (make_item(1, 'y'), 30),
+        (make_item(2, 'c'), 40),
+    ];
+    for (number, place) in [(1, Some(1)), (2, Some(0)), (3, None)] {
+        assert_eq!(rt; find(&pairs, &make_item(number, 'z')), place);
+    }
+    assert_eq!(rt; find::<u32, u32>(&[], &1), None);
+}
+
+#[test]
+fn find_item_answers_the_first_of_equal_elements(rt: HostRuntime) {
+    let items = [
+        make_item(2, 'b'),
+        make_item(1, 'x'),
+        make_item(1, 'y'),
+        make_item(2, 'c'),
+    ];
+    for (number, place) in [(1, Some(1)), (2, Some(0)), (3, None)] {
+        assert_eq!(rt; find_item(&items, &make_item(number, 'z')), place);
+    }
+    assert_eq!(rt; find_item::<u32>(&[], &1), None);
+}
+
+#[test]
+fn texts_are_found_at_their_first_place(rt: HostRuntime) -> Result<(), Fail> {
+    let mut pairs = Vec::new(rt.alloc());
+    let mut items = Vec::new(rt.alloc());
+    for text in ["b", "a", "a", "b"] {
+        pairs.push((String::from_str(rt.alloc(), text)?, 7u32))?;
+        items.push(String::from_str(rt.alloc(), text)?)?;
+    }
+    for (text, place) in [("a", Some(1)), ("b", Some(0)), ("ab", None), ("", None)] {
+        assert_eq!(rt; find_str(&pairs, text), place);
+        assert_eq!(rt; find_item_str(&items, text), place);
+    }
+    pairs.clear();
+    items.clear();
+    for text in ["a", ""] {
+        assert_eq!(rt; find_str(&pairs, text), None);
+        assert_eq!(rt; find_item_str(&items, text), None);
+    }
+    Ok(())
+}
+
+#[test]
+fn a_lookup_compares_each_place_once_at_most(rt: HostRuntime) -> Result<(), Fail> {
+    for (numbers, number, place) in [
+        ([].as_slice(), 1, None),
+        ([1].as_slice(), 2, None),
+        ([1, 2, 3].as_slice(), 1, Some(0)),
+        ([1, 2, 3].as_slice(), 3, Some(2)),
+        ([1, 2, 3].as_slice(), 4, None),
+    ] {
+        let log = Log::new();
+        let pairs = told_pairs(rt.alloc(), &log, numbers)?;
+        let items = told_items(rt.alloc(), &log, numbers)?;
+        let wanted = told_items(rt.alloc(), &log, &[number])?;
+        for key in &wanted {
+            let before = log.comparisons();
+            assert_eq!(rt; find(&pairs, key), place);
+            let found = log.comparisons();
+            assert!(rt; found.wrapping_sub(before) as usize <= numbers.len());
+            assert_eq!(rt; find_item(&items, key), place);
+            assert!(rt; log.comparisons().wrapping_sub(found) as usize <= numbers.len());
+        }
+    }
+    Ok(())
+}

@@ -1,0 +1,49 @@
+//! Removal of repeats in place: what it answers and leaves, and the comparisons that it counts.
+use std::test::Fail;
+use vecmap_base::{Steps, dedup_keep_first, dedup_keep_last_value, gather_items, gather_pairs};
+use vecmap_fixtures::{has_pairs, make_item};
+
+#[test]
+fn gathering_brings_the_first_of_equal_elements_to_the_front(rt: HostRuntime) {
+    let mut items = [1, 1, 2, 1];
+    let mut steps = Steps::new();
+    assert_eq!(rt; gather_items(&mut items, &mut steps), 2);
+    assert_eq!(rt; items, [1, 2, 1, 1]);
+    assert_eq!(rt; steps.count(), 3);
+}
+
+#[test]
+fn gathering_leaves_the_last_value_with_the_first_key(rt: HostRuntime) {
+    let mut pairs = [(1, 5), (1, 6)];
+    let mut steps = Steps::new();
+    assert_eq!(rt; gather_pairs(&mut pairs, &mut steps), 1);
+    assert_eq!(rt; pairs, [(1, 6), (1, 5)]);
+    assert_eq!(rt; steps.count(), 1);
+}
+
+#[test]
+fn the_first_of_equal_elements_is_kept(rt: HostRuntime) -> Result<(), Fail> {
+    let mut items = vec![in rt.alloc(); 3, 1, 2, 1, 2, 3]?;
+    dedup_keep_first(&mut items, &mut Steps::new());
+    assert_eq!(rt; items.as_slice(), [3, 1, 2].as_slice());
+    Ok(())
+}
+
+#[test]
+fn the_first_of_equal_keys_is_kept_with_the_last_value(rt: HostRuntime) -> Result<(), Fail> {
+    let mut pairs = vec![in rt.alloc();
+        (make_item(1, 'x'), 10),
+        (make_item(2, 'b'), 20),
+        (make_item(1, 'y'), 30),
+        (make_item(3, 'c'), 40),
+        (make_item(2, 'z'), 50),
+    ]?;
+    dedup_keep_last_value(&mut pairs, &mut Steps::new());
+    assert!(rt;
+        has_pairs(
+            pairs.as_slice(),
+            &[(1, 'x', 30), (2, 'b', 50), (3, 'c', 40)]
+        )
+    );
+    Ok(())
+}

@@ -1,0 +1,13 @@
+//! Comparisons that are counted.
+use vecmap_base::Steps;
+use vecmap_fixtures::make_item;
+
+#[test]
+fn each_counted_comparison_answers_and_counts(rt: HostRuntime) {
+    let mut steps = Steps::new();
+    assert_eq!(rt; steps.count(), 0);
+    assert!(rt; steps.same(&make_item(1, 'x'), &make_item(1, 'y')));
+    assert_eq!(rt; steps.count(), 1);
+    assert!(rt; !steps.same(&make_item(1, 'x'), &make_item(2, 'x')));
+    assert_eq!(rt; steps.count(), 2);
+}

@@ -1,0 +1,2 @@
+//! Tests of runs of commands.
+mod map_run;
