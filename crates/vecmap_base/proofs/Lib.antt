@@ -7,3 +7,4 @@ pub mod MoveLemmas
 pub mod PairsLemmas
 pub mod PlaceLemmas
 pub mod RepeatsLemmas
+pub mod WalkLemmas

@@ -6,3 +6,4 @@ pub mod Items
 pub mod Kept
 pub mod Pairs
 pub mod Repeats
+pub mod Walks

@@ -6,6 +6,9 @@
 
 mod distinct;
 mod equality;
+pub mod items;
+mod iter;
+mod iter_mut;
 pub mod laws;
 mod lookup;
 mod moving;
@@ -16,6 +19,8 @@ mod steps;
 
 pub use distinct::{items_distinct, keys_distinct};
 pub use equality::pairs_equal;
+pub use iter::{IntoIter, IntoKeys, IntoValues, Iter, Keys, Values};
+pub use iter_mut::{IterMut, IterMut2, KeysMut, ValuesMut};
 pub use lookup::{find, find_item, find_item_str, find_str, is_in, is_in_str};
 pub use moving::replace_and_move;
 pub use refused::Refused;

@@ -1,0 +1,181 @@
+//! The iterators over a set's elements, by reference and by value.
+//!
+//! A contract sees each as the list of what it has left, of which `next` takes the first and `next_back` the last. Each
+//! call takes constant time and no memory, apart from the `clone` of one that owns, and once the list is empty each
+//! answers `None`.
+ghost use Rattle.std.specs.Prelude.{◌≡◌, ◌<◌, ◌^◌, IfOk, IfSome, length};
+ghost use Rattle.std.specs.Iterator.{UpTo, at_most};
+ghost use Rattle.std.specs.Iterator.SizeHint.{IsWithinCount};
+ghost use Rattle.std.specs.Map.Iter.{GivesInOrder, GivesInReverse, ShowsInOrder, ShowsInReverse, TakesFirst, TakesLast, deref};
+ghost use Rattle.vecmap_base.specs.Clones.{AreClones};
+
+use std::alloc::AllocError;
+use std::collections::VecDeque;
+use std::marker::Model;
+use std::{fmt, slice};
+
+/// The elements of a set, each as `&T`, in their order. `VecSet::iter` and `&set` make it.
+#[derive(Drop)]
+pub struct Iter<'a, T> {
+    items: slice::Iter<'a, T>,
+}
+
+impl<'a, T> Model for Iter<'a, T> {
+    ghost use Rattle.std.specs.Prelude.{List};
+    ghost use Rattle.std.specs.Slice.Iter.{iter_rest};
+
+    ghost Value = { List T };
+
+    ghost view = { λ a. iter_rest a.items };
+}
+
+impl<'a, T> Iter<'a, T> {
+    /// The elements of a slice, from the first to the last.
+    pub fn over(items: &'a [T]) -> Iter<'a, T>
+        ensures rest { result ≡ items.now }
+        ensures fits { length result < 2 ^ 64 }
+        ensures runs { ShowsInOrder (deref {X = T}) }
+        ensures runs_back { ShowsInReverse (deref {X = T}) }
+    {
+        Iter {
+            items: items.iter(),
+        }
+    }
+
+    /// Another over what is left. It takes no memory.
+    pub fn clone(&self) -> Iter<'a, T>
+        ensures { result ≡ self.now }
+    {
+        Iter {
+            items: self.items.as_slice().iter(),
+        }
+    }
+}
+
+impl<'a, T> Iterator for Iter<'a, T> {
+    type Item = &'a T;
+
+    ghost next_gives = { TakesFirst deref };
+
+    ghost remaining = { λ s. at_most (length s) };
+
+    fn next(&mut self) -> Option<&'a T> {
+        self.items.next()
+    }
+
+    /// The number of items left, as both ends.
+    fn size_hint(&self) -> (usize, Option<usize>)
+        ensures lower { IsWithinCount result.0 (at_most (length self.now)) }
+        ensures upper { IfSome result.1 (UpTo (at_most (length self.now))) }
+        ensures exact { result ≡ (length self.now, Some (length self.now)) }
+    {
+        let len = self.len();
+        (len, Some(len))
+    }
+}
+
+impl<'a, T> DoubleEndedIterator for Iter<'a, T> {
+    ghost next_back_gives = { TakesLast deref };
+
+    fn next_back(&mut self) -> Option<&'a T> {
+        self.items.next_back()
+    }
+}
+
+impl<'a, T> ExactSizeIterator for Iter<'a, T> {
+    /// The number of items left.
+    fn len(&self) -> usize {
+        self.items.len()
+    }
+}
+
+/// Prints what is left as std prints a list.
+impl<'a, T: fmt::Debug> fmt::Debug for Iter<'a, T> {
+    fn fmt<W: fmt::Write>(&self, f: &mut fmt::Formatter<W>) -> fmt::Result {
+        f.debug_list().entries(self.clone()).finish()
+    }
+}
+
+/// The elements of a set, each as `T`, in their order. The set by value makes it. Dropped, it drops what is left.
+#[derive(Drop)]
+pub struct IntoIter<T> {
+    items: VecDeque<T>,
+}
+
+impl<T> Model for IntoIter<T> {
+    ghost use Rattle.std.specs.Prelude.{List};
+
+    ghost Value = { List T };
+
+    ghost view = { λ a. a.items.items };
+}
+
+impl<T> IntoIter<T> {
+    /// The elements of a vector, from the first to the last. It takes no memory.
+    pub fn over(items: Vec<T>) -> IntoIter<T>
+        ensures rest { result ≡ items.items }
+        ensures fits { length result < 2 ^ 64 }
+        ensures runs { GivesInOrder T }
+        ensures runs_back { GivesInReverse T }
+    {
+        IntoIter {
+            items: VecDeque::from_vec(items),
+        }
+    }
+
+    /// Another over clones of the elements that are left, in the order in which they are left. Refused, nothing is made, and this one
+    /// still gives all that it has left.
+    pub fn clone(&self) -> Result<IntoIter<T>, AllocError>
+    where
+        T: Clone,
+        ensures { IfOk result (λ copy. AreClones T.is_clone self.now copy) }
+    {
+        Ok(IntoIter {
+            items: self.items.clone()?,
+        })
+    }
+}
+
+impl<T: Drop> Iterator for IntoIter<T> {
+    type Item = T;
+
+    ghost next_gives = { TakesFirst (λ item. item) };
+
+    ghost remaining = { λ s. at_most (length s) };
+
+    fn next(&mut self) -> Option<T> {
+        self.items.pop_front()
+    }
+
+    /// The number of items left, as both ends.
+    fn size_hint(&self) -> (usize, Option<usize>)
+        ensures lower { IsWithinCount result.0 (at_most (length self.now)) }
+        ensures upper { IfSome result.1 (UpTo (at_most (length self.now))) }
+        ensures exact { result ≡ (length self.now, Some (length self.now)) }
+    {
+        let len = self.len();
+        (len, Some(len))
+    }
+}
+
+impl<T: Drop> DoubleEndedIterator for IntoIter<T> {
+    ghost next_back_gives = { TakesLast (λ item. item) };
+
+    fn next_back(&mut self) -> Option<T> {
+        self.items.pop_back()
+    }
+}
+
+impl<T: Drop> ExactSizeIterator for IntoIter<T> {
+    /// The number of items left.
+    fn len(&self) -> usize {
+        self.items.len()
+    }
+}
+
+/// Prints what is left as std prints a list.
+impl<T: fmt::Debug> fmt::Debug for IntoIter<T> {
+    fn fmt<W: fmt::Write>(&self, f: &mut fmt::Formatter<W>) -> fmt::Result {
+        f.debug_list().entries(self.items.iter()).finish()
+    }
+}

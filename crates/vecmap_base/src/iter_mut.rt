@@ -1,0 +1,320 @@
+//! The iterators that lend keys or values by `&mut`.
+//!
+//! A contract sees each as the list of what it has left, as it stood when the iterator was made; no clause speaks of
+//! what is written. `next` takes the first and `next_back` the last. Each call takes constant time and no memory, and
+//! once the list is empty each answers `None`.
+ghost use Rattle.std.specs.Prelude.{◌≡◌, ◌<◌, ◌^◌, IfSome, length};
+ghost use Rattle.std.specs.Iterator.{UpTo, at_most};
+ghost use Rattle.std.specs.Iterator.SizeHint.{IsWithinCount};
+ghost use Rattle.std.specs.Map.{keys_of, values_of};
+ghost use Rattle.std.specs.Map.Iter.{ShowsInOrder, ShowsInReverse, TakesFirst, TakesLast, deref_pair_mut};
+ghost use Rattle.vecmap_base.specs.Walks.{deref_both_mut, deref_mut};
+
+use std::marker::Model;
+use std::{fmt, slice};
+
+/// The pairs of a map, each as `(&K, &mut V)`, in their order. `VecMap::iter_mut` and `&mut map` make it.
+#[derive(Drop)]
+pub struct IterMut<'a, K, V> {
+    pairs: slice::IterMut<'a, (K, V)>,
+}
+
+impl<'a, K, V> Model for IterMut<'a, K, V> {
+    ghost use Rattle.std.specs.Prelude.{List};
+    ghost use Rattle.std.specs.Slice.Iter.{iter_mut_rest};
+
+    ghost Value = { List (K × V) };
+
+    ghost view = { λ a. iter_mut_rest a.pairs };
+}
+
+impl<'a, K, V> IterMut<'a, K, V> {
+    /// The pairs of a slice, from the first to the last, each value to be written.
+    pub fn over(pairs: &'a mut [(K, V)]) -> IterMut<'a, K, V>
+        ensures rest { result ≡ pairs.old }
+        ensures fits { length result < 2 ^ 64 }
+        ensures runs { ShowsInOrder (deref_pair_mut {K = K} {X = V}) }
+        ensures runs_back { ShowsInReverse (deref_pair_mut {K = K} {X = V}) }
+    {
+        IterMut {
+            pairs: pairs.iter_mut(),
+        }
+    }
+}
+
+impl<'a, K, V> Iterator for IterMut<'a, K, V> {
+    type Item = (&'a K, &'a mut V);
+
+    ghost next_gives = { TakesFirst deref_pair_mut };
+
+    ghost remaining = { λ s. at_most (length s) };
+
+    fn next(&mut self) -> Option<(&'a K, &'a mut V)> {
+        let (key, value) = self.pairs.next()?;
+        Some((key, value))
+    }
+
+    /// The number of items left, as both ends.
+    fn size_hint(&self) -> (usize, Option<usize>)
+        ensures lower { IsWithinCount result.0 (at_most (length self.now)) }
+        ensures upper { IfSome result.1 (UpTo (at_most (length self.now))) }
+        ensures exact { result ≡ (length self.now, Some (length self.now)) }
+    {
+        let len = self.len();
+        (len, Some(len))
+    }
+}
+
+impl<'a, K, V> DoubleEndedIterator for IterMut<'a, K, V> {
+    ghost next_back_gives = { TakesLast deref_pair_mut };
+
+    fn next_back(&mut self) -> Option<(&'a K, &'a mut V)> {
+        let (key, value) = self.pairs.next_back()?;
+        Some((key, value))
+    }
+}
+
+impl<'a, K, V> ExactSizeIterator for IterMut<'a, K, V> {
+    /// The number of items left.
+    fn len(&self) -> usize {
+        self.pairs.len()
+    }
+}
+
+/// Prints what is left as std prints a list.
+impl<'a, K: fmt::Debug, V: fmt::Debug> fmt::Debug for IterMut<'a, K, V> {
+    fn fmt<W: fmt::Write>(&self, f: &mut fmt::Formatter<W>) -> fmt::Result {
+        f.debug_list().entries(self.pairs.as_slice()).finish()
+    }
+}
+
+/// The pairs of a map, each as `(&mut K, &mut V)`, in their order. What is written may make keys equal.
+#[derive(Drop)]
+pub struct IterMut2<'a, K, V> {
+    pairs: slice::IterMut<'a, (K, V)>,
+}
+
+impl<'a, K, V> Model for IterMut2<'a, K, V> {
+    ghost use Rattle.std.specs.Prelude.{List};
+    ghost use Rattle.std.specs.Slice.Iter.{iter_mut_rest};
+
+    ghost Value = { List (K × V) };
+
+    ghost view = { λ a. iter_mut_rest a.pairs };
+}
+
+impl<'a, K, V> IterMut2<'a, K, V> {
+    /// The pairs of a slice, from the first to the last, each key and each value to be written.
+    pub fn over(pairs: &'a mut [(K, V)]) -> IterMut2<'a, K, V>
+        ensures rest { result ≡ pairs.old }
+        ensures fits { length result < 2 ^ 64 }
+        ensures runs { ShowsInOrder (deref_both_mut {K = K} {V = V}) }
+        ensures runs_back { ShowsInReverse (deref_both_mut {K = K} {V = V}) }
+    {
+        IterMut2 {
+            pairs: pairs.iter_mut(),
+        }
+    }
+}
+
+impl<'a, K, V> Iterator for IterMut2<'a, K, V> {
+    type Item = (&'a mut K, &'a mut V);
+
+    ghost next_gives = { TakesFirst deref_both_mut };
+
+    ghost remaining = { λ s. at_most (length s) };
+
+    fn next(&mut self) -> Option<(&'a mut K, &'a mut V)> {
+        let pair = self.pairs.next()?;
+        Some((&mut pair.0, &mut pair.1))
+    }
+
+    /// The number of items left, as both ends.
+    fn size_hint(&self) -> (usize, Option<usize>)
+        ensures lower { IsWithinCount result.0 (at_most (length self.now)) }
+        ensures upper { IfSome result.1 (UpTo (at_most (length self.now))) }
+        ensures exact { result ≡ (length self.now, Some (length self.now)) }
+    {
+        let len = self.len();
+        (len, Some(len))
+    }
+}
+
+impl<'a, K, V> DoubleEndedIterator for IterMut2<'a, K, V> {
+    ghost next_back_gives = { TakesLast deref_both_mut };
+
+    fn next_back(&mut self) -> Option<(&'a mut K, &'a mut V)> {
+        let pair = self.pairs.next_back()?;
+        Some((&mut pair.0, &mut pair.1))
+    }
+}
+
+impl<'a, K, V> ExactSizeIterator for IterMut2<'a, K, V> {
+    /// The number of items left.
+    fn len(&self) -> usize {
+        self.pairs.len()
+    }
+}
+
+/// Prints what is left as std prints a list.
+impl<'a, K: fmt::Debug, V: fmt::Debug> fmt::Debug for IterMut2<'a, K, V> {
+    fn fmt<W: fmt::Write>(&self, f: &mut fmt::Formatter<W>) -> fmt::Result {
+        f.debug_list().entries(self.pairs.as_slice()).finish()
+    }
+}
+
+/// The keys of a map, each as `&mut K`, in their order. What is written may make keys equal.
+#[derive(Drop)]
+pub struct KeysMut<'a, K, V> {
+    pairs: slice::IterMut<'a, (K, V)>,
+}
+
+impl<'a, K, V> Model for KeysMut<'a, K, V> {
+    ghost use Rattle.std.specs.Prelude.{List};
+    ghost use Rattle.std.specs.Map.{keys_of};
+    ghost use Rattle.std.specs.Slice.Iter.{iter_mut_rest};
+
+    ghost Value = { List K };
+
+    ghost view = { λ a. keys_of (iter_mut_rest a.pairs) };
+}
+
+impl<'a, K, V> KeysMut<'a, K, V> {
+    /// The keys of a slice of pairs, from the first to the last, each to be written.
+    pub fn over(pairs: &'a mut [(K, V)]) -> KeysMut<'a, K, V>
+        ensures rest { result ≡ keys_of pairs.old }
+        ensures fits { length result < 2 ^ 64 }
+        ensures runs { ShowsInOrder (deref_mut {X = K}) }
+        ensures runs_back { ShowsInReverse (deref_mut {X = K}) }
+    {
+        KeysMut {
+            pairs: pairs.iter_mut(),
+        }
+    }
+}
+
+impl<'a, K, V> Iterator for KeysMut<'a, K, V> {
+    type Item = &'a mut K;
+
+    ghost next_gives = { TakesFirst deref_mut };
+
+    ghost remaining = { λ s. at_most (length s) };
+
+    fn next(&mut self) -> Option<&'a mut K> {
+        let pair = self.pairs.next()?;
+        Some(&mut pair.0)
+    }
+
+    /// The number of items left, as both ends.
+    fn size_hint(&self) -> (usize, Option<usize>)
+        ensures lower { IsWithinCount result.0 (at_most (length self.now)) }
+        ensures upper { IfSome result.1 (UpTo (at_most (length self.now))) }
+        ensures exact { result ≡ (length self.now, Some (length self.now)) }
+    {
+        let len = self.len();
+        (len, Some(len))
+    }
+}
+
+impl<'a, K, V> DoubleEndedIterator for KeysMut<'a, K, V> {
+    ghost next_back_gives = { TakesLast deref_mut };
+
+    fn next_back(&mut self) -> Option<&'a mut K> {
+        let pair = self.pairs.next_back()?;
+        Some(&mut pair.0)
+    }
+}
+
+impl<'a, K, V> ExactSizeIterator for KeysMut<'a, K, V> {
+    /// The number of items left.
+    fn len(&self) -> usize {
+        self.pairs.len()
+    }
+}
+
+/// Prints what is left as std prints a list.
+impl<'a, K: fmt::Debug, V> fmt::Debug for KeysMut<'a, K, V> {
+    fn fmt<W: fmt::Write>(&self, f: &mut fmt::Formatter<W>) -> fmt::Result {
+        f.debug_list()
+            .entries(self.pairs.as_slice().iter().map(|pair| &pair.0))
+            .finish()
+    }
+}
+
+/// The values of a map, each as `&mut V`, in the order of their keys. `VecMap::values_mut` makes it.
+#[derive(Drop)]
+pub struct ValuesMut<'a, K, V> {
+    pairs: slice::IterMut<'a, (K, V)>,
+}
+
+impl<'a, K, V> Model for ValuesMut<'a, K, V> {
+    ghost use Rattle.std.specs.Prelude.{List};
+    ghost use Rattle.std.specs.Map.{values_of};
+    ghost use Rattle.std.specs.Slice.Iter.{iter_mut_rest};
+
+    ghost Value = { List V };
+
+    ghost view = { λ a. values_of (iter_mut_rest a.pairs) };
+}
+
+impl<'a, K, V> ValuesMut<'a, K, V> {
+    /// The values of a slice of pairs, from the first to the last, each to be written.
+    pub fn over(pairs: &'a mut [(K, V)]) -> ValuesMut<'a, K, V>
+        ensures rest { result ≡ values_of pairs.old }
+        ensures fits { length result < 2 ^ 64 }
+        ensures runs { ShowsInOrder (deref_mut {X = V}) }
+        ensures runs_back { ShowsInReverse (deref_mut {X = V}) }
+    {
+        ValuesMut {
+            pairs: pairs.iter_mut(),
+        }
+    }
+}
+
+impl<'a, K, V> Iterator for ValuesMut<'a, K, V> {
+    type Item = &'a mut V;
+
+    ghost next_gives = { TakesFirst deref_mut };
+
+    ghost remaining = { λ s. at_most (length s) };
+
+    fn next(&mut self) -> Option<&'a mut V> {
+        let pair = self.pairs.next()?;
+        Some(&mut pair.1)
+    }
+
+    /// The number of items left, as both ends.
+    fn size_hint(&self) -> (usize, Option<usize>)
+        ensures lower { IsWithinCount result.0 (at_most (length self.now)) }
+        ensures upper { IfSome result.1 (UpTo (at_most (length self.now))) }
+        ensures exact { result ≡ (length self.now, Some (length self.now)) }
+    {
+        let len = self.len();
+        (len, Some(len))
+    }
+}
+
+impl<'a, K, V> DoubleEndedIterator for ValuesMut<'a, K, V> {
+    ghost next_back_gives = { TakesLast deref_mut };
+
+    fn next_back(&mut self) -> Option<&'a mut V> {
+        let pair = self.pairs.next_back()?;
+        Some(&mut pair.1)
+    }
+}
+
+impl<'a, K, V> ExactSizeIterator for ValuesMut<'a, K, V> {
+    /// The number of items left.
+    fn len(&self) -> usize {
+        self.pairs.len()
+    }
+}
+
+/// Prints what is left as std prints a list.
+impl<'a, K, V: fmt::Debug> fmt::Debug for ValuesMut<'a, K, V> {
+    fn fmt<W: fmt::Write>(&self, f: &mut fmt::Formatter<W>) -> fmt::Result {
+        f.debug_list()
+            .entries(self.pairs.as_slice().iter().map(|pair| &pair.1))
+            .finish()
+    }
+}
