@@ -1,6 +1,7 @@
 -- What iterators lend and give, and pulls from both ends.
-use Rattle.std.specs.Prelude.{◌≡◌, ◌-◌, List, [], ◌∷◌, Option, drop, length, slice_get, take}
+use Rattle.std.specs.Prelude.{◌≡◌, ◌-◌, ◌<◌, ◌^◌, List, [], ◌∷◌, Option, drop, length, slice_get, take}
 use Rattle.std.specs.Borrow.{MutBor}
+use Rattle.std.specs.Map.Iter.{GivesInOrder, GivesInReverse, ShowsInOrder, ShowsInReverse}
 
 -- what a `&mut T` points to
 abbrev pub deref_mut : {X : Type 0} → MutBor X → X
@@ -9,6 +10,14 @@ deref_mut x = x.now
 -- what a `(&mut K, &mut V)` points to
 abbrev pub deref_both_mut : {K V : Type 0} → MutBor K × MutBor V → K × V
 deref_both_mut p = (p.0.now, p.1.now)
+
+-- r has the list l left, and shows it in order, from the back in reverse; its length fits a `usize`
+abbrev pub ShowsAll : {A X : Type 0} → (A → X) → List X → List X → Type 0
+ShowsAll shows l r = (r ≡ l) × (length r < 2 ^ 64) × ShowsInOrder shows × ShowsInReverse shows
+
+-- the same of an iterator that owns what it gives
+abbrev pub GivesAll : {X : Type 0} → List X → List X → Type 0
+GivesAll {X} l r = (r ≡ l) × (length r < 2 ^ 64) × GivesInOrder X × GivesInReverse X
 
 -- where a pull is made: `next` pulls from the front, `next_back` from the back
 pub data End : Type 0 where

@@ -1,8 +1,8 @@
 //! The iterators over a set's elements, by reference and by value.
 //!
-//! A contract sees each as the list of what it has left, of which `next` takes the first and `next_back` the last. Each
-//! call takes constant time and no memory, apart from the `clone` of one that owns, and once the list is empty each
-//! answers `None`.
+//! A contract sees each as the list of what it has left. `next` takes the first of it and `next_back` the last, in
+//! constant time; once it is empty, both answer `None`. Only the `clone` of `IntoIter` takes memory, and time by the
+//! length of the list.
 ghost use Rattle.std.specs.Prelude.{◌≡◌, ◌<◌, ◌^◌, IfOk, IfSome, length};
 ghost use Rattle.std.specs.Iterator.{UpTo, at_most};
 ghost use Rattle.std.specs.Iterator.SizeHint.{IsWithinCount};
@@ -123,8 +123,8 @@ impl<T> IntoIter<T> {
         }
     }
 
-    /// Another over clones of the elements that are left, in the order in which they are left. Refused, nothing is made, and this one
-    /// still gives all that it has left.
+    /// Another over clones of the elements that are left, in the same order. Refused, nothing is made, and this one still
+    /// gives all that it has left.
     pub fn clone(&self) -> Result<IntoIter<T>, AllocError>
     where
         T: Clone,

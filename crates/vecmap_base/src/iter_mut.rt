@@ -1,8 +1,8 @@
 //! The iterators that lend keys or values by `&mut`.
 //!
-//! A contract sees each as the list of what it has left, as it stood when the iterator was made; no clause speaks of
-//! what is written. `next` takes the first and `next_back` the last. Each call takes constant time and no memory, and
-//! once the list is empty each answers `None`.
+//! A contract sees each as the list of what it has left, as it stood when the iterator was made: no clause speaks of
+//! what is written. `next` takes the first of it and `next_back` the last; once it is empty, both answer `None`. Each
+//! call takes constant time and no memory.
 ghost use Rattle.std.specs.Prelude.{◌≡◌, ◌<◌, ◌^◌, IfSome, length};
 ghost use Rattle.std.specs.Iterator.{UpTo, at_most};
 ghost use Rattle.std.specs.Iterator.SizeHint.{IsWithinCount};

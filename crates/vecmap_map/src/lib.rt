@@ -8,6 +8,7 @@ mod equality;
 mod formatting;
 mod indexing;
 mod insertion;
+mod iteration;
 pub mod laws;
 mod lending;
 mod lookup;

@@ -7,6 +7,7 @@ mod equality;
 mod formatting;
 mod indexing;
 mod insertion;
+mod iteration;
 pub mod laws;
 mod lookup;
 mod make;

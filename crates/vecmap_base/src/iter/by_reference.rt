@@ -1,7 +1,7 @@
 //! The iterators that lend pairs, keys or values by `&`.
 //!
-//! A contract sees each as the list of what it has left, of which `next` takes the first and `next_back` the last. Each
-//! call takes constant time and no memory, and once the list is empty each answers `None`.
+//! A contract sees each as the list of what it has left. `next` takes the first of it and `next_back` the last; once it
+//! is empty, both answer `None`. Each call takes constant time and no memory.
 ghost use Rattle.std.specs.Prelude.{◌≡◌, ◌<◌, ◌^◌, IfSome, length};
 ghost use Rattle.std.specs.Iterator.{UpTo, at_most};
 ghost use Rattle.std.specs.Iterator.SizeHint.{IsWithinCount};

@@ -1,7 +1,7 @@
 //! The iterators that own the pairs, keys or values that they give.
 //!
-//! A contract sees each as the list of what it has left, of which `next` takes the first and `next_back` the last. Each
-//! call takes constant time and no memory, apart from `clone`, and once the list is empty each answers `None`.
+//! A contract sees each as the list of what it has left. `next` takes the first of it and `next_back` the last, in
+//! constant time; once it is empty, both answer `None`. Only `clone` takes memory, and time by the length of the list.
 ghost use Rattle.std.specs.Prelude.{◌≡◌, ◌<◌, ◌^◌, IfOk, IfSome, length};
 ghost use Rattle.std.specs.Iterator.{UpTo, at_most};
 ghost use Rattle.std.specs.Iterator.SizeHint.{IsWithinCount};
@@ -43,8 +43,8 @@ impl<K, V> IntoIter<K, V> {
         }
     }
 
-    /// Another over clones of the pairs that are left, in the order in which they are left. Refused, nothing is made, and this one
-    /// still gives all that it has left.
+    /// Another over clones of the pairs that are left, in the same order. Refused, nothing is made, and this one still
+    /// gives all that it has left.
     pub fn clone(&self) -> Result<IntoIter<K, V>, AllocError>
     where
         K: Clone,
@@ -129,8 +129,8 @@ impl<K, V> IntoKeys<K, V> {
         }
     }
 
-    /// Another over clones of the keys that are left, in the order in which they are left. Refused, nothing is made, and this one
-    /// still gives all that it has left.
+    /// Another over clones of the keys that are left, in the same order. Their values are cloned too. Refused, nothing is
+    /// made, and this one still gives all that it has left.
     pub fn clone(&self) -> Result<IntoKeys<K, V>, AllocError>
     where
         K: Clone,
@@ -220,8 +220,8 @@ impl<K, V> IntoValues<K, V> {
         }
     }
 
-    /// Another over clones of the values that are left, in the order in which they are left. Refused, nothing is made, and this one
-    /// still gives all that it has left.
+    /// Another over clones of the values that are left, in the same order. Their keys are cloned too. Refused, nothing is
+    /// made, and this one still gives all that it has left.
     pub fn clone(&self) -> Result<IntoValues<K, V>, AllocError>
     where
         K: Clone,

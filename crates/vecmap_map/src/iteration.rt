@@ -1,0 +1,128 @@
+//! Iterators over the pairs, the keys and the values.
+//!
+//! A contract sees an iterator as the list of what it has left. Each is exact, gives from both ends, and stays ended;
+//! making one takes constant time and no memory.
+ghost use Rattle.std.specs.Prelude.{◌≡◌, ◌<◌, ◌^◌, length};
+ghost use Rattle.std.specs.Map.{keys_of, values_of};
+ghost use Rattle.std.specs.Map.Iter.{GivesInOrder, GivesInReverse, ShowsInOrder, ShowsInReverse, ShowsValuesInOrder, ShowsValuesInReverse, deref, deref_pair, deref_pair_mut};
+ghost use Rattle.vecmap_base.specs.Walks.{GivesAll, ShowsAll, deref_mut};
+
+use crate::VecMap;
+use vecmap_base::{IntoIter, IntoKeys, IntoValues, Iter, IterMut, Keys, Values, ValuesMut};
+
+impl<K, V> VecMap<K, V> {
+    /// The pairs, in their order, each as `(&K, &V)`.
+    pub fn iter(&self) -> Iter<'_, K, V>
+        ensures rest { result ≡ self.now.entries }
+        ensures fits { length result < 2 ^ 64 }
+        ensures runs { ShowsInOrder (deref_pair {K = K} {X = V}) }
+        ensures runs_back { ShowsInReverse (deref_pair {K = K} {X = V}) }
+        ensures values_run { ShowsValuesInOrder (deref_pair {K = K} {X = V}) }
+        ensures values_run_back { ShowsValuesInReverse (deref_pair {K = K} {X = V}) }
+    {
+        Iter::over(&self.pairs)
+    }
+
+    /// The pairs, in their order, each as `(&K, &mut V)`: each value as it stood at this call, to be written.
+    ///
+    /// No clause says what the map holds afterwards. Where that matters, write through `get_mut` or `map[index]`.
+    pub fn iter_mut(&mut self) -> IterMut<'_, K, V>
+        ensures rest { result ≡ self.old.entries }
+        ensures fits { length result < 2 ^ 64 }
+        ensures runs { ShowsInOrder (deref_pair_mut {K = K} {X = V}) }
+        ensures runs_back { ShowsInReverse (deref_pair_mut {K = K} {X = V}) }
+    {
+        IterMut::over(&mut self.pairs)
+    }
+
+    /// The keys, in their order.
+    pub fn keys(&self) -> Keys<'_, K, V>
+        ensures rest { result ≡ keys_of self.now.entries }
+        ensures fits { length result < 2 ^ 64 }
+        ensures runs { ShowsInOrder (deref {X = K}) }
+        ensures runs_back { ShowsInReverse (deref {X = K}) }
+    {
+        Keys::over(&self.pairs)
+    }
+
+    /// The values, in the order of their keys.
+    pub fn values(&self) -> Values<'_, K, V>
+        ensures rest { result ≡ values_of self.now.entries }
+        ensures fits { length result < 2 ^ 64 }
+        ensures runs { ShowsInOrder (deref {X = V}) }
+        ensures runs_back { ShowsInReverse (deref {X = V}) }
+    {
+        Values::over(&self.pairs)
+    }
+
+    /// The values, in the order of their keys, each as it stood at this call, to be written.
+    ///
+    /// No clause says what the map holds afterwards. Where that matters, write through `get_mut` or `map[index]`.
+    pub fn values_mut(&mut self) -> ValuesMut<'_, K, V>
+        ensures rest { result ≡ values_of self.old.entries }
+        ensures fits { length result < 2 ^ 64 }
+        ensures runs { ShowsInOrder (deref_mut {X = V}) }
+        ensures runs_back { ShowsInReverse (deref_mut {X = V}) }
+    {
+        ValuesMut::over(&mut self.pairs)
+    }
+
+    /// The keys, by value, in their order. Each value is dropped as its key is given.
+    pub fn into_keys(self) -> IntoKeys<K, V>
+        ensures rest { result ≡ keys_of self.entries }
+        ensures fits { length result < 2 ^ 64 }
+        ensures runs { GivesInOrder K }
+        ensures runs_back { GivesInReverse K }
+    {
+        IntoKeys::over(self.into_vec())
+    }
+
+    /// The values, by value, in the order of their keys. Each key is dropped as its value is given.
+    pub fn into_values(self) -> IntoValues<K, V>
+        ensures rest { result ≡ values_of self.entries }
+        ensures fits { length result < 2 ^ 64 }
+        ensures runs { GivesInOrder V }
+        ensures runs_back { GivesInReverse V }
+    {
+        IntoValues::over(self.into_vec())
+    }
+}
+
+/// `for (key, value) in &map`, as `iter`.
+impl<'a, K, V> IntoIterator for &'a VecMap<K, V> {
+    type Item = (&'a K, &'a V);
+
+    type IntoIter = Iter<'a, K, V>;
+
+    ghost into_iter_gives = { λ map iter. ShowsAll deref_pair map.now.entries iter × ShowsValuesInOrder (deref_pair {K = K} {X = V}) × ShowsValuesInReverse (deref_pair {K = K} {X = V}) };
+
+    fn into_iter(self) -> Iter<'a, K, V> {
+        self.iter()
+    }
+}
+
+/// `for (key, value) in &mut map`, as `iter_mut`.
+impl<'a, K, V> IntoIterator for &'a mut VecMap<K, V> {
+    type Item = (&'a K, &'a mut V);
+
+    type IntoIter = IterMut<'a, K, V>;
+
+    ghost into_iter_gives = { λ map iter. ShowsAll deref_pair_mut map.now.entries iter };
+
+    fn into_iter(self) -> IterMut<'a, K, V> {
+        self.iter_mut()
+    }
+}
+
+/// `for (key, value) in map`: the pairs, by value, in their order.
+impl<K: Drop, V: Drop> IntoIterator for VecMap<K, V> {
+    type Item = (K, V);
+
+    type IntoIter = IntoIter<K, V>;
+
+    ghost into_iter_gives = { λ map iter. GivesAll map.entries iter × ShowsValuesInOrder (λ (p : K × V). p) × ShowsValuesInReverse (λ (p : K × V). p) };
+
+    fn into_iter(self) -> IntoIter<K, V> {
+        IntoIter::over(self.into_vec())
+    }
+}
