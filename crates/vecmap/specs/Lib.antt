@@ -5,6 +5,7 @@ pub use Rattle.vecmap_base.specs.Equality
 pub use Rattle.vecmap_base.specs.Items
 pub use Rattle.vecmap_base.specs.Pairs
 pub use Rattle.vecmap_base.specs.Repeats
+pub use Rattle.vecmap_base.specs.Walks
 pub use Rattle.vecmap_map.specs.Contents
 pub use Rattle.vecmap_map.specs.Entry
 pub use Rattle.vecmap_map.specs.EntryLends

@@ -1,2 +1,3 @@
 //! The set, with the types that go with it.
+pub use vecmap_base::items::{IntoIter, Iter};
 pub use vecmap_set::{VecSet, laws};

@@ -4,6 +4,7 @@
 pub mod bulk;
 pub mod entry;
 pub mod equality;
+pub mod iteration;
 pub mod lending;
 pub mod lookup;
 pub mod macros;

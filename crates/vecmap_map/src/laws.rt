@@ -6,6 +6,8 @@ ghost use Rattle.vecmap_base.specs.Equality.{agrees, counts_agree, has_same_coun
 ghost use Rattle.vecmap_base.specs.Items.{swap_without};
 ghost use Rattle.vecmap_base.specs.Pairs.{HasDistinctKeys, index_of, lookup, put, put_at, puts, swap_without_key, with_value, without_by};
 
+pub use vecmap_base::laws::iterators_pull_as_lists;
+
 /// Equality of maps is reflexive, symmetric and transitive, also where keys repeat.
 pub fn equality_is_an_equivalence<K: Eq, V: Eq>()
     ensures reflexive { (a : List (K × V)) → IsTrue (has_same_counts K.eq V.eq a a) }

@@ -5,6 +5,8 @@ ghost use Rattle.std.specs.List.Sorted.{IsPermutation};
 ghost use Rattle.vecmap_base.specs.Equality.{has_same_items, is_within};
 ghost use Rattle.vecmap_base.specs.Items.{both};
 
+pub use vecmap_base::laws::iterators_pull_as_lists;
+
 /// Equality of sets is reflexive, symmetric and transitive.
 pub fn equality_is_an_equivalence<T: Eq>()
     ensures reflexive { (a : List T) → IsTrue (has_same_items T.eq a a) }
