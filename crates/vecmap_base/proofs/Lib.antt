@@ -7,4 +7,5 @@ pub mod MoveLemmas
 pub mod PairsLemmas
 pub mod PlaceLemmas
 pub mod RepeatsLemmas
+pub mod SearchLemmas
 pub mod WalkLemmas

@@ -4,6 +4,7 @@ pub mod Clones
 pub mod Equality
 pub mod Items
 pub mod Kept
+pub mod Orders
 pub mod Pairs
 pub mod Repeats
 pub mod Walks

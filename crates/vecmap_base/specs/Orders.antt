@@ -1,0 +1,39 @@
+-- What a closure over pairs or items answers, and the order that it gives a list. The closures are `Fn`: one call tells of
+-- all.
+use Rattle.std.specs.Prelude.{◌≡◌, Bool, List}
+use Rattle.std.specs.Borrow.{Bor}
+use Rattle.std.specs.Cmp.{IsStrictWeakOrder}
+use Rattle.std.specs.Fn.{Shared}
+use Rattle.std.specs.List.Sorted.{IsSortedBy, IsSortedByKey, IsStableBy, IsStableByKey}
+use Rattle.std.specs.Ordering.{is_lt}
+use Rattle.std.specs.declared.cmp.Ordering.{Ordering}
+
+-- each call of f, at an item, answers what h gives of it
+abbrev pub AnswersOnItem : {F T R : Type 0} → Shared F (Bor T × Unit {0}) R → (T → R) → F → Type 0
+AnswersOnItem {F} {T} {R} g h f = (x : Bor T) (r : R) → g.post f (x, tt) r → r ≡ h x.now
+
+-- each call of f, at a key and its value, answers what h gives of the pair
+abbrev pub AnswersOnPair : {F K V R : Type 0} → Shared F (Bor K × (Bor V × Unit {0})) R → (K × V → R) → F → Type 0
+AnswersOnPair {F} {K} {V} {R} g h f = (k : Bor K) (v : Bor V) (r : R) → g.post f (k, (v, tt)) r → r ≡ h (k.now, v.now)
+
+module _ {F K V : Type 0} (g : Shared F ((Bor K × Bor V) × ((Bor K × Bor V) × Unit {0})) Ordering) where
+  -- each call of f, at two pairs, answers `Less` just where lt holds of them
+  abbrev pub ComparesPairsAs : (K × V → K × V → Bool) → F → Type 0
+  ComparesPairsAs lt f = (a b : Bor K × Bor V) (r : Ordering) → g.post f (a, (b, tt)) r → is_lt r ≡ lt (a.0.now, a.1.now) (b.0.now, b.1.now)
+
+  -- the pairs ascend by the order that f answers by, where it answers by one
+  abbrev pub IsSortedByPairClosure : F → List (K × V) → Type 0
+  IsSortedByPairClosure f l = (lt : K × V → K × V → Bool) → IsStrictWeakOrder lt → ComparesPairsAs lt f → IsSortedBy lt l
+
+  -- pairs that tie by that order stand in m as they stand in l
+  abbrev pub IsStableByPairClosure : F → List (K × V) → List (K × V) → Type 0
+  IsStableByPairClosure f l m = (lt : K × V → K × V → Bool) → IsStrictWeakOrder lt → ComparesPairsAs lt f → IsStableBy lt l m
+
+module _ {F K V T : Type 0} (g : Shared F (Bor K × (Bor V × Unit {0})) T) (cmp : T → T → Ordering) where
+  -- the pairs ascend by the sort keys that f gives, where it gives a function's values
+  abbrev pub IsSortedByPairKey : F → List (K × V) → Type 0
+  IsSortedByPairKey f l = (key : K × V → T) → AnswersOnPair g key f → IsSortedByKey key cmp l
+
+  -- pairs whose sort keys tie stand in m as they stand in l
+  abbrev pub IsStableByPairKey : F → List (K × V) → List (K × V) → Type 0
+  IsStableByPairKey f l m = (key : K × V → T) → AnswersOnPair g key f → IsStableByKey key cmp l m
