@@ -41,7 +41,7 @@ module _ {X : Type 0} (ord : X → Ordering) (xs : List X) where
     parted = λ up. (
       λ k d a b. is_less _ (subst (λ (o : Ordering). ordering_index (ord (get_or xs k d)) ≤ ordering_index o) (at d) (up k middle d (omega arith) within)),
       (n.parted up).1,
-    )
+    );
   }
 
   -- the item in the middle is greater, and so are those after it
@@ -50,7 +50,7 @@ module _ {X : Type 0} (ord : X → Ordering) (xs : List X) where
     parted = λ up. (
       (n.parted up).0,
       λ k d a b. is_greater _ (subst (λ (o : Ordering). ordering_index o ≤ ordering_index (ord (get_or xs k d))) (at d) (up middle k d a b)),
-    )
+    );
   }
 
   -- nothing is left, so the place parts the less ones from the greater ones

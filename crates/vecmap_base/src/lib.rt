@@ -27,5 +27,5 @@ pub use moving::replace_and_move;
 pub use refused::Refused;
 pub use relations::{are_apart, are_within};
 pub use repeats::{dedup_keep_first, dedup_keep_last_value, gather_items, gather_pairs};
-pub use search::{search_items_by, search_items_by_key, search_pairs_by, search_pairs_by_key};
+pub use search::{search_items_by_key, search_pairs_by_key};
 pub use steps::Steps;

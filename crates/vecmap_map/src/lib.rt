@@ -17,6 +17,7 @@ mod mutable_keys;
 mod order;
 mod removal;
 mod room;
+mod search;
 
 pub use entry::{Entry, OccupiedEntry, VacantEntry};
 pub use mutable_keys::MutableKeys;

@@ -1,7 +1,12 @@
 //! The order of the pairs.
-ghost use Rattle.std.specs.Prelude.{◌≡◌, ◌<◌, length, reverse, swap};
+ghost use Rattle.std.specs.Prelude.{◌≡◌, ◌<◌, ◌≤◌, Bool, IsOk, OnErr, OnOk, length, reverse, swap};
+ghost use Rattle.std.specs.List.Sorted.{IsPermutation, IsSortedByKey, IsStableByKey};
+ghost use Rattle.std.specs.Ordering.{is_lt};
+ghost use Rattle.vecmap_base.specs.Orders.{AnswersOnPair, ComparesPairsAs, IsSortedByPairClosure, IsSortedByPairKey, IsStableByPairClosure, IsStableByPairKey};
 
 use crate::VecMap;
+use std::alloc::AllocError;
+use std::cmp::Ordering;
 
 impl<K, V> VecMap<K, V> {
     /// Turns the order of the pairs round, and compares nothing. Half as many exchanges as there are pairs do it.
@@ -20,5 +25,103 @@ impl<K, V> VecMap<K, V> {
         ensures capacity { self.new.capacity ≡ self.old.capacity }
     {
         self.pairs.swap(a, b);
+    }
+
+    /// Sorts the pairs by their keys, in O(n log n) comparisons of keys for n pairs. Pairs whose keys tie stay in their
+    /// order.
+    ///
+    /// It takes memory for more than 20 pairs; refused, it leaves the map as it was.
+    pub fn sort_keys(&mut self) -> Result<(), AllocError>
+    where
+        K: Ord,
+        ensures sorted { OnOk result (IsSortedByKey (λ p. p.0) K.cmp self.new.entries) }
+        ensures stable { IsStableByKey (λ p. p.0) K.cmp self.old.entries self.new.entries }
+        ensures rearranged { IsPermutation self.old.entries self.new.entries }
+        ensures err { OnErr result (self.new ≡ self.old) }
+        ensures succeeds { length self.old.entries ≤ 20 → IsOk result }
+        ensures capacity { self.new.capacity ≡ self.old.capacity }
+    {
+        self.pairs.sort_by(
+            |a: &(K, V), b: &(K, V)| -> Ordering
+                ensures { result ≡ K.cmp a.now.0 b.now.0 }
+            { a.0.cmp(&b.0) },
+        )
+    }
+
+    /// Sorts the pairs by `f`, which compares two, in O(n log n) calls of `f` for n pairs. Pairs that tie under `f` stay
+    /// in their order. Where `f` is no consistent order the pairs may end in any order, and none is lost.
+    ///
+    /// It takes memory for more than 20 pairs; refused, it leaves the map as it was.
+    pub fn sort_by<F: Fn((&K, &V), (&K, &V)) -> Ordering>(&mut self, f: F) -> Result<(), AllocError>
+        requires { F.IsAlwaysCallable f }
+        ensures sorted { OnOk result (IsSortedByPairClosure F.Fn f self.new.entries) }
+        ensures stable { IsStableByPairClosure F.Fn f self.old.entries self.new.entries }
+        ensures rearranged { IsPermutation self.old.entries self.new.entries }
+        ensures err { OnErr result (self.new ≡ self.old) }
+        ensures succeeds { length self.old.entries ≤ 20 → IsOk result }
+        ensures capacity { self.new.capacity ≡ self.old.capacity }
+    {
+        self.pairs.sort_by(
+            |a: &(K, V), b: &(K, V)| -> Ordering
+                requires { F.IsAlwaysCallable f }
+                ensures { (lt : K × V → K × V → Bool) → ComparesPairsAs F.Fn lt f → is_lt result ≡ lt a.now b.now }
+            { f((&a.0, &a.1), (&b.0, &b.1)) },
+        )
+    }
+
+    /// Sorts the pairs by the sort keys that `f` makes of them, in O(n log n) comparisons of sort keys for n pairs; each
+    /// pair is asked for its sort key at most once. Pairs whose sort keys tie stay in their order.
+    ///
+    /// It takes memory for more than one pair; refused, it leaves the map as it was.
+    pub fn sort_by_cached_key<T: Ord + Drop, F: Fn(&K, &V) -> T>(
+        &mut self,
+        f: F,
+    ) -> Result<(), AllocError>
+        requires { F.IsAlwaysCallable f }
+        ensures sorted { OnOk result (IsSortedByPairKey F.Fn T.cmp f self.new.entries) }
+        ensures stable { IsStableByPairKey F.Fn T.cmp f self.old.entries self.new.entries }
+        ensures rearranged { IsPermutation self.old.entries self.new.entries }
+        ensures err { OnErr result (self.new ≡ self.old) }
+        ensures succeeds { length self.old.entries ≤ 1 → IsOk result }
+        ensures capacity { self.new.capacity ≡ self.old.capacity }
+    {
+        self.pairs.sort_by_cached_key(
+            |a: &(K, V)| -> T
+                requires { F.IsAlwaysCallable f }
+                ensures { (key : K × V → T) → AnswersOnPair F.Fn key f → result ≡ key a.now }
+            { f(&a.0, &a.1) },
+        )
+    }
+
+    /// Sorts the pairs by their keys, in O(n log n) comparisons of keys for n pairs. Pairs whose keys tie may change
+    /// places. It takes no memory.
+    pub fn sort_unstable_keys(&mut self)
+    where
+        K: Ord,
+        ensures sorted { IsSortedByKey (λ p. p.0) K.cmp self.new.entries }
+        ensures rearranged { IsPermutation self.old.entries self.new.entries }
+        ensures capacity { self.new.capacity ≡ self.old.capacity }
+    {
+        self.pairs.sort_unstable_by(
+            |a: &(K, V), b: &(K, V)| -> Ordering
+                ensures { result ≡ K.cmp a.now.0 b.now.0 }
+            { a.0.cmp(&b.0) },
+        );
+    }
+
+    /// Sorts the pairs by `f`, which compares two, in O(n log n) calls of `f` for n pairs. Pairs that tie under `f` may
+    /// change places. It takes no memory.
+    pub fn sort_unstable_by<F: Fn((&K, &V), (&K, &V)) -> Ordering>(&mut self, f: F)
+        requires { F.IsAlwaysCallable f }
+        ensures sorted { IsSortedByPairClosure F.Fn f self.new.entries }
+        ensures rearranged { IsPermutation self.old.entries self.new.entries }
+        ensures capacity { self.new.capacity ≡ self.old.capacity }
+    {
+        self.pairs.sort_unstable_by(
+            |a: &(K, V), b: &(K, V)| -> Ordering
+                requires { F.IsAlwaysCallable f }
+                ensures { (lt : K × V → K × V → Bool) → ComparesPairsAs F.Fn lt f → is_lt result ≡ lt a.now b.now }
+            { f((&a.0, &a.1), (&b.0, &b.1)) },
+        );
     }
 }

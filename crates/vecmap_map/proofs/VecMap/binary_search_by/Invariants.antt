@@ -1,7 +1,7 @@
 use Rattle.std.proofs.Common.{◌-◌, ◌≤◌, length, Ordering}
 use Rattle.vecmap_base.specs.Orders.{AnswersOnPair}
 use Rattle.vecmap_base.proofs.SearchLemmas.{Narrowed}
-use Rattle.vecmap_base.proofs.search.search_pairs_by.Given as goal
+use Rattle.vecmap_map.proofs.VecMap.binary_search_by.Given as goal
 
 abbrev pub invariant-loop-low : goal.invariant-loop-low
 invariant-loop-low g l =
