@@ -5,6 +5,12 @@ ghost use Rattle.std.specs.List.Sorted.{IsPermutation};
 ghost use Rattle.vecmap_base.specs.Equality.{has_same_items, is_within};
 ghost use Rattle.vecmap_base.specs.Items.{both};
 
+mod algebra;
+
+pub use algebra::{
+    algebra_is_symmetric, disjoint_sets_have_no_intersection, lazy_iterators_agree_with_operators,
+    lazy_iterators_give_no_repeats, lengths_of_intersection_and_union_add_up,
+};
 pub use vecmap_base::laws::iterators_pull_as_lists;
 
 /// Equality of sets is reflexive, symmetric and transitive.

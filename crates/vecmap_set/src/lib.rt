@@ -9,12 +9,15 @@ mod indexing;
 mod insertion;
 mod iteration;
 pub mod laws;
+mod lazy;
 mod lookup;
 mod make;
+mod operators;
 mod order;
 mod removal;
 mod room;
 
+pub use lazy::{Difference, Intersection, SymmetricDifference, Union};
 use std::marker::Model;
 
 /// A set that keeps its elements in the order of their insertion, no two of them equal.

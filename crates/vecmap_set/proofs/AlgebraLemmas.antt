@@ -1,0 +1,65 @@
+-- What `intersection` and `union` give, whichever of two lists is longer.
+use Rattle.std.proofs.Common.{◌≡◌, ◌+◌, ◌∙◌, Bool, true, false, [], List, ap, arith, if◌then◌else◌, length, nat_lt}
+use Rattle.std.specs.Cmp.{IsEquivalence}
+use Rattle.std.specs.List.{IsDistinct}
+use Rattle.vecmap_base.specs.Equality.{has_same_items}
+use Rattle.vecmap_base.specs.Items.{both}
+use Rattle.vecmap_base.proofs.SetEquality.{set_equality_laws}
+use Rattle.vecmap_base.proofs.SetRelations.{both_turned, length-both_turned, length-union, union_turned}
+use Rattle.vecmap_set.specs.Lazy.{longer, not_longer, not_shorter, shorter}
+use Rattle.vecmap_set.specs.Operators.{lazy_intersection, lazy_union, union_of}
+
+module _ {T : Type 0} (a b : List T) (P : List T → List T → Type 0) where
+  -- what holds of two lists in either order holds of the shorter and the other
+  pub on_shorter : P b a → P a b → P (shorter a b) (not_shorter a b)
+  on_shorter x y = by (nat_lt (length b) (length a))
+    where
+      by : (c : Bool) → P (if c then b else a) (if c then a else b)
+      by true = x
+      by false = y
+
+  -- and of the longer and the other
+  pub on_longer : P b a → P a b → P (longer a b) (not_longer a b)
+  on_longer x y = by (nat_lt (length a) (length b))
+    where
+      by : (c : Bool) → P (if c then b else a) (if c then a else b)
+      by true = x
+      by false = y
+
+module _ {T : Type 0} (eq : T → T → Bool) (o : IsEquivalence eq) (a b : List T) where
+  -- the lazy lists are equal, as sets, to those of the operators
+  pub lazy_intersection_is_both : has_same_items eq (lazy_intersection eq a b) (both eq a b) ≡ true
+  lazy_intersection_is_both = on_shorter a b (λ s t. has_same_items eq (both eq s t) (both eq a b) ≡ true) (both_turned eq o b a) ((set_equality_laws eq o).refl (both eq a b))
+
+  pub lazy_union_is_union : has_same_items eq (lazy_union eq a b) (union_of eq a b) ≡ true
+  lazy_union_is_union = on_longer a b (λ s t. has_same_items eq (union_of eq s t) (union_of eq a b) ≡ true) (union_turned eq o b a) ((set_equality_laws eq o).refl (union_of eq a b))
+
+module _ {T : Type 0} (eq : T → T → Bool) (o : IsEquivalence eq) (a b : List T) where
+  same = set_equality_laws eq o
+
+  -- of three lists in a row, each equal to the next as a set
+  ends_equal : (k l m n : List T) → has_same_items eq k l ≡ true → has_same_items eq l m ≡ true → has_same_items eq n m ≡ true → has_same_items eq k n ≡ true
+  ends_equal k l m n e f g = same.congr k l n e ∙ same.congr l m n f ∙ same.symm m n ∙ g
+
+  pub lazy_intersection_turned : has_same_items eq (lazy_intersection eq a b) (lazy_intersection eq b a) ≡ true
+  lazy_intersection_turned = ends_equal _ (both eq a b) (both eq b a) _ (lazy_intersection_is_both eq o a b) (both_turned eq o a b) (lazy_intersection_is_both eq o b a)
+
+  pub lazy_union_turned : has_same_items eq (lazy_union eq a b) (lazy_union eq b a) ≡ true
+  lazy_union_turned = ends_equal _ (union_of eq a b) (union_of eq b a) _ (lazy_union_is_union eq o a b) (union_turned eq o a b) (lazy_union_is_union eq o b a)
+
+module _ {T : Type 0} (eq : T → T → Bool) (o : IsEquivalence eq) (a b : List T) (d : IsDistinct eq a) (e : IsDistinct eq b) where
+  -- the lengths of intersection and union add up
+  pub lengths_add : length (both eq a b) + length (union_of eq a b) ≡ length a + length b
+  lengths_add = omega (arith, length-union eq o a b d e)
+
+  length_lazy_intersection : length (lazy_intersection eq a b) ≡ length (both eq a b)
+  length_lazy_intersection = on_shorter a b (λ s t. length (both eq s t) ≡ length (both eq a b)) (length-both_turned eq o b a e d) (λ i. length (both eq a b))
+
+  length_lazy_union : length (lazy_union eq a b) ≡ length (union_of eq a b)
+  length_lazy_union =
+      on_longer a b (λ s t. length (union_of eq s t) ≡ length (union_of eq a b))
+      (omega (arith, length-union eq o a b d e, length-union eq o b a e d, length-both_turned eq o a b d e))
+      (λ i. length (union_of eq a b))
+
+  pub lazy_lengths_add : length (lazy_intersection eq a b) + length (lazy_union eq a b) ≡ length a + length b
+  lazy_lengths_add = omega (arith, length_lazy_intersection, length_lazy_union, lengths_add)

@@ -1,0 +1,94 @@
+-- Pulls of iterators over the elements that are kept.
+use Rattle.std.proofs.Common.{◌≡◌, ℕ, ◌<◌, ◌≤◌, ◌+◌, ◌-◌, length-append, Bool, true, false, List, [], ◌∷◌, ◌++◌, Option, None, Some, if◌then◌else◌, cond, ap, sym, ◌∙◌, length, not, arith, refl, suc, take, drop}
+use Rattle.std.proofs.lemmas.List.{append-nil, reverse-append, take-append-le}
+use Rattle.std.proofs.Math.Seq.{take-append_seam}
+use Rattle.std.proofs.lemmas.List.Elements.{filter-append}
+use Rattle.std.proofs.lemmas.List.Filters.{length-filter_both}
+use Rattle.std.proofs.iter.runs.Sources.{from_front, from_back}
+use Rattle.std.specs.Borrow.{Bor}
+use Rattle.std.specs.Iterator.{UpTo, at_most}
+use Rattle.std.specs.Iterator.Runs.{YieldsRefsInOrder, YieldsRefsInReverse}
+use Rattle.std.specs.List.{after_first, before_last, filter, position_or_len, prefix_len, suffix_len}
+use Rattle.std.specs.Option.{IfSome, SomeIff}
+use Rattle.vecmap_set.specs.Lazy.{JoinsFirst, JoinsLast, PairsFirst, PairsLast, Parts, Sift, SiftsFirst, SiftsLast, joined, lacks_item, paired, sifted}
+
+module _ {T : Type 0} (p : T → Bool) where
+  -- an element at the front that is kept
+  pub front_kept : (xs : List T) (x : T) → p x ≡ true → (filter p (x ∷ xs) ≡ x ∷ filter p xs) × (after_first p (x ∷ xs) ≡ xs)
+  front_kept xs x h = (
+    ap (λ b. if b then x ∷ filter p xs else filter p xs) h,
+    ap (λ b. drop (cond (not b) (1 + position_or_len p xs) 0 + 1) (x ∷ xs)) h,
+  )
+
+  -- an element at the front that is passed
+  pub front_passed : (xs : List T) (x : T) → p x ≡ false → (filter p (x ∷ xs) ≡ filter p xs) × (after_first p (x ∷ xs) ≡ after_first p xs)
+  front_passed xs x h = (
+    ap (λ b. if b then x ∷ filter p xs else filter p xs) h,
+    ap (λ b. drop (cond (not b) (1 + position_or_len p xs) 0 + 1) (x ∷ xs)) h
+        ∙ ap (λ n. drop n (x ∷ xs)) (let one_more : 1 + position_or_len p xs + 1 ≡ suc (position_or_len p xs + 1) = omega arith in one_more),
+  )
+
+  -- how many are passed from the end back, with one element more at the end
+  passed_back : (xs : List T) (x : T) → suffix_len (λ y. not (p y)) (xs ++ x ∷ []) ≡ cond (not (p x)) (1 + suffix_len (λ y. not (p y)) xs) 0
+  passed_back xs x = ap (prefix_len (λ y. not (p y))) (reverse-append xs (x ∷ []))
+
+  -- an element at the back that is kept
+  pub back_kept : (xs : List T) (x : T) → p x ≡ true → (filter p (xs ++ x ∷ []) ≡ filter p xs ++ x ∷ []) × (before_last p (xs ++ x ∷ []) ≡ xs)
+  back_kept xs x h =
+      let none : suffix_len (λ y. not (p y)) (xs ++ x ∷ []) ≡ 0 = passed_back xs x ∙ ap (λ b. cond (not b) (1 + suffix_len (λ y. not (p y)) xs) 0) h in
+      let place : length (xs ++ x ∷ []) - suffix_len (λ y. not (p y)) (xs ++ x ∷ []) - 1 ≡ length xs = omega (arith, none, length-append xs (x ∷ [])) in (
+        filter-append p xs (x ∷ []) ∙ ap (λ b. filter p xs ++ (if b then x ∷ [] else [])) h,
+        ap (λ n. take n (xs ++ x ∷ [])) place ∙ take-append_seam xs (x ∷ []),
+      )
+
+  -- an element at the back that is passed
+  pub back_passed : (xs : List T) (x : T) → p x ≡ false → (filter p (xs ++ x ∷ []) ≡ filter p xs) × (before_last p (xs ++ x ∷ []) ≡ before_last p xs)
+  back_passed xs x h =
+      let passed = suffix_len (λ y. not (p y)) xs in
+      let one_more : suffix_len (λ y. not (p y)) (xs ++ x ∷ []) ≡ 1 + passed = passed_back xs x ∙ ap (λ b. cond (not b) (1 + passed) 0) h in
+      let place : length (xs ++ x ∷ []) - suffix_len (λ y. not (p y)) (xs ++ x ∷ []) - 1 ≡ length xs - passed - 1 = omega (arith, one_more, length-append xs (x ∷ [])) in (
+        filter-append p xs (x ∷ []) ∙ ap (λ b. filter p xs ++ (if b then x ∷ [] else [])) h ∙ append-nil (filter p xs),
+        ap (λ n. take n (xs ++ x ∷ [])) place ∙ take-append-le (length xs - passed - 1) xs (x ∷ []) (omega arith),
+      )
+
+module _ {T : Type 0} (keeps : List T → T → Bool) where
+  -- each run of pulls gives what is left, in order or in reverse
+  pub sifts_in_order : YieldsRefsInOrder (SiftsFirst keeps) (sifted keeps)
+  sifts_in_order = from_front (SiftsFirst keeps) (λ y. y.now) (sifted keeps) (λ s t h. ap length h.0.0) (λ s x t h. h.0)
+
+  pub sifts_in_reverse : YieldsRefsInReverse (SiftsLast keeps) (sifted keeps)
+  sifts_in_reverse = from_back (SiftsLast keeps) (λ y. y.now) (sifted keeps) (λ s t h. ap length h.0.0) (λ s x t h. h.0)
+
+module _ {T : Type 0} (eq : T → T → Bool) where
+  pub joins_in_order : YieldsRefsInOrder (JoinsFirst eq) (joined eq)
+  joins_in_order = from_front (JoinsFirst eq) (λ y. y.now) (joined eq) (λ s t h. ap length h.0.0) (λ s x t h. h.0)
+
+  pub joins_in_reverse : YieldsRefsInReverse (JoinsLast eq) (joined eq)
+  joins_in_reverse = from_back (JoinsLast eq) (λ y. y.now) (joined eq) (λ s t h. ap length h.0.0) (λ s x t h. h.0)
+
+  pub pairs_in_order : YieldsRefsInOrder (PairsFirst eq) (paired eq)
+  pairs_in_order = from_front (PairsFirst eq) (λ y. y.now) (paired eq) (λ s t h. ap length h.0.0) (λ s x t h. h.0)
+
+  pub pairs_in_reverse : YieldsRefsInReverse (PairsLast eq) (paired eq)
+  pairs_in_reverse = from_back (PairsLast eq) (λ y. y.now) (paired eq) (λ s t h. ap length h.0.0) (λ s x t h. h.0)
+
+-- no more are kept than there are
+pub length_filter : {T : Type 0} (p : T → Bool) (xs : List T) → length (filter p xs) ≤ length xs
+length_filter p xs = omega (arith, length-filter_both p (λ x. not (p x)) (λ x. refl) xs)
+
+-- nor of two parts
+pub length_joined : {T : Type 0} (eq : T → T → Bool) (s : Parts (List T) (Sift T)) → length (joined eq s) ≤ length s.first + length s.second.unwalked
+length_joined eq s =
+    let kept = lacks_item eq s.second.other in
+    omega (arith, length-append s.first (filter kept s.second.unwalked), length_filter kept s.second.unwalked)
+
+pub length_paired : {T : Type 0} (eq : T → T → Bool) (s : Parts (Sift T) (Sift T)) → length (paired eq s) ≤ length s.first.unwalked + length s.second.unwalked
+length_paired eq s =
+    let one = lacks_item eq s.first.other in
+    let two = lacks_item eq s.second.other in
+    omega (arith, length-append (filter one s.first.unwalked) (filter two s.second.unwalked), length_filter one s.first.unwalked, length_filter two s.second.unwalked)
+
+-- what is at most a sum of two bounds is within their sum, where that fits
+pub within_sum : (r : Option ℕ) (P : Type 0) (sum n : ℕ) → SomeIff r P sum → n ≤ sum → IfSome r (UpTo (at_most n))
+within_sum None P sum n h short = tt
+within_sum (Some x) P sum n h short = (tt, omega (arith, h.1))

@@ -1,0 +1,25 @@
+-- What is taken from an iterator until it has none is the list that it had.
+use Rattle.std.proofs.Common.{◌≡◌, Bool, List, [], ◌∷◌, ◌++◌, Option, None, Some, ap, sym, subst, ◌∙◌, map}
+use Rattle.std.proofs.lemmas.List.{append-nil}
+use Rattle.std.specs.Borrow.{Bor}
+use Rattle.std.specs.Cmp.{IsEquivalence}
+use Rattle.std.specs.Iterator.{Drains, Yields, YieldsFirstRef}
+use Rattle.std.specs.List.{IsDistinct}
+use Rattle.std.specs.Map.Iter.{deref}
+use Rattle.vecmap_base.specs.Clones.{AreClones}
+use Rattle.vecmap_set.specs.Operators.{ClonesStaySame}
+use Rattle.vecmap_set.proofs.SetLemmas.{distinct_clones_of}
+
+module _ {S T : Type 0} (steps : S → Option (Bor T) → S → Type 0) (rest : S → List T) (gives : (s : S) (r : Option (Bor T)) (t : S) → steps s r t → YieldsFirstRef rest s r t) where
+  taken : (s t : S) (items : List (Bor T)) → Yields steps s items t → rest s ≡ map deref items ++ rest t
+  taken s t [] y = ap rest y
+  taken s t (x ∷ xs) y = gives s (Some x) y.0 y.1 ∙ ap (λ l. x.now ∷ l) (taken y.0 t xs y.2)
+
+  drained : (s : S) (items : List (Bor T)) → Drains steps s items → map deref items ≡ rest s
+  drained s items d =
+      let e = d.1 in
+      sym (taken s e.0 items e.1 ∙ ap (λ l. map deref items ++ l) (gives e.0 None d.0 e.2).0 ∙ append-nil _)
+
+  -- clones of what was taken are clones of that list
+  pub clones_drained : (C : T → T → Type 0) (s : S) (l made : List T) → rest s ≡ l → ((items : List (Bor T)) × Drains steps s items × AreClones C (map deref items) made) → AreClones C l made
+  clones_drained C s l made e h = subst (λ m. AreClones C m made) (drained s h.0 h.1 ∙ e) h.2

@@ -1,0 +1,119 @@
+//! Iterators over what two sets have in common, or apart, and the calls that make them.
+//!
+//! None of them takes memory, and each is an iterator from both ends. Elements are looked up as they are pulled.
+ghost use Rattle.std.specs.Prelude.{◌≡◌, ℕ, ◌+◌, ◌<◌, ◌^◌, SomeIff, length};
+ghost use Rattle.std.specs.Iterator.Runs.{YieldsRefsInOrder, YieldsRefsInReverse};
+ghost use Rattle.std.specs.Slice.Iter.{iter_rest};
+ghost use Rattle.vecmap_base.specs.Items.{has_item};
+ghost use Rattle.vecmap_set.specs.Lazy.{JoinsFirst, JoinsLast, PairsFirst, PairsLast, SiftsFirst, SiftsLast, joined, lacks_item, longer_first, paired, presence, sift_of, sift_of_shorter, sifted, symmetric_parts};
+
+use crate::VecSet;
+use std::slice;
+use vecmap_base::is_in;
+
+mod difference;
+mod intersection;
+mod symmetric_difference;
+mod union;
+
+pub use difference::Difference;
+pub use intersection::Intersection;
+pub use symmetric_difference::SymmetricDifference;
+pub use union::Union;
+
+impl<T: Eq> VecSet<T> {
+    /// The elements that `other` lacks, in their order: what `self - other` clones.
+    ///
+    /// Making the iterator compares nothing. Pulling all of it takes one lookup in `other` for each element of this
+    /// set. Of 1, 2, 3 and 4, 2, 3 it gives 1.
+    pub fn difference<'a>(&'a self, other: &'a VecSet<T>) -> Difference<'a, T>
+        ensures rest { result ≡ sift_of self.now.elements other.now.elements }
+        ensures fits { length (sifted (lacks_item T.eq) result) < 2 ^ 64 }
+        ensures runs { YieldsRefsInOrder (SiftsFirst (lacks_item T.eq)) (sifted (lacks_item T.eq)) }
+        ensures runs_back { YieldsRefsInReverse (SiftsLast (lacks_item T.eq)) (sifted (lacks_item T.eq)) }
+    {
+        Difference::over(&self.items, &other.items)
+    }
+
+    /// The elements that both sets have: those of the shorter set that the other has, in the order of the shorter one,
+    /// and of this set where neither is shorter.
+    ///
+    /// `self & other` has the same elements, but those of this set in its order. Making the iterator compares nothing.
+    /// Pulling all of it takes one lookup in the longer set for each element of the shorter. Of 3, 2, 1 and 1, 2 it
+    /// gives 1, 2.
+    pub fn intersection<'a>(&'a self, other: &'a VecSet<T>) -> Intersection<'a, T>
+        ensures rest { result ≡ sift_of_shorter self.now.elements other.now.elements }
+        ensures fits { length (sifted (has_item T.eq) result) < 2 ^ 64 }
+        ensures runs { YieldsRefsInOrder (SiftsFirst (has_item T.eq)) (sifted (has_item T.eq)) }
+        ensures runs_back { YieldsRefsInReverse (SiftsLast (has_item T.eq)) (sifted (has_item T.eq)) }
+    {
+        if other.len() < self.len() {
+            Intersection::over(&other.items, &self.items)
+        } else {
+            Intersection::over(&self.items, &other.items)
+        }
+    }
+
+    /// The elements that only one of the sets has: those of this set that `other` lacks, and then those of `other` that
+    /// this set lacks, each in their order. It is what `self ^ other` clones.
+    ///
+    /// Making the iterator compares nothing. Pulling all of it takes one lookup for each element of either set, in the
+    /// other. Of 1, 2, 3 and 4, 2, 3 it gives 1, 4.
+    pub fn symmetric_difference<'a>(&'a self, other: &'a VecSet<T>) -> SymmetricDifference<'a, T>
+        ensures rest { result ≡ symmetric_parts self.now.elements other.now.elements }
+        ensures fits { length (paired T.eq result) < 2 ^ 64 }
+        ensures runs { YieldsRefsInOrder (PairsFirst T.eq) (paired T.eq) }
+        ensures runs_back { YieldsRefsInReverse (PairsLast T.eq) (paired T.eq) }
+    {
+        SymmetricDifference::over(&self.items, &other.items)
+    }
+
+    /// The elements that at least one of the sets has: all of the longer set, and then those of the other that it
+    /// lacks, each in their order. Where neither is longer, this set comes first.
+    ///
+    /// `self | other` has the same elements, but all of this set first. Making the iterator compares nothing. Pulling
+    /// all of it takes one lookup in the longer set for each element of the shorter. Of 1 and 2, 3 it gives 2, 3, 1.
+    pub fn union<'a>(&'a self, other: &'a VecSet<T>) -> Union<'a, T>
+        ensures rest { result ≡ longer_first self.now.elements other.now.elements }
+        ensures fits { length (joined T.eq result) < 2 ^ 64 }
+        ensures runs { YieldsRefsInOrder (JoinsFirst T.eq) (joined T.eq) }
+        ensures runs_back { YieldsRefsInReverse (JoinsLast T.eq) (joined T.eq) }
+    {
+        if self.len() < other.len() {
+            Union::over(&other.items, &self.items)
+        } else {
+            Union::over(&self.items, &other.items)
+        }
+    }
+}
+
+// The first of `items` whose presence in `other` is `within`. It and those before it are taken out.
+fn sift_front<'a, T: Eq>(items: &mut slice::Iter<'a, T>, other: &[T], within: bool) -> Option<&'a T>
+    ensures { SiftsFirst (presence T.eq within) (sift_of (iter_rest items.old) other.now) result (sift_of (iter_rest items.new) other.now) }
+{
+    while let Some(item) = items.next() {
+        if is_in(other, item) == within {
+            return Some(item);
+        }
+    }
+    None
+}
+
+// The last of `items` whose presence in `other` is `within`. It and those after it are taken out.
+fn sift_back<'a, T: Eq>(items: &mut slice::Iter<'a, T>, other: &[T], within: bool) -> Option<&'a T>
+    ensures { SiftsLast (presence T.eq within) (sift_of (iter_rest items.old) other.now) result (sift_of (iter_rest items.new) other.now) }
+{
+    while let Some(item) = items.next_back() {
+        if is_in(other, item) == within {
+            return Some(item);
+        }
+    }
+    None
+}
+
+// The sum of two upper bounds, or none where it passes the greatest `usize`.
+fn add_bounds(a: Option<usize>, b: Option<usize>) -> Option<usize>
+    ensures { (x y : ℕ) → a ≡ Some x → b ≡ Some y → SomeIff result (x + y < 2 ^ 64) (x + y) }
+{
+    a?.checked_add(b?)
+}

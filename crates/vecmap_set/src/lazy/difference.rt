@@ -1,0 +1,95 @@
+//! The elements of one set that another lacks.
+ghost use Rattle.std.specs.Prelude.{◌≡◌, ◌<◌, ◌^◌, IfSome, length};
+ghost use Rattle.std.specs.Iterator.{UpTo, at_most};
+ghost use Rattle.std.specs.Iterator.Runs.{YieldsRefsInOrder, YieldsRefsInReverse};
+ghost use Rattle.std.specs.Iterator.SizeHint.{IsWithinCount};
+ghost use Rattle.vecmap_set.specs.Lazy.{SiftsFirst, SiftsLast, lacks_item, sift_of, sifted};
+
+use super::{sift_back, sift_front};
+use std::iter::FusedIterator;
+use std::marker::Model;
+use std::{fmt, slice};
+
+/// The elements of one set that another lacks, in the order of the first. [`VecSet::difference`] makes one.
+///
+/// Each pull looks up, in the other set, the elements of the first one up to the next that is not there, and makes no
+/// other comparison. A contract sees the elements that are not yet walked, and those of the other set.
+#[derive(Drop)]
+pub struct Difference<'a, T: Eq> {
+    items: slice::Iter<'a, T>,
+    other: &'a [T],
+}
+
+impl<'a, T: Eq> Model for Difference<'a, T> {
+    ghost use Rattle.std.specs.Slice.Iter.{iter_rest};
+    ghost use Rattle.vecmap_set.specs.Lazy.{Sift};
+
+    ghost Value = { Sift T };
+
+    ghost view = { λ a. record { unwalked = iter_rest a.items; other = a.other.now } };
+}
+
+impl<'a, T: Eq> Difference<'a, T> {
+    // The elements of `items` that `other` lacks.
+    #[tactic(auto, using(crate::proofs::LazyLemmas::length_filter))]
+    pub(crate) fn over(items: &'a [T], other: &'a [T]) -> Difference<'a, T>
+        ensures rest { result ≡ sift_of items.now other.now }
+        ensures fits { length (sifted (lacks_item T.eq) result) < 2 ^ 64 }
+        ensures runs { YieldsRefsInOrder (SiftsFirst (lacks_item T.eq)) (sifted (lacks_item T.eq)) }
+        ensures runs_back { YieldsRefsInReverse (SiftsLast (lacks_item T.eq)) (sifted (lacks_item T.eq)) }
+    {
+        Difference {
+            items: items.iter(),
+            other,
+        }
+    }
+
+    /// An iterator over what this one has left. It takes no memory and always succeeds.
+    pub fn clone(&self) -> Difference<'a, T>
+        ensures { result ≡ self.now }
+    {
+        Difference {
+            items: self.items.as_slice().iter(),
+            other: self.other,
+        }
+    }
+}
+
+impl<'a, T: Eq> Iterator for Difference<'a, T> {
+    type Item = &'a T;
+
+    ghost next_gives = { SiftsFirst (lacks_item T.eq) };
+
+    ghost remaining = { λ s. at_most (length (sifted (lacks_item T.eq) s)) };
+
+    fn next(&mut self) -> Option<&'a T> {
+        sift_front(&mut self.items, self.other, false)
+    }
+
+    /// None at least, and at most as many as are not yet walked.
+    #[tactic(auto, using(crate::proofs::LazyLemmas::length_filter))]
+    fn size_hint(&self) -> (usize, Option<usize>)
+        ensures lower { IsWithinCount result.0 (at_most (length (sifted (lacks_item T.eq) self.now))) }
+        ensures upper { IfSome result.1 (UpTo (at_most (length (sifted (lacks_item T.eq) self.now)))) }
+        ensures hint { result ≡ (0, Some (length self.now.unwalked)) }
+    {
+        (0, Some(self.items.len()))
+    }
+}
+
+impl<'a, T: Eq> DoubleEndedIterator for Difference<'a, T> {
+    ghost next_back_gives = { SiftsLast (lacks_item T.eq) };
+
+    fn next_back(&mut self) -> Option<&'a T> {
+        sift_back(&mut self.items, self.other, false)
+    }
+}
+
+impl<T: Eq> FusedIterator for Difference<'_, T> {}
+
+/// Prints as std prints a list, `[element, ..]`, what is left.
+impl<T: Eq + fmt::Debug> fmt::Debug for Difference<'_, T> {
+    fn fmt<W: fmt::Write>(&self, f: &mut fmt::Formatter<W>) -> fmt::Result {
+        f.debug_list().entries(self.clone()).finish()
+    }
+}

@@ -1,0 +1,102 @@
+//! The elements that only one of two sets has.
+ghost use Rattle.std.specs.Prelude.{◌≡◌, ◌+◌, ◌<◌, ◌^◌, IfSome, SomeIff, length};
+ghost use Rattle.std.specs.Iterator.{UpTo, at_most};
+ghost use Rattle.std.specs.Iterator.Runs.{YieldsRefsInOrder, YieldsRefsInReverse};
+ghost use Rattle.std.specs.Iterator.SizeHint.{IsWithinCount};
+ghost use Rattle.vecmap_set.specs.Lazy.{PairsFirst, PairsLast, paired, symmetric_parts};
+
+use super::{Difference, add_bounds};
+use std::fmt;
+use std::iter::FusedIterator;
+use std::marker::Model;
+
+/// The elements of one set that another lacks, and then those of the other that it lacks, each in their order.
+/// [`VecSet::symmetric_difference`] makes one.
+///
+/// Each pull looks up, in the other set of each, elements up to the next that is not there, and makes no other
+/// comparison. A contract sees what both parts have left.
+#[derive(Drop)]
+pub struct SymmetricDifference<'a, T: Eq> {
+    first: Difference<'a, T>,
+    second: Difference<'a, T>,
+}
+
+impl<'a, T: Eq> Model for SymmetricDifference<'a, T> {
+    ghost use Rattle.vecmap_set.specs.Lazy.{Parts, Sift};
+
+    ghost Value = { Parts (Sift T) (Sift T) };
+
+    ghost view = { λ a. record { first = a.first; second = a.second } };
+}
+
+impl<'a, T: Eq> SymmetricDifference<'a, T> {
+    // The elements of `items` that `other` lacks, and then those of `other` that `items` lacks.
+    pub(crate) fn over(items: &'a [T], other: &'a [T]) -> SymmetricDifference<'a, T>
+        ensures rest { result ≡ symmetric_parts items.now other.now }
+        ensures runs { YieldsRefsInOrder (PairsFirst T.eq) (paired T.eq) }
+        ensures runs_back { YieldsRefsInReverse (PairsLast T.eq) (paired T.eq) }
+    {
+        SymmetricDifference {
+            first: Difference::over(items, other),
+            second: Difference::over(other, items),
+        }
+    }
+
+    /// An iterator over what this one has left. It takes no memory and always succeeds.
+    pub fn clone(&self) -> SymmetricDifference<'a, T>
+        ensures { result ≡ self.now }
+    {
+        SymmetricDifference {
+            first: self.first.clone(),
+            second: self.second.clone(),
+        }
+    }
+}
+
+impl<'a, T: Eq> Iterator for SymmetricDifference<'a, T> {
+    type Item = &'a T;
+
+    ghost next_gives = { PairsFirst T.eq };
+
+    ghost remaining = { λ s. at_most (length (paired T.eq s)) };
+
+    fn next(&mut self) -> Option<&'a T> {
+        if let Some(item) = self.first.next() {
+            return Some(item);
+        }
+        self.second.next()
+    }
+
+    /// None at least, and at most as many as both parts have not yet walked; no upper bound where that sum passes the
+    /// greatest `usize`.
+    fn size_hint(&self) -> (usize, Option<usize>)
+        ensures lower { IsWithinCount result.0 (at_most (length (paired T.eq self.now))) }
+        ensures upper { IfSome result.1 (UpTo (at_most (length (paired T.eq self.now)))) }
+        ensures hint { result.0 ≡ 0 }
+        ensures hint_above { let most = length self.now.first.unwalked + length self.now.second.unwalked in SomeIff result.1 (most < 2 ^ 64) most }
+    {
+        let (_, first) = self.first.size_hint();
+        let (_, second) = self.second.size_hint();
+        (0, add_bounds(first, second))
+    }
+}
+
+impl<'a, T: Eq> DoubleEndedIterator for SymmetricDifference<'a, T> {
+    ghost next_back_gives = { PairsLast T.eq };
+
+    fn next_back(&mut self) -> Option<&'a T> {
+        if let Some(item) = self.second.next_back() {
+            return Some(item);
+        }
+        self.first.next_back()
+    }
+}
+
+impl<T: Eq> FusedIterator for SymmetricDifference<'_, T> {}
+
+/// Prints as std prints a list, `[element, ..]`, what is left.
+impl<T: Eq + fmt::Debug> fmt::Debug for SymmetricDifference<'_, T> {
+    fn fmt<W: fmt::Write>(&self, f: &mut fmt::Formatter<W>) -> fmt::Result {
+        f.debug_list().entries(self.clone()).finish()
+    }
+}

@@ -1,0 +1,112 @@
+//! `&`, `|`, `^` and `-` on sets.
+ghost use Rattle.std.specs.Prelude.{IfOk, List, map};
+ghost use Rattle.std.specs.Borrow.{Bor};
+ghost use Rattle.std.specs.Iterator.{Drains, IsFinite};
+ghost use Rattle.std.specs.Map.Iter.{deref};
+ghost use Rattle.vecmap_base.specs.Clones.{AreClones};
+ghost use Rattle.vecmap_base.specs.Items.{both, only};
+ghost use Rattle.vecmap_set.specs.Operators.{ClonesStaySame, IsSetOfClones, symmetric_difference_of, union_of};
+
+use crate::{Difference, Intersection, SymmetricDifference, Union, VecSet};
+use std::alloc::{AllocError, Global};
+use std::ops::{BitAnd, BitOr, BitXor, Sub};
+
+/// A set of clones of the elements that both sets have: those of the left set that the right one has, in the order of
+/// the left.
+///
+/// Of 3, 2, 1 and 1, 2 it makes 2, 1, where `intersection` gives 1, 2. Each element of the left set takes one lookup in
+/// the right one. A clone of an element must be equal to it. The set has the allocator of the left one. Refused,
+/// nothing is made, and both sets are as before.
+impl<'a, 'b, T: Eq + Clone> BitAnd<&'b VecSet<T>> for &'a VecSet<T> {
+    type Output = Result<VecSet<T>, AllocError>;
+
+    ghost can_bitand = { λ a b. ClonesStaySame T.eq T.is_clone (both T.eq a.now.elements b.now.elements) };
+
+    ghost bitand_gives = { λ a b r. IfOk r (IsSetOfClones T.eq T.is_clone (both T.eq a.now.elements b.now.elements)) };
+
+    fn bitand(self, other: &'b VecSet<T>) -> Result<VecSet<T>, AllocError> {
+        let shared = Intersection::over(&self.items, &other.items);
+        Ok(VecSet {
+            items: clones_of(*self.items.allocator(), shared)?,
+        })
+    }
+}
+
+/// A set of clones of the elements that at least one of the sets has: all of the left set, and then those of the right
+/// one that it lacks, each in their order.
+///
+/// Of 1 and 2, 3 it makes 1, 2, 3, where `union` gives 2, 3, 1. Each element of the right set takes one lookup in the
+/// left one. A clone of an element must be equal to it. The set has the allocator of the left one. Refused, nothing is
+/// made, and both sets are as before.
+impl<'a, 'b, T: Eq + Clone> BitOr<&'b VecSet<T>> for &'a VecSet<T> {
+    type Output = Result<VecSet<T>, AllocError>;
+
+    ghost can_bitor = { λ a b. ClonesStaySame T.eq T.is_clone (union_of T.eq a.now.elements b.now.elements) };
+
+    ghost bitor_gives = { λ a b r. IfOk r (IsSetOfClones T.eq T.is_clone (union_of T.eq a.now.elements b.now.elements)) };
+
+    fn bitor(self, other: &'b VecSet<T>) -> Result<VecSet<T>, AllocError> {
+        let all = Union::over(&self.items, &other.items);
+        Ok(VecSet {
+            items: clones_of(*self.items.allocator(), all)?,
+        })
+    }
+}
+
+/// A set of clones of the elements that only one of the sets has: those of the left set, and then those of the right
+/// one, each in their order.
+///
+/// Of 1, 2, 3 and 4, 2, 3 it makes 1, 4. Each element of either set takes one lookup in the other. A clone of an
+/// element must be equal to it. The set has the allocator of the left one. Refused, nothing is made, and both sets are
+/// as before.
+impl<'a, 'b, T: Eq + Clone> BitXor<&'b VecSet<T>> for &'a VecSet<T> {
+    type Output = Result<VecSet<T>, AllocError>;
+
+    ghost can_bitxor = { λ a b. ClonesStaySame T.eq T.is_clone (symmetric_difference_of T.eq a.now.elements b.now.elements) };
+
+    ghost bitxor_gives = { λ a b r. IfOk r (IsSetOfClones T.eq T.is_clone (symmetric_difference_of T.eq a.now.elements b.now.elements)) };
+
+    fn bitxor(self, other: &'b VecSet<T>) -> Result<VecSet<T>, AllocError> {
+        let apart = SymmetricDifference::over(&self.items, &other.items);
+        Ok(VecSet {
+            items: clones_of(*self.items.allocator(), apart)?,
+        })
+    }
+}
+
+/// A set of clones of the elements of the left set that the right one lacks, in their order.
+///
+/// Of 1, 2, 3 and 4, 2, 3 it makes 1. Each element of the left set takes one lookup in the right one. A clone of an
+/// element must be equal to it. The set has the allocator of the left one. Refused, nothing is made, and both sets are
+/// as before.
+impl<'a, 'b, T: Eq + Clone> Sub<&'b VecSet<T>> for &'a VecSet<T> {
+    type Output = Result<VecSet<T>, AllocError>;
+
+    ghost can_sub = { λ a b. ClonesStaySame T.eq T.is_clone (only T.eq a.now.elements b.now.elements) };
+
+    ghost sub_gives = { λ a b r. IfOk r (IsSetOfClones T.eq T.is_clone (only T.eq a.now.elements b.now.elements)) };
+
+    fn sub(self, other: &'b VecSet<T>) -> Result<VecSet<T>, AllocError> {
+        let left = Difference::over(&self.items, &other.items);
+        Ok(VecSet {
+            items: clones_of(*self.items.allocator(), left)?,
+        })
+    }
+}
+
+// Clones of what an iterator gives, in their order, with room for as many as it surely gives made first.
+fn clones_of<'a, T: Clone + 'a, I: Iterator<Item = &'a T>>(
+    alloc: Global,
+    iter: I,
+) -> Result<Vec<T>, AllocError>
+    requires can { I.can_next iter }
+    requires ends { IsFinite (I.remaining iter) }
+    ensures { IfOk result (λ made. (items : List (Bor T)) × Drains I.next_gives iter items × AreClones T.is_clone (map deref items) made.items) }
+{
+    let (at_least, _) = iter.size_hint();
+    let mut made = Vec::with_capacity(alloc, at_least)?;
+    for item in iter {
+        made.push(item.clone()?)?;
+    }
+    Ok(made)
+}
