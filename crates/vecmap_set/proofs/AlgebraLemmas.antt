@@ -1,5 +1,5 @@
 -- What `intersection` and `union` give, whichever of two lists is longer.
-use Rattle.std.proofs.Common.{◌≡◌, ◌+◌, ◌∙◌, Bool, true, false, [], List, ap, arith, if◌then◌else◌, length, nat_lt}
+use Rattle.std.proofs.Common.{◌≡◌, ◌+◌, ◌∙◌, Bool, true, false, List, arith, if◌then◌else◌, length, nat_lt}
 use Rattle.std.specs.Cmp.{IsEquivalence}
 use Rattle.std.specs.List.{IsDistinct}
 use Rattle.vecmap_base.specs.Equality.{has_same_items}
@@ -35,11 +35,11 @@ module _ {T : Type 0} (eq : T → T → Bool) (o : IsEquivalence eq) (a b : List
   lazy_union_is_union = on_longer a b (λ s t. has_same_items eq (union_of eq s t) (union_of eq a b) ≡ true) (union_turned eq o b a) ((set_equality_laws eq o).refl (union_of eq a b))
 
 module _ {T : Type 0} (eq : T → T → Bool) (o : IsEquivalence eq) (a b : List T) where
-  same = set_equality_laws eq o
-
-  -- of three lists in a row, each equal to the next as a set
+  -- of lists in a row, each equal to the next as a set, the last from its other side
   ends_equal : (k l m n : List T) → has_same_items eq k l ≡ true → has_same_items eq l m ≡ true → has_same_items eq n m ≡ true → has_same_items eq k n ≡ true
-  ends_equal k l m n e f g = same.congr k l n e ∙ same.congr l m n f ∙ same.symm m n ∙ g
+  ends_equal k l m n e f g =
+      let laws = set_equality_laws eq o in
+      laws.congr k l n e ∙ laws.congr l m n f ∙ laws.symm m n ∙ g
 
   pub lazy_intersection_turned : has_same_items eq (lazy_intersection eq a b) (lazy_intersection eq b a) ≡ true
   lazy_intersection_turned = ends_equal _ (both eq a b) (both eq b a) _ (lazy_intersection_is_both eq o a b) (both_turned eq o a b) (lazy_intersection_is_both eq o b a)

@@ -1,14 +1,10 @@
 -- What is taken from an iterator until it has none is the list that it had.
-use Rattle.std.proofs.Common.{◌≡◌, Bool, List, [], ◌∷◌, ◌++◌, Option, None, Some, ap, sym, subst, ◌∙◌, map}
+use Rattle.std.proofs.Common.{◌≡◌, List, [], ◌∷◌, ◌++◌, Option, None, Some, ap, sym, subst, ◌∙◌, map}
 use Rattle.std.proofs.lemmas.List.{append-nil}
 use Rattle.std.specs.Borrow.{Bor}
-use Rattle.std.specs.Cmp.{IsEquivalence}
 use Rattle.std.specs.Iterator.{Drains, Yields, YieldsFirstRef}
-use Rattle.std.specs.List.{IsDistinct}
 use Rattle.std.specs.Map.Iter.{deref}
 use Rattle.vecmap_base.specs.Clones.{AreClones}
-use Rattle.vecmap_set.specs.Operators.{ClonesStaySame}
-use Rattle.vecmap_set.proofs.SetLemmas.{distinct_clones_of}
 
 module _ {S T : Type 0} (steps : S → Option (Bor T) → S → Type 0) (rest : S → List T) (gives : (s : S) (r : Option (Bor T)) (t : S) → steps s r t → YieldsFirstRef rest s r t) where
   taken : (s t : S) (items : List (Bor T)) → Yields steps s items t → rest s ≡ map deref items ++ rest t

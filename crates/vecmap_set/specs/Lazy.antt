@@ -1,5 +1,5 @@
 -- What the lazy iterators over two lists of elements have left, and what their pulls give. `eq` is the elements' `==`.
-use Rattle.std.specs.Prelude.{◌≡◌, ℕ, ◌+◌, Bool, List, ◌++◌, ◌⊎◌, MatchOption, None, Option, Some, filter, if◌then◌else◌, length, nat_lt, not}
+use Rattle.std.specs.Prelude.{◌≡◌, Bool, List, ◌++◌, ◌⊎◌, MatchOption, None, Option, Some, filter, if◌then◌else◌, length, nat_lt, not}
 use Rattle.std.specs.Borrow.{Bor}
 use Rattle.std.specs.Iterator.{YieldsFirstRef, YieldsLastRef}
 use Rattle.std.specs.List.{after_first, before_last}

@@ -1,8 +1,6 @@
-use Rattle.std.proofs.Common.{◌++◌, ◌∷◌, [], sym, subst}
 use Rattle.std.proofs.lemmas.List.{map_push}
 use Rattle.std.proofs.lemmas.List.Elements.{AllZip-push}
 use Rattle.std.specs.Map.Iter.{deref}
-use Rattle.vecmap_base.specs.Clones.{AreClones}
 use Rattle.vecmap_set.proofs.operators.clones_of.Goals as goal
 
 pub loop-item-preserved : goal.loop-item-preserved
