@@ -2,4 +2,5 @@
 mod bulk;
 mod clones;
 mod insertion;
+mod operators;
 mod room;

@@ -4,8 +4,8 @@ use Rattle.std.specs.Cmp.{IsEquivalence}
 use Rattle.std.specs.List.{IsDistinct}
 use Rattle.vecmap_base.specs.Equality.{has_same_items}
 use Rattle.vecmap_base.specs.Items.{both}
-use Rattle.vecmap_base.proofs.SetEquality.{set_equality_laws}
-use Rattle.vecmap_base.proofs.SetRelations.{both_turned, length-both_turned, length-union, union_turned}
+use Rattle.vecmap_base.proofs.EqualityLemmas.Sets.{set_equality_laws}
+use Rattle.vecmap_base.proofs.EqualityLemmas.Relations.{both_turned, length-both_turned, length-union, union_turned}
 use Rattle.vecmap_set.specs.Lazy.{longer, not_longer, not_shorter, shorter}
 use Rattle.vecmap_set.specs.Operators.{lazy_intersection, lazy_union, union_of}
 

@@ -1,10 +1,11 @@
 -- What the lazy iterators over two lists of elements have left, and what their pulls give. `eq` is the elements' `==`.
-use Rattle.std.specs.Prelude.{◌≡◌, Bool, List, ◌++◌, ◌⊎◌, MatchOption, None, Option, Some, filter, if◌then◌else◌, length, nat_lt, not}
+use Rattle.std.specs.Prelude.{◌≡◌, Bool, List, ◌++◌, ◌⊎◌, MatchOption, None, Option, Some, filter, if◌then◌else◌, length, map, nat_lt, not, option_map}
 use Rattle.std.specs.Borrow.{Bor}
 use Rattle.std.specs.Iterator.{YieldsFirstRef, YieldsLastRef}
 use Rattle.std.specs.List.{after_first, before_last}
 use Rattle.std.specs.Map.Iter.{TakesFirst, TakesLast, deref}
 use Rattle.vecmap_base.specs.Items.{has_item}
+use Rattle.vecmap_base.specs.Walks.{End, Pulls, PullsBy}
 
 -- the elements that are not yet walked, and the list in which each of them is looked up
 pub record Sift (T : Type 0) : Type 0 where
@@ -102,3 +103,8 @@ module _ {T : Type 0} (eq : T → T → Bool) where
   -- the test of an element against the other list: whether it is there, or whether it is not
   abbrev pub presence : Bool → List T → T → Bool
   presence within = if within then has_item eq else lacks_item
+
+module _ {S T : Type 0} (rest : S → List T) (next next_back : S → Option (Bor T) → S → Type 0) where
+  -- any mixture of pulls that leads from s to t answers what pulls of the list left at s give, and leaves the one at t
+  abbrev pub PullsAsList : Type 0
+  PullsAsList = (s t : S) (ends : List End) (items : List (Option (Bor T))) → PullsBy next next_back s ends items t → Pulls (rest s) ends (map (option_map deref) items) (rest t)

@@ -9,7 +9,8 @@ mod algebra;
 
 pub use algebra::{
     algebra_is_symmetric, disjoint_sets_have_no_intersection, lazy_iterators_agree_with_operators,
-    lazy_iterators_give_no_repeats, lengths_of_intersection_and_union_add_up,
+    lazy_iterators_give_no_repeats, lazy_iterators_pull_as_lists,
+    lengths_of_intersection_and_union_add_up,
 };
 pub use vecmap_base::laws::iterators_pull_as_lists;
 

@@ -10,9 +10,13 @@ mod equality;
 #[cfg(test)]
 mod insertion;
 #[cfg(test)]
+mod lazy;
+#[cfg(test)]
 mod lookup;
 #[cfg(test)]
 mod make;
+#[cfg(test)]
+mod operators;
 #[cfg(test)]
 mod order;
 #[cfg(test)]

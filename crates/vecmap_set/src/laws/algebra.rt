@@ -2,8 +2,18 @@
 ghost use Rattle.std.specs.Prelude.{◌≡◌, ◌+◌, ◌↔◌, IsTrue, List, [], length};
 ghost use Rattle.std.specs.List.{IsDistinct};
 ghost use Rattle.vecmap_base.specs.Equality.{has_same_items};
-ghost use Rattle.vecmap_base.specs.Items.{both, only};
+ghost use Rattle.vecmap_base.specs.Items.{both, has_item, only};
+ghost use Rattle.vecmap_set.specs.Lazy.{JoinsFirst, JoinsLast, PairsFirst, PairsLast, PullsAsList, SiftsFirst, SiftsLast, joined, lacks_item, paired, sifted};
 ghost use Rattle.vecmap_set.specs.Operators.{lazy_intersection, lazy_union, symmetric_difference_of, union_of};
+
+/// Any mixture of pulls from both ends of a lazy iterator answers what its list gives: each element once, from the front
+/// in order, from the back in reverse, and then none.
+pub fn lazy_iterators_pull_as_lists<T: Eq>()
+    ensures difference { PullsAsList (sifted (lacks_item T.eq)) (SiftsFirst (lacks_item T.eq)) (SiftsLast (lacks_item T.eq)) }
+    ensures intersection { PullsAsList (sifted (has_item T.eq)) (SiftsFirst (has_item T.eq)) (SiftsLast (has_item T.eq)) }
+    ensures symmetric_difference { PullsAsList (paired T.eq) (PairsFirst T.eq) (PairsLast T.eq) }
+    ensures union { PullsAsList (joined T.eq) (JoinsFirst T.eq) (JoinsLast T.eq) }
+{}
 
 /// No two elements that a lazy iterator over two sets gives are equal.
 pub fn lazy_iterators_give_no_repeats<T: Eq>()

@@ -1,4 +1,4 @@
-use Rattle.vecmap_base.proofs.SetRelations.{both_turned, symmetric_difference_turned, union_turned}
+use Rattle.vecmap_base.proofs.EqualityLemmas.Relations.{both_turned, symmetric_difference_turned, union_turned}
 use Rattle.vecmap_set.proofs.AlgebraLemmas.{lazy_intersection_turned, lazy_union_turned}
 use Rattle.vecmap_set.proofs.laws.algebra.algebra_is_symmetric.Goals as goal
 

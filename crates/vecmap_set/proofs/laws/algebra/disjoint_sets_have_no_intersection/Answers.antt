@@ -1,6 +1,6 @@
 use Rattle.std.proofs.Common.{◌≡◌, ◌↔◌, []}
 use Rattle.vecmap_base.specs.Items.{both}
-use Rattle.vecmap_base.proofs.SetRelations.{both_empty_turned}
+use Rattle.vecmap_base.proofs.EqualityLemmas.Relations.{both_empty_turned}
 use Rattle.vecmap_set.proofs.AlgebraLemmas.{on_shorter}
 use Rattle.vecmap_set.proofs.laws.algebra.disjoint_sets_have_no_intersection.Goals as goal
 

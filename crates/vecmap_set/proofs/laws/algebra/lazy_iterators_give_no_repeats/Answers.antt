@@ -1,6 +1,6 @@
 use Rattle.std.specs.List.{IsDistinct}
 use Rattle.vecmap_base.specs.Items.{both}
-use Rattle.vecmap_base.proofs.SetRelations.{distinct_both, distinct_only, distinct_symmetric_difference, distinct_union}
+use Rattle.vecmap_base.proofs.EqualityLemmas.Relations.{distinct_both, distinct_only, distinct_symmetric_difference, distinct_union}
 use Rattle.vecmap_set.specs.Operators.{union_of}
 use Rattle.vecmap_set.proofs.AlgebraLemmas.{on_longer, on_shorter}
 use Rattle.vecmap_set.proofs.laws.algebra.lazy_iterators_give_no_repeats.Goals as goal

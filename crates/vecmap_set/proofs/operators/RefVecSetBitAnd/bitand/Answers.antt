@@ -1,6 +1,6 @@
 use Rattle.std.proofs.Common.{◌≡◌, ◌∙◌, ap}
 use Rattle.vecmap_base.specs.Items.{both, has_item}
-use Rattle.vecmap_base.proofs.SetRelations.{distinct_both}
+use Rattle.vecmap_base.proofs.EqualityLemmas.Relations.{distinct_both}
 use Rattle.vecmap_set.specs.Lazy.{SiftsFirst, sifted}
 use Rattle.vecmap_set.proofs.OperatorLemmas.{clones_drained}
 use Rattle.vecmap_set.proofs.SetLemmas.{distinct_clones_of}

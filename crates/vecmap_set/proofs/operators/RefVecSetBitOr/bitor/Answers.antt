@@ -1,5 +1,5 @@
 use Rattle.std.proofs.Common.{◌≡◌, ◌∙◌, ap}
-use Rattle.vecmap_base.proofs.SetRelations.{distinct_union}
+use Rattle.vecmap_base.proofs.EqualityLemmas.Relations.{distinct_union}
 use Rattle.vecmap_set.specs.Lazy.{JoinsFirst, joined}
 use Rattle.vecmap_set.specs.Operators.{union_of}
 use Rattle.vecmap_set.proofs.OperatorLemmas.{clones_drained}

@@ -1,5 +1,5 @@
 use Rattle.std.proofs.Common.{◌≡◌, ◌∙◌, ap}
-use Rattle.vecmap_base.proofs.SetRelations.{distinct_symmetric_difference}
+use Rattle.vecmap_base.proofs.EqualityLemmas.Relations.{distinct_symmetric_difference}
 use Rattle.vecmap_set.specs.Lazy.{PairsFirst, paired}
 use Rattle.vecmap_set.specs.Operators.{symmetric_difference_of}
 use Rattle.vecmap_set.proofs.OperatorLemmas.{clones_drained}

@@ -1,6 +1,6 @@
 use Rattle.std.proofs.Common.{◌≡◌, ◌∙◌, ap}
 use Rattle.vecmap_base.specs.Items.{only}
-use Rattle.vecmap_base.proofs.SetRelations.{distinct_only}
+use Rattle.vecmap_base.proofs.EqualityLemmas.Relations.{distinct_only}
 use Rattle.vecmap_set.specs.Lazy.{SiftsFirst, lacks_item, sifted}
 use Rattle.vecmap_set.proofs.OperatorLemmas.{clones_drained}
 use Rattle.vecmap_set.proofs.SetLemmas.{distinct_clones_of}
