@@ -1,8 +1,9 @@
 //! Maps made of a vector, in that vector, and vectors made of a map.
-ghost use Rattle.std.specs.Prelude.{◌≡◌, ◌≤◌, IfOk, [], length, vec_capacity};
+ghost use Rattle.std.specs.Prelude.{◌≡◌, IfOk, [], vec_capacity};
+ghost use Rattle.std.specs.Map.{keys_of};
 ghost use Rattle.vecmap_base.specs.Clones.{AreClones, IsPairClone};
 ghost use Rattle.vecmap_base.specs.Pairs.{HasDistinctKeys, puts};
-ghost use Rattle.vecmap_base.specs.Repeats.{cost};
+ghost use Rattle.vecmap_base.specs.Repeats.{comparisons};
 
 use crate::VecMap;
 use std::alloc::AllocError;
@@ -22,16 +23,17 @@ impl<K: Eq + Drop, V: Drop> From<Vec<(K, V)>> for VecMap<K, V> {
 }
 
 impl<K, V> VecMap<K, V> {
-    /// As `From<Vec>`, and answers the number of comparisons that it took: at most n(n-1)/2 for n pairs, and exactly as
-    /// many where no two keys are equal.
+    /// As `From<Vec>`, and answers the number of comparisons that it took.
+    ///
+    /// Each key is compared with those before it that stay, up to the first equal one: at most n(n-1)/2 comparisons for n
+    /// pairs, and exactly as many where no two keys are equal (`vecmap_base::laws`).
     pub fn from_vec_counted(mut pairs: Vec<(K, V)>) -> (VecMap<K, V>, u128)
     where
         K: Eq + Drop,
         V: Drop,
         ensures entries { result.0.entries ≡ puts K.eq [] pairs.items }
         ensures capacity { result.0.capacity ≡ vec_capacity pairs }
-        ensures at_most { result.1 ≤ cost (length pairs.items) }
-        ensures exact_if_distinct { HasDistinctKeys K.eq pairs.items → result.1 ≡ cost (length pairs.items) }
+        ensures counted { result.1 ≡ comparisons K.eq (keys_of pairs.items) }
     {
         let mut steps = Steps::new();
         dedup_keep_last_value(&mut pairs, &mut steps);

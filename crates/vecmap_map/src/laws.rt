@@ -24,7 +24,7 @@ pub fn equality_ignores_order<K: Eq, V: Eq>()
 /// values. It is enough to look up the keys of both maps.
 pub fn equality_is_agreement<K: Eq, V: Eq>()
     ensures equality { (a b : List (K × V)) → HasDistinctKeys K.eq a → HasDistinctKeys K.eq b → has_same_counts K.eq V.eq a b ≡ agrees K.eq V.eq a b }
-    ensures every_key { (a b : List (K × V)) → IsTrue (agrees K.eq V.eq a b) → (k : K) → IsTrue (same_option K.eq V.eq (lookup K.eq a k) (lookup K.eq b k)) }
+    ensures every_key { (a b : List (K × V)) → IsTrue (agrees K.eq V.eq a b) → (k : K) → IsTrue (same_option V.eq (lookup K.eq a k) (lookup K.eq b k)) }
 {}
 
 /// Maps of unequal lengths differ, and of maps of one length the pairs of one settle it.
