@@ -1,9 +1,9 @@
 //! Sets made of a vector, in that vector, and vectors of clones of the elements of a set.
-ghost use Rattle.std.specs.Prelude.{◌≡◌, ◌≤◌, IfOk, [], length, vec_capacity};
+ghost use Rattle.std.specs.Prelude.{◌≡◌, IfOk, [], vec_capacity};
 ghost use Rattle.std.specs.List.{IsDistinct};
 ghost use Rattle.vecmap_base.specs.Clones.{AreClones};
 ghost use Rattle.vecmap_base.specs.Items.{adds};
-ghost use Rattle.vecmap_base.specs.Repeats.{cost};
+ghost use Rattle.vecmap_base.specs.Repeats.{comparisons};
 
 use crate::VecSet;
 use std::alloc::AllocError;
@@ -22,16 +22,17 @@ impl<T: Eq + Drop> From<Vec<T>> for VecSet<T> {
 }
 
 impl<T: Eq> VecSet<T> {
-    /// As `From<Vec>`, and answers the number of comparisons that it took: at most n(n-1)/2 for n elements, and exactly
-    /// as many where no two are equal.
+    /// As `From<Vec>`, and answers the number of comparisons that it took.
+    ///
+    /// Each element is compared with those before it that stay, up to the first equal one: at most n(n-1)/2 comparisons
+    /// for n elements, and exactly as many where no two are equal (`laws::comparisons_are_bounded`).
     pub fn from_vec_counted(mut items: Vec<T>) -> (VecSet<T>, u128)
     where
         T: Drop,
         ensures elements { result.0.elements ≡ adds T.eq [] items.items }
         ensures distinct { IsDistinct T.eq result.0.elements }
         ensures capacity { result.0.capacity ≡ vec_capacity items }
-        ensures at_most { result.1 ≤ cost (length items.items) }
-        ensures exact_if_distinct { IsDistinct T.eq items.items → result.1 ≡ cost (length items.items) }
+        ensures counted { result.1 ≡ comparisons T.eq items.items }
     {
         let mut steps = Steps::new();
         dedup_keep_first(&mut items, &mut steps);

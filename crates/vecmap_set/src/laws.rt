@@ -12,7 +12,7 @@ pub use algebra::{
     lazy_iterators_give_no_repeats, lazy_iterators_pull_as_lists,
     lengths_of_intersection_and_union_add_up,
 };
-pub use vecmap_base::laws::iterators_pull_as_lists;
+pub use vecmap_base::laws::{comparisons_are_bounded, iterators_pull_as_lists};
 
 /// Equality of sets is reflexive, symmetric and transitive.
 pub fn equality_is_an_equivalence<T: Eq>()
