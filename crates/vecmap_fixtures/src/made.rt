@@ -49,24 +49,33 @@ pub fn set_of<T: Eq + Copy>(alloc: Global, items: &[T]) -> Result<VecSet<T>, All
     Ok(set)
 }
 
-/// The pairs (0, 10), (1, 11) and so on, `count` of them, in a map that has no more room.
-pub fn full_map(alloc: Global, count: u32) -> Result<VecMap<u32, u32>, AllocError> {
-    let mut map = VecMap::new(alloc);
-    map.reserve_exact(count as usize)?;
-    for number in 0..count {
-        map.insert(number, number.wrapping_add(10))?;
+/// As `item_map`, with no more room than there are pairs, or refused.
+pub fn full_map(
+    alloc: Global,
+    pairs: &[(u32, char, u32)],
+) -> Result<VecMap<Item, u32>, AllocError> {
+    let mut map = VecMap::with_capacity(alloc, pairs.len())?;
+    for pair in pairs {
+        map.insert(make_item(pair.0, pair.1), pair.2)?;
     }
     map.shrink_to_fit();
-    Ok(map)
+    if map.capacity() == pairs.len() {
+        Ok(map)
+    } else {
+        Err(AllocError)
+    }
 }
 
-/// The elements 0, 1 and so on, `count` of them, in a set that has no more room.
-pub fn full_set(alloc: Global, count: u32) -> Result<VecSet<u32>, AllocError> {
-    let mut set = VecSet::new(alloc);
-    set.reserve_exact(count as usize)?;
-    for number in 0..count {
-        set.insert(number)?;
+/// As `item_set`, with no more room than there are elements, or refused.
+pub fn full_set(alloc: Global, items: &[(u32, char)]) -> Result<VecSet<Item>, AllocError> {
+    let mut set = VecSet::with_capacity(alloc, items.len())?;
+    for item in items {
+        set.insert(make_item(item.0, item.1))?;
     }
     set.shrink_to_fit();
-    Ok(set)
+    if set.capacity() == items.len() {
+        Ok(set)
+    } else {
+        Err(AllocError)
+    }
 }

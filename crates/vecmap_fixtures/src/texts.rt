@@ -7,7 +7,7 @@ pub fn text_map(
     alloc: Global,
     pairs: &[(&str, &str)],
 ) -> Result<VecMap<String, String>, AllocError> {
-    let mut map = VecMap::new(alloc);
+    let mut map = VecMap::with_capacity(alloc, pairs.len())?;
     for pair in pairs {
         let key = String::from_str(alloc, pair.0)?;
         let value = String::from_str(alloc, pair.1)?;
@@ -18,7 +18,7 @@ pub fn text_map(
 
 /// The set of single inserts of these texts.
 pub fn text_set(alloc: Global, texts: &[&str]) -> Result<VecSet<String>, AllocError> {
-    let mut set = VecSet::new(alloc);
+    let mut set = VecSet::with_capacity(alloc, texts.len())?;
     for text in texts {
         set.insert(String::from_str(alloc, text)?)?;
     }

@@ -26,4 +26,6 @@ mod order;
 #[cfg(test)]
 mod removal;
 #[cfg(test)]
+mod repeats;
+#[cfg(test)]
 mod room;

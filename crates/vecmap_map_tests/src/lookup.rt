@@ -23,19 +23,21 @@ fn lookups_answer_the_stored_key(rt: HostRuntime) -> Result<(), Fail> {
 
 #[test]
 fn lookups_by_place_end_with_the_list(rt: HostRuntime) -> Result<(), Fail> {
-    let map = item_map(rt.alloc(), &[(1, 'x', 10), (2, 'b', 20)])?;
+    let map = item_map(rt.alloc(), &[(1, 'x', 10), (2, 'b', 20), (3, 'c', 30)])?;
     for (found, wanted) in [
         (map.first(), (1, 'x', 10)),
+        (map.get_index(0), (1, 'x', 10)),
         (map.get_index(1), (2, 'b', 20)),
-        (map.last(), (2, 'b', 20)),
+        (map.get_index(2), (3, 'c', 30)),
+        (map.last(), (3, 'c', 30)),
     ] {
         let (key, value) = found.ok_or("nothing there")?;
         assert_eq!(rt; (key.number, key.mark, *value), wanted);
     }
-    assert!(rt; map.get_index(2).is_none() && map.get_index(usize::MAX).is_none());
+    assert!(rt; map.get_index(3).is_none() && map.get_index(usize::MAX).is_none());
     let empty: VecMap<u32, u32> = VecMap::new(rt.alloc());
     assert!(rt; empty.first().is_none() && empty.last().is_none() && empty.get_index(0).is_none());
-    assert!(rt; empty.is_empty() && !map.is_empty() && map.len() == 2);
+    assert!(rt; empty.is_empty() && !map.is_empty() && map.len() == 3);
     Ok(())
 }
 
@@ -50,6 +52,7 @@ fn text_keys_are_found_by_their_bytes(rt: HostRuntime) -> Result<(), Fail> {
     assert_eq!(rt; map.get_str("").copied(), None);
     assert!(rt; map.contains_key_str("a") && !map.contains_key_str("ab"));
     assert_eq!(rt; map.remove_str("ab"), None);
+    assert_eq!(rt; map.len(), 2);
     assert_eq!(rt; map.remove_str("b"), Some(2));
     assert_eq!(rt; map.len(), 1);
     let (key, value) = map.first().ok_or("empty")?;

@@ -1,8 +1,8 @@
 //! Each request for memory refused in turn.
 //!
-//! A test here compares what a call answers and what it leaves, in both outcomes: granted, as when it is just run, and
-//! refused, as when `rt try --test --fail-alloc N` refuses the Nth request of each test. A fixture that is itself
-//! refused ends its test.
+//! Each test passes both when it is just run, where all is granted, and when `rt try --test --fail-alloc N` refuses the
+//! Nth request of each test. Where a call is refused, the test tells so, compares what the call gives back and leaves,
+//! and makes the call once more: as no second request is refused, it must be granted then.
 #![tactic(auto)]
 
 #[cfg(test)]
@@ -13,3 +13,5 @@ mod map;
 mod run;
 #[cfg(test)]
 mod set;
+#[cfg(test)]
+mod telling;

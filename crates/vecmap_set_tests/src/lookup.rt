@@ -38,9 +38,10 @@ fn a_place_answers_its_element(rt: HostRuntime) -> Result<(), Fail> {
     assert_eq!(rt; set.last().copied(), Some(20));
     assert_eq!(rt; set.get_index(0).copied(), Some(30));
     assert_eq!(rt; set.get_index(1).copied(), Some(10));
+    assert_eq!(rt; set.get_index(2).copied(), Some(20));
     assert_eq!(rt; set.get_index(3).copied(), None);
     assert_eq!(rt; set.len(), 3);
-    assert_eq!(rt; set[1], 10);
+    assert_eq!(rt; (set[0], set[1], set[2]), (30, 10, 20));
     let empty: VecSet<u32> = VecSet::new(rt.alloc());
     assert!(rt; empty.first().is_none() && empty.last().is_none() && empty.get_index(0).is_none());
     Ok(())
@@ -49,9 +50,9 @@ fn a_place_answers_its_element(rt: HostRuntime) -> Result<(), Fail> {
 #[test]
 fn a_text_is_found_by_its_bytes(rt: HostRuntime) -> Result<(), Fail> {
     let mut set = VecSet::new(rt.alloc());
-    set.insert(String::from_str(rt.alloc(), "a")?)?;
-    set.insert(String::from_str(rt.alloc(), "b")?)?;
-    set.insert(String::from_str(rt.alloc(), "c")?)?;
+    for text in ["a", "b", "c"] {
+        set.insert(String::from_str(rt.alloc(), text)?)?;
+    }
     assert!(rt; set.contains_str("b"));
     assert!(rt; !set.contains_str("d"));
     assert!(rt; set.remove_str("a"));

@@ -48,32 +48,39 @@ fn a_swap_removal_by_element_puts_the_last_in_its_place(rt: HostRuntime) -> Resu
         Some('d')
     );
     assert!(rt; has_items(set.as_slice(), &[(3, 'c'), (2, 'b')]));
+    assert!(rt;
+        !set.swap_remove(&make_item(4, '?')) && set.swap_take(&make_item(4, '?')).is_none()
+    );
     assert_eq!(rt; set.capacity(), room);
     Ok(())
 }
 
 #[test]
 fn an_element_is_swapped_out_once(rt: HostRuntime) -> Result<(), Fail> {
-    let mut set = set_of(rt.alloc(), &[1, 2, 3])?;
+    let mut set = set_of(rt.alloc(), &[1, 2, 3, 4])?;
     assert_eq!(rt; set.swap_take(&2), Some(2));
-    assert_eq!(rt; set.as_slice(), [1, 3].as_slice());
+    assert_eq!(rt; set.as_slice(), [1, 4, 3].as_slice());
     assert_eq!(rt; set.swap_take(&2), None);
-    assert_eq!(rt; set.as_slice(), [1, 3].as_slice());
+    assert_eq!(rt; set.as_slice(), [1, 4, 3].as_slice());
     Ok(())
 }
 
 #[test]
-fn a_removal_by_place_answers_what_stood_there(rt: HostRuntime) -> Result<(), Fail> {
-    let mut set = set_of(rt.alloc(), &["foo", "bar", "baz", "qux"])?;
-    assert_eq!(rt; set.len(), 4);
-    assert_eq!(rt; set.swap_remove_index(0), "foo");
-    assert_eq!(rt; set.as_slice(), ["qux", "bar", "baz"].as_slice());
-    assert_eq!(rt; set.len(), 3);
-    assert_eq!(rt; set.swap_remove_index(0), "qux");
-    assert_eq!(rt; set.as_slice(), ["baz", "bar"].as_slice());
-    assert_eq!(rt; set.len(), 2);
-    assert_eq!(rt; set.remove_index(0), "baz");
-    assert_eq!(rt; set.as_slice(), ["bar"].as_slice());
+fn a_removal_by_place_shifts_or_swaps(rt: HostRuntime) -> Result<(), Fail> {
+    for (index, item, shifted, swapped) in [
+        (0, "foo", ["bar", "baz", "qux"], ["qux", "bar", "baz"]),
+        (1, "bar", ["foo", "baz", "qux"], ["foo", "qux", "baz"]),
+        (3, "qux", ["foo", "bar", "baz"], ["foo", "bar", "baz"]),
+    ] {
+        let mut set = set_of(rt.alloc(), &["foo", "bar", "baz", "qux"])?;
+        assert!(rt; index < set.len());
+        assert_eq!(rt; set.remove_index(index), item);
+        assert_eq!(rt; set.as_slice(), shifted.as_slice());
+        let mut set = set_of(rt.alloc(), &["foo", "bar", "baz", "qux"])?;
+        assert!(rt; index < set.len());
+        assert_eq!(rt; set.swap_remove_index(index), item);
+        assert_eq!(rt; set.as_slice(), swapped.as_slice());
+    }
     Ok(())
 }
 

@@ -1,98 +1,146 @@
-//! Many pairs at once.
-use std::process::Abort;
+//! Many pairs at once, put into a map that is full.
+use crate::telling::{make, tell};
+use std::test::Fail;
 use vecmap::VecMap;
-use vecmap_fixtures::full_map;
+use vecmap_fixtures::{Hinted, Item, full_map, has_pairs, make_item};
 
-const FULL: &[(u32, u32)] = &[(0, 10), (1, 11)];
+const FULL: &[(u32, char, u32)] = &[(1, 'a', 10), (2, 'b', 20)];
 
-// More pairs than the room that is made for them: half of them, rounded up, fit for sure.
-const MORE: [(u32, u32); 6] = [(7, 70), (0, 20), (8, 80), (9, 90), (10, 100), (11, 110)];
+// Pairs of which each new key is followed by an equal one that is there.
+fn more() -> [(Item, u32); 11] {
+    [
+        (make_item(7, 'p'), 1),
+        (make_item(1, 'z'), 11),
+        (make_item(7, 'q'), 70),
+        (make_item(8, 'r'), 80),
+        (make_item(1, 'y'), 12),
+        (make_item(9, 's'), 90),
+        (make_item(1, 'x'), 13),
+        (make_item(10, 't'), 100),
+        (make_item(1, 'w'), 14),
+        (make_item(11, 'u'), 110),
+        (make_item(1, 'v'), 15),
+    ]
+}
 
-const EXTENDED: &[(u32, u32)] = &[
-    (0, 20),
-    (1, 11),
-    (7, 70),
-    (8, 80),
-    (9, 90),
-    (10, 100),
-    (11, 110),
+const EXTENDED: &[(u32, char, u32)] = &[
+    (1, 'a', 15),
+    (2, 'b', 20),
+    (7, 'p', 70),
+    (8, 'r', 80),
+    (9, 's', 90),
+    (10, 't', 100),
+    (11, 'u', 110),
 ];
 
-// Granted, all pairs are put. Refused at the room, nothing has changed; refused at a later pair, those before it are
-// put and the map is full.
-fn assert_extended(rt: &impl Abort, map: &VecMap<u32, u32>, room: usize, granted: bool) {
-    if granted {
-        assert_eq!(rt; map.as_slice(), EXTENDED);
-    } else if map.len() == 2 {
-        assert_eq!(rt; map.as_slice(), FULL);
-        assert_eq!(rt; map.capacity(), room);
-    } else {
-        assert!(rt; 5 <= map.len() && map.len() < EXTENDED.len());
-        assert!(rt; EXTENDED.starts_with(map.as_slice()));
-        assert_eq!(rt; map.capacity(), map.len());
-    }
-}
-
-#[test]
-fn append_moves_all_or_nothing(rt: HostRuntime) {
-    let (Ok(mut map), Ok(mut other)) = (full_map(rt.alloc(), 2), full_map(rt.alloc(), 3)) else {
-        return;
+// Whether the pairs before the refused one are put and no others: the map is full, and for each new key in it the first
+// value has grown by one.
+fn has_all_that_fit(map: &VecMap<Item, u32>) -> bool {
+    let (Some((first, rest)), Some((_, others))) = (
+        map.as_slice().split_first(),
+        EXTENDED.split_first(),
+    ) else {
+        return false;
     };
-    let (room, other_room) = (map.capacity(), other.capacity());
-    if map.append(&mut other).is_ok() {
-        assert_eq!(rt; map.as_slice(), [(0, 10), (1, 11), (2, 12)].as_slice());
-        assert!(rt; other.is_empty() && other.capacity() == other_room);
-    } else {
-        assert_eq!(rt; map.as_slice(), FULL);
-        assert_eq!(rt; map.capacity(), room);
-        assert_eq!(rt; other.as_slice(), [(0, 10), (1, 11), (2, 12)].as_slice());
-        assert_eq!(rt; other.capacity(), other_room);
-    }
+    let new_keys = map.len().saturating_sub(FULL.len());
+    (first.0.number, first.0.mark) == (1, 'a')
+        && first.1 as usize == new_keys.saturating_add(10)
+        && rest.len() < others.len()
+        && rest.iter().zip(others).all(|(pair, wanted)| (pair.0.number, pair.0.mark, pair.1)
+            == *wanted)
+        && map.capacity() == map.len()
 }
 
 #[test]
-fn extend_puts_the_pairs_before_the_refused_one(rt: HostRuntime) {
-    let Ok(mut map) = full_map(rt.alloc(), 2) else {
-        return;
-    };
-    let room = map.capacity();
-    let granted = map.extend(MORE).is_ok();
-    assert_extended(&rt, &map, room, granted);
+fn append_moves_all_or_nothing(rt: HostRuntime) -> Result<(), Fail> {
+    let added = [(1, 'z', 30), (7, 'p', 70), (8, 'q', 80)];
+    let mut map = make(&rt, || full_map(rt.alloc(), FULL))?;
+    let mut other = make(&rt, || full_map(rt.alloc(), &added))?;
+    if map.append(&mut other).is_err() {
+        tell(&rt)?;
+        assert!(rt; has_pairs(map.as_slice(), FULL) && map.capacity() == 2);
+        assert!(rt; has_pairs(other.as_slice(), &added) && other.capacity() == 3);
+        map.append(&mut other)?;
+    }
+    let all = [(1, 'a', 30), (2, 'b', 20), (7, 'p', 70), (8, 'q', 80)];
+    assert!(rt; has_pairs(map.as_slice(), &all));
+    assert_eq!(rt; (other.len(), other.capacity()), (0, 3));
+    Ok(())
 }
 
 #[test]
-fn extend_pairs_puts_the_pairs_before_the_refused_one(rt: HostRuntime) {
-    let Ok(mut map) = full_map(rt.alloc(), 2) else {
-        return;
-    };
-    let room = map.capacity();
-    let granted = map.extend_pairs(&MORE).is_ok();
-    assert_extended(&rt, &map, room, granted);
+fn extend_puts_the_pairs_before_the_refused_one(rt: HostRuntime) -> Result<(), Fail> {
+    let items = more();
+    for hint in [0, 4] {
+        let hinted = || Hinted {
+            items: &items,
+            hint,
+        };
+        let mut map = make(&rt, || full_map(rt.alloc(), FULL))?;
+        if map.extend(hinted().copied()).is_err() {
+            tell(&rt)?;
+            assert!(rt; has_all_that_fit(&map), "hint {hint}");
+            map.extend(hinted().copied())?;
+        }
+        assert!(rt; has_pairs(map.as_slice(), EXTENDED), "hint {hint}");
+    }
+    Ok(())
 }
 
 #[test]
-fn extend_refs_puts_the_pairs_before_the_refused_one(rt: HostRuntime) {
-    let Ok(mut map) = full_map(rt.alloc(), 2) else {
-        return;
-    };
-    let room = map.capacity();
-    let granted = map
-        .extend_refs(MORE.iter().map(|pair| (&pair.0, &pair.1)))
-        .is_ok();
-    assert_extended(&rt, &map, room, granted);
+fn extend_pairs_puts_the_pairs_before_the_refused_one(rt: HostRuntime) -> Result<(), Fail> {
+    let items = more();
+    for hint in [0, 4] {
+        let hinted = || Hinted {
+            items: &items,
+            hint,
+        };
+        let mut map = make(&rt, || full_map(rt.alloc(), FULL))?;
+        if map.extend_pairs(hinted()).is_err() {
+            tell(&rt)?;
+            assert!(rt; has_all_that_fit(&map), "hint {hint}");
+            map.extend_pairs(hinted())?;
+        }
+        assert!(rt; has_pairs(map.as_slice(), EXTENDED), "hint {hint}");
+    }
+    Ok(())
 }
 
 #[test]
-fn making_of_many_pairs_makes_all_or_nothing(rt: HostRuntime) {
-    let pairs = [(1, 10), (2, 20), (1, 30)];
-    if let Ok(map) = VecMap::from_iter(rt.alloc(), pairs) {
-        assert_eq!(rt; map.as_slice(), [(1, 30), (2, 20)].as_slice());
+fn extend_refs_puts_the_pairs_before_the_refused_one(rt: HostRuntime) -> Result<(), Fail> {
+    let items = more();
+    for hint in [0, 4] {
+        let lent = || {
+            let items = &items;
+            Hinted { items, hint }.map(|pair| (&pair.0, &pair.1))
+        };
+        let mut map = make(&rt, || full_map(rt.alloc(), FULL))?;
+        if map.extend_refs(lent()).is_err() {
+            tell(&rt)?;
+            assert!(rt; has_all_that_fit(&map), "hint {hint}");
+            map.extend_refs(lent())?;
+        }
+        assert!(rt; has_pairs(map.as_slice(), EXTENDED), "hint {hint}");
     }
-    if let Ok(map) = VecMap::from_slice(rt.alloc(), &pairs) {
-        assert_eq!(rt; map.as_slice(), [(1, 30), (2, 20)].as_slice());
-    }
-    let collected: Result<VecMap<u32, u32>, _> = pairs.iter().copied().collect(rt.alloc());
-    if let Ok(map) = collected {
-        assert_eq!(rt; map.as_slice(), [(1, 30), (2, 20)].as_slice());
-    }
+    Ok(())
+}
+
+#[test]
+fn making_of_many_pairs_makes_all_or_nothing(rt: HostRuntime) -> Result<(), Fail> {
+    let pairs = more();
+    let all = [
+        (7, 'p', 70),
+        (1, 'z', 15),
+        (8, 'r', 80),
+        (9, 's', 90),
+        (10, 't', 100),
+        (11, 'u', 110),
+    ];
+    let map = make(&rt, || VecMap::from_iter(rt.alloc(), pairs))?;
+    assert!(rt; has_pairs(map.as_slice(), &all));
+    let map = make(&rt, || VecMap::from_slice(rt.alloc(), &pairs))?;
+    assert!(rt; has_pairs(map.as_slice(), &all));
+    let map: VecMap<Item, u32> = make(&rt, || pairs.iter().copied().collect(rt.alloc()))?;
+    assert!(rt; has_pairs(map.as_slice(), &all));
+    Ok(())
 }

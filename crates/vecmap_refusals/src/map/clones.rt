@@ -1,79 +1,73 @@
 //! Clones of keys and values that need memory of their own.
+use crate::telling::{make, tell};
+use std::test::Fail;
 use vecmap::VecMap;
 use vecmap_fixtures::{has_text_pairs, text_map};
 
 const TEXTS: &[(&str, &str)] = &[("b", "2"), ("a", "1")];
 
 #[test]
-fn clone_leaves_the_source(rt: HostRuntime) {
-    let Ok(map) = text_map(rt.alloc(), TEXTS) else {
-        return;
-    };
+fn clone_leaves_the_source(rt: HostRuntime) -> Result<(), Fail> {
+    let map = make(&rt, || text_map(rt.alloc(), TEXTS))?;
     let room = map.capacity();
-    if let Ok(copy) = map.clone() {
-        assert!(rt; has_text_pairs(copy.as_slice(), TEXTS));
-    }
-    assert!(rt; has_text_pairs(map.as_slice(), TEXTS));
-    assert_eq!(rt; map.capacity(), room);
+    let copy = make(&rt, || map.clone())?;
+    assert!(rt; has_text_pairs(copy.as_slice(), TEXTS));
+    assert!(rt; has_text_pairs(map.as_slice(), TEXTS) && map.capacity() == room);
+    Ok(())
 }
 
 #[test]
-fn to_vec_leaves_the_source(rt: HostRuntime) {
-    let Ok(map) = text_map(rt.alloc(), TEXTS) else {
-        return;
-    };
+fn to_vec_leaves_the_source(rt: HostRuntime) -> Result<(), Fail> {
+    let map = make(&rt, || text_map(rt.alloc(), TEXTS))?;
     let room = map.capacity();
-    if let Ok(copies) = map.to_vec() {
-        assert!(rt; has_text_pairs(copies.as_slice(), TEXTS));
-    }
+    let copies = make(&rt, || map.to_vec())?;
+    assert!(rt; has_text_pairs(copies.as_slice(), TEXTS));
+    assert!(rt; has_text_pairs(map.as_slice(), TEXTS) && map.capacity() == room);
+    Ok(())
+}
+
+#[test]
+fn from_slice_leaves_the_source(rt: HostRuntime) -> Result<(), Fail> {
+    let map = make(&rt, || text_map(rt.alloc(), TEXTS))?;
+    let copy = make(&rt, || VecMap::from_slice(rt.alloc(), map.as_slice()))?;
+    assert!(rt; has_text_pairs(copy.as_slice(), TEXTS));
     assert!(rt; has_text_pairs(map.as_slice(), TEXTS));
-    assert_eq!(rt; map.capacity(), room);
+    Ok(())
+}
+
+const MORE: &[(&str, &str)] = &[("b", "2"), ("a", "3")];
+
+const ALL: &[(&str, &str)] = &[("a", "3"), ("b", "2")];
+
+// Whether some of the clones are put, each after those before it.
+fn has_some(map: &VecMap<String, String>) -> bool {
+    has_text_pairs(map.as_slice(), &[("a", "1")])
+        || has_text_pairs(map.as_slice(), &[("a", "1"), ("b", "2")])
 }
 
 #[test]
-fn from_slice_leaves_the_source(rt: HostRuntime) {
-    let Ok(map) = text_map(rt.alloc(), TEXTS) else {
-        return;
-    };
-    if let Ok(copy) = VecMap::from_slice(rt.alloc(), map.as_slice()) {
-        assert!(rt; has_text_pairs(copy.as_slice(), TEXTS));
+fn extend_pairs_puts_the_clones_before_the_refused_one(rt: HostRuntime) -> Result<(), Fail> {
+    let mut map = make(&rt, || text_map(rt.alloc(), &[("a", "1")]))?;
+    let more = make(&rt, || text_map(rt.alloc(), MORE))?;
+    if map.extend_pairs(more.as_slice()).is_err() {
+        tell(&rt)?;
+        assert!(rt; has_some(&map));
+        map.extend_pairs(more.as_slice())?;
     }
-    assert!(rt; has_text_pairs(map.as_slice(), TEXTS));
+    assert!(rt; has_text_pairs(map.as_slice(), ALL) && has_text_pairs(more.as_slice(), MORE));
+    Ok(())
 }
 
 #[test]
-fn extend_pairs_puts_the_clones_before_the_refused_one(rt: HostRuntime) {
-    let (Ok(mut map), Ok(more)) = (
-        text_map(rt.alloc(), &[("a", "1")]),
-        text_map(rt.alloc(), &[("b", "2"), ("a", "3")]),
-    ) else {
-        return;
-    };
-    if map.extend_pairs(more.as_slice()).is_ok() {
-        assert!(rt; has_text_pairs(map.as_slice(), &[("a", "3"), ("b", "2")]));
-    } else if map.len() == 1 {
-        assert!(rt; has_text_pairs(map.as_slice(), &[("a", "1")]));
-    } else {
-        assert!(rt; has_text_pairs(map.as_slice(), &[("a", "1"), ("b", "2")]));
+fn extend_refs_puts_the_clones_before_the_refused_one(rt: HostRuntime) -> Result<(), Fail> {
+    let mut map = make(&rt, || text_map(rt.alloc(), &[("a", "1")]))?;
+    let more = make(&rt, || text_map(rt.alloc(), MORE))?;
+    let lent = || more.as_slice().iter().map(|pair| (&pair.0, &pair.1));
+    if map.extend_refs(lent()).is_err() {
+        tell(&rt)?;
+        assert!(rt; has_some(&map));
+        map.extend_refs(lent())?;
     }
-    assert!(rt; has_text_pairs(more.as_slice(), &[("b", "2"), ("a", "3")]));
-}
-
-#[test]
-fn extend_refs_puts_the_clones_before_the_refused_one(rt: HostRuntime) {
-    let (Ok(mut map), Ok(more)) = (
-        text_map(rt.alloc(), &[("a", "1")]),
-        text_map(rt.alloc(), &[("b", "2"), ("a", "3")]),
-    ) else {
-        return;
-    };
-    let lent = more.as_slice().iter().map(|pair| (&pair.0, &pair.1));
-    if map.extend_refs(lent).is_ok() {
-        assert!(rt; has_text_pairs(map.as_slice(), &[("a", "3"), ("b", "2")]));
-    } else if map.len() == 1 {
-        assert!(rt; has_text_pairs(map.as_slice(), &[("a", "1")]));
-    } else {
-        assert!(rt; has_text_pairs(map.as_slice(), &[("a", "1"), ("b", "2")]));
-    }
-    assert!(rt; has_text_pairs(more.as_slice(), &[("b", "2"), ("a", "3")]));
+    assert!(rt; has_text_pairs(map.as_slice(), ALL) && has_text_pairs(more.as_slice(), MORE));
+    Ok(())
 }

@@ -1,185 +1,174 @@
 //! Entries of a map that is full.
+use crate::telling::{make, tell};
 use std::process::Abort;
+use std::test::Fail;
 use vecmap::map::{Entry, VecMap};
-use vecmap_fixtures::full_map;
+use vecmap_fixtures::{Item, full_map, has_pairs, make_item};
 
-const FULL: &[(u32, u32)] = &[(0, 10), (1, 11)];
+const FULL: &[(u32, char, u32)] = &[(1, 'a', 10), (2, 'b', 20)];
 
-// Granted, the new pair stands last; refused, nothing has changed.
-fn assert_left(rt: &impl Abort, map: &VecMap<u32, u32>, room: usize, granted: bool) {
-    if granted {
-        assert_eq!(rt; map.as_slice(), [(0, 10), (1, 11), (7, 70)].as_slice());
-    } else {
-        assert_eq!(rt; map.as_slice(), FULL);
-        assert_eq!(rt; map.capacity(), room);
+// What a call answers that puts a pair: the value that it lends, or the pair that comes back.
+type Put = Result<u32, (Item, u32)>;
+
+// Refused, nothing has changed, and the call is made once more with the pair that came back. Granted, the new pair
+// stands last.
+fn check<R: Abort + Print, F: Fn(&mut VecMap<Item, u32>, Item, u32) -> Put>(
+    rt: &R,
+    mut map: VecMap<Item, u32>,
+    call: F,
+) -> Result<(), Fail>
+    requires { F.IsAlwaysCallable call }
+{
+    let value = match call(&mut map, make_item(7, 'x'), 70) {
+        Ok(value) => value,
+        Err((key, value)) => {
+            tell(rt)?;
+            assert!(rt; has_pairs(map.as_slice(), FULL) && map.capacity() == 2);
+            call(&mut map, key, value).or(Err("refused again"))?
+        }
+    };
+    assert_eq!(rt; value, 70);
+    assert!(rt; has_pairs(map.as_slice(), &[(1, 'a', 10), (2, 'b', 20), (7, 'x', 70)]));
+    Ok(())
+}
+
+fn or_insert(map: &mut VecMap<Item, u32>, key: Item, value: u32) -> Put {
+    match map.entry(key).or_insert(value) {
+        Ok(value) => Ok(*value),
+        Err(refused) => Err(refused.given),
     }
 }
 
 #[test]
-fn or_insert_gives_the_pair_back(rt: HostRuntime) {
-    let Ok(mut map) = full_map(rt.alloc(), 2) else {
-        return;
-    };
-    let room = map.capacity();
-    let granted = match map.entry(7).or_insert(70) {
-        Ok(value) => *value == 70,
-        Err(refused) => {
-            assert_eq!(rt; refused.given, (7, 70));
-            false
-        }
-    };
-    assert_left(&rt, &map, room, granted);
+fn or_insert_gives_the_pair_back(rt: HostRuntime) -> Result<(), Fail> {
+    let map = make(&rt, || full_map(rt.alloc(), FULL))?;
+    check(&rt, map, or_insert)
 }
 
-#[test]
-fn or_insert_with_gives_back_what_was_made(rt: HostRuntime) {
-    let Ok(mut map) = full_map(rt.alloc(), 2) else {
-        return;
-    };
-    let room = map.capacity();
-    let granted = match map.entry(7).or_insert_with(|| 70) {
-        Ok(value) => *value == 70,
-        Err(refused) => {
-            assert_eq!(rt; refused.given, (7, 70));
-            false
-        }
-    };
-    assert_left(&rt, &map, room, granted);
-}
-
-#[test]
-fn or_insert_with_key_gives_back_what_was_made(rt: HostRuntime) {
-    let Ok(mut map) = full_map(rt.alloc(), 2) else {
-        return;
-    };
-    let room = map.capacity();
-    let made = map.entry(7).or_insert_with_key(|key| key.wrapping_mul(10));
-    let granted = match made {
-        Ok(value) => *value == 70,
-        Err(refused) => {
-            assert_eq!(rt; refused.given, (7, 70));
-            false
-        }
-    };
-    assert_left(&rt, &map, room, granted);
-}
-
-#[test]
-fn or_default_gives_back_the_default(rt: HostRuntime) {
-    let Ok(mut map) = full_map(rt.alloc(), 2) else {
-        return;
-    };
-    let room = map.capacity();
-    let granted = match map.entry(7).or_default() {
-        Ok(value) => {
-            assert_eq!(rt; *value, 0);
-            *value = 70;
-            true
-        }
-        Err(refused) => {
-            assert_eq!(rt; refused.given, (7, 0));
-            false
-        }
-    };
-    assert_left(&rt, &map, room, granted);
-}
-
-#[test]
-fn a_vacant_entry_gives_the_pair_back(rt: HostRuntime) {
-    let Ok(mut map) = full_map(rt.alloc(), 2) else {
-        return;
-    };
-    let room = map.capacity();
-    let Entry::Vacant(entry) = map.entry(7) else {
-        return;
-    };
-    let granted = match entry.insert(70) {
-        Ok(value) => *value == 70,
-        Err(refused) => {
-            assert_eq!(rt; refused.given, (7, 70));
-            false
-        }
-    };
-    assert_left(&rt, &map, room, granted);
-}
-
-#[test]
-fn insert_entry_of_a_vacant_entry_gives_the_pair_back(rt: HostRuntime) {
-    let Ok(mut map) = full_map(rt.alloc(), 2) else {
-        return;
-    };
-    let room = map.capacity();
-    let Entry::Vacant(entry) = map.entry(7) else {
-        return;
-    };
-    let granted = match entry.insert_entry(70) {
-        Ok(entry) => {
-            assert_eq!(rt; entry.index(), 2);
-            entry.into_key() == 7
-        }
-        Err(refused) => {
-            assert_eq!(rt; refused.given, (7, 70));
-            false
-        }
-    };
-    assert_left(&rt, &map, room, granted);
-}
-
-#[test]
-fn insert_entry_gives_the_pair_back(rt: HostRuntime) {
-    let Ok(mut map) = full_map(rt.alloc(), 2) else {
-        return;
-    };
-    let room = map.capacity();
-    let granted = match map.entry(7).insert_entry(70) {
-        Ok(entry) => {
-            assert_eq!(rt; entry.index(), 2);
-            entry.into_key() == 7
-        }
-        Err(refused) => {
-            assert_eq!(rt; refused.given, (7, 70));
-            false
-        }
-    };
-    assert_left(&rt, &map, room, granted);
-}
-
-#[test]
-fn a_clone_without_memory_gives_the_pair_back(rt: HostRuntime) {
-    let mut map: VecMap<String, u32> = VecMap::new(rt.alloc());
-    if map.reserve_exact(1).is_err() {
-        return;
+fn or_insert_with(map: &mut VecMap<Item, u32>, key: Item, value: u32) -> Put {
+    match map.entry(key).or_insert_with(|| value) {
+        Ok(value) => Ok(*value),
+        Err(refused) => Err(refused.given),
     }
-    let room = map.capacity();
-    let Ok(key) = String::from_str(rt.alloc(), "key") else {
-        return;
-    };
-    match map.entry(key).insert_entry(7) {
-        Ok(entry) => {
-            assert_eq!(rt; entry.key().as_str(), "key");
-            assert_eq!(rt; entry.index(), 0);
-            entry.into_key();
-            assert_eq!(rt; map.get_str("key").copied(), Some(7));
-        }
-        Err(refused) => {
-            assert_eq!(rt; (refused.given.0.as_str(), refused.given.1), ("key", 7));
-            assert!(rt; map.is_empty());
-        }
-    }
-    assert_eq!(rt; map.capacity(), room);
 }
 
 #[test]
-fn an_occupied_entry_is_never_refused(rt: HostRuntime) {
-    let Ok(mut map) = full_map(rt.alloc(), 2) else {
-        return;
+fn or_insert_with_gives_back_what_was_made(rt: HostRuntime) -> Result<(), Fail> {
+    let map = make(&rt, || full_map(rt.alloc(), FULL))?;
+    check(&rt, map, or_insert_with)
+}
+
+fn or_insert_with_key(map: &mut VecMap<Item, u32>, key: Item, _value: u32) -> Put {
+    let made = map
+        .entry(key)
+        .or_insert_with_key(|key| key.number.wrapping_mul(10));
+    match made {
+        Ok(value) => Ok(*value),
+        Err(refused) => Err(refused.given),
+    }
+}
+
+#[test]
+fn or_insert_with_key_gives_back_what_was_made(rt: HostRuntime) -> Result<(), Fail> {
+    let map = make(&rt, || full_map(rt.alloc(), FULL))?;
+    check(&rt, map, or_insert_with_key)
+}
+
+// The default is 0, over which the value is written.
+fn or_default(map: &mut VecMap<Item, u32>, key: Item, value: u32) -> Put {
+    match map.entry(key).or_default() {
+        Ok(stored) => {
+            let default = *stored;
+            *stored = value;
+            Ok(default.wrapping_add(value))
+        }
+        Err(refused) => Err((refused.given.0, refused.given.1.wrapping_add(value))),
+    }
+}
+
+#[test]
+fn or_default_gives_back_the_default(rt: HostRuntime) -> Result<(), Fail> {
+    let map = make(&rt, || full_map(rt.alloc(), FULL))?;
+    check(&rt, map, or_default)
+}
+
+fn insert(map: &mut VecMap<Item, u32>, key: Item, value: u32) -> Put {
+    let Entry::Vacant(entry) = map.entry(key) else {
+        return Ok(0);
     };
+    match entry.insert(value) {
+        Ok(value) => Ok(*value),
+        Err(refused) => Err(refused.given),
+    }
+}
+
+#[test]
+fn a_vacant_entry_gives_the_pair_back(rt: HostRuntime) -> Result<(), Fail> {
+    let map = make(&rt, || full_map(rt.alloc(), FULL))?;
+    check(&rt, map, insert)
+}
+
+fn insert_vacant(map: &mut VecMap<Item, u32>, key: Item, value: u32) -> Put {
+    let Entry::Vacant(entry) = map.entry(key) else {
+        return Ok(0);
+    };
+    match entry.insert_entry(value) {
+        Ok(entry) => Ok(*entry.into_mut()),
+        Err(refused) => Err(refused.given),
+    }
+}
+
+#[test]
+fn insert_entry_of_a_vacant_entry_gives_the_pair_back(rt: HostRuntime) -> Result<(), Fail> {
+    let map = make(&rt, || full_map(rt.alloc(), FULL))?;
+    check(&rt, map, insert_vacant)
+}
+
+fn insert_entry(map: &mut VecMap<Item, u32>, key: Item, value: u32) -> Put {
+    match map.entry(key).insert_entry(value) {
+        Ok(entry) => Ok(*entry.into_mut()),
+        Err(refused) => Err(refused.given),
+    }
+}
+
+#[test]
+fn insert_entry_gives_the_pair_back(rt: HostRuntime) -> Result<(), Fail> {
+    let map = make(&rt, || full_map(rt.alloc(), FULL))?;
+    check(&rt, map, insert_entry)
+}
+
+#[test]
+fn a_clone_without_memory_gives_the_pair_back(rt: HostRuntime) -> Result<(), Fail> {
+    let mut map = make(&rt, || VecMap::with_capacity(rt.alloc(), 1))?;
     let room = map.capacity();
-    assert!(rt; matches!(map.entry(0).or_insert(1), Ok(10)));
-    assert!(rt; matches!(map.entry(0).or_insert_with(|| 1), Ok(10)));
-    assert!(rt; matches!(map.entry(0).or_insert_with_key(|_| 1), Ok(10)));
-    assert!(rt; matches!(map.entry(0).or_default(), Ok(10)));
-    assert!(rt; map.entry(0).insert_entry(20).is_ok());
-    assert_eq!(rt; map.as_slice(), [(0, 20), (1, 11)].as_slice());
-    assert_eq!(rt; map.capacity(), room);
+    let key = make(&rt, || String::from_str(rt.alloc(), "key"))?;
+    let given = match map.entry(key).insert_entry(7) {
+        Ok(entry) => {
+            assert!(rt; entry.key().as_str() == "key" && entry.index() == 0);
+            None
+        }
+        Err(refused) => Some(refused.given),
+    };
+    if let Some((key, value)) = given {
+        tell(&rt)?;
+        assert!(rt; map.is_empty() && map.capacity() == room);
+        map.entry(key).insert_entry(value)?.into_key();
+    }
+    assert_eq!(rt; (map.len(), map.capacity()), (1, room));
+    assert_eq!(rt; map.get_str("key").copied(), Some(7));
+    Ok(())
+}
+
+#[test]
+fn an_occupied_entry_is_never_refused(rt: HostRuntime) -> Result<(), Fail> {
+    let mut map = make(&rt, || full_map(rt.alloc(), FULL))?;
+    let key = make_item(1, 'z');
+    assert!(rt; matches!(map.entry(key).or_insert(1), Ok(10)));
+    assert!(rt; matches!(map.entry(key).or_insert_with(|| 1), Ok(10)));
+    assert!(rt; matches!(map.entry(key).or_insert_with_key(|_| 1), Ok(10)));
+    assert!(rt; matches!(map.entry(key).or_default(), Ok(10)));
+    assert!(rt; map.entry(key).insert_entry(20).is_ok());
+    assert!(rt; has_pairs(map.as_slice(), &[(1, 'a', 20), (2, 'b', 20)]));
+    assert_eq!(rt; map.capacity(), 2);
+    Ok(())
 }

@@ -1,75 +1,73 @@
 //! Insertion into a map that is full.
-use vecmap_fixtures::full_map;
+use crate::telling::{make, tell};
+use std::test::Fail;
+use vecmap::VecMap;
+use vecmap_fixtures::{Item, full_map, has_pairs, make_item};
 
-const FULL: &[(u32, u32)] = &[(0, 10), (1, 11)];
+const FULL: &[(u32, char, u32)] = &[(1, 'a', 10), (2, 'b', 20)];
 
-#[test]
-fn insert_gives_the_pair_back(rt: HostRuntime) {
-    let Ok(mut map) = full_map(rt.alloc(), 2) else {
-        return;
-    };
-    let room = map.capacity();
-    match map.insert(7, 70) {
-        Ok(old) => {
-            assert_eq!(rt; old, None);
-            assert_eq!(rt; map.as_slice(), [(0, 10), (1, 11), (7, 70)].as_slice());
-        }
-        Err(refused) => {
-            assert_eq!(rt; refused.given, (7, 70));
-            assert_eq!(rt; map.as_slice(), FULL);
-            assert_eq!(rt; map.capacity(), room);
-        }
-    }
+// Whether nothing has changed.
+fn is_full(map: &VecMap<Item, u32>) -> bool {
+    has_pairs(map.as_slice(), FULL) && map.capacity() == 2
 }
 
 #[test]
-fn insert_full_gives_the_pair_back(rt: HostRuntime) {
-    let Ok(mut map) = full_map(rt.alloc(), 2) else {
-        return;
-    };
-    let room = map.capacity();
-    match map.insert_full(7, 70) {
-        Ok(done) => {
-            assert_eq!(rt; done, (2, None));
-            assert_eq!(rt; map.as_slice(), [(0, 10), (1, 11), (7, 70)].as_slice());
-        }
+fn insert_gives_the_pair_back(rt: HostRuntime) -> Result<(), Fail> {
+    let mut map = make(&rt, || full_map(rt.alloc(), FULL))?;
+    let old = match map.insert(make_item(7, 'x'), 70) {
+        Ok(old) => old,
         Err(refused) => {
-            assert_eq!(rt; refused.given, (7, 70));
-            assert_eq!(rt; map.as_slice(), FULL);
-            assert_eq!(rt; map.capacity(), room);
+            tell(&rt)?;
+            assert!(rt; is_full(&map));
+            map.insert(refused.given.0, refused.given.1)?
         }
-    }
+    };
+    assert_eq!(rt; old, None);
+    assert!(rt; has_pairs(map.as_slice(), &[(1, 'a', 10), (2, 'b', 20), (7, 'x', 70)]));
+    Ok(())
 }
 
 #[test]
-fn insert_at_gives_the_pair_back(rt: HostRuntime) {
-    let Ok(mut map) = full_map(rt.alloc(), 2) else {
-        return;
-    };
-    let room = map.capacity();
-    match map.insert_at(0, 7, 70) {
-        Ok(old) => {
-            assert_eq!(rt; old, None);
-            assert_eq!(rt; map.as_slice(), [(7, 70), (0, 10), (1, 11)].as_slice());
-        }
+fn insert_full_gives_the_pair_back(rt: HostRuntime) -> Result<(), Fail> {
+    let mut map = make(&rt, || full_map(rt.alloc(), FULL))?;
+    let done = match map.insert_full(make_item(7, 'x'), 70) {
+        Ok(done) => done,
         Err(refused) => {
-            assert_eq!(rt; refused.given, (7, 70));
-            assert_eq!(rt; map.as_slice(), FULL);
-            assert_eq!(rt; map.capacity(), room);
+            tell(&rt)?;
+            assert!(rt; is_full(&map));
+            map.insert_full(refused.given.0, refused.given.1)?
         }
-    }
+    };
+    assert_eq!(rt; done, (2, None));
+    assert!(rt; has_pairs(map.as_slice(), &[(1, 'a', 10), (2, 'b', 20), (7, 'x', 70)]));
+    Ok(())
 }
 
 #[test]
-fn a_present_key_is_never_refused(rt: HostRuntime) {
-    let Ok(mut map) = full_map(rt.alloc(), 2) else {
-        return;
+fn insert_at_gives_the_pair_back(rt: HostRuntime) -> Result<(), Fail> {
+    let mut map = make(&rt, || full_map(rt.alloc(), FULL))?;
+    let old = match map.insert_at(0, make_item(7, 'x'), 70) {
+        Ok(old) => old,
+        Err(refused) => {
+            tell(&rt)?;
+            assert!(rt; is_full(&map));
+            map.insert_at(0, refused.given.0, refused.given.1)?
+        }
     };
-    let room = map.capacity();
-    assert!(rt; matches!(map.insert(0, 1), Ok(Some(10))));
-    assert!(rt; matches!(map.insert_full(0, 2), Ok((0, Some(1)))));
-    assert!(rt; 2 <= map.len());
-    assert!(rt; matches!(map.insert_at(2, 0, 3), Ok(Some((0, 2)))));
-    assert_eq!(rt; map.as_slice(), [(1, 11), (0, 3)].as_slice());
-    assert_eq!(rt; map.capacity(), room);
+    assert_eq!(rt; old, None);
+    assert!(rt; has_pairs(map.as_slice(), &[(7, 'x', 70), (1, 'a', 10), (2, 'b', 20)]));
+    Ok(())
+}
+
+#[test]
+fn an_equal_key_is_never_refused(rt: HostRuntime) -> Result<(), Fail> {
+    let mut map = make(&rt, || full_map(rt.alloc(), FULL))?;
+    assert!(rt; matches!(map.insert(make_item(1, 'x'), 1), Ok(Some(10))));
+    assert!(rt; matches!(map.insert_full(make_item(1, 'y'), 2), Ok((0, Some(1)))));
+    assert!(rt; has_pairs(map.as_slice(), &[(1, 'a', 2), (2, 'b', 20)]));
+    assert_eq!(rt; map.len(), 2);
+    assert!(rt; matches!(map.insert_at(2, make_item(1, 'z'), 3), Ok(Some((0, 2)))));
+    assert!(rt; has_pairs(map.as_slice(), &[(2, 'b', 20), (1, 'z', 3)]));
+    assert_eq!(rt; map.capacity(), 2);
+    Ok(())
 }

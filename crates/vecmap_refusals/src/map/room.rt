@@ -1,66 +1,78 @@
 //! Room for a map.
+use crate::telling::{make, tell};
+use std::test::Fail;
 use vecmap::VecMap;
-use vecmap_fixtures::full_map;
+use vecmap_fixtures::{full_map, has_pairs, make_item};
 
-const FULL: &[(u32, u32)] = &[(0, 10), (1, 11)];
+const FULL: &[(u32, char, u32)] = &[(1, 'a', 10), (2, 'b', 20)];
 
 #[test]
-fn with_capacity_makes_all_the_room_or_nothing(rt: HostRuntime) {
-    let made: Result<VecMap<u32, u32>, _> = VecMap::with_capacity(rt.alloc(), 3);
-    if let Ok(map) = made {
-        assert!(rt; map.is_empty() && 3 <= map.capacity());
-    }
+fn with_capacity_makes_all_the_room_or_nothing(rt: HostRuntime) -> Result<(), Fail> {
+    let map: VecMap<u32, u32> = make(&rt, || VecMap::with_capacity(rt.alloc(), 3))?;
+    assert!(rt; map.is_empty() && 3 <= map.capacity());
+    Ok(())
 }
 
 #[test]
-fn the_reserving_calls_leave_all_as_before(rt: HostRuntime) {
-    let Ok(mut map) = full_map(rt.alloc(), 2) else {
-        return;
-    };
+fn the_reserving_calls_leave_all_as_before(rt: HostRuntime) -> Result<(), Fail> {
     for call in 0..4 {
-        let room = map.capacity();
-        let granted = match call {
-            0 => map.reserve(room).is_ok(),
-            1 => map.reserve_exact(room).is_ok(),
-            2 => map.try_reserve(room).is_ok(),
-            _ => map.try_reserve_exact(room).is_ok(),
-        };
-        if granted {
-            assert!(rt; room.saturating_add(2) <= map.capacity());
-        } else {
-            assert_eq!(rt; map.capacity(), room);
+        let mut map = make(&rt, || full_map(rt.alloc(), FULL))?;
+        for is_again in [false, true] {
+            let granted = match call {
+                0 => map.reserve(2).is_ok(),
+                1 => map.reserve_exact(2).is_ok(),
+                2 => map.try_reserve(2).is_ok(),
+                _ => map.try_reserve_exact(2).is_ok(),
+            };
+            assert!(rt; has_pairs(map.as_slice(), FULL), "call {call}");
+            if granted {
+                assert!(rt; 4 <= map.capacity(), "call {call}");
+            } else {
+                tell(&rt)?;
+                assert!(rt; !is_again && map.capacity() == 2, "call {call}");
+            }
         }
-        assert_eq!(rt; map.as_slice(), FULL);
     }
+    Ok(())
 }
 
 #[test]
-fn shrinking_without_memory_keeps_the_list(rt: HostRuntime) {
-    let Ok(mut map) = full_map(rt.alloc(), 2) else {
-        return;
-    };
+fn shrinking_without_memory_keeps_the_list(rt: HostRuntime) -> Result<(), Fail> {
+    let mut map = make(&rt, || full_map(rt.alloc(), FULL))?;
     if map.reserve_exact(8).is_err() {
-        return;
+        tell(&rt)?;
+        map.reserve_exact(8)?;
     }
     map.shrink_to(5);
-    assert!(rt; 5 <= map.capacity() && map.capacity() <= 10);
-    assert_eq!(rt; map.as_slice(), FULL);
+    if map.capacity() != 5 {
+        tell(&rt)?;
+        assert!(rt; has_pairs(map.as_slice(), FULL) && map.capacity() == 10);
+        map.shrink_to(5);
+    }
+    assert!(rt; has_pairs(map.as_slice(), FULL) && map.capacity() == 5);
     map.shrink_to_fit();
-    assert!(rt; 2 <= map.capacity());
-    assert_eq!(rt; map.as_slice(), FULL);
+    if map.capacity() != 2 {
+        tell(&rt)?;
+        assert!(rt; has_pairs(map.as_slice(), FULL) && map.capacity() == 5);
+        map.shrink_to_fit();
+    }
+    assert!(rt; has_pairs(map.as_slice(), FULL) && map.capacity() == 2);
+    Ok(())
 }
 
 #[test]
-fn reserved_room_takes_inserts_without_memory(rt: HostRuntime) {
+fn reserved_room_takes_inserts_without_memory(rt: HostRuntime) -> Result<(), Fail> {
     let mut map = VecMap::new(rt.alloc());
     if map.reserve(3).is_err() {
+        tell(&rt)?;
         assert_eq!(rt; (map.len(), map.capacity()), (0, 0));
-        return;
+        map.reserve(3)?;
     }
     let room = map.capacity();
     for number in 0..3u32 {
-        assert!(rt; matches!(map.insert(number, number), Ok(None)));
+        assert!(rt; matches!(map.insert(make_item(number, 'a'), number), Ok(None)));
     }
-    assert_eq!(rt; map.as_slice(), [(0, 0), (1, 1), (2, 2)].as_slice());
+    assert!(rt; has_pairs(map.as_slice(), &[(0, 'a', 0), (1, 'a', 1), (2, 'a', 2)]));
     assert_eq!(rt; map.capacity(), room);
+    Ok(())
 }

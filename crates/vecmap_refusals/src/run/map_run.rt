@@ -1,92 +1,111 @@
 //! Runs of commands.
+use crate::telling::{make, tell};
 use std::alloc::{AllocError, Global};
-use vecmap::{MapCommand, MapReply, run};
-use vecmap_fixtures::{full_map, has_text_pairs, text_map};
+use std::test::Fail;
+use vecmap::{MapCommand, MapReply, VecMap, run};
+use vecmap_fixtures::{Item, full_map, has_pairs, has_text_pairs, make_item, text_map};
 
-const FULL: &[(u32, u32)] = &[(0, 10), (1, 11)];
+const FULL: &[(u32, char, u32)] = &[(1, 'a', 10), (2, 'b', 20)];
 
-const TEXTS: &[(&str, &str)] = &[("b", "2"), ("a", "1")];
-
-fn commands(alloc: Global) -> Result<Vec<MapCommand<u32, u32>>, AllocError> {
+fn commands(alloc: Global) -> Result<Vec<MapCommand<Item, u32>>, AllocError> {
     let mut commands = Vec::with_capacity(alloc, 3)?;
-    commands.push(MapCommand::Insert(7, 70))?;
-    commands.push(MapCommand::Insert(0, 20))?;
+    commands.push(MapCommand::Insert(make_item(7, 'x'), 70))?;
+    commands.push(MapCommand::Insert(make_item(1, 'z'), 30))?;
     commands.push(MapCommand::Len)?;
     Ok(commands)
 }
 
-#[test]
-fn a_run_goes_on_after_a_refused_command(rt: HostRuntime) {
-    let Ok(mut map) = full_map(rt.alloc(), 2) else {
-        return;
-    };
-    let Ok(commands) = commands(rt.alloc()) else {
-        return;
-    };
-    match run(rt.alloc(), &mut map, commands) {
-        Err(AllocError) => assert_eq!(rt; map.as_slice(), FULL),
-        Ok(replies) => match replies.as_slice() {
-            [
-                MapReply::NoMemory,
-                MapReply::Value(Some(10)),
-                MapReply::Number(2),
-            ] => {
-                assert_eq!(rt; map.as_slice(), [(0, 20), (1, 11)].as_slice());
-            }
-            [
-                MapReply::Value(None),
-                MapReply::Value(Some(10)),
-                MapReply::Number(3),
-            ] => {
-                assert_eq!(rt; map.as_slice(), [(0, 20), (1, 11), (7, 70)].as_slice());
-            }
-            _ => assert!(rt; false, "{replies:?}"),
-        },
-    }
+// Whether all commands are answered and done.
+fn has_all(replies: &[MapReply<Item, u32>], map: &VecMap<Item, u32>) -> bool {
+    matches!(
+        replies,
+        [
+            MapReply::Value(None),
+            MapReply::Value(Some(10)),
+            MapReply::Number(3)
+        ]
+    ) && has_pairs(map.as_slice(), &[(1, 'a', 30), (2, 'b', 20), (7, 'x', 70)])
+}
+
+// Whether the first command is refused, and the others are answered and done.
+fn has_all_but_the_first(replies: &[MapReply<Item, u32>], map: &VecMap<Item, u32>) -> bool {
+    matches!(
+        replies,
+        [
+            MapReply::NoMemory,
+            MapReply::Value(Some(10)),
+            MapReply::Number(2)
+        ]
+    ) && has_pairs(map.as_slice(), &[(1, 'a', 30), (2, 'b', 20)])
+        && map.capacity() == 2
 }
 
 #[test]
-fn a_get_whose_clone_is_refused_answers_no_memory(rt: HostRuntime) {
-    let Ok(mut map) = text_map(rt.alloc(), TEXTS) else {
-        return;
-    };
-    let (Ok(key), mut commands) = (String::from_str(rt.alloc(), "a"), Vec::new(rt.alloc())) else {
-        return;
-    };
-    if commands.push(MapCommand::Get(key)).is_err() {
-        return;
-    }
-    if let Ok(replies) = run(rt.alloc(), &mut map, commands) {
-        assert_eq!(rt; replies.len(), 1);
-        for reply in &replies {
-            match reply {
-                MapReply::NoMemory => {}
-                MapReply::Value(Some(value)) => assert_eq!(rt; value.as_str(), "1"),
-                _ => assert!(rt; false, "{reply:?}"),
-            }
+fn a_run_goes_on_after_a_refused_command(rt: HostRuntime) -> Result<(), Fail> {
+    let mut is_refused = false;
+    for _ in 0..2 {
+        let mut map = make(&rt, || full_map(rt.alloc(), FULL))?;
+        let commands = make(&rt, || commands(rt.alloc()))?;
+        match run(rt.alloc(), &mut map, commands) {
+            Ok(replies) if has_all(&replies, &map) => return Ok(()),
+            Ok(replies) => assert!(rt; has_all_but_the_first(&replies, &map)),
+            Err(AllocError) => assert!(rt; has_pairs(map.as_slice(), FULL) && map.capacity() == 2),
         }
+        tell(&rt)?;
+        assert!(rt; !is_refused);
+        is_refused = true;
     }
-    assert!(rt; has_text_pairs(map.as_slice(), TEXTS));
+    Ok(())
+}
+
+const TEXTS: &[(&str, &str)] = &[("b", "2"), ("a", "1")];
+
+fn get(alloc: Global) -> Result<Vec<MapCommand<String, String>>, AllocError> {
+    let mut commands = Vec::with_capacity(alloc, 1)?;
+    commands.push(MapCommand::Get(String::from_str(alloc, "a")?))?;
+    Ok(commands)
+}
+
+fn to_vec(alloc: Global) -> Result<Vec<MapCommand<String, String>>, AllocError> {
+    let mut commands = Vec::with_capacity(alloc, 1)?;
+    commands.push(MapCommand::ToVec)?;
+    Ok(commands)
 }
 
 #[test]
-fn a_list_whose_clone_is_refused_answers_no_memory(rt: HostRuntime) {
-    let Ok(mut map) = text_map(rt.alloc(), TEXTS) else {
-        return;
-    };
-    let mut commands = Vec::new(rt.alloc());
-    if commands.push(MapCommand::ToVec).is_err() {
-        return;
-    }
-    if let Ok(replies) = run(rt.alloc(), &mut map, commands) {
-        assert_eq!(rt; replies.len(), 1);
-        for reply in &replies {
-            match reply {
-                MapReply::NoMemory => {}
-                MapReply::Pairs(pairs) => assert!(rt; has_text_pairs(pairs, TEXTS)),
-                _ => assert!(rt; false, "{reply:?}"),
-            }
+fn a_get_whose_clone_is_refused_answers_no_memory(rt: HostRuntime) -> Result<(), Fail> {
+    let mut map = make(&rt, || text_map(rt.alloc(), TEXTS))?;
+    let mut is_refused = false;
+    for _ in 0..2 {
+        let commands = make(&rt, || get(rt.alloc()))?;
+        let replies = run(rt.alloc(), &mut map, commands);
+        assert!(rt; has_text_pairs(map.as_slice(), TEXTS));
+        match replies.as_deref() {
+            Ok([MapReply::Value(Some(value))]) if value.as_str() == "1" => return Ok(()),
+            Ok([MapReply::NoMemory]) | Err(AllocError) => tell(&rt)?,
+            _ => return Err(Fail::new("another reply")),
         }
+        assert!(rt; !is_refused);
+        is_refused = true;
     }
-    assert!(rt; has_text_pairs(map.as_slice(), TEXTS));
+    Ok(())
+}
+
+#[test]
+fn a_list_whose_clone_is_refused_answers_no_memory(rt: HostRuntime) -> Result<(), Fail> {
+    let mut map = make(&rt, || text_map(rt.alloc(), TEXTS))?;
+    let mut is_refused = false;
+    for _ in 0..2 {
+        let commands = make(&rt, || to_vec(rt.alloc()))?;
+        let replies = run(rt.alloc(), &mut map, commands);
+        assert!(rt; has_text_pairs(map.as_slice(), TEXTS));
+        match replies.as_deref() {
+            Ok([MapReply::Pairs(pairs)]) if has_text_pairs(pairs, TEXTS) => return Ok(()),
+            Ok([MapReply::NoMemory]) | Err(AllocError) => tell(&rt)?,
+            _ => return Err(Fail::new("another reply")),
+        }
+        assert!(rt; !is_refused);
+        is_refused = true;
+    }
+    Ok(())
 }

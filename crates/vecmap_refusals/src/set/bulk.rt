@@ -1,59 +1,113 @@
-//! Many elements at once.
+//! Many elements at once, added to a set that is full.
+use crate::telling::{make, tell};
+use std::test::Fail;
 use vecmap::VecSet;
-use vecmap_fixtures::full_set;
+use vecmap_fixtures::{Hinted, Item, full_set, has_items, make_item};
 
-const FULL: &[u32] = &[0, 1];
+const FULL: &[(u32, char)] = &[(1, 'a'), (2, 'b')];
 
-#[test]
-fn append_moves_all_or_nothing(rt: HostRuntime) {
-    let (Ok(mut set), Ok(mut other)) = (full_set(rt.alloc(), 2), full_set(rt.alloc(), 3)) else {
-        return;
-    };
-    let (room, other_room) = (set.capacity(), other.capacity());
-    if set.append(&mut other).is_ok() {
-        assert_eq!(rt; set.as_slice(), [0, 1, 2].as_slice());
-        assert!(rt; other.is_empty() && other.capacity() == other_room);
-    } else {
-        assert_eq!(rt; set.as_slice(), FULL);
-        assert_eq!(rt; set.capacity(), room);
-        assert_eq!(rt; other.as_slice(), [0, 1, 2].as_slice());
-        assert_eq!(rt; other.capacity(), other_room);
-    }
+fn more() -> [Item; 9] {
+    [
+        make_item(1, 'z'),
+        make_item(7, 'p'),
+        make_item(7, 'q'),
+        make_item(2, 'y'),
+        make_item(8, 'r'),
+        make_item(9, 's'),
+        make_item(8, 'x'),
+        make_item(10, 't'),
+        make_item(11, 'u'),
+    ]
+}
+
+const EXTENDED: &[(u32, char)] = &[
+    (1, 'a'),
+    (2, 'b'),
+    (7, 'p'),
+    (8, 'r'),
+    (9, 's'),
+    (10, 't'),
+    (11, 'u'),
+];
+
+// Whether the elements before the refused one are added and no others: the set is full.
+fn has_all_that_fit(set: &VecSet<Item>) -> bool {
+    FULL.len() <= set.len()
+        && set.len() < EXTENDED.len()
+        && set
+            .as_slice()
+            .iter()
+            .zip(EXTENDED)
+            .all(|(item, wanted)| (item.number, item.mark) == *wanted)
+        && set.capacity() == set.len()
 }
 
 #[test]
-fn extending_adds_the_elements_before_the_refused_one(rt: HostRuntime) {
-    let (Ok(mut extended), Ok(mut copied)) = (full_set(rt.alloc(), 2), full_set(rt.alloc(), 2))
-    else {
-        return;
-    };
-    let items = [1, 7, 0, 7, 8, 9, 10, 11, 12, 13];
-    let granted = [
-        extended.extend(items).is_ok(),
-        copied.extend_copied(&items).is_ok(),
-    ];
-    for (set, is_granted) in [extended, copied].iter().zip(granted) {
-        let all = [0, 1, 7, 8, 9, 10, 11, 12, 13].as_slice();
-        if is_granted {
-            assert_eq!(rt; set.as_slice(), all);
-        } else {
-            assert!(rt; all.starts_with(set.as_slice()) && set.len() < all.len());
-            assert_eq!(rt; set.capacity(), set.len());
+fn append_moves_all_or_nothing(rt: HostRuntime) -> Result<(), Fail> {
+    let added = [(1, 'z'), (7, 'p'), (8, 'q')];
+    let mut set = make(&rt, || full_set(rt.alloc(), FULL))?;
+    let mut other = make(&rt, || full_set(rt.alloc(), &added))?;
+    if set.append(&mut other).is_err() {
+        tell(&rt)?;
+        assert!(rt; has_items(set.as_slice(), FULL) && set.capacity() == 2);
+        assert!(rt; has_items(other.as_slice(), &added) && other.capacity() == 3);
+        set.append(&mut other)?;
+    }
+    let all = [(1, 'a'), (2, 'b'), (7, 'p'), (8, 'q')];
+    assert!(rt; has_items(set.as_slice(), &all));
+    assert_eq!(rt; (other.len(), other.capacity()), (0, 3));
+    Ok(())
+}
+
+#[test]
+fn extend_adds_the_elements_before_the_refused_one(rt: HostRuntime) -> Result<(), Fail> {
+    let items = more();
+    for hint in [0, 9] {
+        let hinted = || Hinted {
+            items: &items,
+            hint,
+        };
+        let mut set = make(&rt, || full_set(rt.alloc(), FULL))?;
+        if set.extend(hinted().copied()).is_err() {
+            tell(&rt)?;
+            assert!(rt; has_all_that_fit(&set), "hint {hint}");
+            set.extend(hinted().copied())?;
         }
+        assert!(rt; has_items(set.as_slice(), EXTENDED), "hint {hint}");
     }
+    Ok(())
 }
 
 #[test]
-fn making_of_many_elements_makes_all_or_nothing(rt: HostRuntime) {
-    let items = [1, 2, 1];
-    if let Ok(set) = VecSet::from_iter(rt.alloc(), items) {
-        assert_eq!(rt; set.as_slice(), [1, 2].as_slice());
+fn extend_copied_adds_the_elements_before_the_refused_one(rt: HostRuntime) -> Result<(), Fail> {
+    let items = more();
+    let mut set = make(&rt, || full_set(rt.alloc(), FULL))?;
+    if set.extend_copied(&items).is_err() {
+        tell(&rt)?;
+        assert!(rt; has_all_that_fit(&set));
+        set.extend_copied(&items)?;
     }
-    if let Ok(set) = VecSet::from_slice(rt.alloc(), &items) {
-        assert_eq!(rt; set.as_slice(), [1, 2].as_slice());
-    }
-    let collected: Result<VecSet<u32>, _> = items.iter().copied().collect(rt.alloc());
-    if let Ok(set) = collected {
-        assert_eq!(rt; set.as_slice(), [1, 2].as_slice());
-    }
+    assert!(rt; has_items(set.as_slice(), EXTENDED));
+    Ok(())
+}
+
+#[test]
+fn making_of_many_elements_makes_all_or_nothing(rt: HostRuntime) -> Result<(), Fail> {
+    let items = more();
+    let all = [
+        (1, 'z'),
+        (7, 'p'),
+        (2, 'y'),
+        (8, 'r'),
+        (9, 's'),
+        (10, 't'),
+        (11, 'u'),
+    ];
+    let set = make(&rt, || VecSet::from_iter(rt.alloc(), items))?;
+    assert!(rt; has_items(set.as_slice(), &all));
+    let set = make(&rt, || VecSet::from_slice(rt.alloc(), &items))?;
+    assert!(rt; has_items(set.as_slice(), &all));
+    let set: VecSet<Item> = make(&rt, || items.iter().copied().collect(rt.alloc()))?;
+    assert!(rt; has_items(set.as_slice(), &all));
+    Ok(())
 }

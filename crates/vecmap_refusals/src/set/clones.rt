@@ -1,42 +1,36 @@
 //! Clones of elements that need memory of their own.
+use crate::telling::make;
+use std::test::Fail;
 use vecmap::VecSet;
 use vecmap_fixtures::{has_texts, text_set};
 
 const TEXTS: &[&str] = &["b", "a"];
 
 #[test]
-fn clone_leaves_the_source(rt: HostRuntime) {
-    let Ok(set) = text_set(rt.alloc(), TEXTS) else {
-        return;
-    };
+fn clone_leaves_the_source(rt: HostRuntime) -> Result<(), Fail> {
+    let set = make(&rt, || text_set(rt.alloc(), TEXTS))?;
     let room = set.capacity();
-    if let Ok(copy) = set.clone() {
-        assert!(rt; has_texts(copy.as_slice(), TEXTS));
-    }
-    assert!(rt; has_texts(set.as_slice(), TEXTS));
-    assert_eq!(rt; set.capacity(), room);
+    let copy = make(&rt, || set.clone())?;
+    assert!(rt; has_texts(copy.as_slice(), TEXTS));
+    assert!(rt; has_texts(set.as_slice(), TEXTS) && set.capacity() == room);
+    Ok(())
 }
 
 #[test]
-fn to_vec_leaves_the_source(rt: HostRuntime) {
-    let Ok(set) = text_set(rt.alloc(), TEXTS) else {
-        return;
-    };
+fn to_vec_leaves_the_source(rt: HostRuntime) -> Result<(), Fail> {
+    let set = make(&rt, || text_set(rt.alloc(), TEXTS))?;
     let room = set.capacity();
-    if let Ok(copies) = set.to_vec() {
-        assert!(rt; has_texts(copies.as_slice(), TEXTS));
-    }
-    assert!(rt; has_texts(set.as_slice(), TEXTS));
-    assert_eq!(rt; set.capacity(), room);
+    let copies = make(&rt, || set.to_vec())?;
+    assert!(rt; has_texts(copies.as_slice(), TEXTS));
+    assert!(rt; has_texts(set.as_slice(), TEXTS) && set.capacity() == room);
+    Ok(())
 }
 
 #[test]
-fn from_slice_leaves_the_source(rt: HostRuntime) {
-    let Ok(set) = text_set(rt.alloc(), TEXTS) else {
-        return;
-    };
-    if let Ok(copy) = VecSet::from_slice(rt.alloc(), set.as_slice()) {
-        assert!(rt; has_texts(copy.as_slice(), TEXTS));
-    }
+fn from_slice_leaves_the_source(rt: HostRuntime) -> Result<(), Fail> {
+    let set = make(&rt, || text_set(rt.alloc(), TEXTS))?;
+    let copy = make(&rt, || VecSet::from_slice(rt.alloc(), set.as_slice()))?;
+    assert!(rt; has_texts(copy.as_slice(), TEXTS));
     assert!(rt; has_texts(set.as_slice(), TEXTS));
+    Ok(())
 }

@@ -1,24 +1,22 @@
 //! Insertion into a set that is full.
-use vecmap_fixtures::full_set;
+use crate::telling::{make, tell};
+use std::test::Fail;
+use vecmap_fixtures::{full_set, has_items, make_item};
 
-const FULL: &[u32] = &[0, 1];
+const FULL: &[(u32, char)] = &[(1, 'a'), (2, 'b')];
 
 #[test]
-fn insert_gives_the_element_back(rt: HostRuntime) {
-    let Ok(mut set) = full_set(rt.alloc(), 2) else {
-        return;
-    };
-    let room = set.capacity();
-    assert!(rt; matches!(set.insert(1), Ok(false)));
-    match set.insert(7) {
-        Ok(added) => {
-            assert!(rt; added);
-            assert_eq!(rt; set.as_slice(), [0, 1, 7].as_slice());
-        }
+fn insert_gives_the_element_back(rt: HostRuntime) -> Result<(), Fail> {
+    let mut set = make(&rt, || full_set(rt.alloc(), FULL))?;
+    assert!(rt; matches!(set.insert(make_item(2, 'z')), Ok(false)));
+    let added = match set.insert(make_item(7, 'x')) {
+        Ok(added) => added,
         Err(refused) => {
-            assert_eq!(rt; refused.given, 7);
-            assert_eq!(rt; set.as_slice(), FULL);
-            assert_eq!(rt; set.capacity(), room);
+            tell(&rt)?;
+            assert!(rt; has_items(set.as_slice(), FULL) && set.capacity() == 2);
+            set.insert(refused.given)?
         }
-    }
+    };
+    assert!(rt; added && has_items(set.as_slice(), &[(1, 'a'), (2, 'b'), (7, 'x')]));
+    Ok(())
 }

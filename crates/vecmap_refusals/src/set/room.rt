@@ -1,66 +1,78 @@
 //! Room for a set.
+use crate::telling::{make, tell};
+use std::test::Fail;
 use vecmap::VecSet;
-use vecmap_fixtures::full_set;
+use vecmap_fixtures::{full_set, has_items, make_item};
 
-const FULL: &[u32] = &[0, 1];
+const FULL: &[(u32, char)] = &[(1, 'a'), (2, 'b')];
 
 #[test]
-fn the_reserving_calls_leave_all_as_before(rt: HostRuntime) {
-    let Ok(mut set) = full_set(rt.alloc(), 2) else {
-        return;
-    };
+fn with_capacity_makes_all_the_room_or_nothing(rt: HostRuntime) -> Result<(), Fail> {
+    let set: VecSet<u32> = make(&rt, || VecSet::with_capacity(rt.alloc(), 3))?;
+    assert!(rt; set.is_empty() && 3 <= set.capacity());
+    Ok(())
+}
+
+#[test]
+fn the_reserving_calls_leave_all_as_before(rt: HostRuntime) -> Result<(), Fail> {
     for call in 0..4 {
-        let room = set.capacity();
-        let granted = match call {
-            0 => set.reserve(room).is_ok(),
-            1 => set.reserve_exact(room).is_ok(),
-            2 => set.try_reserve(room).is_ok(),
-            _ => set.try_reserve_exact(room).is_ok(),
-        };
-        if granted {
-            assert!(rt; room.saturating_add(2) <= set.capacity());
-        } else {
-            assert_eq!(rt; set.capacity(), room);
+        let mut set = make(&rt, || full_set(rt.alloc(), FULL))?;
+        for is_again in [false, true] {
+            let granted = match call {
+                0 => set.reserve(2).is_ok(),
+                1 => set.reserve_exact(2).is_ok(),
+                2 => set.try_reserve(2).is_ok(),
+                _ => set.try_reserve_exact(2).is_ok(),
+            };
+            assert!(rt; has_items(set.as_slice(), FULL), "call {call}");
+            if granted {
+                assert!(rt; 4 <= set.capacity(), "call {call}");
+            } else {
+                tell(&rt)?;
+                assert!(rt; !is_again && set.capacity() == 2, "call {call}");
+            }
         }
-        assert_eq!(rt; set.as_slice(), FULL);
     }
+    Ok(())
 }
 
 #[test]
-fn with_capacity_makes_all_the_room_or_nothing(rt: HostRuntime) {
-    let made: Result<VecSet<u32>, _> = VecSet::with_capacity(rt.alloc(), 3);
-    if let Ok(set) = made {
-        assert!(rt; set.is_empty() && 3 <= set.capacity());
-    }
-}
-
-#[test]
-fn shrinking_without_memory_keeps_the_list(rt: HostRuntime) {
-    let Ok(mut set) = full_set(rt.alloc(), 2) else {
-        return;
-    };
+fn shrinking_without_memory_keeps_the_list(rt: HostRuntime) -> Result<(), Fail> {
+    let mut set = make(&rt, || full_set(rt.alloc(), FULL))?;
     if set.reserve_exact(8).is_err() {
-        return;
+        tell(&rt)?;
+        set.reserve_exact(8)?;
     }
     set.shrink_to(5);
-    assert!(rt; 5 <= set.capacity() && set.capacity() <= 10);
-    assert_eq!(rt; set.as_slice(), FULL);
+    if set.capacity() != 5 {
+        tell(&rt)?;
+        assert!(rt; has_items(set.as_slice(), FULL) && set.capacity() == 10);
+        set.shrink_to(5);
+    }
+    assert!(rt; has_items(set.as_slice(), FULL) && set.capacity() == 5);
     set.shrink_to_fit();
-    assert!(rt; 2 <= set.capacity());
-    assert_eq!(rt; set.as_slice(), FULL);
+    if set.capacity() != 2 {
+        tell(&rt)?;
+        assert!(rt; has_items(set.as_slice(), FULL) && set.capacity() == 5);
+        set.shrink_to_fit();
+    }
+    assert!(rt; has_items(set.as_slice(), FULL) && set.capacity() == 2);
+    Ok(())
 }
 
 #[test]
-fn reserved_room_takes_inserts_without_memory(rt: HostRuntime) {
+fn reserved_room_takes_inserts_without_memory(rt: HostRuntime) -> Result<(), Fail> {
     let mut set = VecSet::new(rt.alloc());
     if set.reserve(3).is_err() {
+        tell(&rt)?;
         assert_eq!(rt; (set.len(), set.capacity()), (0, 0));
-        return;
+        set.reserve(3)?;
     }
     let room = set.capacity();
     for number in 0..3u32 {
-        assert!(rt; matches!(set.insert(number), Ok(true)));
+        assert!(rt; matches!(set.insert(make_item(number, 'a')), Ok(true)));
     }
-    assert_eq!(rt; set.as_slice(), [0, 1, 2].as_slice());
+    assert!(rt; has_items(set.as_slice(), &[(0, 'a'), (1, 'a'), (2, 'a')]));
     assert_eq!(rt; set.capacity(), room);
+    Ok(())
 }

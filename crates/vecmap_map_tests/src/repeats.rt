@@ -1,0 +1,241 @@
+//! Calls by key on a map with repeats: each means the first of the equal keys, and leaves the others.
+use std::alloc::{AllocError, Global};
+use std::test::Fail;
+use vecmap::VecMap;
+use vecmap::map::{Entry, MutableKeys};
+use vecmap_fixtures::{Item, has_pairs, make_item, repeating_map};
+
+// The key 1 is there first, in the middle and later, and is neither the first key nor the last.
+fn start(alloc: Global) -> Result<VecMap<Item, u32>, AllocError> {
+    repeating_map(
+        alloc,
+        &[
+            (9, 'a', 1),
+            (1, 'b', 2),
+            (5, 'c', 3),
+            (1, 'd', 4),
+            (1, 'e', 5),
+            (8, 'f', 6),
+        ],
+    )
+}
+
+const SHIFTED: &[(u32, char, u32)] = &[
+    (9, 'a', 1),
+    (5, 'c', 3),
+    (1, 'd', 4),
+    (1, 'e', 5),
+    (8, 'f', 6),
+];
+
+const SWAPPED: &[(u32, char, u32)] = &[
+    (9, 'a', 1),
+    (8, 'f', 6),
+    (5, 'c', 3),
+    (1, 'd', 4),
+    (1, 'e', 5),
+];
+
+// Whether the map is as it was made, but for the value of the first of the equal keys, and for its mark.
+fn has_first(map: &VecMap<Item, u32>, mark: char, value: u32) -> bool {
+    let expected = [
+        (9, 'a', 1),
+        (1, mark, value),
+        (5, 'c', 3),
+        (1, 'd', 4),
+        (1, 'e', 5),
+        (8, 'f', 6),
+    ];
+    has_pairs(map.as_slice(), &expected)
+}
+
+#[test]
+fn lookups_answer_the_first_of_equal_keys(rt: HostRuntime) -> Result<(), Fail> {
+    let map = start(rt.alloc())?;
+    let key = make_item(1, 'z');
+    assert!(rt; has_first(&map, 'b', 2) && !map.has_distinct_keys());
+    assert!(rt; map.contains_key(&key));
+    assert_eq!(rt;
+        (map.get_index_of(&key), map.get(&key).copied()),
+        (Some(1), Some(2))
+    );
+    let (stored, value) = map.get_key_value(&key).ok_or("absent")?;
+    assert_eq!(rt; (stored.mark, *value), ('b', 2));
+    let (index, stored, value) = map.get_full(&key).ok_or("absent")?;
+    assert_eq!(rt; (index, stored.mark, *value), (1, 'b', 2));
+    assert_eq!(rt; map[&key], 2);
+    Ok(())
+}
+
+#[test]
+fn the_first_of_equal_keys_lends_its_value(rt: HostRuntime) -> Result<(), Fail> {
+    let mut map = start(rt.alloc())?;
+    let key = make_item(1, 'z');
+    *map.get_mut(&key).ok_or("absent")? = 20;
+    assert!(rt; has_first(&map, 'b', 20));
+    let (index, stored, value) = map.get_full_mut(&key).ok_or("absent")?;
+    assert_eq!(rt; (index, stored.mark, *value), (1, 'b', 20));
+    *value = 30;
+    assert!(rt; has_first(&map, 'b', 30) && map.contains_key(&key));
+    map[&key] = 40;
+    assert!(rt; has_first(&map, 'b', 40));
+    let (index, stored, value) = map.get_full_mut2(&key).ok_or("absent")?;
+    assert_eq!(rt; (index, stored.mark, *value), (1, 'b', 40));
+    *stored = make_item(1, 'y');
+    *value = 50;
+    assert!(rt; has_first(&map, 'y', 50));
+    Ok(())
+}
+
+#[test]
+fn insertions_change_the_value_of_the_first_of_equal_keys(rt: HostRuntime) -> Result<(), Fail> {
+    let mut map = start(rt.alloc())?;
+    assert_eq!(rt; map.insert(make_item(1, 'z'), 20)?, Some(2));
+    assert!(rt; has_first(&map, 'b', 20));
+    assert_eq!(rt; map.insert_full(make_item(1, 'z'), 30)?, (1, Some(20)));
+    assert!(rt; has_first(&map, 'b', 30));
+    map.extend([(make_item(1, 'z'), 40)])?;
+    assert!(rt; has_first(&map, 'b', 40));
+    map.extend_pairs(&[(make_item(1, 'z'), 50)])?;
+    assert!(rt; has_first(&map, 'b', 50));
+    map.extend_refs([(&make_item(1, 'z'), &60)])?;
+    assert!(rt; has_first(&map, 'b', 60));
+    map.append(&mut start(rt.alloc())?)?;
+    assert!(rt; has_first(&map, 'b', 5));
+    Ok(())
+}
+
+#[test]
+fn insert_at_moves_the_first_of_equal_keys(rt: HostRuntime) -> Result<(), Fail> {
+    for (index, place) in [(0, 0), (1, 1), (2, 2), (4, 4), (5, 5), (6, 5)] {
+        let mut map = start(rt.alloc())?;
+        assert!(rt; index <= map.len());
+        assert_eq!(rt; map.insert_at(index, make_item(1, 'z'), 20)?, Some((1, 2)));
+        let mut expected = SHIFTED.to_vec(rt.alloc())?;
+        assert!(rt; place <= expected.len());
+        expected.insert(place, (1, 'z', 20))?;
+        assert!(rt; has_pairs(map.as_slice(), &expected), "at {index}");
+    }
+    Ok(())
+}
+
+#[test]
+fn removals_take_the_first_of_equal_keys(rt: HostRuntime) -> Result<(), Fail> {
+    let key = make_item(1, 'z');
+    let mut map = start(rt.alloc())?;
+    assert_eq!(rt; map.remove(&key), Some(2));
+    assert!(rt; has_pairs(map.as_slice(), SHIFTED));
+    let mut map = start(rt.alloc())?;
+    let (stored, value) = map.remove_entry(&key).ok_or("absent")?;
+    assert_eq!(rt; (stored.mark, value), ('b', 2));
+    assert!(rt; has_pairs(map.as_slice(), SHIFTED));
+    let mut map = start(rt.alloc())?;
+    assert_eq!(rt; map.swap_remove(&key), Some(2));
+    assert!(rt; has_pairs(map.as_slice(), SWAPPED));
+    let mut map = start(rt.alloc())?;
+    let (stored, value) = map.swap_remove_entry(&key).ok_or("absent")?;
+    assert_eq!(rt; (stored.mark, value), ('b', 2));
+    assert!(rt; has_pairs(map.as_slice(), SWAPPED));
+    Ok(())
+}
+
+#[test]
+fn an_entry_is_that_of_the_first_of_equal_keys(rt: HostRuntime) -> Result<(), Fail> {
+    let mut map = start(rt.alloc())?;
+    let entry = map.entry(make_item(1, 'z'));
+    assert_eq!(rt; entry.index(), 1);
+    assert_eq!(rt; *entry.and_modify(|value| *value = 20).or_insert(0)?, 20);
+    assert!(rt; has_first(&map, 'b', 20));
+    map.entry(make_item(1, 'z')).insert_entry(30)?.into_key();
+    assert!(rt; has_first(&map, 'b', 30));
+    let Entry::Occupied(mut entry) = map.entry(make_item(1, 'z')) else {
+        return Err(Fail::new("vacant"));
+    };
+    assert_eq!(rt;
+        (entry.index(), *entry.get(), entry.insert(40)),
+        (1, 30, 30)
+    );
+    *entry.get_mut() = 50;
+    *entry.into_mut() = 60;
+    assert!(rt; has_first(&map, 'b', 60));
+    Ok(())
+}
+
+#[test]
+fn an_entry_of_repeats_is_removed(rt: HostRuntime) -> Result<(), Fail> {
+    for call in 0..4 {
+        let mut map = start(rt.alloc())?;
+        let Entry::Occupied(entry) = map.entry(make_item(1, 'z')) else {
+            return Err(Fail::new("vacant"));
+        };
+        let (mark, value, left) = match call {
+            0 => ('b', entry.remove(), SHIFTED),
+            1 => ('b', entry.swap_remove(), SWAPPED),
+            2 => {
+                let (stored, value) = entry.remove_entry();
+                (stored.mark, value, SHIFTED)
+            }
+            _ => {
+                let (stored, value) = entry.swap_remove_entry();
+                (stored.mark, value, SWAPPED)
+            }
+        };
+        assert_eq!(rt; (mark, value), ('b', 2));
+        assert!(rt; has_pairs(map.as_slice(), left), "call {call}");
+    }
+    Ok(())
+}
+
+#[test]
+fn clones_and_vectors_of_a_map_have_its_repeats(rt: HostRuntime) -> Result<(), Fail> {
+    let map = start(rt.alloc())?;
+    assert!(rt; has_first(&map.clone()?, 'b', 2));
+    assert!(rt; map == map.clone()?);
+    let pairs = map.to_vec()?;
+    assert_eq!(rt;
+        (pairs.len(), pairs.as_slice() == map.as_slice()),
+        (6, true)
+    );
+    let mut map = start(rt.alloc())?;
+    map.reverse();
+    let expected = [
+        (8, 'f', 6),
+        (1, 'e', 5),
+        (1, 'd', 4),
+        (5, 'c', 3),
+        (1, 'b', 2),
+        (9, 'a', 1),
+    ];
+    assert!(rt; has_pairs(&map.into_vec(), &expected));
+    Ok(())
+}
+
+#[test]
+fn texts_mean_the_first_of_equal_keys(rt: HostRuntime) -> Result<(), Fail> {
+    let mut map = VecMap::new(rt.alloc());
+    for (text, value) in [("a", 1), ("b", 2), ("c", 3), ("d", 4), ("e", 5)] {
+        map.insert(String::from_str(rt.alloc(), text)?, value)?;
+    }
+    for place in [3, 4] {
+        let (key, _value) = map.get_index_mut2(place).ok_or("nothing there")?;
+        *key = String::from_str(rt.alloc(), "b")?;
+    }
+    assert!(rt; map.contains_key_str("b") && !map.contains_key_str("d"));
+    assert_eq!(rt;
+        (map.get_index_of_str("b"), map.get_str("b").copied()),
+        (Some(1), Some(2))
+    );
+    for (value, left) in [
+        (Some(2), [("a", 1), ("c", 3), ("b", 4), ("b", 5)].as_slice()),
+        (Some(4), [("a", 1), ("c", 3), ("b", 5)].as_slice()),
+        (Some(5), [("a", 1), ("c", 3)].as_slice()),
+        (None, [("a", 1), ("c", 3)].as_slice()),
+    ] {
+        assert_eq!(rt; map.remove_str("b"), value);
+        assert_eq!(rt; map.len(), left.len());
+        for (pair, wanted) in map.as_slice().iter().zip(left) {
+            assert_eq!(rt; (pair.0.as_str(), pair.1), *wanted);
+        }
+    }
+    Ok(())
+}
