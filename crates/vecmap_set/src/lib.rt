@@ -16,6 +16,7 @@ mod operators;
 mod order;
 mod removal;
 mod room;
+mod search;
 
 pub use lazy::{Difference, Intersection, SymmetricDifference, Union};
 use std::marker::Model;

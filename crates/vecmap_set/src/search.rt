@@ -1,0 +1,75 @@
+//! Binary searches of elements that are in order. None takes memory.
+ghost use Rattle.std.specs.Prelude.{◌≡◌, ◌≤◌, Bool, false, length, true};
+ghost use Rattle.std.specs.Fn.{ComputesKey};
+ghost use Rattle.std.specs.List.Sorted.{IsBinarySearchResult, IsPartitionPoint, IsPartitionedBy, IsSearchInRange};
+ghost use Rattle.std.specs.declared.cmp.Ordering.{Ordering};
+ghost use Rattle.vecmap_base.specs.Orders.{AnswersOnItem};
+
+use crate::VecSet;
+use std::cmp::Ordering;
+use vecmap_base::search_items_by_key;
+
+impl<T: Eq> VecSet<T> {
+    /// Searches elements that ascend for one that is equal to `item` in their order, in O(log n) comparisons for n
+    /// elements.
+    ///
+    /// `Ok` is the place of such an element, any one of them; where there is none, `Err` is the number of lesser ones, so
+    /// the place where `item` would go.
+    pub fn binary_search(&self, item: &T) -> Result<usize, usize>
+    where
+        T: Ord,
+        ensures within { IsSearchInRange result (length self.now.elements) }
+        ensures place { IsBinarySearchResult (λ x. T.cmp x item.now) self.now.elements result }
+    {
+        self.items.binary_search(item)
+    }
+
+    /// Searches elements by `f`, which answers how one compares with what is sought: `Less` of the first ones, then
+    /// `Equal`, then `Greater`. It takes O(log n) calls of `f` for n elements.
+    ///
+    /// `Ok` is the place of an equal element, any one of them; where there is none, `Err` is the number of less ones.
+    /// Where the elements are in another order, `Ok` is still an equal place, and `Err` tells nothing.
+    pub fn binary_search_by<'a, F: Fn(&'a T) -> Ordering>(&'a self, f: F) -> Result<usize, usize>
+        requires { F.IsAlwaysCallable f }
+        ensures within { IsSearchInRange result (length self.now.elements) }
+        ensures place { (ord : T → Ordering) → AnswersOnItem F.Fn ord f → IsBinarySearchResult ord self.now.elements result }
+    {
+        let items = self.items.as_slice();
+        let mut low = 0;
+        let mut high = items.len();
+        while low < high {
+            let middle = low + (high - low) / 2;
+            match f(&items[middle]) {
+                Ordering::Less => low = middle + 1,
+                Ordering::Equal => return Ok(middle),
+                Ordering::Greater => high = middle,
+            }
+        }
+        Err(low)
+    }
+
+    /// Searches elements that ascend by the key that `f` makes of one, for `key`, as `binary_search_by`. It takes
+    /// O(log n) calls of `f` and comparisons for n elements.
+    pub fn binary_search_by_key<'a, B: Ord + Drop, F: Fn(&'a T) -> B>(
+        &'a self,
+        key: &B,
+        f: F,
+    ) -> Result<usize, usize>
+        requires { F.IsAlwaysCallable f }
+        ensures within { IsSearchInRange result (length self.now.elements) }
+        ensures place { (key_of : T → B) → AnswersOnItem F.Fn key_of f → IsBinarySearchResult (λ x. B.cmp (key_of x) key.now) self.now.elements result }
+    {
+        let items = self.items.as_slice();
+        search_items_by_key(items, key, f)
+    }
+
+    /// The number of elements that pass `pred`, where those that pass come first, in O(log n) calls of `pred` for n
+    /// elements.
+    pub fn partition_point<P: Fn(&T) -> bool>(&self, pred: P) -> usize
+        requires { P.IsAlwaysCallable pred }
+        ensures within { result ≤ length self.now.elements }
+        ensures place { (p : T → Bool) → ComputesKey P.FnMut p pred → IsPartitionedBy p self.now.elements → IsPartitionPoint (λ x. p x ≡ true) (λ x. p x ≡ false) self.now.elements result }
+    {
+        self.items.partition_point(pred)
+    }
+}
