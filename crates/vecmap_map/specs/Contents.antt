@@ -33,6 +33,10 @@ module _ {K V : Type 0} where
   abbrev pub HasRoom : Contents K V → ℕ → Type 0
   HasRoom m n = length m.entries + n ≤ m.capacity
 
+  -- no more pair fits
+  abbrev pub IsFull : Contents K V → Type 0
+  IsFull m = length m.entries ≡ m.capacity
+
   -- new has no less room than old. A key that has a place takes no memory, nor does a new one while there is room
   pub record KeepsRoomAt (place : Option ℕ) (old new : Contents K V) : Type 0 where
     pub capacity : old.capacity ≤ new.capacity
@@ -43,7 +47,7 @@ module _ {K V : Type 0} where
   pub record RefusesAt (place : Option ℕ) (old new : Contents K V) : Type 0 where
     pub same : new ≡ old
     pub absent : place ≡ None
-    pub full : length old.entries ≡ old.capacity
+    pub full : IsFull old
 
 module _ {K V : Type 0} (eq : K → K → Bool) where
   -- the same at the first place whose key is equal to k

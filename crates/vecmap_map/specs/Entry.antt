@@ -1,5 +1,5 @@
 -- What the contracts of an entry read of it: the map, the key that was handed in, and the key's place.
-use Rattle.std.specs.Prelude.{◌≡◌, ℕ, List, [], ◌∷◌, ◌++◌, Option, None, Some, length, remove, unwrap_or}
+use Rattle.std.specs.Prelude.{◌≡◌, ℕ, List, [], ◌∷◌, ◌++◌, Option, None, Some, length, remove, slice_get, unwrap_or}
 use Rattle.std.specs.Borrow.{MutBor}
 use Rattle.std.specs.Option.{option_and_then, option_map_or}
 use Rattle.vecmap_base.specs.Items.{swap_without}
@@ -37,6 +37,10 @@ module _ {K V : Type 0} where
   -- the key's value, if it has one
   abbrev pub entry_value : Entry K V → Option V
   entry_value e = option_and_then (value_at (entry_map e).entries) (entry_place e)
+
+  -- the stored pair of the key, if it has one
+  abbrev pub entry_pair : Entry K V → Option (K × V)
+  entry_pair e = option_and_then (slice_get (entry_map e).entries) (entry_place e)
 
   -- the pairs once v is the key's value: it replaces the one that is there, and a new pair goes last
   abbrev pub entries_with : Entry K V → V → List (K × V)

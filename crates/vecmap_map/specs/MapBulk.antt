@@ -5,6 +5,11 @@ use Rattle.vecmap_base.specs.Clones.{AreClones, IsPairClone}
 use Rattle.vecmap_base.specs.Pairs.{puts}
 use Rattle.vecmap_map.specs.Contents.{Contents, Refuses}
 
+module _ {K V : Type 0} where
+  -- place by place, the second list holds clones of the key and of the value of each pair of the first
+  abbrev pub ArePairClones : (K → K → Type 0) → (V → V → Type 0) → List (K × V) → List (K × V) → Type 0
+  ArePairClones key_clone value_clone l m = AreClones (IsPairClone key_clone value_clone) l m
+
 module _ {K V : Type 0} (eq : K → K → Bool) where
   -- the pairs, put in turn, take old to new
   abbrev pub Puts : Contents K V → List (K × V) → Contents K V → Type 0
@@ -12,7 +17,7 @@ module _ {K V : Type 0} (eq : K → K → Bool) where
 
   -- clones of the pairs, put in turn, take old to new
   abbrev pub PutsClones : (K → K → Type 0) → (V → V → Type 0) → Contents K V → List (K × V) → Contents K V → Type 0
-  PutsClones key_clone value_clone old pairs new = (clones : List (K × V)) × AreClones (IsPairClone key_clone value_clone) pairs clones × Puts old clones new
+  PutsClones key_clone value_clone old pairs new = (clones : List (K × V)) × ArePairClones key_clone value_clone pairs clones × Puts old clones new
 
   -- the pairs were put, and then `next` was refused
   abbrev pub RefusesAfter : Contents K V → List (K × V) → K × V → Contents K V → Type 0

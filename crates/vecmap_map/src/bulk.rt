@@ -3,10 +3,9 @@ ghost use Rattle.std.specs.Prelude.{◌≡◌, ◌+◌, ◌<◌, ◌≤◌, ◌�
 ghost use Rattle.std.specs.Iterator.{Drains, ExtendsWithItems, IsFiniteIterable};
 ghost use Rattle.std.specs.Map.Iter.{deref_pair};
 ghost use Rattle.vecmap_base.specs.Bulk.{HasRoomForAll, StopsAt};
-ghost use Rattle.vecmap_base.specs.Clones.{AreClones, IsPairClone};
 ghost use Rattle.vecmap_base.specs.Pairs.{put, puts};
 ghost use Rattle.vecmap_map.specs.Contents.{HasRoom, KeepsRoomAt, Refuses, with_entries};
-ghost use Rattle.vecmap_map.specs.MapBulk.{Puts, PutsClones, RefusesAfter, RefusesClonesAfter};
+ghost use Rattle.vecmap_map.specs.MapBulk.{ArePairClones, Puts, PutsClones, RefusesAfter, RefusesClonesAfter};
 
 use crate::VecMap;
 use std::alloc::{AllocError, Global};
@@ -39,7 +38,7 @@ impl<K, V> VecMap<K, V> {
     where
         K: Eq + Clone,
         V: Clone,
-        ensures entries { IfOk result (λ map. (clones : List (K × V)) × AreClones (IsPairClone K.is_clone V.is_clone) pairs.now clones × (map.entries ≡ puts K.eq [] clones)) }
+        ensures entries { IfOk result (λ map. (clones : List (K × V)) × ArePairClones K.is_clone V.is_clone pairs.now clones × (map.entries ≡ puts K.eq [] clones)) }
         ensures room { IfOk result (λ map. length pairs.now ≤ map.capacity) }
     {
         let mut map = VecMap::with_capacity(alloc, pairs.len())?;

@@ -1,9 +1,9 @@
 //! Maps made of a vector, in that vector, and vectors made of a map.
 ghost use Rattle.std.specs.Prelude.{◌≡◌, IfOk, [], vec_capacity};
 ghost use Rattle.std.specs.Map.{keys_of};
-ghost use Rattle.vecmap_base.specs.Clones.{AreClones, IsPairClone};
 ghost use Rattle.vecmap_base.specs.Pairs.{HasDistinctKeys, puts};
 ghost use Rattle.vecmap_base.specs.Repeats.{comparisons};
+ghost use Rattle.vecmap_map.specs.MapBulk.{ArePairClones};
 
 use crate::VecMap;
 use std::alloc::AllocError;
@@ -60,7 +60,7 @@ impl<K, V> VecMap<K, V> {
     where
         K: Clone,
         V: Clone,
-        ensures { IfOk result (λ pairs. AreClones (IsPairClone K.is_clone V.is_clone) self.now.entries pairs.items) }
+        ensures { IfOk result (λ pairs. ArePairClones K.is_clone V.is_clone self.now.entries pairs.items) }
     {
         self.pairs.clone()
     }

@@ -8,6 +8,7 @@ ghost use Rattle.std.specs.Fn.{FnOnceReturnsAt};
 ghost use Rattle.std.specs.Map.Calls.{ModifiesValue};
 ghost use Rattle.std.specs.Option.{UnwrapsOrElse, option_map_or};
 ghost use Rattle.vecmap_base.specs.Pairs.{index_of};
+ghost use Rattle.vecmap_map.specs.Contents.{IsFull};
 
 mod occupied;
 mod vacant;
@@ -200,7 +201,7 @@ impl<'a, K, V> Entry<'a, K, V> {
         ensures* err { sem 𝓛 (entry_passes K.row V.row self.entry result) }
         ensures given { IfErr result (λ refused. refused.given ≡ (entry_key self.entry, value)) }
         ensures absent { OnErr result (entry_place self.entry ≡ None) }
-        ensures full { K.is_infallible (entry_key self.entry) → OnErr result (length (entry_map self.entry).entries ≡ (entry_map self.entry).capacity) }
+        ensures full { K.is_infallible (entry_key self.entry) → OnErr result (IsFull (entry_map self.entry)) }
     {
         match self {
             Entry::Occupied(entry) => entry.into_inserted(value),

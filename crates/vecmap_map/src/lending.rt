@@ -1,6 +1,7 @@
 //! Calls that lend a value of the map to write.
 ghost use Rattle.std.specs.Prelude.{◌≡◌, ◌-◌, ◌<◌, ◌↔◌, IfSome, IsSome, Some, length, option_map, slice_get};
 ghost use Rattle.std.specs.Borrow.{sem};
+ghost use Rattle.std.specs.Map.Iter.{deref_pair_mut};
 ghost use Rattle.std.specs.Option.{option_copied_mut};
 ghost use Rattle.vecmap_base.specs.Pairs.{index_of, lookup, lookup_pair, value_at};
 ghost use Rattle.vecmap_map.specs.Lends.{lends_value};
@@ -29,7 +30,7 @@ impl<K, V> VecMap<K, V> {
     /// The first pair, its value to write. It compares nothing.
     pub fn first_mut(&mut self) -> Option<(&K, &mut V)>
         ensures* writes_back { sem 𝓛 (lends_beside_key K.row V.row self.entry 0 result) }
-        ensures pair { option_map (λ pair. (pair.0.now, pair.1.now)) result ≡ slice_get self.old.entries 0 }
+        ensures pair { option_map deref_pair_mut result ≡ slice_get self.old.entries 0 }
         ensures found { IsSome result ↔ (0 < length self.old.entries) }
     {
         self.get_index_mut(0)
@@ -38,7 +39,7 @@ impl<K, V> VecMap<K, V> {
     /// The last pair, its value to write. It compares nothing.
     pub fn last_mut(&mut self) -> Option<(&K, &mut V)>
         ensures* writes_back { sem 𝓛 (lends_beside_key K.row V.row self.entry (length self.old.entries - 1) result) }
-        ensures pair { option_map (λ pair. (pair.0.now, pair.1.now)) result ≡ slice_get self.old.entries (length self.old.entries - 1) }
+        ensures pair { option_map deref_pair_mut result ≡ slice_get self.old.entries (length self.old.entries - 1) }
         ensures found { IsSome result ↔ (0 < length self.old.entries) }
     {
         let (index, map) = self.with_last_place();
@@ -66,7 +67,7 @@ impl<K, V> VecMap<K, V> {
     /// The pair at a place, if there is one, its value to write. It compares nothing.
     pub fn get_index_mut(&mut self, index: usize) -> Option<(&K, &mut V)>
         ensures* writes_back { sem 𝓛 (lends_beside_key K.row V.row self.entry index result) }
-        ensures pair { option_map (λ pair. (pair.0.now, pair.1.now)) result ≡ slice_get self.old.entries index }
+        ensures pair { option_map deref_pair_mut result ≡ slice_get self.old.entries index }
         ensures found { IsSome result ↔ (index < length self.old.entries) }
     {
         match self.whole_at(index) {

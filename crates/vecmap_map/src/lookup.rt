@@ -1,5 +1,6 @@
 //! Lookups by key and by place.
 ghost use Rattle.std.specs.Prelude.{◌≡◌, ◌-◌, ◌<◌, ◌↔◌, IfSome, IsTrue, is_some, length, option_copied, option_map, slice_get};
+ghost use Rattle.std.specs.Map.Iter.{deref_pair};
 ghost use Rattle.vecmap_base.specs.Pairs.{HasDistinctKeys, has_text, index_by, index_of, lookup, lookup_by, lookup_full, lookup_pair};
 
 use crate::VecMap;
@@ -17,14 +18,14 @@ impl<K, V> VecMap<K, V> {
 
     /// The first pair. It compares nothing.
     pub fn first(&self) -> Option<(&K, &V)>
-        ensures { option_map (λ pair. (pair.0.now, pair.1.now)) result ≡ slice_get self.now.entries 0 }
+        ensures { option_map deref_pair result ≡ slice_get self.now.entries 0 }
     {
         self.get_index(0)
     }
 
     /// The last pair. It compares nothing.
     pub fn last(&self) -> Option<(&K, &V)>
-        ensures { option_map (λ pair. (pair.0.now, pair.1.now)) result ≡ slice_get self.now.entries (length self.now.entries - 1) }
+        ensures { option_map deref_pair result ≡ slice_get self.now.entries (length self.now.entries - 1) }
     {
         let len = self.pairs.len();
         if len == 0 {
@@ -47,7 +48,7 @@ impl<K, V> VecMap<K, V> {
 
     /// The pair at a place, if there is one. It compares nothing.
     pub fn get_index(&self, index: usize) -> Option<(&K, &V)>
-        ensures { option_map (λ pair. (pair.0.now, pair.1.now)) result ≡ slice_get self.now.entries index }
+        ensures { option_map deref_pair result ≡ slice_get self.now.entries index }
     {
         let pair = self.pairs.get(index)?;
         Some((&pair.0, &pair.1))
@@ -74,7 +75,7 @@ impl<K, V> VecMap<K, V> {
     pub fn get_key_value(&self, key: &K) -> Option<(&K, &V)>
     where
         K: Eq,
-        ensures { option_map (λ pair. (pair.0.now, pair.1.now)) result ≡ lookup_pair K.eq self.now.entries key.now }
+        ensures { option_map deref_pair result ≡ lookup_pair K.eq self.now.entries key.now }
     {
         let (_index, stored, value) = self.get_full(key)?;
         Some((stored, value))

@@ -1,6 +1,6 @@
 //! Making a map, and what it is made of.
 ghost use Rattle.std.specs.Prelude.{◌≡◌, ◌≤◌, IfOk, IsOk, [], vec_capacity};
-ghost use Rattle.vecmap_base.specs.Clones.{AreClones, IsPairClone};
+ghost use Rattle.vecmap_map.specs.MapBulk.{ArePairClones};
 
 use crate::VecMap;
 use std::alloc::{AllocError, Global};
@@ -53,7 +53,7 @@ impl<K, V> VecMap<K, V> {
     where
         K: Clone,
         V: Clone,
-        ensures { IfOk result (λ map. AreClones (IsPairClone K.is_clone V.is_clone) self.now.entries map.entries) }
+        ensures { IfOk result (λ map. ArePairClones K.is_clone V.is_clone self.now.entries map.entries) }
     {
         Ok(VecMap {
             pairs: self.to_vec()?,

@@ -1,7 +1,6 @@
 //! The entry of a key that is there.
-ghost use Rattle.std.specs.Prelude.{◌≡◌, ◌<◌, IfOk, IsOk, Some, length, remove, slice_get};
+ghost use Rattle.std.specs.Prelude.{◌≡◌, ◌<◌, IfOk, IsOk, Some, length};
 ghost use Rattle.std.specs.Borrow.{sem};
-ghost use Rattle.vecmap_base.specs.Items.{swap_without};
 
 use crate::VecMap;
 use std::mem::replace;
@@ -18,9 +17,8 @@ pub struct OccupiedEntry<'a, K, V> {
 
 impl<'a, K, V> OccupiedEntry<'a, K, V> {
     ghost use Rattle.vecmap_map.specs.declared.entry.Entry.TheVariants.{Occupied};
-    ghost use Rattle.vecmap_map.specs.Entry.{IsInserted, LeavesSame, entry_index, entry_key, entry_map, entry_ref, entry_value, occupied_with};
-    ghost use Rattle.vecmap_map.specs.EntryLends.{entry_passes, occupied_lends};
-    ghost use Rattle.vecmap_map.specs.Lends.{lends_value_at};
+    ghost use Rattle.vecmap_map.specs.Entry.{IsInserted, LeavesSame, entries_swap_without, entries_without, entry_index, entry_key, entry_map, entry_pair, entry_value, occupied_with};
+    ghost use Rattle.vecmap_map.specs.EntryLends.{entry_passes, occupied_lends, occupied_lends_on};
 
     /// The key that was handed in. The stored one is equal, and may differ.
     pub fn key(&self) -> &K
@@ -68,7 +66,7 @@ impl<'a, K, V> OccupiedEntry<'a, K, V> {
     pub fn into_mut(self) -> &'a mut V
     where
         K: Drop,
-        ensures* writes_back { sem 𝓛 (lends_value_at K.row V.row (entry_ref (Occupied self.entry)) (entry_index (Occupied self.entry)) result) }
+        ensures* writes_back { sem 𝓛 (occupied_lends_on K.row V.row self.entry result) }
         ensures value { entry_value (Occupied self.entry) ≡ Some result.now }
     {
         let OccupiedEntry { map, key: _, index } = self;
@@ -90,8 +88,8 @@ impl<'a, K, V> OccupiedEntry<'a, K, V> {
     pub fn remove_entry(self) -> (K, V)
     where
         K: Drop,
-        ensures pair { slice_get (entry_map (Occupied self.entry)).entries (entry_index (Occupied self.entry)) ≡ Some result }
-        ensures entries { self.exit.0.now.entries ≡ remove (entry_map (Occupied self.entry)).entries (entry_index (Occupied self.entry)) }
+        ensures pair { entry_pair (Occupied self.entry) ≡ Some result }
+        ensures entries { self.exit.0.now.entries ≡ entries_without (Occupied self.entry) }
         ensures capacity { self.exit.0.now.capacity ≡ (entry_map (Occupied self.entry)).capacity }
     {
         let index = self.index;
@@ -103,8 +101,8 @@ impl<'a, K, V> OccupiedEntry<'a, K, V> {
     pub fn swap_remove_entry(self) -> (K, V)
     where
         K: Drop,
-        ensures pair { slice_get (entry_map (Occupied self.entry)).entries (entry_index (Occupied self.entry)) ≡ Some result }
-        ensures entries { self.exit.0.now.entries ≡ swap_without (entry_map (Occupied self.entry)).entries (entry_index (Occupied self.entry)) }
+        ensures pair { entry_pair (Occupied self.entry) ≡ Some result }
+        ensures entries { self.exit.0.now.entries ≡ entries_swap_without (Occupied self.entry) }
         ensures capacity { self.exit.0.now.capacity ≡ (entry_map (Occupied self.entry)).capacity }
     {
         let index = self.index;
@@ -117,7 +115,7 @@ impl<'a, K, V> OccupiedEntry<'a, K, V> {
     where
         K: Drop,
         ensures value { entry_value (Occupied self.entry) ≡ Some result }
-        ensures entries { self.exit.0.now.entries ≡ remove (entry_map (Occupied self.entry)).entries (entry_index (Occupied self.entry)) }
+        ensures entries { self.exit.0.now.entries ≡ entries_without (Occupied self.entry) }
         ensures capacity { self.exit.0.now.capacity ≡ (entry_map (Occupied self.entry)).capacity }
     {
         let (_key, value) = self.remove_entry();
@@ -129,7 +127,7 @@ impl<'a, K, V> OccupiedEntry<'a, K, V> {
     where
         K: Drop,
         ensures value { entry_value (Occupied self.entry) ≡ Some result }
-        ensures entries { self.exit.0.now.entries ≡ swap_without (entry_map (Occupied self.entry)).entries (entry_index (Occupied self.entry)) }
+        ensures entries { self.exit.0.now.entries ≡ entries_swap_without (Occupied self.entry) }
         ensures capacity { self.exit.0.now.capacity ≡ (entry_map (Occupied self.entry)).capacity }
     {
         let (_key, value) = self.swap_remove_entry();

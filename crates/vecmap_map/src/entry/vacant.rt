@@ -1,6 +1,7 @@
 //! The entry of a key that is not there.
 ghost use Rattle.std.specs.Prelude.{◌≡◌, ◌≤◌, IfErr, IfOk, OnErr, length};
 ghost use Rattle.std.specs.Borrow.{sem};
+ghost use Rattle.vecmap_map.specs.Contents.{IsFull};
 
 use super::OccupiedEntry;
 use crate::VecMap;
@@ -70,7 +71,7 @@ impl<'a, K, V> VacantEntry<'a, K, V> {
         // Refused, the pair comes back, and where the key can be cloned only where the map is full.
         ensures* err { sem 𝓛 (entry_passes K.row V.row (Vacant self.entry) result) }
         ensures given { IfErr result (λ refused. refused.given ≡ (entry_key (Vacant self.entry), value)) }
-        ensures full { K.is_infallible (entry_key (Vacant self.entry)) → OnErr result (length (entry_map (Vacant self.entry)).entries ≡ (entry_map (Vacant self.entry)).capacity) }
+        ensures full { K.is_infallible (entry_key (Vacant self.entry)) → OnErr result (IsFull (entry_map (Vacant self.entry))) }
     {
         let VacantEntry { map, key } = self;
         let Ok(stored) = key.clone() else {
