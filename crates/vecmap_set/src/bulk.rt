@@ -88,7 +88,7 @@ impl<T: Eq> VecSet<T> {
         ensures succeeds { HasRoomForAll I.into_iter_gives I.IntoIter.remaining iter (length self.old.elements) self.old.capacity → IsOk result }
         ensures stays { HasRoomForAll I.into_iter_gives I.IntoIter.remaining iter (length self.old.elements) self.old.capacity → self.new.capacity ≡ self.old.capacity }
 
-        // It is refused at a new element where there is no room.
+        // It is refused at a new element, where the set is full.
         ensures err { OnErr result (StopsAt I.into_iter_gives I.IntoIter.next_gives iter (λ items next. RefusesAfter T.eq self.old items next self.new)) }
     {
         // A proof knows of the invariant where a field is used: the loop needs it at its start.
@@ -115,7 +115,7 @@ impl<T: Eq> VecSet<T> {
         ensures succeeds { HasRoomForAll I.into_iter_gives I.IntoIter.remaining iter (length self.old.elements) self.old.capacity → IsOk result }
         ensures stays { HasRoomForAll I.into_iter_gives I.IntoIter.remaining iter (length self.old.elements) self.old.capacity → self.new.capacity ≡ self.old.capacity }
 
-        // It is refused at a new element where there is no room.
+        // It is refused at a new element, where the set is full.
         ensures err { OnErr result (StopsAt I.into_iter_gives I.IntoIter.next_gives iter (λ items next. RefusesAfter T.eq self.old (map deref items) (deref next) self.new)) }
     {
         // As in `extend`.
