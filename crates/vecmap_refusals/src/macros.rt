@@ -1,10 +1,10 @@
 //! `vecmap!`, `vecset!` and what they call hand a refusal on.
-use crate::telling::{make, tell};
+use crate::telling::{full_map, full_set, make, tell};
 use std::alloc::{AllocError, Global};
 use std::test::Fail;
 use vecmap::macros::{add_item, put_pair};
 use vecmap::{VecMap, VecSet, vecmap, vecset};
-use vecmap_fixtures::{full_map, full_set, has_items, has_pairs, make_item};
+use vecmap_fixtures::{has_items, has_pairs, make_item};
 
 fn ages(alloc: Global) -> Result<VecMap<u32, u32>, AllocError> {
     Ok(vecmap!(alloc; 7 => 10, 8 => 20, 7 => 30))
@@ -16,16 +16,16 @@ fn ports(alloc: Global) -> Result<VecSet<u32>, AllocError> {
 
 #[test]
 fn macros_make_all_or_hand_the_refusal_on(rt: HostRuntime) -> Result<(), Fail> {
-    let map = make(&rt, || ages(rt.alloc()))?;
+    let map = make!(rt; ages(rt.alloc()));
     assert_eq!(rt; map.as_slice(), [(7, 30), (8, 20)].as_slice());
-    let set = make(&rt, || ports(rt.alloc()))?;
+    let set = make!(rt; ports(rt.alloc()));
     assert_eq!(rt; set.as_slice(), [2, 1].as_slice());
     Ok(())
 }
 
 #[test]
 fn put_pair_puts_the_pair_or_nothing(rt: HostRuntime) -> Result<(), Fail> {
-    let mut map = make(&rt, || full_map(rt.alloc(), &[(1, 'a', 10), (2, 'b', 20)]))?;
+    let mut map = full_map(&rt, rt.alloc(), &[(1, 'a', 10), (2, 'b', 20)])?;
     assert!(rt; put_pair(&mut map, make_item(1, 'z'), 30).is_ok() && map.capacity() == 2);
     if put_pair(&mut map, make_item(7, 'x'), 70).is_err() {
         tell(&rt)?;
@@ -39,7 +39,7 @@ fn put_pair_puts_the_pair_or_nothing(rt: HostRuntime) -> Result<(), Fail> {
 
 #[test]
 fn add_item_adds_the_element_or_nothing(rt: HostRuntime) -> Result<(), Fail> {
-    let mut set = make(&rt, || full_set(rt.alloc(), &[(1, 'a'), (2, 'b')]))?;
+    let mut set = full_set(&rt, rt.alloc(), &[(1, 'a'), (2, 'b')])?;
     assert!(rt; add_item(&mut set, make_item(1, 'z')).is_ok() && set.capacity() == 2);
     if add_item(&mut set, make_item(7, 'x')).is_err() {
         tell(&rt)?;

@@ -1,8 +1,8 @@
 //! Many pairs at once, put into a map that is full.
-use crate::telling::{make, tell};
+use crate::telling::{full_map, make, tell};
 use std::test::Fail;
 use vecmap::VecMap;
-use vecmap_fixtures::{Hinted, Item, full_map, has_pairs, make_item};
+use vecmap_fixtures::{Hinted, Item, has_pairs, make_item};
 
 const FULL: &[(u32, char, u32)] = &[(1, 'a', 10), (2, 'b', 20)];
 
@@ -54,8 +54,8 @@ fn has_all_that_fit(map: &VecMap<Item, u32>) -> bool {
 #[test]
 fn append_moves_all_or_nothing(rt: HostRuntime) -> Result<(), Fail> {
     let added = [(1, 'z', 30), (7, 'p', 70), (8, 'q', 80)];
-    let mut map = make(&rt, || full_map(rt.alloc(), FULL))?;
-    let mut other = make(&rt, || full_map(rt.alloc(), &added))?;
+    let mut map = full_map(&rt, rt.alloc(), FULL)?;
+    let mut other = full_map(&rt, rt.alloc(), &added)?;
     if map.append(&mut other).is_err() {
         tell(&rt)?;
         assert!(rt; has_pairs(map.as_slice(), FULL) && map.capacity() == 2);
@@ -76,7 +76,7 @@ fn extend_puts_the_pairs_before_the_refused_one(rt: HostRuntime) -> Result<(), F
             items: &items,
             hint,
         };
-        let mut map = make(&rt, || full_map(rt.alloc(), FULL))?;
+        let mut map = full_map(&rt, rt.alloc(), FULL)?;
         if map.extend(hinted().copied()).is_err() {
             tell(&rt)?;
             assert!(rt; has_all_that_fit(&map), "hint {hint}");
@@ -95,7 +95,7 @@ fn extend_pairs_puts_the_pairs_before_the_refused_one(rt: HostRuntime) -> Result
             items: &items,
             hint,
         };
-        let mut map = make(&rt, || full_map(rt.alloc(), FULL))?;
+        let mut map = full_map(&rt, rt.alloc(), FULL)?;
         if map.extend_pairs(hinted()).is_err() {
             tell(&rt)?;
             assert!(rt; has_all_that_fit(&map), "hint {hint}");
@@ -114,7 +114,7 @@ fn extend_refs_puts_the_pairs_before_the_refused_one(rt: HostRuntime) -> Result<
             let items = &items;
             Hinted { items, hint }.map(|pair| (&pair.0, &pair.1))
         };
-        let mut map = make(&rt, || full_map(rt.alloc(), FULL))?;
+        let mut map = full_map(&rt, rt.alloc(), FULL)?;
         if map.extend_refs(lent()).is_err() {
             tell(&rt)?;
             assert!(rt; has_all_that_fit(&map), "hint {hint}");
@@ -136,11 +136,11 @@ fn making_of_many_pairs_makes_all_or_nothing(rt: HostRuntime) -> Result<(), Fail
         (10, 't', 100),
         (11, 'u', 110),
     ];
-    let map = make(&rt, || VecMap::from_iter(rt.alloc(), pairs))?;
+    let map = make!(rt; VecMap::from_iter(rt.alloc(), pairs));
     assert!(rt; has_pairs(map.as_slice(), &all));
-    let map = make(&rt, || VecMap::from_slice(rt.alloc(), &pairs))?;
+    let map = make!(rt; VecMap::from_slice(rt.alloc(), &pairs));
     assert!(rt; has_pairs(map.as_slice(), &all));
-    let map: VecMap<Item, u32> = make(&rt, || pairs.iter().copied().collect(rt.alloc()))?;
+    let map: VecMap<Item, u32> = make!(rt; pairs.iter().copied().collect(rt.alloc()));
     assert!(rt; has_pairs(map.as_slice(), &all));
     Ok(())
 }

@@ -1,16 +1,16 @@
 //! Clones of keys and values that need memory of their own.
-use crate::telling::{make, tell};
+use crate::telling::{make, tell, text_map};
 use std::test::Fail;
 use vecmap::VecMap;
-use vecmap_fixtures::{has_text_pairs, text_map};
+use vecmap_fixtures::has_text_pairs;
 
 const TEXTS: &[(&str, &str)] = &[("b", "2"), ("a", "1")];
 
 #[test]
 fn clone_leaves_the_source(rt: HostRuntime) -> Result<(), Fail> {
-    let map = make(&rt, || text_map(rt.alloc(), TEXTS))?;
+    let map = text_map(&rt, rt.alloc(), TEXTS)?;
     let room = map.capacity();
-    let copy = make(&rt, || map.clone())?;
+    let copy = make!(rt; map.clone());
     assert!(rt; has_text_pairs(copy.as_slice(), TEXTS));
     assert!(rt; has_text_pairs(map.as_slice(), TEXTS) && map.capacity() == room);
     Ok(())
@@ -18,9 +18,9 @@ fn clone_leaves_the_source(rt: HostRuntime) -> Result<(), Fail> {
 
 #[test]
 fn to_vec_leaves_the_source(rt: HostRuntime) -> Result<(), Fail> {
-    let map = make(&rt, || text_map(rt.alloc(), TEXTS))?;
+    let map = text_map(&rt, rt.alloc(), TEXTS)?;
     let room = map.capacity();
-    let copies = make(&rt, || map.to_vec())?;
+    let copies = make!(rt; map.to_vec());
     assert!(rt; has_text_pairs(copies.as_slice(), TEXTS));
     assert!(rt; has_text_pairs(map.as_slice(), TEXTS) && map.capacity() == room);
     Ok(())
@@ -28,8 +28,8 @@ fn to_vec_leaves_the_source(rt: HostRuntime) -> Result<(), Fail> {
 
 #[test]
 fn from_slice_leaves_the_source(rt: HostRuntime) -> Result<(), Fail> {
-    let map = make(&rt, || text_map(rt.alloc(), TEXTS))?;
-    let copy = make(&rt, || VecMap::from_slice(rt.alloc(), map.as_slice()))?;
+    let map = text_map(&rt, rt.alloc(), TEXTS)?;
+    let copy = make!(rt; VecMap::from_slice(rt.alloc(), map.as_slice()));
     assert!(rt; has_text_pairs(copy.as_slice(), TEXTS));
     assert!(rt; has_text_pairs(map.as_slice(), TEXTS));
     Ok(())
@@ -47,8 +47,8 @@ fn has_some(map: &VecMap<String, String>) -> bool {
 
 #[test]
 fn extend_pairs_puts_the_clones_before_the_refused_one(rt: HostRuntime) -> Result<(), Fail> {
-    let mut map = make(&rt, || text_map(rt.alloc(), &[("a", "1")]))?;
-    let more = make(&rt, || text_map(rt.alloc(), MORE))?;
+    let mut map = text_map(&rt, rt.alloc(), &[("a", "1")])?;
+    let more = text_map(&rt, rt.alloc(), MORE)?;
     if map.extend_pairs(more.as_slice()).is_err() {
         tell(&rt)?;
         assert!(rt; has_some(&map));
@@ -60,8 +60,8 @@ fn extend_pairs_puts_the_clones_before_the_refused_one(rt: HostRuntime) -> Resul
 
 #[test]
 fn extend_refs_puts_the_clones_before_the_refused_one(rt: HostRuntime) -> Result<(), Fail> {
-    let mut map = make(&rt, || text_map(rt.alloc(), &[("a", "1")]))?;
-    let more = make(&rt, || text_map(rt.alloc(), MORE))?;
+    let mut map = text_map(&rt, rt.alloc(), &[("a", "1")])?;
+    let more = text_map(&rt, rt.alloc(), MORE)?;
     let lent = || more.as_slice().iter().map(|pair| (&pair.0, &pair.1));
     if map.extend_refs(lent()).is_err() {
         tell(&rt)?;

@@ -1,9 +1,9 @@
 //! Entries of a map that is full.
-use crate::telling::{make, tell};
+use crate::telling::{full_map, make, tell};
 use std::process::Abort;
 use std::test::Fail;
 use vecmap::map::{Entry, VecMap};
-use vecmap_fixtures::{Item, full_map, has_pairs, make_item};
+use vecmap_fixtures::{Item, has_pairs, make_item};
 
 const FULL: &[(u32, char, u32)] = &[(1, 'a', 10), (2, 'b', 20)];
 
@@ -41,7 +41,7 @@ fn or_insert(map: &mut VecMap<Item, u32>, key: Item, value: u32) -> Put {
 
 #[test]
 fn or_insert_gives_the_pair_back(rt: HostRuntime) -> Result<(), Fail> {
-    let map = make(&rt, || full_map(rt.alloc(), FULL))?;
+    let map = full_map(&rt, rt.alloc(), FULL)?;
     check(&rt, map, or_insert)
 }
 
@@ -54,7 +54,7 @@ fn or_insert_with(map: &mut VecMap<Item, u32>, key: Item, value: u32) -> Put {
 
 #[test]
 fn or_insert_with_gives_back_what_was_made(rt: HostRuntime) -> Result<(), Fail> {
-    let map = make(&rt, || full_map(rt.alloc(), FULL))?;
+    let map = full_map(&rt, rt.alloc(), FULL)?;
     check(&rt, map, or_insert_with)
 }
 
@@ -70,7 +70,7 @@ fn or_insert_with_key(map: &mut VecMap<Item, u32>, key: Item, _value: u32) -> Pu
 
 #[test]
 fn or_insert_with_key_gives_back_what_was_made(rt: HostRuntime) -> Result<(), Fail> {
-    let map = make(&rt, || full_map(rt.alloc(), FULL))?;
+    let map = full_map(&rt, rt.alloc(), FULL)?;
     check(&rt, map, or_insert_with_key)
 }
 
@@ -88,7 +88,7 @@ fn or_default(map: &mut VecMap<Item, u32>, key: Item, value: u32) -> Put {
 
 #[test]
 fn or_default_gives_back_the_default(rt: HostRuntime) -> Result<(), Fail> {
-    let map = make(&rt, || full_map(rt.alloc(), FULL))?;
+    let map = full_map(&rt, rt.alloc(), FULL)?;
     check(&rt, map, or_default)
 }
 
@@ -104,7 +104,7 @@ fn insert(map: &mut VecMap<Item, u32>, key: Item, value: u32) -> Put {
 
 #[test]
 fn a_vacant_entry_gives_the_pair_back(rt: HostRuntime) -> Result<(), Fail> {
-    let map = make(&rt, || full_map(rt.alloc(), FULL))?;
+    let map = full_map(&rt, rt.alloc(), FULL)?;
     check(&rt, map, insert)
 }
 
@@ -120,7 +120,7 @@ fn insert_vacant(map: &mut VecMap<Item, u32>, key: Item, value: u32) -> Put {
 
 #[test]
 fn insert_entry_of_a_vacant_entry_gives_the_pair_back(rt: HostRuntime) -> Result<(), Fail> {
-    let map = make(&rt, || full_map(rt.alloc(), FULL))?;
+    let map = full_map(&rt, rt.alloc(), FULL)?;
     check(&rt, map, insert_vacant)
 }
 
@@ -133,15 +133,15 @@ fn insert_entry(map: &mut VecMap<Item, u32>, key: Item, value: u32) -> Put {
 
 #[test]
 fn insert_entry_gives_the_pair_back(rt: HostRuntime) -> Result<(), Fail> {
-    let map = make(&rt, || full_map(rt.alloc(), FULL))?;
+    let map = full_map(&rt, rt.alloc(), FULL)?;
     check(&rt, map, insert_entry)
 }
 
 #[test]
 fn a_clone_without_memory_gives_the_pair_back(rt: HostRuntime) -> Result<(), Fail> {
-    let mut map = make(&rt, || VecMap::with_capacity(rt.alloc(), 1))?;
+    let mut map = make!(rt; VecMap::with_capacity(rt.alloc(), 1));
     let room = map.capacity();
-    let key = make(&rt, || String::from_str(rt.alloc(), "key"))?;
+    let key = make!(rt; String::from_str(rt.alloc(), "key"));
     let given = match map.entry(key).insert_entry(7) {
         Ok(entry) => {
             assert!(rt; entry.key().as_str() == "key" && entry.index() == 0);
@@ -161,7 +161,7 @@ fn a_clone_without_memory_gives_the_pair_back(rt: HostRuntime) -> Result<(), Fai
 
 #[test]
 fn an_occupied_entry_is_never_refused(rt: HostRuntime) -> Result<(), Fail> {
-    let mut map = make(&rt, || full_map(rt.alloc(), FULL))?;
+    let mut map = full_map(&rt, rt.alloc(), FULL)?;
     let key = make_item(1, 'z');
     assert!(rt; matches!(map.entry(key).or_insert(1), Ok(10)));
     assert!(rt; matches!(map.entry(key).or_insert_with(|| 1), Ok(10)));

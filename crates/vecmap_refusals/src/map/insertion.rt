@@ -1,8 +1,8 @@
 //! Insertion into a map that is full.
-use crate::telling::{make, tell};
+use crate::telling::{full_map, tell};
 use std::test::Fail;
 use vecmap::VecMap;
-use vecmap_fixtures::{Item, full_map, has_pairs, make_item};
+use vecmap_fixtures::{Item, has_pairs, make_item};
 
 const FULL: &[(u32, char, u32)] = &[(1, 'a', 10), (2, 'b', 20)];
 
@@ -13,7 +13,7 @@ fn is_full(map: &VecMap<Item, u32>) -> bool {
 
 #[test]
 fn insert_gives_the_pair_back(rt: HostRuntime) -> Result<(), Fail> {
-    let mut map = make(&rt, || full_map(rt.alloc(), FULL))?;
+    let mut map = full_map(&rt, rt.alloc(), FULL)?;
     let old = match map.insert(make_item(7, 'x'), 70) {
         Ok(old) => old,
         Err(refused) => {
@@ -29,7 +29,7 @@ fn insert_gives_the_pair_back(rt: HostRuntime) -> Result<(), Fail> {
 
 #[test]
 fn insert_full_gives_the_pair_back(rt: HostRuntime) -> Result<(), Fail> {
-    let mut map = make(&rt, || full_map(rt.alloc(), FULL))?;
+    let mut map = full_map(&rt, rt.alloc(), FULL)?;
     let done = match map.insert_full(make_item(7, 'x'), 70) {
         Ok(done) => done,
         Err(refused) => {
@@ -45,7 +45,7 @@ fn insert_full_gives_the_pair_back(rt: HostRuntime) -> Result<(), Fail> {
 
 #[test]
 fn insert_at_gives_the_pair_back(rt: HostRuntime) -> Result<(), Fail> {
-    let mut map = make(&rt, || full_map(rt.alloc(), FULL))?;
+    let mut map = full_map(&rt, rt.alloc(), FULL)?;
     let old = match map.insert_at(0, make_item(7, 'x'), 70) {
         Ok(old) => old,
         Err(refused) => {
@@ -61,7 +61,7 @@ fn insert_at_gives_the_pair_back(rt: HostRuntime) -> Result<(), Fail> {
 
 #[test]
 fn an_equal_key_is_never_refused(rt: HostRuntime) -> Result<(), Fail> {
-    let mut map = make(&rt, || full_map(rt.alloc(), FULL))?;
+    let mut map = full_map(&rt, rt.alloc(), FULL)?;
     assert!(rt; matches!(map.insert(make_item(1, 'x'), 1), Ok(Some(10))));
     assert!(rt; matches!(map.insert_full(make_item(1, 'y'), 2), Ok((0, Some(1)))));
     assert!(rt; has_pairs(map.as_slice(), &[(1, 'a', 2), (2, 'b', 20)]));

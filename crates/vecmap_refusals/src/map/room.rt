@@ -1,14 +1,14 @@
 //! Room for a map.
-use crate::telling::{make, tell};
+use crate::telling::{full_map, make, tell};
 use std::test::Fail;
 use vecmap::VecMap;
-use vecmap_fixtures::{full_map, has_pairs, make_item};
+use vecmap_fixtures::{has_pairs, make_item};
 
 const FULL: &[(u32, char, u32)] = &[(1, 'a', 10), (2, 'b', 20)];
 
 #[test]
 fn with_capacity_makes_all_the_room_or_nothing(rt: HostRuntime) -> Result<(), Fail> {
-    let map: VecMap<u32, u32> = make(&rt, || VecMap::with_capacity(rt.alloc(), 3))?;
+    let map: VecMap<u32, u32> = make!(rt; VecMap::with_capacity(rt.alloc(), 3));
     assert!(rt; map.is_empty() && 3 <= map.capacity());
     Ok(())
 }
@@ -16,7 +16,7 @@ fn with_capacity_makes_all_the_room_or_nothing(rt: HostRuntime) -> Result<(), Fa
 #[test]
 fn the_reserving_calls_leave_all_as_before(rt: HostRuntime) -> Result<(), Fail> {
     for call in 0..4 {
-        let mut map = make(&rt, || full_map(rt.alloc(), FULL))?;
+        let mut map = full_map(&rt, rt.alloc(), FULL)?;
         for is_again in [false, true] {
             let granted = match call {
                 0 => map.reserve(2).is_ok(),
@@ -38,7 +38,7 @@ fn the_reserving_calls_leave_all_as_before(rt: HostRuntime) -> Result<(), Fail> 
 
 #[test]
 fn shrinking_without_memory_keeps_the_list(rt: HostRuntime) -> Result<(), Fail> {
-    let mut map = make(&rt, || full_map(rt.alloc(), FULL))?;
+    let mut map = full_map(&rt, rt.alloc(), FULL)?;
     if map.reserve_exact(8).is_err() {
         tell(&rt)?;
         map.reserve_exact(8)?;

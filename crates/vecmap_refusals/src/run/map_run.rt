@@ -1,9 +1,9 @@
 //! Runs of commands.
-use crate::telling::{make, tell};
+use crate::telling::{full_map, make, tell, text_map};
 use std::alloc::{AllocError, Global};
 use std::test::Fail;
 use vecmap::{MapCommand, MapReply, VecMap, run};
-use vecmap_fixtures::{Item, full_map, has_pairs, has_text_pairs, make_item, text_map};
+use vecmap_fixtures::{Item, has_pairs, has_text_pairs, make_item};
 
 const FULL: &[(u32, char, u32)] = &[(1, 'a', 10), (2, 'b', 20)];
 
@@ -44,8 +44,8 @@ fn has_all_but_the_first(replies: &[MapReply<Item, u32>], map: &VecMap<Item, u32
 fn a_run_goes_on_after_a_refused_command(rt: HostRuntime) -> Result<(), Fail> {
     let mut is_refused = false;
     for _ in 0..2 {
-        let mut map = make(&rt, || full_map(rt.alloc(), FULL))?;
-        let commands = make(&rt, || commands(rt.alloc()))?;
+        let mut map = full_map(&rt, rt.alloc(), FULL)?;
+        let commands = make!(rt; commands(rt.alloc()));
         match run(rt.alloc(), &mut map, commands) {
             Ok(replies) if has_all(&replies, &map) => return Ok(()),
             Ok(replies) => assert!(rt; has_all_but_the_first(&replies, &map)),
@@ -74,10 +74,10 @@ fn to_vec(alloc: Global) -> Result<Vec<MapCommand<String, String>>, AllocError> 
 
 #[test]
 fn a_get_whose_clone_is_refused_answers_no_memory(rt: HostRuntime) -> Result<(), Fail> {
-    let mut map = make(&rt, || text_map(rt.alloc(), TEXTS))?;
+    let mut map = text_map(&rt, rt.alloc(), TEXTS)?;
     let mut is_refused = false;
     for _ in 0..2 {
-        let commands = make(&rt, || get(rt.alloc()))?;
+        let commands = make!(rt; get(rt.alloc()));
         let replies = run(rt.alloc(), &mut map, commands);
         assert!(rt; has_text_pairs(map.as_slice(), TEXTS));
         match replies.as_deref() {
@@ -93,10 +93,10 @@ fn a_get_whose_clone_is_refused_answers_no_memory(rt: HostRuntime) -> Result<(),
 
 #[test]
 fn a_list_whose_clone_is_refused_answers_no_memory(rt: HostRuntime) -> Result<(), Fail> {
-    let mut map = make(&rt, || text_map(rt.alloc(), TEXTS))?;
+    let mut map = text_map(&rt, rt.alloc(), TEXTS)?;
     let mut is_refused = false;
     for _ in 0..2 {
-        let commands = make(&rt, || to_vec(rt.alloc()))?;
+        let commands = make!(rt; to_vec(rt.alloc()));
         let replies = run(rt.alloc(), &mut map, commands);
         assert!(rt; has_text_pairs(map.as_slice(), TEXTS));
         match replies.as_deref() {

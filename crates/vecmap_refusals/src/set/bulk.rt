@@ -1,8 +1,8 @@
 //! Many elements at once, added to a set that is full.
-use crate::telling::{make, tell};
+use crate::telling::{full_set, make, tell};
 use std::test::Fail;
 use vecmap::VecSet;
-use vecmap_fixtures::{Hinted, Item, full_set, has_items, make_item};
+use vecmap_fixtures::{Hinted, Item, has_items, make_item};
 
 const FULL: &[(u32, char)] = &[(1, 'a'), (2, 'b')];
 
@@ -45,8 +45,8 @@ fn has_all_that_fit(set: &VecSet<Item>) -> bool {
 #[test]
 fn append_moves_all_or_nothing(rt: HostRuntime) -> Result<(), Fail> {
     let added = [(1, 'z'), (7, 'p'), (8, 'q')];
-    let mut set = make(&rt, || full_set(rt.alloc(), FULL))?;
-    let mut other = make(&rt, || full_set(rt.alloc(), &added))?;
+    let mut set = full_set(&rt, rt.alloc(), FULL)?;
+    let mut other = full_set(&rt, rt.alloc(), &added)?;
     if set.append(&mut other).is_err() {
         tell(&rt)?;
         assert!(rt; has_items(set.as_slice(), FULL) && set.capacity() == 2);
@@ -67,7 +67,7 @@ fn extend_adds_the_elements_before_the_refused_one(rt: HostRuntime) -> Result<()
             items: &items,
             hint,
         };
-        let mut set = make(&rt, || full_set(rt.alloc(), FULL))?;
+        let mut set = full_set(&rt, rt.alloc(), FULL)?;
         if set.extend(hinted().copied()).is_err() {
             tell(&rt)?;
             assert!(rt; has_all_that_fit(&set), "hint {hint}");
@@ -81,7 +81,7 @@ fn extend_adds_the_elements_before_the_refused_one(rt: HostRuntime) -> Result<()
 #[test]
 fn extend_copied_adds_the_elements_before_the_refused_one(rt: HostRuntime) -> Result<(), Fail> {
     let items = more();
-    let mut set = make(&rt, || full_set(rt.alloc(), FULL))?;
+    let mut set = full_set(&rt, rt.alloc(), FULL)?;
     if set.extend_copied(&items).is_err() {
         tell(&rt)?;
         assert!(rt; has_all_that_fit(&set));
@@ -103,11 +103,11 @@ fn making_of_many_elements_makes_all_or_nothing(rt: HostRuntime) -> Result<(), F
         (10, 't'),
         (11, 'u'),
     ];
-    let set = make(&rt, || VecSet::from_iter(rt.alloc(), items))?;
+    let set = make!(rt; VecSet::from_iter(rt.alloc(), items));
     assert!(rt; has_items(set.as_slice(), &all));
-    let set = make(&rt, || VecSet::from_slice(rt.alloc(), &items))?;
+    let set = make!(rt; VecSet::from_slice(rt.alloc(), &items));
     assert!(rt; has_items(set.as_slice(), &all));
-    let set: VecSet<Item> = make(&rt, || items.iter().copied().collect(rt.alloc()))?;
+    let set: VecSet<Item> = make!(rt; items.iter().copied().collect(rt.alloc()));
     assert!(rt; has_items(set.as_slice(), &all));
     Ok(())
 }

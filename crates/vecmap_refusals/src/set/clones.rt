@@ -1,16 +1,16 @@
 //! Clones of elements that need memory of their own.
-use crate::telling::make;
+use crate::telling::{make, text_set};
 use std::test::Fail;
 use vecmap::VecSet;
-use vecmap_fixtures::{has_texts, text_set};
+use vecmap_fixtures::has_texts;
 
 const TEXTS: &[&str] = &["b", "a"];
 
 #[test]
 fn clone_leaves_the_source(rt: HostRuntime) -> Result<(), Fail> {
-    let set = make(&rt, || text_set(rt.alloc(), TEXTS))?;
+    let set = text_set(&rt, rt.alloc(), TEXTS)?;
     let room = set.capacity();
-    let copy = make(&rt, || set.clone())?;
+    let copy = make!(rt; set.clone());
     assert!(rt; has_texts(copy.as_slice(), TEXTS));
     assert!(rt; has_texts(set.as_slice(), TEXTS) && set.capacity() == room);
     Ok(())
@@ -18,9 +18,9 @@ fn clone_leaves_the_source(rt: HostRuntime) -> Result<(), Fail> {
 
 #[test]
 fn to_vec_leaves_the_source(rt: HostRuntime) -> Result<(), Fail> {
-    let set = make(&rt, || text_set(rt.alloc(), TEXTS))?;
+    let set = text_set(&rt, rt.alloc(), TEXTS)?;
     let room = set.capacity();
-    let copies = make(&rt, || set.to_vec())?;
+    let copies = make!(rt; set.to_vec());
     assert!(rt; has_texts(copies.as_slice(), TEXTS));
     assert!(rt; has_texts(set.as_slice(), TEXTS) && set.capacity() == room);
     Ok(())
@@ -28,8 +28,8 @@ fn to_vec_leaves_the_source(rt: HostRuntime) -> Result<(), Fail> {
 
 #[test]
 fn from_slice_leaves_the_source(rt: HostRuntime) -> Result<(), Fail> {
-    let set = make(&rt, || text_set(rt.alloc(), TEXTS))?;
-    let copy = make(&rt, || VecSet::from_slice(rt.alloc(), set.as_slice()))?;
+    let set = text_set(&rt, rt.alloc(), TEXTS)?;
+    let copy = make!(rt; VecSet::from_slice(rt.alloc(), set.as_slice()));
     assert!(rt; has_texts(copy.as_slice(), TEXTS));
     assert!(rt; has_texts(set.as_slice(), TEXTS));
     Ok(())

@@ -1,13 +1,13 @@
 //! Insertion into a set that is full.
-use crate::telling::{make, tell};
+use crate::telling::{full_set, tell};
 use std::test::Fail;
-use vecmap_fixtures::{full_set, has_items, make_item};
+use vecmap_fixtures::{has_items, make_item};
 
 const FULL: &[(u32, char)] = &[(1, 'a'), (2, 'b')];
 
 #[test]
 fn insert_gives_the_element_back(rt: HostRuntime) -> Result<(), Fail> {
-    let mut set = make(&rt, || full_set(rt.alloc(), FULL))?;
+    let mut set = full_set(&rt, rt.alloc(), FULL)?;
     assert!(rt; matches!(set.insert(make_item(2, 'z')), Ok(false)));
     let added = match set.insert(make_item(7, 'x')) {
         Ok(added) => added,

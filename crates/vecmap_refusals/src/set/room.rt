@@ -1,14 +1,14 @@
 //! Room for a set.
-use crate::telling::{make, tell};
+use crate::telling::{full_set, make, tell};
 use std::test::Fail;
 use vecmap::VecSet;
-use vecmap_fixtures::{full_set, has_items, make_item};
+use vecmap_fixtures::{has_items, make_item};
 
 const FULL: &[(u32, char)] = &[(1, 'a'), (2, 'b')];
 
 #[test]
 fn with_capacity_makes_all_the_room_or_nothing(rt: HostRuntime) -> Result<(), Fail> {
-    let set: VecSet<u32> = make(&rt, || VecSet::with_capacity(rt.alloc(), 3))?;
+    let set: VecSet<u32> = make!(rt; VecSet::with_capacity(rt.alloc(), 3));
     assert!(rt; set.is_empty() && 3 <= set.capacity());
     Ok(())
 }
@@ -16,7 +16,7 @@ fn with_capacity_makes_all_the_room_or_nothing(rt: HostRuntime) -> Result<(), Fa
 #[test]
 fn the_reserving_calls_leave_all_as_before(rt: HostRuntime) -> Result<(), Fail> {
     for call in 0..4 {
-        let mut set = make(&rt, || full_set(rt.alloc(), FULL))?;
+        let mut set = full_set(&rt, rt.alloc(), FULL)?;
         for is_again in [false, true] {
             let granted = match call {
                 0 => set.reserve(2).is_ok(),
@@ -38,7 +38,7 @@ fn the_reserving_calls_leave_all_as_before(rt: HostRuntime) -> Result<(), Fail> 
 
 #[test]
 fn shrinking_without_memory_keeps_the_list(rt: HostRuntime) -> Result<(), Fail> {
-    let mut set = make(&rt, || full_set(rt.alloc(), FULL))?;
+    let mut set = full_set(&rt, rt.alloc(), FULL)?;
     if set.reserve_exact(8).is_err() {
         tell(&rt)?;
         set.reserve_exact(8)?;

@@ -359,3 +359,35 @@ fn stops_where_a_write_fails(rt: HostRuntime) -> Result<(), Fail> {
     }
     Ok(())
 }
+
+// Where `rt try --test --fail-alloc N` refuses a request of this test, which is told, that is for a key's text, or for
+// room for the first key or for the fifth. No second request is refused, so the next run has all answers.
+#[test]
+fn goes_on_after_a_refused_request_for_memory(rt: HostRuntime) -> Result<(), Fail> {
+    let input =
+        "insert a 1\ninsert_at 1 b 2\nor_insert c 3\ninsert a 4\ninsert d 5\ninsert e 6\nlist";
+    let outputs = [
+        "none\nnone\nsome 3\nsome 1\nnone\nnone\na=4 b=2 c=3 d=5 e=6\n",
+        "memory\nrange\nsome 3\nnone\nnone\nnone\nc=3 a=4 d=5 e=6\n",
+        "none\nmemory\nsome 3\nsome 1\nnone\nnone\na=4 c=3 d=5 e=6\n",
+        "none\nnone\nmemory\nsome 1\nnone\nnone\na=4 b=2 d=5 e=6\n",
+        "none\nnone\nsome 3\nmemory\nnone\nnone\na=1 b=2 c=3 d=5 e=6\n",
+        "none\nnone\nsome 3\nsome 1\nmemory\nnone\na=4 b=2 c=3 e=6\n",
+        "none\nnone\nsome 3\nsome 1\nnone\nmemory\na=4 b=2 c=3 d=5\n",
+        "",
+    ];
+    for is_first in [true, false] {
+        let mut written = Vec::new(rt.alloc());
+        if written.reserve(256).is_ok() {
+            let mut reader = input.as_bytes();
+            serve(rt.alloc(), &mut reader, &mut written)?;
+        }
+        let output = str::from_utf8(&written).unwrap_or("not text");
+        match outputs.iter().position(|wanted| *wanted == output) {
+            Some(0) => return Ok(()),
+            Some(_) if is_first => println!(rt; "refused")?,
+            _ => assert!(rt; false, "{output}"),
+        }
+    }
+    Ok(())
+}
