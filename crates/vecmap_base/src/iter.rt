@@ -1,6 +1,8 @@
 //! The iterators over a map's pairs, keys and values, by reference and by value.
-mod by_reference;
-mod by_value;
+mod keys;
+mod pairs;
+mod values;
 
-pub use by_reference::{Iter, Keys, Values};
-pub use by_value::{IntoIter, IntoKeys, IntoValues};
+pub use keys::{IntoKeys, Keys};
+pub use pairs::{IntoIter, Iter};
+pub use values::{IntoValues, Values};

@@ -1,15 +1,18 @@
 //! What the tests of maps and sets begin with: keys that are equal and not identical, texts, keys that tell of their
-//! comparisons, iterators with a hint of their own, maps and sets of these, and comparisons of whole lists.
+//! comparisons and drops, iterators with a hint of their own, maps and sets of these, and comparisons of whole lists and
+//! of pulls from both ends.
 #![tactic(auto)]
 
 mod hinted;
 mod item;
 mod made;
+mod pulls;
 mod texts;
 mod told;
 
 pub use hinted::Hinted;
 pub use item::{Item, has_items, has_pairs, make_item};
 pub use made::{full_map, full_set, item_map, item_set, repeating_map, set_of};
+pub use pulls::pulls_as_list;
 pub use texts::{has_text_pairs, has_texts, text_map, text_set};
 pub use told::{Log, Told, told_items, told_pairs};

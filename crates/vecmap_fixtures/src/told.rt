@@ -1,4 +1,4 @@
-//! A key or an element that tells of its comparisons.
+//! A key or an element that tells of its comparisons and of its drop.
 use std::alloc::{AllocError, Global};
 use std::cell::Cell;
 
@@ -6,7 +6,7 @@ use std::cell::Cell;
 #[derive(Drop)]
 pub struct Log {
     comparisons: Cell<u32>,
-    has_dropped: Cell<bool>,
+    drops: Cell<u32>,
     compares_after_drop: Cell<bool>,
 }
 
@@ -15,7 +15,7 @@ impl Log {
     pub fn new() -> Log {
         Log {
             comparisons: Cell::new(0),
-            has_dropped: Cell::new(false),
+            drops: Cell::new(0),
             compares_after_drop: Cell::new(false),
         }
     }
@@ -25,7 +25,12 @@ impl Log {
         self.comparisons.get()
     }
 
-    /// Whether one came after a value was dropped.
+    /// How many values were dropped.
+    pub fn drops(&self) -> u32 {
+        self.drops.get()
+    }
+
+    /// Whether a comparison came after a value was dropped.
     pub fn compares_after_drop(&self) -> bool {
         self.compares_after_drop.get()
     }
@@ -49,7 +54,7 @@ impl PartialEq for Told<'_> {
         self.log
             .comparisons
             .set(self.log.comparisons.get().wrapping_add(1));
-        if self.log.has_dropped.get() {
+        if self.log.drops.get() != 0 {
             self.log.compares_after_drop.set(true);
         }
         self.number == other.number
@@ -64,7 +69,7 @@ impl Eq for Told<'_> {
 
 impl Drop for Told<'_> {
     fn drop(self) {
-        self.log.has_dropped.set(true);
+        self.log.drops.set(self.log.drops.get().wrapping_add(1));
         let Told { number: _, log: _ } = self;
     }
 }

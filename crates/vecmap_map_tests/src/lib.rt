@@ -4,6 +4,8 @@
 #[cfg(test)]
 mod bulk;
 #[cfg(test)]
+mod by_reference;
+#[cfg(test)]
 mod conversion;
 #[cfg(test)]
 mod entry;
@@ -13,6 +15,8 @@ mod equality;
 mod hints;
 #[cfg(test)]
 mod insertion;
+#[cfg(test)]
+mod iteration;
 #[cfg(test)]
 mod lending;
 #[cfg(test)]

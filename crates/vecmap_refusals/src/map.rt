@@ -3,4 +3,5 @@ mod bulk;
 mod clones;
 mod entry;
 mod insertion;
+mod iteration;
 mod room;

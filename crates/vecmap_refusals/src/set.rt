@@ -2,5 +2,6 @@
 mod bulk;
 mod clones;
 mod insertion;
+mod iteration;
 mod operators;
 mod room;

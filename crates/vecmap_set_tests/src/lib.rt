@@ -4,11 +4,15 @@
 #[cfg(test)]
 mod bulk;
 #[cfg(test)]
+mod by_reference;
+#[cfg(test)]
 mod conversion;
 #[cfg(test)]
 mod equality;
 #[cfg(test)]
 mod insertion;
+#[cfg(test)]
+mod iteration;
 #[cfg(test)]
 mod lazy;
 #[cfg(test)]

@@ -1,5 +1,6 @@
 //! Tests of lists.
 mod distinct;
+mod iter_mut;
 mod lookup;
 mod repeats;
 mod steps;

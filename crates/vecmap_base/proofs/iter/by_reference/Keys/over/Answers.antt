@@ -1,9 +1,0 @@
-use Rattle.std.specs.Map.Iter.{deref}
-use Rattle.vecmap_base.proofs.WalkLemmas.{shows_in_order, shows_in_reverse}
-use Rattle.vecmap_base.proofs.iter.by_reference.Keys.over.Goals as goal
-
-pub returns-clause-runs : goal.returns-clause-runs
-returns-clause-runs g c = shows_in_order deref
-
-pub returns-clause-runs_back : goal.returns-clause-runs_back
-returns-clause-runs_back g c = shows_in_reverse deref

@@ -1,0 +1,8 @@
+use Rattle.vecmap_base.proofs.WalkLemmas.{gives_in_order, gives_in_reverse}
+use Rattle.vecmap_base.proofs.iter.values.IntoValues.over.Goals as goal
+
+pub returns-clause-runs : goal.returns-clause-runs
+returns-clause-runs g c = gives_in_order
+
+pub returns-clause-runs_back : goal.returns-clause-runs_back
+returns-clause-runs_back g c = gives_in_reverse

@@ -1,0 +1,191 @@
+//! The iterators over a map's keys, by reference and by value.
+//!
+//! A contract sees each as the list of what it has left. `next` takes the first of it and `next_back` the last, in
+//! constant time; once it is empty, both answer `None`. Only the `clone` of `IntoKeys` takes memory, and time by the
+//! length of the list.
+ghost use Rattle.std.specs.Prelude.{◌≡◌, ◌<◌, ◌^◌, IfOk, IfSome, length};
+ghost use Rattle.std.specs.Iterator.{UpTo, at_most};
+ghost use Rattle.std.specs.Iterator.SizeHint.{IsWithinCount};
+ghost use Rattle.std.specs.Map.{keys_of};
+ghost use Rattle.std.specs.Map.Iter.{GivesInOrder, GivesInReverse, ShowsInOrder, ShowsInReverse, TakesFirst, TakesLast, deref};
+ghost use Rattle.vecmap_base.specs.Clones.{AreClones};
+
+use std::alloc::AllocError;
+use std::collections::VecDeque;
+use std::marker::Model;
+use std::{fmt, slice};
+
+/// The keys of a map, each as `&K`, in their order. `VecMap::keys` makes it.
+#[derive(Drop)]
+pub struct Keys<'a, K, V> {
+    pairs: slice::Iter<'a, (K, V)>,
+}
+
+impl<'a, K, V> Model for Keys<'a, K, V> {
+    ghost use Rattle.std.specs.Prelude.{List};
+    ghost use Rattle.std.specs.Map.{keys_of};
+    ghost use Rattle.std.specs.Slice.Iter.{iter_rest};
+
+    ghost Value = { List K };
+
+    ghost view = { λ a. keys_of (iter_rest a.pairs) };
+}
+
+impl<'a, K, V> Keys<'a, K, V> {
+    /// The keys of a slice of pairs, from the first to the last.
+    pub fn over(pairs: &'a [(K, V)]) -> Keys<'a, K, V>
+        ensures rest { result ≡ keys_of pairs.now }
+        ensures fits { length result < 2 ^ 64 }
+        ensures runs { ShowsInOrder (deref {X = K}) }
+        ensures runs_back { ShowsInReverse (deref {X = K}) }
+    {
+        Keys {
+            pairs: pairs.iter(),
+        }
+    }
+
+    /// Another over what is left. It takes no memory.
+    pub fn clone(&self) -> Keys<'a, K, V>
+        ensures { result ≡ self.now }
+    {
+        Keys {
+            pairs: self.pairs.as_slice().iter(),
+        }
+    }
+}
+
+impl<'a, K, V> Iterator for Keys<'a, K, V> {
+    type Item = &'a K;
+
+    ghost next_gives = { TakesFirst deref };
+
+    ghost remaining = { λ s. at_most (length s) };
+
+    fn next(&mut self) -> Option<&'a K> {
+        let pair = self.pairs.next()?;
+        Some(&pair.0)
+    }
+
+    /// The number of items left, as both ends.
+    fn size_hint(&self) -> (usize, Option<usize>)
+        ensures lower { IsWithinCount result.0 (at_most (length self.now)) }
+        ensures upper { IfSome result.1 (UpTo (at_most (length self.now))) }
+        ensures exact { result ≡ (length self.now, Some (length self.now)) }
+    {
+        let len = self.len();
+        (len, Some(len))
+    }
+}
+
+impl<'a, K, V> DoubleEndedIterator for Keys<'a, K, V> {
+    ghost next_back_gives = { TakesLast deref };
+
+    fn next_back(&mut self) -> Option<&'a K> {
+        let pair = self.pairs.next_back()?;
+        Some(&pair.0)
+    }
+}
+
+impl<'a, K, V> ExactSizeIterator for Keys<'a, K, V> {
+    /// The number of items left.
+    fn len(&self) -> usize {
+        self.pairs.len()
+    }
+}
+
+/// Prints what is left as std prints a list.
+impl<'a, K: fmt::Debug, V> fmt::Debug for Keys<'a, K, V> {
+    fn fmt<W: fmt::Write>(&self, f: &mut fmt::Formatter<W>) -> fmt::Result {
+        f.debug_list().entries(self.clone()).finish()
+    }
+}
+
+/// The keys of a map, each as `K`, in their order. `VecMap::into_keys` makes it. Dropped, it drops what is left.
+#[derive(Drop)]
+pub struct IntoKeys<K, V> {
+    pairs: VecDeque<(K, V)>,
+}
+
+impl<K, V> Model for IntoKeys<K, V> {
+    ghost use Rattle.std.specs.Prelude.{List};
+    ghost use Rattle.std.specs.Map.{keys_of};
+
+    ghost Value = { List K };
+
+    ghost view = { λ a. keys_of a.pairs.items };
+}
+
+impl<K, V> IntoKeys<K, V> {
+    /// The keys of a vector of pairs, from the first to the last. It takes no memory.
+    pub fn over(pairs: Vec<(K, V)>) -> IntoKeys<K, V>
+        ensures rest { result ≡ keys_of pairs.items }
+        ensures fits { length result < 2 ^ 64 }
+        ensures runs { GivesInOrder K }
+        ensures runs_back { GivesInReverse K }
+    {
+        IntoKeys {
+            pairs: VecDeque::from_vec(pairs),
+        }
+    }
+
+    /// Another over clones of the keys that are left, in the same order. Their values are cloned too. Refused, nothing is
+    /// made, and this one still gives all that it has left.
+    pub fn clone(&self) -> Result<IntoKeys<K, V>, AllocError>
+    where
+        K: Clone,
+        V: Clone,
+        ensures { IfOk result (λ copy. AreClones K.is_clone self.now copy) }
+    {
+        Ok(IntoKeys {
+            pairs: self.pairs.clone()?,
+        })
+    }
+}
+
+impl<K: Drop, V: Drop> Iterator for IntoKeys<K, V> {
+    type Item = K;
+
+    ghost next_gives = { TakesFirst (λ key. key) };
+
+    ghost remaining = { λ s. at_most (length s) };
+
+    fn next(&mut self) -> Option<K> {
+        let (key, _) = self.pairs.pop_front()?;
+        Some(key)
+    }
+
+    /// The number of items left, as both ends.
+    fn size_hint(&self) -> (usize, Option<usize>)
+        ensures lower { IsWithinCount result.0 (at_most (length self.now)) }
+        ensures upper { IfSome result.1 (UpTo (at_most (length self.now))) }
+        ensures exact { result ≡ (length self.now, Some (length self.now)) }
+    {
+        let len = self.len();
+        (len, Some(len))
+    }
+}
+
+impl<K: Drop, V: Drop> DoubleEndedIterator for IntoKeys<K, V> {
+    ghost next_back_gives = { TakesLast (λ key. key) };
+
+    fn next_back(&mut self) -> Option<K> {
+        let (key, _) = self.pairs.pop_back()?;
+        Some(key)
+    }
+}
+
+impl<K: Drop, V: Drop> ExactSizeIterator for IntoKeys<K, V> {
+    /// The number of items left.
+    fn len(&self) -> usize {
+        self.pairs.len()
+    }
+}
+
+/// Prints what is left as std prints a list.
+impl<K: fmt::Debug, V> fmt::Debug for IntoKeys<K, V> {
+    fn fmt<W: fmt::Write>(&self, f: &mut fmt::Formatter<W>) -> fmt::Result {
+        f.debug_list()
+            .entries(self.pairs.iter().map(|pair| &pair.0))
+            .finish()
+    }
+}

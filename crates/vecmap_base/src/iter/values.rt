@@ -1,0 +1,192 @@
+//! The iterators over a map's values, by reference and by value.
+//!
+//! A contract sees each as the list of what it has left. `next` takes the first of it and `next_back` the last, in
+//! constant time; once it is empty, both answer `None`. Only the `clone` of `IntoValues` takes memory, and time by the
+//! length of the list.
+ghost use Rattle.std.specs.Prelude.{◌≡◌, ◌<◌, ◌^◌, IfOk, IfSome, length};
+ghost use Rattle.std.specs.Iterator.{UpTo, at_most};
+ghost use Rattle.std.specs.Iterator.SizeHint.{IsWithinCount};
+ghost use Rattle.std.specs.Map.{values_of};
+ghost use Rattle.std.specs.Map.Iter.{GivesInOrder, GivesInReverse, ShowsInOrder, ShowsInReverse, TakesFirst, TakesLast, deref};
+ghost use Rattle.vecmap_base.specs.Clones.{AreClones};
+
+use std::alloc::AllocError;
+use std::collections::VecDeque;
+use std::marker::Model;
+use std::{fmt, slice};
+
+/// The values of a map, each as `&V`, in the order of their keys. `VecMap::values` makes it.
+#[derive(Drop)]
+pub struct Values<'a, K, V> {
+    pairs: slice::Iter<'a, (K, V)>,
+}
+
+impl<'a, K, V> Model for Values<'a, K, V> {
+    ghost use Rattle.std.specs.Prelude.{List};
+    ghost use Rattle.std.specs.Map.{values_of};
+    ghost use Rattle.std.specs.Slice.Iter.{iter_rest};
+
+    ghost Value = { List V };
+
+    ghost view = { λ a. values_of (iter_rest a.pairs) };
+}
+
+impl<'a, K, V> Values<'a, K, V> {
+    /// The values of a slice of pairs, from the first to the last.
+    pub fn over(pairs: &'a [(K, V)]) -> Values<'a, K, V>
+        ensures rest { result ≡ values_of pairs.now }
+        ensures fits { length result < 2 ^ 64 }
+        ensures runs { ShowsInOrder (deref {X = V}) }
+        ensures runs_back { ShowsInReverse (deref {X = V}) }
+    {
+        Values {
+            pairs: pairs.iter(),
+        }
+    }
+
+    /// Another over what is left. It takes no memory.
+    pub fn clone(&self) -> Values<'a, K, V>
+        ensures { result ≡ self.now }
+    {
+        Values {
+            pairs: self.pairs.as_slice().iter(),
+        }
+    }
+}
+
+impl<'a, K, V> Iterator for Values<'a, K, V> {
+    type Item = &'a V;
+
+    ghost next_gives = { TakesFirst deref };
+
+    ghost remaining = { λ s. at_most (length s) };
+
+    fn next(&mut self) -> Option<&'a V> {
+        let pair = self.pairs.next()?;
+        Some(&pair.1)
+    }
+
+    /// The number of items left, as both ends.
+    fn size_hint(&self) -> (usize, Option<usize>)
+        ensures lower { IsWithinCount result.0 (at_most (length self.now)) }
+        ensures upper { IfSome result.1 (UpTo (at_most (length self.now))) }
+        ensures exact { result ≡ (length self.now, Some (length self.now)) }
+    {
+        let len = self.len();
+        (len, Some(len))
+    }
+}
+
+impl<'a, K, V> DoubleEndedIterator for Values<'a, K, V> {
+    ghost next_back_gives = { TakesLast deref };
+
+    fn next_back(&mut self) -> Option<&'a V> {
+        let pair = self.pairs.next_back()?;
+        Some(&pair.1)
+    }
+}
+
+impl<'a, K, V> ExactSizeIterator for Values<'a, K, V> {
+    /// The number of items left.
+    fn len(&self) -> usize {
+        self.pairs.len()
+    }
+}
+
+/// Prints what is left as std prints a list.
+impl<'a, K, V: fmt::Debug> fmt::Debug for Values<'a, K, V> {
+    fn fmt<W: fmt::Write>(&self, f: &mut fmt::Formatter<W>) -> fmt::Result {
+        f.debug_list().entries(self.clone()).finish()
+    }
+}
+
+/// The values of a map, each as `V`, in the order of their keys. `VecMap::into_values` makes it. Dropped, it drops what is
+/// left.
+#[derive(Drop)]
+pub struct IntoValues<K, V> {
+    pairs: VecDeque<(K, V)>,
+}
+
+impl<K, V> Model for IntoValues<K, V> {
+    ghost use Rattle.std.specs.Prelude.{List};
+    ghost use Rattle.std.specs.Map.{values_of};
+
+    ghost Value = { List V };
+
+    ghost view = { λ a. values_of a.pairs.items };
+}
+
+impl<K, V> IntoValues<K, V> {
+    /// The values of a vector of pairs, from the first to the last. It takes no memory.
+    pub fn over(pairs: Vec<(K, V)>) -> IntoValues<K, V>
+        ensures rest { result ≡ values_of pairs.items }
+        ensures fits { length result < 2 ^ 64 }
+        ensures runs { GivesInOrder V }
+        ensures runs_back { GivesInReverse V }
+    {
+        IntoValues {
+            pairs: VecDeque::from_vec(pairs),
+        }
+    }
+
+    /// Another over clones of the values that are left, in the same order. Their keys are cloned too. Refused, nothing is
+    /// made, and this one still gives all that it has left.
+    pub fn clone(&self) -> Result<IntoValues<K, V>, AllocError>
+    where
+        K: Clone,
+        V: Clone,
+        ensures { IfOk result (λ copy. AreClones V.is_clone self.now copy) }
+    {
+        Ok(IntoValues {
+            pairs: self.pairs.clone()?,
+        })
+    }
+}
+
+impl<K: Drop, V: Drop> Iterator for IntoValues<K, V> {
+    type Item = V;
+
+    ghost next_gives = { TakesFirst (λ value. value) };
+
+    ghost remaining = { λ s. at_most (length s) };
+
+    fn next(&mut self) -> Option<V> {
+        let (_, value) = self.pairs.pop_front()?;
+        Some(value)
+    }
+
+    /// The number of items left, as both ends.
+    fn size_hint(&self) -> (usize, Option<usize>)
+        ensures lower { IsWithinCount result.0 (at_most (length self.now)) }
+        ensures upper { IfSome result.1 (UpTo (at_most (length self.now))) }
+        ensures exact { result ≡ (length self.now, Some (length self.now)) }
+    {
+        let len = self.len();
+        (len, Some(len))
+    }
+}
+
+impl<K: Drop, V: Drop> DoubleEndedIterator for IntoValues<K, V> {
+    ghost next_back_gives = { TakesLast (λ value. value) };
+
+    fn next_back(&mut self) -> Option<V> {
+        let (_, value) = self.pairs.pop_back()?;
+        Some(value)
+    }
+}
+
+impl<K: Drop, V: Drop> ExactSizeIterator for IntoValues<K, V> {
+    /// The number of items left.
+    fn len(&self) -> usize {
+        self.pairs.len()
+    }
+}
+
+/// Prints what is left as std prints a list.
+impl<K, V: fmt::Debug> fmt::Debug for IntoValues<K, V> {
+    fn fmt<W: fmt::Write>(&self, f: &mut fmt::Formatter<W>) -> fmt::Result {
+        f.debug_list()
+            .entries(self.pairs.iter().map(|pair| &pair.1))
+            .finish()
+    }
+}

@@ -1,0 +1,38 @@
+//! Loops over a map by reference, proved from the contracts alone. A crate that writes them names `vecmap_map` beside
+//! `vecmap`, where `IntoIterator` for references to a map stands.
+ghost use Rattle.std.specs.Prelude.{◌≡◌, ◌<◌, ◌^◌, sum};
+ghost use Rattle.std.specs.Map.{values_of};
+
+use std::test::Fail;
+use vecmap::VecMap;
+
+/// The sum of the values.
+fn total(map: &VecMap<u64, u32>) -> u32
+    requires { sum (values_of map.now.entries) < 2 ^ 32 }
+    ensures { result ≡ sum (values_of map.now.entries) }
+{
+    let mut all = 0;
+    for (_, value) in map {
+        all += *value;
+    }
+    all
+}
+
+/// Writes each value, and looks at the map again.
+fn write_values(map: &mut VecMap<u64, u32>, value: u32) -> usize {
+    for (_, stored) in &mut *map {
+        *stored = value;
+    }
+    map.len()
+}
+
+#[test]
+fn loops_by_reference_run(rt: HostRuntime) -> Result<(), Fail> {
+    let mut map: VecMap<u64, u32> = VecMap::new(rt.alloc());
+    assert_eq!(rt; total(&map), 0);
+    map.insert(1, 10)?;
+    map.insert(2, 20)?;
+    assert_eq!(rt; write_values(&mut map, 7), 2);
+    assert_eq!(rt; map.as_slice(), [(1, 7), (2, 7)].as_slice());
+    Ok(())
+}

@@ -1,0 +1,25 @@
+//! Loops over a set by reference, proved from the contracts alone. A crate that writes them names `vecmap_set` beside
+//! `vecmap`, where `IntoIterator` for references to a set stands.
+ghost use Rattle.std.specs.Prelude.{◌≡◌, ◌<◌, ◌^◌, sum};
+
+use std::test::Fail;
+use vecmap::VecSet;
+
+/// The sum of the elements.
+fn total(set: &VecSet<u32>) -> u32
+    requires { sum set.now.elements < 2 ^ 32 }
+    ensures { result ≡ sum set.now.elements }
+{
+    let mut all = 0;
+    for element in set {
+        all += *element;
+    }
+    all
+}
+
+#[test]
+fn loops_by_reference_run(rt: HostRuntime) -> Result<(), Fail> {
+    let set: VecSet<u32> = VecSet::new(rt.alloc());
+    assert_eq!(rt; total(&set), 0);
+    Ok(())
+}
