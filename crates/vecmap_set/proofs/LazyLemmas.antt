@@ -6,10 +6,9 @@ use Rattle.std.proofs.lemmas.List.Elements.{filter-append}
 use Rattle.std.proofs.lemmas.List.Filters.{length-filter_both}
 use Rattle.std.proofs.iter.runs.Sources.{from_front, from_back}
 use Rattle.std.specs.Iterator.{UpTo, at_most}
-use Rattle.std.specs.Iterator.Runs.{YieldsRefsInOrder, YieldsRefsInReverse}
 use Rattle.std.specs.List.{after_first, before_last, filter, position_or_len, prefix_len, suffix_len}
 use Rattle.std.specs.Option.{IfSome, SomeIff}
-use Rattle.vecmap_set.specs.Lazy.{JoinsFirst, JoinsLast, PairsFirst, PairsLast, Parts, Sift, SiftsFirst, SiftsLast, joined, lacks_item, paired, sifted}
+use Rattle.vecmap_set.specs.Lazy.{JoinsFirst, JoinsInOrder, JoinsInReverse, JoinsLast, PairsFirst, PairsInOrder, PairsInReverse, PairsLast, Parts, Sift, SiftsFirst, SiftsInOrder, SiftsInReverse, SiftsLast, joined, lacks_item, paired, sifted}
 
 module _ {T : Type 0} (p : T → Bool) where
   -- an element at the front that is kept
@@ -52,23 +51,23 @@ module _ {T : Type 0} (p : T → Bool) where
 
 module _ {T : Type 0} (keeps : List T → T → Bool) where
   -- each run of pulls gives what is left, in order or in reverse
-  pub sifts_in_order : YieldsRefsInOrder (SiftsFirst keeps) (sifted keeps)
+  pub sifts_in_order : SiftsInOrder keeps
   sifts_in_order = from_front (SiftsFirst keeps) (λ y. y.now) (sifted keeps) (λ s t h. ap length h.0.0) (λ s x t h. h.0)
 
-  pub sifts_in_reverse : YieldsRefsInReverse (SiftsLast keeps) (sifted keeps)
+  pub sifts_in_reverse : SiftsInReverse keeps
   sifts_in_reverse = from_back (SiftsLast keeps) (λ y. y.now) (sifted keeps) (λ s t h. ap length h.0.0) (λ s x t h. h.0)
 
 module _ {T : Type 0} (eq : T → T → Bool) where
-  pub joins_in_order : YieldsRefsInOrder (JoinsFirst eq) (joined eq)
+  pub joins_in_order : JoinsInOrder eq
   joins_in_order = from_front (JoinsFirst eq) (λ y. y.now) (joined eq) (λ s t h. ap length h.0.0) (λ s x t h. h.0)
 
-  pub joins_in_reverse : YieldsRefsInReverse (JoinsLast eq) (joined eq)
+  pub joins_in_reverse : JoinsInReverse eq
   joins_in_reverse = from_back (JoinsLast eq) (λ y. y.now) (joined eq) (λ s t h. ap length h.0.0) (λ s x t h. h.0)
 
-  pub pairs_in_order : YieldsRefsInOrder (PairsFirst eq) (paired eq)
+  pub pairs_in_order : PairsInOrder eq
   pairs_in_order = from_front (PairsFirst eq) (λ y. y.now) (paired eq) (λ s t h. ap length h.0.0) (λ s x t h. h.0)
 
-  pub pairs_in_reverse : YieldsRefsInReverse (PairsLast eq) (paired eq)
+  pub pairs_in_reverse : PairsInReverse eq
   pairs_in_reverse = from_back (PairsLast eq) (λ y. y.now) (paired eq) (λ s t h. ap length h.0.0) (λ s x t h. h.0)
 
 -- no more are kept than there are

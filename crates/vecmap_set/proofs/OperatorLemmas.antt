@@ -5,6 +5,7 @@ use Rattle.std.specs.Borrow.{Bor}
 use Rattle.std.specs.Iterator.{Drains, Yields, YieldsFirstRef}
 use Rattle.std.specs.Map.Iter.{deref}
 use Rattle.vecmap_base.specs.Clones.{AreClones}
+use Rattle.vecmap_set.specs.Operators.{DrainsIntoClones}
 
 module _ {S T : Type 0} (steps : S → Option (Bor T) → S → Type 0) (rest : S → List T) (gives : (s : S) (r : Option (Bor T)) (t : S) → steps s r t → YieldsFirstRef rest s r t) where
   taken : (s t : S) (items : List (Bor T)) → Yields steps s items t → rest s ≡ map deref items ++ rest t
@@ -17,5 +18,5 @@ module _ {S T : Type 0} (steps : S → Option (Bor T) → S → Type 0) (rest : 
       sym (taken s e.0 items e.1 ∙ ap (λ l. map deref items ++ l) (gives e.0 None d.0 e.2).0 ∙ append-nil _)
 
   -- clones of what was taken are clones of that list
-  pub clones_drained : (C : T → T → Type 0) (s : S) (l made : List T) → rest s ≡ l → ((items : List (Bor T)) × Drains steps s items × AreClones C (map deref items) made) → AreClones C l made
+  pub clones_drained : (C : T → T → Type 0) (s : S) (l made : List T) → rest s ≡ l → DrainsIntoClones steps C s made → AreClones C l made
   clones_drained C s l made e h = subst (λ m. AreClones C m made) (drained s h.0 h.1 ∙ e) h.2

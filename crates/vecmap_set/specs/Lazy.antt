@@ -1,7 +1,8 @@
 -- What the lazy iterators over two lists of elements have left, and what their pulls give. `eq` is the elements' `==`.
-use Rattle.std.specs.Prelude.{◌≡◌, Bool, List, ◌++◌, ◌⊎◌, MatchOption, None, Option, Some, filter, if◌then◌else◌, length, map, nat_lt, not, option_map}
+use Rattle.std.specs.Prelude.{◌≡◌, ℕ, ◌<◌, ◌^◌, Bool, List, ◌++◌, ◌⊎◌, MatchOption, None, Option, Some, SomeIff, filter, if◌then◌else◌, length, map, nat_lt, not, option_map}
 use Rattle.std.specs.Borrow.{Bor}
 use Rattle.std.specs.Iterator.{YieldsFirstRef, YieldsLastRef}
+use Rattle.std.specs.Iterator.Runs.{YieldsRefsInOrder, YieldsRefsInReverse}
 use Rattle.std.specs.List.{after_first, before_last}
 use Rattle.std.specs.Map.Iter.{TakesFirst, TakesLast, deref}
 use Rattle.vecmap_base.specs.Items.{has_item}
@@ -54,6 +55,10 @@ module _ {T : Type 0} where
   abbrev pub symmetric_parts : List T → List T → Parts (Sift T) (Sift T)
   symmetric_parts a b = record { first = sift_of a b; second = sift_of b a }
 
+-- r is n, or none where n is above the greatest `usize`
+abbrev pub IsBound : Option ℕ → ℕ → Type 0
+IsBound r n = SomeIff r (n < 2 ^ 64) n
+
 -- a pull asks one part, and the other where that one finds none
 abbrev pub AsksThen : {A B R : Type 0} → (A → Option R → A → Type 0) → (B → Option R → B → Type 0) → A → B → Option R → A → B → Type 0
 AsksThen one two a b r c d = MatchOption r (one a None c × two b None d) (λ x. (one a (Some x) c × (d ≡ b)) ⊎ (one a None c × two b (Some x) d))
@@ -70,6 +75,13 @@ module _ {T : Type 0} (keeps : List T → T → Bool) where
   -- `next_back` at s gave r, the last element that is kept, and left t, without it and those passed after it
   abbrev pub SiftsLast : Sift T → Option (Bor T) → Sift T → Type 0
   SiftsLast s r t = YieldsLastRef sifted s r t × (t ≡ record s { unwalked = before_last (keeps s.other) s.unwalked })
+
+  -- each run of pulls gives what is left, from the front in order and from the back in reverse
+  abbrev pub SiftsInOrder : Type 0
+  SiftsInOrder = YieldsRefsInOrder SiftsFirst sifted
+
+  abbrev pub SiftsInReverse : Type 0
+  SiftsInReverse = YieldsRefsInReverse SiftsLast sifted
 
 module _ {T : Type 0} (eq : T → T → Bool) where
   -- whether no element of s is equal to x
@@ -88,6 +100,13 @@ module _ {T : Type 0} (eq : T → T → Bool) where
   abbrev pub JoinsLast : Parts (List T) (Sift T) → Option (Bor T) → Parts (List T) (Sift T) → Type 0
   JoinsLast s r t = YieldsLastRef joined s r t × AsksThen (SiftsLast lacks_item) (TakesLast deref) s.second s.first r t.second t.first
 
+  -- each run of pulls gives what is left, from the front in order and from the back in reverse
+  abbrev pub JoinsInOrder : Type 0
+  JoinsInOrder = YieldsRefsInOrder JoinsFirst joined
+
+  abbrev pub JoinsInReverse : Type 0
+  JoinsInReverse = YieldsRefsInReverse JoinsLast joined
+
   -- the elements of either list that are not in the other, as far as they are left
   abbrev pub paired : Parts (Sift T) (Sift T) → List T
   paired s = sifted lacks_item s.first ++ sifted lacks_item s.second
@@ -99,6 +118,13 @@ module _ {T : Type 0} (eq : T → T → Bool) where
   -- `next_back` at s gave r, and left t: it asks the second part, and then the first
   abbrev pub PairsLast : Parts (Sift T) (Sift T) → Option (Bor T) → Parts (Sift T) (Sift T) → Type 0
   PairsLast s r t = YieldsLastRef paired s r t × AsksThen (SiftsLast lacks_item) (SiftsLast lacks_item) s.second s.first r t.second t.first
+
+  -- each run of pulls gives what is left, from the front in order and from the back in reverse
+  abbrev pub PairsInOrder : Type 0
+  PairsInOrder = YieldsRefsInOrder PairsFirst paired
+
+  abbrev pub PairsInReverse : Type 0
+  PairsInReverse = YieldsRefsInReverse PairsLast paired
 
   -- the test of an element against the other list: whether it is there, or whether it is not
   abbrev pub presence : Bool → List T → T → Bool

@@ -1,6 +1,9 @@
 -- What the operators on two sets make. `eq` is the elements' `==`.
-use Rattle.std.specs.Prelude.{Bool, Contains, IsTrue, List, ◌++◌}
+use Rattle.std.specs.Prelude.{Bool, Contains, IfOk, IsTrue, List, ◌++◌, Option, Result, map}
+use Rattle.std.specs.Borrow.{Bor}
+use Rattle.std.specs.Iterator.{Drains}
 use Rattle.std.specs.List.{IsDistinct}
+use Rattle.std.specs.Map.Iter.{deref}
 use Rattle.vecmap_base.specs.Clones.{AreClones}
 use Rattle.vecmap_base.specs.Items.{has_item, only}
 use Rattle.vecmap_set.specs.Contents.{Contents}
@@ -23,11 +26,16 @@ module _ {T : Type 0} (eq : T → T → Bool) where
   abbrev pub lazy_union : List T → List T → List T
   lazy_union a b = joined eq (longer_first a b)
 
-  module _ (is_clone : T → T → Type 0) where
-    -- a clone of an element of l is equal to it
-    abbrev pub ClonesStaySame : List T → Type 0
-    ClonesStaySame l = (x y : T) → Contains l x → is_clone x y → IsTrue (eq x y)
+-- `list` is one of the lists above, as the elements' `==` makes it of the elements of two sets
+module _ {T : Type 0} (eq : T → T → Bool) (is_clone : T → T → Type 0) (list : (T → T → Bool) → List T → List T → List T) where
+  -- a clone of an element of that list is equal to it
+  abbrev pub ClonesStaySame : Contents T → Contents T → Type 0
+  ClonesStaySame a b = (x y : T) → Contains (list eq a.elements b.elements) x → is_clone x y → IsTrue (eq x y)
 
-    -- the set has clones of the elements of l, in their order, and no two are equal
-    abbrev pub IsSetOfClones : List T → Contents T → Type 0
-    IsSetOfClones l set = AreClones is_clone l set.elements × IsDistinct eq set.elements
+  -- where it is granted, the set has clones of that list, in its order, and no two of them are equal
+  abbrev pub MakesClones : {E : Type 0} → Contents T → Contents T → Result (Contents T) E → Type 0
+  MakesClones a b r = IfOk r (λ set. AreClones is_clone (list eq a.elements b.elements) set.elements × IsDistinct eq set.elements)
+
+-- made has clones of all the items that an iterator in the state s lends
+abbrev pub DrainsIntoClones : {S T : Type 0} → (S → Option (Bor T) → S → Type 0) → (T → T → Type 0) → S → List T → Type 0
+DrainsIntoClones {T = T} steps is_clone s made = (items : List (Bor T)) × Drains steps s items × AreClones is_clone (map deref items) made

@@ -1,11 +1,10 @@
 //! Iterators over what two sets have in common, or apart, and the calls that make them.
 //!
 //! None of them takes memory, and each is an iterator from both ends. Elements are looked up as they are pulled.
-ghost use Rattle.std.specs.Prelude.{◌≡◌, ℕ, ◌+◌, ◌<◌, ◌^◌, SomeIff, length};
-ghost use Rattle.std.specs.Iterator.Runs.{YieldsRefsInOrder, YieldsRefsInReverse};
+ghost use Rattle.std.specs.Prelude.{◌≡◌, ℕ, ◌+◌, ◌<◌, ◌^◌, length};
 ghost use Rattle.std.specs.Slice.Iter.{iter_rest};
 ghost use Rattle.vecmap_base.specs.Items.{has_item};
-ghost use Rattle.vecmap_set.specs.Lazy.{JoinsFirst, JoinsLast, PairsFirst, PairsLast, SiftsFirst, SiftsLast, joined, lacks_item, longer_first, paired, presence, sift_of, sift_of_shorter, sifted, symmetric_parts};
+ghost use Rattle.vecmap_set.specs.Lazy.{IsBound, JoinsInOrder, JoinsInReverse, PairsInOrder, PairsInReverse, SiftsFirst, SiftsInOrder, SiftsInReverse, SiftsLast, joined, lacks_item, longer_first, paired, presence, sift_of, sift_of_shorter, sifted, symmetric_parts};
 
 use crate::VecSet;
 use std::slice;
@@ -29,8 +28,8 @@ impl<T: Eq> VecSet<T> {
     pub fn difference<'a>(&'a self, other: &'a VecSet<T>) -> Difference<'a, T>
         ensures rest { result ≡ sift_of self.now.elements other.now.elements }
         ensures fits { length (sifted (lacks_item T.eq) result) < 2 ^ 64 }
-        ensures runs { YieldsRefsInOrder (SiftsFirst (lacks_item T.eq)) (sifted (lacks_item T.eq)) }
-        ensures runs_back { YieldsRefsInReverse (SiftsLast (lacks_item T.eq)) (sifted (lacks_item T.eq)) }
+        ensures runs { SiftsInOrder (lacks_item T.eq) }
+        ensures runs_back { SiftsInReverse (lacks_item T.eq) }
     {
         Difference::over(&self.items, &other.items)
     }
@@ -44,8 +43,8 @@ impl<T: Eq> VecSet<T> {
     pub fn intersection<'a>(&'a self, other: &'a VecSet<T>) -> Intersection<'a, T>
         ensures rest { result ≡ sift_of_shorter self.now.elements other.now.elements }
         ensures fits { length (sifted (has_item T.eq) result) < 2 ^ 64 }
-        ensures runs { YieldsRefsInOrder (SiftsFirst (has_item T.eq)) (sifted (has_item T.eq)) }
-        ensures runs_back { YieldsRefsInReverse (SiftsLast (has_item T.eq)) (sifted (has_item T.eq)) }
+        ensures runs { SiftsInOrder (has_item T.eq) }
+        ensures runs_back { SiftsInReverse (has_item T.eq) }
     {
         if other.len() < self.len() {
             Intersection::over(&other.items, &self.items)
@@ -62,8 +61,8 @@ impl<T: Eq> VecSet<T> {
     pub fn symmetric_difference<'a>(&'a self, other: &'a VecSet<T>) -> SymmetricDifference<'a, T>
         ensures rest { result ≡ symmetric_parts self.now.elements other.now.elements }
         ensures fits { length (paired T.eq result) < 2 ^ 64 }
-        ensures runs { YieldsRefsInOrder (PairsFirst T.eq) (paired T.eq) }
-        ensures runs_back { YieldsRefsInReverse (PairsLast T.eq) (paired T.eq) }
+        ensures runs { PairsInOrder T.eq }
+        ensures runs_back { PairsInReverse T.eq }
     {
         SymmetricDifference::over(&self.items, &other.items)
     }
@@ -76,8 +75,8 @@ impl<T: Eq> VecSet<T> {
     pub fn union<'a>(&'a self, other: &'a VecSet<T>) -> Union<'a, T>
         ensures rest { result ≡ longer_first self.now.elements other.now.elements }
         ensures fits { length (joined T.eq result) < 2 ^ 64 }
-        ensures runs { YieldsRefsInOrder (JoinsFirst T.eq) (joined T.eq) }
-        ensures runs_back { YieldsRefsInReverse (JoinsLast T.eq) (joined T.eq) }
+        ensures runs { JoinsInOrder T.eq }
+        ensures runs_back { JoinsInReverse T.eq }
     {
         if self.len() < other.len() {
             Union::over(&other.items, &self.items)
@@ -113,7 +112,7 @@ fn sift_back<'a, T: Eq>(items: &mut slice::Iter<'a, T>, other: &[T], within: boo
 
 // The sum of two upper bounds, or none where it passes the greatest `usize`.
 fn add_bounds(a: Option<usize>, b: Option<usize>) -> Option<usize>
-    ensures { (x y : ℕ) → a ≡ Some x → b ≡ Some y → SomeIff result (x + y < 2 ^ 64) (x + y) }
+    ensures { (x y : ℕ) → a ≡ Some x → b ≡ Some y → IsBound result (x + y) }
 {
     a?.checked_add(b?)
 }

@@ -1,11 +1,8 @@
 //! `&`, `|`, `^` and `-` on sets.
-ghost use Rattle.std.specs.Prelude.{IfOk, List, map};
-ghost use Rattle.std.specs.Borrow.{Bor};
-ghost use Rattle.std.specs.Iterator.{Drains, IsFinite};
-ghost use Rattle.std.specs.Map.Iter.{deref};
-ghost use Rattle.vecmap_base.specs.Clones.{AreClones};
+ghost use Rattle.std.specs.Prelude.{IfOk};
+ghost use Rattle.std.specs.Iterator.{IsFinite};
 ghost use Rattle.vecmap_base.specs.Items.{both, only};
-ghost use Rattle.vecmap_set.specs.Operators.{ClonesStaySame, IsSetOfClones, symmetric_difference_of, union_of};
+ghost use Rattle.vecmap_set.specs.Operators.{ClonesStaySame, DrainsIntoClones, MakesClones, symmetric_difference_of, union_of};
 
 use crate::{Difference, Intersection, SymmetricDifference, Union, VecSet};
 use std::alloc::{AllocError, Global};
@@ -20,9 +17,9 @@ use std::ops::{BitAnd, BitOr, BitXor, Sub};
 impl<'a, 'b, T: Eq + Clone> BitAnd<&'b VecSet<T>> for &'a VecSet<T> {
     type Output = Result<VecSet<T>, AllocError>;
 
-    ghost can_bitand = { λ a b. ClonesStaySame T.eq T.is_clone (both T.eq a.now.elements b.now.elements) };
+    ghost can_bitand = { λ a b. ClonesStaySame T.eq T.is_clone both a.now b.now };
 
-    ghost bitand_gives = { λ a b r. IfOk r (IsSetOfClones T.eq T.is_clone (both T.eq a.now.elements b.now.elements)) };
+    ghost bitand_gives = { λ a b r. MakesClones T.eq T.is_clone both a.now b.now r };
 
     fn bitand(self, other: &'b VecSet<T>) -> Result<VecSet<T>, AllocError> {
         let shared = Intersection::over(&self.items, &other.items);
@@ -41,9 +38,9 @@ impl<'a, 'b, T: Eq + Clone> BitAnd<&'b VecSet<T>> for &'a VecSet<T> {
 impl<'a, 'b, T: Eq + Clone> BitOr<&'b VecSet<T>> for &'a VecSet<T> {
     type Output = Result<VecSet<T>, AllocError>;
 
-    ghost can_bitor = { λ a b. ClonesStaySame T.eq T.is_clone (union_of T.eq a.now.elements b.now.elements) };
+    ghost can_bitor = { λ a b. ClonesStaySame T.eq T.is_clone union_of a.now b.now };
 
-    ghost bitor_gives = { λ a b r. IfOk r (IsSetOfClones T.eq T.is_clone (union_of T.eq a.now.elements b.now.elements)) };
+    ghost bitor_gives = { λ a b r. MakesClones T.eq T.is_clone union_of a.now b.now r };
 
     fn bitor(self, other: &'b VecSet<T>) -> Result<VecSet<T>, AllocError> {
         let all = Union::over(&self.items, &other.items);
@@ -62,9 +59,9 @@ impl<'a, 'b, T: Eq + Clone> BitOr<&'b VecSet<T>> for &'a VecSet<T> {
 impl<'a, 'b, T: Eq + Clone> BitXor<&'b VecSet<T>> for &'a VecSet<T> {
     type Output = Result<VecSet<T>, AllocError>;
 
-    ghost can_bitxor = { λ a b. ClonesStaySame T.eq T.is_clone (symmetric_difference_of T.eq a.now.elements b.now.elements) };
+    ghost can_bitxor = { λ a b. ClonesStaySame T.eq T.is_clone symmetric_difference_of a.now b.now };
 
-    ghost bitxor_gives = { λ a b r. IfOk r (IsSetOfClones T.eq T.is_clone (symmetric_difference_of T.eq a.now.elements b.now.elements)) };
+    ghost bitxor_gives = { λ a b r. MakesClones T.eq T.is_clone symmetric_difference_of a.now b.now r };
 
     fn bitxor(self, other: &'b VecSet<T>) -> Result<VecSet<T>, AllocError> {
         let apart = SymmetricDifference::over(&self.items, &other.items);
@@ -82,9 +79,9 @@ impl<'a, 'b, T: Eq + Clone> BitXor<&'b VecSet<T>> for &'a VecSet<T> {
 impl<'a, 'b, T: Eq + Clone> Sub<&'b VecSet<T>> for &'a VecSet<T> {
     type Output = Result<VecSet<T>, AllocError>;
 
-    ghost can_sub = { λ a b. ClonesStaySame T.eq T.is_clone (only T.eq a.now.elements b.now.elements) };
+    ghost can_sub = { λ a b. ClonesStaySame T.eq T.is_clone only a.now b.now };
 
-    ghost sub_gives = { λ a b r. IfOk r (IsSetOfClones T.eq T.is_clone (only T.eq a.now.elements b.now.elements)) };
+    ghost sub_gives = { λ a b r. MakesClones T.eq T.is_clone only a.now b.now r };
 
     fn sub(self, other: &'b VecSet<T>) -> Result<VecSet<T>, AllocError> {
         let left = Difference::over(&self.items, &other.items);
@@ -101,7 +98,7 @@ fn clones_of<'a, T: Clone + 'a, I: Iterator<Item = &'a T>>(
 ) -> Result<Vec<T>, AllocError>
     requires can { I.can_next iter }
     requires ends { IsFinite (I.remaining iter) }
-    ensures { IfOk result (λ made. (items : List (Bor T)) × Drains I.next_gives iter items × AreClones T.is_clone (map deref items) made.items) }
+    ensures { IfOk result (λ made. DrainsIntoClones I.next_gives T.is_clone iter made.items) }
 {
     let (at_least, _) = iter.size_hint();
     let mut made = Vec::with_capacity(alloc, at_least)?;

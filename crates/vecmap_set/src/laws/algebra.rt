@@ -1,8 +1,7 @@
 //! Laws of unions, intersections and differences, and of the lazy iterators over them.
-ghost use Rattle.std.specs.Prelude.{◌≡◌, ◌+◌, ◌↔◌, IsTrue, List, [], length};
-ghost use Rattle.std.specs.List.{IsDistinct};
-ghost use Rattle.vecmap_base.specs.Equality.{has_same_items};
+ghost use Rattle.std.specs.Prelude.{◌≡◌, ◌↔◌, List, []};
 ghost use Rattle.vecmap_base.specs.Items.{both, has_item, only};
+ghost use Rattle.vecmap_set.specs.Algebra.{AgreeAsSets, IgnoresSides, LengthsAddUp, MakesSets};
 ghost use Rattle.vecmap_set.specs.Lazy.{JoinsFirst, JoinsLast, PairsFirst, PairsLast, PullsAsList, SiftsFirst, SiftsLast, joined, lacks_item, paired, sifted};
 ghost use Rattle.vecmap_set.specs.Operators.{lazy_intersection, lazy_union, symmetric_difference_of, union_of};
 
@@ -17,23 +16,23 @@ pub fn lazy_iterators_pull_as_lists<T: Eq>()
 
 /// No two elements that a lazy iterator over two sets gives are equal.
 pub fn lazy_iterators_give_no_repeats<T: Eq>()
-    ensures difference { (a b : List T) → IsDistinct T.eq a → IsDistinct T.eq (only T.eq a b) }
-    ensures intersection { (a b : List T) → IsDistinct T.eq a → IsDistinct T.eq b → IsDistinct T.eq (lazy_intersection T.eq a b) }
-    ensures symmetric_difference { (a b : List T) → IsDistinct T.eq a → IsDistinct T.eq b → IsDistinct T.eq (symmetric_difference_of T.eq a b) }
-    ensures union { (a b : List T) → IsDistinct T.eq a → IsDistinct T.eq b → IsDistinct T.eq (lazy_union T.eq a b) }
+    ensures difference { MakesSets T.eq only }
+    ensures intersection { MakesSets T.eq lazy_intersection }
+    ensures symmetric_difference { MakesSets T.eq symmetric_difference_of }
+    ensures union { MakesSets T.eq lazy_union }
 {}
 
-/// What `intersection` and `union` give is equal, as a set, to what `&` and `|` make. Those of `difference` and `-`, and
-/// of `symmetric_difference` and `^`, are one list.
+/// What `intersection` and `union` give is equal, as a set, to what `&` and `|` make. What `difference` gives is the
+/// list that `-` clones, and what `symmetric_difference` gives is the one that `^` clones.
 pub fn lazy_iterators_agree_with_operators<T: Eq>()
-    ensures intersection { (a b : List T) → IsTrue (has_same_items T.eq (lazy_intersection T.eq a b) (both T.eq a b)) }
-    ensures union { (a b : List T) → IsTrue (has_same_items T.eq (lazy_union T.eq a b) (union_of T.eq a b)) }
+    ensures intersection { AgreeAsSets T.eq lazy_intersection both }
+    ensures union { AgreeAsSets T.eq lazy_union union_of }
 {}
 
 /// The lengths of intersection and union add up to those of the two sets.
 pub fn lengths_of_intersection_and_union_add_up<T: Eq>()
-    ensures lazily { (a b : List T) → IsDistinct T.eq a → IsDistinct T.eq b → length (lazy_intersection T.eq a b) + length (lazy_union T.eq a b) ≡ length a + length b }
-    ensures by_operators { (a b : List T) → IsDistinct T.eq a → IsDistinct T.eq b → length (both T.eq a b) + length (union_of T.eq a b) ≡ length a + length b }
+    ensures lazily { LengthsAddUp T.eq lazy_intersection lazy_union }
+    ensures by_operators { LengthsAddUp T.eq both union_of }
 {}
 
 /// Two sets share nothing exactly where `intersection` gives nothing.
@@ -41,11 +40,12 @@ pub fn disjoint_sets_have_no_intersection<T: Eq>()
     ensures { (a b : List T) → (both T.eq a b ≡ []) ↔ (lazy_intersection T.eq a b ≡ []) }
 {}
 
-/// Intersection, union and symmetric difference are equal sets whichever of two sets comes first.
+/// Intersection, union and symmetric difference are equal sets whichever of two sets comes first, also where the lazy
+/// iterators give them.
 pub fn algebra_is_symmetric<T: Eq>()
-    ensures and { (a b : List T) → IsTrue (has_same_items T.eq (both T.eq a b) (both T.eq b a)) }
-    ensures or { (a b : List T) → IsTrue (has_same_items T.eq (union_of T.eq a b) (union_of T.eq b a)) }
-    ensures xor { (a b : List T) → IsTrue (has_same_items T.eq (symmetric_difference_of T.eq a b) (symmetric_difference_of T.eq b a)) }
-    ensures intersection { (a b : List T) → IsTrue (has_same_items T.eq (lazy_intersection T.eq a b) (lazy_intersection T.eq b a)) }
-    ensures union { (a b : List T) → IsTrue (has_same_items T.eq (lazy_union T.eq a b) (lazy_union T.eq b a)) }
+    ensures and { IgnoresSides T.eq both }
+    ensures or { IgnoresSides T.eq union_of }
+    ensures xor { IgnoresSides T.eq symmetric_difference_of }
+    ensures intersection { IgnoresSides T.eq lazy_intersection }
+    ensures union { IgnoresSides T.eq lazy_union }
 {}

@@ -1,9 +1,8 @@
 //! The elements of one set that another lacks.
 ghost use Rattle.std.specs.Prelude.{◌≡◌, ◌<◌, ◌^◌, IfSome, length};
 ghost use Rattle.std.specs.Iterator.{UpTo, at_most};
-ghost use Rattle.std.specs.Iterator.Runs.{YieldsRefsInOrder, YieldsRefsInReverse};
 ghost use Rattle.std.specs.Iterator.SizeHint.{IsWithinCount};
-ghost use Rattle.vecmap_set.specs.Lazy.{SiftsFirst, SiftsLast, lacks_item, sift_of, sifted};
+ghost use Rattle.vecmap_set.specs.Lazy.{SiftsFirst, SiftsInOrder, SiftsInReverse, SiftsLast, lacks_item, sift_of, sifted};
 
 use super::{sift_back, sift_front};
 use std::iter::FusedIterator;
@@ -35,8 +34,8 @@ impl<'a, T: Eq> Difference<'a, T> {
     pub(crate) fn over(items: &'a [T], other: &'a [T]) -> Difference<'a, T>
         ensures rest { result ≡ sift_of items.now other.now }
         ensures fits { length (sifted (lacks_item T.eq) result) < 2 ^ 64 }
-        ensures runs { YieldsRefsInOrder (SiftsFirst (lacks_item T.eq)) (sifted (lacks_item T.eq)) }
-        ensures runs_back { YieldsRefsInReverse (SiftsLast (lacks_item T.eq)) (sifted (lacks_item T.eq)) }
+        ensures runs { SiftsInOrder (lacks_item T.eq) }
+        ensures runs_back { SiftsInReverse (lacks_item T.eq) }
     {
         Difference {
             items: items.iter(),

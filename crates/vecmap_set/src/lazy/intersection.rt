@@ -1,10 +1,9 @@
 //! The elements of one set that another has.
 ghost use Rattle.std.specs.Prelude.{◌≡◌, ◌<◌, ◌^◌, IfSome, length};
 ghost use Rattle.std.specs.Iterator.{UpTo, at_most};
-ghost use Rattle.std.specs.Iterator.Runs.{YieldsRefsInOrder, YieldsRefsInReverse};
 ghost use Rattle.std.specs.Iterator.SizeHint.{IsWithinCount};
 ghost use Rattle.vecmap_base.specs.Items.{has_item};
-ghost use Rattle.vecmap_set.specs.Lazy.{SiftsFirst, SiftsLast, sift_of, sifted};
+ghost use Rattle.vecmap_set.specs.Lazy.{SiftsFirst, SiftsInOrder, SiftsInReverse, SiftsLast, sift_of, sifted};
 
 use super::{sift_back, sift_front};
 use std::iter::FusedIterator;
@@ -37,8 +36,8 @@ impl<'a, T: Eq> Intersection<'a, T> {
     pub(crate) fn over(items: &'a [T], other: &'a [T]) -> Intersection<'a, T>
         ensures rest { result ≡ sift_of items.now other.now }
         ensures fits { length (sifted (has_item T.eq) result) < 2 ^ 64 }
-        ensures runs { YieldsRefsInOrder (SiftsFirst (has_item T.eq)) (sifted (has_item T.eq)) }
-        ensures runs_back { YieldsRefsInReverse (SiftsLast (has_item T.eq)) (sifted (has_item T.eq)) }
+        ensures runs { SiftsInOrder (has_item T.eq) }
+        ensures runs_back { SiftsInReverse (has_item T.eq) }
     {
         Intersection {
             items: items.iter(),

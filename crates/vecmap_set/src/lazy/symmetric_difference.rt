@@ -1,9 +1,8 @@
 //! The elements that only one of two sets has.
-ghost use Rattle.std.specs.Prelude.{◌≡◌, ◌+◌, ◌<◌, ◌^◌, IfSome, SomeIff, length};
+ghost use Rattle.std.specs.Prelude.{◌≡◌, ◌+◌, IfSome, length};
 ghost use Rattle.std.specs.Iterator.{UpTo, at_most};
-ghost use Rattle.std.specs.Iterator.Runs.{YieldsRefsInOrder, YieldsRefsInReverse};
 ghost use Rattle.std.specs.Iterator.SizeHint.{IsWithinCount};
-ghost use Rattle.vecmap_set.specs.Lazy.{PairsFirst, PairsLast, paired, symmetric_parts};
+ghost use Rattle.vecmap_set.specs.Lazy.{IsBound, PairsFirst, PairsInOrder, PairsInReverse, PairsLast, paired, symmetric_parts};
 
 use super::{Difference, add_bounds};
 use std::fmt;
@@ -33,8 +32,8 @@ impl<'a, T: Eq> SymmetricDifference<'a, T> {
     // The elements of `items` that `other` lacks, and then those of `other` that `items` lacks.
     pub(crate) fn over(items: &'a [T], other: &'a [T]) -> SymmetricDifference<'a, T>
         ensures rest { result ≡ symmetric_parts items.now other.now }
-        ensures runs { YieldsRefsInOrder (PairsFirst T.eq) (paired T.eq) }
-        ensures runs_back { YieldsRefsInReverse (PairsLast T.eq) (paired T.eq) }
+        ensures runs { PairsInOrder T.eq }
+        ensures runs_back { PairsInReverse T.eq }
     {
         SymmetricDifference {
             first: Difference::over(items, other),
@@ -72,8 +71,8 @@ impl<'a, T: Eq> Iterator for SymmetricDifference<'a, T> {
     fn size_hint(&self) -> (usize, Option<usize>)
         ensures lower { IsWithinCount result.0 (at_most (length (paired T.eq self.now))) }
         ensures upper { IfSome result.1 (UpTo (at_most (length (paired T.eq self.now)))) }
-        ensures hint { result.0 ≡ 0 }
-        ensures hint_above { let most = length self.now.first.unwalked + length self.now.second.unwalked in SomeIff result.1 (most < 2 ^ 64) most }
+        ensures lower_hint { result.0 ≡ 0 }
+        ensures upper_hint { IsBound result.1 (length self.now.first.unwalked + length self.now.second.unwalked) }
     {
         let (_, first) = self.first.size_hint();
         let (_, second) = self.second.size_hint();

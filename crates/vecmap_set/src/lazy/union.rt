@@ -1,9 +1,8 @@
 //! The elements of one set, and then those of another that it lacks.
-ghost use Rattle.std.specs.Prelude.{◌≡◌, ◌+◌, ◌<◌, ◌^◌, IfSome, SomeIff, length};
+ghost use Rattle.std.specs.Prelude.{◌≡◌, ◌+◌, IfSome, length};
 ghost use Rattle.std.specs.Iterator.{UpTo, at_most};
-ghost use Rattle.std.specs.Iterator.Runs.{YieldsRefsInOrder, YieldsRefsInReverse};
 ghost use Rattle.std.specs.Iterator.SizeHint.{IsWithinCount};
-ghost use Rattle.vecmap_set.specs.Lazy.{JoinsFirst, JoinsLast, joined, union_parts};
+ghost use Rattle.vecmap_set.specs.Lazy.{IsBound, JoinsFirst, JoinsInOrder, JoinsInReverse, JoinsLast, joined, union_parts};
 
 use super::{Difference, add_bounds};
 use std::iter::FusedIterator;
@@ -35,8 +34,8 @@ impl<'a, T: Eq> Union<'a, T> {
     // All of `items`, and then the elements of `other` that `items` lacks.
     pub(crate) fn over(items: &'a [T], other: &'a [T]) -> Union<'a, T>
         ensures rest { result ≡ union_parts items.now other.now }
-        ensures runs { YieldsRefsInOrder (JoinsFirst T.eq) (joined T.eq) }
-        ensures runs_back { YieldsRefsInReverse (JoinsLast T.eq) (joined T.eq) }
+        ensures runs { JoinsInOrder T.eq }
+        ensures runs_back { JoinsInReverse T.eq }
     {
         Union {
             first: items.iter(),
@@ -74,8 +73,8 @@ impl<'a, T: Eq> Iterator for Union<'a, T> {
     fn size_hint(&self) -> (usize, Option<usize>)
         ensures lower { IsWithinCount result.0 (at_most (length (joined T.eq self.now))) }
         ensures upper { IfSome result.1 (UpTo (at_most (length (joined T.eq self.now)))) }
-        ensures hint { result.0 ≡ length self.now.first }
-        ensures hint_above { let most = length self.now.first + length self.now.second.unwalked in SomeIff result.1 (most < 2 ^ 64) most }
+        ensures lower_hint { result.0 ≡ length self.now.first }
+        ensures upper_hint { IsBound result.1 (length self.now.first + length self.now.second.unwalked) }
     {
         let first = self.first.len();
         let (_, second) = self.second.size_hint();

@@ -6,7 +6,7 @@ use Rattle.vecmap_set.proofs.AlgebraLemmas.{on_longer, on_shorter}
 use Rattle.vecmap_set.proofs.laws.algebra.lazy_iterators_give_no_repeats.Goals as goal
 
 pub returns-clause-difference : goal.returns-clause-difference
-returns-clause-difference g c = distinct_only g.T.PartialEq.eq g.met.T.Eq.laws
+returns-clause-difference g c = λ a b d e. distinct_only g.T.PartialEq.eq g.met.T.Eq.laws a b d
 
 pub returns-clause-intersection : goal.returns-clause-intersection
 returns-clause-intersection g c =
