@@ -11,6 +11,7 @@ pub use Rattle.vecmap_map.specs.Entry
 pub use Rattle.vecmap_map.specs.EntryLends
 pub use Rattle.vecmap_map.specs.Lends
 pub use Rattle.vecmap_map.specs.MapBulk
+pub use Rattle.vecmap_set.specs.Algebra
 pub use Rattle.vecmap_set.specs.Contents as SetContents
 pub use Rattle.vecmap_set.specs.Lazy
 pub use Rattle.vecmap_set.specs.Operators

@@ -1,15 +1,15 @@
 //! What callers of the operators on sets can prove.
 ghost use Rattle.std.specs.Prelude.{◌≡◌, IfOk, nat_eq};
 ghost use Rattle.vecmap.specs.Items.{both, only};
-ghost use Rattle.vecmap.specs.Operators.{ClonesStaySame, IsSetOfClones, symmetric_difference_of, union_of};
+ghost use Rattle.vecmap.specs.Operators.{ClonesStaySame, MakesClones, symmetric_difference_of, union_of};
 
 use std::alloc::AllocError;
 use vecmap::VecSet;
 
 /// Clones of what both have, of any type whose clones equal their originals.
 pub fn shared<T: Eq + Clone>(a: &VecSet<T>, b: &VecSet<T>) -> Result<VecSet<T>, AllocError>
-    requires { ClonesStaySame T.eq T.is_clone (both T.eq a.now.elements b.now.elements) }
-    ensures { IfOk result (IsSetOfClones T.eq T.is_clone (both T.eq a.now.elements b.now.elements)) }
+    requires { ClonesStaySame T.eq T.is_clone both a.now b.now }
+    ensures { MakesClones T.eq T.is_clone both a.now b.now result }
 {
     a & b
 }
