@@ -1,4 +1,6 @@
 -- Worked examples of the definitions.
+mod Asked
+mod Bulk
 mod Clones
 mod Equality
 mod Items

@@ -5,7 +5,8 @@ ghost use Rattle.vecmap_base.specs.Pairs.{HasDistinctKeys};
 
 use crate::lookup::{find, find_item};
 
-/// Whether no two places hold equal keys. It compares each key with those after it, and takes no memory.
+/// Whether no two places hold equal keys. It compares each key with those after it, up to the first that is equal to one
+/// of them: at most n(n-1)/2 comparisons for n pairs. It takes no memory.
 pub fn keys_distinct<K: Eq, V>(pairs: &[(K, V)]) -> bool
     ensures { IsTrue result ↔ HasDistinctKeys K.eq pairs.now }
 {
@@ -17,7 +18,8 @@ pub fn keys_distinct<K: Eq, V>(pairs: &[(K, V)]) -> bool
     true
 }
 
-/// Whether no two places hold equal elements. It compares each with those after it, and takes no memory.
+/// Whether no two places hold equal elements. It compares each with those after it, up to the first that is equal to one
+/// of them: at most n(n-1)/2 comparisons for n elements. It takes no memory.
 pub fn items_distinct<T: Eq>(items: &[T]) -> bool
     ensures { IsTrue result ↔ IsDistinct T.eq items.now }
 {

@@ -20,7 +20,8 @@ pub fn find_item<T: Eq>(items: &[T], item: &T) -> Option<usize>
     items.iter().position(|stored| *item == *stored)
 }
 
-/// The first place whose key has the bytes of `text`. It takes no memory.
+/// The first place whose key has the bytes of `text`, after at most as many comparisons as there are pairs. It takes no
+/// memory.
 pub fn find_str<V>(pairs: &[(String, V)], text: &str) -> Option<usize>
     ensures place { result ≡ index_by (has_text text.now) pairs.now }
     ensures within { IfSome result (λ i. i < length pairs.now) }
@@ -28,7 +29,8 @@ pub fn find_str<V>(pairs: &[(String, V)], text: &str) -> Option<usize>
     pairs.iter().position(|pair| pair.0.as_str() == text)
 }
 
-/// The first place whose element has the bytes of `text`. It takes no memory.
+/// The first place whose element has the bytes of `text`, after at most as many comparisons as there are elements. It
+/// takes no memory.
 pub fn find_item_str(items: &[String], text: &str) -> Option<usize>
     ensures place { result ≡ position (has_text text.now) items.now }
     ensures within { IfSome result (λ i. i < length items.now) }
@@ -43,7 +45,8 @@ pub fn is_in<T: Eq>(items: &[T], item: &T) -> bool
     items.iter().any(|stored| *item == *stored)
 }
 
-/// Whether one of `items` has the bytes of `text`. It takes no memory.
+/// Whether one of `items` has the bytes of `text`, after at most as many comparisons as there are elements. It takes no
+/// memory.
 pub fn is_in_str(items: &[String], text: &str) -> bool
     ensures { result ≡ list_any (has_text text.now) items.now }
 {

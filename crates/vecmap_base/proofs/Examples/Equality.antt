@@ -1,6 +1,7 @@
 -- Worked examples: equality of maps, with repeats too.
 use Rattle.std.specs.Prelude.{◌≡◌, ℕ, Bool, true, false, List, [], ◌∷◌, None, Some, nat_eq, refl}
-use Rattle.vecmap_base.specs.Equality.{agrees, count, has_same_counts, lookups_agree, same_option}
+use Rattle.vecmap_base.specs.Equality.{agrees, count, counts_agree, has_same_counts, lookups_agree, same_option, same_pair}
+use Rattle.vecmap_base.proofs.Examples.Tagged.{one_x, one_y, same_number}
 
 abbrev equal : List (ℕ × ℕ) → List (ℕ × ℕ) → Bool
 equal = has_same_counts nat_eq nat_eq
@@ -26,6 +27,13 @@ lookups_do_not_settle_repeats = refl
 
 how_often : count nat_eq nat_eq ((1, 5) ∷ (1, 5) ∷ (1, 6) ∷ []) (1, 5) ≡ 2
 how_often = refl
+
+the_same_pair : (same_pair same_number nat_eq (one_x, 5) (one_y, 5) ≡ true) × (same_pair same_number nat_eq (one_x, 5) (one_y, 6) ≡ false)
+the_same_pair = (refl, refl)
+
+-- the pairs of one list alone say too little, where the lists differ in length
+counts_from_one_side : (counts_agree nat_eq nat_eq ((1, 5) ∷ []) ((1, 5) ∷ []) ((1, 5) ∷ (2, 6) ∷ []) ≡ true) × (counts_agree nat_eq nat_eq ((2, 6) ∷ []) ((1, 5) ∷ []) ((1, 5) ∷ (2, 6) ∷ []) ≡ false)
+counts_from_one_side = (refl, refl)
 
 values_or_none : (same_option {V = ℕ} nat_eq None None ≡ true) × (same_option nat_eq (Some 5) (Some 5) ≡ true) × (same_option nat_eq (Some 5) None ≡ false) × (same_option nat_eq (Some 5) (Some 6) ≡ false)
 values_or_none = (refl, refl, refl, refl)

@@ -1,7 +1,7 @@
 -- Worked examples: sets. Elements are numbers, or numbers with a letter that are compared by the number alone.
-use Rattle.std.specs.Prelude.{◌≡◌, true, false, [], ◌∷◌, ◌++◌, Some, nat_eq, refl}
+use Rattle.std.specs.Prelude.{◌≡◌, ℕ, true, false, [], ◌∷◌, ◌++◌, Some, nat_eq, nat_lt, refl}
 use Rattle.vecmap_base.specs.Equality.{has_same_items, is_within}
-use Rattle.vecmap_base.specs.Items.{add_new, adds, both, item_index, only, stored_item, swap_without_item, without_item}
+use Rattle.vecmap_base.specs.Items.{add, add_new, adds, both, has_item, item_index, only, stored_item, swap_without, swap_without_first, swap_without_item, without_first, without_item}
 use Rattle.vecmap_base.proofs.Examples.Tagged.{one_x, one_y, same_number, two_b, two_z}
 
 -- ---- additions and removals
@@ -11,6 +11,12 @@ the_first_of_equal_ones = refl
 
 the_stored_one_stays : adds same_number (one_x ∷ []) (one_y ∷ two_z ∷ []) ≡ one_x ∷ two_z ∷ []
 the_stored_one_stays = refl
+
+one_addition : (add same_number (one_x ∷ []) one_y ≡ one_x ∷ []) × (add same_number (one_x ∷ []) two_b ≡ one_x ∷ two_b ∷ [])
+one_addition = (refl, refl)
+
+whether_one_is_there : (has_item same_number (one_x ∷ []) one_y ≡ true) × (has_item same_number (one_x ∷ []) two_b ≡ false)
+whether_one_is_there = (refl, refl)
 
 the_stored_one_is_found : stored_item same_number (one_x ∷ two_b ∷ []) one_y ≡ Some one_x
 the_stored_one_is_found = refl
@@ -29,6 +35,12 @@ the_rest_moves_up = refl
 
 the_last_fills_the_gap : swap_without_item nat_eq (3 ∷ 1 ∷ 2 ∷ []) 3 ≡ 2 ∷ 1 ∷ []
 the_last_fills_the_gap = refl
+
+by_place : (swap_without {T = ℕ} (1 ∷ 2 ∷ 3 ∷ []) 0 ≡ 3 ∷ 2 ∷ []) × (swap_without {T = ℕ} (1 ∷ 2 ∷ 3 ∷ []) 2 ≡ 1 ∷ 2 ∷ []) × (swap_without {T = ℕ} (1 ∷ 2 ∷ []) 2 ≡ 1 ∷ 2 ∷ [])
+by_place = (refl, refl, refl)
+
+by_a_test : (without_first (nat_lt 1) (1 ∷ 2 ∷ 3 ∷ 4 ∷ []) ≡ 1 ∷ 3 ∷ 4 ∷ []) × (swap_without_first (nat_lt 1) (1 ∷ 2 ∷ 3 ∷ 4 ∷ []) ≡ 1 ∷ 4 ∷ 3 ∷ [])
+by_a_test = (refl, refl)
 
 -- ---- two sets
 

@@ -1,8 +1,8 @@
 -- Worked examples: lists of pairs.
-use Rattle.std.specs.Prelude.{◌≡◌, ℕ, List, [], ◌∷◌, None, Some, nat_eq, refl}
+use Rattle.std.specs.Prelude.{◌≡◌, ℕ, List, [], ◌∷◌, None, Some, nat_eq, refl, String, bytes_eq, false, string_bytes, true}
 use Rattle.std.specs.List.{IsDistinct}
-use Rattle.std.proofs.Common.{true≢false}
-use Rattle.vecmap_base.specs.Pairs.{HasDistinctKeys, index_by, index_of, index_or_length, lookup, lookup_full, lookup_pair, put, put_at, put_key, puts, swap_without_key, value_at, with_pair, with_value, without_by, without_key}
+use Rattle.std.proofs.Common.{ap, true≢false}
+use Rattle.vecmap_base.specs.Pairs.{HasDistinctKeys, has_text, index_by, index_of, index_or_length, lookup, lookup_by, lookup_full, lookup_pair, put, put_at, put_key, puts, swap_without_by, swap_without_key, value_at, with_pair, with_value, without_by, without_key}
 use Rattle.vecmap_base.proofs.Examples.Tagged.{a, b, c, one_x, one_y, two_b, two_z, three_c, letters, same_number}
 
 -- ---- places and values
@@ -142,6 +142,18 @@ a_place_by_a_test = refl
 
 a_removal_by_a_test : without_by (λ k. nat_eq k 98) letters ≡ (a, 1) ∷ (c, 3) ∷ []
 a_removal_by_a_test = refl
+
+a_value_by_a_test : (lookup_by (λ k. nat_eq k 98) letters ≡ Some 2) × (lookup_by (λ k. nat_eq k 100) letters ≡ None)
+a_value_by_a_test = (refl, refl)
+
+the_test_of_the_text_calls : {A : Type 0} (key : String A) → string_bytes key ≡ b ∷ [] → (has_text (b ∷ []) key ≡ true) × (has_text (c ∷ []) key ≡ false)
+the_test_of_the_text_calls key e = (ap (λ bytes. bytes_eq bytes (b ∷ [])) e, ap (λ bytes. bytes_eq bytes (c ∷ [])) e)
+
+the_last_fills_the_gap_by_a_test : swap_without_by (λ k. nat_eq k 97) letters ≡ (c, 3) ∷ (b, 2) ∷ []
+the_last_fills_the_gap_by_a_test = refl
+
+nothing_passes_the_test : swap_without_by (λ k. nat_eq k 100) letters ≡ letters
+nothing_passes_the_test = refl
 
 values_by_place : (value_at letters 2 ≡ Some 3) × (value_at letters 3 ≡ None)
 values_by_place = (refl, refl)
