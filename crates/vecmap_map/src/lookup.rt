@@ -1,7 +1,7 @@
 //! Lookups by key and by place.
 ghost use Rattle.std.specs.Prelude.{◌≡◌, ◌-◌, ◌<◌, ◌↔◌, IfSome, IsTrue, is_some, length, option_copied, option_map, slice_get};
 ghost use Rattle.std.specs.Map.Iter.{deref_pair};
-ghost use Rattle.vecmap_base.specs.Pairs.{HasDistinctKeys, has_text, index_by, index_of, lookup, lookup_by, lookup_full, lookup_pair};
+ghost use Rattle.vecmap_base.specs.Pairs.{HasDistinctKeys, has_text, index_by, index_of, lookup, lookup_by, lookup_pair};
 
 use crate::VecMap;
 use vecmap_base::{find, find_str, keys_distinct};

@@ -1,5 +1,5 @@
 //! The entry of a key that is not there.
-ghost use Rattle.std.specs.Prelude.{◌≡◌, ◌≤◌, IfErr, IfOk, OnErr, length};
+ghost use Rattle.std.specs.Prelude.{◌≡◌, IfErr, IfOk, OnErr};
 ghost use Rattle.std.specs.Borrow.{sem};
 ghost use Rattle.vecmap_map.specs.Contents.{IsFull};
 
@@ -49,7 +49,7 @@ impl<'a, K, V> VacantEntry<'a, K, V> {
         ensures value { IfOk result (λ x. x.now ≡ value) }
 
         // Refused, the pair comes back.
-        ensures given { IfErr result (λ refused. refused.given ≡ (entry_key (Vacant self.entry), value)) }
+        ensures given { IfErr result (λ refused. refused.given ≡ (self.entry.key, value)) }
     {
         let VacantEntry { map, key } = self;
         let index = map.len();
@@ -70,8 +70,8 @@ impl<'a, K, V> VacantEntry<'a, K, V> {
 
         // Refused, the pair comes back, and where the key can be cloned only where the map is full.
         ensures* err { sem 𝓛 (entry_passes K.row V.row (Vacant self.entry) result) }
-        ensures given { IfErr result (λ refused. refused.given ≡ (entry_key (Vacant self.entry), value)) }
-        ensures full { K.is_infallible (entry_key (Vacant self.entry)) → OnErr result (IsFull (entry_map (Vacant self.entry))) }
+        ensures given { IfErr result (λ refused. refused.given ≡ (self.entry.key, value)) }
+        ensures full { K.is_infallible self.entry.key → OnErr result (IsFull self.entry.map.now) }
     {
         let VacantEntry { map, key } = self;
         let Ok(stored) = key.clone() else {
