@@ -2,4 +2,4 @@
 pub use vecmap_base::{
     IntoIter, IntoKeys, IntoValues, Iter, IterMut, IterMut2, Keys, KeysMut, Values, ValuesMut,
 };
-pub use vecmap_map::{Entry, MutableKeys, OccupiedEntry, VacantEntry, VecMap, laws};
+pub use vecmap_map::{Drain, Entry, MutableKeys, OccupiedEntry, VacantEntry, VecMap, laws};

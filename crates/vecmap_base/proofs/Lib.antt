@@ -1,10 +1,14 @@
 pub mod CloneLemmas
 pub mod DistinctLemmas
+pub mod DrainLemmas
+pub mod DrainRuns
 pub mod EqualityLemmas
 mod Examples
 pub mod ItemsLemmas
+pub mod KeptLemmas
 pub mod MoveLemmas
 pub mod PairsLemmas
+pub mod PartsStayDistinct
 pub mod PlaceLemmas
 pub mod RepeatsLemmas
 pub mod SearchLemmas

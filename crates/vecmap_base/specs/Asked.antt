@@ -2,8 +2,8 @@
 use Rattle.std.specs.Prelude.{◌≡◌, Bool, List, ◌∷◌, ◌++◌}
 use Rattle.std.specs.List.{FoldsTo}
 use Rattle.std.specs.Borrow.{MutBor, Bor}
-use Rattle.std.specs.Fn.{Called, Mut, Takes}
-use Rattle.std.specs.Map.Calls.{CalledAtPair}
+use Rattle.std.specs.Fn.{Called, CalledAt, Mut, Takes}
+use Rattle.std.specs.Map.Calls.{CalledAtPair, TakesPair}
 
 module _ {F X : Type 0} (R : F → X → Bool → X → F → Type 0) where
   -- some call of f at x leaves g
@@ -14,7 +14,15 @@ module _ {F X : Type 0} (R : F → X → Bool → X → F → Type 0) where
   pub record CallableOnEach (Q : F → X → Type 0) (f : F) (l : List X) : Type 0 where
     pub at : (before after : List X) (g : F) (x : X) → l ≡ before ++ x ∷ after → FoldsTo SomeCall f before g → Q g x
 
+-- a call of a closure over `&T` at the item x may answer b, and leave g; it writes nothing
+abbrev pub CallsAtItem : {F T : Type 0} → Mut F (Bor T × Unit {0}) Bool → F → T → Bool → T → F → Type 0
+CallsAtItem c f x b y g = CalledAt c f x b g × (y ≡ x)
+
 module _ {F K V : Type 0} where
+  -- the closure may be called at the pair p, with the value to write
+  abbrev pub TakesPairAt : Mut F (Bor K × (MutBor V × Unit {0})) (Bool × (MutBor V × Unit {0})) → F → K × V → Type 0
+  TakesPairAt c f p = TakesPair c f p.0 p.1
+
   -- the closure may be called at the pair p, with the key and the value to write
   abbrev pub TakesPairMut : Mut F (MutBor K × (MutBor V × Unit {0})) (Bool × (MutBor K × (MutBor V × Unit {0}))) → F → K × V → Type 0
   TakesPairMut c f p = (k : MutBor K) (v : MutBor V) → k.now ≡ p.0 → v.now ≡ p.1 → Takes c f (k, (v, tt))

@@ -1,10 +1,12 @@
 pub mod Asked
 pub mod Bulk
 pub mod Clones
+pub mod Drain
 pub mod Equality
 pub mod Items
 pub mod Kept
 pub mod Orders
 pub mod Pairs
+pub mod Ranges
 pub mod Repeats
 pub mod Walks

@@ -5,6 +5,7 @@
 #![tactic(auto)]
 
 mod distinct;
+mod drain;
 mod equality;
 pub mod items;
 mod iter;
@@ -15,10 +16,12 @@ mod moving;
 mod refused;
 mod relations;
 mod repeats;
+mod retain;
 mod search;
 mod steps;
 
 pub use distinct::{items_distinct, keys_distinct};
+pub use drain::{move_range_last, reverse_from};
 pub use equality::pairs_equal;
 pub use iter::{IntoIter, IntoKeys, IntoValues, Iter, Keys, Values};
 pub use iter_mut::{IterMut, IterMut2, KeysMut, ValuesMut};
@@ -27,5 +30,6 @@ pub use moving::replace_and_move;
 pub use refused::Refused;
 pub use relations::{are_apart, are_within};
 pub use repeats::{dedup_keep_first, dedup_keep_last_value, gather_items, gather_pairs};
+pub use retain::{retain_items, retain_pairs, retain_pairs_mut};
 pub use search::{search_items_by_key, search_pairs_by_key};
 pub use steps::Steps;

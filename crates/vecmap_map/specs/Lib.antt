@@ -1,4 +1,5 @@
 pub mod Contents
+pub mod Drain
 pub mod Entry
 pub mod EntryLends
 pub mod EntryWithin

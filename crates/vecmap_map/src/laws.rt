@@ -1,9 +1,12 @@
 //! Laws of the definitions that the contracts cite. A call of one costs nothing, and gives a proof the law.
-ghost use Rattle.std.specs.Prelude.{◌≡◌, ◌≢◌, ◌<◌, ◌++◌, ◌∷◌, ℕ, Bool, IsTrue, List, None, [], false, length, remove, reverse, swap, take};
+ghost use Rattle.std.specs.Prelude.{◌≡◌, ◌≢◌, ◌<◌, ◌≤◌, ◌++◌, ◌∷◌, ℕ, Bool, IsTrue, List, None, [], drop, false, length, remove, reverse, slice_range, swap, take};
+ghost use Rattle.std.specs.List.{remove_range};
 ghost use Rattle.std.specs.List.Sorted.{IsPermutation};
 ghost use Rattle.vecmap_base.specs.Clones.{AreClones, ClonesAreSame, IsPairClone};
 ghost use Rattle.vecmap_base.specs.Equality.{agrees, counts_agree, has_same_counts, same_option};
 ghost use Rattle.vecmap_base.specs.Items.{swap_without};
+ghost use Rattle.vecmap_base.specs.Asked.{CallsAtPair};
+ghost use Rattle.vecmap_base.specs.Kept.{Kept};
 ghost use Rattle.vecmap_base.specs.Pairs.{HasDistinctKeys, index_of, lookup, put, put_at, puts, swap_without_key, with_value, without_by};
 
 pub use vecmap_base::laws::iterators_pull_as_lists;
@@ -51,6 +54,23 @@ pub fn removal_keeps_keys_distinct<K: Eq, V>()
     ensures swap_by_key { (l : List (K × V)) → HasDistinctKeys K.eq l → (k : K) → HasDistinctKeys K.eq (swap_without_key K.eq l k) }
     ensures swap_by_place { (l : List (K × V)) → HasDistinctKeys K.eq l → (i : ℕ) → HasDistinctKeys K.eq (swap_without l i) }
     ensures front { (l : List (K × V)) → HasDistinctKeys K.eq l → (n : ℕ) → HasDistinctKeys K.eq (take n l) }
+{}
+
+/// Where no keys repeat, none do in a part of the list, nor once a part is left out.
+pub fn parts_keep_keys_distinct<K: Eq, V>()
+    ensures back { (l : List (K × V)) → HasDistinctKeys K.eq l → (n : ℕ) → HasDistinctKeys K.eq (drop n l) }
+    ensures part { (l : List (K × V)) → HasDistinctKeys K.eq l → (i j : ℕ) → HasDistinctKeys K.eq (slice_range l i j) }
+    ensures without_part { (l : List (K × V)) → HasDistinctKeys K.eq l → (i j : ℕ) → i ≤ j → HasDistinctKeys K.eq (remove_range l i j) }
+{}
+
+/// Where no keys repeat, none do in what a closure keeps that may write the values alone.
+pub fn retaining_keeps_keys_distinct<K: Eq, V, F: FnMut(&K, &mut V) -> bool>()
+    ensures { (f g : F) (l m : List (K × V)) → Kept (CallsAtPair F.FnMut) f l m g → HasDistinctKeys K.eq l → HasDistinctKeys K.eq m }
+{}
+
+/// Where no keys repeat, a list that is split is whole again once the part that went is appended.
+pub fn appending_undoes_splitting<K: Eq, V>()
+    ensures { (l : List (K × V)) → HasDistinctKeys K.eq l → (at : ℕ) → puts K.eq (take at l) (drop at l) ≡ l }
 {}
 
 /// Where no keys repeat, none do in another order.

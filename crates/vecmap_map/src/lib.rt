@@ -3,6 +3,7 @@
 
 mod bulk;
 mod conversion;
+mod drain;
 mod entry;
 mod equality;
 mod formatting;
@@ -19,6 +20,7 @@ mod removal;
 mod room;
 mod search;
 
+pub use drain::Drain;
 pub use entry::{Entry, OccupiedEntry, VacantEntry};
 pub use mutable_keys::MutableKeys;
 use std::marker::Model;

@@ -1,10 +1,16 @@
 //! Calls that lend keys to be written.
-ghost use Rattle.std.specs.Prelude.{◌≡◌, ◌<◌, ◌↔◌, IfSome, IsSome, length, option_map, slice_get};
+ghost use Rattle.std.specs.Prelude.{◌≡◌, ◌<◌, ◌^◌, ◌↔◌, IfSome, IsSome, List, length, option_map, slice_get};
 ghost use Rattle.std.specs.Borrow.{sem};
+ghost use Rattle.std.specs.Map.{keys_of};
+ghost use Rattle.std.specs.Map.Iter.{ShowsInOrder, ShowsInReverse};
+ghost use Rattle.vecmap_base.specs.Asked.{CallableOnEach, CallsAtPairMut, TakesPairMut};
+ghost use Rattle.vecmap_base.specs.Kept.{Kept};
 ghost use Rattle.vecmap_base.specs.Pairs.{index_of, lookup_pair};
+ghost use Rattle.vecmap_base.specs.Walks.{deref_both_mut, deref_mut};
 ghost use Rattle.vecmap_map.specs.Lends.{lends_parts};
 
 use crate::VecMap;
+use vecmap_base::{IterMut2, KeysMut, retain_pairs_mut};
 
 mod sealed {
     pub trait Sealed {}
@@ -20,6 +26,9 @@ pub trait MutableKeys: sealed::Sealed {
 
     type Value;
 
+    // The pairs that a value has, from front to back.
+    ghost pairs: { Self → List (Self.Key × Self.Value) };
+
     /// The place of the first pair whose key is equal to `key`, with the stored key and the value, both to write.
     ///
     /// It takes at most as many comparisons as there are pairs.
@@ -32,12 +41,37 @@ pub trait MutableKeys: sealed::Sealed {
 
     /// The pair at a place, if there is one, the key and the value to write. It compares nothing.
     fn get_index_mut2(&mut self, index: usize) -> Option<(&mut Self::Key, &mut Self::Value)>;
+
+    /// Keeps the pairs at which `f` answers true, each as `f` left its key and its value. The capacity stays.
+    ///
+    /// `f` is asked of each pair once, in order, in the state that the calls before have left. For n pairs there are n
+    /// calls and at most n swaps; the pairs that go are dropped at the end. It takes no memory.
+    fn retain2<F: FnMut(&mut Self::Key, &mut Self::Value) -> bool>(&mut self, f: F)
+    where
+        Self::Key: Drop,
+        Self::Value: Drop,
+        F: Drop,
+        requires callable { CallableOnEach (CallsAtPairMut F.FnMut) (TakesPairMut F.FnMut) f (pairs self.old) };
+
+    /// The pairs, in their order, each as `(&mut K, &mut V)`: as they stood at this call, to be written.
+    ///
+    /// Each pull takes constant time, and none takes memory. No clause says what the map holds afterwards: where that
+    /// matters, write through `get_index_mut2` or `retain2`.
+    fn iter_mut2(&mut self) -> IterMut2<'_, Self::Key, Self::Value>;
+
+    /// The keys, in their order, as they stood at this call, to be written.
+    ///
+    /// Each pull takes constant time, and none takes memory. No clause says what the map holds afterwards: where that
+    /// matters, write through `get_index_mut2` or `retain2`.
+    fn keys_mut(&mut self) -> KeysMut<'_, Self::Key, Self::Value>;
 }
 
 impl<K, V> MutableKeys for VecMap<K, V> {
     type Key = K;
 
     type Value = V;
+
+    ghost pairs = { λ map. map.entries };
 
     ghost use Rattle.vecmap_map.specs.Lends.{lends_both_at, lends_both_beside_place};
 
@@ -68,6 +102,36 @@ impl<K, V> MutableKeys for VecMap<K, V> {
             Some(pair) => Some(parts_mut(pair)),
             None => None,
         }
+    }
+
+    fn retain2<F: FnMut(&mut K, &mut V) -> bool>(&mut self, f: F)
+    where
+        K: Drop,
+        V: Drop,
+        F: Drop,
+        requires callable { CallableOnEach (CallsAtPairMut F.FnMut) (TakesPairMut F.FnMut) f self.old.entries }
+        ensures entries { (g : F) × Kept (CallsAtPairMut F.FnMut) f self.old.entries self.new.entries g }
+        ensures capacity { self.new.capacity ≡ self.old.capacity }
+    {
+        retain_pairs_mut(&mut self.pairs, f);
+    }
+
+    fn iter_mut2(&mut self) -> IterMut2<'_, K, V>
+        ensures rest { result ≡ self.old.entries }
+        ensures fits { length result < 2 ^ 64 }
+        ensures runs { ShowsInOrder (deref_both_mut {K = K} {V = V}) }
+        ensures runs_back { ShowsInReverse (deref_both_mut {K = K} {V = V}) }
+    {
+        IterMut2::over(&mut self.pairs)
+    }
+
+    fn keys_mut(&mut self) -> KeysMut<'_, K, V>
+        ensures rest { result ≡ keys_of self.old.entries }
+        ensures fits { length result < 2 ^ 64 }
+        ensures runs { ShowsInOrder (deref_mut {X = K}) }
+        ensures runs_back { ShowsInReverse (deref_mut {X = K}) }
+    {
+        KeysMut::over(&mut self.pairs)
     }
 }
 

@@ -1,9 +1,9 @@
 //! Laws of the definitions that the contracts cite. A call of one costs nothing, and gives a proof the law.
-ghost use Rattle.std.specs.Prelude.{◌≡◌, ◌≢◌, ◌↔◌, ◌<◌, IsTrue, List, [], false, length};
+ghost use Rattle.std.specs.Prelude.{◌≡◌, ◌≢◌, ◌↔◌, ◌<◌, IsTrue, List, ℕ, [], drop, false, length, take};
 ghost use Rattle.std.specs.List.{IsDistinct};
 ghost use Rattle.std.specs.List.Sorted.{IsPermutation};
 ghost use Rattle.vecmap_base.specs.Equality.{has_same_items, is_within};
-ghost use Rattle.vecmap_base.specs.Items.{both};
+ghost use Rattle.vecmap_base.specs.Items.{adds, both};
 
 mod algebra;
 
@@ -41,4 +41,9 @@ pub fn lengths_tell_of_inclusion<T: Eq>()
 /// Whether two sets share nothing is the same from either side.
 pub fn disjointness_is_symmetric<T: Eq>()
     ensures { (a b : List T) → (both T.eq a b ≡ []) ↔ (both T.eq b a ≡ []) }
+{}
+
+/// A list of a set that is split is whole again once the part that went is appended.
+pub fn appending_undoes_splitting<T: Eq>()
+    ensures { (l : List T) → IsDistinct T.eq l → (at : ℕ) → adds T.eq (take at l) (drop at l) ≡ l }
 {}

@@ -3,6 +3,7 @@
 
 mod bulk;
 mod conversion;
+mod drain;
 mod equality;
 mod formatting;
 mod indexing;
@@ -18,6 +19,7 @@ mod removal;
 mod room;
 mod search;
 
+pub use drain::Drain;
 pub use lazy::{Difference, Intersection, SymmetricDifference, Union};
 use std::marker::Model;
 

@@ -1,11 +1,22 @@
 //! Removal of elements.
-ghost use Rattle.std.specs.Prelude.{◌≡◌, ◌-◌, ◌<◌, Some, [], length, remove, slice_get, take};
-ghost use Rattle.std.specs.List.{IsDistinct, list_any};
+ghost use Rattle.std.specs.Prelude.{◌≡◌, ◌++◌, ◌-◌, ◌<◌, ◌≤◌, ◌^◌, IfOk, IsOk, OnErr, OnOk, Some, [], ◌∷◌, drop, length, remove, reverse, slice_get, slice_range, take};
+ghost use Rattle.std.specs.Fn.{TakesAt};
+ghost use Rattle.std.specs.Iterator.Runs.{YieldsInOrder, YieldsInReverse};
+ghost use Rattle.std.specs.List.{IsDistinct, list_any, remove_range};
+ghost use Rattle.vecmap_base.specs.Drain.{KeepsAlong};
 ghost use Rattle.vecmap_base.specs.Items.{has_item, stored_item, swap_without, swap_without_item, without_first, without_item};
+ghost use Rattle.vecmap_base.specs.Asked.{CallableOnEach, CallsAtItem};
+ghost use Rattle.vecmap_base.specs.Kept.{Kept};
 ghost use Rattle.vecmap_base.specs.Pairs.{has_text};
+ghost use Rattle.vecmap_base.specs.Ranges.{AreEndsWithin, IsRangeWithin, items_between, without_between};
+ghost use Rattle.vecmap_set.specs.Drain.{DrainKeeps, DrainNext, DrainNextBack, drain_capacity, drain_kept, drain_lender, drain_rest};
 
 use crate::VecSet;
-use vecmap_base::{find_item, find_item_str};
+use crate::drain::Drain;
+use std::alloc::AllocError;
+use std::ops::RangeBounds;
+use std::slice;
+use vecmap_base::{find_item, find_item_str, move_range_last, retain_items, reverse_from};
 
 impl<T: Eq> VecSet<T> {
     /// Drops all elements, one after another. The capacity stays.
@@ -30,6 +41,71 @@ impl<T: Eq> VecSet<T> {
         ensures capacity { self.new.capacity ≡ self.old.capacity }
     {
         self.items.truncate(len);
+    }
+
+    /// Takes out the elements from a place on, which must be within the set or its length, and answers them as a set
+    /// of their own. Those before it stay, and so does the capacity.
+    ///
+    /// It takes one move for each element that goes, and memory for as many. Refused, nothing has changed. Where `at`
+    /// is the length it takes none and succeeds.
+    pub fn split_off(&mut self, at: usize) -> Result<VecSet<T>, AllocError>
+        requires within { at ≤ length self.old.elements }
+        ensures elements { OnOk result (self.new.elements ≡ take at self.old.elements) }
+        ensures distinct { IsDistinct T.eq self.new.elements }
+        ensures part { IfOk result (λ part. part.elements ≡ drop at self.old.elements) }
+        ensures part_distinct { IfOk result (λ part. IsDistinct T.eq part.elements) }
+        ensures capacity { self.new.capacity ≡ self.old.capacity }
+        ensures succeeds { at ≡ length self.old.elements → IsOk result }
+        ensures err { OnErr result (self.new ≡ self.old) }
+    {
+        Ok(VecSet {
+            items: self.items.split_off(at)?,
+        })
+    }
+
+    /// Takes out the elements of a range of places, and answers them one after another, from either end.
+    ///
+    /// Any range of std will do, with included, excluded or open ends. Its start must be no later than its end, and its
+    /// end within the set: `len` tells. The ends are counted without limit, so that no range from behind the greatest
+    /// place is within a set. Nor is a `RangeInclusive` that was iterated to its end.
+    ///
+    /// Once the answer is dropped, after any number of pulls, the whole range is gone, the others stand in their order,
+    /// and the capacity is as before. It takes a number of moves that is linear in the number of elements from the
+    /// start of the range on, and no memory.
+    pub fn drain<R: RangeBounds<usize>>(&mut self, range: R) -> Drain<'_, T>
+    where
+        T: Drop,
+        requires known { R.has_bounds range }
+        requires within { AreEndsWithin (R.start_bound range) (R.end_bound range) (length self.old.elements) }
+        ensures rest { drain_rest result ≡ items_between self.old.elements (R.start_bound range) (R.end_bound range) }
+        ensures fits { length (drain_rest result) < 2 ^ 64 }
+        ensures runs { YieldsInOrder (DrainNext {T = T}) drain_rest }
+        ensures runs_back { YieldsInReverse (DrainNextBack {T = T}) drain_rest }
+
+        // Once it is dropped, after any pulls, the set has the others and its capacity.
+        ensures kept { drain_kept result ≡ without_between self.old.elements (R.start_bound range) (R.end_bound range) }
+        ensures capacity { drain_capacity result ≡ self.old.capacity }
+        ensures same_set { drain_lender result ≡ self.entry.ghost_name }
+        ensures keeps { KeepsAlong drain_rest DrainKeeps result }
+    {
+        let range = slice::range(range, ..self.len());
+        Drain::over(self, range.start, range.end)
+    }
+
+    /// Keeps the elements at which `f` answers true. The capacity stays.
+    ///
+    /// `f` is asked of each element once, in order, in the state that the calls before have left. For n elements there
+    /// are n calls and at most n swaps; the elements that go are dropped at the end. It takes no memory.
+    pub fn retain<F: FnMut(&T) -> bool>(&mut self, f: F)
+    where
+        T: Drop,
+        F: Drop,
+        requires callable { CallableOnEach (CallsAtItem F.FnMut) (TakesAt F.FnMut) f self.old.elements }
+        ensures elements { (g : F) × Kept (CallsAtItem F.FnMut) f self.old.elements self.new.elements g }
+        ensures distinct { IsDistinct T.eq self.new.elements }
+        ensures capacity { self.new.capacity ≡ self.old.capacity }
+    {
+        retain_items(&mut self.items, f);
     }
 
     /// Takes out the last element, with no comparison and no move of another.
@@ -120,6 +196,41 @@ impl<T: Eq> VecSet<T> {
     {
         let index = find_item(&self.items, item)?;
         Some(self.swap_remove_index(index))
+    }
+}
+
+// What a drain is made of: no two elements are equal after each of these.
+impl<T: Eq> VecSet<T> {
+    // As the base's, which it calls.
+    pub(crate) fn move_range_last(&mut self, start: usize, end: usize) -> usize
+        requires within { IsRangeWithin start end (length self.old.elements) }
+        ensures keep { result ≡ length self.old.elements - (end - start) }
+        ensures bound { length self.new.elements < 2 ^ 63 }
+        ensures elements { self.new.elements ≡ remove_range self.old.elements start end ++ reverse (slice_range self.old.elements start end) }
+        ensures distinct { IsDistinct T.eq self.new.elements }
+        ensures capacity { self.new.capacity ≡ self.old.capacity }
+    {
+        move_range_last(&mut self.items, start, end)
+    }
+
+    // As the base's, which it calls.
+    pub(crate) fn reverse_from(&mut self, start: usize)
+        requires within { start ≤ length self.old.elements }
+        ensures elements { self.new.elements ≡ take start self.old.elements ++ reverse (drop start self.old.elements) }
+        ensures distinct { IsDistinct T.eq self.new.elements }
+        ensures capacity { self.new.capacity ≡ self.old.capacity }
+    {
+        reverse_from(&mut self.items, start);
+    }
+
+    // Takes out the last element, which must be there.
+    pub(crate) fn take_last(&mut self) -> T
+        requires within { 0 < length self.old.elements }
+        ensures elements { self.old.elements ≡ self.new.elements ++ result ∷ [] }
+        ensures distinct { IsDistinct T.eq self.new.elements }
+        ensures capacity { self.new.capacity ≡ self.old.capacity }
+    {
+        self.items.take_last()
     }
 }
 

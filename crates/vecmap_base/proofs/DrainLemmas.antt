@@ -1,0 +1,100 @@
+-- A list whose end a drain holds, in order or turned round.
+use Rattle.std.specs.Prelude.{◌≡◌, ℕ, zero, suc, ◌+◌, ◌-◌, ◌<◌, ◌≤◌, Bool, true, false, List, [], ◌∷◌, ◌++◌, drop, length, not, reverse, refl, slice_range, take}
+use Rattle.std.specs.List.{remove_range}
+use Rattle.std.specs.List.Sorted.{IsPermutation}
+use Rattle.std.specs.Vec.Iter.{reverse_if}
+use Rattle.std.proofs.Common.{sym, ap, ◌∙◌, append_assoc, arith, drop-drop, drop_at, length-append, length-drop, length-take, subst, take_at, true≢false}
+use Rattle.std.proofs.lemmas.List.{drop_all, length-reverse, length_push, reverse-append, reverse-reverse, take-append-le}
+use Rattle.std.proofs.lemmas.List.Edits.{split_between}
+use Rattle.std.proofs.lemmas.List.Sorted.{IsPermutation-append_comm, IsPermutation-append_right, IsPermutation-reverse, IsPermutation-trans}
+use mathlib.Core.Bool.{beq}
+use lib.ListN.{length-drop, length-take}
+
+-- a test that two flags differ failed
+pub same_flag : (a b : Bool) → not (beq a b) ≡ false → a ≡ b
+same_flag true true e = refl
+same_flag true false e = absurd (true≢false e)
+same_flag false true e = absurd (true≢false e)
+same_flag false false e = refl
+
+module _ {X : Type 0} where
+  -- the part from i up to j goes behind the others, in ys, and is turned round there, in zs
+  pub range_moved_last : (xs ys zs : List X) (i j k : ℕ) → i ≤ j → j ≤ length xs → k ≡ length xs - (j - i)
+      → ys ≡ take i xs ++ (drop (j - i) (drop i xs) ++ take (j - i) (drop i xs)) → zs ≡ take k ys ++ reverse (drop k ys)
+      → zs ≡ remove_range xs i j ++ reverse (slice_range xs i j)
+  range_moved_last xs ys zs i j k order within keep moved turned =
+      let stay = remove_range xs i j in
+      let go = slice_range xs i j in
+      let past : drop (j - i) (drop i xs) ≡ drop j xs = drop-drop (j - i) i xs ∙ ap (λ n. drop n xs) (let e : i + (j - i) ≡ j = omega arith in e) in
+      let first : ys ≡ stay ++ go = moved ∙ ap (λ l. take i xs ++ (l ++ go)) past ∙ sym (append_assoc (take i xs) (drop j xs) go) in
+      let long : length stay ≡ k = omega (arith, length-append (take i xs) (drop j xs), length-take i xs, length-drop j xs) in
+      turned ∙ (λ t. (ap (take k) first ∙ take_at stay go k long) t ++ reverse ((ap (drop k) first ∙ drop_at stay go k long) t))
+
+  -- so the front is what stays, and the end is the part, turned round
+  pub parts_of_moved : (xs zs : List X) (i j k : ℕ) → i ≤ j → j ≤ length xs → k ≡ length xs - (j - i) → zs ≡ remove_range xs i j ++ reverse (slice_range xs i j)
+      → (reverse_if true (drop k zs) ≡ slice_range xs i j) × (take k zs ≡ remove_range xs i j)
+  unfolding reverse_if
+  parts_of_moved xs zs i j k order within keep moved =
+      let stay = remove_range xs i j in
+      let go = slice_range xs i j in
+      let long : length stay ≡ k = omega (arith, length-append (take i xs) (drop j xs), length-take i xs, length-drop j xs) in
+      (ap reverse (ap (drop k) moved ∙ drop_at stay (reverse go) k long) ∙ reverse-reverse go, ap (take k) moved ∙ take_at stay (reverse go) k long)
+
+  -- and nothing is lost
+  pub moved_rearranged : (xs : List X) (i j : ℕ) → i ≤ j → IsPermutation xs (remove_range xs i j ++ reverse (slice_range xs i j))
+  moved_rearranged xs i j order =
+      let front = take i xs in
+      let go = slice_range xs i j in
+      let back = drop j xs in
+      let turned = IsPermutation-append_right back go (reverse go) (IsPermutation-reverse go) in
+      let moved = IsPermutation-trans (go ++ back) (back ++ go) (back ++ reverse go) (IsPermutation-append_comm go back) turned in
+      let whole = IsPermutation-append_right front (go ++ back) (back ++ reverse go) moved in
+      subst (λ l. IsPermutation l (remove_range xs i j ++ reverse go)) (sym (split_between xs i j order)) (subst (IsPermutation (front ++ (go ++ back))) (sym (append_assoc front back (reverse go))) whole)
+
+  drop_end : (ys : List X) (x : X) (k : ℕ) → k ≤ length ys → drop k (ys ++ x ∷ []) ≡ drop k ys ++ x ∷ []
+  drop_end ys x zero le = refl
+  drop_end [] x (suc k) le = absurd (omega arith)
+  drop_end (y ∷ ys) x (suc k) le = drop_end ys x k (omega arith)
+
+  -- the last of xs is taken where the end is turned round: it is the first still to come
+  pub first_pulled : (b : Bool) (xs ys : List X) (x : X) (k : ℕ) → b ≡ true → k < length xs → xs ≡ ys ++ x ∷ []
+      → (reverse_if b (drop k xs) ≡ x ∷ reverse_if b (drop k ys)) × (take k ys ≡ take k xs)
+  unfolding reverse_if
+  first_pulled false xs ys x k laid more e = absurd (true≢false (sym laid))
+  first_pulled true xs ys x k laid more e =
+      let long : k ≤ length ys = omega (arith, ap length e, length_push ys x, more) in
+      (ap (λ l. reverse (drop k l)) e ∙ ap reverse (drop_end ys x k long) ∙ reverse-append (drop k ys) (x ∷ []), sym (ap (take k) e ∙ take-append-le k ys (x ∷ []) long))
+
+  -- and the last still to come, where it is not
+  pub last_pulled : (b : Bool) (xs ys : List X) (x : X) (k : ℕ) → b ≡ false → k < length xs → xs ≡ ys ++ x ∷ []
+      → (reverse_if b (drop k xs) ≡ reverse_if b (drop k ys) ++ x ∷ []) × (take k ys ≡ take k xs)
+  unfolding reverse_if
+  last_pulled true xs ys x k laid more e = absurd (true≢false laid)
+  last_pulled false xs ys x k laid more e =
+      let long : k ≤ length ys = omega (arith, ap length e, length_push ys x, more) in
+      (ap (drop k) e ∙ drop_end ys x k long, sym (ap (take k) e ∙ take-append-le k ys (x ∷ []) long))
+
+  pub length_rest : (b : Bool) (xs : List X) (k : ℕ) → length (reverse_if b (drop k xs)) ≡ length xs - k
+  unfolding reverse_if
+  length_rest true xs k = length-reverse (drop k xs) ∙ length-drop k xs
+  length_rest false xs k = length-drop k xs
+
+  pub none_left : (b : Bool) (xs : List X) (k : ℕ) → length xs ≤ k → reverse_if b (drop k xs) ≡ []
+  unfolding reverse_if
+  none_left true xs k le = ap reverse (drop_all k xs le)
+  none_left false xs k le = drop_all k xs le
+
+  -- the end was turned round, and so was the flag
+  pub end_turned : (a b : Bool) (xs ys : List X) (k : ℕ) → not (beq a b) ≡ true → k ≤ length xs → ys ≡ take k xs ++ reverse (drop k xs)
+      → (reverse_if b (drop k ys) ≡ reverse_if a (drop k xs)) × (take k ys ≡ take k xs)
+  unfolding reverse_if
+  end_turned a b xs ys k apart le turned =
+      let long : length (take k xs) ≡ k = omega (arith, length-take k xs) in
+      let back = ap (drop k) turned ∙ drop_at (take k xs) (reverse (drop k xs)) k long in
+      (by a b apart back, ap (take k) turned ∙ take_at (take k xs) (reverse (drop k xs)) k long)
+    where
+      by : (a b : Bool) → not (beq a b) ≡ true → drop k ys ≡ reverse (drop k xs) → reverse_if b (drop k ys) ≡ reverse_if a (drop k xs)
+      by true true apart back = absurd (true≢false (sym apart))
+      by true false apart back = back
+      by false true apart back = ap reverse back ∙ reverse-reverse (drop k xs)
+      by false false apart back = absurd (true≢false (sym apart))

@@ -1,0 +1,101 @@
+-- A list from which a closure picks, item by item: its front has the items kept so far, and its rest is as it was.
+use Rattle.std.specs.Prelude.{◌≡◌, ℕ, ◌+◌, ◌<◌, ◌≤◌, Bool, true, false, List, [], ◌∷◌, ◌++◌, drop, filter, if◌then◌else◌, length, refl, take}
+use Rattle.std.specs.List.{FoldsTo, SwappedAt}
+use Rattle.std.proofs.Common.{ap, append_assoc, arith, get_or, set, subst, sym, ◌∙◌}
+use Rattle.std.proofs.lemmas.List.{append-nil, drop-set-lt, drop_all, drop_more, get_or-set_same, length-set, take-append-drop, take-set-le, take_more}
+use Rattle.vecmap_base.specs.Asked.{CallableOnEach, SomeCall}
+use Rattle.vecmap_base.specs.Kept.{Kept}
+use Rattle.vecmap_base.proofs.RepeatsLemmas.Gather.{front_swapped, rest_more}
+
+module _ {X : Type 0} where
+  -- y was written at i, behind the front of k
+  front_left : (ys : List X) (k i : ℕ) (y : X) → k ≤ i → (take k (set ys i y) ≡ take k ys) × (drop (i + 1) (set ys i y) ≡ drop (i + 1) ys)
+  front_left ys k i y le = (take-set-le k ys i y le, drop-set-lt (i + 1) ys i y (omega arith))
+
+  -- and was then exchanged for the item at k
+  front_more : (ys zs : List X) (k i : ℕ) (y : X) → k ≤ i → i < length ys → length zs ≡ length ys → SwappedAt (set ys i y) zs k i
+      → (take (k + 1) zs ≡ take k ys ++ y ∷ []) × (drop (i + 1) zs ≡ drop (i + 1) ys)
+  front_more ys zs k i y le l long s =
+      let us = set ys i y in
+      let m : length us ≡ length ys = length-set ys i y in
+      let swapped = front_swapped us zs k i y le (omega arith) (long ∙ sym m) s in
+      let left = front_left ys k i y le in
+      let at : get_or us i y ≡ y = get_or-set_same ys i y y l in
+      (swapped.0 ∙ (λ t. left.0 t ++ at t ∷ []), swapped.1 ∙ left.1)
+
+module _ {F X : Type 0} (R : F → X → Bool → X → F → Type 0) where
+  -- The first i items of xs were called at, in turn, which took f0 to f. Of them the first k of ys are kept, as they
+  -- were written, and the rest of ys is that of xs.
+  pub record KeptSoFar (f0 f : F) (xs ys : List X) (k i : ℕ) : Type 0 where
+    pub bound : k ≤ i
+    pub len : length ys ≡ length xs
+    pub rest : drop i ys ≡ drop i xs
+    pub calls : FoldsTo (SomeCall R) f0 (take i xs) f
+    pub kept : (m : List X) (g : F) → Kept R f (drop i xs) m g → Kept R f0 xs (take k ys ++ m) g
+
+  -- no item was called at yet
+  pub kept_none : (f : F) (xs : List X) → KeptSoFar f f xs xs 0 0
+  kept_none f xs = record { bound = omega arith; len = refl; rest = refl; calls = refl; kept = λ m g h. h }
+
+  folds_push : (f : F) (xs : List X) (g : F) (x : X) (h : F) → FoldsTo (SomeCall R) f xs g → SomeCall R g x h → FoldsTo (SomeCall R) f (xs ++ x ∷ []) h
+  folds_push f [] g x h e c = (h, subst (λ s. SomeCall R s x h) (sym e) c, refl)
+  folds_push f (y ∷ ys) g x h e c = (e.0, e.1, folds_push e.0 ys g x h e.2 c)
+
+  module _ (f0 f h : F) (xs ys : List X) (k i : ℕ) (p y : X) (so_far : KeptSoFar f0 f xs ys k i) (l : i < length xs) (at : p ≡ get_or ys i p) where
+    here : p ≡ get_or xs i p
+    here = at ∙ (rest_more xs ys i p l (omega (arith, l, so_far.len)) so_far.rest).0
+
+    -- the closure may be called at the next item
+    pub callable_here : (Q : F → X → Type 0) → CallableOnEach R Q f0 xs → Q f p
+    callable_here Q each =
+        let split : xs ≡ take i xs ++ get_or xs i p ∷ drop (i + 1) xs = sym (take-append-drop i xs) ∙ ap (λ t. take i xs ++ t) (drop_more xs i p l) in
+        subst (Q f) (sym here) (each.at (take i xs) (drop (i + 1) xs) f (get_or xs i p) split so_far.calls)
+
+    module _ (b : Bool) (call : R f p b y h) where
+      called : R f (get_or xs i p) b y h
+      called = subst (λ x. R f x b y h) here call
+
+      calls_more : FoldsTo (SomeCall R) f0 (take (i + 1) xs) h
+      calls_more = subst (λ t. FoldsTo (SomeCall R) f0 t h) (sym (take_more xs i p l)) (folds_push f0 (take i xs) f (get_or xs i p) h so_far.calls (b, y, called))
+
+      kept_more : (m : List X) (g : F) → Kept R h (drop (i + 1) xs) m g → Kept R f0 xs (take k ys ++ (if b then y ∷ m else m)) g
+      kept_more m g more =
+          so_far.kept (if b then y ∷ m else m) g (subst (λ t. Kept R f t (if b then y ∷ m else m) g) (sym (drop_more xs i p l)) (b, y, h, m, called, more, refl))
+
+    -- it was called there, and answered true: the item, as written, goes to the end of the front
+    pub kept_one : (zs : List X) → R f p true y h → length zs ≡ length ys → SwappedAt (set ys i y) zs k i → KeptSoFar f0 h xs zs (k + 1) (i + 1)
+    kept_one zs call long swapped =
+        let front = front_more ys zs k i y so_far.bound (omega (arith, l, so_far.len)) long swapped in
+        record {
+          bound = omega (arith, so_far.bound);
+          len = long ∙ so_far.len;
+          rest = front.1 ∙ (rest_more xs ys i p l (omega (arith, l, so_far.len)) so_far.rest).1;
+          calls = calls_more true call;
+          kept = λ m g more. subst (λ t. Kept R f0 xs t g) (sym (ap (λ t. t ++ m) front.0 ∙ append_assoc (take k ys) (y ∷ []) m)) (kept_more true call m g more);
+        }
+
+    -- or it answered false
+    pub kept_not : R f p false y h → KeptSoFar f0 h xs (set ys i y) k (i + 1)
+    kept_not call =
+        let front = front_left ys k i y so_far.bound in
+        record {
+          bound = omega (arith, so_far.bound);
+          len = length-set ys i y ∙ so_far.len;
+          rest = front.1 ∙ (rest_more xs ys i p l (omega (arith, l, so_far.len)) so_far.rest).1;
+          calls = calls_more false call;
+          kept = λ m g more. subst (λ t. Kept R f0 xs (t ++ m) g) (sym front.0) (kept_more false call m g more);
+        }
+
+  -- all were called at, and m is the front
+  pub kept_all : (f0 f : F) (xs ys : List X) (k i : ℕ) (m : List X) → KeptSoFar f0 f xs ys k i → length xs ≤ i → m ≡ take k ys → Kept R f0 xs m f
+  kept_all f0 f xs ys k i m so_far done e =
+      let none_left = subst (λ t. Kept R f t [] f) (sym (drop_all i xs done)) (refl, refl) in
+      subst (λ t. Kept R f0 xs t f) (append-nil (take k ys) ∙ sym e) (so_far.kept [] f none_left)
+
+  -- a closure that writes nothing and answers by a test keeps the items that pass
+  pub kept_by_test : (test : X → Bool) → ((f : F) (x : X) (b : Bool) (y : X) (g : F) → R f x b y g → (b ≡ test x) × (y ≡ x)) → (f : F) (xs m : List X) (g : F) → Kept R f xs m g → m ≡ filter test xs
+  kept_by_test test told f [] m g k = k.0
+  kept_by_test test told f (x ∷ xs) m g k =
+      let call = told f x k.0 k.1 k.2 k.4 in
+      let rest = kept_by_test test told k.2 xs k.3 g k.5 in
+      k.6 ∙ (λ i. if call.0 i then call.1 i ∷ rest i else rest i)

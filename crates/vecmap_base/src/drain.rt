@@ -1,0 +1,30 @@
+//! The moves in a vector that drains are made of.
+ghost use Rattle.std.specs.Prelude.{◌≡◌, ◌++◌, ◌-◌, ◌≤◌, drop, length, reverse, slice_range, take, vec_capacity};
+ghost use Rattle.std.specs.List.{remove_range};
+ghost use Rattle.vecmap_base.specs.Ranges.{IsRangeWithin};
+
+/// Brings the items from `start` up to, but not including, `end` behind the others, the last of them first, and answers
+/// how many the others are.
+///
+/// It takes no memory, and a number of moves that is linear in the number of items from `start` on.
+pub fn move_range_last<T>(items: &mut Vec<T>, start: usize, end: usize) -> usize
+    requires within { IsRangeWithin start end (length items.old.items) }
+    ensures keep { result ≡ length items.old.items - (end - start) }
+    ensures items { items.new.items ≡ remove_range items.old.items start end ++ reverse (slice_range items.old.items start end) }
+    ensures capacity { vec_capacity items.new ≡ vec_capacity items.old }
+{
+    let count = end - start;
+    let keep = items.len() - count;
+    items[start..].rotate_left(count);
+    items[keep..].reverse();
+    keep
+}
+
+/// Turns the items from `start` on round, in half as many swaps.
+pub fn reverse_from<T>(items: &mut Vec<T>, start: usize)
+    requires within { start ≤ length items.old.items }
+    ensures items { items.new.items ≡ take start items.old.items ++ reverse (drop start items.old.items) }
+    ensures capacity { vec_capacity items.new ≡ vec_capacity items.old }
+{
+    items[start..].reverse();
+}

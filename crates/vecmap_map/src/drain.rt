@@ -1,0 +1,143 @@
+//! The drain of a map: the pairs of a range, which leave it.
+//!
+//! It holds the map and no vector, so that a caller's proof knows what the map has once the drain is dropped.
+ghost use Rattle.std.specs.Prelude.{◌≡◌, ◌<◌, ◌≤◌, ◌^◌, IfSome, Some, length, slice_range};
+ghost use Rattle.std.specs.Iterator.{UpTo, at_most};
+ghost use Rattle.std.specs.Iterator.Runs.{YieldsInOrder, YieldsInReverse};
+ghost use Rattle.std.specs.Iterator.SizeHint.{IsWithinCount};
+ghost use Rattle.std.specs.List.{remove_range};
+ghost use Rattle.vecmap_base.specs.Drain.{KeepsAlong};
+ghost use Rattle.vecmap_base.specs.Ranges.{IsRangeWithin};
+ghost use Rattle.vecmap_map.specs.Drain.{DrainKeeps, DrainNext, DrainNextBack, drain_capacity, drain_kept, drain_lender, drain_rest};
+
+use crate::VecMap;
+use std::fmt;
+
+/// The pairs of a range of a map, which leave it. `VecMap::drain` makes it.
+///
+/// Dropped, at whatever point, it leaves the map without the whole range: what was not pulled is dropped, and the
+/// others keep their order. Once all has come, each pull answers `None`.
+///
+/// A pull from the same end as the last one takes constant time, and so does the first one from the front. A pull from
+/// the other end first turns the pairs that are still to come round, in a number of moves that is linear in theirs. No
+/// call takes memory.
+pub struct Drain<'a, K, V> {
+    // The pairs that stay come first. Those still to come stand behind them, last first where `reversed`, so that a
+    // pull takes the last pair of the map.
+    map: &'a mut VecMap<K, V>,
+    keep: usize,
+    reversed: bool,
+}
+
+impl<'a, K: Drop, V: Drop> Drain<'a, K, V> {
+    /// The pairs from `start` up to, but not including, `end`.
+    ///
+    /// It takes a number of moves that is linear in the number of pairs from `start` on.
+    pub fn over(map: &'a mut VecMap<K, V>, start: usize, end: usize) -> Drain<'a, K, V>
+        requires within { IsRangeWithin start end (length map.old.entries) }
+        ensures rest { drain_rest result ≡ slice_range map.old.entries start end }
+        ensures fits { length (drain_rest result) < 2 ^ 64 }
+        ensures runs { YieldsInOrder (DrainNext {K = K} {V = V}) drain_rest }
+        ensures runs_back { YieldsInReverse (DrainNextBack {K = K} {V = V}) drain_rest }
+
+        // Once it is dropped, after any pulls, the map has the others and its capacity.
+        ensures kept { drain_kept result ≡ remove_range map.old.entries start end }
+        ensures capacity { drain_capacity result ≡ map.old.capacity }
+        ensures same_map { drain_lender result ≡ map.entry.ghost_name }
+        ensures keeps { KeepsAlong drain_rest DrainKeeps result }
+    {
+        let keep = map.move_range_last(start, end);
+        Drain {
+            map,
+            keep,
+            reversed: true,
+        }
+    }
+}
+
+impl<'a, K, V> Drain<'a, K, V> {
+    // Turns what is still to come round, where it lies the other way.
+    fn lay(&mut self, reversed: bool)
+        requires { self.old.keep ≤ length self.old.map.now.entries }
+        ensures laid { self.new.reversed ≡ reversed }
+        ensures keep { self.new.keep ≡ self.old.keep }
+        ensures len { length self.new.map.now.entries ≡ length self.old.map.now.entries }
+        ensures rest { drain_rest self.new ≡ drain_rest self.old }
+        ensures keeps { DrainKeeps self.old self.new }
+    {
+        if self.reversed != reversed {
+            self.map.reverse_from(self.keep);
+            self.reversed = reversed;
+        }
+    }
+}
+
+impl<'a, K: Drop, V: Drop> Drop for Drain<'a, K, V> {
+    fn drop(self)
+        ensures kept { self.exit.0.now.entries ≡ drain_kept self.entry }
+        ensures capacity { self.exit.0.now.capacity ≡ drain_capacity self.entry }
+    {
+        let Drain {
+            map,
+            keep,
+            reversed: _,
+        } = self;
+        map.truncate(keep);
+    }
+}
+
+impl<'a, K: Drop, V: Drop> Iterator for Drain<'a, K, V> {
+    type Item = (K, V);
+
+    ghost next_gives = { DrainNext };
+
+    ghost remaining = { λ s. at_most (length (drain_rest s)) };
+
+    fn next(&mut self) -> Option<(K, V)> {
+        if self.map.len() <= self.keep {
+            return None;
+        }
+        self.lay(true);
+        Some(self.map.take_last())
+    }
+
+    /// The number of pairs still to come, as both ends.
+    fn size_hint(&self) -> (usize, Option<usize>)
+        ensures lower { IsWithinCount result.0 (at_most (length (drain_rest self.now))) }
+        ensures upper { IfSome result.1 (UpTo (at_most (length (drain_rest self.now)))) }
+        ensures exact { result ≡ (length (drain_rest self.now), Some (length (drain_rest self.now))) }
+    {
+        let len = self.len();
+        (len, Some(len))
+    }
+}
+
+impl<'a, K: Drop, V: Drop> DoubleEndedIterator for Drain<'a, K, V> {
+    ghost next_back_gives = { DrainNextBack };
+
+    fn next_back(&mut self) -> Option<(K, V)> {
+        if self.map.len() <= self.keep {
+            return None;
+        }
+        self.lay(false);
+        Some(self.map.take_last())
+    }
+}
+
+impl<'a, K: Drop, V: Drop> ExactSizeIterator for Drain<'a, K, V> {
+    /// The number of pairs still to come.
+    fn len(&self) -> usize {
+        self.map.len().saturating_sub(self.keep)
+    }
+}
+
+/// Prints the pairs still to come, in order, as std prints a list.
+impl<'a, K: fmt::Debug, V: fmt::Debug> fmt::Debug for Drain<'a, K, V> {
+    fn fmt<W: fmt::Write>(&self, f: &mut fmt::Formatter<W>) -> fmt::Result {
+        let rest = self.map.as_slice().iter().skip(self.keep);
+        if self.reversed {
+            return f.debug_list().entries(rest.rev()).finish();
+        }
+        f.debug_list().entries(rest).finish()
+    }
+}
