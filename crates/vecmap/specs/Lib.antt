@@ -1,10 +1,12 @@
-pub use Rattle.vecmap_base.specs.Drain as Drains
 pub mod MapRun
+pub use Rattle.vecmap_base.specs.Asked
 pub use Rattle.vecmap_base.specs.Bulk
 pub use Rattle.vecmap_base.specs.Clones
+pub use Rattle.vecmap_base.specs.Drain as Drains
 pub use Rattle.vecmap_base.specs.Equality
 pub use Rattle.vecmap_base.specs.Items
 pub use Rattle.vecmap_base.specs.Kept
+pub use Rattle.vecmap_base.specs.Orders
 pub use Rattle.vecmap_base.specs.Pairs
 pub use Rattle.vecmap_base.specs.Ranges
 pub use Rattle.vecmap_base.specs.Repeats
@@ -16,8 +18,8 @@ pub use Rattle.vecmap_map.specs.EntryLends
 pub use Rattle.vecmap_map.specs.Lends
 pub use Rattle.vecmap_map.specs.MapBulk
 pub use Rattle.vecmap_set.specs.Algebra
+pub use Rattle.vecmap_set.specs.Contents as SetContents
+pub use Rattle.vecmap_set.specs.Drain as SetDrain
 pub use Rattle.vecmap_set.specs.Lazy
 pub use Rattle.vecmap_set.specs.Operators
 pub use Rattle.vecmap_set.specs.SetBulk
-pub use Rattle.vecmap_set.specs.Contents as SetContents
-pub use Rattle.vecmap_set.specs.Drain as SetDrain

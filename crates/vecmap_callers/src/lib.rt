@@ -10,4 +10,6 @@ pub mod lending;
 pub mod lookup;
 pub mod macros;
 pub mod operators;
+pub mod order;
 pub mod removal;
+pub mod search;

@@ -33,3 +33,5 @@ mod removal;
 mod repeats;
 #[cfg(test)]
 mod room;
+#[cfg(test)]
+mod search;

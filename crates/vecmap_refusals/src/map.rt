@@ -4,4 +4,5 @@ mod clones;
 mod entry;
 mod insertion;
 mod iteration;
+mod order;
 mod room;

@@ -4,4 +4,5 @@ mod clones;
 mod insertion;
 mod iteration;
 mod operators;
+mod order;
 mod room;

@@ -27,3 +27,5 @@ mod order;
 mod removal;
 #[cfg(test)]
 mod room;
+#[cfg(test)]
+mod search;

@@ -1,0 +1,11 @@
+use Rattle.std.specs.Cmp.{nat_cmp_total}
+use Rattle.std.proofs.Common.{rules}
+use Rattle.std.proofs.lemmas.List.Sorted.{ranks_by}
+use Rattle.std.proofs.lemmas.Result.{on_ok_weaker}
+use Rattle.vecmap_callers.proofs.order.sort_by_value.Goals as goal
+
+pub returns-clause-sorted : goal.returns-clause-sorted
+returns-clause-sorted c = on_ok_weaker c.sort_by.result (λ h. h _ (ranks_by nat_cmp_total (λ p. p.1)) (λ a b r k. search rules)) c.sort_by.ensures.sorted
+
+pub returns-clause-stable : goal.returns-clause-stable
+returns-clause-stable c = c.sort_by.ensures.stable _ (ranks_by nat_cmp_total (λ p. p.1)) (λ a b r k. search rules)

@@ -1,0 +1,14 @@
+use Rattle.std.specs.Cmp.{nat_cmp_total}
+use Rattle.std.specs.List.Sorted.{IsBinarySearchResult, IsPartitionPoint, IsSortedByKey}
+use Rattle.std.specs.Result.{IfErr}
+use Rattle.std.proofs.Common.{◌≡◌, ℕ, List, Result, Ok, Err, Less, Greater, nat_cmp}
+use Rattle.std.proofs.lemmas.List.Sorted.{searchable_from_sorted}
+use Rattle.vecmap_callers.proofs.search.place_among_keys.Goals as goal
+
+-- where the keys ascend, a search's answers rise
+placed : (xs : List (ℕ × ℕ)) (key : ℕ) (r : Result ℕ ℕ) → IsSortedByKey (λ p. p.0) nat_cmp xs → IsBinarySearchResult (λ p. nat_cmp p.0 key) xs r → IfErr r (λ i. IsPartitionPoint (λ p. nat_cmp p.0 key ≡ Less) (λ p. nat_cmp p.0 key ≡ Greater) xs i)
+placed xs key (Ok i) up found = tt
+placed xs key (Err i) up found = found (searchable_from_sorted nat_cmp_total (λ p. p.0) xs key up)
+
+pub returns : goal.returns
+returns c = placed c.sort_unstable_keys.new.self.entries c.args.key c.binary_search_keys.result c.sort_unstable_keys.ensures.sorted c.binary_search_keys.ensures.place

@@ -1,0 +1,33 @@
+//! What callers of sorts can prove.
+ghost use Rattle.std.specs.Prelude.{◌≡◌, OnErr, OnOk, nat_eq};
+ghost use Rattle.std.specs.List.{IsDistinct};
+ghost use Rattle.std.specs.List.Sorted.{IsNonDecreasing, IsPermutation, IsSortedByKey, IsStableByKey};
+ghost use Rattle.std.specs.Ordering.{nat_cmp};
+
+use std::alloc::AllocError;
+use vecmap::{VecMap, VecSet};
+
+/// Sorts by the values; ties stay in their order.
+pub fn sort_by_value(map: &mut VecMap<char, u32>) -> Result<(), AllocError>
+    ensures sorted { OnOk result (IsSortedByKey (λ p. p.1) nat_cmp map.new.entries) }
+    ensures stable { IsStableByKey (λ p. p.1) nat_cmp map.old.entries map.new.entries }
+    ensures rearranged { IsPermutation map.old.entries map.new.entries }
+    ensures err { OnErr result (map.new ≡ map.old) }
+{
+    map.sort_by(|a, b| a.1.cmp(b.1))
+}
+
+/// Sorts by a sort key that is made once for each pair.
+pub fn sort_by_cached_value(map: &mut VecMap<char, u32>) -> Result<(), AllocError>
+    ensures sorted { OnOk result (IsSortedByKey (λ p. p.1) nat_cmp map.new.entries) }
+{
+    map.sort_by_cached_key(|_, value| *value)
+}
+
+/// A sorted set ascends, and is still a set.
+pub fn sort_numbers(set: &mut VecSet<u32>)
+    ensures sorted { IsNonDecreasing set.new.elements }
+    ensures distinct { IsDistinct nat_eq set.new.elements }
+{
+    set.sort_unstable();
+}

@@ -1,0 +1,49 @@
+//! Binary searches of a set.
+use std::test::Fail;
+use vecmap::VecSet;
+use vecmap_fixtures::set_of;
+
+#[test]
+fn searches_answer_an_equal_place_or_where_one_would_go(rt: HostRuntime) -> Result<(), Fail> {
+    let set = set_of(rt.alloc(), &[1u32, 2, 3])?;
+    assert_eq!(rt; set.binary_search(&2), Ok(1));
+    assert_eq!(rt; set.binary_search(&5), Err(3));
+    assert_eq!(rt; set.binary_search(&0), Err(0));
+    assert_eq!(rt; set.binary_search_by(|item| item.cmp(&3)), Ok(2));
+    assert_eq!(rt; set.binary_search_by(|item| item.cmp(&4)), Err(3));
+    assert_eq!(rt;
+        set.binary_search_by_key(&20, |item| item.wrapping_mul(10)),
+        Ok(1)
+    );
+    assert_eq!(rt;
+        set.binary_search_by_key(&15, |item| item.wrapping_mul(10)),
+        Err(1)
+    );
+    assert_eq!(rt; set.partition_point(|item| *item < 3), 2);
+    Ok(())
+}
+
+#[test]
+fn searches_of_every_length(rt: HostRuntime) -> Result<(), Fail> {
+    for count in [0u32, 1, 2, 100] {
+        let mut set = VecSet::new(rt.alloc());
+        for number in 0..count {
+            set.insert(number.wrapping_mul(2))?;
+        }
+        for number in 0..count {
+            let place = number as usize;
+            let even = number.wrapping_mul(2);
+            let odd = even.wrapping_add(1);
+            assert_eq!(rt; set.binary_search(&even), Ok(place));
+            assert_eq!(rt; set.binary_search_by(|item| item.cmp(&even)), Ok(place));
+            assert_eq!(rt; set.binary_search_by_key(&even, |item| *item), Ok(place));
+            assert_eq!(rt; set.partition_point(|item| *item < even), place);
+            assert_eq!(rt; set.binary_search(&odd), Err(place.wrapping_add(1)));
+        }
+        // All tied: every place is equal, or none is.
+        assert_eq!(rt; set.binary_search_by_key(&7, |_| 7).is_ok(), 0 < count);
+        assert_eq!(rt; set.binary_search_by_key(&6, |_| 7), Err(0));
+        assert_eq!(rt; set.binary_search_by_key(&8, |_| 7), Err(count as usize));
+    }
+    Ok(())
+}
