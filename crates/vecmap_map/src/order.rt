@@ -41,11 +41,7 @@ impl<K, V> VecMap<K, V> {
         ensures succeeds { length self.old.entries ≤ 20 → IsOk result }
         ensures capacity { self.new.capacity ≡ self.old.capacity }
     {
-        self.pairs.sort_by(
-            |a: &(K, V), b: &(K, V)| -> Ordering
-                ensures { result ≡ K.cmp a.now.0 b.now.0 }
-            { a.0.cmp(&b.0) },
-        )
+        self.sort_by(|a, b| a.0.cmp(b.0))
     }
 
     /// Sorts the pairs by `f`, which compares two, in O(n log n) calls of `f` for n pairs. Pairs that tie under `f` stay
@@ -102,11 +98,7 @@ impl<K, V> VecMap<K, V> {
         ensures rearranged { IsPermutation self.old.entries self.new.entries }
         ensures capacity { self.new.capacity ≡ self.old.capacity }
     {
-        self.pairs.sort_unstable_by(
-            |a: &(K, V), b: &(K, V)| -> Ordering
-                ensures { result ≡ K.cmp a.now.0 b.now.0 }
-            { a.0.cmp(&b.0) },
-        );
+        self.sort_unstable_by(|a, b| a.0.cmp(b.0));
     }
 
     /// Sorts the pairs by `f`, which compares two, in O(n log n) calls of `f` for n pairs. Pairs that tie under `f` may

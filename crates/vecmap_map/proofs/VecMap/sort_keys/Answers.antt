@@ -1,14 +1,10 @@
-use Rattle.std.proofs.Common.{ap, refl}
-use Rattle.std.proofs.lemmas.Fn.{always_returns_same}
+use Rattle.std.proofs.Common.{rules}
 use Rattle.std.proofs.lemmas.List.Sorted.{ranks_by}
 use Rattle.std.proofs.lemmas.Result.{on_ok_weaker}
-use Rattle.std.specs.Ordering.{is_lt}
 use Rattle.vecmap_map.proofs.VecMap.sort_keys.Goals as goal
 
 pub returns-clause-sorted : goal.returns-clause-sorted
-returns-clause-sorted g c =
-    on_ok_weaker c.sort_by.result (λ h. h _ (ranks_by g.met.K.Ord.total (λ p. p.0)) (always_returns_same _ _ _ (λ a r f' k. (ap is_lt k.met, refl)))) c.sort_by.ensures.sorted
+returns-clause-sorted g c = on_ok_weaker c.sort_by.result (λ h. h _ (ranks_by g.met.K.Ord.total (λ p. p.0)) (λ a b r k. search rules)) c.sort_by.ensures.sorted
 
 pub returns-clause-stable : goal.returns-clause-stable
-returns-clause-stable g c =
-    rw (← c.self.view_is) (c.sort_by.ensures.stable _ (ranks_by g.met.K.Ord.total (λ p. p.0)) (always_returns_same _ _ _ (λ a r f' k. (ap is_lt k.met, refl))))
+returns-clause-stable g c = c.sort_by.ensures.stable _ (ranks_by g.met.K.Ord.total (λ p. p.0)) (λ a b r k. search rules)
