@@ -8,6 +8,8 @@ mod by_reference;
 #[cfg(test)]
 mod conversion;
 #[cfg(test)]
+mod drain;
+#[cfg(test)]
 mod entry;
 #[cfg(test)]
 mod equality;
@@ -32,6 +34,10 @@ mod removal;
 #[cfg(test)]
 mod repeats;
 #[cfg(test)]
+mod retain;
+#[cfg(test)]
 mod room;
 #[cfg(test)]
 mod search;
+#[cfg(test)]
+mod split_off;

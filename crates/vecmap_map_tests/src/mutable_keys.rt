@@ -42,3 +42,47 @@ fn a_repeat_stays_when_the_first_is_removed(rt: HostRuntime) -> Result<(), Fail>
     assert_eq!(rt; map.as_slice(), [(1, 5)].as_slice());
     Ok(())
 }
+
+#[test]
+fn iter_mut2_and_keys_mut_lend_all_from_both_ends(rt: HostRuntime) -> Result<(), Fail> {
+    let mut map = item_map(rt.alloc(), &[(1, 'a', 1), (2, 'b', 2), (3, 'c', 3)])?;
+    for (key, value) in map.iter_mut2() {
+        *key = make_item(*value, 'x');
+        *value = 9;
+    }
+    assert!(rt; has_pairs(map.as_slice(), &[(1, 'x', 9), (2, 'x', 9), (3, 'x', 9)]));
+    let mut pairs = map.iter_mut2();
+    let (key, value) = pairs.next_back().ok_or("nothing")?;
+    assert_eq!(rt; (key.number, *value), (3, 9));
+    *value = 8;
+    let mut keys = map.keys_mut();
+    assert_eq!(rt; keys.len(), 3);
+    let first = keys.next().ok_or("nothing")?;
+    let last = keys.next_back().ok_or("nothing")?;
+    assert_eq!(rt; (first.number, last.number), (1, 3));
+    *first = make_item(2, 'y');
+    *last = make_item(2, 'z');
+    assert_eq!(rt; keys.next().map(|key| key.number), Some(2));
+    assert!(rt; keys.next().is_none() && keys.next_back().is_none());
+    assert!(rt; has_pairs(map.as_slice(), &[(2, 'y', 9), (2, 'x', 9), (2, 'z', 8)]));
+    assert!(rt; !map.has_distinct_keys());
+    Ok(())
+}
+
+#[test]
+fn calls_by_key_name_the_first_of_repeats(rt: HostRuntime) -> Result<(), Fail> {
+    let mut map = VecMap::from_slice(rt.alloc(), &[(1, 'a'), (2, 'b'), (3, 'c')])?;
+    let (_place, key, _value) = map.get_full_mut2(&2).ok_or("absent")?;
+    *key = 1;
+    assert_eq!(rt; map.as_slice(), [(1, 'a'), (1, 'b'), (3, 'c')].as_slice());
+    assert!(rt; !map.has_distinct_keys());
+    assert_eq!(rt; map.get(&1), Some(&'a'));
+    assert_eq!(rt; map.insert(1, 'z')?, Some('a'));
+    assert!(rt; 3 <= map.len());
+    assert_eq!(rt; map.insert_at(3, 1, 'w')?, Some((0, 'z')));
+    assert_eq!(rt; map.as_slice(), [(1, 'b'), (3, 'c'), (1, 'w')].as_slice());
+    assert_eq!(rt; map.swap_remove(&1), Some('b'));
+    assert_eq!(rt; map.as_slice(), [(1, 'w'), (3, 'c')].as_slice());
+    assert!(rt; map.has_distinct_keys());
+    Ok(())
+}

@@ -5,4 +5,5 @@ mod entry;
 mod insertion;
 mod iteration;
 mod order;
+mod removal;
 mod room;

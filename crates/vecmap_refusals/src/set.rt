@@ -5,4 +5,5 @@ mod insertion;
 mod iteration;
 mod operators;
 mod order;
+mod removal;
 mod room;

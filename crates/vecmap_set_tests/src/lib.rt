@@ -8,6 +8,8 @@ mod by_reference;
 #[cfg(test)]
 mod conversion;
 #[cfg(test)]
+mod drain;
+#[cfg(test)]
 mod equality;
 #[cfg(test)]
 mod insertion;
@@ -26,6 +28,10 @@ mod order;
 #[cfg(test)]
 mod removal;
 #[cfg(test)]
+mod retain;
+#[cfg(test)]
 mod room;
 #[cfg(test)]
 mod search;
+#[cfg(test)]
+mod split_off;
