@@ -8,14 +8,14 @@ use Rattle.vecmap_map.proofs.drain.DrainDoubleEndedIterator.next_back.Goals as g
 pub returns-then-len-self-clause-steps : goal.returns-then-len-self-clause-steps
 returns-then-len-self-clause-steps g c =
     let d = c.args.self.now in
-    (none_left d.reversed d.map.now.entries d.keep (omega (arith, c.len.ensures.len, c.if-len-self.true)), refl)
+    (none_left d.reversed d.map.now.entries d.keep (omega (arith, c.len.ensures.count, c.if-len-self.true)), refl)
 
 pub returns-clause-steps : goal.returns-clause-steps
 returns-clause-steps g c =
     let d = c.lay.new.self in
     let laid = c.lay.ensures in
     let took = c.take_last.ensures in
-    let pulled = last_pulled d.reversed d.map.now.entries c.take_last.new.self.entries c.take_last.result d.keep laid.laid (omega (arith, laid.len, laid.keep, c.len.ensures.len, c.if-len-self.false)) took.entries in
+    let pulled = last_pulled d.reversed d.map.now.entries c.take_last.new.self.entries c.take_last.result d.keep laid.laid (omega (arith, laid.len, laid.keep, c.len.ensures.count, c.if-len-self.false)) took.entries in
     (sym laid.rest ∙ pulled.0, (laid.keeps.0, pulled.1 ∙ laid.keeps.1, took.capacity ∙ laid.keeps.2))
 
 pub returns-clause-goes : goal.returns-clause-goes

@@ -6,4 +6,4 @@ use Rattle.vecmap_set.proofs.drain.DrainExactSizeIterator.len.Goals as goal
 pub returns-clause-value : goal.returns-clause-value
 returns-clause-value g c =
     let d = c.args.self.now in
-    c.saturating_sub.ensures ∙ ap (λ n. n - d.keep) c.len.ensures.len ∙ sym (length_rest d.reversed d.set.now.elements d.keep)
+    c.saturating_sub.ensures ∙ ap (λ n. n - d.keep) c.len.ensures.count ∙ sym (length_rest d.reversed d.set.now.elements d.keep)
