@@ -1,8 +1,11 @@
 //! What callers of removals can prove.
-ghost use Rattle.std.specs.Prelude.{◌≡◌, ◌-◌, ◌<◌, Some, length, remove, slice_get};
+ghost use Rattle.std.specs.Prelude.{◌≡◌, ◌++◌, ◌-◌, ◌<◌, ◌≤◌, OnOk, Some, drop, length, remove, slice_get, take};
 ghost use Rattle.std.specs.List.{IsDistinct};
 ghost use Rattle.vecmap.specs.Items.{without_item};
+ghost use Rattle.vecmap.specs.Pairs.{HasDistinctKeys};
 
+use std::alloc::AllocError;
+use vecmap::map::laws;
 use vecmap::{VecMap, VecSet};
 
 /// What a removal leaves is still a set.
@@ -21,4 +24,45 @@ pub fn take_last<K>(map: &mut VecMap<K, u32>) -> (K, u32)
 {
     let last = map.len() - 1;
     map.remove_index(last)
+}
+
+/// Takes out the first `count` pairs, whether they are looked at or not.
+pub fn drop_front(map: &mut VecMap<u32, u32>, count: usize)
+    requires within { count ≤ length map.old.entries }
+    ensures left { map.new.entries ≡ drop count map.old.entries }
+    ensures capacity { map.new.capacity ≡ map.old.capacity }
+{
+    let mut pairs = map.drain(..count);
+    let _first = pairs.next();
+    let _last = pairs.next_back();
+}
+
+/// The first pair, which goes with the two after it.
+pub fn first_of_three(map: &mut VecMap<u32, u32>) -> Option<(u32, u32)>
+    requires within { 3 ≤ length map.old.entries }
+    ensures first { result ≡ slice_get map.old.entries 0 }
+    ensures left { map.new.entries ≡ drop 3 map.old.entries }
+{
+    map.drain(..3).next()
+}
+
+/// The last element of the range, which goes whole: what is left is still a set.
+pub fn without_second_and_third<T: Eq + Drop>(set: &mut VecSet<T>)
+    requires within { 3 ≤ length set.old.elements }
+    ensures left { set.new.elements ≡ take 1 set.old.elements ++ drop 3 set.old.elements }
+    ensures distinct { IsDistinct T.eq set.new.elements }
+{
+    let mut items = set.drain(1..=2);
+    let _last = items.next_back();
+}
+
+/// Splits a map of distinct keys, and makes it whole again where there is memory.
+pub fn split_and_append(map: &mut VecMap<u32, u32>, at: usize) -> Result<(), AllocError>
+    requires within { at ≤ length map.old.entries }
+    requires distinct { HasDistinctKeys ⟦<u32 as PartialEq>⟧.eq map.old.entries }
+    ensures whole { OnOk result (map.new.entries ≡ map.old.entries) }
+{
+    laws::appending_undoes_splitting::<u32, u32>();
+    let mut part = map.split_off(at)?;
+    map.append(&mut part)
 }

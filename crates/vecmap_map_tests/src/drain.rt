@@ -78,7 +78,7 @@ fn a_range_may_have_any_ends(rt: HostRuntime) -> Result<(), Fail> {
     assert_eq!(rt; pairs.next(), None);
     drop(pairs);
     assert_eq!(rt; map.as_slice(), [(0, 0)].as_slice());
-    let _none = map.drain(..0);
+    drop(map.drain(..0));
     assert_eq!(rt; map.as_slice(), [(0, 0)].as_slice());
     let end = map.len();
     assert!(rt; map.drain(end..).next().is_none());
