@@ -1,36 +1,17 @@
 -- A list whose end a drain holds, in order or turned round.
-use Rattle.std.specs.Prelude.{◌≡◌, ℕ, zero, suc, ◌+◌, ◌-◌, ◌<◌, ◌≤◌, Bool, true, false, List, [], ◌∷◌, ◌++◌, drop, length, not, reverse, refl, slice_range, take}
+use Rattle.std.specs.Prelude.{◌≡◌, ℕ, zero, suc, ◌-◌, ◌<◌, ◌≤◌, Bool, true, false, List, [], ◌∷◌, ◌++◌, drop, length, not, reverse, refl, slice_range, take}
 use Rattle.std.specs.List.{remove_range}
 use Rattle.std.specs.List.Sorted.{IsPermutation}
 use Rattle.std.specs.Vec.Iter.{reverse_if}
-use Rattle.std.proofs.Common.{sym, ap, ◌∙◌, append_assoc, arith, drop-drop, drop_at, length-append, length-drop, length-take, subst, take_at, true≢false}
+use Rattle.std.proofs.Common.{sym, ap, ◌∙◌, append_assoc, arith, drop_at, length-append, length-drop, length-take, subst, take_at, true≢false}
 use Rattle.std.proofs.lemmas.List.{drop_all, length-reverse, length_push, reverse-append, reverse-reverse, take-append-le}
 use Rattle.std.proofs.lemmas.List.Edits.{split_between}
 use Rattle.std.proofs.lemmas.List.Sorted.{IsPermutation-append_comm, IsPermutation-append_right, IsPermutation-reverse, IsPermutation-trans}
 use mathlib.Core.Bool.{beq}
 use lib.ListN.{length-drop, length-take}
 
--- a test that two flags differ failed
-pub same_flag : (a b : Bool) → not (beq a b) ≡ false → a ≡ b
-same_flag true true e = refl
-same_flag true false e = absurd (true≢false e)
-same_flag false true e = absurd (true≢false e)
-same_flag false false e = refl
-
 module _ {X : Type 0} where
-  -- the part from i up to j goes behind the others, in ys, and is turned round there, in zs
-  pub range_moved_last : (xs ys zs : List X) (i j k : ℕ) → i ≤ j → j ≤ length xs → k ≡ length xs - (j - i)
-      → ys ≡ take i xs ++ (drop (j - i) (drop i xs) ++ take (j - i) (drop i xs)) → zs ≡ take k ys ++ reverse (drop k ys)
-      → zs ≡ remove_range xs i j ++ reverse (slice_range xs i j)
-  range_moved_last xs ys zs i j k order within keep moved turned =
-      let stay = remove_range xs i j in
-      let go = slice_range xs i j in
-      let past : drop (j - i) (drop i xs) ≡ drop j xs = drop-drop (j - i) i xs ∙ ap (λ n. drop n xs) (let e : i + (j - i) ≡ j = omega arith in e) in
-      let first : ys ≡ stay ++ go = moved ∙ ap (λ l. take i xs ++ (l ++ go)) past ∙ sym (append_assoc (take i xs) (drop j xs) go) in
-      let long : length stay ≡ k = omega (arith, length-append (take i xs) (drop j xs), length-take i xs, length-drop j xs) in
-      turned ∙ (λ t. (ap (take k) first ∙ take_at stay go k long) t ++ reverse ((ap (drop k) first ∙ drop_at stay go k long) t))
-
-  -- so the front is what stays, and the end is the part, turned round
+  -- the range from i up to j was brought behind the others and turned round: the front is what stays
   pub parts_of_moved : (xs zs : List X) (i j k : ℕ) → i ≤ j → j ≤ length xs → k ≡ length xs - (j - i) → zs ≡ remove_range xs i j ++ reverse (slice_range xs i j)
       → (reverse_if true (drop k zs) ≡ slice_range xs i j) × (take k zs ≡ remove_range xs i j)
   unfolding reverse_if

@@ -33,10 +33,6 @@ module _ {F X : Type 0} (R : F → X → Bool → X → F → Type 0) where
     pub calls : FoldsTo (SomeCall R) f0 (take i xs) f
     pub kept : (m : List X) (g : F) → Kept R f (drop i xs) m g → Kept R f0 xs (take k ys ++ m) g
 
-  -- no item was called at yet
-  pub kept_none : (f : F) (xs : List X) → KeptSoFar f f xs xs 0 0
-  kept_none f xs = record { bound = omega arith; len = refl; rest = refl; calls = refl; kept = λ m g h. h }
-
   folds_push : (f : F) (xs : List X) (g : F) (x : X) (h : F) → FoldsTo (SomeCall R) f xs g → SomeCall R g x h → FoldsTo (SomeCall R) f (xs ++ x ∷ []) h
   folds_push f [] g x h e c = (h, subst (λ s. SomeCall R s x h) (sym e) c, refl)
   folds_push f (y ∷ ys) g x h e c = (e.0, e.1, folds_push e.0 ys g x h e.2 c)
