@@ -1,2 +1,3 @@
+pub use Rattle.vecmap_base.proofs.KeptLemmas
 mod RunExamples
 pub mod RunLemmas

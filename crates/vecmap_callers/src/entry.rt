@@ -2,7 +2,7 @@
 //! afterwards.
 ghost use Rattle.std.specs.Prelude.{◌≡◌, ◌+◌, ◌++◌, ◌<◌, ◌≤◌, ◌/◌, ◌^◌, ◌∷◌, IfErr, IfOk, IfSome, IsSome, None, OnErr, OnOk, Some, [], length, nat_eq, unwrap_or};
 ghost use Rattle.std.specs.Option.{option_map_or};
-ghost use Rattle.vecmap.specs.Contents.{with_value_of};
+ghost use Rattle.vecmap.specs.Contents.{KeepsRoom, Refuses, with_value_of};
 ghost use Rattle.vecmap.specs.Pairs.{index_of, index_or_length, lookup, lookup_pair, put, swap_without_key, without_key};
 
 use vecmap::Refused;
@@ -12,12 +12,8 @@ use vecmap::map::{Entry, VecMap};
 pub fn count_word<K: Eq + Drop>(map: &mut VecMap<K, u64>, word: K) -> Result<(), Refused<(K, u64)>>
     requires { IfSome (lookup K.eq map.old.entries word) (λ n. n + 1 < 2 ^ 64) }
     ensures entries { OnOk result (map.new.entries ≡ put K.eq map.old.entries word (unwrap_or (lookup K.eq map.old.entries word) 0 + 1)) }
-    ensures capacity { map.old.capacity ≤ map.new.capacity }
-    ensures there { IsSome (index_of K.eq map.old.entries word) → map.new.capacity ≡ map.old.capacity }
-    ensures room { length map.old.entries < map.old.capacity → map.new.capacity ≡ map.old.capacity }
-    ensures err { OnErr result (map.new ≡ map.old) }
-    ensures absent { OnErr result (index_of K.eq map.old.entries word ≡ None) }
-    ensures full { OnErr result (map.old.capacity ≤ length map.old.entries) }
+    ensures room { KeepsRoom K.eq map.old word map.new }
+    ensures err { OnErr result (Refuses K.eq map.old word map.new) }
 {
     *map.entry(word).or_insert(0)? += 1;
     Ok(())

@@ -1,5 +1,5 @@
 //! What callers of removals can prove.
-ghost use Rattle.std.specs.Prelude.{◌≡◌, ◌++◌, ◌-◌, ◌<◌, ◌≤◌, OnOk, Some, drop, length, remove, slice_get, take};
+ghost use Rattle.std.specs.Prelude.{◌%◌, ◌++◌, ◌-◌, ◌<◌, ◌≡◌, ◌≤◌, OnOk, Some, drop, filter, length, nat_eq, remove, slice_get, take};
 ghost use Rattle.std.specs.List.{IsDistinct};
 ghost use Rattle.vecmap.specs.Items.{without_item};
 ghost use Rattle.vecmap.specs.Pairs.{HasDistinctKeys};
@@ -24,6 +24,14 @@ pub fn take_last<K>(map: &mut VecMap<K, u32>) -> (K, u32)
 {
     let last = map.len() - 1;
     map.remove_index(last)
+}
+
+/// Keeps the pairs with an even value.
+pub fn keep_even(map: &mut VecMap<u32, u32>)
+    ensures left { map.new.entries ≡ filter (λ p. nat_eq (p.1 % 2) 0) map.old.entries }
+    ensures capacity { map.new.capacity ≡ map.old.capacity }
+{
+    map.retain(|_key, value| *value % 2 == 0);
 }
 
 /// Takes out the first `count` pairs, whether they are looked at or not.

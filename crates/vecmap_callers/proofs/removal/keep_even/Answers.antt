@@ -1,0 +1,7 @@
+use Rattle.std.specs.Prelude.{◌%◌, nat_eq}
+use Rattle.std.proofs.Common.{rules}
+use Rattle.vecmap.proofs.KeptLemmas.{kept_by_test}
+use Rattle.vecmap_callers.proofs.removal.keep_even.Goals as goal
+
+pub returns-clause-left : goal.returns-clause-left
+returns-clause-left c = kept_by_test _ _ (λ f p b q g call. search rules) _ _ _ _ c.retain.ensures.entries.1
