@@ -34,6 +34,19 @@ pub fn keep_even(map: &mut VecMap<u32, u32>)
     map.retain(|_key, value| *value % 2 == 0);
 }
 
+/// Keeps the first `count` pairs: the closure counts down.
+pub fn keep_first(map: &mut VecMap<u32, u32>, count: u32)
+    ensures left { map.new.entries ≡ take count map.old.entries }
+    ensures capacity { map.new.capacity ≡ map.old.capacity }
+{
+    let mut left = count;
+    map.retain(|_key, _value| {
+        let stays = left > 0;
+        left = left.saturating_sub(1);
+        stays
+    });
+}
+
 /// Takes out the first `count` pairs, whether they are looked at or not.
 pub fn drop_front(map: &mut VecMap<u32, u32>, count: usize)
     requires within { count ≤ length map.old.entries }
