@@ -79,7 +79,11 @@ impl Parts<'_> {
     }
 
     fn hint(&self) -> (usize, Option<usize>) {
-        let at_least = if self.is_whole { self.first.unwalked() } else { 0 };
+        let at_least = if self.is_whole {
+            self.first.unwalked()
+        } else {
+            0
+        };
         let at_most = self.first.unwalked().wrapping_add(self.second.unwalked());
         (at_least, Some(at_most))
     }
@@ -167,9 +171,7 @@ const NONE: Left<'static> = Left {
 };
 
 #[test]
-fn a_difference_gives_its_list_under_every_mixture_of_pulls(
-    rt: HostRuntime,
-) -> Result<(), Fail> {
+fn a_difference_gives_its_list_under_every_mixture_of_pulls(rt: HostRuntime) -> Result<(), Fail> {
     for case in CASES {
         let a = item_set(rt.alloc(), case.left)?;
         let b = item_set(rt.alloc(), case.right)?;
