@@ -26,11 +26,8 @@ pub fn modify_or_insert<K: Eq + Drop>(
 ) -> Result<(), Refused<(K, u64)>>
     requires { (n : _) → lookup K.eq map.old.entries key ≡ Some n → n + 1 < 2 ^ 64 }
     ensures entries { OnOk result (map.new.entries ≡ put K.eq map.old.entries key (option_map_or (λ n. n + 1) (lookup K.eq map.old.entries key) 42)) }
-    ensures capacity { map.old.capacity ≤ map.new.capacity }
-    ensures there { IsSome (index_of K.eq map.old.entries key) → map.new.capacity ≡ map.old.capacity }
-    ensures err { OnErr result (map.new ≡ map.old) }
-    ensures absent { OnErr result (index_of K.eq map.old.entries key ≡ None) }
-    ensures full { OnErr result (map.old.capacity ≤ length map.old.entries) }
+    ensures room { KeepsRoom K.eq map.old key map.new }
+    ensures err { OnErr result (Refuses K.eq map.old key map.new) }
 {
     map.entry(key).and_modify(|n| *n += 1).or_insert(42)?;
     Ok(())
@@ -110,9 +107,7 @@ pub fn take<K: Eq + Drop>(map: &mut VecMap<K, u64>, key: K) -> Option<(K, u64)>
 pub fn put_and_write(map: &mut VecMap<u64, u64>, key: u64) -> Result<(), Refused<(u64, u64)>>
     ensures entries { OnOk result (map.new.entries ≡ put nat_eq map.old.entries key 8) }
     ensures capacity { map.old.capacity ≤ map.new.capacity }
-    ensures err { OnErr result (map.new ≡ map.old) }
-    ensures absent { OnErr result (index_of nat_eq map.old.entries key ≡ None) }
-    ensures full { OnErr result (map.old.capacity ≤ length map.old.entries) }
+    ensures err { OnErr result (Refuses nat_eq map.old key map.new) }
 {
     *map.entry(key).insert_entry(9)?.into_mut() = 8;
     Ok(())

@@ -5,4 +5,3 @@ pub mod EntryLends
 pub mod EntryWithin
 pub mod Lends
 pub mod MapBulk
-pub mod MapEquality

@@ -61,7 +61,7 @@ impl<'a, K, V> Drain<'a, K, V> {
         requires { self.old.keep ≤ length self.old.map.now.entries }
         ensures laid { self.new.reversed ≡ reversed }
         ensures keep { self.new.keep ≡ self.old.keep }
-        ensures len { length self.new.map.now.entries ≡ length self.old.map.now.entries }
+        ensures count { length self.new.map.now.entries ≡ length self.old.map.now.entries }
         ensures rest { drain_rest self.new ≡ drain_rest self.old }
         ensures keeps { DrainKeeps self.old self.new }
     {

@@ -12,11 +12,12 @@ use vecmap_base::pairs_equal;
 /// keys for two equal maps of n pairs in one order, and at most 2n² + 1 for any.
 impl<K: Eq, V: Eq> PartialEq for VecMap<K, V> {
     ghost use Rattle.std.specs.Cmp.{partial_equiv_from_equiv};
-    ghost use Rattle.vecmap_map.specs.MapEquality.{contents_laws};
+    ghost use Rattle.std.proofs.lemmas.Cmp.{on_equiv};
+    ghost use Rattle.vecmap_base.proofs.EqualityLemmas.Maps.{map_equality_laws};
 
     ghost eq = { λ a b. has_same_counts K.eq V.eq a.entries b.entries };
 
-    ghost laws = { partial_equiv_from_equiv (contents_laws K.eq V.eq K.Eq.laws V.Eq.laws) };
+    ghost laws = { partial_equiv_from_equiv (on_equiv (λ map. map.entries) (map_equality_laws K.eq V.eq K.Eq.laws V.Eq.laws)) };
 
     fn eq(&self, other: &VecMap<K, V>) -> bool {
         pairs_equal(&self.pairs, &other.pairs)
@@ -24,7 +25,8 @@ impl<K: Eq, V: Eq> PartialEq for VecMap<K, V> {
 }
 
 impl<K: Eq, V: Eq> Eq for VecMap<K, V> {
-    ghost use Rattle.vecmap_map.specs.MapEquality.{contents_laws};
+    ghost use Rattle.std.proofs.lemmas.Cmp.{on_equiv};
+    ghost use Rattle.vecmap_base.proofs.EqualityLemmas.Maps.{map_equality_laws};
 
-    ghost laws = { contents_laws K.eq V.eq K.Eq.laws V.Eq.laws };
+    ghost laws = { on_equiv (λ map. map.entries) (map_equality_laws K.eq V.eq K.Eq.laws V.Eq.laws) };
 }

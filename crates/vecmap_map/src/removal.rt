@@ -196,7 +196,7 @@ impl<K, V> VecMap<K, V> {
     pub(crate) fn move_range_last(&mut self, start: usize, end: usize) -> usize
         requires within { IsRangeWithin start end (length self.old.entries) }
         ensures keep { result ≡ length self.old.entries - (end - start) }
-        ensures bound { length self.new.entries < 2 ^ 63 }
+        ensures countable { length self.new.entries < 2 ^ 63 }
         ensures entries { self.new.entries ≡ remove_range self.old.entries start end ++ reverse (slice_range self.old.entries start end) }
         ensures capacity { self.new.capacity ≡ self.old.capacity }
     {

@@ -62,7 +62,7 @@ impl<'a, T: Eq> Drain<'a, T> {
         requires { self.old.keep ≤ length self.old.set.now.elements }
         ensures laid { self.new.reversed ≡ reversed }
         ensures keep { self.new.keep ≡ self.old.keep }
-        ensures len { length self.new.set.now.elements ≡ length self.old.set.now.elements }
+        ensures count { length self.new.set.now.elements ≡ length self.old.set.now.elements }
         ensures rest { drain_rest self.new ≡ drain_rest self.old }
         ensures keeps { DrainKeeps self.old self.new }
     {

@@ -205,7 +205,7 @@ impl<T: Eq> VecSet<T> {
     pub(crate) fn move_range_last(&mut self, start: usize, end: usize) -> usize
         requires within { IsRangeWithin start end (length self.old.elements) }
         ensures keep { result ≡ length self.old.elements - (end - start) }
-        ensures bound { length self.new.elements < 2 ^ 63 }
+        ensures countable { length self.new.elements < 2 ^ 63 }
         ensures elements { self.new.elements ≡ remove_range self.old.elements start end ++ reverse (slice_range self.old.elements start end) }
         ensures distinct { IsDistinct T.eq self.new.elements }
         ensures capacity { self.new.capacity ≡ self.old.capacity }

@@ -18,7 +18,7 @@ returns-clause-kept g c =
 pub returns-clause-fits : goal.returns-clause-fits
 returns-clause-fits g c =
     let moved = c.move_range_last-keep in
-    omega (arith, length_rest true moved.new.self.elements moved.result, moved.ensures.bound)
+    omega (arith, length_rest true moved.new.self.elements moved.result, moved.ensures.countable)
 
 pub returns-clause-runs : goal.returns-clause-runs
 returns-clause-runs g c = drains_in_order drain_rest DrainKeeps
