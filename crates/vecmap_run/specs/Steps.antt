@@ -1,9 +1,7 @@
 -- What a command may be answered, and what it leaves of the map.
 use Rattle.std.specs.Prelude.{◌≡◌, ℕ, ◌<◌, ◌≤◌, List, Some, String, length, unwrap_or, string_bytes, string_eq, ℤ}
-use Rattle.std.specs.Option.{option_map_or}
 use Rattle.std.specs.declared.alloc.Global.{Global}
-use Rattle.vecmap.specs.Items.{swap_without}
-use Rattle.vecmap.specs.Pairs.{has_text, index_by, lookup, lookup_by, lookup_full, put, put_at, without_by}
+use Rattle.vecmap.specs.Pairs.{has_text, index_by, lookup, lookup_by, lookup_full, put, put_at, swap_without_by, without_by}
 use Rattle.vecmap_run.specs.declared.answer.Answer.{Answer}
 use Rattle.vecmap_run.specs.declared.answer.Answer.TheVariants.{Memory, Moved, Number, Pairs, Place, Range, Value}
 use Rattle.vecmap_run.specs.declared.command.Command.{Command}
@@ -12,10 +10,6 @@ use Rattle.vecmap_run.specs.declared.command.Command.TheVariants as command
 -- the pairs of the map
 abbrev pub Entries : Type 0
 Entries = List (String Global × ℤ)
-
--- old without the key of this text, and with the last pair in its place
-abbrev pub swap_without_text : Entries → List ℕ → Entries
-swap_without_text old text = option_map_or (λ i. swap_without old i) (index_by (has_text text) old) old
 
 -- from old, the insertion of this text and value may be answered so and leave new
 abbrev pub Inserts : Entries → List ℕ → ℤ → Answer → Entries → Type 0
@@ -44,6 +38,6 @@ Step old (command.OrInsert text value) answer new = OrInserts old text.now value
 Step old (command.Get text) answer new = (answer ≡ Value (lookup_by (has_text text.now) old)) × (new ≡ old)
 Step old (command.IndexOf text) answer new = (answer ≡ Place (index_by (has_text text.now) old)) × (new ≡ old)
 Step old (command.Remove text) answer new = (answer ≡ Value (lookup_by (has_text text.now) old)) × (new ≡ without_by (has_text text.now) old)
-Step old (command.SwapRemove text) answer new = (answer ≡ Value (lookup_by (has_text text.now) old)) × (new ≡ swap_without_text old text.now)
+Step old (command.SwapRemove text) answer new = (answer ≡ Value (lookup_by (has_text text.now) old)) × (new ≡ swap_without_by (has_text text.now) old)
 Step old command.Len answer new = (answer ≡ Number (length old)) × (new ≡ old)
 Step old command.List answer new = (answer ≡ Pairs) × (new ≡ old)

@@ -1,9 +1,9 @@
 //! What a command is answered.
 ghost use Rattle.std.specs.Prelude.{◌≡◌, IfOk, List, OnErr, OnOk, Some, option_copied, string_eq, unwrap_or, ℕ};
-ghost use Rattle.vecmap.specs.Pairs.{has_text, lookup, lookup_by, put};
+ghost use Rattle.vecmap.specs.Pairs.{has_text, lookup, lookup_by, put, swap_without_by};
 ghost use Rattle.vecmap_run.specs.Lines.{within_limit};
 ghost use Rattle.vecmap_run.specs.Service.{MayAnswer};
-ghost use Rattle.vecmap_run.specs.Steps.{Inserts, InsertsAt, OrInserts, Step, swap_without_text};
+ghost use Rattle.vecmap_run.specs.Steps.{Inserts, InsertsAt, OrInserts, Step};
 
 use crate::command::{Command, parse};
 use std::alloc::{AllocError, Global};
@@ -121,7 +121,7 @@ fn stand(map: &mut VecMap<String, i64>, key: String, value: i64) -> Result<Optio
 /// As `swap_remove`, by the bytes of a text. It takes no memory.
 fn swap_remove(map: &mut VecMap<String, i64>, key: &str) -> Option<i64>
     ensures value { result ≡ lookup_by (has_text key.now) map.old.entries }
-    ensures entries { map.new.entries ≡ swap_without_text map.old.entries key.now }
+    ensures entries { map.new.entries ≡ swap_without_by (has_text key.now) map.old.entries }
 {
     let index = map.get_index_of_str(key)?;
     let (_key, value) = map.swap_remove_index(index);
