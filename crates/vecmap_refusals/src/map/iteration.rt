@@ -1,5 +1,6 @@
 //! Clones of the iterators that own what they give.
-use vecmap_fixtures::text_map;
+use crate::telling::{make, text_map};
+use std::test::Fail;
 
 const TEXTS: &[(&str, &str)] = &[("c", "3"), ("b", "2"), ("a", "1")];
 
@@ -14,40 +15,34 @@ fn gives(mut texts: impl Iterator<Item = String>, expected: &[&str]) -> bool {
 }
 
 #[test]
-fn a_clone_of_pairs_leaves_the_original(rt: HostRuntime) {
-    let Ok(map) = text_map(rt.alloc(), TEXTS) else {
-        return;
-    };
+fn a_clone_of_pairs_leaves_the_original(rt: HostRuntime) -> Result<(), Fail> {
+    let map = text_map(&rt, rt.alloc(), TEXTS)?;
     let mut pairs = map.into_iter();
     assert!(rt; pairs.next().is_some());
-    if let Ok(copy) = pairs.clone() {
-        assert!(rt; gives(copy.map(|pair| pair.0), &["b", "a"]));
-    }
+    let copy = make!(rt; pairs.clone());
+    assert!(rt; gives(copy.map(|pair| pair.0), &["b", "a"]));
     assert!(rt; gives(pairs.map(|pair| pair.1), &["2", "1"]));
+    Ok(())
 }
 
 #[test]
-fn a_clone_of_keys_leaves_the_original(rt: HostRuntime) {
-    let Ok(map) = text_map(rt.alloc(), TEXTS) else {
-        return;
-    };
+fn a_clone_of_keys_leaves_the_original(rt: HostRuntime) -> Result<(), Fail> {
+    let map = text_map(&rt, rt.alloc(), TEXTS)?;
     let mut keys = map.into_keys();
     assert!(rt; keys.next_back().is_some());
-    if let Ok(copy) = keys.clone() {
-        assert!(rt; gives(copy, &["c", "b"]));
-    }
+    let copy = make!(rt; keys.clone());
+    assert!(rt; gives(copy, &["c", "b"]));
     assert!(rt; gives(keys, &["c", "b"]));
+    Ok(())
 }
 
 #[test]
-fn a_clone_of_values_leaves_the_original(rt: HostRuntime) {
-    let Ok(map) = text_map(rt.alloc(), TEXTS) else {
-        return;
-    };
+fn a_clone_of_values_leaves_the_original(rt: HostRuntime) -> Result<(), Fail> {
+    let map = text_map(&rt, rt.alloc(), TEXTS)?;
     let mut values = map.into_values();
     assert!(rt; values.next_back().is_some());
-    if let Ok(copy) = values.clone() {
-        assert!(rt; gives(copy, &["3", "2"]));
-    }
+    let copy = make!(rt; values.clone());
+    assert!(rt; gives(copy, &["3", "2"]));
     assert!(rt; gives(values, &["3", "2"]));
+    Ok(())
 }

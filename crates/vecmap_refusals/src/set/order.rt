@@ -1,67 +1,85 @@
 //! Stable sorts of a set. A refused one leaves the set as it was.
-use std::process::Abort;
+use crate::telling::{make, tell};
+use std::alloc::{AllocError, Global};
+use std::test::Fail;
 use vecmap::VecSet;
-use vecmap_fixtures::full_set;
 
 // More elements than a stable sort takes on without memory.
 const COUNT: u32 = 100;
 
-// The elements as they were made, or turned round.
-fn assert_left(rt: &impl Abort, set: &VecSet<u32>, room: usize, granted: bool) {
-    assert_eq!(rt; set.len(), COUNT as usize);
-    assert_eq!(rt; set.capacity(), room);
+// The elements 0, 1 and so on.
+fn numbers(alloc: Global, count: u32) -> Result<VecSet<u32>, AllocError> {
+    let mut set = VecSet::new(alloc);
+    for number in 0..count {
+        set.insert(number)?;
+    }
+    Ok(set)
+}
+
+// Whether the set holds these elements, as they were made or turned round.
+fn holds(set: &VecSet<u32>, turned: bool) -> bool {
     for (place, item) in (0..COUNT).zip(set.as_slice()) {
-        let number = if granted {
+        let number = if turned {
             COUNT.wrapping_sub(place).wrapping_sub(1)
         } else {
             place
         };
-        assert_eq!(rt; *item, number);
+        if *item != number {
+            return false;
+        }
     }
+    set.len() == 100
 }
 
 #[test]
-fn sort_by_sorts_or_leaves_the_list(rt: HostRuntime) {
-    let Ok(mut set) = full_set(rt.alloc(), COUNT) else {
-        return;
-    };
+fn sort_by_sorts_or_leaves_the_list(rt: HostRuntime) -> Result<(), Fail> {
+    let mut set = make!(rt; numbers(rt.alloc(), COUNT));
     let room = set.capacity();
-    let granted = set.sort_by(|a, b| b.cmp(a)).is_ok();
-    assert_left(&rt, &set, room, granted);
+    if set.sort_by(|a, b| b.cmp(a)).is_err() {
+        tell(&rt)?;
+        assert!(rt; holds(&set, false) && set.capacity() == room);
+        set.sort_by(|a, b| b.cmp(a))?;
+    }
+    assert!(rt; holds(&set, true) && set.capacity() == room);
+    Ok(())
 }
 
 #[test]
-fn sort_sorts_or_leaves_the_list(rt: HostRuntime) {
-    let Ok(mut set) = full_set(rt.alloc(), COUNT) else {
-        return;
-    };
+fn sort_sorts_or_leaves_the_list(rt: HostRuntime) -> Result<(), Fail> {
+    let mut set = make!(rt; numbers(rt.alloc(), COUNT));
     let room = set.capacity();
     set.reverse();
-    let granted = set.sort().is_ok();
-    assert_left(&rt, &set, room, !granted);
+    if set.sort().is_err() {
+        tell(&rt)?;
+        assert!(rt; holds(&set, true) && set.capacity() == room);
+        set.sort()?;
+    }
+    assert!(rt; holds(&set, false) && set.capacity() == room);
+    Ok(())
 }
 
 #[test]
-fn sort_by_cached_key_sorts_or_leaves_the_list(rt: HostRuntime) {
-    let Ok(mut set) = full_set(rt.alloc(), COUNT) else {
-        return;
-    };
+fn sort_by_cached_key_sorts_or_leaves_the_list(rt: HostRuntime) -> Result<(), Fail> {
+    let mut set = make!(rt; numbers(rt.alloc(), COUNT));
     let room = set.capacity();
-    let granted = set
-        .sort_by_cached_key(|item| COUNT.wrapping_sub(*item))
-        .is_ok();
-    assert_left(&rt, &set, room, granted);
+    set.reverse();
+    if set.sort_by_cached_key(|item| *item).is_err() {
+        tell(&rt)?;
+        assert!(rt; holds(&set, true) && set.capacity() == room);
+        set.sort_by_cached_key(|item| *item)?;
+    }
+    assert!(rt; holds(&set, false) && set.capacity() == room);
+    Ok(())
 }
 
 #[test]
-fn short_lists_are_never_refused(rt: HostRuntime) {
-    let Ok(mut set) = full_set(rt.alloc(), 20) else {
-        return;
-    };
+fn short_lists_are_never_refused(rt: HostRuntime) -> Result<(), Fail> {
+    let mut set = make!(rt; numbers(rt.alloc(), 20));
     assert!(rt; set.sort().is_ok());
     assert!(rt; set.sort_by(|a, b| b.cmp(a)).is_ok());
     assert_eq!(rt; set.first(), Some(&19));
     set.truncate(1);
     assert!(rt; set.sort_by_cached_key(|item| *item).is_ok());
     assert_eq!(rt; set.as_slice(), [19].as_slice());
+    Ok(())
 }

@@ -1,22 +1,27 @@
 //! A set that is split in two.
-use vecmap_fixtures::full_set;
+use crate::telling::{full_set, tell};
+use std::alloc::AllocError;
+use std::test::Fail;
+use vecmap_fixtures::has_items;
+
+const FULL: &[(u32, char)] = &[(1, 'a'), (2, 'b'), (3, 'c')];
 
 #[test]
-fn split_off_moves_all_or_nothing(rt: HostRuntime) {
-    let Ok(mut set) = full_set(rt.alloc(), 3) else {
-        return;
-    };
-    let room = set.capacity();
+fn split_off_moves_all_or_nothing(rt: HostRuntime) -> Result<(), Fail> {
+    let mut set = full_set(&rt, rt.alloc(), FULL)?;
     assert!(rt; 1 <= set.len());
-    match set.split_off(1) {
-        Ok(part) => {
-            assert_eq!(rt; set.as_slice(), [0].as_slice());
-            assert_eq!(rt; part.as_slice(), [1, 2].as_slice());
+    let part = match set.split_off(1) {
+        Ok(part) => part,
+        Err(AllocError) => {
+            tell(&rt)?;
+            assert!(rt; has_items(set.as_slice(), FULL) && set.capacity() == 3);
+            set.split_off(1)?
         }
-        Err(_) => assert_eq!(rt; set.as_slice(), [0, 1, 2].as_slice()),
-    }
-    assert_eq!(rt; set.capacity(), room);
+    };
+    assert!(rt; has_items(set.as_slice(), &[(1, 'a')]) && set.capacity() == 3);
+    assert!(rt; has_items(part.as_slice(), &[(2, 'b'), (3, 'c')]));
     let end = set.len();
     assert!(rt; set.split_off(end).is_ok());
-    assert_eq!(rt; (set.len(), set.capacity()), (end, room));
+    assert_eq!(rt; (set.len(), set.capacity()), (end, 3));
+    Ok(())
 }
