@@ -17,8 +17,8 @@ const FIVE: &[(u32, char, u32)] = &[
 // The keys 0, 1, .. with these values, and room for all of them alone.
 fn numbered(alloc: Global, values: &[u32]) -> Result<VecMap<u32, u32>, AllocError> {
     let mut pairs = Vec::with_capacity(alloc, values.len())?;
-    for (key, value) in values.iter().enumerate() {
-        pairs.push((key as u32, *value))?;
+    for (key, value) in (0..u32::MAX).zip(values) {
+        pairs.push((key, *value))?;
     }
     Ok(VecMap::from(pairs))
 }

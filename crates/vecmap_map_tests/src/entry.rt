@@ -22,7 +22,9 @@ impl Clone for Unlucky {
     }
 }
 
-fn occupied<'a, K: Drop, V: Drop>(entry: Entry<'a, K, V>) -> Option<OccupiedEntry<'a, K, V>> {
+pub(crate) fn occupied<'a, K: Drop, V: Drop>(
+    entry: Entry<'a, K, V>,
+) -> Option<OccupiedEntry<'a, K, V>> {
     match entry {
         Entry::Occupied(entry) => Some(entry),
         Entry::Vacant(_) => None,

@@ -11,10 +11,10 @@ const FOUR: &[(u32, char, u32)] = &[(1, 'a', 1), (2, 'b', 2), (1, 'c', 3), (4, '
 fn retain_keeps_what_it_wrote_where_it_answers_true(rt: HostRuntime) -> Result<(), Fail> {
     let mut map = repeating_map(rt.alloc(), FOUR)?;
     let room = map.capacity();
-    let mut asked = 0;
+    let mut asked = 0u32;
     map.retain(|key, value| {
-        asked += 1;
-        *value = asked * 100;
+        asked = asked.wrapping_add(1);
+        *value = asked.wrapping_mul(100);
         key.number == 1
     });
     assert_eq!(rt; asked, 4);
