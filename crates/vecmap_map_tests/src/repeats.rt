@@ -103,6 +103,24 @@ fn insertions_change_the_value_of_the_first_of_equal_keys(rt: HostRuntime) -> Re
 }
 
 #[test]
+fn append_changes_the_value_of_the_first_of_equal_keys(rt: HostRuntime) -> Result<(), Fail> {
+    let mut map = start(rt.alloc())?;
+    let mut other = VecMap::from_slice(rt.alloc(), &[(make_item(1, 'z'), 20)])?;
+    map.append(&mut other)?;
+    assert!(rt; has_first(&map, 'b', 20) && other.is_empty());
+    Ok(())
+}
+
+#[test]
+fn extend_refs_changes_the_value_of_the_first_of_equal_keys(rt: HostRuntime) -> Result<(), Fail> {
+    let mut map = start(rt.alloc())?;
+    let more = [(make_item(1, 'z'), 20)];
+    map.extend_refs(more.iter().map(|pair| (&pair.0, &pair.1)))?;
+    assert!(rt; has_first(&map, 'b', 20));
+    Ok(())
+}
+
+#[test]
 fn insert_at_moves_the_first_of_equal_keys(rt: HostRuntime) -> Result<(), Fail> {
     for (index, place) in [(0, 0), (1, 1), (2, 2), (4, 4), (5, 5), (6, 5)] {
         let mut map = start(rt.alloc())?;
