@@ -8,6 +8,10 @@ abbrev pub swap_without : {T : Type 0} → List T → ℕ → List T
 swap_without s i = option_map_or (λ x. swap_remove s i x) (slice_get s i) s
 
 module _ {T : Type 0} (test : T → Bool) where
+  -- the first element that passes the test
+  abbrev pub stored_first : List T → Option T
+  stored_first s = option_and_then (slice_get s) (position test s)
+
   -- s without the first element that passes the test
   abbrev pub without_first : List T → List T
   without_first s = option_map_or (λ i. remove s i) (position test s) s
@@ -27,7 +31,7 @@ module _ {T : Type 0} (eq : T → T → Bool) where
 
   -- the stored element that is equal to x
   abbrev pub stored_item : List T → T → Option T
-  stored_item s x = option_and_then (slice_get s) (item_index s x)
+  stored_item s x = stored_first (eq x) s
 
   -- s after an addition: nothing changes where an equal element is there, and a new one goes last
   abbrev pub add : List T → T → List T

@@ -27,6 +27,10 @@ module _ {K V : Type 0} (test : K → Bool) where
   abbrev pub lookup_by : List (K × V) → Option V
   lookup_by l = option_and_then (value_at l) (index_by l)
 
+  -- the pair at that place
+  abbrev pub lookup_pair_by : List (K × V) → Option (K × V)
+  lookup_pair_by l = option_and_then (slice_get l) (index_by l)
+
   -- l without the pair at that place
   abbrev pub without_by : List (K × V) → List (K × V)
   without_by l = option_map_or (λ i. remove l i) (index_by l) l
@@ -50,7 +54,7 @@ module _ {K V : Type 0} (eq : K → K → Bool) where
 
   -- the pair at the first place whose key is equal to k
   abbrev pub lookup_pair : List (K × V) → K → Option (K × V)
-  lookup_pair l k = option_and_then (slice_get l) (index_of l k)
+  lookup_pair l k = lookup_pair_by (eq k) l
 
   -- the first place whose key is equal to k, with the value there
   abbrev pub lookup_full : List (K × V) → K → Option (ℕ × V)

@@ -7,6 +7,7 @@
 mod distinct;
 mod drain;
 mod equality;
+mod equivalent;
 pub mod items;
 mod iter;
 mod iter_mut;
@@ -23,6 +24,7 @@ mod steps;
 pub use distinct::{items_distinct, keys_distinct};
 pub use drain::{move_range_last, reverse_from};
 pub use equality::pairs_equal;
+pub use equivalent::{Equivalent, find_equivalent, find_item_equivalent};
 pub use iter::{IntoIter, IntoKeys, IntoValues, Iter, Keys, Values};
 pub use iter_mut::{IterMut, IterMut2, KeysMut, ValuesMut};
 pub use lookup::{find, find_item, find_item_str, find_str, is_in, is_in_str};

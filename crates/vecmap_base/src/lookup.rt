@@ -4,12 +4,14 @@ ghost use Rattle.std.specs.List.{list_any};
 ghost use Rattle.vecmap_base.specs.Items.{has_item, item_index};
 ghost use Rattle.vecmap_base.specs.Pairs.{has_text, index_by, index_of};
 
+use crate::equivalent::{find_equivalent, find_item_equivalent};
+
 /// The first place whose key is equal to `key`, after at most as many comparisons as there are pairs.
 pub fn find<K: Eq, V>(pairs: &[(K, V)], key: &K) -> Option<usize>
     ensures place { result ≡ index_of K.eq pairs.now key.now }
     ensures within { IfSome result (λ i. i < length pairs.now) }
 {
-    pairs.iter().position(|pair| *key == pair.0)
+    find_equivalent(pairs, key)
 }
 
 /// The first place whose element is equal to `item`, after at most as many comparisons as there are elements.
@@ -17,7 +19,7 @@ pub fn find_item<T: Eq>(items: &[T], item: &T) -> Option<usize>
     ensures place { result ≡ item_index T.eq items.now item.now }
     ensures within { IfSome result (λ i. i < length items.now) }
 {
-    items.iter().position(|stored| *item == *stored)
+    find_item_equivalent(items, item)
 }
 
 /// The first place whose key has the bytes of `text`, after at most as many comparisons as there are pairs. It takes no
@@ -26,7 +28,7 @@ pub fn find_str<V>(pairs: &[(String, V)], text: &str) -> Option<usize>
     ensures place { result ≡ index_by (has_text text.now) pairs.now }
     ensures within { IfSome result (λ i. i < length pairs.now) }
 {
-    pairs.iter().position(|pair| pair.0.as_str() == text)
+    find_equivalent(pairs, text)
 }
 
 /// The first place whose element has the bytes of `text`, after at most as many comparisons as there are elements. It
@@ -35,7 +37,7 @@ pub fn find_item_str(items: &[String], text: &str) -> Option<usize>
     ensures place { result ≡ position (has_text text.now) items.now }
     ensures within { IfSome result (λ i. i < length items.now) }
 {
-    items.iter().position(|item| item.as_str() == text)
+    find_item_equivalent(items, text)
 }
 
 /// Whether one of `items` is equal to `item`, after at most as many comparisons as there are elements.
