@@ -1,7 +1,7 @@
 -- What a contract sees of a `VecMap`, and what calls say of its room.
 use Rattle.std.specs.Prelude.{◌≡◌, ◌+◌, ◌≤◌, ℕ, Bool, List, None, Option, IsSome, length}
 use Rattle.std.specs.Option.{option_map_or}
-use Rattle.vecmap_base.specs.Pairs.{index_of, with_pair, with_value}
+use Rattle.vecmap_base.specs.Pairs.{index_by, index_of, with_pair, with_value}
 
 -- the pairs from front to back, and how many fit before the vector grows
 pub record Contents (K V : Type 0) : Type 0 where
@@ -21,13 +21,17 @@ module _ {K V : Type 0} where
   abbrev pub with_pair_at : Contents K V → ℕ → K × V → Contents K V
   with_pair_at m i p = with_entries m (with_pair m.entries i p.0 p.1)
 
-  -- m with the pair p in the place of the first pair whose key is equal to k, if there is one
-  abbrev pub with_pair_of : (K → K → Bool) → Contents K V → K → K × V → Contents K V
-  with_pair_of eq m k p = option_map_or (λ i. with_pair_at m i p) (index_of eq m.entries k) m
+  -- m with the pair p in the place of the first pair whose key passes the test, if there is one
+  abbrev pub with_pair_by : (K → Bool) → Contents K V → K × V → Contents K V
+  with_pair_by test m p = option_map_or (λ i. with_pair_at m i p) (index_by test m.entries) m
+
+  -- m with v as the value of the first key that passes the test, if there is one
+  abbrev pub with_value_by : (K → Bool) → Contents K V → V → Contents K V
+  with_value_by test m v = option_map_or (λ i. with_value_at m i v) (index_by test m.entries) m
 
   -- m with v as the value of the first key that is equal to k, if there is one
   abbrev pub with_value_of : (K → K → Bool) → Contents K V → K → V → Contents K V
-  with_value_of eq m k v = option_map_or (λ i. with_value_at m i v) (index_of eq m.entries k) m
+  with_value_of eq m k v = with_value_by (eq k) m v
 
   -- n more pairs fit before the vector grows
   abbrev pub HasRoom : Contents K V → ℕ → Type 0

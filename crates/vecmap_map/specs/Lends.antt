@@ -5,8 +5,15 @@ use Rattle.std.specs.declared.option.Option.TheVariants.{None, Some}
 use Rattle.std.specs.Borrow.{RattleType, Fml, GName, Bor, MutBor, Lends, LendsIf, LendsBoth, LendsBothIf, follows_if, follows_both_if}
 use denote.Struct.Tuple.{Tuple}
 use mathlib.Core.Option as maybe
-use Rattle.vecmap_map.specs.Contents.{Contents, with_pair_at, with_pair_of, with_value_at, with_value_of}
+use Rattle.vecmap_map.specs.Contents.{Contents, with_pair_at, with_pair_by, with_value_at, with_value_by, with_value_of}
+use Rattle.std.specs.contracts.alloc.Global as global
+use Rattle.std.specs.contracts.impls.GlobalAllocator.TheImpl.{ghosts}
+use Rattle.std.specs.contracts.string.String as text
 use Rattle.vecmap_map.specs.contracts.VecMap.{the_row}
+
+-- `String`, as the logic holds it
+abbrev pub text_row : RattleType
+text_row = text.the_row global.the_row ghosts
 
 module _ {K V : Type 0} where
   -- the ghost name of the reference to the value, if there is one
@@ -42,9 +49,13 @@ module _ (K V : RattleType) (m : MutBor (Contents K.Denot V.Denot)) where
   abbrev pub lends_value_of : (K.Denot → K.Denot → Bool) → K.Denot → MutBor V.Denot → Fml
   lends_value_of eq k r = Lends (the_row K V) V m r (with_value_of eq m.now k)
 
+  -- the same of the first key that passes the test
+  abbrev pub lends_value_by : (K.Denot → Bool) → MutBor V.Denot → Fml
+  lends_value_by test r = Lends (the_row K V) V m r (with_value_by test m.now)
+
   -- the same where there is a reference; at `None` the map stays
-  abbrev pub lends_value_if_of : (K.Denot → K.Denot → Bool) → K.Denot → Option (MutBor V.Denot) → Fml
-  lends_value_if_of eq k r = LendsIf (the_row K V) V m r (with_value_of eq m.now k) m.now
+  abbrev pub lends_value_if_by : (K.Denot → Bool) → Option (MutBor V.Denot) → Fml
+  lends_value_if_by test r = LendsIf (the_row K V) V m r (with_value_by test m.now) m.now
 
   -- once r ends, the last pair behind it stands at the place i, and nothing else has changed
   abbrev pub lends_whole_at : ℕ → MutBor (K.Denot × V.Denot) → Fml
@@ -58,14 +69,14 @@ module _ (K V : RattleType) (m : MutBor (Contents K.Denot V.Denot)) where
   abbrev pub lends_beside_key : ℕ → Option (Bor K.Denot × MutBor V.Denot) → Fml
   lends_beside_key i r = follows_if (the_row K V) V m.ghost_name (value_name r) (with_value_at m.now i) m.now
 
-  -- the same at the first key that is equal to k, where the place stands beside the two references
-  abbrev pub lends_beside_place : (K.Denot → K.Denot → Bool) → K.Denot → Option (ℕ × Bor K.Denot × MutBor V.Denot) → Fml
-  lends_beside_place eq k r = follows_if (the_row K V) V m.ghost_name (value_name_at r) (with_value_of eq m.now k) m.now
+  -- the same at the first key that passes the test, where the place stands beside the two references
+  abbrev pub lends_beside_place : (K.Denot → Bool) → Option (ℕ × Bor K.Denot × MutBor V.Denot) → Fml
+  lends_beside_place test r = follows_if (the_row K V) V m.ghost_name (value_name_at r) (with_value_by test m.now) m.now
 
   -- once both references end, the last key and value behind them stand at the place i, and nothing else has changed; at `None` the map stays
   abbrev pub lends_both_at : ℕ → Option (MutBor K.Denot × MutBor V.Denot) → Fml
   lends_both_at i r = LendsBothIf (the_row K V) K V m r (λ k v. with_pair_at m.now i (k, v)) m.now
 
-  -- the same at the first key that is equal to k, where the place stands beside the two references
-  abbrev pub lends_both_beside_place : (K.Denot → K.Denot → Bool) → K.Denot → Option (ℕ × MutBor K.Denot × MutBor V.Denot) → Fml
-  lends_both_beside_place eq k r = follows_both_if (the_row K V) K V m.ghost_name (both_names_at r) (λ key v. with_pair_of eq m.now k (key, v)) m.now
+  -- the same at the first key that passes the test, where the place stands beside the two references
+  abbrev pub lends_both_beside_place : (K.Denot → Bool) → Option (ℕ × MutBor K.Denot × MutBor V.Denot) → Fml
+  lends_both_beside_place test r = follows_both_if (the_row K V) K V m.ghost_name (both_names_at r) (λ key v. with_pair_by test m.now (key, v)) m.now

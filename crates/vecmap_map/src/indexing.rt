@@ -1,7 +1,7 @@
 //! `map[index]` and `map[&key]`: the value at a place, and the value of a key.
-ghost use Rattle.std.specs.Prelude.{◌≡◌, ◌<◌, IsSome, Some, length};
+ghost use Rattle.std.specs.Prelude.{◌≡◌, ◌<◌, IsSome, Some, bytes_eq, length};
 ghost use Rattle.std.specs.Borrow.{sem};
-ghost use Rattle.vecmap_base.specs.Pairs.{index_of, lookup, value_at};
+ghost use Rattle.vecmap_base.specs.Pairs.{has_text, index_by, index_of, lookup, lookup_by, value_at};
 
 use crate::VecMap;
 use std::ops::{Index, IndexMut};
@@ -61,5 +61,55 @@ impl<'q, K: Eq, V> IndexMut<&'q K> for VecMap<K, V> {
     {
         let place = self.get_index_of(key).unwrap();
         self.value_mut(place)
+    }
+}
+
+/// The value of the first pair whose key has the bytes of `text`. Such a key must be there: `contains_key` tells.
+///
+/// It takes at most as many comparisons as there are pairs, and no memory.
+impl<'q, V> Index<&'q str> for VecMap<String, V> {
+    type Output = V;
+
+    ghost can_index = { λ m text. IsSome (index_by (has_text text.now) m.entries) };
+
+    ghost index_gives = { λ m text v. lookup_by (has_text text.now) m.entries ≡ Some v };
+
+    fn index(&self, text: &'q str) -> &V {
+        let place = self.get_index_of(text).unwrap();
+        &self.pairs[place].1
+    }
+}
+
+/// The value of the first pair whose key has the bytes of `text`, to write. Such a key must be there: `contains_key`
+/// tells.
+///
+/// It takes at most as many comparisons as there are pairs, and no memory.
+impl<'q, V> IndexMut<&'q str> for VecMap<String, V> {
+    ghost use Rattle.vecmap_map.specs.Lends.{lends_value_by, text_row};
+
+    fn index_mut(&mut self, text: &'q str) -> &mut V
+        requires there { IsSome (index_by (has_text text.now) self.old.entries) }
+        ensures* writes_back { sem 𝓛 (lends_value_by text_row V.row self.entry (has_text text.now) result) }
+        ensures value { lookup_by (has_text text.now) self.old.entries ≡ Some result.now }
+    {
+        let place = self.get_index_of(text).unwrap();
+        self.value_mut(place)
+    }
+}
+
+/// The value of the first pair whose key, a borrowed text, has the bytes of `text`. Such a key must be there:
+/// `contains_key` tells.
+///
+/// It takes at most as many comparisons as there are pairs.
+impl<'q, 'k, V> Index<&'q str> for VecMap<&'k str, V> {
+    type Output = V;
+
+    ghost can_index = { λ m text. IsSome (index_by (λ k. bytes_eq text.now k.now) m.entries) };
+
+    ghost index_gives = { λ m text v. lookup_by (λ k. bytes_eq text.now k.now) m.entries ≡ Some v };
+
+    fn index(&self, text: &'q str) -> &V {
+        let place = self.get_index_of(text).unwrap();
+        &self.pairs[place].1
     }
 }

@@ -3,23 +3,24 @@ ghost use Rattle.std.specs.Prelude.{◌≡◌, ◌-◌, ◌<◌, ◌↔◌, IfSo
 ghost use Rattle.std.specs.Borrow.{sem};
 ghost use Rattle.std.specs.Map.Iter.{deref_pair_mut};
 ghost use Rattle.std.specs.Option.{option_copied_mut};
-ghost use Rattle.vecmap_base.specs.Pairs.{index_of, lookup, lookup_pair, value_at};
+ghost use Rattle.vecmap_base.specs.Pairs.{index_by, lookup_by, lookup_pair_by, value_at};
 ghost use Rattle.vecmap_map.specs.Lends.{lends_value};
 
 use crate::VecMap;
+use vecmap_base::Equivalent;
 
 impl<K, V> VecMap<K, V> {
-    ghost use Rattle.vecmap_map.specs.Lends.{lends_beside_key, lends_beside_place, lends_value_at, lends_value_if_of, lends_whole_at, lends_whole_if_at};
+    ghost use Rattle.vecmap_map.specs.Lends.{lends_beside_key, lends_beside_place, lends_value_at, lends_value_if_by, lends_whole_at, lends_whole_if_at};
 
-    /// The value of the first pair whose key is equal to `key`, to write.
+    /// The value of the first pair whose key `key` stands for, to write.
     ///
     /// It takes at most as many comparisons as there are pairs.
-    pub fn get_mut(&mut self, key: &K) -> Option<&mut V>
+    pub fn get_mut<Q: Equivalent<K>>(&mut self, key: Q) -> Option<&mut V>
     where
         K: Eq,
-        ensures* writes_back { sem 𝓛 (lends_value_if_of K.row V.row self.entry K.eq key.now result) }
-        ensures value { option_copied_mut result ≡ lookup K.eq self.old.entries key.now }
-        ensures found { IsSome result ↔ IsSome (index_of K.eq self.old.entries key.now) }
+        ensures* writes_back { sem 𝓛 (lends_value_if_by K.row V.row self.entry (Q.equivalent key) result) }
+        ensures value { option_copied_mut result ≡ lookup_by (Q.equivalent key) self.old.entries }
+        ensures found { IsSome result ↔ IsSome (index_by (Q.equivalent key) self.old.entries) }
     {
         match self.get_index_of(key) {
             Some(index) => Some(self.value_mut(index)),
@@ -46,18 +47,18 @@ impl<K, V> VecMap<K, V> {
         map.get_index_mut(index)
     }
 
-    /// The place of the first pair whose key is equal to `key`, with the stored key, and the value to write.
+    /// The place of the first pair whose key `key` stands for, with the stored key, and the value to write.
     ///
     /// It takes at most as many comparisons as there are pairs.
-    pub fn get_full_mut(&mut self, key: &K) -> Option<(usize, &K, &mut V)>
+    pub fn get_full_mut<Q: Equivalent<K>>(&mut self, key: Q) -> Option<(usize, &K, &mut V)>
     where
         K: Eq,
-        ensures* writes_back { sem 𝓛 (lends_beside_place K.row V.row self.entry K.eq key.now result) }
-        ensures place { option_map (λ found. found.0) result ≡ index_of K.eq self.old.entries key.now }
+        ensures* writes_back { sem 𝓛 (lends_beside_place K.row V.row self.entry (Q.equivalent key) result) }
+        ensures place { option_map (λ found. found.0) result ≡ index_by (Q.equivalent key) self.old.entries }
         ensures within { IfSome result (λ found. found.0 < length self.old.entries) }
-        ensures pair { option_map (λ found. (found.1.now, found.2.now)) result ≡ lookup_pair K.eq self.old.entries key.now }
+        ensures pair { option_map (λ found. (found.1.now, found.2.now)) result ≡ lookup_pair_by (Q.equivalent key) self.old.entries }
     {
-        let (place, map) = self.with_place_of(key);
+        let (place, map) = self.with_place_by(key);
         match place {
             Some(index) => Some(map.full_mut(index)),
             None => None,
@@ -118,11 +119,11 @@ impl<K, V> VecMap<K, V> {
         (index, &pair.0, &mut pair.1)
     }
 
-    // The first place whose key is equal to `key`, and the map itself.
-    pub(crate) fn with_place_of(&mut self, key: &K) -> (Option<usize>, &mut VecMap<K, V>)
+    // The first place whose key `key` stands for, and the map itself.
+    pub(crate) fn with_place_by<Q: Equivalent<K>>(&mut self, key: Q) -> (Option<usize>, &mut VecMap<K, V>)
     where
         K: Eq,
-        ensures place { result.0 ≡ index_of K.eq self.old.entries key.now }
+        ensures place { result.0 ≡ index_by (Q.equivalent key) self.old.entries }
         ensures within { IfSome result.0 (λ i. i < length self.old.entries) }
         ensures same_map { result.1.ghost_name ≡ self.entry.ghost_name }
         ensures unchanged { result.1.now ≡ self.old }

@@ -1,17 +1,17 @@
 //! Lookups by key and by place.
 ghost use Rattle.std.specs.Prelude.{◌≡◌, ◌-◌, ◌<◌, ◌↔◌, IfSome, IsTrue, is_some, length, option_copied, option_map, slice_get};
 ghost use Rattle.std.specs.Map.Iter.{deref_pair};
-ghost use Rattle.vecmap_base.specs.Pairs.{HasDistinctKeys, has_text, index_by, index_of, lookup, lookup_by, lookup_pair};
+ghost use Rattle.vecmap_base.specs.Pairs.{HasDistinctKeys, has_text, index_by, lookup_by, lookup_pair_by};
 
 use crate::VecMap;
-use vecmap_base::{find, find_str, keys_distinct};
+use vecmap_base::{Equivalent, find_equivalent, keys_distinct};
 
 impl<K, V> VecMap<K, V> {
-    /// Whether a key equal to `key` is there. It takes at most as many comparisons as there are pairs.
-    pub fn contains_key(&self, key: &K) -> bool
+    /// Whether a key that `key` stands for is there. It takes at most as many comparisons as there are pairs.
+    pub fn contains_key<Q: Equivalent<K>>(&self, key: Q) -> bool
     where
         K: Eq,
-        ensures { result ≡ is_some (index_of K.eq self.now.entries key.now) }
+        ensures { result ≡ is_some (index_by (Q.equivalent key) self.now.entries) }
     {
         self.get_index_of(key).is_some()
     }
@@ -34,13 +34,13 @@ impl<K, V> VecMap<K, V> {
         self.get_index(len - 1)
     }
 
-    /// The value of the first pair whose key is equal to `key`.
+    /// The value of the first pair whose key `key` stands for.
     ///
     /// It takes at most as many comparisons as there are pairs.
-    pub fn get(&self, key: &K) -> Option<&V>
+    pub fn get<Q: Equivalent<K>>(&self, key: Q) -> Option<&V>
     where
         K: Eq,
-        ensures { option_copied result ≡ lookup K.eq self.now.entries key.now }
+        ensures { option_copied result ≡ lookup_by (Q.equivalent key) self.now.entries }
     {
         let (_index, _key, value) = self.get_full(key)?;
         Some(value)
@@ -54,43 +54,43 @@ impl<K, V> VecMap<K, V> {
         Some((&pair.0, &pair.1))
     }
 
-    /// The place of the first pair whose key is equal to `key`, with the stored key and its value.
+    /// The place of the first pair whose key `key` stands for, with the stored key and its value.
     ///
     /// It takes at most as many comparisons as there are pairs.
-    pub fn get_full(&self, key: &K) -> Option<(usize, &K, &V)>
+    pub fn get_full<Q: Equivalent<K>>(&self, key: Q) -> Option<(usize, &K, &V)>
     where
         K: Eq,
-        ensures place { option_map (λ found. found.0) result ≡ index_of K.eq self.now.entries key.now }
+        ensures place { option_map (λ found. found.0) result ≡ index_by (Q.equivalent key) self.now.entries }
         ensures within { IfSome result (λ found. found.0 < length self.now.entries) }
-        ensures pair { option_map (λ found. (found.1.now, found.2.now)) result ≡ lookup_pair K.eq self.now.entries key.now }
+        ensures pair { option_map (λ found. (found.1.now, found.2.now)) result ≡ lookup_pair_by (Q.equivalent key) self.now.entries }
     {
         let index = self.get_index_of(key)?;
         let pair = &self.pairs[index];
         Some((index, &pair.0, &pair.1))
     }
 
-    /// The first pair whose key is equal to `key`, with the stored key.
+    /// The first pair whose key `key` stands for, with the stored key.
     ///
     /// It takes at most as many comparisons as there are pairs.
-    pub fn get_key_value(&self, key: &K) -> Option<(&K, &V)>
+    pub fn get_key_value<Q: Equivalent<K>>(&self, key: Q) -> Option<(&K, &V)>
     where
         K: Eq,
-        ensures { option_map deref_pair result ≡ lookup_pair K.eq self.now.entries key.now }
+        ensures { option_map deref_pair result ≡ lookup_pair_by (Q.equivalent key) self.now.entries }
     {
         let (_index, stored, value) = self.get_full(key)?;
         Some((stored, value))
     }
 
-    /// The place of the first pair whose key is equal to `key`.
+    /// The place of the first pair whose key `key` stands for.
     ///
     /// It takes at most as many comparisons as there are pairs.
-    pub fn get_index_of(&self, key: &K) -> Option<usize>
+    pub fn get_index_of<Q: Equivalent<K>>(&self, key: Q) -> Option<usize>
     where
         K: Eq,
-        ensures place { result ≡ index_of K.eq self.now.entries key.now }
+        ensures place { result ≡ index_by (Q.equivalent key) self.now.entries }
         ensures within { IfSome result (λ i. i < length self.now.entries) }
     {
-        find(&self.pairs, key)
+        find_equivalent(&self.pairs, key)
     }
 
     /// Whether no two keys are equal, after at most n(n-1)/2 comparisons for n pairs. It takes no memory.
@@ -108,15 +108,14 @@ impl<V> VecMap<String, V> {
     pub fn contains_key_str(&self, key: &str) -> bool
         ensures { result ≡ is_some (index_by (has_text key.now) self.now.entries) }
     {
-        self.get_index_of_str(key).is_some()
+        self.contains_key(key)
     }
 
     /// As `get`, by the bytes of a text, at the same cost. It takes no memory.
     pub fn get_str(&self, key: &str) -> Option<&V>
         ensures { option_copied result ≡ lookup_by (has_text key.now) self.now.entries }
     {
-        let index = self.get_index_of_str(key)?;
-        Some(&self.pairs[index].1)
+        self.get(key)
     }
 
     /// As `get_index_of`, by the bytes of a text, at the same cost. It takes no memory.
@@ -124,6 +123,6 @@ impl<V> VecMap<String, V> {
         ensures place { result ≡ index_by (has_text key.now) self.now.entries }
         ensures within { IfSome result (λ i. i < length self.now.entries) }
     {
-        find_str(&self.pairs, key)
+        self.get_index_of(key)
     }
 }

@@ -5,12 +5,12 @@ ghost use Rattle.std.specs.Map.{keys_of};
 ghost use Rattle.std.specs.Map.Iter.{ShowsInOrder, ShowsInReverse};
 ghost use Rattle.vecmap_base.specs.Asked.{CallableOnEach, CallsAtPairMut, TakesPairMut};
 ghost use Rattle.vecmap_base.specs.Kept.{Kept};
-ghost use Rattle.vecmap_base.specs.Pairs.{index_of, lookup_pair};
+ghost use Rattle.vecmap_base.specs.Pairs.{index_by, lookup_pair_by};
 ghost use Rattle.vecmap_base.specs.Walks.{deref_both_mut, deref_mut};
 ghost use Rattle.vecmap_map.specs.Lends.{lends_parts};
 
 use crate::VecMap;
-use vecmap_base::{IterMut2, KeysMut, retain_pairs_mut};
+use vecmap_base::{Equivalent, IterMut2, KeysMut, retain_pairs_mut};
 
 mod sealed {
     pub trait Sealed {}
@@ -29,12 +29,12 @@ pub trait MutableKeys: sealed::Sealed {
     // The pairs that a value has, from front to back.
     ghost pairs: { Self → List (Self.Key × Self.Value) };
 
-    /// The place of the first pair whose key is equal to `key`, with the stored key and the value, both to write.
+    /// The place of the first pair whose key `key` stands for, with the stored key and the value, both to write.
     ///
     /// It takes at most as many comparisons as there are pairs.
-    fn get_full_mut2(
+    fn get_full_mut2<Q: Equivalent<Self::Key>>(
         &mut self,
-        key: &Self::Key,
+        key: Q,
     ) -> Option<(usize, &mut Self::Key, &mut Self::Value)>
     where
         Self::Key: Eq;
@@ -75,15 +75,15 @@ impl<K, V> MutableKeys for VecMap<K, V> {
 
     ghost use Rattle.vecmap_map.specs.Lends.{lends_both_at, lends_both_beside_place};
 
-    fn get_full_mut2(&mut self, key: &K) -> Option<(usize, &mut K, &mut V)>
+    fn get_full_mut2<Q: Equivalent<K>>(&mut self, key: Q) -> Option<(usize, &mut K, &mut V)>
     where
         K: Eq,
-        ensures* writes_back { sem 𝓛 (lends_both_beside_place K.row V.row self.entry K.eq key.now result) }
-        ensures place { option_map (λ found. found.0) result ≡ index_of K.eq self.old.entries key.now }
+        ensures* writes_back { sem 𝓛 (lends_both_beside_place K.row V.row self.entry (Q.equivalent key) result) }
+        ensures place { option_map (λ found. found.0) result ≡ index_by (Q.equivalent key) self.old.entries }
         ensures within { IfSome result (λ found. found.0 < length self.old.entries) }
-        ensures pair { option_map (λ found. (found.1.now, found.2.now)) result ≡ lookup_pair K.eq self.old.entries key.now }
+        ensures pair { option_map (λ found. (found.1.now, found.2.now)) result ≡ lookup_pair_by (Q.equivalent key) self.old.entries }
     {
-        let (place, map) = self.with_place_of(key);
+        let (place, map) = self.with_place_by(key);
         match place {
             Some(index) => {
                 let (key, value) = parts_mut(map.whole_mut(index));

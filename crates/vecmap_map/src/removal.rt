@@ -6,7 +6,7 @@ ghost use Rattle.vecmap_base.specs.Drain.{KeepsAlong};
 ghost use Rattle.vecmap_base.specs.Items.{swap_without};
 ghost use Rattle.vecmap_base.specs.Asked.{CallableOnEach, CallsAtPair, TakesPairAt};
 ghost use Rattle.vecmap_base.specs.Kept.{Kept};
-ghost use Rattle.vecmap_base.specs.Pairs.{has_text, lookup, lookup_by, lookup_pair, swap_without_key, without_by, without_key};
+ghost use Rattle.vecmap_base.specs.Pairs.{has_text, lookup_by, lookup_pair_by, swap_without_by, without_by};
 ghost use Rattle.vecmap_base.specs.Ranges.{AreEndsWithin, IsRangeWithin, items_between, without_between};
 ghost use Rattle.vecmap_map.specs.Drain.{DrainKeeps, DrainNext, DrainNextBack, drain_capacity, drain_kept, drain_lender, drain_rest};
 
@@ -15,7 +15,7 @@ use crate::drain::Drain;
 use std::alloc::AllocError;
 use std::ops::RangeBounds;
 use std::slice;
-use vecmap_base::{find, find_str, move_range_last, retain_pairs, reverse_from};
+use vecmap_base::{Equivalent, find_equivalent, move_range_last, retain_pairs, reverse_from};
 
 impl<K, V> VecMap<K, V> {
     /// Drops all pairs, and compares and moves none. The capacity stays.
@@ -113,15 +113,15 @@ impl<K, V> VecMap<K, V> {
         self.pairs.pop()
     }
 
-    /// Takes out the first pair whose key is equal to `key`, and answers its value.
+    /// Takes out the first pair whose key `key` stands for, and answers its value.
     ///
     /// What follows moves up by one place: beside at most as many comparisons as there are pairs this takes as many moves
-    /// as there are pairs after it. Where no key is equal nothing changes.
-    pub fn remove(&mut self, key: &K) -> Option<V>
+    /// as there are pairs after it. Where it stands for none nothing changes.
+    pub fn remove<Q: Equivalent<K>>(&mut self, key: Q) -> Option<V>
     where
         K: Eq + Drop,
-        ensures value { result ≡ lookup K.eq self.old.entries key.now }
-        ensures entries { self.new.entries ≡ without_key K.eq self.old.entries key.now }
+        ensures value { result ≡ lookup_by (Q.equivalent key) self.old.entries }
+        ensures entries { self.new.entries ≡ without_by (Q.equivalent key) self.old.entries }
         ensures capacity { self.new.capacity ≡ self.old.capacity }
     {
         let (_key, value) = self.remove_entry(key)?;
@@ -129,14 +129,14 @@ impl<K, V> VecMap<K, V> {
     }
 
     /// As `remove`, at the same cost, and answers the stored pair.
-    pub fn remove_entry(&mut self, key: &K) -> Option<(K, V)>
+    pub fn remove_entry<Q: Equivalent<K>>(&mut self, key: Q) -> Option<(K, V)>
     where
         K: Eq,
-        ensures pair { result ≡ lookup_pair K.eq self.old.entries key.now }
-        ensures entries { self.new.entries ≡ without_key K.eq self.old.entries key.now }
+        ensures pair { result ≡ lookup_pair_by (Q.equivalent key) self.old.entries }
+        ensures entries { self.new.entries ≡ without_by (Q.equivalent key) self.old.entries }
         ensures capacity { self.new.capacity ≡ self.old.capacity }
     {
-        let index = find(&self.pairs, key)?;
+        let index = find_equivalent(&self.pairs, key)?;
         Some(self.pairs.remove(index))
     }
 
@@ -151,15 +151,15 @@ impl<K, V> VecMap<K, V> {
         self.pairs.remove(index)
     }
 
-    /// Takes out the first pair whose key is equal to `key`, and answers its value.
+    /// Takes out the first pair whose key `key` stands for, and answers its value.
     ///
     /// The last pair takes its place: beside at most as many comparisons as there are pairs this takes one move. Where no
     /// key is equal nothing changes.
-    pub fn swap_remove(&mut self, key: &K) -> Option<V>
+    pub fn swap_remove<Q: Equivalent<K>>(&mut self, key: Q) -> Option<V>
     where
         K: Eq + Drop,
-        ensures value { result ≡ lookup K.eq self.old.entries key.now }
-        ensures entries { self.new.entries ≡ swap_without_key K.eq self.old.entries key.now }
+        ensures value { result ≡ lookup_by (Q.equivalent key) self.old.entries }
+        ensures entries { self.new.entries ≡ swap_without_by (Q.equivalent key) self.old.entries }
         ensures capacity { self.new.capacity ≡ self.old.capacity }
     {
         let (_key, value) = self.swap_remove_entry(key)?;
@@ -167,14 +167,14 @@ impl<K, V> VecMap<K, V> {
     }
 
     /// As `swap_remove`, at the same cost, and answers the stored pair.
-    pub fn swap_remove_entry(&mut self, key: &K) -> Option<(K, V)>
+    pub fn swap_remove_entry<Q: Equivalent<K>>(&mut self, key: Q) -> Option<(K, V)>
     where
         K: Eq,
-        ensures pair { result ≡ lookup_pair K.eq self.old.entries key.now }
-        ensures entries { self.new.entries ≡ swap_without_key K.eq self.old.entries key.now }
+        ensures pair { result ≡ lookup_pair_by (Q.equivalent key) self.old.entries }
+        ensures entries { self.new.entries ≡ swap_without_by (Q.equivalent key) self.old.entries }
         ensures capacity { self.new.capacity ≡ self.old.capacity }
     {
-        let index = find(&self.pairs, key)?;
+        let index = find_equivalent(&self.pairs, key)?;
         Some(self.pairs.swap_remove(index))
     }
 
@@ -229,8 +229,6 @@ impl<V> VecMap<String, V> {
         ensures entries { self.new.entries ≡ without_by (has_text key.now) self.old.entries }
         ensures capacity { self.new.capacity ≡ self.old.capacity }
     {
-        let index = find_str(&self.pairs, key)?;
-        let (_key, value) = self.pairs.remove(index);
-        Some(value)
+        self.remove(key)
     }
 }

@@ -27,9 +27,9 @@ use denote.Struct.Parts.{shape_of, PartsBack, Struct-parts}
 use denote.Builtin.{usize}
 use denote.Plain.{uint_Makes, uint_vals}
 use denote.Laws.{Is}
-use Rattle.vecmap_base.specs.Pairs.{index_of}
+use Rattle.vecmap_base.specs.Pairs.{index_by}
 use Rattle.std.specs.Option.{option_map_or}
-use Rattle.vecmap_map.specs.Contents.{Contents, with_pair_at, with_pair_of}
+use Rattle.vecmap_map.specs.Contents.{Contents, with_pair_at, with_pair_by}
 use Rattle.vecmap_map.specs.Lends.{lends_parts, lends_whole_at, lends_whole_if_at, lends_both_at, lends_both_beside_place}
 use Rattle.vecmap_map.specs.contracts.VecMap.{the_row}
 
@@ -129,20 +129,20 @@ module _ {M : Type 1} {𝓤 : Ura M} (𝓛 : Logic 𝓤) (K V : RattleType) (m :
   unfolding follows_by both_if_by
   nothing_both = id⊢ 𝓤 _
 
-module _ {M : Type 1} {𝓤 : Ura M} (𝓛 : Logic 𝓤) (K V : RattleType) (m : MutBor (Contents K.Denot V.Denot)) (eq : K.Denot → K.Denot → Bool) (k : K.Denot) where
-  -- what is lent at the place of the key is lent at the key
-  pub both_place_then : (i : ℕ) (p : MutBor (K.Denot × V.Denot)) (r : MutBor K.Denot × MutBor V.Denot) → Some i ≡ index_of eq m.now.entries k
-      → ent 𝓤 (sep 𝓤 (sem 𝓛 (lends_whole_at K V m i p)) (sem 𝓛 (lends_parts K V p r))) (sem 𝓛 (lends_both_beside_place K V m eq k (Some (i, r.0, r.1))))
+module _ {M : Type 1} {𝓤 : Ura M} (𝓛 : Logic 𝓤) (K V : RattleType) (m : MutBor (Contents K.Denot V.Denot)) (test : K.Denot → Bool) where
+  -- what is lent at the first place that passes the test is lent by the test
+  pub both_place_then : (i : ℕ) (p : MutBor (K.Denot × V.Denot)) (r : MutBor K.Denot × MutBor V.Denot) → Some i ≡ index_by test m.now.entries
+      → ent 𝓤 (sep 𝓤 (sem 𝓛 (lends_whole_at K V m i p)) (sem 𝓛 (lends_parts K V p r))) (sem 𝓛 (lends_both_beside_place K V m test (Some (i, r.0, r.1))))
   unfolding both_if_by
   both_place_then i p r at =
       let F : K.Denot → V.Denot → Contents K.Denot V.Denot = λ key v. with_pair_at m.now i (key, v) in
-      let same : F ≡ (λ key v. with_pair_of eq m.now k (key, v)) = λ j key v. option_map_or (λ n. with_pair_at m.now n (key, v)) (at j) m.now in
+      let same : F ≡ (λ key v. with_pair_by test m.now (key, v)) = λ j key v. option_map_or (λ n. with_pair_at m.now n (key, v)) (at j) m.now in
       qed 𝓛 (‵ (lends_whole_at K V m i p) ∷ ‵ (lends_parts K V p r) ∷ []) ∵
       use2 𝓛 (‵ (follows_both (the_row K V) K V m.ghost_name r.0.ghost_name r.1.ghost_name F)) (parts_then 𝓛 K V m i p r) $
       rewrite ! 0 (λ (f : K.Denot → V.Denot → Contents K.Denot V.Denot). ‵ (follows_both (the_row K V) K V m.ghost_name r.0.ghost_name r.1.ghost_name f)) same refl $ done !
 
   -- a map that was not lent stays
-  pub stays_unlent : ent 𝓤 (𝓛.A.res m.ghost_name ((the_row K V).coded.code m.now)) (sem 𝓛 (lends_both_beside_place K V m eq k None))
+  pub stays_unlent : ent 𝓤 (𝓛.A.res m.ghost_name ((the_row K V).coded.code m.now)) (sem 𝓛 (lends_both_beside_place K V m test None))
   unfolding both_if_by
   stays_unlent = id⊢ 𝓤 _
 

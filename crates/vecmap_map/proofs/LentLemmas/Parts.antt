@@ -26,8 +26,8 @@ use denote.Struct.Tuple.{Tuple}
 use Rattle.std.specs.Borrow.{Bor}
 use Rattle.std.specs.contracts.option.Option as OP
 use Rattle.std.specs.Option.{option_map_or}
-use Rattle.vecmap_base.specs.Pairs.{index_of, with_value}
-use Rattle.vecmap_map.specs.Contents.{Contents, with_entries, with_value_at, with_value_of}
+use Rattle.vecmap_base.specs.Pairs.{index_by, with_value}
+use Rattle.vecmap_map.specs.Contents.{Contents, with_entries, with_value_at, with_value_by}
 use Rattle.vecmap_map.specs.Lends.{lends_beside_key, lends_beside_place, lends_value, lends_value_at, lends_whole_if_at}
 use Rattle.vecmap_map.specs.contracts.VecMap.{the_row}
 
@@ -148,16 +148,16 @@ module _ {M : Type 1} {𝓤 : Ura M} (𝓛 : Logic 𝓤) (K V : RattleType) (m :
   unfolding follows_by
   nothing_then = id⊢ 𝓤 _
 
-module _ {M : Type 1} {𝓤 : Ura M} (𝓛 : Logic 𝓤) (K V : RattleType) (m : MutBor (Contents K.Denot V.Denot)) (eq : K.Denot → K.Denot → Bool) (k : K.Denot) where
-  -- what is lent at the place of the key is lent at the key
-  pub place_then : (i : ℕ) (r : ℕ × Bor K.Denot × MutBor V.Denot) → Some i ≡ index_of eq m.now.entries k
-      → ent 𝓤 (sem 𝓛 (lends_value_at K V m i r.2)) (sem 𝓛 (lends_beside_place K V m eq k (Some r)))
+module _ {M : Type 1} {𝓤 : Ura M} (𝓛 : Logic 𝓤) (K V : RattleType) (m : MutBor (Contents K.Denot V.Denot)) (test : K.Denot → Bool) where
+  -- what is lent at the first place that passes the test is lent by the test
+  pub place_then : (i : ℕ) (r : ℕ × Bor K.Denot × MutBor V.Denot) → Some i ≡ index_by test m.now.entries
+      → ent 𝓤 (sem 𝓛 (lends_value_at K V m i r.2)) (sem 𝓛 (lends_beside_place K V m test (Some r)))
   unfolding follows_by
   place_then i r at =
-      let same : with_value_at m.now i ≡ with_value_of eq m.now k = λ j v. option_map_or (λ n. with_value_at m.now n v) (at j) m.now in
+      let same : with_value_at m.now i ≡ with_value_by test m.now = λ j v. option_map_or (λ n. with_value_at m.now n v) (at j) m.now in
       qed 𝓛 (‵ (lends_value_at K V m i r.2) ∷ []) ∵ rewrite ! 0 (λ (f : V.Denot → Contents K.Denot V.Denot). ‵ (follows (the_row K V) V m.ghost_name r.2.ghost_name f)) same refl $ done !
 
   -- a map that was not lent stays
-  pub stays_at_none : ent 𝓤 (𝓛.A.res m.ghost_name ((the_row K V).coded.code m.now)) (sem 𝓛 (lends_beside_place K V m eq k None))
+  pub stays_at_none : ent 𝓤 (𝓛.A.res m.ghost_name ((the_row K V).coded.code m.now)) (sem 𝓛 (lends_beside_place K V m test None))
   unfolding follows_by
   stays_at_none = id⊢ 𝓤 _
