@@ -5,6 +5,7 @@ ghost use Rattle.std.specs.Arc.{arc_str_bytes};
 ghost use Rattle.std.specs.Box.{boxed_slice_items, boxed_str_bytes};
 ghost use Rattle.std.specs.Cmp.Lexicographic.{lists_equiv, nat_list_eq_equiv, pointwise};
 ghost use Rattle.std.specs.Cow.{cow_str_bytes};
+ghost use Rattle.std.specs.List.{list_any};
 ghost use Rattle.std.specs.Rc.{rc_str_bytes};
 ghost use Rattle.vecmap_base.specs.Pairs.{has_text, index_by};
 
@@ -153,4 +154,11 @@ pub fn find_item_equivalent<T: Eq, Q: Equivalent<T>>(items: &[T], query: Q) -> O
     ensures within { IfSome result (λ i. i < length items.now) }
 {
     items.iter().position(|item| query.equivalent(item))
+}
+
+/// Whether the query stands for one of `items`, after at most as many questions to it as there are elements.
+pub fn is_in_equivalent<T: Eq, Q: Equivalent<T>>(items: &[T], query: Q) -> bool
+    ensures { result ≡ list_any (Q.equivalent query) items.now }
+{
+    items.iter().any(|item| query.equivalent(item))
 }

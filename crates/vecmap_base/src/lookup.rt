@@ -1,10 +1,9 @@
 //! The first equal place of a list, and whether there is one.
 ghost use Rattle.std.specs.Prelude.{◌≡◌, ◌<◌, IfSome, length, position};
-ghost use Rattle.std.specs.List.{list_any};
 ghost use Rattle.vecmap_base.specs.Items.{has_item, item_index};
 ghost use Rattle.vecmap_base.specs.Pairs.{has_text, index_by, index_of};
 
-use crate::equivalent::{find_equivalent, find_item_equivalent};
+use crate::equivalent::{find_equivalent, find_item_equivalent, is_in_equivalent};
 
 /// The first place whose key is equal to `key`, after at most as many comparisons as there are pairs.
 pub fn find<K: Eq, V>(pairs: &[(K, V)], key: &K) -> Option<usize>
@@ -44,13 +43,5 @@ pub fn find_item_str(items: &[String], text: &str) -> Option<usize>
 pub fn is_in<T: Eq>(items: &[T], item: &T) -> bool
     ensures { result ≡ has_item T.eq items.now item.now }
 {
-    items.iter().any(|stored| *item == *stored)
-}
-
-/// Whether one of `items` has the bytes of `text`, after at most as many comparisons as there are elements. It takes no
-/// memory.
-pub fn is_in_str(items: &[String], text: &str) -> bool
-    ensures { result ≡ list_any (has_text text.now) items.now }
-{
-    items.iter().any(|item| item.as_str() == text)
+    is_in_equivalent(items, item)
 }

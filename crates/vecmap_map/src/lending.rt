@@ -120,7 +120,10 @@ impl<K, V> VecMap<K, V> {
     }
 
     // The first place whose key `key` stands for, and the map itself.
-    pub(crate) fn with_place_by<Q: Equivalent<K>>(&mut self, key: Q) -> (Option<usize>, &mut VecMap<K, V>)
+    pub(crate) fn with_place_by<Q: Equivalent<K>>(
+        &mut self,
+        key: Q,
+    ) -> (Option<usize>, &mut VecMap<K, V>)
     where
         K: Eq,
         ensures place { result.0 ≡ index_by (Q.equivalent key) self.old.entries }

@@ -2,20 +2,20 @@
 //!
 //! A lookup by element compares it with one stored element after another, up to the first that is equal: at most as many
 //! comparisons as there are elements. A lookup by place takes none.
-ghost use Rattle.std.specs.Prelude.{◌≡◌, ◌-◌, ◌<◌, IfSome, length, option_copied, option_map, slice_get};
+ghost use Rattle.std.specs.Prelude.{◌≡◌, ◌-◌, ◌<◌, IfSome, length, option_copied, option_map, position, slice_get};
 ghost use Rattle.std.specs.List.{list_any};
-ghost use Rattle.vecmap_base.specs.Items.{has_item, item_index, stored_item};
+ghost use Rattle.vecmap_base.specs.Items.{stored_first};
 ghost use Rattle.vecmap_base.specs.Pairs.{has_text};
 
 use crate::VecSet;
-use vecmap_base::{find_item, is_in, is_in_str};
+use vecmap_base::{Equivalent, find_item_equivalent, is_in_equivalent};
 
 impl<T: Eq> VecSet<T> {
-    /// Whether an element equal to `item` is there, after at most as many comparisons as there are elements.
-    pub fn contains(&self, item: &T) -> bool
-        ensures { result ≡ has_item T.eq self.now.elements item.now }
+    /// Whether an element that `item` stands for is there, after at most as many comparisons as there are elements.
+    pub fn contains<Q: Equivalent<T>>(&self, item: Q) -> bool
+        ensures { result ≡ list_any (Q.equivalent item) self.now.elements }
     {
-        is_in(&self.items, item)
+        is_in_equivalent(&self.items, item)
     }
 
     /// The first element, with no comparison.
@@ -32,11 +32,11 @@ impl<T: Eq> VecSet<T> {
         self.items.last()
     }
 
-    /// The stored element that is equal to `item`, after at most as many comparisons as there are elements.
-    pub fn get(&self, item: &T) -> Option<&T>
-        ensures { option_copied result ≡ stored_item T.eq self.now.elements item.now }
+    /// The stored element that `item` stands for, after at most as many comparisons as there are elements.
+    pub fn get<Q: Equivalent<T>>(&self, item: Q) -> Option<&T>
+        ensures { option_copied result ≡ stored_first (Q.equivalent item) self.now.elements }
     {
-        let index = find_item(&self.items, item)?;
+        let index = find_item_equivalent(&self.items, item)?;
         Some(&self.items[index])
     }
 
@@ -47,31 +47,31 @@ impl<T: Eq> VecSet<T> {
         self.items.get(index)
     }
 
-    /// The place of the element that is equal to `item`, with the stored element, after at most as many comparisons as
+    /// The place of the element that `item` stands for, with the stored element, after at most as many comparisons as
     /// there are elements.
-    pub fn get_full(&self, item: &T) -> Option<(usize, &T)>
-        ensures place { option_map (λ found. found.0) result ≡ item_index T.eq self.now.elements item.now }
+    pub fn get_full<Q: Equivalent<T>>(&self, item: Q) -> Option<(usize, &T)>
+        ensures place { option_map (λ found. found.0) result ≡ position (Q.equivalent item) self.now.elements }
         ensures within { IfSome result (λ found. found.0 < length self.now.elements) }
-        ensures element { option_map (λ found. found.1.now) result ≡ stored_item T.eq self.now.elements item.now }
+        ensures element { option_map (λ found. found.1.now) result ≡ stored_first (Q.equivalent item) self.now.elements }
     {
-        let index = find_item(&self.items, item)?;
+        let index = find_item_equivalent(&self.items, item)?;
         Some((index, &self.items[index]))
     }
 
-    /// The place of the element that is equal to `item`, after at most as many comparisons as there are elements.
-    pub fn get_index_of(&self, item: &T) -> Option<usize>
-        ensures place { result ≡ item_index T.eq self.now.elements item.now }
+    /// The place of the element that `item` stands for, after at most as many comparisons as there are elements.
+    pub fn get_index_of<Q: Equivalent<T>>(&self, item: Q) -> Option<usize>
+        ensures place { result ≡ position (Q.equivalent item) self.now.elements }
         ensures within { IfSome result (λ i. i < length self.now.elements) }
     {
-        find_item(&self.items, item)
+        find_item_equivalent(&self.items, item)
     }
 }
 
 impl VecSet<String> {
-    /// As `contains`, by the bytes of a text. It takes no memory. In Rust it is `contains` at a `&str`.
+    /// As `contains`, by the bytes of a text. It takes no memory.
     pub fn contains_str(&self, item: &str) -> bool
         ensures { result ≡ list_any (has_text item.now) self.now.elements }
     {
-        is_in_str(&self.items, item)
+        self.contains(item)
     }
 }

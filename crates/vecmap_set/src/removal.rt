@@ -4,7 +4,7 @@ ghost use Rattle.std.specs.Fn.{TakesAt};
 ghost use Rattle.std.specs.Iterator.Runs.{YieldsInOrder, YieldsInReverse};
 ghost use Rattle.std.specs.List.{IsDistinct, list_any, remove_range};
 ghost use Rattle.vecmap_base.specs.Drain.{KeepsAlong};
-ghost use Rattle.vecmap_base.specs.Items.{has_item, stored_item, swap_without, swap_without_item, without_first, without_item};
+ghost use Rattle.vecmap_base.specs.Items.{stored_first, swap_without, swap_without_first, without_first};
 ghost use Rattle.vecmap_base.specs.Asked.{CallableOnEach, CallsAtItem};
 ghost use Rattle.vecmap_base.specs.Kept.{Kept};
 ghost use Rattle.vecmap_base.specs.Pairs.{has_text};
@@ -16,7 +16,7 @@ use crate::drain::Drain;
 use std::alloc::AllocError;
 use std::ops::RangeBounds;
 use std::slice;
-use vecmap_base::{find_item, find_item_str, move_range_last, retain_items, reverse_from};
+use vecmap_base::{Equivalent, find_item_equivalent, move_range_last, retain_items, reverse_from};
 
 impl<T: Eq> VecSet<T> {
     /// Drops all elements, one after another. The capacity stays.
@@ -119,16 +119,16 @@ impl<T: Eq> VecSet<T> {
         self.items.pop()
     }
 
-    /// Takes out the element that is equal to `item`, and answers whether there was one.
+    /// Takes out the element that `item` stands for, and answers whether there was one.
     ///
     /// What follows moves up by one place, so beside the lookup, of at most as many comparisons as there are elements,
-    /// this takes as many moves as there are elements after it. Where none is equal nothing changes.
+    /// this takes as many moves as there are elements after it. Where there is none nothing changes.
     #[tactic(auto, using(vecmap_base::proofs::PlaceLemmas::list_any_stored))]
-    pub fn remove(&mut self, item: &T) -> bool
+    pub fn remove<Q: Equivalent<T>>(&mut self, item: Q) -> bool
     where
         T: Drop,
-        ensures found { result ≡ has_item T.eq self.old.elements item.now }
-        ensures elements { self.new.elements ≡ without_item T.eq self.old.elements item.now }
+        ensures found { result ≡ list_any (Q.equivalent item) self.old.elements }
+        ensures elements { self.new.elements ≡ without_first (Q.equivalent item) self.old.elements }
         ensures distinct { IsDistinct T.eq self.new.elements }
         ensures capacity { self.new.capacity ≡ self.old.capacity }
     {
@@ -148,16 +148,16 @@ impl<T: Eq> VecSet<T> {
         self.items.remove(index)
     }
 
-    /// Takes out the element that is equal to `item`, and answers whether there was one.
+    /// Takes out the element that `item` stands for, and answers whether there was one.
     ///
     /// The last element takes its place, so beside the lookup, of at most as many comparisons as there are elements, this
-    /// takes one move. Where none is equal nothing changes.
+    /// takes one move. Where there is none nothing changes.
     #[tactic(auto, using(vecmap_base::proofs::PlaceLemmas::list_any_stored))]
-    pub fn swap_remove(&mut self, item: &T) -> bool
+    pub fn swap_remove<Q: Equivalent<T>>(&mut self, item: Q) -> bool
     where
         T: Drop,
-        ensures found { result ≡ has_item T.eq self.old.elements item.now }
-        ensures elements { self.new.elements ≡ swap_without_item T.eq self.old.elements item.now }
+        ensures found { result ≡ list_any (Q.equivalent item) self.old.elements }
+        ensures elements { self.new.elements ≡ swap_without_first (Q.equivalent item) self.old.elements }
         ensures distinct { IsDistinct T.eq self.new.elements }
         ensures capacity { self.new.capacity ≡ self.old.capacity }
     {
@@ -177,24 +177,24 @@ impl<T: Eq> VecSet<T> {
     }
 
     /// As `remove`, and answers the stored element.
-    pub fn take(&mut self, item: &T) -> Option<T>
-        ensures element { result ≡ stored_item T.eq self.old.elements item.now }
-        ensures elements { self.new.elements ≡ without_item T.eq self.old.elements item.now }
+    pub fn take<Q: Equivalent<T>>(&mut self, item: Q) -> Option<T>
+        ensures element { result ≡ stored_first (Q.equivalent item) self.old.elements }
+        ensures elements { self.new.elements ≡ without_first (Q.equivalent item) self.old.elements }
         ensures distinct { IsDistinct T.eq self.new.elements }
         ensures capacity { self.new.capacity ≡ self.old.capacity }
     {
-        let index = find_item(&self.items, item)?;
+        let index = find_item_equivalent(&self.items, item)?;
         Some(self.remove_index(index))
     }
 
     /// As `swap_remove`, and answers the stored element.
-    pub fn swap_take(&mut self, item: &T) -> Option<T>
-        ensures element { result ≡ stored_item T.eq self.old.elements item.now }
-        ensures elements { self.new.elements ≡ swap_without_item T.eq self.old.elements item.now }
+    pub fn swap_take<Q: Equivalent<T>>(&mut self, item: Q) -> Option<T>
+        ensures element { result ≡ stored_first (Q.equivalent item) self.old.elements }
+        ensures elements { self.new.elements ≡ swap_without_first (Q.equivalent item) self.old.elements }
         ensures distinct { IsDistinct T.eq self.new.elements }
         ensures capacity { self.new.capacity ≡ self.old.capacity }
     {
-        let index = find_item(&self.items, item)?;
+        let index = find_item_equivalent(&self.items, item)?;
         Some(self.swap_remove_index(index))
     }
 }
@@ -235,18 +235,13 @@ impl<T: Eq> VecSet<T> {
 }
 
 impl VecSet<String> {
-    /// As `remove`, by the bytes of a text. It takes no memory. In Rust it is `remove` at a `&str`.
-    #[tactic(auto, using(vecmap_base::proofs::PlaceLemmas::list_any_position))]
+    /// As `remove`, by the bytes of a text. It takes no memory.
     pub fn remove_str(&mut self, item: &str) -> bool
         ensures found { result ≡ list_any (has_text item.now) self.old.elements }
         ensures elements { self.new.elements ≡ without_first (has_text item.now) self.old.elements }
         ensures distinct { IsDistinct ⟦<String as PartialEq>⟧.eq self.new.elements }
         ensures capacity { self.new.capacity ≡ self.old.capacity }
     {
-        if let Some(index) = find_item_str(&self.items, item) {
-            self.remove_index(index);
-            return true;
-        }
-        false
+        self.remove(item)
     }
 }
