@@ -8,6 +8,6 @@ pub mod set;
 
 pub use map_run::{MapCommand, MapReply, run};
 pub use std::collections::TryReserveError;
-pub use vecmap_base::{Refused, items_distinct, keys_distinct};
+pub use vecmap_base::{Equivalent, Refused, items_distinct, keys_distinct};
 pub use vecmap_map::VecMap;
 pub use vecmap_set::VecSet;

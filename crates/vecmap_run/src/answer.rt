@@ -1,6 +1,6 @@
 //! What a command is answered.
 ghost use Rattle.std.specs.Prelude.{◌≡◌, IfOk, List, OnErr, OnOk, Some, option_copied, string_eq, unwrap_or, ℕ};
-ghost use Rattle.vecmap.specs.Pairs.{has_text, lookup, lookup_by, put, swap_without_by};
+ghost use Rattle.vecmap.specs.Pairs.{lookup, put};
 ghost use Rattle.vecmap_run.specs.Lines.{within_limit};
 ghost use Rattle.vecmap_run.specs.Service.{MayAnswer};
 ghost use Rattle.vecmap_run.specs.Steps.{Inserts, InsertsAt, OrInserts, Step};
@@ -52,10 +52,10 @@ fn act(alloc: Global, map: &mut VecMap<String, i64>, command: Command<'_>) -> An
         Command::Insert(key, value) => insert(alloc, map, key, value),
         Command::InsertAt(index, key, value) => insert_at(alloc, map, index, key, value),
         Command::OrInsert(key, value) => or_insert(alloc, map, key, value),
-        Command::Get(key) => Answer::Value(map.get_str(key).copied()),
-        Command::IndexOf(key) => Answer::Place(map.get_index_of_str(key)),
-        Command::Remove(key) => Answer::Value(map.remove_str(key)),
-        Command::SwapRemove(key) => Answer::Value(swap_remove(map, key)),
+        Command::Get(key) => Answer::Value(map.get(key).copied()),
+        Command::IndexOf(key) => Answer::Place(map.get_index_of(key)),
+        Command::Remove(key) => Answer::Value(map.remove(key)),
+        Command::SwapRemove(key) => Answer::Value(map.swap_remove(key)),
         Command::Len => Answer::Number(map.len()),
         Command::List => Answer::Pairs,
     }
@@ -116,14 +116,4 @@ fn stand(map: &mut VecMap<String, i64>, key: String, value: i64) -> Result<Optio
         Ok(stands) => Ok(Some(*stands)),
         Err(_refused) => Err(AllocError),
     }
-}
-
-/// As `swap_remove`, by the bytes of a text. It takes no memory.
-fn swap_remove(map: &mut VecMap<String, i64>, key: &str) -> Option<i64>
-    ensures value { result ≡ lookup_by (has_text key.now) map.old.entries }
-    ensures entries { map.new.entries ≡ swap_without_by (has_text key.now) map.old.entries }
-{
-    let index = map.get_index_of_str(key)?;
-    let (_key, value) = map.swap_remove_index(index);
-    Some(value)
 }
