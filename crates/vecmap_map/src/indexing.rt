@@ -5,6 +5,20 @@ ghost use Rattle.vecmap_base.specs.Pairs.{has_text, index_by, index_of, lookup, 
 
 use crate::VecMap;
 use std::ops::{Index, IndexMut};
+use vecmap_base::Equivalent;
+
+impl<K, V> VecMap<K, V> {
+    // The first place whose key `query` stands for, which must be there.
+    fn place_of<Q: Equivalent<K>>(&self, query: Q) -> usize
+    where
+        K: Eq,
+        requires there { IsSome (index_by (Q.equivalent query) self.now.entries) }
+        ensures place { index_by (Q.equivalent query) self.now.entries ≡ Some result }
+        ensures within { result < length self.now.entries }
+    {
+        self.get_index_of(query).unwrap()
+    }
+}
 
 /// The value at a place, which must be below the number of pairs: `len` tells.
 impl<K, V> Index<usize> for VecMap<K, V> {
@@ -43,8 +57,7 @@ impl<'q, K: Eq, V> Index<&'q K> for VecMap<K, V> {
     ghost index_gives = { λ m k v. lookup K.eq m.entries k.now ≡ Some v };
 
     fn index(&self, key: &'q K) -> &V {
-        let place = self.get_index_of(key).unwrap();
-        &self.pairs[place].1
+        &self.pairs[self.place_of(key)].1
     }
 }
 
@@ -59,7 +72,7 @@ impl<'q, K: Eq, V> IndexMut<&'q K> for VecMap<K, V> {
         ensures* writes_back { sem 𝓛 (lends_value_of K.row V.row self.entry K.eq key.now result) }
         ensures value { lookup K.eq self.old.entries key.now ≡ Some result.now }
     {
-        let place = self.get_index_of(key).unwrap();
+        let place = self.place_of(key);
         self.value_mut(place)
     }
 }
@@ -75,8 +88,7 @@ impl<'q, V> Index<&'q str> for VecMap<String, V> {
     ghost index_gives = { λ m text v. lookup_by (has_text text.now) m.entries ≡ Some v };
 
     fn index(&self, text: &'q str) -> &V {
-        let place = self.get_index_of(text).unwrap();
-        &self.pairs[place].1
+        &self.pairs[self.place_of(text)].1
     }
 }
 
@@ -92,24 +104,23 @@ impl<'q, V> IndexMut<&'q str> for VecMap<String, V> {
         ensures* writes_back { sem 𝓛 (lends_value_by text_row V.row self.entry (has_text text.now) result) }
         ensures value { lookup_by (has_text text.now) self.old.entries ≡ Some result.now }
     {
-        let place = self.get_index_of(text).unwrap();
+        let place = self.place_of(text);
         self.value_mut(place)
     }
 }
 
-/// The value of the first pair whose key, a borrowed text, has the bytes of `text`. Such a key must be there:
+/// The value of the first pair whose key, a borrowed text, has the bytes of `query`. Such a key must be there:
 /// `contains_key` tells.
 ///
 /// It takes at most as many comparisons as there are pairs.
 impl<'q, 'k, V> Index<&'q str> for VecMap<&'k str, V> {
     type Output = V;
 
-    ghost can_index = { λ m text. IsSome (index_by (λ k. bytes_eq text.now k.now) m.entries) };
+    ghost can_index = { λ m query. IsSome (index_by (λ k. bytes_eq query.now k.now) m.entries) };
 
-    ghost index_gives = { λ m text v. lookup_by (λ k. bytes_eq text.now k.now) m.entries ≡ Some v };
+    ghost index_gives = { λ m query v. lookup_by (λ k. bytes_eq query.now k.now) m.entries ≡ Some v };
 
-    fn index(&self, text: &'q str) -> &V {
-        let place = self.get_index_of(text).unwrap();
-        &self.pairs[place].1
+    fn index(&self, query: &'q str) -> &V {
+        &self.pairs[self.place_of(query)].1
     }
 }

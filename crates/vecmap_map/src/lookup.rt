@@ -105,24 +105,24 @@ impl<K, V> VecMap<K, V> {
 
 impl<V> VecMap<String, V> {
     /// As `contains_key`, by the bytes of a text, at the same cost. It takes no memory.
-    pub fn contains_key_str(&self, key: &str) -> bool
-        ensures { result ≡ is_some (index_by (has_text key.now) self.now.entries) }
+    pub fn contains_key_str(&self, text: &str) -> bool
+        ensures { result ≡ is_some (index_by (has_text text.now) self.now.entries) }
     {
-        self.contains_key(key)
+        self.contains_key(text)
     }
 
     /// As `get`, by the bytes of a text, at the same cost. It takes no memory.
-    pub fn get_str(&self, key: &str) -> Option<&V>
-        ensures { option_copied result ≡ lookup_by (has_text key.now) self.now.entries }
+    pub fn get_str(&self, text: &str) -> Option<&V>
+        ensures { option_copied result ≡ lookup_by (has_text text.now) self.now.entries }
     {
-        self.get(key)
+        self.get(text)
     }
 
     /// As `get_index_of`, by the bytes of a text, at the same cost. It takes no memory.
-    pub fn get_index_of_str(&self, key: &str) -> Option<usize>
-        ensures place { result ≡ index_by (has_text key.now) self.now.entries }
+    pub fn get_index_of_str(&self, text: &str) -> Option<usize>
+        ensures place { result ≡ index_by (has_text text.now) self.now.entries }
         ensures within { IfSome result (λ i. i < length self.now.entries) }
     {
-        self.get_index_of(key)
+        self.get_index_of(text)
     }
 }

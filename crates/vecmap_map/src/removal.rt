@@ -224,11 +224,11 @@ impl<K, V> VecMap<K, V> {
 
 impl<V> VecMap<String, V> {
     /// As `remove`, by the bytes of a text, at the same cost. It takes no memory.
-    pub fn remove_str(&mut self, key: &str) -> Option<V>
-        ensures value { result ≡ lookup_by (has_text key.now) self.old.entries }
-        ensures entries { self.new.entries ≡ without_by (has_text key.now) self.old.entries }
+    pub fn remove_str(&mut self, text: &str) -> Option<V>
+        ensures value { result ≡ lookup_by (has_text text.now) self.old.entries }
+        ensures entries { self.new.entries ≡ without_by (has_text text.now) self.old.entries }
         ensures capacity { self.new.capacity ≡ self.old.capacity }
     {
-        self.remove(key)
+        self.remove(text)
     }
 }

@@ -69,9 +69,9 @@ impl<T: Eq> VecSet<T> {
 
 impl VecSet<String> {
     /// As `contains`, by the bytes of a text. It takes no memory.
-    pub fn contains_str(&self, item: &str) -> bool
-        ensures { result ≡ list_any (has_text item.now) self.now.elements }
+    pub fn contains_str(&self, text: &str) -> bool
+        ensures { result ≡ list_any (has_text text.now) self.now.elements }
     {
-        self.contains(item)
+        self.contains(text)
     }
 }

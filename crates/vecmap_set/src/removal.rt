@@ -236,12 +236,12 @@ impl<T: Eq> VecSet<T> {
 
 impl VecSet<String> {
     /// As `remove`, by the bytes of a text. It takes no memory.
-    pub fn remove_str(&mut self, item: &str) -> bool
-        ensures found { result ≡ list_any (has_text item.now) self.old.elements }
-        ensures elements { self.new.elements ≡ without_first (has_text item.now) self.old.elements }
+    pub fn remove_str(&mut self, text: &str) -> bool
+        ensures found { result ≡ list_any (has_text text.now) self.old.elements }
+        ensures elements { self.new.elements ≡ without_first (has_text text.now) self.old.elements }
         ensures distinct { IsDistinct ⟦<String as PartialEq>⟧.eq self.new.elements }
         ensures capacity { self.new.capacity ≡ self.old.capacity }
     {
-        self.remove(item)
+        self.remove(text)
     }
 }
