@@ -4,6 +4,7 @@
 pub mod bulk;
 pub mod entry;
 pub mod equality;
+pub mod equivalent;
 pub mod iteration;
 pub mod lazy;
 pub mod lending;

@@ -1,12 +1,14 @@
-//! What the tests of maps and sets begin with: keys that are equal and not identical, texts, keys that tell of their
-//! comparisons and drops, iterators with a hint of their own, maps and sets of these, and comparisons of whole lists and
-//! of pulls from both ends.
+//! What the tests of maps and sets begin with: keys that are equal and not identical, a query that is no key, texts, keys
+//! that tell of their comparisons and drops, iterators with a hint of their own, maps and sets of these, and comparisons
+//! of whole lists and of pulls from both ends.
 #![tactic(auto)]
 
 mod hinted;
 mod item;
 mod made;
 mod pulls;
+mod query;
+mod same;
 mod texts;
 mod told;
 
@@ -14,5 +16,7 @@ pub use hinted::Hinted;
 pub use item::{Item, has_items, has_pairs, make_item};
 pub use made::{full_map, full_set, item_map, item_set, repeating_map, set_of};
 pub use pulls::pulls_as_list;
+pub use query::Number;
+pub use same::{Same, are_same};
 pub use texts::{has_text_pairs, has_texts, text_map, text_set};
 pub use told::{Log, Told, told_items, told_pairs};

@@ -12,6 +12,8 @@ mod drain;
 #[cfg(test)]
 mod equality;
 #[cfg(test)]
+mod equivalent;
+#[cfg(test)]
 mod insertion;
 #[cfg(test)]
 mod iteration;

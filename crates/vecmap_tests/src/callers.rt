@@ -1,7 +1,9 @@
 //! Runs of functions that are proved from the contracts of what they call.
+use std::alloc::{AllocError, Global};
 use std::test::Fail;
-use vecmap::VecMap;
-use vecmap_callers::{entry, lending};
+use vecmap::{VecMap, VecSet};
+use vecmap_callers::equivalent::{Name, NamedAs};
+use vecmap_callers::{entry, equivalent, lending};
 use vecmap_fixtures::{has_pairs, item_map, make_item};
 
 #[test]
@@ -53,5 +55,85 @@ fn callers_of_lent_values_write_what_they_say(rt: HostRuntime) -> Result<(), Fai
         (Some(6), None)
     );
     assert_eq!(rt; numbers.as_slice(), [(5, 6)].as_slice());
+    Ok(())
+}
+
+// The name of a text.
+fn name(alloc: Global, text: &str) -> Result<Name, AllocError> {
+    let text = String::from_str(alloc, text)?;
+    Ok(Name { text })
+}
+
+#[test]
+fn a_query_that_ignores_case_finds_names(rt: HostRuntime) -> Result<(), Fail> {
+    let mut map = VecMap::new(rt.alloc());
+    for (text, value) in [("Host", 1), ("Accept", 2), ("HOST", 3), ("Café", 4)] {
+        map.insert(name(rt.alloc(), text)?, value)?;
+    }
+    assert_eq!(rt; map.len(), 3);
+    for (text, value) in [
+        ("host", Some(3)),
+        ("ACCEPT", Some(2)),
+        ("café", Some(4)),
+        ("CAFÉ", None),
+        ("hos", None),
+        ("acce", None),
+        ("", None),
+    ] {
+        assert_eq!(rt; equivalent::value_of_name(&map, text), value);
+        assert_eq!(rt; equivalent::value_by(&map, NamedAs(text)), value);
+        let key = name(rt.alloc(), text)?;
+        assert_eq!(rt; equivalent::value_by_text_of(&map, &key), value);
+        assert_eq!(rt; equivalent::value_of_key(&map, &key), value);
+    }
+    let (stored, value) = map.remove_entry(NamedAs("hOST")).ok_or("absent")?;
+    assert_eq!(rt; (stored.text.as_str(), value), ("Host", 3));
+    assert_eq!(rt;
+        (map.len(), map.get_index_of(NamedAs("accept"))),
+        (2, Some(0))
+    );
+    Ok(())
+}
+
+#[test]
+fn callers_by_a_text_do_what_they_say(rt: HostRuntime) -> Result<(), Fail> {
+    let mut map = VecMap::new(rt.alloc());
+    for (text, value) in [("host", 1), ("port", 2), ("user", 3)] {
+        map.insert(String::from_str(rt.alloc(), text)?, value)?;
+    }
+    assert_eq!(rt; equivalent::value_of_text(&map, "user"), Some(3));
+    assert!(rt; map.contains_key("port"));
+    equivalent::write_port(&mut map, 20);
+    assert!(rt; map.contains_key("port"));
+    assert_eq!(rt; equivalent::port(&map), 20);
+    let (key, value) = equivalent::take_text(&mut map, "host").ok_or("absent")?;
+    assert_eq!(rt; (key.as_str(), value), ("host", 1));
+    equivalent::forget_port(&mut map);
+    equivalent::write_port(&mut map, 30);
+    assert_eq!(rt; (map.len(), map.get("user").copied()), (1, Some(3)));
+    let mut set = VecSet::new(rt.alloc());
+    set.insert(String::from_str(rt.alloc(), "host")?)?;
+    assert!(rt; !equivalent::drop_text(&mut set, "hos"));
+    assert!(rt; equivalent::drop_text(&mut set, "host") && set.is_empty());
+    Ok(())
+}
+
+#[test]
+fn callers_by_read_texts_and_bytes_do_what_they_say(rt: HostRuntime) -> Result<(), Fail> {
+    let words = VecMap::from_slice(rt.alloc(), &[("get", 1), ("put", 2)])?;
+    for (text, value) in [("put", Some(2)), ("pu", None), ("", None)] {
+        let line = String::from_str(rt.alloc(), text)?;
+        assert_eq!(rt; equivalent::value_of_line(&words, &line), value);
+    }
+    let mut map = VecMap::new(rt.alloc());
+    map.insert(vec![in rt.alloc(); 1, 2]?, 5)?;
+    map.insert(vec![in rt.alloc(); 1]?, 6)?;
+    assert_eq!(rt;
+        (
+            equivalent::value_of_bytes(&map, &[1]),
+            equivalent::value_of_bytes(&map, &[2])
+        ),
+        (Some(6), None)
+    );
     Ok(())
 }

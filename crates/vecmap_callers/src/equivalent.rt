@@ -1,0 +1,135 @@
+//! What callers of lookups and removals by a query can prove: by keys, texts, slices, and a query of their own.
+ghost use Rattle.std.specs.Prelude.{◌≡◌, IsSome, Some, bytes_eq, codes, nat_eq, string_bytes};
+ghost use Rattle.std.specs.Cmp.{on_equiv, partial_equiv_from_equiv};
+ghost use Rattle.std.specs.Cmp.Lexicographic.{nat_list_eq_equiv, pointwise};
+ghost use Rattle.std.specs.List.{list_any};
+ghost use Rattle.std.specs.Str.{str_eq_ignore_ascii_case, str_to_ascii_lowercase};
+ghost use Rattle.vecmap.specs.Contents.{with_value_by};
+ghost use Rattle.vecmap.specs.Items.{without_first};
+ghost use Rattle.vecmap.specs.Pairs.{has_text, index_by, lookup, lookup_by, lookup_pair_by, swap_without_by, without_by};
+
+use vecmap::{Equivalent, VecMap, VecSet};
+
+/// The value of a key, of any type.
+pub fn value_of_key<K: Eq>(map: &VecMap<K, u32>, key: &K) -> Option<u32>
+    ensures { result ≡ lookup K.eq map.now.entries key.now }
+{
+    map.get(key).copied()
+}
+
+/// The value of the first key that a query stands for, whatever the query.
+pub fn value_by<K: Eq, Q: Equivalent<K>>(map: &VecMap<K, u32>, query: Q) -> Option<u32>
+    ensures { result ≡ lookup_by (Q.equivalent query) map.now.entries }
+{
+    map.get(query).copied()
+}
+
+/// The value of a text.
+pub fn value_of_text(map: &VecMap<String, u32>, text: &str) -> Option<u32>
+    ensures { result ≡ lookup_by (has_text text.now) map.now.entries }
+{
+    map.get(text).copied()
+}
+
+/// The value of a text that was read at run time, where the keys stand in the program.
+pub fn value_of_line(map: &VecMap<&'static str, u32>, line: &String) -> Option<u32>
+    ensures { result ≡ lookup_by (λ key. bytes_eq (string_bytes line.now) key.now) map.now.entries }
+{
+    map.get(line.as_str()).copied()
+}
+
+/// The value of some bytes.
+pub fn value_of_bytes(map: &VecMap<Vec<u8>, u32>, bytes: &[u8]) -> Option<u32>
+    ensures { result ≡ lookup_by (λ key. pointwise nat_eq bytes.now key.items) map.now.entries }
+{
+    map.get(bytes).copied()
+}
+
+/// Takes out the pair of a text.
+pub fn take_text(map: &mut VecMap<String, u32>, text: &str) -> Option<(String, u32)>
+    ensures pair { result ≡ lookup_pair_by (has_text text.now) map.old.entries }
+    ensures entries { map.new.entries ≡ without_by (has_text text.now) map.old.entries }
+    ensures capacity { map.new.capacity ≡ map.old.capacity }
+{
+    map.remove_entry(text)
+}
+
+/// Takes out the pair of the text `port`, and fills the gap with the last one.
+pub fn forget_port(map: &mut VecMap<String, u32>)
+    ensures { map.new.entries ≡ swap_without_by (has_text (codes "port")) map.old.entries }
+{
+    map.swap_remove("port");
+}
+
+/// The value of the text `port`, which must be there.
+pub fn port(map: &VecMap<String, u32>) -> u32
+    requires { IsSome (index_by (has_text (codes "port")) map.now.entries) }
+    ensures { lookup_by (has_text (codes "port")) map.now.entries ≡ Some result }
+{
+    map["port"]
+}
+
+/// Writes the value of the text `port`, where it is there.
+pub fn write_port(map: &mut VecMap<String, u32>, value: u32)
+    ensures { map.new ≡ with_value_by (has_text (codes "port")) map.old value }
+{
+    if map.contains_key("port") {
+        map["port"] = value;
+    }
+}
+
+/// Takes a text out of a set, and answers whether it was there.
+pub fn drop_text(set: &mut VecSet<String>, text: &str) -> bool
+    ensures found { result ≡ list_any (has_text text.now) set.old.elements }
+    ensures elements { set.new.elements ≡ without_first (has_text text.now) set.old.elements }
+{
+    set.remove(text)
+}
+
+/// A name, equal to each that differs from it in the case of ASCII letters alone.
+#[derive(Debug, Drop)]
+pub struct Name {
+    pub text: String,
+}
+
+impl PartialEq for Name {
+    ghost eq = { λ a b. str_eq_ignore_ascii_case (string_bytes a.text) (string_bytes b.text) };
+
+    ghost laws = { partial_equiv_from_equiv (on_equiv (λ name. str_to_ascii_lowercase (string_bytes name.text)) nat_list_eq_equiv) };
+
+    fn eq(&self, other: &Name) -> bool {
+        self.text.as_str().eq_ignore_ascii_case(other.text.as_str())
+    }
+}
+
+impl Eq for Name {
+    ghost laws = { on_equiv (λ name. str_to_ascii_lowercase (string_bytes name.text)) nat_list_eq_equiv };
+}
+
+/// Stands for the names that are this text, in any case.
+#[derive(Clone, Copy, Debug)]
+pub struct NamedAs<'a>(pub &'a str);
+
+impl Equivalent<Name> for NamedAs<'_> {
+    ghost equivalent = { λ query name. str_eq_ignore_ascii_case query.0.now (string_bytes name.text) };
+
+    fn equivalent(&self, name: &Name) -> bool {
+        self.0.eq_ignore_ascii_case(name.text.as_str())
+    }
+
+    ghost respects_eq = { λ query x y. nat_list_eq_equiv.congr (str_to_ascii_lowercase query.0.now) (str_to_ascii_lowercase (string_bytes x.text)) (str_to_ascii_lowercase (string_bytes y.text)) };
+}
+
+/// The value of the first name that is this text, in any case. No name is made.
+pub fn value_of_name(map: &VecMap<Name, u32>, text: &str) -> Option<u32>
+    ensures { result ≡ lookup_by (λ name. str_eq_ignore_ascii_case text.now (string_bytes name.text)) map.now.entries }
+{
+    map.get(NamedAs(text)).copied()
+}
+
+/// The value of a name, found by its text: it is that of the name itself.
+pub fn value_by_text_of(map: &VecMap<Name, u32>, name: &Name) -> Option<u32>
+    ensures { result ≡ lookup ⟦<Name as PartialEq>⟧.eq map.now.entries name.now }
+{
+    map.get(NamedAs(name.text.as_str())).copied()
+}
