@@ -1,6 +1,6 @@
 //! Insertion of one pair.
 ghost use Rattle.std.specs.Prelude.{◌≡◌, ◌++◌, ◌∷◌, ◌≤◌, IfErr, IfOk, None, OnErr, OnOk, [], length};
-ghost use Rattle.vecmap_base.specs.Pairs.{index_or_length, lookup, lookup_full, put, put_at};
+ghost use Rattle.vecmap_base.specs.Pairs.{index_or_length, lookup, lookup_full, lookup_pair, put, put_at, put_key};
 ghost use Rattle.vecmap_map.specs.Contents.{HasRoom, KeepsRoom, KeepsRoomAt, Refuses, RefusesAt};
 
 use crate::VecMap;
@@ -49,6 +49,31 @@ impl<K, V> VecMap<K, V> {
         let index = self.pairs.len();
         self.push(key, value)?;
         Ok((index, None))
+    }
+
+    /// Puts a pair with its key, and answers the old pair of the key.
+    ///
+    /// Where an equal key is there, the new pair, key and value, takes the place of the old one; `insert` would keep the
+    /// old key. A new pair goes last. Memory is needed for a new key where there is no room. Refused, the pair comes back
+    /// and nothing has changed.
+    ///
+    /// It takes at most as many comparisons as there are pairs, and moves none unless the vector grows.
+    pub fn insert_key(&mut self, key: K, value: V) -> Result<Option<(K, V)>, Refused<(K, V)>>
+    where
+        K: Eq,
+        ensures entries { OnOk result (self.new.entries ≡ put_key K.eq self.old.entries key value) }
+        ensures old { IfOk result (λ old. old ≡ lookup_pair K.eq self.old.entries key) }
+        ensures room { KeepsRoom K.eq self.old key self.new }
+
+        // Refused, the pair comes back. Only a new key is refused, and only where the map is full.
+        ensures given { IfErr result (λ refused. refused.given ≡ (key, value)) }
+        ensures err { OnErr result (Refuses K.eq self.old key self.new) }
+    {
+        if let Some(index) = find(&self.pairs, &key) {
+            return Ok(Some(replace(&mut self.pairs[index], (key, value))));
+        }
+        self.push(key, value)?;
+        Ok(None)
     }
 
     /// Puts a pair at a place that is at most the number of pairs, and answers the old place and value of its key.

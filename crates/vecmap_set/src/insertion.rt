@@ -1,10 +1,11 @@
 //! Insertion of one element.
-ghost use Rattle.std.specs.Prelude.{◌≡◌, IfErr, IfOk, IsTrue, OnErr, OnOk, not};
+ghost use Rattle.std.specs.Prelude.{◌≡◌, ◌++◌, ◌∷◌, IfErr, IfOk, IsTrue, OnErr, OnOk, [], false, not};
 ghost use Rattle.std.specs.List.{IsDistinct};
-ghost use Rattle.vecmap_base.specs.Items.{add, has_item};
+ghost use Rattle.vecmap_base.specs.Items.{add, add_new, has_item, stored_item};
 ghost use Rattle.vecmap_set.specs.Contents.{KeepsRoom, Refuses};
 
 use crate::VecSet;
+use std::mem;
 use vecmap_base::{Refused, find_item};
 
 impl<T: Eq> VecSet<T> {
@@ -31,10 +32,47 @@ impl<T: Eq> VecSet<T> {
         if find_item(&self.items, &item).is_some() {
             return Ok(false);
         }
-        if self.reserve(1).is_err() {
+        self.push(item)?;
+        Ok(true)
+    }
+
+    /// Adds an element and takes it in, and answers the old one.
+    ///
+    /// Where an equal element is there, `item` takes its place; `insert` would keep the old one. A new element goes last.
+    /// Memory is needed for a new element where there is no room. Refused, the element comes back and nothing has
+    /// changed. It takes one lookup, of at most as many comparisons as there are elements; where memory is taken, all
+    /// elements may move.
+    #[tactic(auto, using(vecmap_base::proofs::PlaceLemmas::list_any_position))]
+    pub fn replace(&mut self, item: T) -> Result<Option<T>, Refused<T>>
+        ensures elements { OnOk result (self.new.elements ≡ add_new T.eq self.old.elements item) }
+        ensures old { IfOk result (λ old. old ≡ stored_item T.eq self.old.elements item) }
+        ensures distinct { IsDistinct T.eq self.new.elements }
+        ensures room { KeepsRoom T.eq self.old item self.new }
+
+        // Refused, the element comes back. Only a new one is refused, and only where the set is full.
+        ensures given { IfErr result (λ refused. refused.given ≡ item) }
+        ensures err { OnErr result (Refuses T.eq self.old item self.new) }
+    {
+        if let Some(index) = find_item(&self.items, &item) {
+            return Ok(Some(mem::replace(&mut self.items[index], item)));
+        }
+        self.push(item)?;
+        Ok(None)
+    }
+
+    // Adds a new element last.
+    fn push(&mut self, item: T) -> Result<(), Refused<T>>
+        requires absent { has_item T.eq self.old.elements item ≡ false }
+        ensures elements { OnOk result (self.new.elements ≡ self.old.elements ++ item ∷ []) }
+        ensures distinct { IsDistinct T.eq self.new.elements }
+        ensures room { KeepsRoom T.eq self.old item self.new }
+        ensures given { IfErr result (λ refused. refused.given ≡ item) }
+        ensures err { OnErr result (Refuses T.eq self.old item self.new) }
+    {
+        if self.items.len() == self.items.capacity() && self.reserve(1).is_err() {
             return Err(Refused { given: item });
         }
         self.items.push_reserved(item);
-        Ok(true)
+        Ok(())
     }
 }
