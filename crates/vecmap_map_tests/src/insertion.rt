@@ -14,6 +14,19 @@ fn an_insert_of_an_equal_key_keeps_the_stored_one(rt: HostRuntime) -> Result<(),
 }
 
 #[test]
+fn insert_key_takes_the_new_key_in(rt: HostRuntime) -> Result<(), Fail> {
+    let mut map = item_map(rt.alloc(), &[(1, 'x', 10), (2, 'b', 20)])?;
+    let room = map.capacity();
+    let (key, value) = map.insert_key(make_item(1, 'y'), 30)?.ok_or("absent")?;
+    assert_eq!(rt; (key.number, key.mark, value), (1, 'x', 10));
+    assert!(rt; has_pairs(map.as_slice(), &[(1, 'y', 30), (2, 'b', 20)]));
+    assert_eq!(rt; map.capacity(), room);
+    assert!(rt; map.insert_key(make_item(3, 'c'), 40)?.is_none());
+    assert!(rt; has_pairs(map.as_slice(), &[(1, 'y', 30), (2, 'b', 20), (3, 'c', 40)]));
+    Ok(())
+}
+
+#[test]
 fn insert_full_answers_the_place(rt: HostRuntime) -> Result<(), Fail> {
     let mut map = VecMap::new(rt.alloc());
     assert_eq!(rt; map.insert_full("a", 1)?, (0, None));

@@ -14,8 +14,6 @@ mod entry;
 #[cfg(test)]
 mod equality;
 #[cfg(test)]
-mod equivalent;
-#[cfg(test)]
 mod hints;
 #[cfg(test)]
 mod insertion;

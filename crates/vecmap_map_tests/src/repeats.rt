@@ -103,6 +103,15 @@ fn insertions_change_the_value_of_the_first_of_equal_keys(rt: HostRuntime) -> Re
 }
 
 #[test]
+fn insert_key_takes_the_place_of_the_first_of_equal_keys(rt: HostRuntime) -> Result<(), Fail> {
+    let mut map = start(rt.alloc())?;
+    let (key, value) = map.insert_key(make_item(1, 'z'), 20)?.ok_or("absent")?;
+    assert_eq!(rt; (key.mark, value), ('b', 2));
+    assert!(rt; has_first(&map, 'z', 20));
+    Ok(())
+}
+
+#[test]
 fn append_changes_the_value_of_the_first_of_equal_keys(rt: HostRuntime) -> Result<(), Fail> {
     let mut map = start(rt.alloc())?;
     let mut other = VecMap::from_slice(rt.alloc(), &[(make_item(1, 'z'), 20)])?;

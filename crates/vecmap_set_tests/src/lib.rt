@@ -12,8 +12,6 @@ mod drain;
 #[cfg(test)]
 mod equality;
 #[cfg(test)]
-mod equivalent;
-#[cfg(test)]
 mod insertion;
 #[cfg(test)]
 mod iteration;

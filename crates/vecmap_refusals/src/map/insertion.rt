@@ -44,6 +44,22 @@ fn insert_full_gives_the_pair_back(rt: HostRuntime) -> Result<(), Fail> {
 }
 
 #[test]
+fn insert_key_gives_the_pair_back(rt: HostRuntime) -> Result<(), Fail> {
+    let mut map = full_map(&rt, rt.alloc(), FULL)?;
+    let old = match map.insert_key(make_item(7, 'x'), 70) {
+        Ok(old) => old,
+        Err(refused) => {
+            tell(&rt)?;
+            assert!(rt; is_full(&map));
+            map.insert_key(refused.given.0, refused.given.1)?
+        }
+    };
+    assert!(rt; old.is_none());
+    assert!(rt; has_pairs(map.as_slice(), &[(1, 'a', 10), (2, 'b', 20), (7, 'x', 70)]));
+    Ok(())
+}
+
+#[test]
 fn insert_at_gives_the_pair_back(rt: HostRuntime) -> Result<(), Fail> {
     let mut map = full_map(&rt, rt.alloc(), FULL)?;
     let old = match map.insert_at(0, make_item(7, 'x'), 70) {
@@ -65,8 +81,10 @@ fn an_equal_key_is_never_refused(rt: HostRuntime) -> Result<(), Fail> {
     assert!(rt; matches!(map.insert(make_item(1, 'x'), 1), Ok(Some(10))));
     assert!(rt; matches!(map.insert_full(make_item(1, 'y'), 2), Ok((0, Some(1)))));
     assert!(rt; has_pairs(map.as_slice(), &[(1, 'a', 2), (2, 'b', 20)]));
+    assert!(rt; matches!(map.insert_key(make_item(1, 'w'), 4), Ok(Some((_, 2)))));
+    assert!(rt; has_pairs(map.as_slice(), &[(1, 'w', 4), (2, 'b', 20)]));
     assert_eq!(rt; map.len(), 2);
-    assert!(rt; matches!(map.insert_at(2, make_item(1, 'z'), 3), Ok(Some((0, 2)))));
+    assert!(rt; matches!(map.insert_at(2, make_item(1, 'z'), 3), Ok(Some((0, 4)))));
     assert!(rt; has_pairs(map.as_slice(), &[(2, 'b', 20), (1, 'z', 3)]));
     assert_eq!(rt; map.capacity(), 2);
     Ok(())

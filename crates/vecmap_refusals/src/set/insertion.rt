@@ -20,3 +20,19 @@ fn insert_gives_the_element_back(rt: HostRuntime) -> Result<(), Fail> {
     assert!(rt; added && has_items(set.as_slice(), &[(1, 'a'), (2, 'b'), (7, 'x')]));
     Ok(())
 }
+
+#[test]
+fn replace_gives_the_element_back(rt: HostRuntime) -> Result<(), Fail> {
+    let mut set = full_set(&rt, rt.alloc(), FULL)?;
+    assert!(rt; matches!(set.replace(make_item(2, 'z')), Ok(Some(_))));
+    let old = match set.replace(make_item(7, 'x')) {
+        Ok(old) => old,
+        Err(refused) => {
+            tell(&rt)?;
+            assert!(rt; has_items(set.as_slice(), &[(1, 'a'), (2, 'z')]) && set.capacity() == 2);
+            set.replace(refused.given)?
+        }
+    };
+    assert!(rt; old.is_none() && has_items(set.as_slice(), &[(1, 'a'), (2, 'z'), (7, 'x')]));
+    Ok(())
+}
