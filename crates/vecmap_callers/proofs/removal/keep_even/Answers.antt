@@ -1,4 +1,3 @@
-use Rattle.std.specs.Prelude.{◌%◌, nat_eq}
 use Rattle.std.proofs.Common.{rules}
 use Rattle.vecmap.proofs.KeptLemmas.{kept_by_test}
 use Rattle.vecmap_callers.proofs.removal.keep_even.Goals as goal
