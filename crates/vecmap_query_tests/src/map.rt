@@ -12,8 +12,8 @@ use vecmap_fixtures::{Item, Number, Same, are_same, has_pairs, make_item, repeat
 // Keys of which one begins another, and one is not ASCII.
 const TEXTS: &[(&'static str, u32)] = &[("age", 10), ("agent", 20), ("max", 30), ("é", 40)];
 
-// Texts, each with the place of the key that has its bytes. Those of none are empty, begin a key, go on after one, or are
-// as long as one.
+// Texts, each with the place of the key that has its bytes. Those of none are empty, begin a key, go on after one, or
+// are as long as one.
 const QUERIES: &[(&'static str, Option<usize>)] = &[
     ("age", Some(0)),
     ("agent", Some(1)),
@@ -41,6 +41,14 @@ const REPEATS: &[(u32, char, u32)] = &[
 fn pair_at<K>(pairs: &[(K, u32)], place: Option<usize>) -> Option<(&K, &u32)> {
     let pair = pairs.get(place?)?;
     Some((&pair.0, &pair.1))
+}
+
+// Whether this is the pair at a place.
+fn is_pair_at<K: Same>(pairs: &[(K, u32)], place: Option<usize>, key: &K, value: u32) -> bool {
+    match pair_at(pairs, place) {
+        Some((stored, wanted)) => key.is_same(stored) && value == *wanted,
+        None => false,
+    }
 }
 
 // Whether both are the same pair, or none.
@@ -115,8 +123,7 @@ fn lends_full<K: Eq + Clone + Drop + Same, Q: Equivalent<K>>(
     let mut wanted = map.to_vec()?;
     let is_lent = match map.get_full_mut(query) {
         Some((index, key, value)) => {
-            let is_there = Some(index) == place
-                && are_same_pair(Some((key, &*value)), pair_at(&wanted, place));
+            let is_there = Some(index) == place && is_pair_at(&wanted, place, key, *value);
             *value = 8;
             is_there
         }
@@ -135,8 +142,7 @@ fn lends_both<K: Eq + Clone + Drop + Same, Q: Equivalent<K>>(
     let mut wanted = map.to_vec()?;
     let is_lent = match map.get_full_mut2(query) {
         Some((index, key, value)) => {
-            let is_there = Some(index) == place
-                && are_same_pair(Some((&*key, &*value)), pair_at(&wanted, place));
+            let is_there = Some(index) == place && is_pair_at(&wanted, place, key, *value);
             *value = 9;
             is_there
         }
@@ -390,7 +396,7 @@ fn brackets_take_a_text_at_strings(rt: HostRuntime) -> Result<(), Fail> {
     assert_eq!(rt; map["agent"], 10);
     let key = String::from_str(rt.alloc(), "agent")?;
     assert!(rt; map.contains_key(key.as_str()));
-    map[key.as_str()] += 2;
+    map[key.as_str()] = 12;
     let written = [("agent", 12), ("agent", 21), ("max", 30), ("é", 40)];
     assert!(rt; has_texts(map.as_slice(), &written));
     assert!(rt; map.contains_key(&key));

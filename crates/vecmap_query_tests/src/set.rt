@@ -13,8 +13,8 @@ use vecmap_fixtures::{
 // Elements of which one begins another, and one is not ASCII.
 const TEXTS: &[&'static str] = &["age", "agent", "max", "é"];
 
-// Texts, each with the place of the element that has its bytes. Those of none are empty, begin an element, go on after one,
-// or are as long as one.
+// Texts, each with the place of the element that has its bytes. Those of none are empty, begin an element, go on after
+// one, or are as long as one.
 const QUERIES: &[(&'static str, Option<usize>)] = &[
     ("age", Some(0)),
     ("agent", Some(1)),
