@@ -1,3 +1,4 @@
 pub use Rattle.vecmap_base.proofs.KeptLemmas
 mod RunExamples
 pub mod RunLemmas
+mod StepLemmas

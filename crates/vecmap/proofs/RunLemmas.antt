@@ -2,14 +2,27 @@
 use Rattle.std.proofs.Common.{Bool, List, [], ◌∷◌, ◌++◌, refl}
 use Rattle.std.specs.declared.clone.Clone as clone
 use Rattle.vecmap.specs.MapRun.{Run, Step}
-use Rattle.vecmap.specs.declared.map_run.MapCommand.{MapCommand}
-use Rattle.vecmap.specs.declared.map_run.MapReply.{MapReply}
+use Rattle.vecmap.specs.declared.map_run.command.MapCommand.{MapCommand}
+use Rattle.vecmap.specs.declared.map_run.reply.MapReply.{MapReply}
+use Rattle.vecmap.specs.SetRun.{RunSet, StepSet}
+use Rattle.vecmap.specs.declared.set_run.command.SetCommand.{SetCommand}
+use Rattle.vecmap.specs.declared.set_run.reply.SetReply.{SetReply}
+use Rattle.vecmap_map.specs.Contents.{Contents}
+use Rattle.vecmap_set.specs.Contents as set
 
-module _ {K V : Type 0} (eq : K → K → Bool) (keys : clone.Ghosts K) (values : clone.Ghosts V) where
+module _ {K V : Type 0} (eq : K → K → Bool) (eq_value : V → V → Bool) (keys : clone.Ghosts K) (values : clone.Ghosts V) where
   -- a run, then one more step
-  pub run_push : (l : List (K × V)) (commands : List (MapCommand K V)) (replies : List (MapReply K V)) (mid : List (K × V)) (command : MapCommand K V) (reply : MapReply K V) (m : List (K × V)) → Run eq keys values l commands replies mid → Step eq keys values mid command reply m → Run eq keys values l (commands ++ command ∷ []) (replies ++ reply ∷ []) m
-  run_push l [] [] mid command reply m run step = (m, rw (← run) step, refl)
-  run_push l (c ∷ cs) (r ∷ rs) mid command reply m run step =
-      (run.0, run.1, run_push run.0 cs rs mid command reply m run.2 step)
-  run_push l [] (r ∷ rs) mid command reply m run step = absurd run
-  run_push l (c ∷ cs) [] mid command reply m run step = absurd run
+  pub run_push : (m : Contents K V) (commands : List (MapCommand K V)) (replies : List (MapReply K V)) (mid : Contents K V) (command : MapCommand K V) (reply : MapReply K V) (n : Contents K V) → Run eq eq_value keys values m commands replies mid → Step eq eq_value keys values mid command reply n → Run eq eq_value keys values m (commands ++ command ∷ []) (replies ++ reply ∷ []) n
+  run_push m [] [] mid command reply n run step = (n, rw (← run) step, refl)
+  run_push m (c ∷ cs) (r ∷ rs) mid command reply n run step =
+      (run.0, run.1, run_push run.0 cs rs mid command reply n run.2 step)
+  run_push m [] (r ∷ rs) mid command reply n run step = absurd run
+  run_push m (c ∷ cs) [] mid command reply n run step = absurd run
+
+module _ {T : Type 0} (eq : T → T → Bool) (clones : clone.Ghosts T) where
+  pub run_set_push : (s : set.Contents T) (commands : List (SetCommand T)) (replies : List (SetReply T)) (mid : set.Contents T) (command : SetCommand T) (reply : SetReply T) (t : set.Contents T) → RunSet eq clones s commands replies mid → StepSet eq clones mid command reply t → RunSet eq clones s (commands ++ command ∷ []) (replies ++ reply ∷ []) t
+  run_set_push s [] [] mid command reply t run step = (t, rw (← run) step, refl)
+  run_set_push s (c ∷ cs) (r ∷ rs) mid command reply t run step =
+      (run.0, run.1, run_set_push run.0 cs rs mid command reply t run.2 step)
+  run_set_push s [] (r ∷ rs) mid command reply t run step = absurd run
+  run_set_push s (c ∷ cs) [] mid command reply t run step = absurd run

@@ -1,4 +1,5 @@
 pub mod MapRun
+pub mod SetRun
 pub use Rattle.vecmap_base.specs.Asked
 pub use Rattle.vecmap_base.specs.Bulk
 pub use Rattle.vecmap_base.specs.Clones

@@ -5,8 +5,10 @@ pub mod macros;
 pub mod map;
 mod map_run;
 pub mod set;
+mod set_run;
 
 pub use map_run::{MapCommand, MapReply, run};
+pub use set_run::{SetCommand, SetReply, run_set};
 pub use std::collections::TryReserveError;
 pub use vecmap_base::{Equivalent, Refused, items_distinct, keys_distinct};
 pub use vecmap_map::VecMap;

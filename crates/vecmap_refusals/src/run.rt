@@ -1,2 +1,3 @@
 //! Requests of runs of commands.
 mod map_run;
+mod set_run;

@@ -1,2 +1,3 @@
 //! Tests of runs of commands.
 mod map_run;
+mod set_run;

@@ -3,7 +3,7 @@ use crate::telling::{full_map, make, tell, text_map};
 use std::alloc::{AllocError, Global};
 use std::test::Fail;
 use vecmap::{MapCommand, MapReply, VecMap, run};
-use vecmap_fixtures::{Item, has_pairs, has_text_pairs, make_item};
+use vecmap_fixtures::{Item, has_pairs, has_text_pairs, item_map, make_item};
 
 const FULL: &[(u32, char, u32)] = &[(1, 'a', 10), (2, 'b', 20)];
 
@@ -106,6 +106,87 @@ fn a_list_whose_clone_is_refused_answers_no_memory(rt: HostRuntime) -> Result<()
         }
         assert!(rt; !is_refused);
         is_refused = true;
+    }
+    Ok(())
+}
+
+// One command on a full map: it is done, or refused with nothing changed and then done.
+macro_rules! refused_then_done {
+    ($rt:ident; $command:expr, $reply:pat => $left:expr) => {{
+        let mut is_refused = false;
+        for _ in 0..2 {
+            let mut map = full_map(&$rt, $rt.alloc(), FULL)?;
+            let mut commands = make!($rt; Vec::with_capacity($rt.alloc(), 1));
+            commands.push($command)?;
+            match run($rt.alloc(), &mut map, commands).as_deref() {
+                Ok([$reply]) => {
+                    assert!($rt; has_pairs(map.as_slice(), $left));
+                    return Ok(());
+                }
+                Ok([MapReply::NoMemory]) | Err(AllocError) => {
+                    assert!($rt; has_pairs(map.as_slice(), FULL) && map.capacity() == 2);
+                }
+                _ => return Err(Fail::new("another reply")),
+            }
+            tell(&$rt)?;
+            assert!($rt; !is_refused);
+            is_refused = true;
+        }
+        Ok(())
+    }};
+}
+
+const ONE_MORE: &[(u32, char, u32)] = &[(1, 'a', 10), (2, 'b', 20), (7, 'x', 70)];
+
+#[test]
+fn a_refused_insert_full_answers_no_memory(rt: HostRuntime) -> Result<(), Fail> {
+    refused_then_done!(rt; MapCommand::InsertFull(make_item(7, 'x'), 70), MapReply::Full(2, None) => ONE_MORE)
+}
+
+#[test]
+fn a_refused_insert_at_answers_no_memory(rt: HostRuntime) -> Result<(), Fail> {
+    refused_then_done!(rt; MapCommand::InsertAt(2, make_item(7, 'x'), 70), MapReply::Moved(None) => ONE_MORE)
+}
+
+#[test]
+fn a_refused_insert_key_answers_no_memory(rt: HostRuntime) -> Result<(), Fail> {
+    refused_then_done!(rt; MapCommand::InsertKey(make_item(7, 'x'), 70), MapReply::Pair(None) => ONE_MORE)
+}
+
+#[test]
+fn a_refused_or_insert_answers_no_memory(rt: HostRuntime) -> Result<(), Fail> {
+    refused_then_done!(rt; MapCommand::OrInsert(make_item(7, 'x'), 70), MapReply::Kept(2, true) => ONE_MORE)
+}
+
+#[test]
+fn a_refused_append_answers_no_memory(rt: HostRuntime) -> Result<(), Fail> {
+    refused_then_done!(rt; MapCommand::Append(make!(rt; item_map(rt.alloc(), &[(7, 'x', 70)]))), MapReply::Done => ONE_MORE)
+}
+
+#[test]
+fn a_refused_split_answers_no_memory(rt: HostRuntime) -> Result<(), Fail> {
+    refused_then_done!(rt; MapCommand::SplitOff(1), MapReply::Rest(_) => &[(1, 'a', 10)])
+}
+
+#[test]
+fn a_pair_whose_clone_is_refused_answers_no_memory(rt: HostRuntime) -> Result<(), Fail> {
+    for place in 0..3usize {
+        let mut map = text_map(&rt, rt.alloc(), TEXTS)?;
+        let mut commands = make!(rt; Vec::with_capacity(rt.alloc(), 1));
+        commands.push(match place {
+            0 => MapCommand::First,
+            1 => MapCommand::Last,
+            _ => MapCommand::GetIndex(1),
+        })?;
+        let replies = run(rt.alloc(), &mut map, commands);
+        assert!(rt; has_text_pairs(map.as_slice(), TEXTS));
+        match replies.as_deref() {
+            Ok([MapReply::Pair(Some((key, _value)))]) => {
+                assert!(rt; key.as_str() == if place == 0 { "b" } else { "a" });
+            }
+            Ok([MapReply::NoMemory]) | Err(AllocError) => tell(&rt)?,
+            _ => return Err(Fail::new("another reply")),
+        }
     }
     Ok(())
 }

@@ -1,27 +1,159 @@
-//! Runs of commands. The replies are compared as they print, one after another.
+//! Runs of commands on a map. The replies are compared as they print, one after another.
+use std::alloc::Global;
 use std::test::Fail;
 use vecmap::{MapCommand, VecMap, run};
 use vecmap_fixtures::{has_pairs, item_map, make_item};
 
+// What a run of the commands answers, as it prints.
+fn answers<const N: usize>(
+    alloc: Global,
+    map: &mut VecMap<char, u32>,
+    commands: [MapCommand<char, u32>; N],
+) -> Result<String, Fail> {
+    let mut all = Vec::new(alloc);
+    for command in commands {
+        all.push(command)?;
+    }
+    Ok(format!(in alloc; "{:?}", run(alloc, map, all)?)?)
+}
+
 #[test]
 fn a_run_answers_each_command(rt: HostRuntime) -> Result<(), Fail> {
     let mut map = VecMap::new(rt.alloc());
-    let mut commands = Vec::new(rt.alloc());
-    for (key, value) in [('a', 1u32), ('b', 2), ('a', 3)] {
-        commands.push(MapCommand::Insert(key, value))?;
-    }
-    commands.push(MapCommand::Get('a'))?;
-    commands.push(MapCommand::IndexOf('b'))?;
-    commands.push(MapCommand::Remove('a'))?;
-    commands.push(MapCommand::Get('a'))?;
-    commands.push(MapCommand::Len)?;
-    commands.push(MapCommand::ToVec)?;
-    let replies = format!(in rt.alloc(); "{:?}", run(rt.alloc(), &mut map, commands)?)?;
+    let commands = [
+        MapCommand::Insert('a', 1),
+        MapCommand::OrInsert('a', 5),
+        MapCommand::OrInsert('b', 6),
+        MapCommand::InsertFull('b', 7),
+        MapCommand::Get('b'),
+        MapCommand::GetIndex(2),
+        MapCommand::SplitOff(1),
+        MapCommand::Len,
+    ];
     assert_eq!(rt;
-        replies.as_str(),
-        "[Value(None), Value(None), Value(Some(1)), Value(Some(3)), Place(Some(1)), Value(Some(3)), Value(None), Number(1), Pairs([('b', 2)])]"
+        answers(rt.alloc(), &mut map, commands)?.as_str(),
+        "[Value(None), Kept(0, false), Kept(1, true), Full(1, Some(6)), Value(Some(7)), Pair(None), Rest({'b': 7}), Number(1)]"
     );
-    assert_eq!(rt; map.as_slice(), [('b', 2)].as_slice());
+    assert_eq!(rt; map.as_slice(), [('a', 1)].as_slice());
+    Ok(())
+}
+
+#[test]
+fn a_run_appends_and_compares_maps(rt: HostRuntime) -> Result<(), Fail> {
+    let mut map = VecMap::from_slice(rt.alloc(), &[('a', 1)])?;
+    let commands = [
+        MapCommand::Append(VecMap::from_slice(rt.alloc(), &[('b', 2), ('a', 3)])?),
+        MapCommand::ToVec,
+        MapCommand::Equals(VecMap::from_slice(rt.alloc(), &[('b', 2), ('a', 3)])?),
+        MapCommand::Equals(VecMap::from_slice(rt.alloc(), &[('b', 2), ('a', 1)])?),
+        MapCommand::First,
+        MapCommand::Pop,
+        MapCommand::Get('b'),
+    ];
+    assert_eq!(rt;
+        answers(rt.alloc(), &mut map, commands)?.as_str(),
+        "[Done, Pairs([('a', 3), ('b', 2)]), Truth(true), Truth(false), Pair(Some(('a', 3))), Pair(Some(('b', 2))), Value(None)]"
+    );
+    assert_eq!(rt; map.as_slice(), [('a', 3)].as_slice());
+    Ok(())
+}
+
+#[test]
+fn a_run_puts_pairs(rt: HostRuntime) -> Result<(), Fail> {
+    let mut map = VecMap::from_slice(rt.alloc(), &[('a', 1), ('b', 2)])?;
+    let commands = [
+        MapCommand::Insert('b', 3),
+        MapCommand::InsertFull('c', 4),
+        MapCommand::InsertAt(0, 'b', 5),
+        MapCommand::InsertAt(4, 'd', 6),
+        MapCommand::InsertAt(3, 'd', 6),
+        MapCommand::InsertKey('d', 7),
+        MapCommand::InsertKey('e', 8),
+    ];
+    assert_eq!(rt;
+        answers(rt.alloc(), &mut map, commands)?.as_str(),
+        "[Value(Some(2)), Full(2, None), Moved(Some((1, 3))), OutOfRange, Moved(None), Pair(Some(('d', 6))), Pair(None)]"
+    );
+    let left = [('b', 5), ('a', 1), ('c', 4), ('d', 7), ('e', 8)];
+    assert_eq!(rt; map.as_slice(), left.as_slice());
+    Ok(())
+}
+
+#[test]
+fn a_run_reads(rt: HostRuntime) -> Result<(), Fail> {
+    let pairs = [('a', 1), ('b', 2)];
+    let mut map = VecMap::from_slice(rt.alloc(), &pairs)?;
+    let room = map.capacity();
+    let commands = [
+        MapCommand::Get('a'),
+        MapCommand::Get('z'),
+        MapCommand::GetIndex(1),
+        MapCommand::GetIndex(2),
+        MapCommand::IndexOf('b'),
+        MapCommand::IndexOf('z'),
+        MapCommand::ContainsKey('a'),
+        MapCommand::ContainsKey('z'),
+        MapCommand::First,
+        MapCommand::Last,
+        MapCommand::Len,
+    ];
+    assert_eq!(rt;
+        answers(rt.alloc(), &mut map, commands)?.as_str(),
+        "[Value(Some(1)), Value(None), Pair(Some(('b', 2))), Pair(None), Place(Some(1)), Place(None), Truth(true), Truth(false), Pair(Some(('a', 1))), Pair(Some(('b', 2))), Number(2)]"
+    );
+    assert_eq!(rt; (map.as_slice(), map.capacity()), (pairs.as_slice(), room));
+    Ok(())
+}
+
+#[test]
+fn a_run_takes_pairs_out(rt: HostRuntime) -> Result<(), Fail> {
+    let pairs = [('a', 1), ('b', 2), ('c', 3), ('d', 4), ('e', 5), ('f', 6)];
+    let mut map = VecMap::from_slice(rt.alloc(), &pairs)?;
+    let commands = [
+        MapCommand::RemoveIndex(1),
+        MapCommand::SwapRemoveIndex(0),
+        MapCommand::RemoveIndex(4),
+        MapCommand::SwapRemoveIndex(4),
+        MapCommand::RemoveEntry('c'),
+        MapCommand::RemoveEntry('z'),
+        MapCommand::SwapRemoveEntry('f'),
+        MapCommand::SwapRemoveEntry('z'),
+        MapCommand::Remove('e'),
+        MapCommand::SwapRemove('z'),
+        MapCommand::SwapRemove('d'),
+        MapCommand::Pop,
+        MapCommand::First,
+    ];
+    assert_eq!(rt;
+        answers(rt.alloc(), &mut map, commands)?.as_str(),
+        "[Pair(Some(('b', 2))), Pair(Some(('a', 1))), OutOfRange, OutOfRange, Pair(Some(('c', 3))), Pair(None), Pair(Some(('f', 6))), Pair(None), Value(Some(5)), Value(None), Value(Some(4)), Pair(None), Pair(None)]"
+    );
+    assert!(rt; map.is_empty());
+    Ok(())
+}
+
+#[test]
+fn a_run_changes_the_whole_list(rt: HostRuntime) -> Result<(), Fail> {
+    let pairs = [('a', 1), ('b', 2), ('c', 3), ('d', 4)];
+    let mut map = VecMap::from_slice(rt.alloc(), &pairs)?;
+    let commands = [
+        MapCommand::SwapIndices(0, 2),
+        MapCommand::SwapIndices(0, 4),
+        MapCommand::SwapIndices(4, 0),
+        MapCommand::ToVec,
+        MapCommand::Reverse,
+        MapCommand::Truncate(3),
+        MapCommand::ToVec,
+        MapCommand::SplitOff(4),
+        MapCommand::SplitOff(3),
+        MapCommand::Clear,
+        MapCommand::Last,
+    ];
+    assert_eq!(rt;
+        answers(rt.alloc(), &mut map, commands)?.as_str(),
+        "[Done, OutOfRange, OutOfRange, Pairs([('c', 3), ('b', 2), ('a', 1), ('d', 4)]), Done, Done, Pairs([('d', 4), ('a', 1), ('b', 2)]), OutOfRange, Rest({}), Done, Pair(None)]"
+    );
+    assert_eq!(rt; (map.len(), map.capacity() >= 4), (0, true));
     Ok(())
 }
 
@@ -30,8 +162,9 @@ fn a_run_keeps_the_stored_key(rt: HostRuntime) -> Result<(), Fail> {
     let mut map = item_map(rt.alloc(), &[(1, 'x', 10)])?;
     let mut commands = Vec::new(rt.alloc());
     commands.push(MapCommand::Insert(make_item(1, 'y'), 20))?;
+    commands.push(MapCommand::OrInsert(make_item(1, 'z'), 30))?;
     let replies = format!(in rt.alloc(); "{:?}", run(rt.alloc(), &mut map, commands)?)?;
-    assert_eq!(rt; replies.as_str(), "[Value(Some(10))]");
+    assert_eq!(rt; replies.as_str(), "[Value(Some(10)), Kept(0, false)]");
     assert!(rt; has_pairs(map.as_slice(), &[(1, 'x', 20)]));
     Ok(())
 }

@@ -6,7 +6,7 @@ use Rattle.vecmap.proofs.map_run.run.Given as goal
 
 abbrev pub invariant-loop-command : goal.invariant-loop-command
 invariant-loop-command g l = record {
-  run : Run g.K.PartialEq.eq g.K.Clone g.V.Clone l.fn.map.entries l.yielded l.replies.items l.map.entries;
+  run : Run g.K.PartialEq.eq g.V.PartialEq.eq g.K.Clone g.V.Clone l.fn.map l.yielded l.replies.items l.map;
   rest : l.fn.commands.items ≡ l.yielded ++ into_iter_items l.command-iterator;
   room : vec_len l.replies + into_iter_len l.command-iterator ≤ vec_capacity l.replies;
 }

@@ -1,0 +1,64 @@
+//! One command on a set, and its reply.
+ghost use Rattle.vecmap.specs.SetRun.{StepSet};
+ghost use Rattle.vecmap_base.specs.Clones.{ClonesAreSame};
+
+mod make;
+mod put;
+mod read;
+mod take;
+
+use self::make::made;
+use self::put::{append, insert, replace};
+use self::read::{clone_all, clone_item};
+use self::take::{remove_index, split_off, swap_indices, swap_remove_index};
+use super::{SetCommand, SetReply};
+use vecmap_set::VecSet;
+
+/// Does one command, and answers it.
+pub(crate) fn step<T: Eq + Clone>(set: &mut VecSet<T>, command: SetCommand<T>) -> SetReply<T>
+    requires same { ClonesAreSame T.eq T.is_clone }
+    ensures { StepSet T.eq T.Clone set.old command result set.new }
+{
+    match command {
+        SetCommand::Insert(item) => insert(set, item),
+        SetCommand::Replace(item) => replace(set, item),
+        SetCommand::Get(item) => clone_item(set.get(&item)),
+        SetCommand::GetIndex(index) => clone_item(set.get_index(index)),
+        SetCommand::IndexOf(item) => SetReply::Place(set.get_index_of(&item)),
+        SetCommand::Contains(item) => SetReply::Truth(set.contains(&item)),
+        SetCommand::First => clone_item(set.first()),
+        SetCommand::Last => clone_item(set.last()),
+        SetCommand::Len => SetReply::Number(set.len()),
+        SetCommand::Remove(item) => SetReply::Truth(set.remove(&item)),
+        SetCommand::Take(item) => SetReply::Item(set.take(&item)),
+        SetCommand::SwapRemove(item) => SetReply::Truth(set.swap_remove(&item)),
+        SetCommand::SwapTake(item) => SetReply::Item(set.swap_take(&item)),
+        SetCommand::RemoveIndex(index) => remove_index(set, index),
+        SetCommand::SwapRemoveIndex(index) => swap_remove_index(set, index),
+        SetCommand::Pop => SetReply::Item(set.pop()),
+        SetCommand::SwapIndices(a, b) => swap_indices(set, a, b),
+        SetCommand::Truncate(len) => {
+            set.truncate(len);
+            SetReply::Done
+        }
+        SetCommand::Clear => {
+            set.clear();
+            SetReply::Done
+        }
+        SetCommand::Reverse => {
+            set.reverse();
+            SetReply::Done
+        }
+        SetCommand::Append(other) => append(set, other),
+        SetCommand::SplitOff(index) => split_off(set, index),
+        SetCommand::ToVec => clone_all(set),
+        SetCommand::Equals(other) => SetReply::Truth(*set == other),
+        SetCommand::IsSubset(other) => SetReply::Truth(set.is_subset(&other)),
+        SetCommand::IsSuperset(other) => SetReply::Truth(set.is_superset(&other)),
+        SetCommand::IsDisjoint(other) => SetReply::Truth(set.is_disjoint(&other)),
+        SetCommand::Intersect(other) => made(&*set & &other),
+        SetCommand::Unite(other) => made(&*set | &other),
+        SetCommand::Exclusive(other) => made(&*set ^ &other),
+        SetCommand::Subtract(other) => made(&*set - &other),
+    }
+}

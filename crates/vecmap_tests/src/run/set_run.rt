@@ -1,0 +1,176 @@
+//! Runs of commands on a set. The replies are compared as they print, one after another.
+use std::alloc::{AllocError, Global};
+use std::test::Fail;
+use vecmap::{SetCommand, VecSet, run_set};
+use vecmap_fixtures::{has_items, item_set, make_item};
+
+// What a run of the commands answers, as it prints.
+fn answers<const N: usize>(
+    alloc: Global,
+    set: &mut VecSet<u32>,
+    commands: [SetCommand<u32>; N],
+) -> Result<String, Fail> {
+    let mut all = Vec::new(alloc);
+    for command in commands {
+        all.push(command)?;
+    }
+    Ok(format!(in alloc; "{:?}", run_set(alloc, set, all)?)?)
+}
+
+fn made(alloc: Global, items: &[u32]) -> Result<VecSet<u32>, AllocError> {
+    VecSet::from_slice(alloc, items)
+}
+
+#[test]
+fn a_run_answers_each_command(rt: HostRuntime) -> Result<(), Fail> {
+    let mut set = made(rt.alloc(), &[3, 2, 1])?;
+    let commands = [
+        SetCommand::Insert(2),
+        SetCommand::Intersect(made(rt.alloc(), &[1, 2])?),
+        SetCommand::RemoveIndex(3),
+        SetCommand::SplitOff(1),
+        SetCommand::Len,
+    ];
+    assert_eq!(rt;
+        answers(rt.alloc(), &mut set, commands)?.as_str(),
+        "[Truth(false), Made({2, 1}), OutOfRange, Made({2, 1}), Number(1)]"
+    );
+    assert_eq!(rt; set.as_slice(), [3].as_slice());
+    Ok(())
+}
+
+#[test]
+fn a_run_goes_on_after_a_place_that_is_not_there(rt: HostRuntime) -> Result<(), Fail> {
+    let mut set = made(rt.alloc(), &[1])?;
+    let commands = [
+        SetCommand::SwapIndices(0, 1),
+        SetCommand::Unite(made(rt.alloc(), &[2, 1, 3])?),
+        SetCommand::IsSubset(made(rt.alloc(), &[2, 1])?),
+        SetCommand::Take(1),
+        SetCommand::Last,
+    ];
+    assert_eq!(rt;
+        answers(rt.alloc(), &mut set, commands)?.as_str(),
+        "[OutOfRange, Made({1, 2, 3}), Truth(true), Item(Some(1)), Item(None)]"
+    );
+    assert!(rt; set.is_empty());
+    Ok(())
+}
+
+#[test]
+fn a_run_puts_elements(rt: HostRuntime) -> Result<(), Fail> {
+    let mut set = item_set(rt.alloc(), &[(1, 'x'), (2, 'b')])?;
+    let mut commands = Vec::new(rt.alloc());
+    commands.push(SetCommand::Replace(make_item(1, 'y')))?;
+    commands.push(SetCommand::Insert(make_item(2, 'c')))?;
+    commands.push(SetCommand::Replace(make_item(3, 'd')))?;
+    commands.push(SetCommand::Insert(make_item(4, 'e')))?;
+    let replies = run_set(rt.alloc(), &mut set, commands)?;
+    let printed = format!(in rt.alloc(); "{replies:?}")?;
+    assert_eq!(rt;
+        printed.as_str(),
+        "[Item(Some(Item { number: 1, mark: 'x' })), Truth(false), Item(None), Truth(true)]"
+    );
+    assert!(rt; has_items(set.as_slice(), &[(1, 'y'), (2, 'b'), (3, 'd'), (4, 'e')]));
+    Ok(())
+}
+
+#[test]
+fn a_run_reads(rt: HostRuntime) -> Result<(), Fail> {
+    let items = [1, 2];
+    let mut set = made(rt.alloc(), &items)?;
+    let room = set.capacity();
+    let commands = [
+        SetCommand::Get(2),
+        SetCommand::Get(9),
+        SetCommand::GetIndex(1),
+        SetCommand::GetIndex(2),
+        SetCommand::IndexOf(2),
+        SetCommand::IndexOf(9),
+        SetCommand::Contains(1),
+        SetCommand::Contains(9),
+        SetCommand::First,
+        SetCommand::Last,
+        SetCommand::ToVec,
+    ];
+    assert_eq!(rt;
+        answers(rt.alloc(), &mut set, commands)?.as_str(),
+        "[Item(Some(2)), Item(None), Item(Some(2)), Item(None), Place(Some(1)), Place(None), Truth(true), Truth(false), Item(Some(1)), Item(Some(2)), Items([1, 2])]"
+    );
+    assert_eq!(rt; (set.as_slice(), set.capacity()), (items.as_slice(), room));
+    Ok(())
+}
+
+#[test]
+fn a_run_takes_elements_out(rt: HostRuntime) -> Result<(), Fail> {
+    let mut set = made(rt.alloc(), &[1, 2, 3, 4, 5, 6])?;
+    let commands = [
+        SetCommand::RemoveIndex(1),
+        SetCommand::SwapRemoveIndex(0),
+        SetCommand::SwapRemoveIndex(4),
+        SetCommand::Take(3),
+        SetCommand::Take(9),
+        SetCommand::SwapTake(6),
+        SetCommand::SwapTake(9),
+        SetCommand::Remove(5),
+        SetCommand::Remove(9),
+        SetCommand::SwapRemove(9),
+        SetCommand::SwapRemove(4),
+        SetCommand::Pop,
+        SetCommand::First,
+    ];
+    assert_eq!(rt;
+        answers(rt.alloc(), &mut set, commands)?.as_str(),
+        "[Item(Some(2)), Item(Some(1)), OutOfRange, Item(Some(3)), Item(None), Item(Some(6)), Item(None), Truth(true), Truth(false), Truth(false), Truth(true), Item(None), Item(None)]"
+    );
+    assert!(rt; set.is_empty());
+    Ok(())
+}
+
+#[test]
+fn a_run_changes_the_whole_list(rt: HostRuntime) -> Result<(), Fail> {
+    let mut set = made(rt.alloc(), &[1, 2, 3, 4])?;
+    let commands = [
+        SetCommand::SwapIndices(0, 2),
+        SetCommand::SwapIndices(4, 0),
+        SetCommand::ToVec,
+        SetCommand::Reverse,
+        SetCommand::Truncate(3),
+        SetCommand::Append(made(rt.alloc(), &[9, 1, 8])?),
+        SetCommand::ToVec,
+        SetCommand::SplitOff(6),
+        SetCommand::SplitOff(5),
+        SetCommand::Clear,
+        SetCommand::Pop,
+    ];
+    assert_eq!(rt;
+        answers(rt.alloc(), &mut set, commands)?.as_str(),
+        "[Done, OutOfRange, Items([3, 2, 1, 4]), Done, Done, Done, Items([4, 1, 2, 9, 8]), OutOfRange, Made({}), Done, Item(None)]"
+    );
+    assert!(rt; set.is_empty() && 5 <= set.capacity());
+    Ok(())
+}
+
+#[test]
+fn a_run_compares_and_joins_sets(rt: HostRuntime) -> Result<(), Fail> {
+    let mut set = made(rt.alloc(), &[1, 2, 3])?;
+    let commands = [
+        SetCommand::Equals(made(rt.alloc(), &[3, 2, 1])?),
+        SetCommand::Equals(made(rt.alloc(), &[1, 2, 3, 4])?),
+        SetCommand::IsSubset(made(rt.alloc(), &[1, 2])?),
+        SetCommand::IsSuperset(made(rt.alloc(), &[1, 2])?),
+        SetCommand::IsSuperset(made(rt.alloc(), &[1, 4])?),
+        SetCommand::IsDisjoint(made(rt.alloc(), &[4, 5])?),
+        SetCommand::IsDisjoint(made(rt.alloc(), &[4, 3])?),
+        SetCommand::Intersect(made(rt.alloc(), &[2, 4, 1])?),
+        SetCommand::Unite(made(rt.alloc(), &[5, 2, 4, 6])?),
+        SetCommand::Exclusive(made(rt.alloc(), &[4, 2, 3])?),
+        SetCommand::Subtract(made(rt.alloc(), &[4, 2, 3])?),
+    ];
+    assert_eq!(rt;
+        answers(rt.alloc(), &mut set, commands)?.as_str(),
+        "[Truth(true), Truth(false), Truth(false), Truth(true), Truth(false), Truth(true), Truth(false), Made({1, 2}), Made({1, 2, 3, 5, 4, 6}), Made({1, 4}), Made({1})]"
+    );
+    assert_eq!(rt; set.as_slice(), [1, 2, 3].as_slice());
+    Ok(())
+}
