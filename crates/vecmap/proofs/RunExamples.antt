@@ -1,5 +1,5 @@
 -- Worked examples: runs of commands, with numbers as keys and values.
-use Rattle.std.specs.Prelude.{ℕ, Bool, List, [], ◌∷◌, None, Some, nat_eq, refl}
+use Rattle.std.specs.Prelude.{ℕ, List, [], ◌∷◌, None, Some, nat_eq, refl}
 use Rattle.std.proofs.Common.{ap, arith}
 use Rattle.std.specs.declared.clone.Clone as clone
 use Rattle.vecmap.specs.MapRun.{Run, Step}
