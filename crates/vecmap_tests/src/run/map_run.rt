@@ -1,20 +1,17 @@
 //! Runs of commands on a map. The replies are compared as they print, one after another.
-use std::alloc::Global;
 use std::test::Fail;
 use vecmap::{MapCommand, VecMap, run};
 use vecmap_fixtures::{has_pairs, item_map, make_item};
 
 // What a run of the commands answers, as it prints.
-fn answers<const N: usize>(
-    alloc: Global,
-    map: &mut VecMap<char, u32>,
-    commands: [MapCommand<char, u32>; N],
-) -> Result<String, Fail> {
-    let mut all = Vec::new(alloc);
-    for command in commands {
-        all.push(command)?;
-    }
-    Ok(format!(in alloc; "{:?}", run(alloc, map, all)?)?)
+macro_rules! answers {
+    ($rt:ident, $map:ident, $commands:expr) => {{
+        let mut all = Vec::new($rt.alloc());
+        for command in $commands {
+            all.push(command)?;
+        }
+        format!(in $rt.alloc(); "{:?}", run($rt.alloc(), &mut $map, all)?)?
+    }};
 }
 
 #[test]
@@ -31,7 +28,7 @@ fn a_run_answers_each_command(rt: HostRuntime) -> Result<(), Fail> {
         MapCommand::Len,
     ];
     assert_eq!(rt;
-        answers(rt.alloc(), &mut map, commands)?.as_str(),
+        answers!(rt, map, commands).as_str(),
         "[Value(None), Kept(0, false), Kept(1, true), Full(1, Some(6)), Value(Some(7)), Pair(None), Rest({'b': 7}), Number(1)]"
     );
     assert_eq!(rt; map.as_slice(), [('a', 1)].as_slice());
@@ -51,7 +48,7 @@ fn a_run_appends_and_compares_maps(rt: HostRuntime) -> Result<(), Fail> {
         MapCommand::Get('b'),
     ];
     assert_eq!(rt;
-        answers(rt.alloc(), &mut map, commands)?.as_str(),
+        answers!(rt, map, commands).as_str(),
         "[Done, Pairs([('a', 3), ('b', 2)]), Truth(true), Truth(false), Pair(Some(('a', 3))), Pair(Some(('b', 2))), Value(None)]"
     );
     assert_eq!(rt; map.as_slice(), [('a', 3)].as_slice());
@@ -71,7 +68,7 @@ fn a_run_puts_pairs(rt: HostRuntime) -> Result<(), Fail> {
         MapCommand::InsertKey('e', 8),
     ];
     assert_eq!(rt;
-        answers(rt.alloc(), &mut map, commands)?.as_str(),
+        answers!(rt, map, commands).as_str(),
         "[Value(Some(2)), Full(2, None), Moved(Some((1, 3))), OutOfRange, Moved(None), Pair(Some(('d', 6))), Pair(None)]"
     );
     let left = [('b', 5), ('a', 1), ('c', 4), ('d', 7), ('e', 8)];
@@ -98,7 +95,7 @@ fn a_run_reads(rt: HostRuntime) -> Result<(), Fail> {
         MapCommand::Len,
     ];
     assert_eq!(rt;
-        answers(rt.alloc(), &mut map, commands)?.as_str(),
+        answers!(rt, map, commands).as_str(),
         "[Value(Some(1)), Value(None), Pair(Some(('b', 2))), Pair(None), Place(Some(1)), Place(None), Truth(true), Truth(false), Pair(Some(('a', 1))), Pair(Some(('b', 2))), Number(2)]"
     );
     assert_eq!(rt; (map.as_slice(), map.capacity()), (pairs.as_slice(), room));
@@ -125,7 +122,7 @@ fn a_run_takes_pairs_out(rt: HostRuntime) -> Result<(), Fail> {
         MapCommand::First,
     ];
     assert_eq!(rt;
-        answers(rt.alloc(), &mut map, commands)?.as_str(),
+        answers!(rt, map, commands).as_str(),
         "[Pair(Some(('b', 2))), Pair(Some(('a', 1))), OutOfRange, OutOfRange, Pair(Some(('c', 3))), Pair(None), Pair(Some(('f', 6))), Pair(None), Value(Some(5)), Value(None), Value(Some(4)), Pair(None), Pair(None)]"
     );
     assert!(rt; map.is_empty());
@@ -150,7 +147,7 @@ fn a_run_changes_the_whole_list(rt: HostRuntime) -> Result<(), Fail> {
         MapCommand::Last,
     ];
     assert_eq!(rt;
-        answers(rt.alloc(), &mut map, commands)?.as_str(),
+        answers!(rt, map, commands).as_str(),
         "[Done, OutOfRange, OutOfRange, Pairs([('c', 3), ('b', 2), ('a', 1), ('d', 4)]), Done, Done, Pairs([('d', 4), ('a', 1), ('b', 2)]), OutOfRange, Rest({}), Done, Pair(None)]"
     );
     assert_eq!(rt; (map.len(), map.capacity() >= 4), (0, true));

@@ -5,16 +5,14 @@ use vecmap::{SetCommand, VecSet, run_set};
 use vecmap_fixtures::{has_items, item_set, make_item};
 
 // What a run of the commands answers, as it prints.
-fn answers<const N: usize>(
-    alloc: Global,
-    set: &mut VecSet<u32>,
-    commands: [SetCommand<u32>; N],
-) -> Result<String, Fail> {
-    let mut all = Vec::new(alloc);
-    for command in commands {
-        all.push(command)?;
-    }
-    Ok(format!(in alloc; "{:?}", run_set(alloc, set, all)?)?)
+macro_rules! answers {
+    ($rt:ident, $set:ident, $commands:expr) => {{
+        let mut all = Vec::new($rt.alloc());
+        for command in $commands {
+            all.push(command)?;
+        }
+        format!(in $rt.alloc(); "{:?}", run_set($rt.alloc(), &mut $set, all)?)?
+    }};
 }
 
 fn made(alloc: Global, items: &[u32]) -> Result<VecSet<u32>, AllocError> {
@@ -32,7 +30,7 @@ fn a_run_answers_each_command(rt: HostRuntime) -> Result<(), Fail> {
         SetCommand::Len,
     ];
     assert_eq!(rt;
-        answers(rt.alloc(), &mut set, commands)?.as_str(),
+        answers!(rt, set, commands).as_str(),
         "[Truth(false), Made({2, 1}), OutOfRange, Made({2, 1}), Number(1)]"
     );
     assert_eq!(rt; set.as_slice(), [3].as_slice());
@@ -50,7 +48,7 @@ fn a_run_goes_on_after_a_place_that_is_not_there(rt: HostRuntime) -> Result<(), 
         SetCommand::Last,
     ];
     assert_eq!(rt;
-        answers(rt.alloc(), &mut set, commands)?.as_str(),
+        answers!(rt, set, commands).as_str(),
         "[OutOfRange, Made({1, 2, 3}), Truth(true), Item(Some(1)), Item(None)]"
     );
     assert!(rt; set.is_empty());
@@ -94,7 +92,7 @@ fn a_run_reads(rt: HostRuntime) -> Result<(), Fail> {
         SetCommand::ToVec,
     ];
     assert_eq!(rt;
-        answers(rt.alloc(), &mut set, commands)?.as_str(),
+        answers!(rt, set, commands).as_str(),
         "[Item(Some(2)), Item(None), Item(Some(2)), Item(None), Place(Some(1)), Place(None), Truth(true), Truth(false), Item(Some(1)), Item(Some(2)), Items([1, 2])]"
     );
     assert_eq!(rt; (set.as_slice(), set.capacity()), (items.as_slice(), room));
@@ -120,7 +118,7 @@ fn a_run_takes_elements_out(rt: HostRuntime) -> Result<(), Fail> {
         SetCommand::First,
     ];
     assert_eq!(rt;
-        answers(rt.alloc(), &mut set, commands)?.as_str(),
+        answers!(rt, set, commands).as_str(),
         "[Item(Some(2)), Item(Some(1)), OutOfRange, Item(Some(3)), Item(None), Item(Some(6)), Item(None), Truth(true), Truth(false), Truth(false), Truth(true), Item(None), Item(None)]"
     );
     assert!(rt; set.is_empty());
@@ -144,7 +142,7 @@ fn a_run_changes_the_whole_list(rt: HostRuntime) -> Result<(), Fail> {
         SetCommand::Pop,
     ];
     assert_eq!(rt;
-        answers(rt.alloc(), &mut set, commands)?.as_str(),
+        answers!(rt, set, commands).as_str(),
         "[Done, OutOfRange, Items([3, 2, 1, 4]), Done, Done, Done, Items([4, 1, 2, 9, 8]), OutOfRange, Made({}), Done, Item(None)]"
     );
     assert!(rt; set.is_empty() && 5 <= set.capacity());
@@ -168,7 +166,7 @@ fn a_run_compares_and_joins_sets(rt: HostRuntime) -> Result<(), Fail> {
         SetCommand::Subtract(made(rt.alloc(), &[4, 2, 3])?),
     ];
     assert_eq!(rt;
-        answers(rt.alloc(), &mut set, commands)?.as_str(),
+        answers!(rt, set, commands).as_str(),
         "[Truth(true), Truth(false), Truth(false), Truth(true), Truth(false), Truth(true), Truth(false), Made({1, 2}), Made({1, 2, 3, 5, 4, 6}), Made({1, 4}), Made({1})]"
     );
     assert_eq!(rt; set.as_slice(), [1, 2, 3].as_slice());
