@@ -20,6 +20,7 @@ module _ {K V : Type 0} (eq : K → K → Bool) (eq_value : V → V → Bool) (k
   run_push m (c ∷ cs) [] mid command reply n run step = absurd run
 
 module _ {T : Type 0} (eq : T → T → Bool) (clones : clone.Ghosts T) where
+  -- the same of a set
   pub run_set_push : (s : set.Contents T) (commands : List (SetCommand T)) (replies : List (SetReply T)) (mid : set.Contents T) (command : SetCommand T) (reply : SetReply T) (t : set.Contents T) → RunSet eq clones s commands replies mid → StepSet eq clones mid command reply t → RunSet eq clones s (commands ++ command ∷ []) (replies ++ reply ∷ []) t
   run_set_push s [] [] mid command reply t run step = (t, rw (← run) step, refl)
   run_set_push s (c ∷ cs) (r ∷ rs) mid command reply t run step =

@@ -1,7 +1,6 @@
 -- A put of the value that stands, or of the one handed in where there is none.
-use Rattle.std.specs.Prelude.{◌≡◌, ℕ, suc, zero, List, [], ◌∷◌, ◌++◌, Bool, Option, None, Some, refl}
+use Rattle.std.specs.Prelude.{◌≡◌, ℕ, suc, zero, List, [], ◌∷◌, ◌++◌, Bool, Option, None, Some, refl, unwrap_or}
 use Rattle.std.specs.Option.{option_and_then, option_map_or}
-use Rattle.std.specs.Prelude.{unwrap_or}
 use Rattle.std.proofs.Common.{ap, ◌∙◌}
 use Rattle.vecmap_base.specs.Pairs.{index_of, lookup, put, value_at, with_value}
 use Rattle.vecmap_base.proofs.PairsLemmas.Values.{with_value-cons}
@@ -13,6 +12,7 @@ module _ {K V : Type 0} where
   with_own_value (p ∷ ps) zero v = refl
   with_own_value (p ∷ ps) (suc i) v = with_value-cons p ps i (unwrap_or (value_at ps i) v) ∙ ap (λ rest. p ∷ rest) (with_own_value ps i v)
 
+  -- so a put of the value that stands, or of v where there is none, leaves the list or adds the pair last
   pub put_stored : (eq : K → K → Bool) (l : List (K × V)) (k : K) (v : V) → put eq l k (unwrap_or (lookup eq l k) v) ≡ option_map_or (λ i. l) (index_of eq l k) (l ++ (k, v) ∷ [])
   put_stored eq l k v = by (index_of eq l k)
     where
