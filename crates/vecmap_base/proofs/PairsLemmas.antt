@@ -1,4 +1,6 @@
 -- Lists of pairs.
+pub mod AfterPuts
+pub mod EachValue
 pub mod Keys
 pub mod Lookups
 pub mod Places

@@ -12,8 +12,8 @@ is_some-map f (Some x) = refl
 
 module _ {X : Type 0} (p : X → Bool) where
   -- the first place of a longer list
-  pub position-cons : (x : X) (xs : List X) → position p (x ∷ xs) ≡ cond (p x) (Some 0) (option_map suc (position p xs))
-  position-cons x xs = by (p x)
+  pub position_cons : (x : X) (xs : List X) → position p (x ∷ xs) ≡ cond (p x) (Some 0) (option_map suc (position p xs))
+  position_cons x xs = by (p x)
     where
       one_more : (m : ℕ) → nat_lt (1 + m) (suc (length xs)) ≡ nat_lt m (length xs)
       one_more m = both_ways _ _ (λ e. lt-ltb m (length xs) (let f = ltb-true _ _ e in omega (arith, f))) (λ e. lt-ltb (1 + m) (suc (length xs)) (let f = ltb-true _ _ e in omega (arith, f)))
@@ -27,22 +27,22 @@ module _ {X : Type 0} (p : X → Bool) where
       by false = ap (λ c. cond c (Some (1 + position_or_len p xs)) None) (one_more (position_or_len p xs)) ∙ place (nat_lt (position_or_len p xs) (length xs)) (position_or_len p xs)
 
   position-hit : (x : X) (xs : List X) → p x ≡ true → position p (x ∷ xs) ≡ Some 0
-  position-hit x xs e = position-cons x xs ∙ ap (λ b. cond b (Some 0) (option_map suc (position p xs))) e
+  position-hit x xs e = position_cons x xs ∙ ap (λ b. cond b (Some 0) (option_map suc (position p xs))) e
 
   position-miss : (x : X) (xs : List X) → p x ≡ false → position p (x ∷ xs) ≡ option_map suc (position p xs)
-  position-miss x xs e = position-cons x xs ∙ ap (λ b. cond b (Some 0) (option_map suc (position p xs))) e
+  position-miss x xs e = position_cons x xs ∙ ap (λ b. cond b (Some 0) (option_map suc (position p xs))) e
 
   -- there is one exactly where an element passes
-  pub is_some-position : (xs : List X) → is_some (position p xs) ≡ list_any p xs
-  is_some-position [] = refl
-  is_some-position (x ∷ xs) =
+  pub is_some_position : (xs : List X) → is_some (position p xs) ≡ list_any p xs
+  is_some_position [] = refl
+  is_some_position (x ∷ xs) =
       elim (cases_Bool (p x)) [
         | inl e ↦ ap is_some (position-hit x xs e) ∙ sym (ap (λ b. b || list_any p xs) e)
-        | inr e ↦ ap is_some (position-miss x xs e) ∙ is_some-map suc (position p xs) ∙ is_some-position xs ∙ sym (ap (λ b. b || list_any p xs) e)
+        | inr e ↦ ap is_some (position-miss x xs e) ∙ is_some-map suc (position p xs) ∙ is_some_position xs ∙ sym (ap (λ b. b || list_any p xs) e)
       ]
 
   pub list_any_position : (xs : List X) → list_any p xs ≡ is_some (position p xs)
-  list_any_position xs = sym (is_some-position xs)
+  list_any_position xs = sym (is_some_position xs)
 
   -- there is one exactly where a first one is stored
   pub list_any_stored : (xs : List X) → list_any p xs ≡ is_some (option_and_then (slice_get xs) (position p xs))
@@ -58,7 +58,7 @@ module _ {X : Type 0} (p : X → Bool) where
       some_within (y ∷ ys) (suc i) l = some_within ys i (omega arith)
 
   pub position_none : (xs : List X) → list_any p xs ≡ false → position p xs ≡ None
-  position_none xs e = by (position p xs) (is_some-position xs ∙ e)
+  position_none xs e = by (position p xs) (is_some_position xs ∙ e)
     where
       by : (o : Option ℕ) → is_some o ≡ false → o ≡ None
       by None f = refl
@@ -66,7 +66,7 @@ module _ {X : Type 0} (p : X → Bool) where
 
   -- the place j, which passes, is the first where none before it does
   pub position_at : (xs : List X) (j : ℕ) (x : X) → j < length xs → x ≡ get_or xs j x → p x ≡ true → position p (take j xs) ≡ None → position p xs ≡ Some j
-  position_at xs j x lt e hit miss = first xs j lt (sym (ap p e) ∙ hit) (sym (is_some-position (take j xs)) ∙ ap is_some miss)
+  position_at xs j x lt e hit miss = first xs j lt (sym (ap p e) ∙ hit) (sym (is_some_position (take j xs)) ∙ ap is_some miss)
     where
       first : (ys : List X) (i : ℕ) → i < length ys → p (get_or ys i x) ≡ true → list_any p (take i ys) ≡ false → position p ys ≡ Some i
       first [] i l h m = absurd (omega arith)
@@ -78,6 +78,6 @@ module _ {X : Type 0} (p : X → Bool) where
           ]
 
 module _ {X Y : Type 0} (p : Y → Bool) (f : X → Y) where
-  pub list_any-map : (xs : List X) → list_any p (map f xs) ≡ list_any (λ x. p (f x)) xs
-  list_any-map [] = refl
-  list_any-map (x ∷ xs) = ap (λ b. p (f x) || b) (list_any-map xs)
+  pub list_any_map : (xs : List X) → list_any p (map f xs) ≡ list_any (λ x. p (f x)) xs
+  list_any_map [] = refl
+  list_any_map (x ∷ xs) = ap (λ b. p (f x) || b) (list_any_map xs)

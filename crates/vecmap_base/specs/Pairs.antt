@@ -1,5 +1,5 @@
 -- Lists of pairs of a key and a value, as an ordered map sees them. `eq` is the keys' `==`.
-use Rattle.std.specs.Prelude.{ℕ, ◌-◌, Bool, List, [], ◌∷◌, ◌++◌, Option, String, bytes_eq, fold, insert, length, min, position, remove, slice_get, slice_set, string_bytes, unwrap_or}
+use Rattle.std.specs.Prelude.{ℕ, ◌-◌, Bool, List, [], ◌∷◌, ◌++◌, Option, String, bytes_eq, fold, insert, length, map, min, position, remove, slice_get, slice_set, string_bytes, unwrap_or}
 use Rattle.std.specs.List.{IsDistinct}
 use Rattle.std.specs.Map.{keys_of}
 use Rattle.std.specs.Option.{option_and_then, option_map, option_map_or}
@@ -17,6 +17,10 @@ module _ {K V : Type 0} where
   -- the value at the place i, if there is one
   abbrev pub value_at : List (K × V) → ℕ → Option V
   value_at l i = option_map (λ p. p.1) (slice_get l i)
+
+-- l with g of each value
+abbrev pub map_values : {K V W : Type 0} → (V → W) → List (K × V) → List (K × W)
+map_values g l = map (λ p. (p.0, g p.1)) l
 
 module _ {K V : Type 0} (test : K → Bool) where
   -- the first place whose key passes the test

@@ -1,2 +1,3 @@
+pub mod ContentsLemmas
 mod EntryLemmas
 mod LentLemmas

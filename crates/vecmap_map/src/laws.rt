@@ -1,5 +1,5 @@
 //! Laws of the definitions that the contracts cite. A call of one costs nothing, and gives a proof the law.
-ghost use Rattle.std.specs.Prelude.{◌≡◌, ◌≢◌, ◌<◌, ◌≤◌, ◌++◌, ◌∷◌, ℕ, Bool, IsTrue, List, None, [], drop, false, length, remove, reverse, slice_range, swap, take};
+ghost use Rattle.std.specs.Prelude.{◌≡◌, ◌≢◌, ◌↔◌, ◌<◌, ◌≤◌, ◌++◌, ◌∷◌, ℕ, Bool, IsTrue, List, None, [], drop, false, length, remove, reverse, slice_range, swap, take};
 ghost use Rattle.std.specs.List.{remove_range};
 ghost use Rattle.std.specs.List.Sorted.{IsPermutation};
 ghost use Rattle.vecmap_base.specs.Clones.{AreClones, ClonesAreSame, IsPairClone};
@@ -7,8 +7,15 @@ ghost use Rattle.vecmap_base.specs.Equality.{agrees, counts_agree, has_same_coun
 ghost use Rattle.vecmap_base.specs.Items.{swap_without};
 ghost use Rattle.vecmap_base.specs.Asked.{CallsAtPair};
 ghost use Rattle.vecmap_base.specs.Kept.{Kept};
-ghost use Rattle.vecmap_base.specs.Pairs.{HasDistinctKeys, index_of, lookup, put, put_at, puts, swap_without_key, with_value, without_by};
+ghost use Rattle.vecmap_base.specs.Pairs.{HasDistinctKeys, index_of, lookup, put, put_at, put_key, puts, swap_without_key, with_value, without_by};
 
+mod puts;
+
+pub use puts::{
+    bulk_insertions_are_single_ones, entries_insert_alike, equal_keys_find_the_same,
+    functions_of_values_are_found, insertions_are_found, removals_are_forgotten,
+    writes_are_insertions,
+};
 pub use vecmap_base::laws::iterators_pull_as_lists;
 
 /// Equality of maps is reflexive, symmetric and transitive, also where keys repeat.
@@ -27,6 +34,7 @@ pub fn equality_ignores_order<K: Eq, V: Eq>()
 /// values. It is enough to look up the keys of both maps.
 pub fn equality_is_agreement<K: Eq, V: Eq>()
     ensures equality { (a b : List (K × V)) → HasDistinctKeys K.eq a → HasDistinctKeys K.eq b → has_same_counts K.eq V.eq a b ≡ agrees K.eq V.eq a b }
+    ensures lookups { (a b : List (K × V)) → HasDistinctKeys K.eq a → HasDistinctKeys K.eq b → IsTrue (has_same_counts K.eq V.eq a b) ↔ ((k : K) → IsTrue (same_option V.eq (lookup K.eq a k) (lookup K.eq b k))) }
     ensures every_key { (a b : List (K × V)) → IsTrue (agrees K.eq V.eq a b) → (k : K) → IsTrue (same_option V.eq (lookup K.eq a k) (lookup K.eq b k)) }
 {}
 
@@ -42,6 +50,7 @@ pub fn insertion_keeps_keys_distinct<K: Eq, V>()
     ensures put { (l : List (K × V)) → HasDistinctKeys K.eq l → (k : K) (v : V) → HasDistinctKeys K.eq (put K.eq l k v) }
     ensures puts { (l : List (K × V)) → HasDistinctKeys K.eq l → (pairs : List (K × V)) → HasDistinctKeys K.eq (puts K.eq l pairs) }
     ensures made { (pairs : List (K × V)) → HasDistinctKeys K.eq (puts K.eq [] pairs) }
+    ensures key { (l : List (K × V)) → HasDistinctKeys K.eq l → (k : K) (v : V) → HasDistinctKeys K.eq (put_key K.eq l k v) }
     ensures at { (l : List (K × V)) → HasDistinctKeys K.eq l → (i : ℕ) (k : K) (v : V) → HasDistinctKeys K.eq (put_at K.eq l i k v) }
     ensures value { (l : List (K × V)) → HasDistinctKeys K.eq l → (i : ℕ) (v : V) → HasDistinctKeys K.eq (with_value l i v) }
 {}

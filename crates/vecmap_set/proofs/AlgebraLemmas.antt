@@ -5,7 +5,7 @@ use Rattle.std.specs.List.{IsDistinct}
 use Rattle.vecmap_base.specs.Equality.{has_same_items}
 use Rattle.vecmap_base.specs.Items.{both}
 use Rattle.vecmap_base.proofs.EqualityLemmas.Sets.{set_equality_laws}
-use Rattle.vecmap_base.proofs.EqualityLemmas.Relations.{both_turned, length-both_turned, length-union, union_turned}
+use Rattle.vecmap_base.proofs.EqualityLemmas.Relations.{both_turned, length_both_turned, length_union, union_turned}
 use Rattle.vecmap_set.specs.Lazy.{longer, not_longer, not_shorter, shorter}
 use Rattle.vecmap_set.specs.Operators.{lazy_intersection, lazy_union, union_of}
 
@@ -50,15 +50,15 @@ module _ {T : Type 0} (eq : T → T → Bool) (o : IsEquivalence eq) (a b : List
 module _ {T : Type 0} (eq : T → T → Bool) (o : IsEquivalence eq) (a b : List T) (d : IsDistinct eq a) (e : IsDistinct eq b) where
   -- the lengths of intersection and union add up
   pub lengths_add : length (both eq a b) + length (union_of eq a b) ≡ length a + length b
-  lengths_add = omega (arith, length-union eq o a b d e)
+  lengths_add = omega (arith, length_union eq o a b d e)
 
   length_lazy_intersection : length (lazy_intersection eq a b) ≡ length (both eq a b)
-  length_lazy_intersection = on_shorter a b (λ s t. length (both eq s t) ≡ length (both eq a b)) (length-both_turned eq o b a e d) (λ i. length (both eq a b))
+  length_lazy_intersection = on_shorter a b (λ s t. length (both eq s t) ≡ length (both eq a b)) (length_both_turned eq o b a e d) (λ i. length (both eq a b))
 
   length_lazy_union : length (lazy_union eq a b) ≡ length (union_of eq a b)
   length_lazy_union =
       on_longer a b (λ s t. length (union_of eq s t) ≡ length (union_of eq a b))
-      (omega (arith, length-union eq o a b d e, length-union eq o b a e d, length-both_turned eq o a b d e))
+      (omega (arith, length_union eq o a b d e, length_union eq o b a e d, length_both_turned eq o a b d e))
       (λ i. length (union_of eq a b))
 
   pub lazy_lengths_add : length (lazy_intersection eq a b) + length (lazy_union eq a b) ≡ length a + length b

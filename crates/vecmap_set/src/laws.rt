@@ -5,8 +5,13 @@ ghost use Rattle.std.specs.List.Sorted.{IsPermutation};
 ghost use Rattle.vecmap_base.specs.Equality.{has_same_items, is_within};
 ghost use Rattle.vecmap_base.specs.Items.{adds, both};
 
+mod additions;
 mod algebra;
 
+pub use additions::{
+    additions_keep_elements_distinct, additions_move_nothing, bulk_additions_are_single_ones,
+    equal_elements_have_one_place, removals_are_forgotten,
+};
 pub use algebra::{
     algebra_is_symmetric, disjoint_sets_have_no_intersection, lazy_iterators_agree_with_operators,
     lazy_iterators_give_no_repeats, lazy_iterators_pull_as_lists,

@@ -12,7 +12,7 @@ use Rattle.std.proofs.lemmas.List.Sorted.{IsPermutation-insert}
 use Rattle.std.proofs.lemmas.Map.Keys.{IsDistinct-head, IsDistinct-tail, IsDistinct-push}
 use Rattle.std.proofs.lemmas.Map.Steps.{list_any_congr}
 use Rattle.vecmap_base.specs.Items.{add, add_new, adds, has_item, item_index}
-use Rattle.vecmap_base.proofs.PlaceLemmas.{is_some-position}
+use Rattle.vecmap_base.proofs.PlaceLemmas.{is_some_position}
 use Rattle.vecmap_base.proofs.DistinctLemmas.Absent.{distinct_if_absent, none_equal}
 use Rattle.vecmap_base.proofs.DistinctLemmas.Order.{distinct_rearranged}
 
@@ -67,7 +67,7 @@ module _ {T : Type 0} (eq : T → T → Bool) (o : IsEquivalence eq) where
   distinct_add_new s x d = by (item_index eq s x) refl
     where
       by : (place : Option ℕ) → item_index eq s x ≡ place → IsDistinct eq (option_map_or (λ i. slice_set s i x) place (s ++ x ∷ []))
-      by None e = IsDistinct-push o s x d (sym (is_some-position (eq x) s) ∙ ap is_some e)
+      by None e = IsDistinct-push o s x d (sym (is_some_position (eq x) s) ∙ ap is_some e)
       by (Some i) e =
           let at = position-Some (eq x) s i x e in
           distinct_replace s i x at.0 at.1 d

@@ -15,11 +15,11 @@ use Rattle.vecmap_base.specs.Clones.{AreClones, ClonesAreSame, IsPairClone}
 use Rattle.vecmap_base.specs.Items.{has_item, swap_without, without_item}
 use Rattle.vecmap_base.specs.Pairs.{HasDistinctKeys, index_by, index_of, put, put_at, put_key, puts, swap_without_key, with_value, without_by}
 use Rattle.vecmap_base.proofs.ItemsLemmas.Removals.{without_item_absent}
-use Rattle.vecmap_base.proofs.PairsLemmas.Keys.{index_of_is, keys_of-insert, keys_of-put, keys_of-put_key, keys_of-puts, keys_of-remove}
-use Rattle.vecmap_base.proofs.PairsLemmas.Places.{index_of_none, is_some-index_of}
+use Rattle.vecmap_base.proofs.PairsLemmas.Keys.{index_of_is, keys_of_insert, keys_of_put, keys_of_put_key, keys_of_puts, keys_of_remove}
+use Rattle.vecmap_base.proofs.PairsLemmas.Places.{index_of_none, is_some_index_of}
 use Rattle.vecmap_base.proofs.PairsLemmas.Puts.{put_absent, put_at_absent, put_at_present}
-use Rattle.vecmap_base.proofs.PairsLemmas.Values.{keys_of-with_value}
-use Rattle.vecmap_base.proofs.PlaceLemmas.{is_some-position}
+use Rattle.vecmap_base.proofs.PairsLemmas.Values.{keys_of_with_value}
+use Rattle.vecmap_base.proofs.PlaceLemmas.{is_some_position}
 use Rattle.vecmap_base.proofs.DistinctLemmas.Additions.{distinct_add, distinct_add_new, distinct_adds, distinct_insert}
 use Rattle.vecmap_base.proofs.DistinctLemmas.Clones.{distinct_clones}
 use Rattle.vecmap_base.proofs.DistinctLemmas.Order.{distinct_rearranged}
@@ -34,13 +34,13 @@ keys_of-clones C D (p ∷ ps) (q ∷ qs) c = (c.0.0, keys_of-clones C D ps qs c.
 
 module _ {K V : Type 0} (eq : K → K → Bool) where
   pub distinct_keys_with_value : (l : List (K × V)) (i : ℕ) (v : V) → HasDistinctKeys eq l → HasDistinctKeys eq (with_value l i v)
-  distinct_keys_with_value l i v d = subst (IsDistinct eq) (sym (keys_of-with_value l i v)) d
+  distinct_keys_with_value l i v d = subst (IsDistinct eq) (sym (keys_of_with_value l i v)) d
 
   pub distinct_keys_take : (l : List (K × V)) (n : ℕ) → HasDistinctKeys eq l → HasDistinctKeys eq (take n l)
   distinct_keys_take l n d = subst (IsDistinct eq) (take-map (λ p. p.0) n l) (distinct_take eq n (keys_of l) d)
 
   pub distinct_keys_remove : (l : List (K × V)) (i : ℕ) → HasDistinctKeys eq l → HasDistinctKeys eq (remove l i)
-  distinct_keys_remove l i d = subst (IsDistinct eq) (sym (keys_of-remove l i)) (distinct_remove eq (keys_of l) i d)
+  distinct_keys_remove l i d = subst (IsDistinct eq) (sym (keys_of_remove l i)) (distinct_remove eq (keys_of l) i d)
 
   pub distinct_keys_without : (test : K → Bool) (l : List (K × V)) → HasDistinctKeys eq l → HasDistinctKeys eq (without_by test l)
   distinct_keys_without test l d = by (index_by test l)
@@ -79,31 +79,31 @@ module _ {K V : Type 0} (eq : K → K → Bool) where
     -- a key that is there for none is stored as a clone
     pub distinct_keys_stored : (l : List (K × V)) (k stored : K) (v : V) → IsTrue (eq k stored) → index_of eq l k ≡ None → HasDistinctKeys eq l → HasDistinctKeys eq (l ++ (stored, v) ∷ [])
     distinct_keys_stored l k stored v same e d =
-        let absent : list_any (eq stored) (keys_of l) ≡ false = sym (list_any_congr o k stored (keys_of l) same) ∙ sym (is_some-index_of eq l k) ∙ ap is_some e in
-        subst (HasDistinctKeys eq) (put_absent eq l stored v (index_of_none eq l stored absent)) (subst (IsDistinct eq) (sym (keys_of-put eq l stored v)) (distinct_add eq o (keys_of l) stored d))
+        let absent : list_any (eq stored) (keys_of l) ≡ false = sym (list_any_congr o k stored (keys_of l) same) ∙ sym (is_some_index_of eq l k) ∙ ap is_some e in
+        subst (HasDistinctKeys eq) (put_absent eq l stored v (index_of_none eq l stored absent)) (subst (IsDistinct eq) (sym (keys_of_put eq l stored v)) (distinct_add eq o (keys_of l) stored d))
 
     pub distinct_keys_clones : (key_clone : K → K → Type 0) (value_clone : V → V → Type 0) → ClonesAreSame eq key_clone → (l m : List (K × V)) → AreClones (IsPairClone key_clone value_clone) l m → HasDistinctKeys eq l → HasDistinctKeys eq m
     distinct_keys_clones C D same l m c = distinct_clones eq o C same (keys_of l) (keys_of m) (keys_of-clones C D l m c)
 
     pub distinct_put : (l : List (K × V)) (k : K) (v : V) → HasDistinctKeys eq l → HasDistinctKeys eq (put eq l k v)
-    distinct_put l k v d = subst (IsDistinct eq) (sym (keys_of-put eq l k v)) (distinct_add eq o (keys_of l) k d)
+    distinct_put l k v d = subst (IsDistinct eq) (sym (keys_of_put eq l k v)) (distinct_add eq o (keys_of l) k d)
 
     pub distinct_puts : (l ps : List (K × V)) → HasDistinctKeys eq l → HasDistinctKeys eq (puts eq l ps)
-    distinct_puts l ps d = subst (IsDistinct eq) (sym (keys_of-puts eq l ps)) (distinct_adds eq o (keys_of l) (keys_of ps) d)
+    distinct_puts l ps d = subst (IsDistinct eq) (sym (keys_of_puts eq l ps)) (distinct_adds eq o (keys_of l) (keys_of ps) d)
 
     pub distinct_put_key : (l : List (K × V)) (k : K) (v : V) → HasDistinctKeys eq l → HasDistinctKeys eq (put_key eq l k v)
-    distinct_put_key l k v d = subst (IsDistinct eq) (sym (keys_of-put_key eq l k v)) (distinct_add_new eq o (keys_of l) k d)
+    distinct_put_key l k v d = subst (IsDistinct eq) (sym (keys_of_put_key eq l k v)) (distinct_add_new eq o (keys_of l) k d)
 
     pub distinct_put_at : (l : List (K × V)) (i : ℕ) (k : K) (v : V) → HasDistinctKeys eq l → HasDistinctKeys eq (put_at eq l i k v)
     distinct_put_at l i k v d = by (index_of eq l k) refl
       where
         by : (found : Option ℕ) → index_of eq l k ≡ found → HasDistinctKeys eq (put_at eq l i k v)
         by None e =
-            let absent : has_item eq (keys_of l) k ≡ false = sym (is_some-position (eq k) (keys_of l)) ∙ ap is_some (sym (index_of_is eq l k) ∙ e) in
-            subst (IsDistinct eq) (sym (ap keys_of (put_at_absent eq l i k v e) ∙ keys_of-insert l i k v)) (distinct_insert eq o (keys_of l) i k absent d)
+            let absent : has_item eq (keys_of l) k ≡ false = sym (is_some_position (eq k) (keys_of l)) ∙ ap is_some (sym (index_of_is eq l k) ∙ e) in
+            subst (IsDistinct eq) (sym (ap keys_of (put_at_absent eq l i k v e) ∙ keys_of_insert l i k v)) (distinct_insert eq o (keys_of l) i k absent d)
         by (Some j) e =
             let n = min i (length l - 1) in
             let gone : without_item eq (keys_of l) k ≡ remove (keys_of l) j = ap (λ found. option_map_or (λ m. remove (keys_of l) m) found (keys_of l)) (sym (index_of_is eq l k) ∙ e) in
             let absent : has_item eq (remove (keys_of l) j) k ≡ false = sym (ap (λ s. has_item eq s k) gone) ∙ without_item_absent eq o (keys_of l) k d in
-            subst (IsDistinct eq) (sym (ap keys_of (put_at_present eq l i k v j e) ∙ keys_of-insert (remove l j) n k v ∙ ap (λ s. insert s n k) (keys_of-remove l j)))
+            subst (IsDistinct eq) (sym (ap keys_of (put_at_present eq l i k v j e) ∙ keys_of_insert (remove l j) n k v ∙ ap (λ s. insert s n k) (keys_of_remove l j)))
             (distinct_insert eq o (remove (keys_of l) j) n k absent (distinct_remove eq (keys_of l) j d))

@@ -25,8 +25,8 @@ module _ {X : Type 0} (same : X → X → Bool) (o : IsEquivalence same) where
   abbrev pub SameCounts : List X → List X → Type 0
   SameCounts a b = (x : X) → many a x ≡ many b x
 
-  pub many-cons : (x : X) (xs : List X) (y : X) → many (x ∷ xs) y ≡ cond (same y x) 1 0 + many xs y
-  many-cons x xs y = sum_by-cons (λ z. cond (same y z) 1 0) x xs
+  pub many_cons : (x : X) (xs : List X) (y : X) → many (x ∷ xs) y ≡ cond (same y x) 1 0 + many xs y
+  many_cons x xs y = sum_by-cons (λ z. cond (same y z) 1 0) x xs
 
   many-congr : (l : List X) (x y : X) → same x y ≡ true → many l x ≡ many l y
   many-congr l x y e = λ t. count_by (λ z. o.congr x y z e t) l
@@ -35,7 +35,7 @@ module _ {X : Type 0} (same : X → X → Bool) (o : IsEquivalence same) where
   many_absent [] x e = refl
   many_absent (y ∷ ys) x e =
       let apart = or_parts (same x y) (list_any (same x) ys) e in
-      many-cons y ys x ∙ ap (λ b. cond b 1 0 + many ys x) apart.0 ∙ (let rest = many_absent ys x apart.1 in omega (arith, rest))
+      many_cons y ys x ∙ ap (λ b. cond b 1 0 + many ys x) apart.0 ∙ (let rest = many_absent ys x apart.1 in omega (arith, rest))
 
   agreed : (xs a b : List X) (x : X) → all_agree xs a b ≡ true → list_any (same x) xs ≡ true → many a x ≡ many b x
   agreed [] a b x e h = absurd (true≢false (sym h))
@@ -107,7 +107,7 @@ module _ {X : Type 0} (same : X → X → Bool) (o : IsEquivalence same) where
         | inl h ↦ h
         | inr h ↦
             let none : many b x ≡ 0 = many_absent b x h in
-            let some : many (x ∷ xs) x ≡ 1 + many xs x = many-cons x xs x ∙ ap (λ c. cond c 1 0 + many xs x) (o.refl x) in
+            let some : many (x ∷ xs) x ≡ 1 + many xs x = many_cons x xs x ∙ ap (λ c. cond c 1 0 + many xs x) (o.refl x) in
             absurd (omega (arith, e, none, some))
       ]
 
@@ -119,8 +119,8 @@ module _ {X : Type 0} (same : X → X → Bool) (o : IsEquivalence same) where
       let here : list_any (same x) (x ∷ xs) ≡ true = or_left (same x x) (list_any (same x) xs) (o.refl x) in
       let part = less x b (found x xs b (h x here)) in
       let rest = settled xs part.rest (omega (arith, part.shorter)) (λ y e.
-      omega (arith, h y (or_right (same y x) (list_any (same y) xs) e), many-cons x xs y, part.counts y)) in
-      omega (arith, rest z, many-cons x xs z, part.counts z)
+      omega (arith, h y (or_right (same y x) (list_any (same y) xs) e), many_cons x xs y, part.counts y)) in
+      omega (arith, rest z, many_cons x xs z, part.counts z)
 
   -- equal counts are of lists of one length
   one_length : (a b : List X) → SameCounts a b → length a ≡ length b
@@ -128,7 +128,7 @@ module _ {X : Type 0} (same : X → X → Bool) (o : IsEquivalence same) where
   one_length [] (y ∷ ys) h = absurd (true≢false (sym (found y ys [] (sym (h y)))))
   one_length (x ∷ xs) b h =
       let part = less x b (found x xs b (h x)) in
-      let rest = one_length xs part.rest (λ y. omega (arith, h y, many-cons x xs y, part.counts y)) in
+      let rest = one_length xs part.rest (λ y. omega (arith, h y, many_cons x xs y, part.counts y)) in
       omega (arith, rest, part.shorter)
 
   pub lengths_differ : (a b : List X) → (length a ≡ length b → ⊥) → as_often a b ≡ false
@@ -144,5 +144,5 @@ module _ {K V : Type 0} (key : K → K → Bool) (value : V → V → Bool) wher
   count-nil : (p : K × V) → count key value [] p ≡ 0
   count-nil p = refl
 
-  pub count-cons : (q : K × V) (qs : List (K × V)) (p : K × V) → count key value (q ∷ qs) p ≡ (if key p.0 q.0 && value p.1 q.1 then 1 else 0) + count key value qs p
-  count-cons q qs p = sum_by-cons (λ r. cond (same_pair key value p r) 1 0) q qs
+  pub count_cons : (q : K × V) (qs : List (K × V)) (p : K × V) → count key value (q ∷ qs) p ≡ (if key p.0 q.0 && value p.1 q.1 then 1 else 0) + count key value qs p
+  count_cons q qs p = sum_by-cons (λ r. cond (same_pair key value p r) 1 0) q qs

@@ -4,19 +4,19 @@ use Rattle.std.specs.Cmp.{IsEquivalence, both_ways}
 use Rattle.std.specs.List.{AllZip}
 use Rattle.std.proofs.Common.{cond, ap, ◌∙◌, arith}
 use Rattle.vecmap_base.specs.Equality.{has_same_counts, same_pair}
-use Rattle.vecmap_base.proofs.EqualityLemmas.Counts.{SameCounts, many-cons, counts_from_test, test_from_counts}
+use Rattle.vecmap_base.proofs.EqualityLemmas.Counts.{SameCounts, many_cons, counts_from_test, test_from_counts}
 use Rattle.vecmap_base.proofs.EqualityLemmas.Maps.{same_pair_laws}
 
 module _ {X : Type 0} (same : X → X → Bool) (o : IsEquivalence same) where
   same_counts-cons : (x y : X) (a b : List X) → same x y ≡ true → SameCounts same o a b → SameCounts same o (x ∷ a) (y ∷ b)
   same_counts-cons x y a b e h z =
       let like : same z x ≡ same z y = o.symm z x ∙ o.congr x y z e ∙ o.symm y z in
-      omega (arith, many-cons same o x a z, many-cons same o y b z, h z, ap {B = ℕ} (λ c. cond c 1 0) like)
+      omega (arith, many_cons same o x a z, many_cons same o y b z, h z, ap {B = ℕ} (λ c. cond c 1 0) like)
 
   same_counts-tail : (x y : X) (a b : List X) → same x y ≡ true → SameCounts same o (x ∷ a) (y ∷ b) → SameCounts same o a b
   same_counts-tail x y a b e h z =
       let like : same z x ≡ same z y = o.symm z x ∙ o.congr x y z e ∙ o.symm y z in
-      omega (arith, many-cons same o x a z, many-cons same o y b z, h z, ap {B = ℕ} (λ c. cond c 1 0) like)
+      omega (arith, many_cons same o x a z, many_cons same o y b z, h z, ap {B = ℕ} (λ c. cond c 1 0) like)
 
 module _ {K V : Type 0} (key : K → K → Bool) (value : V → V → Bool) (k : IsEquivalence key) (v : IsEquivalence value) where
   -- after a front of equal pairs, the rests settle it

@@ -1,5 +1,5 @@
 -- The laws of the equality of maps. They hold of all lists of pairs, also where keys repeat.
-use Rattle.std.specs.Prelude.{◌≡◌, ℕ, ◌+◌, Bool, true, false, ◌&&◌, ◌||◌, List, [], ◌∷◌, Option, None, Some, length, refl}
+use Rattle.std.specs.Prelude.{◌≡◌, ◌↔◌, IsTrue, ℕ, ◌+◌, Bool, true, false, ◌&&◌, ◌||◌, List, [], ◌∷◌, Option, None, Some, length, refl}
 use Rattle.std.specs.Cmp.{IsEquivalence, both_ways}
 use Rattle.std.specs.List.{list_any}
 use Rattle.std.specs.List.Sorted.{IsPermutation}
@@ -10,7 +10,7 @@ use Rattle.std.proofs.lemmas.Map.Keys.{IsDistinct-head, IsDistinct-tail}
 use Rattle.std.proofs.lemmas.Map.Steps.{list_any_congr}
 use Rattle.vecmap_base.specs.Equality.{agrees, count, counts_agree, has_same_counts, lookups_agree, same_option, same_pair}
 use Rattle.vecmap_base.specs.Pairs.{HasDistinctKeys, lookup}
-use Rattle.vecmap_base.proofs.EqualityLemmas.Counts.{many-cons, counts_from_test, test_from_counts, as_often_laws, rearranged_as_often, lengths_differ, settled_by_half}
+use Rattle.vecmap_base.proofs.EqualityLemmas.Counts.{many_cons, counts_from_test, test_from_counts, as_often_laws, rearranged_as_often, lengths_differ, settled_by_half}
 use Rattle.vecmap_base.proofs.DistinctLemmas.Absent.{none_equal}
 use Rattle.vecmap_base.proofs.PairsLemmas.Lookups.{look, lookup_absent, lookup_congr}
 
@@ -44,7 +44,7 @@ module _ {K V : Type 0} (key : K → K → Bool) (value : V → V → Bool) (k :
   hits (Some x) w = cond (value w x) 1 0
 
   pair_more : (p : K × V) (ps : List (K × V)) (x : K) (w : V) (b : Bool) → key x p.0 ≡ b → count key value (p ∷ ps) (x, w) ≡ cond (b && value w p.1) 1 0 + count key value ps (x, w)
-  pair_more p ps x w b e = many-cons (same_pair key value) same_pair_laws p ps (x, w) ∙ ap (λ c. cond (c && value w p.1) 1 0 + count key value ps (x, w)) e
+  pair_more p ps x w b e = many_cons (same_pair key value) same_pair_laws p ps (x, w) ∙ ap (λ c. cond (c && value w p.1) 1 0 + count key value ps (x, w)) e
 
   none_counted : (l : List (K × V)) (x : K) (w : V) → list_any (key x) (keys_of l) ≡ false → count key value l (x, w) ≡ 0
   none_counted [] x w e = refl
@@ -125,3 +125,9 @@ module _ {K V : Type 0} (key : K → K → Bool) (value : V → V → Bool) (k :
       both_ways _ _
       (λ h. test_from_lookups a b (λ x. same_from_hits (lookup key a x) (lookup key b x) (λ w. sym (count_is_hits a x w d) ∙ counts_from_test (same_pair key value) same_pair_laws a b h (x, w) ∙ count_is_hits b x w e)))
       (λ h. test_from_counts (same_pair key value) same_pair_laws a b (λ p. count_is_hits a p.0 p.1 d ∙ hits_from_same (lookup key a p.0) (lookup key b p.0) p.1 (lookups_from_test a b h p.0) ∙ sym (count_is_hits b p.0 p.1 e)))
+
+  -- the same as one equivalence: each key finds equal values, or none, in both
+  pub equal_where_lookups_agree : (a b : List (K × V)) → HasDistinctKeys key a → HasDistinctKeys key b → IsTrue (has_same_counts key value a b) ↔ ((x : K) → IsTrue (same_option value (lookup key a x) (lookup key b x)))
+  equal_where_lookups_agree a b d e =
+      let agreement = equality_is_agreement a b d e in
+      (λ h. lookups_from_test a b (sym agreement ∙ h), λ h. agreement ∙ test_from_lookups a b h)

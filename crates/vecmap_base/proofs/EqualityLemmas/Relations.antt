@@ -25,11 +25,11 @@ none_passes test (x ∷ xs) = by (test x) (none_passes test xs)
     by false h = h
 
 module _ {T : Type 0} (eq : T → T → Bool) (o : IsEquivalence eq) where
-  pub has_item-both : (a b : List T) (x : T) → has_item eq (both eq a b) x ≡ (has_item eq a x && has_item eq b x)
-  has_item-both a b x = is_member-filter o (λ y. has_item eq b y) x (λ y e. list_any_congr o x y b e) a
+  pub has_item_both : (a b : List T) (x : T) → has_item eq (both eq a b) x ≡ (has_item eq a x && has_item eq b x)
+  has_item_both a b x = is_member-filter o (λ y. has_item eq b y) x (λ y e. list_any_congr o x y b e) a
 
-  pub has_item-only : (a b : List T) (x : T) → has_item eq (only eq a b) x ≡ (has_item eq a x && not (has_item eq b x))
-  has_item-only a b x = is_member-filter o (λ y. not (has_item eq b y)) x (λ y e. ap not (list_any_congr o x y b e)) a
+  pub has_item_only : (a b : List T) (x : T) → has_item eq (only eq a b) x ≡ (has_item eq a x && not (has_item eq b x))
+  has_item_only a b x = is_member-filter o (λ y. not (has_item eq b y)) x (λ y e. ap not (list_any_congr o x y b e)) a
 
   -- two lists that hold the same, in any order and number
   pub same_items : (a b : List T) → ((x : T) → has_item eq a x ≡ has_item eq b x) → has_same_items eq a b ≡ true
@@ -37,10 +37,10 @@ module _ {T : Type 0} (eq : T → T → Bool) (o : IsEquivalence eq) where
 
   -- what is in both, and what is in one or the other, does not depend on the order of the two
   pub both_turned : (a b : List T) → has_same_items eq (both eq a b) (both eq b a) ≡ true
-  both_turned a b = same_items (both eq a b) (both eq b a) (λ x. has_item-both a b x ∙ and_comm (has_item eq a x) (has_item eq b x) ∙ sym (has_item-both b a x))
+  both_turned a b = same_items (both eq a b) (both eq b a) (λ x. has_item_both a b x ∙ and_comm (has_item eq a x) (has_item eq b x) ∙ sym (has_item_both b a x))
 
   has_item-union : (a b : List T) (x : T) → has_item eq (a ++ only eq b a) x ≡ (has_item eq a x || has_item eq b x)
-  has_item-union a b x = list_any-append (eq x) a (only eq b a) ∙ ap (λ c. has_item eq a x || c) (has_item-only b a x) ∙ by (has_item eq a x) (has_item eq b x)
+  has_item-union a b x = list_any-append (eq x) a (only eq b a) ∙ ap (λ c. has_item eq a x || c) (has_item_only b a x) ∙ by (has_item eq a x) (has_item eq b x)
     where
       by : (c d : Bool) → (c || (d && not c)) ≡ (c || d)
       by true d = refl
@@ -63,7 +63,7 @@ module _ {T : Type 0} (eq : T → T → Bool) (o : IsEquivalence eq) where
   -- where nothing of a is in b, nothing of b is in a
   pub both_empty_turned : (a b : List T) → both eq a b ≡ [] → both eq b a ≡ []
   both_empty_turned a b e =
-      nothing_in (both eq b a) (λ x. has_item-both b a x ∙ and_comm (has_item eq b x) (has_item eq a x) ∙ sym (has_item-both a b x) ∙ ap (λ l. has_item eq l x) e)
+      nothing_in (both eq b a) (λ x. has_item_both b a x ∙ and_comm (has_item eq b x) (has_item eq a x) ∙ sym (has_item_both a b x) ∙ ap (λ l. has_item eq l x) e)
 
   -- a walk over a finds whether it shares nothing with b
   pub apart_by_walk : (a b : List T) (found : Bool) → found ≡ list_any (has_item eq b) a → IsTrue (not found) ↔ (both eq a b ≡ [])
@@ -90,20 +90,20 @@ module _ {T : Type 0} (eq : T → T → Bool) (o : IsEquivalence eq) where
   not_in false d e = absurd (true≢false (sym e))
 
   pub distinct_union : (a b : List T) → IsDistinct eq a → IsDistinct eq b → IsDistinct eq (a ++ only eq b a)
-  distinct_union a b d e = distinct_append eq o a (only eq b a) d (distinct_only b a e) (λ x m. not_in (has_item eq b x) (has_item eq a x) (sym (has_item-only b a x) ∙ m))
+  distinct_union a b d e = distinct_append eq o a (only eq b a) d (distinct_only b a e) (λ x m. not_in (has_item eq b x) (has_item eq a x) (sym (has_item_only b a x) ∙ m))
 
   pub distinct_symmetric_difference : (a b : List T) → IsDistinct eq a → IsDistinct eq b → IsDistinct eq (only eq a b ++ only eq b a)
   distinct_symmetric_difference a b d e =
       distinct_append eq o (only eq a b) (only eq b a) (distinct_only a b d) (distinct_only b a e) (λ x m.
-      has_item-only a b x ∙ ap (λ c. c && not (has_item eq b x)) (not_in (has_item eq b x) (has_item eq a x) (sym (has_item-only b a x) ∙ m)))
+      has_item_only a b x ∙ ap (λ c. c && not (has_item eq b x)) (not_in (has_item eq b x) (has_item eq a x) (sym (has_item_only b a x) ∙ m)))
 
-  pub length-both_turned : (a b : List T) → IsDistinct eq a → IsDistinct eq b → length (both eq a b) ≡ length (both eq b a)
-  length-both_turned a b d e =
-      length-from_same_keys o (both eq a b) (both eq b a) (distinct_both a b d) (distinct_both b a e) (λ x. has_item-both a b x ∙ and_comm (has_item eq a x) (has_item eq b x) ∙ sym (has_item-both b a x))
+  pub length_both_turned : (a b : List T) → IsDistinct eq a → IsDistinct eq b → length (both eq a b) ≡ length (both eq b a)
+  length_both_turned a b d e =
+      length-from_same_keys o (both eq a b) (both eq b a) (distinct_both a b d) (distinct_both b a e) (λ x. has_item_both a b x ∙ and_comm (has_item eq a x) (has_item eq b x) ∙ sym (has_item_both b a x))
 
-  pub length-both-only : (a b : List T) → length (both eq a b) + length (only eq a b) ≡ length a
-  length-both-only a b = length-filter_both (λ x. has_item eq b x) (λ x. not (has_item eq b x)) (λ x. refl) a
+  pub length_both_only : (a b : List T) → length (both eq a b) + length (only eq a b) ≡ length a
+  length_both_only a b = length-filter_both (λ x. has_item eq b x) (λ x. not (has_item eq b x)) (λ x. refl) a
 
   -- the lengths of the union and of what is in both add up to those of the two
-  pub length-union : (a b : List T) → IsDistinct eq a → IsDistinct eq b → length (a ++ only eq b a) + length (both eq a b) ≡ length a + length b
-  length-union a b d e = omega (arith, length-append a (only eq b a), length-both_turned a b d e, length-both-only b a)
+  pub length_union : (a b : List T) → IsDistinct eq a → IsDistinct eq b → length (a ++ only eq b a) + length (both eq a b) ≡ length a + length b
+  length_union a b d e = omega (arith, length-append a (only eq b a), length_both_turned a b d e, length_both_only b a)

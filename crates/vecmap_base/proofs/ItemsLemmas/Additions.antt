@@ -4,7 +4,7 @@ use Rattle.std.specs.Cmp.{IsEquivalence}
 use Rattle.std.specs.List.{IsDistinct}
 use Rattle.std.proofs.Common.{ap, ◌∙◌, get_or, sym, subst}
 use Rattle.std.proofs.lemmas.List.{append-nil, append_assoc}
-use Rattle.std.proofs.lemmas.List.Sums.{fold_more}
+use Rattle.std.proofs.lemmas.List.Sums.{fold_more, fold-append}
 use Rattle.vecmap_base.specs.Items.{add, adds, has_item}
 use Rattle.vecmap_base.proofs.DistinctLemmas.Absent.{none_before}
 
@@ -18,6 +18,10 @@ module _ {T : Type 0} (eq : T → T → Bool) where
   -- one more addition
   pub adds_more : (xs : List T) (i : ℕ) (d : T) → i < length xs → adds eq [] (take (i + 1) xs) ≡ add eq (adds eq [] (take i xs)) (get_or xs i d)
   adds_more xs i d l = fold_more (add eq) [] xs i d l
+
+  -- an addition of elements in two goes is an addition of all of them
+  pub adds_append : (s xs ys : List T) → adds eq s (xs ++ ys) ≡ adds eq (adds eq s xs) ys
+  adds_append s xs ys = fold-append (add eq) s xs ys
 
   module _ (o : IsEquivalence eq) where
     pub adds_apart : (s xs : List T) → IsDistinct eq (s ++ xs) → adds eq s xs ≡ s ++ xs

@@ -4,18 +4,18 @@ use Rattle.std.specs.Option.{option_and_then, option_map, option_map_or}
 use Rattle.std.proofs.Common.{ap, ◌∙◌}
 use Rattle.vecmap_base.specs.Equality.{is_within}
 use Rattle.vecmap_base.specs.Items.{add, add_new, adds, both, has_item, item_index, only, stored_item, without_first, without_item, swap_without}
-use Rattle.vecmap_base.proofs.PlaceLemmas.{position-cons}
+use Rattle.vecmap_base.proofs.PlaceLemmas.{position_cons}
 
 -- the only element goes
-pub swap_without-one : {T : Type 0} (x : T) → swap_without (x ∷ []) 0 ≡ []
-swap_without-one x = refl
+pub swap_without_one : {T : Type 0} (x : T) → swap_without (x ∷ []) 0 ≡ []
+swap_without_one x = refl
 
 module _ {T : Type 0} (test : T → Bool) where
   without_first-nil : without_first test [] ≡ []
   without_first-nil = refl
 
-  pub without_first-cons : (x : T) (xs : List T) → without_first test (x ∷ xs) ≡ (if test x then xs else x ∷ without_first test xs)
-  without_first-cons x xs = ap (λ o. option_map_or (λ i. remove (x ∷ xs) i) o (x ∷ xs)) (position-cons test x xs) ∙ by (test x) (position test xs)
+  pub without_first_cons : (x : T) (xs : List T) → without_first test (x ∷ xs) ≡ (if test x then xs else x ∷ without_first test xs)
+  without_first_cons x xs = ap (λ o. option_map_or (λ i. remove (x ∷ xs) i) o (x ∷ xs)) (position_cons test x xs) ∙ by (test x) (position test xs)
     where
       by : (b : Bool) (o : Option ℕ) → option_map_or (λ i. remove (x ∷ xs) i) (if b then Some 0 else option_map suc o) (x ∷ xs) ≡ (if b then xs else x ∷ option_map_or (λ i. remove xs i) o xs)
       by true o = refl
@@ -26,8 +26,8 @@ module _ {T : Type 0} (eq : T → T → Bool) where
   item_index-nil : (x : T) → item_index eq [] x ≡ None
   item_index-nil x = refl
 
-  pub item_index-cons : (y : T) (ys : List T) (x : T) → item_index eq (y ∷ ys) x ≡ (if eq x y then Some 0 else option_map suc (item_index eq ys x))
-  item_index-cons y ys x = position-cons (eq x) y ys
+  pub item_index_cons : (y : T) (ys : List T) (x : T) → item_index eq (y ∷ ys) x ≡ (if eq x y then Some 0 else option_map suc (item_index eq ys x))
+  item_index_cons y ys x = position_cons (eq x) y ys
 
   has_item-nil : (x : T) → has_item eq [] x ≡ false
   has_item-nil x = refl
@@ -38,8 +38,8 @@ module _ {T : Type 0} (eq : T → T → Bool) where
   stored_item-nil : (x : T) → stored_item eq [] x ≡ None
   stored_item-nil x = refl
 
-  pub stored_item-cons : (y : T) (ys : List T) (x : T) → stored_item eq (y ∷ ys) x ≡ (if eq x y then Some y else stored_item eq ys x)
-  stored_item-cons y ys x = ap (option_and_then (slice_get (y ∷ ys))) (item_index-cons y ys x) ∙ by (eq x y) (item_index eq ys x)
+  pub stored_item_cons : (y : T) (ys : List T) (x : T) → stored_item eq (y ∷ ys) x ≡ (if eq x y then Some y else stored_item eq ys x)
+  stored_item_cons y ys x = ap (option_and_then (slice_get (y ∷ ys))) (item_index_cons y ys x) ∙ by (eq x y) (item_index eq ys x)
     where
       by : (b : Bool) (o : Option ℕ) → option_and_then (slice_get (y ∷ ys)) (if b then Some 0 else option_map suc o) ≡ (if b then Some y else option_and_then (slice_get ys) o)
       by true o = refl
@@ -49,8 +49,8 @@ module _ {T : Type 0} (eq : T → T → Bool) where
   add-nil : (x : T) → add eq [] x ≡ x ∷ []
   add-nil x = refl
 
-  pub add-cons : (y : T) (ys : List T) (x : T) → add eq (y ∷ ys) x ≡ (if eq x y then y ∷ ys else y ∷ add eq ys x)
-  add-cons y ys x = by (eq x y) (has_item eq ys x)
+  pub add_cons : (y : T) (ys : List T) (x : T) → add eq (y ∷ ys) x ≡ (if eq x y then y ∷ ys else y ∷ add eq ys x)
+  add_cons y ys x = by (eq x y) (has_item eq ys x)
     where
       by : (b c : Bool) → (if b || c then y ∷ ys else y ∷ ys ++ x ∷ []) ≡ (if b then y ∷ ys else y ∷ (if c then ys else ys ++ x ∷ []))
       by true c = refl
@@ -66,16 +66,16 @@ module _ {T : Type 0} (eq : T → T → Bool) where
   add_new-nil : (x : T) → add_new eq [] x ≡ x ∷ []
   add_new-nil x = refl
 
-  pub add_new-cons : (y : T) (ys : List T) (x : T) → add_new eq (y ∷ ys) x ≡ (if eq x y then x ∷ ys else y ∷ add_new eq ys x)
-  add_new-cons y ys x = ap (λ o. option_map_or (λ i. slice_set (y ∷ ys) i x) o (y ∷ ys ++ x ∷ [])) (item_index-cons y ys x) ∙ by (eq x y) (item_index eq ys x)
+  pub add_new_cons : (y : T) (ys : List T) (x : T) → add_new eq (y ∷ ys) x ≡ (if eq x y then x ∷ ys else y ∷ add_new eq ys x)
+  add_new_cons y ys x = ap (λ o. option_map_or (λ i. slice_set (y ∷ ys) i x) o (y ∷ ys ++ x ∷ [])) (item_index_cons y ys x) ∙ by (eq x y) (item_index eq ys x)
     where
       by : (b : Bool) (o : Option ℕ) → option_map_or (λ i. slice_set (y ∷ ys) i x) (if b then Some 0 else option_map suc o) (y ∷ ys ++ x ∷ []) ≡ (if b then x ∷ ys else y ∷ option_map_or (λ i. slice_set ys i x) o (ys ++ x ∷ []))
       by true o = refl
       by false None = refl
       by false (Some i) = refl
 
-  pub without_item-cons : (y : T) (ys : List T) (x : T) → without_item eq (y ∷ ys) x ≡ (if eq x y then ys else y ∷ without_item eq ys x)
-  without_item-cons y ys x = without_first-cons (eq x) y ys
+  pub without_item_cons : (y : T) (ys : List T) (x : T) → without_item eq (y ∷ ys) x ≡ (if eq x y then ys else y ∷ without_item eq ys x)
+  without_item_cons y ys x = without_first_cons (eq x) y ys
 
   both-nil : (b : List T) → both eq [] b ≡ []
   both-nil b = refl

@@ -9,20 +9,20 @@ use Rattle.std.proofs.lemmas.Map.Keys.{IsDistinct-head, IsDistinct-tail}
 use Rattle.std.proofs.lemmas.Map.Steps.{list_any_congr}
 use Rattle.vecmap_base.specs.Items.{has_item, item_index, without_item}
 use Rattle.vecmap_base.proofs.DistinctLemmas.Absent.{none_equal}
-use Rattle.vecmap_base.proofs.PlaceLemmas.{is_some-position}
-use Rattle.vecmap_base.proofs.ItemsLemmas.Recursion.{without_item-cons}
+use Rattle.vecmap_base.proofs.PlaceLemmas.{is_some_position}
+use Rattle.vecmap_base.proofs.ItemsLemmas.Recursion.{without_item_cons}
 
 module _ {T : Type 0} (eq : T → T → Bool) where
   -- in the rest of the list from the place i on
-  pub is_some-item_index_rest : (s : List T) (i : ℕ) (x : T) → is_some (item_index eq (take (length s - i) (drop i s)) x) ≡ list_any (eq x) (drop i s)
-  is_some-item_index_rest s i x = ap (λ r. is_some (item_index eq r x)) (take_rest s i) ∙ is_some-position (eq x) (drop i s)
+  pub is_some_item_index_rest : (s : List T) (i : ℕ) (x : T) → is_some (item_index eq (take (length s - i) (drop i s)) x) ≡ list_any (eq x) (drop i s)
+  is_some_item_index_rest s i x = ap (λ r. is_some (item_index eq r x)) (take_rest s i) ∙ is_some_position (eq x) (drop i s)
 
   module _ (o : IsEquivalence eq) where
     -- after a removal from a distinct list, no equal element is left
     pub without_item_absent : (s : List T) (x : T) → IsDistinct eq s → has_item eq (without_item eq s x) x ≡ false
     without_item_absent [] x d = refl
     without_item_absent (y ∷ ys) x d =
-        ap (λ l. has_item eq l x) (without_item-cons eq y ys x)
+        ap (λ l. has_item eq l x) (without_item_cons eq y ys x)
         ∙ elim (cases_Bool (eq x y)) [
           | inl e ↦ ap (λ b. has_item eq (if b then ys else y ∷ without_item eq ys x) x) e ∙ list_any_congr o x y ys e ∙ none_equal eq y ys (IsDistinct-head eq y ys d)
           | inr e ↦ ap (λ b. has_item eq (if b then ys else y ∷ without_item eq ys x) x) e ∙ ap (λ b. b || has_item eq (without_item eq ys x) x) e ∙ without_item_absent ys x (IsDistinct-tail eq y ys d)

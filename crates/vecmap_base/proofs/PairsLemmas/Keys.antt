@@ -6,44 +6,44 @@ use Rattle.std.proofs.Common.{sym, ap, ◌∙◌}
 use Rattle.std.proofs.lemmas.List.{drop-map, map-append, take-map}
 use Rattle.vecmap_base.specs.Items.{add, add_new, adds, item_index, without_item}
 use Rattle.vecmap_base.specs.Pairs.{index_of, put, put_key, puts, without_key}
-use Rattle.vecmap_base.proofs.ItemsLemmas.Recursion.{add-cons, add_new-cons, item_index-cons, without_item-cons}
-use Rattle.vecmap_base.proofs.PairsLemmas.Recursion.{index_of-cons, put-cons, put_key-cons, without_key-cons}
+use Rattle.vecmap_base.proofs.ItemsLemmas.Recursion.{add_cons, add_new_cons, item_index_cons, without_item_cons}
+use Rattle.vecmap_base.proofs.PairsLemmas.Recursion.{index_of_cons, put_cons, put_key_cons, without_key_cons}
 
 module _ {K V : Type 0} where
-  pub keys_of-remove : (l : List (K × V)) (i : ℕ) → keys_of (remove l i) ≡ remove (keys_of l) i
-  keys_of-remove l i = map-append (λ p. p.0) (take i l) (drop (suc i) l) ∙ sym (λ t. take-map (λ p. p.0) i l t ++ drop-map (λ p. p.0) (suc i) l t)
+  pub keys_of_remove : (l : List (K × V)) (i : ℕ) → keys_of (remove l i) ≡ remove (keys_of l) i
+  keys_of_remove l i = map-append (λ p. p.0) (take i l) (drop (suc i) l) ∙ sym (λ t. take-map (λ p. p.0) i l t ++ drop-map (λ p. p.0) (suc i) l t)
 
-  pub keys_of-insert : (l : List (K × V)) (i : ℕ) (k : K) (v : V) → keys_of (insert l i (k, v)) ≡ insert (keys_of l) i k
-  keys_of-insert l i k v = map-append (λ p. p.0) (take i l) ((k, v) ∷ drop i l) ∙ sym (λ t. take-map (λ p. p.0) i l t ++ k ∷ drop-map (λ p. p.0) i l t)
+  pub keys_of_insert : (l : List (K × V)) (i : ℕ) (k : K) (v : V) → keys_of (insert l i (k, v)) ≡ insert (keys_of l) i k
+  keys_of_insert l i k v = map-append (λ p. p.0) (take i l) ((k, v) ∷ drop i l) ∙ sym (λ t. take-map (λ p. p.0) i l t ++ k ∷ drop-map (λ p. p.0) i l t)
 
 module _ {K V : Type 0} (eq : K → K → Bool) where
   pub index_of_is : (l : List (K × V)) (k : K) → index_of eq l k ≡ item_index eq (keys_of l) k
   index_of_is [] k = refl
-  index_of_is (p ∷ ps) k = index_of-cons eq p ps k ∙ ap (λ o. if eq k p.0 then Some 0 else option_map suc o) (index_of_is ps k) ∙ sym (item_index-cons eq p.0 (keys_of ps) k)
+  index_of_is (p ∷ ps) k = index_of_cons eq p ps k ∙ ap (λ o. if eq k p.0 then Some 0 else option_map suc o) (index_of_is ps k) ∙ sym (item_index_cons eq p.0 (keys_of ps) k)
 
-  pub keys_of-put : (l : List (K × V)) (k : K) (v : V) → keys_of (put eq l k v) ≡ add eq (keys_of l) k
-  keys_of-put [] k v = refl
-  keys_of-put (p ∷ ps) k v = ap keys_of (put-cons eq p ps k v) ∙ by (eq k p.0) (keys_of-put ps k v) ∙ sym (add-cons eq p.0 (keys_of ps) k)
+  pub keys_of_put : (l : List (K × V)) (k : K) (v : V) → keys_of (put eq l k v) ≡ add eq (keys_of l) k
+  keys_of_put [] k v = refl
+  keys_of_put (p ∷ ps) k v = ap keys_of (put_cons eq p ps k v) ∙ by (eq k p.0) (keys_of_put ps k v) ∙ sym (add_cons eq p.0 (keys_of ps) k)
     where
       by : (b : Bool) → keys_of (put eq ps k v) ≡ add eq (keys_of ps) k → keys_of (if b then (p.0, v) ∷ ps else p ∷ put eq ps k v) ≡ (if b then p.0 ∷ keys_of ps else p.0 ∷ add eq (keys_of ps) k)
       by true e = refl
       by false e = ap (λ ks. p.0 ∷ ks) e
 
-  pub keys_of-puts : (l ps : List (K × V)) → keys_of (puts eq l ps) ≡ adds eq (keys_of l) (keys_of ps)
-  keys_of-puts l [] = refl
-  keys_of-puts l (p ∷ ps) = keys_of-puts (put eq l p.0 p.1) ps ∙ ap (λ ks. adds eq ks (keys_of ps)) (keys_of-put l p.0 p.1)
+  pub keys_of_puts : (l ps : List (K × V)) → keys_of (puts eq l ps) ≡ adds eq (keys_of l) (keys_of ps)
+  keys_of_puts l [] = refl
+  keys_of_puts l (p ∷ ps) = keys_of_puts (put eq l p.0 p.1) ps ∙ ap (λ ks. adds eq ks (keys_of ps)) (keys_of_put l p.0 p.1)
 
-  pub keys_of-put_key : (l : List (K × V)) (k : K) (v : V) → keys_of (put_key eq l k v) ≡ add_new eq (keys_of l) k
-  keys_of-put_key [] k v = refl
-  keys_of-put_key (p ∷ ps) k v = ap keys_of (put_key-cons eq p ps k v) ∙ by (eq k p.0) (keys_of-put_key ps k v) ∙ sym (add_new-cons eq p.0 (keys_of ps) k)
+  pub keys_of_put_key : (l : List (K × V)) (k : K) (v : V) → keys_of (put_key eq l k v) ≡ add_new eq (keys_of l) k
+  keys_of_put_key [] k v = refl
+  keys_of_put_key (p ∷ ps) k v = ap keys_of (put_key_cons eq p ps k v) ∙ by (eq k p.0) (keys_of_put_key ps k v) ∙ sym (add_new_cons eq p.0 (keys_of ps) k)
     where
       by : (b : Bool) → keys_of (put_key eq ps k v) ≡ add_new eq (keys_of ps) k → keys_of (if b then (k, v) ∷ ps else p ∷ put_key eq ps k v) ≡ (if b then k ∷ keys_of ps else p.0 ∷ add_new eq (keys_of ps) k)
       by true e = refl
       by false e = ap (λ ks. p.0 ∷ ks) e
 
-  pub keys_of-without_key : (l : List (K × V)) (k : K) → keys_of (without_key eq l k) ≡ without_item eq (keys_of l) k
-  keys_of-without_key [] k = refl
-  keys_of-without_key (p ∷ ps) k = ap keys_of (without_key-cons eq p ps k) ∙ by (eq k p.0) (keys_of-without_key ps k) ∙ sym (without_item-cons eq p.0 (keys_of ps) k)
+  pub keys_of_without_key : (l : List (K × V)) (k : K) → keys_of (without_key eq l k) ≡ without_item eq (keys_of l) k
+  keys_of_without_key [] k = refl
+  keys_of_without_key (p ∷ ps) k = ap keys_of (without_key_cons eq p ps k) ∙ by (eq k p.0) (keys_of_without_key ps k) ∙ sym (without_item_cons eq p.0 (keys_of ps) k)
     where
       by : (b : Bool) → keys_of (without_key eq ps k) ≡ without_item eq (keys_of ps) k → keys_of (if b then ps else p ∷ without_key eq ps k) ≡ (if b then keys_of ps else p.0 ∷ without_item eq (keys_of ps) k)
       by true e = refl

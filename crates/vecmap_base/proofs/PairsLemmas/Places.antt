@@ -3,43 +3,43 @@ use Rattle.std.specs.Prelude.{◌≡◌, ℕ, suc, Bool, true, false, List, [], 
 use Rattle.std.specs.Option.{option_and_then, option_map}
 use Rattle.std.proofs.Common.{ap, ◌∙◌, sym}
 use Rattle.vecmap_base.specs.Pairs.{index_of, index_or_length, lookup_full, lookup_pair, value_at, with_pair, lookup_by}
-use Rattle.vecmap_base.proofs.PairsLemmas.Recursion.{index_of-cons, lookup_by-cons}
+use Rattle.vecmap_base.proofs.PairsLemmas.Recursion.{index_of_cons, lookup_by_cons}
 use Rattle.std.specs.List.{list_any}
 use Rattle.std.specs.Map as entries
 use Rattle.std.specs.Map.{keys_of}
 use Rattle.std.proofs.lemmas.List.{drop-map, take_rest}
-use Rattle.vecmap_base.proofs.PlaceLemmas.{is_some-position, list_any-map, position_none}
+use Rattle.vecmap_base.proofs.PlaceLemmas.{is_some_position, list_any_map, position_none}
 
 -- a place and what stands there, counted from one pair further on
 abbrev pub one_on : {V : Type 0} → ℕ × V → ℕ × V
 one_on found = (suc found.0, found.1)
 
 module _ {K V : Type 0} (p : K × V) (ps : List (K × V)) where
-  pub value_at-cons : (i : ℕ) → (value_at (p ∷ ps) 0 ≡ Some p.1) × (value_at (p ∷ ps) (suc i) ≡ value_at ps i)
-  value_at-cons i = (refl, refl)
+  pub value_at_cons : (i : ℕ) → (value_at (p ∷ ps) 0 ≡ Some p.1) × (value_at (p ∷ ps) (suc i) ≡ value_at ps i)
+  value_at_cons i = (refl, refl)
 
-  pub with_pair-cons : (i : ℕ) (k : K) (v : V) → (with_pair (p ∷ ps) 0 k v ≡ (k, v) ∷ ps) × (with_pair (p ∷ ps) (suc i) k v ≡ p ∷ with_pair ps i k v)
-  with_pair-cons i k v = (refl, refl)
+  pub with_pair_cons : (i : ℕ) (k : K) (v : V) → (with_pair (p ∷ ps) 0 k v ≡ (k, v) ∷ ps) × (with_pair (p ∷ ps) (suc i) k v ≡ p ∷ with_pair ps i k v)
+  with_pair_cons i k v = (refl, refl)
 
   module _ (eq : K → K → Bool) (k : K) where
-    pub index_or_length-cons : index_or_length eq (p ∷ ps) k ≡ (if eq k p.0 then 0 else suc (index_or_length eq ps k))
-    index_or_length-cons = ap (λ o. unwrap_or o (suc (length ps))) (index_of-cons eq p ps k) ∙ by (eq k p.0) (index_of eq ps k)
+    pub index_or_length_cons : index_or_length eq (p ∷ ps) k ≡ (if eq k p.0 then 0 else suc (index_or_length eq ps k))
+    index_or_length_cons = ap (λ o. unwrap_or o (suc (length ps))) (index_of_cons eq p ps k) ∙ by (eq k p.0) (index_of eq ps k)
       where
         by : (b : Bool) (o : Option ℕ) → unwrap_or (if b then Some 0 else option_map suc o) (suc (length ps)) ≡ (if b then 0 else suc (unwrap_or o (length ps)))
         by true o = refl
         by false None = refl
         by false (Some i) = refl
 
-    pub lookup_pair-cons : lookup_pair eq (p ∷ ps) k ≡ (if eq k p.0 then Some p else lookup_pair eq ps k)
-    lookup_pair-cons = ap (option_and_then (slice_get (p ∷ ps))) (index_of-cons eq p ps k) ∙ by (eq k p.0) (index_of eq ps k)
+    pub lookup_pair_cons : lookup_pair eq (p ∷ ps) k ≡ (if eq k p.0 then Some p else lookup_pair eq ps k)
+    lookup_pair_cons = ap (option_and_then (slice_get (p ∷ ps))) (index_of_cons eq p ps k) ∙ by (eq k p.0) (index_of eq ps k)
       where
         by : (b : Bool) (o : Option ℕ) → option_and_then (slice_get (p ∷ ps)) (if b then Some 0 else option_map suc o) ≡ (if b then Some p else option_and_then (slice_get ps) o)
         by true o = refl
         by false None = refl
         by false (Some i) = refl
 
-    pub lookup_full-cons : lookup_full eq (p ∷ ps) k ≡ (if eq k p.0 then Some (0, p.1) else option_map one_on (lookup_full eq ps k))
-    lookup_full-cons = ap (option_and_then (found (p ∷ ps))) (index_of-cons eq p ps k) ∙ by (eq k p.0) (index_of eq ps k)
+    pub lookup_full_cons : lookup_full eq (p ∷ ps) k ≡ (if eq k p.0 then Some (0, p.1) else option_map one_on (lookup_full eq ps k))
+    lookup_full_cons = ap (option_and_then (found (p ∷ ps))) (index_of_cons eq p ps k) ∙ by (eq k p.0) (index_of eq ps k)
       where
         found : List (K × V) → ℕ → Option (ℕ × V)
         found l i = option_map (λ v. (i, v)) (value_at l i)
@@ -57,15 +57,15 @@ module _ {K V : Type 0} (test : K → Bool) where
   -- it is the lookup of std's maps
   pub lookup_by_is : (l : List (K × V)) → lookup_by test l ≡ entries.lookup test l
   lookup_by_is [] = refl
-  lookup_by_is (p ∷ ps) = lookup_by-cons test p ps ∙ ap (λ o. if test p.0 then Some p.1 else o) (lookup_by_is ps)
+  lookup_by_is (p ∷ ps) = lookup_by_cons test p ps ∙ ap (λ o. if test p.0 then Some p.1 else o) (lookup_by_is ps)
 
 module _ {K V : Type 0} (eq : K → K → Bool) where
-  pub is_some-index_of : (l : List (K × V)) (k : K) → is_some (index_of eq l k) ≡ list_any (eq k) (keys_of l)
-  is_some-index_of l k = is_some-position (λ p. eq k p.0) l ∙ sym (list_any-map (eq k) (λ p. p.0) l)
+  pub is_some_index_of : (l : List (K × V)) (k : K) → is_some (index_of eq l k) ≡ list_any (eq k) (keys_of l)
+  is_some_index_of l k = is_some_position (λ p. eq k p.0) l ∙ sym (list_any_map (eq k) (λ p. p.0) l)
 
   -- in the rest of the list from the place i on
-  pub is_some-index_of_rest : (l : List (K × V)) (i : ℕ) (k : K) → is_some (index_of eq (take (length l - i) (drop i l)) k) ≡ list_any (eq k) (drop i (keys_of l))
-  is_some-index_of_rest l i k = ap (λ r. is_some (index_of eq r k)) (take_rest l i) ∙ is_some-index_of (drop i l) k ∙ ap (list_any (eq k)) (sym (drop-map (λ p. p.0) i l))
+  pub is_some_index_of_rest : (l : List (K × V)) (i : ℕ) (k : K) → is_some (index_of eq (take (length l - i) (drop i l)) k) ≡ list_any (eq k) (drop i (keys_of l))
+  is_some_index_of_rest l i k = ap (λ r. is_some (index_of eq r k)) (take_rest l i) ∙ is_some_index_of (drop i l) k ∙ ap (list_any (eq k)) (sym (drop-map (λ p. p.0) i l))
 
   pub index_of_none : (l : List (K × V)) (k : K) → list_any (eq k) (keys_of l) ≡ false → index_of eq l k ≡ None
-  index_of_none l k e = position_none (λ p. eq k p.0) l (sym (list_any-map (eq k) (λ p. p.0) l) ∙ e)
+  index_of_none l k e = position_none (λ p. eq k p.0) l (sym (list_any_map (eq k) (λ p. p.0) l) ∙ e)

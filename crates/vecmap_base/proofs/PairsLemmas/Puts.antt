@@ -31,8 +31,8 @@ module _ {K V : Type 0} (eq : K → K → Bool) where
   puts_more l i d h = fold_more (λ done p. put eq done p.0 p.1) [] l i d h
 
   -- a put of pairs in two goes is a put of all of them
-  pub puts-append : (l a b : List (K × V)) → puts eq l (a ++ b) ≡ puts eq (puts eq l a) b
-  puts-append l a b = fold-append (λ done p. put eq done p.0 p.1) l a b
+  pub puts_append : (l a b : List (K × V)) → puts eq l (a ++ b) ≡ puts eq (puts eq l a) b
+  puts_append l a b = fold-append (λ done p. put eq done p.0 p.1) l a b
 
   module _ (o : IsEquivalence eq) where
     pub puts_apart : (l m : List (K × V)) → HasDistinctKeys eq (l ++ m) → puts eq l m ≡ l ++ m

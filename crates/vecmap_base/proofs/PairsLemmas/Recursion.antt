@@ -3,14 +3,14 @@ use Rattle.std.specs.Prelude.{◌≡◌, ℕ, suc, Bool, true, false, List, [], 
 use Rattle.std.specs.Option.{option_map, option_map_or, option_and_then}
 use Rattle.std.proofs.Common.{ap, ◌∙◌}
 use Rattle.vecmap_base.specs.Pairs.{index_of, lookup, put, put_key, puts, with_pair, with_value, without_key, index_by, lookup_by, value_at}
-use Rattle.vecmap_base.proofs.ItemsLemmas.Recursion.{without_first-cons}
-use Rattle.vecmap_base.proofs.PlaceLemmas.{position-cons}
-use Rattle.vecmap_base.proofs.PairsLemmas.Values.{with_value-cons}
+use Rattle.vecmap_base.proofs.ItemsLemmas.Recursion.{without_first_cons}
+use Rattle.vecmap_base.proofs.PlaceLemmas.{position_cons}
+use Rattle.vecmap_base.proofs.PairsLemmas.Values.{with_value_cons}
 
 module _ {K V : Type 0} (test : K → Bool) where
   -- a lookup in a longer list
-  pub lookup_by-cons : (p : K × V) (ps : List (K × V)) → lookup_by test (p ∷ ps) ≡ (if test p.0 then Some p.1 else lookup_by test ps)
-  lookup_by-cons p ps = ap (option_and_then (value_at (p ∷ ps))) (position-cons (λ q. test q.0) p ps) ∙ by (test p.0) (index_by test ps)
+  pub lookup_by_cons : (p : K × V) (ps : List (K × V)) → lookup_by test (p ∷ ps) ≡ (if test p.0 then Some p.1 else lookup_by test ps)
+  lookup_by_cons p ps = ap (option_and_then (value_at (p ∷ ps))) (position_cons (λ q. test q.0) p ps) ∙ by (test p.0) (index_by test ps)
     where
       by : (b : Bool) (o : Option ℕ) → option_and_then (value_at (p ∷ ps)) (if b then Some 0 else option_map suc o) ≡ (if b then Some p.1 else option_and_then (value_at ps) o)
       by true o = refl
@@ -28,23 +28,23 @@ module _ {K : Type 0} (V : Type 0) (eq : K → K → Bool) where
   without_key-nil k = refl
 
 module _ {K V : Type 0} (eq : K → K → Bool) where
-  pub index_of-cons : (p : K × V) (ps : List (K × V)) (k : K) → index_of eq (p ∷ ps) k ≡ (if eq k p.0 then Some 0 else option_map suc (index_of eq ps k))
-  index_of-cons p ps k = position-cons (λ q. eq k q.0) p ps
+  pub index_of_cons : (p : K × V) (ps : List (K × V)) (k : K) → index_of eq (p ∷ ps) k ≡ (if eq k p.0 then Some 0 else option_map suc (index_of eq ps k))
+  index_of_cons p ps k = position_cons (λ q. eq k q.0) p ps
 
-  pub lookup-cons : (p : K × V) (ps : List (K × V)) (k : K) → lookup eq (p ∷ ps) k ≡ (if eq k p.0 then Some p.1 else lookup eq ps k)
-  lookup-cons p ps k = lookup_by-cons (eq k) p ps
+  pub lookup_cons : (p : K × V) (ps : List (K × V)) (k : K) → lookup eq (p ∷ ps) k ≡ (if eq k p.0 then Some p.1 else lookup eq ps k)
+  lookup_cons p ps k = lookup_by_cons (eq k) p ps
 
   put-nil : (k : K) (v : V) → put eq [] k v ≡ (k, v) ∷ []
   put-nil k v = refl
 
-  pub put-cons : (p : K × V) (ps : List (K × V)) (k : K) (v : V) → put eq (p ∷ ps) k v ≡ (if eq k p.0 then (p.0, v) ∷ ps else p ∷ put eq ps k v)
-  put-cons p ps k v = ap (λ o. option_map_or (λ i. with_value (p ∷ ps) i v) o (p ∷ ps ++ (k, v) ∷ [])) (index_of-cons p ps k) ∙ by (eq k p.0) (index_of eq ps k)
+  pub put_cons : (p : K × V) (ps : List (K × V)) (k : K) (v : V) → put eq (p ∷ ps) k v ≡ (if eq k p.0 then (p.0, v) ∷ ps else p ∷ put eq ps k v)
+  put_cons p ps k v = ap (λ o. option_map_or (λ i. with_value (p ∷ ps) i v) o (p ∷ ps ++ (k, v) ∷ [])) (index_of_cons p ps k) ∙ by (eq k p.0) (index_of eq ps k)
     where
       by : (b : Bool) (o : Option ℕ) → option_map_or (λ i. with_value (p ∷ ps) i v) (if b then Some 0 else option_map suc o) (p ∷ ps ++ (k, v) ∷ [])
           ≡ (if b then (p.0, v) ∷ ps else p ∷ option_map_or (λ i. with_value ps i v) o (ps ++ (k, v) ∷ []))
       by true o = refl
       by false None = refl
-      by false (Some i) = with_value-cons p ps i v
+      by false (Some i) = with_value_cons p ps i v
 
   puts-nil : (l : List (K × V)) → puts eq l [] ≡ l
   puts-nil l = refl
@@ -55,8 +55,8 @@ module _ {K V : Type 0} (eq : K → K → Bool) where
   put_key-nil : (k : K) (v : V) → put_key eq [] k v ≡ (k, v) ∷ []
   put_key-nil k v = refl
 
-  pub put_key-cons : (p : K × V) (ps : List (K × V)) (k : K) (v : V) → put_key eq (p ∷ ps) k v ≡ (if eq k p.0 then (k, v) ∷ ps else p ∷ put_key eq ps k v)
-  put_key-cons p ps k v = ap (λ o. option_map_or (λ i. with_pair (p ∷ ps) i k v) o (p ∷ ps ++ (k, v) ∷ [])) (index_of-cons p ps k) ∙ by (eq k p.0) (index_of eq ps k)
+  pub put_key_cons : (p : K × V) (ps : List (K × V)) (k : K) (v : V) → put_key eq (p ∷ ps) k v ≡ (if eq k p.0 then (k, v) ∷ ps else p ∷ put_key eq ps k v)
+  put_key_cons p ps k v = ap (λ o. option_map_or (λ i. with_pair (p ∷ ps) i k v) o (p ∷ ps ++ (k, v) ∷ [])) (index_of_cons p ps k) ∙ by (eq k p.0) (index_of eq ps k)
     where
       by : (b : Bool) (o : Option ℕ) → option_map_or (λ i. with_pair (p ∷ ps) i k v) (if b then Some 0 else option_map suc o) (p ∷ ps ++ (k, v) ∷ [])
           ≡ (if b then (k, v) ∷ ps else p ∷ option_map_or (λ i. with_pair ps i k v) o (ps ++ (k, v) ∷ []))
@@ -64,5 +64,5 @@ module _ {K V : Type 0} (eq : K → K → Bool) where
       by false None = refl
       by false (Some i) = refl
 
-  pub without_key-cons : (p : K × V) (ps : List (K × V)) (k : K) → without_key eq (p ∷ ps) k ≡ (if eq k p.0 then ps else p ∷ without_key eq ps k)
-  without_key-cons p ps k = without_first-cons (λ q. eq k q.0) p ps
+  pub without_key_cons : (p : K × V) (ps : List (K × V)) (k : K) → without_key eq (p ∷ ps) k ≡ (if eq k p.0 then ps else p ∷ without_key eq ps k)
+  without_key_cons p ps k = without_first_cons (λ q. eq k q.0) p ps

@@ -1,10 +1,10 @@
 -- A list of pairs is its keys and its values, and a write of a value leaves the keys.
-use Rattle.std.specs.Prelude.{◌≡◌, ℕ, suc, List, [], ◌∷◌, Option, None, Some, length, refl, zero, ◌<◌, slice_get, slice_set}
+use Rattle.std.specs.Prelude.{◌≡◌, ℕ, suc, List, [], ◌∷◌, Option, None, Some, length, refl, zero, ◌<◌, slice_get, slice_set, unwrap_or}
 use Rattle.std.specs.Map.{keys_of, values_of}
 use Rattle.std.specs.Option.{option_map_or}
 use Rattle.std.proofs.Common.{ap, ◌∙◌, get_or, set, sym}
 use Rattle.std.proofs.lemmas.List.{get_or-map}
-use Rattle.vecmap_base.specs.Pairs.{with_value}
+use Rattle.vecmap_base.specs.Pairs.{value_at, with_value}
 
 module _ {K V : Type 0} where
   pub key_at : (l : List (K × V)) (i : ℕ) (p : K × V) (k : K) → i < length l → (get_or l i p).0 ≡ get_or (keys_of l) i k
@@ -20,20 +20,32 @@ module _ {K V : Type 0} where
       let value : p.1 ≡ q.1 = cc in
       λ t. (key t, value t) ∷ same_pairs ps qs (cc) (cc) t
 
-  pub with_value-cons : (p : K × V) (ps : List (K × V)) (i : ℕ) (v : V) → with_value (p ∷ ps) (suc i) v ≡ p ∷ with_value ps i v
-  with_value-cons p ps i v = by (slice_get ps i)
+  pub with_value_cons : (p : K × V) (ps : List (K × V)) (i : ℕ) (v : V) → with_value (p ∷ ps) (suc i) v ≡ p ∷ with_value ps i v
+  with_value_cons p ps i v = by (slice_get ps i)
     where
       by : (o : Option (K × V)) → option_map_or (λ q. p ∷ slice_set ps i (q.0, v)) o (p ∷ ps) ≡ p ∷ option_map_or (λ q. slice_set ps i (q.0, v)) o ps
       by None = refl
       by (Some q) = refl
 
-  -- a write of a value leaves each key
-  pub keys_of-with_value : (l : List (K × V)) (i : ℕ) (v : V) → keys_of (with_value l i v) ≡ keys_of l
-  keys_of-with_value [] i v = refl
-  keys_of-with_value (p ∷ ps) zero v = refl
-  keys_of-with_value (p ∷ ps) (suc i) v = ap keys_of (with_value-cons p ps i v) ∙ ap (λ ks. p.0 ∷ ks) (keys_of-with_value ps i v)
+  -- the value at a place, written there, changes nothing
+  pub with_own_value : (l : List (K × V)) (i : ℕ) (v : V) → with_value l i (unwrap_or (value_at l i) v) ≡ l
+  with_own_value [] i v = refl
+  with_own_value (p ∷ ps) zero v = refl
+  with_own_value (p ∷ ps) (suc i) v = with_value_cons p ps i (unwrap_or (value_at ps i) v) ∙ ap (λ rest. p ∷ rest) (with_own_value ps i v)
 
-  pub values_of-with_value : (l : List (K × V)) (i : ℕ) (v : V) → values_of (with_value l i v) ≡ set (values_of l) i v
-  values_of-with_value [] i v = refl
-  values_of-with_value (p ∷ ps) zero v = refl
-  values_of-with_value (p ∷ ps) (suc i) v = ap values_of (with_value-cons p ps i v) ∙ ap (λ vs. p.1 ∷ vs) (values_of-with_value ps i v)
+  -- a write of a value leaves each key
+  pub keys_of_with_value : (l : List (K × V)) (i : ℕ) (v : V) → keys_of (with_value l i v) ≡ keys_of l
+  keys_of_with_value [] i v = refl
+  keys_of_with_value (p ∷ ps) zero v = refl
+  keys_of_with_value (p ∷ ps) (suc i) v = ap keys_of (with_value_cons p ps i v) ∙ ap (λ ks. p.0 ∷ ks) (keys_of_with_value ps i v)
+
+  -- and the number of pairs
+  pub length_with_value : (l : List (K × V)) (i : ℕ) (v : V) → length (with_value l i v) ≡ length l
+  length_with_value [] i v = refl
+  length_with_value (p ∷ ps) zero v = refl
+  length_with_value (p ∷ ps) (suc i) v = ap length (with_value_cons p ps i v) ∙ ap suc (length_with_value ps i v)
+
+  pub values_of_with_value : (l : List (K × V)) (i : ℕ) (v : V) → values_of (with_value l i v) ≡ set (values_of l) i v
+  values_of_with_value [] i v = refl
+  values_of_with_value (p ∷ ps) zero v = refl
+  values_of_with_value (p ∷ ps) (suc i) v = ap values_of (with_value_cons p ps i v) ∙ ap (λ vs. p.1 ∷ vs) (values_of_with_value ps i v)

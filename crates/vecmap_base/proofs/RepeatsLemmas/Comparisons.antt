@@ -14,7 +14,7 @@ use Rattle.vecmap_base.specs.Pairs.{HasDistinctKeys, index_of, puts}
 use Rattle.vecmap_base.specs.Repeats.{adds_cost, comparisons, cost, search_cost}
 use Rattle.vecmap_base.proofs.DistinctLemmas.Absent.{none_before}
 use Rattle.vecmap_base.proofs.ItemsLemmas.Additions.{add_absent, add_present}
-use Rattle.vecmap_base.proofs.PairsLemmas.Keys.{index_of_is, keys_of-puts}
+use Rattle.vecmap_base.proofs.PairsLemmas.Keys.{index_of_is, keys_of_puts}
 use Rattle.vecmap_base.proofs.PlaceLemmas.{position_at, position_none}
 use Rattle.vecmap_base.proofs.RepeatsLemmas.Cost.{cost_below, cost_more}
 
@@ -39,12 +39,12 @@ module _ {T : Type 0} (eq : T → T → Bool) where
           omega (arith, within)
 
   -- one more addition
-  pub adds_cost-push : (s xs : List T) (x : T) → adds_cost eq s (xs ++ x ∷ []) ≡ adds_cost eq s xs + search_cost eq (adds eq s xs) x
-  adds_cost-push s [] x = omega arith
-  adds_cost-push s (y ∷ ys) x = omega (arith, adds_cost-push (add eq s y) ys x)
+  pub adds_cost_push : (s xs : List T) (x : T) → adds_cost eq s (xs ++ x ∷ []) ≡ adds_cost eq s xs + search_cost eq (adds eq s xs) x
+  adds_cost_push s [] x = omega arith
+  adds_cost_push s (y ∷ ys) x = omega (arith, adds_cost_push (add eq s y) ys x)
 
   pub comparisons_more : (xs : List T) (i : ℕ) (d : T) → i < length xs → comparisons eq (take (i + 1) xs) ≡ comparisons eq (take i xs) + search_cost eq (adds eq [] (take i xs)) (get_or xs i d)
-  comparisons_more xs i d l = ap (comparisons eq) (take_more xs i d l) ∙ adds_cost-push [] (take i xs) (get_or xs i d)
+  comparisons_more xs i d l = ap (comparisons eq) (take_more xs i d l) ∙ adds_cost_push [] (take i xs) (get_or xs i d)
 
   adds_cost_at_most : (s xs : List T) → adds_cost eq s xs + cost (length s) ≤ cost (length s + length xs)
   adds_cost_at_most s [] =
@@ -114,8 +114,8 @@ module _ {K V : Type 0} (eq : K → K → Bool) where
       → comparisons eq (keys_of (take (i + 1) l)) ≡ comparisons eq (keys_of (take i l)) + search_cost eq (keys_of (puts eq [] (take i l))) (get_or l i d).0
   key_comparisons_more l i d h =
       ap (λ m. comparisons eq (keys_of m)) (take_more l i d h) ∙ ap (comparisons eq) (map-append (λ p. p.0) (take i l) (get_or l i d ∷ []))
-      ∙ adds_cost-push eq [] (keys_of (take i l)) (get_or l i d).0
-      ∙ ap (λ ks. comparisons eq (keys_of (take i l)) + search_cost eq ks (get_or l i d).0) (sym (keys_of-puts eq [] (take i l)))
+      ∙ adds_cost_push eq [] (keys_of (take i l)) (get_or l i d).0
+      ∙ ap (λ ks. comparisons eq (keys_of (take i l)) + search_cost eq ks (get_or l i d).0) (sym (keys_of_puts eq [] (take i l)))
 
   pub key_comparisons_at_most : (l : List (K × V)) → comparisons eq (keys_of l) ≤ cost (length l)
   key_comparisons_at_most l =

@@ -9,22 +9,22 @@ use Rattle.std.proofs.lemmas.List.Edits.{swap_is}
 use Rattle.std.proofs.lemmas.Map.Entries.{length-values_of}
 use Rattle.vecmap_base.specs.Pairs.{index_of, put, with_value}
 use Rattle.vecmap_base.proofs.PairsLemmas.Puts.{put_present}
-use Rattle.vecmap_base.proofs.PairsLemmas.Values.{keys_of-with_value, same_pairs, values_of-with_value}
+use Rattle.vecmap_base.proofs.PairsLemmas.Values.{keys_of_with_value, same_pairs, values_of_with_value}
 
 module _ {X : Type 0} where
   -- a front that holds the first of the two places
-  pub take-swap : (xs : List X) (j i k : ℕ) (d : X) → j < k → k ≤ i → i < length xs → take k (swap xs j i) ≡ set (take k xs) j (get_or xs i d)
-  take-swap xs j i k d a b l =
+  pub take_swap : (xs : List X) (j i k : ℕ) (d : X) → j < k → k ≤ i → i < length xs → take k (swap xs j i) ≡ set (take k xs) j (get_or xs i d)
+  take_swap xs j i k d a b l =
       ap (take k) (sym (swap_is xs j i d (omega arith) l)) ∙ take-set-le k (set xs j (get_or xs i d)) i (get_or xs j d) b ∙ take-set-lt k xs j (get_or xs i d) a
 
   -- what is behind both places
-  pub drop-swap : (xs : List X) (j i k : ℕ) (d : X) → j < k → i < k → j < length xs → i < length xs → drop k (swap xs j i) ≡ drop k xs
-  drop-swap xs j i k d a b l m =
+  pub drop_swap : (xs : List X) (j i k : ℕ) (d : X) → j < k → i < k → j < length xs → i < length xs → drop k (swap xs j i) ≡ drop k xs
+  drop_swap xs j i k d a b l m =
       ap (drop k) (sym (swap_is xs j i d l m)) ∙ drop-set-lt k (set xs j (get_or xs i d)) i (get_or xs j d) b ∙ drop-set-lt k xs j (get_or xs i d) a
 
   -- the two places lie in the two parts of a list
-  pub swap-append : (xs ys : List X) (j i : ℕ) (d : X) → length xs ≡ i → j < i → 0 < length ys → swap (xs ++ ys) j i ≡ set xs j (get_or ys 0 d) ++ set ys 0 (get_or xs j d)
-  swap-append xs ys j i d n a l =
+  pub swap_append : (xs ys : List X) (j i : ℕ) (d : X) → length xs ≡ i → j < i → 0 < length ys → swap (xs ++ ys) j i ≡ set xs j (get_or ys 0 d) ++ set ys 0 (get_or xs j d)
+  swap_append xs ys j i d n a l =
       let zero_left : i - i ≡ 0 = omega arith in
       let here : get_or (xs ++ ys) j d ≡ get_or xs j d = get_or_append_left xs ys d j (omega arith) in
       let there : get_or (xs ++ ys) i d ≡ get_or ys 0 d = get_or-append_right xs ys i i d n (omega arith) ∙ ap (λ m. get_or ys m d) zero_left in
@@ -70,7 +70,7 @@ module _ {K V : Type 0} where
         let y : w ≡ get_or vs i v = f ∙ sym (get_or-map (λ r. r.1) front i p v (omega arith)) in
         map-append (λ r. r.1) _ _ ∙ (λ t. map-set (λ r. r.1) front i ((get_or front i p).0, v) t ++ map-set (λ r. r.1) back 0 ((get_or back 0 q).0, w) t)
         ∙ (λ t. set vs i (x t) ++ set ws 0 (y t))
-        ∙ sym (swap-append vs ws i j v (length-values_of front ∙ n) lt (omega (arith, length-values_of back)))
+        ∙ sym (swap_append vs ws i j v (length-values_of front ∙ n) lt (omega (arith, length-values_of back)))
         ∙ ap (λ us. swap us i j) (sym (map-append (λ r. r.1) front back))
 
 module _ {K V : Type 0} (eq : K → K → Bool) where
@@ -84,10 +84,10 @@ module _ {K V : Type 0} (eq : K → K → Bool) where
       let value : get_or vs i v ≡ v = get_or-map (λ p. p.1) l i d v c in
       let front : take n m ≡ with_value (take n l) j v =
       same_pairs (take n m) (with_value (take n l) j v)
-      (sym (take-map (λ p. p.0) n m) ∙ ap (take n) same_keys ∙ take-map (λ p. p.0) n l ∙ sym (keys_of-with_value (take n l) j v))
-      (sym (take-map (λ p. p.1) n m) ∙ ap (take n) moved ∙ take-swap vs j i n v a b (omega arith) ∙ (λ t. set (take-map (λ p. p.1) n l t) j (value t)) ∙ sym (values_of-with_value (take n l) j v)) in
+      (sym (take-map (λ p. p.0) n m) ∙ ap (take n) same_keys ∙ take-map (λ p. p.0) n l ∙ sym (keys_of_with_value (take n l) j v))
+      (sym (take-map (λ p. p.1) n m) ∙ ap (take n) moved ∙ take_swap vs j i n v a b (omega arith) ∙ (λ t. set (take-map (λ p. p.1) n l t) j (value t)) ∙ sym (values_of_with_value (take n l) j v)) in
       let rest : drop (i + 1) m ≡ drop (i + 1) l =
       same_pairs (drop (i + 1) m) (drop (i + 1) l)
       (sym (drop-map (λ p. p.0) (i + 1) m) ∙ ap (drop (i + 1)) same_keys ∙ drop-map (λ p. p.0) (i + 1) l)
-      (sym (drop-map (λ p. p.1) (i + 1) m) ∙ ap (drop (i + 1)) moved ∙ drop-swap vs j i (i + 1) v (omega arith) (omega arith) (omega arith) (omega arith) ∙ drop-map (λ p. p.1) (i + 1) l) in
+      (sym (drop-map (λ p. p.1) (i + 1) m) ∙ ap (drop (i + 1)) moved ∙ drop_swap vs j i (i + 1) v (omega arith) (omega arith) (omega arith) (omega arith) ∙ drop-map (λ p. p.1) (i + 1) l) in
       (front ∙ sym (put_present eq (take n l) k v j first), rest)

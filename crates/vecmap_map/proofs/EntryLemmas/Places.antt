@@ -12,15 +12,15 @@ module _ {X : Type 0} where
   item_there (x ∷ l) zero h = (x, refl)
   item_there (x ∷ l) (suc i) h = item_there l i (omega arith)
 
-  pub slice_get-set : (l : List X) (i : ℕ) (x : X) → i < length l → slice_get (set l i x) i ≡ Some x
-  slice_get-set [] i x h = absurd (omega arith)
-  slice_get-set (y ∷ l) zero x h = refl
-  slice_get-set (y ∷ l) (suc i) x h = slice_get-set l i x (omega arith)
+  pub slice_get_set : (l : List X) (i : ℕ) (x : X) → i < length l → slice_get (set l i x) i ≡ Some x
+  slice_get_set [] i x h = absurd (omega arith)
+  slice_get_set (y ∷ l) zero x h = refl
+  slice_get_set (y ∷ l) (suc i) x h = slice_get_set l i x (omega arith)
 
-  pub remove-set : (l : List X) (i : ℕ) (x : X) → remove (set l i x) i ≡ remove l i
-  remove-set [] i x = refl
-  remove-set (y ∷ l) zero x = refl
-  remove-set (y ∷ l) (suc i) x = ap (λ m. y ∷ m) (remove-set l i x)
+  pub remove_set : (l : List X) (i : ℕ) (x : X) → remove (set l i x) i ≡ remove l i
+  remove_set [] i x = refl
+  remove_set (y ∷ l) zero x = refl
+  remove_set (y ∷ l) (suc i) x = ap (λ m. y ∷ m) (remove_set l i x)
 
   swap_remove-set : (l : List X) (i : ℕ) (x y : X) → i < length l → swap_remove (set l i x) i x ≡ swap_remove l i y
   swap_remove-set l i x y h =
@@ -33,10 +33,10 @@ module _ {X : Type 0} where
         | inr before ↦ let other : n ≢ i = omega arith in ap (λ z. take n (set l i z)) (get_or-set_other l i n x x other ∙ get_or_default l n x y (omega arith))
       ]
 
-  pub swap_without-set : (l : List X) (i : ℕ) (x : X) → i < length l → swap_without (set l i x) i ≡ swap_without l i
-  swap_without-set l i x h =
+  pub swap_without_set : (l : List X) (i : ℕ) (x : X) → i < length l → swap_without (set l i x) i ≡ swap_without l i
+  swap_without_set l i x h =
       let there = item_there l i h in
-      ap (λ o. option_map_or (λ z. swap_remove (set l i x) i z) o (set l i x)) (slice_get-set l i x h) ∙ swap_remove-set l i x there.0 h
+      ap (λ o. option_map_or (λ z. swap_remove (set l i x) i z) o (set l i x)) (slice_get_set l i x h) ∙ swap_remove-set l i x there.0 h
       ∙ sym (ap (λ o. option_map_or (λ z. swap_remove l i z) o l) there.1)
 
   pub slice_get_last : (l : List X) (x : X) → slice_get (l ++ x ∷ []) (length l) ≡ Some x

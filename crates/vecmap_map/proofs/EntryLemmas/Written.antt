@@ -4,7 +4,7 @@ use Rattle.std.proofs.lemmas.List.{set-set}
 use Rattle.std.specs.Option.{option_map, option_map_or}
 use Rattle.vecmap_base.specs.Items.{swap_without}
 use Rattle.vecmap_base.specs.Pairs.{value_at, with_value}
-use Rattle.vecmap_map.proofs.EntryLemmas.Places.{item_there, remove-set, set_last, slice_get-set, slice_get_last, swap_without-set}
+use Rattle.vecmap_map.proofs.EntryLemmas.Places.{item_there, remove_set, set_last, slice_get_set, slice_get_last, swap_without_set}
 
 -- a pair that was put last
 module _ {K V : Type 0} (l : List (K × V)) (p : K × V) where
@@ -23,7 +23,7 @@ module _ {K V : Type 0} (l : List (K × V)) (i : ℕ) (h : i < length l) where
   written v = ap (λ o. option_map_or (λ q. set l i (q.0, v)) o l) there.1
 
   slice_get_written : (v : V) → slice_get (with_value l i v) i ≡ Some (there.0.0, v)
-  slice_get_written v = ap (λ m. slice_get m i) (written v) ∙ slice_get-set l i (there.0.0, v) h
+  slice_get_written v = ap (λ m. slice_get m i) (written v) ∙ slice_get_set l i (there.0.0, v) h
 
   pub value_written : (v : V) → value_at (with_value l i v) i ≡ Some v
   value_written v = ap (option_map (λ q. q.1)) (slice_get_written v)
@@ -34,7 +34,7 @@ module _ {K V : Type 0} (l : List (K × V)) (i : ℕ) (h : i < length l) where
       ∙ ap (λ m. set m i (there.0.0, w)) (written v) ∙ set-set l i (there.0.0, v) (there.0.0, w) ∙ sym (written w)
 
   pub remove_written : (v : V) → remove (with_value l i v) i ≡ remove l i
-  remove_written v = ap (λ m. remove m i) (written v) ∙ remove-set l i (there.0.0, v)
+  remove_written v = ap (λ m. remove m i) (written v) ∙ remove_set l i (there.0.0, v)
 
   pub swap_without_written : (v : V) → swap_without (with_value l i v) i ≡ swap_without l i
-  swap_without_written v = ap (λ m. swap_without m i) (written v) ∙ swap_without-set l i (there.0.0, v) h
+  swap_without_written v = ap (λ m. swap_without m i) (written v) ∙ swap_without_set l i (there.0.0, v) h

@@ -1,6 +1,6 @@
 use Rattle.std.proofs.Common.{[]}
 use Rattle.vecmap_base.proofs.DistinctLemmas.Absent.{distinct_none}
-use Rattle.vecmap_base.proofs.DistinctLemmas.Keys.{distinct_keys_with_value, distinct_put, distinct_put_at, distinct_puts}
+use Rattle.vecmap_base.proofs.DistinctLemmas.Keys.{distinct_keys_with_value, distinct_put, distinct_put_at, distinct_put_key, distinct_puts}
 use Rattle.vecmap_map.proofs.laws.insertion_keeps_keys_distinct.Goals as goal
 
 pub returns-clause-put : goal.returns-clause-put
@@ -17,3 +17,6 @@ returns-clause-at g c = λ l d i k v. distinct_put_at g.K.PartialEq.eq g.met.K.E
 
 pub returns-clause-value : goal.returns-clause-value
 returns-clause-value g c = λ l d i v. distinct_keys_with_value g.K.PartialEq.eq l i v d
+
+pub returns-clause-key : goal.returns-clause-key
+returns-clause-key g c = λ l d k v. distinct_put_key g.K.PartialEq.eq g.met.K.Eq.laws l k v d

@@ -1,0 +1,15 @@
+use Rattle.vecmap_base.proofs.ItemsLemmas.Additions.{add_absent, add_present}
+use Rattle.vecmap_base.proofs.ItemsLemmas.Places.{item_index_add, slice_get_add}
+use Rattle.vecmap_set.proofs.laws.additions.additions_move_nothing.Goals as goal
+
+pub returns-clause-place : goal.returns-clause-place
+returns-clause-place g c = item_index_add g.T.PartialEq.eq g.met.T.Eq.laws
+
+pub returns-clause-element : goal.returns-clause-element
+returns-clause-element g c = slice_get_add g.T.PartialEq.eq
+
+pub returns-clause-there : goal.returns-clause-there
+returns-clause-there g c = add_present g.T.PartialEq.eq
+
+pub returns-clause-last : goal.returns-clause-last
+returns-clause-last g c = add_absent g.T.PartialEq.eq
