@@ -1,15 +1,29 @@
 pub use Rattle.vecmap_base.proofs.CloneLemmas
-pub use Rattle.vecmap_base.proofs.DistinctLemmas
-pub use Rattle.vecmap_base.proofs.EqualityLemmas
-pub use Rattle.vecmap_base.proofs.ItemsLemmas
+pub use Rattle.vecmap_base.proofs.DistinctLemmas.Additions as DistinctAdditions
+pub use Rattle.vecmap_base.proofs.DistinctLemmas.Keys as DistinctKeys
+pub use Rattle.vecmap_base.proofs.DistinctLemmas.Order as DistinctOrder
+pub use Rattle.vecmap_base.proofs.DistinctLemmas.Removals as DistinctRemovals
+pub use Rattle.vecmap_base.proofs.EqualityLemmas.Maps as MapEquality
+pub use Rattle.vecmap_base.proofs.EqualityLemmas.Relations as SetRelations
+pub use Rattle.vecmap_base.proofs.EqualityLemmas.Sets as SetEquality
+pub use Rattle.vecmap_base.proofs.ItemsLemmas.Additions as ItemAdditions
+pub use Rattle.vecmap_base.proofs.ItemsLemmas.Places as ItemPlaces
+pub use Rattle.vecmap_base.proofs.ItemsLemmas.Recursion as ItemRecursion
+pub use Rattle.vecmap_base.proofs.ItemsLemmas.Removals as ItemRemovals
 pub use Rattle.vecmap_base.proofs.KeptLemmas
-pub use Rattle.vecmap_base.proofs.PairsLemmas
-pub use Rattle.vecmap_base.proofs.PartsStayDistinct
-pub use Rattle.vecmap_base.proofs.PlaceLemmas
+pub use Rattle.vecmap_base.proofs.PairsLemmas.AfterPuts
+pub use Rattle.vecmap_base.proofs.PairsLemmas.EachValue
+pub use Rattle.vecmap_base.proofs.PairsLemmas.Keys
+pub use Rattle.vecmap_base.proofs.PairsLemmas.Lookups
+pub use Rattle.vecmap_base.proofs.PairsLemmas.Places
+pub use Rattle.vecmap_base.proofs.PairsLemmas.Puts
+pub use Rattle.vecmap_base.proofs.PairsLemmas.Recursion
+pub use Rattle.vecmap_base.proofs.PairsLemmas.Values
 pub use Rattle.vecmap_base.proofs.WalkLemmas
 pub use Rattle.vecmap_map.proofs.ContentsLemmas
 pub use Rattle.vecmap_set.proofs.AlgebraLemmas
 pub use Rattle.vecmap_set.proofs.LazyLemmas
 pub use Rattle.vecmap_set.proofs.OperatorLemmas
 mod RunExamples
+pub mod Rules
 pub mod RunLemmas

@@ -1,5 +1,5 @@
 //! Laws of what insertions and removals leave, for lookups, places and lengths.
-ghost use Rattle.std.specs.Prelude.{◌≡◌, ◌+◌, ◌++◌, ◌<◌, ◌∷◌, ℕ, Bool, IsSome, List, None, Option, Some, [], drop, if◌then◌else◌, is_some, length, option_map, take, true, unwrap_or};
+ghost use Rattle.std.specs.Prelude.{◌≡◌, ◌+◌, ◌++◌, ◌<◌, ◌∷◌, ℕ, Bool, IsSome, List, None, Option, Some, [], drop, false, if◌then◌else◌, is_some, length, option_map, take, true, unwrap_or};
 ghost use Rattle.std.specs.Map.{keys_of};
 ghost use Rattle.std.specs.Option.{option_map_or, option_or};
 ghost use Rattle.vecmap_base.specs.Clones.{ClonesAreSame};
@@ -19,8 +19,10 @@ pub fn equal_keys_find_the_same<K: Eq, V>()
 /// After an insertion its key finds the value, and every other key what it found, whether the new key is taken in or
 /// not. The key stands where it stood, or last; no other key moves, and none that was stored changes.
 pub fn insertions_are_found<K: Eq, V>()
-    ensures value { (l : List (K × V)) (k : K) (v : V) (q : K) → lookup K.eq (put K.eq l k v) q ≡ (if K.eq k q then Some v else lookup K.eq l q) }
-    ensures value_with_key { (l : List (K × V)) (k : K) (v : V) (q : K) → lookup K.eq (put_key K.eq l k v) q ≡ (if K.eq k q then Some v else lookup K.eq l q) }
+    ensures value { (l : List (K × V)) (k : K) (v : V) → lookup K.eq (put K.eq l k v) k ≡ Some v }
+    ensures others { (l : List (K × V)) (k : K) (v : V) (q : K) → K.eq k q ≡ false → lookup K.eq (put K.eq l k v) q ≡ lookup K.eq l q }
+    ensures each { (l : List (K × V)) (k : K) (v : V) (q : K) → lookup K.eq (put K.eq l k v) q ≡ (if K.eq k q then Some v else lookup K.eq l q) }
+    ensures with_key { (l : List (K × V)) (k : K) (v : V) (q : K) → lookup K.eq (put_key K.eq l k v) q ≡ lookup K.eq (put K.eq l k v) q }
     ensures place { (l : List (K × V)) (k : K) (v : V) (q : K) → index_of K.eq (put K.eq l k v) q ≡ (if K.eq k q then Some (index_or_length K.eq l k) else index_of K.eq l q) }
     ensures keys { (l : List (K × V)) (k : K) (v : V) → keys_of (put K.eq l k v) ≡ add K.eq (keys_of l) k }
     ensures last { (l : List (K × V)) (k : K) (v : V) → index_of K.eq l k ≡ None → put K.eq l k v ≡ l ++ (k, v) ∷ [] }
@@ -54,7 +56,9 @@ pub fn bulk_insertions_are_single_ones<K: Eq, V>()
 /// After a removal from distinct keys the key is absent and every other key finds what it found. What is left stands
 /// in order.
 pub fn removals_are_forgotten<K: Eq, V>()
-    ensures value { (l : List (K × V)) → HasDistinctKeys K.eq l → (k q : K) → lookup K.eq (without_key K.eq l k) q ≡ (if K.eq k q then None else lookup K.eq l q) }
+    ensures value { (l : List (K × V)) → HasDistinctKeys K.eq l → (k : K) → lookup K.eq (without_key K.eq l k) k ≡ None }
+    ensures others { (l : List (K × V)) (k q : K) → K.eq k q ≡ false → lookup K.eq (without_key K.eq l k) q ≡ lookup K.eq l q }
+    ensures each { (l : List (K × V)) → HasDistinctKeys K.eq l → (k q : K) → lookup K.eq (without_key K.eq l k) q ≡ (if K.eq k q then None else lookup K.eq l q) }
     ensures absent { (l : List (K × V)) → HasDistinctKeys K.eq l → (k : K) → index_of K.eq (without_key K.eq l k) k ≡ None }
     ensures order { (l : List (K × V)) (k : K) (i : ℕ) → index_of K.eq l k ≡ Some i → without_key K.eq l k ≡ take i l ++ drop (i + 1) l }
 {}

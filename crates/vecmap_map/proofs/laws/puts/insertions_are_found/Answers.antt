@@ -1,14 +1,20 @@
-use Rattle.std.proofs.Common.{◌∙◌}
 use Rattle.vecmap_base.proofs.PairsLemmas.AfterPuts.{index_of_put, length_put, lookup_put_any, lookup_put_key}
 use Rattle.vecmap_base.proofs.PairsLemmas.Keys.{keys_of_put}
+use Rattle.vecmap_base.proofs.PairsLemmas.Lookups.{lookup_put, lookup_put_other}
 use Rattle.vecmap_base.proofs.PairsLemmas.Puts.{put_absent}
 use Rattle.vecmap_map.proofs.laws.puts.insertions_are_found.Goals as goal
 
 pub returns-clause-value : goal.returns-clause-value
-returns-clause-value g c = lookup_put_any g.K.PartialEq.eq g.met.K.Eq.laws
+returns-clause-value g c = lookup_put g.K.PartialEq.eq g.met.K.Eq.laws
 
-pub returns-clause-value_with_key : goal.returns-clause-value_with_key
-returns-clause-value_with_key g c = λ l k v q. lookup_put_key g.K.PartialEq.eq g.met.K.Eq.laws l k v q ∙ lookup_put_any g.K.PartialEq.eq g.met.K.Eq.laws l k v q
+pub returns-clause-others : goal.returns-clause-others
+returns-clause-others g c = lookup_put_other g.K.PartialEq.eq g.met.K.Eq.laws
+
+pub returns-clause-each : goal.returns-clause-each
+returns-clause-each g c = lookup_put_any g.K.PartialEq.eq g.met.K.Eq.laws
+
+pub returns-clause-with_key : goal.returns-clause-with_key
+returns-clause-with_key g c = lookup_put_key g.K.PartialEq.eq g.met.K.Eq.laws
 
 pub returns-clause-place : goal.returns-clause-place
 returns-clause-place g c = index_of_put g.K.PartialEq.eq g.met.K.Eq.laws

@@ -4,10 +4,17 @@ use Rattle.std.specs.Prelude.{◌≡◌, remove}
 use Rattle.std.proofs.Common.{ap}
 use Rattle.vecmap_base.specs.Pairs.{without_key}
 use Rattle.vecmap_base.proofs.PairsLemmas.AfterPuts.{index_of_without_key, lookup_without_any}
+use Rattle.vecmap_base.proofs.PairsLemmas.Lookups.{lookup_without_key, lookup_without_key_other}
 use Rattle.vecmap_map.proofs.laws.puts.removals_are_forgotten.Goals as goal
 
 pub returns-clause-value : goal.returns-clause-value
-returns-clause-value g c = λ l d k q. lookup_without_any g.K.PartialEq.eq g.met.K.Eq.laws l k q d
+returns-clause-value g c = λ l d k. lookup_without_key g.K.PartialEq.eq g.met.K.Eq.laws l k d
+
+pub returns-clause-others : goal.returns-clause-others
+returns-clause-others g c = lookup_without_key_other g.K.PartialEq.eq g.met.K.Eq.laws
+
+pub returns-clause-each : goal.returns-clause-each
+returns-clause-each g c = λ l d k q. lookup_without_any g.K.PartialEq.eq g.met.K.Eq.laws l k q d
 
 pub returns-clause-absent : goal.returns-clause-absent
 returns-clause-absent g c = λ l d k. index_of_without_key g.K.PartialEq.eq g.met.K.Eq.laws l k d
