@@ -1,6 +1,6 @@
 -- Worked examples: runs of commands, with numbers as keys and values.
 use Rattle.std.specs.Prelude.{ℕ, List, [], ◌∷◌, None, Some, nat_eq, refl}
-use Rattle.std.proofs.Common.{ap, arith}
+use Rattle.std.proofs.Common.{arith}
 use Rattle.std.specs.declared.clone.Clone as clone
 use Rattle.vecmap.specs.MapRun.{Run, Step}
 use Rattle.vecmap.specs.declared.map_run.command.MapCommand.TheVariants.{Get, IndexOf, Insert, InsertAt, Len, Remove}
@@ -22,25 +22,25 @@ module _ (keys values : clone.Ghosts ℕ) where
       let last : Contents ℕ ℕ = with_entries grown left in
       let grows : KeepsRoom nat_eq pair 2 grown = record { capacity = omega arith; there = λ there. absurd (cc there); spare = λ room. absurd (omega (arith, room)) } in
       let stays : KeepsRoom nat_eq grown 1 all = record { capacity = omega arith; there = λ there. refl; spare = λ room. refl } in
-      (grown, (refl, refl, grows), (all, (refl, refl, stays), (all, (refl, refl), (last, (refl, refl), (last, (refl, refl), refl)))))
+      (grown, ((refl, refl), grows), (all, ((refl, refl), stays), (all, ((refl, refl), refl), (last, ((refl, refl), refl), (last, ((refl, refl), refl), refl)))))
 
   a_refused_new_key_changes_nothing : Step nat_eq nat_eq keys values pair (Insert 2 20) NoMemory pair
-  a_refused_new_key_changes_nothing = record { same = refl; absent = refl; full = refl }
+  a_refused_new_key_changes_nothing = ((refl, refl), (refl, refl))
 
   a_present_key_is_never_refused : Step nat_eq nat_eq keys values pair (Insert 1 20) NoMemory pair → ⊥
-  a_present_key_is_never_refused s = cc s.absent
+  a_present_key_is_never_refused s = cc s.0.0
 
   an_absent_key_is_never_refused : Step nat_eq nat_eq keys values pair (Get 2) NoMemory pair → ⊥
-  an_absent_key_is_never_refused s = absurd s.0
+  an_absent_key_is_never_refused s = absurd s.0.0
 
   nothing_is_refused_while_there_is_room : Step nat_eq nat_eq keys values (record { entries = []; capacity = 1 }) (Insert 1 20) NoMemory (record { entries = []; capacity = 1 }) → ⊥
-  nothing_is_refused_while_there_is_room s = absurd (omega (arith, s.full))
+  nothing_is_refused_while_there_is_room s = absurd (omega (arith, s.1.0))
 
   the_length_is_in_range : Step nat_eq nat_eq keys values pair (InsertAt 1 2 20) OutOfRange pair → ⊥
-  the_length_is_in_range s = absurd (omega (arith, s.0))
+  the_length_is_in_range s = absurd (omega (arith, s.0.0))
 
   a_removal_gives_no_room_back : Step nat_eq nat_eq keys values pair (Remove 1) (Value (Some 10)) (record { entries = []; capacity = 0 }) → ⊥
-  a_removal_gives_no_room_back s = absurd (omega (arith, ap (λ (m : Contents ℕ ℕ). m.capacity) s.1))
+  a_removal_gives_no_room_back s = absurd (omega (arith, s.1))
 
   no_reply_is_dropped : Run nat_eq nat_eq keys values pair (Len ∷ []) [] pair → ⊥
   no_reply_is_dropped r = r

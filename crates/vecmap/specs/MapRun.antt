@@ -1,5 +1,5 @@
 -- What the commands of `run` do to a map, one after another.
-use Rattle.std.specs.Prelude.{◌≡◌, ◌-◌, ◌<◌, ◌≤◌, ◌++◌, Bool, IsSomeAnd, List, Option, [], ◌∷◌, drop, is_some, length, not, remove, reverse, slice_get, swap, take, ⊤}
+use Rattle.std.specs.Prelude.{◌≡◌, ◌-◌, ◌<◌, ◌≤◌, ◌++◌, None, Bool, IsSomeAnd, List, Option, [], ◌∷◌, drop, is_some, length, not, remove, reverse, slice_get, swap, take, ⊤}
 use Rattle.std.specs.Option.{option_map_or}
 use Rattle.std.specs.declared.clone.Clone as clone
 use Rattle.vecmap.specs.declared.map_run.command.MapCommand.{MapCommand}
@@ -11,7 +11,7 @@ use Rattle.vecmap_map.specs.MapBulk.{ArePairClones}
 use Rattle.vecmap_base.specs.Equality.{has_same_counts}
 use Rattle.vecmap_base.specs.Items.{swap_without}
 use Rattle.vecmap_base.specs.Pairs.{index_of, index_or_length, lookup, lookup_full, lookup_pair, put, put_at, put_key, puts, swap_without_key, without_key}
-use Rattle.vecmap_map.specs.Contents.{Contents, HasRoom, KeepsRoom, Refuses, with_entries}
+use Rattle.vecmap_map.specs.Contents.{Contents, HasRoom, IsFull, KeepsRoom}
 
 module _ {K V : Type 0} (values : clone.Ghosts V) where
   -- a clone of the value, if there is one, was answered; or none, for want of memory, where its clone may fail
@@ -34,72 +34,101 @@ module _ {K V : Type 0} (keys : clone.Ghosts K) (values : clone.Ghosts V) where
   ClonesPairs l _ = ⊥
 
 module _ {K V : Type 0} (eq : K → K → Bool) (eq_value : V → V → Bool) (keys : clone.Ghosts K) (values : clone.Ghosts V) where
-  -- one command takes the map m to the map n, and is answered so. A command that reads, is out of range or is refused
-  -- leaves the whole map, and a removal its capacity
-  abbrev pub Step : Contents K V → MapCommand K V → MapReply K V → Contents K V → Type 0
-  Step m (Insert k v) (Value old) n = (old ≡ lookup eq m.entries k) × (n.entries ≡ put eq m.entries k v) × KeepsRoom eq m k n
-  Step m (Insert k v) NoMemory n = Refuses eq m k n
-  Step m (Insert k v) _ n = ⊥
-  Step m (InsertFull k v) (Full place old) n = (place ≡ index_or_length eq m.entries k) × (old ≡ lookup eq m.entries k) × (n.entries ≡ put eq m.entries k v) × KeepsRoom eq m k n
-  Step m (InsertFull k v) NoMemory n = Refuses eq m k n
-  Step m (InsertFull k v) _ n = ⊥
-  Step m (InsertAt i k v) (Moved old) n = (i ≤ length m.entries) × (old ≡ lookup_full eq m.entries k) × (n.entries ≡ put_at eq m.entries i k v) × KeepsRoom eq m k n
-  Step m (InsertAt i k v) OutOfRange n = (length m.entries < i) × (n ≡ m)
-  Step m (InsertAt i k v) NoMemory n = (i ≤ length m.entries) × Refuses eq m k n
-  Step m (InsertAt i k v) _ n = ⊥
-  Step m (InsertKey k v) (Pair old) n = (old ≡ lookup_pair eq m.entries k) × (n.entries ≡ put_key eq m.entries k v) × KeepsRoom eq m k n
-  Step m (InsertKey k v) NoMemory n = Refuses eq m k n
-  Step m (InsertKey k v) _ n = ⊥
-  Step m (OrInsert k v) (Kept place added) n = (place ≡ index_or_length eq m.entries k) × (added ≡ not (is_some (index_of eq m.entries k))) × (n.entries ≡ option_map_or (λ i. m.entries) (index_of eq m.entries k) (m.entries ++ (k, v) ∷ [])) × KeepsRoom eq m k n
-  Step m (OrInsert k v) NoMemory n = Refuses eq m k n
-  Step m (OrInsert k v) _ n = ⊥
-  Step m (Get k) reply n = ClonesValue values (lookup eq m.entries k) reply × (n ≡ m)
-  Step m (GetIndex i) reply n = ClonesPair keys values (slice_get m.entries i) reply × (n ≡ m)
-  Step m (IndexOf k) (Place place) n = (place ≡ index_of eq m.entries k) × (n ≡ m)
-  Step m (IndexOf k) _ n = ⊥
-  Step m (ContainsKey k) (Truth there) n = (there ≡ is_some (index_of eq m.entries k)) × (n ≡ m)
-  Step m (ContainsKey k) _ n = ⊥
-  Step m First reply n = ClonesPair keys values (slice_get m.entries 0) reply × (n ≡ m)
-  Step m Last reply n = ClonesPair keys values (slice_get m.entries (length m.entries - 1)) reply × (n ≡ m)
-  Step m Len (Number count) n = (count ≡ length m.entries) × (n ≡ m)
-  Step m Len _ n = ⊥
-  Step m (Remove k) (Value old) n = (old ≡ lookup eq m.entries k) × (n ≡ with_entries m (without_key eq m.entries k))
-  Step m (Remove k) _ n = ⊥
-  Step m (RemoveEntry k) (Pair old) n = (old ≡ lookup_pair eq m.entries k) × (n ≡ with_entries m (without_key eq m.entries k))
-  Step m (RemoveEntry k) _ n = ⊥
-  Step m (SwapRemove k) (Value old) n = (old ≡ lookup eq m.entries k) × (n ≡ with_entries m (swap_without_key eq m.entries k))
-  Step m (SwapRemove k) _ n = ⊥
-  Step m (SwapRemoveEntry k) (Pair old) n = (old ≡ lookup_pair eq m.entries k) × (n ≡ with_entries m (swap_without_key eq m.entries k))
-  Step m (SwapRemoveEntry k) _ n = ⊥
-  Step m (RemoveIndex i) (Pair old) n = (i < length m.entries) × (old ≡ slice_get m.entries i) × (n ≡ with_entries m (remove m.entries i))
-  Step m (RemoveIndex i) OutOfRange n = (length m.entries ≤ i) × (n ≡ m)
-  Step m (RemoveIndex i) _ n = ⊥
-  Step m (SwapRemoveIndex i) (Pair old) n = (i < length m.entries) × (old ≡ slice_get m.entries i) × (n ≡ with_entries m (swap_without m.entries i))
-  Step m (SwapRemoveIndex i) OutOfRange n = (length m.entries ≤ i) × (n ≡ m)
-  Step m (SwapRemoveIndex i) _ n = ⊥
-  Step m Pop (Pair old) n = (old ≡ slice_get m.entries (length m.entries - 1)) × (n ≡ with_entries m (take (length m.entries - 1) m.entries))
-  Step m Pop _ n = ⊥
-  Step m (SwapIndices i j) Done n = (i < length m.entries) × (j < length m.entries) × (n ≡ with_entries m (swap m.entries i j))
-  Step m (SwapIndices i j) OutOfRange n = ¬ ((i < length m.entries) × (j < length m.entries)) × (n ≡ m)
-  Step m (SwapIndices i j) _ n = ⊥
-  Step m (Truncate len) Done n = n ≡ with_entries m (take len m.entries)
-  Step m (Truncate len) _ n = ⊥
-  Step m Clear Done n = n ≡ with_entries m []
-  Step m Clear _ n = ⊥
-  Step m Reverse Done n = n ≡ with_entries m (reverse m.entries)
-  Step m Reverse _ n = ⊥
-  Step m (Append other) Done n = (n.entries ≡ puts eq m.entries other.entries) × (m.capacity ≤ n.capacity) × (HasRoom m (length other.entries) → n.capacity ≡ m.capacity)
-  Step m (Append other) NoMemory n = ¬ (HasRoom m (length other.entries)) × (n ≡ m)
-  Step m (Append other) _ n = ⊥
-  Step m (SplitOff i) (Rest rest) n = (i ≤ length m.entries) × (rest.entries ≡ drop i m.entries) × (n ≡ with_entries m (take i m.entries))
-  Step m (SplitOff i) OutOfRange n = (length m.entries < i) × (n ≡ m)
-  Step m (SplitOff i) NoMemory n = (i < length m.entries) × (n ≡ m)
-  Step m (SplitOff i) _ n = ⊥
-  Step m ToVec reply n = ClonesPairs keys values m.entries reply × (n ≡ m)
-  Step m (Equals other) (Truth same) n = (same ≡ has_same_counts eq eq_value m.entries other.entries) × (n ≡ m)
-  Step m (Equals other) _ n = ⊥
+  -- one command takes the list l to the list m, and is answered so. A command that reads, is out of range or is refused
+  -- leaves the list
+  abbrev pub ListStep : List (K × V) → MapCommand K V → MapReply K V → List (K × V) → Type 0
+  ListStep l (Insert k v) (Value old) m = (old ≡ lookup eq l k) × (m ≡ put eq l k v)
+  ListStep l (Insert k v) NoMemory m = (index_of eq l k ≡ None) × (m ≡ l)
+  ListStep l (Insert k v) _ m = ⊥
+  ListStep l (InsertFull k v) (Full place old) m = (place ≡ index_or_length eq l k) × (old ≡ lookup eq l k) × (m ≡ put eq l k v)
+  ListStep l (InsertFull k v) NoMemory m = (index_of eq l k ≡ None) × (m ≡ l)
+  ListStep l (InsertFull k v) _ m = ⊥
+  ListStep l (InsertAt i k v) (Moved old) m = (i ≤ length l) × (old ≡ lookup_full eq l k) × (m ≡ put_at eq l i k v)
+  ListStep l (InsertAt i k v) OutOfRange m = (length l < i) × (m ≡ l)
+  ListStep l (InsertAt i k v) NoMemory m = (i ≤ length l) × (index_of eq l k ≡ None) × (m ≡ l)
+  ListStep l (InsertAt i k v) _ m = ⊥
+  ListStep l (InsertKey k v) (Pair old) m = (old ≡ lookup_pair eq l k) × (m ≡ put_key eq l k v)
+  ListStep l (InsertKey k v) NoMemory m = (index_of eq l k ≡ None) × (m ≡ l)
+  ListStep l (InsertKey k v) _ m = ⊥
+  ListStep l (OrInsert k v) (Kept place added) m = (place ≡ index_or_length eq l k) × (added ≡ not (is_some (index_of eq l k))) × (m ≡ option_map_or (λ i. l) (index_of eq l k) (l ++ (k, v) ∷ []))
+  ListStep l (OrInsert k v) NoMemory m = (index_of eq l k ≡ None) × (m ≡ l)
+  ListStep l (OrInsert k v) _ m = ⊥
+  ListStep l (Get k) reply m = ClonesValue values (lookup eq l k) reply × (m ≡ l)
+  ListStep l (GetIndex i) reply m = ClonesPair keys values (slice_get l i) reply × (m ≡ l)
+  ListStep l (IndexOf k) (Place place) m = (place ≡ index_of eq l k) × (m ≡ l)
+  ListStep l (IndexOf k) _ m = ⊥
+  ListStep l (ContainsKey k) (Truth there) m = (there ≡ is_some (index_of eq l k)) × (m ≡ l)
+  ListStep l (ContainsKey k) _ m = ⊥
+  ListStep l First reply m = ClonesPair keys values (slice_get l 0) reply × (m ≡ l)
+  ListStep l Last reply m = ClonesPair keys values (slice_get l (length l - 1)) reply × (m ≡ l)
+  ListStep l Len (Number count) m = (count ≡ length l) × (m ≡ l)
+  ListStep l Len _ m = ⊥
+  ListStep l (Remove k) (Value old) m = (old ≡ lookup eq l k) × (m ≡ without_key eq l k)
+  ListStep l (Remove k) _ m = ⊥
+  ListStep l (RemoveEntry k) (Pair old) m = (old ≡ lookup_pair eq l k) × (m ≡ without_key eq l k)
+  ListStep l (RemoveEntry k) _ m = ⊥
+  ListStep l (SwapRemove k) (Value old) m = (old ≡ lookup eq l k) × (m ≡ swap_without_key eq l k)
+  ListStep l (SwapRemove k) _ m = ⊥
+  ListStep l (SwapRemoveEntry k) (Pair old) m = (old ≡ lookup_pair eq l k) × (m ≡ swap_without_key eq l k)
+  ListStep l (SwapRemoveEntry k) _ m = ⊥
+  ListStep l (RemoveIndex i) (Pair old) m = (i < length l) × (old ≡ slice_get l i) × (m ≡ remove l i)
+  ListStep l (RemoveIndex i) OutOfRange m = (length l ≤ i) × (m ≡ l)
+  ListStep l (RemoveIndex i) _ m = ⊥
+  ListStep l (SwapRemoveIndex i) (Pair old) m = (i < length l) × (old ≡ slice_get l i) × (m ≡ swap_without l i)
+  ListStep l (SwapRemoveIndex i) OutOfRange m = (length l ≤ i) × (m ≡ l)
+  ListStep l (SwapRemoveIndex i) _ m = ⊥
+  ListStep l Pop (Pair old) m = (old ≡ slice_get l (length l - 1)) × (m ≡ take (length l - 1) l)
+  ListStep l Pop _ m = ⊥
+  ListStep l (SwapIndices i j) Done m = (i < length l) × (j < length l) × (m ≡ swap l i j)
+  ListStep l (SwapIndices i j) OutOfRange m = ¬ ((i < length l) × (j < length l)) × (m ≡ l)
+  ListStep l (SwapIndices i j) _ m = ⊥
+  ListStep l (Truncate len) Done m = m ≡ take len l
+  ListStep l (Truncate len) _ m = ⊥
+  ListStep l Clear Done m = m ≡ []
+  ListStep l Clear _ m = ⊥
+  ListStep l Reverse Done m = m ≡ reverse l
+  ListStep l Reverse _ m = ⊥
+  ListStep l (Append other) Done m = m ≡ puts eq l other.entries
+  ListStep l (Append other) NoMemory m = (0 < length other.entries) × (m ≡ l)
+  ListStep l (Append other) _ m = ⊥
+  ListStep l (SplitOff i) (Rest rest) m = (i ≤ length l) × (rest.entries ≡ drop i l) × (m ≡ take i l)
+  ListStep l (SplitOff i) OutOfRange m = (length l < i) × (m ≡ l)
+  ListStep l (SplitOff i) NoMemory m = (i < length l) × (m ≡ l)
+  ListStep l (SplitOff i) _ m = ⊥
+  ListStep l ToVec reply m = ClonesPairs keys values l reply × (m ≡ l)
+  ListStep l (Equals other) (Truth same) m = (same ≡ has_same_counts eq eq_value l other.entries) × (m ≡ l)
+  ListStep l (Equals other) _ m = ⊥
 
-  -- the commands, one after another, take the map m to the map n, and each has one reply
+  -- the room where a key is put: only a new one that finds the map full needs memory
+  abbrev pub PutsInRoom : K → Contents K V → MapReply K V → Contents K V → Type 0
+  PutsInRoom k m OutOfRange n = n.capacity ≡ m.capacity
+  PutsInRoom k m NoMemory n = IsFull m × (n.capacity ≡ m.capacity)
+  PutsInRoom k m reply n = KeepsRoom eq m k n
+
+  -- what becomes of the room: all commands but those that put keep the capacity, and a refused one does
+  abbrev pub RoomStep : Contents K V → MapCommand K V → MapReply K V → Contents K V → Type 0
+  RoomStep m (Insert k v) reply n = PutsInRoom k m reply n
+  RoomStep m (InsertFull k v) reply n = PutsInRoom k m reply n
+  RoomStep m (InsertAt i k v) reply n = PutsInRoom k m reply n
+  RoomStep m (InsertKey k v) reply n = PutsInRoom k m reply n
+  RoomStep m (OrInsert k v) reply n = PutsInRoom k m reply n
+  RoomStep m (Append other) NoMemory n = ¬ (HasRoom m (length other.entries)) × (n.capacity ≡ m.capacity)
+  RoomStep m (Append other) reply n = (m.capacity ≤ n.capacity) × (HasRoom m (length other.entries) → n.capacity ≡ m.capacity)
+  RoomStep m command reply n = n.capacity ≡ m.capacity
+
+  -- one command takes the map m to the map n, list and room, and is answered so
+  abbrev pub Step : Contents K V → MapCommand K V → MapReply K V → Contents K V → Type 0
+  Step m command reply n = ListStep m.entries command reply n.entries × RoomStep m command reply n
+
+  -- the commands, one after another, take the list l to the list m, and each has one reply
+  abbrev pub ListRun : List (K × V) → List (MapCommand K V) → List (MapReply K V) → List (K × V) → Type 0
+  ListRun l [] [] m = m ≡ l
+  ListRun l (command ∷ commands) (reply ∷ replies) m =
+      (next : List (K × V)) × ListStep l command reply next × ListRun next commands replies m
+  ListRun l [] (reply ∷ replies) m = ⊥
+  ListRun l (command ∷ commands) [] m = ⊥
+
+  -- the same of a map, list and room
   abbrev pub Run : Contents K V → List (MapCommand K V) → List (MapReply K V) → Contents K V → Type 0
   Run m [] [] n = n ≡ m
   Run m (command ∷ commands) (reply ∷ replies) n =

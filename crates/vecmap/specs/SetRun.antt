@@ -1,5 +1,5 @@
 -- What the commands of `run_set` do to a set, one after another.
-use Rattle.std.specs.Prelude.{◌≡◌, ◌-◌, ◌<◌, ◌≤◌, ◌↔◌, Bool, Err, IsSomeAnd, IsTrue, List, Ok, Option, Result, [], ◌∷◌, drop, length, not, remove, reverse, slice_get, swap, take, ⊤}
+use Rattle.std.specs.Prelude.{◌≡◌, ◌-◌, ◌<◌, ◌≤◌, ◌↔◌, Bool, Err, IsSomeAnd, IsTrue, List, Ok, Option, Result, [], ◌∷◌, drop, false, length, not, remove, reverse, slice_get, swap, take, ⊤}
 use Rattle.std.specs.List.{IsDistinct}
 use Rattle.std.specs.declared.clone.Clone as clone
 use Rattle.vecmap.specs.declared.set_run.command.SetCommand.{SetCommand}
@@ -9,7 +9,7 @@ use Rattle.vecmap.specs.declared.set_run.reply.SetReply.TheVariants.{Done, Item,
 use Rattle.vecmap_base.specs.Clones.{AreClones, IsCloneOf}
 use Rattle.vecmap_base.specs.Equality.{has_same_items, is_within}
 use Rattle.vecmap_base.specs.Items.{add, add_new, adds, both, has_item, item_index, only, stored_item, swap_without, swap_without_item, without_item}
-use Rattle.vecmap_set.specs.Contents.{Contents, HasRoom, KeepsRoom, Refuses, with_elements}
+use Rattle.vecmap_set.specs.Contents.{Contents, HasRoom, KeepsRoom}
 use Rattle.vecmap_set.specs.Operators.{symmetric_difference_of, union_of}
 
 module _ {T : Type 0} where
@@ -38,72 +38,97 @@ module _ {T : Type 0} (eq : T → T → Bool) (clones : clone.Ghosts T) where
   MakesSet l NoMemory = ⊤
   MakesSet l _ = ⊥
 
-  -- one command takes the set s to the set t, and is answered so. A command that reads, is out of range or is refused
-  -- leaves the whole set, and a removal its capacity
-  abbrev pub StepSet : Contents T → SetCommand T → SetReply T → Contents T → Type 0
-  StepSet s (Insert x) (Truth added) t = (added ≡ not (has_item eq s.elements x)) × (t.elements ≡ add eq s.elements x) × KeepsRoom eq s x t
-  StepSet s (Insert x) NoMemory t = Refuses eq s x t
-  StepSet s (Insert x) _ t = ⊥
-  StepSet s (Replace x) (Item old) t = (old ≡ stored_item eq s.elements x) × (t.elements ≡ add_new eq s.elements x) × KeepsRoom eq s x t
-  StepSet s (Replace x) NoMemory t = Refuses eq s x t
-  StepSet s (Replace x) _ t = ⊥
-  StepSet s (Get x) reply t = ClonesItem clones (stored_item eq s.elements x) reply × (t ≡ s)
-  StepSet s (GetIndex i) reply t = ClonesItem clones (slice_get s.elements i) reply × (t ≡ s)
-  StepSet s (IndexOf x) (Place place) t = (place ≡ item_index eq s.elements x) × (t ≡ s)
-  StepSet s (IndexOf x) _ t = ⊥
-  StepSet s (Contains x) (Truth there) t = (there ≡ has_item eq s.elements x) × (t ≡ s)
-  StepSet s (Contains x) _ t = ⊥
-  StepSet s First reply t = ClonesItem clones (slice_get s.elements 0) reply × (t ≡ s)
-  StepSet s Last reply t = ClonesItem clones (slice_get s.elements (length s.elements - 1)) reply × (t ≡ s)
-  StepSet s Len (Number count) t = (count ≡ length s.elements) × (t ≡ s)
-  StepSet s Len _ t = ⊥
-  StepSet s (Remove x) (Truth found) t = (found ≡ has_item eq s.elements x) × (t ≡ with_elements s (without_item eq s.elements x))
-  StepSet s (Remove x) _ t = ⊥
-  StepSet s (Take x) (Item old) t = (old ≡ stored_item eq s.elements x) × (t ≡ with_elements s (without_item eq s.elements x))
-  StepSet s (Take x) _ t = ⊥
-  StepSet s (SwapRemove x) (Truth found) t = (found ≡ has_item eq s.elements x) × (t ≡ with_elements s (swap_without_item eq s.elements x))
-  StepSet s (SwapRemove x) _ t = ⊥
-  StepSet s (SwapTake x) (Item old) t = (old ≡ stored_item eq s.elements x) × (t ≡ with_elements s (swap_without_item eq s.elements x))
-  StepSet s (SwapTake x) _ t = ⊥
-  StepSet s (RemoveIndex i) (Item old) t = (i < length s.elements) × (old ≡ slice_get s.elements i) × (t ≡ with_elements s (remove s.elements i))
-  StepSet s (RemoveIndex i) OutOfRange t = (length s.elements ≤ i) × (t ≡ s)
-  StepSet s (RemoveIndex i) _ t = ⊥
-  StepSet s (SwapRemoveIndex i) (Item old) t = (i < length s.elements) × (old ≡ slice_get s.elements i) × (t ≡ with_elements s (swap_without s.elements i))
-  StepSet s (SwapRemoveIndex i) OutOfRange t = (length s.elements ≤ i) × (t ≡ s)
-  StepSet s (SwapRemoveIndex i) _ t = ⊥
-  StepSet s Pop (Item old) t = (old ≡ slice_get s.elements (length s.elements - 1)) × (t ≡ with_elements s (take (length s.elements - 1) s.elements))
-  StepSet s Pop _ t = ⊥
-  StepSet s (SwapIndices i j) Done t = (i < length s.elements) × (j < length s.elements) × (t ≡ with_elements s (swap s.elements i j))
-  StepSet s (SwapIndices i j) OutOfRange t = ¬ ((i < length s.elements) × (j < length s.elements)) × (t ≡ s)
-  StepSet s (SwapIndices i j) _ t = ⊥
-  StepSet s (Truncate len) Done t = t ≡ with_elements s (take len s.elements)
-  StepSet s (Truncate len) _ t = ⊥
-  StepSet s Clear Done t = t ≡ with_elements s []
-  StepSet s Clear _ t = ⊥
-  StepSet s Reverse Done t = t ≡ with_elements s (reverse s.elements)
-  StepSet s Reverse _ t = ⊥
-  StepSet s (Append other) Done t = (t.elements ≡ adds eq s.elements other.elements) × (s.capacity ≤ t.capacity) × (HasRoom s (length other.elements) → t.capacity ≡ s.capacity)
-  StepSet s (Append other) NoMemory t = ¬ (HasRoom s (length other.elements)) × (t ≡ s)
-  StepSet s (Append other) _ t = ⊥
-  StepSet s (SplitOff i) (Made rest) t = (i ≤ length s.elements) × (rest.elements ≡ drop i s.elements) × IsDistinct eq rest.elements × (t ≡ with_elements s (take i s.elements))
-  StepSet s (SplitOff i) OutOfRange t = (length s.elements < i) × (t ≡ s)
-  StepSet s (SplitOff i) NoMemory t = (i < length s.elements) × (t ≡ s)
-  StepSet s (SplitOff i) _ t = ⊥
-  StepSet s ToVec reply t = ClonesItems clones s.elements reply × (t ≡ s)
-  StepSet s (Equals other) (Truth same) t = (same ≡ has_same_items eq s.elements other.elements) × (t ≡ s)
-  StepSet s (Equals other) _ t = ⊥
-  StepSet s (IsSubset other) (Truth within) t = (within ≡ is_within eq s.elements other.elements) × (t ≡ s)
-  StepSet s (IsSubset other) _ t = ⊥
-  StepSet s (IsSuperset other) (Truth within) t = (within ≡ is_within eq other.elements s.elements) × (t ≡ s)
-  StepSet s (IsSuperset other) _ t = ⊥
-  StepSet s (IsDisjoint other) (Truth apart) t = (IsTrue apart ↔ (both eq s.elements other.elements ≡ [])) × (t ≡ s)
-  StepSet s (IsDisjoint other) _ t = ⊥
-  StepSet s (Intersect other) reply t = MakesSet (both eq s.elements other.elements) reply × (t ≡ s)
-  StepSet s (Unite other) reply t = MakesSet (union_of eq s.elements other.elements) reply × (t ≡ s)
-  StepSet s (Exclusive other) reply t = MakesSet (symmetric_difference_of eq s.elements other.elements) reply × (t ≡ s)
-  StepSet s (Subtract other) reply t = MakesSet (only eq s.elements other.elements) reply × (t ≡ s)
+  -- one command takes the list l to the list m, and is answered so. A command that reads, is out of range or is refused
+  -- leaves the list
+  abbrev pub ListStep : List T → SetCommand T → SetReply T → List T → Type 0
+  ListStep l (Insert x) (Truth added) m = (added ≡ not (has_item eq l x)) × (m ≡ add eq l x)
+  ListStep l (Insert x) NoMemory m = (has_item eq l x ≡ false) × (m ≡ l)
+  ListStep l (Insert x) _ m = ⊥
+  ListStep l (Replace x) (Item old) m = (old ≡ stored_item eq l x) × (m ≡ add_new eq l x)
+  ListStep l (Replace x) NoMemory m = (has_item eq l x ≡ false) × (m ≡ l)
+  ListStep l (Replace x) _ m = ⊥
+  ListStep l (Get x) reply m = ClonesItem clones (stored_item eq l x) reply × (m ≡ l)
+  ListStep l (GetIndex i) reply m = ClonesItem clones (slice_get l i) reply × (m ≡ l)
+  ListStep l (IndexOf x) (Place place) m = (place ≡ item_index eq l x) × (m ≡ l)
+  ListStep l (IndexOf x) _ m = ⊥
+  ListStep l (Contains x) (Truth there) m = (there ≡ has_item eq l x) × (m ≡ l)
+  ListStep l (Contains x) _ m = ⊥
+  ListStep l First reply m = ClonesItem clones (slice_get l 0) reply × (m ≡ l)
+  ListStep l Last reply m = ClonesItem clones (slice_get l (length l - 1)) reply × (m ≡ l)
+  ListStep l Len (Number count) m = (count ≡ length l) × (m ≡ l)
+  ListStep l Len _ m = ⊥
+  ListStep l (Remove x) (Truth found) m = (found ≡ has_item eq l x) × (m ≡ without_item eq l x)
+  ListStep l (Remove x) _ m = ⊥
+  ListStep l (Take x) (Item old) m = (old ≡ stored_item eq l x) × (m ≡ without_item eq l x)
+  ListStep l (Take x) _ m = ⊥
+  ListStep l (SwapRemove x) (Truth found) m = (found ≡ has_item eq l x) × (m ≡ swap_without_item eq l x)
+  ListStep l (SwapRemove x) _ m = ⊥
+  ListStep l (SwapTake x) (Item old) m = (old ≡ stored_item eq l x) × (m ≡ swap_without_item eq l x)
+  ListStep l (SwapTake x) _ m = ⊥
+  ListStep l (RemoveIndex i) (Item old) m = (i < length l) × (old ≡ slice_get l i) × (m ≡ remove l i)
+  ListStep l (RemoveIndex i) OutOfRange m = (length l ≤ i) × (m ≡ l)
+  ListStep l (RemoveIndex i) _ m = ⊥
+  ListStep l (SwapRemoveIndex i) (Item old) m = (i < length l) × (old ≡ slice_get l i) × (m ≡ swap_without l i)
+  ListStep l (SwapRemoveIndex i) OutOfRange m = (length l ≤ i) × (m ≡ l)
+  ListStep l (SwapRemoveIndex i) _ m = ⊥
+  ListStep l Pop (Item old) m = (old ≡ slice_get l (length l - 1)) × (m ≡ take (length l - 1) l)
+  ListStep l Pop _ m = ⊥
+  ListStep l (SwapIndices i j) Done m = (i < length l) × (j < length l) × (m ≡ swap l i j)
+  ListStep l (SwapIndices i j) OutOfRange m = ¬ ((i < length l) × (j < length l)) × (m ≡ l)
+  ListStep l (SwapIndices i j) _ m = ⊥
+  ListStep l (Truncate len) Done m = m ≡ take len l
+  ListStep l (Truncate len) _ m = ⊥
+  ListStep l Clear Done m = m ≡ []
+  ListStep l Clear _ m = ⊥
+  ListStep l Reverse Done m = m ≡ reverse l
+  ListStep l Reverse _ m = ⊥
+  ListStep l (Append other) Done m = m ≡ adds eq l other.elements
+  ListStep l (Append other) NoMemory m = (0 < length other.elements) × (m ≡ l)
+  ListStep l (Append other) _ m = ⊥
+  ListStep l (SplitOff i) (Made rest) m = (i ≤ length l) × (rest.elements ≡ drop i l) × IsDistinct eq rest.elements × (m ≡ take i l)
+  ListStep l (SplitOff i) OutOfRange m = (length l < i) × (m ≡ l)
+  ListStep l (SplitOff i) NoMemory m = (i < length l) × (m ≡ l)
+  ListStep l (SplitOff i) _ m = ⊥
+  ListStep l ToVec reply m = ClonesItems clones l reply × (m ≡ l)
+  ListStep l (Equals other) (Truth same) m = (same ≡ has_same_items eq l other.elements) × (m ≡ l)
+  ListStep l (Equals other) _ m = ⊥
+  ListStep l (IsSubset other) (Truth within) m = (within ≡ is_within eq l other.elements) × (m ≡ l)
+  ListStep l (IsSubset other) _ m = ⊥
+  ListStep l (IsSuperset other) (Truth within) m = (within ≡ is_within eq other.elements l) × (m ≡ l)
+  ListStep l (IsSuperset other) _ m = ⊥
+  ListStep l (IsDisjoint other) (Truth apart) m = (IsTrue apart ↔ (both eq l other.elements ≡ [])) × (m ≡ l)
+  ListStep l (IsDisjoint other) _ m = ⊥
+  ListStep l (Intersect other) reply m = MakesSet (both eq l other.elements) reply × (m ≡ l)
+  ListStep l (Unite other) reply m = MakesSet (union_of eq l other.elements) reply × (m ≡ l)
+  ListStep l (Exclusive other) reply m = MakesSet (symmetric_difference_of eq l other.elements) reply × (m ≡ l)
+  ListStep l (Subtract other) reply m = MakesSet (only eq l other.elements) reply × (m ≡ l)
 
-  -- the commands, one after another, take the set s to the set t, and each has one reply
+  -- the room where an element is added: only a new one that finds the set full needs memory
+  abbrev pub AddsInRoom : T → Contents T → SetReply T → Contents T → Type 0
+  AddsInRoom x s NoMemory t = (length s.elements ≡ s.capacity) × (t.capacity ≡ s.capacity)
+  AddsInRoom x s reply t = KeepsRoom eq s x t
+
+  -- what becomes of the room: all commands but those that add keep the capacity, and a refused one does
+  abbrev pub RoomStep : Contents T → SetCommand T → SetReply T → Contents T → Type 0
+  RoomStep s (Insert x) reply t = AddsInRoom x s reply t
+  RoomStep s (Replace x) reply t = AddsInRoom x s reply t
+  RoomStep s (Append other) NoMemory t = ¬ (HasRoom s (length other.elements)) × (t.capacity ≡ s.capacity)
+  RoomStep s (Append other) reply t = (s.capacity ≤ t.capacity) × (HasRoom s (length other.elements) → t.capacity ≡ s.capacity)
+  RoomStep s command reply t = t.capacity ≡ s.capacity
+
+  -- one command takes the set s to the set t, list and room, and is answered so
+  abbrev pub StepSet : Contents T → SetCommand T → SetReply T → Contents T → Type 0
+  StepSet s command reply t = ListStep s.elements command reply t.elements × RoomStep s command reply t
+
+  -- the commands, one after another, take the list l to the list m, and each has one reply
+  abbrev pub ListRun : List T → List (SetCommand T) → List (SetReply T) → List T → Type 0
+  ListRun l [] [] m = m ≡ l
+  ListRun l (command ∷ commands) (reply ∷ replies) m =
+      (next : List T) × ListStep l command reply next × ListRun next commands replies m
+  ListRun l [] (reply ∷ replies) m = ⊥
+  ListRun l (command ∷ commands) [] m = ⊥
+
+  -- the same of a set, list and room
   abbrev pub RunSet : Contents T → List (SetCommand T) → List (SetReply T) → Contents T → Type 0
   RunSet s [] [] t = t ≡ s
   RunSet s (command ∷ commands) (reply ∷ replies) t =

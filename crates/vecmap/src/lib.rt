@@ -1,6 +1,7 @@
 //! Ordered maps and sets by equality, each over one vector: all that users name.
 #![tactic(auto)]
 
+pub mod laws;
 pub mod macros;
 pub mod map;
 mod map_run;

@@ -38,6 +38,7 @@ impl<K, V> VecMap<K, V> {
         ensures entries { self.new.entries ≡ self.old.entries }
         ensures room { OnOk result (HasRoom self.new additional) }
         ensures capacity { self.old.capacity ≤ self.new.capacity }
+        ensures some { OnErr result (0 < additional) }
         ensures succeeds { HasRoom self.old additional → IsOk result }
         ensures unchanged { HasRoom self.old additional → self.new ≡ self.old }
         ensures err { OnErr result (self.new ≡ self.old) }
@@ -56,6 +57,7 @@ impl<K, V> VecMap<K, V> {
         ensures entries { self.new.entries ≡ self.old.entries }
         ensures room { OnOk result (HasRoom self.new additional) }
         ensures capacity { self.old.capacity ≤ self.new.capacity }
+        ensures some { OnErr result (0 < additional) }
         ensures succeeds { HasRoom self.old additional → IsOk result }
         ensures unchanged { HasRoom self.old additional → self.new ≡ self.old }
         ensures err { OnErr result (self.new ≡ self.old) }
@@ -71,6 +73,7 @@ impl<K, V> VecMap<K, V> {
         ensures entries { self.new.entries ≡ self.old.entries }
         ensures room { OnOk result (HasRoom self.new additional) }
         ensures capacity { self.old.capacity ≤ self.new.capacity }
+        ensures some { OnErr result (0 < additional) }
         ensures succeeds { HasRoom self.old additional → IsOk result }
         ensures unchanged { HasRoom self.old additional → self.new ≡ self.old }
         ensures err { OnErr result (self.new ≡ self.old) }
@@ -83,6 +86,7 @@ impl<K, V> VecMap<K, V> {
         ensures entries { self.new.entries ≡ self.old.entries }
         ensures room { OnOk result (HasRoom self.new additional) }
         ensures capacity { self.old.capacity ≤ self.new.capacity }
+        ensures some { OnErr result (0 < additional) }
         ensures succeeds { HasRoom self.old additional → IsOk result }
         ensures unchanged { HasRoom self.old additional → self.new ≡ self.old }
         ensures err { OnErr result (self.new ≡ self.old) }
@@ -114,7 +118,8 @@ impl<K, V> VecMap<K, V> {
 
     // Whether `additional` more pairs fit.
     fn has_room(&self, additional: usize) -> bool
-        ensures { IsTrue result ↔ HasRoom self.now additional }
+        ensures room { IsTrue result ↔ HasRoom self.now additional }
+        ensures fits { HasRoom self.now 0 }
     {
         additional <= self.pairs.capacity() - self.pairs.len()
     }

@@ -1,5 +1,5 @@
 //! Making a set of many elements, and adding many elements to one.
-ghost use Rattle.std.specs.Prelude.{◌≡◌, ◌≤◌, IfOk, IsOk, List, OnErr, OnOk, [], length, map};
+ghost use Rattle.std.specs.Prelude.{◌≡◌, ◌<◌, ◌≤◌, IfOk, IsOk, List, OnErr, OnOk, [], length, map};
 ghost use Rattle.std.specs.Iterator.{Drains, ExtendsWithItems, IsFiniteIterable};
 ghost use Rattle.std.specs.List.{IsDistinct};
 ghost use Rattle.std.specs.Map.Iter.{deref};
@@ -63,6 +63,7 @@ impl<T: Eq> VecSet<T> {
         ensures capacity { self.old.capacity ≤ self.new.capacity }
         ensures succeeds { HasRoom self.old (length other.old.elements) → IsOk result }
         ensures stays { HasRoom self.old (length other.old.elements) → self.new.capacity ≡ self.old.capacity }
+        ensures some { OnErr result (0 < length other.old.elements) }
         ensures err { OnErr result (self.new ≡ self.old) }
         ensures other_err { OnErr result (other.new ≡ other.old) }
     {

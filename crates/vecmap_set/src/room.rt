@@ -40,6 +40,7 @@ impl<T: Eq> VecSet<T> {
         ensures distinct { IsDistinct T.eq self.new.elements }
         ensures room { OnOk result (HasRoom self.new additional) }
         ensures capacity { self.old.capacity ≤ self.new.capacity }
+        ensures some { OnErr result (0 < additional) }
         ensures succeeds { HasRoom self.old additional → IsOk result }
         ensures unchanged { HasRoom self.old additional → self.new ≡ self.old }
         ensures err { OnErr result (self.new ≡ self.old) }
@@ -59,6 +60,7 @@ impl<T: Eq> VecSet<T> {
         ensures distinct { IsDistinct T.eq self.new.elements }
         ensures room { OnOk result (HasRoom self.new additional) }
         ensures capacity { self.old.capacity ≤ self.new.capacity }
+        ensures some { OnErr result (0 < additional) }
         ensures succeeds { HasRoom self.old additional → IsOk result }
         ensures unchanged { HasRoom self.old additional → self.new ≡ self.old }
         ensures err { OnErr result (self.new ≡ self.old) }
@@ -75,6 +77,7 @@ impl<T: Eq> VecSet<T> {
         ensures distinct { IsDistinct T.eq self.new.elements }
         ensures room { OnOk result (HasRoom self.new additional) }
         ensures capacity { self.old.capacity ≤ self.new.capacity }
+        ensures some { OnErr result (0 < additional) }
         ensures succeeds { HasRoom self.old additional → IsOk result }
         ensures unchanged { HasRoom self.old additional → self.new ≡ self.old }
         ensures err { OnErr result (self.new ≡ self.old) }
@@ -88,6 +91,7 @@ impl<T: Eq> VecSet<T> {
         ensures distinct { IsDistinct T.eq self.new.elements }
         ensures room { OnOk result (HasRoom self.new additional) }
         ensures capacity { self.old.capacity ≤ self.new.capacity }
+        ensures some { OnErr result (0 < additional) }
         ensures succeeds { HasRoom self.old additional → IsOk result }
         ensures unchanged { HasRoom self.old additional → self.new ≡ self.old }
         ensures err { OnErr result (self.new ≡ self.old) }
@@ -121,7 +125,8 @@ impl<T: Eq> VecSet<T> {
 
     // Whether `additional` more elements fit.
     fn has_room(&self, additional: usize) -> bool
-        ensures { IsTrue result ↔ HasRoom self.now additional }
+        ensures room { IsTrue result ↔ HasRoom self.now additional }
+        ensures fits { HasRoom self.now 0 }
     {
         additional <= self.items.capacity() - self.items.len()
     }

@@ -4,6 +4,7 @@ use vecmap_map::VecMap;
 /// What `run` does to a map: each command is one call. It is answered by the reply that is named, or by `OutOfRange`
 /// where a place is not there, or by `NoMemory`, where memory was needed and refused.
 #[derive(Debug, Drop)]
+#[derive_where(PartialEq, Eq; K: Eq, V: Eq)]
 pub enum MapCommand<K, V> {
     /// `insert`: `Value`, the old one.
     Insert(K, V),

@@ -4,6 +4,7 @@ use vecmap_map::VecMap;
 /// What a command answers: clones where the call lends, `OutOfRange` where a place was not there, and `NoMemory` where it
 /// was refused. In both of these nothing has changed, and what the command carried is dropped.
 #[derive(Debug, Drop)]
+#[derive_where(PartialEq, Eq; K: Eq, V: Eq)]
 pub enum MapReply<K, V> {
     /// A value, if there is one.
     Value(Option<V>),

@@ -4,6 +4,7 @@ use vecmap_set::VecSet;
 /// What `run_set` does to a set: each command is one call. It is answered by the reply that is named, or by `OutOfRange`
 /// where a place is not there, or by `NoMemory`, where memory was needed and refused.
 #[derive(Debug, Drop)]
+#[derive_where(PartialEq, Eq; T: Eq)]
 pub enum SetCommand<T: Eq> {
     /// `insert`: `Truth`, whether the element is new.
     Insert(T),

@@ -4,6 +4,7 @@ use vecmap_set::VecSet;
 /// What a command answers: clones where the call lends, `OutOfRange` where a place was not there, and `NoMemory` where it
 /// was refused. In both of these nothing has changed, and what the command carried is dropped.
 #[derive(Debug, Drop)]
+#[derive_where(PartialEq, Eq; T: Eq)]
 pub enum SetReply<T: Eq> {
     /// Whether it is so.
     Truth(bool),
