@@ -1,6 +1,6 @@
 //! Runs of commands on a map. The replies are compared as they print, one after another.
 use std::test::Fail;
-use vecmap::{MapCommand, VecMap, run};
+use vecmap::{MapCommand, MapReply, VecMap, run};
 use vecmap_fixtures::{has_pairs, item_map, make_item};
 
 // What a run of the commands answers, as it prints.
@@ -163,5 +163,16 @@ fn a_run_keeps_the_stored_key(rt: HostRuntime) -> Result<(), Fail> {
     let replies = format!(in rt.alloc(); "{:?}", run(rt.alloc(), &mut map, commands)?)?;
     assert_eq!(rt; replies.as_str(), "[Value(Some(10)), Kept(0, false)]");
     assert!(rt; has_pairs(map.as_slice(), &[(1, 'x', 20)]));
+    Ok(())
+}
+
+#[test]
+fn commands_and_replies_can_be_compared(rt: HostRuntime) -> Result<(), Fail> {
+    let rest = MapReply::Rest(VecMap::from_slice(rt.alloc(), &[('a', 1), ('b', 2)])?);
+    assert!(rt; rest == MapReply::Rest(VecMap::from_slice(rt.alloc(), &[('b', 2), ('a', 1)])?));
+    assert!(rt; rest != MapReply::Value(None));
+    assert!(rt; MapReply::<char, i32>::OutOfRange != MapReply::NoMemory);
+    assert!(rt; MapCommand::Insert('a', 1) == MapCommand::Insert('a', 1));
+    assert!(rt; MapCommand::Insert('a', 1) != MapCommand::InsertKey('a', 1));
     Ok(())
 }

@@ -1,7 +1,7 @@
 //! Runs of commands on a set. The replies are compared as they print, one after another.
 use std::alloc::{AllocError, Global};
 use std::test::Fail;
-use vecmap::{SetCommand, VecSet, run_set};
+use vecmap::{SetCommand, SetReply, VecSet, run_set};
 use vecmap_fixtures::{has_items, item_set, make_item};
 
 // What a run of the commands answers, as it prints.
@@ -170,5 +170,15 @@ fn a_run_compares_and_joins_sets(rt: HostRuntime) -> Result<(), Fail> {
         "[Truth(true), Truth(false), Truth(false), Truth(true), Truth(false), Truth(true), Truth(false), Made({1, 2}), Made({1, 2, 3, 5, 4, 6}), Made({1, 4}), Made({1})]"
     );
     assert_eq!(rt; set.as_slice(), [1, 2, 3].as_slice());
+    Ok(())
+}
+
+#[test]
+fn commands_and_replies_can_be_compared(rt: HostRuntime) -> Result<(), Fail> {
+    let rest = SetReply::Made(made(rt.alloc(), &[1, 2])?);
+    assert!(rt; rest == SetReply::Made(made(rt.alloc(), &[2, 1])?));
+    assert!(rt; rest != SetReply::Item(None));
+    assert!(rt; SetCommand::Insert(1) == SetCommand::Insert(1));
+    assert!(rt; SetCommand::Insert(1) != SetCommand::Replace(1));
     Ok(())
 }
