@@ -1,0 +1,54 @@
+-- What a document is after a change of its map of maps.
+use Rattle.std.specs.Prelude.{◌≡◌, ◌++◌, ℕ, Err, List, Ok, OnErr, OnOk, Result, [], ◌∷◌, None, Option, Some, String, IsSome, option_map, unwrap_or, refl}
+use Rattle.std.specs.Option.{option_map_or}
+use Rattle.std.specs.declared.alloc.Global.{Global}
+use Rattle.std.proofs.Common.{sym, ap, ◌∙◌, subst}
+use Rattle.vecmap.specs.Contents.{Contents, with_value_of}
+use Rattle.vecmap.proofs.ContentsLemmas.{with_value_of_is_put}
+use Rattle.vecmap.specs.Pairs.{index_of, lookup, put, puts}
+use Rattle.attr_doc.specs.Documents.{Section, Sections, Stored, merged, sections_of, with_section, with_text}
+use Rattle.attr_doc.specs.Names.{same_name}
+use Rattle.vecmap.proofs.AfterPuts.{put_same}
+use Rattle.vecmap.proofs.EachValue.{lookup_map_values, map_values_put}
+
+-- a put of a section, seen in the document: what was made of the section that is there
+sections_put : (make : Option Section → Section) (l : List (List ℕ × Stored)) (s : List ℕ) (o : Option Stored) (m : Stored) → o ≡ lookup same_name l s → m.entries ≡ make (option_map (λ x. x.entries) o)
+    → sections_of (put same_name l s m) ≡ put same_name (sections_of l) s (make (lookup same_name (sections_of l) s))
+sections_put make l s o m e f =
+    map_values_put same_name (λ x. x.entries) l s m
+    ∙ ap (put same_name (sections_of l) s) (f ∙ ap (λ p. make (option_map (λ x. x.entries) p)) e ∙ ap make (sym (lookup_map_values same_name (λ x. x.entries) l s)))
+
+-- a new section took its first text
+pub set_new : (l new : List (List ℕ × Stored)) (s n : List ℕ) (t : String Global) (m : Stored) → None ≡ lookup same_name l s → m.entries ≡ put same_name [] n t → new ≡ put same_name l s m → sections_of new ≡ with_text (sections_of l) s n t
+set_new l new s n t m e f g = ap sections_of g ∙ sections_put (λ o. put same_name (unwrap_or o []) n t) l s None m e f
+
+-- a new section came in
+pub section_added : (l new : List (List ℕ × Stored)) (s : List ℕ) (m : Stored) → None ≡ lookup same_name l s → new ≡ put same_name l s m → sections_of new ≡ with_section (sections_of l) s m.entries
+section_added l new s m e g = ap sections_of g ∙ sections_put (λ o. option_map_or (λ old. puts same_name old m.entries) o m.entries) l s None m e refl
+
+-- the section `s` is there, as `m`, and becomes `new`
+module _ (c : Contents (List ℕ) Stored) (s : List ℕ) (m new : Stored) (e : Some m ≡ lookup same_name c.entries s) (there : IsSome (index_of same_name c.entries s)) where
+  -- it took a text
+  pub set_there : (n : List ℕ) (t : String Global) → new.entries ≡ put same_name m.entries n t → sections_of (with_value_of same_name c s new).entries ≡ with_text (sections_of c.entries) s n t
+  set_there n t f = ap sections_of (with_value_of_is_put same_name c s new there) ∙ sections_put (λ o. put same_name (unwrap_or o []) n t) c.entries s (Some m) new e f
+
+  -- it took the texts of another
+  pub section_joined : (f : Section) → new.entries ≡ puts same_name m.entries f → sections_of (with_value_of same_name c s new).entries ≡ with_section (sections_of c.entries) s f
+  section_joined f g = ap sections_of (with_value_of_is_put same_name c s new there) ∙ sections_put (λ o. option_map_or (λ old. puts same_name old f) o f) c.entries s (Some m) new e g
+
+  -- it has the texts that it had
+  pub section_stays : new.entries ≡ m.entries → sections_of (with_value_of same_name c s new).entries ≡ sections_of c.entries
+  section_stays f =
+      ap sections_of (with_value_of_is_put same_name c s new there) ∙ map_values_put same_name (λ x. x.entries) c.entries s new
+      ∙ put_same same_name (sections_of c.entries) s new.entries (lookup_map_values same_name (λ x. x.entries) c.entries s ∙ ap (option_map (λ x. x.entries)) (sym e) ∙ ap (λ x. Some x) (sym f))
+
+pub merged_push : (d : Sections) (ps : List (List ℕ × Stored)) (p : List ℕ × Stored) → merged d (sections_of (ps ++ p ∷ [])) ≡ with_section (merged d (sections_of ps)) p.0 p.1.entries
+merged_push d [] p = refl
+merged_push d (q ∷ qs) p = merged_push (with_section d q.0 q.1.entries) qs p
+
+pub on_err : {X E P : Type 0} (r : Result X E) → P → OnErr r P
+on_err (Ok x) p = tt
+on_err (Err e) p = p
+
+pub at_ok : {X E P : Type 0} (r : Result X E) (x : X) → r ≡ Ok x → OnOk r P → P
+at_ok {P = P} r x e h = subst (λ q. OnOk q P) e h

@@ -1,0 +1,63 @@
+-- What changes a document leaves a document: names stay distinct, and no section gets empty.
+use Rattle.std.specs.Prelude.{◌≡◌, ℕ, List, [], ◌∷◌, None, Option, Some, String, All, unwrap_or, refl, Ok, Err, OnOk, OnErr, Result}
+use Rattle.std.specs.List.{IsDistinct}
+use Rattle.std.specs.Option.{option_map_or}
+use Rattle.std.specs.declared.alloc.Global.{Global}
+use Rattle.std.proofs.Common.{sym, subst, arith}
+use Rattle.std.proofs.lemmas.List.Elements.{All-head, All-nil, All-tail}
+use Rattle.std.proofs.lemmas.Map.Made.{keys_of-map_values}
+use Rattle.vecmap.specs.Pairs.{HasDistinctKeys, lookup, put, puts}
+use Rattle.vecmap.proofs.DistinctKeys.{distinct_put, distinct_puts}
+use Rattle.attr_doc.specs.Documents.{IsDocument, IsSection, Section, Sections, Stored, merged, sections_of, with_section, with_text}
+use Rattle.attr_doc.specs.Names.{same_name}
+use Rattle.attr_doc.proofs.NameLaws.{same_name_laws}
+use Rattle.vecmap.proofs.AfterPuts.{put_some, puts_some}
+use Rattle.vecmap.proofs.EachValue.{holds_after_put, holds_of_found}
+
+no_names : IsDistinct same_name []
+unfolding IsDistinct
+no_names = tt
+
+pub document_of_none : (l : List (List ℕ × Stored)) → l ≡ [] → IsDocument (sections_of l)
+document_of_none l e = subst (λ m. IsDocument (sections_of m)) (sym e) (record { distinct = no_names; each = All-nil (λ p. IsSection p.1) })
+
+pub names_apart : (l : List (List ℕ × Stored)) → IsDocument (sections_of l) → HasDistinctKeys same_name l
+names_apart l d = subst (λ ks. IsDistinct same_name ks) (keys_of-map_values (λ m. m.entries) l) d.distinct
+
+section_put : (f : Section) → HasDistinctKeys same_name f → (n : List ℕ) (t : String Global) → IsSection (put same_name f n t)
+section_put f d n t = record { distinct = distinct_put same_name same_name_laws f n t d; some = put_some same_name f n t }
+
+section_puts : (f g : Section) → IsSection f → IsSection (puts same_name f g)
+section_puts f g j = record { distinct = distinct_puts same_name same_name_laws f g j.distinct; some = puts_some same_name f g (omega (arith, j.some)) }
+
+-- a put of a section, made of the one that is there
+document_put : (d : Sections) → IsDocument d → (s : List ℕ) (make : Option Section → Section) → ((o : Option Section) → ((f : Section) → o ≡ Some f → IsSection f) → IsSection (make o)) → IsDocument (put same_name d s (make (lookup same_name d s)))
+document_put d i s make h =
+    let f = make (lookup same_name d s) in
+    record {
+      distinct = distinct_put same_name same_name_laws d s f i.distinct;
+      each = holds_after_put same_name IsSection d i.each s f (h (lookup same_name d s) (λ g e. holds_of_found same_name IsSection d i.each s g e));
+    }
+
+pub document_with_text : (d : Sections) → IsDocument d → (s n : List ℕ) (t : String Global) → IsDocument (with_text d s n t)
+document_with_text d i s n t = document_put d i s (λ o. put same_name (unwrap_or o []) n t) by
+  where
+    by : (o : Option Section) → ((f : Section) → o ≡ Some f → IsSection f) → IsSection (put same_name (unwrap_or o []) n t)
+    by None h = section_put [] (no_names) n t
+    by (Some f) h = section_put f (h f refl).distinct n t
+
+document_with_section : (d : Sections) → IsDocument d → (s : List ℕ) (f : Section) → IsSection f → IsDocument (with_section d s f)
+document_with_section d i s f j = document_put d i s (λ o. option_map_or (λ old. puts same_name old f) o f) by
+  where
+    by : (o : Option Section) → ((g : Section) → o ≡ Some g → IsSection g) → IsSection (option_map_or (λ old. puts same_name old f) o f)
+    by None h = j
+    by (Some g) h = section_puts g f (h g refl)
+
+pub document_merged : (d e : Sections) → IsDocument d → All (λ p. IsSection p.1) e → IsDocument (merged d e)
+document_merged d [] i a = i
+document_merged d (p ∷ ps) i a = document_merged (with_section d p.0 p.1) ps (document_with_section d i p.0 p.1 (All-head (λ q. IsSection q.1) p ps a)) (All-tail (λ q. IsSection q.1) p ps a)
+
+-- whether a text was put or refused
+pub document_set : {X E : Type 0} (r : Result X E) (d new : Sections) (s n : List ℕ) (t : String Global) → IsDocument d → OnOk r (new ≡ with_text d s n t) → OnErr r (new ≡ d) → IsDocument new
+document_set (Ok x) d new s n t i ok err = subst IsDocument (sym ok) (document_with_text d i s n t)
+document_set (Err e) d new s n t i ok err = subst IsDocument (sym err) i

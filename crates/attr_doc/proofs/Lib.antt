@@ -1,0 +1,7 @@
+mod ChangeLemmas
+mod DocumentLemmas
+mod EqualityLemmas
+mod Examples
+mod NameLaws
+mod RoomLemmas
+mod TextLemmas

@@ -1,0 +1,61 @@
+//! Names that are the same in either case of their ASCII letters.
+ghost use Rattle.attr_doc.specs.Names.{same_name};
+ghost use Rattle.std.proofs.Common.{rules};
+ghost use Rattle.std.specs.Cmp.Rules.{comparing};
+ghost use Rattle.std.specs.Prelude.{◌≡◌, string_bytes};
+
+use std::fmt;
+use std::marker::Model;
+
+/// A name, as it was written. Any text may be one, the empty text too. A contract sees its bytes.
+#[derive(Drop)]
+pub struct Name {
+    text: String,
+}
+
+impl Model for Name {
+    ghost use Rattle.std.specs.Prelude.{ℕ, List, string_bytes};
+
+    ghost Value = { List ℕ };
+
+    ghost view = { λ n. string_bytes n.text };
+}
+
+impl Name {
+    /// The name with this text.
+    pub fn new(text: String) -> Name
+        ensures { result ≡ string_bytes text }
+    {
+        Name { text }
+    }
+
+    /// The text, as it was handed in.
+    pub fn text(&self) -> &str
+        ensures { result.now ≡ self.now }
+    {
+        self.text.as_str()
+    }
+}
+
+/// Two names are the same where their bytes are, once `A` to `Z` are read as `a` to `z`. Nothing else is folded: `Ä` and
+/// `ä` differ, and so do `a` and ` a`.
+impl PartialEq for Name {
+    ghost eq = { same_name };
+
+    ghost laws = { Prim.search (comparing, rules) };
+
+    fn eq(&self, other: &Name) -> bool {
+        self.text().eq_ignore_ascii_case(other.text())
+    }
+}
+
+impl Eq for Name {
+    ghost laws = { Prim.search (comparing, rules) };
+}
+
+/// Prints the text, as it was handed in, as std prints a text: in quotes.
+impl fmt::Debug for Name {
+    fn fmt<W: fmt::Write>(&self, f: &mut fmt::Formatter<W>) -> fmt::Result {
+        write!(f, "{:?}", self.text())
+    }
+}
