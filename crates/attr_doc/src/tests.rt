@@ -1,0 +1,234 @@
+//! Whole documents, each as it is printed.
+mod names;
+mod refusals;
+
+use crate::{Document, Name};
+use std::alloc::{AllocError, Global};
+use std::test::Fail;
+
+type Rows<'t> = &'t [(&'t str, &'t str, &'t str)];
+
+/// The document of these sets, each of a section, a name and a text, in turn.
+fn document(alloc: Global, rows: &[(&str, &str, &str)]) -> Result<Document, AllocError> {
+    let mut document = Document::new(alloc);
+    for (section, name, text) in rows {
+        let section = Name::new(section.to_string(alloc)?);
+        let name = Name::new(name.to_string(alloc)?);
+        if document.set(section, name, text.to_string(alloc)?).is_err() {
+            return Err(AllocError);
+        }
+    }
+    Ok(document)
+}
+
+/// The whole document.
+fn printed(alloc: Global, document: &Document) -> Result<String, AllocError> {
+    format!(in alloc; "{document:?}")
+}
+
+/// The text under a section and a name.
+fn text<'d>(
+    alloc: Global,
+    document: &'d Document,
+    section: &str,
+    name: &str,
+) -> Result<Option<&'d str>, AllocError> {
+    let section = Name::new(section.to_string(alloc)?);
+    let name = Name::new(name.to_string(alloc)?);
+    Ok(document.get(&section, &name))
+}
+
+/// The example of the README.
+fn example(alloc: Global) -> Result<String, AllocError> {
+    let mut page = document(alloc, &[("Font", "Size", "12"), ("Page", "Width", "5")])?;
+    let mut changes = document(alloc, &[("page", "WIDTH", "7"), ("Link", "Color", "red")])?;
+    page.merge(&mut changes)?;
+    format!(in alloc; "{page:?}")
+}
+
+const FIRST: &[(&str, &str, &str)] = &[
+    ("Font", "Size", "12"),
+    ("Page", "Width", "5"),
+    ("Page", "Height", "9"),
+];
+
+const SECOND: &[(&str, &str, &str)] = &[
+    ("page", "WIDTH", "7"),
+    ("page", "Margin", "1"),
+    ("Link", "Color", "red"),
+];
+
+#[test]
+fn prints_the_example(rt: HostRuntime) -> Result<(), Fail> {
+    assert_eq!(rt;
+        example(rt.alloc())?.as_str(),
+        r#"{"Font": {"Size": "12"}, "Page": {"Width": "7"}, "Link": {"Color": "red"}}"#
+    );
+    Ok(())
+}
+
+#[test]
+fn sets_in_order(rt: HostRuntime) -> Result<(), Fail> {
+    let runs: [(Rows<'_>, &str); 6] = [
+        (&[], "{}"),
+        (
+            FIRST,
+            r#"{"Font": {"Size": "12"}, "Page": {"Width": "5", "Height": "9"}}"#,
+        ),
+        (
+            &[
+                ("Page", "Width", "5"),
+                ("Font", "Size", "1"),
+                ("PAGE", "wIDTH", "6"),
+                ("page", "x", ""),
+            ],
+            r#"{"Page": {"Width": "6", "x": ""}, "Font": {"Size": "1"}}"#,
+        ),
+        (
+            &[("", "", ""), ("", "a", "1"), ("", "", "2")],
+            r#"{"": {"": "2", "a": "1"}}"#,
+        ),
+        (
+            &[("Ä", "b", "1"), ("ä", "B", "2"), ("Ä", "B", "3")],
+            r#"{"Ä": {"b": "3"}, "ä": {"B": "2"}}"#,
+        ),
+        (
+            &[("a", "b", "1"), (" a", "b", "2"), ("a ", "b", "3")],
+            r#"{"a": {"b": "1"}, " a": {"b": "2"}, "a ": {"b": "3"}}"#,
+        ),
+    ];
+    for (rows, output) in runs {
+        let document = document(rt.alloc(), rows)?;
+        assert_eq!(rt; printed(rt.alloc(), &document)?.as_str(), output);
+    }
+    Ok(())
+}
+
+#[test]
+fn set_answers_the_old_text(rt: HostRuntime) -> Result<(), Fail> {
+    let mut document = Document::new(rt.alloc());
+    for (section, name, new, old) in [
+        ("Page", "Width", "5", None),
+        ("page", "width", "6", Some("5")),
+        ("PAGE", "Height", "7", None),
+        ("Font", "Width", "8", None),
+        ("pAGE", "wIDTH", "9", Some("6")),
+    ] {
+        let section = Name::new(section.to_string(rt.alloc())?);
+        let name = Name::new(name.to_string(rt.alloc())?);
+        let answer = document.set(section, name, new.to_string(rt.alloc())?)?;
+        assert_eq!(rt; answer.as_deref(), old, "at {new}");
+    }
+    Ok(())
+}
+
+#[test]
+fn merges_sections(rt: HostRuntime) -> Result<(), Fail> {
+    let mut first = document(rt.alloc(), FIRST)?;
+    let mut second = document(rt.alloc(), SECOND)?;
+    first.merge(&mut second)?;
+    assert_eq!(rt;
+        format!(in rt.alloc(); "{:?}", first.sections())?.as_str(),
+        r#"["Font", "Page", "Link"]"#
+    );
+    for (section, name, wanted) in [
+        ("page", "width", Some("7")),
+        ("Page", "Height", Some("9")),
+        ("Page", "Margin", Some("1")),
+        ("link", "color", Some("red")),
+        ("FONT", "size", Some("12")),
+        ("Link", "Size", None),
+        ("Pag", "Width", None),
+        ("", "", None),
+    ] {
+        let found = text(rt.alloc(), &first, section, name)?;
+        assert_eq!(rt; found, wanted, "at {section} {name}");
+    }
+    assert_eq!(rt; printed(rt.alloc(), &second)?.as_str(), "{}");
+    Ok(())
+}
+
+/// What a merge leaves of the two documents.
+fn merged(
+    alloc: Global,
+    first: &[(&str, &str, &str)],
+    second: &[(&str, &str, &str)],
+) -> Result<String, AllocError> {
+    let mut first = document(alloc, first)?;
+    let mut second = document(alloc, second)?;
+    first.merge(&mut second)?;
+    format!(in alloc; "{first:?} {second:?}")
+}
+
+#[test]
+fn merges_in_order(rt: HostRuntime) -> Result<(), Fail> {
+    assert_eq!(rt; merged(rt.alloc(), &[], &[])?.as_str(), "{} {}");
+    assert_eq!(rt;
+        merged(rt.alloc(), &[], SECOND)?.as_str(),
+        r#"{"page": {"WIDTH": "7", "Margin": "1"}, "Link": {"Color": "red"}} {}"#
+    );
+    assert_eq!(rt;
+        merged(rt.alloc(), FIRST, &[])?.as_str(),
+        r#"{"Font": {"Size": "12"}, "Page": {"Width": "5", "Height": "9"}} {}"#
+    );
+    assert_eq!(rt;
+        merged(rt.alloc(), FIRST, SECOND)?.as_str(),
+        r#"{"Font": {"Size": "12"}, "Page": {"Width": "7", "Height": "9", "Margin": "1"}, "Link": {"Color": "red"}} {}"#
+    );
+    let odd = [("É", "a", "1"), ("", "", "2")];
+    let other = [("", "b", ""), ("é", "A", "3"), ("É", "A", "4")];
+    assert_eq!(rt;
+        merged(rt.alloc(), &odd, &other)?.as_str(),
+        r#"{"É": {"a": "4"}, "": {"": "2", "b": ""}, "é": {"A": "3"}} {}"#
+    );
+    Ok(())
+}
+
+/// Whether two documents are the same, asked from either side.
+fn are_same(
+    alloc: Global,
+    first: &[(&str, &str, &str)],
+    second: &[(&str, &str, &str)],
+) -> Result<(bool, bool), AllocError> {
+    let first = document(alloc, first)?;
+    let second = document(alloc, second)?;
+    Ok((first.same(&second), second.same(&first)))
+}
+
+#[test]
+fn same_ignores_order_and_case(rt: HostRuntime) -> Result<(), Fail> {
+    let turned = [
+        ("PAGE", "height", "9"),
+        ("Page", "WIDTH", "5"),
+        ("font", "size", "12"),
+    ];
+    let empty = [("", "", "")];
+    assert_eq!(rt; are_same(rt.alloc(), FIRST, &turned)?, (true, true));
+    assert_eq!(rt; are_same(rt.alloc(), &empty, &empty)?, (true, true));
+    assert_eq!(rt; are_same(rt.alloc(), &[], &[])?, (true, true));
+    Ok(())
+}
+
+#[test]
+fn same_heeds_each_text(rt: HostRuntime) -> Result<(), Fail> {
+    let changed = [
+        ("PAGE", "height", "9"),
+        ("Page", "WIDTH", "6"),
+        ("font", "size", "12"),
+    ];
+    let shorter = [("Page", "Width", "5"), ("Page", "Height", "9")];
+    let moved = [
+        ("Page", "Size", "12"),
+        ("Font", "Width", "5"),
+        ("Font", "Height", "9"),
+    ];
+    for rows in [&changed[..], &shorter[..], &moved[..]] {
+        assert_eq!(rt; are_same(rt.alloc(), FIRST, rows)?, (false, false));
+    }
+    assert_eq!(rt; are_same(rt.alloc(), &[], &[("", "", "")])?, (false, false));
+    assert_eq!(rt;
+        are_same(rt.alloc(), &[("ß", "É", "a")], &[("ß", "é", "a")])?,
+        (false, false)
+    );
+    Ok(())
+}
