@@ -14,5 +14,6 @@ pub mod macros;
 pub mod names;
 pub mod operators;
 pub mod order;
+pub mod registry;
 pub mod removal;
 pub mod search;
