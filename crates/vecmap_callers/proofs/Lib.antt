@@ -1,2 +1,3 @@
 pub mod DistinctLemmas
 pub mod HeaderLemmas
+pub mod OptionLemmas

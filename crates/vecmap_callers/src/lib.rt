@@ -13,6 +13,7 @@ pub mod lookup;
 pub mod macros;
 pub mod names;
 pub mod operators;
+pub mod options;
 pub mod order;
 pub mod registry;
 pub mod removal;
