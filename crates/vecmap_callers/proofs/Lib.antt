@@ -1,3 +1,4 @@
+pub mod CountLemmas
 pub mod DistinctLemmas
 pub mod HeaderLemmas
 pub mod OptionLemmas

@@ -1,3 +1,4 @@
 pub mod Headers
 pub mod Names
 pub mod Options
+pub mod Words

@@ -18,3 +18,4 @@ pub mod order;
 pub mod registry;
 pub mod removal;
 pub mod search;
+pub mod words;
