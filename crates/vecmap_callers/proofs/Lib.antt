@@ -2,3 +2,4 @@ pub mod CountLemmas
 pub mod DistinctLemmas
 pub mod HeaderLemmas
 pub mod OptionLemmas
+pub mod ScopeLemmas

@@ -17,5 +17,6 @@ pub mod options;
 pub mod order;
 pub mod registry;
 pub mod removal;
+pub mod scopes;
 pub mod search;
 pub mod words;
