@@ -1,0 +1,5 @@
+pub mod CountLemmas
+pub mod DistinctLemmas
+pub mod HeaderLemmas
+pub mod OptionLemmas
+pub mod ScopeLemmas

@@ -1,0 +1,5 @@
+pub mod Headers
+pub mod Names
+pub mod Options
+pub mod Scopes
+pub mod Words

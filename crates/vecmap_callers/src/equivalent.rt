@@ -1,13 +1,13 @@
 //! What callers of lookups and removals by a query can prove: by keys, texts, slices, and a query of their own.
 ghost use Rattle.std.specs.Prelude.{◌≡◌, IsSome, Some, bytes_eq, codes, nat_eq, string_bytes};
-ghost use Rattle.std.specs.Cmp.{on_equiv, partial_equiv_from_equiv};
-ghost use Rattle.std.specs.Cmp.Lexicographic.{nat_list_eq_equiv, pointwise};
+ghost use Rattle.std.specs.Cmp.Lexicographic.{pointwise};
 ghost use Rattle.std.specs.List.{list_any};
-ghost use Rattle.std.specs.Str.{str_eq_ignore_ascii_case, str_to_ascii_lowercase};
 ghost use Rattle.vecmap.specs.Contents.{with_value_by};
 ghost use Rattle.vecmap.specs.Items.{without_first};
 ghost use Rattle.vecmap.specs.Pairs.{has_text, index_by, lookup, lookup_by, lookup_pair_by, swap_without_by, without_by};
+ghost use Rattle.vecmap_callers.specs.Names.{same_name};
 
+use crate::names::{Name, NamedAs};
 use vecmap::{Equivalent, VecMap, VecSet};
 
 /// The value of a key, of any type.
@@ -86,50 +86,16 @@ pub fn drop_text(set: &mut VecSet<String>, text: &str) -> bool
     set.remove(text)
 }
 
-/// A name, equal to each that differs from it in the case of ASCII letters alone.
-#[derive(Debug, Drop)]
-pub struct Name {
-    pub text: String,
-}
-
-impl PartialEq for Name {
-    ghost eq = { λ a b. str_eq_ignore_ascii_case (string_bytes a.text) (string_bytes b.text) };
-
-    ghost laws = { partial_equiv_from_equiv (on_equiv (λ name. str_to_ascii_lowercase (string_bytes name.text)) nat_list_eq_equiv) };
-
-    fn eq(&self, other: &Name) -> bool {
-        self.text.as_str().eq_ignore_ascii_case(other.text.as_str())
-    }
-}
-
-impl Eq for Name {
-    ghost laws = { on_equiv (λ name. str_to_ascii_lowercase (string_bytes name.text)) nat_list_eq_equiv };
-}
-
-/// Stands for the names that are this text, in any case.
-#[derive(Clone, Copy, Debug)]
-pub struct NamedAs<'a>(pub &'a str);
-
-impl Equivalent<Name> for NamedAs<'_> {
-    ghost equivalent = { λ query name. str_eq_ignore_ascii_case query.0.now (string_bytes name.text) };
-
-    fn equivalent(&self, name: &Name) -> bool {
-        self.0.eq_ignore_ascii_case(name.text.as_str())
-    }
-
-    ghost respects_eq = { λ query x y. nat_list_eq_equiv.congr (str_to_ascii_lowercase query.0.now) (str_to_ascii_lowercase (string_bytes x.text)) (str_to_ascii_lowercase (string_bytes y.text)) };
-}
-
 /// The value of the first name that is this text, in any case. No name is made.
 pub fn value_of_name(map: &VecMap<Name, u32>, text: &str) -> Option<u32>
-    ensures { result ≡ lookup_by (λ name. str_eq_ignore_ascii_case text.now (string_bytes name.text)) map.now.entries }
+    ensures { result ≡ lookup same_name map.now.entries text.now }
 {
     map.get(NamedAs(text)).copied()
 }
 
 /// The value of a name, found by its text: it is that of the name itself.
 pub fn value_by_text_of(map: &VecMap<Name, u32>, name: &Name) -> Option<u32>
-    ensures { result ≡ lookup ⟦<Name as PartialEq>⟧.eq map.now.entries name.now }
+    ensures { result ≡ lookup same_name map.now.entries name.now }
 {
-    map.get(NamedAs(name.text.as_str())).copied()
+    map.get(NamedAs(name.as_str())).copied()
 }

@@ -1,0 +1,126 @@
+//! Options: defaults, and overrides that go before them.
+ghost use Rattle.std.specs.Prelude.{◌≡◌, IfErr, List, None, OnErr, OnOk, Some, [], false, if◌then◌else◌, option_copied};
+ghost use Rattle.std.specs.Option.{option_or};
+ghost use Rattle.vecmap.specs.Pairs.{lookup, lookup_by, put};
+ghost use Rattle.vecmap_callers.specs.Options.{Layers, setting};
+
+use std::alloc::{AllocError, Global};
+use std::marker::Model;
+use vecmap::map::laws;
+use vecmap::{Equivalent, Refused, VecMap};
+
+/// Values under names of any type with `==`, in two layers. A contract sees the list of each.
+#[derive(Drop)]
+pub struct Options<K: Eq, V> {
+    defaults: VecMap<K, V>,
+    overrides: VecMap<K, V>,
+}
+
+impl<K: Eq, V> Model for Options<K, V> {
+    ghost use Rattle.vecmap.specs.Pairs.{HasDistinctKeys};
+    ghost use Rattle.vecmap_callers.specs.Options.{Layers};
+
+    ghost Value = { Layers K V };
+
+    ghost view = { λ options. record { defaults = options.defaults.entries; overrides = options.overrides.entries } };
+
+    ghost invariant = { λ options. HasDistinctKeys K.eq options.overrides.entries };
+}
+
+impl<K: Eq + Drop, V: Drop> Options<K, V> {
+    /// No options.
+    #[tactic(auto, using(crate::proofs::DistinctLemmas::distinct_empty))]
+    pub fn new(alloc: Global) -> Options<K, V>
+        ensures { result ≡ record { defaults = []; overrides = [] } }
+    {
+        Options {
+            defaults: VecMap::new(alloc),
+            overrides: VecMap::new(alloc),
+        }
+    }
+
+    /// The defaults, in their order.
+    pub fn defaults(&self) -> &[(K, V)]
+        ensures { result.now ≡ self.now.defaults }
+    {
+        self.defaults.as_slice()
+    }
+
+    /// The overrides, in their order.
+    pub fn overrides(&self) -> &[(K, V)]
+        ensures { result.now ≡ self.now.overrides }
+    {
+        self.overrides.as_slice()
+    }
+
+    /// The value of an option: its override, or else its default.
+    pub fn get<Q: Equivalent<K>>(&self, name: Q) -> Option<&V>
+        ensures { option_copied result ≡ option_or (lookup_by (Q.equivalent name) self.now.overrides) (lookup_by (Q.equivalent name) self.now.defaults) }
+    {
+        match self.overrides.get(name) {
+            Some(value) => Some(value),
+            None => self.defaults.get(name),
+        }
+    }
+
+    /// Gives an option a default. Where it has an override, that still goes before it. Refused, both come back and
+    /// nothing has changed.
+    pub fn set_default(&mut self, name: K, value: V) -> Result<(), Refused<(K, V)>>
+        ensures each { OnOk result ((q : K) → setting K.eq self.new q ≡ option_or (lookup K.eq self.old.overrides q) (if K.eq name q then Some value else lookup K.eq self.old.defaults q)) }
+        ensures overrides { self.new.overrides ≡ self.old.overrides }
+        ensures given { IfErr result (λ refused. refused.given ≡ (name, value)) }
+        ensures err { OnErr result (self.new ≡ self.old) }
+    {
+        laws::insertions_are_found::<K, V>();
+        self.defaults.insert(name, value)?;
+        Ok(())
+    }
+
+    /// Overrides an option. Every other one keeps its value. Refused, name and value come back and nothing has changed.
+    pub fn set(&mut self, name: K, value: V) -> Result<(), Refused<(K, V)>>
+        ensures each { OnOk result ((q : K) → setting K.eq self.new q ≡ (if K.eq name q then Some value else setting K.eq self.old q)) }
+        ensures defaults { self.new.defaults ≡ self.old.defaults }
+        ensures given { IfErr result (λ refused. refused.given ≡ (name, value)) }
+        ensures err { OnErr result (self.new ≡ self.old) }
+    {
+        laws::insertions_are_found::<K, V>();
+        laws::insertion_keeps_keys_distinct::<K, V>();
+        self.overrides.insert(name, value)?;
+        Ok(())
+    }
+
+    /// Takes the override of an option back, so that its default stands. Every other option keeps its value.
+    pub fn reset(&mut self, name: &K)
+        ensures default { setting K.eq self.new name.now ≡ lookup K.eq self.old.defaults name.now }
+        ensures others { (other : K) → K.eq name.now other ≡ false → setting K.eq self.new other ≡ setting K.eq self.old other }
+        ensures defaults { self.new.defaults ≡ self.old.defaults }
+    {
+        laws::removals_are_forgotten::<K, V>();
+        laws::removal_keeps_keys_distinct::<K, V>();
+        self.overrides.remove(name);
+    }
+
+    /// Lays the overrides of `upper` over these options, and leaves it its defaults alone. Refused, both are as before.
+    #[tactic(auto, using(crate::proofs::DistinctLemmas::distinct_empty, vecmap::proofs::Rules::distinct_keys))]
+    pub fn lay(&mut self, upper: &mut Options<K, V>) -> Result<(), AllocError>
+        ensures each { OnOk result ((q : K) → setting K.eq self.new q ≡ option_or (lookup K.eq upper.old.overrides q) (setting K.eq self.old q)) }
+        ensures emptied { OnOk result (upper.new ≡ record { defaults = upper.old.defaults; overrides = [] }) }
+        ensures err { OnErr result (self.new ≡ self.old) }
+        ensures upper_err { OnErr result (upper.new ≡ upper.old) }
+    {
+        self.overrides.append(&mut upper.overrides)?;
+        Ok(())
+    }
+
+    /// Makes defaults of the overrides: every option keeps its value, and none is overridden any more. Refused, nothing
+    /// has changed.
+    #[tactic(auto, using(crate::proofs::DistinctLemmas::distinct_empty, vecmap::proofs::Rules::distinct_keys))]
+    pub fn settle(&mut self) -> Result<(), AllocError>
+        ensures each { OnOk result ((q : K) → setting K.eq self.new q ≡ setting K.eq self.old q) }
+        ensures settled { OnOk result (self.new.overrides ≡ []) }
+        ensures err { OnErr result (self.new ≡ self.old) }
+    {
+        self.defaults.append(&mut self.overrides)?;
+        Ok(())
+    }
+}

@@ -1,0 +1,101 @@
+//! A registry of names: each gets an id that it keeps, and each id names what it first named.
+ghost use Rattle.std.specs.Prelude.{◌≡◌, ◌<◌, ℕ, IfErr, IfOk, IsSome, IsTrue, OnErr, Some, [], length, option_copied, position, slice_get};
+ghost use Rattle.std.specs.List.{IsDistinct};
+ghost use Rattle.vecmap.specs.Items.{item_index};
+
+use std::alloc::Global;
+use std::marker::Model;
+use vecmap::set::laws;
+use vecmap::{Equivalent, Refused, VecSet};
+
+/// Names of any type with `==`, no two equal. The id of a name is its place. A contract sees the list of names.
+#[derive(Drop)]
+pub struct Registry<T: Eq> {
+    names: VecSet<T>,
+}
+
+impl<T: Eq> Model for Registry<T> {
+    ghost use Rattle.std.specs.Prelude.{List};
+
+    ghost Value = { List T };
+
+    ghost view = { λ registry. registry.names.elements };
+}
+
+impl<T: Eq> Registry<T> {
+    /// No names.
+    pub fn new(alloc: Global) -> Registry<T>
+        ensures { result ≡ [] }
+    {
+        Registry {
+            names: VecSet::new(alloc),
+        }
+    }
+
+    /// How many names there are. Their ids are the numbers below that.
+    pub fn len(&self) -> usize
+        ensures { result ≡ length self.now }
+    {
+        self.names.len()
+    }
+
+    /// The names, in the order of their ids.
+    pub fn as_slice(&self) -> &[T]
+        ensures names { result.now ≡ self.now }
+        ensures distinct { IsDistinct T.eq self.now }
+    {
+        self.names.as_slice()
+    }
+
+    /// The id of the name that `name` stands for, if it has one.
+    pub fn id_of<Q: Equivalent<T>>(&self, name: Q) -> Option<usize>
+        ensures { result ≡ position (Q.equivalent name) self.now }
+    {
+        self.names.get_index_of(name)
+    }
+
+    /// The name of an id, if it was given.
+    pub fn name_of(&self, id: usize) -> Option<&T>
+        ensures { option_copied result ≡ slice_get self.now id }
+    {
+        self.names.get_index(id)
+    }
+
+    /// The id of a name, which is added where it has none. What names and ids there are stay as they are: each name
+    /// keeps its id and each id its name, and a name that is there changes nothing. Refused, the name comes back.
+    pub fn intern(&mut self, name: T) -> Result<usize, Refused<T>>
+    where
+        T: Drop,
+        ensures id { IfOk result (λ id. item_index T.eq self.new name ≡ Some id) }
+        ensures again { IfOk result (λ id. (known : ℕ) → item_index T.eq self.old name ≡ Some known → id ≡ known) }
+        ensures names { (id : ℕ) → id < length self.old → slice_get self.new id ≡ slice_get self.old id }
+        ensures ids { (other : T) (id : ℕ) → item_index T.eq self.old other ≡ Some id → item_index T.eq self.new other ≡ Some id }
+        ensures unchanged { IsSome (item_index T.eq self.old name) → self.new ≡ self.old }
+        ensures given { IfErr result (λ refused. refused.given ≡ name) }
+        ensures err { OnErr result (self.new ≡ self.old) }
+    {
+        laws::additions_move_nothing::<T>();
+        if let Some(id) = self.names.get_index_of(&name) {
+            return Ok(id);
+        }
+        let id = self.names.len();
+        self.names.insert(name)?;
+        Ok(id)
+    }
+}
+
+/// The ids of two names, between which another is interned. Equal names get the same one.
+pub fn intern_around<T: Eq + Drop>(
+    registry: &mut Registry<T>,
+    first: T,
+    between: T,
+    last: T,
+) -> Result<(usize, usize), Refused<T>>
+    ensures same { IfOk result (λ ids. IsTrue (T.eq first last) → ids.0 ≡ ids.1) }
+{
+    laws::equal_elements_have_one_place::<T>();
+    let first_id = registry.intern(first)?;
+    registry.intern(between)?;
+    let last_id = registry.intern(last)?;
+    Ok((first_id, last_id))
+}
