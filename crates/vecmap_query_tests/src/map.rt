@@ -1,13 +1,15 @@
 //! Calls on a map by each kind of query: a key, a text, a slice, and a query that is no key.
+mod means;
+
+use self::means::{finds, means};
 use std::alloc::{AllocError, Global};
 use std::borrow::CowStr;
 use std::boxed::{BoxedSlice, BoxedStr};
 use std::rc::RcStr;
 use std::sync::ArcStr;
 use std::test::Fail;
-use vecmap::map::MutableKeys;
-use vecmap::{Equivalent, VecMap};
-use vecmap_fixtures::{Item, Number, Same, are_same, has_pairs, make_item, repeating_map};
+use vecmap::VecMap;
+use vecmap_fixtures::{Item, Number, has_pairs, make_item, repeating_map};
 
 // Keys of which one begins another, and one is not ASCII.
 const TEXTS: &[(&'static str, u32)] = &[("age", 10), ("agent", 20), ("max", 30), ("é", 40)];
@@ -36,196 +38,6 @@ const REPEATS: &[(u32, char, u32)] = &[
     (1, 'd', 40),
     (1, 'e', 50),
 ];
-
-// The pair at a place, if one is named and is there.
-fn pair_at<K>(pairs: &[(K, u32)], place: Option<usize>) -> Option<(&K, &u32)> {
-    let pair = pairs.get(place?)?;
-    Some((&pair.0, &pair.1))
-}
-
-// Whether this is the pair at a place.
-fn is_pair_at<K: Same>(pairs: &[(K, u32)], place: Option<usize>, key: &K, value: u32) -> bool {
-    match pair_at(pairs, place) {
-        Some((stored, wanted)) => key.is_same(stored) && value == *wanted,
-        None => false,
-    }
-}
-
-// Whether both are the same pair, or none.
-fn are_same_pair<K: Same>(found: Option<(&K, &u32)>, pair: Option<(&K, &u32)>) -> bool {
-    match (found, pair) {
-        (Some(found), Some(pair)) => found.0.is_same(pair.0) && *found.1 == *pair.1,
-        (None, None) => true,
-        _ => false,
-    }
-}
-
-// Whether each lookup by the query answers the pair at this place, or none.
-fn finds<K: Eq + Same, Q: Equivalent<K>>(
-    map: &VecMap<K, u32>,
-    query: Q,
-    place: Option<usize>,
-) -> bool {
-    let pair = pair_at(map.as_slice(), place);
-    let value = match pair {
-        Some((_key, value)) => Some(*value),
-        None => None,
-    };
-    let (full_place, full_pair) = match map.get_full(query) {
-        Some((index, key, value)) => (Some(index), Some((key, value))),
-        None => (None, None),
-    };
-    map.contains_key(query) == place.is_some()
-        && map.get_index_of(query) == place
-        && map.get(query).copied() == value
-        && are_same_pair(map.get_key_value(query), pair)
-        && full_place == place
-        && are_same_pair(full_pair, pair)
-}
-
-// The value at a place becomes this one.
-fn write_at<K>(pairs: &mut [(K, u32)], place: Option<usize>, value: u32) {
-    if let Some(place) = place {
-        if let Some(pair) = pairs.get_mut(place) {
-            pair.1 = value;
-        }
-    }
-}
-
-// Whether `get_mut` lends the value at this place, or none, and what is written there stands, while all else stays.
-fn lends_value<K: Eq + Clone + Drop + Same, Q: Equivalent<K>>(
-    map: &mut VecMap<K, u32>,
-    query: Q,
-    place: Option<usize>,
-) -> Result<bool, AllocError> {
-    let mut wanted = map.to_vec()?;
-    let is_lent = match map.get_mut(query) {
-        Some(value) => {
-            let is_there = match pair_at(&wanted, place) {
-                Some((_key, stored)) => *value == *stored,
-                None => false,
-            };
-            *value = 7;
-            is_there
-        }
-        None => place.is_none(),
-    };
-    write_at(&mut wanted, place, 7);
-    Ok(is_lent && are_same(map.as_slice(), &wanted))
-}
-
-// The same of `get_full_mut`, with the place and the key.
-fn lends_full<K: Eq + Clone + Drop + Same, Q: Equivalent<K>>(
-    map: &mut VecMap<K, u32>,
-    query: Q,
-    place: Option<usize>,
-) -> Result<bool, AllocError> {
-    let mut wanted = map.to_vec()?;
-    let is_lent = match map.get_full_mut(query) {
-        Some((index, key, value)) => {
-            let is_there = Some(index) == place && is_pair_at(&wanted, place, key, *value);
-            *value = 8;
-            is_there
-        }
-        None => place.is_none(),
-    };
-    write_at(&mut wanted, place, 8);
-    Ok(is_lent && are_same(map.as_slice(), &wanted))
-}
-
-// The same of `get_full_mut2`.
-fn lends_both<K: Eq + Clone + Drop + Same, Q: Equivalent<K>>(
-    map: &mut VecMap<K, u32>,
-    query: Q,
-    place: Option<usize>,
-) -> Result<bool, AllocError> {
-    let mut wanted = map.to_vec()?;
-    let is_lent = match map.get_full_mut2(query) {
-        Some((index, key, value)) => {
-            let is_there = Some(index) == place && is_pair_at(&wanted, place, key, *value);
-            *value = 9;
-            is_there
-        }
-        None => place.is_none(),
-    };
-    write_at(&mut wanted, place, 9);
-    Ok(is_lent && are_same(map.as_slice(), &wanted))
-}
-
-// Whether all three lend as they should.
-fn lends<K: Eq + Clone + Drop + Same, Q: Equivalent<K>>(
-    map: &mut VecMap<K, u32>,
-    query: Q,
-    place: Option<usize>,
-) -> Result<bool, AllocError> {
-    Ok(
-        lends_value(map, query, place)?
-            && lends_full(map, query, place)?
-            && lends_both(map, query, place)?,
-    )
-}
-
-// The value of a pair, which is dropped.
-fn value_of<K: Drop>(pair: Option<(K, u32)>) -> Option<u32> {
-    let (_key, value) = pair?;
-    Some(value)
-}
-
-// Whether `remove` and `remove_entry` take the pair at this place out of a clone, or none, and what follows moves up.
-fn removes<K: Eq + Clone + Drop + Same, Q: Equivalent<K>>(
-    map: &VecMap<K, u32>,
-    query: Q,
-    place: Option<usize>,
-) -> Result<bool, AllocError> {
-    let (mut first, mut second, mut wanted) = (map.clone()?, map.clone()?, map.to_vec()?);
-    let pair = match place {
-        Some(place) if place < wanted.len() => Some(wanted.remove(place)),
-        _ => None,
-    };
-    let removed = first.remove(query);
-    Ok(
-        second.remove_entry(query).is_same(&pair)
-            && removed == value_of(pair)
-            && are_same(first.as_slice(), &wanted)
-            && are_same(second.as_slice(), &wanted),
-    )
-}
-
-// The same of `swap_remove` and `swap_remove_entry`, where the last pair takes the place.
-fn swaps<K: Eq + Clone + Drop + Same, Q: Equivalent<K>>(
-    map: &VecMap<K, u32>,
-    query: Q,
-    place: Option<usize>,
-) -> Result<bool, AllocError> {
-    let (mut first, mut second, mut wanted) = (map.clone()?, map.clone()?, map.to_vec()?);
-    let pair = match place {
-        Some(place) if place < wanted.len() => Some(wanted.swap_remove(place)),
-        _ => None,
-    };
-    let removed = first.swap_remove(query);
-    Ok(
-        second.swap_remove_entry(query).is_same(&pair)
-            && removed == value_of(pair)
-            && are_same(first.as_slice(), &wanted)
-            && are_same(second.as_slice(), &wanted),
-    )
-}
-
-// Whether every call by the query means the pair at this place, or none.
-fn means<K: Eq + Clone + Drop + Same, Q: Equivalent<K>>(
-    map: &mut VecMap<K, u32>,
-    query: Q,
-    place: Option<usize>,
-) -> Result<bool, AllocError> {
-    Ok(
-        finds(map, query, place)
-            && removes(map, query, place)?
-            && swaps(map, query, place)?
-            && lends(map, query, place)?
-            && finds(map, query, place),
-    )
-}
-
 // The map of the texts, as `String`s.
 fn text_keys(alloc: Global) -> Result<VecMap<String, u32>, AllocError> {
     let mut map = VecMap::new(alloc);
