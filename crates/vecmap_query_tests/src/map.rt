@@ -9,6 +9,7 @@ use std::rc::RcStr;
 use std::sync::ArcStr;
 use std::test::Fail;
 use vecmap::VecMap;
+use vecmap::map::MutableKeys;
 use vecmap_fixtures::{Item, Number, has_pairs, make_item, repeating_map};
 
 // Keys of which one begins another, and one is not ASCII.
