@@ -1,17 +1,21 @@
 -- Lemmas for common goals, as lists that a function names by `using(vecmap::proofs::Rules::..)`.
-use Rattle.vecmap_base.proofs.DistinctLemmas.Keys.{distinct_keys_without, distinct_put, distinct_puts}
-use Rattle.vecmap_base.proofs.PairsLemmas.AfterPuts.{lookup_puts_distinct}
-use Rattle.vecmap_base.proofs.PairsLemmas.Keys.{keys_of_puts, keys_of_without_key}
-use Rattle.vecmap_base.proofs.PairsLemmas.Lookups.{lookup_put, lookup_put_other, lookup_without_key, lookup_without_key_other}
+use Rattle.std.specs.Prelude.{◌≡◌, Bool, List, []}
+use Rattle.std.proofs.Common.{subst, sym}
+use Rattle.vecmap_base.specs.Pairs.{HasDistinctKeys}
+use Rattle.vecmap_base.proofs.DistinctLemmas.Absent.{distinct_none}
+use Rattle.vecmap_base.proofs.DistinctLemmas.Keys.{distinct_put, distinct_puts}
+use Rattle.vecmap_base.proofs.PairsLemmas.Keys.{keys_of_put, keys_of_puts}
+use Rattle.vecmap_base.proofs.PairsLemmas.Lookups.{lookup_put, lookup_put_other}
+
+-- an empty list has no two equal keys
+pub distinct_empty : {K V : Type 0} (eq : K → K → Bool) (l : List (K × V)) → l ≡ [] → HasDistinctKeys eq l
+distinct_empty eq l e = subst (HasDistinctKeys eq) (sym e) (distinct_none eq)
 
 -- what a lookup finds after a put
 pub ruleset lookups = (lookup_put, lookup_put_other)
 
--- what a lookup finds after a removal, and which keys are left
-pub ruleset removals = (lookup_without_key, lookup_without_key_other, keys_of_without_key)
+-- which keys there are after a put and after many
+pub ruleset keys = (keys_of_put, keys_of_puts)
 
--- what a lookup finds after the puts of distinct keys, and which keys there are
-pub ruleset bulk = (lookup_puts_distinct, keys_of_puts)
-
--- keys that are distinct after a put, many puts or a removal
-pub ruleset distinct_keys = (distinct_put, distinct_puts, distinct_keys_without)
+-- keys that are distinct in an empty list, after a put and after many
+pub ruleset distinct_keys = (distinct_empty, distinct_put, distinct_puts)

@@ -1,5 +1,5 @@
 -- What one more word leaves of counts.
-use Rattle.std.specs.Prelude.{◌≡◌, ◌+◌, ◌<◌, ℕ, Bool, true, false, List, [], None, Option, Some, if◌then◌else◌, count_by, length, take, unwrap_or}
+use Rattle.std.specs.Prelude.{◌≡◌, ◌+◌, ◌<◌, ℕ, Bool, List, [], Some, if◌then◌else◌, count_by, length, take, unwrap_or}
 use Rattle.std.specs.Cmp.{IsEquivalence}
 use Rattle.std.specs.Map.{keys_of}
 use Rattle.std.proofs.Common.{add-zero, ap, cond, get_or, inl, inr, sym, ◌∙◌}

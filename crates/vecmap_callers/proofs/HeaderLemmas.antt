@@ -1,7 +1,7 @@
 -- What a header list holds after a change.
-use Rattle.std.specs.Prelude.{◌≡◌, ℕ, Bool, List, [], None, Option, Some, String, option_map, refl, string_bytes}
+use Rattle.std.specs.Prelude.{◌≡◌, ℕ, List, None, Option, Some, String, option_map, refl, string_bytes}
 use Rattle.std.specs.Option.{option_or}
-use Rattle.std.proofs.Common.{ap, subst, sym, ◌∙◌}
+use Rattle.std.proofs.Common.{ap, ◌∙◌}
 use Rattle.std.specs.Cmp.{IsEquivalence, on_equiv}
 use Rattle.std.specs.Cmp.Lexicographic.{nat_list_eq_equiv}
 use Rattle.std.specs.Str.{str_to_ascii_lowercase}

@@ -1,5 +1,4 @@
 pub mod CountLemmas
-pub mod DistinctLemmas
 pub mod HeaderLemmas
 pub mod OptionLemmas
 pub mod ScopeLemmas

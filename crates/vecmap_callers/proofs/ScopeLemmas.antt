@@ -1,5 +1,5 @@
 -- What names mean once the innermost scope is another.
-use Rattle.std.specs.Prelude.{◌≡◌, ◌+◌, ◌-◌, ◌<◌, ℕ, zero, suc, Bool, true, false, List, [], ◌∷◌, None, Option, Some, if◌then◌else◌, fold, length, slice_set, take, refl}
+use Rattle.std.specs.Prelude.{◌≡◌, ◌+◌, ◌-◌, ◌<◌, ℕ, Bool, true, false, List, [], ◌∷◌, None, Option, Some, if◌then◌else◌, fold, length, slice_set, take, refl}
 use Rattle.std.specs.Cmp.{IsEquivalence}
 use Rattle.std.specs.Option.{option_or}
 use Rattle.std.proofs.Common.{ap, arith, get_or, sym, ◌∙◌}
@@ -9,7 +9,7 @@ use Rattle.std.proofs.lemmas.List.Sums.{fold-append, fold_more}
 use Rattle.vecmap.specs.Contents.{Contents}
 use Rattle.vecmap.specs.Pairs.{lookup, put}
 use Rattle.vecmap.proofs.AfterPuts.{lookup_put_any}
-use Rattle.vecmap_callers.specs.Scopes.{outer, resolved}
+use Rattle.vecmap_callers.specs.Scopes.{resolved}
 
 module _ {X Y : Type 0} (f : Y → X → Y) (z : Y) (s : List X) (n : ℕ) where
   -- a fold ends with the last item

@@ -1,4 +1,7 @@
 //! A header list: texts under names whose case is ignored, in the order in which the names came first.
+//!
+//! After `Host: a`, `Accept: b` and `HOST: c` are set, the fields are `Host: c` and `Accept: b`; a merge of `ACCEPT: d`
+//! and `Age: e` leaves `Host: c`, `Accept: d` and `Age: e`.
 ghost use Rattle.std.specs.Prelude.{◌≡◌, ℕ, IfErr, IfOk, List, None, OnErr, OnOk, Some, [], false, option_map, string_bytes};
 ghost use Rattle.std.specs.Option.{option_or};
 ghost use Rattle.vecmap.specs.Items.{add, adds, without_item};
@@ -33,7 +36,7 @@ impl Model for Headers {
 
 impl Headers {
     /// No fields.
-    #[tactic(auto, using(crate::proofs::DistinctLemmas::distinct_empty))]
+    #[tactic(auto, using(vecmap::proofs::Rules::distinct_keys))]
     pub fn new(alloc: Global) -> Headers
         ensures { result ≡ [] }
     {
@@ -50,7 +53,9 @@ impl Headers {
         self.fields.as_slice()
     }
 
-    /// The text under a name, which may be written in any case.
+    /// The text under a name, which may be written in any case: `get("HOST")` finds what was set under `Host`.
+    ///
+    /// It takes at most as many comparisons as there are fields, and no memory.
     pub fn get(&self, name: &str) -> Option<&str>
         ensures { option_map (λ text. text.now) result ≡ text_of self.now name.now }
     {
@@ -60,8 +65,10 @@ impl Headers {
         }
     }
 
-    /// Gives a name a text, and answers the old one. A name that is there keeps its place and its case, and a new one
-    /// goes last. Refused, both come back and nothing has changed.
+    /// Gives a name a text, and answers the old one.
+    ///
+    /// A name that is there keeps its place and its case, and a new one goes last. Refused, both come back and nothing
+    /// has changed. It takes at most as many comparisons as there are fields.
     pub fn set(
         &mut self,
         name: Name,
@@ -81,6 +88,8 @@ impl Headers {
     }
 
     /// Takes the field of a name out, and answers its text. The other fields stay in their order.
+    ///
+    /// It takes at most as many comparisons as there are fields, and one move for each field behind it.
     pub fn remove(&mut self, name: &str) -> Option<String>
         ensures text { option_map string_bytes result ≡ text_of self.old name.now }
         ensures gone { text_of self.new name.now ≡ None }
@@ -93,8 +102,9 @@ impl Headers {
     }
 
     /// Takes all fields of another list: its text stands where both have one, and new names go last, in their order.
-    /// Refused, both are as before.
-    #[tactic(auto, using(vecmap::proofs::Rules::bulk, crate::proofs::DistinctLemmas::distinct_empty))]
+    ///
+    /// Refused, both are as before. Each field takes one lookup.
+    #[tactic(auto, using(vecmap::proofs::Rules::keys, vecmap::proofs::Rules::distinct_keys))]
     pub fn merge(&mut self, other: &mut Headers) -> Result<(), AllocError>
         ensures texts { OnOk result ((name : List ℕ) → text_of self.new name ≡ option_or (text_of other.old name) (text_of self.old name)) }
         ensures order { OnOk result (names_of self.new ≡ adds same_name (names_of self.old) (names_of other.old)) }

@@ -1,4 +1,7 @@
 //! Options: defaults, and overrides that go before them.
+//!
+//! Of the defaults `port = 80` and `depth = 3` and the override `port = 8080`, `port` is 8080 and `depth` 3. Reset,
+//! `port` is 80 again.
 ghost use Rattle.std.specs.Prelude.{◌≡◌, IfErr, List, None, OnErr, OnOk, Some, [], false, if◌then◌else◌, option_copied};
 ghost use Rattle.std.specs.Option.{option_or};
 ghost use Rattle.vecmap.specs.Pairs.{lookup, lookup_by, put};
@@ -29,7 +32,7 @@ impl<K: Eq, V> Model for Options<K, V> {
 
 impl<K: Eq + Drop, V: Drop> Options<K, V> {
     /// No options.
-    #[tactic(auto, using(crate::proofs::DistinctLemmas::distinct_empty))]
+    #[tactic(auto, using(vecmap::proofs::Rules::distinct_keys))]
     pub fn new(alloc: Global) -> Options<K, V>
         ensures { result ≡ record { defaults = []; overrides = [] } }
     {
@@ -54,6 +57,8 @@ impl<K: Eq + Drop, V: Drop> Options<K, V> {
     }
 
     /// The value of an option: its override, or else its default.
+    ///
+    /// It takes at most as many comparisons as there are overrides and defaults.
     pub fn get<Q: Equivalent<K>>(&self, name: Q) -> Option<&V>
         ensures { option_copied result ≡ option_or (lookup_by (Q.equivalent name) self.now.overrides) (lookup_by (Q.equivalent name) self.now.defaults) }
     {
@@ -63,8 +68,9 @@ impl<K: Eq + Drop, V: Drop> Options<K, V> {
         }
     }
 
-    /// Gives an option a default. Where it has an override, that still goes before it. Refused, both come back and
-    /// nothing has changed.
+    /// Gives an option a default, in the place of an old one, after at most as many comparisons as there are defaults.
+    ///
+    /// Where it has an override, that still goes before it. Refused, name and value come back and nothing has changed.
     pub fn set_default(&mut self, name: K, value: V) -> Result<(), Refused<(K, V)>>
         ensures each { OnOk result ((q : K) → setting K.eq self.new q ≡ option_or (lookup K.eq self.old.overrides q) (if K.eq name q then Some value else lookup K.eq self.old.defaults q)) }
         ensures overrides { self.new.overrides ≡ self.old.overrides }
@@ -76,7 +82,9 @@ impl<K: Eq + Drop, V: Drop> Options<K, V> {
         Ok(())
     }
 
-    /// Overrides an option. Every other one keeps its value. Refused, name and value come back and nothing has changed.
+    /// Overrides an option, after at most as many comparisons as there are overrides.
+    ///
+    /// Every other one keeps its value. Refused, name and value come back and nothing has changed.
     pub fn set(&mut self, name: K, value: V) -> Result<(), Refused<(K, V)>>
         ensures each { OnOk result ((q : K) → setting K.eq self.new q ≡ (if K.eq name q then Some value else setting K.eq self.old q)) }
         ensures defaults { self.new.defaults ≡ self.old.defaults }
@@ -90,6 +98,8 @@ impl<K: Eq + Drop, V: Drop> Options<K, V> {
     }
 
     /// Takes the override of an option back, so that its default stands. Every other option keeps its value.
+    ///
+    /// It takes at most as many comparisons as there are overrides, and one move for each behind it.
     pub fn reset(&mut self, name: &K)
         ensures default { setting K.eq self.new name.now ≡ lookup K.eq self.old.defaults name.now }
         ensures others { (other : K) → K.eq name.now other ≡ false → setting K.eq self.new other ≡ setting K.eq self.old other }
@@ -100,8 +110,11 @@ impl<K: Eq + Drop, V: Drop> Options<K, V> {
         self.overrides.remove(name);
     }
 
-    /// Lays the overrides of `upper` over these options, and leaves it its defaults alone. Refused, both are as before.
-    #[tactic(auto, using(crate::proofs::DistinctLemmas::distinct_empty, vecmap::proofs::Rules::distinct_keys))]
+    /// Lays the overrides of `upper` over these options, and leaves it its defaults alone.
+    ///
+    /// What `upper` overrides has its value there, and every other option keeps its own. Refused, both are as before.
+    /// Each override of `upper` takes one lookup.
+    #[tactic(auto, using(vecmap::proofs::Rules::distinct_keys))]
     pub fn lay(&mut self, upper: &mut Options<K, V>) -> Result<(), AllocError>
         ensures each { OnOk result ((q : K) → setting K.eq self.new q ≡ option_or (lookup K.eq upper.old.overrides q) (setting K.eq self.old q)) }
         ensures emptied { OnOk result (upper.new ≡ record { defaults = upper.old.defaults; overrides = [] }) }
@@ -112,9 +125,10 @@ impl<K: Eq + Drop, V: Drop> Options<K, V> {
         Ok(())
     }
 
-    /// Makes defaults of the overrides: every option keeps its value, and none is overridden any more. Refused, nothing
-    /// has changed.
-    #[tactic(auto, using(crate::proofs::DistinctLemmas::distinct_empty, vecmap::proofs::Rules::distinct_keys))]
+    /// Makes defaults of the overrides: every option keeps its value, and none is overridden any more.
+    ///
+    /// Refused, nothing has changed. Each override takes one lookup.
+    #[tactic(auto, using(vecmap::proofs::Rules::distinct_keys))]
     pub fn settle(&mut self) -> Result<(), AllocError>
         ensures each { OnOk result ((q : K) → setting K.eq self.new q ≡ setting K.eq self.old q) }
         ensures settled { OnOk result (self.new.overrides ≡ []) }

@@ -1,4 +1,6 @@
 //! A registry of names: each gets an id that it keeps, and each id names what it first named.
+//!
+//! Of `to`, `be`, `to` and `or`, one after another, the ids are 0, 1, 0 and 2.
 ghost use Rattle.std.specs.Prelude.{◌≡◌, ◌<◌, ℕ, IfErr, IfOk, IsSome, IsTrue, OnErr, Some, [], length, option_copied, position, slice_get};
 ghost use Rattle.std.specs.List.{IsDistinct};
 ghost use Rattle.vecmap.specs.Items.{item_index};
@@ -47,22 +49,25 @@ impl<T: Eq> Registry<T> {
         self.names.as_slice()
     }
 
-    /// The id of the name that `name` stands for, if it has one.
+    /// The id of the name that `name` stands for, if it has one, after at most as many comparisons as there are names.
     pub fn id_of<Q: Equivalent<T>>(&self, name: Q) -> Option<usize>
         ensures { result ≡ position (Q.equivalent name) self.now }
     {
         self.names.get_index_of(name)
     }
 
-    /// The name of an id, if it was given.
+    /// The name of an id, if it was given, with no comparison.
     pub fn name_of(&self, id: usize) -> Option<&T>
         ensures { option_copied result ≡ slice_get self.now id }
     {
         self.names.get_index(id)
     }
 
-    /// The id of a name, which is added where it has none. What names and ids there are stay as they are: each name
-    /// keeps its id and each id its name, and a name that is there changes nothing. Refused, the name comes back.
+    /// The id of a name, which is added where it has none.
+    ///
+    /// Each name keeps its id and each id its name, and a name that is there changes nothing: interned again, it has the
+    /// id that it had. Refused, the name comes back and nothing has changed. It takes at most two comparisons for each
+    /// name that there is.
     pub fn intern(&mut self, name: T) -> Result<usize, Refused<T>>
     where
         T: Drop,

@@ -1,4 +1,6 @@
 //! A symbol table: names that are defined in nested scopes, each of which may hide those around it.
+//!
+//! Where `x` is 1 and then, in a scope that is entered, 3, it means 3 until that scope is left, and 1 again after.
 ghost use Rattle.std.specs.Prelude.{◌≡◌, ◌+◌, ◌<◌, IfErr, IfOk, IsTrue, List, None, OnErr, OnOk, Some, [], false, if◌then◌else◌, length, option_copied};
 ghost use Rattle.vecmap.specs.Contents.{Contents};
 ghost use Rattle.vecmap_callers.specs.Scopes.{outer, resolved};
@@ -63,8 +65,10 @@ impl<K: Eq + Drop, V: Drop> Scopes<K, V> {
         true
     }
 
-    /// Defines a name in the innermost scope. Every other name means what it meant, and the scopes around stay as they
-    /// are. Refused, name and value come back and nothing has changed.
+    /// Defines a name in the innermost scope, after at most as many comparisons as there are names in it.
+    ///
+    /// Every other name means what it meant, and the scopes around stay as they are. Refused, name and value come back
+    /// and nothing has changed.
     pub fn define(&mut self, name: K, value: V) -> Result<(), Refused<(K, V)>>
         ensures each { OnOk result ((other : K) → resolved K.eq self.new other ≡ (if K.eq name other then Some value else resolved K.eq self.old other)) }
         ensures within { outer self.new ≡ outer self.old }
@@ -79,6 +83,8 @@ impl<K: Eq + Drop, V: Drop> Scopes<K, V> {
     }
 
     /// What a name means: its value in the innermost scope that defines it.
+    ///
+    /// It takes at most as many comparisons as there are names in all scopes.
     pub fn resolve(&self, name: &K) -> Option<&V>
         ensures { option_copied result ≡ resolved K.eq self.now name.now }
     {

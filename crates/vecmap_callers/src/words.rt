@@ -8,10 +8,10 @@ ghost use Rattle.vecmap_callers.specs.Words.{count_of};
 use std::alloc::{AllocError, Global};
 use vecmap::{Equivalent, Refused, VecMap};
 
-/// Counts the words. They stand in the order in which each came first. Refused, nothing is made.
+/// Counts words of any type that is copied, as `&str`. They stand in the order in which each came first.
 ///
-/// Words are of any type with `==` that is copied, as `&str`: of "to be or not to be" it counts `to` twice, `be` twice,
-/// `or` and `not` once, in that order.
+/// Of `to`, `be`, `or`, `not`, `to` and `be` it makes the pairs of `to` and 2, `be` and 2, `or` and 1, `not` and 1.
+/// Refused, nothing is made. Each word takes one lookup.
 pub fn count_words<K: Eq + Copy + Drop>(
     alloc: Global,
     words: &[K],
@@ -37,7 +37,7 @@ fn count_one<K: Eq + Drop>(counts: &mut VecMap<K, u64>, word: K) -> Result<(), R
     Ok(())
 }
 
-/// How often a word was counted.
+/// How often a word was counted, after at most as many comparisons as there are words in `counts`.
 pub fn count<K: Eq, Q: Equivalent<K>>(counts: &VecMap<K, u64>, word: Q) -> u64
     ensures { result ≡ unwrap_or (lookup_by (Q.equivalent word) counts.now.entries) 0 }
 {

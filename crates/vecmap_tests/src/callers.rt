@@ -1,8 +1,14 @@
 //! Runs of functions that are proved from the contracts of what they call.
+mod headers;
+mod options;
+mod registry;
+mod scopes;
+mod words;
+
 use std::alloc::{AllocError, Global};
 use std::test::Fail;
 use vecmap::{VecMap, VecSet};
-use vecmap_callers::equivalent::{Name, NamedAs};
+use vecmap_callers::names::{Name, NamedAs};
 use vecmap_callers::{entry, equivalent, lending};
 use vecmap_fixtures::{has_pairs, item_map, make_item};
 
@@ -61,7 +67,7 @@ fn callers_of_lent_values_write_what_they_say(rt: HostRuntime) -> Result<(), Fai
 // The name of a text.
 fn name(alloc: Global, text: &str) -> Result<Name, AllocError> {
     let text = String::from_str(alloc, text)?;
-    Ok(Name { text })
+    Ok(Name::new(text))
 }
 
 #[test]
@@ -87,7 +93,7 @@ fn a_query_that_ignores_case_finds_names(rt: HostRuntime) -> Result<(), Fail> {
         assert_eq!(rt; equivalent::value_of_key(&map, &key), value);
     }
     let (stored, value) = map.remove_entry(NamedAs("hOST")).ok_or("absent")?;
-    assert_eq!(rt; (stored.text.as_str(), value), ("Host", 3));
+    assert_eq!(rt; (stored.as_str(), value), ("Host", 3));
     assert_eq!(rt;
         (map.len(), map.get_index_of(NamedAs("accept"))),
         (2, Some(0))

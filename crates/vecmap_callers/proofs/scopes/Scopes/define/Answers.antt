@@ -1,5 +1,5 @@
 use Rattle.std.specs.Prelude.{◌≡◌, ◌-◌, Some, if◌then◌else◌, length}
-use Rattle.std.proofs.Common.{ap, arith, get_or, ◌∙◌}
+use Rattle.std.proofs.Common.{arith, get_or, ◌∙◌}
 use Rattle.vecmap.specs.Pairs.{put}
 use Rattle.vecmap_callers.specs.Scopes.{resolved}
 use Rattle.vecmap_callers.proofs.ScopeLemmas.{resolved_defined}
