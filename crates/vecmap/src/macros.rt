@@ -13,6 +13,11 @@ use std::alloc::AllocError;
 /// hands want of memory on by `?`, as an `AllocError`.
 ///
 /// `vecmap!(alloc; "a" => 1, "b" => 2)` gives the map of two pairs, and `vecmap!(alloc;)` the empty one.
+///
+/// ```
+/// let map = vecmap!(alloc; 'a' => 1, 'b' => 2, 'a' => 3);
+/// map.as_slice() // [('a', 3), ('b', 2)]
+/// ```
 #[macro_export]
 macro_rules! vecmap {
     (@one $key:expr) => { 1usize };
@@ -27,6 +32,11 @@ macro_rules! vecmap {
 /// hands want of memory on by `?`, as an `AllocError`.
 ///
 /// `vecset!(alloc; 2, 1)` gives the set of two elements, and `vecset!(alloc;)` the empty one.
+///
+/// ```
+/// let set = vecset!(alloc; 2, 1, 2);
+/// set.as_slice() // [2, 1]
+/// ```
 #[macro_export]
 macro_rules! vecset {
     (@one $item:expr) => { 1usize };
@@ -38,6 +48,12 @@ macro_rules! vecset {
 }
 
 /// As `insert` of the map, with `AllocError`. The old value is dropped, and so is a pair that is refused.
+///
+/// ```
+/// let mut map = VecMap::new(alloc);
+/// put_pair(&mut map, 'a', 1)?;
+/// map.as_slice() // [('a', 1)]
+/// ```
 pub fn put_pair<K: Eq + Drop, V: Drop>(
     map: &mut VecMap<K, V>,
     key: K,
@@ -52,6 +68,12 @@ pub fn put_pair<K: Eq + Drop, V: Drop>(
 }
 
 /// As `insert` of the set, with `AllocError`. An element that is refused is dropped.
+///
+/// ```
+/// let mut set = VecSet::new(alloc);
+/// add_item(&mut set, 'a')?;
+/// set.as_slice() // ['a']
+/// ```
 pub fn add_item<T: Eq + Drop>(set: &mut VecSet<T>, item: T) -> Result<(), AllocError>
     ensures elements { OnOk result (set.new.elements ≡ add T.eq set.old.elements item) }
     ensures distinct { IsDistinct T.eq set.new.elements }

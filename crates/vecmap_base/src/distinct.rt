@@ -7,6 +7,11 @@ use crate::lookup::{find, find_item};
 
 /// Whether no two places hold equal keys. It compares each key with those after it, up to the first that is equal to one
 /// of them: at most n(n-1)/2 comparisons for n pairs. It takes no memory.
+///
+/// ```
+/// keys_distinct(&[('a', 1), ('b', 1)]) // true
+/// keys_distinct(&[('a', 1), ('a', 2)]) // false
+/// ```
 pub fn keys_distinct<K: Eq, V>(pairs: &[(K, V)]) -> bool
     ensures { IsTrue result ↔ HasDistinctKeys K.eq pairs.now }
 {
@@ -20,6 +25,11 @@ pub fn keys_distinct<K: Eq, V>(pairs: &[(K, V)]) -> bool
 
 /// Whether no two places hold equal elements. It compares each with those after it, up to the first that is equal to one
 /// of them: at most n(n-1)/2 comparisons for n elements. It takes no memory.
+///
+/// ```
+/// items_distinct(&['a', 'b']) // true
+/// items_distinct(&['a', 'a']) // false
+/// ```
 pub fn items_distinct<T: Eq>(items: &[T]) -> bool
     ensures { IsTrue result ↔ IsDistinct T.eq items.now }
 {

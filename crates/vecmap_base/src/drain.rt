@@ -7,6 +7,12 @@ ghost use Rattle.vecmap_base.specs.Ranges.{IsRangeWithin};
 /// how many the others are.
 ///
 /// It takes no memory, and a number of moves that is linear in the number of items from `start` on.
+///
+/// ```
+/// let mut items = vec![in alloc; 1, 2, 3, 4]?;
+/// move_range_last(&mut items, 0, 2) // 2
+/// items.as_slice() // [3, 4, 2, 1]
+/// ```
 pub fn move_range_last<T>(items: &mut Vec<T>, start: usize, end: usize) -> usize
     requires within { IsRangeWithin start end (length items.old.items) }
     ensures keep { result ≡ length items.old.items - (end - start) }
@@ -21,6 +27,12 @@ pub fn move_range_last<T>(items: &mut Vec<T>, start: usize, end: usize) -> usize
 }
 
 /// Turns the items from `start` on round, in half as many swaps.
+///
+/// ```
+/// let mut items = vec![in alloc; 1, 2, 3]?;
+/// reverse_from(&mut items, 1);
+/// items.as_slice() // [1, 3, 2]
+/// ```
 pub fn reverse_from<T>(items: &mut Vec<T>, start: usize)
     requires within { start ≤ length items.old.items }
     ensures items { items.new.items ≡ take start items.old.items ++ reverse (drop start items.old.items) }

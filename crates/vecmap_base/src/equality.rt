@@ -8,6 +8,10 @@ ghost use Rattle.vecmap_base.specs.Equality.{count, counts_agree, has_same_count
 /// Of lists that differ in length it compares nothing. Else it passes over the places from the front on that hold equal
 /// pairs, and counts each further pair of `a` in both rests, until two counts differ. So it makes n comparisons of keys
 /// for two lists of n pairs that are equal in one order, and at most 2n² + 1 for any.
+///
+/// ```
+/// pairs_equal(&[('a', 1), ('b', 2)], &[('b', 2), ('a', 1)]) // true
+/// ```
 pub fn pairs_equal<K: Eq, V: Eq>(a: &[(K, V)], b: &[(K, V)]) -> bool
     ensures { result ≡ has_same_counts K.eq V.eq a.now b.now }
 {

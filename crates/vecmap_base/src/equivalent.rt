@@ -19,6 +19,11 @@ use std::sync::ArcStr;
 /// A `&K` stands for the keys that are equal to it, a `&str` for the texts of its bytes, whoever holds them, and a `&[T]`
 /// for the vectors and boxed slices of items equal to its own. Further queries are types that implement it: one that
 /// stands for a key must stand for the keys that are equal to that one, and for no others.
+///
+/// ```
+/// let key = String::from_str(alloc, "a")?;
+/// "a".equivalent(&key) // true
+/// ```
 pub trait Equivalent<K: Eq>: Copy {
     // What `equivalent` answers.
     ghost equivalent: { Self → K → Bool };
@@ -141,6 +146,10 @@ impl<T: Eq> Equivalent<BoxedSlice<T>> for &[T] {
 }
 
 /// The first place whose key the query stands for, after at most as many questions to it as there are pairs.
+///
+/// ```
+/// find_equivalent(&[("a", 1), ("b", 2)], "b") // Some(1)
+/// ```
 pub fn find_equivalent<K: Eq, V, Q: Equivalent<K>>(pairs: &[(K, V)], query: Q) -> Option<usize>
     ensures place { result ≡ index_by (Q.equivalent query) pairs.now }
     ensures within { IfSome result (λ i. i < length pairs.now) }
@@ -149,6 +158,10 @@ pub fn find_equivalent<K: Eq, V, Q: Equivalent<K>>(pairs: &[(K, V)], query: Q) -
 }
 
 /// The first place whose element the query stands for, after at most as many questions to it as there are elements.
+///
+/// ```
+/// find_item_equivalent(&["a", "b"], "b") // Some(1)
+/// ```
 pub fn find_item_equivalent<T: Eq, Q: Equivalent<T>>(items: &[T], query: Q) -> Option<usize>
     ensures place { result ≡ position (Q.equivalent query) items.now }
     ensures within { IfSome result (λ i. i < length items.now) }
@@ -157,6 +170,10 @@ pub fn find_item_equivalent<T: Eq, Q: Equivalent<T>>(items: &[T], query: Q) -> O
 }
 
 /// Whether the query stands for one of `items`, after at most as many questions to it as there are elements.
+///
+/// ```
+/// is_in_equivalent(&["a", "b"], "c") // false
+/// ```
 pub fn is_in_equivalent<T: Eq, Q: Equivalent<T>>(items: &[T], query: Q) -> bool
     ensures { result ≡ list_any (Q.equivalent query) items.now }
 {

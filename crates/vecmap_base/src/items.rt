@@ -15,6 +15,13 @@ use std::marker::Model;
 use std::{fmt, slice};
 
 /// The elements of a set, each as `&T`, in their order. `VecSet::iter` and `&set` make it.
+///
+/// ```
+/// let set = vecset!(alloc; 1, 2);
+/// let mut items = set.iter();
+/// items.next() // Some(&1)
+/// items.len() // 1
+/// ```
 #[derive(Drop)]
 pub struct Iter<'a, T> {
     items: slice::Iter<'a, T>,
@@ -97,6 +104,13 @@ impl<'a, T: fmt::Debug> fmt::Debug for Iter<'a, T> {
 }
 
 /// The elements of a set, each as `T`, in their order. The set by value makes it. Dropped, it drops what is left.
+///
+/// ```
+/// let set = vecset!(alloc; 1, 2);
+/// let mut items = set.into_iter();
+/// items.next_back() // Some(2)
+/// items.len() // 1
+/// ```
 #[derive(Drop)]
 pub struct IntoIter<T> {
     items: VecDeque<T>,

@@ -14,6 +14,15 @@ use std::marker::Model;
 use std::{fmt, slice};
 
 /// The pairs of a map, each as `(&K, &mut V)`, in their order. `VecMap::iter_mut` and `&mut map` make it.
+///
+/// ```
+/// let mut map = vecmap!(alloc; 'a' => 1, 'b' => 2);
+/// let mut pairs = map.iter_mut();
+/// if let Some((_key, value)) = pairs.next_back() {
+///     *value = 3;
+/// }
+/// map.as_slice() // [('a', 1), ('b', 3)]
+/// ```
 #[derive(Drop)]
 pub struct IterMut<'a, K, V> {
     pairs: slice::IterMut<'a, (K, V)>,
@@ -89,6 +98,15 @@ impl<'a, K: fmt::Debug, V: fmt::Debug> fmt::Debug for IterMut<'a, K, V> {
 }
 
 /// The pairs of a map, each as `(&mut K, &mut V)`, in their order. What is written may make keys equal.
+///
+/// ```
+/// let mut map = vecmap!(alloc; 'a' => 1, 'b' => 2);
+/// let mut pairs = map.iter_mut2();
+/// if let Some((key, _value)) = pairs.next() {
+///     *key = 'c';
+/// }
+/// map.as_slice() // [('c', 1), ('b', 2)]
+/// ```
 #[derive(Drop)]
 pub struct IterMut2<'a, K, V> {
     pairs: slice::IterMut<'a, (K, V)>,
@@ -164,6 +182,15 @@ impl<'a, K: fmt::Debug, V: fmt::Debug> fmt::Debug for IterMut2<'a, K, V> {
 }
 
 /// The keys of a map, each as `&mut K`, in their order. What is written may make keys equal.
+///
+/// ```
+/// let mut map = vecmap!(alloc; 'a' => 1, 'b' => 2);
+/// let mut keys = map.keys_mut();
+/// if let Some(key) = keys.next() {
+///     *key = 'c';
+/// }
+/// map.as_slice() // [('c', 1), ('b', 2)]
+/// ```
 #[derive(Drop)]
 pub struct KeysMut<'a, K, V> {
     pairs: slice::IterMut<'a, (K, V)>,
@@ -242,6 +269,15 @@ impl<'a, K: fmt::Debug, V> fmt::Debug for KeysMut<'a, K, V> {
 }
 
 /// The values of a map, each as `&mut V`, in the order of their keys. `VecMap::values_mut` makes it.
+///
+/// ```
+/// let mut map = vecmap!(alloc; 'a' => 1, 'b' => 2);
+/// let mut values = map.values_mut();
+/// if let Some(value) = values.next() {
+///     *value = 3;
+/// }
+/// map.as_slice() // [('a', 3), ('b', 2)]
+/// ```
 #[derive(Drop)]
 pub struct ValuesMut<'a, K, V> {
     pairs: slice::IterMut<'a, (K, V)>,

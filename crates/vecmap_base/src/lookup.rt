@@ -6,6 +6,10 @@ ghost use Rattle.vecmap_base.specs.Pairs.{has_text, index_by, index_of};
 use crate::equivalent::{find_equivalent, find_item_equivalent, is_in_equivalent};
 
 /// The first place whose key is equal to `key`, after at most as many comparisons as there are pairs.
+///
+/// ```
+/// find(&[('a', 1), ('b', 2)], &'b') // Some(1)
+/// ```
 pub fn find<K: Eq, V>(pairs: &[(K, V)], key: &K) -> Option<usize>
     ensures place { result ≡ index_of K.eq pairs.now key.now }
     ensures within { IfSome result (λ i. i < length pairs.now) }
@@ -14,6 +18,10 @@ pub fn find<K: Eq, V>(pairs: &[(K, V)], key: &K) -> Option<usize>
 }
 
 /// The first place whose element is equal to `item`, after at most as many comparisons as there are elements.
+///
+/// ```
+/// find_item(&['a', 'b'], &'b') // Some(1)
+/// ```
 pub fn find_item<T: Eq>(items: &[T], item: &T) -> Option<usize>
     ensures place { result ≡ item_index T.eq items.now item.now }
     ensures within { IfSome result (λ i. i < length items.now) }
@@ -23,6 +31,11 @@ pub fn find_item<T: Eq>(items: &[T], item: &T) -> Option<usize>
 
 /// The first place whose key has the bytes of `text`, after at most as many comparisons as there are pairs. It takes no
 /// memory.
+///
+/// ```
+/// let pairs = vec![in alloc; (String::from_str(alloc, "a")?, 1)]?;
+/// find_str(&pairs, "a") // Some(0)
+/// ```
 pub fn find_str<V>(pairs: &[(String, V)], text: &str) -> Option<usize>
     ensures place { result ≡ index_by (has_text text.now) pairs.now }
     ensures within { IfSome result (λ i. i < length pairs.now) }
@@ -32,6 +45,11 @@ pub fn find_str<V>(pairs: &[(String, V)], text: &str) -> Option<usize>
 
 /// The first place whose element has the bytes of `text`, after at most as many comparisons as there are elements. It
 /// takes no memory.
+///
+/// ```
+/// let items = vec![in alloc; String::from_str(alloc, "a")?]?;
+/// find_item_str(&items, "a") // Some(0)
+/// ```
 pub fn find_item_str(items: &[String], text: &str) -> Option<usize>
     ensures place { result ≡ position (has_text text.now) items.now }
     ensures within { IfSome result (λ i. i < length items.now) }
@@ -40,6 +58,10 @@ pub fn find_item_str(items: &[String], text: &str) -> Option<usize>
 }
 
 /// Whether one of `items` is equal to `item`, after at most as many comparisons as there are elements.
+///
+/// ```
+/// is_in(&['a', 'b'], &'c') // false
+/// ```
 pub fn is_in<T: Eq>(items: &[T], item: &T) -> bool
     ensures { result ≡ has_item T.eq items.now item.now }
 {

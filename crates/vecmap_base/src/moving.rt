@@ -5,6 +5,12 @@ use std::mem::replace;
 
 /// Puts an item in the place of the one at `from`, which it answers, and moves it to `to`. Those between the two places
 /// move by one place. It takes no memory, and time in the distance of the two places.
+///
+/// ```
+/// let mut items = vec![in alloc; 'a', 'b', 'c']?;
+/// replace_and_move(&mut items, 0, 2, 'd') // 'a'
+/// items.as_slice() // ['b', 'c', 'd']
+/// ```
 pub fn replace_and_move<T>(items: &mut Vec<T>, from: usize, to: usize, item: T) -> T
     requires from_within { from < length items.old.items }
     requires to_within { to < length items.old.items }

@@ -8,6 +8,10 @@ use crate::lookup::is_in;
 
 /// Whether each of `items` is one of `others`. It looks them up in turn, up to the first that is not found, so it makes
 /// at most as many comparisons as the product of the lengths.
+///
+/// ```
+/// are_within(&[2, 1], &[1, 2, 3]) // true
+/// ```
 pub fn are_within<T: Eq>(items: &[T], others: &[T]) -> bool
     ensures { result ≡ is_within T.eq items.now others.now }
 {
@@ -16,6 +20,10 @@ pub fn are_within<T: Eq>(items: &[T], others: &[T]) -> bool
 
 /// Whether none of `items` is one of `others`. It looks them up in turn, up to the first that is found, so it makes at
 /// most as many comparisons as the product of the lengths.
+///
+/// ```
+/// are_apart(&[2, 1], &[3, 4]) // true
+/// ```
 pub fn are_apart<T: Eq>(items: &[T], others: &[T]) -> bool
     ensures apart { IsTrue result ↔ (both T.eq items.now others.now ≡ []) }
     ensures from_other_side { IsTrue result ↔ (both T.eq others.now items.now ≡ []) }

@@ -58,6 +58,12 @@ fn swap_values<K, V>(pairs: &mut [(K, V)], i: usize, j: usize)
 /// Each key is compared with those before it that stay, up to the first equal one: at most n(n-1)/2 comparisons for n
 /// pairs, and exactly as many where no two keys are equal. It takes no memory. The count and n(n-1)/2 must not be above
 /// `u128::MAX`, as they never are with a new `Steps`.
+///
+/// ```
+/// let mut pairs = [('a', 1), ('b', 2), ('a', 3)];
+/// gather_pairs(&mut pairs, &mut Steps::new()) // 2
+/// pairs.as_slice() // [('a', 3), ('b', 2), ('a', 1)]
+/// ```
 pub fn gather_pairs<K: Eq, V>(pairs: &mut [(K, V)], steps: &mut Steps) -> usize
     requires countable { steps.old + cost (length pairs.old) ≤ u128.MAX }
     ensures count { result ≡ length (puts K.eq [] pairs.old) }
@@ -86,6 +92,12 @@ pub fn gather_pairs<K: Eq, V>(pairs: &mut [(K, V)], steps: &mut Steps) -> usize
 /// Each element is compared with those before it that stay, up to the first equal one: at most n(n-1)/2 comparisons for
 /// n elements, and exactly as many where no two are equal. It takes no memory. The count and n(n-1)/2 must not be above
 /// `u128::MAX`, as they never are with a new `Steps`.
+///
+/// ```
+/// let mut items = [1, 1, 2];
+/// gather_items(&mut items, &mut Steps::new()) // 2
+/// items.as_slice() // [1, 2, 1]
+/// ```
 pub fn gather_items<T: Eq>(items: &mut [T], steps: &mut Steps) -> usize
     requires countable { steps.old + cost (length items.old) ≤ u128.MAX }
     ensures count { result ≡ length (adds T.eq [] items.old) }
@@ -109,6 +121,12 @@ pub fn gather_items<T: Eq>(items: &mut [T], steps: &mut Steps) -> usize
 /// Each key is compared with those before it that stay, up to the first equal one: at most n(n-1)/2 comparisons for n
 /// pairs, and exactly as many where no two keys are equal. It takes no memory, and drops nothing before the last
 /// comparison. The count and n(n-1)/2 must not be above `u128::MAX`, as they never are with a new `Steps`.
+///
+/// ```
+/// let mut pairs = vec![in alloc; ('a', 1), ('b', 2), ('a', 3)]?;
+/// dedup_keep_last_value(&mut pairs, &mut Steps::new());
+/// pairs.as_slice() // [('a', 3), ('b', 2)]
+/// ```
 pub fn dedup_keep_last_value<K: Eq + Drop, V: Drop>(pairs: &mut Vec<(K, V)>, steps: &mut Steps)
     requires countable { steps.old + cost (length pairs.old.items) ≤ u128.MAX }
     ensures pairs { pairs.new.items ≡ puts K.eq [] pairs.old.items }
@@ -124,6 +142,12 @@ pub fn dedup_keep_last_value<K: Eq + Drop, V: Drop>(pairs: &mut Vec<(K, V)>, ste
 /// Each element is compared with those before it that stay, up to the first equal one: at most n(n-1)/2 comparisons for
 /// n elements, and exactly as many where no two are equal. It takes no memory, and drops nothing before the last
 /// comparison. The count and n(n-1)/2 must not be above `u128::MAX`, as they never are with a new `Steps`.
+///
+/// ```
+/// let mut items = vec![in alloc; 2, 1, 2]?;
+/// dedup_keep_first(&mut items, &mut Steps::new());
+/// items.as_slice() // [2, 1]
+/// ```
 pub fn dedup_keep_first<T: Eq + Drop>(items: &mut Vec<T>, steps: &mut Steps)
     requires countable { steps.old + cost (length items.old.items) ≤ u128.MAX }
     ensures items { items.new.items ≡ adds T.eq [] items.old.items }

@@ -8,6 +8,12 @@ ghost use Rattle.vecmap_base.specs.Kept.{Kept};
 ///
 /// `f` is asked of each pair once, in order, in the state that the calls before have left. The capacity stays, and no
 /// memory is taken. For n pairs it makes n calls and at most n swaps, and drops those that go at the end.
+///
+/// ```
+/// let mut pairs = vec![in alloc; ('a', 1), ('b', 2)]?;
+/// retain_pairs(&mut pairs, |_key, value| *value != 1);
+/// pairs.as_slice() // [('b', 2)]
+/// ```
 pub fn retain_pairs<K: Drop, V: Drop, F: FnMut(&K, &mut V) -> bool + Drop>(
     pairs: &mut Vec<(K, V)>,
     mut f: F,
@@ -27,6 +33,12 @@ pub fn retain_pairs<K: Drop, V: Drop, F: FnMut(&K, &mut V) -> bool + Drop>(
 }
 
 /// As `retain_pairs`, with a closure that may write the key too.
+///
+/// ```
+/// let mut pairs = vec![in alloc; ('a', 1), ('b', 2)]?;
+/// retain_pairs_mut(&mut pairs, |key, _value| *key != 'a');
+/// pairs.as_slice() // [('b', 2)]
+/// ```
 pub fn retain_pairs_mut<K: Drop, V: Drop, F: FnMut(&mut K, &mut V) -> bool + Drop>(
     pairs: &mut Vec<(K, V)>,
     mut f: F,
@@ -49,6 +61,12 @@ pub fn retain_pairs_mut<K: Drop, V: Drop, F: FnMut(&mut K, &mut V) -> bool + Dro
 ///
 /// `f` is asked of each item once, in order, in the state that the calls before have left. The capacity stays, and no
 /// memory is taken. For n items it makes n calls and at most n swaps, and drops those that go at the end.
+///
+/// ```
+/// let mut items = vec![in alloc; 1, 2, 3]?;
+/// retain_items(&mut items, |item| *item != 2);
+/// items.as_slice() // [1, 3]
+/// ```
 pub fn retain_items<T: Drop, F: FnMut(&T) -> bool + Drop>(items: &mut Vec<T>, mut f: F)
     requires callable { CallableOnEach (CallsAtItem F.FnMut) (TakesAt F.FnMut) f items.old.items }
     ensures kept { (g : F) × Kept (CallsAtItem F.FnMut) f items.old.items items.new.items g }

@@ -8,6 +8,10 @@ use std::cmp::Ordering;
 
 /// Searches pairs that ascend by the key that `f` makes of one, for `key`. `Ok` is the place of a pair with an equal key;
 /// where there is none, `Err` is the number of pairs with lesser keys.
+///
+/// ```
+/// search_pairs_by_key(&[('a', 1), ('b', 2)], &2, |_key, value| *value) // Ok(1)
+/// ```
 pub fn search_pairs_by_key<'a, K, V, B: Ord + Drop, F: Fn(&'a K, &'a V) -> B>(
     pairs: &'a [(K, V)],
     key: &B,
@@ -37,6 +41,10 @@ pub fn search_pairs_by_key<'a, K, V, B: Ord + Drop, F: Fn(&'a K, &'a V) -> B>(
 
 /// Searches items that ascend by the key that `f` makes of one, for `key`. `Ok` is the place of an item with an equal
 /// key; where there is none, `Err` is the number of items with lesser keys.
+///
+/// ```
+/// search_items_by_key(&[1, 3], &2, |item| *item) // Err(1)
+/// ```
 pub fn search_items_by_key<'a, T, B: Ord + Drop, F: Fn(&'a T) -> B>(
     items: &'a [T],
     key: &B,

@@ -2,6 +2,12 @@
 use std::marker::Model;
 
 /// How many comparisons were made. In contracts it is that number.
+///
+/// ```
+/// let mut steps = Steps::new();
+/// steps.same(&1, &2) // false
+/// steps.count() // 1
+/// ```
 #[derive(Debug, Drop)]
 pub struct Steps {
     made: u128,

@@ -15,6 +15,11 @@ impl<K, V> VecMap<K, V> {
     ///
     /// Room is made first, for as many pairs as the lower size hint of the iterator says. Each pair takes one lookup, so n
     /// pairs take at most n(n-1)/2 comparisons.
+    ///
+    /// ```
+    /// let map = VecMap::from_iter(alloc, [('a', 1), ('b', 2), ('a', 3)])?;
+    /// map.as_slice() // [('a', 3), ('b', 2)]
+    /// ```
     pub fn from_iter<I: IntoIterator<Item = (K, V)>>(
         alloc: Global,
         iter: I,
@@ -34,6 +39,11 @@ impl<K, V> VecMap<K, V> {
     ///
     /// Room for as many is made first. Each pair takes one lookup, so n pairs take at most n(n-1)/2 comparisons. This is
     /// Rust's `From<&[(K, V)]>`.
+    ///
+    /// ```
+    /// let map = VecMap::from_slice(alloc, &[('a', 1), ('b', 2), ('a', 3)])?;
+    /// map.as_slice() // [('a', 3), ('b', 2)]
+    /// ```
     pub fn from_slice(alloc: Global, pairs: &[(K, V)]) -> Result<VecMap<K, V>, AllocError>
     where
         K: Eq + Clone,
@@ -52,6 +62,14 @@ impl<K, V> VecMap<K, V> {
     ///
     /// Room for all of them is made first. Refused at that, nothing has changed in either. Each pair takes one lookup, of
     /// at most as many comparisons as there are pairs by then.
+    ///
+    /// ```
+    /// let mut map = vecmap!(alloc; 'a' => 1, 'b' => 2);
+    /// let mut other = vecmap!(alloc; 'b' => 1, 'a' => 2);
+    /// map.append(&mut other)?;
+    /// map.as_slice() // [('a', 2), ('b', 1)]
+    /// other.is_empty() // true
+    /// ```
     pub fn append(&mut self, other: &mut VecMap<K, V>) -> Result<(), AllocError>
     where
         K: Eq + Drop,
@@ -80,6 +98,12 @@ impl<K, V> VecMap<K, V> {
     /// iterator. Each pair takes one lookup, of at most as many comparisons as there are pairs by then.
     ///
     /// This is Rust's `Extend<(K, V)>`.
+    ///
+    /// ```
+    /// let mut map = vecmap!(alloc; 'a' => 1, 'b' => 2);
+    /// map.extend([('b', 3), ('c', 4)])?;
+    /// map.as_slice() // [('a', 1), ('b', 3), ('c', 4)]
+    /// ```
     pub fn extend<I: IntoIterator<Item = (K, V)>>(&mut self, iter: I) -> Result<(), AllocError>
     where
         K: Eq + Drop,
@@ -106,6 +130,13 @@ impl<K, V> VecMap<K, V> {
     /// Refused at the room, nothing has changed. Refused at a pair, or at its clones, those before it stay.
     ///
     /// This is Rust's `Extend<(&K, &V)>`.
+    ///
+    /// ```
+    /// let mut map = vecmap!(alloc; 'a' => 1, 'b' => 2);
+    /// let other = vecmap!(alloc; 'b' => 1, 'a' => 2);
+    /// map.extend_refs(other.iter())?;
+    /// map.as_slice() // [('a', 2), ('b', 1)]
+    /// ```
     pub fn extend_refs<'a, I: IntoIterator<Item = (&'a K, &'a V)>>(
         &mut self,
         iter: I,
@@ -132,6 +163,12 @@ impl<K, V> VecMap<K, V> {
     }
 
     /// As `extend_refs`, of pairs that the iterator lends. This is Rust's `Extend<&(K, V)>`.
+    ///
+    /// ```
+    /// let mut map = vecmap!(alloc; 'a' => 1, 'b' => 2);
+    /// map.extend_pairs(&[('b', 3), ('c', 4)])?;
+    /// map.as_slice() // [('a', 1), ('b', 3), ('c', 4)]
+    /// ```
     pub fn extend_pairs<'a, I: IntoIterator<Item = &'a (K, V)>>(
         &mut self,
         iter: I,
@@ -174,6 +211,11 @@ impl<K, V> VecMap<K, V> {
 }
 
 /// Puts the pairs into an empty map, in their order, as the inherent `from_iter` does.
+///
+/// ```
+/// let map: VecMap<char, u32> = [('a', 1), ('b', 2)].into_iter().collect(alloc)?;
+/// map.as_slice() // [('a', 1), ('b', 2)]
+/// ```
 impl<K: Eq + Drop, V: Drop> FromIterator<(K, V)> for VecMap<K, V> {
     type Alloc = Global;
 

@@ -13,6 +13,11 @@ use vecmap_base::{Steps, dedup_keep_last_value};
 /// last of their values.
 ///
 /// It makes as many comparisons as `from_vec_counted`, takes no memory and keeps the capacity.
+///
+/// ```
+/// let map = VecMap::from(vec![in alloc; ('a', 1), ('b', 2), ('a', 3)]?);
+/// map.as_slice() // [('a', 3), ('b', 2)]
+/// ```
 impl<K: Eq + Drop, V: Drop> From<Vec<(K, V)>> for VecMap<K, V> {
     ghost from_gives = { λ pairs map. (map.entries ≡ puts K.eq [] pairs.items) × (map.capacity ≡ vec_capacity pairs) };
 
@@ -27,6 +32,12 @@ impl<K, V> VecMap<K, V> {
     ///
     /// Each key is compared with those before it that stay, up to the first equal one: at most n(n-1)/2 comparisons for n
     /// pairs, and exactly as many where no two keys are equal (`vecmap_base::laws`).
+    ///
+    /// ```
+    /// let (map, comparisons) = VecMap::from_vec_counted(vec![in alloc; ('a', 1), ('b', 2), ('a', 3)]?);
+    /// comparisons // 2
+    /// map.as_slice() // [('a', 3), ('b', 2)]
+    /// ```
     pub fn from_vec_counted(mut pairs: Vec<(K, V)>) -> (VecMap<K, V>, u128)
     where
         K: Eq + Drop,
@@ -43,6 +54,12 @@ impl<K, V> VecMap<K, V> {
     /// The pairs as they are, in the vector that they stand in. No two keys may be equal: `keys_distinct` tells.
     ///
     /// It compares nothing and takes no memory.
+    ///
+    /// ```
+    /// let pairs = vec![in alloc; ('a', 1), ('b', 2)]?;
+    /// let map = VecMap::from_vec_unchecked(pairs);
+    /// map.as_slice() // [('a', 1), ('b', 2)]
+    /// ```
     pub fn from_vec_unchecked(pairs: Vec<(K, V)>) -> VecMap<K, V>
     where
         K: Eq,
@@ -56,6 +73,11 @@ impl<K, V> VecMap<K, V> {
     /// Clones of the pairs, in their order. Refused, nothing is made.
     ///
     /// It takes one clone of each key and of each value, one block of memory, and no comparison.
+    ///
+    /// ```
+    /// let map = vecmap!(alloc; 'a' => 1, 'b' => 2);
+    /// map.to_vec()?.as_slice() // [('a', 1), ('b', 2)]
+    /// ```
     pub fn to_vec(&self) -> Result<Vec<(K, V)>, AllocError>
     where
         K: Clone,

@@ -21,6 +21,15 @@ use std::fmt;
 /// A pull from the same end as the last one takes constant time, and so does the first one from the front. A pull from
 /// the other end first turns the pairs that are still to come round, in a number of moves that is linear in theirs. No
 /// call takes memory.
+///
+/// ```
+/// let mut map = vecmap!(alloc; 'a' => 1, 'b' => 2, 'c' => 3);
+/// let mut drain = map.drain(1..);
+/// drain.next_back() // Some(('c', 3))
+/// drain.len() // 1
+/// drop(drain);
+/// map.as_slice() // [('a', 1)]
+/// ```
 pub struct Drain<'a, K, V> {
     // The pairs that stay come first. Those still to come stand behind them, last first where `reversed`, so that a
     // pull takes the last pair of the map.

@@ -19,6 +19,12 @@ pub use vacant::VacantEntry;
 use vecmap_base::Refused;
 
 /// The place of a key: one that it has, or the one that it would take.
+///
+/// ```
+/// let mut map = vecmap!(alloc; 'a' => 1, 'b' => 2);
+/// matches!(map.entry('a'), Entry::Occupied(_)) // true
+/// matches!(map.entry('c'), Entry::Vacant(_)) // true
+/// ```
 #[derive(Debug, Drop)]
 pub enum Entry<'a, K, V> {
     /// An equal key is there.
@@ -34,6 +40,12 @@ impl<K, V> VecMap<K, V> {
     ///
     /// This is one lookup, so it takes at most as many comparisons as there are pairs, and the entry's own calls take
     /// none. It needs no memory and changes nothing, nor does an entry that is only dropped.
+    ///
+    /// ```
+    /// let mut map = vecmap!(alloc; 'a' => 1, 'b' => 2);
+    /// *map.entry('a').or_insert(0)? = 6;
+    /// map.as_slice() // [('a', 6), ('b', 2)]
+    /// ```
     pub fn entry(&mut self, key: K) -> Entry<'_, K, V>
     where
         K: Eq,
@@ -51,6 +63,11 @@ impl<'a, K, V> Entry<'a, K, V> {
     ghost use Rattle.vecmap_map.specs.EntryLends.{entry_lends, entry_passes};
 
     /// As `VecMap::entry`, which calls it.
+    ///
+    /// ```
+    /// let mut map = vecmap!(alloc; 'a' => 1, 'b' => 2);
+    /// Entry::over(&mut map, 'b').index() // 1
+    /// ```
     pub fn over(map: &'a mut VecMap<K, V>, key: K) -> Entry<'a, K, V>
     where
         K: Eq,
@@ -69,6 +86,12 @@ impl<'a, K, V> Entry<'a, K, V> {
     ///
     /// A value that is there stays, and `value` and the handed key are dropped. Memory is needed for a new key where
     /// there is no room. Refused, the pair comes back and nothing has changed.
+    ///
+    /// ```
+    /// let mut map = vecmap!(alloc; 'a' => 1, 'b' => 2);
+    /// *map.entry('a').or_insert(3)? // 1
+    /// *map.entry('c').or_insert(3)? // 3
+    /// ```
     pub fn or_insert(self, value: V) -> Result<&'a mut V, Refused<(K, V)>>
     where
         K: Drop,
@@ -86,6 +109,11 @@ impl<'a, K, V> Entry<'a, K, V> {
     }
 
     /// As `or_insert`, with the value that `f` makes. `f` is called only where the key has no value.
+    ///
+    /// ```
+    /// let mut map = vecmap!(alloc; 'a' => 1, 'b' => 2);
+    /// *map.entry('c').or_insert_with(|| 3)? // 3
+    /// ```
     pub fn or_insert_with<F: FnOnce() -> V>(self, f: F) -> Result<&'a mut V, Refused<(K, V)>>
     where
         K: Drop,
@@ -105,6 +133,11 @@ impl<'a, K, V> Entry<'a, K, V> {
     }
 
     /// As `or_insert_with`, where `f` is given the handed key.
+    ///
+    /// ```
+    /// let mut map = vecmap!(alloc; 'a' => 1, 'b' => 2);
+    /// *map.entry('c').or_insert_with_key(|key| u32::from(*key))? // 99
+    /// ```
     pub fn or_insert_with_key<F: FnOnce(&K) -> V>(self, f: F) -> Result<&'a mut V, Refused<(K, V)>>
     where
         K: Drop,
@@ -127,6 +160,11 @@ impl<'a, K, V> Entry<'a, K, V> {
     }
 
     /// As `or_insert_with`, with the value of `V::default()`.
+    ///
+    /// ```
+    /// let mut map = vecmap!(alloc; 'a' => 1, 'b' => 2);
+    /// *map.entry('c').or_default()? // 0
+    /// ```
     pub fn or_default(self) -> Result<&'a mut V, Refused<(K, V)>>
     where
         K: Drop,
@@ -145,6 +183,11 @@ impl<'a, K, V> Entry<'a, K, V> {
     }
 
     /// The key that was handed in, also where an equal one is stored.
+    ///
+    /// ```
+    /// let mut map = vecmap!(alloc; 'a' => 1, 'b' => 2);
+    /// *map.entry('c').key() // 'c'
+    /// ```
     pub fn key(&self) -> &K
         ensures { result.now ≡ entry_key self.now }
     {
@@ -155,6 +198,12 @@ impl<'a, K, V> Entry<'a, K, V> {
     }
 
     /// The place of the key, or the number of pairs where it has none.
+    ///
+    /// ```
+    /// let mut map = vecmap!(alloc; 'a' => 1, 'b' => 2);
+    /// map.entry('b').index() // 1
+    /// map.entry('c').index() // 2
+    /// ```
     pub fn index(&self) -> usize
         ensures { result ≡ entry_index self.now }
     {
@@ -165,6 +214,12 @@ impl<'a, K, V> Entry<'a, K, V> {
     }
 
     /// Calls `f` on the value of the key, if it has one, and hands the entry on.
+    ///
+    /// ```
+    /// let mut map = vecmap!(alloc; 'a' => 1, 'b' => 2);
+    /// *map.entry('a').and_modify(|value| *value = 9).or_insert(0)? // 9
+    /// *map.entry('c').and_modify(|value| *value = 9).or_insert(0)? // 0
+    /// ```
     pub fn and_modify<F: FnOnce(&mut V)>(self, f: F) -> Entry<'a, K, V>
     where
         F: Drop,
@@ -191,6 +246,12 @@ impl<'a, K, V> Entry<'a, K, V> {
     /// Where the key has a value, that alone is replaced, and the call never fails. Else a clone of the handed key is
     /// stored last with `value`, and the entry keeps the handed key. Refused memory, for the clone or for the pair,
     /// the handed key and `value` come back and nothing has changed.
+    ///
+    /// ```
+    /// let mut map = vecmap!(alloc; 'a' => 1, 'b' => 2);
+    /// map.entry('c').insert_entry(3)?.index() // 2
+    /// map.as_slice() // [('a', 1), ('b', 2), ('c', 3)]
+    /// ```
     pub fn insert_entry(self, value: V) -> Result<OccupiedEntry<'a, K, V>, Refused<(K, V)>>
     where
         K: Clone,

@@ -10,6 +10,11 @@ use vecmap_base::pairs_equal;
 /// Of maps that differ in length it compares nothing. Else it passes over the places from the front on that hold equal
 /// pairs, and counts each further pair of `self` in both rests, until two counts differ. So it makes n comparisons of
 /// keys for two equal maps of n pairs in one order, and at most 2n² + 1 for any.
+///
+/// ```
+/// let map = vecmap!(alloc; 'a' => 1, 'b' => 2);
+/// map == VecMap::from_iter(alloc, [('b', 2), ('a', 1)])? // true
+/// ```
 impl<K: Eq, V: Eq> PartialEq for VecMap<K, V> {
     ghost use Rattle.std.specs.Cmp.{partial_equiv_from_equiv};
     ghost use Rattle.std.proofs.lemmas.Cmp.{on_equiv};

@@ -3,6 +3,11 @@ use crate::VecMap;
 use std::fmt;
 
 /// Prints as std prints a map: `{key: value, ..}`, in the order of the pairs.
+///
+/// ```
+/// let map = vecmap!(alloc; 'a' => 1, 'b' => 2);
+/// format!(in alloc; "{map:?}")?.as_str() // "{'a': 1, 'b': 2}"
+/// ```
 impl<K: fmt::Debug, V: fmt::Debug> fmt::Debug for VecMap<K, V> {
     fn fmt<W: fmt::Write>(&self, f: &mut fmt::Formatter<W>) -> fmt::Result {
         let mut map = f.debug_map();

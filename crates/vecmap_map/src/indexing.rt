@@ -21,6 +21,11 @@ impl<K, V> VecMap<K, V> {
 }
 
 /// The value at a place, which must be below the number of pairs: `len` tells.
+///
+/// ```
+/// let map = vecmap!(alloc; 'a' => 1, 'b' => 2);
+/// map[1] // 2
+/// ```
 impl<K, V> Index<usize> for VecMap<K, V> {
     type Output = V;
 
@@ -34,6 +39,12 @@ impl<K, V> Index<usize> for VecMap<K, V> {
 }
 
 /// The value at a place, to write. The place must be below the number of pairs: `len` tells.
+///
+/// ```
+/// let mut map = vecmap!(alloc; 'a' => 1, 'b' => 2);
+/// map[1] = 3;
+/// map.as_slice() // [('a', 1), ('b', 3)]
+/// ```
 impl<K, V> IndexMut<usize> for VecMap<K, V> {
     ghost use Rattle.vecmap_map.specs.Lends.{lends_value_at};
 
@@ -49,6 +60,11 @@ impl<K, V> IndexMut<usize> for VecMap<K, V> {
 /// The value of the first pair whose key is equal to `key`. Such a key must be there: `contains_key` tells.
 ///
 /// It takes at most as many comparisons as there are pairs.
+///
+/// ```
+/// let map = vecmap!(alloc; 'a' => 1, 'b' => 2);
+/// map[&'b'] // 2
+/// ```
 impl<'q, K: Eq, V> Index<&'q K> for VecMap<K, V> {
     type Output = V;
 
@@ -64,6 +80,12 @@ impl<'q, K: Eq, V> Index<&'q K> for VecMap<K, V> {
 /// The value of the first pair whose key is equal to `key`, to write. Such a key must be there: `contains_key` tells.
 ///
 /// It takes at most as many comparisons as there are pairs.
+///
+/// ```
+/// let mut map = vecmap!(alloc; 'a' => 1, 'b' => 2);
+/// map[&'b'] = 3;
+/// map.as_slice() // [('a', 1), ('b', 3)]
+/// ```
 impl<'q, K: Eq, V> IndexMut<&'q K> for VecMap<K, V> {
     ghost use Rattle.vecmap_map.specs.Lends.{lends_value_of};
 
@@ -80,6 +102,11 @@ impl<'q, K: Eq, V> IndexMut<&'q K> for VecMap<K, V> {
 /// The value of the first pair whose key has the bytes of `text`. Such a key must be there: `contains_key` tells.
 ///
 /// It takes at most as many comparisons as there are pairs, and no memory.
+///
+/// ```
+/// let map = vecmap!(alloc; String::from_str(alloc, "a")? => 1);
+/// map["a"] // 1
+/// ```
 impl<'q, V> Index<&'q str> for VecMap<String, V> {
     type Output = V;
 
@@ -96,6 +123,12 @@ impl<'q, V> Index<&'q str> for VecMap<String, V> {
 /// tells.
 ///
 /// It takes at most as many comparisons as there are pairs, and no memory.
+///
+/// ```
+/// let mut map = vecmap!(alloc; String::from_str(alloc, "a")? => 1);
+/// map["a"] = 3;
+/// map.get("a") // Some(&3)
+/// ```
 impl<'q, V> IndexMut<&'q str> for VecMap<String, V> {
     ghost use Rattle.vecmap_map.specs.Lends.{lends_value_by, text_row};
 
@@ -113,6 +146,11 @@ impl<'q, V> IndexMut<&'q str> for VecMap<String, V> {
 /// `contains_key` tells.
 ///
 /// It takes at most as many comparisons as there are pairs.
+///
+/// ```
+/// let map = vecmap!(alloc; "a" => 1, "b" => 2);
+/// map["b"] // 2
+/// ```
 impl<'q, 'k, V> Index<&'q str> for VecMap<&'k str, V> {
     type Output = V;
 

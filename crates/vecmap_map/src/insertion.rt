@@ -15,6 +15,13 @@ impl<K, V> VecMap<K, V> {
     /// Memory is needed for a new key where there is no room. Refused, the pair comes back and nothing has changed.
     ///
     /// It takes at most as many comparisons as there are pairs, and moves none unless the vector grows.
+    ///
+    /// ```
+    /// let mut map = vecmap!(alloc; 'a' => 1, 'b' => 2);
+    /// map.insert('a', 3)? // Some(1)
+    /// map.insert('c', 4)? // None
+    /// map.as_slice() // [('a', 3), ('b', 2), ('c', 4)]
+    /// ```
     pub fn insert(&mut self, key: K, value: V) -> Result<Option<V>, Refused<(K, V)>>
     where
         K: Eq + Drop,
@@ -31,6 +38,12 @@ impl<K, V> VecMap<K, V> {
     }
 
     /// As `insert`, at the same cost, and answers the place of the key too.
+    ///
+    /// ```
+    /// let mut map = vecmap!(alloc; 'a' => 1, 'b' => 2);
+    /// map.insert_full('b', 3)? // (1, Some(2))
+    /// map.insert_full('c', 4)? // (2, None)
+    /// ```
     pub fn insert_full(&mut self, key: K, value: V) -> Result<(usize, Option<V>), Refused<(K, V)>>
     where
         K: Eq + Drop,
@@ -58,6 +71,12 @@ impl<K, V> VecMap<K, V> {
     /// and nothing has changed.
     ///
     /// It takes at most as many comparisons as there are pairs, and moves none unless the vector grows.
+    ///
+    /// ```
+    /// let mut map = vecmap!(alloc; 'a' => 1, 'b' => 2);
+    /// map.insert_key('a', 3)? // Some(('a', 1))
+    /// map.as_slice() // [('a', 3), ('b', 2)]
+    /// ```
     pub fn insert_key(&mut self, key: K, value: V) -> Result<Option<(K, V)>, Refused<(K, V)>>
     where
         K: Eq,
@@ -85,6 +104,13 @@ impl<K, V> VecMap<K, V> {
     /// That `index` is at most the length is the caller's to know: `len` tells.
     ///
     /// It takes at most as many comparisons as there are pairs, and as many moves as there are pairs that change place.
+    ///
+    /// ```
+    /// let mut map = vecmap!(alloc; 'a' => 1, 'b' => 2);
+    /// map.insert_at(0, 'c', 3)? // None
+    /// map.insert_at(0, 'b', 4)? // Some((2, 2))
+    /// map.as_slice() // [('b', 4), ('c', 3), ('a', 1)]
+    /// ```
     pub fn insert_at(
         &mut self,
         index: usize,

@@ -12,6 +12,12 @@ use vecmap_base::{IntoIter, IntoKeys, IntoValues, Iter, IterMut, Keys, Values, V
 
 impl<K, V> VecMap<K, V> {
     /// The pairs, in their order, each as `(&K, &V)`.
+    ///
+    /// ```
+    /// let map = vecmap!(alloc; 'a' => 1, 'b' => 2);
+    /// map.iter().next() // Some((&'a', &1))
+    /// map.iter().next_back() // Some((&'b', &2))
+    /// ```
     pub fn iter(&self) -> Iter<'_, K, V>
         ensures rest { result ≡ self.now.entries }
         ensures fits { length result < 2 ^ 64 }
@@ -26,6 +32,14 @@ impl<K, V> VecMap<K, V> {
     /// The pairs, in their order, each as `(&K, &mut V)`: each value as it stood at this call, to be written.
     ///
     /// No clause says what the map holds afterwards. Where that matters, write through `get_mut` or `map[index]`.
+    ///
+    /// ```
+    /// let mut map = vecmap!(alloc; 'a' => 1, 'b' => 2);
+    /// for (_key, value) in map.iter_mut() {
+    ///     *value = 3;
+    /// }
+    /// map.as_slice() // [('a', 3), ('b', 3)]
+    /// ```
     pub fn iter_mut(&mut self) -> IterMut<'_, K, V>
         ensures rest { result ≡ self.old.entries }
         ensures fits { length result < 2 ^ 64 }
@@ -36,6 +50,11 @@ impl<K, V> VecMap<K, V> {
     }
 
     /// The keys, in their order.
+    ///
+    /// ```
+    /// let map = vecmap!(alloc; 'a' => 1, 'b' => 2);
+    /// map.keys().copied().collect::<Vec<char>>(alloc)?.as_slice() // ['a', 'b']
+    /// ```
     pub fn keys(&self) -> Keys<'_, K, V>
         ensures rest { result ≡ keys_of self.now.entries }
         ensures fits { length result < 2 ^ 64 }
@@ -46,6 +65,11 @@ impl<K, V> VecMap<K, V> {
     }
 
     /// The values, in the order of their keys.
+    ///
+    /// ```
+    /// let map = vecmap!(alloc; 'a' => 1, 'b' => 2);
+    /// map.values().copied().collect::<Vec<u32>>(alloc)?.as_slice() // [1, 2]
+    /// ```
     pub fn values(&self) -> Values<'_, K, V>
         ensures rest { result ≡ values_of self.now.entries }
         ensures fits { length result < 2 ^ 64 }
@@ -58,6 +82,14 @@ impl<K, V> VecMap<K, V> {
     /// The values, in the order of their keys, each as it stood at this call, to be written.
     ///
     /// No clause says what the map holds afterwards. Where that matters, write through `get_mut` or `map[index]`.
+    ///
+    /// ```
+    /// let mut map = vecmap!(alloc; 'a' => 1, 'b' => 2);
+    /// for value in map.values_mut() {
+    ///     *value = 3;
+    /// }
+    /// map.as_slice() // [('a', 3), ('b', 3)]
+    /// ```
     pub fn values_mut(&mut self) -> ValuesMut<'_, K, V>
         ensures rest { result ≡ values_of self.old.entries }
         ensures fits { length result < 2 ^ 64 }
@@ -68,6 +100,11 @@ impl<K, V> VecMap<K, V> {
     }
 
     /// The keys, by value, in their order. Each value is dropped as its key is given.
+    ///
+    /// ```
+    /// let map = vecmap!(alloc; 'a' => 1, 'b' => 2);
+    /// map.into_keys().next() // Some('a')
+    /// ```
     pub fn into_keys(self) -> IntoKeys<K, V>
         ensures rest { result ≡ keys_of self.entries }
         ensures fits { length result < 2 ^ 64 }
@@ -78,6 +115,11 @@ impl<K, V> VecMap<K, V> {
     }
 
     /// The values, by value, in the order of their keys. Each key is dropped as its value is given.
+    ///
+    /// ```
+    /// let map = vecmap!(alloc; 'a' => 1, 'b' => 2);
+    /// map.into_values().next() // Some(1)
+    /// ```
     pub fn into_values(self) -> IntoValues<K, V>
         ensures rest { result ≡ values_of self.entries }
         ensures fits { length result < 2 ^ 64 }
@@ -89,6 +131,15 @@ impl<K, V> VecMap<K, V> {
 }
 
 /// `for (key, value) in &map`, as `iter`.
+///
+/// ```
+/// let map = vecmap!(alloc; 'a' => 1, 'b' => 2);
+/// let mut last = ('-', 0);
+/// for (key, value) in &map {
+///     last = (*key, *value);
+/// }
+/// last // ('b', 2)
+/// ```
 impl<'a, K, V> IntoIterator for &'a VecMap<K, V> {
     type Item = (&'a K, &'a V);
 
@@ -102,6 +153,14 @@ impl<'a, K, V> IntoIterator for &'a VecMap<K, V> {
 }
 
 /// `for (key, value) in &mut map`, as `iter_mut`.
+///
+/// ```
+/// let mut map = vecmap!(alloc; 'a' => 1, 'b' => 2);
+/// for (_key, value) in &mut map {
+///     *value = 3;
+/// }
+/// map.as_slice() // [('a', 3), ('b', 3)]
+/// ```
 impl<'a, K, V> IntoIterator for &'a mut VecMap<K, V> {
     type Item = (&'a K, &'a mut V);
 
@@ -115,6 +174,11 @@ impl<'a, K, V> IntoIterator for &'a mut VecMap<K, V> {
 }
 
 /// `for (key, value) in map`: the pairs, by value, in their order.
+///
+/// ```
+/// let map = vecmap!(alloc; 'a' => 1, 'b' => 2);
+/// map.into_iter().next() // Some(('a', 1))
+/// ```
 impl<K: Drop, V: Drop> IntoIterator for VecMap<K, V> {
     type Item = (K, V);
 

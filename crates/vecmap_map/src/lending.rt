@@ -15,6 +15,14 @@ impl<K, V> VecMap<K, V> {
     /// The value of the first pair whose key `key` stands for, to write.
     ///
     /// It takes at most as many comparisons as there are pairs.
+    ///
+    /// ```
+    /// let mut map = vecmap!(alloc; 'a' => 1, 'b' => 2);
+    /// if let Some(value) = map.get_mut(&'b') {
+    ///     *value = 3;
+    /// }
+    /// map.as_slice() // [('a', 1), ('b', 3)]
+    /// ```
     pub fn get_mut<Q: Equivalent<K>>(&mut self, key: Q) -> Option<&mut V>
     where
         K: Eq,
@@ -29,6 +37,14 @@ impl<K, V> VecMap<K, V> {
     }
 
     /// The first pair, its value to write. It compares nothing.
+    ///
+    /// ```
+    /// let mut map = vecmap!(alloc; 'a' => 1, 'b' => 2);
+    /// if let Some((_key, value)) = map.first_mut() {
+    ///     *value = 3;
+    /// }
+    /// map.as_slice() // [('a', 3), ('b', 2)]
+    /// ```
     pub fn first_mut(&mut self) -> Option<(&K, &mut V)>
         ensures* writes_back { sem 𝓛 (lends_beside_key K.row V.row self.entry 0 result) }
         ensures pair { option_map deref_pair_mut result ≡ slice_get self.old.entries 0 }
@@ -38,6 +54,14 @@ impl<K, V> VecMap<K, V> {
     }
 
     /// The last pair, its value to write. It compares nothing.
+    ///
+    /// ```
+    /// let mut map = vecmap!(alloc; 'a' => 1, 'b' => 2);
+    /// if let Some((_key, value)) = map.last_mut() {
+    ///     *value = 3;
+    /// }
+    /// map.as_slice() // [('a', 1), ('b', 3)]
+    /// ```
     pub fn last_mut(&mut self) -> Option<(&K, &mut V)>
         ensures* writes_back { sem 𝓛 (lends_beside_key K.row V.row self.entry (length self.old.entries - 1) result) }
         ensures pair { option_map deref_pair_mut result ≡ slice_get self.old.entries (length self.old.entries - 1) }
@@ -50,6 +74,14 @@ impl<K, V> VecMap<K, V> {
     /// The place of the first pair whose key `key` stands for, with the stored key, and the value to write.
     ///
     /// It takes at most as many comparisons as there are pairs.
+    ///
+    /// ```
+    /// let mut map = vecmap!(alloc; 'a' => 1, 'b' => 2);
+    /// if let Some((_place, _key, value)) = map.get_full_mut(&'b') {
+    ///     *value = 3;
+    /// }
+    /// map.as_slice() // [('a', 1), ('b', 3)]
+    /// ```
     pub fn get_full_mut<Q: Equivalent<K>>(&mut self, key: Q) -> Option<(usize, &K, &mut V)>
     where
         K: Eq,
@@ -66,6 +98,14 @@ impl<K, V> VecMap<K, V> {
     }
 
     /// The pair at a place, if there is one, its value to write. It compares nothing.
+    ///
+    /// ```
+    /// let mut map = vecmap!(alloc; 'a' => 1, 'b' => 2);
+    /// if let Some((_key, value)) = map.get_index_mut(0) {
+    ///     *value = 3;
+    /// }
+    /// map.as_slice() // [('a', 3), ('b', 2)]
+    /// ```
     pub fn get_index_mut(&mut self, index: usize) -> Option<(&K, &mut V)>
         ensures* writes_back { sem 𝓛 (lends_beside_key K.row V.row self.entry index result) }
         ensures pair { option_map deref_pair_mut result ≡ slice_get self.old.entries index }

@@ -8,6 +8,12 @@ use vecmap_base::{Equivalent, find_equivalent, keys_distinct};
 
 impl<K, V> VecMap<K, V> {
     /// Whether a key that `key` stands for is there. It takes at most as many comparisons as there are pairs.
+    ///
+    /// ```
+    /// let map = vecmap!(alloc; 'a' => 1, 'b' => 2);
+    /// map.contains_key(&'a') // true
+    /// map.contains_key(&'c') // false
+    /// ```
     pub fn contains_key<Q: Equivalent<K>>(&self, key: Q) -> bool
     where
         K: Eq,
@@ -17,6 +23,11 @@ impl<K, V> VecMap<K, V> {
     }
 
     /// The first pair. It compares nothing.
+    ///
+    /// ```
+    /// let map = vecmap!(alloc; 'a' => 1, 'b' => 2);
+    /// map.first() // Some((&'a', &1))
+    /// ```
     pub fn first(&self) -> Option<(&K, &V)>
         ensures { option_map deref_pair result ≡ slice_get self.now.entries 0 }
     {
@@ -24,6 +35,11 @@ impl<K, V> VecMap<K, V> {
     }
 
     /// The last pair. It compares nothing.
+    ///
+    /// ```
+    /// let map = vecmap!(alloc; 'a' => 1, 'b' => 2);
+    /// map.last() // Some((&'b', &2))
+    /// ```
     pub fn last(&self) -> Option<(&K, &V)>
         ensures { option_map deref_pair result ≡ slice_get self.now.entries (length self.now.entries - 1) }
     {
@@ -37,6 +53,12 @@ impl<K, V> VecMap<K, V> {
     /// The value of the first pair whose key `key` stands for.
     ///
     /// It takes at most as many comparisons as there are pairs.
+    ///
+    /// ```
+    /// let map = vecmap!(alloc; 'a' => 1, 'b' => 2);
+    /// map.get(&'b') // Some(&2)
+    /// map.get(&'c') // None
+    /// ```
     pub fn get<Q: Equivalent<K>>(&self, key: Q) -> Option<&V>
     where
         K: Eq,
@@ -47,6 +69,12 @@ impl<K, V> VecMap<K, V> {
     }
 
     /// The pair at a place, if there is one. It compares nothing.
+    ///
+    /// ```
+    /// let map = vecmap!(alloc; 'a' => 1, 'b' => 2);
+    /// map.get_index(1) // Some((&'b', &2))
+    /// map.get_index(2) // None
+    /// ```
     pub fn get_index(&self, index: usize) -> Option<(&K, &V)>
         ensures { option_map deref_pair result ≡ slice_get self.now.entries index }
     {
@@ -57,6 +85,11 @@ impl<K, V> VecMap<K, V> {
     /// The place of the first pair whose key `key` stands for, with the stored key and its value.
     ///
     /// It takes at most as many comparisons as there are pairs.
+    ///
+    /// ```
+    /// let map = vecmap!(alloc; 'a' => 1, 'b' => 2);
+    /// map.get_full(&'b') // Some((1, &'b', &2))
+    /// ```
     pub fn get_full<Q: Equivalent<K>>(&self, key: Q) -> Option<(usize, &K, &V)>
     where
         K: Eq,
@@ -72,6 +105,11 @@ impl<K, V> VecMap<K, V> {
     /// The first pair whose key `key` stands for, with the stored key.
     ///
     /// It takes at most as many comparisons as there are pairs.
+    ///
+    /// ```
+    /// let map = vecmap!(alloc; 'a' => 1, 'b' => 2);
+    /// map.get_key_value(&'b') // Some((&'b', &2))
+    /// ```
     pub fn get_key_value<Q: Equivalent<K>>(&self, key: Q) -> Option<(&K, &V)>
     where
         K: Eq,
@@ -84,6 +122,12 @@ impl<K, V> VecMap<K, V> {
     /// The place of the first pair whose key `key` stands for.
     ///
     /// It takes at most as many comparisons as there are pairs.
+    ///
+    /// ```
+    /// let map = vecmap!(alloc; 'a' => 1, 'b' => 2);
+    /// map.get_index_of(&'b') // Some(1)
+    /// map.get_index_of(&'c') // None
+    /// ```
     pub fn get_index_of<Q: Equivalent<K>>(&self, key: Q) -> Option<usize>
     where
         K: Eq,
@@ -94,6 +138,11 @@ impl<K, V> VecMap<K, V> {
     }
 
     /// Whether no two keys are equal, after at most n(n-1)/2 comparisons for n pairs. It takes no memory.
+    ///
+    /// ```
+    /// let map = vecmap!(alloc; 'a' => 1, 'b' => 2);
+    /// map.has_distinct_keys() // true
+    /// ```
     pub fn has_distinct_keys(&self) -> bool
     where
         K: Eq,
@@ -105,6 +154,11 @@ impl<K, V> VecMap<K, V> {
 
 impl<V> VecMap<String, V> {
     /// As `contains_key`, by the bytes of a text, at the same cost. It takes no memory.
+    ///
+    /// ```
+    /// let map = vecmap!(alloc; String::from_str(alloc, "a")? => 1);
+    /// map.contains_key_str("a") // true
+    /// ```
     pub fn contains_key_str(&self, text: &str) -> bool
         ensures { result ≡ is_some (index_by (has_text text.now) self.now.entries) }
     {
@@ -112,6 +166,11 @@ impl<V> VecMap<String, V> {
     }
 
     /// As `get`, by the bytes of a text, at the same cost. It takes no memory.
+    ///
+    /// ```
+    /// let map = vecmap!(alloc; String::from_str(alloc, "a")? => 1);
+    /// map.get_str("a") // Some(&1)
+    /// ```
     pub fn get_str(&self, text: &str) -> Option<&V>
         ensures { option_copied result ≡ lookup_by (has_text text.now) self.now.entries }
     {
@@ -119,6 +178,11 @@ impl<V> VecMap<String, V> {
     }
 
     /// As `get_index_of`, by the bytes of a text, at the same cost. It takes no memory.
+    ///
+    /// ```
+    /// let map = vecmap!(alloc; String::from_str(alloc, "a")? => 1);
+    /// map.get_index_of_str("a") // Some(0)
+    /// ```
     pub fn get_index_of_str(&self, text: &str) -> Option<usize>
         ensures place { result ≡ index_by (has_text text.now) self.now.entries }
         ensures within { IfSome result (λ i. i < length self.now.entries) }

@@ -7,6 +7,11 @@ use std::alloc::{AllocError, Global};
 
 impl<K, V> VecMap<K, V> {
     /// The empty map, which has taken no memory.
+    ///
+    /// ```
+    /// let map: VecMap<char, u32> = VecMap::new(alloc);
+    /// (map.len(), map.capacity()) // (0, 0)
+    /// ```
     pub fn new(alloc: Global) -> VecMap<K, V>
         ensures entries { result.entries ≡ [] }
         ensures capacity { result.capacity ≡ 0 }
@@ -19,6 +24,12 @@ impl<K, V> VecMap<K, V> {
     /// The empty map, with room for at least `capacity` pairs. For 0 it takes no memory and succeeds.
     ///
     /// Refused, nothing is made.
+    ///
+    /// ```
+    /// let map: VecMap<char, u32> = VecMap::with_capacity(alloc, 4)?;
+    /// map.is_empty() // true
+    /// 4 <= map.capacity() // true
+    /// ```
     pub fn with_capacity(alloc: Global, capacity: usize) -> Result<VecMap<K, V>, AllocError>
         ensures entries { IfOk result (λ map. map.entries ≡ []) }
         ensures room { IfOk result (λ map. capacity ≤ map.capacity) }
@@ -31,6 +42,11 @@ impl<K, V> VecMap<K, V> {
     }
 
     /// The pairs, in their order.
+    ///
+    /// ```
+    /// let map = vecmap!(alloc; 'a' => 1, 'b' => 2);
+    /// map.as_slice() // [('a', 1), ('b', 2)]
+    /// ```
     pub fn as_slice(&self) -> &[(K, V)]
         ensures { result.now ≡ self.now.entries }
     {
@@ -38,6 +54,11 @@ impl<K, V> VecMap<K, V> {
     }
 
     /// The pairs, in their order, in the vector that held them.
+    ///
+    /// ```
+    /// let map = vecmap!(alloc; 'a' => 1, 'b' => 2);
+    /// map.into_vec().as_slice() // [('a', 1), ('b', 2)]
+    /// ```
     pub fn into_vec(self) -> Vec<(K, V)>
         ensures entries { result.items ≡ self.entries }
         ensures capacity { vec_capacity result ≡ self.capacity }
@@ -49,6 +70,13 @@ impl<K, V> VecMap<K, V> {
     /// A map of clones of the pairs, in their order. Refused, nothing is made.
     ///
     /// It takes one clone of each key and of each value, one block of memory, and no comparison.
+    ///
+    /// ```
+    /// let map = vecmap!(alloc; 'a' => 1, 'b' => 2);
+    /// let mut copy = map.clone()?;
+    /// copy.insert('c', 3)?;
+    /// (map.len(), copy.len()) // (2, 3)
+    /// ```
     pub fn clone(&self) -> Result<VecMap<K, V>, AllocError>
     where
         K: Clone,

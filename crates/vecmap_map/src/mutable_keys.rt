@@ -32,6 +32,14 @@ pub trait MutableKeys: sealed::Sealed {
     /// The place of the first pair whose key `key` stands for, with the stored key and the value, both to write.
     ///
     /// It takes at most as many comparisons as there are pairs.
+    ///
+    /// ```
+    /// let mut map = vecmap!(alloc; 'a' => 1, 'b' => 2);
+    /// if let Some((_place, key, _value)) = map.get_full_mut2(&'b') {
+    ///     *key = 'c';
+    /// }
+    /// map.as_slice() // [('a', 1), ('c', 2)]
+    /// ```
     fn get_full_mut2<Q: Equivalent<Self::Key>>(
         &mut self,
         key: Q,
@@ -40,12 +48,26 @@ pub trait MutableKeys: sealed::Sealed {
         Self::Key: Eq;
 
     /// The pair at a place, if there is one, the key and the value to write. It compares nothing.
+    ///
+    /// ```
+    /// let mut map = vecmap!(alloc; 'a' => 1, 'b' => 2);
+    /// if let Some((key, _value)) = map.get_index_mut2(0) {
+    ///     *key = 'c';
+    /// }
+    /// map.as_slice() // [('c', 1), ('b', 2)]
+    /// ```
     fn get_index_mut2(&mut self, index: usize) -> Option<(&mut Self::Key, &mut Self::Value)>;
 
     /// Keeps the pairs at which `f` answers true, each as `f` left its key and its value. The capacity stays.
     ///
     /// `f` is asked of each pair once, in order, in the state that the calls before have left. For n pairs there are n
     /// calls and at most n swaps; the pairs that go are dropped at the end. It takes no memory.
+    ///
+    /// ```
+    /// let mut map = vecmap!(alloc; 'a' => 1, 'b' => 2, 'c' => 3);
+    /// map.retain2(|key, _value| *key != 'b');
+    /// map.as_slice() // [('a', 1), ('c', 3)]
+    /// ```
     fn retain2<F: FnMut(&mut Self::Key, &mut Self::Value) -> bool>(&mut self, f: F)
     where
         Self::Key: Drop,
@@ -57,12 +79,28 @@ pub trait MutableKeys: sealed::Sealed {
     ///
     /// Each pull takes constant time, and none takes memory. No clause says what the map holds afterwards: where that
     /// matters, write through `get_index_mut2` or `retain2`.
+    ///
+    /// ```
+    /// let mut map = vecmap!(alloc; 'a' => 1, 'b' => 2);
+    /// for (key, value) in map.iter_mut2() {
+    ///     (*key, *value) = ('c', 3);
+    /// }
+    /// map.as_slice() // [('c', 3), ('c', 3)]
+    /// ```
     fn iter_mut2(&mut self) -> IterMut2<'_, Self::Key, Self::Value>;
 
     /// The keys, in their order, as they stood at this call, to be written.
     ///
     /// Each pull takes constant time, and none takes memory. No clause says what the map holds afterwards: where that
     /// matters, write through `get_index_mut2` or `retain2`.
+    ///
+    /// ```
+    /// let mut map = vecmap!(alloc; 'a' => 1, 'b' => 2);
+    /// for key in map.keys_mut() {
+    ///     *key = key.to_ascii_uppercase();
+    /// }
+    /// map.as_slice() // [('A', 1), ('B', 2)]
+    /// ```
     fn keys_mut(&mut self) -> KeysMut<'_, Self::Key, Self::Value>;
 }
 

@@ -10,6 +10,12 @@ use std::cmp::Ordering;
 
 impl<K, V> VecMap<K, V> {
     /// Turns the order of the pairs round, and compares nothing. Half as many exchanges as there are pairs do it.
+    ///
+    /// ```
+    /// let mut map = vecmap!(alloc; 'a' => 1, 'b' => 2, 'c' => 3);
+    /// map.reverse();
+    /// map.as_slice() // [('c', 3), ('b', 2), ('a', 1)]
+    /// ```
     pub fn reverse(&mut self)
         ensures entries { self.new.entries ≡ reverse self.old.entries }
         ensures capacity { self.new.capacity ≡ self.old.capacity }
@@ -18,6 +24,12 @@ impl<K, V> VecMap<K, V> {
     }
 
     /// Exchanges the pairs at two places, which must be there: `len` tells. It compares nothing.
+    ///
+    /// ```
+    /// let mut map = vecmap!(alloc; 'a' => 1, 'b' => 2, 'c' => 3);
+    /// map.swap_indices(0, 2);
+    /// map.as_slice() // [('c', 3), ('b', 2), ('a', 1)]
+    /// ```
     pub fn swap_indices(&mut self, a: usize, b: usize)
         requires a_within { a < length self.old.entries }
         requires b_within { b < length self.old.entries }
@@ -31,6 +43,12 @@ impl<K, V> VecMap<K, V> {
     /// order.
     ///
     /// It takes memory for more than 20 pairs; refused, it leaves the map as it was.
+    ///
+    /// ```
+    /// let mut map = vecmap!(alloc; 'b' => 1, 'a' => 2);
+    /// map.sort_keys()?;
+    /// map.as_slice() // [('a', 2), ('b', 1)]
+    /// ```
     pub fn sort_keys(&mut self) -> Result<(), AllocError>
     where
         K: Ord,
@@ -48,6 +66,12 @@ impl<K, V> VecMap<K, V> {
     /// in their order. Where `f` is no consistent order the pairs may end in any order, and none is lost.
     ///
     /// It takes memory for more than 20 pairs; refused, it leaves the map as it was.
+    ///
+    /// ```
+    /// let mut map = vecmap!(alloc; 'a' => 1, 'b' => 2);
+    /// map.sort_by(|a, b| b.1.cmp(a.1))?;
+    /// map.as_slice() // [('b', 2), ('a', 1)]
+    /// ```
     pub fn sort_by<F: Fn((&K, &V), (&K, &V)) -> Ordering>(&mut self, f: F) -> Result<(), AllocError>
         requires { F.IsAlwaysCallable f }
         ensures sorted { OnOk result (IsSortedByPairClosure F.Fn f self.new.entries) }
@@ -69,6 +93,12 @@ impl<K, V> VecMap<K, V> {
     /// pair is asked for its sort key at most once. Pairs whose sort keys tie stay in their order.
     ///
     /// It takes memory for more than one pair; refused, it leaves the map as it was.
+    ///
+    /// ```
+    /// let mut map = vecmap!(alloc; 'b' => 1, 'a' => 2);
+    /// map.sort_by_cached_key(|key, _value| *key)?;
+    /// map.as_slice() // [('a', 2), ('b', 1)]
+    /// ```
     pub fn sort_by_cached_key<T: Ord + Drop, F: Fn(&K, &V) -> T>(
         &mut self,
         f: F,
@@ -91,6 +121,12 @@ impl<K, V> VecMap<K, V> {
 
     /// Sorts the pairs by their keys, in O(n log n) comparisons of keys for n pairs. Pairs whose keys tie may change
     /// places. It takes no memory.
+    ///
+    /// ```
+    /// let mut map = vecmap!(alloc; 'b' => 1, 'a' => 2);
+    /// map.sort_unstable_keys();
+    /// map.as_slice() // [('a', 2), ('b', 1)]
+    /// ```
     pub fn sort_unstable_keys(&mut self)
     where
         K: Ord,
@@ -103,6 +139,12 @@ impl<K, V> VecMap<K, V> {
 
     /// Sorts the pairs by `f`, which compares two, in O(n log n) calls of `f` for n pairs. Pairs that tie under `f` may
     /// change places. It takes no memory.
+    ///
+    /// ```
+    /// let mut map = vecmap!(alloc; 'a' => 1, 'b' => 2);
+    /// map.sort_unstable_by(|a, b| b.1.cmp(a.1));
+    /// map.as_slice() // [('b', 2), ('a', 1)]
+    /// ```
     pub fn sort_unstable_by<F: Fn((&K, &V), (&K, &V)) -> Ordering>(&mut self, f: F)
         requires { F.IsAlwaysCallable f }
         ensures sorted { IsSortedByPairClosure F.Fn f self.new.entries }

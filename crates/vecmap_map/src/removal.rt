@@ -19,6 +19,12 @@ use vecmap_base::{Equivalent, find_equivalent, move_range_last, retain_pairs, re
 
 impl<K, V> VecMap<K, V> {
     /// Drops all pairs, and compares and moves none. The capacity stays.
+    ///
+    /// ```
+    /// let mut map = vecmap!(alloc; 'a' => 1, 'b' => 2);
+    /// map.clear();
+    /// map.is_empty() // true
+    /// ```
     pub fn clear(&mut self)
     where
         K: Drop,
@@ -30,6 +36,12 @@ impl<K, V> VecMap<K, V> {
     }
 
     /// Keeps the first `len` pairs, and drops the others. Where there are no more than that, nothing changes.
+    ///
+    /// ```
+    /// let mut map = vecmap!(alloc; 'a' => 1, 'b' => 2, 'c' => 3);
+    /// map.truncate(1);
+    /// map.as_slice() // [('a', 1)]
+    /// ```
     pub fn truncate(&mut self, len: usize)
     where
         K: Drop,
@@ -45,6 +57,13 @@ impl<K, V> VecMap<K, V> {
     ///
     /// It takes one move for each pair that goes, and memory for as many. Refused, nothing has changed. Where `at` is
     /// the length it takes none and succeeds.
+    ///
+    /// ```
+    /// let mut map = vecmap!(alloc; 'a' => 1, 'b' => 2, 'c' => 3);
+    /// let part = map.split_off(1)?;
+    /// map.as_slice() // [('a', 1)]
+    /// part.as_slice() // [('b', 2), ('c', 3)]
+    /// ```
     pub fn split_off(&mut self, at: usize) -> Result<VecMap<K, V>, AllocError>
         requires within { at ≤ length self.old.entries }
         ensures entries { OnOk result (self.new.entries ≡ take at self.old.entries) }
@@ -67,6 +86,12 @@ impl<K, V> VecMap<K, V> {
     /// Once the answer is dropped, after any number of pulls, the whole range is gone, the others stand in their order,
     /// and the capacity is as before. It takes a number of moves that is linear in the number of pairs from the start of
     /// the range on, and no memory.
+    ///
+    /// ```
+    /// let mut map = vecmap!(alloc; 'a' => 1, 'b' => 2, 'c' => 3);
+    /// map.drain(..2).next() // Some(('a', 1))
+    /// map.as_slice() // [('c', 3)]
+    /// ```
     pub fn drain<R: RangeBounds<usize>>(&mut self, range: R) -> Drain<'_, K, V>
     where
         K: Drop,
@@ -92,6 +117,12 @@ impl<K, V> VecMap<K, V> {
     ///
     /// `f` is asked of each pair once, in order, in the state that the calls before have left. For n pairs there are n
     /// calls and at most n swaps; the pairs that go are dropped at the end. It takes no memory.
+    ///
+    /// ```
+    /// let mut map = vecmap!(alloc; 'a' => 1, 'b' => 2, 'c' => 3);
+    /// map.retain(|_key, value| *value != 2);
+    /// map.as_slice() // [('a', 1), ('c', 3)]
+    /// ```
     pub fn retain<F: FnMut(&K, &mut V) -> bool>(&mut self, f: F)
     where
         K: Drop,
@@ -105,6 +136,12 @@ impl<K, V> VecMap<K, V> {
     }
 
     /// Takes out the last pair. It compares and moves nothing.
+    ///
+    /// ```
+    /// let mut map = vecmap!(alloc; 'a' => 1, 'b' => 2);
+    /// map.pop() // Some(('b', 2))
+    /// map.as_slice() // [('a', 1)]
+    /// ```
     pub fn pop(&mut self) -> Option<(K, V)>
         ensures pair { result ≡ slice_get self.old.entries (length self.old.entries - 1) }
         ensures entries { self.new.entries ≡ take (length self.old.entries - 1) self.old.entries }
@@ -117,6 +154,13 @@ impl<K, V> VecMap<K, V> {
     ///
     /// What follows moves up by one place: beside at most as many comparisons as there are pairs this takes as many moves
     /// as there are pairs after it. Where it stands for none nothing changes.
+    ///
+    /// ```
+    /// let mut map = vecmap!(alloc; 'a' => 1, 'b' => 2, 'c' => 3);
+    /// map.remove(&'a') // Some(1)
+    /// map.remove(&'a') // None
+    /// map.as_slice() // [('b', 2), ('c', 3)]
+    /// ```
     pub fn remove<Q: Equivalent<K>>(&mut self, key: Q) -> Option<V>
     where
         K: Eq + Drop,
@@ -129,6 +173,12 @@ impl<K, V> VecMap<K, V> {
     }
 
     /// As `remove`, at the same cost, and answers the stored pair.
+    ///
+    /// ```
+    /// let mut map = vecmap!(alloc; 'a' => 1, 'b' => 2, 'c' => 3);
+    /// map.remove_entry(&'a') // Some(('a', 1))
+    /// map.as_slice() // [('b', 2), ('c', 3)]
+    /// ```
     pub fn remove_entry<Q: Equivalent<K>>(&mut self, key: Q) -> Option<(K, V)>
     where
         K: Eq,
@@ -142,6 +192,12 @@ impl<K, V> VecMap<K, V> {
 
     /// Takes out the pair at a place, which must be there: `len` tells. What follows moves up by one place, and nothing is
     /// compared.
+    ///
+    /// ```
+    /// let mut map = vecmap!(alloc; 'a' => 1, 'b' => 2, 'c' => 3);
+    /// map.remove_index(0) // ('a', 1)
+    /// map.as_slice() // [('b', 2), ('c', 3)]
+    /// ```
     pub fn remove_index(&mut self, index: usize) -> (K, V)
         requires within { index < length self.old.entries }
         ensures pair { slice_get self.old.entries index ≡ Some result }
@@ -155,6 +211,12 @@ impl<K, V> VecMap<K, V> {
     ///
     /// The last pair takes its place: beside at most as many comparisons as there are pairs this takes one move. Where no
     /// key is equal nothing changes.
+    ///
+    /// ```
+    /// let mut map = vecmap!(alloc; 'a' => 1, 'b' => 2, 'c' => 3);
+    /// map.swap_remove(&'a') // Some(1)
+    /// map.as_slice() // [('c', 3), ('b', 2)]
+    /// ```
     pub fn swap_remove<Q: Equivalent<K>>(&mut self, key: Q) -> Option<V>
     where
         K: Eq + Drop,
@@ -167,6 +229,12 @@ impl<K, V> VecMap<K, V> {
     }
 
     /// As `swap_remove`, at the same cost, and answers the stored pair.
+    ///
+    /// ```
+    /// let mut map = vecmap!(alloc; 'a' => 1, 'b' => 2, 'c' => 3);
+    /// map.swap_remove_entry(&'a') // Some(('a', 1))
+    /// map.as_slice() // [('c', 3), ('b', 2)]
+    /// ```
     pub fn swap_remove_entry<Q: Equivalent<K>>(&mut self, key: Q) -> Option<(K, V)>
     where
         K: Eq,
@@ -180,6 +248,12 @@ impl<K, V> VecMap<K, V> {
 
     /// Takes out the pair at a place, which must be there: `len` tells. The last pair takes its place, which is one move,
     /// and nothing is compared.
+    ///
+    /// ```
+    /// let mut map = vecmap!(alloc; 'a' => 1, 'b' => 2, 'c' => 3);
+    /// map.swap_remove_index(0) // ('a', 1)
+    /// map.as_slice() // [('c', 3), ('b', 2)]
+    /// ```
     pub fn swap_remove_index(&mut self, index: usize) -> (K, V)
         requires within { index < length self.old.entries }
         ensures pair { slice_get self.old.entries index ≡ Some result }
@@ -224,6 +298,11 @@ impl<K, V> VecMap<K, V> {
 
 impl<V> VecMap<String, V> {
     /// As `remove`, by the bytes of a text, at the same cost. It takes no memory.
+    ///
+    /// ```
+    /// let mut map = vecmap!(alloc; String::from_str(alloc, "a")? => 1);
+    /// map.remove_str("a") // Some(1)
+    /// ```
     pub fn remove_str(&mut self, text: &str) -> Option<V>
         ensures value { result ≡ lookup_by (has_text text.now) self.old.entries }
         ensures entries { self.new.entries ≡ without_by (has_text text.now) self.old.entries }

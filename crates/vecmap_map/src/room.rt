@@ -8,6 +8,11 @@ use std::collections::TryReserveError;
 
 impl<K, V> VecMap<K, V> {
     /// The number of pairs.
+    ///
+    /// ```
+    /// let map = vecmap!(alloc; 'a' => 1, 'b' => 2);
+    /// map.len() // 2
+    /// ```
     pub fn len(&self) -> usize
         ensures count { result ≡ length self.now.entries }
         ensures room { result ≤ self.now.capacity }
@@ -17,6 +22,11 @@ impl<K, V> VecMap<K, V> {
     }
 
     /// Whether there is no pair.
+    ///
+    /// ```
+    /// let map = vecmap!(alloc; 'a' => 1, 'b' => 2);
+    /// map.is_empty() // false
+    /// ```
     pub fn is_empty(&self) -> bool
         ensures { result ≡ (length self.now.entries == 0) }
     {
@@ -24,6 +34,11 @@ impl<K, V> VecMap<K, V> {
     }
 
     /// How many pairs fit before the vector has to grow.
+    ///
+    /// ```
+    /// let map: VecMap<char, u32> = VecMap::with_capacity(alloc, 4)?;
+    /// 4 <= map.capacity() // true
+    /// ```
     pub fn capacity(&self) -> usize
         ensures { result ≡ self.now.capacity }
     {
@@ -34,6 +49,12 @@ impl<K, V> VecMap<K, V> {
     ///
     /// Where the room is there already it succeeds and the capacity stays. Else all pairs may be moved. Refused, nothing
     /// has changed.
+    ///
+    /// ```
+    /// let mut map = vecmap!(alloc; 'a' => 1, 'b' => 2);
+    /// map.reserve(10)?;
+    /// 12 <= map.capacity() // true
+    /// ```
     pub fn reserve(&mut self, additional: usize) -> Result<(), AllocError>
         ensures entries { self.new.entries ≡ self.old.entries }
         ensures room { OnOk result (HasRoom self.new additional) }
@@ -53,6 +74,12 @@ impl<K, V> VecMap<K, V> {
     ///
     /// Where the room is there already it succeeds and the capacity stays. Else all pairs may be moved. Refused, nothing
     /// has changed.
+    ///
+    /// ```
+    /// let mut map = vecmap!(alloc; 'a' => 1, 'b' => 2);
+    /// map.reserve_exact(10)?;
+    /// 12 <= map.capacity() // true
+    /// ```
     pub fn reserve_exact(&mut self, additional: usize) -> Result<(), AllocError>
         ensures entries { self.new.entries ≡ self.old.entries }
         ensures room { OnOk result (HasRoom self.new additional) }
@@ -69,6 +96,12 @@ impl<K, V> VecMap<K, V> {
     }
 
     /// As `reserve`, with the error that Rust gives this call.
+    ///
+    /// ```
+    /// let mut map = vecmap!(alloc; 'a' => 1, 'b' => 2);
+    /// map.try_reserve(10).is_ok() // true
+    /// map.try_reserve(usize::MAX).is_ok() // false
+    /// ```
     pub fn try_reserve(&mut self, additional: usize) -> Result<(), TryReserveError>
         ensures entries { self.new.entries ≡ self.old.entries }
         ensures room { OnOk result (HasRoom self.new additional) }
@@ -82,6 +115,12 @@ impl<K, V> VecMap<K, V> {
     }
 
     /// As `reserve_exact`, with the error that Rust gives this call.
+    ///
+    /// ```
+    /// let mut map = vecmap!(alloc; 'a' => 1, 'b' => 2);
+    /// map.try_reserve_exact(10).is_ok() // true
+    /// map.try_reserve_exact(usize::MAX).is_ok() // false
+    /// ```
     pub fn try_reserve_exact(&mut self, additional: usize) -> Result<(), TryReserveError>
         ensures entries { self.new.entries ≡ self.old.entries }
         ensures room { OnOk result (HasRoom self.new additional) }
@@ -96,6 +135,14 @@ impl<K, V> VecMap<K, V> {
 
     /// Gives back as much memory as it can, for which all pairs may move. It is never refused: without the memory for a
     /// smaller block, the capacity stays.
+    ///
+    /// ```
+    /// let mut map: VecMap<char, u32> = VecMap::with_capacity(alloc, 10)?;
+    /// map.insert('a', 1)?;
+    /// map.shrink_to_fit();
+    /// map.as_slice() // [('a', 1)]
+    /// 1 <= map.capacity() // true
+    /// ```
     pub fn shrink_to_fit(&mut self)
         ensures entries { self.new.entries ≡ self.old.entries }
         ensures room { length self.old.entries ≤ self.new.capacity }
@@ -107,6 +154,13 @@ impl<K, V> VecMap<K, V> {
 
     /// Gives back memory down to a capacity of `min_capacity` or the number of pairs, whichever is greater, for which all
     /// pairs may move. It is never refused: without the memory for a smaller block, the capacity stays.
+    ///
+    /// ```
+    /// let mut map: VecMap<char, u32> = VecMap::with_capacity(alloc, 10)?;
+    /// map.insert('a', 1)?;
+    /// map.shrink_to(4);
+    /// 4 <= map.capacity() // true
+    /// ```
     pub fn shrink_to(&mut self, min_capacity: usize)
         ensures entries { self.new.entries ≡ self.old.entries }
         ensures room { length self.old.entries ≤ self.new.capacity }

@@ -14,6 +14,12 @@ impl<K, V> VecMap<K, V> {
     ///
     /// `Ok` is the place of such a pair, any one of them; where there is none, `Err` is the number of pairs with lesser
     /// keys, so the place where one would go.
+    ///
+    /// ```
+    /// let map = vecmap!(alloc; 'a' => 1, 'b' => 2);
+    /// map.binary_search_keys(&'b') // Ok(1)
+    /// map.binary_search_keys(&'c') // Err(2)
+    /// ```
     pub fn binary_search_keys(&self, key: &K) -> Result<usize, usize>
     where
         K: Ord,
@@ -32,6 +38,11 @@ impl<K, V> VecMap<K, V> {
     ///
     /// `Ok` is the place of an equal pair, any one of them; where there is none, `Err` is the number of less ones. Where
     /// the pairs are in another order, `Ok` is still an equal place, and `Err` tells nothing.
+    ///
+    /// ```
+    /// let map = vecmap!(alloc; 'a' => 1, 'b' => 2);
+    /// map.binary_search_by(|_key, value| value.cmp(&2)) // Ok(1)
+    /// ```
     pub fn binary_search_by<'a, F: Fn(&'a K, &'a V) -> Ordering>(
         &'a self,
         f: F,
@@ -57,6 +68,11 @@ impl<K, V> VecMap<K, V> {
 
     /// Searches pairs that ascend by the key that `f` makes of one, for `key`, as `binary_search_by`. It takes O(log n)
     /// calls of `f` and comparisons for n pairs.
+    ///
+    /// ```
+    /// let map = vecmap!(alloc; 'a' => 1, 'b' => 2);
+    /// map.binary_search_by_key(&2, |_key, value| *value) // Ok(1)
+    /// ```
     pub fn binary_search_by_key<'a, B: Ord + Drop, F: Fn(&'a K, &'a V) -> B>(
         &'a self,
         key: &B,
@@ -71,6 +87,11 @@ impl<K, V> VecMap<K, V> {
     }
 
     /// The number of pairs that pass `pred`, where those that pass come first, in O(log n) calls of `pred` for n pairs.
+    ///
+    /// ```
+    /// let map = vecmap!(alloc; 'a' => 1, 'b' => 2);
+    /// map.partition_point(|key, _value| *key < 'b') // 1
+    /// ```
     pub fn partition_point<P: Fn(&K, &V) -> bool>(&self, pred: P) -> usize
         requires { P.IsAlwaysCallable pred }
         ensures within { result ≤ length self.now.entries }

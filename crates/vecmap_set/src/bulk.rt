@@ -17,6 +17,11 @@ impl<T: Eq> VecSet<T> {
     ///
     /// Each element takes one lookup among those before it, so n elements take at most n(n-1)/2 comparisons. No room is
     /// made beforehand, as elements may be equal.
+    ///
+    /// ```
+    /// let set = VecSet::from_iter(alloc, [2, 1, 2])?;
+    /// set.as_slice() // [2, 1]
+    /// ```
     pub fn from_iter<I: IntoIterator<Item = T>>(
         alloc: Global,
         iter: I,
@@ -36,6 +41,11 @@ impl<T: Eq> VecSet<T> {
     ///
     /// Each element takes one lookup, and no room is made beforehand, as in `from_iter`. In Rust it is the set's
     /// `From<&[T]>`.
+    ///
+    /// ```
+    /// let set = VecSet::from_slice(alloc, &[2, 1, 2])?;
+    /// set.as_slice() // [2, 1]
+    /// ```
     pub fn from_slice(alloc: Global, items: &[T]) -> Result<VecSet<T>, AllocError>
     where
         T: Clone,
@@ -53,6 +63,14 @@ impl<T: Eq> VecSet<T> {
     ///
     /// Room for all of them is made first. Refused at that, nothing has changed in either. Each element takes one lookup,
     /// of at most as many comparisons as there are elements by then.
+    ///
+    /// ```
+    /// let mut set = vecset!(alloc; 1, 2);
+    /// let mut other = vecset!(alloc; 2, 3);
+    /// set.append(&mut other)?;
+    /// set.as_slice() // [1, 2, 3]
+    /// other.is_empty() // true
+    /// ```
     pub fn append(&mut self, other: &mut VecSet<T>) -> Result<(), AllocError>
     where
         T: Drop,
@@ -79,6 +97,12 @@ impl<T: Eq> VecSet<T> {
     /// Each element takes one lookup, of at most as many comparisons as there are elements by then. No room is made
     /// beforehand, as elements may be there already. Refused at an element, those before it stay, and that element is
     /// dropped with the iterator. In Rust it is the set's `Extend<T>`.
+    ///
+    /// ```
+    /// let mut set = vecset!(alloc; 1, 2);
+    /// set.extend([2, 3])?;
+    /// set.as_slice() // [1, 2, 3]
+    /// ```
     pub fn extend<I: IntoIterator<Item = T>>(&mut self, iter: I) -> Result<(), AllocError>
     where
         T: Drop,
@@ -103,6 +127,12 @@ impl<T: Eq> VecSet<T> {
     /// As `extend`, with copies of the elements that the iterator lends.
     ///
     /// In Rust it is the set's `Extend<&T>`.
+    ///
+    /// ```
+    /// let mut set = vecset!(alloc; 1, 2);
+    /// set.extend_copied(&[2, 3])?;
+    /// set.as_slice() // [1, 2, 3]
+    /// ```
     pub fn extend_copied<'a, I: IntoIterator<Item = &'a T>>(
         &mut self,
         iter: I,
@@ -129,6 +159,11 @@ impl<T: Eq> VecSet<T> {
 }
 
 /// Adds the elements to an empty set, in their order, as the inherent `from_iter` does.
+///
+/// ```
+/// let set: VecSet<u32> = [2, 1, 2].into_iter().collect(alloc)?;
+/// set.as_slice() // [2, 1]
+/// ```
 impl<T: Eq + Drop> FromIterator<T> for VecSet<T> {
     type Alloc = Global;
 

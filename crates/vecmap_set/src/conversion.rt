@@ -12,6 +12,11 @@ use vecmap_base::{Steps, dedup_keep_first};
 /// Adds the elements in turn, in the vector that they stand in: the first of equal ones stays, in its place.
 ///
 /// It makes as many comparisons as `from_vec_counted`, takes no memory and keeps the capacity.
+///
+/// ```
+/// let set = VecSet::from(vec![in alloc; 2, 1, 2]?);
+/// set.as_slice() // [2, 1]
+/// ```
 impl<T: Eq + Drop> From<Vec<T>> for VecSet<T> {
     ghost from_gives = { λ items set. (set.elements ≡ adds T.eq [] items.items) × IsDistinct T.eq set.elements × (set.capacity ≡ vec_capacity items) };
 
@@ -26,6 +31,12 @@ impl<T: Eq> VecSet<T> {
     ///
     /// Each element is compared with those before it that stay, up to the first equal one: at most n(n-1)/2 comparisons
     /// for n elements, and exactly as many where no two are equal (`laws::comparisons_are_bounded`).
+    ///
+    /// ```
+    /// let (set, comparisons) = VecSet::from_vec_counted(vec![in alloc; 2, 1, 2]?);
+    /// comparisons // 2
+    /// set.as_slice() // [2, 1]
+    /// ```
     pub fn from_vec_counted(mut items: Vec<T>) -> (VecSet<T>, u128)
     where
         T: Drop,
@@ -42,6 +53,12 @@ impl<T: Eq> VecSet<T> {
     /// The elements as they are, in the vector that they stand in. No two may be equal: `items_distinct` tells.
     ///
     /// It compares nothing and takes no memory.
+    ///
+    /// ```
+    /// let items = vec![in alloc; 2, 1]?;
+    /// let set = VecSet::from_vec_unchecked(items);
+    /// set.as_slice() // [2, 1]
+    /// ```
     pub fn from_vec_unchecked(items: Vec<T>) -> VecSet<T>
         requires distinct { IsDistinct T.eq items.items }
         ensures elements { result.elements ≡ items.items }
@@ -52,6 +69,11 @@ impl<T: Eq> VecSet<T> {
     }
 
     /// Clones of the elements, in their order: each is cloned once. Refused, nothing is made.
+    ///
+    /// ```
+    /// let set = vecset!(alloc; 2, 1);
+    /// set.to_vec()?.as_slice() // [2, 1]
+    /// ```
     pub fn to_vec(&self) -> Result<Vec<T>, AllocError>
     where
         T: Clone,

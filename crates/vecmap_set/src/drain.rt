@@ -22,6 +22,15 @@ use std::fmt;
 /// A pull from the same end as the last one takes constant time, and so does the first one from the front. A pull from
 /// the other end first turns the elements that are still to come round, in a number of moves that is linear in theirs.
 /// No call takes memory.
+///
+/// ```
+/// let mut set = vecset!(alloc; 1, 2, 3);
+/// let mut drain = set.drain(1..);
+/// drain.next_back() // Some(3)
+/// drain.len() // 1
+/// drop(drain);
+/// set.as_slice() // [1]
+/// ```
 pub struct Drain<'a, T: Eq> {
     // The elements that stay come first. Those still to come stand behind them, last first where `reversed`, so that a
     // pull takes the last element of the set.

@@ -3,6 +3,11 @@ use crate::VecSet;
 use std::fmt;
 
 /// Prints as std prints a set: `{element, ..}`, in the order of the elements.
+///
+/// ```
+/// let set = vecset!(alloc; 2, 1);
+/// format!(in alloc; "{set:?}")?.as_str() // "{2, 1}"
+/// ```
 impl<T: Eq + fmt::Debug> fmt::Debug for VecSet<T> {
     fn fmt<W: fmt::Write>(&self, f: &mut fmt::Formatter<W>) -> fmt::Result {
         let mut set = f.debug_set();

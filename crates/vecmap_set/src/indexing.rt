@@ -5,6 +5,11 @@ use crate::VecSet;
 use std::ops::Index;
 
 /// The element at a place, which must be below the number of elements: `len` tells. It takes no comparison.
+///
+/// ```
+/// let set = vecset!(alloc; 2, 1);
+/// set[1] // 1
+/// ```
 impl<T: Eq> Index<usize> for VecSet<T> {
     type Output = T;
 

@@ -15,6 +15,13 @@ impl<T: Eq> VecSet<T> {
     /// last. Memory is needed for a new element where there is no room. Refused, the element comes back and nothing has
     /// changed. It takes one lookup, of at most as many comparisons as there are elements; where memory is taken, all
     /// elements may move.
+    ///
+    /// ```
+    /// let mut set = vecset!(alloc; 1, 2);
+    /// set.insert(3)? // true
+    /// set.insert(1)? // false
+    /// set.as_slice() // [1, 2, 3]
+    /// ```
     #[tactic(auto, using(vecmap_base::proofs::PlaceLemmas::list_any_position))]
     pub fn insert(&mut self, item: T) -> Result<bool, Refused<T>>
     where
@@ -42,6 +49,13 @@ impl<T: Eq> VecSet<T> {
     /// Memory is needed for a new element where there is no room. Refused, the element comes back and nothing has
     /// changed. It takes one lookup, of at most as many comparisons as there are elements; where memory is taken, all
     /// elements may move.
+    ///
+    /// ```
+    /// let mut set = vecset!(alloc; 1, 2);
+    /// set.replace(1)? // Some(1)
+    /// set.replace(3)? // None
+    /// set.as_slice() // [1, 2, 3]
+    /// ```
     #[tactic(auto, using(vecmap_base::proofs::PlaceLemmas::list_any_position))]
     pub fn replace(&mut self, item: T) -> Result<Option<T>, Refused<T>>
         ensures elements { OnOk result (self.new.elements ≡ add_new T.eq self.old.elements item) }

@@ -12,6 +12,12 @@ use vecmap_base::items::{IntoIter, Iter};
 
 impl<T: Eq> VecSet<T> {
     /// The elements, in their order, no two of them equal.
+    ///
+    /// ```
+    /// let set = vecset!(alloc; 2, 1);
+    /// set.iter().next() // Some(&2)
+    /// set.iter().next_back() // Some(&1)
+    /// ```
     pub fn iter(&self) -> Iter<'_, T>
         ensures rest { result ≡ self.now.elements }
         ensures distinct { IsDistinct T.eq result }
@@ -24,6 +30,15 @@ impl<T: Eq> VecSet<T> {
 }
 
 /// `for element in &set`, as `iter`.
+///
+/// ```
+/// let set = vecset!(alloc; 2, 1);
+/// let mut last = 0;
+/// for item in &set {
+///     last = *item;
+/// }
+/// last // 1
+/// ```
 impl<'a, T: Eq> IntoIterator for &'a VecSet<T> {
     type Item = &'a T;
 
@@ -37,6 +52,11 @@ impl<'a, T: Eq> IntoIterator for &'a VecSet<T> {
 }
 
 /// `for element in set`: the elements, by value, in their order.
+///
+/// ```
+/// let set = vecset!(alloc; 2, 1);
+/// set.into_iter().next() // Some(2)
+/// ```
 impl<T: Eq + Drop> IntoIterator for VecSet<T> {
     type Item = T;
 

@@ -25,6 +25,14 @@ impl<T: Eq> VecSet<T> {
     ///
     /// Making the iterator compares nothing. Pulling all of it takes one lookup in `other` for each element of this
     /// set. Of 1, 2, 3 and 4, 2, 3 it gives 1.
+    ///
+    /// ```
+    /// let set = vecset!(alloc; 1, 2);
+    /// let other = vecset!(alloc; 2, 3);
+    /// let mut items = set.difference(&other);
+    /// items.next() // Some(&1)
+    /// items.next() // None
+    /// ```
     pub fn difference<'a>(&'a self, other: &'a VecSet<T>) -> Difference<'a, T>
         ensures rest { result ≡ sift_of self.now.elements other.now.elements }
         ensures fits { length (sifted (lacks_item T.eq) result) < 2 ^ 64 }
@@ -40,6 +48,14 @@ impl<T: Eq> VecSet<T> {
     /// `self & other` has the same elements, but those of this set in its order. Making the iterator compares nothing.
     /// Pulling all of it takes one lookup in the longer set for each element of the shorter. Of 3, 2, 1 and 1, 2 it
     /// gives 1, 2.
+    ///
+    /// ```
+    /// let set = vecset!(alloc; 1, 2);
+    /// let other = vecset!(alloc; 2, 3);
+    /// let mut items = set.intersection(&other);
+    /// items.next() // Some(&2)
+    /// items.next() // None
+    /// ```
     pub fn intersection<'a>(&'a self, other: &'a VecSet<T>) -> Intersection<'a, T>
         ensures rest { result ≡ sift_of_shorter self.now.elements other.now.elements }
         ensures fits { length (sifted (has_item T.eq) result) < 2 ^ 64 }
@@ -58,6 +74,14 @@ impl<T: Eq> VecSet<T> {
     ///
     /// Making the iterator compares nothing. Pulling all of it takes one lookup for each element of either set, in the
     /// other. Of 1, 2, 3 and 4, 2, 3 it gives 1, 4.
+    ///
+    /// ```
+    /// let set = vecset!(alloc; 1, 2);
+    /// let other = vecset!(alloc; 2, 3);
+    /// let mut items = set.symmetric_difference(&other);
+    /// items.next() // Some(&1)
+    /// items.next() // Some(&3)
+    /// ```
     pub fn symmetric_difference<'a>(&'a self, other: &'a VecSet<T>) -> SymmetricDifference<'a, T>
         ensures rest { result ≡ symmetric_parts self.now.elements other.now.elements }
         ensures fits { length (paired T.eq result) < 2 ^ 64 }
@@ -72,6 +96,14 @@ impl<T: Eq> VecSet<T> {
     ///
     /// `self | other` has the same elements, but all of this set first. Making the iterator compares nothing. Pulling
     /// all of it takes one lookup in the longer set for each element of the shorter. Of 1 and 2, 3 it gives 2, 3, 1.
+    ///
+    /// ```
+    /// let set = vecset!(alloc; 1, 2);
+    /// let other = vecset!(alloc; 2, 3);
+    /// let mut items = set.union(&other);
+    /// items.next_back() // Some(&3)
+    /// items.next() // Some(&1)
+    /// ```
     pub fn union<'a>(&'a self, other: &'a VecSet<T>) -> Union<'a, T>
         ensures rest { result ≡ longer_first self.now.elements other.now.elements }
         ensures fits { length (joined T.eq result) < 2 ^ 64 }

@@ -12,6 +12,12 @@ use vecmap_base::{Equivalent, find_item_equivalent, is_in_equivalent};
 
 impl<T: Eq> VecSet<T> {
     /// Whether an element that `item` stands for is there, after at most as many comparisons as there are elements.
+    ///
+    /// ```
+    /// let set = vecset!(alloc; 1, 2);
+    /// set.contains(&1) // true
+    /// set.contains(&3) // false
+    /// ```
     pub fn contains<Q: Equivalent<T>>(&self, item: Q) -> bool
         ensures { result ≡ list_any (Q.equivalent item) self.now.elements }
     {
@@ -19,6 +25,11 @@ impl<T: Eq> VecSet<T> {
     }
 
     /// The first element, with no comparison.
+    ///
+    /// ```
+    /// let set = vecset!(alloc; 2, 1);
+    /// set.first() // Some(&2)
+    /// ```
     pub fn first(&self) -> Option<&T>
         ensures { option_copied result ≡ slice_get self.now.elements 0 }
     {
@@ -26,6 +37,11 @@ impl<T: Eq> VecSet<T> {
     }
 
     /// The last element, with no comparison.
+    ///
+    /// ```
+    /// let set = vecset!(alloc; 2, 1);
+    /// set.last() // Some(&1)
+    /// ```
     pub fn last(&self) -> Option<&T>
         ensures { option_copied result ≡ slice_get self.now.elements (length self.now.elements - 1) }
     {
@@ -33,6 +49,12 @@ impl<T: Eq> VecSet<T> {
     }
 
     /// The stored element that `item` stands for, after at most as many comparisons as there are elements.
+    ///
+    /// ```
+    /// let set = vecset!(alloc; 1, 2);
+    /// set.get(&2) // Some(&2)
+    /// set.get(&3) // None
+    /// ```
     pub fn get<Q: Equivalent<T>>(&self, item: Q) -> Option<&T>
         ensures { option_copied result ≡ stored_first (Q.equivalent item) self.now.elements }
     {
@@ -41,6 +63,12 @@ impl<T: Eq> VecSet<T> {
     }
 
     /// The element at a place, if there is one, with no comparison.
+    ///
+    /// ```
+    /// let set = vecset!(alloc; 2, 1);
+    /// set.get_index(0) // Some(&2)
+    /// set.get_index(2) // None
+    /// ```
     pub fn get_index(&self, index: usize) -> Option<&T>
         ensures { option_copied result ≡ slice_get self.now.elements index }
     {
@@ -49,6 +77,11 @@ impl<T: Eq> VecSet<T> {
 
     /// The place of the element that `item` stands for, with the stored element, after at most as many comparisons as
     /// there are elements.
+    ///
+    /// ```
+    /// let set = vecset!(alloc; 2, 1);
+    /// set.get_full(&1) // Some((1, &1))
+    /// ```
     pub fn get_full<Q: Equivalent<T>>(&self, item: Q) -> Option<(usize, &T)>
         ensures place { option_map (λ found. found.0) result ≡ position (Q.equivalent item) self.now.elements }
         ensures within { IfSome result (λ found. found.0 < length self.now.elements) }
@@ -59,6 +92,12 @@ impl<T: Eq> VecSet<T> {
     }
 
     /// The place of the element that `item` stands for, after at most as many comparisons as there are elements.
+    ///
+    /// ```
+    /// let set = vecset!(alloc; 2, 1);
+    /// set.get_index_of(&1) // Some(1)
+    /// set.get_index_of(&3) // None
+    /// ```
     pub fn get_index_of<Q: Equivalent<T>>(&self, item: Q) -> Option<usize>
         ensures place { result ≡ position (Q.equivalent item) self.now.elements }
         ensures within { IfSome result (λ i. i < length self.now.elements) }
@@ -69,6 +108,11 @@ impl<T: Eq> VecSet<T> {
 
 impl VecSet<String> {
     /// As `contains`, by the bytes of a text. It takes no memory.
+    ///
+    /// ```
+    /// let set = vecset!(alloc; String::from_str(alloc, "a")?);
+    /// set.contains_str("a") // true
+    /// ```
     pub fn contains_str(&self, text: &str) -> bool
         ensures { result ≡ list_any (has_text text.now) self.now.elements }
     {

@@ -8,6 +8,11 @@ use std::alloc::{AllocError, Global};
 
 impl<T: Eq> VecSet<T> {
     /// The empty set, which has taken no memory.
+    ///
+    /// ```
+    /// let set: VecSet<u32> = VecSet::new(alloc);
+    /// (set.len(), set.capacity()) // (0, 0)
+    /// ```
     #[tactic(auto, using(vecmap_base::proofs::DistinctLemmas::Absent::distinct_none))]
     pub fn new(alloc: Global) -> VecSet<T>
         ensures elements { result.elements ≡ [] }
@@ -21,6 +26,12 @@ impl<T: Eq> VecSet<T> {
 
     /// The empty set, with room for at least `capacity` elements. For 0 it takes no memory and succeeds. Refused, nothing
     /// is made.
+    ///
+    /// ```
+    /// let set: VecSet<u32> = VecSet::with_capacity(alloc, 4)?;
+    /// set.is_empty() // true
+    /// 4 <= set.capacity() // true
+    /// ```
     #[tactic(auto, using(vecmap_base::proofs::DistinctLemmas::Absent::distinct_none))]
     pub fn with_capacity(alloc: Global, capacity: usize) -> Result<VecSet<T>, AllocError>
         ensures elements { IfOk result (λ set. set.elements ≡ []) }
@@ -36,6 +47,13 @@ impl<T: Eq> VecSet<T> {
 
     /// A set of clones of the elements, in their order. A clone of an element must be equal to it, so that no two
     /// clones are equal. It makes room for them, clones each element once and compares nothing. Refused, nothing is made.
+    ///
+    /// ```
+    /// let set = vecset!(alloc; 1, 2);
+    /// let mut copy = set.clone()?;
+    /// copy.insert(3)?;
+    /// (set.len(), copy.len()) // (2, 3)
+    /// ```
     pub fn clone(&self) -> Result<VecSet<T>, AllocError>
     where
         T: Clone,
@@ -49,6 +67,11 @@ impl<T: Eq> VecSet<T> {
     }
 
     /// The elements, in their order, no two of them equal. It takes no memory and moves nothing.
+    ///
+    /// ```
+    /// let set = vecset!(alloc; 2, 1);
+    /// set.as_slice() // [2, 1]
+    /// ```
     pub fn as_slice(&self) -> &[T]
         ensures elements { result.now ≡ self.now.elements }
         ensures distinct { IsDistinct T.eq result.now }
@@ -57,6 +80,11 @@ impl<T: Eq> VecSet<T> {
     }
 
     /// The elements, in their order, in the vector that held them. It takes no memory and moves no element.
+    ///
+    /// ```
+    /// let set = vecset!(alloc; 2, 1);
+    /// set.into_vec().as_slice() // [2, 1]
+    /// ```
     pub fn into_vec(self) -> Vec<T>
         ensures elements { result.items ≡ self.elements }
         ensures distinct { IsDistinct T.eq result.items }

@@ -14,6 +14,12 @@ use std::ops::{BitAnd, BitOr, BitXor, Sub};
 /// Of 3, 2, 1 and 1, 2 it makes 2, 1, where `intersection` gives 1, 2. Each element of the left set takes one lookup in
 /// the right one. A clone of an element must be equal to it. The set has the allocator of the left one. Refused,
 /// nothing is made, and both sets are as before.
+///
+/// ```
+/// let set = vecset!(alloc; 2, 1);
+/// let other = vecset!(alloc; 1, 2, 3);
+/// (&set & &other)?.as_slice() // [2, 1]
+/// ```
 impl<'a, 'b, T: Eq + Clone> BitAnd<&'b VecSet<T>> for &'a VecSet<T> {
     type Output = Result<VecSet<T>, AllocError>;
 
@@ -35,6 +41,12 @@ impl<'a, 'b, T: Eq + Clone> BitAnd<&'b VecSet<T>> for &'a VecSet<T> {
 /// Of 1 and 2, 3 it makes 1, 2, 3, where `union` gives 2, 3, 1. Each element of the right set takes one lookup in the
 /// left one. A clone of an element must be equal to it. The set has the allocator of the left one. Refused, nothing is
 /// made, and both sets are as before.
+///
+/// ```
+/// let set = vecset!(alloc; 1, 2);
+/// let other = vecset!(alloc; 2, 3);
+/// (&set | &other)?.as_slice() // [1, 2, 3]
+/// ```
 impl<'a, 'b, T: Eq + Clone> BitOr<&'b VecSet<T>> for &'a VecSet<T> {
     type Output = Result<VecSet<T>, AllocError>;
 
@@ -56,6 +68,12 @@ impl<'a, 'b, T: Eq + Clone> BitOr<&'b VecSet<T>> for &'a VecSet<T> {
 /// Of 1, 2, 3 and 4, 2, 3 it makes 1, 4. Each element of either set takes one lookup in the other. A clone of an
 /// element must be equal to it. The set has the allocator of the left one. Refused, nothing is made, and both sets are
 /// as before.
+///
+/// ```
+/// let set = vecset!(alloc; 1, 2);
+/// let other = vecset!(alloc; 2, 3);
+/// (&set ^ &other)?.as_slice() // [1, 3]
+/// ```
 impl<'a, 'b, T: Eq + Clone> BitXor<&'b VecSet<T>> for &'a VecSet<T> {
     type Output = Result<VecSet<T>, AllocError>;
 
@@ -76,6 +94,12 @@ impl<'a, 'b, T: Eq + Clone> BitXor<&'b VecSet<T>> for &'a VecSet<T> {
 /// Of 1, 2, 3 and 4, 2, 3 it makes 1. Each element of the left set takes one lookup in the right one. A clone of an
 /// element must be equal to it. The set has the allocator of the left one. Refused, nothing is made, and both sets are
 /// as before.
+///
+/// ```
+/// let set = vecset!(alloc; 1, 2);
+/// let other = vecset!(alloc; 2, 3);
+/// (&set - &other)?.as_slice() // [1]
+/// ```
 impl<'a, 'b, T: Eq + Clone> Sub<&'b VecSet<T>> for &'a VecSet<T> {
     type Output = Result<VecSet<T>, AllocError>;
 

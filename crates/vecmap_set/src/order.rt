@@ -9,6 +9,12 @@ use std::cmp::Ordering;
 
 impl<T: Eq> VecSet<T> {
     /// Turns the order of the elements round, in half as many exchanges as there are elements.
+    ///
+    /// ```
+    /// let mut set = vecset!(alloc; 1, 2, 3);
+    /// set.reverse();
+    /// set.as_slice() // [3, 2, 1]
+    /// ```
     pub fn reverse(&mut self)
         ensures elements { self.new.elements ≡ reverse self.old.elements }
         ensures distinct { IsDistinct T.eq self.new.elements }
@@ -18,6 +24,12 @@ impl<T: Eq> VecSet<T> {
     }
 
     /// Exchanges the elements at two places, which must be there: `len` tells. It takes no comparison.
+    ///
+    /// ```
+    /// let mut set = vecset!(alloc; 1, 2, 3);
+    /// set.swap_indices(0, 2);
+    /// set.as_slice() // [3, 2, 1]
+    /// ```
     pub fn swap_indices(&mut self, a: usize, b: usize)
         requires a_within { a < length self.old.elements }
         requires b_within { b < length self.old.elements }
@@ -31,6 +43,12 @@ impl<T: Eq> VecSet<T> {
     /// Sorts the elements, in O(n log n) comparisons for n elements. Elements that tie stay in their order.
     ///
     /// It takes memory for more than 20 elements; refused, it leaves the set as it was.
+    ///
+    /// ```
+    /// let mut set = vecset!(alloc; 2, 1);
+    /// set.sort()?;
+    /// set.as_slice() // [1, 2]
+    /// ```
     pub fn sort(&mut self) -> Result<(), AllocError>
     where
         T: Ord,
@@ -49,6 +67,12 @@ impl<T: Eq> VecSet<T> {
     /// `f` stay in their order. Where `f` is no consistent order the elements may end in any order, and none is lost.
     ///
     /// It takes memory for more than 20 elements; refused, it leaves the set as it was.
+    ///
+    /// ```
+    /// let mut set = vecset!(alloc; 1, 2);
+    /// set.sort_by(|a, b| b.cmp(a))?;
+    /// set.as_slice() // [2, 1]
+    /// ```
     pub fn sort_by<F: Fn(&T, &T) -> Ordering>(&mut self, f: F) -> Result<(), AllocError>
         requires { F.IsAlwaysCallable f }
         ensures sorted { OnOk result (IsSortedByClosure F.FnMut f self.new.elements) }
@@ -66,6 +90,12 @@ impl<T: Eq> VecSet<T> {
     /// each element is asked for its sort key at most once. Elements whose sort keys tie stay in their order.
     ///
     /// It takes memory for more than one element; refused, it leaves the set as it was.
+    ///
+    /// ```
+    /// let mut set = vecset!(alloc; 2, 1);
+    /// set.sort_by_cached_key(|item| *item)?;
+    /// set.as_slice() // [1, 2]
+    /// ```
     pub fn sort_by_cached_key<K: Ord + Drop, F: Fn(&T) -> K>(
         &mut self,
         f: F,
@@ -84,6 +114,12 @@ impl<T: Eq> VecSet<T> {
 
     /// Sorts the elements, in O(n log n) comparisons for n elements. Elements that tie may change places. It takes no
     /// memory.
+    ///
+    /// ```
+    /// let mut set = vecset!(alloc; 2, 1);
+    /// set.sort_unstable();
+    /// set.as_slice() // [1, 2]
+    /// ```
     pub fn sort_unstable(&mut self)
     where
         T: Ord,
@@ -97,6 +133,12 @@ impl<T: Eq> VecSet<T> {
 
     /// Sorts the elements by `f`, which compares two, in O(n log n) calls of `f` for n elements. Elements that tie under
     /// `f` may change places. It takes no memory.
+    ///
+    /// ```
+    /// let mut set = vecset!(alloc; 1, 2);
+    /// set.sort_unstable_by(|a, b| b.cmp(a));
+    /// set.as_slice() // [2, 1]
+    /// ```
     pub fn sort_unstable_by<F: Fn(&T, &T) -> Ordering>(&mut self, f: F)
         requires { F.IsAlwaysCallable f }
         ensures sorted { IsSortedByClosure F.FnMut f self.new.elements }

@@ -20,6 +20,12 @@ use vecmap_base::{Equivalent, find_item_equivalent, move_range_last, retain_item
 
 impl<T: Eq> VecSet<T> {
     /// Drops all elements, one after another. The capacity stays.
+    ///
+    /// ```
+    /// let mut set = vecset!(alloc; 1, 2);
+    /// set.clear();
+    /// set.is_empty() // true
+    /// ```
     #[tactic(auto, using(vecmap_base::proofs::DistinctLemmas::Absent::distinct_none))]
     pub fn clear(&mut self)
     where
@@ -32,6 +38,12 @@ impl<T: Eq> VecSet<T> {
     }
 
     /// Keeps the first `len` elements, and drops those after them. Where there are no more than that, nothing changes.
+    ///
+    /// ```
+    /// let mut set = vecset!(alloc; 1, 2, 3);
+    /// set.truncate(1);
+    /// set.as_slice() // [1]
+    /// ```
     #[tactic(auto, using(vecmap_base::proofs::DistinctLemmas::Removals::distinct_take))]
     pub fn truncate(&mut self, len: usize)
     where
@@ -48,6 +60,13 @@ impl<T: Eq> VecSet<T> {
     ///
     /// It takes one move for each element that goes, and memory for as many. Refused, nothing has changed. Where `at`
     /// is the length it takes none and succeeds.
+    ///
+    /// ```
+    /// let mut set = vecset!(alloc; 1, 2, 3);
+    /// let part = set.split_off(1)?;
+    /// set.as_slice() // [1]
+    /// part.as_slice() // [2, 3]
+    /// ```
     pub fn split_off(&mut self, at: usize) -> Result<VecSet<T>, AllocError>
         requires within { at ≤ length self.old.elements }
         ensures elements { OnOk result (self.new.elements ≡ take at self.old.elements) }
@@ -72,6 +91,12 @@ impl<T: Eq> VecSet<T> {
     /// Once the answer is dropped, after any number of pulls, the whole range is gone, the others stand in their order,
     /// and the capacity is as before. It takes a number of moves that is linear in the number of elements from the
     /// start of the range on, and no memory.
+    ///
+    /// ```
+    /// let mut set = vecset!(alloc; 1, 2, 3);
+    /// set.drain(..2).next() // Some(1)
+    /// set.as_slice() // [3]
+    /// ```
     pub fn drain<R: RangeBounds<usize>>(&mut self, range: R) -> Drain<'_, T>
     where
         T: Drop,
@@ -96,6 +121,12 @@ impl<T: Eq> VecSet<T> {
     ///
     /// `f` is asked of each element once, in order, in the state that the calls before have left. For n elements there
     /// are n calls and at most n swaps; the elements that go are dropped at the end. It takes no memory.
+    ///
+    /// ```
+    /// let mut set = vecset!(alloc; 1, 2, 3);
+    /// set.retain(|item| *item != 2);
+    /// set.as_slice() // [1, 3]
+    /// ```
     pub fn retain<F: FnMut(&T) -> bool>(&mut self, f: F)
     where
         T: Drop,
@@ -109,6 +140,12 @@ impl<T: Eq> VecSet<T> {
     }
 
     /// Takes out the last element, with no comparison and no move of another.
+    ///
+    /// ```
+    /// let mut set = vecset!(alloc; 1, 2);
+    /// set.pop() // Some(2)
+    /// set.as_slice() // [1]
+    /// ```
     #[tactic(auto, using(vecmap_base::proofs::DistinctLemmas::Removals::distinct_take))]
     pub fn pop(&mut self) -> Option<T>
         ensures element { result ≡ slice_get self.old.elements (length self.old.elements - 1) }
@@ -123,6 +160,13 @@ impl<T: Eq> VecSet<T> {
     ///
     /// What follows moves up by one place, so beside the lookup, of at most as many comparisons as there are elements,
     /// this takes as many moves as there are elements after it. Where there is none nothing changes.
+    ///
+    /// ```
+    /// let mut set = vecset!(alloc; 1, 2, 3);
+    /// set.remove(&1) // true
+    /// set.remove(&1) // false
+    /// set.as_slice() // [2, 3]
+    /// ```
     #[tactic(auto, using(vecmap_base::proofs::PlaceLemmas::list_any_stored))]
     pub fn remove<Q: Equivalent<T>>(&mut self, item: Q) -> bool
     where
@@ -137,6 +181,12 @@ impl<T: Eq> VecSet<T> {
 
     /// Takes out the element at a place, which must be there: `len` tells. What follows moves up by one place, so this
     /// takes as many moves as there are elements after it.
+    ///
+    /// ```
+    /// let mut set = vecset!(alloc; 1, 2, 3);
+    /// set.remove_index(0) // 1
+    /// set.as_slice() // [2, 3]
+    /// ```
     #[tactic(auto, using(vecmap_base::proofs::DistinctLemmas::Removals::distinct_remove))]
     pub fn remove_index(&mut self, index: usize) -> T
         requires within { index < length self.old.elements }
@@ -152,6 +202,12 @@ impl<T: Eq> VecSet<T> {
     ///
     /// The last element takes its place, so beside the lookup, of at most as many comparisons as there are elements, this
     /// takes one move. Where there is none nothing changes.
+    ///
+    /// ```
+    /// let mut set = vecset!(alloc; 1, 2, 3);
+    /// set.swap_remove(&1) // true
+    /// set.as_slice() // [3, 2]
+    /// ```
     #[tactic(auto, using(vecmap_base::proofs::PlaceLemmas::list_any_stored))]
     pub fn swap_remove<Q: Equivalent<T>>(&mut self, item: Q) -> bool
     where
@@ -165,6 +221,12 @@ impl<T: Eq> VecSet<T> {
     }
 
     /// Takes out the element at a place, which must be there: `len` tells. The last element takes its place, in one move.
+    ///
+    /// ```
+    /// let mut set = vecset!(alloc; 1, 2, 3);
+    /// set.swap_remove_index(0) // 1
+    /// set.as_slice() // [3, 2]
+    /// ```
     #[tactic(auto, using(std::proofs::lemmas::Option::gets))]
     pub fn swap_remove_index(&mut self, index: usize) -> T
         requires within { index < length self.old.elements }
@@ -177,6 +239,12 @@ impl<T: Eq> VecSet<T> {
     }
 
     /// As `remove`, and answers the stored element.
+    ///
+    /// ```
+    /// let mut set = vecset!(alloc; 1, 2, 3);
+    /// set.take(&1) // Some(1)
+    /// set.as_slice() // [2, 3]
+    /// ```
     pub fn take<Q: Equivalent<T>>(&mut self, item: Q) -> Option<T>
         ensures element { result ≡ stored_first (Q.equivalent item) self.old.elements }
         ensures elements { self.new.elements ≡ without_first (Q.equivalent item) self.old.elements }
@@ -188,6 +256,12 @@ impl<T: Eq> VecSet<T> {
     }
 
     /// As `swap_remove`, and answers the stored element.
+    ///
+    /// ```
+    /// let mut set = vecset!(alloc; 1, 2, 3);
+    /// set.swap_take(&1) // Some(1)
+    /// set.as_slice() // [3, 2]
+    /// ```
     pub fn swap_take<Q: Equivalent<T>>(&mut self, item: Q) -> Option<T>
         ensures element { result ≡ stored_first (Q.equivalent item) self.old.elements }
         ensures elements { self.new.elements ≡ swap_without_first (Q.equivalent item) self.old.elements }
@@ -236,6 +310,11 @@ impl<T: Eq> VecSet<T> {
 
 impl VecSet<String> {
     /// As `remove`, by the bytes of a text. It takes no memory.
+    ///
+    /// ```
+    /// let mut set = vecset!(alloc; String::from_str(alloc, "a")?);
+    /// set.remove_str("a") // true
+    /// ```
     pub fn remove_str(&mut self, text: &str) -> bool
         ensures found { result ≡ list_any (has_text text.now) self.old.elements }
         ensures elements { self.new.elements ≡ without_first (has_text text.now) self.old.elements }

@@ -9,6 +9,11 @@ use std::collections::TryReserveError;
 
 impl<T: Eq> VecSet<T> {
     /// The number of elements.
+    ///
+    /// ```
+    /// let set = vecset!(alloc; 1, 2);
+    /// set.len() // 2
+    /// ```
     pub fn len(&self) -> usize
         ensures count { result ≡ length self.now.elements }
         ensures room { result ≤ self.now.capacity }
@@ -18,6 +23,11 @@ impl<T: Eq> VecSet<T> {
     }
 
     /// Whether there is no element.
+    ///
+    /// ```
+    /// let set = vecset!(alloc; 1, 2);
+    /// set.is_empty() // false
+    /// ```
     pub fn is_empty(&self) -> bool
         ensures { result ≡ (length self.now.elements == 0) }
     {
@@ -25,6 +35,11 @@ impl<T: Eq> VecSet<T> {
     }
 
     /// How many elements fit before the vector has to grow.
+    ///
+    /// ```
+    /// let set: VecSet<u32> = VecSet::with_capacity(alloc, 4)?;
+    /// 4 <= set.capacity() // true
+    /// ```
     pub fn capacity(&self) -> usize
         ensures { result ≡ self.now.capacity }
     {
@@ -35,6 +50,12 @@ impl<T: Eq> VecSet<T> {
     ///
     /// Where the room is there already it succeeds and nothing changes. Where memory is taken, all elements may move.
     /// Refused, nothing has changed.
+    ///
+    /// ```
+    /// let mut set = vecset!(alloc; 1, 2);
+    /// set.reserve(10)?;
+    /// 12 <= set.capacity() // true
+    /// ```
     pub fn reserve(&mut self, additional: usize) -> Result<(), AllocError>
         ensures elements { self.new.elements ≡ self.old.elements }
         ensures distinct { IsDistinct T.eq self.new.elements }
@@ -55,6 +76,12 @@ impl<T: Eq> VecSet<T> {
     ///
     /// Where the room is there already it succeeds and nothing changes. Where memory is taken, all elements may move.
     /// Refused, nothing has changed.
+    ///
+    /// ```
+    /// let mut set = vecset!(alloc; 1, 2);
+    /// set.reserve_exact(10)?;
+    /// 12 <= set.capacity() // true
+    /// ```
     pub fn reserve_exact(&mut self, additional: usize) -> Result<(), AllocError>
         ensures elements { self.new.elements ≡ self.old.elements }
         ensures distinct { IsDistinct T.eq self.new.elements }
@@ -72,6 +99,12 @@ impl<T: Eq> VecSet<T> {
     }
 
     /// As `reserve`, with the error that Rust gives this call. Refused, nothing has changed.
+    ///
+    /// ```
+    /// let mut set = vecset!(alloc; 1, 2);
+    /// set.try_reserve(10).is_ok() // true
+    /// set.try_reserve(usize::MAX).is_ok() // false
+    /// ```
     pub fn try_reserve(&mut self, additional: usize) -> Result<(), TryReserveError>
         ensures elements { self.new.elements ≡ self.old.elements }
         ensures distinct { IsDistinct T.eq self.new.elements }
@@ -86,6 +119,12 @@ impl<T: Eq> VecSet<T> {
     }
 
     /// As `reserve_exact`, with the error that Rust gives this call. Refused, nothing has changed.
+    ///
+    /// ```
+    /// let mut set = vecset!(alloc; 1, 2);
+    /// set.try_reserve_exact(10).is_ok() // true
+    /// set.try_reserve_exact(usize::MAX).is_ok() // false
+    /// ```
     pub fn try_reserve_exact(&mut self, additional: usize) -> Result<(), TryReserveError>
         ensures elements { self.new.elements ≡ self.old.elements }
         ensures distinct { IsDistinct T.eq self.new.elements }
@@ -101,6 +140,14 @@ impl<T: Eq> VecSet<T> {
 
     /// Gives back as much memory as it can, for which all elements may move. It is never refused: without the memory
     /// for a smaller block, the capacity stays.
+    ///
+    /// ```
+    /// let mut set: VecSet<u32> = VecSet::with_capacity(alloc, 10)?;
+    /// set.insert(1)?;
+    /// set.shrink_to_fit();
+    /// set.as_slice() // [1]
+    /// 1 <= set.capacity() // true
+    /// ```
     pub fn shrink_to_fit(&mut self)
         ensures elements { self.new.elements ≡ self.old.elements }
         ensures distinct { IsDistinct T.eq self.new.elements }
@@ -113,6 +160,13 @@ impl<T: Eq> VecSet<T> {
 
     /// Gives back memory down to a capacity of `min_capacity` or the number of elements, whichever is greater, for which
     /// all elements may move. It is never refused: without the memory for a smaller block, the capacity stays.
+    ///
+    /// ```
+    /// let mut set: VecSet<u32> = VecSet::with_capacity(alloc, 10)?;
+    /// set.insert(1)?;
+    /// set.shrink_to(4);
+    /// 4 <= set.capacity() // true
+    /// ```
     pub fn shrink_to(&mut self, min_capacity: usize)
         ensures elements { self.new.elements ≡ self.old.elements }
         ensures distinct { IsDistinct T.eq self.new.elements }

@@ -15,6 +15,12 @@ impl<T: Eq> VecSet<T> {
     ///
     /// `Ok` is the place of such an element, any one of them; where there is none, `Err` is the number of lesser ones, so
     /// the place where `item` would go.
+    ///
+    /// ```
+    /// let set = vecset!(alloc; 1, 2);
+    /// set.binary_search(&2) // Ok(1)
+    /// set.binary_search(&3) // Err(2)
+    /// ```
     pub fn binary_search(&self, item: &T) -> Result<usize, usize>
     where
         T: Ord,
@@ -29,6 +35,11 @@ impl<T: Eq> VecSet<T> {
     ///
     /// `Ok` is the place of an equal element, any one of them; where there is none, `Err` is the number of less ones.
     /// Where the elements are in another order, `Ok` is still an equal place, and `Err` tells nothing.
+    ///
+    /// ```
+    /// let set = vecset!(alloc; 1, 2);
+    /// set.binary_search_by(|item| item.cmp(&2)) // Ok(1)
+    /// ```
     pub fn binary_search_by<'a, F: Fn(&'a T) -> Ordering>(&'a self, f: F) -> Result<usize, usize>
         requires { F.IsAlwaysCallable f }
         ensures within { IsSearchInRange result (length self.now.elements) }
@@ -50,6 +61,11 @@ impl<T: Eq> VecSet<T> {
 
     /// Searches elements that ascend by the key that `f` makes of one, for `key`, as `binary_search_by`. It takes
     /// O(log n) calls of `f` and comparisons for n elements.
+    ///
+    /// ```
+    /// let set = vecset!(alloc; 1, 2);
+    /// set.binary_search_by_key(&2, |item| *item) // Ok(1)
+    /// ```
     pub fn binary_search_by_key<'a, B: Ord + Drop, F: Fn(&'a T) -> B>(
         &'a self,
         key: &B,
@@ -65,6 +81,11 @@ impl<T: Eq> VecSet<T> {
 
     /// The number of elements that pass `pred`, where those that pass come first, in O(log n) calls of `pred` for n
     /// elements.
+    ///
+    /// ```
+    /// let set = vecset!(alloc; 1, 2);
+    /// set.partition_point(|item| *item < 2) // 1
+    /// ```
     pub fn partition_point<P: Fn(&T) -> bool>(&self, pred: P) -> usize
         requires { P.IsAlwaysCallable pred }
         ensures within { result ≤ length self.now.elements }

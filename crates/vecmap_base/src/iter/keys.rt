@@ -16,6 +16,13 @@ use std::marker::Model;
 use std::{fmt, slice};
 
 /// The keys of a map, each as `&K`, in their order. `VecMap::keys` makes it.
+///
+/// ```
+/// let map = vecmap!(alloc; 'a' => 1, 'b' => 2);
+/// let mut keys = map.keys();
+/// keys.next() // Some(&'a')
+/// keys.len() // 1
+/// ```
 #[derive(Drop)]
 pub struct Keys<'a, K, V> {
     pairs: slice::Iter<'a, (K, V)>,
@@ -101,6 +108,13 @@ impl<'a, K: fmt::Debug, V> fmt::Debug for Keys<'a, K, V> {
 }
 
 /// The keys of a map, each as `K`, in their order. `VecMap::into_keys` makes it. Dropped, it drops what is left.
+///
+/// ```
+/// let map = vecmap!(alloc; 'a' => 1, 'b' => 2);
+/// let mut keys = map.into_keys();
+/// keys.next_back() // Some('b')
+/// keys.len() // 1
+/// ```
 #[derive(Drop)]
 pub struct IntoKeys<K, V> {
     pairs: VecDeque<(K, V)>,

@@ -15,6 +15,13 @@ use std::marker::Model;
 use std::{fmt, slice};
 
 /// The pairs of a map, each as `(&K, &V)`, in their order. `VecMap::iter` and `&map` make it.
+///
+/// ```
+/// let map = vecmap!(alloc; 'a' => 1, 'b' => 2);
+/// let mut pairs = map.iter();
+/// pairs.next() // Some((&'a', &1))
+/// pairs.len() // 1
+/// ```
 #[derive(Drop)]
 pub struct Iter<'a, K, V> {
     pairs: slice::Iter<'a, (K, V)>,
@@ -101,6 +108,13 @@ impl<'a, K: fmt::Debug, V: fmt::Debug> fmt::Debug for Iter<'a, K, V> {
 }
 
 /// The pairs of a map, each as `(K, V)`, in their order. The map by value makes it. Dropped, it drops what is left.
+///
+/// ```
+/// let map = vecmap!(alloc; 'a' => 1, 'b' => 2);
+/// let mut pairs = map.into_iter();
+/// pairs.next_back() // Some(('b', 2))
+/// pairs.len() // 1
+/// ```
 #[derive(Drop)]
 pub struct IntoIter<K, V> {
     pairs: VecDeque<(K, V)>,

@@ -16,6 +16,13 @@ use std::marker::Model;
 use std::{fmt, slice};
 
 /// The values of a map, each as `&V`, in the order of their keys. `VecMap::values` makes it.
+///
+/// ```
+/// let map = vecmap!(alloc; 'a' => 1, 'b' => 2);
+/// let mut values = map.values();
+/// values.next() // Some(&1)
+/// values.len() // 1
+/// ```
 #[derive(Drop)]
 pub struct Values<'a, K, V> {
     pairs: slice::Iter<'a, (K, V)>,
@@ -102,6 +109,13 @@ impl<'a, K, V: fmt::Debug> fmt::Debug for Values<'a, K, V> {
 
 /// The values of a map, each as `V`, in the order of their keys. `VecMap::into_values` makes it. Dropped, it drops what is
 /// left.
+///
+/// ```
+/// let map = vecmap!(alloc; 'a' => 1, 'b' => 2);
+/// let mut values = map.into_values();
+/// values.next_back() // Some(2)
+/// values.len() // 1
+/// ```
 #[derive(Drop)]
 pub struct IntoValues<K, V> {
     pairs: VecDeque<(K, V)>,

@@ -21,6 +21,12 @@ impl<'a, K, V> OccupiedEntry<'a, K, V> {
     ghost use Rattle.vecmap_map.specs.EntryLends.{entry_passes, occupied_lends, occupied_lends_on};
 
     /// The key that was handed in. The stored one is equal, and may differ.
+    ///
+    /// ```
+    /// let mut map = vecmap!(alloc; 'a' => 1, 'b' => 2);
+    /// let entry = map.entry('a').insert_entry(3)?;
+    /// *entry.key() // 'a'
+    /// ```
     pub fn key(&self) -> &K
         ensures { result.now ≡ entry_key (Occupied self.now) }
     {
@@ -28,6 +34,12 @@ impl<'a, K, V> OccupiedEntry<'a, K, V> {
     }
 
     /// The place of the key.
+    ///
+    /// ```
+    /// let mut map = vecmap!(alloc; 'a' => 1, 'b' => 2);
+    /// let entry = map.entry('b').insert_entry(3)?;
+    /// entry.index() // 1
+    /// ```
     pub fn index(&self) -> usize
         ensures { result ≡ entry_index (Occupied self.now) }
     {
@@ -35,6 +47,12 @@ impl<'a, K, V> OccupiedEntry<'a, K, V> {
     }
 
     /// The key that was handed in. The map stays as it is.
+    ///
+    /// ```
+    /// let mut map = vecmap!(alloc; 'a' => 1, 'b' => 2);
+    /// let entry = map.entry('b').insert_entry(3)?;
+    /// entry.into_key() // 'b'
+    /// ```
     pub fn into_key(self) -> K
         ensures key { result ≡ entry_key (Occupied self.entry) }
         ensures unchanged { self.exit.0.now ≡ entry_map (Occupied self.entry) }
@@ -43,6 +61,12 @@ impl<'a, K, V> OccupiedEntry<'a, K, V> {
     }
 
     /// The value of the key.
+    ///
+    /// ```
+    /// let mut map = vecmap!(alloc; 'a' => 1, 'b' => 2);
+    /// let entry = map.entry('b').insert_entry(3)?;
+    /// *entry.get() // 3
+    /// ```
     pub fn get(&self) -> &V
         ensures { entry_value (Occupied self.now) ≡ Some result.now }
     {
@@ -53,6 +77,13 @@ impl<'a, K, V> OccupiedEntry<'a, K, V> {
     ///
     /// Whatever value is written, the entry is then the one with that value, and a later write or removal through it
     /// leaves what it would have left without.
+    ///
+    /// ```
+    /// let mut map = vecmap!(alloc; 'a' => 1, 'b' => 2);
+    /// let mut entry = map.entry('b').insert_entry(3)?;
+    /// *entry.get_mut() = 4;
+    /// *entry.get() // 4
+    /// ```
     pub fn get_mut(&mut self) -> &mut V
         ensures* writes_back { sem 𝓛 (occupied_lends K.row V.row self.entry result) }
         ensures value { entry_value (Occupied self.old) ≡ Some result.now }
@@ -63,6 +94,13 @@ impl<'a, K, V> OccupiedEntry<'a, K, V> {
     }
 
     /// The value of the key, to write for as long as the map is lent.
+    ///
+    /// ```
+    /// let mut map = vecmap!(alloc; 'a' => 1, 'b' => 2);
+    /// let entry = map.entry('b').insert_entry(3)?;
+    /// *entry.into_mut() = 4;
+    /// map.as_slice() // [('a', 1), ('b', 4)]
+    /// ```
     pub fn into_mut(self) -> &'a mut V
     where
         K: Drop,
@@ -74,6 +112,13 @@ impl<'a, K, V> OccupiedEntry<'a, K, V> {
     }
 
     /// Replaces the value, and answers the old one. The stored key stays, and so does the handed one.
+    ///
+    /// ```
+    /// let mut map = vecmap!(alloc; 'a' => 1, 'b' => 2);
+    /// let mut entry = map.entry('b').insert_entry(3)?;
+    /// entry.insert(4) // 3
+    /// *entry.get() // 4
+    /// ```
     pub fn insert(&mut self, value: V) -> V
         ensures old { entry_value (Occupied self.old) ≡ Some result }
         ensures after { self.new ≡ occupied_with self.old value }
@@ -85,6 +130,13 @@ impl<'a, K, V> OccupiedEntry<'a, K, V> {
     /// Takes out the pair of the key, and answers it with the stored key.
     ///
     /// What follows moves up by one place, so this takes as many moves as there are pairs after it.
+    ///
+    /// ```
+    /// let mut map = vecmap!(alloc; 'a' => 1, 'b' => 2, 'c' => 3);
+    /// let entry = map.entry('a').insert_entry(4)?;
+    /// entry.remove_entry() // ('a', 4)
+    /// map.as_slice() // [('b', 2), ('c', 3)]
+    /// ```
     pub fn remove_entry(self) -> (K, V)
     where
         K: Drop,
@@ -98,6 +150,13 @@ impl<'a, K, V> OccupiedEntry<'a, K, V> {
     }
 
     /// As `remove_entry`, but the last pair takes its place, which is one move.
+    ///
+    /// ```
+    /// let mut map = vecmap!(alloc; 'a' => 1, 'b' => 2, 'c' => 3);
+    /// let entry = map.entry('a').insert_entry(4)?;
+    /// entry.swap_remove_entry() // ('a', 4)
+    /// map.as_slice() // [('c', 3), ('b', 2)]
+    /// ```
     pub fn swap_remove_entry(self) -> (K, V)
     where
         K: Drop,
@@ -111,6 +170,12 @@ impl<'a, K, V> OccupiedEntry<'a, K, V> {
     }
 
     /// As `remove_entry`, and answers the value alone.
+    ///
+    /// ```
+    /// let mut map = vecmap!(alloc; 'a' => 1, 'b' => 2, 'c' => 3);
+    /// let entry = map.entry('a').insert_entry(4)?;
+    /// entry.remove() // 4
+    /// ```
     pub fn remove(self) -> V
     where
         K: Drop,
@@ -123,6 +188,13 @@ impl<'a, K, V> OccupiedEntry<'a, K, V> {
     }
 
     /// As `swap_remove_entry`, and answers the value alone.
+    ///
+    /// ```
+    /// let mut map = vecmap!(alloc; 'a' => 1, 'b' => 2, 'c' => 3);
+    /// let entry = map.entry('a').insert_entry(4)?;
+    /// entry.swap_remove() // 4
+    /// map.as_slice() // [('c', 3), ('b', 2)]
+    /// ```
     pub fn swap_remove(self) -> V
     where
         K: Drop,

@@ -20,6 +20,11 @@ impl<'a, K, V> VacantEntry<'a, K, V> {
     ghost use Rattle.vecmap_map.specs.EntryLends.{entry_lends, entry_passes};
 
     /// The key that was handed in.
+    ///
+    /// ```
+    /// let mut map = vecmap!(alloc; 'a' => 1, 'b' => 2);
+    /// matches!(map.entry('c'), Entry::Vacant(entry) if *entry.key() == 'c') // true
+    /// ```
     pub fn key(&self) -> &K
         ensures { result.now ≡ entry_key (Vacant self.now) }
     {
@@ -27,6 +32,11 @@ impl<'a, K, V> VacantEntry<'a, K, V> {
     }
 
     /// The place that the key would take: the number of pairs.
+    ///
+    /// ```
+    /// let mut map = vecmap!(alloc; 'a' => 1, 'b' => 2);
+    /// matches!(map.entry('c'), Entry::Vacant(entry) if entry.index() == 2) // true
+    /// ```
     pub fn index(&self) -> usize
         ensures { result ≡ entry_index (Vacant self.now) }
     {
@@ -34,6 +44,15 @@ impl<'a, K, V> VacantEntry<'a, K, V> {
     }
 
     /// The key that was handed in. The map stays as it is.
+    ///
+    /// ```
+    /// let mut map = vecmap!(alloc; 'a' => 1, 'b' => 2);
+    /// let key = match map.entry('c') {
+    ///     Entry::Vacant(entry) => entry.into_key(),
+    ///     Entry::Occupied(entry) => entry.into_key(),
+    /// };
+    /// key // 'c'
+    /// ```
     pub fn into_key(self) -> K
         ensures key { result ≡ entry_key (Vacant self.entry) }
         ensures unchanged { self.exit.0.now ≡ entry_map (Vacant self.entry) }
@@ -44,6 +63,14 @@ impl<'a, K, V> VacantEntry<'a, K, V> {
     /// Puts the handed key last with `value`, and lends the value.
     ///
     /// Memory is needed where there is no room. Refused, the pair comes back and nothing has changed.
+    ///
+    /// ```
+    /// let mut map = vecmap!(alloc; 'a' => 1, 'b' => 2);
+    /// if let Entry::Vacant(entry) = map.entry('c') {
+    ///     *entry.insert(3)? = 4;
+    /// }
+    /// map.as_slice() // [('a', 1), ('b', 2), ('c', 4)]
+    /// ```
     pub fn insert(self, value: V) -> Result<&'a mut V, Refused<(K, V)>>
         ensures* writes_back { sem 𝓛 (entry_lends K.row V.row (Vacant self.entry) result) }
         ensures value { IfOk result (λ x. x.now ≡ value) }
@@ -63,6 +90,14 @@ impl<'a, K, V> VacantEntry<'a, K, V> {
     ///
     /// The clone is made first. Refused memory, for the clone or for the pair, the handed key and `value` come back
     /// and nothing has changed.
+    ///
+    /// ```
+    /// let mut map = vecmap!(alloc; 'a' => 1, 'b' => 2);
+    /// if let Entry::Vacant(entry) = map.entry('c') {
+    ///     entry.insert_entry(3)?.insert(4);
+    /// }
+    /// map.as_slice() // [('a', 1), ('b', 2), ('c', 4)]
+    /// ```
     pub fn insert_entry(self, value: V) -> Result<OccupiedEntry<'a, K, V>, Refused<(K, V)>>
     where
         K: Clone,

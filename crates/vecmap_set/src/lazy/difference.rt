@@ -13,6 +13,12 @@ use std::{fmt, slice};
 ///
 /// Each pull looks up, in the other set, the elements of the first one up to the next that is not there, and makes no
 /// other comparison. A contract sees the elements that are not yet walked, and those of the other set.
+///
+/// ```
+/// let set = vecset!(alloc; 1, 2, 3);
+/// let other = vecset!(alloc; 2, 3);
+/// set.difference(&other).size_hint() // (0, Some(3))
+/// ```
 #[derive(Drop)]
 pub struct Difference<'a, T: Eq> {
     items: slice::Iter<'a, T>,

@@ -15,6 +15,13 @@ use std::{fmt, slice};
 ///
 /// Each pull looks up, in the other set, the elements of the shorter one up to the next that is there, and makes no
 /// other comparison. A contract sees the elements that are not yet walked, and those of the other set.
+///
+/// ```
+/// let set = vecset!(alloc; 1, 2, 3);
+/// let other = vecset!(alloc; 2, 3);
+/// set.intersection(&other).next() // Some(&2)
+/// set.intersection(&other).size_hint() // (0, Some(2))
+/// ```
 #[derive(Drop)]
 pub struct Intersection<'a, T: Eq> {
     items: slice::Iter<'a, T>,

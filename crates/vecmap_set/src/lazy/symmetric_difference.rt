@@ -14,6 +14,13 @@ use std::marker::Model;
 ///
 /// Each pull looks up, in the other set of each, elements up to the next that is not there, and makes no other
 /// comparison. A contract sees what both parts have left.
+///
+/// ```
+/// let set = vecset!(alloc; 1, 2, 3);
+/// let other = vecset!(alloc; 2, 3);
+/// let items = set.symmetric_difference(&other);
+/// items.clone().next_back() // Some(&1)
+/// ```
 #[derive(Drop)]
 pub struct SymmetricDifference<'a, T: Eq> {
     first: Difference<'a, T>,

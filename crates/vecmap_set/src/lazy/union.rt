@@ -14,6 +14,12 @@ use std::{fmt, slice};
 ///
 /// The elements of the longer set are given with no comparison. Each further pull looks up, in the longer set, elements
 /// of the other up to the next that is not there. A contract sees what both parts have left.
+///
+/// ```
+/// let set = vecset!(alloc; 1, 2);
+/// let other = vecset!(alloc; 2, 3);
+/// set.union(&other).size_hint() // (2, Some(4))
+/// ```
 #[derive(Drop)]
 pub struct Union<'a, T: Eq> {
     first: slice::Iter<'a, T>,

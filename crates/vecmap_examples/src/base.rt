@@ -1,0 +1,19 @@
+//! Examples at what walks lists, and at the macros.
+mod distinct;
+mod drain;
+mod equality;
+mod equivalent;
+mod items;
+mod iter_mut;
+mod keys;
+mod lookup;
+mod macros;
+mod moving;
+mod pairs;
+mod refused;
+mod relations;
+mod repeats;
+mod retain;
+mod search;
+mod steps;
+mod values;

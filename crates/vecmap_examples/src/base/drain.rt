@@ -1,0 +1,27 @@
+//! Examples of `vecmap_base/src/drain.rt`.
+use std::alloc::Global;
+use std::test::Fail;
+use vecmap_base::{move_range_last, reverse_from};
+
+fn shows_move_range_last_and_reverse_from(alloc: Global) -> Result<bool, Fail> {
+    let mut items = vec![in alloc; 1, 2, 3, 4]?;
+    if !(items.len() == 4
+        && move_range_last(&mut items, 0, 2) == 2
+        && items.as_slice() == [3, 4, 2, 1].as_slice())
+    {
+        return Ok(false);
+    }
+    let mut items = vec![in alloc; 1, 2, 3]?;
+    if !(1 <= items.len()) {
+        return Ok(false);
+    }
+    reverse_from(&mut items, 1);
+    Ok(items.as_slice() == [1, 3, 2].as_slice())
+}
+
+#[test]
+fn examples_hold(rt: HostRuntime) -> Result<(), Fail> {
+    let alloc = rt.alloc();
+    assert!(rt; shows_move_range_last_and_reverse_from(alloc)?);
+    Ok(())
+}

@@ -1,0 +1,26 @@
+//! Examples of `vecmap_base/src/equivalent.rt`.
+use std::alloc::Global;
+use std::test::Fail;
+use vecmap::Equivalent;
+use vecmap_base::{find_equivalent, find_item_equivalent, is_in_equivalent};
+
+fn shows_equivalent_to_find_item_equivalent(alloc: Global) -> Result<bool, Fail> {
+    let key = String::from_str(alloc, "a")?;
+    Ok(
+        "a".equivalent(&key)
+            && find_equivalent(&[("a", 1), ("b", 2)], "b") == Some(1)
+            && find_item_equivalent(&["a", "b"], "b") == Some(1),
+    )
+}
+
+fn shows_is_in_equivalent(alloc: Global) -> Result<bool, Fail> {
+    Ok(!is_in_equivalent(&["a", "b"], "c"))
+}
+
+#[test]
+fn examples_hold(rt: HostRuntime) -> Result<(), Fail> {
+    let alloc = rt.alloc();
+    assert!(rt; shows_equivalent_to_find_item_equivalent(alloc)?);
+    assert!(rt; shows_is_in_equivalent(alloc)?);
+    Ok(())
+}

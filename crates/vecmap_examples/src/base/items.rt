@@ -1,0 +1,24 @@
+//! Examples of `vecmap_base/src/items.rt`.
+use crate::made::two_numbers;
+use std::alloc::Global;
+use std::test::Fail;
+
+fn shows_iter(alloc: Global) -> Result<bool, Fail> {
+    let set = two_numbers(alloc)?;
+    let mut items = set.iter();
+    Ok(items.next() == Some(&1) && items.len() == 1)
+}
+
+fn shows_into_iter(alloc: Global) -> Result<bool, Fail> {
+    let set = two_numbers(alloc)?;
+    let mut items = set.into_iter();
+    Ok(items.next_back() == Some(2) && items.len() == 1)
+}
+
+#[test]
+fn examples_hold(rt: HostRuntime) -> Result<(), Fail> {
+    let alloc = rt.alloc();
+    assert!(rt; shows_iter(alloc)?);
+    assert!(rt; shows_into_iter(alloc)?);
+    Ok(())
+}

@@ -1,0 +1,24 @@
+//! Examples of `vecmap_base/src/iter/values.rt`.
+use crate::made::two_letters;
+use std::alloc::Global;
+use std::test::Fail;
+
+fn shows_values(alloc: Global) -> Result<bool, Fail> {
+    let map = two_letters(alloc)?;
+    let mut values = map.values();
+    Ok(values.next() == Some(&1) && values.len() == 1)
+}
+
+fn shows_into_values(alloc: Global) -> Result<bool, Fail> {
+    let map = two_letters(alloc)?;
+    let mut values = map.into_values();
+    Ok(values.next_back() == Some(2) && values.len() == 1)
+}
+
+#[test]
+fn examples_hold(rt: HostRuntime) -> Result<(), Fail> {
+    let alloc = rt.alloc();
+    assert!(rt; shows_values(alloc)?);
+    assert!(rt; shows_into_values(alloc)?);
+    Ok(())
+}

@@ -1,0 +1,91 @@
+//! Calls of the page's functions, and what comes of them.
+use super::{count, intern, keep, keys, lookups, pair, program, refused, set};
+use keep::Bill;
+use keys::{Place, Ticket};
+use std::alloc::{AllocError, Global};
+use std::string::String;
+use std::test::Fail;
+use vecmap::{VecMap, VecSet, vecmap};
+
+#[test]
+fn the_program_prints_its_ports(rt: HostRuntime) -> Result<(), Fail> {
+    program::main(rt)?;
+    Ok(())
+}
+
+#[test]
+fn keys_are_found_by_their_own_equality(rt: HostRuntime) -> Result<(), Fail> {
+    let alloc = rt.alloc();
+    let board = vecmap!(alloc; Place { row: 1, column: 2 } => 'x');
+    assert!(rt; keys::is_free(&board, 2, 1) && !keys::is_free(&board, 1, 2));
+    let mut tickets = VecSet::new(alloc);
+    for note in ["first", "second"] {
+        keys::file(
+            &mut tickets,
+            Ticket {
+                number: 7,
+                note: String::from_str(alloc, note)?,
+            },
+        )?;
+    }
+    assert!(rt; tickets.len() == 1 && tickets.iter().all(|ticket| ticket.note.as_str() == "first"));
+    Ok(())
+}
+
+#[test]
+fn lines_and_ports_are_put(rt: HostRuntime) -> Result<(), Fail> {
+    let alloc = rt.alloc();
+    let mut lines = VecMap::new(alloc);
+    assert!(rt; refused::put_line(&mut lines, 3, String::from_str(alloc, "three")?).is_none());
+    assert!(rt; lines.get(&3).is_some_and(|line| line.as_str() == "three"));
+    let mut ports = VecMap::new(alloc);
+    set::set_port(&mut ports, 1, 80)?;
+    assert!(rt; ports.as_slice() == [(1, 80)].as_slice());
+    Ok(())
+}
+
+#[test]
+fn guests_leave_and_names_keep_their_numbers(rt: HostRuntime) -> Result<(), Fail> {
+    let alloc = rt.alloc();
+    let mut bill = Bill::new(alloc);
+    bill.set(4, 20)?;
+    bill.leave(4);
+    let mut names = VecSet::new(alloc);
+    let numbers = (
+        intern::intern(&mut names, String::from_str(alloc, "a")?)?,
+        intern::intern(&mut names, String::from_str(alloc, "b")?)?,
+        intern::intern(&mut names, String::from_str(alloc, "a")?)?,
+    );
+    assert_eq!(rt; numbers, (0, 1, 0));
+    Ok(())
+}
+
+// Counts a word, where it has come fewer than nine times.
+fn count_text(
+    alloc: Global,
+    counts: &mut VecMap<String, u64>,
+    text: &str,
+) -> Result<(), AllocError> {
+    let word = String::from_str(alloc, text)?;
+    if counts.get(&word).copied().unwrap_or(0) < 9 {
+        count::count(counts, word)?;
+    }
+    Ok(())
+}
+
+#[test]
+fn words_are_counted_and_pairs_put(rt: HostRuntime) -> Result<(), Fail> {
+    let alloc = rt.alloc();
+    let mut counts = VecMap::new(alloc);
+    for text in ["a", "b", "a"] {
+        count_text(alloc, &mut counts, text)?;
+    }
+    assert!(rt; counts.get("a") == Some(&2) && counts.get("b") == Some(&1));
+    let mut numbers = VecMap::new(alloc);
+    lookups::remember(&mut numbers, 5, 1)?;
+    assert!(rt; numbers.get(&5) == Some(&1));
+    let mut map = VecMap::new(alloc);
+    pair::put_both(&mut map, (1, 2), (3, 4))?;
+    assert!(rt; map.as_slice() == [(1, 2), (3, 4)].as_slice());
+    Ok(())
+}

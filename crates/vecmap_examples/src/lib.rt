@@ -1,0 +1,13 @@
+//! The examples of the pages for users, and of the comments at public calls: each is compiled, and its result compared.
+#![tactic(auto)]
+
+#[cfg(test)]
+mod base;
+pub mod calling;
+#[cfg(test)]
+mod made;
+#[cfg(test)]
+mod map;
+pub mod porting;
+#[cfg(test)]
+mod set;

@@ -1,0 +1,20 @@
+//! Examples at the calls of maps.
+mod bulk;
+mod conversion;
+mod drain;
+mod entry;
+mod equality;
+mod formatting;
+mod indexing;
+mod insertion;
+mod iteration;
+mod lending;
+mod lookup;
+mod make;
+mod mutable_keys;
+mod occupied;
+mod order;
+mod removal;
+mod room;
+mod search;
+mod vacant;

@@ -1,0 +1,64 @@
+//! Examples of `vecmap_map/src/indexing.rt`.
+use crate::made::{one_text, two_letters, two_words};
+use std::alloc::Global;
+use std::test::Fail;
+
+fn shows_index_by_place(alloc: Global) -> Result<bool, Fail> {
+    let map = two_letters(alloc)?;
+    Ok(1 < map.len() && map[1] == 2)
+}
+
+fn shows_write_by_place(alloc: Global) -> Result<bool, Fail> {
+    let mut map = two_letters(alloc)?;
+    if !(1 < map.len()) {
+        return Ok(false);
+    }
+    map[1] = 3;
+    Ok(map.as_slice() == [('a', 1), ('b', 3)].as_slice())
+}
+
+fn shows_index_by_key(alloc: Global) -> Result<bool, Fail> {
+    let map = two_letters(alloc)?;
+    Ok(map.contains_key(&'b') && map[&'b'] == 2)
+}
+
+fn shows_write_by_key(alloc: Global) -> Result<bool, Fail> {
+    let mut map = two_letters(alloc)?;
+    if !(map.contains_key(&'b')) {
+        return Ok(false);
+    }
+    map[&'b'] = 3;
+    Ok(map.as_slice() == [('a', 1), ('b', 3)].as_slice())
+}
+
+fn shows_index_by_text(alloc: Global) -> Result<bool, Fail> {
+    let map = one_text(alloc)?;
+    Ok(map.contains_key("a") && map["a"] == 1)
+}
+
+fn shows_write_by_text(alloc: Global) -> Result<bool, Fail> {
+    let mut map = one_text(alloc)?;
+    if !(map.contains_key("a")) {
+        return Ok(false);
+    }
+    map["a"] = 3;
+    Ok(map.get("a") == Some(&3))
+}
+
+fn shows_index_by_borrowed_text(alloc: Global) -> Result<bool, Fail> {
+    let map = two_words(alloc)?;
+    Ok(map.contains_key("b") && map["b"] == 2)
+}
+
+#[test]
+fn examples_hold(rt: HostRuntime) -> Result<(), Fail> {
+    let alloc = rt.alloc();
+    assert!(rt; shows_index_by_place(alloc)?);
+    assert!(rt; shows_write_by_place(alloc)?);
+    assert!(rt; shows_index_by_key(alloc)?);
+    assert!(rt; shows_write_by_key(alloc)?);
+    assert!(rt; shows_index_by_text(alloc)?);
+    assert!(rt; shows_write_by_text(alloc)?);
+    assert!(rt; shows_index_by_borrowed_text(alloc)?);
+    Ok(())
+}

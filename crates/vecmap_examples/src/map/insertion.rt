@@ -1,0 +1,40 @@
+//! Examples of `vecmap_map/src/insertion.rt`.
+use crate::made::two_letters;
+use std::alloc::Global;
+use std::test::Fail;
+
+fn shows_insert_to_insert_key(alloc: Global) -> Result<bool, Fail> {
+    let mut map = two_letters(alloc)?;
+    if !(map.insert('a', 3)? == Some(1)
+        && map.insert('c', 4)?.is_none()
+        && map.as_slice() == [('a', 3), ('b', 2), ('c', 4)].as_slice())
+    {
+        return Ok(false);
+    }
+    let mut map = two_letters(alloc)?;
+    if !(map.insert_full('b', 3)? == (1, Some(2)) && map.insert_full('c', 4)? == (2, None)) {
+        return Ok(false);
+    }
+    let mut map = two_letters(alloc)?;
+    Ok(
+        map.insert_key('a', 3)? == Some(('a', 1))
+            && map.as_slice() == [('a', 3), ('b', 2)].as_slice(),
+    )
+}
+
+fn shows_insert_at(alloc: Global) -> Result<bool, Fail> {
+    let mut map = two_letters(alloc)?;
+    Ok(
+        map.insert_at(0, 'c', 3)?.is_none()
+            && map.insert_at(0, 'b', 4)? == Some((2, 2))
+            && map.as_slice() == [('b', 4), ('c', 3), ('a', 1)].as_slice(),
+    )
+}
+
+#[test]
+fn examples_hold(rt: HostRuntime) -> Result<(), Fail> {
+    let alloc = rt.alloc();
+    assert!(rt; shows_insert_to_insert_key(alloc)?);
+    assert!(rt; shows_insert_at(alloc)?);
+    Ok(())
+}

@@ -1,0 +1,41 @@
+//! Examples of `vecmap_map/src/make.rt`.
+use crate::made::two_letters;
+use std::alloc::Global;
+use std::test::Fail;
+use vecmap::VecMap;
+
+fn shows_new_and_with_capacity(alloc: Global) -> Result<bool, Fail> {
+    let map: VecMap<char, u32> = VecMap::new(alloc);
+    if !((map.len(), map.capacity()) == (0, 0)) {
+        return Ok(false);
+    }
+    let map: VecMap<char, u32> = VecMap::with_capacity(alloc, 4)?;
+    Ok(map.is_empty() && 4 <= map.capacity())
+}
+
+fn shows_as_slice(alloc: Global) -> Result<bool, Fail> {
+    let map = two_letters(alloc)?;
+    Ok(map.as_slice() == [('a', 1), ('b', 2)].as_slice())
+}
+
+fn shows_into_vec(alloc: Global) -> Result<bool, Fail> {
+    let map = two_letters(alloc)?;
+    Ok(map.into_vec().as_slice() == [('a', 1), ('b', 2)].as_slice())
+}
+
+fn shows_clone(alloc: Global) -> Result<bool, Fail> {
+    let map = two_letters(alloc)?;
+    let mut copy = map.clone()?;
+    copy.insert('c', 3)?;
+    Ok((map.len(), copy.len()) == (2, 3))
+}
+
+#[test]
+fn examples_hold(rt: HostRuntime) -> Result<(), Fail> {
+    let alloc = rt.alloc();
+    assert!(rt; shows_new_and_with_capacity(alloc)?);
+    assert!(rt; shows_as_slice(alloc)?);
+    assert!(rt; shows_into_vec(alloc)?);
+    assert!(rt; shows_clone(alloc)?);
+    Ok(())
+}

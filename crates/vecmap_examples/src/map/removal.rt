@@ -1,0 +1,100 @@
+//! Examples of `vecmap_map/src/removal.rt`.
+use crate::made::{one_text, three_letters, two_letters};
+use std::alloc::Global;
+use std::test::Fail;
+
+fn shows_clear_to_split_off(alloc: Global) -> Result<bool, Fail> {
+    let mut map = two_letters(alloc)?;
+    map.clear();
+    if !(map.is_empty()) {
+        return Ok(false);
+    }
+    let mut map = three_letters(alloc)?;
+    map.truncate(1);
+    if !(map.as_slice() == [('a', 1)].as_slice()) {
+        return Ok(false);
+    }
+    let mut map = three_letters(alloc)?;
+    if !(1 <= map.len()) {
+        return Ok(false);
+    }
+    let part = map.split_off(1)?;
+    Ok(
+        map.as_slice() == [('a', 1)].as_slice()
+            && part.as_slice() == [('b', 2), ('c', 3)].as_slice(),
+    )
+}
+
+fn shows_drain_to_pop(alloc: Global) -> Result<bool, Fail> {
+    let mut map = three_letters(alloc)?;
+    if !(2 <= map.len()
+        && map.drain(..2).next() == Some(('a', 1))
+        && map.as_slice() == [('c', 3)].as_slice())
+    {
+        return Ok(false);
+    }
+    let mut map = three_letters(alloc)?;
+    map.retain(|_key, value| *value != 2);
+    if !(map.as_slice() == [('a', 1), ('c', 3)].as_slice()) {
+        return Ok(false);
+    }
+    let mut map = two_letters(alloc)?;
+    Ok(map.pop() == Some(('b', 2)) && map.as_slice() == [('a', 1)].as_slice())
+}
+
+fn shows_remove_to_remove_index(alloc: Global) -> Result<bool, Fail> {
+    let mut map = three_letters(alloc)?;
+    if !(map.remove(&'a') == Some(1)
+        && map.remove(&'a').is_none()
+        && map.as_slice() == [('b', 2), ('c', 3)].as_slice())
+    {
+        return Ok(false);
+    }
+    let mut map = three_letters(alloc)?;
+    if !(map.remove_entry(&'a') == Some(('a', 1))
+        && map.as_slice() == [('b', 2), ('c', 3)].as_slice())
+    {
+        return Ok(false);
+    }
+    let mut map = three_letters(alloc)?;
+    Ok(
+        0 < map.len()
+            && map.remove_index(0) == ('a', 1)
+            && map.as_slice() == [('b', 2), ('c', 3)].as_slice(),
+    )
+}
+
+fn shows_swap_remove_to_swap_remove_index(alloc: Global) -> Result<bool, Fail> {
+    let mut map = three_letters(alloc)?;
+    if !(map.swap_remove(&'a') == Some(1) && map.as_slice() == [('c', 3), ('b', 2)].as_slice()) {
+        return Ok(false);
+    }
+    let mut map = three_letters(alloc)?;
+    if !(map.swap_remove_entry(&'a') == Some(('a', 1))
+        && map.as_slice() == [('c', 3), ('b', 2)].as_slice())
+    {
+        return Ok(false);
+    }
+    let mut map = three_letters(alloc)?;
+    Ok(
+        0 < map.len()
+            && map.swap_remove_index(0) == ('a', 1)
+            && map.as_slice() == [('c', 3), ('b', 2)].as_slice(),
+    )
+}
+
+fn shows_remove_str(alloc: Global) -> Result<bool, Fail> {
+    let mut map = one_text(alloc)?;
+    Ok(map.remove_str("a") == Some(1))
+}
+
+#[test]
+fn examples_hold(rt: HostRuntime) -> Result<(), Fail> {
+    let alloc = rt.alloc();
+    assert!(rt; shows_clear_to_split_off(alloc)?);
+    assert!(rt; shows_drain_to_pop(alloc)?);
+    assert!(rt; shows_remove_to_remove_index(alloc)?);
+    assert!(rt; shows_swap_remove_to_swap_remove_index(alloc)?);
+    assert!(rt; shows_remove_str(alloc)?);
+    Ok(())
+}

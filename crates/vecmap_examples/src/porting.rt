@@ -1,0 +1,5 @@
+//! The examples of `docs/PORTING.md`, each a file that the page quotes.
+pub mod bulk;
+pub mod order;
+#[cfg(test)]
+mod tests;

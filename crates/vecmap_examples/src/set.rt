@@ -1,0 +1,21 @@
+//! Examples at the calls of sets.
+mod bulk;
+mod conversion;
+mod difference;
+mod drain;
+mod equality;
+mod formatting;
+mod indexing;
+mod insertion;
+mod intersection;
+mod iteration;
+mod lazy;
+mod lookup;
+mod make;
+mod operators;
+mod order;
+mod removal;
+mod room;
+mod search;
+mod symmetric_difference;
+mod union;

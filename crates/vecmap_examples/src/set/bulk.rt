@@ -1,0 +1,45 @@
+//! Examples of `vecmap_set/src/bulk.rt`.
+use crate::made::{other_numbers, two_numbers};
+use std::alloc::Global;
+use std::test::Fail;
+use vecmap::VecSet;
+
+fn shows_from_iter_and_from_slice(alloc: Global) -> Result<bool, Fail> {
+    let set = VecSet::from_iter(alloc, [2, 1, 2])?;
+    if !(set.as_slice() == [2, 1].as_slice()) {
+        return Ok(false);
+    }
+    let set = VecSet::from_slice(alloc, &[2, 1, 2])?;
+    Ok(set.as_slice() == [2, 1].as_slice())
+}
+
+fn shows_append_to_extend_copied(alloc: Global) -> Result<bool, Fail> {
+    let mut set = two_numbers(alloc)?;
+    let mut other = other_numbers(alloc)?;
+    set.append(&mut other)?;
+    if !(set.as_slice() == [1, 2, 3].as_slice() && other.is_empty()) {
+        return Ok(false);
+    }
+    let mut set = two_numbers(alloc)?;
+    set.extend([2, 3])?;
+    if !(set.as_slice() == [1, 2, 3].as_slice()) {
+        return Ok(false);
+    }
+    let mut set = two_numbers(alloc)?;
+    set.extend_copied(&[2, 3])?;
+    Ok(set.as_slice() == [1, 2, 3].as_slice())
+}
+
+fn shows_collect(alloc: Global) -> Result<bool, Fail> {
+    let set: VecSet<u32> = [2, 1, 2].into_iter().collect(alloc)?;
+    Ok(set.as_slice() == [2, 1].as_slice())
+}
+
+#[test]
+fn examples_hold(rt: HostRuntime) -> Result<(), Fail> {
+    let alloc = rt.alloc();
+    assert!(rt; shows_from_iter_and_from_slice(alloc)?);
+    assert!(rt; shows_append_to_extend_copied(alloc)?);
+    assert!(rt; shows_collect(alloc)?);
+    Ok(())
+}

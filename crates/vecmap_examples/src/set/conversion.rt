@@ -1,0 +1,37 @@
+//! Examples of `vecmap_set/src/conversion.rt`.
+use crate::made::numbers_back;
+use std::alloc::Global;
+use std::test::Fail;
+use vecmap::{VecSet, items_distinct};
+
+fn shows_from_vec(alloc: Global) -> Result<bool, Fail> {
+    let set = VecSet::from(vec![in alloc; 2, 1, 2]?);
+    Ok(set.as_slice() == [2, 1].as_slice())
+}
+
+fn shows_from_vec_counted_and_from_vec_unchecked(alloc: Global) -> Result<bool, Fail> {
+    let (set, comparisons) = VecSet::from_vec_counted(vec![in alloc; 2, 1, 2]?);
+    if !(comparisons == 2 && set.as_slice() == [2, 1].as_slice()) {
+        return Ok(false);
+    }
+    let items = vec![in alloc; 2, 1]?;
+    if !(items_distinct(&items)) {
+        return Ok(false);
+    }
+    let set = VecSet::from_vec_unchecked(items);
+    Ok(set.as_slice() == [2, 1].as_slice())
+}
+
+fn shows_to_vec(alloc: Global) -> Result<bool, Fail> {
+    let set = numbers_back(alloc)?;
+    Ok(set.to_vec()?.as_slice() == [2, 1].as_slice())
+}
+
+#[test]
+fn examples_hold(rt: HostRuntime) -> Result<(), Fail> {
+    let alloc = rt.alloc();
+    assert!(rt; shows_from_vec(alloc)?);
+    assert!(rt; shows_from_vec_counted_and_from_vec_unchecked(alloc)?);
+    assert!(rt; shows_to_vec(alloc)?);
+    Ok(())
+}

@@ -1,0 +1,17 @@
+//! Examples of `vecmap_set/src/lazy/difference.rt`.
+use crate::made::{other_numbers, three_numbers};
+use std::alloc::Global;
+use std::test::Fail;
+
+fn shows_difference(alloc: Global) -> Result<bool, Fail> {
+    let set = three_numbers(alloc)?;
+    let other = other_numbers(alloc)?;
+    Ok(set.difference(&other).size_hint() == (0, Some(3)))
+}
+
+#[test]
+fn examples_hold(rt: HostRuntime) -> Result<(), Fail> {
+    let alloc = rt.alloc();
+    assert!(rt; shows_difference(alloc)?);
+    Ok(())
+}

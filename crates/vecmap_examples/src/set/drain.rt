@@ -1,0 +1,24 @@
+//! Examples of `vecmap_set/src/drain.rt`.
+use crate::made::three_numbers;
+use std::alloc::Global;
+use std::test::Fail;
+
+fn shows_drain(alloc: Global) -> Result<bool, Fail> {
+    let mut set = three_numbers(alloc)?;
+    if !(1 <= set.len()) {
+        return Ok(false);
+    }
+    let mut drain = set.drain(1..);
+    if !(drain.next_back() == Some(3) && drain.len() == 1) {
+        return Ok(false);
+    }
+    drop(drain);
+    Ok(set.as_slice() == [1].as_slice())
+}
+
+#[test]
+fn examples_hold(rt: HostRuntime) -> Result<(), Fail> {
+    let alloc = rt.alloc();
+    assert!(rt; shows_drain(alloc)?);
+    Ok(())
+}

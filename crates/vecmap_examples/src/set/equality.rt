@@ -1,0 +1,22 @@
+//! Examples of `vecmap_set/src/equality.rt`.
+use crate::made::two_numbers;
+use std::alloc::Global;
+use std::test::Fail;
+use vecmap::vecset;
+
+fn shows_is_disjoint_to_equality(alloc: Global) -> Result<bool, Fail> {
+    let set = two_numbers(alloc)?;
+    Ok(
+        set.is_disjoint(&vecset!(alloc; 3, 4))
+            && set.is_subset(&vecset!(alloc; 2, 3, 1))
+            && set.is_superset(&vecset!(alloc; 2))
+            && set == vecset!(alloc; 2, 1),
+    )
+}
+
+#[test]
+fn examples_hold(rt: HostRuntime) -> Result<(), Fail> {
+    let alloc = rt.alloc();
+    assert!(rt; shows_is_disjoint_to_equality(alloc)?);
+    Ok(())
+}

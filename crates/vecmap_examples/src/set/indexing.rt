@@ -1,0 +1,16 @@
+//! Examples of `vecmap_set/src/indexing.rt`.
+use crate::made::numbers_back;
+use std::alloc::Global;
+use std::test::Fail;
+
+fn shows_index_by_place(alloc: Global) -> Result<bool, Fail> {
+    let set = numbers_back(alloc)?;
+    Ok(1 < set.len() && set[1] == 1)
+}
+
+#[test]
+fn examples_hold(rt: HostRuntime) -> Result<(), Fail> {
+    let alloc = rt.alloc();
+    assert!(rt; shows_index_by_place(alloc)?);
+    Ok(())
+}

@@ -1,0 +1,24 @@
+//! Examples of `vecmap_set/src/insertion.rt`.
+use crate::made::two_numbers;
+use std::alloc::Global;
+use std::test::Fail;
+
+fn shows_insert_and_replace(alloc: Global) -> Result<bool, Fail> {
+    let mut set = two_numbers(alloc)?;
+    if !(set.insert(3)? && !set.insert(1)? && set.as_slice() == [1, 2, 3].as_slice()) {
+        return Ok(false);
+    }
+    let mut set = two_numbers(alloc)?;
+    Ok(
+        set.replace(1)? == Some(1)
+            && set.replace(3)?.is_none()
+            && set.as_slice() == [1, 2, 3].as_slice(),
+    )
+}
+
+#[test]
+fn examples_hold(rt: HostRuntime) -> Result<(), Fail> {
+    let alloc = rt.alloc();
+    assert!(rt; shows_insert_and_replace(alloc)?);
+    Ok(())
+}

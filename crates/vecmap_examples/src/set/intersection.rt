@@ -1,0 +1,20 @@
+//! Examples of `vecmap_set/src/lazy/intersection.rt`.
+use crate::made::{other_numbers, three_numbers};
+use std::alloc::Global;
+use std::test::Fail;
+
+fn shows_intersection(alloc: Global) -> Result<bool, Fail> {
+    let set = three_numbers(alloc)?;
+    let other = other_numbers(alloc)?;
+    Ok(
+        set.intersection(&other).next() == Some(&2)
+            && set.intersection(&other).size_hint() == (0, Some(2)),
+    )
+}
+
+#[test]
+fn examples_hold(rt: HostRuntime) -> Result<(), Fail> {
+    let alloc = rt.alloc();
+    assert!(rt; shows_intersection(alloc)?);
+    Ok(())
+}

@@ -1,0 +1,39 @@
+//! Examples of `vecmap_set/src/make.rt`.
+use crate::made::{numbers_back, two_numbers};
+use std::alloc::Global;
+use std::test::Fail;
+use vecmap::VecSet;
+
+fn shows_new_and_with_capacity(alloc: Global) -> Result<bool, Fail> {
+    let set: VecSet<u32> = VecSet::new(alloc);
+    if !((set.len(), set.capacity()) == (0, 0)) {
+        return Ok(false);
+    }
+    let set: VecSet<u32> = VecSet::with_capacity(alloc, 4)?;
+    Ok(set.is_empty() && 4 <= set.capacity())
+}
+
+fn shows_clone_and_as_slice(alloc: Global) -> Result<bool, Fail> {
+    let set = two_numbers(alloc)?;
+    let mut copy = set.clone()?;
+    copy.insert(3)?;
+    if !((set.len(), copy.len()) == (2, 3)) {
+        return Ok(false);
+    }
+    let set = numbers_back(alloc)?;
+    Ok(set.as_slice() == [2, 1].as_slice())
+}
+
+fn shows_into_vec(alloc: Global) -> Result<bool, Fail> {
+    let set = numbers_back(alloc)?;
+    Ok(set.into_vec().as_slice() == [2, 1].as_slice())
+}
+
+#[test]
+fn examples_hold(rt: HostRuntime) -> Result<(), Fail> {
+    let alloc = rt.alloc();
+    assert!(rt; shows_new_and_with_capacity(alloc)?);
+    assert!(rt; shows_clone_and_as_slice(alloc)?);
+    assert!(rt; shows_into_vec(alloc)?);
+    Ok(())
+}

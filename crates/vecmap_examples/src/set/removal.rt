@@ -1,0 +1,79 @@
+//! Examples of `vecmap_set/src/removal.rt`.
+use crate::made::{one_text_set, three_numbers, two_numbers};
+use std::alloc::Global;
+use std::test::Fail;
+
+fn shows_clear_to_split_off(alloc: Global) -> Result<bool, Fail> {
+    let mut set = two_numbers(alloc)?;
+    set.clear();
+    if !(set.is_empty()) {
+        return Ok(false);
+    }
+    let mut set = three_numbers(alloc)?;
+    set.truncate(1);
+    if !(set.as_slice() == [1].as_slice()) {
+        return Ok(false);
+    }
+    let mut set = three_numbers(alloc)?;
+    if !(1 <= set.len()) {
+        return Ok(false);
+    }
+    let part = set.split_off(1)?;
+    Ok(set.as_slice() == [1].as_slice() && part.as_slice() == [2, 3].as_slice())
+}
+
+fn shows_drain_to_pop(alloc: Global) -> Result<bool, Fail> {
+    let mut set = three_numbers(alloc)?;
+    if !(2 <= set.len() && set.drain(..2).next() == Some(1) && set.as_slice() == [3].as_slice()) {
+        return Ok(false);
+    }
+    let mut set = three_numbers(alloc)?;
+    set.retain(|item| *item != 2);
+    if !(set.as_slice() == [1, 3].as_slice()) {
+        return Ok(false);
+    }
+    let mut set = two_numbers(alloc)?;
+    Ok(set.pop() == Some(2) && set.as_slice() == [1].as_slice())
+}
+
+fn shows_remove_to_swap_remove(alloc: Global) -> Result<bool, Fail> {
+    let mut set = three_numbers(alloc)?;
+    if !(set.remove(&1) && !set.remove(&1) && set.as_slice() == [2, 3].as_slice()) {
+        return Ok(false);
+    }
+    let mut set = three_numbers(alloc)?;
+    if !(0 < set.len() && set.remove_index(0) == 1 && set.as_slice() == [2, 3].as_slice()) {
+        return Ok(false);
+    }
+    let mut set = three_numbers(alloc)?;
+    Ok(set.swap_remove(&1) && set.as_slice() == [3, 2].as_slice())
+}
+
+fn shows_swap_remove_index_to_swap_take(alloc: Global) -> Result<bool, Fail> {
+    let mut set = three_numbers(alloc)?;
+    if !(0 < set.len() && set.swap_remove_index(0) == 1 && set.as_slice() == [3, 2].as_slice()) {
+        return Ok(false);
+    }
+    let mut set = three_numbers(alloc)?;
+    if !(set.take(&1) == Some(1) && set.as_slice() == [2, 3].as_slice()) {
+        return Ok(false);
+    }
+    let mut set = three_numbers(alloc)?;
+    Ok(set.swap_take(&1) == Some(1) && set.as_slice() == [3, 2].as_slice())
+}
+
+fn shows_remove_str(alloc: Global) -> Result<bool, Fail> {
+    let mut set = one_text_set(alloc)?;
+    Ok(set.remove_str("a"))
+}
+
+#[test]
+fn examples_hold(rt: HostRuntime) -> Result<(), Fail> {
+    let alloc = rt.alloc();
+    assert!(rt; shows_clear_to_split_off(alloc)?);
+    assert!(rt; shows_drain_to_pop(alloc)?);
+    assert!(rt; shows_remove_to_swap_remove(alloc)?);
+    assert!(rt; shows_swap_remove_index_to_swap_take(alloc)?);
+    assert!(rt; shows_remove_str(alloc)?);
+    Ok(())
+}

@@ -1,0 +1,18 @@
+//! Examples of `vecmap_set/src/lazy/symmetric_difference.rt`.
+use crate::made::{other_numbers, three_numbers};
+use std::alloc::Global;
+use std::test::Fail;
+
+fn shows_symmetric_difference(alloc: Global) -> Result<bool, Fail> {
+    let set = three_numbers(alloc)?;
+    let other = other_numbers(alloc)?;
+    let items = set.symmetric_difference(&other);
+    Ok(items.clone().next_back() == Some(&1))
+}
+
+#[test]
+fn examples_hold(rt: HostRuntime) -> Result<(), Fail> {
+    let alloc = rt.alloc();
+    assert!(rt; shows_symmetric_difference(alloc)?);
+    Ok(())
+}
