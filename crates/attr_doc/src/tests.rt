@@ -12,13 +12,25 @@ type Rows<'t> = &'t [(&'t str, &'t str, &'t str)];
 fn document(alloc: Global, rows: &[(&str, &str, &str)]) -> Result<Document, AllocError> {
     let mut document = Document::new(alloc);
     for (section, name, text) in rows {
-        let section = Name::new(section.to_string(alloc)?);
-        let name = Name::new(name.to_string(alloc)?);
-        if document.set(section, name, text.to_string(alloc)?).is_err() {
-            return Err(AllocError);
-        }
+        set(alloc, &mut document, section, name, text)?;
     }
     Ok(document)
+}
+
+/// Sets one text.
+fn set(
+    alloc: Global,
+    document: &mut Document,
+    section: &str,
+    name: &str,
+    text: &str,
+) -> Result<(), AllocError> {
+    let section = Name::new(section.to_string(alloc)?);
+    let name = Name::new(name.to_string(alloc)?);
+    match document.set(section, name, text.to_string(alloc)?) {
+        Ok(_old) => Ok(()),
+        Err(_refused) => Err(AllocError),
+    }
 }
 
 /// The whole document.
@@ -40,8 +52,12 @@ fn text<'d>(
 
 /// The example of the README.
 fn example(alloc: Global) -> Result<String, AllocError> {
-    let mut page = document(alloc, &[("Font", "Size", "12"), ("Page", "Width", "5")])?;
-    let mut changes = document(alloc, &[("page", "WIDTH", "7"), ("Link", "Color", "red")])?;
+    let mut page = Document::new(alloc);
+    set(alloc, &mut page, "Font", "Size", "12")?;
+    set(alloc, &mut page, "Page", "Width", "5")?;
+    let mut changes = Document::new(alloc);
+    set(alloc, &mut changes, "page", "WIDTH", "7")?;
+    set(alloc, &mut changes, "Link", "Color", "red")?;
     page.merge(&mut changes)?;
     format!(in alloc; "{page:?}")
 }
