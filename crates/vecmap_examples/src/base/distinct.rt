@@ -3,18 +3,18 @@ use std::alloc::Global;
 use std::test::Fail;
 use vecmap::{items_distinct, keys_distinct};
 
-fn shows_keys_distinct_and_items_distinct(alloc: Global) -> Result<bool, Fail> {
-    Ok(
-        keys_distinct(&[('a', 1), ('b', 1)])
-            && !keys_distinct(&[('a', 1), ('a', 2)])
-            && items_distinct(&['a', 'b'])
-            && !items_distinct(&['a', 'a']),
-    )
+fn shows_keys_distinct(alloc: Global) -> Result<bool, Fail> {
+    Ok(keys_distinct(&[('a', 1), ('b', 1)]) && !keys_distinct(&[('a', 1), ('a', 2)]))
+}
+
+fn shows_items_distinct(alloc: Global) -> Result<bool, Fail> {
+    Ok(items_distinct(&['a', 'b']) && !items_distinct(&['a', 'a']))
 }
 
 #[test]
 fn examples_hold(rt: HostRuntime) -> Result<(), Fail> {
     let alloc = rt.alloc();
-    assert!(rt; shows_keys_distinct_and_items_distinct(alloc)?);
+    assert!(rt; shows_keys_distinct(alloc)?);
+    assert!(rt; shows_items_distinct(alloc)?);
     Ok(())
 }

@@ -3,17 +3,19 @@ use std::alloc::Global;
 use std::test::Fail;
 use vecmap_base::{retain_items, retain_pairs, retain_pairs_mut};
 
-fn shows_retain_pairs_to_retain_items(alloc: Global) -> Result<bool, Fail> {
+fn shows_retain_pairs(alloc: Global) -> Result<bool, Fail> {
     let mut pairs = vec![in alloc; ('a', 1), ('b', 2)]?;
     retain_pairs(&mut pairs, |_key, value| *value != 1);
-    if !(pairs.as_slice() == [('b', 2)].as_slice()) {
-        return Ok(false);
-    }
+    Ok(pairs.as_slice() == [('b', 2)].as_slice())
+}
+
+fn shows_retain_pairs_mut(alloc: Global) -> Result<bool, Fail> {
     let mut pairs = vec![in alloc; ('a', 1), ('b', 2)]?;
     retain_pairs_mut(&mut pairs, |key, _value| *key != 'a');
-    if !(pairs.as_slice() == [('b', 2)].as_slice()) {
-        return Ok(false);
-    }
+    Ok(pairs.as_slice() == [('b', 2)].as_slice())
+}
+
+fn shows_retain_items(alloc: Global) -> Result<bool, Fail> {
     let mut items = vec![in alloc; 1, 2, 3]?;
     retain_items(&mut items, |item| *item != 2);
     Ok(items.as_slice() == [1, 3].as_slice())
@@ -22,6 +24,8 @@ fn shows_retain_pairs_to_retain_items(alloc: Global) -> Result<bool, Fail> {
 #[test]
 fn examples_hold(rt: HostRuntime) -> Result<(), Fail> {
     let alloc = rt.alloc();
-    assert!(rt; shows_retain_pairs_to_retain_items(alloc)?);
+    assert!(rt; shows_retain_pairs(alloc)?);
+    assert!(rt; shows_retain_pairs_mut(alloc)?);
+    assert!(rt; shows_retain_items(alloc)?);
     Ok(())
 }

@@ -13,30 +13,33 @@ fn shows_from_iter_and_from_slice(alloc: Global) -> Result<bool, Fail> {
     Ok(map.as_slice() == [('a', 3), ('b', 2)].as_slice())
 }
 
-fn shows_append_to_extend_refs(alloc: Global) -> Result<bool, Fail> {
+fn shows_append(alloc: Global) -> Result<bool, Fail> {
     let mut map = two_letters(alloc)?;
     let mut other = letters_back(alloc)?;
     map.append(&mut other)?;
-    if !(map.as_slice() == [('a', 2), ('b', 1)].as_slice() && other.is_empty()) {
-        return Ok(false);
-    }
+    Ok(map.as_slice() == [('a', 2), ('b', 1)].as_slice() && other.is_empty())
+}
+
+fn shows_extend(alloc: Global) -> Result<bool, Fail> {
     let mut map = two_letters(alloc)?;
     map.extend([('b', 3), ('c', 4)])?;
-    if !(map.as_slice() == [('a', 1), ('b', 3), ('c', 4)].as_slice()) {
-        return Ok(false);
-    }
+    Ok(map.as_slice() == [('a', 1), ('b', 3), ('c', 4)].as_slice())
+}
+
+fn shows_extend_refs(alloc: Global) -> Result<bool, Fail> {
     let mut map = two_letters(alloc)?;
     let other = letters_back(alloc)?;
     map.extend_refs(other.iter())?;
     Ok(map.as_slice() == [('a', 2), ('b', 1)].as_slice())
 }
 
-fn shows_extend_pairs_and_collect(alloc: Global) -> Result<bool, Fail> {
+fn shows_extend_pairs(alloc: Global) -> Result<bool, Fail> {
     let mut map = two_letters(alloc)?;
     map.extend_pairs(&[('b', 3), ('c', 4)])?;
-    if !(map.as_slice() == [('a', 1), ('b', 3), ('c', 4)].as_slice()) {
-        return Ok(false);
-    }
+    Ok(map.as_slice() == [('a', 1), ('b', 3), ('c', 4)].as_slice())
+}
+
+fn shows_collect(alloc: Global) -> Result<bool, Fail> {
     let map: VecMap<char, u32> = [('a', 1), ('b', 2)].into_iter().collect(alloc)?;
     Ok(map.as_slice() == [('a', 1), ('b', 2)].as_slice())
 }
@@ -45,7 +48,10 @@ fn shows_extend_pairs_and_collect(alloc: Global) -> Result<bool, Fail> {
 fn examples_hold(rt: HostRuntime) -> Result<(), Fail> {
     let alloc = rt.alloc();
     assert!(rt; shows_from_iter_and_from_slice(alloc)?);
-    assert!(rt; shows_append_to_extend_refs(alloc)?);
-    assert!(rt; shows_extend_pairs_and_collect(alloc)?);
+    assert!(rt; shows_append(alloc)?);
+    assert!(rt; shows_extend(alloc)?);
+    assert!(rt; shows_extend_refs(alloc)?);
+    assert!(rt; shows_extend_pairs(alloc)?);
+    assert!(rt; shows_collect(alloc)?);
     Ok(())
 }

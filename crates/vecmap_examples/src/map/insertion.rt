@@ -3,18 +3,21 @@ use crate::made::two_letters;
 use std::alloc::Global;
 use std::test::Fail;
 
-fn shows_insert_to_insert_key(alloc: Global) -> Result<bool, Fail> {
+fn shows_insert(alloc: Global) -> Result<bool, Fail> {
     let mut map = two_letters(alloc)?;
-    if !(map.insert('a', 3)? == Some(1)
-        && map.insert('c', 4)?.is_none()
-        && map.as_slice() == [('a', 3), ('b', 2), ('c', 4)].as_slice())
-    {
-        return Ok(false);
-    }
+    Ok(
+        map.insert('a', 3)? == Some(1)
+            && map.insert('c', 4)?.is_none()
+            && map.as_slice() == [('a', 3), ('b', 2), ('c', 4)].as_slice(),
+    )
+}
+
+fn shows_insert_full(alloc: Global) -> Result<bool, Fail> {
     let mut map = two_letters(alloc)?;
-    if !(map.insert_full('b', 3)? == (1, Some(2)) && map.insert_full('c', 4)? == (2, None)) {
-        return Ok(false);
-    }
+    Ok(map.insert_full('b', 3)? == (1, Some(2)) && map.insert_full('c', 4)? == (2, None))
+}
+
+fn shows_insert_key(alloc: Global) -> Result<bool, Fail> {
     let mut map = two_letters(alloc)?;
     Ok(
         map.insert_key('a', 3)? == Some(('a', 1))
@@ -34,7 +37,9 @@ fn shows_insert_at(alloc: Global) -> Result<bool, Fail> {
 #[test]
 fn examples_hold(rt: HostRuntime) -> Result<(), Fail> {
     let alloc = rt.alloc();
-    assert!(rt; shows_insert_to_insert_key(alloc)?);
+    assert!(rt; shows_insert(alloc)?);
+    assert!(rt; shows_insert_full(alloc)?);
+    assert!(rt; shows_insert_key(alloc)?);
     assert!(rt; shows_insert_at(alloc)?);
     Ok(())
 }

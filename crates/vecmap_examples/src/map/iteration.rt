@@ -24,38 +24,42 @@ fn shows_keys_and_values(alloc: Global) -> Result<bool, Fail> {
     )
 }
 
-fn shows_values_mut_to_into_values(alloc: Global) -> Result<bool, Fail> {
+fn shows_values_mut(alloc: Global) -> Result<bool, Fail> {
     let mut map = two_letters(alloc)?;
     for value in map.values_mut() {
         *value = 3;
     }
-    if !(map.as_slice() == [('a', 3), ('b', 3)].as_slice()) {
-        return Ok(false);
-    }
+    Ok(map.as_slice() == [('a', 3), ('b', 3)].as_slice())
+}
+
+fn shows_into_keys(alloc: Global) -> Result<bool, Fail> {
     let map = two_letters(alloc)?;
-    if !(map.into_keys().next() == Some('a')) {
-        return Ok(false);
-    }
+    Ok(map.into_keys().next() == Some('a'))
+}
+
+fn shows_into_values(alloc: Global) -> Result<bool, Fail> {
     let map = two_letters(alloc)?;
     Ok(map.into_values().next() == Some(1))
 }
 
-fn shows_loop_by_reference_to_loop_by_value(alloc: Global) -> Result<bool, Fail> {
+fn shows_loop_by_reference(alloc: Global) -> Result<bool, Fail> {
     let map = two_letters(alloc)?;
     let mut last = ('-', 0);
     for (key, value) in &map {
         last = (*key, *value);
     }
-    if !(last == ('b', 2)) {
-        return Ok(false);
-    }
+    Ok(last == ('b', 2))
+}
+
+fn shows_loop_to_write(alloc: Global) -> Result<bool, Fail> {
     let mut map = two_letters(alloc)?;
     for (_key, value) in &mut map {
         *value = 3;
     }
-    if !(map.as_slice() == [('a', 3), ('b', 3)].as_slice()) {
-        return Ok(false);
-    }
+    Ok(map.as_slice() == [('a', 3), ('b', 3)].as_slice())
+}
+
+fn shows_loop_by_value(alloc: Global) -> Result<bool, Fail> {
     let map = two_letters(alloc)?;
     Ok(map.into_iter().next() == Some(('a', 1)))
 }
@@ -66,7 +70,11 @@ fn examples_hold(rt: HostRuntime) -> Result<(), Fail> {
     assert!(rt; shows_iter(alloc)?);
     assert!(rt; shows_iter_mut(alloc)?);
     assert!(rt; shows_keys_and_values(alloc)?);
-    assert!(rt; shows_values_mut_to_into_values(alloc)?);
-    assert!(rt; shows_loop_by_reference_to_loop_by_value(alloc)?);
+    assert!(rt; shows_values_mut(alloc)?);
+    assert!(rt; shows_into_keys(alloc)?);
+    assert!(rt; shows_into_values(alloc)?);
+    assert!(rt; shows_loop_by_reference(alloc)?);
+    assert!(rt; shows_loop_to_write(alloc)?);
+    assert!(rt; shows_loop_by_value(alloc)?);
     Ok(())
 }

@@ -4,11 +4,12 @@ use std::alloc::Global;
 use std::test::Fail;
 use vecmap::VecMap;
 
-fn shows_new_and_with_capacity(alloc: Global) -> Result<bool, Fail> {
+fn shows_new(alloc: Global) -> Result<bool, Fail> {
     let map: VecMap<char, u32> = VecMap::new(alloc);
-    if !((map.len(), map.capacity()) == (0, 0)) {
-        return Ok(false);
-    }
+    Ok((map.len(), map.capacity()) == (0, 0))
+}
+
+fn shows_with_capacity(alloc: Global) -> Result<bool, Fail> {
     let map: VecMap<char, u32> = VecMap::with_capacity(alloc, 4)?;
     Ok(map.is_empty() && 4 <= map.capacity())
 }
@@ -33,7 +34,8 @@ fn shows_clone(alloc: Global) -> Result<bool, Fail> {
 #[test]
 fn examples_hold(rt: HostRuntime) -> Result<(), Fail> {
     let alloc = rt.alloc();
-    assert!(rt; shows_new_and_with_capacity(alloc)?);
+    assert!(rt; shows_new(alloc)?);
+    assert!(rt; shows_with_capacity(alloc)?);
     assert!(rt; shows_as_slice(alloc)?);
     assert!(rt; shows_into_vec(alloc)?);
     assert!(rt; shows_clone(alloc)?);

@@ -4,34 +4,37 @@ use std::alloc::Global;
 use std::test::Fail;
 use vecmap::map::MutableKeys;
 
-fn shows_get_full_mut2_to_retain2(alloc: Global) -> Result<bool, Fail> {
+fn shows_get_full_mut2(alloc: Global) -> Result<bool, Fail> {
     let mut map = two_letters(alloc)?;
     if let Some((_place, key, _value)) = map.get_full_mut2(&'b') {
         *key = 'c';
     }
-    if !(map.as_slice() == [('a', 1), ('c', 2)].as_slice()) {
-        return Ok(false);
-    }
+    Ok(map.as_slice() == [('a', 1), ('c', 2)].as_slice())
+}
+
+fn shows_get_index_mut2(alloc: Global) -> Result<bool, Fail> {
     let mut map = two_letters(alloc)?;
     if let Some((key, _value)) = map.get_index_mut2(0) {
         *key = 'c';
     }
-    if !(map.as_slice() == [('c', 1), ('b', 2)].as_slice()) {
-        return Ok(false);
-    }
+    Ok(map.as_slice() == [('c', 1), ('b', 2)].as_slice())
+}
+
+fn shows_retain2(alloc: Global) -> Result<bool, Fail> {
     let mut map = three_letters(alloc)?;
     map.retain2(|key, _value| *key != 'b');
     Ok(map.as_slice() == [('a', 1), ('c', 3)].as_slice())
 }
 
-fn shows_iter_mut2_and_keys_mut(alloc: Global) -> Result<bool, Fail> {
+fn shows_iter_mut2(alloc: Global) -> Result<bool, Fail> {
     let mut map = two_letters(alloc)?;
     for (key, value) in map.iter_mut2() {
         (*key, *value) = ('c', 3);
     }
-    if !(map.as_slice() == [('c', 3), ('c', 3)].as_slice()) {
-        return Ok(false);
-    }
+    Ok(map.as_slice() == [('c', 3), ('c', 3)].as_slice())
+}
+
+fn shows_keys_mut(alloc: Global) -> Result<bool, Fail> {
     let mut map = two_letters(alloc)?;
     for key in map.keys_mut() {
         *key = key.to_ascii_uppercase();
@@ -42,7 +45,10 @@ fn shows_iter_mut2_and_keys_mut(alloc: Global) -> Result<bool, Fail> {
 #[test]
 fn examples_hold(rt: HostRuntime) -> Result<(), Fail> {
     let alloc = rt.alloc();
-    assert!(rt; shows_get_full_mut2_to_retain2(alloc)?);
-    assert!(rt; shows_iter_mut2_and_keys_mut(alloc)?);
+    assert!(rt; shows_get_full_mut2(alloc)?);
+    assert!(rt; shows_get_index_mut2(alloc)?);
+    assert!(rt; shows_retain2(alloc)?);
+    assert!(rt; shows_iter_mut2(alloc)?);
+    assert!(rt; shows_keys_mut(alloc)?);
     Ok(())
 }

@@ -3,36 +3,40 @@ use crate::made::{letters_back, three_letters, two_letters};
 use std::alloc::Global;
 use std::test::Fail;
 
-fn shows_reverse_to_sort_keys(alloc: Global) -> Result<bool, Fail> {
+fn shows_reverse(alloc: Global) -> Result<bool, Fail> {
     let mut map = three_letters(alloc)?;
     map.reverse();
-    if !(map.as_slice() == [('c', 3), ('b', 2), ('a', 1)].as_slice()) {
-        return Ok(false);
-    }
+    Ok(map.as_slice() == [('c', 3), ('b', 2), ('a', 1)].as_slice())
+}
+
+fn shows_swap_indices(alloc: Global) -> Result<bool, Fail> {
     let mut map = three_letters(alloc)?;
     if !(2 < map.len()) {
         return Ok(false);
     }
     map.swap_indices(0, 2);
-    if !(map.as_slice() == [('c', 3), ('b', 2), ('a', 1)].as_slice()) {
-        return Ok(false);
-    }
+    Ok(map.as_slice() == [('c', 3), ('b', 2), ('a', 1)].as_slice())
+}
+
+fn shows_sort_keys(alloc: Global) -> Result<bool, Fail> {
     let mut map = letters_back(alloc)?;
     map.sort_keys()?;
     Ok(map.as_slice() == [('a', 2), ('b', 1)].as_slice())
 }
 
-fn shows_sort_by_to_sort_unstable_keys(alloc: Global) -> Result<bool, Fail> {
+fn shows_sort_by(alloc: Global) -> Result<bool, Fail> {
     let mut map = two_letters(alloc)?;
     map.sort_by(|a, b| b.1.cmp(a.1))?;
-    if !(map.as_slice() == [('b', 2), ('a', 1)].as_slice()) {
-        return Ok(false);
-    }
+    Ok(map.as_slice() == [('b', 2), ('a', 1)].as_slice())
+}
+
+fn shows_sort_by_cached_key(alloc: Global) -> Result<bool, Fail> {
     let mut map = letters_back(alloc)?;
     map.sort_by_cached_key(|key, _value| *key)?;
-    if !(map.as_slice() == [('a', 2), ('b', 1)].as_slice()) {
-        return Ok(false);
-    }
+    Ok(map.as_slice() == [('a', 2), ('b', 1)].as_slice())
+}
+
+fn shows_sort_unstable_keys(alloc: Global) -> Result<bool, Fail> {
     let mut map = letters_back(alloc)?;
     map.sort_unstable_keys();
     Ok(map.as_slice() == [('a', 2), ('b', 1)].as_slice())
@@ -47,8 +51,12 @@ fn shows_sort_unstable_by(alloc: Global) -> Result<bool, Fail> {
 #[test]
 fn examples_hold(rt: HostRuntime) -> Result<(), Fail> {
     let alloc = rt.alloc();
-    assert!(rt; shows_reverse_to_sort_keys(alloc)?);
-    assert!(rt; shows_sort_by_to_sort_unstable_keys(alloc)?);
+    assert!(rt; shows_reverse(alloc)?);
+    assert!(rt; shows_swap_indices(alloc)?);
+    assert!(rt; shows_sort_keys(alloc)?);
+    assert!(rt; shows_sort_by(alloc)?);
+    assert!(rt; shows_sort_by_cached_key(alloc)?);
+    assert!(rt; shows_sort_unstable_keys(alloc)?);
     assert!(rt; shows_sort_unstable_by(alloc)?);
     Ok(())
 }

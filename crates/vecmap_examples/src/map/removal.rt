@@ -3,17 +3,19 @@ use crate::made::{one_text, three_letters, two_letters};
 use std::alloc::Global;
 use std::test::Fail;
 
-fn shows_clear_to_split_off(alloc: Global) -> Result<bool, Fail> {
+fn shows_clear(alloc: Global) -> Result<bool, Fail> {
     let mut map = two_letters(alloc)?;
     map.clear();
-    if !(map.is_empty()) {
-        return Ok(false);
-    }
+    Ok(map.is_empty())
+}
+
+fn shows_truncate(alloc: Global) -> Result<bool, Fail> {
     let mut map = three_letters(alloc)?;
     map.truncate(1);
-    if !(map.as_slice() == [('a', 1)].as_slice()) {
-        return Ok(false);
-    }
+    Ok(map.as_slice() == [('a', 1)].as_slice())
+}
+
+fn shows_split_off(alloc: Global) -> Result<bool, Fail> {
     let mut map = three_letters(alloc)?;
     if !(1 <= map.len()) {
         return Ok(false);
@@ -25,37 +27,44 @@ fn shows_clear_to_split_off(alloc: Global) -> Result<bool, Fail> {
     )
 }
 
-fn shows_drain_to_pop(alloc: Global) -> Result<bool, Fail> {
+fn shows_drain(alloc: Global) -> Result<bool, Fail> {
     let mut map = three_letters(alloc)?;
-    if !(2 <= map.len()
-        && map.drain(..2).next() == Some(('a', 1))
-        && map.as_slice() == [('c', 3)].as_slice())
-    {
-        return Ok(false);
-    }
+    Ok(
+        2 <= map.len()
+            && map.drain(..2).next() == Some(('a', 1))
+            && map.as_slice() == [('c', 3)].as_slice(),
+    )
+}
+
+fn shows_retain(alloc: Global) -> Result<bool, Fail> {
     let mut map = three_letters(alloc)?;
     map.retain(|_key, value| *value != 2);
-    if !(map.as_slice() == [('a', 1), ('c', 3)].as_slice()) {
-        return Ok(false);
-    }
+    Ok(map.as_slice() == [('a', 1), ('c', 3)].as_slice())
+}
+
+fn shows_pop(alloc: Global) -> Result<bool, Fail> {
     let mut map = two_letters(alloc)?;
     Ok(map.pop() == Some(('b', 2)) && map.as_slice() == [('a', 1)].as_slice())
 }
 
-fn shows_remove_to_remove_index(alloc: Global) -> Result<bool, Fail> {
+fn shows_remove(alloc: Global) -> Result<bool, Fail> {
     let mut map = three_letters(alloc)?;
-    if !(map.remove(&'a') == Some(1)
-        && map.remove(&'a').is_none()
-        && map.as_slice() == [('b', 2), ('c', 3)].as_slice())
-    {
-        return Ok(false);
-    }
+    Ok(
+        map.remove(&'a') == Some(1)
+            && map.remove(&'a').is_none()
+            && map.as_slice() == [('b', 2), ('c', 3)].as_slice(),
+    )
+}
+
+fn shows_remove_entry(alloc: Global) -> Result<bool, Fail> {
     let mut map = three_letters(alloc)?;
-    if !(map.remove_entry(&'a') == Some(('a', 1))
-        && map.as_slice() == [('b', 2), ('c', 3)].as_slice())
-    {
-        return Ok(false);
-    }
+    Ok(
+        map.remove_entry(&'a') == Some(('a', 1))
+            && map.as_slice() == [('b', 2), ('c', 3)].as_slice(),
+    )
+}
+
+fn shows_remove_index(alloc: Global) -> Result<bool, Fail> {
     let mut map = three_letters(alloc)?;
     Ok(
         0 < map.len()
@@ -64,17 +73,20 @@ fn shows_remove_to_remove_index(alloc: Global) -> Result<bool, Fail> {
     )
 }
 
-fn shows_swap_remove_to_swap_remove_index(alloc: Global) -> Result<bool, Fail> {
+fn shows_swap_remove(alloc: Global) -> Result<bool, Fail> {
     let mut map = three_letters(alloc)?;
-    if !(map.swap_remove(&'a') == Some(1) && map.as_slice() == [('c', 3), ('b', 2)].as_slice()) {
-        return Ok(false);
-    }
+    Ok(map.swap_remove(&'a') == Some(1) && map.as_slice() == [('c', 3), ('b', 2)].as_slice())
+}
+
+fn shows_swap_remove_entry(alloc: Global) -> Result<bool, Fail> {
     let mut map = three_letters(alloc)?;
-    if !(map.swap_remove_entry(&'a') == Some(('a', 1))
-        && map.as_slice() == [('c', 3), ('b', 2)].as_slice())
-    {
-        return Ok(false);
-    }
+    Ok(
+        map.swap_remove_entry(&'a') == Some(('a', 1))
+            && map.as_slice() == [('c', 3), ('b', 2)].as_slice(),
+    )
+}
+
+fn shows_swap_remove_index(alloc: Global) -> Result<bool, Fail> {
     let mut map = three_letters(alloc)?;
     Ok(
         0 < map.len()
@@ -91,10 +103,18 @@ fn shows_remove_str(alloc: Global) -> Result<bool, Fail> {
 #[test]
 fn examples_hold(rt: HostRuntime) -> Result<(), Fail> {
     let alloc = rt.alloc();
-    assert!(rt; shows_clear_to_split_off(alloc)?);
-    assert!(rt; shows_drain_to_pop(alloc)?);
-    assert!(rt; shows_remove_to_remove_index(alloc)?);
-    assert!(rt; shows_swap_remove_to_swap_remove_index(alloc)?);
+    assert!(rt; shows_clear(alloc)?);
+    assert!(rt; shows_truncate(alloc)?);
+    assert!(rt; shows_split_off(alloc)?);
+    assert!(rt; shows_drain(alloc)?);
+    assert!(rt; shows_retain(alloc)?);
+    assert!(rt; shows_pop(alloc)?);
+    assert!(rt; shows_remove(alloc)?);
+    assert!(rt; shows_remove_entry(alloc)?);
+    assert!(rt; shows_remove_index(alloc)?);
+    assert!(rt; shows_swap_remove(alloc)?);
+    assert!(rt; shows_swap_remove_entry(alloc)?);
+    assert!(rt; shows_swap_remove_index(alloc)?);
     assert!(rt; shows_remove_str(alloc)?);
     Ok(())
 }

@@ -9,30 +9,34 @@ fn shows_len_and_is_empty(alloc: Global) -> Result<bool, Fail> {
     Ok(map.len() == 2 && !map.is_empty())
 }
 
-fn shows_capacity_to_reserve_exact(alloc: Global) -> Result<bool, Fail> {
+fn shows_capacity(alloc: Global) -> Result<bool, Fail> {
     let map: VecMap<char, u32> = VecMap::with_capacity(alloc, 4)?;
-    if !(4 <= map.capacity()) {
-        return Ok(false);
-    }
+    Ok(4 <= map.capacity())
+}
+
+fn shows_reserve(alloc: Global) -> Result<bool, Fail> {
     let mut map = two_letters(alloc)?;
     map.reserve(10)?;
-    if !(12 <= map.capacity()) {
-        return Ok(false);
-    }
+    Ok(12 <= map.capacity())
+}
+
+fn shows_reserve_exact(alloc: Global) -> Result<bool, Fail> {
     let mut map = two_letters(alloc)?;
     map.reserve_exact(10)?;
     Ok(12 <= map.capacity())
 }
 
-fn shows_try_reserve_to_shrink_to_fit(alloc: Global) -> Result<bool, Fail> {
+fn shows_try_reserve(alloc: Global) -> Result<bool, Fail> {
     let mut map = two_letters(alloc)?;
-    if !(map.try_reserve(10).is_ok() && !map.try_reserve(usize::MAX).is_ok()) {
-        return Ok(false);
-    }
+    Ok(map.try_reserve(10).is_ok() && !map.try_reserve(usize::MAX).is_ok())
+}
+
+fn shows_try_reserve_exact(alloc: Global) -> Result<bool, Fail> {
     let mut map = two_letters(alloc)?;
-    if !(map.try_reserve_exact(10).is_ok() && !map.try_reserve_exact(usize::MAX).is_ok()) {
-        return Ok(false);
-    }
+    Ok(map.try_reserve_exact(10).is_ok() && !map.try_reserve_exact(usize::MAX).is_ok())
+}
+
+fn shows_shrink_to_fit(alloc: Global) -> Result<bool, Fail> {
     let mut map: VecMap<char, u32> = VecMap::with_capacity(alloc, 10)?;
     map.insert('a', 1)?;
     map.shrink_to_fit();
@@ -50,8 +54,12 @@ fn shows_shrink_to(alloc: Global) -> Result<bool, Fail> {
 fn examples_hold(rt: HostRuntime) -> Result<(), Fail> {
     let alloc = rt.alloc();
     assert!(rt; shows_len_and_is_empty(alloc)?);
-    assert!(rt; shows_capacity_to_reserve_exact(alloc)?);
-    assert!(rt; shows_try_reserve_to_shrink_to_fit(alloc)?);
+    assert!(rt; shows_capacity(alloc)?);
+    assert!(rt; shows_reserve(alloc)?);
+    assert!(rt; shows_reserve_exact(alloc)?);
+    assert!(rt; shows_try_reserve(alloc)?);
+    assert!(rt; shows_try_reserve_exact(alloc)?);
+    assert!(rt; shows_shrink_to_fit(alloc)?);
     assert!(rt; shows_shrink_to(alloc)?);
     Ok(())
 }

@@ -4,15 +4,17 @@ use std::alloc::Global;
 use std::test::Fail;
 use vecmap::map::Entry;
 
-fn shows_key_to_into_key(alloc: Global) -> Result<bool, Fail> {
+fn shows_key(alloc: Global) -> Result<bool, Fail> {
     let mut map = two_letters(alloc)?;
-    if !(matches!(map.entry('c'), Entry::Vacant(entry) if *entry.key() == 'c')) {
-        return Ok(false);
-    }
+    Ok(matches!(map.entry('c'), Entry::Vacant(entry) if *entry.key() == 'c'))
+}
+
+fn shows_index(alloc: Global) -> Result<bool, Fail> {
     let mut map = two_letters(alloc)?;
-    if !(matches!(map.entry('c'), Entry::Vacant(entry) if entry.index() == 2)) {
-        return Ok(false);
-    }
+    Ok(matches!(map.entry('c'), Entry::Vacant(entry) if entry.index() == 2))
+}
+
+fn shows_into_key(alloc: Global) -> Result<bool, Fail> {
     let mut map = two_letters(alloc)?;
     let key = match map.entry('c') {
         Entry::Vacant(entry) => entry.into_key(),
@@ -21,14 +23,15 @@ fn shows_key_to_into_key(alloc: Global) -> Result<bool, Fail> {
     Ok(key == 'c')
 }
 
-fn shows_insert_and_insert_entry(alloc: Global) -> Result<bool, Fail> {
+fn shows_insert(alloc: Global) -> Result<bool, Fail> {
     let mut map = two_letters(alloc)?;
     if let Entry::Vacant(entry) = map.entry('c') {
         *entry.insert(3)? = 4;
     }
-    if !(map.as_slice() == [('a', 1), ('b', 2), ('c', 4)].as_slice()) {
-        return Ok(false);
-    }
+    Ok(map.as_slice() == [('a', 1), ('b', 2), ('c', 4)].as_slice())
+}
+
+fn shows_insert_entry(alloc: Global) -> Result<bool, Fail> {
     let mut map = two_letters(alloc)?;
     if let Entry::Vacant(entry) = map.entry('c') {
         entry.insert_entry(3)?.insert(4);
@@ -39,7 +42,10 @@ fn shows_insert_and_insert_entry(alloc: Global) -> Result<bool, Fail> {
 #[test]
 fn examples_hold(rt: HostRuntime) -> Result<(), Fail> {
     let alloc = rt.alloc();
-    assert!(rt; shows_key_to_into_key(alloc)?);
-    assert!(rt; shows_insert_and_insert_entry(alloc)?);
+    assert!(rt; shows_key(alloc)?);
+    assert!(rt; shows_index(alloc)?);
+    assert!(rt; shows_into_key(alloc)?);
+    assert!(rt; shows_insert(alloc)?);
+    assert!(rt; shows_insert_entry(alloc)?);
     Ok(())
 }

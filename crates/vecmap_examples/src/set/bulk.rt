@@ -13,18 +13,20 @@ fn shows_from_iter_and_from_slice(alloc: Global) -> Result<bool, Fail> {
     Ok(set.as_slice() == [2, 1].as_slice())
 }
 
-fn shows_append_to_extend_copied(alloc: Global) -> Result<bool, Fail> {
+fn shows_append(alloc: Global) -> Result<bool, Fail> {
     let mut set = two_numbers(alloc)?;
     let mut other = other_numbers(alloc)?;
     set.append(&mut other)?;
-    if !(set.as_slice() == [1, 2, 3].as_slice() && other.is_empty()) {
-        return Ok(false);
-    }
+    Ok(set.as_slice() == [1, 2, 3].as_slice() && other.is_empty())
+}
+
+fn shows_extend(alloc: Global) -> Result<bool, Fail> {
     let mut set = two_numbers(alloc)?;
     set.extend([2, 3])?;
-    if !(set.as_slice() == [1, 2, 3].as_slice()) {
-        return Ok(false);
-    }
+    Ok(set.as_slice() == [1, 2, 3].as_slice())
+}
+
+fn shows_extend_copied(alloc: Global) -> Result<bool, Fail> {
     let mut set = two_numbers(alloc)?;
     set.extend_copied(&[2, 3])?;
     Ok(set.as_slice() == [1, 2, 3].as_slice())
@@ -39,7 +41,9 @@ fn shows_collect(alloc: Global) -> Result<bool, Fail> {
 fn examples_hold(rt: HostRuntime) -> Result<(), Fail> {
     let alloc = rt.alloc();
     assert!(rt; shows_from_iter_and_from_slice(alloc)?);
-    assert!(rt; shows_append_to_extend_copied(alloc)?);
+    assert!(rt; shows_append(alloc)?);
+    assert!(rt; shows_extend(alloc)?);
+    assert!(rt; shows_extend_copied(alloc)?);
     assert!(rt; shows_collect(alloc)?);
     Ok(())
 }

@@ -3,11 +3,12 @@ use crate::made::two_numbers;
 use std::alloc::Global;
 use std::test::Fail;
 
-fn shows_insert_and_replace(alloc: Global) -> Result<bool, Fail> {
+fn shows_insert(alloc: Global) -> Result<bool, Fail> {
     let mut set = two_numbers(alloc)?;
-    if !(set.insert(3)? && !set.insert(1)? && set.as_slice() == [1, 2, 3].as_slice()) {
-        return Ok(false);
-    }
+    Ok(set.insert(3)? && !set.insert(1)? && set.as_slice() == [1, 2, 3].as_slice())
+}
+
+fn shows_replace(alloc: Global) -> Result<bool, Fail> {
     let mut set = two_numbers(alloc)?;
     Ok(
         set.replace(1)? == Some(1)
@@ -19,6 +20,7 @@ fn shows_insert_and_replace(alloc: Global) -> Result<bool, Fail> {
 #[test]
 fn examples_hold(rt: HostRuntime) -> Result<(), Fail> {
     let alloc = rt.alloc();
-    assert!(rt; shows_insert_and_replace(alloc)?);
+    assert!(rt; shows_insert(alloc)?);
+    assert!(rt; shows_replace(alloc)?);
     Ok(())
 }

@@ -8,19 +8,25 @@ fn shows_iter(alloc: Global) -> Result<bool, Fail> {
     Ok(set.iter().next() == Some(&2) && set.iter().next_back() == Some(&1))
 }
 
-fn shows_loop_by_reference_and_loop_by_value(alloc: Global) -> Result<bool, Fail> {
+fn shows_loop_by_reference(alloc: Global) -> Result<bool, Fail> {
     let set = numbers_back(alloc)?;
     let mut last = 0;
     for item in &set {
         last = *item;
     }
-    Ok(last == 1 && set.into_iter().next() == Some(2))
+    Ok(last == 1)
+}
+
+fn shows_loop_by_value(alloc: Global) -> Result<bool, Fail> {
+    let set = numbers_back(alloc)?;
+    Ok(set.into_iter().next() == Some(2))
 }
 
 #[test]
 fn examples_hold(rt: HostRuntime) -> Result<(), Fail> {
     let alloc = rt.alloc();
     assert!(rt; shows_iter(alloc)?);
-    assert!(rt; shows_loop_by_reference_and_loop_by_value(alloc)?);
+    assert!(rt; shows_loop_by_reference(alloc)?);
+    assert!(rt; shows_loop_by_value(alloc)?);
     Ok(())
 }

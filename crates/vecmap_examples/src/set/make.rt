@@ -4,11 +4,12 @@ use std::alloc::Global;
 use std::test::Fail;
 use vecmap::VecSet;
 
-fn shows_new_and_with_capacity(alloc: Global) -> Result<bool, Fail> {
+fn shows_new(alloc: Global) -> Result<bool, Fail> {
     let set: VecSet<u32> = VecSet::new(alloc);
-    if !((set.len(), set.capacity()) == (0, 0)) {
-        return Ok(false);
-    }
+    Ok((set.len(), set.capacity()) == (0, 0))
+}
+
+fn shows_with_capacity(alloc: Global) -> Result<bool, Fail> {
     let set: VecSet<u32> = VecSet::with_capacity(alloc, 4)?;
     Ok(set.is_empty() && 4 <= set.capacity())
 }
@@ -32,7 +33,8 @@ fn shows_into_vec(alloc: Global) -> Result<bool, Fail> {
 #[test]
 fn examples_hold(rt: HostRuntime) -> Result<(), Fail> {
     let alloc = rt.alloc();
-    assert!(rt; shows_new_and_with_capacity(alloc)?);
+    assert!(rt; shows_new(alloc)?);
+    assert!(rt; shows_with_capacity(alloc)?);
     assert!(rt; shows_clone_and_as_slice(alloc)?);
     assert!(rt; shows_into_vec(alloc)?);
     Ok(())

@@ -3,17 +3,19 @@ use crate::made::{one_text_set, three_numbers, two_numbers};
 use std::alloc::Global;
 use std::test::Fail;
 
-fn shows_clear_to_split_off(alloc: Global) -> Result<bool, Fail> {
+fn shows_clear(alloc: Global) -> Result<bool, Fail> {
     let mut set = two_numbers(alloc)?;
     set.clear();
-    if !(set.is_empty()) {
-        return Ok(false);
-    }
+    Ok(set.is_empty())
+}
+
+fn shows_truncate(alloc: Global) -> Result<bool, Fail> {
     let mut set = three_numbers(alloc)?;
     set.truncate(1);
-    if !(set.as_slice() == [1].as_slice()) {
-        return Ok(false);
-    }
+    Ok(set.as_slice() == [1].as_slice())
+}
+
+fn shows_split_off(alloc: Global) -> Result<bool, Fail> {
     let mut set = three_numbers(alloc)?;
     if !(1 <= set.len()) {
         return Ok(false);
@@ -22,42 +24,48 @@ fn shows_clear_to_split_off(alloc: Global) -> Result<bool, Fail> {
     Ok(set.as_slice() == [1].as_slice() && part.as_slice() == [2, 3].as_slice())
 }
 
-fn shows_drain_to_pop(alloc: Global) -> Result<bool, Fail> {
+fn shows_drain(alloc: Global) -> Result<bool, Fail> {
     let mut set = three_numbers(alloc)?;
-    if !(2 <= set.len() && set.drain(..2).next() == Some(1) && set.as_slice() == [3].as_slice()) {
-        return Ok(false);
-    }
+    Ok(2 <= set.len() && set.drain(..2).next() == Some(1) && set.as_slice() == [3].as_slice())
+}
+
+fn shows_retain(alloc: Global) -> Result<bool, Fail> {
     let mut set = three_numbers(alloc)?;
     set.retain(|item| *item != 2);
-    if !(set.as_slice() == [1, 3].as_slice()) {
-        return Ok(false);
-    }
+    Ok(set.as_slice() == [1, 3].as_slice())
+}
+
+fn shows_pop(alloc: Global) -> Result<bool, Fail> {
     let mut set = two_numbers(alloc)?;
     Ok(set.pop() == Some(2) && set.as_slice() == [1].as_slice())
 }
 
-fn shows_remove_to_swap_remove(alloc: Global) -> Result<bool, Fail> {
+fn shows_remove(alloc: Global) -> Result<bool, Fail> {
     let mut set = three_numbers(alloc)?;
-    if !(set.remove(&1) && !set.remove(&1) && set.as_slice() == [2, 3].as_slice()) {
-        return Ok(false);
-    }
+    Ok(set.remove(&1) && !set.remove(&1) && set.as_slice() == [2, 3].as_slice())
+}
+
+fn shows_remove_index(alloc: Global) -> Result<bool, Fail> {
     let mut set = three_numbers(alloc)?;
-    if !(0 < set.len() && set.remove_index(0) == 1 && set.as_slice() == [2, 3].as_slice()) {
-        return Ok(false);
-    }
+    Ok(0 < set.len() && set.remove_index(0) == 1 && set.as_slice() == [2, 3].as_slice())
+}
+
+fn shows_swap_remove(alloc: Global) -> Result<bool, Fail> {
     let mut set = three_numbers(alloc)?;
     Ok(set.swap_remove(&1) && set.as_slice() == [3, 2].as_slice())
 }
 
-fn shows_swap_remove_index_to_swap_take(alloc: Global) -> Result<bool, Fail> {
+fn shows_swap_remove_index(alloc: Global) -> Result<bool, Fail> {
     let mut set = three_numbers(alloc)?;
-    if !(0 < set.len() && set.swap_remove_index(0) == 1 && set.as_slice() == [3, 2].as_slice()) {
-        return Ok(false);
-    }
+    Ok(0 < set.len() && set.swap_remove_index(0) == 1 && set.as_slice() == [3, 2].as_slice())
+}
+
+fn shows_take(alloc: Global) -> Result<bool, Fail> {
     let mut set = three_numbers(alloc)?;
-    if !(set.take(&1) == Some(1) && set.as_slice() == [2, 3].as_slice()) {
-        return Ok(false);
-    }
+    Ok(set.take(&1) == Some(1) && set.as_slice() == [2, 3].as_slice())
+}
+
+fn shows_swap_take(alloc: Global) -> Result<bool, Fail> {
     let mut set = three_numbers(alloc)?;
     Ok(set.swap_take(&1) == Some(1) && set.as_slice() == [3, 2].as_slice())
 }
@@ -70,10 +78,18 @@ fn shows_remove_str(alloc: Global) -> Result<bool, Fail> {
 #[test]
 fn examples_hold(rt: HostRuntime) -> Result<(), Fail> {
     let alloc = rt.alloc();
-    assert!(rt; shows_clear_to_split_off(alloc)?);
-    assert!(rt; shows_drain_to_pop(alloc)?);
-    assert!(rt; shows_remove_to_swap_remove(alloc)?);
-    assert!(rt; shows_swap_remove_index_to_swap_take(alloc)?);
+    assert!(rt; shows_clear(alloc)?);
+    assert!(rt; shows_truncate(alloc)?);
+    assert!(rt; shows_split_off(alloc)?);
+    assert!(rt; shows_drain(alloc)?);
+    assert!(rt; shows_retain(alloc)?);
+    assert!(rt; shows_pop(alloc)?);
+    assert!(rt; shows_remove(alloc)?);
+    assert!(rt; shows_remove_index(alloc)?);
+    assert!(rt; shows_swap_remove(alloc)?);
+    assert!(rt; shows_swap_remove_index(alloc)?);
+    assert!(rt; shows_take(alloc)?);
+    assert!(rt; shows_swap_take(alloc)?);
     assert!(rt; shows_remove_str(alloc)?);
     Ok(())
 }
