@@ -41,3 +41,13 @@ pub fn other_numbers(alloc: Global) -> Result<VecSet<u32>, AllocError> {
 pub fn one_text_set(alloc: Global) -> Result<VecSet<String>, AllocError> {
     Ok(vecset!(alloc; String::from_str(alloc, "a")?))
 }
+
+/// Whether a map has these pairs, in this order.
+pub fn has_pairs<K: Eq, V: Eq>(map: &VecMap<K, V>, pairs: &[(K, V)]) -> bool {
+    map.as_slice() == pairs
+}
+
+/// Whether a set has these elements, in this order.
+pub fn has_items<T: Eq>(set: &VecSet<T>, items: &[T]) -> bool {
+    set.as_slice() == items
+}

@@ -1,5 +1,5 @@
 //! Examples of `vecmap_base/src/iter_mut.rt`.
-use crate::made::two_letters;
+use crate::made::{has_pairs, two_letters};
 use std::alloc::Global;
 use std::test::Fail;
 use vecmap::map::MutableKeys;
@@ -10,7 +10,7 @@ fn shows_iter_mut(alloc: Global) -> Result<bool, Fail> {
     if let Some((_key, value)) = pairs.next_back() {
         *value = 3;
     }
-    Ok(map.as_slice() == [('a', 1), ('b', 3)].as_slice())
+    Ok(has_pairs(&map, &[('a', 1), ('b', 3)]))
 }
 
 fn shows_iter_mut2(alloc: Global) -> Result<bool, Fail> {
@@ -19,7 +19,7 @@ fn shows_iter_mut2(alloc: Global) -> Result<bool, Fail> {
     if let Some((key, _value)) = pairs.next() {
         *key = 'c';
     }
-    Ok(map.as_slice() == [('c', 1), ('b', 2)].as_slice())
+    Ok(has_pairs(&map, &[('c', 1), ('b', 2)]))
 }
 
 fn shows_keys_mut(alloc: Global) -> Result<bool, Fail> {
@@ -28,7 +28,7 @@ fn shows_keys_mut(alloc: Global) -> Result<bool, Fail> {
     if let Some(key) = keys.next() {
         *key = 'c';
     }
-    Ok(map.as_slice() == [('c', 1), ('b', 2)].as_slice())
+    Ok(has_pairs(&map, &[('c', 1), ('b', 2)]))
 }
 
 fn shows_values_mut(alloc: Global) -> Result<bool, Fail> {
@@ -37,7 +37,7 @@ fn shows_values_mut(alloc: Global) -> Result<bool, Fail> {
     if let Some(value) = values.next() {
         *value = 3;
     }
-    Ok(map.as_slice() == [('a', 3), ('b', 2)].as_slice())
+    Ok(has_pairs(&map, &[('a', 3), ('b', 2)]))
 }
 
 #[test]

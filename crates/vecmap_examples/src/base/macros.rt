@@ -1,4 +1,5 @@
 //! Examples of `vecmap/src/macros.rt`.
+use crate::made::{has_items, has_pairs};
 use std::alloc::Global;
 use std::test::Fail;
 use vecmap::macros::{add_item, put_pair};
@@ -6,23 +7,23 @@ use vecmap::{VecMap, VecSet, vecmap, vecset};
 
 fn shows_vecmap_and_vecset(alloc: Global) -> Result<bool, Fail> {
     let map = vecmap!(alloc; 'a' => 1, 'b' => 2, 'a' => 3);
-    if !(map.as_slice() == [('a', 3), ('b', 2)].as_slice()) {
+    if !(has_pairs(&map, &[('a', 3), ('b', 2)])) {
         return Ok(false);
     }
     let set = vecset!(alloc; 2, 1, 2);
-    Ok(set.as_slice() == [2, 1].as_slice())
+    Ok(has_items(&set, &[2, 1]))
 }
 
 fn shows_put_pair(alloc: Global) -> Result<bool, Fail> {
     let mut map = VecMap::new(alloc);
     put_pair(&mut map, 'a', 1)?;
-    Ok(map.as_slice() == [('a', 1)].as_slice())
+    Ok(has_pairs(&map, &[('a', 1)]))
 }
 
 fn shows_add_item(alloc: Global) -> Result<bool, Fail> {
     let mut set = VecSet::new(alloc);
     add_item(&mut set, 'a')?;
-    Ok(set.as_slice() == ['a'].as_slice())
+    Ok(has_items(&set, &['a']))
 }
 
 #[test]

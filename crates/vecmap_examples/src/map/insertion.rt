@@ -1,5 +1,5 @@
 //! Examples of `vecmap_map/src/insertion.rt`.
-use crate::made::two_letters;
+use crate::made::{has_pairs, two_letters};
 use std::alloc::Global;
 use std::test::Fail;
 
@@ -8,7 +8,7 @@ fn shows_insert(alloc: Global) -> Result<bool, Fail> {
     Ok(
         map.insert('a', 3)? == Some(1)
             && map.insert('c', 4)?.is_none()
-            && map.as_slice() == [('a', 3), ('b', 2), ('c', 4)].as_slice(),
+            && has_pairs(&map, &[('a', 3), ('b', 2), ('c', 4)]),
     )
 }
 
@@ -19,10 +19,7 @@ fn shows_insert_full(alloc: Global) -> Result<bool, Fail> {
 
 fn shows_insert_key(alloc: Global) -> Result<bool, Fail> {
     let mut map = two_letters(alloc)?;
-    Ok(
-        map.insert_key('a', 3)? == Some(('a', 1))
-            && map.as_slice() == [('a', 3), ('b', 2)].as_slice(),
-    )
+    Ok(map.insert_key('a', 3)? == Some(('a', 1)) && has_pairs(&map, &[('a', 3), ('b', 2)]))
 }
 
 fn shows_insert_at(alloc: Global) -> Result<bool, Fail> {
@@ -30,7 +27,7 @@ fn shows_insert_at(alloc: Global) -> Result<bool, Fail> {
     Ok(
         map.insert_at(0, 'c', 3)?.is_none()
             && map.insert_at(0, 'b', 4)? == Some((2, 2))
-            && map.as_slice() == [('b', 4), ('c', 3), ('a', 1)].as_slice(),
+            && has_pairs(&map, &[('b', 4), ('c', 3), ('a', 1)]),
     )
 }
 

@@ -1,5 +1,5 @@
 //! Examples of `vecmap_map/src/make.rt`.
-use crate::made::two_letters;
+use crate::made::{has_pairs, two_letters};
 use std::alloc::Global;
 use std::test::Fail;
 use vecmap::VecMap;
@@ -16,7 +16,7 @@ fn shows_with_capacity(alloc: Global) -> Result<bool, Fail> {
 
 fn shows_as_slice(alloc: Global) -> Result<bool, Fail> {
     let map = two_letters(alloc)?;
-    Ok(map.as_slice() == [('a', 1), ('b', 2)].as_slice())
+    Ok(has_pairs(&map, &[('a', 1), ('b', 2)]))
 }
 
 fn shows_into_vec(alloc: Global) -> Result<bool, Fail> {

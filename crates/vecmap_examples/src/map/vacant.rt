@@ -1,5 +1,5 @@
 //! Examples of `vecmap_map/src/entry/vacant.rt`.
-use crate::made::two_letters;
+use crate::made::{has_pairs, two_letters};
 use std::alloc::Global;
 use std::test::Fail;
 use vecmap::map::Entry;
@@ -28,7 +28,7 @@ fn shows_insert(alloc: Global) -> Result<bool, Fail> {
     if let Entry::Vacant(entry) = map.entry('c') {
         *entry.insert(3)? = 4;
     }
-    Ok(map.as_slice() == [('a', 1), ('b', 2), ('c', 4)].as_slice())
+    Ok(has_pairs(&map, &[('a', 1), ('b', 2), ('c', 4)]))
 }
 
 fn shows_insert_entry(alloc: Global) -> Result<bool, Fail> {
@@ -36,7 +36,7 @@ fn shows_insert_entry(alloc: Global) -> Result<bool, Fail> {
     if let Entry::Vacant(entry) = map.entry('c') {
         entry.insert_entry(3)?.insert(4);
     }
-    Ok(map.as_slice() == [('a', 1), ('b', 2), ('c', 4)].as_slice())
+    Ok(has_pairs(&map, &[('a', 1), ('b', 2), ('c', 4)]))
 }
 
 #[test]

@@ -1,40 +1,40 @@
 //! Examples of `vecmap_set/src/bulk.rt`.
-use crate::made::{other_numbers, two_numbers};
+use crate::made::{has_items, other_numbers, two_numbers};
 use std::alloc::Global;
 use std::test::Fail;
 use vecmap::VecSet;
 
 fn shows_from_iter_and_from_slice(alloc: Global) -> Result<bool, Fail> {
     let set = VecSet::from_iter(alloc, [2, 1, 2])?;
-    if !(set.as_slice() == [2, 1].as_slice()) {
+    if !(has_items(&set, &[2, 1])) {
         return Ok(false);
     }
     let set = VecSet::from_slice(alloc, &[2, 1, 2])?;
-    Ok(set.as_slice() == [2, 1].as_slice())
+    Ok(has_items(&set, &[2, 1]))
 }
 
 fn shows_append(alloc: Global) -> Result<bool, Fail> {
     let mut set = two_numbers(alloc)?;
     let mut other = other_numbers(alloc)?;
     set.append(&mut other)?;
-    Ok(set.as_slice() == [1, 2, 3].as_slice() && other.is_empty())
+    Ok(has_items(&set, &[1, 2, 3]) && other.is_empty())
 }
 
 fn shows_extend(alloc: Global) -> Result<bool, Fail> {
     let mut set = two_numbers(alloc)?;
     set.extend([2, 3])?;
-    Ok(set.as_slice() == [1, 2, 3].as_slice())
+    Ok(has_items(&set, &[1, 2, 3]))
 }
 
 fn shows_extend_copied(alloc: Global) -> Result<bool, Fail> {
     let mut set = two_numbers(alloc)?;
     set.extend_copied(&[2, 3])?;
-    Ok(set.as_slice() == [1, 2, 3].as_slice())
+    Ok(has_items(&set, &[1, 2, 3]))
 }
 
 fn shows_collect(alloc: Global) -> Result<bool, Fail> {
     let set: VecSet<u32> = [2, 1, 2].into_iter().collect(alloc)?;
-    Ok(set.as_slice() == [2, 1].as_slice())
+    Ok(has_items(&set, &[2, 1]))
 }
 
 #[test]

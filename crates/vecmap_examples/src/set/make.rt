@@ -1,5 +1,5 @@
 //! Examples of `vecmap_set/src/make.rt`.
-use crate::made::{numbers_back, two_numbers};
+use crate::made::{has_items, numbers_back, two_numbers};
 use std::alloc::Global;
 use std::test::Fail;
 use vecmap::VecSet;
@@ -22,7 +22,7 @@ fn shows_clone_and_as_slice(alloc: Global) -> Result<bool, Fail> {
         return Ok(false);
     }
     let set = numbers_back(alloc)?;
-    Ok(set.as_slice() == [2, 1].as_slice())
+    Ok(has_items(&set, &[2, 1]))
 }
 
 fn shows_into_vec(alloc: Global) -> Result<bool, Fail> {

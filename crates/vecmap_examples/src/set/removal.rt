@@ -1,5 +1,5 @@
 //! Examples of `vecmap_set/src/removal.rt`.
-use crate::made::{one_text_set, three_numbers, two_numbers};
+use crate::made::{has_items, one_text_set, three_numbers, two_numbers};
 use std::alloc::Global;
 use std::test::Fail;
 
@@ -12,7 +12,7 @@ fn shows_clear(alloc: Global) -> Result<bool, Fail> {
 fn shows_truncate(alloc: Global) -> Result<bool, Fail> {
     let mut set = three_numbers(alloc)?;
     set.truncate(1);
-    Ok(set.as_slice() == [1].as_slice())
+    Ok(has_items(&set, &[1]))
 }
 
 fn shows_split_off(alloc: Global) -> Result<bool, Fail> {
@@ -21,53 +21,53 @@ fn shows_split_off(alloc: Global) -> Result<bool, Fail> {
         return Ok(false);
     }
     let part = set.split_off(1)?;
-    Ok(set.as_slice() == [1].as_slice() && part.as_slice() == [2, 3].as_slice())
+    Ok(has_items(&set, &[1]) && part.as_slice() == [2, 3].as_slice())
 }
 
 fn shows_drain(alloc: Global) -> Result<bool, Fail> {
     let mut set = three_numbers(alloc)?;
-    Ok(2 <= set.len() && set.drain(..2).next() == Some(1) && set.as_slice() == [3].as_slice())
+    Ok(2 <= set.len() && set.drain(..2).next() == Some(1) && has_items(&set, &[3]))
 }
 
 fn shows_retain(alloc: Global) -> Result<bool, Fail> {
     let mut set = three_numbers(alloc)?;
     set.retain(|item| *item != 2);
-    Ok(set.as_slice() == [1, 3].as_slice())
+    Ok(has_items(&set, &[1, 3]))
 }
 
 fn shows_pop(alloc: Global) -> Result<bool, Fail> {
     let mut set = two_numbers(alloc)?;
-    Ok(set.pop() == Some(2) && set.as_slice() == [1].as_slice())
+    Ok(set.pop() == Some(2) && has_items(&set, &[1]))
 }
 
 fn shows_remove(alloc: Global) -> Result<bool, Fail> {
     let mut set = three_numbers(alloc)?;
-    Ok(set.remove(&1) && !set.remove(&1) && set.as_slice() == [2, 3].as_slice())
+    Ok(set.remove(&1) && !set.remove(&1) && has_items(&set, &[2, 3]))
 }
 
 fn shows_remove_index(alloc: Global) -> Result<bool, Fail> {
     let mut set = three_numbers(alloc)?;
-    Ok(0 < set.len() && set.remove_index(0) == 1 && set.as_slice() == [2, 3].as_slice())
+    Ok(0 < set.len() && set.remove_index(0) == 1 && has_items(&set, &[2, 3]))
 }
 
 fn shows_swap_remove(alloc: Global) -> Result<bool, Fail> {
     let mut set = three_numbers(alloc)?;
-    Ok(set.swap_remove(&1) && set.as_slice() == [3, 2].as_slice())
+    Ok(set.swap_remove(&1) && has_items(&set, &[3, 2]))
 }
 
 fn shows_swap_remove_index(alloc: Global) -> Result<bool, Fail> {
     let mut set = three_numbers(alloc)?;
-    Ok(0 < set.len() && set.swap_remove_index(0) == 1 && set.as_slice() == [3, 2].as_slice())
+    Ok(0 < set.len() && set.swap_remove_index(0) == 1 && has_items(&set, &[3, 2]))
 }
 
 fn shows_take(alloc: Global) -> Result<bool, Fail> {
     let mut set = three_numbers(alloc)?;
-    Ok(set.take(&1) == Some(1) && set.as_slice() == [2, 3].as_slice())
+    Ok(set.take(&1) == Some(1) && has_items(&set, &[2, 3]))
 }
 
 fn shows_swap_take(alloc: Global) -> Result<bool, Fail> {
     let mut set = three_numbers(alloc)?;
-    Ok(set.swap_take(&1) == Some(1) && set.as_slice() == [3, 2].as_slice())
+    Ok(set.swap_take(&1) == Some(1) && has_items(&set, &[3, 2]))
 }
 
 fn shows_remove_str(alloc: Global) -> Result<bool, Fail> {
