@@ -1,5 +1,5 @@
 -- A write of a value, seen as a put.
-use Rattle.std.specs.Prelude.{◌≡◌, ℕ, Bool, List, [], ◌∷◌, ◌++◌, None, Option, Some, IsSome, refl}
+use Rattle.std.specs.Prelude.{◌≡◌, ℕ, Bool, [], ◌∷◌, ◌++◌, None, Option, Some, IsSome, refl}
 use Rattle.std.specs.Option.{option_map_or}
 use Rattle.std.proofs.Common.{sym, true≢false}
 use Rattle.vecmap_base.specs.Pairs.{index_of, put, with_value}
