@@ -52,9 +52,11 @@ fn agrees(alloc: Global, seed: u64, steps: usize) -> Result<bool, Fail> {
     }
     let mut map = VecMap::new(alloc);
     let replies = run(alloc, &mut map, commands)?;
-    Ok(are_answers(&replies, &answers)
-        && is_same_list(map.as_slice(), &list)
-        && is_same_list(called.as_slice(), &list))
+    Ok(
+        are_answers(&replies, &answers)
+            && is_same_list(map.as_slice(), &list)
+            && is_same_list(called.as_slice(), &list),
+    )
 }
 
 /// Whether each reply is the answer.

@@ -19,11 +19,7 @@ use vecmap::{SetReply, VecSet, run_set};
 use vecmap_fixtures::Item;
 
 /// What a plain list of elements answers, and becomes.
-fn on_list(
-    alloc: Global,
-    list: &[Item],
-    draw: &Draw,
-) -> Result<(Answer, Vec<Item>), AllocError> {
+fn on_list(alloc: Global, list: &[Item], draw: &Draw) -> Result<(Answer, Vec<Item>), AllocError> {
     match draw.kind % 31 {
         0 | 1 => put::on_list(alloc, list, draw),
         2..=8 => read::on_list(alloc, list, draw),
@@ -54,9 +50,11 @@ fn agrees(alloc: Global, seed: u64, steps: usize) -> Result<bool, Fail> {
     }
     let mut set = VecSet::new(alloc);
     let replies = run_set(alloc, &mut set, commands)?;
-    Ok(are_answers(&replies, &answers)
-        && is_same_list(set.as_slice(), &list)
-        && is_same_list(called.as_slice(), &list))
+    Ok(
+        are_answers(&replies, &answers)
+            && is_same_list(set.as_slice(), &list)
+            && is_same_list(called.as_slice(), &list),
+    )
 }
 
 /// Whether each reply is the answer.

@@ -20,7 +20,10 @@ pub(crate) fn on_list(alloc: Global, list: &[(Item, u32)], draw: &Draw) -> Outco
         2 => insert_at(alloc, list, draw),
         3 => insert_key(alloc, list, draw),
         _ => match found {
-            Some(_there) => Ok((Answer::Kept(place, false), part(alloc, list, 0, list.len())?)),
+            Some(_there) => Ok((
+                Answer::Kept(place, false),
+                part(alloc, list, 0, list.len())?,
+            )),
             None => Ok((Answer::Kept(place, true), put(alloc, list, key, value)?)),
         },
     }
@@ -40,7 +43,10 @@ fn insert_at(alloc: Global, list: &[(Item, u32)], draw: &Draw) -> Outcome {
             let moved = Answer::Moved(Some((at, old)));
             Ok((moved, inserted(alloc, &rest, place, pair)?))
         }
-        _ => Ok((Answer::Moved(None), inserted(alloc, list, draw.place, pair)?)),
+        _ => Ok((
+            Answer::Moved(None),
+            inserted(alloc, list, draw.place, pair)?,
+        )),
     }
 }
 
