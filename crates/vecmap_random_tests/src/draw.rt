@@ -33,10 +33,8 @@ impl Draws {
     /// What the next command carries.
     pub(crate) fn next(&mut self, alloc: Global) -> Result<Draw, AllocError> {
         let mut pairs = Vec::new(alloc);
-        let mut more = self.number() % 4;
-        while 0 < more {
+        for _pair in 0..self.number() % 4 {
             pairs.push((self.item(), self.number()))?;
-            more -= 1;
         }
         Ok(Draw {
             kind: self.number(),

@@ -38,8 +38,7 @@ fn agrees(alloc: Global, seed: u64, steps: usize) -> Result<bool, Fail> {
     let mut answers = Vec::new(alloc);
     let mut list = Vec::new(alloc);
     let mut called = VecMap::new(alloc);
-    let mut left = steps;
-    while 0 < left {
+    for _step in 0..steps {
         let draw = draws.next(alloc)?;
         let (answer, next) = on_list(alloc, &list, &draw)?;
         if !is_answer(&call(alloc, &mut called, &draw)?, &answer) {
@@ -48,7 +47,6 @@ fn agrees(alloc: Global, seed: u64, steps: usize) -> Result<bool, Fail> {
         commands.push(command(alloc, &draw)?)?;
         answers.push(answer)?;
         list = next;
-        left -= 1;
     }
     let mut map = VecMap::new(alloc);
     let replies = run(alloc, &mut map, commands)?;
