@@ -2,14 +2,15 @@
 use Rattle.std.specs.Prelude.{◌≡◌, [], ◌∷◌, None, Some, String, false, refl, string_bytes, true}
 use Rattle.std.specs.declared.alloc.Global.{Global}
 use Rattle.attr_doc.specs.Documents.{Sections, merged, text_of, with_section, with_text}
-use Rattle.attr_doc.specs.Names.{lowercase, same_name}
+use Rattle.attr_doc.specs.Names.{same_name}
 
--- `A`, `Z` and `[`
-a_folded_name : lowercase (65 ∷ 90 ∷ 91 ∷ []) ≡ 97 ∷ 122 ∷ 91 ∷ []
-a_folded_name = refl
-
+-- `Az[` and `aZ[`
 a_name_in_other_case : same_name (65 ∷ 122 ∷ 91 ∷ []) (97 ∷ 90 ∷ 91 ∷ []) ≡ true
 a_name_in_other_case = refl
+
+-- `@` and a backquote, `[` and a brace: as far apart as a letter's two cases
+a_name_beside_the_letters : same_name (64 ∷ 91 ∷ []) (96 ∷ 123 ∷ []) ≡ false
+a_name_beside_the_letters = refl
 
 -- `é` and `É`
 a_name_past_ascii : same_name (195 ∷ 169 ∷ []) (195 ∷ 137 ∷ []) ≡ false

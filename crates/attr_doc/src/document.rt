@@ -19,6 +19,14 @@ use vecmap::{Refused, VecMap};
 ///
 /// Sections stand in the order of their first setting, and so do the names in each. On both levels no two names are the
 /// same, and no section is empty.
+///
+/// Examples write `name("Font")?` for `Name::new("Font".to_string(alloc)?)`, and begin with this document:
+///
+/// ```
+/// let mut page = Document::new(alloc);
+/// page.set(name("Font")?, name("Size")?, "12".to_string(alloc)?)?;
+/// format!(in alloc; "{page:?}")? // {"Font": {"Size": "12"}}
+/// ```
 #[derive(Drop)]
 pub struct Document {
     sections: VecMap<Name, VecMap<Name, String>>,
@@ -37,6 +45,10 @@ impl Model for Document {
 
 impl Document {
     /// The document of no sections, which has taken no memory.
+    ///
+    /// ```
+    /// Document::new(alloc).sections().len() // 0
+    /// ```
     pub fn new(alloc: Global) -> Document
         ensures sections { result ≡ [] }
         ensures document { IsDocument result }
@@ -54,6 +66,11 @@ impl Document {
     /// a new name or a new section where there is no room. Refused, all three come back and nothing has changed.
     ///
     /// It takes at most as many comparisons as there are sections and names in the section.
+    ///
+    /// ```
+    /// page.set(name("FONT")?, name("size")?, "14".to_string(alloc)?)? // Some("12")
+    /// format!(in alloc; "{page:?}")? // {"Font": {"Size": "14"}}
+    /// ```
     pub fn set(
         &mut self,
         section: Name,
@@ -73,6 +90,11 @@ impl Document {
     /// The text under a section and a name, if there is one.
     ///
     /// It takes at most as many comparisons as there are sections and names in the section.
+    ///
+    /// ```
+    /// page.get(&name("font")?, &name("SIZE")?) // Some("12")
+    /// page.get(&name("font")?, &name("Color")?) // None
+    /// ```
     pub fn get(&self, section: &Name, name: &Name) -> Option<&str>
         ensures { option_copied result ≡ text_of self.now section.now name.now }
     {
@@ -88,13 +110,21 @@ impl Document {
     /// Sets all texts of `other`, section by section in its order, and leaves `other` empty.
     ///
     /// Room for all of them is made first, in the document and in each section that is there. Refused at that, nothing has
-    /// changed in either.
+    /// changed in either. Of a document with no section a merge is never refused.
     ///
     /// Each section and each text takes one lookup.
+    ///
+    /// ```
+    /// let mut changes = Document::new(alloc);
+    /// changes.set(name("font")?, name("Color")?, "red".to_string(alloc)?)?;
+    /// page.merge(&mut changes)?;
+    /// format!(in alloc; "{page:?} {changes:?}")? // {"Font": {"Size": "12", "Color": "red"}} {}
+    /// ```
     pub fn merge(&mut self, other: &mut Document) -> Result<(), AllocError>
         ensures sections { OnOk result (self.new ≡ merged self.old other.old) }
         ensures document { IsDocument self.new }
         ensures emptied { OnOk result (other.new ≡ []) }
+        ensures some { OnErr result (0 < length other.old) }
         ensures err { OnErr result (self.new ≡ self.old) }
         ensures other_err { OnErr result (other.new ≡ other.old) }
     {
@@ -105,6 +135,12 @@ impl Document {
     }
 
     /// Whether two documents have the same texts, whatever the order of their sections and names and the case of these.
+    ///
+    /// ```
+    /// let mut other = Document::new(alloc);
+    /// other.set(name("FONT")?, name("SIZE")?, "12".to_string(alloc)?)?;
+    /// page.same(&other) // true
+    /// ```
     pub fn same(&self, other: &Document) -> bool
         ensures { IsTrue result ↔ ((section name : List ℕ) → text_of self.now section name ≡ text_of other.now section name) }
     {
@@ -112,6 +148,10 @@ impl Document {
     }
 
     /// The names of the sections, in their order. It takes constant time and no memory.
+    ///
+    /// ```
+    /// page.sections().next().map(Name::text) // Some("Font")
+    /// ```
     pub fn sections(&self) -> Keys<'_, Name, VecMap<Name, String>>
         ensures rest { result ≡ keys_of self.now }
         ensures fits { length result < 2 ^ 64 }

@@ -23,6 +23,10 @@ impl Model for Name {
 
 impl Name {
     /// The name with this text.
+    ///
+    /// ```
+    /// Name::new("Font".to_string(alloc)?) == Name::new("FONT".to_string(alloc)?) // true
+    /// ```
     pub fn new(text: String) -> Name
         ensures { result ≡ string_bytes text }
     {
@@ -30,6 +34,10 @@ impl Name {
     }
 
     /// The text, as it was handed in.
+    ///
+    /// ```
+    /// Name::new("Font".to_string(alloc)?).text() // "Font"
+    /// ```
     pub fn text(&self) -> &str
         ensures { result.now ≡ self.now }
     {

@@ -1,7 +1,7 @@
 //! Room for the sections of another document, made before any of them moves.
 ghost use Rattle.attr_doc.specs.Documents.{HasRoomAt, IsRoomFor, merged, sections_of, with_section};
 ghost use Rattle.attr_doc.specs.Names.{same_name};
-ghost use Rattle.std.specs.Prelude.{All, ◌≡◌, ◌+◌, ◌≤◌, ℕ, List, OnOk, false, length};
+ghost use Rattle.std.specs.Prelude.{All, ◌≡◌, ◌+◌, ◌<◌, ◌≤◌, ℕ, List, OnErr, OnOk, false, length};
 ghost use Rattle.vecmap.specs.Contents.{HasRoom};
 ghost use Rattle.vecmap.specs.Pairs.{HasDistinctKeys, lookup};
 
@@ -17,6 +17,7 @@ pub(crate) fn make_room(
     ensures kept { sections_of sections.new.entries ≡ sections_of sections.old.entries }
     ensures room { OnOk result (HasRoom sections.new (length others.now.entries)) }
     ensures each { OnOk result (All (IsRoomFor sections.new.entries) others.now.entries) }
+    ensures some { OnErr result (0 < length others.now.entries) }
 {
     sections.reserve(others.len())?;
     for other in others.as_slice() {

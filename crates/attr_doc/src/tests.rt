@@ -1,4 +1,5 @@
 //! Whole documents, each as it is printed.
+mod examples;
 mod names;
 mod refusals;
 

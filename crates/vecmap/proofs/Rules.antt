@@ -5,14 +5,10 @@ use Rattle.vecmap_base.specs.Pairs.{HasDistinctKeys}
 use Rattle.vecmap_base.proofs.DistinctLemmas.Absent.{distinct_none}
 use Rattle.vecmap_base.proofs.DistinctLemmas.Keys.{distinct_put, distinct_puts}
 use Rattle.vecmap_base.proofs.PairsLemmas.Keys.{keys_of_put, keys_of_puts}
-use Rattle.vecmap_base.proofs.PairsLemmas.Lookups.{lookup_put, lookup_put_other}
 
 -- an empty list has no two equal keys
 pub distinct_empty : {K V : Type 0} (eq : K → K → Bool) (l : List (K × V)) → l ≡ [] → HasDistinctKeys eq l
 distinct_empty eq l e = subst (HasDistinctKeys eq) (sym e) (distinct_none eq)
-
--- what a lookup finds after a put
-pub ruleset lookups = (lookup_put, lookup_put_other)
 
 -- which keys there are after a put and after many
 pub ruleset keys = (keys_of_put, keys_of_puts)

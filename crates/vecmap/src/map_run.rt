@@ -16,6 +16,13 @@ use vecmap_map::VecMap;
 ///
 /// Room for the replies is made first. Where there is none, no command runs and the map is as before. A command that is
 /// out of range or refused memory changes nothing, what it carried is dropped, and the run goes on.
+///
+/// ```
+/// let mut map = vecmap!(alloc; 'a' => 1);
+/// let commands = vec![in alloc; MapCommand::Insert('b', 2), MapCommand::Get('a'), MapCommand::RemoveIndex(2)]?;
+/// run(alloc, &mut map, commands)? // [Value(None), Value(Some(1)), OutOfRange]
+/// map.as_slice() // [('a', 1), ('b', 2)]
+/// ```
 pub fn run<K: Eq + Clone, V: Eq + Clone>(
     alloc: Global,
     map: &mut VecMap<K, V>,

@@ -19,6 +19,13 @@ use vecmap_set::VecSet;
 /// Room for the replies is made first. Where there is none, no command runs and the set is as before. A command that is
 /// out of range or refused memory changes nothing, what it carried is dropped, and the run goes on. A clone of an element
 /// must be equal to it.
+///
+/// ```
+/// let mut set = vecset!(alloc; 1);
+/// let commands = vec![in alloc; SetCommand::Insert(2), SetCommand::Insert(1), SetCommand::Contains(2)]?;
+/// run_set(alloc, &mut set, commands)? // [Truth(true), Truth(false), Truth(true)]
+/// set.as_slice() // [1, 2]
+/// ```
 pub fn run_set<T: Eq + Clone>(
     alloc: Global,
     set: &mut VecSet<T>,

@@ -38,6 +38,11 @@ impl<'a, T> Model for Iter<'a, T> {
 
 impl<'a, T> Iter<'a, T> {
     /// The elements of a slice, from the first to the last.
+    ///
+    /// ```
+    /// let mut items = Iter::over(&[1, 2]);
+    /// items.next_back() // Some(&2)
+    /// ```
     pub fn over(items: &'a [T]) -> Iter<'a, T>
         ensures rest { result ≡ items.now }
         ensures fits { length result < 2 ^ 64 }
@@ -50,6 +55,14 @@ impl<'a, T> Iter<'a, T> {
     }
 
     /// Another over what is left. It takes no memory.
+    ///
+    /// ```
+    /// let set = vecset!(alloc; 1, 2);
+    /// let mut items = set.iter();
+    /// items.next() // Some(&1)
+    /// items.clone().next() // Some(&2)
+    /// items.len() // 1
+    /// ```
     pub fn clone(&self) -> Iter<'a, T>
         ensures { result ≡ self.now }
     {
@@ -126,6 +139,12 @@ impl<T> Model for IntoIter<T> {
 
 impl<T> IntoIter<T> {
     /// The elements of a vector, from the first to the last. It takes no memory.
+    ///
+    /// ```
+    /// let set = vecset!(alloc; 1, 2);
+    /// let mut items = IntoIter::over(set.into_vec());
+    /// items.next() // Some(1)
+    /// ```
     pub fn over(items: Vec<T>) -> IntoIter<T>
         ensures rest { result ≡ items.items }
         ensures fits { length result < 2 ^ 64 }
@@ -139,6 +158,14 @@ impl<T> IntoIter<T> {
 
     /// Another over clones of the elements that are left, in the same order. Refused, nothing is made, and this one still
     /// gives all that it has left.
+    ///
+    /// ```
+    /// let set = vecset!(alloc; 1, 2);
+    /// let mut items = set.into_iter();
+    /// items.next() // Some(1)
+    /// items.clone()?.next() // Some(2)
+    /// items.len() // 1
+    /// ```
     pub fn clone(&self) -> Result<IntoIter<T>, AllocError>
     where
         T: Clone,

@@ -39,6 +39,14 @@ impl<'a, K, V> Model for IterMut<'a, K, V> {
 
 impl<'a, K, V> IterMut<'a, K, V> {
     /// The pairs of a slice, from the first to the last, each value to be written.
+    ///
+    /// ```
+    /// let mut pairs = [('a', 1), ('b', 2)];
+    /// if let Some((_key, value)) = IterMut::over(&mut pairs).next() {
+    ///     *value = 3;
+    /// }
+    /// pairs[0] // ('a', 3)
+    /// ```
     pub fn over(pairs: &'a mut [(K, V)]) -> IterMut<'a, K, V>
         ensures rest { result ≡ pairs.old }
         ensures fits { length result < 2 ^ 64 }
@@ -123,6 +131,14 @@ impl<'a, K, V> Model for IterMut2<'a, K, V> {
 
 impl<'a, K, V> IterMut2<'a, K, V> {
     /// The pairs of a slice, from the first to the last, each key and each value to be written.
+    ///
+    /// ```
+    /// let mut pairs = [('a', 1), ('b', 2)];
+    /// if let Some((key, _value)) = IterMut2::over(&mut pairs).next() {
+    ///     *key = 'c';
+    /// }
+    /// pairs[0] // ('c', 1)
+    /// ```
     pub fn over(pairs: &'a mut [(K, V)]) -> IterMut2<'a, K, V>
         ensures rest { result ≡ pairs.old }
         ensures fits { length result < 2 ^ 64 }
@@ -208,6 +224,14 @@ impl<'a, K, V> Model for KeysMut<'a, K, V> {
 
 impl<'a, K, V> KeysMut<'a, K, V> {
     /// The keys of a slice of pairs, from the first to the last, each to be written.
+    ///
+    /// ```
+    /// let mut pairs = [('a', 1), ('b', 2)];
+    /// if let Some(key) = KeysMut::over(&mut pairs).next() {
+    ///     *key = 'c';
+    /// }
+    /// pairs[0] // ('c', 1)
+    /// ```
     pub fn over(pairs: &'a mut [(K, V)]) -> KeysMut<'a, K, V>
         ensures rest { result ≡ keys_of pairs.old }
         ensures fits { length result < 2 ^ 64 }
@@ -295,6 +319,14 @@ impl<'a, K, V> Model for ValuesMut<'a, K, V> {
 
 impl<'a, K, V> ValuesMut<'a, K, V> {
     /// The values of a slice of pairs, from the first to the last, each to be written.
+    ///
+    /// ```
+    /// let mut pairs = [('a', 1), ('b', 2)];
+    /// if let Some(value) = ValuesMut::over(&mut pairs).next() {
+    ///     *value = 3;
+    /// }
+    /// pairs[0] // ('a', 3)
+    /// ```
     pub fn over(pairs: &'a mut [(K, V)]) -> ValuesMut<'a, K, V>
         ensures rest { result ≡ values_of pairs.old }
         ensures fits { length result < 2 ^ 64 }

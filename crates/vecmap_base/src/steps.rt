@@ -25,6 +25,10 @@ impl Steps {
     ghost use Rattle.std.specs.Prelude.{◌≡◌, ◌+◌, ◌<◌};
 
     /// No comparison yet.
+    ///
+    /// ```
+    /// Steps::new().count() // 0
+    /// ```
     pub fn new() -> Steps
         ensures { result ≡ 0 }
     {
@@ -32,6 +36,13 @@ impl Steps {
     }
 
     /// The number of comparisons so far.
+    ///
+    /// ```
+    /// let mut steps = Steps::new();
+    /// steps.same(&1, &2) // false
+    /// steps.same(&1, &1) // true
+    /// steps.count() // 2
+    /// ```
     #[inline]
     pub fn count(&self) -> u128
         ensures { result ≡ self.now }
@@ -40,6 +51,11 @@ impl Steps {
     }
 
     /// Whether `a == b`, in one comparison more. The count must be below `u128::MAX`: `count` tells.
+    ///
+    /// ```
+    /// let mut steps = Steps::new();
+    /// steps.same(&1, &1) // true
+    /// ```
     #[inline]
     pub fn same<T: Eq>(&mut self, a: &T, b: &T) -> bool
         requires { self.old < u128.MAX }

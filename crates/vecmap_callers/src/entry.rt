@@ -51,6 +51,17 @@ pub fn or_zero<K: Eq + Drop>(map: &mut VecMap<K, u64>, key: K) -> Result<u64, Re
     Ok(*map.entry(key).or_default()?)
 }
 
+/// How many pairs the map of a key has, which has none where the key is new.
+pub fn or_empty<K: Eq + Drop>(
+    maps: &mut VecMap<K, VecMap<u64, u64>>,
+    key: K,
+) -> Result<usize, Refused<(K, VecMap<u64, u64>)>>
+    ensures len { IfOk result (λ n. n ≡ option_map_or (λ map. length map.entries) (lookup K.eq maps.old.entries key) 0) }
+    ensures given { IfErr result (λ refused. (refused.given.0 ≡ key) × (refused.given.1.entries ≡ [])) }
+{
+    Ok(maps.entry(key).or_default()?.len())
+}
+
 /// Writes the value of a key that is there.
 pub fn write_if_there<K: Eq + Drop>(map: &mut VecMap<K, u64>, key: K, value: u64)
     ensures { map.new ≡ with_value_of K.eq map.old key value }

@@ -1,7 +1,7 @@
 //! A registry of names: each gets an id that it keeps, and each id names what it first named.
 //!
 //! Of `to`, `be`, `to` and `or`, one after another, the ids are 0, 1, 0 and 2.
-ghost use Rattle.std.specs.Prelude.{◌≡◌, ◌<◌, ℕ, IfErr, IfOk, IsSome, IsTrue, OnErr, Some, [], length, option_copied, position, slice_get};
+ghost use Rattle.std.specs.Prelude.{◌≡◌, ◌<◌, ℕ, IfErr, IfOk, IfSome, IsSome, IsTrue, OnErr, Some, [], length, option_copied, position, slice_get};
 ghost use Rattle.std.specs.List.{IsDistinct};
 ghost use Rattle.vecmap.specs.Items.{item_index};
 
@@ -56,10 +56,13 @@ impl<T: Eq> Registry<T> {
         self.names.get_index_of(name)
     }
 
-    /// The name of an id, if it was given, with no comparison.
+    /// The name of an id, if it was given, with no comparison. Looked up, the name has that id.
     pub fn name_of(&self, id: usize) -> Option<&T>
-        ensures { option_copied result ≡ slice_get self.now id }
+        ensures name { option_copied result ≡ slice_get self.now id }
+        ensures id { IfSome result (λ name. item_index T.eq self.now name.now ≡ Some id) }
     {
+        laws::stored_elements_are_found::<T>();
+        self.names.as_slice();
         self.names.get_index(id)
     }
 

@@ -10,4 +10,6 @@ mod made;
 mod map;
 pub mod porting;
 #[cfg(test)]
+mod run;
+#[cfg(test)]
 mod set;

@@ -42,6 +42,12 @@ impl<'a, K: Drop, V: Drop> Drain<'a, K, V> {
     /// The pairs from `start` up to, but not including, `end`.
     ///
     /// It takes a number of moves that is linear in the number of pairs from `start` on.
+    ///
+    /// ```
+    /// let mut map = vecmap!(alloc; 'a' => 1, 'b' => 2, 'c' => 3);
+    /// Drain::over(&mut map, 1, 3).next() // Some(('b', 2))
+    /// map.as_slice() // [('a', 1)]
+    /// ```
     pub fn over(map: &'a mut VecMap<K, V>, start: usize, end: usize) -> Drain<'a, K, V>
         requires within { IsRangeWithin start end (length map.old.entries) }
         ensures rest { drain_rest result ≡ slice_range map.old.entries start end }

@@ -15,6 +15,8 @@ mod vacant;
 
 use crate::VecMap;
 pub use occupied::OccupiedEntry;
+use std::alloc::Global;
+use std::default::MadeWith;
 pub use vacant::VacantEntry;
 use vecmap_base::Refused;
 
@@ -159,26 +161,34 @@ impl<'a, K, V> Entry<'a, K, V> {
         }
     }
 
-    /// As `or_insert_with`, with the value of `V::default()`.
+    /// As `or_insert_with`, with the default of a type that has one, or with an empty collection on the map's allocator.
+    ///
+    /// A `Vec`, a `String`, a collection of std, a `VecMap` and a `VecSet` are made empty.
     ///
     /// ```
     /// let mut map = vecmap!(alloc; 'a' => 1, 'b' => 2);
     /// *map.entry('c').or_default()? // 0
+    /// let mut lists: VecMap<char, Vec<u32>> = VecMap::new(alloc);
+    /// lists.entry('c').or_default()?.push(1)?;
+    /// lists.get(&'c').map(Vec::as_slice) // Some([1])
     /// ```
     pub fn or_default(self) -> Result<&'a mut V, Refused<(K, V)>>
     where
         K: Drop,
-        V: Default,
+        V: MadeWith<Global>,
         ensures* writes_back { sem 𝓛 (entry_lends K.row V.row self.entry result) }
-        ensures value { IfOk result (λ x. UnwrapsOrElse (entry_value self.entry) V.is_default x.now) }
+        ensures value { IfOk result (λ x. UnwrapsOrElse (entry_value self.entry) V.is_made_with x.now) }
 
         // Refused, the pair comes back.
         ensures given_key { IfErr result (λ refused. refused.given.0 ≡ entry_key self.entry) }
-        ensures given_value { IfErr result (λ refused. V.is_default refused.given.1) }
+        ensures given_value { IfErr result (λ refused. V.is_made_with refused.given.1) }
     {
         match self {
             Entry::Occupied(entry) => Ok(entry.into_mut()),
-            Entry::Vacant(entry) => entry.insert(V::default()),
+            Entry::Vacant(entry) => {
+                let empty = V::made_with(*entry.map.pairs.allocator());
+                entry.insert(empty)
+            }
         }
     }
 

@@ -14,7 +14,7 @@ mod puts;
 pub use puts::{
     bulk_insertions_are_single_ones, entries_insert_alike, equal_keys_find_the_same,
     functions_of_values_are_found, insertions_are_found, removals_are_forgotten,
-    writes_are_insertions,
+    stored_pairs_are_found, writes_are_insertions,
 };
 pub use vecmap_base::laws::iterators_pull_as_lists;
 
@@ -44,9 +44,10 @@ pub fn lengths_tell_of_equality<K: Eq, V: Eq>()
     ensures half { (a b : List (K × V)) → length a ≡ length b → has_same_counts K.eq V.eq a b ≡ counts_agree K.eq V.eq a a b }
 {}
 
-/// Where no keys repeat, none do after an insertion, a write of a value, or any number of puts, nor in what puts make
-/// of the empty list.
+/// In the empty list no keys repeat. Where none do, none do after an insertion, a write of a value, or any number of
+/// puts, nor in what puts make of the empty list.
 pub fn insertion_keeps_keys_distinct<K: Eq, V>()
+    ensures empty { HasDistinctKeys {V = V} K.eq [] }
     ensures put { (l : List (K × V)) → HasDistinctKeys K.eq l → (k : K) (v : V) → HasDistinctKeys K.eq (put K.eq l k v) }
     ensures puts { (l : List (K × V)) → HasDistinctKeys K.eq l → (pairs : List (K × V)) → HasDistinctKeys K.eq (puts K.eq l pairs) }
     ensures made { (pairs : List (K × V)) → HasDistinctKeys K.eq (puts K.eq [] pairs) }

@@ -4,6 +4,7 @@ ghost use Rattle.vecmap_map.specs.MapBulk.{ArePairClones};
 
 use crate::VecMap;
 use std::alloc::{AllocError, Global};
+use std::default::{Emptied, MadeWith};
 
 impl<K, V> VecMap<K, V> {
     /// The empty map, which has taken no memory.
@@ -86,5 +87,35 @@ impl<K, V> VecMap<K, V> {
         Ok(VecMap {
             pairs: self.to_vec()?,
         })
+    }
+}
+
+/// What `or_default` puts where the values of a map are maps.
+///
+/// ```
+/// let mut shelves: VecMap<char, VecMap<u32, u32>> = VecMap::new(alloc);
+/// shelves.entry('a').or_default()?.insert(1, 10)?;
+/// shelves.get(&'a').and_then(|shelf| shelf.get(&1)) // Some(&10)
+/// ```
+impl<K, V> MadeWith<Global> for VecMap<K, V> {
+    ghost is_made_with = { λ map. (map.entries ≡ []) × (map.capacity ≡ 0) };
+
+    fn made_with(alloc: Global) -> VecMap<K, V> {
+        VecMap::new(alloc)
+    }
+}
+
+/// What `mem::try_take` leaves in the place of a map.
+///
+/// ```
+/// let mut map = vecmap!(alloc; 'a' => 1, 'b' => 2);
+/// let taken = mem::try_take(&mut map)?;
+/// (taken.len(), map.len()) // (2, 0)
+/// ```
+impl<K, V> Emptied for VecMap<K, V> {
+    ghost is_emptied = { λ map. (map.entries ≡ []) × (map.capacity ≡ 0) };
+
+    fn emptied(like: &VecMap<K, V>) -> Result<VecMap<K, V>, AllocError> {
+        Ok(VecMap::new(*like.pairs.allocator()))
     }
 }

@@ -43,6 +43,12 @@ impl<'a, T: Eq + Drop> Drain<'a, T> {
     /// The elements from `start` up to, but not including, `end`.
     ///
     /// It takes a number of moves that is linear in the number of elements from `start` on.
+    ///
+    /// ```
+    /// let mut set = vecset!(alloc; 1, 2, 3);
+    /// Drain::over(&mut set, 1, 3).next() // Some(2)
+    /// set.as_slice() // [1]
+    /// ```
     pub fn over(set: &'a mut VecSet<T>, start: usize, end: usize) -> Drain<'a, T>
         requires within { IsRangeWithin start end (length set.old.elements) }
         ensures rest { drain_rest result ≡ slice_range set.old.elements start end }

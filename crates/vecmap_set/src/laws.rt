@@ -10,7 +10,7 @@ mod algebra;
 
 pub use additions::{
     additions_keep_elements_distinct, additions_move_nothing, bulk_additions_are_single_ones,
-    equal_elements_have_one_place, removals_are_forgotten,
+    equal_elements_have_one_place, removals_are_forgotten, stored_elements_are_found,
 };
 pub use algebra::{
     algebra_is_symmetric, disjoint_sets_have_no_intersection, lazy_iterators_agree_with_operators,

@@ -5,6 +5,7 @@ ghost use Rattle.vecmap_base.specs.Clones.{AreClones};
 
 use crate::VecSet;
 use std::alloc::{AllocError, Global};
+use std::default::{Emptied, MadeWith};
 
 impl<T: Eq> VecSet<T> {
     /// The empty set, which has taken no memory.
@@ -92,5 +93,35 @@ impl<T: Eq> VecSet<T> {
     {
         let VecSet { items } = self;
         items
+    }
+}
+
+/// What `or_default` puts where the values of a map are sets.
+///
+/// ```
+/// let mut groups: VecMap<char, VecSet<u32>> = VecMap::new(alloc);
+/// groups.entry('a').or_default()?.insert(1)?;
+/// groups.get(&'a').map(VecSet::as_slice) // Some([1])
+/// ```
+impl<T: Eq> MadeWith<Global> for VecSet<T> {
+    ghost is_made_with = { λ set. (set.elements ≡ []) × (set.capacity ≡ 0) };
+
+    fn made_with(alloc: Global) -> VecSet<T> {
+        VecSet::new(alloc)
+    }
+}
+
+/// What `mem::try_take` leaves in the place of a set.
+///
+/// ```
+/// let mut set = vecset!(alloc; 2, 1);
+/// let taken = mem::try_take(&mut set)?;
+/// (taken.len(), set.len()) // (2, 0)
+/// ```
+impl<T: Eq> Emptied for VecSet<T> {
+    ghost is_emptied = { λ set. (set.elements ≡ []) × (set.capacity ≡ 0) };
+
+    fn emptied(like: &VecSet<T>) -> Result<VecSet<T>, AllocError> {
+        Ok(VecSet::new(*like.items.allocator()))
     }
 }

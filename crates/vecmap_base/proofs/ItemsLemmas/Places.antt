@@ -1,9 +1,11 @@
--- Where elements stand after an addition.
+-- Where elements stand, and stand after an addition.
 use Rattle.std.specs.Prelude.{◌≡◌, ◌<◌, ℕ, zero, suc, Bool, true, false, List, [], ◌∷◌, None, Option, Some, IsTrue, if◌then◌else◌, length, option_map, slice_get, unwrap_or, refl}
 use Rattle.std.specs.Cmp.{IsEquivalence}
-use Rattle.std.proofs.Common.{sym, ap, ◌∙◌, arith, get_or, inl, inr}
+use Rattle.std.specs.List.{AllByRecursion, IsDistinct}
+use Rattle.std.proofs.Common.{sym, ap, ◌∙◌, arith, get_or, inl, inr, subst}
 use Rattle.std.proofs.lemmas.Bool.{cases_Bool}
 use Rattle.std.proofs.lemmas.List.Quantifiers.{position-Some}
+use Rattle.std.proofs.lemmas.Map.Keys.{IsDistinct-head, IsDistinct-tail}
 use Rattle.std.proofs.lemmas.Option.{slice_get-get_or}
 use Rattle.vecmap_base.specs.Items.{add, item_index}
 use Rattle.vecmap_base.proofs.ItemsLemmas.Recursion.{add_cons, item_index_cons}
@@ -11,6 +13,12 @@ use Rattle.vecmap_base.proofs.ItemsLemmas.Recursion.{add_cons, item_index_cons}
 unwrap_or_suc : (found : Option ℕ) (n : ℕ) → unwrap_or (option_map suc found) (suc n) ≡ suc (unwrap_or found n)
 unwrap_or_suc None n = refl
 unwrap_or_suc (Some i) n = refl
+
+-- what holds of all elements holds of the one at a place
+held_at : {T : Type 0} (P : T → Type 0) (s : List T) → AllByRecursion P s → (i : ℕ) (x : T) → slice_get s i ≡ Some x → P x
+held_at P [] h i x e = absurd (let f : None ≡ Some x = e in cc)
+held_at P (y ∷ ys) h zero x e = let f : Some y ≡ Some x = e in let g : y ≡ x = cc in subst P g h.0
+held_at P (y ∷ ys) h (suc i) x e = held_at P ys h.1 i x e
 
 module _ {T : Type 0} (eq : T → T → Bool) where
   -- an addition moves nothing
@@ -68,3 +76,16 @@ module _ {T : Type 0} (eq : T → T → Bool) where
                   ∙ sym (item_index_cons eq z zs y)
                   ∙ sym (ap (λ b. if b then Some (unwrap_or (item_index eq (z ∷ zs) x) (length (z ∷ zs))) else item_index eq (z ∷ zs) y) f)
             ]
+
+    -- where no two are equal, each is found at its own place
+    pub item_index_own : (s : List T) → IsDistinct eq s → (i : ℕ) (x : T) → slice_get s i ≡ Some x → item_index eq s x ≡ Some i
+    item_index_own [] d i x e = absurd (let f : None ≡ Some x = e in cc)
+    item_index_own (y ∷ ys) d zero x e =
+        let f : Some y ≡ Some x = e in
+        let g : y ≡ x = cc in
+        item_index_cons eq y ys x ∙ ap (λ b. if b then Some 0 else option_map suc (item_index eq ys x)) (ap (eq x) g ∙ o.refl x)
+    item_index_own (y ∷ ys) d (suc i) x e =
+        let apart : eq x y ≡ false = o.symm x y ∙ held_at (λ z. eq y z ≡ false) ys (IsDistinct-head eq y ys d) i x e in
+        item_index_cons eq y ys x
+        ∙ ap (λ b. if b then Some 0 else option_map suc (item_index eq ys x)) apart
+        ∙ ap (option_map suc) (item_index_own ys (IsDistinct-tail eq y ys d) i x e)

@@ -1,17 +1,18 @@
 -- What is found, and where, after one put and after many.
-use Rattle.std.specs.Prelude.{◌≡◌, ◌<◌, ◌+◌, ℕ, Bool, position, true, false, List, [], ◌∷◌, ◌++◌, Option, None, Some, if◌then◌else◌, is_some, length, unwrap_or, refl}
+use Rattle.std.specs.Prelude.{◌≡◌, ◌<◌, ◌+◌, ℕ, Bool, position, true, false, List, [], ◌∷◌, ◌++◌, Option, None, Some, if◌then◌else◌, is_some, length, slice_get, unwrap_or, refl}
 use Rattle.std.specs.Cmp.{IsEquivalence}
 use Rattle.std.specs.List.{list_any}
 use Rattle.std.specs.Map.{keys_of}
-use Rattle.std.specs.Option.{option_and_then, option_map_or, option_or}
+use Rattle.std.specs.Option.{option_and_then, option_map, option_map_or, option_or}
 use Rattle.std.proofs.Common.{sym, ap, ◌∙◌, arith, length-append, inl, inr}
 use Rattle.std.proofs.lemmas.Bool.{cases_Bool}
 use Rattle.std.proofs.lemmas.List.{length-map}
 use Rattle.std.proofs.lemmas.Map.Made.{is_some-lookup}
+use Rattle.std.proofs.lemmas.Option.{slice_get-map}
 use Rattle.vecmap_base.specs.Items.{add}
 use Rattle.vecmap_base.specs.Pairs.{HasDistinctKeys, index_of, index_or_length, lookup, put, put_key, puts, value_at, with_value, without_key}
 use Rattle.vecmap_base.proofs.ItemsLemmas.Additions.{add_present}
-use Rattle.vecmap_base.proofs.ItemsLemmas.Places.{item_index_add, item_index_congr}
+use Rattle.vecmap_base.proofs.ItemsLemmas.Places.{item_index_add, item_index_congr, item_index_own}
 use Rattle.vecmap_base.proofs.ItemsLemmas.Removals.{without_item_absent}
 use Rattle.vecmap_base.proofs.PairsLemmas.Keys.{index_of_is, keys_of_put, keys_of_without_key}
 use Rattle.vecmap_base.proofs.PairsLemmas.Lookups.{look, lookup_congr, lookup_put, lookup_put_other, lookup_without_key, lookup_without_key_other}
@@ -78,6 +79,13 @@ module _ {K V : Type 0} (eq : K → K → Bool) where
   puts_some l (p ∷ ps) h = puts_some (put eq l p.0 p.1) ps (omega (arith, put_some l p.0 p.1))
 
   module _ (o : IsEquivalence eq) where
+    -- where no keys repeat, each pair is found by its key, at its own place
+    pub index_of_own : (l : List (K × V)) → HasDistinctKeys eq l → (i : ℕ) (k : K) (v : V) → slice_get l i ≡ Some (k, v) → index_of eq l k ≡ Some i
+    index_of_own l d i k v e = index_of_is eq l k ∙ item_index_own eq o (keys_of l) d i k (slice_get-map (λ p. p.0) l i ∙ ap (option_map (λ p. p.0)) e)
+
+    pub lookup_own : (l : List (K × V)) → HasDistinctKeys eq l → (i : ℕ) (k : K) (v : V) → slice_get l i ≡ Some (k, v) → lookup eq l k ≡ Some v
+    lookup_own l d i k v e = ap (option_and_then (value_at l)) (index_of_own l d i k v e) ∙ ap (option_map (λ p. p.1)) e
+
     -- equal keys have one place
     pub index_of_congr : (l : List (K × V)) (x y : K) → eq x y ≡ true → index_of eq l x ≡ index_of eq l y
     index_of_congr l x y e = index_of_is eq l x ∙ item_index_congr eq o (keys_of l) x y e ∙ sym (index_of_is eq l y)

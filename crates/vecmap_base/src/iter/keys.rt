@@ -40,6 +40,11 @@ impl<'a, K, V> Model for Keys<'a, K, V> {
 
 impl<'a, K, V> Keys<'a, K, V> {
     /// The keys of a slice of pairs, from the first to the last.
+    ///
+    /// ```
+    /// let mut keys = Keys::over(&[('a', 1), ('b', 2)]);
+    /// keys.next_back() // Some(&'b')
+    /// ```
     pub fn over(pairs: &'a [(K, V)]) -> Keys<'a, K, V>
         ensures rest { result ≡ keys_of pairs.now }
         ensures fits { length result < 2 ^ 64 }
@@ -52,6 +57,14 @@ impl<'a, K, V> Keys<'a, K, V> {
     }
 
     /// Another over what is left. It takes no memory.
+    ///
+    /// ```
+    /// let map = vecmap!(alloc; 'a' => 1, 'b' => 2);
+    /// let mut keys = map.keys();
+    /// keys.next() // Some(&'a')
+    /// keys.clone().next() // Some(&'b')
+    /// keys.len() // 1
+    /// ```
     pub fn clone(&self) -> Keys<'a, K, V>
         ensures { result ≡ self.now }
     {
@@ -131,6 +144,12 @@ impl<K, V> Model for IntoKeys<K, V> {
 
 impl<K, V> IntoKeys<K, V> {
     /// The keys of a vector of pairs, from the first to the last. It takes no memory.
+    ///
+    /// ```
+    /// let map = vecmap!(alloc; 'a' => 1, 'b' => 2);
+    /// let mut keys = IntoKeys::over(map.into_vec());
+    /// keys.next() // Some('a')
+    /// ```
     pub fn over(pairs: Vec<(K, V)>) -> IntoKeys<K, V>
         ensures rest { result ≡ keys_of pairs.items }
         ensures fits { length result < 2 ^ 64 }
@@ -144,6 +163,14 @@ impl<K, V> IntoKeys<K, V> {
 
     /// Another over clones of the keys that are left, in the same order. Their values are cloned too. Refused, nothing is
     /// made, and this one still gives all that it has left.
+    ///
+    /// ```
+    /// let map = vecmap!(alloc; 'a' => 1, 'b' => 2);
+    /// let mut keys = map.into_keys();
+    /// keys.next() // Some('a')
+    /// keys.clone()?.next() // Some('b')
+    /// keys.len() // 1
+    /// ```
     pub fn clone(&self) -> Result<IntoKeys<K, V>, AllocError>
     where
         K: Clone,

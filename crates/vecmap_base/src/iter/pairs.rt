@@ -38,6 +38,11 @@ impl<'a, K, V> Model for Iter<'a, K, V> {
 
 impl<'a, K, V> Iter<'a, K, V> {
     /// The pairs of a slice, from the first to the last.
+    ///
+    /// ```
+    /// let mut pairs = Iter::over(&[('a', 1), ('b', 2)]);
+    /// pairs.next_back() // Some((&'b', &2))
+    /// ```
     pub fn over(pairs: &'a [(K, V)]) -> Iter<'a, K, V>
         ensures rest { result ≡ pairs.now }
         ensures fits { length result < 2 ^ 64 }
@@ -52,6 +57,14 @@ impl<'a, K, V> Iter<'a, K, V> {
     }
 
     /// Another over what is left. It takes no memory.
+    ///
+    /// ```
+    /// let map = vecmap!(alloc; 'a' => 1, 'b' => 2);
+    /// let mut pairs = map.iter();
+    /// pairs.next() // Some((&'a', &1))
+    /// pairs.clone().next() // Some((&'b', &2))
+    /// pairs.len() // 1
+    /// ```
     pub fn clone(&self) -> Iter<'a, K, V>
         ensures { result ≡ self.now }
     {
@@ -130,6 +143,12 @@ impl<K, V> Model for IntoIter<K, V> {
 
 impl<K, V> IntoIter<K, V> {
     /// The pairs of a vector, from the first to the last. It takes no memory.
+    ///
+    /// ```
+    /// let map = vecmap!(alloc; 'a' => 1, 'b' => 2);
+    /// let mut pairs = IntoIter::over(map.into_vec());
+    /// pairs.next() // Some(('a', 1))
+    /// ```
     pub fn over(pairs: Vec<(K, V)>) -> IntoIter<K, V>
         ensures rest { result ≡ pairs.items }
         ensures fits { length result < 2 ^ 64 }
@@ -145,6 +164,14 @@ impl<K, V> IntoIter<K, V> {
 
     /// Another over clones of the pairs that are left, in the same order. Refused, nothing is made, and this one still
     /// gives all that it has left.
+    ///
+    /// ```
+    /// let map = vecmap!(alloc; 'a' => 1, 'b' => 2);
+    /// let mut pairs = map.into_iter();
+    /// pairs.next() // Some(('a', 1))
+    /// pairs.clone()?.next() // Some(('b', 2))
+    /// pairs.len() // 1
+    /// ```
     pub fn clone(&self) -> Result<IntoIter<K, V>, AllocError>
     where
         K: Clone,

@@ -40,6 +40,11 @@ impl<'a, K, V> Model for Values<'a, K, V> {
 
 impl<'a, K, V> Values<'a, K, V> {
     /// The values of a slice of pairs, from the first to the last.
+    ///
+    /// ```
+    /// let mut values = Values::over(&[('a', 1), ('b', 2)]);
+    /// values.next_back() // Some(&2)
+    /// ```
     pub fn over(pairs: &'a [(K, V)]) -> Values<'a, K, V>
         ensures rest { result ≡ values_of pairs.now }
         ensures fits { length result < 2 ^ 64 }
@@ -52,6 +57,14 @@ impl<'a, K, V> Values<'a, K, V> {
     }
 
     /// Another over what is left. It takes no memory.
+    ///
+    /// ```
+    /// let map = vecmap!(alloc; 'a' => 1, 'b' => 2);
+    /// let mut values = map.values();
+    /// values.next() // Some(&1)
+    /// values.clone().next() // Some(&2)
+    /// values.len() // 1
+    /// ```
     pub fn clone(&self) -> Values<'a, K, V>
         ensures { result ≡ self.now }
     {
@@ -132,6 +145,12 @@ impl<K, V> Model for IntoValues<K, V> {
 
 impl<K, V> IntoValues<K, V> {
     /// The values of a vector of pairs, from the first to the last. It takes no memory.
+    ///
+    /// ```
+    /// let map = vecmap!(alloc; 'a' => 1, 'b' => 2);
+    /// let mut values = IntoValues::over(map.into_vec());
+    /// values.next() // Some(1)
+    /// ```
     pub fn over(pairs: Vec<(K, V)>) -> IntoValues<K, V>
         ensures rest { result ≡ values_of pairs.items }
         ensures fits { length result < 2 ^ 64 }
@@ -145,6 +164,14 @@ impl<K, V> IntoValues<K, V> {
 
     /// Another over clones of the values that are left, in the same order. Their keys are cloned too. Refused, nothing is
     /// made, and this one still gives all that it has left.
+    ///
+    /// ```
+    /// let map = vecmap!(alloc; 'a' => 1, 'b' => 2);
+    /// let mut values = map.into_values();
+    /// values.next() // Some(1)
+    /// values.clone()?.next() // Some(2)
+    /// values.len() // 1
+    /// ```
     pub fn clone(&self) -> Result<IntoValues<K, V>, AllocError>
     where
         K: Clone,

@@ -2,7 +2,7 @@
 use crate::made::{has_pairs, two_letters};
 use std::alloc::Global;
 use std::test::Fail;
-use vecmap::map::MutableKeys;
+use vecmap::map::{IterMut, IterMut2, KeysMut, MutableKeys, ValuesMut};
 
 fn shows_iter_mut(alloc: Global) -> Result<bool, Fail> {
     let mut map = two_letters(alloc)?;
@@ -40,6 +40,38 @@ fn shows_values_mut(alloc: Global) -> Result<bool, Fail> {
     Ok(has_pairs(&map, &[('a', 3), ('b', 2)]))
 }
 
+fn shows_iter_mut_over(alloc: Global) -> Result<bool, Fail> {
+    let mut pairs = [('a', 1), ('b', 2)];
+    if let Some((_key, value)) = IterMut::over(&mut pairs).next() {
+        *value = 3;
+    }
+    Ok(pairs[0] == ('a', 3))
+}
+
+fn shows_iter_mut2_over(alloc: Global) -> Result<bool, Fail> {
+    let mut pairs = [('a', 1), ('b', 2)];
+    if let Some((key, _value)) = IterMut2::over(&mut pairs).next() {
+        *key = 'c';
+    }
+    Ok(pairs[0] == ('c', 1))
+}
+
+fn shows_keys_mut_over(alloc: Global) -> Result<bool, Fail> {
+    let mut pairs = [('a', 1), ('b', 2)];
+    if let Some(key) = KeysMut::over(&mut pairs).next() {
+        *key = 'c';
+    }
+    Ok(pairs[0] == ('c', 1))
+}
+
+fn shows_values_mut_over(alloc: Global) -> Result<bool, Fail> {
+    let mut pairs = [('a', 1), ('b', 2)];
+    if let Some(value) = ValuesMut::over(&mut pairs).next() {
+        *value = 3;
+    }
+    Ok(pairs[0] == ('a', 3))
+}
+
 #[test]
 fn examples_hold(rt: HostRuntime) -> Result<(), Fail> {
     let alloc = rt.alloc();
@@ -47,5 +79,9 @@ fn examples_hold(rt: HostRuntime) -> Result<(), Fail> {
     assert!(rt; shows_iter_mut2(alloc)?);
     assert!(rt; shows_keys_mut(alloc)?);
     assert!(rt; shows_values_mut(alloc)?);
+    assert!(rt; shows_iter_mut_over(alloc)?);
+    assert!(rt; shows_iter_mut2_over(alloc)?);
+    assert!(rt; shows_keys_mut_over(alloc)?);
+    assert!(rt; shows_values_mut_over(alloc)?);
     Ok(())
 }

@@ -2,6 +2,7 @@
 use crate::made::{has_pairs, three_letters};
 use std::alloc::Global;
 use std::test::Fail;
+use vecmap::map::Drain;
 
 fn shows_drain(alloc: Global) -> Result<bool, Fail> {
     let mut map = three_letters(alloc)?;
@@ -16,9 +17,18 @@ fn shows_drain(alloc: Global) -> Result<bool, Fail> {
     Ok(has_pairs(&map, &[('a', 1)]))
 }
 
+fn shows_over(alloc: Global) -> Result<bool, Fail> {
+    let mut map = three_letters(alloc)?;
+    if !(map.len() == 3 && Drain::over(&mut map, 1, 3).next() == Some(('b', 2))) {
+        return Ok(false);
+    }
+    Ok(has_pairs(&map, &[('a', 1)]))
+}
+
 #[test]
 fn examples_hold(rt: HostRuntime) -> Result<(), Fail> {
     let alloc = rt.alloc();
     assert!(rt; shows_drain(alloc)?);
+    assert!(rt; shows_over(alloc)?);
     Ok(())
 }

@@ -2,6 +2,7 @@
 use crate::made::{has_pairs, two_letters};
 use std::alloc::Global;
 use std::test::Fail;
+use vecmap::VecMap;
 use vecmap::map::Entry;
 
 fn shows_entry(alloc: Global) -> Result<bool, Fail> {
@@ -66,6 +67,12 @@ fn shows_insert_entry(alloc: Global) -> Result<bool, Fail> {
     )
 }
 
+fn shows_or_default_of_lists(alloc: Global) -> Result<bool, Fail> {
+    let mut lists: VecMap<char, Vec<u32>> = VecMap::new(alloc);
+    lists.entry('c').or_default()?.push(1)?;
+    Ok(lists.get(&'c').map(Vec::as_slice) == Some([1].as_slice()))
+}
+
 #[test]
 fn examples_hold(rt: HostRuntime) -> Result<(), Fail> {
     let alloc = rt.alloc();
@@ -80,5 +87,6 @@ fn examples_hold(rt: HostRuntime) -> Result<(), Fail> {
     assert!(rt; shows_index(alloc)?);
     assert!(rt; shows_and_modify(alloc)?);
     assert!(rt; shows_insert_entry(alloc)?);
+    assert!(rt; shows_or_default_of_lists(alloc)?);
     Ok(())
 }

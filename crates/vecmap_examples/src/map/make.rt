@@ -1,6 +1,7 @@
 //! Examples of `vecmap_map/src/make.rt`.
 use crate::made::{has_pairs, two_letters};
 use std::alloc::Global;
+use std::mem;
 use std::test::Fail;
 use vecmap::VecMap;
 
@@ -31,6 +32,18 @@ fn shows_clone(alloc: Global) -> Result<bool, Fail> {
     Ok((map.len(), copy.len()) == (2, 3))
 }
 
+fn shows_made_with(alloc: Global) -> Result<bool, Fail> {
+    let mut shelves: VecMap<char, VecMap<u32, u32>> = VecMap::new(alloc);
+    shelves.entry('a').or_default()?.insert(1, 10)?;
+    Ok(shelves.get(&'a').and_then(|shelf| shelf.get(&1)) == Some(&10))
+}
+
+fn shows_emptied(alloc: Global) -> Result<bool, Fail> {
+    let mut map = two_letters(alloc)?;
+    let taken = mem::try_take(&mut map)?;
+    Ok((taken.len(), map.len()) == (2, 0))
+}
+
 #[test]
 fn examples_hold(rt: HostRuntime) -> Result<(), Fail> {
     let alloc = rt.alloc();
@@ -39,5 +52,7 @@ fn examples_hold(rt: HostRuntime) -> Result<(), Fail> {
     assert!(rt; shows_as_slice(alloc)?);
     assert!(rt; shows_into_vec(alloc)?);
     assert!(rt; shows_clone(alloc)?);
+    assert!(rt; shows_made_with(alloc)?);
+    assert!(rt; shows_emptied(alloc)?);
     Ok(())
 }

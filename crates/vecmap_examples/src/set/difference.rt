@@ -9,9 +9,17 @@ fn shows_difference(alloc: Global) -> Result<bool, Fail> {
     Ok(set.difference(&other).size_hint() == (0, Some(3)))
 }
 
+fn shows_clone(alloc: Global) -> Result<bool, Fail> {
+    let set = three_numbers(alloc)?;
+    let other = other_numbers(alloc)?;
+    let mut items = set.difference(&other);
+    Ok(items.next() == Some(&1) && items.clone().next() == None && items.next() == None)
+}
+
 #[test]
 fn examples_hold(rt: HostRuntime) -> Result<(), Fail> {
     let alloc = rt.alloc();
     assert!(rt; shows_difference(alloc)?);
+    assert!(rt; shows_clone(alloc)?);
     Ok(())
 }

@@ -2,6 +2,7 @@
 use crate::made::{has_items, three_numbers};
 use std::alloc::Global;
 use std::test::Fail;
+use vecmap::set::Drain;
 
 fn shows_drain(alloc: Global) -> Result<bool, Fail> {
     let mut set = three_numbers(alloc)?;
@@ -16,9 +17,18 @@ fn shows_drain(alloc: Global) -> Result<bool, Fail> {
     Ok(has_items(&set, &[1]))
 }
 
+fn shows_over(alloc: Global) -> Result<bool, Fail> {
+    let mut set = three_numbers(alloc)?;
+    if !(set.len() == 3 && Drain::over(&mut set, 1, 3).next() == Some(2)) {
+        return Ok(false);
+    }
+    Ok(has_items(&set, &[1]))
+}
+
 #[test]
 fn examples_hold(rt: HostRuntime) -> Result<(), Fail> {
     let alloc = rt.alloc();
     assert!(rt; shows_drain(alloc)?);
+    assert!(rt; shows_over(alloc)?);
     Ok(())
 }

@@ -12,9 +12,17 @@ fn shows_intersection(alloc: Global) -> Result<bool, Fail> {
     )
 }
 
+fn shows_clone(alloc: Global) -> Result<bool, Fail> {
+    let set = three_numbers(alloc)?;
+    let other = other_numbers(alloc)?;
+    let mut items = set.intersection(&other);
+    Ok(items.next() == Some(&2) && items.clone().next() == Some(&3) && items.next() == Some(&3))
+}
+
 #[test]
 fn examples_hold(rt: HostRuntime) -> Result<(), Fail> {
     let alloc = rt.alloc();
     assert!(rt; shows_intersection(alloc)?);
+    assert!(rt; shows_clone(alloc)?);
     Ok(())
 }

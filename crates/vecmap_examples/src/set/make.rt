@@ -1,8 +1,9 @@
 //! Examples of `vecmap_set/src/make.rt`.
 use crate::made::{has_items, numbers_back, two_numbers};
 use std::alloc::Global;
+use std::mem;
 use std::test::Fail;
-use vecmap::VecSet;
+use vecmap::{VecMap, VecSet};
 
 fn shows_new(alloc: Global) -> Result<bool, Fail> {
     let set: VecSet<u32> = VecSet::new(alloc);
@@ -30,6 +31,18 @@ fn shows_into_vec(alloc: Global) -> Result<bool, Fail> {
     Ok(set.into_vec().as_slice() == [2, 1].as_slice())
 }
 
+fn shows_made_with(alloc: Global) -> Result<bool, Fail> {
+    let mut groups: VecMap<char, VecSet<u32>> = VecMap::new(alloc);
+    groups.entry('a').or_default()?.insert(1)?;
+    Ok(groups.get(&'a').map(VecSet::as_slice) == Some([1].as_slice()))
+}
+
+fn shows_emptied(alloc: Global) -> Result<bool, Fail> {
+    let mut set = numbers_back(alloc)?;
+    let taken = mem::try_take(&mut set)?;
+    Ok((taken.len(), set.len()) == (2, 0))
+}
+
 #[test]
 fn examples_hold(rt: HostRuntime) -> Result<(), Fail> {
     let alloc = rt.alloc();
@@ -37,5 +50,7 @@ fn examples_hold(rt: HostRuntime) -> Result<(), Fail> {
     assert!(rt; shows_with_capacity(alloc)?);
     assert!(rt; shows_clone_and_as_slice(alloc)?);
     assert!(rt; shows_into_vec(alloc)?);
+    assert!(rt; shows_made_with(alloc)?);
+    assert!(rt; shows_emptied(alloc)?);
     Ok(())
 }

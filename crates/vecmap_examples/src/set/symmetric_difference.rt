@@ -10,9 +10,17 @@ fn shows_symmetric_difference(alloc: Global) -> Result<bool, Fail> {
     Ok(items.clone().next_back() == Some(&1))
 }
 
+fn shows_clone(alloc: Global) -> Result<bool, Fail> {
+    let set = two_numbers(alloc)?;
+    let other = other_numbers(alloc)?;
+    let mut items = set.symmetric_difference(&other);
+    Ok(items.next() == Some(&1) && items.clone().next() == Some(&3) && items.next() == Some(&3))
+}
+
 #[test]
 fn examples_hold(rt: HostRuntime) -> Result<(), Fail> {
     let alloc = rt.alloc();
     assert!(rt; shows_symmetric_difference(alloc)?);
+    assert!(rt; shows_clone(alloc)?);
     Ok(())
 }

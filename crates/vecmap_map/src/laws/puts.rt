@@ -1,9 +1,9 @@
 //! Laws of what insertions and removals leave, for lookups, places and lengths.
-ghost use Rattle.std.specs.Prelude.{◌≡◌, ◌+◌, ◌++◌, ◌<◌, ◌∷◌, ℕ, Bool, IsSome, List, None, Option, Some, [], drop, false, if◌then◌else◌, is_some, length, option_map, take, true, unwrap_or};
+ghost use Rattle.std.specs.Prelude.{◌≡◌, ◌+◌, ◌++◌, ◌<◌, ◌∷◌, ℕ, Bool, IsSome, List, None, Option, Some, [], drop, false, if◌then◌else◌, is_some, length, option_map, slice_get, take, true, unwrap_or};
 ghost use Rattle.std.specs.Map.{keys_of};
 ghost use Rattle.std.specs.Option.{option_map_or, option_or};
 ghost use Rattle.vecmap_base.specs.Clones.{ClonesAreSame};
-ghost use Rattle.vecmap_base.specs.Items.{add};
+ghost use Rattle.vecmap_base.specs.Items.{add, adds, without_item};
 ghost use Rattle.vecmap_base.specs.Pairs.{HasDistinctKeys, index_of, index_or_length, lookup, map_values, put, put_key, puts, without_key};
 ghost use Rattle.vecmap_map.specs.Contents.{Contents, with_value_of};
 ghost use Rattle.vecmap_map.specs.Entry.{AreEntriesWith, entry_key, entry_map, entry_place};
@@ -14,6 +14,12 @@ pub fn equal_keys_find_the_same<K: Eq, V>()
     ensures value { (l : List (K × V)) (x y : K) → K.eq x y ≡ true → lookup K.eq l x ≡ lookup K.eq l y }
     ensures place { (l : List (K × V)) (x y : K) → K.eq x y ≡ true → index_of K.eq l x ≡ index_of K.eq l y }
     ensures there { (l : List (K × V)) (k : K) → is_some (lookup K.eq l k) ≡ is_some (index_of K.eq l k) }
+{}
+
+/// Where no keys repeat, each stored key is found at its own place, with its own value.
+pub fn stored_pairs_are_found<K: Eq, V>()
+    ensures value { (l : List (K × V)) → HasDistinctKeys K.eq l → (i : ℕ) (k : K) (v : V) → slice_get l i ≡ Some (k, v) → lookup K.eq l k ≡ Some v }
+    ensures place { (l : List (K × V)) → HasDistinctKeys K.eq l → (i : ℕ) (k : K) (v : V) → slice_get l i ≡ Some (k, v) → index_of K.eq l k ≡ Some i }
 {}
 
 /// After an insertion its key finds the value, and every other key what it found, whether the new key is taken in or
@@ -44,12 +50,14 @@ pub fn entries_insert_alike<K: Eq + Clone, V>()
     ensures or_insert { (l : List (K × V)) (k : K) (v : V) → put K.eq l k (unwrap_or (lookup K.eq l k) v) ≡ option_map_or (λ i. l) (index_of K.eq l k) (l ++ (k, v) ∷ []) }
 {}
 
-/// Many insertions at once are as many single ones, in turn, and the last value of a key is found. Pairs of distinct
-/// keys, put into an empty map, are its list.
+/// Many insertions at once are as many single ones, in turn, and the last value of a key is found. Keys that are new go
+/// last, in turn. Pairs of distinct keys, put into an empty map, are its list.
 pub fn bulk_insertions_are_single_ones<K: Eq, V>()
     ensures one { (l : List (K × V)) (p : K × V) (pairs : List (K × V)) → puts K.eq l (p ∷ pairs) ≡ puts K.eq (put K.eq l p.0 p.1) pairs }
     ensures more { (l pairs others : List (K × V)) → puts K.eq l (pairs ++ others) ≡ puts K.eq (puts K.eq l pairs) others }
     ensures value { (l pairs : List (K × V)) (q : K) → lookup K.eq (puts K.eq l pairs) q ≡ option_or (lookup K.eq (puts K.eq [] pairs) q) (lookup K.eq l q) }
+    ensures value_distinct { (l pairs : List (K × V)) → HasDistinctKeys K.eq pairs → (q : K) → lookup K.eq (puts K.eq l pairs) q ≡ option_or (lookup K.eq pairs q) (lookup K.eq l q) }
+    ensures keys { (l pairs : List (K × V)) → keys_of (puts K.eq l pairs) ≡ adds K.eq (keys_of l) (keys_of pairs) }
     ensures distinct { (pairs : List (K × V)) → HasDistinctKeys K.eq pairs → puts K.eq [] pairs ≡ pairs }
 {}
 
@@ -60,6 +68,7 @@ pub fn removals_are_forgotten<K: Eq, V>()
     ensures others { (l : List (K × V)) (k q : K) → K.eq k q ≡ false → lookup K.eq (without_key K.eq l k) q ≡ lookup K.eq l q }
     ensures each { (l : List (K × V)) → HasDistinctKeys K.eq l → (k q : K) → lookup K.eq (without_key K.eq l k) q ≡ (if K.eq k q then None else lookup K.eq l q) }
     ensures absent { (l : List (K × V)) → HasDistinctKeys K.eq l → (k : K) → index_of K.eq (without_key K.eq l k) k ≡ None }
+    ensures keys { (l : List (K × V)) (k : K) → keys_of (without_key K.eq l k) ≡ without_item K.eq (keys_of l) k }
     ensures order { (l : List (K × V)) (k : K) (i : ℕ) → index_of K.eq l k ≡ Some i → without_key K.eq l k ≡ take i l ++ drop (i + 1) l }
 {}
 

@@ -8,6 +8,11 @@ pub fn equal_elements_have_one_place<T: Eq>()
     ensures { (s : List T) (x y : T) → T.eq x y ≡ true → item_index T.eq s x ≡ item_index T.eq s y }
 {}
 
+/// Where no two elements are equal, each is found at its own place.
+pub fn stored_elements_are_found<T: Eq>()
+    ensures { (s : List T) → IsDistinct T.eq s → (i : ℕ) (x : T) → slice_get s i ≡ Some x → item_index T.eq s x ≡ Some i }
+{}
+
 /// An addition moves nothing: what is added stands where its equal stood, or last, and all others where they stood. Of
 /// an element whose equal is there it changes nothing, and a new one goes last.
 pub fn additions_move_nothing<T: Eq>()
@@ -24,8 +29,10 @@ pub fn bulk_additions_are_single_ones<T: Eq>()
     ensures distinct { (xs : List T) → IsDistinct T.eq xs → adds T.eq [] xs ≡ xs }
 {}
 
-/// Where no two elements are equal, none are after additions, also where the new element is taken in.
+/// In the empty list no two elements are equal. Where none are, none are after additions, also where the new element is
+/// taken in.
 pub fn additions_keep_elements_distinct<T: Eq>()
+    ensures empty { IsDistinct T.eq [] }
     ensures add { (s : List T) → IsDistinct T.eq s → (x : T) → IsDistinct T.eq (add T.eq s x) }
     ensures adds { (s : List T) → IsDistinct T.eq s → (xs : List T) → IsDistinct T.eq (adds T.eq s xs) }
     ensures replace { (s : List T) → IsDistinct T.eq s → (x : T) → IsDistinct T.eq (add_new T.eq s x) }

@@ -50,6 +50,15 @@ impl<'a, T: Eq> Difference<'a, T> {
     }
 
     /// An iterator over what this one has left. It takes no memory and always succeeds.
+    ///
+    /// ```
+    /// let set = vecset!(alloc; 1, 2, 3);
+    /// let other = vecset!(alloc; 2, 3);
+    /// let mut items = set.difference(&other);
+    /// items.next() // Some(&1)
+    /// items.clone().next() // None
+    /// items.next() // None
+    /// ```
     pub fn clone(&self) -> Difference<'a, T>
         ensures { result ≡ self.now }
     {

@@ -53,6 +53,15 @@ impl<'a, T: Eq> Intersection<'a, T> {
     }
 
     /// An iterator over what this one has left. It takes no memory and always succeeds.
+    ///
+    /// ```
+    /// let set = vecset!(alloc; 1, 2, 3);
+    /// let other = vecset!(alloc; 2, 3);
+    /// let mut items = set.intersection(&other);
+    /// items.next() // Some(&2)
+    /// items.clone().next() // Some(&3)
+    /// items.next() // Some(&3)
+    /// ```
     pub fn clone(&self) -> Intersection<'a, T>
         ensures { result ≡ self.now }
     {

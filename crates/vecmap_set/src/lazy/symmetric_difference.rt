@@ -49,6 +49,15 @@ impl<'a, T: Eq> SymmetricDifference<'a, T> {
     }
 
     /// An iterator over what this one has left. It takes no memory and always succeeds.
+    ///
+    /// ```
+    /// let set = vecset!(alloc; 1, 2);
+    /// let other = vecset!(alloc; 2, 3);
+    /// let mut items = set.symmetric_difference(&other);
+    /// items.next() // Some(&1)
+    /// items.clone().next() // Some(&3)
+    /// items.next() // Some(&3)
+    /// ```
     pub fn clone(&self) -> SymmetricDifference<'a, T>
         ensures { result ≡ self.now }
     {

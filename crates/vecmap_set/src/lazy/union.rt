@@ -50,6 +50,15 @@ impl<'a, T: Eq> Union<'a, T> {
     }
 
     /// An iterator over what this one has left. It takes no memory and always succeeds.
+    ///
+    /// ```
+    /// let set = vecset!(alloc; 1, 2);
+    /// let other = vecset!(alloc; 2, 3);
+    /// let mut items = set.union(&other);
+    /// items.next() // Some(&1)
+    /// items.clone().next() // Some(&2)
+    /// items.next() // Some(&2)
+    /// ```
     pub fn clone(&self) -> Union<'a, T>
         ensures { result ≡ self.now }
     {

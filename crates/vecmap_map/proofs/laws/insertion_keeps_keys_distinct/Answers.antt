@@ -3,6 +3,9 @@ use Rattle.vecmap_base.proofs.DistinctLemmas.Absent.{distinct_none}
 use Rattle.vecmap_base.proofs.DistinctLemmas.Keys.{distinct_keys_with_value, distinct_put, distinct_put_at, distinct_put_key, distinct_puts}
 use Rattle.vecmap_map.proofs.laws.insertion_keeps_keys_distinct.Goals as goal
 
+pub returns-clause-empty : goal.returns-clause-empty
+returns-clause-empty g c = distinct_none g.K.PartialEq.eq
+
 pub returns-clause-put : goal.returns-clause-put
 returns-clause-put g c = λ l d k v. distinct_put g.K.PartialEq.eq g.met.K.Eq.laws l k v d
 

@@ -1,5 +1,9 @@
+use Rattle.vecmap_base.proofs.DistinctLemmas.Absent.{distinct_none}
 use Rattle.vecmap_base.proofs.DistinctLemmas.Additions.{distinct_add, distinct_add_new, distinct_adds}
 use Rattle.vecmap_set.proofs.laws.additions.additions_keep_elements_distinct.Goals as goal
+
+pub returns-clause-empty : goal.returns-clause-empty
+returns-clause-empty g c = distinct_none g.T.PartialEq.eq
 
 pub returns-clause-add : goal.returns-clause-add
 returns-clause-add g c = λ s d x. distinct_add g.T.PartialEq.eq g.met.T.Eq.laws s x d
