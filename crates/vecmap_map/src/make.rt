@@ -88,6 +88,11 @@ impl<K, V> VecMap<K, V> {
             pairs: self.to_vec()?,
         })
     }
+
+    // The allocator that the pairs are on.
+    pub(crate) fn allocator(&self) -> Global {
+        *self.pairs.allocator()
+    }
 }
 
 /// What `or_default` puts where the values of a map are maps.
@@ -116,6 +121,6 @@ impl<K, V> Emptied for VecMap<K, V> {
     ghost is_emptied = { λ map. (map.entries ≡ []) × (map.capacity ≡ 0) };
 
     fn emptied(like: &VecMap<K, V>) -> Result<VecMap<K, V>, AllocError> {
-        Ok(VecMap::new(*like.pairs.allocator()))
+        Ok(VecMap::new(like.allocator()))
     }
 }
