@@ -1,8 +1,9 @@
 //! Names that are the same in either case of their ASCII letters.
 ghost use Rattle.attr_doc.specs.Names.{same_name};
-ghost use Rattle.std.proofs.Common.{rules};
-ghost use Rattle.std.specs.Cmp.Rules.{comparing};
+ghost use Rattle.std.specs.Cmp.{on_equiv, partial_equiv_from_equiv};
+ghost use Rattle.std.specs.Cmp.Lexicographic.{nat_list_eq_equiv};
 ghost use Rattle.std.specs.Prelude.{◌≡◌, string_bytes};
+ghost use Rattle.std.specs.Str.{str_to_ascii_lowercase};
 
 use std::fmt;
 use std::marker::Model;
@@ -50,7 +51,7 @@ impl Name {
 impl PartialEq for Name {
     ghost eq = { same_name };
 
-    ghost laws = { Prim.search (comparing, rules) };
+    ghost laws = { partial_equiv_from_equiv (on_equiv str_to_ascii_lowercase nat_list_eq_equiv) };
 
     fn eq(&self, other: &Name) -> bool {
         self.text().eq_ignore_ascii_case(other.text())
@@ -58,7 +59,7 @@ impl PartialEq for Name {
 }
 
 impl Eq for Name {
-    ghost laws = { Prim.search (comparing, rules) };
+    ghost laws = { on_equiv str_to_ascii_lowercase nat_list_eq_equiv };
 }
 
 /// Prints the text, as it was handed in, as std prints a text: in quotes.

@@ -1,5 +1,5 @@
 //! Examples of `vecmap_set/src/lazy/symmetric_difference.rt`.
-use crate::made::{other_numbers, three_numbers};
+use crate::made::{other_numbers, three_numbers, two_numbers};
 use std::alloc::Global;
 use std::test::Fail;
 
