@@ -25,8 +25,10 @@ fn shows_names(alloc: Global) -> Result<bool, Fail> {
 
 fn shows_new(alloc: Global) -> Result<bool, Fail> {
     let page = page(alloc)?;
-    Ok(Document::new(alloc).sections().len() == 0
-        && printed(alloc, &page)?.as_str() == r#"{"Font": {"Size": "12"}}"#)
+    Ok(
+        Document::new(alloc).sections().len() == 0
+            && printed(alloc, &page)?.as_str() == r#"{"Font": {"Size": "12"}}"#,
+    )
 }
 
 fn shows_set(alloc: Global) -> Result<bool, Fail> {
@@ -36,8 +38,10 @@ fn shows_set(alloc: Global) -> Result<bool, Fail> {
         name(alloc, "size")?,
         "14".to_string(alloc)?,
     )?;
-    Ok(matches!(&old, Some(text) if text.as_str() == "12")
-        && printed(alloc, &page)?.as_str() == r#"{"Font": {"Size": "14"}}"#)
+    Ok(
+        matches!(&old, Some(text) if text.as_str() == "12")
+            && printed(alloc, &page)?.as_str() == r#"{"Font": {"Size": "14"}}"#,
+    )
 }
 
 fn shows_get(alloc: Global) -> Result<bool, Fail> {
