@@ -17,6 +17,7 @@ pub use Rattle.vecmap_base.proofs.PairsLemmas.Keys
 pub use Rattle.vecmap_base.proofs.PairsLemmas.Lookups
 pub use Rattle.vecmap_base.proofs.PairsLemmas.Places
 pub use Rattle.vecmap_base.proofs.PairsLemmas.Puts
+pub use Rattle.vecmap_base.proofs.PairsLemmas.Queries
 pub use Rattle.vecmap_base.proofs.PairsLemmas.Recursion
 pub use Rattle.vecmap_base.proofs.PairsLemmas.Values
 pub use Rattle.vecmap_base.proofs.WalkLemmas

@@ -5,5 +5,6 @@ pub mod Keys
 pub mod Lookups
 pub mod Places
 pub mod Puts
+pub mod Queries
 pub mod Recursion
 pub mod Values

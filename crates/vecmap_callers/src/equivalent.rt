@@ -1,13 +1,16 @@
 //! What callers of lookups and removals by a query can prove: by keys, texts, slices, and a query of their own.
-ghost use Rattle.std.specs.Prelude.{◌≡◌, IsSome, Some, bytes_eq, codes, nat_eq, string_bytes};
+ghost use Rattle.std.specs.Prelude.{◌≡◌, ℕ, IsSome, List, None, OnOk, Some, bytes_eq, codes, false, nat_eq, string_bytes, string_eq};
 ghost use Rattle.std.specs.Cmp.Lexicographic.{pointwise};
 ghost use Rattle.std.specs.List.{list_any};
 ghost use Rattle.vecmap.specs.Contents.{with_value_by};
 ghost use Rattle.vecmap.specs.Items.{without_first};
-ghost use Rattle.vecmap.specs.Pairs.{has_text, index_by, lookup, lookup_by, lookup_pair_by, swap_without_by, without_by};
+ghost use Rattle.vecmap.specs.Pairs.{HasDistinctKeys, has_text, index_by, lookup, lookup_by, lookup_pair_by, swap_without_by, without_by};
 ghost use Rattle.vecmap_callers.specs.Names.{same_name};
 
 use crate::names::{Name, NamedAs};
+use std::alloc::{AllocError, Global};
+use vecmap::macros::put_pair;
+use vecmap::map::laws::texts_find_as_strings;
 use vecmap::{Equivalent, VecMap, VecSet};
 
 /// The value of a key, of any type.
@@ -43,6 +46,31 @@ pub fn value_of_bytes(map: &VecMap<Vec<u8>, u32>, bytes: &[u8]) -> Option<u32>
     ensures { result ≡ lookup_by (λ key. pointwise nat_eq bytes.now key.items) map.now.entries }
 {
     map.get(bytes).copied()
+}
+
+/// Puts a value under a text. Any other text finds what it found.
+pub fn put_text(
+    alloc: Global,
+    map: &mut VecMap<String, u32>,
+    text: &str,
+    value: u32,
+) -> Result<(), AllocError>
+    ensures found { OnOk result (lookup_by (has_text text.now) map.new.entries ≡ Some value) }
+    ensures others { OnOk result ((other : List ℕ) → bytes_eq text.now other ≡ false → lookup_by (has_text other) map.new.entries ≡ lookup_by (has_text other) map.old.entries) }
+{
+    texts_find_as_strings::<u32>();
+    let key = String::from_str(alloc, text)?;
+    put_pair(map, key, value)?;
+    Ok(())
+}
+
+/// Takes out the pair of a text, which finds nothing after.
+pub fn forget_text(map: &mut VecMap<String, u32>, text: &str)
+    requires { HasDistinctKeys string_eq map.old.entries }
+    ensures { lookup_by (has_text text.now) map.new.entries ≡ None }
+{
+    texts_find_as_strings::<u32>();
+    map.remove(text);
 }
 
 /// Takes out the pair of a text.

@@ -10,12 +10,14 @@ ghost use Rattle.vecmap_base.specs.Kept.{Kept};
 ghost use Rattle.vecmap_base.specs.Pairs.{HasDistinctKeys, index_of, lookup, put, put_at, put_key, puts, swap_without_key, with_value, without_by};
 
 mod puts;
+mod queries;
 
 pub use puts::{
     bulk_insertions_are_single_ones, entries_insert_alike, equal_keys_find_the_same,
     functions_of_values_are_found, insertions_are_found, removals_are_forgotten,
     stored_pairs_are_found, writes_are_insertions,
 };
+pub use queries::{queries_find_as_keys, texts_find_as_strings};
 pub use vecmap_base::laws::iterators_pull_as_lists;
 
 /// Equality of maps is reflexive, symmetric and transitive, also where keys repeat.

@@ -1,0 +1,25 @@
+use Rattle.std.specs.Cmp.{IsEquivalence}
+use Rattle.std.specs.Cmp.Rules.{comparing}
+use Rattle.std.specs.Prelude.{String, bytes_eq, string_bytes, string_eq}
+use Rattle.std.proofs.Common.{ap, refl, ◌∙◌}
+use Rattle.vecmap_base.specs.Pairs.{has_text}
+use Rattle.vecmap_base.proofs.PairsLemmas.Queries.{index_by_query, lookup_by_query, lookup_put_other_query, lookup_put_query, lookup_without_query, same_text, string_equality, text_respects, without_by_query}
+use Rattle.vecmap_map.proofs.laws.queries.texts_find_as_strings.Goals as goal
+
+pub returns-clause-value : goal.returns-clause-value
+returns-clause-value g c = λ l text k e. lookup_by_query string_eq string_equality (has_text text) (text_respects text) l k (same_text text k e)
+
+pub returns-clause-place : goal.returns-clause-place
+returns-clause-place g c = λ l text k e. index_by_query string_eq string_equality (has_text text) (text_respects text) l k (same_text text k e)
+
+pub returns-clause-removal : goal.returns-clause-removal
+returns-clause-removal g c = λ l text k e. without_by_query string_eq string_equality (has_text text) (text_respects text) l k (same_text text k e)
+
+pub returns-clause-inserted : goal.returns-clause-inserted
+returns-clause-inserted g c = λ l k v text e. lookup_put_query string_eq string_equality (has_text text) (text_respects text) l k v (same_text text k e)
+
+pub returns-clause-others : goal.returns-clause-others
+returns-clause-others g c = λ l k v text n. lookup_put_other_query string_eq string_equality (has_text text) (text_respects text) l k v n
+
+pub returns-clause-removed : goal.returns-clause-removed
+returns-clause-removed g c = λ l d text. lookup_without_query string_eq string_equality (has_text text) (text_respects text) l d
