@@ -42,8 +42,8 @@ fn a_refused_clone_leaves_an_iterator(rt: HostRuntime) -> Result<(), Fail> {
         let mut values = told_map(rt.alloc(), &log, &[1, 2, 3])?.into_values();
         drop((pairs.next(), keys.next(), values.next()));
         assert!(rt; log.alive() == 12 && pairs.clone().is_err());
-        assert!(rt; keys.clone().is_err() == (number < 10));
-        assert!(rt; values.clone().is_err() == (10 < number));
+        // An iterator over keys or values clones both.
+        assert!(rt; keys.clone().is_err() && values.clone().is_err());
         assert!(rt; log.alive() == 12);
         let pairs: Vec<(Told<'_>, Told<'_>)> = pairs.collect(rt.alloc())?;
         assert!(rt; has_told_pairs(&pairs, &[(2, 12), (3, 13)]));

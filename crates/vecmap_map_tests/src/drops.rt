@@ -1,7 +1,9 @@
 //! What is handed in is dropped once, or comes back. `alive` counts the keys and values that are somewhere.
 use super::entry::occupied;
+use std::alloc::AllocError;
 use std::test::Fail;
-use vecmap::{VecMap, keys_distinct};
+use vecmap::macros::put_pair;
+use vecmap::{Refused, VecMap, keys_distinct};
 use vecmap_fixtures::{Log, Told, assert_alive, has_told_pairs, make_told, told_couples, told_map};
 
 #[test]
@@ -17,7 +19,12 @@ fn insertions_drop_what_they_do_not_keep(rt: HostRuntime) -> Result<(), Fail> {
     assert_alive!(rt, log, map.insert_at(3, told(1), told(13))?, 7, 6);
     assert!(rt; 1 <= map.len());
     assert_alive!(rt, log, map.insert_at(1, told(4), told(40))?, 8, 8);
-    assert!(rt; has_told_pairs(map.as_slice(), &[(2, 12), (4, 40), (3, 30), (1, 13)]));
+    assert_alive!(rt, log, put_pair(&mut map, told(1), told(14))?, 8, 8);
+    let refused = Refused {
+        given: (told(5), told(50)),
+    };
+    assert_alive!(rt, log, AllocError::from(refused), 8, 8);
+    assert!(rt; has_told_pairs(map.as_slice(), &[(2, 12), (4, 40), (3, 30), (1, 14)]));
     drop(map);
     assert!(rt; log.alive() == 0);
     Ok(())

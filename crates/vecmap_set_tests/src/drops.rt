@@ -1,5 +1,6 @@
 //! What is handed in is dropped once, or comes back. `alive` counts the elements that are somewhere.
 use std::test::Fail;
+use vecmap::macros::add_item;
 use vecmap::{VecSet, items_distinct};
 use vecmap_fixtures::{Log, Told, assert_alive, has_told, make_told, told_items, told_set};
 
@@ -9,6 +10,7 @@ fn single_calls_drop_what_they_do_not_keep(rt: HostRuntime) -> Result<(), Fail> 
     let told = |number| make_told(&log, number);
     let mut set = told_set(rt.alloc(), &log, &[1, 2, 3, 4, 5, 6, 7])?;
     assert_alive!(rt, log, set.insert(told(1))?, 7, 7);
+    assert_alive!(rt, log, add_item(&mut set, told(1))?, 7, 7);
     assert_alive!(rt, log, set.insert(told(8))?, 8, 8);
     assert_alive!(rt, log, set.replace(told(1))?, 9, 8);
     assert_alive!(rt, log, set.replace(told(9))?, 9, 9);

@@ -276,6 +276,20 @@ fn hints_follow_the_pulls(rt: HostRuntime) -> Result<(), Fail> {
 }
 
 #[test]
+fn a_union_and_its_clone_go_on_by_themselves(rt: HostRuntime) -> Result<(), Fail> {
+    let a = set_of(rt.alloc(), &[1, 2])?;
+    let b = set_of(rt.alloc(), &[2, 3])?;
+    let mut all = a.union(&b);
+    assert!(rt; all.next() == Some(&1) && all.next_back() == Some(&3));
+    let copy = all.clone();
+    for mut left in [all, copy] {
+        assert!(rt; left.next_back() == Some(&2));
+        assert!(rt; left.next_back().is_none() && left.next().is_none());
+    }
+    Ok(())
+}
+
+#[test]
 fn lists_come_in_their_order(rt: HostRuntime) -> Result<(), Fail> {
     let a = set_of(rt.alloc(), &[1, 2, 3])?;
     let b = VecSet::from([4, 2, 3, 4].to_vec(rt.alloc())?);
