@@ -132,6 +132,30 @@ const CASES: &[Case] = &[
         right_shared: &[],
         right_alone: &[0, 1],
     },
+    Case {
+        left: &[(1, 'a')],
+        right: &[],
+        left_shared: &[],
+        left_alone: &[0],
+        right_shared: &[],
+        right_alone: &[],
+    },
+    Case {
+        left: &[],
+        right: &[],
+        left_shared: &[],
+        left_alone: &[],
+        right_shared: &[],
+        right_alone: &[],
+    },
+    Case {
+        left: &[(1, 'a'), (2, 'a'), (3, 'a'), (4, 'a')],
+        right: &[(4, 'b'), (5, 'b'), (2, 'b'), (6, 'b')],
+        left_shared: &[1, 3],
+        left_alone: &[0, 2],
+        right_shared: &[0, 2],
+        right_alone: &[1, 3],
+    },
 ];
 
 // Every mixture of six pulls, with the hint at each step, and clones half way that go on by themselves.
