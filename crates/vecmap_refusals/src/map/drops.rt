@@ -1,10 +1,11 @@
 //! What a refused call keeps, gives back or drops: each key and value once. `alive` counts those that are somewhere.
-use crate::telling::{make, tell};
+use crate::telling::{make, tell, told_map};
 use std::alloc::{AllocError, Global};
+use std::process::Abort;
 use std::test::Fail;
 use vecmap::map::{Entry, VecMap};
 use vecmap::{MapCommand, Refused, run};
-use vecmap_fixtures::{Log, Told, has_told_pairs, make_told, told_couples, told_map};
+use vecmap_fixtures::{Log, Told, has_told_pairs, make_told, told_couples};
 
 type Couple<'a> = (Told<'a>, Told<'a>);
 
@@ -51,20 +52,34 @@ fn put<'a>(
     Ok(())
 }
 
+// A call that puts a pair keeps it, or gives it back and is made once more.
+fn check<R: Abort + Print>(rt: &R, alloc: Global, call: u32) -> Result<(), Fail> {
+    let log = Log::new();
+    let mut map = told_map(rt, alloc, &log, &[1, 2])?;
+    if let Err(refused) = put(call, &mut map, make_told(&log, 3), make_told(&log, 13)) {
+        tell(rt)?;
+        assert!(rt; log.alive() == 6 && has_told_pairs(map.as_slice(), &[(1, 11), (2, 12)]));
+        let (key, value) = refused.given;
+        put(call, &mut map, key, value)?;
+    }
+    assert!(rt; log.alive() == 6 && map.len() == 3);
+    drop(map);
+    assert!(rt; log.alive() == 0);
+    Ok(())
+}
+
 #[test]
 fn insertions_keep_a_pair_or_give_it_back(rt: HostRuntime) -> Result<(), Fail> {
-    for call in 0..9 {
-        let log = Log::new();
-        let mut map = make!(rt; told_map(rt.alloc(), &log, &[1, 2]));
-        if let Err(refused) = put(call, &mut map, make_told(&log, 3), make_told(&log, 13)) {
-            tell(&rt)?;
-            assert!(rt; log.alive() == 6 && has_told_pairs(map.as_slice(), &[(1, 11), (2, 12)]));
-            let (key, value) = refused.given;
-            put(call, &mut map, key, value)?;
-        }
-        assert!(rt; log.alive() == 6 && map.len() == 3);
-        drop(map);
-        assert!(rt; log.alive() == 0);
+    for call in 0..4 {
+        check(&rt, rt.alloc(), call)?;
+    }
+    Ok(())
+}
+
+#[test]
+fn entries_keep_a_pair_or_give_it_back(rt: HostRuntime) -> Result<(), Fail> {
+    for call in 4..9 {
+        check(&rt, rt.alloc(), call)?;
     }
     Ok(())
 }
@@ -91,7 +106,7 @@ fn put_many<'a>(
 fn many_pairs_are_kept_or_dropped(rt: HostRuntime) -> Result<(), Fail> {
     for call in 0..4 {
         let log = Log::new();
-        let mut map = make!(rt; told_map(rt.alloc(), &log, &[1, 2]));
+        let mut map = told_map(&rt, rt.alloc(), &log, &[1, 2])?;
         let more = make!(rt; told_couples(rt.alloc(), &log, &[3, 1, 4, 3, 5]));
         if put_many(rt.alloc(), call, &mut map, more).is_err() {
             tell(&rt)?;
@@ -104,8 +119,8 @@ fn many_pairs_are_kept_or_dropped(rt: HostRuntime) -> Result<(), Fail> {
 #[test]
 fn a_run_keeps_what_its_commands_carry_or_drops_it(rt: HostRuntime) -> Result<(), Fail> {
     let log = Log::new();
-    let mut map = make!(rt; told_map(rt.alloc(), &log, &[1, 2]));
-    let carried = make!(rt; told_map(rt.alloc(), &log, &[5, 6]));
+    let mut map = told_map(&rt, rt.alloc(), &log, &[1, 2])?;
+    let carried = told_map(&rt, rt.alloc(), &log, &[5, 6])?;
     let mut commands = make!(rt; Vec::with_capacity(rt.alloc(), 3));
     commands.push(MapCommand::Insert(make_told(&log, 3), make_told(&log, 13)))?;
     commands.push(MapCommand::Insert(make_told(&log, 1), make_told(&log, 10)))?;
