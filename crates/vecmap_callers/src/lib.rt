@@ -15,6 +15,7 @@ pub mod names;
 pub mod operators;
 pub mod options;
 pub mod order;
+pub mod places;
 pub mod registry;
 pub mod removal;
 pub mod scopes;

@@ -1,6 +1,6 @@
 //! What the tests of maps and sets begin with: keys that are equal and not identical, a query that is no key, texts, keys
-//! that tell of their comparisons and drops, iterators with a hint of their own, maps and sets of these, and comparisons
-//! of whole lists and of pulls from both ends.
+//! and values that tell of their comparisons, clones and drops, iterators with a hint of their own, maps and sets of
+//! these, and comparisons of whole lists and of pulls from both ends.
 #![tactic(auto)]
 
 mod hinted;
@@ -19,4 +19,7 @@ pub use pulls::pulls_as_list;
 pub use query::Number;
 pub use same::{Same, are_same};
 pub use texts::{has_text_pairs, has_texts, text_map, text_set};
-pub use told::{Log, Told, told_items, told_pairs};
+pub use told::{
+    Log, Told, has_told, has_told_pairs, make_told, told_couples, told_items, told_map, told_pairs,
+    told_set,
+};

@@ -1,13 +1,19 @@
-//! A key or an element that tells of its comparisons and of its drop.
+//! A key, a value or an element that tells of its comparisons, of its clones and of its drop.
+ghost use Rattle.std.specs.Prelude.{◌≡◌};
+
 use std::alloc::{AllocError, Global};
 use std::cell::Cell;
+use std::fmt;
+use vecmap::{VecMap, VecSet};
 
 /// What the values of one test have told.
 #[derive(Drop)]
 pub struct Log {
     comparisons: Cell<u32>,
+    made: Cell<u32>,
     drops: Cell<u32>,
     compares_after_drop: Cell<bool>,
+    unlucky: Cell<Option<u32>>,
 }
 
 impl Log {
@@ -15,8 +21,10 @@ impl Log {
     pub fn new() -> Log {
         Log {
             comparisons: Cell::new(0),
+            made: Cell::new(0),
             drops: Cell::new(0),
             compares_after_drop: Cell::new(false),
+            unlucky: Cell::new(None),
         }
     }
 
@@ -30,16 +38,72 @@ impl Log {
         self.drops.get()
     }
 
+    /// How many values there are: those that were made, clones too, without those that were dropped.
+    pub fn alive(&self) -> u32 {
+        self.made.get().wrapping_sub(self.drops.get())
+    }
+
+    /// From now on the clones of this number are refused, and no others.
+    pub fn refuse_clones_of(&self, number: u32) {
+        self.unlucky.set(Some(number));
+    }
+
     /// Whether a comparison came after a value was dropped.
     pub fn compares_after_drop(&self) -> bool {
         self.compares_after_drop.get()
     }
 }
 
-/// Equal by its number. Each `==` and each drop is noted in the log.
+/// Equal by its number. Each value that is made, each `==` and each drop is noted in the log.
 pub struct Told<'a> {
     number: u32,
     log: &'a Log,
+}
+
+impl Told<'_> {
+    pub fn number(&self) -> u32 {
+        self.number
+    }
+}
+
+/// A new value of this number.
+pub fn make_told(log: &Log, number: u32) -> Told<'_>
+    ensures { result.number ≡ number }
+{
+    log.made.set(log.made.get().wrapping_add(1));
+    Told { number, log }
+}
+
+/// How many values are alive while the answer of a call stands, and how many once it is dropped.
+#[macro_export]
+macro_rules! assert_alive {
+    ($rt:ident, $log:ident, $call:expr, $with:expr, $without:expr) => {{
+        let answer = $call;
+        assert!($rt; $log.alive() == $with);
+        drop(answer);
+        assert!($rt; $log.alive() == $without);
+    }};
+}
+
+/// A clone has the number of its original. It is refused where the log says so.
+impl<'a> Clone for Told<'a> {
+    ghost use Rattle.std.specs.Prelude.{IsTrue, nat_eq};
+
+    ghost is_clone = { λ x y. IsTrue (nat_eq x.number y.number) };
+
+    fn clone(&self) -> Result<Told<'a>, AllocError> {
+        if self.log.unlucky.get() == Some(self.number) {
+            return Err(AllocError);
+        }
+        Ok(make_told(self.log, self.number))
+    }
+}
+
+/// Prints its number.
+impl fmt::Debug for Told<'_> {
+    fn fmt<W: fmt::Write>(&self, f: &mut fmt::Formatter<W>) -> fmt::Result {
+        fmt::Debug::fmt(&self.number, f)
+    }
 }
 
 impl PartialEq for Told<'_> {
@@ -80,10 +144,9 @@ pub fn told_pairs<'a>(
     log: &'a Log,
     numbers: &[u32],
 ) -> Result<Vec<(Told<'a>, u32)>, AllocError> {
-    let mut pairs = Vec::new(alloc);
+    let mut pairs = Vec::with_capacity(alloc, numbers.len())?;
     for number in numbers {
-        let number = *number;
-        pairs.push((Told { number, log }, number))?;
+        pairs.push((make_told(log, *number), *number))?;
     }
     Ok(pairs)
 }
@@ -94,8 +157,59 @@ pub fn told_items<'a>(
     log: &'a Log,
     numbers: &[u32],
 ) -> Result<Vec<Told<'a>>, AllocError> {
-    told_pairs(alloc, log, numbers)?
-        .into_iter()
-        .map(|pair| pair.0)
-        .collect(alloc)
+    let mut items = Vec::with_capacity(alloc, numbers.len())?;
+    for number in numbers {
+        items.push(make_told(log, *number))?;
+    }
+    Ok(items)
+}
+
+/// Pairs with these numbers as keys and, ten higher, as values, all of one log.
+pub fn told_couples<'a>(
+    alloc: Global,
+    log: &'a Log,
+    numbers: &[u32],
+) -> Result<Vec<(Told<'a>, Told<'a>)>, AllocError> {
+    let mut couples = Vec::with_capacity(alloc, numbers.len())?;
+    for number in numbers {
+        let value = make_told(log, number.wrapping_add(10));
+        couples.push((make_told(log, *number), value))?;
+    }
+    Ok(couples)
+}
+
+/// The map of these couples, which has no room for more.
+pub fn told_map<'a>(
+    alloc: Global,
+    log: &'a Log,
+    numbers: &[u32],
+) -> Result<VecMap<Told<'a>, Told<'a>>, AllocError> {
+    Ok(VecMap::from(told_couples(alloc, log, numbers)?))
+}
+
+/// The set of these numbers, all of one log, which has no room for more.
+pub fn told_set<'a>(
+    alloc: Global,
+    log: &'a Log,
+    numbers: &[u32],
+) -> Result<VecSet<Told<'a>>, AllocError> {
+    Ok(VecSet::from(told_items(alloc, log, numbers)?))
+}
+
+/// Whether the pairs have these numbers as keys and as values, in this order, and are as many.
+pub fn has_told_pairs(pairs: &[(Told<'_>, Told<'_>)], expected: &[(u32, u32)]) -> bool {
+    pairs.len() == expected.len()
+        && pairs
+            .iter()
+            .zip(expected)
+            .all(|(pair, wanted)| (pair.0.number, pair.1.number) == *wanted)
+}
+
+/// Whether the elements have these numbers, in this order, and are as many.
+pub fn has_told(items: &[Told<'_>], expected: &[u32]) -> bool {
+    items.len() == expected.len()
+        && items
+            .iter()
+            .zip(expected)
+            .all(|(item, wanted)| item.number == *wanted)
 }

@@ -3,7 +3,7 @@ use std::alloc::{AllocError, Global};
 use std::ops::Bound;
 use std::test::Fail;
 use vecmap::VecMap;
-use vecmap_fixtures::{Log, has_pairs, repeating_map, told_pairs};
+use vecmap_fixtures::{Log, has_pairs, pulls_as_list, repeating_map, told_pairs};
 
 // Two keys are equal: a drain asks nothing of keys.
 const FIVE: &[(u32, char, u32)] = &[
@@ -42,6 +42,22 @@ fn a_drain_gives_its_range_from_both_ends(rt: HostRuntime) -> Result<(), Fail> {
     drop(pairs);
     assert!(rt; has_pairs(map.as_slice(), &[(0, 'a', 0), (4, 'e', 40)]));
     assert_eq!(rt; map.capacity(), room);
+    Ok(())
+}
+
+const SIX: [(u32, u32); 6] = [(0, 5), (1, 6), (2, 7), (3, 8), (4, 9), (5, 10)];
+
+#[test]
+fn a_drain_gives_its_list_under_every_mixture(rt: HostRuntime) -> Result<(), Fail> {
+    for count in 0..5 {
+        let end = count + 1;
+        for ends in 0..64 {
+            let mut map = VecMap::from_slice(rt.alloc(), &SIX)?;
+            assert!(rt; end <= map.len());
+            assert!(rt; pulls_as_list(map.drain(1..end), |pair| pair, &SIX[1..end], ends));
+            assert!(rt; map.as_slice().split_first() == Some((&SIX[0], &SIX[end..])));
+        }
+    }
     Ok(())
 }
 

@@ -13,6 +13,8 @@ fn a_size_hint_decides_nothing_but_the_room(rt: HostRuntime) -> Result<(), Fail>
         let map = VecMap::from_iter(rt.alloc(), hinted().copied())?;
         assert_eq!(rt; map.as_slice(), items);
         assert!(rt; room <= map.capacity());
+        let map: VecMap<i32, char> = hinted().copied().collect(rt.alloc())?;
+        assert!(rt; map.as_slice() == items && room <= map.capacity());
         let mut map = VecMap::from_slice(rt.alloc(), start)?;
         map.extend(hinted().copied())?;
         assert_eq!(rt; map.as_slice(), left);
@@ -53,6 +55,8 @@ fn room_for_the_greatest_hint_is_refused(rt: HostRuntime) -> Result<(), Fail> {
     assert_eq!(rt; map.as_slice(), [(5, 'a')].as_slice());
     assert_eq!(rt; map.capacity(), room);
     assert!(rt; VecMap::from_iter(rt.alloc(), hinted().copied()).is_err());
+    let collected: Result<VecMap<i32, char>, _> = hinted().copied().collect(rt.alloc());
+    assert!(rt; collected.is_err());
     Ok(())
 }
 

@@ -6,9 +6,13 @@ mod bulk;
 #[cfg(test)]
 mod by_reference;
 #[cfg(test)]
+mod clones;
+#[cfg(test)]
 mod conversion;
 #[cfg(test)]
 mod drain;
+#[cfg(test)]
+mod drops;
 #[cfg(test)]
 mod entry;
 #[cfg(test)]
@@ -27,6 +31,8 @@ mod lookup;
 mod make;
 #[cfg(test)]
 mod mutable_keys;
+#[cfg(test)]
+mod no_size;
 #[cfg(test)]
 mod order;
 #[cfg(test)]

@@ -45,6 +45,27 @@ fn retain_asks_in_order_in_the_state_that_is_left(rt: HostRuntime) -> Result<(),
 }
 
 #[test]
+fn closures_count_their_calls(rt: HostRuntime) -> Result<(), Fail> {
+    let four = [('a', 0), ('b', 0), ('c', 0), ('d', 0)];
+    let mut map = VecMap::from_slice(rt.alloc(), &four)?;
+    let mut count = 0u32;
+    map.retain(|_key, value| {
+        count = count.wrapping_add(1);
+        *value = count;
+        count % 2 == 0
+    });
+    assert!(rt; count == 4 && map.as_slice() == [('b', 2), ('d', 4)].as_slice());
+    map.retain2(|key, value| {
+        count = count.wrapping_add(1);
+        *value = count;
+        *key = 'e';
+        count == 6
+    });
+    assert!(rt; count == 6 && map.as_slice() == [('e', 6)].as_slice());
+    Ok(())
+}
+
+#[test]
 fn retain2_writes_keys_too(rt: HostRuntime) -> Result<(), Fail> {
     let mut map = VecMap::new(rt.alloc());
     for x in 0..8u32 {

@@ -1,6 +1,7 @@
 //! Requests of maps.
 mod bulk;
 mod clones;
+mod drops;
 mod entry;
 mod insertion;
 mod iteration;

@@ -1,6 +1,7 @@
 //! Requests of sets.
 mod bulk;
 mod clones;
+mod drops;
 mod insertion;
 mod iteration;
 mod operators;

@@ -2,7 +2,7 @@
 use std::alloc::{AllocError, Global};
 use std::test::Fail;
 use vecmap::{VecMap, VecSet};
-use vecmap_fixtures::Item;
+use vecmap_fixtures::{Item, Log, Told};
 
 /// Tells that a request was refused. `.ci/refuse` goes on as long as a test tells it.
 pub(crate) fn tell(rt: &impl Print) -> Result<(), Fail> {
@@ -81,6 +81,22 @@ pub(crate) fn text_set(
         Err(AllocError) => {
             tell(rt)?;
             Ok(vecmap_fixtures::text_set(alloc, texts)?)
+        }
+    }
+}
+
+/// As the fixture, made once more where it is refused.
+pub(crate) fn told_map<'a>(
+    rt: &impl Print,
+    alloc: Global,
+    log: &'a Log,
+    numbers: &[u32],
+) -> Result<VecMap<Told<'a>, Told<'a>>, Fail> {
+    match vecmap_fixtures::told_map(alloc, log, numbers) {
+        Ok(map) => Ok(map),
+        Err(AllocError) => {
+            tell(rt)?;
+            Ok(vecmap_fixtures::told_map(alloc, log, numbers)?)
         }
     }
 }

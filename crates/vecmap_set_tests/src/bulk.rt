@@ -69,6 +69,8 @@ fn a_size_hint_decides_nothing(rt: HostRuntime) -> Result<(), Fail> {
         let hinted = || Hinted { items, hint };
         let set = VecSet::from_iter(rt.alloc(), hinted().copied())?;
         assert_eq!(rt; set.as_slice(), [1, 2, 3].as_slice());
+        let set: VecSet<i32> = hinted().copied().collect(rt.alloc())?;
+        assert!(rt; set.as_slice() == [1, 2, 3].as_slice());
         let mut set = set_of(rt.alloc(), &[3, 7])?;
         set.extend(hinted().copied())?;
         assert_eq!(rt; set.as_slice(), [3, 7, 1, 2].as_slice());

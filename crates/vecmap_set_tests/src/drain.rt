@@ -2,7 +2,7 @@
 use std::ops::Bound;
 use std::test::Fail;
 use vecmap::VecSet;
-use vecmap_fixtures::{Log, has_items, make_item, set_of, told_items};
+use vecmap_fixtures::{Log, has_items, make_item, pulls_as_list, set_of, told_items};
 
 #[test]
 fn a_drain_gives_its_range_from_both_ends(rt: HostRuntime) -> Result<(), Fail> {
@@ -19,6 +19,22 @@ fn a_drain_gives_its_range_from_both_ends(rt: HostRuntime) -> Result<(), Fail> {
     drop(items);
     assert_eq!(rt; set.as_slice(), [0, 4].as_slice());
     assert_eq!(rt; set.capacity(), room);
+    Ok(())
+}
+
+const SIX: [u32; 6] = [5, 6, 7, 8, 9, 10];
+
+#[test]
+fn a_drain_gives_its_list_under_every_mixture(rt: HostRuntime) -> Result<(), Fail> {
+    for count in 0..5 {
+        let end = count + 1;
+        for ends in 0..64 {
+            let mut set = VecSet::from_slice(rt.alloc(), &SIX)?;
+            assert!(rt; end <= set.len());
+            assert!(rt; pulls_as_list(set.drain(1..end), |item| item, &SIX[1..end], ends));
+            assert!(rt; set.as_slice().split_first() == Some((&SIX[0], &SIX[end..])));
+        }
+    }
     Ok(())
 }
 

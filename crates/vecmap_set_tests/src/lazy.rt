@@ -132,6 +132,30 @@ const CASES: &[Case] = &[
         right_shared: &[],
         right_alone: &[0, 1],
     },
+    Case {
+        left: &[(1, 'a')],
+        right: &[],
+        left_shared: &[],
+        left_alone: &[0],
+        right_shared: &[],
+        right_alone: &[],
+    },
+    Case {
+        left: &[],
+        right: &[],
+        left_shared: &[],
+        left_alone: &[],
+        right_shared: &[],
+        right_alone: &[],
+    },
+    Case {
+        left: &[(1, 'a'), (2, 'a'), (3, 'a'), (4, 'a')],
+        right: &[(4, 'b'), (5, 'b'), (2, 'b'), (6, 'b')],
+        left_shared: &[1, 3],
+        left_alone: &[0, 2],
+        right_shared: &[0, 2],
+        right_alone: &[1, 3],
+    },
 ];
 
 // Every mixture of six pulls, with the hint at each step, and clones half way that go on by themselves.
@@ -272,6 +296,20 @@ fn hints_follow_the_pulls(rt: HostRuntime) -> Result<(), Fail> {
     assert_eq!(rt; all.next(), Some(&2));
     assert_eq!(rt; all.next(), None);
     assert_eq!(rt; all.next_back(), None);
+    Ok(())
+}
+
+#[test]
+fn a_union_and_its_clone_go_on_by_themselves(rt: HostRuntime) -> Result<(), Fail> {
+    let a = set_of(rt.alloc(), &[1, 2])?;
+    let b = set_of(rt.alloc(), &[2, 3])?;
+    let mut all = a.union(&b);
+    assert!(rt; all.next() == Some(&1) && all.next_back() == Some(&3));
+    let copy = all.clone();
+    for mut left in [all, copy] {
+        assert!(rt; left.next_back() == Some(&2));
+        assert!(rt; left.next_back().is_none() && left.next().is_none());
+    }
     Ok(())
 }
 

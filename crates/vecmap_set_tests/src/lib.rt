@@ -6,9 +6,13 @@ mod bulk;
 #[cfg(test)]
 mod by_reference;
 #[cfg(test)]
+mod clones;
+#[cfg(test)]
 mod conversion;
 #[cfg(test)]
 mod drain;
+#[cfg(test)]
+mod drops;
 #[cfg(test)]
 mod equality;
 #[cfg(test)]
@@ -21,6 +25,8 @@ mod lazy;
 mod lookup;
 #[cfg(test)]
 mod make;
+#[cfg(test)]
+mod no_size;
 #[cfg(test)]
 mod operators;
 #[cfg(test)]

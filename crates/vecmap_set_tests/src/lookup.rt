@@ -40,6 +40,7 @@ fn a_place_answers_its_element(rt: HostRuntime) -> Result<(), Fail> {
     assert_eq!(rt; set.get_index(1).copied(), Some(10));
     assert_eq!(rt; set.get_index(2).copied(), Some(20));
     assert_eq!(rt; set.get_index(3).copied(), None);
+    assert!(rt; set.get_index(usize::MAX).is_none());
     assert_eq!(rt; set.len(), 3);
     assert_eq!(rt; (set[0], set[1], set[2]), (30, 10, 20));
     let empty: VecSet<u32> = VecSet::new(rt.alloc());

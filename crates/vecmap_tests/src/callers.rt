@@ -9,7 +9,7 @@ use std::alloc::{AllocError, Global};
 use std::test::Fail;
 use vecmap::{VecMap, VecSet};
 use vecmap_callers::names::{Name, NamedAs};
-use vecmap_callers::{entry, equivalent, lending};
+use vecmap_callers::{entry, equivalent, lending, places};
 use vecmap_fixtures::{has_pairs, item_map, make_item};
 
 #[test]
@@ -61,6 +61,17 @@ fn callers_of_lent_values_write_what_they_say(rt: HostRuntime) -> Result<(), Fai
         (Some(6), None)
     );
     assert_eq!(rt; numbers.as_slice(), [(5, 6)].as_slice());
+    Ok(())
+}
+
+#[test]
+fn callers_by_place_do_what_they_say(rt: HostRuntime) -> Result<(), Fail> {
+    let mut map = VecMap::from_slice(rt.alloc(), &[('a', 1), ('b', 2)])?;
+    assert!(rt; places::put_last(&mut map, 'a', 3)? == Some((0, 1)));
+    assert!(rt; map.as_slice() == [('b', 2), ('a', 3)].as_slice());
+    assert!(rt; 0 < map.len());
+    places::exchange_ends(&mut map);
+    assert!(rt; map.as_slice() == [('a', 3), ('b', 2)].as_slice());
     Ok(())
 }
 

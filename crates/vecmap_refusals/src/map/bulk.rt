@@ -88,6 +88,29 @@ fn extend_puts_the_pairs_before_the_refused_one(rt: HostRuntime) -> Result<(), F
 }
 
 #[test]
+fn extend_puts_as_many_as_there_is_room_for(rt: HostRuntime) -> Result<(), Fail> {
+    let items = [(1, 10), (2, 20), (3, 30), (4, 40), (5, 50), (6, 60)];
+    let mut map = VecMap::new(rt.alloc());
+    if map.reserve(2).is_err() {
+        tell(&rt)?;
+        map.reserve(2)?;
+    }
+    let room = map.capacity();
+    assert!(rt; room < 6);
+    let one_more = || Hinted {
+        items: &items[..room + 1],
+        hint: 0,
+    };
+    if map.extend(one_more().copied()).is_err() {
+        tell(&rt)?;
+        assert!(rt; map.as_slice() == &items[..room] && map.capacity() == room);
+        map.extend(one_more().copied())?;
+    }
+    assert!(rt; map.as_slice() == &items[..room + 1]);
+    Ok(())
+}
+
+#[test]
 fn extend_pairs_puts_the_pairs_before_the_refused_one(rt: HostRuntime) -> Result<(), Fail> {
     let items = more();
     for hint in [0, 4] {

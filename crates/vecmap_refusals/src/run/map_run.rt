@@ -112,7 +112,7 @@ fn a_list_whose_clone_is_refused_answers_no_memory(rt: HostRuntime) -> Result<()
 
 // One command on a full map: it is done, or refused with nothing changed and then done.
 macro_rules! refused_then_done {
-    ($rt:ident; $command:expr, $reply:pat => $left:expr) => {{
+    ($rt:ident; $command:expr, $reply:pat => $left:expr $(, $is_wanted:expr)?) => {{
         let mut is_refused = false;
         for _ in 0..2 {
             let mut map = full_map(&$rt, $rt.alloc(), FULL)?;
@@ -120,7 +120,7 @@ macro_rules! refused_then_done {
             commands.push($command)?;
             match run($rt.alloc(), &mut map, commands).as_deref() {
                 Ok([$reply]) => {
-                    assert!($rt; has_pairs(map.as_slice(), $left));
+                    assert!($rt; has_pairs(map.as_slice(), $left) $(&& $is_wanted)?);
                     return Ok(());
                 }
                 Ok([MapReply::NoMemory]) | Err(AllocError) => {
@@ -165,28 +165,45 @@ fn a_refused_append_answers_no_memory(rt: HostRuntime) -> Result<(), Fail> {
 
 #[test]
 fn a_refused_split_answers_no_memory(rt: HostRuntime) -> Result<(), Fail> {
-    refused_then_done!(rt; MapCommand::SplitOff(1), MapReply::Rest(_) => &[(1, 'a', 10)])
+    refused_then_done!(rt; MapCommand::SplitOff(1), MapReply::Rest(part) => &[(1, 'a', 10)], has_pairs(part.as_slice(), &[(2, 'b', 20)]))
+}
+
+// A command that clones a pair is done, or refused with nothing changed and then done.
+macro_rules! pair_or_refused {
+    ($rt:ident; $command:expr, $wanted:expr) => {{
+        let mut map = text_map(&$rt, $rt.alloc(), TEXTS)?;
+        let mut is_refused = false;
+        for _ in 0..2 {
+            let mut commands = make!($rt; Vec::with_capacity($rt.alloc(), 1));
+            commands.push($command)?;
+            let replies = run($rt.alloc(), &mut map, commands);
+            assert!($rt; has_text_pairs(map.as_slice(), TEXTS));
+            match replies.as_deref() {
+                Ok([MapReply::Pair(Some((key, value)))]) => {
+                    assert!($rt; (key.as_str(), value.as_str()) == $wanted);
+                    return Ok(());
+                }
+                Ok([MapReply::NoMemory]) | Err(AllocError) => tell(&$rt)?,
+                _ => return Err(Fail::new("another reply")),
+            }
+            assert!($rt; !is_refused);
+            is_refused = true;
+        }
+        Ok(())
+    }};
 }
 
 #[test]
-fn a_pair_whose_clone_is_refused_answers_no_memory(rt: HostRuntime) -> Result<(), Fail> {
-    for place in 0..3usize {
-        let mut map = text_map(&rt, rt.alloc(), TEXTS)?;
-        let mut commands = make!(rt; Vec::with_capacity(rt.alloc(), 1));
-        commands.push(match place {
-            0 => MapCommand::First,
-            1 => MapCommand::Last,
-            _ => MapCommand::GetIndex(1),
-        })?;
-        let replies = run(rt.alloc(), &mut map, commands);
-        assert!(rt; has_text_pairs(map.as_slice(), TEXTS));
-        match replies.as_deref() {
-            Ok([MapReply::Pair(Some((key, _value)))]) => {
-                assert!(rt; key.as_str() == if place == 0 { "b" } else { "a" });
-            }
-            Ok([MapReply::NoMemory]) | Err(AllocError) => tell(&rt)?,
-            _ => return Err(Fail::new("another reply")),
-        }
-    }
-    Ok(())
+fn a_first_whose_clone_is_refused_answers_no_memory(rt: HostRuntime) -> Result<(), Fail> {
+    pair_or_refused!(rt; MapCommand::First, ("b", "2"))
+}
+
+#[test]
+fn a_last_whose_clone_is_refused_answers_no_memory(rt: HostRuntime) -> Result<(), Fail> {
+    pair_or_refused!(rt; MapCommand::Last, ("a", "1"))
+}
+
+#[test]
+fn a_place_whose_clone_is_refused_answers_no_memory(rt: HostRuntime) -> Result<(), Fail> {
+    pair_or_refused!(rt; MapCommand::GetIndex(1), ("a", "1"))
 }

@@ -1,7 +1,7 @@
 //! Runs of commands on a map. The replies are compared as they print, one after another.
 use std::test::Fail;
 use vecmap::{MapCommand, MapReply, VecMap, run};
-use vecmap_fixtures::{has_pairs, item_map, make_item};
+use vecmap_fixtures::{Log, has_pairs, has_told_pairs, item_map, make_item, make_told, told_map};
 
 // What a run of the commands answers, as it prints.
 macro_rules! answers {
@@ -151,6 +151,68 @@ fn a_run_changes_the_whole_list(rt: HostRuntime) -> Result<(), Fail> {
         "[Done, OutOfRange, OutOfRange, Pairs([('c', 3), ('b', 2), ('a', 1), ('d', 4)]), Done, Done, Pairs([('d', 4), ('a', 1), ('b', 2)]), OutOfRange, Rest({}), Done, Pair(None)]"
     );
     assert_eq!(rt; (map.len(), map.capacity() >= 4), (0, true));
+    Ok(())
+}
+
+#[test]
+fn a_run_finds_nothing_at_the_greatest_place(rt: HostRuntime) -> Result<(), Fail> {
+    let mut map = VecMap::from_slice(rt.alloc(), &[('a', 1)])?;
+    let room = map.capacity();
+    let commands = [
+        MapCommand::InsertAt(usize::MAX, 'b', 2),
+        MapCommand::SplitOff(2),
+        MapCommand::SplitOff(usize::MAX),
+        MapCommand::GetIndex(usize::MAX),
+        MapCommand::RemoveIndex(usize::MAX),
+        MapCommand::SwapRemoveIndex(usize::MAX),
+        MapCommand::SwapIndices(0, usize::MAX),
+        MapCommand::SwapIndices(usize::MAX, usize::MAX),
+        MapCommand::Truncate(usize::MAX),
+    ];
+    assert_eq!(rt;
+        answers!(rt, map, commands).as_str(),
+        "[OutOfRange, OutOfRange, OutOfRange, Pair(None), OutOfRange, OutOfRange, OutOfRange, OutOfRange, Done]"
+    );
+    assert_eq!(rt;
+        (map.as_slice(), map.capacity()),
+        ([('a', 1)].as_slice(), room)
+    );
+    Ok(())
+}
+
+#[test]
+fn a_refused_clone_answers_no_memory_and_changes_nothing(rt: HostRuntime) -> Result<(), Fail> {
+    let log = Log::new();
+    let mut map = told_map(rt.alloc(), &log, &[1, 2])?;
+    for (number, replies) in [
+        (
+            1,
+            "[Value(Some(11)), Pair(Some((2, 12))), NoMemory, Pair(Some((2, 12))), NoMemory]",
+        ),
+        (
+            11,
+            "[NoMemory, Pair(Some((2, 12))), NoMemory, Pair(Some((2, 12))), NoMemory]",
+        ),
+        (
+            2,
+            "[Value(Some(11)), NoMemory, Pair(Some((1, 11))), NoMemory, NoMemory]",
+        ),
+        (
+            12,
+            "[Value(Some(11)), NoMemory, Pair(Some((1, 11))), NoMemory, NoMemory]",
+        ),
+    ] {
+        log.refuse_clones_of(number);
+        let commands = [
+            MapCommand::Get(make_told(&log, 1)),
+            MapCommand::GetIndex(1),
+            MapCommand::First,
+            MapCommand::Last,
+            MapCommand::ToVec,
+        ];
+        assert_eq!(rt; answers!(rt, map, commands).as_str(), replies);
+        assert!(rt; log.alive() == 4 && has_told_pairs(map.as_slice(), &[(1, 11), (2, 12)]));
+    }
     Ok(())
 }
 

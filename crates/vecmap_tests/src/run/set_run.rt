@@ -2,7 +2,7 @@
 use std::alloc::{AllocError, Global};
 use std::test::Fail;
 use vecmap::{SetCommand, SetReply, VecSet, run_set};
-use vecmap_fixtures::{has_items, item_set, make_item};
+use vecmap_fixtures::{Log, has_items, has_told, item_set, make_item, make_told, told_set};
 
 // What a run of the commands answers, as it prints.
 macro_rules! answers {
@@ -146,6 +146,63 @@ fn a_run_changes_the_whole_list(rt: HostRuntime) -> Result<(), Fail> {
         "[Done, OutOfRange, Items([3, 2, 1, 4]), Done, Done, Done, Items([4, 1, 2, 9, 8]), OutOfRange, Made({}), Done, Item(None)]"
     );
     assert!(rt; set.is_empty() && 5 <= set.capacity());
+    Ok(())
+}
+
+#[test]
+fn a_run_finds_nothing_at_the_greatest_place(rt: HostRuntime) -> Result<(), Fail> {
+    let mut set = made(rt.alloc(), &[1])?;
+    let room = set.capacity();
+    let commands = [
+        SetCommand::SplitOff(usize::MAX),
+        SetCommand::GetIndex(usize::MAX),
+        SetCommand::RemoveIndex(usize::MAX),
+        SetCommand::SwapRemoveIndex(usize::MAX),
+        SetCommand::SwapIndices(0, usize::MAX),
+        SetCommand::SwapIndices(usize::MAX, usize::MAX),
+        SetCommand::Truncate(usize::MAX),
+    ];
+    assert_eq!(rt;
+        answers!(rt, set, commands).as_str(),
+        "[OutOfRange, Item(None), OutOfRange, OutOfRange, OutOfRange, OutOfRange, Done]"
+    );
+    assert_eq!(rt; (set.as_slice(), set.capacity()), ([1].as_slice(), room));
+    Ok(())
+}
+
+#[test]
+fn a_refused_clone_answers_no_memory_and_changes_nothing(rt: HostRuntime) -> Result<(), Fail> {
+    let log = Log::new();
+    let mut set = told_set(rt.alloc(), &log, &[1, 2])?;
+    for (number, replies) in [
+        (
+            1,
+            "[NoMemory, Item(Some(2)), NoMemory, Item(Some(2)), NoMemory, Made({2}), NoMemory, NoMemory, NoMemory]",
+        ),
+        (
+            2,
+            "[Item(Some(1)), NoMemory, Item(Some(1)), NoMemory, NoMemory, NoMemory, NoMemory, Made({1, 3}), Made({1})]",
+        ),
+        (
+            3,
+            "[Item(Some(1)), Item(Some(2)), Item(Some(1)), Item(Some(2)), Items([1, 2]), Made({2}), NoMemory, NoMemory, Made({1})]",
+        ),
+    ] {
+        log.refuse_clones_of(number);
+        let commands = [
+            SetCommand::Get(make_told(&log, 1)),
+            SetCommand::GetIndex(1),
+            SetCommand::First,
+            SetCommand::Last,
+            SetCommand::ToVec,
+            SetCommand::Intersect(told_set(rt.alloc(), &log, &[2, 3])?),
+            SetCommand::Unite(told_set(rt.alloc(), &log, &[2, 3])?),
+            SetCommand::Exclusive(told_set(rt.alloc(), &log, &[2, 3])?),
+            SetCommand::Subtract(told_set(rt.alloc(), &log, &[2, 3])?),
+        ];
+        assert_eq!(rt; answers!(rt, set, commands).as_str(), replies);
+        assert!(rt; log.alive() == 2 && has_told(set.as_slice(), &[1, 2]));
+    }
     Ok(())
 }
 

@@ -1,0 +1,150 @@
+//! What is handed in is dropped once, or comes back. `alive` counts the keys and values that are somewhere.
+use super::entry::occupied;
+use std::alloc::AllocError;
+use std::test::Fail;
+use vecmap::macros::put_pair;
+use vecmap::{Refused, VecMap, keys_distinct};
+use vecmap_fixtures::{Log, Told, assert_alive, has_told_pairs, make_told, told_couples, told_map};
+
+#[test]
+fn insertions_drop_what_they_do_not_keep(rt: HostRuntime) -> Result<(), Fail> {
+    let log = Log::new();
+    let told = |number| make_told(&log, number);
+    let mut map = told_map(rt.alloc(), &log, &[1, 2])?;
+    assert_alive!(rt, log, map.insert(told(1), told(10))?, 5, 4);
+    assert_alive!(rt, log, map.insert(told(3), told(30))?, 6, 6);
+    assert_alive!(rt, log, map.insert_full(told(1), told(11))?, 7, 6);
+    assert_alive!(rt, log, map.insert_key(told(1), told(12))?, 8, 6);
+    assert!(rt; 3 <= map.len());
+    assert_alive!(rt, log, map.insert_at(3, told(1), told(13))?, 7, 6);
+    assert!(rt; 1 <= map.len());
+    assert_alive!(rt, log, map.insert_at(1, told(4), told(40))?, 8, 8);
+    assert_alive!(rt, log, put_pair(&mut map, told(1), told(14))?, 8, 8);
+    let refused = Refused {
+        given: (told(5), told(50)),
+    };
+    assert_alive!(rt, log, AllocError::from(refused), 8, 8);
+    assert!(rt; has_told_pairs(map.as_slice(), &[(2, 12), (4, 40), (3, 30), (1, 14)]));
+    drop(map);
+    assert!(rt; log.alive() == 0);
+    Ok(())
+}
+
+#[test]
+fn entries_drop_what_they_do_not_keep(rt: HostRuntime) -> Result<(), Fail> {
+    let log = Log::new();
+    let told = |number| make_told(&log, number);
+    let mut map = told_map(rt.alloc(), &log, &[1, 2])?;
+    assert_alive!(rt, log, map.entry(told(1)), 5, 4);
+    assert_alive!(rt, log, map.entry(told(3)), 5, 4);
+    assert_alive!(rt, log, map.entry(told(3)).and_modify(|_| {}), 5, 4);
+    assert_alive!(
+        rt,
+        log,
+        map.entry(told(1)).or_insert(told(10))?.number(),
+        4,
+        4
+    );
+    assert_alive!(
+        rt,
+        log,
+        map.entry(told(3)).or_insert(told(30))?.number(),
+        6,
+        6
+    );
+    let entry = map.entry(told(1));
+    assert_alive!(
+        rt,
+        log,
+        entry.or_insert_with(|| make_told(&log, 10))?.number(),
+        6,
+        6
+    );
+    let entry = map.entry(told(4));
+    assert_alive!(
+        rt,
+        log,
+        entry.or_insert_with(|| make_told(&log, 40))?.number(),
+        8,
+        8
+    );
+    let entry = map.entry(told(5));
+    assert_alive!(
+        rt,
+        log,
+        entry.or_insert_with_key(|_| make_told(&log, 50))?.number(),
+        10,
+        10
+    );
+    assert_alive!(rt, log, map.entry(told(1)).insert_entry(told(11))?, 11, 10);
+    assert_alive!(rt, log, map.entry(told(6)).insert_entry(told(60))?, 13, 12);
+    let left = [(1, 11), (2, 12), (3, 30), (4, 40), (5, 50), (6, 60)];
+    assert!(rt; has_told_pairs(map.as_slice(), &left));
+    drop(map);
+    assert!(rt; log.alive() == 0);
+    Ok(())
+}
+
+#[test]
+fn occupied_entries_drop_what_they_do_not_answer(rt: HostRuntime) -> Result<(), Fail> {
+    let log = Log::new();
+    let told = |number| make_told(&log, number);
+    let mut map = told_map(rt.alloc(), &log, &[1, 2, 3, 4, 5])?;
+    let mut entry = occupied(map.entry(told(1))).ok_or("vacant")?;
+    assert_alive!(rt, log, entry.insert(told(10)), 12, 11);
+    assert_alive!(rt, log, entry.into_key(), 11, 10);
+    let entry = occupied(map.entry(told(1))).ok_or("vacant")?;
+    assert_alive!(rt, log, entry.remove(), 9, 8);
+    let entry = occupied(map.entry(told(2))).ok_or("vacant")?;
+    assert_alive!(rt, log, entry.remove_entry(), 8, 6);
+    let entry = occupied(map.entry(told(3))).ok_or("vacant")?;
+    assert_alive!(rt, log, entry.swap_remove(), 5, 4);
+    let entry = occupied(map.entry(told(5))).ok_or("vacant")?;
+    assert_alive!(rt, log, entry.swap_remove_entry(), 4, 2);
+    assert!(rt; has_told_pairs(map.as_slice(), &[(4, 14)]));
+    Ok(())
+}
+
+#[test]
+fn removals_drop_what_they_do_not_answer(rt: HostRuntime) -> Result<(), Fail> {
+    let log = Log::new();
+    let told = |number| make_told(&log, number);
+    let mut map = told_map(rt.alloc(), &log, &[1, 2, 3, 4, 5, 6, 7, 8, 9])?;
+    assert_alive!(rt, log, map.remove(&told(1)), 17, 16);
+    assert_alive!(rt, log, map.remove_entry(&told(2)), 16, 14);
+    assert_alive!(rt, log, map.swap_remove(&told(3)), 13, 12);
+    assert_alive!(rt, log, map.swap_remove_entry(&told(4)), 12, 10);
+    assert_alive!(rt, log, map.pop(), 10, 8);
+    assert!(rt; 1 < map.len());
+    assert_alive!(rt, log, map.remove_index(0), 8, 6);
+    assert!(rt; 1 < map.len());
+    assert_alive!(rt, log, map.swap_remove_index(0), 6, 4);
+    map.truncate(1);
+    assert!(rt; log.alive() == 2 && map.len() == 1);
+    map.clear();
+    assert!(rt; log.alive() == 0);
+    Ok(())
+}
+
+#[test]
+fn bulk_calls_drop_what_they_do_not_keep(rt: HostRuntime) -> Result<(), Fail> {
+    let log = Log::new();
+    let couples = || told_couples(rt.alloc(), &log, &[1, 2, 1]);
+    assert_alive!(rt, log, VecMap::from(couples()?), 4, 0);
+    assert_alive!(rt, log, VecMap::from_vec_counted(couples()?), 4, 0);
+    assert_alive!(rt, log, VecMap::from_iter(rt.alloc(), couples()?)?, 4, 0);
+    let collected: VecMap<Told<'_>, Told<'_>> = couples()?.into_iter().collect(rt.alloc())?;
+    assert_alive!(rt, log, collected, 4, 0);
+    let mut map = told_map(rt.alloc(), &log, &[3])?;
+    map.extend(couples()?)?;
+    assert!(rt; log.alive() == 6);
+    let mut other = VecMap::from(couples()?);
+    map.append(&mut other)?;
+    assert!(rt; log.alive() == 6 && other.is_empty() && 2 <= map.len());
+    assert_alive!(rt, log, map.split_off(2)?, 6, 4);
+    let pairs = map.into_vec();
+    assert!(rt; keys_distinct(&pairs));
+    let map = VecMap::from_vec_unchecked(pairs);
+    assert!(rt; log.alive() == 4 && has_told_pairs(map.as_slice(), &[(3, 13), (1, 11)]));
+    Ok(())
+}
