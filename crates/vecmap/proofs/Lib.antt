@@ -8,6 +8,7 @@ pub use Rattle.vecmap_base.proofs.EqualityLemmas.Relations as SetRelations
 pub use Rattle.vecmap_base.proofs.EqualityLemmas.Sets as SetEquality
 pub use Rattle.vecmap_base.proofs.ItemsLemmas.Additions as ItemAdditions
 pub use Rattle.vecmap_base.proofs.ItemsLemmas.Places as ItemPlaces
+pub use Rattle.vecmap_base.proofs.ItemsLemmas.Queries as ItemQueries
 pub use Rattle.vecmap_base.proofs.ItemsLemmas.Recursion as ItemRecursion
 pub use Rattle.vecmap_base.proofs.ItemsLemmas.Removals as ItemRemovals
 pub use Rattle.vecmap_base.proofs.KeptLemmas

@@ -1,5 +1,6 @@
 -- Lists of elements.
 pub mod Additions
 pub mod Places
+pub mod Queries
 pub mod Recursion
 pub mod Removals

@@ -7,6 +7,7 @@ ghost use Rattle.vecmap_base.specs.Items.{adds, both};
 
 mod additions;
 mod algebra;
+mod queries;
 
 pub use additions::{
     additions_keep_elements_distinct, additions_move_nothing, bulk_additions_are_single_ones,
@@ -17,6 +18,7 @@ pub use algebra::{
     lazy_iterators_give_no_repeats, lazy_iterators_pull_as_lists,
     lengths_of_intersection_and_union_add_up,
 };
+pub use queries::queries_find_as_elements;
 pub use vecmap_base::laws::{comparisons_are_bounded, iterators_pull_as_lists};
 
 /// Equality of sets is reflexive, symmetric and transitive.

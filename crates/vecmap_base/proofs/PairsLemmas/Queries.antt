@@ -4,69 +4,57 @@ use Rattle.std.specs.Cmp.{IsEquivalence, on_equiv}
 use Rattle.std.specs.Cmp.Lexicographic.{nat_list_eq_equiv}
 use Rattle.std.specs.declared.alloc.Global.{Global}
 use Rattle.std.specs.Option.{option_and_then, option_map_or}
-use Rattle.std.proofs.Common.{sym, ap, ◌∙◌, get_or, inl, inr, true≢false}
+use Rattle.std.proofs.Common.{sym, ap, ◌∙◌, get_or, inl, inr}
 use Rattle.std.proofs.lemmas.Bool.{cases_Bool}
 use Rattle.std.proofs.lemmas.List.Quantifiers.{position-Some}
 use Rattle.vecmap_base.specs.Pairs.{HasDistinctKeys, has_text, index_by, index_of, lookup, lookup_by, put, value_at, without_by, without_key}
+use Rattle.vecmap_base.proofs.ItemsLemmas.Queries.{stands_apart, tells_as}
 use Rattle.vecmap_base.proofs.PairsLemmas.Lookups.{lookup_put, lookup_without_key}
 use Rattle.vecmap_base.proofs.PairsLemmas.Recursion.{lookup_by_cons, put_cons}
 
-module _ {K : Type 0} (eq : K → K → Bool) (o : IsEquivalence eq) (test : K → Bool) (respects : (x y : K) → IsTrue (test x) → test y ≡ eq x y) where
-  -- it tells of keys as one of them does
-  tells_as : (k : K) → IsTrue (test k) → test ≡ eq k
-  tells_as k h = λ t x. respects k x h t
+module _ {K V : Type 0} (eq : K → K → Bool) (o : IsEquivalence eq) (test : K → Bool) (respects : (x y : K) → IsTrue (test x) → test y ≡ eq x y) where
+  pub lookup_by_query : (l : List (K × V)) (k : K) → IsTrue (test k) → lookup_by test l ≡ lookup eq l k
+  lookup_by_query l k h = ap (λ f. lookup_by f l) (tells_as eq o test respects k h)
 
-  -- a key that equals one that it does not stand for
-  apart : (k x : K) → test k ≡ false → eq k x ≡ true → test x ≡ false
-  apart k x n e =
-      elim (cases_Bool (test x)) [
-        | inl h ↦ absurd (true≢false (sym (respects x k h ∙ o.symm x k ∙ e) ∙ n))
-        | inr h ↦ h
+  pub index_by_query : (l : List (K × V)) (k : K) → IsTrue (test k) → index_by test l ≡ index_of eq l k
+  index_by_query l k h = ap (λ f. index_by f l) (tells_as eq o test respects k h)
+
+  pub without_by_query : (l : List (K × V)) (k : K) → IsTrue (test k) → without_by test l ≡ without_key eq l k
+  without_by_query l k h = ap (λ f. without_by f l) (tells_as eq o test respects k h)
+
+  -- after a put of a key that it stands for it finds the value
+  pub lookup_put_query : (l : List (K × V)) (k : K) (v : V) → IsTrue (test k) → lookup_by test (put eq l k v) ≡ Some v
+  lookup_put_query l k v h = lookup_by_query (put eq l k v) k h ∙ lookup_put eq o l k v
+
+  -- and after a put of any other key what it found
+  pub lookup_put_other_query : (l : List (K × V)) (k : K) (v : V) → test k ≡ false → lookup_by test (put eq l k v) ≡ lookup_by test l
+  lookup_put_other_query [] k v n = lookup_by_cons test (k, v) [] ∙ ap (λ b. if b then Some v else None) n
+  lookup_put_other_query (p ∷ ps) k v n =
+      ap (lookup_by test) (put_cons eq p ps k v)
+      ∙ elim (cases_Bool (eq k p.0)) [
+        | inl e ↦
+            ap (λ b. lookup_by test (if b then (p.0, v) ∷ ps else p ∷ put eq ps k v)) e
+            ∙ lookup_by_cons test (p.0, v) ps
+            ∙ ap (λ b. if b then Some v else lookup_by test ps) (stands_apart eq o test respects k p.0 n e)
+            ∙ sym (lookup_by_cons test p ps ∙ ap (λ b. if b then Some p.1 else lookup_by test ps) (stands_apart eq o test respects k p.0 n e))
+        | inr e ↦
+            ap (λ b. lookup_by test (if b then (p.0, v) ∷ ps else p ∷ put eq ps k v)) e
+            ∙ lookup_by_cons test p (put eq ps k v)
+            ∙ ap (λ w. if test p.0 then Some p.1 else w) (lookup_put_other_query ps k v n)
+            ∙ sym (lookup_by_cons test p ps)
       ]
 
-  module _ {V : Type 0} where
-    pub lookup_by_query : (l : List (K × V)) (k : K) → IsTrue (test k) → lookup_by test l ≡ lookup eq l k
-    lookup_by_query l k h = ap (λ f. lookup_by f l) (tells_as k h)
-
-    pub index_by_query : (l : List (K × V)) (k : K) → IsTrue (test k) → index_by test l ≡ index_of eq l k
-    index_by_query l k h = ap (λ f. index_by f l) (tells_as k h)
-
-    pub without_by_query : (l : List (K × V)) (k : K) → IsTrue (test k) → without_by test l ≡ without_key eq l k
-    without_by_query l k h = ap (λ f. without_by f l) (tells_as k h)
-
-    -- after a put of a key that it stands for it finds the value
-    pub lookup_put_query : (l : List (K × V)) (k : K) (v : V) → IsTrue (test k) → lookup_by test (put eq l k v) ≡ Some v
-    lookup_put_query l k v h = lookup_by_query (put eq l k v) k h ∙ lookup_put eq o l k v
-
-    -- and after a put of any other key what it found
-    pub lookup_put_other_query : (l : List (K × V)) (k : K) (v : V) → test k ≡ false → lookup_by test (put eq l k v) ≡ lookup_by test l
-    lookup_put_other_query [] k v n = lookup_by_cons test (k, v) [] ∙ ap (λ b. if b then Some v else None) n
-    lookup_put_other_query (p ∷ ps) k v n =
-        ap (lookup_by test) (put_cons eq p ps k v)
-        ∙ elim (cases_Bool (eq k p.0)) [
-          | inl e ↦
-              ap (λ b. lookup_by test (if b then (p.0, v) ∷ ps else p ∷ put eq ps k v)) e
-              ∙ lookup_by_cons test (p.0, v) ps
-              ∙ ap (λ b. if b then Some v else lookup_by test ps) (apart k p.0 n e)
-              ∙ sym (lookup_by_cons test p ps ∙ ap (λ b. if b then Some p.1 else lookup_by test ps) (apart k p.0 n e))
-          | inr e ↦
-              ap (λ b. lookup_by test (if b then (p.0, v) ∷ ps else p ∷ put eq ps k v)) e
-              ∙ lookup_by_cons test p (put eq ps k v)
-              ∙ ap (λ w. if test p.0 then Some p.1 else w) (lookup_put_other_query ps k v n)
-              ∙ sym (lookup_by_cons test p ps)
-        ]
-
-    -- what it takes out of a list of distinct keys it does not find again
-    pub lookup_without_query : (l : List (K × V)) → HasDistinctKeys eq l → lookup_by test (without_by test l) ≡ None
-    lookup_without_query [] d = refl
-    lookup_without_query (p ∷ ps) d = by (index_by test (p ∷ ps)) refl
-      where
-        by : (found : Option ℕ) → index_by test (p ∷ ps) ≡ found → lookup_by test (without_by test (p ∷ ps)) ≡ None
-        by None e = ap (λ f. lookup_by test (option_map_or (λ i. remove (p ∷ ps) i) f (p ∷ ps))) e ∙ ap (option_and_then (value_at (p ∷ ps))) e
-        by (Some i) e =
-            let k = (get_or (p ∷ ps) i p).0 in
-            let same = tells_as k (position-Some (λ q. test q.0) (p ∷ ps) i p e).1 in
-            ap (λ f. lookup_by f (without_by f (p ∷ ps))) same ∙ lookup_without_key eq o (p ∷ ps) k d
+  -- what it takes out of a list of distinct keys it does not find again
+  pub lookup_without_query : (l : List (K × V)) → HasDistinctKeys eq l → lookup_by test (without_by test l) ≡ None
+  lookup_without_query [] d = refl
+  lookup_without_query (p ∷ ps) d = by (index_by test (p ∷ ps)) refl
+    where
+      by : (found : Option ℕ) → index_by test (p ∷ ps) ≡ found → lookup_by test (without_by test (p ∷ ps)) ≡ None
+      by None e = ap (λ f. lookup_by test (option_map_or (λ i. remove (p ∷ ps) i) f (p ∷ ps))) e ∙ ap (option_and_then (value_at (p ∷ ps))) e
+      by (Some i) e =
+          let k = (get_or (p ∷ ps) i p).0 in
+          let same = tells_as eq o test respects k (position-Some (λ q. test q.0) (p ∷ ps) i p e).1 in
+          ap (λ f. lookup_by f (without_by f (p ∷ ps))) same ∙ lookup_without_key eq o (p ∷ ps) k d
 
 -- a text stands for the strings of its bytes
 pub text_respects : (text : List ℕ) (x y : String Global) → IsTrue (has_text text x) → has_text text y ≡ string_eq x y

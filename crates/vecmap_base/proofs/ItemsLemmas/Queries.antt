@@ -1,0 +1,44 @@
+-- What a query finds that stands for the elements that are equal to one of them.
+use Rattle.std.specs.Prelude.{◌≡◌, ℕ, Bool, true, false, List, [], ◌∷◌, Option, None, Some, IsTrue, is_some, position, remove, refl}
+use Rattle.std.specs.Cmp.{IsEquivalence}
+use Rattle.std.specs.List.{IsDistinct, list_any}
+use Rattle.std.specs.Option.{option_map_or}
+use Rattle.std.proofs.Common.{sym, ap, ◌∙◌, get_or, inl, inr, true≢false}
+use Rattle.std.proofs.lemmas.Bool.{cases_Bool}
+use Rattle.std.proofs.lemmas.List.Quantifiers.{position-Some}
+use Rattle.vecmap_base.specs.Items.{has_item, item_index, without_first, without_item}
+use Rattle.vecmap_base.proofs.ItemsLemmas.Removals.{without_item_absent}
+use Rattle.vecmap_base.proofs.PlaceLemmas.{is_some_position}
+
+module _ {T : Type 0} (eq : T → T → Bool) (o : IsEquivalence eq) (test : T → Bool) (respects : (x y : T) → IsTrue (test x) → test y ≡ eq x y) where
+  -- it tells of elements as one of them does
+  pub tells_as : (x : T) → IsTrue (test x) → test ≡ eq x
+  tells_as x h = λ t y. respects x y h t
+
+  -- it stands for nothing that equals an element that it does not stand for
+  pub stands_apart : (x y : T) → test x ≡ false → eq x y ≡ true → test y ≡ false
+  stands_apart x y n e =
+      elim (cases_Bool (test y)) [
+        | inl h ↦ absurd (true≢false (sym (respects y x h ∙ o.symm y x ∙ e) ∙ n))
+        | inr h ↦ h
+      ]
+
+  pub item_index_query : (s : List T) (x : T) → IsTrue (test x) → position test s ≡ item_index eq s x
+  item_index_query s x h = ap (λ f. position f s) (tells_as x h)
+
+  pub has_item_query : (s : List T) (x : T) → IsTrue (test x) → list_any test s ≡ has_item eq s x
+  has_item_query s x h = ap (λ f. list_any f s) (tells_as x h)
+
+  pub without_item_query : (s : List T) (x : T) → IsTrue (test x) → without_first test s ≡ without_item eq s x
+  without_item_query s x h = ap (λ f. without_first f s) (tells_as x h)
+
+  -- what it takes out of a distinct list it does not find again
+  pub without_query_absent : (s : List T) → IsDistinct eq s → list_any test (without_first test s) ≡ false
+  without_query_absent [] d = refl
+  without_query_absent (y ∷ ys) d = by (position test (y ∷ ys)) refl
+    where
+      by : (found : Option ℕ) → position test (y ∷ ys) ≡ found → list_any test (without_first test (y ∷ ys)) ≡ false
+      by None e = ap (λ f. list_any test (option_map_or (λ i. remove (y ∷ ys) i) f (y ∷ ys))) e ∙ sym (is_some_position test (y ∷ ys)) ∙ ap is_some e
+      by (Some i) e =
+          let x = get_or (y ∷ ys) i y in
+          ap (λ f. list_any f (without_first f (y ∷ ys))) (tells_as x (position-Some test (y ∷ ys) i y e).1) ∙ without_item_absent eq o (y ∷ ys) x d
