@@ -77,9 +77,9 @@ const SECOND: &[(&str, &str, &str)] = &[
 
 #[test]
 fn prints_the_example(rt: HostRuntime) -> Result<(), Fail> {
-    assert_eq!(rt;
-        example(rt.alloc())?.as_str(),
-        r#"{"Font": {"Size": "12"}, "Page": {"Width": "7"}, "Link": {"Color": "red"}}"#
+    assert!(rt;
+        example(rt.alloc())?.as_str()
+            == r#"{"Font": {"Size": "12"}, "Page": {"Width": "7"}, "Link": {"Color": "red"}}"#
     );
     Ok(())
 }
@@ -116,7 +116,7 @@ fn sets_in_order(rt: HostRuntime) -> Result<(), Fail> {
     ];
     for (rows, output) in runs {
         let document = document(rt.alloc(), rows)?;
-        assert_eq!(rt; printed(rt.alloc(), &document)?.as_str(), output);
+        assert!(rt; printed(rt.alloc(), &document)?.as_str() == output);
     }
     Ok(())
 }
@@ -134,7 +134,7 @@ fn set_answers_the_old_text(rt: HostRuntime) -> Result<(), Fail> {
         let section = Name::new(section.to_string(rt.alloc())?);
         let name = Name::new(name.to_string(rt.alloc())?);
         let answer = document.set(section, name, new.to_string(rt.alloc())?)?;
-        assert_eq!(rt; answer.as_deref(), old, "at {new}");
+        assert!(rt; answer.as_deref() == old, "at {new}");
     }
     Ok(())
 }
@@ -144,9 +144,8 @@ fn merges_sections(rt: HostRuntime) -> Result<(), Fail> {
     let mut first = document(rt.alloc(), FIRST)?;
     let mut second = document(rt.alloc(), SECOND)?;
     first.merge(&mut second)?;
-    assert_eq!(rt;
-        format!(in rt.alloc(); "{:?}", first.sections())?.as_str(),
-        r#"["Font", "Page", "Link"]"#
+    assert!(rt;
+        format!(in rt.alloc(); "{:?}", first.sections())?.as_str() == r#"["Font", "Page", "Link"]"#
     );
     for (section, name, wanted) in [
         ("page", "width", Some("7")),
@@ -159,9 +158,9 @@ fn merges_sections(rt: HostRuntime) -> Result<(), Fail> {
         ("", "", None),
     ] {
         let found = text(rt.alloc(), &first, section, name)?;
-        assert_eq!(rt; found, wanted, "at {section} {name}");
+        assert!(rt; found == wanted, "at {section} {name}");
     }
-    assert_eq!(rt; printed(rt.alloc(), &second)?.as_str(), "{}");
+    assert!(rt; printed(rt.alloc(), &second)?.as_str() == "{}");
     Ok(())
 }
 
@@ -179,24 +178,24 @@ fn merged(
 
 #[test]
 fn merges_in_order(rt: HostRuntime) -> Result<(), Fail> {
-    assert_eq!(rt; merged(rt.alloc(), &[], &[])?.as_str(), "{} {}");
-    assert_eq!(rt;
-        merged(rt.alloc(), &[], SECOND)?.as_str(),
-        r#"{"page": {"WIDTH": "7", "Margin": "1"}, "Link": {"Color": "red"}} {}"#
+    assert!(rt; merged(rt.alloc(), &[], &[])?.as_str() == "{} {}");
+    assert!(rt;
+        merged(rt.alloc(), &[], SECOND)?.as_str()
+            == r#"{"page": {"WIDTH": "7", "Margin": "1"}, "Link": {"Color": "red"}} {}"#
     );
-    assert_eq!(rt;
-        merged(rt.alloc(), FIRST, &[])?.as_str(),
-        r#"{"Font": {"Size": "12"}, "Page": {"Width": "5", "Height": "9"}} {}"#
+    assert!(rt;
+        merged(rt.alloc(), FIRST, &[])?.as_str()
+            == r#"{"Font": {"Size": "12"}, "Page": {"Width": "5", "Height": "9"}} {}"#
     );
-    assert_eq!(rt;
-        merged(rt.alloc(), FIRST, SECOND)?.as_str(),
-        r#"{"Font": {"Size": "12"}, "Page": {"Width": "7", "Height": "9", "Margin": "1"}, "Link": {"Color": "red"}} {}"#
+    assert!(rt;
+        merged(rt.alloc(), FIRST, SECOND)?.as_str()
+            == r#"{"Font": {"Size": "12"}, "Page": {"Width": "7", "Height": "9", "Margin": "1"}, "Link": {"Color": "red"}} {}"#
     );
     let odd = [("É", "a", "1"), ("", "", "2")];
     let other = [("", "b", ""), ("é", "A", "3"), ("É", "A", "4")];
-    assert_eq!(rt;
-        merged(rt.alloc(), &odd, &other)?.as_str(),
-        r#"{"É": {"a": "4"}, "": {"": "2", "b": ""}, "é": {"A": "3"}} {}"#
+    assert!(rt;
+        merged(rt.alloc(), &odd, &other)?.as_str()
+            == r#"{"É": {"a": "4"}, "": {"": "2", "b": ""}, "é": {"A": "3"}} {}"#
     );
     Ok(())
 }
@@ -220,9 +219,9 @@ fn same_ignores_order_and_case(rt: HostRuntime) -> Result<(), Fail> {
         ("font", "size", "12"),
     ];
     let empty = [("", "", "")];
-    assert_eq!(rt; are_same(rt.alloc(), FIRST, &turned)?, (true, true));
-    assert_eq!(rt; are_same(rt.alloc(), &empty, &empty)?, (true, true));
-    assert_eq!(rt; are_same(rt.alloc(), &[], &[])?, (true, true));
+    assert!(rt; are_same(rt.alloc(), FIRST, &turned)? == (true, true));
+    assert!(rt; are_same(rt.alloc(), &empty, &empty)? == (true, true));
+    assert!(rt; are_same(rt.alloc(), &[], &[])? == (true, true));
     Ok(())
 }
 
@@ -240,12 +239,9 @@ fn same_heeds_each_text(rt: HostRuntime) -> Result<(), Fail> {
         ("Font", "Height", "9"),
     ];
     for rows in [&changed[..], &shorter[..], &moved[..]] {
-        assert_eq!(rt; are_same(rt.alloc(), FIRST, rows)?, (false, false));
+        assert!(rt; are_same(rt.alloc(), FIRST, rows)? == (false, false));
     }
-    assert_eq!(rt; are_same(rt.alloc(), &[], &[("", "", "")])?, (false, false));
-    assert_eq!(rt;
-        are_same(rt.alloc(), &[("ß", "É", "a")], &[("ß", "é", "a")])?,
-        (false, false)
-    );
+    assert!(rt; are_same(rt.alloc(), &[], &[("", "", "")])? == (false, false));
+    assert!(rt; are_same(rt.alloc(), &[("ß", "É", "a")], &[("ß", "é", "a")])? == (false, false));
     Ok(())
 }

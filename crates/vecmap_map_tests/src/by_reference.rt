@@ -29,10 +29,10 @@ fn write_values(map: &mut VecMap<u64, u32>, value: u32) -> usize {
 #[test]
 fn loops_by_reference_run(rt: HostRuntime) -> Result<(), Fail> {
     let mut map: VecMap<u64, u32> = VecMap::new(rt.alloc());
-    assert_eq!(rt; total(&map), 0);
+    assert!(rt; total(&map) == 0);
     map.insert(1, 10)?;
     map.insert(2, 20)?;
-    assert_eq!(rt; write_values(&mut map, 7), 2);
-    assert_eq!(rt; map.as_slice(), [(1, 7), (2, 7)].as_slice());
+    assert!(rt; write_values(&mut map, 7) == 2);
+    assert!(rt; map.as_slice() == [(1, 7), (2, 7)].as_slice());
     Ok(())
 }

@@ -54,7 +54,7 @@ fn a_vector_keeps_first_keys_and_last_values(rt: HostRuntime) -> Result<(), Fail
         let room = vec.capacity();
         let map = VecMap::from(vec);
         assert!(rt; has_pairs(map.as_slice(), left));
-        assert_eq!(rt; map.capacity(), room);
+        assert!(rt; map.capacity() == room);
         let (map, comparisons) = VecMap::from_vec_counted(item_pairs(rt.alloc(), pairs)?);
         assert!(rt; has_pairs(map.as_slice(), left));
         assert!(rt; comparisons <= 15);
@@ -74,12 +74,12 @@ fn a_vector_is_made_a_map_by_the_comparisons_it_counts(rt: HostRuntime) -> Resul
     ] {
         let log = Log::new();
         let (_map, comparisons) = VecMap::from_vec_counted(told_pairs(rt.alloc(), &log, numbers)?);
-        assert_eq!(rt; comparisons, expected);
-        assert_eq!(rt; u128::from(log.comparisons()), expected);
+        assert!(rt; comparisons == expected);
+        assert!(rt; u128::from(log.comparisons()) == expected);
         assert!(rt; !log.compares_after_drop());
         let log = Log::new();
         let _map = VecMap::from(told_pairs(rt.alloc(), &log, numbers)?);
-        assert_eq!(rt; u128::from(log.comparisons()), expected);
+        assert!(rt; u128::from(log.comparisons()) == expected);
         assert!(rt; !log.compares_after_drop());
     }
     Ok(())
@@ -103,12 +103,12 @@ fn distinct_keys_are_told_from_repeats(rt: HostRuntime) -> Result<(), Fail> {
         ([(1, 'a'), (2, 'a')].as_slice(), true),
         ([(1, 'a'), (2, 'b'), (1, 'a')].as_slice(), false),
     ] {
-        assert_eq!(rt; keys_distinct(pairs), is_distinct);
+        assert!(rt; keys_distinct(pairs) == is_distinct);
         let pairs_again = pairs.to_vec(rt.alloc())?;
         if keys_distinct(&pairs_again) {
             let map = VecMap::from_vec_unchecked(pairs_again);
             assert!(rt; map.has_distinct_keys());
-            assert_eq!(rt; map.as_slice(), pairs);
+            assert!(rt; map.as_slice() == pairs);
         }
     }
     Ok(())
@@ -120,7 +120,7 @@ fn the_vector_of_a_map_has_its_pairs_and_its_room(rt: HostRuntime) -> Result<(),
     map.extend([("b", 2), ("a", 1)])?;
     let room = map.capacity();
     let pairs = map.into_vec();
-    assert_eq!(rt; pairs.as_slice(), [("b", 2), ("a", 1)].as_slice());
-    assert_eq!(rt; pairs.capacity(), room);
+    assert!(rt; pairs.as_slice() == [("b", 2), ("a", 1)].as_slice());
+    assert!(rt; pairs.capacity() == room);
     Ok(())
 }

@@ -29,19 +29,19 @@ fn a_drain_gives_its_range_from_both_ends(rt: HostRuntime) -> Result<(), Fail> {
     let room = map.capacity();
     assert!(rt; 4 <= map.len());
     let mut pairs = map.drain(1..4);
-    assert_eq!(rt; pairs.size_hint(), (3, Some(3)));
+    assert!(rt; pairs.size_hint() == (3, Some(3)));
     let (key, value) = pairs.next().ok_or("nothing")?;
-    assert_eq!(rt; (key.number, key.mark, value), (1, 'b', 10));
+    assert!(rt; (key.number, key.mark, value) == (1, 'b', 10));
     let (key, value) = pairs.next_back().ok_or("nothing")?;
-    assert_eq!(rt; (key.number, key.mark, value), (3, 'd', 30));
-    assert_eq!(rt; pairs.len(), 1);
+    assert!(rt; (key.number, key.mark, value) == (3, 'd', 30));
+    assert!(rt; pairs.len() == 1);
     let (key, value) = pairs.next().ok_or("nothing")?;
-    assert_eq!(rt; (key.number, key.mark, value), (1, 'c', 20));
+    assert!(rt; (key.number, key.mark, value) == (1, 'c', 20));
     assert!(rt; pairs.next().is_none() && pairs.next_back().is_none() && pairs.next().is_none());
-    assert_eq!(rt; pairs.size_hint(), (0, Some(0)));
+    assert!(rt; pairs.size_hint() == (0, Some(0)));
     drop(pairs);
     assert!(rt; has_pairs(map.as_slice(), &[(0, 'a', 0), (4, 'e', 40)]));
-    assert_eq!(rt; map.capacity(), room);
+    assert!(rt; map.capacity() == room);
     Ok(())
 }
 
@@ -77,7 +77,7 @@ fn a_drain_that_is_dropped_takes_the_whole_range(rt: HostRuntime) -> Result<(), 
         }
         drop(pairs);
         assert!(rt; has_pairs(map.as_slice(), &[(0, 'a', 0), (4, 'e', 40)]));
-        assert_eq!(rt; map.capacity(), room);
+        assert!(rt; map.capacity() == room);
     }
     Ok(())
 }
@@ -86,20 +86,20 @@ fn a_drain_that_is_dropped_takes_the_whole_range(rt: HostRuntime) -> Result<(), 
 fn a_range_may_have_any_ends(rt: HostRuntime) -> Result<(), Fail> {
     let mut map = numbered(rt.alloc(), &[0, 1, 2, 3, 4])?;
     assert!(rt; 4 <= map.len());
-    assert_eq!(rt; map.drain(1..4).next(), Some((1, 1)));
-    assert_eq!(rt; map.as_slice(), [(0, 0), (4, 4)].as_slice());
+    assert!(rt; map.drain(1..4).next() == Some((1, 1)));
+    assert!(rt; map.as_slice() == [(0, 0), (4, 4)].as_slice());
     assert!(rt; 1 <= map.len());
     let mut pairs = map.drain((Bound::Excluded(0), Bound::Unbounded));
-    assert_eq!(rt; pairs.next(), Some((4, 4)));
-    assert_eq!(rt; pairs.next(), None);
+    assert!(rt; pairs.next() == Some((4, 4)));
+    assert!(rt; pairs.next() == None);
     drop(pairs);
-    assert_eq!(rt; map.as_slice(), [(0, 0)].as_slice());
+    assert!(rt; map.as_slice() == [(0, 0)].as_slice());
     drop(map.drain(..0));
-    assert_eq!(rt; map.as_slice(), [(0, 0)].as_slice());
+    assert!(rt; map.as_slice() == [(0, 0)].as_slice());
     let end = map.len();
     assert!(rt; map.drain(end..).next().is_none());
-    assert_eq!(rt; map.as_slice(), [(0, 0)].as_slice());
-    assert_eq!(rt; map.drain(..).next_back(), Some((0, 0)));
+    assert!(rt; map.as_slice() == [(0, 0)].as_slice());
+    assert!(rt; map.drain(..).next_back() == Some((0, 0)));
     assert!(rt; map.is_empty());
     assert!(rt; map.drain(..).next().is_none());
     Ok(())
@@ -115,17 +115,17 @@ fn all_pulls_from_one_end(rt: HostRuntime) -> Result<(), Fail> {
         last = value;
         sum ^= value;
     }
-    assert_eq!(rt; (last, sum), (8, 5 ^ 6 ^ 7 ^ 8));
+    assert!(rt; (last, sum) == (8, 5 ^ 6 ^ 7 ^ 8));
     assert!(rt; map.is_empty());
     let mut map = numbered(rt.alloc(), &[5, 6, 7, 8])?;
     assert!(rt; 3 <= map.len());
     let mut pairs = map.drain(..3);
-    assert_eq!(rt; pairs.next_back(), Some((2, 7)));
-    assert_eq!(rt; pairs.next_back(), Some((1, 6)));
-    assert_eq!(rt; pairs.next_back(), Some((0, 5)));
-    assert_eq!(rt; pairs.next_back(), None);
+    assert!(rt; pairs.next_back() == Some((2, 7)));
+    assert!(rt; pairs.next_back() == Some((1, 6)));
+    assert!(rt; pairs.next_back() == Some((0, 5)));
+    assert!(rt; pairs.next_back() == None);
     drop(pairs);
-    assert_eq!(rt; map.as_slice(), [(3, 8)].as_slice());
+    assert!(rt; map.as_slice() == [(3, 8)].as_slice());
     Ok(())
 }
 
@@ -143,14 +143,14 @@ fn each_key_that_goes_is_dropped_once(rt: HostRuntime) -> Result<(), Fail> {
             } else {
                 pairs.next_back()
             };
-            assert_eq!(rt; log.drops(), pull);
+            assert!(rt; log.drops() == pull);
             drop(pair);
         }
-        assert_eq!(rt; log.drops(), pulls);
+        assert!(rt; log.drops() == pulls);
         drop(pairs);
-        assert_eq!(rt; log.drops(), 3);
+        assert!(rt; log.drops() == 3);
         drop(map);
-        assert_eq!(rt; log.drops(), 5);
+        assert!(rt; log.drops() == 5);
     }
     Ok(())
 }
@@ -159,14 +159,10 @@ fn each_key_that_goes_is_dropped_once(rt: HostRuntime) -> Result<(), Fail> {
 fn a_drain_prints_what_is_still_to_come(rt: HostRuntime) -> Result<(), Fail> {
     let mut map = numbered(rt.alloc(), &[5, 6, 7, 8])?;
     let mut pairs = map.drain(..);
-    assert_eq!(rt;
-        format!(in rt.alloc(); "{pairs:?}")?.as_str(),
-        "[(0, 5), (1, 6), (2, 7), (3, 8)]"
+    assert!(rt;
+        format!(in rt.alloc(); "{pairs:?}")?.as_str() == "[(0, 5), (1, 6), (2, 7), (3, 8)]"
     );
     let _last = pairs.next_back();
-    assert_eq!(rt;
-        format!(in rt.alloc(); "{pairs:?}")?.as_str(),
-        "[(0, 5), (1, 6), (2, 7)]"
-    );
+    assert!(rt; format!(in rt.alloc(); "{pairs:?}")?.as_str() == "[(0, 5), (1, 6), (2, 7)]");
     Ok(())
 }

@@ -25,8 +25,8 @@ fn a_value_is_modified_or_inserted(rt: HostRuntime) -> Result<(), Fail> {
     let mut map: VecMap<&str, u32> = VecMap::new(rt.alloc());
     for wanted in [42, 43] {
         let entry = map.entry("a").and_modify(|n| *n = n.wrapping_add(1));
-        assert_eq!(rt; *entry.or_insert(42)?, wanted);
-        assert_eq!(rt; map.as_slice(), [("a", wanted)].as_slice());
+        assert!(rt; *entry.or_insert(42)? == wanted);
+        assert!(rt; map.as_slice() == [("a", wanted)].as_slice());
     }
     Ok(())
 }
@@ -40,10 +40,10 @@ fn characters_are_counted(rt: HostRuntime) -> Result<(), Fail> {
             .and_modify(|n| *n = n.wrapping_add(1))
             .or_insert(1)?;
     }
-    assert_eq!(rt; counts.get(&'s').copied(), Some(2));
-    assert_eq!(rt; counts.get(&'t').copied(), Some(3));
-    assert_eq!(rt; counts.get(&'u').copied(), Some(1));
-    assert_eq!(rt; counts.get(&'y').copied(), None);
+    assert!(rt; counts.get(&'s').copied() == Some(2));
+    assert!(rt; counts.get(&'t').copied() == Some(3));
+    assert!(rt; counts.get(&'u').copied() == Some(1));
+    assert!(rt; counts.get(&'y').copied() == None);
     let expected = [
         ('a', 2),
         (' ', 4),
@@ -59,7 +59,7 @@ fn characters_are_counted(rt: HostRuntime) -> Result<(), Fail> {
         ('u', 1),
         ('g', 1),
     ];
-    assert_eq!(rt; counts.as_slice(), expected.as_slice());
+    assert!(rt; counts.as_slice() == expected.as_slice());
     Ok(())
 }
 
@@ -67,19 +67,19 @@ fn characters_are_counted(rt: HostRuntime) -> Result<(), Fail> {
 fn a_value_that_is_there_stays(rt: HostRuntime) -> Result<(), Fail> {
     let mut map = item_map(rt.alloc(), &[(1, 'x', 7)])?;
     let calls = Cell::new(0u32);
-    assert_eq!(rt; *map.entry(make_item(1, 'y')).or_insert(9)?, 7);
+    assert!(rt; *map.entry(make_item(1, 'y')).or_insert(9)? == 7);
     let value = map.entry(make_item(1, 'y')).or_insert_with(|| {
         calls.set(calls.get().wrapping_add(1));
         9
     })?;
-    assert_eq!(rt; *value, 7);
+    assert!(rt; *value == 7);
     let value = map.entry(make_item(1, 'y')).or_insert_with_key(|key| {
         calls.set(calls.get().wrapping_add(1));
         key.number
     })?;
-    assert_eq!(rt; *value, 7);
-    assert_eq!(rt; *map.entry(make_item(1, 'y')).or_default()?, 7);
-    assert_eq!(rt; calls.get(), 0);
+    assert!(rt; *value == 7);
+    assert!(rt; *map.entry(make_item(1, 'y')).or_default()? == 7);
+    assert!(rt; calls.get() == 0);
     assert!(rt; has_pairs(map.as_slice(), &[(1, 'x', 7)]));
     *map.entry(make_item(1, 'y')).or_insert(9)? = 8;
     assert!(rt; has_pairs(map.as_slice(), &[(1, 'x', 8)]));
@@ -89,15 +89,15 @@ fn a_value_that_is_there_stays(rt: HostRuntime) -> Result<(), Fail> {
 #[test]
 fn a_new_key_goes_last_as_it_was_handed_in(rt: HostRuntime) -> Result<(), Fail> {
     let mut map = item_map(rt.alloc(), &[(1, 'x', 7)])?;
-    assert_eq!(rt; *map.entry(make_item(2, 'b')).or_insert(20)?, 20);
-    assert_eq!(rt; *map.entry(make_item(3, 'c')).or_insert_with(|| 30)?, 30);
+    assert!(rt; *map.entry(make_item(2, 'b')).or_insert(20)? == 20);
+    assert!(rt; *map.entry(make_item(3, 'c')).or_insert_with(|| 30)? == 30);
     let value = map
         .entry(make_item(4, 'd'))
         .or_insert_with_key(|key| key.number.wrapping_mul(10))?;
-    assert_eq!(rt; *value, 40);
+    assert!(rt; *value == 40);
     *value = 41;
     let value = map.entry(make_item(5, 'e')).or_default()?;
-    assert_eq!(rt; *value, 0);
+    assert!(rt; *value == 0);
     *value = 50;
     assert!(rt;
         has_pairs(
@@ -119,13 +119,13 @@ fn an_entry_tells_the_handed_key_and_its_place(rt: HostRuntime) -> Result<(), Fa
     let mut map = item_map(rt.alloc(), &[(1, 'x', 7), (2, 'b', 8)])?;
     for (number, index, value) in [(1, 0, 17), (2, 1, 18), (3, 2, 0)] {
         let entry = Entry::over(&mut map, make_item(number, 'y'));
-        assert_eq!(rt; (entry.key().number, entry.key().mark), (number, 'y'));
-        assert_eq!(rt; entry.index(), index);
+        assert!(rt; (entry.key().number, entry.key().mark) == (number, 'y'));
+        assert!(rt; entry.index() == index);
         let entry = entry.and_modify(|value| *value = value.wrapping_add(10));
-        assert_eq!(rt; (entry.key().number, entry.key().mark), (number, 'y'));
-        assert_eq!(rt; entry.index(), index);
+        assert!(rt; (entry.key().number, entry.key().mark) == (number, 'y'));
+        assert!(rt; entry.index() == index);
         if value != 0 {
-            assert_eq!(rt; *entry.or_insert(0)?, value);
+            assert!(rt; *entry.or_insert(0)? == value);
         }
     }
     assert!(rt; has_pairs(map.as_slice(), &[(1, 'x', 17), (2, 'b', 18)]));
@@ -140,7 +140,7 @@ fn an_entry_that_is_only_dropped_leaves_the_list(rt: HostRuntime) -> Result<(), 
         let _entry = map.entry(make_item(number, 'y'));
     }
     assert!(rt; has_pairs(map.as_slice(), &[(1, 'x', 7)]));
-    assert_eq!(rt; map.capacity(), room);
+    assert!(rt; map.capacity() == room);
     Ok(())
 }
 
@@ -148,19 +148,19 @@ fn an_entry_that_is_only_dropped_leaves_the_list(rt: HostRuntime) -> Result<(), 
 fn an_occupied_entry_reads_and_writes_its_value(rt: HostRuntime) -> Result<(), Fail> {
     let mut map = item_map(rt.alloc(), &[(1, 'x', 7), (2, 'b', 8)])?;
     let mut entry = occupied(map.entry(make_item(2, 'y'))).ok_or("vacant")?;
-    assert_eq!(rt; (entry.key().number, entry.key().mark), (2, 'y'));
-    assert_eq!(rt; entry.index(), 1);
-    assert_eq!(rt; *entry.get(), 8);
+    assert!(rt; (entry.key().number, entry.key().mark) == (2, 'y'));
+    assert!(rt; entry.index() == 1);
+    assert!(rt; *entry.get() == 8);
     *entry.get_mut() = 9;
-    assert_eq!(rt; entry.insert(10), 9);
-    assert_eq!(rt; *entry.get(), 10);
+    assert!(rt; entry.insert(10) == 9);
+    assert!(rt; *entry.get() == 10);
     let key = entry.into_key();
-    assert_eq!(rt; (key.number, key.mark), (2, 'y'));
+    assert!(rt; (key.number, key.mark) == (2, 'y'));
     assert!(rt; has_pairs(map.as_slice(), &[(1, 'x', 7), (2, 'b', 10)]));
     let value = occupied(map.entry(make_item(1, 'y')))
         .ok_or("vacant")?
         .into_mut();
-    assert_eq!(rt; *value, 7);
+    assert!(rt; *value == 7);
     *value = 11;
     assert!(rt; has_pairs(map.as_slice(), &[(1, 'x', 11), (2, 'b', 10)]));
     Ok(())
@@ -170,15 +170,15 @@ fn an_occupied_entry_reads_and_writes_its_value(rt: HostRuntime) -> Result<(), F
 fn a_removal_answers_the_stored_key(rt: HostRuntime) -> Result<(), Fail> {
     let mut map = item_map(rt.alloc(), &[(1, 'x', 7)])?;
     let entry = occupied(map.entry(make_item(1, 'y'))).ok_or("vacant")?;
-    assert_eq!(rt; (entry.key().number, entry.key().mark), (1, 'y'));
-    assert_eq!(rt; entry.index(), 0);
+    assert!(rt; (entry.key().number, entry.key().mark) == (1, 'y'));
+    assert!(rt; entry.index() == 0);
     let (key, value) = entry.remove_entry();
-    assert_eq!(rt; (key.number, key.mark, value), (1, 'x', 7));
+    assert!(rt; (key.number, key.mark, value) == (1, 'x', 7));
     assert!(rt; map.is_empty());
     let mut map = item_map(rt.alloc(), &[(1, 'x', 7), (2, 'b', 8), (3, 'c', 9)])?;
     let entry = occupied(map.entry(make_item(1, 'y'))).ok_or("vacant")?;
     let (key, value) = entry.swap_remove_entry();
-    assert_eq!(rt; (key.number, key.mark, value), (1, 'x', 7));
+    assert!(rt; (key.number, key.mark, value) == (1, 'x', 7));
     assert!(rt; has_pairs(map.as_slice(), &[(3, 'c', 9), (2, 'b', 8)]));
     Ok(())
 }
@@ -188,7 +188,7 @@ fn a_removal_shifts_or_swaps(rt: HostRuntime) -> Result<(), Fail> {
     for swaps in [true, false] {
         let mut map = VecMap::new(rt.alloc());
         for (name, value) in [("poneyland", 12), ("foo", 13), ("bar", 14)] {
-            assert_eq!(rt; map.insert(name, value)?, None);
+            assert!(rt; map.insert(name, value)? == None);
         }
         let entry = occupied(map.entry("poneyland")).ok_or("vacant")?;
         let (value, left) = if swaps {
@@ -196,8 +196,8 @@ fn a_removal_shifts_or_swaps(rt: HostRuntime) -> Result<(), Fail> {
         } else {
             (entry.remove(), [("foo", 13), ("bar", 14)])
         };
-        assert_eq!(rt; value, 12);
-        assert_eq!(rt; map.as_slice(), left.as_slice());
+        assert!(rt; value == 12);
+        assert!(rt; map.as_slice() == left.as_slice());
     }
     Ok(())
 }
@@ -206,14 +206,14 @@ fn a_removal_shifts_or_swaps(rt: HostRuntime) -> Result<(), Fail> {
 fn a_vacant_entry_takes_its_value(rt: HostRuntime) -> Result<(), Fail> {
     let mut map = item_map(rt.alloc(), &[(1, 'x', 7)])?;
     let entry = vacant(map.entry(make_item(2, 'y'))).ok_or("occupied")?;
-    assert_eq!(rt; (entry.key().number, entry.key().mark), (2, 'y'));
-    assert_eq!(rt; entry.index(), 1);
+    assert!(rt; (entry.key().number, entry.key().mark) == (2, 'y'));
+    assert!(rt; entry.index() == 1);
     let key = entry.into_key();
-    assert_eq!(rt; (key.number, key.mark), (2, 'y'));
+    assert!(rt; (key.number, key.mark) == (2, 'y'));
     assert!(rt; has_pairs(map.as_slice(), &[(1, 'x', 7)]));
     let entry = vacant(map.entry(make_item(2, 'y'))).ok_or("occupied")?;
     let value = entry.insert(8)?;
-    assert_eq!(rt; *value, 8);
+    assert!(rt; *value == 8);
     *value = 9;
     assert!(rt; has_pairs(map.as_slice(), &[(1, 'x', 7), (2, 'y', 9)]));
     Ok(())
@@ -223,9 +223,9 @@ fn a_vacant_entry_takes_its_value(rt: HostRuntime) -> Result<(), Fail> {
 fn insert_entry_replaces_the_value_alone(rt: HostRuntime) -> Result<(), Fail> {
     let mut map = item_map(rt.alloc(), &[(1, 'x', 7)])?;
     let entry = map.entry(make_item(1, 'y')).insert_entry(9)?;
-    assert_eq!(rt; (entry.key().number, entry.key().mark), (1, 'y'));
-    assert_eq!(rt; entry.index(), 0);
-    assert_eq!(rt; *entry.get(), 9);
+    assert!(rt; (entry.key().number, entry.key().mark) == (1, 'y'));
+    assert!(rt; entry.index() == 0);
+    assert!(rt; *entry.get() == 9);
     entry.into_key();
     assert!(rt; has_pairs(map.as_slice(), &[(1, 'x', 9)]));
     Ok(())
@@ -235,16 +235,16 @@ fn insert_entry_replaces_the_value_alone(rt: HostRuntime) -> Result<(), Fail> {
 fn insert_entry_stores_a_clone_of_a_new_key(rt: HostRuntime) -> Result<(), Fail> {
     let mut map = item_map(rt.alloc(), &[])?;
     let entry = map.entry(make_item(1, 'y')).insert_entry(9)?;
-    assert_eq!(rt; (entry.key().number, entry.key().mark), (1, 'y'));
-    assert_eq!(rt; entry.index(), 0);
-    assert_eq!(rt; *entry.get(), 9);
+    assert!(rt; (entry.key().number, entry.key().mark) == (1, 'y'));
+    assert!(rt; entry.index() == 0);
+    assert!(rt; *entry.get() == 9);
     entry.into_key();
     assert!(rt; has_pairs(map.as_slice(), &[(1, 'y', 9)]));
     let entry = vacant(map.entry(make_item(2, 'z'))).ok_or("occupied")?;
     let mut entry = entry.insert_entry(8)?;
-    assert_eq!(rt; (entry.key().number, entry.key().mark), (2, 'z'));
-    assert_eq!(rt; entry.index(), 1);
-    assert_eq!(rt; entry.insert(7), 8);
+    assert!(rt; (entry.key().number, entry.key().mark) == (2, 'z'));
+    assert!(rt; entry.index() == 1);
+    assert!(rt; entry.insert(7) == 8);
     entry.into_key();
     assert!(rt; has_pairs(map.as_slice(), &[(1, 'y', 9), (2, 'z', 7)]));
     Ok(())
@@ -257,26 +257,26 @@ fn a_refused_clone_gives_the_pair_back(rt: HostRuntime) -> Result<(), Fail> {
     let mut map = VecMap::new(rt.alloc());
     match map.entry(make_told(&log, 13)).insert_entry(9u32) {
         Ok(_) => return Err(Fail::new("granted")),
-        Err(refused) => assert_eq!(rt; (refused.given.0.number(), refused.given.1), (13, 9)),
+        Err(refused) => assert!(rt; (refused.given.0.number(), refused.given.1) == (13, 9)),
     }
     assert!(rt; map.is_empty());
-    assert_eq!(rt; map.capacity(), 0);
+    assert!(rt; map.capacity() == 0);
     map.entry(make_told(&log, 12)).insert_entry(8)?.into_key();
     let Some(entry) = vacant(map.entry(make_told(&log, 13))) else {
         return Err(Fail::new("occupied"));
     };
     match entry.insert_entry(9) {
         Ok(_) => return Err(Fail::new("granted")),
-        Err(refused) => assert_eq!(rt; (refused.given.0.number(), refused.given.1), (13, 9)),
+        Err(refused) => assert!(rt; (refused.given.0.number(), refused.given.1) == (13, 9)),
     }
-    assert_eq!(rt; map.len(), 1);
-    assert_eq!(rt; map.get(&make_told(&log, 12)).copied(), Some(8));
+    assert!(rt; map.len() == 1);
+    assert!(rt; map.get(&make_told(&log, 12)).copied() == Some(8));
 
     // A key that is there is not cloned.
     map.insert(make_told(&log, 13), 1)?;
     map.entry(make_told(&log, 13)).insert_entry(9)?.into_key();
-    assert_eq!(rt; map.get(&make_told(&log, 13)).copied(), Some(9));
-    assert_eq!(rt; (map.len(), log.alive()), (2, 2));
+    assert!(rt; map.get(&make_told(&log, 13)).copied() == Some(9));
+    assert!(rt; (map.len(), log.alive()) == (2, 2));
     Ok(())
 }
 

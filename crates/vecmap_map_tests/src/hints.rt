@@ -11,21 +11,21 @@ fn a_size_hint_decides_nothing_but_the_room(rt: HostRuntime) -> Result<(), Fail>
     for (hint, room) in [(0, 3), (1, 3), (3, 3), (20, 20)] {
         let hinted = || Hinted { items, hint };
         let map = VecMap::from_iter(rt.alloc(), hinted().copied())?;
-        assert_eq!(rt; map.as_slice(), items);
+        assert!(rt; map.as_slice() == items);
         assert!(rt; room <= map.capacity());
         let map: VecMap<i32, char> = hinted().copied().collect(rt.alloc())?;
         assert!(rt; map.as_slice() == items && room <= map.capacity());
         let mut map = VecMap::from_slice(rt.alloc(), start)?;
         map.extend(hinted().copied())?;
-        assert_eq!(rt; map.as_slice(), left);
+        assert!(rt; map.as_slice() == left);
         assert!(rt; hint.div_ceil(2) < map.capacity());
         let mut map = VecMap::from_slice(rt.alloc(), start)?;
         map.extend_pairs(hinted())?;
-        assert_eq!(rt; map.as_slice(), left);
+        assert!(rt; map.as_slice() == left);
         assert!(rt; hint.div_ceil(2) < map.capacity());
         let mut map = VecMap::from_slice(rt.alloc(), start)?;
         map.extend_refs(hinted().map(|pair| (&pair.0, &pair.1)))?;
-        assert_eq!(rt; map.as_slice(), left);
+        assert!(rt; map.as_slice() == left);
         assert!(rt; hint.div_ceil(2) < map.capacity());
     }
     Ok(())
@@ -43,7 +43,7 @@ fn room_for_the_greatest_hint_is_refused(rt: HostRuntime) -> Result<(), Fail> {
         map.extend_refs(hinted().map(|pair| (&pair.0, &pair.1)))
             .is_err()
     );
-    assert_eq!(rt; (map.len(), map.capacity()), (0, 0));
+    assert!(rt; (map.len(), map.capacity()) == (0, 0));
     map.extend([(5, 'a')])?;
     let room = map.capacity();
     assert!(rt; map.extend(hinted().copied()).is_err());
@@ -52,8 +52,8 @@ fn room_for_the_greatest_hint_is_refused(rt: HostRuntime) -> Result<(), Fail> {
         map.extend_refs(hinted().map(|pair| (&pair.0, &pair.1)))
             .is_err()
     );
-    assert_eq!(rt; map.as_slice(), [(5, 'a')].as_slice());
-    assert_eq!(rt; map.capacity(), room);
+    assert!(rt; map.as_slice() == [(5, 'a')].as_slice());
+    assert!(rt; map.capacity() == room);
     assert!(rt; VecMap::from_iter(rt.alloc(), hinted().copied()).is_err());
     let collected: Result<VecMap<i32, char>, _> = hinted().copied().collect(rt.alloc());
     assert!(rt; collected.is_err());
@@ -72,7 +72,7 @@ fn an_empty_map_makes_room_for_the_whole_hint(rt: HostRuntime) -> Result<(), Fai
         let mut by_refs = VecMap::new(rt.alloc());
         by_refs.extend_refs(hinted().map(|pair| (&pair.0, &pair.1)))?;
         for map in [extended, by_pairs, by_refs] {
-            assert_eq!(rt; map.as_slice(), items);
+            assert!(rt; map.as_slice() == items);
             assert!(rt; room <= map.capacity());
         }
     }
@@ -91,7 +91,7 @@ fn a_map_of_pairs_makes_room_for_half_of_the_hint_rounded_up(rt: HostRuntime) ->
     let mut by_refs = start()?;
     by_refs.extend_refs(hinted().map(|pair| (&pair.0, &pair.1)))?;
     for map in [extended, by_pairs, by_refs] {
-        assert_eq!(rt; map.as_slice(), [(2, 'a'), (1, 'm')].as_slice());
+        assert!(rt; map.as_slice() == [(2, 'a'), (1, 'm')].as_slice());
         assert!(rt; 12 <= map.capacity());
     }
     Ok(())
@@ -100,7 +100,7 @@ fn a_map_of_pairs_makes_room_for_half_of_the_hint_rounded_up(rt: HostRuntime) ->
 #[test]
 fn a_slice_makes_room_for_all_its_pairs(rt: HostRuntime) -> Result<(), Fail> {
     let map = VecMap::from_slice(rt.alloc(), &[(1, 'm'); 9])?;
-    assert_eq!(rt; map.as_slice(), [(1, 'm')].as_slice());
+    assert!(rt; map.as_slice() == [(1, 'm')].as_slice());
     assert!(rt; 9 <= map.capacity());
     Ok(())
 }

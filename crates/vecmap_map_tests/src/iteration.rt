@@ -106,11 +106,11 @@ fn into_values_give_their_list_under_every_mixture(rt: HostRuntime) -> Result<()
 fn keys_come_from_both_ends(rt: HostRuntime) -> Result<(), Fail> {
     let map = VecMap::from_slice(rt.alloc(), &[(1, 'a'), (2, 'b'), (3, 'c')])?;
     let mut keys = map.keys();
-    assert_eq!(rt; (keys.len(), keys.next()), (3, Some(&1)));
-    assert_eq!(rt; (keys.len(), keys.next_back()), (2, Some(&3)));
-    assert_eq!(rt; (keys.len(), keys.next()), (1, Some(&2)));
-    assert_eq!(rt; (keys.len(), keys.next()), (0, None));
-    assert_eq!(rt; (keys.len(), keys.next_back()), (0, None));
+    assert!(rt; (keys.len(), keys.next()) == (3, Some(&1)));
+    assert!(rt; (keys.len(), keys.next_back()) == (2, Some(&3)));
+    assert!(rt; (keys.len(), keys.next()) == (1, Some(&2)));
+    assert!(rt; (keys.len(), keys.next()) == (0, None));
+    assert!(rt; (keys.len(), keys.next_back()) == (0, None));
     Ok(())
 }
 
@@ -120,18 +120,15 @@ fn lent_clones_give_what_is_left(rt: HostRuntime) -> Result<(), Fail> {
     for ends in 0..64 {
         let read = |(key, value): (&u32, &u32)| (*key, *value);
         let mut pairs = map.iter();
-        assert_eq!(rt;
-            (pairs.next(), pairs.next_back()),
-            (Some((&1, &10)), Some((&4, &40)))
-        );
+        assert!(rt; (pairs.next(), pairs.next_back()) == (Some((&1, &10)), Some((&4, &40))));
         assert!(rt; pulls_as_list(pairs.clone(), read, &PAIRS[1..3], ends));
         assert!(rt; pulls_as_list(pairs, read, &PAIRS[1..3], ends));
         let mut keys = map.keys();
-        assert_eq!(rt; (keys.next(), keys.next_back()), (Some(&1), Some(&4)));
+        assert!(rt; (keys.next(), keys.next_back()) == (Some(&1), Some(&4)));
         assert!(rt; pulls_as_list(keys.clone(), |key: &u32| *key, &KEYS[1..3], ends));
         assert!(rt; pulls_as_list(keys, |key: &u32| *key, &KEYS[1..3], ends));
         let mut values = map.values();
-        assert_eq!(rt; (values.next(), values.next_back()), (Some(&10), Some(&40)));
+        assert!(rt; (values.next(), values.next_back()) == (Some(&10), Some(&40)));
         assert!(rt; pulls_as_list(values.clone(), |value: &u32| *value, &VALUES[1..3], ends));
         assert!(rt; pulls_as_list(values, |value: &u32| *value, &VALUES[1..3], ends));
     }
@@ -142,18 +139,15 @@ fn lent_clones_give_what_is_left(rt: HostRuntime) -> Result<(), Fail> {
 fn owned_clones_give_what_is_left(rt: HostRuntime) -> Result<(), Fail> {
     for ends in 0..64 {
         let mut pairs = VecMap::from_slice(rt.alloc(), &PAIRS)?.into_iter();
-        assert_eq!(rt;
-            (pairs.next(), pairs.next_back()),
-            (Some((1, 10)), Some((4, 40)))
-        );
+        assert!(rt; (pairs.next(), pairs.next_back()) == (Some((1, 10)), Some((4, 40))));
         assert!(rt; pulls_as_list(pairs.clone()?, |pair| pair, &PAIRS[1..3], ends));
         assert!(rt; pulls_as_list(pairs, |pair| pair, &PAIRS[1..3], ends));
         let mut keys = VecMap::from_slice(rt.alloc(), &PAIRS)?.into_keys();
-        assert_eq!(rt; (keys.next(), keys.next_back()), (Some(1), Some(4)));
+        assert!(rt; (keys.next(), keys.next_back()) == (Some(1), Some(4)));
         assert!(rt; pulls_as_list(keys.clone()?, |key| key, &KEYS[1..3], ends));
         assert!(rt; pulls_as_list(keys, |key| key, &KEYS[1..3], ends));
         let mut values = VecMap::from_slice(rt.alloc(), &PAIRS)?.into_values();
-        assert_eq!(rt; (values.next(), values.next_back()), (Some(10), Some(40)));
+        assert!(rt; (values.next(), values.next_back()) == (Some(10), Some(40)));
         assert!(rt; pulls_as_list(values.clone()?, |value| value, &VALUES[1..3], ends));
         assert!(rt; pulls_as_list(values, |value| value, &VALUES[1..3], ends));
     }
@@ -164,16 +158,10 @@ fn owned_clones_give_what_is_left(rt: HostRuntime) -> Result<(), Fail> {
 fn a_clone_of_values_leaves_the_original(rt: HostRuntime) -> Result<(), Fail> {
     let map = VecMap::from_slice(rt.alloc(), &[('a', 1), ('b', 2), ('c', 3)])?;
     let mut values = map.into_values();
-    assert_eq!(rt; values.next_back(), Some(3));
+    assert!(rt; values.next_back() == Some(3));
     let mut copy = values.clone()?;
-    assert_eq!(rt;
-        (copy.next(), copy.next(), copy.next()),
-        (Some(1), Some(2), None)
-    );
-    assert_eq!(rt;
-        (values.next(), values.next(), values.next()),
-        (Some(1), Some(2), None)
-    );
+    assert!(rt; (copy.next(), copy.next(), copy.next()) == (Some(1), Some(2), None));
+    assert!(rt; (values.next(), values.next(), values.next()) == (Some(1), Some(2), None));
     Ok(())
 }
 
@@ -187,18 +175,15 @@ fn what_is_written_stands(rt: HostRuntime) -> Result<(), Fail> {
             value.wrapping_add(4)
         };
     }
-    assert_eq!(rt; map.as_slice(), [('a', 5), ('b', 20), ('c', 7)].as_slice());
+    assert!(rt; map.as_slice() == [('a', 5), ('b', 20), ('c', 7)].as_slice());
     for value in map.values_mut().rev() {
         *value = value.wrapping_mul(2);
     }
-    assert_eq!(rt;
-        map.as_slice(),
-        [('a', 10), ('b', 40), ('c', 14)].as_slice()
-    );
+    assert!(rt; map.as_slice() == [('a', 10), ('b', 40), ('c', 14)].as_slice());
     for (_, value) in &mut map {
         *value = 0;
     }
-    assert_eq!(rt; map.as_slice(), [('a', 0), ('b', 0), ('c', 0)].as_slice());
+    assert!(rt; map.as_slice() == [('a', 0), ('b', 0), ('c', 0)].as_slice());
     Ok(())
 }
 
@@ -208,24 +193,24 @@ fn a_dropped_iterator_drops_the_rest_once(rt: HostRuntime) -> Result<(), Fail> {
     let map = VecMap::from(told_pairs(rt.alloc(), &log, &[1, 2, 3, 4])?);
     let mut pairs = map.into_iter();
     let taken = (pairs.next(), pairs.next_back());
-    assert_eq!(rt; log.drops(), 0);
+    assert!(rt; log.drops() == 0);
     drop(pairs);
-    assert_eq!(rt; log.drops(), 2);
+    assert!(rt; log.drops() == 2);
     drop(taken);
-    assert_eq!(rt; log.drops(), 4);
+    assert!(rt; log.drops() == 4);
     let map = VecMap::from(told_pairs(rt.alloc(), &log, &[1, 2, 3])?);
     let mut values = map.into_values();
-    assert_eq!(rt; values.next(), Some(1));
-    assert_eq!(rt; log.drops(), 5);
+    assert!(rt; values.next() == Some(1));
+    assert!(rt; log.drops() == 5);
     drop(values);
-    assert_eq!(rt; log.drops(), 7);
+    assert!(rt; log.drops() == 7);
     let map = VecMap::from(told_pairs(rt.alloc(), &log, &[1, 2, 3])?);
     let mut keys = map.into_keys();
     let taken = keys.next_back();
     drop(keys);
-    assert_eq!(rt; log.drops(), 9);
+    assert!(rt; log.drops() == 9);
     drop(taken);
-    assert_eq!(rt; log.drops(), 10);
+    assert!(rt; log.drops() == 10);
     Ok(())
 }
 
@@ -233,39 +218,21 @@ fn a_dropped_iterator_drops_the_rest_once(rt: HostRuntime) -> Result<(), Fail> {
 fn iterators_print_what_is_left(rt: HostRuntime) -> Result<(), Fail> {
     let mut map = VecMap::from_slice(rt.alloc(), &[(1, 'a'), (2, 'b')])?;
     let mut pairs = map.iter();
-    assert_eq!(rt;
-        format!(in rt.alloc(); "{pairs:?}")?.as_str(),
-        "[(1, 'a'), (2, 'b')]"
-    );
-    assert_eq!(rt; pairs.next(), Some((&1, &'a')));
-    assert_eq!(rt; format!(in rt.alloc(); "{pairs:?}")?.as_str(), "[(2, 'b')]");
+    assert!(rt; format!(in rt.alloc(); "{pairs:?}")?.as_str() == "[(1, 'a'), (2, 'b')]");
+    assert!(rt; pairs.next() == Some((&1, &'a')));
+    assert!(rt; format!(in rt.alloc(); "{pairs:?}")?.as_str() == "[(2, 'b')]");
     let mut lent = map.iter_mut();
     assert!(rt; lent.next_back().is_some());
-    assert_eq!(rt; format!(in rt.alloc(); "{lent:?}")?.as_str(), "[(1, 'a')]");
-    assert_eq!(rt;
-        format!(in rt.alloc(); "{:?}", map.keys())?.as_str(),
-        "[1, 2]"
-    );
-    assert_eq!(rt;
-        format!(in rt.alloc(); "{:?}", map.values())?.as_str(),
-        "['a', 'b']"
-    );
-    assert_eq!(rt;
-        format!(in rt.alloc(); "{:?}", map.values_mut())?.as_str(),
-        "['a', 'b']"
-    );
+    assert!(rt; format!(in rt.alloc(); "{lent:?}")?.as_str() == "[(1, 'a')]");
+    assert!(rt; format!(in rt.alloc(); "{:?}", map.keys())?.as_str() == "[1, 2]");
+    assert!(rt; format!(in rt.alloc(); "{:?}", map.values())?.as_str() == "['a', 'b']");
+    assert!(rt; format!(in rt.alloc(); "{:?}", map.values_mut())?.as_str() == "['a', 'b']");
     let mut owned = map.into_iter();
-    assert_eq!(rt; owned.next(), Some((1, 'a')));
-    assert_eq!(rt; format!(in rt.alloc(); "{owned:?}")?.as_str(), "[(2, 'b')]");
+    assert!(rt; owned.next() == Some((1, 'a')));
+    assert!(rt; format!(in rt.alloc(); "{owned:?}")?.as_str() == "[(2, 'b')]");
     let map = VecMap::from_slice(rt.alloc(), &[(1, 'a'), (2, 'b')])?;
-    assert_eq!(rt;
-        format!(in rt.alloc(); "{:?}", map.into_keys())?.as_str(),
-        "[1, 2]"
-    );
+    assert!(rt; format!(in rt.alloc(); "{:?}", map.into_keys())?.as_str() == "[1, 2]");
     let map = VecMap::from_slice(rt.alloc(), &[(1, 'a'), (2, 'b')])?;
-    assert_eq!(rt;
-        format!(in rt.alloc(); "{:?}", map.into_values())?.as_str(),
-        "['a', 'b']"
-    );
+    assert!(rt; format!(in rt.alloc(); "{:?}", map.into_values())?.as_str() == "['a', 'b']");
     Ok(())
 }

@@ -9,7 +9,7 @@ const TWO: &[(u32, char, u32)] = &[(1, 'a', 1), (2, 'b', 2)];
 fn a_place_lends_its_value(rt: HostRuntime) -> Result<(), Fail> {
     let mut map = item_map(rt.alloc(), TWO)?;
     let (key, value) = map.get_index_mut(1).ok_or("nothing there")?;
-    assert_eq!(rt; (key.number, key.mark, *value), (2, 'b', 2));
+    assert!(rt; (key.number, key.mark, *value) == (2, 'b', 2));
     *value = 9;
     assert!(rt; has_pairs(map.as_slice(), &[(1, 'a', 1), (2, 'b', 9)]));
     assert!(rt; map.get_index_mut(2).is_none() && map.get_index_mut(usize::MAX).is_none());
@@ -21,11 +21,11 @@ fn a_place_lends_its_value(rt: HostRuntime) -> Result<(), Fail> {
 fn the_ends_lend_their_values(rt: HostRuntime) -> Result<(), Fail> {
     let mut map = item_map(rt.alloc(), &[(1, 'a', 1), (2, 'b', 9)])?;
     let (key, value) = map.first_mut().ok_or("nothing there")?;
-    assert_eq!(rt; (key.number, key.mark, *value), (1, 'a', 1));
+    assert!(rt; (key.number, key.mark, *value) == (1, 'a', 1));
     *value = 8;
     assert!(rt; has_pairs(map.as_slice(), &[(1, 'a', 8), (2, 'b', 9)]));
     let (key, value) = map.last_mut().ok_or("nothing there")?;
-    assert_eq!(rt; (key.number, key.mark, *value), (2, 'b', 9));
+    assert!(rt; (key.number, key.mark, *value) == (2, 'b', 9));
     *value = 7;
     assert!(rt; has_pairs(map.as_slice(), &[(1, 'a', 8), (2, 'b', 7)]));
     let mut single = item_map(rt.alloc(), &[(3, 'c', 3)])?;
@@ -42,15 +42,15 @@ fn a_key_lends_its_value(rt: HostRuntime) -> Result<(), Fail> {
     let mut map = item_map(rt.alloc(), TWO)?;
     let (there, absent) = (make_item(2, 'z'), make_item(3, 'z'));
     let value = map.get_mut(&there).ok_or("absent")?;
-    assert_eq!(rt; *value, 2);
+    assert!(rt; *value == 2);
     *value = 9;
     assert!(rt; has_pairs(map.as_slice(), &[(1, 'a', 1), (2, 'b', 9)]));
     let (index, key, value) = map.get_full_mut(&make_item(1, 'z')).ok_or("absent")?;
-    assert_eq!(rt; (index, key.number, key.mark, *value), (0, 1, 'a', 1));
+    assert!(rt; (index, key.number, key.mark, *value) == (0, 1, 'a', 1));
     *value = 8;
     assert!(rt; has_pairs(map.as_slice(), &[(1, 'a', 8), (2, 'b', 9)]));
     let (index, key, value) = map.get_full_mut(&there).ok_or("absent")?;
-    assert_eq!(rt; (index, key.number, key.mark, *value), (1, 2, 'b', 9));
+    assert!(rt; (index, key.number, key.mark, *value) == (1, 2, 'b', 9));
     *value = 7;
     assert!(rt; has_pairs(map.as_slice(), &[(1, 'a', 8), (2, 'b', 7)]));
     assert!(rt; map.get_mut(&absent).is_none() && map.get_full_mut(&absent).is_none());
@@ -61,13 +61,13 @@ fn a_key_lends_its_value(rt: HostRuntime) -> Result<(), Fail> {
 #[test]
 fn brackets_read_and_write_by_place_and_by_key(rt: HostRuntime) -> Result<(), Fail> {
     let mut map = item_map(rt.alloc(), TWO)?;
-    assert_eq!(rt; map.len(), 2);
-    assert_eq!(rt; (map[0], map[1]), (1, 2));
+    assert!(rt; map.len() == 2);
+    assert!(rt; (map[0], map[1]) == (1, 2));
     map[0] = 8;
     assert!(rt; has_pairs(map.as_slice(), &[(1, 'a', 8), (2, 'b', 2)]));
     let there = make_item(2, 'z');
     assert!(rt; map.contains_key(&there));
-    assert_eq!(rt; map[&there], 2);
+    assert!(rt; map[&there] == 2);
     map[&there] = 9;
     assert!(rt; has_pairs(map.as_slice(), &[(1, 'a', 8), (2, 'b', 9)]));
     Ok(())

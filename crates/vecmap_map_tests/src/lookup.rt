@@ -8,14 +8,14 @@ fn lookups_answer_the_stored_key(rt: HostRuntime) -> Result<(), Fail> {
     let map = item_map(rt.alloc(), &[(1, 'x', 10), (2, 'b', 20)])?;
     let (there, absent) = (make_item(2, 'y'), make_item(3, 'y'));
     assert!(rt; map.contains_key(&there) && !map.contains_key(&absent));
-    assert_eq!(rt; map.get(&there).copied(), Some(20));
-    assert_eq!(rt; map.get(&absent).copied(), None);
-    assert_eq!(rt; map.get_index_of(&there), Some(1));
-    assert_eq!(rt; map.get_index_of(&absent), None);
+    assert!(rt; map.get(&there).copied() == Some(20));
+    assert!(rt; map.get(&absent).copied() == None);
+    assert!(rt; map.get_index_of(&there) == Some(1));
+    assert!(rt; map.get_index_of(&absent) == None);
     let (key, value) = map.get_key_value(&there).ok_or("absent")?;
-    assert_eq!(rt; (key.number, key.mark, *value), (2, 'b', 20));
+    assert!(rt; (key.number, key.mark, *value) == (2, 'b', 20));
     let (index, key, value) = map.get_full(&there).ok_or("absent")?;
-    assert_eq!(rt; (index, key.number, key.mark, *value), (1, 2, 'b', 20));
+    assert!(rt; (index, key.number, key.mark, *value) == (1, 2, 'b', 20));
     assert!(rt; map.get_key_value(&absent).is_none() && map.get_full(&absent).is_none());
     assert!(rt; has_pairs(map.as_slice(), &[(1, 'x', 10), (2, 'b', 20)]));
     Ok(())
@@ -32,7 +32,7 @@ fn lookups_by_place_end_with_the_list(rt: HostRuntime) -> Result<(), Fail> {
         (map.last(), (3, 'c', 30)),
     ] {
         let (key, value) = found.ok_or("nothing there")?;
-        assert_eq!(rt; (key.number, key.mark, *value), wanted);
+        assert!(rt; (key.number, key.mark, *value) == wanted);
     }
     assert!(rt; map.get_index(3).is_none() && map.get_index(usize::MAX).is_none());
     let empty: VecMap<u32, u32> = VecMap::new(rt.alloc());
@@ -47,26 +47,23 @@ fn text_keys_are_found_by_their_bytes(rt: HostRuntime) -> Result<(), Fail> {
     for (key, value) in [("b", 2u32), ("a", 1)] {
         map.insert(String::from_str(rt.alloc(), key)?, value)?;
     }
-    assert_eq!(rt; map.get_index_of_str("a"), Some(1));
-    assert_eq!(rt; map.get_str("b").copied(), Some(2));
-    assert_eq!(rt; map.get_str("").copied(), None);
+    assert!(rt; map.get_index_of_str("a") == Some(1));
+    assert!(rt; map.get_str("b").copied() == Some(2));
+    assert!(rt; map.get_str("").copied() == None);
     assert!(rt; map.contains_key_str("a") && !map.contains_key_str("ab"));
-    assert_eq!(rt; map.remove_str("ab"), None);
-    assert_eq!(rt; map.len(), 2);
-    assert_eq!(rt; map.remove_str("b"), Some(2));
-    assert_eq!(rt; map.len(), 1);
+    assert!(rt; map.remove_str("ab") == None);
+    assert!(rt; map.len() == 2);
+    assert!(rt; map.remove_str("b") == Some(2));
+    assert!(rt; map.len() == 1);
     let (key, value) = map.first().ok_or("empty")?;
-    assert_eq!(rt; (key.as_str(), *value), ("a", 1));
+    assert!(rt; (key.as_str(), *value) == ("a", 1));
     Ok(())
 }
 
 #[test]
 fn a_map_prints_its_pairs_in_order(rt: HostRuntime) -> Result<(), Fail> {
     let map = VecMap::from_slice(rt.alloc(), &[("b", 2), ("a", 1)])?;
-    assert_eq!(rt;
-        format!(in rt.alloc(); "{map:?}")?.as_str(),
-        "{\"b\": 2, \"a\": 1}"
-    );
+    assert!(rt; format!(in rt.alloc(); "{map:?}")?.as_str() == "{\"b\": 2, \"a\": 1}");
     Ok(())
 }
 

@@ -30,39 +30,39 @@ fn shaped_map(alloc: Global, shape: u32, count: u32) -> Result<VecMap<u32, u32>,
 
 // The same pairs, sorted by value with ties in their old order: only what fell is turned round.
 fn assert_sorted(rt: &impl Abort, map: &VecMap<u32, u32>, shape: u32, count: u32) {
-    assert_eq!(rt; map.len(), count as usize);
+    assert!(rt; map.len() == count as usize);
     for (place, pair) in (0..count).zip(map.as_slice()) {
         let old = if shape == 1 {
             count.wrapping_sub(place).wrapping_sub(1)
         } else {
             place
         };
-        assert_eq!(rt; *pair, (old, number_at(shape, count, old)));
+        assert!(rt; *pair == (old, number_at(shape, count, old)));
     }
 }
 
 // The same pairs, in whatever order that rises by value.
 fn assert_rises(rt: &impl Abort, map: &VecMap<u32, u32>, shape: u32, count: u32) {
-    assert_eq!(rt; map.len(), count as usize);
+    assert!(rt; map.len() == count as usize);
     let mut last = 0;
     for pair in map.as_slice() {
         assert!(rt; last <= pair.1);
         last = pair.1;
     }
     for key in 0..count {
-        assert_eq!(rt; map.get(&key), Some(&number_at(shape, count, key)));
+        assert!(rt; map.get(&key) == Some(&number_at(shape, count, key)));
     }
 }
 
 #[test]
 fn two_pairs_change_places(rt: HostRuntime) -> Result<(), Fail> {
     let mut map = VecMap::from_slice(rt.alloc(), &[("a", 1), ("b", 2), ("c", 3), ("d", 4)])?;
-    assert_eq!(rt; map.len(), 4);
+    assert!(rt; map.len() == 4);
     map.swap_indices(1, 3);
     let swapped = [("a", 1), ("d", 4), ("c", 3), ("b", 2)];
-    assert_eq!(rt; map.as_slice(), swapped.as_slice());
+    assert!(rt; map.as_slice() == swapped.as_slice());
     map.swap_indices(2, 2);
-    assert_eq!(rt; map.as_slice(), swapped.as_slice());
+    assert!(rt; map.as_slice() == swapped.as_slice());
     Ok(())
 }
 
@@ -70,7 +70,7 @@ fn two_pairs_change_places(rt: HostRuntime) -> Result<(), Fail> {
 fn reverse_turns_the_order_round(rt: HostRuntime) -> Result<(), Fail> {
     let mut map = VecMap::from_slice(rt.alloc(), &[("a", 1), ("b", 2), ("c", 3)])?;
     map.reverse();
-    assert_eq!(rt; map.as_slice(), [("c", 3), ("b", 2), ("a", 1)].as_slice());
+    assert!(rt; map.as_slice() == [("c", 3), ("b", 2), ("a", 1)].as_slice());
     Ok(())
 }
 
@@ -82,16 +82,16 @@ fn sorts_by_key_and_by_value(rt: HostRuntime) -> Result<(), Fail> {
         calls.set(calls.get().wrapping_add(1));
         *value
     })?;
-    assert_eq!(rt; map.as_slice(), [("a", 1), ("b", 2), ("c", 3)].as_slice());
+    assert!(rt; map.as_slice() == [("a", 1), ("b", 2), ("c", 3)].as_slice());
     assert!(rt; calls.get() <= 3);
     map.sort_by(|a, b| b.0.cmp(a.0))?;
-    assert_eq!(rt; map.as_slice(), [("c", 3), ("b", 2), ("a", 1)].as_slice());
+    assert!(rt; map.as_slice() == [("c", 3), ("b", 2), ("a", 1)].as_slice());
     map.sort_keys()?;
-    assert_eq!(rt; map.as_slice(), [("a", 1), ("b", 2), ("c", 3)].as_slice());
+    assert!(rt; map.as_slice() == [("a", 1), ("b", 2), ("c", 3)].as_slice());
     map.sort_unstable_by(|a, b| b.1.cmp(a.1));
-    assert_eq!(rt; map.as_slice(), [("c", 3), ("b", 2), ("a", 1)].as_slice());
+    assert!(rt; map.as_slice() == [("c", 3), ("b", 2), ("a", 1)].as_slice());
     map.sort_unstable_keys();
-    assert_eq!(rt; map.as_slice(), [("a", 1), ("b", 2), ("c", 3)].as_slice());
+    assert!(rt; map.as_slice() == [("a", 1), ("b", 2), ("c", 3)].as_slice());
     Ok(())
 }
 
@@ -101,7 +101,7 @@ fn stable_sorts_leave_ties_in_their_order(rt: HostRuntime) -> Result<(), Fail> {
     let room = map.capacity();
     map.sort_by(|a, b| a.1.cmp(b.1))?;
     assert!(rt; has_pairs(map.as_slice(), BY_VALUE));
-    assert_eq!(rt; map.capacity(), room);
+    assert!(rt; map.capacity() == room);
     let mut map = item_map(rt.alloc(), MIXED)?;
     map.sort_by_cached_key(|_, value| *value)?;
     assert!(rt; has_pairs(map.as_slice(), BY_VALUE));
@@ -125,7 +125,7 @@ fn stable_sorts_of_every_length_and_shape(rt: HostRuntime) -> Result<(), Fail> {
             map.sort_by_cached_key(|_, value| *value)?;
             assert_sorted(&rt, &map, shape, count);
             map.sort_keys()?;
-            assert_eq!(rt; map.len(), count as usize);
+            assert!(rt; map.len() == count as usize);
             assert!(rt;
                 (0..count)
                     .zip(map.as_slice())
@@ -149,7 +149,7 @@ fn unstable_sorts_of_every_length_and_shape(rt: HostRuntime) -> Result<(), Fail>
                     .zip(map.as_slice())
                     .all(|(place, pair)| place == pair.0)
             );
-            assert_eq!(rt; map.len(), count as usize);
+            assert!(rt; map.len() == count as usize);
         }
     }
     Ok(())

@@ -15,13 +15,13 @@ fn start(alloc: Global) -> Result<VecMap<Item, u32>, AllocError> {
 fn a_removal_by_key_shifts_what_follows(rt: HostRuntime) -> Result<(), Fail> {
     let left = &[(1, 'a', 10), (3, 'c', 30), (4, 'd', 40)];
     let mut map = start(rt.alloc())?;
-    assert_eq!(rt; map.remove(&make_item(2, 'z')), Some(20));
+    assert!(rt; map.remove(&make_item(2, 'z')) == Some(20));
     assert!(rt; has_pairs(map.as_slice(), left));
-    assert_eq!(rt; map.remove(&make_item(2, 'z')), None);
+    assert!(rt; map.remove(&make_item(2, 'z')) == None);
     assert!(rt; map.remove_entry(&make_item(2, 'z')).is_none());
     assert!(rt; has_pairs(map.as_slice(), left));
     let (key, value) = map.remove_entry(&make_item(1, 'z')).ok_or("absent")?;
-    assert_eq!(rt; (key.number, key.mark, value), (1, 'a', 10));
+    assert!(rt; (key.number, key.mark, value) == (1, 'a', 10));
     assert!(rt; has_pairs(map.as_slice(), &[(3, 'c', 30), (4, 'd', 40)]));
     Ok(())
 }
@@ -30,15 +30,15 @@ fn a_removal_by_key_shifts_what_follows(rt: HostRuntime) -> Result<(), Fail> {
 fn a_swap_removal_by_key_fills_the_gap_with_the_last(rt: HostRuntime) -> Result<(), Fail> {
     let left = &[(1, 'a', 10), (4, 'd', 40), (3, 'c', 30)];
     let mut map = start(rt.alloc())?;
-    assert_eq!(rt; map.swap_remove(&make_item(2, 'z')), Some(20));
+    assert!(rt; map.swap_remove(&make_item(2, 'z')) == Some(20));
     assert!(rt; has_pairs(map.as_slice(), left));
-    assert_eq!(rt; map.swap_remove(&make_item(2, 'z')), None);
+    assert!(rt; map.swap_remove(&make_item(2, 'z')) == None);
     assert!(rt; map.swap_remove_entry(&make_item(2, 'z')).is_none());
     assert!(rt; has_pairs(map.as_slice(), left));
     let (key, value) = map.swap_remove_entry(&make_item(1, 'z')).ok_or("absent")?;
-    assert_eq!(rt; (key.number, key.mark, value), (1, 'a', 10));
+    assert!(rt; (key.number, key.mark, value) == (1, 'a', 10));
     assert!(rt; has_pairs(map.as_slice(), &[(3, 'c', 30), (4, 'd', 40)]));
-    assert_eq!(rt; map.swap_remove(&make_item(4, 'z')), Some(40));
+    assert!(rt; map.swap_remove(&make_item(4, 'z')) == Some(40));
     assert!(rt; has_pairs(map.as_slice(), &[(3, 'c', 30)]));
     Ok(())
 }
@@ -68,12 +68,12 @@ fn a_removal_by_place_shifts_or_swaps(rt: HostRuntime) -> Result<(), Fail> {
         let mut map = start(rt.alloc())?;
         assert!(rt; index < map.len());
         let (key, value) = map.remove_index(index);
-        assert_eq!(rt; (key.number, key.mark, value), pair);
+        assert!(rt; (key.number, key.mark, value) == pair);
         assert!(rt; has_pairs(map.as_slice(), &shifted), "at {index}");
         let mut map = start(rt.alloc())?;
         assert!(rt; index < map.len());
         let (key, value) = map.swap_remove_index(index);
-        assert_eq!(rt; (key.number, key.mark, value), pair);
+        assert!(rt; (key.number, key.mark, value) == pair);
         assert!(rt; has_pairs(map.as_slice(), &swapped), "at {index}");
     }
     Ok(())
@@ -84,7 +84,7 @@ fn the_end_of_a_map_goes(rt: HostRuntime) -> Result<(), Fail> {
     let mut map = start(rt.alloc())?;
     let room = map.capacity();
     let (key, value) = map.pop().ok_or("empty")?;
-    assert_eq!(rt; (key.number, key.mark, value), (4, 'd', 40));
+    assert!(rt; (key.number, key.mark, value) == (4, 'd', 40));
     let left = &[(1, 'a', 10), (2, 'b', 20), (3, 'c', 30)];
     assert!(rt; has_pairs(map.as_slice(), left));
     map.truncate(3);
@@ -93,6 +93,6 @@ fn the_end_of_a_map_goes(rt: HostRuntime) -> Result<(), Fail> {
     assert!(rt; has_pairs(map.as_slice(), &[(1, 'a', 10)]));
     map.clear();
     assert!(rt; map.is_empty() && map.pop().is_none());
-    assert_eq!(rt; (map.len(), map.capacity()), (0, room));
+    assert!(rt; (map.len(), map.capacity()) == (0, room));
     Ok(())
 }

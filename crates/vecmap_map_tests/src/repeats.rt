@@ -56,15 +56,12 @@ fn lookups_answer_the_first_of_equal_keys(rt: HostRuntime) -> Result<(), Fail> {
     let key = make_item(1, 'z');
     assert!(rt; has_first(&map, 'b', 2) && !map.has_distinct_keys());
     assert!(rt; map.contains_key(&key));
-    assert_eq!(rt;
-        (map.get_index_of(&key), map.get(&key).copied()),
-        (Some(1), Some(2))
-    );
+    assert!(rt; (map.get_index_of(&key), map.get(&key).copied()) == (Some(1), Some(2)));
     let (stored, value) = map.get_key_value(&key).ok_or("absent")?;
-    assert_eq!(rt; (stored.mark, *value), ('b', 2));
+    assert!(rt; (stored.mark, *value) == ('b', 2));
     let (index, stored, value) = map.get_full(&key).ok_or("absent")?;
-    assert_eq!(rt; (index, stored.mark, *value), (1, 'b', 2));
-    assert_eq!(rt; map[&key], 2);
+    assert!(rt; (index, stored.mark, *value) == (1, 'b', 2));
+    assert!(rt; map[&key] == 2);
     Ok(())
 }
 
@@ -75,13 +72,13 @@ fn the_first_of_equal_keys_lends_its_value(rt: HostRuntime) -> Result<(), Fail> 
     *map.get_mut(&key).ok_or("absent")? = 20;
     assert!(rt; has_first(&map, 'b', 20));
     let (index, stored, value) = map.get_full_mut(&key).ok_or("absent")?;
-    assert_eq!(rt; (index, stored.mark, *value), (1, 'b', 20));
+    assert!(rt; (index, stored.mark, *value) == (1, 'b', 20));
     *value = 30;
     assert!(rt; has_first(&map, 'b', 30) && map.contains_key(&key));
     map[&key] = 40;
     assert!(rt; has_first(&map, 'b', 40));
     let (index, stored, value) = map.get_full_mut2(&key).ok_or("absent")?;
-    assert_eq!(rt; (index, stored.mark, *value), (1, 'b', 40));
+    assert!(rt; (index, stored.mark, *value) == (1, 'b', 40));
     *stored = make_item(1, 'y');
     *value = 50;
     assert!(rt; has_first(&map, 'y', 50));
@@ -91,9 +88,9 @@ fn the_first_of_equal_keys_lends_its_value(rt: HostRuntime) -> Result<(), Fail> 
 #[test]
 fn insertions_change_the_value_of_the_first_of_equal_keys(rt: HostRuntime) -> Result<(), Fail> {
     let mut map = start(rt.alloc())?;
-    assert_eq!(rt; map.insert(make_item(1, 'z'), 20)?, Some(2));
+    assert!(rt; map.insert(make_item(1, 'z'), 20)? == Some(2));
     assert!(rt; has_first(&map, 'b', 20));
-    assert_eq!(rt; map.insert_full(make_item(1, 'z'), 30)?, (1, Some(20)));
+    assert!(rt; map.insert_full(make_item(1, 'z'), 30)? == (1, Some(20)));
     assert!(rt; has_first(&map, 'b', 30));
     map.extend([(make_item(1, 'z'), 40)])?;
     assert!(rt; has_first(&map, 'b', 40));
@@ -106,7 +103,7 @@ fn insertions_change_the_value_of_the_first_of_equal_keys(rt: HostRuntime) -> Re
 fn insert_key_takes_the_place_of_the_first_of_equal_keys(rt: HostRuntime) -> Result<(), Fail> {
     let mut map = start(rt.alloc())?;
     let (key, value) = map.insert_key(make_item(1, 'z'), 20)?.ok_or("absent")?;
-    assert_eq!(rt; (key.mark, value), ('b', 2));
+    assert!(rt; (key.mark, value) == ('b', 2));
     assert!(rt; has_first(&map, 'z', 20));
     Ok(())
 }
@@ -134,7 +131,7 @@ fn insert_at_moves_the_first_of_equal_keys(rt: HostRuntime) -> Result<(), Fail> 
     for (index, place) in [(0, 0), (1, 1), (2, 2), (4, 4), (5, 5), (6, 5)] {
         let mut map = start(rt.alloc())?;
         assert!(rt; index <= map.len());
-        assert_eq!(rt; map.insert_at(index, make_item(1, 'z'), 20)?, Some((1, 2)));
+        assert!(rt; map.insert_at(index, make_item(1, 'z'), 20)? == Some((1, 2)));
         let mut expected = SHIFTED.to_vec(rt.alloc())?;
         assert!(rt; place <= expected.len());
         expected.insert(place, (1, 'z', 20))?;
@@ -147,18 +144,18 @@ fn insert_at_moves_the_first_of_equal_keys(rt: HostRuntime) -> Result<(), Fail> 
 fn removals_take_the_first_of_equal_keys(rt: HostRuntime) -> Result<(), Fail> {
     let key = make_item(1, 'z');
     let mut map = start(rt.alloc())?;
-    assert_eq!(rt; map.remove(&key), Some(2));
+    assert!(rt; map.remove(&key) == Some(2));
     assert!(rt; has_pairs(map.as_slice(), SHIFTED));
     let mut map = start(rt.alloc())?;
     let (stored, value) = map.remove_entry(&key).ok_or("absent")?;
-    assert_eq!(rt; (stored.mark, value), ('b', 2));
+    assert!(rt; (stored.mark, value) == ('b', 2));
     assert!(rt; has_pairs(map.as_slice(), SHIFTED));
     let mut map = start(rt.alloc())?;
-    assert_eq!(rt; map.swap_remove(&key), Some(2));
+    assert!(rt; map.swap_remove(&key) == Some(2));
     assert!(rt; has_pairs(map.as_slice(), SWAPPED));
     let mut map = start(rt.alloc())?;
     let (stored, value) = map.swap_remove_entry(&key).ok_or("absent")?;
-    assert_eq!(rt; (stored.mark, value), ('b', 2));
+    assert!(rt; (stored.mark, value) == ('b', 2));
     assert!(rt; has_pairs(map.as_slice(), SWAPPED));
     Ok(())
 }
@@ -167,18 +164,15 @@ fn removals_take_the_first_of_equal_keys(rt: HostRuntime) -> Result<(), Fail> {
 fn an_entry_is_that_of_the_first_of_equal_keys(rt: HostRuntime) -> Result<(), Fail> {
     let mut map = start(rt.alloc())?;
     let entry = map.entry(make_item(1, 'z'));
-    assert_eq!(rt; entry.index(), 1);
-    assert_eq!(rt; *entry.and_modify(|value| *value = 20).or_insert(0)?, 20);
+    assert!(rt; entry.index() == 1);
+    assert!(rt; *entry.and_modify(|value| *value = 20).or_insert(0)? == 20);
     assert!(rt; has_first(&map, 'b', 20));
     map.entry(make_item(1, 'z')).insert_entry(30)?.into_key();
     assert!(rt; has_first(&map, 'b', 30));
     let Entry::Occupied(mut entry) = map.entry(make_item(1, 'z')) else {
         return Err(Fail::new("vacant"));
     };
-    assert_eq!(rt;
-        (entry.index(), *entry.get(), entry.insert(40)),
-        (1, 30, 30)
-    );
+    assert!(rt; (entry.index(), *entry.get(), entry.insert(40)) == (1, 30, 30));
     *entry.get_mut() = 50;
     *entry.into_mut() = 60;
     assert!(rt; has_first(&map, 'b', 60));
@@ -189,21 +183,21 @@ fn an_entry_is_that_of_the_first_of_equal_keys(rt: HostRuntime) -> Result<(), Fa
 fn an_entry_of_repeats_is_removed(rt: HostRuntime) -> Result<(), Fail> {
     let mut map = start(rt.alloc())?;
     let entry = occupied(map.entry(make_item(1, 'z'))).ok_or("vacant")?;
-    assert_eq!(rt; entry.remove(), 2);
+    assert!(rt; entry.remove() == 2);
     assert!(rt; has_pairs(map.as_slice(), SHIFTED));
     let mut map = start(rt.alloc())?;
     let entry = occupied(map.entry(make_item(1, 'z'))).ok_or("vacant")?;
-    assert_eq!(rt; entry.swap_remove(), 2);
+    assert!(rt; entry.swap_remove() == 2);
     assert!(rt; has_pairs(map.as_slice(), SWAPPED));
     let mut map = start(rt.alloc())?;
     let entry = occupied(map.entry(make_item(1, 'z'))).ok_or("vacant")?;
     let (stored, value) = entry.remove_entry();
-    assert_eq!(rt; (stored.mark, value), ('b', 2));
+    assert!(rt; (stored.mark, value) == ('b', 2));
     assert!(rt; has_pairs(map.as_slice(), SHIFTED));
     let mut map = start(rt.alloc())?;
     let entry = occupied(map.entry(make_item(1, 'z'))).ok_or("vacant")?;
     let (stored, value) = entry.swap_remove_entry();
-    assert_eq!(rt; (stored.mark, value), ('b', 2));
+    assert!(rt; (stored.mark, value) == ('b', 2));
     assert!(rt; has_pairs(map.as_slice(), SWAPPED));
     Ok(())
 }
@@ -214,10 +208,7 @@ fn clones_and_vectors_of_a_map_have_its_repeats(rt: HostRuntime) -> Result<(), F
     assert!(rt; has_first(&map.clone()?, 'b', 2));
     assert!(rt; map == map.clone()?);
     let pairs = map.to_vec()?;
-    assert_eq!(rt;
-        (pairs.len(), pairs.as_slice() == map.as_slice()),
-        (6, true)
-    );
+    assert!(rt; (pairs.len(), pairs.as_slice() == map.as_slice()) == (6, true));
     let mut map = start(rt.alloc())?;
     map.reverse();
     let expected = [
@@ -243,20 +234,17 @@ fn texts_mean_the_first_of_equal_keys(rt: HostRuntime) -> Result<(), Fail> {
         *key = String::from_str(rt.alloc(), "b")?;
     }
     assert!(rt; map.contains_key_str("b") && !map.contains_key_str("d"));
-    assert_eq!(rt;
-        (map.get_index_of_str("b"), map.get_str("b").copied()),
-        (Some(1), Some(2))
-    );
+    assert!(rt; (map.get_index_of_str("b"), map.get_str("b").copied()) == (Some(1), Some(2)));
     for (value, left) in [
         (Some(2), [("a", 1), ("c", 3), ("b", 4), ("b", 5)].as_slice()),
         (Some(4), [("a", 1), ("c", 3), ("b", 5)].as_slice()),
         (Some(5), [("a", 1), ("c", 3)].as_slice()),
         (None, [("a", 1), ("c", 3)].as_slice()),
     ] {
-        assert_eq!(rt; map.remove_str("b"), value);
-        assert_eq!(rt; map.len(), left.len());
+        assert!(rt; map.remove_str("b") == value);
+        assert!(rt; map.len() == left.len());
         for (pair, wanted) in map.as_slice().iter().zip(left) {
-            assert_eq!(rt; (pair.0.as_str(), pair.1), *wanted);
+            assert!(rt; (pair.0.as_str(), pair.1) == *wanted);
         }
     }
     Ok(())

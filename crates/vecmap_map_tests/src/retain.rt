@@ -17,9 +17,9 @@ fn retain_keeps_what_it_wrote_where_it_answers_true(rt: HostRuntime) -> Result<(
         *value = asked.wrapping_mul(100);
         key.number == 1
     });
-    assert_eq!(rt; asked, 4);
+    assert!(rt; asked == 4);
     assert!(rt; has_pairs(map.as_slice(), &[(1, 'a', 100), (1, 'c', 300)]));
-    assert_eq!(rt; map.capacity(), room);
+    assert!(rt; map.capacity() == room);
     map.retain(|_key, _value| true);
     assert!(rt; has_pairs(map.as_slice(), &[(1, 'a', 100), (1, 'c', 300)]));
     map.retain(|_key, _value| false);
@@ -39,7 +39,7 @@ fn retain_asks_in_order_in_the_state_that_is_left(rt: HostRuntime) -> Result<(),
         turn = !turn;
         !turn
     });
-    assert_eq!(rt; asked.as_slice(), ['a', 'b', 'c', 'd'].as_slice());
+    assert!(rt; asked.as_slice() == ['a', 'b', 'c', 'd'].as_slice());
     assert!(rt; has_pairs(map.as_slice(), &[(2, 'b', 2), (4, 'd', 4)]));
     Ok(())
 }
@@ -76,11 +76,8 @@ fn retain2_writes_keys_too(rt: HostRuntime) -> Result<(), Fail> {
         mem::swap(key, value);
         *value % 2 == 0
     });
-    assert_eq!(rt;
-        map.as_slice(),
-        [(0, 0), (20, 2), (40, 4), (60, 6)].as_slice()
-    );
-    assert_eq!(rt; map.capacity(), room);
+    assert!(rt; map.as_slice() == [(0, 0), (20, 2), (40, 4), (60, 6)].as_slice());
+    assert!(rt; map.capacity() == room);
     Ok(())
 }
 
@@ -93,7 +90,7 @@ fn retain2_may_make_keys_equal(rt: HostRuntime) -> Result<(), Fail> {
     });
     assert!(rt; has_pairs(map.as_slice(), &[(7, 'a', 1), (7, 'c', 3)]));
     assert!(rt; !map.has_distinct_keys());
-    assert_eq!(rt; map.get(&make_item(7, 'z')), Some(&1));
+    assert!(rt; map.get(&make_item(7, 'z')) == Some(&1));
     Ok(())
 }
 
@@ -102,10 +99,10 @@ fn each_key_that_goes_is_dropped_once(rt: HostRuntime) -> Result<(), Fail> {
     let log = Log::new();
     let mut map = VecMap::from(told_pairs(rt.alloc(), &log, &[0, 1, 2, 3, 4])?);
     map.retain(|_key, value| *value % 2 == 0);
-    assert_eq!(rt; (map.len(), log.drops()), (3, 2));
+    assert!(rt; (map.len(), log.drops()) == (3, 2));
     map.retain2(|_key, value| *value == 2);
-    assert_eq!(rt; (map.len(), log.drops()), (1, 4));
+    assert!(rt; (map.len(), log.drops()) == (1, 4));
     drop(map);
-    assert_eq!(rt; log.drops(), 5);
+    assert!(rt; log.drops() == 5);
     Ok(())
 }

@@ -8,20 +8,20 @@ fn searches_answer_an_equal_place_or_where_one_would_go(rt: HostRuntime) -> Resu
     let map = VecMap::from_slice(rt.alloc(), &pairs)?;
     let found = map.binary_search_by(|_, value| value.cmp(&2));
     assert!(rt; found == Ok(1) || found == Ok(2));
-    assert_eq!(rt; map.binary_search_by(|_, value| value.cmp(&4)), Err(4));
-    assert_eq!(rt; map.binary_search_by(|_, value| value.cmp(&0)), Err(0));
+    assert!(rt; map.binary_search_by(|_, value| value.cmp(&4)) == Err(4));
+    assert!(rt; map.binary_search_by(|_, value| value.cmp(&0)) == Err(0));
     let found = map.binary_search_by_key(&2, |_, value| *value);
     assert!(rt; found == Ok(1) || found == Ok(2));
-    assert_eq!(rt; map.binary_search_by_key(&3, |_, value| *value), Ok(3));
-    assert_eq!(rt; map.binary_search_by_key(&0, |_, value| *value), Err(0));
-    assert_eq!(rt; map.binary_search_by_key(&4, |_, value| *value), Err(4));
-    assert_eq!(rt; map.binary_search_keys(&'c'), Ok(2));
-    assert_eq!(rt; map.binary_search_keys(&'e'), Err(4));
-    assert_eq!(rt; map.partition_point(|_, value| *value < 2), 1);
-    assert_eq!(rt; map.partition_point(|_, value| *value < 3), 3);
+    assert!(rt; map.binary_search_by_key(&3, |_, value| *value) == Ok(3));
+    assert!(rt; map.binary_search_by_key(&0, |_, value| *value) == Err(0));
+    assert!(rt; map.binary_search_by_key(&4, |_, value| *value) == Err(4));
+    assert!(rt; map.binary_search_keys(&'c') == Ok(2));
+    assert!(rt; map.binary_search_keys(&'e') == Err(4));
+    assert!(rt; map.partition_point(|_, value| *value < 2) == 1);
+    assert!(rt; map.partition_point(|_, value| *value < 3) == 3);
     let map = VecMap::from_slice(rt.alloc(), &[("a", 1), ("b", 2), ("d", 4)])?;
-    assert_eq!(rt; map.binary_search_by_key(&4, |_, value| *value), Ok(2));
-    assert_eq!(rt; map.binary_search_keys(&"c"), Err(2));
+    assert!(rt; map.binary_search_by_key(&4, |_, value| *value) == Ok(2));
+    assert!(rt; map.binary_search_keys(&"c") == Err(2));
     Ok(())
 }
 
@@ -36,28 +36,19 @@ fn searches_of_every_length(rt: HostRuntime) -> Result<(), Fail> {
             let place = key as usize;
             let even = key.wrapping_mul(2);
             let odd = even.wrapping_add(1);
-            assert_eq!(rt; map.binary_search_keys(&even), Ok(place));
-            assert_eq!(rt;
-                map.binary_search_by(|stored, _| stored.cmp(&even)),
-                Ok(place)
-            );
-            assert_eq!(rt;
-                map.binary_search_by_key(&even, |stored, _| *stored),
-                Ok(place)
-            );
-            assert_eq!(rt; map.partition_point(|stored, _| *stored < even), place);
-            assert_eq!(rt; map.binary_search_keys(&odd), Err(place.wrapping_add(1)));
+            assert!(rt; map.binary_search_keys(&even) == Ok(place));
+            assert!(rt; map.binary_search_by(|stored, _| stored.cmp(&even)) == Ok(place));
+            assert!(rt; map.binary_search_by_key(&even, |stored, _| *stored) == Ok(place));
+            assert!(rt; map.partition_point(|stored, _| *stored < even) == place);
+            assert!(rt; map.binary_search_keys(&odd) == Err(place.wrapping_add(1)));
             let missed = map.binary_search_by(|stored, _| stored.cmp(&odd));
-            assert_eq!(rt; missed, Err(place.wrapping_add(1)));
+            assert!(rt; missed == Err(place.wrapping_add(1)));
         }
         // All tied: every place is equal, or none is.
         let found = map.binary_search_by_key(&7, |_, value| *value);
-        assert_eq!(rt; found.is_ok(), 0 < count);
-        assert_eq!(rt; map.binary_search_by_key(&6, |_, value| *value), Err(0));
-        assert_eq!(rt;
-            map.binary_search_by_key(&8, |_, value| *value),
-            Err(count as usize)
-        );
+        assert!(rt; found.is_ok() == (0 < count));
+        assert!(rt; map.binary_search_by_key(&6, |_, value| *value) == Err(0));
+        assert!(rt; map.binary_search_by_key(&8, |_, value| *value) == Err(count as usize));
     }
     Ok(())
 }

@@ -89,12 +89,9 @@ fn a_query_that_is_no_key_means_the_first_it_stands_for(rt: HostRuntime) -> Resu
 #[test]
 fn a_query_that_is_no_key_is_handed_by_value(rt: HostRuntime) -> Result<(), Fail> {
     let mut map = repeating_map(rt.alloc(), REPEATS)?;
-    assert_eq!(rt;
-        (map.get_index_of(Number(1)), map.get(Number(1)).copied()),
-        (Some(1), Some(20))
-    );
+    assert!(rt; (map.get_index_of(Number(1)), map.get(Number(1)).copied()) == (Some(1), Some(20)));
     let (index, key, value) = map.get_full_mut2(Number(1)).ok_or("absent")?;
-    assert_eq!(rt; (index, key.mark, *value), (1, 'b', 20));
+    assert!(rt; (index, key.mark, *value) == (1, 'b', 20));
     *key = make_item(2, 'y');
     *value = 70;
     let written = [
@@ -106,8 +103,8 @@ fn a_query_that_is_no_key_is_handed_by_value(rt: HostRuntime) -> Result<(), Fail
     ];
     assert!(rt; has_pairs(map.as_slice(), &written));
     let (key, value) = map.remove_entry(Number(1)).ok_or("absent")?;
-    assert_eq!(rt; (key.mark, value), ('d', 40));
-    assert_eq!(rt; map.swap_remove(Number(9)), Some(10));
+    assert!(rt; (key.mark, value) == ('d', 40));
+    assert!(rt; map.swap_remove(Number(9)) == Some(10));
     let left = [(1, 'e', 50), (2, 'y', 70), (5, 'c', 30)];
     assert!(rt; has_pairs(map.as_slice(), &left));
     Ok(())
@@ -130,21 +127,18 @@ fn a_text_means_the_string_of_its_bytes(rt: HostRuntime) -> Result<(), Fail> {
 fn a_text_is_handed_as_it_stands(rt: HostRuntime) -> Result<(), Fail> {
     let mut map = text_keys(rt.alloc())?;
     assert!(rt; map.contains_key("max") && !map.contains_key("ma"));
-    assert_eq!(rt;
-        (map.get("max").copied(), map.get_index_of("max")),
-        (Some(30), Some(2))
-    );
+    assert!(rt; (map.get("max").copied(), map.get_index_of("max")) == (Some(30), Some(2)));
     *map.get_mut("age").ok_or("absent")? = 11;
     let (index, key, value) = map.get_full_mut("é").ok_or("absent")?;
-    assert_eq!(rt; (index, key.as_str(), *value), (3, "é", 40));
+    assert!(rt; (index, key.as_str(), *value) == (3, "é", 40));
     *value = 41;
     let written = [("age", 11), ("agent", 20), ("max", 30), ("é", 41)];
     assert!(rt; has_texts(map.as_slice(), &written));
     let (key, value) = map.swap_remove_entry("age").ok_or("absent")?;
-    assert_eq!(rt; (key.as_str(), value), ("age", 11));
+    assert!(rt; (key.as_str(), value) == ("age", 11));
     assert!(rt; has_texts(map.as_slice(), &[("é", 41), ("agent", 20), ("max", 30)]));
-    assert_eq!(rt; map.remove("agent"), Some(20));
-    assert_eq!(rt; (map.remove("agent"), map.swap_remove("")), (None, None));
+    assert!(rt; map.remove("agent") == Some(20));
+    assert!(rt; (map.remove("agent"), map.swap_remove("")) == (None, None));
     assert!(rt; has_texts(map.as_slice(), &[("é", 41), ("max", 30)]));
     Ok(())
 }
@@ -199,14 +193,14 @@ fn a_text_made_at_run_time_means_a_static_key(rt: HostRuntime) -> Result<(), Fai
 fn brackets_take_a_text_at_strings(rt: HostRuntime) -> Result<(), Fail> {
     let mut map = text_keys(rt.alloc())?;
     assert!(rt; map.contains_key("agent") && map.contains_key("é"));
-    assert_eq!(rt; (map["agent"], map["é"]), (20, 40));
+    assert!(rt; (map["agent"], map["é"]) == (20, 40));
     map["agent"] = 21;
     let written = [("age", 10), ("agent", 21), ("max", 30), ("é", 40)];
     assert!(rt; has_texts(map.as_slice(), &written));
     let (key, _value) = map.get_index_mut2(0).ok_or("nothing there")?;
     *key = String::from_str(rt.alloc(), "agent")?;
     assert!(rt; map.contains_key("agent"));
-    assert_eq!(rt; map["agent"], 10);
+    assert!(rt; map["agent"] == 10);
     let key = String::from_str(rt.alloc(), "agent")?;
     assert!(rt; map.contains_key(key.as_str()));
     map[key.as_str()] = 12;
@@ -214,7 +208,7 @@ fn brackets_take_a_text_at_strings(rt: HostRuntime) -> Result<(), Fail> {
     assert!(rt; has_texts(map.as_slice(), &written));
     assert!(rt; map.contains_key(&key));
     map[&key] = 13;
-    assert_eq!(rt; map.get("agent").copied(), Some(13));
+    assert!(rt; map.get("agent").copied() == Some(13));
     Ok(())
 }
 
@@ -223,11 +217,11 @@ fn brackets_read_by_a_text_at_static_keys(rt: HostRuntime) -> Result<(), Fail> {
     let mut map = static_keys(rt.alloc())?;
     let made = String::from_str(rt.alloc(), "max")?;
     assert!(rt; map.contains_key("max") && map.contains_key(made.as_str()));
-    assert_eq!(rt; (map["max"], map[made.as_str()]), (30, 30));
+    assert!(rt; (map["max"], map[made.as_str()]) == (30, 30));
     let (key, _value) = map.get_index_mut2(1).ok_or("nothing there")?;
     *key = "max";
     assert!(rt; map.contains_key("max"));
-    assert_eq!(rt; map["max"], 20);
+    assert!(rt; map["max"] == 20);
     Ok(())
 }
 
@@ -240,7 +234,7 @@ fn a_text_means_the_boxed_text_of_its_bytes(rt: HostRuntime) -> Result<(), Fail>
     for (text, place) in QUERIES {
         assert!(rt; means(&mut map, *text, *place)?, "{text}");
     }
-    assert_eq!(rt; map.remove("agent"), Some(9));
+    assert!(rt; map.remove("agent") == Some(9));
     assert!(rt; finds(&map, "max", Some(1)) && finds(&map, "agent", None));
     Ok(())
 }
@@ -254,7 +248,7 @@ fn a_text_means_the_shared_text_of_its_bytes(rt: HostRuntime) -> Result<(), Fail
     for (text, place) in QUERIES {
         assert!(rt; means(&mut map, *text, *place)?, "{text}");
     }
-    assert_eq!(rt; map.remove("agent"), Some(9));
+    assert!(rt; map.remove("agent") == Some(9));
     assert!(rt; finds(&map, "max", Some(1)) && finds(&map, "agent", None));
     Ok(())
 }
@@ -268,7 +262,7 @@ fn a_text_means_the_text_that_threads_share(rt: HostRuntime) -> Result<(), Fail>
     for (text, place) in QUERIES {
         assert!(rt; means(&mut map, *text, *place)?, "{text}");
     }
-    assert_eq!(rt; map.remove("agent"), Some(9));
+    assert!(rt; map.remove("agent") == Some(9));
     assert!(rt; finds(&map, "max", Some(1)) && finds(&map, "agent", None));
     Ok(())
 }
@@ -287,7 +281,7 @@ fn a_text_means_a_text_borrowed_or_owned(rt: HostRuntime) -> Result<(), Fail> {
     for (text, place) in QUERIES {
         assert!(rt; means(&mut map, *text, *place)?, "{text}");
     }
-    assert_eq!(rt; map.remove("agent"), Some(9));
+    assert!(rt; map.remove("agent") == Some(9));
     assert!(rt; finds(&map, "max", Some(1)) && finds(&map, "agent", None));
     Ok(())
 }
@@ -314,7 +308,7 @@ fn bytes_mean_the_boxed_slice_of_them(rt: HostRuntime) -> Result<(), Fail> {
     for (text, place) in QUERIES {
         assert!(rt; means(&mut map, text.as_bytes(), *place)?, "{text}");
     }
-    assert_eq!(rt; map.remove(b"agent".as_slice()), Some(9));
+    assert!(rt; map.remove(b"agent".as_slice()) == Some(9));
     assert!(rt; finds(&map, b"max".as_slice(), Some(1)));
     Ok(())
 }

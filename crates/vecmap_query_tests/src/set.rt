@@ -143,9 +143,9 @@ fn a_query_that_is_no_element_is_handed_by_value(rt: HostRuntime) -> Result<(), 
     let mut set = item_set(rt.alloc(), ITEMS)?;
     assert!(rt; set.contains(Number(1)) && !set.contains(Number(3)));
     let (index, stored) = set.get_full(Number(1)).ok_or("absent")?;
-    assert_eq!(rt; (index, stored.number, stored.mark), (1, 1, 'b'));
+    assert!(rt; (index, stored.number, stored.mark) == (1, 1, 'b'));
     let taken = set.swap_take(Number(9)).ok_or("absent")?;
-    assert_eq!(rt; (taken.number, taken.mark), (9, 'a'));
+    assert!(rt; (taken.number, taken.mark) == (9, 'a'));
     assert!(rt; has_items(set.as_slice(), &[(2, 'd'), (1, 'b'), (5, 'c')]));
     assert!(rt; set.remove(Number(1)) && !set.remove(Number(1)));
     assert!(rt; has_items(set.as_slice(), &[(2, 'd'), (5, 'c')]));
@@ -169,19 +169,16 @@ fn a_text_means_the_string_of_its_bytes(rt: HostRuntime) -> Result<(), Fail> {
 fn a_text_is_handed_as_it_stands(rt: HostRuntime) -> Result<(), Fail> {
     let mut set = text_set(rt.alloc(), TEXTS)?;
     assert!(rt; set.contains("max") && !set.contains("ma"));
-    assert_eq!(rt;
-        (set.get_index_of("max"), set.get_index_of("")),
-        (Some(2), None)
-    );
+    assert!(rt; (set.get_index_of("max"), set.get_index_of("")) == (Some(2), None));
     let (index, stored) = set.get_full("é").ok_or("absent")?;
-    assert_eq!(rt; (index, stored.as_str()), (3, "é"));
-    assert_eq!(rt; set.get("agent").ok_or("absent")?.as_str(), "agent");
-    assert_eq!(rt; set.swap_take("age").ok_or("absent")?.as_str(), "age");
+    assert!(rt; (index, stored.as_str()) == (3, "é"));
+    assert!(rt; set.get("agent").ok_or("absent")?.as_str() == "agent");
+    assert!(rt; set.swap_take("age").ok_or("absent")?.as_str() == "age");
     assert!(rt; has_texts(set.as_slice(), &["é", "agent", "max"]));
     assert!(rt; set.remove("é") && !set.swap_remove("é") && set.take("é").is_none());
     assert!(rt; has_texts(set.as_slice(), &["agent", "max"]));
     assert!(rt; set.swap_remove("agent"));
-    assert_eq!(rt; set.take("max").ok_or("absent")?.as_str(), "max");
+    assert!(rt; set.take("max").ok_or("absent")?.as_str() == "max");
     assert!(rt; set.is_empty() && !set.contains("max"));
     Ok(())
 }

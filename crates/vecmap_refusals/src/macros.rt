@@ -17,9 +17,9 @@ fn ports(alloc: Global) -> Result<VecSet<u32>, AllocError> {
 #[test]
 fn macros_make_all_or_hand_the_refusal_on(rt: HostRuntime) -> Result<(), Fail> {
     let map = make!(rt; ages(rt.alloc()));
-    assert_eq!(rt; map.as_slice(), [(7, 30), (8, 20)].as_slice());
+    assert!(rt; map.as_slice() == [(7, 30), (8, 20)].as_slice());
     let set = make!(rt; ports(rt.alloc()));
-    assert_eq!(rt; set.as_slice(), [2, 1].as_slice());
+    assert!(rt; set.as_slice() == [2, 1].as_slice());
     Ok(())
 }
 
@@ -30,7 +30,7 @@ fn put_pair_puts_the_pair_or_nothing(rt: HostRuntime) -> Result<(), Fail> {
     if put_pair(&mut map, make_item(7, 'x'), 70).is_err() {
         tell(&rt)?;
         assert!(rt; has_pairs(map.as_slice(), &[(1, 'a', 30), (2, 'b', 20)]));
-        assert_eq!(rt; map.capacity(), 2);
+        assert!(rt; map.capacity() == 2);
         put_pair(&mut map, make_item(7, 'x'), 70)?;
     }
     assert!(rt; has_pairs(map.as_slice(), &[(1, 'a', 30), (2, 'b', 20), (7, 'x', 70)]));
@@ -44,7 +44,7 @@ fn add_item_adds_the_element_or_nothing(rt: HostRuntime) -> Result<(), Fail> {
     if add_item(&mut set, make_item(7, 'x')).is_err() {
         tell(&rt)?;
         assert!(rt; has_items(set.as_slice(), &[(1, 'a'), (2, 'b')]));
-        assert_eq!(rt; set.capacity(), 2);
+        assert!(rt; set.capacity() == 2);
         add_item(&mut set, make_item(7, 'x'))?;
     }
     assert!(rt; has_items(set.as_slice(), &[(1, 'a'), (2, 'b'), (7, 'x')]));

@@ -52,13 +52,13 @@ fn append_adds_all_and_leaves_the_room_of_the_other(rt: HostRuntime) -> Result<(
     let mut other = set_of(rt.alloc(), &[3, 4, 5])?;
     let room = other.capacity();
     set.append(&mut other)?;
-    assert_eq!(rt; set.as_slice(), [3, 2, 1, 4, 5].as_slice());
+    assert!(rt; set.as_slice() == [3, 2, 1, 4, 5].as_slice());
     assert!(rt; 6 <= set.capacity());
-    assert_eq!(rt; (other.len(), other.capacity()), (0, room));
+    assert!(rt; (other.len(), other.capacity()) == (0, room));
     let granted = set.capacity();
     set.append(&mut other)?;
-    assert_eq!(rt; set.as_slice(), [3, 2, 1, 4, 5].as_slice());
-    assert_eq!(rt; (set.capacity(), other.capacity()), (granted, room));
+    assert!(rt; set.as_slice() == [3, 2, 1, 4, 5].as_slice());
+    assert!(rt; (set.capacity(), other.capacity()) == (granted, room));
     Ok(())
 }
 
@@ -68,15 +68,15 @@ fn a_size_hint_decides_nothing(rt: HostRuntime) -> Result<(), Fail> {
     for hint in [0, 1, 4, 20, usize::MAX] {
         let hinted = || Hinted { items, hint };
         let set = VecSet::from_iter(rt.alloc(), hinted().copied())?;
-        assert_eq!(rt; set.as_slice(), [1, 2, 3].as_slice());
+        assert!(rt; set.as_slice() == [1, 2, 3].as_slice());
         let set: VecSet<i32> = hinted().copied().collect(rt.alloc())?;
         assert!(rt; set.as_slice() == [1, 2, 3].as_slice());
         let mut set = set_of(rt.alloc(), &[3, 7])?;
         set.extend(hinted().copied())?;
-        assert_eq!(rt; set.as_slice(), [3, 7, 1, 2].as_slice());
+        assert!(rt; set.as_slice() == [3, 7, 1, 2].as_slice());
         let mut set = set_of(rt.alloc(), &[3, 7])?;
         set.extend_copied(hinted())?;
-        assert_eq!(rt; set.as_slice(), [3, 7, 1, 2].as_slice());
+        assert!(rt; set.as_slice() == [3, 7, 1, 2].as_slice());
     }
     Ok(())
 }
@@ -88,7 +88,7 @@ fn nothing_is_reserved_for_elements_that_are_there(rt: HostRuntime) -> Result<()
     let room = set.capacity();
     set.extend([2, 1, 2])?;
     set.extend_copied(&[1, 1, 2])?;
-    assert_eq!(rt; set.as_slice(), [1, 2].as_slice());
-    assert_eq!(rt; set.capacity(), room);
+    assert!(rt; set.as_slice() == [1, 2].as_slice());
+    assert!(rt; set.capacity() == room);
     Ok(())
 }

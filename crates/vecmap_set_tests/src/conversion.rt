@@ -16,8 +16,8 @@ fn a_vector_loses_its_repeats(rt: HostRuntime) -> Result<(), Fail> {
         let items = numbers.to_vec(rt.alloc())?;
         let room = items.capacity();
         let set: VecSet<u32> = VecSet::from(items);
-        assert_eq!(rt; set.as_slice(), expected);
-        assert_eq!(rt; set.capacity(), room);
+        assert!(rt; set.as_slice() == expected);
+        assert!(rt; set.capacity() == room);
     }
     Ok(())
 }
@@ -29,7 +29,7 @@ fn a_vector_gives_the_set_of_its_inserts(rt: HostRuntime) -> Result<(), Fail> {
     assert!(rt; has_items(set.as_slice(), &[(1, 'f'), (2, 'b')]));
     let (counted, comparisons) = VecSet::from_vec_counted(items.to_vec(rt.alloc())?);
     assert!(rt; has_items(counted.as_slice(), &[(1, 'f'), (2, 'b')]));
-    assert_eq!(rt; comparisons, 2);
+    assert!(rt; comparisons == 2);
     let mut inserted = VecSet::new(rt.alloc());
     for item in items {
         inserted.insert(item)?;
@@ -48,12 +48,12 @@ fn a_vector_is_made_a_set_by_the_comparisons_it_counts(rt: HostRuntime) -> Resul
     ] {
         let log = Log::new();
         let (_set, comparisons) = VecSet::from_vec_counted(told_items(rt.alloc(), &log, numbers)?);
-        assert_eq!(rt; comparisons, expected);
-        assert_eq!(rt; u128::from(log.comparisons()), expected);
+        assert!(rt; comparisons == expected);
+        assert!(rt; u128::from(log.comparisons()) == expected);
         assert!(rt; !log.compares_after_drop());
         let log = Log::new();
         let _set = VecSet::from(told_items(rt.alloc(), &log, numbers)?);
-        assert_eq!(rt; u128::from(log.comparisons()), expected);
+        assert!(rt; u128::from(log.comparisons()) == expected);
         assert!(rt; !log.compares_after_drop());
     }
     Ok(())
@@ -63,9 +63,9 @@ fn a_vector_is_made_a_set_by_the_comparisons_it_counts(rt: HostRuntime) -> Resul
 fn clones_hold_the_elements_in_their_order(rt: HostRuntime) -> Result<(), Fail> {
     for items in [[].as_slice(), [2, 1, 3].as_slice()] {
         let set = set_of(rt.alloc(), items)?;
-        assert_eq!(rt; set.clone()?.as_slice(), items);
-        assert_eq!(rt; set.to_vec()?.as_slice(), items);
-        assert_eq!(rt; set.as_slice(), items);
+        assert!(rt; set.clone()?.as_slice() == items);
+        assert!(rt; set.to_vec()?.as_slice() == items);
+        assert!(rt; set.as_slice() == items);
     }
     Ok(())
 }
@@ -77,13 +77,13 @@ fn distinct_elements_are_told_from_repeats(rt: HostRuntime) -> Result<(), Fail> 
         ([2, 1].as_slice(), true),
         ([1, 2, 1].as_slice(), false),
     ] {
-        assert_eq!(rt; items_distinct(items), is_distinct);
+        assert!(rt; items_distinct(items) == is_distinct);
         let items_again = items.to_vec(rt.alloc())?;
         if items_distinct(&items_again) {
             let room = items_again.capacity();
             let set = VecSet::from_vec_unchecked(items_again);
-            assert_eq!(rt; set.as_slice(), items);
-            assert_eq!(rt; set.capacity(), room);
+            assert!(rt; set.as_slice() == items);
+            assert!(rt; set.capacity() == room);
         }
     }
     Ok(())

@@ -33,14 +33,12 @@ fn sets_are_related_by_their_elements_alone(rt: HostRuntime) -> Result<(), Fail>
             set.is_superset(&other),
             set.is_disjoint(&other),
         );
-        assert_eq!(rt;
-            answers,
-            (is_subset, is_superset, is_disjoint),
+        assert!(rt;
+            answers == (is_subset, is_superset, is_disjoint),
             "{set:?} and {other:?}"
         );
-        assert_eq!(rt;
-            set == other,
-            is_subset && is_superset,
+        assert!(rt;
+            (set == other) == (is_subset && is_superset),
             "{set:?} and {other:?}"
         );
     }
@@ -60,17 +58,17 @@ fn relations_compare_no_more_than_they_say(rt: HostRuntime) -> Result<(), Fail> 
         let set = VecSet::from(told_items(rt.alloc(), &log, numbers)?);
         let other = VecSet::from(told_items(rt.alloc(), &log, others)?);
         let made = log.comparisons();
-        assert_eq!(rt; set == other, is_equal);
+        assert!(rt; (set == other) == is_equal);
         let equal = log.comparisons();
-        assert_eq!(rt; equal.wrapping_sub(made), to_equal);
+        assert!(rt; equal.wrapping_sub(made) == to_equal);
         let _is_subset = set.is_subset(&other);
         let contained = log.comparisons();
-        assert_eq!(rt; contained.wrapping_sub(equal), to_contain);
+        assert!(rt; contained.wrapping_sub(equal) == to_contain);
         let _is_superset = set.is_superset(&other);
         let held = log.comparisons();
-        assert_eq!(rt; held.wrapping_sub(contained), to_hold);
+        assert!(rt; held.wrapping_sub(contained) == to_hold);
         assert!(rt; !set.is_disjoint(&other));
-        assert_eq!(rt; log.comparisons().wrapping_sub(held), to_meet);
+        assert!(rt; log.comparisons().wrapping_sub(held) == to_meet);
     }
     Ok(())
 }

@@ -37,11 +37,11 @@ fn clones_give_what_is_left(rt: HostRuntime) -> Result<(), Fail> {
     for ends in 0..64 {
         let read = |element: &u32| *element;
         let mut lent = set.iter();
-        assert_eq!(rt; (lent.next(), lent.next_back()), (Some(&1), Some(&4)));
+        assert!(rt; (lent.next(), lent.next_back()) == (Some(&1), Some(&4)));
         assert!(rt; pulls_as_list(lent.clone(), read, &ELEMENTS[1..3], ends));
         assert!(rt; pulls_as_list(lent, read, &ELEMENTS[1..3], ends));
         let mut owned = set.clone()?.into_iter();
-        assert_eq!(rt; (owned.next(), owned.next_back()), (Some(1), Some(4)));
+        assert!(rt; (owned.next(), owned.next_back()) == (Some(1), Some(4)));
         assert!(rt; pulls_as_list(owned.clone()?, |element| element, &ELEMENTS[1..3], ends));
         assert!(rt; pulls_as_list(owned, |element| element, &ELEMENTS[1..3], ends));
     }
@@ -54,11 +54,11 @@ fn a_dropped_iterator_drops_the_rest_once(rt: HostRuntime) -> Result<(), Fail> {
     let set = VecSet::from(told_items(rt.alloc(), &log, &[1, 2, 3, 4])?);
     let mut elements = set.into_iter();
     let taken = (elements.next(), elements.next_back());
-    assert_eq!(rt; log.drops(), 0);
+    assert!(rt; log.drops() == 0);
     drop(elements);
-    assert_eq!(rt; log.drops(), 2);
+    assert!(rt; log.drops() == 2);
     drop(taken);
-    assert_eq!(rt; log.drops(), 4);
+    assert!(rt; log.drops() == 4);
     Ok(())
 }
 
@@ -66,10 +66,10 @@ fn a_dropped_iterator_drops_the_rest_once(rt: HostRuntime) -> Result<(), Fail> {
 fn iterators_print_what_is_left(rt: HostRuntime) -> Result<(), Fail> {
     let set = VecSet::from_slice(rt.alloc(), &ELEMENTS)?;
     let mut lent = set.iter();
-    assert_eq!(rt; lent.next_back(), Some(&4));
-    assert_eq!(rt; format!(in rt.alloc(); "{lent:?}")?.as_str(), "[1, 2, 3]");
+    assert!(rt; lent.next_back() == Some(&4));
+    assert!(rt; format!(in rt.alloc(); "{lent:?}")?.as_str() == "[1, 2, 3]");
     let mut owned = set.into_iter();
-    assert_eq!(rt; owned.next(), Some(1));
-    assert_eq!(rt; format!(in rt.alloc(); "{owned:?}")?.as_str(), "[2, 3, 4]");
+    assert!(rt; owned.next() == Some(1));
+    assert!(rt; format!(in rt.alloc(); "{owned:?}")?.as_str() == "[2, 3, 4]");
     Ok(())
 }

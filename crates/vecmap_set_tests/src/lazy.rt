@@ -165,24 +165,24 @@ macro_rules! assert_pulls {
             let mut iter = $iter;
             let mut left: Parts<'_> = $left;
             for step in 0..6_u32 {
-                assert_eq!($rt; iter.size_hint(), left.hint());
+                assert!($rt; iter.size_hint() == left.hint());
                 let (item, expected) = if ends >> step & 1 == 0 {
                     (iter.next(), left.front())
                 } else {
                     (iter.next_back(), left.back())
                 };
-                assert_eq!($rt; item.map(|item| (item.number, item.mark)), expected);
+                assert!($rt; item.map(|item| (item.number, item.mark)) == expected);
                 if step == 1 {
                     let mut copy = iter.clone();
                     let mut copy_left = left;
                     for _pull in 0..6 {
                         let item = copy.next().map(|item| (item.number, item.mark));
-                        assert_eq!($rt; item, copy_left.front());
-                        assert_eq!($rt; copy.size_hint(), copy_left.hint());
+                        assert!($rt; item == copy_left.front());
+                        assert!($rt; copy.size_hint() == copy_left.hint());
                     }
                 }
             }
-            assert_eq!($rt; iter.size_hint(), left.hint());
+            assert!($rt; iter.size_hint() == left.hint());
         }
     };
 }
@@ -279,23 +279,23 @@ fn hints_follow_the_pulls(rt: HostRuntime) -> Result<(), Fail> {
     let a = set_of(rt.alloc(), &[1, 2, 3, 4])?;
     let b = set_of(rt.alloc(), &[2, 4])?;
     let mut lacking = a.difference(&b);
-    assert_eq!(rt; lacking.size_hint(), (0, Some(4)));
-    assert_eq!(rt; lacking.next_back(), Some(&3));
-    assert_eq!(rt; lacking.size_hint(), (0, Some(2)));
-    assert_eq!(rt; lacking.next(), Some(&1));
-    assert_eq!(rt; lacking.size_hint(), (0, Some(1)));
-    assert_eq!(rt; lacking.next_back(), None);
-    assert_eq!(rt; lacking.size_hint(), (0, Some(0)));
+    assert!(rt; lacking.size_hint() == (0, Some(4)));
+    assert!(rt; lacking.next_back() == Some(&3));
+    assert!(rt; lacking.size_hint() == (0, Some(2)));
+    assert!(rt; lacking.next() == Some(&1));
+    assert!(rt; lacking.size_hint() == (0, Some(1)));
+    assert!(rt; lacking.next_back() == None);
+    assert!(rt; lacking.size_hint() == (0, Some(0)));
     let a = set_of(rt.alloc(), &[1, 2, 3])?;
     let b = set_of(rt.alloc(), &[3, 4])?;
     let mut all = a.union(&b);
-    assert_eq!(rt; all.size_hint(), (3, Some(5)));
-    assert_eq!(rt; all.next_back(), Some(&4));
-    assert_eq!(rt; all.next(), Some(&1));
-    assert_eq!(rt; all.next_back(), Some(&3));
-    assert_eq!(rt; all.next(), Some(&2));
-    assert_eq!(rt; all.next(), None);
-    assert_eq!(rt; all.next_back(), None);
+    assert!(rt; all.size_hint() == (3, Some(5)));
+    assert!(rt; all.next_back() == Some(&4));
+    assert!(rt; all.next() == Some(&1));
+    assert!(rt; all.next_back() == Some(&3));
+    assert!(rt; all.next() == Some(&2));
+    assert!(rt; all.next() == None);
+    assert!(rt; all.next_back() == None);
     Ok(())
 }
 
@@ -318,21 +318,21 @@ fn lists_come_in_their_order(rt: HostRuntime) -> Result<(), Fail> {
     let a = set_of(rt.alloc(), &[1, 2, 3])?;
     let b = VecSet::from([4, 2, 3, 4].to_vec(rt.alloc())?);
     let difference: Vec<u32> = a.difference(&b).copied().collect(rt.alloc())?;
-    assert_eq!(rt; difference.as_slice(), [1].as_slice());
+    assert!(rt; difference.as_slice() == [1].as_slice());
     let intersection: Vec<u32> = a.intersection(&b).copied().collect(rt.alloc())?;
-    assert_eq!(rt; intersection.as_slice(), [2, 3].as_slice());
+    assert!(rt; intersection.as_slice() == [2, 3].as_slice());
     let apart: Vec<u32> = a.symmetric_difference(&b).copied().collect(rt.alloc())?;
-    assert_eq!(rt; apart.as_slice(), [1, 4].as_slice());
+    assert!(rt; apart.as_slice() == [1, 4].as_slice());
     let all: Vec<u32> = a.union(&b).copied().collect(rt.alloc())?;
-    assert_eq!(rt; all.as_slice(), [1, 2, 3, 4].as_slice());
+    assert!(rt; all.as_slice() == [1, 2, 3, 4].as_slice());
     let a = set_of(rt.alloc(), &[3, 2, 1])?;
     let b = set_of(rt.alloc(), &[1, 2])?;
     let shared: Vec<u32> = a.intersection(&b).copied().collect(rt.alloc())?;
-    assert_eq!(rt; shared.as_slice(), [1, 2].as_slice());
+    assert!(rt; shared.as_slice() == [1, 2].as_slice());
     let a = set_of(rt.alloc(), &[1])?;
     let b = set_of(rt.alloc(), &[2, 3])?;
     let all: Vec<u32> = a.union(&b).copied().collect(rt.alloc())?;
-    assert_eq!(rt; all.as_slice(), [2, 3, 1].as_slice());
+    assert!(rt; all.as_slice() == [2, 3, 1].as_slice());
     Ok(())
 }
 
@@ -342,7 +342,7 @@ macro_rules! assert_comparisons {
         for expected in $expected {
             let before = $log.comparisons();
             let _item = $iter.$pull();
-            assert_eq!($rt; $log.comparisons().wrapping_sub(before), expected);
+            assert!($rt; $log.comparisons().wrapping_sub(before) == expected);
         }
     };
 }
@@ -362,7 +362,7 @@ fn pulls_compare_no_more_than_they_need(rt: HostRuntime) -> Result<(), Fail> {
     let mut all = a.union(&b);
     let mut all_back = all.clone();
     let _hints = (lacking.size_hint(), all.size_hint());
-    assert_eq!(rt; log.comparisons(), made);
+    assert!(rt; log.comparisons() == made);
     assert_comparisons!(rt, log, lacking.next, [2, 3, 2, 0]);
     assert_comparisons!(rt, log, lacking_back.next_back, [4, 3, 0, 0]);
     assert_comparisons!(rt, log, shared.next, [2, 4, 0]);
@@ -383,6 +383,6 @@ fn what_is_left_is_printed(rt: HostRuntime) -> Result<(), Fail> {
     let (lacking, shared) = (a.difference(&b), a.intersection(&b));
     let apart = a.symmetric_difference(&b);
     let text = format!(in rt.alloc(); "{lacking:?} {shared:?} {apart:?} {all:?}")?;
-    assert_eq!(rt; text.as_str(), "[1] [2, 3] [1, 4] [2, 3, 4]");
+    assert!(rt; text.as_str() == "[1] [2, 3] [1, 4] [2, 3, 4]");
     Ok(())
 }

@@ -11,12 +11,9 @@ fn a_lookup_answers_the_stored_element(rt: HostRuntime) -> Result<(), Fail> {
     )?;
     let two = make_item(2, '?');
     assert!(rt; set.contains(&two));
-    assert_eq!(rt; set.get_index_of(&two), Some(1));
-    assert_eq!(rt; set.get(&two).map(|item| item.mark), Some('y'));
-    assert_eq!(rt;
-        set.get_full(&two).map(|found| (found.0, found.1.mark)),
-        Some((1, 'y'))
-    );
+    assert!(rt; set.get_index_of(&two) == Some(1));
+    assert!(rt; set.get(&two).map(|item| item.mark) == Some('y'));
+    assert!(rt; set.get_full(&two).map(|found| (found.0, found.1.mark)) == Some((1, 'y')));
     Ok(())
 }
 
@@ -25,7 +22,7 @@ fn a_lookup_of_an_absent_element_answers_none(rt: HostRuntime) -> Result<(), Fai
     let set = set_of(rt.alloc(), &[make_item(1, 'x'), make_item(2, 'y')])?;
     let nine = make_item(9, 'x');
     assert!(rt; !set.contains(&nine));
-    assert_eq!(rt; set.get_index_of(&nine), None);
+    assert!(rt; set.get_index_of(&nine) == None);
     assert!(rt; set.get(&nine).is_none());
     assert!(rt; set.get_full(&nine).is_none());
     Ok(())
@@ -34,15 +31,15 @@ fn a_lookup_of_an_absent_element_answers_none(rt: HostRuntime) -> Result<(), Fai
 #[test]
 fn a_place_answers_its_element(rt: HostRuntime) -> Result<(), Fail> {
     let set = set_of(rt.alloc(), &[30, 10, 20])?;
-    assert_eq!(rt; set.first().copied(), Some(30));
-    assert_eq!(rt; set.last().copied(), Some(20));
-    assert_eq!(rt; set.get_index(0).copied(), Some(30));
-    assert_eq!(rt; set.get_index(1).copied(), Some(10));
-    assert_eq!(rt; set.get_index(2).copied(), Some(20));
-    assert_eq!(rt; set.get_index(3).copied(), None);
+    assert!(rt; set.first().copied() == Some(30));
+    assert!(rt; set.last().copied() == Some(20));
+    assert!(rt; set.get_index(0).copied() == Some(30));
+    assert!(rt; set.get_index(1).copied() == Some(10));
+    assert!(rt; set.get_index(2).copied() == Some(20));
+    assert!(rt; set.get_index(3).copied() == None);
     assert!(rt; set.get_index(usize::MAX).is_none());
-    assert_eq!(rt; set.len(), 3);
-    assert_eq!(rt; (set[0], set[1], set[2]), (30, 10, 20));
+    assert!(rt; set.len() == 3);
+    assert!(rt; (set[0], set[1], set[2]) == (30, 10, 20));
     let empty: VecSet<u32> = VecSet::new(rt.alloc());
     assert!(rt; empty.first().is_none() && empty.last().is_none() && empty.get_index(0).is_none());
     Ok(())
@@ -58,7 +55,7 @@ fn a_text_is_found_by_its_bytes(rt: HostRuntime) -> Result<(), Fail> {
     assert!(rt; !set.contains_str("d"));
     assert!(rt; set.remove_str("a"));
     assert!(rt; !set.remove_str("a"));
-    assert_eq!(rt; set.len(), 2);
+    assert!(rt; set.len() == 2);
     assert!(rt; set.get_index(0).is_some_and(|item| item.as_str() == "b"));
     assert!(rt; set.get_index(1).is_some_and(|item| item.as_str() == "c"));
     Ok(())

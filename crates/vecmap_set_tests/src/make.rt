@@ -14,7 +14,7 @@ fn a_slice_keeps_the_first_of_equal_elements(rt: HostRuntime) -> Result<(), Fail
 #[test]
 fn a_slice_makes_room_as_its_elements_come(rt: HostRuntime) -> Result<(), Fail> {
     let set = VecSet::from_slice(rt.alloc(), &[1; 9])?;
-    assert_eq!(rt; set.as_slice(), [1].as_slice());
+    assert!(rt; set.as_slice() == [1].as_slice());
     assert!(rt; set.capacity() < 9);
     Ok(())
 }

@@ -57,12 +57,12 @@ fn operators_keep_the_order_of_the_left_set(rt: HostRuntime) -> Result<(), Fail>
     ] {
         let a: VecSet<u32> = set_of(rt.alloc(), left)?;
         let b: VecSet<u32> = set_of(rt.alloc(), right)?;
-        assert_eq!(rt; (&a & &b)?.as_slice(), and, "{a:?} and {b:?}");
-        assert_eq!(rt; (&a | &b)?.as_slice(), or, "{a:?} and {b:?}");
-        assert_eq!(rt; (&a ^ &b)?.as_slice(), xor, "{a:?} and {b:?}");
-        assert_eq!(rt; (&a - &b)?.as_slice(), minus, "{a:?} and {b:?}");
-        assert_eq!(rt; a.as_slice(), left);
-        assert_eq!(rt; b.as_slice(), right);
+        assert!(rt; (&a & &b)?.as_slice() == and, "{a:?} and {b:?}");
+        assert!(rt; (&a | &b)?.as_slice() == or, "{a:?} and {b:?}");
+        assert!(rt; (&a ^ &b)?.as_slice() == xor, "{a:?} and {b:?}");
+        assert!(rt; (&a - &b)?.as_slice() == minus, "{a:?} and {b:?}");
+        assert!(rt; a.as_slice() == left);
+        assert!(rt; b.as_slice() == right);
     }
     Ok(())
 }

@@ -17,14 +17,11 @@ fn a_removal_by_element_shifts_what_follows(rt: HostRuntime) -> Result<(), Fail>
     assert!(rt; set.remove(&make_item(2, '?')));
     assert!(rt; has_items(set.as_slice(), &[(1, 'a'), (3, 'c'), (4, 'd')]));
     assert!(rt; !set.remove(&make_item(2, '?')));
-    assert_eq!(rt;
-        set.take(&make_item(1, '?')).map(|item| item.mark),
-        Some('a')
-    );
+    assert!(rt; set.take(&make_item(1, '?')).map(|item| item.mark) == Some('a'));
     assert!(rt; has_items(set.as_slice(), &[(3, 'c'), (4, 'd')]));
     assert!(rt; set.take(&make_item(1, '?')).is_none());
     assert!(rt; has_items(set.as_slice(), &[(3, 'c'), (4, 'd')]));
-    assert_eq!(rt; set.capacity(), room);
+    assert!(rt; set.capacity() == room);
     Ok(())
 }
 
@@ -43,25 +40,22 @@ fn a_swap_removal_by_element_puts_the_last_in_its_place(rt: HostRuntime) -> Resu
     assert!(rt; set.swap_remove(&make_item(1, '?')));
     assert!(rt; has_items(set.as_slice(), &[(4, 'd'), (2, 'b'), (3, 'c')]));
     assert!(rt; !set.swap_remove(&make_item(1, '?')));
-    assert_eq!(rt;
-        set.swap_take(&make_item(4, '?')).map(|item| item.mark),
-        Some('d')
-    );
+    assert!(rt; set.swap_take(&make_item(4, '?')).map(|item| item.mark) == Some('d'));
     assert!(rt; has_items(set.as_slice(), &[(3, 'c'), (2, 'b')]));
     assert!(rt;
         !set.swap_remove(&make_item(4, '?')) && set.swap_take(&make_item(4, '?')).is_none()
     );
-    assert_eq!(rt; set.capacity(), room);
+    assert!(rt; set.capacity() == room);
     Ok(())
 }
 
 #[test]
 fn an_element_is_swapped_out_once(rt: HostRuntime) -> Result<(), Fail> {
     let mut set = set_of(rt.alloc(), &[1, 2, 3, 4])?;
-    assert_eq!(rt; set.swap_take(&2), Some(2));
-    assert_eq!(rt; set.as_slice(), [1, 4, 3].as_slice());
-    assert_eq!(rt; set.swap_take(&2), None);
-    assert_eq!(rt; set.as_slice(), [1, 4, 3].as_slice());
+    assert!(rt; set.swap_take(&2) == Some(2));
+    assert!(rt; set.as_slice() == [1, 4, 3].as_slice());
+    assert!(rt; set.swap_take(&2) == None);
+    assert!(rt; set.as_slice() == [1, 4, 3].as_slice());
     Ok(())
 }
 
@@ -74,12 +68,12 @@ fn a_removal_by_place_shifts_or_swaps(rt: HostRuntime) -> Result<(), Fail> {
     ] {
         let mut set = set_of(rt.alloc(), &["foo", "bar", "baz", "qux"])?;
         assert!(rt; index < set.len());
-        assert_eq!(rt; set.remove_index(index), item);
-        assert_eq!(rt; set.as_slice(), shifted.as_slice());
+        assert!(rt; set.remove_index(index) == item);
+        assert!(rt; set.as_slice() == shifted.as_slice());
         let mut set = set_of(rt.alloc(), &["foo", "bar", "baz", "qux"])?;
         assert!(rt; index < set.len());
-        assert_eq!(rt; set.swap_remove_index(index), item);
-        assert_eq!(rt; set.as_slice(), swapped.as_slice());
+        assert!(rt; set.swap_remove_index(index) == item);
+        assert!(rt; set.as_slice() == swapped.as_slice());
     }
     Ok(())
 }
@@ -88,15 +82,15 @@ fn a_removal_by_place_shifts_or_swaps(rt: HostRuntime) -> Result<(), Fail> {
 fn the_end_of_a_set_goes(rt: HostRuntime) -> Result<(), Fail> {
     let mut set = set_of(rt.alloc(), &[1, 2, 3, 4])?;
     let room = set.capacity();
-    assert_eq!(rt; set.pop(), Some(4));
-    assert_eq!(rt; set.as_slice(), [1, 2, 3].as_slice());
+    assert!(rt; set.pop() == Some(4));
+    assert!(rt; set.as_slice() == [1, 2, 3].as_slice());
     set.truncate(3);
-    assert_eq!(rt; set.as_slice(), [1, 2, 3].as_slice());
+    assert!(rt; set.as_slice() == [1, 2, 3].as_slice());
     set.truncate(1);
-    assert_eq!(rt; set.as_slice(), [1].as_slice());
+    assert!(rt; set.as_slice() == [1].as_slice());
     set.clear();
     assert!(rt; set.is_empty());
-    assert_eq!(rt; set.pop(), None);
-    assert_eq!(rt; set.capacity(), room);
+    assert!(rt; set.pop() == None);
+    assert!(rt; set.capacity() == room);
     Ok(())
 }

@@ -22,9 +22,9 @@ fn retain_asks_each_in_order_and_keeps_where_it_answers_true(rt: HostRuntime) ->
         turn = !turn;
         !turn
     });
-    assert_eq!(rt; asked.as_slice(), ['a', 'b', 'c', 'd'].as_slice());
+    assert!(rt; asked.as_slice() == ['a', 'b', 'c', 'd'].as_slice());
     assert!(rt; has_items(set.as_slice(), &[(2, 'b'), (4, 'd')]));
-    assert_eq!(rt; set.capacity(), room);
+    assert!(rt; set.capacity() == room);
     set.retain(|_item| true);
     assert!(rt; has_items(set.as_slice(), &[(2, 'b'), (4, 'd')]));
     set.retain(|_item| false);
@@ -41,8 +41,8 @@ fn each_element_that_goes_is_dropped_once(rt: HostRuntime) -> Result<(), Fail> {
         turn = !turn;
         turn
     });
-    assert_eq!(rt; (set.len(), log.drops()), (3, 2));
+    assert!(rt; (set.len(), log.drops()) == (3, 2));
     drop(set);
-    assert_eq!(rt; log.drops(), 5);
+    assert!(rt; log.drops() == 5);
     Ok(())
 }

@@ -7,12 +7,12 @@ use vecmap_fixtures::set_of;
 fn an_empty_set_has_no_element_and_no_room(rt: HostRuntime) -> Result<(), Fail> {
     let mut set: VecSet<u32> = VecSet::new(rt.alloc());
     assert!(rt; set.is_empty() && set.as_slice().is_empty());
-    assert_eq!(rt; (set.len(), set.capacity()), (0, 0));
+    assert!(rt; (set.len(), set.capacity()) == (0, 0));
     set.insert(7)?;
     assert!(rt; !set.is_empty());
-    assert_eq!(rt; set.len(), 1);
+    assert!(rt; set.len() == 1);
     let none: VecSet<u32> = VecSet::with_capacity(rt.alloc(), 0)?;
-    assert_eq!(rt; (none.len(), none.capacity()), (0, 0));
+    assert!(rt; (none.len(), none.capacity()) == (0, 0));
     Ok(())
 }
 
@@ -24,7 +24,7 @@ fn room_that_was_made_is_there(rt: HostRuntime) -> Result<(), Fail> {
     for item in [5, 6, 7] {
         assert!(rt; set.insert(item)?);
     }
-    assert_eq!(rt; set.capacity(), room);
+    assert!(rt; set.capacity() == room);
     set.reserve(4)?;
     assert!(rt; set.capacity() >= 7);
     set.reserve_exact(9)?;
@@ -33,7 +33,7 @@ fn room_that_was_made_is_there(rt: HostRuntime) -> Result<(), Fail> {
     assert!(rt; set.capacity() >= 16);
     set.try_reserve_exact(17)?;
     assert!(rt; set.capacity() >= 20);
-    assert_eq!(rt; set.as_slice(), [5, 6, 7].as_slice());
+    assert!(rt; set.as_slice() == [5, 6, 7].as_slice());
     Ok(())
 }
 
@@ -46,8 +46,8 @@ fn room_that_suffices_stays(rt: HostRuntime) -> Result<(), Fail> {
     set.reserve_exact(7)?;
     set.try_reserve(7)?;
     set.try_reserve_exact(7)?;
-    assert_eq!(rt; set.capacity(), room);
-    assert_eq!(rt; set.as_slice(), [5].as_slice());
+    assert!(rt; set.capacity() == room);
+    assert!(rt; set.as_slice() == [5].as_slice());
     Ok(())
 }
 
@@ -59,8 +59,8 @@ fn room_that_no_vector_has_is_refused(rt: HostRuntime) -> Result<(), Fail> {
     assert!(rt; set.reserve_exact(usize::MAX).is_err());
     assert!(rt; set.try_reserve(usize::MAX).is_err());
     assert!(rt; set.try_reserve_exact(usize::MAX).is_err());
-    assert_eq!(rt; set.capacity(), room);
-    assert_eq!(rt; set.as_slice(), [1, 2].as_slice());
+    assert!(rt; set.capacity() == room);
+    assert!(rt; set.as_slice() == [1, 2].as_slice());
     assert!(rt; VecSet::<u32>::with_capacity(rt.alloc(), usize::MAX).is_err());
     Ok(())
 }
@@ -73,15 +73,15 @@ fn shrinking_stops_at_its_limit(rt: HostRuntime) -> Result<(), Fail> {
     }
     let room = set.capacity();
     set.shrink_to(20);
-    assert_eq!(rt; set.capacity(), room);
+    assert!(rt; set.capacity() == room);
     set.shrink_to(6);
     assert!(rt; 6 <= set.capacity() && set.capacity() < room);
     let lower = set.capacity();
     set.shrink_to(6);
-    assert_eq!(rt; set.capacity(), lower);
+    assert!(rt; set.capacity() == lower);
     set.shrink_to(0);
     assert!(rt; 3 <= set.capacity() && set.capacity() < lower);
-    assert_eq!(rt; set.as_slice(), [1, 2, 3].as_slice());
+    assert!(rt; set.as_slice() == [1, 2, 3].as_slice());
     Ok(())
 }
 
@@ -92,9 +92,9 @@ fn shrinking_to_fit_keeps_the_elements(rt: HostRuntime) -> Result<(), Fail> {
     let room = set.capacity();
     set.shrink_to_fit();
     assert!(rt; 1 <= set.capacity() && set.capacity() < room);
-    assert_eq!(rt; set.as_slice(), [1].as_slice());
+    assert!(rt; set.as_slice() == [1].as_slice());
     set.clear();
     set.shrink_to_fit();
-    assert_eq!(rt; set.capacity(), 0);
+    assert!(rt; set.capacity() == 0);
     Ok(())
 }

@@ -16,24 +16,24 @@ use vecmap_fixtures::{has_pairs, item_map, make_item};
 fn callers_of_entries_do_what_they_say(rt: HostRuntime) -> Result<(), Fail> {
     let mut map: VecMap<u64, u64> = VecMap::new(rt.alloc());
     entry::count_word(&mut map, 5)?;
-    assert_eq!(rt; map.as_slice(), [(5, 1)].as_slice());
-    assert_eq!(rt; entry::half_of(&mut map, 8)?, 4);
-    assert_eq!(rt; entry::or_zero(&mut map, 6)?, 0);
+    assert!(rt; map.as_slice() == [(5, 1)].as_slice());
+    assert!(rt; entry::half_of(&mut map, 8)? == 4);
+    assert!(rt; entry::or_zero(&mut map, 6)? == 0);
     entry::write_if_there(&mut map, 6, 60);
     entry::write_twice(&mut map, 8);
-    assert_eq!(rt; map.as_slice(), [(5, 1), (8, 9), (6, 60)].as_slice());
+    assert!(rt; map.as_slice() == [(5, 1), (8, 9), (6, 60)].as_slice());
     entry::toggle(&mut map, 5)?;
     entry::toggle(&mut map, 7)?;
-    assert_eq!(rt; map.as_slice(), [(8, 9), (6, 60), (7, 3)].as_slice());
-    assert_eq!(rt; entry::take(&mut map, 8), Some((8, 9)));
-    assert_eq!(rt; entry::take(&mut map, 8), None);
+    assert!(rt; map.as_slice() == [(8, 9), (6, 60), (7, 3)].as_slice());
+    assert!(rt; entry::take(&mut map, 8) == Some((8, 9)));
+    assert!(rt; entry::take(&mut map, 8) == None);
     entry::put_and_write(&mut map, 6)?;
-    assert_eq!(rt; entry::put_and_remove(&mut map, 1)?, 9);
-    assert_eq!(rt; entry::put_entry(&mut map, 2)?, (2, 2));
-    assert_eq!(rt; map.as_slice(), [(7, 3), (6, 8), (2, 9)].as_slice());
+    assert!(rt; entry::put_and_remove(&mut map, 1)? == 9);
+    assert!(rt; entry::put_entry(&mut map, 2)? == (2, 2));
+    assert!(rt; map.as_slice() == [(7, 3), (6, 8), (2, 9)].as_slice());
     let mut map = VecMap::new(rt.alloc());
     entry::modify_or_insert(&mut map, 'a')?;
-    assert_eq!(rt; map.as_slice(), [('a', 42)].as_slice());
+    assert!(rt; map.as_slice() == [('a', 42)].as_slice());
     Ok(())
 }
 
@@ -52,15 +52,14 @@ fn callers_of_lent_values_write_what_they_say(rt: HostRuntime) -> Result<(), Fai
     lending::write_at(&mut map, 0, 8);
     assert!(rt; has_pairs(map.as_slice(), &[(1, 'a', 8), (2, 'b', 7)]));
     let mut numbers = VecMap::new(rt.alloc());
-    assert_eq!(rt; numbers.insert(5, 6)?, None);
-    assert_eq!(rt;
+    assert!(rt; numbers.insert(5, 6)? == None);
+    assert!(rt;
         (
             lending::read_at(&mut numbers, 0),
             lending::read_at(&mut numbers, 1)
-        ),
-        (Some(6), None)
+        ) == (Some(6), None)
     );
-    assert_eq!(rt; numbers.as_slice(), [(5, 6)].as_slice());
+    assert!(rt; numbers.as_slice() == [(5, 6)].as_slice());
     Ok(())
 }
 
@@ -87,7 +86,7 @@ fn a_query_that_ignores_case_finds_names(rt: HostRuntime) -> Result<(), Fail> {
     for (text, value) in [("Host", 1), ("Accept", 2), ("HOST", 3), ("Café", 4)] {
         map.insert(name(rt.alloc(), text)?, value)?;
     }
-    assert_eq!(rt; map.len(), 3);
+    assert!(rt; map.len() == 3);
     for (text, value) in [
         ("host", Some(3)),
         ("ACCEPT", Some(2)),
@@ -97,18 +96,15 @@ fn a_query_that_ignores_case_finds_names(rt: HostRuntime) -> Result<(), Fail> {
         ("acce", None),
         ("", None),
     ] {
-        assert_eq!(rt; equivalent::value_of_name(&map, text), value);
-        assert_eq!(rt; equivalent::value_by(&map, NamedAs(text)), value);
+        assert!(rt; equivalent::value_of_name(&map, text) == value);
+        assert!(rt; equivalent::value_by(&map, NamedAs(text)) == value);
         let key = name(rt.alloc(), text)?;
-        assert_eq!(rt; equivalent::value_by_text_of(&map, &key), value);
-        assert_eq!(rt; equivalent::value_of_key(&map, &key), value);
+        assert!(rt; equivalent::value_by_text_of(&map, &key) == value);
+        assert!(rt; equivalent::value_of_key(&map, &key) == value);
     }
     let (stored, value) = map.remove_entry(NamedAs("hOST")).ok_or("absent")?;
-    assert_eq!(rt; (stored.as_str(), value), ("Host", 3));
-    assert_eq!(rt;
-        (map.len(), map.get_index_of(NamedAs("accept"))),
-        (2, Some(0))
-    );
+    assert!(rt; (stored.as_str(), value) == ("Host", 3));
+    assert!(rt; (map.len(), map.get_index_of(NamedAs("accept"))) == (2, Some(0)));
     Ok(())
 }
 
@@ -118,16 +114,16 @@ fn callers_by_a_text_do_what_they_say(rt: HostRuntime) -> Result<(), Fail> {
     for (text, value) in [("host", 1), ("port", 2), ("user", 3)] {
         map.insert(String::from_str(rt.alloc(), text)?, value)?;
     }
-    assert_eq!(rt; equivalent::value_of_text(&map, "user"), Some(3));
+    assert!(rt; equivalent::value_of_text(&map, "user") == Some(3));
     assert!(rt; map.contains_key("port"));
     equivalent::write_port(&mut map, 20);
     assert!(rt; map.contains_key("port"));
-    assert_eq!(rt; equivalent::port(&map), 20);
+    assert!(rt; equivalent::port(&map) == 20);
     let (key, value) = equivalent::take_text(&mut map, "host").ok_or("absent")?;
-    assert_eq!(rt; (key.as_str(), value), ("host", 1));
+    assert!(rt; (key.as_str(), value) == ("host", 1));
     equivalent::forget_port(&mut map);
     equivalent::write_port(&mut map, 30);
-    assert_eq!(rt; (map.len(), map.get("user").copied()), (1, Some(3)));
+    assert!(rt; (map.len(), map.get("user").copied()) == (1, Some(3)));
     let mut set = VecSet::new(rt.alloc());
     set.insert(String::from_str(rt.alloc(), "host")?)?;
     assert!(rt; !equivalent::drop_text(&mut set, "hos"));
@@ -140,17 +136,16 @@ fn callers_by_read_texts_and_bytes_do_what_they_say(rt: HostRuntime) -> Result<(
     let words = VecMap::from_slice(rt.alloc(), &[("get", 1), ("put", 2)])?;
     for (text, value) in [("put", Some(2)), ("pu", None), ("", None)] {
         let line = String::from_str(rt.alloc(), text)?;
-        assert_eq!(rt; equivalent::value_of_line(&words, &line), value);
+        assert!(rt; equivalent::value_of_line(&words, &line) == value);
     }
     let mut map = VecMap::new(rt.alloc());
     map.insert(vec![in rt.alloc(); 1, 2]?, 5)?;
     map.insert(vec![in rt.alloc(); 1]?, 6)?;
-    assert_eq!(rt;
+    assert!(rt;
         (
             equivalent::value_of_bytes(&map, &[1]),
             equivalent::value_of_bytes(&map, &[2])
-        ),
-        (Some(6), None)
+        ) == (Some(6), None)
     );
     Ok(())
 }

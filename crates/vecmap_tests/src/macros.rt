@@ -6,21 +6,21 @@ use vecmap_callers::macros::{ages, ports};
 #[test]
 fn macros_insert_in_turn(rt: HostRuntime) -> Result<(), Fail> {
     let map = vecmap!(rt.alloc(); "a" => 1, "b" => 2, "a" => 3,);
-    assert_eq!(rt; map.as_slice(), [("a", 3), ("b", 2)].as_slice());
+    assert!(rt; map.as_slice() == [("a", 3), ("b", 2)].as_slice());
     assert!(rt; 3 <= map.capacity());
     let set = vecset!(rt.alloc(); 2, 1, 2,);
-    assert_eq!(rt; set.as_slice(), [2, 1].as_slice());
+    assert!(rt; set.as_slice() == [2, 1].as_slice());
     assert!(rt; 3 <= set.capacity());
-    assert_eq!(rt; ages(rt.alloc())?.as_slice(), [(7, 30), (8, 20)].as_slice());
-    assert_eq!(rt; ports(rt.alloc())?.as_slice(), [2, 1].as_slice());
+    assert!(rt; ages(rt.alloc())?.as_slice() == [(7, 30), (8, 20)].as_slice());
+    assert!(rt; ports(rt.alloc())?.as_slice() == [2, 1].as_slice());
     Ok(())
 }
 
 #[test]
 fn macros_of_nothing_take_no_memory(rt: HostRuntime) -> Result<(), Fail> {
     let map: VecMap<u32, char> = vecmap!(rt.alloc(););
-    assert_eq!(rt; (map.len(), map.capacity()), (0, 0));
+    assert!(rt; (map.len(), map.capacity()) == (0, 0));
     let set: VecSet<char> = vecset!(rt.alloc(););
-    assert_eq!(rt; (set.len(), set.capacity()), (0, 0));
+    assert!(rt; (set.len(), set.capacity()) == (0, 0));
     Ok(())
 }

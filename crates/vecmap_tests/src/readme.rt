@@ -22,10 +22,7 @@ mod tests {
 
     #[test]
     fn the_example_of_the_readme_gives_its_list(rt: HostRuntime) -> Result<(), Fail> {
-        assert_eq!(rt;
-            headers(rt.alloc())?.as_slice(),
-            [("age", 30), ("max", 20)].as_slice()
-        );
+        assert!(rt; headers(rt.alloc())?.as_slice() == [("age", 30), ("max", 20)].as_slice());
         Ok(())
     }
 }

@@ -59,22 +59,19 @@ fn set_of_a_new_name_after_a_refused_request(rt: HostRuntime) -> Result<(), Fail
         Ok(old) => old,
         Err(refused) => {
             tell(&rt)?;
-            assert_eq!(rt;
-                printed(rt.alloc(), &page)?.as_str(),
-                r#"{"p": {"a": "1", "b": "", "c": "", "": ""}}"#
+            assert!(rt;
+                printed(rt.alloc(), &page)?.as_str()
+                    == r#"{"p": {"a": "1", "b": "", "c": "", "": ""}}"#
             );
             let (section, name, text) = refused.given;
-            assert_eq!(rt;
-                (section.text(), name.text(), text.as_str()),
-                ("P", "D", "2")
-            );
+            assert!(rt; (section.text(), name.text(), text.as_str()) == ("P", "D", "2"));
             page.set(section, name, text)?
         }
     };
-    assert_eq!(rt; old, None);
-    assert_eq!(rt;
-        make!(rt; printed(rt.alloc(), &page)).as_str(),
-        r#"{"p": {"a": "1", "b": "", "c": "", "": "", "D": "2"}}"#
+    assert!(rt; old == None);
+    assert!(rt;
+        make!(rt; printed(rt.alloc(), &page)).as_str()
+            == r#"{"p": {"a": "1", "b": "", "c": "", "": "", "D": "2"}}"#
     );
     Ok(())
 }
@@ -87,20 +84,14 @@ fn set_of_a_new_section_after_a_refused_request(rt: HostRuntime) -> Result<(), F
         Ok(old) => old,
         Err(refused) => {
             tell(&rt)?;
-            assert_eq!(rt; printed(rt.alloc(), &page)?.as_str(), "{}");
+            assert!(rt; printed(rt.alloc(), &page)?.as_str() == "{}");
             let (section, name, text) = refused.given;
-            assert_eq!(rt;
-                (section.text(), name.text(), text.as_str()),
-                ("P", "D", "2")
-            );
+            assert!(rt; (section.text(), name.text(), text.as_str()) == ("P", "D", "2"));
             page.set(section, name, text)?
         }
     };
-    assert_eq!(rt; old, None);
-    assert_eq!(rt;
-        make!(rt; printed(rt.alloc(), &page)).as_str(),
-        r#"{"P": {"D": "2"}}"#
-    );
+    assert!(rt; old == None);
+    assert!(rt; make!(rt; printed(rt.alloc(), &page)).as_str() == r#"{"P": {"D": "2"}}"#);
     Ok(())
 }
 
@@ -110,20 +101,19 @@ fn merge_after_a_refused_request(rt: HostRuntime) -> Result<(), Fail> {
     let mut from = make!(rt; document(rt.alloc(), FROM));
     if into.merge(&mut from).is_err() {
         tell(&rt)?;
-        assert_eq!(rt;
-            printed(rt.alloc(), &into)?.as_str(),
-            r#"{"p": {"a": "1", "b": "", "c": "", "": ""}, "q": {"": ""}, "r": {"": ""}, "": {"": ""}}"#
+        assert!(rt;
+            printed(rt.alloc(), &into)?.as_str()
+                == r#"{"p": {"a": "1", "b": "", "c": "", "": ""}, "q": {"": ""}, "r": {"": ""}, "": {"": ""}}"#
         );
-        assert_eq!(rt;
-            printed(rt.alloc(), &from)?.as_str(),
-            r#"{"s": {"": ""}, "P": {"A": "2", "d": ""}}"#
+        assert!(rt;
+            printed(rt.alloc(), &from)?.as_str() == r#"{"s": {"": ""}, "P": {"A": "2", "d": ""}}"#
         );
         into.merge(&mut from)?;
     }
-    assert_eq!(rt;
-        make!(rt; printed(rt.alloc(), &into)).as_str(),
-        r#"{"p": {"a": "2", "b": "", "c": "", "": "", "d": ""}, "q": {"": ""}, "r": {"": ""}, "": {"": ""}, "s": {"": ""}}"#
+    assert!(rt;
+        make!(rt; printed(rt.alloc(), &into)).as_str()
+            == r#"{"p": {"a": "2", "b": "", "c": "", "": "", "d": ""}, "q": {"": ""}, "r": {"": ""}, "": {"": ""}, "s": {"": ""}}"#
     );
-    assert_eq!(rt; make!(rt; printed(rt.alloc(), &from)).as_str(), "{}");
+    assert!(rt; make!(rt; printed(rt.alloc(), &from)).as_str() == "{}");
     Ok(())
 }

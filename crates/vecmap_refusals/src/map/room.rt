@@ -65,7 +65,7 @@ fn reserved_room_takes_inserts_without_memory(rt: HostRuntime) -> Result<(), Fai
     let mut map = VecMap::new(rt.alloc());
     if map.reserve(3).is_err() {
         tell(&rt)?;
-        assert_eq!(rt; (map.len(), map.capacity()), (0, 0));
+        assert!(rt; (map.len(), map.capacity()) == (0, 0));
         map.reserve(3)?;
     }
     let room = map.capacity();
@@ -73,6 +73,6 @@ fn reserved_room_takes_inserts_without_memory(rt: HostRuntime) -> Result<(), Fai
         assert!(rt; matches!(map.insert(make_item(number, 'a'), number), Ok(None)));
     }
     assert!(rt; has_pairs(map.as_slice(), &[(0, 'a', 0), (1, 'a', 1), (2, 'a', 2)]));
-    assert_eq!(rt; map.capacity(), room);
+    assert!(rt; map.capacity() == room);
     Ok(())
 }

@@ -22,6 +22,6 @@ fn split_off_moves_all_or_nothing(rt: HostRuntime) -> Result<(), Fail> {
     assert!(rt; has_items(part.as_slice(), &[(2, 'b'), (3, 'c')]));
     let end = set.len();
     assert!(rt; set.split_off(end).is_ok());
-    assert_eq!(rt; (set.len(), set.capacity()), (end, 3));
+    assert!(rt; (set.len(), set.capacity()) == (end, 3));
     Ok(())
 }

@@ -65,7 +65,7 @@ fn reserved_room_takes_inserts_without_memory(rt: HostRuntime) -> Result<(), Fai
     let mut set = VecSet::new(rt.alloc());
     if set.reserve(3).is_err() {
         tell(&rt)?;
-        assert_eq!(rt; (set.len(), set.capacity()), (0, 0));
+        assert!(rt; (set.len(), set.capacity()) == (0, 0));
         set.reserve(3)?;
     }
     let room = set.capacity();
@@ -73,6 +73,6 @@ fn reserved_room_takes_inserts_without_memory(rt: HostRuntime) -> Result<(), Fai
         assert!(rt; matches!(set.insert(make_item(number, 'a')), Ok(true)));
     }
     assert!(rt; has_items(set.as_slice(), &[(0, 'a'), (1, 'a'), (2, 'a')]));
-    assert_eq!(rt; set.capacity(), room);
+    assert!(rt; set.capacity() == room);
     Ok(())
 }

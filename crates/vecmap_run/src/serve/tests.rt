@@ -124,9 +124,8 @@ fn answers_each_command(rt: HostRuntime) -> Result<(), Fail> {
         ),
     ];
     for (input, output) in runs {
-        assert_eq!(rt;
-            served(rt.alloc(), input.as_bytes())?.as_str(),
-            output,
+        assert!(rt;
+            served(rt.alloc(), input.as_bytes())?.as_str() == output,
             "at {input}"
         );
     }
@@ -146,9 +145,8 @@ fn reads_numbers(rt: HostRuntime) -> Result<(), Fail> {
     for (word, output) in words {
         let input = format!(in rt.alloc(); "insert a {word}\nget a\n")?;
         let output = format!(in rt.alloc(); "none\n{output}")?;
-        assert_eq!(rt;
-            served(rt.alloc(), input.as_bytes())?.as_str(),
-            output.as_str(),
+        assert!(rt;
+            served(rt.alloc(), input.as_bytes())?.as_str() == output.as_str(),
             "at {word}"
         );
     }
@@ -219,31 +217,24 @@ fn faults_where_no_command_is_said(rt: HostRuntime) -> Result<(), Fail> {
     ];
     for line in lines {
         let input = format!(in rt.alloc(); "{line}\nlen\n")?;
-        assert_eq!(rt;
-            served(rt.alloc(), input.as_bytes())?.as_str(),
-            "fault\n0\n",
+        assert!(rt;
+            served(rt.alloc(), input.as_bytes())?.as_str() == "fault\n0\n",
             "at {line:?}"
         );
     }
-    assert_eq!(rt;
-        served(rt.alloc(), b"get \xff\nlen\n")?.as_str(),
-        "fault\n0\n"
-    );
+    assert!(rt; served(rt.alloc(), b"get \xff\nlen\n")?.as_str() == "fault\n0\n");
     Ok(())
 }
 
 #[test]
 fn takes_keys_of_64_bytes(rt: HostRuntime) -> Result<(), Fail> {
     let longest = "abcdefghijklmnopqrstuvwxyzABCDEFGHIJKLMNOPQRSTUVWXYZ0123456789_-";
-    assert_eq!(rt; longest.len(), 64);
+    assert!(rt; longest.len() == 64);
     let input = format!(in rt.alloc();
         "insert {longest} 1\ninsert {longest}. 2\ninsert . 3\nlist\n"
     )?;
     let output = format!(in rt.alloc(); "none\nfault\nnone\n{longest}=1 .=3\n")?;
-    assert_eq!(rt;
-        served(rt.alloc(), input.as_bytes())?.as_str(),
-        output.as_str()
-    );
+    assert!(rt; served(rt.alloc(), input.as_bytes())?.as_str() == output.as_str());
     Ok(())
 }
 
@@ -251,15 +242,13 @@ fn takes_keys_of_64_bytes(rt: HostRuntime) -> Result<(), Fail> {
 fn takes_a_long_line_as_one(rt: HostRuntime) -> Result<(), Fail> {
     for length in [4095, 4096, 4097, 4098, 8192, 8193, 20000] {
         let mut input = vec![in rt.alloc(); b'a'; length]?;
-        assert_eq!(rt;
-            served(rt.alloc(), &input)?.as_str(),
-            "fault\n",
+        assert!(rt;
+            served(rt.alloc(), &input)?.as_str() == "fault\n",
             "at {length}"
         );
         input.extend_from_slice(b"\nlen")?;
-        assert_eq!(rt;
-            served(rt.alloc(), &input)?.as_str(),
-            "fault\n0\n",
+        assert!(rt;
+            served(rt.alloc(), &input)?.as_str() == "fault\n0\n",
             "at {length}"
         );
     }
@@ -278,9 +267,8 @@ fn takes_the_last_line_without_its_end(rt: HostRuntime) -> Result<(), Fail> {
         ("a", "fault\n"),
     ];
     for (input, output) in runs {
-        assert_eq!(rt;
-            served(rt.alloc(), input.as_bytes())?.as_str(),
-            output,
+        assert!(rt;
+            served(rt.alloc(), input.as_bytes())?.as_str() == output,
             "at {input:?}"
         );
     }
@@ -301,10 +289,7 @@ fn prints_a_list_past_its_buffer(rt: HostRuntime) -> Result<(), Fail> {
     input.push_str("list")?;
     output.push_str(list.as_str())?;
     output.push_str("\n")?;
-    assert_eq!(rt;
-        served(rt.alloc(), input.as_bytes())?.as_str(),
-        output.as_str()
-    );
+    assert!(rt; served(rt.alloc(), input.as_bytes())?.as_str() == output.as_str());
     Ok(())
 }
 
@@ -315,9 +300,9 @@ fn reads_in_any_pieces(rt: HostRuntime) -> Result<(), Fail> {
         reader.most = most;
         reader.is_interrupted = true;
         let mut writer = FakeWriter::new(rt.alloc(), usize::MAX);
-        assert_eq!(rt; serve(rt.alloc(), &mut reader, &mut writer), Ok(()));
-        assert_eq!(rt; writer.text(), "none\nsome 1\na=2\n");
-        assert_eq!(rt; writer.writes, 3);
+        assert!(rt; serve(rt.alloc(), &mut reader, &mut writer) == Ok(()));
+        assert!(rt; writer.text() == "none\nsome 1\na=2\n");
+        assert!(rt; writer.writes == 3);
     }
     Ok(())
 }
@@ -329,11 +314,8 @@ fn stops_where_a_read_fails(rt: HostRuntime) -> Result<(), Fail> {
         let mut reader = FakeReader::new(input.as_bytes());
         reader.failure = Some(ErrorKind::Other);
         let mut writer = FakeWriter::new(rt.alloc(), usize::MAX);
-        assert_eq!(rt;
-            serve(rt.alloc(), &mut reader, &mut writer),
-            Err(Fault::Reading)
-        );
-        assert_eq!(rt; writer.text(), output, "at {input:?}");
+        assert!(rt; serve(rt.alloc(), &mut reader, &mut writer) == Err(Fault::Reading));
+        assert!(rt; writer.text() == output, "at {input:?}");
     }
     Ok(())
 }
@@ -350,12 +332,9 @@ fn stops_where_a_write_fails(rt: HostRuntime) -> Result<(), Fail> {
     for (room, output) in runs {
         let mut reader = FakeReader::new(b"insert a 1\ninsert a 2\nlist\n");
         let mut writer = FakeWriter::new(rt.alloc(), room);
-        assert_eq!(rt;
-            serve(rt.alloc(), &mut reader, &mut writer),
-            Err(Fault::Writing)
-        );
-        assert_eq!(rt; writer.text(), output, "at {room}");
-        assert_eq!(rt; reader.reads, 1, "at {room}");
+        assert!(rt; serve(rt.alloc(), &mut reader, &mut writer) == Err(Fault::Writing));
+        assert!(rt; writer.text() == output, "at {room}");
+        assert!(rt; reader.reads == 1, "at {room}");
     }
     Ok(())
 }

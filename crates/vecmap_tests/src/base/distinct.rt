@@ -17,10 +17,10 @@ fn repeats_are_looked_for_with_one_comparison_a_couple(rt: HostRuntime) -> Resul
         let pairs = told_pairs(rt.alloc(), &log, numbers)?;
         let items = told_items(rt.alloc(), &log, numbers)?;
         let before = log.comparisons();
-        assert_eq!(rt; keys_distinct(&pairs), is_distinct);
+        assert!(rt; keys_distinct(&pairs) == is_distinct);
         let told = log.comparisons();
         assert!(rt; told.wrapping_sub(before) <= most);
-        assert_eq!(rt; items_distinct(&items), is_distinct);
+        assert!(rt; items_distinct(&items) == is_distinct);
         assert!(rt; log.comparisons().wrapping_sub(told) <= most);
     }
     Ok(())

@@ -5,9 +5,9 @@ use vecmap_fixtures::make_item;
 #[test]
 fn each_counted_comparison_answers_and_counts(rt: HostRuntime) {
     let mut steps = Steps::new();
-    assert_eq!(rt; steps.count(), 0);
+    assert!(rt; steps.count() == 0);
     assert!(rt; steps.same(&make_item(1, 'x'), &make_item(1, 'y')));
-    assert_eq!(rt; steps.count(), 1);
+    assert!(rt; steps.count() == 1);
     assert!(rt; !steps.same(&make_item(1, 'x'), &make_item(2, 'x')));
-    assert_eq!(rt; steps.count(), 2);
+    assert!(rt; steps.count() == 2);
 }

@@ -25,16 +25,13 @@ fn has_fields(headers: &Headers, expected: &[(&str, &str)]) -> bool {
 fn headers_keep_the_first_case_and_the_last_text(rt: HostRuntime) -> Result<(), Fail> {
     let mut headers = headers_of(rt.alloc(), &[("Host", "a"), ("Accept", "b"), ("HOST", "c")])?;
     assert!(rt; has_fields(&headers, &[("Host", "c"), ("Accept", "b")]));
-    assert_eq!(rt;
-        (headers.get("hOST"), headers.get("hos")),
-        (Some("c"), None)
-    );
+    assert!(rt; (headers.get("hOST"), headers.get("hos")) == (Some("c"), None));
     let mut more = headers_of(rt.alloc(), &[("Age", "d"), ("ACCEPT", "e")])?;
     headers.merge(&mut more)?;
     assert!(rt; has_fields(&headers, &[("Host", "c"), ("Accept", "e"), ("Age", "d")]));
     assert!(rt; has_fields(&more, &[]));
     let text = headers.remove("host").ok_or("absent")?;
-    assert_eq!(rt; text.as_str(), "c");
+    assert!(rt; text.as_str() == "c");
     assert!(rt; headers.remove("host").is_none());
     assert!(rt; has_fields(&headers, &[("Accept", "e"), ("Age", "d")]));
     Ok(())

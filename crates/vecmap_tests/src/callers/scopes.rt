@@ -9,25 +9,18 @@ fn the_innermost_definition_holds_until_its_scope_is_left(rt: HostRuntime) -> Re
     table.enter(rt.alloc())?;
     table.define("x", 3)?;
     table.define("x", 4)?;
-    assert_eq!(rt;
+    assert!(rt;
         (
             table.resolve(&"x"),
             table.resolve(&"y"),
             table.resolve(&"z")
-        ),
-        (Some(&4), Some(&2), None)
+        ) == (Some(&4), Some(&2), None)
     );
-    assert_eq!(rt;
-        resolved_within(&mut table, rt.alloc(), "y", 5, &"y")?,
-        Some(5)
-    );
-    assert_eq!(rt; table.resolve(&"y"), Some(&2));
+    assert!(rt; resolved_within(&mut table, rt.alloc(), "y", 5, &"y")? == Some(5));
+    assert!(rt; table.resolve(&"y") == Some(&2));
     assert!(rt; table.leave());
-    assert_eq!(rt;
-        (table.resolve(&"x"), table.resolve(&"y")),
-        (Some(&1), Some(&2))
-    );
+    assert!(rt; (table.resolve(&"x"), table.resolve(&"y")) == (Some(&1), Some(&2)));
     assert!(rt; !table.leave());
-    assert_eq!(rt; table.resolve(&"x"), Some(&1));
+    assert!(rt; table.resolve(&"x") == Some(&1));
     Ok(())
 }
