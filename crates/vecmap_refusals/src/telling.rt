@@ -100,3 +100,35 @@ pub(crate) fn told_map<'a>(
         }
     }
 }
+
+/// As the fixture, made once more where it is refused.
+pub(crate) fn told_set<'a>(
+    rt: &impl Print,
+    alloc: Global,
+    log: &'a Log,
+    numbers: &[u32],
+) -> Result<VecSet<Told<'a>>, Fail> {
+    match vecmap_fixtures::told_set(alloc, log, numbers) {
+        Ok(set) => Ok(set),
+        Err(AllocError) => {
+            tell(rt)?;
+            Ok(vecmap_fixtures::told_set(alloc, log, numbers)?)
+        }
+    }
+}
+
+/// As the fixture, made once more where it is refused.
+pub(crate) fn told_items<'a>(
+    rt: &impl Print,
+    alloc: Global,
+    log: &'a Log,
+    numbers: &[u32],
+) -> Result<Vec<Told<'a>>, Fail> {
+    match vecmap_fixtures::told_items(alloc, log, numbers) {
+        Ok(items) => Ok(items),
+        Err(AllocError) => {
+            tell(rt)?;
+            Ok(vecmap_fixtures::told_items(alloc, log, numbers)?)
+        }
+    }
+}

@@ -34,6 +34,23 @@ fn callers_of_entries_do_what_they_say(rt: HostRuntime) -> Result<(), Fail> {
     let mut map = VecMap::new(rt.alloc());
     entry::modify_or_insert(&mut map, 'a')?;
     assert!(rt; map.as_slice() == [('a', 42)].as_slice());
+    let mut maps = VecMap::new(rt.alloc());
+    assert!(rt; entry::or_empty(&mut maps, 'a')? == 0);
+    assert!(rt; maps.len() == 1 && maps.get(&'a').is_some_and(VecMap::is_empty));
+    Ok(())
+}
+
+#[test]
+fn callers_by_texts_do_what_they_say(rt: HostRuntime) -> Result<(), Fail> {
+    let mut map = VecMap::new(rt.alloc());
+    equivalent::put_text(rt.alloc(), &mut map, "age", 1)?;
+    equivalent::put_text(rt.alloc(), &mut map, "max", 2)?;
+    equivalent::put_text(rt.alloc(), &mut map, "age", 3)?;
+    assert!(rt; equivalent::value_of_text(&map, "age") == Some(3));
+    assert!(rt; map.len() == 2 && map.has_distinct_keys());
+    equivalent::forget_text(&mut map, "age");
+    assert!(rt; equivalent::value_of_text(&map, "age") == None);
+    assert!(rt; map.len() == 1 && equivalent::value_of_text(&map, "max") == Some(2));
     Ok(())
 }
 

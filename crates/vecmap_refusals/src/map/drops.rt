@@ -1,10 +1,9 @@
 //! What a refused call keeps, gives back or drops: each key and value once. `alive` counts those that are somewhere.
 use crate::telling::{make, tell, told_map};
-use std::alloc::{AllocError, Global};
+use std::alloc::Global;
 use std::process::Abort;
 use std::test::Fail;
-use vecmap::map::{Entry, VecMap};
-use vecmap::{MapCommand, Refused, run};
+use vecmap::{MapCommand, Refused, VecMap, run};
 use vecmap_fixtures::{Log, Told, has_told_pairs, make_told, told_couples};
 
 type Couple<'a> = (Told<'a>, Told<'a>);
@@ -40,13 +39,8 @@ fn put<'a>(
         6 => {
             map.entry(key).or_insert_with_key(|_| value)?;
         }
-        7 => {
-            map.entry(key).insert_entry(value)?.into_key();
-        }
         _ => {
-            if let Entry::Vacant(entry) = map.entry(key) {
-                entry.insert(value)?;
-            }
+            map.entry(key).insert_entry(value)?;
         }
     }
     Ok(())
@@ -78,28 +72,10 @@ fn insertions_keep_a_pair_or_give_it_back(rt: HostRuntime) -> Result<(), Fail> {
 
 #[test]
 fn entries_keep_a_pair_or_give_it_back(rt: HostRuntime) -> Result<(), Fail> {
-    for call in 4..9 {
+    for call in 4..8 {
         check(&rt, rt.alloc(), call)?;
     }
     Ok(())
-}
-
-// Puts many pairs by the call of this number.
-fn put_many<'a>(
-    alloc: Global,
-    call: u32,
-    map: &mut Map<'a>,
-    more: Vec<Couple<'a>>,
-) -> Result<(), AllocError> {
-    match call {
-        0 => map.extend(more),
-        1 => map.extend_pairs(&more),
-        2 => map.append(&mut VecMap::from(more)),
-        _ => {
-            *map = VecMap::from_iter(alloc, more)?;
-            Ok(())
-        }
-    }
 }
 
 #[test]
@@ -108,7 +84,19 @@ fn many_pairs_are_kept_or_dropped(rt: HostRuntime) -> Result<(), Fail> {
         let log = Log::new();
         let mut map = told_map(&rt, rt.alloc(), &log, &[1, 2])?;
         let more = make!(rt; told_couples(rt.alloc(), &log, &[3, 1, 4, 3, 5]));
-        if put_many(rt.alloc(), call, &mut map, more).is_err() {
+        let put = match call {
+            0 => map.extend(more),
+            1 => map.extend_pairs(&more),
+            2 => map.append(&mut VecMap::from(more)),
+            _ => match VecMap::from_iter(rt.alloc(), more) {
+                Ok(made) => {
+                    map = made;
+                    Ok(())
+                }
+                Err(refused) => Err(refused),
+            },
+        };
+        if put.is_err() {
             tell(&rt)?;
         }
         assert!(rt; log.alive() as usize == map.len().wrapping_mul(2));

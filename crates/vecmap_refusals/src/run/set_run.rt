@@ -4,7 +4,7 @@ use std::alloc::{AllocError, Global};
 use std::process::Abort;
 use std::slice;
 use std::test::Fail;
-use vecmap::{SetCommand, SetReply, run_set};
+use vecmap::{SetCommand, SetReply, VecSet, run_set};
 use vecmap_fixtures::{has_items, has_texts, item_set, make_item};
 
 const FULL: &[(u32, char)] = &[(1, 'a'), (2, 'b')];
@@ -91,6 +91,17 @@ fn texts_of(reply: &SetReply<String>) -> Option<&[String]> {
     }
 }
 
+// The reply to one command that clones texts.
+fn reply_to(
+    alloc: Global,
+    set: &mut VecSet<String>,
+    number: u32,
+) -> Result<SetReply<String>, AllocError> {
+    run_set(alloc, set, cloning(alloc, number)?)?
+        .pop()
+        .ok_or(AllocError)
+}
+
 // A command that clones texts is done, or refused with nothing changed and then done.
 fn check<R: Abort + Print>(
     rt: &R,
@@ -101,17 +112,9 @@ fn check<R: Abort + Print>(
     let mut set = text_set(rt, alloc, TEXTS)?;
     let mut is_refused = false;
     for _ in 0..2 {
-        let replies = match cloning(alloc, number) {
-            Ok(commands) => run_set(alloc, &mut set, commands),
-            Err(AllocError) => Err(AllocError),
-        };
+        let reply = reply_to(alloc, &mut set, number).unwrap_or(SetReply::NoMemory);
         assert!(rt; has_texts(set.as_slice(), TEXTS));
-        let reply = match replies.as_deref() {
-            Ok([reply]) => reply,
-            Err(AllocError) => &SetReply::NoMemory,
-            _ => return Err(Fail::new("another reply")),
-        };
-        if let Some(texts) = texts_of(reply) {
+        if let Some(texts) = texts_of(&reply) {
             assert!(rt; has_texts(texts, wanted));
             return Ok(());
         }

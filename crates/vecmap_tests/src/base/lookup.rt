@@ -14,7 +14,7 @@ fn find_answers_the_first_of_equal_keys(rt: HostRuntime) {
     for (number, place) in [(1, Some(1)), (2, Some(0)), (3, None)] {
         assert!(rt; find(&pairs, &make_item(number, 'z')) == place);
     }
-    assert!(rt; find::<u32 == u32>(&[], &1), None);
+    assert!(rt; find::<u32, u32>(&[], &1) == None);
 }
 
 #[test]

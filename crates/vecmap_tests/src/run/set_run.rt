@@ -2,7 +2,7 @@
 use std::alloc::{AllocError, Global};
 use std::test::Fail;
 use vecmap::{SetCommand, SetReply, VecSet, run_set};
-use vecmap_fixtures::{Log, has_items, has_told, item_set, make_item, make_told, told_set};
+use vecmap_fixtures::{Log, Told, has_items, has_told, item_set, make_item, make_told, told_set};
 
 // What a run of the commands answers, as it prints.
 macro_rules! answers {
@@ -177,15 +177,11 @@ fn a_refused_clone_answers_no_memory_and_changes_nothing(rt: HostRuntime) -> Res
     for (number, replies) in [
         (
             1,
-            "[NoMemory, Item(Some(2)), NoMemory, Item(Some(2)), NoMemory, Made({2}), NoMemory, NoMemory, NoMemory]",
+            "[NoMemory, Item(Some(2)), NoMemory, Item(Some(2)), NoMemory]",
         ),
         (
             2,
-            "[Item(Some(1)), NoMemory, Item(Some(1)), NoMemory, NoMemory, NoMemory, NoMemory, Made({1, 3}), Made({1})]",
-        ),
-        (
-            3,
-            "[Item(Some(1)), Item(Some(2)), Item(Some(1)), Item(Some(2)), Items([1, 2]), Made({2}), NoMemory, NoMemory, Made({1})]",
+            "[Item(Some(1)), NoMemory, Item(Some(1)), NoMemory, NoMemory]",
         ),
     ] {
         log.refuse_clones_of(number);
@@ -195,12 +191,36 @@ fn a_refused_clone_answers_no_memory_and_changes_nothing(rt: HostRuntime) -> Res
             SetCommand::First,
             SetCommand::Last,
             SetCommand::ToVec,
-            SetCommand::Intersect(told_set(rt.alloc(), &log, &[2, 3])?),
-            SetCommand::Unite(told_set(rt.alloc(), &log, &[2, 3])?),
-            SetCommand::Exclusive(told_set(rt.alloc(), &log, &[2, 3])?),
-            SetCommand::Subtract(told_set(rt.alloc(), &log, &[2, 3])?),
         ];
         assert!(rt; answers!(rt, set, commands).as_str() == replies);
+        assert!(rt; log.alive() == 2 && has_told(set.as_slice(), &[1, 2]));
+    }
+    Ok(())
+}
+
+// A command for each operator, with the same right side.
+fn operators(alloc: Global, log: &Log) -> Result<Vec<SetCommand<Told<'_>>>, AllocError> {
+    let mut commands = Vec::with_capacity(alloc, 4)?;
+    commands.push(SetCommand::Intersect(told_set(alloc, log, &[2, 3])?))?;
+    commands.push(SetCommand::Unite(told_set(alloc, log, &[2, 3])?))?;
+    commands.push(SetCommand::Exclusive(told_set(alloc, log, &[2, 3])?))?;
+    commands.push(SetCommand::Subtract(told_set(alloc, log, &[2, 3])?))?;
+    Ok(commands)
+}
+
+#[test]
+fn an_operator_whose_clone_is_refused_answers_no_memory(rt: HostRuntime) -> Result<(), Fail> {
+    let log = Log::new();
+    let mut set = told_set(rt.alloc(), &log, &[1, 2])?;
+    for (number, replies) in [
+        (1, "[Made({2}), NoMemory, NoMemory, NoMemory]"),
+        (2, "[NoMemory, NoMemory, Made({1, 3}), Made({1})]"),
+        (3, "[Made({2}), NoMemory, NoMemory, Made({1})]"),
+    ] {
+        log.refuse_clones_of(number);
+        let answers = run_set(rt.alloc(), &mut set, operators(rt.alloc(), &log)?)?;
+        assert!(rt; format!(in rt.alloc(); "{answers:?}")?.as_str() == replies);
+        drop(answers);
         assert!(rt; log.alive() == 2 && has_told(set.as_slice(), &[1, 2]));
     }
     Ok(())
