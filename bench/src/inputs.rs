@@ -1,0 +1,126 @@
+//! What the rows run on. A key is a random number, and probes stand in a shuffled order.
+
+/// splitmix64
+struct Random(u64);
+
+impl Random {
+    fn next(&mut self) -> u64 {
+        self.0 = self.0.wrapping_add(0x9e3779b97f4a7c15);
+        let mut z = self.0;
+        z = (z ^ (z >> 30)).wrapping_mul(0xbf58476d1ce4e5b9);
+        z = (z ^ (z >> 27)).wrapping_mul(0x94d049bb133111eb);
+        z ^ (z >> 31)
+    }
+
+    fn below(&mut self, n: usize) -> usize {
+        (self.next() % n as u64) as usize
+    }
+
+    fn shuffled(&mut self, xs: &[u64]) -> Vec<u64> {
+        let mut xs = xs.to_vec();
+        for i in (1..xs.len()).rev() {
+            xs.swap(i, self.below(i + 1));
+        }
+        xs
+    }
+}
+
+/// Keys, and what is looked up, inserted or removed.
+pub struct Numbers {
+    /// Distinct, and even.
+    pub keys: Vec<u64>,
+    /// The keys in another order.
+    pub hits: Vec<u64>,
+    /// Eight orders of the keys, so that a removal is not always at the first place.
+    pub orders: Vec<u64>,
+    /// As many others.
+    pub misses: Vec<u64>,
+    /// Of each hit and miss one of both.
+    pub mixed: Vec<u64>,
+    /// Half of the keys and as many others.
+    pub half: Vec<u64>,
+    /// As many as there are keys, about four to a key.
+    pub repeats: Vec<u64>,
+    /// Four times as many, the front ones more often.
+    pub words: Vec<u64>,
+    /// 1000 commands: a key below the size, above a byte that says which.
+    pub commands: Vec<u64>,
+}
+
+impl Numbers {
+    pub fn of(n: usize) -> Numbers {
+        let mut random = Random(7);
+        let keys: Vec<u64> = (0..n).map(|_| random.next() << 1).collect();
+        let hits = random.shuffled(&keys);
+        let orders = (0..8).flat_map(|_| random.shuffled(&keys)).collect();
+        let misses: Vec<u64> = (0..n).map(|_| random.next() | 1).collect();
+        let mut mixed = Vec::new();
+        for (hit, miss) in hits.iter().zip(&misses) {
+            mixed.push(if random.next() & 1 == 0 { *hit } else { *miss });
+        }
+        let half = [&hits[..n / 2], &misses[..n - n / 2]].concat();
+        let half = random.shuffled(&half);
+        let repeats = (0..n)
+            .map(|i| keys[random.below(n.div_ceil(4)).min(i)])
+            .collect();
+        let words = (0..4 * n)
+            .map(|_| keys[random.below(n).min(random.below(n))])
+            .collect();
+        let commands = (0..1000)
+            .map(|_| (random.below(n) as u64) << 8 | random.below(100) as u64)
+            .collect();
+        Numbers {
+            keys,
+            hits,
+            orders,
+            misses,
+            mixed,
+            half,
+            repeats,
+            words,
+            commands,
+        }
+    }
+}
+
+/// The same as lines of text.
+pub struct Texts {
+    pub keys: Vec<u8>,
+    pub hits: Vec<u8>,
+    pub misses: Vec<u8>,
+    pub words: Vec<u8>,
+    /// Keys of 188 bytes, of which the first 168 are equal.
+    pub long_keys: Vec<u8>,
+    pub long_hits: Vec<u8>,
+    /// A section and a name in each line: eight names to a section.
+    pub names: Vec<u8>,
+    /// The same in another order, and in capital letters.
+    pub other_names: Vec<u8>,
+    /// Half of them and as many others.
+    pub half_names: Vec<u8>,
+}
+
+fn lines(xs: &[u64], line: impl Fn(u64) -> String) -> Vec<u8> {
+    let lines: String = xs.iter().map(|x| line(*x) + "\n").collect();
+    lines.into_bytes()
+}
+
+impl Texts {
+    pub fn of(numbers: &Numbers) -> Texts {
+        let sections = numbers.keys.len().div_ceil(8) as u64;
+        let short = |x| format!("key-{:09}", x % 1_000_000_007);
+        let long = |x| format!("{}{:020}", "a/long/common/prefix/".repeat(8), x);
+        let name = move |x| format!("section-{} name-{:09}", x / 8 % sections, x % 1_000_000_007);
+        Texts {
+            keys: lines(&numbers.keys, short),
+            hits: lines(&numbers.hits, short),
+            misses: lines(&numbers.misses, short),
+            words: lines(&numbers.words, short),
+            long_keys: lines(&numbers.keys, long),
+            long_hits: lines(&numbers.hits, long),
+            names: lines(&numbers.keys, name),
+            other_names: lines(&numbers.hits, |x| name(x).to_uppercase()),
+            half_names: lines(&numbers.half, name),
+        }
+    }
+}

@@ -1,0 +1,12 @@
+//! The loops, once for each map and set that they run over: the same text, statement by statement, as those in Rattle
+//! in `crates/vecmap_bench`.
+#[macro_use]
+mod equality;
+#[macro_use]
+mod large;
+#[macro_use]
+mod maps;
+#[macro_use]
+mod sets;
+#[macro_use]
+mod texts;

@@ -1,0 +1,64 @@
+//! Loops that compare maps.
+
+/// Equality of maps with places. `$end` lends the pair at a place for writing.
+macro_rules! equality_loops {
+    ($end:expr) => {
+        #[inline(never)]
+        pub fn eq(keys: &[u64], _: &[u64], rounds: u64) -> u64 {
+            let mut map = filled(keys);
+            let mut other = filled(keys);
+            let mut sum = 0u64;
+            for round in 0..rounds {
+                if let Some((_key, value)) = $end(&mut map, keys.len().wrapping_sub(1)) {
+                    *value = round;
+                }
+                if let Some((_key, value)) = $end(&mut other, keys.len().wrapping_sub(1)) {
+                    *value = round;
+                }
+                if map == other {
+                    sum = sum.wrapping_add(round);
+                }
+            }
+            sum
+        }
+
+        #[inline(never)]
+        pub fn eq_reversed(keys: &[u64], _: &[u64], rounds: u64) -> u64 {
+            let mut map = filled(keys);
+            let mut other = filled(keys);
+            other.reverse();
+            let mut sum = 0u64;
+            for round in 0..rounds {
+                if let Some((_key, value)) = $end(&mut map, keys.len().wrapping_sub(1)) {
+                    *value = round;
+                }
+                if let Some((_key, value)) = $end(&mut other, 0) {
+                    *value = round;
+                }
+                if map == other {
+                    sum = sum.wrapping_add(round);
+                }
+            }
+            sum
+        }
+
+        #[inline(never)]
+        pub fn eq_not(keys: &[u64], _: &[u64], rounds: u64) -> u64 {
+            let mut map = filled(keys);
+            let mut other = filled(keys);
+            let mut sum = 0u64;
+            for round in 0..rounds {
+                if let Some((_key, value)) = $end(&mut map, keys.len().wrapping_sub(1)) {
+                    *value = round;
+                }
+                if let Some((_key, value)) = $end(&mut other, keys.len().wrapping_sub(1)) {
+                    *value = round ^ 1;
+                }
+                if map != other {
+                    sum = sum.wrapping_add(round);
+                }
+            }
+            sum
+        }
+    };
+}

@@ -1,0 +1,112 @@
+//! Loops over maps whose values have 128 bytes.
+
+/// What every map can do. `$remove` keeps the order, `$last` answers the last pair, `$from` takes a vector.
+macro_rules! large_loops {
+    ($map:ident, $remove:ident, $last:expr, $from:expr) => {
+        type Large = [u64; 16];
+
+        fn large_filled(keys: &[u64]) -> $map<u64, Large> {
+            let mut map = $map::with_capacity(keys.len());
+            for key in keys {
+                map.insert(*key, [*key; 16]);
+            }
+            map
+        }
+
+        fn large_mark(map: &$map<u64, Large>) -> u64 {
+            match $last(map) {
+                Some((key, value)) => (*key ^ value[15]).wrapping_add(map.len() as u64),
+                None => 0,
+            }
+        }
+
+        #[inline(never)]
+        pub fn large_insert(keys: &[u64], _: &[u64], rounds: u64) -> u64 {
+            let mut sum = 0u64;
+            for round in 0..rounds {
+                let mut map = $map::new();
+                for key in keys {
+                    map.insert(*key, [*key ^ round; 16]);
+                }
+                sum = sum.wrapping_add(large_mark(&map));
+            }
+            sum
+        }
+
+        #[inline(never)]
+        pub fn large_insert_present(keys: &[u64], probes: &[u64], rounds: u64) -> u64 {
+            let mut map = large_filled(keys);
+            let mut sum = 0u64;
+            for round in 0..rounds {
+                for probe in probes {
+                    if let Some(old) = map.insert(*probe, [*probe ^ round; 16]) {
+                        sum = sum.wrapping_add(old[7]);
+                    }
+                }
+            }
+            sum
+        }
+
+        #[inline(never)]
+        pub fn large_remove(keys: &[u64], probes: &[u64], rounds: u64) -> u64 {
+            let mut map = large_filled(keys);
+            let mut sum = 0u64;
+            for round in 0..rounds {
+                for probe in probes {
+                    if let Some(value) = map.$remove(probe) {
+                        sum = sum.wrapping_add(value[3] ^ round);
+                        map.insert(*probe, value);
+                    }
+                }
+            }
+            sum
+        }
+
+        #[inline(never)]
+        pub fn large_from_vec(keys: &[u64], _: &[u64], rounds: u64) -> u64 {
+            let mut sum = 0u64;
+            for round in 0..rounds {
+                let mut pairs = Vec::with_capacity(keys.len());
+                for key in keys {
+                    pairs.push((*key, [*key ^ round; 16]));
+                }
+                sum = sum.wrapping_add(large_mark(&$from(pairs)));
+            }
+            sum
+        }
+
+        #[inline(never)]
+        pub fn large_entry(keys: &[u64], _: &[u64], rounds: u64) -> u64 {
+            let mut sum = 0u64;
+            for round in 0..rounds {
+                let mut map = $map::with_capacity(keys.len());
+                for key in keys {
+                    let value = map.entry(*key).or_insert([*key ^ round; 16]);
+                    sum = sum.wrapping_add(value[0]);
+                }
+                sum = sum.wrapping_add(large_mark(&map));
+            }
+            sum
+        }
+    };
+}
+
+/// What maps with places can do.
+macro_rules! placed_large_loops {
+    ($map:ident) => {
+        #[inline(never)]
+        pub fn large_swap_remove(keys: &[u64], probes: &[u64], rounds: u64) -> u64 {
+            let mut map = large_filled(keys);
+            let mut sum = 0u64;
+            for round in 0..rounds {
+                for probe in probes {
+                    if let Some(value) = map.swap_remove(probe) {
+                        sum = sum.wrapping_add(value[3] ^ round);
+                        map.insert(*probe, value);
+                    }
+                }
+            }
+            sum
+        }
+    };
+}

@@ -1,0 +1,67 @@
+//! What the peers cannot do: insertions at a place, a map appended to another, and counted comparisons.
+use super::{filled, mark, pairs};
+use vecmap::VecMap;
+
+/// The original counts nothing: of distinct keys the number of comparisons is known.
+#[inline(never)]
+pub fn from_vec_counted(keys: &[u64], _: &[u64], rounds: u64) -> u64 {
+    let mut sum = 0u64;
+    for round in 0..rounds {
+        let map = VecMap::from(pairs(keys));
+        let n = keys.len() as u64;
+        sum = sum
+            .wrapping_add(mark(&map) ^ round)
+            .wrapping_add(n * (n - 1) / 2);
+    }
+    sum
+}
+
+// Each key goes to the place that its number gives.
+#[inline(never)]
+pub fn insert_at_present(keys: &[u64], probes: &[u64], rounds: u64) -> u64 {
+    let mut map = filled(keys);
+    let mut sum = 0u64;
+    if keys.is_empty() {
+        return sum;
+    }
+    for round in 0..rounds {
+        for probe in probes {
+            let to = ((*probe ^ round) % keys.len() as u64) as usize;
+            if to <= map.len() {
+                if let Some((from, old)) = map.insert_at(to, *probe, *probe ^ round) {
+                    sum = sum.wrapping_add(old ^ from as u64);
+                }
+            }
+        }
+    }
+    sum
+}
+
+// Each key is new and goes to the middle.
+#[inline(never)]
+pub fn insert_at_absent(keys: &[u64], _: &[u64], rounds: u64) -> u64 {
+    let mut sum = 0u64;
+    for round in 0..rounds {
+        let mut map = VecMap::with_capacity(keys.len());
+        for key in keys {
+            let middle = map.len() / 2;
+            map.insert_at(middle, *key, *key ^ round);
+        }
+        sum = sum.wrapping_add(mark(&map));
+    }
+    sum
+}
+
+#[inline(never)]
+pub fn append(keys: &[u64], probes: &[u64], rounds: u64) -> u64 {
+    let full = filled(keys);
+    let others = filled(probes);
+    let mut sum = 0u64;
+    for round in 0..rounds {
+        let mut map = full.clone();
+        let mut other = others.clone();
+        map.append(&mut other);
+        sum = sum.wrapping_add(mark(&map) ^ round);
+    }
+    sum
+}

@@ -1,0 +1,216 @@
+//! The rows: what is timed or counted, on which input.
+use crate::inputs::{Numbers, Texts};
+#[cfg(peers)]
+use crate::peers::{index, linear};
+use crate::{original, rattle};
+
+pub type Loop<T> = fn(&[T], &[T], u64) -> u64;
+
+/// One loop over the original, this library and perhaps the peers.
+pub struct Row<'a, T> {
+    pub name: &'static str,
+    /// How many operations one round makes.
+    pub steps: usize,
+    pub keys: &'a [T],
+    pub probes: &'a [T],
+    /// The loop over the original stands first.
+    pub loops: Vec<(&'static str, Loop<T>)>,
+}
+
+// A row with its name, its operations, its two inputs, the name of its loop, and the peers that have it.
+macro_rules! row {
+    ($name:literal, $steps:expr, $keys:expr, $probes:expr, $loop:ident $(, $peer:ident)*) => {{
+        #[allow(unused_mut)]
+        let mut loops: Vec<(&'static str, Loop<_>)> =
+            vec![("vecmap-rs", original::$loop), ("vecmap", rattle::$loop)];
+        $(
+            #[cfg(peers)]
+            loops.push(($peer::NAME, $peer::$loop));
+        )*
+        Row {
+            name: $name,
+            steps: $steps,
+            keys: $keys,
+            probes: $probes,
+            loops,
+        }
+    }};
+}
+
+/// All rows over numbers.
+pub fn numbers(it: &Numbers) -> Vec<Row<'_, u64>> {
+    let mut rows = lookups(it);
+    rows.extend(insertions(it));
+    rows.extend(removals(it));
+    rows.extend(bulk(it));
+    rows.extend(iteration(it));
+    rows.extend(orders(it));
+    rows.extend(sets(it));
+    rows.extend(set_pairs(it));
+    rows.extend(large(it));
+    rows.extend(runs(it));
+    rows
+}
+
+fn lookups(it: &Numbers) -> Vec<Row<'_, u64>> {
+    let n = it.keys.len();
+    vec![
+        row!("get hit", n, &it.keys, &it.hits, get, linear, index),
+        row!("get miss", n, &it.keys, &it.misses, get, linear, index),
+        row!("get_index_of", n, &it.keys, &it.mixed, place, index),
+    ]
+}
+
+fn insertions(it: &Numbers) -> Vec<Row<'_, u64>> {
+    let n = it.keys.len();
+    vec![
+        row!("insert new", n, &it.keys, &[], insert, linear, index),
+        row!("insert reserved", n, &it.keys, &[], insert_reserved, linear, index),
+        row!("insert present", n, &it.keys, &it.hits, insert_present, linear, index),
+        row!("insert_full reserved", n, &it.keys, &[], insert_full, index),
+        row!("insert_full present", n, &it.keys, &it.hits, insert_full_present, index),
+        row!("insert_at present", 8 * n, &it.keys, &it.orders, insert_at_present),
+        row!("insert_at absent", n, &it.keys, &[], insert_at_absent),
+        row!("entry present", n, &it.keys, &it.hits, entry_present, linear, index),
+        row!("entry absent", n, &it.keys, &[], entry_absent, linear, index),
+        row!("entry count words", 4 * n, &it.keys, &it.words, count_words, index),
+    ]
+}
+
+fn removals(it: &Numbers) -> Vec<Row<'_, u64>> {
+    let n = it.keys.len();
+    vec![
+        row!("remove+insert", 8 * n, &it.keys, &it.orders, remove, linear, index),
+        row!("swap_remove+insert", 8 * n, &it.keys, &it.orders, swap_remove, index),
+        row!("remove_index front", n, &it.keys, &[], remove_front, index),
+        row!("remove_index middle", n, &it.keys, &[], remove_middle, index),
+        row!("retain half", n, &it.keys, &[], retain),
+        row!("drain half", n, &it.keys, &[], drain),
+        row!("drain all, back", n, &it.keys, &[], drain_back),
+        row!("split_off half", n, &it.keys, &[], split_off),
+    ]
+}
+
+fn bulk(it: &Numbers) -> Vec<Row<'_, u64>> {
+    let n = it.keys.len();
+    vec![
+        row!("From<Vec> distinct", n, &it.keys, &[], from_vec, linear, index),
+        row!("From<Vec> counted", n, &it.keys, &[], from_vec_counted),
+        row!("From<Vec> repeats", n, &it.repeats, &[], from_vec, linear, index),
+        row!("from_iter distinct", n, &it.keys, &[], from_iter, linear, index),
+        row!("from_iter repeats", n, &it.repeats, &[], from_iter, linear, index),
+        row!("extend half there", n, &it.keys, &it.half, extend, linear, index),
+        row!("append half there", n, &it.keys, &it.half, append),
+        row!("clone", n, &it.keys, &[], clone, linear, index),
+        row!("== same order", n, &it.keys, &[], eq, index),
+        row!("== reversed", n, &it.keys, &[], eq_reversed, index),
+        row!("!= at the last", n, &it.keys, &[], eq_not, index),
+    ]
+}
+
+fn iteration(it: &Numbers) -> Vec<Row<'_, u64>> {
+    let n = it.keys.len();
+    vec![
+        row!("iter", n, &it.keys, &[], iter),
+        row!("iter, back", n, &it.keys, &[], iter_back),
+        row!("iter, both ends", n, &it.keys, &[], iter_both),
+        row!("keys", n, &it.keys, &[], keys),
+        row!("values", n, &it.keys, &[], values),
+        row!("iter_mut", n, &it.keys, &[], iter_mut),
+        row!("values_mut", n, &it.keys, &[], values_mut),
+        row!("clone, by value", n, &it.keys, &[], into_iter),
+    ]
+}
+
+fn orders(it: &Numbers) -> Vec<Row<'_, u64>> {
+    let n = it.keys.len();
+    vec![
+        row!("sort_keys", n, &it.keys, &[], sort_keys),
+        row!("sort_by", n, &it.keys, &[], sort_by),
+        row!("sort_by_cached_key", n, &it.keys, &[], sort_by_cached_key),
+        row!("sort_unstable_keys", n, &it.keys, &[], sort_unstable_keys),
+        row!("sort_unstable_by", n, &it.keys, &[], sort_unstable_by),
+        row!("binary_search_keys", n, &it.keys, &it.mixed, binary_search_keys),
+        row!("binary_search_by", n, &it.keys, &it.mixed, binary_search_by),
+        row!("binary_search_by_key", n, &it.keys, &it.mixed, binary_search_by_key),
+        row!("partition_point", n, &it.keys, &it.mixed, partition_point),
+    ]
+}
+
+fn sets(it: &Numbers) -> Vec<Row<'_, u64>> {
+    let n = it.keys.len();
+    vec![
+        row!("set insert", n, &it.keys, &[], set_insert, linear, index),
+        row!("set contains", n, &it.keys, &it.mixed, set_contains, linear, index),
+        row!("set remove+insert", 8 * n, &it.keys, &it.orders, set_remove),
+        row!("set swap_take+insert", 8 * n, &it.keys, &it.orders, set_swap_take),
+        row!("set From<Vec>", n, &it.keys, &[], set_from_vec, linear, index),
+        row!("set iter", n, &it.keys, &[], set_iter),
+        row!("set retain half", n, &it.keys, &[], set_retain),
+        row!("set drain half", n, &it.keys, &[], set_drain),
+        row!("set split_off half", n, &it.keys, &[], set_split_off),
+        row!("set sort", n, &it.keys, &[], set_sort),
+        row!("set sort_unstable", n, &it.keys, &[], set_sort_unstable),
+        row!("set binary_search", n, &it.keys, &it.mixed, set_binary_search),
+    ]
+}
+
+fn set_pairs(it: &Numbers) -> Vec<Row<'_, u64>> {
+    let n = it.keys.len();
+    vec![
+        row!("set is_subset", n, &it.keys, &it.keys, set_subset, index),
+        row!("set is_disjoint", n, &it.keys, &it.misses, set_disjoint, index),
+        row!("set ==", n, &it.keys, &it.keys, set_eq, index),
+        row!("set == shuffled", n, &it.keys, &it.hits, set_eq, index),
+        row!("set difference", n, &it.keys, &it.half, set_difference),
+        row!("set difference, back", n, &it.keys, &it.half, set_difference_back),
+        row!("set intersection", n, &it.keys, &it.half, set_intersection),
+        row!("set union", n, &it.keys, &it.half, set_union),
+        row!("set symmetric_difference", n, &it.keys, &it.half, set_symmetric_difference),
+        row!("set &", n, &it.keys, &it.half, set_and),
+        row!("set |", n, &it.keys, &it.half, set_or),
+        row!("set -", n, &it.keys, &it.half, set_sub),
+        row!("set ^", n, &it.keys, &it.half, set_xor),
+    ]
+}
+
+fn large(it: &Numbers) -> Vec<Row<'_, u64>> {
+    let n = it.keys.len();
+    vec![
+        row!("large insert new", n, &it.keys, &[], large_insert, linear, index),
+        row!("large insert present", n, &it.keys, &it.hits, large_insert_present, linear, index),
+        row!("large remove+insert", 8 * n, &it.keys, &it.orders, large_remove, linear, index),
+        row!("large swap_rm+insert", 8 * n, &it.keys, &it.orders, large_swap_remove, index),
+        row!("large From<Vec>", n, &it.keys, &[], large_from_vec, linear, index),
+        row!("large entry absent", n, &it.keys, &[], large_entry, linear, index),
+    ]
+}
+
+// The same commands as calls of the original, as calls of this library and by its `run`.
+fn runs(it: &Numbers) -> Vec<Row<'_, u64>> {
+    let mut map = row!("1000 commands", 1000, &[], &it.commands, calls);
+    map.loops.push(("vecmap run", rattle::run));
+    let mut set = row!("1000 set commands", 1000, &[], &it.commands, set_calls);
+    set.loops.push(("vecmap run", rattle::set_run));
+    vec![map, set]
+}
+
+/// All rows over texts, of which there are `n`.
+pub fn texts(it: &Texts, n: usize) -> Vec<Row<'_, u8>> {
+    let mut rows = vec![
+        row!("String get_str hit", n, &it.keys, &it.hits, text_get, linear, index),
+        row!("String get_str miss", n, &it.keys, &it.misses, text_get, linear, index),
+        row!("String get hit", n, &it.keys, &it.hits, string_get, linear, index),
+        row!("188-byte get_str hit", n, &it.long_keys, &it.long_hits, text_get, linear, index),
+    ];
+    rows.extend([
+        row!("String insert new", n, &it.keys, &[], string_insert, linear, index),
+        row!("count lines", 4 * n, &[], &it.words, count_lines, index),
+        row!("document set new", n, &it.names, &[], document_new),
+        row!("document set present", n, &it.names, &[], document_present),
+        row!("document get", n, &it.names, &it.other_names, document_get),
+        row!("document merge", n, &it.names, &it.half_names, document_merge),
+        row!("document same", n, &it.names, &it.other_names, document_same),
+    ]);
+    rows
+}

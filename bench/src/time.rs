@@ -1,0 +1,132 @@
+//! Times each row: its loops in turn, on the same inputs, in many interleaved samples.
+//!
+//! A line for each loop but the original's: the row, the size, whose loop it is, the least nanoseconds of an operation of
+//! the original and of it, and the median of its ratios to the original, sample by sample.
+#[macro_use]
+mod loops;
+mod inputs;
+mod original;
+#[cfg(peers)]
+mod peers;
+mod rattle;
+mod rows;
+
+use inputs::{Numbers, Texts};
+use rows::{Loop, Row};
+use std::env;
+use std::hint::black_box;
+
+struct Settings {
+    /// Parts of the names of the rows that are timed; none for all.
+    only: Vec<String>,
+    samples: usize,
+    /// How long a sample takes at least.
+    seconds: f64,
+}
+
+#[repr(C)]
+struct Timespec {
+    seconds: i64,
+    nanoseconds: i64,
+}
+
+unsafe extern "C" {
+    fn clock_gettime(clock: i32, time: &mut Timespec) -> i32;
+}
+
+/// The processor time of this thread, which leaves out what other programs take of a busy machine.
+fn processor_seconds() -> f64 {
+    const CLOCK_THREAD_CPUTIME_ID: i32 = 3;
+    let mut time = Timespec {
+        seconds: 0,
+        nanoseconds: 0,
+    };
+    // Safety: it writes the time and no more.
+    let status = unsafe { clock_gettime(CLOCK_THREAD_CPUTIME_ID, &mut time) };
+    assert_eq!(status, 0);
+    time.seconds as f64 + time.nanoseconds as f64 * 1e-9
+}
+
+/// The seconds that a loop takes, and its checksum.
+fn timed<T>(row: &Row<T>, run: Loop<T>, rounds: u64) -> (f64, u64) {
+    let start = processor_seconds();
+    let sum = black_box(run)(black_box(row.keys), black_box(row.probes), black_box(rounds));
+    (processor_seconds() - start, black_box(sum))
+}
+
+/// As many rounds as the original needs for a sample.
+fn rounds_of<T>(row: &Row<T>, seconds: f64) -> u64 {
+    let mut rounds = 1;
+    while timed(row, row.loops[0].1, rounds).0 < seconds {
+        rounds *= 2;
+    }
+    rounds
+}
+
+fn check<T>(row: &Row<T>, rounds: u64) {
+    let expected = timed(row, row.loops[0].1, rounds).1;
+    for (who, run) in &row.loops {
+        let sum = timed(row, *run, rounds).1;
+        assert_eq!(sum, expected, "{} of {who}, {rounds} rounds", row.name);
+    }
+}
+
+fn median(mut xs: Vec<f64>) -> f64 {
+    xs.sort_by(f64::total_cmp);
+    xs[xs.len() / 2]
+}
+
+fn time<T>(settings: &Settings, row: &Row<T>, n: usize) {
+    let chosen = |word: &String| row.name.contains(word.as_str());
+    if !settings.only.is_empty() && !settings.only.iter().any(chosen) {
+        return;
+    }
+    let rounds = rounds_of(row, settings.seconds);
+    for rounds in [0, 1, rounds] {
+        check(row, rounds);
+    }
+    let count = row.loops.len();
+    let mut samples = vec![Vec::new(); count];
+    for s in 0..settings.samples {
+        for at in 0..count {
+            let i = (at + s) % count;
+            samples[i].push(timed(row, row.loops[i].1, rounds).0);
+        }
+    }
+    let least = |i: usize| samples[i].iter().copied().fold(f64::MAX, f64::min);
+    let nanoseconds = |i: usize| 1e9 * least(i) / (rounds as f64 * row.steps as f64);
+    for i in 1..count {
+        let ratios = samples[i].iter().zip(&samples[0]).map(|(a, b)| a / b);
+        println!(
+            "{}\t{n}\t{}\t{:.3}\t{:.3}\t{:.3}",
+            row.name,
+            row.loops[i].0,
+            nanoseconds(0),
+            nanoseconds(i),
+            median(ratios.collect())
+        );
+    }
+}
+
+fn number<N: std::str::FromStr>(name: &str, default: N) -> N {
+    let text = env::var(name).ok();
+    text.and_then(|it| it.parse().ok()).unwrap_or(default)
+}
+
+fn main() {
+    let settings = Settings {
+        only: env::args().skip(1).collect(),
+        samples: number("SAMPLES", 15),
+        seconds: number("SECONDS", 0.003),
+    };
+    let sizes = env::var("SIZES").unwrap_or_else(|_| "8 32 128 512".to_string());
+    for n in sizes.split_whitespace().filter_map(|it| it.parse().ok()) {
+        let inputs = Numbers::of(n);
+        for row in rows::numbers(&inputs) {
+            time(&settings, &row, n);
+        }
+        for row in rows::texts(&Texts::of(&inputs), n) {
+            time(&settings, &row, n);
+        }
+    }
+}

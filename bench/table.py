@@ -1,0 +1,45 @@
+"""Reads runs of the benchmark, one for each order of the functions, and prints a table for each contender.
+
+A cell is the median over the runs of the ratio to the original, then the least and the greatest, and the medians of the
+least nanoseconds of an operation, the contender's and the original's.
+"""
+import statistics
+import sys
+
+
+def read(name):
+    """The lines of a run: (contender, row, size) to the original's time, the contender's, and the ratio."""
+    with open(name) as file:
+        lines = [line.rstrip("\n").split("\t") for line in file]
+    return {(who, row, int(size)): [float(x) for x in rest] for row, size, who, *rest in lines}
+
+
+def cell(found):
+    """What a table shows of one row at one size."""
+    if not found:
+        return ""
+    theirs, ours = (statistics.median(times[i] for times in found) for i in (0, 1))
+    ratios = [times[2] for times in found]
+    digits = 1 if theirs < 1000 else 0
+    spread = f"[{min(ratios):.2f}..{max(ratios):.2f}]"
+    return f"{statistics.median(ratios):.2f} {spread} {ours:.{digits}f}:{theirs:.{digits}f}"
+
+
+def table(runs, who):
+    """Prints the table of a contender."""
+    keys = [key for key in dict.fromkeys(key for run in runs for key in run) if key[0] == who]
+    sizes = sorted({size for _, _, size in keys})
+    print(f"\n| {who} : vecmap-rs | " + " | ".join(map(str, sizes)) + " |")
+    print("|---" * (len(sizes) + 1) + "|")
+    for row in dict.fromkeys(row for _, row, _ in keys):
+        cells = [cell([run[who, row, n] for run in runs if (who, row, n) in run]) for n in sizes]
+        print(f"| {row} | " + " | ".join(cells) + " |")
+
+
+def main():
+    runs = [read(name) for name in sys.argv[1:]]
+    for who in dict.fromkeys(key[0] for run in runs for key in run):
+        table(runs, who)
+
+
+main()

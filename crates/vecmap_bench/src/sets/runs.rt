@@ -1,0 +1,94 @@
+//! Mixed commands on sets, as values and as calls. A word holds a command in its low byte and an element above it.
+use crate::REFUSED;
+use std::alloc::{AllocError, Global};
+use vecmap::{SetCommand, SetReply, VecSet, run_set};
+
+fn command(word: u64) -> SetCommand<u64> {
+    let item = word >> 8;
+    match word & 255 {
+        0..=29 => SetCommand::Insert(item),
+        30..=69 => SetCommand::Contains(item),
+        70..=84 => SetCommand::IndexOf(item),
+        85..=88 => SetCommand::Len,
+        89..=98 => SetCommand::Remove(item),
+        _ => SetCommand::ToVec,
+    }
+}
+
+fn commands(alloc: Global, words: &[u64]) -> Result<Vec<SetCommand<u64>>, AllocError> {
+    let mut commands = Vec::with_capacity(alloc, words.len())?;
+    for word in words {
+        commands.push(command(*word))?;
+    }
+    Ok(commands)
+}
+
+fn of_place(place: Option<usize>) -> u64 {
+    match place {
+        Some(place) => place as u64,
+        None => 2,
+    }
+}
+
+fn of_reply(reply: &SetReply<u64>) -> u64 {
+    match reply {
+        SetReply::Truth(truth) => u64::from(*truth),
+        SetReply::Place(place) => of_place(*place),
+        SetReply::Number(n) => *n as u64,
+        SetReply::Items(items) => items.len() as u64,
+        _ => REFUSED,
+    }
+}
+
+fn command_runs(alloc: Global, words: &[u64], rounds: u64) -> Result<u64, AllocError> {
+    let mut sum: u64 = 0;
+    for round in 0..rounds {
+        let mut set = VecSet::new(alloc);
+        let replies = run_set(alloc, &mut set, commands(alloc, words)?)?;
+        for reply in replies.iter() {
+            sum = sum.wrapping_mul(31).wrapping_add(of_reply(reply) ^ round);
+        }
+    }
+    Ok(sum)
+}
+
+fn call_runs(alloc: Global, words: &[u64], rounds: u64) -> Result<u64, AllocError> {
+    let mut sum: u64 = 0;
+    for round in 0..rounds {
+        let mut set: VecSet<u64> = VecSet::new(alloc);
+        for word in words {
+            let word = *word;
+            let item = word >> 8;
+            let answer = match word & 255 {
+                0..=29 => u64::from(set.insert(item)?),
+                30..=69 => u64::from(set.contains(&item)),
+                70..=84 => of_place(set.get_index_of(&item)),
+                85..=88 => set.len() as u64,
+                89..=98 => u64::from(set.remove(&item)),
+                _ => set.to_vec()?.len() as u64,
+            };
+            sum = sum.wrapping_mul(31).wrapping_add(answer ^ round);
+        }
+    }
+    Ok(sum)
+}
+
+#[unsafe(no_mangle)]
+pub extern "C" fn vecmap_bench_set_run(
+    alloc: Global,
+    _keys: &[u64],
+    words: &[u64],
+    rounds: u64,
+) -> u64 {
+    command_runs(alloc, words, rounds).unwrap_or(REFUSED)
+}
+
+#[unsafe(no_mangle)]
+pub extern "C" fn vecmap_bench_set_calls(
+    alloc: Global,
+    _keys: &[u64],
+    words: &[u64],
+    rounds: u64,
+) -> u64 {
+    call_runs(alloc, words, rounds).unwrap_or(REFUSED)
+}
