@@ -86,7 +86,11 @@ fn many_pairs_are_kept_or_dropped(rt: HostRuntime) -> Result<(), Fail> {
         let more = make!(rt; told_couples(rt.alloc(), &log, &[3, 1, 4, 3, 5]));
         let put = match call {
             0 => map.extend(more),
-            1 => map.extend_pairs(&more),
+            1 => {
+                let put = map.extend_pairs(&more);
+                drop(more);
+                put
+            }
             2 => map.append(&mut VecMap::from(more)),
             _ => match VecMap::from_iter(rt.alloc(), more) {
                 Ok(made) => {
