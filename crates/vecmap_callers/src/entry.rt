@@ -57,6 +57,8 @@ pub fn or_empty<K: Eq + Drop>(
     key: K,
 ) -> Result<usize, Refused<(K, VecMap<u64, u64>)>>
     ensures len { IfOk result (λ n. n ≡ option_map_or (λ map. length map.entries) (lookup K.eq maps.old.entries key) 0) }
+    ensures entries { OnOk result (maps.new.entries ≡ put K.eq maps.old.entries key (unwrap_or (lookup K.eq maps.old.entries key) (record { entries = []; capacity = 0 }))) }
+    ensures err { OnErr result (Refuses K.eq maps.old key maps.new) }
     ensures given { IfErr result (λ refused. (refused.given.0 ≡ key) × (refused.given.1.entries ≡ [])) }
 {
     Ok(maps.entry(key).or_default()?.len())

@@ -1,5 +1,5 @@
 //! What callers of lookups and removals by a query can prove: by keys, texts, slices, and a query of their own.
-ghost use Rattle.std.specs.Prelude.{◌≡◌, ℕ, IsSome, List, None, OnOk, Some, bytes_eq, codes, false, nat_eq, string_bytes, string_eq};
+ghost use Rattle.std.specs.Prelude.{◌≡◌, ℕ, IsSome, List, None, OnErr, OnOk, Some, bytes_eq, codes, false, nat_eq, string_bytes, string_eq};
 ghost use Rattle.std.specs.Cmp.Lexicographic.{pointwise};
 ghost use Rattle.std.specs.List.{list_any};
 ghost use Rattle.vecmap.specs.Contents.{with_value_by};
@@ -57,6 +57,7 @@ pub fn put_text(
 ) -> Result<(), AllocError>
     ensures found { OnOk result (lookup_by (has_text text.now) map.new.entries ≡ Some value) }
     ensures others { OnOk result ((other : List ℕ) → bytes_eq text.now other ≡ false → lookup_by (has_text other) map.new.entries ≡ lookup_by (has_text other) map.old.entries) }
+    ensures err { OnErr result (map.new ≡ map.old) }
 {
     texts_find_as_strings::<u32>();
     let key = String::from_str(alloc, text)?;
@@ -67,7 +68,8 @@ pub fn put_text(
 /// Takes out the pair of a text, which finds nothing after.
 pub fn forget_text(map: &mut VecMap<String, u32>, text: &str)
     requires { HasDistinctKeys string_eq map.old.entries }
-    ensures { lookup_by (has_text text.now) map.new.entries ≡ None }
+    ensures entries { map.new.entries ≡ without_by (has_text text.now) map.old.entries }
+    ensures gone { lookup_by (has_text text.now) map.new.entries ≡ None }
 {
     texts_find_as_strings::<u32>();
     map.remove(text);

@@ -9,6 +9,8 @@ mod made;
 mod pulls;
 mod query;
 mod same;
+#[cfg(test)]
+mod tests;
 mod texts;
 mod told;
 

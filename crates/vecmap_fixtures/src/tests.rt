@@ -1,0 +1,66 @@
+//! What the comparisons tell apart: a test that uses one is worth no more than this.
+use super::{
+    Log, are_same, has_items, has_pairs, has_text_pairs, has_texts, has_told, has_told_pairs,
+    make_item, pulls_as_list, text_map, text_set, told_map, told_set,
+};
+use std::test::Fail;
+
+#[test]
+fn pairs_and_elements_are_told_apart(rt: HostRuntime) {
+    let pairs = [(make_item(1, 'a'), 5), (make_item(2, 'b'), 6)];
+    let items = [make_item(1, 'a'), make_item(2, 'b')];
+    assert!(rt; has_pairs(&pairs, &[(1, 'a', 5), (2, 'b', 6)]));
+    assert!(rt; has_items(&items, &[(1, 'a'), (2, 'b')]));
+    assert!(rt; are_same(&items, &[make_item(1, 'a'), make_item(2, 'b')]));
+    for (last, mark, value) in [(3, 'b', 6), (2, 'c', 6), (2, 'b', 7)] {
+        assert!(rt; !has_pairs(&pairs, &[(1, 'a', 5), (last, mark, value)]));
+        if value == 6 {
+            assert!(rt; !has_items(&items, &[(1, 'a'), (last, mark)]));
+            assert!(rt; !are_same(&items, &[make_item(1, 'a'), make_item(last, mark)]));
+        }
+    }
+    assert!(rt; !has_pairs(&pairs, &[(1, 'a', 5)]) && !has_pairs(&[], &[(1, 'a', 5)]));
+    assert!(rt; !has_items(&items, &[(1, 'a')]) && !has_items(&[], &[(1, 'a')]));
+    assert!(rt; !are_same(&items, &items[..1]) && !are_same(&items[..1], &items));
+}
+
+#[test]
+fn texts_are_told_apart(rt: HostRuntime) -> Result<(), Fail> {
+    let map = text_map(rt.alloc(), &[("a", "1"), ("b", "2")])?;
+    let set = text_set(rt.alloc(), &["a", "b"])?;
+    assert!(rt; has_text_pairs(map.as_slice(), &[("a", "1"), ("b", "2")]));
+    assert!(rt; has_texts(set.as_slice(), &["a", "b"]));
+    for pair in [("c", "2"), ("b", "3")] {
+        assert!(rt; !has_text_pairs(map.as_slice(), &[("a", "1"), pair]));
+    }
+    assert!(rt; !has_text_pairs(map.as_slice(), &[("a", "1")]));
+    assert!(rt; !has_texts(set.as_slice(), &["a", "c"]) && !has_texts(set.as_slice(), &["a"]));
+    Ok(())
+}
+
+#[test]
+fn what_tells_is_told_apart(rt: HostRuntime) -> Result<(), Fail> {
+    let log = Log::new();
+    let map = told_map(rt.alloc(), &log, &[1, 2])?;
+    let set = told_set(rt.alloc(), &log, &[1, 2])?;
+    assert!(rt; has_told_pairs(map.as_slice(), &[(1, 11), (2, 12)]));
+    assert!(rt; has_told(set.as_slice(), &[1, 2]) && log.alive() == 6);
+    for pair in [(3, 12), (2, 13)] {
+        assert!(rt; !has_told_pairs(map.as_slice(), &[(1, 11), pair]));
+    }
+    assert!(rt; !has_told_pairs(map.as_slice(), &[(1, 11)]));
+    assert!(rt; !has_told(set.as_slice(), &[1, 3]) && !has_told(set.as_slice(), &[1]));
+    drop((map, set));
+    assert!(rt; log.alive() == 0 && log.drops() == 6);
+    Ok(())
+}
+
+#[test]
+fn pulls_are_told_apart(rt: HostRuntime) {
+    for ends in 0..64 {
+        assert!(rt; pulls_as_list([1, 2, 3].iter(), |item| *item, &[1, 2, 3], ends));
+        assert!(rt; !pulls_as_list([1, 2, 3].iter(), |item| *item, &[1, 4, 3], ends));
+        assert!(rt; !pulls_as_list([1, 2, 3].iter(), |item| *item, &[1, 2], ends));
+        assert!(rt; !pulls_as_list([1, 2].iter(), |item| *item, &[1, 2, 3], ends));
+    }
+}
