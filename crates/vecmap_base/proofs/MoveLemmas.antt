@@ -1,6 +1,7 @@
 -- A turn by one of the part between two places moves one item.
 use Rattle.std.proofs.Common.{◌≡◌, ℕ, zero, suc, ◌+◌, ◌<◌, ◌≤◌, List, [], ◌∷◌, ◌++◌, ap, arith, append_assoc, drop, drop_at, get_or, insert, length, length-take-le, remove, set, take, take_at, ◌∙◌}
 use Rattle.std.proofs.lemmas.List.{drop-set-lt, get_or-set_same, take-set-le, take_more}
+use Rattle.std.proofs.Math.Seq.{take-length}
 
 module _ {X : Type 0} where
   -- xs, where the part of length k from the place a on was turned by n
@@ -38,3 +39,9 @@ module _ {X : Type 0} where
       let front : take i (set xs i x) ≡ take i xs = take-set-le i xs i x (omega arith) in
       let back : drop (suc i) (set xs i x) ≡ drop (suc i) xs = drop-set-lt (suc i) xs i x (omega arith) in
       λ j. insert (front j ++ back j) to (get_or-set_same xs i x d within j)
+
+  -- what stands before an item that was inserted last
+  pub taken_last : (ys : List X) (n m : ℕ) (x : X) → n ≡ length ys → m ≡ length ys → take n (insert ys m x) ≡ ys
+  taken_last ys n m x e f =
+      let size : length (take m ys) ≡ n = length-take-le m ys (omega (arith, f)) ∙ omega (arith, e, f) in
+      take_at (take m ys) (x ∷ drop m ys) n size ∙ rw f (take-length ys)

@@ -1,5 +1,5 @@
 -- When two lists are equal as maps or as sets. `key`, `value` and `eq` are the `==` of keys, values and elements.
-use Rattle.std.specs.Prelude.{ℕ, Bool, ◌&&◌, false, true, List, None, Option, Some, nat_eq}
+use Rattle.std.specs.Prelude.{ℕ, Bool, ◌&&◌, false, true, List, [], ◌∷◌, None, Option, Some, nat_eq}
 use Rattle.std.specs.List.{count_by, list_all, list_any}
 use Rattle.std.specs.Map.{keys_of}
 use Rattle.vecmap_base.specs.Pairs.{lookup}
@@ -44,3 +44,10 @@ module _ {T : Type 0} (eq : T → T → Bool) where
   -- equality of sets: each element of either list is in the other
   abbrev pub has_same_items : List T → List T → Bool
   has_same_items a b = is_within a b && is_within b a
+
+-- the items of l that have no mark; those beyond the marks have none
+unfoldable pub free : {X : Type 0} → List X → List Bool → List X
+free [] marks = []
+free (x ∷ xs) [] = x ∷ xs
+free (x ∷ xs) (true ∷ marks) = free xs marks
+free (x ∷ xs) (false ∷ marks) = x ∷ free xs marks

@@ -9,6 +9,7 @@ ghost use Rattle.std.specs.List.{list_any};
 ghost use Rattle.std.specs.Rc.{rc_str_bytes};
 ghost use Rattle.vecmap_base.specs.Pairs.{has_text, index_by};
 
+use crate::twos::{find_by_twos, find_item_by_twos, is_small};
 use std::borrow::CowStr;
 use std::boxed::{BoxedSlice, BoxedStr};
 use std::rc::RcStr;
@@ -154,6 +155,9 @@ pub fn find_equivalent<K: Eq, V, Q: Equivalent<K>>(pairs: &[(K, V)], query: Q) -
     ensures place { result ≡ index_by (Q.equivalent query) pairs.now }
     ensures within { IfSome result (λ i. i < length pairs.now) }
 {
+    if pairs.first().is_some_and(|pair| is_small(&pair.0)) {
+        return find_by_twos(pairs, query);
+    }
     pairs.iter().position(|pair| query.equivalent(&pair.0))
 }
 
@@ -166,6 +170,9 @@ pub fn find_item_equivalent<T: Eq, Q: Equivalent<T>>(items: &[T], query: Q) -> O
     ensures place { result ≡ position (Q.equivalent query) items.now }
     ensures within { IfSome result (λ i. i < length items.now) }
 {
+    if items.first().is_some_and(is_small) {
+        return find_item_by_twos(items, query);
+    }
     items.iter().position(|item| query.equivalent(item))
 }
 
@@ -174,8 +181,9 @@ pub fn find_item_equivalent<T: Eq, Q: Equivalent<T>>(items: &[T], query: Q) -> O
 /// ```
 /// is_in_equivalent(&["a", "b"], "c") // false
 /// ```
+#[tactic(auto, using(crate::proofs::PlaceLemmas::list_any_position))]
 pub fn is_in_equivalent<T: Eq, Q: Equivalent<T>>(items: &[T], query: Q) -> bool
     ensures { result ≡ list_any (Q.equivalent query) items.now }
 {
-    items.iter().any(|item| query.equivalent(item))
+    find_item_equivalent(items, query).is_some()
 }

@@ -13,6 +13,7 @@ mod iter;
 mod iter_mut;
 pub mod laws;
 mod lookup;
+mod matching;
 mod moving;
 mod refused;
 mod relations;
@@ -20,6 +21,7 @@ mod repeats;
 mod retain;
 mod search;
 mod steps;
+mod twos;
 
 pub use distinct::{items_distinct, keys_distinct};
 pub use drain::{move_range_last, reverse_from};
@@ -28,7 +30,7 @@ pub use equivalent::{Equivalent, find_equivalent, find_item_equivalent, is_in_eq
 pub use iter::{IntoIter, IntoKeys, IntoValues, Iter, Keys, Values};
 pub use iter_mut::{IterMut, IterMut2, KeysMut, ValuesMut};
 pub use lookup::{find, find_item, find_item_str, find_str, is_in};
-pub use moving::replace_and_move;
+pub use moving::{put_in, replace_and_move, take_out};
 pub use refused::Refused;
 pub use relations::{are_apart, are_within};
 pub use repeats::{dedup_keep_first, dedup_keep_last_value, gather_items, gather_pairs};

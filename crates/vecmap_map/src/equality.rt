@@ -8,8 +8,10 @@ use vecmap_base::pairs_equal;
 /// repeat, that is where each key of either has an equal value in both.
 ///
 /// Of maps that differ in length it compares nothing. Else it passes over the places from the front on that hold equal
-/// pairs, and counts each further pair of `self` in both rests, until two counts differ. So it makes n comparisons of
-/// keys for two equal maps of n pairs in one order, and at most 2n² + 1 for any.
+/// pairs, and matches the rests one to one, each pair with the first of the same that is still free. So it makes n
+/// comparisons of keys for two equal maps of n pairs in one order, at most n(n + 1)/2 + 1 for equal maps in which no keys
+/// repeat, and at most n² + 1 for any; where the rests have more than 1,024 pairs it counts in both, with at most
+/// 2n² + 1. It takes no memory.
 ///
 /// ```
 /// let map = vecmap!(alloc; 'a' => 1, 'b' => 2);

@@ -6,7 +6,7 @@ ghost use Rattle.vecmap_map.specs.Contents.{HasRoom, KeepsRoom, KeepsRoomAt, Ref
 use crate::VecMap;
 use std::alloc::AllocError;
 use std::mem::replace;
-use vecmap_base::{Refused, find, replace_and_move};
+use vecmap_base::{Refused, find, put_in, replace_and_move};
 
 impl<K, V> VecMap<K, V> {
     /// Puts a pair, and answers the old value of its key.
@@ -22,6 +22,7 @@ impl<K, V> VecMap<K, V> {
     /// map.insert('c', 4)? // None
     /// map.as_slice() // [('a', 3), ('b', 2), ('c', 4)]
     /// ```
+    #[inline]
     pub fn insert(&mut self, key: K, value: V) -> Result<Option<V>, Refused<(K, V)>>
     where
         K: Eq + Drop,
@@ -44,6 +45,7 @@ impl<K, V> VecMap<K, V> {
     /// map.insert_full('b', 3)? // (1, Some(2))
     /// map.insert_full('c', 4)? // (2, None)
     /// ```
+    #[inline]
     pub fn insert_full(&mut self, key: K, value: V) -> Result<(usize, Option<V>), Refused<(K, V)>>
     where
         K: Eq + Drop,
@@ -138,7 +140,7 @@ impl<K, V> VecMap<K, V> {
                 given: (key, value),
             });
         }
-        self.pairs.insert(index, (key, value)).unwrap();
+        put_in(&mut self.pairs, index, (key, value));
         Ok(None)
     }
 

@@ -15,7 +15,9 @@ use crate::drain::Drain;
 use std::alloc::AllocError;
 use std::ops::RangeBounds;
 use std::slice;
-use vecmap_base::{Equivalent, find_equivalent, move_range_last, retain_pairs, reverse_from};
+use vecmap_base::{
+    Equivalent, find_equivalent, move_range_last, retain_pairs, reverse_from, take_out,
+};
 
 impl<K, V> VecMap<K, V> {
     /// Drops all pairs, and compares and moves none. The capacity stays.
@@ -187,7 +189,7 @@ impl<K, V> VecMap<K, V> {
         ensures capacity { self.new.capacity ≡ self.old.capacity }
     {
         let index = find_equivalent(&self.pairs, key)?;
-        Some(self.pairs.remove(index))
+        Some(take_out(&mut self.pairs, index))
     }
 
     /// Takes out the pair at a place, which must be there: `len` tells. What follows moves up by one place, and nothing is
@@ -204,7 +206,7 @@ impl<K, V> VecMap<K, V> {
         ensures entries { self.new.entries ≡ remove self.old.entries index }
         ensures capacity { self.new.capacity ≡ self.old.capacity }
     {
-        self.pairs.remove(index)
+        take_out(&mut self.pairs, index)
     }
 
     /// Takes out the first pair whose key `key` stands for, and answers its value.

@@ -46,4 +46,6 @@ mod room;
 #[cfg(test)]
 mod search;
 #[cfg(test)]
+mod sizes;
+#[cfg(test)]
 mod split_off;

@@ -16,7 +16,9 @@ use crate::drain::Drain;
 use std::alloc::AllocError;
 use std::ops::RangeBounds;
 use std::slice;
-use vecmap_base::{Equivalent, find_item_equivalent, move_range_last, retain_items, reverse_from};
+use vecmap_base::{
+    Equivalent, find_item_equivalent, move_range_last, retain_items, reverse_from, take_out,
+};
 
 impl<T: Eq> VecSet<T> {
     /// Drops all elements, one after another. The capacity stays.
@@ -195,7 +197,7 @@ impl<T: Eq> VecSet<T> {
         ensures distinct { IsDistinct T.eq self.new.elements }
         ensures capacity { self.new.capacity ≡ self.old.capacity }
     {
-        self.items.remove(index)
+        take_out(&mut self.items, index)
     }
 
     /// Takes out the element that `item` stands for, and answers whether there was one.

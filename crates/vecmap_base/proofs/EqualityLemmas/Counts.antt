@@ -37,7 +37,7 @@ module _ {X : Type 0} (same : X → X → Bool) (o : IsEquivalence same) where
       let apart = or_parts (same x y) (list_any (same x) ys) e in
       many_cons y ys x ∙ ap (λ b. cond b 1 0 + many ys x) apart.0 ∙ (let rest = many_absent ys x apart.1 in omega (arith, rest))
 
-  agreed : (xs a b : List X) (x : X) → all_agree xs a b ≡ true → list_any (same x) xs ≡ true → many a x ≡ many b x
+  pub agreed : (xs a b : List X) (x : X) → all_agree xs a b ≡ true → list_any (same x) xs ≡ true → many a x ≡ many b x
   agreed [] a b x e h = absurd (true≢false (sym h))
   agreed (y ∷ ys) a b x e h =
       let both = and_parts (nat_eq (many a y) (many b y)) (all_agree ys a b) e in
@@ -46,7 +46,7 @@ module _ {X : Type 0} (same : X → X → Bool) (o : IsEquivalence same) where
         | inr i ↦ agreed ys a b x both.1 (sym (ap (λ c. c || list_any (same x) ys) i) ∙ h)
       ]
 
-  agree_everywhere : (xs a b : List X) → SameCounts a b → all_agree xs a b ≡ true
+  pub agree_everywhere : (xs a b : List X) → SameCounts a b → all_agree xs a b ≡ true
   agree_everywhere [] a b h = refl
   agree_everywhere (x ∷ xs) a b h = and_from _ _ (eq-eqb (many a x) (many b x) (h x)) (agree_everywhere xs a b h)
 

@@ -1,6 +1,6 @@
 -- Worked examples: equality of maps, with repeats too.
 use Rattle.std.specs.Prelude.{◌≡◌, ℕ, Bool, true, false, List, [], ◌∷◌, None, Some, nat_eq, refl}
-use Rattle.vecmap_base.specs.Equality.{agrees, count, counts_agree, has_same_counts, lookups_agree, same_option, same_pair}
+use Rattle.vecmap_base.specs.Equality.{agrees, count, counts_agree, free, has_same_counts, lookups_agree, same_option, same_pair}
 use Rattle.vecmap_base.proofs.Examples.Tagged.{one_x, one_y, same_number}
 
 abbrev equal : List (ℕ × ℕ) → List (ℕ × ℕ) → Bool
@@ -34,6 +34,10 @@ the_same_pair = (refl, refl)
 -- the pairs of one list alone say too little, where the lists differ in length
 counts_from_one_side : (counts_agree nat_eq nat_eq ((1, 5) ∷ []) ((1, 5) ∷ []) ((1, 5) ∷ (2, 6) ∷ []) ≡ true) × (counts_agree nat_eq nat_eq ((2, 6) ∷ []) ((1, 5) ∷ []) ((1, 5) ∷ (2, 6) ∷ []) ≡ false)
 counts_from_one_side = (refl, refl)
+
+without_marks : (free {X = ℕ × ℕ} ((1, 5) ∷ (2, 6) ∷ []) (true ∷ []) ≡ (2, 6) ∷ []) × (free {X = ℕ × ℕ} ((1, 5) ∷ []) (false ∷ true ∷ []) ≡ (1, 5) ∷ [])
+unfolding free
+without_marks = (refl, refl)
 
 values_or_none : (same_option {V = ℕ} nat_eq None None ≡ true) × (same_option nat_eq (Some 5) (Some 5) ≡ true) × (same_option nat_eq (Some 5) None ≡ false) × (same_option nat_eq (Some 5) (Some 6) ≡ false)
 values_or_none = (refl, refl, refl, refl)

@@ -1,5 +1,5 @@
 -- What a query finds that stands for the keys that are equal to one of them.
-use Rattle.std.specs.Prelude.{◌≡◌, ℕ, Bool, true, false, List, [], ◌∷◌, Option, None, Some, String, IsTrue, bytes_eq, if◌then◌else◌, remove, string_bytes, string_eq, refl}
+use Rattle.std.specs.Prelude.{◌≡◌, ℕ, Bool, false, List, [], ◌∷◌, Option, None, Some, String, IsTrue, bytes_eq, if◌then◌else◌, remove, string_bytes, string_eq, refl}
 use Rattle.std.specs.Cmp.{IsEquivalence, on_equiv}
 use Rattle.std.specs.Cmp.Lexicographic.{nat_list_eq_equiv}
 use Rattle.std.specs.declared.alloc.Global.{Global}

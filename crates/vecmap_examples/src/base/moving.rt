@@ -1,7 +1,7 @@
 //! Examples of `vecmap_base/src/moving.rt`.
 use std::alloc::Global;
 use std::test::Fail;
-use vecmap_base::replace_and_move;
+use vecmap_base::{put_in, replace_and_move, take_out};
 
 fn shows_replace_and_move(alloc: Global) -> Result<bool, Fail> {
     let mut items = vec![in alloc; 'a', 'b', 'c']?;
@@ -12,9 +12,30 @@ fn shows_replace_and_move(alloc: Global) -> Result<bool, Fail> {
     )
 }
 
+fn shows_take_out(alloc: Global) -> Result<bool, Fail> {
+    let mut items = vec![in alloc; 'a', 'b', 'c']?;
+    Ok(
+        0 < items.len()
+            && take_out(&mut items, 0) == 'a'
+            && items.as_slice() == ['b', 'c'].as_slice(),
+    )
+}
+
+fn shows_put_in(alloc: Global) -> Result<bool, Fail> {
+    let mut items = vec![in alloc; 'a', 'b', 'c']?;
+    items.reserve(1)?;
+    if items.len() < 1 || items.len() == items.capacity() {
+        return Ok(false);
+    }
+    put_in(&mut items, 1, 'd');
+    Ok(items.as_slice() == ['a', 'd', 'b', 'c'].as_slice())
+}
+
 #[test]
 fn examples_hold(rt: HostRuntime) -> Result<(), Fail> {
     let alloc = rt.alloc();
     assert!(rt; shows_replace_and_move(alloc)?);
+    assert!(rt; shows_take_out(alloc)?);
+    assert!(rt; shows_put_in(alloc)?);
     Ok(())
 }

@@ -18,5 +18,5 @@ returns g c =
     let b = c.args.b.now in
     let start = c.equal_front-start.result in
     let as_long : length (drop start a) ≡ length (drop start b) = omega (arith, length-drop start a, length-drop start b) in
-    c.counts_equal.ensures ∙ (λ t. counts_agree key value (take_rest a start t) (take_rest a start t) (take_rest b start t))
+    c.rests_equal.ensures ∙ (λ t. counts_agree key value (take_rest a start t) (take_rest a start t) (take_rest b start t))
     ∙ sym (map_equal_by_half key value k v (drop start a) (drop start b) as_long) ∙ past_front key value k v start a b c.equal_front-start.ensures.equal

@@ -1,0 +1,116 @@
+-- Items that have no mark, and two lists whose items are matched one to one.
+use Rattle.std.specs.Prelude.{◌≡◌, ℕ, zero, suc, ◌+◌, ◌<◌, ◌≤◌, Bool, true, false, ◌&&◌, ◌||◌, not, List, [], ◌∷◌, None, Some, length, refl}
+use Rattle.std.specs.Cmp.{IsEquivalence}
+use Rattle.std.specs.List.{list_any, sum_by}
+use Rattle.std.proofs.Common.{cond, drop, get_or, replicate, set, sym, ap, ◌∙◌, arith, true≢false, ⊎_elim}
+use Rattle.std.proofs.lemmas.Bool.{cases_lt, false_from_ne_true}
+use Rattle.std.proofs.lemmas.List.{drop_all, length-drop, nil_from_length}
+use Rattle.std.proofs.lemmas.List.Folds.{list_any_at}
+use Rattle.std.proofs.lemmas.List.Quantifiers.{position-Some}
+use Rattle.std.proofs.lemmas.List.Sums.{sum_by-cons, sum_by-drop_more}
+use Rattle.vecmap_base.specs.Equality.{free, same_pair}
+use Rattle.vecmap_base.specs.Pairs.{index_of}
+use Rattle.vecmap_base.proofs.EqualityLemmas.Counts.{agree_everywhere, agreed, all_agree, many, many_absent}
+use Rattle.vecmap_base.proofs.PlaceLemmas.{fails_everywhere}
+
+module _ {X : Type 0} where
+  pub free_unmarked : (xs : List X) (n : ℕ) → free xs (replicate n false) ≡ xs
+  unfolding free
+  free_unmarked [] n = refl
+  free_unmarked (x ∷ xs) zero = refl
+  free_unmarked (x ∷ xs) (suc n) = ap (λ l. x ∷ l) (free_unmarked xs n)
+
+  -- none without a mark passes, where none passes at any place without one
+  pub none_free : (p : X → Bool) (xs : List X) (marks : List Bool) (d : X) → length xs ≤ length marks → ((k : ℕ) → k < length xs → (not (get_or marks k true) && p (get_or xs k d)) ≡ false) → list_any p (free xs marks) ≡ false
+  unfolding free
+  none_free p [] marks d long h = refl
+  none_free p (x ∷ xs) [] d long h = absurd (omega arith)
+  none_free p (x ∷ xs) (true ∷ marks) d long h = none_free p xs marks d (omega arith) (λ k lt. h (suc k) (omega arith))
+  none_free p (x ∷ xs) (false ∷ marks) d long h =
+      let here : p x ≡ false = h 0 (omega arith) in
+      ap (λ b. b || list_any p (free xs marks)) here ∙ none_free p xs marks d (omega arith) (λ k lt. h (suc k) (omega arith))
+
+  -- one more mark takes the item at its place away
+  pub sum_free : (f : X → ℕ) (xs : List X) (marks : List Bool) (j : ℕ) (d : X) → j < length xs → get_or marks j true ≡ false → sum_by f (free xs marks) ≡ f (get_or xs j d) + sum_by f (free xs (set marks j true))
+  unfolding free
+  sum_free f [] marks j d lt e = absurd (omega arith)
+  sum_free f (x ∷ xs) [] j d lt e = absurd (true≢false e)
+  sum_free f (x ∷ xs) (true ∷ marks) zero d lt e = absurd (true≢false e)
+  sum_free f (x ∷ xs) (false ∷ marks) zero d lt e = sum_by-cons f x (free xs marks)
+  sum_free f (x ∷ xs) (true ∷ marks) (suc j) d lt e = sum_free f xs marks j d (omega arith) e
+  sum_free f (x ∷ xs) (false ∷ marks) (suc j) d lt e =
+      let rest = sum_free f xs marks j d (omega arith) e in
+      omega (arith, rest, sum_by-cons f x (free xs marks), sum_by-cons f x (free xs (set marks j true)))
+
+  -- the same of their number
+  pub length_free : (xs : List X) (marks : List Bool) (j : ℕ) → j < length xs → get_or marks j true ≡ false → length (free xs marks) ≡ 1 + length (free xs (set marks j true))
+  unfolding free
+  length_free [] marks j lt e = absurd (omega arith)
+  length_free (x ∷ xs) [] j lt e = absurd (true≢false e)
+  length_free (x ∷ xs) (true ∷ marks) zero lt e = absurd (true≢false e)
+  length_free (x ∷ xs) (false ∷ marks) zero lt e = omega arith
+  length_free (x ∷ xs) (true ∷ marks) (suc j) lt e = length_free xs marks j (omega arith) e
+  length_free (x ∷ xs) (false ∷ marks) (suc j) lt e = let rest = length_free xs marks j (omega arith) e in omega (arith, rest)
+
+module _ {X : Type 0} (same : X → X → Bool) (o : IsEquivalence same) where
+  -- the items of a but for `rest` are matched with those of b that have marks
+  abbrev pub Matched : List X → List X → List X → List Bool → Type 0
+  Matched a b rest marks = (length rest ≡ length (free b marks)) × ((z : X) → many same o a z + many same o (free b marks) z ≡ many same o b z + many same o rest z)
+
+  -- the item of a at i is matched with that of b at j
+  pub one_matched : (a b : List X) (i j : ℕ) (x : X) (marks : List Bool) → i < length a → x ≡ get_or a i x → j < length b → get_or marks j true ≡ false → same x (get_or b j x) ≡ true → Matched a b (drop i a) marks → Matched a b (drop (i + 1) a) (set marks j true)
+  one_matched a b i j x marks within at j_within unmarked like m =
+      let fewer = length_free b marks j j_within unmarked in (
+        omega (arith, m.0, fewer, length-drop i a, length-drop (i + 1) a),
+        λ z.
+            let left : many same o (drop i a) z ≡ cond (same z x) 1 0 + many same o (drop (i + 1) a) z = sum_by-drop_more (λ y. cond (same z y) 1 0) a i x within ∙ ap (λ y. cond (same z y) 1 0 + many same o (drop (i + 1) a) z) (sym at) in
+            let taken = sum_free (λ y. cond (same z y) 1 0) b marks j x j_within unmarked in
+            let alike : same z x ≡ same z (get_or b j x) = o.symm z x ∙ o.congr x (get_or b j x) z like ∙ o.symm (get_or b j x) z in
+            omega (arith, m.1 z, left, taken, ap {B = ℕ} (λ c. cond c 1 0) alike),
+      )
+
+  pub all_matched : (a b : List X) (i : ℕ) (marks : List Bool) → length a ≤ i → Matched a b (drop i a) marks → all_agree same o a a b ≡ true
+  all_matched a b i marks end m =
+      let no_rest : drop i a ≡ [] = drop_all i a end in
+      let none_left : free b marks ≡ [] = nil_from_length (free b marks) (sym m.0 ∙ ap length no_rest) in
+      agree_everywhere same o a a b (λ z. let counts = m.1 z in let none : many same o (drop i a) z ≡ 0 = ap (λ l. many same o l z) no_rest in let left : many same o (free b marks) z ≡ 0 = ap (λ l. many same o l z) none_left in omega (arith, counts, none, left))
+
+  -- the item of a at i cannot be matched
+  pub unmatched : (a b : List X) (i : ℕ) (x : X) (marks : List Bool) → i < length a → x ≡ get_or a i x → list_any (same x) (free b marks) ≡ false → Matched a b (drop i a) marks → all_agree same o a a b ≡ false
+  unmatched a b i x marks within at absent m = false_from_ne_true (all_agree same o a a b) (λ e.
+      let there : list_any (same x) a ≡ true = list_any_at (same x) a i x within (ap (same x) (sym at) ∙ o.refl x) in
+      let as_many = agreed same o a a b x e there in
+      let none = many_absent same o (free b marks) x absent in
+      let left : many same o (drop i a) x ≡ cond (same x x) 1 0 + many same o (drop (i + 1) a) x = sum_by-drop_more (λ y. cond (same x y) 1 0) a i x within ∙ ap (λ y. cond (same x y) 1 0 + many same o (drop (i + 1) a) x) (sym at) in
+      let one : cond (same x x) 1 0 ≡ 1 = ap {B = ℕ} (λ c. cond c 1 0) (o.refl x) in
+      omega (arith, as_many, none, left, one, m.1 x))
+
+module _ {K V : Type 0} (key : K → K → Bool) (value : V → V → Bool) where
+  -- none of the first n pairs has no mark and is the same as p
+  abbrev pub NoneFree : List (K × V) → List Bool → K × V → ℕ → Type 0
+  NoneFree pairs marks p n = (k : ℕ) → k < n → (not (get_or marks k true) && same_pair key value p (get_or pairs k p)) ≡ false
+
+  other_key : (m : Bool) (p q : K × V) → key p.0 q.0 ≡ false → (not m && same_pair key value p q) ≡ false
+  other_key true p q e = refl
+  other_key false p q e = ap (λ b. b && value p.1 q.1) e
+
+  pub other_value : (m : Bool) (p q : K × V) → value p.1 q.1 ≡ false → (not m && same_pair key value p q) ≡ false
+  other_value true p q e = refl
+  other_value false p q e = ap (λ b. key p.0 q.0 && b) e ∙ both_false (key p.0 q.0)
+    where
+      both_false : (b : Bool) → (b && false) ≡ false
+      both_false true = refl
+      both_false false = refl
+
+  -- before the first place of its key
+  pub none_free_before : (pairs : List (K × V)) (marks : List Bool) (p : K × V) (i : ℕ) → Some i ≡ index_of key pairs p.0 → NoneFree pairs marks p i
+  none_free_before pairs marks p i e k lt = other_key (get_or marks k true) p (get_or pairs k p) ((position-Some (λ q. key p.0 q.0) pairs i p (sym e)).2 k lt)
+
+  -- where there is no such key
+  pub none_free_absent : (pairs : List (K × V)) (marks : List Bool) (p : K × V) → length pairs ≤ length marks → None ≡ index_of key pairs p.0 → list_any (same_pair key value p) (free pairs marks) ≡ false
+  none_free_absent pairs marks p long e = none_free (same_pair key value p) pairs marks p long (λ k lt. other_key (get_or marks k true) p (get_or pairs k p) (fails_everywhere (λ q. key p.0 q.0) pairs p (sym e) k lt))
+
+  -- one place more
+  pub none_free_next : (pairs : List (K × V)) (marks : List Bool) (p : K × V) (n : ℕ) → NoneFree pairs marks p n → (not (get_or marks n true) && same_pair key value p (get_or pairs n p)) ≡ false → NoneFree pairs marks p (n + 1)
+  none_free_next pairs marks p n before here k lt =
+      ⊎_elim (λ below. before k below) (λ above. let at : k ≡ n = omega arith in rw at here) (cases_lt k n)

@@ -1,0 +1,59 @@
+//! Searches of two items a turn. They ask as many questions as those of one, in the same order, and are faster where a
+//! question takes no longer than the turn of a loop.
+ghost use Rattle.std.specs.Prelude.{◌≡◌, ◌<◌, IfSome, length, position};
+ghost use Rattle.vecmap_base.specs.Pairs.{index_by};
+
+use crate::equivalent::Equivalent;
+use std::mem::size_of_val;
+
+// The bytes of a word.
+const WORD: usize = 8;
+
+// The first place whose key the query stands for.
+pub(crate) fn find_by_twos<K: Eq, V, Q: Equivalent<K>>(pairs: &[(K, V)], query: Q) -> Option<usize>
+    ensures place { result ≡ index_by (Q.equivalent query) pairs.now }
+    ensures within { IfSome result (λ i. i < length pairs.now) }
+{
+    let twos = pairs.len() / 2;
+    for two in 0..twos {
+        let at = 2 * two;
+        if query.equivalent(&pairs[at].0) {
+            return Some(at);
+        }
+        if query.equivalent(&pairs[at + 1].0) {
+            return Some(at + 1);
+        }
+    }
+    let last = 2 * twos;
+    if last < pairs.len() && query.equivalent(&pairs[last].0) {
+        return Some(last);
+    }
+    None
+}
+
+// The first place whose element the query stands for.
+pub(crate) fn find_item_by_twos<T: Eq, Q: Equivalent<T>>(items: &[T], query: Q) -> Option<usize>
+    ensures place { result ≡ position (Q.equivalent query) items.now }
+    ensures within { IfSome result (λ i. i < length items.now) }
+{
+    let twos = items.len() / 2;
+    for two in 0..twos {
+        let at = 2 * two;
+        if query.equivalent(&items[at]) {
+            return Some(at);
+        }
+        if query.equivalent(&items[at + 1]) {
+            return Some(at + 1);
+        }
+    }
+    let last = 2 * twos;
+    if last < items.len() && query.equivalent(&items[last]) {
+        return Some(last);
+    }
+    None
+}
+
+// Whether an item takes no more than a word, as numbers do and texts do not.
+pub(crate) fn is_small<T>(item: &T) -> bool {
+    size_of_val(item) <= WORD
+}
