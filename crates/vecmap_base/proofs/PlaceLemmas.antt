@@ -5,7 +5,7 @@ use Rattle.std.specs.Cmp.{both_ways}
 use Rattle.std.specs.Option.{option_and_then, option_map}
 use Rattle.std.proofs.Common.{cond, sym, ap, ◌∙◌, arith, get_or, true≢false, inl, inr}
 use Rattle.std.proofs.lemmas.Bool.{cases_Bool, false_from_ne_true, lt-ltb, ltb-true}
-use Rattle.std.proofs.lemmas.List.Folds.{list_any_at}
+use Rattle.std.proofs.lemmas.List.Folds.{list_any_at, list_any_more}
 
 is_some-map : {X Y : Type 0} (f : X → Y) (o : Option X) → is_some (option_map f o) ≡ is_some o
 is_some-map f None = refl
@@ -82,19 +82,10 @@ module _ {X : Type 0} (p : X → Bool) where
   fails_everywhere xs d e k lt = false_from_ne_true (p (get_or xs k d)) (λ h. true≢false (sym (list_any_at p xs k d lt h) ∙ list_any_position xs ∙ ap is_some e))
 
   -- where neither the first j elements nor that at j pass, none of the first k = j + 1 does
-  pub none_before_next : (xs : List X) (j k : ℕ) (x : X) → k ≡ j + 1 → x ≡ get_or xs j x → p x ≡ false → position p (take j xs) ≡ None → position p (take k xs) ≡ None
-  none_before_next xs j k x next e miss none =
-      let plus : j + 1 ≡ suc j = omega arith in
-      ap (λ m. position p (take m xs)) (next ∙ plus) ∙ position_none (take (suc j) xs) (step xs j (sym (ap p e) ∙ miss) (sym (is_some_position (take j xs)) ∙ ap is_some none))
-    where
-      step : (ys : List X) (i : ℕ) → p (get_or ys i x) ≡ false → list_any p (take i ys) ≡ false → list_any p (take (suc i) ys) ≡ false
-      step [] i h m = refl
-      step (y ∷ ys) zero h m = ap (λ b. b || false) h
-      step (y ∷ ys) (suc i) h m =
-          elim (cases_Bool (p y)) [
-            | inl f ↦ absurd (true≢false (sym (ap (λ b. b || list_any p (take i ys)) f) ∙ m))
-            | inr f ↦ ap (λ b. b || list_any p (take (suc i) ys)) f ∙ step ys i h (sym (ap (λ b. b || list_any p (take i ys)) f) ∙ m)
-          ]
+  pub none_before_next : (xs : List X) (j k : ℕ) (x : X) → j < length xs → k ≡ j + 1 → x ≡ get_or xs j x → p x ≡ false → position p (take j xs) ≡ None → position p (take k xs) ≡ None
+  none_before_next xs j k x within next e miss none =
+      let before : list_any p (take j xs) ≡ false = list_any_position (take j xs) ∙ ap is_some none in
+      ap (λ m. position p (take m xs)) next ∙ position_none (take (j + 1) xs) (list_any_more p xs j x within ∙ (λ t. before t || (sym (ap p e) ∙ miss) t))
 
 module _ {X Y : Type 0} (p : Y → Bool) (f : X → Y) where
   pub list_any_map : (xs : List X) → list_any p (map f xs) ≡ list_any (λ x. p (f x)) xs

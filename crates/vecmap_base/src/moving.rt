@@ -3,7 +3,7 @@ ghost use Rattle.std.specs.Prelude.{◌≡◌, ◌<◌, ◌≤◌, Some, insert,
 
 use std::mem::{replace, size_of_val};
 
-// The most bytes of an item with which a turn by one place is faster than what `Vec::remove` does.
+// The most bytes of an item that is taken out by a turn.
 const TURNED: usize = 64;
 
 /// Puts an item in the place of the one at `from`, which it answers, and moves it to `to`. Those between the two places

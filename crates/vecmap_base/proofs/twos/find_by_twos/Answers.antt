@@ -11,7 +11,7 @@ pub returns-then-equivalent-2-clause-place : goal.returns-then-equivalent-2-clau
 returns-then-equivalent-2-clause-place g c =
     let asks : g.row.K.Denot × g.row.V.Denot → Bool = λ pair. g.Q.Equivalent.equivalent c.args.query pair.0 in
     let at = 2 * c.loop-two.two in
-    let before : position asks (take (at + 1) c.args.pairs.now) ≡ None = none_before_next asks c.args.pairs.now at (at + 1) c.index-pairs-at.result (omega arith) c.index-pairs-at.is (ap asks c.index-pairs-at.is ∙ sym c.equivalent.ensures ∙ c.if-equivalent.false) c.loop-two.invariant in
+    let before : position asks (take (at + 1) c.args.pairs.now) ≡ None = none_before_next asks c.args.pairs.now at (at + 1) c.index-pairs-at.result (let t = c.loop-two-test.true in omega (arith, t)) (omega arith) c.index-pairs-at.is (ap asks c.index-pairs-at.is ∙ sym c.equivalent.ensures ∙ c.if-equivalent.false) c.loop-two.invariant in
     sym (position_at asks c.args.pairs.now (at + 1) c.index-pairs-at-in-loop-two.result (let t = c.loop-two-test.true in omega (arith, t)) c.index-pairs-at-in-loop-two.is (ap asks c.index-pairs-at-in-loop-two.is ∙ sym c.equivalent-in-loop-two.ensures ∙ c.if-equivalent-2.true) before)
 
 pub returns-then-equivalent-3-clause-place : goal.returns-then-equivalent-3-clause-place

@@ -9,7 +9,7 @@ returns-then-equivalent-clause-place g c =
 pub returns-then-equivalent-2-clause-place : goal.returns-then-equivalent-2-clause-place
 returns-then-equivalent-2-clause-place g c =
     let at = 2 * c.loop-two.two in
-    let before : position (g.Q.Equivalent.equivalent c.args.query) (take (at + 1) c.args.items.now) ≡ None = none_before_next (g.Q.Equivalent.equivalent c.args.query) c.args.items.now at (at + 1) c.index-items-at.result (omega arith) c.index-items-at.is (sym c.equivalent.ensures ∙ c.if-equivalent.false) c.loop-two.invariant in
+    let before : position (g.Q.Equivalent.equivalent c.args.query) (take (at + 1) c.args.items.now) ≡ None = none_before_next (g.Q.Equivalent.equivalent c.args.query) c.args.items.now at (at + 1) c.index-items-at.result (let t = c.loop-two-test.true in omega (arith, t)) (omega arith) c.index-items-at.is (sym c.equivalent.ensures ∙ c.if-equivalent.false) c.loop-two.invariant in
     sym (position_at (g.Q.Equivalent.equivalent c.args.query) c.args.items.now (at + 1) c.index-items-at-in-loop-two.result (let t = c.loop-two-test.true in omega (arith, t)) c.index-items-at-in-loop-two.is (sym c.equivalent-in-loop-two.ensures ∙ c.if-equivalent-2.true) before)
 
 pub returns-then-equivalent-3-clause-place : goal.returns-then-equivalent-3-clause-place
