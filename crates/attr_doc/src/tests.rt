@@ -1,7 +1,6 @@
 //! Whole documents, each as it is printed.
 mod examples;
 mod names;
-mod refusals;
 
 use crate::{Document, Name};
 use std::alloc::{AllocError, Global};

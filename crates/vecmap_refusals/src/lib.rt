@@ -6,6 +6,8 @@
 #![tactic(auto)]
 
 #[cfg(test)]
+mod document;
+#[cfg(test)]
 mod macros;
 #[cfg(test)]
 mod map;
