@@ -1,7 +1,4 @@
-use Rattle.std.specs.Cmp.{IsEquivalence}
-use Rattle.std.specs.Cmp.Rules.{comparing}
-use Rattle.std.specs.Prelude.{String, bytes_eq, string_bytes, string_eq}
-use Rattle.std.proofs.Common.{ap, refl, ◌∙◌}
+use Rattle.std.specs.Prelude.{string_eq}
 use Rattle.vecmap_base.specs.Pairs.{has_text}
 use Rattle.vecmap_base.proofs.PairsLemmas.Queries.{index_by_query, lookup_by_query, lookup_put_other_query, lookup_put_query, lookup_without_query, same_text, string_equality, text_respects, without_by_query}
 use Rattle.vecmap_map.proofs.laws.queries.texts_find_as_strings.Goals as goal
