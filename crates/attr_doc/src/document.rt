@@ -65,7 +65,8 @@ impl Document {
     /// A new name goes last in its section, and a new section, of this one text, last in the document. Memory is needed for
     /// a new name or a new section where there is no room. Refused, all three come back and nothing has changed.
     ///
-    /// It takes at most as many comparisons as there are sections and names in the section.
+    /// It takes at most as many comparisons as there are sections and names in the section; where the section is new, twice
+    /// as many as there are sections.
     ///
     /// ```
     /// page.set(name("FONT")?, name("size")?, "14".to_string(alloc)?)? // Some("12")
@@ -112,7 +113,8 @@ impl Document {
     /// Room for all of them is made first, in the document and in each section that is there. Refused at that, nothing has
     /// changed in either. Of a document with no section a merge is never refused.
     ///
-    /// Each section and each text takes one lookup.
+    /// Each section of `other` takes two lookups among the sections, or three where it is new. Each text of a section that
+    /// is there takes one in it; a new section moves as a whole.
     ///
     /// ```
     /// let mut changes = Document::new(alloc);
@@ -135,6 +137,9 @@ impl Document {
     }
 
     /// Whether two documents have the same texts, whatever the order of their sections and names and the case of these.
+    ///
+    /// Where they have different numbers of sections nothing is compared. Else the names of sections are, and of two that
+    /// are the same their texts, as `==` of maps does. It takes no memory.
     ///
     /// ```
     /// let mut other = Document::new(alloc);

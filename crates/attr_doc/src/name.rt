@@ -23,7 +23,7 @@ impl Model for Name {
 }
 
 impl Name {
-    /// The name with this text.
+    /// The name with this text. It takes no memory.
     ///
     /// ```
     /// Name::new("Font".to_string(alloc)?) == Name::new("FONT".to_string(alloc)?) // true
@@ -47,7 +47,7 @@ impl Name {
 }
 
 /// Two names are the same where their bytes are, once `A` to `Z` are read as `a` to `z`. Nothing else is folded: `Ä` and
-/// `ä` differ, and so do `a` and ` a`.
+/// `ä` differ, and so do `a` and ` a`. It takes no memory.
 impl PartialEq for Name {
     ghost eq = { same_name };
 

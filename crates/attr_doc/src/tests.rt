@@ -17,18 +17,18 @@ fn document(alloc: Global, rows: &[(&str, &str, &str)]) -> Result<Document, Allo
     Ok(document)
 }
 
-/// Sets one text.
+/// Sets one text, and answers the old one.
 fn set(
     alloc: Global,
     document: &mut Document,
     section: &str,
     name: &str,
     text: &str,
-) -> Result<(), AllocError> {
+) -> Result<Option<String>, AllocError> {
     let section = Name::new(section.to_string(alloc)?);
     let name = Name::new(name.to_string(alloc)?);
     match document.set(section, name, text.to_string(alloc)?) {
-        Ok(_old) => Ok(()),
+        Ok(old) => Ok(old),
         Err(_refused) => Err(AllocError),
     }
 }
@@ -130,11 +130,20 @@ fn set_answers_the_old_text(rt: HostRuntime) -> Result<(), Fail> {
         ("Font", "Width", "8", None),
         ("pAGE", "wIDTH", "9", Some("6")),
     ] {
-        let section = Name::new(section.to_string(rt.alloc())?);
-        let name = Name::new(name.to_string(rt.alloc())?);
-        let answer = document.set(section, name, new.to_string(rt.alloc())?)?;
+        let answer = set(rt.alloc(), &mut document, section, name, new)?;
         assert!(rt; answer.as_deref() == old, "at {new}");
     }
+    Ok(())
+}
+
+#[test]
+fn names_stay_as_they_were_first_written(rt: HostRuntime) -> Result<(), Fail> {
+    let mut page = Document::new(rt.alloc());
+    assert!(rt; set(rt.alloc(), &mut page, "Font", "Size", "10")? == None);
+    assert!(rt; set(rt.alloc(), &mut page, "FONT", "size", "12")?.as_deref() == Some("10"));
+    assert!(rt; text(rt.alloc(), &page, "font", "SIZE")? == Some("12"));
+    assert!(rt; format!(in rt.alloc(); "{:?}", page.sections())?.as_str() == r#"["Font"]"#);
+    assert!(rt; printed(rt.alloc(), &page)?.as_str() == r#"{"Font": {"Size": "12"}}"#);
     Ok(())
 }
 

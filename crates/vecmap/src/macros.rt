@@ -47,7 +47,8 @@ macro_rules! vecset {
     }};
 }
 
-/// As `insert` of the map, with `AllocError`. The old value is dropped, and so is a pair that is refused.
+/// As `insert` of the map, at the same cost, with `AllocError`. The old value is dropped. Refused, the pair is dropped and
+/// the map is as before.
 ///
 /// ```
 /// let mut map = VecMap::new(alloc);
@@ -67,7 +68,7 @@ pub fn put_pair<K: Eq + Drop, V: Drop>(
     Ok(())
 }
 
-/// As `insert` of the set, with `AllocError`. An element that is refused is dropped.
+/// As `insert` of the set, at the same cost, with `AllocError`. Refused, the element is dropped and the set is as before.
 ///
 /// ```
 /// let mut set = VecSet::new(alloc);

@@ -24,7 +24,8 @@
 //!   `crates/vecmap_base/src`); `Drain` (`drain.rt`)
 //! - keys lent to be written: `MutableKeys`, with `get_full_mut2`, `get_index_mut2`, `retain2`, `iter_mut2`, `keys_mut`
 //!   (`mutable_keys.rt`)
-//! - `==` (`equality.rt`), `Debug` (`formatting.rt`), laws for proofs (`laws.rt`, `laws/puts.rt`)
+//! - `==` (`equality.rt`), `Debug` (`formatting.rt`), laws for proofs (`laws.rt`, `laws/puts.rt`,
+//!   `laws/queries.rt`)
 pub use vecmap_base::{
     IntoIter, IntoKeys, IntoValues, Iter, IterMut, IterMut2, Keys, KeysMut, Values, ValuesMut,
 };

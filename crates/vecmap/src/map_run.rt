@@ -17,6 +17,8 @@ use vecmap_map::VecMap;
 /// Room for the replies is made first. Where there is none, no command runs and the map is as before. A command that is
 /// out of range or refused memory changes nothing, what it carried is dropped, and the run goes on.
 ///
+/// It takes one block of memory for the replies. Each command takes what its call does, and a clone of what that lends.
+///
 /// ```
 /// let mut map = vecmap!(alloc; 'a' => 1);
 /// let commands = vec![in alloc; MapCommand::Insert('b', 2), MapCommand::Get('a'), MapCommand::RemoveIndex(2)]?;

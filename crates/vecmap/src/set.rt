@@ -20,6 +20,7 @@
 //!   `symmetric_difference`, `union` (`lazy.rt`) with their iterators (`lazy/`); `&`, `|`, `^`, `-` (`operators.rt`)
 //! - iteration: `iter`, loops (`iteration.rt`); the iterators themselves (`crates/vecmap_base/src/items.rt`); `Drain`
 //!   (`drain.rt`)
-//! - `Debug` (`formatting.rt`), laws for proofs (`laws.rt`, `laws/additions.rt`, `laws/algebra.rt`)
+//! - `Debug` (`formatting.rt`), laws for proofs (`laws.rt`, `laws/additions.rt`, `laws/algebra.rt`,
+//!   `laws/queries.rt`)
 pub use vecmap_base::items::{IntoIter, Iter};
 pub use vecmap_set::{Difference, Drain, Intersection, SymmetricDifference, Union, VecSet, laws};

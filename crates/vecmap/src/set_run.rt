@@ -20,6 +20,8 @@ use vecmap_set::VecSet;
 /// out of range or refused memory changes nothing, what it carried is dropped, and the run goes on. A clone of an element
 /// must be equal to it.
 ///
+/// It takes one block of memory for the replies. Each command takes what its call does, and a clone of what that lends.
+///
 /// ```
 /// let mut set = vecset!(alloc; 1);
 /// let commands = vec![in alloc; SetCommand::Insert(2), SetCommand::Insert(1), SetCommand::Contains(2)]?;

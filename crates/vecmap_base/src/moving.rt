@@ -26,7 +26,7 @@ pub fn replace_and_move<T>(items: &mut Vec<T>, from: usize, to: usize, item: T) 
     old
 }
 
-/// Takes out the item at a place. Those after it move up by one place. It takes no memory.
+/// Takes out the item at a place. Those after it move up by one place. It takes no memory, and time in their number.
 ///
 /// ```
 /// let mut items = vec![in alloc; 'a', 'b', 'c']?;
@@ -48,7 +48,7 @@ pub fn take_out<T>(items: &mut Vec<T>, index: usize) -> T
 }
 
 /// Puts an item at a place of a vector that has room for one more. Those from there on move down by one place. It takes no
-/// memory.
+/// memory, and time in their number.
 ///
 /// ```
 /// let mut items = vec![in alloc; 'a', 'b', 'c']?;

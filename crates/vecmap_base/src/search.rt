@@ -7,7 +7,8 @@ ghost use Rattle.vecmap_base.specs.Orders.{AnswersOnItem, AnswersOnPair};
 use std::cmp::Ordering;
 
 /// Searches pairs that ascend by the key that `f` makes of one, for `key`. `Ok` is the place of a pair with an equal key;
-/// where there is none, `Err` is the number of pairs with lesser keys.
+/// where there is none, `Err` is the number of pairs with lesser keys. It takes O(log n) calls of `f` and comparisons for
+/// n pairs, and no memory.
 ///
 /// ```
 /// search_pairs_by_key(&[('a', 1), ('b', 2)], &2, |_key, value| *value) // Ok(1)
@@ -40,7 +41,8 @@ pub fn search_pairs_by_key<'a, K, V, B: Ord + Drop, F: Fn(&'a K, &'a V) -> B>(
 }
 
 /// Searches items that ascend by the key that `f` makes of one, for `key`. `Ok` is the place of an item with an equal
-/// key; where there is none, `Err` is the number of items with lesser keys.
+/// key; where there is none, `Err` is the number of items with lesser keys. It takes O(log n) calls of `f` and comparisons
+/// for n items, and no memory.
 ///
 /// ```
 /// search_items_by_key(&[1, 3], &2, |item| *item) // Err(1)

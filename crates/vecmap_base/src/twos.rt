@@ -53,7 +53,7 @@ pub(crate) fn find_item_by_twos<T: Eq, Q: Equivalent<T>>(items: &[T], query: Q) 
     None
 }
 
-// Whether an item takes no more than a word, as numbers do and texts do not.
+// Whether an item takes no more than a word, as a `u64` does and a text does not.
 pub(crate) fn is_small<T>(item: &T) -> bool {
     size_of_val(item) <= WORD
 }

@@ -2,9 +2,9 @@
 //!
 //! Of the defaults `port = 80` and `depth = 3` and the override `port = 8080`, `port` is 8080 and `depth` 3. Reset,
 //! `port` is 80 again.
-ghost use Rattle.std.specs.Prelude.{◌≡◌, IfErr, List, None, OnErr, OnOk, Some, [], false, if◌then◌else◌, option_copied};
+ghost use Rattle.std.specs.Prelude.{◌≡◌, IfErr, None, OnErr, OnOk, Some, [], false, if◌then◌else◌, option_copied};
 ghost use Rattle.std.specs.Option.{option_or};
-ghost use Rattle.vecmap.specs.Pairs.{lookup, lookup_by, put};
+ghost use Rattle.vecmap.specs.Pairs.{lookup, lookup_by};
 ghost use Rattle.vecmap_callers.specs.Options.{Layers, setting};
 
 use std::alloc::{AllocError, Global};

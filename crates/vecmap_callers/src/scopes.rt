@@ -1,7 +1,7 @@
 //! A symbol table: names that are defined in nested scopes, each of which may hide those around it.
 //!
 //! Where `x` is 1 and then, in a scope that is entered, 3, it means 3 until that scope is left, and 1 again after.
-ghost use Rattle.std.specs.Prelude.{◌≡◌, ◌+◌, ◌<◌, IfErr, IfOk, IsTrue, List, None, OnErr, OnOk, Some, [], false, if◌then◌else◌, length, option_copied};
+ghost use Rattle.std.specs.Prelude.{◌≡◌, ◌+◌, ◌<◌, IfErr, IfOk, IsTrue, List, None, OnErr, OnOk, Some, false, if◌then◌else◌, length, option_copied};
 ghost use Rattle.vecmap.specs.Contents.{Contents};
 ghost use Rattle.vecmap_callers.specs.Scopes.{outer, resolved};
 

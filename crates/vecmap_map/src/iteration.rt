@@ -11,7 +11,7 @@ use crate::VecMap;
 use vecmap_base::{IntoIter, IntoKeys, IntoValues, Iter, IterMut, Keys, Values, ValuesMut};
 
 impl<K, V> VecMap<K, V> {
-    /// The pairs, in their order, each as `(&K, &V)`.
+    /// The pairs, in their order, each as `(&K, &V)`. It takes constant time and no memory.
     ///
     /// ```
     /// let map = vecmap!(alloc; 'a' => 1, 'b' => 2);
@@ -29,7 +29,8 @@ impl<K, V> VecMap<K, V> {
         Iter::over(&self.pairs)
     }
 
-    /// The pairs, in their order, each as `(&K, &mut V)`: each value as it stood at this call, to be written.
+    /// The pairs, in their order, each as `(&K, &mut V)`: each value as it stood at this call, to be written. It takes
+    /// constant time and no memory.
     ///
     /// No clause says what the map holds afterwards. Where that matters, write through `get_mut` or `map[index]`.
     ///
@@ -49,7 +50,7 @@ impl<K, V> VecMap<K, V> {
         IterMut::over(&mut self.pairs)
     }
 
-    /// The keys, in their order.
+    /// The keys, in their order. It takes constant time and no memory.
     ///
     /// ```
     /// let map = vecmap!(alloc; 'a' => 1, 'b' => 2);
@@ -64,7 +65,7 @@ impl<K, V> VecMap<K, V> {
         Keys::over(&self.pairs)
     }
 
-    /// The values, in the order of their keys.
+    /// The values, in the order of their keys. It takes constant time and no memory.
     ///
     /// ```
     /// let map = vecmap!(alloc; 'a' => 1, 'b' => 2);
@@ -79,7 +80,8 @@ impl<K, V> VecMap<K, V> {
         Values::over(&self.pairs)
     }
 
-    /// The values, in the order of their keys, each as it stood at this call, to be written.
+    /// The values, in the order of their keys, each as it stood at this call, to be written. It takes constant time and no
+    /// memory.
     ///
     /// No clause says what the map holds afterwards. Where that matters, write through `get_mut` or `map[index]`.
     ///
@@ -99,7 +101,7 @@ impl<K, V> VecMap<K, V> {
         ValuesMut::over(&mut self.pairs)
     }
 
-    /// The keys, by value, in their order. Each value is dropped as its key is given.
+    /// The keys, by value, in their order. Each value is dropped as its key is given. It takes constant time and no memory.
     ///
     /// ```
     /// let map = vecmap!(alloc; 'a' => 1, 'b' => 2);
@@ -114,7 +116,8 @@ impl<K, V> VecMap<K, V> {
         IntoKeys::over(self.into_vec())
     }
 
-    /// The values, by value, in the order of their keys. Each key is dropped as its value is given.
+    /// The values, by value, in the order of their keys. Each key is dropped as its value is given. It takes constant time
+    /// and no memory.
     ///
     /// ```
     /// let map = vecmap!(alloc; 'a' => 1, 'b' => 2);

@@ -42,7 +42,7 @@ impl<K, V> VecMap<K, V> {
         })
     }
 
-    /// The pairs, in their order.
+    /// The pairs, in their order. It takes no memory and moves none.
     ///
     /// ```
     /// let map = vecmap!(alloc; 'a' => 1, 'b' => 2);
@@ -54,7 +54,7 @@ impl<K, V> VecMap<K, V> {
         self.pairs.as_slice()
     }
 
-    /// The pairs, in their order, in the vector that held them.
+    /// The pairs, in their order, in the vector that held them. It takes no memory and moves none.
     ///
     /// ```
     /// let map = vecmap!(alloc; 'a' => 1, 'b' => 2);

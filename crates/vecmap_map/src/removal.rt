@@ -37,7 +37,8 @@ impl<K, V> VecMap<K, V> {
         self.pairs.clear();
     }
 
-    /// Keeps the first `len` pairs, and drops the others. Where there are no more than that, nothing changes.
+    /// Keeps the first `len` pairs, and drops the others. Where there are no more than that, nothing changes. It compares
+    /// and moves none, and the capacity stays.
     ///
     /// ```
     /// let mut map = vecmap!(alloc; 'a' => 1, 'b' => 2, 'c' => 3);
@@ -211,8 +212,8 @@ impl<K, V> VecMap<K, V> {
 
     /// Takes out the first pair whose key `key` stands for, and answers its value.
     ///
-    /// The last pair takes its place: beside at most as many comparisons as there are pairs this takes one move. Where no
-    /// key is equal nothing changes.
+    /// The last pair takes its place: beside at most as many comparisons as there are pairs this takes one move. Where it
+    /// stands for none nothing changes.
     ///
     /// ```
     /// let mut map = vecmap!(alloc; 'a' => 1, 'b' => 2, 'c' => 3);

@@ -95,7 +95,7 @@ impl<K, V> VecMap<K, V> {
         self.pairs.reserve_exact(additional)
     }
 
-    /// As `reserve`, with the error that Rust gives this call.
+    /// As `reserve`, with the error that Rust gives this call. Refused, nothing has changed.
     ///
     /// ```
     /// let mut map = vecmap!(alloc; 'a' => 1, 'b' => 2);
@@ -114,7 +114,7 @@ impl<K, V> VecMap<K, V> {
         self.reserve(additional)
     }
 
-    /// As `reserve_exact`, with the error that Rust gives this call.
+    /// As `reserve_exact`, with the error that Rust gives this call. Refused, nothing has changed.
     ///
     /// ```
     /// let mut map = vecmap!(alloc; 'a' => 1, 'b' => 2);

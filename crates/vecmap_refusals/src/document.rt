@@ -4,21 +4,27 @@ use attr_doc::{Document, Name};
 use std::alloc::{AllocError, Global};
 use std::test::Fail;
 
-/// Sets an empty text, with requests for those of the two names that are not empty, and for room.
-fn set(alloc: Global, page: &mut Document, section: &str, name: &str) -> Result<(), AllocError> {
+/// Sets one text. An empty text takes no request, nor does an empty name.
+fn set(
+    alloc: Global,
+    page: &mut Document,
+    section: &str,
+    name: &str,
+    text: &str,
+) -> Result<(), AllocError> {
     let section = Name::new(section.to_string(alloc)?);
     let name = Name::new(name.to_string(alloc)?);
-    match page.set(section, name, "".to_string(alloc)?) {
+    match page.set(section, name, text.to_string(alloc)?) {
         Ok(_old) => Ok(()),
         Err(_refused) => Err(AllocError),
     }
 }
 
-/// The document of empty texts under these sections and names, set in turn.
-fn document(alloc: Global, rows: &[(&str, &str)]) -> Result<Document, AllocError> {
+/// The document of these sets, each of a section, a name and a text, in turn.
+fn document(alloc: Global, rows: &[(&str, &str, &str)]) -> Result<Document, AllocError> {
     let mut page = Document::new(alloc);
-    for (section, name) in rows {
-        set(alloc, &mut page, section, name)?;
+    for (section, name, text) in rows {
+        set(alloc, &mut page, section, name, text)?;
     }
     Ok(page)
 }
@@ -37,30 +43,43 @@ fn printed(alloc: Global, page: &Document) -> Result<String, AllocError> {
     Ok(text)
 }
 
+/// Four sections fit into a document before its map grows.
 #[test]
 fn set_of_a_new_section_gives_all_back(rt: HostRuntime) -> Result<(), Fail> {
-    let mut page = Document::new(rt.alloc());
+    let rows = [("", "", ""), ("q", "", ""), ("r", "", ""), ("s", "", "")];
+    let mut page = make!(rt; document(rt.alloc(), &rows));
     let (section, name, text) = make!(rt; given(rt.alloc()));
     let old = match page.set(section, name, text) {
         Ok(old) => old,
         Err(refused) => {
             tell(&rt)?;
-            assert!(rt; printed(rt.alloc(), &page)?.as_str() == "{}");
+            assert!(rt;
+                printed(rt.alloc(), &page)?.as_str()
+                    == r#"{"": {"": ""}, "q": {"": ""}, "r": {"": ""}, "s": {"": ""}}"#
+            );
             let (section, name, text) = refused.given;
             assert!(rt; (section.text(), name.text(), text.as_str()) == ("P", "D", "2"));
             page.set(section, name, text)?
         }
     };
     assert!(rt; old == None);
-    assert!(rt; make!(rt; printed(rt.alloc(), &page)).as_str() == r#"{"P": {"D": "2"}}"#);
+    assert!(rt;
+        make!(rt; printed(rt.alloc(), &page)).as_str()
+            == r#"{"": {"": ""}, "q": {"": ""}, "r": {"": ""}, "s": {"": ""}, "P": {"D": "2"}}"#
+    );
     Ok(())
 }
 
 /// Four names fit into a section before its map grows.
 #[test]
 fn set_of_a_new_name_gives_all_back(rt: HostRuntime) -> Result<(), Fail> {
-    let rows: [(&str, &str); 4] = [("p", "a"), ("p", "b"), ("p", "c"), ("p", "")];
-    let mut page = make!(rt; document(rt.alloc(), rows.as_slice()));
+    let rows = [
+        ("p", "a", ""),
+        ("p", "b", ""),
+        ("p", "c", ""),
+        ("p", "", ""),
+    ];
+    let mut page = make!(rt; document(rt.alloc(), &rows));
     let (section, name, text) = make!(rt; given(rt.alloc()));
     let old = match page.set(section, name, text) {
         Ok(old) => old,
@@ -83,18 +102,16 @@ fn set_of_a_new_name_gives_all_back(rt: HostRuntime) -> Result<(), Fail> {
     Ok(())
 }
 
-/// Four sections, one of four names: two maps have to grow where the next document is merged into it.
-const INTO: &[(&str, &str)] = &[
-    ("", "a"),
-    ("", "b"),
-    ("", "c"),
-    ("", ""),
-    ("q", ""),
-    ("r", ""),
-    ("s", ""),
+/// Three sections, one of three names. Room for two more, as the next document has, takes a fifth place in either map.
+const INTO: &[(&str, &str, &str)] = &[
+    ("", "a", "1"),
+    ("", "b", ""),
+    ("", "", ""),
+    ("q", "", ""),
+    ("r", "", ""),
 ];
 
-const FROM: &[(&str, &str)] = &[("t", ""), ("", "d")];
+const FROM: &[(&str, &str, &str)] = &[("t", "", ""), ("", "A", "2"), ("", "d", "")];
 
 #[test]
 fn merge_moves_all_or_nothing(rt: HostRuntime) -> Result<(), Fail> {
@@ -104,14 +121,16 @@ fn merge_moves_all_or_nothing(rt: HostRuntime) -> Result<(), Fail> {
         tell(&rt)?;
         assert!(rt;
             printed(rt.alloc(), &into)?.as_str()
-                == r#"{"": {"a": "", "b": "", "c": "", "": ""}, "q": {"": ""}, "r": {"": ""}, "s": {"": ""}}"#
+                == r#"{"": {"a": "1", "b": "", "": ""}, "q": {"": ""}, "r": {"": ""}}"#
         );
-        assert!(rt; printed(rt.alloc(), &from)?.as_str() == r#"{"t": {"": ""}, "": {"d": ""}}"#);
+        assert!(rt;
+            printed(rt.alloc(), &from)?.as_str() == r#"{"t": {"": ""}, "": {"A": "2", "d": ""}}"#
+        );
         into.merge(&mut from)?;
     }
     assert!(rt;
         make!(rt; printed(rt.alloc(), &into)).as_str()
-            == r#"{"": {"a": "", "b": "", "c": "", "": "", "d": ""}, "q": {"": ""}, "r": {"": ""}, "s": {"": ""}, "t": {"": ""}}"#
+            == r#"{"": {"a": "2", "b": "", "": "", "d": ""}, "q": {"": ""}, "r": {"": ""}, "t": {"": ""}}"#
     );
     assert!(rt; from.sections().len() == 0);
     Ok(())

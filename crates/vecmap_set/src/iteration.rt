@@ -11,7 +11,7 @@ use crate::VecSet;
 use vecmap_base::items::{IntoIter, Iter};
 
 impl<T: Eq> VecSet<T> {
-    /// The elements, in their order, no two of them equal.
+    /// The elements, in their order, no two of them equal. It takes constant time and no memory.
     ///
     /// ```
     /// let set = vecset!(alloc; 2, 1);

@@ -21,7 +21,7 @@ use vecmap_base::{
 };
 
 impl<T: Eq> VecSet<T> {
-    /// Drops all elements, one after another. The capacity stays.
+    /// Drops all elements, one after another, and compares and moves none. The capacity stays.
     ///
     /// ```
     /// let mut set = vecset!(alloc; 1, 2);
@@ -39,7 +39,8 @@ impl<T: Eq> VecSet<T> {
         self.items.clear();
     }
 
-    /// Keeps the first `len` elements, and drops those after them. Where there are no more than that, nothing changes.
+    /// Keeps the first `len` elements, and drops those after them. Where there are no more than that, nothing changes. It
+    /// compares and moves none, and the capacity stays.
     ///
     /// ```
     /// let mut set = vecset!(alloc; 1, 2, 3);

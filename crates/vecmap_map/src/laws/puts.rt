@@ -1,8 +1,7 @@
 //! Laws of what insertions and removals leave, for lookups, places and lengths.
-ghost use Rattle.std.specs.Prelude.{◌≡◌, ◌+◌, ◌++◌, ◌<◌, ◌∷◌, ℕ, Bool, IsSome, List, None, Option, Some, [], drop, false, if◌then◌else◌, is_some, length, option_map, slice_get, take, true, unwrap_or};
+ghost use Rattle.std.specs.Prelude.{◌≡◌, ◌+◌, ◌++◌, ◌<◌, ◌∷◌, ℕ, IsSome, List, None, Option, Some, [], drop, false, if◌then◌else◌, is_some, length, option_map, slice_get, take, true, unwrap_or};
 ghost use Rattle.std.specs.Map.{keys_of};
 ghost use Rattle.std.specs.Option.{option_map_or, option_or};
-ghost use Rattle.vecmap_base.specs.Clones.{ClonesAreSame};
 ghost use Rattle.vecmap_base.specs.Items.{add, adds, without_item};
 ghost use Rattle.vecmap_base.specs.Pairs.{HasDistinctKeys, index_of, index_or_length, lookup, map_values, put, put_key, puts, without_key};
 ghost use Rattle.vecmap_map.specs.Contents.{Contents, with_value_of};

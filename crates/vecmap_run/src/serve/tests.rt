@@ -344,15 +344,15 @@ fn stops_where_a_write_fails(rt: HostRuntime) -> Result<(), Fail> {
 #[test]
 fn goes_on_after_a_refused_request_for_memory(rt: HostRuntime) -> Result<(), Fail> {
     let input =
-        "insert a 1\ninsert_at 1 b 2\nor_insert c 3\ninsert a 4\ninsert d 5\ninsert e 6\nlist";
+        "insert a 1\nlen\ninsert_at 1 b 2\nor_insert c 3\ninsert a 4\ninsert d 5\ninsert e 6\nlist";
     let outputs = [
-        "none\nnone\nsome 3\nsome 1\nnone\nnone\na=4 b=2 c=3 d=5 e=6\n",
-        "memory\nrange\nsome 3\nnone\nnone\nnone\nc=3 a=4 d=5 e=6\n",
-        "none\nmemory\nsome 3\nsome 1\nnone\nnone\na=4 c=3 d=5 e=6\n",
-        "none\nnone\nmemory\nsome 1\nnone\nnone\na=4 b=2 d=5 e=6\n",
-        "none\nnone\nsome 3\nmemory\nnone\nnone\na=1 b=2 c=3 d=5 e=6\n",
-        "none\nnone\nsome 3\nsome 1\nmemory\nnone\na=4 b=2 c=3 e=6\n",
-        "none\nnone\nsome 3\nsome 1\nnone\nmemory\na=4 b=2 c=3 d=5\n",
+        "none\n1\nnone\nsome 3\nsome 1\nnone\nnone\na=4 b=2 c=3 d=5 e=6\n",
+        "memory\n0\nrange\nsome 3\nnone\nnone\nnone\nc=3 a=4 d=5 e=6\n",
+        "none\n1\nmemory\nsome 3\nsome 1\nnone\nnone\na=4 c=3 d=5 e=6\n",
+        "none\n1\nnone\nmemory\nsome 1\nnone\nnone\na=4 b=2 d=5 e=6\n",
+        "none\n1\nnone\nsome 3\nmemory\nnone\nnone\na=1 b=2 c=3 d=5 e=6\n",
+        "none\n1\nnone\nsome 3\nsome 1\nmemory\nnone\na=4 b=2 c=3 e=6\n",
+        "none\n1\nnone\nsome 3\nsome 1\nnone\nmemory\na=4 b=2 c=3 d=5\n",
         "",
     ];
     for is_first in [true, false] {

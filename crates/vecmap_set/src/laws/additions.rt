@@ -1,5 +1,5 @@
 //! Laws of what additions and removals leave, for elements, places and lengths.
-ghost use Rattle.std.specs.Prelude.{◌≡◌, ◌+◌, ◌++◌, ◌<◌, ◌∷◌, ℕ, List, Option, Some, [], false, if◌then◌else◌, length, slice_get, true, unwrap_or};
+ghost use Rattle.std.specs.Prelude.{◌≡◌, ◌+◌, ◌++◌, ◌<◌, ◌∷◌, ℕ, List, Some, [], false, if◌then◌else◌, length, slice_get, true, unwrap_or};
 ghost use Rattle.std.specs.List.{IsDistinct};
 ghost use Rattle.vecmap_base.specs.Items.{add, add_new, adds, has_item, item_index, without_item};
 
