@@ -1,10 +1,14 @@
 //! What is handed in is dropped once, or comes back. `alive` counts the keys and values that are somewhere.
 use std::alloc::AllocError;
+use std::rc::Rc;
 use std::test::Fail;
 use vecmap::macros::put_pair;
 use vecmap::map::Entry;
 use vecmap::{Refused, VecMap, keys_distinct};
-use vecmap_fixtures::{Log, Told, assert_alive, has_told_pairs, make_told, told_couples, told_map};
+use vecmap_fixtures::{
+    Log, Told, assert_alive, has_told, has_told_pairs, make_told, told_couples, told_items,
+    told_map,
+};
 
 #[test]
 fn insertions_drop_what_they_do_not_keep(rt: HostRuntime) -> Result<(), Fail> {
@@ -96,6 +100,80 @@ fn an_occupied_entry_answers_the_value_that_it_takes_the_place_of(
         assert_alive!(rt, log, entry.insert(make_told(&log, 12)), 2, 1);
     }
     assert!(rt; map.get(&1).map(Told::number) == Some(12) && log.alive() == 1);
+    Ok(())
+}
+
+#[test]
+fn or_default_keeps_the_list_and_drops_the_handed_key(rt: HostRuntime) -> Result<(), Fail> {
+    let log = Log::new();
+    let told = |number| make_told(&log, number);
+    let mut lists: VecMap<Told<'_>, Vec<Told<'_>>> = VecMap::new(rt.alloc());
+    let list = told_items(rt.alloc(), &log, &[11, 12])?;
+    assert_alive!(rt, log, lists.insert(told(1), list)?, 3, 3);
+    assert_alive!(rt, log, lists.entry(told(1)).or_default()?.len(), 3, 3);
+    assert_alive!(rt, log, lists.entry(told(2)).or_default()?.len(), 4, 4);
+    let (key, list) = lists.first().ok_or("empty")?;
+    assert!(rt; key.number() == 1 && has_told(list.as_slice(), &[11, 12]));
+    let (key, list) = lists.last().ok_or("empty")?;
+    assert!(rt; key.number() == 2 && list.is_empty() && lists.len() == 2);
+    drop(lists);
+    assert!(rt; log.alive() == 0);
+    Ok(())
+}
+
+// How many owners of a shared number there are while the answer of a call stands, and how many once it is dropped.
+macro_rules! assert_owners {
+    ($rt:ident, $shared:ident, $call:expr, $with:expr, $without:expr) => {{
+        let answer = $call;
+        assert!($rt; Rc::strong_count(&$shared) == $with);
+        drop(answer);
+        assert!($rt; Rc::strong_count(&$shared) == $without);
+    }};
+}
+
+#[test]
+fn an_entry_answers_the_handed_key(rt: HostRuntime) -> Result<(), Fail> {
+    let shared = Rc::new(rt.alloc(), 1u32)?;
+    let mut map = VecMap::new(rt.alloc());
+    let Entry::Vacant(entry) = map.entry(shared.clone()?) else {
+        return Err(Fail::new("occupied"));
+    };
+    assert_owners!(rt, shared, entry.into_key(), 2, 1);
+    assert!(rt; map.insert(shared.clone()?, 10u32)? == None);
+    let Entry::Occupied(entry) = map.entry(shared.clone()?) else {
+        return Err(Fail::new("vacant"));
+    };
+    assert_owners!(rt, shared, entry.into_key(), 3, 2);
+    drop(map);
+    assert!(rt; Rc::strong_count(&shared) == 1);
+    Ok(())
+}
+
+#[test]
+fn a_removed_entry_drops_the_keys_that_it_does_not_answer(rt: HostRuntime) -> Result<(), Fail> {
+    let shared = Rc::new(rt.alloc(), 1u32)?;
+    let mut map = VecMap::new(rt.alloc());
+    assert!(rt; map.insert(shared.clone()?, 10u32)? == None);
+    let Entry::Occupied(entry) = map.entry(shared.clone()?) else {
+        return Err(Fail::new("vacant"));
+    };
+    assert_owners!(rt, shared, entry.remove(), 1, 1);
+    assert!(rt; map.insert(shared.clone()?, 20)? == None);
+    let Entry::Occupied(entry) = map.entry(shared.clone()?) else {
+        return Err(Fail::new("vacant"));
+    };
+    assert_owners!(rt, shared, entry.remove_entry(), 2, 1);
+    assert!(rt; map.insert(shared.clone()?, 30)? == None);
+    let Entry::Occupied(entry) = map.entry(shared.clone()?) else {
+        return Err(Fail::new("vacant"));
+    };
+    assert_owners!(rt, shared, entry.swap_remove(), 1, 1);
+    assert!(rt; map.insert(shared.clone()?, 40)? == None);
+    let Entry::Occupied(entry) = map.entry(shared.clone()?) else {
+        return Err(Fail::new("vacant"));
+    };
+    assert_owners!(rt, shared, entry.swap_remove_entry(), 2, 1);
+    assert!(rt; map.is_empty());
     Ok(())
 }
 

@@ -27,6 +27,17 @@ fn insert_key_takes_the_new_key_in(rt: HostRuntime) -> Result<(), Fail> {
 }
 
 #[test]
+fn insert_key_takes_the_place_of_an_only_pair(rt: HostRuntime) -> Result<(), Fail> {
+    let mut map = item_map(rt.alloc(), &[(1, 'x', 10)])?;
+    let (key, value) = map.insert_key(make_item(1, 'y'), 20)?.ok_or("absent")?;
+    assert!(rt; (key.number, key.mark, value) == (1, 'x', 10));
+    assert!(rt; has_pairs(map.as_slice(), &[(1, 'y', 20)]));
+    assert!(rt; map.insert_key(make_item(2, 'z'), 5)?.is_none());
+    assert!(rt; has_pairs(map.as_slice(), &[(1, 'y', 20), (2, 'z', 5)]));
+    Ok(())
+}
+
+#[test]
 fn insert_full_answers_the_place(rt: HostRuntime) -> Result<(), Fail> {
     let mut map = VecMap::new(rt.alloc());
     assert!(rt; map.insert_full("a", 1)? == (0, None));
@@ -97,6 +108,7 @@ fn a_full_map_takes_a_present_key_without_memory(rt: HostRuntime) -> Result<(), 
     for number in 0..2u32 {
         assert!(rt; map.insert(number, 'a')? == None);
     }
+    assert!(rt; (map.len(), map.capacity()) == (room, room));
     assert!(rt; map.insert(1, 'b')? == Some('a'));
     assert!(rt; map.as_slice() == [(0, 'a'), (1, 'b')].as_slice());
     assert!(rt; map.capacity() == room);

@@ -180,6 +180,46 @@ fn an_entry_is_that_of_the_first_of_equal_keys(rt: HostRuntime) -> Result<(), Fa
 }
 
 #[test]
+fn an_entry_lends_the_value_of_the_first_of_equal_keys(rt: HostRuntime) -> Result<(), Fail> {
+    let mut map = start(rt.alloc())?;
+    let value = map.entry(make_item(1, 'z')).or_insert_with(|| 0)?;
+    assert!(rt; *value == 2);
+    *value = 20;
+    assert!(rt; has_first(&map, 'b', 20));
+    let value = map
+        .entry(make_item(1, 'z'))
+        .or_insert_with_key(|key| key.number)?;
+    assert!(rt; *value == 20);
+    *value = 30;
+    assert!(rt; has_first(&map, 'b', 30));
+    let value = map.entry(make_item(1, 'z')).or_default()?;
+    assert!(rt; *value == 30);
+    *value = 40;
+    assert!(rt; has_first(&map, 'b', 40));
+    Ok(())
+}
+
+#[test]
+fn an_entry_of_a_new_key_goes_after_the_repeats(rt: HostRuntime) -> Result<(), Fail> {
+    let mut map = repeating_map(rt.alloc(), &[(1, 'a', 1), (1, 'b', 2)])?;
+    assert!(rt; *map.entry(make_item(2, 'c')).or_insert_with(|| 3)? == 3);
+    let value = map
+        .entry(make_item(3, 'd'))
+        .or_insert_with_key(|key| key.number.wrapping_mul(10))?;
+    assert!(rt; *value == 30);
+    assert!(rt; *map.entry(make_item(4, 'e')).or_default()? == 0);
+    let all = [
+        (1, 'a', 1),
+        (1, 'b', 2),
+        (2, 'c', 3),
+        (3, 'd', 30),
+        (4, 'e', 0),
+    ];
+    assert!(rt; has_pairs(map.as_slice(), &all));
+    Ok(())
+}
+
+#[test]
 fn an_entry_of_repeats_is_removed(rt: HostRuntime) -> Result<(), Fail> {
     let mut map = start(rt.alloc())?;
     let entry = occupied(map.entry(make_item(1, 'z'))).ok_or("vacant")?;

@@ -2,8 +2,10 @@
 //! `vecmap`, where `IntoIterator` for references to a set stands.
 ghost use Rattle.std.specs.Prelude.{◌≡◌, ◌<◌, ◌^◌, sum};
 
+use std::alloc::{AllocError, Global};
 use std::test::Fail;
 use vecmap::VecSet;
+use vecmap_fixtures::set_of;
 
 /// The sum of the elements.
 fn total(set: &VecSet<u32>) -> u32
@@ -17,9 +19,21 @@ fn total(set: &VecSet<u32>) -> u32
     all
 }
 
+/// The elements, in their order.
+fn gather(alloc: Global, set: &VecSet<u32>) -> Result<Vec<u32>, AllocError> {
+    let mut all = Vec::new(alloc);
+    for element in set {
+        all.push(*element)?;
+    }
+    Ok(all)
+}
+
 #[test]
 fn loops_by_reference_run(rt: HostRuntime) -> Result<(), Fail> {
     let set: VecSet<u32> = VecSet::new(rt.alloc());
     assert!(rt; total(&set) == 0);
+    let set: VecSet<u32> = set_of(rt.alloc(), &[3, 1, 2])?;
+    assert!(rt; gather(rt.alloc(), &set)?.as_slice() == [3, 1, 2].as_slice());
+    assert!(rt; set.as_slice() == [3, 1, 2].as_slice());
     Ok(())
 }

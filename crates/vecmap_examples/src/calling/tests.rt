@@ -8,7 +8,7 @@ use std::test::Fail;
 use vecmap::{VecMap, VecSet, vecmap};
 
 #[test]
-fn the_program_prints_its_ports(rt: HostRuntime) -> Result<(), Fail> {
+fn the_program_runs(rt: HostRuntime) -> Result<(), Fail> {
     program::main(rt)?;
     Ok(())
 }
@@ -44,12 +44,19 @@ fn lines_and_ports_are_put(rt: HostRuntime) -> Result<(), Fail> {
     Ok(())
 }
 
+// A bill lends nothing of what it lists, so there is nothing to compare.
 #[test]
-fn guests_leave_and_names_keep_their_numbers(rt: HostRuntime) -> Result<(), Fail> {
-    let alloc = rt.alloc();
-    let mut bill = Bill::new(alloc);
+fn calls_on_a_bill_run(rt: HostRuntime) -> Result<(), Fail> {
+    let mut bill = Bill::new(rt.alloc());
     bill.set(4, 20)?;
     bill.leave(4);
+    bill.leave(4);
+    Ok(())
+}
+
+#[test]
+fn names_keep_their_numbers(rt: HostRuntime) -> Result<(), Fail> {
+    let alloc = rt.alloc();
     let mut names = VecSet::new(alloc);
     let numbers = (
         intern::intern(&mut names, String::from_str(alloc, "a")?)?,
@@ -57,6 +64,8 @@ fn guests_leave_and_names_keep_their_numbers(rt: HostRuntime) -> Result<(), Fail
         intern::intern(&mut names, String::from_str(alloc, "a")?)?,
     );
     assert_eq!(rt; numbers, (0, 1, 0));
+    assert!(rt; (names.get_index_of("a"), names.get_index_of("b")) == (Some(0), Some(1)));
+    assert!(rt; names.len() == 2);
     Ok(())
 }
 

@@ -1,5 +1,7 @@
 //! Clones of keys and values that need memory of their own.
 use crate::telling::{make, tell, text_map};
+use std::alloc::{AllocError, Global};
+use std::process::Abort;
 use std::test::Fail;
 use vecmap::VecMap;
 use vecmap_fixtures::has_text_pairs;
@@ -39,10 +41,11 @@ const MORE: &[(&str, &str)] = &[("b", "2"), ("a", "3")];
 
 const ALL: &[(&str, &str)] = &[("a", "3"), ("b", "2")];
 
-// Whether some of the clones are put, each after those before it.
+// Whether the clones before the refused one are put. Room is made before the first clone, so without more room there are
+// none. Else one of four texts was refused: of the first pair, which then isn't put, or of the second, and then it is.
 fn has_some(map: &VecMap<String, String>) -> bool {
     has_text_pairs(map.as_slice(), &[("a", "1")])
-        || has_text_pairs(map.as_slice(), &[("a", "1"), ("b", "2")])
+        || 1 < map.capacity() && has_text_pairs(map.as_slice(), &[("a", "1"), ("b", "2")])
 }
 
 #[test]
@@ -70,4 +73,58 @@ fn extend_refs_puts_the_clones_before_the_refused_one(rt: HostRuntime) -> Result
     }
     assert!(rt; has_text_pairs(map.as_slice(), ALL) && has_text_pairs(more.as_slice(), MORE));
     Ok(())
+}
+
+// Extends a map by clones, by one of the two calls.
+fn extend(
+    by_refs: bool,
+    map: &mut VecMap<String, String>,
+    more: &[(String, String)],
+) -> Result<(), AllocError> {
+    if by_refs {
+        map.extend_refs(more.iter().map(|pair| (&pair.0, &pair.1)))
+    } else {
+        map.extend_pairs(more)
+    }
+}
+
+// Clones of pairs of which one text alone needs memory, put into a map that has room: refused, exactly the pairs before
+// that one are put.
+fn check<R: Abort + Print>(rt: &R, alloc: Global, by_refs: bool) -> Result<(), Fail> {
+    for (more, left, all) in [
+        (
+            [("b", ""), ("", "")].as_slice(),
+            [("a", "1")].as_slice(),
+            [("a", "1"), ("b", ""), ("", "")].as_slice(),
+        ),
+        (
+            [("", ""), ("b", "")].as_slice(),
+            [("a", "1"), ("", "")].as_slice(),
+            [("a", "1"), ("", ""), ("b", "")].as_slice(),
+        ),
+    ] {
+        let more = text_map(rt, alloc, more)?;
+        let mut map = text_map(rt, alloc, &[("a", "1")])?;
+        if map.reserve(2).is_err() {
+            tell(rt)?;
+            map.reserve(2)?;
+        }
+        if extend(by_refs, &mut map, more.as_slice()).is_err() {
+            tell(rt)?;
+            assert!(rt; has_text_pairs(map.as_slice(), left));
+            extend(by_refs, &mut map, more.as_slice())?;
+        }
+        assert!(rt; has_text_pairs(map.as_slice(), all));
+    }
+    Ok(())
+}
+
+#[test]
+fn extend_pairs_stops_at_the_refused_clone(rt: HostRuntime) -> Result<(), Fail> {
+    check(&rt, rt.alloc(), false)
+}
+
+#[test]
+fn extend_refs_stops_at_the_refused_clone(rt: HostRuntime) -> Result<(), Fail> {
+    check(&rt, rt.alloc(), true)
 }

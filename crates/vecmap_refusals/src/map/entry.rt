@@ -10,8 +10,8 @@ const FULL: &[(u32, char, u32)] = &[(1, 'a', 10), (2, 'b', 20)];
 // What a call answers that puts a pair: the value that it lends, or the pair that comes back.
 type Put = Result<u32, (Item, u32)>;
 
-// Refused, nothing has changed, and the call is made once more with the pair that came back. Granted, the new pair
-// stands last.
+// Refused, the pair comes back, nothing has changed, and the call is made once more with that pair. Granted, the new
+// pair stands last.
 fn check<R: Abort + Print, F: Fn(&mut VecMap<Item, u32>, Item, u32) -> Put>(
     rt: &R,
     mut map: VecMap<Item, u32>,
@@ -23,6 +23,7 @@ fn check<R: Abort + Print, F: Fn(&mut VecMap<Item, u32>, Item, u32) -> Put>(
         Ok(value) => value,
         Err((key, value)) => {
             tell(rt)?;
+            assert!(rt; (key.number, key.mark, value) == (7, 'x', 70));
             assert!(rt; has_pairs(map.as_slice(), FULL) && map.capacity() == 2);
             call(&mut map, key, value).or(Err("refused again"))?
         }

@@ -3,6 +3,7 @@ use crate::telling::{make, tell};
 use std::alloc::{AllocError, Global};
 use std::test::Fail;
 use vecmap::VecMap;
+use vecmap_fixtures::{has_pairs, repeating_map};
 
 // More pairs than a stable sort takes on without memory.
 const COUNT: u32 = 100;
@@ -81,5 +82,42 @@ fn short_lists_are_never_refused(rt: HostRuntime) -> Result<(), Fail> {
     map.truncate(1);
     assert!(rt; map.sort_by_cached_key(|key, _| *key).is_ok());
     assert!(rt; map.as_slice() == [(19, 29)].as_slice());
+    Ok(())
+}
+
+// As many pairs, with each key there twice: all with the mark 'a' before all with the mark 'b', and each run falling.
+fn mixed(alloc: Global) -> Result<Vec<(u32, char, u32)>, AllocError> {
+    let mut pairs = Vec::with_capacity(alloc, 100)?;
+    for mark in ['a', 'b'] {
+        for value in 0..50u32 {
+            pairs.push((49u32.wrapping_sub(value), mark, value))?;
+        }
+    }
+    Ok(pairs)
+}
+
+// The same pairs in the order of their keys, and equal keys in their old order.
+fn sorted(alloc: Global) -> Result<Vec<(u32, char, u32)>, AllocError> {
+    let mut pairs = Vec::with_capacity(alloc, 100)?;
+    for number in 0..50u32 {
+        for mark in ['a', 'b'] {
+            pairs.push((number, mark, 49u32.wrapping_sub(number)))?;
+        }
+    }
+    Ok(pairs)
+}
+
+#[test]
+fn sort_by_leaves_equal_keys_in_their_order(rt: HostRuntime) -> Result<(), Fail> {
+    let mixed = make!(rt; mixed(rt.alloc()));
+    let sorted = make!(rt; sorted(rt.alloc()));
+    let mut map = make!(rt; repeating_map(rt.alloc(), &mixed));
+    let room = map.capacity();
+    if map.sort_by(|a, b| a.0.number.cmp(&b.0.number)).is_err() {
+        tell(&rt)?;
+        assert!(rt; has_pairs(map.as_slice(), &mixed) && map.capacity() == room);
+        map.sort_by(|a, b| a.0.number.cmp(&b.0.number))?;
+    }
+    assert!(rt; has_pairs(map.as_slice(), &sorted) && map.capacity() == room);
     Ok(())
 }

@@ -3,7 +3,7 @@ use crate::telling::{full_map, make, tell, text_map};
 use std::alloc::{AllocError, Global};
 use std::test::Fail;
 use vecmap::{MapCommand, MapReply, VecMap, run};
-use vecmap_fixtures::{Item, has_pairs, has_text_pairs, item_map, make_item};
+use vecmap_fixtures::{Item, has_pairs, has_text_pairs, item_map, make_item, repeating_map};
 
 const FULL: &[(u32, char, u32)] = &[(1, 'a', 10), (2, 'b', 20)];
 
@@ -160,12 +160,81 @@ fn a_refused_or_insert_answers_no_memory(rt: HostRuntime) -> Result<(), Fail> {
 
 #[test]
 fn a_refused_append_answers_no_memory(rt: HostRuntime) -> Result<(), Fail> {
-    refused_then_done!(rt; MapCommand::Append(make!(rt; item_map(rt.alloc(), &[(7, 'x', 70)]))), MapReply::Done => ONE_MORE)
+    refused_then_done!(rt; MapCommand::Append(make!(rt; item_map(rt.alloc(), &[(1, 'z', 30), (7, 'x', 70)]))), MapReply::Done => &[(1, 'a', 30), (2, 'b', 20), (7, 'x', 70)])
 }
 
 #[test]
 fn a_refused_split_answers_no_memory(rt: HostRuntime) -> Result<(), Fail> {
     refused_then_done!(rt; MapCommand::SplitOff(1), MapReply::Rest(part) => &[(1, 'a', 10)], has_pairs(part.as_slice(), &[(2, 'b', 20)]))
+}
+
+#[test]
+fn a_split_of_equal_keys_parts_them_or_answers_no_memory(rt: HostRuntime) -> Result<(), Fail> {
+    let repeats = [(1, 'a', 10), (1, 'b', 20)];
+    let mut map = make!(rt; repeating_map(rt.alloc(), &repeats));
+    let mut is_refused = false;
+    for _ in 0..2 {
+        let mut commands = make!(rt; Vec::with_capacity(rt.alloc(), 1));
+        commands.push(MapCommand::SplitOff(1))?;
+        match run(rt.alloc(), &mut map, commands).as_deref() {
+            Ok([MapReply::Rest(part)]) => {
+                assert!(rt; has_pairs(map.as_slice(), &[(1, 'a', 10)]));
+                assert!(rt; has_pairs(part.as_slice(), &[(1, 'b', 20)]));
+                return Ok(());
+            }
+            Ok([MapReply::NoMemory]) | Err(AllocError) => tell(&rt)?,
+            _ => return Err(Fail::new("another reply")),
+        }
+        assert!(rt; has_pairs(map.as_slice(), &repeats) && !is_refused);
+        is_refused = true;
+    }
+    Ok(())
+}
+
+// Commands that put a key that is there, and need no memory.
+fn equal_keys(alloc: Global) -> Result<Vec<MapCommand<Item, u32>>, AllocError> {
+    let mut commands = Vec::with_capacity(alloc, 5)?;
+    commands.push(MapCommand::Insert(make_item(1, 'z'), 30))?;
+    commands.push(MapCommand::InsertFull(make_item(2, 'y'), 40))?;
+    commands.push(MapCommand::InsertKey(make_item(1, 'w'), 50))?;
+    commands.push(MapCommand::OrInsert(make_item(2, 'v'), 60))?;
+    commands.push(MapCommand::InsertAt(2, make_item(1, 'u'), 70))?;
+    Ok(commands)
+}
+
+// Whether all of them are answered and done.
+fn has_equal_keys(replies: &[MapReply<Item, u32>], map: &VecMap<Item, u32>) -> bool {
+    match replies {
+        [
+            MapReply::Value(Some(10)),
+            MapReply::Full(1, Some(20)),
+            MapReply::Pair(Some((old, 30))),
+            MapReply::Kept(1, false),
+            MapReply::Moved(Some((0, 50))),
+        ] => old.mark == 'a' && has_pairs(map.as_slice(), &[(2, 'b', 40), (1, 'u', 70)]),
+        _ => false,
+    }
+}
+
+// The replies alone need memory, and without it no command is run.
+#[test]
+fn an_equal_key_is_never_refused(rt: HostRuntime) -> Result<(), Fail> {
+    let mut map = full_map(&rt, rt.alloc(), FULL)?;
+    assert!(rt; map.len() == map.capacity());
+    let mut is_refused = false;
+    for _ in 0..2 {
+        let commands = make!(rt; equal_keys(rt.alloc()));
+        match run(rt.alloc(), &mut map, commands) {
+            Ok(replies) => {
+                assert!(rt; has_equal_keys(&replies, &map) && map.capacity() == 2);
+                return Ok(());
+            }
+            Err(AllocError) => tell(&rt)?,
+        }
+        assert!(rt; has_pairs(map.as_slice(), FULL) && map.capacity() == 2 && !is_refused);
+        is_refused = true;
+    }
+    Ok(())
 }
 
 // A command that clones a pair is done, or refused with nothing changed and then done.

@@ -11,6 +11,9 @@ const FULL: &[(u32, char)] = &[(1, 'a'), (2, 'b')];
 
 const ONE_MORE: &[(u32, char)] = &[(1, 'a'), (2, 'b'), (7, 'x')];
 
+// An element that is equal to one that is there, and not identical, and a new one.
+const CARRIED: &[(u32, char)] = &[(1, 'z'), (7, 'x')];
+
 // One command on a full set: it is done, or refused with nothing changed and then done.
 macro_rules! refused_then_done {
     ($rt:ident; $command:expr, $reply:pat => $left:expr $(, $is_wanted:expr)?) => {{
@@ -49,7 +52,7 @@ fn a_refused_replace_answers_no_memory(rt: HostRuntime) -> Result<(), Fail> {
 
 #[test]
 fn a_refused_append_answers_no_memory(rt: HostRuntime) -> Result<(), Fail> {
-    refused_then_done!(rt; SetCommand::Append(make!(rt; item_set(rt.alloc(), &[(7, 'x')]))), SetReply::Done => ONE_MORE)
+    refused_then_done!(rt; SetCommand::Append(make!(rt; item_set(rt.alloc(), CARRIED))), SetReply::Done => ONE_MORE)
 }
 
 #[test]
@@ -58,8 +61,48 @@ fn a_refused_split_answers_no_memory(rt: HostRuntime) -> Result<(), Fail> {
 }
 
 #[test]
+fn of_two_equal_elements_and_has_that_of_the_set(rt: HostRuntime) -> Result<(), Fail> {
+    refused_then_done!(rt; SetCommand::Intersect(make!(rt; item_set(rt.alloc(), CARRIED))), SetReply::Made(made) => FULL, has_items(made.as_slice(), &[(1, 'a')]))
+}
+
+#[test]
+fn of_two_equal_elements_or_has_that_of_the_set(rt: HostRuntime) -> Result<(), Fail> {
+    refused_then_done!(rt; SetCommand::Unite(make!(rt; item_set(rt.alloc(), CARRIED))), SetReply::Made(made) => FULL, has_items(made.as_slice(), ONE_MORE))
+}
+
+#[test]
+fn of_two_equal_elements_xor_has_neither(rt: HostRuntime) -> Result<(), Fail> {
+    refused_then_done!(rt; SetCommand::Exclusive(make!(rt; item_set(rt.alloc(), CARRIED))), SetReply::Made(made) => FULL, has_items(made.as_slice(), &[(2, 'b'), (7, 'x')]))
+}
+
+#[test]
+fn of_two_equal_elements_minus_has_neither(rt: HostRuntime) -> Result<(), Fail> {
+    refused_then_done!(rt; SetCommand::Subtract(make!(rt; item_set(rt.alloc(), CARRIED))), SetReply::Made(made) => FULL, has_items(made.as_slice(), &[(2, 'b')]))
+}
+
+// The replies alone need memory, and without it no command is run.
+#[test]
 fn an_equal_element_is_never_refused(rt: HostRuntime) -> Result<(), Fail> {
-    refused_then_done!(rt; SetCommand::Replace(make_item(1, 'z')), SetReply::Item(Some(old)) => &[(1, 'z'), (2, 'b')], old.mark == 'a')
+    let mut set = full_set(&rt, rt.alloc(), FULL)?;
+    assert!(rt; set.len() == set.capacity());
+    let mut is_refused = false;
+    for _ in 0..2 {
+        let mut commands = make!(rt; Vec::with_capacity(rt.alloc(), 2));
+        commands.push(SetCommand::Insert(make_item(2, 'y')))?;
+        commands.push(SetCommand::Replace(make_item(1, 'z')))?;
+        match run_set(rt.alloc(), &mut set, commands).as_deref() {
+            Ok([SetReply::Truth(false), SetReply::Item(Some(old))]) => {
+                assert!(rt; (old.number, old.mark, set.capacity()) == (1, 'a', 2));
+                assert!(rt; has_items(set.as_slice(), &[(1, 'z'), (2, 'b')]));
+                return Ok(());
+            }
+            Err(AllocError) => tell(&rt)?,
+            _ => return Err(Fail::new("another reply")),
+        }
+        assert!(rt; has_items(set.as_slice(), FULL) && set.capacity() == 2 && !is_refused);
+        is_refused = true;
+    }
+    Ok(())
 }
 
 const TEXTS: &[&str] = &["b", "a"];

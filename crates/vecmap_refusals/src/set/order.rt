@@ -3,6 +3,7 @@ use crate::telling::{make, tell};
 use std::alloc::{AllocError, Global};
 use std::test::Fail;
 use vecmap::VecSet;
+use vecmap_fixtures::{has_items, item_set, make_item};
 
 // More elements than a stable sort takes on without memory.
 const COUNT: u32 = 100;
@@ -81,5 +82,45 @@ fn short_lists_are_never_refused(rt: HostRuntime) -> Result<(), Fail> {
     set.truncate(1);
     assert!(rt; set.sort_by_cached_key(|item| *item).is_ok());
     assert!(rt; set.as_slice() == [19].as_slice());
+    Ok(())
+}
+
+// As many elements: the even numbers with the mark 'a', and then the odd ones with the mark 'b'.
+fn mixed(alloc: Global) -> Result<Vec<(u32, char)>, AllocError> {
+    let mut items = Vec::with_capacity(alloc, 100)?;
+    for (mark, odd) in [('a', 0u32), ('b', 1)] {
+        for half in 0..50u32 {
+            items.push((half.wrapping_mul(2).wrapping_add(odd), mark))?;
+        }
+    }
+    Ok(items)
+}
+
+// The same elements in the order of their numbers.
+fn sorted(alloc: Global) -> Result<Vec<(u32, char)>, AllocError> {
+    let mut items = Vec::with_capacity(alloc, 100)?;
+    for half in 0..50u32 {
+        for (mark, odd) in [('a', 0u32), ('b', 1)] {
+            items.push((half.wrapping_mul(2).wrapping_add(odd), mark))?;
+        }
+    }
+    Ok(items)
+}
+
+#[test]
+fn sort_by_moves_the_stored_ones_of_equal_elements(rt: HostRuntime) -> Result<(), Fail> {
+    let mixed = make!(rt; mixed(rt.alloc()));
+    let sorted = make!(rt; sorted(rt.alloc()));
+    let mut set = make!(rt; item_set(rt.alloc(), &mixed));
+    assert!(rt; matches!(set.insert(make_item(0, 'z')), Ok(false)));
+    let room = set.capacity();
+    if set.sort_by(|a, b| a.number.cmp(&b.number)).is_err() {
+        tell(&rt)?;
+        assert!(rt; has_items(set.as_slice(), &mixed) && set.capacity() == room);
+        set.sort_by(|a, b| a.number.cmp(&b.number))?;
+    }
+    assert!(rt; has_items(set.as_slice(), &sorted) && set.capacity() == room);
+    assert!(rt; matches!(set.insert(make_item(99, 'z')), Ok(false)));
+    assert!(rt; has_items(set.as_slice(), &sorted));
     Ok(())
 }

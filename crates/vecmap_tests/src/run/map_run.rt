@@ -103,29 +103,110 @@ fn a_run_reads(rt: HostRuntime) -> Result<(), Fail> {
 }
 
 #[test]
-fn a_run_takes_pairs_out(rt: HostRuntime) -> Result<(), Fail> {
-    let pairs = [('a', 1), ('b', 2), ('c', 3), ('d', 4), ('e', 5), ('f', 6)];
-    let mut map = VecMap::from_slice(rt.alloc(), &pairs)?;
+fn a_run_puts_finds_and_removes(rt: HostRuntime) -> Result<(), Fail> {
+    let mut map = VecMap::new(rt.alloc());
     let commands = [
-        MapCommand::RemoveIndex(1),
-        MapCommand::SwapRemoveIndex(0),
-        MapCommand::RemoveIndex(4),
-        MapCommand::SwapRemoveIndex(4),
-        MapCommand::RemoveEntry('c'),
-        MapCommand::RemoveEntry('z'),
-        MapCommand::SwapRemoveEntry('f'),
-        MapCommand::SwapRemoveEntry('z'),
-        MapCommand::Remove('e'),
-        MapCommand::SwapRemove('z'),
-        MapCommand::SwapRemove('d'),
-        MapCommand::Pop,
-        MapCommand::First,
+        MapCommand::Insert('a', 1),
+        MapCommand::Insert('b', 2),
+        MapCommand::Insert('a', 3),
+        MapCommand::Get('a'),
+        MapCommand::IndexOf('b'),
+        MapCommand::Remove('a'),
+        MapCommand::Get('a'),
+        MapCommand::Len,
+        MapCommand::ToVec,
     ];
     assert!(rt;
         answers!(rt, map, commands).as_str()
-            == "[Pair(Some(('b', 2))), Pair(Some(('a', 1))), OutOfRange, OutOfRange, Pair(Some(('c', 3))), Pair(None), Pair(Some(('f', 6))), Pair(None), Value(Some(5)), Value(None), Value(Some(4)), Pair(None), Pair(None)]"
+            == "[Value(None), Value(None), Value(Some(1)), Value(Some(3)), Place(Some(1)), Value(Some(3)), Value(None), Number(1), Pairs([('b', 2)])]"
+    );
+    assert!(rt; map.as_slice() == [('b', 2)].as_slice());
+    Ok(())
+}
+
+#[test]
+fn a_run_takes_pairs_out_by_their_places(rt: HostRuntime) -> Result<(), Fail> {
+    let pairs = [('a', 1), ('b', 2), ('c', 3), ('d', 4), ('e', 5)];
+    let mut map = VecMap::from_slice(rt.alloc(), &pairs)?;
+    let commands = [
+        MapCommand::RemoveIndex(1),
+        MapCommand::ToVec,
+        MapCommand::SwapRemoveIndex(0),
+        MapCommand::ToVec,
+        MapCommand::RemoveIndex(3),
+        MapCommand::SwapRemoveIndex(3),
+        MapCommand::ToVec,
+        MapCommand::Pop,
+        MapCommand::ToVec,
+    ];
+    assert!(rt;
+        answers!(rt, map, commands).as_str()
+            == "[Pair(Some(('b', 2))), Pairs([('a', 1), ('c', 3), ('d', 4), ('e', 5)]), Pair(Some(('a', 1))), Pairs([('e', 5), ('c', 3), ('d', 4)]), OutOfRange, OutOfRange, Pairs([('e', 5), ('c', 3), ('d', 4)]), Pair(Some(('d', 4))), Pairs([('e', 5), ('c', 3)])]"
+    );
+    let commands = [MapCommand::Pop, MapCommand::Pop, MapCommand::Pop];
+    assert!(rt;
+        answers!(rt, map, commands).as_str()
+            == "[Pair(Some(('c', 3))), Pair(Some(('e', 5))), Pair(None)]"
     );
     assert!(rt; map.is_empty());
+    Ok(())
+}
+
+#[test]
+fn a_run_takes_pairs_out_by_their_keys(rt: HostRuntime) -> Result<(), Fail> {
+    let pairs = [('a', 1), ('b', 2), ('c', 3), ('d', 4), ('e', 5), ('f', 6)];
+    let mut map = VecMap::from_slice(rt.alloc(), &pairs)?;
+    let commands = [
+        MapCommand::RemoveEntry('a'),
+        MapCommand::ToVec,
+        MapCommand::SwapRemoveEntry('b'),
+        MapCommand::ToVec,
+        MapCommand::Remove('f'),
+        MapCommand::ToVec,
+        MapCommand::SwapRemove('c'),
+        MapCommand::ToVec,
+    ];
+    assert!(rt;
+        answers!(rt, map, commands).as_str()
+            == "[Pair(Some(('a', 1))), Pairs([('b', 2), ('c', 3), ('d', 4), ('e', 5), ('f', 6)]), Pair(Some(('b', 2))), Pairs([('f', 6), ('c', 3), ('d', 4), ('e', 5)]), Value(Some(6)), Pairs([('c', 3), ('d', 4), ('e', 5)]), Value(Some(3)), Pairs([('e', 5), ('d', 4)])]"
+    );
+    assert!(rt; map.as_slice() == [('e', 5), ('d', 4)].as_slice());
+    Ok(())
+}
+
+#[test]
+fn a_run_takes_no_pair_out_by_an_absent_key(rt: HostRuntime) -> Result<(), Fail> {
+    let pairs = [('a', 1), ('b', 2)];
+    let mut map = VecMap::from_slice(rt.alloc(), &pairs)?;
+    let room = map.capacity();
+    let commands = [
+        MapCommand::Remove('z'),
+        MapCommand::SwapRemove('z'),
+        MapCommand::RemoveEntry('z'),
+        MapCommand::SwapRemoveEntry('z'),
+    ];
+    assert!(rt;
+        answers!(rt, map, commands).as_str() == "[Value(None), Value(None), Pair(None), Pair(None)]"
+    );
+    assert!(rt; (map.as_slice(), map.capacity()) == (pairs.as_slice(), room));
+    Ok(())
+}
+
+#[test]
+fn a_run_goes_on_after_places_that_are_not_there(rt: HostRuntime) -> Result<(), Fail> {
+    let pairs = [('a', 1), ('b', 2)];
+    let mut map = VecMap::from_slice(rt.alloc(), &pairs)?;
+    let room = map.capacity();
+    let commands = [
+        MapCommand::InsertAt(3, 'a', 3),
+        MapCommand::RemoveIndex(2),
+        MapCommand::SwapIndices(0, 2),
+        MapCommand::Truncate(9),
+    ];
+    assert!(rt;
+        answers!(rt, map, commands).as_str() == "[OutOfRange, OutOfRange, OutOfRange, Done]"
+    );
+    assert!(rt; (map.as_slice(), map.capacity()) == (pairs.as_slice(), room));
     Ok(())
 }
 

@@ -100,28 +100,68 @@ fn a_run_reads(rt: HostRuntime) -> Result<(), Fail> {
 }
 
 #[test]
-fn a_run_takes_elements_out(rt: HostRuntime) -> Result<(), Fail> {
-    let mut set = made(rt.alloc(), &[1, 2, 3, 4, 5, 6])?;
+fn a_run_takes_elements_out_by_their_places(rt: HostRuntime) -> Result<(), Fail> {
+    let mut set = made(rt.alloc(), &[1, 2, 3, 4, 5])?;
     let commands = [
         SetCommand::RemoveIndex(1),
+        SetCommand::ToVec,
         SetCommand::SwapRemoveIndex(0),
-        SetCommand::SwapRemoveIndex(4),
-        SetCommand::Take(3),
-        SetCommand::Take(9),
-        SetCommand::SwapTake(6),
-        SetCommand::SwapTake(9),
-        SetCommand::Remove(5),
-        SetCommand::Remove(9),
-        SetCommand::SwapRemove(9),
-        SetCommand::SwapRemove(4),
+        SetCommand::ToVec,
+        SetCommand::RemoveIndex(3),
+        SetCommand::SwapRemoveIndex(3),
+        SetCommand::ToVec,
         SetCommand::Pop,
-        SetCommand::First,
+        SetCommand::ToVec,
     ];
     assert!(rt;
         answers!(rt, set, commands).as_str()
-            == "[Item(Some(2)), Item(Some(1)), OutOfRange, Item(Some(3)), Item(None), Item(Some(6)), Item(None), Truth(true), Truth(false), Truth(false), Truth(true), Item(None), Item(None)]"
+            == "[Item(Some(2)), Items([1, 3, 4, 5]), Item(Some(1)), Items([5, 3, 4]), OutOfRange, OutOfRange, Items([5, 3, 4]), Item(Some(4)), Items([5, 3])]"
+    );
+    let commands = [SetCommand::Pop, SetCommand::Pop, SetCommand::Pop];
+    assert!(rt;
+        answers!(rt, set, commands).as_str() == "[Item(Some(3)), Item(Some(5)), Item(None)]"
     );
     assert!(rt; set.is_empty());
+    Ok(())
+}
+
+#[test]
+fn a_run_takes_elements_out(rt: HostRuntime) -> Result<(), Fail> {
+    let mut set = made(rt.alloc(), &[1, 2, 3, 4, 5, 6])?;
+    let commands = [
+        SetCommand::Take(1),
+        SetCommand::ToVec,
+        SetCommand::SwapTake(2),
+        SetCommand::ToVec,
+        SetCommand::Remove(6),
+        SetCommand::ToVec,
+        SetCommand::SwapRemove(3),
+        SetCommand::ToVec,
+    ];
+    assert!(rt;
+        answers!(rt, set, commands).as_str()
+            == "[Item(Some(1)), Items([2, 3, 4, 5, 6]), Item(Some(2)), Items([6, 3, 4, 5]), Truth(true), Items([3, 4, 5]), Truth(true), Items([5, 4])]"
+    );
+    assert!(rt; set.as_slice() == [5, 4].as_slice());
+    Ok(())
+}
+
+#[test]
+fn a_run_takes_no_absent_element_out(rt: HostRuntime) -> Result<(), Fail> {
+    let items = [1, 2];
+    let mut set = made(rt.alloc(), &items)?;
+    let room = set.capacity();
+    let commands = [
+        SetCommand::Remove(9),
+        SetCommand::SwapRemove(9),
+        SetCommand::Take(9),
+        SetCommand::SwapTake(9),
+    ];
+    assert!(rt;
+        answers!(rt, set, commands).as_str()
+            == "[Truth(false), Truth(false), Item(None), Item(None)]"
+    );
+    assert!(rt; (set.as_slice(), set.capacity()) == (items.as_slice(), room));
     Ok(())
 }
 
