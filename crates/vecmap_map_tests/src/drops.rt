@@ -5,10 +5,7 @@ use std::test::Fail;
 use vecmap::macros::put_pair;
 use vecmap::map::Entry;
 use vecmap::{Refused, VecMap, keys_distinct};
-use vecmap_fixtures::{
-    Log, Told, assert_alive, has_told, has_told_pairs, make_told, told_couples, told_items,
-    told_map,
-};
+use vecmap_fixtures::{Log, Told, assert_alive, has_told_pairs, make_told, told_couples, told_map};
 
 #[test]
 fn insertions_drop_what_they_do_not_keep(rt: HostRuntime) -> Result<(), Fail> {
@@ -103,20 +100,22 @@ fn an_occupied_entry_answers_the_value_that_it_takes_the_place_of(
     Ok(())
 }
 
+/// The value of a key, which is the default of its type where the key was not there.
+fn value_of<'a>(map: &mut VecMap<Told<'a>, u32>, key: Told<'a>) -> Result<u32, AllocError> {
+    let value = map.entry(key).or_default()?;
+    Ok(*value)
+}
+
 #[test]
-fn or_default_keeps_the_list_and_drops_the_handed_key(rt: HostRuntime) -> Result<(), Fail> {
+fn or_default_keeps_the_stored_key_or_the_handed_one(rt: HostRuntime) -> Result<(), Fail> {
     let log = Log::new();
     let told = |number| make_told(&log, number);
-    let mut lists: VecMap<Told<'_>, Vec<Told<'_>>> = VecMap::new(rt.alloc());
-    let list = told_items(rt.alloc(), &log, &[11, 12])?;
-    assert_alive!(rt, log, lists.insert(told(1), list)?, 3, 3);
-    assert_alive!(rt, log, lists.entry(told(1)).or_default()?.len(), 3, 3);
-    assert_alive!(rt, log, lists.entry(told(2)).or_default()?.len(), 4, 4);
-    let (key, list) = lists.first().ok_or("empty")?;
-    assert!(rt; key.number() == 1 && has_told(list.as_slice(), &[11, 12]));
-    let (key, list) = lists.last().ok_or("empty")?;
-    assert!(rt; key.number() == 2 && list.is_empty() && lists.len() == 2);
-    drop(lists);
+    let mut map: VecMap<Told<'_>, u32> = VecMap::new(rt.alloc());
+    assert_alive!(rt, log, map.insert(told(1), 10)?, 1, 1);
+    assert_alive!(rt, log, value_of(&mut map, told(1))?, 1, 1);
+    assert_alive!(rt, log, value_of(&mut map, told(2))?, 2, 2);
+    assert!(rt; map.len() == 2 && map[0] == 10 && map[1] == 0);
+    drop(map);
     assert!(rt; log.alive() == 0);
     Ok(())
 }

@@ -132,3 +132,19 @@ pub(crate) fn told_items<'a>(
         }
     }
 }
+
+/// As the fixture, made once more where it is refused.
+pub(crate) fn told_couples<'a>(
+    rt: &impl Print,
+    alloc: Global,
+    log: &'a Log,
+    numbers: &[u32],
+) -> Result<Vec<(Told<'a>, Told<'a>)>, Fail> {
+    match vecmap_fixtures::told_couples(alloc, log, numbers) {
+        Ok(couples) => Ok(couples),
+        Err(AllocError) => {
+            tell(rt)?;
+            Ok(vecmap_fixtures::told_couples(alloc, log, numbers)?)
+        }
+    }
+}

@@ -1,11 +1,11 @@
 //! What a refused call keeps, gives back or drops: each key and value once. `alive` counts those that are somewhere.
-use crate::telling::{make, tell, told_map};
+use crate::telling::{make, tell, told_couples, told_map};
 use std::alloc::{AllocError, Global};
 use std::process::Abort;
 use std::test::Fail;
 use vecmap::macros::put_pair;
 use vecmap::{MapCommand, Refused, VecMap, run, vecmap};
-use vecmap_fixtures::{Log, Told, has_told_pairs, make_told, told_couples};
+use vecmap_fixtures::{Log, Told, has_told_pairs, make_told};
 
 type Couple<'a> = (Told<'a>, Told<'a>);
 
@@ -84,7 +84,7 @@ fn many_pairs_are_kept_or_dropped(rt: HostRuntime) -> Result<(), Fail> {
     for call in 0..4 {
         let log = Log::new();
         let mut map = told_map(&rt, rt.alloc(), &log, &[1, 2])?;
-        let more = make!(rt; told_couples(rt.alloc(), &log, &[3, 1, 4, 3, 5]));
+        let more = told_couples(&rt, rt.alloc(), &log, &[3, 1, 4, 3, 5])?;
         let put = match call {
             0 => map.extend(more),
             1 => {
@@ -169,27 +169,36 @@ fn three<'a>(alloc: Global, log: &'a Log) -> Result<Map<'a>, AllocError> {
     ))
 }
 
+// That map, made once more where it is refused.
+fn three_made<'a, R: Abort + Print>(rt: &R, alloc: Global, log: &'a Log) -> Result<Map<'a>, Fail> {
+    match three(alloc, log) {
+        Ok(map) => Ok(map),
+        Err(AllocError) => {
+            tell(rt)?;
+            assert!(rt; log.alive() == 0);
+            Ok(three(alloc, log)?)
+        }
+    }
+}
+
 #[test]
 fn the_macro_keeps_its_pairs_or_drops_them(rt: HostRuntime) -> Result<(), Fail> {
     let log = Log::new();
-    let map = match three(rt.alloc(), &log) {
-        Ok(map) => map,
-        Err(AllocError) => {
-            tell(&rt)?;
-            assert!(rt; log.alive() == 0);
-            three(rt.alloc(), &log)?
-        }
-    };
+    let map = three_made(&rt, rt.alloc(), &log)?;
     assert!(rt; log.alive() == 4 && has_told_pairs(map.as_slice(), &[(1, 13), (2, 12)]));
     Ok(())
+}
+
+// The pairs, collected into a map.
+fn collected<'a>(alloc: Global, couples: Vec<Couple<'a>>) -> Result<Map<'a>, AllocError> {
+    couples.into_iter().collect(alloc)
 }
 
 #[test]
 fn collected_pairs_are_kept_or_dropped(rt: HostRuntime) -> Result<(), Fail> {
     let log = Log::new();
-    let couples = make!(rt; told_couples(rt.alloc(), &log, &[3, 1, 4, 3, 5]));
-    let collected: Result<Map<'_>, AllocError> = couples.into_iter().collect(rt.alloc());
-    match collected {
+    let couples = told_couples(&rt, rt.alloc(), &log, &[3, 1, 4, 3, 5])?;
+    match collected(rt.alloc(), couples) {
         Ok(map) => {
             let kept = [(3, 13), (1, 11), (4, 14), (5, 15)];
             assert!(rt; log.alive() == 8 && has_told_pairs(map.as_slice(), &kept));

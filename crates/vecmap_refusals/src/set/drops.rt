@@ -1,6 +1,7 @@
 //! What a refused call keeps, gives back or drops: each element once. `alive` counts those that are somewhere.
 use crate::telling::{make, tell, told_items, told_set};
 use std::alloc::{AllocError, Global};
+use std::process::Abort;
 use std::test::Fail;
 use vecmap::macros::add_item;
 use vecmap::{SetCommand, VecSet, run_set, vecset};
@@ -86,27 +87,40 @@ fn three<'a>(alloc: Global, log: &'a Log) -> Result<VecSet<Told<'a>>, AllocError
     Ok(vecset!(alloc; make_told(log, 1), make_told(log, 2), make_told(log, 1)))
 }
 
+// That set, made once more where it is refused.
+fn three_made<'a, R: Abort + Print>(
+    rt: &R,
+    alloc: Global,
+    log: &'a Log,
+) -> Result<VecSet<Told<'a>>, Fail> {
+    match three(alloc, log) {
+        Ok(set) => Ok(set),
+        Err(AllocError) => {
+            tell(rt)?;
+            assert!(rt; log.alive() == 0);
+            Ok(three(alloc, log)?)
+        }
+    }
+}
+
 #[test]
 fn the_macro_keeps_its_elements_or_drops_them(rt: HostRuntime) -> Result<(), Fail> {
     let log = Log::new();
-    let set = match three(rt.alloc(), &log) {
-        Ok(set) => set,
-        Err(AllocError) => {
-            tell(&rt)?;
-            assert!(rt; log.alive() == 0);
-            three(rt.alloc(), &log)?
-        }
-    };
+    let set = three_made(&rt, rt.alloc(), &log)?;
     assert!(rt; log.alive() == 2 && has_told(set.as_slice(), &[1, 2]));
     Ok(())
+}
+
+// The elements, collected into a set.
+fn collected<'a>(alloc: Global, items: Vec<Told<'a>>) -> Result<VecSet<Told<'a>>, AllocError> {
+    items.into_iter().collect(alloc)
 }
 
 #[test]
 fn collected_elements_are_kept_or_dropped(rt: HostRuntime) -> Result<(), Fail> {
     let log = Log::new();
     let items = told_items(&rt, rt.alloc(), &log, &[3, 1, 4, 3, 5])?;
-    let collected: Result<VecSet<Told<'_>>, AllocError> = items.into_iter().collect(rt.alloc());
-    match collected {
+    match collected(rt.alloc(), items) {
         Ok(set) => {
             assert!(rt; log.alive() == 4 && has_told(set.as_slice(), &[3, 1, 4, 5]));
         }
