@@ -33,7 +33,8 @@ def table(runs, who):
     print("|---" * (len(sizes) + 1) + "|")
     for row in dict.fromkeys(row for _, row, _ in keys):
         cells = [cell([run[who, row, n] for run in runs if (who, row, n) in run]) for n in sizes]
-        print(f"| {row} | " + " | ".join(cells) + " |")
+        name = row.replace("|", "\\|")
+        print(f"| {name} | " + " | ".join(cells) + " |")
 
 
 def main():

@@ -120,7 +120,7 @@ fn compare<T>(rows: Vec<Row<T>>, n: usize) -> (usize, usize) {
             equal.0 += usize::from(found == expected);
             equal.1 += 1;
             if found != expected {
-                let name = row.name;
+                let name = row.name.replace('|', "\\|");
                 println!("| {name} | {n} | {expected:?} | {found:?} ({who}) |");
             }
         }
