@@ -9,7 +9,8 @@ ghost use Rattle.std.specs.List.{list_any};
 ghost use Rattle.std.specs.Rc.{rc_str_bytes};
 ghost use Rattle.vecmap_base.specs.Pairs.{has_text, index_by};
 
-use crate::twos::{find_by_twos, find_item_by_twos, is_small};
+use crate::fours::find_by_fours;
+use crate::twos::{find_by_twos, is_small};
 use std::borrow::CowStr;
 use std::boxed::{BoxedSlice, BoxedStr};
 use std::rc::RcStr;
@@ -171,7 +172,12 @@ pub fn find_item_equivalent<T: Eq, Q: Equivalent<T>>(items: &[T], query: Q) -> O
     ensures within { IfSome result (λ i. i < length items.now) }
 {
     if items.first().is_some_and(is_small) {
-        return find_item_by_twos(items, query);
+        return find_by_fours(
+            items,
+            |item: &T| -> bool
+                ensures { result ≡ Q.equivalent query item.now }
+            { query.equivalent(item) },
+        );
     }
     items.iter().position(|item| query.equivalent(item))
 }

@@ -8,6 +8,7 @@ mod distinct;
 mod drain;
 mod equality;
 mod equivalent;
+mod fours;
 pub mod items;
 mod iter;
 mod iter_mut;

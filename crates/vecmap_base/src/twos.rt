@@ -1,6 +1,6 @@
-//! Searches of two items a turn. They ask as many questions as those of one, in the same order, and are faster where a
-//! question takes no longer than the turn of a loop.
-ghost use Rattle.std.specs.Prelude.{◌≡◌, ◌<◌, IfSome, length, position};
+//! A search of two pairs a turn. It asks as many questions as one of a pair a turn, in the same order, and is faster where
+//! a question takes no longer than the turn of a loop.
+ghost use Rattle.std.specs.Prelude.{◌≡◌, ◌<◌, IfSome, length};
 ghost use Rattle.vecmap_base.specs.Pairs.{index_by};
 
 use crate::equivalent::Equivalent;
@@ -26,28 +26,6 @@ pub(crate) fn find_by_twos<K: Eq, V, Q: Equivalent<K>>(pairs: &[(K, V)], query: 
     }
     let last = 2 * twos;
     if last < pairs.len() && query.equivalent(&pairs[last].0) {
-        return Some(last);
-    }
-    None
-}
-
-// The first place whose element the query stands for.
-pub(crate) fn find_item_by_twos<T: Eq, Q: Equivalent<T>>(items: &[T], query: Q) -> Option<usize>
-    ensures place { result ≡ position (Q.equivalent query) items.now }
-    ensures within { IfSome result (λ i. i < length items.now) }
-{
-    let twos = items.len() / 2;
-    for two in 0..twos {
-        let at = 2 * two;
-        if query.equivalent(&items[at]) {
-            return Some(at);
-        }
-        if query.equivalent(&items[at + 1]) {
-            return Some(at + 1);
-        }
-    }
-    let last = 2 * twos;
-    if last < items.len() && query.equivalent(&items[last]) {
         return Some(last);
     }
     None

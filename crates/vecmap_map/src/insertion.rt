@@ -34,8 +34,11 @@ impl<K, V> VecMap<K, V> {
         ensures given { IfErr result (λ refused. refused.given ≡ (key, value)) }
         ensures err { OnErr result (Refuses K.eq self.old key self.new) }
     {
-        let (_index, old) = self.insert_full(key, value)?;
-        Ok(old)
+        if let Some(index) = find(&self.pairs, &key) {
+            return Ok(Some(replace(&mut self.pairs[index].1, value)));
+        }
+        self.push(key, value)?;
+        Ok(None)
     }
 
     /// As `insert`, at the same cost, and answers the place of the key too.
