@@ -1,10 +1,11 @@
 -- Items that have no mark, and two lists whose items are matched one to one.
-use Rattle.std.specs.Prelude.{◌≡◌, ℕ, zero, suc, ◌+◌, ◌<◌, ◌≤◌, Bool, true, false, ◌&&◌, ◌||◌, not, List, [], ◌∷◌, None, Some, length, refl}
+use Rattle.std.specs.Prelude.{◌≡◌, ℕ, zero, suc, ◌+◌, ◌-◌, ◌<◌, ◌≤◌, Bool, true, false, ◌&&◌, ◌||◌, not, List, [], ◌∷◌, None, Some, length, refl}
 use Rattle.std.specs.Cmp.{IsEquivalence}
 use Rattle.std.specs.List.{list_any, sum_by}
 use Rattle.std.proofs.Common.{cond, drop, get_or, replicate, set, sym, ap, ◌∙◌, arith, true≢false, ⊎_elim}
 use Rattle.std.proofs.lemmas.Bool.{cases_lt, false_from_ne_true}
-use Rattle.std.proofs.lemmas.List.{drop_all, length-drop, nil_from_length}
+use Rattle.std.proofs.lemmas.Grind.{get_or_after_one}
+use Rattle.std.proofs.lemmas.List.{at_drop_more, drop-replicate, drop_all, length-drop, nil_from_length}
 use Rattle.std.proofs.lemmas.List.Folds.{list_any_at}
 use Rattle.std.proofs.lemmas.List.Quantifiers.{position-Some}
 use Rattle.std.proofs.lemmas.List.Sums.{sum_by-cons, sum_by-drop_more}
@@ -84,6 +85,26 @@ module _ {X : Type 0} (same : X → X → Bool) (o : IsEquivalence same) where
       let left : many same o (drop i a) x ≡ cond (same x x) 1 0 + many same o (drop (i + 1) a) x = sum_by-drop_more (λ y. cond (same x y) 1 0) a i x within ∙ ap (λ y. cond (same x y) 1 0 + many same o (drop (i + 1) a) x) (sym at) in
       let one : cond (same x x) 1 0 ≡ 1 = ap {B = ℕ} (λ c. cond c 1 0) (o.refl x) in
       omega (arith, as_many, none, left, one, m.1 x))
+
+  -- before an item is matched
+  none_matched : (a b : List X) (marks : List Bool) → length a ≡ length b → free b marks ≡ b → Matched a b (drop 0 a) marks
+  none_matched a b marks as_long unmarked = (as_long ∙ ap length (sym unmarked), λ z. let left = ap (λ l. many same o l z) unmarked in omega (arith, left))
+
+  no_marks : (b : List X) (marks : List Bool) → marks ≡ replicate (length marks) false → free b marks ≡ b
+  no_marks b marks none = ap (free b) none ∙ free_unmarked b (length marks)
+
+  -- the first item of a is matched with one behind the first of b
+  pub first_matched : (a b : List X) (j : ℕ) (x : X) (marks : List Bool) → 0 < length a → length a ≡ length b → marks ≡ replicate (length marks) false → x ≡ get_or a 0 x → j < length (drop 1 b) → get_or (drop 1 marks) j true ≡ false → same x (get_or (drop 1 b) j x) ≡ true → Matched a b (drop 1 a) (set marks (1 + j) true)
+  first_matched a b j x marks some as_long none at within unmarked like =
+      one_matched a b 0 (1 + j) x marks some at (omega (arith, within, length-drop 1 b)) (sym (get_or_after_one marks j true) ∙ unmarked) (ap (same x) (sym (get_or_after_one b j x)) ∙ like) (none_matched a b marks as_long (no_marks b marks none))
+
+  -- the first item of a cannot be matched: it differs from the first of b, and from those behind that one
+  pub first_unmatched : (a b : List X) (x : X) (marks : List Bool) → 0 < length a → length a ≡ length b → marks ≡ replicate (length marks) false → x ≡ get_or a 0 x → same x (get_or b 0 x) ≡ false → list_any (same x) (free (drop 1 b) (drop 1 marks)) ≡ false → all_agree same o a a b ≡ false
+  first_unmatched a b x marks some as_long none at differs absent =
+      let behind : free (drop 1 b) (drop 1 marks) ≡ drop 1 b = ap (λ l. free (drop 1 b) (drop 1 l)) none ∙ ap (free (drop 1 b)) (drop-replicate 1 (length marks) false) ∙ free_unmarked (drop 1 b) (length marks - 1) in
+      let rest : list_any (same x) (drop 1 b) ≡ false = ap (list_any (same x)) (sym behind) ∙ absent in
+      let all : list_any (same x) b ≡ false = at_drop_more (list_any (same x)) b 0 x (omega (arith, some, as_long)) ∙ ap (λ c. c || list_any (same x) (drop 1 b)) differs ∙ rest in
+      unmatched a b 0 x marks some at (ap (list_any (same x)) (no_marks b marks none) ∙ all) (none_matched a b marks as_long (no_marks b marks none))
 
 module _ {K V : Type 0} (key : K → K → Bool) (value : V → V → Bool) where
   -- none of the first n pairs has no mark and is the same as p

@@ -1,5 +1,5 @@
 -- When two lists are equal as maps or as sets. `key`, `value` and `eq` are the `==` of keys, values and elements.
-use Rattle.std.specs.Prelude.{ℕ, Bool, ◌&&◌, false, true, List, [], ◌∷◌, None, Option, Some, nat_eq}
+use Rattle.std.specs.Prelude.{◌≡◌, ℕ, ◌<◌, Bool, ◌&&◌, false, true, List, [], ◌∷◌, None, Option, Some, get_or, length, nat_eq}
 use Rattle.std.specs.List.{count_by, list_all, list_any}
 use Rattle.std.specs.Map.{keys_of}
 use Rattle.vecmap_base.specs.Pairs.{lookup}
@@ -15,6 +15,10 @@ module _ {K V : Type 0} (key : K → K → Bool) (value : V → V → Bool) wher
   -- the keys are equal, and the values are
   abbrev pub same_pair : K × V → K × V → Bool
   same_pair p q = key p.0 q.0 && value p.1 q.1
+
+  -- the first pairs of a and b are not the same, where both have one
+  abbrev pub FirstDiffer : List (K × V) → List (K × V) → Type 0
+  FirstDiffer a b = (p : K × V) → 0 < length a → same_pair (get_or a 0 p) (get_or b 0 p) ≡ false
 
   -- how many pairs of l are the same as p
   abbrev pub count : List (K × V) → K × V → ℕ

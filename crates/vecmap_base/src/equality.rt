@@ -1,7 +1,7 @@
 //! Equality of lists of pairs as maps: the order of the pairs makes no difference.
-ghost use Rattle.std.specs.Prelude.{◌≡◌, ◌≤◌, length, take, true};
+ghost use Rattle.std.specs.Prelude.{◌≡◌, ◌<◌, ◌≤◌, drop, length, take, true};
 ghost use Rattle.std.specs.List.{AllZip};
-ghost use Rattle.vecmap_base.specs.Equality.{count, counts_agree, has_same_counts, same_pair};
+ghost use Rattle.vecmap_base.specs.Equality.{FirstDiffer, count, counts_agree, has_same_counts, same_pair};
 
 use crate::matching::pairs_match;
 
@@ -14,9 +14,9 @@ const MANY: usize = 1024;
 ///
 /// Of lists that differ in length it compares nothing. Else it passes over the places from the front on that hold equal
 /// pairs, and matches the rests one to one, each pair with the first of the same that is still free. So it makes n
-/// comparisons of keys for two lists of n pairs that are equal in one order, at most n(n + 1)/2 + 1 for equal lists in
-/// which no keys repeat, and at most n² + 1 for any; where the rests have more than 1,024 pairs it counts in both, with
-/// at most 2n² + 1. It takes no memory.
+/// comparisons of keys for two lists of n pairs that are equal in one order, at most n(n + 1)/2 for equal lists in which
+/// no keys repeat, and at most n² for any; where the rests have more than 1,024 pairs it counts in both, with at most
+/// 2n² + 1. It takes no memory.
 ///
 /// ```
 /// pairs_equal(&[('a', 1), ('b', 2)], &[('b', 2), ('a', 1)]) // true
@@ -28,12 +28,18 @@ pub fn pairs_equal<K: Eq, V: Eq>(a: &[(K, V)], b: &[(K, V)]) -> bool
         return false;
     }
     let start = equal_front(a, b);
+    if start == a.len() {
+        return true;
+    }
     rests_equal(&a[start..], &b[start..])
 }
 
-// Whether each pair of `a` occurs equally often in both lists. Marks for a few pairs cost less to make than for many.
+// Whether each pair of `a` occurs equally often in both lists, where the first pairs differ. Marks for a few pairs cost
+// less to make than for many.
 fn rests_equal<K: Eq, V: Eq>(a: &[(K, V)], b: &[(K, V)]) -> bool
-    requires { length a.now ≡ length b.now }
+    requires as_long { length a.now ≡ length b.now }
+    requires some { 0 < length a.now }
+    requires apart { FirstDiffer K.eq V.eq a.now b.now }
     ensures { result ≡ counts_agree K.eq V.eq a.now a.now b.now }
 {
     if b.len() <= FEW {
@@ -50,6 +56,7 @@ fn equal_front<K: Eq, V: Eq>(a: &[(K, V)], b: &[(K, V)]) -> usize
     requires { length a.now ≡ length b.now }
     ensures within { result ≤ length a.now }
     ensures equal { AllZip (λ p q. same_pair K.eq V.eq p q ≡ true) (take result a.now) (take result b.now) }
+    ensures apart { result < length a.now → FirstDiffer K.eq V.eq (drop result a.now) (drop result b.now) }
 {
     for i in 0..a.len() {
         if !is_same(&a[i], &b[i]) {

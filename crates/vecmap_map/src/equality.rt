@@ -9,9 +9,9 @@ use vecmap_base::pairs_equal;
 ///
 /// Of maps that differ in length it compares nothing. Else it passes over the places from the front on that hold equal
 /// pairs, and matches the rests one to one, each pair with the first of the same that is still free. So it makes n
-/// comparisons of keys for two equal maps of n pairs in one order, at most n(n + 1)/2 + 1 for equal maps in which no keys
-/// repeat, and at most n² + 1 for any; where the rests have more than 1,024 pairs it counts in both, with at most
-/// 2n² + 1. It takes no memory.
+/// comparisons of keys for two equal maps of n pairs in one order, at most n(n + 1)/2 for equal maps in which no keys
+/// repeat, and at most n² for any; where the rests have more than 1,024 pairs it counts in both, with at most 2n² + 1. It
+/// takes no memory.
 ///
 /// ```
 /// let map = vecmap!(alloc; 'a' => 1, 'b' => 2);

@@ -66,9 +66,9 @@ fn equality_compares_no_more_than_it_says(rt: HostRuntime) -> Result<(), Fail> {
         ([1, 2, 3].as_slice(), [1, 2].as_slice(), false, 0),
         ([1, 2].as_slice(), [1, 2, 3].as_slice(), false, 0),
         ([1, 2, 3].as_slice(), [1, 2, 3].as_slice(), true, 3),
-        ([1, 2, 4].as_slice(), [1, 2, 3].as_slice(), false, 4),
-        ([4, 1, 2].as_slice(), [1, 2, 3].as_slice(), false, 4),
-        ([1, 2, 3].as_slice(), [3, 1, 2].as_slice(), true, 7),
+        ([1, 2, 4].as_slice(), [1, 2, 3].as_slice(), false, 3),
+        ([4, 1, 2].as_slice(), [1, 2, 3].as_slice(), false, 3),
+        ([1, 2, 3].as_slice(), [3, 1, 2].as_slice(), true, 6),
     ] {
         let log = Log::new();
         let one = VecMap::from(told_pairs(rt.alloc(), &log, numbers)?);
@@ -78,5 +78,30 @@ fn equality_compares_no_more_than_it_says(rt: HostRuntime) -> Result<(), Fail> {
         assert!(rt; log.comparisons().wrapping_sub(made) == comparisons);
         assert!(rt; !log.compares_after_drop());
     }
+    Ok(())
+}
+
+#[test]
+fn maps_in_maps_are_compared_once(rt: HostRuntime) -> Result<(), Fail> {
+    let log = Log::new();
+    let one = VecMap::from(vec![in rt.alloc();
+        ('a', VecMap::from(told_pairs(rt.alloc(), &log, &[1, 2])?)),
+    ]?);
+    let other = VecMap::from(vec![in rt.alloc();
+        ('a', VecMap::from(told_pairs(rt.alloc(), &log, &[1, 3])?)),
+    ]?);
+    let made = log.comparisons();
+    assert!(rt; one != other);
+    assert!(rt; log.comparisons().wrapping_sub(made) == 2);
+    Ok(())
+}
+
+#[test]
+fn repeats_of_the_first_key_are_matched_behind_it(rt: HostRuntime) -> Result<(), Fail> {
+    let one = repeating_map(rt.alloc(), &[(1, 'a', 5), (1, 'b', 6), (1, 'c', 7)])?;
+    let turned = repeating_map(rt.alloc(), &[(1, 'p', 7), (1, 'q', 5), (1, 'r', 6)])?;
+    let fewer = repeating_map(rt.alloc(), &[(1, 'p', 7), (1, 'q', 6), (1, 'r', 6)])?;
+    assert!(rt; one == turned && turned == one);
+    assert!(rt; one != fewer && fewer != one);
     Ok(())
 }
