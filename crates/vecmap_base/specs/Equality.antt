@@ -16,7 +16,7 @@ module _ {K V : Type 0} (key : K → K → Bool) (value : V → V → Bool) wher
   abbrev pub same_pair : K × V → K × V → Bool
   same_pair p q = key p.0 q.0 && value p.1 q.1
 
-  -- the first pairs of a and b are not the same, where both have one
+  -- the first pairs of two lists of one length are not the same, where there are any
   abbrev pub FirstDiffer : List (K × V) → List (K × V) → Type 0
   FirstDiffer a b = (p : K × V) → 0 < length a → same_pair (get_or a 0 p) (get_or b 0 p) ≡ false
 

@@ -10,16 +10,13 @@ returns-then-a-b g c = sym (map_lengths_differ g.K.PartialEq.eq g.V.PartialEq.eq
 
 pub returns-then-start-a : goal.returns-then-start-a
 returns-then-start-a g c =
-    let key = g.K.PartialEq.eq in
-    let value = g.V.PartialEq.eq in
-    let k = g.met.K.Eq.laws in
-    let v = g.met.V.Eq.laws in
     let a = c.args.a.now in
     let b = c.args.b.now in
     let start = c.equal_front-start.result in
     let no_a : drop start a ≡ [] = drop_all start a (omega (arith, c.if-start-a.true)) in
     let no_b : drop start b ≡ [] = drop_all start b (omega (arith, c.if-start-a.true)) in
-    sym (λ t. has_same_counts key value (no_a t) (no_b t)) ∙ past_front key value k v start a b c.equal_front-start.ensures.equal
+    sym (λ t. has_same_counts g.K.PartialEq.eq g.V.PartialEq.eq (no_a t) (no_b t))
+    ∙ past_front g.K.PartialEq.eq g.V.PartialEq.eq g.met.K.Eq.laws g.met.V.Eq.laws start a b c.equal_front-start.ensures.equal
 
 pub returns : goal.returns
 returns g c =
