@@ -9,6 +9,7 @@ mod made;
 #[cfg(test)]
 mod map;
 pub mod porting;
+pub mod readme;
 #[cfg(test)]
 mod run;
 #[cfg(test)]
