@@ -15,6 +15,8 @@ ghost use Rattle.vecmap_map.specs.declared.drain.Drain.{Drain};
 mod puts;
 mod queries;
 
+use crate::VecMap;
+
 pub use puts::{
     bulk_insertions_are_single_ones, entries_insert_alike, equal_keys_find_the_same,
     functions_of_values_are_found, insertions_are_found, removals_are_forgotten,
@@ -110,3 +112,10 @@ pub fn drains_pull_as_lists<K, V>()
     ensures pulls { (s t : Drain K V) (ends : List End) (items : List (Option (K × V))) → PullsBy DrainNext DrainNextBack s ends items t → Pulls (drain_rest s) ends items (drain_rest t) }
     ensures keeps { (s t : Drain K V) (ends : List End) (items : List (Option (K × V))) → PullsBy DrainNext DrainNextBack s ends items t → DrainKeeps s t }
 {}
+
+/// A map never has more pairs than its capacity.
+pub fn pairs_fit_the_capacity<K, V>(map: &VecMap<K, V>)
+    ensures { length map.now.entries ≤ map.now.capacity }
+{
+    map.pairs.capacity();
+}

@@ -1,5 +1,5 @@
 //! Laws of the definitions that the contracts cite. A call of one costs nothing, and gives a proof the law.
-ghost use Rattle.std.specs.Prelude.{◌≡◌, ◌≢◌, ◌↔◌, ◌<◌, IsTrue, List, Option, ℕ, [], drop, false, length, take};
+ghost use Rattle.std.specs.Prelude.{◌≡◌, ◌≢◌, ◌↔◌, ◌<◌, ◌≤◌, IsTrue, List, Option, ℕ, [], drop, false, length, take};
 ghost use Rattle.std.specs.List.{IsDistinct};
 ghost use Rattle.std.specs.List.Sorted.{IsPermutation};
 ghost use Rattle.vecmap_base.specs.Equality.{has_same_items, is_within};
@@ -11,6 +11,8 @@ ghost use Rattle.vecmap_set.specs.declared.drain.Drain.{Drain};
 mod additions;
 mod algebra;
 mod queries;
+
+use crate::VecSet;
 
 pub use additions::{
     additions_keep_elements_distinct, additions_move_nothing, bulk_additions_are_single_ones,
@@ -65,3 +67,10 @@ pub fn drains_pull_as_lists<T: Eq>()
     ensures pulls { (s t : Drain T) (ends : List End) (items : List (Option T)) → PullsBy DrainNext DrainNextBack s ends items t → Pulls (drain_rest s) ends items (drain_rest t) }
     ensures keeps { (s t : Drain T) (ends : List End) (items : List (Option T)) → PullsBy DrainNext DrainNextBack s ends items t → DrainKeeps s t }
 {}
+
+/// A set never has more elements than its capacity.
+pub fn elements_fit_the_capacity<T: Eq>(set: &VecSet<T>)
+    ensures { length set.now.elements ≤ set.now.capacity }
+{
+    set.items.capacity();
+}
