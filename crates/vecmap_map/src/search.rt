@@ -40,6 +40,10 @@ impl<K, V> VecMap<K, V> {
     /// `Ok` is the place of an equal pair, any one of them; where there is none, `Err` is the number of less ones. Where
     /// the pairs are in another order, `Ok` is still an equal place, and `Err` tells nothing.
     ///
+    /// # Conditions
+    ///
+    /// `f` can be called at each pair of the map. It is called at no others, so it may index a table by a stored value.
+    ///
     /// ```
     /// let map = vecmap!(alloc; 'a' => 1, 'b' => 2);
     /// map.binary_search_by(|_key, value| value.cmp(&2)) // Ok(1)
@@ -57,6 +61,10 @@ impl<K, V> VecMap<K, V> {
 
     /// Searches pairs that ascend by the key that `f` makes of one, for `key`, as `binary_search_by`. It takes O(log n)
     /// calls of `f` and comparisons for n pairs.
+    ///
+    /// # Conditions
+    ///
+    /// `f` can be called at each pair of the map.
     ///
     /// ```
     /// let map = vecmap!(alloc; 'a' => 1, 'b' => 2);
@@ -76,6 +84,10 @@ impl<K, V> VecMap<K, V> {
     }
 
     /// The number of pairs that pass `pred`, where those that pass come first, in O(log n) calls of `pred` for n pairs.
+    ///
+    /// # Conditions
+    ///
+    /// `pred` can be called at each pair of the map.
     ///
     /// ```
     /// let map = vecmap!(alloc; 'a' => 1, 'b' => 2);

@@ -37,6 +37,10 @@ impl<T: Eq> VecSet<T> {
     /// `Ok` is the place of an equal element, any one of them; where there is none, `Err` is the number of less ones.
     /// Where the elements are in another order, `Ok` is still an equal place, and `Err` tells nothing.
     ///
+    /// # Conditions
+    ///
+    /// `f` can be called at each element of the set. It is called at no others, so it may index a table by them.
+    ///
     /// ```
     /// let set = vecset!(alloc; 1, 2);
     /// set.binary_search_by(|item| item.cmp(&2)) // Ok(1)
@@ -51,6 +55,10 @@ impl<T: Eq> VecSet<T> {
 
     /// Searches elements that ascend by the key that `f` makes of one, for `key`, as `binary_search_by`. It takes
     /// O(log n) calls of `f` and comparisons for n elements.
+    ///
+    /// # Conditions
+    ///
+    /// `f` can be called at each element of the set.
     ///
     /// ```
     /// let set = vecset!(alloc; 1, 2);
@@ -71,6 +79,10 @@ impl<T: Eq> VecSet<T> {
 
     /// The number of elements that pass `pred`, where those that pass come first, in O(log n) calls of `pred` for n
     /// elements.
+    ///
+    /// # Conditions
+    ///
+    /// `pred` can be called at each element of the set.
     ///
     /// ```
     /// let set = vecset!(alloc; 1, 2);
