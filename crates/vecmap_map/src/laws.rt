@@ -16,7 +16,6 @@ mod puts;
 mod queries;
 
 use crate::VecMap;
-
 pub use puts::{
     bulk_insertions_are_single_ones, entries_insert_alike, equal_keys_find_the_same,
     functions_of_values_are_found, insertions_are_found, removals_are_forgotten,

@@ -55,7 +55,16 @@ fn searches_of_every_length(rt: HostRuntime) -> Result<(), Fail> {
 }
 
 // How many pairs a search asks of, for a number of pairs: it halves what is left, down to one.
-const ASKED: [(u32, u32); 8] = [(0, 0), (1, 1), (2, 2), (3, 3), (4, 3), (8, 4), (9, 5), (100, 8)];
+const ASKED: [(u32, u32); 8] = [
+    (0, 0),
+    (1, 1),
+    (2, 2),
+    (3, 3),
+    (4, 3),
+    (8, 4),
+    (9, 5),
+    (100, 8),
+];
 
 #[test]
 fn searches_ask_as_often_as_they_halve(rt: HostRuntime) -> Result<(), Fail> {

@@ -13,7 +13,6 @@ mod algebra;
 mod queries;
 
 use crate::VecSet;
-
 pub use additions::{
     additions_keep_elements_distinct, additions_move_nothing, bulk_additions_are_single_ones,
     equal_elements_have_one_place, removals_are_forgotten, stored_elements_are_found,

@@ -30,14 +30,14 @@ pub returns-in-Less-clause-place : goal.returns-in-Less-clause-place
 returns-in-Less-clause-place g c =
     let xs = c.args.items.now in let key = c.args.key.now in let base = c.loop-size.base in
     λ key_of by.
-        narrowed_less (λ x. g.B.Ord.cmp (key_of x) key) xs base c.loop-size.size (omega arith) (omega arith)
-        (said_at_key g.B.Ord.cmp key_of key (λ o. o ≡ Less) xs base _ c.f-2.result c.cmp-2.result (omega arith) c.index-items-base.is (by _ _ c.f-2.ensures) c.cmp-2.ensures c.in-Less.is)
-        (c.loop-size.invariant.2 key_of by)
+    narrowed_less (λ x. g.B.Ord.cmp (key_of x) key) xs base c.loop-size.size (omega arith) (omega arith)
+    (said_at_key g.B.Ord.cmp key_of key (λ o. o ≡ Less) xs base _ c.f-2.result c.cmp-2.result (omega arith) c.index-items-base.is (by _ _ c.f-2.ensures) c.cmp-2.ensures c.in-Less.is)
+    (c.loop-size.invariant.2 key_of by)
 
 pub returns-clause-place : goal.returns-clause-place
 returns-clause-place g c =
     let xs = c.args.items.now in let key = c.args.key.now in let base = c.loop-size.base in
     λ key_of by.
-        narrowed_greater (λ x. g.B.Ord.cmp (key_of x) key) xs base c.loop-size.size
-        (said_at_key g.B.Ord.cmp key_of key (λ o. o ≡ Greater) xs base _ c.f-2.result c.cmp-2.result (omega arith) c.index-items-base.is (by _ _ c.f-2.ensures) c.cmp-2.ensures c.in-Greater.is)
-        (c.loop-size.invariant.2 key_of by)
+    narrowed_greater (λ x. g.B.Ord.cmp (key_of x) key) xs base c.loop-size.size
+    (said_at_key g.B.Ord.cmp key_of key (λ o. o ≡ Greater) xs base _ c.f-2.result c.cmp-2.result (omega arith) c.index-items-base.is (by _ _ c.f-2.ensures) c.cmp-2.ensures c.in-Greater.is)
+    (c.loop-size.invariant.2 key_of by)

@@ -30,14 +30,14 @@ pub returns-in-Less-clause-place : goal.returns-in-Less-clause-place
 returns-in-Less-clause-place g c =
     let xs = c.args.pairs.now in let base = c.loop-size.base in
     λ ord by.
-        narrowed_less ord xs base c.loop-size.size (omega arith) (omega arith)
-        (said_at ord (λ o. o ≡ Less) xs base _ c.f-2.result (omega arith) c.index-pairs-base.is (by _ _ _ c.f-2.ensures) c.in-Less.is)
-        (c.loop-size.invariant.2 ord by)
+    narrowed_less ord xs base c.loop-size.size (omega arith) (omega arith)
+    (said_at ord (λ o. o ≡ Less) xs base _ c.f-2.result (omega arith) c.index-pairs-base.is (by _ _ _ c.f-2.ensures) c.in-Less.is)
+    (c.loop-size.invariant.2 ord by)
 
 pub returns-clause-place : goal.returns-clause-place
 returns-clause-place g c =
     let xs = c.args.pairs.now in let base = c.loop-size.base in
     λ ord by.
-        narrowed_greater ord xs base c.loop-size.size
-        (said_at ord (λ o. o ≡ Greater) xs base _ c.f-2.result (omega arith) c.index-pairs-base.is (by _ _ _ c.f-2.ensures) c.in-Greater.is)
-        (c.loop-size.invariant.2 ord by)
+    narrowed_greater ord xs base c.loop-size.size
+    (said_at ord (λ o. o ≡ Greater) xs base _ c.f-2.result (omega arith) c.index-pairs-base.is (by _ _ _ c.f-2.ensures) c.in-Greater.is)
+    (c.loop-size.invariant.2 ord by)
