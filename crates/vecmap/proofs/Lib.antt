@@ -3,6 +3,7 @@ pub use Rattle.vecmap_base.proofs.DistinctLemmas.Additions as DistinctAdditions
 pub use Rattle.vecmap_base.proofs.DistinctLemmas.Keys as DistinctKeys
 pub use Rattle.vecmap_base.proofs.DistinctLemmas.Order as DistinctOrder
 pub use Rattle.vecmap_base.proofs.DistinctLemmas.Removals as DistinctRemovals
+pub use Rattle.vecmap_base.proofs.DrainRuns
 pub use Rattle.vecmap_base.proofs.EqualityLemmas.Maps as MapEquality
 pub use Rattle.vecmap_base.proofs.EqualityLemmas.Relations as SetRelations
 pub use Rattle.vecmap_base.proofs.EqualityLemmas.Sets as SetEquality

@@ -22,10 +22,10 @@ module _ (keys values : clone.Ghosts ℕ) where
       let last : Contents ℕ ℕ = with_entries grown left in
       let grows : KeepsRoom nat_eq pair 2 grown = record { capacity = omega arith; there = λ there. absurd (cc there); spare = λ room. absurd (omega (arith, room)) } in
       let stays : KeepsRoom nat_eq grown 1 all = record { capacity = omega arith; there = λ there. refl; spare = λ room. refl } in
-      (grown, ((refl, refl), grows), (all, ((refl, refl), stays), (all, ((refl, refl), refl), (last, ((refl, refl), refl), (last, ((refl, refl), refl), refl)))))
+      (grown, ((refl, refl), (grows, omega arith)), (all, ((refl, refl), (stays, omega arith)), (all, ((refl, refl), (refl, omega arith)), (last, ((refl, refl), (refl, omega arith)), (last, ((refl, refl), (refl, omega arith)), refl)))))
 
   a_refused_new_key_changes_nothing : Step nat_eq nat_eq keys values pair (Insert 2 20) NoMemory pair
-  a_refused_new_key_changes_nothing = ((refl, refl), (refl, refl))
+  a_refused_new_key_changes_nothing = ((refl, refl), ((refl, refl), omega arith))
 
   a_present_key_is_never_refused : Step nat_eq nat_eq keys values pair (Insert 1 20) NoMemory pair → ⊥
   a_present_key_is_never_refused s = cc s.0.0
@@ -34,13 +34,16 @@ module _ (keys values : clone.Ghosts ℕ) where
   an_absent_key_is_never_refused s = absurd s.0.0
 
   nothing_is_refused_while_there_is_room : Step nat_eq nat_eq keys values (record { entries = []; capacity = 1 }) (Insert 1 20) NoMemory (record { entries = []; capacity = 1 }) → ⊥
-  nothing_is_refused_while_there_is_room s = absurd (omega (arith, s.1.0))
+  nothing_is_refused_while_there_is_room s = absurd (omega (arith, s.1.0.0))
 
   the_length_is_in_range : Step nat_eq nat_eq keys values pair (InsertAt 1 2 20) OutOfRange pair → ⊥
   the_length_is_in_range s = absurd (omega (arith, s.0.0))
 
   a_removal_gives_no_room_back : Step nat_eq nat_eq keys values pair (Remove 1) (Value (Some 10)) (record { entries = []; capacity = 0 }) → ⊥
-  a_removal_gives_no_room_back s = absurd (omega (arith, s.1))
+  a_removal_gives_no_room_back s = absurd (omega (arith, s.1.0))
+
+  a_granted_pair_has_room : Step nat_eq nat_eq keys values pair (Insert 2 20) (Value None) (record { entries = (1, 10) ∷ (2, 20) ∷ []; capacity = 1 }) → ⊥
+  a_granted_pair_has_room s = absurd (omega (arith, s.1.1))
 
   no_reply_is_dropped : Run nat_eq nat_eq keys values pair (Len ∷ []) [] pair → ⊥
   no_reply_is_dropped r = r

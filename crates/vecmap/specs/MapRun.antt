@@ -105,16 +105,24 @@ module _ {K V : Type 0} (eq : K → K → Bool) (eq_value : V → V → Bool) (k
   PutsInRoom k m NoMemory n = IsFull m × (n.capacity ≡ m.capacity)
   PutsInRoom k m reply n = KeepsRoom eq m k n
 
-  -- what becomes of the room: all commands but those that put keep the capacity, and a refused one does
+  -- what becomes of the capacity: all commands but those that put keep it, and a refused one does
+  abbrev pub CapacityStep : Contents K V → MapCommand K V → MapReply K V → Contents K V → Type 0
+  CapacityStep m (Insert k v) reply n = PutsInRoom k m reply n
+  CapacityStep m (InsertFull k v) reply n = PutsInRoom k m reply n
+  CapacityStep m (InsertAt i k v) reply n = PutsInRoom k m reply n
+  CapacityStep m (InsertKey k v) reply n = PutsInRoom k m reply n
+  CapacityStep m (OrInsert k v) reply n = PutsInRoom k m reply n
+  CapacityStep m (Append other) NoMemory n = ¬ (HasRoom m (length other.entries)) × (n.capacity ≡ m.capacity)
+  CapacityStep m (Append other) reply n = (m.capacity ≤ n.capacity) × (HasRoom m (length other.entries) → n.capacity ≡ m.capacity)
+  CapacityStep m command reply n = n.capacity ≡ m.capacity
+
+  -- one command takes the map m to the map n, list and capacity, and is answered so
+  abbrev pub Effect : Contents K V → MapCommand K V → MapReply K V → Contents K V → Type 0
+  Effect m command reply n = ListStep m.entries command reply n.entries × CapacityStep m command reply n
+
+  -- what becomes of the room: the capacity, which is no less than the number of pairs
   abbrev pub RoomStep : Contents K V → MapCommand K V → MapReply K V → Contents K V → Type 0
-  RoomStep m (Insert k v) reply n = PutsInRoom k m reply n
-  RoomStep m (InsertFull k v) reply n = PutsInRoom k m reply n
-  RoomStep m (InsertAt i k v) reply n = PutsInRoom k m reply n
-  RoomStep m (InsertKey k v) reply n = PutsInRoom k m reply n
-  RoomStep m (OrInsert k v) reply n = PutsInRoom k m reply n
-  RoomStep m (Append other) NoMemory n = ¬ (HasRoom m (length other.entries)) × (n.capacity ≡ m.capacity)
-  RoomStep m (Append other) reply n = (m.capacity ≤ n.capacity) × (HasRoom m (length other.entries) → n.capacity ≡ m.capacity)
-  RoomStep m command reply n = n.capacity ≡ m.capacity
+  RoomStep m command reply n = CapacityStep m command reply n × (length n.entries ≤ n.capacity)
 
   -- one command takes the map m to the map n, list and room, and is answered so
   abbrev pub Step : Contents K V → MapCommand K V → MapReply K V → Contents K V → Type 0

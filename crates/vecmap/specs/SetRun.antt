@@ -108,13 +108,21 @@ module _ {T : Type 0} (eq : T → T → Bool) (clones : clone.Ghosts T) where
   AddsInRoom x s NoMemory t = (length s.elements ≡ s.capacity) × (t.capacity ≡ s.capacity)
   AddsInRoom x s reply t = KeepsRoom eq s x t
 
-  -- what becomes of the room: all commands but those that add keep the capacity, and a refused one does
+  -- what becomes of the capacity: all commands but those that add keep it, and a refused one does
+  abbrev pub CapacityStep : Contents T → SetCommand T → SetReply T → Contents T → Type 0
+  CapacityStep s (Insert x) reply t = AddsInRoom x s reply t
+  CapacityStep s (Replace x) reply t = AddsInRoom x s reply t
+  CapacityStep s (Append other) NoMemory t = ¬ (HasRoom s (length other.elements)) × (t.capacity ≡ s.capacity)
+  CapacityStep s (Append other) reply t = (s.capacity ≤ t.capacity) × (HasRoom s (length other.elements) → t.capacity ≡ s.capacity)
+  CapacityStep s command reply t = t.capacity ≡ s.capacity
+
+  -- one command takes the set s to the set t, list and capacity, and is answered so
+  abbrev pub Effect : Contents T → SetCommand T → SetReply T → Contents T → Type 0
+  Effect s command reply t = ListStep s.elements command reply t.elements × CapacityStep s command reply t
+
+  -- what becomes of the room: the capacity, which is no less than the number of elements
   abbrev pub RoomStep : Contents T → SetCommand T → SetReply T → Contents T → Type 0
-  RoomStep s (Insert x) reply t = AddsInRoom x s reply t
-  RoomStep s (Replace x) reply t = AddsInRoom x s reply t
-  RoomStep s (Append other) NoMemory t = ¬ (HasRoom s (length other.elements)) × (t.capacity ≡ s.capacity)
-  RoomStep s (Append other) reply t = (s.capacity ≤ t.capacity) × (HasRoom s (length other.elements) → t.capacity ≡ s.capacity)
-  RoomStep s command reply t = t.capacity ≡ s.capacity
+  RoomStep s command reply t = CapacityStep s command reply t × (length t.elements ≤ t.capacity)
 
   -- one command takes the set s to the set t, list and room, and is answered so
   abbrev pub StepSet : Contents T → SetCommand T → SetReply T → Contents T → Type 0

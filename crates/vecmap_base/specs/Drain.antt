@@ -12,6 +12,7 @@ module _ {D A : Type 0} (rest : D → List A) (Keeps : D → D → Type 0) where
   abbrev pub DrainsLast : D → Option A → D → Type 0
   DrainsLast s r t = MatchOption r ((rest s ≡ []) × (t ≡ s)) (λ x. (rest s ≡ rest t ++ x ∷ []) × Keeps s t)
 
-  -- each state that pulls from the front lead to keeps what s keeps
+module _ {D A : Type 0} (pull : D → Option A → D → Type 0) (Keeps : D → D → Type 0) where
+  -- each state that these pulls lead to, from the front or from the back, keeps what s keeps
   abbrev pub KeepsAlong : D → Type 0
-  KeepsAlong s = (xs : List A) (t : D) → Yields DrainsFirst s xs t → Keeps s t
+  KeepsAlong s = (xs : List A) (t : D) → Yields pull s xs t → Keeps s t

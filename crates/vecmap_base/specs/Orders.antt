@@ -1,5 +1,5 @@
--- What a closure over pairs or items answers, and the order that it gives a list. The closures are `Fn`: one call tells of
--- all.
+-- Where a closure over pairs or items may be called, what it answers, and the order that it gives a list. The closures
+-- are `Fn`: one call tells of all.
 use Rattle.std.specs.Prelude.{◌≡◌, Bool, List}
 use Rattle.std.specs.Borrow.{Bor}
 use Rattle.std.specs.Cmp.{IsStrictWeakOrder}
@@ -7,6 +7,14 @@ use Rattle.std.specs.Fn.{Shared}
 use Rattle.std.specs.List.Sorted.{IsSortedBy, IsSortedByKey, IsStableBy, IsStableByKey}
 use Rattle.std.specs.Ordering.{is_lt}
 use Rattle.std.specs.declared.cmp.Ordering.{Ordering}
+
+-- f may be called at the item x
+abbrev pub CallableOnItem : {F T R : Type 0} → Shared F (Bor T × Unit {0}) R → F → T → Type 0
+CallableOnItem {F} {T} g f x = (a : Bor T) → a.now ≡ x → g.pre f (a, tt)
+
+-- f may be called at the key and the value of the pair p
+abbrev pub CallableOnPair : {F K V R : Type 0} → Shared F (Bor K × (Bor V × Unit {0})) R → F → K × V → Type 0
+CallableOnPair {F} {K} {V} g f p = (k : Bor K) (v : Bor V) → k.now ≡ p.0 → v.now ≡ p.1 → g.pre f (k, (v, tt))
 
 -- each call of f, at an item, answers what h gives of it
 abbrev pub AnswersOnItem : {F T R : Type 0} → Shared F (Bor T × Unit {0}) R → (T → R) → F → Type 0

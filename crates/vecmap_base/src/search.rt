@@ -1,8 +1,9 @@
-//! Binary searches of a list that is in order, by a key that a closure makes of its items. Each call of the closure halves
-//! what is left, and no search takes memory.
-ghost use Rattle.std.specs.Prelude.{length};
-ghost use Rattle.std.specs.List.Sorted.{IsBinarySearchResult, IsSearchInRange};
-ghost use Rattle.vecmap_base.specs.Orders.{AnswersOnItem, AnswersOnPair};
+//! Searches of a list that is in order, by what a closure answers at its items. Each call of the closure halves what is
+//! left, whatever it answers, and no search takes memory.
+ghost use Rattle.std.specs.Prelude.{◌≡◌, ◌≤◌, Bool, false, length, true};
+ghost use Rattle.std.specs.List.{All};
+ghost use Rattle.std.specs.List.Sorted.{IsBinarySearchResult, IsPartitionPoint, IsPartitionedBy, IsSearchInRange};
+ghost use Rattle.vecmap_base.specs.Orders.{AnswersOnItem, AnswersOnPair, CallableOnItem, CallableOnPair};
 
 use std::cmp::Ordering;
 
@@ -18,26 +19,30 @@ pub fn search_pairs_by_key<'a, K, V, B: Ord + Drop, F: Fn(&'a K, &'a V) -> B>(
     key: &B,
     f: F,
 ) -> Result<usize, usize>
-    requires { F.IsAlwaysCallable f }
+    requires callable { All (CallableOnPair F.Fn f) pairs.now }
     ensures within { IsSearchInRange result (length pairs.now) }
     ensures place { (key_of : K × V → B) → AnswersOnPair F.Fn key_of f → IsBinarySearchResult (λ p. B.cmp (key_of p) key.now) pairs.now result }
 {
-    let mut low = 0;
-    let mut high = pairs.len();
-    while low < high {
-        let middle = low + (high - low) / 2;
+    let mut size = pairs.len();
+    if size == 0 {
+        return Err(0);
+    }
+    let mut base = 0;
+    while size > 1 {
+        let half = size / 2;
+        let middle = base + half;
+        size -= half;
         let pair = &pairs[middle];
-        let order = {
-            let found = f(&pair.0, &pair.1);
-            found.cmp(key)
-        };
-        match order {
-            Ordering::Less => low = middle + 1,
-            Ordering::Equal => return Ok(middle),
-            Ordering::Greater => high = middle,
+        if f(&pair.0, &pair.1).cmp(key).is_le() {
+            base = middle;
         }
     }
-    Err(low)
+    let pair = &pairs[base];
+    match f(&pair.0, &pair.1).cmp(key) {
+        Ordering::Less => Err(base + 1),
+        Ordering::Equal => Ok(base),
+        Ordering::Greater => Err(base),
+    }
 }
 
 /// Searches items that ascend by the key that `f` makes of one, for `key`. `Ok` is the place of an item with an equal
@@ -52,23 +57,53 @@ pub fn search_items_by_key<'a, T, B: Ord + Drop, F: Fn(&'a T) -> B>(
     key: &B,
     f: F,
 ) -> Result<usize, usize>
-    requires { F.IsAlwaysCallable f }
+    requires callable { All (CallableOnItem F.Fn f) items.now }
     ensures within { IsSearchInRange result (length items.now) }
     ensures place { (key_of : T → B) → AnswersOnItem F.Fn key_of f → IsBinarySearchResult (λ x. B.cmp (key_of x) key.now) items.now result }
 {
-    let mut low = 0;
-    let mut high = items.len();
-    while low < high {
-        let middle = low + (high - low) / 2;
-        let order = {
-            let found = f(&items[middle]);
-            found.cmp(key)
-        };
-        match order {
-            Ordering::Less => low = middle + 1,
-            Ordering::Equal => return Ok(middle),
-            Ordering::Greater => high = middle,
+    let mut size = items.len();
+    if size == 0 {
+        return Err(0);
+    }
+    let mut base = 0;
+    while size > 1 {
+        let half = size / 2;
+        let middle = base + half;
+        size -= half;
+        if f(&items[middle]).cmp(key).is_le() {
+            base = middle;
         }
     }
-    Err(low)
+    match f(&items[base]).cmp(key) {
+        Ordering::Less => Err(base + 1),
+        Ordering::Equal => Ok(base),
+        Ordering::Greater => Err(base),
+    }
+}
+
+/// The number of items that pass `pred`, where those that pass come first. It takes O(log n) calls of `pred` for n items,
+/// and no memory.
+///
+/// ```
+/// partition_point(&[1, 3], |item| *item < 2) // 1
+/// ```
+pub fn partition_point<T, P: Fn(&T) -> bool>(items: &[T], pred: P) -> usize
+    requires callable { All (CallableOnItem P.Fn pred) items.now }
+    ensures within { result ≤ length items.now }
+    ensures place { (p : T → Bool) → AnswersOnItem P.Fn p pred → IsPartitionedBy p items.now → IsPartitionPoint (λ x. p x ≡ true) (λ x. p x ≡ false) items.now result }
+{
+    let mut size = items.len();
+    if size == 0 {
+        return 0;
+    }
+    let mut base = 0;
+    while size > 1 {
+        let half = size / 2;
+        let middle = base + half;
+        size -= half;
+        if pred(&items[middle]) {
+            base = middle;
+        }
+    }
+    if pred(&items[base]) { base + 1 } else { base }
 }

@@ -77,6 +77,30 @@ pub fn without_second_and_third<T: Eq + Drop>(set: &mut VecSet<T>)
     let _last = items.next_back();
 }
 
+/// Takes out the elements from a place on, in a loop.
+pub fn take_out_from(set: &mut VecSet<u32>, at: usize)
+    requires within { at ≤ length set.old.elements }
+    ensures left { set.new.elements ≡ take at set.old.elements }
+{
+    for _item in set.drain(at..) {}
+}
+
+/// Takes out the first `count` pairs, however many of them are pulled from one end or the other.
+pub fn pull_from_either_end(map: &mut VecMap<u32, u32>, count: usize, from_back: &[bool])
+    requires within { count ≤ length map.old.entries }
+    ensures left { map.new.entries ≡ drop count map.old.entries }
+    ensures capacity { map.new.capacity ≡ map.old.capacity }
+{
+    let mut range = map.drain(..count);
+    for back in from_back {
+        if *back {
+            range.next_back();
+        } else {
+            range.next();
+        }
+    }
+}
+
 /// Splits a map of distinct keys, and makes it whole again where there is memory.
 pub fn split_and_append(map: &mut VecMap<u32, u32>, at: usize) -> Result<(), AllocError>
     requires within { at ≤ length map.old.entries }

@@ -1,5 +1,6 @@
 //! What callers of searches can prove.
-ghost use Rattle.std.specs.Prelude.{◌≡◌, IfErr, false, nat_lt, true};
+ghost use Rattle.std.specs.Prelude.{◌≡◌, ◌<◌, ◌≤◌, IfErr, false, get_or, length, nat_lt, true};
+ghost use Rattle.std.specs.List.{All};
 ghost use Rattle.std.specs.List.Sorted.{IsBinarySearchResult, IsPartitionPoint, IsPartitionedBy};
 ghost use Rattle.std.specs.Ordering.{nat_cmp};
 ghost use Rattle.std.specs.declared.cmp.Ordering.TheVariants.{Greater, Less};
@@ -27,4 +28,52 @@ pub fn count_below(set: &VecSet<u32>, limit: u32) -> usize
     ensures { IsPartitionPoint (λ x. nat_lt x limit ≡ true) (λ x. nat_lt x limit ≡ false) set.now.elements result }
 {
     set.partition_point(|x| *x < limit)
+}
+
+/// Searches by what a table has at the stored value: each value is a place in the table.
+pub fn search_ranks(map: &VecMap<char, usize>, ranks: &[u32], rank: u32) -> Result<usize, usize>
+    requires within { All (λ p. p.1 < length ranks.now) map.now.entries }
+    ensures { IsBinarySearchResult (λ p. nat_cmp (get_or ranks.now p.1 0) rank) map.now.entries result }
+{
+    map.binary_search_by(|_, place| ranks[*place].cmp(&rank))
+}
+
+/// The same by a key.
+pub fn search_by_rank(map: &VecMap<char, usize>, ranks: &[u32], rank: u32) -> Result<usize, usize>
+    requires within { All (λ p. p.1 < length ranks.now) map.now.entries }
+    ensures { IsBinarySearchResult (λ p. nat_cmp (get_or ranks.now p.1 0) rank) map.now.entries result }
+{
+    map.binary_search_by_key(&rank, |_, place| ranks[*place])
+}
+
+/// How many values have a rank below a limit.
+pub fn count_ranks_below(map: &VecMap<char, usize>, ranks: &[u32], limit: u32) -> usize
+    requires within { All (λ p. p.1 < length ranks.now) map.now.entries }
+    ensures { result ≤ length map.now.entries }
+{
+    map.partition_point(|_, place| ranks[*place] < limit)
+}
+
+/// Searches elements by what a table has at them.
+pub fn search_item_ranks(set: &VecSet<usize>, ranks: &[u32], rank: u32) -> Result<usize, usize>
+    requires within { All (λ x. x < length ranks.now) set.now.elements }
+    ensures { IsBinarySearchResult (λ x. nat_cmp (get_or ranks.now x 0) rank) set.now.elements result }
+{
+    set.binary_search_by(|place| ranks[*place].cmp(&rank))
+}
+
+/// The same by a key.
+pub fn search_item_by_rank(set: &VecSet<usize>, ranks: &[u32], rank: u32) -> Result<usize, usize>
+    requires within { All (λ x. x < length ranks.now) set.now.elements }
+    ensures { IsBinarySearchResult (λ x. nat_cmp (get_or ranks.now x 0) rank) set.now.elements result }
+{
+    set.binary_search_by_key(&rank, |place| ranks[*place])
+}
+
+/// How many elements have a rank below a limit.
+pub fn count_item_ranks_below(set: &VecSet<usize>, ranks: &[u32], limit: u32) -> usize
+    requires within { All (λ x. x < length ranks.now) set.now.elements }
+    ensures { result ≤ length set.now.elements }
+{
+    set.partition_point(|place| ranks[*place] < limit)
 }

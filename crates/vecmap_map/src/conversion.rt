@@ -31,7 +31,7 @@ impl<K, V> VecMap<K, V> {
     /// As `From<Vec>`, and answers the number of comparisons that it took.
     ///
     /// Each key is compared with those before it that stay, up to the first equal one: at most n(n-1)/2 comparisons for n
-    /// pairs, and exactly as many where no two keys are equal (`vecmap_base::laws`).
+    /// pairs, and exactly as many where no two keys are equal (`laws::key_comparisons_are_bounded`).
     ///
     /// ```
     /// let (map, comparisons) = VecMap::from_vec_counted(vec![in alloc; ('a', 1), ('b', 2), ('a', 3)]?);

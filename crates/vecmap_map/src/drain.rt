@@ -59,7 +59,8 @@ impl<'a, K: Drop, V: Drop> Drain<'a, K, V> {
         ensures kept { drain_kept result ≡ remove_range map.old.entries start end }
         ensures capacity { drain_capacity result ≡ map.old.capacity }
         ensures same_map { drain_lender result ≡ map.entry.ghost_name }
-        ensures keeps { KeepsAlong drain_rest DrainKeeps result }
+        ensures keeps { KeepsAlong DrainNext DrainKeeps result }
+        ensures keeps_back { KeepsAlong DrainNextBack DrainKeeps result }
     {
         let keep = map.move_range_last(start, end);
         Drain {

@@ -1,5 +1,5 @@
 //! Laws of the definitions that the contracts cite. A call of one costs nothing, and gives a proof the law.
-ghost use Rattle.std.specs.Prelude.{◌≡◌, ◌≢◌, ◌↔◌, ◌<◌, ◌≤◌, ◌++◌, ◌∷◌, ℕ, Bool, IsTrue, List, None, [], drop, false, length, remove, reverse, slice_range, swap, take};
+ghost use Rattle.std.specs.Prelude.{◌≡◌, ◌≢◌, ◌↔◌, ◌<◌, ◌≤◌, ◌++◌, ◌∷◌, ℕ, Bool, IsTrue, List, None, Option, [], drop, false, length, remove, reverse, slice_range, swap, take};
 ghost use Rattle.std.specs.List.{remove_range};
 ghost use Rattle.std.specs.List.Sorted.{IsPermutation};
 ghost use Rattle.vecmap_base.specs.Clones.{AreClones, ClonesAreSame, IsPairClone};
@@ -7,18 +7,22 @@ ghost use Rattle.vecmap_base.specs.Equality.{agrees, counts_agree, has_same_coun
 ghost use Rattle.vecmap_base.specs.Items.{swap_without};
 ghost use Rattle.vecmap_base.specs.Asked.{CallsAtPair};
 ghost use Rattle.vecmap_base.specs.Kept.{Kept};
-ghost use Rattle.vecmap_base.specs.Pairs.{HasDistinctKeys, index_of, lookup, put, put_at, put_key, puts, swap_without_key, with_value, without_by};
+ghost use Rattle.vecmap_base.specs.Pairs.{HasDistinctKeys, index_of, lookup, put, put_at, put_key, puts, swap_without_by, swap_without_key, with_value, without_by};
+ghost use Rattle.vecmap_base.specs.Walks.{End, Pulls, PullsBy};
+ghost use Rattle.vecmap_map.specs.Drain.{DrainKeeps, DrainNext, DrainNextBack, drain_rest};
+ghost use Rattle.vecmap_map.specs.declared.drain.Drain.{Drain};
 
 mod puts;
 mod queries;
 
+use crate::VecMap;
 pub use puts::{
     bulk_insertions_are_single_ones, entries_insert_alike, equal_keys_find_the_same,
     functions_of_values_are_found, insertions_are_found, removals_are_forgotten,
     stored_pairs_are_found, writes_are_insertions,
 };
 pub use queries::{queries_find_as_keys, texts_find_as_strings};
-pub use vecmap_base::laws::iterators_pull_as_lists;
+pub use vecmap_base::laws::{iterators_pull_as_lists, key_comparisons_are_bounded};
 
 /// Equality of maps is reflexive, symmetric and transitive, also where keys repeat.
 pub fn equality_is_an_equivalence<K: Eq, V: Eq>()
@@ -59,10 +63,11 @@ pub fn insertion_keeps_keys_distinct<K: Eq, V>()
 {}
 
 /// Where no keys repeat, none do after a removal, by a test of the keys or by place, shifting or swapping, nor in the
-/// front of the list.
+/// front of the list. The test is a key's `==`, a text's or that of a query of one's own.
 pub fn removal_keeps_keys_distinct<K: Eq, V>()
     ensures by_test { (l : List (K × V)) → HasDistinctKeys K.eq l → (test : K → Bool) → HasDistinctKeys K.eq (without_by test l) }
     ensures by_place { (l : List (K × V)) → HasDistinctKeys K.eq l → (i : ℕ) → HasDistinctKeys K.eq (remove l i) }
+    ensures swap_by_test { (l : List (K × V)) → HasDistinctKeys K.eq l → (test : K → Bool) → HasDistinctKeys K.eq (swap_without_by test l) }
     ensures swap_by_key { (l : List (K × V)) → HasDistinctKeys K.eq l → (k : K) → HasDistinctKeys K.eq (swap_without_key K.eq l k) }
     ensures swap_by_place { (l : List (K × V)) → HasDistinctKeys K.eq l → (i : ℕ) → HasDistinctKeys K.eq (swap_without l i) }
     ensures front { (l : List (K × V)) → HasDistinctKeys K.eq l → (n : ℕ) → HasDistinctKeys K.eq (take n l) }
@@ -98,3 +103,18 @@ pub fn clones_keep_keys_distinct<K: Eq + Clone, V: Clone>()
     ensures stored { ClonesAreSame K.eq K.is_clone → (l : List (K × V)) (key clone : K) (v : V) → K.is_clone key clone → index_of K.eq l key ≡ None → HasDistinctKeys K.eq l → HasDistinctKeys K.eq (l ++ (clone, v) ∷ []) }
     ensures pairs { ClonesAreSame K.eq K.is_clone → (l m : List (K × V)) → AreClones (IsPairClone K.is_clone V.is_clone) l m → HasDistinctKeys K.eq l → HasDistinctKeys K.eq m }
 {}
+
+/// Any mixture of pulls from both ends of a drain answers what its range's list gives: each pair once, from the front in
+/// order, from the back in reverse, and then none. What the map has once the drain is dropped stays: the pairs outside
+/// of the range, and the capacity.
+pub fn drains_pull_as_lists<K, V>()
+    ensures pulls { (s t : Drain K V) (ends : List End) (items : List (Option (K × V))) → PullsBy DrainNext DrainNextBack s ends items t → Pulls (drain_rest s) ends items (drain_rest t) }
+    ensures keeps { (s t : Drain K V) (ends : List End) (items : List (Option (K × V))) → PullsBy DrainNext DrainNextBack s ends items t → DrainKeeps s t }
+{}
+
+/// A map never has more pairs than its capacity.
+pub fn pairs_fit_the_capacity<K, V>(map: &VecMap<K, V>)
+    ensures { length map.now.entries ≤ map.now.capacity }
+{
+    map.pairs.capacity();
+}

@@ -1,12 +1,13 @@
 //! Binary searches of pairs that are in order. None takes memory; each asks of about as many pairs as n can be halved.
 ghost use Rattle.std.specs.Prelude.{◌≡◌, ◌≤◌, Bool, false, length, true};
+ghost use Rattle.std.specs.List.{All};
 ghost use Rattle.std.specs.List.Sorted.{IsBinarySearchResult, IsPartitionPoint, IsPartitionedBy, IsSearchInRange};
 ghost use Rattle.std.specs.declared.cmp.Ordering.{Ordering};
-ghost use Rattle.vecmap_base.specs.Orders.{AnswersOnPair};
+ghost use Rattle.vecmap_base.specs.Orders.{AnswersOnPair, CallableOnPair};
 
 use crate::VecMap;
 use std::cmp::Ordering;
-use vecmap_base::search_pairs_by_key;
+use vecmap_base::{partition_point, search_pairs_by_key};
 
 impl<K, V> VecMap<K, V> {
     /// Searches pairs that ascend by their keys for one whose key is equal to `key` in their order, in O(log n)
@@ -39,6 +40,10 @@ impl<K, V> VecMap<K, V> {
     /// `Ok` is the place of an equal pair, any one of them; where there is none, `Err` is the number of less ones. Where
     /// the pairs are in another order, `Ok` is still an equal place, and `Err` tells nothing.
     ///
+    /// # Conditions
+    ///
+    /// `f` can be called at each pair of the map. It is called at no others, so it may index a table by a stored value.
+    ///
     /// ```
     /// let map = vecmap!(alloc; 'a' => 1, 'b' => 2);
     /// map.binary_search_by(|_key, value| value.cmp(&2)) // Ok(1)
@@ -47,27 +52,19 @@ impl<K, V> VecMap<K, V> {
         &'a self,
         f: F,
     ) -> Result<usize, usize>
-        requires { F.IsAlwaysCallable f }
+        requires callable { All (CallableOnPair F.Fn f) self.now.entries }
         ensures within { IsSearchInRange result (length self.now.entries) }
         ensures place { (ord : K × V → Ordering) → AnswersOnPair F.Fn ord f → IsBinarySearchResult ord self.now.entries result }
     {
-        let pairs = self.pairs.as_slice();
-        let mut low = 0;
-        let mut high = pairs.len();
-        while low < high {
-            let middle = low + (high - low) / 2;
-            let pair = &pairs[middle];
-            match f(&pair.0, &pair.1) {
-                Ordering::Less => low = middle + 1,
-                Ordering::Equal => return Ok(middle),
-                Ordering::Greater => high = middle,
-            }
-        }
-        Err(low)
+        search_pairs_by(self.pairs.as_slice(), f)
     }
 
     /// Searches pairs that ascend by the key that `f` makes of one, for `key`, as `binary_search_by`. It takes O(log n)
     /// calls of `f` and comparisons for n pairs.
+    ///
+    /// # Conditions
+    ///
+    /// `f` can be called at each pair of the map.
     ///
     /// ```
     /// let map = vecmap!(alloc; 'a' => 1, 'b' => 2);
@@ -78,7 +75,7 @@ impl<K, V> VecMap<K, V> {
         key: &B,
         f: F,
     ) -> Result<usize, usize>
-        requires { F.IsAlwaysCallable f }
+        requires callable { All (CallableOnPair F.Fn f) self.now.entries }
         ensures within { IsSearchInRange result (length self.now.entries) }
         ensures place { (key_of : K × V → B) → AnswersOnPair F.Fn key_of f → IsBinarySearchResult (λ p. B.cmp (key_of p) key.now) self.now.entries result }
     {
@@ -88,20 +85,56 @@ impl<K, V> VecMap<K, V> {
 
     /// The number of pairs that pass `pred`, where those that pass come first, in O(log n) calls of `pred` for n pairs.
     ///
+    /// # Conditions
+    ///
+    /// `pred` can be called at each pair of the map.
+    ///
     /// ```
     /// let map = vecmap!(alloc; 'a' => 1, 'b' => 2);
     /// map.partition_point(|key, _value| *key < 'b') // 1
     /// ```
     pub fn partition_point<P: Fn(&K, &V) -> bool>(&self, pred: P) -> usize
-        requires { P.IsAlwaysCallable pred }
+        requires callable { All (CallableOnPair P.Fn pred) self.now.entries }
         ensures within { result ≤ length self.now.entries }
         ensures place { (p : K × V → Bool) → AnswersOnPair P.Fn p pred → IsPartitionedBy p self.now.entries → IsPartitionPoint (λ x. p x ≡ true) (λ x. p x ≡ false) self.now.entries result }
     {
-        self.pairs.partition_point(
+        partition_point(
+            &self.pairs,
             |pair: &(K, V)| -> bool
-                requires { P.IsAlwaysCallable pred }
+                requires { CallableOnPair P.Fn pred pair.now }
                 ensures { (p : K × V → Bool) → AnswersOnPair P.Fn p pred → result ≡ p pair.now }
             { pred(&pair.0, &pair.1) },
         )
+    }
+}
+
+// Searches pairs by `f`, as `VecMap::binary_search_by`.
+fn search_pairs_by<'a, K, V, F: Fn(&'a K, &'a V) -> Ordering>(
+    pairs: &'a [(K, V)],
+    f: F,
+) -> Result<usize, usize>
+    requires callable { All (CallableOnPair F.Fn f) pairs.now }
+    ensures within { IsSearchInRange result (length pairs.now) }
+    ensures place { (ord : K × V → Ordering) → AnswersOnPair F.Fn ord f → IsBinarySearchResult ord pairs.now result }
+{
+    let mut size = pairs.len();
+    if size == 0 {
+        return Err(0);
+    }
+    let mut base = 0;
+    while size > 1 {
+        let half = size / 2;
+        let middle = base + half;
+        size -= half;
+        let pair = &pairs[middle];
+        if f(&pair.0, &pair.1).is_le() {
+            base = middle;
+        }
+    }
+    let pair = &pairs[base];
+    match f(&pair.0, &pair.1) {
+        Ordering::Less => Err(base + 1),
+        Ordering::Equal => Ok(base),
+        Ordering::Greater => Err(base),
     }
 }

@@ -1,4 +1,5 @@
 //! Binary searches of a map.
+use std::cell::Cell;
 use std::test::Fail;
 use vecmap::VecMap;
 
@@ -49,6 +50,38 @@ fn searches_of_every_length(rt: HostRuntime) -> Result<(), Fail> {
         assert!(rt; found.is_ok() == (0 < count));
         assert!(rt; map.binary_search_by_key(&6, |_, value| *value) == Err(0));
         assert!(rt; map.binary_search_by_key(&8, |_, value| *value) == Err(count as usize));
+    }
+    Ok(())
+}
+
+// How many pairs a search asks of, for a number of pairs: it halves what is left, down to one.
+const ASKED: [(u32, u32); 8] = [
+    (0, 0),
+    (1, 1),
+    (2, 2),
+    (3, 3),
+    (4, 3),
+    (8, 4),
+    (9, 5),
+    (100, 8),
+];
+
+#[test]
+fn searches_ask_as_often_as_they_halve(rt: HostRuntime) -> Result<(), Fail> {
+    for (count, asked) in ASKED {
+        let mut map = VecMap::new(rt.alloc());
+        for key in 0..count {
+            map.insert(key, 7)?;
+        }
+        for limit in [0, 1, count / 2, count] {
+            let calls = Cell::new(0u32);
+            let place = map.partition_point(|key, _| {
+                calls.set(calls.get().wrapping_add(1));
+                *key < limit
+            });
+            assert!(rt; place as u64 == u64::from(limit.min(count)));
+            assert!(rt; calls.get() == asked);
+        }
     }
     Ok(())
 }

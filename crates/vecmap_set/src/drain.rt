@@ -60,7 +60,8 @@ impl<'a, T: Eq + Drop> Drain<'a, T> {
         ensures kept { drain_kept result ≡ remove_range set.old.elements start end }
         ensures capacity { drain_capacity result ≡ set.old.capacity }
         ensures same_set { drain_lender result ≡ set.entry.ghost_name }
-        ensures keeps { KeepsAlong drain_rest DrainKeeps result }
+        ensures keeps { KeepsAlong DrainNext DrainKeeps result }
+        ensures keeps_back { KeepsAlong DrainNextBack DrainKeeps result }
     {
         let keep = set.move_range_last(start, end);
         Drain {

@@ -1,14 +1,18 @@
 //! Laws of the definitions that the contracts cite. A call of one costs nothing, and gives a proof the law.
-ghost use Rattle.std.specs.Prelude.{◌≡◌, ◌≢◌, ◌↔◌, ◌<◌, IsTrue, List, ℕ, [], drop, false, length, take};
+ghost use Rattle.std.specs.Prelude.{◌≡◌, ◌≢◌, ◌↔◌, ◌<◌, ◌≤◌, IsTrue, List, Option, ℕ, [], drop, false, length, take};
 ghost use Rattle.std.specs.List.{IsDistinct};
 ghost use Rattle.std.specs.List.Sorted.{IsPermutation};
 ghost use Rattle.vecmap_base.specs.Equality.{has_same_items, is_within};
 ghost use Rattle.vecmap_base.specs.Items.{adds, both};
+ghost use Rattle.vecmap_base.specs.Walks.{End, Pulls, PullsBy};
+ghost use Rattle.vecmap_set.specs.Drain.{DrainKeeps, DrainNext, DrainNextBack, drain_rest};
+ghost use Rattle.vecmap_set.specs.declared.drain.Drain.{Drain};
 
 mod additions;
 mod algebra;
 mod queries;
 
+use crate::VecSet;
 pub use additions::{
     additions_keep_elements_distinct, additions_move_nothing, bulk_additions_are_single_ones,
     equal_elements_have_one_place, removals_are_forgotten, stored_elements_are_found,
@@ -54,3 +58,18 @@ pub fn disjointness_is_symmetric<T: Eq>()
 pub fn appending_undoes_splitting<T: Eq>()
     ensures { (l : List T) → IsDistinct T.eq l → (at : ℕ) → adds T.eq (take at l) (drop at l) ≡ l }
 {}
+
+/// Any mixture of pulls from both ends of a drain answers what its range's list gives: each element once, from the front
+/// in order, from the back in reverse, and then none. What the set has once the drain is dropped stays: the elements
+/// outside of the range, and the capacity.
+pub fn drains_pull_as_lists<T: Eq>()
+    ensures pulls { (s t : Drain T) (ends : List End) (items : List (Option T)) → PullsBy DrainNext DrainNextBack s ends items t → Pulls (drain_rest s) ends items (drain_rest t) }
+    ensures keeps { (s t : Drain T) (ends : List End) (items : List (Option T)) → PullsBy DrainNext DrainNextBack s ends items t → DrainKeeps s t }
+{}
+
+/// A set never has more elements than its capacity.
+pub fn elements_fit_the_capacity<T: Eq>(set: &VecSet<T>)
+    ensures { length set.now.elements ≤ set.now.capacity }
+{
+    set.items.capacity();
+}

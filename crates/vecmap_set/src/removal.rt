@@ -114,7 +114,8 @@ impl<T: Eq> VecSet<T> {
         ensures kept { drain_kept result ≡ without_between self.old.elements (R.start_bound range) (R.end_bound range) }
         ensures capacity { drain_capacity result ≡ self.old.capacity }
         ensures same_set { drain_lender result ≡ self.entry.ghost_name }
-        ensures keeps { KeepsAlong drain_rest DrainKeeps result }
+        ensures keeps { KeepsAlong DrainNext DrainKeeps result }
+        ensures keeps_back { KeepsAlong DrainNextBack DrainKeeps result }
     {
         let range = slice::range(range, ..self.len());
         Drain::over(self, range.start, range.end)

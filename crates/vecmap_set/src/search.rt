@@ -1,13 +1,14 @@
 //! Binary searches of elements that are in order. None takes memory.
 ghost use Rattle.std.specs.Prelude.{◌≡◌, ◌≤◌, Bool, false, length, true};
 ghost use Rattle.std.specs.Fn.{ComputesKey};
+ghost use Rattle.std.specs.List.{All};
 ghost use Rattle.std.specs.List.Sorted.{IsBinarySearchResult, IsPartitionPoint, IsPartitionedBy, IsSearchInRange};
 ghost use Rattle.std.specs.declared.cmp.Ordering.{Ordering};
-ghost use Rattle.vecmap_base.specs.Orders.{AnswersOnItem};
+ghost use Rattle.vecmap_base.specs.Orders.{AnswersOnItem, CallableOnItem};
 
 use crate::VecSet;
 use std::cmp::Ordering;
-use vecmap_base::search_items_by_key;
+use vecmap_base::{partition_point, search_items_by_key};
 
 impl<T: Eq> VecSet<T> {
     /// Searches elements that ascend for one that is equal to `item` in their order, in O(log n) comparisons for n
@@ -36,31 +37,28 @@ impl<T: Eq> VecSet<T> {
     /// `Ok` is the place of an equal element, any one of them; where there is none, `Err` is the number of less ones.
     /// Where the elements are in another order, `Ok` is still an equal place, and `Err` tells nothing.
     ///
+    /// # Conditions
+    ///
+    /// `f` can be called at each element of the set. It is called at no others, so it may index a table by them.
+    ///
     /// ```
     /// let set = vecset!(alloc; 1, 2);
     /// set.binary_search_by(|item| item.cmp(&2)) // Ok(1)
     /// ```
     pub fn binary_search_by<'a, F: Fn(&'a T) -> Ordering>(&'a self, f: F) -> Result<usize, usize>
-        requires { F.IsAlwaysCallable f }
+        requires callable { All (CallableOnItem F.Fn f) self.now.elements }
         ensures within { IsSearchInRange result (length self.now.elements) }
         ensures place { (ord : T → Ordering) → AnswersOnItem F.Fn ord f → IsBinarySearchResult ord self.now.elements result }
     {
-        let items = self.items.as_slice();
-        let mut low = 0;
-        let mut high = items.len();
-        while low < high {
-            let middle = low + (high - low) / 2;
-            match f(&items[middle]) {
-                Ordering::Less => low = middle + 1,
-                Ordering::Equal => return Ok(middle),
-                Ordering::Greater => high = middle,
-            }
-        }
-        Err(low)
+        search_items_by(self.items.as_slice(), f)
     }
 
     /// Searches elements that ascend by the key that `f` makes of one, for `key`, as `binary_search_by`. It takes
     /// O(log n) calls of `f` and comparisons for n elements.
+    ///
+    /// # Conditions
+    ///
+    /// `f` can be called at each element of the set.
     ///
     /// ```
     /// let set = vecset!(alloc; 1, 2);
@@ -71,7 +69,7 @@ impl<T: Eq> VecSet<T> {
         key: &B,
         f: F,
     ) -> Result<usize, usize>
-        requires { F.IsAlwaysCallable f }
+        requires callable { All (CallableOnItem F.Fn f) self.now.elements }
         ensures within { IsSearchInRange result (length self.now.elements) }
         ensures place { (key_of : T → B) → AnswersOnItem F.Fn key_of f → IsBinarySearchResult (λ x. B.cmp (key_of x) key.now) self.now.elements result }
     {
@@ -82,15 +80,45 @@ impl<T: Eq> VecSet<T> {
     /// The number of elements that pass `pred`, where those that pass come first, in O(log n) calls of `pred` for n
     /// elements.
     ///
+    /// # Conditions
+    ///
+    /// `pred` can be called at each element of the set.
+    ///
     /// ```
     /// let set = vecset!(alloc; 1, 2);
     /// set.partition_point(|item| *item < 2) // 1
     /// ```
     pub fn partition_point<P: Fn(&T) -> bool>(&self, pred: P) -> usize
-        requires { P.IsAlwaysCallable pred }
+        requires callable { All (CallableOnItem P.Fn pred) self.now.elements }
         ensures within { result ≤ length self.now.elements }
         ensures place { (p : T → Bool) → ComputesKey P.FnMut p pred → IsPartitionedBy p self.now.elements → IsPartitionPoint (λ x. p x ≡ true) (λ x. p x ≡ false) self.now.elements result }
     {
-        self.items.partition_point(pred)
+        partition_point(&self.items, pred)
+    }
+}
+
+// Searches items by `f`, as `VecSet::binary_search_by`.
+fn search_items_by<'a, T, F: Fn(&'a T) -> Ordering>(items: &'a [T], f: F) -> Result<usize, usize>
+    requires callable { All (CallableOnItem F.Fn f) items.now }
+    ensures within { IsSearchInRange result (length items.now) }
+    ensures place { (ord : T → Ordering) → AnswersOnItem F.Fn ord f → IsBinarySearchResult ord items.now result }
+{
+    let mut size = items.len();
+    if size == 0 {
+        return Err(0);
+    }
+    let mut base = 0;
+    while size > 1 {
+        let half = size / 2;
+        let middle = base + half;
+        size -= half;
+        if f(&items[middle]).is_le() {
+            base = middle;
+        }
+    }
+    match f(&items[base]) {
+        Ordering::Less => Err(base + 1),
+        Ordering::Equal => Ok(base),
+        Ordering::Greater => Err(base),
     }
 }

@@ -1,4 +1,5 @@
 //! Binary searches of a set.
+use std::cell::Cell;
 use std::test::Fail;
 use vecmap::VecSet;
 use vecmap_fixtures::set_of;
@@ -38,6 +39,38 @@ fn searches_of_every_length(rt: HostRuntime) -> Result<(), Fail> {
         assert!(rt; set.binary_search_by_key(&7, |_| 7).is_ok() == (0 < count));
         assert!(rt; set.binary_search_by_key(&6, |_| 7) == Err(0));
         assert!(rt; set.binary_search_by_key(&8, |_| 7) == Err(count as usize));
+    }
+    Ok(())
+}
+
+// How many elements a search asks of, for a number of elements: it halves what is left, down to one.
+const ASKED: [(u32, u32); 8] = [
+    (0, 0),
+    (1, 1),
+    (2, 2),
+    (3, 3),
+    (4, 3),
+    (8, 4),
+    (9, 5),
+    (100, 8),
+];
+
+#[test]
+fn searches_ask_as_often_as_they_halve(rt: HostRuntime) -> Result<(), Fail> {
+    for (count, asked) in ASKED {
+        let mut set = VecSet::new(rt.alloc());
+        for item in 0..count {
+            set.insert(item)?;
+        }
+        for limit in [0, 1, count / 2, count] {
+            let calls = Cell::new(0u32);
+            let place = set.partition_point(|item| {
+                calls.set(calls.get().wrapping_add(1));
+                *item < limit
+            });
+            assert!(rt; place as u64 == u64::from(limit.min(count)));
+            assert!(rt; calls.get() == asked);
+        }
     }
     Ok(())
 }

@@ -1,5 +1,5 @@
 //! One command on a map, and its reply.
-ghost use Rattle.vecmap.specs.MapRun.{Step};
+ghost use Rattle.vecmap.specs.MapRun.{Effect, Step};
 
 mod put;
 mod read;
@@ -10,6 +10,7 @@ use self::read::{clone_all, clone_pair, clone_value};
 use self::take::{remove_index, split_off, swap_indices, swap_remove_index};
 use super::{MapCommand, MapReply};
 use vecmap_map::VecMap;
+use vecmap_map::laws::pairs_fit_the_capacity;
 
 /// Does one command, and answers it.
 pub(crate) fn step<K: Eq + Clone, V: Eq + Clone>(
@@ -17,6 +18,18 @@ pub(crate) fn step<K: Eq + Clone, V: Eq + Clone>(
     command: MapCommand<K, V>,
 ) -> MapReply<K, V>
     ensures { Step K.eq V.eq K.Clone V.Clone map.old command result map.new }
+{
+    let reply = act(map, command);
+    pairs_fit_the_capacity(map);
+    reply
+}
+
+// What the command does to the list and to the capacity.
+fn act<K: Eq + Clone, V: Eq + Clone>(
+    map: &mut VecMap<K, V>,
+    command: MapCommand<K, V>,
+) -> MapReply<K, V>
+    ensures { Effect K.eq V.eq K.Clone V.Clone map.old command result map.new }
 {
     match command {
         MapCommand::Insert(key, value) => insert(map, key, value),

@@ -1,5 +1,5 @@
 //! One command on a set, and its reply.
-ghost use Rattle.vecmap.specs.SetRun.{StepSet};
+ghost use Rattle.vecmap.specs.SetRun.{Effect, StepSet};
 ghost use Rattle.vecmap_base.specs.Clones.{ClonesAreSame};
 
 mod make;
@@ -13,11 +13,22 @@ use self::read::{clone_all, clone_item};
 use self::take::{remove_index, split_off, swap_indices, swap_remove_index};
 use super::{SetCommand, SetReply};
 use vecmap_set::VecSet;
+use vecmap_set::laws::elements_fit_the_capacity;
 
 /// Does one command, and answers it.
 pub(crate) fn step<T: Eq + Clone>(set: &mut VecSet<T>, command: SetCommand<T>) -> SetReply<T>
     requires same { ClonesAreSame T.eq T.is_clone }
     ensures { StepSet T.eq T.Clone set.old command result set.new }
+{
+    let reply = act(set, command);
+    elements_fit_the_capacity(set);
+    reply
+}
+
+// What the command does to the list and to the capacity.
+fn act<T: Eq + Clone>(set: &mut VecSet<T>, command: SetCommand<T>) -> SetReply<T>
+    requires same { ClonesAreSame T.eq T.is_clone }
+    ensures { Effect T.eq T.Clone set.old command result set.new }
 {
     match command {
         SetCommand::Insert(item) => insert(set, item),

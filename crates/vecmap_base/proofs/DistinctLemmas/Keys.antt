@@ -13,7 +13,7 @@ use Rattle.std.proofs.lemmas.Map.Steps.{list_any_congr}
 use Rattle.std.proofs.lemmas.Option.{get_or_from_slice_get, slice_get_within}
 use Rattle.vecmap_base.specs.Clones.{AreClones, ClonesAreSame, IsPairClone}
 use Rattle.vecmap_base.specs.Items.{has_item, swap_without, without_item}
-use Rattle.vecmap_base.specs.Pairs.{HasDistinctKeys, index_by, index_of, put, put_at, put_key, puts, swap_without_key, with_value, without_by}
+use Rattle.vecmap_base.specs.Pairs.{HasDistinctKeys, index_by, index_of, put, put_at, put_key, puts, swap_without_by, swap_without_key, with_value, without_by}
 use Rattle.vecmap_base.proofs.ItemsLemmas.Removals.{without_item_absent}
 use Rattle.vecmap_base.proofs.PairsLemmas.Keys.{index_of_is, keys_of_insert, keys_of_put, keys_of_put_key, keys_of_puts, keys_of_remove}
 use Rattle.vecmap_base.proofs.PairsLemmas.Places.{index_of_none, is_some_index_of}
@@ -69,12 +69,15 @@ module _ {K V : Type 0} (eq : K → K → Bool) where
             let at : p ≡ get_or l i p = sym (get_or_from_slice_get l i p p e) in
             IsDistinct-tail eq p.0 (keys_of (swap_remove l i p)) (distinct_keys_rearranged l (p ∷ swap_remove l i p) (IsPermutation-swap_remove l i p within at) d)
 
-    pub distinct_keys_swap_without_key : (l : List (K × V)) (k : K) → HasDistinctKeys eq l → HasDistinctKeys eq (swap_without_key eq l k)
-    distinct_keys_swap_without_key l k d = by (index_of eq l k)
+    pub distinct_keys_swap_without_by : (test : K → Bool) (l : List (K × V)) → HasDistinctKeys eq l → HasDistinctKeys eq (swap_without_by test l)
+    distinct_keys_swap_without_by test l d = by (index_by test l)
       where
         by : (found : Option ℕ) → HasDistinctKeys eq (option_map_or (λ i. swap_without l i) found l)
         by None = d
         by (Some i) = distinct_keys_swap_without l i d
+
+    pub distinct_keys_swap_without_key : (l : List (K × V)) (k : K) → HasDistinctKeys eq l → HasDistinctKeys eq (swap_without_key eq l k)
+    distinct_keys_swap_without_key l k = distinct_keys_swap_without_by (eq k) l
 
     -- a key that is there for none is stored as a clone
     pub distinct_keys_stored : (l : List (K × V)) (k stored : K) (v : V) → IsTrue (eq k stored) → index_of eq l k ≡ None → HasDistinctKeys eq l → HasDistinctKeys eq (l ++ (stored, v) ∷ [])

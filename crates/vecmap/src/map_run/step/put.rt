@@ -1,6 +1,6 @@
 //! Commands that put pairs.
 ghost use Rattle.std.specs.Prelude.{◌≡◌, IfOk, OnErr, OnOk, is_some, not, unwrap_or};
-ghost use Rattle.vecmap.specs.MapRun.{Step};
+ghost use Rattle.vecmap.specs.MapRun.{Effect};
 ghost use Rattle.vecmap.specs.declared.map_run.command.MapCommand.TheVariants.{Append, Insert, InsertAt, InsertFull, InsertKey, OrInsert};
 ghost use Rattle.vecmap_base.specs.Pairs.{index_of, index_or_length, lookup, put};
 ghost use Rattle.vecmap_map.specs.Contents.{KeepsRoom, Refuses};
@@ -15,7 +15,7 @@ pub(crate) fn insert<K: Eq + Clone, V: Eq + Clone>(
     key: K,
     value: V,
 ) -> MapReply<K, V>
-    ensures { Step K.eq V.eq K.Clone V.Clone map.old (Insert key value) result map.new }
+    ensures { Effect K.eq V.eq K.Clone V.Clone map.old (Insert key value) result map.new }
 {
     match map.insert(key, value) {
         Ok(old) => MapReply::Value(old),
@@ -28,7 +28,7 @@ pub(crate) fn insert_full<K: Eq + Clone, V: Eq + Clone>(
     key: K,
     value: V,
 ) -> MapReply<K, V>
-    ensures { Step K.eq V.eq K.Clone V.Clone map.old (InsertFull key value) result map.new }
+    ensures { Effect K.eq V.eq K.Clone V.Clone map.old (InsertFull key value) result map.new }
 {
     match map.insert_full(key, value) {
         Ok((index, old)) => MapReply::Full(index, old),
@@ -42,7 +42,7 @@ pub(crate) fn insert_at<K: Eq + Clone, V: Eq + Clone>(
     key: K,
     value: V,
 ) -> MapReply<K, V>
-    ensures { Step K.eq V.eq K.Clone V.Clone map.old (InsertAt index key value) result map.new }
+    ensures { Effect K.eq V.eq K.Clone V.Clone map.old (InsertAt index key value) result map.new }
 {
     if map.len() < index {
         return MapReply::OutOfRange;
@@ -58,7 +58,7 @@ pub(crate) fn insert_key<K: Eq + Clone, V: Eq + Clone>(
     key: K,
     value: V,
 ) -> MapReply<K, V>
-    ensures { Step K.eq V.eq K.Clone V.Clone map.old (InsertKey key value) result map.new }
+    ensures { Effect K.eq V.eq K.Clone V.Clone map.old (InsertKey key value) result map.new }
 {
     match map.insert_key(key, value) {
         Ok(old) => MapReply::Pair(old),
@@ -71,7 +71,7 @@ pub(crate) fn or_insert<K: Eq + Clone, V: Eq + Clone>(
     key: K,
     value: V,
 ) -> MapReply<K, V>
-    ensures { Step K.eq V.eq K.Clone V.Clone map.old (OrInsert key value) result map.new }
+    ensures { Effect K.eq V.eq K.Clone V.Clone map.old (OrInsert key value) result map.new }
 {
     match put_if_new(map, key, value) {
         Ok((index, added)) => MapReply::Kept(index, added),
@@ -111,7 +111,7 @@ pub(crate) fn append<K: Eq + Clone, V: Eq + Clone>(
     map: &mut VecMap<K, V>,
     other: VecMap<K, V>,
 ) -> MapReply<K, V>
-    ensures { Step K.eq V.eq K.Clone V.Clone map.old (Append other) result map.new }
+    ensures { Effect K.eq V.eq K.Clone V.Clone map.old (Append other) result map.new }
 {
     let mut other = other;
     match map.append(&mut other) {

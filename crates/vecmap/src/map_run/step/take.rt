@@ -1,5 +1,5 @@
 //! Commands that take pairs out by place, or exchange them.
-ghost use Rattle.vecmap.specs.MapRun.{Step};
+ghost use Rattle.vecmap.specs.MapRun.{Effect};
 ghost use Rattle.vecmap.specs.declared.map_run.command.MapCommand.TheVariants.{RemoveIndex, SplitOff, SwapIndices, SwapRemoveIndex};
 
 use super::MapReply;
@@ -9,7 +9,7 @@ pub(crate) fn remove_index<K: Eq + Clone, V: Eq + Clone>(
     map: &mut VecMap<K, V>,
     index: usize,
 ) -> MapReply<K, V>
-    ensures { Step K.eq V.eq K.Clone V.Clone map.old (RemoveIndex index) result map.new }
+    ensures { Effect K.eq V.eq K.Clone V.Clone map.old (RemoveIndex index) result map.new }
 {
     if map.len() <= index {
         return MapReply::OutOfRange;
@@ -21,7 +21,7 @@ pub(crate) fn swap_remove_index<K: Eq + Clone, V: Eq + Clone>(
     map: &mut VecMap<K, V>,
     index: usize,
 ) -> MapReply<K, V>
-    ensures { Step K.eq V.eq K.Clone V.Clone map.old (SwapRemoveIndex index) result map.new }
+    ensures { Effect K.eq V.eq K.Clone V.Clone map.old (SwapRemoveIndex index) result map.new }
 {
     if map.len() <= index {
         return MapReply::OutOfRange;
@@ -34,7 +34,7 @@ pub(crate) fn swap_indices<K: Eq + Clone, V: Eq + Clone>(
     a: usize,
     b: usize,
 ) -> MapReply<K, V>
-    ensures { Step K.eq V.eq K.Clone V.Clone map.old (SwapIndices a b) result map.new }
+    ensures { Effect K.eq V.eq K.Clone V.Clone map.old (SwapIndices a b) result map.new }
 {
     if map.len() <= a || map.len() <= b {
         return MapReply::OutOfRange;
@@ -47,7 +47,7 @@ pub(crate) fn split_off<K: Eq + Clone, V: Eq + Clone>(
     map: &mut VecMap<K, V>,
     index: usize,
 ) -> MapReply<K, V>
-    ensures { Step K.eq V.eq K.Clone V.Clone map.old (SplitOff index) result map.new }
+    ensures { Effect K.eq V.eq K.Clone V.Clone map.old (SplitOff index) result map.new }
 {
     if map.len() < index {
         return MapReply::OutOfRange;

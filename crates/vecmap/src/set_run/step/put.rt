@@ -1,12 +1,12 @@
 //! Commands that put elements.
-ghost use Rattle.vecmap.specs.SetRun.{StepSet};
+ghost use Rattle.vecmap.specs.SetRun.{Effect};
 ghost use Rattle.vecmap.specs.declared.set_run.command.SetCommand.TheVariants.{Append, Insert, Replace};
 
 use super::SetReply;
 use vecmap_set::VecSet;
 
 pub(crate) fn insert<T: Eq + Clone>(set: &mut VecSet<T>, item: T) -> SetReply<T>
-    ensures { StepSet T.eq T.Clone set.old (Insert item) result set.new }
+    ensures { Effect T.eq T.Clone set.old (Insert item) result set.new }
 {
     match set.insert(item) {
         Ok(added) => SetReply::Truth(added),
@@ -15,7 +15,7 @@ pub(crate) fn insert<T: Eq + Clone>(set: &mut VecSet<T>, item: T) -> SetReply<T>
 }
 
 pub(crate) fn replace<T: Eq + Clone>(set: &mut VecSet<T>, item: T) -> SetReply<T>
-    ensures { StepSet T.eq T.Clone set.old (Replace item) result set.new }
+    ensures { Effect T.eq T.Clone set.old (Replace item) result set.new }
 {
     match set.replace(item) {
         Ok(old) => SetReply::Item(old),
@@ -24,7 +24,7 @@ pub(crate) fn replace<T: Eq + Clone>(set: &mut VecSet<T>, item: T) -> SetReply<T
 }
 
 pub(crate) fn append<T: Eq + Clone>(set: &mut VecSet<T>, other: VecSet<T>) -> SetReply<T>
-    ensures { StepSet T.eq T.Clone set.old (Append other) result set.new }
+    ensures { Effect T.eq T.Clone set.old (Append other) result set.new }
 {
     let mut other = other;
     match set.append(&mut other) {

@@ -1,12 +1,12 @@
 //! Commands that take elements out by place, or exchange them.
-ghost use Rattle.vecmap.specs.SetRun.{StepSet};
+ghost use Rattle.vecmap.specs.SetRun.{Effect};
 ghost use Rattle.vecmap.specs.declared.set_run.command.SetCommand.TheVariants.{RemoveIndex, SplitOff, SwapIndices, SwapRemoveIndex};
 
 use super::SetReply;
 use vecmap_set::VecSet;
 
 pub(crate) fn remove_index<T: Eq + Clone>(set: &mut VecSet<T>, index: usize) -> SetReply<T>
-    ensures { StepSet T.eq T.Clone set.old (RemoveIndex index) result set.new }
+    ensures { Effect T.eq T.Clone set.old (RemoveIndex index) result set.new }
 {
     if set.len() <= index {
         return SetReply::OutOfRange;
@@ -15,7 +15,7 @@ pub(crate) fn remove_index<T: Eq + Clone>(set: &mut VecSet<T>, index: usize) -> 
 }
 
 pub(crate) fn swap_remove_index<T: Eq + Clone>(set: &mut VecSet<T>, index: usize) -> SetReply<T>
-    ensures { StepSet T.eq T.Clone set.old (SwapRemoveIndex index) result set.new }
+    ensures { Effect T.eq T.Clone set.old (SwapRemoveIndex index) result set.new }
 {
     if set.len() <= index {
         return SetReply::OutOfRange;
@@ -24,7 +24,7 @@ pub(crate) fn swap_remove_index<T: Eq + Clone>(set: &mut VecSet<T>, index: usize
 }
 
 pub(crate) fn swap_indices<T: Eq + Clone>(set: &mut VecSet<T>, a: usize, b: usize) -> SetReply<T>
-    ensures { StepSet T.eq T.Clone set.old (SwapIndices a b) result set.new }
+    ensures { Effect T.eq T.Clone set.old (SwapIndices a b) result set.new }
 {
     if set.len() <= a || set.len() <= b {
         return SetReply::OutOfRange;
@@ -34,7 +34,7 @@ pub(crate) fn swap_indices<T: Eq + Clone>(set: &mut VecSet<T>, a: usize, b: usiz
 }
 
 pub(crate) fn split_off<T: Eq + Clone>(set: &mut VecSet<T>, index: usize) -> SetReply<T>
-    ensures { StepSet T.eq T.Clone set.old (SplitOff index) result set.new }
+    ensures { Effect T.eq T.Clone set.old (SplitOff index) result set.new }
 {
     if set.len() < index {
         return SetReply::OutOfRange;

@@ -2,7 +2,7 @@ use Rattle.std.specs.Prelude.{true, refl}
 use Rattle.std.proofs.Common.{◌∙◌, arith}
 use Rattle.vecmap_set.specs.Drain.{DrainKeeps, drain_rest}
 use Rattle.vecmap_base.proofs.DrainLemmas.{length_rest, parts_of_moved}
-use Rattle.vecmap_base.proofs.DrainRuns.{drains_in_order, drains_in_reverse, keeps_along}
+use Rattle.vecmap_base.proofs.DrainRuns.{drains_in_order, drains_in_reverse, keeps_along, keeps_along_back}
 use Rattle.vecmap_set.proofs.drain.Drain.over.Goals as goal
 
 pub returns-clause-rest : goal.returns-clause-rest
@@ -29,3 +29,7 @@ returns-clause-runs_back g c = drains_in_reverse drain_rest DrainKeeps
 pub returns-clause-keeps : goal.returns-clause-keeps
 returns-clause-keeps g c =
     keeps_along drain_rest DrainKeeps (λ s. (refl, refl, refl)) (λ s t u h k. (k.0 ∙ h.0, k.1 ∙ h.1, k.2 ∙ h.2)) _
+
+pub returns-clause-keeps_back : goal.returns-clause-keeps_back
+returns-clause-keeps_back g c =
+    keeps_along_back drain_rest DrainKeeps (λ s. (refl, refl, refl)) (λ s t u h k. (k.0 ∙ h.0, k.1 ∙ h.1, k.2 ∙ h.2)) _
