@@ -254,3 +254,25 @@ fn insert_entry_returns_a_key_whose_clone_is_refused(rt: HostRuntime) -> Result<
     assert!(rt; has_told_pairs(map.as_slice(), &[(1, 11), (2, 12)]));
     Ok(())
 }
+
+#[test]
+fn a_removed_entry_returns_its_value_and_into_key_leaves_it(rt: HostRuntime) -> Result<(), Fail> {
+    let shared = Rc::new(rt.alloc(), 10u32)?;
+    let mut map = VecMap::new(rt.alloc());
+    for call in 0..5 {
+        drop(map.insert(1, shared.clone()?)?);
+        let Entry::Occupied(entry) = map.entry(1) else {
+            return Err(Fail::new("vacant"));
+        };
+        match call {
+            0 => assert_owners!(rt, shared, entry.remove(), 2, 1),
+            1 => assert_owners!(rt, shared, entry.remove_entry(), 2, 1),
+            2 => assert_owners!(rt, shared, entry.swap_remove(), 2, 1),
+            3 => assert_owners!(rt, shared, entry.swap_remove_entry(), 2, 1),
+            _ => assert_owners!(rt, shared, entry.into_key(), 2, 2),
+        }
+    }
+    drop(map);
+    assert!(rt; Rc::strong_count(&shared) == 1);
+    Ok(())
+}
