@@ -219,3 +219,60 @@ fn bulk_calls_drop_what_they_do_not_keep(rt: HostRuntime) -> Result<(), Fail> {
     assert!(rt; log.alive() == 4 && has_told_pairs(map.as_slice(), &[(3, 13), (1, 11)]));
     Ok(())
 }
+
+#[test]
+fn a_vacant_entry_keeps_its_key_and_a_value(rt: HostRuntime) -> Result<(), Fail> {
+    let log = Log::new();
+    let mut map = told_map(rt.alloc(), &log, &[1, 2])?;
+    let Entry::Vacant(entry) = map.entry(make_told(&log, 3)) else {
+        return Err(Fail::new("occupied"));
+    };
+    assert_alive!(rt, log, entry.insert(make_told(&log, 30))?.number(), 6, 6);
+    let Entry::Vacant(entry) = map.entry(make_told(&log, 4)) else {
+        return Err(Fail::new("occupied"));
+    };
+    // The map has a clone of the key, and the entry the key itself.
+    assert_alive!(rt, log, entry.insert_entry(make_told(&log, 40))?, 9, 8);
+    assert!(rt; has_told_pairs(map.as_slice(), &[(1, 11), (2, 12), (3, 30), (4, 40)]));
+    drop(map);
+    assert!(rt; log.alive() == 0);
+    Ok(())
+}
+
+#[test]
+fn insert_entry_returns_a_key_whose_clone_is_refused(rt: HostRuntime) -> Result<(), Fail> {
+    let log = Log::new();
+    log.refuse_clones_of(3);
+    let mut map = told_map(rt.alloc(), &log, &[1, 2])?;
+    let Entry::Vacant(entry) = map.entry(make_told(&log, 3)) else {
+        return Err(Fail::new("occupied"));
+    };
+    match entry.insert_entry(make_told(&log, 30)) {
+        Ok(_) => return Err(Fail::new("granted")),
+        Err(refused) => assert_alive!(rt, log, refused, 6, 4),
+    }
+    assert!(rt; has_told_pairs(map.as_slice(), &[(1, 11), (2, 12)]));
+    Ok(())
+}
+
+#[test]
+fn a_removed_entry_returns_its_value_and_into_key_leaves_it(rt: HostRuntime) -> Result<(), Fail> {
+    let shared = Rc::new(rt.alloc(), 10u32)?;
+    let mut map = VecMap::new(rt.alloc());
+    for call in 0..5 {
+        drop(map.insert(1, shared.clone()?)?);
+        let Entry::Occupied(entry) = map.entry(1) else {
+            return Err(Fail::new("vacant"));
+        };
+        match call {
+            0 => assert_owners!(rt, shared, entry.remove(), 2, 1),
+            1 => assert_owners!(rt, shared, entry.remove_entry(), 2, 1),
+            2 => assert_owners!(rt, shared, entry.swap_remove(), 2, 1),
+            3 => assert_owners!(rt, shared, entry.swap_remove_entry(), 2, 1),
+            _ => assert_owners!(rt, shared, entry.into_key(), 2, 2),
+        }
+    }
+    drop(map);
+    assert!(rt; Rc::strong_count(&shared) == 1);
+    Ok(())
+}

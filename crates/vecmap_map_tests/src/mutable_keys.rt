@@ -86,3 +86,14 @@ fn calls_by_key_name_the_first_of_repeats(rt: HostRuntime) -> Result<(), Fail> {
     assert!(rt; map.has_distinct_keys());
     Ok(())
 }
+
+#[test]
+fn get_full_mut2_lends_the_only_key_and_its_value(rt: HostRuntime) -> Result<(), Fail> {
+    let mut map = VecMap::from_slice(rt.alloc(), &[(1, "a")])?;
+    let (_index, key, value) = map.get_full_mut2(&1).ok_or("absent")?;
+    *key = 2;
+    *value = "b";
+    assert!(rt; map.as_slice() == [(2, "b")].as_slice());
+    assert!(rt; map.get(&1) == None);
+    Ok(())
+}

@@ -154,3 +154,27 @@ fn unstable_sorts_of_every_length_and_shape(rt: HostRuntime) -> Result<(), Fail>
     }
     Ok(())
 }
+
+#[test]
+fn sort_by_value_leaves_equal_values_in_their_order(rt: HostRuntime) -> Result<(), Fail> {
+    let mut map = VecMap::from_slice(rt.alloc(), &[("b", 1), ("a", 2), ("c", 1)])?;
+    map.sort_by(|a, b| a.1.cmp(b.1))?;
+    assert!(rt; map.as_slice() == [("b", 1), ("c", 1), ("a", 2)].as_slice());
+    Ok(())
+}
+
+#[test]
+fn sort_keys_sorts_by_key(rt: HostRuntime) -> Result<(), Fail> {
+    let mut map = VecMap::from_slice(rt.alloc(), &[("b", 2), ("a", 1), ("c", 3)])?;
+    map.sort_keys()?;
+    assert!(rt; map.as_slice() == [("a", 1), ("b", 2), ("c", 3)].as_slice());
+    Ok(())
+}
+
+#[test]
+fn sort_by_sorts_keys_in_reverse(rt: HostRuntime) -> Result<(), Fail> {
+    let mut map = VecMap::from_slice(rt.alloc(), &[("b", 2), ("a", 1), ("c", 3)])?;
+    map.sort_by(|a, b| b.0.cmp(a.0))?;
+    assert!(rt; map.as_slice() == [("c", 3), ("b", 2), ("a", 1)].as_slice());
+    Ok(())
+}

@@ -96,3 +96,17 @@ fn the_end_of_a_map_goes(rt: HostRuntime) -> Result<(), Fail> {
     assert!(rt; (map.len(), map.capacity()) == (0, room));
     Ok(())
 }
+
+#[test]
+fn swap_remove_takes_out_a_key_and_then_the_key_that_became_last(
+    rt: HostRuntime,
+) -> Result<(), Fail> {
+    let pairs = [(1, "a"), (2, "b"), (3, "c"), (4, "d")];
+    let mut map = VecMap::from_slice(rt.alloc(), &pairs)?;
+    assert!(rt; map.swap_remove(&2) == Some("b"));
+    assert!(rt; map.as_slice() == [(1, "a"), (4, "d"), (3, "c")].as_slice());
+    assert!(rt; map.swap_remove(&2) == None);
+    assert!(rt; map.swap_remove(&3) == Some("c"));
+    assert!(rt; map.as_slice() == [(1, "a"), (4, "d")].as_slice());
+    Ok(())
+}

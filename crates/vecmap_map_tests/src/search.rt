@@ -85,3 +85,12 @@ fn searches_ask_as_often_as_they_halve(rt: HostRuntime) -> Result<(), Fail> {
     }
     Ok(())
 }
+
+#[test]
+fn searches_among_texts(rt: HostRuntime) -> Result<(), Fail> {
+    let map = VecMap::from_slice(rt.alloc(), &[("a", 1), ("b", 2), ("d", 4)])?;
+    let found = ["b", "c", "z"].map(|key| map.binary_search_keys(&key));
+    assert!(rt; found == [Ok(1), Err(2), Err(3)]);
+    assert!(rt; map.partition_point(|_, value| *value < 2) == 1);
+    Ok(())
+}

@@ -1,4 +1,6 @@
 //! Requests of attribute documents.
+mod drops;
+
 use crate::telling::{make, tell};
 use attr_doc::{Document, Name};
 use std::alloc::{AllocError, Global};

@@ -386,3 +386,28 @@ fn what_is_left_is_printed(rt: HostRuntime) -> Result<(), Fail> {
     assert!(rt; text.as_str() == "[1] [2, 3] [1, 4] [2, 3, 4]");
     Ok(())
 }
+
+#[test]
+fn an_intersection_gives_the_stored_element_of_the_shorter_set(
+    rt: HostRuntime,
+) -> Result<(), Fail> {
+    let a = item_set(rt.alloc(), &[(1, 'x'), (2, 'y')])?;
+    let b = item_set(rt.alloc(), &[(2, 'z')])?;
+    for mut shared in [a.intersection(&b), b.intersection(&a)] {
+        assert!(rt; shared.next().map(|item| (item.number, item.mark)) == Some((2, 'z')));
+        assert!(rt; shared.next().is_none());
+    }
+    Ok(())
+}
+
+#[test]
+fn an_intersection_of_equally_long_sets_gives_the_stored_element_of_the_left_one(
+    rt: HostRuntime,
+) -> Result<(), Fail> {
+    let a = item_set(rt.alloc(), &[(2, 'y')])?;
+    let b = item_set(rt.alloc(), &[(2, 'z')])?;
+    let mut shared = a.intersection(&b);
+    assert!(rt; shared.next().map(|item| (item.number, item.mark)) == Some((2, 'y')));
+    assert!(rt; shared.next().is_none());
+    Ok(())
+}

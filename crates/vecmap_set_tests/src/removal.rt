@@ -94,3 +94,25 @@ fn the_end_of_a_set_goes(rt: HostRuntime) -> Result<(), Fail> {
     assert!(rt; set.capacity() == room);
     Ok(())
 }
+
+#[test]
+fn swap_take_moves_the_last_of_three_elements(rt: HostRuntime) -> Result<(), Fail> {
+    let mut set = set_of(rt.alloc(), &[1, 2, 3])?;
+    assert!(rt; set.swap_take(&2) == Some(2));
+    assert!(rt; set.as_slice() == [1, 3].as_slice());
+    assert!(rt; set.swap_take(&2) == None);
+    assert!(rt; set.as_slice() == [1, 3].as_slice());
+    Ok(())
+}
+
+#[test]
+fn swap_remove_index_takes_the_first_element_twice(rt: HostRuntime) -> Result<(), Fail> {
+    let mut set = set_of(rt.alloc(), &["foo", "bar", "baz", "qux"])?;
+    assert!(rt; 0 < set.len());
+    assert!(rt; set.swap_remove_index(0) == "foo");
+    assert!(rt; set.as_slice() == ["qux", "bar", "baz"].as_slice());
+    assert!(rt; 0 < set.len());
+    assert!(rt; set.swap_remove_index(0) == "qux");
+    assert!(rt; set.as_slice() == ["baz", "bar"].as_slice());
+    Ok(())
+}

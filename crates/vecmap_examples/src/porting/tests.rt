@@ -1,10 +1,11 @@
 //! Calls of the page's functions, and what comes of them.
 use super::bulk::{added, first_out, lengths, letters, sorted};
+use super::calls::{count, print_counts, references, sort_by_digits};
 use super::order::Order;
 use crate::made::{other_numbers, two_numbers};
 use std::alloc::Global;
 use std::test::Fail;
-use vecmap::vecmap;
+use vecmap::{VecMap, vecmap};
 
 fn shows_orders(alloc: Global) -> Result<bool, Fail> {
     let mut order = Order::from_slice(alloc, &[("tea", 2), ("milk", 1)])?;
@@ -34,11 +35,32 @@ fn shows_sets_and_places(alloc: Global) -> Result<bool, Fail> {
     )
 }
 
+fn shows_references_and_digits(alloc: Global) -> Result<bool, Fail> {
+    let references = references(alloc, &[1, 2, 1])?;
+    let mut map = vecmap!(alloc; 'a' => 9, 'b' => 10, 'c' => 1);
+    sort_by_digits(alloc, &mut map)?;
+    Ok(
+        references.as_slice() == [&1, &2].as_slice()
+            && map.as_slice() == [('c', 1), ('b', 10), ('a', 9)].as_slice(),
+    )
+}
+
+#[test]
+fn a_count_wraps_and_is_printed(rt: HostRuntime) -> Result<(), Fail> {
+    let mut counts = VecMap::from_slice(rt.alloc(), &[('a', 255)])?;
+    count(&mut counts, 'a')?;
+    count(&mut counts, 'b')?;
+    assert!(rt; counts.as_slice() == [('a', 0), ('b', 1)].as_slice());
+    print_counts(&rt, &counts)?;
+    Ok(())
+}
+
 #[test]
 fn examples_hold(rt: HostRuntime) -> Result<(), Fail> {
     let alloc = rt.alloc();
     assert!(rt; shows_orders(alloc)?);
     assert!(rt; shows_bulk(alloc)?);
     assert!(rt; shows_sets_and_places(alloc)?);
+    assert!(rt; shows_references_and_digits(alloc)?);
     Ok(())
 }

@@ -4,6 +4,7 @@ use std::alloc::{AllocError, Global};
 use std::process::Abort;
 use std::test::Fail;
 use vecmap::macros::put_pair;
+use vecmap::map::Entry;
 use vecmap::{MapCommand, Refused, VecMap, run, vecmap};
 use vecmap_fixtures::{Log, Told, has_told_pairs, make_told};
 
@@ -289,6 +290,41 @@ fn a_run_drops_what_its_commands_carry_to_compare_or_to_take(rt: HostRuntime) ->
             tell(&rt)?;
             assert!(rt; log.alive() == 12 && map.len() == 6);
         }
+    }
+    Ok(())
+}
+
+// Inserts a pair through the vacant entry of its key, by `insert_entry` or by `insert`.
+fn insert_in_vacant<'a>(
+    map: &mut Map<'a>,
+    key: Told<'a>,
+    value: Told<'a>,
+    wants_entry: bool,
+) -> Result<(), Refused<Couple<'a>>> {
+    if let Entry::Vacant(entry) = map.entry(key) {
+        if wants_entry {
+            entry.insert_entry(value)?;
+        } else {
+            entry.insert(value)?;
+        }
+    }
+    Ok(())
+}
+
+#[test]
+fn vacant_entries_keep_a_pair_or_return_it(rt: HostRuntime) -> Result<(), Fail> {
+    for wants_entry in [false, true] {
+        let log = Log::new();
+        let mut map = told_map(&rt, rt.alloc(), &log, &[1, 2])?;
+        let (key, value) = (make_told(&log, 3), make_told(&log, 13));
+        if let Err(refused) = insert_in_vacant(&mut map, key, value, wants_entry) {
+            tell(&rt)?;
+            assert!(rt; log.alive() == 6 && has_told_pairs(map.as_slice(), &[(1, 11), (2, 12)]));
+            let (key, value) = refused.given;
+            insert_in_vacant(&mut map, key, value, wants_entry)?;
+        }
+        let left = [(1, 11), (2, 12), (3, 13)];
+        assert!(rt; log.alive() == 6 && has_told_pairs(map.as_slice(), &left));
     }
     Ok(())
 }

@@ -370,3 +370,20 @@ fn goes_on_after_a_refused_request_for_memory(rt: HostRuntime) -> Result<(), Fai
     }
     Ok(())
 }
+
+// The writer is an array, so there are two requests: for the key's text, and for the map to grow. Each prints the same
+// if it is refused.
+#[test]
+fn prints_memory_after_a_refused_request(rt: HostRuntime) -> Result<(), Fail> {
+    for is_first in [true, false] {
+        let mut reader = b"insert a 1\nlen".as_slice();
+        let mut output = [0; 9];
+        serve(rt.alloc(), &mut reader, &mut output.as_mut_slice())?;
+        if output == *b"none\n1\n\0\0" {
+            return Ok(());
+        }
+        assert!(rt; is_first && output == *b"memory\n0\n");
+        println!(rt; "refused")?;
+    }
+    Ok(())
+}
