@@ -9,9 +9,14 @@ ghost use Rattle.vecmap_base.specs.Asked.{CallsAtPair};
 ghost use Rattle.vecmap_base.specs.Kept.{Kept};
 ghost use Rattle.vecmap_base.specs.Pairs.{HasDistinctKeys, index_of, lookup, put, put_at, put_key, puts, swap_without_key, with_value, without_by};
 
+mod collecting;
+mod nested;
 mod puts;
 mod queries;
+mod writes;
 
+pub use collecting::collecting_one_more_is_extending;
+pub use nested::inner_insertions_are_found;
 pub use puts::{
     bulk_insertions_are_single_ones, entries_insert_alike, equal_keys_find_the_same,
     functions_of_values_are_found, insertions_are_found, removals_are_forgotten,
@@ -19,6 +24,7 @@ pub use puts::{
 };
 pub use queries::{queries_find_as_keys, texts_find_as_strings};
 pub use vecmap_base::laws::iterators_pull_as_lists;
+pub use writes::{writes_by_queries_are_insertions, writes_by_texts_are_insertions};
 
 /// Equality of maps is reflexive, symmetric and transitive, also where keys repeat.
 pub fn equality_is_an_equivalence<K: Eq, V: Eq>()
