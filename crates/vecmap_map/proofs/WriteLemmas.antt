@@ -1,5 +1,5 @@
 -- A write of the value that a query finds, seen as a put, and what lookups find after it.
-use Rattle.std.specs.Prelude.{◌≡◌, ℕ, Bool, true, false, List, [], ◌∷◌, None, Option, Some, IsSome, IsTrue, bytes_eq, string_bytes, string_eq, String, refl}
+use Rattle.std.specs.Prelude.{◌≡◌, ℕ, Bool, false, List, [], ◌∷◌, None, Option, Some, IsSome, IsTrue, bytes_eq, string_bytes, string_eq, String, refl}
 use Rattle.std.specs.Cmp.{IsEquivalence}
 use Rattle.std.specs.Cmp.Lexicographic.{nat_list_eq_equiv}
 use Rattle.std.specs.declared.alloc.Global.{Global}
