@@ -12,6 +12,7 @@ pub mod lending;
 pub mod lookup;
 pub mod macros;
 pub mod names;
+pub mod nested;
 pub mod operators;
 pub mod options;
 pub mod order;

@@ -1,12 +1,24 @@
 -- What stands in the collections that are the values of a map, once one of them was written. `inside` is the list of a
 -- collection, and IsMade holds of one that was made empty.
-use Rattle.std.specs.Prelude.{◌≡◌, Bool, true, false, List, [], None, Option, Some}
+use Rattle.std.specs.Prelude.{◌≡◌, Bool, true, false, List, [], ◌∷◌, ◌++◌, None, Option, Some}
 use Rattle.std.specs.Cmp.{IsEquivalence}
-use Rattle.std.specs.Option.{UnwrapsOrElse, option_map_or}
-use Rattle.std.proofs.Common.{sym, ap, ◌∙◌, inl, inr}
+use Rattle.std.specs.Option.{UnwrapsOrElse, option_and_then, option_map_or}
+use Rattle.std.proofs.Common.{sym, ap, subst, ◌∙◌, inl, inr}
 use Rattle.std.proofs.lemmas.Bool.{cases_Bool}
-use Rattle.vecmap_base.specs.Pairs.{lookup, put}
+use Rattle.vecmap_base.specs.Pairs.{index_of, lookup, put, value_at, with_value}
 use Rattle.vecmap_base.proofs.PairsLemmas.Lookups.{lookup_congr, lookup_put, lookup_put_other}
+use Rattle.vecmap_map.specs.Contents.{Contents}
+use Rattle.vecmap_map.specs.Entry.{entries_with, entry_key, entry_map, entry_place, entry_value}
+use Rattle.vecmap_map.specs.declared.entry.Entry.{Entry}
+
+module _ {K W : Type 0} (eq : K → K → Bool) where
+  -- what the entry of a key leaves with a value is what a put leaves
+  entry_puts : (m : Contents K W) (k : K) (e : Entry K W) (w : W) → entry_map e ≡ m → entry_key e ≡ k → entry_place e ≡ index_of eq m.entries k → entries_with e w ≡ put eq m.entries k w
+  entry_puts m k e w same key place = λ t. option_map_or (λ i. with_value (same t).entries i w) (place t) ((same t).entries ++ (key t, w) ∷ [])
+
+  -- and its value is what a lookup finds
+  entry_finds : (m : Contents K W) (k : K) (e : Entry K W) → entry_map e ≡ m → entry_place e ≡ index_of eq m.entries k → entry_value e ≡ lookup eq m.entries k
+  entry_finds m k e same place = λ t. option_and_then (value_at (same t).entries) (place t)
 
 module _ {K W A : Type 0} (eq : K → K → Bool) (inside : W → List A) where
   -- the list of the collection of a key, or none
@@ -48,3 +60,20 @@ module _ {K W A : Type 0} (eq : K → K → Bool) (inside : W → List A) where
             | inl e ↦ sym (inner_congr (put eq l k w) k q e) ∙ inner_put l k w ∙ inner_made IsMade empty l k w h ∙ inner_congr l k q e
             | inr e ↦ inner_put_other l k w q e
           ]
+
+    -- the same through the entry e of the key k: n is the map that it leaves
+    pub inner_entered_other : (n m : Contents K W) (k : K) (e : Entry K W) (w : W) → n.entries ≡ entries_with e w → entry_map e ≡ m → entry_key e ≡ k → entry_place e ≡ index_of eq m.entries k → (q : K) → eq k q ≡ false → inner n.entries q ≡ inner m.entries q
+    inner_entered_other n m k e w leaves same key place q apart = ap (λ l. inner l q) (leaves ∙ entry_puts eq m k e w same key place) ∙ inner_put_other m.entries k w q apart
+
+    module _ (IsMade : W → Type 0) (empty : (w : W) → IsMade w → inside w ≡ []) where
+      pub inner_entered : (change : List A → List A) (n m : Contents K W) (k : K) (e : Entry K W) (before after : W) → n.entries ≡ entries_with e after → inside after ≡ change (inside before) → UnwrapsOrElse (entry_value e) IsMade before
+          → entry_map e ≡ m → entry_key e ≡ k → entry_place e ≡ index_of eq m.entries k → inner n.entries k ≡ change (inner m.entries k)
+      inner_entered change n m k e before after leaves changed found same key place =
+          ap (λ l. inner l k) (leaves ∙ entry_puts eq m k e after same key place)
+          ∙ inner_written IsMade empty change m.entries k before after (subst (λ f. UnwrapsOrElse f IsMade before) (entry_finds eq m k e same place) found) changed
+
+      pub inner_entered_unchanged : (n m : Contents K W) (k : K) (e : Entry K W) (before after : W) → n.entries ≡ entries_with e after → after ≡ before → UnwrapsOrElse (entry_value e) IsMade before
+          → entry_map e ≡ m → entry_key e ≡ k → entry_place e ≡ index_of eq m.entries k → (q : K) → inner n.entries q ≡ inner m.entries q
+      inner_entered_unchanged n m k e before after leaves kept found same key place q =
+          ap (λ l. inner l q) (leaves ∙ ap (entries_with e) kept ∙ entry_puts eq m k e before same key place)
+          ∙ inner_unchanged IsMade empty m.entries k before (subst (λ f. UnwrapsOrElse f IsMade before) (entry_finds eq m k e same place) found) q

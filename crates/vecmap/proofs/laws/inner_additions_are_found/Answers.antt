@@ -1,6 +1,6 @@
 use Rattle.vecmap.specs.NestedSets.{IsMadeEmptySet}
 use Rattle.vecmap_base.specs.Items.{add}
-use Rattle.vecmap_map.proofs.NestedLemmas.{inner_made, inner_put, inner_put_other, inner_unchanged, inner_written}
+use Rattle.vecmap_map.proofs.NestedLemmas.{inner_entered, inner_entered_other, inner_entered_unchanged, inner_made, inner_put, inner_put_other, inner_unchanged, inner_written}
 use Rattle.vecmap.proofs.laws.inner_additions_are_found.Goals as goal
 
 pub returns-clause-made : goal.returns-clause-made
@@ -17,3 +17,12 @@ returns-clause-others g c = inner_put_other g.K.PartialEq.eq (λ s. s.elements) 
 
 pub returns-clause-unchanged : goal.returns-clause-unchanged
 returns-clause-unchanged g c = inner_unchanged g.K.PartialEq.eq (λ s. s.elements) g.met.K.Eq.laws IsMadeEmptySet (λ s h. h.0)
+
+pub returns-clause-entry : goal.returns-clause-entry
+returns-clause-entry g c = λ n m k e before after x. inner_entered g.K.PartialEq.eq (λ s. s.elements) g.met.K.Eq.laws IsMadeEmptySet (λ s h. h.0) (λ items. add g.T.PartialEq.eq items x) n m k e before after
+
+pub returns-clause-entry_others : goal.returns-clause-entry_others
+returns-clause-entry_others g c = inner_entered_other g.K.PartialEq.eq (λ s. s.elements) g.met.K.Eq.laws
+
+pub returns-clause-entry_unchanged : goal.returns-clause-entry_unchanged
+returns-clause-entry_unchanged g c = inner_entered_unchanged g.K.PartialEq.eq (λ s. s.elements) g.met.K.Eq.laws IsMadeEmptySet (λ s h. h.0)
