@@ -1,5 +1,5 @@
 -- Lemmas for common goals, as lists that a function names by `using(vecmap::proofs::Rules::..)`.
-use Rattle.std.specs.Prelude.{◌≡◌, Bool, List, []}
+use Rattle.std.specs.Prelude.{◌≡◌, Bool, Err, List, Ok, OnErr, Result, []}
 use Rattle.std.proofs.Common.{subst, sym}
 use Rattle.std.specs.List.{IsDistinct}
 use Rattle.vecmap_base.specs.Pairs.{HasDistinctKeys}
@@ -28,3 +28,8 @@ pub ruleset elements = (item_index_add, slice_get_add)
 
 -- elements that are distinct in an empty list, after an addition and after many
 pub ruleset distinct_elements = (distinct_no_elements, distinct_add, distinct_adds)
+
+-- a fact, as a clause on errors states it
+pub on_err : {T E P : Type 0} (r : Result T E) → P → OnErr r P
+on_err (Ok x) p = tt
+on_err (Err e) p = p

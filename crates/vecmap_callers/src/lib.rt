@@ -21,4 +21,5 @@ pub mod registry;
 pub mod removal;
 pub mod scopes;
 pub mod search;
+pub mod traits;
 pub mod words;

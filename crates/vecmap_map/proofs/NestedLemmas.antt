@@ -61,19 +61,19 @@ module _ {K W A : Type 0} (eq : K → K → Bool) (inside : W → List A) where
             | inr e ↦ inner_put_other l k w q e
           ]
 
-    -- the same through the entry e of the key k: n is the map that it leaves
-    pub inner_entered_other : (n m : Contents K W) (k : K) (e : Entry K W) (w : W) → n.entries ≡ entries_with e w → entry_map e ≡ m → entry_key e ≡ k → entry_place e ≡ index_of eq m.entries k → (q : K) → eq k q ≡ false → inner n.entries q ≡ inner m.entries q
-    inner_entered_other n m k e w leaves same key place q apart = ap (λ l. inner l q) (leaves ∙ entry_puts eq m k e w same key place) ∙ inner_put_other m.entries k w q apart
+    -- the same through the entry e of the key k: l is the list that it leaves
+    pub inner_entered_other : (l : List (K × W)) (m : Contents K W) (k : K) (e : Entry K W) (w : W) → l ≡ entries_with e w → entry_map e ≡ m → entry_key e ≡ k → entry_place e ≡ index_of eq m.entries k → (q : K) → eq k q ≡ false → inner l q ≡ inner m.entries q
+    inner_entered_other l m k e w leaves same key place q apart = ap (λ pairs. inner pairs q) (leaves ∙ entry_puts eq m k e w same key place) ∙ inner_put_other m.entries k w q apart
 
     module _ (IsMade : W → Type 0) (empty : (w : W) → IsMade w → inside w ≡ []) where
-      pub inner_entered : (change : List A → List A) (n m : Contents K W) (k : K) (e : Entry K W) (before after : W) → n.entries ≡ entries_with e after → inside after ≡ change (inside before) → UnwrapsOrElse (entry_value e) IsMade before
-          → entry_map e ≡ m → entry_key e ≡ k → entry_place e ≡ index_of eq m.entries k → inner n.entries k ≡ change (inner m.entries k)
-      inner_entered change n m k e before after leaves changed found same key place =
-          ap (λ l. inner l k) (leaves ∙ entry_puts eq m k e after same key place)
+      pub inner_entered : (change : List A → List A) (l : List (K × W)) (m : Contents K W) (k : K) (e : Entry K W) (before after : W) → l ≡ entries_with e after → inside after ≡ change (inside before) → UnwrapsOrElse (entry_value e) IsMade before
+          → entry_map e ≡ m → entry_key e ≡ k → entry_place e ≡ index_of eq m.entries k → inner l k ≡ change (inner m.entries k)
+      inner_entered change l m k e before after leaves changed found same key place =
+          ap (λ pairs. inner pairs k) (leaves ∙ entry_puts eq m k e after same key place)
           ∙ inner_written IsMade empty change m.entries k before after (subst (λ f. UnwrapsOrElse f IsMade before) (entry_finds eq m k e same place) found) changed
 
-      pub inner_entered_unchanged : (n m : Contents K W) (k : K) (e : Entry K W) (before after : W) → n.entries ≡ entries_with e after → after ≡ before → UnwrapsOrElse (entry_value e) IsMade before
-          → entry_map e ≡ m → entry_key e ≡ k → entry_place e ≡ index_of eq m.entries k → (q : K) → inner n.entries q ≡ inner m.entries q
-      inner_entered_unchanged n m k e before after leaves kept found same key place q =
-          ap (λ l. inner l q) (leaves ∙ ap (entries_with e) kept ∙ entry_puts eq m k e before same key place)
+      pub inner_entered_unchanged : (l : List (K × W)) (m : Contents K W) (k : K) (e : Entry K W) (before after : W) → l ≡ entries_with e after → after ≡ before → UnwrapsOrElse (entry_value e) IsMade before
+          → entry_map e ≡ m → entry_key e ≡ k → entry_place e ≡ index_of eq m.entries k → (q : K) → inner l q ≡ inner m.entries q
+      inner_entered_unchanged l m k e before after leaves kept found same key place q =
+          ap (λ pairs. inner pairs q) (leaves ∙ ap (entries_with e) kept ∙ entry_puts eq m k e before same key place)
           ∙ inner_unchanged IsMade empty m.entries k before (subst (λ f. UnwrapsOrElse f IsMade before) (entry_finds eq m k e same place) found) q
