@@ -3,3 +3,4 @@ pub mod bulk;
 pub mod order;
 #[cfg(test)]
 mod tests;
+pub mod traits;
