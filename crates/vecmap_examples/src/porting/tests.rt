@@ -13,7 +13,7 @@ use vecmap::{VecMap, vecmap, vecset};
 fn shows_orders(alloc: Global) -> Result<bool, Fail> {
     let mut order = Order::from_slice(alloc, &[("tea", 2), ("milk", 1)])?;
     let copy = order.clone()?;
-    order.add(alloc, "tea", 3)?;
+    order.add("tea", 3)?;
     Ok(order.count("tea") == 5 && order.total() == 6 && copy.total() == 3)
 }
 
