@@ -24,9 +24,12 @@ pub use Rattle.vecmap_base.proofs.PairsLemmas.Recursion
 pub use Rattle.vecmap_base.proofs.PairsLemmas.Values
 pub use Rattle.vecmap_base.proofs.WalkLemmas
 pub use Rattle.vecmap_map.proofs.ContentsLemmas
+pub use Rattle.vecmap_map.proofs.NestedLemmas
+pub use Rattle.vecmap_map.proofs.WriteLemmas
 pub use Rattle.vecmap_set.proofs.AlgebraLemmas
 pub use Rattle.vecmap_set.proofs.LazyLemmas
 pub use Rattle.vecmap_set.proofs.OperatorLemmas
+pub use Rattle.vecmap_set.proofs.QueryLemmas as AdditionQueries
 mod RunExamples
 pub mod Rules
 pub mod RunLemmas

@@ -1,5 +1,7 @@
-//! Laws of runs of commands. A call of one costs nothing, and gives a proof the law.
-ghost use Rattle.std.specs.Prelude.{◌≡◌, Bool, List, Option, map};
+//! Laws of runs of commands, and of sets in maps. A call of one costs nothing, and gives a proof the law.
+ghost use Rattle.std.specs.Option.{UnwrapsOrElse};
+ghost use Rattle.std.specs.Prelude.{◌≡◌, Bool, List, Option, false, map};
+ghost use Rattle.vecmap.specs.NestedSets.{IsMadeEmptySet, inner_elements};
 ghost use Rattle.vecmap.specs.MapRun.{ListRun, Run};
 ghost use Rattle.vecmap.specs.SetRun as sets;
 ghost use Rattle.vecmap.specs.declared.map_run.command.MapCommand.{MapCommand};
@@ -10,9 +12,11 @@ ghost use Rattle.vecmap.specs.declared.set_run.command.SetCommand.{SetCommand};
 ghost use Rattle.vecmap.specs.declared.set_run.command.SetCommand.TheVariants as set_commands;
 ghost use Rattle.vecmap.specs.declared.set_run.reply.SetReply.{SetReply};
 ghost use Rattle.vecmap.specs.declared.set_run.reply.SetReply.TheVariants.{Truth};
-ghost use Rattle.vecmap_base.specs.Items.{adds};
-ghost use Rattle.vecmap_base.specs.Pairs.{puts};
+ghost use Rattle.vecmap_base.specs.Items.{add, adds};
+ghost use Rattle.vecmap_base.specs.Pairs.{index_of, lookup, put, puts};
 ghost use Rattle.vecmap_map.specs.Contents.{Contents};
+ghost use Rattle.vecmap_map.specs.Entry.{entries_with, entry_key, entry_map, entry_place, entry_value};
+ghost use Rattle.vecmap_map.specs.declared.entry.Entry.{Entry};
 ghost use Rattle.vecmap_set.specs.Contents as set_contents;
 
 /// What a run does to a map it does to the list of its pairs, whatever the room.
@@ -33,4 +37,20 @@ pub fn runs_of_insertions_are_bulk_insertions<K: Eq + Clone, V: Eq + Clone>()
 /// A run of additions that are all granted leaves what one bulk addition of the elements does.
 pub fn runs_of_additions_are_bulk_additions<T: Eq + Clone>()
     ensures { (l xs : List T) (added : List Bool) (m : List T) → sets.ListRun T.eq T.Clone l (map set_commands.Insert xs) (map Truth added) m → m ≡ adds T.eq l xs }
+{}
+
+/// In a map of sets, an addition to the set of a key adds to the key's inner elements, also where that set was made empty
+/// just before, as by `or_default`. The inner elements of other keys stay, and a set that is only made empty changes none.
+///
+/// The clauses that begin with `entry` say it of the map that an entry's call leaves, in the words of these calls. For a
+/// map of maps it is `map::laws::inner_insertions_are_found`.
+pub fn inner_additions_are_found<K: Eq, T: Eq>()
+    ensures made { (l : List (K × set_contents.Contents T)) (k : K) (s : set_contents.Contents T) → UnwrapsOrElse (lookup K.eq l k) IsMadeEmptySet s → s.elements ≡ inner_elements K.eq l k }
+    ensures elements { (l : List (K × set_contents.Contents T)) (k : K) (s : set_contents.Contents T) → inner_elements K.eq (put K.eq l k s) k ≡ s.elements }
+    ensures written { (l : List (K × set_contents.Contents T)) (k : K) (before after : set_contents.Contents T) (x : T) → UnwrapsOrElse (lookup K.eq l k) IsMadeEmptySet before → after.elements ≡ add T.eq before.elements x → inner_elements K.eq (put K.eq l k after) k ≡ add T.eq (inner_elements K.eq l k) x }
+    ensures others { (l : List (K × set_contents.Contents T)) (k : K) (s : set_contents.Contents T) (q : K) → K.eq k q ≡ false → inner_elements K.eq (put K.eq l k s) q ≡ inner_elements K.eq l q }
+    ensures entry { (l : List (K × set_contents.Contents T)) (m : Contents K (set_contents.Contents T)) (k : K) (e : Entry K (set_contents.Contents T)) (before after : set_contents.Contents T) (x : T) → l ≡ entries_with e after → after.elements ≡ add T.eq before.elements x → UnwrapsOrElse (entry_value e) IsMadeEmptySet before → entry_map e ≡ m → entry_key e ≡ k → entry_place e ≡ index_of K.eq m.entries k → inner_elements K.eq l k ≡ add T.eq (inner_elements K.eq m.entries k) x }
+    ensures entry_others { (l : List (K × set_contents.Contents T)) (m : Contents K (set_contents.Contents T)) (k : K) (e : Entry K (set_contents.Contents T)) (s : set_contents.Contents T) → l ≡ entries_with e s → entry_map e ≡ m → entry_key e ≡ k → entry_place e ≡ index_of K.eq m.entries k → (q : K) → K.eq k q ≡ false → inner_elements K.eq l q ≡ inner_elements K.eq m.entries q }
+    ensures entry_unchanged { (l : List (K × set_contents.Contents T)) (m : Contents K (set_contents.Contents T)) (k : K) (e : Entry K (set_contents.Contents T)) (before after : set_contents.Contents T) → l ≡ entries_with e after → after ≡ before → UnwrapsOrElse (entry_value e) IsMadeEmptySet before → entry_map e ≡ m → entry_key e ≡ k → entry_place e ≡ index_of K.eq m.entries k → (q : K) → inner_elements K.eq l q ≡ inner_elements K.eq m.entries q }
+    ensures unchanged { (l : List (K × set_contents.Contents T)) (k : K) (s : set_contents.Contents T) → UnwrapsOrElse (lookup K.eq l k) IsMadeEmptySet s → (q : K) → inner_elements K.eq (put K.eq l k s) q ≡ inner_elements K.eq l q }
 {}

@@ -3,7 +3,8 @@
 //! What a call does, its contract and an example stand at the call. The calls by topic, in the order of the Rust crate's
 //! documentation, with their files in `crates/vecmap_map/src`:
 //!
-//! - made and taken apart: `new`, `with_capacity`, `as_slice`, `into_vec`, `clone` (`make.rt`)
+//! - made and taken apart: `new`, `with_capacity`, `as_slice`, `into_vec`, `clone`, `allocator` (`make.rt`); the trait
+//!   `Clone` (`cloning.rt`)
 //! - size and room: `len`, `is_empty`, `capacity`, `reserve`, `reserve_exact`, `try_reserve`, `try_reserve_exact`,
 //!   `shrink_to_fit`, `shrink_to` (`room.rt`)
 //! - removal: `clear`, `truncate`, `split_off`, `drain`, `retain`, `pop`, `remove`, `remove_entry`, `remove_index`,
@@ -17,6 +18,7 @@
 //!   (`lending.rt`); `map[index]`, `map[&key]`, `map["text"]` (`indexing.rt`)
 //! - insertion: `insert`, `insert_full`, `insert_key`, `insert_at` (`insertion.rt`)
 //! - many at once: `from_iter`, `from_slice`, `append`, `extend`, `extend_refs`, `extend_pairs`, collecting (`bulk.rt`);
+//!   the trait `Extend` (`extending.rt`);
 //!   `From<Vec>`, `from_vec_counted`, `from_vec_unchecked`, `to_vec` (`conversion.rt`)
 //! - entries: `entry`, `Entry` (`entry.rt`), `OccupiedEntry` (`entry/occupied.rt`), `VacantEntry` (`entry/vacant.rt`)
 //! - iteration: `iter`, `iter_mut`, `keys`, `values`, `values_mut`, `into_keys`, `into_values`, loops (`iteration.rt`);
@@ -24,8 +26,8 @@
 //!   `crates/vecmap_base/src`); `Drain` (`drain.rt`)
 //! - keys lent to be written: `MutableKeys`, with `get_full_mut2`, `get_index_mut2`, `retain2`, `iter_mut2`, `keys_mut`
 //!   (`mutable_keys.rt`)
-//! - `==` (`equality.rt`), `Debug` (`formatting.rt`), laws for proofs (`laws.rt`, `laws/puts.rt`,
-//!   `laws/queries.rt`)
+//! - `==` (`equality.rt`), `Debug` (`formatting.rt`), laws for proofs (`laws.rt`, `laws/collecting.rt`,
+//!   `laws/nested.rt`, `laws/puts.rt`, `laws/queries.rt`, `laws/writes.rt`)
 pub use vecmap_base::{
     IntoIter, IntoKeys, IntoValues, Iter, IterMut, IterMut2, Keys, KeysMut, Values, ValuesMut,
 };

@@ -3,7 +3,8 @@
 //! What a call does, its contract and an example stand at the call. The calls by topic, in the order of the Rust crate's
 //! documentation, with their files in `crates/vecmap_set/src`:
 //!
-//! - made and taken apart: `new`, `with_capacity`, `clone`, `as_slice`, `into_vec` (`make.rt`)
+//! - made and taken apart: `new`, `with_capacity`, `clone`, `as_slice`, `into_vec`, `allocator` (`make.rt`); the trait
+//!   `Clone` (`cloning.rt`)
 //! - size and room: `len`, `is_empty`, `capacity`, `reserve`, `reserve_exact`, `try_reserve`, `try_reserve_exact`,
 //!   `shrink_to_fit`, `shrink_to` (`room.rt`)
 //! - removal: `clear`, `truncate`, `split_off`, `drain`, `retain`, `pop`, `remove`, `remove_index`, `swap_remove`,
@@ -14,13 +15,14 @@
 //! - lookups: `contains`, `first`, `last`, `get`, `get_index`, `get_full`, `get_index_of`, `contains_str` (`lookup.rt`);
 //!   `set[index]` (`indexing.rt`)
 //! - insertion: `insert`, `replace` (`insertion.rt`)
-//! - many at once: `from_iter`, `from_slice`, `append`, `extend`, `extend_copied`, collecting (`bulk.rt`); `From<Vec>`,
+//! - many at once: `from_iter`, `from_slice`, `append`, `extend`, `extend_copied`, collecting (`bulk.rt`); the trait
+//!   `Extend` (`extending.rt`); `From<Vec>`,
 //!   `from_vec_counted`, `from_vec_unchecked`, `to_vec` (`conversion.rt`)
 //! - two sets: `is_disjoint`, `is_subset`, `is_superset`, `==` (`equality.rt`); `difference`, `intersection`,
 //!   `symmetric_difference`, `union` (`lazy.rt`) with their iterators (`lazy/`); `&`, `|`, `^`, `-` (`operators.rt`)
 //! - iteration: `iter`, loops (`iteration.rt`); the iterators themselves (`crates/vecmap_base/src/items.rt`); `Drain`
 //!   (`drain.rt`)
 //! - `Debug` (`formatting.rt`), laws for proofs (`laws.rt`, `laws/additions.rt`, `laws/algebra.rt`,
-//!   `laws/queries.rt`)
+//!   `laws/collecting.rt`, `laws/finding.rt`, `laws/queries.rt`)
 pub use vecmap_base::items::{IntoIter, Iter};
 pub use vecmap_set::{Difference, Drain, Intersection, SymmetricDifference, Union, VecSet, laws};

@@ -1,5 +1,7 @@
 //! The examples of `crates/vecmap/CALLING.md`, each a file that the page quotes.
 pub mod count;
+pub mod errors;
+pub mod inner;
 pub mod intern;
 pub mod keep;
 pub mod keys;
@@ -10,3 +12,4 @@ pub mod refused;
 pub mod set;
 #[cfg(test)]
 mod tests;
+pub mod texts;

@@ -1,9 +1,11 @@
 //! Examples at the calls of maps.
 mod bulk;
+mod cloning;
 mod conversion;
 mod drain;
 mod entry;
 mod equality;
+mod extending;
 mod formatting;
 mod indexing;
 mod insertion;

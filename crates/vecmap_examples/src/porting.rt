@@ -4,3 +4,4 @@ pub mod calls;
 pub mod order;
 #[cfg(test)]
 mod tests;
+pub mod traits;

@@ -1,9 +1,11 @@
 //! Examples at the calls of sets.
 mod bulk;
+mod cloning;
 mod conversion;
 mod difference;
 mod drain;
 mod equality;
+mod extending;
 mod formatting;
 mod indexing;
 mod insertion;

@@ -1,3 +1,5 @@
-pub mod ContentsLemmas
 mod EntryLemmas
 mod LentLemmas
+pub mod ContentsLemmas
+pub mod NestedLemmas
+pub mod WriteLemmas

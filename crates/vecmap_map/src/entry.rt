@@ -186,7 +186,7 @@ impl<'a, K, V> Entry<'a, K, V> {
         match self {
             Entry::Occupied(entry) => Ok(entry.into_mut()),
             Entry::Vacant(entry) => {
-                let empty = V::made_with(entry.map.allocator());
+                let empty = V::made_with(*entry.map.allocator());
                 entry.insert(empty)
             }
         }

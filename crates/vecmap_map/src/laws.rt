@@ -12,10 +12,15 @@ ghost use Rattle.vecmap_base.specs.Walks.{End, Pulls, PullsBy};
 ghost use Rattle.vecmap_map.specs.Drain.{DrainKeeps, DrainNext, DrainNextBack, drain_rest};
 ghost use Rattle.vecmap_map.specs.declared.drain.Drain.{Drain};
 
+mod collecting;
+mod nested;
 mod puts;
 mod queries;
+mod writes;
 
 use crate::VecMap;
+pub use collecting::collecting_one_more_is_extending;
+pub use nested::inner_insertions_are_found;
 pub use puts::{
     bulk_insertions_are_single_ones, entries_insert_alike, equal_keys_find_the_same,
     functions_of_values_are_found, insertions_are_found, removals_are_forgotten,
@@ -23,6 +28,7 @@ pub use puts::{
 };
 pub use queries::{queries_find_as_keys, texts_find_as_strings};
 pub use vecmap_base::laws::{iterators_pull_as_lists, key_comparisons_are_bounded};
+pub use writes::{writes_by_queries_are_insertions, writes_by_texts_are_insertions};
 
 /// Equality of maps is reflexive, symmetric and transitive, also where keys repeat.
 pub fn equality_is_an_equivalence<K: Eq, V: Eq>()

@@ -2,10 +2,12 @@
 #![tactic(auto)]
 
 mod bulk;
+mod cloning;
 mod conversion;
 mod drain;
 mod entry;
 mod equality;
+mod extending;
 mod formatting;
 mod indexing;
 mod insertion;

@@ -89,9 +89,16 @@ impl<K, V> VecMap<K, V> {
         })
     }
 
-    // The allocator that the pairs are on.
-    pub(crate) fn allocator(&self) -> Global {
-        *self.pairs.allocator()
+    /// Returns the allocator that the pairs are on.
+    ///
+    /// # Examples
+    ///
+    /// ```
+    /// let names: VecMap<String, u32> = VecMap::new(alloc);
+    /// String::from_str(*names.allocator(), "a")? // "a"
+    /// ```
+    pub fn allocator(&self) -> &Global {
+        self.pairs.allocator()
     }
 }
 
@@ -121,6 +128,6 @@ impl<K, V> Emptied for VecMap<K, V> {
     ghost is_emptied = { λ map. (map.entries ≡ []) × (map.capacity ≡ 0) };
 
     fn emptied(like: &VecMap<K, V>) -> Result<VecMap<K, V>, AllocError> {
-        Ok(VecMap::new(like.allocator()))
+        Ok(VecMap::new(*like.allocator()))
     }
 }

@@ -8,6 +8,8 @@ mod by_reference;
 #[cfg(test)]
 mod clones;
 #[cfg(test)]
+mod cloning;
+#[cfg(test)]
 mod conversion;
 #[cfg(test)]
 mod drain;
@@ -17,6 +19,8 @@ mod drops;
 mod entry;
 #[cfg(test)]
 mod equality;
+#[cfg(test)]
+mod extending;
 #[cfg(test)]
 mod hints;
 #[cfg(test)]

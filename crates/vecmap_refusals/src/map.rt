@@ -8,3 +8,4 @@ mod iteration;
 mod order;
 mod removal;
 mod room;
+mod traits;

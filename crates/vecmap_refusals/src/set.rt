@@ -8,3 +8,4 @@ mod operators;
 mod order;
 mod removal;
 mod room;
+mod traits;

@@ -10,6 +10,8 @@ ghost use Rattle.vecmap_set.specs.declared.drain.Drain.{Drain};
 
 mod additions;
 mod algebra;
+mod collecting;
+mod finding;
 mod queries;
 
 use crate::VecSet;
@@ -22,6 +24,8 @@ pub use algebra::{
     lazy_iterators_give_no_repeats, lazy_iterators_pull_as_lists,
     lengths_of_intersection_and_union_add_up,
 };
+pub use collecting::collecting_one_more_is_extending;
+pub use finding::{queries_find_after_additions, texts_find_as_strings};
 pub use queries::queries_find_as_elements;
 pub use vecmap_base::laws::{comparisons_are_bounded, iterators_pull_as_lists};
 

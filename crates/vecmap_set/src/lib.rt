@@ -2,9 +2,11 @@
 #![tactic(auto)]
 
 mod bulk;
+mod cloning;
 mod conversion;
 mod drain;
 mod equality;
+mod extending;
 mod formatting;
 mod indexing;
 mod insertion;

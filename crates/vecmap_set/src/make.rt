@@ -94,6 +94,18 @@ impl<T: Eq> VecSet<T> {
         let VecSet { items } = self;
         items
     }
+
+    /// Returns the allocator that the elements are on.
+    ///
+    /// # Examples
+    ///
+    /// ```
+    /// let names: VecSet<String> = VecSet::new(alloc);
+    /// String::from_str(*names.allocator(), "a")? // "a"
+    /// ```
+    pub fn allocator(&self) -> &Global {
+        self.items.allocator()
+    }
 }
 
 /// What `or_default` puts where the values of a map are sets.

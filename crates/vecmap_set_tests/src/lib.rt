@@ -8,6 +8,8 @@ mod by_reference;
 #[cfg(test)]
 mod clones;
 #[cfg(test)]
+mod cloning;
+#[cfg(test)]
 mod conversion;
 #[cfg(test)]
 mod drain;
@@ -15,6 +17,8 @@ mod drain;
 mod drops;
 #[cfg(test)]
 mod equality;
+#[cfg(test)]
+mod extending;
 #[cfg(test)]
 mod insertion;
 #[cfg(test)]

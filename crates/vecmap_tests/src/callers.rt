@@ -3,6 +3,7 @@ mod headers;
 mod options;
 mod registry;
 mod scopes;
+mod traits;
 mod words;
 
 use std::alloc::{AllocError, Global};

@@ -1,5 +1,7 @@
 //! Calls of the page's functions, and what comes of them.
-use super::{count, intern, keep, keys, lookups, pair, program, refused, set};
+use super::{
+    count, errors, inner, intern, keep, keys, lookups, pair, program, refused, set, texts,
+};
 use keep::Bill;
 use keys::{Place, Ticket};
 use std::alloc::{AllocError, Global};
@@ -96,5 +98,38 @@ fn words_are_counted_and_pairs_put(rt: HostRuntime) -> Result<(), Fail> {
     let mut map = VecMap::new(alloc);
     pair::put_both(&mut map, (1, 2), (3, 4))?;
     assert!(rt; map.as_slice() == [(1, 2), (3, 4)].as_slice());
+    Ok(())
+}
+
+#[test]
+fn texts_and_sections_are_set(rt: HostRuntime) -> Result<(), Fail> {
+    let alloc = rt.alloc();
+    let mut numbers = VecMap::new(alloc);
+    texts::set_number(&mut numbers, "a", 1)?;
+    texts::set_number(&mut numbers, "b", 2)?;
+    texts::set_number(&mut numbers, "a", 3)?;
+    assert!(rt; (numbers.get("a"), numbers.get("b"), numbers.len()) == (Some(&3), Some(&2), 2));
+    let text = |text| String::from_str(alloc, text);
+    let mut sections = VecMap::new(alloc);
+    inner::set_in(&mut sections, text("a")?, text("x")?, 1)?;
+    inner::set_in(&mut sections, text("b")?, text("x")?, 2)?;
+    inner::set_in(&mut sections, text("a")?, text("x")?, 3)?;
+    assert!(rt; sections.len() == 2);
+    assert!(rt; sections.get("a").and_then(|section| section.get("x")) == Some(&3));
+    assert!(rt; sections.get("b").and_then(|section| section.get("x")) == Some(&2));
+    Ok(())
+}
+
+#[test]
+fn errors_of_ones_own_are_told_apart(rt: HostRuntime) -> Result<(), Fail> {
+    let mut numbers = VecMap::new(rt.alloc());
+    assert!(rt; errors::read(&mut numbers, "a", "7").is_ok());
+    assert!(rt;
+        matches!(
+            errors::read(&mut numbers, "b", "x"),
+            Err(errors::ReadError::NoNumber)
+        )
+    );
+    assert!(rt; numbers.get("a") == Some(&7) && numbers.len() == 1);
     Ok(())
 }

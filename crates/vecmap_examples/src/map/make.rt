@@ -32,6 +32,11 @@ fn shows_clone(alloc: Global) -> Result<bool, Fail> {
     Ok((map.len(), copy.len()) == (2, 3))
 }
 
+fn shows_allocator(alloc: Global) -> Result<bool, Fail> {
+    let names: VecMap<String, u32> = VecMap::new(alloc);
+    Ok(String::from_str(*names.allocator(), "a")?.as_str() == "a")
+}
+
 fn shows_made_with(alloc: Global) -> Result<bool, Fail> {
     let mut shelves: VecMap<char, VecMap<u32, u32>> = VecMap::new(alloc);
     shelves.entry('a').or_default()?.insert(1, 10)?;
@@ -52,6 +57,7 @@ fn examples_hold(rt: HostRuntime) -> Result<(), Fail> {
     assert!(rt; shows_as_slice(alloc)?);
     assert!(rt; shows_into_vec(alloc)?);
     assert!(rt; shows_clone(alloc)?);
+    assert!(rt; shows_allocator(alloc)?);
     assert!(rt; shows_made_with(alloc)?);
     assert!(rt; shows_emptied(alloc)?);
     Ok(())

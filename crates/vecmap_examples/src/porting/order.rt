@@ -2,7 +2,7 @@ use std::alloc::{AllocError, Global};
 use vecmap::VecMap;
 
 /// How many of each item are ordered, in the order in which they were first asked for.
-#[derive(Debug, Drop)]
+#[derive(Clone, Debug, Drop)]
 pub struct Order {
     lines: VecMap<String, u32>,
 }
@@ -19,23 +19,14 @@ impl Order {
     pub fn from_slice(alloc: Global, lines: &[(&str, u32)]) -> Result<Order, AllocError> {
         let mut order = Order::new(alloc);
         for line in lines {
-            order.add(alloc, line.0, line.1)?;
+            order.add(line.0, line.1)?;
         }
         Ok(order)
     }
 
-    // for `Clone`
-    pub fn clone(&self) -> Result<Order, AllocError> {
-        Ok(Order {
-            lines: self.lines.clone()?,
-        })
-    }
-
-    pub fn add(&mut self, alloc: Global, item: &str, count: u32) -> Result<(), AllocError> {
-        let ordered = self
-            .lines
-            .entry(String::from_str(alloc, item)?)
-            .or_insert(0)?;
+    pub fn add(&mut self, item: &str, count: u32) -> Result<(), AllocError> {
+        let item = String::from_str(*self.lines.allocator(), item)?;
+        let ordered = self.lines.entry(item).or_insert(0)?;
         *ordered = ordered.saturating_add(count);
         Ok(())
     }

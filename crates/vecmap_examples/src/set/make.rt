@@ -31,6 +31,11 @@ fn shows_into_vec(alloc: Global) -> Result<bool, Fail> {
     Ok(set.into_vec().as_slice() == [2, 1].as_slice())
 }
 
+fn shows_allocator(alloc: Global) -> Result<bool, Fail> {
+    let names: VecSet<String> = VecSet::new(alloc);
+    Ok(String::from_str(*names.allocator(), "a")?.as_str() == "a")
+}
+
 fn shows_made_with(alloc: Global) -> Result<bool, Fail> {
     let mut groups: VecMap<char, VecSet<u32>> = VecMap::new(alloc);
     groups.entry('a').or_default()?.insert(1)?;
@@ -50,6 +55,7 @@ fn examples_hold(rt: HostRuntime) -> Result<(), Fail> {
     assert!(rt; shows_with_capacity(alloc)?);
     assert!(rt; shows_clone_and_as_slice(alloc)?);
     assert!(rt; shows_into_vec(alloc)?);
+    assert!(rt; shows_allocator(alloc)?);
     assert!(rt; shows_made_with(alloc)?);
     assert!(rt; shows_emptied(alloc)?);
     Ok(())

@@ -1,0 +1,35 @@
+use std::alloc::AllocError;
+use std::num::ParseIntError;
+use vecmap::{Refused, VecMap};
+
+/// Why a line is not taken in.
+#[derive(Debug, Drop)]
+pub enum ReadError {
+    NoMemory,
+    NoNumber,
+}
+
+impl From<AllocError> for ReadError {
+    fn from(_error: AllocError) -> ReadError {
+        ReadError::NoMemory
+    }
+}
+
+impl<T: Drop> From<Refused<T>> for ReadError {
+    fn from(_refused: Refused<T>) -> ReadError {
+        ReadError::NoMemory
+    }
+}
+
+impl From<ParseIntError> for ReadError {
+    fn from(_error: ParseIntError) -> ReadError {
+        ReadError::NoNumber
+    }
+}
+
+/// Reads a number under a name: each `?` makes one error type.
+pub fn read(numbers: &mut VecMap<String, u32>, name: &str, text: &str) -> Result<(), ReadError> {
+    let key = String::from_str(*numbers.allocator(), name)?;
+    numbers.insert(key, text.parse::<u32>()?)?;
+    Ok(())
+}

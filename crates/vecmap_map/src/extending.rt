@@ -1,0 +1,78 @@
+//! The trait `Extend` of a map, for generic code, `try_collect` and `partition`.
+//!
+//! Each form is the inherent call that it names, whose clauses say more: what a refusal leaves, and where none comes.
+ghost use Rattle.std.specs.Map.Iter.{deref_pair};
+ghost use Rattle.std.specs.Prelude.{◌≤◌, map};
+ghost use Rattle.vecmap_map.specs.MapBulk.{Puts, PutsClones};
+
+use crate::VecMap;
+use std::alloc::AllocError;
+
+/// Inserts the pairs of an iterator in order, as the inherent `extend` does.
+///
+/// # Errors
+///
+/// If memory is refused, the pairs before the refused one are in the map.
+///
+/// # Examples
+///
+/// ```
+/// let map = vecmap!(alloc; 'a' => 1, 'b' => 2);
+/// let (odd, even): (VecMap<char, u32>, VecMap<char, u32>) =
+///     map.into_iter().partition(alloc, |pair| pair.1 % 2 == 1)?;
+/// odd.as_slice() // [('a', 1)]
+/// even.as_slice() // [('b', 2)]
+/// ```
+impl<K: Eq + Drop, V: Drop> Extend<(K, V)> for VecMap<K, V> {
+    ghost extend_gives = { λ old pairs new. Puts K.eq old pairs new × (old.capacity ≤ new.capacity) };
+
+    fn extend<I: IntoIterator<Item = (K, V)>>(&mut self, iter: I) -> Result<(), AllocError> {
+        VecMap::extend(self, iter)
+    }
+}
+
+/// Inserts clones of the keys and values that an iterator lends, in order, as the inherent `extend_refs` does.
+///
+/// # Errors
+///
+/// If memory or a clone is refused, clones of the pairs before the refused one are in the map.
+///
+/// # Examples
+///
+/// ```
+/// let mut map = vecmap!(alloc; 'a' => 1, 'b' => 2);
+/// let other = vecmap!(alloc; 'b' => 1, 'a' => 2);
+/// Extend::extend(&mut map, other.iter())?;
+/// map.as_slice() // [('a', 2), ('b', 1)]
+/// ```
+impl<'a, K: Eq + Clone + 'a, V: Clone + 'a> Extend<(&'a K, &'a V)> for VecMap<K, V> {
+    ghost extend_gives = { λ old pairs new. PutsClones K.eq K.is_clone V.is_clone old (map deref_pair pairs) new × (old.capacity ≤ new.capacity) };
+
+    fn extend<I: IntoIterator<Item = (&'a K, &'a V)>>(
+        &mut self,
+        iter: I,
+    ) -> Result<(), AllocError> {
+        self.extend_refs(iter)
+    }
+}
+
+/// Inserts clones of the pairs that an iterator lends, in order, as the inherent `extend_pairs` does.
+///
+/// # Errors
+///
+/// If memory or a clone is refused, clones of the pairs before the refused one are in the map.
+///
+/// # Examples
+///
+/// ```
+/// let mut map = vecmap!(alloc; 'a' => 1, 'b' => 2);
+/// Extend::extend(&mut map, &[('b', 3), ('c', 4)])?;
+/// map.as_slice() // [('a', 1), ('b', 3), ('c', 4)]
+/// ```
+impl<'a, K: Eq + Clone + 'a, V: Clone + 'a> Extend<&'a (K, V)> for VecMap<K, V> {
+    ghost extend_gives = { λ old pairs new. PutsClones K.eq K.is_clone V.is_clone old (map (λ p. p.now) pairs) new × (old.capacity ≤ new.capacity) };
+
+    fn extend<I: IntoIterator<Item = &'a (K, V)>>(&mut self, iter: I) -> Result<(), AllocError> {
+        self.extend_pairs(iter)
+    }
+}

@@ -1,0 +1,122 @@
+//! The trait `Clone` of maps, as generic code and derives call it.
+use std::alloc::{AllocError, Global};
+use std::test::Fail;
+use vecmap::{MapCommand, MapReply, VecMap, VecSet, run, vecmap, vecset};
+use vecmap_fixtures::{Log, has_pairs, has_told_pairs, item_map, told_map};
+
+fn copy_of<C: Clone>(original: &C) -> Result<C, AllocError> {
+    original.clone()
+}
+
+#[derive(Clone, Debug, Drop, PartialEq, Eq)]
+struct Shelf {
+    name: &'static str,
+    books: VecMap<u32, char>,
+    marks: VecSet<char>,
+}
+
+fn make_shelf(alloc: Global) -> Result<Shelf, AllocError> {
+    Ok(Shelf {
+        name: "first",
+        books: vecmap!(alloc; 1 => 'a', 2 => 'b'),
+        marks: vecset!(alloc; 'x', 'y'),
+    })
+}
+
+#[test]
+fn a_clone_by_the_trait_is_the_list_in_order(rt: HostRuntime) -> Result<(), Fail> {
+    let pairs = [(2, 'b', 20), (1, 'a', 10), (3, 'c', 30)];
+    let map = item_map(rt.alloc(), &pairs)?;
+    let copy = copy_of(&map)?;
+    assert!(rt; has_pairs(copy.as_slice(), &pairs) && has_pairs(map.as_slice(), &pairs));
+    let empty: VecMap<u32, u32> = VecMap::new(rt.alloc());
+    assert!(rt; copy_of(&empty)?.is_empty());
+    Ok(())
+}
+
+#[test]
+fn a_map_of_maps_is_cloned_to_the_depth(rt: HostRuntime) -> Result<(), Fail> {
+    let alloc = rt.alloc();
+    let rooms = vecmap!(alloc; 'a' => vecmap!(alloc; 1 => 10, 2 => 20), 'b' => vecmap!(alloc;));
+    let mut copy = rooms.clone()?;
+    copy.entry('b').or_default()?.insert(3, 30)?;
+    if let Some(room) = copy.get_mut(&'a') {
+        room.remove(&1);
+    }
+    assert!(rt; rooms.get(&'a').map(VecMap::as_slice) == Some([(1, 10), (2, 20)].as_slice()));
+    assert!(rt; rooms.get(&'b').is_some_and(VecMap::is_empty));
+    assert!(rt; copy.get(&'a').map(VecMap::as_slice) == Some([(2, 20)].as_slice()));
+    assert!(rt; copy.get(&'b').map(VecMap::as_slice) == Some([(3, 30)].as_slice()));
+    Ok(())
+}
+
+#[test]
+fn a_derived_clone_holds_clones_of_both_collections(rt: HostRuntime) -> Result<(), Fail> {
+    let first = make_shelf(rt.alloc())?;
+    let mut second = first.clone()?;
+    assert!(rt; second == first && second.name == "first");
+    second.books.insert(3, 'c')?;
+    second.marks.insert('z')?;
+    assert!(rt; first.books.as_slice() == [(1, 'a'), (2, 'b')].as_slice());
+    assert!(rt; first.marks.as_slice() == ['x', 'y'].as_slice());
+    assert!(rt; second.books.as_slice() == [(1, 'a'), (2, 'b'), (3, 'c')].as_slice());
+    assert!(rt; second.marks.as_slice() == ['x', 'y', 'z'].as_slice());
+    Ok(())
+}
+
+#[test]
+fn a_run_takes_maps_as_values(rt: HostRuntime) -> Result<(), Fail> {
+    let alloc = rt.alloc();
+    let mut rooms: VecMap<char, VecMap<u32, u32>> = VecMap::new(alloc);
+    let commands = vec![in alloc;
+        MapCommand::Insert('a', vecmap!(alloc; 1 => 10)),
+        MapCommand::Get('a'),
+        MapCommand::Get('b'),
+    ]?;
+    let replies = run(alloc, &mut rooms, commands)?;
+    let wanted = vec![in alloc;
+        MapReply::Value(None),
+        MapReply::Value(Some(vecmap!(alloc; 1 => 10))),
+        MapReply::Value(None),
+    ]?;
+    assert!(rt; replies == wanted && rooms.len() == 1);
+    assert!(rt; rooms.get(&'a').map(VecMap::as_slice) == Some([(1, 10)].as_slice()));
+    Ok(())
+}
+
+#[test]
+fn calls_that_clone_take_maps_as_values(rt: HostRuntime) -> Result<(), Fail> {
+    let alloc = rt.alloc();
+    let rooms = vecmap!(alloc; 'a' => vecmap!(alloc; 1 => 10));
+    let mut others: VecMap<char, VecMap<u32, u32>> = VecMap::new(alloc);
+    others.extend_refs(rooms.iter())?;
+    assert!(rt; others == rooms && rooms.to_vec()?.len() == 1);
+    let entry = others.entry('a').insert_entry(vecmap!(alloc; 2 => 20))?;
+    assert!(rt; entry.get().as_slice() == [(2, 20)].as_slice());
+    Ok(())
+}
+
+#[test]
+fn a_refused_clone_by_the_trait_leaves_the_map(rt: HostRuntime) -> Result<(), Fail> {
+    let log = Log::new();
+    let map = told_map(rt.alloc(), &log, &[1, 2])?;
+    for number in [1, 11, 2, 12] {
+        log.refuse_clones_of(number);
+        assert!(rt; copy_of(&map).is_err() && log.alive() == 4, "at {number}");
+    }
+    log.refuse_clones_of(0);
+    let copy = copy_of(&map)?;
+    assert!(rt; log.alive() == 8 && has_told_pairs(copy.as_slice(), &[(1, 11), (2, 12)]));
+    assert!(rt; log.comparisons() == 1 && has_told_pairs(map.as_slice(), &[(1, 11), (2, 12)]));
+    Ok(())
+}
+
+#[test]
+fn the_allocator_serves_texts_and_further_maps(rt: HostRuntime) -> Result<(), Fail> {
+    let map: VecMap<u32, u32> = VecMap::new(rt.alloc());
+    let text = String::from_str(*map.allocator(), "a")?;
+    let mut names = VecMap::new(*map.allocator());
+    names.insert(text, 1)?;
+    assert!(rt; names.get("a") == Some(&1) && map.capacity() == 0);
+    Ok(())
+}

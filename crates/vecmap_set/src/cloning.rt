@@ -1,0 +1,51 @@
+//! The trait `Clone` of a set, for generic code, derives and sets in maps.
+ghost use Rattle.std.specs.List.{IsDistinct};
+ghost use Rattle.std.specs.Prelude.{◌↔◌, IsTrue};
+
+use crate::VecSet;
+use std::alloc::AllocError;
+use vecmap_base::items_distinct;
+
+/// Clones a set, element by element and in order, and checks that no two clones are equal.
+///
+/// The trait `Clone` of the elements does not say that a clone is equal to its original, so this call checks it. The
+/// inherent `clone` takes it as a condition of its caller and compares nothing.
+///
+/// # Errors
+///
+/// If memory is refused, the clone of an element is, or two clones are equal, nothing is made and the set is as it was.
+///
+/// # Complexity
+///
+/// One clone of each element, one block of memory, and one comparison of each element with its clone. If one differs,
+/// the clones are compared with each other: n(n-1)/2 comparisons more at most.
+///
+/// # Examples
+///
+/// ```
+/// let groups = vecmap!(alloc; 'a' => vecset!(alloc; 2, 1));
+/// let mut copy = groups.clone()?;
+/// copy.entry('a').or_default()?.insert(3)?;
+/// (groups.get(&'a').map(VecSet::len), copy.get(&'a').map(VecSet::len)) // (Some(2), Some(3))
+/// ```
+impl<T: Eq + Clone> Clone for VecSet<T> {
+    ghost use Rattle.vecmap_base.specs.Clones.{AreClones};
+
+    ghost is_clone = { λ set copy. AreClones T.is_clone set.elements copy.elements × IsDistinct T.eq copy.elements };
+
+    fn clone(&self) -> Result<VecSet<T>, AllocError> {
+        let items = self.items.clone()?;
+        if !stay_distinct(&self.items, &items) {
+            return Err(AllocError);
+        }
+        Ok(VecSet { items })
+    }
+}
+
+// Whether no two clones are equal. Where each is equal to its original, they need not be compared with each other.
+fn stay_distinct<T: Eq>(items: &[T], clones: &[T]) -> bool
+    requires { IsDistinct T.eq items.now }
+    ensures { IsTrue result ↔ IsDistinct T.eq clones.now }
+{
+    *items == *clones || items_distinct(clones)
+}
