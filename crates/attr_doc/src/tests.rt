@@ -50,7 +50,7 @@ fn text<'d>(
     Ok(document.get(&section, &name))
 }
 
-/// The example of the README.
+/// The example of docs/PROVED.md.
 fn example(alloc: Global) -> Result<String, AllocError> {
     let mut page = Document::new(alloc);
     set(alloc, &mut page, "Font", "Size", "12")?;
