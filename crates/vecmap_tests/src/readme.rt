@@ -1,10 +1,10 @@
-//! The example of the README.
+//! An example of a map that is made by insertions, and what a proof knows of it.
 ghost use Rattle.std.specs.Prelude.{◌≡◌, ◌∷◌, IfOk, List, [], codes, map, ℕ};
 
 use std::alloc::{AllocError, Global};
 use vecmap::VecMap;
 
-/// The README's function, and what a proof knows of the map that it makes.
+/// Inserts a key twice, and says what a proof knows of the map that it makes.
 pub fn headers(alloc: Global) -> Result<VecMap<&'static str, u32>, AllocError>
     ensures { IfOk result (λ made. map {B = List ℕ × ℕ} (λ pair. (pair.0.now, pair.1)) made.entries ≡ (codes "age", 30) ∷ (codes "max", 20) ∷ []) }
 {
