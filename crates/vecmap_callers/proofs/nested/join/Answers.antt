@@ -3,7 +3,7 @@ use Rattle.vecmap.proofs.Rules.{on_err}
 use Rattle.vecmap_callers.proofs.nested.join.Goals as goal
 
 pub returns-clause-written : goal.returns-clause-written
-returns-clause-written c = c.inner_additions_are_found.ensures.entry _ _ _ c.entry.result _ c.insert.new.self _ _ (search rules) c.in_ok-insert.ensures.elements c.in_ok-or_default.ensures.value c.entry.ensures.unchanged c.entry.ensures.key c.entry.ensures.place
+returns-clause-written c = c.inner_additions_are_found.ensures.entry _ _ _ c.entry.result _ c.insert.new.self _ (search rules) c.in_ok-insert.ensures.elements c.in_ok-or_default.ensures.value c.entry.ensures.unchanged c.entry.ensures.key c.entry.ensures.place
 
 pub returns-clause-others : goal.returns-clause-others
 returns-clause-others c = search (rules, c.inner_additions_are_found.ensures.entry_others)
