@@ -38,10 +38,12 @@ fn each_element_is_compared_with_its_clone_alone(rt: HostRuntime) -> Result<(), 
     let set = VecSet::from(vecmap_fixtures::told_items(rt.alloc(), &log, &[1, 2, 3, 4])?);
     let before = log.comparisons();
     let copy = copy_of(&set)?;
-    assert!(rt; log.comparisons() == before + 4);
+    assert!(rt; log.comparisons() == before.wrapping_add(4));
     assert!(rt; log.alive() == 8 && has_told(copy.as_slice(), &[1, 2, 3, 4]));
     let inherent = set.clone()?;
-    assert!(rt; log.comparisons() == before + 4 && has_told(inherent.as_slice(), &[1, 2, 3, 4]));
+    assert!(rt;
+        log.comparisons() == before.wrapping_add(4) && has_told(inherent.as_slice(), &[1, 2, 3, 4])
+    );
     Ok(())
 }
 
