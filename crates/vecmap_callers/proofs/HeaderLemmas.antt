@@ -1,4 +1,4 @@
--- What a header list holds after a change.
+-- What a header list holds after a merge.
 use Rattle.std.specs.Prelude.{◌≡◌, ℕ, List, None, Option, Some, String, option_map, refl, string_bytes}
 use Rattle.std.specs.Option.{option_or}
 use Rattle.std.proofs.Common.{ap, ◌∙◌}
@@ -13,11 +13,11 @@ use Rattle.vecmap_callers.specs.Names.{same_name}
 same_name_equiv : IsEquivalence same_name
 same_name_equiv = on_equiv str_to_ascii_lowercase nat_list_eq_equiv
 
--- a function of what is found first
+-- A function of the first of two options is the first of the function's results.
 map_first : {X Y : Type 0} (f : X → Y) (a b : Option X) → option_map f (option_or a b) ≡ option_or (option_map f a) (option_map f b)
 map_first f None b = refl
 map_first f (Some x) b = refl
 
--- of names that are distinct, each text that is merged in goes before what was there
+-- After a merge of fields with distinct names, the text under a name is the merged one, or else the old one.
 pub text_of_puts : {A : Type 0} (l fields : List (List ℕ × String A)) → HasDistinctKeys same_name fields → (name : List ℕ) → text_of (puts same_name l fields) name ≡ option_or (text_of fields name) (text_of l name)
 text_of_puts l fields d name = ap (option_map string_bytes) (lookup_puts_distinct same_name same_name_equiv l fields d name) ∙ map_first string_bytes (lookup same_name fields name) (lookup same_name l name)

@@ -1,4 +1,4 @@
--- What a list of options finds once others are laid over it.
+-- What an option is after overrides are laid over others.
 use Rattle.std.specs.Prelude.{◌≡◌, Bool, List, None, Option, Some, refl}
 use Rattle.std.specs.Cmp.{IsEquivalence}
 use Rattle.std.specs.Option.{option_or}
@@ -10,7 +10,7 @@ either_way : {X : Type 0} (a b c : Option X) → option_or (option_or a b) c ≡
 either_way None b c = refl
 either_way (Some x) b c = refl
 
--- overrides that are laid over others go before them, and both before the defaults
+-- Overrides that are laid over others are read first, then the others, then the defaults.
 pub laid_over : {K V : Type 0} (eq : K → K → Bool) → IsEquivalence eq → (defaults overrides upper : List (K × V)) → HasDistinctKeys eq upper → (q : K) → option_or (lookup eq (puts eq overrides upper) q) (lookup eq defaults q) ≡ option_or (lookup eq upper q) (option_or (lookup eq overrides q) (lookup eq defaults q))
 laid_over eq o defaults overrides upper d q =
     ap (λ found. option_or found (lookup eq defaults q)) (lookup_puts_distinct eq o overrides upper d q) ∙ either_way (lookup eq upper q) (lookup eq overrides q) (lookup eq defaults q)

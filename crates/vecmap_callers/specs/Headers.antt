@@ -6,10 +6,10 @@ use Rattle.vecmap.specs.Pairs.{lookup}
 use Rattle.vecmap_callers.specs.Names.{same_name}
 
 module _ {A : Type 0} where
-  -- the text under a name, in any case, if there is one
+  -- The text under a name, in any case, or `None` if no field has the name.
   abbrev pub text_of : List (List ℕ × String A) → List ℕ → Option (List ℕ)
   text_of fields name = option_map string_bytes (lookup same_name fields name)
 
-  -- the names as they were first written, in their order
+  -- The names as they were first written, in order.
   abbrev pub names_of : List (List ℕ × String A) → List (List ℕ)
   names_of fields = keys_of fields

@@ -1,5 +1,8 @@
+pub mod HeaderLists
 pub mod Headers
+pub mod Interner
 pub mod Names
 pub mod Options
 pub mod Scopes
+pub mod Settings
 pub mod Words

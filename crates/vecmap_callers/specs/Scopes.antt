@@ -1,14 +1,14 @@
--- What names mean within nested scopes. The outermost scope stands first, and the innermost last.
+-- What names mean in nested scopes. The outermost scope is the first of the list, and the innermost is the last.
 use Rattle.std.specs.Prelude.{◌-◌, Bool, List, None, Option, fold, length, take}
 use Rattle.std.specs.Option.{option_or}
 use Rattle.vecmap.specs.Contents.{Contents}
 use Rattle.vecmap.specs.Pairs.{lookup}
 
 module _ {K V : Type 0} where
-  -- what a name means: what the innermost scope says that defines it
+  -- The value of a name in the innermost scope that defines it, or `None` if no scope does.
   abbrev pub resolved : (K → K → Bool) → List (Contents K V) → K → Option V
   resolved eq scopes name = fold (λ outer scope. option_or (lookup eq scope.entries name) outer) None scopes
 
-  -- the scopes around the innermost one
+  -- All scopes except the innermost.
   abbrev pub outer : List (Contents K V) → List (Contents K V)
   outer scopes = take (length scopes - 1) scopes

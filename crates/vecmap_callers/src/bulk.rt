@@ -1,4 +1,4 @@
-//! What callers can prove of many pairs or elements at once.
+//! Callers that insert, collect or move many pairs or elements at once.
 ghost use Rattle.std.specs.Prelude.{◌≡◌, [], IfOk, OnErr, OnOk, nat_eq};
 ghost use Rattle.vecmap.specs.Items.{adds};
 ghost use Rattle.vecmap.specs.Pairs.{puts};
@@ -6,41 +6,46 @@ ghost use Rattle.vecmap.specs.Pairs.{puts};
 use std::alloc::{AllocError, Global};
 use vecmap::{VecMap, VecSet};
 
-/// The map of all these pairs.
+/// Creates a map of these pairs.
 pub fn collected_map(alloc: Global, pairs: Vec<(u32, u32)>) -> Result<VecMap<u32, u32>, AllocError>
     ensures { IfOk result (λ map. map.entries ≡ puts nat_eq [] pairs.items) }
 {
     pairs.into_iter().collect(alloc)
 }
 
-/// The set of all these elements.
+/// Creates a set of these elements.
 pub fn collected_set(alloc: Global, items: Vec<u32>) -> Result<VecSet<u32>, AllocError>
     ensures { IfOk result (λ set. set.elements ≡ adds nat_eq [] items.items) }
 {
     items.into_iter().collect(alloc)
 }
 
-/// Puts all these pairs.
+/// Inserts these pairs.
 pub fn put_all(map: &mut VecMap<u32, u32>, pairs: Vec<(u32, u32)>) -> Result<(), AllocError>
     ensures { OnOk result (map.new.entries ≡ puts nat_eq map.old.entries pairs.items) }
 {
     map.extend(pairs.into_iter())
 }
 
-/// Adds all these elements.
+/// Inserts these elements.
 pub fn add_all(set: &mut VecSet<u32>, items: Vec<u32>) -> Result<(), AllocError>
     ensures { OnOk result (set.new.elements ≡ adds nat_eq set.old.elements items.items) }
 {
     set.extend(items.into_iter())
 }
 
-/// Moves one set after another into the first, or nothing of the one that is refused.
+/// Moves the elements of `next` and then of `last` into `set`.
+///
+/// # Errors
+///
+/// [`AllocError`] if the allocator refuses a request; a set whose elements are refused keeps them all.
 pub fn join(
     set: &mut VecSet<u32>,
     next: &mut VecSet<u32>,
     last: &mut VecSet<u32>,
 ) -> Result<(), AllocError>
-    ensures joined { OnOk result (set.new.elements ≡ adds nat_eq (adds nat_eq set.old.elements next.old.elements) last.old.elements) }
+    ensures joined { OnOk result (set.new.elements
+        ≡ adds nat_eq (adds nat_eq set.old.elements next.old.elements) last.old.elements) }
     ensures emptied { OnOk result ((next.new.elements ≡ []) × (last.new.elements ≡ [])) }
     ensures kept { OnErr result (last.new ≡ last.old) }
 {

@@ -1,5 +1,5 @@
-//! Callers of the entries of a map, proved from the contracts of these calls alone. Each says what the map holds
-//! afterwards.
+//! Callers of the entries of a map, proved from the contracts of these calls alone. Each contract says what the map
+//! holds afterwards.
 ghost use Rattle.std.specs.Prelude.{◌≡◌, ◌+◌, ◌++◌, ◌<◌, ◌≤◌, ◌/◌, ◌^◌, ◌∷◌, IfErr, IfOk, IfSome, IsSome, None, OnErr, OnOk, Some, [], length, nat_eq, unwrap_or};
 ghost use Rattle.std.specs.Option.{option_map_or};
 ghost use Rattle.vecmap.specs.Contents.{KeepsRoom, Refuses, with_value_of};
@@ -8,10 +8,11 @@ ghost use Rattle.vecmap.specs.Pairs.{index_of, index_or_length, lookup, lookup_p
 use vecmap::Refused;
 use vecmap::map::{Entry, VecMap};
 
-/// Counts one more of a word.
+/// Counts a word once more.
 pub fn count_word<K: Eq + Drop>(map: &mut VecMap<K, u64>, word: K) -> Result<(), Refused<(K, u64)>>
     requires { IfSome (lookup K.eq map.old.entries word) (λ n. n + 1 < 2 ^ 64) }
-    ensures entries { OnOk result (map.new.entries ≡ put K.eq map.old.entries word (unwrap_or (lookup K.eq map.old.entries word) 0 + 1)) }
+    ensures entries { OnOk result (map.new.entries
+        ≡ put K.eq map.old.entries word (unwrap_or (lookup K.eq map.old.entries word) 0 + 1)) }
     ensures room { KeepsRoom K.eq map.old word map.new }
     ensures err { OnErr result (Refuses K.eq map.old word map.new) }
 {
@@ -19,13 +20,15 @@ pub fn count_word<K: Eq + Drop>(map: &mut VecMap<K, u64>, word: K) -> Result<(),
     Ok(())
 }
 
-/// Adds one to the value of a key, or gives it 42.
+/// Adds one to the value of an existing key, or inserts the key with 42.
 pub fn modify_or_insert<K: Eq + Drop>(
     map: &mut VecMap<K, u64>,
     key: K,
 ) -> Result<(), Refused<(K, u64)>>
     requires { (n : _) → lookup K.eq map.old.entries key ≡ Some n → n + 1 < 2 ^ 64 }
-    ensures entries { OnOk result (map.new.entries ≡ put K.eq map.old.entries key (option_map_or (λ n. n + 1) (lookup K.eq map.old.entries key) 42)) }
+    ensures entries { OnOk result (map.new.entries
+        ≡ put K.eq map.old.entries key
+        (option_map_or (λ n. n + 1) (lookup K.eq map.old.entries key) 42)) }
     ensures room { KeepsRoom K.eq map.old key map.new }
     ensures err { OnErr result (Refuses K.eq map.old key map.new) }
 {
@@ -33,38 +36,46 @@ pub fn modify_or_insert<K: Eq + Drop>(
     Ok(())
 }
 
-/// The value of a number, which is half of it where it has none yet.
+/// Returns the value of a number. A number that is absent is first inserted with its half.
 pub fn half_of(map: &mut VecMap<u64, u64>, number: u64) -> Result<u64, Refused<(u64, u64)>>
-    ensures value { IfOk result (λ half. half ≡ unwrap_or (lookup nat_eq map.old.entries number) (number / 2)) }
-    ensures entries { OnOk result (map.new.entries ≡ put nat_eq map.old.entries number (unwrap_or (lookup nat_eq map.old.entries number) (number / 2))) }
+    ensures value { IfOk result (λ half. half
+        ≡ unwrap_or (lookup nat_eq map.old.entries number) (number / 2)) }
+    ensures entries { OnOk result (map.new.entries
+        ≡ put nat_eq map.old.entries number
+        (unwrap_or (lookup nat_eq map.old.entries number) (number / 2))) }
     ensures err { IfErr result (λ refused. refused.given ≡ (number, number / 2)) }
 {
     Ok(*map.entry(number).or_insert_with_key(|key| *key / 2)?)
 }
 
-/// The value of a key, which is 0 where it has none yet.
+/// Returns the value of a key. A key that is absent is first inserted with 0.
 pub fn or_zero<K: Eq + Drop>(map: &mut VecMap<K, u64>, key: K) -> Result<u64, Refused<(K, u64)>>
     ensures value { IfOk result (λ n. n ≡ unwrap_or (lookup K.eq map.old.entries key) 0) }
-    ensures entries { OnOk result (map.new.entries ≡ put K.eq map.old.entries key (unwrap_or (lookup K.eq map.old.entries key) 0)) }
+    ensures entries { OnOk result (map.new.entries
+        ≡ put K.eq map.old.entries key (unwrap_or (lookup K.eq map.old.entries key) 0)) }
     ensures given { IfErr result (λ refused. refused.given ≡ (key, 0)) }
 {
     Ok(*map.entry(key).or_default()?)
 }
 
-/// How many pairs the map of a key has, which has none where the key is new.
+/// Returns the length of the map under a key. A key that is absent is first inserted with an empty map.
 pub fn or_empty<K: Eq + Drop>(
     maps: &mut VecMap<K, VecMap<u64, u64>>,
     key: K,
 ) -> Result<usize, Refused<(K, VecMap<u64, u64>)>>
-    ensures len { IfOk result (λ n. n ≡ option_map_or (λ map. length map.entries) (lookup K.eq maps.old.entries key) 0) }
-    ensures entries { OnOk result (maps.new.entries ≡ put K.eq maps.old.entries key (unwrap_or (lookup K.eq maps.old.entries key) (record { entries = []; capacity = 0 }))) }
+    ensures len { IfOk result (λ n. n
+        ≡ option_map_or (λ map. length map.entries) (lookup K.eq maps.old.entries key) 0) }
+    ensures entries { OnOk result (maps.new.entries
+        ≡ put K.eq maps.old.entries key
+        (unwrap_or (lookup K.eq maps.old.entries key) (record { entries = []; capacity = 0 }))) }
     ensures err { OnErr result (Refuses K.eq maps.old key maps.new) }
-    ensures given { IfErr result (λ refused. (refused.given.0 ≡ key) × (refused.given.1.entries ≡ [])) }
+    ensures given { IfErr result (λ refused. (refused.given.0 ≡ key)
+        × (refused.given.1.entries ≡ [])) }
 {
     Ok(maps.entry(key).or_default()?.len())
 }
 
-/// Writes the value of a key that is there.
+/// Writes the value of a key, if the key is present.
 pub fn write_if_there<K: Eq + Drop>(map: &mut VecMap<K, u64>, key: K, value: u64)
     ensures { map.new ≡ with_value_of K.eq map.old key value }
 {
@@ -76,7 +87,7 @@ pub fn write_if_there<K: Eq + Drop>(map: &mut VecMap<K, u64>, key: K, value: u64
     }
 }
 
-/// Writes the value of a key that is there twice, first through a reference and then as a whole.
+/// Writes the value of a key twice, if the key is present: first through a reference, then as a whole.
 pub fn write_twice(map: &mut VecMap<u64, u64>, key: u64)
     ensures { map.new ≡ with_value_of nat_eq map.old key 9 }
 {
@@ -86,10 +97,12 @@ pub fn write_twice(map: &mut VecMap<u64, u64>, key: u64)
     }
 }
 
-/// Takes the pair of a key out, or puts one in.
+/// Removes the pair of a key, or inserts one if the key is absent.
 pub fn toggle<K: Eq + Drop>(map: &mut VecMap<K, u64>, key: K) -> Result<(), Refused<(K, u64)>>
-    ensures present { IsSome (index_of K.eq map.old.entries key) → map.new.entries ≡ without_key K.eq map.old.entries key }
-    ensures absent { index_of K.eq map.old.entries key ≡ None → OnOk result (map.new.entries ≡ put K.eq map.old.entries key 3) }
+    ensures present { IsSome (index_of K.eq map.old.entries key)
+        → map.new.entries ≡ without_key K.eq map.old.entries key }
+    ensures absent { index_of K.eq map.old.entries key ≡ None
+        → OnOk result (map.new.entries ≡ put K.eq map.old.entries key 3) }
     ensures err { OnErr result (map.new ≡ map.old) }
 {
     match map.entry(key) {
@@ -101,7 +114,7 @@ pub fn toggle<K: Eq + Drop>(map: &mut VecMap<K, u64>, key: K) -> Result<(), Refu
     Ok(())
 }
 
-/// Takes the pair of a key out, and fills the gap with the last one.
+/// Removes the pair of a key, and moves the last pair into the gap.
 pub fn take<K: Eq + Drop>(map: &mut VecMap<K, u64>, key: K) -> Option<(K, u64)>
     ensures pair { result ≡ lookup_pair K.eq map.old.entries key }
     ensures entries { map.new.entries ≡ swap_without_key K.eq map.old.entries key }
@@ -126,7 +139,7 @@ pub fn put_and_write(map: &mut VecMap<u64, u64>, key: u64) -> Result<(), Refused
     Ok(())
 }
 
-/// Gives a key the value 9, and takes it out again.
+/// Gives a key the value 9, and removes its pair again.
 pub fn put_and_remove(map: &mut VecMap<u64, u64>, key: u64) -> Result<u64, Refused<(u64, u64)>>
     ensures value { IfOk result (λ value. value ≡ 9) }
     ensures entries { OnOk result (map.new.entries ≡ without_key nat_eq map.old.entries key) }
@@ -136,15 +149,19 @@ pub fn put_and_remove(map: &mut VecMap<u64, u64>, key: u64) -> Result<u64, Refus
     Ok(map.entry(key).insert_entry(9)?.remove())
 }
 
-/// Gives a key of any type the value 9, and answers its place and the handed key.
+/// Gives a key of any type the value 9, and returns its index and the key that was passed.
 pub fn put_entry<K: Eq + Clone>(
     map: &mut VecMap<K, u64>,
     key: K,
 ) -> Result<(usize, K), Refused<(K, u64)>>
     ensures place { IfOk result (λ done. done.0 ≡ index_or_length K.eq map.old.entries key) }
     ensures key { IfOk result (λ done. done.1 ≡ key) }
-    ensures present { IsSome (index_of K.eq map.old.entries key) → OnOk result (map.new.entries ≡ put K.eq map.old.entries key 9) }
-    ensures absent { index_of K.eq map.old.entries key ≡ None → OnOk result ((stored : K) × K.is_clone key stored × (map.new.entries ≡ map.old.entries ++ (stored, 9) ∷ [])) }
+    ensures present { IsSome (index_of K.eq map.old.entries key)
+        → OnOk result (map.new.entries ≡ put K.eq map.old.entries key 9) }
+    ensures absent { index_of K.eq map.old.entries key ≡ None
+        → OnOk result
+        ((stored : K) × K.is_clone key stored
+        × (map.new.entries ≡ map.old.entries ++ (stored, 9) ∷ [])) }
     ensures err { OnErr result (map.new ≡ map.old) }
 {
     let entry = map.entry(key).insert_entry(9)?;

@@ -1,4 +1,4 @@
-//! What callers of equality can prove.
+//! Callers of `==` on maps and sets.
 ghost use Rattle.std.specs.Prelude.{◌≡◌, IsTrue, nat_eq};
 ghost use Rattle.vecmap.specs.Equality.{has_same_counts};
 
@@ -6,17 +6,18 @@ use vecmap::map::laws as map_laws;
 use vecmap::set::laws as set_laws;
 use vecmap::{VecMap, VecSet};
 
-/// A map of maps: the `==` of the values is that of maps.
+/// Returns whether two maps of maps are equal. The `==` of their values is that of maps.
 pub fn are_equal_tables(
     a: &VecMap<u32, VecMap<u32, u32>>,
     b: &VecMap<u32, VecMap<u32, u32>>,
 ) -> bool
-    ensures { result ≡ has_same_counts nat_eq (λ x y. has_same_counts nat_eq nat_eq x.entries y.entries) a.now.entries b.now.entries }
+    ensures { result ≡ has_same_counts nat_eq
+        (λ x y. has_same_counts nat_eq nat_eq x.entries y.entries) a.now.entries b.now.entries }
 {
     *a == *b
 }
 
-/// A table equals itself.
+/// Compares a map of maps with itself, and proves that the result is `true`.
 pub fn table_equals_itself(table: &VecMap<u32, VecMap<u32, u32>>) -> bool
     ensures { IsTrue result }
 {
@@ -24,7 +25,7 @@ pub fn table_equals_itself(table: &VecMap<u32, VecMap<u32, u32>>) -> bool
     *table == *table
 }
 
-/// A set equals itself.
+/// Compares a set with itself, and proves that the result is `true`.
 pub fn set_equals_itself(set: &VecSet<u32>) -> bool
     ensures { IsTrue result }
 {

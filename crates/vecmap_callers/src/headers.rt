@@ -1,7 +1,7 @@
-//! A header list: texts under names whose case is ignored, in the order in which the names came first.
+//! A header list: texts under names whose case is ignored, in the order in which the names were first set.
 //!
-//! After `Host: a`, `Accept: b` and `HOST: c` are set, the fields are `Host: c` and `Accept: b`; a merge of `ACCEPT: d`
-//! and `Age: e` leaves `Host: c`, `Accept: d` and `Age: e`.
+//! After `Host: a`, `Accept: b` and `HOST: c` are set, the fields are `Host: c` and `Accept: b`. After a merge of
+//! `ACCEPT: d` and `Age: e`, they are `Host: c`, `Accept: d` and `Age: e`.
 ghost use Rattle.std.specs.Prelude.{◌≡◌, ℕ, IfErr, IfOk, List, None, OnErr, OnOk, Some, [], false, option_map, string_bytes};
 ghost use Rattle.std.specs.Option.{option_or};
 ghost use Rattle.vecmap.specs.Items.{add, adds, without_item};
@@ -15,7 +15,7 @@ use std::marker::Model;
 use vecmap::map::laws;
 use vecmap::{Refused, VecMap};
 
-/// Header fields, no two under one name. A contract sees the list of their names and texts.
+/// Header fields with distinct names. A contract sees the list of their names and texts.
 #[derive(Drop)]
 pub struct Headers {
     fields: VecMap<Name, String>,
@@ -35,7 +35,7 @@ impl Model for Headers {
 }
 
 impl Headers {
-    /// No fields.
+    /// Creates a list without fields.
     #[tactic(auto, using(vecmap::proofs::Rules::distinct_keys))]
     pub fn new(alloc: Global) -> Headers
         ensures { result ≡ [] }
@@ -45,7 +45,7 @@ impl Headers {
         }
     }
 
-    /// The fields, in their order.
+    /// Returns the fields, in order.
     pub fn as_slice(&self) -> &[(Name, String)]
         ensures fields { result.now ≡ self.now }
         ensures distinct { HasDistinctKeys same_name self.now }
@@ -53,9 +53,13 @@ impl Headers {
         self.fields.as_slice()
     }
 
-    /// The text under a name, which may be written in any case: `get("HOST")` finds what was set under `Host`.
+    /// Returns the text under a name.
     ///
-    /// It takes at most as many comparisons as there are fields, and no memory.
+    /// The name may be written in any case: `get("HOST")` finds what was set under `Host`.
+    ///
+    /// # Complexity
+    ///
+    /// At most one comparison for each field. Does not allocate.
     pub fn get(&self, name: &str) -> Option<&str>
         ensures { option_map (λ text. text.now) result ≡ text_of self.now name.now }
     {
@@ -65,17 +69,26 @@ impl Headers {
         }
     }
 
-    /// Gives a name a text, and answers the old one.
+    /// Sets the text under a name, and returns the old one.
     ///
-    /// A name that is there keeps its place and its case, and a new one goes last. Refused, both come back and nothing
-    /// has changed. It takes at most as many comparisons as there are fields.
+    /// An existing name keeps its index and its case. A new name is appended.
+    ///
+    /// # Errors
+    ///
+    /// [`Refused`] returns the name and the text if the list is full and the allocator refuses to grow it; the list is
+    /// then unchanged.
+    ///
+    /// # Complexity
+    ///
+    /// At most one comparison for each field.
     pub fn set(
         &mut self,
         name: Name,
         text: String,
     ) -> Result<Option<String>, Refused<(Name, String)>>
         ensures there { OnOk result (text_of self.new name ≡ Some (string_bytes text)) }
-        ensures others { OnOk result ((other : List ℕ) → same_name name other ≡ false → text_of self.new other ≡ text_of self.old other) }
+        ensures others { OnOk result ((other : List ℕ) → same_name name other ≡ false
+            → text_of self.new other ≡ text_of self.old other) }
         ensures order { OnOk result (names_of self.new ≡ add same_name (names_of self.old) name) }
         ensures old { IfOk result (λ old. option_map string_bytes old ≡ text_of self.old name) }
         ensures err { OnErr result (self.new ≡ self.old) }
@@ -87,13 +100,16 @@ impl Headers {
         Ok(old)
     }
 
-    /// Takes the field of a name out, and answers its text. The other fields stay in their order.
+    /// Removes the field of a name, and returns its text. The other fields keep their order.
     ///
-    /// It takes at most as many comparisons as there are fields, and one move for each field behind it.
+    /// # Complexity
+    ///
+    /// At most one comparison for each field, and one move for each field behind the removed one.
     pub fn remove(&mut self, name: &str) -> Option<String>
         ensures text { option_map string_bytes result ≡ text_of self.old name.now }
         ensures gone { text_of self.new name.now ≡ None }
-        ensures others { (other : List ℕ) → same_name name.now other ≡ false → text_of self.new other ≡ text_of self.old other }
+        ensures others { (other : List ℕ) → same_name name.now other ≡ false
+            → text_of self.new other ≡ text_of self.old other }
         ensures order { names_of self.new ≡ without_item same_name (names_of self.old) name.now }
     {
         laws::removals_are_forgotten::<Name, String>();
@@ -101,13 +117,23 @@ impl Headers {
         self.fields.remove(NamedAs(name))
     }
 
-    /// Takes all fields of another list: its text stands where both have one, and new names go last, in their order.
+    /// Moves all fields of another list into this one.
     ///
-    /// Refused, both are as before. Each field takes one lookup.
+    /// Where both lists have a name, the text of `other` replaces the old one. New names are appended, in their order.
+    ///
+    /// # Errors
+    ///
+    /// [`AllocError`] if the allocator refuses the request; both lists are then unchanged.
+    ///
+    /// # Complexity
+    ///
+    /// One lookup for each field of `other`.
     #[tactic(auto, using(vecmap::proofs::Rules::keys, vecmap::proofs::Rules::distinct_keys))]
     pub fn merge(&mut self, other: &mut Headers) -> Result<(), AllocError>
-        ensures texts { OnOk result ((name : List ℕ) → text_of self.new name ≡ option_or (text_of other.old name) (text_of self.old name)) }
-        ensures order { OnOk result (names_of self.new ≡ adds same_name (names_of self.old) (names_of other.old)) }
+        ensures texts { OnOk result ((name : List ℕ)
+            → text_of self.new name ≡ option_or (text_of other.old name) (text_of self.old name)) }
+        ensures order { OnOk result (names_of self.new
+            ≡ adds same_name (names_of self.old) (names_of other.old)) }
         ensures emptied { OnOk result (other.new ≡ []) }
         ensures err { OnErr result (self.new ≡ self.old) }
         ensures other_err { OnErr result (other.new ≡ other.old) }

@@ -1,4 +1,4 @@
-//! What callers can prove of iterators: loops, chains and pulls from both ends.
+//! Callers of iterators: loops, chains, and calls of `next` and `next_back`.
 ghost use Rattle.std.specs.Prelude.{◌≡◌, ◌/◌, ◌<◌, ◌^◌, ◌∷◌, ℕ, IfOk, [], count_by, length, map, nat_eq, reverse, slice_get, sum};
 ghost use Rattle.std.specs.List.{All, list_any};
 ghost use Rattle.std.specs.Map.{keys_of, values_of};
@@ -6,7 +6,7 @@ ghost use Rattle.std.specs.Map.{keys_of, values_of};
 use std::alloc::{AllocError, Global};
 use vecmap::{VecMap, VecSet};
 
-/// The sum of the values, by a loop over `iter`.
+/// Returns the sum of the values, by a loop over `iter`.
 pub fn total(map: &VecMap<u64, u32>) -> u32
     requires { sum (values_of map.now.entries) < 2 ^ 32 }
     ensures { result ≡ sum (values_of map.now.entries) }
@@ -18,7 +18,7 @@ pub fn total(map: &VecMap<u64, u32>) -> u32
     all
 }
 
-/// The sum of the values, by a loop over the map by value.
+/// Returns the sum of the values, by a loop over the map by value.
 pub fn total_by_value(map: VecMap<u64, u32>) -> u32
     requires { sum (values_of map.entries) < 2 ^ 32 }
     ensures { result ≡ sum (values_of map.entries) }
@@ -30,7 +30,7 @@ pub fn total_by_value(map: VecMap<u64, u32>) -> u32
     all
 }
 
-/// The sum of the values, by a chain.
+/// Returns the sum of the values, by a chain.
 pub fn total_by_sum(map: &VecMap<u64, u32>) -> u32
     requires { sum (values_of map.now.entries) < 2 ^ 32 }
     ensures { result ≡ sum (values_of map.now.entries) }
@@ -38,70 +38,71 @@ pub fn total_by_sum(map: &VecMap<u64, u32>) -> u32
     map.values().sum()
 }
 
-/// Whether a value is there.
+/// Returns whether the map holds a value.
 pub fn has_value(map: &VecMap<u64, u32>, value: u32) -> bool
     ensures { result ≡ list_any (λ v. nat_eq v value) (values_of map.now.entries) }
 {
     map.values().any(|stored| *stored == value)
 }
 
-/// How many pairs there are.
+/// Returns the number of pairs.
 pub fn pair_count(map: &VecMap<u64, u32>) -> usize
     ensures { result ≡ length map.now.entries }
 {
     map.iter().count()
 }
 
-/// How many pairs have this value.
+/// Returns the number of pairs that have this value.
 pub fn count_of_value(map: &VecMap<u64, u32>, value: u32) -> usize
     ensures { result ≡ count_by (λ v. nat_eq v value) (values_of map.now.entries) }
 {
     map.values().filter(|stored| **stored == value).count()
 }
 
-/// The keys, last first.
+/// Returns the keys, in reverse order.
 pub fn keys_reversed(alloc: Global, map: &VecMap<u64, u32>) -> Result<Vec<u64>, AllocError>
     ensures { IfOk result (λ keys. keys.items ≡ reverse (keys_of map.now.entries)) }
 {
     map.keys().rev().copied().collect(alloc)
 }
 
-/// The values, last first, read off the pairs.
+/// Returns the values in reverse order, by an iteration over the pairs.
 pub fn values_reversed(alloc: Global, map: &VecMap<u64, u32>) -> Result<Vec<u32>, AllocError>
     ensures { IfOk result (λ values. values.items ≡ reverse (values_of map.now.entries)) }
 {
     map.iter().rev().map(|pair| *pair.1).collect(alloc)
 }
 
-/// A third of each value.
+/// Returns a third of each value.
 pub fn thirds(alloc: Global, table: &VecMap<u64, u32>) -> Result<Vec<u32>, AllocError>
-    ensures { IfOk result (λ thirds. thirds.items ≡ map (λ v. v / 3) (values_of table.now.entries)) }
+    ensures { IfOk result (λ thirds. thirds.items
+        ≡ map (λ v. v / 3) (values_of table.now.entries)) }
 {
     table.values().map(|value| *value / 3).collect(alloc)
 }
 
-/// The pairs, by value.
+/// Returns the pairs, by value.
 pub fn pairs_taken(alloc: Global, map: VecMap<u64, u32>) -> Result<Vec<(u64, u32)>, AllocError>
     ensures { IfOk result (λ pairs. pairs.items ≡ map.entries) }
 {
     map.into_iter().collect(alloc)
 }
 
-/// The keys, by value.
+/// Returns the keys, by value.
 pub fn keys_taken(alloc: Global, map: VecMap<u64, u32>) -> Result<Vec<u64>, AllocError>
     ensures { IfOk result (λ keys. keys.items ≡ keys_of map.entries) }
 {
     map.into_keys().collect(alloc)
 }
 
-/// The values, by value, last first.
+/// Returns the values, by value, in reverse order.
 pub fn values_taken(alloc: Global, map: VecMap<u64, u32>) -> Result<Vec<u32>, AllocError>
     ensures { IfOk result (λ values. values.items ≡ reverse (values_of map.entries)) }
 {
     map.into_values().rev().collect(alloc)
 }
 
-/// Pulls of three keys from both ends, with a copy half way, past the end.
+/// Takes three keys from both ends of an iterator, copies it after the second, and calls it again past the end.
 pub fn pull_keys(map: &VecMap<u64, u32>)
     requires { (a : ℕ × ℕ) × (b : ℕ × ℕ) × (c : ℕ × ℕ) × (map.now.entries ≡ a ∷ b ∷ c ∷ []) }
 {
@@ -120,7 +121,7 @@ pub fn pull_keys(map: &VecMap<u64, u32>)
     prove!(back.is_none());
 }
 
-/// Adds one to each value: a lent value is the one that stood when the loop began.
+/// Adds one to each value. The value that the loop lends is the one that the map held when the loop began.
 pub fn add_one(map: &mut VecMap<u64, u32>)
     requires { All (λ v. v < 100) (values_of map.old.entries) }
 {
@@ -129,7 +130,7 @@ pub fn add_one(map: &mut VecMap<u64, u32>)
     }
 }
 
-/// Writes each value, twice over, and looks at the map again.
+/// Writes each value twice, and returns the length of the map.
 pub fn write_values(map: &mut VecMap<u64, u32>, value: u32) -> usize {
     for (_, stored) in map.iter_mut() {
         *stored = 0;
@@ -140,7 +141,7 @@ pub fn write_values(map: &mut VecMap<u64, u32>, value: u32) -> usize {
     map.len()
 }
 
-/// The first value, read through a reference that could write it.
+/// Returns the first value, read through a mutable reference.
 pub fn first_value(map: &mut VecMap<u64, u32>) -> Option<u32>
     ensures { result ≡ slice_get (values_of map.old.entries) 0 }
 {
@@ -148,7 +149,7 @@ pub fn first_value(map: &mut VecMap<u64, u32>) -> Option<u32>
     Some(*value)
 }
 
-/// The sum of the elements, by a loop over `iter`.
+/// Returns the sum of the elements, by a loop over `iter`.
 pub fn set_total(set: &VecSet<u32>) -> u32
     requires { sum set.now.elements < 2 ^ 32 }
     ensures { result ≡ sum set.now.elements }
@@ -160,7 +161,7 @@ pub fn set_total(set: &VecSet<u32>) -> u32
     all
 }
 
-/// The sum of the elements, by a loop over the set by value.
+/// Returns the sum of the elements, by a loop over the set by value.
 pub fn set_total_by_value(set: VecSet<u32>) -> u32
     requires { sum set.elements < 2 ^ 32 }
     ensures { result ≡ sum set.elements }
@@ -172,7 +173,7 @@ pub fn set_total_by_value(set: VecSet<u32>) -> u32
     all
 }
 
-/// The sum of the elements, by a chain.
+/// Returns the sum of the elements, by a chain.
 pub fn set_total_by_sum(set: &VecSet<u32>) -> u32
     requires { sum set.now.elements < 2 ^ 32 }
     ensures { result ≡ sum set.now.elements }
@@ -180,28 +181,28 @@ pub fn set_total_by_sum(set: &VecSet<u32>) -> u32
     set.iter().sum()
 }
 
-/// Whether an element is there.
+/// Returns whether the set holds an element.
 pub fn has_element(set: &VecSet<u32>, element: u32) -> bool
     ensures { result ≡ list_any (λ x. nat_eq x element) set.now.elements }
 {
     set.iter().any(|stored| *stored == element)
 }
 
-/// How many elements there are.
+/// Returns the number of elements.
 pub fn element_count(set: &VecSet<u32>) -> usize
     ensures { result ≡ length set.now.elements }
 {
     set.iter().count()
 }
 
-/// The elements, last first.
+/// Returns the elements, in reverse order.
 pub fn elements_reversed(alloc: Global, set: &VecSet<u32>) -> Result<Vec<u32>, AllocError>
     ensures { IfOk result (λ elements. elements.items ≡ reverse set.now.elements) }
 {
     set.iter().rev().copied().collect(alloc)
 }
 
-/// The elements, by value, last first.
+/// Returns the elements, by value, in reverse order.
 pub fn elements_taken(alloc: Global, set: VecSet<u32>) -> Result<Vec<u32>, AllocError>
     ensures { IfOk result (λ elements. elements.items ≡ reverse set.elements) }
 {

@@ -1,11 +1,11 @@
-//! Callers of the calls that lend, proved from the contracts of these calls alone.
+//! Callers of the calls that lend a value for writing, proved from the contracts of these calls alone.
 ghost use Rattle.std.specs.Prelude.{◌≡◌, ◌<◌, IsSome, is_some, length};
 ghost use Rattle.vecmap.specs.Contents.{with_value_at, with_value_of};
 ghost use Rattle.vecmap.specs.Pairs.{index_of, value_at};
 
 use vecmap::VecMap;
 
-/// Writes the value of a key, and answers whether the key is there.
+/// Writes the value of a key if the key is present, and returns whether it is.
 pub fn write_if_there<K: Eq>(map: &mut VecMap<K, u32>, key: &K, value: u32) -> bool
     ensures written { map.new ≡ with_value_of K.eq map.old key.now value }
     ensures there { result ≡ is_some (index_of K.eq map.old.entries key.now) }
@@ -19,7 +19,11 @@ pub fn write_if_there<K: Eq>(map: &mut VecMap<K, u32>, key: &K, value: u32) -> b
     }
 }
 
-/// Writes the value of a key that is there.
+/// Writes the value of a key.
+///
+/// # Conditions
+///
+/// The key is present.
 pub fn write_there<K: Eq>(map: &mut VecMap<K, u32>, key: &K, value: u32)
     requires { IsSome (index_of K.eq map.old.entries key.now) }
     ensures { map.new ≡ with_value_of K.eq map.old key.now value }
@@ -27,7 +31,11 @@ pub fn write_there<K: Eq>(map: &mut VecMap<K, u32>, key: &K, value: u32)
     map[key] = value;
 }
 
-/// Writes the value at a place.
+/// Writes the value at an index.
+///
+/// # Conditions
+///
+/// The index is less than the length.
 pub fn write_at<K>(map: &mut VecMap<K, u32>, index: usize, value: u32)
     requires { index < length map.old.entries }
     ensures { map.new ≡ with_value_at map.old index value }
@@ -35,7 +43,7 @@ pub fn write_at<K>(map: &mut VecMap<K, u32>, index: usize, value: u32)
     map[index] = value;
 }
 
-/// The value at a place, read through the reference that could write it.
+/// Returns the value at an index, read through a mutable reference.
 pub fn read_at(map: &mut VecMap<u32, u32>, index: usize) -> Option<u32>
     ensures { result ≡ value_at map.old.entries index }
 {

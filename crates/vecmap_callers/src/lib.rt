@@ -1,11 +1,14 @@
-//! Functions over maps and sets that are proved from the contracts of what they call, as those of any user are.
+//! Functions over maps and sets, proved from the public contracts of the calls that they use, as a user's functions
+//! would be.
 #![tactic(auto)]
 
 pub mod bulk;
 pub mod entry;
 pub mod equality;
 pub mod equivalent;
+pub mod header_lists;
 pub mod headers;
+pub mod interner;
 pub mod iteration;
 pub mod lazy;
 pub mod lending;
@@ -21,5 +24,6 @@ pub mod registry;
 pub mod removal;
 pub mod scopes;
 pub mod search;
+pub mod settings;
 pub mod traits;
 pub mod words;

@@ -1,4 +1,4 @@
-//! Names that ignore the case of ASCII letters, and texts that stand for them.
+//! Names that ignore the case of ASCII letters, and texts as queries that match them.
 ghost use Rattle.std.specs.Prelude.{◌≡◌, string_bytes};
 ghost use Rattle.std.specs.Cmp.{on_equiv, partial_equiv_from_equiv};
 ghost use Rattle.std.specs.Cmp.Lexicographic.{nat_list_eq_equiv};
@@ -8,8 +8,8 @@ ghost use Rattle.vecmap_callers.specs.Names.{same_name};
 use std::marker::Model;
 use vecmap::Equivalent;
 
-/// A name, equal to each that differs from it in the case of ASCII letters alone. A contract sees its bytes, as they
-/// were written.
+/// A name. Two names are equal if they differ only in the case of ASCII letters. A contract sees the bytes of the name
+/// as they were written.
 #[derive(Debug, Drop)]
 pub struct Name {
     text: String,
@@ -24,14 +24,14 @@ impl Model for Name {
 }
 
 impl Name {
-    /// The name that is written so.
+    /// Creates a name from its text.
     pub fn new(text: String) -> Name
         ensures { result ≡ string_bytes text }
     {
         Name { text }
     }
 
-    /// The text, as it was written.
+    /// Returns the text as it was written.
     pub fn as_str(&self) -> &str
         ensures { result.now ≡ self.now }
     {
@@ -53,7 +53,7 @@ impl Eq for Name {
     ghost laws = { on_equiv str_to_ascii_lowercase nat_list_eq_equiv };
 }
 
-/// Stands for the names that are this text, in any case.
+/// A query that matches the names that are this text, in any case.
 #[derive(Clone, Copy, Debug)]
 pub struct NamedAs<'a>(pub &'a str);
 

@@ -1,4 +1,4 @@
-//! What callers can prove of maps of maps and of maps of sets.
+//! Callers that use maps of maps and maps of sets.
 ghost use Rattle.std.specs.Prelude.{◌≡◌, List, OnErr, OnOk, Some, String, ℕ, bytes_eq, false, nat_eq, string_eq, true};
 ghost use Rattle.std.specs.declared.alloc.Global.{Global};
 ghost use Rattle.vecmap.specs.Items.{add};
@@ -11,16 +11,21 @@ use vecmap::laws::inner_additions_are_found;
 use vecmap::map::laws::{inner_insertions_are_found, writes_by_texts_are_insertions};
 use vecmap::{VecMap, VecSet};
 
-/// Sets a value under a section and a name.
+/// Sets the value under a section and a name.
 pub fn set(
     sections: &mut VecMap<String, VecMap<String, u32>>,
     section: String,
     name: String,
     value: u32,
 ) -> Result<(), AllocError>
-    ensures written { OnOk result (inner_entries string_eq sections.new.entries section ≡ put string_eq (inner_entries string_eq sections.old.entries section) name value) }
-    ensures others { OnOk result ((other : String Global) → string_eq section other ≡ false → inner_entries string_eq sections.new.entries other ≡ inner_entries string_eq sections.old.entries other) }
-    ensures err { OnErr result ((other : String Global) → inner_entries string_eq sections.new.entries other ≡ inner_entries string_eq sections.old.entries other) }
+    ensures written { OnOk result (inner_entries string_eq sections.new.entries section
+        ≡ put string_eq (inner_entries string_eq sections.old.entries section) name value) }
+    ensures others { OnOk result ((other : String Global) → string_eq section other ≡ false
+        → inner_entries string_eq sections.new.entries other
+        ≡ inner_entries string_eq sections.old.entries other) }
+    ensures err { OnErr result ((other : String Global)
+        → inner_entries string_eq sections.new.entries other
+        ≡ inner_entries string_eq sections.old.entries other) }
 {
     inner_insertions_are_found::<String, String, u32>();
     sections.entry(section).or_default()?.insert(name, value)?;
@@ -33,19 +38,25 @@ pub fn join(
     group: String,
     member: u32,
 ) -> Result<(), AllocError>
-    ensures written { OnOk result (inner_elements string_eq groups.new.entries group ≡ add nat_eq (inner_elements string_eq groups.old.entries group) member) }
-    ensures others { OnOk result ((other : String Global) → string_eq group other ≡ false → inner_elements string_eq groups.new.entries other ≡ inner_elements string_eq groups.old.entries other) }
-    ensures err { OnErr result ((other : String Global) → inner_elements string_eq groups.new.entries other ≡ inner_elements string_eq groups.old.entries other) }
+    ensures written { OnOk result (inner_elements string_eq groups.new.entries group
+        ≡ add nat_eq (inner_elements string_eq groups.old.entries group) member) }
+    ensures others { OnOk result ((other : String Global) → string_eq group other ≡ false
+        → inner_elements string_eq groups.new.entries other
+        ≡ inner_elements string_eq groups.old.entries other) }
+    ensures err { OnErr result ((other : String Global)
+        → inner_elements string_eq groups.new.entries other
+        ≡ inner_elements string_eq groups.old.entries other) }
 {
     inner_additions_are_found::<String, u32>();
     groups.entry(group).or_default()?.insert(member)?;
     Ok(())
 }
 
-/// Writes the value of a text that is there, and says whether it is.
+/// Writes the value of a text if the text is present, and returns whether it is.
 pub fn write_text(map: &mut VecMap<String, u32>, text: &str, value: u32) -> bool
     ensures found { result ≡ true → lookup_by (has_text text.now) map.new.entries ≡ Some value }
-    ensures others { (other : List ℕ) → bytes_eq text.now other ≡ false → lookup_by (has_text other) map.new.entries ≡ lookup_by (has_text other) map.old.entries }
+    ensures others { (other : List ℕ) → bytes_eq text.now other ≡ false
+        → lookup_by (has_text other) map.new.entries ≡ lookup_by (has_text other) map.old.entries }
 {
     writes_by_texts_are_insertions::<u32>();
     match map.get_mut(text) {

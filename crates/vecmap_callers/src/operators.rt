@@ -1,4 +1,4 @@
-//! What callers of the operators on sets can prove.
+//! Callers of the operators on sets.
 ghost use Rattle.std.specs.Prelude.{◌≡◌, IfOk, nat_eq};
 ghost use Rattle.vecmap.specs.Items.{both, only};
 ghost use Rattle.vecmap.specs.Operators.{ClonesStaySame, MakesClones, symmetric_difference_of, union_of};
@@ -6,7 +6,7 @@ ghost use Rattle.vecmap.specs.Operators.{ClonesStaySame, MakesClones, symmetric_
 use std::alloc::AllocError;
 use vecmap::VecSet;
 
-/// Clones of what both have, of any type whose clones equal their originals.
+/// Returns clones of the elements that are in both sets, of any type whose clones equal their originals.
 pub fn shared<T: Eq + Clone>(a: &VecSet<T>, b: &VecSet<T>) -> Result<VecSet<T>, AllocError>
     requires { ClonesStaySame T.eq T.is_clone both a.now b.now }
     ensures { MakesClones T.eq T.is_clone both a.now b.now result }
@@ -14,25 +14,28 @@ pub fn shared<T: Eq + Clone>(a: &VecSet<T>, b: &VecSet<T>) -> Result<VecSet<T>, 
     a & b
 }
 
-/// What `a` has, but neither `b` nor `c`.
+/// Returns the elements of `a` that are neither in `b` nor in `c`.
 pub fn without_both(
     a: &VecSet<u32>,
     b: &VecSet<u32>,
     c: &VecSet<u32>,
 ) -> Result<VecSet<u32>, AllocError>
-    ensures { IfOk result (λ set. set.elements ≡ only nat_eq a.now.elements (union_of nat_eq b.now.elements c.now.elements)) }
+    ensures { IfOk result (λ set. set.elements
+        ≡ only nat_eq a.now.elements (union_of nat_eq b.now.elements c.now.elements)) }
 {
     let unwanted = (b | c)?;
     a - &unwanted
 }
 
-/// What only one has of what they share with `c`.
+/// Returns the elements of `c` that are in exactly one of `a` and `b`.
 pub fn apart_within(
     a: &VecSet<u32>,
     b: &VecSet<u32>,
     c: &VecSet<u32>,
 ) -> Result<VecSet<u32>, AllocError>
-    ensures { IfOk result (λ set. set.elements ≡ symmetric_difference_of nat_eq (both nat_eq a.now.elements c.now.elements) (both nat_eq b.now.elements c.now.elements)) }
+    ensures { IfOk result (λ set. set.elements
+        ≡ symmetric_difference_of nat_eq (both nat_eq a.now.elements c.now.elements)
+        (both nat_eq b.now.elements c.now.elements)) }
 {
     let (left, right) = ((a & c)?, (b & c)?);
     &left ^ &right

@@ -1,7 +1,7 @@
-//! Options: defaults, and overrides that go before them.
+//! Options: defaults, and overrides that replace them.
 //!
-//! Of the defaults `port = 80` and `depth = 3` and the override `port = 8080`, `port` is 8080 and `depth` 3. Reset,
-//! `port` is 80 again.
+//! With the defaults `port = 80` and `depth = 3` and the override `port = 8080`, `port` is 8080 and `depth` is 3. After
+//! `port` is reset, it is 80 again.
 ghost use Rattle.std.specs.Prelude.{◌≡◌, IfErr, None, OnErr, OnOk, Some, [], false, if◌then◌else◌, option_copied};
 ghost use Rattle.std.specs.Option.{option_or};
 ghost use Rattle.vecmap.specs.Pairs.{lookup, lookup_by};
@@ -12,7 +12,7 @@ use std::marker::Model;
 use vecmap::map::laws;
 use vecmap::{Equivalent, Refused, VecMap};
 
-/// Values under names of any type with `==`, in two layers. A contract sees the list of each.
+/// Values under names of any type with `==`, in two layers. A contract sees the list of each layer.
 #[derive(Drop)]
 pub struct Options<K: Eq, V> {
     defaults: VecMap<K, V>,
@@ -31,7 +31,7 @@ impl<K: Eq, V> Model for Options<K, V> {
 }
 
 impl<K: Eq + Drop, V: Drop> Options<K, V> {
-    /// No options.
+    /// Creates a list without options.
     #[tactic(auto, using(vecmap::proofs::Rules::distinct_keys))]
     pub fn new(alloc: Global) -> Options<K, V>
         ensures { result ≡ record { defaults = []; overrides = [] } }
@@ -42,25 +42,29 @@ impl<K: Eq + Drop, V: Drop> Options<K, V> {
         }
     }
 
-    /// The defaults, in their order.
+    /// Returns the defaults, in order.
     pub fn defaults(&self) -> &[(K, V)]
         ensures { result.now ≡ self.now.defaults }
     {
         self.defaults.as_slice()
     }
 
-    /// The overrides, in their order.
+    /// Returns the overrides, in order.
     pub fn overrides(&self) -> &[(K, V)]
         ensures { result.now ≡ self.now.overrides }
     {
         self.overrides.as_slice()
     }
 
-    /// The value of an option: its override, or else its default.
+    /// Returns the value of an option: its override, or else its default.
     ///
-    /// It takes at most as many comparisons as there are overrides and defaults.
+    /// # Complexity
+    ///
+    /// At most one comparison for each override and each default.
     pub fn get<Q: Equivalent<K>>(&self, name: Q) -> Option<&V>
-        ensures { option_copied result ≡ option_or (lookup_by (Q.equivalent name) self.now.overrides) (lookup_by (Q.equivalent name) self.now.defaults) }
+        ensures { option_copied result
+            ≡ option_or (lookup_by (Q.equivalent name) self.now.overrides)
+            (lookup_by (Q.equivalent name) self.now.defaults) }
     {
         match self.overrides.get(name) {
             Some(value) => Some(value),
@@ -68,11 +72,23 @@ impl<K: Eq + Drop, V: Drop> Options<K, V> {
         }
     }
 
-    /// Gives an option a default, in the place of an old one, after at most as many comparisons as there are defaults.
+    /// Sets the default of an option, which replaces an old default.
     ///
-    /// Where it has an override, that still goes before it. Refused, name and value come back and nothing has changed.
+    /// An option with an override keeps its value.
+    ///
+    /// # Errors
+    ///
+    /// [`Refused`] returns the name and the value if the defaults are full and the allocator refuses to grow them; the
+    /// options are then unchanged.
+    ///
+    /// # Complexity
+    ///
+    /// At most one comparison for each default.
     pub fn set_default(&mut self, name: K, value: V) -> Result<(), Refused<(K, V)>>
-        ensures each { OnOk result ((q : K) → setting K.eq self.new q ≡ option_or (lookup K.eq self.old.overrides q) (if K.eq name q then Some value else lookup K.eq self.old.defaults q)) }
+        ensures each { OnOk result ((q : K)
+            → setting K.eq self.new q
+            ≡ option_or (lookup K.eq self.old.overrides q)
+            (if K.eq name q then Some value else lookup K.eq self.old.defaults q)) }
         ensures overrides { self.new.overrides ≡ self.old.overrides }
         ensures given { IfErr result (λ refused. refused.given ≡ (name, value)) }
         ensures err { OnErr result (self.new ≡ self.old) }
@@ -82,11 +98,20 @@ impl<K: Eq + Drop, V: Drop> Options<K, V> {
         Ok(())
     }
 
-    /// Overrides an option, after at most as many comparisons as there are overrides.
+    /// Overrides an option. Every other option keeps its value.
     ///
-    /// Every other one keeps its value. Refused, name and value come back and nothing has changed.
+    /// # Errors
+    ///
+    /// [`Refused`] returns the name and the value if the overrides are full and the allocator refuses to grow them; the
+    /// options are then unchanged.
+    ///
+    /// # Complexity
+    ///
+    /// At most one comparison for each override.
     pub fn set(&mut self, name: K, value: V) -> Result<(), Refused<(K, V)>>
-        ensures each { OnOk result ((q : K) → setting K.eq self.new q ≡ (if K.eq name q then Some value else setting K.eq self.old q)) }
+        ensures each { OnOk result ((q : K)
+            → setting K.eq self.new q
+            ≡ (if K.eq name q then Some value else setting K.eq self.old q)) }
         ensures defaults { self.new.defaults ≡ self.old.defaults }
         ensures given { IfErr result (λ refused. refused.given ≡ (name, value)) }
         ensures err { OnErr result (self.new ≡ self.old) }
@@ -97,12 +122,15 @@ impl<K: Eq + Drop, V: Drop> Options<K, V> {
         Ok(())
     }
 
-    /// Takes the override of an option back, so that its default stands. Every other option keeps its value.
+    /// Removes the override of an option, so that it has its default again. Every other option keeps its value.
     ///
-    /// It takes at most as many comparisons as there are overrides, and one move for each behind it.
+    /// # Complexity
+    ///
+    /// At most one comparison for each override, and one move for each override behind the removed one.
     pub fn reset(&mut self, name: &K)
         ensures default { setting K.eq self.new name.now ≡ lookup K.eq self.old.defaults name.now }
-        ensures others { (other : K) → K.eq name.now other ≡ false → setting K.eq self.new other ≡ setting K.eq self.old other }
+        ensures others { (other : K) → K.eq name.now other ≡ false
+            → setting K.eq self.new other ≡ setting K.eq self.old other }
         ensures defaults { self.new.defaults ≡ self.old.defaults }
     {
         laws::removals_are_forgotten::<K, V>();
@@ -110,14 +138,24 @@ impl<K: Eq + Drop, V: Drop> Options<K, V> {
         self.overrides.remove(name);
     }
 
-    /// Lays the overrides of `upper` over these options, and leaves it its defaults alone.
+    /// Moves the overrides of `upper` into these options. `upper` keeps its defaults.
     ///
-    /// What `upper` overrides has its value there, and every other option keeps its own. Refused, both are as before.
-    /// Each override of `upper` takes one lookup.
+    /// An option that `upper` overrides then has the value of that override. Every other option keeps its value.
+    ///
+    /// # Errors
+    ///
+    /// [`AllocError`] if the allocator refuses the request; both are then unchanged.
+    ///
+    /// # Complexity
+    ///
+    /// One lookup for each override of `upper`.
     #[tactic(auto, using(vecmap::proofs::Rules::distinct_keys))]
     pub fn lay(&mut self, upper: &mut Options<K, V>) -> Result<(), AllocError>
-        ensures each { OnOk result ((q : K) → setting K.eq self.new q ≡ option_or (lookup K.eq upper.old.overrides q) (setting K.eq self.old q)) }
-        ensures emptied { OnOk result (upper.new ≡ record { defaults = upper.old.defaults; overrides = [] }) }
+        ensures each { OnOk result ((q : K)
+            → setting K.eq self.new q
+            ≡ option_or (lookup K.eq upper.old.overrides q) (setting K.eq self.old q)) }
+        ensures emptied { OnOk result (upper.new
+            ≡ record { defaults = upper.old.defaults; overrides = [] }) }
         ensures err { OnErr result (self.new ≡ self.old) }
         ensures upper_err { OnErr result (upper.new ≡ upper.old) }
     {
@@ -125,9 +163,15 @@ impl<K: Eq + Drop, V: Drop> Options<K, V> {
         Ok(())
     }
 
-    /// Makes defaults of the overrides: every option keeps its value, and none is overridden any more.
+    /// Makes each override the default of its option. Every option keeps its value, and no override is left.
     ///
-    /// Refused, nothing has changed. Each override takes one lookup.
+    /// # Errors
+    ///
+    /// [`AllocError`] if the allocator refuses the request; the options are then unchanged.
+    ///
+    /// # Complexity
+    ///
+    /// One lookup for each override.
     #[tactic(auto, using(vecmap::proofs::Rules::distinct_keys))]
     pub fn settle(&mut self) -> Result<(), AllocError>
         ensures each { OnOk result ((q : K) → setting K.eq self.new q ≡ setting K.eq self.old q) }

@@ -1,4 +1,4 @@
-//! What callers of sorts can prove.
+//! Callers of sorts.
 ghost use Rattle.std.specs.Prelude.{◌≡◌, OnErr, OnOk, nat_eq};
 ghost use Rattle.std.specs.List.{IsDistinct};
 ghost use Rattle.std.specs.List.Sorted.{IsNonDecreasing, IsPermutation, IsSortedByKey, IsStableByKey};
@@ -7,7 +7,7 @@ ghost use Rattle.std.specs.Ordering.{nat_cmp};
 use std::alloc::AllocError;
 use vecmap::{VecMap, VecSet};
 
-/// Sorts by the values; ties stay in their order.
+/// Sorts by the values; pairs with equal values keep their order.
 pub fn sort_by_value(map: &mut VecMap<char, u32>) -> Result<(), AllocError>
     ensures sorted { OnOk result (IsSortedByKey (λ p. p.1) nat_cmp map.new.entries) }
     ensures stable { IsStableByKey (λ p. p.1) nat_cmp map.old.entries map.new.entries }
@@ -17,14 +17,14 @@ pub fn sort_by_value(map: &mut VecMap<char, u32>) -> Result<(), AllocError>
     map.sort_by(|a, b| a.1.cmp(b.1))
 }
 
-/// Sorts by a sort key that is made once for each pair.
+/// Sorts by a sort key that is computed once for each pair.
 pub fn sort_by_cached_value(map: &mut VecMap<char, u32>) -> Result<(), AllocError>
     ensures sorted { OnOk result (IsSortedByKey (λ p. p.1) nat_cmp map.new.entries) }
 {
     map.sort_by_cached_key(|_, value| *value)
 }
 
-/// A sorted set ascends, and is still a set.
+/// Sorts a set. It then ascends, and is still a set.
 pub fn sort_numbers(set: &mut VecSet<u32>)
     ensures sorted { IsNonDecreasing set.new.elements }
     ensures distinct { IsDistinct nat_eq set.new.elements }

@@ -1,6 +1,6 @@
-//! A registry of names: each gets an id that it keeps, and each id names what it first named.
+//! A registry of names: each name gets an id that it keeps, and an id always names the same name.
 //!
-//! Of `to`, `be`, `to` and `or`, one after another, the ids are 0, 1, 0 and 2.
+//! If `to`, `be`, `to` and `or` are interned in this order, their ids are 0, 1, 0 and 2.
 ghost use Rattle.std.specs.Prelude.{◌≡◌, ◌<◌, ℕ, IfErr, IfOk, IfSome, IsSome, IsTrue, OnErr, Some, [], length, option_copied, position, slice_get};
 ghost use Rattle.std.specs.List.{IsDistinct};
 ghost use Rattle.vecmap.specs.Items.{item_index};
@@ -10,7 +10,7 @@ use std::marker::Model;
 use vecmap::set::laws;
 use vecmap::{Equivalent, Refused, VecSet};
 
-/// Names of any type with `==`, no two equal. The id of a name is its place. A contract sees the list of names.
+/// Distinct names of any type with `==`. The id of a name is its index. A contract sees the list of names.
 #[derive(Drop)]
 pub struct Registry<T: Eq> {
     names: VecSet<T>,
@@ -25,7 +25,7 @@ impl<T: Eq> Model for Registry<T> {
 }
 
 impl<T: Eq> Registry<T> {
-    /// No names.
+    /// Creates a registry without names.
     pub fn new(alloc: Global) -> Registry<T>
         ensures { result ≡ [] }
     {
@@ -34,14 +34,14 @@ impl<T: Eq> Registry<T> {
         }
     }
 
-    /// How many names there are. Their ids are the numbers below that.
+    /// Returns the number of names. Their ids are the numbers below it.
     pub fn len(&self) -> usize
         ensures { result ≡ length self.now }
     {
         self.names.len()
     }
 
-    /// The names, in the order of their ids.
+    /// Returns the names, in the order of their ids.
     pub fn as_slice(&self) -> &[T]
         ensures names { result.now ≡ self.now }
         ensures distinct { IsDistinct T.eq self.now }
@@ -49,14 +49,22 @@ impl<T: Eq> Registry<T> {
         self.names.as_slice()
     }
 
-    /// The id of the name that `name` stands for, if it has one, after at most as many comparisons as there are names.
+    /// Returns the id of the name that matches `name`, if there is one.
+    ///
+    /// # Complexity
+    ///
+    /// At most `len` comparisons.
     pub fn id_of<Q: Equivalent<T>>(&self, name: Q) -> Option<usize>
         ensures { result ≡ position (Q.equivalent name) self.now }
     {
         self.names.get_index_of(name)
     }
 
-    /// The name of an id, if it was given, with no comparison. Looked up, the name has that id.
+    /// Returns the name with an id, if the id was given. A lookup by this name returns the same id.
+    ///
+    /// # Complexity
+    ///
+    /// No comparisons.
     pub fn name_of(&self, id: usize) -> Option<&T>
         ensures name { option_copied result ≡ slice_get self.now id }
         ensures id { IfSome result (λ name. item_index T.eq self.now name.now ≡ Some id) }
@@ -66,18 +74,28 @@ impl<T: Eq> Registry<T> {
         self.names.get_index(id)
     }
 
-    /// The id of a name, which is added where it has none.
+    /// Returns the id of a name. A name without an id is first added.
     ///
-    /// Each name keeps its id and each id its name, and a name that is there changes nothing: interned again, it has the
-    /// id that it had. Refused, the name comes back and nothing has changed. It takes at most two comparisons for each
-    /// name that there is.
+    /// Each name keeps its id, and each id keeps its name. An existing name changes nothing and has the id that it had.
+    ///
+    /// # Errors
+    ///
+    /// [`Refused`] returns the name if the registry is full and the allocator refuses to grow it; the registry is then
+    /// unchanged.
+    ///
+    /// # Complexity
+    ///
+    /// At most `2 * len` comparisons.
     pub fn intern(&mut self, name: T) -> Result<usize, Refused<T>>
     where
         T: Drop,
         ensures id { IfOk result (λ id. item_index T.eq self.new name ≡ Some id) }
-        ensures again { IfOk result (λ id. (known : ℕ) → item_index T.eq self.old name ≡ Some known → id ≡ known) }
-        ensures names { (id : ℕ) → id < length self.old → slice_get self.new id ≡ slice_get self.old id }
-        ensures ids { (other : T) (id : ℕ) → item_index T.eq self.old other ≡ Some id → item_index T.eq self.new other ≡ Some id }
+        ensures again { IfOk result (λ id. (known : ℕ) → item_index T.eq self.old name ≡ Some known
+            → id ≡ known) }
+        ensures names { (id : ℕ) → id < length self.old
+            → slice_get self.new id ≡ slice_get self.old id }
+        ensures ids { (other : T) (id : ℕ) → item_index T.eq self.old other ≡ Some id
+            → item_index T.eq self.new other ≡ Some id }
         ensures unchanged { IsSome (item_index T.eq self.old name) → self.new ≡ self.old }
         ensures given { IfErr result (λ refused. refused.given ≡ name) }
         ensures err { OnErr result (self.new ≡ self.old) }
@@ -92,7 +110,7 @@ impl<T: Eq> Registry<T> {
     }
 }
 
-/// The ids of two names, between which another is interned. Equal names get the same one.
+/// Returns the ids of two names, and interns another name between them. Equal names get the same id.
 pub fn intern_around<T: Eq + Drop>(
     registry: &mut Registry<T>,
     first: T,

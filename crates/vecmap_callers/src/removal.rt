@@ -1,4 +1,4 @@
-//! What callers of removals can prove.
+//! Callers of removals.
 ghost use Rattle.std.specs.Prelude.{◌%◌, ◌++◌, ◌-◌, ◌<◌, ◌≡◌, ◌≤◌, OnOk, Some, drop, filter, length, nat_eq, remove, slice_get, take};
 ghost use Rattle.std.specs.List.{IsDistinct};
 ghost use Rattle.vecmap.specs.Items.{without_item};
@@ -8,7 +8,7 @@ use std::alloc::AllocError;
 use vecmap::map::laws;
 use vecmap::{VecMap, VecSet};
 
-/// What a removal leaves is still a set.
+/// Removes an element. What is left is still a set.
 pub fn without<T: Eq + Drop>(set: &mut VecSet<T>, item: &T)
     ensures left { set.new.elements ≡ without_item T.eq set.old.elements item.now }
     ensures distinct { IsDistinct T.eq set.new.elements }
@@ -16,7 +16,11 @@ pub fn without<T: Eq + Drop>(set: &mut VecSet<T>, item: &T)
     set.remove(item);
 }
 
-/// Takes out the last pair of a map that is not empty.
+/// Removes and returns the last pair of a map.
+///
+/// # Conditions
+///
+/// The map is not empty.
 pub fn take_last<K>(map: &mut VecMap<K, u32>) -> (K, u32)
     requires { 0 < length map.old.entries }
     ensures pair { slice_get map.old.entries (length map.old.entries - 1) ≡ Some result }
@@ -34,7 +38,7 @@ pub fn keep_even(map: &mut VecMap<u32, u32>)
     map.retain(|_key, value| *value % 2 == 0);
 }
 
-/// Keeps the first `count` pairs: the closure counts down.
+/// Keeps the first `count` pairs, by a closure that counts down.
 pub fn keep_first(map: &mut VecMap<u32, u32>, count: u32)
     ensures left { map.new.entries ≡ take count map.old.entries }
     ensures capacity { map.new.capacity ≡ map.old.capacity }
@@ -47,7 +51,7 @@ pub fn keep_first(map: &mut VecMap<u32, u32>, count: u32)
     });
 }
 
-/// Takes out the first `count` pairs, whether they are looked at or not.
+/// Removes the first `count` pairs, by a drain of which only two pairs are read.
 pub fn drop_front(map: &mut VecMap<u32, u32>, count: usize)
     requires within { count ≤ length map.old.entries }
     ensures left { map.new.entries ≡ drop count map.old.entries }
@@ -58,7 +62,7 @@ pub fn drop_front(map: &mut VecMap<u32, u32>, count: usize)
     let _last = pairs.next_back();
 }
 
-/// The first pair, which goes with the two after it.
+/// Returns the first pair, and removes the first three.
 pub fn first_of_three(map: &mut VecMap<u32, u32>) -> Option<(u32, u32)>
     requires within { 3 ≤ length map.old.entries }
     ensures first { result ≡ slice_get map.old.entries 0 }
@@ -67,7 +71,8 @@ pub fn first_of_three(map: &mut VecMap<u32, u32>) -> Option<(u32, u32)>
     map.drain(..3).next()
 }
 
-/// The last element of the range, which goes whole: what is left is still a set.
+/// Removes the second and the third element, by a drain of which only the last element is read. What is left is still a
+/// set.
 pub fn without_second_and_third<T: Eq + Drop>(set: &mut VecSet<T>)
     requires within { 3 ≤ length set.old.elements }
     ensures left { set.new.elements ≡ take 1 set.old.elements ++ drop 3 set.old.elements }
@@ -77,7 +82,7 @@ pub fn without_second_and_third<T: Eq + Drop>(set: &mut VecSet<T>)
     let _last = items.next_back();
 }
 
-/// Takes out the elements from a place on, in a loop.
+/// Removes the elements from an index on, by a loop.
 pub fn take_out_from(set: &mut VecSet<u32>, at: usize)
     requires within { at ≤ length set.old.elements }
     ensures left { set.new.elements ≡ take at set.old.elements }
@@ -85,7 +90,7 @@ pub fn take_out_from(set: &mut VecSet<u32>, at: usize)
     for _item in set.drain(at..) {}
 }
 
-/// Takes out the first `count` pairs, however many of them are pulled from one end or the other.
+/// Removes the first `count` pairs, whichever of them are taken from the front or the back of the drain.
 pub fn pull_from_either_end(map: &mut VecMap<u32, u32>, count: usize, from_back: &[bool])
     requires within { count ≤ length map.old.entries }
     ensures left { map.new.entries ≡ drop count map.old.entries }
@@ -101,7 +106,7 @@ pub fn pull_from_either_end(map: &mut VecMap<u32, u32>, count: usize, from_back:
     }
 }
 
-/// Splits a map of distinct keys, and makes it whole again where there is memory.
+/// Splits a map of distinct keys and appends the second part again, which restores the map if no request is refused.
 pub fn split_and_append(map: &mut VecMap<u32, u32>, at: usize) -> Result<(), AllocError>
     requires within { at ≤ length map.old.entries }
     requires distinct { HasDistinctKeys ⟦<u32 as PartialEq>⟧.eq map.old.entries }

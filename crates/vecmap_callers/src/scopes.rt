@@ -1,6 +1,6 @@
-//! A symbol table: names that are defined in nested scopes, each of which may hide those around it.
+//! A symbol table: names that are defined in nested scopes, where an inner scope may hide the names of the outer ones.
 //!
-//! Where `x` is 1 and then, in a scope that is entered, 3, it means 3 until that scope is left, and 1 again after.
+//! If `x` is 1, and 3 in a scope that is then entered, it means 3 until that scope is left, and then 1 again.
 ghost use Rattle.std.specs.Prelude.{◌≡◌, ◌+◌, ◌<◌, IfErr, IfOk, IsTrue, List, None, OnErr, OnOk, Some, false, if◌then◌else◌, length, option_copied};
 ghost use Rattle.vecmap.specs.Contents.{Contents};
 ghost use Rattle.vecmap_callers.specs.Scopes.{outer, resolved};
@@ -10,8 +10,8 @@ use std::marker::Model;
 use vecmap::map::laws;
 use vecmap::{Refused, VecMap};
 
-/// Scopes within one another, of names of any type with `==`. There is always one, which is never left. A contract sees
-/// the list of their contents, the innermost last.
+/// Nested scopes of names of any type with `==`. There is always at least one scope. A contract sees the list of their
+/// contents, the innermost last.
 #[derive(Drop)]
 pub struct Scopes<K, V> {
     scopes: Vec<VecMap<K, V>>,
@@ -29,7 +29,11 @@ impl<K, V> Model for Scopes<K, V> {
 }
 
 impl<K: Eq + Drop, V: Drop> Scopes<K, V> {
-    /// One scope, in which nothing is defined. Refused, nothing is made.
+    /// Creates a table of one scope, in which nothing is defined.
+    ///
+    /// # Errors
+    ///
+    /// [`AllocError`] if the allocator refuses the request.
     pub fn new(alloc: Global) -> Result<Scopes<K, V>, AllocError>
         ensures nothing { IfOk result (λ table. (name : K) → resolved K.eq table name ≡ None) }
         ensures depth { IfOk result (λ table. length table ≡ 1) }
@@ -39,20 +43,26 @@ impl<K: Eq + Drop, V: Drop> Scopes<K, V> {
         Ok(Scopes { scopes })
     }
 
-    /// Enters a new scope, in which every name means what it meant. Refused, nothing has changed.
+    /// Enters a new scope. Every name means what it meant before.
+    ///
+    /// # Errors
+    ///
+    /// [`AllocError`] if the allocator refuses the request; the table is then unchanged.
     pub fn enter(&mut self, alloc: Global) -> Result<(), AllocError>
         ensures within { OnOk result (outer self.new ≡ self.old) }
         ensures depth { OnOk result (length self.new ≡ length self.old + 1) }
         ensures nested { OnOk result (1 < length self.new) }
-        ensures same { OnOk result ((name : K) → resolved K.eq self.new name ≡ resolved K.eq self.old name) }
+        ensures same { OnOk result ((name : K)
+            → resolved K.eq self.new name ≡ resolved K.eq self.old name) }
         ensures err { OnErr result (self.new ≡ self.old) }
     {
         self.scopes.push(VecMap::new(alloc))?;
         Ok(())
     }
 
-    /// Leaves the innermost scope, unless it is the only one, and answers whether it did. Every name means again what it
-    /// meant before the scope was entered.
+    /// Leaves the innermost scope, unless it is the only one, and returns whether it did.
+    ///
+    /// Every name then means what it meant before the scope was entered.
     pub fn leave(&mut self) -> bool
         ensures left { IsTrue result → self.new ≡ outer self.old }
         ensures stays { result ≡ false → self.new ≡ self.old }
@@ -65,12 +75,22 @@ impl<K: Eq + Drop, V: Drop> Scopes<K, V> {
         true
     }
 
-    /// Defines a name in the innermost scope, after at most as many comparisons as there are names in it.
+    /// Defines a name in the innermost scope.
     ///
-    /// Every other name means what it meant, and the scopes around stay as they are. Refused, name and value come back
-    /// and nothing has changed.
+    /// Every other name means what it meant, and the outer scopes are unchanged.
+    ///
+    /// # Errors
+    ///
+    /// [`Refused`] returns the name and the value if the scope is full and the allocator refuses to grow it; the table
+    /// is then unchanged.
+    ///
+    /// # Complexity
+    ///
+    /// At most one comparison for each name of the innermost scope.
     pub fn define(&mut self, name: K, value: V) -> Result<(), Refused<(K, V)>>
-        ensures each { OnOk result ((other : K) → resolved K.eq self.new other ≡ (if K.eq name other then Some value else resolved K.eq self.old other)) }
+        ensures each { OnOk result ((other : K)
+            → resolved K.eq self.new other
+            ≡ (if K.eq name other then Some value else resolved K.eq self.old other)) }
         ensures within { outer self.new ≡ outer self.old }
         ensures depth { length self.new ≡ length self.old }
         ensures given { IfErr result (λ refused. refused.given ≡ (name, value)) }
@@ -82,9 +102,11 @@ impl<K: Eq + Drop, V: Drop> Scopes<K, V> {
         Ok(())
     }
 
-    /// What a name means: its value in the innermost scope that defines it.
+    /// Returns the value of a name in the innermost scope that defines it.
     ///
-    /// It takes at most as many comparisons as there are names in all scopes.
+    /// # Complexity
+    ///
+    /// At most one comparison for each name of all scopes.
     pub fn resolve(&self, name: &K) -> Option<&V>
         ensures { option_copied result ≡ resolved K.eq self.now name.now }
     {
@@ -99,7 +121,7 @@ impl<K: Eq + Drop, V: Drop> Scopes<K, V> {
     }
 }
 
-/// What a name means once another is defined within a scope of its own. The table is as before.
+/// Returns what a name means after another name is defined in a scope of its own. The table is unchanged.
 pub fn resolved_within<K: Eq + Drop, V: Copy + Drop>(
     table: &mut Scopes<K, V>,
     alloc: Global,
@@ -107,7 +129,8 @@ pub fn resolved_within<K: Eq + Drop, V: Copy + Drop>(
     value: V,
     name: &K,
 ) -> Result<Option<V>, AllocError>
-    ensures answer { IfOk result (λ found. found ≡ (if K.eq defined name.now then Some value else resolved K.eq table.old name.now)) }
+    ensures answer { IfOk result (λ found. found
+        ≡ (if K.eq defined name.now then Some value else resolved K.eq table.old name.now)) }
     ensures restored { table.new ≡ table.old }
 {
     table.enter(alloc)?;

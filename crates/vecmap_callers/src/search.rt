@@ -1,4 +1,4 @@
-//! What callers of searches can prove.
+//! Callers of binary searches.
 ghost use Rattle.std.specs.Prelude.{◌≡◌, ◌<◌, ◌≤◌, IfErr, false, get_or, length, nat_lt, true};
 ghost use Rattle.std.specs.List.{All};
 ghost use Rattle.std.specs.List.Sorted.{IsBinarySearchResult, IsPartitionPoint, IsPartitionedBy};
@@ -14,39 +14,48 @@ pub fn search_value(map: &VecMap<char, u32>, value: u32) -> Result<usize, usize>
     map.binary_search_by(|_, stored| stored.cmp(&value))
 }
 
-/// In a map that was just sorted, a search that finds nothing parts the lesser keys from the greater ones.
+/// Sorts the keys and searches for one. If it is absent, the returned index separates the lesser keys from the greater
+/// ones.
 pub fn place_among_keys(map: &mut VecMap<u32, char>, key: u32) -> Result<usize, usize>
-    ensures { IfErr result (λ i. IsPartitionPoint (λ p. nat_cmp p.0 key ≡ Less) (λ p. nat_cmp p.0 key ≡ Greater) map.new.entries i) }
+    ensures { IfErr result (λ i. IsPartitionPoint (λ p. nat_cmp p.0 key ≡ Less)
+        (λ p. nat_cmp p.0 key ≡ Greater) map.new.entries i) }
 {
     map.sort_unstable_keys();
     map.binary_search_keys(&key)
 }
 
-/// How many numbers are below a limit, where those come first.
+/// Returns how many numbers are below a limit.
+///
+/// # Conditions
+///
+/// The numbers below the limit come first.
 pub fn count_below(set: &VecSet<u32>, limit: u32) -> usize
     requires { IsPartitionedBy (λ x. nat_lt x limit) set.now.elements }
-    ensures { IsPartitionPoint (λ x. nat_lt x limit ≡ true) (λ x. nat_lt x limit ≡ false) set.now.elements result }
+    ensures { IsPartitionPoint (λ x. nat_lt x limit ≡ true)
+        (λ x. nat_lt x limit ≡ false) set.now.elements result }
 {
     set.partition_point(|x| *x < limit)
 }
 
-/// Searches by what a table has at the stored value: each value is a place in the table.
+/// Searches by the rank that a table holds for each value. Each value is an index of the table.
 pub fn search_ranks(map: &VecMap<char, usize>, ranks: &[u32], rank: u32) -> Result<usize, usize>
     requires within { All (λ p. p.1 < length ranks.now) map.now.entries }
-    ensures { IsBinarySearchResult (λ p. nat_cmp (get_or ranks.now p.1 0) rank) map.now.entries result }
+    ensures { IsBinarySearchResult
+        (λ p. nat_cmp (get_or ranks.now p.1 0) rank) map.now.entries result }
 {
     map.binary_search_by(|_, place| ranks[*place].cmp(&rank))
 }
 
-/// The same by a key.
+/// Like [`search_ranks`], by a sort key.
 pub fn search_by_rank(map: &VecMap<char, usize>, ranks: &[u32], rank: u32) -> Result<usize, usize>
     requires within { All (λ p. p.1 < length ranks.now) map.now.entries }
-    ensures { IsBinarySearchResult (λ p. nat_cmp (get_or ranks.now p.1 0) rank) map.now.entries result }
+    ensures { IsBinarySearchResult
+        (λ p. nat_cmp (get_or ranks.now p.1 0) rank) map.now.entries result }
 {
     map.binary_search_by_key(&rank, |_, place| ranks[*place])
 }
 
-/// How many values have a rank below a limit.
+/// Returns how many values have a rank below a limit.
 pub fn count_ranks_below(map: &VecMap<char, usize>, ranks: &[u32], limit: u32) -> usize
     requires within { All (λ p. p.1 < length ranks.now) map.now.entries }
     ensures { result ≤ length map.now.entries }
@@ -54,23 +63,25 @@ pub fn count_ranks_below(map: &VecMap<char, usize>, ranks: &[u32], limit: u32) -
     map.partition_point(|_, place| ranks[*place] < limit)
 }
 
-/// Searches elements by what a table has at them.
+/// Searches by the rank that a table holds for each element. Each element is an index of the table.
 pub fn search_item_ranks(set: &VecSet<usize>, ranks: &[u32], rank: u32) -> Result<usize, usize>
     requires within { All (λ x. x < length ranks.now) set.now.elements }
-    ensures { IsBinarySearchResult (λ x. nat_cmp (get_or ranks.now x 0) rank) set.now.elements result }
+    ensures { IsBinarySearchResult
+        (λ x. nat_cmp (get_or ranks.now x 0) rank) set.now.elements result }
 {
     set.binary_search_by(|place| ranks[*place].cmp(&rank))
 }
 
-/// The same by a key.
+/// Like [`search_item_ranks`], by a sort key.
 pub fn search_item_by_rank(set: &VecSet<usize>, ranks: &[u32], rank: u32) -> Result<usize, usize>
     requires within { All (λ x. x < length ranks.now) set.now.elements }
-    ensures { IsBinarySearchResult (λ x. nat_cmp (get_or ranks.now x 0) rank) set.now.elements result }
+    ensures { IsBinarySearchResult
+        (λ x. nat_cmp (get_or ranks.now x 0) rank) set.now.elements result }
 {
     set.binary_search_by_key(&rank, |place| ranks[*place])
 }
 
-/// How many elements have a rank below a limit.
+/// Returns how many elements have a rank below a limit.
 pub fn count_item_ranks_below(set: &VecSet<usize>, ranks: &[u32], limit: u32) -> usize
     requires within { All (λ x. x < length ranks.now) set.now.elements }
     ensures { result ≤ length set.now.elements }

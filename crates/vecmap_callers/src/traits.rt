@@ -1,4 +1,4 @@
-//! What callers can prove of maps and sets through the traits `Clone` and `Extend`.
+//! Callers that use maps and sets through the traits `Clone` and `Extend`.
 ghost use Rattle.std.specs.Prelude.{◌≡◌, ◌<◌, ℕ, IfOk, List, Ok, OnOk, Some, [], filter, length, nat_eq, nat_lt, not, slice_get, slice_index_or, string_bytes};
 ghost use Rattle.vecmap.specs.Items.{adds};
 ghost use Rattle.std.specs.List.{AllZip};
@@ -9,44 +9,51 @@ use vecmap::map::laws::collecting_one_more_is_extending;
 use vecmap::set::laws::collecting_one_more_is_extending as collecting_one_more_element;
 use vecmap::{VecMap, VecSet};
 
-/// The pairs, or the first error among them.
+/// Collects the pairs into a map, or returns the first error among them.
 pub fn all_pairs(
     alloc: Global,
     pairs: Vec<Result<(u32, u32), AllocError>>,
 ) -> Result<VecMap<u32, u32>, AllocError>
-    ensures { IfOk result (λ made. (all : List (ℕ × ℕ)) × (made.entries ≡ puts nat_eq [] all) × (length all ≡ length pairs.items) × ((k : ℕ) (d : ℕ × ℕ) → k < length pairs.items → slice_get pairs.items k ≡ Some (Ok (slice_index_or all k d)))) }
+    ensures { IfOk result (λ made. (all : List (ℕ × ℕ)) × (made.entries ≡ puts nat_eq [] all)
+        × (length all ≡ length pairs.items)
+        × ((k : ℕ) (d : ℕ × ℕ) → k < length pairs.items
+        → slice_get pairs.items k ≡ Some (Ok (slice_index_or all k d)))) }
 {
     collecting_one_more_is_extending::<u32, u32>();
     pairs.into_iter().try_collect(alloc)
 }
 
-/// The pairs below a key, and the others.
+/// Collects the pairs whose keys are below a limit into one map, and the others into another.
 pub fn parted(
     alloc: Global,
     pairs: Vec<(u32, u32)>,
     limit: u32,
 ) -> Result<(VecMap<u32, u32>, VecMap<u32, u32>), AllocError>
-    ensures below { IfOk result (λ parts. parts.0.entries ≡ puts nat_eq [] (filter (λ p. nat_lt p.0 limit) pairs.items)) }
-    ensures rest { IfOk result (λ parts. parts.1.entries ≡ puts nat_eq [] (filter (λ p. not (nat_lt p.0 limit)) pairs.items)) }
+    ensures below { IfOk result (λ parts. parts.0.entries
+        ≡ puts nat_eq [] (filter (λ p. nat_lt p.0 limit) pairs.items)) }
+    ensures rest { IfOk result (λ parts. parts.1.entries
+        ≡ puts nat_eq [] (filter (λ p. not (nat_lt p.0 limit)) pairs.items)) }
 {
     collecting_one_more_is_extending::<u32, u32>();
     pairs.into_iter().partition(alloc, |pair| pair.0 < limit)
 }
 
-/// The elements below a limit, and the others.
+/// Collects the elements below a limit into one set, and the others into another.
 pub fn parted_set(
     alloc: Global,
     items: Vec<u32>,
     limit: u32,
 ) -> Result<(VecSet<u32>, VecSet<u32>), AllocError>
-    ensures below { IfOk result (λ parts. parts.0.elements ≡ adds nat_eq [] (filter (λ x. nat_lt x limit) items.items)) }
-    ensures rest { IfOk result (λ parts. parts.1.elements ≡ adds nat_eq [] (filter (λ x. not (nat_lt x limit)) items.items)) }
+    ensures below { IfOk result (λ parts. parts.0.elements
+        ≡ adds nat_eq [] (filter (λ x. nat_lt x limit) items.items)) }
+    ensures rest { IfOk result (λ parts. parts.1.elements
+        ≡ adds nat_eq [] (filter (λ x. not (nat_lt x limit)) items.items)) }
 {
     collecting_one_more_element::<u32>();
     items.into_iter().partition(alloc, |item| *item < limit)
 }
 
-/// Puts pairs into whatever takes pairs.
+/// Extends any collection of pairs by these pairs.
 pub fn put_all<C: Extend<(u32, u32)>>(to: &mut C, pairs: Vec<(u32, u32)>) -> Result<(), AllocError>
     requires { (items : List (ℕ × ℕ)) → C.can_extend to.old items }
     ensures { OnOk result (C.extend_gives to.old pairs.items to.new) }
@@ -54,32 +61,37 @@ pub fn put_all<C: Extend<(u32, u32)>>(to: &mut C, pairs: Vec<(u32, u32)>) -> Res
     to.extend(pairs.into_iter())
 }
 
-/// Puts pairs into a map, by the function for whatever takes pairs.
+/// Inserts pairs into a map, by the function for any collection of pairs.
 pub fn put_into_map(map: &mut VecMap<u32, u32>, pairs: Vec<(u32, u32)>) -> Result<(), AllocError>
     ensures { OnOk result (map.new.entries ≡ puts nat_eq map.old.entries pairs.items) }
 {
     put_all(map, pairs)
 }
 
-/// Books by their numbers, and marks.
+/// Books by their numbers, and a set of marks.
 #[derive(Clone, Debug, Drop, PartialEq, Eq)]
 pub struct Shelf {
     pub books: VecMap<u32, String>,
     pub marks: VecSet<u32>,
 }
 
-/// A copy of a shelf.
+/// Returns a copy of a shelf.
 pub fn copy_of_shelf(shelf: &Shelf) -> Result<Shelf, AllocError>
-    ensures { IfOk result (λ copy. AllZip (λ p q. (q.0 ≡ p.0) × (string_bytes q.1 ≡ string_bytes p.1)) shelf.now.books.entries copy.books.entries) }
+    ensures { IfOk result (λ copy. AllZip
+        (λ p q. (q.0 ≡ p.0)
+        × (string_bytes q.1 ≡ string_bytes p.1)) shelf.now.books.entries copy.books.entries) }
 {
     shelf.clone()
 }
 
-/// A copy of a map of maps.
+/// Returns a copy of a map of maps.
 pub fn copy_of_rooms(
     rooms: &VecMap<u32, VecMap<u32, u32>>,
 ) -> Result<VecMap<u32, VecMap<u32, u32>>, AllocError>
-    ensures { IfOk result (λ copy. AllZip (λ p q. (q.0 ≡ p.0) × AllZip (λ x y. (y.0 ≡ x.0) × (y.1 ≡ x.1)) p.1.entries q.1.entries) rooms.now.entries copy.entries) }
+    ensures { IfOk result (λ copy. AllZip
+        (λ p q. (q.0 ≡ p.0)
+        × AllZip (λ x y. (y.0 ≡ x.0)
+        × (y.1 ≡ x.1)) p.1.entries q.1.entries) rooms.now.entries copy.entries) }
 {
     rooms.clone()
 }

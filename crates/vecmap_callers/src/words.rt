@@ -8,15 +8,23 @@ ghost use Rattle.vecmap_callers.specs.Words.{count_of};
 use std::alloc::{AllocError, Global};
 use vecmap::{Equivalent, Refused, VecMap};
 
-/// Counts words of any type that is copied, as `&str`. They stand in the order in which each came first.
+/// Counts words of any type that is copied, such as `&str`. The pairs are in the order in which each word first occurs.
 ///
-/// Of `to`, `be`, `or`, `not`, `to` and `be` it makes the pairs of `to` and 2, `be` and 2, `or` and 1, `not` and 1.
-/// Refused, nothing is made. Each word takes one lookup.
+/// For `to`, `be`, `or`, `not`, `to` and `be` it returns the pairs of `to` and 2, `be` and 2, `or` and 1, `not` and 1.
+///
+/// # Errors
+///
+/// [`AllocError`] if the allocator refuses a request.
+///
+/// # Complexity
+///
+/// One lookup for each word.
 pub fn count_words<K: Eq + Copy + Drop>(
     alloc: Global,
     words: &[K],
 ) -> Result<VecMap<K, u64>, AllocError>
-    ensures counts { IfOk result (λ counts. (word : K) → count_of K.eq counts.entries word ≡ count_by (λ w. K.eq w word) words.now) }
+    ensures counts { IfOk result (λ counts. (word : K)
+        → count_of K.eq counts.entries word ≡ count_by (λ w. K.eq w word) words.now) }
     ensures order { IfOk result (λ counts. keys_of counts.entries ≡ adds K.eq [] words.now) }
 {
     let mut counts = VecMap::new(alloc);
@@ -28,16 +36,21 @@ pub fn count_words<K: Eq + Copy + Drop>(
     Ok(counts)
 }
 
-// Counts one word.
+// Counts a word once more.
 fn count_one<K: Eq + Drop>(counts: &mut VecMap<K, u64>, word: K) -> Result<(), Refused<(K, u64)>>
     requires { count_of K.eq counts.old.entries word + 1 < 2 ^ 64 }
-    ensures { OnOk result (counts.new.entries ≡ put K.eq counts.old.entries word (count_of K.eq counts.old.entries word + 1)) }
+    ensures { OnOk result (counts.new.entries
+        ≡ put K.eq counts.old.entries word (count_of K.eq counts.old.entries word + 1)) }
 {
     counts.entry(word).and_modify(|n| *n += 1).or_insert(1)?;
     Ok(())
 }
 
-/// How often a word was counted, after at most as many comparisons as there are words in `counts`.
+/// Returns how often a word was counted.
+///
+/// # Complexity
+///
+/// At most one comparison for each word in `counts`.
 pub fn count<K: Eq, Q: Equivalent<K>>(counts: &VecMap<K, u64>, word: Q) -> u64
     ensures { result ≡ unwrap_or (lookup_by (Q.equivalent word) counts.now.entries) 0 }
 {

@@ -3,7 +3,7 @@ use std::test::Fail;
 use vecmap_callers::headers::Headers;
 use vecmap_callers::names::Name;
 
-// The list of these fields, set in their order.
+// Creates the list of these fields, set in order.
 fn headers_of(alloc: Global, fields: &[(&str, &str)]) -> Result<Headers, AllocError> {
     let mut headers = Headers::new(alloc);
     for field in fields {
@@ -13,7 +13,7 @@ fn headers_of(alloc: Global, fields: &[(&str, &str)]) -> Result<Headers, AllocEr
     Ok(headers)
 }
 
-// Whether the list has these fields, in this order, and as many.
+// Returns whether the list has exactly these fields, in this order.
 fn has_fields(headers: &Headers, expected: &[(&str, &str)]) -> bool {
     let fields = headers.as_slice();
     fields.len() == expected.len()

@@ -2,7 +2,7 @@ use std::test::Fail;
 use vecmap_callers::options::Options;
 
 #[test]
-fn overrides_go_before_defaults(rt: HostRuntime) -> Result<(), Fail> {
+fn overrides_are_found_before_defaults(rt: HostRuntime) -> Result<(), Fail> {
     let mut options = Options::new(rt.alloc());
     options.set_default("port", 80)?;
     options.set_default("depth", 3)?;

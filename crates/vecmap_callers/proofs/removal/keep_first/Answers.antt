@@ -4,7 +4,8 @@ use Rattle.std.proofs.lemmas.Bool.Decides.{nat_tests}
 use Rattle.vecmap.specs.Kept.{Kept}
 use Rattle.vecmap_callers.proofs.removal.keep_first.Goals as goal
 
--- a closure that counts down keeps as many of the first items
+-- A closure whose count falls by one at each call, and that keeps an item while the count is above zero, keeps the
+-- first `count` items. Idea: induction on the count and the list.
 counted_down : {F X : Type 0} (R : F → X → Bool → X → F → Type 0) (count : F → ℕ) → ((f : F) (x : X) (b : Bool) (y : X) (g : F) → R f x b y g → (b ≡ nat_lt 0 (count f)) × (y ≡ x) × (count g ≡ count f - 1))
     → (n : ℕ) (f : F) (xs m : List X) (g : F) → count f ≡ n → Kept R f xs m g → m ≡ take n xs
 counted_down R count told zero f [] m g e k = k.0
