@@ -1,4 +1,4 @@
--- What changes a document leaves a document: names stay distinct, and no section gets empty.
+-- What changes a document leaves a document: names stay distinct, and no section becomes empty.
 use Rattle.std.specs.Prelude.{◌≡◌, ℕ, List, [], ◌∷◌, None, Option, Some, String, All, unwrap_or, refl, Ok, Err, OnOk, OnErr, Result}
 use Rattle.std.specs.List.{IsDistinct}
 use Rattle.std.specs.Option.{option_map_or}
@@ -30,7 +30,7 @@ section_put f d n t = record { distinct = distinct_put same_name same_name_laws 
 section_puts : (f g : Section) → IsSection f → IsSection (puts same_name f g)
 section_puts f g j = record { distinct = distinct_puts same_name same_name_laws f g j.distinct; some = puts_some same_name f g (omega (arith, j.some)) }
 
--- a put of a section, made of the one that is there
+-- A document stays a document if a section is inserted that is made from the existing one.
 document_put : (d : Sections) → IsDocument d → (s : List ℕ) (make : Option Section → Section) → ((o : Option Section) → ((f : Section) → o ≡ Some f → IsSection f) → IsSection (make o)) → IsDocument (put same_name d s (make (lookup same_name d s)))
 document_put d i s make h =
     let f = make (lookup same_name d s) in
@@ -57,7 +57,7 @@ pub document_merged : (d e : Sections) → IsDocument d → All (λ p. IsSection
 document_merged d [] i a = i
 document_merged d (p ∷ ps) i a = document_merged (with_section d p.0 p.1) ps (document_with_section d i p.0 p.1 (All-head (λ q. IsSection q.1) p ps a)) (All-tail (λ q. IsSection q.1) p ps a)
 
--- whether a text was put or refused
+-- The result is a document, whether the text was stored or refused.
 pub document_set : {X E : Type 0} (r : Result X E) (d new : Sections) (s n : List ℕ) (t : String Global) → IsDocument d → OnOk r (new ≡ with_text d s n t) → OnErr r (new ≡ d) → IsDocument new
 document_set (Ok x) d new s n t i ok err = subst IsDocument (sym ok) (document_with_text d i s n t)
 document_set (Err e) d new s n t i ok err = subst IsDocument (sym err) i

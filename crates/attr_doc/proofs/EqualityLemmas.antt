@@ -1,4 +1,4 @@
--- Two maps of maps are equal exactly where each section and name find the same text.
+-- Two maps of maps are equal exactly if each section and name have the same text in both.
 use Rattle.std.specs.Prelude.{◌≡◌, ◌↔◌, ℕ, Bool, true, List, [], ◌∷◌, None, Option, Some, String, IsTrue, option_map, string_bytes, string_eq, refl}
 use Rattle.std.specs.Cmp.{IsEquivalence, on_equiv}
 use Rattle.std.specs.Cmp.Rules.{comparing}
@@ -29,7 +29,7 @@ same_stored a b = same_section a.entries b.entries
 same_stored_laws : IsEquivalence same_stored
 same_stored_laws = on_equiv (λ m. m.entries) (map_equality_laws same_name string_eq same_name_laws text_laws)
 
--- equal strings have equal bytes
+-- Equal strings have equal bytes.
 same_texts : (o p : Option (String Global)) → IsTrue (same_option string_eq o p) ↔ (option_map string_bytes o ≡ option_map string_bytes p)
 same_texts None None = (λ _. refl, λ _. refl)
 same_texts None (Some w) = (λ h. absurd (true≢false (sym h)), λ h. absurd (cc))
@@ -44,7 +44,7 @@ sections_agree a b s t =
     let texts = λ (n : List ℕ). same_texts (lookup same_name a n) (lookup same_name b n) in
     (λ h n. (texts n).0 (e.0 h n), λ h. e.1 (λ n. (texts n).1 (h n)))
 
--- a section has some text
+-- A section has some text.
 some_text : (a : Section) → IsSection a → (n : List ℕ) × (t : List ℕ) × (text_in a n ≡ Some t)
 some_text [] s = absurd (let h = s.some in omega (arith, h))
 some_text (p ∷ ps) s = (p.0, string_bytes p.1, ap (option_map string_bytes) (look same_name p ps p.0 true (same_name_laws.refl p.0)))

@@ -8,7 +8,7 @@ use Rattle.attr_doc.specs.Names.{same_name}
 a_name_in_other_case : same_name (65 ∷ 122 ∷ 91 ∷ []) (97 ∷ 90 ∷ 91 ∷ []) ≡ true
 a_name_in_other_case = refl
 
--- `@` and a backquote, `[` and a brace: as far apart as a letter's two cases
+-- `@` and a backquote, `[` and a brace: their codes differ as those of a letter's two cases do.
 a_name_beside_the_letters : same_name (64 ∷ 91 ∷ []) (96 ∷ 123 ∷ []) ≡ false
 a_name_beside_the_letters = refl
 

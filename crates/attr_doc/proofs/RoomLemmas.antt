@@ -1,4 +1,4 @@
--- What a change of one section leaves of the room in the others.
+-- What a change of one section leaves of the spare capacity of the others.
 use Rattle.std.specs.Prelude.{◌≡◌, ◌≤◌, ℕ, false, true, List, ◌∷◌, [], Some, IsSome, All, length, unwrap_or}
 use Rattle.std.specs.List.{AllByRecursion}
 use Rattle.std.specs.Map.{keys_of}
@@ -20,23 +20,23 @@ same_length l k e = sym (length-map l (λ p. (p.0, p.1.entries))) ∙ ap length 
 pub others_after : (l new : List (List ℕ × Stored)) (s : List ℕ) (m : Stored) → new ≡ put same_name l s m → (q : List ℕ) → same_name s q ≡ false → lookup same_name new q ≡ lookup same_name l q
 others_after l new s m g q n = ap (λ k. lookup same_name k q) g ∙ lookup_put_other same_name same_name_laws l s m q n
 
--- the section `s` is there, and becomes `new`
+-- The existing section `s` becomes `new`.
 module _ (c : Contents (List ℕ) Stored) (s : List ℕ) (new : Stored) (there : IsSome (index_of same_name c.entries s)) where
   pub others_stay : (q : List ℕ) → same_name s q ≡ false → lookup same_name (with_value_of same_name c s new).entries q ≡ lookup same_name c.entries q
   others_stay = others_after c.entries (with_value_of same_name c s new).entries s new (with_value_of_is_put same_name c s new there)
 
-  -- what is found at its name
+  -- The lookup of its name finds `new`.
   found_new : (q : List ℕ) → same_name s q ≡ true → (o : Stored) → lookup same_name (with_value_of same_name c s new).entries q ≡ Some o → new ≡ o
   found_new q y o w =
       let l = (with_value_of same_name c s new).entries in
       let e : Some new ≡ Some o = sym (lookup_put same_name same_name_laws c.entries s new) ∙ ap (λ k. lookup same_name k s) (sym (with_value_of_is_put same_name c s new there)) ∙ lookup_congr same_name same_name_laws l s q y ∙ w in
       ap (λ p. unwrap_or p new) e
 
-  -- it has room for n more texts where its map does
+  -- The section has spare capacity for `n` more texts if its map has.
   pub has_room_at : (n : ℕ) → HasRoom new n → HasRoomAt (with_value_of same_name c s new).entries s n
   has_room_at n room o w = subst (λ (x : Stored). HasRoom x n) (found_new s (same_name_laws.refl s) o w) room
 
-  -- where it has its texts and no less room, each section has the room that it had
+  -- If it has the same texts and no less capacity, each section keeps the spare capacity that it had.
   pub keeps_room : (m : Stored) → Some m ≡ lookup same_name c.entries s → new.entries ≡ m.entries → m.capacity ≤ new.capacity → (q : List ℕ) (n : ℕ) → HasRoomAt c.entries q n → HasRoomAt (with_value_of same_name c s new).entries q n
   keeps_room m e f g q n room o w =
       elim (cases_Bool (same_name s q)) [
@@ -48,7 +48,7 @@ module _ (c : Contents (List ℕ) Stored) (s : List ℕ) (new : Stored) (there :
         | inr y ↦ room o (sym (others_stay q y) ∙ w)
       ]
 
--- a section of another name moved in: the room for the others stays
+-- If a section of another name is inserted, the others keep their spare capacity.
 pub room_after : (l k : List (List ℕ × Stored)) (s : List ℕ) (ps : List (List ℕ × Stored)) → AllByRecursion (λ y. same_name s y ≡ false) (keys_of ps) → ((q : List ℕ) → same_name s q ≡ false → lookup same_name k q ≡ lookup same_name l q) → All (IsRoomFor l) ps → All (IsRoomFor k) ps
 room_after l k s [] h o a = All-nil (IsRoomFor k)
 room_after l k s (q ∷ qs) h o a = All-cons (IsRoomFor k) q qs (λ m e. All-head (IsRoomFor l) q qs a m (sym (o q.0 h.0) ∙ e)) (room_after l k s qs h.1 o (All-tail (IsRoomFor l) q qs a))

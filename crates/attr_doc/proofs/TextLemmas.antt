@@ -7,11 +7,11 @@ use Rattle.attr_doc.specs.Names.{same_name}
 use Rattle.vecmap.proofs.AfterPuts.{is_some_lookup}
 use Rattle.vecmap.proofs.EachValue.{lookup_map_values}
 
--- the text under a name of a section
+-- The text under a name of a section.
 abbrev pub text_in : Section → List ℕ → Option (List ℕ)
 text_in texts n = option_map string_bytes (lookup same_name texts n)
 
--- the same of a section that was looked up
+-- The same of a section that was looked up.
 abbrev pub text_at : Option Stored → List ℕ → Option (List ℕ)
 text_at o n = option_and_then (λ texts. text_in texts n) (option_map (λ m. m.entries) o)
 
@@ -29,7 +29,7 @@ module _ (l : List (List ℕ × Stored)) (s n : List ℕ) where
   pub text_of_none : None ≡ lookup same_name l s → None ≡ text_of (sections_of l) s n
   text_of_none e = ap (λ o. text_at o n) e ∙ sym text_of_sections
 
-  -- where a text stands, its name is there
+  -- If there is a text under a name, the name has an index.
   pub has_text : (m : Stored) → Some m ≡ lookup same_name l s → IsSome (text_of (sections_of l) s n) → IsSome (index_of same_name m.entries n)
   has_text m e h = sym (is_some_lookup same_name m.entries n) ∙ sym (is_some_option_map string_bytes (lookup same_name m.entries n)) ∙ ap is_some (text_of_some m e) ∙ h
 

@@ -1,12 +1,12 @@
-//! Documents.
+//! The type of documents.
 ghost use Rattle.attr_doc.specs.Documents.{IsDocument, merged, text_of, with_text};
 ghost use Rattle.std.specs.Map.{keys_of};
 ghost use Rattle.std.specs.Map.Iter.{ShowsInOrder, ShowsInReverse, deref};
 ghost use Rattle.std.specs.Prelude.{◌≡◌, ◌<◌, ◌^◌, ◌↔◌, ℕ, IfErr, IfOk, IsOk, IsSome, IsTrue, List, OnErr, OnOk, [], length, option_copied, option_map, string_bytes};
 
 use crate::Name;
-use crate::rooms::{make_room, move_all};
-use crate::setting::set_text;
+use crate::merge::{make_room, move_all};
+use crate::set::set_text;
 use std::alloc::{AllocError, Global};
 use std::fmt;
 use std::marker::Model;
@@ -14,18 +14,21 @@ use std::mem::replace;
 use vecmap::map::Keys;
 use vecmap::{Refused, VecMap};
 
-/// Sections of texts, each under a name. A contract sees the list of the sections, each a name with its list of names and
-/// texts.
+/// A document: sections of texts, each under a name.
 ///
-/// Sections stand in the order of their first setting, and so do the names in each. On both levels no two names are the
-/// same, and no section is empty.
+/// Sections keep the order in which they were first set, and so do the names in each section. On both levels no two
+/// names are the same, and no section is empty. In contracts a document is the list of its sections. Each section is a
+/// name with its list of names and texts.
 ///
-/// Examples write `name("Font")?` for `Name::new("Font".to_string(alloc)?)`, and begin with this document:
+/// In the examples `name(alloc, "Font")?` is `Name::new("Font".to_string(alloc)?)`, and `page` begins as the document
+/// of the first one.
+///
+/// # Examples
 ///
 /// ```
 /// let mut page = Document::new(alloc);
-/// page.set(name("Font")?, name("Size")?, "12".to_string(alloc)?)?;
-/// format!(in alloc; "{page:?}")? // {"Font": {"Size": "12"}}
+/// page.set(name(alloc, "Font")?, name(alloc, "Size")?, "12".to_string(alloc)?)?;
+/// format!(in alloc; "{page:?}")?.as_str() // r#"{"Font": {"Size": "12"}}"#
 /// ```
 #[derive(Drop)]
 pub struct Document {
@@ -44,7 +47,13 @@ impl Model for Document {
 }
 
 impl Document {
-    /// The document of no sections, which has taken no memory.
+    /// Creates a document without sections.
+    ///
+    /// # Complexity
+    ///
+    /// Does not allocate.
+    ///
+    /// # Examples
     ///
     /// ```
     /// Document::new(alloc).sections().len() // 0
@@ -59,18 +68,27 @@ impl Document {
         }
     }
 
-    /// Puts a text under a section and a name, and answers the old one.
+    /// Sets the text under a section and a name, and returns the previous one.
     ///
-    /// A section and a name that are there stay, as they were first written and in their places, and only the text changes.
-    /// A new name goes last in its section, and a new section, of this one text, last in the document. Memory is needed for
-    /// a new name or a new section where there is no room. Refused, all three come back and nothing has changed.
+    /// An existing section and an existing name stay as they were first written, in their order, and only the text
+    /// changes. A new name is appended to its section. A new section, which holds this one text, is appended to the
+    /// document. The call allocates only for a new name or a new section, where there is no spare capacity.
     ///
-    /// It takes at most as many comparisons as there are sections and names in the section; where the section is new, twice
-    /// as many as there are sections.
+    /// # Errors
+    ///
+    /// [`Refused`] returns the section's name, the name and the text if the allocator refuses a request; the document
+    /// is then unchanged.
+    ///
+    /// # Complexity
+    ///
+    /// At most one comparison for each section, and for each name in the section. For a new section, at most two for
+    /// each section.
+    ///
+    /// # Examples
     ///
     /// ```
-    /// page.set(name("FONT")?, name("size")?, "14".to_string(alloc)?)? // Some("12")
-    /// format!(in alloc; "{page:?}")? // {"Font": {"Size": "14"}}
+    /// page.set(name(alloc, "FONT")?, name(alloc, "size")?, "14".to_string(alloc)?)? // Some("12")
+    /// format!(in alloc; "{page:?}")?.as_str() // r#"{"Font": {"Size": "14"}}"#
     /// ```
     pub fn set(
         &mut self,
@@ -80,7 +98,8 @@ impl Document {
     ) -> Result<Option<String>, Refused<(Name, Name, String)>>
         ensures sections { OnOk result (self.new ≡ with_text self.old section name text) }
         ensures document { IsDocument self.new }
-        ensures old { IfOk result (λ old. option_map string_bytes old ≡ text_of self.old section name) }
+        ensures old { IfOk result (λ old. option_map string_bytes old
+            ≡ text_of self.old section name) }
         ensures there { IsSome (text_of self.old section name) → IsOk result }
         ensures given { IfErr result (λ refused. refused.given ≡ (section, name, text)) }
         ensures err { OnErr result (self.new ≡ self.old) }
@@ -88,13 +107,17 @@ impl Document {
         set_text(&mut self.sections, self.alloc, section, name, text)
     }
 
-    /// The text under a section and a name, if there is one.
+    /// Returns the text under a section and a name, if there is one.
     ///
-    /// It takes at most as many comparisons as there are sections and names in the section.
+    /// # Complexity
+    ///
+    /// At most one comparison for each section, and for each name in the section.
+    ///
+    /// # Examples
     ///
     /// ```
-    /// page.get(&name("font")?, &name("SIZE")?) // Some("12")
-    /// page.get(&name("font")?, &name("Color")?) // None
+    /// page.get(&name(alloc, "font")?, &name(alloc, "SIZE")?) // Some("12")
+    /// page.get(&name(alloc, "font")?, &name(alloc, "Color")?) // None
     /// ```
     pub fn get(&self, section: &Name, name: &Name) -> Option<&str>
         ensures { option_copied result ≡ text_of self.now section.now name.now }
@@ -110,17 +133,25 @@ impl Document {
 
     /// Sets all texts of `other`, section by section in its order, and leaves `other` empty.
     ///
-    /// Room for all of them is made first, in the document and in each section that is there. Refused at that, nothing has
-    /// changed in either. Of a document with no section a merge is never refused.
+    /// The call first reserves capacity for all of them, in the document and in each existing section.
     ///
-    /// Each section of `other` takes two lookups among the sections, or three where it is new. Each text of a section that
-    /// is there takes one in it; a new section moves as a whole.
+    /// # Errors
+    ///
+    /// [`AllocError`] if the allocator refuses the request; both documents are then unchanged. If `other` has no
+    /// sections, the call is never refused.
+    ///
+    /// # Complexity
+    ///
+    /// Each section of `other` takes two lookups among the sections, or three if it is new. Each text takes one lookup
+    /// in its section if the section exists. A new section moves as a whole.
+    ///
+    /// # Examples
     ///
     /// ```
     /// let mut changes = Document::new(alloc);
-    /// changes.set(name("font")?, name("Color")?, "red".to_string(alloc)?)?;
+    /// changes.set(name(alloc, "font")?, name(alloc, "Color")?, "red".to_string(alloc)?)?;
     /// page.merge(&mut changes)?;
-    /// format!(in alloc; "{page:?} {changes:?}")? // {"Font": {"Size": "12", "Color": "red"}} {}
+    /// format!(in alloc; "{page:?} {changes:?}")?.as_str() // r#"{"Font": {"Size": "12", "Color": "red"}} {}"#
     /// ```
     pub fn merge(&mut self, other: &mut Document) -> Result<(), AllocError>
         ensures sections { OnOk result (self.new ≡ merged self.old other.old) }
@@ -136,23 +167,37 @@ impl Document {
         Ok(())
     }
 
-    /// Whether two documents have the same texts, whatever the order of their sections and names and the case of these.
+    /// Returns `true` if two documents have the same texts under the same names.
     ///
-    /// Where they have different numbers of sections nothing is compared. Else the names of sections are, and of two that
-    /// are the same their texts, as `==` of maps does. It takes no memory.
+    /// The order of sections and names makes no difference, and neither does the case of ASCII letters in names.
+    ///
+    /// # Complexity
+    ///
+    /// If the numbers of sections differ, nothing is compared. Otherwise the names of sections are compared. If two are
+    /// the same, their texts are compared, as `==` of maps does. Does not allocate.
+    ///
+    /// # Examples
     ///
     /// ```
     /// let mut other = Document::new(alloc);
-    /// other.set(name("FONT")?, name("SIZE")?, "12".to_string(alloc)?)?;
+    /// other.set(name(alloc, "FONT")?, name(alloc, "SIZE")?, "12".to_string(alloc)?)?;
     /// page.same(&other) // true
     /// ```
     pub fn same(&self, other: &Document) -> bool
-        ensures { IsTrue result ↔ ((section name : List ℕ) → text_of self.now section name ≡ text_of other.now section name) }
+        ensures { IsTrue result
+            ↔ ((section name : List ℕ)
+            → text_of self.now section name ≡ text_of other.now section name) }
     {
         self.sections == other.sections
     }
 
-    /// The names of the sections, in their order. It takes constant time and no memory.
+    /// Returns an iterator over the names of the sections, in their order.
+    ///
+    /// # Complexity
+    ///
+    /// Constant time. Does not allocate.
+    ///
+    /// # Examples
     ///
     /// ```
     /// page.sections().next().map(Name::text) // Some("Font")
@@ -167,7 +212,7 @@ impl Document {
     }
 }
 
-/// Prints as std prints a map of maps of texts: `{section: {name: text, ..}, ..}`, in their order.
+/// Prints the document as std prints a map of maps of texts, `{section: {name: text, ..}, ..}`, in order.
 impl fmt::Debug for Document {
     fn fmt<W: fmt::Write>(&self, f: &mut fmt::Formatter<W>) -> fmt::Result {
         write!(f, "{:?}", self.sections)

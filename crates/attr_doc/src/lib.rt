@@ -1,14 +1,14 @@
-//! Attribute documents: sections of texts, each under a name, in the order of their first setting.
+//! Attribute documents: sections of texts, each under a name, in the order in which they were first set.
 //!
-//! Names are the same in either case of their ASCII letters, and each stays as it was first written. A document is a
-//! [`VecMap`] of sections, each a `VecMap` of its texts, so each name is found by comparing one after another. They suit
-//! the documents that people write: some sections of some names, in an order that means something to them.
+//! Names ignore the case of ASCII letters, and each name stays as it was first written. A document is a [`VecMap`] of
+//! sections, and each section is a `VecMap` of its texts. So a name is found by comparing it with the stored names in
+//! order. This suits the documents that people write: a few sections with a few names, in an order that has a meaning.
 #![tactic(auto)]
 
 mod document;
+mod merge;
 mod name;
-mod rooms;
-mod setting;
+mod set;
 #[cfg(test)]
 mod tests;
 

@@ -1,4 +1,4 @@
-//! Names that are the same in either case of their ASCII letters.
+//! Names that ignore the case of ASCII letters.
 ghost use Rattle.attr_doc.specs.Names.{same_name};
 ghost use Rattle.std.specs.Cmp.{on_equiv, partial_equiv_from_equiv};
 ghost use Rattle.std.specs.Cmp.Lexicographic.{nat_list_eq_equiv};
@@ -8,7 +8,9 @@ ghost use Rattle.std.specs.Str.{str_to_ascii_lowercase};
 use std::fmt;
 use std::marker::Model;
 
-/// A name, as it was written. Any text may be one, the empty text too. A contract sees its bytes.
+/// A name, as it was written.
+///
+/// Any text can be a name, also the empty text. In contracts a name is its bytes.
 #[derive(Drop)]
 pub struct Name {
     text: String,
@@ -23,7 +25,13 @@ impl Model for Name {
 }
 
 impl Name {
-    /// The name with this text. It takes no memory.
+    /// Creates a name from its text.
+    ///
+    /// # Complexity
+    ///
+    /// Does not allocate.
+    ///
+    /// # Examples
     ///
     /// ```
     /// Name::new("Font".to_string(alloc)?) == Name::new("FONT".to_string(alloc)?) // true
@@ -34,7 +42,9 @@ impl Name {
         Name { text }
     }
 
-    /// The text, as it was handed in.
+    /// Returns the text of the name, as it was passed to [`Name::new`].
+    ///
+    /// # Examples
     ///
     /// ```
     /// Name::new("Font".to_string(alloc)?).text() // "Font"
@@ -46,8 +56,13 @@ impl Name {
     }
 }
 
-/// Two names are the same where their bytes are, once `A` to `Z` are read as `a` to `z`. Nothing else is folded: `Ä` and
-/// `ä` differ, and so do `a` and ` a`. It takes no memory.
+/// Compares the bytes of two names, with `A` to `Z` read as `a` to `z`.
+///
+/// No other bytes are folded: `Ä` and `ä` differ, and so do `a` and ` a`.
+///
+/// # Complexity
+///
+/// Does not allocate.
 impl PartialEq for Name {
     ghost eq = { same_name };
 
@@ -62,7 +77,7 @@ impl Eq for Name {
     ghost laws = { on_equiv str_to_ascii_lowercase nat_list_eq_equiv };
 }
 
-/// Prints the text, as it was handed in, as std prints a text: in quotes.
+/// Prints the text of the name as it was written, in quotes, as std prints a text.
 impl fmt::Debug for Name {
     fn fmt<W: fmt::Write>(&self, f: &mut fmt::Formatter<W>) -> fmt::Result {
         write!(f, "{:?}", self.text())

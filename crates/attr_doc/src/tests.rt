@@ -1,4 +1,4 @@
-//! Whole documents, each as it is printed.
+//! Tests of whole documents, which are compared as they are printed.
 mod examples;
 mod names;
 
@@ -8,7 +8,7 @@ use std::test::Fail;
 
 type Rows<'t> = &'t [(&'t str, &'t str, &'t str)];
 
-/// The document of these sets, each of a section, a name and a text, in turn.
+/// Creates a document by these calls of `set` in order, each with a section, a name and a text.
 fn document(alloc: Global, rows: &[(&str, &str, &str)]) -> Result<Document, AllocError> {
     let mut document = Document::new(alloc);
     for (section, name, text) in rows {
@@ -17,7 +17,7 @@ fn document(alloc: Global, rows: &[(&str, &str, &str)]) -> Result<Document, Allo
     Ok(document)
 }
 
-/// Sets one text, and answers the old one.
+/// Sets one text, and returns the previous one.
 fn set(
     alloc: Global,
     document: &mut Document,
@@ -33,12 +33,12 @@ fn set(
     }
 }
 
-/// The whole document.
+/// Prints the whole document.
 fn printed(alloc: Global, document: &Document) -> Result<String, AllocError> {
     format!(in alloc; "{document:?}")
 }
 
-/// The text under a section and a name.
+/// Returns the text under a section and a name.
 fn text<'d>(
     alloc: Global,
     document: &'d Document,
@@ -121,7 +121,7 @@ fn sets_in_order(rt: HostRuntime) -> Result<(), Fail> {
 }
 
 #[test]
-fn set_answers_the_old_text(rt: HostRuntime) -> Result<(), Fail> {
+fn set_returns_the_old_text(rt: HostRuntime) -> Result<(), Fail> {
     let mut document = Document::new(rt.alloc());
     for (section, name, new, old) in [
         ("Page", "Width", "5", None),
@@ -172,7 +172,7 @@ fn merges_sections(rt: HostRuntime) -> Result<(), Fail> {
     Ok(())
 }
 
-/// What a merge leaves of the two documents.
+/// Returns what a merge leaves of the two documents.
 fn merged(
     alloc: Global,
     first: &[(&str, &str, &str)],
@@ -208,7 +208,7 @@ fn merges_in_order(rt: HostRuntime) -> Result<(), Fail> {
     Ok(())
 }
 
-/// Whether two documents are the same, asked from either side.
+/// Returns whether two documents are the same, compared from either side.
 fn are_same(
     alloc: Global,
     first: &[(&str, &str, &str)],
@@ -234,7 +234,7 @@ fn same_ignores_order_and_case(rt: HostRuntime) -> Result<(), Fail> {
 }
 
 #[test]
-fn same_heeds_each_text(rt: HostRuntime) -> Result<(), Fail> {
+fn same_compares_each_text(rt: HostRuntime) -> Result<(), Fail> {
     let changed = [
         ("PAGE", "height", "9"),
         ("Page", "WIDTH", "6"),

@@ -1,4 +1,4 @@
--- Lemmas for common goals, as lists that a function names by `using(vecmap::proofs::Rules::..)`.
+-- Lemmas for common goals, in lists that a function names by `using(vecmap::proofs::Rules::..)`.
 use Rattle.std.specs.Prelude.{◌≡◌, Bool, Err, List, Ok, OnErr, Result, []}
 use Rattle.std.proofs.Common.{subst, sym}
 use Rattle.std.specs.List.{IsDistinct}
@@ -9,27 +9,27 @@ use Rattle.vecmap_base.proofs.DistinctLemmas.Keys.{distinct_put, distinct_puts}
 use Rattle.vecmap_base.proofs.ItemsLemmas.Places.{item_index_add, slice_get_add}
 use Rattle.vecmap_base.proofs.PairsLemmas.Keys.{keys_of_put, keys_of_puts}
 
--- an empty list has no two equal keys
+-- An empty list has no two equal keys.
 pub distinct_empty : {K V : Type 0} (eq : K → K → Bool) (l : List (K × V)) → l ≡ [] → HasDistinctKeys eq l
 distinct_empty eq l e = subst (HasDistinctKeys eq) (sym e) (distinct_none eq)
 
--- which keys there are after a put and after many
+-- The keys after an insertion and after many.
 pub ruleset keys = (keys_of_put, keys_of_puts)
 
--- keys that are distinct in an empty list, after a put and after many
+-- The keys are distinct in an empty list, after an insertion and after many.
 pub ruleset distinct_keys = (distinct_empty, distinct_put, distinct_puts)
 
--- an empty list has no two equal elements
+-- An empty list has no two equal elements.
 pub distinct_no_elements : {T : Type 0} (eq : T → T → Bool) (s : List T) → s ≡ [] → IsDistinct eq s
 distinct_no_elements eq s e = subst (IsDistinct eq) (sym e) (distinct_none eq)
 
--- where elements stand after an addition, and that it moves none
+-- The indices of elements after an addition, which moves no element.
 pub ruleset elements = (item_index_add, slice_get_add)
 
--- elements that are distinct in an empty list, after an addition and after many
+-- The elements are distinct in an empty list, after an addition and after many.
 pub ruleset distinct_elements = (distinct_no_elements, distinct_add, distinct_adds)
 
--- a fact, as a clause on errors states it
+-- A fact, as a clause on errors states it.
 pub on_err : {T E P : Type 0} (r : Result T E) → P → OnErr r P
 on_err (Ok x) p = tt
 on_err (Err e) p = p

@@ -1,4 +1,4 @@
--- Worked examples: runs of commands, with numbers as keys and values.
+-- Worked examples: runs of commands, with numbers as keys and values. Each follows by computation.
 use Rattle.std.specs.Prelude.{ℕ, List, [], ◌∷◌, None, Some, nat_eq, refl}
 use Rattle.std.proofs.Common.{arith}
 use Rattle.std.specs.declared.clone.Clone as clone

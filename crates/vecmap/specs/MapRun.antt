@@ -1,4 +1,4 @@
--- What the commands of `run` do to a map, one after another.
+-- What the commands of `run` do to a map, in order.
 use Rattle.std.specs.Prelude.{◌≡◌, ◌-◌, ◌<◌, ◌≤◌, ◌++◌, None, Bool, IsSomeAnd, List, Option, [], ◌∷◌, drop, is_some, length, not, remove, reverse, slice_get, swap, take, ⊤}
 use Rattle.std.specs.Option.{option_map_or}
 use Rattle.std.specs.declared.clone.Clone as clone
@@ -14,28 +14,28 @@ use Rattle.vecmap_base.specs.Pairs.{index_of, index_or_length, lookup, lookup_fu
 use Rattle.vecmap_map.specs.Contents.{Contents, HasRoom, IsFull, KeepsRoom}
 
 module _ {K V : Type 0} (values : clone.Ghosts V) where
-  -- a clone of the value, if there is one, was answered; or none, for want of memory, where its clone may fail
+  -- The reply is a clone of the value, if there is one. It is `NoMemory` only if the clone can fail.
   abbrev pub ClonesValue : Option V → MapReply K V → Type 0
   ClonesValue value (Value copy) = IsCloneOf values.is_clone value copy
   ClonesValue value NoMemory = IsSomeAnd value (λ v. ¬ (values.is_infallible v))
   ClonesValue value _ = ⊥
 
 module _ {K V : Type 0} (keys : clone.Ghosts K) (values : clone.Ghosts V) where
-  -- the same of a pair
+  -- The same for a pair.
   abbrev pub ClonesPair : Option (K × V) → MapReply K V → Type 0
   ClonesPair pair (Pair copy) = IsCloneOf (IsPairClone keys.is_clone values.is_clone) pair copy
   ClonesPair pair NoMemory = IsSomeAnd pair (λ p. ¬ (keys.is_infallible p.0 × values.is_infallible p.1))
   ClonesPair pair _ = ⊥
 
-  -- clones of all pairs were answered, or none, for want of memory
+  -- The reply is clones of all pairs, or `NoMemory`.
   abbrev pub ClonesPairs : List (K × V) → MapReply K V → Type 0
   ClonesPairs l (Pairs copies) = ArePairClones keys.is_clone values.is_clone l copies.items
   ClonesPairs l NoMemory = ⊤
   ClonesPairs l _ = ⊥
 
 module _ {K V : Type 0} (eq : K → K → Bool) (eq_value : V → V → Bool) (keys : clone.Ghosts K) (values : clone.Ghosts V) where
-  -- one command takes the list l to the list m, and is answered so. A command that reads, is out of range or is refused
-  -- leaves the list
+  -- One command with this reply takes the list l to the list m. A command that reads, is out of range or is refused
+  -- leaves the list.
   abbrev pub ListStep : List (K × V) → MapCommand K V → MapReply K V → List (K × V) → Type 0
   ListStep l (Insert k v) (Value old) m = (old ≡ lookup eq l k) × (m ≡ put eq l k v)
   ListStep l (Insert k v) NoMemory m = (index_of eq l k ≡ None) × (m ≡ l)
@@ -99,13 +99,13 @@ module _ {K V : Type 0} (eq : K → K → Bool) (eq_value : V → V → Bool) (k
   ListStep l (Equals other) (Truth same) m = (same ≡ has_same_counts eq eq_value l other.entries) × (m ≡ l)
   ListStep l (Equals other) _ m = ⊥
 
-  -- the room where a key is put: only a new one that finds the map full needs memory
+  -- The capacity after a pair is inserted: only a new key in a full map needs memory.
   abbrev pub PutsInRoom : K → Contents K V → MapReply K V → Contents K V → Type 0
   PutsInRoom k m OutOfRange n = n.capacity ≡ m.capacity
   PutsInRoom k m NoMemory n = IsFull m × (n.capacity ≡ m.capacity)
   PutsInRoom k m reply n = KeepsRoom eq m k n
 
-  -- what becomes of the capacity: all commands but those that put keep it, and a refused one does
+  -- What becomes of the capacity: all commands but those that insert keep it, and so does a refused command.
   abbrev pub CapacityStep : Contents K V → MapCommand K V → MapReply K V → Contents K V → Type 0
   CapacityStep m (Insert k v) reply n = PutsInRoom k m reply n
   CapacityStep m (InsertFull k v) reply n = PutsInRoom k m reply n
@@ -116,19 +116,19 @@ module _ {K V : Type 0} (eq : K → K → Bool) (eq_value : V → V → Bool) (k
   CapacityStep m (Append other) reply n = (m.capacity ≤ n.capacity) × (HasRoom m (length other.entries) → n.capacity ≡ m.capacity)
   CapacityStep m command reply n = n.capacity ≡ m.capacity
 
-  -- one command takes the map m to the map n, list and capacity, and is answered so
+  -- One command with this reply takes the map m to the map n: the list and what becomes of the capacity.
   abbrev pub Effect : Contents K V → MapCommand K V → MapReply K V → Contents K V → Type 0
   Effect m command reply n = ListStep m.entries command reply n.entries × CapacityStep m command reply n
 
-  -- what becomes of the room: the capacity, which is no less than the number of pairs
+  -- What becomes of the capacity, which is at least the number of pairs.
   abbrev pub RoomStep : Contents K V → MapCommand K V → MapReply K V → Contents K V → Type 0
   RoomStep m command reply n = CapacityStep m command reply n × (length n.entries ≤ n.capacity)
 
-  -- one command takes the map m to the map n, list and room, and is answered so
+  -- One command with this reply takes the map m to the map n, whose pairs fit its capacity.
   abbrev pub Step : Contents K V → MapCommand K V → MapReply K V → Contents K V → Type 0
   Step m command reply n = ListStep m.entries command reply n.entries × RoomStep m command reply n
 
-  -- the commands, one after another, take the list l to the list m, and each has one reply
+  -- The commands, in order, take the list l to the list m, and each has one reply.
   abbrev pub ListRun : List (K × V) → List (MapCommand K V) → List (MapReply K V) → List (K × V) → Type 0
   ListRun l [] [] m = m ≡ l
   ListRun l (command ∷ commands) (reply ∷ replies) m =
@@ -136,7 +136,7 @@ module _ {K V : Type 0} (eq : K → K → Bool) (eq_value : V → V → Bool) (k
   ListRun l [] (reply ∷ replies) m = ⊥
   ListRun l (command ∷ commands) [] m = ⊥
 
-  -- the same of a map, list and room
+  -- The same for a map, with its list and its capacity.
   abbrev pub Run : Contents K V → List (MapCommand K V) → List (MapReply K V) → Contents K V → Type 0
   Run m [] [] n = n ≡ m
   Run m (command ∷ commands) (reply ∷ replies) n =

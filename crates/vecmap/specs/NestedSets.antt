@@ -4,15 +4,15 @@ use Rattle.std.specs.Option.{option_map_or}
 use Rattle.vecmap_base.specs.Pairs.{lookup_by}
 use Rattle.vecmap_set.specs.Contents.{Contents}
 
--- a set as it is made empty, by `new` or `or_default`
+-- A set as `new` or `or_default` creates it, empty.
 abbrev pub IsMadeEmptySet : {T : Type 0} → Contents T → Type 0
 IsMadeEmptySet s = (s.elements ≡ []) × (s.capacity ≡ 0)
 
 module _ {K T : Type 0} where
-  -- the elements of the set under the first key that passes the test, or none where there is no such key
+  -- The elements of the set of the first key that passes the test, or none if there is no such key.
   abbrev pub inner_elements_by : (K → Bool) → List (K × Contents T) → List T
   inner_elements_by test l = option_map_or (λ s. s.elements) (lookup_by test l) []
 
-  -- the same under the first key that is equal to k
+  -- The same for the first key that is equal to k.
   abbrev pub inner_elements : (K → K → Bool) → List (K × Contents T) → K → List T
   inner_elements eq l k = inner_elements_by (eq k) l

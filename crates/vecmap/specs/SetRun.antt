@@ -1,4 +1,4 @@
--- What the commands of `run_set` do to a set, one after another.
+-- What the commands of `run_set` do to a set, in order.
 use Rattle.std.specs.Prelude.{◌≡◌, ◌-◌, ◌<◌, ◌≤◌, ◌↔◌, Bool, Err, IsSomeAnd, IsTrue, List, Ok, Option, Result, [], ◌∷◌, drop, false, length, not, remove, reverse, slice_get, swap, take, ⊤}
 use Rattle.std.specs.List.{IsDistinct}
 use Rattle.std.specs.declared.clone.Clone as clone
@@ -13,33 +13,33 @@ use Rattle.vecmap_set.specs.Contents.{Contents, HasRoom, KeepsRoom}
 use Rattle.vecmap_set.specs.Operators.{symmetric_difference_of, union_of}
 
 module _ {T : Type 0} where
-  -- what was made was answered, or want of memory
+  -- The reply is the set that was created, or `NoMemory`.
   abbrev pub Makes : {E : Type 0} → Result (Contents T) E → SetReply T → Type 0
   Makes (Ok set) reply = reply ≡ Made set
   Makes (Err e) reply = reply ≡ NoMemory
 
 module _ {T : Type 0} (clones : clone.Ghosts T) where
-  -- a clone of the element, if there is one, was answered; or none, for want of memory, where its clone may fail
+  -- The reply is a clone of the element, if there is one. It is `NoMemory` only if the clone can fail.
   abbrev pub ClonesItem : Option T → SetReply T → Type 0
   ClonesItem item (Item copy) = IsCloneOf clones.is_clone item copy
   ClonesItem item NoMemory = IsSomeAnd item (λ x. ¬ (clones.is_infallible x))
   ClonesItem item _ = ⊥
 
-  -- clones of all elements were answered, or none, for want of memory
+  -- The reply is clones of all elements, or `NoMemory`.
   abbrev pub ClonesItems : List T → SetReply T → Type 0
   ClonesItems l (Items copies) = AreClones clones.is_clone l copies.items
   ClonesItems l NoMemory = ⊤
   ClonesItems l _ = ⊥
 
 module _ {T : Type 0} (eq : T → T → Bool) (clones : clone.Ghosts T) where
-  -- a set of clones of the list was answered, or none, for want of memory
+  -- The reply is a set of clones of the list, or `NoMemory`.
   abbrev pub MakesSet : List T → SetReply T → Type 0
   MakesSet l (Made set) = AreClones clones.is_clone l set.elements × IsDistinct eq set.elements
   MakesSet l NoMemory = ⊤
   MakesSet l _ = ⊥
 
-  -- one command takes the list l to the list m, and is answered so. A command that reads, is out of range or is refused
-  -- leaves the list
+  -- One command with this reply takes the list l to the list m. A command that reads, is out of range or is refused
+  -- leaves the list.
   abbrev pub ListStep : List T → SetCommand T → SetReply T → List T → Type 0
   ListStep l (Insert x) (Truth added) m = (added ≡ not (has_item eq l x)) × (m ≡ add eq l x)
   ListStep l (Insert x) NoMemory m = (has_item eq l x ≡ false) × (m ≡ l)
@@ -103,12 +103,12 @@ module _ {T : Type 0} (eq : T → T → Bool) (clones : clone.Ghosts T) where
   ListStep l (Exclusive other) reply m = MakesSet (symmetric_difference_of eq l other.elements) reply × (m ≡ l)
   ListStep l (Subtract other) reply m = MakesSet (only eq l other.elements) reply × (m ≡ l)
 
-  -- the room where an element is added: only a new one that finds the set full needs memory
+  -- The capacity after an element is added: only a new element in a full set needs memory.
   abbrev pub AddsInRoom : T → Contents T → SetReply T → Contents T → Type 0
   AddsInRoom x s NoMemory t = (length s.elements ≡ s.capacity) × (t.capacity ≡ s.capacity)
   AddsInRoom x s reply t = KeepsRoom eq s x t
 
-  -- what becomes of the capacity: all commands but those that add keep it, and a refused one does
+  -- What becomes of the capacity: all commands but those that add keep it, and so does a refused command.
   abbrev pub CapacityStep : Contents T → SetCommand T → SetReply T → Contents T → Type 0
   CapacityStep s (Insert x) reply t = AddsInRoom x s reply t
   CapacityStep s (Replace x) reply t = AddsInRoom x s reply t
@@ -116,19 +116,19 @@ module _ {T : Type 0} (eq : T → T → Bool) (clones : clone.Ghosts T) where
   CapacityStep s (Append other) reply t = (s.capacity ≤ t.capacity) × (HasRoom s (length other.elements) → t.capacity ≡ s.capacity)
   CapacityStep s command reply t = t.capacity ≡ s.capacity
 
-  -- one command takes the set s to the set t, list and capacity, and is answered so
+  -- One command with this reply takes the set s to the set t: the list and what becomes of the capacity.
   abbrev pub Effect : Contents T → SetCommand T → SetReply T → Contents T → Type 0
   Effect s command reply t = ListStep s.elements command reply t.elements × CapacityStep s command reply t
 
-  -- what becomes of the room: the capacity, which is no less than the number of elements
+  -- What becomes of the capacity, which is at least the number of elements.
   abbrev pub RoomStep : Contents T → SetCommand T → SetReply T → Contents T → Type 0
   RoomStep s command reply t = CapacityStep s command reply t × (length t.elements ≤ t.capacity)
 
-  -- one command takes the set s to the set t, list and room, and is answered so
+  -- One command with this reply takes the set s to the set t, whose elements fit its capacity.
   abbrev pub StepSet : Contents T → SetCommand T → SetReply T → Contents T → Type 0
   StepSet s command reply t = ListStep s.elements command reply t.elements × RoomStep s command reply t
 
-  -- the commands, one after another, take the list l to the list m, and each has one reply
+  -- The commands, in order, take the list l to the list m, and each has one reply.
   abbrev pub ListRun : List T → List (SetCommand T) → List (SetReply T) → List T → Type 0
   ListRun l [] [] m = m ≡ l
   ListRun l (command ∷ commands) (reply ∷ replies) m =
@@ -136,7 +136,7 @@ module _ {T : Type 0} (eq : T → T → Bool) (clones : clone.Ghosts T) where
   ListRun l [] (reply ∷ replies) m = ⊥
   ListRun l (command ∷ commands) [] m = ⊥
 
-  -- the same of a set, list and room
+  -- The same for a set, with its list and its capacity.
   abbrev pub RunSet : Contents T → List (SetCommand T) → List (SetReply T) → Contents T → Type 0
   RunSet s [] [] t = t ≡ s
   RunSet s (command ∷ commands) (reply ∷ replies) t =

@@ -1,4 +1,5 @@
-//! Laws of runs of commands, and of sets in maps. A call of one costs nothing, and gives a proof the law.
+//! Laws of runs of commands, and of sets in maps. A call of a law costs nothing at run time, and gives the law to a
+//! proof.
 ghost use Rattle.std.specs.Option.{UnwrapsOrElse};
 ghost use Rattle.std.specs.Prelude.{◌≡◌, Bool, List, Option, false, map};
 ghost use Rattle.vecmap.specs.NestedSets.{IsMadeEmptySet, inner_elements};
@@ -19,38 +20,73 @@ ghost use Rattle.vecmap_map.specs.Entry.{entries_with, entry_key, entry_map, ent
 ghost use Rattle.vecmap_map.specs.declared.entry.Entry.{Entry};
 ghost use Rattle.vecmap_set.specs.Contents as set_contents;
 
-/// What a run does to a map it does to the list of its pairs, whatever the room.
+/// What a run does to a map, it does to the list of its pairs, whatever the capacity.
 pub fn runs_of_maps_are_of_lists<K: Eq + Clone, V: Eq + Clone>()
-    ensures { (m : Contents K V) (commands : List (MapCommand K V)) (replies : List (MapReply K V)) (n : Contents K V) → Run K.eq V.eq K.Clone V.Clone m commands replies n → ListRun K.eq V.eq K.Clone V.Clone m.entries commands replies n.entries }
+    ensures { (m : Contents K V) (commands : List (MapCommand K V)) (replies : List (MapReply K V))
+        (n : Contents K V) → Run K.eq V.eq K.Clone V.Clone m commands replies n
+        → ListRun K.eq V.eq K.Clone V.Clone m.entries commands replies n.entries }
 {}
 
-/// What a run does to a set it does to the list of its elements, whatever the room.
+/// What a run does to a set, it does to the list of its elements, whatever the capacity.
 pub fn runs_of_sets_are_of_lists<T: Eq + Clone>()
-    ensures { (s : set_contents.Contents T) (commands : List (SetCommand T)) (replies : List (SetReply T)) (t : set_contents.Contents T) → sets.RunSet T.eq T.Clone s commands replies t → sets.ListRun T.eq T.Clone s.elements commands replies t.elements }
+    ensures { (s : set_contents.Contents T) (commands : List (SetCommand T))
+        (replies : List (SetReply T)) (t : set_contents.Contents T)
+        → sets.RunSet T.eq T.Clone s commands replies t
+        → sets.ListRun T.eq T.Clone s.elements commands replies t.elements }
 {}
 
-/// A run of insertions that are all granted leaves what one bulk insertion of the pairs does.
+/// A run of insertions that all succeed leaves what one bulk insertion of the pairs does.
 pub fn runs_of_insertions_are_bulk_insertions<K: Eq + Clone, V: Eq + Clone>()
-    ensures { (l pairs : List (K × V)) (olds : List (Option V)) (m : List (K × V)) → ListRun K.eq V.eq K.Clone V.Clone l (map (λ p. Insert p.0 p.1) pairs) (map Value olds) m → m ≡ puts K.eq l pairs }
+    ensures { (l pairs : List (K × V)) (olds : List (Option V)) (m : List (K × V))
+        → ListRun K.eq V.eq K.Clone V.Clone l (map (λ p. Insert p.0 p.1) pairs) (map Value olds) m
+        → m ≡ puts K.eq l pairs }
 {}
 
-/// A run of additions that are all granted leaves what one bulk addition of the elements does.
+/// A run of additions that all succeed leaves what one bulk addition of the elements does.
 pub fn runs_of_additions_are_bulk_additions<T: Eq + Clone>()
-    ensures { (l xs : List T) (added : List Bool) (m : List T) → sets.ListRun T.eq T.Clone l (map set_commands.Insert xs) (map Truth added) m → m ≡ adds T.eq l xs }
+    ensures { (l xs : List T) (added : List Bool) (m : List T)
+        → sets.ListRun T.eq T.Clone l (map set_commands.Insert xs) (map Truth added) m
+        → m ≡ adds T.eq l xs }
 {}
 
-/// In a map of sets, an addition to the set of a key adds to the key's inner elements, also where that set was made empty
-/// just before, as by `or_default`. The inner elements of other keys stay, and a set that is only made empty changes none.
+/// In a map of sets, an addition to the set of a key adds to the inner elements of that key.
 ///
-/// The clauses that begin with `entry` say it of the map that an entry's call leaves, in the words of these calls. For a
-/// map of maps it is `map::laws::inner_insertions_are_found`.
+/// This also holds if the set was just created empty, as by `or_default`. The inner elements of other keys stay, and a
+/// set that is only created empty changes none. The clauses that begin with `entry` say this of the map that the call
+/// of an entry leaves, in the words of these calls. `map::laws::inner_insertions_are_found` is the law for a map of
+/// maps.
 pub fn inner_additions_are_found<K: Eq, T: Eq>()
-    ensures made { (l : List (K × set_contents.Contents T)) (k : K) (s : set_contents.Contents T) → UnwrapsOrElse (lookup K.eq l k) IsMadeEmptySet s → s.elements ≡ inner_elements K.eq l k }
-    ensures elements { (l : List (K × set_contents.Contents T)) (k : K) (s : set_contents.Contents T) → inner_elements K.eq (put K.eq l k s) k ≡ s.elements }
-    ensures written { (l : List (K × set_contents.Contents T)) (k : K) (before after : set_contents.Contents T) (x : T) → UnwrapsOrElse (lookup K.eq l k) IsMadeEmptySet before → after.elements ≡ add T.eq before.elements x → inner_elements K.eq (put K.eq l k after) k ≡ add T.eq (inner_elements K.eq l k) x }
-    ensures others { (l : List (K × set_contents.Contents T)) (k : K) (s : set_contents.Contents T) (q : K) → K.eq k q ≡ false → inner_elements K.eq (put K.eq l k s) q ≡ inner_elements K.eq l q }
-    ensures entry { (l : List (K × set_contents.Contents T)) (m : Contents K (set_contents.Contents T)) (k : K) (e : Entry K (set_contents.Contents T)) (before after : set_contents.Contents T) (x : T) → l ≡ entries_with e after → after.elements ≡ add T.eq before.elements x → UnwrapsOrElse (entry_value e) IsMadeEmptySet before → entry_map e ≡ m → entry_key e ≡ k → entry_place e ≡ index_of K.eq m.entries k → inner_elements K.eq l k ≡ add T.eq (inner_elements K.eq m.entries k) x }
-    ensures entry_others { (l : List (K × set_contents.Contents T)) (m : Contents K (set_contents.Contents T)) (k : K) (e : Entry K (set_contents.Contents T)) (s : set_contents.Contents T) → l ≡ entries_with e s → entry_map e ≡ m → entry_key e ≡ k → entry_place e ≡ index_of K.eq m.entries k → (q : K) → K.eq k q ≡ false → inner_elements K.eq l q ≡ inner_elements K.eq m.entries q }
-    ensures entry_unchanged { (l : List (K × set_contents.Contents T)) (m : Contents K (set_contents.Contents T)) (k : K) (e : Entry K (set_contents.Contents T)) (before after : set_contents.Contents T) → l ≡ entries_with e after → after ≡ before → UnwrapsOrElse (entry_value e) IsMadeEmptySet before → entry_map e ≡ m → entry_key e ≡ k → entry_place e ≡ index_of K.eq m.entries k → (q : K) → inner_elements K.eq l q ≡ inner_elements K.eq m.entries q }
-    ensures unchanged { (l : List (K × set_contents.Contents T)) (k : K) (s : set_contents.Contents T) → UnwrapsOrElse (lookup K.eq l k) IsMadeEmptySet s → (q : K) → inner_elements K.eq (put K.eq l k s) q ≡ inner_elements K.eq l q }
+    ensures made { (l : List (K × set_contents.Contents T)) (k : K) (s : set_contents.Contents T)
+        → UnwrapsOrElse (lookup K.eq l k) IsMadeEmptySet s → s.elements ≡ inner_elements K.eq l k }
+    ensures elements { (l : List (K × set_contents.Contents T)) (k : K)
+        (s : set_contents.Contents T) → inner_elements K.eq (put K.eq l k s) k ≡ s.elements }
+    ensures written { (l : List (K × set_contents.Contents T)) (k : K)
+        (before after : set_contents.Contents T) (x : T)
+        → UnwrapsOrElse (lookup K.eq l k) IsMadeEmptySet before
+        → after.elements ≡ add T.eq before.elements x
+        → inner_elements K.eq (put K.eq l k after) k ≡ add T.eq (inner_elements K.eq l k) x }
+    ensures others { (l : List (K × set_contents.Contents T)) (k : K) (s : set_contents.Contents T)
+        (q : K) → K.eq k q ≡ false
+        → inner_elements K.eq (put K.eq l k s) q ≡ inner_elements K.eq l q }
+    ensures entry { (l : List (K × set_contents.Contents T))
+        (m : Contents K (set_contents.Contents T)) (k : K) (e : Entry K (set_contents.Contents T))
+        (before after : set_contents.Contents T) (x : T) → l ≡ entries_with e after
+        → after.elements ≡ add T.eq before.elements x
+        → UnwrapsOrElse (entry_value e) IsMadeEmptySet before → entry_map e ≡ m → entry_key e ≡ k
+        → entry_place e ≡ index_of K.eq m.entries k
+        → inner_elements K.eq l k ≡ add T.eq (inner_elements K.eq m.entries k) x }
+    ensures entry_others { (l : List (K × set_contents.Contents T))
+        (m : Contents K (set_contents.Contents T)) (k : K) (e : Entry K (set_contents.Contents T))
+        (s : set_contents.Contents T) → l ≡ entries_with e s → entry_map e ≡ m → entry_key e ≡ k
+        → entry_place e ≡ index_of K.eq m.entries k → (q : K) → K.eq k q ≡ false
+        → inner_elements K.eq l q ≡ inner_elements K.eq m.entries q }
+    ensures entry_unchanged { (l : List (K × set_contents.Contents T))
+        (m : Contents K (set_contents.Contents T)) (k : K) (e : Entry K (set_contents.Contents T))
+        (before after : set_contents.Contents T) → l ≡ entries_with e after → after ≡ before
+        → UnwrapsOrElse (entry_value e) IsMadeEmptySet before → entry_map e ≡ m → entry_key e ≡ k
+        → entry_place e ≡ index_of K.eq m.entries k → (q : K)
+        → inner_elements K.eq l q ≡ inner_elements K.eq m.entries q }
+    ensures unchanged { (l : List (K × set_contents.Contents T)) (k : K)
+        (s : set_contents.Contents T) → UnwrapsOrElse (lookup K.eq l k) IsMadeEmptySet s → (q : K)
+        → inner_elements K.eq (put K.eq l k s) q ≡ inner_elements K.eq l q }
 {}

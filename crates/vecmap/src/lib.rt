@@ -1,4 +1,4 @@
-//! Ordered maps and sets by equality, each over one vector: all that users name.
+//! Maps and sets that keep insertion order and compare by `==`, each over one vector: all that users name.
 #![tactic(auto)]
 
 pub mod laws;

@@ -1,4 +1,4 @@
-//! `vecmap!` and `vecset!`, and what they call.
+//! The macros `vecmap!` and `vecset!`, and the functions that they call.
 ghost use Rattle.std.specs.Prelude.{◌≡◌, IsTrue, OnErr, OnOk};
 ghost use Rattle.std.specs.List.{IsDistinct};
 ghost use Rattle.vecmap_base.specs.Items.{add, has_item};
@@ -9,10 +9,17 @@ ghost use Rattle.vecmap_set.specs.Contents.{KeepsRoom as SetKeepsRoom, Refuses a
 use crate::{VecMap, VecSet};
 use std::alloc::AllocError;
 
-/// A map of these pairs: room for as many, and then an `insert` of each in turn. It stands in a function's body, and
-/// hands want of memory on by `?`, as an `AllocError`.
+/// Creates a map of the given pairs, in order.
 ///
-/// `vecmap!(alloc; "a" => 1, "b" => 2)` gives the map of two pairs, and `vecmap!(alloc;)` the empty one.
+/// The macro reserves capacity for all pairs, and then inserts each of them. `vecmap!(alloc; "a" => 1, "b" => 2)`
+/// creates a map of two pairs, and `vecmap!(alloc;)` an empty one. It is used in the body of a function, because it
+/// returns an error by `?`.
+///
+/// # Errors
+///
+/// [`AllocError`] if the allocator refuses a request.
+///
+/// # Examples
 ///
 /// ```
 /// let map = vecmap!(alloc; 'a' => 1, 'b' => 2, 'a' => 3);
@@ -28,10 +35,17 @@ macro_rules! vecmap {
     }};
 }
 
-/// A set of these elements: room for as many, and then an `insert` of each in turn. It stands in a function's body, and
-/// hands want of memory on by `?`, as an `AllocError`.
+/// Creates a set of the given elements, in order.
 ///
-/// `vecset!(alloc; 2, 1)` gives the set of two elements, and `vecset!(alloc;)` the empty one.
+/// The macro reserves capacity for all elements, and then inserts each of them. `vecset!(alloc; 2, 1)` creates a set of
+/// two elements, and `vecset!(alloc;)` an empty one. It is used in the body of a function, because it returns an error
+/// by `?`.
+///
+/// # Errors
+///
+/// [`AllocError`] if the allocator refuses a request.
+///
+/// # Examples
 ///
 /// ```
 /// let set = vecset!(alloc; 2, 1, 2);
@@ -47,8 +61,14 @@ macro_rules! vecset {
     }};
 }
 
-/// As `insert` of the map, at the same cost, with `AllocError`. The old value is dropped. Refused, the pair is dropped and
-/// the map is as before.
+/// Like [`VecMap::insert`], with the same cost, but drops the previous value.
+///
+/// # Errors
+///
+/// [`AllocError`] if the map is full and the allocator refuses to grow it. The pair is then dropped, and the map is
+/// unchanged.
+///
+/// # Examples
 ///
 /// ```
 /// let mut map = VecMap::new(alloc);
@@ -68,7 +88,14 @@ pub fn put_pair<K: Eq + Drop, V: Drop>(
     Ok(())
 }
 
-/// As `insert` of the set, at the same cost, with `AllocError`. Refused, the element is dropped and the set is as before.
+/// Like [`VecSet::insert`], with the same cost, but does not return whether the element is new.
+///
+/// # Errors
+///
+/// [`AllocError`] if the set is full and the allocator refuses to grow it. The element is then dropped, and the set is
+/// unchanged.
+///
+/// # Examples
 ///
 /// ```
 /// let mut set = VecSet::new(alloc);

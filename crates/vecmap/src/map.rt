@@ -1,11 +1,11 @@
 //! The map, with the types that go with it.
 //!
-//! What a call does, its contract and an example stand at the call. The calls by topic, in the order of the Rust crate's
-//! documentation, with their files in `crates/vecmap_map/src`:
+//! Each call has a comment, a contract and an example where it is defined. These are the calls by topic, in the order
+//! of the Rust crate's documentation, with their files in `crates/vecmap_map/src`:
 //!
-//! - made and taken apart: `new`, `with_capacity`, `as_slice`, `into_vec`, `clone`, `allocator` (`make.rt`); the trait
-//!   `Clone` (`cloning.rt`)
-//! - size and room: `len`, `is_empty`, `capacity`, `reserve`, `reserve_exact`, `try_reserve`, `try_reserve_exact`,
+//! - creation and taking apart: `new`, `with_capacity`, `as_slice`, `into_vec`, `clone`, `allocator` (`make.rt`); the
+//!   trait `Clone` (`cloning.rt`)
+//! - size and capacity: `len`, `is_empty`, `capacity`, `reserve`, `reserve_exact`, `try_reserve`, `try_reserve_exact`,
 //!   `shrink_to_fit`, `shrink_to` (`room.rt`)
 //! - removal: `clear`, `truncate`, `split_off`, `drain`, `retain`, `pop`, `remove`, `remove_entry`, `remove_index`,
 //!   `swap_remove`, `swap_remove_entry`, `swap_remove_index`, `remove_str` (`removal.rt`)
@@ -13,19 +13,19 @@
 //!   `sort_unstable_by` (`order.rt`)
 //! - binary searches: `binary_search_keys`, `binary_search_by`, `binary_search_by_key`, `partition_point` (`search.rt`)
 //! - lookups: `contains_key`, `first`, `last`, `get`, `get_index`, `get_full`, `get_key_value`, `get_index_of`,
-//!   `has_distinct_keys`, and those by a text that end in `_str` (`lookup.rt`)
-//! - lookups that lend a value to write: `get_mut`, `first_mut`, `last_mut`, `get_full_mut`, `get_index_mut`
-//!   (`lending.rt`); `map[index]`, `map[&key]`, `map["text"]` (`indexing.rt`)
+//!   `has_distinct_keys`, and those by a text, whose names end in `_str` (`lookup.rt`)
+//! - lookups that return a mutable reference to a value: `get_mut`, `first_mut`, `last_mut`, `get_full_mut`,
+//!   `get_index_mut` (`lending.rt`); `map[index]`, `map[&key]`, `map["text"]` (`indexing.rt`)
 //! - insertion: `insert`, `insert_full`, `insert_key`, `insert_at` (`insertion.rt`)
-//! - many at once: `from_iter`, `from_slice`, `append`, `extend`, `extend_refs`, `extend_pairs`, collecting (`bulk.rt`);
-//!   the trait `Extend` (`extending.rt`);
-//!   `From<Vec>`, `from_vec_counted`, `from_vec_unchecked`, `to_vec` (`conversion.rt`)
+//! - many pairs at once: `from_iter`, `from_slice`, `append`, `extend`, `extend_refs`, `extend_pairs`, `collect`
+//!   (`bulk.rt`); the trait `Extend` (`extending.rt`); `From<Vec>`, `from_vec_counted`, `from_vec_unchecked`, `to_vec`
+//!   (`conversion.rt`)
 //! - entries: `entry`, `Entry` (`entry.rt`), `OccupiedEntry` (`entry/occupied.rt`), `VacantEntry` (`entry/vacant.rt`)
 //! - iteration: `iter`, `iter_mut`, `keys`, `values`, `values_mut`, `into_keys`, `into_values`, loops (`iteration.rt`);
 //!   the iterators themselves (`iter/pairs.rt`, `iter/keys.rt`, `iter/values.rt` and `iter_mut.rt` of
 //!   `crates/vecmap_base/src`); `Drain` (`drain.rt`)
-//! - keys lent to be written: `MutableKeys`, with `get_full_mut2`, `get_index_mut2`, `retain2`, `iter_mut2`, `keys_mut`
-//!   (`mutable_keys.rt`)
+//! - mutable references to keys: `MutableKeys`, with `get_full_mut2`, `get_index_mut2`, `retain2`, `iter_mut2`,
+//!   `keys_mut` (`mutable_keys.rt`)
 //! - `==` (`equality.rt`), `Debug` (`formatting.rt`), laws for proofs (`laws.rt`, `laws/collecting.rt`,
 //!   `laws/nested.rt`, `laws/puts.rt`, `laws/queries.rt`, `laws/writes.rt`)
 pub use vecmap_base::{

@@ -12,17 +12,27 @@ use self::step::step;
 use std::alloc::{AllocError, Global};
 use vecmap_map::VecMap;
 
-/// Runs the commands in turn, and gives their replies, one each.
+/// Runs the commands in order, and returns one reply for each.
 ///
-/// Room for the replies is made first. Where there is none, no command runs and the map is as before. A command that is
-/// out of range or refused memory changes nothing, what it carried is dropped, and the run goes on.
+/// Capacity for the replies is reserved first. A command that is out of range, or for which the allocator refuses a
+/// request, changes nothing. What it carried is dropped, and the run continues.
 ///
-/// It takes one block of memory for the replies. Each command takes what its call does, and a clone of what that lends.
+/// # Errors
+///
+/// [`AllocError`] if the allocator refuses the capacity for the replies; no command has then run, and the map is
+/// unchanged.
+///
+/// # Complexity
+///
+/// One allocation for the replies. Each command costs what its call does, and a clone of what the call lends.
+///
+/// # Examples
 ///
 /// ```
 /// let mut map = vecmap!(alloc; 'a' => 1);
 /// let commands = vec![in alloc; MapCommand::Insert('b', 2), MapCommand::Get('a'), MapCommand::RemoveIndex(2)]?;
-/// run(alloc, &mut map, commands)? // [Value(None), Value(Some(1)), OutOfRange]
+/// let replies = run(alloc, &mut map, commands)?;
+/// format!(in alloc; "{replies:?}")?.as_str() // "[Value(None), Value(Some(1)), OutOfRange]"
 /// map.as_slice() // [('a', 1), ('b', 2)]
 /// ```
 pub fn run<K: Eq + Clone, V: Eq + Clone>(

@@ -1,23 +1,22 @@
 //! The set, with the types that go with it.
 //!
-//! What a call does, its contract and an example stand at the call. The calls by topic, in the order of the Rust crate's
-//! documentation, with their files in `crates/vecmap_set/src`:
+//! Each call has a comment, a contract and an example where it is defined. These are the calls by topic, in the order
+//! of the Rust crate's documentation, with their files in `crates/vecmap_set/src`:
 //!
-//! - made and taken apart: `new`, `with_capacity`, `clone`, `as_slice`, `into_vec`, `allocator` (`make.rt`); the trait
-//!   `Clone` (`cloning.rt`)
-//! - size and room: `len`, `is_empty`, `capacity`, `reserve`, `reserve_exact`, `try_reserve`, `try_reserve_exact`,
+//! - creation and taking apart: `new`, `with_capacity`, `clone`, `as_slice`, `into_vec`, `allocator` (`make.rt`); the
+//!   trait `Clone` (`cloning.rt`)
+//! - size and capacity: `len`, `is_empty`, `capacity`, `reserve`, `reserve_exact`, `try_reserve`, `try_reserve_exact`,
 //!   `shrink_to_fit`, `shrink_to` (`room.rt`)
 //! - removal: `clear`, `truncate`, `split_off`, `drain`, `retain`, `pop`, `remove`, `remove_index`, `swap_remove`,
 //!   `swap_remove_index`, `take`, `swap_take`, `remove_str` (`removal.rt`)
 //! - order: `reverse`, `swap_indices`, `sort`, `sort_by`, `sort_by_cached_key`, `sort_unstable`, `sort_unstable_by`
 //!   (`order.rt`)
 //! - binary searches: `binary_search`, `binary_search_by`, `binary_search_by_key`, `partition_point` (`search.rt`)
-//! - lookups: `contains`, `first`, `last`, `get`, `get_index`, `get_full`, `get_index_of`, `contains_str` (`lookup.rt`);
-//!   `set[index]` (`indexing.rt`)
+//! - lookups: `contains`, `first`, `last`, `get`, `get_index`, `get_full`, `get_index_of`, `contains_str`
+//!   (`lookup.rt`); `set[index]` (`indexing.rt`)
 //! - insertion: `insert`, `replace` (`insertion.rt`)
-//! - many at once: `from_iter`, `from_slice`, `append`, `extend`, `extend_copied`, collecting (`bulk.rt`); the trait
-//!   `Extend` (`extending.rt`); `From<Vec>`,
-//!   `from_vec_counted`, `from_vec_unchecked`, `to_vec` (`conversion.rt`)
+//! - many elements at once: `from_iter`, `from_slice`, `append`, `extend`, `extend_copied`, `collect` (`bulk.rt`); the
+//!   trait `Extend` (`extending.rt`); `From<Vec>`, `from_vec_counted`, `from_vec_unchecked`, `to_vec` (`conversion.rt`)
 //! - two sets: `is_disjoint`, `is_subset`, `is_superset`, `==` (`equality.rt`); `difference`, `intersection`,
 //!   `symmetric_difference`, `union` (`lazy.rt`) with their iterators (`lazy/`); `&`, `|`, `^`, `-` (`operators.rt`)
 //! - iteration: `iter`, loops (`iteration.rt`); the iterators themselves (`crates/vecmap_base/src/items.rt`); `Drain`

@@ -14,18 +14,31 @@ use self::step::step;
 use std::alloc::{AllocError, Global};
 use vecmap_set::VecSet;
 
-/// Runs the commands in turn, and gives their replies, one each.
+/// Runs the commands in order, and returns one reply for each.
 ///
-/// Room for the replies is made first. Where there is none, no command runs and the set is as before. A command that is
-/// out of range or refused memory changes nothing, what it carried is dropped, and the run goes on. A clone of an element
-/// must be equal to it.
+/// Capacity for the replies is reserved first. A command that is out of range, or for which the allocator refuses a
+/// request, changes nothing. What it carried is dropped, and the run continues.
 ///
-/// It takes one block of memory for the replies. Each command takes what its call does, and a clone of what that lends.
+/// # Errors
+///
+/// [`AllocError`] if the allocator refuses the capacity for the replies; no command has then run, and the set is
+/// unchanged.
+///
+/// # Conditions
+///
+/// A clone of an element is equal to it.
+///
+/// # Complexity
+///
+/// One allocation for the replies. Each command costs what its call does, and a clone of what the call lends.
+///
+/// # Examples
 ///
 /// ```
 /// let mut set = vecset!(alloc; 1);
 /// let commands = vec![in alloc; SetCommand::Insert(2), SetCommand::Insert(1), SetCommand::Contains(2)]?;
-/// run_set(alloc, &mut set, commands)? // [Truth(true), Truth(false), Truth(true)]
+/// let replies = run_set(alloc, &mut set, commands)?;
+/// format!(in alloc; "{replies:?}")?.as_str() // "[Truth(true), Truth(false), Truth(true)]"
 /// set.as_slice() // [1, 2]
 /// ```
 pub fn run_set<T: Eq + Clone>(

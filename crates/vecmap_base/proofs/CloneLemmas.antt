@@ -1,4 +1,4 @@
--- Clones place by place, and one more clone that is taken in.
+-- Lists of clones, index by index, and one more clone that is inserted.
 use Rattle.std.specs.Prelude.{◌≡◌, List, [], ◌∷◌, ◌++◌, fold, map, ◌↔◌}
 use Rattle.std.proofs.Common.{sym, ap, subst, ◌∙◌}
 use Rattle.std.proofs.lemmas.List.{map_push}
@@ -20,7 +20,7 @@ module _ {T : Type 0} (is_clone : T → T → Type 0) where
   clones-short y ys h = h
 
 module _ {A S : Type 0} (is_clone : A → A → Type 0) (f : S → A → S) where
-  -- clones of the items, taken in one after another, lead from old to new
+  -- Clones of the items, inserted in order, lead from `old` to `new`.
   abbrev pub TakesClones : S → List A → S → Type 0
   TakesClones old items new = (clones : List A) × AreClones is_clone items clones × (new ≡ fold f old clones)
 
@@ -32,7 +32,7 @@ module _ {A S : Type 0} (is_clone : A → A → Type 0) (f : S → A → S) wher
         e ∙ ap (λ s. f s y) h.2 ∙ sym (fold_push f old clones y),
       )
 
-  -- of items that lend what is cloned
+  -- The same for items that lend what is cloned.
   pub lent_clone_taken : {L : Type 0} (deref : L → A) (old : S) (items : List L) (mid new : S) (item : L) (y : A) → TakesClones old (map deref items) mid → is_clone (deref item) y → new ≡ f mid y → TakesClones old (map deref (items ++ item ∷ [])) new
   lent_clone_taken deref old items mid new item y h c e =
       subst (λ (l : List A). TakesClones old l new) (sym (map_push deref items item)) (clone_taken old (map deref items) mid new (deref item) y h c e)

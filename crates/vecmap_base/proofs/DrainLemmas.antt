@@ -1,4 +1,4 @@
--- A list whose end a drain holds, in order or turned round.
+-- A list whose end a drain holds, in order or reversed.
 use Rattle.std.specs.Prelude.{◌≡◌, ℕ, zero, suc, ◌-◌, ◌<◌, ◌≤◌, Bool, true, false, List, [], ◌∷◌, ◌++◌, drop, length, not, reverse, refl, slice_range, take}
 use Rattle.std.specs.List.{remove_range}
 use Rattle.std.specs.List.Sorted.{IsPermutation}
@@ -11,7 +11,8 @@ use mathlib.Core.Bool.{beq}
 use lib.ListN.{length-drop, length-take}
 
 module _ {X : Type 0} where
-  -- the range from i up to j was brought behind the others and turned round: the front is what stays
+  -- The range from `i` up to `j` was moved behind the others and reversed. The front holds the others, and the end the
+  -- range.
   pub parts_of_moved : (xs zs : List X) (i j k : ℕ) → i ≤ j → j ≤ length xs → k ≡ length xs - (j - i) → zs ≡ remove_range xs i j ++ reverse (slice_range xs i j)
       → (reverse_if true (drop k zs) ≡ slice_range xs i j) × (take k zs ≡ remove_range xs i j)
   unfolding reverse_if
@@ -21,7 +22,7 @@ module _ {X : Type 0} where
       let long : length stay ≡ k = omega (arith, length-append (take i xs) (drop j xs), length-take i xs, length-drop j xs) in
       (ap reverse (ap (drop k) moved ∙ drop_at stay (reverse go) k long) ∙ reverse-reverse go, ap (take k) moved ∙ take_at stay (reverse go) k long)
 
-  -- and nothing is lost
+  -- This move loses nothing.
   pub moved_rearranged : (xs : List X) (i j : ℕ) → i ≤ j → IsPermutation xs (remove_range xs i j ++ reverse (slice_range xs i j))
   moved_rearranged xs i j order =
       let front = take i xs in
@@ -37,7 +38,7 @@ module _ {X : Type 0} where
   drop_end [] x (suc k) le = absurd (omega arith)
   drop_end (y ∷ ys) x (suc k) le = drop_end ys x k (omega arith)
 
-  -- the last of xs is taken where the end is turned round: it is the first still to come
+  -- If the end is reversed, the last item of `xs` is the first that the drain has still to return.
   pub first_pulled : (b : Bool) (xs ys : List X) (x : X) (k : ℕ) → b ≡ true → k < length xs → xs ≡ ys ++ x ∷ []
       → (reverse_if b (drop k xs) ≡ x ∷ reverse_if b (drop k ys)) × (take k ys ≡ take k xs)
   unfolding reverse_if
@@ -46,7 +47,7 @@ module _ {X : Type 0} where
       let long : k ≤ length ys = omega (arith, ap length e, length_push ys x, more) in
       (ap (λ l. reverse (drop k l)) e ∙ ap reverse (drop_end ys x k long) ∙ reverse-append (drop k ys) (x ∷ []), sym (ap (take k) e ∙ take-append-le k ys (x ∷ []) long))
 
-  -- and the last still to come, where it is not
+  -- If the end is not reversed, the last item of `xs` is the last that the drain has still to return.
   pub last_pulled : (b : Bool) (xs ys : List X) (x : X) (k : ℕ) → b ≡ false → k < length xs → xs ≡ ys ++ x ∷ []
       → (reverse_if b (drop k xs) ≡ reverse_if b (drop k ys) ++ x ∷ []) × (take k ys ≡ take k xs)
   unfolding reverse_if
@@ -65,7 +66,7 @@ module _ {X : Type 0} where
   none_left true xs k le = ap reverse (drop_all k xs le)
   none_left false xs k le = drop_all k xs le
 
-  -- the end was turned round, and so was the flag
+  -- If the end is reversed and the flag is negated, the rest of the drain stays the same.
   pub end_turned : (a b : Bool) (xs ys : List X) (k : ℕ) → not (beq a b) ≡ true → k ≤ length xs → ys ≡ take k xs ++ reverse (drop k xs)
       → (reverse_if b (drop k ys) ≡ reverse_if a (drop k xs)) × (take k ys ≡ take k xs)
   unfolding reverse_if

@@ -1,4 +1,4 @@
--- What a drain gives, and what it leaves, over any row of pulls.
+-- What a drain returns, and what it leaves, over any sequence of pulls.
 use Rattle.std.specs.Prelude.{◌≡◌, List, [], ◌∷◌, None, Option, Some, length, map, refl}
 use Rattle.std.specs.Iterator.{YieldsFirstBy, YieldsLastBy}
 use Rattle.std.specs.Iterator.Runs.{YieldsInOrder, YieldsInReverse}
@@ -15,11 +15,11 @@ each_as_is [] = refl
 each_as_is (o ∷ items) = λ i. option_map_id o i ∷ each_as_is items i
 
 module _ {D A : Type 0} (rest : D → List A) (Keeps : D → D → Type 0) where
-  -- each row of pulls from the front gives the rest in order
+  -- Pulls from the front return the rest in order.
   pub drains_in_order : YieldsInOrder (DrainsFirst rest Keeps) rest
   drains_in_order p s = as_is p (rest p.from) (from_front (DrainsFirst rest Keeps) (λ y. y) rest (λ s t h. ap length h.0) (λ s x t h. h.0) p s)
 
-  -- each row of pulls from the back gives it from its end
+  -- Pulls from the back return the rest in reverse.
   pub drains_in_reverse : YieldsInReverse (DrainsLast rest Keeps) rest
   drains_in_reverse p s = as_is_back p (rest p.from) (from_back (DrainsLast rest Keeps) (λ y. y) rest (λ s t h. ap length h.0) (λ s x t h. h.0) p s)
 
@@ -31,7 +31,7 @@ module _ {D A : Type 0} (rest : D → List A) (Keeps : D → D → Type 0) where
   gives_last s None t h = (h.0, ap rest h.1 ∙ h.0)
   gives_last s (Some x) t h = h.0
 
-  -- any mixture of pulls gives what the list of the rest gives
+  -- Any mixture of pulls returns what the list of the rest gives.
   pub drains_pull : (s : D) (ends : List End) (items : List (Option A)) (t : D) → PullsBy (DrainsFirst rest Keeps) (DrainsLast rest Keeps) s ends items t → Pulls (rest s) ends items (rest t)
   drains_pull s ends items t h =
       subst (λ l. Pulls (rest s) ends l (rest t)) (each_as_is items) (pulls_by (λ x. x) rest (DrainsFirst rest Keeps) (DrainsLast rest Keeps) gives_first gives_last s ends items t h)
@@ -45,17 +45,17 @@ module _ {D A : Type 0} (rest : D → List A) (Keeps : D → D → Type 0) where
     last_keeps s None t h = subst (Keeps s) (sym h.1) (same s)
     last_keeps s (Some x) t h = h.1
 
-    -- what one pull keeps, a row of them keeps
+    -- What one pull from the front keeps, a sequence of them keeps.
     pub keeps_along : (s : D) → KeepsAlong (DrainsFirst rest Keeps) Keeps s
     keeps_along s [] t y = subst (Keeps s) y (same s)
     keeps_along s (x ∷ xs) t y = on s y.0 t y.1.1 (keeps_along y.0 xs t y.2)
 
-    -- and a row of them from the back
+    -- What one pull from the back keeps, a sequence of them keeps.
     pub keeps_along_back : (s : D) → KeepsAlong (DrainsLast rest Keeps) Keeps s
     keeps_along_back s [] t y = subst (Keeps s) y (same s)
     keeps_along_back s (x ∷ xs) t y = on s y.0 t y.1.1 (keeps_along_back y.0 xs t y.2)
 
-    -- and any mixture of them
+    -- What each pull keeps, any mixture of pulls keeps.
     pub keeps_pulled : (s : D) (ends : List End) (items : List (Option A)) (t : D) → PullsBy (DrainsFirst rest Keeps) (DrainsLast rest Keeps) s ends items t → Keeps s t
     keeps_pulled s [] items t h = subst (Keeps s) (sym h.1) (same s)
     keeps_pulled s (front ∷ ends) items t h = on s h.1 t (first_keeps s h.0 h.1 h.3) (keeps_pulled h.1 ends h.2 t h.5)

@@ -1,4 +1,4 @@
--- Equality of maps and of sets, and what two sets have in common.
+-- Equality of maps and of sets, and the common elements of two sets.
 pub mod Counts
 pub mod Fronts
 pub mod Maps

@@ -1,4 +1,4 @@
--- Lists of elements.
+-- Lemmas about lists of elements.
 pub mod Additions
 pub mod Places
 pub mod Queries

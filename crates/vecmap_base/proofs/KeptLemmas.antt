@@ -1,4 +1,4 @@
--- A list from which a closure picks, item by item: its front has the items kept so far, and its rest is as it was.
+-- A list from which a closure selects item by item. Its front has the items kept so far, and its rest is unchanged.
 use Rattle.std.specs.Prelude.{◌≡◌, ℕ, ◌+◌, ◌<◌, ◌≤◌, Bool, true, false, List, [], ◌∷◌, ◌++◌, drop, filter, if◌then◌else◌, length, refl, take}
 use Rattle.std.specs.List.{FoldsTo, SwappedAt}
 use Rattle.std.proofs.Common.{ap, append_assoc, arith, get_or, set, subst, sym, ◌∙◌}
@@ -8,11 +8,11 @@ use Rattle.vecmap_base.specs.Kept.{Kept}
 use Rattle.vecmap_base.proofs.RepeatsLemmas.Gather.{front_swapped, rest_more}
 
 module _ {X : Type 0} where
-  -- y was written at i, behind the front of k
+  -- A write at `i`, behind the front of `k` items, changes neither the front nor the rest after `i`.
   front_left : (ys : List X) (k i : ℕ) (y : X) → k ≤ i → (take k (set ys i y) ≡ take k ys) × (drop (i + 1) (set ys i y) ≡ drop (i + 1) ys)
   front_left ys k i y le = (take-set-le k ys i y le, drop-set-lt (i + 1) ys i y (omega arith))
 
-  -- and was then exchanged for the item at k
+  -- If the item that was written at `i` is then swapped with the item at `k`, it is appended to the front.
   front_more : (ys zs : List X) (k i : ℕ) (y : X) → k ≤ i → i < length ys → length zs ≡ length ys → SwappedAt (set ys i y) zs k i
       → (take (k + 1) zs ≡ take k ys ++ y ∷ []) × (drop (i + 1) zs ≡ drop (i + 1) ys)
   front_more ys zs k i y le l long s =
@@ -24,8 +24,8 @@ module _ {X : Type 0} where
       (swapped.0 ∙ (λ t. left.0 t ++ at t ∷ []), swapped.1 ∙ left.1)
 
 module _ {F X : Type 0} (R : F → X → Bool → X → F → Type 0) where
-  -- The first i items of xs were called at, in turn, which took f0 to f. Of them the first k of ys are kept, as they
-  -- were written, and the rest of ys is that of xs.
+  -- The closure was called for the first `i` items of `xs`, in order, which took it from `f0` to `f`. The first `k`
+  -- items of `ys` are those that were kept, as they were written. From `i` on, `ys` is `xs`.
   pub record KeptSoFar (f0 f : F) (xs ys : List X) (k i : ℕ) : Type 0 where
     pub bound : k ≤ i
     pub len : length ys ≡ length xs
@@ -41,7 +41,7 @@ module _ {F X : Type 0} (R : F → X → Bool → X → F → Type 0) where
     here : p ≡ get_or xs i p
     here = at ∙ (rest_more xs ys i p l (omega (arith, l, so_far.len)) so_far.rest).0
 
-    -- the closure may be called at the next item
+    -- The closure may be called at the next item.
     pub callable_here : (Q : F → X → Type 0) → CallableOnEach R Q f0 xs → Q f p
     callable_here Q each =
         let split : xs ≡ take i xs ++ get_or xs i p ∷ drop (i + 1) xs = sym (take-append-drop i xs) ∙ ap (λ t. take i xs ++ t) (drop_more xs i p l) in
@@ -58,7 +58,7 @@ module _ {F X : Type 0} (R : F → X → Bool → X → F → Type 0) where
       kept_more m g more =
           so_far.kept (if b then y ∷ m else m) g (subst (λ t. Kept R f t (if b then y ∷ m else m) g) (sym (drop_more xs i p l)) (b, y, h, m, called, more, refl))
 
-    -- it was called there, and answered true: the item, as written, goes to the end of the front
+    -- If this call returns `true`, the item, as it was written, is appended to the front.
     pub kept_one : (zs : List X) → R f p true y h → length zs ≡ length ys → SwappedAt (set ys i y) zs k i → KeptSoFar f0 h xs zs (k + 1) (i + 1)
     kept_one zs call long swapped =
         let front = front_more ys zs k i y so_far.bound (omega (arith, l, so_far.len)) long swapped in
@@ -70,7 +70,7 @@ module _ {F X : Type 0} (R : F → X → Bool → X → F → Type 0) where
           kept = λ m g more. subst (λ t. Kept R f0 xs t g) (sym (ap (λ t. t ++ m) front.0 ∙ append_assoc (take k ys) (y ∷ []) m)) (kept_more true call m g more);
         }
 
-    -- or it answered false
+    -- If this call returns `false`, the front stays the same.
     pub kept_not : R f p false y h → KeptSoFar f0 h xs (set ys i y) k (i + 1)
     kept_not call =
         let front = front_left ys k i y so_far.bound in
@@ -82,13 +82,13 @@ module _ {F X : Type 0} (R : F → X → Bool → X → F → Type 0) where
           kept = λ m g more. subst (λ t. Kept R f0 xs (t ++ m) g) (sym front.0) (kept_more false call m g more);
         }
 
-  -- all were called at, and m is the front
+  -- Once the closure was called for all items, the kept ones are the front `m`.
   pub kept_all : (f0 f : F) (xs ys : List X) (k i : ℕ) (m : List X) → KeptSoFar f0 f xs ys k i → length xs ≤ i → m ≡ take k ys → Kept R f0 xs m f
   kept_all f0 f xs ys k i m so_far done e =
       let none_left = subst (λ t. Kept R f t [] f) (sym (drop_all i xs done)) (refl, refl) in
       subst (λ t. Kept R f0 xs t f) (append-nil (take k ys) ∙ sym e) (so_far.kept [] f none_left)
 
-  -- a closure that writes nothing and answers by a test keeps the items that pass
+  -- A closure that writes nothing and returns the result of a test keeps the items that pass the test.
   pub kept_by_test : (test : X → Bool) → ((f : F) (x : X) (b : Bool) (y : X) (g : F) → R f x b y g → (b ≡ test x) × (y ≡ x)) → (f : F) (xs m : List X) (g : F) → Kept R f xs m g → m ≡ filter test xs
   kept_by_test test told f [] m g k = k.0
   kept_by_test test told f (x ∷ xs) m g k =

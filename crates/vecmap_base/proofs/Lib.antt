@@ -9,7 +9,6 @@ pub mod KeptLemmas
 pub mod MatchingLemmas
 pub mod MoveLemmas
 pub mod PairsLemmas
-pub mod PartsStayDistinct
 pub mod PlaceLemmas
 pub mod RepeatsLemmas
 pub mod SearchLemmas

@@ -1,4 +1,4 @@
--- Items that have no mark, and two lists whose items are matched one to one.
+-- Items without a mark, and two lists whose items are matched one to one.
 use Rattle.std.specs.Prelude.{◌≡◌, ℕ, zero, suc, ◌+◌, ◌-◌, ◌<◌, ◌≤◌, Bool, true, false, ◌&&◌, ◌||◌, not, List, [], ◌∷◌, None, Some, length, refl}
 use Rattle.std.specs.Cmp.{IsEquivalence}
 use Rattle.std.specs.List.{list_any, sum_by}
@@ -21,7 +21,7 @@ module _ {X : Type 0} where
   free_unmarked (x ∷ xs) zero = refl
   free_unmarked (x ∷ xs) (suc n) = ap (λ l. x ∷ l) (free_unmarked xs n)
 
-  -- none without a mark passes, where none passes at any place without one
+  -- If no item passes at an index without a mark, no item without a mark passes.
   pub none_free : (p : X → Bool) (xs : List X) (marks : List Bool) (d : X) → length xs ≤ length marks → ((k : ℕ) → k < length xs → (not (get_or marks k true) && p (get_or xs k d)) ≡ false) → list_any p (free xs marks) ≡ false
   unfolding free
   none_free p [] marks d long h = refl
@@ -31,7 +31,7 @@ module _ {X : Type 0} where
       let here : p x ≡ false = h 0 (omega arith) in
       ap (λ b. b || list_any p (free xs marks)) here ∙ none_free p xs marks d (omega arith) (λ k lt. h (suc k) (omega arith))
 
-  -- one more mark takes the item at its place away
+  -- One more mark removes the item at its index from the sum over the items without a mark.
   pub sum_free : (f : X → ℕ) (xs : List X) (marks : List Bool) (j : ℕ) (d : X) → j < length xs → get_or marks j true ≡ false → sum_by f (free xs marks) ≡ f (get_or xs j d) + sum_by f (free xs (set marks j true))
   unfolding free
   sum_free f [] marks j d lt e = absurd (omega arith)
@@ -43,7 +43,7 @@ module _ {X : Type 0} where
       let rest = sum_free f xs marks j d (omega arith) e in
       omega (arith, rest, sum_by-cons f x (free xs marks), sum_by-cons f x (free xs (set marks j true)))
 
-  -- the same of their number
+  -- The same of the number of these items.
   pub length_free : (xs : List X) (marks : List Bool) (j : ℕ) → j < length xs → get_or marks j true ≡ false → length (free xs marks) ≡ 1 + length (free xs (set marks j true))
   unfolding free
   length_free [] marks j lt e = absurd (omega arith)
@@ -54,11 +54,11 @@ module _ {X : Type 0} where
   length_free (x ∷ xs) (false ∷ marks) (suc j) lt e = let rest = length_free xs marks j (omega arith) e in omega (arith, rest)
 
 module _ {X : Type 0} (same : X → X → Bool) (o : IsEquivalence same) where
-  -- the items of a but for `rest` are matched with those of b that have marks
+  -- The items of `a`, except `rest`, are matched with the items of `b` that have marks.
   abbrev pub Matched : List X → List X → List X → List Bool → Type 0
   Matched a b rest marks = (length rest ≡ length (free b marks)) × ((z : X) → many same o a z + many same o (free b marks) z ≡ many same o b z + many same o rest z)
 
-  -- the item of a at i is matched with that of b at j
+  -- The item of `a` at `i` is matched with that of `b` at `j`.
   pub one_matched : (a b : List X) (i j : ℕ) (x : X) (marks : List Bool) → i < length a → x ≡ get_or a i x → j < length b → get_or marks j true ≡ false → same x (get_or b j x) ≡ true → Matched a b (drop i a) marks → Matched a b (drop (i + 1) a) (set marks j true)
   one_matched a b i j x marks within at j_within unmarked like m =
       let fewer = length_free b marks j j_within unmarked in (
@@ -76,7 +76,7 @@ module _ {X : Type 0} (same : X → X → Bool) (o : IsEquivalence same) where
       let none_left : free b marks ≡ [] = nil_from_length (free b marks) (sym m.0 ∙ ap length no_rest) in
       agree_everywhere same o a a b (λ z. let counts = m.1 z in let none : many same o (drop i a) z ≡ 0 = ap (λ l. many same o l z) no_rest in let left : many same o (free b marks) z ≡ 0 = ap (λ l. many same o l z) none_left in omega (arith, counts, none, left))
 
-  -- the item of a at i cannot be matched
+  -- If the item of `a` at `i` cannot be matched, the counts do not agree.
   pub unmatched : (a b : List X) (i : ℕ) (x : X) (marks : List Bool) → i < length a → x ≡ get_or a i x → list_any (same x) (free b marks) ≡ false → Matched a b (drop i a) marks → all_agree same o a a b ≡ false
   unmatched a b i x marks within at absent m = false_from_ne_true (all_agree same o a a b) (λ e.
       let there : list_any (same x) a ≡ true = list_any_at (same x) a i x within (ap (same x) (sym at) ∙ o.refl x) in
@@ -86,19 +86,19 @@ module _ {X : Type 0} (same : X → X → Bool) (o : IsEquivalence same) where
       let one : cond (same x x) 1 0 ≡ 1 = ap {B = ℕ} (λ c. cond c 1 0) (o.refl x) in
       omega (arith, as_many, none, left, one, m.1 x))
 
-  -- before an item is matched
+  -- The start, before an item is matched.
   none_matched : (a b : List X) (marks : List Bool) → length a ≡ length b → free b marks ≡ b → Matched a b (drop 0 a) marks
   none_matched a b marks as_long unmarked = (as_long ∙ ap length (sym unmarked), λ z. let left = ap (λ l. many same o l z) unmarked in omega (arith, left))
 
   no_marks : (b : List X) (marks : List Bool) → marks ≡ replicate (length marks) false → free b marks ≡ b
   no_marks b marks none = ap (free b) none ∙ free_unmarked b (length marks)
 
-  -- the first item of a is matched with one behind the first of b
+  -- The first item of `a` is matched with one behind the first of `b`.
   pub first_matched : (a b : List X) (j : ℕ) (x : X) (marks : List Bool) → 0 < length a → length a ≡ length b → marks ≡ replicate (length marks) false → x ≡ get_or a 0 x → j < length (drop 1 b) → get_or (drop 1 marks) j true ≡ false → same x (get_or (drop 1 b) j x) ≡ true → Matched a b (drop 1 a) (set marks (1 + j) true)
   first_matched a b j x marks some as_long none at within unmarked like =
       one_matched a b 0 (1 + j) x marks some at (omega (arith, within, length-drop 1 b)) (sym (get_or_after_one marks j true) ∙ unmarked) (ap (same x) (sym (get_or_after_one b j x)) ∙ like) (none_matched a b marks as_long (no_marks b marks none))
 
-  -- the first item of a cannot be matched: it differs from the first of b, and from those behind that one
+  -- The first item of `a` cannot be matched: it differs from the first of `b`, and from those behind that one.
   pub first_unmatched : (a b : List X) (x : X) (marks : List Bool) → 0 < length a → length a ≡ length b → marks ≡ replicate (length marks) false → x ≡ get_or a 0 x → same x (get_or b 0 x) ≡ false → list_any (same x) (free (drop 1 b) (drop 1 marks)) ≡ false → all_agree same o a a b ≡ false
   first_unmatched a b x marks some as_long none at differs absent =
       let behind : free (drop 1 b) (drop 1 marks) ≡ drop 1 b = ap (λ l. free (drop 1 b) (drop 1 l)) none ∙ ap (free (drop 1 b)) (drop-replicate 1 (length marks) false) ∙ free_unmarked (drop 1 b) (length marks - 1) in
@@ -107,7 +107,7 @@ module _ {X : Type 0} (same : X → X → Bool) (o : IsEquivalence same) where
       unmatched a b 0 x marks some at (ap (list_any (same x)) (no_marks b marks none) ∙ all) (none_matched a b marks as_long (no_marks b marks none))
 
 module _ {K V : Type 0} (key : K → K → Bool) (value : V → V → Bool) where
-  -- none of the first n pairs has no mark and is the same as p
+  -- None of the first `n` pairs without a mark is the same as `p`.
   abbrev pub NoneFree : List (K × V) → List Bool → K × V → ℕ → Type 0
   NoneFree pairs marks p n = (k : ℕ) → k < n → (not (get_or marks k true) && same_pair key value p (get_or pairs k p)) ≡ false
 
@@ -123,15 +123,15 @@ module _ {K V : Type 0} (key : K → K → Bool) (value : V → V → Bool) wher
       both_false true = refl
       both_false false = refl
 
-  -- before the first place of its key
+  -- This holds before the first index of its key.
   pub none_free_before : (pairs : List (K × V)) (marks : List Bool) (p : K × V) (i : ℕ) → Some i ≡ index_of key pairs p.0 → NoneFree pairs marks p i
   none_free_before pairs marks p i e k lt = other_key (get_or marks k true) p (get_or pairs k p) ((position-Some (λ q. key p.0 q.0) pairs i p (sym e)).2 k lt)
 
-  -- where there is no such key
+  -- If the key of `p` is absent, no pair without a mark is the same as `p`.
   pub none_free_absent : (pairs : List (K × V)) (marks : List Bool) (p : K × V) → length pairs ≤ length marks → None ≡ index_of key pairs p.0 → list_any (same_pair key value p) (free pairs marks) ≡ false
   none_free_absent pairs marks p long e = none_free (same_pair key value p) pairs marks p long (λ k lt. other_key (get_or marks k true) p (get_or pairs k p) (fails_everywhere (λ q. key p.0 q.0) pairs p (sym e) k lt))
 
-  -- one place more
+  -- The same for one index more.
   pub none_free_next : (pairs : List (K × V)) (marks : List Bool) (p : K × V) (n : ℕ) → NoneFree pairs marks p n → (not (get_or marks n true) && same_pair key value p (get_or pairs n p)) ≡ false → NoneFree pairs marks p (n + 1)
   none_free_next pairs marks p n before here k lt =
       ⊎_elim (λ below. before k below) (λ above. let at : k ≡ n = omega arith in rw at here) (cases_lt k n)

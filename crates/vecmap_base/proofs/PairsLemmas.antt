@@ -1,4 +1,4 @@
--- Lists of pairs.
+-- Lemmas about lists of pairs.
 pub mod AfterPuts
 pub mod EachValue
 pub mod Keys

@@ -1,4 +1,4 @@
--- The first place of a list whose element passes a test.
+-- The index of the first element of a list that passes a test.
 use Rattle.std.specs.Prelude.{◌≡◌, ℕ, zero, suc, ◌+◌, ◌<◌, Bool, true, false, ◌||◌, not, nat_lt, List, [], ◌∷◌, Option, None, Some, is_some, length, map, position, slice_get, take, refl}
 use Rattle.std.specs.List.{list_any, position_or_len}
 use Rattle.std.specs.Cmp.{both_ways}
@@ -12,7 +12,7 @@ is_some-map f None = refl
 is_some-map f (Some x) = refl
 
 module _ {X : Type 0} (p : X → Bool) where
-  -- the first place of a longer list
+  -- The first index in a list with one element more.
   pub position_cons : (x : X) (xs : List X) → position p (x ∷ xs) ≡ cond (p x) (Some 0) (option_map suc (position p xs))
   position_cons x xs = by (p x)
     where
@@ -33,7 +33,7 @@ module _ {X : Type 0} (p : X → Bool) where
   position-miss : (x : X) (xs : List X) → p x ≡ false → position p (x ∷ xs) ≡ option_map suc (position p xs)
   position-miss x xs e = position_cons x xs ∙ ap (λ b. cond b (Some 0) (option_map suc (position p xs))) e
 
-  -- there is one exactly where an element passes
+  -- There is a first index exactly if an element passes.
   pub is_some_position : (xs : List X) → is_some (position p xs) ≡ list_any p xs
   is_some_position [] = refl
   is_some_position (x ∷ xs) =
@@ -45,7 +45,7 @@ module _ {X : Type 0} (p : X → Bool) where
   pub list_any_position : (xs : List X) → list_any p xs ≡ is_some (position p xs)
   list_any_position xs = sym (is_some_position xs)
 
-  -- there is one exactly where a first one is stored
+  -- An element passes exactly if the first that passes is stored.
   pub list_any_stored : (xs : List X) → list_any p xs ≡ is_some (option_and_then (slice_get xs) (position p xs))
   list_any_stored xs =
       elim (cases_Bool (nat_lt (position_or_len p xs) (length xs))) [
@@ -65,7 +65,7 @@ module _ {X : Type 0} (p : X → Bool) where
       by None f = refl
       by (Some n) f = absurd (true≢false f)
 
-  -- the place j, which passes, is the first where none before it does
+  -- If the element at `j` passes and none before it does, `j` is the first index.
   pub position_at : (xs : List X) (j : ℕ) (x : X) → j < length xs → x ≡ get_or xs j x → p x ≡ true → position p (take j xs) ≡ None → position p xs ≡ Some j
   position_at xs j x lt e hit miss = first xs j lt (sym (ap p e) ∙ hit) (sym (is_some_position (take j xs)) ∙ ap is_some miss)
     where
@@ -81,7 +81,7 @@ module _ {X : Type 0} (p : X → Bool) where
   pub fails_everywhere : (xs : List X) (d : X) → position p xs ≡ None → (k : ℕ) → k < length xs → p (get_or xs k d) ≡ false
   fails_everywhere xs d e k lt = false_from_ne_true (p (get_or xs k d)) (λ h. true≢false (sym (list_any_at p xs k d lt h) ∙ list_any_position xs ∙ ap is_some e))
 
-  -- where neither the first j elements nor that at j pass, none of the first k = j + 1 does
+  -- If neither the first `j` elements nor the one at `j` pass, none of the first `k = j + 1` elements does.
   pub none_before_next : (xs : List X) (j k : ℕ) (x : X) → j < length xs → k ≡ j + 1 → x ≡ get_or xs j x → p x ≡ false → position p (take j xs) ≡ None → position p (take k xs) ≡ None
   none_before_next xs j k x within next e miss none =
       let before : list_any p (take j xs) ≡ false = list_any_position (take j xs) ∙ ap is_some none in

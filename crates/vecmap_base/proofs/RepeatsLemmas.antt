@@ -1,4 +1,4 @@
--- Removal of repeats in place, and what it costs.
+-- Lemmas about the removal of repeats in place, and about the number of its comparisons.
 pub mod Comparisons
 pub mod Cost
 pub mod Gather

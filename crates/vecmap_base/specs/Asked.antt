@@ -1,4 +1,5 @@
--- Calls of a closure that is asked of each item in turn: when it may be called, and what a call answers and leaves.
+-- Calls of a closure for each item of a list, in order: when the closure may be called, and what a call returns and
+-- leaves.
 use Rattle.std.specs.Prelude.{◌≡◌, Bool, List, ◌∷◌, ◌++◌}
 use Rattle.std.specs.List.{FoldsTo}
 use Rattle.std.specs.Borrow.{MutBor, Bor}
@@ -6,32 +7,33 @@ use Rattle.std.specs.Fn.{Called, CalledAt, Mut, Takes}
 use Rattle.std.specs.Map.Calls.{CalledAtPair, TakesPair}
 
 module _ {F X : Type 0} (R : F → X → Bool → X → F → Type 0) where
-  -- some call of f at x leaves g
+  -- Some call of `f` at `x` leaves `g`.
   abbrev pub SomeCall : F → X → F → Type 0
   SomeCall f x g = (b : Bool) × (y : X) × R f x b y g
 
-  -- the closure may be called at each item, in the state that the calls before have left
+  -- The closure may be called at each item, in the state that the calls before have left.
   pub record CallableOnEach (Q : F → X → Type 0) (f : F) (l : List X) : Type 0 where
     pub at : (before after : List X) (g : F) (x : X) → l ≡ before ++ x ∷ after → FoldsTo SomeCall f before g → Q g x
 
--- a call of a closure over `&T` at the item x may answer b, and leave g; it writes nothing
+-- A call of a closure over `&T` at the item `x` may return `b` and leave `g`. It writes nothing.
 abbrev pub CallsAtItem : {F T : Type 0} → Mut F (Bor T × Unit {0}) Bool → F → T → Bool → T → F → Type 0
 CallsAtItem c f x b y g = CalledAt c f x b g × (y ≡ x)
 
 module _ {F K V : Type 0} where
-  -- the closure may be called at the pair p, with the value to write
+  -- The closure may be called at the pair `p`, with its value to write.
   abbrev pub TakesPairAt : Mut F (Bor K × (MutBor V × Unit {0})) (Bool × (MutBor V × Unit {0})) → F → K × V → Type 0
   TakesPairAt c f p = TakesPair c f p.0 p.1
 
-  -- the closure may be called at the pair p, with the key and the value to write
+  -- The closure may be called at the pair `p`, with its key and its value to write.
   abbrev pub TakesPairMut : Mut F (MutBor K × (MutBor V × Unit {0})) (Bool × (MutBor K × (MutBor V × Unit {0}))) → F → K × V → Type 0
   TakesPairMut c f p = (k : MutBor K) (v : MutBor V) → k.now ≡ p.0 → v.now ≡ p.1 → Takes c f (k, (v, tt))
 
-  -- a call of a closure over `&K` and `&mut V` at the pair p may answer b, and leave q and g
+  -- A call of a closure over `&K` and `&mut V` at the pair `p` may return `b`, and leave the pair `q` and the closure
+  -- `g`.
   abbrev pub CallsAtPair : Mut F (Bor K × (MutBor V × Unit {0})) (Bool × (MutBor V × Unit {0})) → F → K × V → Bool → K × V → F → Type 0
   CallsAtPair c f p b q g = CalledAtPair c f p.0 p.1 b q.1 g × (q.0 ≡ p.0)
 
-  -- the same of a closure over `&mut K` and `&mut V`
+  -- The same of a closure over `&mut K` and `&mut V`.
   pub record CallsAtPairMut (c : Mut F (MutBor K × (MutBor V × Unit {0})) (Bool × (MutBor K × (MutBor V × Unit {0})))) (f : F) (p : K × V) (b : Bool) (q : K × V) (g : F) : Type 0 where
     pub key : MutBor K
     pub value : MutBor V

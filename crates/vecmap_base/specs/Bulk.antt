@@ -1,14 +1,14 @@
--- Where the calls that take the items of an iterator stop, and when there is room for all of them.
+-- Calls that insert the items of an iterator: where they stop, and when there is spare capacity for all items.
 use Rattle.std.specs.Prelude.{ℕ, ◌+◌, ◌≤◌, List, Option, Some}
 use Rattle.std.specs.Iterator.{Count, YieldsThen, size}
 
 module _ {U T : Type 0} (becomes : U → T → Type 0) where
-  -- what `iter` became gave some items and then one more, and R holds of them
+  -- What `iter` became gave some items and then one more, and `R` holds of them.
   abbrev pub StopsAt : {A : Type 0} → (T → Option A → T → Type 0) → U → (List A → A → Type 0) → Type 0
   StopsAt {A} steps iter R = (it : T) × (items : List A) × (next : A) × (rest : T)
       × becomes iter it × YieldsThen steps it items (Some next) rest × R items next
 
-  -- beside the n that are there, as many more as `iter` may give fit in a room for c. The calls that ask this require
-  -- that `iter` ends: of an endless iterator it would say no more than n ≤ c, since the `size` of no bound is 0
+  -- A capacity of `c` holds `n` items and as many more as `iter` may give. The calls that use this require that `iter`
+  -- ends. Of an endless iterator it would say no more than `n ≤ c`, as the `size` of no bound is 0.
   abbrev pub HasRoomForAll : (T → Count) → U → ℕ → ℕ → Type 0
   HasRoomForAll left iter n c = (it : T) → becomes iter it → n + size (left it) ≤ c

@@ -1,20 +1,20 @@
--- What a clone of a list, of a pair or of an option is.
+-- What it means that a list, a pair or an option is a clone of another.
 use Rattle.std.specs.Prelude.{Bool, IsTrue, List, None, Option, Some, ⊤}
 use Rattle.std.specs.List.{AllZip}
 
--- each clone is equal to its original
+-- Each clone is equal to its original.
 abbrev pub ClonesAreSame : {K : Type 0} → (K → K → Bool) → (K → K → Type 0) → Type 0
 ClonesAreSame {K} eq is_clone = (original clone : K) → is_clone original clone → IsTrue (eq original clone)
 
--- the second pair has a clone of the key and a clone of the value of the first
+-- The second pair has a clone of the key and a clone of the value of the first.
 abbrev pub IsPairClone : {K V : Type 0} → (K → K → Type 0) → (V → V → Type 0) → K × V → K × V → Type 0
 IsPairClone key_clone value_clone p q = key_clone p.0 q.0 × value_clone p.1 q.1
 
--- place by place, the second list holds a clone of each element of the first
+-- At each index, the second list holds a clone of what the first list holds.
 abbrev pub AreClones : {T : Type 0} → (T → T → Type 0) → List T → List T → Type 0
 AreClones is_clone l m = AllZip is_clone l m
 
--- both are none, or the second holds a clone of what the first holds
+-- Both options are none, or the second holds a clone of what the first holds.
 abbrev pub IsCloneOf : {T : Type 0} → (T → T → Type 0) → Option T → Option T → Type 0
 IsCloneOf is_clone None None = ⊤
 IsCloneOf is_clone None (Some y) = ⊥

@@ -1,10 +1,10 @@
--- When two lists are equal as maps or as sets. `key`, `value` and `eq` are the `==` of keys, values and elements.
+-- Equality of two lists as maps or as sets. `key`, `value` and `eq` are the `==` of keys, values and elements.
 use Rattle.std.specs.Prelude.{◌≡◌, ℕ, ◌<◌, Bool, ◌&&◌, false, true, List, [], ◌∷◌, None, Option, Some, get_or, length, nat_eq}
 use Rattle.std.specs.List.{count_by, list_all, list_any}
 use Rattle.std.specs.Map.{keys_of}
 use Rattle.vecmap_base.specs.Pairs.{lookup}
 
--- both are none, or the values are equal
+-- Both options are none, or their values are equal.
 abbrev pub same_option : {V : Type 0} → (V → V → Bool) → Option V → Option V → Bool
 same_option value None None = true
 same_option value None (Some w) = false
@@ -12,44 +12,44 @@ same_option value (Some v) None = false
 same_option value (Some v) (Some w) = value v w
 
 module _ {K V : Type 0} (key : K → K → Bool) (value : V → V → Bool) where
-  -- the keys are equal, and the values are
+  -- Two pairs have equal keys and equal values.
   abbrev pub same_pair : K × V → K × V → Bool
   same_pair p q = key p.0 q.0 && value p.1 q.1
 
-  -- the first pairs of two lists of one length are not the same, where there are any
+  -- The first pairs of two lists of one length differ, by key or by value, if there are any.
   abbrev pub FirstDiffer : List (K × V) → List (K × V) → Type 0
   FirstDiffer a b = (p : K × V) → 0 < length a → same_pair (get_or a 0 p) (get_or b 0 p) ≡ false
 
-  -- how many pairs of l are the same as p
+  -- The number of pairs of `l` with the key and the value of `p`.
   abbrev pub count : List (K × V) → K × V → ℕ
   count l p = count_by (same_pair p) l
 
-  -- each of these pairs occurs equally often in a and in b
+  -- Each of these pairs occurs equally often in `a` and in `b`.
   abbrev pub counts_agree : List (K × V) → List (K × V) → List (K × V) → Bool
   counts_agree pairs a b = list_all (λ p. nat_eq (count a p) (count b p)) pairs
 
-  -- equality of maps: each pair of either list occurs equally often in both
+  -- Equality of maps: each pair of either list occurs equally often in both.
   abbrev pub has_same_counts : List (K × V) → List (K × V) → Bool
   has_same_counts a b = counts_agree a a b && counts_agree b a b
 
-  -- each of these keys has the same value in both lists, or none in both
+  -- Each of these keys has equal values in both lists, or none in both.
   abbrev pub lookups_agree : List K → List (K × V) → List (K × V) → Bool
   lookups_agree keys a b = list_all (λ k. same_option value (lookup key a k) (lookup key b k)) keys
 
-  -- the lookups of each key of either list agree
+  -- The lookups of each key of either list agree.
   abbrev pub agrees : List (K × V) → List (K × V) → Bool
   agrees a b = lookups_agree (keys_of a) a b && lookups_agree (keys_of b) a b
 
 module _ {T : Type 0} (eq : T → T → Bool) where
-  -- each element of a is in b
+  -- Each element of `a` is in `b`.
   abbrev pub is_within : List T → List T → Bool
   is_within a b = list_all (λ x. list_any (eq x) b) a
 
-  -- equality of sets: each element of either list is in the other
+  -- Equality of sets: each element of either list is in the other.
   abbrev pub has_same_items : List T → List T → Bool
   has_same_items a b = is_within a b && is_within b a
 
--- the items of l that have no mark; those beyond the marks have none
+-- The items of `l` that have no mark. Items beyond the marks have none.
 unfoldable pub free : {X : Type 0} → List X → List Bool → List X
 free [] marks = []
 free (x ∷ xs) [] = x ∷ xs

@@ -1,5 +1,5 @@
--- Where a closure over pairs or items may be called, what it answers, and the order that it gives a list. The closures
--- are `Fn`: one call tells of all.
+-- Closures over pairs or items: where they may be called, what they return, and the order that they give a list. The
+-- closures are `Fn`, so one statement holds for all calls.
 use Rattle.std.specs.Prelude.{◌≡◌, Bool, List}
 use Rattle.std.specs.Borrow.{Bor}
 use Rattle.std.specs.Cmp.{IsStrictWeakOrder}
@@ -8,40 +8,40 @@ use Rattle.std.specs.List.Sorted.{IsSortedBy, IsSortedByKey, IsStableBy, IsStabl
 use Rattle.std.specs.Ordering.{is_lt}
 use Rattle.std.specs.declared.cmp.Ordering.{Ordering}
 
--- f may be called at the item x
+-- The closure `f` may be called at the item `x`.
 abbrev pub CallableOnItem : {F T R : Type 0} → Shared F (Bor T × Unit {0}) R → F → T → Type 0
 CallableOnItem {F} {T} g f x = (a : Bor T) → a.now ≡ x → g.pre f (a, tt)
 
--- f may be called at the key and the value of the pair p
+-- The closure `f` may be called at the key and the value of the pair `p`.
 abbrev pub CallableOnPair : {F K V R : Type 0} → Shared F (Bor K × (Bor V × Unit {0})) R → F → K × V → Type 0
 CallableOnPair {F} {K} {V} g f p = (k : Bor K) (v : Bor V) → k.now ≡ p.0 → v.now ≡ p.1 → g.pre f (k, (v, tt))
 
--- each call of f, at an item, answers what h gives of it
+-- Each call of `f`, at an item, returns what `h` gives of it.
 abbrev pub AnswersOnItem : {F T R : Type 0} → Shared F (Bor T × Unit {0}) R → (T → R) → F → Type 0
 AnswersOnItem {F} {T} {R} g h f = (x : Bor T) (r : R) → g.post f (x, tt) r → r ≡ h x.now
 
--- each call of f, at a key and its value, answers what h gives of the pair
+-- Each call of `f`, at a key and its value, returns what `h` gives of the pair.
 abbrev pub AnswersOnPair : {F K V R : Type 0} → Shared F (Bor K × (Bor V × Unit {0})) R → (K × V → R) → F → Type 0
 AnswersOnPair {F} {K} {V} {R} g h f = (k : Bor K) (v : Bor V) (r : R) → g.post f (k, (v, tt)) r → r ≡ h (k.now, v.now)
 
 module _ {F K V : Type 0} (g : Shared F ((Bor K × Bor V) × ((Bor K × Bor V) × Unit {0})) Ordering) where
-  -- each call of f, at two pairs, answers `Less` just where lt holds of them
+  -- Each call of `f`, at two pairs, returns `Less` exactly if `lt` holds of them.
   abbrev pub ComparesPairsAs : (K × V → K × V → Bool) → F → Type 0
   ComparesPairsAs lt f = (a b : Bor K × Bor V) (r : Ordering) → g.post f (a, (b, tt)) r → is_lt r ≡ lt (a.0.now, a.1.now) (b.0.now, b.1.now)
 
-  -- the pairs ascend by the order that f answers by, where it answers by one
+  -- The pairs ascend by the order that `f` returns, if it is an order.
   abbrev pub IsSortedByPairClosure : F → List (K × V) → Type 0
   IsSortedByPairClosure f l = (lt : K × V → K × V → Bool) → IsStrictWeakOrder lt → ComparesPairsAs lt f → IsSortedBy lt l
 
-  -- pairs that tie by that order stand in m as they stand in l
+  -- Pairs that tie by that order are in the same order in `m` as in `l`.
   abbrev pub IsStableByPairClosure : F → List (K × V) → List (K × V) → Type 0
   IsStableByPairClosure f l m = (lt : K × V → K × V → Bool) → IsStrictWeakOrder lt → ComparesPairsAs lt f → IsStableBy lt l m
 
 module _ {F K V T : Type 0} (g : Shared F (Bor K × (Bor V × Unit {0})) T) (cmp : T → T → Ordering) where
-  -- the pairs ascend by the sort keys that f gives, where it gives a function's values
+  -- The pairs ascend by the sort keys that `f` returns, if these are the values of a function.
   abbrev pub IsSortedByPairKey : F → List (K × V) → Type 0
   IsSortedByPairKey f l = (key : K × V → T) → AnswersOnPair g key f → IsSortedByKey key cmp l
 
-  -- pairs whose sort keys tie stand in m as they stand in l
+  -- Pairs whose sort keys tie are in the same order in `m` as in `l`.
   abbrev pub IsStableByPairKey : F → List (K × V) → List (K × V) → Type 0
   IsStableByPairKey f l m = (key : K × V → T) → AnswersOnPair g key f → IsStableByKey key cmp l m

@@ -1,4 +1,4 @@
--- Lists of pairs of a key and a value, as an ordered map sees them. `eq` is the keys' `==`.
+-- Lists of pairs of a key and a value, as an ordered map sees them. `eq` is the `==` of keys.
 use Rattle.std.specs.Prelude.{ℕ, ◌-◌, Bool, List, [], ◌∷◌, ◌++◌, Option, String, bytes_eq, fold, insert, length, map, min, position, remove, slice_get, slice_set, string_bytes, unwrap_or}
 use Rattle.std.specs.List.{IsDistinct}
 use Rattle.std.specs.Map.{keys_of}
@@ -6,92 +6,94 @@ use Rattle.std.specs.Option.{option_and_then, option_map, option_map_or}
 use Rattle.vecmap_base.specs.Items.{swap_without}
 
 module _ {K V : Type 0} where
-  -- l with v as the value at the place i
+  -- The list `l` with `v` as the value at the index `i`.
   abbrev pub with_value : List (K × V) → ℕ → V → List (K × V)
   with_value l i v = option_map_or (λ p. slice_set l i (p.0, v)) (slice_get l i) l
 
-  -- l with the pair (k, v) at the place i
+  -- The list `l` with the pair `(k, v)` at the index `i`.
   abbrev pub with_pair : List (K × V) → ℕ → K → V → List (K × V)
   with_pair l i k v = slice_set l i (k, v)
 
-  -- the value at the place i, if there is one
+  -- The value at the index `i`, if there is one.
   abbrev pub value_at : List (K × V) → ℕ → Option V
   value_at l i = option_map (λ p. p.1) (slice_get l i)
 
--- l with g of each value
+-- The list `l` with `g` of each value.
 abbrev pub map_values : {K V W : Type 0} → (V → W) → List (K × V) → List (K × W)
 map_values g l = map (λ p. (p.0, g p.1)) l
 
 module _ {K V : Type 0} (test : K → Bool) where
-  -- the first place whose key passes the test
+  -- The index of the first pair whose key passes the test.
   abbrev pub index_by : List (K × V) → Option ℕ
   index_by l = position (λ p. test p.0) l
 
-  -- the value at that place
+  -- The value of the first pair whose key passes the test.
   abbrev pub lookup_by : List (K × V) → Option V
   lookup_by l = option_and_then (value_at l) (index_by l)
 
-  -- the pair at that place
+  -- The first pair whose key passes the test.
   abbrev pub lookup_pair_by : List (K × V) → Option (K × V)
   lookup_pair_by l = option_and_then (slice_get l) (index_by l)
 
-  -- l without the pair at that place
+  -- The list `l` without the first pair whose key passes the test.
   abbrev pub without_by : List (K × V) → List (K × V)
   without_by l = option_map_or (λ i. remove l i) (index_by l) l
 
-  -- l with the last pair in the place of that one
+  -- The list `l` without the first pair whose key passes the test; the last pair takes its index.
   abbrev pub swap_without_by : List (K × V) → List (K × V)
   swap_without_by l = option_map_or (λ i. swap_without l i) (index_by l) l
 
 module _ {K V : Type 0} (eq : K → K → Bool) where
-  -- the first place whose key is equal to k
+  -- The index of the first pair whose key is equal to `k`.
   abbrev pub index_of : List (K × V) → K → Option ℕ
   index_of l k = index_by (eq k) l
 
-  -- the first place whose key is equal to k, or the length where there is none
+  -- The index of the first pair whose key is equal to `k`, or the length if there is none.
   abbrev pub index_or_length : List (K × V) → K → ℕ
   index_or_length l k = unwrap_or (index_of l k) (length l)
 
-  -- the value at the first place whose key is equal to k
+  -- The value of the first pair whose key is equal to `k`.
   abbrev pub lookup : List (K × V) → K → Option V
   lookup l k = lookup_by (eq k) l
 
-  -- the pair at the first place whose key is equal to k
+  -- The first pair whose key is equal to `k`.
   abbrev pub lookup_pair : List (K × V) → K → Option (K × V)
   lookup_pair l k = lookup_pair_by (eq k) l
 
-  -- the first place whose key is equal to k, with the value there
+  -- The index and the value of the first pair whose key is equal to `k`.
   abbrev pub lookup_full : List (K × V) → K → Option (ℕ × V)
   lookup_full l k = option_and_then (λ i. option_map (λ v. (i, v)) (value_at l i)) (index_of l k)
 
-  -- l after a put: a key that is there keeps its place and takes the value, and a new pair goes last
+  -- The list `l` after an insertion: an existing key keeps its index and gets the value, and a new pair is appended.
   abbrev pub put : List (K × V) → K → V → List (K × V)
   put l k v = option_map_or (λ i. with_value l i v) (index_of l k) (l ++ (k, v) ∷ [])
 
-  -- l after each of the pairs is put in turn
+  -- The list `l` after the insertion of each of the pairs, in order.
   abbrev pub puts : List (K × V) → List (K × V) → List (K × V)
   puts l pairs = fold (λ done p. put done p.0 p.1) l pairs
 
-  -- l after a put that takes the new key too: the pair of an equal key becomes (k, v), and a new pair goes last
+  -- The list `l` after an insertion that stores the new key too: `(k, v)` replaces the pair of an equal key at its
+  -- index, and a new pair is appended.
   abbrev pub put_key : List (K × V) → K → V → List (K × V)
   put_key l k v = option_map_or (λ i. with_pair l i k v) (index_of l k) (l ++ (k, v) ∷ [])
 
-  -- l after (k, v) is put at the place i: the pair of an equal key goes first, and then the new pair is inserted there
+  -- The list `l` after an insertion of `(k, v)` at the index `i`: the pair of an equal key is removed first, and then
+  -- the new pair is inserted at `i`, or at the end if `i` is past it.
   abbrev pub put_at : List (K × V) → ℕ → K → V → List (K × V)
   put_at l i k v = option_map_or (λ j. insert (remove l j) (min i (length l - 1)) (k, v)) (index_of l k) (insert l i (k, v))
 
-  -- l without the first pair whose key is equal to k
+  -- The list `l` without the first pair whose key is equal to `k`.
   abbrev pub without_key : List (K × V) → K → List (K × V)
   without_key l k = without_by (eq k) l
 
-  -- l with the last pair in the place of the first whose key is equal to k
+  -- The list `l` without the first pair whose key is equal to `k`; the last pair takes its index.
   abbrev pub swap_without_key : List (K × V) → K → List (K × V)
   swap_without_key l k = swap_without_by (eq k) l
 
-  -- no two places hold equal keys
+  -- No two indices hold equal keys.
   abbrev pub HasDistinctKeys : List (K × V) → Type 0
   HasDistinctKeys l = IsDistinct eq (keys_of l)
 
--- the key has these bytes
+-- The key has these bytes.
 abbrev pub has_text : {A : Type 0} → List ℕ → String A → Bool
 has_text text key = bytes_eq (string_bytes key) text

@@ -1,22 +1,22 @@
--- The places of a list that a range names. Its ends are counted without limit.
+-- The indices of a list that a range names. The ends of the range are counted without limit.
 use Rattle.std.specs.Prelude.{ℕ, ◌≤◌, List, length, slice_range}
 use Rattle.std.specs.Bound.{end_index, start_index}
 use Rattle.std.specs.List.{remove_range}
 use Rattle.std.specs.declared.ops.Bound.{Bound}
 
--- the places from `first` up to, but not including, `last` are places of a list with `len` items
+-- The indices from `first` up to, but not including, `last` are indices of a list with `len` items.
 abbrev pub IsRangeWithin : ℕ → ℕ → ℕ → Type 0
 IsRangeWithin first last len = (first ≤ last) × (last ≤ len)
 
--- the same of a range with these ends
+-- The same of a range with these ends.
 abbrev pub AreEndsWithin : Bound ℕ → Bound ℕ → ℕ → Type 0
 AreEndsWithin start end len = IsRangeWithin (start_index start) (end_index end len) len
 
 module _ {T : Type 0} where
-  -- the items of l in the range with these ends
+  -- The items of `l` in the range with these ends.
   abbrev pub items_between : List T → Bound ℕ → Bound ℕ → List T
   items_between l start end = slice_range l (start_index start) (end_index end (length l))
 
-  -- l without the items in the range with these ends
+  -- The list `l` without the items in the range with these ends.
   abbrev pub without_between : List T → Bound ℕ → Bound ℕ → List T
   without_between l start end = remove_range l (start_index start) (end_index end (length l))

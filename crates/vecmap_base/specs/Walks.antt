@@ -3,36 +3,37 @@ use Rattle.std.specs.Prelude.{◌≡◌, ◌-◌, ◌<◌, ◌^◌, List, [], �
 use Rattle.std.specs.Borrow.{MutBor}
 use Rattle.std.specs.Map.Iter.{GivesInOrder, GivesInReverse, ShowsInOrder, ShowsInReverse}
 
--- what a `&mut T` points to
+-- What a `&mut T` points to.
 abbrev pub deref_mut : {X : Type 0} → MutBor X → X
 deref_mut x = x.now
 
--- what a `(&mut K, &mut V)` points to
+-- What a `(&mut K, &mut V)` points to.
 abbrev pub deref_both_mut : {K V : Type 0} → MutBor K × MutBor V → K × V
 deref_both_mut p = (p.0.now, p.1.now)
 
--- r has the list l left, and shows it in order, from the back in reverse; its length fits a `usize`
+-- The iterator `r` has the list `l` left, and shows it in order, and in reverse from the back. The length fits a
+-- `usize`.
 abbrev pub ShowsAll : {A X : Type 0} → (A → X) → List X → List X → Type 0
 ShowsAll shows l r = (r ≡ l) × (length r < 2 ^ 64) × ShowsInOrder shows × ShowsInReverse shows
 
--- the same of an iterator that owns what it gives
+-- The same of an iterator that owns what it gives.
 abbrev pub GivesAll : {X : Type 0} → List X → List X → Type 0
 GivesAll {X} l r = (r ≡ l) × (length r < 2 ^ 64) × GivesInOrder X × GivesInReverse X
 
--- where a pull is made: `next` pulls from the front, `next_back` from the back
+-- The end at which a pull is made: `next` pulls from the front, `next_back` from the back.
 pub data End : Type 0 where
   front : End
   back : End
 
 module _ {T : Type 0} where
-  -- a pull from the front gives the first of l, one from the back the last, and each gives none once l is empty
+  -- A pull from the front gives the first of `l`, and one from the back the last. Each gives none once `l` is empty.
   abbrev pub Pulls : List T → List End → List (Option T) → List T → Type 0
   Pulls l [] items rest = (items ≡ []) × (rest ≡ l)
   Pulls l (front ∷ ends) items rest = (more : List (Option T)) × (items ≡ slice_get l 0 ∷ more) × Pulls (drop 1 l) ends more rest
   Pulls l (back ∷ ends) items rest = (more : List (Option T)) × (items ≡ slice_get l (length l - 1) ∷ more) × Pulls (take (length l - 1) l) ends more rest
 
 module _ {S A : Type 0} (next next_back : S → Option A → S → Type 0) where
-  -- calls of `next` and of `next_back`, at these ends in turn, led from s to t and answered items
+  -- Calls of `next` and of `next_back`, at these ends in order, led from `s` to `t` and returned `items`.
   abbrev pub PullsBy : S → List End → List (Option A) → S → Type 0
   PullsBy s [] items t = (items ≡ []) × (t ≡ s)
   PullsBy s (front ∷ ends) items t = (r : Option A) × (u : S) × (more : List (Option A)) × next s r u × (items ≡ r ∷ more) × PullsBy u ends more t

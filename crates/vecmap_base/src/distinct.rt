@@ -1,12 +1,19 @@
-//! Whether a list has repeats.
+//! Tests whether a list has repeats.
 ghost use Rattle.std.specs.Prelude.{◌↔◌, IsTrue};
 ghost use Rattle.std.specs.List.{IsDistinct};
 ghost use Rattle.vecmap_base.specs.Pairs.{HasDistinctKeys};
 
 use crate::lookup::{find, find_item};
 
-/// Whether no two places hold equal keys. It compares each key with those after it, up to the first that is equal to one
-/// of them: at most n(n-1)/2 comparisons for n pairs. It takes no memory.
+/// Returns `true` if no two pairs have equal keys.
+///
+/// Compares each key with those after it, and stops at the first that is equal to one of them.
+///
+/// # Complexity
+///
+/// At most n(n-1)/2 comparisons for n pairs. Does not allocate.
+///
+/// # Examples
 ///
 /// ```
 /// keys_distinct(&[('a', 1), ('b', 1)]) // true
@@ -23,8 +30,15 @@ pub fn keys_distinct<K: Eq, V>(pairs: &[(K, V)]) -> bool
     true
 }
 
-/// Whether no two places hold equal elements. It compares each with those after it, up to the first that is equal to one
-/// of them: at most n(n-1)/2 comparisons for n elements. It takes no memory.
+/// Returns `true` if no two items are equal.
+///
+/// Compares each item with those after it, and stops at the first that is equal to one of them.
+///
+/// # Complexity
+///
+/// At most n(n-1)/2 comparisons for n items. Does not allocate.
+///
+/// # Examples
 ///
 /// ```
 /// items_distinct(&['a', 'b']) // true

@@ -1,12 +1,21 @@
-//! The moves in a vector that drains are made of.
+//! The moves of items in a vector that drains are built from.
 ghost use Rattle.std.specs.Prelude.{◌≡◌, ◌++◌, ◌-◌, ◌≤◌, drop, length, reverse, slice_range, take, vec_capacity};
 ghost use Rattle.std.specs.List.{remove_range};
 ghost use Rattle.vecmap_base.specs.Ranges.{IsRangeWithin};
 
-/// Brings the items from `start` up to, but not including, `end` behind the others, the last of them first, and answers
-/// how many the others are.
+/// Moves the items of `start..end` behind the others, in reverse order, and returns the number of the others.
 ///
-/// It takes no memory, and a number of moves that is linear in the number of items from `start` on.
+/// The others keep their order.
+///
+/// # Conditions
+///
+/// `start` is at most `end`, and `end` is at most `items.len()`.
+///
+/// # Complexity
+///
+/// A number of moves that is linear in the number of items from `start` on. Does not allocate.
+///
+/// # Examples
 ///
 /// ```
 /// let mut items = vec![in alloc; 1, 2, 3, 4]?;
@@ -16,7 +25,9 @@ ghost use Rattle.vecmap_base.specs.Ranges.{IsRangeWithin};
 pub fn move_range_last<T>(items: &mut Vec<T>, start: usize, end: usize) -> usize
     requires within { IsRangeWithin start end (length items.old.items) }
     ensures keep { result ≡ length items.old.items - (end - start) }
-    ensures items { items.new.items ≡ remove_range items.old.items start end ++ reverse (slice_range items.old.items start end) }
+    ensures items { items.new.items
+        ≡ remove_range items.old.items start end
+        ++ reverse (slice_range items.old.items start end) }
     ensures capacity { vec_capacity items.new ≡ vec_capacity items.old }
 {
     let count = end - start;
@@ -26,7 +37,17 @@ pub fn move_range_last<T>(items: &mut Vec<T>, start: usize, end: usize) -> usize
     keep
 }
 
-/// Turns the items from `start` on round, in half as many swaps.
+/// Reverses the items from `start` on.
+///
+/// # Conditions
+///
+/// `start` is at most `items.len()`.
+///
+/// # Complexity
+///
+/// Half as many swaps as there are items from `start` on.
+///
+/// # Examples
 ///
 /// ```
 /// let mut items = vec![in alloc; 1, 2, 3]?;
@@ -35,7 +56,8 @@ pub fn move_range_last<T>(items: &mut Vec<T>, start: usize, end: usize) -> usize
 /// ```
 pub fn reverse_from<T>(items: &mut Vec<T>, start: usize)
     requires within { start ≤ length items.old.items }
-    ensures items { items.new.items ≡ take start items.old.items ++ reverse (drop start items.old.items) }
+    ensures items { items.new.items
+        ≡ take start items.old.items ++ reverse (drop start items.old.items) }
     ensures capacity { vec_capacity items.new ≡ vec_capacity items.old }
 {
     items[start..].reverse();

@@ -1,4 +1,4 @@
-//! What may stand for a key or an element in a lookup, and the first place that it stands for.
+//! Queries that match keys or elements, and the searches by a query.
 ghost use Rattle.std.proofs.Common.{sym, ◌∙◌};
 ghost use Rattle.std.specs.Prelude.{◌≡◌, ◌<◌, Bool, IfSome, IsTrue, bytes_eq, length, position, string_bytes};
 ghost use Rattle.std.specs.Arc.{arc_str_bytes};
@@ -9,36 +9,39 @@ ghost use Rattle.std.specs.List.{list_any};
 ghost use Rattle.std.specs.Rc.{rc_str_bytes};
 ghost use Rattle.vecmap_base.specs.Pairs.{has_text, index_by};
 
-use crate::fours::find_by_fours;
-use crate::twos::{find_by_twos, is_small};
+use crate::unrolled::{find_item_unrolled, find_pair_unrolled, is_small};
 use std::borrow::CowStr;
 use std::boxed::{BoxedSlice, BoxedStr};
 use std::rc::RcStr;
 use std::sync::ArcStr;
 
-/// A query that may stand for a key, or for an element.
+/// A query that may match keys, or elements.
 ///
-/// A `&K` stands for the keys that are equal to it, a `&str` for the texts of its bytes, whoever holds them, and a `&[T]`
-/// for the vectors and boxed slices of items equal to its own. Further queries are types that implement it: one that
-/// stands for a key must stand for the keys that are equal to that one, and for no others.
+/// A `&K` matches the keys that are equal to it. A `&str` matches the texts with the same bytes, whatever type holds
+/// them. A `&[T]` matches the vectors and boxed slices whose items are equal to its own.
+///
+/// Other types can implement this trait. If a query matches a key, it must match the keys that are equal to that key,
+/// and no others.
+///
+/// # Examples
 ///
 /// ```
 /// let key = String::from_str(alloc, "a")?;
 /// "a".equivalent(&key) // true
 /// ```
 pub trait Equivalent<K: Eq>: Copy {
-    // What `equivalent` answers.
+    // What `equivalent` returns.
     ghost equivalent: { Self → K → Bool };
 
-    /// Whether the query stands for `key`.
+    /// Returns `true` if the query matches `key`.
     fn equivalent(&self, key: &K) -> bool
         ensures { result ≡ equivalent self.now key.now };
 
-    // A query that stands for a key stands for the keys that are equal to it, and for no others.
+    // If a query matches a key, it matches the keys that are equal to that key, and no others.
     ghost respects_eq: { (query : Self) (x y : K) → IsTrue (equivalent query x) → equivalent query y ≡ K.eq x y };
 }
 
-/// The keys that are equal to this one.
+/// Matches the keys that are equal to the query.
 impl<K: Eq> Equivalent<K> for &K {
     ghost equivalent = { λ query. K.eq query.now };
 
@@ -50,7 +53,7 @@ impl<K: Eq> Equivalent<K> for &K {
     ghost respects_eq = { λ query. K.Eq.laws.congr query.now };
 }
 
-/// The texts of these bytes.
+/// Matches each `String` with the same bytes.
 impl Equivalent<String> for &str {
     ghost equivalent = { λ query. has_text query.now };
 
@@ -59,11 +62,11 @@ impl Equivalent<String> for &str {
         *key.as_str() == **self
     }
 
-    // Equality of bytes is symmetric, and sees no difference between equal texts.
+    // Equality of bytes is symmetric, and does not distinguish equal texts.
     ghost respects_eq = { λ query x y h. nat_list_eq_equiv.symm (string_bytes y) query.now ∙ sym (nat_list_eq_equiv.congr (string_bytes x) query.now (string_bytes y) h) };
 }
 
-/// The borrowed texts of these bytes.
+/// Matches each borrowed text with the same bytes.
 impl<'b> Equivalent<&'b str> for &str {
     ghost equivalent = { λ query key. bytes_eq query.now key.now };
 
@@ -75,7 +78,7 @@ impl<'b> Equivalent<&'b str> for &str {
     ghost respects_eq = { λ query x y. nat_list_eq_equiv.congr query.now x.now y.now };
 }
 
-/// The boxed texts of these bytes.
+/// Matches each `BoxedStr` with the same bytes.
 impl Equivalent<BoxedStr> for &str {
     ghost equivalent = { λ query key. bytes_eq query.now (boxed_str_bytes key) };
 
@@ -87,7 +90,7 @@ impl Equivalent<BoxedStr> for &str {
     ghost respects_eq = { λ query x y. nat_list_eq_equiv.congr query.now (boxed_str_bytes x) (boxed_str_bytes y) };
 }
 
-/// The shared texts of these bytes.
+/// Matches each `RcStr` with the same bytes.
 impl Equivalent<RcStr> for &str {
     ghost equivalent = { λ query key. bytes_eq query.now (rc_str_bytes key) };
 
@@ -99,7 +102,7 @@ impl Equivalent<RcStr> for &str {
     ghost respects_eq = { λ query x y. nat_list_eq_equiv.congr query.now (rc_str_bytes x) (rc_str_bytes y) };
 }
 
-/// The texts of these bytes that threads may share.
+/// Matches each `ArcStr`, which threads may share, with the same bytes.
 impl Equivalent<ArcStr> for &str {
     ghost equivalent = { λ query key. bytes_eq query.now (arc_str_bytes key) };
 
@@ -111,7 +114,7 @@ impl Equivalent<ArcStr> for &str {
     ghost respects_eq = { λ query x y. nat_list_eq_equiv.congr query.now (arc_str_bytes x) (arc_str_bytes y) };
 }
 
-/// The texts of these bytes, borrowed or owned.
+/// Matches each `CowStr` with the same bytes, borrowed or owned.
 impl<'b> Equivalent<CowStr<'b>> for &str {
     ghost equivalent = { λ query key. bytes_eq query.now (cow_str_bytes key) };
 
@@ -123,7 +126,7 @@ impl<'b> Equivalent<CowStr<'b>> for &str {
     ghost respects_eq = { λ query x y. nat_list_eq_equiv.congr query.now (cow_str_bytes x) (cow_str_bytes y) };
 }
 
-/// The vectors whose items are equal to these, one by one.
+/// Matches each vector whose items are equal to those of the query, index by index.
 impl<T: Eq> Equivalent<Vec<T>> for &[T] {
     ghost equivalent = { λ query key. pointwise T.eq query.now key.items };
 
@@ -135,7 +138,7 @@ impl<T: Eq> Equivalent<Vec<T>> for &[T] {
     ghost respects_eq = { λ query x y. (lists_equiv T.Eq.laws).congr query.now x.items y.items };
 }
 
-/// The boxed slices whose items are equal to these, one by one.
+/// Matches each boxed slice whose items are equal to those of the query, index by index.
 impl<T: Eq> Equivalent<BoxedSlice<T>> for &[T] {
     ghost equivalent = { λ query key. pointwise T.eq query.now (boxed_slice_items key) };
 
@@ -147,7 +150,13 @@ impl<T: Eq> Equivalent<BoxedSlice<T>> for &[T] {
     ghost respects_eq = { λ query x y. (lists_equiv T.Eq.laws).congr query.now (boxed_slice_items x) (boxed_slice_items y) };
 }
 
-/// The first place whose key the query stands for, after at most as many questions to it as there are pairs.
+/// Returns the index of the first pair whose key matches `query`.
+///
+/// # Complexity
+///
+/// At most `pairs.len()` comparisons.
+///
+/// # Examples
 ///
 /// ```
 /// find_equivalent(&[("a", 1), ("b", 2)], "b") // Some(1)
@@ -157,12 +166,18 @@ pub fn find_equivalent<K: Eq, V, Q: Equivalent<K>>(pairs: &[(K, V)], query: Q) -
     ensures within { IfSome result (λ i. i < length pairs.now) }
 {
     if pairs.first().is_some_and(|pair| is_small(&pair.0)) {
-        return find_by_twos(pairs, query);
+        return find_pair_unrolled(pairs, query);
     }
     pairs.iter().position(|pair| query.equivalent(&pair.0))
 }
 
-/// The first place whose element the query stands for, after at most as many questions to it as there are elements.
+/// Returns the index of the first item that matches `query`.
+///
+/// # Complexity
+///
+/// At most `items.len()` comparisons.
+///
+/// # Examples
 ///
 /// ```
 /// find_item_equivalent(&["a", "b"], "b") // Some(1)
@@ -172,7 +187,7 @@ pub fn find_item_equivalent<T: Eq, Q: Equivalent<T>>(items: &[T], query: Q) -> O
     ensures within { IfSome result (λ i. i < length items.now) }
 {
     if items.first().is_some_and(is_small) {
-        return find_by_fours(
+        return find_item_unrolled(
             items,
             |item: &T| -> bool
                 ensures { result ≡ Q.equivalent query item.now }
@@ -182,7 +197,13 @@ pub fn find_item_equivalent<T: Eq, Q: Equivalent<T>>(items: &[T], query: Q) -> O
     items.iter().position(|item| query.equivalent(item))
 }
 
-/// Whether the query stands for one of `items`, after at most as many questions to it as there are elements.
+/// Returns `true` if one of `items` matches `query`.
+///
+/// # Complexity
+///
+/// At most `items.len()` comparisons.
+///
+/// # Examples
 ///
 /// ```
 /// is_in_equivalent(&["a", "b"], "c") // false

@@ -1,8 +1,8 @@
 //! The iterators over a set's elements, by reference and by value.
 //!
-//! A contract sees each as the list of what it has left. `next` takes the first of it and `next_back` the last, in
-//! constant time; once it is empty, both answer `None`. Only the `clone` of `IntoIter` takes memory, and time by the
-//! length of the list.
+//! In contracts an iterator is the list of the elements that it has left. `next` removes the first of them and returns
+//! it, and `next_back` the last, in constant time. Once the list is empty, both return `None`. Only the `clone` of
+//! `IntoIter` allocates, and its time is linear in the length of the list.
 ghost use Rattle.std.specs.Prelude.{◌≡◌, ◌<◌, ◌^◌, IfOk, IfSome, length};
 ghost use Rattle.std.specs.Iterator.{UpTo, at_most};
 ghost use Rattle.std.specs.Iterator.SizeHint.{IsWithinCount};
@@ -14,7 +14,11 @@ use std::collections::VecDeque;
 use std::marker::Model;
 use std::{fmt, slice};
 
-/// The elements of a set, each as `&T`, in their order. `VecSet::iter` and `&set` make it.
+/// An iterator over the elements of a set, each as `&T`, in their order.
+///
+/// `VecSet::iter` and `(&set).into_iter()` create it.
+///
+/// # Examples
 ///
 /// ```
 /// let set = vecset!(alloc; 1, 2);
@@ -37,7 +41,9 @@ impl<'a, T> Model for Iter<'a, T> {
 }
 
 impl<'a, T> Iter<'a, T> {
-    /// The elements of a slice, from the first to the last.
+    /// Creates an iterator over the items of a slice, from the first to the last.
+    ///
+    /// # Examples
     ///
     /// ```
     /// let mut items = Iter::over(&[1, 2]);
@@ -54,7 +60,13 @@ impl<'a, T> Iter<'a, T> {
         }
     }
 
-    /// Another over what is left. It takes no memory.
+    /// Returns another iterator over the elements that are left.
+    ///
+    /// # Complexity
+    ///
+    /// Does not allocate.
+    ///
+    /// # Examples
     ///
     /// ```
     /// let set = vecset!(alloc; 1, 2);
@@ -83,7 +95,7 @@ impl<'a, T> Iterator for Iter<'a, T> {
         self.items.next()
     }
 
-    /// The number of items left, as both ends.
+    /// Returns the number of elements left, as both bounds.
     fn size_hint(&self) -> (usize, Option<usize>)
         ensures lower { IsWithinCount result.0 (at_most (length self.now)) }
         ensures upper { IfSome result.1 (UpTo (at_most (length self.now))) }
@@ -103,20 +115,24 @@ impl<'a, T> DoubleEndedIterator for Iter<'a, T> {
 }
 
 impl<'a, T> ExactSizeIterator for Iter<'a, T> {
-    /// The number of items left.
+    /// Returns the number of elements left.
     fn len(&self) -> usize {
         self.items.len()
     }
 }
 
-/// Prints what is left as std prints a list.
+/// Prints the elements that are left, as std prints a list.
 impl<'a, T: fmt::Debug> fmt::Debug for Iter<'a, T> {
     fn fmt<W: fmt::Write>(&self, f: &mut fmt::Formatter<W>) -> fmt::Result {
         f.debug_list().entries(self.clone()).finish()
     }
 }
 
-/// The elements of a set, each as `T`, in their order. The set by value makes it. Dropped, it drops what is left.
+/// An iterator over the elements of a set, each as `T`, in their order.
+///
+/// `set.into_iter()` creates it. If the iterator is dropped, the elements that are left are dropped too.
+///
+/// # Examples
 ///
 /// ```
 /// let set = vecset!(alloc; 1, 2);
@@ -138,7 +154,13 @@ impl<T> Model for IntoIter<T> {
 }
 
 impl<T> IntoIter<T> {
-    /// The elements of a vector, from the first to the last. It takes no memory.
+    /// Creates an iterator over the items of a vector, from the first to the last.
+    ///
+    /// # Complexity
+    ///
+    /// Does not allocate.
+    ///
+    /// # Examples
     ///
     /// ```
     /// let set = vecset!(alloc; 1, 2);
@@ -156,8 +178,13 @@ impl<T> IntoIter<T> {
         }
     }
 
-    /// Another over clones of the elements that are left, in the same order. Refused, nothing is made, and this one still
-    /// gives all that it has left.
+    /// Returns an iterator over clones of the elements that are left, in the same order.
+    ///
+    /// # Errors
+    ///
+    /// [`AllocError`] if the allocator refuses the request; this iterator then still has all elements that it had left.
+    ///
+    /// # Examples
     ///
     /// ```
     /// let set = vecset!(alloc; 1, 2);
@@ -188,7 +215,7 @@ impl<T: Drop> Iterator for IntoIter<T> {
         self.items.pop_front()
     }
 
-    /// The number of items left, as both ends.
+    /// Returns the number of elements left, as both bounds.
     fn size_hint(&self) -> (usize, Option<usize>)
         ensures lower { IsWithinCount result.0 (at_most (length self.now)) }
         ensures upper { IfSome result.1 (UpTo (at_most (length self.now))) }
@@ -208,13 +235,13 @@ impl<T: Drop> DoubleEndedIterator for IntoIter<T> {
 }
 
 impl<T: Drop> ExactSizeIterator for IntoIter<T> {
-    /// The number of items left.
+    /// Returns the number of elements left.
     fn len(&self) -> usize {
         self.items.len()
     }
 }
 
-/// Prints what is left as std prints a list.
+/// Prints the elements that are left, as std prints a list.
 impl<T: fmt::Debug> fmt::Debug for IntoIter<T> {
     fn fmt<W: fmt::Write>(&self, f: &mut fmt::Formatter<W>) -> fmt::Result {
         f.debug_list().entries(self.items.iter()).finish()

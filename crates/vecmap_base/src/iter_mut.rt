@@ -1,8 +1,8 @@
 //! The iterators that lend keys or values by `&mut`.
 //!
-//! A contract sees each as the list of what it has left, as it stood when the iterator was made: no clause speaks of
-//! what is written. `next` takes the first of it and `next_back` the last; once it is empty, both answer `None`. Each
-//! call takes constant time and no memory.
+//! In contracts an iterator is the list of what it has left, as it was when the iterator was created. No clause speaks
+//! of what is written. `next` removes the first item of this list and returns it, and `next_back` the last. Once the
+//! list is empty, both return `None`. Each call takes constant time and does not allocate.
 ghost use Rattle.std.specs.Prelude.{◌≡◌, ◌<◌, ◌^◌, IfSome, length};
 ghost use Rattle.std.specs.Iterator.{UpTo, at_most};
 ghost use Rattle.std.specs.Iterator.SizeHint.{IsWithinCount};
@@ -13,7 +13,11 @@ ghost use Rattle.vecmap_base.specs.Walks.{deref_both_mut, deref_mut};
 use std::marker::Model;
 use std::{fmt, slice};
 
-/// The pairs of a map, each as `(&K, &mut V)`, in their order. `VecMap::iter_mut` and `&mut map` make it.
+/// An iterator over the pairs of a map, each as `(&K, &mut V)`, in their order.
+///
+/// `VecMap::iter_mut` and `(&mut map).into_iter()` create it.
+///
+/// # Examples
 ///
 /// ```
 /// let mut map = vecmap!(alloc; 'a' => 1, 'b' => 2);
@@ -38,7 +42,9 @@ impl<'a, K, V> Model for IterMut<'a, K, V> {
 }
 
 impl<'a, K, V> IterMut<'a, K, V> {
-    /// The pairs of a slice, from the first to the last, each value to be written.
+    /// Creates an iterator over the pairs of a slice, from the first to the last, with mutable values.
+    ///
+    /// # Examples
     ///
     /// ```
     /// let mut pairs = [('a', 1), ('b', 2)];
@@ -71,7 +77,7 @@ impl<'a, K, V> Iterator for IterMut<'a, K, V> {
         Some((key, value))
     }
 
-    /// The number of items left, as both ends.
+    /// Returns the number of pairs left, as both bounds.
     fn size_hint(&self) -> (usize, Option<usize>)
         ensures lower { IsWithinCount result.0 (at_most (length self.now)) }
         ensures upper { IfSome result.1 (UpTo (at_most (length self.now))) }
@@ -92,20 +98,24 @@ impl<'a, K, V> DoubleEndedIterator for IterMut<'a, K, V> {
 }
 
 impl<'a, K, V> ExactSizeIterator for IterMut<'a, K, V> {
-    /// The number of items left.
+    /// Returns the number of pairs left.
     fn len(&self) -> usize {
         self.pairs.len()
     }
 }
 
-/// Prints what is left as std prints a list.
+/// Prints the pairs that are left, as std prints a list.
 impl<'a, K: fmt::Debug, V: fmt::Debug> fmt::Debug for IterMut<'a, K, V> {
     fn fmt<W: fmt::Write>(&self, f: &mut fmt::Formatter<W>) -> fmt::Result {
         f.debug_list().entries(self.pairs.as_slice()).finish()
     }
 }
 
-/// The pairs of a map, each as `(&mut K, &mut V)`, in their order. What is written may make keys equal.
+/// An iterator over the pairs of a map, each as `(&mut K, &mut V)`, in their order.
+///
+/// A key that is written may become equal to another.
+///
+/// # Examples
 ///
 /// ```
 /// let mut map = vecmap!(alloc; 'a' => 1, 'b' => 2);
@@ -130,7 +140,9 @@ impl<'a, K, V> Model for IterMut2<'a, K, V> {
 }
 
 impl<'a, K, V> IterMut2<'a, K, V> {
-    /// The pairs of a slice, from the first to the last, each key and each value to be written.
+    /// Creates an iterator over the pairs of a slice, from the first to the last, with mutable keys and values.
+    ///
+    /// # Examples
     ///
     /// ```
     /// let mut pairs = [('a', 1), ('b', 2)];
@@ -163,7 +175,7 @@ impl<'a, K, V> Iterator for IterMut2<'a, K, V> {
         Some((&mut pair.0, &mut pair.1))
     }
 
-    /// The number of items left, as both ends.
+    /// Returns the number of pairs left, as both bounds.
     fn size_hint(&self) -> (usize, Option<usize>)
         ensures lower { IsWithinCount result.0 (at_most (length self.now)) }
         ensures upper { IfSome result.1 (UpTo (at_most (length self.now))) }
@@ -184,20 +196,24 @@ impl<'a, K, V> DoubleEndedIterator for IterMut2<'a, K, V> {
 }
 
 impl<'a, K, V> ExactSizeIterator for IterMut2<'a, K, V> {
-    /// The number of items left.
+    /// Returns the number of pairs left.
     fn len(&self) -> usize {
         self.pairs.len()
     }
 }
 
-/// Prints what is left as std prints a list.
+/// Prints the pairs that are left, as std prints a list.
 impl<'a, K: fmt::Debug, V: fmt::Debug> fmt::Debug for IterMut2<'a, K, V> {
     fn fmt<W: fmt::Write>(&self, f: &mut fmt::Formatter<W>) -> fmt::Result {
         f.debug_list().entries(self.pairs.as_slice()).finish()
     }
 }
 
-/// The keys of a map, each as `&mut K`, in their order. What is written may make keys equal.
+/// An iterator over the keys of a map, each as `&mut K`, in their order.
+///
+/// A key that is written may become equal to another.
+///
+/// # Examples
 ///
 /// ```
 /// let mut map = vecmap!(alloc; 'a' => 1, 'b' => 2);
@@ -223,7 +239,9 @@ impl<'a, K, V> Model for KeysMut<'a, K, V> {
 }
 
 impl<'a, K, V> KeysMut<'a, K, V> {
-    /// The keys of a slice of pairs, from the first to the last, each to be written.
+    /// Creates an iterator over the keys of a slice of pairs, from the first to the last, each of them mutable.
+    ///
+    /// # Examples
     ///
     /// ```
     /// let mut pairs = [('a', 1), ('b', 2)];
@@ -256,7 +274,7 @@ impl<'a, K, V> Iterator for KeysMut<'a, K, V> {
         Some(&mut pair.0)
     }
 
-    /// The number of items left, as both ends.
+    /// Returns the number of keys left, as both bounds.
     fn size_hint(&self) -> (usize, Option<usize>)
         ensures lower { IsWithinCount result.0 (at_most (length self.now)) }
         ensures upper { IfSome result.1 (UpTo (at_most (length self.now))) }
@@ -277,13 +295,13 @@ impl<'a, K, V> DoubleEndedIterator for KeysMut<'a, K, V> {
 }
 
 impl<'a, K, V> ExactSizeIterator for KeysMut<'a, K, V> {
-    /// The number of items left.
+    /// Returns the number of keys left.
     fn len(&self) -> usize {
         self.pairs.len()
     }
 }
 
-/// Prints what is left as std prints a list.
+/// Prints the keys that are left, as std prints a list.
 impl<'a, K: fmt::Debug, V> fmt::Debug for KeysMut<'a, K, V> {
     fn fmt<W: fmt::Write>(&self, f: &mut fmt::Formatter<W>) -> fmt::Result {
         f.debug_list()
@@ -292,7 +310,11 @@ impl<'a, K: fmt::Debug, V> fmt::Debug for KeysMut<'a, K, V> {
     }
 }
 
-/// The values of a map, each as `&mut V`, in the order of their keys. `VecMap::values_mut` makes it.
+/// An iterator over the values of a map, each as `&mut V`, in the order of their keys.
+///
+/// `VecMap::values_mut` creates it.
+///
+/// # Examples
 ///
 /// ```
 /// let mut map = vecmap!(alloc; 'a' => 1, 'b' => 2);
@@ -318,7 +340,9 @@ impl<'a, K, V> Model for ValuesMut<'a, K, V> {
 }
 
 impl<'a, K, V> ValuesMut<'a, K, V> {
-    /// The values of a slice of pairs, from the first to the last, each to be written.
+    /// Creates an iterator over the values of a slice of pairs, from the first to the last, each of them mutable.
+    ///
+    /// # Examples
     ///
     /// ```
     /// let mut pairs = [('a', 1), ('b', 2)];
@@ -351,7 +375,7 @@ impl<'a, K, V> Iterator for ValuesMut<'a, K, V> {
         Some(&mut pair.1)
     }
 
-    /// The number of items left, as both ends.
+    /// Returns the number of values left, as both bounds.
     fn size_hint(&self) -> (usize, Option<usize>)
         ensures lower { IsWithinCount result.0 (at_most (length self.now)) }
         ensures upper { IfSome result.1 (UpTo (at_most (length self.now))) }
@@ -372,13 +396,13 @@ impl<'a, K, V> DoubleEndedIterator for ValuesMut<'a, K, V> {
 }
 
 impl<'a, K, V> ExactSizeIterator for ValuesMut<'a, K, V> {
-    /// The number of items left.
+    /// Returns the number of values left.
     fn len(&self) -> usize {
         self.pairs.len()
     }
 }
 
-/// Prints what is left as std prints a list.
+/// Prints the values that are left, as std prints a list.
 impl<'a, K, V: fmt::Debug> fmt::Debug for ValuesMut<'a, K, V> {
     fn fmt<W: fmt::Write>(&self, f: &mut fmt::Formatter<W>) -> fmt::Result {
         f.debug_list()

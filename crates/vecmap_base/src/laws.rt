@@ -1,4 +1,5 @@
-//! Laws of the definitions that the contracts cite. A call of one costs nothing, and gives a proof the law.
+//! Laws of the definitions that the contracts use. A call of a law costs nothing, and gives the law to the proof of the
+//! caller.
 ghost use Rattle.std.specs.Prelude.{◌≡◌, ◌≤◌, List, Option, length, map, option_map};
 ghost use Rattle.std.specs.List.{IsDistinct};
 ghost use Rattle.std.specs.Map.{keys_of};
@@ -7,21 +8,29 @@ ghost use Rattle.vecmap_base.specs.Pairs.{HasDistinctKeys};
 ghost use Rattle.vecmap_base.specs.Repeats.{comparisons, cost};
 ghost use Rattle.vecmap_base.specs.Walks.{End, Pulls, PullsBy};
 
-/// A removal of repeats makes at most one comparison for each two elements, and exactly as many where no two are equal.
+/// Bounds the number of comparisons that a removal of repeats makes.
+///
+/// It is at most one comparison for each two elements, and exactly as many if no two elements are equal.
 pub fn comparisons_are_bounded<T: Eq>()
     ensures at_most { (xs : List T) → comparisons T.eq xs ≤ cost (length xs) }
-    ensures exact_if_distinct { (xs : List T) → IsDistinct T.eq xs → comparisons T.eq xs ≡ cost (length xs) }
+    ensures exact_if_distinct { (xs : List T) → IsDistinct T.eq xs
+        → comparisons T.eq xs ≡ cost (length xs) }
 {}
 
-/// The same of pairs, whose keys are compared.
+/// Like [`comparisons_are_bounded`], for pairs, whose keys are compared.
 pub fn key_comparisons_are_bounded<K: Eq, V>()
     ensures at_most { (l : List (K × V)) → comparisons K.eq (keys_of l) ≤ cost (length l) }
-    ensures exact_if_distinct { (l : List (K × V)) → HasDistinctKeys K.eq l → comparisons K.eq (keys_of l) ≡ cost (length l) }
+    ensures exact_if_distinct { (l : List (K × V)) → HasDistinctKeys K.eq l
+        → comparisons K.eq (keys_of l) ≡ cost (length l) }
 {}
 
-/// Any mixture of pulls from both ends of an exact iterator answers what its list gives: each item once, from the front
-/// in order, from the back in reverse, and then none. `A` is what the iterator gives, as `&K`, and `X` what its list
-/// holds, as `K`.
+/// Says what pulls from both ends of an exact iterator return, in any mixture.
+///
+/// They return what its list gives: each item once, from the front in order, from the back in reverse. Once all are
+/// given, they return `None`. `A` is the type of what the iterator returns, such as `&K`. `X` is the type of what its
+/// list holds, such as `K`.
 pub fn iterators_pull_as_lists<A, X>()
-    ensures { (shows : A → X) (s t : List X) (ends : List End) (items : List (Option A)) → PullsBy (TakesFirst shows) (TakesLast shows) s ends items t → Pulls s ends (map (option_map shows) items) t }
+    ensures { (shows : A → X) (s t : List X) (ends : List End) (items : List (Option A))
+        → PullsBy (TakesFirst shows) (TakesLast shows) s ends items t
+        → Pulls s ends (map (option_map shows) items) t }
 {}

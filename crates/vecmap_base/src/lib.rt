@@ -1,14 +1,13 @@
-//! Lists of pairs and of elements: lookups, tests for repeats, removal of repeats in place, and what a refused
-//! insertion gives back.
+//! Functions over slices and vectors of pairs or elements, the iterators of maps and sets, and the error `Refused`.
 //!
-//! The definitions that every crate above speaks of stand in `specs/`.
+//! The functions look up, compare, move, search and retain items, and find and remove repeats. The definitions that the
+//! contracts of every crate use are in `specs/`.
 #![tactic(auto)]
 
 mod distinct;
 mod drain;
 mod equality;
 mod equivalent;
-mod fours;
 pub mod items;
 mod iter;
 mod iter_mut;
@@ -22,7 +21,7 @@ mod repeats;
 mod retain;
 mod search;
 mod steps;
-mod twos;
+mod unrolled;
 
 pub use distinct::{items_distinct, keys_distinct};
 pub use drain::{move_range_last, reverse_from};

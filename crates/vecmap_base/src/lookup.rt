@@ -1,11 +1,17 @@
-//! The first equal place of a list, and whether there is one.
+//! Searches of a slice for the first equal key or item, and for the first with the bytes of a text.
 ghost use Rattle.std.specs.Prelude.{◌≡◌, ◌<◌, IfSome, length, position};
 ghost use Rattle.vecmap_base.specs.Items.{has_item, item_index};
 ghost use Rattle.vecmap_base.specs.Pairs.{has_text, index_by, index_of};
 
 use crate::equivalent::{find_equivalent, find_item_equivalent, is_in_equivalent};
 
-/// The first place whose key is equal to `key`, after at most as many comparisons as there are pairs.
+/// Returns the index of the first pair whose key is equal to `key`.
+///
+/// # Complexity
+///
+/// At most `pairs.len()` comparisons.
+///
+/// # Examples
 ///
 /// ```
 /// find(&[('a', 1), ('b', 2)], &'b') // Some(1)
@@ -17,7 +23,13 @@ pub fn find<K: Eq, V>(pairs: &[(K, V)], key: &K) -> Option<usize>
     find_equivalent(pairs, key)
 }
 
-/// The first place whose element is equal to `item`, after at most as many comparisons as there are elements.
+/// Returns the index of the first item that is equal to `item`.
+///
+/// # Complexity
+///
+/// At most `items.len()` comparisons.
+///
+/// # Examples
 ///
 /// ```
 /// find_item(&['a', 'b'], &'b') // Some(1)
@@ -29,8 +41,13 @@ pub fn find_item<T: Eq>(items: &[T], item: &T) -> Option<usize>
     find_item_equivalent(items, item)
 }
 
-/// The first place whose key has the bytes of `text`, after at most as many comparisons as there are pairs. It takes no
-/// memory.
+/// Returns the index of the first pair whose key has the bytes of `text`.
+///
+/// # Complexity
+///
+/// At most `pairs.len()` comparisons. Does not allocate.
+///
+/// # Examples
 ///
 /// ```
 /// let pairs = vec![in alloc; (String::from_str(alloc, "a")?, 1)]?;
@@ -43,8 +60,13 @@ pub fn find_str<V>(pairs: &[(String, V)], text: &str) -> Option<usize>
     find_equivalent(pairs, text)
 }
 
-/// The first place whose element has the bytes of `text`, after at most as many comparisons as there are elements. It
-/// takes no memory.
+/// Returns the index of the first item that has the bytes of `text`.
+///
+/// # Complexity
+///
+/// At most `items.len()` comparisons. Does not allocate.
+///
+/// # Examples
 ///
 /// ```
 /// let items = vec![in alloc; String::from_str(alloc, "a")?]?;
@@ -57,7 +79,13 @@ pub fn find_item_str(items: &[String], text: &str) -> Option<usize>
     find_item_equivalent(items, text)
 }
 
-/// Whether one of `items` is equal to `item`, after at most as many comparisons as there are elements.
+/// Returns `true` if one of `items` is equal to `item`.
+///
+/// # Complexity
+///
+/// At most `items.len()` comparisons.
+///
+/// # Examples
 ///
 /// ```
 /// is_in(&['a', 'b'], &'c') // false

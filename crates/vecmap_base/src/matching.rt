@@ -1,13 +1,12 @@
-//! Matching the pairs of two lists one to one. A pair that is matched is marked, so that no other is matched with it.
+//! A one-to-one match of the pairs of two lists. A matched pair is marked, so that no other pair is matched with it.
 ghost use Rattle.std.specs.Prelude.{◌≡◌, ◌<◌, ◌≤◌, IfSome, None, false, length, replicate, slice_index_or, true};
 ghost use Rattle.std.specs.List.{list_any};
 ghost use Rattle.vecmap_base.specs.Equality.{FirstDiffer, counts_agree, free, same_pair};
 
-use crate::equality::is_same;
 use crate::lookup::find;
 
-// Whether each pair of `a` is matched with a pair of `b` that is the same, where `taken` has no marks yet. The first pairs
-// are known to differ, and are not compared with each other again.
+// Returns whether each pair of `a` is matched with a pair of `b` that has an equal key and an equal value. `taken` has
+// no marks yet. The first pairs are known to differ, and are not compared with each other again.
 pub(crate) fn pairs_match<K: Eq, V: Eq>(a: &[(K, V)], b: &[(K, V)], taken: &mut [bool]) -> bool
     requires as_long { length a.now ≡ length b.now }
     requires enough { length b.now ≤ length taken.old }
@@ -29,13 +28,15 @@ pub(crate) fn pairs_match<K: Eq, V: Eq>(a: &[(K, V)], b: &[(K, V)], taken: &mut 
     true
 }
 
-// The first place that has no mark and holds the same pair.
+// Returns the index of the first pair without a mark that has the same key and the same value as `pair`.
 fn find_free<K: Eq, V: Eq>(pairs: &[(K, V)], taken: &[bool], pair: &(K, V)) -> Option<usize>
     requires enough { length pairs.now ≤ length taken.now }
     ensures within { IfSome result (λ i. i < length pairs.now) }
     ensures unmarked { IfSome result (λ i. slice_index_or taken.now i true ≡ false) }
-    ensures same { IfSome result (λ i. same_pair K.eq V.eq pair.now (slice_index_or pairs.now i pair.now) ≡ true) }
-    ensures none { result ≡ None → list_any (same_pair K.eq V.eq pair.now) (free pairs.now taken.now) ≡ false }
+    ensures same { IfSome result (λ i. same_pair K.eq V.eq pair.now
+        (slice_index_or pairs.now i pair.now) ≡ true) }
+    ensures none { result ≡ None
+        → list_any (same_pair K.eq V.eq pair.now) (free pairs.now taken.now) ≡ false }
 {
     let first = find(pairs, &pair.0)?;
     if !taken[first] && pair.1 == pairs[first].1 {
@@ -47,4 +48,11 @@ fn find_free<K: Eq, V: Eq>(pairs: &[(K, V)], taken: &[bool], pair: &(K, V)) -> O
         }
     }
     None
+}
+
+// Returns whether the keys of two pairs are equal, and their values too.
+pub(crate) fn is_same<K: Eq, V: Eq>(p: &(K, V), q: &(K, V)) -> bool
+    ensures { result ≡ same_pair K.eq V.eq p.now q.now }
+{
+    p.0 == q.0 && p.1 == q.1
 }

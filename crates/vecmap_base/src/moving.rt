@@ -1,13 +1,24 @@
-//! Moves within a list.
+//! Moves of items within a slice or a vector.
 ghost use Rattle.std.specs.Prelude.{◌≡◌, ◌<◌, ◌≤◌, Some, insert, length, remove, slice_get, slice_index_or, vec_capacity};
 
 use std::mem::{replace, size_of_val};
 
-// The most bytes of an item that is taken out by a turn.
-const TURNED: usize = 64;
+// The largest size, in bytes, of an item that `take_out` removes by a rotation.
+const MAX_BYTES_FOR_ROTATION: usize = 64;
 
-/// Puts an item in the place of the one at `from`, which it answers, and moves it to `to`. Those between the two places
-/// move by one place. It takes no memory, and time in the distance of the two places.
+/// Replaces the item at `from`, moves the new item to `to`, and returns the old one.
+///
+/// The items between the two indices shift by one index.
+///
+/// # Conditions
+///
+/// Both `from` and `to` are less than `items.len()`.
+///
+/// # Complexity
+///
+/// Linear in the distance between the two indices. Does not allocate.
+///
+/// # Examples
 ///
 /// ```
 /// let mut items = vec![in alloc; 'a', 'b', 'c']?;
@@ -26,7 +37,19 @@ pub fn replace_and_move<T>(items: &mut Vec<T>, from: usize, to: usize, item: T) 
     old
 }
 
-/// Takes out the item at a place. Those after it move up by one place. It takes no memory, and time in their number.
+/// Removes and returns the item at `index`.
+///
+/// The items after it shift by one index to the left.
+///
+/// # Conditions
+///
+/// `index` is less than `items.len()`.
+///
+/// # Complexity
+///
+/// Linear in the number of items after `index`. Does not allocate.
+///
+/// # Examples
 ///
 /// ```
 /// let mut items = vec![in alloc; 'a', 'b', 'c']?;
@@ -39,7 +62,7 @@ pub fn take_out<T>(items: &mut Vec<T>, index: usize) -> T
     ensures items { items.new.items ≡ remove items.old.items index }
     ensures capacity { vec_capacity items.new ≡ vec_capacity items.old }
 {
-    if size_of_val(&items[index]) > TURNED {
+    if size_of_val(&items[index]) > MAX_BYTES_FOR_ROTATION {
         return items.remove(index);
     }
     let last = items.len() - 1;
@@ -47,8 +70,19 @@ pub fn take_out<T>(items: &mut Vec<T>, index: usize) -> T
     items.pop().unwrap()
 }
 
-/// Puts an item at a place of a vector that has room for one more. Those from there on move down by one place. It takes no
-/// memory, and time in their number.
+/// Inserts an item at `index` into a vector that has spare capacity.
+///
+/// The items from `index` on shift by one index to the right.
+///
+/// # Conditions
+///
+/// `index` is at most `items.len()`. The vector has spare capacity for one more item.
+///
+/// # Complexity
+///
+/// Linear in the number of items from `index` on. Does not allocate.
+///
+/// # Examples
 ///
 /// ```
 /// let mut items = vec![in alloc; 'a', 'b', 'c']?;
@@ -66,11 +100,12 @@ pub fn put_in<T>(items: &mut Vec<T>, index: usize, item: T)
     items[index..].rotate_right(1);
 }
 
-// Moves the item at one place to another. Those between the two move by one place.
+// Moves the item at `from` to `to`. The items between the two indices shift by one index.
 fn move_item<T>(items: &mut [T], from: usize, to: usize)
     requires from_within { from < length items.old }
     requires to_within { to < length items.old }
-    ensures { (d : T) → items.new ≡ insert (remove items.old from) to (slice_index_or items.old from d) }
+    ensures { (d : T) → items.new
+        ≡ insert (remove items.old from) to (slice_index_or items.old from d) }
 {
     if from < to {
         items[from..to + 1].rotate_left(1);

@@ -1,9 +1,11 @@
-//! What a refused insertion gives back.
+//! The error of a refused insertion, with what was passed to the call.
 use std::alloc::AllocError;
 use std::error::Error;
 use std::{fmt, io};
 
-/// Want of memory, with what was handed in and could not be stored.
+/// The error of a call that ran out of memory, with the value that was passed and could not be stored.
+///
+/// # Examples
 ///
 /// ```
 /// let refused = Refused { given: ('a', 1) };
@@ -14,7 +16,9 @@ pub struct Refused<T> {
     pub given: T,
 }
 
-/// Drops what was handed in.
+/// Converts the error into an `AllocError`, and drops the value in it.
+///
+/// # Examples
 ///
 /// ```
 /// let refused = Refused { given: ('a', 1) };
@@ -26,7 +30,11 @@ impl<T: Drop> From<Refused<T>> for AllocError {
     }
 }
 
-/// Drops what was handed in. The error is of the kind `OutOfMemory`, as that of an `AllocError`.
+/// Converts the error into an `io::Error`, and drops the value in it.
+///
+/// The new error is of the kind `OutOfMemory`, as that of an `AllocError` is.
+///
+/// # Examples
 ///
 /// ```
 /// let refused = Refused { given: ('a', 1) };
@@ -44,7 +52,9 @@ impl<T: Drop> From<Refused<T>> for io::Error {
     }
 }
 
-/// Prints as an `AllocError` does, whatever was handed in.
+/// Prints the same text as an `AllocError`, whatever value is in the error.
+///
+/// # Examples
 ///
 /// ```
 /// let refused = Refused { given: ('a', 1) };

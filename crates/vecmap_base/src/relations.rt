@@ -1,4 +1,4 @@
-//! How two lists of elements stand to each other as sets.
+//! Relations of two lists of items, seen as sets.
 ghost use Rattle.std.specs.Prelude.{◌≡◌, ◌↔◌, IsTrue, []};
 ghost use Rattle.std.specs.List.{list_any};
 ghost use Rattle.vecmap_base.specs.Equality.{is_within};
@@ -6,8 +6,15 @@ ghost use Rattle.vecmap_base.specs.Items.{both, has_item};
 
 use crate::lookup::is_in;
 
-/// Whether each of `items` is one of `others`. It looks them up in turn, up to the first that is not found, so it makes
-/// at most as many comparisons as the product of the lengths.
+/// Returns `true` if each of `items` is equal to one of `others`.
+///
+/// Looks the items up in order, and stops at the first that is not found.
+///
+/// # Complexity
+///
+/// At most as many comparisons as the product of the lengths.
+///
+/// # Examples
 ///
 /// ```
 /// are_within(&[2, 1], &[1, 2, 3]) // true
@@ -18,8 +25,15 @@ pub fn are_within<T: Eq>(items: &[T], others: &[T]) -> bool
     items.iter().all(|item| is_in(others, item))
 }
 
-/// Whether none of `items` is one of `others`. It looks them up in turn, up to the first that is found, so it makes at
-/// most as many comparisons as the product of the lengths.
+/// Returns `true` if none of `items` is equal to one of `others`.
+///
+/// Looks the items up in order, and stops at the first that is found.
+///
+/// # Complexity
+///
+/// At most as many comparisons as the product of the lengths.
+///
+/// # Examples
 ///
 /// ```
 /// are_apart(&[2, 1], &[3, 4]) // true
@@ -31,7 +45,7 @@ pub fn are_apart<T: Eq>(items: &[T], others: &[T]) -> bool
     !overlap(items, others)
 }
 
-// Whether one of `items` is one of `others`.
+// Returns whether one of `items` is equal to one of `others`.
 fn overlap<T: Eq>(items: &[T], others: &[T]) -> bool
     ensures { result ≡ list_any (has_item T.eq others.now) items.now }
 {

@@ -1,7 +1,7 @@
-//! Removal of repeats in place: nothing is shifted, and one truncation ends it.
+//! Removal of repeats in place. Nothing is shifted, and one truncation at the end removes the repeats.
 //!
-//! Each item is compared with those before it that stay, in order, up to the first that is equal to it. So n items take
-//! at most n(n-1)/2 comparisons, and exactly as many where no two are equal (`laws`).
+//! Each item is compared with those before it that stay, in order, up to the first equal one. So n items take at most
+//! n(n-1)/2 comparisons, and exactly as many if no two are equal (see `laws`).
 ghost use Rattle.std.specs.Prelude.{◌≡◌, ◌+◌, ◌<◌, ◌≤◌, [], IfSome, length, swap, take, vec_capacity};
 ghost use Rattle.std.specs.List.Sorted.{IsPermutation};
 ghost use Rattle.std.specs.Map.{keys_of, values_of};
@@ -12,7 +12,7 @@ ghost use Rattle.vecmap_base.specs.Repeats.{comparisons, cost, search_cost};
 use crate::steps::Steps;
 use std::mem;
 
-// Whether an element of `front` is equal to `item`. It stops at the first that is.
+// Returns whether an element of `front` is equal to `item`. Stops at the first equal element.
 fn is_repeat<T: Eq>(front: &[T], item: &T, steps: &mut Steps) -> bool
     requires countable { steps.old + length front.now ≤ u128.MAX }
     ensures answer { result ≡ has_item T.eq front.now item.now }
@@ -26,7 +26,7 @@ fn is_repeat<T: Eq>(front: &[T], item: &T, steps: &mut Steps) -> bool
     false
 }
 
-// The first place of `front` whose key is equal to `key`. It stops there.
+// Returns the index of the first pair of `front` whose key is equal to `key`. Stops at this pair.
 fn find_repeat<K: Eq, V>(front: &[(K, V)], key: &K, steps: &mut Steps) -> Option<usize>
     requires countable { steps.old + length front.now ≤ u128.MAX }
     ensures place { result ≡ index_of K.eq front.now key.now }
@@ -41,7 +41,7 @@ fn find_repeat<K: Eq, V>(front: &[(K, V)], key: &K, steps: &mut Steps) -> Option
     None
 }
 
-// Exchanges the values of two pairs.
+// Swaps the values of two pairs.
 fn swap_values<K, V>(pairs: &mut [(K, V)], i: usize, j: usize)
     requires order { i < j }
     requires within { j < length pairs.old }
@@ -52,12 +52,21 @@ fn swap_values<K, V>(pairs: &mut [(K, V)], i: usize, j: usize)
     mem::swap(&mut front[i].1, &mut back[0].1);
 }
 
-/// Brings the pairs that the puts of all pairs in turn leave to the front, and answers how many they are: the first
-/// of equal keys, in order, each with its last value. All keys and all values stay in the slice, rearranged.
+/// Moves the first pair of each key to the front, with the last value of that key, and returns their number.
 ///
-/// Each key is compared with those before it that stay, up to the first equal one: at most n(n-1)/2 comparisons for n
-/// pairs, and exactly as many where no two keys are equal. It takes no memory. The count and n(n-1)/2 must not be above
-/// `u128::MAX`, as they never are with a new `Steps`.
+/// The pairs at the front keep their order. They are what the insertion of all pairs, in order, leaves. All keys and
+/// all values stay in the slice, rearranged.
+///
+/// # Conditions
+///
+/// The count of `steps`, plus n(n-1)/2 for n pairs, is at most `u128::MAX`. This always holds for a new [`Steps`].
+///
+/// # Complexity
+///
+/// Compares each key with those before it that stay, up to the first equal one. For n pairs, at most n(n-1)/2
+/// comparisons, and exactly as many if no two keys are equal. Does not allocate.
+///
+/// # Examples
 ///
 /// ```
 /// let mut pairs = [('a', 1), ('b', 2), ('a', 3)];
@@ -86,12 +95,20 @@ pub fn gather_pairs<K: Eq, V>(pairs: &mut [(K, V)], steps: &mut Steps) -> usize
     kept
 }
 
-/// Brings the first of equal elements to the front, in order, and answers how many they are. All elements stay in
-/// the slice, rearranged.
+/// Moves each item that is equal to no earlier one to the front, and returns their number.
 ///
-/// Each element is compared with those before it that stay, up to the first equal one: at most n(n-1)/2 comparisons for
-/// n elements, and exactly as many where no two are equal. It takes no memory. The count and n(n-1)/2 must not be above
-/// `u128::MAX`, as they never are with a new `Steps`.
+/// The items at the front keep their order. All items stay in the slice, rearranged.
+///
+/// # Conditions
+///
+/// The count of `steps`, plus n(n-1)/2 for n items, is at most `u128::MAX`. This always holds for a new [`Steps`].
+///
+/// # Complexity
+///
+/// Compares each item with those before it that stay, up to the first equal one. For n items, at most n(n-1)/2
+/// comparisons, and exactly as many if no two are equal. Does not allocate.
+///
+/// # Examples
 ///
 /// ```
 /// let mut items = [1, 1, 2];
@@ -116,11 +133,21 @@ pub fn gather_items<T: Eq>(items: &mut [T], steps: &mut Steps) -> usize
     kept
 }
 
-/// Leaves what the puts of all pairs in turn leave: the first of equal keys, in order, each with its last value.
+/// Keeps only the first pair of each key, with the last value of that key.
 ///
-/// Each key is compared with those before it that stay, up to the first equal one: at most n(n-1)/2 comparisons for n
-/// pairs, and exactly as many where no two keys are equal. It takes no memory, and drops nothing before the last
-/// comparison. The count and n(n-1)/2 must not be above `u128::MAX`, as they never are with a new `Steps`.
+/// The kept pairs keep their order. They are what the insertion of all pairs, in order, leaves. The other keys and
+/// values are dropped, none of them before the last comparison.
+///
+/// # Conditions
+///
+/// The count of `steps`, plus n(n-1)/2 for n pairs, is at most `u128::MAX`. This always holds for a new [`Steps`].
+///
+/// # Complexity
+///
+/// Compares each key with those before it that stay, up to the first equal one. For n pairs, at most n(n-1)/2
+/// comparisons, and exactly as many if no two keys are equal. Does not allocate.
+///
+/// # Examples
 ///
 /// ```
 /// let mut pairs = vec![in alloc; ('a', 1), ('b', 2), ('a', 3)]?;
@@ -137,11 +164,20 @@ pub fn dedup_keep_last_value<K: Eq + Drop, V: Drop>(pairs: &mut Vec<(K, V)>, ste
     pairs.truncate(kept);
 }
 
-/// Leaves the first of equal elements, in order.
+/// Keeps only the items that are equal to no earlier one.
 ///
-/// Each element is compared with those before it that stay, up to the first equal one: at most n(n-1)/2 comparisons for
-/// n elements, and exactly as many where no two are equal. It takes no memory, and drops nothing before the last
-/// comparison. The count and n(n-1)/2 must not be above `u128::MAX`, as they never are with a new `Steps`.
+/// The kept items keep their order. The other items are dropped, none of them before the last comparison.
+///
+/// # Conditions
+///
+/// The count of `steps`, plus n(n-1)/2 for n items, is at most `u128::MAX`. This always holds for a new [`Steps`].
+///
+/// # Complexity
+///
+/// Compares each item with those before it that stay, up to the first equal one. For n items, at most n(n-1)/2
+/// comparisons, and exactly as many if no two are equal. Does not allocate.
+///
+/// # Examples
 ///
 /// ```
 /// let mut items = vec![in alloc; 2, 1, 2]?;

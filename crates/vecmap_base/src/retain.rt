@@ -1,13 +1,24 @@
-//! Keeping the items that a closure answers true at. Nothing is shifted, and one truncation ends it.
+//! Functions that retain the items for which a closure returns `true`. Nothing is shifted, and one truncation at the
+//! end removes the others.
 ghost use Rattle.std.specs.Prelude.{◌≡◌, vec_capacity};
 ghost use Rattle.std.specs.Fn.{TakesAt};
 ghost use Rattle.vecmap_base.specs.Asked.{CallableOnEach, CallsAtItem, CallsAtPair, CallsAtPairMut, TakesPairAt, TakesPairMut};
 ghost use Rattle.vecmap_base.specs.Kept.{Kept};
 
-/// Keeps the pairs at which `f` answers true, each with the value as `f` left it.
+/// Retains only the pairs for which `f` returns `true`, each with the value as `f` left it.
 ///
-/// `f` is asked of each pair once, in order, in the state that the calls before have left. The capacity stays, and no
-/// memory is taken. For n pairs it makes n calls and at most n swaps, and drops those that go at the end.
+/// Calls `f` once for each pair, in order, in the state that the calls before have left. The capacity does not change.
+/// The other pairs are dropped at the end.
+///
+/// # Conditions
+///
+/// `f` can be called for each pair, in the state that the calls before have left.
+///
+/// # Complexity
+///
+/// For n pairs, n calls of `f` and at most n swaps. Does not allocate.
+///
+/// # Examples
 ///
 /// ```
 /// let mut pairs = vec![in alloc; ('a', 1), ('b', 2)]?;
@@ -18,7 +29,8 @@ pub fn retain_pairs<K: Drop, V: Drop, F: FnMut(&K, &mut V) -> bool + Drop>(
     pairs: &mut Vec<(K, V)>,
     mut f: F,
 )
-    requires callable { CallableOnEach (CallsAtPair F.FnMut) (TakesPairAt F.FnMut) f pairs.old.items }
+    requires callable { CallableOnEach (CallsAtPair F.FnMut)
+        (TakesPairAt F.FnMut) f pairs.old.items }
     ensures kept { (g : F) × Kept (CallsAtPair F.FnMut) f pairs.old.items pairs.new.items g }
     ensures capacity { vec_capacity pairs.new ≡ vec_capacity pairs.old }
 {
@@ -32,7 +44,9 @@ pub fn retain_pairs<K: Drop, V: Drop, F: FnMut(&K, &mut V) -> bool + Drop>(
     pairs.truncate(kept);
 }
 
-/// As `retain_pairs`, with a closure that may write the key too.
+/// Like [`retain_pairs`], but `f` can also write the key.
+///
+/// # Examples
 ///
 /// ```
 /// let mut pairs = vec![in alloc; ('a', 1), ('b', 2)]?;
@@ -43,7 +57,8 @@ pub fn retain_pairs_mut<K: Drop, V: Drop, F: FnMut(&mut K, &mut V) -> bool + Dro
     pairs: &mut Vec<(K, V)>,
     mut f: F,
 )
-    requires callable { CallableOnEach (CallsAtPairMut F.FnMut) (TakesPairMut F.FnMut) f pairs.old.items }
+    requires callable { CallableOnEach (CallsAtPairMut F.FnMut)
+        (TakesPairMut F.FnMut) f pairs.old.items }
     ensures kept { (g : F) × Kept (CallsAtPairMut F.FnMut) f pairs.old.items pairs.new.items g }
     ensures capacity { vec_capacity pairs.new ≡ vec_capacity pairs.old }
 {
@@ -57,10 +72,20 @@ pub fn retain_pairs_mut<K: Drop, V: Drop, F: FnMut(&mut K, &mut V) -> bool + Dro
     pairs.truncate(stay);
 }
 
-/// Keeps the items at which `f` answers true.
+/// Retains only the items for which `f` returns `true`.
 ///
-/// `f` is asked of each item once, in order, in the state that the calls before have left. The capacity stays, and no
-/// memory is taken. For n items it makes n calls and at most n swaps, and drops those that go at the end.
+/// Calls `f` once for each item, in order, in the state that the calls before have left. The capacity does not change.
+/// The other items are dropped at the end.
+///
+/// # Conditions
+///
+/// `f` can be called for each item, in the state that the calls before have left.
+///
+/// # Complexity
+///
+/// For n items, n calls of `f` and at most n swaps. Does not allocate.
+///
+/// # Examples
 ///
 /// ```
 /// let mut items = vec![in alloc; 1, 2, 3]?;
@@ -82,7 +107,7 @@ pub fn retain_items<T: Drop, F: FnMut(&T) -> bool + Drop>(items: &mut Vec<T>, mu
     items.truncate(kept);
 }
 
-// What `f` answers at a pair, the value of which it may write.
+// Returns what `f` returns for a pair. `f` may write the value.
 fn ask_pair<K, V, F: FnMut(&K, &mut V) -> bool>(f: &mut F, pair: &mut (K, V)) -> bool
     requires callable { TakesPairAt F.FnMut f.old pair.old }
     ensures called { CallsAtPair F.FnMut f.old pair.old result pair.new f.new }
@@ -90,7 +115,7 @@ fn ask_pair<K, V, F: FnMut(&K, &mut V) -> bool>(f: &mut F, pair: &mut (K, V)) ->
     f(&pair.0, &mut pair.1)
 }
 
-// What `f` answers at a pair, the key and the value of which it may write.
+// Returns what `f` returns for a pair. `f` may write the key and the value.
 fn ask_pair_mut<K, V, F: FnMut(&mut K, &mut V) -> bool>(f: &mut F, pair: &mut (K, V)) -> bool
     requires callable { TakesPairMut F.FnMut f.old pair.old }
     ensures called { CallsAtPairMut F.FnMut f.old pair.old result pair.new f.new }
@@ -98,7 +123,7 @@ fn ask_pair_mut<K, V, F: FnMut(&mut K, &mut V) -> bool>(f: &mut F, pair: &mut (K
     f(&mut pair.0, &mut pair.1)
 }
 
-// What `f` answers at an item.
+// Returns what `f` returns for an item.
 fn ask_item<T, F: FnMut(&T) -> bool>(f: &mut F, item: &T) -> bool
     requires callable { TakesAt F.FnMut f.old item.now }
     ensures called { CallsAtItem F.FnMut f.old item.now result item.now f.new }

@@ -1,7 +1,11 @@
-//! The count of the comparisons that a removal of repeats makes.
+//! A counter of the comparisons that a removal of repeats makes.
 use std::marker::Model;
 
-/// How many comparisons were made. In contracts it is that number.
+/// A counter of comparisons.
+///
+/// In contracts it is the number of comparisons made.
+///
+/// # Examples
 ///
 /// ```
 /// let mut steps = Steps::new();
@@ -24,7 +28,9 @@ impl Model for Steps {
 impl Steps {
     ghost use Rattle.std.specs.Prelude.{◌≡◌, ◌+◌, ◌<◌};
 
-    /// No comparison yet.
+    /// Creates a counter of no comparisons.
+    ///
+    /// # Examples
     ///
     /// ```
     /// Steps::new().count() // 0
@@ -35,7 +41,9 @@ impl Steps {
         Steps { made: 0 }
     }
 
-    /// The number of comparisons so far.
+    /// Returns the number of comparisons so far.
+    ///
+    /// # Examples
     ///
     /// ```
     /// let mut steps = Steps::new();
@@ -50,7 +58,13 @@ impl Steps {
         self.made
     }
 
-    /// Whether `a == b`, in one comparison more. The count must be below `u128::MAX`: `count` tells.
+    /// Returns `true` if `a == b`, and counts one more comparison.
+    ///
+    /// # Conditions
+    ///
+    /// The count is less than `u128::MAX`. [`Steps::count`] returns it.
+    ///
+    /// # Examples
     ///
     /// ```
     /// let mut steps = Steps::new();

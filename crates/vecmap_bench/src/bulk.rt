@@ -1,4 +1,4 @@
-//! Many pairs at once.
+//! Loops over calls that insert many pairs at once.
 use crate::{REFUSED, filled, mark, pairs};
 use std::alloc::{AllocError, Global};
 use vecmap::VecMap;
@@ -12,7 +12,7 @@ fn conversions(alloc: Global, keys: &[u64], rounds: u64) -> Result<u64, AllocErr
     Ok(sum)
 }
 
-// With the number of comparisons, both halves of it.
+// The checksum includes both halves of the number of comparisons.
 fn counted_conversions(alloc: Global, keys: &[u64], rounds: u64) -> Result<u64, AllocError> {
     let mut sum: u64 = 0;
     for round in 0..rounds {

@@ -104,7 +104,7 @@ fn full_replacements(
     Ok(sum)
 }
 
-// Each key goes to the place that its number gives.
+// Each key moves to the index that its number gives.
 fn moves(alloc: Global, keys: &[u64], probes: &[u64], rounds: u64) -> Result<u64, AllocError> {
     let mut map = filled(alloc, keys)?;
     let mut sum: u64 = 0;
@@ -124,7 +124,7 @@ fn moves(alloc: Global, keys: &[u64], probes: &[u64], rounds: u64) -> Result<u64
     Ok(sum)
 }
 
-// Each key is new and goes to the middle.
+// Each key is new and is inserted in the middle.
 #[unsafe(no_mangle)]
 pub extern "C" fn vecmap_bench_insert_at_absent(
     alloc: Global,

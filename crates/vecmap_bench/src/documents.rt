@@ -1,4 +1,4 @@
-//! Attribute documents: a line of the text is a section and a name, with a space between them.
+//! Attribute documents. A line of the text is a section and a name, with a space between them.
 use crate::REFUSED;
 use attr_doc::{Document, Name};
 use std::alloc::{AllocError, Global};
@@ -8,7 +8,7 @@ fn name(alloc: Global, text: &str) -> Result<Name, AllocError> {
     Ok(Name::new(String::from_str(alloc, text)?))
 }
 
-// The sections and names of the lines.
+// Returns the sections and names of the lines.
 fn names(alloc: Global, lines: &str) -> Result<Vec<(Name, Name)>, AllocError> {
     let mut names = Vec::new(alloc);
     for line in lines.lines() {
@@ -19,7 +19,7 @@ fn names(alloc: Global, lines: &str) -> Result<Vec<(Name, Name)>, AllocError> {
     Ok(names)
 }
 
-// Sets each name of each line, to itself, and answers how many were there.
+// Sets each name of each line to itself, and returns how many names were present.
 fn set_all(alloc: Global, document: &mut Document, lines: &str) -> Result<u64, AllocError> {
     let mut there: u64 = 0;
     for line in lines.lines() {
@@ -81,7 +81,7 @@ fn merges(alloc: Global, lines: &str, others: &str, rounds: u64) -> Result<u64, 
     Ok(sum)
 }
 
-// A text is written in each round, so that no comparison is made once for all.
+// A text is written in each round, so that the compiler cannot compare once for all rounds.
 fn comparisons(alloc: Global, lines: &str, others: &str, rounds: u64) -> Result<u64, AllocError> {
     let mut document = filled(alloc, lines)?;
     let mut other = filled(alloc, others)?;

@@ -49,7 +49,7 @@ pub extern "C" fn vecmap_bench_entry_absent(
     sum
 }
 
-// How often each word stands among the words.
+// Counts how often each word occurs among the words.
 #[unsafe(no_mangle)]
 pub extern "C" fn vecmap_bench_count_words(
     alloc: Global,

@@ -1,4 +1,5 @@
-//! Equality of maps. A value of each map is written in each round, so that no comparison is made once for all.
+//! Equality of maps. A value of each map is written in each round, so that the compiler cannot compare once for all
+//! rounds.
 use crate::{REFUSED, filled};
 use std::alloc::Global;
 

@@ -1,4 +1,4 @@
-//! Iterators over maps, from either end.
+//! Iterators over maps, from both ends.
 use crate::{REFUSED, filled, mark};
 use std::alloc::{AllocError, Global};
 
@@ -40,7 +40,7 @@ pub extern "C" fn vecmap_bench_iter_back(
     sum
 }
 
-// Half of the pulls come from each end.
+// Half of the calls are of `next`, and half of `next_back`.
 #[unsafe(no_mangle)]
 pub extern "C" fn vecmap_bench_iter_both(
     alloc: Global,

@@ -1,7 +1,7 @@
-//! One call for each loop that the benchmark times: it runs the whole loop over a map or a set and returns a checksum.
+//! One call for each loop that the benchmark times. It runs the whole loop over a map or a set and returns a checksum.
 //!
-//! An export takes its keys and its probes, and how often to go over them. The same loops stand in Rust beside the
-//! benchmark, for the original and its peers; the checksums have to agree.
+//! An export takes its keys and its probes, and the number of rounds over them. The folder `bench` has the same loops
+//! in Rust, for vecmap-rs and other crates. The checksums must agree.
 #![tactic(auto)]
 
 mod bulk;
@@ -22,10 +22,10 @@ mod texts;
 use std::alloc::{AllocError, Global};
 use vecmap::VecMap;
 
-/// What a call answers where memory was refused.
+/// The checksum that a call returns if a request for memory is refused.
 const REFUSED: u64 = u64::MAX;
 
-/// The pairs of these keys, in a vector of their number.
+/// Returns the pairs of these keys, in a vector without spare capacity.
 fn pairs(alloc: Global, keys: &[u64]) -> Result<Vec<(u64, u64)>, AllocError> {
     let mut pairs = Vec::with_capacity(alloc, keys.len())?;
     for key in keys {
@@ -34,7 +34,7 @@ fn pairs(alloc: Global, keys: &[u64]) -> Result<Vec<(u64, u64)>, AllocError> {
     Ok(pairs)
 }
 
-/// The map of these keys.
+/// Creates the map of these keys.
 fn filled(alloc: Global, keys: &[u64]) -> Result<VecMap<u64, u64>, AllocError> {
     let mut map = VecMap::with_capacity(alloc, keys.len())?;
     for key in keys {
@@ -43,7 +43,7 @@ fn filled(alloc: Global, keys: &[u64]) -> Result<VecMap<u64, u64>, AllocError> {
     Ok(map)
 }
 
-/// The last pair and the number of pairs, in one number.
+/// Returns the last pair and the number of pairs, combined in one number.
 fn mark(map: &VecMap<u64, u64>) -> u64 {
     match map.last() {
         Some((key, value)) => (*key ^ *value).wrapping_add(map.len() as u64),

@@ -2,7 +2,7 @@
 use crate::{REFUSED, filled, mark};
 use std::alloc::Global;
 
-/// The place that a search answers, whether there is an equal item or not.
+/// Returns the index that a search found, whether or not it has an equal item.
 pub(crate) fn either(found: Result<usize, usize>) -> usize {
     match found {
         Ok(place) | Err(place) => place,

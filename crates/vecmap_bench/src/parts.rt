@@ -1,8 +1,8 @@
-//! Parts of maps: what a closure keeps, what a drain gives, what is split off.
+//! Parts of maps: what a closure keeps, what a drain returns, what is split off.
 use crate::{REFUSED, filled, mark};
 use std::alloc::Global;
 
-// About half of the pairs stay.
+// About half of the pairs are kept.
 #[unsafe(no_mangle)]
 pub extern "C" fn vecmap_bench_retain(
     alloc: Global,
@@ -24,7 +24,7 @@ pub extern "C" fn vecmap_bench_retain(
     sum
 }
 
-// The front half goes.
+// The front half is removed.
 #[unsafe(no_mangle)]
 pub extern "C" fn vecmap_bench_drain(
     alloc: Global,
@@ -49,7 +49,7 @@ pub extern "C" fn vecmap_bench_drain(
     sum
 }
 
-// All go, last first.
+// All pairs are removed, from the back.
 #[unsafe(no_mangle)]
 pub extern "C" fn vecmap_bench_drain_back(
     alloc: Global,

@@ -1,4 +1,4 @@
-//! Removals, by key and by place.
+//! Removals, by key and by index.
 use crate::{REFUSED, filled};
 use std::alloc::Global;
 
@@ -50,7 +50,7 @@ pub extern "C" fn vecmap_bench_swap_remove(
     sum
 }
 
-// Empties a clone from the front.
+// Removes all pairs of a clone from the front.
 #[unsafe(no_mangle)]
 pub extern "C" fn vecmap_bench_remove_front(
     alloc: Global,
@@ -76,7 +76,7 @@ pub extern "C" fn vecmap_bench_remove_front(
     sum
 }
 
-// Empties a clone from the middle.
+// Removes all pairs of a clone from the middle.
 #[unsafe(no_mangle)]
 pub extern "C" fn vecmap_bench_remove_middle(
     alloc: Global,

@@ -1,4 +1,4 @@
-//! Sets of numbers. Two elements change places in each round, so that no comparison is made once for all.
+//! Sets of numbers. Two elements are exchanged in each round, so that the compiler cannot compare once for all rounds.
 mod algebra;
 mod parts;
 mod runs;
@@ -7,7 +7,7 @@ use crate::REFUSED;
 use std::alloc::{AllocError, Global};
 use vecmap::VecSet;
 
-// The set of these elements.
+// Creates the set of these elements.
 fn filled(alloc: Global, items: &[u64]) -> Result<VecSet<u64>, AllocError> {
     let mut set = VecSet::with_capacity(alloc, items.len())?;
     for item in items {
@@ -16,7 +16,7 @@ fn filled(alloc: Global, items: &[u64]) -> Result<VecSet<u64>, AllocError> {
     Ok(set)
 }
 
-// The last element and the number of elements, in one number.
+// Returns the last element and the number of elements, combined in one number.
 fn mark(set: &VecSet<u64>) -> u64 {
     match set.last() {
         Some(item) => item.wrapping_add(set.len() as u64),

@@ -1,4 +1,4 @@
-//! Texts as keys: the lines of one text are the keys, and those of another the probes.
+//! Texts as keys. The lines of one text are the keys, and those of another are the probes.
 use crate::REFUSED;
 use std::alloc::{AllocError, Global};
 use std::str;
@@ -12,7 +12,7 @@ fn lines(alloc: Global, text: &str) -> Result<Vec<String>, AllocError> {
     Ok(lines)
 }
 
-// The map of each line to its number.
+// Creates the map of each line to its number.
 fn numbered(alloc: Global, text: &str) -> Result<VecMap<String, u64>, AllocError> {
     let mut map = VecMap::new(alloc);
     let mut number: u64 = 0;
@@ -60,7 +60,7 @@ fn insertions(alloc: Global, keys: &str, rounds: u64) -> Result<u64, AllocError>
     Ok(sum)
 }
 
-// How often each line stands in the text.
+// Counts how often each line occurs in the text.
 fn counts(alloc: Global, text: &str, rounds: u64) -> Result<u64, AllocError> {
     let mut sum: u64 = 0;
     for round in 0..rounds {

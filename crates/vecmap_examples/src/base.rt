@@ -1,4 +1,4 @@
-//! Examples at what walks lists, and at the macros.
+//! The examples of the comments at functions over lists, and at the macros.
 mod distinct;
 mod drain;
 mod equality;

@@ -1,4 +1,4 @@
-//! The examples of `crates/vecmap/CALLING.md`, each a file that the page quotes.
+//! The examples of `crates/vecmap/CALLING.md`, one file for each block of the page.
 pub mod count;
 pub mod errors;
 pub mod inner;

@@ -1,4 +1,5 @@
-//! The examples of the pages for users, and of the comments at public calls: each is compiled, and its result compared.
+//! The examples of the pages for users, and of the comments at public calls. Each is compiled, and its result is
+//! compared.
 #![tactic(auto)]
 
 #[cfg(test)]

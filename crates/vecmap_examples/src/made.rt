@@ -1,4 +1,4 @@
-//! Maps and sets that examples begin with.
+//! Maps and sets with which examples begin.
 use std::alloc::{AllocError, Global};
 use vecmap::{VecMap, VecSet, vecmap, vecset};
 
@@ -42,12 +42,12 @@ pub fn one_text_set(alloc: Global) -> Result<VecSet<String>, AllocError> {
     Ok(vecset!(alloc; String::from_str(alloc, "a")?))
 }
 
-/// Whether a map has these pairs, in this order.
+/// Returns whether a map has these pairs, in this order.
 pub fn has_pairs<K: Eq, V: Eq>(map: &VecMap<K, V>, pairs: &[(K, V)]) -> bool {
     map.as_slice() == pairs
 }
 
-/// Whether a set has these elements, in this order.
+/// Returns whether a set has these elements, in this order.
 pub fn has_items<T: Eq>(set: &VecSet<T>, items: &[T]) -> bool {
     set.as_slice() == items
 }

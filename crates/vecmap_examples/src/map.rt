@@ -1,4 +1,4 @@
-//! Examples at the calls of maps.
+//! The examples of the comments at the calls of maps.
 mod bulk;
 mod cloning;
 mod conversion;

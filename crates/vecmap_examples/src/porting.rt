@@ -1,4 +1,4 @@
-//! The examples of `docs/PORTING.md`, each a file that the page quotes.
+//! The examples of `docs/PORTING.md`, several blocks of the page in a file.
 pub mod bulk;
 pub mod calls;
 pub mod order;

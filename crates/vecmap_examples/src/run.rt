@@ -33,7 +33,7 @@ fn shows_run_set(alloc: Global) -> Result<bool, Fail> {
 }
 
 #[test]
-fn examples_hold(rt: HostRuntime) -> Result<(), Fail> {
+fn examples_of_run_hold(rt: HostRuntime) -> Result<(), Fail> {
     let alloc = rt.alloc();
     assert!(rt; shows_run(alloc)?);
     assert!(rt; shows_run_set(alloc)?);

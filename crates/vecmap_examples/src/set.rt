@@ -1,4 +1,4 @@
-//! Examples at the calls of sets.
+//! The examples of the comments at the calls of sets.
 mod bulk;
 mod cloning;
 mod conversion;

@@ -1,8 +1,9 @@
-//! An iterator whose lower size hint says what one likes.
+//! An iterator with any lower size hint.
 ghost use Rattle.std.specs.Prelude.{◌+◌, length};
 ghost use Rattle.std.specs.Iterator.{at_most};
 
-/// The items of a slice, lent one after another. As the hint may be above their number, `remaining` is above it too.
+/// An iterator over the items of a slice, in order. The hint may be greater than the number of items, so `remaining`
+/// may be too.
 #[derive(Drop)]
 pub struct Hinted<'a, T> {
     pub items: &'a [T],

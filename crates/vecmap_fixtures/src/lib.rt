@@ -1,11 +1,17 @@
-//! What the tests of maps and sets begin with: keys that are equal and not identical, a query that is no key, texts, keys
-//! and values that tell of their comparisons, clones and drops, iterators with a hint of their own, maps and sets of
-//! these, and comparisons of whole lists and of pulls from both ends.
+//! Fixtures for the tests of maps and sets:
+//!
+//! - keys that are equal and not identical, a query that is not a key, and texts;
+//! - keys and values that record their comparisons, clones and drops;
+//! - iterators with any size hint;
+//! - maps and sets of these;
+//! - comparisons of whole lists, and of iterators with lists.
 #![tactic(auto)]
 
+mod draws;
 mod hinted;
 mod item;
 mod made;
+pub mod plain;
 mod pulls;
 mod query;
 mod same;
@@ -14,6 +20,7 @@ mod tests;
 mod texts;
 mod told;
 
+pub use draws::Draws;
 pub use hinted::Hinted;
 pub use item::{Item, has_items, has_pairs, make_item};
 pub use made::{full_map, full_set, item_map, item_set, repeating_map, set_of};

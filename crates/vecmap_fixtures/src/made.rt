@@ -1,10 +1,10 @@
-//! Maps and sets that tests begin with.
+//! Maps and sets for tests.
 use super::item::{Item, make_item};
 use std::alloc::{AllocError, Global};
 use vecmap::map::MutableKeys;
 use vecmap::{VecMap, VecSet};
 
-/// The map of single inserts of these pairs, each a number, a mark and a value.
+/// Creates a map by single insertions of these pairs, each a number, a mark and a value.
 pub fn item_map(
     alloc: Global,
     pairs: &[(u32, char, u32)],
@@ -16,7 +16,8 @@ pub fn item_map(
     Ok(map)
 }
 
-/// The map whose list is these pairs, repeats too, with no number `u32::MAX`: each key is written at its place.
+/// Creates a map whose list is these pairs, with their repeats. Each key is written at its index, and no number may be
+/// `u32::MAX`.
 pub fn repeating_map(
     alloc: Global,
     pairs: &[(u32, char, u32)],
@@ -31,7 +32,7 @@ pub fn repeating_map(
     Ok(map)
 }
 
-/// The set of single inserts of these elements, each a number and a mark.
+/// Creates a set by single insertions of these elements, each a number and a mark.
 pub fn item_set(alloc: Global, items: &[(u32, char)]) -> Result<VecSet<Item>, AllocError> {
     let mut set = VecSet::new(alloc);
     for item in items {
@@ -40,7 +41,7 @@ pub fn item_set(alloc: Global, items: &[(u32, char)]) -> Result<VecSet<Item>, Al
     Ok(set)
 }
 
-/// The set of single inserts of these elements.
+/// Creates a set by single insertions of these elements.
 pub fn set_of<T: Eq + Copy>(alloc: Global, items: &[T]) -> Result<VecSet<T>, AllocError> {
     let mut set = VecSet::new(alloc);
     for item in items {
@@ -49,7 +50,11 @@ pub fn set_of<T: Eq + Copy>(alloc: Global, items: &[T]) -> Result<VecSet<T>, All
     Ok(set)
 }
 
-/// As `item_map`, with no more room than there are pairs, or refused.
+/// Like `item_map`, without spare capacity.
+///
+/// # Errors
+///
+/// [`AllocError`] if the allocator refuses a request, or if the map has spare capacity.
 pub fn full_map(
     alloc: Global,
     pairs: &[(u32, char, u32)],
@@ -66,7 +71,11 @@ pub fn full_map(
     }
 }
 
-/// As `item_set`, with no more room than there are elements, or refused.
+/// Like `item_set`, without spare capacity.
+///
+/// # Errors
+///
+/// [`AllocError`] if the allocator refuses a request, or if the set has spare capacity.
 pub fn full_set(alloc: Global, items: &[(u32, char)]) -> Result<VecSet<Item>, AllocError> {
     let mut set = VecSet::with_capacity(alloc, items.len())?;
     for item in items {

@@ -1,6 +1,8 @@
-//! Pulls of an exact iterator from both ends, beside a plain list.
-/// Whether six pulls of the iterator, each from the end that a bit of `ends` says (0 the front, 1 the back), answer what
-/// `list` has left, read by `read`, and then none, while `len` and both ends of `size_hint` are exact at each step.
+//! The comparison of an exact iterator with a plain list, by calls from both ends.
+/// Returns whether six calls of the iterator return the items of `list`, and then `None`.
+///
+/// Each bit of `ends` says from which end the next item is taken: 0 from the front, 1 from the back. `read` reads an
+/// item. `len` and both ends of `size_hint` must be exact at each step.
 pub fn pulls_as_list<I, T, F>(mut iter: I, read: F, list: &[T], ends: u32) -> bool
 where
     I: DoubleEndedIterator + ExactSizeIterator + Drop,
@@ -33,19 +35,19 @@ where
     is_exact(&iter, rest.len())
 }
 
-// Whether the iterator says that it has `left` items left.
+// Returns whether the iterator says that it has `left` items left.
 fn is_exact<I: ExactSizeIterator>(iter: &I, left: usize) -> bool {
     iter.len() == left && iter.size_hint() == (left, Some(left))
 }
 
-// The first of the list, which is then without it.
+// Removes and returns the first item of the list.
 fn take_first<'a, T>(list: &mut &'a [T]) -> Option<&'a T> {
     let (first, rest) = list.split_first()?;
     *list = rest;
     Some(first)
 }
 
-// The last of the list, which is then without it.
+// Removes and returns the last item of the list.
 fn take_last<'a, T>(list: &mut &'a [T]) -> Option<&'a T> {
     let (last, rest) = list.split_last()?;
     *list = rest;

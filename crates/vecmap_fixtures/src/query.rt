@@ -1,11 +1,11 @@
-//! A query that is no key.
+//! A query that is not a key.
 ghost use Rattle.std.specs.Prelude.{nat_eq};
 ghost use Rattle.std.specs.Cmp.{nat_eq_equiv};
 
 use super::item::Item;
 use vecmap::Equivalent;
 
-/// Stands for the items of this number.
+/// A query that matches the items of this number.
 #[derive(Clone, Copy, Debug)]
 pub struct Number(pub u32);
 

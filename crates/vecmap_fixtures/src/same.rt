@@ -1,11 +1,11 @@
-//! Sameness of keys and elements.
+//! Identity of keys and elements.
 use super::item::Item;
 use std::borrow::CowStr;
 use std::boxed::{BoxedSlice, BoxedStr};
 use std::rc::RcStr;
 use std::sync::ArcStr;
 
-/// Sameness in every part, where `==` may look at some of them alone.
+/// Identity in every part, where `==` may compare only some of them.
 pub trait Same {
     fn is_same(&self, other: &Self) -> bool;
 }
@@ -87,7 +87,7 @@ impl<T: Same> Same for Option<T> {
     }
 }
 
-/// Whether the items of two lists are the same, one by one.
+/// Returns whether the items of two lists are identical, in the same order.
 pub fn are_same<T: Same>(items: &[T], others: &[T]) -> bool {
     items.len() == others.len()
         && items

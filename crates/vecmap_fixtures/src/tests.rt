@@ -1,4 +1,5 @@
-//! What the comparisons tell apart: a test that uses one is worth no more than this.
+//! Tests of the comparisons themselves: each must also fail where it should. A test that uses one proves no more than
+//! this.
 use super::{
     Log, are_same, has_items, has_pairs, has_text_pairs, has_texts, has_told, has_told_pairs,
     make_item, pulls_as_list, text_map, text_set, told_map, told_set,

@@ -1,8 +1,8 @@
-//! Maps and sets of texts, which need memory of their own.
+//! Maps and sets of texts, which allocate.
 use std::alloc::{AllocError, Global};
 use vecmap::{VecMap, VecSet};
 
-/// The map of single inserts of these pairs of texts.
+/// Creates a map by single insertions of these pairs of texts.
 pub fn text_map(
     alloc: Global,
     pairs: &[(&str, &str)],
@@ -16,7 +16,7 @@ pub fn text_map(
     Ok(map)
 }
 
-/// The set of single inserts of these texts.
+/// Creates a set by single insertions of these texts.
 pub fn text_set(alloc: Global, texts: &[&str]) -> Result<VecSet<String>, AllocError> {
     let mut set = VecSet::with_capacity(alloc, texts.len())?;
     for text in texts {
@@ -25,14 +25,14 @@ pub fn text_set(alloc: Global, texts: &[&str]) -> Result<VecSet<String>, AllocEr
     Ok(set)
 }
 
-/// Whether the pairs are these texts, in this order, and as many.
+/// Returns whether the pairs are exactly these texts, in this order.
 pub fn has_text_pairs(pairs: &[(String, String)], expected: &[(&str, &str)]) -> bool {
     pairs.len() == expected.len()
         && pairs.iter().zip(expected).all(|(pair, wanted)| (pair.0.as_str(), pair.1.as_str())
             == *wanted)
 }
 
-/// Whether the elements are these texts, in this order, and as many.
+/// Returns whether the elements are exactly these texts, in this order.
 pub fn has_texts(items: &[String], expected: &[&str]) -> bool {
     items.len() == expected.len()
         && items

@@ -1,4 +1,4 @@
-//! A key, a value or an element that tells of its comparisons, of its clones and of its drop.
+//! A key, a value or an element that records its comparisons, its clones and its drop in a log.
 ghost use Rattle.std.specs.Prelude.{◌≡◌};
 
 use std::alloc::{AllocError, Global};
@@ -6,7 +6,7 @@ use std::cell::Cell;
 use std::fmt;
 use vecmap::{VecMap, VecSet};
 
-/// What the values of one test have told.
+/// What the values of one test have recorded.
 #[derive(Drop)]
 pub struct Log {
     comparisons: Cell<u32>,
@@ -17,7 +17,7 @@ pub struct Log {
 }
 
 impl Log {
-    /// Nothing yet.
+    /// Creates an empty log.
     pub fn new() -> Log {
         Log {
             comparisons: Cell::new(0),
@@ -28,33 +28,33 @@ impl Log {
         }
     }
 
-    /// How many comparisons there were.
+    /// Returns the number of comparisons.
     pub fn comparisons(&self) -> u32 {
         self.comparisons.get()
     }
 
-    /// How many values were dropped.
+    /// Returns the number of values that were dropped.
     pub fn drops(&self) -> u32 {
         self.drops.get()
     }
 
-    /// How many values there are: those that were made, clones too, without those that were dropped.
+    /// Returns the number of values that are alive: those that were created, clones too, less those that were dropped.
     pub fn alive(&self) -> u32 {
         self.made.get().wrapping_sub(self.drops.get())
     }
 
-    /// From now on the clones of this number are refused, and no others.
+    /// Makes the clones of this number fail from now on, and no others.
     pub fn refuse_clones_of(&self, number: u32) {
         self.unlucky.set(Some(number));
     }
 
-    /// Whether a comparison came after a value was dropped.
+    /// Returns whether there was a comparison after a drop.
     pub fn compares_after_drop(&self) -> bool {
         self.compares_after_drop.get()
     }
 }
 
-/// Equal by its number. Each value that is made, each `==` and each drop is noted in the log.
+/// A value that is compared by its number. The log records its creation, each `==` and its drop.
 pub struct Told<'a> {
     number: u32,
     log: &'a Log,
@@ -66,7 +66,7 @@ impl Told<'_> {
     }
 }
 
-/// A new value of this number.
+/// Creates a value of this number.
 pub fn make_told(log: &Log, number: u32) -> Told<'_>
     ensures { result.number ≡ number }
 {
@@ -74,7 +74,7 @@ pub fn make_told(log: &Log, number: u32) -> Told<'_>
     Told { number, log }
 }
 
-/// How many values are alive while the answer of a call stands, and how many once it is dropped.
+/// Checks how many values are alive while the result of a call is held, and how many after it is dropped.
 #[macro_export]
 macro_rules! assert_alive {
     ($rt:ident, $log:ident, $call:expr, $with:expr, $without:expr) => {{
@@ -85,7 +85,7 @@ macro_rules! assert_alive {
     }};
 }
 
-/// A clone has the number of its original. It is refused where the log says so.
+/// A clone has the number of its original. It fails if the log says so.
 impl<'a> Clone for Told<'a> {
     ghost use Rattle.std.specs.Prelude.{IsTrue, nat_eq};
 
@@ -138,7 +138,7 @@ impl Drop for Told<'_> {
     }
 }
 
-/// Pairs with these numbers as keys, all of one log, and as values.
+/// Creates pairs with these numbers as keys, all of one log, and as values.
 pub fn told_pairs<'a>(
     alloc: Global,
     log: &'a Log,
@@ -151,7 +151,7 @@ pub fn told_pairs<'a>(
     Ok(pairs)
 }
 
-/// Elements with these numbers, all of one log.
+/// Creates elements with these numbers, all of one log.
 pub fn told_items<'a>(
     alloc: Global,
     log: &'a Log,
@@ -164,7 +164,7 @@ pub fn told_items<'a>(
     Ok(items)
 }
 
-/// Pairs with these numbers as keys and, ten higher, as values, all of one log.
+/// Creates pairs with these numbers as keys, and these numbers plus ten as values, all of one log.
 pub fn told_couples<'a>(
     alloc: Global,
     log: &'a Log,
@@ -178,7 +178,7 @@ pub fn told_couples<'a>(
     Ok(couples)
 }
 
-/// The map of these couples, which has no room for more.
+/// Creates the map of these couples, without spare capacity.
 pub fn told_map<'a>(
     alloc: Global,
     log: &'a Log,
@@ -187,7 +187,7 @@ pub fn told_map<'a>(
     Ok(VecMap::from(told_couples(alloc, log, numbers)?))
 }
 
-/// The set of these numbers, all of one log, which has no room for more.
+/// Creates the set of these numbers, all of one log, without spare capacity.
 pub fn told_set<'a>(
     alloc: Global,
     log: &'a Log,
@@ -196,7 +196,7 @@ pub fn told_set<'a>(
     Ok(VecSet::from(told_items(alloc, log, numbers)?))
 }
 
-/// Whether the pairs have these numbers as keys and as values, in this order, and are as many.
+/// Returns whether the pairs have exactly these numbers as keys and as values, in this order.
 pub fn has_told_pairs(pairs: &[(Told<'_>, Told<'_>)], expected: &[(u32, u32)]) -> bool {
     pairs.len() == expected.len()
         && pairs
@@ -205,7 +205,7 @@ pub fn has_told_pairs(pairs: &[(Told<'_>, Told<'_>)], expected: &[(u32, u32)]) -
             .all(|(pair, wanted)| (pair.0.number, pair.1.number) == *wanted)
 }
 
-/// Whether the elements have these numbers, in this order, and are as many.
+/// Returns whether the elements have exactly these numbers, in this order.
 pub fn has_told(items: &[Told<'_>], expected: &[u32]) -> bool {
     items.len() == expected.len()
         && items

@@ -1,4 +1,4 @@
--- What later writes and removals leave of an entry's map.
+-- What later writes and removals through an entry leave of its map.
 pub mod Inserted
 pub mod Places
 pub mod Puts

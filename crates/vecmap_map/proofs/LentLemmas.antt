@@ -1,4 +1,5 @@
--- The walks through calls that lend a key and a value side by side.
+-- Lemmas for the proofs of calls that return references to a key and to its value. These proofs go through the compiled
+-- code step by step.
 pub mod Both
 pub mod Parts
 pub mod Steps

@@ -1,5 +1,6 @@
--- What stands in the collections that are the values of a map, once one of them was written. `inside` is the list of a
--- collection, and IsMade holds of one that was made empty.
+-- The lists of the collections that are the values of a map, after a write of one of them. `inside` is the list of a
+-- collection, and IsMade holds of a collection that was created empty. The idea: a lookup after `put` finds the written
+-- collection at its key, and at other keys what it found before.
 use Rattle.std.specs.Prelude.{◌≡◌, Bool, true, false, List, [], ◌∷◌, ◌++◌, None, Option, Some}
 use Rattle.std.specs.Cmp.{IsEquivalence}
 use Rattle.std.specs.Option.{UnwrapsOrElse, option_and_then, option_map_or}
@@ -12,21 +13,21 @@ use Rattle.vecmap_map.specs.Entry.{entries_with, entry_key, entry_map, entry_pla
 use Rattle.vecmap_map.specs.declared.entry.Entry.{Entry}
 
 module _ {K W : Type 0} (eq : K → K → Bool) where
-  -- what the entry of a key leaves with a value is what a put leaves
+  -- An entry with a new value leaves the same list as `put`.
   entry_puts : (m : Contents K W) (k : K) (e : Entry K W) (w : W) → entry_map e ≡ m → entry_key e ≡ k → entry_place e ≡ index_of eq m.entries k → entries_with e w ≡ put eq m.entries k w
   entry_puts m k e w same key place = λ t. option_map_or (λ i. with_value (same t).entries i w) (place t) ((same t).entries ++ (key t, w) ∷ [])
 
-  -- and its value is what a lookup finds
+  -- The value of an entry is what a lookup finds.
   entry_finds : (m : Contents K W) (k : K) (e : Entry K W) → entry_map e ≡ m → entry_place e ≡ index_of eq m.entries k → entry_value e ≡ lookup eq m.entries k
   entry_finds m k e same place = λ t. option_and_then (value_at (same t).entries) (place t)
 
 module _ {K W A : Type 0} (eq : K → K → Bool) (inside : W → List A) where
-  -- the list of the collection of a key, or none
+  -- The list of the collection of a key, or the empty list.
   abbrev inner : List (K × W) → K → List A
   inner l k = option_map_or inside (lookup eq l k) []
 
   module _ (IsMade : W → Type 0) (empty : (w : W) → IsMade w → inside w ≡ []) where
-    -- the collection of a key, or the empty one that was made for it, has the key's list
+    -- The collection of a key, or the empty one that was created for it, has the list of the key.
     pub inner_made : (l : List (K × W)) (k : K) (w : W) → UnwrapsOrElse (lookup eq l k) IsMade w → inside w ≡ inner l k
     inner_made l k w h = by (lookup eq l k) h
       where
@@ -35,25 +36,25 @@ module _ {K W A : Type 0} (eq : K → K → Bool) (inside : W → List A) where
         by (Some x) h = ap inside h
 
   module _ (o : IsEquivalence eq) where
-    -- equal keys have the same list
+    -- Equal keys have the same list.
     pub inner_congr : (l : List (K × W)) (x y : K) → eq x y ≡ true → inner l x ≡ inner l y
     inner_congr l x y e = ap (λ found. option_map_or inside found []) (lookup_congr eq o l x y e)
 
-    -- after a put of a collection, its key has its list
+    -- After an insertion of a collection, its key has its list.
     pub inner_put : (l : List (K × W)) (k : K) (w : W) → inner (put eq l k w) k ≡ inside w
     inner_put l k w = ap (λ found. option_map_or inside found []) (lookup_put eq o l k w)
 
-    -- and each other key has what it had
+    -- Each other key has the list that it had before.
     pub inner_put_other : (l : List (K × W)) (k : K) (w : W) (q : K) → eq k q ≡ false → inner (put eq l k w) q ≡ inner l q
     inner_put_other l k w q n = ap (λ found. option_map_or inside found []) (lookup_put_other eq o l k w q n)
 
     module _ (IsMade : W → Type 0) (empty : (w : W) → IsMade w → inside w ≡ []) where
-      -- a change of the collection of a key, which was made empty where there was none
+      -- A change of the collection of a key, which was created empty if there was none.
       pub inner_written : (change : List A → List A) (l : List (K × W)) (k : K) (before after : W)
           → UnwrapsOrElse (lookup eq l k) IsMade before → inside after ≡ change (inside before) → inner (put eq l k after) k ≡ change (inner l k)
       inner_written change l k before after h e = inner_put l k after ∙ e ∙ ap change (inner_made IsMade empty l k before h)
 
-      -- a collection that is only made empty changes no list
+      -- A collection that is only created empty changes no list.
       pub inner_unchanged : (l : List (K × W)) (k : K) (w : W) → UnwrapsOrElse (lookup eq l k) IsMade w → (q : K) → inner (put eq l k w) q ≡ inner l q
       inner_unchanged l k w h q =
           elim (cases_Bool (eq k q)) [
@@ -61,7 +62,7 @@ module _ {K W A : Type 0} (eq : K → K → Bool) (inside : W → List A) where
             | inr e ↦ inner_put_other l k w q e
           ]
 
-    -- the same through the entry e of the key k: l is the list that it leaves
+    -- The same through the entry e of the key k: l is the list that it leaves.
     pub inner_entered_other : (l : List (K × W)) (m : Contents K W) (k : K) (e : Entry K W) (w : W) → l ≡ entries_with e w → entry_map e ≡ m → entry_key e ≡ k → entry_place e ≡ index_of eq m.entries k → (q : K) → eq k q ≡ false → inner l q ≡ inner m.entries q
     inner_entered_other l m k e w leaves same key place q apart = ap (λ pairs. inner pairs q) (leaves ∙ entry_puts eq m k e w same key place) ∙ inner_put_other m.entries k w q apart
 

@@ -1,60 +1,61 @@
--- What a contract sees of a `VecMap`, and what calls say of its room.
+-- What a contract sees of a `VecMap`, and what calls say of its capacity.
 use Rattle.std.specs.Prelude.{◌≡◌, ◌+◌, ◌≤◌, ℕ, Bool, List, None, Option, IsSome, length}
 use Rattle.std.specs.Option.{option_map_or}
 use Rattle.vecmap_base.specs.Pairs.{index_by, index_of, with_pair, with_value}
 
--- the pairs from front to back, and how many fit before the vector grows
+-- The pairs from the first to the last, and how many of them fit before the vector grows.
 pub record Contents (K V : Type 0) : Type 0 where
   pub entries : List (K × V)
   pub capacity : ℕ
 
 module _ {K V : Type 0} where
-  -- m with other pairs
+  -- The map m with other pairs.
   abbrev pub with_entries : Contents K V → List (K × V) → Contents K V
   with_entries m l = record { entries = l; capacity = m.capacity }
 
-  -- m with v as the value at the place i
+  -- The map m with v as the value at the index i.
   abbrev pub with_value_at : Contents K V → ℕ → V → Contents K V
   with_value_at m i v = with_entries m (with_value m.entries i v)
 
-  -- m with the pair p at the place i
+  -- The map m with the pair p at the index i.
   abbrev pub with_pair_at : Contents K V → ℕ → K × V → Contents K V
   with_pair_at m i p = with_entries m (with_pair m.entries i p.0 p.1)
 
-  -- m with the pair p in the place of the first pair whose key passes the test, if there is one
+  -- The map m with the pair p instead of the first pair whose key passes the test, if there is one.
   abbrev pub with_pair_by : (K → Bool) → Contents K V → K × V → Contents K V
   with_pair_by test m p = option_map_or (λ i. with_pair_at m i p) (index_by test m.entries) m
 
-  -- m with v as the value of the first key that passes the test, if there is one
+  -- The map m with v as the value of the first key that passes the test, if there is one.
   abbrev pub with_value_by : (K → Bool) → Contents K V → V → Contents K V
   with_value_by test m v = option_map_or (λ i. with_value_at m i v) (index_by test m.entries) m
 
-  -- m with v as the value of the first key that is equal to k, if there is one
+  -- The map m with v as the value of the first key that is equal to k, if there is one.
   abbrev pub with_value_of : (K → K → Bool) → Contents K V → K → V → Contents K V
   with_value_of eq m k v = with_value_by (eq k) m v
 
-  -- n more pairs fit before the vector grows
+  -- Another n pairs fit before the vector grows.
   abbrev pub HasRoom : Contents K V → ℕ → Type 0
   HasRoom m n = length m.entries + n ≤ m.capacity
 
-  -- no more pair fits
+  -- The map is full: no more pairs fit before the vector grows.
   abbrev pub IsFull : Contents K V → Type 0
   IsFull m = length m.entries ≡ m.capacity
 
-  -- new has no less room than old. A key that has a place takes no memory, nor does a new one while there is room
+  -- The capacity does not shrink. It stays if the key has an index. It also stays if there is spare capacity for one
+  -- more pair.
   pub record KeepsRoomAt (place : Option ℕ) (old new : Contents K V) : Type 0 where
     pub capacity : old.capacity ≤ new.capacity
     pub there : IsSome place → new.capacity ≡ old.capacity
     pub spare : HasRoom old 1 → new.capacity ≡ old.capacity
 
-  -- a key was refused: nothing has changed, the key has no place, and the map is full
+  -- A key was refused: the map is unchanged, the key has no index, and the map is full.
   pub record RefusesAt (place : Option ℕ) (old new : Contents K V) : Type 0 where
     pub same : new ≡ old
     pub absent : place ≡ None
     pub full : IsFull old
 
 module _ {K V : Type 0} (eq : K → K → Bool) where
-  -- the same at the first place whose key is equal to k
+  -- The same for the index of the first key that is equal to k.
   abbrev pub KeepsRoom : Contents K V → K → Contents K V → Type 0
   KeepsRoom old k new = KeepsRoomAt (index_of eq old.entries k) old new
 

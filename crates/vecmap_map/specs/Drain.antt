@@ -1,4 +1,4 @@
--- What contracts see of a map's drain.
+-- What contracts see of the drain of a map.
 use Rattle.std.specs.Prelude.{◌≡◌, ℕ, List, Option, drop, take}
 use Rattle.std.specs.Borrow.{GName}
 use Rattle.std.specs.Vec.Iter.{reverse_if}
@@ -6,30 +6,30 @@ use Rattle.vecmap_base.specs.Drain.{DrainsFirst, DrainsLast}
 use Rattle.vecmap_map.specs.declared.drain.Drain.{Drain}
 
 module _ {K V : Type 0} where
-  -- the pairs that are still to come
+  -- The remaining pairs of the drain.
   abbrev pub drain_rest : Drain K V → List (K × V)
   drain_rest d = reverse_if d.reversed (drop d.keep d.map.now.entries)
 
-  -- the pairs that the map has once the drain is dropped
+  -- The pairs that the map has once the drain is dropped.
   abbrev pub drain_kept : Drain K V → List (K × V)
   drain_kept d = take d.keep d.map.now.entries
 
-  -- the capacity that the map has then
+  -- The capacity that the map has once the drain is dropped.
   abbrev pub drain_capacity : Drain K V → ℕ
   drain_capacity d = d.map.now.capacity
 
-  -- the ghost name of the reference to the map
+  -- The ghost name of the reference to the map.
   abbrev pub drain_lender : Drain K V → GName
   drain_lender d = d.map.ghost_name
 
-  -- both borrow the same map, and leave it the same pairs and the same capacity
+  -- Both drains borrow the same map, and leave it the same pairs and the same capacity.
   abbrev pub DrainKeeps : Drain K V → Drain K V → Type 0
   DrainKeeps old new = (drain_lender new ≡ drain_lender old) × (drain_kept new ≡ drain_kept old) × (drain_capacity new ≡ drain_capacity old)
 
-  -- a pull from the front
+  -- A pull from the front.
   abbrev pub DrainNext : Drain K V → Option (K × V) → Drain K V → Type 0
   DrainNext = DrainsFirst drain_rest DrainKeeps
 
-  -- a pull from the back
+  -- A pull from the back.
   abbrev pub DrainNextBack : Drain K V → Option (K × V) → Drain K V → Type 0
   DrainNextBack = DrainsLast drain_rest DrainKeeps

@@ -1,4 +1,4 @@
--- What the contracts of an entry read of it: the map, the key that was handed in, and the key's place.
+-- What contracts see of an entry: the map, the key that was passed to `entry`, and the index of that key.
 use Rattle.std.specs.Prelude.{◌≡◌, ℕ, List, [], ◌∷◌, ◌++◌, Option, None, Some, length, remove, slice_get, unwrap_or}
 use Rattle.std.specs.Borrow.{MutBor}
 use Rattle.std.specs.Option.{option_and_then, option_map_or}
@@ -11,65 +11,65 @@ use Rattle.vecmap_map.specs.declared.entry.Entry.TheVariants.{Occupied, Vacant}
 use Rattle.vecmap_map.specs.declared.entry.occupied.OccupiedEntry.{OccupiedEntry}
 
 module _ {K V : Type 0} where
-  -- the reference to the map
+  -- The reference to the map.
   abbrev pub entry_ref : Entry K V → MutBor (Contents K V)
   entry_ref (Occupied o) = o.map
   entry_ref (Vacant e) = e.map
 
-  -- the map, as the entry holds it
+  -- The map, as the entry holds it.
   abbrev pub entry_map : Entry K V → Contents K V
   entry_map e = (entry_ref e).now
 
-  -- the key that was handed in
+  -- The key that was passed to `entry`.
   abbrev pub entry_key : Entry K V → K
   entry_key (Occupied o) = o.key
   entry_key (Vacant e) = e.key
 
-  -- the key's place, if it has one
+  -- The index of the key, if it has one.
   abbrev pub entry_place : Entry K V → Option ℕ
   entry_place (Occupied o) = Some o.index
   entry_place (Vacant e) = None
 
-  -- the key's place, or the one that it will have
+  -- The index of the key, or the one that it will get.
   abbrev pub entry_index : Entry K V → ℕ
   entry_index e = unwrap_or (entry_place e) (length (entry_map e).entries)
 
-  -- the key's value, if it has one
+  -- The value of the key, if it has one.
   abbrev pub entry_value : Entry K V → Option V
   entry_value e = option_and_then (value_at (entry_map e).entries) (entry_place e)
 
-  -- the stored pair of the key, if it has one
+  -- The stored pair of the key, if it has one.
   abbrev pub entry_pair : Entry K V → Option (K × V)
   entry_pair e = option_and_then (slice_get (entry_map e).entries) (entry_place e)
 
-  -- the pairs once v is the key's value: it replaces the one that is there, and a new pair goes last
+  -- The pairs after v is set as the value of the key. It replaces an existing value, and a new pair is appended.
   abbrev pub entries_with : Entry K V → V → List (K × V)
   entries_with e v = option_map_or (λ i. with_value (entry_map e).entries i v) (entry_place e) ((entry_map e).entries ++ (entry_key e, v) ∷ [])
 
-  -- the pairs without that of the key, if it has one; what follows moves up by one place
+  -- The pairs without the pair of the key, if it has one. The index of each later pair decreases by one.
   abbrev pub entries_without : Entry K V → List (K × V)
   entries_without e = option_map_or (remove (entry_map e).entries) (entry_place e) (entry_map e).entries
 
-  -- the same, with the last pair in its place
+  -- The pairs without the pair of the key, if it has one. The last pair moves to its index.
   abbrev pub entries_swap_without : Entry K V → List (K × V)
   entries_swap_without e = option_map_or (swap_without (entry_map e).entries) (entry_place e) (entry_map e).entries
 
-  -- a later write or removal through d leaves the pairs that it would have left through e
+  -- A later write or removal through d leaves the same pairs as one through e.
   pub record LeavesSame (e d : Entry K V) : Type 0 where
     pub write : (v : V) → entries_with d v ≡ entries_with e v
     pub removal : entries_without d ≡ entries_without e
     pub swap_removal : entries_swap_without d ≡ entries_swap_without e
 
-  -- o, once v is its value
+  -- The entry o with v as its value.
   abbrev pub occupied_with : OccupiedEntry K V → V → OccupiedEntry K V
   occupied_with o v = record o { map = record o.map { now = with_value_at o.map.now o.index v }; within = still_within o v }
 
-  -- l is the pairs once v is the value of the key of e; a vacant entry stores a clone of the key
+  -- The list l has the pairs after v is set as the value of the key of e. A vacant entry stores a clone of the key.
   abbrev pub AreEntriesWith : (K → K → Type 0) → Entry K V → V → List (K × V) → Type 0
   AreEntriesWith is_clone (Occupied o) v l = l ≡ entries_with (Occupied o) v
   AreEntriesWith is_clone (Vacant e) v l = (k : K) × is_clone e.key k × (l ≡ e.map.now.entries ++ (k, v) ∷ [])
 
-  -- o is the entry after `insert_entry` of v at e
+  -- The entry o is what `insert_entry` of v at e returns.
   pub record IsInserted (is_clone : K → K → Type 0) (e : Entry K V) (v : V) (o : OccupiedEntry K V) : Type 0 where
     pub same_map : o.map.ghost_name ≡ (entry_ref e).ghost_name
     pub key : o.key ≡ entry_key e
@@ -77,7 +77,7 @@ module _ {K V : Type 0} where
     pub value : entry_value (Occupied o) ≡ Some v
     pub entries : AreEntriesWith is_clone e v o.map.now.entries
     pub room : KeepsRoomAt (entry_place e) (entry_map e) o.map.now
-    -- what a later write or removal through o leaves
+    -- What a later write or removal through o leaves.
     pub write : (w : V) → AreEntriesWith is_clone e w (entries_with (Occupied o) w)
     pub removal : entries_without (Occupied o) ≡ entries_without e
     pub swap_removal : entries_swap_without (Occupied o) ≡ entries_swap_without e

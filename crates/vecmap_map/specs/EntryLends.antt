@@ -1,4 +1,4 @@
--- What a map, or an entry of it, ends as, once what an entry's call lends has ended.
+-- What a map, or an entry of it, is once the reference or entry that a call of an entry returns has ended.
 use Rattle.std.specs.Prelude.{◌≡◌, [], Result}
 use Rattle.std.specs.Borrow.{RattleType, Fml, MutBor, LendsSoOk, RestsIfErr, follows}
 use mir.Syntax.{named}
@@ -11,18 +11,18 @@ use Rattle.vecmap_map.specs.declared.entry.Entry.{Entry}
 use Rattle.vecmap_map.specs.declared.entry.occupied.OccupiedEntry.{OccupiedEntry}
 
 module _ (K V : RattleType) where
-  -- once r ends, the last value behind it is the value of the key of e. Refused, the map stays, and it is full
+  -- Once r ends, its last value is the value of the key of e. On `Err` the map is full and stays.
   abbrev pub entry_lends : {E : Type 0} → Entry K.Denot V.Denot → Result (MutBor V.Denot) E → Fml
   entry_lends e r = LendsSoOk (the_row K V) V (entry_ref e) r (λ n v. (n.entries ≡ entries_with e v) × KeepsRoomAt (entry_place e) (entry_map e) n) (RefusesAt (entry_place e) (entry_map e))
 
-  -- an entry that is answered holds the map of e. Refused, the map stays
+  -- On `Ok` the returned entry holds the map of e. On `Err` the map stays.
   abbrev pub entry_passes : {E : Type 0} → Entry K.Denot V.Denot → Result (OccupiedEntry K.Denot V.Denot) E → Fml
   entry_passes e r = RestsIfErr (the_row K V) (entry_ref e) (λ o. o.map.ghost_name) r (λ n. n ≡ entry_map e)
 
-  -- once r ends, the last value behind it stands in the map of o, at its place
+  -- Once r ends, its last value is in the map of o, at the index of o.
   abbrev pub occupied_lends_on : OccupiedEntry K.Denot V.Denot → MutBor V.Denot → Fml
   occupied_lends_on o r = lends_value_at K V o.map o.index r
 
-  -- once r ends, the last value behind it is the value of o
+  -- Once r ends, its last value is the value of o.
   abbrev pub occupied_lends : MutBor (OccupiedEntry K.Denot V.Denot) → MutBor V.Denot → Fml
   occupied_lends o r = follows (occupied.the_row (record { mir = named 1; lft = [] }) K V) V o.ghost_name r.ghost_name (occupied_with o.now)

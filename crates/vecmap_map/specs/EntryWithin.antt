@@ -1,5 +1,6 @@
--- A write of a value leaves an entry's place below the length. The value of an entry holds this fact, so the definition
--- of an entry with another value needs it here: a file of specs/ may not name its crate's proofs.
+-- After a write of a value, the index of an entry is still below the length. An entry holds this fact, so the
+-- definition of an entry with another value needs its proof. It stands here because a file of specs/ may not name the
+-- proofs of its crate.
 use Rattle.std.specs.Prelude.{◌≡◌, ℕ, ◌<◌, List, Option, None, Some, length, refl, slice_get, slice_set}
 use Rattle.std.specs.Option.{option_map_or}
 use Rattle.std.proofs.Common.{subst, sym}
@@ -8,7 +9,7 @@ use Rattle.vecmap_base.specs.Pairs.{with_value}
 use Rattle.vecmap_map.specs.declared.entry.occupied.OccupiedEntry.{OccupiedEntry}
 
 module _ {K V : Type 0} where
-  -- a written value leaves the length
+  -- A write of a value does not change the length.
   length-with_value : (l : List (K × V)) (i : ℕ) (v : V) → length (with_value l i v) ≡ length l
   length-with_value l i v = by (slice_get l i)
     where

@@ -1,4 +1,4 @@
--- What a `VecMap` ends as, once a `&mut` into it has ended.
+-- What a `VecMap` is once a mutable reference into it has ended.
 use Rattle.std.specs.Prelude.{ℕ, Bool, [], ◌∷◌}
 use Rattle.std.specs.declared.option.Option.{Option}
 use Rattle.std.specs.declared.option.Option.TheVariants.{None, Some}
@@ -11,72 +11,74 @@ use Rattle.std.specs.contracts.impls.GlobalAllocator.TheImpl.{ghosts}
 use Rattle.std.specs.contracts.string.String as text
 use Rattle.vecmap_map.specs.contracts.VecMap.{the_row}
 
--- `String`, as the logic holds it
+-- The type `String`, as the logic holds it.
 abbrev pub text_row : RattleType
 text_row = text.the_row global.the_row ghosts
 
 module _ {K V : Type 0} where
-  -- the ghost name of the reference to the value, if there is one
+  -- The ghost name of the reference to the value, if there is one.
   abbrev pub value_name : Option (Bor K × MutBor V) → maybe.Option GName
   value_name None = maybe.none
   value_name (Some r) = maybe.some r.1.ghost_name
 
-  -- the same beside a place
+  -- The same for a result that also has an index.
   abbrev pub value_name_at : Option (ℕ × Bor K × MutBor V) → maybe.Option GName
   value_name_at None = maybe.none
   value_name_at (Some r) = maybe.some r.2.ghost_name
 
-  -- the ghost names of the references to the key and to the value, if there are such
+  -- The ghost names of the references to the key and to the value, if there are any.
   abbrev pub both_names_at : Option (ℕ × MutBor K × MutBor V) → maybe.Option (GName × GName)
   both_names_at None = maybe.none
   both_names_at (Some r) = maybe.some (r.1.ghost_name, r.2.ghost_name)
 
 module _ (K V : RattleType) where
-  -- once r ends, the last value behind it is the pair's, and the key has stayed
+  -- Once r ends, its last value is the value of the pair, and the key is unchanged.
   abbrev pub lends_value : MutBor (K.Denot × V.Denot) → MutBor V.Denot → Fml
   lends_value p r = Lends (Tuple (K ∷ V ∷ [])) V p r (λ v. (p.now.0, v))
 
-  -- once both references end, the last values behind them are the pair
+  -- Once both references end, their last key and value are the pair.
   abbrev pub lends_parts : MutBor (K.Denot × V.Denot) → MutBor K.Denot × MutBor V.Denot → Fml
   lends_parts p r = LendsBoth (Tuple (K ∷ V ∷ [])) K V p r (λ k v. (k, v))
 
 module _ (K V : RattleType) (m : MutBor (Contents K.Denot V.Denot)) where
-  -- once r ends, the last value behind it stands at the place i, and nothing else has changed
+  -- Once r ends, its last value is the value at the index i, and nothing else has changed.
   abbrev pub lends_value_at : ℕ → MutBor V.Denot → Fml
   lends_value_at i r = Lends (the_row K V) V m r (with_value_at m.now i)
 
-  -- once r ends, the last value behind it is the value of the first key that is equal to k, and nothing else has changed
+  -- Once r ends, its last value is the value of the first key that is equal to k, and nothing else has changed.
   abbrev pub lends_value_of : (K.Denot → K.Denot → Bool) → K.Denot → MutBor V.Denot → Fml
   lends_value_of eq k r = Lends (the_row K V) V m r (with_value_of eq m.now k)
 
-  -- the same of the first key that passes the test
+  -- The same for the first key that passes the test.
   abbrev pub lends_value_by : (K.Denot → Bool) → MutBor V.Denot → Fml
   lends_value_by test r = Lends (the_row K V) V m r (with_value_by test m.now)
 
-  -- the same where there is a reference; at `None` the map stays
+  -- The same if there is a reference. At `None` the map stays.
   abbrev pub lends_value_if_by : (K.Denot → Bool) → Option (MutBor V.Denot) → Fml
   lends_value_if_by test r = LendsIf (the_row K V) V m r (with_value_by test m.now) m.now
 
-  -- once r ends, the last pair behind it stands at the place i, and nothing else has changed
+  -- Once r ends, its last pair is the pair at the index i, and nothing else has changed.
   abbrev pub lends_whole_at : ℕ → MutBor (K.Denot × V.Denot) → Fml
   lends_whole_at i r = Lends (the_row K V) (Tuple (K ∷ V ∷ [])) m r (with_pair_at m.now i)
 
-  -- the same where there is a reference; at `None` the map stays
+  -- The same if there is a reference. At `None` the map stays.
   abbrev pub lends_whole_if_at : ℕ → Option (MutBor (K.Denot × V.Denot)) → Fml
   lends_whole_if_at i r = LendsIf (the_row K V) (Tuple (K ∷ V ∷ [])) m r (with_pair_at m.now i) m.now
 
-  -- once the `&mut` beside the key ends, the last value behind it stands at the place i, and nothing else has changed; at `None` the map stays
+  -- Once the mutable reference ends, its last value is the value at the index i, and nothing else has changed. At
+  -- `None` the map stays.
   abbrev pub lends_beside_key : ℕ → Option (Bor K.Denot × MutBor V.Denot) → Fml
   lends_beside_key i r = follows_if (the_row K V) V m.ghost_name (value_name r) (with_value_at m.now i) m.now
 
-  -- the same at the first key that passes the test, where the place stands beside the two references
+  -- The same for the first key that passes the test, if the result also has the index.
   abbrev pub lends_beside_place : (K.Denot → Bool) → Option (ℕ × Bor K.Denot × MutBor V.Denot) → Fml
   lends_beside_place test r = follows_if (the_row K V) V m.ghost_name (value_name_at r) (with_value_by test m.now) m.now
 
-  -- once both references end, the last key and value behind them stand at the place i, and nothing else has changed; at `None` the map stays
+  -- Once both references end, their last key and value are the pair at the index i, and nothing else has changed. At
+  -- `None` the map stays.
   abbrev pub lends_both_at : ℕ → Option (MutBor K.Denot × MutBor V.Denot) → Fml
   lends_both_at i r = LendsBothIf (the_row K V) K V m r (λ k v. with_pair_at m.now i (k, v)) m.now
 
-  -- the same at the first key that passes the test, where the place stands beside the two references
+  -- The same for the first key that passes the test, if the result also has the index.
   abbrev pub lends_both_beside_place : (K.Denot → Bool) → Option (ℕ × MutBor K.Denot × MutBor V.Denot) → Fml
   lends_both_beside_place test r = follows_both_if (the_row K V) K V m.ghost_name (both_names_at r) (λ key v. with_pair_by test m.now (key, v)) m.now

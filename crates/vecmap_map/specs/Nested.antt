@@ -1,18 +1,18 @@
--- Maps whose values are maps.
+-- Definitions on maps whose values are maps.
 use Rattle.std.specs.Prelude.{◌≡◌, Bool, List, []}
 use Rattle.std.specs.Option.{option_map_or}
 use Rattle.vecmap_base.specs.Pairs.{lookup_by}
 use Rattle.vecmap_map.specs.Contents.{Contents}
 
--- a map as it is made empty, by `new` or `or_default`
+-- The map is as `new` or `or_default` creates it: empty, with the capacity 0.
 abbrev pub IsMadeEmpty : {K V : Type 0} → Contents K V → Type 0
 IsMadeEmpty m = (m.entries ≡ []) × (m.capacity ≡ 0)
 
 module _ {K N V : Type 0} where
-  -- the pairs of the map under the first key that passes the test, or none where there is no such key
+  -- The pairs of the map that is the value of the first key that passes the test, or none if there is no such key.
   abbrev pub inner_entries_by : (K → Bool) → List (K × Contents N V) → List (N × V)
   inner_entries_by test l = option_map_or (λ m. m.entries) (lookup_by test l) []
 
-  -- the same under the first key that is equal to k
+  -- The same for the first key that is equal to k.
   abbrev pub inner_entries : (K → K → Bool) → List (K × Contents N V) → K → List (N × V)
   inner_entries eq l k = inner_entries_by (eq k) l

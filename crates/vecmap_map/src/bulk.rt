@@ -1,4 +1,4 @@
-//! Making a map of many pairs, and putting many pairs into one.
+//! Creation of a map from many pairs, and insertion of many pairs.
 ghost use Rattle.std.specs.Prelude.{◌≡◌, ◌<◌, ◌+◌, ◌≤◌, ◌⊎◌, ◌/◌, IfOk, IsOk, List, None, OnErr, OnOk, [], if◌then◌else◌, length, map};
 ghost use Rattle.std.specs.Iterator.{Drains, ExtendsWithItems, IsFiniteIterable};
 ghost use Rattle.std.specs.Map.Iter.{deref_pair};
@@ -11,10 +11,23 @@ use crate::VecMap;
 use std::alloc::{AllocError, Global};
 
 impl<K, V> VecMap<K, V> {
-    /// Puts the pairs of an iterator, which must end, into an empty map, in their order. Refused, nothing is made.
+    /// Creates a map and inserts the pairs of an iterator, in order.
     ///
-    /// Room is made first, for as many pairs as the lower size hint of the iterator says. Each pair takes one lookup, so n
-    /// pairs take at most n(n-1)/2 comparisons.
+    /// The call first reserves capacity for as many pairs as the lower size hint of the iterator says.
+    ///
+    /// # Errors
+    ///
+    /// [`AllocError`] if the allocator refuses a request; no map is created.
+    ///
+    /// # Conditions
+    ///
+    /// The iterator ends.
+    ///
+    /// # Complexity
+    ///
+    /// One lookup for each pair, so at most n(n-1)/2 comparisons for n pairs.
+    ///
+    /// # Examples
     ///
     /// ```
     /// let map = VecMap::from_iter(alloc, [('a', 1), ('b', 2), ('a', 3)])?;
@@ -28,17 +41,29 @@ impl<K, V> VecMap<K, V> {
         K: Eq + Drop,
         V: Drop,
         requires ends { IsFiniteIterable I.into_iter_gives I.IntoIter.can_next I.IntoIter.remaining iter }
-        ensures { IfOk result (λ map. (it : I.IntoIter) × (pairs : List (K × V)) × I.into_iter_gives iter it × Drains I.IntoIter.next_gives it pairs × (map.entries ≡ puts K.eq [] pairs)) }
+        ensures { IfOk result (λ map. (it : I.IntoIter) × (pairs : List (K × V))
+            × I.into_iter_gives iter it × Drains I.IntoIter.next_gives it pairs
+            × (map.entries ≡ puts K.eq [] pairs)) }
     {
         let mut map = VecMap::new(alloc);
         map.extend(iter)?;
         Ok(map)
     }
 
-    /// Puts clones of the pairs into an empty map, in their order. Refused, nothing is made.
+    /// Creates a map and inserts clones of the pairs, in order.
     ///
-    /// Room for as many is made first. Each pair takes one lookup, so n pairs take at most n(n-1)/2 comparisons. This is
-    /// Rust's `From<&[(K, V)]>`.
+    /// This is Rust's `From<&[(K, V)]>`. The call first reserves capacity for as many pairs as the slice has.
+    ///
+    /// # Errors
+    ///
+    /// [`AllocError`] if the allocator refuses a request, or if the clone of a key or of a value is refused; no map is
+    /// created.
+    ///
+    /// # Complexity
+    ///
+    /// One lookup for each pair, so at most n(n-1)/2 comparisons for n pairs.
+    ///
+    /// # Examples
     ///
     /// ```
     /// let map = VecMap::from_slice(alloc, &[('a', 1), ('b', 2), ('a', 3)])?;
@@ -48,7 +73,9 @@ impl<K, V> VecMap<K, V> {
     where
         K: Eq + Clone,
         V: Clone,
-        ensures entries { IfOk result (λ map. (clones : List (K × V)) × ArePairClones K.is_clone V.is_clone pairs.now clones × (map.entries ≡ puts K.eq [] clones)) }
+        ensures entries { IfOk result (λ map. (clones : List (K × V))
+            × ArePairClones K.is_clone V.is_clone pairs.now clones
+            × (map.entries ≡ puts K.eq [] clones)) }
         ensures room { IfOk result (λ map. length pairs.now ≤ map.capacity) }
     {
         let mut map = VecMap::with_capacity(alloc, pairs.len())?;
@@ -58,10 +85,19 @@ impl<K, V> VecMap<K, V> {
         Ok(map)
     }
 
-    /// Puts the pairs of `other`, in their order, and leaves `other` empty with its capacity.
+    /// Inserts the pairs of `other`, in order, and leaves `other` empty.
     ///
-    /// Room for all of them is made first. Refused at that, nothing has changed in either. Each pair takes one lookup, of
-    /// at most as many comparisons as there are pairs by then.
+    /// The call first reserves capacity for all pairs of `other`. The capacity of `other` stays.
+    ///
+    /// # Errors
+    ///
+    /// [`AllocError`] if the allocator refuses the request; both maps are then unchanged.
+    ///
+    /// # Complexity
+    ///
+    /// One lookup for each pair of `other`, with at most as many comparisons as the map then has pairs.
+    ///
+    /// # Examples
     ///
     /// ```
     /// let mut map = vecmap!(alloc; 'a' => 1, 'b' => 2);
@@ -74,11 +110,13 @@ impl<K, V> VecMap<K, V> {
     where
         K: Eq + Drop,
         V: Drop,
-        ensures entries { OnOk result (self.new.entries ≡ puts K.eq self.old.entries other.old.entries) }
+        ensures entries { OnOk result (self.new.entries
+            ≡ puts K.eq self.old.entries other.old.entries) }
         ensures emptied { OnOk result (other.new ≡ with_entries other.old []) }
         ensures capacity { self.old.capacity ≤ self.new.capacity }
         ensures succeeds { HasRoom self.old (length other.old.entries) → IsOk result }
-        ensures stays { HasRoom self.old (length other.old.entries) → self.new.capacity ≡ self.old.capacity }
+        ensures stays { HasRoom self.old (length other.old.entries)
+            → self.new.capacity ≡ self.old.capacity }
         ensures some { OnErr result (0 < length other.old.entries) }
         ensures err { OnErr result (self.new ≡ self.old) }
         ensures other_err { OnErr result (other.new ≡ other.old) }
@@ -90,14 +128,26 @@ impl<K, V> VecMap<K, V> {
         Ok(())
     }
 
-    /// Puts the pairs of an iterator, which must end, in their order.
+    /// Inserts the pairs of an iterator, in order.
     ///
-    /// Room is made first, for as many pairs as the lower size hint of the iterator says where the map is empty, and
-    /// else for half of them, rounded up, as some keys may be there already. The hint decides nothing else. Refused at
-    /// the room, nothing has changed. Refused at a pair, those before it stay, and that pair is dropped with the
-    /// iterator. Each pair takes one lookup, of at most as many comparisons as there are pairs by then.
+    /// This is Rust's `Extend<(K, V)>`. The call first reserves capacity. If the map is empty, it reserves as much as
+    /// the lower size hint of the iterator says. Otherwise it reserves half of that, rounded up, as some keys may be
+    /// present already. The hint decides nothing else.
     ///
-    /// This is Rust's `Extend<(K, V)>`.
+    /// # Errors
+    ///
+    /// [`AllocError`] if the allocator refuses a request. If it refuses the first one, the map is unchanged. If it
+    /// refuses to grow the map for a pair, the pairs before it stay, and that pair is dropped with the iterator.
+    ///
+    /// # Conditions
+    ///
+    /// The iterator ends.
+    ///
+    /// # Complexity
+    ///
+    /// One lookup for each pair, with at most as many comparisons as the map then has pairs.
+    ///
+    /// # Examples
     ///
     /// ```
     /// let mut map = vecmap!(alloc; 'a' => 1, 'b' => 2);
@@ -109,13 +159,19 @@ impl<K, V> VecMap<K, V> {
         K: Eq + Drop,
         V: Drop,
         requires ends { IsFiniteIterable I.into_iter_gives I.IntoIter.can_next I.IntoIter.remaining iter }
-        ensures ran { ExtendsWithItems I.into_iter_gives I.IntoIter.next_gives (Puts K.eq) iter self.old self.new result }
+        ensures ran { ExtendsWithItems I.into_iter_gives I.IntoIter.next_gives
+            (Puts K.eq) iter self.old self.new result }
         ensures capacity { self.old.capacity ≤ self.new.capacity }
-        ensures succeeds { HasRoomForAll I.into_iter_gives I.IntoIter.remaining iter (length self.old.entries) self.old.capacity → IsOk result }
-        ensures stays { HasRoomForAll I.into_iter_gives I.IntoIter.remaining iter (length self.old.entries) self.old.capacity → self.new.capacity ≡ self.old.capacity }
+        ensures succeeds { HasRoomForAll I.into_iter_gives I.IntoIter.remaining iter
+            (length self.old.entries) self.old.capacity → IsOk result }
+        ensures stays { HasRoomForAll I.into_iter_gives I.IntoIter.remaining iter
+            (length self.old.entries) self.old.capacity → self.new.capacity ≡ self.old.capacity }
 
-        // It is refused where room is made, and then nothing has changed, or at a new key where there is no room.
-        ensures err { OnErr result ((self.new ≡ self.old) ⊎ StopsAt I.into_iter_gives I.IntoIter.next_gives iter (λ pairs next. RefusesAfter K.eq self.old pairs next self.new)) }
+        // On `Err` either the first request was refused and the map is unchanged, or a new key was refused in a full
+        // map.
+        ensures err { OnErr result ((self.new ≡ self.old)
+            ⊎ StopsAt I.into_iter_gives I.IntoIter.next_gives iter
+            (λ pairs next. RefusesAfter K.eq self.old pairs next self.new)) }
     {
         let items = iter.into_iter();
         self.reserve(likely_new(self.is_empty(), items.size_hint().0))?;
@@ -125,11 +181,20 @@ impl<K, V> VecMap<K, V> {
         Ok(())
     }
 
-    /// As `extend`, with clones of the keys and values that the iterator lends.
-    ///
-    /// Refused at the room, nothing has changed. Refused at a pair, or at its clones, those before it stay.
+    /// Like [`VecMap::extend`], but inserts clones of the keys and values that the iterator lends.
     ///
     /// This is Rust's `Extend<(&K, &V)>`.
+    ///
+    /// # Errors
+    ///
+    /// [`AllocError`] if the allocator refuses a request, or if a clone is refused. If the first request is refused,
+    /// the map is unchanged. If a pair or one of its clones is refused, the clones of the pairs before it stay.
+    ///
+    /// # Conditions
+    ///
+    /// The iterator ends.
+    ///
+    /// # Examples
     ///
     /// ```
     /// let mut map = vecmap!(alloc; 'a' => 1, 'b' => 2);
@@ -145,14 +210,22 @@ impl<K, V> VecMap<K, V> {
         K: Eq + Clone + 'a,
         V: Clone + 'a,
         requires ends { IsFiniteIterable I.into_iter_gives I.IntoIter.can_next I.IntoIter.remaining iter }
-        ensures ran { ExtendsWithItems I.into_iter_gives I.IntoIter.next_gives (λ old items new. PutsClones K.eq K.is_clone V.is_clone old (map deref_pair items) new) iter self.old self.new result }
+        ensures ran { ExtendsWithItems I.into_iter_gives I.IntoIter.next_gives
+            (λ old items new. PutsClones K.eq K.is_clone V.is_clone old
+            (map deref_pair items) new) iter self.old self.new result }
         ensures capacity { self.old.capacity ≤ self.new.capacity }
-        ensures succeeds { HasRoomForAll I.into_iter_gives I.IntoIter.remaining iter (length self.old.entries) self.old.capacity → ((k : K) → K.is_infallible k) → ((v : V) → V.is_infallible v) → IsOk result }
-        ensures stays { HasRoomForAll I.into_iter_gives I.IntoIter.remaining iter (length self.old.entries) self.old.capacity → self.new.capacity ≡ self.old.capacity }
+        ensures succeeds { HasRoomForAll I.into_iter_gives I.IntoIter.remaining iter
+            (length self.old.entries) self.old.capacity → ((k : K) → K.is_infallible k)
+            → ((v : V) → V.is_infallible v) → IsOk result }
+        ensures stays { HasRoomForAll I.into_iter_gives I.IntoIter.remaining iter
+            (length self.old.entries) self.old.capacity → self.new.capacity ≡ self.old.capacity }
 
-        // It is refused where room is made, and then nothing has changed, or at the next item: where its clones cannot fail,
-        // a clone of its key is new and the map is full.
-        ensures err { OnErr result ((self.new ≡ self.old) ⊎ StopsAt I.into_iter_gives I.IntoIter.next_gives iter (λ items next. RefusesClonesAfter K.eq K.Clone V.Clone self.old (map deref_pair items) (deref_pair next) self.new)) }
+        // On `Err` either the first request was refused and the map is unchanged, or the next item was refused. If its
+        // clones cannot fail, a clone of its key is then new and the map is full.
+        ensures err { OnErr result ((self.new ≡ self.old)
+            ⊎ StopsAt I.into_iter_gives I.IntoIter.next_gives iter
+            (λ items next. RefusesClonesAfter K.eq K.Clone V.Clone self.old (map deref_pair items)
+            (deref_pair next) self.new)) }
     {
         let items = iter.into_iter();
         self.reserve(likely_new(self.is_empty(), items.size_hint().0))?;
@@ -162,7 +235,11 @@ impl<K, V> VecMap<K, V> {
         Ok(())
     }
 
-    /// As `extend_refs`, of pairs that the iterator lends. This is Rust's `Extend<&(K, V)>`.
+    /// Like [`VecMap::extend_refs`], but for an iterator over references to pairs.
+    ///
+    /// This is Rust's `Extend<&(K, V)>`.
+    ///
+    /// # Examples
     ///
     /// ```
     /// let mut map = vecmap!(alloc; 'a' => 1, 'b' => 2);
@@ -177,14 +254,22 @@ impl<K, V> VecMap<K, V> {
         K: Eq + Clone + 'a,
         V: Clone + 'a,
         requires ends { IsFiniteIterable I.into_iter_gives I.IntoIter.can_next I.IntoIter.remaining iter }
-        ensures ran { ExtendsWithItems I.into_iter_gives I.IntoIter.next_gives (λ old items new. PutsClones K.eq K.is_clone V.is_clone old (map (λ p. p.now) items) new) iter self.old self.new result }
+        ensures ran { ExtendsWithItems I.into_iter_gives I.IntoIter.next_gives
+            (λ old items new. PutsClones K.eq K.is_clone V.is_clone old
+            (map (λ p. p.now) items) new) iter self.old self.new result }
         ensures capacity { self.old.capacity ≤ self.new.capacity }
-        ensures succeeds { HasRoomForAll I.into_iter_gives I.IntoIter.remaining iter (length self.old.entries) self.old.capacity → ((k : K) → K.is_infallible k) → ((v : V) → V.is_infallible v) → IsOk result }
-        ensures stays { HasRoomForAll I.into_iter_gives I.IntoIter.remaining iter (length self.old.entries) self.old.capacity → self.new.capacity ≡ self.old.capacity }
+        ensures succeeds { HasRoomForAll I.into_iter_gives I.IntoIter.remaining iter
+            (length self.old.entries) self.old.capacity → ((k : K) → K.is_infallible k)
+            → ((v : V) → V.is_infallible v) → IsOk result }
+        ensures stays { HasRoomForAll I.into_iter_gives I.IntoIter.remaining iter
+            (length self.old.entries) self.old.capacity → self.new.capacity ≡ self.old.capacity }
 
-        // It is refused where room is made, and then nothing has changed, or at the next item: where its clones cannot fail,
-        // a clone of its key is new and the map is full.
-        ensures err { OnErr result ((self.new ≡ self.old) ⊎ StopsAt I.into_iter_gives I.IntoIter.next_gives iter (λ items next. RefusesClonesAfter K.eq K.Clone V.Clone self.old (map (λ p. p.now) items) next.now self.new)) }
+        // On `Err` either the first request was refused and the map is unchanged, or the next item was refused. If its
+        // clones cannot fail, a clone of its key is then new and the map is full.
+        ensures err { OnErr result ((self.new ≡ self.old)
+            ⊎ StopsAt I.into_iter_gives I.IntoIter.next_gives iter
+            (λ items next. RefusesClonesAfter K.eq K.Clone V.Clone self.old
+            (map (λ p. p.now) items) next.now self.new)) }
     {
         let items = iter.into_iter();
         self.reserve(likely_new(self.is_empty(), items.size_hint().0))?;
@@ -194,23 +279,28 @@ impl<K, V> VecMap<K, V> {
         Ok(())
     }
 
-    // Puts a clone of a pair.
+    // Inserts a clone of a pair.
     fn put_clones(&mut self, key: &K, value: &V) -> Result<(), AllocError>
     where
         K: Eq + Clone,
         V: Clone,
-        ensures entries { OnOk result ((k : K) × (v : V) × K.is_clone key.now k × V.is_clone value.now v × (self.new.entries ≡ put K.eq self.old.entries k v)) }
+        ensures entries { OnOk result ((k : K) × (v : V) × K.is_clone key.now k
+            × V.is_clone value.now v × (self.new.entries ≡ put K.eq self.old.entries k v)) }
         ensures room { KeepsRoomAt None self.old self.new }
-        ensures succeeds { HasRoom self.old 1 → K.is_infallible key.now → V.is_infallible value.now → IsOk result }
+        ensures succeeds { HasRoom self.old 1 → K.is_infallible key.now → V.is_infallible value.now
+            → IsOk result }
         ensures err { OnErr result (self.new ≡ self.old) }
-        ensures full { K.is_infallible key.now → V.is_infallible value.now → OnErr result ((k : K) × K.is_clone key.now k × Refuses K.eq self.old k self.new) }
+        ensures full { K.is_infallible key.now → V.is_infallible value.now
+            → OnErr result ((k : K) × K.is_clone key.now k × Refuses K.eq self.old k self.new) }
     {
         self.insert(key.clone()?, value.clone()?)?;
         Ok(())
     }
 }
 
-/// Puts the pairs into an empty map, in their order, as the inherent `from_iter` does.
+/// Creates a map and inserts the pairs of an iterator, in order, like the inherent [`VecMap::from_iter`].
+///
+/// # Examples
 ///
 /// ```
 /// let map: VecMap<char, u32> = [('a', 1), ('b', 2)].into_iter().collect(alloc)?;
@@ -229,7 +319,8 @@ impl<K: Eq + Drop, V: Drop> FromIterator<(K, V)> for VecMap<K, V> {
     }
 }
 
-// How many new keys to make room for, where `hint` pairs come. A map that is not empty may have some of them.
+// Returns for how many new keys to reserve capacity if `hint` pairs are to come. A map that is not empty may have some
+// of the keys.
 fn likely_new(is_empty: bool, hint: usize) -> usize
     ensures amount { result ≡ (if is_empty then hint else (hint + 1) / 2) }
     ensures at_most { result ≤ hint }

@@ -2,17 +2,18 @@
 use crate::VecMap;
 use std::alloc::AllocError;
 
-/// Clones a map as the inherent `clone` does, pair by pair and in order.
+/// Clones a map pair by pair, in order, like the inherent [`VecMap::clone`].
 ///
 /// So a map can be a value of a map that is cloned, a field under `#[derive(Clone)]`, and a value of a run of commands.
 ///
 /// # Errors
 ///
-/// If memory is refused, or the clone of a key or a value is, nothing is made and the map is as it was.
+/// [`AllocError`] if the allocator refuses the request, or if the clone of a key or of a value is refused; the map is
+/// then unchanged.
 ///
 /// # Complexity
 ///
-/// One clone of each key and of each value, one block of memory, and no comparison.
+/// One clone of each key and of each value, one allocation for the pairs, and no comparisons.
 ///
 /// # Examples
 ///

@@ -1,4 +1,4 @@
-//! Maps made of a vector, in that vector, and vectors made of a map.
+//! Conversions of a vector into a map, which keep the vector, and clones of the pairs in a new vector.
 ghost use Rattle.std.specs.Prelude.{◌≡◌, IfOk, [], vec_capacity};
 ghost use Rattle.std.specs.Map.{keys_of};
 ghost use Rattle.vecmap_base.specs.Pairs.{HasDistinctKeys, puts};
@@ -9,10 +9,15 @@ use crate::VecMap;
 use std::alloc::AllocError;
 use vecmap_base::{Steps, dedup_keep_last_value};
 
-/// Puts the pairs in turn, in the vector that they stand in: the first of equal keys stays, in its place, with the
-/// last of their values.
+/// Inserts the pairs of a vector in order, and keeps them in that vector.
 ///
-/// It makes as many comparisons as `from_vec_counted`, takes no memory and keeps the capacity.
+/// Of equal keys the first one stays, with the last of their values. The capacity stays.
+///
+/// # Complexity
+///
+/// As many comparisons as [`VecMap::from_vec_counted`]. Does not allocate.
+///
+/// # Examples
 ///
 /// ```
 /// let map = VecMap::from(vec![in alloc; ('a', 1), ('b', 2), ('a', 3)]?);
@@ -28,10 +33,14 @@ impl<K: Eq + Drop, V: Drop> From<Vec<(K, V)>> for VecMap<K, V> {
 }
 
 impl<K, V> VecMap<K, V> {
-    /// As `From<Vec>`, and answers the number of comparisons that it took.
+    /// Like `From<Vec<(K, V)>>`, with the same cost, but also returns the number of comparisons.
     ///
-    /// Each key is compared with those before it that stay, up to the first equal one: at most n(n-1)/2 comparisons for n
-    /// pairs, and exactly as many where no two keys are equal (`laws::key_comparisons_are_bounded`).
+    /// # Complexity
+    ///
+    /// Each key is compared with the keys before it that stay, up to the first equal one. These are at most n(n-1)/2
+    /// comparisons for n pairs, and exactly as many if no two keys are equal (`laws::key_comparisons_are_bounded`).
+    ///
+    /// # Examples
     ///
     /// ```
     /// let (map, comparisons) = VecMap::from_vec_counted(vec![in alloc; ('a', 1), ('b', 2), ('a', 3)]?);
@@ -51,9 +60,17 @@ impl<K, V> VecMap<K, V> {
         (VecMap { pairs }, steps.count())
     }
 
-    /// The pairs as they are, in the vector that they stand in. No two keys may be equal: `keys_distinct` tells.
+    /// Creates a map of the pairs as they are, in the vector that holds them.
     ///
-    /// It compares nothing and takes no memory.
+    /// # Conditions
+    ///
+    /// No two keys are equal: `keys_distinct` returns `true`.
+    ///
+    /// # Complexity
+    ///
+    /// No comparisons. Does not allocate.
+    ///
+    /// # Examples
     ///
     /// ```
     /// let pairs = vec![in alloc; ('a', 1), ('b', 2)]?;
@@ -70,9 +87,18 @@ impl<K, V> VecMap<K, V> {
         VecMap { pairs }
     }
 
-    /// Clones of the pairs, in their order. Refused, nothing is made.
+    /// Returns a vector of clones of the pairs, in order.
     ///
-    /// It takes one clone of each key and of each value, one block of memory, and no comparison.
+    /// # Errors
+    ///
+    /// [`AllocError`] if the allocator refuses the request, or if the clone of a key or of a value is refused; no
+    /// vector is created.
+    ///
+    /// # Complexity
+    ///
+    /// One clone of each key and of each value, one allocation for the pairs, and no comparisons.
+    ///
+    /// # Examples
     ///
     /// ```
     /// let map = vecmap!(alloc; 'a' => 1, 'b' => 2);

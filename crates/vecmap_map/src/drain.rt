@@ -1,6 +1,7 @@
-//! The drain of a map: the pairs of a range, which leave it.
+//! The iterator that removes a range of pairs from a map.
 //!
-//! It holds the map and no vector, so that a caller's proof knows what the map has once the drain is dropped.
+//! It holds a reference to the map and no vector. So the proof of a caller knows what the map has once the drain is
+//! dropped.
 ghost use Rattle.std.specs.Prelude.{◌≡◌, ◌<◌, ◌≤◌, ◌^◌, IfSome, Some, length, slice_range};
 ghost use Rattle.std.specs.Iterator.{UpTo, at_most};
 ghost use Rattle.std.specs.Iterator.Runs.{YieldsInOrder, YieldsInReverse};
@@ -13,14 +14,18 @@ ghost use Rattle.vecmap_map.specs.Drain.{DrainKeeps, DrainNext, DrainNextBack, d
 use crate::VecMap;
 use std::fmt;
 
-/// The pairs of a range of a map, which leave it. `VecMap::drain` makes it.
+/// An iterator over the pairs of a range of a map, which it removes. [`VecMap::drain`] creates it.
 ///
-/// Dropped, at whatever point, it leaves the map without the whole range: what was not pulled is dropped, and the
-/// others keep their order. Once all has come, each pull answers `None`.
+/// When it is dropped, at any point, it leaves the map without the whole range. The pairs that were not taken are
+/// dropped, and the other pairs of the map keep their order. After the last pair, each call of `next` returns `None`.
 ///
-/// A pull from the same end as the last one takes constant time, and so does the first one from the front. A pull from
-/// the other end first turns the pairs that are still to come round, in a number of moves that is linear in theirs. No
-/// call takes memory.
+/// # Complexity
+///
+/// Constant time for each pair that is taken from the same end as the one before, and for the first one from the front.
+/// A pair from the other end takes a number of moves that is linear in the number of remaining pairs, as they are first
+/// reversed. No call allocates.
+///
+/// # Examples
 ///
 /// ```
 /// let mut map = vecmap!(alloc; 'a' => 1, 'b' => 2, 'c' => 3);
@@ -31,17 +36,25 @@ use std::fmt;
 /// map.as_slice() // [('a', 1)]
 /// ```
 pub struct Drain<'a, K, V> {
-    // The pairs that stay come first. Those still to come stand behind them, last first where `reversed`, so that a
-    // pull takes the last pair of the map.
+    // The first `keep` pairs of the map stay. The remaining pairs of the drain follow them, in reverse order if
+    // `reversed`. So each pull takes the last pair of the map.
     map: &'a mut VecMap<K, V>,
     keep: usize,
     reversed: bool,
 }
 
 impl<'a, K: Drop, V: Drop> Drain<'a, K, V> {
-    /// The pairs from `start` up to, but not including, `end`.
+    /// Creates the drain of the pairs from the index `start` up to, but not including, `end`.
     ///
-    /// It takes a number of moves that is linear in the number of pairs from `start` on.
+    /// # Conditions
+    ///
+    /// `start` is at most `end`, and `end` is at most the number of pairs.
+    ///
+    /// # Complexity
+    ///
+    /// A number of moves that is linear in the number of pairs from `start` on.
+    ///
+    /// # Examples
     ///
     /// ```
     /// let mut map = vecmap!(alloc; 'a' => 1, 'b' => 2, 'c' => 3);
@@ -55,7 +68,7 @@ impl<'a, K: Drop, V: Drop> Drain<'a, K, V> {
         ensures runs { YieldsInOrder (DrainNext {K = K} {V = V}) drain_rest }
         ensures runs_back { YieldsInReverse (DrainNextBack {K = K} {V = V}) drain_rest }
 
-        // Once it is dropped, after any pulls, the map has the others and its capacity.
+        // Once the drain is dropped, after any number of pulls, the map has the other pairs and its old capacity.
         ensures kept { drain_kept result ≡ remove_range map.old.entries start end }
         ensures capacity { drain_capacity result ≡ map.old.capacity }
         ensures same_map { drain_lender result ≡ map.entry.ghost_name }
@@ -72,7 +85,7 @@ impl<'a, K: Drop, V: Drop> Drain<'a, K, V> {
 }
 
 impl<'a, K, V> Drain<'a, K, V> {
-    // Turns what is still to come round, where it lies the other way.
+    // Reverses the remaining pairs if their order is not the wanted one.
     fn lay(&mut self, reversed: bool)
         requires { self.old.keep ≤ length self.old.map.now.entries }
         ensures laid { self.new.reversed ≡ reversed }
@@ -117,11 +130,12 @@ impl<'a, K: Drop, V: Drop> Iterator for Drain<'a, K, V> {
         Some(self.map.take_last())
     }
 
-    /// The number of pairs still to come, as both ends.
+    /// Returns the number of remaining pairs, as both bounds.
     fn size_hint(&self) -> (usize, Option<usize>)
         ensures lower { IsWithinCount result.0 (at_most (length (drain_rest self.now))) }
         ensures upper { IfSome result.1 (UpTo (at_most (length (drain_rest self.now)))) }
-        ensures exact { result ≡ (length (drain_rest self.now), Some (length (drain_rest self.now))) }
+        ensures exact { result
+            ≡ (length (drain_rest self.now), Some (length (drain_rest self.now))) }
     {
         let len = self.len();
         (len, Some(len))
@@ -141,13 +155,13 @@ impl<'a, K: Drop, V: Drop> DoubleEndedIterator for Drain<'a, K, V> {
 }
 
 impl<'a, K: Drop, V: Drop> ExactSizeIterator for Drain<'a, K, V> {
-    /// The number of pairs still to come.
+    /// Returns the number of remaining pairs.
     fn len(&self) -> usize {
         self.map.len().saturating_sub(self.keep)
     }
 }
 
-/// Prints the pairs still to come, in order, as std prints a list.
+/// Prints the remaining pairs in order, as std prints lists.
 impl<'a, K: fmt::Debug, V: fmt::Debug> fmt::Debug for Drain<'a, K, V> {
     fn fmt<W: fmt::Write>(&self, f: &mut fmt::Formatter<W>) -> fmt::Result {
         let rest = self.map.as_slice().iter().skip(self.keep);

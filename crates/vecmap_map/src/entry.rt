@@ -1,7 +1,7 @@
-//! The place of a key in a map, to read, write, fill or empty with one lookup.
+//! Entries: the value of a key can be read, written, inserted or removed after one lookup.
 //!
-//! An entry holds the map, the key that was handed in, and the key's place. A clause `writes_back` says what the map
-//! is once the reference that the call lends has ended.
+//! An entry holds the map, the key that was passed to `entry`, and the index of that key. A clause `writes_back` says
+//! what the map is once the returned reference has ended.
 ghost use Rattle.std.specs.Prelude.{◌≡◌, IfErr, IfOk, None, OnErr, Some, unwrap_or};
 ghost use Rattle.std.specs.Borrow.{Bor, MutBor, sem};
 ghost use Rattle.std.specs.Fn.{FnOnceReturnsAt};
@@ -20,7 +20,9 @@ use std::default::MadeWith;
 pub use vacant::VacantEntry;
 use vecmap_base::Refused;
 
-/// The place of a key: one that it has, or the one that it would take.
+/// The entry of a key in a map, which is either occupied or vacant.
+///
+/// # Examples
 ///
 /// ```
 /// let mut map = vecmap!(alloc; 'a' => 1, 'b' => 2);
@@ -29,19 +31,24 @@ use vecmap_base::Refused;
 /// ```
 #[derive(Debug, Drop)]
 pub enum Entry<'a, K, V> {
-    /// An equal key is there.
+    /// An equal key is present.
     Occupied(OccupiedEntry<'a, K, V>),
-    /// No equal key is there.
+    /// No equal key is present.
     Vacant(VacantEntry<'a, K, V>),
 }
 
 impl<K, V> VecMap<K, V> {
     ghost use Rattle.vecmap_map.specs.Entry.{entry_key, entry_map, entry_place, entry_ref};
 
-    /// The entry of `key`: occupied where an equal key is there, and else vacant.
+    /// Returns the entry of `key`: occupied if an equal key is present, and vacant otherwise.
     ///
-    /// This is one lookup, so it takes at most as many comparisons as there are pairs, and the entry's own calls take
-    /// none. It needs no memory and changes nothing, nor does an entry that is only dropped.
+    /// The call changes nothing, and neither does an entry that is only dropped.
+    ///
+    /// # Complexity
+    ///
+    /// At most `len` comparisons; the calls of the entry make none. Does not allocate.
+    ///
+    /// # Examples
     ///
     /// ```
     /// let mut map = vecmap!(alloc; 'a' => 1, 'b' => 2);
@@ -64,7 +71,9 @@ impl<'a, K, V> Entry<'a, K, V> {
     ghost use Rattle.vecmap_map.specs.Entry.{IsInserted, LeavesSame, entries_with, entry_index, entry_key, entry_map, entry_place, entry_ref, entry_value};
     ghost use Rattle.vecmap_map.specs.EntryLends.{entry_lends, entry_passes};
 
-    /// As `VecMap::entry`, which calls it.
+    /// Creates the entry of `key` in `map`. [`VecMap::entry`] calls it.
+    ///
+    /// # Examples
     ///
     /// ```
     /// let mut map = vecmap!(alloc; 'a' => 1, 'b' => 2);
@@ -84,10 +93,20 @@ impl<'a, K, V> Entry<'a, K, V> {
         }
     }
 
-    /// The value of the key. Where it has none, the handed key and `value` go last.
+    /// Inserts `value` if the key has no value, and returns a mutable reference to the value of the key.
     ///
-    /// A value that is there stays, and `value` and the handed key are dropped. Memory is needed for a new key where
-    /// there is no room. Refused, the pair comes back and nothing has changed.
+    /// An existing value stays, and `value` and the passed key are dropped. Otherwise the passed key and `value` are
+    /// appended.
+    ///
+    /// # Errors
+    ///
+    /// [`Refused`] returns the pair if the map is full and the allocator refuses to grow it; the map is then unchanged.
+    ///
+    /// # Complexity
+    ///
+    /// Allocates only for a new key in a full map.
+    ///
+    /// # Examples
     ///
     /// ```
     /// let mut map = vecmap!(alloc; 'a' => 1, 'b' => 2);
@@ -101,7 +120,7 @@ impl<'a, K, V> Entry<'a, K, V> {
         ensures* writes_back { sem 𝓛 (entry_lends K.row V.row self.entry result) }
         ensures value { IfOk result (λ x. x.now ≡ unwrap_or (entry_value self.entry) value) }
 
-        // Refused, the pair comes back.
+        // On `Err` the pair is returned.
         ensures given { IfErr result (λ refused. refused.given ≡ (entry_key self.entry, value)) }
     {
         match self {
@@ -110,7 +129,13 @@ impl<'a, K, V> Entry<'a, K, V> {
         }
     }
 
-    /// As `or_insert`, with the value that `f` makes. `f` is called only where the key has no value.
+    /// Like [`Entry::or_insert`], but with the value that `f` returns. `f` is called only if the key has no value.
+    ///
+    /// # Conditions
+    ///
+    /// If the key has no value, `f` can be called.
+    ///
+    /// # Examples
     ///
     /// ```
     /// let mut map = vecmap!(alloc; 'a' => 1, 'b' => 2);
@@ -124,7 +149,7 @@ impl<'a, K, V> Entry<'a, K, V> {
         ensures* writes_back { sem 𝓛 (entry_lends K.row V.row self.entry result) }
         ensures value { IfOk result (λ x. UnwrapsOrElse (entry_value self.entry) (F.post f) x.now) }
 
-        // Refused, the pair comes back.
+        // On `Err` the pair is returned.
         ensures given_key { IfErr result (λ refused. refused.given.0 ≡ entry_key self.entry) }
         ensures given_value { IfErr result (λ refused. F.post f refused.given.1) }
     {
@@ -134,7 +159,13 @@ impl<'a, K, V> Entry<'a, K, V> {
         }
     }
 
-    /// As `or_insert_with`, where `f` is given the handed key.
+    /// Like [`Entry::or_insert_with`], but `f` is called with a reference to the passed key.
+    ///
+    /// # Conditions
+    ///
+    /// If the key has no value, `f` can be called with the passed key.
+    ///
+    /// # Examples
     ///
     /// ```
     /// let mut map = vecmap!(alloc; 'a' => 1, 'b' => 2);
@@ -146,11 +177,13 @@ impl<'a, K, V> Entry<'a, K, V> {
         F: Drop,
         requires { entry_place self ≡ None → (p : Bor K) → p.now ≡ entry_key self → F.pre f p }
         ensures* writes_back { sem 𝓛 (entry_lends K.row V.row self.entry result) }
-        ensures value { IfOk result (λ x. UnwrapsOrElse (entry_value self.entry) (FnOnceReturnsAt F.FnOnce f (entry_key self.entry)) x.now) }
+        ensures value { IfOk result (λ x. UnwrapsOrElse (entry_value self.entry)
+            (FnOnceReturnsAt F.FnOnce f (entry_key self.entry)) x.now) }
 
-        // Refused, the pair comes back.
+        // On `Err` the pair is returned.
         ensures given_key { IfErr result (λ refused. refused.given.0 ≡ entry_key self.entry) }
-        ensures given_value { IfErr result (λ refused. FnOnceReturnsAt F.FnOnce f (entry_key self.entry) refused.given.1) }
+        ensures given_value { IfErr result (λ refused. FnOnceReturnsAt F.FnOnce f
+            (entry_key self.entry) refused.given.1) }
     {
         match self {
             Entry::Occupied(entry) => Ok(entry.into_mut()),
@@ -161,9 +194,12 @@ impl<'a, K, V> Entry<'a, K, V> {
         }
     }
 
-    /// As `or_insert_with`, with the default of a type that has one, or with an empty collection on the map's allocator.
+    /// Like [`Entry::or_insert_with`], but with the default of the type, or with an empty collection on the allocator
+    /// of the map.
     ///
-    /// A `Vec`, a `String`, a collection of std, a `VecMap` and a `VecSet` are made empty.
+    /// A `Vec`, a `String`, a collection of std, a `VecMap` or a `VecSet` is created empty.
+    ///
+    /// # Examples
     ///
     /// ```
     /// let mut map = vecmap!(alloc; 'a' => 1, 'b' => 2);
@@ -177,9 +213,10 @@ impl<'a, K, V> Entry<'a, K, V> {
         K: Drop,
         V: MadeWith<Global>,
         ensures* writes_back { sem 𝓛 (entry_lends K.row V.row self.entry result) }
-        ensures value { IfOk result (λ x. UnwrapsOrElse (entry_value self.entry) V.is_made_with x.now) }
+        ensures value { IfOk result (λ x. UnwrapsOrElse
+            (entry_value self.entry) V.is_made_with x.now) }
 
-        // Refused, the pair comes back.
+        // On `Err` the pair is returned.
         ensures given_key { IfErr result (λ refused. refused.given.0 ≡ entry_key self.entry) }
         ensures given_value { IfErr result (λ refused. V.is_made_with refused.given.1) }
     {
@@ -192,7 +229,9 @@ impl<'a, K, V> Entry<'a, K, V> {
         }
     }
 
-    /// The key that was handed in, also where an equal one is stored.
+    /// Returns the key that was passed to [`VecMap::entry`], also if an equal one is stored.
+    ///
+    /// # Examples
     ///
     /// ```
     /// let mut map = vecmap!(alloc; 'a' => 1, 'b' => 2);
@@ -207,7 +246,9 @@ impl<'a, K, V> Entry<'a, K, V> {
         }
     }
 
-    /// The place of the key, or the number of pairs where it has none.
+    /// Returns the index of the key, or the number of pairs if the key is not present.
+    ///
+    /// # Examples
     ///
     /// ```
     /// let mut map = vecmap!(alloc; 'a' => 1, 'b' => 2);
@@ -223,7 +264,13 @@ impl<'a, K, V> Entry<'a, K, V> {
         }
     }
 
-    /// Calls `f` on the value of the key, if it has one, and hands the entry on.
+    /// Calls `f` with a mutable reference to the value of the key, if it has one, and returns the entry.
+    ///
+    /// # Conditions
+    ///
+    /// If the key has a value, `f` can be called with it.
+    ///
+    /// # Examples
     ///
     /// ```
     /// let mut map = vecmap!(alloc; 'a' => 1, 'b' => 2);
@@ -238,7 +285,9 @@ impl<'a, K, V> Entry<'a, K, V> {
         ensures key { entry_key result ≡ entry_key self.entry }
         ensures place { entry_place result ≡ entry_place self.entry }
         ensures update { ModifiesValue F.FnOnce f (entry_value self.entry) (entry_value result) }
-        ensures entries { (entry_map result).entries ≡ option_map_or (entries_with self.entry) (entry_value result) (entry_map self.entry).entries }
+        ensures entries { (entry_map result).entries
+            ≡ option_map_or (entries_with self.entry) (entry_value result)
+            (entry_map self.entry).entries }
         ensures capacity { (entry_map result).capacity ≡ (entry_map self.entry).capacity }
         ensures later { LeavesSame self.entry result }
     {
@@ -251,11 +300,17 @@ impl<'a, K, V> Entry<'a, K, V> {
         }
     }
 
-    /// Gives the key the value, and answers its entry.
+    /// Sets the value of the key, and returns its entry.
     ///
-    /// Where the key has a value, that alone is replaced, and the call never fails. Else a clone of the handed key is
-    /// stored last with `value`, and the entry keeps the handed key. Refused memory, for the clone or for the pair,
-    /// the handed key and `value` come back and nothing has changed.
+    /// If the key has a value, only that value is replaced, and the call never fails. Otherwise a clone of the passed
+    /// key is appended with `value`, and the entry keeps the passed key.
+    ///
+    /// # Errors
+    ///
+    /// [`Refused`] returns the passed key and `value` if the clone is refused, or if the map is full and the allocator
+    /// refuses to grow it; the map is then unchanged.
+    ///
+    /// # Examples
     ///
     /// ```
     /// let mut map = vecmap!(alloc; 'a' => 1, 'b' => 2);
@@ -268,11 +323,12 @@ impl<'a, K, V> Entry<'a, K, V> {
         V: Drop,
         ensures ok { IfOk result (IsInserted K.is_clone self.entry value) }
 
-        // Refused, the pair comes back. Only a new key is refused, and where it can be cloned only for want of room.
+        // On `Err` the pair is returned. Only a new key is refused, and if its clone cannot fail, only in a full map.
         ensures* err { sem 𝓛 (entry_passes K.row V.row self.entry result) }
         ensures given { IfErr result (λ refused. refused.given ≡ (entry_key self.entry, value)) }
         ensures absent { OnErr result (entry_place self.entry ≡ None) }
-        ensures full { K.is_infallible (entry_key self.entry) → OnErr result (IsFull (entry_map self.entry)) }
+        ensures full { K.is_infallible (entry_key self.entry)
+            → OnErr result (IsFull (entry_map self.entry)) }
     {
         match self {
             Entry::Occupied(entry) => entry.into_inserted(value),

@@ -4,14 +4,23 @@ ghost use Rattle.vecmap_base.specs.Equality.{has_same_counts};
 use crate::VecMap;
 use vecmap_base::pairs_equal;
 
-/// Two maps are equal where each pair of either, by its key and its value, occurs equally often in both. Where no keys
-/// repeat, that is where each key of either has an equal value in both.
+/// Two maps are equal if each pair, by its key and its value, occurs equally often in both.
 ///
-/// Of maps that differ in length it compares nothing. Else it passes over the places from the front on that hold equal
-/// pairs, and matches the rests one to one, each pair with the first of the same that is still free. So it makes n
-/// comparisons of keys for two equal maps of n pairs in one order, at most n(n + 1)/2 for equal maps in which no keys
-/// repeat, and at most n² for any; where the rests have more than 1,024 pairs it counts in both, with at most 2n² + 1. It
-/// takes no memory.
+/// If no keys repeat, this means that each key of either map has an equal value in both.
+///
+/// # Complexity
+///
+/// No comparisons if the lengths differ. Otherwise the call skips the indices at the front at which both maps hold
+/// equal pairs. It then matches the remaining pairs one to one: each pair with the first equal pair that is still free.
+/// If more than 1,024 pairs remain, it counts them in both maps instead. For maps of n pairs this takes
+///
+/// - n comparisons of keys if the maps are equal and in the same order;
+/// - at most n(n + 1)/2 if the maps are equal and no keys repeat;
+/// - at most n² in any other case, or 2n² + 1 if it counts.
+///
+/// Does not allocate.
+///
+/// # Examples
 ///
 /// ```
 /// let map = vecmap!(alloc; 'a' => 1, 'b' => 2);

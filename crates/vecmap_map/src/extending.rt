@@ -1,6 +1,7 @@
 //! The trait `Extend` of a map, for generic code, `try_collect` and `partition`.
 //!
-//! Each form is the inherent call that it names, whose clauses say more: what a refusal leaves, and where none comes.
+//! Each impl calls the inherent function that it names. The contract of that function says more: what a refusal leaves,
+//! and when no call is refused.
 ghost use Rattle.std.specs.Map.Iter.{deref_pair};
 ghost use Rattle.std.specs.Prelude.{◌≤◌, map};
 ghost use Rattle.vecmap_map.specs.MapBulk.{Puts, PutsClones};
@@ -8,11 +9,11 @@ ghost use Rattle.vecmap_map.specs.MapBulk.{Puts, PutsClones};
 use crate::VecMap;
 use std::alloc::AllocError;
 
-/// Inserts the pairs of an iterator in order, as the inherent `extend` does.
+/// Inserts the pairs of an iterator in order, like the inherent [`VecMap::extend`].
 ///
 /// # Errors
 ///
-/// If memory is refused, the pairs before the refused one are in the map.
+/// [`AllocError`] if the allocator refuses a request; the pairs before the refused one are then in the map.
 ///
 /// # Examples
 ///
@@ -31,11 +32,12 @@ impl<K: Eq + Drop, V: Drop> Extend<(K, V)> for VecMap<K, V> {
     }
 }
 
-/// Inserts clones of the keys and values that an iterator lends, in order, as the inherent `extend_refs` does.
+/// Inserts clones of the keys and values that an iterator lends, in order, like the inherent [`VecMap::extend_refs`].
 ///
 /// # Errors
 ///
-/// If memory or a clone is refused, clones of the pairs before the refused one are in the map.
+/// [`AllocError`] if the allocator refuses a request, or if a clone is refused; clones of the pairs before the refused
+/// one are then in the map.
 ///
 /// # Examples
 ///
@@ -56,11 +58,12 @@ impl<'a, K: Eq + Clone + 'a, V: Clone + 'a> Extend<(&'a K, &'a V)> for VecMap<K,
     }
 }
 
-/// Inserts clones of the pairs that an iterator lends, in order, as the inherent `extend_pairs` does.
+/// Inserts clones of the pairs that an iterator lends, in order, like the inherent [`VecMap::extend_pairs`].
 ///
 /// # Errors
 ///
-/// If memory or a clone is refused, clones of the pairs before the refused one are in the map.
+/// [`AllocError`] if the allocator refuses a request, or if a clone is refused; clones of the pairs before the refused
+/// one are then in the map.
 ///
 /// # Examples
 ///

@@ -1,8 +1,10 @@
-//! Printing.
+//! The trait `Debug` of a map.
 use crate::VecMap;
 use std::fmt;
 
-/// Prints as std prints a map: `{key: value, ..}`, in the order of the pairs.
+/// Prints the map as std prints maps: `{key: value, ..}`, in the order of the pairs.
+///
+/// # Examples
 ///
 /// ```
 /// let map = vecmap!(alloc; 'a' => 1, 'b' => 2);

@@ -1,4 +1,4 @@
-//! `map[index]` and `map[&key]`: the value at a place, and the value of a key.
+//! `map[index]` and `map[&key]`: the value at an index, and the value of a key.
 ghost use Rattle.std.specs.Prelude.{◌≡◌, ◌<◌, IsSome, Some, bytes_eq, length};
 ghost use Rattle.std.specs.Borrow.{sem};
 ghost use Rattle.vecmap_base.specs.Pairs.{has_text, index_by, index_of, lookup, lookup_by, value_at};
@@ -8,7 +8,7 @@ use std::ops::{Index, IndexMut};
 use vecmap_base::Equivalent;
 
 impl<K, V> VecMap<K, V> {
-    // The first place whose key `query` stands for, which must be there.
+    // Returns the index of the first pair whose key matches `query`. Such a pair must be present.
     fn place_of<Q: Equivalent<K>>(&self, query: Q) -> usize
     where
         K: Eq,
@@ -20,7 +20,13 @@ impl<K, V> VecMap<K, V> {
     }
 }
 
-/// The value at a place, which must be below the number of pairs: `len` tells.
+/// Returns the value at `index`. This is `map[index]`.
+///
+/// # Conditions
+///
+/// The index is less than [`VecMap::len`].
+///
+/// # Examples
 ///
 /// ```
 /// let map = vecmap!(alloc; 'a' => 1, 'b' => 2);
@@ -38,7 +44,13 @@ impl<K, V> Index<usize> for VecMap<K, V> {
     }
 }
 
-/// The value at a place, to write. The place must be below the number of pairs: `len` tells.
+/// Returns a mutable reference to the value at `index`. This is `map[index] = value`.
+///
+/// # Conditions
+///
+/// The index is less than [`VecMap::len`].
+///
+/// # Examples
 ///
 /// ```
 /// let mut map = vecmap!(alloc; 'a' => 1, 'b' => 2);
@@ -57,9 +69,17 @@ impl<K, V> IndexMut<usize> for VecMap<K, V> {
     }
 }
 
-/// The value of the first pair whose key is equal to `key`. Such a key must be there: `contains_key` tells.
+/// Returns the value of the first pair whose key is equal to `key`. This is `map[key]`.
 ///
-/// It takes at most as many comparisons as there are pairs.
+/// # Conditions
+///
+/// Such a pair is present: [`VecMap::contains_key`] returns `true`.
+///
+/// # Complexity
+///
+/// At most `len` comparisons.
+///
+/// # Examples
 ///
 /// ```
 /// let map = vecmap!(alloc; 'a' => 1, 'b' => 2);
@@ -77,9 +97,17 @@ impl<'q, K: Eq, V> Index<&'q K> for VecMap<K, V> {
     }
 }
 
-/// The value of the first pair whose key is equal to `key`, to write. Such a key must be there: `contains_key` tells.
+/// Returns a mutable reference to the value of the first pair whose key is equal to `key`. This is `map[key] = value`.
 ///
-/// It takes at most as many comparisons as there are pairs.
+/// # Conditions
+///
+/// Such a pair is present: [`VecMap::contains_key`] returns `true`.
+///
+/// # Complexity
+///
+/// At most `len` comparisons.
+///
+/// # Examples
 ///
 /// ```
 /// let mut map = vecmap!(alloc; 'a' => 1, 'b' => 2);
@@ -99,9 +127,17 @@ impl<'q, K: Eq, V> IndexMut<&'q K> for VecMap<K, V> {
     }
 }
 
-/// The value of the first pair whose key has the bytes of `text`. Such a key must be there: `contains_key` tells.
+/// Returns the value of the first pair whose key has the bytes of `text`. This is `map[text]`.
 ///
-/// It takes at most as many comparisons as there are pairs, and no memory.
+/// # Conditions
+///
+/// Such a pair is present: [`VecMap::contains_key`] returns `true`.
+///
+/// # Complexity
+///
+/// At most `len` comparisons. Does not allocate.
+///
+/// # Examples
 ///
 /// ```
 /// let map = vecmap!(alloc; String::from_str(alloc, "a")? => 1);
@@ -119,10 +155,18 @@ impl<'q, V> Index<&'q str> for VecMap<String, V> {
     }
 }
 
-/// The value of the first pair whose key has the bytes of `text`, to write. Such a key must be there: `contains_key`
-/// tells.
+/// Returns a mutable reference to the value of the first pair whose key has the bytes of `text`. This is
+/// `map[text] = value`.
 ///
-/// It takes at most as many comparisons as there are pairs, and no memory.
+/// # Conditions
+///
+/// Such a pair is present: [`VecMap::contains_key`] returns `true`.
+///
+/// # Complexity
+///
+/// At most `len` comparisons. Does not allocate.
+///
+/// # Examples
 ///
 /// ```
 /// let mut map = vecmap!(alloc; String::from_str(alloc, "a")? => 1);
@@ -134,7 +178,8 @@ impl<'q, V> IndexMut<&'q str> for VecMap<String, V> {
 
     fn index_mut(&mut self, text: &'q str) -> &mut V
         requires there { IsSome (index_by (has_text text.now) self.old.entries) }
-        ensures* writes_back { sem 𝓛 (lends_value_by text_row V.row self.entry (has_text text.now) result) }
+        ensures* writes_back { sem 𝓛 (lends_value_by text_row V.row self.entry
+            (has_text text.now) result) }
         ensures value { lookup_by (has_text text.now) self.old.entries ≡ Some result.now }
     {
         let place = self.place_of(text);
@@ -142,10 +187,17 @@ impl<'q, V> IndexMut<&'q str> for VecMap<String, V> {
     }
 }
 
-/// The value of the first pair whose key, a borrowed text, has the bytes of `query`. Such a key must be there:
-/// `contains_key` tells.
+/// Returns the value of the first pair whose key, a borrowed text, has the bytes of `query`. This is `map[query]`.
 ///
-/// It takes at most as many comparisons as there are pairs.
+/// # Conditions
+///
+/// Such a pair is present: [`VecMap::contains_key`] returns `true`.
+///
+/// # Complexity
+///
+/// At most `len` comparisons.
+///
+/// # Examples
 ///
 /// ```
 /// let map = vecmap!(alloc; "a" => 1, "b" => 2);

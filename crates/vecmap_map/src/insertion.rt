@@ -9,12 +9,20 @@ use std::mem::replace;
 use vecmap_base::{Refused, find, put_in, replace_and_move};
 
 impl<K, V> VecMap<K, V> {
-    /// Puts a pair, and answers the old value of its key.
+    /// Inserts a pair and returns the previous value of its key.
     ///
-    /// A key that is there stays, in its place, and only its value changes; `key` is dropped. A new pair goes last.
-    /// Memory is needed for a new key where there is no room. Refused, the pair comes back and nothing has changed.
+    /// An existing key stays as it is, at its index, and only its value changes; `key` is dropped. A new pair is
+    /// appended.
     ///
-    /// It takes at most as many comparisons as there are pairs, and moves none unless the vector grows.
+    /// # Errors
+    ///
+    /// [`Refused`] returns the pair if the map is full and the allocator refuses to grow it; the map is then unchanged.
+    ///
+    /// # Complexity
+    ///
+    /// At most `len` comparisons. Allocates only for a new key in a full map, and moves pairs only if the vector grows.
+    ///
+    /// # Examples
     ///
     /// ```
     /// let mut map = vecmap!(alloc; 'a' => 1, 'b' => 2);
@@ -30,7 +38,7 @@ impl<K, V> VecMap<K, V> {
         ensures old { IfOk result (λ old. old ≡ lookup K.eq self.old.entries key) }
         ensures room { KeepsRoom K.eq self.old key self.new }
 
-        // Refused, the pair comes back. Only a new key is refused, and only where the map is full.
+        // On `Err` the pair is returned. Only a new key is refused, and only if the map is full.
         ensures given { IfErr result (λ refused. refused.given ≡ (key, value)) }
         ensures err { OnErr result (Refuses K.eq self.old key self.new) }
     {
@@ -41,7 +49,9 @@ impl<K, V> VecMap<K, V> {
         Ok(None)
     }
 
-    /// As `insert`, at the same cost, and answers the place of the key too.
+    /// Like [`VecMap::insert`], with the same cost, but also returns the index of the key.
+    ///
+    /// # Examples
     ///
     /// ```
     /// let mut map = vecmap!(alloc; 'a' => 1, 'b' => 2);
@@ -57,7 +67,7 @@ impl<K, V> VecMap<K, V> {
         ensures old { IfOk result (λ done. done.1 ≡ lookup K.eq self.old.entries key) }
         ensures room { KeepsRoom K.eq self.old key self.new }
 
-        // Refused, the pair comes back. Only a new key is refused, and only where the map is full.
+        // On `Err` the pair is returned. Only a new key is refused, and only if the map is full.
         ensures given { IfErr result (λ refused. refused.given ≡ (key, value)) }
         ensures err { OnErr result (Refuses K.eq self.old key self.new) }
     {
@@ -69,13 +79,20 @@ impl<K, V> VecMap<K, V> {
         Ok((index, None))
     }
 
-    /// Puts a pair with its key, and answers the old pair of the key.
+    /// Inserts a pair with its key, and returns the previous pair of the key.
     ///
-    /// Where an equal key is there, the new pair, key and value, takes the place of the old one; `insert` would keep the
-    /// old key. A new pair goes last. Memory is needed for a new key where there is no room. Refused, the pair comes back
-    /// and nothing has changed.
+    /// If an equal key is present, the new pair replaces the old one at its index, key and value; [`VecMap::insert`]
+    /// would keep the old key. A new pair is appended.
     ///
-    /// It takes at most as many comparisons as there are pairs, and moves none unless the vector grows.
+    /// # Errors
+    ///
+    /// [`Refused`] returns the pair if the map is full and the allocator refuses to grow it; the map is then unchanged.
+    ///
+    /// # Complexity
+    ///
+    /// At most `len` comparisons. Allocates only for a new key in a full map, and moves pairs only if the vector grows.
+    ///
+    /// # Examples
     ///
     /// ```
     /// let mut map = vecmap!(alloc; 'a' => 1, 'b' => 2);
@@ -89,7 +106,7 @@ impl<K, V> VecMap<K, V> {
         ensures old { IfOk result (λ old. old ≡ lookup_pair K.eq self.old.entries key) }
         ensures room { KeepsRoom K.eq self.old key self.new }
 
-        // Refused, the pair comes back. Only a new key is refused, and only where the map is full.
+        // On `Err` the pair is returned. Only a new key is refused, and only if the map is full.
         ensures given { IfErr result (λ refused. refused.given ≡ (key, value)) }
         ensures err { OnErr result (Refuses K.eq self.old key self.new) }
     {
@@ -100,15 +117,27 @@ impl<K, V> VecMap<K, V> {
         Ok(None)
     }
 
-    /// Puts a pair at a place that is at most the number of pairs, and answers the old place and value of its key.
+    /// Inserts a pair at `index`, and returns the previous index and value of its key.
     ///
-    /// A new pair is inserted at `index`, and what stands there and after it moves down by one place. Where an equal
-    /// key is there, its pair goes, the old key is dropped and the old value answered, and `(key, value)` stands at
-    /// `index`, or last where `index` is the length; the pairs between the old place and the new one move by one place.
-    /// Memory is needed for a new key where there is no room. Refused, the pair comes back and nothing has changed.
-    /// That `index` is at most the length is the caller's to know: `len` tells.
+    /// If the key is new, the index of each pair from `index` on increases by one. If an equal key is present, its pair
+    /// is removed: the old key is dropped, and the old index and value are returned. The new pair then stands at
+    /// `index`, or at the end if `index` is the number of pairs. The pairs between the old and the new index move by
+    /// one.
     ///
-    /// It takes at most as many comparisons as there are pairs, and as many moves as there are pairs that change place.
+    /// # Errors
+    ///
+    /// [`Refused`] returns the pair if the map is full and the allocator refuses to grow it; the map is then unchanged.
+    ///
+    /// # Conditions
+    ///
+    /// `index` is at most [`VecMap::len`].
+    ///
+    /// # Complexity
+    ///
+    /// At most `len` comparisons, and one move for each pair that changes its index. Allocates only for a new key in a
+    /// full map.
+    ///
+    /// # Examples
     ///
     /// ```
     /// let mut map = vecmap!(alloc; 'a' => 1, 'b' => 2);
@@ -125,11 +154,12 @@ impl<K, V> VecMap<K, V> {
     where
         K: Eq + Drop,
         requires within { index ≤ length self.old.entries }
-        ensures entries { OnOk result (self.new.entries ≡ put_at K.eq self.old.entries index key value) }
+        ensures entries { OnOk result (self.new.entries
+            ≡ put_at K.eq self.old.entries index key value) }
         ensures old { IfOk result (λ old. old ≡ lookup_full K.eq self.old.entries key) }
         ensures room { KeepsRoom K.eq self.old key self.new }
 
-        // Refused, the pair comes back. Only a new key is refused, and only where the map is full.
+        // On `Err` the pair is returned. Only a new key is refused, and only if the map is full.
         ensures given { IfErr result (λ refused. refused.given ≡ (key, value)) }
         ensures err { OnErr result (Refuses K.eq self.old key self.new) }
     {
@@ -147,7 +177,7 @@ impl<K, V> VecMap<K, V> {
         Ok(None)
     }
 
-    // Puts a pair last.
+    // Appends a pair.
     pub(crate) fn push(&mut self, key: K, value: V) -> Result<(), Refused<(K, V)>>
         ensures entries { OnOk result (self.new.entries ≡ self.old.entries ++ (key, value) ∷ []) }
         ensures room { KeepsRoomAt None self.old self.new }
@@ -163,7 +193,7 @@ impl<K, V> VecMap<K, V> {
         Ok(())
     }
 
-    // Makes room for one more pair.
+    // Reserves capacity for one more pair.
     fn reserve_one(&mut self) -> Result<(), AllocError>
         ensures entries { self.new.entries ≡ self.old.entries }
         ensures room { OnOk result (HasRoom self.new 1) }

@@ -1,7 +1,7 @@
 //! Iterators over the pairs, the keys and the values.
 //!
-//! A contract sees an iterator as the list of what it has left. Each is exact, gives from both ends, and stays ended;
-//! making one takes constant time and no memory.
+//! A contract sees an iterator as the list of its remaining items. Each iterator knows its exact length and gives items
+//! from both ends. After its last item it returns only `None`. Creating one takes constant time and does not allocate.
 ghost use Rattle.std.specs.Prelude.{◌≡◌, ◌<◌, ◌^◌, length};
 ghost use Rattle.std.specs.Map.{keys_of, values_of};
 ghost use Rattle.std.specs.Map.Iter.{GivesInOrder, GivesInReverse, ShowsInOrder, ShowsInReverse, ShowsValuesInOrder, ShowsValuesInReverse, deref, deref_pair, deref_pair_mut};
@@ -11,7 +11,13 @@ use crate::VecMap;
 use vecmap_base::{IntoIter, IntoKeys, IntoValues, Iter, IterMut, Keys, Values, ValuesMut};
 
 impl<K, V> VecMap<K, V> {
-    /// The pairs, in their order, each as `(&K, &V)`. It takes constant time and no memory.
+    /// Returns an iterator over the pairs in order, each as `(&K, &V)`.
+    ///
+    /// # Complexity
+    ///
+    /// Constant time. Does not allocate.
+    ///
+    /// # Examples
     ///
     /// ```
     /// let map = vecmap!(alloc; 'a' => 1, 'b' => 2);
@@ -29,10 +35,16 @@ impl<K, V> VecMap<K, V> {
         Iter::over(&self.pairs)
     }
 
-    /// The pairs, in their order, each as `(&K, &mut V)`: each value as it stood at this call, to be written. It takes
-    /// constant time and no memory.
+    /// Returns an iterator over the pairs in order, each as `(&K, &mut V)`.
     ///
-    /// No clause says what the map holds afterwards. Where that matters, write through `get_mut` or `map[index]`.
+    /// Each value comes as it was at this call. No contract says what the map holds after the iteration. If a proof
+    /// needs that, write through [`VecMap::get_mut`] or `map[index]`.
+    ///
+    /// # Complexity
+    ///
+    /// Constant time. Does not allocate.
+    ///
+    /// # Examples
     ///
     /// ```
     /// let mut map = vecmap!(alloc; 'a' => 1, 'b' => 2);
@@ -50,7 +62,13 @@ impl<K, V> VecMap<K, V> {
         IterMut::over(&mut self.pairs)
     }
 
-    /// The keys, in their order. It takes constant time and no memory.
+    /// Returns an iterator over the keys, in order.
+    ///
+    /// # Complexity
+    ///
+    /// Constant time. Does not allocate.
+    ///
+    /// # Examples
     ///
     /// ```
     /// let map = vecmap!(alloc; 'a' => 1, 'b' => 2);
@@ -65,7 +83,13 @@ impl<K, V> VecMap<K, V> {
         Keys::over(&self.pairs)
     }
 
-    /// The values, in the order of their keys. It takes constant time and no memory.
+    /// Returns an iterator over the values, in the order of their keys.
+    ///
+    /// # Complexity
+    ///
+    /// Constant time. Does not allocate.
+    ///
+    /// # Examples
     ///
     /// ```
     /// let map = vecmap!(alloc; 'a' => 1, 'b' => 2);
@@ -80,10 +104,16 @@ impl<K, V> VecMap<K, V> {
         Values::over(&self.pairs)
     }
 
-    /// The values, in the order of their keys, each as it stood at this call, to be written. It takes constant time and no
-    /// memory.
+    /// Returns an iterator over mutable references to the values, in the order of their keys.
     ///
-    /// No clause says what the map holds afterwards. Where that matters, write through `get_mut` or `map[index]`.
+    /// Each value comes as it was at this call. No contract says what the map holds after the iteration. If a proof
+    /// needs that, write through [`VecMap::get_mut`] or `map[index]`.
+    ///
+    /// # Complexity
+    ///
+    /// Constant time. Does not allocate.
+    ///
+    /// # Examples
     ///
     /// ```
     /// let mut map = vecmap!(alloc; 'a' => 1, 'b' => 2);
@@ -101,7 +131,13 @@ impl<K, V> VecMap<K, V> {
         ValuesMut::over(&mut self.pairs)
     }
 
-    /// The keys, by value, in their order. Each value is dropped as its key is given. It takes constant time and no memory.
+    /// Converts the map into an iterator over its keys, in order. Each value is dropped when its key is returned.
+    ///
+    /// # Complexity
+    ///
+    /// Constant time. Does not allocate.
+    ///
+    /// # Examples
     ///
     /// ```
     /// let map = vecmap!(alloc; 'a' => 1, 'b' => 2);
@@ -116,8 +152,15 @@ impl<K, V> VecMap<K, V> {
         IntoKeys::over(self.into_vec())
     }
 
-    /// The values, by value, in the order of their keys. Each key is dropped as its value is given. It takes constant time
-    /// and no memory.
+    /// Converts the map into an iterator over its values, in the order of their keys.
+    ///
+    /// Each key is dropped when its value is returned.
+    ///
+    /// # Complexity
+    ///
+    /// Constant time. Does not allocate.
+    ///
+    /// # Examples
     ///
     /// ```
     /// let map = vecmap!(alloc; 'a' => 1, 'b' => 2);
@@ -133,7 +176,9 @@ impl<K, V> VecMap<K, V> {
     }
 }
 
-/// `for (key, value) in &map`, as `iter`.
+/// Returns an iterator over the pairs, like [`VecMap::iter`]. This is `for (key, value) in &map`.
+///
+/// # Examples
 ///
 /// ```
 /// let map = vecmap!(alloc; 'a' => 1, 'b' => 2);
@@ -155,7 +200,9 @@ impl<'a, K, V> IntoIterator for &'a VecMap<K, V> {
     }
 }
 
-/// `for (key, value) in &mut map`, as `iter_mut`.
+/// Returns an iterator over the pairs, like [`VecMap::iter_mut`]. This is `for (key, value) in &mut map`.
+///
+/// # Examples
 ///
 /// ```
 /// let mut map = vecmap!(alloc; 'a' => 1, 'b' => 2);
@@ -176,7 +223,9 @@ impl<'a, K, V> IntoIterator for &'a mut VecMap<K, V> {
     }
 }
 
-/// `for (key, value) in map`: the pairs, by value, in their order.
+/// Returns an iterator over the pairs by value, in order. This is `for (key, value) in map`.
+///
+/// # Examples
 ///
 /// ```
 /// let map = vecmap!(alloc; 'a' => 1, 'b' => 2);

@@ -1,4 +1,4 @@
-//! Laws of the definitions that the contracts cite. A call of one costs nothing, and gives a proof the law.
+//! Laws of the definitions that contracts use. A call of a law costs nothing at run time, and gives the law to a proof.
 ghost use Rattle.std.specs.Prelude.{◌≡◌, ◌≢◌, ◌↔◌, ◌<◌, ◌≤◌, ◌++◌, ◌∷◌, ℕ, Bool, IsTrue, List, None, Option, [], drop, false, length, remove, reverse, slice_range, swap, take};
 ghost use Rattle.std.specs.List.{remove_range};
 ghost use Rattle.std.specs.List.Sorted.{IsPermutation};
@@ -30,92 +30,132 @@ pub use queries::{queries_find_as_keys, texts_find_as_strings};
 pub use vecmap_base::laws::{iterators_pull_as_lists, key_comparisons_are_bounded};
 pub use writes::{writes_by_queries_are_insertions, writes_by_texts_are_insertions};
 
-/// Equality of maps is reflexive, symmetric and transitive, also where keys repeat.
+/// Equality of maps is reflexive, symmetric and transitive, even if keys repeat.
 pub fn equality_is_an_equivalence<K: Eq, V: Eq>()
     ensures reflexive { (a : List (K × V)) → IsTrue (has_same_counts K.eq V.eq a a) }
-    ensures symmetric { (a b : List (K × V)) → has_same_counts K.eq V.eq a b ≡ has_same_counts K.eq V.eq b a }
-    ensures transitive { (a b c : List (K × V)) → IsTrue (has_same_counts K.eq V.eq a b) → IsTrue (has_same_counts K.eq V.eq b c) → IsTrue (has_same_counts K.eq V.eq a c) }
+    ensures symmetric { (a b : List (K × V))
+        → has_same_counts K.eq V.eq a b ≡ has_same_counts K.eq V.eq b a }
+    ensures transitive { (a b c : List (K × V)) → IsTrue (has_same_counts K.eq V.eq a b)
+        → IsTrue (has_same_counts K.eq V.eq b c) → IsTrue (has_same_counts K.eq V.eq a c) }
 {}
 
-/// Maps of the same pairs in another order are equal, also where keys repeat.
+/// Maps of the same pairs in different orders are equal, even if keys repeat.
 pub fn equality_ignores_order<K: Eq, V: Eq>()
     ensures { (a b : List (K × V)) → IsPermutation a b → IsTrue (has_same_counts K.eq V.eq a b) }
 {}
 
-/// Where no keys repeat, two maps are equal exactly when the lookups of every key agree: both find nothing, or equal
-/// values. It is enough to look up the keys of both maps.
+/// If no keys repeat, two maps are equal exactly when every lookup finds nothing in both, or equal values in both.
+///
+/// It is enough to look up the keys of both maps.
 pub fn equality_is_agreement<K: Eq, V: Eq>()
-    ensures equality { (a b : List (K × V)) → HasDistinctKeys K.eq a → HasDistinctKeys K.eq b → has_same_counts K.eq V.eq a b ≡ agrees K.eq V.eq a b }
-    ensures lookups { (a b : List (K × V)) → HasDistinctKeys K.eq a → HasDistinctKeys K.eq b → IsTrue (has_same_counts K.eq V.eq a b) ↔ ((k : K) → IsTrue (same_option V.eq (lookup K.eq a k) (lookup K.eq b k))) }
-    ensures every_key { (a b : List (K × V)) → IsTrue (agrees K.eq V.eq a b) → (k : K) → IsTrue (same_option V.eq (lookup K.eq a k) (lookup K.eq b k)) }
+    ensures equality { (a b : List (K × V)) → HasDistinctKeys K.eq a → HasDistinctKeys K.eq b
+        → has_same_counts K.eq V.eq a b ≡ agrees K.eq V.eq a b }
+    ensures lookups { (a b : List (K × V)) → HasDistinctKeys K.eq a → HasDistinctKeys K.eq b
+        → IsTrue (has_same_counts K.eq V.eq a b)
+        ↔ ((k : K) → IsTrue (same_option V.eq (lookup K.eq a k) (lookup K.eq b k))) }
+    ensures every_key { (a b : List (K × V)) → IsTrue (agrees K.eq V.eq a b) → (k : K)
+        → IsTrue (same_option V.eq (lookup K.eq a k) (lookup K.eq b k)) }
 {}
 
-/// Maps of unequal lengths differ, and of maps of one length the pairs of one settle it.
+/// Maps of different lengths are not equal. For maps of the same length it is enough to count the pairs of one of them.
 pub fn lengths_tell_of_equality<K: Eq, V: Eq>()
-    ensures unequal { (a b : List (K × V)) → length a ≢ length b → has_same_counts K.eq V.eq a b ≡ false }
-    ensures half { (a b : List (K × V)) → length a ≡ length b → has_same_counts K.eq V.eq a b ≡ counts_agree K.eq V.eq a a b }
+    ensures unequal { (a b : List (K × V)) → length a ≢ length b
+        → has_same_counts K.eq V.eq a b ≡ false }
+    ensures half { (a b : List (K × V)) → length a ≡ length b
+        → has_same_counts K.eq V.eq a b ≡ counts_agree K.eq V.eq a a b }
 {}
 
-/// In the empty list no keys repeat. Where none do, none do after an insertion, a write of a value, or any number of
-/// puts, nor in what puts make of the empty list.
+/// If no keys repeat, none repeat after an insertion, after many insertions, or after a write of a value.
+///
+/// No keys repeat in the empty list, nor in what insertions make of it.
 pub fn insertion_keeps_keys_distinct<K: Eq, V>()
     ensures empty { HasDistinctKeys {V = V} K.eq [] }
-    ensures put { (l : List (K × V)) → HasDistinctKeys K.eq l → (k : K) (v : V) → HasDistinctKeys K.eq (put K.eq l k v) }
-    ensures puts { (l : List (K × V)) → HasDistinctKeys K.eq l → (pairs : List (K × V)) → HasDistinctKeys K.eq (puts K.eq l pairs) }
+    ensures put { (l : List (K × V)) → HasDistinctKeys K.eq l → (k : K) (v : V)
+        → HasDistinctKeys K.eq (put K.eq l k v) }
+    ensures puts { (l : List (K × V)) → HasDistinctKeys K.eq l → (pairs : List (K × V))
+        → HasDistinctKeys K.eq (puts K.eq l pairs) }
     ensures made { (pairs : List (K × V)) → HasDistinctKeys K.eq (puts K.eq [] pairs) }
-    ensures key { (l : List (K × V)) → HasDistinctKeys K.eq l → (k : K) (v : V) → HasDistinctKeys K.eq (put_key K.eq l k v) }
-    ensures at { (l : List (K × V)) → HasDistinctKeys K.eq l → (i : ℕ) (k : K) (v : V) → HasDistinctKeys K.eq (put_at K.eq l i k v) }
-    ensures value { (l : List (K × V)) → HasDistinctKeys K.eq l → (i : ℕ) (v : V) → HasDistinctKeys K.eq (with_value l i v) }
+    ensures key { (l : List (K × V)) → HasDistinctKeys K.eq l → (k : K) (v : V)
+        → HasDistinctKeys K.eq (put_key K.eq l k v) }
+    ensures at { (l : List (K × V)) → HasDistinctKeys K.eq l → (i : ℕ) (k : K) (v : V)
+        → HasDistinctKeys K.eq (put_at K.eq l i k v) }
+    ensures value { (l : List (K × V)) → HasDistinctKeys K.eq l → (i : ℕ) (v : V)
+        → HasDistinctKeys K.eq (with_value l i v) }
 {}
 
-/// Where no keys repeat, none do after a removal, by a test of the keys or by place, shifting or swapping, nor in the
-/// front of the list. The test is a key's `==`, a text's or that of a query of one's own.
+/// If no keys repeat, none repeat after a removal, nor in the front of the list.
+///
+/// The removal is by a test of the keys or by index. It shifts the later pairs or swaps in the last one. The test is
+/// the `==` of a key, that of a text, or that of a query type of your own.
 pub fn removal_keeps_keys_distinct<K: Eq, V>()
-    ensures by_test { (l : List (K × V)) → HasDistinctKeys K.eq l → (test : K → Bool) → HasDistinctKeys K.eq (without_by test l) }
-    ensures by_place { (l : List (K × V)) → HasDistinctKeys K.eq l → (i : ℕ) → HasDistinctKeys K.eq (remove l i) }
-    ensures swap_by_test { (l : List (K × V)) → HasDistinctKeys K.eq l → (test : K → Bool) → HasDistinctKeys K.eq (swap_without_by test l) }
-    ensures swap_by_key { (l : List (K × V)) → HasDistinctKeys K.eq l → (k : K) → HasDistinctKeys K.eq (swap_without_key K.eq l k) }
-    ensures swap_by_place { (l : List (K × V)) → HasDistinctKeys K.eq l → (i : ℕ) → HasDistinctKeys K.eq (swap_without l i) }
-    ensures front { (l : List (K × V)) → HasDistinctKeys K.eq l → (n : ℕ) → HasDistinctKeys K.eq (take n l) }
+    ensures by_test { (l : List (K × V)) → HasDistinctKeys K.eq l → (test : K → Bool)
+        → HasDistinctKeys K.eq (without_by test l) }
+    ensures by_place { (l : List (K × V)) → HasDistinctKeys K.eq l → (i : ℕ)
+        → HasDistinctKeys K.eq (remove l i) }
+    ensures swap_by_test { (l : List (K × V)) → HasDistinctKeys K.eq l → (test : K → Bool)
+        → HasDistinctKeys K.eq (swap_without_by test l) }
+    ensures swap_by_key { (l : List (K × V)) → HasDistinctKeys K.eq l → (k : K)
+        → HasDistinctKeys K.eq (swap_without_key K.eq l k) }
+    ensures swap_by_place { (l : List (K × V)) → HasDistinctKeys K.eq l → (i : ℕ)
+        → HasDistinctKeys K.eq (swap_without l i) }
+    ensures front { (l : List (K × V)) → HasDistinctKeys K.eq l → (n : ℕ)
+        → HasDistinctKeys K.eq (take n l) }
 {}
 
-/// Where no keys repeat, none do in a part of the list, nor once a part is left out.
+/// If no keys repeat, none repeat in a part of the list, nor once a part is left out.
 pub fn parts_keep_keys_distinct<K: Eq, V>()
-    ensures back { (l : List (K × V)) → HasDistinctKeys K.eq l → (n : ℕ) → HasDistinctKeys K.eq (drop n l) }
-    ensures part { (l : List (K × V)) → HasDistinctKeys K.eq l → (i j : ℕ) → HasDistinctKeys K.eq (slice_range l i j) }
-    ensures without_part { (l : List (K × V)) → HasDistinctKeys K.eq l → (i j : ℕ) → i ≤ j → HasDistinctKeys K.eq (remove_range l i j) }
+    ensures back { (l : List (K × V)) → HasDistinctKeys K.eq l → (n : ℕ)
+        → HasDistinctKeys K.eq (drop n l) }
+    ensures part { (l : List (K × V)) → HasDistinctKeys K.eq l → (i j : ℕ)
+        → HasDistinctKeys K.eq (slice_range l i j) }
+    ensures without_part { (l : List (K × V)) → HasDistinctKeys K.eq l → (i j : ℕ) → i ≤ j
+        → HasDistinctKeys K.eq (remove_range l i j) }
 {}
 
-/// Where no keys repeat, none do in what a closure keeps that may write the values alone.
+/// If no keys repeat, none repeat in what a closure keeps that may write only the values.
 pub fn retaining_keeps_keys_distinct<K: Eq, V, F: FnMut(&K, &mut V) -> bool>()
-    ensures { (f g : F) (l m : List (K × V)) → Kept (CallsAtPair F.FnMut) f l m g → HasDistinctKeys K.eq l → HasDistinctKeys K.eq m }
+    ensures { (f g : F) (l m : List (K × V)) → Kept (CallsAtPair F.FnMut) f l m g
+        → HasDistinctKeys K.eq l → HasDistinctKeys K.eq m }
 {}
 
-/// Where no keys repeat, a list that is split is whole again once the part that went is appended.
+/// If no keys repeat, a list that is split is whole again once the second part is appended to the first.
 pub fn appending_undoes_splitting<K: Eq, V>()
-    ensures { (l : List (K × V)) → HasDistinctKeys K.eq l → (at : ℕ) → puts K.eq (take at l) (drop at l) ≡ l }
+    ensures { (l : List (K × V)) → HasDistinctKeys K.eq l → (at : ℕ)
+        → puts K.eq (take at l) (drop at l) ≡ l }
 {}
 
-/// Where no keys repeat, none do in another order.
+/// If no keys repeat, none repeat in another order.
 pub fn order_keeps_keys_distinct<K: Eq, V>()
-    ensures rearranged { (l m : List (K × V)) → HasDistinctKeys K.eq l → IsPermutation l m → HasDistinctKeys K.eq m }
-    ensures reversed { (l : List (K × V)) → HasDistinctKeys K.eq l → HasDistinctKeys K.eq (reverse l) }
-    ensures swapped { (l : List (K × V)) → HasDistinctKeys K.eq l → (i j : ℕ) → i < length l → j < length l → HasDistinctKeys K.eq (swap l i j) }
+    ensures rearranged { (l m : List (K × V)) → HasDistinctKeys K.eq l → IsPermutation l m
+        → HasDistinctKeys K.eq m }
+    ensures reversed { (l : List (K × V)) → HasDistinctKeys K.eq l
+        → HasDistinctKeys K.eq (reverse l) }
+    ensures swapped { (l : List (K × V)) → HasDistinctKeys K.eq l → (i j : ℕ) → i < length l
+        → j < length l → HasDistinctKeys K.eq (swap l i j) }
 {}
 
-/// Where no keys repeat and each clone of a key is equal to its original, none do in clones of the pairs, nor once a
-/// clone of a key that is not there has been stored.
+/// If no keys repeat and each clone of a key is equal to its original, none repeat in clones of the pairs.
+///
+/// The same holds after the clone of a key that is not present has been appended.
 pub fn clones_keep_keys_distinct<K: Eq + Clone, V: Clone>()
-    ensures stored { ClonesAreSame K.eq K.is_clone → (l : List (K × V)) (key clone : K) (v : V) → K.is_clone key clone → index_of K.eq l key ≡ None → HasDistinctKeys K.eq l → HasDistinctKeys K.eq (l ++ (clone, v) ∷ []) }
-    ensures pairs { ClonesAreSame K.eq K.is_clone → (l m : List (K × V)) → AreClones (IsPairClone K.is_clone V.is_clone) l m → HasDistinctKeys K.eq l → HasDistinctKeys K.eq m }
+    ensures stored { ClonesAreSame K.eq K.is_clone → (l : List (K × V)) (key clone : K) (v : V)
+        → K.is_clone key clone → index_of K.eq l key ≡ None → HasDistinctKeys K.eq l
+        → HasDistinctKeys K.eq (l ++ (clone, v) ∷ []) }
+    ensures pairs { ClonesAreSame K.eq K.is_clone → (l m : List (K × V))
+        → AreClones (IsPairClone K.is_clone V.is_clone) l m → HasDistinctKeys K.eq l
+        → HasDistinctKeys K.eq m }
 {}
 
-/// Any mixture of pulls from both ends of a drain answers what its range's list gives: each pair once, from the front in
-/// order, from the back in reverse, and then none. What the map has once the drain is dropped stays: the pairs outside
-/// of the range, and the capacity.
+/// Any mixture of pulls from both ends of a drain returns the same as pulls from the list of its range.
+///
+/// Each pair comes once: in order from the front, in reverse order from the back. Then each pull returns `None`. What
+/// the map has once the drain is dropped stays: the pairs outside of the range, and the capacity.
 pub fn drains_pull_as_lists<K, V>()
-    ensures pulls { (s t : Drain K V) (ends : List End) (items : List (Option (K × V))) → PullsBy DrainNext DrainNextBack s ends items t → Pulls (drain_rest s) ends items (drain_rest t) }
-    ensures keeps { (s t : Drain K V) (ends : List End) (items : List (Option (K × V))) → PullsBy DrainNext DrainNextBack s ends items t → DrainKeeps s t }
+    ensures pulls { (s t : Drain K V) (ends : List End) (items : List (Option (K × V)))
+        → PullsBy DrainNext DrainNextBack s ends items t
+        → Pulls (drain_rest s) ends items (drain_rest t) }
+    ensures keeps { (s t : Drain K V) (ends : List End) (items : List (Option (K × V)))
+        → PullsBy DrainNext DrainNextBack s ends items t → DrainKeeps s t }
 {}
 
 /// A map never has more pairs than its capacity.

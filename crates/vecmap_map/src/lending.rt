@@ -1,4 +1,4 @@
-//! Calls that lend a value of the map to write.
+//! Calls that return a mutable reference to a value.
 ghost use Rattle.std.specs.Prelude.{◌≡◌, ◌-◌, ◌<◌, ◌↔◌, IfSome, IsSome, Some, length, option_map, slice_get};
 ghost use Rattle.std.specs.Borrow.{sem};
 ghost use Rattle.std.specs.Map.Iter.{deref_pair_mut};
@@ -12,9 +12,13 @@ use vecmap_base::Equivalent;
 impl<K, V> VecMap<K, V> {
     ghost use Rattle.vecmap_map.specs.Lends.{lends_beside_key, lends_beside_place, lends_value_at, lends_value_if_by, lends_whole_at, lends_whole_if_at};
 
-    /// The value of the first pair whose key `key` stands for, to write.
+    /// Returns a mutable reference to the value of the first pair whose key matches `query`.
     ///
-    /// It takes at most as many comparisons as there are pairs.
+    /// # Complexity
+    ///
+    /// At most `len` comparisons.
+    ///
+    /// # Examples
     ///
     /// ```
     /// let mut map = vecmap!(alloc; 'a' => 1, 'b' => 2);
@@ -23,20 +27,27 @@ impl<K, V> VecMap<K, V> {
     /// }
     /// map.as_slice() // [('a', 1), ('b', 3)]
     /// ```
-    pub fn get_mut<Q: Equivalent<K>>(&mut self, key: Q) -> Option<&mut V>
+    pub fn get_mut<Q: Equivalent<K>>(&mut self, query: Q) -> Option<&mut V>
     where
         K: Eq,
-        ensures* writes_back { sem 𝓛 (lends_value_if_by K.row V.row self.entry (Q.equivalent key) result) }
-        ensures value { option_copied_mut result ≡ lookup_by (Q.equivalent key) self.old.entries }
-        ensures found { IsSome result ↔ IsSome (index_by (Q.equivalent key) self.old.entries) }
+        ensures* writes_back { sem 𝓛 (lends_value_if_by K.row V.row self.entry
+            (Q.equivalent query) result) }
+        ensures value { option_copied_mut result ≡ lookup_by (Q.equivalent query) self.old.entries }
+        ensures found { IsSome result ↔ IsSome (index_by (Q.equivalent query) self.old.entries) }
     {
-        match self.get_index_of(key) {
+        match self.get_index_of(query) {
             Some(index) => Some(self.value_mut(index)),
             None => None,
         }
     }
 
-    /// The first pair, its value to write. It compares nothing.
+    /// Returns the first pair, with a mutable reference to its value.
+    ///
+    /// # Complexity
+    ///
+    /// No comparisons.
+    ///
+    /// # Examples
     ///
     /// ```
     /// let mut map = vecmap!(alloc; 'a' => 1, 'b' => 2);
@@ -53,7 +64,13 @@ impl<K, V> VecMap<K, V> {
         self.get_index_mut(0)
     }
 
-    /// The last pair, its value to write. It compares nothing.
+    /// Returns the last pair, with a mutable reference to its value.
+    ///
+    /// # Complexity
+    ///
+    /// No comparisons.
+    ///
+    /// # Examples
     ///
     /// ```
     /// let mut map = vecmap!(alloc; 'a' => 1, 'b' => 2);
@@ -63,17 +80,24 @@ impl<K, V> VecMap<K, V> {
     /// map.as_slice() // [('a', 1), ('b', 3)]
     /// ```
     pub fn last_mut(&mut self) -> Option<(&K, &mut V)>
-        ensures* writes_back { sem 𝓛 (lends_beside_key K.row V.row self.entry (length self.old.entries - 1) result) }
-        ensures pair { option_map deref_pair_mut result ≡ slice_get self.old.entries (length self.old.entries - 1) }
+        ensures* writes_back { sem 𝓛 (lends_beside_key K.row V.row self.entry
+            (length self.old.entries - 1) result) }
+        ensures pair { option_map deref_pair_mut result
+            ≡ slice_get self.old.entries (length self.old.entries - 1) }
         ensures found { IsSome result ↔ (0 < length self.old.entries) }
     {
         let (index, map) = self.with_last_place();
         map.get_index_mut(index)
     }
 
-    /// The place of the first pair whose key `key` stands for, with the stored key, and the value to write.
+    /// Returns the index and the stored key of the first pair whose key matches `query`, with a mutable reference to
+    /// its value.
     ///
-    /// It takes at most as many comparisons as there are pairs.
+    /// # Complexity
+    ///
+    /// At most `len` comparisons.
+    ///
+    /// # Examples
     ///
     /// ```
     /// let mut map = vecmap!(alloc; 'a' => 1, 'b' => 2);
@@ -82,22 +106,31 @@ impl<K, V> VecMap<K, V> {
     /// }
     /// map.as_slice() // [('a', 1), ('b', 3)]
     /// ```
-    pub fn get_full_mut<Q: Equivalent<K>>(&mut self, key: Q) -> Option<(usize, &K, &mut V)>
+    pub fn get_full_mut<Q: Equivalent<K>>(&mut self, query: Q) -> Option<(usize, &K, &mut V)>
     where
         K: Eq,
-        ensures* writes_back { sem 𝓛 (lends_beside_place K.row V.row self.entry (Q.equivalent key) result) }
-        ensures place { option_map (λ found. found.0) result ≡ index_by (Q.equivalent key) self.old.entries }
+        ensures* writes_back { sem 𝓛 (lends_beside_place K.row V.row self.entry
+            (Q.equivalent query) result) }
+        ensures place { option_map (λ found. found.0) result
+            ≡ index_by (Q.equivalent query) self.old.entries }
         ensures within { IfSome result (λ found. found.0 < length self.old.entries) }
-        ensures pair { option_map (λ found. (found.1.now, found.2.now)) result ≡ lookup_pair_by (Q.equivalent key) self.old.entries }
+        ensures pair { option_map (λ found. (found.1.now, found.2.now)) result
+            ≡ lookup_pair_by (Q.equivalent query) self.old.entries }
     {
-        let (place, map) = self.with_place_by(key);
+        let (place, map) = self.with_place_by(query);
         match place {
             Some(index) => Some(map.full_mut(index)),
             None => None,
         }
     }
 
-    /// The pair at a place, if there is one, its value to write. It compares nothing.
+    /// Returns the pair at `index`, if there is one, with a mutable reference to its value.
+    ///
+    /// # Complexity
+    ///
+    /// No comparisons.
+    ///
+    /// # Examples
     ///
     /// ```
     /// let mut map = vecmap!(alloc; 'a' => 1, 'b' => 2);
@@ -117,7 +150,7 @@ impl<K, V> VecMap<K, V> {
         }
     }
 
-    // The value at the place `index`, to write.
+    // Returns a mutable reference to the value at `index`.
     pub(crate) fn value_mut(&mut self, index: usize) -> &mut V
         requires { index < length self.old.entries }
         ensures* writes_back { sem 𝓛 (lends_value_at K.row V.row self.entry index result) }
@@ -126,7 +159,7 @@ impl<K, V> VecMap<K, V> {
         &mut self.pairs[index].1
     }
 
-    // The pair at the place `index`, to write, if there is one.
+    // Returns a mutable reference to the pair at `index`, if there is one.
     pub(crate) fn whole_at(&mut self, index: usize) -> Option<&mut (K, V)>
         ensures* writes_back { sem 𝓛 (lends_whole_if_at K.row V.row self.entry index result) }
         ensures pair { option_copied_mut result ≡ slice_get self.old.entries index }
@@ -139,7 +172,7 @@ impl<K, V> VecMap<K, V> {
         }
     }
 
-    // The pair at the place `index`, to write.
+    // Returns a mutable reference to the pair at `index`.
     pub(crate) fn whole_mut(&mut self, index: usize) -> &mut (K, V)
         requires { index < length self.old.entries }
         ensures* writes_back { sem 𝓛 (lends_whole_at K.row V.row self.entry index result) }
@@ -148,7 +181,7 @@ impl<K, V> VecMap<K, V> {
         &mut self.pairs[index]
     }
 
-    // The place `index`, its key, and its value to write.
+    // Returns `index`, the key at `index`, and a mutable reference to its value.
     fn full_mut(&mut self, index: usize) -> (usize, &K, &mut V)
         requires { index < length self.old.entries }
         ensures* writes_back { sem 𝓛 (lends_value_at K.row V.row self.entry index result.2) }
@@ -159,22 +192,22 @@ impl<K, V> VecMap<K, V> {
         (index, &pair.0, &mut pair.1)
     }
 
-    // The first place whose key `key` stands for, and the map itself.
+    // Returns the index of the first pair whose key matches `query`, and the map itself.
     pub(crate) fn with_place_by<Q: Equivalent<K>>(
         &mut self,
-        key: Q,
+        query: Q,
     ) -> (Option<usize>, &mut VecMap<K, V>)
     where
         K: Eq,
-        ensures place { result.0 ≡ index_by (Q.equivalent key) self.old.entries }
+        ensures place { result.0 ≡ index_by (Q.equivalent query) self.old.entries }
         ensures within { IfSome result.0 (λ i. i < length self.old.entries) }
         ensures same_map { result.1.ghost_name ≡ self.entry.ghost_name }
         ensures unchanged { result.1.now ≡ self.old }
     {
-        (self.get_index_of(key), self)
+        (self.get_index_of(query), self)
     }
 
-    // The last place, or 0 where there is none, and the map itself.
+    // Returns the last index, or 0 if the map is empty, and the map itself.
     fn with_last_place(&mut self) -> (usize, &mut VecMap<K, V>)
         ensures place { result.0 ≡ length self.old.entries - 1 }
         ensures same_map { result.1.ghost_name ≡ self.entry.ghost_name }
@@ -184,7 +217,7 @@ impl<K, V> VecMap<K, V> {
     }
 }
 
-// The key and the value of a pair, the value to write.
+// Returns the key of a pair, and a mutable reference to its value.
 fn ends<K, V>(pair: &mut (K, V)) -> (&K, &mut V)
     ensures* writes_back { sem 𝓛 (lends_value K.row V.row pair.entry result.1) }
     ensures parts { pair.old ≡ (result.0.now, result.1.now) }

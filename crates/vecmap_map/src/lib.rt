@@ -1,4 +1,4 @@
-//! `VecMap`, an ordered map by equality over one vector of pairs.
+//! `VecMap`: a map that keeps its pairs in insertion order, in one vector, and finds keys by `==`.
 #![tactic(auto)]
 
 mod bulk;
@@ -27,10 +27,10 @@ pub use entry::{Entry, OccupiedEntry, VacantEntry};
 pub use mutable_keys::MutableKeys;
 use std::marker::Model;
 
-/// A map that keeps its pairs in the order of their insertion.
+/// A map that keeps its pairs in insertion order.
 ///
-/// Keys need neither `Hash` nor `Ord`: they are found by `==`, one after another, so a lookup takes at most as many
-/// comparisons as there are pairs. A contract sees a map as its list of pairs and its capacity.
+/// Keys need neither `Hash` nor `Ord`. A lookup compares them by `==`, in order, so it takes at most `len` comparisons.
+/// A contract sees a map as the list of its pairs and its capacity.
 #[derive(Drop)]
 pub struct VecMap<K, V> {
     pairs: Vec<(K, V)>,

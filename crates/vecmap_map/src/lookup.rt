@@ -1,4 +1,4 @@
-//! Lookups by key and by place.
+//! Lookups by query and by index.
 ghost use Rattle.std.specs.Prelude.{◌≡◌, ◌-◌, ◌<◌, ◌↔◌, IfSome, IsTrue, is_some, length, option_copied, option_map, slice_get};
 ghost use Rattle.std.specs.Map.Iter.{deref_pair};
 ghost use Rattle.vecmap_base.specs.Pairs.{HasDistinctKeys, has_text, index_by, lookup_by, lookup_pair_by};
@@ -7,22 +7,34 @@ use crate::VecMap;
 use vecmap_base::{Equivalent, find_equivalent, keys_distinct};
 
 impl<K, V> VecMap<K, V> {
-    /// Whether a key that `key` stands for is there. It takes at most as many comparisons as there are pairs.
+    /// Returns whether a key of the map matches `query`.
+    ///
+    /// # Complexity
+    ///
+    /// At most `len` comparisons.
+    ///
+    /// # Examples
     ///
     /// ```
     /// let map = vecmap!(alloc; 'a' => 1, 'b' => 2);
     /// map.contains_key(&'a') // true
     /// map.contains_key(&'c') // false
     /// ```
-    pub fn contains_key<Q: Equivalent<K>>(&self, key: Q) -> bool
+    pub fn contains_key<Q: Equivalent<K>>(&self, query: Q) -> bool
     where
         K: Eq,
-        ensures { result ≡ is_some (index_by (Q.equivalent key) self.now.entries) }
+        ensures { result ≡ is_some (index_by (Q.equivalent query) self.now.entries) }
     {
-        self.get_index_of(key).is_some()
+        self.get_index_of(query).is_some()
     }
 
-    /// The first pair. It compares nothing.
+    /// Returns the first pair, or `None` if the map is empty.
+    ///
+    /// # Complexity
+    ///
+    /// No comparisons.
+    ///
+    /// # Examples
     ///
     /// ```
     /// let map = vecmap!(alloc; 'a' => 1, 'b' => 2);
@@ -34,14 +46,21 @@ impl<K, V> VecMap<K, V> {
         self.get_index(0)
     }
 
-    /// The last pair. It compares nothing.
+    /// Returns the last pair, or `None` if the map is empty.
+    ///
+    /// # Complexity
+    ///
+    /// No comparisons.
+    ///
+    /// # Examples
     ///
     /// ```
     /// let map = vecmap!(alloc; 'a' => 1, 'b' => 2);
     /// map.last() // Some((&'b', &2))
     /// ```
     pub fn last(&self) -> Option<(&K, &V)>
-        ensures { option_map deref_pair result ≡ slice_get self.now.entries (length self.now.entries - 1) }
+        ensures { option_map deref_pair result
+            ≡ slice_get self.now.entries (length self.now.entries - 1) }
     {
         let len = self.pairs.len();
         if len == 0 {
@@ -50,25 +69,35 @@ impl<K, V> VecMap<K, V> {
         self.get_index(len - 1)
     }
 
-    /// The value of the first pair whose key `key` stands for.
+    /// Returns the value of the first pair whose key matches `query`, or `None` if no key matches.
     ///
-    /// It takes at most as many comparisons as there are pairs.
+    /// # Complexity
+    ///
+    /// At most `len` comparisons.
+    ///
+    /// # Examples
     ///
     /// ```
     /// let map = vecmap!(alloc; 'a' => 1, 'b' => 2);
     /// map.get(&'b') // Some(&2)
     /// map.get(&'c') // None
     /// ```
-    pub fn get<Q: Equivalent<K>>(&self, key: Q) -> Option<&V>
+    pub fn get<Q: Equivalent<K>>(&self, query: Q) -> Option<&V>
     where
         K: Eq,
-        ensures { option_copied result ≡ lookup_by (Q.equivalent key) self.now.entries }
+        ensures { option_copied result ≡ lookup_by (Q.equivalent query) self.now.entries }
     {
-        let (_index, _key, value) = self.get_full(key)?;
+        let (_index, _key, value) = self.get_full(query)?;
         Some(value)
     }
 
-    /// The pair at a place, if there is one. It compares nothing.
+    /// Returns the pair at `index`, or `None` if `index` is out of range.
+    ///
+    /// # Complexity
+    ///
+    /// No comparisons.
+    ///
+    /// # Examples
     ///
     /// ```
     /// let map = vecmap!(alloc; 'a' => 1, 'b' => 2);
@@ -82,62 +111,83 @@ impl<K, V> VecMap<K, V> {
         Some((&pair.0, &pair.1))
     }
 
-    /// The place of the first pair whose key `key` stands for, with the stored key and its value.
+    /// Returns the index, the stored key and the value of the first pair whose key matches `query`.
     ///
-    /// It takes at most as many comparisons as there are pairs.
+    /// # Complexity
+    ///
+    /// At most `len` comparisons.
+    ///
+    /// # Examples
     ///
     /// ```
     /// let map = vecmap!(alloc; 'a' => 1, 'b' => 2);
     /// map.get_full(&'b') // Some((1, &'b', &2))
     /// ```
-    pub fn get_full<Q: Equivalent<K>>(&self, key: Q) -> Option<(usize, &K, &V)>
+    pub fn get_full<Q: Equivalent<K>>(&self, query: Q) -> Option<(usize, &K, &V)>
     where
         K: Eq,
-        ensures place { option_map (λ found. found.0) result ≡ index_by (Q.equivalent key) self.now.entries }
+        ensures place { option_map (λ found. found.0) result
+            ≡ index_by (Q.equivalent query) self.now.entries }
         ensures within { IfSome result (λ found. found.0 < length self.now.entries) }
-        ensures pair { option_map (λ found. (found.1.now, found.2.now)) result ≡ lookup_pair_by (Q.equivalent key) self.now.entries }
+        ensures pair { option_map (λ found. (found.1.now, found.2.now)) result
+            ≡ lookup_pair_by (Q.equivalent query) self.now.entries }
     {
-        let index = self.get_index_of(key)?;
+        let index = self.get_index_of(query)?;
         let pair = &self.pairs[index];
         Some((index, &pair.0, &pair.1))
     }
 
-    /// The first pair whose key `key` stands for, with the stored key.
+    /// Returns the first pair whose key matches `query`, with the stored key.
     ///
-    /// It takes at most as many comparisons as there are pairs.
+    /// # Complexity
+    ///
+    /// At most `len` comparisons.
+    ///
+    /// # Examples
     ///
     /// ```
     /// let map = vecmap!(alloc; 'a' => 1, 'b' => 2);
     /// map.get_key_value(&'b') // Some((&'b', &2))
     /// ```
-    pub fn get_key_value<Q: Equivalent<K>>(&self, key: Q) -> Option<(&K, &V)>
+    pub fn get_key_value<Q: Equivalent<K>>(&self, query: Q) -> Option<(&K, &V)>
     where
         K: Eq,
-        ensures { option_map deref_pair result ≡ lookup_pair_by (Q.equivalent key) self.now.entries }
+        ensures { option_map deref_pair result
+            ≡ lookup_pair_by (Q.equivalent query) self.now.entries }
     {
-        let (_index, stored, value) = self.get_full(key)?;
+        let (_index, stored, value) = self.get_full(query)?;
         Some((stored, value))
     }
 
-    /// The place of the first pair whose key `key` stands for.
+    /// Returns the index of the first pair whose key matches `query`, or `None` if no key matches.
     ///
-    /// It takes at most as many comparisons as there are pairs.
+    /// # Complexity
+    ///
+    /// At most `len` comparisons.
+    ///
+    /// # Examples
     ///
     /// ```
     /// let map = vecmap!(alloc; 'a' => 1, 'b' => 2);
     /// map.get_index_of(&'b') // Some(1)
     /// map.get_index_of(&'c') // None
     /// ```
-    pub fn get_index_of<Q: Equivalent<K>>(&self, key: Q) -> Option<usize>
+    pub fn get_index_of<Q: Equivalent<K>>(&self, query: Q) -> Option<usize>
     where
         K: Eq,
-        ensures place { result ≡ index_by (Q.equivalent key) self.now.entries }
+        ensures place { result ≡ index_by (Q.equivalent query) self.now.entries }
         ensures within { IfSome result (λ i. i < length self.now.entries) }
     {
-        find_equivalent(&self.pairs, key)
+        find_equivalent(&self.pairs, query)
     }
 
-    /// Whether no two keys are equal, after at most n(n-1)/2 comparisons for n pairs. It takes no memory.
+    /// Returns whether no two keys of the map are equal.
+    ///
+    /// # Complexity
+    ///
+    /// At most n(n-1)/2 comparisons for n pairs. Does not allocate.
+    ///
+    /// # Examples
     ///
     /// ```
     /// let map = vecmap!(alloc; 'a' => 1, 'b' => 2);
@@ -153,7 +203,13 @@ impl<K, V> VecMap<K, V> {
 }
 
 impl<V> VecMap<String, V> {
-    /// As `contains_key`, by the bytes of a text, at the same cost. It takes no memory.
+    /// Like [`VecMap::contains_key`], with the same cost, but a key matches if it has the bytes of `text`.
+    ///
+    /// # Complexity
+    ///
+    /// At most `len` comparisons. Does not allocate.
+    ///
+    /// # Examples
     ///
     /// ```
     /// let map = vecmap!(alloc; String::from_str(alloc, "a")? => 1);
@@ -165,7 +221,13 @@ impl<V> VecMap<String, V> {
         self.contains_key(text)
     }
 
-    /// As `get`, by the bytes of a text, at the same cost. It takes no memory.
+    /// Like [`VecMap::get`], with the same cost, but a key matches if it has the bytes of `text`.
+    ///
+    /// # Complexity
+    ///
+    /// At most `len` comparisons. Does not allocate.
+    ///
+    /// # Examples
     ///
     /// ```
     /// let map = vecmap!(alloc; String::from_str(alloc, "a")? => 1);
@@ -177,7 +239,13 @@ impl<V> VecMap<String, V> {
         self.get(text)
     }
 
-    /// As `get_index_of`, by the bytes of a text, at the same cost. It takes no memory.
+    /// Like [`VecMap::get_index_of`], with the same cost, but a key matches if it has the bytes of `text`.
+    ///
+    /// # Complexity
+    ///
+    /// At most `len` comparisons. Does not allocate.
+    ///
+    /// # Examples
     ///
     /// ```
     /// let map = vecmap!(alloc; String::from_str(alloc, "a")? => 1);

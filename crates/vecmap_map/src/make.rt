@@ -1,4 +1,4 @@
-//! Making a map, and what it is made of.
+//! Calls that create a map, and calls that return its slice, its vector or its allocator.
 ghost use Rattle.std.specs.Prelude.{◌≡◌, ◌≤◌, IfOk, IsOk, [], vec_capacity};
 ghost use Rattle.vecmap_map.specs.MapBulk.{ArePairClones};
 
@@ -7,7 +7,9 @@ use std::alloc::{AllocError, Global};
 use std::default::{Emptied, MadeWith};
 
 impl<K, V> VecMap<K, V> {
-    /// The empty map, which has taken no memory.
+    /// Creates an empty map. Does not allocate.
+    ///
+    /// # Examples
     ///
     /// ```
     /// let map: VecMap<char, u32> = VecMap::new(alloc);
@@ -22,9 +24,15 @@ impl<K, V> VecMap<K, V> {
         }
     }
 
-    /// The empty map, with room for at least `capacity` pairs. For 0 it takes no memory and succeeds.
+    /// Creates an empty map with capacity for at least `capacity` pairs.
     ///
-    /// Refused, nothing is made.
+    /// If `capacity` is 0, the call succeeds and does not allocate.
+    ///
+    /// # Errors
+    ///
+    /// [`AllocError`] if the allocator refuses the request; no map is created.
+    ///
+    /// # Examples
     ///
     /// ```
     /// let map: VecMap<char, u32> = VecMap::with_capacity(alloc, 4)?;
@@ -42,7 +50,13 @@ impl<K, V> VecMap<K, V> {
         })
     }
 
-    /// The pairs, in their order. It takes no memory and moves none.
+    /// Returns the pairs in order, as a slice.
+    ///
+    /// # Complexity
+    ///
+    /// No moves. Does not allocate.
+    ///
+    /// # Examples
     ///
     /// ```
     /// let map = vecmap!(alloc; 'a' => 1, 'b' => 2);
@@ -54,7 +68,13 @@ impl<K, V> VecMap<K, V> {
         self.pairs.as_slice()
     }
 
-    /// The pairs, in their order, in the vector that held them. It takes no memory and moves none.
+    /// Returns the pairs in order, in the vector that held them.
+    ///
+    /// # Complexity
+    ///
+    /// No moves. Does not allocate.
+    ///
+    /// # Examples
     ///
     /// ```
     /// let map = vecmap!(alloc; 'a' => 1, 'b' => 2);
@@ -68,9 +88,18 @@ impl<K, V> VecMap<K, V> {
         pairs
     }
 
-    /// A map of clones of the pairs, in their order. Refused, nothing is made.
+    /// Returns a map of clones of the pairs, in order.
     ///
-    /// It takes one clone of each key and of each value, one block of memory, and no comparison.
+    /// # Errors
+    ///
+    /// [`AllocError`] if the allocator refuses the request, or if the clone of a key or of a value is refused; no map
+    /// is created.
+    ///
+    /// # Complexity
+    ///
+    /// One clone of each key and of each value, one allocation for the pairs, and no comparisons.
+    ///
+    /// # Examples
     ///
     /// ```
     /// let map = vecmap!(alloc; 'a' => 1, 'b' => 2);
@@ -89,7 +118,7 @@ impl<K, V> VecMap<K, V> {
         })
     }
 
-    /// Returns the allocator that the pairs are on.
+    /// Returns the allocator of the map.
     ///
     /// # Examples
     ///
@@ -102,7 +131,9 @@ impl<K, V> VecMap<K, V> {
     }
 }
 
-/// What `or_default` puts where the values of a map are maps.
+/// Creates the empty map that `or_default` inserts if the values of a map are maps.
+///
+/// # Examples
 ///
 /// ```
 /// let mut shelves: VecMap<char, VecMap<u32, u32>> = VecMap::new(alloc);
@@ -117,7 +148,9 @@ impl<K, V> MadeWith<Global> for VecMap<K, V> {
     }
 }
 
-/// What `mem::try_take` leaves in the place of a map.
+/// Creates the empty map that `mem::try_take` leaves behind.
+///
+/// # Examples
 ///
 /// ```
 /// let mut map = vecmap!(alloc; 'a' => 1, 'b' => 2);

@@ -1,4 +1,4 @@
-//! Calls that lend keys to be written.
+//! Calls that return mutable references to keys.
 ghost use Rattle.std.specs.Prelude.{◌≡◌, ◌<◌, ◌^◌, ◌↔◌, IfSome, IsSome, List, length, option_map, slice_get};
 ghost use Rattle.std.specs.Borrow.{sem};
 ghost use Rattle.std.specs.Map.{keys_of};
@@ -18,20 +18,26 @@ mod sealed {
 
 impl<K, V> sealed::Sealed for VecMap<K, V> {}
 
-/// Calls that lend keys to be written. No other type can have them.
+/// Calls that return mutable references to keys.
 ///
-/// A key that is written so that it equals another one stays as it was written: lookups then find the first of them.
+/// No other type can implement this trait. A key may be written so that it equals another one. It then stays as it was
+/// written, and lookups find the first of the two.
 pub trait MutableKeys: sealed::Sealed {
     type Key;
 
     type Value;
 
-    // The pairs that a value has, from front to back.
+    // The pairs of a value, from the first to the last.
     ghost pairs: { Self → List (Self.Key × Self.Value) };
 
-    /// The place of the first pair whose key `key` stands for, with the stored key and the value, both to write.
+    /// Returns the index of the first pair whose key matches `query`, with mutable references to the stored key and the
+    /// value.
     ///
-    /// It takes at most as many comparisons as there are pairs.
+    /// # Complexity
+    ///
+    /// At most `len` comparisons.
+    ///
+    /// # Examples
     ///
     /// ```
     /// let mut map = vecmap!(alloc; 'a' => 1, 'b' => 2);
@@ -42,12 +48,18 @@ pub trait MutableKeys: sealed::Sealed {
     /// ```
     fn get_full_mut2<Q: Equivalent<Self::Key>>(
         &mut self,
-        key: Q,
+        query: Q,
     ) -> Option<(usize, &mut Self::Key, &mut Self::Value)>
     where
         Self::Key: Eq;
 
-    /// The pair at a place, if there is one, the key and the value to write. It compares nothing.
+    /// Returns mutable references to the key and the value at `index`, or `None` if `index` is out of range.
+    ///
+    /// # Complexity
+    ///
+    /// No comparisons.
+    ///
+    /// # Examples
     ///
     /// ```
     /// let mut map = vecmap!(alloc; 'a' => 1, 'b' => 2);
@@ -58,10 +70,20 @@ pub trait MutableKeys: sealed::Sealed {
     /// ```
     fn get_index_mut2(&mut self, index: usize) -> Option<(&mut Self::Key, &mut Self::Value)>;
 
-    /// Keeps the pairs at which `f` answers true, each as `f` left its key and its value. The capacity stays.
+    /// Keeps the pairs for which `f` returns `true`, each with the key and the value that `f` left in it.
     ///
-    /// `f` is asked of each pair once, in order, in the state that the calls before have left. For n pairs there are n
-    /// calls and at most n swaps; the pairs that go are dropped at the end. It takes no memory.
+    /// `f` is called once for each pair, in order, in the state that the calls before have left. The other pairs are
+    /// dropped at the end. The capacity stays.
+    ///
+    /// # Conditions
+    ///
+    /// `f` can be called with each pair of the map, in the state that the calls before have left.
+    ///
+    /// # Complexity
+    ///
+    /// n calls of `f` and at most n swaps for n pairs. Does not allocate.
+    ///
+    /// # Examples
     ///
     /// ```
     /// let mut map = vecmap!(alloc; 'a' => 1, 'b' => 2, 'c' => 3);
@@ -75,10 +97,16 @@ pub trait MutableKeys: sealed::Sealed {
         F: Drop,
         requires callable { CallableOnEach (CallsAtPairMut F.FnMut) (TakesPairMut F.FnMut) f (pairs self.old) };
 
-    /// The pairs, in their order, each as `(&mut K, &mut V)`: as they stood at this call, to be written.
+    /// Returns an iterator over the pairs in order, each as `(&mut K, &mut V)`.
     ///
-    /// Each pull takes constant time, and none takes memory. No clause says what the map holds afterwards: where that
-    /// matters, write through `get_index_mut2` or `retain2`.
+    /// Each pair comes as it was at this call. No contract says what the map holds after the iteration. If a proof
+    /// needs that, write through [`MutableKeys::get_index_mut2`] or [`MutableKeys::retain2`].
+    ///
+    /// # Complexity
+    ///
+    /// Constant time for each item. Does not allocate.
+    ///
+    /// # Examples
     ///
     /// ```
     /// let mut map = vecmap!(alloc; 'a' => 1, 'b' => 2);
@@ -89,10 +117,16 @@ pub trait MutableKeys: sealed::Sealed {
     /// ```
     fn iter_mut2(&mut self) -> IterMut2<'_, Self::Key, Self::Value>;
 
-    /// The keys, in their order, as they stood at this call, to be written.
+    /// Returns an iterator over mutable references to the keys, in order.
     ///
-    /// Each pull takes constant time, and none takes memory. No clause says what the map holds afterwards: where that
-    /// matters, write through `get_index_mut2` or `retain2`.
+    /// Each key comes as it was at this call. No contract says what the map holds after the iteration. If a proof needs
+    /// that, write through [`MutableKeys::get_index_mut2`] or [`MutableKeys::retain2`].
+    ///
+    /// # Complexity
+    ///
+    /// Constant time for each item. Does not allocate.
+    ///
+    /// # Examples
     ///
     /// ```
     /// let mut map = vecmap!(alloc; 'a' => 1, 'b' => 2);
@@ -113,15 +147,18 @@ impl<K, V> MutableKeys for VecMap<K, V> {
 
     ghost use Rattle.vecmap_map.specs.Lends.{lends_both_at, lends_both_beside_place};
 
-    fn get_full_mut2<Q: Equivalent<K>>(&mut self, key: Q) -> Option<(usize, &mut K, &mut V)>
+    fn get_full_mut2<Q: Equivalent<K>>(&mut self, query: Q) -> Option<(usize, &mut K, &mut V)>
     where
         K: Eq,
-        ensures* writes_back { sem 𝓛 (lends_both_beside_place K.row V.row self.entry (Q.equivalent key) result) }
-        ensures place { option_map (λ found. found.0) result ≡ index_by (Q.equivalent key) self.old.entries }
+        ensures* writes_back { sem 𝓛 (lends_both_beside_place K.row V.row self.entry
+            (Q.equivalent query) result) }
+        ensures place { option_map (λ found. found.0) result
+            ≡ index_by (Q.equivalent query) self.old.entries }
         ensures within { IfSome result (λ found. found.0 < length self.old.entries) }
-        ensures pair { option_map (λ found. (found.1.now, found.2.now)) result ≡ lookup_pair_by (Q.equivalent key) self.old.entries }
+        ensures pair { option_map (λ found. (found.1.now, found.2.now)) result
+            ≡ lookup_pair_by (Q.equivalent query) self.old.entries }
     {
-        let (place, map) = self.with_place_by(key);
+        let (place, map) = self.with_place_by(query);
         match place {
             Some(index) => {
                 let (key, value) = parts_mut(map.whole_mut(index));
@@ -133,7 +170,8 @@ impl<K, V> MutableKeys for VecMap<K, V> {
 
     fn get_index_mut2(&mut self, index: usize) -> Option<(&mut K, &mut V)>
         ensures* writes_back { sem 𝓛 (lends_both_at K.row V.row self.entry index result) }
-        ensures pair { option_map (λ pair. (pair.0.now, pair.1.now)) result ≡ slice_get self.old.entries index }
+        ensures pair { option_map (λ pair. (pair.0.now, pair.1.now)) result
+            ≡ slice_get self.old.entries index }
         ensures found { IsSome result ↔ (index < length self.old.entries) }
     {
         match self.whole_at(index) {
@@ -147,8 +185,10 @@ impl<K, V> MutableKeys for VecMap<K, V> {
         K: Drop,
         V: Drop,
         F: Drop,
-        requires callable { CallableOnEach (CallsAtPairMut F.FnMut) (TakesPairMut F.FnMut) f self.old.entries }
-        ensures entries { (g : F) × Kept (CallsAtPairMut F.FnMut) f self.old.entries self.new.entries g }
+        requires callable { CallableOnEach (CallsAtPairMut F.FnMut)
+            (TakesPairMut F.FnMut) f self.old.entries }
+        ensures entries { (g : F) × Kept
+            (CallsAtPairMut F.FnMut) f self.old.entries self.new.entries g }
         ensures capacity { self.new.capacity ≡ self.old.capacity }
     {
         retain_pairs_mut(&mut self.pairs, f);
@@ -173,7 +213,7 @@ impl<K, V> MutableKeys for VecMap<K, V> {
     }
 }
 
-// The key and the value of a pair, both to write.
+// Returns mutable references to the key and the value of a pair.
 fn parts_mut<K, V>(pair: &mut (K, V)) -> (&mut K, &mut V)
     ensures* writes_back { sem 𝓛 (lends_parts K.row V.row pair.entry result) }
     ensures parts { pair.old ≡ (result.0.now, result.1.now) }

@@ -1,4 +1,4 @@
-//! The order of the pairs.
+//! Reversing, swapping and sorting the pairs.
 ghost use Rattle.std.specs.Prelude.{◌≡◌, ◌<◌, ◌≤◌, Bool, IsOk, OnErr, OnOk, length, reverse, swap};
 ghost use Rattle.std.specs.List.Sorted.{IsPermutation, IsSortedByKey, IsStableByKey};
 ghost use Rattle.std.specs.Ordering.{is_lt};
@@ -9,7 +9,13 @@ use std::alloc::AllocError;
 use std::cmp::Ordering;
 
 impl<K, V> VecMap<K, V> {
-    /// Turns the order of the pairs round, and compares nothing. Half as many exchanges as there are pairs do it.
+    /// Reverses the order of the pairs.
+    ///
+    /// # Complexity
+    ///
+    /// No comparisons, and half as many swaps as there are pairs.
+    ///
+    /// # Examples
     ///
     /// ```
     /// let mut map = vecmap!(alloc; 'a' => 1, 'b' => 2, 'c' => 3);
@@ -23,7 +29,17 @@ impl<K, V> VecMap<K, V> {
         self.pairs.reverse();
     }
 
-    /// Exchanges the pairs at two places, which must be there: `len` tells. It compares nothing.
+    /// Swaps the pairs at the indices `a` and `b`.
+    ///
+    /// # Conditions
+    ///
+    /// `a` and `b` are less than [`VecMap::len`].
+    ///
+    /// # Complexity
+    ///
+    /// No comparisons.
+    ///
+    /// # Examples
     ///
     /// ```
     /// let mut map = vecmap!(alloc; 'a' => 1, 'b' => 2, 'c' => 3);
@@ -39,10 +55,17 @@ impl<K, V> VecMap<K, V> {
         self.pairs.swap(a, b);
     }
 
-    /// Sorts the pairs by their keys, in O(n log n) comparisons of keys for n pairs. Pairs whose keys tie stay in their
-    /// order.
+    /// Sorts the pairs by their keys. Pairs whose keys compare as equal keep their order.
     ///
-    /// It takes memory for more than 20 pairs; refused, it leaves the map as it was.
+    /// # Errors
+    ///
+    /// [`AllocError`] if the allocator refuses the request; the map is then unchanged.
+    ///
+    /// # Complexity
+    ///
+    /// O(n log n) comparisons of keys for n pairs. Allocates only for more than 20 pairs.
+    ///
+    /// # Examples
     ///
     /// ```
     /// let mut map = vecmap!(alloc; 'b' => 1, 'a' => 2);
@@ -62,10 +85,23 @@ impl<K, V> VecMap<K, V> {
         self.sort_by(|a, b| a.0.cmp(b.0))
     }
 
-    /// Sorts the pairs by `f`, which compares two, in O(n log n) calls of `f` for n pairs. Pairs that tie under `f` stay
-    /// in their order. Where `f` is no consistent order the pairs may end in any order, and none is lost.
+    /// Sorts the pairs by `f`, which compares two pairs. Pairs that compare as equal keep their order.
     ///
-    /// It takes memory for more than 20 pairs; refused, it leaves the map as it was.
+    /// If `f` is not a consistent order, the pairs may end in any order, but none is lost.
+    ///
+    /// # Errors
+    ///
+    /// [`AllocError`] if the allocator refuses the request; the map is then unchanged.
+    ///
+    /// # Conditions
+    ///
+    /// `f` can be called with any two pairs.
+    ///
+    /// # Complexity
+    ///
+    /// O(n log n) calls of `f` for n pairs. Allocates only for more than 20 pairs.
+    ///
+    /// # Examples
     ///
     /// ```
     /// let mut map = vecmap!(alloc; 'a' => 1, 'b' => 2);
@@ -84,15 +120,29 @@ impl<K, V> VecMap<K, V> {
         self.pairs.sort_by(
             |a: &(K, V), b: &(K, V)| -> Ordering
                 requires { F.IsAlwaysCallable f }
-                ensures { (lt : K × V → K × V → Bool) → ComparesPairsAs F.Fn lt f → is_lt result ≡ lt a.now b.now }
+                ensures { (lt : K × V → K × V → Bool) → ComparesPairsAs F.Fn lt f
+                    → is_lt result ≡ lt a.now b.now }
             { f((&a.0, &a.1), (&b.0, &b.1)) },
         )
     }
 
-    /// Sorts the pairs by the sort keys that `f` makes of them, in O(n log n) comparisons of sort keys for n pairs; each
-    /// pair is asked for its sort key at most once. Pairs whose sort keys tie stay in their order.
+    /// Sorts the pairs by the sort keys that `f` returns for them. Pairs whose sort keys compare as equal keep their
+    /// order.
     ///
-    /// It takes memory for more than one pair; refused, it leaves the map as it was.
+    /// # Errors
+    ///
+    /// [`AllocError`] if the allocator refuses the request; the map is then unchanged.
+    ///
+    /// # Conditions
+    ///
+    /// `f` can be called with any pair.
+    ///
+    /// # Complexity
+    ///
+    /// O(n log n) comparisons of sort keys for n pairs, and at most one call of `f` for each pair. Allocates only for
+    /// more than one pair.
+    ///
+    /// # Examples
     ///
     /// ```
     /// let mut map = vecmap!(alloc; 'b' => 1, 'a' => 2);
@@ -119,8 +169,13 @@ impl<K, V> VecMap<K, V> {
         )
     }
 
-    /// Sorts the pairs by their keys, in O(n log n) comparisons of keys for n pairs. Pairs whose keys tie may change
-    /// places. It takes no memory.
+    /// Sorts the pairs by their keys. Pairs whose keys compare as equal may change their order.
+    ///
+    /// # Complexity
+    ///
+    /// O(n log n) comparisons of keys for n pairs. Does not allocate.
+    ///
+    /// # Examples
     ///
     /// ```
     /// let mut map = vecmap!(alloc; 'b' => 1, 'a' => 2);
@@ -137,8 +192,17 @@ impl<K, V> VecMap<K, V> {
         self.sort_unstable_by(|a, b| a.0.cmp(b.0));
     }
 
-    /// Sorts the pairs by `f`, which compares two, in O(n log n) calls of `f` for n pairs. Pairs that tie under `f` may
-    /// change places. It takes no memory.
+    /// Sorts the pairs by `f`, which compares two pairs. Pairs that compare as equal may change their order.
+    ///
+    /// # Conditions
+    ///
+    /// `f` can be called with any two pairs.
+    ///
+    /// # Complexity
+    ///
+    /// O(n log n) calls of `f` for n pairs. Does not allocate.
+    ///
+    /// # Examples
     ///
     /// ```
     /// let mut map = vecmap!(alloc; 'a' => 1, 'b' => 2);
@@ -154,7 +218,8 @@ impl<K, V> VecMap<K, V> {
         self.pairs.sort_unstable_by(
             |a: &(K, V), b: &(K, V)| -> Ordering
                 requires { F.IsAlwaysCallable f }
-                ensures { (lt : K × V → K × V → Bool) → ComparesPairsAs F.Fn lt f → is_lt result ≡ lt a.now b.now }
+                ensures { (lt : K × V → K × V → Bool) → ComparesPairsAs F.Fn lt f
+                    → is_lt result ≡ lt a.now b.now }
             { f((&a.0, &a.1), (&b.0, &b.1)) },
         );
     }

@@ -20,7 +20,13 @@ use vecmap_base::{
 };
 
 impl<K, V> VecMap<K, V> {
-    /// Drops all pairs, and compares and moves none. The capacity stays.
+    /// Drops all pairs. The capacity stays.
+    ///
+    /// # Complexity
+    ///
+    /// No comparisons and no moves.
+    ///
+    /// # Examples
     ///
     /// ```
     /// let mut map = vecmap!(alloc; 'a' => 1, 'b' => 2);
@@ -37,8 +43,15 @@ impl<K, V> VecMap<K, V> {
         self.pairs.clear();
     }
 
-    /// Keeps the first `len` pairs, and drops the others. Where there are no more than that, nothing changes. It compares
-    /// and moves none, and the capacity stays.
+    /// Keeps the first `len` pairs and drops the others.
+    ///
+    /// If the map has no more than `len` pairs, nothing changes. The capacity stays.
+    ///
+    /// # Complexity
+    ///
+    /// No comparisons and no moves.
+    ///
+    /// # Examples
     ///
     /// ```
     /// let mut map = vecmap!(alloc; 'a' => 1, 'b' => 2, 'c' => 3);
@@ -55,11 +68,24 @@ impl<K, V> VecMap<K, V> {
         self.pairs.truncate(len);
     }
 
-    /// Takes out the pairs from a place on, which must be within the map or its length, and answers them as a map of
-    /// their own. Those before it stay, and so does the capacity.
+    /// Moves the pairs from index `at` on into a new map, and returns that map.
     ///
-    /// It takes one move for each pair that goes, and memory for as many. Refused, nothing has changed. Where `at` is
-    /// the length it takes none and succeeds.
+    /// The pairs before `at` stay, and so does the capacity. If `at` is the number of pairs, the call succeeds and does
+    /// not allocate.
+    ///
+    /// # Errors
+    ///
+    /// [`AllocError`] if the allocator refuses the request; the map is then unchanged.
+    ///
+    /// # Conditions
+    ///
+    /// `at` is at most [`VecMap::len`].
+    ///
+    /// # Complexity
+    ///
+    /// One move for each pair of the new map. Allocates memory for these pairs.
+    ///
+    /// # Examples
     ///
     /// ```
     /// let mut map = vecmap!(alloc; 'a' => 1, 'b' => 2, 'c' => 3);
@@ -80,15 +106,23 @@ impl<K, V> VecMap<K, V> {
         })
     }
 
-    /// Takes out the pairs of a range of places, and answers them one after another, from either end.
+    /// Removes the pairs of a range of indices, and returns an iterator over them.
     ///
-    /// Any range of std will do, with included, excluded or open ends. Its start must be no later than its end, and its
-    /// end within the map: `len` tells. The ends are counted without limit, so that no range from behind the greatest
-    /// place is within a map. Nor is a `RangeInclusive` that was iterated to its end.
+    /// The iterator gives the pairs in order, from either end. `range` is any range of std, with included, excluded or
+    /// open ends. Once the iterator is dropped, after any number of calls of `next`, the whole range is gone. The other
+    /// pairs keep their order, and the capacity stays.
     ///
-    /// Once the answer is dropped, after any number of pulls, the whole range is gone, the others stand in their order,
-    /// and the capacity is as before. It takes a number of moves that is linear in the number of pairs from the start of
-    /// the range on, and no memory.
+    /// # Conditions
+    ///
+    /// The start of the range is at most its end, and its end is at most [`VecMap::len`]. Both are computed without
+    /// overflow, so a range whose start is `Excluded(usize::MAX)` is in no map. A `RangeInclusive` that was iterated to
+    /// its end is in no map either.
+    ///
+    /// # Complexity
+    ///
+    /// A number of moves that is linear in the number of pairs from the start of the range on. Does not allocate.
+    ///
+    /// # Examples
     ///
     /// ```
     /// let mut map = vecmap!(alloc; 'a' => 1, 'b' => 2, 'c' => 3);
@@ -100,14 +134,17 @@ impl<K, V> VecMap<K, V> {
         K: Drop,
         V: Drop,
         requires known { R.has_bounds range }
-        requires within { AreEndsWithin (R.start_bound range) (R.end_bound range) (length self.old.entries) }
-        ensures rest { drain_rest result ≡ items_between self.old.entries (R.start_bound range) (R.end_bound range) }
+        requires within { AreEndsWithin (R.start_bound range) (R.end_bound range)
+            (length self.old.entries) }
+        ensures rest { drain_rest result
+            ≡ items_between self.old.entries (R.start_bound range) (R.end_bound range) }
         ensures fits { length (drain_rest result) < 2 ^ 64 }
         ensures runs { YieldsInOrder (DrainNext {K = K} {V = V}) drain_rest }
         ensures runs_back { YieldsInReverse (DrainNextBack {K = K} {V = V}) drain_rest }
 
-        // Once it is dropped, after any pulls, the map has the others and its capacity.
-        ensures kept { drain_kept result ≡ without_between self.old.entries (R.start_bound range) (R.end_bound range) }
+        // Once the drain is dropped, after any number of pulls, the map has the other pairs and its old capacity.
+        ensures kept { drain_kept result
+            ≡ without_between self.old.entries (R.start_bound range) (R.end_bound range) }
         ensures capacity { drain_capacity result ≡ self.old.capacity }
         ensures same_map { drain_lender result ≡ self.entry.ghost_name }
         ensures keeps { KeepsAlong DrainNext DrainKeeps result }
@@ -117,10 +154,20 @@ impl<K, V> VecMap<K, V> {
         Drain::over(self, range.start, range.end)
     }
 
-    /// Keeps the pairs at which `f` answers true, each with the value as `f` left it. The capacity stays.
+    /// Keeps the pairs for which `f` returns `true`, each with the value that `f` left in it.
     ///
-    /// `f` is asked of each pair once, in order, in the state that the calls before have left. For n pairs there are n
-    /// calls and at most n swaps; the pairs that go are dropped at the end. It takes no memory.
+    /// `f` is called once for each pair, in order, in the state that the calls before have left. The other pairs are
+    /// dropped at the end. The capacity stays.
+    ///
+    /// # Conditions
+    ///
+    /// `f` can be called with each pair of the map, in the state that the calls before have left.
+    ///
+    /// # Complexity
+    ///
+    /// n calls of `f` and at most n swaps for n pairs. Does not allocate.
+    ///
+    /// # Examples
     ///
     /// ```
     /// let mut map = vecmap!(alloc; 'a' => 1, 'b' => 2, 'c' => 3);
@@ -132,14 +179,22 @@ impl<K, V> VecMap<K, V> {
         K: Drop,
         V: Drop,
         F: Drop,
-        requires callable { CallableOnEach (CallsAtPair F.FnMut) (TakesPairAt F.FnMut) f self.old.entries }
-        ensures entries { (g : F) × Kept (CallsAtPair F.FnMut) f self.old.entries self.new.entries g }
+        requires callable { CallableOnEach (CallsAtPair F.FnMut)
+            (TakesPairAt F.FnMut) f self.old.entries }
+        ensures entries { (g : F) × Kept
+            (CallsAtPair F.FnMut) f self.old.entries self.new.entries g }
         ensures capacity { self.new.capacity ≡ self.old.capacity }
     {
         retain_pairs(&mut self.pairs, f);
     }
 
-    /// Takes out the last pair. It compares and moves nothing.
+    /// Removes the last pair and returns it, or `None` if the map is empty.
+    ///
+    /// # Complexity
+    ///
+    /// No comparisons and no moves.
+    ///
+    /// # Examples
     ///
     /// ```
     /// let mut map = vecmap!(alloc; 'a' => 1, 'b' => 2);
@@ -154,10 +209,15 @@ impl<K, V> VecMap<K, V> {
         self.pairs.pop()
     }
 
-    /// Takes out the first pair whose key `key` stands for, and answers its value.
+    /// Removes the first pair whose key matches `query`, and returns its value.
     ///
-    /// What follows moves up by one place: beside at most as many comparisons as there are pairs this takes as many moves
-    /// as there are pairs after it. Where it stands for none nothing changes.
+    /// The index of each later pair decreases by one. If no key matches, nothing changes.
+    ///
+    /// # Complexity
+    ///
+    /// At most `len` comparisons, and one move for each pair that changes its index.
+    ///
+    /// # Examples
     ///
     /// ```
     /// let mut map = vecmap!(alloc; 'a' => 1, 'b' => 2, 'c' => 3);
@@ -165,37 +225,50 @@ impl<K, V> VecMap<K, V> {
     /// map.remove(&'a') // None
     /// map.as_slice() // [('b', 2), ('c', 3)]
     /// ```
-    pub fn remove<Q: Equivalent<K>>(&mut self, key: Q) -> Option<V>
+    pub fn remove<Q: Equivalent<K>>(&mut self, query: Q) -> Option<V>
     where
         K: Eq + Drop,
-        ensures value { result ≡ lookup_by (Q.equivalent key) self.old.entries }
-        ensures entries { self.new.entries ≡ without_by (Q.equivalent key) self.old.entries }
+        ensures value { result ≡ lookup_by (Q.equivalent query) self.old.entries }
+        ensures entries { self.new.entries ≡ without_by (Q.equivalent query) self.old.entries }
         ensures capacity { self.new.capacity ≡ self.old.capacity }
     {
-        let (_key, value) = self.remove_entry(key)?;
+        let (_key, value) = self.remove_entry(query)?;
         Some(value)
     }
 
-    /// As `remove`, at the same cost, and answers the stored pair.
+    /// Like [`VecMap::remove`], with the same cost, but also returns the stored key.
+    ///
+    /// # Examples
     ///
     /// ```
     /// let mut map = vecmap!(alloc; 'a' => 1, 'b' => 2, 'c' => 3);
     /// map.remove_entry(&'a') // Some(('a', 1))
     /// map.as_slice() // [('b', 2), ('c', 3)]
     /// ```
-    pub fn remove_entry<Q: Equivalent<K>>(&mut self, key: Q) -> Option<(K, V)>
+    pub fn remove_entry<Q: Equivalent<K>>(&mut self, query: Q) -> Option<(K, V)>
     where
         K: Eq,
-        ensures pair { result ≡ lookup_pair_by (Q.equivalent key) self.old.entries }
-        ensures entries { self.new.entries ≡ without_by (Q.equivalent key) self.old.entries }
+        ensures pair { result ≡ lookup_pair_by (Q.equivalent query) self.old.entries }
+        ensures entries { self.new.entries ≡ without_by (Q.equivalent query) self.old.entries }
         ensures capacity { self.new.capacity ≡ self.old.capacity }
     {
-        let index = find_equivalent(&self.pairs, key)?;
+        let index = find_equivalent(&self.pairs, query)?;
         Some(take_out(&mut self.pairs, index))
     }
 
-    /// Takes out the pair at a place, which must be there: `len` tells. What follows moves up by one place, and nothing is
-    /// compared.
+    /// Removes the pair at `index`, and returns it.
+    ///
+    /// The index of each later pair decreases by one.
+    ///
+    /// # Conditions
+    ///
+    /// `index` is less than [`VecMap::len`].
+    ///
+    /// # Complexity
+    ///
+    /// No comparisons, and one move for each pair that changes its index.
+    ///
+    /// # Examples
     ///
     /// ```
     /// let mut map = vecmap!(alloc; 'a' => 1, 'b' => 2, 'c' => 3);
@@ -211,47 +284,65 @@ impl<K, V> VecMap<K, V> {
         take_out(&mut self.pairs, index)
     }
 
-    /// Takes out the first pair whose key `key` stands for, and answers its value.
+    /// Removes the first pair whose key matches `query`, and returns its value.
     ///
-    /// The last pair takes its place: beside at most as many comparisons as there are pairs this takes one move. Where it
-    /// stands for none nothing changes.
+    /// The last pair moves to the index of the removed one. If no key matches, nothing changes.
+    ///
+    /// # Complexity
+    ///
+    /// At most `len` comparisons, and one move.
+    ///
+    /// # Examples
     ///
     /// ```
     /// let mut map = vecmap!(alloc; 'a' => 1, 'b' => 2, 'c' => 3);
     /// map.swap_remove(&'a') // Some(1)
     /// map.as_slice() // [('c', 3), ('b', 2)]
     /// ```
-    pub fn swap_remove<Q: Equivalent<K>>(&mut self, key: Q) -> Option<V>
+    pub fn swap_remove<Q: Equivalent<K>>(&mut self, query: Q) -> Option<V>
     where
         K: Eq + Drop,
-        ensures value { result ≡ lookup_by (Q.equivalent key) self.old.entries }
-        ensures entries { self.new.entries ≡ swap_without_by (Q.equivalent key) self.old.entries }
+        ensures value { result ≡ lookup_by (Q.equivalent query) self.old.entries }
+        ensures entries { self.new.entries ≡ swap_without_by (Q.equivalent query) self.old.entries }
         ensures capacity { self.new.capacity ≡ self.old.capacity }
     {
-        let (_key, value) = self.swap_remove_entry(key)?;
+        let (_key, value) = self.swap_remove_entry(query)?;
         Some(value)
     }
 
-    /// As `swap_remove`, at the same cost, and answers the stored pair.
+    /// Like [`VecMap::swap_remove`], with the same cost, but also returns the stored key.
+    ///
+    /// # Examples
     ///
     /// ```
     /// let mut map = vecmap!(alloc; 'a' => 1, 'b' => 2, 'c' => 3);
     /// map.swap_remove_entry(&'a') // Some(('a', 1))
     /// map.as_slice() // [('c', 3), ('b', 2)]
     /// ```
-    pub fn swap_remove_entry<Q: Equivalent<K>>(&mut self, key: Q) -> Option<(K, V)>
+    pub fn swap_remove_entry<Q: Equivalent<K>>(&mut self, query: Q) -> Option<(K, V)>
     where
         K: Eq,
-        ensures pair { result ≡ lookup_pair_by (Q.equivalent key) self.old.entries }
-        ensures entries { self.new.entries ≡ swap_without_by (Q.equivalent key) self.old.entries }
+        ensures pair { result ≡ lookup_pair_by (Q.equivalent query) self.old.entries }
+        ensures entries { self.new.entries ≡ swap_without_by (Q.equivalent query) self.old.entries }
         ensures capacity { self.new.capacity ≡ self.old.capacity }
     {
-        let index = find_equivalent(&self.pairs, key)?;
+        let index = find_equivalent(&self.pairs, query)?;
         Some(self.pairs.swap_remove(index))
     }
 
-    /// Takes out the pair at a place, which must be there: `len` tells. The last pair takes its place, which is one move,
-    /// and nothing is compared.
+    /// Removes the pair at `index`, and returns it.
+    ///
+    /// The last pair moves to `index`.
+    ///
+    /// # Conditions
+    ///
+    /// `index` is less than [`VecMap::len`].
+    ///
+    /// # Complexity
+    ///
+    /// No comparisons, and one move.
+    ///
+    /// # Examples
     ///
     /// ```
     /// let mut map = vecmap!(alloc; 'a' => 1, 'b' => 2, 'c' => 3);
@@ -268,29 +359,32 @@ impl<K, V> VecMap<K, V> {
     }
 }
 
-// What a drain is made of.
+// The steps of a drain.
 impl<K, V> VecMap<K, V> {
-    // As the base's, which it calls.
+    // Moves the pairs of a range to the end, in reverse order, and returns the number of the other pairs.
     pub(crate) fn move_range_last(&mut self, start: usize, end: usize) -> usize
         requires within { IsRangeWithin start end (length self.old.entries) }
         ensures keep { result ≡ length self.old.entries - (end - start) }
         ensures countable { length self.new.entries < 2 ^ 63 }
-        ensures entries { self.new.entries ≡ remove_range self.old.entries start end ++ reverse (slice_range self.old.entries start end) }
+        ensures entries { self.new.entries
+            ≡ remove_range self.old.entries start end
+            ++ reverse (slice_range self.old.entries start end) }
         ensures capacity { self.new.capacity ≡ self.old.capacity }
     {
         move_range_last(&mut self.pairs, start, end)
     }
 
-    // As the base's, which it calls.
+    // Reverses the order of the pairs from index `start` on.
     pub(crate) fn reverse_from(&mut self, start: usize)
         requires within { start ≤ length self.old.entries }
-        ensures entries { self.new.entries ≡ take start self.old.entries ++ reverse (drop start self.old.entries) }
+        ensures entries { self.new.entries
+            ≡ take start self.old.entries ++ reverse (drop start self.old.entries) }
         ensures capacity { self.new.capacity ≡ self.old.capacity }
     {
         reverse_from(&mut self.pairs, start);
     }
 
-    // Takes out the last pair, which must be there.
+    // Removes the last pair and returns it. The map must not be empty.
     pub(crate) fn take_last(&mut self) -> (K, V)
         requires within { 0 < length self.old.entries }
         ensures entries { self.old.entries ≡ self.new.entries ++ result ∷ [] }
@@ -301,7 +395,13 @@ impl<K, V> VecMap<K, V> {
 }
 
 impl<V> VecMap<String, V> {
-    /// As `remove`, by the bytes of a text, at the same cost. It takes no memory.
+    /// Like [`VecMap::remove`], with the same cost, but a key matches if it has the bytes of `text`.
+    ///
+    /// # Complexity
+    ///
+    /// At most `len` comparisons, and one move for each pair that changes its index. Does not allocate.
+    ///
+    /// # Examples
     ///
     /// ```
     /// let mut map = vecmap!(alloc; String::from_str(alloc, "a")? => 1);

@@ -1,4 +1,4 @@
-//! How many pairs there are, and how many there is room for.
+//! The number of pairs, and the capacity.
 ghost use Rattle.std.specs.Prelude.{◌≡◌, ◌<◌, ◌==◌, ◌^◌, ◌↔◌, ◌≤◌, IsOk, IsTrue, OnErr, OnOk, [], length, min};
 ghost use Rattle.vecmap_map.specs.Contents.{HasRoom};
 
@@ -7,7 +7,9 @@ use std::alloc::AllocError;
 use std::collections::TryReserveError;
 
 impl<K, V> VecMap<K, V> {
-    /// The number of pairs.
+    /// Returns the number of pairs.
+    ///
+    /// # Examples
     ///
     /// ```
     /// let map = vecmap!(alloc; 'a' => 1, 'b' => 2);
@@ -21,7 +23,9 @@ impl<K, V> VecMap<K, V> {
         self.pairs.len()
     }
 
-    /// Whether there is no pair.
+    /// Returns whether the map has no pairs.
+    ///
+    /// # Examples
     ///
     /// ```
     /// let map = vecmap!(alloc; 'a' => 1, 'b' => 2);
@@ -33,7 +37,9 @@ impl<K, V> VecMap<K, V> {
         self.pairs.is_empty()
     }
 
-    /// How many pairs fit before the vector has to grow.
+    /// Returns the number of pairs that fit before the vector has to grow.
+    ///
+    /// # Examples
     ///
     /// ```
     /// let map: VecMap<char, u32> = VecMap::with_capacity(alloc, 4)?;
@@ -45,10 +51,16 @@ impl<K, V> VecMap<K, V> {
         self.pairs.capacity()
     }
 
-    /// Makes room for `additional` more pairs, and for some beyond them, so that a row of insertions seldom grows.
+    /// Reserves capacity for at least `additional` more pairs.
     ///
-    /// Where the room is there already it succeeds and the capacity stays. Else all pairs may be moved. Refused, nothing
-    /// has changed.
+    /// The call reserves some more than that, so that repeated insertions seldom allocate. If the spare capacity is
+    /// already enough, it succeeds and the capacity stays. Otherwise all pairs may be moved.
+    ///
+    /// # Errors
+    ///
+    /// [`AllocError`] if the allocator refuses the request; the map is then unchanged.
+    ///
+    /// # Examples
     ///
     /// ```
     /// let mut map = vecmap!(alloc; 'a' => 1, 'b' => 2);
@@ -70,10 +82,16 @@ impl<K, V> VecMap<K, V> {
         self.pairs.reserve(additional)
     }
 
-    /// Makes room for `additional` more pairs and no more than the allocator gives.
+    /// Reserves capacity for `additional` more pairs, without the surplus that [`VecMap::reserve`] adds.
     ///
-    /// Where the room is there already it succeeds and the capacity stays. Else all pairs may be moved. Refused, nothing
-    /// has changed.
+    /// The allocator may still give more. If the spare capacity is already enough, the call succeeds and the capacity
+    /// stays. Otherwise all pairs may be moved.
+    ///
+    /// # Errors
+    ///
+    /// [`AllocError`] if the allocator refuses the request; the map is then unchanged.
+    ///
+    /// # Examples
     ///
     /// ```
     /// let mut map = vecmap!(alloc; 'a' => 1, 'b' => 2);
@@ -95,7 +113,13 @@ impl<K, V> VecMap<K, V> {
         self.pairs.reserve_exact(additional)
     }
 
-    /// As `reserve`, with the error that Rust gives this call. Refused, nothing has changed.
+    /// Like [`VecMap::reserve`], but with the error type that Rust gives this call.
+    ///
+    /// # Errors
+    ///
+    /// [`TryReserveError`] if the allocator refuses the request; the map is then unchanged.
+    ///
+    /// # Examples
     ///
     /// ```
     /// let mut map = vecmap!(alloc; 'a' => 1, 'b' => 2);
@@ -114,7 +138,13 @@ impl<K, V> VecMap<K, V> {
         self.reserve(additional)
     }
 
-    /// As `reserve_exact`, with the error that Rust gives this call. Refused, nothing has changed.
+    /// Like [`VecMap::reserve_exact`], but with the error type that Rust gives this call.
+    ///
+    /// # Errors
+    ///
+    /// [`TryReserveError`] if the allocator refuses the request; the map is then unchanged.
+    ///
+    /// # Examples
     ///
     /// ```
     /// let mut map = vecmap!(alloc; 'a' => 1, 'b' => 2);
@@ -133,8 +163,11 @@ impl<K, V> VecMap<K, V> {
         self.reserve_exact(additional)
     }
 
-    /// Gives back as much memory as it can, for which all pairs may move. It is never refused: without the memory for a
-    /// smaller block, the capacity stays.
+    /// Reduces the capacity as much as possible.
+    ///
+    /// All pairs may be moved. The call never fails: if the allocator refuses a smaller block, the capacity stays.
+    ///
+    /// # Examples
     ///
     /// ```
     /// let mut map: VecMap<char, u32> = VecMap::with_capacity(alloc, 10)?;
@@ -152,8 +185,12 @@ impl<K, V> VecMap<K, V> {
         self.pairs.shrink_to_fit();
     }
 
-    /// Gives back memory down to a capacity of `min_capacity` or the number of pairs, whichever is greater, for which all
-    /// pairs may move. It is never refused: without the memory for a smaller block, the capacity stays.
+    /// Reduces the capacity to `min_capacity` or the number of pairs, whichever is greater.
+    ///
+    /// A smaller capacity stays as it is. All pairs may be moved. The call never fails: if the allocator refuses a
+    /// smaller block, the capacity stays.
+    ///
+    /// # Examples
     ///
     /// ```
     /// let mut map: VecMap<char, u32> = VecMap::with_capacity(alloc, 10)?;
@@ -170,7 +207,7 @@ impl<K, V> VecMap<K, V> {
         self.pairs.shrink_to(min_capacity);
     }
 
-    // Whether `additional` more pairs fit.
+    // Returns whether `additional` more pairs fit into the spare capacity.
     fn has_room(&self, additional: usize) -> bool
         ensures room { IsTrue result ↔ HasRoom self.now additional }
         ensures fits { HasRoom self.now 0 }

@@ -1,4 +1,4 @@
-//! Binary searches of pairs that are in order. None takes memory; each asks of about as many pairs as n can be halved.
+//! Binary searches in sorted pairs. None allocates, and each looks at about log2(n) of n pairs.
 ghost use Rattle.std.specs.Prelude.{◌≡◌, ◌≤◌, Bool, false, length, true};
 ghost use Rattle.std.specs.List.{All};
 ghost use Rattle.std.specs.List.Sorted.{IsBinarySearchResult, IsPartitionPoint, IsPartitionedBy, IsSearchInRange};
@@ -10,11 +10,16 @@ use std::cmp::Ordering;
 use vecmap_base::{partition_point, search_pairs_by_key};
 
 impl<K, V> VecMap<K, V> {
-    /// Searches pairs that ascend by their keys for one whose key is equal to `key` in their order, in O(log n)
-    /// comparisons of keys for n pairs.
+    /// Searches for a key by binary search, in a map whose keys are in ascending order.
     ///
-    /// `Ok` is the place of such a pair, any one of them; where there is none, `Err` is the number of pairs with lesser
-    /// keys, so the place where one would go.
+    /// `Ok` is the index of a pair whose key compares as equal to `key`, any one of them. If there is no such pair,
+    /// `Err` is the number of pairs with lesser keys, which is the index to insert one at.
+    ///
+    /// # Complexity
+    ///
+    /// O(log n) comparisons of keys for n pairs.
+    ///
+    /// # Examples
     ///
     /// ```
     /// let map = vecmap!(alloc; 'a' => 1, 'b' => 2);
@@ -34,15 +39,22 @@ impl<K, V> VecMap<K, V> {
         )
     }
 
-    /// Searches pairs by `f`, which answers how one compares with what is sought: `Less` of the first ones, then
-    /// `Equal`, then `Greater`. It takes O(log n) calls of `f` for n pairs.
+    /// Searches the pairs by binary search, with the comparison `f`.
     ///
-    /// `Ok` is the place of an equal pair, any one of them; where there is none, `Err` is the number of less ones. Where
-    /// the pairs are in another order, `Ok` is still an equal place, and `Err` tells nothing.
+    /// `f` returns how a pair compares with what is sought: `Less` for the first pairs, then `Equal`, then `Greater`.
+    /// `Ok` is the index of an equal pair, any one of them. If there is no such pair, `Err` is the number of pairs that
+    /// are less. If the pairs are in another order, `Ok` is still the index of an equal pair, but `Err` says nothing.
     ///
     /// # Conditions
     ///
-    /// `f` can be called at each pair of the map. It is called at no others, so it may index a table by a stored value.
+    /// `f` can be called with each pair of the map. It is called with no others, so it may index a table by a stored
+    /// value.
+    ///
+    /// # Complexity
+    ///
+    /// O(log n) calls of `f` for n pairs.
+    ///
+    /// # Examples
     ///
     /// ```
     /// let map = vecmap!(alloc; 'a' => 1, 'b' => 2);
@@ -54,17 +66,25 @@ impl<K, V> VecMap<K, V> {
     ) -> Result<usize, usize>
         requires callable { All (CallableOnPair F.Fn f) self.now.entries }
         ensures within { IsSearchInRange result (length self.now.entries) }
-        ensures place { (ord : K × V → Ordering) → AnswersOnPair F.Fn ord f → IsBinarySearchResult ord self.now.entries result }
+        ensures place { (ord : K × V → Ordering) → AnswersOnPair F.Fn ord f
+            → IsBinarySearchResult ord self.now.entries result }
     {
         search_pairs_by(self.pairs.as_slice(), f)
     }
 
-    /// Searches pairs that ascend by the key that `f` makes of one, for `key`, as `binary_search_by`. It takes O(log n)
-    /// calls of `f` and comparisons for n pairs.
+    /// Searches the pairs by binary search for the sort key `key`, where `f` returns the sort key of a pair.
+    ///
+    /// The sort keys are in ascending order. The result is like that of [`VecMap::binary_search_by`].
     ///
     /// # Conditions
     ///
-    /// `f` can be called at each pair of the map.
+    /// `f` can be called with each pair of the map.
+    ///
+    /// # Complexity
+    ///
+    /// O(log n) calls of `f` and comparisons for n pairs.
+    ///
+    /// # Examples
     ///
     /// ```
     /// let map = vecmap!(alloc; 'a' => 1, 'b' => 2);
@@ -77,17 +97,24 @@ impl<K, V> VecMap<K, V> {
     ) -> Result<usize, usize>
         requires callable { All (CallableOnPair F.Fn f) self.now.entries }
         ensures within { IsSearchInRange result (length self.now.entries) }
-        ensures place { (key_of : K × V → B) → AnswersOnPair F.Fn key_of f → IsBinarySearchResult (λ p. B.cmp (key_of p) key.now) self.now.entries result }
+        ensures place { (key_of : K × V → B) → AnswersOnPair F.Fn key_of f
+            → IsBinarySearchResult (λ p. B.cmp (key_of p) key.now) self.now.entries result }
     {
         let pairs = self.pairs.as_slice();
         search_pairs_by_key(pairs, key, f)
     }
 
-    /// The number of pairs that pass `pred`, where those that pass come first, in O(log n) calls of `pred` for n pairs.
+    /// Returns the number of pairs for which `pred` returns `true`, if these pairs come first.
     ///
     /// # Conditions
     ///
-    /// `pred` can be called at each pair of the map.
+    /// `pred` can be called with each pair of the map.
+    ///
+    /// # Complexity
+    ///
+    /// O(log n) calls of `pred` for n pairs.
+    ///
+    /// # Examples
     ///
     /// ```
     /// let map = vecmap!(alloc; 'a' => 1, 'b' => 2);
@@ -96,7 +123,9 @@ impl<K, V> VecMap<K, V> {
     pub fn partition_point<P: Fn(&K, &V) -> bool>(&self, pred: P) -> usize
         requires callable { All (CallableOnPair P.Fn pred) self.now.entries }
         ensures within { result ≤ length self.now.entries }
-        ensures place { (p : K × V → Bool) → AnswersOnPair P.Fn p pred → IsPartitionedBy p self.now.entries → IsPartitionPoint (λ x. p x ≡ true) (λ x. p x ≡ false) self.now.entries result }
+        ensures place { (p : K × V → Bool) → AnswersOnPair P.Fn p pred
+            → IsPartitionedBy p self.now.entries
+            → IsPartitionPoint (λ x. p x ≡ true) (λ x. p x ≡ false) self.now.entries result }
     {
         partition_point(
             &self.pairs,
@@ -108,14 +137,15 @@ impl<K, V> VecMap<K, V> {
     }
 }
 
-// Searches pairs by `f`, as `VecMap::binary_search_by`.
+// Searches the pairs by `f`, like `VecMap::binary_search_by`.
 fn search_pairs_by<'a, K, V, F: Fn(&'a K, &'a V) -> Ordering>(
     pairs: &'a [(K, V)],
     f: F,
 ) -> Result<usize, usize>
     requires callable { All (CallableOnPair F.Fn f) pairs.now }
     ensures within { IsSearchInRange result (length pairs.now) }
-    ensures place { (ord : K × V → Ordering) → AnswersOnPair F.Fn ord f → IsBinarySearchResult ord pairs.now result }
+    ensures place { (ord : K × V → Ordering) → AnswersOnPair F.Fn ord f
+        → IsBinarySearchResult ord pairs.now result }
 {
     let mut size = pairs.len();
     if size == 0 {

@@ -1,4 +1,4 @@
-//! Maps of many pairs at once, with keys that are equal and not identical.
+//! Calls that insert many pairs at once, with keys that are equal and not identical.
 use std::test::Fail;
 use vecmap::VecMap;
 use vecmap_fixtures::{has_pairs, item_map, make_item};
@@ -87,7 +87,7 @@ fn extending_keeps_stored_keys(rt: HostRuntime) -> Result<(), Fail> {
 }
 
 #[test]
-fn append_puts_all_and_leaves_the_room_of_the_other(rt: HostRuntime) -> Result<(), Fail> {
+fn append_inserts_all_and_leaves_the_capacity_of_the_other(rt: HostRuntime) -> Result<(), Fail> {
     let mut map = item_map(rt.alloc(), &[(3, 'c', 3), (2, 'b', 2), (1, 'a', 1)])?;
     let mut other = item_map(rt.alloc(), &[(3, 'd', 30), (4, 'e', 40), (5, 'f', 50)])?;
     let room = other.capacity();
@@ -106,5 +106,28 @@ fn append_puts_all_and_leaves_the_room_of_the_other(rt: HostRuntime) -> Result<(
     map.append(&mut other)?;
     assert!(rt; has_pairs(map.as_slice(), &left));
     assert!(rt; (map.capacity(), other.capacity()) == (granted, room));
+    Ok(())
+}
+
+#[test]
+fn from_slice_keeps_distinct_pairs_of_every_kind(rt: HostRuntime) -> Result<(), Fail> {
+    let (foo, bar) = (
+        String::from_str(rt.alloc(), "foo")?,
+        String::from_str(rt.alloc(), "bar")?,
+    );
+    let pairs = [(1i64, foo), (2, bar)];
+    let numbered = VecMap::from_slice(rt.alloc(), &pairs)?;
+    assert!(rt; numbered.as_slice() == pairs.as_slice());
+    let (foo, bar) = (
+        String::from_str(rt.alloc(), "foo")?,
+        String::from_str(rt.alloc(), "bar")?,
+    );
+    let pairs = [(foo, 1i64), (bar, 2)];
+    let named = VecMap::from_slice(rt.alloc(), &pairs)?;
+    assert!(rt; named.as_slice() == pairs.as_slice());
+    let told = VecMap::from_slice(rt.alloc(), &[(true, 1i64), (false, 2)])?;
+    assert!(rt; told.as_slice() == [(true, 1), (false, 2)].as_slice());
+    let flags = VecMap::from_slice(rt.alloc(), &[(1i64, true), (2, false)])?;
+    assert!(rt; flags.as_slice() == [(1, true), (2, false)].as_slice());
     Ok(())
 }

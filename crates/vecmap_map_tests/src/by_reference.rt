@@ -1,5 +1,5 @@
-//! Loops over a map by reference, proved from the contracts alone. A crate that writes them names `vecmap_map` beside
-//! `vecmap`, where `IntoIterator` for references to a map stands.
+//! Loops over a map by reference, proved from the contracts alone. A crate that writes them lists `vecmap_map` in
+//! addition to `vecmap`, as `vecmap_map` holds the impls of `IntoIterator` for references to a map.
 ghost use Rattle.std.specs.Prelude.{◌≡◌, ◌<◌, ◌^◌, sum};
 ghost use Rattle.std.specs.Map.{values_of};
 
@@ -7,7 +7,7 @@ use std::alloc::{AllocError, Global};
 use std::test::Fail;
 use vecmap::VecMap;
 
-/// The sum of the values.
+/// Returns the sum of the values.
 fn total(map: &VecMap<u64, u32>) -> u32
     requires { sum (values_of map.now.entries) < 2 ^ 32 }
     ensures { result ≡ sum (values_of map.now.entries) }
@@ -19,7 +19,7 @@ fn total(map: &VecMap<u64, u32>) -> u32
     all
 }
 
-/// Writes each value, and looks at the map again.
+/// Writes each value, and returns the length of the map.
 fn write_values(map: &mut VecMap<u64, u32>, value: u32) -> usize {
     for (_, stored) in &mut *map {
         *stored = value;
@@ -27,7 +27,7 @@ fn write_values(map: &mut VecMap<u64, u32>, value: u32) -> usize {
     map.len()
 }
 
-/// The pairs, in their order.
+/// Returns the pairs, in order.
 fn gather(alloc: Global, map: &VecMap<u64, u32>) -> Result<Vec<(u64, u32)>, AllocError> {
     let mut all = Vec::new(alloc);
     for (key, value) in map {

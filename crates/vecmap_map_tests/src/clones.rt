@@ -1,4 +1,4 @@
-//! Clones that a key or a value of a chosen number refuses: the source stays, and what was made is dropped.
+//! Clones that fail at a key or a value of a chosen number: the source is unchanged, and the clones so far are dropped.
 use std::test::Fail;
 use vecmap::VecMap;
 use vecmap_fixtures::{Log, Told, has_told, has_told_pairs, told_map};
@@ -45,6 +45,13 @@ fn a_refused_clone_leaves_an_iterator(rt: HostRuntime) -> Result<(), Fail> {
         // An iterator over keys or values clones both.
         assert!(rt; keys.clone().is_err() && values.clone().is_err());
         assert!(rt; log.alive() == 12);
+        log.refuse_clones_of(0);
+        let copies: Vec<(Told<'_>, Told<'_>)> = pairs.clone()?.collect(rt.alloc())?;
+        assert!(rt; has_told_pairs(&copies, &[(2, 12), (3, 13)]));
+        let copies: Vec<Told<'_>> = keys.clone()?.collect(rt.alloc())?;
+        assert!(rt; has_told(&copies, &[2, 3]));
+        let copies: Vec<Told<'_>> = values.clone()?.collect(rt.alloc())?;
+        assert!(rt; has_told(&copies, &[12, 13]));
         let pairs: Vec<(Told<'_>, Told<'_>)> = pairs.collect(rt.alloc())?;
         assert!(rt; has_told_pairs(&pairs, &[(2, 12), (3, 13)]));
         let keys: Vec<Told<'_>> = keys.collect(rt.alloc())?;
@@ -55,7 +62,7 @@ fn a_refused_clone_leaves_an_iterator(rt: HostRuntime) -> Result<(), Fail> {
 }
 
 #[test]
-fn extending_puts_the_clones_before_the_refused_one(rt: HostRuntime) -> Result<(), Fail> {
+fn extending_inserts_the_clones_before_the_refused_one(rt: HostRuntime) -> Result<(), Fail> {
     let all = [(1, 11), (2, 12), (4, 14), (5, 15)];
     for (number, count) in [(4, 2), (14, 2), (1, 3), (11, 3), (5, 3), (15, 3)] {
         let log = Log::new();

@@ -24,7 +24,7 @@ fn make_shelf(alloc: Global) -> Result<Shelf, AllocError> {
 }
 
 #[test]
-fn a_clone_by_the_trait_is_the_list_in_order(rt: HostRuntime) -> Result<(), Fail> {
+fn a_clone_by_the_trait_has_the_pairs_in_order(rt: HostRuntime) -> Result<(), Fail> {
     let pairs = [(2, 'b', 20), (1, 'a', 10), (3, 'c', 30)];
     let map = item_map(rt.alloc(), &pairs)?;
     let copy = copy_of(&map)?;
@@ -35,7 +35,7 @@ fn a_clone_by_the_trait_is_the_list_in_order(rt: HostRuntime) -> Result<(), Fail
 }
 
 #[test]
-fn a_map_of_maps_is_cloned_to_the_depth(rt: HostRuntime) -> Result<(), Fail> {
+fn a_clone_of_a_map_of_maps_has_inner_maps_of_its_own(rt: HostRuntime) -> Result<(), Fail> {
     let alloc = rt.alloc();
     let rooms = vecmap!(alloc; 'a' => vecmap!(alloc; 1 => 10, 2 => 20), 'b' => vecmap!(alloc;));
     let mut copy = rooms.clone()?;
@@ -108,15 +108,5 @@ fn a_refused_clone_by_the_trait_leaves_the_map(rt: HostRuntime) -> Result<(), Fa
     let copy = copy_of(&map)?;
     assert!(rt; log.alive() == 8 && has_told_pairs(copy.as_slice(), &[(1, 11), (2, 12)]));
     assert!(rt; log.comparisons() == 1 && has_told_pairs(map.as_slice(), &[(1, 11), (2, 12)]));
-    Ok(())
-}
-
-#[test]
-fn the_allocator_serves_texts_and_further_maps(rt: HostRuntime) -> Result<(), Fail> {
-    let map: VecMap<u32, u32> = VecMap::new(rt.alloc());
-    let text = String::from_str(*map.allocator(), "a")?;
-    let mut names = VecMap::new(*map.allocator());
-    names.insert(text, 1)?;
-    assert!(rt; names.get("a") == Some(&1) && map.capacity() == 0);
     Ok(())
 }

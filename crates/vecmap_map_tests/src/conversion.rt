@@ -1,10 +1,10 @@
-//! Maps made of vectors, and vectors of maps.
+//! Conversion from vectors to maps, and from maps to vectors.
 use std::alloc::{AllocError, Global};
 use std::test::Fail;
 use vecmap::{VecMap, keys_distinct};
 use vecmap_fixtures::{Item, Log, has_pairs, item_map, make_item, told_pairs};
 
-// The items of these pairs, in a vector.
+// Returns the items of these pairs, in a vector.
 fn item_pairs(alloc: Global, pairs: &[(u32, char, u32)]) -> Result<Vec<(Item, u32)>, AllocError> {
     let mut made = Vec::with_capacity(alloc, pairs.len())?;
     for pair in pairs {
@@ -63,7 +63,7 @@ fn a_vector_keeps_first_keys_and_last_values(rt: HostRuntime) -> Result<(), Fail
 }
 
 #[test]
-fn a_vector_is_made_a_map_by_the_comparisons_it_counts(rt: HostRuntime) -> Result<(), Fail> {
+fn a_map_of_a_vector_counts_its_comparisons(rt: HostRuntime) -> Result<(), Fail> {
     for (numbers, expected) in [
         ([].as_slice(), 0),
         ([1].as_slice(), 0),
@@ -97,7 +97,7 @@ fn clones_hold_the_pairs_in_their_order(rt: HostRuntime) -> Result<(), Fail> {
 }
 
 #[test]
-fn distinct_keys_are_told_from_repeats(rt: HostRuntime) -> Result<(), Fail> {
+fn distinct_keys_are_distinguished_from_repeats(rt: HostRuntime) -> Result<(), Fail> {
     for (pairs, is_distinct) in [
         ([].as_slice(), true),
         ([(1, 'a'), (2, 'a')].as_slice(), true),
@@ -115,7 +115,7 @@ fn distinct_keys_are_told_from_repeats(rt: HostRuntime) -> Result<(), Fail> {
 }
 
 #[test]
-fn the_vector_of_a_map_has_its_pairs_and_its_room(rt: HostRuntime) -> Result<(), Fail> {
+fn the_vector_of_a_map_has_its_pairs_and_its_capacity(rt: HostRuntime) -> Result<(), Fail> {
     let mut map = VecMap::with_capacity(rt.alloc(), 5)?;
     map.extend([("b", 2), ("a", 1)])?;
     let room = map.capacity();

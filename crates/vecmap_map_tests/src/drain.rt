@@ -5,7 +5,7 @@ use std::test::Fail;
 use vecmap::VecMap;
 use vecmap_fixtures::{Log, has_pairs, pulls_as_list, repeating_map, told_pairs};
 
-// Two keys are equal: a drain asks nothing of keys.
+// Two keys are equal: a drain does not compare keys.
 const FIVE: &[(u32, char, u32)] = &[
     (0, 'a', 0),
     (1, 'b', 10),
@@ -14,7 +14,7 @@ const FIVE: &[(u32, char, u32)] = &[
     (4, 'e', 40),
 ];
 
-// The keys 0, 1, .. with these values, and room for all of them alone.
+// Creates a map of the keys 0, 1 and so on with these values, without spare capacity.
 fn numbered(alloc: Global, values: &[u32]) -> Result<VecMap<u32, u32>, AllocError> {
     let mut pairs = Vec::with_capacity(alloc, values.len())?;
     for (key, value) in (0..u32::MAX).zip(values) {
@@ -24,7 +24,7 @@ fn numbered(alloc: Global, values: &[u32]) -> Result<VecMap<u32, u32>, AllocErro
 }
 
 #[test]
-fn a_drain_gives_its_range_from_both_ends(rt: HostRuntime) -> Result<(), Fail> {
+fn a_drain_returns_its_range_from_both_ends(rt: HostRuntime) -> Result<(), Fail> {
     let mut map = repeating_map(rt.alloc(), FIVE)?;
     let room = map.capacity();
     assert!(rt; 4 <= map.len());
@@ -48,7 +48,7 @@ fn a_drain_gives_its_range_from_both_ends(rt: HostRuntime) -> Result<(), Fail> {
 const SIX: [(u32, u32); 6] = [(0, 5), (1, 6), (2, 7), (3, 8), (4, 9), (5, 10)];
 
 #[test]
-fn a_drain_gives_its_list_under_every_mixture(rt: HostRuntime) -> Result<(), Fail> {
+fn a_drain_is_exact_for_every_mixture_of_next_and_next_back(rt: HostRuntime) -> Result<(), Fail> {
     for count in 0..5 {
         let end = count + 1;
         for ends in 0..64 {
@@ -62,7 +62,7 @@ fn a_drain_gives_its_list_under_every_mixture(rt: HostRuntime) -> Result<(), Fai
 }
 
 #[test]
-fn a_drain_that_is_dropped_takes_the_whole_range(rt: HostRuntime) -> Result<(), Fail> {
+fn a_dropped_drain_removes_the_whole_range(rt: HostRuntime) -> Result<(), Fail> {
     for pulls in 0..5 {
         let mut map = repeating_map(rt.alloc(), FIVE)?;
         let room = map.capacity();
@@ -106,7 +106,7 @@ fn a_range_may_have_any_ends(rt: HostRuntime) -> Result<(), Fail> {
 }
 
 #[test]
-fn all_pulls_from_one_end(rt: HostRuntime) -> Result<(), Fail> {
+fn a_drain_can_be_read_from_one_end_alone(rt: HostRuntime) -> Result<(), Fail> {
     let mut map = numbered(rt.alloc(), &[5, 6, 7, 8])?;
     let mut sum = 0;
     let mut last = 0;
@@ -130,7 +130,7 @@ fn all_pulls_from_one_end(rt: HostRuntime) -> Result<(), Fail> {
 }
 
 #[test]
-fn each_key_that_goes_is_dropped_once(rt: HostRuntime) -> Result<(), Fail> {
+fn each_key_that_a_drain_removes_is_dropped_once(rt: HostRuntime) -> Result<(), Fail> {
     for pulls in 0..4 {
         let log = Log::new();
         let pairs = told_pairs(rt.alloc(), &log, &[0, 1, 2, 3, 4])?;
@@ -156,7 +156,7 @@ fn each_key_that_goes_is_dropped_once(rt: HostRuntime) -> Result<(), Fail> {
 }
 
 #[test]
-fn a_drain_prints_what_is_still_to_come(rt: HostRuntime) -> Result<(), Fail> {
+fn a_drain_prints_the_pairs_that_are_left(rt: HostRuntime) -> Result<(), Fail> {
     let mut map = numbered(rt.alloc(), &[5, 6, 7, 8])?;
     let mut pairs = map.drain(..);
     assert!(rt;

@@ -1,4 +1,4 @@
-//! What is handed in is dropped once, or comes back. `alive` counts the keys and values that are somewhere.
+//! Keys and values that are passed to a call are dropped once, or returned. `alive` counts those that are not dropped.
 use std::alloc::AllocError;
 use std::rc::Rc;
 use std::test::Fail;
@@ -87,9 +87,7 @@ fn entries_drop_what_they_do_not_keep(rt: HostRuntime) -> Result<(), Fail> {
 }
 
 #[test]
-fn an_occupied_entry_answers_the_value_that_it_takes_the_place_of(
-    rt: HostRuntime,
-) -> Result<(), Fail> {
+fn an_occupied_entry_returns_the_value_that_it_replaces(rt: HostRuntime) -> Result<(), Fail> {
     let log = Log::new();
     let mut map = VecMap::new(rt.alloc());
     drop(map.insert(1, make_told(&log, 11))?);
@@ -100,14 +98,14 @@ fn an_occupied_entry_answers_the_value_that_it_takes_the_place_of(
     Ok(())
 }
 
-/// The value of a key, which is the default of its type where the key was not there.
+/// Returns the value of a key. A key that is absent is first inserted with the default of the value's type.
 fn value_of<'a>(map: &mut VecMap<Told<'a>, u32>, key: Told<'a>) -> Result<u32, AllocError> {
     let value = map.entry(key).or_default()?;
     Ok(*value)
 }
 
 #[test]
-fn or_default_keeps_the_stored_key_or_the_handed_one(rt: HostRuntime) -> Result<(), Fail> {
+fn or_default_keeps_the_stored_key_or_the_passed_one(rt: HostRuntime) -> Result<(), Fail> {
     let log = Log::new();
     let told = |number| make_told(&log, number);
     let mut map: VecMap<Told<'_>, u32> = VecMap::new(rt.alloc());
@@ -120,7 +118,7 @@ fn or_default_keeps_the_stored_key_or_the_handed_one(rt: HostRuntime) -> Result<
     Ok(())
 }
 
-// How many owners of a shared number there are while the answer of a call stands, and how many once it is dropped.
+// Checks how many owners a shared number has while the result of a call is held, and how many after it is dropped.
 macro_rules! assert_owners {
     ($rt:ident, $shared:ident, $call:expr, $with:expr, $without:expr) => {{
         let answer = $call;
@@ -131,7 +129,7 @@ macro_rules! assert_owners {
 }
 
 #[test]
-fn an_entry_answers_the_handed_key(rt: HostRuntime) -> Result<(), Fail> {
+fn an_entry_returns_the_passed_key(rt: HostRuntime) -> Result<(), Fail> {
     let shared = Rc::new(rt.alloc(), 1u32)?;
     let mut map = VecMap::new(rt.alloc());
     let Entry::Vacant(entry) = map.entry(shared.clone()?) else {
@@ -149,7 +147,7 @@ fn an_entry_answers_the_handed_key(rt: HostRuntime) -> Result<(), Fail> {
 }
 
 #[test]
-fn a_removed_entry_drops_the_keys_that_it_does_not_answer(rt: HostRuntime) -> Result<(), Fail> {
+fn a_removed_entry_drops_the_keys_that_it_does_not_return(rt: HostRuntime) -> Result<(), Fail> {
     let shared = Rc::new(rt.alloc(), 1u32)?;
     let mut map = VecMap::new(rt.alloc());
     assert!(rt; map.insert(shared.clone()?, 10u32)? == None);
@@ -177,7 +175,7 @@ fn a_removed_entry_drops_the_keys_that_it_does_not_answer(rt: HostRuntime) -> Re
 }
 
 #[test]
-fn removals_drop_what_they_do_not_answer(rt: HostRuntime) -> Result<(), Fail> {
+fn removals_drop_what_they_do_not_return(rt: HostRuntime) -> Result<(), Fail> {
     let log = Log::new();
     let told = |number| make_told(&log, number);
     let mut map = told_map(rt.alloc(), &log, &[1, 2, 3, 4, 5, 6, 7, 8, 9])?;
@@ -255,21 +253,43 @@ fn insert_entry_returns_a_key_whose_clone_is_refused(rt: HostRuntime) -> Result<
     Ok(())
 }
 
+// The calls that consume an occupied entry.
+#[derive(Clone, Copy)]
+enum EntryCall {
+    Remove,
+    RemoveEntry,
+    SwapRemove,
+    SwapRemoveEntry,
+    IntoKey,
+}
+
 #[test]
 fn a_removed_entry_returns_its_value_and_into_key_leaves_it(rt: HostRuntime) -> Result<(), Fail> {
     let shared = Rc::new(rt.alloc(), 10u32)?;
     let mut map = VecMap::new(rt.alloc());
-    for call in 0..5 {
+    for call in [
+        EntryCall::Remove,
+        EntryCall::RemoveEntry,
+        EntryCall::SwapRemove,
+        EntryCall::SwapRemoveEntry,
+        EntryCall::IntoKey,
+    ] {
         drop(map.insert(1, shared.clone()?)?);
         let Entry::Occupied(entry) = map.entry(1) else {
             return Err(Fail::new("vacant"));
         };
         match call {
-            0 => assert_owners!(rt, shared, entry.remove(), 2, 1),
-            1 => assert_owners!(rt, shared, entry.remove_entry(), 2, 1),
-            2 => assert_owners!(rt, shared, entry.swap_remove(), 2, 1),
-            3 => assert_owners!(rt, shared, entry.swap_remove_entry(), 2, 1),
-            _ => assert_owners!(rt, shared, entry.into_key(), 2, 2),
+            EntryCall::Remove => assert_owners!(rt, shared, entry.remove(), 2, 1),
+            EntryCall::RemoveEntry => assert_owners!(rt, shared, entry.remove_entry(), 2, 1),
+            EntryCall::SwapRemove => assert_owners!(rt, shared, entry.swap_remove(), 2, 1),
+            EntryCall::SwapRemoveEntry => assert_owners!(
+                rt,
+                shared,
+                entry.swap_remove_entry(),
+                2,
+                1
+            ),
+            EntryCall::IntoKey => assert_owners!(rt, shared, entry.into_key(), 2, 2),
         }
     }
     drop(map);

@@ -5,7 +5,7 @@ use std::test::Fail;
 use vecmap::map::{Entry, OccupiedEntry, VacantEntry, VecMap};
 use vecmap_fixtures::{has_pairs, item_map, make_item};
 
-// Equal by its number. A clone is refused where the number is 13.
+// A key that is compared by its number. A clone of the number 13 fails.
 #[derive(Debug, Drop, PartialEq, Eq)]
 struct Unlucky {
     number: u32,
@@ -82,7 +82,7 @@ fn characters_are_counted(rt: HostRuntime) -> Result<(), Fail> {
 }
 
 #[test]
-fn a_value_that_is_there_stays(rt: HostRuntime) -> Result<(), Fail> {
+fn an_existing_value_stays(rt: HostRuntime) -> Result<(), Fail> {
     let mut map = item_map(rt.alloc(), &[(1, 'x', 7)])?;
     let calls = Cell::new(0u32);
     assert!(rt; *map.entry(make_item(1, 'y')).or_insert(9)? == 7);
@@ -105,7 +105,7 @@ fn a_value_that_is_there_stays(rt: HostRuntime) -> Result<(), Fail> {
 }
 
 #[test]
-fn a_new_key_goes_last_as_it_was_handed_in(rt: HostRuntime) -> Result<(), Fail> {
+fn a_new_key_is_appended_as_it_was_passed(rt: HostRuntime) -> Result<(), Fail> {
     let mut map = item_map(rt.alloc(), &[(1, 'x', 7)])?;
     assert!(rt; *map.entry(make_item(2, 'b')).or_insert(20)? == 20);
     assert!(rt; *map.entry(make_item(3, 'c')).or_insert_with(|| 30)? == 30);
@@ -133,7 +133,7 @@ fn a_new_key_goes_last_as_it_was_handed_in(rt: HostRuntime) -> Result<(), Fail> 
 }
 
 #[test]
-fn an_entry_tells_the_handed_key_and_its_place(rt: HostRuntime) -> Result<(), Fail> {
+fn an_entry_returns_the_passed_key_and_its_index(rt: HostRuntime) -> Result<(), Fail> {
     let mut map = item_map(rt.alloc(), &[(1, 'x', 7), (2, 'b', 8)])?;
     for (number, index, value) in [(1, 0, 17), (2, 1, 18), (3, 2, 0)] {
         let entry = Entry::over(&mut map, make_item(number, 'y'));
@@ -185,7 +185,7 @@ fn an_occupied_entry_reads_and_writes_its_value(rt: HostRuntime) -> Result<(), F
 }
 
 #[test]
-fn a_removal_answers_the_stored_key(rt: HostRuntime) -> Result<(), Fail> {
+fn a_removal_returns_the_stored_key(rt: HostRuntime) -> Result<(), Fail> {
     let mut map = item_map(rt.alloc(), &[(1, 'x', 7)])?;
     let entry = occupied(map.entry(make_item(1, 'y'))).ok_or("vacant")?;
     assert!(rt; (entry.key().number, entry.key().mark) == (1, 'y'));
@@ -202,7 +202,7 @@ fn a_removal_answers_the_stored_key(rt: HostRuntime) -> Result<(), Fail> {
 }
 
 #[test]
-fn a_removal_shifts_or_swaps(rt: HostRuntime) -> Result<(), Fail> {
+fn a_removal_of_an_entry_shifts_or_swaps(rt: HostRuntime) -> Result<(), Fail> {
     for swaps in [true, false] {
         let mut map = VecMap::new(rt.alloc());
         for (name, value) in [("poneyland", 12), ("foo", 13), ("bar", 14)] {
@@ -269,7 +269,7 @@ fn insert_entry_stores_a_clone_of_a_new_key(rt: HostRuntime) -> Result<(), Fail>
 }
 
 #[test]
-fn a_refused_clone_gives_the_pair_back(rt: HostRuntime) -> Result<(), Fail> {
+fn a_refused_clone_returns_the_pair(rt: HostRuntime) -> Result<(), Fail> {
     let mut map = VecMap::new(rt.alloc());
     match map.entry(Unlucky { number: 13 }).insert_entry(9u32) {
         Ok(_) => return Err(Fail::new("granted")),
@@ -290,7 +290,7 @@ fn a_refused_clone_gives_the_pair_back(rt: HostRuntime) -> Result<(), Fail> {
     assert!(rt; map.len() == 1);
     assert!(rt; map.get(&Unlucky { number: 12 }).copied() == Some(8));
 
-    // A key that is there is not cloned.
+    // An existing key is not cloned.
     map.insert(Unlucky { number: 13 }, 1)?;
     map.entry(Unlucky { number: 13 })
         .insert_entry(9)?

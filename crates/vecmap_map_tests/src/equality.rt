@@ -34,7 +34,7 @@ fn equality_takes_equal_keys_for_the_same(rt: HostRuntime) -> Result<(), Fail> {
 }
 
 #[test]
-fn repeats_are_equal_where_they_occur_equally_often(rt: HostRuntime) -> Result<(), Fail> {
+fn repeats_are_equal_if_they_occur_equally_often(rt: HostRuntime) -> Result<(), Fail> {
     for (pairs, others, is_equal) in [
         (
             [(1, 'a', 5), (1, 'b', 5)].as_slice(),
@@ -97,7 +97,7 @@ fn maps_in_maps_are_compared_once(rt: HostRuntime) -> Result<(), Fail> {
 }
 
 #[test]
-fn repeats_of_the_first_key_are_matched_behind_it(rt: HostRuntime) -> Result<(), Fail> {
+fn repeats_of_the_first_key_are_matched_after_it(rt: HostRuntime) -> Result<(), Fail> {
     let one = repeating_map(rt.alloc(), &[(1, 'a', 5), (1, 'b', 6), (1, 'c', 7)])?;
     let turned = repeating_map(rt.alloc(), &[(1, 'p', 7), (1, 'q', 5), (1, 'r', 6)])?;
     let fewer = repeating_map(rt.alloc(), &[(1, 'p', 7), (1, 'q', 6), (1, 'r', 6)])?;

@@ -25,7 +25,7 @@ fn extend_by_the_trait_inserts_in_order(rt: HostRuntime) -> Result<(), Fail> {
 }
 
 #[test]
-fn extend_by_the_trait_inserts_clones_of_what_is_lent(rt: HostRuntime) -> Result<(), Fail> {
+fn extend_by_the_trait_inserts_clones_of_borrowed_pairs(rt: HostRuntime) -> Result<(), Fail> {
     let alloc = rt.alloc();
     let more = item_map(alloc, &[(2, 'y', 21), (3, 'c', 31)])?;
     let mut by_refs = item_map(alloc, LIST)?;
@@ -38,7 +38,7 @@ fn extend_by_the_trait_inserts_clones_of_what_is_lent(rt: HostRuntime) -> Result
     Ok(())
 }
 
-// A number and ten times as much, or none.
+// Returns a number and ten times as much, or an error.
 fn pair_of(number: u32) -> Result<(u32, u32), AllocError> {
     number
         .checked_mul(10)
@@ -47,7 +47,7 @@ fn pair_of(number: u32) -> Result<(u32, u32), AllocError> {
 }
 
 #[test]
-fn try_collect_makes_a_map_or_hands_the_error_on(rt: HostRuntime) -> Result<(), Fail> {
+fn try_collect_makes_a_map_or_returns_the_error(rt: HostRuntime) -> Result<(), Fail> {
     let alloc = rt.alloc();
     let numbers = [2, 1, 2, 3];
     let map: VecMap<u32, u32> = numbers

@@ -1,10 +1,10 @@
-//! How much room a map makes for many pairs at once.
+//! The capacity that a map reserves for many pairs at once.
 use std::test::Fail;
 use vecmap::VecMap;
 use vecmap_fixtures::Hinted;
 
 #[test]
-fn a_size_hint_decides_nothing_but_the_room(rt: HostRuntime) -> Result<(), Fail> {
+fn a_size_hint_decides_nothing_but_the_capacity(rt: HostRuntime) -> Result<(), Fail> {
     let items = [(1, 'm'), (2, 'm'), (3, 'm')].as_slice();
     let start = [(2, 'a')].as_slice();
     let left = [(2, 'm'), (1, 'm'), (3, 'm')].as_slice();
@@ -32,7 +32,7 @@ fn a_size_hint_decides_nothing_but_the_room(rt: HostRuntime) -> Result<(), Fail>
 }
 
 #[test]
-fn room_for_the_greatest_hint_is_refused(rt: HostRuntime) -> Result<(), Fail> {
+fn capacity_for_the_greatest_hint_is_refused(rt: HostRuntime) -> Result<(), Fail> {
     let items = [(1, 'm')].as_slice();
     let hint = usize::MAX;
     let hinted = || Hinted { items, hint };
@@ -61,7 +61,7 @@ fn room_for_the_greatest_hint_is_refused(rt: HostRuntime) -> Result<(), Fail> {
 }
 
 #[test]
-fn an_empty_map_makes_room_for_the_whole_hint(rt: HostRuntime) -> Result<(), Fail> {
+fn an_empty_map_reserves_the_whole_hint(rt: HostRuntime) -> Result<(), Fail> {
     let items = [(1, 'm')].as_slice();
     for (hint, room) in [(0, 1), (20, 20)] {
         let hinted = || Hinted { items, hint };
@@ -80,7 +80,7 @@ fn an_empty_map_makes_room_for_the_whole_hint(rt: HostRuntime) -> Result<(), Fai
 }
 
 #[test]
-fn a_map_of_pairs_makes_room_for_half_of_the_hint_rounded_up(rt: HostRuntime) -> Result<(), Fail> {
+fn a_map_with_pairs_reserves_half_of_the_hint_rounded_up(rt: HostRuntime) -> Result<(), Fail> {
     let items = [(1, 'm')].as_slice();
     let hinted = || Hinted { items, hint: 21 };
     let start = || VecMap::from_slice(rt.alloc(), &[(2, 'a')]);
@@ -98,7 +98,7 @@ fn a_map_of_pairs_makes_room_for_half_of_the_hint_rounded_up(rt: HostRuntime) ->
 }
 
 #[test]
-fn a_slice_makes_room_for_all_its_pairs(rt: HostRuntime) -> Result<(), Fail> {
+fn from_slice_reserves_capacity_for_all_pairs(rt: HostRuntime) -> Result<(), Fail> {
     let map = VecMap::from_slice(rt.alloc(), &[(1, 'm'); 9])?;
     assert!(rt; map.as_slice() == [(1, 'm')].as_slice());
     assert!(rt; 9 <= map.capacity());

@@ -14,7 +14,7 @@ fn an_insert_of_an_equal_key_keeps_the_stored_one(rt: HostRuntime) -> Result<(),
 }
 
 #[test]
-fn insert_key_takes_the_new_key_in(rt: HostRuntime) -> Result<(), Fail> {
+fn insert_key_stores_the_new_key(rt: HostRuntime) -> Result<(), Fail> {
     let mut map = item_map(rt.alloc(), &[(1, 'x', 10), (2, 'b', 20)])?;
     let room = map.capacity();
     let (key, value) = map.insert_key(make_item(1, 'y'), 30)?.ok_or("absent")?;
@@ -27,7 +27,7 @@ fn insert_key_takes_the_new_key_in(rt: HostRuntime) -> Result<(), Fail> {
 }
 
 #[test]
-fn insert_key_takes_the_place_of_an_only_pair(rt: HostRuntime) -> Result<(), Fail> {
+fn insert_key_replaces_an_only_pair(rt: HostRuntime) -> Result<(), Fail> {
     let mut map = item_map(rt.alloc(), &[(1, 'x', 10)])?;
     let (key, value) = map.insert_key(make_item(1, 'y'), 20)?.ok_or("absent")?;
     assert!(rt; (key.number, key.mark, value) == (1, 'x', 10));
@@ -38,7 +38,7 @@ fn insert_key_takes_the_place_of_an_only_pair(rt: HostRuntime) -> Result<(), Fai
 }
 
 #[test]
-fn insert_full_answers_the_place(rt: HostRuntime) -> Result<(), Fail> {
+fn insert_full_returns_the_index(rt: HostRuntime) -> Result<(), Fail> {
     let mut map = VecMap::new(rt.alloc());
     assert!(rt; map.insert_full("a", 1)? == (0, None));
     assert!(rt; map.insert_full("b", 2)? == (1, None));
@@ -56,7 +56,7 @@ fn insert_full_keeps_the_stored_key(rt: HostRuntime) -> Result<(), Fail> {
 }
 
 #[test]
-fn insert_at_takes_a_key_to_the_front(rt: HostRuntime) -> Result<(), Fail> {
+fn insert_at_moves_a_key_to_the_front(rt: HostRuntime) -> Result<(), Fail> {
     let mut map = VecMap::new(rt.alloc());
     assert!(rt; map.insert_at(0, "a", 1)? == None);
     assert!(rt; 1 <= map.len());
@@ -67,7 +67,7 @@ fn insert_at_takes_a_key_to_the_front(rt: HostRuntime) -> Result<(), Fail> {
 }
 
 #[test]
-fn insert_at_moves_a_key_that_is_there(rt: HostRuntime) -> Result<(), Fail> {
+fn insert_at_moves_an_existing_key(rt: HostRuntime) -> Result<(), Fail> {
     let mut map = VecMap::new(rt.alloc());
     assert!(rt; map.insert_at(0, 'a', 1)? == None);
     assert!(rt; 1 <= map.len());
@@ -88,7 +88,7 @@ fn insert_at_moves_a_key_that_is_there(rt: HostRuntime) -> Result<(), Fail> {
 }
 
 #[test]
-fn insert_at_takes_the_new_key(rt: HostRuntime) -> Result<(), Fail> {
+fn insert_at_stores_the_new_key(rt: HostRuntime) -> Result<(), Fail> {
     let mut map = item_map(rt.alloc(), &[(1, 'x', 10)])?;
     assert!(rt; map.insert_at(0, make_item(1, 'y'), 20)? == Some((0, 10)));
     assert!(rt; has_pairs(map.as_slice(), &[(1, 'y', 20)]));
@@ -101,7 +101,7 @@ fn insert_at_takes_the_new_key(rt: HostRuntime) -> Result<(), Fail> {
 }
 
 #[test]
-fn a_full_map_takes_a_present_key_without_memory(rt: HostRuntime) -> Result<(), Fail> {
+fn a_full_map_takes_an_existing_key_without_memory(rt: HostRuntime) -> Result<(), Fail> {
     let mut map = VecMap::new(rt.alloc());
     map.reserve_exact(2)?;
     let room = map.capacity();

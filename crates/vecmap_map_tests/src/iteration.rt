@@ -10,7 +10,7 @@ const KEYS: [u32; 4] = [1, 2, 3, 4];
 const VALUES: [u32; 4] = [10, 20, 30, 40];
 
 #[test]
-fn iter_gives_its_list_under_every_mixture(rt: HostRuntime) -> Result<(), Fail> {
+fn iter_is_exact_for_every_mixture_of_next_and_next_back(rt: HostRuntime) -> Result<(), Fail> {
     for count in 0..5 {
         let map = VecMap::from_slice(rt.alloc(), &PAIRS[..count])?;
         for ends in 0..64 {
@@ -23,7 +23,7 @@ fn iter_gives_its_list_under_every_mixture(rt: HostRuntime) -> Result<(), Fail> 
 }
 
 #[test]
-fn iter_mut_gives_its_list_under_every_mixture(rt: HostRuntime) -> Result<(), Fail> {
+fn iter_mut_is_exact_for_every_mixture_of_next_and_next_back(rt: HostRuntime) -> Result<(), Fail> {
     for count in 0..5 {
         let mut map = VecMap::from_slice(rt.alloc(), &PAIRS[..count])?;
         for ends in 0..64 {
@@ -36,7 +36,7 @@ fn iter_mut_gives_its_list_under_every_mixture(rt: HostRuntime) -> Result<(), Fa
 }
 
 #[test]
-fn into_iter_gives_its_list_under_every_mixture(rt: HostRuntime) -> Result<(), Fail> {
+fn into_iter_is_exact_for_every_mixture_of_next_and_next_back(rt: HostRuntime) -> Result<(), Fail> {
     for count in 0..5 {
         for ends in 0..64 {
             let map = VecMap::from_slice(rt.alloc(), &PAIRS[..count])?;
@@ -47,7 +47,7 @@ fn into_iter_gives_its_list_under_every_mixture(rt: HostRuntime) -> Result<(), F
 }
 
 #[test]
-fn keys_give_their_list_under_every_mixture(rt: HostRuntime) -> Result<(), Fail> {
+fn keys_are_exact_for_every_mixture_of_next_and_next_back(rt: HostRuntime) -> Result<(), Fail> {
     for count in 0..5 {
         let map = VecMap::from_slice(rt.alloc(), &PAIRS[..count])?;
         for ends in 0..64 {
@@ -58,7 +58,9 @@ fn keys_give_their_list_under_every_mixture(rt: HostRuntime) -> Result<(), Fail>
 }
 
 #[test]
-fn into_keys_give_their_list_under_every_mixture(rt: HostRuntime) -> Result<(), Fail> {
+fn into_keys_are_exact_for_every_mixture_of_next_and_next_back(
+    rt: HostRuntime,
+) -> Result<(), Fail> {
     for count in 0..5 {
         for ends in 0..64 {
             let map = VecMap::from_slice(rt.alloc(), &PAIRS[..count])?;
@@ -69,7 +71,7 @@ fn into_keys_give_their_list_under_every_mixture(rt: HostRuntime) -> Result<(), 
 }
 
 #[test]
-fn values_give_their_list_under_every_mixture(rt: HostRuntime) -> Result<(), Fail> {
+fn values_are_exact_for_every_mixture_of_next_and_next_back(rt: HostRuntime) -> Result<(), Fail> {
     for count in 0..5 {
         let map = VecMap::from_slice(rt.alloc(), &PAIRS[..count])?;
         for ends in 0..64 {
@@ -80,7 +82,9 @@ fn values_give_their_list_under_every_mixture(rt: HostRuntime) -> Result<(), Fai
 }
 
 #[test]
-fn values_mut_give_their_list_under_every_mixture(rt: HostRuntime) -> Result<(), Fail> {
+fn values_mut_are_exact_for_every_mixture_of_next_and_next_back(
+    rt: HostRuntime,
+) -> Result<(), Fail> {
     for count in 0..5 {
         let mut map = VecMap::from_slice(rt.alloc(), &PAIRS[..count])?;
         for ends in 0..64 {
@@ -92,7 +96,9 @@ fn values_mut_give_their_list_under_every_mixture(rt: HostRuntime) -> Result<(),
 }
 
 #[test]
-fn into_values_give_their_list_under_every_mixture(rt: HostRuntime) -> Result<(), Fail> {
+fn into_values_are_exact_for_every_mixture_of_next_and_next_back(
+    rt: HostRuntime,
+) -> Result<(), Fail> {
     for count in 0..5 {
         for ends in 0..64 {
             let map = VecMap::from_slice(rt.alloc(), &PAIRS[..count])?;
@@ -103,7 +109,7 @@ fn into_values_give_their_list_under_every_mixture(rt: HostRuntime) -> Result<()
 }
 
 #[test]
-fn keys_come_from_both_ends(rt: HostRuntime) -> Result<(), Fail> {
+fn keys_are_returned_from_both_ends(rt: HostRuntime) -> Result<(), Fail> {
     let map = VecMap::from_slice(rt.alloc(), &[(1, 'a'), (2, 'b'), (3, 'c')])?;
     let mut keys = map.keys();
     assert!(rt; (keys.len(), keys.next()) == (3, Some(&1)));
@@ -115,7 +121,7 @@ fn keys_come_from_both_ends(rt: HostRuntime) -> Result<(), Fail> {
 }
 
 #[test]
-fn lent_clones_give_what_is_left(rt: HostRuntime) -> Result<(), Fail> {
+fn clones_of_borrowing_iterators_return_what_is_left(rt: HostRuntime) -> Result<(), Fail> {
     let map = VecMap::from_slice(rt.alloc(), &PAIRS)?;
     for ends in 0..64 {
         let read = |(key, value): (&u32, &u32)| (*key, *value);
@@ -136,7 +142,7 @@ fn lent_clones_give_what_is_left(rt: HostRuntime) -> Result<(), Fail> {
 }
 
 #[test]
-fn owned_clones_give_what_is_left(rt: HostRuntime) -> Result<(), Fail> {
+fn clones_of_owning_iterators_return_what_is_left(rt: HostRuntime) -> Result<(), Fail> {
     for ends in 0..64 {
         let mut pairs = VecMap::from_slice(rt.alloc(), &PAIRS)?.into_iter();
         assert!(rt; (pairs.next(), pairs.next_back()) == (Some((1, 10)), Some((4, 40))));
@@ -166,7 +172,7 @@ fn a_clone_of_values_leaves_the_original(rt: HostRuntime) -> Result<(), Fail> {
 }
 
 #[test]
-fn what_is_written_stands(rt: HostRuntime) -> Result<(), Fail> {
+fn written_values_stay(rt: HostRuntime) -> Result<(), Fail> {
     let mut map = VecMap::from_slice(rt.alloc(), &[('a', 1u32), ('b', 2), ('c', 3)])?;
     for (key, value) in map.iter_mut() {
         *value = if *key == 'b' {
@@ -188,7 +194,7 @@ fn what_is_written_stands(rt: HostRuntime) -> Result<(), Fail> {
 }
 
 #[test]
-fn a_dropped_iterator_drops_the_rest_once(rt: HostRuntime) -> Result<(), Fail> {
+fn a_dropped_iterator_drops_each_pair_that_is_left_once(rt: HostRuntime) -> Result<(), Fail> {
     let log = Log::new();
     let map = VecMap::from(told_pairs(rt.alloc(), &log, &[1, 2, 3, 4])?);
     let mut pairs = map.into_iter();

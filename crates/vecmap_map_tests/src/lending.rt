@@ -1,4 +1,4 @@
-//! Values of a map that are lent to be written, by key and by place.
+//! Values of a map that are lent for writing, by key and by index.
 use std::test::Fail;
 use vecmap::VecMap;
 use vecmap_fixtures::{has_pairs, item_map, make_item};
@@ -6,7 +6,7 @@ use vecmap_fixtures::{has_pairs, item_map, make_item};
 const TWO: &[(u32, char, u32)] = &[(1, 'a', 1), (2, 'b', 2)];
 
 #[test]
-fn a_place_lends_its_value(rt: HostRuntime) -> Result<(), Fail> {
+fn an_index_lends_its_value(rt: HostRuntime) -> Result<(), Fail> {
     let mut map = item_map(rt.alloc(), TWO)?;
     let (key, value) = map.get_index_mut(1).ok_or("nothing there")?;
     assert!(rt; (key.number, key.mark, *value) == (2, 'b', 2));
@@ -55,20 +55,5 @@ fn a_key_lends_its_value(rt: HostRuntime) -> Result<(), Fail> {
     assert!(rt; has_pairs(map.as_slice(), &[(1, 'a', 8), (2, 'b', 7)]));
     assert!(rt; map.get_mut(&absent).is_none() && map.get_full_mut(&absent).is_none());
     assert!(rt; has_pairs(map.as_slice(), &[(1, 'a', 8), (2, 'b', 7)]));
-    Ok(())
-}
-
-#[test]
-fn brackets_read_and_write_by_place_and_by_key(rt: HostRuntime) -> Result<(), Fail> {
-    let mut map = item_map(rt.alloc(), TWO)?;
-    assert!(rt; map.len() == 2);
-    assert!(rt; (map[0], map[1]) == (1, 2));
-    map[0] = 8;
-    assert!(rt; has_pairs(map.as_slice(), &[(1, 'a', 8), (2, 'b', 2)]));
-    let there = make_item(2, 'z');
-    assert!(rt; map.contains_key(&there));
-    assert!(rt; map[&there] == 2);
-    map[&there] = 9;
-    assert!(rt; has_pairs(map.as_slice(), &[(1, 'a', 8), (2, 'b', 9)]));
     Ok(())
 }

@@ -1,4 +1,12 @@
-//! Tests of maps: each file tests the module that it is named for.
+//! Tests of maps. Each file tests the module of `vecmap_map` that it is named for, but these, which are by topic:
+//!
+//! - `by_reference`: loops over references to a map.
+//! - `clones`: keys and values whose clones are refused.
+//! - `drops`: each key and value that is passed is dropped once, or returned.
+//! - `hints`: the capacity that a map reserves for the size hint of an iterator.
+//! - `no_size`: keys and values of no size.
+//! - `repeats`: calls by key on a map in which keys repeat.
+//! - `sizes`: sizes of keys, pairs and maps for which a call has a path of its own.
 #![tactic(auto)]
 
 #[cfg(test)]
@@ -22,7 +30,11 @@ mod equality;
 #[cfg(test)]
 mod extending;
 #[cfg(test)]
+mod formatting;
+#[cfg(test)]
 mod hints;
+#[cfg(test)]
+mod indexing;
 #[cfg(test)]
 mod insertion;
 #[cfg(test)]
@@ -44,12 +56,8 @@ mod removal;
 #[cfg(test)]
 mod repeats;
 #[cfg(test)]
-mod retain;
-#[cfg(test)]
 mod room;
 #[cfg(test)]
 mod search;
 #[cfg(test)]
 mod sizes;
-#[cfg(test)]
-mod split_off;

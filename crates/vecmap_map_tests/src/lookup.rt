@@ -1,10 +1,10 @@
-//! Lookups in a map by key, by place and by text, and how a map prints.
+//! Lookups in a map by key, by index and by text.
 use std::test::Fail;
 use vecmap::VecMap;
 use vecmap_fixtures::{Log, has_pairs, item_map, make_item, told_pairs};
 
 #[test]
-fn lookups_answer_the_stored_key(rt: HostRuntime) -> Result<(), Fail> {
+fn lookups_return_the_stored_key(rt: HostRuntime) -> Result<(), Fail> {
     let map = item_map(rt.alloc(), &[(1, 'x', 10), (2, 'b', 20)])?;
     let (there, absent) = (make_item(2, 'y'), make_item(3, 'y'));
     assert!(rt; map.contains_key(&there) && !map.contains_key(&absent));
@@ -22,7 +22,7 @@ fn lookups_answer_the_stored_key(rt: HostRuntime) -> Result<(), Fail> {
 }
 
 #[test]
-fn lookups_by_place_end_with_the_list(rt: HostRuntime) -> Result<(), Fail> {
+fn lookups_by_index_end_with_the_list(rt: HostRuntime) -> Result<(), Fail> {
     let map = item_map(rt.alloc(), &[(1, 'x', 10), (2, 'b', 20), (3, 'c', 30)])?;
     for (found, wanted) in [
         (map.first(), (1, 'x', 10)),
@@ -61,14 +61,7 @@ fn text_keys_are_found_by_their_bytes(rt: HostRuntime) -> Result<(), Fail> {
 }
 
 #[test]
-fn a_map_prints_its_pairs_in_order(rt: HostRuntime) -> Result<(), Fail> {
-    let map = VecMap::from_slice(rt.alloc(), &[("b", 2), ("a", 1)])?;
-    assert!(rt; format!(in rt.alloc(); "{map:?}")?.as_str() == "{\"b\": 2, \"a\": 1}");
-    Ok(())
-}
-
-#[test]
-fn a_map_looks_for_repeats_as_its_list_does(rt: HostRuntime) -> Result<(), Fail> {
+fn has_distinct_keys_compares_each_couple_once_at_most(rt: HostRuntime) -> Result<(), Fail> {
     for (numbers, most) in [
         ([].as_slice(), 0),
         ([1].as_slice(), 0),

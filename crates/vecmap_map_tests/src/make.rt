@@ -1,26 +1,13 @@
-//! Maps made of slices.
+//! The allocator of a map.
 use std::test::Fail;
 use vecmap::VecMap;
 
 #[test]
-fn slices_of_every_kind_of_pair_come_back(rt: HostRuntime) -> Result<(), Fail> {
-    let (foo, bar) = (
-        String::from_str(rt.alloc(), "foo")?,
-        String::from_str(rt.alloc(), "bar")?,
-    );
-    let pairs = [(1i64, foo), (2, bar)];
-    let numbered = VecMap::from_slice(rt.alloc(), &pairs)?;
-    assert!(rt; numbered.as_slice() == pairs.as_slice());
-    let (foo, bar) = (
-        String::from_str(rt.alloc(), "foo")?,
-        String::from_str(rt.alloc(), "bar")?,
-    );
-    let pairs = [(foo, 1i64), (bar, 2)];
-    let named = VecMap::from_slice(rt.alloc(), &pairs)?;
-    assert!(rt; named.as_slice() == pairs.as_slice());
-    let told = VecMap::from_slice(rt.alloc(), &[(true, 1i64), (false, 2)])?;
-    assert!(rt; told.as_slice() == [(true, 1), (false, 2)].as_slice());
-    let flags = VecMap::from_slice(rt.alloc(), &[(1i64, true), (2, false)])?;
-    assert!(rt; flags.as_slice() == [(1, true), (2, false)].as_slice());
+fn the_allocator_serves_texts_and_further_maps(rt: HostRuntime) -> Result<(), Fail> {
+    let map: VecMap<u32, u32> = VecMap::new(rt.alloc());
+    let text = String::from_str(*map.allocator(), "a")?;
+    let mut names = VecMap::new(*map.allocator());
+    names.insert(text, 1)?;
+    assert!(rt; names.get("a") == Some(&1) && map.capacity() == 0);
     Ok(())
 }

@@ -1,11 +1,11 @@
-//! Keys of a map that are lent to be written.
+//! Keys of a map that are lent for writing.
 use std::test::Fail;
 use vecmap::VecMap;
 use vecmap::map::MutableKeys;
 use vecmap_fixtures::{has_pairs, item_map, make_item};
 
 #[test]
-fn keys_are_written_where_they_stand(rt: HostRuntime) -> Result<(), Fail> {
+fn keys_are_written_in_place(rt: HostRuntime) -> Result<(), Fail> {
     let mut map = item_map(rt.alloc(), &[(1, 'a', 5), (2, 'b', 5)])?;
     let (key, value) = map.get_index_mut2(1).ok_or("nothing there")?;
     assert!(rt; (key.number, key.mark, *value) == (2, 'b', 5));
@@ -20,7 +20,7 @@ fn keys_are_written_where_they_stand(rt: HostRuntime) -> Result<(), Fail> {
 }
 
 #[test]
-fn a_key_lends_itself_its_place_and_its_value(rt: HostRuntime) -> Result<(), Fail> {
+fn a_key_lends_itself_its_index_and_its_value(rt: HostRuntime) -> Result<(), Fail> {
     let mut map = item_map(rt.alloc(), &[(1, 'a', 1), (2, 'b', 2)])?;
     let (index, key, value) = map.get_full_mut2(&make_item(2, 'z')).ok_or("absent")?;
     assert!(rt; (index, key.number, key.mark, *value) == (1, 2, 'b', 2));
@@ -70,7 +70,7 @@ fn iter_mut2_and_keys_mut_lend_all_from_both_ends(rt: HostRuntime) -> Result<(),
 }
 
 #[test]
-fn calls_by_key_name_the_first_of_repeats(rt: HostRuntime) -> Result<(), Fail> {
+fn calls_by_key_match_the_first_of_repeats(rt: HostRuntime) -> Result<(), Fail> {
     let mut map = VecMap::from_slice(rt.alloc(), &[(1, 'a'), (2, 'b'), (3, 'c')])?;
     let (_place, key, _value) = map.get_full_mut2(&2).ok_or("absent")?;
     *key = 1;

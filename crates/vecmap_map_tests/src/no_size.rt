@@ -1,9 +1,9 @@
-//! Keys and values of no size.
+//! Keys and values of zero size.
 use std::test::Fail;
 use vecmap::VecMap;
 
 #[test]
-fn keys_of_no_size_are_put_once(rt: HostRuntime) -> Result<(), Fail> {
+fn keys_of_no_size_are_inserted_once(rt: HostRuntime) -> Result<(), Fail> {
     let numbered = VecMap::from(vec![in rt.alloc(); ((), 1), ((), 2)]?);
     assert!(rt; numbered.as_slice() == [((), 2)].as_slice());
     let mut map = VecMap::new(rt.alloc());
@@ -22,7 +22,9 @@ fn keys_of_no_size_are_put_once(rt: HostRuntime) -> Result<(), Fail> {
 }
 
 #[test]
-fn keys_of_no_size_have_less_room_than_the_greatest_number(rt: HostRuntime) -> Result<(), Fail> {
+fn keys_of_no_size_have_less_capacity_than_the_greatest_number(
+    rt: HostRuntime,
+) -> Result<(), Fail> {
     let refused: Result<VecMap<(), ()>, _> = VecMap::with_capacity(rt.alloc(), usize::MAX);
     assert!(rt; refused.is_err());
     let mut map: VecMap<(), ()> = VecMap::with_capacity(rt.alloc(), usize::MAX / 2)?;

@@ -10,17 +10,27 @@ const MIXED: &[(u32, char, u32)] = &[(4, 'a', 2), (1, 'b', 1), (3, 'c', 2), (2, 
 
 const BY_VALUE: &[(u32, char, u32)] = &[(1, 'b', 1), (2, 'd', 1), (4, 'a', 2), (3, 'c', 2)];
 
-// What stands at a place before a sort: numbers that rise, that fall, or that are all the same.
-fn number_at(shape: u32, count: u32, place: u32) -> u32 {
+// The order of the numbers before a sort.
+#[derive(Clone, Copy)]
+enum Shape {
+    Ascending,
+    Descending,
+    AllEqual,
+}
+
+const SHAPES: [Shape; 3] = [Shape::Ascending, Shape::Descending, Shape::AllEqual];
+
+// Returns the number at an index before a sort.
+fn number_at(shape: Shape, count: u32, place: u32) -> u32 {
     match shape {
-        0 => place,
-        1 => count.wrapping_sub(place),
-        _ => 7,
+        Shape::Ascending => place,
+        Shape::Descending => count.wrapping_sub(place),
+        Shape::AllEqual => 7,
     }
 }
 
-// The places as keys, with these numbers as values.
-fn shaped_map(alloc: Global, shape: u32, count: u32) -> Result<VecMap<u32, u32>, AllocError> {
+// Creates a map of the indices as keys, with these numbers as values.
+fn shaped_map(alloc: Global, shape: Shape, count: u32) -> Result<VecMap<u32, u32>, AllocError> {
     let mut map = VecMap::new(alloc);
     for place in 0..count {
         map.insert(place, number_at(shape, count, place))?;
@@ -28,11 +38,11 @@ fn shaped_map(alloc: Global, shape: u32, count: u32) -> Result<VecMap<u32, u32>,
     Ok(map)
 }
 
-// The same pairs, sorted by value with ties in their old order: only what fell is turned round.
-fn assert_sorted(rt: &impl Abort, map: &VecMap<u32, u32>, shape: u32, count: u32) {
+// Checks that the same pairs are sorted by value with ties in their old order: only a descending map is reversed.
+fn assert_sorted(rt: &impl Abort, map: &VecMap<u32, u32>, shape: Shape, count: u32) {
     assert!(rt; map.len() == count as usize);
     for (place, pair) in (0..count).zip(map.as_slice()) {
-        let old = if shape == 1 {
+        let old = if matches!(shape, Shape::Descending) {
             count.wrapping_sub(place).wrapping_sub(1)
         } else {
             place
@@ -41,8 +51,8 @@ fn assert_sorted(rt: &impl Abort, map: &VecMap<u32, u32>, shape: u32, count: u32
     }
 }
 
-// The same pairs, in whatever order that rises by value.
-fn assert_rises(rt: &impl Abort, map: &VecMap<u32, u32>, shape: u32, count: u32) {
+// Checks that the same pairs ascend by value, with ties in any order.
+fn assert_rises(rt: &impl Abort, map: &VecMap<u32, u32>, shape: Shape, count: u32) {
     assert!(rt; map.len() == count as usize);
     let mut last = 0;
     for pair in map.as_slice() {
@@ -55,7 +65,7 @@ fn assert_rises(rt: &impl Abort, map: &VecMap<u32, u32>, shape: u32, count: u32)
 }
 
 #[test]
-fn two_pairs_change_places(rt: HostRuntime) -> Result<(), Fail> {
+fn swap_indices_swaps_two_pairs(rt: HostRuntime) -> Result<(), Fail> {
     let mut map = VecMap::from_slice(rt.alloc(), &[("a", 1), ("b", 2), ("c", 3), ("d", 4)])?;
     assert!(rt; map.len() == 4);
     map.swap_indices(1, 3);
@@ -67,7 +77,7 @@ fn two_pairs_change_places(rt: HostRuntime) -> Result<(), Fail> {
 }
 
 #[test]
-fn reverse_turns_the_order_round(rt: HostRuntime) -> Result<(), Fail> {
+fn reverse_reverses_the_order(rt: HostRuntime) -> Result<(), Fail> {
     let mut map = VecMap::from_slice(rt.alloc(), &[("a", 1), ("b", 2), ("c", 3)])?;
     map.reverse();
     assert!(rt; map.as_slice() == [("c", 3), ("b", 2), ("a", 1)].as_slice());
@@ -117,7 +127,7 @@ fn stable_sorts_leave_ties_in_their_order(rt: HostRuntime) -> Result<(), Fail> {
 #[test]
 fn stable_sorts_of_every_length_and_shape(rt: HostRuntime) -> Result<(), Fail> {
     for count in [0, 1, 2, 100] {
-        for shape in 0..3 {
+        for shape in SHAPES {
             let mut map = shaped_map(rt.alloc(), shape, count)?;
             map.sort_by(|a, b| a.1.cmp(b.1))?;
             assert_sorted(&rt, &map, shape, count);
@@ -139,7 +149,7 @@ fn stable_sorts_of_every_length_and_shape(rt: HostRuntime) -> Result<(), Fail> {
 #[test]
 fn unstable_sorts_of_every_length_and_shape(rt: HostRuntime) -> Result<(), Fail> {
     for count in [0, 1, 2, 100] {
-        for shape in 0..3 {
+        for shape in SHAPES {
             let mut map = shaped_map(rt.alloc(), shape, count)?;
             map.sort_unstable_by(|a, b| a.1.cmp(b.1));
             assert_rises(&rt, &map, shape, count);

@@ -1,4 +1,7 @@
-//! Removal from a map, and the order that it leaves.
+//! Removal from a map, and the order that is left.
+mod retain;
+mod split_off;
+
 use std::alloc::{AllocError, Global};
 use std::test::Fail;
 use vecmap::VecMap;
@@ -44,7 +47,7 @@ fn a_swap_removal_by_key_fills_the_gap_with_the_last(rt: HostRuntime) -> Result<
 }
 
 #[test]
-fn a_removal_by_place_shifts_or_swaps(rt: HostRuntime) -> Result<(), Fail> {
+fn a_removal_by_index_shifts_or_swaps(rt: HostRuntime) -> Result<(), Fail> {
     for (index, pair, shifted, swapped) in [
         (
             0,
@@ -80,7 +83,7 @@ fn a_removal_by_place_shifts_or_swaps(rt: HostRuntime) -> Result<(), Fail> {
 }
 
 #[test]
-fn the_end_of_a_map_goes(rt: HostRuntime) -> Result<(), Fail> {
+fn pop_truncate_and_clear_remove_from_the_end(rt: HostRuntime) -> Result<(), Fail> {
     let mut map = start(rt.alloc())?;
     let room = map.capacity();
     let (key, value) = map.pop().ok_or("empty")?;
@@ -98,7 +101,7 @@ fn the_end_of_a_map_goes(rt: HostRuntime) -> Result<(), Fail> {
 }
 
 #[test]
-fn swap_remove_takes_out_a_key_and_then_the_key_that_became_last(
+fn swap_remove_removes_a_key_and_then_the_key_that_became_last(
     rt: HostRuntime,
 ) -> Result<(), Fail> {
     let pairs = [(1, "a"), (2, "b"), (3, "c"), (4, "d")];

@@ -1,4 +1,4 @@
-//! Calls by key on a map with repeats: each means the first of the equal keys, and leaves the others.
+//! Calls by key on a map with equal keys: each uses the first of the equal keys, and leaves the others unchanged.
 use super::entry::occupied;
 use std::alloc::{AllocError, Global};
 use std::test::Fail;
@@ -6,7 +6,7 @@ use vecmap::VecMap;
 use vecmap::map::{Entry, MutableKeys};
 use vecmap_fixtures::{Item, has_pairs, make_item, repeating_map};
 
-// The key 1 is there first, in the middle and later, and is neither the first key nor the last.
+// Creates a map with the key 1 at three indices, neither at the first nor at the last.
 fn start(alloc: Global) -> Result<VecMap<Item, u32>, AllocError> {
     repeating_map(
         alloc,
@@ -37,7 +37,7 @@ const SWAPPED: &[(u32, char, u32)] = &[
     (1, 'e', 5),
 ];
 
-// Whether the map is as it was made, but for the value of the first of the equal keys, and for its mark.
+// Returns whether the map is as it was created, except for the value and the mark of the first of the equal keys.
 fn has_first(map: &VecMap<Item, u32>, mark: char, value: u32) -> bool {
     let expected = [
         (9, 'a', 1),
@@ -51,7 +51,7 @@ fn has_first(map: &VecMap<Item, u32>, mark: char, value: u32) -> bool {
 }
 
 #[test]
-fn lookups_answer_the_first_of_equal_keys(rt: HostRuntime) -> Result<(), Fail> {
+fn lookups_return_the_first_of_equal_keys(rt: HostRuntime) -> Result<(), Fail> {
     let map = start(rt.alloc())?;
     let key = make_item(1, 'z');
     assert!(rt; has_first(&map, 'b', 2) && !map.has_distinct_keys());
@@ -100,7 +100,7 @@ fn insertions_change_the_value_of_the_first_of_equal_keys(rt: HostRuntime) -> Re
 }
 
 #[test]
-fn insert_key_takes_the_place_of_the_first_of_equal_keys(rt: HostRuntime) -> Result<(), Fail> {
+fn insert_key_replaces_the_first_of_equal_keys(rt: HostRuntime) -> Result<(), Fail> {
     let mut map = start(rt.alloc())?;
     let (key, value) = map.insert_key(make_item(1, 'z'), 20)?.ok_or("absent")?;
     assert!(rt; (key.mark, value) == ('b', 2));
@@ -141,7 +141,7 @@ fn insert_at_moves_the_first_of_equal_keys(rt: HostRuntime) -> Result<(), Fail> 
 }
 
 #[test]
-fn removals_take_the_first_of_equal_keys(rt: HostRuntime) -> Result<(), Fail> {
+fn removals_remove_the_first_of_equal_keys(rt: HostRuntime) -> Result<(), Fail> {
     let key = make_item(1, 'z');
     let mut map = start(rt.alloc())?;
     assert!(rt; map.remove(&key) == Some(2));
@@ -200,7 +200,7 @@ fn an_entry_lends_the_value_of_the_first_of_equal_keys(rt: HostRuntime) -> Resul
 }
 
 #[test]
-fn an_entry_of_a_new_key_goes_after_the_repeats(rt: HostRuntime) -> Result<(), Fail> {
+fn an_entry_of_a_new_key_is_appended_after_the_repeats(rt: HostRuntime) -> Result<(), Fail> {
     let mut map = repeating_map(rt.alloc(), &[(1, 'a', 1), (1, 'b', 2)])?;
     assert!(rt; *map.entry(make_item(2, 'c')).or_insert_with(|| 3)? == 3);
     let value = map
@@ -220,7 +220,7 @@ fn an_entry_of_a_new_key_goes_after_the_repeats(rt: HostRuntime) -> Result<(), F
 }
 
 #[test]
-fn an_entry_of_repeats_is_removed(rt: HostRuntime) -> Result<(), Fail> {
+fn removals_of_an_entry_remove_the_first_of_equal_keys(rt: HostRuntime) -> Result<(), Fail> {
     let mut map = start(rt.alloc())?;
     let entry = occupied(map.entry(make_item(1, 'z'))).ok_or("vacant")?;
     assert!(rt; entry.remove() == 2);
@@ -264,7 +264,7 @@ fn clones_and_vectors_of_a_map_have_its_repeats(rt: HostRuntime) -> Result<(), F
 }
 
 #[test]
-fn texts_mean_the_first_of_equal_keys(rt: HostRuntime) -> Result<(), Fail> {
+fn texts_match_the_first_of_equal_keys(rt: HostRuntime) -> Result<(), Fail> {
     let mut map = VecMap::new(rt.alloc());
     for (text, value) in [("a", 1), ("b", 2), ("c", 3), ("d", 4), ("e", 5)] {
         map.insert(String::from_str(rt.alloc(), text)?, value)?;

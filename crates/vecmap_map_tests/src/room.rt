@@ -1,9 +1,9 @@
-//! The room of a map.
+//! The capacity of a map.
 use std::test::Fail;
 use vecmap::VecMap;
 
 #[test]
-fn reserved_room_takes_inserts(rt: HostRuntime) -> Result<(), Fail> {
+fn reserved_capacity_takes_insertions(rt: HostRuntime) -> Result<(), Fail> {
     let mut map: VecMap<u32, u32> = VecMap::with_capacity(rt.alloc(), 0)?;
     assert!(rt; map.capacity() == 0);
     map.reserve(3)?;
@@ -31,7 +31,7 @@ fn reserved_room_takes_inserts(rt: HostRuntime) -> Result<(), Fail> {
 }
 
 #[test]
-fn room_past_what_a_vector_holds_is_refused(rt: HostRuntime) -> Result<(), Fail> {
+fn capacity_past_what_a_vector_holds_is_refused(rt: HostRuntime) -> Result<(), Fail> {
     let mut map: VecMap<u32, u32> = VecMap::with_capacity(rt.alloc(), 2)?;
     map.insert(1, 10)?;
     let room = map.capacity();

@@ -4,7 +4,7 @@ use std::test::Fail;
 use vecmap::VecMap;
 
 #[test]
-fn searches_answer_an_equal_place_or_where_one_would_go(rt: HostRuntime) -> Result<(), Fail> {
+fn searches_return_an_equal_index_or_where_to_insert(rt: HostRuntime) -> Result<(), Fail> {
     let pairs = [('a', 1), ('b', 2), ('c', 2), ('d', 3)];
     let map = VecMap::from_slice(rt.alloc(), &pairs)?;
     let found = map.binary_search_by(|_, value| value.cmp(&2));
@@ -45,7 +45,7 @@ fn searches_of_every_length(rt: HostRuntime) -> Result<(), Fail> {
             let missed = map.binary_search_by(|stored, _| stored.cmp(&odd));
             assert!(rt; missed == Err(place.wrapping_add(1)));
         }
-        // All tied: every place is equal, or none is.
+        // All sort keys are equal: each index is a match, or none is.
         let found = map.binary_search_by_key(&7, |_, value| *value);
         assert!(rt; found.is_ok() == (0 < count));
         assert!(rt; map.binary_search_by_key(&6, |_, value| *value) == Err(0));
@@ -54,7 +54,7 @@ fn searches_of_every_length(rt: HostRuntime) -> Result<(), Fail> {
     Ok(())
 }
 
-// How many pairs a search asks of, for a number of pairs: it halves what is left, down to one.
+// How many pairs a search compares, for a number of pairs: it halves what is left, down to one.
 const ASKED: [(u32, u32); 8] = [
     (0, 0),
     (1, 1),
@@ -67,7 +67,7 @@ const ASKED: [(u32, u32); 8] = [
 ];
 
 #[test]
-fn searches_ask_as_often_as_they_halve(rt: HostRuntime) -> Result<(), Fail> {
+fn searches_compare_as_often_as_they_halve(rt: HostRuntime) -> Result<(), Fail> {
     for (count, asked) in ASKED {
         let mut map = VecMap::new(rt.alloc());
         for key in 0..count {

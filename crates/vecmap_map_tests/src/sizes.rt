@@ -1,5 +1,5 @@
-//! Sizes at which a call takes another way: keys of a word and longer ones, small pairs and large ones, and the numbers
-//! of pairs up to which equality marks what it has matched.
+//! Sizes at which a call uses another method: keys of one machine word and longer ones, small pairs and large ones, and
+//! the numbers of pairs up to which equality marks the pairs that it has matched.
 use std::alloc::{AllocError, Global};
 use std::fmt;
 use std::test::Fail;
@@ -26,7 +26,7 @@ fn each_is_found<K: Eq + Copy + Drop + fmt::Debug>(
 }
 
 #[test]
-fn keys_of_any_size_are_found_at_each_place(rt: HostRuntime) -> Result<(), Fail> {
+fn keys_of_any_size_are_found_at_each_index(rt: HostRuntime) -> Result<(), Fail> {
     let alloc = rt.alloc();
     assert!(rt; each_is_found(alloc, &[1_u8, 2, 3, 4, 5, 6])?);
     assert!(rt; each_is_found(alloc, &[1_u64, 2, 3, 4, 5, 6])?);
@@ -43,7 +43,7 @@ fn numbered<V: Copy>(alloc: Global, values: &[V]) -> Result<VecMap<usize, V>, Al
     Ok(VecMap::from(pairs))
 }
 
-// Whether each pair is taken out of the map, and goes back to its place.
+// Returns whether each pair can be removed from the map and inserted again at its index.
 fn each_is_moved<V: Eq + Copy + Drop + fmt::Debug>(
     alloc: Global,
     values: &[V],
@@ -72,7 +72,7 @@ fn following(place: usize, len: usize) -> Option<usize> {
 }
 
 #[test]
-fn pairs_of_any_size_go_and_come_at_each_place(rt: HostRuntime) -> Result<(), Fail> {
+fn pairs_of_any_size_are_removed_and_inserted_at_each_index(rt: HostRuntime) -> Result<(), Fail> {
     let alloc = rt.alloc();
     assert!(rt; each_is_moved(alloc, &[7_u8, 8, 9])?);
     assert!(rt; each_is_moved(alloc, &[[7_u64; 7], [8; 7], [9; 7]])?);

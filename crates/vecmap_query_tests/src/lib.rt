@@ -1,4 +1,4 @@
-//! Tests of calls by each kind of query: a key or an element, a text, a slice, and a query of the test's own.
+//! Tests of calls by each kind of query: a key or an element, a text, a slice, and a query type of the tests.
 #![tactic(auto)]
 
 #[cfg(test)]

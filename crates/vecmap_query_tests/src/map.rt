@@ -1,7 +1,7 @@
-//! Calls on a map by each kind of query: a key, a text, a slice, and a query that is no key.
-mod means;
+//! Calls on a map by each kind of query: a key, a text, a slice, and a query that is not a key.
+mod matching;
 
-use self::means::{finds, means};
+use self::matching::{finds, matches_at};
 use std::alloc::{AllocError, Global};
 use std::borrow::CowStr;
 use std::boxed::{BoxedSlice, BoxedStr};
@@ -12,11 +12,11 @@ use vecmap::VecMap;
 use vecmap::map::MutableKeys;
 use vecmap_fixtures::{Item, Number, has_pairs, make_item, repeating_map};
 
-// Keys of which one begins another, and one is not ASCII.
+// Keys of which one is a prefix of another, and one is not ASCII.
 const TEXTS: &[(&'static str, u32)] = &[("age", 10), ("agent", 20), ("max", 30), ("é", 40)];
 
-// Texts, each with the place of the key that has its bytes. Those of none are empty, begin a key, go on after one, or
-// are as long as one.
+// Texts, each with the index of the key that has its bytes. A text that matches no key is empty, a prefix of a key,
+// longer than a key that it begins with, or as long as a key.
 const QUERIES: &[(&'static str, Option<usize>)] = &[
     ("age", Some(0)),
     ("agent", Some(1)),
@@ -31,7 +31,7 @@ const QUERIES: &[(&'static str, Option<usize>)] = &[
     ("e", None),
 ];
 
-// The key 1 is there first, in the middle and last.
+// The key 1 is the first, one in the middle and the last.
 const REPEATS: &[(u32, char, u32)] = &[
     (9, 'a', 10),
     (1, 'b', 20),
@@ -39,7 +39,7 @@ const REPEATS: &[(u32, char, u32)] = &[
     (1, 'd', 40),
     (1, 'e', 50),
 ];
-// The map of the texts, as `String`s.
+// Creates the map of the texts, as `String`s.
 fn text_keys(alloc: Global) -> Result<VecMap<String, u32>, AllocError> {
     let mut map = VecMap::new(alloc);
     for (text, value) in TEXTS {
@@ -48,7 +48,7 @@ fn text_keys(alloc: Global) -> Result<VecMap<String, u32>, AllocError> {
     Ok(map)
 }
 
-// The map of the texts, as they are.
+// Creates the map of the texts, as they are.
 fn static_keys(alloc: Global) -> Result<VecMap<&'static str, u32>, AllocError> {
     let mut map = VecMap::new(alloc);
     for (text, value) in TEXTS {
@@ -57,7 +57,7 @@ fn static_keys(alloc: Global) -> Result<VecMap<&'static str, u32>, AllocError> {
     Ok(map)
 }
 
-// Whether the pairs have these texts as keys and these values, in this order, and are as many.
+// Returns whether the pairs have exactly these texts as keys and these values, in this order.
 fn has_texts(pairs: &[(String, u32)], expected: &[(&str, u32)]) -> bool {
     pairs.len() == expected.len()
         && pairs
@@ -67,27 +67,27 @@ fn has_texts(pairs: &[(String, u32)], expected: &[(&str, u32)]) -> bool {
 }
 
 #[test]
-fn a_key_means_the_first_that_is_equal_to_it(rt: HostRuntime) -> Result<(), Fail> {
+fn a_key_matches_the_first_equal_key(rt: HostRuntime) -> Result<(), Fail> {
     let mut map = repeating_map(rt.alloc(), REPEATS)?;
     assert!(rt; has_pairs(map.as_slice(), REPEATS));
     for (number, place) in [(9, Some(0)), (1, Some(1)), (5, Some(2)), (0, None)] {
         let key = make_item(number, 'z');
-        assert!(rt; means(&mut map, &key, place)?, "{number}");
+        assert!(rt; matches_at(&mut map, &key, place)?, "{number}");
     }
     Ok(())
 }
 
 #[test]
-fn a_query_that_is_no_key_means_the_first_it_stands_for(rt: HostRuntime) -> Result<(), Fail> {
+fn a_query_that_is_not_a_key_matches_the_first_equivalent_key(rt: HostRuntime) -> Result<(), Fail> {
     let mut map = repeating_map(rt.alloc(), REPEATS)?;
     for (number, place) in [(9, Some(0)), (1, Some(1)), (5, Some(2)), (0, None)] {
-        assert!(rt; means(&mut map, Number(number), place)?, "{number}");
+        assert!(rt; matches_at(&mut map, Number(number), place)?, "{number}");
     }
     Ok(())
 }
 
 #[test]
-fn a_query_that_is_no_key_is_handed_by_value(rt: HostRuntime) -> Result<(), Fail> {
+fn a_query_that_is_not_a_key_is_passed_by_value(rt: HostRuntime) -> Result<(), Fail> {
     let mut map = repeating_map(rt.alloc(), REPEATS)?;
     assert!(rt; (map.get_index_of(Number(1)), map.get(Number(1)).copied()) == (Some(1), Some(20)));
     let (index, key, value) = map.get_full_mut2(Number(1)).ok_or("absent")?;
@@ -111,20 +111,20 @@ fn a_query_that_is_no_key_is_handed_by_value(rt: HostRuntime) -> Result<(), Fail
 }
 
 #[test]
-fn a_text_means_the_string_of_its_bytes(rt: HostRuntime) -> Result<(), Fail> {
+fn a_text_matches_the_string_of_its_bytes_in_a_map(rt: HostRuntime) -> Result<(), Fail> {
     let mut map = text_keys(rt.alloc())?;
     assert!(rt; has_texts(map.as_slice(), TEXTS));
     for (text, place) in QUERIES {
-        assert!(rt; means(&mut map, *text, *place)?, "{text}");
+        assert!(rt; matches_at(&mut map, *text, *place)?, "{text}");
         let key = String::from_str(rt.alloc(), text)?;
-        assert!(rt; means(&mut map, &key, *place)?, "{text}");
-        assert!(rt; means(&mut map, key.as_str(), *place)?, "{text}");
+        assert!(rt; matches_at(&mut map, &key, *place)?, "{text}");
+        assert!(rt; matches_at(&mut map, key.as_str(), *place)?, "{text}");
     }
     Ok(())
 }
 
 #[test]
-fn a_text_is_handed_as_it_stands(rt: HostRuntime) -> Result<(), Fail> {
+fn a_text_is_passed_as_a_literal_in_a_map(rt: HostRuntime) -> Result<(), Fail> {
     let mut map = text_keys(rt.alloc())?;
     assert!(rt; map.contains_key("max") && !map.contains_key("ma"));
     assert!(rt; (map.get("max").copied(), map.get_index_of("max")) == (Some(30), Some(2)));
@@ -144,7 +144,7 @@ fn a_text_is_handed_as_it_stands(rt: HostRuntime) -> Result<(), Fail> {
 }
 
 #[test]
-fn a_text_means_the_first_of_equal_strings(rt: HostRuntime) -> Result<(), Fail> {
+fn a_text_matches_the_first_of_equal_strings(rt: HostRuntime) -> Result<(), Fail> {
     let mut map = text_keys(rt.alloc())?;
     for place in [0, 3] {
         let (key, _value) = map.get_index_mut2(place).ok_or("nothing there")?;
@@ -156,41 +156,41 @@ fn a_text_means_the_first_of_equal_strings(rt: HostRuntime) -> Result<(), Fail> 
         ("age", None),
         ("é", None),
     ] {
-        assert!(rt; means(&mut map, text, place)?, "{text}");
+        assert!(rt; matches_at(&mut map, text, place)?, "{text}");
     }
     Ok(())
 }
 
 #[test]
-fn the_empty_text_means_the_empty_key(rt: HostRuntime) -> Result<(), Fail> {
+fn the_empty_text_matches_the_empty_key(rt: HostRuntime) -> Result<(), Fail> {
     let mut map = text_keys(rt.alloc())?;
     map.insert(String::new(rt.alloc()), 50)?;
-    assert!(rt; means(&mut map, "", Some(4))?);
-    assert!(rt; means(&mut map, "agent", Some(1))?);
+    assert!(rt; matches_at(&mut map, "", Some(4))?);
+    assert!(rt; matches_at(&mut map, "agent", Some(1))?);
     let mut empty = VecMap::new(rt.alloc());
-    assert!(rt; means::<String, &str>(&mut empty, "", None)?);
-    assert!(rt; means::<Item, Number>(&mut repeating_map(rt.alloc(), &[])?, Number(0), None)?);
+    assert!(rt; matches_at::<String, &str>(&mut empty, "", None)?);
+    assert!(rt; matches_at::<Item, Number>(&mut repeating_map(rt.alloc(), &[])?, Number(0), None)?);
     Ok(())
 }
 
 #[test]
-fn a_text_made_at_run_time_means_a_static_key(rt: HostRuntime) -> Result<(), Fail> {
+fn a_text_made_at_run_time_matches_a_static_key(rt: HostRuntime) -> Result<(), Fail> {
     let mut map = static_keys(rt.alloc())?;
     for (text, place) in QUERIES {
         let made = String::from_str(rt.alloc(), text)?;
-        assert!(rt; means(&mut map, made.as_str(), *place)?, "{text}");
-        assert!(rt; means(&mut map, *text, *place)?, "{text}");
-        assert!(rt; means(&mut map, text, *place)?, "{text}");
+        assert!(rt; matches_at(&mut map, made.as_str(), *place)?, "{text}");
+        assert!(rt; matches_at(&mut map, *text, *place)?, "{text}");
+        assert!(rt; matches_at(&mut map, text, *place)?, "{text}");
     }
     let (key, _value) = map.get_index_mut2(0).ok_or("nothing there")?;
     *key = "max";
     let made = String::from_str(rt.alloc(), "max")?;
-    assert!(rt; means(&mut map, made.as_str(), Some(0))?);
+    assert!(rt; matches_at(&mut map, made.as_str(), Some(0))?);
     Ok(())
 }
 
 #[test]
-fn brackets_take_a_text_at_strings(rt: HostRuntime) -> Result<(), Fail> {
+fn brackets_take_a_text_in_a_map_of_strings(rt: HostRuntime) -> Result<(), Fail> {
     let mut map = text_keys(rt.alloc())?;
     assert!(rt; map.contains_key("agent") && map.contains_key("é"));
     assert!(rt; (map["agent"], map["é"]) == (20, 40));
@@ -213,7 +213,7 @@ fn brackets_take_a_text_at_strings(rt: HostRuntime) -> Result<(), Fail> {
 }
 
 #[test]
-fn brackets_read_by_a_text_at_static_keys(rt: HostRuntime) -> Result<(), Fail> {
+fn brackets_take_a_text_in_a_map_of_static_texts(rt: HostRuntime) -> Result<(), Fail> {
     let mut map = static_keys(rt.alloc())?;
     let made = String::from_str(rt.alloc(), "max")?;
     assert!(rt; map.contains_key("max") && map.contains_key(made.as_str()));
@@ -226,13 +226,13 @@ fn brackets_read_by_a_text_at_static_keys(rt: HostRuntime) -> Result<(), Fail> {
 }
 
 #[test]
-fn a_text_means_the_boxed_text_of_its_bytes(rt: HostRuntime) -> Result<(), Fail> {
+fn a_text_matches_the_boxed_text_of_its_bytes_in_a_map(rt: HostRuntime) -> Result<(), Fail> {
     let mut map = VecMap::new(rt.alloc());
     for (text, value) in TEXTS {
         map.insert(BoxedStr::from_str(rt.alloc(), text)?, *value)?;
     }
     for (text, place) in QUERIES {
-        assert!(rt; means(&mut map, *text, *place)?, "{text}");
+        assert!(rt; matches_at(&mut map, *text, *place)?, "{text}");
     }
     assert!(rt; map.remove("agent") == Some(9));
     assert!(rt; finds(&map, "max", Some(1)) && finds(&map, "agent", None));
@@ -240,13 +240,13 @@ fn a_text_means_the_boxed_text_of_its_bytes(rt: HostRuntime) -> Result<(), Fail>
 }
 
 #[test]
-fn a_text_means_the_shared_text_of_its_bytes(rt: HostRuntime) -> Result<(), Fail> {
+fn a_text_matches_the_shared_text_of_its_bytes_in_a_map(rt: HostRuntime) -> Result<(), Fail> {
     let mut map = VecMap::new(rt.alloc());
     for (text, value) in TEXTS {
         map.insert(RcStr::from_str(rt.alloc(), text)?, *value)?;
     }
     for (text, place) in QUERIES {
-        assert!(rt; means(&mut map, *text, *place)?, "{text}");
+        assert!(rt; matches_at(&mut map, *text, *place)?, "{text}");
     }
     assert!(rt; map.remove("agent") == Some(9));
     assert!(rt; finds(&map, "max", Some(1)) && finds(&map, "agent", None));
@@ -254,13 +254,13 @@ fn a_text_means_the_shared_text_of_its_bytes(rt: HostRuntime) -> Result<(), Fail
 }
 
 #[test]
-fn a_text_means_the_text_that_threads_share(rt: HostRuntime) -> Result<(), Fail> {
+fn a_text_matches_the_text_that_threads_share_in_a_map(rt: HostRuntime) -> Result<(), Fail> {
     let mut map = VecMap::new(rt.alloc());
     for (text, value) in TEXTS {
         map.insert(ArcStr::from_str(rt.alloc(), text)?, *value)?;
     }
     for (text, place) in QUERIES {
-        assert!(rt; means(&mut map, *text, *place)?, "{text}");
+        assert!(rt; matches_at(&mut map, *text, *place)?, "{text}");
     }
     assert!(rt; map.remove("agent") == Some(9));
     assert!(rt; finds(&map, "max", Some(1)) && finds(&map, "agent", None));
@@ -268,7 +268,7 @@ fn a_text_means_the_text_that_threads_share(rt: HostRuntime) -> Result<(), Fail>
 }
 
 #[test]
-fn a_text_means_a_text_borrowed_or_owned(rt: HostRuntime) -> Result<(), Fail> {
+fn a_text_matches_a_borrowed_or_an_owned_text_in_a_map(rt: HostRuntime) -> Result<(), Fail> {
     let mut map = VecMap::new(rt.alloc());
     for (text, value) in TEXTS {
         let key = if *value == 20 {
@@ -279,7 +279,7 @@ fn a_text_means_a_text_borrowed_or_owned(rt: HostRuntime) -> Result<(), Fail> {
         map.insert(key, *value)?;
     }
     for (text, place) in QUERIES {
-        assert!(rt; means(&mut map, *text, *place)?, "{text}");
+        assert!(rt; matches_at(&mut map, *text, *place)?, "{text}");
     }
     assert!(rt; map.remove("agent") == Some(9));
     assert!(rt; finds(&map, "max", Some(1)) && finds(&map, "agent", None));
@@ -287,26 +287,26 @@ fn a_text_means_a_text_borrowed_or_owned(rt: HostRuntime) -> Result<(), Fail> {
 }
 
 #[test]
-fn bytes_mean_the_vector_of_them(rt: HostRuntime) -> Result<(), Fail> {
+fn bytes_match_the_vector_of_them_in_a_map(rt: HostRuntime) -> Result<(), Fail> {
     let mut map = VecMap::new(rt.alloc());
     for (text, value) in TEXTS {
         map.insert(text.as_bytes().to_vec(rt.alloc())?, *value)?;
     }
     for (text, place) in QUERIES {
-        assert!(rt; means(&mut map, text.as_bytes(), *place)?, "{text}");
+        assert!(rt; matches_at(&mut map, text.as_bytes(), *place)?, "{text}");
     }
     assert!(rt; finds(&map, b"max".as_slice(), Some(2)) && finds(&map, [].as_slice(), None));
     Ok(())
 }
 
 #[test]
-fn bytes_mean_the_boxed_slice_of_them(rt: HostRuntime) -> Result<(), Fail> {
+fn bytes_match_the_boxed_slice_of_them_in_a_map(rt: HostRuntime) -> Result<(), Fail> {
     let mut map = VecMap::new(rt.alloc());
     for (text, value) in TEXTS {
         map.insert(BoxedSlice::from_slice(rt.alloc(), text.as_bytes())?, *value)?;
     }
     for (text, place) in QUERIES {
-        assert!(rt; means(&mut map, text.as_bytes(), *place)?, "{text}");
+        assert!(rt; matches_at(&mut map, text.as_bytes(), *place)?, "{text}");
     }
     assert!(rt; map.remove(b"agent".as_slice()) == Some(9));
     assert!(rt; finds(&map, b"max".as_slice(), Some(1)));
@@ -314,7 +314,7 @@ fn bytes_mean_the_boxed_slice_of_them(rt: HostRuntime) -> Result<(), Fail> {
 }
 
 #[test]
-fn a_slice_means_the_vector_of_equal_items(rt: HostRuntime) -> Result<(), Fail> {
+fn a_slice_matches_the_vector_of_equal_items_in_a_map(rt: HostRuntime) -> Result<(), Fail> {
     let mut map = VecMap::new(rt.alloc());
     map.insert(vec![in rt.alloc(); make_item(1, 'a')]?, 10)?;
     map.insert(
@@ -322,9 +322,9 @@ fn a_slice_means_the_vector_of_equal_items(rt: HostRuntime) -> Result<(), Fail> 
         20,
     )?;
     let query = [make_item(1, 'z'), make_item(2, 'z')];
-    assert!(rt; means(&mut map, query.as_slice(), Some(1))?);
-    assert!(rt; means(&mut map, &query[..1], Some(0))?);
-    assert!(rt; means(&mut map, &query[1..], None)?);
-    assert!(rt; means(&mut map, &query[..0], None)?);
+    assert!(rt; matches_at(&mut map, query.as_slice(), Some(1))?);
+    assert!(rt; matches_at(&mut map, &query[..1], Some(0))?);
+    assert!(rt; matches_at(&mut map, &query[1..], None)?);
+    assert!(rt; matches_at(&mut map, &query[..0], None)?);
     Ok(())
 }

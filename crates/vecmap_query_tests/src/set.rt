@@ -1,4 +1,4 @@
-//! Calls on a set by each kind of query: an element, a text, a slice, and a query that is no element.
+//! Calls on a set by each kind of query: an element, a text, a slice, and a query that is not an element.
 use std::alloc::AllocError;
 use std::borrow::CowStr;
 use std::boxed::{BoxedSlice, BoxedStr};
@@ -10,11 +10,11 @@ use vecmap_fixtures::{
     Item, Number, Same, are_same, has_items, has_texts, item_set, make_item, set_of, text_set,
 };
 
-// Elements of which one begins another, and one is not ASCII.
+// Elements of which one is a prefix of another, and one is not ASCII.
 const TEXTS: &[&'static str] = &["age", "agent", "max", "é"];
 
-// Texts, each with the place of the element that has its bytes. Those of none are empty, begin an element, go on after
-// one, or are as long as one.
+// Texts, each with the index of the element that has its bytes. A text that matches no element is empty, a prefix of an
+// element, longer than an element that it begins with, or as long as an element.
 const QUERIES: &[(&'static str, Option<usize>)] = &[
     ("age", Some(0)),
     ("agent", Some(1)),
@@ -31,7 +31,7 @@ const QUERIES: &[(&'static str, Option<usize>)] = &[
 
 const ITEMS: &[(u32, char)] = &[(9, 'a'), (1, 'b'), (5, 'c'), (2, 'd')];
 
-// Numbers, each with the place of the item that has it.
+// Numbers, each with the index of the item that has it.
 const NUMBERS: &[(u32, Option<usize>)] = &[
     (9, Some(0)),
     (1, Some(1)),
@@ -40,7 +40,7 @@ const NUMBERS: &[(u32, Option<usize>)] = &[
     (0, None),
 ];
 
-// Whether both are the same element, or none.
+// Returns whether both are the same element, or both are `None`.
 fn are_same_item<T: Same>(found: Option<&T>, item: Option<&T>) -> bool {
     match (found, item) {
         (Some(found), Some(item)) => found.is_same(item),
@@ -49,7 +49,7 @@ fn are_same_item<T: Same>(found: Option<&T>, item: Option<&T>) -> bool {
     }
 }
 
-// Whether each lookup by the query answers the element at this place, or none.
+// Returns whether each lookup by the query finds the element at this index, or none.
 fn finds<T: Eq + Same, Q: Equivalent<T>>(set: &VecSet<T>, query: Q, place: Option<usize>) -> bool {
     let item = match place {
         Some(place) => set.as_slice().get(place),
@@ -66,12 +66,13 @@ fn finds<T: Eq + Same, Q: Equivalent<T>>(set: &VecSet<T>, query: Q, place: Optio
         && are_same_item(full_item, item)
 }
 
-// A set of clones.
+// Returns a set of clones.
 fn copy_of<T: Eq + Clone + Drop>(set: &VecSet<T>) -> Result<VecSet<T>, AllocError> {
     Ok(VecSet::from(set.to_vec()?))
 }
 
-// Whether `remove` and `take` take the element at this place out of a copy, or none, and what follows moves up.
+// Returns whether `remove` and `take` remove the element at this index from a copy, or none, and shift the elements
+// behind it.
 fn removes<T: Eq + Clone + Drop + Same, Q: Equivalent<T>>(
     set: &VecSet<T>,
     query: Q,
@@ -90,7 +91,7 @@ fn removes<T: Eq + Clone + Drop + Same, Q: Equivalent<T>>(
     )
 }
 
-// The same of `swap_remove` and `swap_take`, where the last element takes the place.
+// The same for `swap_remove` and `swap_take`, which move the last element into the gap.
 fn swaps<T: Eq + Clone + Drop + Same, Q: Equivalent<T>>(
     set: &VecSet<T>,
     query: Q,
@@ -109,8 +110,8 @@ fn swaps<T: Eq + Clone + Drop + Same, Q: Equivalent<T>>(
     )
 }
 
-// Whether every call by the query means the element at this place, or none.
-fn means<T: Eq + Clone + Drop + Same, Q: Equivalent<T>>(
+// Returns whether every call by the query uses the element at this index, or none.
+fn matches_at<T: Eq + Clone + Drop + Same, Q: Equivalent<T>>(
     set: &VecSet<T>,
     query: Q,
     place: Option<usize>,
@@ -119,27 +120,27 @@ fn means<T: Eq + Clone + Drop + Same, Q: Equivalent<T>>(
 }
 
 #[test]
-fn an_element_means_the_stored_one_that_is_equal_to_it(rt: HostRuntime) -> Result<(), Fail> {
+fn an_element_matches_the_equal_one(rt: HostRuntime) -> Result<(), Fail> {
     let set = item_set(rt.alloc(), ITEMS)?;
     assert!(rt; has_items(set.as_slice(), ITEMS));
     for (number, place) in NUMBERS {
         let item = make_item(*number, 'z');
-        assert!(rt; means(&set, &item, *place)?, "{number}");
+        assert!(rt; matches_at(&set, &item, *place)?, "{number}");
     }
     Ok(())
 }
 
 #[test]
-fn a_query_that_is_no_element_means_what_it_stands_for(rt: HostRuntime) -> Result<(), Fail> {
+fn a_query_that_is_not_an_element_matches_the_equivalent_one(rt: HostRuntime) -> Result<(), Fail> {
     let set = item_set(rt.alloc(), ITEMS)?;
     for (number, place) in NUMBERS {
-        assert!(rt; means(&set, Number(*number), *place)?, "{number}");
+        assert!(rt; matches_at(&set, Number(*number), *place)?, "{number}");
     }
     Ok(())
 }
 
 #[test]
-fn a_query_that_is_no_element_is_handed_by_value(rt: HostRuntime) -> Result<(), Fail> {
+fn a_query_that_is_not_an_element_is_passed_by_value(rt: HostRuntime) -> Result<(), Fail> {
     let mut set = item_set(rt.alloc(), ITEMS)?;
     assert!(rt; set.contains(Number(1)) && !set.contains(Number(3)));
     let (index, stored) = set.get_full(Number(1)).ok_or("absent")?;
@@ -153,20 +154,20 @@ fn a_query_that_is_no_element_is_handed_by_value(rt: HostRuntime) -> Result<(), 
 }
 
 #[test]
-fn a_text_means_the_string_of_its_bytes(rt: HostRuntime) -> Result<(), Fail> {
+fn a_text_matches_the_string_of_its_bytes_in_a_set(rt: HostRuntime) -> Result<(), Fail> {
     let set = text_set(rt.alloc(), TEXTS)?;
     assert!(rt; has_texts(set.as_slice(), TEXTS));
     for (text, place) in QUERIES {
-        assert!(rt; means(&set, *text, *place)?, "{text}");
+        assert!(rt; matches_at(&set, *text, *place)?, "{text}");
         let item = String::from_str(rt.alloc(), text)?;
-        assert!(rt; means(&set, &item, *place)?, "{text}");
-        assert!(rt; means(&set, item.as_str(), *place)?, "{text}");
+        assert!(rt; matches_at(&set, &item, *place)?, "{text}");
+        assert!(rt; matches_at(&set, item.as_str(), *place)?, "{text}");
     }
     Ok(())
 }
 
 #[test]
-fn a_text_is_handed_as_it_stands(rt: HostRuntime) -> Result<(), Fail> {
+fn a_text_is_passed_as_a_literal_in_a_set(rt: HostRuntime) -> Result<(), Fail> {
     let mut set = text_set(rt.alloc(), TEXTS)?;
     assert!(rt; set.contains("max") && !set.contains("ma"));
     assert!(rt; (set.get_index_of("max"), set.get_index_of("")) == (Some(2), None));
@@ -184,36 +185,36 @@ fn a_text_is_handed_as_it_stands(rt: HostRuntime) -> Result<(), Fail> {
 }
 
 #[test]
-fn the_empty_text_means_the_empty_element(rt: HostRuntime) -> Result<(), Fail> {
+fn the_empty_text_matches_the_empty_element(rt: HostRuntime) -> Result<(), Fail> {
     let set = text_set(rt.alloc(), &["age", "", "agent"])?;
-    assert!(rt; means(&set, "", Some(1))?);
-    assert!(rt; means(&set, "agent", Some(2))?);
+    assert!(rt; matches_at(&set, "", Some(1))?);
+    assert!(rt; matches_at(&set, "agent", Some(2))?);
     let empty = VecSet::new(rt.alloc());
-    assert!(rt; means::<String, &str>(&empty, "", None)?);
-    assert!(rt; means::<Item, Number>(&item_set(rt.alloc(), &[])?, Number(0), None)?);
+    assert!(rt; matches_at::<String, &str>(&empty, "", None)?);
+    assert!(rt; matches_at::<Item, Number>(&item_set(rt.alloc(), &[])?, Number(0), None)?);
     Ok(())
 }
 
 #[test]
-fn a_text_made_at_run_time_means_a_static_element(rt: HostRuntime) -> Result<(), Fail> {
+fn a_text_made_at_run_time_matches_a_static_element(rt: HostRuntime) -> Result<(), Fail> {
     let set = set_of(rt.alloc(), TEXTS)?;
     for (text, place) in QUERIES {
         let made = String::from_str(rt.alloc(), text)?;
-        assert!(rt; means(&set, made.as_str(), *place)?, "{text}");
-        assert!(rt; means(&set, *text, *place)?, "{text}");
-        assert!(rt; means(&set, text, *place)?, "{text}");
+        assert!(rt; matches_at(&set, made.as_str(), *place)?, "{text}");
+        assert!(rt; matches_at(&set, *text, *place)?, "{text}");
+        assert!(rt; matches_at(&set, text, *place)?, "{text}");
     }
     Ok(())
 }
 
 #[test]
-fn a_text_means_the_boxed_text_of_its_bytes(rt: HostRuntime) -> Result<(), Fail> {
+fn a_text_matches_the_boxed_text_of_its_bytes_in_a_set(rt: HostRuntime) -> Result<(), Fail> {
     let mut set = VecSet::new(rt.alloc());
     for text in TEXTS {
         set.insert(BoxedStr::from_str(rt.alloc(), text)?)?;
     }
     for (text, place) in QUERIES {
-        assert!(rt; means(&set, *text, *place)?, "{text}");
+        assert!(rt; matches_at(&set, *text, *place)?, "{text}");
     }
     assert!(rt; set.remove("agent"));
     assert!(rt; finds(&set, "max", Some(1)) && finds(&set, "agent", None));
@@ -221,13 +222,13 @@ fn a_text_means_the_boxed_text_of_its_bytes(rt: HostRuntime) -> Result<(), Fail>
 }
 
 #[test]
-fn a_text_means_the_shared_text_of_its_bytes(rt: HostRuntime) -> Result<(), Fail> {
+fn a_text_matches_the_shared_text_of_its_bytes_in_a_set(rt: HostRuntime) -> Result<(), Fail> {
     let mut set = VecSet::new(rt.alloc());
     for text in TEXTS {
         set.insert(RcStr::from_str(rt.alloc(), text)?)?;
     }
     for (text, place) in QUERIES {
-        assert!(rt; means(&set, *text, *place)?, "{text}");
+        assert!(rt; matches_at(&set, *text, *place)?, "{text}");
     }
     assert!(rt; set.remove("agent"));
     assert!(rt; finds(&set, "max", Some(1)) && finds(&set, "agent", None));
@@ -235,13 +236,13 @@ fn a_text_means_the_shared_text_of_its_bytes(rt: HostRuntime) -> Result<(), Fail
 }
 
 #[test]
-fn a_text_means_the_text_that_threads_share(rt: HostRuntime) -> Result<(), Fail> {
+fn a_text_matches_the_text_that_threads_share_in_a_set(rt: HostRuntime) -> Result<(), Fail> {
     let mut set = VecSet::new(rt.alloc());
     for text in TEXTS {
         set.insert(ArcStr::from_str(rt.alloc(), text)?)?;
     }
     for (text, place) in QUERIES {
-        assert!(rt; means(&set, *text, *place)?, "{text}");
+        assert!(rt; matches_at(&set, *text, *place)?, "{text}");
     }
     assert!(rt; set.remove("agent"));
     assert!(rt; finds(&set, "max", Some(1)) && finds(&set, "agent", None));
@@ -249,7 +250,7 @@ fn a_text_means_the_text_that_threads_share(rt: HostRuntime) -> Result<(), Fail>
 }
 
 #[test]
-fn a_text_means_a_text_borrowed_or_owned(rt: HostRuntime) -> Result<(), Fail> {
+fn a_text_matches_a_borrowed_or_an_owned_text_in_a_set(rt: HostRuntime) -> Result<(), Fail> {
     let mut set = VecSet::new(rt.alloc());
     for text in TEXTS {
         let item = if text.len() == 3 {
@@ -260,7 +261,7 @@ fn a_text_means_a_text_borrowed_or_owned(rt: HostRuntime) -> Result<(), Fail> {
         set.insert(item)?;
     }
     for (text, place) in QUERIES {
-        assert!(rt; means(&set, *text, *place)?, "{text}");
+        assert!(rt; matches_at(&set, *text, *place)?, "{text}");
     }
     assert!(rt; set.remove("agent"));
     assert!(rt; finds(&set, "max", Some(1)) && finds(&set, "agent", None));
@@ -268,26 +269,26 @@ fn a_text_means_a_text_borrowed_or_owned(rt: HostRuntime) -> Result<(), Fail> {
 }
 
 #[test]
-fn bytes_mean_the_vector_of_them(rt: HostRuntime) -> Result<(), Fail> {
+fn bytes_match_the_vector_of_them_in_a_set(rt: HostRuntime) -> Result<(), Fail> {
     let mut set = VecSet::new(rt.alloc());
     for text in TEXTS {
         set.insert(text.as_bytes().to_vec(rt.alloc())?)?;
     }
     for (text, place) in QUERIES {
-        assert!(rt; means(&set, text.as_bytes(), *place)?, "{text}");
+        assert!(rt; matches_at(&set, text.as_bytes(), *place)?, "{text}");
     }
     assert!(rt; finds(&set, b"max".as_slice(), Some(2)) && finds(&set, [].as_slice(), None));
     Ok(())
 }
 
 #[test]
-fn bytes_mean_the_boxed_slice_of_them(rt: HostRuntime) -> Result<(), Fail> {
+fn bytes_match_the_boxed_slice_of_them_in_a_set(rt: HostRuntime) -> Result<(), Fail> {
     let mut set = VecSet::new(rt.alloc());
     for text in TEXTS {
         set.insert(BoxedSlice::from_slice(rt.alloc(), text.as_bytes())?)?;
     }
     for (text, place) in QUERIES {
-        assert!(rt; means(&set, text.as_bytes(), *place)?, "{text}");
+        assert!(rt; matches_at(&set, text.as_bytes(), *place)?, "{text}");
     }
     assert!(rt; set.remove(b"agent".as_slice()));
     assert!(rt; finds(&set, b"max".as_slice(), Some(1)));
@@ -295,14 +296,14 @@ fn bytes_mean_the_boxed_slice_of_them(rt: HostRuntime) -> Result<(), Fail> {
 }
 
 #[test]
-fn a_slice_means_the_vector_of_equal_items(rt: HostRuntime) -> Result<(), Fail> {
+fn a_slice_matches_the_vector_of_equal_items_in_a_set(rt: HostRuntime) -> Result<(), Fail> {
     let mut set = VecSet::new(rt.alloc());
     set.insert(vec![in rt.alloc(); make_item(1, 'a')]?)?;
     set.insert(vec![in rt.alloc(); make_item(1, 'b'), make_item(2, 'c')]?)?;
     let query = [make_item(1, 'z'), make_item(2, 'z')];
-    assert!(rt; means(&set, query.as_slice(), Some(1))?);
-    assert!(rt; means(&set, &query[..1], Some(0))?);
-    assert!(rt; means(&set, &query[1..], None)?);
-    assert!(rt; means(&set, &query[..0], None)?);
+    assert!(rt; matches_at(&set, query.as_slice(), Some(1))?);
+    assert!(rt; matches_at(&set, &query[..1], Some(0))?);
+    assert!(rt; matches_at(&set, &query[1..], None)?);
+    assert!(rt; matches_at(&set, &query[..0], None)?);
     Ok(())
 }

@@ -1,12 +1,8 @@
-//! Commands drawn at random, done three times: by a run, by direct calls, and on plain lists that are copied at each
-//! step.
+//! Random commands, executed in three ways that must agree: by a run, by direct calls, and on plain lists that are copied
+//! at each step.
 #![tactic(auto)]
 
 #[cfg(test)]
-mod draw;
-#[cfg(test)]
 mod map;
-#[cfg(test)]
-mod plain;
 #[cfg(test)]
 mod set;

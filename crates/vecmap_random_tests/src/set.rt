@@ -1,35 +1,24 @@
-//! Commands on a set.
+//! Random commands on a set.
 mod answer;
 mod change;
 mod command;
 mod direct;
 mod items;
 mod join;
+mod plain;
 mod put;
-mod read;
 mod take;
 
 use self::answer::{Answer, is_answer, is_same_list};
-use self::command::command;
+use self::command::random_command;
 use self::direct::call;
-use crate::draw::{Draw, Draws};
-use std::alloc::{AllocError, Global};
+use self::plain::on_list;
+use std::alloc::Global;
 use std::test::Fail;
 use vecmap::{SetReply, VecSet, run_set};
-use vecmap_fixtures::Item;
+use vecmap_fixtures::{Draws, Item};
 
-/// What a plain list of elements answers, and becomes.
-fn on_list(alloc: Global, list: &[Item], draw: &Draw) -> Result<(Answer, Vec<Item>), AllocError> {
-    match draw.kind % 31 {
-        0 | 1 => put::on_list(alloc, list, draw),
-        2..=8 => read::on_list(alloc, list, draw),
-        9..=15 => take::on_list(alloc, list, draw),
-        16..=22 => change::on_list(alloc, list, draw),
-        _ => join::on_list(alloc, list, draw),
-    }
-}
-
-/// Whether the answers of a run, of direct calls and of a plain list agree, and the lists that they leave.
+/// Returns whether a run, direct calls and a plain list give the same results and the same final lists.
 fn agrees(alloc: Global, seed: u64, steps: usize) -> Result<bool, Fail> {
     let mut draws = Draws::new(seed);
     let mut commands = Vec::new(alloc);
@@ -37,12 +26,12 @@ fn agrees(alloc: Global, seed: u64, steps: usize) -> Result<bool, Fail> {
     let mut list = Vec::new(alloc);
     let mut called = VecSet::new(alloc);
     for _step in 0..steps {
-        let draw = draws.next(alloc)?;
-        let (answer, next) = on_list(alloc, &list, &draw)?;
-        if !is_answer(&call(alloc, &mut called, &draw)?, &answer) {
+        let command = random_command(alloc, &mut draws)?;
+        let (answer, next) = on_list(alloc, &list, &command)?;
+        if !is_answer(&call(&mut called, &command)?, &answer) {
             return Ok(false);
         }
-        commands.push(command(alloc, &draw)?)?;
+        commands.push(command)?;
         answers.push(answer)?;
         list = next;
     }
@@ -55,7 +44,7 @@ fn agrees(alloc: Global, seed: u64, steps: usize) -> Result<bool, Fail> {
     )
 }
 
-/// Whether each reply is the answer.
+/// Returns whether each reply is the expected result.
 fn are_answers(replies: &[SetReply<Item>], answers: &[Answer]) -> bool {
     for (reply, answer) in replies.iter().zip(answers) {
         if !is_answer(reply, answer) {
@@ -66,7 +55,7 @@ fn are_answers(replies: &[SetReply<Item>], answers: &[Answer]) -> bool {
 }
 
 #[test]
-fn runs_and_calls_agree_with_plain_lists(rt: HostRuntime) -> Result<(), Fail> {
+fn runs_and_calls_of_a_set_agree_with_plain_lists(rt: HostRuntime) -> Result<(), Fail> {
     for seed in 0..2000u64 {
         assert!(rt; agrees(rt.alloc(), seed, 24)?, "at the seed {seed}");
     }

@@ -1,4 +1,4 @@
-//! Requests of attribute documents.
+//! Documents: each request for memory is refused once.
 mod drops;
 
 use crate::telling::{make, tell};
@@ -6,7 +6,7 @@ use attr_doc::{Document, Name};
 use std::alloc::{AllocError, Global};
 use std::test::Fail;
 
-/// Sets one text. An empty text takes no request, nor does an empty name.
+/// Sets one text. An empty text and an empty name need no memory.
 fn set(
     alloc: Global,
     page: &mut Document,
@@ -22,7 +22,7 @@ fn set(
     }
 }
 
-/// The document of these sets, each of a section, a name and a text, in turn.
+/// Creates a document by these sets, in order. Each is a section, a name and a text.
 fn document(alloc: Global, rows: &[(&str, &str, &str)]) -> Result<Document, AllocError> {
     let mut page = Document::new(alloc);
     for (section, name, text) in rows {
@@ -31,23 +31,23 @@ fn document(alloc: Global, rows: &[(&str, &str, &str)]) -> Result<Document, Allo
     Ok(page)
 }
 
-/// A section, a name and a text that are handed in.
+/// Returns a section, a name and a text to pass to `set`.
 fn given(alloc: Global) -> Result<(Name, Name, String), AllocError> {
     let section = Name::new("P".to_string(alloc)?);
     let name = Name::new("D".to_string(alloc)?);
     Ok((section, name, "2".to_string(alloc)?))
 }
 
-/// The whole document, in one request.
+/// Returns the whole document as text, by one request.
 fn printed(alloc: Global, page: &Document) -> Result<String, AllocError> {
     let mut text = String::with_capacity(alloc, 128)?;
     write!(text, "{page:?}")?;
     Ok(text)
 }
 
-/// Four sections fit into a document before its map grows.
+/// A document has capacity for four sections before its map grows.
 #[test]
-fn set_of_a_new_section_gives_all_back(rt: HostRuntime) -> Result<(), Fail> {
+fn set_of_a_new_section_returns_its_texts(rt: HostRuntime) -> Result<(), Fail> {
     let rows = [("", "", ""), ("q", "", ""), ("r", "", ""), ("s", "", "")];
     let mut page = make!(rt; document(rt.alloc(), &rows));
     let (section, name, text) = make!(rt; given(rt.alloc()));
@@ -72,9 +72,9 @@ fn set_of_a_new_section_gives_all_back(rt: HostRuntime) -> Result<(), Fail> {
     Ok(())
 }
 
-/// Four names fit into a section before its map grows.
+/// A section has capacity for four names before its map grows.
 #[test]
-fn set_of_a_new_name_gives_all_back(rt: HostRuntime) -> Result<(), Fail> {
+fn set_of_a_new_name_returns_its_texts(rt: HostRuntime) -> Result<(), Fail> {
     let rows = [
         ("p", "a", ""),
         ("p", "b", ""),
@@ -104,7 +104,7 @@ fn set_of_a_new_name_gives_all_back(rt: HostRuntime) -> Result<(), Fail> {
     Ok(())
 }
 
-/// Three sections, one of three names. Room for two more, as the next document has, takes a fifth place in either map.
+/// Three sections, one of which has three names. Capacity for the two more of `FROM` needs a fifth slot in both maps.
 const INTO: &[(&str, &str, &str)] = &[
     ("", "a", "1"),
     ("", "b", ""),

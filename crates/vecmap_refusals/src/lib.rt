@@ -1,8 +1,14 @@
-//! Each request for memory refused in turn.
+//! Tests in which each request for memory is refused once.
 //!
-//! Each test passes both when it is just run, where all is granted, and when `rt try --test --fail-alloc N` refuses the
-//! Nth request of each test. Where a call is refused, the test tells so, compares what the call gives back and leaves,
-//! and makes the call once more: as no second request is refused, it must be granted then.
+//! Each test passes both when it is just run, so that no request is refused, and when `rt try --test --fail-alloc N`
+//! refuses the Nth request of each test. If a call is refused, the test prints that, compares what the call returns and
+//! what it leaves, and repeats the call. No second request is refused, so this call must succeed.
+//!
+//! The files in `map` and `set` are named for the modules that they test, but these are by topic:
+//!
+//! - `clones`: keys, values and elements whose clones allocate.
+//! - `drops`: what a refused call keeps, returns or drops.
+//! - `traits`: the traits `Clone` and `Extend`.
 #![tactic(auto)]
 
 #[cfg(test)]

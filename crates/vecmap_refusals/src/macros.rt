@@ -1,4 +1,4 @@
-//! `vecmap!`, `vecset!` and what they call hand a refusal on.
+//! `vecmap!`, `vecset!` and the functions that they call return a refusal to the caller.
 use crate::telling::{full_map, full_set, make, tell};
 use std::alloc::{AllocError, Global};
 use std::test::Fail;
@@ -15,7 +15,7 @@ fn ports(alloc: Global) -> Result<VecSet<u32>, AllocError> {
 }
 
 #[test]
-fn macros_make_all_or_hand_the_refusal_on(rt: HostRuntime) -> Result<(), Fail> {
+fn macros_make_all_or_return_the_error(rt: HostRuntime) -> Result<(), Fail> {
     let map = make!(rt; ages(rt.alloc()));
     assert!(rt; map.as_slice() == [(7, 30), (8, 20)].as_slice());
     let set = make!(rt; ports(rt.alloc()));
@@ -24,7 +24,7 @@ fn macros_make_all_or_hand_the_refusal_on(rt: HostRuntime) -> Result<(), Fail> {
 }
 
 #[test]
-fn put_pair_puts_the_pair_or_nothing(rt: HostRuntime) -> Result<(), Fail> {
+fn put_pair_inserts_the_pair_or_nothing(rt: HostRuntime) -> Result<(), Fail> {
     let mut map = full_map(&rt, rt.alloc(), &[(1, 'a', 10), (2, 'b', 20)])?;
     assert!(rt; put_pair(&mut map, make_item(1, 'z'), 30).is_ok() && map.capacity() == 2);
     if put_pair(&mut map, make_item(7, 'x'), 70).is_err() {

@@ -1,4 +1,4 @@
-//! Requests of maps.
+//! Maps: each request for memory is refused once.
 mod bulk;
 mod clones;
 mod drops;

@@ -1,3 +1,3 @@
-//! Requests of runs of commands.
+//! Runs of commands: each request for memory is refused once.
 mod map_run;
 mod set_run;

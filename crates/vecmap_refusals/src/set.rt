@@ -1,4 +1,4 @@
-//! Requests of sets.
+//! Sets: each request for memory is refused once.
 mod bulk;
 mod clones;
 mod drops;

@@ -1,16 +1,16 @@
-//! How a test tells that a request was refused, and makes what it begins with.
+//! Prints that a request was refused, and repeats the calls with which a test begins.
 use std::alloc::{AllocError, Global};
 use std::test::Fail;
 use vecmap::{VecMap, VecSet};
 use vecmap_fixtures::{Item, Log, Told};
 
-/// Tells that a request was refused. `.ci/refuse` goes on as long as a test tells it.
+/// Prints that a request was refused. `.ci/refuse` goes on to the next request as long as a test prints this.
 pub(crate) fn tell(rt: &impl Print) -> Result<(), Fail> {
     println!(rt; "refused")?;
     Ok(())
 }
 
-/// What a call makes, which is called once more where it is refused.
+/// The value that a call returns. If a request is refused, the call is repeated once.
 macro_rules! make {
     ($rt:ident; $call:expr) => {
         match $call {
@@ -25,7 +25,7 @@ macro_rules! make {
 
 pub(crate) use make;
 
-/// As the fixture, made once more where it is refused.
+/// Like the fixture. If a request is refused, it tries once more.
 pub(crate) fn full_map(
     rt: &impl Print,
     alloc: Global,
@@ -40,7 +40,7 @@ pub(crate) fn full_map(
     }
 }
 
-/// As the fixture, made once more where it is refused.
+/// Like the fixture. If a request is refused, it tries once more.
 pub(crate) fn full_set(
     rt: &impl Print,
     alloc: Global,
@@ -55,7 +55,7 @@ pub(crate) fn full_set(
     }
 }
 
-/// As the fixture, made once more where it is refused.
+/// Like the fixture. If a request is refused, it tries once more.
 pub(crate) fn text_map(
     rt: &impl Print,
     alloc: Global,
@@ -70,7 +70,7 @@ pub(crate) fn text_map(
     }
 }
 
-/// As the fixture, made once more where it is refused.
+/// Like the fixture. If a request is refused, it tries once more.
 pub(crate) fn text_set(
     rt: &impl Print,
     alloc: Global,
@@ -85,7 +85,7 @@ pub(crate) fn text_set(
     }
 }
 
-/// As the fixture, made once more where it is refused.
+/// Like the fixture. If a request is refused, it tries once more.
 pub(crate) fn told_map<'a>(
     rt: &impl Print,
     alloc: Global,
@@ -101,7 +101,7 @@ pub(crate) fn told_map<'a>(
     }
 }
 
-/// As the fixture, made once more where it is refused.
+/// Like the fixture. If a request is refused, it tries once more.
 pub(crate) fn told_set<'a>(
     rt: &impl Print,
     alloc: Global,
@@ -117,7 +117,7 @@ pub(crate) fn told_set<'a>(
     }
 }
 
-/// As the fixture, made once more where it is refused.
+/// Like the fixture. If a request is refused, it tries once more.
 pub(crate) fn told_items<'a>(
     rt: &impl Print,
     alloc: Global,
@@ -133,7 +133,7 @@ pub(crate) fn told_items<'a>(
     }
 }
 
-/// As the fixture, made once more where it is refused.
+/// Like the fixture. If a request is refused, it tries once more.
 pub(crate) fn told_couples<'a>(
     rt: &impl Print,
     alloc: Global,

@@ -1,8 +1,9 @@
--- What a writer holds once a buffer in front of it is sent.
+-- What a writer holds after the buffer in front of it is sent.
 use Rattle.std.proofs.Common.{◌∙◌, List, ℕ, [], None, Option, Some, append-nil}
 use Rattle.std.specs.Io.KnownBytes.{Appends, append_known}
 
--- what was held with what is gathered is held by the writer alone
+-- Sending moves the gathered bytes to the writer, so that what was held, with the gathered bytes, is held by the writer
+-- alone.
 pub Appends-sent : (start old new : Option (List ℕ)) (gathered text : List ℕ) → Appends (append_known start []) (append_known old gathered) text → Appends old new gathered → Appends start new text
 Appends-sent None old new gathered text held sent = tt
 Appends-sent (Some s) None new gathered text held sent = absurd held

@@ -1,4 +1,5 @@
--- What std's methods of text say of the words of a line.
+-- How std's methods of text read the words of a line. Idea: no word of a command has a space, so `split_once` cuts a
+-- line exactly where the grammar does.
 use Rattle.std.proofs.Common.{ℤ, ◌∙◌, ◌≡◌, ◌==◌, not, ◌≢◌, ◌^◌, ◌<◌, ◌≤◌, ℕ, Bool, Bor, IfNone, IfSome, List, [], ◌∷◌, ◌++◌, None, Ok, Option, Result, ap, arith, false, get_or, length, length-append, lit<, neg_ℤ, pos, refl, rules, Some, subst, suc, sym, true, zero}
 use Rattle.std.proofs.Math.Seq.{get_or-append_seam}
 use Rattle.std.proofs.lemmas.Bool.{and_parts}
@@ -19,38 +20,38 @@ use Rattle.vecmap_run.specs.declared.command.Command.{Command}
 use Rattle.vecmap_run.specs.declared.command.Command.TheVariants as command
 use Rattle.vecmap_run.specs.Grammar.{HasArguments, IsPair, IsPairAt, Says, is_key, is_key_byte, is_number, name_of, number_of, value_of}
 
--- std reads digits as the grammar does
+-- std reads digits as the grammar does.
 digits : IsNumeralModel (λ ds. list_all is_ascii_digit ds ≡ true) (digits_value 10)
 digits = numerals_by_value _ (search rules)
 
--- what the test of a number says
+-- A word that passes the test of a number has 1 to 18 bytes, which are digits.
 number_parts : (word : List ℕ) → is_number word ≡ true → (0 < length word) × (length word ≤ 18) × (list_all is_ascii_digit word ≡ true)
 number_parts word numeral = grind (arith, nat_tests)
 
--- what `parse` gives for a number
+-- `parse` returns the value of such a word, which is below 10 ^ 18.
 pub parsed_number : {E : Type 0} (word : List ℕ) (r : Result ℕ E) → is_number word ≡ true → ParsesUnsigned 64 10 word r → (r ≡ Ok (digits_value 10 word)) × (digits_value 10 word < 10 ^ 18)
 parsed_number word r numeral parsed =
     let (some, few, all) = number_parts word numeral in
     let small : digits_value 10 word < 10 ^ 18 = digits_value_short digits word 18 all few in
     (parse_gives digits 64 word r parsed all some (omega arith), small)
 
--- a value with no `-` is a number
+-- A value that does not begin with `-` is a number.
 pub value_of-plain : (word : List ℕ) → ((rest : List ℕ) → word ≢ 45 ∷ rest) → value_of word ≡ option_map pos (number_of word)
 value_of-plain [] none = refl
 value_of-plain (b ∷ bs) none = let other : b ≢ 45 = λ e. none bs (rw e refl) in grind (arith, nat_tests)
 
--- no byte of the word is a space
+-- No byte of the word is a space.
 abbrev pub HasNoSpace : List ℕ → Type 0
 HasNoSpace word = (i : ℕ) → i < length word → get_or word i 0 ≢ 32
 
--- a test that each byte passes, passes at each place
+-- A test that all bytes pass holds at each index.
 all_at : (p : ℕ → Bool) (word : List ℕ) → list_all p word ≡ true → (i : ℕ) → i < length word → p (get_or word i 0) ≡ true
 all_at p word all i inside = elim (p (get_or word i 0)) as (λ b. p (get_or word i 0) ≡ b → b ≡ true) [
   | true ↦ λ _. refl
   | false ↦ λ fails. cc (list_all_at p word i 0 inside fails)
 ] refl
 
--- a test that the space fails
+-- A word whose bytes pass a test that the space fails has no space.
 no_space : (p : ℕ → Bool) → p 32 ≡ false → (word : List ℕ) → list_all p word ≡ true → HasNoSpace word
 no_space p fails word all i inside e = let passes = all_at p word all i inside in let same : p (get_or word i 0) ≡ p 32 = ap p e in cc
 
@@ -60,7 +61,7 @@ key_no_space key is = no_space is_key_byte refl key (grind (arith, nat_tests))
 pub number_no_space : (word : List ℕ) → is_number word ≡ true → HasNoSpace word
 number_no_space word is = no_space is_ascii_digit refl word (number_parts word is).2
 
--- where `split_once` cuts a text
+-- Where `split_once` cuts a text: at its first space, if it has one.
 module _ (text : List ℕ) (r : Option (Bor (List ℕ) × Bor (List ℕ))) (split : IsSplitOnceResult 32 text r) where
   pub uncut : r ≡ None → HasNoSpace text
   uncut none = rw none at (split_parts 32 text r split (lit< tt))
@@ -75,16 +76,16 @@ module _ (text : List ℕ) (r : Option (Bor (List ℕ) × Bor (List ℕ))) (spli
     pub cuts : (x : Bor (List ℕ) × Bor (List ℕ)) → r ≡ Some x → (x.0.now ≡ front) × (x.1.now ≡ back)
     cuts x some = rw some at (split_after 32 text front back r split (lit< tt) whole first)
 
--- what stands for a number is digits, and has no space
+-- A word that writes a number consists of digits, so it has no space.
 pub number_first : (word : List ℕ) (n : ℕ) → number_of word ≡ Some n → HasNoSpace word
 number_first word n says = number_no_space word (cond_some (is_number word) _ n says).0
 
--- a name is one of two that differ
+-- A name cannot equal two names that differ.
 not_both : (name a b : List ℕ) → bytes_eq a b ≡ false → name ≡ a → name ≡ b → ⊥
 not_both name a b differ is_a is_b = let same = (bytes_eq-Decides a b).1 (sym is_a ∙ is_b) in cc
 
 module _ (name text : List ℕ) where
-  -- no other command has this name
+  -- No other command has this name.
   pub only_insert : name ≡ codes "insert" → ((key : List ℕ) (value : ℤ) → IsPair key value text → ⊥) → (said : Command) → name ≡ name_of said → HasArguments said text → ⊥
   only_insert is none (command.Insert key value) same pair = none key.now value pair
   only_insert is none command.Len same arguments = arguments
@@ -103,22 +104,22 @@ module _ (name text : List ℕ) where
   only_or_insert is none command.List same arguments = arguments
   only_or_insert is none other same arguments = not_both name (codes "or_insert") (name_of other) refl is same
 
--- a name and its arguments make a line
+-- A line that is a command's name, a space and its arguments says this command.
 pub says_parts : (said : Command) (line name text : List ℕ) → line ≡ name ++ 32 ∷ text → name ≡ name_of said → HasArguments said text → Says said line
 says_parts command.Len line name text whole same arguments = absurd arguments
 says_parts command.List line name text whole same arguments = absurd arguments
 says_parts said line name text whole same arguments = (text, whole ∙ ap (λ front. front ++ 32 ∷ text) same, arguments)
 
--- no name has a space
+-- No name has a space.
 name_no_space : (said : Command) → HasNoSpace (name_of said)
 name_no_space command.Len = no_space (λ b. not (b == 32)) refl (codes "len") refl
 name_no_space other = no_space (λ b. not (b == 32)) refl (name_of other) refl
 
--- what has a space is no name alone
+-- A text with a space is not a name.
 spaced : (front back name : List ℕ) → name ≡ front ++ 32 ∷ back → HasNoSpace name → ⊥
 spaced front back name whole none = none (length front) (rw (whole, length-append) (omega arith)) (rw whole (get_or-append_seam front 32 back 0))
 
--- where `split_once` cuts a line that says a command
+-- `split_once` cuts a line that says a command into its name and its arguments.
 pub says_cut : (said : Command) (line : List ℕ) (r : Option (Bor (List ℕ) × Bor (List ℕ))) → IsSplitOnceResult 32 line r → (x : Bor (List ℕ) × Bor (List ℕ)) → r ≡ Some x → Says said line → (x.0.now ≡ name_of said) × HasArguments said x.1.now
 says_cut command.Len line r split x some says = absurd (spaced x.0.now x.1.now _ (sym says ∙ (parts line r split x some).0) (name_no_space command.Len))
 says_cut command.List line r split x some says = absurd (spaced x.0.now x.1.now _ (sym says ∙ (parts line r split x some).0) (name_no_space command.List))
@@ -126,7 +127,7 @@ says_cut said line r split x some (text, whole, arguments) =
     let (same_name, same_text) = cuts line r split (name_of said) text whole (name_no_space said) x some in
     (same_name, subst (λ t. HasArguments said t) (sym same_text) arguments)
 
--- bytes that pass a test of ASCII bytes
+-- A word whose bytes pass a test that only ASCII bytes pass is ASCII.
 ascii_all : (p : ℕ → Bool) → ((b : ℕ) → p b ≡ true → b < 128) → (word : List ℕ) → list_all p word ≡ true → IsAscii word
 ascii_all p small [] all i = lit< tt
 ascii_all p small (b ∷ bs) all zero = small b (and_parts _ _ all).0
@@ -138,16 +139,16 @@ key_ascii key is = ascii_all is_key_byte (λ b passes. grind (arith, nat_tests))
 number_ascii : (word : List ℕ) (n : ℕ) → number_of word ≡ Some n → IsAscii word
 number_ascii word n says = ascii_all is_ascii_digit (λ b passes. grind (arith, nat_tests)) word (number_parts word (cond_some (is_number word) _ n says).0).2
 
--- one more byte at the front
+-- An ASCII byte before an ASCII text gives an ASCII text.
 ascii_after : (b : ℕ) (bs : List ℕ) → b < 128 → IsAscii bs → IsAscii (b ∷ bs)
 ascii_after b bs small rest zero = small
 ascii_after b bs small rest (suc i) = rest i
 
--- a space between two parts
+-- Two ASCII texts with a space between them are ASCII.
 spaced_ascii : (front back : List ℕ) → IsAscii front → IsAscii back → IsAscii (front ++ 32 ∷ back)
 spaced_ascii front back first last = IsAscii-append front (32 ∷ back) first (ascii_after 32 back (lit< tt) last)
 
--- what a mapped option holds
+-- If a mapped option is `Some`, so is the option.
 mapped_some : (f : ℕ → ℤ) (o : Option ℕ) (v : ℤ) → option_map f o ≡ Some v → (n : ℕ) × (o ≡ Some n)
 mapped_some f None v none = absurd (none-some v none)
 mapped_some f (Some n) v some = (n, refl)
@@ -177,13 +178,13 @@ arguments_ascii command.Len text arguments = absurd arguments
 arguments_ascii command.List text arguments = absurd arguments
 arguments_ascii other text (is, same) = rw same (key_ascii _ is)
 
--- each byte of a line that says a command is ASCII
+-- Each byte of a line that says a command is ASCII.
 pub says_ascii : (said : Command) (line : List ℕ) → Says said line → IsAscii line
 says_ascii command.Len line says = rw says (name_ascii command.Len)
 says_ascii command.List line says = rw says (name_ascii command.List)
 says_ascii other line (text, whole, arguments) = rw whole (spaced_ascii (name_of other) text (name_ascii other) (arguments_ascii other text arguments))
 
--- what a line with a space says, by its parts
+-- The contract of `parse_text` for a line with a space follows from that of `with_arguments` for its two parts.
 module _ (line name text : List ℕ) (o : Option Command) where
   pub said_whole : line ≡ name ++ 32 ∷ text → IfSome o (λ said. (name ≡ name_of said) × HasArguments said text) → IfSome o (λ said. Says said line)
   said_whole whole = elim o as (λ o. IfSome o (λ said. (name ≡ name_of said) × HasArguments said text) → IfSome o (λ said. Says said line)) [

@@ -1,8 +1,8 @@
--- What a buffer's writer holds, with what is gathered for it.
+-- What a buffer and its writer hold together.
 use Rattle.std.specs.Prelude.{ℕ, List, Option}
 use Rattle.std.specs.Io.KnownBytes.{append_known}
 use Rattle.vecmap_run.specs.declared.buffer.Buffer.{Buffer}
 
--- the writer's bytes and then the gathered ones, where those are known
+-- The writer's bytes and then the gathered ones, or `None` if the writer's are not known.
 abbrev pub held : {W : Type 0} → (W → Option (List ℕ)) → Buffer W → Option (List ℕ)
 held contents buffer = append_known (contents buffer.writer.now) buffer.gathered

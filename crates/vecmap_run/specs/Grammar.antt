@@ -1,4 +1,4 @@
--- What a line says.
+-- Which command a line says.
 use Rattle.std.specs.Prelude.{◌≡◌, ℕ, ◌==◌, ◌&&◌, ◌||◌, Bool, IsTrue, List, ◌∷◌, ◌++◌, None, Option, Some, ℤ, codes, drop, if◌then◌else◌, length, nat_le, nat_lt, neg_ℤ, pos}
 use Rattle.std.specs.Char.{is_ascii_alphanumeric, is_ascii_digit}
 use Rattle.std.specs.List.{list_all}
@@ -7,41 +7,41 @@ use Rattle.std.specs.Str.Parse.{digits_value, starts_with_minus}
 use Rattle.vecmap_run.specs.declared.command.Command.{Command}
 use Rattle.vecmap_run.specs.declared.command.Command.TheVariants as command
 
--- at least one byte, and at most this many
+-- Whether the word has at least one byte and at most `most`.
 abbrev pub has_length_to : ℕ → List ℕ → Bool
 has_length_to most word = nat_lt 0 (length word) && nat_le (length word) most
 
--- an ASCII letter or digit, `_`, `-` or `.`
+-- Whether the byte is an ASCII letter or digit, `_`, `-` or `.`.
 abbrev pub is_key_byte : ℕ → Bool
 is_key_byte byte = is_ascii_alphanumeric byte || (byte == 95 || (byte == 45 || byte == 46))
 
--- 1 to 64 such bytes
+-- Whether the word has 1 to 64 such bytes.
 abbrev pub is_key : List ℕ → Bool
 is_key word = has_length_to 64 word && list_all is_key_byte word
 
--- 1 to 18 digits
+-- Whether the word has 1 to 18 digits.
 abbrev pub is_number : List ℕ → Bool
 is_number word = has_length_to 18 word && list_all is_ascii_digit word
 
--- the number that such digits write
+-- The number that these digits write, or `None` if the word is not a number.
 abbrev pub number_of : List ℕ → Option ℕ
 number_of word = if is_number word then Some (digits_value 10 word) else None
 
--- the number that an optional `-` (45) and such digits write
+-- The number that an optional `-` (45) and digits write, or `None` if the word is not a value.
 abbrev pub value_of : List ℕ → Option ℤ
 value_of word =
     if starts_with_minus word then option_map (λ n. neg_ℤ (pos n)) (number_of (drop 1 word))
     else option_map pos (number_of word)
 
--- a key, a space (32) and a value
+-- The text is the key, a space (32) and a word for the value.
 abbrev pub IsPair : List ℕ → ℤ → List ℕ → Type 0
 IsPair key value text = (word : List ℕ) × (text ≡ key ++ 32 ∷ word) × IsTrue (is_key key) × (value_of word ≡ Some value)
 
--- a place, a space and such a pair
+-- The text is a word for the index, a space and such a pair.
 abbrev pub IsPairAt : ℕ → List ℕ → ℤ → List ℕ → Type 0
 IsPairAt index key value text = (word pair : List ℕ) × (text ≡ word ++ 32 ∷ pair) × (number_of word ≡ Some index) × IsPair key value pair
 
--- the word that a command begins with
+-- The first word of a command.
 abbrev pub name_of : Command → List ℕ
 name_of (command.Insert key value) = codes "insert"
 name_of (command.InsertAt index key value) = codes "insert_at"
@@ -53,7 +53,7 @@ name_of (command.SwapRemove key) = codes "swap_remove"
 name_of command.Len = codes "len"
 name_of command.List = codes "list"
 
--- the text is the arguments of the command, which has some
+-- The command has arguments, and the text writes them.
 abbrev pub HasArguments : Command → List ℕ → Type 0
 HasArguments (command.Insert key value) text = IsPair key.now value text
 HasArguments (command.InsertAt index key value) text = IsPairAt index key.now value text
@@ -65,7 +65,7 @@ HasArguments (command.SwapRemove key) text = IsTrue (is_key key.now) × (text �
 HasArguments command.Len text = ⊥
 HasArguments command.List text = ⊥
 
--- the line says the command: its name, and its arguments after one space each
+-- The line says the command: its name, and its arguments after a space each.
 abbrev pub Says : Command → List ℕ → Type 0
 Says command.Len line = line ≡ name_of command.Len
 Says command.List line = line ≡ name_of command.List

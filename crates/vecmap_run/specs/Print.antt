@@ -1,4 +1,4 @@
--- How an answer is printed.
+-- The text that an answer prints.
 use Rattle.std.specs.Prelude.{ℕ, List, [], ◌∷◌, ◌++◌, None, Some, codes, string_bytes, ℤ, String}
 use Rattle.std.specs.Fmt.{decimal, signed_decimal}
 use Rattle.std.specs.List.{flat_map}
@@ -7,16 +7,16 @@ use Rattle.vecmap_run.specs.Steps.{Entries}
 use Rattle.vecmap_run.specs.declared.answer.Answer.{Answer}
 use Rattle.vecmap_run.specs.declared.answer.Answer.TheVariants.{Fault, Memory, Moved, Number, Pairs, Place, Range, Value}
 
--- a key, `=` (61) and its value
+-- A key, `=` (61) and its value.
 abbrev pub printed_pair : String Global × ℤ → List ℕ
 printed_pair pair = string_bytes pair.0 ++ 61 ∷ signed_decimal pair.1
 
--- the pairs, with a space (32) before each but the first
+-- The pairs with a space (32) between them, or `empty`.
 abbrev pub printed_pairs : Entries → List ℕ
 printed_pairs [] = codes "empty"
 printed_pairs (pair ∷ pairs) = printed_pair pair ++ flat_map (λ next. 32 ∷ printed_pair next) pairs
 
--- what an answer prints where the map has these pairs
+-- The text of an answer, where the map has these pairs.
 abbrev pub printed : Answer → Entries → List ℕ
 printed (Value None) pairs = codes "none"
 printed (Value (Some value)) pairs = codes "some " ++ signed_decimal value

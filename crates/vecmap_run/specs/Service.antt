@@ -1,4 +1,4 @@
--- What is written for what is read.
+-- What the program writes for what it reads.
 use Rattle.std.specs.Prelude.{◌≡◌, ◌≢◌, ℕ, ◌⊎◌, All, List, [], ◌∷◌, ◌++◌, Option}
 use Rattle.std.specs.Io.KnownBytes.{Appends, Consumes}
 use Rattle.std.specs.List.{flat_map}
@@ -10,39 +10,41 @@ use Rattle.vecmap_run.specs.declared.answer.Answer.{Answer}
 use Rattle.vecmap_run.specs.declared.answer.Answer.TheVariants.{Fault}
 use Rattle.vecmap_run.specs.declared.command.Command.{Command}
 
--- from old, the line may be answered so and leave new: by the command that it says, or by a fault where it says none
+-- This answer is allowed for the line, and it changes `old` to `new`: an answer to the command that the line says, or
+-- `Fault` if it does not say one.
 abbrev pub MayAnswer : Entries → List ℕ → Answer → Entries → Type 0
 MayAnswer old line answer new =
     ((said : Command) × Says said line × Step old said answer new)
     ⊎ (((said : Command) → Says said line → ⊥) × (answer ≡ Fault) × (new ≡ old))
 
--- this text is such an answer, and a line break (10)
+-- The text is an allowed answer for the line, and a line break (10).
 abbrev pub AnswersLine : Entries → List ℕ → List ℕ → Entries → Type 0
 AnswersLine old line text new = (answer : Answer) × MayAnswer old line answer new × (text ≡ printed answer new ++ 10 ∷ [])
 
--- from old, this text answers the lines, one after another, and leaves new
+-- The text answers the lines in order, and they change `old` to `new`.
 abbrev pub Answers : Entries → List (List ℕ) → List ℕ → Entries → Type 0
 Answers old [] text new = (text ≡ []) × (new ≡ old)
 Answers old (line ∷ lines) text new =
     (first rest : List ℕ) × (next : Entries) × (text ≡ first ++ rest) × AnswersLine old line first next × Answers next lines rest new
 
--- some input was read, and the text that was written answers its lines, from an empty map on
+-- Some input was read, and the text that was written answers its lines, beginning with an empty map.
 abbrev pub Serves : (List ℕ → List (List ℕ)) → Option (List ℕ) → Option (List ℕ) → Option (List ℕ) → Option (List ℕ) → Type 0
 Serves lines_of unread left written now =
     (input text : List ℕ) × (entries : Entries)
     × Consumes unread left input × Answers [] (lines_of input) text entries × Appends written now text
 
--- no byte is a line break
+-- No byte of the line is a line break.
 abbrev pub HasNoBreak : List ℕ → Type 0
 HasNoBreak line = All (λ byte. byte ≢ 10) line
 
--- the input is these lines, a line break (10) after each, and then a rest without one
+-- The input is these lines, each with a line break (10) after it, and then a rest without a line break.
 pub record Splits (input : List ℕ) (lines : List (List ℕ)) (rest : List ℕ) : Type 0 where
   pub whole : input ≡ flat_map (λ line. line ++ 10 ∷ []) lines ++ rest
   pub each : All HasNoBreak lines
   pub unended : HasNoBreak rest
 
--- a service that has read the input and written the text: what is unended is kept, and the lines before it are answered
+-- A service that has read this input and written this text. It keeps the unended line, and the text answers the lines
+-- before it.
 pub record HasServed (line : Option (List ℕ)) (entries : Entries) (input text : List ℕ) : Type 0 where
   pub lines : List (List ℕ)
   pub rest : List ℕ
@@ -50,7 +52,8 @@ pub record HasServed (line : Option (List ℕ)) (entries : Entries) (input text 
   pub kept : line ≡ within_limit rest
   pub answered : Answers [] lines text entries
 
--- having read these bytes too, a service goes on from a line and entries to others, and appends to what was written
+-- If a service reads these bytes, its line and entries become the new ones, and it appends the answers to what was
+-- written.
 abbrev pub GoesOn : Option (List ℕ) → Entries → List ℕ → Option (List ℕ) → Option (List ℕ) → Option (List ℕ) → Entries → Type 0
 GoesOn line entries bytes written now new_line new_entries =
     (input text : List ℕ) → HasServed line entries input text

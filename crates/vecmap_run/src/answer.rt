@@ -1,4 +1,4 @@
-//! What a command is answered.
+//! The answer to each command.
 ghost use Rattle.std.specs.Prelude.{◌≡◌, IfOk, List, OnErr, OnOk, Some, option_copied, string_eq, unwrap_or, ℕ};
 ghost use Rattle.vecmap.specs.Pairs.{lookup, put};
 ghost use Rattle.vecmap_run.specs.Lines.{within_limit};
@@ -9,28 +9,28 @@ use crate::command::{Command, parse};
 use std::alloc::{AllocError, Global};
 use vecmap::VecMap;
 
-/// What a line is answered.
+/// The answer to a line.
 #[derive(Clone, Copy, Debug, PartialEq, Eq)]
 pub enum Answer {
-    /// The value that the key has, or had, if it was there.
+    /// The value of the key, or the value that it had, if the key was present.
     Value(Option<i64>),
-    /// The place of the key, if it is there.
+    /// The index of the key, if the key is present.
     Place(Option<usize>),
-    /// The place and the value that the key had, if it was there.
+    /// The index and the value that the key had, if the key was present.
     Moved(Option<(usize, i64)>),
     /// The number of pairs.
     Number(usize),
     /// All pairs.
     Pairs,
-    /// The line says no command.
+    /// The line does not say a command.
     Fault,
-    /// The place is above the number of pairs.
+    /// The index is greater than the number of pairs.
     Range,
-    /// There was no memory for what the command puts.
+    /// Memory ran out for the key or the pair; the map is unchanged.
     Memory,
 }
 
-/// Does what a line says, which is `None` where it is too long.
+/// Executes the command of a line. The line is `None` if it is too long.
 pub fn answer_line(alloc: Global, map: &mut VecMap<String, i64>, line: Option<&[u8]>) -> Answer
     ensures { (whole : List ℕ) → option_copied line.entry ≡ within_limit whole
         → MayAnswer map.old.entries whole result map.new.entries }
@@ -44,7 +44,7 @@ pub fn answer_line(alloc: Global, map: &mut VecMap<String, i64>, line: Option<&[
     }
 }
 
-/// Does what a command says.
+/// Executes a command.
 fn act(alloc: Global, map: &mut VecMap<String, i64>, command: Command<'_>) -> Answer
     ensures { Step map.old.entries command.entry result map.new.entries }
 {
@@ -100,20 +100,27 @@ fn or_insert(alloc: Global, map: &mut VecMap<String, i64>, key: &str, value: i64
     let Ok(key) = key.to_string(alloc) else {
         return Answer::Memory;
     };
-    match stand(map, key, value) {
-        Ok(stands) => Answer::Value(stands),
+    match value_or_insert(map, key, value) {
+        Ok(found) => Answer::Value(found),
         Err(AllocError) => Answer::Memory,
     }
 }
 
-/// The value that stands under the key then, which is `value` if it had none.
-fn stand(map: &mut VecMap<String, i64>, key: String, value: i64) -> Result<Option<i64>, AllocError>
-    ensures value { IfOk result (λ stands. stands ≡ Some (unwrap_or (lookup string_eq map.old.entries key) value)) }
-    ensures entries { OnOk result (map.new.entries ≡ put string_eq map.old.entries key (unwrap_or (lookup string_eq map.old.entries key) value)) }
+/// Returns the value of the key. A key that is absent is first inserted with `value`.
+fn value_or_insert(
+    map: &mut VecMap<String, i64>,
+    key: String,
+    value: i64,
+) -> Result<Option<i64>, AllocError>
+    ensures value { IfOk result (λ found. found
+        ≡ Some (unwrap_or (lookup string_eq map.old.entries key) value)) }
+    ensures entries { OnOk result (map.new.entries
+        ≡ put string_eq map.old.entries key
+        (unwrap_or (lookup string_eq map.old.entries key) value)) }
     ensures err { OnErr result (map.new ≡ map.old) }
 {
     match map.entry(key).or_insert(value) {
-        Ok(stands) => Ok(Some(*stands)),
+        Ok(found) => Ok(Some(*found)),
         Err(_refused) => Err(AllocError),
     }
 }

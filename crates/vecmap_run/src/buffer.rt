@@ -7,7 +7,7 @@ use crate::bytes::Bytes;
 use std::fmt;
 use std::io::Write;
 
-/// Gathers text for a writer, which gets it when it is sent, or earlier where there is no room for more.
+/// Gathers text for a writer. The text is written by `send`, or earlier if the buffer is full.
 #[derive(Drop)]
 pub struct Buffer<'w, W> {
     writer: &'w mut W,
@@ -15,7 +15,7 @@ pub struct Buffer<'w, W> {
 }
 
 impl<'w, W: Write> Buffer<'w, W> {
-    /// A buffer that has gathered nothing.
+    /// Creates an empty buffer.
     pub fn new(writer: &'w mut W) -> Buffer<'w, W>
         ensures writer { result.writer ≡ writer.entry }
         ensures gathered { result.gathered ≡ [] }
@@ -35,10 +35,11 @@ impl<'w, W: Write> Buffer<'w, W> {
         write_bytes(writer, gathered.as_slice())
     }
 
-    /// Gathers a byte, once it has made room for it.
+    /// Gathers a byte. A full buffer is first written.
     fn push(&mut self, byte: u8) -> fmt::Result
         ensures writer { self.new.writer.ghost_name ≡ self.old.writer.ghost_name }
-        ensures held { OnOk result (Appends (held W.contents self.old) (held W.contents self.new) (byte ∷ [])) }
+        ensures held { OnOk result (Appends (held W.contents self.old) (held W.contents self.new)
+            (byte ∷ [])) }
     {
         if self.gathered.is_full() {
             write_bytes(self.writer, self.gathered.as_slice())?;
@@ -50,7 +51,7 @@ impl<'w, W: Write> Buffer<'w, W> {
 }
 
 impl<W: Write> fmt::Write for Buffer<'_, W> {
-    // What is held grows by the text.
+    // What the buffer and its writer hold grows by the text.
     ghost write_str_gives = { λ s text t. (t.writer.ghost_name ≡ s.writer.ghost_name)
         × Appends (held W.contents s) (held W.contents t) text };
 

@@ -4,7 +4,7 @@ ghost use Rattle.std.specs.Bool.{OnFalse};
 
 use std::marker::Model;
 
-/// How many bytes there is room for.
+/// The greatest number of bytes.
 pub const CAPACITY: usize = 4096;
 
 /// At most `CAPACITY` bytes. A contract sees them as a list.
@@ -23,7 +23,7 @@ impl Model for Bytes {
 }
 
 impl Bytes {
-    /// No bytes yet.
+    /// Creates an empty list of bytes.
     pub fn new() -> Bytes
         ensures { result ≡ [] }
     {
@@ -33,21 +33,21 @@ impl Bytes {
         }
     }
 
-    /// The bytes.
+    /// Returns the bytes.
     pub fn as_slice(&self) -> &[u8]
         ensures { result.now ≡ self.now }
     {
         &self.items[..self.len]
     }
 
-    /// Whether there are no bytes.
+    /// Returns whether there are no bytes.
     pub fn is_empty(&self) -> bool
         ensures { result ≡ (length self.now == 0) }
     {
         self.len == 0
     }
 
-    /// Whether there is no room for one more byte.
+    /// Returns whether the array has no spare capacity.
     pub fn is_full(&self) -> bool
         ensures full { result ≡ (length self.now == 4096) }
         ensures room { OnFalse result (length self.now < 4096) }
@@ -64,7 +64,7 @@ impl Bytes {
         self.len += 1;
     }
 
-    /// Takes all bytes away.
+    /// Removes all bytes.
     pub fn clear(&mut self)
         ensures { self.new ≡ [] }
     {

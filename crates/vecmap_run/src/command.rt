@@ -1,4 +1,4 @@
-//! What a line says.
+//! Reads the command of a line.
 ghost use Rattle.std.specs.Prelude.{◌≡◌, ◌≢◌, ◌^◌, ◌<◌, ℕ, ℤ, IfNone, IfSome, IsTrue, List, codes, false};
 ghost use Rattle.std.specs.Char.{is_ascii_digit};
 ghost use Rattle.std.specs.List.{list_all};
@@ -28,7 +28,7 @@ pub enum Command<'a> {
     List,
 }
 
-/// The command that a line says, if it says one.
+/// Returns the command that a line says, if it says one.
 pub fn parse(line: &[u8]) -> Option<Command<'_>>
     ensures said { IfSome result (λ command. Says command line.now) }
     ensures unsaid { IfNone result ((command : Command) → Says command line.now → ⊥) }
@@ -39,7 +39,7 @@ pub fn parse(line: &[u8]) -> Option<Command<'_>>
     }
 }
 
-/// As `parse`, of a line that is text.
+/// Like `parse`, for a line that is text.
 fn parse_text(line: &str) -> Option<Command<'_>>
     ensures said { IfSome result (λ command. Says command line.now) }
     ensures unsaid { IfNone result ((command : Command) → Says command line.now → ⊥) }
@@ -50,7 +50,7 @@ fn parse_text(line: &str) -> Option<Command<'_>>
     }
 }
 
-/// The command of a line that is one word.
+/// Returns the command of a line that is one word.
 fn alone(name: &str) -> Option<Command<'_>>
     ensures said { IfSome result (λ command. Says command name.now) }
     ensures unsaid { IfNone result ((name.now ≢ codes "len") × (name.now ≢ codes "list")) }
@@ -62,10 +62,12 @@ fn alone(name: &str) -> Option<Command<'_>>
     }
 }
 
-/// The command of a line that has text after its first word.
+/// Returns the command of a line that has text after its first word.
 fn with_arguments<'a>(name: &str, text: &'a str) -> Option<Command<'a>>
-    ensures said { IfSome result (λ command. (name.now ≡ name_of command) × HasArguments command text.now) }
-    ensures unsaid { IfNone result ((command : Command) → name.now ≡ name_of command → HasArguments command text.now → ⊥) }
+    ensures said { IfSome result (λ command. (name.now ≡ name_of command)
+        × HasArguments command text.now) }
+    ensures unsaid { IfNone result
+        ((command : Command) → name.now ≡ name_of command → HasArguments command text.now → ⊥) }
 {
     match name {
         "insert" => {
@@ -88,7 +90,7 @@ fn with_arguments<'a>(name: &str, text: &'a str) -> Option<Command<'a>>
     }
 }
 
-/// A key and a value.
+/// Returns the key and the value that a text writes.
 fn pair(text: &str) -> Option<(&str, i64)>
     ensures said { IfSome result (λ pair. IsPair pair.0.now pair.1 text.now) }
     ensures unsaid { IfNone result ((key : List ℕ) (value : ℤ) → IsPair key value text.now → ⊥) }
@@ -97,10 +99,11 @@ fn pair(text: &str) -> Option<(&str, i64)>
     Some((key(word)?, value(value_word)?))
 }
 
-/// A place, and a key and a value.
+/// Returns the index, the key and the value that a text writes.
 fn pair_at(text: &str) -> Option<(usize, &str, i64)>
     ensures said { IfSome result (λ found. IsPairAt found.0 found.1.now found.2 text.now) }
-    ensures unsaid { IfNone result ((index : ℕ) (key : List ℕ) (value : ℤ) → IsPairAt index key value text.now → ⊥) }
+    ensures unsaid { IfNone result
+        ((index : ℕ) (key : List ℕ) (value : ℤ) → IsPairAt index key value text.now → ⊥) }
 {
     let (word, rest) = text.split_once(' ')?;
     let index = number(word)?;
@@ -108,7 +111,7 @@ fn pair_at(text: &str) -> Option<(usize, &str, i64)>
     Some((index, key, value))
 }
 
-/// The word itself, if it is a key.
+/// Returns the word itself, if it is a key.
 fn key(word: &str) -> Option<&str>
     ensures said { IfSome result (λ key. IsTrue (is_key key.now) × (word.now ≡ key.now)) }
     ensures unsaid { IfNone result (is_key word.now ≡ false) }
@@ -132,7 +135,7 @@ fn is_key_byte(byte: u8) -> bool
     byte.is_ascii_alphanumeric() || matches!(byte, b'_' | b'-' | b'.')
 }
 
-/// The number that digits with an optional `-` write.
+/// Returns the number that digits with an optional `-` write.
 fn value(word: &str) -> Option<i64>
     ensures { result ≡ value_of word.now }
 {
@@ -142,7 +145,7 @@ fn value(word: &str) -> Option<i64>
     }
 }
 
-/// The number that digits write.
+/// Returns the number that digits write.
 fn number(word: &str) -> Option<usize>
     ensures value { result ≡ number_of word.now }
     ensures small { IfSome result (λ number. number < 10 ^ 18) }

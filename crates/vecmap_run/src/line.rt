@@ -5,8 +5,8 @@ ghost use Rattle.vecmap_run.specs.Lines.{within_limit};
 use crate::bytes::Bytes;
 use std::marker::Model;
 
-/// The bytes of a line so far, of which a line past the limit keeps only that it is. A contract sees them as
-/// `within_limit` of the whole line.
+/// The bytes of a line so far. Of a line past the limit, only the fact is kept that it is too long. A contract sees
+/// them as `within_limit` of the whole line.
 #[derive(Drop)]
 pub struct Line {
     bytes: Bytes,
@@ -20,7 +20,7 @@ impl Model for Line {
 }
 
 impl Line {
-    /// The empty line.
+    /// Creates an empty line.
     pub fn new() -> Line
         ensures { result ≡ within_limit [] }
     {
@@ -30,7 +30,7 @@ impl Line {
         }
     }
 
-    /// The line, unless it is too long.
+    /// Returns the bytes of the line, or `None` if it is too long.
     pub fn bytes(&self) -> Option<&[u8]>
         ensures { option_copied result ≡ self.now }
     {
@@ -41,16 +41,17 @@ impl Line {
         }
     }
 
-    /// Whether the line is empty, which one that is too long isn't.
+    /// Returns whether the line is empty. A line that is too long is not.
     pub fn is_empty(&self) -> bool
         ensures { (line : List ℕ) → self.now ≡ within_limit line → result ≡ (length line == 0) }
     {
         !self.is_too_long && self.bytes.is_empty()
     }
 
-    /// Takes the next byte of the line.
+    /// Appends the next byte of the line.
     pub fn push(&mut self, byte: u8)
-        ensures { (line : List ℕ) → self.old ≡ within_limit line → self.new ≡ within_limit (line ++ byte ∷ []) }
+        ensures { (line : List ℕ) → self.old ≡ within_limit line
+            → self.new ≡ within_limit (line ++ byte ∷ []) }
     {
         if self.bytes.is_full() {
             self.is_too_long = true;

@@ -1,4 +1,4 @@
-//! Reads commands on a map from texts to numbers, a line each, and answers each on a line.
+//! Reads commands on a map from texts to numbers, one command a line, and writes one line for each.
 #![tactic(auto)]
 
 mod answer;

@@ -1,4 +1,4 @@
-//! How an answer is printed.
+//! Prints an answer.
 ghost use Rattle.std.specs.Prelude.{Some};
 ghost use Rattle.vecmap_run.specs.Print.{printed, printed_pairs};
 

@@ -1,4 +1,4 @@
-//! The engine of the program.
+//! The loop over the input: reads lines, executes their commands, and writes the answers.
 ghost use Rattle.std.specs.Prelude.{◌≡◌, ◌∷◌, ◌++◌, [], IfErr, IsErrOf, List, OnOk, ℕ};
 ghost use Rattle.std.specs.Io.KnownBytes.{Appends, IsAtEnd};
 ghost use Rattle.vecmap_run.specs.Lines.{all_lines, ended_lines, within_limit};
@@ -20,26 +20,34 @@ mod tests;
 
 /// Why `serve` stopped before the end of its input.
 #[derive(Clone, Copy, Debug, PartialEq, Eq)]
-pub enum Fault {
+pub enum ServeError {
     /// A read failed, or there were too many of them.
     Reading,
     /// A write failed.
     Writing,
 }
 
-/// Answers each line of `reader` on `writer`, over a map that is empty at first.
+/// Reads lines from `reader` and writes the answer to each on `writer`. The map is empty at first.
 ///
-/// A line ends with a line break or with the input. Each answer is written before the next line is acted on. A read
-/// that is interrupted is made again; one that fails ends the service, and so does a write that fails, which leaves
-/// open how much of its answer was written. After `u64::MAX` reads this gives up with `Fault::Reading`.
-pub fn serve<R: Read, W: Write>(alloc: Global, reader: &mut R, writer: &mut W) -> Result<(), Fault>
-    // At the end of the input all its lines are answered.
+/// A line ends with a line break or with the input. Each answer is written before the next line is executed. A read
+/// that is interrupted is repeated.
+///
+/// # Errors
+///
+/// - [`ServeError::Reading`] if a read fails, or after `u64::MAX` reads.
+/// - [`ServeError::Writing`] if a write fails. It is then unknown how much of the answer was written.
+pub fn serve<R: Read, W: Write>(
+    alloc: Global,
+    reader: &mut R,
+    writer: &mut W,
+) -> Result<(), ServeError>
+    // At the end of the input, the text answers all its lines.
     ensures end { OnOk result (IsAtEnd (R.remaining reader.new)) }
     ensures ok { OnOk result (Serves all_lines
         (R.remaining reader.old) (R.remaining reader.new) (W.contents writer.old) (W.contents writer.new)) }
 
-    // Where reading fails, the lines that have ended are.
-    ensures reading { IsErrOf result Fault.Reading → Serves ended_lines
+    // If reading fails, the text answers the lines that have ended.
+    ensures reading { IsErrOf result ServeError.Reading → Serves ended_lines
         (R.remaining reader.old) (R.remaining reader.new) (W.contents writer.old) (W.contents writer.new) }
 {
     let mut service = Service::new(alloc);
@@ -49,10 +57,10 @@ pub fn serve<R: Read, W: Write>(alloc: Global, reader: &mut R, writer: &mut W) -
             Ok(0) => return service.finish(writer),
             Ok(count) => service.take(&chunk[..count], writer)?,
             Err(error) if error.kind() == ErrorKind::Interrupted => {}
-            Err(_error) => return Err(Fault::Reading),
+            Err(_error) => return Err(ServeError::Reading),
         }
     }
-    Err(Fault::Reading)
+    Err(ServeError::Reading)
 }
 
 /// The map, and the line that is being read.
@@ -74,11 +82,11 @@ impl Service {
         }
     }
 
-    /// Takes the next bytes of the input, and answers each line that ends in them.
-    fn take<W: Write>(&mut self, bytes: &[u8], writer: &mut W) -> Result<(), Fault>
+    /// Reads the next bytes of the input, and writes the answer to each line that ends in them.
+    fn take<W: Write>(&mut self, bytes: &[u8], writer: &mut W) -> Result<(), ServeError>
         ensures ok { OnOk result (GoesOn self.old.line self.old.map.entries bytes.now
             (W.contents writer.old) (W.contents writer.new) self.new.line self.new.map.entries) }
-        ensures err { IfErr result (λ fault. fault ≡ Fault.Writing) }
+        ensures err { IfErr result (λ error. error ≡ ServeError.Writing) }
     {
         for byte in bytes {
             self.take_byte(*byte, writer)?;
@@ -86,10 +94,10 @@ impl Service {
         Ok(())
     }
 
-    fn take_byte<W: Write>(&mut self, byte: u8, writer: &mut W) -> Result<(), Fault>
+    fn take_byte<W: Write>(&mut self, byte: u8, writer: &mut W) -> Result<(), ServeError>
         ensures ok { OnOk result (GoesOn self.old.line self.old.map.entries (byte ∷ [])
             (W.contents writer.old) (W.contents writer.new) self.new.line self.new.map.entries) }
-        ensures err { IfErr result (λ fault. fault ≡ Fault.Writing) }
+        ensures err { IfErr result (λ error. error ≡ ServeError.Writing) }
     {
         if byte == b'\n' {
             return self.answer(writer);
@@ -98,12 +106,12 @@ impl Service {
         Ok(())
     }
 
-    /// Answers the line that ends with the input, if there is one.
-    fn finish<W: Write>(&mut self, writer: &mut W) -> Result<(), Fault>
+    /// Writes the answer to the line that ends with the input, if there is one.
+    fn finish<W: Write>(&mut self, writer: &mut W) -> Result<(), ServeError>
         ensures ok { OnOk result ((input text : List ℕ) → HasServed self.old.line self.old.map.entries input text
             → (more : List ℕ) × Appends (W.contents writer.old) (W.contents writer.new) more
             × Answers [] (all_lines input) (text ++ more) self.new.map.entries) }
-        ensures err { IfErr result (λ fault. fault ≡ Fault.Writing) }
+        ensures err { IfErr result (λ error. error ≡ ServeError.Writing) }
     {
         if self.line.is_empty() {
             return Ok(());
@@ -111,13 +119,13 @@ impl Service {
         self.answer(writer)
     }
 
-    /// Answers the line, and begins the next one.
-    fn answer<W: Write>(&mut self, writer: &mut W) -> Result<(), Fault>
+    /// Writes the answer to the line, and begins the next one.
+    fn answer<W: Write>(&mut self, writer: &mut W) -> Result<(), ServeError>
         ensures ok { OnOk result ((line : List ℕ) → self.old.line ≡ within_limit line
             → (text : List ℕ) × Appends (W.contents writer.old) (W.contents writer.new) text
             × AnswersLine self.old.map.entries line text self.new.map.entries) }
         ensures line { self.new.line ≡ within_limit [] }
-        ensures err { IfErr result (λ fault. fault ≡ Fault.Writing) }
+        ensures err { IfErr result (λ error. error ≡ ServeError.Writing) }
     {
         let answer = answer_line(self.alloc, &mut self.map, self.line.bytes());
         self.line.clear();
@@ -127,7 +135,7 @@ impl Service {
         };
         match print(printed, writer) {
             Ok(()) => Ok(()),
-            Err(_error) => Err(Fault::Writing),
+            Err(_error) => Err(ServeError::Writing),
         }
     }
 }

@@ -1,20 +1,20 @@
-//! How the program ends.
+//! The exit status of the program.
 ghost use Rattle.std.specs.Prelude.{◌≡◌, OnErr, OnOk};
 ghost use Rattle.std.specs.Process.{exit_status};
 
-use crate::serve::Fault;
+use crate::serve::ServeError;
 use std::process::ExitCode;
 
 #[cfg(test)]
 mod tests;
 
-/// The exit status for this outcome of `serve`.
-pub fn status(served: Result<(), Fault>) -> ExitCode
+/// Returns the exit status for this outcome of `serve`.
+pub fn status(served: Result<(), ServeError>) -> ExitCode
     ensures ok { OnOk served (exit_status result ≡ 0) }
     ensures err { OnErr served (exit_status result ≡ 1) }
 {
     match served {
         Ok(()) => ExitCode::SUCCESS,
-        Err(_fault) => ExitCode::FAILURE,
+        Err(_error) => ExitCode::FAILURE,
     }
 }

@@ -1,4 +1,5 @@
--- What `intersection` and `union` give, whichever of two lists is longer.
+-- What `intersection` and `union` yield, whichever of two lists is longer. The idea: a fact about two lists in either
+-- order is one about the shorter and the other.
 use Rattle.std.proofs.Common.{◌≡◌, ◌+◌, ◌∙◌, Bool, true, false, List, arith, if◌then◌else◌, length, nat_lt}
 use Rattle.std.specs.Cmp.{IsEquivalence}
 use Rattle.std.specs.List.{IsDistinct}
@@ -10,7 +11,7 @@ use Rattle.vecmap_set.specs.Lazy.{longer, not_longer, not_shorter, shorter}
 use Rattle.vecmap_set.specs.Operators.{lazy_intersection, lazy_union, union_of}
 
 module _ {T : Type 0} (a b : List T) (P : List T → List T → Type 0) where
-  -- what holds of two lists in either order holds of the shorter and the other
+  -- What holds of two lists in either order holds of the shorter and the other.
   pub on_shorter : P b a → P a b → P (shorter a b) (not_shorter a b)
   on_shorter x y = by (nat_lt (length b) (length a))
     where
@@ -18,7 +19,7 @@ module _ {T : Type 0} (a b : List T) (P : List T → List T → Type 0) where
       by true = x
       by false = y
 
-  -- and of the longer and the other
+  -- It also holds of the longer and the other.
   pub on_longer : P b a → P a b → P (longer a b) (not_longer a b)
   on_longer x y = by (nat_lt (length a) (length b))
     where
@@ -27,7 +28,7 @@ module _ {T : Type 0} (a b : List T) (P : List T → List T → Type 0) where
       by false = y
 
 module _ {T : Type 0} (eq : T → T → Bool) (o : IsEquivalence eq) (a b : List T) where
-  -- the lazy lists are equal, as sets, to those of the operators
+  -- The lazy lists are equal, as sets, to those of the operators.
   pub lazy_intersection_is_both : has_same_items eq (lazy_intersection eq a b) (both eq a b) ≡ true
   lazy_intersection_is_both = on_shorter a b (λ s t. has_same_items eq (both eq s t) (both eq a b) ≡ true) (both_turned eq o b a) ((set_equality_laws eq o).refl (both eq a b))
 
@@ -35,7 +36,7 @@ module _ {T : Type 0} (eq : T → T → Bool) (o : IsEquivalence eq) (a b : List
   lazy_union_is_union = on_longer a b (λ s t. has_same_items eq (union_of eq s t) (union_of eq a b) ≡ true) (union_turned eq o b a) ((set_equality_laws eq o).refl (union_of eq a b))
 
 module _ {T : Type 0} (eq : T → T → Bool) (o : IsEquivalence eq) (a b : List T) where
-  -- of lists in a row, each equal to the next as a set, the last from its other side
+  -- If k is equal to l, l to m, and n to m as sets, then k is equal to n.
   ends_equal : (k l m n : List T) → has_same_items eq k l ≡ true → has_same_items eq l m ≡ true → has_same_items eq n m ≡ true → has_same_items eq k n ≡ true
   ends_equal k l m n e f g =
       let laws = set_equality_laws eq o in
@@ -48,7 +49,7 @@ module _ {T : Type 0} (eq : T → T → Bool) (o : IsEquivalence eq) (a b : List
   lazy_union_turned = ends_equal _ (union_of eq a b) (union_of eq b a) _ (lazy_union_is_union eq o a b) (union_turned eq o a b) (lazy_union_is_union eq o b a)
 
 module _ {T : Type 0} (eq : T → T → Bool) (o : IsEquivalence eq) (a b : List T) (d : IsDistinct eq a) (e : IsDistinct eq b) where
-  -- the lengths of intersection and union add up
+  -- The lengths of intersection and union add up to those of the two sets.
   pub lengths_add : length (both eq a b) + length (union_of eq a b) ≡ length a + length b
   lengths_add = omega (arith, length_union eq o a b d e)
 

@@ -1,4 +1,5 @@
--- Pulls of iterators over the elements that are kept.
+-- Pulls of iterators over the elements that are kept. The idea: a pull at either end keeps or passes one element after
+-- the other.
 use Rattle.std.proofs.Common.{◌≡◌, ℕ, ◌≤◌, ◌+◌, ◌-◌, length-append, Bool, true, false, List, [], ◌∷◌, ◌++◌, Option, None, Some, if◌then◌else◌, cond, ap, ◌∙◌, length, not, arith, refl, suc, take, drop}
 use Rattle.std.proofs.lemmas.List.{append-nil, reverse-append, take-append-le}
 use Rattle.std.proofs.Math.Seq.{take-append_seam}
@@ -11,14 +12,14 @@ use Rattle.std.specs.Option.{IfSome, SomeIff}
 use Rattle.vecmap_set.specs.Lazy.{JoinsFirst, JoinsInOrder, JoinsInReverse, JoinsLast, PairsFirst, PairsInOrder, PairsInReverse, PairsLast, Parts, Sift, SiftsFirst, SiftsInOrder, SiftsInReverse, SiftsLast, joined, lacks_item, paired, sifted}
 
 module _ {T : Type 0} (p : T → Bool) where
-  -- an element at the front that is kept
+  -- An element at the front that is kept.
   pub front_kept : (xs : List T) (x : T) → p x ≡ true → (filter p (x ∷ xs) ≡ x ∷ filter p xs) × (after_first p (x ∷ xs) ≡ xs)
   front_kept xs x h = (
     ap (λ b. if b then x ∷ filter p xs else filter p xs) h,
     ap (λ b. drop (cond (not b) (1 + position_or_len p xs) 0 + 1) (x ∷ xs)) h,
   )
 
-  -- an element at the front that is passed
+  -- An element at the front that is passed.
   pub front_passed : (xs : List T) (x : T) → p x ≡ false → (filter p (x ∷ xs) ≡ filter p xs) × (after_first p (x ∷ xs) ≡ after_first p xs)
   front_passed xs x h = (
     ap (λ b. if b then x ∷ filter p xs else filter p xs) h,
@@ -26,11 +27,11 @@ module _ {T : Type 0} (p : T → Bool) where
         ∙ ap (λ n. drop n (x ∷ xs)) (let one_more : 1 + position_or_len p xs + 1 ≡ suc (position_or_len p xs + 1) = omega arith in one_more),
   )
 
-  -- how many are passed from the end back, with one element more at the end
+  -- The number of elements that are passed from the end back, if the list has one element more at its end.
   passed_back : (xs : List T) (x : T) → suffix_len (λ y. not (p y)) (xs ++ x ∷ []) ≡ cond (not (p x)) (1 + suffix_len (λ y. not (p y)) xs) 0
   passed_back xs x = ap (prefix_len (λ y. not (p y))) (reverse-append xs (x ∷ []))
 
-  -- an element at the back that is kept
+  -- An element at the back that is kept.
   pub back_kept : (xs : List T) (x : T) → p x ≡ true → (filter p (xs ++ x ∷ []) ≡ filter p xs ++ x ∷ []) × (before_last p (xs ++ x ∷ []) ≡ xs)
   back_kept xs x h =
       let none : suffix_len (λ y. not (p y)) (xs ++ x ∷ []) ≡ 0 = passed_back xs x ∙ ap (λ b. cond (not b) (1 + suffix_len (λ y. not (p y)) xs) 0) h in
@@ -39,7 +40,7 @@ module _ {T : Type 0} (p : T → Bool) where
         ap (λ n. take n (xs ++ x ∷ [])) place ∙ take-append_seam xs (x ∷ []),
       )
 
-  -- an element at the back that is passed
+  -- An element at the back that is passed.
   pub back_passed : (xs : List T) (x : T) → p x ≡ false → (filter p (xs ++ x ∷ []) ≡ filter p xs) × (before_last p (xs ++ x ∷ []) ≡ before_last p xs)
   back_passed xs x h =
       let passed = suffix_len (λ y. not (p y)) xs in
@@ -50,7 +51,7 @@ module _ {T : Type 0} (p : T → Bool) where
       )
 
 module _ {T : Type 0} (keeps : List T → T → Bool) where
-  -- each run of pulls gives what is left, in order or in reverse
+  -- Each run of pulls gives what is left, in order or in reverse.
   pub sifts_in_order : SiftsInOrder keeps
   sifts_in_order = from_front (SiftsFirst keeps) (λ y. y.now) (sifted keeps) (λ s t h. ap length h.0.0) (λ s x t h. h.0)
 
@@ -70,11 +71,11 @@ module _ {T : Type 0} (eq : T → T → Bool) where
   pub pairs_in_reverse : PairsInReverse eq
   pairs_in_reverse = from_back (PairsLast eq) (λ y. y.now) (paired eq) (λ s t h. ap length h.0.0) (λ s x t h. h.0)
 
--- no more are kept than there are
+-- No more elements are kept than the list has.
 pub length_filter : {T : Type 0} (p : T → Bool) (xs : List T) → length (filter p xs) ≤ length xs
 length_filter p xs = omega (arith, length-filter_both p (λ x. not (p x)) (λ x. refl) xs)
 
--- nor of two parts
+-- The same for two parts.
 pub length_joined : {T : Type 0} (eq : T → T → Bool) (s : Parts (List T) (Sift T)) → length (joined eq s) ≤ length s.first + length s.second.unwalked
 length_joined eq s =
     let kept = lacks_item eq s.second.other in
@@ -86,7 +87,7 @@ length_paired eq s =
     let two = lacks_item eq s.second.other in
     omega (arith, length-append (filter one s.first.unwalked) (filter two s.second.unwalked), length_filter one s.first.unwalked, length_filter two s.second.unwalked)
 
--- what is at most a sum of two bounds is within their sum, where that fits
+-- A number that is at most the sum of two bounds is within that sum, if the sum fits a `usize`.
 pub within_sum : (r : Option ℕ) (P : Type 0) (sum n : ℕ) → SomeIff r P sum → n ≤ sum → IfSome r (UpTo (at_most n))
 within_sum None P sum n h short = tt
 within_sum (Some x) P sum n h short = (tt, omega (arith, h.1))

@@ -1,4 +1,4 @@
--- What is taken from an iterator until it has none is the list that it had.
+-- What is taken from an iterator until nothing is left is the list that it had. By induction on the taken items.
 use Rattle.std.proofs.Common.{◌≡◌, List, [], ◌∷◌, ◌++◌, Option, None, Some, ap, sym, subst, ◌∙◌, map}
 use Rattle.std.proofs.lemmas.List.{append-nil}
 use Rattle.std.specs.Borrow.{Bor}
@@ -17,6 +17,6 @@ module _ {S T : Type 0} (steps : S → Option (Bor T) → S → Type 0) (rest : 
       let e = d.1 in
       sym (taken s e.0 items e.1 ∙ ap (λ l. map deref items ++ l) (gives e.0 None d.0 e.2).0 ∙ append-nil _)
 
-  -- clones of what was taken are clones of that list
+  -- Clones of what was taken are clones of that list.
   pub clones_drained : (C : T → T → Type 0) (s : S) (l made : List T) → rest s ≡ l → DrainsIntoClones steps C s made → AreClones C l made
   clones_drained C s l made e h = subst (λ m. AreClones C m made) (drained s h.0 h.1 ∙ e) h.2

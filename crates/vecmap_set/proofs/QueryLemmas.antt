@@ -1,4 +1,5 @@
--- What a query finds after an addition.
+-- What a query finds after an addition. By induction on the list for an element that does not match. A matching element
+-- is found as an equal one is.
 use Rattle.std.specs.Prelude.{◌≡◌, Bool, true, false, List, [], ◌∷◌, None, Some, IsTrue, if◌then◌else◌, is_some, length, option_map, position, suc, unwrap_or, refl}
 use Rattle.std.specs.Cmp.{IsEquivalence}
 use Rattle.std.specs.List.{list_any}
@@ -11,7 +12,7 @@ use Rattle.vecmap_base.proofs.ItemsLemmas.Recursion.{add_cons}
 use Rattle.vecmap_base.proofs.PlaceLemmas.{is_some_position, list_any_position, position_cons}
 
 module _ {T : Type 0} (eq : T → T → Bool) (test : T → Bool) where
-  -- after an addition of an element that it does not stand for it finds what it found
+  -- After an addition of an element that does not match, it finds what it found before.
   pub place_after_other : (s : List T) (x : T) → test x ≡ false → position test (add eq s x) ≡ position test s
   place_after_other [] x n = position_cons test x [] ∙ ap (λ b. cond b (Some 0) (option_map suc (position test []))) n
   place_after_other (z ∷ zs) x n =
@@ -29,7 +30,7 @@ module _ {T : Type 0} (eq : T → T → Bool) (test : T → Bool) where
   found_after_other s x n = list_any_position test (add eq s x) ∙ ap is_some (place_after_other s x n) ∙ is_some_position test s
 
   module _ (o : IsEquivalence eq) (respects : (x y : T) → IsTrue (test x) → test y ≡ eq x y) where
-    -- after one of an element that it stands for it finds the place where an equal one stood, or the last
+    -- After an addition of an element that matches, it finds the index of an equal existing element, or the last index.
     pub place_after_own : (s : List T) (x : T) → IsTrue (test x) → position test (add eq s x) ≡ Some (unwrap_or (position test s) (length s))
     place_after_own s x h =
         let same = tells_as eq o test respects x h in

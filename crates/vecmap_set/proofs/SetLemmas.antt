@@ -1,4 +1,4 @@
--- Clones of the elements of a set.
+-- Clones of the elements of a set. The idea: each clone is equal to its original, and the originals are distinct.
 use Rattle.std.specs.Prelude.{Bool, Contains, IsTrue, List, [], ◌∷◌}
 use Rattle.std.specs.Cmp.{IsEquivalence}
 use Rattle.std.specs.List.{IsDistinct}
@@ -7,7 +7,7 @@ use Rattle.vecmap_base.specs.Clones.{AreClones}
 use Rattle.vecmap_base.proofs.DistinctLemmas.Clones.{distinct_clones}
 
 module _ {T : Type 0} (eq : T → T → Bool) where
-  -- clones of some elements of l, beside the fact that their originals are in l
+  -- Clones of some elements of l, with the fact that their originals are in l.
   clones_within : (C : T → T → Type 0) (l xs ys : List T) → ((x : T) → Contains xs x → Contains l x) → AreClones C xs ys → AreClones (λ x y. Contains l x × C x y) xs ys
   clones_within C l [] [] h k = tt
   clones_within C l [] (y ∷ ys) h k = absurd k
@@ -15,7 +15,7 @@ module _ {T : Type 0} (eq : T → T → Bool) where
   clones_within C l (x ∷ xs) (y ∷ ys) h k =
       ((h x (Contains-append_left (x ∷ []) xs x (Contains-push [] x)), k.0), clones_within C l xs ys (λ z c. h z (Contains-append_right (x ∷ []) xs z c)) k.1)
 
-  -- clones of the elements of a distinct list are distinct, where each is equal to its original
+  -- Clones of the elements of a distinct list are distinct, if each clone is equal to its original.
   pub distinct_clones_of : (o : IsEquivalence eq) (C : T → T → Type 0) (xs ys : List T) → ((x y : T) → Contains xs x → C x y → IsTrue (eq x y)) → AreClones C xs ys → IsDistinct eq xs → IsDistinct eq ys
   distinct_clones_of o C xs ys same k d =
       distinct_clones eq o (λ x y. Contains xs x × C x y) (λ x y w. same x y w.0 w.1) xs ys (clones_within C xs xs ys (λ x c. c) k) d

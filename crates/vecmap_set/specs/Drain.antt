@@ -1,4 +1,4 @@
--- What contracts see of a set's drain.
+-- What contracts see of the drain of a set.
 use Rattle.std.specs.Prelude.{◌≡◌, ℕ, List, Option, drop, take}
 use Rattle.std.specs.Borrow.{GName}
 use Rattle.std.specs.Vec.Iter.{reverse_if}
@@ -6,30 +6,30 @@ use Rattle.vecmap_base.specs.Drain.{DrainsFirst, DrainsLast}
 use Rattle.vecmap_set.specs.declared.drain.Drain.{Drain}
 
 module _ {T : Type 0} where
-  -- the elements that are still to come
+  -- The remaining elements of the drain.
   abbrev pub drain_rest : Drain T → List T
   drain_rest d = reverse_if d.reversed (drop d.keep d.set.now.elements)
 
-  -- the elements that the set has once the drain is dropped
+  -- The elements that the set has once the drain is dropped.
   abbrev pub drain_kept : Drain T → List T
   drain_kept d = take d.keep d.set.now.elements
 
-  -- the capacity that the set has then
+  -- The capacity that the set has once the drain is dropped.
   abbrev pub drain_capacity : Drain T → ℕ
   drain_capacity d = d.set.now.capacity
 
-  -- the ghost name of the reference to the set
+  -- The ghost name of the reference to the set.
   abbrev pub drain_lender : Drain T → GName
   drain_lender d = d.set.ghost_name
 
-  -- both borrow the same set, and leave it the same elements and the same capacity
+  -- Both drains borrow the same set, and leave it the same elements and the same capacity.
   abbrev pub DrainKeeps : Drain T → Drain T → Type 0
   DrainKeeps old new = (drain_lender new ≡ drain_lender old) × (drain_kept new ≡ drain_kept old) × (drain_capacity new ≡ drain_capacity old)
 
-  -- a pull from the front
+  -- A pull from the front.
   abbrev pub DrainNext : Drain T → Option T → Drain T → Type 0
   DrainNext = DrainsFirst drain_rest DrainKeeps
 
-  -- a pull from the back
+  -- A pull from the back.
   abbrev pub DrainNextBack : Drain T → Option T → Drain T → Type 0
   DrainNextBack = DrainsLast drain_rest DrainKeeps

@@ -1,4 +1,5 @@
--- What the lazy iterators over two lists of elements have left, and what their pulls give. `eq` is the elements' `==`.
+-- What the lazy iterators over two lists of elements have left, and what their pulls give. `eq` is the `==` of the
+-- elements.
 use Rattle.std.specs.Prelude.{◌≡◌, ℕ, ◌<◌, ◌^◌, Bool, List, ◌++◌, ◌⊎◌, MatchOption, None, Option, Some, SomeIff, filter, if◌then◌else◌, length, map, nat_lt, not, option_map}
 use Rattle.std.specs.Borrow.{Bor}
 use Rattle.std.specs.Iterator.{YieldsFirstRef, YieldsLastRef}
@@ -8,75 +9,75 @@ use Rattle.std.specs.Map.Iter.{TakesFirst, TakesLast, deref}
 use Rattle.vecmap_base.specs.Items.{has_item}
 use Rattle.vecmap_base.specs.Walks.{End, Pulls, PullsBy}
 
--- the elements that are not yet walked, and the list in which each of them is looked up
+-- The elements that are not yet visited, and the list in which each of them is looked up.
 pub record Sift (T : Type 0) : Type 0 where
   pub unwalked : List T
   pub other : List T
 
--- two parts, one after the other
+-- Two parts in order.
 pub record Parts (A B : Type 0) : Type 0 where
   pub first : A
   pub second : B
 
 module _ {T : Type 0} where
-  -- the shorter of two lists, the first where neither is shorter
+  -- The shorter of two lists, or the first if neither is shorter.
   abbrev pub shorter : List T → List T → List T
   shorter a b = if nat_lt (length b) (length a) then b else a
 
-  -- the one that is not `shorter`
+  -- The one that is not `shorter`.
   abbrev pub not_shorter : List T → List T → List T
   not_shorter a b = if nat_lt (length b) (length a) then a else b
 
-  -- the longer of two lists, the first where neither is longer
+  -- The longer of two lists, or the first if neither is longer.
   abbrev pub longer : List T → List T → List T
   longer a b = if nat_lt (length a) (length b) then b else a
 
-  -- the one that is not `longer`
+  -- The one that is not `longer`.
   abbrev pub not_longer : List T → List T → List T
   not_longer a b = if nat_lt (length a) (length b) then a else b
 
-  -- the elements of a, each to be looked up in b
+  -- The elements of a, each to be looked up in b.
   abbrev pub sift_of : List T → List T → Sift T
   sift_of a b = record { unwalked = a; other = b }
 
-  -- all of a, and then the elements of b, each to be looked up in a
+  -- All of a, and then the elements of b, each to be looked up in a.
   abbrev pub union_parts : List T → List T → Parts (List T) (Sift T)
   union_parts a b = record { first = a; second = sift_of b a }
 
-  -- the elements of the shorter list, each to be looked up in the other
+  -- The elements of the shorter list, each to be looked up in the other.
   abbrev pub sift_of_shorter : List T → List T → Sift T
   sift_of_shorter a b = sift_of (shorter a b) (not_shorter a b)
 
-  -- all of the longer list, and then the elements of the other, each to be looked up in the longer
+  -- All of the longer list, and then the elements of the other, each to be looked up in the longer.
   abbrev pub longer_first : List T → List T → Parts (List T) (Sift T)
   longer_first a b = union_parts (longer a b) (not_longer a b)
 
-  -- the elements of a, each to be looked up in b, and then those of b, each to be looked up in a
+  -- The elements of a, each to be looked up in b, and then those of b, each to be looked up in a.
   abbrev pub symmetric_parts : List T → List T → Parts (Sift T) (Sift T)
   symmetric_parts a b = record { first = sift_of a b; second = sift_of b a }
 
--- r is n, or none where n is above the greatest `usize`
+-- The bound r is n, or none if n is greater than `usize::MAX`.
 abbrev pub IsBound : Option ℕ → ℕ → Type 0
 IsBound r n = SomeIff r (n < 2 ^ 64) n
 
--- a pull asks one part, and the other where that one finds none
+-- A pull asks one part, and then the other if the first one finds nothing.
 abbrev pub AsksThen : {A B R : Type 0} → (A → Option R → A → Type 0) → (B → Option R → B → Type 0) → A → B → Option R → A → B → Type 0
 AsksThen one two a b r c d = MatchOption r (one a None c × two b None d) (λ x. (one a (Some x) c × (d ≡ b)) ⊎ (one a None c × two b (Some x) d))
 
 module _ {T : Type 0} (keeps : List T → T → Bool) where
-  -- the elements not yet walked that are kept
+  -- The elements that are not yet visited and are kept.
   abbrev pub sifted : Sift T → List T
   sifted s = filter (keeps s.other) s.unwalked
 
-  -- `next` at s gave r, the first element that is kept, and left t, without it and those passed before it
+  -- `next` at s gave r, the first element that is kept. It left t, without this element and those before it.
   abbrev pub SiftsFirst : Sift T → Option (Bor T) → Sift T → Type 0
   SiftsFirst s r t = YieldsFirstRef sifted s r t × (t ≡ record s { unwalked = after_first (keeps s.other) s.unwalked })
 
-  -- `next_back` at s gave r, the last element that is kept, and left t, without it and those passed after it
+  -- `next_back` at s gave r, the last element that is kept. It left t, without this element and those after it.
   abbrev pub SiftsLast : Sift T → Option (Bor T) → Sift T → Type 0
   SiftsLast s r t = YieldsLastRef sifted s r t × (t ≡ record s { unwalked = before_last (keeps s.other) s.unwalked })
 
-  -- each run of pulls gives what is left, from the front in order and from the back in reverse
+  -- Each run of pulls gives what is left, from the front in order and from the back in reverse.
   abbrev pub SiftsInOrder : Type 0
   SiftsInOrder = YieldsRefsInOrder SiftsFirst sifted
 
@@ -84,53 +85,54 @@ module _ {T : Type 0} (keeps : List T → T → Bool) where
   SiftsInReverse = YieldsRefsInReverse SiftsLast sifted
 
 module _ {T : Type 0} (eq : T → T → Bool) where
-  -- whether no element of s is equal to x
+  -- Whether no element of s is equal to x.
   abbrev pub lacks_item : List T → T → Bool
   lacks_item s x = not (has_item eq s x)
 
-  -- the elements of one list and then those of another that are not among them, as far as they are left
+  -- The elements of one list, and then those of another that are not among them, as far as they are left.
   abbrev pub joined : Parts (List T) (Sift T) → List T
   joined s = s.first ++ sifted lacks_item s.second
 
-  -- `next` at s gave r, and left t: it asks the first part, and then the second
+  -- `next` at s gave r, and left t. It asks the first part, and then the second.
   abbrev pub JoinsFirst : Parts (List T) (Sift T) → Option (Bor T) → Parts (List T) (Sift T) → Type 0
   JoinsFirst s r t = YieldsFirstRef joined s r t × AsksThen (TakesFirst deref) (SiftsFirst lacks_item) s.first s.second r t.first t.second
 
-  -- `next_back` at s gave r, and left t: it asks the second part, and then the first
+  -- `next_back` at s gave r, and left t. It asks the second part, and then the first.
   abbrev pub JoinsLast : Parts (List T) (Sift T) → Option (Bor T) → Parts (List T) (Sift T) → Type 0
   JoinsLast s r t = YieldsLastRef joined s r t × AsksThen (SiftsLast lacks_item) (TakesLast deref) s.second s.first r t.second t.first
 
-  -- each run of pulls gives what is left, from the front in order and from the back in reverse
+  -- Each run of pulls gives what is left, from the front in order and from the back in reverse.
   abbrev pub JoinsInOrder : Type 0
   JoinsInOrder = YieldsRefsInOrder JoinsFirst joined
 
   abbrev pub JoinsInReverse : Type 0
   JoinsInReverse = YieldsRefsInReverse JoinsLast joined
 
-  -- the elements of either list that are not in the other, as far as they are left
+  -- The elements of either list that are not in the other, as far as they are left.
   abbrev pub paired : Parts (Sift T) (Sift T) → List T
   paired s = sifted lacks_item s.first ++ sifted lacks_item s.second
 
-  -- `next` at s gave r, and left t: it asks the first part, and then the second
+  -- `next` at s gave r, and left t. It asks the first part, and then the second.
   abbrev pub PairsFirst : Parts (Sift T) (Sift T) → Option (Bor T) → Parts (Sift T) (Sift T) → Type 0
   PairsFirst s r t = YieldsFirstRef paired s r t × AsksThen (SiftsFirst lacks_item) (SiftsFirst lacks_item) s.first s.second r t.first t.second
 
-  -- `next_back` at s gave r, and left t: it asks the second part, and then the first
+  -- `next_back` at s gave r, and left t. It asks the second part, and then the first.
   abbrev pub PairsLast : Parts (Sift T) (Sift T) → Option (Bor T) → Parts (Sift T) (Sift T) → Type 0
   PairsLast s r t = YieldsLastRef paired s r t × AsksThen (SiftsLast lacks_item) (SiftsLast lacks_item) s.second s.first r t.second t.first
 
-  -- each run of pulls gives what is left, from the front in order and from the back in reverse
+  -- Each run of pulls gives what is left, from the front in order and from the back in reverse.
   abbrev pub PairsInOrder : Type 0
   PairsInOrder = YieldsRefsInOrder PairsFirst paired
 
   abbrev pub PairsInReverse : Type 0
   PairsInReverse = YieldsRefsInReverse PairsLast paired
 
-  -- the test of an element against the other list: whether it is there, or whether it is not
+  -- The test of an element against the other list: whether it is present in it, or whether it is not.
   abbrev pub presence : Bool → List T → T → Bool
   presence within = if within then has_item eq else lacks_item
 
 module _ {S T : Type 0} (rest : S → List T) (next next_back : S → Option (Bor T) → S → Type 0) where
-  -- any mixture of pulls that leads from s to t answers what pulls of the list left at s give, and leaves the one at t
+  -- Any mixture of pulls that leads from s to t gives what the same pulls of the list left at s give. It leaves the
+  -- list left at t.
   abbrev pub PullsAsList : Type 0
   PullsAsList = (s t : S) (ends : List End) (items : List (Option (Bor T))) → PullsBy next next_back s ends items t → Pulls (rest s) ends (map (option_map deref) items) (rest t)

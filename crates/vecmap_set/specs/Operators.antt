@@ -1,4 +1,4 @@
--- What the operators on two sets make. `eq` is the elements' `==`.
+-- What the operators on two sets create. `eq` is the `==` of the elements.
 use Rattle.std.specs.Prelude.{Bool, Contains, IfOk, IsTrue, List, ◌++◌, Option, Result, map}
 use Rattle.std.specs.Borrow.{Bor}
 use Rattle.std.specs.Iterator.{Drains}
@@ -10,32 +10,32 @@ use Rattle.vecmap_set.specs.Contents.{Contents}
 use Rattle.vecmap_set.specs.Lazy.{joined, longer_first, sift_of_shorter, sifted}
 
 module _ {T : Type 0} (eq : T → T → Bool) where
-  -- all of a, and then the elements of b that are not in a
+  -- All of a, and then the elements of b that are not in a.
   abbrev pub union_of : List T → List T → List T
   union_of a b = a ++ only eq b a
 
-  -- the elements of a that are not in b, and then those of b that are not in a
+  -- The elements of a that are not in b, and then those of b that are not in a.
   abbrev pub symmetric_difference_of : List T → List T → List T
   symmetric_difference_of a b = only eq a b ++ only eq b a
 
-  -- what the call `intersection` gives: the elements of the shorter list that are in the other
+  -- What the call `intersection` yields: the elements of the shorter list that are in the other.
   abbrev pub lazy_intersection : List T → List T → List T
   lazy_intersection a b = sifted (has_item eq) (sift_of_shorter a b)
 
-  -- what the call `union` gives: all of the longer list, and then the elements of the other that are not in it
+  -- What the call `union` yields: all of the longer list, and then the elements of the other that are not in it.
   abbrev pub lazy_union : List T → List T → List T
   lazy_union a b = joined eq (longer_first a b)
 
--- `list` is one of the lists above, as the elements' `==` makes it of the elements of two sets
+-- `list` is one of the lists above, computed with the `==` of the elements from the elements of two sets.
 module _ {T : Type 0} (eq : T → T → Bool) (is_clone : T → T → Type 0) (list : (T → T → Bool) → List T → List T → List T) where
-  -- a clone of an element of that list is equal to it
+  -- A clone of an element of that list is equal to it.
   abbrev pub ClonesStaySame : Contents T → Contents T → Type 0
   ClonesStaySame a b = (x y : T) → Contains (list eq a.elements b.elements) x → is_clone x y → IsTrue (eq x y)
 
-  -- where it is granted, the set has clones of that list, in its order, and no two of them are equal
+  -- On `Ok`, the set has clones of that list, in its order, and no two of them are equal.
   abbrev pub MakesClones : {E : Type 0} → Contents T → Contents T → Result (Contents T) E → Type 0
   MakesClones a b r = IfOk r (λ set. AreClones is_clone (list eq a.elements b.elements) set.elements × IsDistinct eq set.elements)
 
--- made has clones of all the items that an iterator in the state s lends
+-- The list made has clones of all the items that an iterator in the state s lends.
 abbrev pub DrainsIntoClones : {S T : Type 0} → (S → Option (Bor T) → S → Type 0) → (T → T → Type 0) → S → List T → Type 0
 DrainsIntoClones {T = T} steps is_clone s made = (items : List (Bor T)) × Drains steps s items × AreClones is_clone (map deref items) made

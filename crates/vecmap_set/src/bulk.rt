@@ -1,4 +1,4 @@
-//! Making a set of many elements, and adding many elements to one.
+//! Creation of a set from many elements, and addition of many elements.
 ghost use Rattle.std.specs.Prelude.{◌≡◌, ◌<◌, ◌≤◌, IfOk, IsOk, List, OnErr, OnOk, [], length, map};
 ghost use Rattle.std.specs.Iterator.{Drains, ExtendsWithItems, IsFiniteIterable};
 ghost use Rattle.std.specs.List.{IsDistinct};
@@ -13,10 +13,24 @@ use crate::VecSet;
 use std::alloc::{AllocError, Global};
 
 impl<T: Eq> VecSet<T> {
-    /// Adds the elements of an iterator, which must end, to an empty set, in their order. Refused, nothing is made.
+    /// Creates a set and adds the elements of an iterator, in order.
     ///
-    /// Each element takes one lookup among those before it, so n elements take at most n(n-1)/2 comparisons. No room is
-    /// made beforehand, as elements may be equal.
+    /// Of equal elements the first one stays, and the others are dropped. The call reserves no capacity in advance, as
+    /// elements may be equal.
+    ///
+    /// # Errors
+    ///
+    /// [`AllocError`] if the allocator refuses a request; no set is created.
+    ///
+    /// # Conditions
+    ///
+    /// The iterator ends.
+    ///
+    /// # Complexity
+    ///
+    /// One lookup for each element among those before it, so at most n(n-1)/2 comparisons for n elements.
+    ///
+    /// # Examples
     ///
     /// ```
     /// let set = VecSet::from_iter(alloc, [2, 1, 2])?;
@@ -29,7 +43,9 @@ impl<T: Eq> VecSet<T> {
     where
         T: Drop,
         requires ends { IsFiniteIterable I.into_iter_gives I.IntoIter.can_next I.IntoIter.remaining iter }
-        ensures elements { IfOk result (λ set. (it : I.IntoIter) × (items : List T) × I.into_iter_gives iter it × Drains I.IntoIter.next_gives it items × (set.elements ≡ adds T.eq [] items)) }
+        ensures elements { IfOk result (λ set. (it : I.IntoIter) × (items : List T)
+            × I.into_iter_gives iter it × Drains I.IntoIter.next_gives it items
+            × (set.elements ≡ adds T.eq [] items)) }
         ensures distinct { IfOk result (λ set. IsDistinct T.eq set.elements) }
     {
         let mut set = VecSet::new(alloc);
@@ -37,10 +53,20 @@ impl<T: Eq> VecSet<T> {
         Ok(set)
     }
 
-    /// Adds clones of the elements to an empty set, in their order. Refused, nothing is made.
+    /// Creates a set and adds clones of the elements, in order.
     ///
-    /// Each element takes one lookup, and no room is made beforehand, as in `from_iter`. In Rust it is the set's
-    /// `From<&[T]>`.
+    /// This is Rust's `From<&[T]>`. Of equal clones the first one stays. The call reserves no capacity in advance, like
+    /// [`VecSet::from_iter`].
+    ///
+    /// # Errors
+    ///
+    /// [`AllocError`] if the allocator refuses a request, or if the clone of an element is refused; no set is created.
+    ///
+    /// # Complexity
+    ///
+    /// One lookup for each element, so at most n(n-1)/2 comparisons for n elements.
+    ///
+    /// # Examples
     ///
     /// ```
     /// let set = VecSet::from_slice(alloc, &[2, 1, 2])?;
@@ -49,7 +75,8 @@ impl<T: Eq> VecSet<T> {
     pub fn from_slice(alloc: Global, items: &[T]) -> Result<VecSet<T>, AllocError>
     where
         T: Clone,
-        ensures elements { IfOk result (λ set. (clones : List T) × AreClones T.is_clone items.now clones × (set.elements ≡ adds T.eq [] clones)) }
+        ensures elements { IfOk result (λ set. (clones : List T)
+            × AreClones T.is_clone items.now clones × (set.elements ≡ adds T.eq [] clones)) }
         ensures distinct { IfOk result (λ set. IsDistinct T.eq set.elements) }
     {
         let mut set = VecSet::new(alloc);
@@ -59,10 +86,20 @@ impl<T: Eq> VecSet<T> {
         Ok(set)
     }
 
-    /// Adds the elements of `other`, in their order, and leaves `other` empty with its capacity.
+    /// Adds the elements of `other`, in order, and leaves `other` empty.
     ///
-    /// Room for all of them is made first. Refused at that, nothing has changed in either. Each element takes one lookup,
-    /// of at most as many comparisons as there are elements by then.
+    /// An existing element stays as it is, and an equal one of `other` is dropped. The call first reserves capacity for
+    /// all elements of `other`. The capacity of `other` stays.
+    ///
+    /// # Errors
+    ///
+    /// [`AllocError`] if the allocator refuses the request; both sets are then unchanged.
+    ///
+    /// # Complexity
+    ///
+    /// One lookup for each element of `other`, with at most as many comparisons as the set then has elements.
+    ///
+    /// # Examples
     ///
     /// ```
     /// let mut set = vecset!(alloc; 1, 2);
@@ -74,13 +111,15 @@ impl<T: Eq> VecSet<T> {
     pub fn append(&mut self, other: &mut VecSet<T>) -> Result<(), AllocError>
     where
         T: Drop,
-        ensures elements { OnOk result (self.new.elements ≡ adds T.eq self.old.elements other.old.elements) }
+        ensures elements { OnOk result (self.new.elements
+            ≡ adds T.eq self.old.elements other.old.elements) }
         ensures distinct { IsDistinct T.eq self.new.elements }
         ensures emptied { OnOk result (other.new ≡ with_elements other.old []) }
         ensures other_distinct { IsDistinct T.eq other.new.elements }
         ensures capacity { self.old.capacity ≤ self.new.capacity }
         ensures succeeds { HasRoom self.old (length other.old.elements) → IsOk result }
-        ensures stays { HasRoom self.old (length other.old.elements) → self.new.capacity ≡ self.old.capacity }
+        ensures stays { HasRoom self.old (length other.old.elements)
+            → self.new.capacity ≡ self.old.capacity }
         ensures some { OnErr result (0 < length other.old.elements) }
         ensures err { OnErr result (self.new ≡ self.old) }
         ensures other_err { OnErr result (other.new ≡ other.old) }
@@ -92,11 +131,25 @@ impl<T: Eq> VecSet<T> {
         Ok(())
     }
 
-    /// Adds the elements of an iterator, which must end, in their order. An equal element that is there stays.
+    /// Adds the elements of an iterator, in order.
     ///
-    /// Each element takes one lookup, of at most as many comparisons as there are elements by then. No room is made
-    /// beforehand, as elements may be there already. Refused at an element, those before it stay, and that element is
-    /// dropped with the iterator. In Rust it is the set's `Extend<T>`.
+    /// This is Rust's `Extend<T>`. An existing element stays as it is, and an equal one of the iterator is dropped. The
+    /// call reserves no capacity in advance, as some elements may be present already.
+    ///
+    /// # Errors
+    ///
+    /// [`AllocError`] if the allocator refuses a request. If it refuses to grow the set for an element, the elements
+    /// before it stay, and that element is dropped with the iterator.
+    ///
+    /// # Conditions
+    ///
+    /// The iterator ends.
+    ///
+    /// # Complexity
+    ///
+    /// One lookup for each element, with at most as many comparisons as the set then has elements.
+    ///
+    /// # Examples
     ///
     /// ```
     /// let mut set = vecset!(alloc; 1, 2);
@@ -107,16 +160,20 @@ impl<T: Eq> VecSet<T> {
     where
         T: Drop,
         requires ends { IsFiniteIterable I.into_iter_gives I.IntoIter.can_next I.IntoIter.remaining iter }
-        ensures ran { ExtendsWithItems I.into_iter_gives I.IntoIter.next_gives (Adds T.eq) iter self.old self.new result }
+        ensures ran { ExtendsWithItems I.into_iter_gives I.IntoIter.next_gives
+            (Adds T.eq) iter self.old self.new result }
         ensures distinct { IsDistinct T.eq self.new.elements }
         ensures capacity { self.old.capacity ≤ self.new.capacity }
-        ensures succeeds { HasRoomForAll I.into_iter_gives I.IntoIter.remaining iter (length self.old.elements) self.old.capacity → IsOk result }
-        ensures stays { HasRoomForAll I.into_iter_gives I.IntoIter.remaining iter (length self.old.elements) self.old.capacity → self.new.capacity ≡ self.old.capacity }
+        ensures succeeds { HasRoomForAll I.into_iter_gives I.IntoIter.remaining iter
+            (length self.old.elements) self.old.capacity → IsOk result }
+        ensures stays { HasRoomForAll I.into_iter_gives I.IntoIter.remaining iter
+            (length self.old.elements) self.old.capacity → self.new.capacity ≡ self.old.capacity }
 
-        // It is refused at a new element, where the set is full.
-        ensures err { OnErr result (StopsAt I.into_iter_gives I.IntoIter.next_gives iter (λ items next. RefusesAfter T.eq self.old items next self.new)) }
+        // On `Err` a new element was refused, in a full set.
+        ensures err { OnErr result (StopsAt I.into_iter_gives I.IntoIter.next_gives iter
+            (λ items next. RefusesAfter T.eq self.old items next self.new)) }
     {
-        // A proof knows of the invariant where a field is used: the loop needs it at its start.
+        // A proof knows the invariant only once a field is used, and the loop needs it at its start.
         let _ = &self.items;
         for item in iter {
             self.insert(item)?;
@@ -124,9 +181,20 @@ impl<T: Eq> VecSet<T> {
         Ok(())
     }
 
-    /// As `extend`, with copies of the elements that the iterator lends.
+    /// Like [`VecSet::extend`], with the same cost, but adds copies of the elements that the iterator lends.
     ///
-    /// In Rust it is the set's `Extend<&T>`.
+    /// This is Rust's `Extend<&T>`.
+    ///
+    /// # Errors
+    ///
+    /// [`AllocError`] if the allocator refuses a request. If it refuses to grow the set for an element, the copies of
+    /// the elements before it stay.
+    ///
+    /// # Conditions
+    ///
+    /// The iterator ends.
+    ///
+    /// # Examples
     ///
     /// ```
     /// let mut set = vecset!(alloc; 1, 2);
@@ -140,14 +208,18 @@ impl<T: Eq> VecSet<T> {
     where
         T: Copy + 'a,
         requires ends { IsFiniteIterable I.into_iter_gives I.IntoIter.can_next I.IntoIter.remaining iter }
-        ensures ran { ExtendsWithItems I.into_iter_gives I.IntoIter.next_gives (λ old items new. Adds T.eq old (map deref items) new) iter self.old self.new result }
+        ensures ran { ExtendsWithItems I.into_iter_gives I.IntoIter.next_gives
+            (λ old items new. Adds T.eq old (map deref items) new) iter self.old self.new result }
         ensures distinct { IsDistinct T.eq self.new.elements }
         ensures capacity { self.old.capacity ≤ self.new.capacity }
-        ensures succeeds { HasRoomForAll I.into_iter_gives I.IntoIter.remaining iter (length self.old.elements) self.old.capacity → IsOk result }
-        ensures stays { HasRoomForAll I.into_iter_gives I.IntoIter.remaining iter (length self.old.elements) self.old.capacity → self.new.capacity ≡ self.old.capacity }
+        ensures succeeds { HasRoomForAll I.into_iter_gives I.IntoIter.remaining iter
+            (length self.old.elements) self.old.capacity → IsOk result }
+        ensures stays { HasRoomForAll I.into_iter_gives I.IntoIter.remaining iter
+            (length self.old.elements) self.old.capacity → self.new.capacity ≡ self.old.capacity }
 
-        // It is refused at a new element, where the set is full.
-        ensures err { OnErr result (StopsAt I.into_iter_gives I.IntoIter.next_gives iter (λ items next. RefusesAfter T.eq self.old (map deref items) (deref next) self.new)) }
+        // On `Err` a new element was refused, in a full set.
+        ensures err { OnErr result (StopsAt I.into_iter_gives I.IntoIter.next_gives iter
+            (λ items next. RefusesAfter T.eq self.old (map deref items) (deref next) self.new)) }
     {
         // As in `extend`.
         let _ = &self.items;
@@ -158,7 +230,9 @@ impl<T: Eq> VecSet<T> {
     }
 }
 
-/// Adds the elements to an empty set, in their order, as the inherent `from_iter` does.
+/// Creates a set and adds the elements of an iterator, in order, like the inherent [`VecSet::from_iter`].
+///
+/// # Examples
 ///
 /// ```
 /// let set: VecSet<u32> = [2, 1, 2].into_iter().collect(alloc)?;

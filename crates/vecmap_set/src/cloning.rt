@@ -6,19 +6,20 @@ use crate::VecSet;
 use std::alloc::AllocError;
 use vecmap_base::items_distinct;
 
-/// Clones a set, element by element and in order, and checks that no two clones are equal.
+/// Clones a set element by element, in order, and checks that no two clones are equal.
 ///
 /// The trait `Clone` of the elements does not say that a clone is equal to its original, so this call checks it. The
-/// inherent `clone` takes it as a condition of its caller and compares nothing.
+/// inherent [`VecSet::clone`] has it as a condition, and compares nothing.
 ///
 /// # Errors
 ///
-/// If memory is refused, the clone of an element is, or two clones are equal, nothing is made and the set is as it was.
+/// [`AllocError`] if the allocator refuses the request, if the clone of an element is refused, or if two clones are
+/// equal; the set is then unchanged.
 ///
 /// # Complexity
 ///
-/// One clone of each element, one block of memory, and one comparison of each element with its clone. If one differs,
-/// the clones are compared with each other: n(n-1)/2 comparisons more at most.
+/// One clone of each element, one allocation for the elements, and one comparison of each element with its clone. If
+/// one differs, the clones are compared with each other: at most n(n-1)/2 comparisons more.
 ///
 /// # Examples
 ///
@@ -42,7 +43,7 @@ impl<T: Eq + Clone> Clone for VecSet<T> {
     }
 }
 
-// Whether no two clones are equal. Where each is equal to its original, they need not be compared with each other.
+// Whether no two clones are equal. If each clone is equal to its original, they need not be compared with each other.
 fn stay_distinct<T: Eq>(items: &[T], clones: &[T]) -> bool
     requires { IsDistinct T.eq items.now }
     ensures { IsTrue result ↔ IsDistinct T.eq clones.now }

@@ -1,4 +1,4 @@
-//! Sets made of a vector, in that vector, and vectors of clones of the elements of a set.
+//! Conversions of a vector into a set, which keep the vector, and clones of the elements in a new vector.
 ghost use Rattle.std.specs.Prelude.{◌≡◌, IfOk, [], vec_capacity};
 ghost use Rattle.std.specs.List.{IsDistinct};
 ghost use Rattle.vecmap_base.specs.Clones.{AreClones};
@@ -9,9 +9,15 @@ use crate::VecSet;
 use std::alloc::AllocError;
 use vecmap_base::{Steps, dedup_keep_first};
 
-/// Adds the elements in turn, in the vector that they stand in: the first of equal ones stays, in its place.
+/// Adds the elements of a vector in order, and keeps them in that vector.
 ///
-/// It makes as many comparisons as `from_vec_counted`, takes no memory and keeps the capacity.
+/// Of equal elements the first one stays, and the others are dropped. The capacity stays.
+///
+/// # Complexity
+///
+/// As many comparisons as [`VecSet::from_vec_counted`]. Does not allocate.
+///
+/// # Examples
 ///
 /// ```
 /// let set = VecSet::from(vec![in alloc; 2, 1, 2]?);
@@ -27,10 +33,14 @@ impl<T: Eq + Drop> From<Vec<T>> for VecSet<T> {
 }
 
 impl<T: Eq> VecSet<T> {
-    /// As `From<Vec>`, and answers the number of comparisons that it took.
+    /// Like `From<Vec<T>>`, with the same cost, but also returns the number of comparisons.
     ///
-    /// Each element is compared with those before it that stay, up to the first equal one: at most n(n-1)/2 comparisons
-    /// for n elements, and exactly as many where no two are equal (`laws::comparisons_are_bounded`).
+    /// # Complexity
+    ///
+    /// Each element is compared with the elements before it that stay, up to the first equal one. These are at most
+    /// n(n-1)/2 comparisons for n elements, and exactly as many if no two are equal (`laws::comparisons_are_bounded`).
+    ///
+    /// # Examples
     ///
     /// ```
     /// let (set, comparisons) = VecSet::from_vec_counted(vec![in alloc; 2, 1, 2]?);
@@ -50,9 +60,17 @@ impl<T: Eq> VecSet<T> {
         (VecSet { items }, steps.count())
     }
 
-    /// The elements as they are, in the vector that they stand in. No two may be equal: `items_distinct` tells.
+    /// Creates a set of the elements as they are, in the vector that holds them.
     ///
-    /// It compares nothing and takes no memory.
+    /// # Conditions
+    ///
+    /// No two elements are equal: `items_distinct` returns `true`.
+    ///
+    /// # Complexity
+    ///
+    /// No comparisons. Does not allocate.
+    ///
+    /// # Examples
     ///
     /// ```
     /// let items = vec![in alloc; 2, 1]?;
@@ -68,7 +86,18 @@ impl<T: Eq> VecSet<T> {
         VecSet { items }
     }
 
-    /// Clones of the elements, in their order: each is cloned once. Refused, nothing is made.
+    /// Returns a vector of clones of the elements, in order.
+    ///
+    /// # Errors
+    ///
+    /// [`AllocError`] if the allocator refuses the request, or if the clone of an element is refused; no vector is
+    /// created.
+    ///
+    /// # Complexity
+    ///
+    /// One clone of each element, one allocation for the elements, and no comparisons.
+    ///
+    /// # Examples
     ///
     /// ```
     /// let set = vecset!(alloc; 2, 1);

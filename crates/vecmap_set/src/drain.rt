@@ -1,6 +1,6 @@
-//! The drain of a set: the elements of a range, which leave it.
+//! The iterator that removes a range of elements from a set.
 //!
-//! It holds the set and no vector, so that no two elements of the set are equal at any moment.
+//! It holds a reference to the set and no vector, so no two elements of the set are equal at any moment.
 ghost use Rattle.std.specs.Prelude.{◌≡◌, ◌<◌, ◌≤◌, ◌^◌, IfSome, Some, length, slice_range};
 ghost use Rattle.std.specs.Iterator.{UpTo, at_most};
 ghost use Rattle.std.specs.Iterator.Runs.{YieldsInOrder, YieldsInReverse};
@@ -13,15 +13,19 @@ ghost use Rattle.vecmap_set.specs.Drain.{DrainKeeps, DrainNext, DrainNextBack, d
 use crate::VecSet;
 use std::fmt;
 
-/// The elements of a range of a set, which leave it. `VecSet::drain` makes it.
+/// An iterator over the elements of a range of a set, which it removes. [`VecSet::drain`] creates it.
 ///
-/// Dropped, at whatever point, it leaves the set without the whole range: what was not pulled is dropped, and the
-/// others keep their order. Once all has come, each pull answers `None`. No two elements of the set are equal at any
-/// moment, so that a drain that is forgotten leaves a set too.
+/// When it is dropped, at any point, it leaves the set without the whole range. The elements that were not taken are
+/// dropped, and the other elements of the set keep their order. After the last element, each call of `next` returns
+/// `None`. No two elements of the set are equal at any moment, so even a drain that is forgotten leaves a set.
 ///
-/// A pull from the same end as the last one takes constant time, and so does the first one from the front. A pull from
-/// the other end first turns the elements that are still to come round, in a number of moves that is linear in theirs.
-/// No call takes memory.
+/// # Complexity
+///
+/// Constant time for each element that is taken from the same end as the one before, and for the first one from the
+/// front. An element from the other end takes a number of moves that is linear in the number of remaining elements, as
+/// they are first reversed. No call allocates.
+///
+/// # Examples
 ///
 /// ```
 /// let mut set = vecset!(alloc; 1, 2, 3);
@@ -32,17 +36,25 @@ use std::fmt;
 /// set.as_slice() // [1]
 /// ```
 pub struct Drain<'a, T: Eq> {
-    // The elements that stay come first. Those still to come stand behind them, last first where `reversed`, so that a
-    // pull takes the last element of the set.
+    // The first `keep` elements of the set stay. The remaining elements of the drain follow them, in reverse order if
+    // `reversed`. So each pull takes the last element of the set.
     set: &'a mut VecSet<T>,
     keep: usize,
     reversed: bool,
 }
 
 impl<'a, T: Eq + Drop> Drain<'a, T> {
-    /// The elements from `start` up to, but not including, `end`.
+    /// Creates the drain of the elements from the index `start` up to, but not including, `end`.
     ///
-    /// It takes a number of moves that is linear in the number of elements from `start` on.
+    /// # Conditions
+    ///
+    /// `start` is at most `end`, and `end` is at most the number of elements.
+    ///
+    /// # Complexity
+    ///
+    /// A number of moves that is linear in the number of elements from `start` on.
+    ///
+    /// # Examples
     ///
     /// ```
     /// let mut set = vecset!(alloc; 1, 2, 3);
@@ -56,7 +68,7 @@ impl<'a, T: Eq + Drop> Drain<'a, T> {
         ensures runs { YieldsInOrder (DrainNext {T = T}) drain_rest }
         ensures runs_back { YieldsInReverse (DrainNextBack {T = T}) drain_rest }
 
-        // Once it is dropped, after any pulls, the set has the others and its capacity.
+        // Once the drain is dropped, after any number of pulls, the set has the other elements and its old capacity.
         ensures kept { drain_kept result ≡ remove_range set.old.elements start end }
         ensures capacity { drain_capacity result ≡ set.old.capacity }
         ensures same_set { drain_lender result ≡ set.entry.ghost_name }
@@ -73,7 +85,7 @@ impl<'a, T: Eq + Drop> Drain<'a, T> {
 }
 
 impl<'a, T: Eq> Drain<'a, T> {
-    // Turns what is still to come round, where it lies the other way.
+    // Reverses the remaining elements if their order is not the wanted one.
     fn lay(&mut self, reversed: bool)
         requires { self.old.keep ≤ length self.old.set.now.elements }
         ensures laid { self.new.reversed ≡ reversed }
@@ -119,11 +131,12 @@ impl<'a, T: Eq + Drop> Iterator for Drain<'a, T> {
         Some(self.set.take_last())
     }
 
-    /// The number of elements still to come, as both ends.
+    /// Returns the number of remaining elements, as both bounds.
     fn size_hint(&self) -> (usize, Option<usize>)
         ensures lower { IsWithinCount result.0 (at_most (length (drain_rest self.now))) }
         ensures upper { IfSome result.1 (UpTo (at_most (length (drain_rest self.now)))) }
-        ensures exact { result ≡ (length (drain_rest self.now), Some (length (drain_rest self.now))) }
+        ensures exact { result
+            ≡ (length (drain_rest self.now), Some (length (drain_rest self.now))) }
     {
         let len = self.len();
         (len, Some(len))
@@ -143,13 +156,13 @@ impl<'a, T: Eq + Drop> DoubleEndedIterator for Drain<'a, T> {
 }
 
 impl<'a, T: Eq + Drop> ExactSizeIterator for Drain<'a, T> {
-    /// The number of elements still to come.
+    /// Returns the number of remaining elements.
     fn len(&self) -> usize {
         self.set.len().saturating_sub(self.keep)
     }
 }
 
-/// Prints the elements still to come, in order, as std prints a list.
+/// Prints the remaining elements in order, as std prints lists.
 impl<'a, T: Eq + fmt::Debug> fmt::Debug for Drain<'a, T> {
     fn fmt<W: fmt::Write>(&self, f: &mut fmt::Formatter<W>) -> fmt::Result {
         let rest = self.set.as_slice().iter().skip(self.keep);

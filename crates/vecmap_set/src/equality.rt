@@ -1,4 +1,4 @@
-//! Equality of sets, and one set within another.
+//! Equality of sets, disjoint sets, subsets and supersets.
 ghost use Rattle.std.specs.Prelude.{◌≡◌, ◌↔◌, IsTrue, []};
 ghost use Rattle.vecmap_base.specs.Equality.{is_within};
 ghost use Rattle.vecmap_base.specs.Items.{both};
@@ -7,8 +7,14 @@ use crate::VecSet;
 use vecmap_base::{are_apart, are_within};
 
 impl<T: Eq> VecSet<T> {
-    /// Whether no element is in both sets. It looks up the elements of the shorter side in the other, up to the first
-    /// that is found: at most as many comparisons as the product of the lengths.
+    /// Returns whether the sets have no element in common.
+    ///
+    /// # Complexity
+    ///
+    /// At most as many comparisons as the product of the lengths. The elements of the shorter set are looked up in the
+    /// other, up to the first one that is found.
+    ///
+    /// # Examples
     ///
     /// ```
     /// let set = vecset!(alloc; 1, 2);
@@ -24,8 +30,14 @@ impl<T: Eq> VecSet<T> {
         }
     }
 
-    /// Whether each element is in `other`. A longer set is no subset, which takes no comparison. Else it looks up each
-    /// element in `other`, up to the first that is not found: at most as many comparisons as the product of the lengths.
+    /// Returns whether each element is in `other`.
+    ///
+    /// # Complexity
+    ///
+    /// No comparisons if this set is longer. Otherwise at most as many as the product of the lengths: each element is
+    /// looked up in `other`, up to the first one that is not found.
+    ///
+    /// # Examples
     ///
     /// ```
     /// let set = vecset!(alloc; 1, 2);
@@ -41,8 +53,13 @@ impl<T: Eq> VecSet<T> {
         are_within(items, others)
     }
 
-    /// Whether each element of `other` is in the set. A shorter set is no superset, which takes no comparison. Else it
-    /// makes as many as `other.is_subset(self)`.
+    /// Returns whether each element of `other` is in this set.
+    ///
+    /// # Complexity
+    ///
+    /// No comparisons if this set is shorter. Otherwise as many as `other.is_subset(self)`.
+    ///
+    /// # Examples
     ///
     /// ```
     /// let set = vecset!(alloc; 1, 2);
@@ -55,10 +72,14 @@ impl<T: Eq> VecSet<T> {
     }
 }
 
-/// Each element of either set is in the other; the order makes no difference.
+/// Two sets are equal if each element of either set is in the other. The order makes no difference.
 ///
-/// Where the lengths differ it is false, with no comparison. Else only the elements of the first set are looked up, up to
-/// the first that is not found: at most as many comparisons as the product of the lengths.
+/// # Complexity
+///
+/// No comparisons if the lengths differ. Otherwise at most as many as the product of the lengths: the elements of the
+/// first set are looked up in the other, up to the first one that is not found.
+///
+/// # Examples
 ///
 /// ```
 /// let set = vecset!(alloc; 1, 2);

@@ -1,6 +1,7 @@
 //! The trait `Extend` of a set, for generic code, `try_collect` and `partition`.
 //!
-//! Each form is the inherent call that it names, whose clauses say more: what a refusal leaves, and where none comes.
+//! Each impl calls the inherent function that it names. The contract of that function says more: what a refusal leaves,
+//! and when no call is refused.
 ghost use Rattle.std.specs.List.{IsDistinct};
 ghost use Rattle.std.specs.Map.Iter.{deref};
 ghost use Rattle.std.specs.Prelude.{◌≤◌, map};
@@ -9,11 +10,11 @@ ghost use Rattle.vecmap_set.specs.SetBulk.{Adds};
 use crate::VecSet;
 use std::alloc::AllocError;
 
-/// Adds the elements of an iterator in order, as the inherent `extend` does.
+/// Adds the elements of an iterator in order, like the inherent [`VecSet::extend`].
 ///
 /// # Errors
 ///
-/// If memory is refused, the elements before the refused one are in the set.
+/// [`AllocError`] if the allocator refuses a request; the elements before the refused one are then in the set.
 ///
 /// # Examples
 ///
@@ -31,11 +32,12 @@ impl<T: Eq + Drop> Extend<T> for VecSet<T> {
     }
 }
 
-/// Adds copies of the elements that an iterator lends, in order, as the inherent `extend_copied` does.
+/// Adds copies of the elements that an iterator lends, in order, like the inherent [`VecSet::extend_copied`].
 ///
 /// # Errors
 ///
-/// If memory is refused, copies of the elements before the refused one are in the set.
+/// [`AllocError`] if the allocator refuses a request; copies of the elements before the refused one are then in the
+/// set.
 ///
 /// # Examples
 ///

@@ -1,8 +1,10 @@
-//! Printing.
+//! The trait `Debug` of a set.
 use crate::VecSet;
 use std::fmt;
 
-/// Prints as std prints a set: `{element, ..}`, in the order of the elements.
+/// Prints the set as std prints sets: `{element, ..}`, in the order of the elements.
+///
+/// # Examples
 ///
 /// ```
 /// let set = vecset!(alloc; 2, 1);

@@ -1,10 +1,20 @@
-//! `set[index]`: the element at a place.
+//! `set[index]`: the element at an index.
 ghost use Rattle.std.specs.Prelude.{◌≡◌, ◌<◌, Some, length, slice_get};
 
 use crate::VecSet;
 use std::ops::Index;
 
-/// The element at a place, which must be below the number of elements: `len` tells. It takes no comparison.
+/// Returns the element at `index`. This is `set[index]`.
+///
+/// # Conditions
+///
+/// The index is less than [`VecSet::len`].
+///
+/// # Complexity
+///
+/// No comparisons.
+///
+/// # Examples
 ///
 /// ```
 /// let set = vecset!(alloc; 2, 1);

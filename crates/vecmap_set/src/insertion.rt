@@ -9,12 +9,22 @@ use std::mem;
 use vecmap_base::{Refused, find_item};
 
 impl<T: Eq> VecSet<T> {
-    /// Adds an element, and answers whether it is new.
+    /// Inserts an element and returns whether it is new.
     ///
-    /// An equal element that is there stays, in its place; `item` is dropped and nothing changes. A new element goes
-    /// last. Memory is needed for a new element where there is no room. Refused, the element comes back and nothing has
-    /// changed. It takes one lookup, of at most as many comparisons as there are elements; where memory is taken, all
-    /// elements may move.
+    /// An equal element that is present stays as it is, at its index; `item` is dropped and nothing changes. A new
+    /// element is appended.
+    ///
+    /// # Errors
+    ///
+    /// [`Refused`] returns the element if the set is full and the allocator refuses to grow it; the set is then
+    /// unchanged.
+    ///
+    /// # Complexity
+    ///
+    /// At most `len` comparisons. Allocates only for a new element in a full set, and moves elements only if the vector
+    /// grows.
+    ///
+    /// # Examples
     ///
     /// ```
     /// let mut set = vecset!(alloc; 1, 2);
@@ -33,7 +43,7 @@ impl<T: Eq> VecSet<T> {
         ensures unchanged { IsTrue (has_item T.eq self.old.elements item) → self.new ≡ self.old }
         ensures room { KeepsRoom T.eq self.old item self.new }
 
-        // Refused, the element comes back. Only a new one is refused, and only where the set is full.
+        // On `Err` the element is returned. Only a new element can be refused, and only if the set is full.
         ensures given { IfErr result (λ refused. refused.given ≡ item) }
         ensures err { OnErr result (Refuses T.eq self.old item self.new) }
     {
@@ -44,12 +54,22 @@ impl<T: Eq> VecSet<T> {
         Ok(true)
     }
 
-    /// Adds an element and takes it in, and answers the old one.
+    /// Inserts an element, and returns the equal element that it replaces, if there is one.
     ///
-    /// Where an equal element is there, `item` takes its place; `insert` would keep the old one. A new element goes last.
-    /// Memory is needed for a new element where there is no room. Refused, the element comes back and nothing has
-    /// changed. It takes one lookup, of at most as many comparisons as there are elements; where memory is taken, all
-    /// elements may move.
+    /// If an equal element is present, `item` replaces it at its index; [`VecSet::insert`] would keep the old one. A
+    /// new element is appended.
+    ///
+    /// # Errors
+    ///
+    /// [`Refused`] returns the element if the set is full and the allocator refuses to grow it; the set is then
+    /// unchanged.
+    ///
+    /// # Complexity
+    ///
+    /// At most `len` comparisons. Allocates only for a new element in a full set, and moves elements only if the vector
+    /// grows.
+    ///
+    /// # Examples
     ///
     /// ```
     /// let mut set = vecset!(alloc; 1, 2);
@@ -64,7 +84,7 @@ impl<T: Eq> VecSet<T> {
         ensures distinct { IsDistinct T.eq self.new.elements }
         ensures room { KeepsRoom T.eq self.old item self.new }
 
-        // Refused, the element comes back. Only a new one is refused, and only where the set is full.
+        // On `Err` the element is returned. Only a new element can be refused, and only if the set is full.
         ensures given { IfErr result (λ refused. refused.given ≡ item) }
         ensures err { OnErr result (Refuses T.eq self.old item self.new) }
     {
@@ -75,7 +95,7 @@ impl<T: Eq> VecSet<T> {
         Ok(None)
     }
 
-    // Adds a new element last.
+    // Appends a new element.
     fn push(&mut self, item: T) -> Result<(), Refused<T>>
         requires absent { has_item T.eq self.old.elements item ≡ false }
         ensures elements { OnOk result (self.new.elements ≡ self.old.elements ++ item ∷ []) }

@@ -1,7 +1,7 @@
 //! Iterators over the elements.
 //!
-//! A contract sees an iterator as the list of what it has left. Each is exact, gives from both ends, and stays ended;
-//! making one takes constant time and no memory.
+//! A contract sees an iterator as the list of its remaining items. Each iterator knows its exact length and gives items
+//! from both ends. After its last item it returns only `None`. Creating one takes constant time and does not allocate.
 ghost use Rattle.std.specs.Prelude.{◌≡◌, ◌<◌, ◌^◌, length};
 ghost use Rattle.std.specs.List.{IsDistinct};
 ghost use Rattle.std.specs.Map.Iter.{ShowsInOrder, ShowsInReverse, deref};
@@ -11,7 +11,13 @@ use crate::VecSet;
 use vecmap_base::items::{IntoIter, Iter};
 
 impl<T: Eq> VecSet<T> {
-    /// The elements, in their order, no two of them equal. It takes constant time and no memory.
+    /// Returns an iterator over the elements, in order. No two of them are equal.
+    ///
+    /// # Complexity
+    ///
+    /// Constant time. Does not allocate.
+    ///
+    /// # Examples
     ///
     /// ```
     /// let set = vecset!(alloc; 2, 1);
@@ -29,7 +35,9 @@ impl<T: Eq> VecSet<T> {
     }
 }
 
-/// `for element in &set`, as `iter`.
+/// Returns an iterator over the elements, like [`VecSet::iter`]. This is `for element in &set`.
+///
+/// # Examples
 ///
 /// ```
 /// let set = vecset!(alloc; 2, 1);
@@ -51,7 +59,9 @@ impl<'a, T: Eq> IntoIterator for &'a VecSet<T> {
     }
 }
 
-/// `for element in set`: the elements, by value, in their order.
+/// Returns an iterator over the elements by value, in order. This is `for element in set`.
+///
+/// # Examples
 ///
 /// ```
 /// let set = vecset!(alloc; 2, 1);

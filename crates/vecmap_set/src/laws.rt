@@ -1,4 +1,4 @@
-//! Laws of the definitions that the contracts cite. A call of one costs nothing, and gives a proof the law.
+//! Laws of the definitions that contracts use. A call of a law costs nothing at run time, and gives the law to a proof.
 ghost use Rattle.std.specs.Prelude.{◌≡◌, ◌≢◌, ◌↔◌, ◌<◌, ◌≤◌, IsTrue, List, Option, ℕ, [], drop, false, length, take};
 ghost use Rattle.std.specs.List.{IsDistinct};
 ghost use Rattle.std.specs.List.Sorted.{IsPermutation};
@@ -33,7 +33,8 @@ pub use vecmap_base::laws::{comparisons_are_bounded, iterators_pull_as_lists};
 pub fn equality_is_an_equivalence<T: Eq>()
     ensures reflexive { (a : List T) → IsTrue (has_same_items T.eq a a) }
     ensures symmetric { (a b : List T) → has_same_items T.eq a b ≡ has_same_items T.eq b a }
-    ensures transitive { (a b c : List T) → IsTrue (has_same_items T.eq a b) → IsTrue (has_same_items T.eq b c) → IsTrue (has_same_items T.eq a c) }
+    ensures transitive { (a b c : List T) → IsTrue (has_same_items T.eq a b)
+        → IsTrue (has_same_items T.eq b c) → IsTrue (has_same_items T.eq a c) }
 {}
 
 /// Sets of the same elements in another order are equal.
@@ -41,34 +42,43 @@ pub fn equality_ignores_order<T: Eq>()
     ensures { (a b : List T) → IsPermutation a b → IsTrue (has_same_items T.eq a b) }
 {}
 
-/// Two sets are equal exactly when each is a subset of the other.
+/// Two sets are equal exactly if each is a subset of the other.
 pub fn equality_is_inclusion_both_ways<T: Eq>()
-    ensures { (a b : List T) → IsTrue (has_same_items T.eq a b) ↔ (IsTrue (is_within T.eq a b) × IsTrue (is_within T.eq b a)) }
+    ensures { (a b : List T)
+        → IsTrue (has_same_items T.eq a b)
+        ↔ (IsTrue (is_within T.eq a b) × IsTrue (is_within T.eq b a)) }
 {}
 
-/// Sets of unequal lengths differ, a longer set is no subset, and of sets of one length a subset is equal.
+/// Sets of different lengths are not equal, and a longer set is no subset. A subset of the same length is equal.
 pub fn lengths_tell_of_inclusion<T: Eq>()
-    ensures unequal { (a b : List T) → IsDistinct T.eq a → IsDistinct T.eq b → length a ≢ length b → has_same_items T.eq a b ≡ false }
-    ensures longer { (a b : List T) → IsDistinct T.eq a → length b < length a → is_within T.eq a b ≡ false }
-    ensures equal { (a b : List T) → IsDistinct T.eq a → length a ≡ length b → has_same_items T.eq a b ≡ is_within T.eq a b }
+    ensures unequal { (a b : List T) → IsDistinct T.eq a → IsDistinct T.eq b → length a ≢ length b
+        → has_same_items T.eq a b ≡ false }
+    ensures longer { (a b : List T) → IsDistinct T.eq a → length b < length a
+        → is_within T.eq a b ≡ false }
+    ensures equal { (a b : List T) → IsDistinct T.eq a → length a ≡ length b
+        → has_same_items T.eq a b ≡ is_within T.eq a b }
 {}
 
-/// Whether two sets share nothing is the same from either side.
+/// Whether two sets are disjoint is the same from either side.
 pub fn disjointness_is_symmetric<T: Eq>()
     ensures { (a b : List T) → (both T.eq a b ≡ []) ↔ (both T.eq b a ≡ []) }
 {}
 
-/// A list of a set that is split is whole again once the part that went is appended.
+/// A list of a set that is split is whole again once the second part is appended to the first.
 pub fn appending_undoes_splitting<T: Eq>()
     ensures { (l : List T) → IsDistinct T.eq l → (at : ℕ) → adds T.eq (take at l) (drop at l) ≡ l }
 {}
 
-/// Any mixture of pulls from both ends of a drain answers what its range's list gives: each element once, from the front
-/// in order, from the back in reverse, and then none. What the set has once the drain is dropped stays: the elements
-/// outside of the range, and the capacity.
+/// Any mixture of pulls from both ends of a drain returns the same as pulls from the list of its range.
+///
+/// Each element comes once: in order from the front, in reverse order from the back. Then each pull returns `None`.
+/// What the set has once the drain is dropped stays: the elements outside of the range, and the capacity.
 pub fn drains_pull_as_lists<T: Eq>()
-    ensures pulls { (s t : Drain T) (ends : List End) (items : List (Option T)) → PullsBy DrainNext DrainNextBack s ends items t → Pulls (drain_rest s) ends items (drain_rest t) }
-    ensures keeps { (s t : Drain T) (ends : List End) (items : List (Option T)) → PullsBy DrainNext DrainNextBack s ends items t → DrainKeeps s t }
+    ensures pulls { (s t : Drain T) (ends : List End) (items : List (Option T))
+        → PullsBy DrainNext DrainNextBack s ends items t
+        → Pulls (drain_rest s) ends items (drain_rest t) }
+    ensures keeps { (s t : Drain T) (ends : List End) (items : List (Option T))
+        → PullsBy DrainNext DrainNextBack s ends items t → DrainKeeps s t }
 {}
 
 /// A set never has more elements than its capacity.

@@ -1,6 +1,6 @@
-//! Iterators over what two sets have in common, or apart, and the calls that make them.
+//! Iterators over differences, intersections and unions of two sets, and the calls that create them.
 //!
-//! None of them takes memory, and each is an iterator from both ends. Elements are looked up as they are pulled.
+//! None of them allocates, and each yields from both ends. Elements are looked up when they are pulled.
 ghost use Rattle.std.specs.Prelude.{◌≡◌, ℕ, ◌+◌, ◌<◌, ◌^◌, length};
 ghost use Rattle.std.specs.Slice.Iter.{iter_rest};
 ghost use Rattle.vecmap_base.specs.Items.{has_item};
@@ -21,10 +21,15 @@ pub use symmetric_difference::SymmetricDifference;
 pub use union::Union;
 
 impl<T: Eq> VecSet<T> {
-    /// The elements that `other` lacks, in their order: what `self - other` clones.
+    /// Returns an iterator over the elements that `other` lacks, in order.
     ///
-    /// Making the iterator compares nothing. Pulling all of it takes one lookup in `other` for each element of this
-    /// set. Of 1, 2, 3 and 4, 2, 3 it gives 1.
+    /// It yields what `self - other` clones. For 1, 2, 3 and 4, 2, 3 it yields 1.
+    ///
+    /// # Complexity
+    ///
+    /// No comparisons to create the iterator. A full iteration looks up each element of this set in `other`.
+    ///
+    /// # Examples
     ///
     /// ```
     /// let set = vecset!(alloc; 1, 2);
@@ -42,12 +47,18 @@ impl<T: Eq> VecSet<T> {
         Difference::over(&self.items, &other.items)
     }
 
-    /// The elements that both sets have: those of the shorter set that the other has, in the order of the shorter one,
-    /// and of this set where neither is shorter.
+    /// Returns an iterator over the elements that both sets have.
     ///
-    /// `self & other` has the same elements, but those of this set in its order. Making the iterator compares nothing.
-    /// Pulling all of it takes one lookup in the longer set for each element of the shorter. Of 3, 2, 1 and 1, 2 it
-    /// gives 1, 2.
+    /// They are the elements of the shorter set that the other one has, in the order of the shorter. If the lengths are
+    /// equal, they are elements of this set. For 3, 2, 1 and 1, 2 it yields 1, 2. `self & other` has the same elements,
+    /// but always those of this set, in its order.
+    ///
+    /// # Complexity
+    ///
+    /// No comparisons to create the iterator. A full iteration looks up each element of the shorter set in the longer
+    /// one.
+    ///
+    /// # Examples
     ///
     /// ```
     /// let set = vecset!(alloc; 1, 2);
@@ -69,11 +80,16 @@ impl<T: Eq> VecSet<T> {
         }
     }
 
-    /// The elements that only one of the sets has: those of this set that `other` lacks, and then those of `other` that
-    /// this set lacks, each in their order. It is what `self ^ other` clones.
+    /// Returns an iterator over the elements that only one of the sets has.
     ///
-    /// Making the iterator compares nothing. Pulling all of it takes one lookup for each element of either set, in the
-    /// other. Of 1, 2, 3 and 4, 2, 3 it gives 1, 4.
+    /// They are the elements of this set that `other` lacks, and then those of `other` that this set lacks, each in
+    /// order. It yields what `self ^ other` clones. For 1, 2, 3 and 4, 2, 3 it yields 1, 4.
+    ///
+    /// # Complexity
+    ///
+    /// No comparisons to create the iterator. A full iteration looks up each element of either set in the other.
+    ///
+    /// # Examples
     ///
     /// ```
     /// let set = vecset!(alloc; 1, 2);
@@ -91,11 +107,18 @@ impl<T: Eq> VecSet<T> {
         SymmetricDifference::over(&self.items, &other.items)
     }
 
-    /// The elements that at least one of the sets has: all of the longer set, and then those of the other that it
-    /// lacks, each in their order. Where neither is longer, this set comes first.
+    /// Returns an iterator over the elements that at least one of the sets has.
     ///
-    /// `self | other` has the same elements, but all of this set first. Making the iterator compares nothing. Pulling
-    /// all of it takes one lookup in the longer set for each element of the shorter. Of 1 and 2, 3 it gives 2, 3, 1.
+    /// They are all elements of the longer set, and then those of the other one that it lacks, each in order. If the
+    /// lengths are equal, this set comes first. For 1 and 2, 3 it yields 2, 3, 1. `self | other` has the same elements,
+    /// but always all of this set first.
+    ///
+    /// # Complexity
+    ///
+    /// No comparisons to create the iterator. A full iteration looks up each element of the shorter set in the longer
+    /// one.
+    ///
+    /// # Examples
     ///
     /// ```
     /// let set = vecset!(alloc; 1, 2);
@@ -118,9 +141,10 @@ impl<T: Eq> VecSet<T> {
     }
 }
 
-// The first of `items` whose presence in `other` is `within`. It and those before it are taken out.
+// Returns the first of `items` whose presence in `other` is `within`, and removes it and those before it.
 fn sift_front<'a, T: Eq>(items: &mut slice::Iter<'a, T>, other: &[T], within: bool) -> Option<&'a T>
-    ensures { SiftsFirst (presence T.eq within) (sift_of (iter_rest items.old) other.now) result (sift_of (iter_rest items.new) other.now) }
+    ensures { SiftsFirst (presence T.eq within) (sift_of (iter_rest items.old) other.now) result
+        (sift_of (iter_rest items.new) other.now) }
 {
     while let Some(item) = items.next() {
         if is_in(other, item) == within {
@@ -130,9 +154,10 @@ fn sift_front<'a, T: Eq>(items: &mut slice::Iter<'a, T>, other: &[T], within: bo
     None
 }
 
-// The last of `items` whose presence in `other` is `within`. It and those after it are taken out.
+// Returns the last of `items` whose presence in `other` is `within`, and removes it and those after it.
 fn sift_back<'a, T: Eq>(items: &mut slice::Iter<'a, T>, other: &[T], within: bool) -> Option<&'a T>
-    ensures { SiftsLast (presence T.eq within) (sift_of (iter_rest items.old) other.now) result (sift_of (iter_rest items.new) other.now) }
+    ensures { SiftsLast (presence T.eq within) (sift_of (iter_rest items.old) other.now) result
+        (sift_of (iter_rest items.new) other.now) }
 {
     while let Some(item) = items.next_back() {
         if is_in(other, item) == within {
@@ -142,7 +167,7 @@ fn sift_back<'a, T: Eq>(items: &mut slice::Iter<'a, T>, other: &[T], within: boo
     None
 }
 
-// The sum of two upper bounds, or none where it passes the greatest `usize`.
+// Returns the sum of two upper bounds, or `None` if it exceeds `usize::MAX`.
 fn add_bounds(a: Option<usize>, b: Option<usize>) -> Option<usize>
     ensures { (x y : ℕ) → a ≡ Some x → b ≡ Some y → IsBound result (x + y) }
 {

@@ -1,4 +1,4 @@
-//! `VecSet`, an ordered set by equality over one vector of elements.
+//! `VecSet`, a set that keeps its elements in insertion order, in one vector, and finds them by `==`.
 #![tactic(auto)]
 
 mod bulk;
@@ -25,10 +25,10 @@ pub use drain::Drain;
 pub use lazy::{Difference, Intersection, SymmetricDifference, Union};
 use std::marker::Model;
 
-/// A set that keeps its elements in the order of their insertion, no two of them equal.
+/// A set that keeps its elements in insertion order, no two of them equal.
 ///
-/// Elements need neither `Hash` nor `Ord`: they are found by `==`, one after another, so a lookup takes at most as many
-/// comparisons as there are elements. A contract sees a set as its list of elements and its capacity.
+/// Elements need neither `Hash` nor `Ord`. A lookup compares the elements in order, by `==`, until one matches, so it
+/// makes at most `len` comparisons. A contract sees a set as the list of its elements and its capacity.
 #[derive(Drop)]
 pub struct VecSet<T: Eq> {
     items: Vec<T>,

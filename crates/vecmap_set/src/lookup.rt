@@ -1,7 +1,7 @@
-//! Lookups by element and by place.
+//! Lookups by query and by index.
 //!
-//! A lookup by element compares it with one stored element after another, up to the first that is equal: at most as many
-//! comparisons as there are elements. A lookup by place takes none.
+//! A lookup by a query compares it with the elements in order, up to the first one that matches: at most `len`
+//! comparisons. A lookup by index makes none.
 ghost use Rattle.std.specs.Prelude.{◌≡◌, ◌-◌, ◌<◌, IfSome, length, option_copied, option_map, position, slice_get};
 ghost use Rattle.std.specs.List.{list_any};
 ghost use Rattle.vecmap_base.specs.Items.{stored_first};
@@ -11,20 +11,32 @@ use crate::VecSet;
 use vecmap_base::{Equivalent, find_item_equivalent, is_in_equivalent};
 
 impl<T: Eq> VecSet<T> {
-    /// Whether an element that `item` stands for is there, after at most as many comparisons as there are elements.
+    /// Returns whether an element matches `query`.
+    ///
+    /// # Complexity
+    ///
+    /// At most `len` comparisons.
+    ///
+    /// # Examples
     ///
     /// ```
     /// let set = vecset!(alloc; 1, 2);
     /// set.contains(&1) // true
     /// set.contains(&3) // false
     /// ```
-    pub fn contains<Q: Equivalent<T>>(&self, item: Q) -> bool
-        ensures { result ≡ list_any (Q.equivalent item) self.now.elements }
+    pub fn contains<Q: Equivalent<T>>(&self, query: Q) -> bool
+        ensures { result ≡ list_any (Q.equivalent query) self.now.elements }
     {
-        is_in_equivalent(&self.items, item)
+        is_in_equivalent(&self.items, query)
     }
 
-    /// The first element, with no comparison.
+    /// Returns the first element, or `None` if the set is empty.
+    ///
+    /// # Complexity
+    ///
+    /// No comparisons.
+    ///
+    /// # Examples
     ///
     /// ```
     /// let set = vecset!(alloc; 2, 1);
@@ -36,33 +48,52 @@ impl<T: Eq> VecSet<T> {
         self.items.first()
     }
 
-    /// The last element, with no comparison.
+    /// Returns the last element, or `None` if the set is empty.
+    ///
+    /// # Complexity
+    ///
+    /// No comparisons.
+    ///
+    /// # Examples
     ///
     /// ```
     /// let set = vecset!(alloc; 2, 1);
     /// set.last() // Some(&1)
     /// ```
     pub fn last(&self) -> Option<&T>
-        ensures { option_copied result ≡ slice_get self.now.elements (length self.now.elements - 1) }
+        ensures { option_copied result
+            ≡ slice_get self.now.elements (length self.now.elements - 1) }
     {
         self.items.last()
     }
 
-    /// The stored element that `item` stands for, after at most as many comparisons as there are elements.
+    /// Returns the stored element that matches `query`, or `None` if no element matches.
+    ///
+    /// # Complexity
+    ///
+    /// At most `len` comparisons.
+    ///
+    /// # Examples
     ///
     /// ```
     /// let set = vecset!(alloc; 1, 2);
     /// set.get(&2) // Some(&2)
     /// set.get(&3) // None
     /// ```
-    pub fn get<Q: Equivalent<T>>(&self, item: Q) -> Option<&T>
-        ensures { option_copied result ≡ stored_first (Q.equivalent item) self.now.elements }
+    pub fn get<Q: Equivalent<T>>(&self, query: Q) -> Option<&T>
+        ensures { option_copied result ≡ stored_first (Q.equivalent query) self.now.elements }
     {
-        let index = find_item_equivalent(&self.items, item)?;
+        let index = find_item_equivalent(&self.items, query)?;
         Some(&self.items[index])
     }
 
-    /// The element at a place, if there is one, with no comparison.
+    /// Returns the element at `index`, or `None` if `index` is out of range.
+    ///
+    /// # Complexity
+    ///
+    /// No comparisons.
+    ///
+    /// # Examples
     ///
     /// ```
     /// let set = vecset!(alloc; 2, 1);
@@ -75,39 +106,58 @@ impl<T: Eq> VecSet<T> {
         self.items.get(index)
     }
 
-    /// The place of the element that `item` stands for, with the stored element, after at most as many comparisons as
-    /// there are elements.
+    /// Returns the index of the element that matches `query`, and the stored element.
+    ///
+    /// # Complexity
+    ///
+    /// At most `len` comparisons.
+    ///
+    /// # Examples
     ///
     /// ```
     /// let set = vecset!(alloc; 2, 1);
     /// set.get_full(&1) // Some((1, &1))
     /// ```
-    pub fn get_full<Q: Equivalent<T>>(&self, item: Q) -> Option<(usize, &T)>
-        ensures place { option_map (λ found. found.0) result ≡ position (Q.equivalent item) self.now.elements }
+    pub fn get_full<Q: Equivalent<T>>(&self, query: Q) -> Option<(usize, &T)>
+        ensures place { option_map (λ found. found.0) result
+            ≡ position (Q.equivalent query) self.now.elements }
         ensures within { IfSome result (λ found. found.0 < length self.now.elements) }
-        ensures element { option_map (λ found. found.1.now) result ≡ stored_first (Q.equivalent item) self.now.elements }
+        ensures element { option_map (λ found. found.1.now) result
+            ≡ stored_first (Q.equivalent query) self.now.elements }
     {
-        let index = find_item_equivalent(&self.items, item)?;
+        let index = find_item_equivalent(&self.items, query)?;
         Some((index, &self.items[index]))
     }
 
-    /// The place of the element that `item` stands for, after at most as many comparisons as there are elements.
+    /// Returns the index of the element that matches `query`, or `None` if no element matches.
+    ///
+    /// # Complexity
+    ///
+    /// At most `len` comparisons.
+    ///
+    /// # Examples
     ///
     /// ```
     /// let set = vecset!(alloc; 2, 1);
     /// set.get_index_of(&1) // Some(1)
     /// set.get_index_of(&3) // None
     /// ```
-    pub fn get_index_of<Q: Equivalent<T>>(&self, item: Q) -> Option<usize>
-        ensures place { result ≡ position (Q.equivalent item) self.now.elements }
+    pub fn get_index_of<Q: Equivalent<T>>(&self, query: Q) -> Option<usize>
+        ensures place { result ≡ position (Q.equivalent query) self.now.elements }
         ensures within { IfSome result (λ i. i < length self.now.elements) }
     {
-        find_item_equivalent(&self.items, item)
+        find_item_equivalent(&self.items, query)
     }
 }
 
 impl VecSet<String> {
-    /// As `contains`, by the bytes of a text. It takes no memory.
+    /// Like [`VecSet::contains`], with the same cost, but an element matches if it has the bytes of `text`.
+    ///
+    /// # Complexity
+    ///
+    /// At most `len` comparisons. Does not allocate.
+    ///
+    /// # Examples
     ///
     /// ```
     /// let set = vecset!(alloc; String::from_str(alloc, "a")?);

@@ -1,4 +1,4 @@
-//! Making a set, and what it is made of.
+//! Calls that create a set, and calls that return its slice, its vector or its allocator.
 ghost use Rattle.std.specs.Prelude.{◌≡◌, ◌≤◌, Contains, IfOk, IsOk, IsTrue, [], vec_capacity};
 ghost use Rattle.std.specs.List.{IsDistinct};
 ghost use Rattle.vecmap_base.specs.Clones.{AreClones};
@@ -8,7 +8,9 @@ use std::alloc::{AllocError, Global};
 use std::default::{Emptied, MadeWith};
 
 impl<T: Eq> VecSet<T> {
-    /// The empty set, which has taken no memory.
+    /// Creates an empty set. Does not allocate.
+    ///
+    /// # Examples
     ///
     /// ```
     /// let set: VecSet<u32> = VecSet::new(alloc);
@@ -25,8 +27,15 @@ impl<T: Eq> VecSet<T> {
         }
     }
 
-    /// The empty set, with room for at least `capacity` elements. For 0 it takes no memory and succeeds. Refused, nothing
-    /// is made.
+    /// Creates an empty set with capacity for at least `capacity` elements.
+    ///
+    /// If `capacity` is 0, the call succeeds and does not allocate.
+    ///
+    /// # Errors
+    ///
+    /// [`AllocError`] if the allocator refuses the request; no set is created.
+    ///
+    /// # Examples
     ///
     /// ```
     /// let set: VecSet<u32> = VecSet::with_capacity(alloc, 4)?;
@@ -46,8 +55,22 @@ impl<T: Eq> VecSet<T> {
         })
     }
 
-    /// A set of clones of the elements, in their order. A clone of an element must be equal to it, so that no two
-    /// clones are equal. It makes room for them, clones each element once and compares nothing. Refused, nothing is made.
+    /// Returns a set of clones of the elements, in order.
+    ///
+    /// # Errors
+    ///
+    /// [`AllocError`] if the allocator refuses the request, or if the clone of an element is refused; no set is
+    /// created.
+    ///
+    /// # Conditions
+    ///
+    /// A clone of each element is equal to it, so no two clones are equal.
+    ///
+    /// # Complexity
+    ///
+    /// One clone of each element, one allocation for the elements, and no comparisons.
+    ///
+    /// # Examples
     ///
     /// ```
     /// let set = vecset!(alloc; 1, 2);
@@ -58,7 +81,8 @@ impl<T: Eq> VecSet<T> {
     pub fn clone(&self) -> Result<VecSet<T>, AllocError>
     where
         T: Clone,
-        requires same { (x y : T) → Contains self.now.elements x → T.is_clone x y → IsTrue (T.eq x y) }
+        requires same { (x y : T) → Contains self.now.elements x → T.is_clone x y
+            → IsTrue (T.eq x y) }
         ensures elements { IfOk result (λ set. AreClones T.is_clone self.now.elements set.elements) }
         ensures distinct { IfOk result (λ set. IsDistinct T.eq set.elements) }
     {
@@ -67,7 +91,13 @@ impl<T: Eq> VecSet<T> {
         })
     }
 
-    /// The elements, in their order, no two of them equal. It takes no memory and moves nothing.
+    /// Returns the elements in order, as a slice. No two of them are equal.
+    ///
+    /// # Complexity
+    ///
+    /// No moves. Does not allocate.
+    ///
+    /// # Examples
     ///
     /// ```
     /// let set = vecset!(alloc; 2, 1);
@@ -80,7 +110,13 @@ impl<T: Eq> VecSet<T> {
         self.items.as_slice()
     }
 
-    /// The elements, in their order, in the vector that held them. It takes no memory and moves no element.
+    /// Returns the elements in order, in the vector that held them.
+    ///
+    /// # Complexity
+    ///
+    /// No moves. Does not allocate.
+    ///
+    /// # Examples
     ///
     /// ```
     /// let set = vecset!(alloc; 2, 1);
@@ -95,7 +131,7 @@ impl<T: Eq> VecSet<T> {
         items
     }
 
-    /// Returns the allocator that the elements are on.
+    /// Returns the allocator of the set.
     ///
     /// # Examples
     ///
@@ -108,7 +144,9 @@ impl<T: Eq> VecSet<T> {
     }
 }
 
-/// What `or_default` puts where the values of a map are sets.
+/// Creates the empty set that `or_default` inserts if the values of a map are sets.
+///
+/// # Examples
 ///
 /// ```
 /// let mut groups: VecMap<char, VecSet<u32>> = VecMap::new(alloc);
@@ -123,7 +161,9 @@ impl<T: Eq> MadeWith<Global> for VecSet<T> {
     }
 }
 
-/// What `mem::try_take` leaves in the place of a set.
+/// Creates the empty set that `mem::try_take` leaves behind.
+///
+/// # Examples
 ///
 /// ```
 /// let mut set = vecset!(alloc; 2, 1);

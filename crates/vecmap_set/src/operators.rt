@@ -1,4 +1,4 @@
-//! `&`, `|`, `^` and `-` on sets.
+//! The operators `&`, `|`, `^` and `-` on sets.
 ghost use Rattle.std.specs.Prelude.{IfOk};
 ghost use Rattle.std.specs.Iterator.{IsFinite};
 ghost use Rattle.vecmap_base.specs.Items.{both, only};
@@ -8,12 +8,25 @@ use crate::{Difference, Intersection, SymmetricDifference, Union, VecSet};
 use std::alloc::{AllocError, Global};
 use std::ops::{BitAnd, BitOr, BitXor, Sub};
 
-/// A set of clones of the elements that both sets have: those of the left set that the right one has, in the order of
-/// the left.
+/// Creates a set of clones of the elements that both sets have.
 ///
-/// Of 3, 2, 1 and 1, 2 it makes 2, 1, where `intersection` gives 1, 2. Each element of the left set takes one lookup in
-/// the right one. A clone of an element must be equal to it. The set has the allocator of the left one. Refused,
-/// nothing is made, and both sets are as before.
+/// They are the elements of the left set that the right one has, in the order of the left. For 3, 2, 1 and 1, 2 it has
+/// 2, 1, while [`VecSet::intersection`] yields 1, 2. The new set has the allocator of the left one.
+///
+/// # Errors
+///
+/// [`AllocError`] if the allocator refuses a request, for the set or for a clone. No set is then created, and both sets
+/// are unchanged.
+///
+/// # Conditions
+///
+/// A clone of each of these elements is equal to it.
+///
+/// # Complexity
+///
+/// One lookup in the right set for each element of the left one.
+///
+/// # Examples
 ///
 /// ```
 /// let set = vecset!(alloc; 2, 1);
@@ -35,12 +48,25 @@ impl<'a, 'b, T: Eq + Clone> BitAnd<&'b VecSet<T>> for &'a VecSet<T> {
     }
 }
 
-/// A set of clones of the elements that at least one of the sets has: all of the left set, and then those of the right
-/// one that it lacks, each in their order.
+/// Creates a set of clones of the elements that at least one of the sets has.
 ///
-/// Of 1 and 2, 3 it makes 1, 2, 3, where `union` gives 2, 3, 1. Each element of the right set takes one lookup in the
-/// left one. A clone of an element must be equal to it. The set has the allocator of the left one. Refused, nothing is
-/// made, and both sets are as before.
+/// They are all elements of the left set, and then those of the right one that the left one lacks, each in order. For 1
+/// and 2, 3 it has 1, 2, 3, while [`VecSet::union`] yields 2, 3, 1. The new set has the allocator of the left one.
+///
+/// # Errors
+///
+/// [`AllocError`] if the allocator refuses a request, for the set or for a clone. No set is then created, and both sets
+/// are unchanged.
+///
+/// # Conditions
+///
+/// A clone of each of these elements is equal to it.
+///
+/// # Complexity
+///
+/// One lookup in the left set for each element of the right one.
+///
+/// # Examples
 ///
 /// ```
 /// let set = vecset!(alloc; 1, 2);
@@ -62,12 +88,25 @@ impl<'a, 'b, T: Eq + Clone> BitOr<&'b VecSet<T>> for &'a VecSet<T> {
     }
 }
 
-/// A set of clones of the elements that only one of the sets has: those of the left set, and then those of the right
-/// one, each in their order.
+/// Creates a set of clones of the elements that only one of the sets has.
 ///
-/// Of 1, 2, 3 and 4, 2, 3 it makes 1, 4. Each element of either set takes one lookup in the other. A clone of an
-/// element must be equal to it. The set has the allocator of the left one. Refused, nothing is made, and both sets are
-/// as before.
+/// They are the elements of the left set that the right one lacks, and then those of the right one that the left one
+/// lacks, each in order. For 1, 2, 3 and 4, 2, 3 it has 1, 4. The new set has the allocator of the left one.
+///
+/// # Errors
+///
+/// [`AllocError`] if the allocator refuses a request, for the set or for a clone. No set is then created, and both sets
+/// are unchanged.
+///
+/// # Conditions
+///
+/// A clone of each of these elements is equal to it.
+///
+/// # Complexity
+///
+/// One lookup for each element of either set, in the other.
+///
+/// # Examples
 ///
 /// ```
 /// let set = vecset!(alloc; 1, 2);
@@ -89,11 +128,24 @@ impl<'a, 'b, T: Eq + Clone> BitXor<&'b VecSet<T>> for &'a VecSet<T> {
     }
 }
 
-/// A set of clones of the elements of the left set that the right one lacks, in their order.
+/// Creates a set of clones of the elements of the left set that the right one lacks, in order.
 ///
-/// Of 1, 2, 3 and 4, 2, 3 it makes 1. Each element of the left set takes one lookup in the right one. A clone of an
-/// element must be equal to it. The set has the allocator of the left one. Refused, nothing is made, and both sets are
-/// as before.
+/// For 1, 2, 3 and 4, 2, 3 it has 1. The new set has the allocator of the left one.
+///
+/// # Errors
+///
+/// [`AllocError`] if the allocator refuses a request, for the set or for a clone. No set is then created, and both sets
+/// are unchanged.
+///
+/// # Conditions
+///
+/// A clone of each of these elements is equal to it.
+///
+/// # Complexity
+///
+/// One lookup in the right set for each element of the left one.
+///
+/// # Examples
 ///
 /// ```
 /// let set = vecset!(alloc; 1, 2);
@@ -115,7 +167,7 @@ impl<'a, 'b, T: Eq + Clone> Sub<&'b VecSet<T>> for &'a VecSet<T> {
     }
 }
 
-// Clones of what an iterator gives, in their order, with room for as many as it surely gives made first.
+// Returns clones of what an iterator yields, in order. Capacity for its lower bound is reserved first.
 fn clones_of<'a, T: Clone + 'a, I: Iterator<Item = &'a T>>(
     alloc: Global,
     iter: I,

@@ -1,4 +1,4 @@
-//! The order of the elements.
+//! Reversing, swapping and sorting the elements.
 ghost use Rattle.std.specs.Prelude.{◌≡◌, ◌<◌, ◌≤◌, IsOk, OnErr, OnOk, length, reverse, swap};
 ghost use Rattle.std.specs.List.{IsDistinct};
 ghost use Rattle.std.specs.List.Sorted.{IsPermutation, IsSorted, IsSortedByClosure, IsSortedByKeyClosure, IsStable, IsStableByClosure, IsStableByKeyClosure};
@@ -8,7 +8,13 @@ use std::alloc::AllocError;
 use std::cmp::Ordering;
 
 impl<T: Eq> VecSet<T> {
-    /// Turns the order of the elements round, in half as many exchanges as there are elements.
+    /// Reverses the order of the elements.
+    ///
+    /// # Complexity
+    ///
+    /// No comparisons, and half as many swaps as there are elements.
+    ///
+    /// # Examples
     ///
     /// ```
     /// let mut set = vecset!(alloc; 1, 2, 3);
@@ -23,7 +29,17 @@ impl<T: Eq> VecSet<T> {
         self.items.reverse();
     }
 
-    /// Exchanges the elements at two places, which must be there: `len` tells. It takes no comparison.
+    /// Swaps the elements at the indices `a` and `b`.
+    ///
+    /// # Conditions
+    ///
+    /// `a` and `b` are less than [`VecSet::len`].
+    ///
+    /// # Complexity
+    ///
+    /// No comparisons.
+    ///
+    /// # Examples
     ///
     /// ```
     /// let mut set = vecset!(alloc; 1, 2, 3);
@@ -40,9 +56,17 @@ impl<T: Eq> VecSet<T> {
         self.items.swap(a, b);
     }
 
-    /// Sorts the elements, in O(n log n) comparisons for n elements. Elements that tie stay in their order.
+    /// Sorts the elements. Elements that compare as equal keep their order.
     ///
-    /// It takes memory for more than 20 elements; refused, it leaves the set as it was.
+    /// # Errors
+    ///
+    /// [`AllocError`] if the allocator refuses the request; the set is then unchanged.
+    ///
+    /// # Complexity
+    ///
+    /// O(n log n) comparisons for n elements. Allocates only for more than 20 elements.
+    ///
+    /// # Examples
     ///
     /// ```
     /// let mut set = vecset!(alloc; 2, 1);
@@ -63,10 +87,23 @@ impl<T: Eq> VecSet<T> {
         self.items.sort()
     }
 
-    /// Sorts the elements by `f`, which compares two, in O(n log n) calls of `f` for n elements. Elements that tie under
-    /// `f` stay in their order. Where `f` is no consistent order the elements may end in any order, and none is lost.
+    /// Sorts the elements by `f`, which compares two elements. Elements that compare as equal keep their order.
     ///
-    /// It takes memory for more than 20 elements; refused, it leaves the set as it was.
+    /// If `f` is not a consistent order, the elements may end in any order, but none is lost.
+    ///
+    /// # Errors
+    ///
+    /// [`AllocError`] if the allocator refuses the request; the set is then unchanged.
+    ///
+    /// # Conditions
+    ///
+    /// `f` can be called with any two elements.
+    ///
+    /// # Complexity
+    ///
+    /// O(n log n) calls of `f` for n elements. Allocates only for more than 20 elements.
+    ///
+    /// # Examples
     ///
     /// ```
     /// let mut set = vecset!(alloc; 1, 2);
@@ -86,10 +123,23 @@ impl<T: Eq> VecSet<T> {
         self.items.sort_by(f)
     }
 
-    /// Sorts the elements by the sort keys that `f` makes of them, in O(n log n) comparisons of sort keys for n elements;
-    /// each element is asked for its sort key at most once. Elements whose sort keys tie stay in their order.
+    /// Sorts the elements by the sort keys that `f` returns for them. Elements whose sort keys compare as equal keep
+    /// their order.
     ///
-    /// It takes memory for more than one element; refused, it leaves the set as it was.
+    /// # Errors
+    ///
+    /// [`AllocError`] if the allocator refuses the request; the set is then unchanged.
+    ///
+    /// # Conditions
+    ///
+    /// `f` can be called with any element.
+    ///
+    /// # Complexity
+    ///
+    /// O(n log n) comparisons of sort keys for n elements, and at most one call of `f` for each element. Allocates only
+    /// for more than one element.
+    ///
+    /// # Examples
     ///
     /// ```
     /// let mut set = vecset!(alloc; 2, 1);
@@ -112,8 +162,13 @@ impl<T: Eq> VecSet<T> {
         self.items.sort_by_cached_key(f)
     }
 
-    /// Sorts the elements, in O(n log n) comparisons for n elements. Elements that tie may change places. It takes no
-    /// memory.
+    /// Sorts the elements. Elements that compare as equal may change their order.
+    ///
+    /// # Complexity
+    ///
+    /// O(n log n) comparisons for n elements. Does not allocate.
+    ///
+    /// # Examples
     ///
     /// ```
     /// let mut set = vecset!(alloc; 2, 1);
@@ -131,8 +186,17 @@ impl<T: Eq> VecSet<T> {
         self.items.sort_unstable();
     }
 
-    /// Sorts the elements by `f`, which compares two, in O(n log n) calls of `f` for n elements. Elements that tie under
-    /// `f` may change places. It takes no memory.
+    /// Sorts the elements by `f`, which compares two elements. Elements that compare as equal may change their order.
+    ///
+    /// # Conditions
+    ///
+    /// `f` can be called with any two elements.
+    ///
+    /// # Complexity
+    ///
+    /// O(n log n) calls of `f` for n elements. Does not allocate.
+    ///
+    /// # Examples
     ///
     /// ```
     /// let mut set = vecset!(alloc; 1, 2);

@@ -21,7 +21,13 @@ use vecmap_base::{
 };
 
 impl<T: Eq> VecSet<T> {
-    /// Drops all elements, one after another, and compares and moves none. The capacity stays.
+    /// Drops all elements, in order. The capacity stays.
+    ///
+    /// # Complexity
+    ///
+    /// No comparisons and no moves.
+    ///
+    /// # Examples
     ///
     /// ```
     /// let mut set = vecset!(alloc; 1, 2);
@@ -39,8 +45,15 @@ impl<T: Eq> VecSet<T> {
         self.items.clear();
     }
 
-    /// Keeps the first `len` elements, and drops those after them. Where there are no more than that, nothing changes. It
-    /// compares and moves none, and the capacity stays.
+    /// Keeps the first `len` elements and drops the others.
+    ///
+    /// If the set has no more than `len` elements, nothing changes. The capacity stays.
+    ///
+    /// # Complexity
+    ///
+    /// No comparisons and no moves.
+    ///
+    /// # Examples
     ///
     /// ```
     /// let mut set = vecset!(alloc; 1, 2, 3);
@@ -58,11 +71,24 @@ impl<T: Eq> VecSet<T> {
         self.items.truncate(len);
     }
 
-    /// Takes out the elements from a place on, which must be within the set or its length, and answers them as a set
-    /// of their own. Those before it stay, and so does the capacity.
+    /// Moves the elements from index `at` on into a new set, and returns that set.
     ///
-    /// It takes one move for each element that goes, and memory for as many. Refused, nothing has changed. Where `at`
-    /// is the length it takes none and succeeds.
+    /// The elements before `at` stay, and so does the capacity. If `at` is the number of elements, the call succeeds
+    /// and does not allocate.
+    ///
+    /// # Errors
+    ///
+    /// [`AllocError`] if the allocator refuses the request; the set is then unchanged.
+    ///
+    /// # Conditions
+    ///
+    /// `at` is at most [`VecSet::len`].
+    ///
+    /// # Complexity
+    ///
+    /// One move for each element of the new set. Allocates memory for these elements.
+    ///
+    /// # Examples
     ///
     /// ```
     /// let mut set = vecset!(alloc; 1, 2, 3);
@@ -85,15 +111,23 @@ impl<T: Eq> VecSet<T> {
         })
     }
 
-    /// Takes out the elements of a range of places, and answers them one after another, from either end.
+    /// Removes the elements of a range of indices, and returns an iterator over them.
     ///
-    /// Any range of std will do, with included, excluded or open ends. Its start must be no later than its end, and its
-    /// end within the set: `len` tells. The ends are counted without limit, so that no range from behind the greatest
-    /// place is within a set. Nor is a `RangeInclusive` that was iterated to its end.
+    /// The iterator gives the elements in order, from either end. `range` is any range of std, with included, excluded
+    /// or open ends. Once the iterator is dropped, after any number of calls of `next`, the whole range is gone. The
+    /// other elements keep their order, and the capacity stays.
     ///
-    /// Once the answer is dropped, after any number of pulls, the whole range is gone, the others stand in their order,
-    /// and the capacity is as before. It takes a number of moves that is linear in the number of elements from the
-    /// start of the range on, and no memory.
+    /// # Conditions
+    ///
+    /// The start of the range is at most its end, and its end is at most [`VecSet::len`]. Both are computed without
+    /// overflow, so a range whose start is `Excluded(usize::MAX)` is in no set. A `RangeInclusive` that was iterated to
+    /// its end is in no set either.
+    ///
+    /// # Complexity
+    ///
+    /// A number of moves that is linear in the number of elements from the start of the range on. Does not allocate.
+    ///
+    /// # Examples
     ///
     /// ```
     /// let mut set = vecset!(alloc; 1, 2, 3);
@@ -104,14 +138,17 @@ impl<T: Eq> VecSet<T> {
     where
         T: Drop,
         requires known { R.has_bounds range }
-        requires within { AreEndsWithin (R.start_bound range) (R.end_bound range) (length self.old.elements) }
-        ensures rest { drain_rest result ≡ items_between self.old.elements (R.start_bound range) (R.end_bound range) }
+        requires within { AreEndsWithin (R.start_bound range) (R.end_bound range)
+            (length self.old.elements) }
+        ensures rest { drain_rest result
+            ≡ items_between self.old.elements (R.start_bound range) (R.end_bound range) }
         ensures fits { length (drain_rest result) < 2 ^ 64 }
         ensures runs { YieldsInOrder (DrainNext {T = T}) drain_rest }
         ensures runs_back { YieldsInReverse (DrainNextBack {T = T}) drain_rest }
 
-        // Once it is dropped, after any pulls, the set has the others and its capacity.
-        ensures kept { drain_kept result ≡ without_between self.old.elements (R.start_bound range) (R.end_bound range) }
+        // Once the drain is dropped, after any number of pulls, the set has the other elements and its old capacity.
+        ensures kept { drain_kept result
+            ≡ without_between self.old.elements (R.start_bound range) (R.end_bound range) }
         ensures capacity { drain_capacity result ≡ self.old.capacity }
         ensures same_set { drain_lender result ≡ self.entry.ghost_name }
         ensures keeps { KeepsAlong DrainNext DrainKeeps result }
@@ -121,10 +158,20 @@ impl<T: Eq> VecSet<T> {
         Drain::over(self, range.start, range.end)
     }
 
-    /// Keeps the elements at which `f` answers true. The capacity stays.
+    /// Keeps the elements for which `f` returns `true`.
     ///
-    /// `f` is asked of each element once, in order, in the state that the calls before have left. For n elements there
-    /// are n calls and at most n swaps; the elements that go are dropped at the end. It takes no memory.
+    /// `f` is called once for each element, in order, in the state that the calls before have left. The other elements
+    /// are dropped at the end. The capacity stays.
+    ///
+    /// # Conditions
+    ///
+    /// `f` can be called with each element of the set, in the state that the calls before have left.
+    ///
+    /// # Complexity
+    ///
+    /// n calls of `f` and at most n swaps for n elements. Does not allocate.
+    ///
+    /// # Examples
     ///
     /// ```
     /// let mut set = vecset!(alloc; 1, 2, 3);
@@ -135,15 +182,23 @@ impl<T: Eq> VecSet<T> {
     where
         T: Drop,
         F: Drop,
-        requires callable { CallableOnEach (CallsAtItem F.FnMut) (TakesAt F.FnMut) f self.old.elements }
-        ensures elements { (g : F) × Kept (CallsAtItem F.FnMut) f self.old.elements self.new.elements g }
+        requires callable { CallableOnEach (CallsAtItem F.FnMut)
+            (TakesAt F.FnMut) f self.old.elements }
+        ensures elements { (g : F) × Kept
+            (CallsAtItem F.FnMut) f self.old.elements self.new.elements g }
         ensures distinct { IsDistinct T.eq self.new.elements }
         ensures capacity { self.new.capacity ≡ self.old.capacity }
     {
         retain_items(&mut self.items, f);
     }
 
-    /// Takes out the last element, with no comparison and no move of another.
+    /// Removes the last element and returns it, or `None` if the set is empty.
+    ///
+    /// # Complexity
+    ///
+    /// No comparisons and no moves.
+    ///
+    /// # Examples
     ///
     /// ```
     /// let mut set = vecset!(alloc; 1, 2);
@@ -153,17 +208,24 @@ impl<T: Eq> VecSet<T> {
     #[tactic(auto, using(vecmap_base::proofs::DistinctLemmas::Removals::distinct_take))]
     pub fn pop(&mut self) -> Option<T>
         ensures element { result ≡ slice_get self.old.elements (length self.old.elements - 1) }
-        ensures elements { self.new.elements ≡ take (length self.old.elements - 1) self.old.elements }
+        ensures elements { self.new.elements
+            ≡ take (length self.old.elements - 1) self.old.elements }
         ensures distinct { IsDistinct T.eq self.new.elements }
         ensures capacity { self.new.capacity ≡ self.old.capacity }
     {
         self.items.pop()
     }
 
-    /// Takes out the element that `item` stands for, and answers whether there was one.
+    /// Removes the element that matches `query`, and returns whether there was one.
     ///
-    /// What follows moves up by one place, so beside the lookup, of at most as many comparisons as there are elements,
-    /// this takes as many moves as there are elements after it. Where there is none nothing changes.
+    /// The element is dropped, and the index of each later element decreases by one. If no element matches, nothing
+    /// changes.
+    ///
+    /// # Complexity
+    ///
+    /// At most `len` comparisons, and one move for each element that changes its index.
+    ///
+    /// # Examples
     ///
     /// ```
     /// let mut set = vecset!(alloc; 1, 2, 3);
@@ -172,19 +234,31 @@ impl<T: Eq> VecSet<T> {
     /// set.as_slice() // [2, 3]
     /// ```
     #[tactic(auto, using(vecmap_base::proofs::PlaceLemmas::list_any_stored))]
-    pub fn remove<Q: Equivalent<T>>(&mut self, item: Q) -> bool
+    pub fn remove<Q: Equivalent<T>>(&mut self, query: Q) -> bool
     where
         T: Drop,
-        ensures found { result ≡ list_any (Q.equivalent item) self.old.elements }
-        ensures elements { self.new.elements ≡ without_first (Q.equivalent item) self.old.elements }
+        ensures found { result ≡ list_any (Q.equivalent query) self.old.elements }
+        ensures elements { self.new.elements
+            ≡ without_first (Q.equivalent query) self.old.elements }
         ensures distinct { IsDistinct T.eq self.new.elements }
         ensures capacity { self.new.capacity ≡ self.old.capacity }
     {
-        self.take(item).is_some()
+        self.take(query).is_some()
     }
 
-    /// Takes out the element at a place, which must be there: `len` tells. What follows moves up by one place, so this
-    /// takes as many moves as there are elements after it.
+    /// Removes the element at `index`, and returns it.
+    ///
+    /// The index of each later element decreases by one.
+    ///
+    /// # Conditions
+    ///
+    /// `index` is less than [`VecSet::len`].
+    ///
+    /// # Complexity
+    ///
+    /// No comparisons, and one move for each element that changes its index.
+    ///
+    /// # Examples
     ///
     /// ```
     /// let mut set = vecset!(alloc; 1, 2, 3);
@@ -202,10 +276,15 @@ impl<T: Eq> VecSet<T> {
         take_out(&mut self.items, index)
     }
 
-    /// Takes out the element that `item` stands for, and answers whether there was one.
+    /// Removes the element that matches `query`, and returns whether there was one.
     ///
-    /// The last element takes its place, so beside the lookup, of at most as many comparisons as there are elements, this
-    /// takes one move. Where there is none nothing changes.
+    /// The element is dropped, and the last element moves to its index. If no element matches, nothing changes.
+    ///
+    /// # Complexity
+    ///
+    /// At most `len` comparisons, and one move.
+    ///
+    /// # Examples
     ///
     /// ```
     /// let mut set = vecset!(alloc; 1, 2, 3);
@@ -213,18 +292,31 @@ impl<T: Eq> VecSet<T> {
     /// set.as_slice() // [3, 2]
     /// ```
     #[tactic(auto, using(vecmap_base::proofs::PlaceLemmas::list_any_stored))]
-    pub fn swap_remove<Q: Equivalent<T>>(&mut self, item: Q) -> bool
+    pub fn swap_remove<Q: Equivalent<T>>(&mut self, query: Q) -> bool
     where
         T: Drop,
-        ensures found { result ≡ list_any (Q.equivalent item) self.old.elements }
-        ensures elements { self.new.elements ≡ swap_without_first (Q.equivalent item) self.old.elements }
+        ensures found { result ≡ list_any (Q.equivalent query) self.old.elements }
+        ensures elements { self.new.elements
+            ≡ swap_without_first (Q.equivalent query) self.old.elements }
         ensures distinct { IsDistinct T.eq self.new.elements }
         ensures capacity { self.new.capacity ≡ self.old.capacity }
     {
-        self.swap_take(item).is_some()
+        self.swap_take(query).is_some()
     }
 
-    /// Takes out the element at a place, which must be there: `len` tells. The last element takes its place, in one move.
+    /// Removes the element at `index`, and returns it.
+    ///
+    /// The last element moves to `index`.
+    ///
+    /// # Conditions
+    ///
+    /// `index` is less than [`VecSet::len`].
+    ///
+    /// # Complexity
+    ///
+    /// No comparisons, and one move.
+    ///
+    /// # Examples
     ///
     /// ```
     /// let mut set = vecset!(alloc; 1, 2, 3);
@@ -242,66 +334,75 @@ impl<T: Eq> VecSet<T> {
         self.items.swap_remove(index)
     }
 
-    /// As `remove`, and answers the stored element.
+    /// Like [`VecSet::remove`], with the same cost, but returns the stored element.
+    ///
+    /// # Examples
     ///
     /// ```
     /// let mut set = vecset!(alloc; 1, 2, 3);
     /// set.take(&1) // Some(1)
     /// set.as_slice() // [2, 3]
     /// ```
-    pub fn take<Q: Equivalent<T>>(&mut self, item: Q) -> Option<T>
-        ensures element { result ≡ stored_first (Q.equivalent item) self.old.elements }
-        ensures elements { self.new.elements ≡ without_first (Q.equivalent item) self.old.elements }
+    pub fn take<Q: Equivalent<T>>(&mut self, query: Q) -> Option<T>
+        ensures element { result ≡ stored_first (Q.equivalent query) self.old.elements }
+        ensures elements { self.new.elements
+            ≡ without_first (Q.equivalent query) self.old.elements }
         ensures distinct { IsDistinct T.eq self.new.elements }
         ensures capacity { self.new.capacity ≡ self.old.capacity }
     {
-        let index = find_item_equivalent(&self.items, item)?;
+        let index = find_item_equivalent(&self.items, query)?;
         Some(self.remove_index(index))
     }
 
-    /// As `swap_remove`, and answers the stored element.
+    /// Like [`VecSet::swap_remove`], with the same cost, but returns the stored element.
+    ///
+    /// # Examples
     ///
     /// ```
     /// let mut set = vecset!(alloc; 1, 2, 3);
     /// set.swap_take(&1) // Some(1)
     /// set.as_slice() // [3, 2]
     /// ```
-    pub fn swap_take<Q: Equivalent<T>>(&mut self, item: Q) -> Option<T>
-        ensures element { result ≡ stored_first (Q.equivalent item) self.old.elements }
-        ensures elements { self.new.elements ≡ swap_without_first (Q.equivalent item) self.old.elements }
+    pub fn swap_take<Q: Equivalent<T>>(&mut self, query: Q) -> Option<T>
+        ensures element { result ≡ stored_first (Q.equivalent query) self.old.elements }
+        ensures elements { self.new.elements
+            ≡ swap_without_first (Q.equivalent query) self.old.elements }
         ensures distinct { IsDistinct T.eq self.new.elements }
         ensures capacity { self.new.capacity ≡ self.old.capacity }
     {
-        let index = find_item_equivalent(&self.items, item)?;
+        let index = find_item_equivalent(&self.items, query)?;
         Some(self.swap_remove_index(index))
     }
 }
 
-// What a drain is made of: no two elements are equal after each of these.
+// The steps of a drain. After each of them no two elements are equal.
 impl<T: Eq> VecSet<T> {
-    // As the base's, which it calls.
+    // Like the function of this name in `vecmap_base`, which it calls.
     pub(crate) fn move_range_last(&mut self, start: usize, end: usize) -> usize
         requires within { IsRangeWithin start end (length self.old.elements) }
         ensures keep { result ≡ length self.old.elements - (end - start) }
         ensures countable { length self.new.elements < 2 ^ 63 }
-        ensures elements { self.new.elements ≡ remove_range self.old.elements start end ++ reverse (slice_range self.old.elements start end) }
+        ensures elements { self.new.elements
+            ≡ remove_range self.old.elements start end
+            ++ reverse (slice_range self.old.elements start end) }
         ensures distinct { IsDistinct T.eq self.new.elements }
         ensures capacity { self.new.capacity ≡ self.old.capacity }
     {
         move_range_last(&mut self.items, start, end)
     }
 
-    // As the base's, which it calls.
+    // Like the function of this name in `vecmap_base`, which it calls.
     pub(crate) fn reverse_from(&mut self, start: usize)
         requires within { start ≤ length self.old.elements }
-        ensures elements { self.new.elements ≡ take start self.old.elements ++ reverse (drop start self.old.elements) }
+        ensures elements { self.new.elements
+            ≡ take start self.old.elements ++ reverse (drop start self.old.elements) }
         ensures distinct { IsDistinct T.eq self.new.elements }
         ensures capacity { self.new.capacity ≡ self.old.capacity }
     {
         reverse_from(&mut self.items, start);
     }
 
-    // Takes out the last element, which must be there.
+    // Removes the last element of a set that is not empty, and returns it.
     pub(crate) fn take_last(&mut self) -> T
         requires within { 0 < length self.old.elements }
         ensures elements { self.old.elements ≡ self.new.elements ++ result ∷ [] }
@@ -313,7 +414,13 @@ impl<T: Eq> VecSet<T> {
 }
 
 impl VecSet<String> {
-    /// As `remove`, by the bytes of a text. It takes no memory.
+    /// Like [`VecSet::remove`], with the same cost, but an element matches if it has the bytes of `text`.
+    ///
+    /// # Complexity
+    ///
+    /// At most `len` comparisons, and one move for each element that changes its index. Does not allocate.
+    ///
+    /// # Examples
     ///
     /// ```
     /// let mut set = vecset!(alloc; String::from_str(alloc, "a")?);

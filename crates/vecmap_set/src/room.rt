@@ -1,4 +1,4 @@
-//! How many elements there are, and how many there is room for.
+//! The number of elements, and the capacity.
 ghost use Rattle.std.specs.Prelude.{◌≡◌, ◌<◌, ◌==◌, ◌^◌, ◌↔◌, ◌≤◌, IsOk, IsTrue, OnErr, OnOk, [], length, min};
 ghost use Rattle.std.specs.List.{IsDistinct};
 ghost use Rattle.vecmap_set.specs.Contents.{HasRoom};
@@ -8,7 +8,9 @@ use std::alloc::AllocError;
 use std::collections::TryReserveError;
 
 impl<T: Eq> VecSet<T> {
-    /// The number of elements.
+    /// Returns the number of elements.
+    ///
+    /// # Examples
     ///
     /// ```
     /// let set = vecset!(alloc; 1, 2);
@@ -22,7 +24,9 @@ impl<T: Eq> VecSet<T> {
         self.items.len()
     }
 
-    /// Whether there is no element.
+    /// Returns whether the set has no elements.
+    ///
+    /// # Examples
     ///
     /// ```
     /// let set = vecset!(alloc; 1, 2);
@@ -34,7 +38,9 @@ impl<T: Eq> VecSet<T> {
         self.items.is_empty()
     }
 
-    /// How many elements fit before the vector has to grow.
+    /// Returns the number of elements that fit before the vector has to grow.
+    ///
+    /// # Examples
     ///
     /// ```
     /// let set: VecSet<u32> = VecSet::with_capacity(alloc, 4)?;
@@ -46,10 +52,16 @@ impl<T: Eq> VecSet<T> {
         self.items.capacity()
     }
 
-    /// Makes room for `additional` more elements, and for some beyond them, so that a row of insertions seldom grows.
+    /// Reserves capacity for at least `additional` more elements.
     ///
-    /// Where the room is there already it succeeds and nothing changes. Where memory is taken, all elements may move.
-    /// Refused, nothing has changed.
+    /// The call reserves some more than that, so that repeated insertions seldom allocate. If the spare capacity is
+    /// already enough, it succeeds and nothing changes. Otherwise all elements may be moved.
+    ///
+    /// # Errors
+    ///
+    /// [`AllocError`] if the allocator refuses the request; the set is then unchanged.
+    ///
+    /// # Examples
     ///
     /// ```
     /// let mut set = vecset!(alloc; 1, 2);
@@ -72,10 +84,16 @@ impl<T: Eq> VecSet<T> {
         self.items.reserve(additional)
     }
 
-    /// Makes room for `additional` more elements and no more than the allocator gives.
+    /// Reserves capacity for `additional` more elements, without the surplus that [`VecSet::reserve`] adds.
     ///
-    /// Where the room is there already it succeeds and nothing changes. Where memory is taken, all elements may move.
-    /// Refused, nothing has changed.
+    /// The allocator may still give more. If the spare capacity is already enough, the call succeeds and nothing
+    /// changes. Otherwise all elements may be moved.
+    ///
+    /// # Errors
+    ///
+    /// [`AllocError`] if the allocator refuses the request; the set is then unchanged.
+    ///
+    /// # Examples
     ///
     /// ```
     /// let mut set = vecset!(alloc; 1, 2);
@@ -98,7 +116,13 @@ impl<T: Eq> VecSet<T> {
         self.items.reserve_exact(additional)
     }
 
-    /// As `reserve`, with the error that Rust gives this call. Refused, nothing has changed.
+    /// Like [`VecSet::reserve`], but with the error type that Rust gives this call.
+    ///
+    /// # Errors
+    ///
+    /// [`TryReserveError`] if the allocator refuses the request; the set is then unchanged.
+    ///
+    /// # Examples
     ///
     /// ```
     /// let mut set = vecset!(alloc; 1, 2);
@@ -118,7 +142,13 @@ impl<T: Eq> VecSet<T> {
         self.reserve(additional)
     }
 
-    /// As `reserve_exact`, with the error that Rust gives this call. Refused, nothing has changed.
+    /// Like [`VecSet::reserve_exact`], but with the error type that Rust gives this call.
+    ///
+    /// # Errors
+    ///
+    /// [`TryReserveError`] if the allocator refuses the request; the set is then unchanged.
+    ///
+    /// # Examples
     ///
     /// ```
     /// let mut set = vecset!(alloc; 1, 2);
@@ -138,8 +168,11 @@ impl<T: Eq> VecSet<T> {
         self.reserve_exact(additional)
     }
 
-    /// Gives back as much memory as it can, for which all elements may move. It is never refused: without the memory
-    /// for a smaller block, the capacity stays.
+    /// Reduces the capacity as much as possible.
+    ///
+    /// All elements may be moved. The call never fails: if the allocator refuses a smaller block, the capacity stays.
+    ///
+    /// # Examples
     ///
     /// ```
     /// let mut set: VecSet<u32> = VecSet::with_capacity(alloc, 10)?;
@@ -158,8 +191,12 @@ impl<T: Eq> VecSet<T> {
         self.items.shrink_to_fit();
     }
 
-    /// Gives back memory down to a capacity of `min_capacity` or the number of elements, whichever is greater, for which
-    /// all elements may move. It is never refused: without the memory for a smaller block, the capacity stays.
+    /// Reduces the capacity to `min_capacity` or the number of elements, whichever is greater.
+    ///
+    /// A smaller capacity stays as it is. All elements may be moved. The call never fails: if the allocator refuses a
+    /// smaller block, the capacity stays.
+    ///
+    /// # Examples
     ///
     /// ```
     /// let mut set: VecSet<u32> = VecSet::with_capacity(alloc, 10)?;
@@ -177,7 +214,7 @@ impl<T: Eq> VecSet<T> {
         self.items.shrink_to(min_capacity);
     }
 
-    // Whether `additional` more elements fit.
+    // Whether the spare capacity suffices for `additional` more elements.
     fn has_room(&self, additional: usize) -> bool
         ensures room { IsTrue result ↔ HasRoom self.now additional }
         ensures fits { HasRoom self.now 0 }

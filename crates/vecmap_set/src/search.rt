@@ -1,4 +1,4 @@
-//! Binary searches of elements that are in order. None takes memory.
+//! Binary searches in sorted elements. None allocates.
 ghost use Rattle.std.specs.Prelude.{◌≡◌, ◌≤◌, Bool, false, length, true};
 ghost use Rattle.std.specs.Fn.{ComputesKey};
 ghost use Rattle.std.specs.List.{All};
@@ -11,11 +11,16 @@ use std::cmp::Ordering;
 use vecmap_base::{partition_point, search_items_by_key};
 
 impl<T: Eq> VecSet<T> {
-    /// Searches elements that ascend for one that is equal to `item` in their order, in O(log n) comparisons for n
-    /// elements.
+    /// Searches for an element by binary search, in a set whose elements are in ascending order.
     ///
-    /// `Ok` is the place of such an element, any one of them; where there is none, `Err` is the number of lesser ones, so
-    /// the place where `item` would go.
+    /// `Ok` is the index of an element that compares as equal to `item`, any one of them. If there is no such element,
+    /// `Err` is the number of lesser elements, which is the index at which `item` belongs.
+    ///
+    /// # Complexity
+    ///
+    /// O(log n) comparisons for n elements.
+    ///
+    /// # Examples
     ///
     /// ```
     /// let set = vecset!(alloc; 1, 2);
@@ -31,15 +36,23 @@ impl<T: Eq> VecSet<T> {
         self.items.binary_search(item)
     }
 
-    /// Searches elements by `f`, which answers how one compares with what is sought: `Less` of the first ones, then
-    /// `Equal`, then `Greater`. It takes O(log n) calls of `f` for n elements.
+    /// Searches the elements by binary search, with the comparison `f`.
     ///
-    /// `Ok` is the place of an equal element, any one of them; where there is none, `Err` is the number of less ones.
-    /// Where the elements are in another order, `Ok` is still an equal place, and `Err` tells nothing.
+    /// `f` returns how an element compares with what is sought: `Less` for the first elements, then `Equal`, then
+    /// `Greater`. `Ok` is the index of an equal element, any one of them. If there is no such element, `Err` is the
+    /// number of elements that are less. If the elements are in another order, `Ok` is still the index of an equal
+    /// element, but `Err` says nothing.
     ///
     /// # Conditions
     ///
-    /// `f` can be called at each element of the set. It is called at no others, so it may index a table by them.
+    /// `f` can be called with each element of the set. It is called with no others, so it may index a table by an
+    /// element.
+    ///
+    /// # Complexity
+    ///
+    /// O(log n) calls of `f` for n elements.
+    ///
+    /// # Examples
     ///
     /// ```
     /// let set = vecset!(alloc; 1, 2);
@@ -48,17 +61,25 @@ impl<T: Eq> VecSet<T> {
     pub fn binary_search_by<'a, F: Fn(&'a T) -> Ordering>(&'a self, f: F) -> Result<usize, usize>
         requires callable { All (CallableOnItem F.Fn f) self.now.elements }
         ensures within { IsSearchInRange result (length self.now.elements) }
-        ensures place { (ord : T → Ordering) → AnswersOnItem F.Fn ord f → IsBinarySearchResult ord self.now.elements result }
+        ensures place { (ord : T → Ordering) → AnswersOnItem F.Fn ord f
+            → IsBinarySearchResult ord self.now.elements result }
     {
         search_items_by(self.items.as_slice(), f)
     }
 
-    /// Searches elements that ascend by the key that `f` makes of one, for `key`, as `binary_search_by`. It takes
-    /// O(log n) calls of `f` and comparisons for n elements.
+    /// Searches the elements by binary search for the sort key `key`, where `f` returns the sort key of an element.
+    ///
+    /// The sort keys are in ascending order. The result is like that of [`VecSet::binary_search_by`].
     ///
     /// # Conditions
     ///
-    /// `f` can be called at each element of the set.
+    /// `f` can be called with each element of the set.
+    ///
+    /// # Complexity
+    ///
+    /// O(log n) calls of `f` and comparisons for n elements.
+    ///
+    /// # Examples
     ///
     /// ```
     /// let set = vecset!(alloc; 1, 2);
@@ -71,18 +92,24 @@ impl<T: Eq> VecSet<T> {
     ) -> Result<usize, usize>
         requires callable { All (CallableOnItem F.Fn f) self.now.elements }
         ensures within { IsSearchInRange result (length self.now.elements) }
-        ensures place { (key_of : T → B) → AnswersOnItem F.Fn key_of f → IsBinarySearchResult (λ x. B.cmp (key_of x) key.now) self.now.elements result }
+        ensures place { (key_of : T → B) → AnswersOnItem F.Fn key_of f
+            → IsBinarySearchResult (λ x. B.cmp (key_of x) key.now) self.now.elements result }
     {
         let items = self.items.as_slice();
         search_items_by_key(items, key, f)
     }
 
-    /// The number of elements that pass `pred`, where those that pass come first, in O(log n) calls of `pred` for n
-    /// elements.
+    /// Returns the number of elements for which `pred` returns `true`, if these elements come first.
     ///
     /// # Conditions
     ///
-    /// `pred` can be called at each element of the set.
+    /// `pred` can be called with each element of the set.
+    ///
+    /// # Complexity
+    ///
+    /// O(log n) calls of `pred` for n elements.
+    ///
+    /// # Examples
     ///
     /// ```
     /// let set = vecset!(alloc; 1, 2);
@@ -91,17 +118,20 @@ impl<T: Eq> VecSet<T> {
     pub fn partition_point<P: Fn(&T) -> bool>(&self, pred: P) -> usize
         requires callable { All (CallableOnItem P.Fn pred) self.now.elements }
         ensures within { result ≤ length self.now.elements }
-        ensures place { (p : T → Bool) → ComputesKey P.FnMut p pred → IsPartitionedBy p self.now.elements → IsPartitionPoint (λ x. p x ≡ true) (λ x. p x ≡ false) self.now.elements result }
+        ensures place { (p : T → Bool) → ComputesKey P.FnMut p pred
+            → IsPartitionedBy p self.now.elements
+            → IsPartitionPoint (λ x. p x ≡ true) (λ x. p x ≡ false) self.now.elements result }
     {
         partition_point(&self.items, pred)
     }
 }
 
-// Searches items by `f`, as `VecSet::binary_search_by`.
+// Searches items by `f`, like `VecSet::binary_search_by`.
 fn search_items_by<'a, T, F: Fn(&'a T) -> Ordering>(items: &'a [T], f: F) -> Result<usize, usize>
     requires callable { All (CallableOnItem F.Fn f) items.now }
     ensures within { IsSearchInRange result (length items.now) }
-    ensures place { (ord : T → Ordering) → AnswersOnItem F.Fn ord f → IsBinarySearchResult ord items.now result }
+    ensures place { (ord : T → Ordering) → AnswersOnItem F.Fn ord f
+        → IsBinarySearchResult ord items.now result }
 {
     let mut size = items.len();
     if size == 0 {

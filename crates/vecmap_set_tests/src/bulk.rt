@@ -1,4 +1,4 @@
-//! Sets of many elements at once, with elements that are equal and not identical.
+//! Calls that insert many elements at once, with elements that are equal and not identical.
 use std::test::Fail;
 use vecmap::VecSet;
 use vecmap_fixtures::{Hinted, has_items, make_item, set_of};
@@ -47,7 +47,7 @@ fn extending_keeps_stored_elements(rt: HostRuntime) -> Result<(), Fail> {
 }
 
 #[test]
-fn append_adds_all_and_leaves_the_room_of_the_other(rt: HostRuntime) -> Result<(), Fail> {
+fn append_adds_all_and_leaves_the_capacity_of_the_other(rt: HostRuntime) -> Result<(), Fail> {
     let mut set = set_of(rt.alloc(), &[3, 2, 1])?;
     let mut other = set_of(rt.alloc(), &[3, 4, 5])?;
     let room = other.capacity();
@@ -82,7 +82,7 @@ fn a_size_hint_decides_nothing(rt: HostRuntime) -> Result<(), Fail> {
 }
 
 #[test]
-fn nothing_is_reserved_for_elements_that_are_there(rt: HostRuntime) -> Result<(), Fail> {
+fn nothing_is_reserved_for_existing_elements(rt: HostRuntime) -> Result<(), Fail> {
     let mut set = set_of(rt.alloc(), &[1, 2])?;
     set.shrink_to_fit();
     let room = set.capacity();
@@ -90,5 +90,21 @@ fn nothing_is_reserved_for_elements_that_are_there(rt: HostRuntime) -> Result<()
     set.extend_copied(&[1, 1, 2])?;
     assert!(rt; set.as_slice() == [1, 2].as_slice());
     assert!(rt; set.capacity() == room);
+    Ok(())
+}
+
+#[test]
+fn from_slice_keeps_the_first_of_equal_elements(rt: HostRuntime) -> Result<(), Fail> {
+    let items = [make_item(1, 'x'), make_item(1, 'y'), make_item(2, 'z')];
+    let set = VecSet::from_slice(rt.alloc(), &items)?;
+    assert!(rt; has_items(set.as_slice(), &[(1, 'x'), (2, 'z')]));
+    Ok(())
+}
+
+#[test]
+fn from_slice_reserves_nothing_for_repeats(rt: HostRuntime) -> Result<(), Fail> {
+    let set = VecSet::from_slice(rt.alloc(), &[1; 9])?;
+    assert!(rt; set.as_slice() == [1].as_slice());
+    assert!(rt; set.capacity() < 9);
     Ok(())
 }

@@ -1,5 +1,5 @@
-//! Loops over a set by reference, proved from the contracts alone. A crate that writes them names `vecmap_set` beside
-//! `vecmap`, where `IntoIterator` for references to a set stands.
+//! Loops over a set by reference, proved from the contracts alone. A crate that writes them lists `vecmap_set` in
+//! addition to `vecmap`, as `vecmap_set` holds the impl of `IntoIterator` for references to a set.
 ghost use Rattle.std.specs.Prelude.{◌≡◌, ◌<◌, ◌^◌, sum};
 
 use std::alloc::{AllocError, Global};
@@ -7,7 +7,7 @@ use std::test::Fail;
 use vecmap::VecSet;
 use vecmap_fixtures::set_of;
 
-/// The sum of the elements.
+/// Returns the sum of the elements.
 fn total(set: &VecSet<u32>) -> u32
     requires { sum set.now.elements < 2 ^ 32 }
     ensures { result ≡ sum set.now.elements }
@@ -19,7 +19,7 @@ fn total(set: &VecSet<u32>) -> u32
     all
 }
 
-/// The elements, in their order.
+/// Returns the elements, in order.
 fn gather(alloc: Global, set: &VecSet<u32>) -> Result<Vec<u32>, AllocError> {
     let mut all = Vec::new(alloc);
     for element in set {

@@ -1,4 +1,4 @@
-//! Clones that an element of a chosen number refuses: the sources stay, and what was made is dropped.
+//! Clones that fail at an element of a chosen number: the sources are unchanged, and the clones so far are dropped.
 use std::test::Fail;
 use vecmap::VecSet;
 use vecmap_fixtures::{Log, Told, has_told, told_set};
@@ -38,6 +38,9 @@ fn a_refused_clone_leaves_an_iterator(rt: HostRuntime) -> Result<(), Fail> {
         let mut items = told_set(rt.alloc(), &log, &[1, 2, 3])?.into_iter();
         drop(items.next());
         assert!(rt; items.clone().is_err() && log.alive() == 2, "at {number}");
+        log.refuse_clones_of(0);
+        let copies: Vec<Told<'_>> = items.clone()?.collect(rt.alloc())?;
+        assert!(rt; has_told(&copies, &[2, 3]), "at {number}");
         let items: Vec<Told<'_>> = items.collect(rt.alloc())?;
         assert!(rt; has_told(&items, &[2, 3]), "at {number}");
     }

@@ -1,4 +1,4 @@
-//! Sets made of vectors, and vectors of sets.
+//! Conversion from vectors to sets, and from sets to vectors.
 use std::test::Fail;
 use vecmap::{VecSet, items_distinct};
 use vecmap_fixtures::{Log, has_items, make_item, set_of, told_items};
@@ -23,7 +23,7 @@ fn a_vector_loses_its_repeats(rt: HostRuntime) -> Result<(), Fail> {
 }
 
 #[test]
-fn a_vector_gives_the_set_of_its_inserts(rt: HostRuntime) -> Result<(), Fail> {
+fn a_set_of_a_vector_is_that_of_single_inserts(rt: HostRuntime) -> Result<(), Fail> {
     let items = [make_item(1, 'f'), make_item(2, 'b'), make_item(1, 's')];
     let set = VecSet::from(items.to_vec(rt.alloc())?);
     assert!(rt; has_items(set.as_slice(), &[(1, 'f'), (2, 'b')]));
@@ -39,7 +39,7 @@ fn a_vector_gives_the_set_of_its_inserts(rt: HostRuntime) -> Result<(), Fail> {
 }
 
 #[test]
-fn a_vector_is_made_a_set_by_the_comparisons_it_counts(rt: HostRuntime) -> Result<(), Fail> {
+fn a_set_of_a_vector_counts_its_comparisons(rt: HostRuntime) -> Result<(), Fail> {
     for (numbers, expected) in [
         ([].as_slice(), 0),
         ([1].as_slice(), 0),
@@ -71,7 +71,7 @@ fn clones_hold_the_elements_in_their_order(rt: HostRuntime) -> Result<(), Fail> 
 }
 
 #[test]
-fn distinct_elements_are_told_from_repeats(rt: HostRuntime) -> Result<(), Fail> {
+fn distinct_elements_are_distinguished_from_repeats(rt: HostRuntime) -> Result<(), Fail> {
     for (items, is_distinct) in [
         ([].as_slice(), true),
         ([2, 1].as_slice(), true),

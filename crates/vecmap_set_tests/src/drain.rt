@@ -5,7 +5,7 @@ use vecmap::VecSet;
 use vecmap_fixtures::{Log, has_items, make_item, pulls_as_list, set_of, told_items};
 
 #[test]
-fn a_drain_gives_its_range_from_both_ends(rt: HostRuntime) -> Result<(), Fail> {
+fn a_drain_returns_its_range_from_both_ends(rt: HostRuntime) -> Result<(), Fail> {
     let mut set = set_of(rt.alloc(), &[0, 1, 2, 3, 4])?;
     let room = set.capacity();
     assert!(rt; 4 <= set.len());
@@ -25,7 +25,7 @@ fn a_drain_gives_its_range_from_both_ends(rt: HostRuntime) -> Result<(), Fail> {
 const SIX: [u32; 6] = [5, 6, 7, 8, 9, 10];
 
 #[test]
-fn a_drain_gives_its_list_under_every_mixture(rt: HostRuntime) -> Result<(), Fail> {
+fn a_drain_is_exact_for_every_mixture_of_next_and_next_back(rt: HostRuntime) -> Result<(), Fail> {
     for count in 0..5 {
         let end = count + 1;
         for ends in 0..64 {
@@ -39,7 +39,7 @@ fn a_drain_gives_its_list_under_every_mixture(rt: HostRuntime) -> Result<(), Fai
 }
 
 #[test]
-fn a_drain_that_is_dropped_takes_the_whole_range(rt: HostRuntime) -> Result<(), Fail> {
+fn a_dropped_drain_removes_the_whole_range(rt: HostRuntime) -> Result<(), Fail> {
     let four = [
         make_item(0, 'a'),
         make_item(1, 'b'),
@@ -85,7 +85,7 @@ fn a_range_may_have_any_ends(rt: HostRuntime) -> Result<(), Fail> {
 }
 
 #[test]
-fn each_element_that_goes_is_dropped_once(rt: HostRuntime) -> Result<(), Fail> {
+fn each_element_that_a_drain_removes_is_dropped_once(rt: HostRuntime) -> Result<(), Fail> {
     for pulls in 0..4 {
         let log = Log::new();
         let mut set = VecSet::from(told_items(rt.alloc(), &log, &[0, 1, 2, 3, 4])?);
@@ -110,7 +110,7 @@ fn each_element_that_goes_is_dropped_once(rt: HostRuntime) -> Result<(), Fail> {
 }
 
 #[test]
-fn a_drain_prints_what_is_still_to_come(rt: HostRuntime) -> Result<(), Fail> {
+fn a_drain_prints_the_elements_that_are_left(rt: HostRuntime) -> Result<(), Fail> {
     let mut set = set_of(rt.alloc(), &[5, 6, 7])?;
     let mut items = set.drain(..);
     assert!(rt; format!(in rt.alloc(); "{items:?}")?.as_str() == "[5, 6, 7]");

@@ -1,4 +1,4 @@
-//! What is handed in is dropped once, or comes back. `alive` counts the elements that are somewhere.
+//! Elements that are passed to a call are dropped once, or returned. `alive` counts those that are not dropped.
 use std::test::Fail;
 use vecmap::macros::add_item;
 use vecmap::{VecSet, items_distinct};

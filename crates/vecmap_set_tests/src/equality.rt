@@ -1,4 +1,4 @@
-//! Equality of sets, and one set within another.
+//! Equality of sets, and tests for subsets.
 use std::test::Fail;
 use vecmap::VecSet;
 use vecmap_fixtures::{Log, set_of, told_items};

@@ -21,13 +21,13 @@ fn extend_by_the_trait_adds_in_order(rt: HostRuntime) -> Result<(), Fail> {
     Ok(())
 }
 
-// Ten times a number, or none.
+// Returns ten times a number, or an error.
 fn tenfold(number: u32) -> Result<u32, AllocError> {
     number.checked_mul(10).ok_or(AllocError)
 }
 
 #[test]
-fn try_collect_makes_a_set_or_hands_the_error_on(rt: HostRuntime) -> Result<(), Fail> {
+fn try_collect_makes_a_set_or_returns_the_error(rt: HostRuntime) -> Result<(), Fail> {
     let alloc = rt.alloc();
     let set: VecSet<u32> = [2, 1, 2, 3]
         .iter()

@@ -15,7 +15,7 @@ fn an_insert_of_an_equal_element_keeps_the_stored_one(rt: HostRuntime) -> Result
 }
 
 #[test]
-fn replace_takes_the_new_element_in(rt: HostRuntime) -> Result<(), Fail> {
+fn replace_stores_the_new_element(rt: HostRuntime) -> Result<(), Fail> {
     let mut set = item_set(rt.alloc(), &[(1, 'x'), (2, 'b')])?;
     let room = set.capacity();
     let old = set.replace(make_item(1, 'y'))?.ok_or("absent")?;
@@ -28,7 +28,7 @@ fn replace_takes_the_new_element_in(rt: HostRuntime) -> Result<(), Fail> {
 }
 
 #[test]
-fn a_new_element_goes_last(rt: HostRuntime) -> Result<(), Fail> {
+fn a_new_element_is_appended(rt: HostRuntime) -> Result<(), Fail> {
     let mut set = VecSet::new(rt.alloc());
     assert!(rt; set.insert(make_item(1, 'a'))?);
     assert!(rt; set.insert(make_item(2, 'b'))?);

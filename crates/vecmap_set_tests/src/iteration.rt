@@ -6,7 +6,7 @@ use vecmap_fixtures::{Log, pulls_as_list, told_items};
 const ELEMENTS: [u32; 4] = [1, 2, 3, 4];
 
 #[test]
-fn iter_gives_its_list_under_every_mixture(rt: HostRuntime) -> Result<(), Fail> {
+fn iter_is_exact_for_every_mixture_of_next_and_next_back(rt: HostRuntime) -> Result<(), Fail> {
     for count in 0..5 {
         let set = VecSet::from_slice(rt.alloc(), &ELEMENTS[..count])?;
         for ends in 0..64 {
@@ -19,7 +19,7 @@ fn iter_gives_its_list_under_every_mixture(rt: HostRuntime) -> Result<(), Fail> 
 }
 
 #[test]
-fn into_iter_gives_its_list_under_every_mixture(rt: HostRuntime) -> Result<(), Fail> {
+fn into_iter_is_exact_for_every_mixture_of_next_and_next_back(rt: HostRuntime) -> Result<(), Fail> {
     for count in 0..5 {
         for ends in 0..64 {
             let set = VecSet::from_slice(rt.alloc(), &ELEMENTS[..count])?;
@@ -32,7 +32,7 @@ fn into_iter_gives_its_list_under_every_mixture(rt: HostRuntime) -> Result<(), F
 }
 
 #[test]
-fn clones_give_what_is_left(rt: HostRuntime) -> Result<(), Fail> {
+fn clones_return_what_is_left(rt: HostRuntime) -> Result<(), Fail> {
     let set = VecSet::from_slice(rt.alloc(), &ELEMENTS)?;
     for ends in 0..64 {
         let read = |element: &u32| *element;
@@ -49,7 +49,7 @@ fn clones_give_what_is_left(rt: HostRuntime) -> Result<(), Fail> {
 }
 
 #[test]
-fn a_dropped_iterator_drops_the_rest_once(rt: HostRuntime) -> Result<(), Fail> {
+fn a_dropped_iterator_drops_each_element_that_is_left_once(rt: HostRuntime) -> Result<(), Fail> {
     let log = Log::new();
     let set = VecSet::from(told_items(rt.alloc(), &log, &[1, 2, 3, 4])?);
     let mut elements = set.into_iter();

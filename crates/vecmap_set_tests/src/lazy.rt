@@ -3,7 +3,7 @@ use std::test::Fail;
 use vecmap::VecSet;
 use vecmap_fixtures::{Log, item_set, set_of, told_items};
 
-// What is left of one list: the places not yet walked, and which places are kept.
+// What is left of one list: the range of indices not yet visited, and the indices of the elements that are kept.
 #[derive(Clone, Copy)]
 struct Left<'a> {
     items: &'a [(u32, char)],
@@ -12,7 +12,7 @@ struct Left<'a> {
     end: usize,
 }
 
-// The list before the first pull.
+// Returns the list before the first call.
 fn all_of<'a>(items: &'a [(u32, char)], kept: &'a [usize]) -> Left<'a> {
     Left {
         items,
@@ -23,7 +23,8 @@ fn all_of<'a>(items: &'a [(u32, char)], kept: &'a [usize]) -> Left<'a> {
 }
 
 impl Left<'_> {
-    // The first kept element that is not walked yet. With it all before it are walked, and all where there is none.
+    // Returns the first kept element that is not yet visited. It and all elements before it are then visited, or all
+    // elements if there is none.
     fn front(&mut self) -> Option<(u32, char)> {
         let (start, end) = (self.start, self.end);
         let place = self
@@ -35,7 +36,7 @@ impl Left<'_> {
         self.items.get(place?).copied()
     }
 
-    // The same of the last.
+    // The same from the back.
     fn back(&mut self) -> Option<(u32, char)> {
         let (start, end) = (self.start, self.end);
         let place = self
@@ -53,7 +54,7 @@ impl Left<'_> {
     }
 }
 
-// What is left of two lists, one after the other, and whether all of the first is kept.
+// What is left of two lists, the second after the first, and whether all of the first is kept.
 #[derive(Clone, Copy)]
 struct Parts<'a> {
     first: Left<'a>,
@@ -89,7 +90,8 @@ impl Parts<'_> {
     }
 }
 
-// Two sets, and the places of each whose elements the other has, and has not. The marks tell equal elements apart.
+// Two sets, and for each set the indices of the elements that the other set has, and of those that it has not. The
+// marks tell equal elements apart.
 struct Case {
     left: &'static [(u32, char)],
     right: &'static [(u32, char)],
@@ -158,7 +160,8 @@ const CASES: &[Case] = &[
     },
 ];
 
-// Every mixture of six pulls, with the hint at each step, and clones half way that go on by themselves.
+// Checks every mixture of six calls of `next` and `next_back`, with the hint at each step, and with a clone after the
+// second call that continues by itself.
 macro_rules! assert_pulls {
     ($rt:expr, $iter:expr, $left:expr) => {
         for ends in 0..64_u32 {
@@ -195,7 +198,9 @@ const NONE: Left<'static> = Left {
 };
 
 #[test]
-fn a_difference_gives_its_list_under_every_mixture_of_pulls(rt: HostRuntime) -> Result<(), Fail> {
+fn a_difference_is_exact_for_every_mixture_of_next_and_next_back(
+    rt: HostRuntime,
+) -> Result<(), Fail> {
     for case in CASES {
         let a = item_set(rt.alloc(), case.left)?;
         let b = item_set(rt.alloc(), case.right)?;
@@ -210,7 +215,7 @@ fn a_difference_gives_its_list_under_every_mixture_of_pulls(rt: HostRuntime) -> 
 }
 
 #[test]
-fn an_intersection_gives_its_list_under_every_mixture_of_pulls(
+fn an_intersection_is_exact_for_every_mixture_of_next_and_next_back(
     rt: HostRuntime,
 ) -> Result<(), Fail> {
     for case in CASES {
@@ -232,7 +237,7 @@ fn an_intersection_gives_its_list_under_every_mixture_of_pulls(
 }
 
 #[test]
-fn a_symmetric_difference_gives_its_list_under_every_mixture_of_pulls(
+fn a_symmetric_difference_is_exact_for_every_mixture_of_next_and_next_back(
     rt: HostRuntime,
 ) -> Result<(), Fail> {
     for case in CASES {
@@ -249,7 +254,7 @@ fn a_symmetric_difference_gives_its_list_under_every_mixture_of_pulls(
 }
 
 #[test]
-fn a_union_gives_its_list_under_every_mixture_of_pulls(rt: HostRuntime) -> Result<(), Fail> {
+fn a_union_is_exact_for_every_mixture_of_next_and_next_back(rt: HostRuntime) -> Result<(), Fail> {
     for case in CASES {
         let a = item_set(rt.alloc(), case.left)?;
         let b = item_set(rt.alloc(), case.right)?;
@@ -275,7 +280,7 @@ fn a_union_gives_its_list_under_every_mixture_of_pulls(rt: HostRuntime) -> Resul
 }
 
 #[test]
-fn hints_follow_the_pulls(rt: HostRuntime) -> Result<(), Fail> {
+fn size_hints_follow_the_calls_of_next(rt: HostRuntime) -> Result<(), Fail> {
     let a = set_of(rt.alloc(), &[1, 2, 3, 4])?;
     let b = set_of(rt.alloc(), &[2, 4])?;
     let mut lacking = a.difference(&b);
@@ -300,7 +305,7 @@ fn hints_follow_the_pulls(rt: HostRuntime) -> Result<(), Fail> {
 }
 
 #[test]
-fn a_union_and_its_clone_go_on_by_themselves(rt: HostRuntime) -> Result<(), Fail> {
+fn a_union_and_its_clone_are_independent(rt: HostRuntime) -> Result<(), Fail> {
     let a = set_of(rt.alloc(), &[1, 2])?;
     let b = set_of(rt.alloc(), &[2, 3])?;
     let mut all = a.union(&b);
@@ -314,7 +319,7 @@ fn a_union_and_its_clone_go_on_by_themselves(rt: HostRuntime) -> Result<(), Fail
 }
 
 #[test]
-fn lists_come_in_their_order(rt: HostRuntime) -> Result<(), Fail> {
+fn lazy_iterators_keep_the_order(rt: HostRuntime) -> Result<(), Fail> {
     let a = set_of(rt.alloc(), &[1, 2, 3])?;
     let b = VecSet::from([4, 2, 3, 4].to_vec(rt.alloc())?);
     let difference: Vec<u32> = a.difference(&b).copied().collect(rt.alloc())?;
@@ -336,7 +341,7 @@ fn lists_come_in_their_order(rt: HostRuntime) -> Result<(), Fail> {
     Ok(())
 }
 
-// Each of these pulls makes as many comparisons as expected.
+// Checks that each of these calls makes as many comparisons as expected.
 macro_rules! assert_comparisons {
     ($rt:expr, $log:expr, $iter:ident.$pull:ident, $expected:expr) => {
         for expected in $expected {
@@ -348,7 +353,7 @@ macro_rules! assert_comparisons {
 }
 
 #[test]
-fn pulls_compare_no_more_than_they_need(rt: HostRuntime) -> Result<(), Fail> {
+fn calls_of_next_compare_no_more_than_they_need(rt: HostRuntime) -> Result<(), Fail> {
     let log = Log::new();
     let a = VecSet::from(told_items(rt.alloc(), &log, &[1, 2, 3, 4])?);
     let b = VecSet::from(told_items(rt.alloc(), &log, &[2, 4])?);
@@ -388,9 +393,7 @@ fn what_is_left_is_printed(rt: HostRuntime) -> Result<(), Fail> {
 }
 
 #[test]
-fn an_intersection_gives_the_stored_element_of_the_shorter_set(
-    rt: HostRuntime,
-) -> Result<(), Fail> {
+fn an_intersection_returns_the_element_of_the_shorter_set(rt: HostRuntime) -> Result<(), Fail> {
     let a = item_set(rt.alloc(), &[(1, 'x'), (2, 'y')])?;
     let b = item_set(rt.alloc(), &[(2, 'z')])?;
     for mut shared in [a.intersection(&b), b.intersection(&a)] {
@@ -401,7 +404,7 @@ fn an_intersection_gives_the_stored_element_of_the_shorter_set(
 }
 
 #[test]
-fn an_intersection_of_equally_long_sets_gives_the_stored_element_of_the_left_one(
+fn an_intersection_of_equally_long_sets_returns_the_element_of_the_left_one(
     rt: HostRuntime,
 ) -> Result<(), Fail> {
     let a = item_set(rt.alloc(), &[(2, 'y')])?;

@@ -1,4 +1,9 @@
-//! Tests of sets: each file tests the module that it is named for.
+//! Tests of sets. Each file tests the module of `vecmap_set` that it is named for, but these, which are by topic:
+//!
+//! - `by_reference`: loops over references to a set.
+//! - `clones`: elements whose clones are refused.
+//! - `drops`: each element that is passed is dropped once, or returned.
+//! - `no_size`: elements of no size.
 #![tactic(auto)]
 
 #[cfg(test)]
@@ -20,6 +25,10 @@ mod equality;
 #[cfg(test)]
 mod extending;
 #[cfg(test)]
+mod formatting;
+#[cfg(test)]
+mod indexing;
+#[cfg(test)]
 mod insertion;
 #[cfg(test)]
 mod iteration;
@@ -38,10 +47,6 @@ mod order;
 #[cfg(test)]
 mod removal;
 #[cfg(test)]
-mod retain;
-#[cfg(test)]
 mod room;
 #[cfg(test)]
 mod search;
-#[cfg(test)]
-mod split_off;

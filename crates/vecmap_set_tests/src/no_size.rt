@@ -1,4 +1,4 @@
-//! Elements of no size.
+//! Elements of zero size.
 use std::test::Fail;
 use vecmap::VecSet;
 

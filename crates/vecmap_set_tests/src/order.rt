@@ -1,4 +1,4 @@
-//! The order of a set's elements, and how a set prints.
+//! The order of a set's elements.
 use std::alloc::{AllocError, Global};
 use std::cell::Cell;
 use std::cmp::Ordering;
@@ -6,7 +6,7 @@ use std::test::Fail;
 use vecmap::VecSet;
 use vecmap_fixtures::{has_items, item_set, set_of};
 
-// The numbers below `count`, which rise or fall.
+// Creates a set of the numbers below `count`, in ascending or descending order.
 fn shaped_set(alloc: Global, falls: bool, count: u32) -> Result<VecSet<u32>, AllocError> {
     let mut set = VecSet::new(alloc);
     for place in 0..count {
@@ -27,20 +27,13 @@ fn rises(set: &VecSet<u32>, count: u32) -> bool {
 }
 
 #[test]
-fn elements_change_places(rt: HostRuntime) -> Result<(), Fail> {
+fn swap_indices_and_reverse_move_elements(rt: HostRuntime) -> Result<(), Fail> {
     let mut set = set_of(rt.alloc(), &[1, 2, 3, 4])?;
     assert!(rt; set.len() == 4);
     set.swap_indices(1, 3);
     assert!(rt; set.as_slice() == [1, 4, 3, 2].as_slice());
     set.reverse();
     assert!(rt; set.as_slice() == [2, 3, 4, 1].as_slice());
-    Ok(())
-}
-
-#[test]
-fn a_set_prints_its_elements_in_order(rt: HostRuntime) -> Result<(), Fail> {
-    let set = set_of(rt.alloc(), &[3, 1, 2])?;
-    assert!(rt; format!(in rt.alloc(); "{set:?}")?.as_str() == "{3, 1, 2}");
     Ok(())
 }
 
@@ -92,7 +85,7 @@ fn sorts_of_every_length_and_shape(rt: HostRuntime) -> Result<(), Fail> {
             let mut set = shaped_set(rt.alloc(), falls, count)?;
             set.sort_by_cached_key(|item| *item)?;
             assert!(rt; rises(&set, count));
-            // All tied: a stable sort leaves what is there.
+            // The comparison returns `Equal` for all elements, so a stable sort leaves their order.
             set.sort_by(|_, _| Ordering::Equal)?;
             set.sort_by_cached_key(|_| 0u8)?;
             assert!(rt; rises(&set, count));

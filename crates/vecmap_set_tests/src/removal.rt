@@ -1,4 +1,7 @@
 //! Removal from a set.
+mod retain;
+mod split_off;
+
 use std::test::Fail;
 use vecmap_fixtures::{has_items, make_item, set_of};
 
@@ -26,7 +29,7 @@ fn a_removal_by_element_shifts_what_follows(rt: HostRuntime) -> Result<(), Fail>
 }
 
 #[test]
-fn a_swap_removal_by_element_puts_the_last_in_its_place(rt: HostRuntime) -> Result<(), Fail> {
+fn a_swap_removal_by_element_fills_the_gap_with_the_last(rt: HostRuntime) -> Result<(), Fail> {
     let mut set = set_of(
         rt.alloc(),
         &[
@@ -50,7 +53,7 @@ fn a_swap_removal_by_element_puts_the_last_in_its_place(rt: HostRuntime) -> Resu
 }
 
 #[test]
-fn an_element_is_swapped_out_once(rt: HostRuntime) -> Result<(), Fail> {
+fn swap_take_removes_an_element_once(rt: HostRuntime) -> Result<(), Fail> {
     let mut set = set_of(rt.alloc(), &[1, 2, 3, 4])?;
     assert!(rt; set.swap_take(&2) == Some(2));
     assert!(rt; set.as_slice() == [1, 4, 3].as_slice());
@@ -60,7 +63,7 @@ fn an_element_is_swapped_out_once(rt: HostRuntime) -> Result<(), Fail> {
 }
 
 #[test]
-fn a_removal_by_place_shifts_or_swaps(rt: HostRuntime) -> Result<(), Fail> {
+fn a_removal_by_index_shifts_or_swaps(rt: HostRuntime) -> Result<(), Fail> {
     for (index, item, shifted, swapped) in [
         (0, "foo", ["bar", "baz", "qux"], ["qux", "bar", "baz"]),
         (1, "bar", ["foo", "baz", "qux"], ["foo", "qux", "baz"]),
@@ -79,7 +82,7 @@ fn a_removal_by_place_shifts_or_swaps(rt: HostRuntime) -> Result<(), Fail> {
 }
 
 #[test]
-fn the_end_of_a_set_goes(rt: HostRuntime) -> Result<(), Fail> {
+fn pop_truncate_and_clear_remove_from_the_end(rt: HostRuntime) -> Result<(), Fail> {
     let mut set = set_of(rt.alloc(), &[1, 2, 3, 4])?;
     let room = set.capacity();
     assert!(rt; set.pop() == Some(4));
@@ -106,7 +109,7 @@ fn swap_take_moves_the_last_of_three_elements(rt: HostRuntime) -> Result<(), Fai
 }
 
 #[test]
-fn swap_remove_index_takes_the_first_element_twice(rt: HostRuntime) -> Result<(), Fail> {
+fn swap_remove_index_removes_the_first_element_twice(rt: HostRuntime) -> Result<(), Fail> {
     let mut set = set_of(rt.alloc(), &["foo", "bar", "baz", "qux"])?;
     assert!(rt; 0 < set.len());
     assert!(rt; set.swap_remove_index(0) == "foo");

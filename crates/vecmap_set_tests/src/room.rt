@@ -1,10 +1,10 @@
-//! How many elements a set has, and how many it has room for.
+//! The length and the capacity of a set.
 use std::test::Fail;
 use vecmap::VecSet;
 use vecmap_fixtures::set_of;
 
 #[test]
-fn an_empty_set_has_no_element_and_no_room(rt: HostRuntime) -> Result<(), Fail> {
+fn an_empty_set_has_no_element_and_no_capacity(rt: HostRuntime) -> Result<(), Fail> {
     let mut set: VecSet<u32> = VecSet::new(rt.alloc());
     assert!(rt; set.is_empty() && set.as_slice().is_empty());
     assert!(rt; (set.len(), set.capacity()) == (0, 0));
@@ -17,7 +17,7 @@ fn an_empty_set_has_no_element_and_no_room(rt: HostRuntime) -> Result<(), Fail> 
 }
 
 #[test]
-fn room_that_was_made_is_there(rt: HostRuntime) -> Result<(), Fail> {
+fn reserved_capacity_takes_insertions(rt: HostRuntime) -> Result<(), Fail> {
     let mut set = VecSet::with_capacity(rt.alloc(), 3)?;
     let room = set.capacity();
     assert!(rt; room >= 3);
@@ -38,7 +38,7 @@ fn room_that_was_made_is_there(rt: HostRuntime) -> Result<(), Fail> {
 }
 
 #[test]
-fn room_that_suffices_stays(rt: HostRuntime) -> Result<(), Fail> {
+fn capacity_that_suffices_stays(rt: HostRuntime) -> Result<(), Fail> {
     let mut set = VecSet::with_capacity(rt.alloc(), 8)?;
     set.insert(5)?;
     let room = set.capacity();
@@ -52,7 +52,7 @@ fn room_that_suffices_stays(rt: HostRuntime) -> Result<(), Fail> {
 }
 
 #[test]
-fn room_that_no_vector_has_is_refused(rt: HostRuntime) -> Result<(), Fail> {
+fn capacity_past_what_a_vector_holds_is_refused(rt: HostRuntime) -> Result<(), Fail> {
     let mut set = set_of(rt.alloc(), &[1, 2])?;
     let room = set.capacity();
     assert!(rt; set.reserve(usize::MAX).is_err());

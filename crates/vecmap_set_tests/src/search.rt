@@ -5,7 +5,7 @@ use vecmap::VecSet;
 use vecmap_fixtures::set_of;
 
 #[test]
-fn searches_answer_an_equal_place_or_where_one_would_go(rt: HostRuntime) -> Result<(), Fail> {
+fn searches_return_an_equal_index_or_where_to_insert(rt: HostRuntime) -> Result<(), Fail> {
     let set = set_of(rt.alloc(), &[1u32, 2, 3])?;
     assert!(rt; set.binary_search(&2) == Ok(1));
     assert!(rt; set.binary_search(&5) == Err(3));
@@ -35,7 +35,7 @@ fn searches_of_every_length(rt: HostRuntime) -> Result<(), Fail> {
             assert!(rt; set.partition_point(|item| *item < even) == place);
             assert!(rt; set.binary_search(&odd) == Err(place.wrapping_add(1)));
         }
-        // All tied: every place is equal, or none is.
+        // All sort keys are equal: each index is a match, or none is.
         assert!(rt; set.binary_search_by_key(&7, |_| 7).is_ok() == (0 < count));
         assert!(rt; set.binary_search_by_key(&6, |_| 7) == Err(0));
         assert!(rt; set.binary_search_by_key(&8, |_| 7) == Err(count as usize));
@@ -43,7 +43,7 @@ fn searches_of_every_length(rt: HostRuntime) -> Result<(), Fail> {
     Ok(())
 }
 
-// How many elements a search asks of, for a number of elements: it halves what is left, down to one.
+// How many elements a search compares, for a number of elements: it halves what is left, down to one.
 const ASKED: [(u32, u32); 8] = [
     (0, 0),
     (1, 1),
@@ -56,7 +56,7 @@ const ASKED: [(u32, u32); 8] = [
 ];
 
 #[test]
-fn searches_ask_as_often_as_they_halve(rt: HostRuntime) -> Result<(), Fail> {
+fn searches_compare_as_often_as_they_halve(rt: HostRuntime) -> Result<(), Fail> {
     for (count, asked) in ASKED {
         let mut set = VecSet::new(rt.alloc());
         for item in 0..count {

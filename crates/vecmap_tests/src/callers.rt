@@ -1,8 +1,11 @@
-//! Runs of functions that are proved from the contracts of what they call.
+//! Runs of functions that are proved from the contracts of the calls that they use.
+mod header_lists;
 mod headers;
+mod interner;
 mod options;
 mod registry;
 mod scopes;
+mod settings;
 mod traits;
 mod words;
 
@@ -82,7 +85,7 @@ fn callers_of_lent_values_write_what_they_say(rt: HostRuntime) -> Result<(), Fai
 }
 
 #[test]
-fn callers_by_place_do_what_they_say(rt: HostRuntime) -> Result<(), Fail> {
+fn callers_by_index_do_what_they_say(rt: HostRuntime) -> Result<(), Fail> {
     let mut map = VecMap::from_slice(rt.alloc(), &[('a', 1), ('b', 2)])?;
     assert!(rt; places::put_last(&mut map, 'a', 3)? == Some((0, 1)));
     assert!(rt; map.as_slice() == [('b', 2), ('a', 3)].as_slice());
@@ -92,7 +95,7 @@ fn callers_by_place_do_what_they_say(rt: HostRuntime) -> Result<(), Fail> {
     Ok(())
 }
 
-// The name of a text.
+// Creates the name of a text.
 fn name(alloc: Global, text: &str) -> Result<Name, AllocError> {
     let text = String::from_str(alloc, text)?;
     Ok(Name::new(text))

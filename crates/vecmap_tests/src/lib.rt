@@ -1,12 +1,12 @@
-//! Tests of the lists below the maps and sets, of the macros and of runs, and runs of proved callers.
+//! Tests of functions over lists, of the macros and of runs of commands, and runs of proved callers.
 #![tactic(auto)]
 
 #[cfg(test)]
 mod base;
 #[cfg(test)]
 mod callers;
+pub mod insertions;
 #[cfg(test)]
 mod macros;
-pub mod readme;
 #[cfg(test)]
 mod run;

@@ -4,7 +4,7 @@ use vecmap::{VecMap, VecSet, vecmap, vecset};
 use vecmap_callers::macros::{ages, ports};
 
 #[test]
-fn macros_insert_in_turn(rt: HostRuntime) -> Result<(), Fail> {
+fn macros_insert_in_order(rt: HostRuntime) -> Result<(), Fail> {
     let map = vecmap!(rt.alloc(); "a" => 1, "b" => 2, "a" => 3,);
     assert!(rt; map.as_slice() == [("a", 3), ("b", 2)].as_slice());
     assert!(rt; 3 <= map.capacity());
@@ -17,7 +17,7 @@ fn macros_insert_in_turn(rt: HostRuntime) -> Result<(), Fail> {
 }
 
 #[test]
-fn macros_of_nothing_take_no_memory(rt: HostRuntime) -> Result<(), Fail> {
+fn macros_of_nothing_do_not_allocate(rt: HostRuntime) -> Result<(), Fail> {
     let map: VecMap<u32, char> = vecmap!(rt.alloc(););
     assert!(rt; (map.len(), map.capacity()) == (0, 0));
     let set: VecSet<char> = vecset!(rt.alloc(););

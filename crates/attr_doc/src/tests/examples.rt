@@ -1,5 +1,4 @@
-//! Examples of the comments at public calls.
-use super::printed;
+//! Examples of `attr_doc/src/document.rt` and `attr_doc/src/name.rt`.
 use crate::{Document, Name};
 use std::alloc::{AllocError, Global};
 use std::test::Fail;
@@ -18,42 +17,41 @@ fn page(alloc: Global) -> Result<Document, Fail> {
     Ok(page)
 }
 
-fn shows_names(alloc: Global) -> Result<bool, Fail> {
-    let font = name(alloc, "Font")?;
-    Ok(font == name(alloc, "FONT")? && font.text() == "Font")
+fn shows_document(alloc: Global) -> Result<bool, Fail> {
+    let mut page = Document::new(alloc);
+    page.set(
+        name(alloc, "Font")?,
+        name(alloc, "Size")?,
+        "12".to_string(alloc)?,
+    )?;
+    Ok(format!(in alloc; "{page:?}")?.as_str() == r#"{"Font": {"Size": "12"}}"#)
 }
 
 fn shows_new(alloc: Global) -> Result<bool, Fail> {
-    let page = page(alloc)?;
+    Ok(Document::new(alloc).sections().len() == 0)
+}
+
+fn shows_set(alloc: Global, mut page: Document) -> Result<bool, Fail> {
     Ok(
-        Document::new(alloc).sections().len() == 0
-            && printed(alloc, &page)?.as_str() == r#"{"Font": {"Size": "12"}}"#,
+        page.set(
+            name(alloc, "FONT")?,
+            name(alloc, "size")?,
+            "14".to_string(alloc)?,
+        )? == Some("12".to_string(alloc)?)
+            && format!(in alloc; "{page:?}")?.as_str() == r#"{"Font": {"Size": "14"}}"#,
     )
 }
 
-fn shows_set(alloc: Global) -> Result<bool, Fail> {
-    let mut page = page(alloc)?;
-    let old = page.set(
-        name(alloc, "FONT")?,
-        name(alloc, "size")?,
-        "14".to_string(alloc)?,
-    )?;
-    Ok(
-        matches!(&old, Some(text) if text.as_str() == "12")
-            && printed(alloc, &page)?.as_str() == r#"{"Font": {"Size": "14"}}"#,
-    )
-}
-
-fn shows_get(alloc: Global) -> Result<bool, Fail> {
-    let page = page(alloc)?;
+fn shows_get(alloc: Global, page: Document) -> Result<bool, Fail> {
     Ok(
         page.get(&name(alloc, "font")?, &name(alloc, "SIZE")?) == Some("12")
-            && page.get(&name(alloc, "font")?, &name(alloc, "Color")?) == None,
+            && page
+                .get(&name(alloc, "font")?, &name(alloc, "Color")?)
+                .is_none(),
     )
 }
 
-fn shows_merge(alloc: Global) -> Result<bool, Fail> {
-    let mut page = page(alloc)?;
+fn shows_merge(alloc: Global, mut page: Document) -> Result<bool, Fail> {
     let mut changes = Document::new(alloc);
     changes.set(
         name(alloc, "font")?,
@@ -67,8 +65,7 @@ fn shows_merge(alloc: Global) -> Result<bool, Fail> {
     )
 }
 
-fn shows_same(alloc: Global) -> Result<bool, Fail> {
-    let page = page(alloc)?;
+fn shows_same(alloc: Global, page: Document) -> Result<bool, Fail> {
     let mut other = Document::new(alloc);
     other.set(
         name(alloc, "FONT")?,
@@ -78,20 +75,29 @@ fn shows_same(alloc: Global) -> Result<bool, Fail> {
     Ok(page.same(&other))
 }
 
-fn shows_sections(alloc: Global) -> Result<bool, Fail> {
-    let page = page(alloc)?;
+fn shows_sections(page: Document) -> Result<bool, Fail> {
     Ok(page.sections().next().map(Name::text) == Some("Font"))
 }
 
+fn shows_new_name(alloc: Global) -> Result<bool, Fail> {
+    Ok(Name::new("Font".to_string(alloc)?) == Name::new("FONT".to_string(alloc)?))
+}
+
+fn shows_text(alloc: Global) -> Result<bool, Fail> {
+    Ok(Name::new("Font".to_string(alloc)?).text() == "Font")
+}
+
 #[test]
-fn examples_hold(rt: HostRuntime) -> Result<(), Fail> {
+fn examples_of_comments_hold(rt: HostRuntime) -> Result<(), Fail> {
     let alloc = rt.alloc();
-    assert!(rt; shows_names(alloc)?);
+    assert!(rt; shows_document(alloc)?);
     assert!(rt; shows_new(alloc)?);
-    assert!(rt; shows_set(alloc)?);
-    assert!(rt; shows_get(alloc)?);
-    assert!(rt; shows_merge(alloc)?);
-    assert!(rt; shows_same(alloc)?);
-    assert!(rt; shows_sections(alloc)?);
+    assert!(rt; shows_set(alloc, page(alloc)?)?);
+    assert!(rt; shows_get(alloc, page(alloc)?)?);
+    assert!(rt; shows_merge(alloc, page(alloc)?)?);
+    assert!(rt; shows_same(alloc, page(alloc)?)?);
+    assert!(rt; shows_sections(page(alloc)?)?);
+    assert!(rt; shows_new_name(alloc)?);
+    assert!(rt; shows_text(alloc)?);
     Ok(())
 }

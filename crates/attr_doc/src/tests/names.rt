@@ -1,4 +1,4 @@
-//! Names.
+//! Tests of names.
 use crate::Name;
 use std::test::Fail;
 

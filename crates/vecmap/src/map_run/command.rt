@@ -1,20 +1,22 @@
 //! Calls on a map, as values.
 use vecmap_map::VecMap;
 
-/// What `run` does to a map: each command is one call. It is answered by the reply that is named, or by `OutOfRange`
-/// where a place is not there, or by `NoMemory`, where memory was needed and refused.
+/// A command for [`run`](crate::run): one call on a map.
+///
+/// Each command names its call and its reply. Instead, the reply is `OutOfRange` if an index is out of range, or
+/// `NoMemory` if the allocator refuses a request.
 #[derive(Debug, Drop)]
 #[derive_where(PartialEq, Eq; K: Eq, V: Eq)]
 pub enum MapCommand<K, V> {
-    /// `insert`: `Value`, the old one.
+    /// `insert`: `Value`, the previous value.
     Insert(K, V),
-    /// `insert_full`: `Full`, the place and the old value.
+    /// `insert_full`: `Full`, the index and the previous value.
     InsertFull(K, V),
-    /// `insert_at`: `Moved`, the old place and value. A place above the number of pairs is out of range.
+    /// `insert_at`: `Moved`, the previous index and value. An index above the number of pairs is out of range.
     InsertAt(usize, K, V),
-    /// `insert_key`: `Pair`, the old one.
+    /// `insert_key`: `Pair`, the previous pair.
     InsertKey(K, V),
-    /// `entry` and `or_insert`: `Kept`, the place, and whether the pair was added.
+    /// `entry` and `or_insert`: `Kept`, the index, and whether the pair was added.
     OrInsert(K, V),
     /// `get`: `Value`, a clone.
     Get(K),
@@ -38,13 +40,13 @@ pub enum MapCommand<K, V> {
     SwapRemove(K),
     /// `swap_remove_entry`: `Pair`.
     SwapRemoveEntry(K),
-    /// `remove_index`: `Pair`. A place that is not there is out of range.
+    /// `remove_index`: `Pair`. An index at or above the number of pairs is out of range.
     RemoveIndex(usize),
-    /// `swap_remove_index`: `Pair`. A place that is not there is out of range.
+    /// `swap_remove_index`: `Pair`. An index at or above the number of pairs is out of range.
     SwapRemoveIndex(usize),
     /// `pop`: `Pair`.
     Pop,
-    /// `swap_indices`: `Done`. A place that is not there is out of range.
+    /// `swap_indices`: `Done`. An index at or above the number of pairs is out of range.
     SwapIndices(usize, usize),
     /// `truncate`: `Done`.
     Truncate(usize),
@@ -52,12 +54,12 @@ pub enum MapCommand<K, V> {
     Clear,
     /// `reverse`: `Done`.
     Reverse,
-    /// `append`: `Done`. Refused, the carried map is dropped.
+    /// `append`: `Done`. On `NoMemory`, the carried map is dropped.
     Append(VecMap<K, V>),
-    /// `split_off`: `Rest`. A place above the number of pairs is out of range.
+    /// `split_off`: `Rest`. An index above the number of pairs is out of range.
     SplitOff(usize),
     /// `to_vec`: `Pairs`, clones.
     ToVec,
-    /// `==`, from the side of the map: `Truth`.
+    /// `==`, with the map on the left: `Truth`.
     Equals(VecMap<K, V>),
 }

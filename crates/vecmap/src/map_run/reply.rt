@@ -1,35 +1,37 @@
-//! What commands on a map are answered.
+//! The replies to commands on a map.
 use vecmap_map::VecMap;
 
-/// What a command answers: clones where the call lends, `OutOfRange` where a place was not there, and `NoMemory` where it
-/// was refused. In both of these nothing has changed, and what the command carried is dropped.
+/// The reply to a command on a map.
+///
+/// It holds clones if the call lends. After `OutOfRange` and `NoMemory` nothing has changed, and what the command
+/// carried is dropped.
 #[derive(Debug, Drop)]
 #[derive_where(PartialEq, Eq; K: Eq, V: Eq)]
 pub enum MapReply<K, V> {
     /// A value, if there is one.
     Value(Option<V>),
-    /// The place of the key, and the value that it had, if it was there.
+    /// The index of the key, and its previous value, if it had one.
     Full(usize, Option<V>),
-    /// The place and the value that the key had, if it was there.
+    /// The previous index and value of the key, if it was present.
     Moved(Option<(usize, V)>),
-    /// The place of the key, and whether its pair was added.
+    /// The index of the key, and whether its pair was added.
     Kept(usize, bool),
     /// A pair, if there is one.
     Pair(Option<(K, V)>),
-    /// The place of a key, if it is there.
+    /// The index of a key, if it is present.
     Place(Option<usize>),
-    /// Whether it is so.
+    /// Whether the answer is yes.
     Truth(bool),
-    /// How many pairs there are.
+    /// The number of pairs.
     Number(usize),
-    /// It is done.
+    /// The command is done.
     Done,
-    /// The pairs from the place on.
+    /// The pairs from the index on.
     Rest(VecMap<K, V>),
-    /// Clones of all pairs, in their order.
+    /// Clones of all pairs, in order.
     Pairs(Vec<(K, V)>),
-    /// The place is not there, and nothing has changed.
+    /// An index is out of range, and nothing has changed.
     OutOfRange,
-    /// Memory was refused, and nothing has changed.
+    /// The allocator refused a request, and nothing has changed.
     NoMemory,
 }

@@ -12,7 +12,7 @@ use super::{MapCommand, MapReply};
 use vecmap_map::VecMap;
 use vecmap_map::laws::pairs_fit_the_capacity;
 
-/// Does one command, and answers it.
+/// Runs one command and returns its reply.
 pub(crate) fn step<K: Eq + Clone, V: Eq + Clone>(
     map: &mut VecMap<K, V>,
     command: MapCommand<K, V>,
@@ -24,7 +24,7 @@ pub(crate) fn step<K: Eq + Clone, V: Eq + Clone>(
     reply
 }
 
-// What the command does to the list and to the capacity.
+// Runs one command; the contract says what becomes of the list and of the capacity.
 fn act<K: Eq + Clone, V: Eq + Clone>(
     map: &mut VecMap<K, V>,
     command: MapCommand<K, V>,

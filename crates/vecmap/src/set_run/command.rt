@@ -1,16 +1,18 @@
 //! Calls on a set, as values.
 use vecmap_set::VecSet;
 
-/// What `run_set` does to a set: each command is one call. It is answered by the reply that is named, or by `OutOfRange`
-/// where a place is not there, or by `NoMemory`, where memory was needed and refused.
+/// A command for [`run_set`](crate::run_set): one call on a set.
+///
+/// Each command names its call and its reply. Instead, the reply is `OutOfRange` if an index is out of range, or
+/// `NoMemory` if the allocator refuses a request.
 #[derive(Debug, Drop)]
 #[derive_where(PartialEq, Eq; T: Eq)]
 pub enum SetCommand<T: Eq> {
     /// `insert`: `Truth`, whether the element is new.
     Insert(T),
-    /// `replace`: `Item`, the old one.
+    /// `replace`: `Item`, the replaced element.
     Replace(T),
-    /// `get`: `Item`, a clone of the stored one.
+    /// `get`: `Item`, a clone of the stored element.
     Get(T),
     /// `get_index`: `Item`, a clone.
     GetIndex(usize),
@@ -32,13 +34,13 @@ pub enum SetCommand<T: Eq> {
     SwapRemove(T),
     /// `swap_take`: `Item`.
     SwapTake(T),
-    /// `remove_index`: `Item`. A place that is not there is out of range.
+    /// `remove_index`: `Item`. An index at or above the number of elements is out of range.
     RemoveIndex(usize),
-    /// `swap_remove_index`: `Item`. A place that is not there is out of range.
+    /// `swap_remove_index`: `Item`. An index at or above the number of elements is out of range.
     SwapRemoveIndex(usize),
     /// `pop`: `Item`.
     Pop,
-    /// `swap_indices`: `Done`. A place that is not there is out of range.
+    /// `swap_indices`: `Done`. An index at or above the number of elements is out of range.
     SwapIndices(usize, usize),
     /// `truncate`: `Done`.
     Truncate(usize),
@@ -46,13 +48,13 @@ pub enum SetCommand<T: Eq> {
     Clear,
     /// `reverse`: `Done`.
     Reverse,
-    /// `append`: `Done`. Refused, the carried set is dropped.
+    /// `append`: `Done`. On `NoMemory`, the carried set is dropped.
     Append(VecSet<T>),
-    /// `split_off`: `Made`. A place above the number of elements is out of range.
+    /// `split_off`: `Made`. An index above the number of elements is out of range.
     SplitOff(usize),
     /// `to_vec`: `Items`, clones.
     ToVec,
-    /// `==`, from the side of the set: `Truth`.
+    /// `==`, with the set on the left: `Truth`.
     Equals(VecSet<T>),
     /// `is_subset` of the carried set: `Truth`.
     IsSubset(VecSet<T>),
@@ -60,12 +62,12 @@ pub enum SetCommand<T: Eq> {
     IsSuperset(VecSet<T>),
     /// `is_disjoint`: `Truth`.
     IsDisjoint(VecSet<T>),
-    /// `&`, the set on the left: `Made`.
+    /// `&`, with the set on the left: `Made`.
     Intersect(VecSet<T>),
-    /// `|`, the set on the left: `Made`.
+    /// `|`, with the set on the left: `Made`.
     Unite(VecSet<T>),
-    /// `^`, the set on the left: `Made`.
+    /// `^`, with the set on the left: `Made`.
     Exclusive(VecSet<T>),
-    /// `-`, the set on the left: `Made`.
+    /// `-`, with the set on the left: `Made`.
     Subtract(VecSet<T>),
 }

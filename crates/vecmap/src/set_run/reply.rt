@@ -1,27 +1,29 @@
-//! What commands on a set are answered.
+//! The replies to commands on a set.
 use vecmap_set::VecSet;
 
-/// What a command answers: clones where the call lends, `OutOfRange` where a place was not there, and `NoMemory` where it
-/// was refused. In both of these nothing has changed, and what the command carried is dropped.
+/// The reply to a command on a set.
+///
+/// It holds clones if the call lends. After `OutOfRange` and `NoMemory` nothing has changed, and what the command
+/// carried is dropped.
 #[derive(Debug, Drop)]
 #[derive_where(PartialEq, Eq; T: Eq)]
 pub enum SetReply<T: Eq> {
-    /// Whether it is so.
+    /// Whether the answer is yes.
     Truth(bool),
     /// An element, if there is one.
     Item(Option<T>),
-    /// The place of an element, if it is there.
+    /// The index of an element, if it is present.
     Place(Option<usize>),
-    /// How many elements there are.
+    /// The number of elements.
     Number(usize),
-    /// It is done.
+    /// The command is done.
     Done,
     /// A set.
     Made(VecSet<T>),
-    /// Clones of all elements, in their order.
+    /// Clones of all elements, in order.
     Items(Vec<T>),
-    /// The place is not there, and nothing has changed.
+    /// An index is out of range, and nothing has changed.
     OutOfRange,
-    /// Memory was refused, and nothing has changed.
+    /// The allocator refused a request, and nothing has changed.
     NoMemory,
 }

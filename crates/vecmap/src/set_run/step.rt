@@ -15,7 +15,7 @@ use super::{SetCommand, SetReply};
 use vecmap_set::VecSet;
 use vecmap_set::laws::elements_fit_the_capacity;
 
-/// Does one command, and answers it.
+/// Runs one command and returns its reply.
 pub(crate) fn step<T: Eq + Clone>(set: &mut VecSet<T>, command: SetCommand<T>) -> SetReply<T>
     requires same { ClonesAreSame T.eq T.is_clone }
     ensures { StepSet T.eq T.Clone set.old command result set.new }
@@ -25,7 +25,7 @@ pub(crate) fn step<T: Eq + Clone>(set: &mut VecSet<T>, command: SetCommand<T>) -
     reply
 }
 
-// What the command does to the list and to the capacity.
+// Runs one command; the contract says what becomes of the list and of the capacity.
 fn act<T: Eq + Clone>(set: &mut VecSet<T>, command: SetCommand<T>) -> SetReply<T>
     requires same { ClonesAreSame T.eq T.is_clone }
     ensures { Effect T.eq T.Clone set.old command result set.new }

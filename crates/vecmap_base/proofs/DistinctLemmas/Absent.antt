@@ -1,4 +1,4 @@
--- An element that is equal to none of a list.
+-- Elements that are equal to no element of a list.
 use Rattle.std.specs.Prelude.{◌≡◌, Bool, false, ◌||◌, List, [], ◌∷◌, ◌++◌, refl}
 use Rattle.std.specs.Cmp.{IsEquivalence}
 use Rattle.std.specs.List.{IsDistinct, AllByRecursion, list_any}
@@ -30,7 +30,7 @@ module _ {T : Type 0} (eq : T → T → Bool) where
   apart_later x y [] ys h = h.0
   apart_later x y (z ∷ zs) ys h = apart_later x y zs ys h.1
 
-  -- no element before one of a distinct list is equal to it
+  -- In a distinct list, no element before `y` is equal to `y`.
   pub none_before : (o : IsEquivalence eq) (xs : List T) (y : T) (ys : List T) → IsDistinct eq (xs ++ y ∷ ys) → list_any (eq y) xs ≡ false
   unfolding IsDistinct
   none_before o [] y ys d = refl

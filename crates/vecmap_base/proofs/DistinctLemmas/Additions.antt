@@ -1,4 +1,4 @@
--- What comes into a distinct list and leaves it so.
+-- Insertions that keep a list distinct.
 use Rattle.std.specs.Prelude.{◌≡◌, ℕ, ◌<◌, Bool, true, false, ◌||◌, List, [], ◌∷◌, ◌++◌, Option, None, Some, if◌then◌else◌, insert, is_some, length, slice_set, suc, zero, refl}
 use Rattle.std.specs.Cmp.{IsEquivalence}
 use Rattle.std.specs.List.{IsDistinct, AllByRecursion, list_any}
@@ -17,7 +17,7 @@ use Rattle.vecmap_base.proofs.DistinctLemmas.Absent.{distinct_if_absent, none_eq
 use Rattle.vecmap_base.proofs.DistinctLemmas.Order.{distinct_rearranged}
 
 module _ {T : Type 0} (eq : T → T → Bool) (o : IsEquivalence eq) where
-  -- an element that is equal to none comes in
+  -- A list stays distinct if an element is inserted that is equal to none of it.
   pub distinct_insert : (xs : List T) (i : ℕ) (y : T) → list_any (eq y) xs ≡ false → IsDistinct eq xs → IsDistinct eq (insert xs i y)
   distinct_insert xs i y e d = distinct_rearranged eq o (y ∷ xs) (insert xs i y) (IsPermutation-insert xs i y) (distinct_if_absent eq y xs e d)
 
@@ -45,7 +45,7 @@ module _ {T : Type 0} (eq : T → T → Bool) (o : IsEquivalence eq) where
   apart_at x (z ∷ zs) zero y l e h = o.symm x y ∙ o.congr y z x e ∙ o.symm z x ∙ h.0
   apart_at x (z ∷ zs) (suc i) y l e h = apart_at x zs i y (omega arith) e h.1
 
-  -- an equal element comes into the place i
+  -- A list stays distinct if an equal element replaces the one at the index `i`.
   pub distinct_replace : (xs : List T) (i : ℕ) (y : T) → i < length xs → eq y (get_or xs i y) ≡ true → IsDistinct eq xs → IsDistinct eq (slice_set xs i y)
   unfolding IsDistinct
   distinct_replace [] i y l e d = d

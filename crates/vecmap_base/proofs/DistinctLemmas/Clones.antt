@@ -6,7 +6,7 @@ use Rattle.std.proofs.Common.{sym, ◌∙◌}
 use Rattle.vecmap_base.specs.Clones.{AreClones, ClonesAreSame}
 
 module _ {T : Type 0} (eq : T → T → Bool) (o : IsEquivalence eq) where
-  -- the clones of a distinct list, each equal to its original
+  -- If an element is equal to none of a list, its clone is equal to none of the clones.
   all_clones : (C : T → T → Type 0) → ClonesAreSame eq C → (x y : T) (xs ys : List T) → C x y → AreClones C xs ys → AllByRecursion (λ z. eq x z ≡ false) xs → AllByRecursion (λ z. eq y z ≡ false) ys
   all_clones C same x y [] [] c k h = tt
   all_clones C same x y [] (w ∷ ws) c k h = absurd k

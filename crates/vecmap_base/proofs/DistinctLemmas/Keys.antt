@@ -1,4 +1,4 @@
--- Keys that are distinct stay so in the lists that calls leave.
+-- Keys that are distinct stay distinct in the lists that calls leave.
 use Rattle.std.specs.Prelude.{◌≡◌, ℕ, ◌-◌, ◌<◌, Bool, false, List, [], ◌∷◌, ◌++◌, Option, None, Some, IsTrue, insert, is_some, length, min, remove, reverse, slice_get, swap, take, refl}
 use Rattle.std.specs.Cmp.{IsEquivalence}
 use Rattle.std.specs.List.{IsDistinct, list_any, swap_remove}
@@ -25,7 +25,7 @@ use Rattle.vecmap_base.proofs.DistinctLemmas.Clones.{distinct_clones}
 use Rattle.vecmap_base.proofs.DistinctLemmas.Order.{distinct_rearranged}
 use Rattle.vecmap_base.proofs.DistinctLemmas.Removals.{distinct_remove, distinct_take}
 
--- clones of pairs have clones of their keys
+-- Clones of pairs have clones of their keys.
 keys_of-clones : {K V : Type 0} (key_clone : K → K → Type 0) (value_clone : V → V → Type 0) (l m : List (K × V)) → AreClones (IsPairClone key_clone value_clone) l m → AreClones key_clone (keys_of l) (keys_of m)
 keys_of-clones C D [] [] c = tt
 keys_of-clones C D [] (q ∷ qs) c = absurd c
@@ -79,7 +79,7 @@ module _ {K V : Type 0} (eq : K → K → Bool) where
     pub distinct_keys_swap_without_key : (l : List (K × V)) (k : K) → HasDistinctKeys eq l → HasDistinctKeys eq (swap_without_key eq l k)
     distinct_keys_swap_without_key l k = distinct_keys_swap_without_by (eq k) l
 
-    -- a key that is there for none is stored as a clone
+    -- The keys stay distinct if an absent key is stored as a clone.
     pub distinct_keys_stored : (l : List (K × V)) (k stored : K) (v : V) → IsTrue (eq k stored) → index_of eq l k ≡ None → HasDistinctKeys eq l → HasDistinctKeys eq (l ++ (stored, v) ∷ [])
     distinct_keys_stored l k stored v same e d =
         let absent : list_any (eq stored) (keys_of l) ≡ false = sym (list_any_congr o k stored (keys_of l) same) ∙ sym (is_some_index_of eq l k) ∙ ap is_some e in

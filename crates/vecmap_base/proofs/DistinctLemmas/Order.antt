@@ -21,7 +21,7 @@ module _ {T : Type 0} (eq : T → T → Bool) (o : IsEquivalence eq) where
   pub distinct_swap : (xs : List T) (i j : ℕ) → i < length xs → j < length xs → IsDistinct eq xs → IsDistinct eq (swap xs i j)
   distinct_swap xs i j l m = distinct_rearranged xs (swap xs i j) (IsPermutation-swap xs (swap xs i j) i j l m refl)
 
-  -- only the part from n on is rearranged
+  -- The same if only the part from `n` on is rearranged.
   pub distinct_tail : (n : ℕ) (xs ys : List T) → IsPermutation (drop n xs) ys → IsDistinct eq xs → IsDistinct eq (take n xs ++ ys)
   distinct_tail n xs ys p d = distinct_rearranged (take n xs ++ drop n xs) (take n xs ++ ys) (IsPermutation-append_right (take n xs) (drop n xs) ys p) (rw take-append-drop d)
 

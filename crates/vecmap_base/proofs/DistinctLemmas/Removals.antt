@@ -32,7 +32,7 @@ module _ {T : Type 0} (eq : T → T → Bool) where
   all_cut P [] (y ∷ ys) zs h = all_cut P [] ys zs h.1
   all_cut P (x ∷ xs) ys zs h = (h.0, all_cut P xs ys zs h.1)
 
-  -- the part ys goes
+  -- A list stays distinct if its part `ys` is removed.
   pub distinct_cut : (xs ys zs : List T) → IsDistinct eq (xs ++ (ys ++ zs)) → IsDistinct eq (xs ++ zs)
   unfolding IsDistinct
   distinct_cut [] ys zs d = distinct_back ys zs d
@@ -46,7 +46,7 @@ module _ {T : Type 0} (eq : T → T → Bool) where
       let n : suc i ≡ i + 1 = omega arith in
       subst (λ m. IsDistinct eq (take i xs ++ drop m xs)) (sym n) (distinct_remove_range xs i (i + 1) (omega arith) d)
 
-  -- a list with each element of another, by calls that write nothing: what a retaining closure leaves
+  -- What a retaining closure leaves that writes nothing: a list with only elements of the old one.
   module _ {F : Type 0} (R : F → T → Bool → T → F → Type 0) (keeps : (f g : F) (x y : T) (b : Bool) → R f x b y g → y ≡ x) where
     all_kept : (P : T → Type 0) (f g : F) (l m : List T) → Kept R f l m g → AllByRecursion P l → AllByRecursion P m
     all_kept P f g [] m k h = subst (AllByRecursion P) (sym k.0) tt

@@ -1,4 +1,4 @@
--- The walk of a test for repeats.
+-- The steps of a loop that tests a list for repeats.
 use Rattle.std.specs.Prelude.{◌≡◌, ◌↔◌, ℕ, ◌+◌, ◌<◌, ◌≤◌, Bool, true, false, List, ◌∷◌, drop, length}
 use Rattle.std.specs.List.{IsDistinct, list_any}
 use Rattle.std.proofs.Common.{sym, ap, ◌∙◌, subst, get_or, true≢false}
@@ -7,7 +7,7 @@ use Rattle.std.proofs.lemmas.Map.Keys.{IsDistinct-head, IsDistinct-tail}
 use Rattle.vecmap_base.proofs.DistinctLemmas.Absent.{distinct_if_absent, distinct_none, none_equal}
 
 module _ {T : Type 0} (eq : T → T → Bool) where
-  -- the walk of a test for repeats: the first i elements are equal to none after them, and the next is not either
+  -- The first `i` elements are equal to none after them. If the next one is not either, the loop goes on.
   pub distinct_more : (xs : List T) (i : ℕ) (x : T) → i < length xs → x ≡ get_or xs i x → list_any (eq x) (drop (i + 1) xs) ≡ false
       → IsDistinct eq (drop i xs) ↔ IsDistinct eq xs → IsDistinct eq (drop (i + 1) xs) ↔ IsDistinct eq xs
   distinct_more xs i x l e n w =
@@ -16,13 +16,13 @@ module _ {T : Type 0} (eq : T → T → Bool) where
         λ d. IsDistinct-tail eq x (drop (i + 1) xs) (subst (IsDistinct eq) at (w.1 d)),
       )
 
-  -- the next is equal to one after it
+  -- If the next element is equal to one after it, the list is not distinct.
   pub repeat_at : (xs : List T) (i : ℕ) (x : T) → i < length xs → x ≡ get_or xs i x → list_any (eq x) (drop (i + 1) xs) ≡ true
       → IsDistinct eq (drop i xs) ↔ IsDistinct eq xs → IsDistinct eq xs → ⊥
   repeat_at xs i x l e n w d =
       let at : drop i xs ≡ x ∷ drop (i + 1) xs = drop_more xs i x l ∙ ap (λ y. y ∷ drop (i + 1) xs) (sym e) in
       true≢false (sym n ∙ none_equal eq x (drop (i + 1) xs) (IsDistinct-head eq x (drop (i + 1) xs) (subst (IsDistinct eq) at (w.1 d))))
 
-  -- the walk has come to the end
+  -- At the end of the loop, the list is distinct.
   pub distinct_all : (xs : List T) (i : ℕ) → length xs ≤ i → IsDistinct eq (drop i xs) ↔ IsDistinct eq xs → IsDistinct eq xs
   distinct_all xs i l w = w.0 (subst (IsDistinct eq) (sym (drop_all i xs l)) (distinct_none eq))

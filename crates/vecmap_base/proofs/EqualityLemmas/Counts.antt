@@ -1,4 +1,4 @@
--- How often elements stand in a list, up to an equivalence.
+-- How often elements occur in a list, up to an equivalence.
 use Rattle.std.specs.Prelude.{◌≡◌, ℕ, ◌+◌, Bool, true, false, ◌&&◌, ◌||◌, nat_eq, List, [], ◌∷◌, length, remove, refl, if◌then◌else◌}
 use Rattle.std.specs.Cmp.{IsEquivalence, both_ways}
 use Rattle.std.specs.List.{count_by, list_all, list_any}
@@ -21,7 +21,7 @@ module _ {X : Type 0} (same : X → X → Bool) (o : IsEquivalence same) where
   abbrev pub as_often : List X → List X → Bool
   as_often a b = all_agree a a b && all_agree b a b
 
-  -- everything stands equally often in both
+  -- Each element occurs equally often in both lists.
   abbrev pub SameCounts : List X → List X → Type 0
   SameCounts a b = (x : X) → many a x ≡ many b x
 
@@ -65,7 +65,7 @@ module _ {X : Type 0} (same : X → X → Bool) (o : IsEquivalence same) where
   pub test_from_counts : (a b : List X) → SameCounts a b → as_often a b ≡ true
   test_from_counts a b h = and_from _ _ (agree_everywhere a a b h) (agree_everywhere b a b h)
 
-  -- on all lists, also with repeats
+  -- Equality of counts is an equivalence on all lists, also on lists with repeats.
   pub as_often_laws : IsEquivalence as_often
   as_often_laws = record {
     refl = λ a. test_from_counts a a (λ x. refl);
@@ -79,11 +79,11 @@ module _ {X : Type 0} (same : X → X → Bool) (o : IsEquivalence same) where
       chain : (a b c : List X) → as_often a b ≡ true → as_often b c ≡ true → as_often a c ≡ true
       chain a b c e f = test_from_counts a c (λ x. counts_from_test a b e x ∙ counts_from_test b c f x)
 
-  -- the order of a list makes no difference
+  -- The order of a list makes no difference.
   pub rearranged_as_often : (a b : List X) → IsPermutation a b → as_often a b ≡ true
   rearranged_as_often a b p = test_from_counts a b (λ x. sym (sum_by-IsPermutation (λ z. cond (same x z) 1 0) a b p))
 
-  -- a list with an element that is the same as x, after one such element is taken out
+  -- A list with an element that is the same as `x`, and the list without one such element.
   record Less (x : X) (l : List X) : Type 0 where
     rest : List X
     shorter : length rest + 1 ≡ length l
@@ -111,7 +111,8 @@ module _ {X : Type 0} (same : X → X → Bool) (o : IsEquivalence same) where
             absurd (omega (arith, e, none, some))
       ]
 
-  -- the pigeonhole: in lists of one length, the counts of the elements of one settle all counts
+  -- The pigeonhole principle: in two lists of one length, equal counts of the elements of one list imply that all
+  -- counts are equal.
   settled : (a b : List X) → length a ≡ length b → ((x : X) → list_any (same x) a ≡ true → many a x ≡ many b x) → SameCounts a b
   settled [] [] n h x = refl
   settled [] (y ∷ ys) n h x = absurd (omega arith)
@@ -122,7 +123,7 @@ module _ {X : Type 0} (same : X → X → Bool) (o : IsEquivalence same) where
       omega (arith, h y (or_right (same y x) (list_any (same y) xs) e), many_cons x xs y, part.counts y)) in
       omega (arith, rest z, many_cons x xs z, part.counts z)
 
-  -- equal counts are of lists of one length
+  -- Lists with equal counts have one length.
   one_length : (a b : List X) → SameCounts a b → length a ≡ length b
   one_length [] [] h = refl
   one_length [] (y ∷ ys) h = absurd (true≢false (sym (found y ys [] (sym (h y)))))
@@ -134,7 +135,7 @@ module _ {X : Type 0} (same : X → X → Bool) (o : IsEquivalence same) where
   pub lengths_differ : (a b : List X) → (length a ≡ length b → ⊥) → as_often a b ≡ false
   lengths_differ a b n = false_from_ne_true (as_often a b) (λ e. n (one_length a b (counts_from_test a b e)))
 
-  -- of lists of one length, one side's elements settle it
+  -- For lists of one length, it is enough to compare the counts of the elements of one list.
   pub settled_by_half : (a b : List X) → length a ≡ length b → as_often a b ≡ all_agree a a b
   settled_by_half a b n =
       both_ways _ _ (λ e. (and_parts (all_agree a a b) (all_agree b a b) e).0)

@@ -19,7 +19,7 @@ module _ {X : Type 0} (same : X → X → Bool) (o : IsEquivalence same) where
       omega (arith, many_cons same o x a z, many_cons same o y b z, h z, ap {B = ℕ} (λ c. cond c 1 0) like)
 
 module _ {K V : Type 0} (key : K → K → Bool) (value : V → V → Bool) (k : IsEquivalence key) (v : IsEquivalence value) where
-  -- after a front of equal pairs, the rests settle it
+  -- If two lists have equal pairs at the front, they are equal as maps exactly if their rests are.
   pub past_front : (n : ℕ) (a b : List (K × V)) → AllZip (λ p q. same_pair key value p q ≡ true) (take n a) (take n b) → has_same_counts key value (drop n a) (drop n b) ≡ has_same_counts key value a b
   past_front zero a b h = refl
   past_front (suc n) [] [] h = refl

@@ -1,4 +1,4 @@
--- The laws of the equality of maps. They hold of all lists of pairs, also where keys repeat.
+-- The laws of the equality of maps. They hold of all lists of pairs, also if keys repeat.
 use Rattle.std.specs.Prelude.{◌≡◌, ◌↔◌, IsTrue, ℕ, ◌+◌, Bool, true, false, ◌&&◌, ◌||◌, List, [], ◌∷◌, Option, None, Some, length, refl}
 use Rattle.std.specs.Cmp.{IsEquivalence, both_ways}
 use Rattle.std.specs.List.{list_any}
@@ -27,18 +27,18 @@ module _ {K V : Type 0} (key : K → K → Bool) (value : V → V → Bool) (k :
   pub map_equality_laws : IsEquivalence (has_same_counts key value)
   map_equality_laws = as_often_laws (same_pair key value) same_pair_laws
 
-  -- the order of the pairs makes no difference
+  -- The order of the pairs makes no difference.
   pub rearranged_maps_equal : (a b : List (K × V)) → IsPermutation a b → has_same_counts key value a b ≡ true
   rearranged_maps_equal = rearranged_as_often (same_pair key value) same_pair_laws
 
   pub map_lengths_differ : (a b : List (K × V)) → (length a ≡ length b → ⊥) → has_same_counts key value a b ≡ false
   map_lengths_differ = lengths_differ (same_pair key value) same_pair_laws
 
-  -- of lists of one length, the counts of the pairs of one settle it
+  -- For lists of one length, it is enough to compare the counts of the pairs of one list.
   pub map_equal_by_half : (a b : List (K × V)) → length a ≡ length b → has_same_counts key value a b ≡ counts_agree key value a a b
   map_equal_by_half = settled_by_half (same_pair key value) same_pair_laws
 
-  -- how often a pair with the value w stands in a list of distinct keys, where o is the lookup of its key
+  -- How often a pair with the value `w` occurs in a list of distinct keys, if `o` is the lookup of its key.
   hits : Option V → V → ℕ
   hits None w = 0
   hits (Some x) w = cond (value w x) 1 0
@@ -87,7 +87,7 @@ module _ {K V : Type 0} (key : K → K → Bool) (value : V → V → Bool) (k :
         | inr e ↦ absurd (let f : cond (value x x) 1 0 ≡ cond (value x y) 1 0 = h x in let g = rw (v.refl x, e) at f in omega (arith, g))
       ]
 
-  -- at each key, the two lookups are both none or equal
+  -- At each key, the two lookups are both none or have equal values.
   abbrev pub SameLookups : List (K × V) → List (K × V) → Type 0
   SameLookups a b = (x : K) → same_option value (lookup key a x) (lookup key b x) ≡ true
 
@@ -119,14 +119,14 @@ module _ {K V : Type 0} (key : K → K → Bool) (value : V → V → Bool) (k :
   pub test_from_lookups : (a b : List (K × V)) → SameLookups a b → agrees key value a b ≡ true
   test_from_lookups a b h = and_from _ _ (each_agrees (keys_of a) a b h) (each_agrees (keys_of b) a b h)
 
-  -- where no keys repeat, maps are equal exactly when all lookups agree
+  -- If no keys repeat, maps are equal exactly if all lookups agree.
   pub equality_is_agreement : (a b : List (K × V)) → HasDistinctKeys key a → HasDistinctKeys key b → has_same_counts key value a b ≡ agrees key value a b
   equality_is_agreement a b d e =
       both_ways _ _
       (λ h. test_from_lookups a b (λ x. same_from_hits (lookup key a x) (lookup key b x) (λ w. sym (count_is_hits a x w d) ∙ counts_from_test (same_pair key value) same_pair_laws a b h (x, w) ∙ count_is_hits b x w e)))
       (λ h. test_from_counts (same_pair key value) same_pair_laws a b (λ p. count_is_hits a p.0 p.1 d ∙ hits_from_same (lookup key a p.0) (lookup key b p.0) p.1 (lookups_from_test a b h p.0) ∙ sym (count_is_hits b p.0 p.1 e)))
 
-  -- the same as one equivalence: each key finds equal values, or none, in both
+  -- The same as one equivalence: each key has equal values, or none, in both lists.
   pub equal_where_lookups_agree : (a b : List (K × V)) → HasDistinctKeys key a → HasDistinctKeys key b → IsTrue (has_same_counts key value a b) ↔ ((x : K) → IsTrue (same_option value (lookup key a x) (lookup key b x)))
   equal_where_lookups_agree a b d e =
       let agreement = equality_is_agreement a b d e in

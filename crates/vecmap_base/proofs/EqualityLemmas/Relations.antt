@@ -1,4 +1,4 @@
--- What is in both of two lists and in only one of them.
+-- The elements that are in both of two lists, and those that are in only one of them.
 use Rattle.std.specs.Prelude.{◌≡◌, IsTrue, ◌↔◌, ◌+◌, Bool, true, false, ◌&&◌, ◌||◌, not, List, [], ◌∷◌, ◌++◌, filter, if◌then◌else◌, length, refl}
 use Rattle.std.specs.Cmp.{IsEquivalence}
 use Rattle.std.specs.List.{IsDistinct, list_any}
@@ -15,7 +15,7 @@ use Rattle.vecmap_base.proofs.EqualityLemmas.Sets.{test_from_within}
 use Rattle.vecmap_base.proofs.DistinctLemmas.Additions.{distinct_append}
 use Rattle.vecmap_base.proofs.DistinctLemmas.Removals.{distinct_filter}
 
--- no element passes exactly where none is left of those that pass
+-- No element passes a test exactly if the list of those that pass is empty.
 none_passes : {T : Type 0} (test : T → Bool) (xs : List T) → (list_any test xs ≡ false) ↔ (filter test xs ≡ [])
 none_passes test [] = (λ e. refl, λ e. refl)
 none_passes test (x ∷ xs) = by (test x) (none_passes test xs)
@@ -31,11 +31,11 @@ module _ {T : Type 0} (eq : T → T → Bool) (o : IsEquivalence eq) where
   pub has_item_only : (a b : List T) (x : T) → has_item eq (only eq a b) x ≡ (has_item eq a x && not (has_item eq b x))
   has_item_only a b x = is_member-filter o (λ y. not (has_item eq b y)) x (λ y e. ap not (list_any_congr o x y b e)) a
 
-  -- two lists that hold the same, in any order and number
+  -- Two lists with the same elements, in any order and number, are equal as sets.
   pub same_items : (a b : List T) → ((x : T) → has_item eq a x ≡ has_item eq b x) → has_same_items eq a b ≡ true
   same_items a b h = and_from _ _ (test_from_within eq o a b (λ x e. sym (h x) ∙ e)) (test_from_within eq o b a (λ x e. h x ∙ e))
 
-  -- what is in both, and what is in one or the other, does not depend on the order of the two
+  -- The elements in both lists do not depend on the order of the two lists, and neither do those in one or the other.
   pub both_turned : (a b : List T) → has_same_items eq (both eq a b) (both eq b a) ≡ true
   both_turned a b = same_items (both eq a b) (both eq b a) (λ x. has_item_both a b x ∙ and_comm (has_item eq a x) (has_item eq b x) ∙ sym (has_item_both b a x))
 
@@ -55,28 +55,28 @@ module _ {T : Type 0} (eq : T → T → Bool) (o : IsEquivalence eq) where
       same_items (only eq a b ++ only eq b a) (only eq b a ++ only eq a b) (λ x.
       list_any-append (eq x) (only eq a b) (only eq b a) ∙ or_comm (has_item eq (only eq a b) x) (has_item eq (only eq b a) x) ∙ sym (list_any-append (eq x) (only eq b a) (only eq a b)))
 
-  -- a list in which nothing is has no element
+  -- A list has no elements if nothing is in it.
   nothing_in : (a : List T) → ((x : T) → has_item eq a x ≡ false) → a ≡ []
   nothing_in [] h = refl
   nothing_in (x ∷ xs) h = absurd (true≢false (sym (or_left (eq x x) (has_item eq xs x) (o.refl x)) ∙ h x))
 
-  -- where nothing of a is in b, nothing of b is in a
+  -- If no element of `a` is in `b`, no element of `b` is in `a`.
   pub both_empty_turned : (a b : List T) → both eq a b ≡ [] → both eq b a ≡ []
   both_empty_turned a b e =
       nothing_in (both eq b a) (λ x. has_item_both b a x ∙ and_comm (has_item eq b x) (has_item eq a x) ∙ sym (has_item_both a b x) ∙ ap (λ l. has_item eq l x) e)
 
-  -- a walk over a finds whether it shares nothing with b
+  -- A loop over `a` finds whether `a` shares no element with `b`.
   pub apart_by_walk : (a b : List T) (found : Bool) → found ≡ list_any (has_item eq b) a → IsTrue (not found) ↔ (both eq a b ≡ [])
   apart_by_walk a b true e = (λ t. cc, λ f. cc ((none_passes (has_item eq b) a).1 f))
   apart_by_walk a b false e = (λ t. (none_passes (has_item eq b) a).0 (sym e), λ f. refl)
 
-  -- and so whether b shares nothing with a
+  -- It also finds whether `b` shares no element with `a`.
   pub apart_by_walk_turned : (a b : List T) (found : Bool) → found ≡ list_any (has_item eq b) a → IsTrue (not found) ↔ (both eq b a ≡ [])
   apart_by_walk_turned a b found e =
       let apart = apart_by_walk a b found e in
       (λ t. both_empty_turned a b (apart.0 t), λ f. apart.1 (both_empty_turned b a f))
 
-  -- of distinct lists
+  -- The elements in both lists are distinct if those of `a` are.
 
   pub distinct_both : (a b : List T) → IsDistinct eq a → IsDistinct eq (both eq a b)
   distinct_both a b = distinct_filter eq (λ x. has_item eq b x) a
@@ -104,6 +104,6 @@ module _ {T : Type 0} (eq : T → T → Bool) (o : IsEquivalence eq) where
   pub length_both_only : (a b : List T) → length (both eq a b) + length (only eq a b) ≡ length a
   length_both_only a b = length-filter_both (λ x. has_item eq b x) (λ x. not (has_item eq b x)) (λ x. refl) a
 
-  -- the lengths of the union and of what is in both add up to those of the two
+  -- The lengths of the union and of the list of common elements add up to the lengths of the two lists.
   pub length_union : (a b : List T) → IsDistinct eq a → IsDistinct eq b → length (a ++ only eq b a) + length (both eq a b) ≡ length a + length b
   length_union a b d e = omega (arith, length-append a (only eq b a), length_both_turned a b d e, length_both_only b a)

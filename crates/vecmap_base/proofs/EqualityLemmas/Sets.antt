@@ -14,7 +14,7 @@ use Rattle.vecmap_base.specs.Equality.{has_same_items, is_within}
 use Rattle.vecmap_base.specs.Items.{has_item}
 
 module _ {T : Type 0} (eq : T → T → Bool) (o : IsEquivalence eq) where
-  -- what is in a is in b
+  -- Each element of `a` is in `b`.
   abbrev pub Within : List T → List T → Type 0
   Within a b = (x : T) → has_item eq a x ≡ true → has_item eq b x ≡ true
 
@@ -52,26 +52,26 @@ module _ {T : Type 0} (eq : T → T → Bool) (o : IsEquivalence eq) where
           (test_from_within a c (λ x h. within_from_test b c q.0 x (within_from_test a b p.0 x h)))
           (test_from_within c a (λ x h. within_from_test b a p.1 x (within_from_test c b q.1 x h)))
 
-  -- the order of the elements makes no difference
+  -- The order of the elements makes no difference.
   pub rearranged_sets_equal : (a b : List T) → IsPermutation a b → has_same_items eq a b ≡ true
   rearranged_sets_equal a b p =
       and_from _ _
       (test_from_within a b (λ x e. sym (list_any-IsPermutation (eq x) a b p) ∙ e))
       (test_from_within b a (λ x e. list_any-IsPermutation (eq x) a b p ∙ e))
 
-  -- two sets within each other are equal
+  -- Two lists are equal as sets exactly if each is within the other.
   pub equal_if_within_each_other : (a b : List T) → has_same_items eq a b ≡ true ↔ ((is_within eq a b ≡ true) × (is_within eq b a ≡ true))
   equal_if_within_each_other a b = (and_parts (is_within eq a b) (is_within eq b a), λ p. and_from _ _ p.0 p.1)
 
-  -- a distinct list within another is no longer than that
+  -- A distinct list within another is no longer than that list.
   pub length_within : (a b : List T) → IsDistinct eq a → is_within eq a b ≡ true → length a ≤ length b
   length_within a b d e = length-le_from_is_member o a b d (within_from_test a b e)
 
-  -- a longer distinct list is not within a shorter one
+  -- A longer distinct list is not within a shorter one.
   pub longer_not_within : (a b : List T) → IsDistinct eq a → length b < length a → is_within eq a b ≡ false
   longer_not_within a b d l = false_from_ne_true (is_within eq a b) (λ e. absurd (let m = length_within a b d e in omega (arith, m)))
 
-  -- the pigeonhole: of one length, each is within the other or neither is
+  -- The pigeonhole principle: if a distinct list is within a list of the same length, that list is within it.
   pub within_back : (a b : List T) → IsDistinct eq a → length a ≡ length b → Within a b → Within b a
   within_back a b d n h x i =
       elim (cases_Bool (has_item eq a x)) [
@@ -96,7 +96,7 @@ module _ {T : Type 0} (eq : T → T → Bool) (o : IsEquivalence eq) where
       let p = and_parts (is_within eq a b) (is_within eq b a) h in
       n (omega (arith, length_within a b d p.0, length_within b a e p.1)))
 
-  -- of distinct lists of one length, the elements of one settle it
+  -- For distinct lists of one length, it is enough to look up the elements of one list.
   pub set_equal_by_half : (a b : List T) → IsDistinct eq a → length a ≡ length b → has_same_items eq a b ≡ is_within eq a b
   set_equal_by_half a b d n =
       both_ways _ _ (λ e. (and_parts (is_within eq a b) (is_within eq b a) e).0)

@@ -1,4 +1,4 @@
--- Worked examples: clones, where a clone is the very same.
+-- Worked examples: clones that are identical to their originals.
 use Rattle.std.specs.Prelude.{◌≡◌, ℕ, [], ◌∷◌, None, Some, IsTrue, nat_eq, refl}
 use Rattle.std.specs.Cmp.{nat_eq_equiv}
 use Rattle.std.proofs.Common.{subst}

@@ -1,4 +1,4 @@
--- Worked examples: equality of maps, with repeats too.
+-- Worked examples: equality of maps, also of lists with repeats.
 use Rattle.std.specs.Prelude.{◌≡◌, ℕ, Bool, true, false, List, [], ◌∷◌, None, Some, nat_eq, refl}
 use Rattle.vecmap_base.specs.Equality.{agrees, count, counts_agree, free, has_same_counts, lookups_agree, same_option, same_pair}
 use Rattle.vecmap_base.proofs.Examples.Tagged.{one_x, one_y, same_number}
@@ -21,7 +21,7 @@ repeats_in_another_order = refl
 as_long_but_other_counts : (equal ((1, 5) ∷ (1, 5) ∷ (1, 6) ∷ []) ((1, 5) ∷ (1, 6) ∷ (1, 6) ∷ []) ≡ false) × (equal ((1, 5) ∷ (1, 6) ∷ (1, 6) ∷ []) ((1, 5) ∷ (1, 5) ∷ (1, 6) ∷ []) ≡ false)
 as_long_but_other_counts = (refl, refl)
 
--- a test that looks up the keys alone would call these equal
+-- A test that only looks up the keys would call these lists equal.
 lookups_do_not_settle_repeats : agrees nat_eq nat_eq ((1, 5) ∷ (1, 6) ∷ []) ((1, 5) ∷ []) ≡ true
 lookups_do_not_settle_repeats = refl
 
@@ -31,7 +31,7 @@ how_often = refl
 the_same_pair : (same_pair same_number nat_eq (one_x, 5) (one_y, 5) ≡ true) × (same_pair same_number nat_eq (one_x, 5) (one_y, 6) ≡ false)
 the_same_pair = (refl, refl)
 
--- the pairs of one list alone say too little, where the lists differ in length
+-- If the lists differ in length, the pairs of one list are not enough.
 counts_from_one_side : (counts_agree nat_eq nat_eq ((1, 5) ∷ []) ((1, 5) ∷ []) ((1, 5) ∷ (2, 6) ∷ []) ≡ true) × (counts_agree nat_eq nat_eq ((2, 6) ∷ []) ((1, 5) ∷ []) ((1, 5) ∷ (2, 6) ∷ []) ≡ false)
 counts_from_one_side = (refl, refl)
 
@@ -42,7 +42,7 @@ without_marks = (refl, refl)
 values_or_none : (same_option {V = ℕ} nat_eq None None ≡ true) × (same_option nat_eq (Some 5) (Some 5) ≡ true) × (same_option nat_eq (Some 5) None ≡ false) × (same_option nat_eq (Some 5) (Some 6) ≡ false)
 values_or_none = (refl, refl, refl, refl)
 
--- the keys of one list alone say too little
+-- The keys of one list are not enough.
 from_one_side : (lookups_agree nat_eq nat_eq (1 ∷ []) ((1, 5) ∷ []) ((1, 5) ∷ (2, 6) ∷ []) ≡ true) × (agrees nat_eq nat_eq ((1, 5) ∷ []) ((1, 5) ∷ (2, 6) ∷ []) ≡ false)
 from_one_side = (refl, refl)
 

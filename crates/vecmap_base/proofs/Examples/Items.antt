@@ -68,7 +68,7 @@ a_symmetric_difference = refl
 a_difference : only nat_eq (1 ∷ 2 ∷ 3 ∷ []) (4 ∷ 2 ∷ 3 ∷ []) ≡ 1 ∷ []
 a_difference = refl
 
--- ---- one within the other, and equality
+-- ---- one set within the other, and equality
 
 one_is_missing : is_within nat_eq (1 ∷ 2 ∷ []) (2 ∷ 3 ∷ []) ≡ false
 one_is_missing = refl

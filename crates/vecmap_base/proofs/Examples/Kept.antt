@@ -2,7 +2,7 @@
 use Rattle.std.specs.Prelude.{◌≡◌, ℕ, ◌+◌, ◌%◌, Bool, true, false, [], ◌∷◌, nat_eq, refl}
 use Rattle.vecmap_base.specs.Kept.{Kept}
 
--- a closure that counts its calls, writes the count as the value, and answers whether it is even
+-- A closure that counts its calls, writes the count as the value, and returns whether the count is even.
 abbrev Counts : ℕ → ℕ × ℕ → Bool → ℕ × ℕ → ℕ → Type 0
 Counts calls p answer q after = (after ≡ calls + 1) × (q ≡ (p.0, calls + 1)) × (answer ≡ nat_eq ((calls + 1) % 2) 0)
 
@@ -33,7 +33,7 @@ every_second_one_stays = (
   refl,
 )
 
--- a closure that exchanges key and value, and answers whether the value is then even
+-- A closure that swaps key and value, and returns whether the value is then even.
 abbrev Exchanges : ℕ → ℕ × ℕ → Bool → ℕ × ℕ → ℕ → Type 0
 Exchanges state p answer q after = (after ≡ state) × (q ≡ (p.1, p.0)) × (answer ≡ nat_eq (p.0 % 2) 0)
 

@@ -5,7 +5,7 @@ use Rattle.std.proofs.Common.{ap, true≢false}
 use Rattle.vecmap_base.specs.Pairs.{HasDistinctKeys, has_text, index_by, index_of, index_or_length, lookup, lookup_by, lookup_full, lookup_pair, put, put_at, put_key, puts, swap_without_by, swap_without_key, value_at, with_pair, with_value, without_by, without_key}
 use Rattle.vecmap_base.proofs.Examples.Tagged.{a, b, c, one_x, one_y, two_b, two_z, three_c, letters, same_number}
 
--- ---- places and values
+-- ---- indices and values
 
 the_place : index_of nat_eq letters b ≡ Some 1
 the_place = refl
@@ -34,7 +34,7 @@ no_place_to_write = refl
 a_written_pair : with_pair letters 2 a 9 ≡ (a, 1) ∷ (b, 2) ∷ (a, 9) ∷ []
 a_written_pair = refl
 
--- ---- puts
+-- ---- insertions
 
 a_put_keeps_the_stored_key : put {V = ℕ} same_number ((one_x, 10) ∷ []) one_y 20 ≡ (one_x, 20) ∷ []
 a_put_keeps_the_stored_key = refl
@@ -66,7 +66,7 @@ a_put_of_the_new_key = refl
 a_put_of_a_new_key_goes_last : put_key {V = ℕ} same_number ((one_y, 20) ∷ []) two_z 5 ≡ (one_y, 20) ∷ (two_z, 5) ∷ []
 a_put_of_a_new_key_goes_last = refl
 
--- ---- puts at a place
+-- ---- insertions at an index
 
 from_the_front_to_the_end : put_at nat_eq letters 3 a 4 ≡ (b, 2) ∷ (c, 3) ∷ (a, 4) ∷ []
 from_the_front_to_the_end = refl
@@ -77,7 +77,7 @@ at_the_end_and_there_again = refl
 from_the_end_to_the_middle : put_at {V = ℕ} nat_eq ((b, 2) ∷ (c, 3) ∷ (a, 5) ∷ []) 1 a 6 ≡ (b, 2) ∷ (a, 6) ∷ (c, 3) ∷ []
 from_the_end_to_the_middle = refl
 
--- the place is that in the list from which the old pair is gone
+-- The index counts in the list without the old pair.
 one_place_on : put_at {V = ℕ} nat_eq ((b, 2) ∷ (a, 6) ∷ (c, 3) ∷ []) 1 b 7 ≡ (a, 6) ∷ (b, 7) ∷ (c, 3) ∷ []
 one_place_on = refl
 
@@ -110,7 +110,7 @@ the_last_itself_goes = refl
 nothing_to_swap_out : swap_without_key {V = ℕ} nat_eq ((1, a) ∷ (4, 100) ∷ []) 2 ≡ (1, a) ∷ (4, 100) ∷ []
 nothing_to_swap_out = refl
 
--- ---- a list with equal keys: each call names the first
+-- ---- a list with equal keys: each call uses the first
 
 abbrev twice : List (ℕ × ℕ)
 twice = (1, a) ∷ (1, b) ∷ (3, c) ∷ []
@@ -135,7 +135,7 @@ equal_keys : HasDistinctKeys nat_eq ((1, a) ∷ (2, b) ∷ (1, a) ∷ []) → �
 unfolding IsDistinct
 equal_keys d = true≢false d.0.1.0
 
--- ---- by a test of keys, by place
+-- ---- by a test of keys, by index
 
 a_place_by_a_test : index_by (λ k. nat_eq k 98) letters ≡ Some 1
 a_place_by_a_test = refl

@@ -1,4 +1,4 @@
--- Worked examples: comparisons.
+-- Worked examples: the number of comparisons.
 use Rattle.std.specs.Prelude.{◌≡◌, ◌+◌, [], ◌∷◌, nat_eq, refl}
 use Rattle.vecmap_base.specs.Repeats.{adds_cost, comparisons, cost, search_cost}
 use Rattle.vecmap_base.proofs.Examples.Tagged.{one_x, one_y, same_number, two_b, two_z}
@@ -24,6 +24,6 @@ none_equal_to_another = refl
 each_equal_to_the_first : comparisons nat_eq (1 ∷ 1 ∷ 1 ∷ 1 ∷ []) ≡ 3
 each_equal_to_the_first = refl
 
--- 2b is compared with 1x; 1y with 1x alone; 2z with 1x and 2b
+-- 2b is compared with 1x, 1y with 1x alone, and 2z with 1x and 2b.
 repeats_take_fewer : comparisons same_number (one_x ∷ two_b ∷ one_y ∷ two_z ∷ []) ≡ 1 + 1 + 2
 repeats_take_fewer = refl

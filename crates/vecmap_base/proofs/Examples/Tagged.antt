@@ -1,7 +1,7 @@
--- What the examples speak of: numbers with a letter that are compared by the number alone, and a short map.
+-- The data of the examples: numbers with a letter that are compared by the number alone, and a short map.
 use Rattle.std.specs.Prelude.{ℕ, Bool, List, [], ◌∷◌, nat_eq}
 
--- a number and a letter's code
+-- A number and the code of a letter.
 abbrev pub Tagged : Type 0
 Tagged = ℕ × ℕ
 

@@ -1,4 +1,4 @@
--- What additions in turn make of a list.
+-- What additions, in order, make of a list.
 use Rattle.std.specs.Prelude.{◌≡◌, ℕ, Bool, true, false, List, [], ◌∷◌, ◌++◌, if◌then◌else◌, ◌+◌, ◌<◌, length, take}
 use Rattle.std.specs.Cmp.{IsEquivalence}
 use Rattle.std.specs.List.{IsDistinct}
@@ -15,11 +15,11 @@ module _ {T : Type 0} (eq : T → T → Bool) where
   pub add_present : (s : List T) (x : T) → has_item eq s x ≡ true → add eq s x ≡ s
   add_present s x e = ap (λ b. if b then s else s ++ x ∷ []) e
 
-  -- one more addition
+  -- The additions of the first `i + 1` elements are those of the first `i` and one more.
   pub adds_more : (xs : List T) (i : ℕ) (d : T) → i < length xs → adds eq [] (take (i + 1) xs) ≡ add eq (adds eq [] (take i xs)) (get_or xs i d)
   adds_more xs i d l = fold_more (add eq) [] xs i d l
 
-  -- an addition of elements in two goes is an addition of all of them
+  -- Elements that are added in two parts are added as a whole.
   pub adds_append : (s xs ys : List T) → adds eq s (xs ++ ys) ≡ adds eq (adds eq s xs) ys
   adds_append s xs ys = fold-append (add eq) s xs ys
 
@@ -30,6 +30,6 @@ module _ {T : Type 0} (eq : T → T → Bool) where
         let moved : (s ++ x ∷ []) ++ xs ≡ s ++ x ∷ xs = append_assoc s (x ∷ []) xs in
         ap (λ l. adds eq l xs) (add_absent s x (none_before eq o s x xs d)) ∙ adds_apart (s ++ x ∷ []) xs (subst (IsDistinct eq) (sym moved) d) ∙ moved
 
-    -- a distinct list has no repeat to lose
+    -- A distinct list has no repeats, so its additions to the empty list make the list itself.
     pub adds_distinct : (xs : List T) → IsDistinct eq xs → adds eq [] xs ≡ xs
     adds_distinct xs d = adds_apart [] xs d

@@ -1,4 +1,4 @@
--- Where elements stand, and stand after an addition.
+-- The indices of elements, before and after an addition.
 use Rattle.std.specs.Prelude.{◌≡◌, ◌<◌, ℕ, zero, suc, Bool, true, false, List, [], ◌∷◌, None, Option, Some, IsTrue, if◌then◌else◌, length, option_map, slice_get, unwrap_or, refl}
 use Rattle.std.specs.Cmp.{IsEquivalence}
 use Rattle.std.specs.List.{AllByRecursion, IsDistinct}
@@ -14,14 +14,14 @@ unwrap_or_suc : (found : Option ℕ) (n : ℕ) → unwrap_or (option_map suc fou
 unwrap_or_suc None n = refl
 unwrap_or_suc (Some i) n = refl
 
--- what holds of all elements holds of the one at a place
+-- What holds of all elements holds of the one at an index.
 held_at : {T : Type 0} (P : T → Type 0) (s : List T) → AllByRecursion P s → (i : ℕ) (x : T) → slice_get s i ≡ Some x → P x
 held_at P [] h i x e = absurd (let f : None ≡ Some x = e in cc)
 held_at P (y ∷ ys) h zero x e = let f : Some y ≡ Some x = e in let g : y ≡ x = cc in subst P g h.0
 held_at P (y ∷ ys) h (suc i) x e = held_at P ys h.1 i x e
 
 module _ {T : Type 0} (eq : T → T → Bool) where
-  -- an addition moves nothing
+  -- An addition moves no element.
   pub slice_get_add : (s : List T) (x : T) (i : ℕ) → i < length s → slice_get (add eq s x) i ≡ slice_get s i
   slice_get_add [] x i h = absurd (omega (arith, h))
   slice_get_add (y ∷ ys) x zero h = ap (λ l. slice_get l 0) (add_cons eq y ys x) ∙ by (eq x y)
@@ -35,16 +35,16 @@ module _ {T : Type 0} (eq : T → T → Bool) where
       by true e = refl
       by false e = e
 
-  -- a place that is found has an equal element
+  -- An index that is found has an equal element.
   pub found_at : (s : List T) (x : T) (i : ℕ) → item_index eq s x ≡ Some i → (y : T) × (slice_get s i ≡ Some y) × IsTrue (eq x y)
   found_at s x i e = let at = position-Some (eq x) s i x e in (get_or s i x, slice_get-get_or s i x at.0, at.1)
 
   module _ (o : IsEquivalence eq) where
-    -- equal elements have one place
+    -- Equal elements have the same index.
     pub item_index_congr : (s : List T) (x y : T) → eq x y ≡ true → item_index eq s x ≡ item_index eq s y
     item_index_congr s x y e = λ t. item_index (λ a z. o.congr x y z e t) s x
 
-    -- an element that is added stands where its equal stood, or last, and each other one where it stood
+    -- After an addition, `x` has the index of its equal, or is last. Every other element keeps its index.
     pub item_index_add : (s : List T) (x y : T) → item_index eq (add eq s x) y ≡ (if eq x y then Some (unwrap_or (item_index eq s x) (length s)) else item_index eq s y)
     item_index_add [] x y = item_index_cons eq x [] y ∙ ap (λ b. if b then Some 0 else None) (o.symm y x)
     item_index_add (z ∷ zs) x y =
@@ -77,7 +77,7 @@ module _ {T : Type 0} (eq : T → T → Bool) where
                   ∙ sym (ap (λ b. if b then Some (unwrap_or (item_index eq (z ∷ zs) x) (length (z ∷ zs))) else item_index eq (z ∷ zs) y) f)
             ]
 
-    -- where no two are equal, each is found at its own place
+    -- If no two elements are equal, each is found at its own index.
     pub item_index_own : (s : List T) → IsDistinct eq s → (i : ℕ) (x : T) → slice_get s i ≡ Some x → item_index eq s x ≡ Some i
     item_index_own [] d i x e = absurd (let f : None ≡ Some x = e in cc)
     item_index_own (y ∷ ys) d zero x e =

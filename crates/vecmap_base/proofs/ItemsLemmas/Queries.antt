@@ -1,4 +1,4 @@
--- What a query finds that stands for the elements that are equal to one of them.
+-- What a query finds that matches exactly the elements that are equal to one of its matches.
 use Rattle.std.specs.Prelude.{◌≡◌, ℕ, Bool, true, false, List, [], ◌∷◌, Option, None, Some, IsTrue, is_some, position, remove, refl}
 use Rattle.std.specs.Cmp.{IsEquivalence}
 use Rattle.std.specs.List.{IsDistinct, list_any}
@@ -11,11 +11,11 @@ use Rattle.vecmap_base.proofs.ItemsLemmas.Removals.{without_item_absent}
 use Rattle.vecmap_base.proofs.PlaceLemmas.{is_some_position}
 
 module _ {T : Type 0} (eq : T → T → Bool) (o : IsEquivalence eq) (test : T → Bool) (respects : (x y : T) → IsTrue (test x) → test y ≡ eq x y) where
-  -- it tells of elements as one of them does
+  -- A query that matches `x` matches exactly the elements that are equal to `x`.
   pub tells_as : (x : T) → IsTrue (test x) → test ≡ eq x
   tells_as x h = λ t y. respects x y h t
 
-  -- it stands for nothing that equals an element that it does not stand for
+  -- A query that does not match `x` matches no element that is equal to `x`.
   pub stands_apart : (x y : T) → test x ≡ false → eq x y ≡ true → test y ≡ false
   stands_apart x y n e =
       elim (cases_Bool (test y)) [
@@ -32,7 +32,7 @@ module _ {T : Type 0} (eq : T → T → Bool) (o : IsEquivalence eq) (test : T �
   pub without_item_query : (s : List T) (x : T) → IsTrue (test x) → without_first test s ≡ without_item eq s x
   without_item_query s x h = ap (λ f. without_first f s) (tells_as x h)
 
-  -- what it takes out of a distinct list it does not find again
+  -- After the removal of its match from a distinct list, a query matches nothing.
   pub without_query_absent : (s : List T) → IsDistinct eq s → list_any test (without_first test s) ≡ false
   without_query_absent [] d = refl
   without_query_absent (y ∷ ys) d = by (position test (y ∷ ys)) refl

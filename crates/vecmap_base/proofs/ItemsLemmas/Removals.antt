@@ -13,12 +13,12 @@ use Rattle.vecmap_base.proofs.PlaceLemmas.{is_some_position}
 use Rattle.vecmap_base.proofs.ItemsLemmas.Recursion.{without_item_cons}
 
 module _ {T : Type 0} (eq : T → T → Bool) where
-  -- in the rest of the list from the place i on
+  -- The rest of the list from `i` on has an index of `x` exactly if it has an equal element.
   pub is_some_item_index_rest : (s : List T) (i : ℕ) (x : T) → is_some (item_index eq (take (length s - i) (drop i s)) x) ≡ list_any (eq x) (drop i s)
   is_some_item_index_rest s i x = ap (λ r. is_some (item_index eq r x)) (take_rest s i) ∙ is_some_position (eq x) (drop i s)
 
   module _ (o : IsEquivalence eq) where
-    -- after a removal from a distinct list, no equal element is left
+    -- After a removal from a distinct list, no equal element is left.
     pub without_item_absent : (s : List T) (x : T) → IsDistinct eq s → has_item eq (without_item eq s x) x ≡ false
     without_item_absent [] x d = refl
     without_item_absent (y ∷ ys) x d =

@@ -1,4 +1,4 @@
--- What is found, and where, after one put and after many.
+-- What is found, and at which index, after one insertion and after many.
 use Rattle.std.specs.Prelude.{◌≡◌, ◌<◌, ◌+◌, ℕ, Bool, position, true, false, List, [], ◌∷◌, ◌++◌, Option, None, Some, if◌then◌else◌, is_some, length, slice_get, unwrap_or, refl}
 use Rattle.std.specs.Cmp.{IsEquivalence}
 use Rattle.std.specs.List.{list_any}
@@ -30,15 +30,15 @@ option_or_assoc None b c = refl
 option_or_assoc (Some x) b c = refl
 
 module _ {K V : Type 0} (eq : K → K → Bool) where
-  -- a lookup finds a value exactly where the key has a place
+  -- A lookup finds a value exactly if the key has an index.
   pub is_some_lookup : (l : List (K × V)) (k : K) → is_some (lookup eq l k) ≡ is_some (index_of eq l k)
   is_some_lookup l k = ap is_some (lookup_by_is (eq k) l) ∙ is_some-lookup (eq k) l ∙ sym (is_some_index_of eq l k)
 
-  -- a key that is there adds no key
+  -- An existing key adds no key.
   pub add_there : (l : List (K × V)) (k : K) → is_some (index_of eq l k) ≡ true → add eq (keys_of l) k ≡ keys_of l
   add_there l k h = add_present eq (keys_of l) k (sym (is_some_index_of eq l k) ∙ h)
 
-  -- a put of the value that is there changes nothing
+  -- The insertion of the value that is stored changes nothing.
   pub put_same : (l : List (K × V)) (k : K) (v : V) → lookup eq l k ≡ Some v → put eq l k v ≡ l
   put_same [] k v e = absurd (let n : None ≡ Some v = e in cc)
   put_same (p ∷ ps) k v e =
@@ -48,7 +48,7 @@ module _ {K V : Type 0} (eq : K → K → Bool) where
         | inr h ↦ ap (λ b. if b then (p.0, v) ∷ ps else p ∷ put eq ps k v) h ∙ ap (λ t. p ∷ t) (put_same ps k v (sym (look eq p ps k false h) ∙ e))
       ]
 
-  -- a put of the value that is there, or of v where there is none, leaves the list or adds the pair last
+  -- The insertion of the stored value, or of `v` if there is none, leaves the list or appends the pair.
   pub put_stored : (l : List (K × V)) (k : K) (v : V) → put eq l k (unwrap_or (lookup eq l k) v) ≡ option_map_or (λ i. l) (index_of eq l k) (l ++ (k, v) ∷ [])
   put_stored l k v = by (index_of eq l k)
     where
@@ -56,7 +56,7 @@ module _ {K V : Type 0} (eq : K → K → Bool) where
       by None = refl
       by (Some i) = with_own_value l i v
 
-  -- a put of a new key makes the list longer by one, and another leaves its length
+  -- The insertion of a new key makes the list longer by one. Any other insertion leaves its length.
   pub length_put : (l : List (K × V)) (k : K) (v : V) → length (put eq l k v) ≡ (if is_some (index_of eq l k) then length l else length l + 1)
   length_put l k v = by (index_of eq l k)
     where
@@ -64,7 +64,7 @@ module _ {K V : Type 0} (eq : K → K → Bool) where
       by None = length-append l ((k, v) ∷ [])
       by (Some i) = length_with_value l i v
 
-  -- after a put there is some pair
+  -- After an insertion the list has a pair.
   pub put_some : (l : List (K × V)) (k : K) (v : V) → 0 < length (put eq l k v)
   put_some [] k v = omega arith
   put_some (p ∷ ps) k v = by (eq k p.0) (put_cons eq p ps k v)
@@ -73,24 +73,24 @@ module _ {K V : Type 0} (eq : K → K → Bool) where
       by true e = rw e (omega arith)
       by false e = rw e (omega arith)
 
-  -- after puts there is some pair, if there was one or one is put
+  -- After insertions the list has a pair, if it had one before or one was inserted.
   pub puts_some : (l ps : List (K × V)) → 0 < length l + length ps → 0 < length (puts eq l ps)
   puts_some l [] h = omega (arith, h)
   puts_some l (p ∷ ps) h = puts_some (put eq l p.0 p.1) ps (omega (arith, put_some l p.0 p.1))
 
   module _ (o : IsEquivalence eq) where
-    -- where no keys repeat, each pair is found by its key, at its own place
+    -- If no keys repeat, each pair is found by its key, at its own index.
     pub index_of_own : (l : List (K × V)) → HasDistinctKeys eq l → (i : ℕ) (k : K) (v : V) → slice_get l i ≡ Some (k, v) → index_of eq l k ≡ Some i
     index_of_own l d i k v e = index_of_is eq l k ∙ item_index_own eq o (keys_of l) d i k (slice_get-map (λ p. p.0) l i ∙ ap (option_map (λ p. p.0)) e)
 
     pub lookup_own : (l : List (K × V)) → HasDistinctKeys eq l → (i : ℕ) (k : K) (v : V) → slice_get l i ≡ Some (k, v) → lookup eq l k ≡ Some v
     lookup_own l d i k v e = ap (option_and_then (value_at l)) (index_of_own l d i k v e) ∙ ap (option_map (λ p. p.1)) e
 
-    -- equal keys have one place
+    -- Equal keys have the same index.
     pub index_of_congr : (l : List (K × V)) (x y : K) → eq x y ≡ true → index_of eq l x ≡ index_of eq l y
     index_of_congr l x y e = index_of_is eq l x ∙ item_index_congr eq o (keys_of l) x y e ∙ sym (index_of_is eq l y)
 
-    -- a key that is put stands where it stood, or last, and each other one where it stood
+    -- After an insertion, an existing key keeps its index, and a new one is last. Every other key keeps its index.
     pub index_of_put : (l : List (K × V)) (k : K) (v : V) (q : K) → index_of eq (put eq l k v) q ≡ (if eq k q then Some (index_or_length eq l k) else index_of eq l q)
     index_of_put l k v q =
         index_of_is eq (put eq l k v) q
@@ -98,7 +98,7 @@ module _ {K V : Type 0} (eq : K → K → Bool) where
         ∙ item_index_add eq o (keys_of l) k q
         ∙ (λ t. if eq k q then Some (unwrap_or (sym (index_of_is eq l k) t) (length-map l (λ p. p.0) t)) else sym (index_of_is eq l q) t)
 
-    -- a lookup after a put, of any key
+    -- The lookup of any key after an insertion.
     pub lookup_put_any : (l : List (K × V)) (k : K) (v : V) (q : K) → lookup eq (put eq l k v) q ≡ (if eq k q then Some v else lookup eq l q)
     lookup_put_any l k v q =
         elim (cases_Bool (eq k q)) [
@@ -106,7 +106,7 @@ module _ {K V : Type 0} (eq : K → K → Bool) where
           | inr e ↦ lookup_put_other eq o l k v q e ∙ sym (ap (λ b. if b then Some v else lookup eq l q) e)
         ]
 
-    -- a put that takes the new key too finds what a put finds
+    -- A lookup after an insertion that stores the new key too finds the same value as after one that does not.
     pub lookup_put_key : (l : List (K × V)) (k : K) (v : V) (q : K) → lookup eq (put_key eq l k v) q ≡ lookup eq (put eq l k v) q
     lookup_put_key [] k v q = refl
     lookup_put_key (p ∷ ps) k v q =
@@ -117,7 +117,7 @@ module _ {K V : Type 0} (eq : K → K → Bool) where
         ]
         ∙ sym (λ t. lookup eq (put_cons eq p ps k v t) q)
 
-    -- a lookup after a removal from distinct keys
+    -- The lookup of any key after a removal from a list of distinct keys.
     pub lookup_without_any : (l : List (K × V)) (k q : K) → HasDistinctKeys eq l → lookup eq (without_key eq l k) q ≡ (if eq k q then None else lookup eq l q)
     lookup_without_any l k q d =
         elim (cases_Bool (eq k q)) [
@@ -125,11 +125,11 @@ module _ {K V : Type 0} (eq : K → K → Bool) where
           | inr e ↦ lookup_without_key_other eq o l k q e ∙ sym (ap (λ b. if b then None else lookup eq l q) e)
         ]
 
-    -- and the key has no place
+    -- After this removal, the key has no index.
     pub index_of_without_key : (l : List (K × V)) (k : K) → HasDistinctKeys eq l → index_of eq (without_key eq l k) k ≡ None
     index_of_without_key l k d = index_of_none eq (without_key eq l k) k (ap (λ ks. list_any (eq k) ks) (keys_of_without_key eq l k) ∙ without_item_absent eq o (keys_of l) k d)
 
-    -- what the puts make of the empty list goes before what was there
+    -- The values that the insertions make from the empty list take precedence over the values of `l`.
     pub lookup_puts : (l ps : List (K × V)) (q : K) → lookup eq (puts eq l ps) q ≡ option_or (lookup eq (puts eq [] ps) q) (lookup eq l q)
     lookup_puts l [] q = refl
     lookup_puts l (p ∷ ps) q =
@@ -142,6 +142,6 @@ module _ {K V : Type 0} (eq : K → K → Bool) where
         by true = refl
         by false = refl
 
-    -- of distinct keys, each pair that is put goes before what was there
+    -- If the keys of the inserted pairs are distinct, each inserted pair takes precedence over the pairs of `l`.
     pub lookup_puts_distinct : (l ps : List (K × V)) → HasDistinctKeys eq ps → (q : K) → lookup eq (puts eq l ps) q ≡ option_or (lookup eq ps q) (lookup eq l q)
     lookup_puts_distinct l ps d q = lookup_puts l ps q ∙ ap (λ m. option_or (lookup eq m q) (lookup eq l q)) (puts_distinct eq o ps d)

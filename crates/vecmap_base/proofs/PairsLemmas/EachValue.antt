@@ -1,4 +1,4 @@
--- A function, or a fact, of each value of a list of pairs.
+-- A function of each value of a list of pairs, and a fact about each value.
 use Rattle.std.specs.Prelude.{◌≡◌, Bool, true, false, List, [], ◌∷◌, None, Some, All, if◌then◌else◌, option_map, refl}
 use Rattle.std.proofs.Common.{sym, ap, ◌∙◌, subst, inl, inr}
 use Rattle.std.proofs.lemmas.Bool.{cases_Bool}
@@ -10,11 +10,11 @@ use Rattle.vecmap_base.proofs.PairsLemmas.Places.{lookup_by_is}
 use Rattle.vecmap_base.proofs.PairsLemmas.Recursion.{put_cons}
 
 module _ {K V W : Type 0} (eq : K → K → Bool) (g : V → W) where
-  -- a lookup finds g of what it found
+  -- In the list with `g` of each value, a lookup finds `g` of what it found before.
   pub lookup_map_values : (l : List (K × V)) (k : K) → lookup eq (map_values g l) k ≡ option_map g (lookup eq l k)
   lookup_map_values l k = lookup_by_is (eq k) (map_values g l) ∙ lookup-map_values g (eq k) l ∙ ap (option_map g) (sym (lookup_by_is (eq k) l))
 
-  -- a put puts g of the value
+  -- An insertion, seen in the list with `g` of each value, inserts `g` of the value.
   pub map_values_put : (l : List (K × V)) (k : K) (v : V) → map_values g (put eq l k v) ≡ put eq (map_values g l) k (g v)
   map_values_put [] k v = refl
   map_values_put (p ∷ ps) k v = ap (map_values g) (put_cons eq p ps k v) ∙ by (eq k p.0) (map_values_put ps k v) ∙ sym (put_cons eq (p.0, g p.1) (map_values g ps) k (g v))
@@ -24,7 +24,7 @@ module _ {K V W : Type 0} (eq : K → K → Bool) (g : V → W) where
       by false e = ap (λ t. (p.0, g p.1) ∷ t) e
 
 module _ {K V : Type 0} (eq : K → K → Bool) (P : V → Type 0) where
-  -- what holds of each value holds of one that is found
+  -- What holds of each value holds of a value that is found.
   pub holds_of_found : (l : List (K × V)) → All (λ p. P p.1) l → (k : K) (v : V) → lookup eq l k ≡ Some v → P v
   holds_of_found [] a k v e = absurd (let n : None ≡ Some v = e in cc)
   holds_of_found (p ∷ ps) a k v e =
@@ -33,7 +33,7 @@ module _ {K V : Type 0} (eq : K → K → Bool) (P : V → Type 0) where
         | inr h ↦ holds_of_found ps (All-tail (λ q. P q.1) p ps a) k v (sym (look eq p ps k false h) ∙ e)
       ]
 
-  -- and still of each after a put of one of which it holds
+  -- What holds of each value still holds of each, if it holds of the value that is inserted.
   pub holds_after_put : (l : List (K × V)) → All (λ p. P p.1) l → (k : K) (v : V) → P v → All (λ p. P p.1) (put eq l k v)
   holds_after_put [] a k v h = All-cons (λ q. P q.1) (k, v) [] h a
   holds_after_put (p ∷ ps) a k v h =

@@ -1,4 +1,4 @@
--- The keys of a list of pairs, as a list of elements: what changes the pairs changes the keys alike.
+-- The keys of a list of pairs, as a list of elements. What changes the pairs changes the keys in the same way.
 use Rattle.std.specs.Prelude.{◌≡◌, ℕ, suc, Bool, true, false, List, [], ◌∷◌, ◌++◌, Some, drop, if◌then◌else◌, insert, remove, take, refl}
 use Rattle.std.specs.Map.{keys_of}
 use Rattle.std.specs.Option.{option_map}

@@ -1,4 +1,4 @@
--- What a lookup finds after a put and after a removal.
+-- What a lookup finds after an insertion and after a removal.
 use Rattle.std.specs.Prelude.{◌≡◌, Bool, true, false, ◌||◌, List, [], ◌∷◌, None, Some, if◌then◌else◌, refl}
 use Rattle.std.specs.Cmp.{IsEquivalence}
 use Rattle.std.specs.List.{list_any}
@@ -12,7 +12,7 @@ use Rattle.vecmap_base.proofs.PairsLemmas.Keys.{keys_of_without_key}
 use Rattle.vecmap_base.proofs.PairsLemmas.Recursion.{lookup_cons, put_cons, without_key_cons}
 
 module _ {K V : Type 0} (eq : K → K → Bool) where
-  -- in a longer list
+  -- A lookup in a list with one pair more.
   pub look : (p : K × V) (ps : List (K × V)) (k : K) (b : Bool) → eq k p.0 ≡ b → lookup eq (p ∷ ps) k ≡ (if b then Some p.1 else lookup eq ps k)
   look p ps k b e = lookup_cons eq p ps k ∙ ap (λ c. if c then Some p.1 else lookup eq ps k) e
 
@@ -25,13 +25,13 @@ module _ {K V : Type 0} (eq : K → K → Bool) where
       ]
 
   module _ (o : IsEquivalence eq) where
-    -- equal keys find the same value
+    -- Equal keys have the same value.
     pub lookup_congr : (l : List (K × V)) (x y : K) → eq x y ≡ true → lookup eq l x ≡ lookup eq l y
     lookup_congr [] x y e = refl
     lookup_congr (p ∷ ps) x y e =
         look p ps x (eq y p.0) (o.congr x y p.0 e) ∙ ap (λ v. if eq y p.0 then Some p.1 else v) (lookup_congr ps x y e) ∙ sym (look p ps y (eq y p.0) refl)
 
-    -- after a put, its key has its value
+    -- After an insertion, its key has its value.
     pub lookup_put : (l : List (K × V)) (k : K) (v : V) → lookup eq (put eq l k v) k ≡ Some v
     lookup_put [] k v = look (k, v) [] k true (o.refl k)
     lookup_put (p ∷ ps) k v =
@@ -41,7 +41,7 @@ module _ {K V : Type 0} (eq : K → K → Bool) where
           | inr e ↦ ap (λ b. lookup eq (if b then (p.0, v) ∷ ps else p ∷ put eq ps k v) k) e ∙ look p (put eq ps k v) k false e ∙ lookup_put ps k v
         ]
 
-    -- and each other key has what it had
+    -- After an insertion, each other key has its old value.
     pub lookup_put_other : (l : List (K × V)) (k : K) (v : V) (q : K) → eq k q ≡ false → lookup eq (put eq l k v) q ≡ lookup eq l q
     lookup_put_other [] k v q n = look (k, v) [] q false (o.symm q k ∙ n)
     lookup_put_other (p ∷ ps) k v q n =
@@ -55,11 +55,11 @@ module _ {K V : Type 0} (eq : K → K → Bool) where
               ∙ ap (λ w. if eq q p.0 then Some p.1 else w) (lookup_put_other ps k v q n) ∙ sym (look p ps q (eq q p.0) refl)
         ]
 
-    -- a key that is taken out of a list of distinct keys is gone
+    -- A key that is removed from a list of distinct keys is absent.
     pub lookup_without_key : (l : List (K × V)) (k : K) → HasDistinctKeys eq l → lookup eq (without_key eq l k) k ≡ None
     lookup_without_key l k d = lookup_absent (without_key eq l k) k (ap (λ ks. has_item eq ks k) (keys_of_without_key eq l k) ∙ without_item_absent eq o (keys_of l) k d)
 
-    -- and each other key has what it had
+    -- After a removal, each other key has its old value.
     pub lookup_without_key_other : (l : List (K × V)) (k q : K) → eq k q ≡ false → lookup eq (without_key eq l k) q ≡ lookup eq l q
     lookup_without_key_other [] k q n = refl
     lookup_without_key_other (p ∷ ps) k q n =

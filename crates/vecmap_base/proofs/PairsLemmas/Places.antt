@@ -1,4 +1,4 @@
--- What the definitions say that name a place.
+-- What the definitions say that are about an index.
 use Rattle.std.specs.Prelude.{◌≡◌, ℕ, suc, Bool, true, false, List, [], ◌∷◌, Option, None, Some, if◌then◌else◌, length, slice_get, unwrap_or, refl, ◌-◌, drop, is_some, take}
 use Rattle.std.specs.Option.{option_and_then, option_map}
 use Rattle.std.proofs.Common.{ap, ◌∙◌, sym}
@@ -10,7 +10,7 @@ use Rattle.std.specs.Map.{keys_of}
 use Rattle.std.proofs.lemmas.List.{drop-map, take_rest}
 use Rattle.vecmap_base.proofs.PlaceLemmas.{is_some_position, list_any_map, position_none}
 
--- a place and what stands there, counted from one pair further on
+-- An index and what it holds, counted with one pair more at the front.
 abbrev pub one_on : {V : Type 0} → ℕ × V → ℕ × V
 one_on found = (suc found.0, found.1)
 
@@ -54,7 +54,7 @@ module _ {K V : Type 0} (p : K × V) (ps : List (K × V)) where
         by false (Some i) = at i (value_at ps i)
 
 module _ {K V : Type 0} (test : K → Bool) where
-  -- it is the lookup of std's maps
+  -- `lookup_by` is the lookup of std's maps.
   pub lookup_by_is : (l : List (K × V)) → lookup_by test l ≡ entries.lookup test l
   lookup_by_is [] = refl
   lookup_by_is (p ∷ ps) = lookup_by_cons test p ps ∙ ap (λ o. if test p.0 then Some p.1 else o) (lookup_by_is ps)
@@ -63,7 +63,7 @@ module _ {K V : Type 0} (eq : K → K → Bool) where
   pub is_some_index_of : (l : List (K × V)) (k : K) → is_some (index_of eq l k) ≡ list_any (eq k) (keys_of l)
   is_some_index_of l k = is_some_position (λ p. eq k p.0) l ∙ sym (list_any_map (eq k) (λ p. p.0) l)
 
-  -- in the rest of the list from the place i on
+  -- The rest of the list from `i` on has an index of `k` exactly if it has an equal key.
   pub is_some_index_of_rest : (l : List (K × V)) (i : ℕ) (k : K) → is_some (index_of eq (take (length l - i) (drop i l)) k) ≡ list_any (eq k) (drop i (keys_of l))
   is_some_index_of_rest l i k = ap (λ r. is_some (index_of eq r k)) (take_rest l i) ∙ is_some_index_of (drop i l) k ∙ ap (list_any (eq k)) (sym (drop-map (λ p. p.0) i l))
 

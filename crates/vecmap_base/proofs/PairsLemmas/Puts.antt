@@ -1,4 +1,4 @@
--- What puts make of a list, one at a time and in turn.
+-- What insertions make of a list, one at a time and many in order.
 use Rattle.std.specs.Prelude.{◌≡◌, ℕ, ◌+◌, ◌-◌, Bool, List, [], ◌∷◌, ◌++◌, None, Some, insert, length, min, remove, ◌<◌, drop, take}
 use Rattle.std.specs.Cmp.{IsEquivalence}
 use Rattle.std.specs.List.{IsDistinct}
@@ -18,19 +18,19 @@ module _ {K V : Type 0} (eq : K → K → Bool) where
   pub put_present : (l : List (K × V)) (k : K) (v : V) (i : ℕ) → index_of eq l k ≡ Some i → put eq l k v ≡ with_value l i v
   put_present l k v i e = ap (λ o. option_map_or (λ j. with_value l j v) o (l ++ (k, v) ∷ [])) e
 
-  -- a key that is not there: the pair comes in at i
+  -- If the key is absent, the pair is inserted at `i`.
   pub put_at_absent : (l : List (K × V)) (i : ℕ) (k : K) (v : V) → index_of eq l k ≡ None → put_at eq l i k v ≡ insert l i (k, v)
   put_at_absent l i k v e = ap (λ o. option_map_or (λ j. insert (remove l j) (min i (length l - 1)) (k, v)) o (insert l i (k, v))) e
 
-  -- a key that is at j: the old pair goes first
+  -- If the key is at `j`, its old pair is removed first.
   pub put_at_present : (l : List (K × V)) (i : ℕ) (k : K) (v : V) (j : ℕ) → index_of eq l k ≡ Some j → put_at eq l i k v ≡ insert (remove l j) (min i (length l - 1)) (k, v)
   put_at_present l i k v j e = ap (λ o. option_map_or (λ m. insert (remove l m) (min i (length l - 1)) (k, v)) o (insert l i (k, v))) e
 
-  -- one more put
+  -- The insertions of the first `i + 1` pairs are those of the first `i` and one more.
   pub puts_more : (l : List (K × V)) (i : ℕ) (d : K × V) → i < length l → puts eq [] (take (i + 1) l) ≡ put eq (puts eq [] (take i l)) (get_or l i d).0 (get_or l i d).1
   puts_more l i d h = fold_more (λ done p. put eq done p.0 p.1) [] l i d h
 
-  -- a put of pairs in two goes is a put of all of them
+  -- Pairs that are inserted in two parts are inserted as a whole.
   pub puts_append : (l a b : List (K × V)) → puts eq l (a ++ b) ≡ puts eq (puts eq l a) b
   puts_append l a b = fold-append (λ done p. put eq done p.0 p.1) l a b
 
@@ -42,11 +42,11 @@ module _ {K V : Type 0} (eq : K → K → Bool) where
         let none = none_before eq o (keys_of l) p.0 (keys_of ps) (subst (IsDistinct eq) (map-append (λ q. q.0) l (p ∷ ps)) d) in
         ap (λ m. puts eq m ps) (put_absent l p.0 p.1 (index_of_none eq l p.0 none)) ∙ puts_apart (l ++ p ∷ []) ps (subst (HasDistinctKeys eq) (sym moved) d) ∙ moved
 
-    -- a list of distinct keys has no repeat to lose
+    -- A list of distinct keys has no repeats, so its insertions into the empty list make the list itself.
     pub puts_distinct : (l : List (K × V)) → HasDistinctKeys eq l → puts eq [] l ≡ l
     puts_distinct l d = puts_apart [] l d
 
-    -- a list of distinct keys that was split is whole again once the second part is put to the first
+    -- If a list of distinct keys is split, the insertion of the second part into the first restores it.
     pub puts_restore : (l : List (K × V)) (at : ℕ) → HasDistinctKeys eq l → puts eq (take at l) (drop at l) ≡ l
     puts_restore l at d =
         let whole : take at l ++ drop at l ≡ l = take-append-drop at l in

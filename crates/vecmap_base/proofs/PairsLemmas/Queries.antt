@@ -1,4 +1,4 @@
--- What a query finds that stands for the keys that are equal to one of them.
+-- What a query finds that matches exactly the keys that are equal to one of its matches.
 use Rattle.std.specs.Prelude.{◌≡◌, ℕ, Bool, false, List, [], ◌∷◌, Option, None, Some, String, IsTrue, bytes_eq, if◌then◌else◌, remove, string_bytes, string_eq, refl}
 use Rattle.std.specs.Cmp.{IsEquivalence, on_equiv}
 use Rattle.std.specs.Cmp.Lexicographic.{nat_list_eq_equiv}
@@ -22,11 +22,11 @@ module _ {K V : Type 0} (eq : K → K → Bool) (o : IsEquivalence eq) (test : K
   pub without_by_query : (l : List (K × V)) (k : K) → IsTrue (test k) → without_by test l ≡ without_key eq l k
   without_by_query l k h = ap (λ f. without_by f l) (tells_as eq o test respects k h)
 
-  -- after a put of a key that it stands for it finds the value
+  -- After the insertion of a key that matches, the query finds the value.
   pub lookup_put_query : (l : List (K × V)) (k : K) (v : V) → IsTrue (test k) → lookup_by test (put eq l k v) ≡ Some v
   lookup_put_query l k v h = lookup_by_query (put eq l k v) k h ∙ lookup_put eq o l k v
 
-  -- and after a put of any other key what it found
+  -- After the insertion of any other key, the query finds what it found before.
   pub lookup_put_other_query : (l : List (K × V)) (k : K) (v : V) → test k ≡ false → lookup_by test (put eq l k v) ≡ lookup_by test l
   lookup_put_other_query [] k v n = lookup_by_cons test (k, v) [] ∙ ap (λ b. if b then Some v else None) n
   lookup_put_other_query (p ∷ ps) k v n =
@@ -44,7 +44,7 @@ module _ {K V : Type 0} (eq : K → K → Bool) (o : IsEquivalence eq) (test : K
             ∙ sym (lookup_by_cons test p ps)
       ]
 
-  -- what it takes out of a list of distinct keys it does not find again
+  -- After the removal of its match from a list of distinct keys, a query matches nothing.
   pub lookup_without_query : (l : List (K × V)) → HasDistinctKeys eq l → lookup_by test (without_by test l) ≡ None
   lookup_without_query [] d = refl
   lookup_without_query (p ∷ ps) d = by (index_by test (p ∷ ps)) refl
@@ -56,7 +56,7 @@ module _ {K V : Type 0} (eq : K → K → Bool) (o : IsEquivalence eq) (test : K
           let same = tells_as eq o test respects k (position-Some (λ q. test q.0) (p ∷ ps) i p e).1 in
           ap (λ f. lookup_by f (without_by f (p ∷ ps))) same ∙ lookup_without_key eq o (p ∷ ps) k d
 
--- a text stands for the strings of its bytes
+-- A text matches the strings with the same bytes.
 pub text_respects : (text : List ℕ) (x y : String Global) → IsTrue (has_text text x) → has_text text y ≡ string_eq x y
 text_respects text x y h = nat_list_eq_equiv.symm (string_bytes y) text ∙ sym (nat_list_eq_equiv.congr (string_bytes x) text (string_bytes y) h)
 

@@ -1,4 +1,4 @@
--- What the definitions on pairs say of an empty list and of a longer one.
+-- The definitions on pairs, for an empty list and for a list with one pair more.
 use Rattle.std.specs.Prelude.{◌≡◌, ℕ, suc, Bool, true, false, List, [], ◌∷◌, ◌++◌, Option, None, Some, if◌then◌else◌, refl}
 use Rattle.std.specs.Option.{option_map, option_map_or, option_and_then}
 use Rattle.std.proofs.Common.{ap, ◌∙◌}
@@ -8,7 +8,7 @@ use Rattle.vecmap_base.proofs.PlaceLemmas.{position_cons}
 use Rattle.vecmap_base.proofs.PairsLemmas.Values.{with_value_cons}
 
 module _ {K V : Type 0} (test : K → Bool) where
-  -- a lookup in a longer list
+  -- A lookup in a list with one pair more.
   pub lookup_by_cons : (p : K × V) (ps : List (K × V)) → lookup_by test (p ∷ ps) ≡ (if test p.0 then Some p.1 else lookup_by test ps)
   lookup_by_cons p ps = ap (option_and_then (value_at (p ∷ ps))) (position_cons (λ q. test q.0) p ps) ∙ by (test p.0) (index_by test ps)
     where

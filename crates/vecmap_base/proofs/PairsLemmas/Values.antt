@@ -1,4 +1,4 @@
--- A list of pairs is its keys and its values, and a write of a value leaves the keys.
+-- A list of pairs is determined by its keys and its values, and a write of a value leaves the keys.
 use Rattle.std.specs.Prelude.{◌≡◌, ℕ, suc, List, [], ◌∷◌, Option, None, Some, length, refl, zero, ◌<◌, slice_get, slice_set, unwrap_or}
 use Rattle.std.specs.Map.{keys_of, values_of}
 use Rattle.std.specs.Option.{option_map_or}
@@ -10,7 +10,7 @@ module _ {K V : Type 0} where
   pub key_at : (l : List (K × V)) (i : ℕ) (p : K × V) (k : K) → i < length l → (get_or l i p).0 ≡ get_or (keys_of l) i k
   key_at l i p k h = sym (get_or-map (λ q. q.0) l i p k h)
 
-  -- a list of pairs is its keys and its values
+  -- Two lists with the same keys and the same values are the same.
   pub same_pairs : (l m : List (K × V)) → keys_of l ≡ keys_of m → values_of l ≡ values_of m → l ≡ m
   same_pairs [] [] e f = refl
   same_pairs [] (q ∷ qs) e f = absurd (let x : [] ≡ q.0 ∷ keys_of qs = e in cc)
@@ -27,19 +27,19 @@ module _ {K V : Type 0} where
       by None = refl
       by (Some q) = refl
 
-  -- the value at a place, written there, changes nothing
+  -- If the value at an index is written there again, nothing changes.
   pub with_own_value : (l : List (K × V)) (i : ℕ) (v : V) → with_value l i (unwrap_or (value_at l i) v) ≡ l
   with_own_value [] i v = refl
   with_own_value (p ∷ ps) zero v = refl
   with_own_value (p ∷ ps) (suc i) v = with_value_cons p ps i (unwrap_or (value_at ps i) v) ∙ ap (λ rest. p ∷ rest) (with_own_value ps i v)
 
-  -- a write of a value leaves each key
+  -- A write of a value leaves each key.
   pub keys_of_with_value : (l : List (K × V)) (i : ℕ) (v : V) → keys_of (with_value l i v) ≡ keys_of l
   keys_of_with_value [] i v = refl
   keys_of_with_value (p ∷ ps) zero v = refl
   keys_of_with_value (p ∷ ps) (suc i) v = ap keys_of (with_value_cons p ps i v) ∙ ap (λ ks. p.0 ∷ ks) (keys_of_with_value ps i v)
 
-  -- and the number of pairs
+  -- A write of a value leaves the number of pairs.
   pub length_with_value : (l : List (K × V)) (i : ℕ) (v : V) → length (with_value l i v) ≡ length l
   length_with_value [] i v = refl
   length_with_value (p ∷ ps) zero v = refl

@@ -1,4 +1,4 @@
--- How many comparisons a removal of repeats makes.
+-- The number of comparisons that a removal of repeats makes.
 use Rattle.std.specs.Prelude.{◌≡◌, ℕ, suc, ◌+◌, ◌<◌, ◌≤◌, Bool, true, false, List, [], ◌∷◌, ◌++◌, Option, None, Some, length, take, refl}
 use Rattle.std.specs.Cmp.{IsEquivalence}
 use Rattle.std.specs.List.{IsDistinct}
@@ -25,7 +25,7 @@ module _ {T : Type 0} (eq : T → T → Bool) where
   pub search_cost_absent : (s : List T) (x : T) → has_item eq s x ≡ false → search_cost eq s x ≡ length s
   search_cost_absent s x e = ap (λ o. option_map_or (λ j. j + 1) o (length s)) (position_none (eq x) s e)
 
-  -- the place i is equal to x, and none before it
+  -- The element at `i` is equal to `x`, and none before it is.
   pub search_cost_at : (s : List T) (x : T) (i : ℕ) (y : T) → i < length s → y ≡ get_or s i y → eq x y ≡ true → has_item eq (take i s) x ≡ false → search_cost eq s x ≡ i + 1
   search_cost_at s x i y l e hit miss = search_cost_found s x i (position_at (eq x) s i y l e hit (position_none (eq x) (take i s) miss))
 
@@ -38,7 +38,7 @@ module _ {T : Type 0} (eq : T → T → Bool) where
           let within = (position-Some (eq x) s i x e).0 in
           omega (arith, within)
 
-  -- one more addition
+  -- One more addition.
   pub adds_cost_push : (s xs : List T) (x : T) → adds_cost eq s (xs ++ x ∷ []) ≡ adds_cost eq s xs + search_cost eq (adds eq s xs) x
   adds_cost_push s [] x = omega arith
   adds_cost_push s (y ∷ ys) x = omega (arith, adds_cost_push (add eq s y) ys x)
@@ -72,7 +72,7 @@ module _ {T : Type 0} (eq : T → T → Bool) where
       let f = rw e at (adds_cost_at_most [] xs) in
       omega (arith, f)
 
-  -- those of the first i items, and of the next one with as many that stay at most
+  -- The comparisons of the first `i` items, and at most `i` more for the next one.
   pub comparisons_below : (xs : List T) (i : ℕ) → i < length xs → comparisons eq (take i xs) + i ≤ cost (length xs)
   comparisons_below xs i l =
       let long : length (take i xs) ≡ i = omega (arith, length-take i xs) in
@@ -102,7 +102,7 @@ module _ {T : Type 0} (eq : T → T → Bool) where
         let f = rw e at (adds_cost_distinct [] xs d) in
         omega (arith, f)
 
--- the same of the keys of pairs
+-- The same of the keys of pairs.
 module _ {K V : Type 0} (eq : K → K → Bool) where
   pub key_search_found : (l : List (K × V)) (k : K) (i : ℕ) → index_of eq l k ≡ Some i → search_cost eq (keys_of l) k ≡ i + 1
   key_search_found l k i e = search_cost_found eq (keys_of l) k i (sym (index_of_is eq l k) ∙ e)

@@ -1,4 +1,4 @@
--- The comparisons that tell items apart.
+-- The most comparisons that a number of items may take.
 use Rattle.std.specs.Prelude.{◌≡◌, ℕ, zero, suc, ◌+◌, ◌-◌, ◌*◌, ◌<◌, ◌≤◌, refl}
 use Rattle.std.proofs.Common.{arith}
 use Rattle.vecmap_base.specs.Repeats.{cost}
@@ -10,7 +10,7 @@ twice_more (suc n) =
     let f : (suc n + 1) * suc n ≡ suc n * n + 2 * suc n = omega arith in
     rw e f
 
--- one more item is compared with each of the n before it
+-- One more item is compared with each of the `n` before it.
 pub cost_more : (n : ℕ) → cost (n + 1) ≡ cost n + n
 cost_more n =
     let e : n + 1 - 1 ≡ n = omega arith in
@@ -24,7 +24,7 @@ cost_grows m (suc n) k e =
     let f : k ≡ m + n + 1 = omega arith in
     rw f (omega (arith, cost_more (m + n), cost_grows m n (m + n) refl))
 
--- after m of n items, the comparisons of the next one fit
+-- After `m` of `n` items, the bound leaves enough comparisons for the next one.
 pub cost_below : (m n : ℕ) → m < n → cost m + m ≤ cost n
 cost_below m n lt =
     let f : n ≡ m + 1 + (n - (m + 1)) = omega arith in

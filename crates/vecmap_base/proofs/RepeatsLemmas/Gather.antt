@@ -1,4 +1,4 @@
--- The steps of a gathering: two elements, or the values of two pairs, change places.
+-- The steps of a gathering: two elements, or the values of two pairs, are swapped.
 use Rattle.std.specs.Prelude.{◌≡◌, ℕ, ◌+◌, ◌-◌, ◌<◌, ◌≤◌, zero, suc, Bool, Some, List, [], ◌∷◌, ◌++◌, drop, length, swap, take, refl}
 use Rattle.std.specs.List.{SwappedAt}
 use Rattle.std.specs.Map.{keys_of, values_of}
@@ -12,17 +12,17 @@ use Rattle.vecmap_base.proofs.PairsLemmas.Puts.{put_present}
 use Rattle.vecmap_base.proofs.PairsLemmas.Values.{keys_of_with_value, same_pairs, values_of_with_value}
 
 module _ {X : Type 0} where
-  -- a front that holds the first of the two places
+  -- A swap, seen in a front that holds only the first of the two indices.
   pub take_swap : (xs : List X) (j i k : ℕ) (d : X) → j < k → k ≤ i → i < length xs → take k (swap xs j i) ≡ set (take k xs) j (get_or xs i d)
   take_swap xs j i k d a b l =
       ap (take k) (sym (swap_is xs j i d (omega arith) l)) ∙ take-set-le k (set xs j (get_or xs i d)) i (get_or xs j d) b ∙ take-set-lt k xs j (get_or xs i d) a
 
-  -- what is behind both places
+  -- A swap changes nothing behind both indices.
   pub drop_swap : (xs : List X) (j i k : ℕ) (d : X) → j < k → i < k → j < length xs → i < length xs → drop k (swap xs j i) ≡ drop k xs
   drop_swap xs j i k d a b l m =
       ap (drop k) (sym (swap_is xs j i d l m)) ∙ drop-set-lt k (set xs j (get_or xs i d)) i (get_or xs j d) b ∙ drop-set-lt k xs j (get_or xs i d) a
 
-  -- the two places lie in the two parts of a list
+  -- A swap of two indices that are in the two parts of a list.
   pub swap_append : (xs ys : List X) (j i : ℕ) (d : X) → length xs ≡ i → j < i → 0 < length ys → swap (xs ++ ys) j i ≡ set xs j (get_or ys 0 d) ++ set ys 0 (get_or xs j d)
   swap_append xs ys j i d n a l =
       let zero_left : i - i ≡ 0 = omega arith in
@@ -34,7 +34,7 @@ module _ {X : Type 0} where
       ∙ set-append_right (set xs j (get_or ys 0 d)) ys i i (get_or xs j d) (length-set xs j (get_or ys 0 d) ∙ n) (omega arith)
       ∙ ap (λ m. set xs j (get_or ys 0 d) ++ set ys m (get_or xs j d)) zero_left
 
-  -- the element at i has come to the end of a front of k
+  -- The element at `i` is appended to a front of `k` elements.
   pub front_swapped : (xs ys : List X) (k i : ℕ) (d : X) → k ≤ i → i < length xs → length ys ≡ length xs → SwappedAt xs ys k i
       → (take (k + 1) ys ≡ take k xs ++ get_or xs i d ∷ []) × (drop (i + 1) ys ≡ drop (i + 1) xs)
   front_swapped xs ys k i d a l n s =
@@ -44,7 +44,7 @@ module _ {X : Type 0} where
         ap (drop (i + 1)) e ∙ drop-set-lt (i + 1) (set xs k (get_or xs i d)) i (get_or xs k d) (omega arith) ∙ drop-set-lt (i + 1) xs k (get_or xs i d) (omega arith),
       )
 
-  -- two lists with one rest have the same first element there, and the same rest after it
+  -- If two lists are the same from `i` on, they have the same element at `i`, and the same rest after it.
   pub rest_more : (xs ys : List X) (i : ℕ) (d : X) → i < length xs → i < length ys → drop i ys ≡ drop i xs → (get_or ys i d ≡ get_or xs i d) × (drop (i + 1) ys ≡ drop (i + 1) xs)
   rest_more xs ys i d l m e =
       let f : get_or ys i d ∷ drop (i + 1) ys ≡ get_or xs i d ∷ drop (i + 1) xs = sym (drop_more ys i d m) ∙ e ∙ drop_more xs i d l in
@@ -56,7 +56,7 @@ module _ {K V : Type 0} where
   key_stays (q ∷ qs) zero p v = refl
   key_stays (q ∷ qs) (suc i) p v = ap (λ ks. q.0 ∷ ks) (key_stays qs i p v)
 
-  -- the values at i in the front and at 0 in the back were exchanged
+  -- The value at `i` in the front and the value at 0 in the back are swapped.
   module _ (front back : List (K × V)) (i : ℕ) (p q : K × V) (v w : V) where
     pub keys_of_swapped : keys_of (set front i ((get_or front i p).0, v) ++ set back 0 ((get_or back 0 q).0, w)) ≡ keys_of (front ++ back)
     keys_of_swapped = map-append (λ r. r.0) _ _ ∙ (λ t. key_stays front i p v t ++ key_stays back 0 q w t) ∙ sym (map-append (λ r. r.0) front back)
@@ -74,7 +74,8 @@ module _ {K V : Type 0} where
         ∙ ap (λ us. swap us i j) (sym (map-append (λ r. r.1) front back))
 
 module _ {K V : Type 0} (eq : K → K → Bool) where
-  -- the value at i, behind a front of n, was exchanged for that at the first place j in the front whose key is equal to k
+  -- The value at `i`, behind a front of `n` pairs, is swapped with the value at `j`, the first index in the front whose
+  -- key is equal to `k`. For the front this is an insertion.
   pub front_put : (l m : List (K × V)) (n j i : ℕ) (k : K) (d : K × V) → j < n → n ≤ i → i < length l → keys_of m ≡ keys_of l → values_of m ≡ swap (values_of l) j i → index_of eq (take n l) k ≡ Some j
       → (take n m ≡ put eq (take n l) k (get_or l i d).1) × (drop (i + 1) m ≡ drop (i + 1) l)
   front_put l m n j i k d a b c same_keys moved first =

@@ -1,8 +1,8 @@
 //! The iterators over a map's keys, by reference and by value.
 //!
-//! A contract sees each as the list of what it has left. `next` takes the first of it and `next_back` the last, in
-//! constant time; once it is empty, both answer `None`. Only the `clone` of `IntoKeys` takes memory, and time by the
-//! length of the list.
+//! In contracts an iterator is the list of the keys that it has left. `next` removes the first of them and returns it,
+//! and `next_back` the last, in constant time. Once the list is empty, both return `None`. Only the `clone` of
+//! `IntoKeys` allocates, and its time is linear in the length of the list.
 ghost use Rattle.std.specs.Prelude.{◌≡◌, ◌<◌, ◌^◌, IfOk, IfSome, length};
 ghost use Rattle.std.specs.Iterator.{UpTo, at_most};
 ghost use Rattle.std.specs.Iterator.SizeHint.{IsWithinCount};
@@ -15,7 +15,11 @@ use std::collections::VecDeque;
 use std::marker::Model;
 use std::{fmt, slice};
 
-/// The keys of a map, each as `&K`, in their order. `VecMap::keys` makes it.
+/// An iterator over the keys of a map, each as `&K`, in their order.
+///
+/// `VecMap::keys` creates it.
+///
+/// # Examples
 ///
 /// ```
 /// let map = vecmap!(alloc; 'a' => 1, 'b' => 2);
@@ -39,7 +43,9 @@ impl<'a, K, V> Model for Keys<'a, K, V> {
 }
 
 impl<'a, K, V> Keys<'a, K, V> {
-    /// The keys of a slice of pairs, from the first to the last.
+    /// Creates an iterator over the keys of a slice of pairs, from the first to the last.
+    ///
+    /// # Examples
     ///
     /// ```
     /// let mut keys = Keys::over(&[('a', 1), ('b', 2)]);
@@ -56,7 +62,13 @@ impl<'a, K, V> Keys<'a, K, V> {
         }
     }
 
-    /// Another over what is left. It takes no memory.
+    /// Returns another iterator over the keys that are left.
+    ///
+    /// # Complexity
+    ///
+    /// Does not allocate.
+    ///
+    /// # Examples
     ///
     /// ```
     /// let map = vecmap!(alloc; 'a' => 1, 'b' => 2);
@@ -86,7 +98,7 @@ impl<'a, K, V> Iterator for Keys<'a, K, V> {
         Some(&pair.0)
     }
 
-    /// The number of items left, as both ends.
+    /// Returns the number of keys left, as both bounds.
     fn size_hint(&self) -> (usize, Option<usize>)
         ensures lower { IsWithinCount result.0 (at_most (length self.now)) }
         ensures upper { IfSome result.1 (UpTo (at_most (length self.now))) }
@@ -107,20 +119,24 @@ impl<'a, K, V> DoubleEndedIterator for Keys<'a, K, V> {
 }
 
 impl<'a, K, V> ExactSizeIterator for Keys<'a, K, V> {
-    /// The number of items left.
+    /// Returns the number of keys left.
     fn len(&self) -> usize {
         self.pairs.len()
     }
 }
 
-/// Prints what is left as std prints a list.
+/// Prints the keys that are left, as std prints a list.
 impl<'a, K: fmt::Debug, V> fmt::Debug for Keys<'a, K, V> {
     fn fmt<W: fmt::Write>(&self, f: &mut fmt::Formatter<W>) -> fmt::Result {
         f.debug_list().entries(self.clone()).finish()
     }
 }
 
-/// The keys of a map, each as `K`, in their order. `VecMap::into_keys` makes it. Dropped, it drops what is left.
+/// An iterator over the keys of a map, each as `K`, in their order.
+///
+/// `VecMap::into_keys` creates it. If the iterator is dropped, the pairs that are left are dropped too.
+///
+/// # Examples
 ///
 /// ```
 /// let map = vecmap!(alloc; 'a' => 1, 'b' => 2);
@@ -143,7 +159,13 @@ impl<K, V> Model for IntoKeys<K, V> {
 }
 
 impl<K, V> IntoKeys<K, V> {
-    /// The keys of a vector of pairs, from the first to the last. It takes no memory.
+    /// Creates an iterator over the keys of a vector of pairs, from the first to the last.
+    ///
+    /// # Complexity
+    ///
+    /// Does not allocate.
+    ///
+    /// # Examples
     ///
     /// ```
     /// let map = vecmap!(alloc; 'a' => 1, 'b' => 2);
@@ -161,8 +183,15 @@ impl<K, V> IntoKeys<K, V> {
         }
     }
 
-    /// Another over clones of the keys that are left, in the same order. Their values are cloned too. Refused, nothing is
-    /// made, and this one still gives all that it has left.
+    /// Returns an iterator over clones of the keys that are left, in the same order.
+    ///
+    /// Their values are cloned too.
+    ///
+    /// # Errors
+    ///
+    /// [`AllocError`] if the allocator refuses the request; this iterator then still has all keys that it had left.
+    ///
+    /// # Examples
     ///
     /// ```
     /// let map = vecmap!(alloc; 'a' => 1, 'b' => 2);
@@ -195,7 +224,7 @@ impl<K: Drop, V: Drop> Iterator for IntoKeys<K, V> {
         Some(key)
     }
 
-    /// The number of items left, as both ends.
+    /// Returns the number of keys left, as both bounds.
     fn size_hint(&self) -> (usize, Option<usize>)
         ensures lower { IsWithinCount result.0 (at_most (length self.now)) }
         ensures upper { IfSome result.1 (UpTo (at_most (length self.now))) }
@@ -216,13 +245,13 @@ impl<K: Drop, V: Drop> DoubleEndedIterator for IntoKeys<K, V> {
 }
 
 impl<K: Drop, V: Drop> ExactSizeIterator for IntoKeys<K, V> {
-    /// The number of items left.
+    /// Returns the number of keys left.
     fn len(&self) -> usize {
         self.pairs.len()
     }
 }
 
-/// Prints what is left as std prints a list.
+/// Prints the keys that are left, as std prints a list.
 impl<K: fmt::Debug, V> fmt::Debug for IntoKeys<K, V> {
     fn fmt<W: fmt::Write>(&self, f: &mut fmt::Formatter<W>) -> fmt::Result {
         f.debug_list()

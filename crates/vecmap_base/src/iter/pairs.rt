@@ -1,8 +1,8 @@
 //! The iterators over a map's pairs, by reference and by value.
 //!
-//! A contract sees each as the list of what it has left. `next` takes the first of it and `next_back` the last, in
-//! constant time; once it is empty, both answer `None`. Only the `clone` of `IntoIter` takes memory, and time by the
-//! length of the list.
+//! In contracts an iterator is the list of the pairs that it has left. `next` removes the first of them and returns it,
+//! and `next_back` the last, in constant time. Once the list is empty, both return `None`. Only the `clone` of
+//! `IntoIter` allocates, and its time is linear in the length of the list.
 ghost use Rattle.std.specs.Prelude.{◌≡◌, ◌<◌, ◌^◌, IfOk, IfSome, length};
 ghost use Rattle.std.specs.Iterator.{UpTo, at_most};
 ghost use Rattle.std.specs.Iterator.SizeHint.{IsWithinCount};
@@ -14,7 +14,11 @@ use std::collections::VecDeque;
 use std::marker::Model;
 use std::{fmt, slice};
 
-/// The pairs of a map, each as `(&K, &V)`, in their order. `VecMap::iter` and `&map` make it.
+/// An iterator over the pairs of a map, each as `(&K, &V)`, in their order.
+///
+/// `VecMap::iter` and `(&map).into_iter()` create it.
+///
+/// # Examples
 ///
 /// ```
 /// let map = vecmap!(alloc; 'a' => 1, 'b' => 2);
@@ -37,7 +41,9 @@ impl<'a, K, V> Model for Iter<'a, K, V> {
 }
 
 impl<'a, K, V> Iter<'a, K, V> {
-    /// The pairs of a slice, from the first to the last.
+    /// Creates an iterator over the pairs of a slice, from the first to the last.
+    ///
+    /// # Examples
     ///
     /// ```
     /// let mut pairs = Iter::over(&[('a', 1), ('b', 2)]);
@@ -56,7 +62,13 @@ impl<'a, K, V> Iter<'a, K, V> {
         }
     }
 
-    /// Another over what is left. It takes no memory.
+    /// Returns another iterator over the pairs that are left.
+    ///
+    /// # Complexity
+    ///
+    /// Does not allocate.
+    ///
+    /// # Examples
     ///
     /// ```
     /// let map = vecmap!(alloc; 'a' => 1, 'b' => 2);
@@ -86,7 +98,7 @@ impl<'a, K, V> Iterator for Iter<'a, K, V> {
         Some((&pair.0, &pair.1))
     }
 
-    /// The number of items left, as both ends.
+    /// Returns the number of pairs left, as both bounds.
     fn size_hint(&self) -> (usize, Option<usize>)
         ensures lower { IsWithinCount result.0 (at_most (length self.now)) }
         ensures upper { IfSome result.1 (UpTo (at_most (length self.now))) }
@@ -107,20 +119,24 @@ impl<'a, K, V> DoubleEndedIterator for Iter<'a, K, V> {
 }
 
 impl<'a, K, V> ExactSizeIterator for Iter<'a, K, V> {
-    /// The number of items left.
+    /// Returns the number of pairs left.
     fn len(&self) -> usize {
         self.pairs.len()
     }
 }
 
-/// Prints what is left as std prints a list.
+/// Prints the pairs that are left, as std prints a list.
 impl<'a, K: fmt::Debug, V: fmt::Debug> fmt::Debug for Iter<'a, K, V> {
     fn fmt<W: fmt::Write>(&self, f: &mut fmt::Formatter<W>) -> fmt::Result {
         f.debug_list().entries(self.clone()).finish()
     }
 }
 
-/// The pairs of a map, each as `(K, V)`, in their order. The map by value makes it. Dropped, it drops what is left.
+/// An iterator over the pairs of a map, each as `(K, V)`, in their order.
+///
+/// `map.into_iter()` creates it. If the iterator is dropped, the pairs that are left are dropped too.
+///
+/// # Examples
 ///
 /// ```
 /// let map = vecmap!(alloc; 'a' => 1, 'b' => 2);
@@ -142,7 +158,13 @@ impl<K, V> Model for IntoIter<K, V> {
 }
 
 impl<K, V> IntoIter<K, V> {
-    /// The pairs of a vector, from the first to the last. It takes no memory.
+    /// Creates an iterator over the pairs of a vector, from the first to the last.
+    ///
+    /// # Complexity
+    ///
+    /// Does not allocate.
+    ///
+    /// # Examples
     ///
     /// ```
     /// let map = vecmap!(alloc; 'a' => 1, 'b' => 2);
@@ -162,8 +184,13 @@ impl<K, V> IntoIter<K, V> {
         }
     }
 
-    /// Another over clones of the pairs that are left, in the same order. Refused, nothing is made, and this one still
-    /// gives all that it has left.
+    /// Returns an iterator over clones of the pairs that are left, in the same order.
+    ///
+    /// # Errors
+    ///
+    /// [`AllocError`] if the allocator refuses the request; this iterator then still has all pairs that it had left.
+    ///
+    /// # Examples
     ///
     /// ```
     /// let map = vecmap!(alloc; 'a' => 1, 'b' => 2);
@@ -176,7 +203,8 @@ impl<K, V> IntoIter<K, V> {
     where
         K: Clone,
         V: Clone,
-        ensures { IfOk result (λ copy. AreClones (IsPairClone K.is_clone V.is_clone) self.now copy) }
+        ensures { IfOk result (λ copy. AreClones
+            (IsPairClone K.is_clone V.is_clone) self.now copy) }
     {
         Ok(IntoIter {
             pairs: self.pairs.clone()?,
@@ -195,7 +223,7 @@ impl<K: Drop, V: Drop> Iterator for IntoIter<K, V> {
         self.pairs.pop_front()
     }
 
-    /// The number of items left, as both ends.
+    /// Returns the number of pairs left, as both bounds.
     fn size_hint(&self) -> (usize, Option<usize>)
         ensures lower { IsWithinCount result.0 (at_most (length self.now)) }
         ensures upper { IfSome result.1 (UpTo (at_most (length self.now))) }
@@ -215,13 +243,13 @@ impl<K: Drop, V: Drop> DoubleEndedIterator for IntoIter<K, V> {
 }
 
 impl<K: Drop, V: Drop> ExactSizeIterator for IntoIter<K, V> {
-    /// The number of items left.
+    /// Returns the number of pairs left.
     fn len(&self) -> usize {
         self.pairs.len()
     }
 }
 
-/// Prints what is left as std prints a list.
+/// Prints the pairs that are left, as std prints a list.
 impl<K: fmt::Debug, V: fmt::Debug> fmt::Debug for IntoIter<K, V> {
     fn fmt<W: fmt::Write>(&self, f: &mut fmt::Formatter<W>) -> fmt::Result {
         f.debug_list().entries(self.pairs.iter()).finish()

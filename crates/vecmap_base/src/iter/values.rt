@@ -1,8 +1,8 @@
 //! The iterators over a map's values, by reference and by value.
 //!
-//! A contract sees each as the list of what it has left. `next` takes the first of it and `next_back` the last, in
-//! constant time; once it is empty, both answer `None`. Only the `clone` of `IntoValues` takes memory, and time by the
-//! length of the list.
+//! In contracts an iterator is the list of the values that it has left. `next` removes the first of them and returns
+//! it, and `next_back` the last, in constant time. Once the list is empty, both return `None`. Only the `clone` of
+//! `IntoValues` allocates, and its time is linear in the length of the list.
 ghost use Rattle.std.specs.Prelude.{◌≡◌, ◌<◌, ◌^◌, IfOk, IfSome, length};
 ghost use Rattle.std.specs.Iterator.{UpTo, at_most};
 ghost use Rattle.std.specs.Iterator.SizeHint.{IsWithinCount};
@@ -15,7 +15,11 @@ use std::collections::VecDeque;
 use std::marker::Model;
 use std::{fmt, slice};
 
-/// The values of a map, each as `&V`, in the order of their keys. `VecMap::values` makes it.
+/// An iterator over the values of a map, each as `&V`, in the order of their keys.
+///
+/// `VecMap::values` creates it.
+///
+/// # Examples
 ///
 /// ```
 /// let map = vecmap!(alloc; 'a' => 1, 'b' => 2);
@@ -39,7 +43,9 @@ impl<'a, K, V> Model for Values<'a, K, V> {
 }
 
 impl<'a, K, V> Values<'a, K, V> {
-    /// The values of a slice of pairs, from the first to the last.
+    /// Creates an iterator over the values of a slice of pairs, from the first to the last.
+    ///
+    /// # Examples
     ///
     /// ```
     /// let mut values = Values::over(&[('a', 1), ('b', 2)]);
@@ -56,7 +62,13 @@ impl<'a, K, V> Values<'a, K, V> {
         }
     }
 
-    /// Another over what is left. It takes no memory.
+    /// Returns another iterator over the values that are left.
+    ///
+    /// # Complexity
+    ///
+    /// Does not allocate.
+    ///
+    /// # Examples
     ///
     /// ```
     /// let map = vecmap!(alloc; 'a' => 1, 'b' => 2);
@@ -86,7 +98,7 @@ impl<'a, K, V> Iterator for Values<'a, K, V> {
         Some(&pair.1)
     }
 
-    /// The number of items left, as both ends.
+    /// Returns the number of values left, as both bounds.
     fn size_hint(&self) -> (usize, Option<usize>)
         ensures lower { IsWithinCount result.0 (at_most (length self.now)) }
         ensures upper { IfSome result.1 (UpTo (at_most (length self.now))) }
@@ -107,21 +119,24 @@ impl<'a, K, V> DoubleEndedIterator for Values<'a, K, V> {
 }
 
 impl<'a, K, V> ExactSizeIterator for Values<'a, K, V> {
-    /// The number of items left.
+    /// Returns the number of values left.
     fn len(&self) -> usize {
         self.pairs.len()
     }
 }
 
-/// Prints what is left as std prints a list.
+/// Prints the values that are left, as std prints a list.
 impl<'a, K, V: fmt::Debug> fmt::Debug for Values<'a, K, V> {
     fn fmt<W: fmt::Write>(&self, f: &mut fmt::Formatter<W>) -> fmt::Result {
         f.debug_list().entries(self.clone()).finish()
     }
 }
 
-/// The values of a map, each as `V`, in the order of their keys. `VecMap::into_values` makes it. Dropped, it drops what is
-/// left.
+/// An iterator over the values of a map, each as `V`, in the order of their keys.
+///
+/// `VecMap::into_values` creates it. If the iterator is dropped, the pairs that are left are dropped too.
+///
+/// # Examples
 ///
 /// ```
 /// let map = vecmap!(alloc; 'a' => 1, 'b' => 2);
@@ -144,7 +159,13 @@ impl<K, V> Model for IntoValues<K, V> {
 }
 
 impl<K, V> IntoValues<K, V> {
-    /// The values of a vector of pairs, from the first to the last. It takes no memory.
+    /// Creates an iterator over the values of a vector of pairs, from the first to the last.
+    ///
+    /// # Complexity
+    ///
+    /// Does not allocate.
+    ///
+    /// # Examples
     ///
     /// ```
     /// let map = vecmap!(alloc; 'a' => 1, 'b' => 2);
@@ -162,8 +183,15 @@ impl<K, V> IntoValues<K, V> {
         }
     }
 
-    /// Another over clones of the values that are left, in the same order. Their keys are cloned too. Refused, nothing is
-    /// made, and this one still gives all that it has left.
+    /// Returns an iterator over clones of the values that are left, in the same order.
+    ///
+    /// Their keys are cloned too.
+    ///
+    /// # Errors
+    ///
+    /// [`AllocError`] if the allocator refuses the request; this iterator then still has all values that it had left.
+    ///
+    /// # Examples
     ///
     /// ```
     /// let map = vecmap!(alloc; 'a' => 1, 'b' => 2);
@@ -196,7 +224,7 @@ impl<K: Drop, V: Drop> Iterator for IntoValues<K, V> {
         Some(value)
     }
 
-    /// The number of items left, as both ends.
+    /// Returns the number of values left, as both bounds.
     fn size_hint(&self) -> (usize, Option<usize>)
         ensures lower { IsWithinCount result.0 (at_most (length self.now)) }
         ensures upper { IfSome result.1 (UpTo (at_most (length self.now))) }
@@ -217,13 +245,13 @@ impl<K: Drop, V: Drop> DoubleEndedIterator for IntoValues<K, V> {
 }
 
 impl<K: Drop, V: Drop> ExactSizeIterator for IntoValues<K, V> {
-    /// The number of items left.
+    /// Returns the number of values left.
     fn len(&self) -> usize {
         self.pairs.len()
     }
 }
 
-/// Prints what is left as std prints a list.
+/// Prints the values that are left, as std prints a list.
 impl<K, V: fmt::Debug> fmt::Debug for IntoValues<K, V> {
     fn fmt<W: fmt::Write>(&self, f: &mut fmt::Formatter<W>) -> fmt::Result {
         f.debug_list()

@@ -1,4 +1,4 @@
-//! Sets of two sets: by iterators, and by operators.
+//! Sets that are computed from two sets, by iterators and by operators.
 use super::{filled, mark};
 use crate::REFUSED;
 use std::alloc::Global;

@@ -71,7 +71,7 @@ pub extern "C" fn vecmap_bench_set_swap_take(
     sum
 }
 
-// About half of the elements stay.
+// About half of the elements are kept.
 #[unsafe(no_mangle)]
 pub extern "C" fn vecmap_bench_set_retain(
     alloc: Global,
@@ -93,7 +93,7 @@ pub extern "C" fn vecmap_bench_set_retain(
     sum
 }
 
-// The front half goes.
+// The front half is removed.
 #[unsafe(no_mangle)]
 pub extern "C" fn vecmap_bench_set_drain(
     alloc: Global,

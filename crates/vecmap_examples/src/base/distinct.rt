@@ -12,7 +12,7 @@ fn shows_items_distinct(alloc: Global) -> Result<bool, Fail> {
 }
 
 #[test]
-fn examples_hold(rt: HostRuntime) -> Result<(), Fail> {
+fn examples_of_base_distinct_hold(rt: HostRuntime) -> Result<(), Fail> {
     let alloc = rt.alloc();
     assert!(rt; shows_keys_distinct(alloc)?);
     assert!(rt; shows_items_distinct(alloc)?);

@@ -5,16 +5,15 @@ use vecmap_base::{move_range_last, reverse_from};
 
 fn shows_move_range_last(alloc: Global) -> Result<bool, Fail> {
     let mut items = vec![in alloc; 1, 2, 3, 4]?;
-    Ok(
-        items.len() == 4
-            && move_range_last(&mut items, 0, 2) == 2
-            && items.as_slice() == [3, 4, 2, 1].as_slice(),
-    )
+    if items.len() != 4 {
+        return Ok(false);
+    }
+    Ok(move_range_last(&mut items, 0, 2) == 2 && items.as_slice() == [3, 4, 2, 1].as_slice())
 }
 
 fn shows_reverse_from(alloc: Global) -> Result<bool, Fail> {
     let mut items = vec![in alloc; 1, 2, 3]?;
-    if !(1 <= items.len()) {
+    if items.len() < 1 {
         return Ok(false);
     }
     reverse_from(&mut items, 1);
@@ -22,7 +21,7 @@ fn shows_reverse_from(alloc: Global) -> Result<bool, Fail> {
 }
 
 #[test]
-fn examples_hold(rt: HostRuntime) -> Result<(), Fail> {
+fn examples_of_base_drain_hold(rt: HostRuntime) -> Result<(), Fail> {
     let alloc = rt.alloc();
     assert!(rt; shows_move_range_last(alloc)?);
     assert!(rt; shows_reverse_from(alloc)?);

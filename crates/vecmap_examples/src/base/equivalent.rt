@@ -22,7 +22,7 @@ fn shows_is_in_equivalent(alloc: Global) -> Result<bool, Fail> {
 }
 
 #[test]
-fn examples_hold(rt: HostRuntime) -> Result<(), Fail> {
+fn examples_of_base_equivalent_hold(rt: HostRuntime) -> Result<(), Fail> {
     let alloc = rt.alloc();
     assert!(rt; shows_equivalent(alloc)?);
     assert!(rt; shows_find_equivalent(alloc)?);

@@ -40,7 +40,7 @@ fn shows_into_iter_clone(alloc: Global) -> Result<bool, Fail> {
 }
 
 #[test]
-fn examples_hold(rt: HostRuntime) -> Result<(), Fail> {
+fn examples_of_base_items_hold(rt: HostRuntime) -> Result<(), Fail> {
     let alloc = rt.alloc();
     assert!(rt; shows_iter(alloc)?);
     assert!(rt; shows_into_iter(alloc)?);

@@ -73,7 +73,7 @@ fn shows_values_mut_over(alloc: Global) -> Result<bool, Fail> {
 }
 
 #[test]
-fn examples_hold(rt: HostRuntime) -> Result<(), Fail> {
+fn examples_of_base_iter_mut_hold(rt: HostRuntime) -> Result<(), Fail> {
     let alloc = rt.alloc();
     assert!(rt; shows_iter_mut(alloc)?);
     assert!(rt; shows_iter_mut2(alloc)?);

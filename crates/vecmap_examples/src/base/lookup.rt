@@ -26,7 +26,7 @@ fn shows_is_in(alloc: Global) -> Result<bool, Fail> {
 }
 
 #[test]
-fn examples_hold(rt: HostRuntime) -> Result<(), Fail> {
+fn examples_of_base_lookup_hold(rt: HostRuntime) -> Result<(), Fail> {
     let alloc = rt.alloc();
     assert!(rt; shows_find(alloc)?);
     assert!(rt; shows_find_item(alloc)?);

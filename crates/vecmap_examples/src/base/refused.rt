@@ -25,7 +25,7 @@ fn shows_display(alloc: Global) -> Result<bool, Fail> {
 }
 
 #[test]
-fn examples_hold(rt: HostRuntime) -> Result<(), Fail> {
+fn examples_of_base_refused_hold(rt: HostRuntime) -> Result<(), Fail> {
     let alloc = rt.alloc();
     assert!(rt; shows_refused(alloc)?);
     assert!(rt; shows_refused_to_error(alloc)?);

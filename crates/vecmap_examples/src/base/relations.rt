@@ -12,7 +12,7 @@ fn shows_are_apart(alloc: Global) -> Result<bool, Fail> {
 }
 
 #[test]
-fn examples_hold(rt: HostRuntime) -> Result<(), Fail> {
+fn examples_of_base_relations_hold(rt: HostRuntime) -> Result<(), Fail> {
     let alloc = rt.alloc();
     assert!(rt; shows_are_within(alloc)?);
     assert!(rt; shows_are_apart(alloc)?);

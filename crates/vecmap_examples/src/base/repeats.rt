@@ -29,7 +29,7 @@ fn shows_dedup_keep_first(alloc: Global) -> Result<bool, Fail> {
 }
 
 #[test]
-fn examples_hold(rt: HostRuntime) -> Result<(), Fail> {
+fn examples_of_base_repeats_hold(rt: HostRuntime) -> Result<(), Fail> {
     let alloc = rt.alloc();
     assert!(rt; shows_gather_pairs(alloc)?);
     assert!(rt; shows_gather_items(alloc)?);

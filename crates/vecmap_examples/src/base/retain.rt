@@ -22,7 +22,7 @@ fn shows_retain_items(alloc: Global) -> Result<bool, Fail> {
 }
 
 #[test]
-fn examples_hold(rt: HostRuntime) -> Result<(), Fail> {
+fn examples_of_base_retain_hold(rt: HostRuntime) -> Result<(), Fail> {
     let alloc = rt.alloc();
     assert!(rt; shows_retain_pairs(alloc)?);
     assert!(rt; shows_retain_pairs_mut(alloc)?);

@@ -16,7 +16,7 @@ fn shows_partition_point(alloc: Global) -> Result<bool, Fail> {
 }
 
 #[test]
-fn examples_hold(rt: HostRuntime) -> Result<(), Fail> {
+fn examples_of_base_search_hold(rt: HostRuntime) -> Result<(), Fail> {
     let alloc = rt.alloc();
     assert!(rt; shows_search_pairs_by_key(alloc)?);
     assert!(rt; shows_search_items_by_key(alloc)?);

@@ -23,7 +23,7 @@ fn shows_same(alloc: Global) -> Result<bool, Fail> {
 }
 
 #[test]
-fn examples_hold(rt: HostRuntime) -> Result<(), Fail> {
+fn examples_of_base_steps_hold(rt: HostRuntime) -> Result<(), Fail> {
     let alloc = rt.alloc();
     assert!(rt; shows_steps(alloc)?);
     assert!(rt; shows_new(alloc)?);

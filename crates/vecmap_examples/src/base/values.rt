@@ -40,7 +40,7 @@ fn shows_into_values_clone(alloc: Global) -> Result<bool, Fail> {
 }
 
 #[test]
-fn examples_hold(rt: HostRuntime) -> Result<(), Fail> {
+fn examples_of_base_values_hold(rt: HostRuntime) -> Result<(), Fail> {
     let alloc = rt.alloc();
     assert!(rt; shows_values(alloc)?);
     assert!(rt; shows_into_values(alloc)?);

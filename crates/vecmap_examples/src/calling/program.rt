@@ -23,7 +23,7 @@ mod tests {
     use std::test::Fail;
 
     #[test]
-    fn the_later_port_stands_in_the_old_place(rt: HostRuntime) -> Result<(), Fail> {
+    fn the_later_port_is_at_the_old_index(rt: HostRuntime) -> Result<(), Fail> {
         let ports = ports(rt.alloc())?;
         assert_eq!(rt; ports.get("http"), Some(&8080));
         assert_eq!(rt; ports.as_slice(), [("http", 8080), ("ssh", 22)].as_slice());

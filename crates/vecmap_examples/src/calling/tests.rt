@@ -1,8 +1,5 @@
-//! Calls of the page's functions, and what comes of them.
-use super::{
-    count, errors, inner, intern, keep, keys, lookups, pair, program, refused, set, texts,
-};
-use keep::Bill;
+//! Tests of the functions of the page.
+use super::{count, errors, inner, intern, keys, lookups, pair, program, refused, set, texts};
 use keys::{Place, Ticket};
 use std::alloc::{AllocError, Global};
 use std::string::String;
@@ -10,7 +7,9 @@ use std::test::Fail;
 use vecmap::{VecMap, VecSet, vecmap};
 
 #[test]
-fn the_program_runs(rt: HostRuntime) -> Result<(), Fail> {
+fn the_program_prints_its_ports(rt: HostRuntime) -> Result<(), Fail> {
+    let ports = program::ports(rt.alloc())?;
+    assert!(rt; ports.as_slice() == [("http", 8080), ("ssh", 22)].as_slice());
     program::main(rt)?;
     Ok(())
 }
@@ -35,7 +34,7 @@ fn keys_are_found_by_their_own_equality(rt: HostRuntime) -> Result<(), Fail> {
 }
 
 #[test]
-fn lines_and_ports_are_put(rt: HostRuntime) -> Result<(), Fail> {
+fn lines_and_ports_are_inserted(rt: HostRuntime) -> Result<(), Fail> {
     let alloc = rt.alloc();
     let mut lines = VecMap::new(alloc);
     assert!(rt; refused::put_line(&mut lines, 3, String::from_str(alloc, "three")?).is_none());
@@ -43,16 +42,6 @@ fn lines_and_ports_are_put(rt: HostRuntime) -> Result<(), Fail> {
     let mut ports = VecMap::new(alloc);
     set::set_port(&mut ports, 1, 80)?;
     assert!(rt; ports.as_slice() == [(1, 80)].as_slice());
-    Ok(())
-}
-
-// A bill lends nothing of what it lists, so there is nothing to compare.
-#[test]
-fn calls_on_a_bill_run(rt: HostRuntime) -> Result<(), Fail> {
-    let mut bill = Bill::new(rt.alloc());
-    bill.set(4, 20)?;
-    bill.leave(4);
-    bill.leave(4);
     Ok(())
 }
 
@@ -71,7 +60,7 @@ fn names_keep_their_numbers(rt: HostRuntime) -> Result<(), Fail> {
     Ok(())
 }
 
-// Counts a word, where it has come fewer than nine times.
+// Counts a word whose count is below nine.
 fn count_text(
     alloc: Global,
     counts: &mut VecMap<String, u64>,
@@ -85,7 +74,7 @@ fn count_text(
 }
 
 #[test]
-fn words_are_counted_and_pairs_put(rt: HostRuntime) -> Result<(), Fail> {
+fn words_are_counted_and_pairs_inserted(rt: HostRuntime) -> Result<(), Fail> {
     let alloc = rt.alloc();
     let mut counts = VecMap::new(alloc);
     for text in ["a", "b", "a"] {

@@ -4,11 +4,12 @@ use std::alloc::Global;
 use std::test::Fail;
 use vecmap::VecMap;
 
-fn shows_from_iter_and_from_slice(alloc: Global) -> Result<bool, Fail> {
+fn shows_from_iter(alloc: Global) -> Result<bool, Fail> {
     let map = VecMap::from_iter(alloc, [('a', 1), ('b', 2), ('a', 3)])?;
-    if !(has_pairs(&map, &[('a', 3), ('b', 2)])) {
-        return Ok(false);
-    }
+    Ok(has_pairs(&map, &[('a', 3), ('b', 2)]))
+}
+
+fn shows_from_slice(alloc: Global) -> Result<bool, Fail> {
     let map = VecMap::from_slice(alloc, &[('a', 1), ('b', 2), ('a', 3)])?;
     Ok(has_pairs(&map, &[('a', 3), ('b', 2)]))
 }
@@ -45,9 +46,10 @@ fn shows_collect(alloc: Global) -> Result<bool, Fail> {
 }
 
 #[test]
-fn examples_hold(rt: HostRuntime) -> Result<(), Fail> {
+fn examples_of_map_bulk_hold(rt: HostRuntime) -> Result<(), Fail> {
     let alloc = rt.alloc();
-    assert!(rt; shows_from_iter_and_from_slice(alloc)?);
+    assert!(rt; shows_from_iter(alloc)?);
+    assert!(rt; shows_from_slice(alloc)?);
     assert!(rt; shows_append(alloc)?);
     assert!(rt; shows_extend(alloc)?);
     assert!(rt; shows_extend_refs(alloc)?);

@@ -20,7 +20,7 @@ fn shows_from_vec_counted(alloc: Global) -> Result<bool, Fail> {
 
 fn shows_from_vec_unchecked(alloc: Global) -> Result<bool, Fail> {
     let pairs = vec![in alloc; ('a', 1), ('b', 2)]?;
-    if !(keys_distinct(&pairs)) {
+    if !keys_distinct(&pairs) {
         return Ok(false);
     }
     let map = VecMap::from_vec_unchecked(pairs);
@@ -33,7 +33,7 @@ fn shows_to_vec(alloc: Global) -> Result<bool, Fail> {
 }
 
 #[test]
-fn examples_hold(rt: HostRuntime) -> Result<(), Fail> {
+fn examples_of_map_conversion_hold(rt: HostRuntime) -> Result<(), Fail> {
     let alloc = rt.alloc();
     assert!(rt; shows_from_vec(alloc)?);
     assert!(rt; shows_from_vec_counted(alloc)?);

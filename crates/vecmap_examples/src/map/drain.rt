@@ -6,7 +6,7 @@ use vecmap::map::Drain;
 
 fn shows_drain(alloc: Global) -> Result<bool, Fail> {
     let mut map = three_letters(alloc)?;
-    if !(1 <= map.len()) {
+    if map.len() < 1 {
         return Ok(false);
     }
     let mut drain = map.drain(1..);
@@ -19,14 +19,14 @@ fn shows_drain(alloc: Global) -> Result<bool, Fail> {
 
 fn shows_over(alloc: Global) -> Result<bool, Fail> {
     let mut map = three_letters(alloc)?;
-    if !(map.len() == 3 && Drain::over(&mut map, 1, 3).next() == Some(('b', 2))) {
+    if map.len() != 3 {
         return Ok(false);
     }
-    Ok(has_pairs(&map, &[('a', 1)]))
+    Ok(Drain::over(&mut map, 1, 3).next() == Some(('b', 2)) && has_pairs(&map, &[('a', 1)]))
 }
 
 #[test]
-fn examples_hold(rt: HostRuntime) -> Result<(), Fail> {
+fn examples_of_map_drain_hold(rt: HostRuntime) -> Result<(), Fail> {
     let alloc = rt.alloc();
     assert!(rt; shows_drain(alloc)?);
     assert!(rt; shows_over(alloc)?);

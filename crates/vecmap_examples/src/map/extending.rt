@@ -26,7 +26,7 @@ fn shows_extend_3(alloc: Global) -> Result<bool, Fail> {
 }
 
 #[test]
-fn examples_hold(rt: HostRuntime) -> Result<(), Fail> {
+fn examples_of_map_extending_hold(rt: HostRuntime) -> Result<(), Fail> {
     let alloc = rt.alloc();
     assert!(rt; shows_extend(alloc)?);
     assert!(rt; shows_extend_2(alloc)?);

@@ -32,7 +32,7 @@ fn shows_insert_at(alloc: Global) -> Result<bool, Fail> {
 }
 
 #[test]
-fn examples_hold(rt: HostRuntime) -> Result<(), Fail> {
+fn examples_of_map_insertion_hold(rt: HostRuntime) -> Result<(), Fail> {
     let alloc = rt.alloc();
     assert!(rt; shows_insert(alloc)?);
     assert!(rt; shows_insert_full(alloc)?);

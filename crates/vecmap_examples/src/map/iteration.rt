@@ -16,12 +16,14 @@ fn shows_iter_mut(alloc: Global) -> Result<bool, Fail> {
     Ok(has_pairs(&map, &[('a', 3), ('b', 3)]))
 }
 
-fn shows_keys_and_values(alloc: Global) -> Result<bool, Fail> {
+fn shows_keys(alloc: Global) -> Result<bool, Fail> {
     let map = two_letters(alloc)?;
-    Ok(
-        map.keys().copied().collect::<Vec<char>>(alloc)?.as_slice() == ['a', 'b'].as_slice()
-            && map.values().copied().collect::<Vec<u32>>(alloc)?.as_slice() == [1, 2].as_slice(),
-    )
+    Ok(map.keys().copied().collect::<Vec<char>>(alloc)?.as_slice() == ['a', 'b'].as_slice())
+}
+
+fn shows_values(alloc: Global) -> Result<bool, Fail> {
+    let map = two_letters(alloc)?;
+    Ok(map.values().copied().collect::<Vec<u32>>(alloc)?.as_slice() == [1, 2].as_slice())
 }
 
 fn shows_values_mut(alloc: Global) -> Result<bool, Fail> {
@@ -65,11 +67,12 @@ fn shows_loop_by_value(alloc: Global) -> Result<bool, Fail> {
 }
 
 #[test]
-fn examples_hold(rt: HostRuntime) -> Result<(), Fail> {
+fn examples_of_map_iteration_hold(rt: HostRuntime) -> Result<(), Fail> {
     let alloc = rt.alloc();
     assert!(rt; shows_iter(alloc)?);
     assert!(rt; shows_iter_mut(alloc)?);
-    assert!(rt; shows_keys_and_values(alloc)?);
+    assert!(rt; shows_keys(alloc)?);
+    assert!(rt; shows_values(alloc)?);
     assert!(rt; shows_values_mut(alloc)?);
     assert!(rt; shows_into_keys(alloc)?);
     assert!(rt; shows_into_values(alloc)?);

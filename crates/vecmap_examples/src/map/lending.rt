@@ -44,7 +44,7 @@ fn shows_get_index_mut(alloc: Global) -> Result<bool, Fail> {
 }
 
 #[test]
-fn examples_hold(rt: HostRuntime) -> Result<(), Fail> {
+fn examples_of_map_lending_hold(rt: HostRuntime) -> Result<(), Fail> {
     let alloc = rt.alloc();
     assert!(rt; shows_get_mut(alloc)?);
     assert!(rt; shows_first_mut(alloc)?);

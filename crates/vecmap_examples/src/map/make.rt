@@ -50,7 +50,7 @@ fn shows_emptied(alloc: Global) -> Result<bool, Fail> {
 }
 
 #[test]
-fn examples_hold(rt: HostRuntime) -> Result<(), Fail> {
+fn examples_of_map_make_hold(rt: HostRuntime) -> Result<(), Fail> {
     let alloc = rt.alloc();
     assert!(rt; shows_new(alloc)?);
     assert!(rt; shows_with_capacity(alloc)?);

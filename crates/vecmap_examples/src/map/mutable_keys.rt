@@ -43,7 +43,7 @@ fn shows_keys_mut(alloc: Global) -> Result<bool, Fail> {
 }
 
 #[test]
-fn examples_hold(rt: HostRuntime) -> Result<(), Fail> {
+fn examples_of_map_mutable_keys_hold(rt: HostRuntime) -> Result<(), Fail> {
     let alloc = rt.alloc();
     assert!(rt; shows_get_full_mut2(alloc)?);
     assert!(rt; shows_get_index_mut2(alloc)?);

@@ -72,7 +72,7 @@ fn shows_swap_remove(alloc: Global) -> Result<bool, Fail> {
 }
 
 #[test]
-fn examples_hold(rt: HostRuntime) -> Result<(), Fail> {
+fn examples_of_map_occupied_hold(rt: HostRuntime) -> Result<(), Fail> {
     let alloc = rt.alloc();
     assert!(rt; shows_key(alloc)?);
     assert!(rt; shows_index(alloc)?);

@@ -11,7 +11,7 @@ fn shows_reverse(alloc: Global) -> Result<bool, Fail> {
 
 fn shows_swap_indices(alloc: Global) -> Result<bool, Fail> {
     let mut map = three_letters(alloc)?;
-    if !(2 < map.len()) {
+    if map.len() <= 2 {
         return Ok(false);
     }
     map.swap_indices(0, 2);
@@ -49,7 +49,7 @@ fn shows_sort_unstable_by(alloc: Global) -> Result<bool, Fail> {
 }
 
 #[test]
-fn examples_hold(rt: HostRuntime) -> Result<(), Fail> {
+fn examples_of_map_order_hold(rt: HostRuntime) -> Result<(), Fail> {
     let alloc = rt.alloc();
     assert!(rt; shows_reverse(alloc)?);
     assert!(rt; shows_swap_indices(alloc)?);

@@ -17,7 +17,7 @@ fn shows_truncate(alloc: Global) -> Result<bool, Fail> {
 
 fn shows_split_off(alloc: Global) -> Result<bool, Fail> {
     let mut map = three_letters(alloc)?;
-    if !(1 <= map.len()) {
+    if map.len() < 1 {
         return Ok(false);
     }
     let part = map.split_off(1)?;
@@ -26,7 +26,10 @@ fn shows_split_off(alloc: Global) -> Result<bool, Fail> {
 
 fn shows_drain(alloc: Global) -> Result<bool, Fail> {
     let mut map = three_letters(alloc)?;
-    Ok(2 <= map.len() && map.drain(..2).next() == Some(('a', 1)) && has_pairs(&map, &[('c', 3)]))
+    if map.len() < 2 {
+        return Ok(false);
+    }
+    Ok(map.drain(..2).next() == Some(('a', 1)) && has_pairs(&map, &[('c', 3)]))
 }
 
 fn shows_retain(alloc: Global) -> Result<bool, Fail> {
@@ -56,7 +59,10 @@ fn shows_remove_entry(alloc: Global) -> Result<bool, Fail> {
 
 fn shows_remove_index(alloc: Global) -> Result<bool, Fail> {
     let mut map = three_letters(alloc)?;
-    Ok(0 < map.len() && map.remove_index(0) == ('a', 1) && has_pairs(&map, &[('b', 2), ('c', 3)]))
+    if map.len() <= 0 {
+        return Ok(false);
+    }
+    Ok(map.remove_index(0) == ('a', 1) && has_pairs(&map, &[('b', 2), ('c', 3)]))
 }
 
 fn shows_swap_remove(alloc: Global) -> Result<bool, Fail> {
@@ -71,11 +77,10 @@ fn shows_swap_remove_entry(alloc: Global) -> Result<bool, Fail> {
 
 fn shows_swap_remove_index(alloc: Global) -> Result<bool, Fail> {
     let mut map = three_letters(alloc)?;
-    Ok(
-        0 < map.len()
-            && map.swap_remove_index(0) == ('a', 1)
-            && has_pairs(&map, &[('c', 3), ('b', 2)]),
-    )
+    if map.len() <= 0 {
+        return Ok(false);
+    }
+    Ok(map.swap_remove_index(0) == ('a', 1) && has_pairs(&map, &[('c', 3), ('b', 2)]))
 }
 
 fn shows_remove_str(alloc: Global) -> Result<bool, Fail> {
@@ -84,7 +89,7 @@ fn shows_remove_str(alloc: Global) -> Result<bool, Fail> {
 }
 
 #[test]
-fn examples_hold(rt: HostRuntime) -> Result<(), Fail> {
+fn examples_of_map_removal_hold(rt: HostRuntime) -> Result<(), Fail> {
     let alloc = rt.alloc();
     assert!(rt; shows_clear(alloc)?);
     assert!(rt; shows_truncate(alloc)?);

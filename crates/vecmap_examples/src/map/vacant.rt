@@ -40,7 +40,7 @@ fn shows_insert_entry(alloc: Global) -> Result<bool, Fail> {
 }
 
 #[test]
-fn examples_hold(rt: HostRuntime) -> Result<(), Fail> {
+fn examples_of_map_vacant_hold(rt: HostRuntime) -> Result<(), Fail> {
     let alloc = rt.alloc();
     assert!(rt; shows_key(alloc)?);
     assert!(rt; shows_index(alloc)?);

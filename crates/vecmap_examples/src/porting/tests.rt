@@ -1,4 +1,4 @@
-//! Calls of the page's functions, and what comes of them.
+//! Tests of the functions of the page.
 use super::bulk::{added, first_out, lengths, letters, sorted};
 use super::calls::{count, print_counts, references, sort_by_digits};
 use super::order::Order;

@@ -4,11 +4,12 @@ use std::alloc::Global;
 use std::test::Fail;
 use vecmap::VecSet;
 
-fn shows_from_iter_and_from_slice(alloc: Global) -> Result<bool, Fail> {
+fn shows_from_iter(alloc: Global) -> Result<bool, Fail> {
     let set = VecSet::from_iter(alloc, [2, 1, 2])?;
-    if !(has_items(&set, &[2, 1])) {
-        return Ok(false);
-    }
+    Ok(has_items(&set, &[2, 1]))
+}
+
+fn shows_from_slice(alloc: Global) -> Result<bool, Fail> {
     let set = VecSet::from_slice(alloc, &[2, 1, 2])?;
     Ok(has_items(&set, &[2, 1]))
 }
@@ -38,9 +39,10 @@ fn shows_collect(alloc: Global) -> Result<bool, Fail> {
 }
 
 #[test]
-fn examples_hold(rt: HostRuntime) -> Result<(), Fail> {
+fn examples_of_set_bulk_hold(rt: HostRuntime) -> Result<(), Fail> {
     let alloc = rt.alloc();
-    assert!(rt; shows_from_iter_and_from_slice(alloc)?);
+    assert!(rt; shows_from_iter(alloc)?);
+    assert!(rt; shows_from_slice(alloc)?);
     assert!(rt; shows_append(alloc)?);
     assert!(rt; shows_extend(alloc)?);
     assert!(rt; shows_extend_copied(alloc)?);

@@ -16,7 +16,7 @@ fn shows_clone(alloc: Global) -> Result<bool, Fail> {
 }
 
 #[test]
-fn examples_hold(rt: HostRuntime) -> Result<(), Fail> {
+fn examples_of_set_cloning_hold(rt: HostRuntime) -> Result<(), Fail> {
     assert!(rt; shows_clone(rt.alloc())?);
     Ok(())
 }

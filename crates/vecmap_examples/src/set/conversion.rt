@@ -16,7 +16,7 @@ fn shows_from_vec_counted(alloc: Global) -> Result<bool, Fail> {
 
 fn shows_from_vec_unchecked(alloc: Global) -> Result<bool, Fail> {
     let items = vec![in alloc; 2, 1]?;
-    if !(items_distinct(&items)) {
+    if !items_distinct(&items) {
         return Ok(false);
     }
     let set = VecSet::from_vec_unchecked(items);
@@ -29,7 +29,7 @@ fn shows_to_vec(alloc: Global) -> Result<bool, Fail> {
 }
 
 #[test]
-fn examples_hold(rt: HostRuntime) -> Result<(), Fail> {
+fn examples_of_set_conversion_hold(rt: HostRuntime) -> Result<(), Fail> {
     let alloc = rt.alloc();
     assert!(rt; shows_from_vec(alloc)?);
     assert!(rt; shows_from_vec_counted(alloc)?);

@@ -13,11 +13,11 @@ fn shows_clone(alloc: Global) -> Result<bool, Fail> {
     let set = three_numbers(alloc)?;
     let other = other_numbers(alloc)?;
     let mut items = set.difference(&other);
-    Ok(items.next() == Some(&1) && items.clone().next() == None && items.next() == None)
+    Ok(items.next() == Some(&1) && items.clone().next().is_none() && items.next().is_none())
 }
 
 #[test]
-fn examples_hold(rt: HostRuntime) -> Result<(), Fail> {
+fn examples_of_set_difference_hold(rt: HostRuntime) -> Result<(), Fail> {
     let alloc = rt.alloc();
     assert!(rt; shows_difference(alloc)?);
     assert!(rt; shows_clone(alloc)?);

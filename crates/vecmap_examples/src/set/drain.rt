@@ -6,7 +6,7 @@ use vecmap::set::Drain;
 
 fn shows_drain(alloc: Global) -> Result<bool, Fail> {
     let mut set = three_numbers(alloc)?;
-    if !(1 <= set.len()) {
+    if set.len() < 1 {
         return Ok(false);
     }
     let mut drain = set.drain(1..);
@@ -19,14 +19,14 @@ fn shows_drain(alloc: Global) -> Result<bool, Fail> {
 
 fn shows_over(alloc: Global) -> Result<bool, Fail> {
     let mut set = three_numbers(alloc)?;
-    if !(set.len() == 3 && Drain::over(&mut set, 1, 3).next() == Some(2)) {
+    if set.len() != 3 {
         return Ok(false);
     }
-    Ok(has_items(&set, &[1]))
+    Ok(Drain::over(&mut set, 1, 3).next() == Some(2) && has_items(&set, &[1]))
 }
 
 #[test]
-fn examples_hold(rt: HostRuntime) -> Result<(), Fail> {
+fn examples_of_set_drain_hold(rt: HostRuntime) -> Result<(), Fail> {
     let alloc = rt.alloc();
     assert!(rt; shows_drain(alloc)?);
     assert!(rt; shows_over(alloc)?);

@@ -4,19 +4,32 @@ use std::alloc::Global;
 use std::test::Fail;
 use vecmap::vecset;
 
-fn shows_is_disjoint_to_equality(alloc: Global) -> Result<bool, Fail> {
+fn shows_is_disjoint(alloc: Global) -> Result<bool, Fail> {
     let set = two_numbers(alloc)?;
-    Ok(
-        set.is_disjoint(&vecset!(alloc; 3, 4))
-            && set.is_subset(&vecset!(alloc; 2, 3, 1))
-            && set.is_superset(&vecset!(alloc; 2))
-            && set == vecset!(alloc; 2, 1),
-    )
+    Ok(set.is_disjoint(&vecset!(alloc; 3, 4)))
+}
+
+fn shows_is_subset(alloc: Global) -> Result<bool, Fail> {
+    let set = two_numbers(alloc)?;
+    Ok(set.is_subset(&vecset!(alloc; 2, 3, 1)))
+}
+
+fn shows_is_superset(alloc: Global) -> Result<bool, Fail> {
+    let set = two_numbers(alloc)?;
+    Ok(set.is_superset(&vecset!(alloc; 2)))
+}
+
+fn shows_equality(alloc: Global) -> Result<bool, Fail> {
+    let set = two_numbers(alloc)?;
+    Ok(set == vecset!(alloc; 2, 1))
 }
 
 #[test]
-fn examples_hold(rt: HostRuntime) -> Result<(), Fail> {
+fn examples_of_set_equality_hold(rt: HostRuntime) -> Result<(), Fail> {
     let alloc = rt.alloc();
-    assert!(rt; shows_is_disjoint_to_equality(alloc)?);
+    assert!(rt; shows_is_disjoint(alloc)?);
+    assert!(rt; shows_is_subset(alloc)?);
+    assert!(rt; shows_is_superset(alloc)?);
+    assert!(rt; shows_equality(alloc)?);
     Ok(())
 }

@@ -14,7 +14,7 @@ fn shows_replace(alloc: Global) -> Result<bool, Fail> {
 }
 
 #[test]
-fn examples_hold(rt: HostRuntime) -> Result<(), Fail> {
+fn examples_of_set_insertion_hold(rt: HostRuntime) -> Result<(), Fail> {
     let alloc = rt.alloc();
     assert!(rt; shows_insert(alloc)?);
     assert!(rt; shows_replace(alloc)?);

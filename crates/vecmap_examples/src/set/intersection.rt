@@ -20,7 +20,7 @@ fn shows_clone(alloc: Global) -> Result<bool, Fail> {
 }
 
 #[test]
-fn examples_hold(rt: HostRuntime) -> Result<(), Fail> {
+fn examples_of_set_intersection_hold(rt: HostRuntime) -> Result<(), Fail> {
     let alloc = rt.alloc();
     assert!(rt; shows_intersection(alloc)?);
     assert!(rt; shows_clone(alloc)?);

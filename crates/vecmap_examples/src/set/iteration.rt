@@ -23,7 +23,7 @@ fn shows_loop_by_value(alloc: Global) -> Result<bool, Fail> {
 }
 
 #[test]
-fn examples_hold(rt: HostRuntime) -> Result<(), Fail> {
+fn examples_of_set_iteration_hold(rt: HostRuntime) -> Result<(), Fail> {
     let alloc = rt.alloc();
     assert!(rt; shows_iter(alloc)?);
     assert!(rt; shows_loop_by_reference(alloc)?);

@@ -15,13 +15,14 @@ fn shows_with_capacity(alloc: Global) -> Result<bool, Fail> {
     Ok(set.is_empty() && 4 <= set.capacity())
 }
 
-fn shows_clone_and_as_slice(alloc: Global) -> Result<bool, Fail> {
+fn shows_clone(alloc: Global) -> Result<bool, Fail> {
     let set = two_numbers(alloc)?;
     let mut copy = set.clone()?;
     copy.insert(3)?;
-    if !((set.len(), copy.len()) == (2, 3)) {
-        return Ok(false);
-    }
+    Ok((set.len(), copy.len()) == (2, 3))
+}
+
+fn shows_as_slice(alloc: Global) -> Result<bool, Fail> {
     let set = numbers_back(alloc)?;
     Ok(has_items(&set, &[2, 1]))
 }
@@ -49,11 +50,12 @@ fn shows_emptied(alloc: Global) -> Result<bool, Fail> {
 }
 
 #[test]
-fn examples_hold(rt: HostRuntime) -> Result<(), Fail> {
+fn examples_of_set_make_hold(rt: HostRuntime) -> Result<(), Fail> {
     let alloc = rt.alloc();
     assert!(rt; shows_new(alloc)?);
     assert!(rt; shows_with_capacity(alloc)?);
-    assert!(rt; shows_clone_and_as_slice(alloc)?);
+    assert!(rt; shows_clone(alloc)?);
+    assert!(rt; shows_as_slice(alloc)?);
     assert!(rt; shows_into_vec(alloc)?);
     assert!(rt; shows_allocator(alloc)?);
     assert!(rt; shows_made_with(alloc)?);

@@ -11,7 +11,7 @@ fn shows_reverse(alloc: Global) -> Result<bool, Fail> {
 
 fn shows_swap_indices(alloc: Global) -> Result<bool, Fail> {
     let mut set = three_numbers(alloc)?;
-    if !(2 < set.len()) {
+    if set.len() <= 2 {
         return Ok(false);
     }
     set.swap_indices(0, 2);
@@ -49,7 +49,7 @@ fn shows_sort_unstable_by(alloc: Global) -> Result<bool, Fail> {
 }
 
 #[test]
-fn examples_hold(rt: HostRuntime) -> Result<(), Fail> {
+fn examples_of_set_order_hold(rt: HostRuntime) -> Result<(), Fail> {
     let alloc = rt.alloc();
     assert!(rt; shows_reverse(alloc)?);
     assert!(rt; shows_swap_indices(alloc)?);

@@ -17,7 +17,7 @@ fn shows_truncate(alloc: Global) -> Result<bool, Fail> {
 
 fn shows_split_off(alloc: Global) -> Result<bool, Fail> {
     let mut set = three_numbers(alloc)?;
-    if !(1 <= set.len()) {
+    if set.len() < 1 {
         return Ok(false);
     }
     let part = set.split_off(1)?;
@@ -26,7 +26,10 @@ fn shows_split_off(alloc: Global) -> Result<bool, Fail> {
 
 fn shows_drain(alloc: Global) -> Result<bool, Fail> {
     let mut set = three_numbers(alloc)?;
-    Ok(2 <= set.len() && set.drain(..2).next() == Some(1) && has_items(&set, &[3]))
+    if set.len() < 2 {
+        return Ok(false);
+    }
+    Ok(set.drain(..2).next() == Some(1) && has_items(&set, &[3]))
 }
 
 fn shows_retain(alloc: Global) -> Result<bool, Fail> {
@@ -47,7 +50,10 @@ fn shows_remove(alloc: Global) -> Result<bool, Fail> {
 
 fn shows_remove_index(alloc: Global) -> Result<bool, Fail> {
     let mut set = three_numbers(alloc)?;
-    Ok(0 < set.len() && set.remove_index(0) == 1 && has_items(&set, &[2, 3]))
+    if set.len() <= 0 {
+        return Ok(false);
+    }
+    Ok(set.remove_index(0) == 1 && has_items(&set, &[2, 3]))
 }
 
 fn shows_swap_remove(alloc: Global) -> Result<bool, Fail> {
@@ -57,7 +63,10 @@ fn shows_swap_remove(alloc: Global) -> Result<bool, Fail> {
 
 fn shows_swap_remove_index(alloc: Global) -> Result<bool, Fail> {
     let mut set = three_numbers(alloc)?;
-    Ok(0 < set.len() && set.swap_remove_index(0) == 1 && has_items(&set, &[3, 2]))
+    if set.len() <= 0 {
+        return Ok(false);
+    }
+    Ok(set.swap_remove_index(0) == 1 && has_items(&set, &[3, 2]))
 }
 
 fn shows_take(alloc: Global) -> Result<bool, Fail> {
@@ -76,7 +85,7 @@ fn shows_remove_str(alloc: Global) -> Result<bool, Fail> {
 }
 
 #[test]
-fn examples_hold(rt: HostRuntime) -> Result<(), Fail> {
+fn examples_of_set_removal_hold(rt: HostRuntime) -> Result<(), Fail> {
     let alloc = rt.alloc();
     assert!(rt; shows_clear(alloc)?);
     assert!(rt; shows_truncate(alloc)?);

@@ -18,7 +18,7 @@ fn shows_clone(alloc: Global) -> Result<bool, Fail> {
 }
 
 #[test]
-fn examples_hold(rt: HostRuntime) -> Result<(), Fail> {
+fn examples_of_set_symmetric_difference_hold(rt: HostRuntime) -> Result<(), Fail> {
     let alloc = rt.alloc();
     assert!(rt; shows_symmetric_difference(alloc)?);
     assert!(rt; shows_clone(alloc)?);

@@ -1,4 +1,4 @@
--- The entry after a value was written, and what `insert_entry` answers.
+-- The entry after a write of its value, and the entry that `insert_entry` returns. Each field is a lemma on lists.
 use Rattle.std.proofs.Common.{◌≡◌, ◌<◌, [], ◌∷◌, ◌++◌, None, ap, length, refl, remove, ◌∙◌}
 use Rattle.std.proofs.Math.Bridge.{le_prop}
 use Rattle.std.proofs.Math.Nat.{le_refl}
@@ -14,7 +14,7 @@ use Rattle.vecmap_map.proofs.EntryLemmas.Places.{remove_last, swap_without_last}
 use Rattle.vecmap_map.proofs.EntryLemmas.Written.{remove_written, swap_without_written, value_last, value_written, with_value_last, with_value_twice}
 
 module _ {K V : Type 0} (o : OccupiedEntry K V) (v : V) where
-  -- two entries are equal where their maps are
+  -- Two entries are equal if their maps are.
   pub occupied_written : (h : o.index < length (with_value o.map.now.entries o.index v)) → record o { map = record o.map { now = with_value_at o.map.now o.index v }; within = h } ≡ occupied_with o v
   occupied_written h = ap (λ q. record o { map = record o.map { now = with_value_at o.map.now o.index v }; within = q }) (le_prop h (still_within o v))
 
@@ -25,7 +25,7 @@ module _ {K V : Type 0} (o : OccupiedEntry K V) (v : V) where
     swap_removal = swap_without_written o.map.now.entries o.index o.within v;
   }
 
--- what `insert_entry` answers
+-- The entry that `insert_entry` returns.
 module _ {K V : Type 0} (is_clone : K → K → Type 0) where
   pub occupied_inserted : (o : OccupiedEntry K V) (v : V) (h : o.index < length (with_value o.map.now.entries o.index v))
       → IsInserted is_clone (Occupied o) v (record o { map = record o.map { now = with_value_at o.map.now o.index v }; within = h })
@@ -41,7 +41,7 @@ module _ {K V : Type 0} (is_clone : K → K → Type 0) where
     swap_removal = swap_without_written o.map.now.entries o.index o.within v;
   }
 
-  -- d holds the map of e, where a clone k of its key was put last
+  -- The entry d holds the map of e, to which a clone k of the key of e was appended.
   pub vacant_inserted : (e : VacantEntry K V) (v : V) (d : OccupiedEntry K V) (k : K) → is_clone e.key k → d.map.ghost_name ≡ e.map.ghost_name → d.key ≡ e.key → d.index ≡ length e.map.now.entries
       → d.map.now.entries ≡ e.map.now.entries ++ (k, v) ∷ [] → KeepsRoomAt None e.map.now d.map.now → IsInserted is_clone (Vacant e) v d
   vacant_inserted e v d k clone name key end put room =

@@ -1,4 +1,4 @@
--- What a set place, and a last one, leave of removals.
+-- Removals after a write at an index or after an append, and the item that is then found. By induction on the list.
 use Rattle.std.proofs.Common.{◌≡◌, ◌≢◌, ℕ, zero, suc, ◌-◌, ◌<◌, ◌≤◌, List, [], ◌∷◌, ◌++◌, Some, ap, arith, get_or, inl, inr, length, refl, remove, set, slice_get, sym, take, take_at, ◌∙◌}
 use Rattle.std.proofs.Math.Nat.{eq-or-lt_of_le}
 use Rattle.std.proofs.lemmas.List.{get_or-set_other, get_or_default, length-append, length-set, set-set, take-set-le}

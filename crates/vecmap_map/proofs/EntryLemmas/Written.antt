@@ -1,4 +1,5 @@
--- What later writes and removals find where a pair was put last, or a value was written.
+-- What later writes and removals find after a pair was appended or a value was written. A written pair keeps its key,
+-- so each lemma is one of `Places` on the whole pair.
 use Rattle.std.proofs.Common.{◌≡◌, ℕ, ◌<◌, List, [], ◌∷◌, ◌++◌, Some, ap, length, remove, set, slice_get, sym, ◌∙◌}
 use Rattle.std.proofs.lemmas.List.{set-set}
 use Rattle.std.specs.Option.{option_map, option_map_or}
@@ -6,7 +7,7 @@ use Rattle.vecmap_base.specs.Items.{swap_without}
 use Rattle.vecmap_base.specs.Pairs.{value_at, with_value}
 use Rattle.vecmap_map.proofs.EntryLemmas.Places.{item_there, remove_set, set_last, slice_get_set, slice_get_last, swap_without_set}
 
--- a pair that was put last
+-- A pair that was appended.
 module _ {K V : Type 0} (l : List (K × V)) (p : K × V) where
   pub value_last : value_at (l ++ p ∷ []) (length l) ≡ Some p.1
   value_last = ap (option_map (λ q. q.1)) (slice_get_last l p)
@@ -14,7 +15,7 @@ module _ {K V : Type 0} (l : List (K × V)) (p : K × V) where
   pub with_value_last : (v : V) → with_value (l ++ p ∷ []) (length l) v ≡ l ++ (p.0, v) ∷ []
   with_value_last v = ap (λ o. option_map_or (λ q. set (l ++ p ∷ []) (length l) (q.0, v)) o (l ++ p ∷ [])) (slice_get_last l p) ∙ set_last l p (p.0, v)
 
--- a value that was written
+-- A value that was written.
 module _ {K V : Type 0} (l : List (K × V)) (i : ℕ) (h : i < length l) where
   there : (p : K × V) × (slice_get l i ≡ Some p)
   there = item_there l i h

@@ -1,4 +1,5 @@
--- What the walks share of the calls that lend a key and a value. A `&mut` to a pair is cut into a `&mut` to each part.
+-- Shared steps of the calls that return mutable references to a key and to its value. The idea: a `&mut` to a pair is
+-- split into a `&mut` to each part.
 use Rattle.std.proofs.Common.{◌≡◌, refl, ap, ◌∙◌, ℕ, ◌+◌, List, [], ◌∷◌, Bool, None, Some, ◌++◌, ◌<◌, ◌^◌, w64}
 use seplogic.Ra.Ura.{Ura}
 use mir.Syntax.{Lifetime}
@@ -107,7 +108,7 @@ module _ {M : Type 1} {𝓤 : Ura M} (𝓛 : Logic 𝓤) (KT VT : RattleType) (K
 module _ {M : Type 1} {𝓤 : Ura M} (𝓛 : Logic 𝓤) (K V : RattleType) (m : MutBor (Contents K.Denot V.Denot)) (i : ℕ) where
   open 𝓛 use {A}
 
-  -- the map follows the pair, and the pair follows its two parts
+  -- The map follows the pair, and the pair follows its two parts.
   pub parts_then : (p : MutBor (K.Denot × V.Denot)) (r : MutBor K.Denot × MutBor V.Denot)
       → ent 𝓤 (sep 𝓤 (sem 𝓛 (lends_whole_at K V m i p)) (sem 𝓛 (lends_parts K V p r))) (sem 𝓛 (follows_both (the_row K V) K V m.ghost_name r.0.ghost_name r.1.ghost_name (λ k v. with_pair_at m.now i (k, v))))
   unfolding both_by
@@ -124,13 +125,13 @@ module _ {M : Type 1} {𝓤 : Ura M} (𝓛 : Logic 𝓤) (K V : RattleType) (m :
   unfolding follows_by both_if_by
   both_then p r = parts_then p r
 
-  -- nothing was lent
+  -- No references are returned.
   pub nothing_both : ent 𝓤 (sem 𝓛 (lends_whole_if_at K V m i None)) (sem 𝓛 (lends_both_at K V m i None))
   unfolding follows_by both_if_by
   nothing_both = id⊢ 𝓤 _
 
 module _ {M : Type 1} {𝓤 : Ura M} (𝓛 : Logic 𝓤) (K V : RattleType) (m : MutBor (Contents K.Denot V.Denot)) (test : K.Denot → Bool) where
-  -- what is lent at the first place that passes the test is lent by the test
+  -- References at the first index that passes the test are references by the test.
   pub both_place_then : (i : ℕ) (p : MutBor (K.Denot × V.Denot)) (r : MutBor K.Denot × MutBor V.Denot) → Some i ≡ index_by test m.now.entries
       → ent 𝓤 (sep 𝓤 (sem 𝓛 (lends_whole_at K V m i p)) (sem 𝓛 (lends_parts K V p r))) (sem 𝓛 (lends_both_beside_place K V m test (Some (i, r.0, r.1))))
   unfolding both_if_by
@@ -141,12 +142,12 @@ module _ {M : Type 1} {𝓤 : Ura M} (𝓛 : Logic 𝓤) (K V : RattleType) (m :
       use2 𝓛 (‵ (follows_both (the_row K V) K V m.ghost_name r.0.ghost_name r.1.ghost_name F)) (parts_then 𝓛 K V m i p r) $
       rewrite ! 0 (λ (f : K.Denot → V.Denot → Contents K.Denot V.Denot). ‵ (follows_both (the_row K V) K V m.ghost_name r.0.ghost_name r.1.ghost_name f)) same refl $ done !
 
-  -- a map that was not lent stays
+  -- Without references the map stays.
   pub stays_unlent : ent 𝓤 (𝓛.A.res m.ghost_name ((the_row K V).coded.code m.now)) (sem 𝓛 (lends_both_beside_place K V m test None))
   unfolding both_if_by
   stays_unlent = id⊢ 𝓤 _
 
--- two `&mut`s by their parts, and the two beside a place
+-- Splits two `&mut`s into their parts, and makes a tuple of an index and the two.
 module _ (ℓ : Lifetime) (κ : Lft) (K V : RattleType) where
   abbrev Key : RattleType
   Key = MutRef ℓ κ K

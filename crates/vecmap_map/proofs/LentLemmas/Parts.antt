@@ -1,4 +1,5 @@
--- What the walks share of the calls that lend a value inside a tuple inside an `Option`.
+-- Shared steps of the calls that return a mutable reference to a value, in a tuple in an `Option`. The idea: what is
+-- owned of a tuple or an `Option` is split into what is owned of its parts.
 use Rattle.std.proofs.Common.{◌≡◌, refl, ap, ◌∙◌, ℕ, List, [], ◌∷◌, ◌++◌, Option, None, Some, slice_get, slice_set, Bool, w64, ◌<◌, ◌^◌}
 use seplogic.Ra.Ura.{Ura}
 use mir.Syntax.{Body, Lifetime}
@@ -34,11 +35,11 @@ use Rattle.vecmap_map.specs.contracts.VecMap.{the_row}
 module _ {M : Type 1} (𝓤 : Ura M) (𝓛 : Logic 𝓤) where
   open 𝓛 use {H}
 
-  -- what runs after an arm
+  -- What runs after an arm.
   abbrev pub then_runs : Calls 𝓤 H → Loops 𝓤 H → Env 𝓤 H → Body → Post 𝓤 H → Post 𝓤 H
   then_runs C Λ E b q = any_q (after_seq 𝓤 H (Wp 𝓤 H C Λ E b (post 𝓤 H q)) (post 𝓤 H q))
 
-  -- two facts, and what needs nothing, go beside an assertion
+  -- Adds two facts, and an assertion that needs nothing, to an assertion.
   pub beside : (P Q : SProp 𝓤) (F G : Type 0) → F → G → ent 𝓤 (emp 𝓤) Q → ent 𝓤 P (sep 𝓤 P (sep 𝓤 (fact 𝓤 F) (sep 𝓤 (fact 𝓤 G) Q)))
   beside P Q F G f g q =
       qed 𝓛 (raw P ∷ []) ∵ use0 𝓛 (raw Q) q $ use0 𝓛 (raw (fact 𝓤 G)) (fact_i 𝓤 G (emp 𝓤) g) $ join ! $ use0 𝓛 (raw (fact 𝓤 F)) (fact_i 𝓤 F (emp 𝓤) f) $ join ! $ move ! (1 ∷ 0 ∷ []) $ done !
@@ -46,7 +47,7 @@ module _ {M : Type 1} (𝓤 : Ura M) (𝓛 : Logic 𝓤) where
   pub beside_facts : (P : SProp 𝓤) (F G : Type 0) → F → G → ent 𝓤 P (sep 𝓤 P (sep 𝓤 (fact 𝓤 F) (sep 𝓤 (fact 𝓤 G) (emp 𝓤))))
   beside_facts P F G f g = beside P (emp 𝓤) F G f g (id⊢ 𝓤 (emp 𝓤))
 
--- an `Option` of a `&mut`, by its two cases
+-- Splits an `Option` of a `&mut` into its two cases.
 module _ {M : Type 1} {𝓤 : Ura M} {𝓛 : Logic 𝓤} {K : Type 0} {Γ : List (Item 𝓤)} {G : Goal 𝓤 𝓛.H} (ℓ : Lifetime) (κ : Lft) (R : RattleType) where
   pub by_cases : K → (P : Option (MutBor R.Denot) → Fml) (x : Option (MutBor R.Denot)) (v : Val)
       → ((p : MutBor R.Denot) → x ≡ Some p → v ≡ live 1 (vcons (vptr p.ref_ptr.0 p.ref_ptr.1) vnil)
@@ -60,7 +61,7 @@ module _ {M : Type 1} {𝓤 : Ura M} {𝓛 : Logic 𝓤} {K : Type 0} {Γ : List
       feq_i t (List Val) (vptr p.ref_ptr.0 p.ref_ptr.1 ∷ []) (vptr p.ref_ptr.0 p.ref_ptr.1 ∷ []) refl $ fjoin3 t $
       some p refl (ap only is ∙ ap (λ (ws : List Val). live 1 (of_list ws)) (is' ∙ ap (λ (ws : List Val). ws ++ []) e)))))))
 
--- an `Option` of a `&` and a `&mut`, by its two cases
+-- Splits an `Option` of a `&` and a `&mut` into its two cases.
 module _ (ℓ : Lifetime) (κ : Lft) (R T : RattleType) where
   abbrev pub Ends : RattleType
   Ends = Tuple (ShrRef ℓ κ R ∷ MutRef ℓ κ T ∷ [])
@@ -82,7 +83,7 @@ module _ (ℓ : Lifetime) (κ : Lft) (R T : RattleType) where
         peeks t (OP.the_row Ends) (Is (OP.the_row Ends)) (shows 𝓛 (OP.the_row Ends)) (Some r) (v ∷ [])
         (λ told. some r (ap only told.1.0 ∙ ap (λ (ws : List Val). live 1 (of_list ws)) (told.1.1.1.0 ∙ ap (λ (ws : List Val). ws ++ []) (is_ends r _ told.1.1.1.1.0))))
 
--- a value beside a `&mut` that is m at another address, by its parts
+-- Splits a pair of a value and a `&mut`, which is m at another address, into its two parts.
 module _ (ℓ : Lifetime) (κ : Lft) (X R : RattleType) {M : Type 1} {𝓤 : Ura M} {𝓛 : Logic 𝓤} {K : Type 0} {Γ : List (Item 𝓤)} {G : Goal 𝓤 𝓛.H} where
   pub by_parts : K → (x : X.Denot × MutBor R.Denot) (v : Val) (m : MutBor R.Denot) → x.1.ghost_name ≡ m.ghost_name → x.1.now ≡ m.now
       → ((us : List Val) → v ≡ vstruct (of_list (us ++ vptr x.1.ref_ptr.0 x.1.ref_ptr.1 ∷ []))
@@ -96,7 +97,7 @@ module _ (ℓ : Lifetime) (κ : Lft) (X R : RattleType) {M : Type 1} {𝓤 : Ura
       feq_i t (List Val) (vptr b o ∷ []) (vptr b o ∷ []) refl $ fjoin3 t $ move t (1 ∷ 0 ∷ []) $
       k vss.0 (ap only is ∙ ap (λ (ws : List Val). vstruct (of_list (vss.0 ++ (ws ++ [])))) e))))
 
--- an `Option` of a number, by its two cases
+-- Splits an `Option` of a number into its two cases.
 module _ {M : Type 1} {𝓤 : Ura M} {𝓛 : Logic 𝓤} {K : Type 0} {Γ : List (Item 𝓤)} {G : Goal 𝓤 𝓛.H} where
   pub by_place : K → (x : Option ℕ) (us : List Val)
       → ((i : ℕ) → x ≡ Some i → us ≡ live 1 (vcons (vint w64 i) vnil) ∷ [] → i < 2 ^ 64 → Seq K 𝓛 (‵ (usize.own_val i (uint_vals w64 i)) ∷ Γ) G)
@@ -109,7 +110,7 @@ module _ {M : Type 1} {𝓤 : Ura M} {𝓛 : Logic 𝓤} {K : Type 0} {Γ : List
       (λ told. owned t usize (Is usize) (uint_Makes 𝓛 w64) i (uint_vals w64 i) (refl, told.1.1.1.1.0.1) $
       some i refl (told.1.0 ∙ ap (λ (ws : List Val). live 1 (of_list ws) ∷ []) (told.1.1.1.0 ∙ ap (λ (ws : List Val). ws ++ []) told.1.1.1.1.0.0)) told.1.1.1.1.0.1)
 
--- an `Option` of one machine value is made
+-- Makes an `Option` of one machine value.
 module _ {M : Type 1} {𝓤 : Ura M} (𝓛 : Logic 𝓤) (X : RattleType) where
   pub some_of : (x : X.Denot) (v : Val) → ent 𝓤 (sem 𝓛 (X.own_val x (v ∷ []))) (sem 𝓛 ((OP.the_row X).own_val (Some x) (live 1 (vcons v vnil) ∷ [])))
   some_of x v =
@@ -124,14 +125,14 @@ module _ {M : Type 1} {𝓤 : Ura M} (𝓛 : Logic 𝓤) (X : RattleType) where
       feq_i ! (List Val) (live 0 (of_list []) ∷ []) (live 0 (of_list []) ∷ []) refl $ fjoin ! $
       fpack ! (List Val) (tagged_with (form_of (shape (OP.the_type X))) (form_of (shape (OP.the_type X))).payload ((OP.the_type X).to None) (live 0 (of_list []) ∷ [])) [] $ done !
 
--- a write into the value of the pair at the place i
+-- A write of the value of the pair at the index i.
 set-value : {K V : Type 0} (l : List (K × V)) (i : ℕ) (p : K × V) (v : V) → slice_get l i ≡ Some p → slice_set l i (p.0, v) ≡ with_value l i v
 set-value l i p v at = rw at refl
 
 module _ {M : Type 1} {𝓤 : Ura M} (𝓛 : Logic 𝓤) (K V : RattleType) (m : MutBor (Contents K.Denot V.Denot)) (i : ℕ) where
   open 𝓛 use {A}
 
-  -- the map follows the pair, and the pair follows its value
+  -- The map follows the pair, and the pair follows its value.
   pub value_then : (p : MutBor (K.Denot × V.Denot)) (r : Bor K.Denot × MutBor V.Denot) → slice_get m.now.entries i ≡ Some p.now
       → ent 𝓤 (sep 𝓤 (sem 𝓛 (lends_whole_if_at K V m i (Some p))) (sem 𝓛 (lends_value K V p r.1))) (sem 𝓛 (lends_beside_key K V m i (Some r)))
   unfolding follows_by
@@ -143,13 +144,13 @@ module _ {M : Type 1} {𝓤 : Ura M} (𝓛 : Logic 𝓤) (K V : RattleType) (m :
       use2 𝓛 (‵ (follows (the_row K V) V m.ghost_name r.1.ghost_name F)) (follows_then 𝓛 (the_row K V) P V (λ q. with_entries m.now (slice_set m.now.entries i q)) (λ v. (p.now.0, v)) m.ghost_name p.ghost_name r.1.ghost_name) $
       rewrite ! 0 (λ (f : V.Denot → Contents K.Denot V.Denot). ‵ (follows (the_row K V) V m.ghost_name r.1.ghost_name f)) same refl $ done !
 
-  -- nothing was lent
+  -- No reference is returned.
   pub nothing_then : ent 𝓤 (sem 𝓛 (lends_whole_if_at K V m i None)) (sem 𝓛 (lends_beside_key K V m i None))
   unfolding follows_by
   nothing_then = id⊢ 𝓤 _
 
 module _ {M : Type 1} {𝓤 : Ura M} (𝓛 : Logic 𝓤) (K V : RattleType) (m : MutBor (Contents K.Denot V.Denot)) (test : K.Denot → Bool) where
-  -- what is lent at the first place that passes the test is lent by the test
+  -- A reference to the value at the first index that passes the test is a reference by the test.
   pub place_then : (i : ℕ) (r : ℕ × Bor K.Denot × MutBor V.Denot) → Some i ≡ index_by test m.now.entries
       → ent 𝓤 (sem 𝓛 (lends_value_at K V m i r.2)) (sem 𝓛 (lends_beside_place K V m test (Some r)))
   unfolding follows_by
@@ -157,7 +158,7 @@ module _ {M : Type 1} {𝓤 : Ura M} (𝓛 : Logic 𝓤) (K V : RattleType) (m :
       let same : with_value_at m.now i ≡ with_value_by test m.now = λ j v. option_map_or (λ n. with_value_at m.now n v) (at j) m.now in
       qed 𝓛 (‵ (lends_value_at K V m i r.2) ∷ []) ∵ rewrite ! 0 (λ (f : V.Denot → Contents K.Denot V.Denot). ‵ (follows (the_row K V) V m.ghost_name r.2.ghost_name f)) same refl $ done !
 
-  -- a map that was not lent stays
+  -- Without a reference the map stays.
   pub stays_at_none : ent 𝓤 (𝓛.A.res m.ghost_name ((the_row K V).coded.code m.now)) (sem 𝓛 (lends_beside_place K V m test None))
   unfolding follows_by
   stays_at_none = id⊢ 𝓤 _

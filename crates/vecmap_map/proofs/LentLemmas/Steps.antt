@@ -1,4 +1,4 @@
--- What the walks cite of std and of the logic.
+-- What these proofs use of std and of the logic.
 pub use Rattle.std.proofs.Common.{◌≡◌, ℕ, ◌↔◌, ◌<◌, refl, sym, ap, ◌∙◌, subst, lit<, w64, List, [], ◌∷◌, ◌++◌, Option, Some, None, IsSome, length, option_map, slice_get, ◌-◌, arith, IfSome, Bool}
 pub use mir.Syntax.{a_type, named, dcons, dnil}
 pub use mir.Val.{Val, vptr, vstruct, vcons, vnil, of_list, vint}

@@ -1,4 +1,4 @@
-//! The entry of a key that is there.
+//! The entry of a key that is present.
 ghost use Rattle.std.specs.Prelude.{◌≡◌, ◌<◌, IfOk, IsOk, Some, length};
 ghost use Rattle.std.specs.Borrow.{sem};
 
@@ -6,7 +6,9 @@ use crate::VecMap;
 use std::mem::replace;
 use vecmap_base::Refused;
 
-/// The place of a key that is there, with the key that was handed in. None of its calls takes memory.
+/// The entry of a key that is present, with the key that was passed to [`VecMap::entry`].
+///
+/// None of its calls allocates.
 #[derive(Debug, Drop)]
 pub struct OccupiedEntry<'a, K, V> {
     pub(super) map: &'a mut VecMap<K, V>,
@@ -20,7 +22,11 @@ impl<'a, K, V> OccupiedEntry<'a, K, V> {
     ghost use Rattle.vecmap_map.specs.Entry.{IsInserted, LeavesSame, entries_swap_without, entries_without, entry_index, entry_key, entry_map, entry_pair, entry_value, occupied_with};
     ghost use Rattle.vecmap_map.specs.EntryLends.{entry_passes, occupied_lends, occupied_lends_on};
 
-    /// The key that was handed in. The stored one is equal, and may differ.
+    /// Returns the key that was passed to [`VecMap::entry`].
+    ///
+    /// The stored key is equal to it, but need not be identical.
+    ///
+    /// # Examples
     ///
     /// ```
     /// let mut map = vecmap!(alloc; 'a' => 1, 'b' => 2);
@@ -33,7 +39,9 @@ impl<'a, K, V> OccupiedEntry<'a, K, V> {
         &self.key
     }
 
-    /// The place of the key.
+    /// Returns the index of the key.
+    ///
+    /// # Examples
     ///
     /// ```
     /// let mut map = vecmap!(alloc; 'a' => 1, 'b' => 2);
@@ -46,7 +54,9 @@ impl<'a, K, V> OccupiedEntry<'a, K, V> {
         self.index
     }
 
-    /// The key that was handed in. The map stays as it is.
+    /// Converts the entry into the key that was passed to [`VecMap::entry`]. The map stays as it is.
+    ///
+    /// # Examples
     ///
     /// ```
     /// let mut map = vecmap!(alloc; 'a' => 1, 'b' => 2);
@@ -60,7 +70,9 @@ impl<'a, K, V> OccupiedEntry<'a, K, V> {
         self.key
     }
 
-    /// The value of the key.
+    /// Returns the value of the key.
+    ///
+    /// # Examples
     ///
     /// ```
     /// let mut map = vecmap!(alloc; 'a' => 1, 'b' => 2);
@@ -73,10 +85,12 @@ impl<'a, K, V> OccupiedEntry<'a, K, V> {
         &self.map[self.index]
     }
 
-    /// The value of the key, to write.
+    /// Returns a mutable reference to the value of the key.
     ///
-    /// Whatever value is written, the entry is then the one with that value, and a later write or removal through it
-    /// leaves what it would have left without.
+    /// After a write, the entry is the same, with the new value. A later write or removal through it leaves what it
+    /// would have left without that write.
+    ///
+    /// # Examples
     ///
     /// ```
     /// let mut map = vecmap!(alloc; 'a' => 1, 'b' => 2);
@@ -87,13 +101,16 @@ impl<'a, K, V> OccupiedEntry<'a, K, V> {
     pub fn get_mut(&mut self) -> &mut V
         ensures* writes_back { sem 𝓛 (occupied_lends K.row V.row self.entry result) }
         ensures value { entry_value (Occupied self.old) ≡ Some result.now }
-        ensures later { (written : V) → LeavesSame (Occupied self.old) (Occupied (occupied_with self.old written)) }
+        ensures later { (written : V)
+            → LeavesSame (Occupied self.old) (Occupied (occupied_with self.old written)) }
     {
         let index = self.index;
         self.map.value_mut(index)
     }
 
-    /// The value of the key, to write for as long as the map is lent.
+    /// Converts the entry into a mutable reference to the value, which lives as long as the borrow of the map.
+    ///
+    /// # Examples
     ///
     /// ```
     /// let mut map = vecmap!(alloc; 'a' => 1, 'b' => 2);
@@ -111,7 +128,11 @@ impl<'a, K, V> OccupiedEntry<'a, K, V> {
         map.value_mut(index)
     }
 
-    /// Replaces the value, and answers the old one. The stored key stays, and so does the handed one.
+    /// Replaces the value of the key, and returns the old value.
+    ///
+    /// The stored key stays, and so does the passed key.
+    ///
+    /// # Examples
     ///
     /// ```
     /// let mut map = vecmap!(alloc; 'a' => 1, 'b' => 2);
@@ -127,9 +148,15 @@ impl<'a, K, V> OccupiedEntry<'a, K, V> {
         replace(self.get_mut(), value)
     }
 
-    /// Takes out the pair of the key, and answers it with the stored key.
+    /// Removes the pair of the key, and returns it with the stored key.
     ///
-    /// What follows moves up by one place, so this takes as many moves as there are pairs after it.
+    /// The index of each later pair decreases by one.
+    ///
+    /// # Complexity
+    ///
+    /// One move for each pair that changes its index.
+    ///
+    /// # Examples
     ///
     /// ```
     /// let mut map = vecmap!(alloc; 'a' => 1, 'b' => 2, 'c' => 3);
@@ -149,7 +176,13 @@ impl<'a, K, V> OccupiedEntry<'a, K, V> {
         self.map.remove_index(index)
     }
 
-    /// As `remove_entry`, but the last pair takes its place, which is one move.
+    /// Like [`OccupiedEntry::remove_entry`], but the last pair moves to the index of the removed one.
+    ///
+    /// # Complexity
+    ///
+    /// One move.
+    ///
+    /// # Examples
     ///
     /// ```
     /// let mut map = vecmap!(alloc; 'a' => 1, 'b' => 2, 'c' => 3);
@@ -169,7 +202,9 @@ impl<'a, K, V> OccupiedEntry<'a, K, V> {
         self.map.swap_remove_index(index)
     }
 
-    /// As `remove_entry`, and answers the value alone.
+    /// Like [`OccupiedEntry::remove_entry`], but returns only the value.
+    ///
+    /// # Examples
     ///
     /// ```
     /// let mut map = vecmap!(alloc; 'a' => 1, 'b' => 2, 'c' => 3);
@@ -187,7 +222,9 @@ impl<'a, K, V> OccupiedEntry<'a, K, V> {
         value
     }
 
-    /// As `swap_remove_entry`, and answers the value alone.
+    /// Like [`OccupiedEntry::swap_remove_entry`], but returns only the value.
+    ///
+    /// # Examples
     ///
     /// ```
     /// let mut map = vecmap!(alloc; 'a' => 1, 'b' => 2, 'c' => 3);
@@ -206,7 +243,7 @@ impl<'a, K, V> OccupiedEntry<'a, K, V> {
         value
     }
 
-    // Replaces the value, and hands the entry on. It never fails.
+    // Replaces the value, and returns the entry. It never fails.
     pub(super) fn into_inserted(self, value: V) -> Result<OccupiedEntry<'a, K, V>, Refused<(K, V)>>
     where
         K: Clone,

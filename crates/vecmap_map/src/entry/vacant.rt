@@ -1,4 +1,4 @@
-//! The entry of a key that is not there.
+//! The entry of a key that is not present.
 ghost use Rattle.std.specs.Prelude.{◌≡◌, IfErr, IfOk, OnErr};
 ghost use Rattle.std.specs.Borrow.{sem};
 ghost use Rattle.vecmap_map.specs.Contents.{IsFull};
@@ -7,7 +7,7 @@ use super::OccupiedEntry;
 use crate::VecMap;
 use vecmap_base::Refused;
 
-/// The place that a key would take, with the key that was handed in.
+/// The entry of a key that is not present, with the key that was passed to [`VecMap::entry`].
 #[derive(Debug, Drop)]
 pub struct VacantEntry<'a, K, V> {
     pub(super) map: &'a mut VecMap<K, V>,
@@ -19,7 +19,9 @@ impl<'a, K, V> VacantEntry<'a, K, V> {
     ghost use Rattle.vecmap_map.specs.Entry.{IsInserted, entry_index, entry_key, entry_map};
     ghost use Rattle.vecmap_map.specs.EntryLends.{entry_lends, entry_passes};
 
-    /// The key that was handed in.
+    /// Returns the key that was passed to [`VecMap::entry`].
+    ///
+    /// # Examples
     ///
     /// ```
     /// let mut map = vecmap!(alloc; 'a' => 1, 'b' => 2);
@@ -31,7 +33,9 @@ impl<'a, K, V> VacantEntry<'a, K, V> {
         &self.key
     }
 
-    /// The place that the key would take: the number of pairs.
+    /// Returns the index that the key would get, which is the number of pairs.
+    ///
+    /// # Examples
     ///
     /// ```
     /// let mut map = vecmap!(alloc; 'a' => 1, 'b' => 2);
@@ -43,7 +47,9 @@ impl<'a, K, V> VacantEntry<'a, K, V> {
         self.map.len()
     }
 
-    /// The key that was handed in. The map stays as it is.
+    /// Converts the entry into the key that was passed to [`VecMap::entry`]. The map stays as it is.
+    ///
+    /// # Examples
     ///
     /// ```
     /// let mut map = vecmap!(alloc; 'a' => 1, 'b' => 2);
@@ -60,9 +66,17 @@ impl<'a, K, V> VacantEntry<'a, K, V> {
         self.key
     }
 
-    /// Puts the handed key last with `value`, and lends the value.
+    /// Appends the passed key with `value`, and returns a mutable reference to the value.
     ///
-    /// Memory is needed where there is no room. Refused, the pair comes back and nothing has changed.
+    /// # Errors
+    ///
+    /// [`Refused`] returns the pair if the map is full and the allocator refuses to grow it; the map is then unchanged.
+    ///
+    /// # Complexity
+    ///
+    /// Allocates only if the map is full.
+    ///
+    /// # Examples
     ///
     /// ```
     /// let mut map = vecmap!(alloc; 'a' => 1, 'b' => 2);
@@ -75,7 +89,7 @@ impl<'a, K, V> VacantEntry<'a, K, V> {
         ensures* writes_back { sem 𝓛 (entry_lends K.row V.row (Vacant self.entry) result) }
         ensures value { IfOk result (λ x. x.now ≡ value) }
 
-        // Refused, the pair comes back.
+        // On `Err` the pair is returned.
         ensures given { IfErr result (λ refused. refused.given ≡ (self.entry.key, value)) }
     {
         let VacantEntry { map, key } = self;
@@ -86,10 +100,16 @@ impl<'a, K, V> VacantEntry<'a, K, V> {
         }
     }
 
-    /// Puts a clone of the handed key last with `value`, and answers the entry of it, which keeps the handed key.
+    /// Appends a clone of the passed key with `value`, and returns the entry of the key.
     ///
-    /// The clone is made first. Refused memory, for the clone or for the pair, the handed key and `value` come back
-    /// and nothing has changed.
+    /// The entry keeps the passed key. The clone is made first.
+    ///
+    /// # Errors
+    ///
+    /// [`Refused`] returns the passed key and `value` if the clone is refused, or if the map is full and the allocator
+    /// refuses to grow it; the map is then unchanged.
+    ///
+    /// # Examples
     ///
     /// ```
     /// let mut map = vecmap!(alloc; 'a' => 1, 'b' => 2);
@@ -103,7 +123,7 @@ impl<'a, K, V> VacantEntry<'a, K, V> {
         K: Clone,
         ensures ok { IfOk result (IsInserted K.is_clone (Vacant self.entry) value) }
 
-        // Refused, the pair comes back, and where the key can be cloned only where the map is full.
+        // On `Err` the pair is returned. If the clone of the key cannot fail, this happens only in a full map.
         ensures* err { sem 𝓛 (entry_passes K.row V.row (Vacant self.entry) result) }
         ensures given { IfErr result (λ refused. refused.given ≡ (self.entry.key, value)) }
         ensures full { K.is_infallible self.entry.key → OnErr result (IsFull self.entry.map.now) }

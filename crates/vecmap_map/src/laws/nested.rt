@@ -1,4 +1,4 @@
-//! Laws of maps in maps.
+//! Laws of maps whose values are maps.
 ghost use Rattle.std.specs.Prelude.{◌≡◌, List, false};
 ghost use Rattle.std.specs.Option.{UnwrapsOrElse};
 ghost use Rattle.vecmap_base.specs.Pairs.{index_of, lookup, put};
@@ -7,18 +7,40 @@ ghost use Rattle.vecmap_map.specs.Entry.{entries_with, entry_key, entry_map, ent
 ghost use Rattle.vecmap_map.specs.Nested.{IsMadeEmpty, inner_entries};
 ghost use Rattle.vecmap_map.specs.declared.entry.Entry.{Entry};
 
-/// In a map of maps, an insertion into the map of a key inserts into the key's inner pairs, also where that map was made
-/// empty just before, as by `or_default`. The inner pairs of other keys stay, and a map that is only made empty changes
-/// none.
+/// In a map of maps, an insertion into the map of a key inserts into the inner pairs of that key.
 ///
-/// The clauses that begin with `entry` say it of the map that an entry's call leaves, in the words of these calls.
+/// This holds too if that map was created empty just before, as by `or_default`. The inner pairs of other keys stay. A
+/// map that is only created empty changes no inner pairs.
+///
+/// The clauses that begin with `entry` say the same of the map that a call of an entry leaves, in the words of these
+/// calls.
 pub fn inner_insertions_are_found<K: Eq, N: Eq, V>()
-    ensures made { (l : List (K × Contents N V)) (k : K) (m : Contents N V) → UnwrapsOrElse (lookup K.eq l k) IsMadeEmpty m → m.entries ≡ inner_entries K.eq l k }
-    ensures pairs { (l : List (K × Contents N V)) (k : K) (m : Contents N V) → inner_entries K.eq (put K.eq l k m) k ≡ m.entries }
-    ensures written { (l : List (K × Contents N V)) (k : K) (before after : Contents N V) (n : N) (v : V) → UnwrapsOrElse (lookup K.eq l k) IsMadeEmpty before → after.entries ≡ put N.eq before.entries n v → inner_entries K.eq (put K.eq l k after) k ≡ put N.eq (inner_entries K.eq l k) n v }
-    ensures others { (l : List (K × Contents N V)) (k : K) (m : Contents N V) (q : K) → K.eq k q ≡ false → inner_entries K.eq (put K.eq l k m) q ≡ inner_entries K.eq l q }
-    ensures entry { (l : List (K × Contents N V)) (m : Contents K (Contents N V)) (k : K) (e : Entry K (Contents N V)) (before after : Contents N V) (name : N) (v : V) → l ≡ entries_with e after → after.entries ≡ put N.eq before.entries name v → UnwrapsOrElse (entry_value e) IsMadeEmpty before → entry_map e ≡ m → entry_key e ≡ k → entry_place e ≡ index_of K.eq m.entries k → inner_entries K.eq l k ≡ put N.eq (inner_entries K.eq m.entries k) name v }
-    ensures entry_others { (l : List (K × Contents N V)) (m : Contents K (Contents N V)) (k : K) (e : Entry K (Contents N V)) (w : Contents N V) → l ≡ entries_with e w → entry_map e ≡ m → entry_key e ≡ k → entry_place e ≡ index_of K.eq m.entries k → (q : K) → K.eq k q ≡ false → inner_entries K.eq l q ≡ inner_entries K.eq m.entries q }
-    ensures entry_unchanged { (l : List (K × Contents N V)) (m : Contents K (Contents N V)) (k : K) (e : Entry K (Contents N V)) (before after : Contents N V) → l ≡ entries_with e after → after ≡ before → UnwrapsOrElse (entry_value e) IsMadeEmpty before → entry_map e ≡ m → entry_key e ≡ k → entry_place e ≡ index_of K.eq m.entries k → (q : K) → inner_entries K.eq l q ≡ inner_entries K.eq m.entries q }
-    ensures unchanged { (l : List (K × Contents N V)) (k : K) (m : Contents N V) → UnwrapsOrElse (lookup K.eq l k) IsMadeEmpty m → (q : K) → inner_entries K.eq (put K.eq l k m) q ≡ inner_entries K.eq l q }
+    ensures made { (l : List (K × Contents N V)) (k : K) (m : Contents N V)
+        → UnwrapsOrElse (lookup K.eq l k) IsMadeEmpty m → m.entries ≡ inner_entries K.eq l k }
+    ensures pairs { (l : List (K × Contents N V)) (k : K) (m : Contents N V)
+        → inner_entries K.eq (put K.eq l k m) k ≡ m.entries }
+    ensures written { (l : List (K × Contents N V)) (k : K) (before after : Contents N V) (n : N)
+        (v : V) → UnwrapsOrElse (lookup K.eq l k) IsMadeEmpty before
+        → after.entries ≡ put N.eq before.entries n v
+        → inner_entries K.eq (put K.eq l k after) k ≡ put N.eq (inner_entries K.eq l k) n v }
+    ensures others { (l : List (K × Contents N V)) (k : K) (m : Contents N V) (q : K)
+        → K.eq k q ≡ false → inner_entries K.eq (put K.eq l k m) q ≡ inner_entries K.eq l q }
+    ensures entry { (l : List (K × Contents N V)) (m : Contents K (Contents N V)) (k : K)
+        (e : Entry K (Contents N V)) (before after : Contents N V) (name : N) (v : V)
+        → l ≡ entries_with e after → after.entries ≡ put N.eq before.entries name v
+        → UnwrapsOrElse (entry_value e) IsMadeEmpty before → entry_map e ≡ m → entry_key e ≡ k
+        → entry_place e ≡ index_of K.eq m.entries k
+        → inner_entries K.eq l k ≡ put N.eq (inner_entries K.eq m.entries k) name v }
+    ensures entry_others { (l : List (K × Contents N V)) (m : Contents K (Contents N V)) (k : K)
+        (e : Entry K (Contents N V)) (w : Contents N V) → l ≡ entries_with e w → entry_map e ≡ m
+        → entry_key e ≡ k → entry_place e ≡ index_of K.eq m.entries k → (q : K) → K.eq k q ≡ false
+        → inner_entries K.eq l q ≡ inner_entries K.eq m.entries q }
+    ensures entry_unchanged { (l : List (K × Contents N V)) (m : Contents K (Contents N V)) (k : K)
+        (e : Entry K (Contents N V)) (before after : Contents N V) → l ≡ entries_with e after
+        → after ≡ before → UnwrapsOrElse (entry_value e) IsMadeEmpty before → entry_map e ≡ m
+        → entry_key e ≡ k → entry_place e ≡ index_of K.eq m.entries k → (q : K)
+        → inner_entries K.eq l q ≡ inner_entries K.eq m.entries q }
+    ensures unchanged { (l : List (K × Contents N V)) (k : K) (m : Contents N V)
+        → UnwrapsOrElse (lookup K.eq l k) IsMadeEmpty m → (q : K)
+        → inner_entries K.eq (put K.eq l k m) q ≡ inner_entries K.eq l q }
 {}

@@ -1,4 +1,4 @@
-//! Laws of what insertions and removals leave, for lookups, places and lengths.
+//! Laws of lookups, indices and lengths after insertions and removals.
 ghost use Rattle.std.specs.Prelude.{◌≡◌, ◌+◌, ◌++◌, ◌<◌, ◌∷◌, ℕ, IsSome, List, None, Option, Some, [], drop, false, if◌then◌else◌, is_some, length, option_map, slice_get, take, true, unwrap_or};
 ghost use Rattle.std.specs.Map.{keys_of};
 ghost use Rattle.std.specs.Option.{option_map_or, option_or};
@@ -8,71 +8,117 @@ ghost use Rattle.vecmap_map.specs.Contents.{Contents, with_value_of};
 ghost use Rattle.vecmap_map.specs.Entry.{AreEntriesWith, entry_key, entry_map, entry_place};
 ghost use Rattle.vecmap_map.specs.declared.entry.Entry.{Entry};
 
-/// Keys that are equal have one value and one place, and a lookup finds a value exactly where its key has a place.
+/// Equal keys have the same value and the same index. A lookup finds a value exactly if its key has an index.
 pub fn equal_keys_find_the_same<K: Eq, V>()
-    ensures value { (l : List (K × V)) (x y : K) → K.eq x y ≡ true → lookup K.eq l x ≡ lookup K.eq l y }
-    ensures place { (l : List (K × V)) (x y : K) → K.eq x y ≡ true → index_of K.eq l x ≡ index_of K.eq l y }
-    ensures there { (l : List (K × V)) (k : K) → is_some (lookup K.eq l k) ≡ is_some (index_of K.eq l k) }
+    ensures value { (l : List (K × V)) (x y : K) → K.eq x y ≡ true
+        → lookup K.eq l x ≡ lookup K.eq l y }
+    ensures place { (l : List (K × V)) (x y : K) → K.eq x y ≡ true
+        → index_of K.eq l x ≡ index_of K.eq l y }
+    ensures there { (l : List (K × V)) (k : K)
+        → is_some (lookup K.eq l k) ≡ is_some (index_of K.eq l k) }
 {}
 
-/// Where no keys repeat, each stored key is found at its own place, with its own value.
+/// If no keys repeat, each stored key is found at its own index, with its own value.
 pub fn stored_pairs_are_found<K: Eq, V>()
-    ensures value { (l : List (K × V)) → HasDistinctKeys K.eq l → (i : ℕ) (k : K) (v : V) → slice_get l i ≡ Some (k, v) → lookup K.eq l k ≡ Some v }
-    ensures place { (l : List (K × V)) → HasDistinctKeys K.eq l → (i : ℕ) (k : K) (v : V) → slice_get l i ≡ Some (k, v) → index_of K.eq l k ≡ Some i }
+    ensures value { (l : List (K × V)) → HasDistinctKeys K.eq l → (i : ℕ) (k : K) (v : V)
+        → slice_get l i ≡ Some (k, v) → lookup K.eq l k ≡ Some v }
+    ensures place { (l : List (K × V)) → HasDistinctKeys K.eq l → (i : ℕ) (k : K) (v : V)
+        → slice_get l i ≡ Some (k, v) → index_of K.eq l k ≡ Some i }
 {}
 
-/// After an insertion its key finds the value, and every other key what it found, whether the new key is taken in or
-/// not. The key stands where it stood, or last; no other key moves, and none that was stored changes.
+/// After an insertion, its key finds the new value, and every other key finds what it found before.
+///
+/// The inserted key keeps its index or is appended. No other key moves, and no stored key changes. Lookups find the
+/// same values if the insertion also replaces the stored key.
 pub fn insertions_are_found<K: Eq, V>()
     ensures value { (l : List (K × V)) (k : K) (v : V) → lookup K.eq (put K.eq l k v) k ≡ Some v }
-    ensures others { (l : List (K × V)) (k : K) (v : V) (q : K) → K.eq k q ≡ false → lookup K.eq (put K.eq l k v) q ≡ lookup K.eq l q }
-    ensures each { (l : List (K × V)) (k : K) (v : V) (q : K) → lookup K.eq (put K.eq l k v) q ≡ (if K.eq k q then Some v else lookup K.eq l q) }
-    ensures with_key { (l : List (K × V)) (k : K) (v : V) (q : K) → lookup K.eq (put_key K.eq l k v) q ≡ lookup K.eq (put K.eq l k v) q }
-    ensures place { (l : List (K × V)) (k : K) (v : V) (q : K) → index_of K.eq (put K.eq l k v) q ≡ (if K.eq k q then Some (index_or_length K.eq l k) else index_of K.eq l q) }
-    ensures keys { (l : List (K × V)) (k : K) (v : V) → keys_of (put K.eq l k v) ≡ add K.eq (keys_of l) k }
-    ensures last { (l : List (K × V)) (k : K) (v : V) → index_of K.eq l k ≡ None → put K.eq l k v ≡ l ++ (k, v) ∷ [] }
-    ensures len { (l : List (K × V)) (k : K) (v : V) → length (put K.eq l k v) ≡ (if is_some (index_of K.eq l k) then length l else length l + 1) }
+    ensures others { (l : List (K × V)) (k : K) (v : V) (q : K) → K.eq k q ≡ false
+        → lookup K.eq (put K.eq l k v) q ≡ lookup K.eq l q }
+    ensures each { (l : List (K × V)) (k : K) (v : V) (q : K)
+        → lookup K.eq (put K.eq l k v) q ≡ (if K.eq k q then Some v else lookup K.eq l q) }
+    ensures with_key { (l : List (K × V)) (k : K) (v : V) (q : K)
+        → lookup K.eq (put_key K.eq l k v) q ≡ lookup K.eq (put K.eq l k v) q }
+    ensures place { (l : List (K × V)) (k : K) (v : V) (q : K)
+        → index_of K.eq (put K.eq l k v) q
+        ≡ (if K.eq k q then Some (index_or_length K.eq l k) else index_of K.eq l q) }
+    ensures keys { (l : List (K × V)) (k : K) (v : V)
+        → keys_of (put K.eq l k v) ≡ add K.eq (keys_of l) k }
+    ensures last { (l : List (K × V)) (k : K) (v : V) → index_of K.eq l k ≡ None
+        → put K.eq l k v ≡ l ++ (k, v) ∷ [] }
+    ensures len { (l : List (K × V)) (k : K) (v : V)
+        → length (put K.eq l k v)
+        ≡ (if is_some (index_of K.eq l k) then length l else length l + 1) }
 {}
 
-/// An insertion of the value that its key has changes nothing, and a write of the value of a key that is there, as
-/// through `get_mut`, is an insertion.
+/// An insertion of the value that its key already has changes nothing.
+///
+/// A write of the value of a key that is present, as through `get_mut`, is an insertion.
 pub fn writes_are_insertions<K: Eq, V>()
-    ensures same { (l : List (K × V)) (k : K) (v : V) → lookup K.eq l k ≡ Some v → put K.eq l k v ≡ l }
-    ensures write { (m : Contents K V) (k : K) (v : V) → IsSome (index_of K.eq m.entries k) → (with_value_of K.eq m k v).entries ≡ put K.eq m.entries k v }
+    ensures same { (l : List (K × V)) (k : K) (v : V) → lookup K.eq l k ≡ Some v
+        → put K.eq l k v ≡ l }
+    ensures write { (m : Contents K V) (k : K) (v : V) → IsSome (index_of K.eq m.entries k)
+        → (with_value_of K.eq m k v).entries ≡ put K.eq m.entries k v }
 {}
 
-/// What an entry's insertion leaves is what `insert` leaves; a new key may be stored as a clone. `or_insert` leaves a
-/// value that is there.
+/// An insertion by an entry leaves what `insert` leaves, but a new key may be stored as a clone.
+///
+/// `or_insert` leaves an existing value as it is.
 pub fn entries_insert_alike<K: Eq + Clone, V>()
-    ensures there { (e : Entry K V) (v : V) (l : List (K × V)) → entry_place e ≡ index_of K.eq (entry_map e).entries (entry_key e) → IsSome (entry_place e) → AreEntriesWith K.is_clone e v l → l ≡ put K.eq (entry_map e).entries (entry_key e) v }
-    ensures new { (e : Entry K V) (v : V) (l : List (K × V)) → entry_place e ≡ None → AreEntriesWith K.is_clone e v l → (k : K) × K.is_clone (entry_key e) k × (l ≡ (entry_map e).entries ++ (k, v) ∷ []) }
-    ensures or_insert { (l : List (K × V)) (k : K) (v : V) → put K.eq l k (unwrap_or (lookup K.eq l k) v) ≡ option_map_or (λ i. l) (index_of K.eq l k) (l ++ (k, v) ∷ []) }
+    ensures there { (e : Entry K V) (v : V) (l : List (K × V))
+        → entry_place e ≡ index_of K.eq (entry_map e).entries (entry_key e) → IsSome (entry_place e)
+        → AreEntriesWith K.is_clone e v l → l ≡ put K.eq (entry_map e).entries (entry_key e) v }
+    ensures new { (e : Entry K V) (v : V) (l : List (K × V)) → entry_place e ≡ None
+        → AreEntriesWith K.is_clone e v l → (k : K) × K.is_clone (entry_key e) k
+        × (l ≡ (entry_map e).entries ++ (k, v) ∷ []) }
+    ensures or_insert { (l : List (K × V)) (k : K) (v : V)
+        → put K.eq l k (unwrap_or (lookup K.eq l k) v)
+        ≡ option_map_or (λ i. l) (index_of K.eq l k) (l ++ (k, v) ∷ []) }
 {}
 
-/// Many insertions at once are as many single ones, in turn, and the last value of a key is found. Keys that are new go
-/// last, in turn. Pairs of distinct keys, put into an empty map, are its list.
+/// Many insertions at once are the same as single insertions, in order.
+///
+/// The last value of a key is the one that is found. New keys are appended in order. Pairs whose keys do not repeat
+/// become the list of a map if they are inserted into an empty one.
 pub fn bulk_insertions_are_single_ones<K: Eq, V>()
-    ensures one { (l : List (K × V)) (p : K × V) (pairs : List (K × V)) → puts K.eq l (p ∷ pairs) ≡ puts K.eq (put K.eq l p.0 p.1) pairs }
-    ensures more { (l pairs others : List (K × V)) → puts K.eq l (pairs ++ others) ≡ puts K.eq (puts K.eq l pairs) others }
-    ensures value { (l pairs : List (K × V)) (q : K) → lookup K.eq (puts K.eq l pairs) q ≡ option_or (lookup K.eq (puts K.eq [] pairs) q) (lookup K.eq l q) }
-    ensures value_distinct { (l pairs : List (K × V)) → HasDistinctKeys K.eq pairs → (q : K) → lookup K.eq (puts K.eq l pairs) q ≡ option_or (lookup K.eq pairs q) (lookup K.eq l q) }
-    ensures keys { (l pairs : List (K × V)) → keys_of (puts K.eq l pairs) ≡ adds K.eq (keys_of l) (keys_of pairs) }
-    ensures distinct { (pairs : List (K × V)) → HasDistinctKeys K.eq pairs → puts K.eq [] pairs ≡ pairs }
+    ensures one { (l : List (K × V)) (p : K × V) (pairs : List (K × V))
+        → puts K.eq l (p ∷ pairs) ≡ puts K.eq (put K.eq l p.0 p.1) pairs }
+    ensures more { (l pairs others : List (K × V))
+        → puts K.eq l (pairs ++ others) ≡ puts K.eq (puts K.eq l pairs) others }
+    ensures value { (l pairs : List (K × V)) (q : K)
+        → lookup K.eq (puts K.eq l pairs) q
+        ≡ option_or (lookup K.eq (puts K.eq [] pairs) q) (lookup K.eq l q) }
+    ensures value_distinct { (l pairs : List (K × V)) → HasDistinctKeys K.eq pairs → (q : K)
+        → lookup K.eq (puts K.eq l pairs) q ≡ option_or (lookup K.eq pairs q) (lookup K.eq l q) }
+    ensures keys { (l pairs : List (K × V))
+        → keys_of (puts K.eq l pairs) ≡ adds K.eq (keys_of l) (keys_of pairs) }
+    ensures distinct { (pairs : List (K × V)) → HasDistinctKeys K.eq pairs
+        → puts K.eq [] pairs ≡ pairs }
 {}
 
-/// After a removal from distinct keys the key is absent and every other key finds what it found. What is left stands
-/// in order.
+/// If no keys repeat, a key is absent after its removal, and every other key finds what it found before.
+///
+/// The remaining pairs keep their order.
 pub fn removals_are_forgotten<K: Eq, V>()
-    ensures value { (l : List (K × V)) → HasDistinctKeys K.eq l → (k : K) → lookup K.eq (without_key K.eq l k) k ≡ None }
-    ensures others { (l : List (K × V)) (k q : K) → K.eq k q ≡ false → lookup K.eq (without_key K.eq l k) q ≡ lookup K.eq l q }
-    ensures each { (l : List (K × V)) → HasDistinctKeys K.eq l → (k q : K) → lookup K.eq (without_key K.eq l k) q ≡ (if K.eq k q then None else lookup K.eq l q) }
-    ensures absent { (l : List (K × V)) → HasDistinctKeys K.eq l → (k : K) → index_of K.eq (without_key K.eq l k) k ≡ None }
-    ensures keys { (l : List (K × V)) (k : K) → keys_of (without_key K.eq l k) ≡ without_item K.eq (keys_of l) k }
-    ensures order { (l : List (K × V)) (k : K) (i : ℕ) → index_of K.eq l k ≡ Some i → without_key K.eq l k ≡ take i l ++ drop (i + 1) l }
+    ensures value { (l : List (K × V)) → HasDistinctKeys K.eq l → (k : K)
+        → lookup K.eq (without_key K.eq l k) k ≡ None }
+    ensures others { (l : List (K × V)) (k q : K) → K.eq k q ≡ false
+        → lookup K.eq (without_key K.eq l k) q ≡ lookup K.eq l q }
+    ensures each { (l : List (K × V)) → HasDistinctKeys K.eq l → (k q : K)
+        → lookup K.eq (without_key K.eq l k) q ≡ (if K.eq k q then None else lookup K.eq l q) }
+    ensures absent { (l : List (K × V)) → HasDistinctKeys K.eq l → (k : K)
+        → index_of K.eq (without_key K.eq l k) k ≡ None }
+    ensures keys { (l : List (K × V)) (k : K)
+        → keys_of (without_key K.eq l k) ≡ without_item K.eq (keys_of l) k }
+    ensures order { (l : List (K × V)) (k : K) (i : ℕ) → index_of K.eq l k ≡ Some i
+        → without_key K.eq l k ≡ take i l ++ drop (i + 1) l }
 {}
 
-/// A function of each value: a lookup finds it of what it found, and an insertion inserts it of the value.
+/// If a function is applied to each value, a lookup finds the function of the value that it found before.
+///
+/// An insertion then inserts the function of its value.
 pub fn functions_of_values_are_found<K: Eq, V, W>()
-    ensures value { (g : V → W) (l : List (K × V)) (k : K) → lookup K.eq (map_values g l) k ≡ option_map g (lookup K.eq l k) }
-    ensures insertion { (g : V → W) (l : List (K × V)) (k : K) (v : V) → map_values g (put K.eq l k v) ≡ put K.eq (map_values g l) k (g v) }
+    ensures value { (g : V → W) (l : List (K × V)) (k : K)
+        → lookup K.eq (map_values g l) k ≡ option_map g (lookup K.eq l k) }
+    ensures insertion { (g : V → W) (l : List (K × V)) (k : K) (v : V)
+        → map_values g (put K.eq l k v) ≡ put K.eq (map_values g l) k (g v) }
 {}

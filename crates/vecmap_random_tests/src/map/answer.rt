@@ -1,8 +1,9 @@
-//! What a plain list answers, beside what a run replies.
+//! The results of commands on a plain list, and their comparison with the replies of a run.
+use std::alloc::AllocError;
 use vecmap::MapReply;
 use vecmap_fixtures::Item;
 
-/// What a command is answered, in plain lists.
+/// The result of a command, in plain lists.
 #[derive(Debug, Drop)]
 pub(crate) enum Answer {
     Value(Option<u32>),
@@ -19,12 +20,15 @@ pub(crate) enum Answer {
     OutOfRange,
 }
 
-/// Whether two pairs are identical.
+/// The result of a command on a plain list, and the list after it.
+pub(crate) type Outcome = Result<(Answer, Vec<(Item, u32)>), AllocError>;
+
+/// Returns whether two pairs are identical.
 fn is_same_pair(pair: &(Item, u32), other: &(Item, u32)) -> bool {
     pair.0.number == other.0.number && pair.0.mark == other.0.mark && pair.1 == other.1
 }
 
-/// Whether two lists hold identical pairs, place by place.
+/// Returns whether two lists hold identical pairs in the same order.
 pub(crate) fn is_same_list(list: &[(Item, u32)], other: &[(Item, u32)]) -> bool {
     for (pair, there) in list.iter().zip(other) {
         if !is_same_pair(pair, there) {
@@ -34,7 +38,7 @@ pub(crate) fn is_same_list(list: &[(Item, u32)], other: &[(Item, u32)]) -> bool 
     list.len() == other.len()
 }
 
-/// Whether a reply is this answer, the keys in it identical.
+/// Returns whether a reply is this result, with identical keys.
 pub(crate) fn is_answer(reply: &MapReply<Item, u32>, answer: &Answer) -> bool {
     match (reply, answer) {
         (MapReply::Value(value), Answer::Value(wanted)) => *value == *wanted,

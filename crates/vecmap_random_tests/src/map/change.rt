@@ -1,48 +1,38 @@
-//! Commands on the whole list, on a plain one.
-use super::answer::Answer;
-use super::pairs::{has_same_counts, puts};
-use crate::draw::Draw;
-use crate::plain::{exchanged, part, reversed};
-use std::alloc::{AllocError, Global};
+//! Commands that change the whole list, on a plain list. Each returns the result of the command, and the list after it.
+use super::answer::{Answer, Outcome};
+use super::pairs::inserted_all;
+use std::alloc::Global;
 use vecmap_fixtures::Item;
+use vecmap_fixtures::plain::{exchanged, part, reversed};
 
-/// What the list answers, and becomes.
-pub(crate) fn on_list(
-    alloc: Global,
-    list: &[(Item, u32)],
-    draw: &Draw,
-) -> Result<(Answer, Vec<(Item, u32)>), AllocError> {
-    let (place, other, len) = (draw.place, draw.other, list.len());
-    match draw.kind % 27 {
-        19 if len <= place || len <= other => Ok((Answer::OutOfRange, part(alloc, list, 0, len)?)),
-        19 => Ok((Answer::Done, exchanged(alloc, list, place, other)?)),
-        20 => Ok((Answer::Done, part(alloc, list, 0, place)?)),
-        21 => Ok((Answer::Done, Vec::new(alloc))),
-        22 => Ok((Answer::Done, reversed(alloc, list)?)),
-        23 => Ok((Answer::Done, carried(alloc, list, draw)?)),
-        24 if len < place => Ok((Answer::OutOfRange, part(alloc, list, 0, len)?)),
-        24 => {
-            let rest = Answer::Rest(part(alloc, list, place, len)?);
-            Ok((rest, part(alloc, list, 0, place)?))
-        }
-        25 => {
-            let pairs = Answer::Pairs(part(alloc, list, 0, len)?);
-            Ok((pairs, part(alloc, list, 0, len)?))
-        }
-        _ => {
-            let carried = puts(alloc, &[], &draw.pairs)?;
-            let truth = Answer::Truth(has_same_counts(list, &carried));
-            Ok((truth, part(alloc, list, 0, len)?))
-        }
+pub(crate) fn swap_indices(alloc: Global, list: &[(Item, u32)], a: usize, b: usize) -> Outcome {
+    if list.len() <= a || list.len() <= b {
+        return Ok((Answer::OutOfRange, part(alloc, list, 0, list.len())?));
     }
+    Ok((Answer::Done, exchanged(alloc, list, a, b)?))
 }
 
-/// The list after the pairs of a carried map are put.
-fn carried(
-    alloc: Global,
-    list: &[(Item, u32)],
-    draw: &Draw,
-) -> Result<Vec<(Item, u32)>, AllocError> {
-    let carried = puts(alloc, &[], &draw.pairs)?;
-    puts(alloc, list, &carried)
+pub(crate) fn truncate(alloc: Global, list: &[(Item, u32)], len: usize) -> Outcome {
+    Ok((Answer::Done, part(alloc, list, 0, len)?))
+}
+
+pub(crate) fn reverse(alloc: Global, list: &[(Item, u32)]) -> Outcome {
+    Ok((Answer::Done, reversed(alloc, list)?))
+}
+
+pub(crate) fn append(alloc: Global, list: &[(Item, u32)], other: &[(Item, u32)]) -> Outcome {
+    Ok((Answer::Done, inserted_all(alloc, list, other)?))
+}
+
+pub(crate) fn split_off(alloc: Global, list: &[(Item, u32)], index: usize) -> Outcome {
+    if list.len() < index {
+        return Ok((Answer::OutOfRange, part(alloc, list, 0, list.len())?));
+    }
+    let rest = Answer::Rest(part(alloc, list, index, list.len())?);
+    Ok((rest, part(alloc, list, 0, index)?))
+}
+
+pub(crate) fn to_vec(alloc: Global, list: &[(Item, u32)]) -> Outcome {
+    let pairs = Answer::Pairs(part(alloc, list, 0, list.len())?);
+    Ok((pairs, part(alloc, list, 0, list.len())?))
 }

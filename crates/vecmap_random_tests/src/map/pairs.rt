@@ -1,15 +1,15 @@
-//! What is put into a plain list of pairs.
-use crate::plain::{first, part, replaced};
+//! Insertions into a plain list of pairs.
 use std::alloc::{AllocError, Global};
 use vecmap_fixtures::Item;
+use vecmap_fixtures::plain::{first, part, replaced};
 
-/// The value at a place, if there is one.
+/// Returns the value at an index, if there is one.
 pub(crate) fn value_at(list: &[(Item, u32)], at: Option<usize>) -> Option<u32> {
     Some(list.get(at?)?.1)
 }
 
-/// The list after a put: a key that is there stays and takes the value, and a new pair goes last.
-pub(crate) fn put(
+/// Returns the list after an insertion: an existing key stays and gets the value, and a new pair is appended.
+pub(crate) fn inserted_one(
     alloc: Global,
     list: &[(Item, u32)],
     key: Item,
@@ -26,27 +26,27 @@ pub(crate) fn put(
     Ok(copy)
 }
 
-/// The list after each of the pairs is put.
-pub(crate) fn puts(
+/// Returns the list after each of the pairs is inserted.
+pub(crate) fn inserted_all(
     alloc: Global,
     list: &[(Item, u32)],
     pairs: &[(Item, u32)],
 ) -> Result<Vec<(Item, u32)>, AllocError> {
     let mut copy = part(alloc, list, 0, list.len())?;
     for pair in pairs {
-        copy = put(alloc, &copy, pair.0, pair.1)?;
+        copy = inserted_one(alloc, &copy, pair.0, pair.1)?;
     }
     Ok(copy)
 }
 
-/// How many pairs have this key and this value.
+/// Returns how many pairs have this key and this value.
 fn count(list: &[(Item, u32)], key: Item, value: u32) -> usize {
     list.iter()
         .filter(|pair| pair.0 == key && pair.1 == value)
         .count()
 }
 
-/// Whether each pair of either list stands in both equally often.
+/// Returns whether each pair occurs equally often in both lists.
 pub(crate) fn has_same_counts(list: &[(Item, u32)], other: &[(Item, u32)]) -> bool {
     for pair in list.iter().chain(other) {
         if count(list, pair.0, pair.1) != count(other, pair.0, pair.1) {

@@ -1,8 +1,9 @@
-//! What a plain list answers, beside what a run replies.
+//! The results of commands on a plain list, and their comparison with the replies of a run.
+use std::alloc::AllocError;
 use vecmap::SetReply;
 use vecmap_fixtures::Item;
 
-/// What a command is answered, in plain lists.
+/// The result of a command, in plain lists.
 #[derive(Debug, Drop)]
 pub(crate) enum Answer {
     Truth(bool),
@@ -15,12 +16,15 @@ pub(crate) enum Answer {
     OutOfRange,
 }
 
-/// Whether two elements are identical.
+/// The result of a command on a plain list, and the list after it.
+pub(crate) type Outcome = Result<(Answer, Vec<Item>), AllocError>;
+
+/// Returns whether two elements are identical.
 fn is_same_item(item: Item, other: Item) -> bool {
     item.number == other.number && item.mark == other.mark
 }
 
-/// Whether two lists hold identical elements, place by place.
+/// Returns whether two lists hold identical elements in the same order.
 pub(crate) fn is_same_list(list: &[Item], other: &[Item]) -> bool {
     for (item, there) in list.iter().zip(other) {
         if !is_same_item(*item, *there) {
@@ -30,7 +34,7 @@ pub(crate) fn is_same_list(list: &[Item], other: &[Item]) -> bool {
     list.len() == other.len()
 }
 
-/// Whether a reply is this answer, the elements in it identical.
+/// Returns whether a reply is this result, with identical elements.
 pub(crate) fn is_answer(reply: &SetReply<Item>, answer: &Answer) -> bool {
     match (reply, answer) {
         (SetReply::Truth(truth), Answer::Truth(wanted)) => *truth == *wanted,

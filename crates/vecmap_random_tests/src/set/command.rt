@@ -1,51 +1,59 @@
-//! The command of a draw.
-use super::items::keys;
-use crate::draw::Draw;
-use std::alloc::{AllocError, Global};
+//! Random commands.
+use super::answer::is_same_list;
+use super::items::inserted_all;
+use std::alloc::Global;
+use std::test::Fail;
 use vecmap::{SetCommand, VecSet};
-use vecmap_fixtures::Item;
+use vecmap_fixtures::{Draws, Item};
 
-/// The command of a draw.
-pub(crate) fn command(alloc: Global, draw: &Draw) -> Result<SetCommand<Item>, AllocError> {
-    let (item, place) = (draw.item, draw.place);
-    Ok(match draw.kind % 31 {
-        0 => SetCommand::Insert(item),
-        1 => SetCommand::Replace(item),
-        2 => SetCommand::Get(item),
-        3 => SetCommand::GetIndex(place),
-        4 => SetCommand::IndexOf(item),
-        5 => SetCommand::Contains(item),
-        6 => SetCommand::First,
-        7 => SetCommand::Last,
-        8 => SetCommand::Len,
-        9 => SetCommand::Remove(item),
-        10 => SetCommand::Take(item),
-        11 => SetCommand::SwapRemove(item),
-        12 => SetCommand::SwapTake(item),
-        13 => SetCommand::RemoveIndex(place),
-        14 => SetCommand::SwapRemoveIndex(place),
-        15 => SetCommand::Pop,
-        16 => SetCommand::SwapIndices(place, draw.other),
-        17 => SetCommand::Truncate(place),
-        18 => SetCommand::Clear,
-        19 => SetCommand::Reverse,
-        21 => SetCommand::SplitOff(place),
-        22 => SetCommand::ToVec,
-        _ => with_set(draw.kind, VecSet::from_slice(alloc, &keys(alloc, draw)?)?),
-    })
+/// Returns a random command. Each one is equally likely.
+pub(crate) fn random_command(alloc: Global, draws: &mut Draws) -> Result<SetCommand<Item>, Fail> {
+    let item = draws.item();
+    let (index, other) = (draws.index(), draws.index());
+    let set = random_set(alloc, draws)?;
+    let commands = vec![in alloc;
+        SetCommand::Insert(item),
+        SetCommand::Replace(item),
+        SetCommand::Get(item),
+        SetCommand::GetIndex(index),
+        SetCommand::IndexOf(item),
+        SetCommand::Contains(item),
+        SetCommand::First,
+        SetCommand::Last,
+        SetCommand::Len,
+        SetCommand::Remove(item),
+        SetCommand::Take(item),
+        SetCommand::SwapRemove(item),
+        SetCommand::SwapTake(item),
+        SetCommand::RemoveIndex(index),
+        SetCommand::SwapRemoveIndex(index),
+        SetCommand::Pop,
+        SetCommand::SwapIndices(index, other),
+        SetCommand::Truncate(index),
+        SetCommand::Clear,
+        SetCommand::Reverse,
+        SetCommand::Append(set.clone()?),
+        SetCommand::SplitOff(index),
+        SetCommand::ToVec,
+        SetCommand::Equals(set.clone()?),
+        SetCommand::IsSubset(set.clone()?),
+        SetCommand::IsSuperset(set.clone()?),
+        SetCommand::IsDisjoint(set.clone()?),
+        SetCommand::Intersect(set.clone()?),
+        SetCommand::Unite(set.clone()?),
+        SetCommand::Exclusive(set.clone()?),
+        SetCommand::Subtract(set),
+    ]?;
+    Ok(draws.choose(commands).ok_or("no command")?)
 }
 
-/// The command that carries a set.
-fn with_set(kind: u32, other: VecSet<Item>) -> SetCommand<Item> {
-    match kind % 31 {
-        20 => SetCommand::Append(other),
-        23 => SetCommand::Equals(other),
-        24 => SetCommand::IsSubset(other),
-        25 => SetCommand::IsSuperset(other),
-        26 => SetCommand::IsDisjoint(other),
-        27 => SetCommand::Intersect(other),
-        28 => SetCommand::Unite(other),
-        29 => SetCommand::Exclusive(other),
-        _ => SetCommand::Subtract(other),
+/// Returns a set of random elements. It has the list of the same insertions into a plain list.
+fn random_set(alloc: Global, draws: &mut Draws) -> Result<VecSet<Item>, Fail> {
+    let items = draws.items(alloc)?;
+    let set = VecSet::from_slice(alloc, &items)?;
+    if is_same_list(set.as_slice(), &inserted_all(alloc, &[], &items)?) {
+        Ok(set)
+    } else {
+        Err(Fail::new("a set of a slice differs from its insertions"))
     }
 }

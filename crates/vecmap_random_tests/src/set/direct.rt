@@ -1,89 +1,87 @@
 //! Commands by direct calls of the set.
-use super::items::keys;
-use crate::draw::Draw;
-use std::alloc::{AllocError, Global};
-use vecmap::{SetReply, VecSet};
+use std::alloc::AllocError;
+use vecmap::{SetCommand, SetReply, VecSet};
 use vecmap_fixtures::Item;
 
 type Reply = SetReply<Item>;
 
-/// What the call answers.
+/// Returns the result of the call.
 pub(crate) fn call(
-    alloc: Global,
     set: &mut VecSet<Item>,
-    draw: &Draw,
+    command: &SetCommand<Item>,
 ) -> Result<Reply, AllocError> {
-    match draw.kind % 31 {
-        0 => Ok(SetReply::Truth(set.insert(draw.item)?)),
-        1 => Ok(SetReply::Item(set.replace(draw.item)?)),
-        2..=8 => Ok(read(set, draw)),
-        9..=12 => Ok(take_by_item(set, draw)),
-        13..=15 => Ok(take_by_place(set, draw)),
-        16..=19 => Ok(change(set, draw)),
-        21 if set.len() < draw.place => Ok(SetReply::OutOfRange),
-        21 => Ok(SetReply::Made(set.split_off(draw.place)?)),
-        22 => Ok(SetReply::Items(set.to_vec()?)),
-        _ => {
-            let mut other = VecSet::from_slice(alloc, &keys(alloc, draw)?)?;
-            if draw.kind % 31 == 20 {
-                set.append(&mut other)?;
-                return Ok(SetReply::Done);
-            }
-            join(set, &other, draw.kind)
+    Ok(match command {
+        SetCommand::Insert(item) => SetReply::Truth(set.insert(*item)?),
+        SetCommand::Replace(item) => SetReply::Item(set.replace(*item)?),
+        SetCommand::Get(item) => SetReply::Item(set.get(item).copied()),
+        SetCommand::GetIndex(index) => SetReply::Item(set.get_index(*index).copied()),
+        SetCommand::IndexOf(item) => SetReply::Place(set.get_index_of(item)),
+        SetCommand::Contains(item) => SetReply::Truth(set.contains(item)),
+        SetCommand::First => SetReply::Item(set.first().copied()),
+        SetCommand::Last => SetReply::Item(set.last().copied()),
+        SetCommand::Len => SetReply::Number(set.len()),
+        SetCommand::Remove(item) => SetReply::Truth(set.remove(item)),
+        SetCommand::Take(item) => SetReply::Item(set.take(item)),
+        SetCommand::SwapRemove(item) => SetReply::Truth(set.swap_remove(item)),
+        SetCommand::SwapTake(item) => SetReply::Item(set.swap_take(item)),
+        SetCommand::RemoveIndex(index) => remove_index(set, *index),
+        SetCommand::SwapRemoveIndex(index) => swap_remove_index(set, *index),
+        SetCommand::Pop => SetReply::Item(set.pop()),
+        SetCommand::SwapIndices(a, b) => swap_indices(set, *a, *b),
+        SetCommand::Truncate(len) => {
+            set.truncate(*len);
+            SetReply::Done
         }
-    }
+        SetCommand::Clear => {
+            set.clear();
+            SetReply::Done
+        }
+        SetCommand::Reverse => {
+            set.reverse();
+            SetReply::Done
+        }
+        SetCommand::Append(other) => {
+            set.append(&mut other.clone()?)?;
+            SetReply::Done
+        }
+        SetCommand::SplitOff(index) => split_off(set, *index)?,
+        SetCommand::ToVec => SetReply::Items(set.to_vec()?),
+        SetCommand::Equals(other) => SetReply::Truth(*set == *other),
+        SetCommand::IsSubset(other) => SetReply::Truth(set.is_subset(other)),
+        SetCommand::IsSuperset(other) => SetReply::Truth(set.is_superset(other)),
+        SetCommand::IsDisjoint(other) => SetReply::Truth(set.is_disjoint(other)),
+        SetCommand::Intersect(other) => SetReply::Made((&*set & other)?),
+        SetCommand::Unite(other) => SetReply::Made((&*set | other)?),
+        SetCommand::Exclusive(other) => SetReply::Made((&*set ^ other)?),
+        SetCommand::Subtract(other) => SetReply::Made((&*set - other)?),
+    })
 }
 
-fn read(set: &VecSet<Item>, draw: &Draw) -> Reply {
-    match draw.kind % 31 {
-        2 => SetReply::Item(set.get(&draw.item).copied()),
-        3 => SetReply::Item(set.get_index(draw.place).copied()),
-        4 => SetReply::Place(set.get_index_of(&draw.item)),
-        5 => SetReply::Truth(set.contains(&draw.item)),
-        6 => SetReply::Item(set.first().copied()),
-        7 => SetReply::Item(set.last().copied()),
-        _ => SetReply::Number(set.len()),
+fn remove_index(set: &mut VecSet<Item>, index: usize) -> Reply {
+    if set.len() <= index {
+        return SetReply::OutOfRange;
     }
+    SetReply::Item(Some(set.remove_index(index)))
 }
 
-fn take_by_item(set: &mut VecSet<Item>, draw: &Draw) -> Reply {
-    match draw.kind % 31 {
-        9 => SetReply::Truth(set.remove(&draw.item)),
-        10 => SetReply::Item(set.take(&draw.item)),
-        11 => SetReply::Truth(set.swap_remove(&draw.item)),
-        _ => SetReply::Item(set.swap_take(&draw.item)),
+fn swap_remove_index(set: &mut VecSet<Item>, index: usize) -> Reply {
+    if set.len() <= index {
+        return SetReply::OutOfRange;
     }
+    SetReply::Item(Some(set.swap_remove_index(index)))
 }
 
-fn take_by_place(set: &mut VecSet<Item>, draw: &Draw) -> Reply {
-    match draw.kind % 31 {
-        15 => SetReply::Item(set.pop()),
-        _ if set.len() <= draw.place => SetReply::OutOfRange,
-        13 => SetReply::Item(Some(set.remove_index(draw.place))),
-        _ => SetReply::Item(Some(set.swap_remove_index(draw.place))),
+fn swap_indices(set: &mut VecSet<Item>, a: usize, b: usize) -> Reply {
+    if set.len() <= a || set.len() <= b {
+        return SetReply::OutOfRange;
     }
-}
-
-fn change(set: &mut VecSet<Item>, draw: &Draw) -> Reply {
-    match draw.kind % 31 {
-        16 if set.len() <= draw.place || set.len() <= draw.other => return SetReply::OutOfRange,
-        16 => set.swap_indices(draw.place, draw.other),
-        17 => set.truncate(draw.place),
-        18 => set.clear(),
-        _ => set.reverse(),
-    }
+    set.swap_indices(a, b);
     SetReply::Done
 }
 
-fn join(set: &VecSet<Item>, other: &VecSet<Item>, kind: u32) -> Result<Reply, AllocError> {
-    Ok(match kind % 31 {
-        23 => SetReply::Truth(*set == *other),
-        24 => SetReply::Truth(set.is_subset(other)),
-        25 => SetReply::Truth(set.is_superset(other)),
-        26 => SetReply::Truth(set.is_disjoint(other)),
-        27 => SetReply::Made((set & other)?),
-        28 => SetReply::Made((set | other)?),
-        29 => SetReply::Made((set ^ other)?),
-        _ => SetReply::Made((set - other)?),
-    })
+fn split_off(set: &mut VecSet<Item>, index: usize) -> Result<Reply, AllocError> {
+    if set.len() < index {
+        return Ok(SetReply::OutOfRange);
+    }
+    Ok(SetReply::Made(set.split_off(index)?))
 }

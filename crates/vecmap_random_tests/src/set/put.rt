@@ -1,30 +1,22 @@
-//! Commands that put an element, on a plain list.
-use super::answer::Answer;
-use super::items::added;
-use crate::draw::Draw;
-use crate::plain::{first, inserted, replaced};
-use std::alloc::{AllocError, Global};
+//! Commands that insert an element, on a plain list. Each returns the result of the command, and the list after it.
+use super::answer::{Answer, Outcome};
+use super::items::inserted_all;
+use std::alloc::Global;
 use vecmap_fixtures::Item;
+use vecmap_fixtures::plain::{first, inserted, replaced};
 
-/// What the list answers, and becomes.
-pub(crate) fn on_list(
-    alloc: Global,
-    list: &[Item],
-    draw: &Draw,
-) -> Result<(Answer, Vec<Item>), AllocError> {
-    let found = first(list, draw.item);
-    if draw.kind % 31 == 0 {
-        let next = added(alloc, list, &[draw.item])?;
-        return Ok((Answer::Truth(found.is_none()), next));
-    }
-    match found {
+pub(crate) fn insert(alloc: Global, list: &[Item], item: Item) -> Outcome {
+    let is_new = first(list, item).is_none();
+    Ok((Answer::Truth(is_new), inserted_all(alloc, list, &[item])?))
+}
+
+/// Replaces an equal element, or appends the element.
+pub(crate) fn replace(alloc: Global, list: &[Item], item: Item) -> Outcome {
+    match first(list, item) {
         Some(at) => {
-            let next = replaced(alloc, list, at, draw.item)?;
-            Ok((Answer::Item(list.get(at).copied()), next))
+            let old = list.get(at).copied();
+            Ok((Answer::Item(old), replaced(alloc, list, at, item)?))
         }
-        None => {
-            let next = inserted(alloc, list, list.len(), draw.item)?;
-            Ok((Answer::Item(None), next))
-        }
+        None => Ok((Answer::Item(None), inserted(alloc, list, list.len(), item)?)),
     }
 }

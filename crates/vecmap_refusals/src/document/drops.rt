@@ -1,4 +1,4 @@
-//! Names and texts that a document keeps, returns or drops: each once. Large ones are counted by the memory of each.
+//! Names and texts that a document keeps, returns or drops, each once. Large ones are counted by the memory of each.
 use super::{INTO, document};
 use crate::telling::{make, tell};
 use attr_doc::{Document, Name};
@@ -7,7 +7,7 @@ use std::fs::File;
 use std::io::Read;
 use std::test::Fail;
 
-/// The capacity of a large text: a block of this size is mapped by itself, and unmapped when it is freed.
+/// The capacity of a large text. A block of this size is mapped by itself, and unmapped when it is freed.
 const BYTES_OF_LARGE_TEXT: usize = 1 << 29;
 
 const PAGES_OF_LARGE_TEXT: u64 = 1 << 17;
@@ -18,7 +18,8 @@ fn try_large_text(alloc: Global, text: &str) -> Result<String, AllocError> {
     Ok(large)
 }
 
-/// A text of large capacity, of which only the written part takes memory. It is made once more where it is refused.
+/// Creates a text of large capacity, of which only the written part uses memory. If its request is refused, it tries
+/// once more.
 fn large_text(rt: &HostRuntime, text: &str) -> Result<String, Fail> {
     match try_large_text(rt.alloc(), text) {
         Ok(large) => Ok(large),
@@ -29,7 +30,7 @@ fn large_text(rt: &HostRuntime, text: &str) -> Result<String, Fail> {
     }
 }
 
-/// The number of pages that are mapped.
+/// Returns the number of pages that are mapped.
 fn mapped_pages(rt: &HostRuntime) -> Result<u64, Fail> {
     let mut bytes = [0; 64];
     let count = File::open(rt, "/proc/self/statm")?.read(&mut bytes)?;
@@ -38,13 +39,13 @@ fn mapped_pages(rt: &HostRuntime) -> Result<u64, Fail> {
     Ok(pages.parse()?)
 }
 
-/// The number of large texts that are alive, of those that were made since `pages` pages were mapped.
+/// Returns the number of large texts that are alive, of those created since `pages` pages were mapped.
 fn alive(rt: &HostRuntime, pages: u64) -> Result<u64, Fail> {
     let more = mapped_pages(rt)?.saturating_sub(pages);
     Ok(more.saturating_add(PAGES_OF_LARGE_TEXT / 2) / PAGES_OF_LARGE_TEXT)
 }
 
-/// Sets a large text under two large names. If that is refused, all three are alive, and they are set again.
+/// Sets a large text under two large names. If a request is refused, all three are alive, and are set once more.
 fn set(
     rt: &HostRuntime,
     pages: u64,
@@ -68,7 +69,7 @@ fn set(
     }
 }
 
-/// Four names fit into a section before its map grows.
+/// A section has capacity for four names before its map grows.
 #[test]
 fn set_keeps_returns_or_drops(rt: HostRuntime) -> Result<(), Fail> {
     let rows = [
@@ -94,7 +95,8 @@ fn set_keeps_returns_or_drops(rt: HostRuntime) -> Result<(), Fail> {
     Ok(())
 }
 
-/// Of nine large texts a merge drops the name of a section and the name of a text that are there, and the old text.
+/// Of nine large texts, a merge drops three: the name of an existing section, an existing name of a text, and the old
+/// text.
 #[test]
 fn merge_keeps_or_drops(rt: HostRuntime) -> Result<(), Fail> {
     let mut into = make!(rt; document(rt.alloc(), INTO));

@@ -1,4 +1,4 @@
-//! Many pairs at once, put into a map that is full.
+//! Many pairs at once, inserted into a map that is full.
 use crate::telling::{full_map, make, tell};
 use std::test::Fail;
 use vecmap::VecMap;
@@ -6,7 +6,7 @@ use vecmap_fixtures::{Hinted, Item, has_pairs, make_item};
 
 const FULL: &[(u32, char, u32)] = &[(1, 'a', 10), (2, 'b', 20)];
 
-// Pairs of which each new key is followed by an equal one that is there.
+// Returns pairs in which each pair with a new key is followed by one with a key that is then present.
 fn more() -> [(Item, u32); 11] {
     [
         (make_item(7, 'p'), 1),
@@ -33,8 +33,8 @@ const EXTENDED: &[(u32, char, u32)] = &[
     (11, 'u', 110),
 ];
 
-// Whether the pairs before the refused one are put and no others: the map is full, and for each new key in it the first
-// value has grown by one.
+// Returns whether exactly the pairs before the refused one are inserted: the map is full, and its first value has grown
+// by one for each new key.
 fn has_all_that_fit(map: &VecMap<Item, u32>) -> bool {
     let (Some((first, rest)), Some((_, others))) = (
         map.as_slice().split_first(),
@@ -52,7 +52,7 @@ fn has_all_that_fit(map: &VecMap<Item, u32>) -> bool {
 }
 
 #[test]
-fn append_moves_all_or_nothing(rt: HostRuntime) -> Result<(), Fail> {
+fn append_to_a_map_moves_all_or_nothing(rt: HostRuntime) -> Result<(), Fail> {
     let added = [(1, 'z', 30), (7, 'p', 70), (8, 'q', 80)];
     let mut map = full_map(&rt, rt.alloc(), FULL)?;
     let mut other = full_map(&rt, rt.alloc(), &added)?;
@@ -69,7 +69,7 @@ fn append_moves_all_or_nothing(rt: HostRuntime) -> Result<(), Fail> {
 }
 
 #[test]
-fn extend_puts_the_pairs_before_the_refused_one(rt: HostRuntime) -> Result<(), Fail> {
+fn extend_inserts_the_pairs_before_the_refused_one(rt: HostRuntime) -> Result<(), Fail> {
     let items = more();
     for hint in [0, 4] {
         let hinted = || Hinted {
@@ -88,7 +88,7 @@ fn extend_puts_the_pairs_before_the_refused_one(rt: HostRuntime) -> Result<(), F
 }
 
 #[test]
-fn extend_puts_as_many_as_there_is_room_for(rt: HostRuntime) -> Result<(), Fail> {
+fn extend_inserts_as_many_pairs_as_the_capacity_allows(rt: HostRuntime) -> Result<(), Fail> {
     let items = [(1, 10), (2, 20), (3, 30), (4, 40), (5, 50), (6, 60)];
     let mut map = VecMap::new(rt.alloc());
     if map.reserve(2).is_err() {
@@ -111,7 +111,7 @@ fn extend_puts_as_many_as_there_is_room_for(rt: HostRuntime) -> Result<(), Fail>
 }
 
 #[test]
-fn extend_pairs_puts_the_pairs_before_the_refused_one(rt: HostRuntime) -> Result<(), Fail> {
+fn extend_pairs_inserts_the_pairs_before_the_refused_one(rt: HostRuntime) -> Result<(), Fail> {
     let items = more();
     for hint in [0, 4] {
         let hinted = || Hinted {
@@ -130,7 +130,7 @@ fn extend_pairs_puts_the_pairs_before_the_refused_one(rt: HostRuntime) -> Result
 }
 
 #[test]
-fn extend_refs_puts_the_pairs_before_the_refused_one(rt: HostRuntime) -> Result<(), Fail> {
+fn extend_refs_inserts_the_pairs_before_the_refused_one(rt: HostRuntime) -> Result<(), Fail> {
     let items = more();
     for hint in [0, 4] {
         let lent = || {
@@ -149,7 +149,7 @@ fn extend_refs_puts_the_pairs_before_the_refused_one(rt: HostRuntime) -> Result<
 }
 
 #[test]
-fn making_of_many_pairs_makes_all_or_nothing(rt: HostRuntime) -> Result<(), Fail> {
+fn a_map_of_many_pairs_has_all_of_them_or_is_refused(rt: HostRuntime) -> Result<(), Fail> {
     let pairs = more();
     let all = [
         (7, 'p', 70),

@@ -1,4 +1,4 @@
-//! Clones of keys and values that need memory of their own.
+//! Clones of keys and values that allocate.
 use crate::telling::{make, tell, text_map};
 use std::alloc::{AllocError, Global};
 use std::process::Abort;
@@ -9,7 +9,7 @@ use vecmap_fixtures::has_text_pairs;
 const TEXTS: &[(&str, &str)] = &[("b", "2"), ("a", "1")];
 
 #[test]
-fn clone_leaves_the_source(rt: HostRuntime) -> Result<(), Fail> {
+fn clone_of_a_map_leaves_the_source(rt: HostRuntime) -> Result<(), Fail> {
     let map = text_map(&rt, rt.alloc(), TEXTS)?;
     let room = map.capacity();
     let copy = make!(rt; map.clone());
@@ -19,7 +19,7 @@ fn clone_leaves_the_source(rt: HostRuntime) -> Result<(), Fail> {
 }
 
 #[test]
-fn to_vec_leaves_the_source(rt: HostRuntime) -> Result<(), Fail> {
+fn to_vec_of_a_map_leaves_the_source(rt: HostRuntime) -> Result<(), Fail> {
     let map = text_map(&rt, rt.alloc(), TEXTS)?;
     let room = map.capacity();
     let copies = make!(rt; map.to_vec());
@@ -29,7 +29,7 @@ fn to_vec_leaves_the_source(rt: HostRuntime) -> Result<(), Fail> {
 }
 
 #[test]
-fn from_slice_leaves_the_source(rt: HostRuntime) -> Result<(), Fail> {
+fn from_slice_of_a_map_leaves_the_source(rt: HostRuntime) -> Result<(), Fail> {
     let map = text_map(&rt, rt.alloc(), TEXTS)?;
     let copy = make!(rt; VecMap::from_slice(rt.alloc(), map.as_slice()));
     assert!(rt; has_text_pairs(copy.as_slice(), TEXTS));
@@ -41,15 +41,16 @@ const MORE: &[(&str, &str)] = &[("b", "2"), ("a", "3")];
 
 const ALL: &[(&str, &str)] = &[("a", "3"), ("b", "2")];
 
-// Whether the clones before the refused one are put. Room is made before the first clone, so without more room there are
-// none. Else one of four texts was refused: of the first pair, which then isn't put, or of the second, and then it is.
+// Returns whether exactly the clones before the refused one are inserted. The map grows before the first clone, so a
+// map that has not grown has none. Otherwise, one of four texts was refused: if it is of the first pair, no clone is
+// inserted; if it is of the second, the first pair is.
 fn has_some(map: &VecMap<String, String>) -> bool {
     has_text_pairs(map.as_slice(), &[("a", "1")])
         || 1 < map.capacity() && has_text_pairs(map.as_slice(), &[("a", "1"), ("b", "2")])
 }
 
 #[test]
-fn extend_pairs_puts_the_clones_before_the_refused_one(rt: HostRuntime) -> Result<(), Fail> {
+fn extend_pairs_inserts_the_clones_before_the_refused_one(rt: HostRuntime) -> Result<(), Fail> {
     let mut map = text_map(&rt, rt.alloc(), &[("a", "1")])?;
     let more = text_map(&rt, rt.alloc(), MORE)?;
     if map.extend_pairs(more.as_slice()).is_err() {
@@ -62,7 +63,7 @@ fn extend_pairs_puts_the_clones_before_the_refused_one(rt: HostRuntime) -> Resul
 }
 
 #[test]
-fn extend_refs_puts_the_clones_before_the_refused_one(rt: HostRuntime) -> Result<(), Fail> {
+fn extend_refs_inserts_the_clones_before_the_refused_one(rt: HostRuntime) -> Result<(), Fail> {
     let mut map = text_map(&rt, rt.alloc(), &[("a", "1")])?;
     let more = text_map(&rt, rt.alloc(), MORE)?;
     let lent = || more.as_slice().iter().map(|pair| (&pair.0, &pair.1));
@@ -88,8 +89,8 @@ fn extend(
     }
 }
 
-// Clones of pairs of which one text alone needs memory, put into a map that has room: refused, exactly the pairs before
-// that one are put.
+// Extends a map with spare capacity by clones of pairs of which a single text allocates. If that is refused, exactly
+// the pairs before it are inserted.
 fn check<R: Abort + Print>(rt: &R, alloc: Global, by_refs: bool) -> Result<(), Fail> {
     for (more, left, all) in [
         (

@@ -1,4 +1,4 @@
-//! What a refused call keeps, gives back or drops: each key and value once. `alive` counts those that are somewhere.
+//! Keys and values that a refused call keeps, returns or drops, each once. `alive` counts those that are not dropped.
 use crate::telling::{make, tell, told_couples, told_map};
 use std::alloc::{AllocError, Global};
 use std::process::Abort;
@@ -12,44 +12,55 @@ type Couple<'a> = (Told<'a>, Told<'a>);
 
 type Map<'a> = VecMap<Told<'a>, Told<'a>>;
 
-// Puts a pair by the call of this number.
+#[derive(Clone, Copy)]
+enum Insertion {
+    Insert,
+    InsertFull,
+    InsertKey,
+    InsertAt,
+    OrInsert,
+    OrInsertWith,
+    OrInsertWithKey,
+    InsertEntry,
+}
+
 fn put<'a>(
-    call: u32,
+    call: Insertion,
     map: &mut Map<'a>,
     key: Told<'a>,
     value: Told<'a>,
 ) -> Result<(), Refused<Couple<'a>>> {
     match call {
-        0 => {
+        Insertion::Insert => {
             map.insert(key, value)?;
         }
-        1 => {
+        Insertion::InsertFull => {
             map.insert_full(key, value)?;
         }
-        2 => {
+        Insertion::InsertKey => {
             map.insert_key(key, value)?;
         }
-        3 => {
+        Insertion::InsertAt => {
             map.insert_at(0, key, value)?;
         }
-        4 => {
+        Insertion::OrInsert => {
             map.entry(key).or_insert(value)?;
         }
-        5 => {
+        Insertion::OrInsertWith => {
             map.entry(key).or_insert_with(|| value)?;
         }
-        6 => {
+        Insertion::OrInsertWithKey => {
             map.entry(key).or_insert_with_key(|_| value)?;
         }
-        _ => {
+        Insertion::InsertEntry => {
             map.entry(key).insert_entry(value)?;
         }
     }
     Ok(())
 }
 
-// A call that puts a pair keeps it, or gives it back and is made once more.
-fn check<R: Abort + Print>(rt: &R, alloc: Global, call: u32) -> Result<(), Fail> {
+// Checks that an insertion keeps its pair, or returns it so that the call can be repeated.
+fn check<R: Abort + Print>(rt: &R, alloc: Global, call: Insertion) -> Result<(), Fail> {
     let log = Log::new();
     let mut map = told_map(rt, alloc, &log, &[1, 2])?;
     if let Err(refused) = put(call, &mut map, make_told(&log, 3), make_told(&log, 13)) {
@@ -65,70 +76,113 @@ fn check<R: Abort + Print>(rt: &R, alloc: Global, call: u32) -> Result<(), Fail>
 }
 
 #[test]
-fn insertions_keep_a_pair_or_give_it_back(rt: HostRuntime) -> Result<(), Fail> {
-    for call in 0..4 {
+fn insertions_keep_a_pair_or_return_it(rt: HostRuntime) -> Result<(), Fail> {
+    for call in [
+        Insertion::Insert,
+        Insertion::InsertFull,
+        Insertion::InsertKey,
+        Insertion::InsertAt,
+    ] {
         check(&rt, rt.alloc(), call)?;
     }
     Ok(())
 }
 
 #[test]
-fn entries_keep_a_pair_or_give_it_back(rt: HostRuntime) -> Result<(), Fail> {
-    for call in 4..8 {
+fn entries_keep_a_pair_or_return_it(rt: HostRuntime) -> Result<(), Fail> {
+    for call in [
+        Insertion::OrInsert,
+        Insertion::OrInsertWith,
+        Insertion::OrInsertWithKey,
+        Insertion::InsertEntry,
+    ] {
         check(&rt, rt.alloc(), call)?;
     }
     Ok(())
+}
+
+#[derive(Clone, Copy)]
+enum ManyPairs {
+    Extend,
+    ExtendPairs,
+    Append,
+    FromIter,
+}
+
+// Inserts the pairs into the map by one call. `FromIter` makes a map of them in its place.
+fn put_many<'a>(
+    call: ManyPairs,
+    alloc: Global,
+    map: &mut Map<'a>,
+    more: Vec<Couple<'a>>,
+) -> Result<(), AllocError> {
+    match call {
+        ManyPairs::Extend => map.extend(more),
+        ManyPairs::ExtendPairs => map.extend_pairs(&more),
+        ManyPairs::Append => map.append(&mut VecMap::from(more)),
+        ManyPairs::FromIter => {
+            *map = VecMap::from_iter(alloc, more)?;
+            Ok(())
+        }
+    }
 }
 
 #[test]
 fn many_pairs_are_kept_or_dropped(rt: HostRuntime) -> Result<(), Fail> {
-    for call in 0..4 {
+    let all = [(1, 11), (2, 12), (3, 13), (4, 14), (5, 15)].as_slice();
+    let made = [(3, 13), (1, 11), (4, 14), (5, 15)].as_slice();
+    for (call, wanted) in [
+        (ManyPairs::Extend, all),
+        (ManyPairs::ExtendPairs, all),
+        (ManyPairs::Append, all),
+        (ManyPairs::FromIter, made),
+    ] {
         let log = Log::new();
         let mut map = told_map(&rt, rt.alloc(), &log, &[1, 2])?;
         let more = told_couples(&rt, rt.alloc(), &log, &[3, 1, 4, 3, 5])?;
-        let put = match call {
-            0 => map.extend(more),
-            1 => {
-                let put = map.extend_pairs(&more);
-                drop(more);
-                put
-            }
-            2 => map.append(&mut VecMap::from(more)),
-            _ => match VecMap::from_iter(rt.alloc(), more) {
-                Ok(made) => {
-                    map = made;
-                    Ok(())
-                }
-                Err(refused) => Err(refused),
-            },
-        };
-        if put.is_err() {
+        if put_many(call, rt.alloc(), &mut map, more).is_err() {
             tell(&rt)?;
+            assert!(rt; log.alive() as usize == map.len().wrapping_mul(2));
+            let more = told_couples(&rt, rt.alloc(), &log, &[3, 1, 4, 3, 5])?;
+            put_many(call, rt.alloc(), &mut map, more)?;
         }
+        assert!(rt; has_told_pairs(map.as_slice(), wanted));
         assert!(rt; log.alive() as usize == map.len().wrapping_mul(2));
     }
     Ok(())
 }
 
+// Returns commands that insert a new pair and one of an existing key, and append a map.
+fn carrying<'a>(
+    alloc: Global,
+    log: &'a Log,
+) -> Result<Vec<MapCommand<Told<'a>, Told<'a>>>, AllocError> {
+    let mut commands = Vec::with_capacity(alloc, 3)?;
+    commands.push(MapCommand::Insert(make_told(log, 3), make_told(log, 13)))?;
+    commands.push(MapCommand::Insert(make_told(log, 1), make_told(log, 10)))?;
+    commands.push(MapCommand::Append(vecmap_fixtures::told_map(alloc, log, &[5, 6])?))?;
+    Ok(commands)
+}
+
 #[test]
-fn a_run_keeps_what_its_commands_carry_or_drops_it(rt: HostRuntime) -> Result<(), Fail> {
+fn a_map_run_keeps_what_its_commands_carry_or_drops_it(rt: HostRuntime) -> Result<(), Fail> {
     let log = Log::new();
     let mut map = told_map(&rt, rt.alloc(), &log, &[1, 2])?;
-    let carried = told_map(&rt, rt.alloc(), &log, &[5, 6])?;
-    let mut commands = make!(rt; Vec::with_capacity(rt.alloc(), 3));
-    commands.push(MapCommand::Insert(make_told(&log, 3), make_told(&log, 13)))?;
-    commands.push(MapCommand::Insert(make_told(&log, 1), make_told(&log, 10)))?;
-    commands.push(MapCommand::Append(carried))?;
+    let commands = make!(rt; carrying(rt.alloc(), &log));
     drop(run(rt.alloc(), &mut map, commands));
     if map.len() < 5 {
         tell(&rt)?;
+        assert!(rt; log.alive() as usize == map.len().wrapping_mul(2));
+        map = told_map(&rt, rt.alloc(), &log, &[1, 2])?;
+        drop(run(rt.alloc(), &mut map, carrying(rt.alloc(), &log)?)?);
     }
-    assert!(rt; log.alive() as usize == map.len().wrapping_mul(2));
+    let all = [(1, 10), (2, 12), (3, 13), (5, 15), (6, 16)];
+    assert!(rt; log.alive() == 10 && has_told_pairs(map.as_slice(), &all));
     Ok(())
 }
 
 #[test]
-fn or_default_keeps_the_key_or_gives_it_back(rt: HostRuntime) -> Result<(), Fail> {
+fn or_default_keeps_the_key_or_returns_it(rt: HostRuntime) -> Result<(), Fail> {
     let log = Log::new();
     let mut map: VecMap<Told<'_>, u32> = VecMap::new(rt.alloc());
     let given = match map.entry(make_told(&log, 1)).or_default() {
@@ -160,7 +214,7 @@ fn put_pair_keeps_a_pair_or_drops_it(rt: HostRuntime) -> Result<(), Fail> {
     Ok(())
 }
 
-// A map of three pairs by the macro, of which two have equal keys.
+// Creates a map of three pairs by the macro. Two of them have equal keys.
 fn three<'a>(alloc: Global, log: &'a Log) -> Result<Map<'a>, AllocError> {
     Ok(vecmap!(
         alloc;
@@ -170,7 +224,7 @@ fn three<'a>(alloc: Global, log: &'a Log) -> Result<Map<'a>, AllocError> {
     ))
 }
 
-// That map, made once more where it is refused.
+// Like `three`. If a request is refused, it tries once more.
 fn three_made<'a, R: Abort + Print>(rt: &R, alloc: Global, log: &'a Log) -> Result<Map<'a>, Fail> {
     match three(alloc, log) {
         Ok(map) => Ok(map),
@@ -183,14 +237,14 @@ fn three_made<'a, R: Abort + Print>(rt: &R, alloc: Global, log: &'a Log) -> Resu
 }
 
 #[test]
-fn the_macro_keeps_its_pairs_or_drops_them(rt: HostRuntime) -> Result<(), Fail> {
+fn vecmap_keeps_its_pairs_or_drops_them(rt: HostRuntime) -> Result<(), Fail> {
     let log = Log::new();
     let map = three_made(&rt, rt.alloc(), &log)?;
     assert!(rt; log.alive() == 4 && has_told_pairs(map.as_slice(), &[(1, 13), (2, 12)]));
     Ok(())
 }
 
-// The pairs, collected into a map.
+// Collects the pairs into a map.
 fn collected<'a>(alloc: Global, couples: Vec<Couple<'a>>) -> Result<Map<'a>, AllocError> {
     couples.into_iter().collect(alloc)
 }
@@ -199,20 +253,22 @@ fn collected<'a>(alloc: Global, couples: Vec<Couple<'a>>) -> Result<Map<'a>, All
 fn collected_pairs_are_kept_or_dropped(rt: HostRuntime) -> Result<(), Fail> {
     let log = Log::new();
     let couples = told_couples(&rt, rt.alloc(), &log, &[3, 1, 4, 3, 5])?;
-    match collected(rt.alloc(), couples) {
-        Ok(map) => {
-            let kept = [(3, 13), (1, 11), (4, 14), (5, 15)];
-            assert!(rt; log.alive() == 8 && has_told_pairs(map.as_slice(), &kept));
-        }
+    let map = match collected(rt.alloc(), couples) {
+        Ok(map) => map,
         Err(AllocError) => {
             tell(&rt)?;
             assert!(rt; log.alive() == 0);
+            let couples = told_couples(&rt, rt.alloc(), &log, &[3, 1, 4, 3, 5])?;
+            collected(rt.alloc(), couples)?
         }
-    }
+    };
+    let kept = [(3, 13), (1, 11), (4, 14), (5, 15)];
+    assert!(rt; log.alive() == 8 && has_told_pairs(map.as_slice(), &kept));
     Ok(())
 }
 
-// Commands that put a key, each of a new one and of one that is there, and one whose place is out of range.
+// Returns commands that insert a pair, each once with a new key and once with an existing one, and one whose index is
+// out of range.
 fn puts<'a>(
     alloc: Global,
     log: &'a Log,
@@ -231,7 +287,7 @@ fn puts<'a>(
 }
 
 #[test]
-fn a_run_keeps_each_pair_that_is_put_or_drops_it(rt: HostRuntime) -> Result<(), Fail> {
+fn a_map_run_keeps_each_inserted_pair_or_drops_it(rt: HostRuntime) -> Result<(), Fail> {
     let log = Log::new();
     let mut map = told_map(&rt, rt.alloc(), &log, &[1, 2])?;
     let commands = make!(rt; puts(rt.alloc(), &log));
@@ -239,15 +295,16 @@ fn a_run_keeps_each_pair_that_is_put_or_drops_it(rt: HostRuntime) -> Result<(), 
     drop(run(rt.alloc(), &mut map, commands));
     if map.len() < 6 {
         tell(&rt)?;
-    } else {
-        let all = [(2, 22), (4, 14), (1, 31), (3, 13), (5, 15), (6, 16)];
-        assert!(rt; has_told_pairs(map.as_slice(), &all));
+        assert!(rt; log.alive() as usize == map.len().wrapping_mul(2));
+        map = told_map(&rt, rt.alloc(), &log, &[1, 2])?;
+        drop(run(rt.alloc(), &mut map, puts(rt.alloc(), &log)?)?);
     }
-    assert!(rt; log.alive() as usize == map.len().wrapping_mul(2));
+    let all = [(2, 22), (4, 14), (1, 31), (3, 13), (5, 15), (6, 16)];
+    assert!(rt; log.alive() == 12 && has_told_pairs(map.as_slice(), &all));
     Ok(())
 }
 
-// Commands that compare a carried map, that look a carried key up, or that take it out, if it is there.
+// Returns commands that compare a carried map, look up a carried key, or remove the pair of one.
 fn takes<'a>(
     alloc: Global,
     log: &'a Log,
@@ -267,7 +324,7 @@ fn takes<'a>(
 }
 
 #[test]
-fn a_run_drops_what_its_commands_carry_to_compare_or_to_take(rt: HostRuntime) -> Result<(), Fail> {
+fn a_map_run_drops_what_its_commands_compare_or_remove_by(rt: HostRuntime) -> Result<(), Fail> {
     let log = Log::new();
     let mut map = told_map(&rt, rt.alloc(), &log, &[1, 2, 3, 4, 5, 6])?;
     let carried = told_map(&rt, rt.alloc(), &log, &[6, 5, 4, 3, 2, 1])?;
@@ -279,18 +336,19 @@ fn a_run_drops_what_its_commands_carry_to_compare_or_to_take(rt: HostRuntime) ->
             takes(rt.alloc(), &log, told_map(&rt, rt.alloc(), &log, &[6])?)?
         }
     };
-    match run(rt.alloc(), &mut map, commands) {
-        Ok(replies) => {
-            // The replies have the clone of a value, two values and two pairs.
-            assert!(rt; log.alive() == 11 && has_told_pairs(map.as_slice(), &[(6, 16), (5, 15)]));
-            drop(replies);
-            assert!(rt; log.alive() == 4);
-        }
+    let replies = match run(rt.alloc(), &mut map, commands) {
+        Ok(replies) => replies,
         Err(AllocError) => {
             tell(&rt)?;
             assert!(rt; log.alive() == 12 && map.len() == 6);
+            let carried = told_map(&rt, rt.alloc(), &log, &[6])?;
+            run(rt.alloc(), &mut map, takes(rt.alloc(), &log, carried)?)?
         }
-    }
+    };
+    // The replies have the clone of a value, two values and two pairs.
+    assert!(rt; log.alive() == 11 && has_told_pairs(map.as_slice(), &[(6, 16), (5, 15)]));
+    drop(replies);
+    assert!(rt; log.alive() == 4);
     Ok(())
 }
 

@@ -7,11 +7,11 @@ use vecmap_fixtures::{Item, has_pairs, make_item};
 
 const FULL: &[(u32, char, u32)] = &[(1, 'a', 10), (2, 'b', 20)];
 
-// What a call answers that puts a pair: the value that it lends, or the pair that comes back.
+// The result of a call that inserts a pair: the value that it lends, or the pair that it returns.
 type Put = Result<u32, (Item, u32)>;
 
-// Refused, the pair comes back, nothing has changed, and the call is made once more with that pair. Granted, the new
-// pair stands last.
+// Checks a call that inserts a pair. If it is refused, it returns the pair and leaves the map unchanged, and is
+// repeated with that pair. If it succeeds, the new pair is the last.
 fn check<R: Abort + Print, F: Fn(&mut VecMap<Item, u32>, Item, u32) -> Put>(
     rt: &R,
     mut map: VecMap<Item, u32>,
@@ -41,7 +41,7 @@ fn or_insert(map: &mut VecMap<Item, u32>, key: Item, value: u32) -> Put {
 }
 
 #[test]
-fn or_insert_gives_the_pair_back(rt: HostRuntime) -> Result<(), Fail> {
+fn or_insert_returns_the_pair(rt: HostRuntime) -> Result<(), Fail> {
     let map = full_map(&rt, rt.alloc(), FULL)?;
     check(&rt, map, or_insert)
 }
@@ -54,7 +54,7 @@ fn or_insert_with(map: &mut VecMap<Item, u32>, key: Item, value: u32) -> Put {
 }
 
 #[test]
-fn or_insert_with_gives_back_what_was_made(rt: HostRuntime) -> Result<(), Fail> {
+fn or_insert_with_returns_the_pair_with_the_made_value(rt: HostRuntime) -> Result<(), Fail> {
     let map = full_map(&rt, rt.alloc(), FULL)?;
     check(&rt, map, or_insert_with)
 }
@@ -70,12 +70,12 @@ fn or_insert_with_key(map: &mut VecMap<Item, u32>, key: Item, _value: u32) -> Pu
 }
 
 #[test]
-fn or_insert_with_key_gives_back_what_was_made(rt: HostRuntime) -> Result<(), Fail> {
+fn or_insert_with_key_returns_the_pair_with_the_made_value(rt: HostRuntime) -> Result<(), Fail> {
     let map = full_map(&rt, rt.alloc(), FULL)?;
     check(&rt, map, or_insert_with_key)
 }
 
-// The default is 0, over which the value is written.
+// The default is 0, and the value is then written over it.
 fn or_default(map: &mut VecMap<Item, u32>, key: Item, value: u32) -> Put {
     match map.entry(key).or_default() {
         Ok(stored) => {
@@ -88,7 +88,7 @@ fn or_default(map: &mut VecMap<Item, u32>, key: Item, value: u32) -> Put {
 }
 
 #[test]
-fn or_default_gives_back_the_default(rt: HostRuntime) -> Result<(), Fail> {
+fn or_default_returns_the_pair_with_the_default(rt: HostRuntime) -> Result<(), Fail> {
     let map = full_map(&rt, rt.alloc(), FULL)?;
     check(&rt, map, or_default)
 }
@@ -104,7 +104,7 @@ fn insert(map: &mut VecMap<Item, u32>, key: Item, value: u32) -> Put {
 }
 
 #[test]
-fn a_vacant_entry_gives_the_pair_back(rt: HostRuntime) -> Result<(), Fail> {
+fn a_vacant_entry_returns_the_pair(rt: HostRuntime) -> Result<(), Fail> {
     let map = full_map(&rt, rt.alloc(), FULL)?;
     check(&rt, map, insert)
 }
@@ -120,7 +120,7 @@ fn insert_vacant(map: &mut VecMap<Item, u32>, key: Item, value: u32) -> Put {
 }
 
 #[test]
-fn insert_entry_of_a_vacant_entry_gives_the_pair_back(rt: HostRuntime) -> Result<(), Fail> {
+fn insert_entry_of_a_vacant_entry_returns_the_pair(rt: HostRuntime) -> Result<(), Fail> {
     let map = full_map(&rt, rt.alloc(), FULL)?;
     check(&rt, map, insert_vacant)
 }
@@ -133,13 +133,13 @@ fn insert_entry(map: &mut VecMap<Item, u32>, key: Item, value: u32) -> Put {
 }
 
 #[test]
-fn insert_entry_gives_the_pair_back(rt: HostRuntime) -> Result<(), Fail> {
+fn insert_entry_returns_the_pair(rt: HostRuntime) -> Result<(), Fail> {
     let map = full_map(&rt, rt.alloc(), FULL)?;
     check(&rt, map, insert_entry)
 }
 
 #[test]
-fn a_clone_without_memory_gives_the_pair_back(rt: HostRuntime) -> Result<(), Fail> {
+fn a_clone_without_memory_returns_the_pair(rt: HostRuntime) -> Result<(), Fail> {
     let mut map = make!(rt; VecMap::with_capacity(rt.alloc(), 1));
     let room = map.capacity();
     let key = make!(rt; String::from_str(rt.alloc(), "key"));

@@ -6,13 +6,13 @@ use vecmap_fixtures::{Item, has_pairs, make_item};
 
 const FULL: &[(u32, char, u32)] = &[(1, 'a', 10), (2, 'b', 20)];
 
-// Whether nothing has changed.
+// Returns whether the map is unchanged.
 fn is_full(map: &VecMap<Item, u32>) -> bool {
     has_pairs(map.as_slice(), FULL) && map.capacity() == 2
 }
 
 #[test]
-fn insert_gives_the_pair_back(rt: HostRuntime) -> Result<(), Fail> {
+fn insert_returns_the_pair(rt: HostRuntime) -> Result<(), Fail> {
     let mut map = full_map(&rt, rt.alloc(), FULL)?;
     let old = match map.insert(make_item(7, 'x'), 70) {
         Ok(old) => old,
@@ -28,7 +28,7 @@ fn insert_gives_the_pair_back(rt: HostRuntime) -> Result<(), Fail> {
 }
 
 #[test]
-fn insert_full_gives_the_pair_back(rt: HostRuntime) -> Result<(), Fail> {
+fn insert_full_returns_the_pair(rt: HostRuntime) -> Result<(), Fail> {
     let mut map = full_map(&rt, rt.alloc(), FULL)?;
     let done = match map.insert_full(make_item(7, 'x'), 70) {
         Ok(done) => done,
@@ -44,7 +44,7 @@ fn insert_full_gives_the_pair_back(rt: HostRuntime) -> Result<(), Fail> {
 }
 
 #[test]
-fn insert_key_gives_the_pair_back(rt: HostRuntime) -> Result<(), Fail> {
+fn insert_key_returns_the_pair(rt: HostRuntime) -> Result<(), Fail> {
     let mut map = full_map(&rt, rt.alloc(), FULL)?;
     let old = match map.insert_key(make_item(7, 'x'), 70) {
         Ok(old) => old,
@@ -60,7 +60,7 @@ fn insert_key_gives_the_pair_back(rt: HostRuntime) -> Result<(), Fail> {
 }
 
 #[test]
-fn insert_at_gives_the_pair_back(rt: HostRuntime) -> Result<(), Fail> {
+fn insert_at_returns_the_pair(rt: HostRuntime) -> Result<(), Fail> {
     let mut map = full_map(&rt, rt.alloc(), FULL)?;
     let old = match map.insert_at(0, make_item(7, 'x'), 70) {
         Ok(old) => old,
@@ -76,7 +76,7 @@ fn insert_at_gives_the_pair_back(rt: HostRuntime) -> Result<(), Fail> {
 }
 
 #[test]
-fn an_equal_key_is_never_refused(rt: HostRuntime) -> Result<(), Fail> {
+fn an_insertion_of_an_equal_key_is_never_refused(rt: HostRuntime) -> Result<(), Fail> {
     let mut map = full_map(&rt, rt.alloc(), FULL)?;
     assert!(rt; matches!(map.insert(make_item(1, 'x'), 1), Ok(Some(10))));
     assert!(rt; matches!(map.insert_full(make_item(1, 'y'), 2), Ok((0, Some(1)))));

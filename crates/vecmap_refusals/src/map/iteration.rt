@@ -1,10 +1,10 @@
-//! Clones of the iterators that own what they give.
+//! Clones of the iterators that own their items.
 use crate::telling::{make, text_map};
 use std::test::Fail;
 
 const TEXTS: &[(&str, &str)] = &[("c", "3"), ("b", "2"), ("a", "1")];
 
-// Whether this text was given.
+// Returns whether the iterator returned this text.
 fn is_text(given: Option<String>, wanted: &str) -> bool {
     match given {
         Some(text) => text.as_str() == wanted,
@@ -12,7 +12,7 @@ fn is_text(given: Option<String>, wanted: &str) -> bool {
     }
 }
 
-// Whether this pair of texts was given.
+// Returns whether the iterator returned this pair of texts.
 fn is_pair(given: Option<(String, String)>, wanted: (&str, &str)) -> bool {
     match given {
         Some(pair) => (pair.0.as_str(), pair.1.as_str()) == wanted,

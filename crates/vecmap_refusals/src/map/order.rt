@@ -1,14 +1,14 @@
-//! Stable sorts of a map. A refused one leaves the map as it was.
+//! Stable sorts of a map. A refused sort leaves the map unchanged.
 use crate::telling::{make, tell};
 use std::alloc::{AllocError, Global};
 use std::test::Fail;
 use vecmap::VecMap;
 use vecmap_fixtures::{has_pairs, repeating_map};
 
-// More pairs than a stable sort takes on without memory.
+// More pairs than a stable sort sorts without allocating.
 const COUNT: u32 = 100;
 
-// The pairs (0, 10), (1, 11) and so on.
+// Creates a map of the pairs (0, 10), (1, 11) and so on.
 fn numbers(alloc: Global, count: u32) -> Result<VecMap<u32, u32>, AllocError> {
     let mut map = VecMap::new(alloc);
     for number in 0..count {
@@ -17,7 +17,7 @@ fn numbers(alloc: Global, count: u32) -> Result<VecMap<u32, u32>, AllocError> {
     Ok(map)
 }
 
-// Whether the map holds these pairs, as they were made or turned round.
+// Returns whether the map holds these pairs, in their first order or reversed.
 fn holds(map: &VecMap<u32, u32>, turned: bool) -> bool {
     for (place, pair) in (0..COUNT).zip(map.as_slice()) {
         let number = if turned {
@@ -33,7 +33,7 @@ fn holds(map: &VecMap<u32, u32>, turned: bool) -> bool {
 }
 
 #[test]
-fn sort_by_sorts_or_leaves_the_list(rt: HostRuntime) -> Result<(), Fail> {
+fn sort_by_sorts_a_map_or_leaves_it(rt: HostRuntime) -> Result<(), Fail> {
     let mut map = make!(rt; numbers(rt.alloc(), COUNT));
     let room = map.capacity();
     if map.sort_by(|a, b| b.1.cmp(a.1)).is_err() {
@@ -46,7 +46,7 @@ fn sort_by_sorts_or_leaves_the_list(rt: HostRuntime) -> Result<(), Fail> {
 }
 
 #[test]
-fn sort_keys_sorts_or_leaves_the_list(rt: HostRuntime) -> Result<(), Fail> {
+fn sort_keys_sorts_a_map_or_leaves_it(rt: HostRuntime) -> Result<(), Fail> {
     let mut map = make!(rt; numbers(rt.alloc(), COUNT));
     let room = map.capacity();
     map.reverse();
@@ -60,7 +60,7 @@ fn sort_keys_sorts_or_leaves_the_list(rt: HostRuntime) -> Result<(), Fail> {
 }
 
 #[test]
-fn sort_by_cached_key_sorts_or_leaves_the_list(rt: HostRuntime) -> Result<(), Fail> {
+fn sort_by_cached_key_sorts_a_map_or_leaves_it(rt: HostRuntime) -> Result<(), Fail> {
     let mut map = make!(rt; numbers(rt.alloc(), COUNT));
     let room = map.capacity();
     map.reverse();
@@ -74,7 +74,7 @@ fn sort_by_cached_key_sorts_or_leaves_the_list(rt: HostRuntime) -> Result<(), Fa
 }
 
 #[test]
-fn short_lists_are_never_refused(rt: HostRuntime) -> Result<(), Fail> {
+fn sorts_of_a_short_map_are_never_refused(rt: HostRuntime) -> Result<(), Fail> {
     let mut map = make!(rt; numbers(rt.alloc(), 20));
     assert!(rt; map.sort_keys().is_ok());
     assert!(rt; map.sort_by(|a, b| b.1.cmp(a.1)).is_ok());
@@ -85,7 +85,8 @@ fn short_lists_are_never_refused(rt: HostRuntime) -> Result<(), Fail> {
     Ok(())
 }
 
-// As many pairs, with each key there twice: all with the mark 'a' before all with the mark 'b', and each run falling.
+// Returns as many pairs, with each key twice: all with the mark 'a' before all with the mark 'b', and both with
+// descending keys.
 fn mixed(alloc: Global) -> Result<Vec<(u32, char, u32)>, AllocError> {
     let mut pairs = Vec::with_capacity(alloc, 100)?;
     for mark in ['a', 'b'] {
@@ -96,7 +97,7 @@ fn mixed(alloc: Global) -> Result<Vec<(u32, char, u32)>, AllocError> {
     Ok(pairs)
 }
 
-// The same pairs in the order of their keys, and equal keys in their old order.
+// Returns the same pairs in the order of their keys, with equal keys in their old order.
 fn sorted(alloc: Global) -> Result<Vec<(u32, char, u32)>, AllocError> {
     let mut pairs = Vec::with_capacity(alloc, 100)?;
     for number in 0..50u32 {

@@ -7,7 +7,7 @@ use vecmap_fixtures::{has_pairs, repeating_map};
 const FULL: &[(u32, char, u32)] = &[(1, 'a', 10), (2, 'b', 20), (3, 'c', 30)];
 
 #[test]
-fn split_off_moves_all_or_nothing(rt: HostRuntime) -> Result<(), Fail> {
+fn split_off_of_a_map_moves_all_or_nothing(rt: HostRuntime) -> Result<(), Fail> {
     let mut map = full_map(&rt, rt.alloc(), FULL)?;
     assert!(rt; 1 <= map.len());
     let part = match map.split_off(1) {
@@ -27,7 +27,7 @@ fn split_off_moves_all_or_nothing(rt: HostRuntime) -> Result<(), Fail> {
 }
 
 #[test]
-fn split_off_parts_equal_keys_or_leaves_them(rt: HostRuntime) -> Result<(), Fail> {
+fn split_off_separates_equal_keys_or_leaves_them(rt: HostRuntime) -> Result<(), Fail> {
     let repeats = [(1, 'a', 10), (2, 'b', 20), (1, 'c', 30), (2, 'd', 40)];
     let mut map = make!(rt; repeating_map(rt.alloc(), &repeats));
     let room = map.capacity();

@@ -1,4 +1,4 @@
-//! Room for a map.
+//! Capacity of a map.
 use crate::telling::{full_map, make, tell};
 use std::test::Fail;
 use vecmap::VecMap;
@@ -7,29 +7,42 @@ use vecmap_fixtures::{has_pairs, make_item};
 const FULL: &[(u32, char, u32)] = &[(1, 'a', 10), (2, 'b', 20)];
 
 #[test]
-fn with_capacity_makes_all_the_room_or_nothing(rt: HostRuntime) -> Result<(), Fail> {
+fn with_capacity_makes_a_map_of_that_capacity_or_none(rt: HostRuntime) -> Result<(), Fail> {
     let map: VecMap<u32, u32> = make!(rt; VecMap::with_capacity(rt.alloc(), 3));
     assert!(rt; map.is_empty() && 3 <= map.capacity());
     Ok(())
 }
 
+#[derive(Clone, Copy, Debug)]
+enum Reserving {
+    Reserve,
+    ReserveExact,
+    TryReserve,
+    TryReserveExact,
+}
+
 #[test]
-fn the_reserving_calls_leave_all_as_before(rt: HostRuntime) -> Result<(), Fail> {
-    for call in 0..4 {
+fn the_reserving_calls_leave_a_map_as_before(rt: HostRuntime) -> Result<(), Fail> {
+    for call in [
+        Reserving::Reserve,
+        Reserving::ReserveExact,
+        Reserving::TryReserve,
+        Reserving::TryReserveExact,
+    ] {
         let mut map = full_map(&rt, rt.alloc(), FULL)?;
         for is_again in [false, true] {
             let granted = match call {
-                0 => map.reserve(2).is_ok(),
-                1 => map.reserve_exact(2).is_ok(),
-                2 => map.try_reserve(2).is_ok(),
-                _ => map.try_reserve_exact(2).is_ok(),
+                Reserving::Reserve => map.reserve(2).is_ok(),
+                Reserving::ReserveExact => map.reserve_exact(2).is_ok(),
+                Reserving::TryReserve => map.try_reserve(2).is_ok(),
+                Reserving::TryReserveExact => map.try_reserve_exact(2).is_ok(),
             };
-            assert!(rt; has_pairs(map.as_slice(), FULL), "call {call}");
+            assert!(rt; has_pairs(map.as_slice(), FULL), "{call:?}");
             if granted {
-                assert!(rt; 4 <= map.capacity(), "call {call}");
+                assert!(rt; 4 <= map.capacity(), "{call:?}");
             } else {
                 tell(&rt)?;
-                assert!(rt; !is_again && map.capacity() == 2, "call {call}");
+                assert!(rt; !is_again && map.capacity() == 2, "{call:?}");
             }
         }
     }
@@ -37,7 +50,7 @@ fn the_reserving_calls_leave_all_as_before(rt: HostRuntime) -> Result<(), Fail> 
 }
 
 #[test]
-fn shrinking_without_memory_keeps_the_list(rt: HostRuntime) -> Result<(), Fail> {
+fn shrinking_without_memory_keeps_a_map(rt: HostRuntime) -> Result<(), Fail> {
     let mut map = full_map(&rt, rt.alloc(), FULL)?;
     if map.reserve_exact(8).is_err() {
         tell(&rt)?;
@@ -61,7 +74,7 @@ fn shrinking_without_memory_keeps_the_list(rt: HostRuntime) -> Result<(), Fail> 
 }
 
 #[test]
-fn reserved_room_takes_inserts_without_memory(rt: HostRuntime) -> Result<(), Fail> {
+fn reserved_capacity_of_a_map_takes_insertions_without_memory(rt: HostRuntime) -> Result<(), Fail> {
     let mut map = VecMap::new(rt.alloc());
     if map.reserve(3).is_err() {
         tell(&rt)?;

@@ -1,4 +1,4 @@
-//! The traits `Clone` and `Extend` of maps, with requests that are refused.
+//! The traits `Clone` and `Extend` of maps, if a request is refused.
 use crate::telling::{full_map, make, tell, text_map};
 use std::alloc::AllocError;
 use std::test::Fail;
@@ -12,7 +12,7 @@ fn copy_of<C: Clone>(original: &C) -> Result<C, AllocError> {
 }
 
 #[test]
-fn clone_by_the_trait_leaves_the_source(rt: HostRuntime) -> Result<(), Fail> {
+fn clone_of_a_map_by_the_trait_leaves_the_source(rt: HostRuntime) -> Result<(), Fail> {
     let map = text_map(&rt, rt.alloc(), TEXTS)?;
     let room = map.capacity();
     let copy = make!(rt; copy_of(&map));
@@ -22,7 +22,9 @@ fn clone_by_the_trait_leaves_the_source(rt: HostRuntime) -> Result<(), Fail> {
 }
 
 #[test]
-fn extend_by_the_trait_puts_the_pairs_before_the_refused_one(rt: HostRuntime) -> Result<(), Fail> {
+fn extend_by_the_trait_inserts_the_pairs_before_the_refused_one(
+    rt: HostRuntime,
+) -> Result<(), Fail> {
     let mut map = full_map(&rt, rt.alloc(), &[(1, 'a', 10)])?;
     let more = || [(make_item(1, 'z'), 11), (make_item(2, 'b'), 20)];
     if Extend::extend(&mut map, more()).is_err() {

@@ -1,4 +1,4 @@
-//! Runs of commands.
+//! Runs of commands on a map.
 use crate::telling::{full_map, make, tell, text_map};
 use std::alloc::{AllocError, Global};
 use std::test::Fail;
@@ -15,7 +15,7 @@ fn commands(alloc: Global) -> Result<Vec<MapCommand<Item, u32>>, AllocError> {
     Ok(commands)
 }
 
-// Whether all commands are answered and done.
+// Returns whether all commands were executed, with the right replies.
 fn has_all(replies: &[MapReply<Item, u32>], map: &VecMap<Item, u32>) -> bool {
     matches!(
         replies,
@@ -27,7 +27,7 @@ fn has_all(replies: &[MapReply<Item, u32>], map: &VecMap<Item, u32>) -> bool {
     ) && has_pairs(map.as_slice(), &[(1, 'a', 30), (2, 'b', 20), (7, 'x', 70)])
 }
 
-// Whether the first command is refused, and the others are answered and done.
+// Returns whether the first command was refused and the others were executed, with the right replies.
 fn has_all_but_the_first(replies: &[MapReply<Item, u32>], map: &VecMap<Item, u32>) -> bool {
     matches!(
         replies,
@@ -41,7 +41,7 @@ fn has_all_but_the_first(replies: &[MapReply<Item, u32>], map: &VecMap<Item, u32
 }
 
 #[test]
-fn a_run_goes_on_after_a_refused_command(rt: HostRuntime) -> Result<(), Fail> {
+fn a_map_run_goes_on_after_a_refused_command(rt: HostRuntime) -> Result<(), Fail> {
     let mut is_refused = false;
     for _ in 0..2 {
         let mut map = full_map(&rt, rt.alloc(), FULL)?;
@@ -73,7 +73,9 @@ fn to_vec(alloc: Global) -> Result<Vec<MapCommand<String, String>>, AllocError> 
 }
 
 #[test]
-fn a_get_whose_clone_is_refused_answers_no_memory(rt: HostRuntime) -> Result<(), Fail> {
+fn a_get_of_a_map_whose_clone_is_refused_replies_out_of_memory(
+    rt: HostRuntime,
+) -> Result<(), Fail> {
     let mut map = text_map(&rt, rt.alloc(), TEXTS)?;
     let mut is_refused = false;
     for _ in 0..2 {
@@ -92,7 +94,9 @@ fn a_get_whose_clone_is_refused_answers_no_memory(rt: HostRuntime) -> Result<(),
 }
 
 #[test]
-fn a_list_whose_clone_is_refused_answers_no_memory(rt: HostRuntime) -> Result<(), Fail> {
+fn a_list_of_a_map_whose_clones_are_refused_replies_out_of_memory(
+    rt: HostRuntime,
+) -> Result<(), Fail> {
     let mut map = text_map(&rt, rt.alloc(), TEXTS)?;
     let mut is_refused = false;
     for _ in 0..2 {
@@ -110,7 +114,7 @@ fn a_list_whose_clone_is_refused_answers_no_memory(rt: HostRuntime) -> Result<()
     Ok(())
 }
 
-// One command on a full map: it is done, or refused with nothing changed and then done.
+// One command on a full map: it is executed, or it is refused, leaves the map unchanged, and is then executed.
 macro_rules! refused_then_done {
     ($rt:ident; $command:expr, $reply:pat => $left:expr $(, $is_wanted:expr)?) => {{
         let mut is_refused = false;
@@ -139,37 +143,39 @@ macro_rules! refused_then_done {
 const ONE_MORE: &[(u32, char, u32)] = &[(1, 'a', 10), (2, 'b', 20), (7, 'x', 70)];
 
 #[test]
-fn a_refused_insert_full_answers_no_memory(rt: HostRuntime) -> Result<(), Fail> {
+fn a_refused_insert_full_replies_out_of_memory(rt: HostRuntime) -> Result<(), Fail> {
     refused_then_done!(rt; MapCommand::InsertFull(make_item(7, 'x'), 70), MapReply::Full(2, None) => ONE_MORE)
 }
 
 #[test]
-fn a_refused_insert_at_answers_no_memory(rt: HostRuntime) -> Result<(), Fail> {
+fn a_refused_insert_at_replies_out_of_memory(rt: HostRuntime) -> Result<(), Fail> {
     refused_then_done!(rt; MapCommand::InsertAt(2, make_item(7, 'x'), 70), MapReply::Moved(None) => ONE_MORE)
 }
 
 #[test]
-fn a_refused_insert_key_answers_no_memory(rt: HostRuntime) -> Result<(), Fail> {
+fn a_refused_insert_key_replies_out_of_memory(rt: HostRuntime) -> Result<(), Fail> {
     refused_then_done!(rt; MapCommand::InsertKey(make_item(7, 'x'), 70), MapReply::Pair(None) => ONE_MORE)
 }
 
 #[test]
-fn a_refused_or_insert_answers_no_memory(rt: HostRuntime) -> Result<(), Fail> {
+fn a_refused_or_insert_replies_out_of_memory(rt: HostRuntime) -> Result<(), Fail> {
     refused_then_done!(rt; MapCommand::OrInsert(make_item(7, 'x'), 70), MapReply::Kept(2, true) => ONE_MORE)
 }
 
 #[test]
-fn a_refused_append_answers_no_memory(rt: HostRuntime) -> Result<(), Fail> {
+fn a_refused_append_to_a_map_replies_out_of_memory(rt: HostRuntime) -> Result<(), Fail> {
     refused_then_done!(rt; MapCommand::Append(make!(rt; item_map(rt.alloc(), &[(1, 'z', 30), (7, 'x', 70)]))), MapReply::Done => &[(1, 'a', 30), (2, 'b', 20), (7, 'x', 70)])
 }
 
 #[test]
-fn a_refused_split_answers_no_memory(rt: HostRuntime) -> Result<(), Fail> {
+fn a_refused_split_of_a_map_replies_out_of_memory(rt: HostRuntime) -> Result<(), Fail> {
     refused_then_done!(rt; MapCommand::SplitOff(1), MapReply::Rest(part) => &[(1, 'a', 10)], has_pairs(part.as_slice(), &[(2, 'b', 20)]))
 }
 
 #[test]
-fn a_split_of_equal_keys_parts_them_or_answers_no_memory(rt: HostRuntime) -> Result<(), Fail> {
+fn a_split_of_equal_keys_separates_them_or_replies_out_of_memory(
+    rt: HostRuntime,
+) -> Result<(), Fail> {
     let repeats = [(1, 'a', 10), (1, 'b', 20)];
     let mut map = make!(rt; repeating_map(rt.alloc(), &repeats));
     let mut is_refused = false;
@@ -191,7 +197,7 @@ fn a_split_of_equal_keys_parts_them_or_answers_no_memory(rt: HostRuntime) -> Res
     Ok(())
 }
 
-// Commands that put a key that is there, and need no memory.
+// Returns commands that insert an existing key, for which the map does not allocate.
 fn equal_keys(alloc: Global) -> Result<Vec<MapCommand<Item, u32>>, AllocError> {
     let mut commands = Vec::with_capacity(alloc, 5)?;
     commands.push(MapCommand::Insert(make_item(1, 'z'), 30))?;
@@ -202,7 +208,7 @@ fn equal_keys(alloc: Global) -> Result<Vec<MapCommand<Item, u32>>, AllocError> {
     Ok(commands)
 }
 
-// Whether all of them are answered and done.
+// Returns whether all of them were executed, with the right replies.
 fn has_equal_keys(replies: &[MapReply<Item, u32>], map: &VecMap<Item, u32>) -> bool {
     match replies {
         [
@@ -216,9 +222,9 @@ fn has_equal_keys(replies: &[MapReply<Item, u32>], map: &VecMap<Item, u32>) -> b
     }
 }
 
-// The replies alone need memory, and without it no command is run.
+// Only the replies allocate. If that is refused, no command is executed.
 #[test]
-fn an_equal_key_is_never_refused(rt: HostRuntime) -> Result<(), Fail> {
+fn a_command_with_an_equal_key_is_never_refused(rt: HostRuntime) -> Result<(), Fail> {
     let mut map = full_map(&rt, rt.alloc(), FULL)?;
     assert!(rt; map.len() == map.capacity());
     let mut is_refused = false;
@@ -237,7 +243,7 @@ fn an_equal_key_is_never_refused(rt: HostRuntime) -> Result<(), Fail> {
     Ok(())
 }
 
-// A command that clones a pair is done, or refused with nothing changed and then done.
+// A command that clones a pair: it is executed, or it is refused, leaves the map unchanged, and is then executed.
 macro_rules! pair_or_refused {
     ($rt:ident; $command:expr, $wanted:expr) => {{
         let mut map = text_map(&$rt, $rt.alloc(), TEXTS)?;
@@ -263,16 +269,22 @@ macro_rules! pair_or_refused {
 }
 
 #[test]
-fn a_first_whose_clone_is_refused_answers_no_memory(rt: HostRuntime) -> Result<(), Fail> {
+fn a_first_of_a_map_whose_clone_is_refused_replies_out_of_memory(
+    rt: HostRuntime,
+) -> Result<(), Fail> {
     pair_or_refused!(rt; MapCommand::First, ("b", "2"))
 }
 
 #[test]
-fn a_last_whose_clone_is_refused_answers_no_memory(rt: HostRuntime) -> Result<(), Fail> {
+fn a_last_of_a_map_whose_clone_is_refused_replies_out_of_memory(
+    rt: HostRuntime,
+) -> Result<(), Fail> {
     pair_or_refused!(rt; MapCommand::Last, ("a", "1"))
 }
 
 #[test]
-fn a_place_whose_clone_is_refused_answers_no_memory(rt: HostRuntime) -> Result<(), Fail> {
+fn an_index_of_a_map_whose_clone_is_refused_replies_out_of_memory(
+    rt: HostRuntime,
+) -> Result<(), Fail> {
     pair_or_refused!(rt; MapCommand::GetIndex(1), ("a", "1"))
 }

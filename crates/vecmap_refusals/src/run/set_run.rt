@@ -11,10 +11,10 @@ const FULL: &[(u32, char)] = &[(1, 'a'), (2, 'b')];
 
 const ONE_MORE: &[(u32, char)] = &[(1, 'a'), (2, 'b'), (7, 'x')];
 
-// An element that is equal to one that is there, and not identical, and a new one.
+// An element that is equal to an existing one but not identical, and a new one.
 const CARRIED: &[(u32, char)] = &[(1, 'z'), (7, 'x')];
 
-// One command on a full set: it is done, or refused with nothing changed and then done.
+// One command on a full set: it is executed, or it is refused, leaves the set unchanged, and is then executed.
 macro_rules! refused_then_done {
     ($rt:ident; $command:expr, $reply:pat => $left:expr $(, $is_wanted:expr)?) => {{
         let mut is_refused = false;
@@ -41,22 +41,22 @@ macro_rules! refused_then_done {
 }
 
 #[test]
-fn a_refused_insert_answers_no_memory(rt: HostRuntime) -> Result<(), Fail> {
+fn a_refused_insert_replies_out_of_memory(rt: HostRuntime) -> Result<(), Fail> {
     refused_then_done!(rt; SetCommand::Insert(make_item(7, 'x')), SetReply::Truth(true) => ONE_MORE)
 }
 
 #[test]
-fn a_refused_replace_answers_no_memory(rt: HostRuntime) -> Result<(), Fail> {
+fn a_refused_replace_replies_out_of_memory(rt: HostRuntime) -> Result<(), Fail> {
     refused_then_done!(rt; SetCommand::Replace(make_item(7, 'x')), SetReply::Item(None) => ONE_MORE)
 }
 
 #[test]
-fn a_refused_append_answers_no_memory(rt: HostRuntime) -> Result<(), Fail> {
+fn a_refused_append_to_a_set_replies_out_of_memory(rt: HostRuntime) -> Result<(), Fail> {
     refused_then_done!(rt; SetCommand::Append(make!(rt; item_set(rt.alloc(), CARRIED))), SetReply::Done => ONE_MORE)
 }
 
 #[test]
-fn a_refused_split_answers_no_memory(rt: HostRuntime) -> Result<(), Fail> {
+fn a_refused_split_of_a_set_replies_out_of_memory(rt: HostRuntime) -> Result<(), Fail> {
     refused_then_done!(rt; SetCommand::SplitOff(1), SetReply::Made(part) => &[(1, 'a')], has_items(part.as_slice(), &[(2, 'b')]))
 }
 
@@ -80,9 +80,9 @@ fn of_two_equal_elements_minus_has_neither(rt: HostRuntime) -> Result<(), Fail> 
     refused_then_done!(rt; SetCommand::Subtract(make!(rt; item_set(rt.alloc(), CARRIED))), SetReply::Made(made) => FULL, has_items(made.as_slice(), &[(2, 'b')]))
 }
 
-// The replies alone need memory, and without it no command is run.
+// Only the replies allocate. If that is refused, no command is executed.
 #[test]
-fn an_equal_element_is_never_refused(rt: HostRuntime) -> Result<(), Fail> {
+fn a_command_with_an_equal_element_is_never_refused(rt: HostRuntime) -> Result<(), Fail> {
     let mut set = full_set(&rt, rt.alloc(), FULL)?;
     assert!(rt; set.len() == set.capacity());
     let mut is_refused = false;
@@ -107,24 +107,7 @@ fn an_equal_element_is_never_refused(rt: HostRuntime) -> Result<(), Fail> {
 
 const TEXTS: &[&str] = &["b", "a"];
 
-// One command that clones texts.
-fn cloning(alloc: Global, number: u32) -> Result<Vec<SetCommand<String>>, AllocError> {
-    let mut commands = Vec::with_capacity(alloc, 1)?;
-    commands.push(match number {
-        0 => SetCommand::Get(String::from_str(alloc, "a")?),
-        1 => SetCommand::GetIndex(1),
-        2 => SetCommand::First,
-        3 => SetCommand::Last,
-        4 => SetCommand::ToVec,
-        5 => SetCommand::Intersect(vecmap_fixtures::text_set(alloc, &["a"])?),
-        6 => SetCommand::Unite(vecmap_fixtures::text_set(alloc, &["c"])?),
-        7 => SetCommand::Exclusive(vecmap_fixtures::text_set(alloc, &["a"])?),
-        _ => SetCommand::Subtract(vecmap_fixtures::text_set(alloc, &["b"])?),
-    })?;
-    Ok(commands)
-}
-
-// The texts of a reply, if it has any.
+// Returns the texts of a reply, if it has any.
 fn texts_of(reply: &SetReply<String>) -> Option<&[String]> {
     match reply {
         SetReply::Item(Some(text)) => Some(slice::from_ref(text)),
@@ -134,28 +117,33 @@ fn texts_of(reply: &SetReply<String>) -> Option<&[String]> {
     }
 }
 
-// The reply to one command that clones texts.
+// Returns the reply to one command.
 fn reply_to(
     alloc: Global,
     set: &mut VecSet<String>,
-    number: u32,
+    command: SetCommand<String>,
 ) -> Result<SetReply<String>, AllocError> {
-    run_set(alloc, set, cloning(alloc, number)?)?
-        .pop()
-        .ok_or(AllocError)
+    let mut commands = Vec::with_capacity(alloc, 1)?;
+    commands.push(command)?;
+    run_set(alloc, set, commands)?.pop().ok_or(AllocError)
 }
 
-// A command that clones texts is done, or refused with nothing changed and then done.
-fn check<R: Abort + Print>(
+// Checks a command that clones texts: it is executed, or it is refused, leaves the set unchanged, and is then executed.
+fn check<R: Abort + Print, F: Fn(Global) -> Result<SetCommand<String>, AllocError>>(
     rt: &R,
     alloc: Global,
-    number: u32,
+    command: F,
     wanted: &[&str],
-) -> Result<(), Fail> {
+) -> Result<(), Fail>
+    requires { F.IsAlwaysCallable command }
+{
     let mut set = text_set(rt, alloc, TEXTS)?;
     let mut is_refused = false;
     for _ in 0..2 {
-        let reply = reply_to(alloc, &mut set, number).unwrap_or(SetReply::NoMemory);
+        let reply = match command(alloc) {
+            Ok(command) => reply_to(alloc, &mut set, command).unwrap_or(SetReply::NoMemory),
+            Err(AllocError) => SetReply::NoMemory,
+        };
         assert!(rt; has_texts(set.as_slice(), TEXTS));
         if let Some(texts) = texts_of(&reply) {
             assert!(rt; has_texts(texts, wanted));
@@ -169,46 +157,86 @@ fn check<R: Abort + Print>(
 }
 
 #[test]
-fn a_get_whose_clone_is_refused_answers_no_memory(rt: HostRuntime) -> Result<(), Fail> {
-    check(&rt, rt.alloc(), 0, &["a"])
+fn a_get_of_a_set_whose_clone_is_refused_replies_out_of_memory(
+    rt: HostRuntime,
+) -> Result<(), Fail> {
+    check(
+        &rt,
+        rt.alloc(),
+        |alloc| Ok(SetCommand::Get(String::from_str(alloc, "a")?)),
+        &["a"],
+    )
 }
 
 #[test]
-fn a_place_whose_clone_is_refused_answers_no_memory(rt: HostRuntime) -> Result<(), Fail> {
-    check(&rt, rt.alloc(), 1, &["a"])
+fn an_index_of_a_set_whose_clone_is_refused_replies_out_of_memory(
+    rt: HostRuntime,
+) -> Result<(), Fail> {
+    check(
+        &rt,
+        rt.alloc(),
+        |_alloc| Ok(SetCommand::GetIndex(1)),
+        &["a"],
+    )
 }
 
 #[test]
-fn a_first_whose_clone_is_refused_answers_no_memory(rt: HostRuntime) -> Result<(), Fail> {
-    check(&rt, rt.alloc(), 2, &["b"])
+fn a_first_of_a_set_whose_clone_is_refused_replies_out_of_memory(
+    rt: HostRuntime,
+) -> Result<(), Fail> {
+    check(&rt, rt.alloc(), |_alloc| Ok(SetCommand::First), &["b"])
 }
 
 #[test]
-fn a_last_whose_clone_is_refused_answers_no_memory(rt: HostRuntime) -> Result<(), Fail> {
-    check(&rt, rt.alloc(), 3, &["a"])
+fn a_last_of_a_set_whose_clone_is_refused_replies_out_of_memory(
+    rt: HostRuntime,
+) -> Result<(), Fail> {
+    check(&rt, rt.alloc(), |_alloc| Ok(SetCommand::Last), &["a"])
 }
 
 #[test]
-fn a_list_whose_clones_are_refused_answers_no_memory(rt: HostRuntime) -> Result<(), Fail> {
-    check(&rt, rt.alloc(), 4, &["b", "a"])
+fn a_list_of_a_set_whose_clones_are_refused_replies_out_of_memory(
+    rt: HostRuntime,
+) -> Result<(), Fail> {
+    check(&rt, rt.alloc(), |_alloc| Ok(SetCommand::ToVec), &["b", "a"])
 }
 
 #[test]
-fn an_intersection_that_is_refused_answers_no_memory(rt: HostRuntime) -> Result<(), Fail> {
-    check(&rt, rt.alloc(), 5, &["a"])
+fn a_refused_intersection_replies_out_of_memory(rt: HostRuntime) -> Result<(), Fail> {
+    check(
+        &rt,
+        rt.alloc(),
+        |alloc| Ok(SetCommand::Intersect(vecmap_fixtures::text_set(alloc, &["a"])?)),
+        &["a"],
+    )
 }
 
 #[test]
-fn a_union_that_is_refused_answers_no_memory(rt: HostRuntime) -> Result<(), Fail> {
-    check(&rt, rt.alloc(), 6, &["b", "a", "c"])
+fn a_refused_union_replies_out_of_memory(rt: HostRuntime) -> Result<(), Fail> {
+    check(
+        &rt,
+        rt.alloc(),
+        |alloc| Ok(SetCommand::Unite(vecmap_fixtures::text_set(alloc, &["c"])?)),
+        &["b", "a", "c"],
+    )
 }
 
 #[test]
-fn a_symmetric_difference_that_is_refused_answers_no_memory(rt: HostRuntime) -> Result<(), Fail> {
-    check(&rt, rt.alloc(), 7, &["b"])
+fn a_refused_symmetric_difference_replies_out_of_memory(rt: HostRuntime) -> Result<(), Fail> {
+    check(
+        &rt,
+        rt.alloc(),
+        |alloc| Ok(SetCommand::Exclusive(vecmap_fixtures::text_set(alloc, &["a"])?)),
+        &["b"],
+    )
 }
 
 #[test]
-fn a_difference_that_is_refused_answers_no_memory(rt: HostRuntime) -> Result<(), Fail> {
-    check(&rt, rt.alloc(), 8, &["a"])
+fn a_refused_difference_replies_out_of_memory(rt: HostRuntime) -> Result<(), Fail> {
+    check(
+        &rt,
+        rt.alloc(),
+        |alloc| Ok(SetCommand::Subtract(vecmap_fixtures::text_set(alloc, &["b"])?)),
+        &["a"],
+    )
 }

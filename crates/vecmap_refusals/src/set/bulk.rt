@@ -1,4 +1,4 @@
-//! Many elements at once, added to a set that is full.
+//! Many elements at once, inserted into a set that is full.
 use crate::telling::{full_set, make, tell};
 use std::test::Fail;
 use vecmap::VecSet;
@@ -30,7 +30,7 @@ const EXTENDED: &[(u32, char)] = &[
     (11, 'u'),
 ];
 
-// Whether the elements before the refused one are added and no others: the set is full.
+// Returns whether exactly the elements before the refused one are inserted: the set is full.
 fn has_all_that_fit(set: &VecSet<Item>) -> bool {
     FULL.len() <= set.len()
         && set.len() < EXTENDED.len()
@@ -43,7 +43,7 @@ fn has_all_that_fit(set: &VecSet<Item>) -> bool {
 }
 
 #[test]
-fn append_moves_all_or_nothing(rt: HostRuntime) -> Result<(), Fail> {
+fn append_to_a_set_moves_all_or_nothing(rt: HostRuntime) -> Result<(), Fail> {
     let added = [(1, 'z'), (7, 'p'), (8, 'q')];
     let mut set = full_set(&rt, rt.alloc(), FULL)?;
     let mut other = full_set(&rt, rt.alloc(), &added)?;
@@ -92,7 +92,7 @@ fn extend_copied_adds_the_elements_before_the_refused_one(rt: HostRuntime) -> Re
 }
 
 #[test]
-fn making_of_many_elements_makes_all_or_nothing(rt: HostRuntime) -> Result<(), Fail> {
+fn a_set_of_many_elements_has_all_of_them_or_is_refused(rt: HostRuntime) -> Result<(), Fail> {
     let items = more();
     let all = [
         (1, 'z'),

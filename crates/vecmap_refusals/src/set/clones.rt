@@ -1,4 +1,4 @@
-//! Clones of elements that need memory of their own.
+//! Clones of elements that allocate.
 use crate::telling::{make, text_set};
 use std::test::Fail;
 use vecmap::VecSet;
@@ -7,7 +7,7 @@ use vecmap_fixtures::has_texts;
 const TEXTS: &[&str] = &["b", "a"];
 
 #[test]
-fn clone_leaves_the_source(rt: HostRuntime) -> Result<(), Fail> {
+fn clone_of_a_set_leaves_the_source(rt: HostRuntime) -> Result<(), Fail> {
     let set = text_set(&rt, rt.alloc(), TEXTS)?;
     let room = set.capacity();
     let copy = make!(rt; set.clone());
@@ -17,7 +17,7 @@ fn clone_leaves_the_source(rt: HostRuntime) -> Result<(), Fail> {
 }
 
 #[test]
-fn to_vec_leaves_the_source(rt: HostRuntime) -> Result<(), Fail> {
+fn to_vec_of_a_set_leaves_the_source(rt: HostRuntime) -> Result<(), Fail> {
     let set = text_set(&rt, rt.alloc(), TEXTS)?;
     let room = set.capacity();
     let copies = make!(rt; set.to_vec());
@@ -27,7 +27,7 @@ fn to_vec_leaves_the_source(rt: HostRuntime) -> Result<(), Fail> {
 }
 
 #[test]
-fn from_slice_leaves_the_source(rt: HostRuntime) -> Result<(), Fail> {
+fn from_slice_of_a_set_leaves_the_source(rt: HostRuntime) -> Result<(), Fail> {
     let set = text_set(&rt, rt.alloc(), TEXTS)?;
     let copy = make!(rt; VecSet::from_slice(rt.alloc(), set.as_slice()));
     assert!(rt; has_texts(copy.as_slice(), TEXTS));

@@ -6,7 +6,7 @@ use vecmap_fixtures::{has_items, make_item};
 const FULL: &[(u32, char)] = &[(1, 'a'), (2, 'b')];
 
 #[test]
-fn insert_gives_the_element_back(rt: HostRuntime) -> Result<(), Fail> {
+fn insert_returns_the_element(rt: HostRuntime) -> Result<(), Fail> {
     let mut set = full_set(&rt, rt.alloc(), FULL)?;
     assert!(rt; matches!(set.insert(make_item(2, 'z')), Ok(false)));
     let added = match set.insert(make_item(7, 'x')) {
@@ -22,7 +22,7 @@ fn insert_gives_the_element_back(rt: HostRuntime) -> Result<(), Fail> {
 }
 
 #[test]
-fn replace_gives_the_element_back(rt: HostRuntime) -> Result<(), Fail> {
+fn replace_returns_the_element(rt: HostRuntime) -> Result<(), Fail> {
     let mut set = full_set(&rt, rt.alloc(), FULL)?;
     assert!(rt; matches!(set.replace(make_item(2, 'z')), Ok(Some(_))));
     let old = match set.replace(make_item(7, 'x')) {

@@ -1,9 +1,9 @@
-//! Clones of the iterator that owns what it gives.
+//! Clones of the iterator that owns its items.
 use crate::telling::{make, text_set};
 use std::test::Fail;
 
 #[test]
-fn a_clone_leaves_the_original(rt: HostRuntime) -> Result<(), Fail> {
+fn a_clone_of_elements_leaves_the_original(rt: HostRuntime) -> Result<(), Fail> {
     let set = text_set(&rt, rt.alloc(), &["c", "b", "a"])?;
     let mut elements = set.into_iter();
     assert!(rt; elements.next().is_some());

@@ -1,4 +1,4 @@
-//! Operators on sets whose elements need memory of their own, and on sets whose equal elements are not identical.
+//! Operators on sets whose elements allocate, and on sets whose equal elements are not identical.
 use crate::telling::{full_set, make, tell, text_set};
 use std::alloc::AllocError;
 use std::test::Fail;
@@ -9,7 +9,7 @@ const LEFT: &[&str] = &["c", "b", "a"];
 
 const RIGHT: &[&str] = &["b", "d"];
 
-// Whether both operands are as they were.
+// Returns whether both operands are unchanged.
 fn are_left(a: &VecSet<String>, b: &VecSet<String>) -> bool {
     has_texts(a.as_slice(), LEFT) && has_texts(b.as_slice(), RIGHT)
 }
@@ -78,13 +78,25 @@ fn minus_leaves_both(rt: HostRuntime) -> Result<(), Fail> {
     Ok(())
 }
 
-// What an operator makes of two sets with equal elements that are not identical, by its number.
-fn operate(number: u32, a: &VecSet<Item>, b: &VecSet<Item>) -> Result<VecSet<Item>, AllocError> {
-    match number {
-        0 => a & b,
-        1 => a | b,
-        2 => a ^ b,
-        _ => a - b,
+#[derive(Clone, Copy, Debug)]
+enum Operator {
+    And,
+    Or,
+    Xor,
+    Minus,
+}
+
+// Applies an operator to two sets with equal elements that are not identical.
+fn operate(
+    operator: Operator,
+    a: &VecSet<Item>,
+    b: &VecSet<Item>,
+) -> Result<VecSet<Item>, AllocError> {
+    match operator {
+        Operator::And => a & b,
+        Operator::Or => a | b,
+        Operator::Xor => a ^ b,
+        Operator::Minus => a - b,
     }
 }
 
@@ -93,16 +105,19 @@ fn of_two_equal_elements_the_left_one_is_made(rt: HostRuntime) -> Result<(), Fai
     let (left, right) = ([(3, 'c'), (2, 'b'), (1, 'a')], [(2, 'z'), (4, 'd')]);
     let a = full_set(&rt, rt.alloc(), &left)?;
     let b = full_set(&rt, rt.alloc(), &right)?;
-    for (number, wanted) in [
-        (0, [(2, 'b')].as_slice()),
-        (1, [(3, 'c'), (2, 'b'), (1, 'a'), (4, 'd')].as_slice()),
-        (2, [(3, 'c'), (1, 'a'), (4, 'd')].as_slice()),
-        (3, [(3, 'c'), (1, 'a')].as_slice()),
+    for (operator, wanted) in [
+        (Operator::And, [(2, 'b')].as_slice()),
+        (
+            Operator::Or,
+            [(3, 'c'), (2, 'b'), (1, 'a'), (4, 'd')].as_slice(),
+        ),
+        (Operator::Xor, [(3, 'c'), (1, 'a'), (4, 'd')].as_slice()),
+        (Operator::Minus, [(3, 'c'), (1, 'a')].as_slice()),
     ] {
-        let made = make!(rt; operate(number, &a, &b));
-        assert!(rt; has_items(made.as_slice(), wanted), "operator {number}");
-        assert!(rt; has_items(a.as_slice(), &left), "operator {number}");
-        assert!(rt; has_items(b.as_slice(), &right), "operator {number}");
+        let made = make!(rt; operate(operator, &a, &b));
+        assert!(rt; has_items(made.as_slice(), wanted), "{operator:?}");
+        assert!(rt; has_items(a.as_slice(), &left), "{operator:?}");
+        assert!(rt; has_items(b.as_slice(), &right), "{operator:?}");
     }
     Ok(())
 }

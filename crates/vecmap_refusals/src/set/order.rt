@@ -1,14 +1,14 @@
-//! Stable sorts of a set. A refused one leaves the set as it was.
+//! Stable sorts of a set. A refused sort leaves the set unchanged.
 use crate::telling::{make, tell};
 use std::alloc::{AllocError, Global};
 use std::test::Fail;
 use vecmap::VecSet;
 use vecmap_fixtures::{has_items, item_set, make_item};
 
-// More elements than a stable sort takes on without memory.
+// More elements than a stable sort sorts without allocating.
 const COUNT: u32 = 100;
 
-// The elements 0, 1 and so on.
+// Creates a set of the elements 0, 1 and so on.
 fn numbers(alloc: Global, count: u32) -> Result<VecSet<u32>, AllocError> {
     let mut set = VecSet::new(alloc);
     for number in 0..count {
@@ -17,7 +17,7 @@ fn numbers(alloc: Global, count: u32) -> Result<VecSet<u32>, AllocError> {
     Ok(set)
 }
 
-// Whether the set holds these elements, as they were made or turned round.
+// Returns whether the set holds these elements, in their first order or reversed.
 fn holds(set: &VecSet<u32>, turned: bool) -> bool {
     for (place, item) in (0..COUNT).zip(set.as_slice()) {
         let number = if turned {
@@ -33,7 +33,7 @@ fn holds(set: &VecSet<u32>, turned: bool) -> bool {
 }
 
 #[test]
-fn sort_by_sorts_or_leaves_the_list(rt: HostRuntime) -> Result<(), Fail> {
+fn sort_by_sorts_a_set_or_leaves_it(rt: HostRuntime) -> Result<(), Fail> {
     let mut set = make!(rt; numbers(rt.alloc(), COUNT));
     let room = set.capacity();
     if set.sort_by(|a, b| b.cmp(a)).is_err() {
@@ -46,7 +46,7 @@ fn sort_by_sorts_or_leaves_the_list(rt: HostRuntime) -> Result<(), Fail> {
 }
 
 #[test]
-fn sort_sorts_or_leaves_the_list(rt: HostRuntime) -> Result<(), Fail> {
+fn sort_sorts_a_set_or_leaves_it(rt: HostRuntime) -> Result<(), Fail> {
     let mut set = make!(rt; numbers(rt.alloc(), COUNT));
     let room = set.capacity();
     set.reverse();
@@ -60,7 +60,7 @@ fn sort_sorts_or_leaves_the_list(rt: HostRuntime) -> Result<(), Fail> {
 }
 
 #[test]
-fn sort_by_cached_key_sorts_or_leaves_the_list(rt: HostRuntime) -> Result<(), Fail> {
+fn sort_by_cached_key_sorts_a_set_or_leaves_it(rt: HostRuntime) -> Result<(), Fail> {
     let mut set = make!(rt; numbers(rt.alloc(), COUNT));
     let room = set.capacity();
     set.reverse();
@@ -74,7 +74,7 @@ fn sort_by_cached_key_sorts_or_leaves_the_list(rt: HostRuntime) -> Result<(), Fa
 }
 
 #[test]
-fn short_lists_are_never_refused(rt: HostRuntime) -> Result<(), Fail> {
+fn sorts_of_a_short_set_are_never_refused(rt: HostRuntime) -> Result<(), Fail> {
     let mut set = make!(rt; numbers(rt.alloc(), 20));
     assert!(rt; set.sort().is_ok());
     assert!(rt; set.sort_by(|a, b| b.cmp(a)).is_ok());
@@ -85,7 +85,7 @@ fn short_lists_are_never_refused(rt: HostRuntime) -> Result<(), Fail> {
     Ok(())
 }
 
-// As many elements: the even numbers with the mark 'a', and then the odd ones with the mark 'b'.
+// Returns as many elements: the even numbers with the mark 'a', and then the odd ones with the mark 'b'.
 fn mixed(alloc: Global) -> Result<Vec<(u32, char)>, AllocError> {
     let mut items = Vec::with_capacity(alloc, 100)?;
     for (mark, odd) in [('a', 0u32), ('b', 1)] {
@@ -96,7 +96,7 @@ fn mixed(alloc: Global) -> Result<Vec<(u32, char)>, AllocError> {
     Ok(items)
 }
 
-// The same elements in the order of their numbers.
+// Returns the same elements in the order of their numbers.
 fn sorted(alloc: Global) -> Result<Vec<(u32, char)>, AllocError> {
     let mut items = Vec::with_capacity(alloc, 100)?;
     for half in 0..50u32 {

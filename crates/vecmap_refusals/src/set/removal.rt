@@ -7,7 +7,7 @@ use vecmap_fixtures::{has_items, make_item};
 const FULL: &[(u32, char)] = &[(1, 'a'), (2, 'b'), (3, 'c')];
 
 #[test]
-fn split_off_moves_all_or_nothing(rt: HostRuntime) -> Result<(), Fail> {
+fn split_off_of_a_set_moves_all_or_nothing(rt: HostRuntime) -> Result<(), Fail> {
     let mut set = full_set(&rt, rt.alloc(), FULL)?;
     assert!(rt; 1 <= set.len());
     let part = match set.split_off(1) {
@@ -38,7 +38,7 @@ fn split_off_moves_the_stored_ones_of_equal_elements(rt: HostRuntime) -> Result<
             set.split_off(1)?
         }
     };
-    // An equal element is there in the part alone.
+    // Only the second part has an equal element.
     assert!(rt; matches!(part.insert(make_item(2, 'y')), Ok(false)));
     assert!(rt; has_items(part.as_slice(), &[(2, 'b'), (3, 'c')]));
     assert!(rt; matches!(set.insert(make_item(2, 'x')), Ok(true)));

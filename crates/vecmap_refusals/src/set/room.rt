@@ -1,4 +1,4 @@
-//! Room for a set.
+//! Capacity of a set.
 use crate::telling::{full_set, make, tell};
 use std::test::Fail;
 use vecmap::VecSet;
@@ -7,29 +7,42 @@ use vecmap_fixtures::{has_items, make_item};
 const FULL: &[(u32, char)] = &[(1, 'a'), (2, 'b')];
 
 #[test]
-fn with_capacity_makes_all_the_room_or_nothing(rt: HostRuntime) -> Result<(), Fail> {
+fn with_capacity_makes_a_set_of_that_capacity_or_none(rt: HostRuntime) -> Result<(), Fail> {
     let set: VecSet<u32> = make!(rt; VecSet::with_capacity(rt.alloc(), 3));
     assert!(rt; set.is_empty() && 3 <= set.capacity());
     Ok(())
 }
 
+#[derive(Clone, Copy, Debug)]
+enum Reserving {
+    Reserve,
+    ReserveExact,
+    TryReserve,
+    TryReserveExact,
+}
+
 #[test]
-fn the_reserving_calls_leave_all_as_before(rt: HostRuntime) -> Result<(), Fail> {
-    for call in 0..4 {
+fn the_reserving_calls_leave_a_set_as_before(rt: HostRuntime) -> Result<(), Fail> {
+    for call in [
+        Reserving::Reserve,
+        Reserving::ReserveExact,
+        Reserving::TryReserve,
+        Reserving::TryReserveExact,
+    ] {
         let mut set = full_set(&rt, rt.alloc(), FULL)?;
         for is_again in [false, true] {
             let granted = match call {
-                0 => set.reserve(2).is_ok(),
-                1 => set.reserve_exact(2).is_ok(),
-                2 => set.try_reserve(2).is_ok(),
-                _ => set.try_reserve_exact(2).is_ok(),
+                Reserving::Reserve => set.reserve(2).is_ok(),
+                Reserving::ReserveExact => set.reserve_exact(2).is_ok(),
+                Reserving::TryReserve => set.try_reserve(2).is_ok(),
+                Reserving::TryReserveExact => set.try_reserve_exact(2).is_ok(),
             };
-            assert!(rt; has_items(set.as_slice(), FULL), "call {call}");
+            assert!(rt; has_items(set.as_slice(), FULL), "{call:?}");
             if granted {
-                assert!(rt; 4 <= set.capacity(), "call {call}");
+                assert!(rt; 4 <= set.capacity(), "{call:?}");
             } else {
                 tell(&rt)?;
-                assert!(rt; !is_again && set.capacity() == 2, "call {call}");
+                assert!(rt; !is_again && set.capacity() == 2, "{call:?}");
             }
         }
     }
@@ -37,7 +50,7 @@ fn the_reserving_calls_leave_all_as_before(rt: HostRuntime) -> Result<(), Fail> 
 }
 
 #[test]
-fn shrinking_without_memory_keeps_the_list(rt: HostRuntime) -> Result<(), Fail> {
+fn shrinking_without_memory_keeps_a_set(rt: HostRuntime) -> Result<(), Fail> {
     let mut set = full_set(&rt, rt.alloc(), FULL)?;
     if set.reserve_exact(8).is_err() {
         tell(&rt)?;
@@ -61,7 +74,7 @@ fn shrinking_without_memory_keeps_the_list(rt: HostRuntime) -> Result<(), Fail> 
 }
 
 #[test]
-fn reserved_room_takes_inserts_without_memory(rt: HostRuntime) -> Result<(), Fail> {
+fn reserved_capacity_of_a_set_takes_insertions_without_memory(rt: HostRuntime) -> Result<(), Fail> {
     let mut set = VecSet::new(rt.alloc());
     if set.reserve(3).is_err() {
         tell(&rt)?;

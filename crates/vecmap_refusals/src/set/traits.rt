@@ -1,4 +1,4 @@
-//! The traits `Clone` and `Extend` of sets, with requests that are refused.
+//! The traits `Clone` and `Extend` of sets, if a request is refused.
 use crate::telling::{full_set, make, tell, text_set};
 use std::alloc::AllocError;
 use std::test::Fail;
@@ -11,7 +11,7 @@ fn copy_of<C: Clone>(original: &C) -> Result<C, AllocError> {
 }
 
 #[test]
-fn clone_by_the_trait_leaves_the_source(rt: HostRuntime) -> Result<(), Fail> {
+fn clone_of_a_set_by_the_trait_leaves_the_source(rt: HostRuntime) -> Result<(), Fail> {
     let set = text_set(&rt, rt.alloc(), TEXTS)?;
     let room = set.capacity();
     let copy = make!(rt; copy_of(&set));

@@ -1,11 +1,11 @@
 //! Whole runs, over readers and writers in memory.
-use super::{Fault, serve};
+use super::{ServeError, serve};
 use std::alloc::Global;
 use std::io;
 use std::io::{Error, ErrorKind, Read, Write};
 use std::test::Fail;
 
-/// What is written for an input that is there whole.
+/// Returns the text that is written if the whole input is available at once.
 fn served(alloc: Global, input: &[u8]) -> Result<String, Fail> {
     let mut reader = input;
     let mut written = Vec::new(alloc);
@@ -13,7 +13,7 @@ fn served(alloc: Global, input: &[u8]) -> Result<String, Fail> {
     Ok(String::from_utf8(written)?)
 }
 
-/// Gives its bytes, at most so many at a time, and then ends, or fails.
+/// Supplies its bytes, at most so many at a time, and then ends or fails.
 #[derive(Drop)]
 struct FakeReader<'a> {
     rest: &'a [u8],
@@ -154,7 +154,7 @@ fn reads_numbers(rt: HostRuntime) -> Result<(), Fail> {
 }
 
 #[test]
-fn faults_where_no_command_is_said(rt: HostRuntime) -> Result<(), Fail> {
+fn reports_a_line_that_is_no_command(rt: HostRuntime) -> Result<(), Fail> {
     let lines = [
         "",
         " ",
@@ -276,7 +276,7 @@ fn takes_the_last_line_without_its_end(rt: HostRuntime) -> Result<(), Fail> {
 }
 
 #[test]
-fn prints_a_list_past_its_buffer(rt: HostRuntime) -> Result<(), Fail> {
+fn prints_a_list_longer_than_its_buffer(rt: HostRuntime) -> Result<(), Fail> {
     let mut input = String::new(rt.alloc());
     let mut output = String::new(rt.alloc());
     let mut list = String::new(rt.alloc());
@@ -308,20 +308,20 @@ fn reads_in_any_pieces(rt: HostRuntime) -> Result<(), Fail> {
 }
 
 #[test]
-fn stops_where_a_read_fails(rt: HostRuntime) -> Result<(), Fail> {
+fn stops_if_a_read_fails(rt: HostRuntime) -> Result<(), Fail> {
     let runs = [("", ""), ("len", ""), ("insert a 1\nget", "none\n")];
     for (input, output) in runs {
         let mut reader = FakeReader::new(input.as_bytes());
         reader.failure = Some(ErrorKind::Other);
         let mut writer = FakeWriter::new(rt.alloc(), usize::MAX);
-        assert!(rt; serve(rt.alloc(), &mut reader, &mut writer) == Err(Fault::Reading));
+        assert!(rt; serve(rt.alloc(), &mut reader, &mut writer) == Err(ServeError::Reading));
         assert!(rt; writer.text() == output, "at {input:?}");
     }
     Ok(())
 }
 
 #[test]
-fn stops_where_a_write_fails(rt: HostRuntime) -> Result<(), Fail> {
+fn stops_if_a_write_fails(rt: HostRuntime) -> Result<(), Fail> {
     let runs = [
         (0, ""),
         (2, "no"),
@@ -332,15 +332,16 @@ fn stops_where_a_write_fails(rt: HostRuntime) -> Result<(), Fail> {
     for (room, output) in runs {
         let mut reader = FakeReader::new(b"insert a 1\ninsert a 2\nlist\n");
         let mut writer = FakeWriter::new(rt.alloc(), room);
-        assert!(rt; serve(rt.alloc(), &mut reader, &mut writer) == Err(Fault::Writing));
+        assert!(rt; serve(rt.alloc(), &mut reader, &mut writer) == Err(ServeError::Writing));
         assert!(rt; writer.text() == output, "at {room}");
         assert!(rt; reader.reads == 1, "at {room}");
     }
     Ok(())
 }
 
-// Where `rt try --test --fail-alloc N` refuses a request of this test, which is told, that is for a key's text, or for
-// room for the first key or for the fifth. No second request is refused, so the next run has all answers.
+// `rt try --test --fail-alloc N` refuses one request of this test: for the text of a key, or for the capacity for the
+// first or the fifth pair. The test prints that it was refused. No second request is refused, so the next run has all
+// answers.
 #[test]
 fn goes_on_after_a_refused_request_for_memory(rt: HostRuntime) -> Result<(), Fail> {
     let input =
@@ -371,8 +372,8 @@ fn goes_on_after_a_refused_request_for_memory(rt: HostRuntime) -> Result<(), Fai
     Ok(())
 }
 
-// The writer is an array, so there are two requests: for the key's text, and for the map to grow. Each prints the same
-// if it is refused.
+// The writer is an array, so there are two requests: for the text of the key, and for the capacity of the map. The
+// program prints the same text, whichever of them is refused.
 #[test]
 fn prints_memory_after_a_refused_request(rt: HostRuntime) -> Result<(), Fail> {
     for is_first in [true, false] {

@@ -1,44 +1,57 @@
-//! Laws of what additions and removals leave, for elements, places and lengths.
+//! Laws about additions and removals: which elements are left, their indices, and the length.
 ghost use Rattle.std.specs.Prelude.{◌≡◌, ◌+◌, ◌++◌, ◌<◌, ◌∷◌, ℕ, List, Some, [], false, if◌then◌else◌, length, slice_get, true, unwrap_or};
 ghost use Rattle.std.specs.List.{IsDistinct};
 ghost use Rattle.vecmap_base.specs.Items.{add, add_new, adds, has_item, item_index, without_item};
 
-/// Elements that are equal have one place.
+/// Elements that are equal have the same index.
 pub fn equal_elements_have_one_place<T: Eq>()
     ensures { (s : List T) (x y : T) → T.eq x y ≡ true → item_index T.eq s x ≡ item_index T.eq s y }
 {}
 
-/// Where no two elements are equal, each is found at its own place.
+/// If no two elements are equal, each is found at its own index.
 pub fn stored_elements_are_found<T: Eq>()
-    ensures { (s : List T) → IsDistinct T.eq s → (i : ℕ) (x : T) → slice_get s i ≡ Some x → item_index T.eq s x ≡ Some i }
+    ensures { (s : List T) → IsDistinct T.eq s → (i : ℕ) (x : T) → slice_get s i ≡ Some x
+        → item_index T.eq s x ≡ Some i }
 {}
 
-/// An addition moves nothing: what is added stands where its equal stood, or last, and all others where they stood. Of
-/// an element whose equal is there it changes nothing, and a new one goes last.
+/// An addition moves no element.
+///
+/// An added element has the index of the existing element that is equal to it, or the last index. All other elements
+/// keep their indices. If an equal element is present, the addition changes nothing; otherwise the new element is
+/// appended.
 pub fn additions_move_nothing<T: Eq>()
-    ensures place { (s : List T) (x y : T) → item_index T.eq (add T.eq s x) y ≡ (if T.eq x y then Some (unwrap_or (item_index T.eq s x) (length s)) else item_index T.eq s y) }
-    ensures element { (s : List T) (x : T) (i : ℕ) → i < length s → slice_get (add T.eq s x) i ≡ slice_get s i }
+    ensures place { (s : List T) (x y : T)
+        → item_index T.eq (add T.eq s x) y
+        ≡ (if T.eq x y then Some
+        (unwrap_or (item_index T.eq s x) (length s)) else item_index T.eq s y) }
+    ensures element { (s : List T) (x : T) (i : ℕ) → i < length s
+        → slice_get (add T.eq s x) i ≡ slice_get s i }
     ensures there { (s : List T) (x : T) → has_item T.eq s x ≡ true → add T.eq s x ≡ s }
     ensures last { (s : List T) (x : T) → has_item T.eq s x ≡ false → add T.eq s x ≡ s ++ x ∷ [] }
 {}
 
-/// Many additions at once are as many single ones, in turn. Distinct elements, added to an empty set, are its list.
+/// Adding many elements is the same as adding each of them in order. Distinct elements that are added to an empty set
+/// are its list.
 pub fn bulk_additions_are_single_ones<T: Eq>()
-    ensures one { (s : List T) (x : T) (xs : List T) → adds T.eq s (x ∷ xs) ≡ adds T.eq (add T.eq s x) xs }
+    ensures one { (s : List T) (x : T) (xs : List T)
+        → adds T.eq s (x ∷ xs) ≡ adds T.eq (add T.eq s x) xs }
     ensures more { (s xs ys : List T) → adds T.eq s (xs ++ ys) ≡ adds T.eq (adds T.eq s xs) ys }
     ensures distinct { (xs : List T) → IsDistinct T.eq xs → adds T.eq [] xs ≡ xs }
 {}
 
-/// In the empty list no two elements are equal. Where none are, none are after additions, also where the new element is
-/// taken in.
+/// No two elements of the empty list are equal. If no two elements are equal, none are after additions, nor after
+/// replacements.
 pub fn additions_keep_elements_distinct<T: Eq>()
     ensures empty { IsDistinct T.eq [] }
     ensures add { (s : List T) → IsDistinct T.eq s → (x : T) → IsDistinct T.eq (add T.eq s x) }
-    ensures adds { (s : List T) → IsDistinct T.eq s → (xs : List T) → IsDistinct T.eq (adds T.eq s xs) }
-    ensures replace { (s : List T) → IsDistinct T.eq s → (x : T) → IsDistinct T.eq (add_new T.eq s x) }
+    ensures adds { (s : List T) → IsDistinct T.eq s → (xs : List T)
+        → IsDistinct T.eq (adds T.eq s xs) }
+    ensures replace { (s : List T) → IsDistinct T.eq s → (x : T)
+        → IsDistinct T.eq (add_new T.eq s x) }
 {}
 
-/// After a removal from distinct elements none that is left is equal to the one that went.
+/// After a removal from distinct elements, no element that is left is equal to the removed one.
 pub fn removals_are_forgotten<T: Eq>()
-    ensures { (s : List T) → IsDistinct T.eq s → (x : T) → has_item T.eq (without_item T.eq s x) x ≡ false }
+    ensures { (s : List T) → IsDistinct T.eq s → (x : T)
+        → has_item T.eq (without_item T.eq s x) x ≡ false }
 {}

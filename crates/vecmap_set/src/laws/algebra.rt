@@ -1,20 +1,23 @@
-//! Laws of unions, intersections and differences, and of the lazy iterators over them.
+//! Laws about unions, intersections and differences, and about the lazy iterators over them.
 ghost use Rattle.std.specs.Prelude.{◌≡◌, ◌↔◌, List, []};
 ghost use Rattle.vecmap_base.specs.Items.{both, has_item, only};
 ghost use Rattle.vecmap_set.specs.Algebra.{AgreeAsSets, IgnoresSides, LengthsAddUp, MakesSets};
 ghost use Rattle.vecmap_set.specs.Lazy.{JoinsFirst, JoinsLast, PairsFirst, PairsLast, PullsAsList, SiftsFirst, SiftsLast, joined, lacks_item, paired, sifted};
 ghost use Rattle.vecmap_set.specs.Operators.{lazy_intersection, lazy_union, symmetric_difference_of, union_of};
 
-/// Any mixture of pulls from both ends of a lazy iterator answers what its list gives: each element once, from the front
-/// in order, from the back in reverse, and then none.
+/// Any mixture of pulls from both ends of a lazy iterator returns the same as pulls from its list.
+///
+/// Each element comes once: in order from the front, in reverse order from the back. Then each pull returns `None`.
 pub fn lazy_iterators_pull_as_lists<T: Eq>()
-    ensures difference { PullsAsList (sifted (lacks_item T.eq)) (SiftsFirst (lacks_item T.eq)) (SiftsLast (lacks_item T.eq)) }
-    ensures intersection { PullsAsList (sifted (has_item T.eq)) (SiftsFirst (has_item T.eq)) (SiftsLast (has_item T.eq)) }
+    ensures difference { PullsAsList (sifted (lacks_item T.eq)) (SiftsFirst (lacks_item T.eq))
+        (SiftsLast (lacks_item T.eq)) }
+    ensures intersection { PullsAsList (sifted (has_item T.eq)) (SiftsFirst (has_item T.eq))
+        (SiftsLast (has_item T.eq)) }
     ensures symmetric_difference { PullsAsList (paired T.eq) (PairsFirst T.eq) (PairsLast T.eq) }
     ensures union { PullsAsList (joined T.eq) (JoinsFirst T.eq) (JoinsLast T.eq) }
 {}
 
-/// No two elements that a lazy iterator over two sets gives are equal.
+/// No two elements that a lazy iterator over two sets yields are equal.
 pub fn lazy_iterators_give_no_repeats<T: Eq>()
     ensures difference { MakesSets T.eq only }
     ensures intersection { MakesSets T.eq lazy_intersection }
@@ -22,26 +25,28 @@ pub fn lazy_iterators_give_no_repeats<T: Eq>()
     ensures union { MakesSets T.eq lazy_union }
 {}
 
-/// What `intersection` and `union` give is equal, as a set, to what `&` and `|` make. What `difference` gives is the
-/// list that `-` clones, and what `symmetric_difference` gives is the one that `^` clones.
+/// `intersection` and `union` yield sets that are equal to what `&` and `|` create.
+///
+/// The list that `difference` yields is the one that `-` clones, and the list that `symmetric_difference` yields is the
+/// one that `^` clones.
 pub fn lazy_iterators_agree_with_operators<T: Eq>()
     ensures intersection { AgreeAsSets T.eq lazy_intersection both }
     ensures union { AgreeAsSets T.eq lazy_union union_of }
 {}
 
-/// The lengths of intersection and union add up to those of the two sets.
+/// The lengths of the intersection and the union add up to those of the two sets.
 pub fn lengths_of_intersection_and_union_add_up<T: Eq>()
     ensures lazily { LengthsAddUp T.eq lazy_intersection lazy_union }
     ensures by_operators { LengthsAddUp T.eq both union_of }
 {}
 
-/// Two sets share nothing exactly where `intersection` gives nothing.
+/// Two sets are disjoint exactly if `intersection` yields nothing.
 pub fn disjoint_sets_have_no_intersection<T: Eq>()
     ensures { (a b : List T) → (both T.eq a b ≡ []) ↔ (lazy_intersection T.eq a b ≡ []) }
 {}
 
-/// Intersection, union and symmetric difference are equal sets whichever of two sets comes first, also where the lazy
-/// iterators give them.
+/// Intersection, union and symmetric difference are equal sets whichever of the two sets comes first. This also holds
+/// of what the lazy iterators yield.
 pub fn algebra_is_symmetric<T: Eq>()
     ensures and { IgnoresSides T.eq both }
     ensures or { IgnoresSides T.eq union_of }

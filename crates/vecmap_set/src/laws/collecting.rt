@@ -1,4 +1,4 @@
-//! The law of what is collected and then extended.
+//! The law about a set that is collected and then extended.
 ghost use Rattle.std.specs.Iterator.Runs.{CollectsByExtend};
 ghost use Rattle.std.specs.List.{IsDistinct};
 ghost use Rattle.std.specs.Prelude.{◌≡◌, ◌≤◌, []};
@@ -6,8 +6,12 @@ ghost use Rattle.vecmap_base.specs.Items.{adds};
 ghost use Rattle.vecmap_set.specs.Contents.{Contents};
 ghost use Rattle.vecmap_set.specs.SetBulk.{Adds};
 
-/// What was collected, extended by one more element, is collected from the longer list. The clauses of `try_collect`,
-/// `partition` and `unzip` ask this of the collection.
+/// A collected set, extended by one more element, is the set that is collected from the longer list.
+///
+/// The clauses of `try_collect`, `partition` and `unzip` require this of the collection.
 pub fn collecting_one_more_is_extending<T: Eq>()
-    ensures { CollectsByExtend {A = T} {B = Contents T} (λ items set. (set.elements ≡ adds T.eq [] items) × IsDistinct T.eq set.elements) (λ old items new. Adds T.eq old items new × IsDistinct T.eq new.elements × (old.capacity ≤ new.capacity)) }
+    ensures { CollectsByExtend {A = T} {B = Contents T}
+        (λ items set. (set.elements ≡ adds T.eq [] items) × IsDistinct T.eq set.elements)
+        (λ old items new. Adds T.eq old items new × IsDistinct T.eq new.elements
+        × (old.capacity ≤ new.capacity)) }
 {}

@@ -1,4 +1,4 @@
-//! The elements of one set that another lacks.
+//! An iterator over the elements of one set that another lacks.
 ghost use Rattle.std.specs.Prelude.{◌≡◌, ◌<◌, ◌^◌, IfSome, length};
 ghost use Rattle.std.specs.Iterator.{UpTo, at_most};
 ghost use Rattle.std.specs.Iterator.SizeHint.{IsWithinCount};
@@ -9,10 +9,16 @@ use std::iter::FusedIterator;
 use std::marker::Model;
 use std::{fmt, slice};
 
-/// The elements of one set that another lacks, in the order of the first. [`VecSet::difference`] makes one.
+/// An iterator over the elements of one set that another lacks, in order. [`VecSet::difference`] creates one.
 ///
-/// Each pull looks up, in the other set, the elements of the first one up to the next that is not there, and makes no
-/// other comparison. A contract sees the elements that are not yet walked, and those of the other set.
+/// A contract sees the elements of the first set that are not yet visited, and the elements of the other set.
+///
+/// # Complexity
+///
+/// Each pull looks up elements of the first set in the other, up to the next one that is not found. It makes no other
+/// comparisons.
+///
+/// # Examples
 ///
 /// ```
 /// let set = vecset!(alloc; 1, 2, 3);
@@ -35,7 +41,7 @@ impl<'a, T: Eq> Model for Difference<'a, T> {
 }
 
 impl<'a, T: Eq> Difference<'a, T> {
-    // The elements of `items` that `other` lacks.
+    // Creates an iterator over the elements of `items` that `other` lacks.
     #[tactic(auto, using(crate::proofs::LazyLemmas::length_filter))]
     pub(crate) fn over(items: &'a [T], other: &'a [T]) -> Difference<'a, T>
         ensures rest { result ≡ sift_of items.now other.now }
@@ -49,7 +55,9 @@ impl<'a, T: Eq> Difference<'a, T> {
         }
     }
 
-    /// An iterator over what this one has left. It takes no memory and always succeeds.
+    /// Returns an iterator over the same remaining elements. It always succeeds, and does not allocate.
+    ///
+    /// # Examples
     ///
     /// ```
     /// let set = vecset!(alloc; 1, 2, 3);
@@ -80,11 +88,13 @@ impl<'a, T: Eq> Iterator for Difference<'a, T> {
         sift_front(&mut self.items, self.other, false)
     }
 
-    /// None at least, and at most as many as are not yet walked.
+    /// Returns 0 and the number of elements that are not yet visited.
     #[tactic(auto, using(crate::proofs::LazyLemmas::length_filter))]
     fn size_hint(&self) -> (usize, Option<usize>)
-        ensures lower { IsWithinCount result.0 (at_most (length (sifted (lacks_item T.eq) self.now))) }
-        ensures upper { IfSome result.1 (UpTo (at_most (length (sifted (lacks_item T.eq) self.now)))) }
+        ensures lower { IsWithinCount result.0
+            (at_most (length (sifted (lacks_item T.eq) self.now))) }
+        ensures upper { IfSome result.1
+            (UpTo (at_most (length (sifted (lacks_item T.eq) self.now)))) }
         ensures hint { result ≡ (0, Some (length self.now.unwalked)) }
     {
         (0, Some(self.items.len()))
@@ -101,7 +111,7 @@ impl<'a, T: Eq> DoubleEndedIterator for Difference<'a, T> {
 
 impl<T: Eq> FusedIterator for Difference<'_, T> {}
 
-/// Prints as std prints a list, `[element, ..]`, what is left.
+/// Prints the remaining elements in order, as std prints lists: `[element, ..]`.
 impl<T: Eq + fmt::Debug> fmt::Debug for Difference<'_, T> {
     fn fmt<W: fmt::Write>(&self, f: &mut fmt::Formatter<W>) -> fmt::Result {
         f.debug_list().entries(self.clone()).finish()

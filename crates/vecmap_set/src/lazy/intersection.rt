@@ -1,4 +1,4 @@
-//! The elements of one set that another has.
+//! An iterator over the elements of one set that another has.
 ghost use Rattle.std.specs.Prelude.{◌≡◌, ◌<◌, ◌^◌, IfSome, length};
 ghost use Rattle.std.specs.Iterator.{UpTo, at_most};
 ghost use Rattle.std.specs.Iterator.SizeHint.{IsWithinCount};
@@ -10,11 +10,17 @@ use std::iter::FusedIterator;
 use std::marker::Model;
 use std::{fmt, slice};
 
-/// The elements of the shorter of two sets that the other has, in the order of the shorter. [`VecSet::intersection`]
-/// makes one.
+/// An iterator over the elements of the shorter of two sets that the other has, in order. [`VecSet::intersection`]
+/// creates one.
 ///
-/// Each pull looks up, in the other set, the elements of the shorter one up to the next that is there, and makes no
-/// other comparison. A contract sees the elements that are not yet walked, and those of the other set.
+/// A contract sees the elements of the shorter set that are not yet visited, and the elements of the other set.
+///
+/// # Complexity
+///
+/// Each pull looks up elements of the shorter set in the other, up to the next one that is found. It makes no other
+/// comparisons.
+///
+/// # Examples
 ///
 /// ```
 /// let set = vecset!(alloc; 1, 2, 3);
@@ -38,7 +44,7 @@ impl<'a, T: Eq> Model for Intersection<'a, T> {
 }
 
 impl<'a, T: Eq> Intersection<'a, T> {
-    // The elements of `items` that `other` has.
+    // Creates an iterator over the elements of `items` that `other` has.
     #[tactic(auto, using(crate::proofs::LazyLemmas::length_filter))]
     pub(crate) fn over(items: &'a [T], other: &'a [T]) -> Intersection<'a, T>
         ensures rest { result ≡ sift_of items.now other.now }
@@ -52,7 +58,9 @@ impl<'a, T: Eq> Intersection<'a, T> {
         }
     }
 
-    /// An iterator over what this one has left. It takes no memory and always succeeds.
+    /// Returns an iterator over the same remaining elements. It always succeeds, and does not allocate.
+    ///
+    /// # Examples
     ///
     /// ```
     /// let set = vecset!(alloc; 1, 2, 3);
@@ -83,11 +91,13 @@ impl<'a, T: Eq> Iterator for Intersection<'a, T> {
         sift_front(&mut self.items, self.other, true)
     }
 
-    /// None at least, and at most as many as are not yet walked.
+    /// Returns 0 and the number of elements that are not yet visited.
     #[tactic(auto, using(crate::proofs::LazyLemmas::length_filter))]
     fn size_hint(&self) -> (usize, Option<usize>)
-        ensures lower { IsWithinCount result.0 (at_most (length (sifted (has_item T.eq) self.now))) }
-        ensures upper { IfSome result.1 (UpTo (at_most (length (sifted (has_item T.eq) self.now)))) }
+        ensures lower { IsWithinCount result.0
+            (at_most (length (sifted (has_item T.eq) self.now))) }
+        ensures upper { IfSome result.1
+            (UpTo (at_most (length (sifted (has_item T.eq) self.now)))) }
         ensures hint { result ≡ (0, Some (length self.now.unwalked)) }
     {
         (0, Some(self.items.len()))
@@ -104,7 +114,7 @@ impl<'a, T: Eq> DoubleEndedIterator for Intersection<'a, T> {
 
 impl<T: Eq> FusedIterator for Intersection<'_, T> {}
 
-/// Prints as std prints a list, `[element, ..]`, what is left.
+/// Prints the remaining elements in order, as std prints lists: `[element, ..]`.
 impl<T: Eq + fmt::Debug> fmt::Debug for Intersection<'_, T> {
     fn fmt<W: fmt::Write>(&self, f: &mut fmt::Formatter<W>) -> fmt::Result {
         f.debug_list().entries(self.clone()).finish()

@@ -1,4 +1,4 @@
-//! The elements that only one of two sets has.
+//! An iterator over the elements that only one of two sets has.
 ghost use Rattle.std.specs.Prelude.{◌≡◌, ◌+◌, IfSome, length};
 ghost use Rattle.std.specs.Iterator.{UpTo, at_most};
 ghost use Rattle.std.specs.Iterator.SizeHint.{IsWithinCount};
@@ -9,11 +9,17 @@ use std::fmt;
 use std::iter::FusedIterator;
 use std::marker::Model;
 
-/// The elements of one set that another lacks, and then those of the other that it lacks, each in their order.
-/// [`VecSet::symmetric_difference`] makes one.
+/// An iterator over the elements that only one of two sets has. [`VecSet::symmetric_difference`] creates one.
 ///
-/// Each pull looks up, in the other set of each, elements up to the next that is not there, and makes no other
-/// comparison. A contract sees what both parts have left.
+/// It yields the elements of the first set that the second lacks, and then those of the second that the first lacks,
+/// each in order. A contract sees what is left of both parts.
+///
+/// # Complexity
+///
+/// Each pull looks up elements of one set in the other, up to the next one that is not found. It makes no other
+/// comparisons.
+///
+/// # Examples
 ///
 /// ```
 /// let set = vecset!(alloc; 1, 2, 3);
@@ -36,7 +42,8 @@ impl<'a, T: Eq> Model for SymmetricDifference<'a, T> {
 }
 
 impl<'a, T: Eq> SymmetricDifference<'a, T> {
-    // The elements of `items` that `other` lacks, and then those of `other` that `items` lacks.
+    // Creates an iterator over the elements of `items` that `other` lacks, and then those of `other` that `items`
+    // lacks.
     pub(crate) fn over(items: &'a [T], other: &'a [T]) -> SymmetricDifference<'a, T>
         ensures rest { result ≡ symmetric_parts items.now other.now }
         ensures runs { PairsInOrder T.eq }
@@ -48,7 +55,9 @@ impl<'a, T: Eq> SymmetricDifference<'a, T> {
         }
     }
 
-    /// An iterator over what this one has left. It takes no memory and always succeeds.
+    /// Returns an iterator over the same remaining elements. It always succeeds, and does not allocate.
+    ///
+    /// # Examples
     ///
     /// ```
     /// let set = vecset!(alloc; 1, 2);
@@ -82,13 +91,15 @@ impl<'a, T: Eq> Iterator for SymmetricDifference<'a, T> {
         self.second.next()
     }
 
-    /// None at least, and at most as many as both parts have not yet walked; no upper bound where that sum passes the
-    /// greatest `usize`.
+    /// Returns 0 and the number of elements of both parts that are not yet visited.
+    ///
+    /// There is no upper bound if that number exceeds `usize::MAX`.
     fn size_hint(&self) -> (usize, Option<usize>)
         ensures lower { IsWithinCount result.0 (at_most (length (paired T.eq self.now))) }
         ensures upper { IfSome result.1 (UpTo (at_most (length (paired T.eq self.now)))) }
         ensures lower_hint { result.0 ≡ 0 }
-        ensures upper_hint { IsBound result.1 (length self.now.first.unwalked + length self.now.second.unwalked) }
+        ensures upper_hint { IsBound result.1
+            (length self.now.first.unwalked + length self.now.second.unwalked) }
     {
         let (_, first) = self.first.size_hint();
         let (_, second) = self.second.size_hint();
@@ -109,7 +120,7 @@ impl<'a, T: Eq> DoubleEndedIterator for SymmetricDifference<'a, T> {
 
 impl<T: Eq> FusedIterator for SymmetricDifference<'_, T> {}
 
-/// Prints as std prints a list, `[element, ..]`, what is left.
+/// Prints the remaining elements in order, as std prints lists: `[element, ..]`.
 impl<T: Eq + fmt::Debug> fmt::Debug for SymmetricDifference<'_, T> {
     fn fmt<W: fmt::Write>(&self, f: &mut fmt::Formatter<W>) -> fmt::Result {
         f.debug_list().entries(self.clone()).finish()

@@ -1,4 +1,4 @@
-//! The elements of one set, and then those of another that it lacks.
+//! An iterator over the elements of one set, and then those of another that it lacks.
 ghost use Rattle.std.specs.Prelude.{◌≡◌, ◌+◌, IfSome, length};
 ghost use Rattle.std.specs.Iterator.{UpTo, at_most};
 ghost use Rattle.std.specs.Iterator.SizeHint.{IsWithinCount};
@@ -9,11 +9,17 @@ use std::iter::FusedIterator;
 use std::marker::Model;
 use std::{fmt, slice};
 
-/// The elements of the longer of two sets, and then those of the other that it lacks, each in their order.
-/// [`VecSet::union`] makes one.
+/// An iterator over the elements that at least one of two sets has. [`VecSet::union`] creates one.
 ///
-/// The elements of the longer set are given with no comparison. Each further pull looks up, in the longer set, elements
-/// of the other up to the next that is not there. A contract sees what both parts have left.
+/// It yields the elements of the longer set, and then those of the other one that it lacks, each in order. A contract
+/// sees what is left of both parts.
+///
+/// # Complexity
+///
+/// The elements of the longer set are yielded without comparisons. Each further pull looks up elements of the other set
+/// in the longer one, up to the next one that is not found.
+///
+/// # Examples
 ///
 /// ```
 /// let set = vecset!(alloc; 1, 2);
@@ -37,7 +43,7 @@ impl<'a, T: Eq> Model for Union<'a, T> {
 }
 
 impl<'a, T: Eq> Union<'a, T> {
-    // All of `items`, and then the elements of `other` that `items` lacks.
+    // Creates an iterator over all of `items`, and then the elements of `other` that `items` lacks.
     pub(crate) fn over(items: &'a [T], other: &'a [T]) -> Union<'a, T>
         ensures rest { result ≡ union_parts items.now other.now }
         ensures runs { JoinsInOrder T.eq }
@@ -49,7 +55,9 @@ impl<'a, T: Eq> Union<'a, T> {
         }
     }
 
-    /// An iterator over what this one has left. It takes no memory and always succeeds.
+    /// Returns an iterator over the same remaining elements. It always succeeds, and does not allocate.
+    ///
+    /// # Examples
     ///
     /// ```
     /// let set = vecset!(alloc; 1, 2);
@@ -83,13 +91,16 @@ impl<'a, T: Eq> Iterator for Union<'a, T> {
         self.second.next()
     }
 
-    /// At least as many as the first part has left, and at most as many more as the second has not yet walked; no upper
-    /// bound where that sum passes the greatest `usize`.
+    /// Returns the number of elements that are left in the first part, as the lower bound.
+    ///
+    /// The upper bound adds the number of elements of the second part that are not yet visited. There is no upper bound
+    /// if that sum exceeds `usize::MAX`.
     fn size_hint(&self) -> (usize, Option<usize>)
         ensures lower { IsWithinCount result.0 (at_most (length (joined T.eq self.now))) }
         ensures upper { IfSome result.1 (UpTo (at_most (length (joined T.eq self.now)))) }
         ensures lower_hint { result.0 ≡ length self.now.first }
-        ensures upper_hint { IsBound result.1 (length self.now.first + length self.now.second.unwalked) }
+        ensures upper_hint { IsBound result.1
+            (length self.now.first + length self.now.second.unwalked) }
     {
         let first = self.first.len();
         let (_, second) = self.second.size_hint();
@@ -110,7 +121,7 @@ impl<'a, T: Eq> DoubleEndedIterator for Union<'a, T> {
 
 impl<T: Eq> FusedIterator for Union<'_, T> {}
 
-/// Prints as std prints a list, `[element, ..]`, what is left.
+/// Prints the remaining elements in order, as std prints lists: `[element, ..]`.
 impl<T: Eq + fmt::Debug> fmt::Debug for Union<'_, T> {
     fn fmt<W: fmt::Write>(&self, f: &mut fmt::Formatter<W>) -> fmt::Result {
         f.debug_list().entries(self.clone()).finish()

@@ -1,10 +1,10 @@
-//! Whether a list has repeats, and how many comparisons tell it.
+//! Tests for repeats in a list, and the number of their comparisons.
 use std::test::Fail;
 use vecmap_base::{items_distinct, keys_distinct};
 use vecmap_fixtures::{Log, told_items, told_pairs};
 
 #[test]
-fn repeats_are_looked_for_with_one_comparison_a_couple(rt: HostRuntime) -> Result<(), Fail> {
+fn a_search_for_repeats_compares_each_couple_once_at_most(rt: HostRuntime) -> Result<(), Fail> {
     for (numbers, is_distinct, most) in [
         ([].as_slice(), true, 0),
         ([1].as_slice(), true, 0),

@@ -1,4 +1,4 @@
-//! The iterators that lend keys to be written.
+//! The iterators that lend keys for writing.
 use std::test::Fail;
 use vecmap::map::{IterMut2, KeysMut};
 use vecmap_fixtures::pulls_as_list;
@@ -8,7 +8,7 @@ const PAIRS: [(u32, u32); 4] = [(1, 10), (2, 20), (3, 30), (4, 40)];
 const KEYS: [u32; 4] = [1, 2, 3, 4];
 
 #[test]
-fn iter_mut2_gives_its_list_under_every_mixture(rt: HostRuntime) -> Result<(), Fail> {
+fn iter_mut2_is_exact_for_every_mixture_of_next_and_next_back(rt: HostRuntime) -> Result<(), Fail> {
     for count in 0..5 {
         let mut pairs = PAIRS[..count].to_vec(rt.alloc())?;
         for ends in 0..64 {
@@ -20,7 +20,7 @@ fn iter_mut2_gives_its_list_under_every_mixture(rt: HostRuntime) -> Result<(), F
 }
 
 #[test]
-fn keys_mut_give_their_list_under_every_mixture(rt: HostRuntime) -> Result<(), Fail> {
+fn keys_mut_are_exact_for_every_mixture_of_next_and_next_back(rt: HostRuntime) -> Result<(), Fail> {
     for count in 0..5 {
         let mut pairs = PAIRS[..count].to_vec(rt.alloc())?;
         for ends in 0..64 {

@@ -1,10 +1,10 @@
-//! Lookups in lists, and how many comparisons they make.
+//! Lookups in lists, and the number of their comparisons.
 use std::test::Fail;
 use vecmap_base::{find, find_item, find_item_str, find_str};
 use vecmap_fixtures::{Log, make_item, told_items, told_pairs};
 
 #[test]
-fn find_answers_the_first_of_equal_keys(rt: HostRuntime) {
+fn find_returns_the_first_of_equal_keys(rt: HostRuntime) {
     let pairs = [
         (make_item(2, 'b'), 20),
         (make_item(1, 'x'), 10),
@@ -18,7 +18,7 @@ fn find_answers_the_first_of_equal_keys(rt: HostRuntime) {
 }
 
 #[test]
-fn find_item_answers_the_first_of_equal_elements(rt: HostRuntime) {
+fn find_item_returns_the_first_of_equal_elements(rt: HostRuntime) {
     let items = [
         make_item(2, 'b'),
         make_item(1, 'x'),
@@ -32,7 +32,7 @@ fn find_item_answers_the_first_of_equal_elements(rt: HostRuntime) {
 }
 
 #[test]
-fn texts_are_found_at_their_first_place(rt: HostRuntime) -> Result<(), Fail> {
+fn texts_are_found_at_their_first_index(rt: HostRuntime) -> Result<(), Fail> {
     let mut pairs = Vec::new(rt.alloc());
     let mut items = Vec::new(rt.alloc());
     for text in ["b", "a", "a", "b"] {
@@ -53,7 +53,7 @@ fn texts_are_found_at_their_first_place(rt: HostRuntime) -> Result<(), Fail> {
 }
 
 #[test]
-fn a_lookup_compares_each_place_once_at_most(rt: HostRuntime) -> Result<(), Fail> {
+fn a_lookup_compares_each_item_once_at_most(rt: HostRuntime) -> Result<(), Fail> {
     for (numbers, number, place) in [
         ([].as_slice(), 1, None),
         ([1].as_slice(), 2, None),

@@ -1,10 +1,10 @@
-//! Removal of repeats in place: what it answers and leaves, and the comparisons that it counts.
+//! Removal of repeats in place: its result, what it leaves, and the comparisons that it counts.
 use std::test::Fail;
 use vecmap_base::{Steps, dedup_keep_first, dedup_keep_last_value, gather_items, gather_pairs};
 use vecmap_fixtures::{has_pairs, make_item};
 
 #[test]
-fn gathering_brings_the_first_of_equal_elements_to_the_front(rt: HostRuntime) {
+fn gathering_moves_the_first_of_equal_elements_to_the_front(rt: HostRuntime) {
     let mut items = [1, 1, 2, 1];
     let mut steps = Steps::new();
     assert!(rt; gather_items(&mut items, &mut steps) == 2);

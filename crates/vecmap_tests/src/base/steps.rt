@@ -3,7 +3,7 @@ use vecmap_base::Steps;
 use vecmap_fixtures::make_item;
 
 #[test]
-fn each_counted_comparison_answers_and_counts(rt: HostRuntime) {
+fn a_counted_comparison_returns_its_result_and_is_counted(rt: HostRuntime) {
     let mut steps = Steps::new();
     assert!(rt; steps.count() == 0);
     assert!(rt; steps.same(&make_item(1, 'x'), &make_item(1, 'y')));

@@ -1,9 +1,9 @@
-//! Runs of commands on a map. The replies are compared as they print, one after another.
+//! Runs of commands on a map. The replies are compared as they print, in order.
 use std::test::Fail;
 use vecmap::{MapCommand, MapReply, VecMap, run};
 use vecmap_fixtures::{Log, has_pairs, has_told_pairs, item_map, make_item, make_told, told_map};
 
-// What a run of the commands answers, as it prints.
+// The replies of a run of the commands, as they print.
 macro_rules! answers {
     ($rt:ident, $map:ident, $commands:expr) => {{
         let mut all = Vec::new($rt.alloc());
@@ -15,7 +15,7 @@ macro_rules! answers {
 }
 
 #[test]
-fn a_run_answers_each_command(rt: HostRuntime) -> Result<(), Fail> {
+fn a_map_run_replies_to_each_command(rt: HostRuntime) -> Result<(), Fail> {
     let mut map = VecMap::new(rt.alloc());
     let commands = [
         MapCommand::Insert('a', 1),
@@ -36,7 +36,7 @@ fn a_run_answers_each_command(rt: HostRuntime) -> Result<(), Fail> {
 }
 
 #[test]
-fn a_run_appends_and_compares_maps(rt: HostRuntime) -> Result<(), Fail> {
+fn a_map_run_appends_and_compares_maps(rt: HostRuntime) -> Result<(), Fail> {
     let mut map = VecMap::from_slice(rt.alloc(), &[('a', 1)])?;
     let commands = [
         MapCommand::Append(VecMap::from_slice(rt.alloc(), &[('b', 2), ('a', 3)])?),
@@ -56,7 +56,7 @@ fn a_run_appends_and_compares_maps(rt: HostRuntime) -> Result<(), Fail> {
 }
 
 #[test]
-fn a_run_puts_pairs(rt: HostRuntime) -> Result<(), Fail> {
+fn a_map_run_inserts_pairs(rt: HostRuntime) -> Result<(), Fail> {
     let mut map = VecMap::from_slice(rt.alloc(), &[('a', 1), ('b', 2)])?;
     let commands = [
         MapCommand::Insert('b', 3),
@@ -77,7 +77,7 @@ fn a_run_puts_pairs(rt: HostRuntime) -> Result<(), Fail> {
 }
 
 #[test]
-fn a_run_reads(rt: HostRuntime) -> Result<(), Fail> {
+fn a_map_run_reads(rt: HostRuntime) -> Result<(), Fail> {
     let pairs = [('a', 1), ('b', 2)];
     let mut map = VecMap::from_slice(rt.alloc(), &pairs)?;
     let room = map.capacity();
@@ -103,7 +103,7 @@ fn a_run_reads(rt: HostRuntime) -> Result<(), Fail> {
 }
 
 #[test]
-fn a_run_puts_finds_and_removes(rt: HostRuntime) -> Result<(), Fail> {
+fn a_map_run_inserts_finds_and_removes(rt: HostRuntime) -> Result<(), Fail> {
     let mut map = VecMap::new(rt.alloc());
     let commands = [
         MapCommand::Insert('a', 1),
@@ -125,7 +125,7 @@ fn a_run_puts_finds_and_removes(rt: HostRuntime) -> Result<(), Fail> {
 }
 
 #[test]
-fn a_run_takes_pairs_out_by_their_places(rt: HostRuntime) -> Result<(), Fail> {
+fn a_map_run_removes_pairs_by_index(rt: HostRuntime) -> Result<(), Fail> {
     let pairs = [('a', 1), ('b', 2), ('c', 3), ('d', 4), ('e', 5)];
     let mut map = VecMap::from_slice(rt.alloc(), &pairs)?;
     let commands = [
@@ -153,7 +153,7 @@ fn a_run_takes_pairs_out_by_their_places(rt: HostRuntime) -> Result<(), Fail> {
 }
 
 #[test]
-fn a_run_takes_pairs_out_by_their_keys(rt: HostRuntime) -> Result<(), Fail> {
+fn a_map_run_removes_pairs_by_key(rt: HostRuntime) -> Result<(), Fail> {
     let pairs = [('a', 1), ('b', 2), ('c', 3), ('d', 4), ('e', 5), ('f', 6)];
     let mut map = VecMap::from_slice(rt.alloc(), &pairs)?;
     let commands = [
@@ -175,7 +175,7 @@ fn a_run_takes_pairs_out_by_their_keys(rt: HostRuntime) -> Result<(), Fail> {
 }
 
 #[test]
-fn a_run_takes_no_pair_out_by_an_absent_key(rt: HostRuntime) -> Result<(), Fail> {
+fn a_map_run_removes_nothing_by_an_absent_key(rt: HostRuntime) -> Result<(), Fail> {
     let pairs = [('a', 1), ('b', 2)];
     let mut map = VecMap::from_slice(rt.alloc(), &pairs)?;
     let room = map.capacity();
@@ -193,7 +193,7 @@ fn a_run_takes_no_pair_out_by_an_absent_key(rt: HostRuntime) -> Result<(), Fail>
 }
 
 #[test]
-fn a_run_goes_on_after_places_that_are_not_there(rt: HostRuntime) -> Result<(), Fail> {
+fn a_map_run_goes_on_after_indices_out_of_range(rt: HostRuntime) -> Result<(), Fail> {
     let pairs = [('a', 1), ('b', 2)];
     let mut map = VecMap::from_slice(rt.alloc(), &pairs)?;
     let room = map.capacity();
@@ -211,7 +211,7 @@ fn a_run_goes_on_after_places_that_are_not_there(rt: HostRuntime) -> Result<(), 
 }
 
 #[test]
-fn a_run_changes_the_whole_list(rt: HostRuntime) -> Result<(), Fail> {
+fn a_map_run_changes_the_whole_list(rt: HostRuntime) -> Result<(), Fail> {
     let pairs = [('a', 1), ('b', 2), ('c', 3), ('d', 4)];
     let mut map = VecMap::from_slice(rt.alloc(), &pairs)?;
     let commands = [
@@ -236,7 +236,7 @@ fn a_run_changes_the_whole_list(rt: HostRuntime) -> Result<(), Fail> {
 }
 
 #[test]
-fn a_run_finds_nothing_at_the_greatest_place(rt: HostRuntime) -> Result<(), Fail> {
+fn a_map_run_finds_nothing_at_the_greatest_index(rt: HostRuntime) -> Result<(), Fail> {
     let mut map = VecMap::from_slice(rt.alloc(), &[('a', 1)])?;
     let room = map.capacity();
     let commands = [
@@ -259,7 +259,9 @@ fn a_run_finds_nothing_at_the_greatest_place(rt: HostRuntime) -> Result<(), Fail
 }
 
 #[test]
-fn a_refused_clone_answers_no_memory_and_changes_nothing(rt: HostRuntime) -> Result<(), Fail> {
+fn a_refused_clone_in_a_map_run_replies_out_of_memory_and_changes_nothing(
+    rt: HostRuntime,
+) -> Result<(), Fail> {
     let log = Log::new();
     let mut map = told_map(rt.alloc(), &log, &[1, 2])?;
     for (number, replies) in [
@@ -295,7 +297,7 @@ fn a_refused_clone_answers_no_memory_and_changes_nothing(rt: HostRuntime) -> Res
 }
 
 #[test]
-fn a_run_keeps_the_stored_key(rt: HostRuntime) -> Result<(), Fail> {
+fn a_map_run_keeps_the_stored_key(rt: HostRuntime) -> Result<(), Fail> {
     let mut map = item_map(rt.alloc(), &[(1, 'x', 10)])?;
     let mut commands = Vec::new(rt.alloc());
     commands.push(MapCommand::Insert(make_item(1, 'y'), 20))?;
@@ -307,7 +309,7 @@ fn a_run_keeps_the_stored_key(rt: HostRuntime) -> Result<(), Fail> {
 }
 
 #[test]
-fn commands_and_replies_can_be_compared(rt: HostRuntime) -> Result<(), Fail> {
+fn map_commands_and_replies_can_be_compared(rt: HostRuntime) -> Result<(), Fail> {
     let rest = MapReply::Rest(VecMap::from_slice(rt.alloc(), &[('a', 1), ('b', 2)])?);
     assert!(rt; rest == MapReply::Rest(VecMap::from_slice(rt.alloc(), &[('b', 2), ('a', 1)])?));
     assert!(rt; rest != MapReply::Value(None));

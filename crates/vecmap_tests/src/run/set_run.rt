@@ -1,10 +1,10 @@
-//! Runs of commands on a set. The replies are compared as they print, one after another.
+//! Runs of commands on a set. The replies are compared as they print, in order.
 use std::alloc::{AllocError, Global};
 use std::test::Fail;
 use vecmap::{SetCommand, SetReply, VecSet, run_set};
 use vecmap_fixtures::{Log, Told, has_items, has_told, item_set, make_item, make_told, told_set};
 
-// What a run of the commands answers, as it prints.
+// The replies of a run of the commands, as they print.
 macro_rules! answers {
     ($rt:ident, $set:ident, $commands:expr) => {{
         let mut all = Vec::new($rt.alloc());
@@ -20,7 +20,7 @@ fn made(alloc: Global, items: &[u32]) -> Result<VecSet<u32>, AllocError> {
 }
 
 #[test]
-fn a_run_answers_each_command(rt: HostRuntime) -> Result<(), Fail> {
+fn a_set_run_replies_to_each_command(rt: HostRuntime) -> Result<(), Fail> {
     let mut set = made(rt.alloc(), &[3, 2, 1])?;
     let commands = [
         SetCommand::Insert(2),
@@ -38,7 +38,7 @@ fn a_run_answers_each_command(rt: HostRuntime) -> Result<(), Fail> {
 }
 
 #[test]
-fn a_run_goes_on_after_a_place_that_is_not_there(rt: HostRuntime) -> Result<(), Fail> {
+fn a_set_run_goes_on_after_an_index_out_of_range(rt: HostRuntime) -> Result<(), Fail> {
     let mut set = made(rt.alloc(), &[1])?;
     let commands = [
         SetCommand::SwapIndices(0, 1),
@@ -56,7 +56,7 @@ fn a_run_goes_on_after_a_place_that_is_not_there(rt: HostRuntime) -> Result<(), 
 }
 
 #[test]
-fn a_run_puts_elements(rt: HostRuntime) -> Result<(), Fail> {
+fn a_set_run_inserts_elements(rt: HostRuntime) -> Result<(), Fail> {
     let mut set = item_set(rt.alloc(), &[(1, 'x'), (2, 'b')])?;
     let mut commands = Vec::new(rt.alloc());
     commands.push(SetCommand::Replace(make_item(1, 'y')))?;
@@ -74,7 +74,7 @@ fn a_run_puts_elements(rt: HostRuntime) -> Result<(), Fail> {
 }
 
 #[test]
-fn a_run_reads(rt: HostRuntime) -> Result<(), Fail> {
+fn a_set_run_reads(rt: HostRuntime) -> Result<(), Fail> {
     let items = [1, 2];
     let mut set = made(rt.alloc(), &items)?;
     let room = set.capacity();
@@ -100,7 +100,7 @@ fn a_run_reads(rt: HostRuntime) -> Result<(), Fail> {
 }
 
 #[test]
-fn a_run_takes_elements_out_by_their_places(rt: HostRuntime) -> Result<(), Fail> {
+fn a_set_run_removes_elements_by_index(rt: HostRuntime) -> Result<(), Fail> {
     let mut set = made(rt.alloc(), &[1, 2, 3, 4, 5])?;
     let commands = [
         SetCommand::RemoveIndex(1),
@@ -126,7 +126,7 @@ fn a_run_takes_elements_out_by_their_places(rt: HostRuntime) -> Result<(), Fail>
 }
 
 #[test]
-fn a_run_takes_elements_out(rt: HostRuntime) -> Result<(), Fail> {
+fn a_set_run_removes_elements(rt: HostRuntime) -> Result<(), Fail> {
     let mut set = made(rt.alloc(), &[1, 2, 3, 4, 5, 6])?;
     let commands = [
         SetCommand::Take(1),
@@ -147,7 +147,7 @@ fn a_run_takes_elements_out(rt: HostRuntime) -> Result<(), Fail> {
 }
 
 #[test]
-fn a_run_takes_no_absent_element_out(rt: HostRuntime) -> Result<(), Fail> {
+fn a_set_run_removes_nothing_by_an_absent_element(rt: HostRuntime) -> Result<(), Fail> {
     let items = [1, 2];
     let mut set = made(rt.alloc(), &items)?;
     let room = set.capacity();
@@ -166,7 +166,7 @@ fn a_run_takes_no_absent_element_out(rt: HostRuntime) -> Result<(), Fail> {
 }
 
 #[test]
-fn a_run_changes_the_whole_list(rt: HostRuntime) -> Result<(), Fail> {
+fn a_set_run_changes_the_whole_list(rt: HostRuntime) -> Result<(), Fail> {
     let mut set = made(rt.alloc(), &[1, 2, 3, 4])?;
     let commands = [
         SetCommand::SwapIndices(0, 2),
@@ -190,7 +190,7 @@ fn a_run_changes_the_whole_list(rt: HostRuntime) -> Result<(), Fail> {
 }
 
 #[test]
-fn a_run_finds_nothing_at_the_greatest_place(rt: HostRuntime) -> Result<(), Fail> {
+fn a_set_run_finds_nothing_at_the_greatest_index(rt: HostRuntime) -> Result<(), Fail> {
     let mut set = made(rt.alloc(), &[1])?;
     let room = set.capacity();
     let commands = [
@@ -211,7 +211,9 @@ fn a_run_finds_nothing_at_the_greatest_place(rt: HostRuntime) -> Result<(), Fail
 }
 
 #[test]
-fn a_refused_clone_answers_no_memory_and_changes_nothing(rt: HostRuntime) -> Result<(), Fail> {
+fn a_refused_clone_in_a_set_run_replies_out_of_memory_and_changes_nothing(
+    rt: HostRuntime,
+) -> Result<(), Fail> {
     let log = Log::new();
     let mut set = told_set(rt.alloc(), &log, &[1, 2])?;
     for (number, replies) in [
@@ -238,7 +240,7 @@ fn a_refused_clone_answers_no_memory_and_changes_nothing(rt: HostRuntime) -> Res
     Ok(())
 }
 
-// A command for each operator, with the same right side.
+// Returns a command for each operator, with the same right operand.
 fn operators(alloc: Global, log: &Log) -> Result<Vec<SetCommand<Told<'_>>>, AllocError> {
     let mut commands = Vec::with_capacity(alloc, 4)?;
     commands.push(SetCommand::Intersect(told_set(alloc, log, &[2, 3])?))?;
@@ -249,7 +251,7 @@ fn operators(alloc: Global, log: &Log) -> Result<Vec<SetCommand<Told<'_>>>, Allo
 }
 
 #[test]
-fn an_operator_whose_clone_is_refused_answers_no_memory(rt: HostRuntime) -> Result<(), Fail> {
+fn an_operator_whose_clone_is_refused_replies_out_of_memory(rt: HostRuntime) -> Result<(), Fail> {
     let log = Log::new();
     let mut set = told_set(rt.alloc(), &log, &[1, 2])?;
     for (number, replies) in [
@@ -267,7 +269,7 @@ fn an_operator_whose_clone_is_refused_answers_no_memory(rt: HostRuntime) -> Resu
 }
 
 #[test]
-fn a_run_compares_and_joins_sets(rt: HostRuntime) -> Result<(), Fail> {
+fn a_set_run_compares_and_joins_sets(rt: HostRuntime) -> Result<(), Fail> {
     let mut set = made(rt.alloc(), &[1, 2, 3])?;
     let commands = [
         SetCommand::Equals(made(rt.alloc(), &[3, 2, 1])?),
@@ -291,7 +293,7 @@ fn a_run_compares_and_joins_sets(rt: HostRuntime) -> Result<(), Fail> {
 }
 
 #[test]
-fn commands_and_replies_can_be_compared(rt: HostRuntime) -> Result<(), Fail> {
+fn set_commands_and_replies_can_be_compared(rt: HostRuntime) -> Result<(), Fail> {
     let rest = SetReply::Made(made(rt.alloc(), &[1, 2])?);
     assert!(rt; rest == SetReply::Made(made(rt.alloc(), &[2, 1])?));
     assert!(rt; rest != SetReply::Item(None));

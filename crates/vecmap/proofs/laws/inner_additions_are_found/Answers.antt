@@ -1,3 +1,4 @@
+-- The idea: each clause is a lemma of `NestedLemmas` of `vecmap_map`, for collections that are sets.
 use Rattle.vecmap.specs.NestedSets.{IsMadeEmptySet}
 use Rattle.vecmap_base.specs.Items.{add}
 use Rattle.vecmap_map.proofs.NestedLemmas.{inner_entered, inner_entered_other, inner_entered_unchanged, inner_made, inner_put, inner_put_other, inner_unchanged, inner_written}

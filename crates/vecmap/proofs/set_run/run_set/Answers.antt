@@ -1,3 +1,4 @@
+-- The idea: each round extends the run by one step, and after the last round the run has all commands.
 use Rattle.std.proofs.Common.{◌≡◌, [], arith, append_assoc, ap, ◌∙◌, ◌++◌}
 use Rattle.std.specs.Vec.Iter.{into_iter_items}
 use Rattle.std.proofs.lemmas.Grind.{common_steps}

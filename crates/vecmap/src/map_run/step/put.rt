@@ -1,4 +1,4 @@
-//! Commands that put pairs.
+//! Commands that insert pairs.
 ghost use Rattle.std.specs.Prelude.{◌≡◌, IfOk, OnErr, OnOk, is_some, not, unwrap_or};
 ghost use Rattle.vecmap.specs.MapRun.{Effect};
 ghost use Rattle.vecmap.specs.declared.map_run.command.MapCommand.TheVariants.{Append, Insert, InsertAt, InsertFull, InsertKey, OrInsert};
@@ -79,15 +79,17 @@ pub(crate) fn or_insert<K: Eq + Clone, V: Eq + Clone>(
     }
 }
 
-// Puts the pair of a new key last, and answers the place of the key and whether it was new.
+// Appends the pair if its key is new, and returns the index of the key and whether it was new.
 fn put_if_new<K: Eq + Clone, V: Eq + Clone>(
     map: &mut VecMap<K, V>,
     key: K,
     value: V,
 ) -> Result<(usize, bool), Refused<(K, V)>>
     ensures place { IfOk result (λ kept. kept.0 ≡ index_or_length K.eq map.old.entries key) }
-    ensures added { IfOk result (λ kept. kept.1 ≡ not (is_some (index_of K.eq map.old.entries key))) }
-    ensures entries { OnOk result (map.new.entries ≡ put K.eq map.old.entries key (unwrap_or (lookup K.eq map.old.entries key) value)) }
+    ensures added { IfOk result (λ kept. kept.1
+        ≡ not (is_some (index_of K.eq map.old.entries key))) }
+    ensures entries { OnOk result (map.new.entries
+        ≡ put K.eq map.old.entries key (unwrap_or (lookup K.eq map.old.entries key) value)) }
     ensures room { KeepsRoom K.eq map.old key map.new }
     ensures err { OnErr result (Refuses K.eq map.old key map.new) }
 {
@@ -97,7 +99,7 @@ fn put_if_new<K: Eq + Clone, V: Eq + Clone>(
     Ok((index, added))
 }
 
-// Whether the key of an entry is not there.
+// Returns `true` if the key of the entry is not present.
 fn is_vacant<K, V>(entry: &Entry<'_, K, V>) -> bool
     ensures { result ≡ not (is_some (entry_place entry.now)) }
 {

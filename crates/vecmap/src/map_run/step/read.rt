@@ -1,4 +1,4 @@
-//! Commands that read, and are answered clones.
+//! Commands that read, whose replies are clones.
 ghost use Rattle.std.specs.Prelude.{IfOk, OnErr, option_copied, option_map};
 ghost use Rattle.std.specs.Map.Iter.{deref_pair};
 ghost use Rattle.vecmap.specs.MapRun.{ClonesPair, ClonesPairs, ClonesValue};
@@ -31,7 +31,7 @@ pub(crate) fn clone_pair<K: Clone, V: Clone>(pair: Option<(&K, &V)>) -> MapReply
     }
 }
 
-// A clone of the key and one of the value.
+// Returns a clone of the key and a clone of the value.
 fn pair_clone<K: Clone, V: Clone>(key: &K, value: &V) -> Result<(K, V), AllocError>
     ensures clone { IfOk result (λ pair. K.is_clone key.now pair.0 × V.is_clone value.now pair.1) }
     ensures err { OnErr result (¬ (K.is_infallible key.now × V.is_infallible value.now)) }

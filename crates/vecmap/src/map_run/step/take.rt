@@ -1,4 +1,4 @@
-//! Commands that take pairs out by place, or exchange them.
+//! Commands that remove pairs by index, or swap them.
 ghost use Rattle.vecmap.specs.MapRun.{Effect};
 ghost use Rattle.vecmap.specs.declared.map_run.command.MapCommand.TheVariants.{RemoveIndex, SplitOff, SwapIndices, SwapRemoveIndex};
 

@@ -1,4 +1,4 @@
-//! Commands that make a set.
+//! Commands that create a set.
 ghost use Rattle.vecmap.specs.SetRun.{Makes};
 
 use super::SetReply;

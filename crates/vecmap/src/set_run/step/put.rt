@@ -1,4 +1,4 @@
-//! Commands that put elements.
+//! Commands that insert elements.
 ghost use Rattle.vecmap.specs.SetRun.{Effect};
 ghost use Rattle.vecmap.specs.declared.set_run.command.SetCommand.TheVariants.{Append, Insert, Replace};
 

@@ -1,4 +1,4 @@
-//! Commands that read, and are answered clones.
+//! Commands that read, whose replies are clones.
 ghost use Rattle.std.specs.Prelude.{option_copied};
 ghost use Rattle.vecmap.specs.SetRun.{ClonesItem, ClonesItems};
 

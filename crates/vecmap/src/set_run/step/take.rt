@@ -1,4 +1,4 @@
-//! Commands that take elements out by place, or exchange them.
+//! Commands that remove elements by index, or swap them.
 ghost use Rattle.vecmap.specs.SetRun.{Effect};
 ghost use Rattle.vecmap.specs.declared.set_run.command.SetCommand.TheVariants.{RemoveIndex, SplitOff, SwapIndices, SwapRemoveIndex};
 

@@ -1,3 +1,4 @@
+-- As in `items_distinct`, on the list of the keys: it is distinct exactly if its rest from `i` on is.
 use Rattle.std.proofs.Common.{◌+◌, ◌<◌, ◌≤◌, get_or, is_some, length, refl, sym, ap, ◌∙◌, true≢false, arith}
 use Rattle.std.specs.Map.{keys_of}
 use Rattle.std.proofs.lemmas.Map.Entries.{length-keys_of}

@@ -1,3 +1,4 @@
+-- Before the first equal key no pair is the same. The loop keeps that none before `at` is both unmarked and the same.
 use Rattle.std.proofs.Common.{◌≡◌, ◌&&◌, Bool, ap, arith, false, get_or, not, sym, true, ◌∙◌}
 use Rattle.std.proofs.lemmas.Bool.{and_from}
 use Rattle.std.proofs.lemmas.List.{get_or_default}

@@ -1,3 +1,5 @@
+-- The loop keeps that the first `i` pairs of `a` are matched with the marked pairs of `b`. An unmatched pair has
+-- unequal counts.
 use Rattle.std.proofs.Common.{◌≡◌, ◌+◌, ◌<◌, arith, drop, false, get_or, length, length-set, refl, subst, sym, true, ◌∙◌}
 use Rattle.std.specs.List.{list_any}
 use Rattle.std.proofs.lemmas.List.{take_rest}

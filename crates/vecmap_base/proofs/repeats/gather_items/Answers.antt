@@ -1,3 +1,5 @@
+-- After `i` items the front is what their additions leave, and the rest is unchanged. A new item is swapped to the end
+-- of the front.
 use Rattle.std.proofs.Common.{◌≡◌, ◌+◌, ◌<◌, take, length, get_or, [], ◌∷◌, ◌++◌, sym, ap, ◌∙◌, arith}
 use Rattle.std.proofs.lemmas.List.{length_push, length-take, take_all}
 use Rattle.std.proofs.lemmas.List.Sorted.{IsPermutation-trans}

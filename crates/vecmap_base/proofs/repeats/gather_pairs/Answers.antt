@@ -1,3 +1,5 @@
+-- After `i` pairs the front is what their insertions leave, and the rest is unchanged. The keys and the values are
+-- permuted.
 use Rattle.std.proofs.Common.{◌≡◌, ◌+◌, ◌<◌, None, take, length, get_or, [], ◌∷◌, ◌++◌, sym, ap, subst, ◌∙◌, arith}
 use Rattle.std.specs.List.Sorted.{IsPermutation}
 use Rattle.std.specs.Map.{keys_of, values_of}

@@ -1,3 +1,5 @@
+-- The loop keeps `KeptSoFar`: the front has the kept items, and the rest is unchanged. Each call extends it by one
+-- item.
 use Rattle.std.specs.Prelude.{◌≡◌, ◌+◌, ◌<◌, ◌≤◌, false, length, true}
 use Rattle.std.specs.Fn.{TakesAt}
 use Rattle.std.specs.List.{SwappedAt}

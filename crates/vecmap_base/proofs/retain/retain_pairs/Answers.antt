@@ -1,3 +1,4 @@
+-- The loop keeps `KeptSoFar`: the front has the kept pairs, as they were written. Each call extends it by one pair.
 use Rattle.std.specs.Prelude.{◌≡◌, ◌<◌, ◌≤◌, false, length, true}
 use Rattle.std.proofs.Common.{arith, get_or, subst, ◌∙◌}
 use Rattle.std.proofs.lemmas.List.{length-set}

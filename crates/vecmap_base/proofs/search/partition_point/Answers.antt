@@ -1,3 +1,4 @@
+-- The loop keeps `Parted`, which bounds the partition point by `base` and `base + size`. Each call halves `size`.
 use Rattle.std.proofs.Common.{◌≡◌, ◌+◌, ◌-◌, ◌/◌, true, false, arith}
 use Rattle.vecmap_base.proofs.SearchLemmas.{parted_down, parted_failing, parted_passing, parted_up, said_at}
 use Rattle.vecmap_base.proofs.search.partition_point.Goals as goal

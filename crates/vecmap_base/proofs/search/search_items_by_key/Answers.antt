@@ -1,3 +1,5 @@
+-- The loop keeps `Narrowed`: what is known of the item at `base` and of those from `base + size` on. Each call halves
+-- `size`.
 use Rattle.std.specs.Ordering.{is_le}
 use Rattle.std.specs.declared.cmp.Ordering.TheVariants.{Greater, Less}
 use Rattle.std.proofs.Common.{◌≡◌, ◌+◌, ◌-◌, ◌/◌, true, false, arith, sym}

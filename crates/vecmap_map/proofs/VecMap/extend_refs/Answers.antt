@@ -1,3 +1,5 @@
+-- The idea: each round appends a clone to the list of clones that the invariant names, and a refused round is where the
+-- call stops.
 use Rattle.std.proofs.Common.{arith, inr, refl, rules}
 use Rattle.std.proofs.lemmas.Grind.{common_steps}
 use Rattle.std.specs.Map.Iter.{deref_pair}

@@ -1,4 +1,4 @@
--- The call at the last place is handed on.
+-- The idea: the call returns what `get_index_mut` at the last index returns.
 use Rattle.vecmap_map.proofs.LentLemmas.Steps.{◌≡◌, ℕ, ◌↔◌, ◌<◌, ◌-◌, refl, ap, ◌∙◌, lit<, w64, List, [], ◌∷◌, ◌++◌, IsSome, length, option_map, slice_get, arith, a_type, named, Val, vptr, vstruct, of_list, inst_fn, SProp, emp, id⊢, ftrue, ‵, raw, ◌⊛◌, some, later, ◌$◌, ◌∵◌, !, qed, by, move, keep, drop, split, join, fjoin, pick, await, use0, use1, rewrite, whole, sub, enter, of_opd, addr, stop, fld, no_more, and_then, returns, alloc_all, pass_all, free_all, look_at, get, get_in, through, sets, lands_as, fact, fact_i, ◌⊑◌, tables, no, RattleType, Is, shows, type_at, plain, RefMutOf, usize, MutBor, mut_vals, mut_Tells, uint_vals, param, layouts, nothing, peeks, heard, calls_at, Lasts, lasts, on_entry, alive, Vals, triple_of, framed, Stays, stay_dropped, walk_of, Goes-dropped, proved, leaves}
 use Rattle.vecmap_map.proofs.LentLemmas.Parts.{beside_facts, by_ends, by_parts}
 use Rattle.vecmap_map.specs.Lends.{lends_beside_key}
@@ -12,7 +12,7 @@ use Rattle.vecmap_map.specs.contracts.VecMap.last_mut.Key.{name as #self}
 use Rattle.vecmap_map.proofs.VecMap.last_mut.Statement.{statement}
 use Rattle.vecmap_map.proofs.VecMap.last_mut.Code as code
 
--- the last place is within exactly where there is a pair
+-- The last index is in range exactly if there is a pair.
 last_is : (n : ℕ) (P : Type 0) → (P ↔ n - 1 < n) → (P ↔ 0 < n)
 last_is n P found = (λ p. omega (arith, found.0 p), λ some. found.1 (omega (arith, some)))
 
@@ -42,7 +42,7 @@ last_mut_spec 𝓤 𝓛 𝓜 𝓡 wired KT VT KL VL =
     use1 𝓛 (later (some (λ (x : Both.Denot). (raw toks ⊛ ‵ (Both.own_val x (v ∷ []))) ⊛ some (λ (ls : Lasts (W.ended KT VT) κs a). ‵ (lasts (W.ended KT VT) κs a ls) ⊛ (raw (fact 𝓤 (x.0 ≡ i)) ⊛ (raw (fact 𝓤 (x.1.ghost_name ≡ m.ghost_name)) ⊛ raw (fact 𝓤 (x.1.now ≡ m.now))))))))
     (id⊢ 𝓤 (kW.post yW v)) $
     await ! tt $ pick ! (λ x. split ! $ move ! (1 ∷ []) $ pick ! (λ _. split ! $ drop ! $ split ! $ heard ! _ (λ place. split ! $ heard ! _ (λ name. heard ! _ (λ same. split ! $ move ! (1 ∷ []) $
-    -- [the place and the map; the tokens]
+    -- [the index and the map; the tokens]
     by_parts (named 0) κs.0 usize Row ! x v m name same (λ us is. rewrite ! 0 (λ (j : ℕ). ‵ (usize.own_val j us)) place refl $ peeks ! usize (Is usize) (shows 𝓛 usize) i us (λ at.
     let map : MutBor Row.Denot = record m { ref_ptr = x.1.ref_ptr } in let p : Val = vptr x.1.ref_ptr.0 x.1.ref_ptr.1 in
     let yA : kA.Ghost = ((κs, qs, bounds, (map, (i, tt)), (mut_vals map, (uint_vals w64 i, tt))), tt) in

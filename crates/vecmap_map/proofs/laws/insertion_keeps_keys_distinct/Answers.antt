@@ -1,3 +1,4 @@
+-- The idea: each clause is a lemma of `vecmap_base`.
 use Rattle.std.proofs.Common.{[]}
 use Rattle.vecmap_base.proofs.DistinctLemmas.Absent.{distinct_none}
 use Rattle.vecmap_base.proofs.DistinctLemmas.Keys.{distinct_keys_with_value, distinct_put, distinct_put_at, distinct_put_key, distinct_puts}

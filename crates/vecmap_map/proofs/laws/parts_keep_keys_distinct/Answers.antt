@@ -1,4 +1,4 @@
-use Rattle.vecmap_base.proofs.PartsStayDistinct.{distinct_keys_drop, distinct_keys_remove_range, distinct_keys_slice_range}
+use Rattle.vecmap_base.proofs.DistinctLemmas.Parts.{distinct_keys_drop, distinct_keys_remove_range, distinct_keys_slice_range}
 use Rattle.vecmap_map.proofs.laws.parts_keep_keys_distinct.Goals as goal
 
 pub returns-clause-back : goal.returns-clause-back

@@ -1,5 +1,5 @@
 use Rattle.vecmap_base.specs.Asked.{CallsAtPair}
-use Rattle.vecmap_base.proofs.PartsStayDistinct.{distinct_keys_kept}
+use Rattle.vecmap_base.proofs.DistinctLemmas.Parts.{distinct_keys_kept}
 use Rattle.vecmap_map.proofs.laws.retaining_keeps_keys_distinct.Goals as goal
 
 pub returns : goal.returns

@@ -1,4 +1,4 @@
--- The pair is cut in two.
+-- The idea: the `&mut` to the pair is split into a `&mut` to each part.
 use Rattle.vecmap_map.proofs.LentLemmas.Steps.{◌≡◌, refl, [], ◌∷◌, a_type, named, Val, vptr, inst_fn, SProp, ex, emp, id⊢, ftrue, fsep, GName, ‵, raw, ◌⊛◌, some, later, ◌$◌, ◌∵◌, !, qed, by, move, keep, split, split3, join, fjoin, pick, await, use0, use1, use2, agg, enter, addr, stop, fld, no_more, and_then, returns, alloc_all, pass_all, free_all, look_at, get, through, sets, fact, fact_i, tables, no, RattleType, plain, RefMutOf, MutBor, MutRef, mut_vals, mut_Tells, param, layouts, nothing, Vals, Stays, stay_dropped, walk_of, Goes-dropped, proved, leaves, flft}
 use Rattle.vecmap_map.proofs.LentLemmas.Both.{P, Both, parts_of, both_val, cuts, Cut}
 use Rattle.vecmap_map.specs.Lends.{lends_parts}
@@ -25,6 +25,6 @@ parts_mut_spec 𝓤 𝓛 𝓜 𝓡 wired KT VT KL VL =
     use2 𝓛 (later (raw (ex 𝓤 (Cut 𝓛 KT VT KL VL (named 0) κ q p)))) (cuts 𝓛 KT VT KL VL (named 0) κ q p) $ await ! tt $
     use1 𝓛 (some (λ (γs : GName × GName). ‵ ((Both KT VT (named 0) κ).own_val (parts_of KT VT (named 0) κ p γs) (both_val KT VT (named 0) κ p ∷ [])) ⊛ ‵ (flft κ q) ⊛ ‵ (lends_parts K V p (parts_of KT VT (named 0) κ p γs)))) (id⊢ 𝓤 _) $
     pick ! (λ γs. split3 ! $ returns ! (look_at ! 0 refl) $ free_all ! refl $
-    -- [the two; the token; what the pair then is; the other tokens]
+    -- [the two references; the token; what the pair then is; the other tokens]
     use0 𝓛 (raw (fact 𝓤 Same)) (fact_i 𝓤 Same (emp 𝓤) refl) $ move ! (3 ∷ 0 ∷ []) $ join ! $ move ! (2 ∷ 3 ∷ []) $ join ! $ nothing ! $ nothing ! $ fjoin ! $ move ! (1 ∷ 0 ∷ 3 ∷ 2 ∷ []) $
     by ! (leaves 𝓛 En hs c y (both_val KT VT (named 0) κ p) (parts_of KT VT (named 0) κ p γs) (tt, tt) (tt, tt)))))

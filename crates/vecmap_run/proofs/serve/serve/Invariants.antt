@@ -1,7 +1,7 @@
 use Rattle.vecmap_run.proofs.ServiceLemmas.{Since}
 use Rattle.vecmap_run.proofs.serve.serve.Given as goal
 
--- what has been read so far, and what has been written for it
+-- What has been read so far, and what has been written for it.
 abbrev pub invariant-loop : goal.invariant-loop
 invariant-loop g l =
     let remaining = g.R.Read.remaining in

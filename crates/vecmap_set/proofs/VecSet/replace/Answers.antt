@@ -1,3 +1,5 @@
+-- The idea: the index that was found has an equal element, and a replacement by an equal element keeps the set
+-- distinct.
 use Rattle.std.proofs.Common.{◌≡◌, ◌∙◌, sym, ap, arith, Some}
 use Rattle.std.proofs.lemmas.Grind.{common_steps}
 use Rattle.std.proofs.lemmas.Option.{gets}

@@ -1,3 +1,4 @@
+-- The idea: if each clone is equal to its original, the clones are as distinct as the originals.
 use Rattle.std.proofs.Common.{sym, true≢false}
 use Rattle.std.specs.Prelude.{◌≡◌, Bool, IsTrue, List, [], ◌∷◌, true}
 use Rattle.std.specs.Cmp.{first_so, second_so}
@@ -6,7 +7,7 @@ use Rattle.vecmap_base.specs.Clones.{AreClones}
 use Rattle.vecmap_base.proofs.DistinctLemmas.Clones.{distinct_clones}
 use Rattle.vecmap_set.proofs.cloning.stay_distinct.Goals as goal
 
--- lists that are equal item by item
+-- Lists that are equal item by item.
 are_equal : {T : Type 0} (eq : T → T → Bool) (xs ys : List T) → pointwise eq xs ys ≡ true → AreClones (λ x y. IsTrue (eq x y)) xs ys
 are_equal eq [] [] e = tt
 are_equal eq [] (y ∷ ys) e = absurd (true≢false (sym e))

@@ -1,3 +1,5 @@
+-- The idea: each call of `f` halves the range in which the invariant places the result, and the last call decides on
+-- the item that remains.
 use Rattle.std.specs.Ordering.{is_le}
 use Rattle.std.specs.declared.cmp.Ordering.TheVariants.{Greater, Less}
 use Rattle.std.proofs.Common.{◌≡◌, ◌+◌, ◌-◌, ◌/◌, true, false, arith, sym}

@@ -1,3 +1,5 @@
+-- The moved sections are those of `other`, for which `make_room` reserved capacity. A merge of two documents is a
+-- document.
 use Rattle.std.proofs.Common.{◌∙◌, ap, subst, sym}
 use Rattle.std.specs.List.{All}
 use Rattle.vecmap.specs.Pairs.{HasDistinctKeys}

@@ -1,3 +1,4 @@
+-- The idea: once the remaining pairs are in order, the last pair of the vector is the last of the drain.
 use Rattle.std.specs.Prelude.{drop, length, refl}
 use Rattle.std.specs.Vec.Iter.{reverse_if}
 use Rattle.std.proofs.Common.{sym, ap, ◌∙◌, arith}

@@ -1,3 +1,4 @@
+-- The idea: once the remaining pairs are reversed, the last pair of the vector is the first of the drain.
 use Rattle.std.specs.Prelude.{length, refl}
 use Rattle.std.proofs.Common.{sym, ap, ◌∙◌, arith}
 use Rattle.vecmap_base.proofs.DrainLemmas.{first_pulled, none_left}

@@ -1,3 +1,5 @@
+-- The idea: the write through `get_mut` leaves the value that `f` left, so the lemma on written values gives each
+-- clause.
 use Rattle.std.proofs.Common.{ap, refl, subst, sym, ◌∙◌}
 use Rattle.std.specs.Map.Calls.{MayWrite, ModifiesValue}
 use Rattle.std.specs.Option.{option_map_or}

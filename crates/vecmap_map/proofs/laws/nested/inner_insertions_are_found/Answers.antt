@@ -1,3 +1,4 @@
+-- The idea: each clause is a lemma of `NestedLemmas`, for collections that are maps.
 use Rattle.vecmap_base.specs.Pairs.{put}
 use Rattle.vecmap_map.specs.Nested.{IsMadeEmpty}
 use Rattle.vecmap_map.proofs.NestedLemmas.{inner_entered, inner_entered_other, inner_entered_unchanged, inner_made, inner_put, inner_put_other, inner_unchanged, inner_written}

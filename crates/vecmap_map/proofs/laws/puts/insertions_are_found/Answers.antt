@@ -1,3 +1,4 @@
+-- The idea: each clause is a lemma of `vecmap_base`.
 use Rattle.vecmap_base.proofs.PairsLemmas.AfterPuts.{index_of_put, length_put, lookup_put_any, lookup_put_key}
 use Rattle.vecmap_base.proofs.PairsLemmas.Keys.{keys_of_put}
 use Rattle.vecmap_base.proofs.PairsLemmas.Lookups.{lookup_put, lookup_put_other}

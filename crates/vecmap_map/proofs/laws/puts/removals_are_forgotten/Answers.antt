@@ -1,3 +1,4 @@
+-- The idea: each clause is a lemma of `vecmap_base`, and the last one follows from the definition.
 use native.Mathlib.Numerals.{unary_clauses}
 use Rattle.std.specs.Option.{option_map_or}
 use Rattle.std.specs.Prelude.{◌≡◌, remove}

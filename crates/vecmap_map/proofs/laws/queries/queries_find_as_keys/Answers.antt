@@ -2,19 +2,19 @@ use Rattle.vecmap_base.proofs.PairsLemmas.Queries.{index_by_query, lookup_by_que
 use Rattle.vecmap_map.proofs.laws.queries.queries_find_as_keys.Goals as goal
 
 pub returns-clause-value : goal.returns-clause-value
-returns-clause-value g c = λ l q. lookup_by_query g.K.PartialEq.eq g.met.K.Eq.laws (g.Q.Equivalent.equivalent q) (g.met.Q.Equivalent.respects_eq q) l
+returns-clause-value g c = λ l query. lookup_by_query g.K.PartialEq.eq g.met.K.Eq.laws (g.Q.Equivalent.equivalent query) (g.met.Q.Equivalent.respects_eq query) l
 
 pub returns-clause-place : goal.returns-clause-place
-returns-clause-place g c = λ l q. index_by_query g.K.PartialEq.eq g.met.K.Eq.laws (g.Q.Equivalent.equivalent q) (g.met.Q.Equivalent.respects_eq q) l
+returns-clause-place g c = λ l query. index_by_query g.K.PartialEq.eq g.met.K.Eq.laws (g.Q.Equivalent.equivalent query) (g.met.Q.Equivalent.respects_eq query) l
 
 pub returns-clause-removal : goal.returns-clause-removal
-returns-clause-removal g c = λ l q. without_by_query g.K.PartialEq.eq g.met.K.Eq.laws (g.Q.Equivalent.equivalent q) (g.met.Q.Equivalent.respects_eq q) l
+returns-clause-removal g c = λ l query. without_by_query g.K.PartialEq.eq g.met.K.Eq.laws (g.Q.Equivalent.equivalent query) (g.met.Q.Equivalent.respects_eq query) l
 
 pub returns-clause-inserted : goal.returns-clause-inserted
-returns-clause-inserted g c = λ l k v q. lookup_put_query g.K.PartialEq.eq g.met.K.Eq.laws (g.Q.Equivalent.equivalent q) (g.met.Q.Equivalent.respects_eq q) l k v
+returns-clause-inserted g c = λ l k v query. lookup_put_query g.K.PartialEq.eq g.met.K.Eq.laws (g.Q.Equivalent.equivalent query) (g.met.Q.Equivalent.respects_eq query) l k v
 
 pub returns-clause-others : goal.returns-clause-others
-returns-clause-others g c = λ l k v q. lookup_put_other_query g.K.PartialEq.eq g.met.K.Eq.laws (g.Q.Equivalent.equivalent q) (g.met.Q.Equivalent.respects_eq q) l k v
+returns-clause-others g c = λ l k v query. lookup_put_other_query g.K.PartialEq.eq g.met.K.Eq.laws (g.Q.Equivalent.equivalent query) (g.met.Q.Equivalent.respects_eq query) l k v
 
 pub returns-clause-removed : goal.returns-clause-removed
-returns-clause-removed g c = λ l d q. lookup_without_query g.K.PartialEq.eq g.met.K.Eq.laws (g.Q.Equivalent.equivalent q) (g.met.Q.Equivalent.respects_eq q) l d
+returns-clause-removed g c = λ l d query. lookup_without_query g.K.PartialEq.eq g.met.K.Eq.laws (g.Q.Equivalent.equivalent query) (g.met.Q.Equivalent.respects_eq query) l d

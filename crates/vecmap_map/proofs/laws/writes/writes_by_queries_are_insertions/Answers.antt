@@ -1,3 +1,4 @@
+-- The idea: each clause is a lemma of `WriteLemmas`, for the test of the query.
 use Rattle.std.proofs.Common.{ap}
 use Rattle.std.specs.Option.{option_map_or}
 use Rattle.vecmap_map.specs.Contents.{with_value_at}
@@ -5,19 +6,19 @@ use Rattle.vecmap_map.proofs.WriteLemmas.{keys_of_with_value_by, lookup_written,
 use Rattle.vecmap_map.proofs.laws.writes.writes_by_queries_are_insertions.Goals as goal
 
 pub returns-clause-write : goal.returns-clause-write
-returns-clause-write g c = λ m q. with_value_by_is_put g.K.PartialEq.eq g.met.K.Eq.laws (g.Q.Equivalent.equivalent q) (g.met.Q.Equivalent.respects_eq q) m
+returns-clause-write g c = λ m query. with_value_by_is_put g.K.PartialEq.eq g.met.K.Eq.laws (g.Q.Equivalent.equivalent query) (g.met.Q.Equivalent.respects_eq query) m
 
 pub returns-clause-value : goal.returns-clause-value
-returns-clause-value g c = λ m q. lookup_written g.K.PartialEq.eq g.met.K.Eq.laws (g.Q.Equivalent.equivalent q) (g.met.Q.Equivalent.respects_eq q) m
+returns-clause-value g c = λ m query. lookup_written g.K.PartialEq.eq g.met.K.Eq.laws (g.Q.Equivalent.equivalent query) (g.met.Q.Equivalent.respects_eq query) m
 
 pub returns-clause-others : goal.returns-clause-others
-returns-clause-others g c = λ m q. lookup_written_other g.K.PartialEq.eq g.met.K.Eq.laws (g.Q.Equivalent.equivalent q) (g.met.Q.Equivalent.respects_eq q) m
+returns-clause-others g c = λ m query. lookup_written_other g.K.PartialEq.eq g.met.K.Eq.laws (g.Q.Equivalent.equivalent query) (g.met.Q.Equivalent.respects_eq query) m
 
 pub returns-clause-other_queries : goal.returns-clause-other_queries
-returns-clause-other_queries g c = λ m q r v apart. lookup_written_other_query g.K.PartialEq.eq g.met.K.Eq.laws (g.Q.Equivalent.equivalent q) (g.met.Q.Equivalent.respects_eq q) (g.Q.Equivalent.equivalent r) (g.met.Q.Equivalent.respects_eq r) apart m v
+returns-clause-other_queries g c = λ m query other v apart. lookup_written_other_query g.K.PartialEq.eq g.met.K.Eq.laws (g.Q.Equivalent.equivalent query) (g.met.Q.Equivalent.respects_eq query) (g.Q.Equivalent.equivalent other) (g.met.Q.Equivalent.respects_eq other) apart m v
 
 pub returns-clause-keys : goal.returns-clause-keys
-returns-clause-keys g c = λ m q. keys_of_with_value_by (g.Q.Equivalent.equivalent q) m
+returns-clause-keys g c = λ m query. keys_of_with_value_by (g.Q.Equivalent.equivalent query) m
 
 pub returns-clause-absent : goal.returns-clause-absent
-returns-clause-absent g c = λ m q v e. ap (λ found. option_map_or (λ i. with_value_at m i v) found m) e
+returns-clause-absent g c = λ m query v e. ap (λ found. option_map_or (λ i. with_value_at m i v) found m) e

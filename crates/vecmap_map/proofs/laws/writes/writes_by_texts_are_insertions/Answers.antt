@@ -1,3 +1,4 @@
+-- The idea: each clause is a lemma of `WriteLemmas`, for the test of the text.
 use Rattle.std.proofs.Common.{ap}
 use Rattle.std.specs.Option.{option_map_or}
 use Rattle.std.specs.Prelude.{string_eq}

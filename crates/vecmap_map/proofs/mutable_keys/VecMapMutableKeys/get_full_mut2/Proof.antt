@@ -1,4 +1,5 @@
--- The map is handed on with the place of the key, and then lends the pair there whole, and the pair both its parts.
+-- The idea: `with_place_by` returns the map with the index of the key, `whole_mut` a reference to the pair at that
+-- index, and `parts_mut` splits it.
 use Rattle.vecmap_map.proofs.LentLemmas.Steps.{Bool, done, ◌≡◌, ℕ, ◌<◌, refl, sym, ap, ◌∙◌, subst, lit<, w64, List, [], ◌∷◌, ◌++◌, Option, Some, None, IfSome, length, option_map, slice_get, a_type, named, dcons, dnil, Val, vint, vptr, vstruct, vcons, vnil, of_list, inst_fn, SProp, sep, emp, id⊢, ftrue, flft, sem, ‵, raw, ◌⊛◌, some, later, at_ret, ◌$◌, ◌∵◌, !, qed, by, move, keep, drop, split, split3, join, fjoin, fsplit3, pick, await, use0, use1, live, vrt, in_variant, whole, sub, agg, name_done, enter, of_opd, lit, addr, stop, fld, no_more, and_then, first, switches_on, exec, returns, alloc_all, pass_all, free_all, look_at, get, get_in, get_tag, through, sets, sets_last, lands_as, env, fact, fact_i, Lfts, Shares, ◌⊑◌, tables, no, RattleType, type_at, plain, RefMutOf, usize, MutBor, mut_vals, mut_Tells, uint_vals, param, bounded, nothing, only, heard, calls_at, Lasts, lasts, on_entry, alive, Vals, triple_of, framed, Stays, stay_dropped, walk_of, Goes-dropped, proved, leaves, after, head, arm_body, option_and_then, feq_i, feq_l, fjoin3, use2, MutRef, Tuple}
 use denote.Param.{copied}
 use denote.Param.Laws.{copied_laws}
@@ -27,8 +28,8 @@ get_full_mut2_spec 𝓤 𝓛 𝓜 𝓡 wired KT VT QT KL VL QL CQ E E-dict C C-d
     let hs : Stays En.signature.params En.kept = (stay_dropped self no, (stay_dropped sought no, tt)) in
     proved 𝓛 En hs c 𝓜 𝓡 (Goes-dropped 𝓛 4 self no (λ κs x f. refl), (Goes-dropped 𝓛 4 sought no (λ κs x f. refl), tt)) (#self inst) fn (code.unfolded 𝓤 H 𝓜 𝓡 wired (KT, (VT, (QT, tt))) E-dict C-dict O-dict P-dict)
     (λ κs. (mut_vals, ((λ x. CQ.val x ∷ []), tt))) (λ κs. (mut_Tells (named 0) κs.0 Row, (CQ.tells, tt))) (λ κs qs bounds a gh are.
-    let S = En.signature in let m : MutBor Row.Denot = a.0 in let test : K.Denot → Bool = E.equivalent a.1.0 in let w-key : Val = CQ.val a.1.0 in let vs : Vals S κs = (mut_vals m, (w-key ∷ [], tt)) in
-    let key-fits = (((copied_laws 2 QT QL).lawful 𝓛).typed a.1.0 (w-key ∷ []) are.1.0).0 in
+    let S = En.signature in let m : MutBor Row.Denot = a.0 in let test : K.Denot → Bool = E.equivalent a.1.0 in let w-query : Val = CQ.val a.1.0 in let vs : Vals S κs = (mut_vals m, (w-query ∷ [], tt)) in
+    let query-fits = (((copied_laws 2 QT QL).lawful 𝓛).typed a.1.0 (w-query ∷ []) are.1.0).0 in
     let y : (walk_of 𝓛 En hs c).Ghost = ((κs, qs, bounds, a, vs), gh) in let Post : Val → SProp 𝓤 = (walk_of 𝓛 En hs c).post y in
     let Out : RattleType = type_at S.result κs in let found : Option ℕ = index_by test m.now.entries in
     let F : Type 0 = κs.1.0 ⊑ KT.lives in let G : Type 0 = κs.1.1.0 ⊑ VT.lives in let J : Type 0 = κs.1.1.1.0 ⊑ QT.lives in
@@ -41,7 +42,7 @@ get_full_mut2_spec 𝓤 𝓛 𝓜 𝓡 wired KT VT QT KL VL QL CQ E E-dict C C-d
     let Within : Option (ℕ × MutBor K.Denot × MutBor V.Denot) → Type 0 = λ x. IfSome x (λ u. u.0 < length m.now.entries) in
     let Shown : Option (ℕ × MutBor K.Denot × MutBor V.Denot) → Type 0 = λ x. option_map (λ u. (u.1.now, u.2.now)) x ≡ lookup_pair_by test m.now.entries in
     qed 𝓛 (raw (on_entry 𝓛 S κs qs a vs) ∷ raw (fact 𝓤 F) ∷ raw (fact 𝓤 G) ∷ raw (fact 𝓤 J) ∷ ‵ ftrue ∷ []) ∵ move ! (1 ∷ []) $ heard ! F (λ inK. move ! (1 ∷ []) $ heard ! G (λ inV. move ! (1 ∷ []) $ heard ! J (λ inQ. keep ! (0 ∷ []) $
-    enter ! 𝓣.C 𝓣.Λ fn (vptr m.ref_ptr.0 m.ref_ptr.1 ∷ w-key ∷ []) Post $ alloc_all ! (λ l. pass_all ! refl ((tt, tt), (key-fits, tt)) $
+    enter ! 𝓣.C 𝓣.Λ fn (vptr m.ref_ptr.0 m.ref_ptr.1 ∷ w-query ∷ []) Post $ alloc_all ! (λ l. pass_all ! refl ((tt, tt), (query-fits, tt)) $
     let Ev = env fn.locals l in
     sets ! (addr ! (through ! refl (stop !))) refl (tt, tt) $
     use1 𝓛 (raw (kA.pre yA)) (beside 𝓤 𝓛 (on_entry 𝓛 S κs qs a vs) _ F G inK inV (qed 𝓛 (raw (emp 𝓤) ∷ []) ∵ use0 𝓛 (raw (fact 𝓤 J)) (fact_i 𝓤 J (emp 𝓤) inQ) $ join ! $ done !)) $
@@ -49,7 +50,7 @@ get_full_mut2_spec 𝓤 𝓛 𝓜 𝓡 wired KT VT QT KL VL QL CQ E E-dict C C-d
     use1 𝓛 (later (some (λ (x : Found.Denot). (raw toks ⊛ ‵ (Found.own_val x (v ∷ []))) ⊛ some (λ (ls : Lasts (A.ended KT VT QT E E-dict C C-dict O O-dict P P-dict) κs a). ‵ (lasts (A.ended KT VT QT E E-dict C C-dict O O-dict P P-dict) κs a ls) ⊛ (raw (fact 𝓤 (x.0 ≡ found)) ⊛ (raw (fact 𝓤 (IfSome x.0 (λ i. i < length m.now.entries))) ⊛ (raw (fact 𝓤 (x.1.ghost_name ≡ m.ghost_name)) ⊛ raw (fact 𝓤 (x.1.now ≡ m.now)))))))))
     (id⊢ 𝓤 (kA.post yA v)) $
     await ! tt $ pick ! (λ x. split ! $ move ! (1 ∷ []) $ pick ! (λ _. split ! $ drop ! $ split ! $ heard ! _ (λ place. split ! $ heard ! _ (λ within. split ! $ heard ! _ (λ name. heard ! _ (λ same. split ! $ move ! (1 ∷ []) $
-    -- [the place and the map; the tokens]
+    -- [the index and the map; the tokens]
     by_parts (named 0) κs.0 (OP.the_row usize) Row ! x v m name same (λ us is.
     let map : MutBor Row.Denot = record m { ref_ptr = x.1.ref_ptr } in let p : Val = vptr x.1.ref_ptr.0 x.1.ref_ptr.1 in
     by_place ! x.0 us

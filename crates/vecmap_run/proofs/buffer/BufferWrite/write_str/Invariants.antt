@@ -3,7 +3,7 @@ use Rattle.std.specs.Io.KnownBytes.{Appends}
 use Rattle.vecmap_run.specs.Buffer.{held}
 use Rattle.vecmap_run.proofs.buffer.BufferWrite.write_str.Given as goal
 
--- what is held has grown by the bytes so far
+-- What the buffer and its writer hold has grown by the bytes so far.
 abbrev pub invariant-loop-byte : goal.invariant-loop-byte
 invariant-loop-byte g l =
     let contents = g.W.Write.contents in

@@ -4,7 +4,7 @@ use Rattle.std.specs.List.{flat_map}
 use Rattle.vecmap_run.specs.Print.{printed_pair}
 use Rattle.vecmap_run.proofs.print.PairsDisplay.fmt.Given as goal
 
--- the pairs so far have been written, a space before each
+-- The pairs so far have been written, each after a space.
 abbrev pub invariant-loop-pair : goal.invariant-loop-pair
 invariant-loop-pair g l =
     IsPlainFormatter l.initial.f →

@@ -2,7 +2,7 @@ use Rattle.std.proofs.Common.{take}
 use Rattle.vecmap_run.specs.Service.{GoesOn}
 use Rattle.vecmap_run.proofs.serve.Service.take.Given as goal
 
--- the bytes so far have been read
+-- The service has proceeded over the bytes so far.
 abbrev pub invariant-loop-byte : goal.invariant-loop-byte
 invariant-loop-byte g l =
     let contents = g.W.Write.contents in

@@ -1,3 +1,4 @@
+-- The idea: the range stands reversed at the end of the vector, so the list of the drain is that part, reversed.
 use Rattle.std.specs.Prelude.{true, refl}
 use Rattle.std.proofs.Common.{◌∙◌, arith}
 use Rattle.vecmap_set.specs.Drain.{DrainKeeps, drain_rest}

@@ -1,3 +1,4 @@
+-- The idea: each list is distinct in either order of the two sets, so it is whichever of them is longer.
 use Rattle.std.specs.List.{IsDistinct}
 use Rattle.vecmap_base.specs.Items.{both}
 use Rattle.vecmap_base.proofs.EqualityLemmas.Relations.{distinct_both, distinct_only, distinct_symmetric_difference, distinct_union}

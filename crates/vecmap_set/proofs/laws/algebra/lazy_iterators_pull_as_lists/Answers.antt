@@ -1,3 +1,4 @@
+-- The idea: each pull gives the first or the last of the list that is left, so `pulls_by` gives each clause.
 use Rattle.std.specs.Map.Iter.{deref}
 use Rattle.vecmap_base.specs.Items.{has_item}
 use Rattle.vecmap_base.proofs.WalkLemmas.{pulls_by}

@@ -1,3 +1,4 @@
+-- The idea: each clause is a lemma on queries, for the test of the text.
 use Rattle.std.specs.Prelude.{string_eq}
 use Rattle.vecmap_base.specs.Pairs.{has_text}
 use Rattle.vecmap_base.proofs.ItemsLemmas.Queries.{has_item_query, item_index_query, without_item_query, without_query_absent}

@@ -1,3 +1,5 @@
+-- The idea: the clones are those of the list that the iterator yields, and clones of its distinct elements are
+-- distinct.
 use Rattle.std.proofs.Common.{◌≡◌, ◌∙◌, ap}
 use Rattle.vecmap_base.proofs.EqualityLemmas.Relations.{distinct_symmetric_difference}
 use Rattle.vecmap_set.specs.Lazy.{PairsFirst, paired}

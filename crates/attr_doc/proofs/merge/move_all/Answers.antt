@@ -1,0 +1,50 @@
+-- The loop keeps that the sections so far are merged, and that there is spare capacity for those still to come.
+use Rattle.std.proofs.Common.{List, ℕ, ◌∙◌, ◌++◌, ap, append_assoc, arith, length, refl, subst, sym}
+use Rattle.std.specs.List.{All}
+use Rattle.std.specs.Map.{keys_of}
+use Rattle.std.specs.Vec.Iter.{into_iter_items}
+use Rattle.std.proofs.lemmas.List.Elements.{All-head, All-tail}
+use Rattle.std.proofs.lemmas.Map.Keys.{IsDistinct-head, IsDistinct-tail}
+use Rattle.vecmap.specs.Contents.{HasRoom}
+use Rattle.vecmap.specs.Pairs.{HasDistinctKeys}
+use Rattle.attr_doc.specs.Documents.{IsRoomFor, Stored, sections_of, with_section}
+use Rattle.attr_doc.specs.Names.{same_name}
+use Rattle.attr_doc.proofs.ChangeLemmas.{merged_push}
+use Rattle.attr_doc.proofs.RoomLemmas.{room_after}
+use Rattle.attr_doc.proofs.merge.move_all.Goals as goal
+
+pub loop-name-init : goal.loop-name-init
+loop-name-init c =
+    let items = c.into_iter-name-iterator.ensures.into_iter_gives.0 in
+    record {
+      moved = refl;
+      rest = sym items;
+      room = subst (λ l. HasRoom c.args.sections.now (length l)) (sym items) c.requires.room;
+      each = subst (All (IsRoomFor c.args.sections.now.entries)) (sym items) c.requires.each;
+      apart = subst (HasDistinctKeys same_name) (sym items) c.requires.apart;
+    }
+
+pub move_section-requires-clause-room : goal.move_section-requires-clause-room
+move_section-requires-clause-room c =
+    let long = ap length c.in-Some.ensures.steps.0 in
+    omega (arith, long, c.loop-name.invariant.room)
+
+pub move_section-requires-clause-room_in : goal.move_section-requires-clause-room_in
+move_section-requires-clause-room_in c = All-head (IsRoomFor c.loop-name.sections.entries) (c.in-Some.name, c.in-Some.texts) (into_iter_items c.next.new.self) (subst (All (IsRoomFor c.loop-name.sections.entries)) c.in-Some.ensures.steps.0 c.loop-name.invariant.each)
+
+pub loop-name-preserved : goal.loop-name-preserved
+loop-name-preserved c =
+    let next = c.in-Some.ensures.steps in
+    let rest = into_iter_items c.next.new.self in
+    let p : List ℕ × Stored = (c.in-Some.name, c.in-Some.texts) in
+    let old = c.loop-name.sections.entries in
+    let apart = subst (HasDistinctKeys same_name) next.0 c.loop-name.invariant.apart in
+    let all = subst (All (IsRoomFor old)) next.0 c.loop-name.invariant.each in
+    let long = ap length next.0 in
+    record {
+      moved = c.move_section.ensures.sections ∙ ap (λ d. with_section d c.in-Some.name c.in-Some.texts.entries) c.loop-name.invariant.moved ∙ sym (merged_push (sections_of c.args.sections.now.entries) c.loop-name.yielded p);
+      rest = rw append_assoc (c.loop-name.invariant.rest ∙ ap (λ l. c.loop-name.yielded ++ l) next.0);
+      room = omega (arith, long, c.move_section.ensures.len, c.move_section.ensures.capacity, c.loop-name.invariant.room);
+      each = room_after old c.move_section.new.sections.entries c.in-Some.name rest (IsDistinct-head same_name c.in-Some.name (keys_of rest) apart) c.move_section.ensures.others (All-tail (IsRoomFor old) p rest all);
+      apart = IsDistinct-tail same_name c.in-Some.name (keys_of rest) apart;
+    }

@@ -1,0 +1,17 @@
+use Rattle.std.proofs.Common.{◌≡◌, ◌++◌, length}
+use Rattle.std.specs.List.{All}
+use Rattle.std.specs.Vec.Iter.{into_iter_items}
+use Rattle.vecmap.specs.Contents.{HasRoom}
+use Rattle.vecmap.specs.Pairs.{HasDistinctKeys}
+use Rattle.attr_doc.specs.Documents.{IsRoomFor, merged, sections_of}
+use Rattle.attr_doc.specs.Names.{same_name}
+use Rattle.attr_doc.proofs.merge.move_all.Given as goal
+
+abbrev pub invariant-loop-name : goal.invariant-loop-name
+invariant-loop-name l = record {
+  moved : sections_of l.sections.entries ≡ merged (sections_of l.fn.sections.entries) (sections_of l.yielded);
+  rest : l.fn.others.items ≡ l.yielded ++ into_iter_items l.name-iterator;
+  room : HasRoom l.sections (length (into_iter_items l.name-iterator));
+  each : All (IsRoomFor l.sections.entries) (into_iter_items l.name-iterator);
+  apart : HasDistinctKeys same_name (into_iter_items l.name-iterator);
+}

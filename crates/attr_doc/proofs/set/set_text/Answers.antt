@@ -1,0 +1,36 @@
+-- An existing section changes by one insertion into its map. A new one is made with its text, and then inserted.
+use Rattle.std.proofs.Common.{◌≡◌, [], ap, option_map, string_bytes, sym, true≢false, refl, ◌∙◌}
+use Rattle.vecmap.specs.Pairs.{put}
+use Rattle.attr_doc.specs.Names.{same_name}
+use Rattle.attr_doc.proofs.ChangeLemmas.{at_ok, on_err, section_stays, set_new, set_there}
+use Rattle.attr_doc.proofs.TextLemmas.{has_text, no_text, text_of_none, text_of_some}
+use Rattle.attr_doc.proofs.set.set_text.Goals as goal
+
+pub returns-in_err-old-in-Some-clause-err : goal.returns-in_err-old-in-Some-clause-err
+returns-in_err-old-in-Some-clause-err c =
+    on_err c.from_residual.result (section_stays c.args.sections.now c.args.section c.in-Some.texts.now c.set_in.new.texts c.in-Some.ensures.value (c.in-Some.ensures.found.0 refl) (ap (λ m. m.entries) c.in_err-old-in-Some.ensures.err))
+
+pub returns-in_err-old-in-Some-clause-there : goal.returns-in_err-old-in-Some-clause-there
+returns-in_err-old-in-Some-clause-there c = λ h.
+    absurd (true≢false (sym (c.in_err-old-in-Some.ensures.there (has_text c.args.sections.now.entries c.args.section c.args.name c.in-Some.texts.now c.in-Some.ensures.value h))))
+
+pub returns-in_ok-old-in-Some-clause-sections : goal.returns-in_ok-old-in-Some-clause-sections
+returns-in_ok-old-in-Some-clause-sections c = set_there c.args.sections.now c.args.section c.in-Some.texts.now c.set_in.new.texts c.in-Some.ensures.value (c.in-Some.ensures.found.0 refl) c.args.name c.args.text c.in_ok-old-in-Some.ensures.texts
+
+pub returns-in_ok-old-in-Some-clause-old : goal.returns-in_ok-old-in-Some-clause-old
+returns-in_ok-old-in-Some-clause-old c =
+    ap (option_map string_bytes) c.in_ok-old-in-Some.ensures.old
+    ∙ text_of_some c.args.sections.now.entries c.args.section c.args.name c.in-Some.texts.now c.in-Some.ensures.value
+
+pub returns-then-is_err-clause-there : goal.returns-then-is_err-clause-there
+returns-then-is_err-clause-there c = no_text c.args.sections.now.entries c.args.section c.args.name c.in-None.ensures.value
+
+pub returns-else-is_err-2-clause-sections : goal.returns-else-is_err-2-clause-sections
+returns-else-is_err-2-clause-sections c =
+    let l = c.args.sections.now.entries in
+    let first : c.insert.new.self.entries ≡ put same_name [] c.args.name c.args.text = at_ok c.insert.result c.unwrap.result c.unwrap.ensures c.insert.ensures.entries ∙ ap (λ f. put same_name f c.args.name c.args.text) (c.reserve.ensures.entries ∙ c.new-texts.ensures.entries) in
+    let last : c.insert-in-None.new.self.entries ≡ put same_name l c.args.section c.insert.new.self = at_ok c.insert-in-None.result c.unwrap-in-None.result c.unwrap-in-None.ensures c.insert-in-None.ensures.entries ∙ ap (λ f. put same_name f c.args.section c.insert.new.self) c.reserve-else-is_err.ensures.entries in
+    set_new l c.insert-in-None.new.self.entries c.args.section c.args.name c.args.text c.insert.new.self c.in-None.ensures.value first last
+
+pub returns-else-is_err-2-clause-old : goal.returns-else-is_err-2-clause-old
+returns-else-is_err-2-clause-old c = text_of_none c.args.sections.now.entries c.args.section c.args.name c.in-None.ensures.value

@@ -1,0 +1,90 @@
+//! The work of `Document::merge`, over the maps of sections alone: to reserve capacity for everything, then to move it.
+ghost use Rattle.attr_doc.specs.Documents.{HasRoomAt, IsRoomFor, merged, sections_of, with_section};
+ghost use Rattle.attr_doc.specs.Names.{same_name};
+ghost use Rattle.std.specs.Prelude.{All, ◌≡◌, ◌+◌, ◌<◌, ◌≤◌, ℕ, List, OnErr, OnOk, false, length};
+ghost use Rattle.vecmap.specs.Contents.{HasRoom};
+ghost use Rattle.vecmap.specs.Pairs.{HasDistinctKeys, lookup};
+
+use crate::Name;
+use std::alloc::AllocError;
+use vecmap::VecMap;
+
+// Reserves capacity for all sections of another map. The sections stay the same, also if the allocator refuses a
+// request.
+pub(crate) fn make_room(
+    sections: &mut VecMap<Name, VecMap<Name, String>>,
+    others: &VecMap<Name, VecMap<Name, String>>,
+) -> Result<(), AllocError>
+    ensures kept { sections_of sections.new.entries ≡ sections_of sections.old.entries }
+    ensures room { OnOk result (HasRoom sections.new (length others.now.entries)) }
+    ensures each { OnOk result (All (IsRoomFor sections.new.entries) others.now.entries) }
+    ensures some { OnErr result (0 < length others.now.entries) }
+{
+    sections.reserve(others.len())?;
+    for other in others.as_slice() {
+        reserve_in(sections, &other.0, other.1.len())?;
+    }
+    Ok(())
+}
+
+// Moves all sections into a map that has spare capacity for them.
+pub(crate) fn move_all(
+    sections: &mut VecMap<Name, VecMap<Name, String>>,
+    others: Vec<(Name, VecMap<Name, String>)>,
+)
+    requires room { HasRoom sections.old (length others.items) }
+    requires each { All (IsRoomFor sections.old.entries) others.items }
+    requires apart { HasDistinctKeys same_name others.items }
+    ensures { sections_of sections.new.entries
+        ≡ merged (sections_of sections.old.entries) (sections_of others.items) }
+{
+    for (name, texts) in others {
+        move_section(sections, name, texts);
+    }
+}
+
+// Reserves capacity for `additional` texts in a section, if it exists. The sections stay the same, also if the
+// allocator refuses the request.
+fn reserve_in(
+    sections: &mut VecMap<Name, VecMap<Name, String>>,
+    name: &Name,
+    additional: usize,
+) -> Result<(), AllocError>
+    ensures kept { sections_of sections.new.entries ≡ sections_of sections.old.entries }
+    ensures capacity { sections.new.capacity ≡ sections.old.capacity }
+    ensures keeps { (other : List ℕ) (n : ℕ) → HasRoomAt sections.old.entries other n
+        → HasRoomAt sections.new.entries other n }
+    ensures room { OnOk result (HasRoomAt sections.new.entries name.now additional) }
+{
+    match sections.get_mut(name) {
+        Some(texts) => {
+            texts.reserve(additional)?;
+            Ok(())
+        }
+        None => Ok(()),
+    }
+}
+
+// Moves a section into a map that has spare capacity for it.
+fn move_section(
+    sections: &mut VecMap<Name, VecMap<Name, String>>,
+    name: Name,
+    mut texts: VecMap<Name, String>,
+)
+    requires room { HasRoom sections.old 1 }
+    requires room_in { HasRoomAt sections.old.entries name (length texts.entries) }
+    ensures sections { sections_of sections.new.entries
+        ≡ with_section (sections_of sections.old.entries) name texts.entries }
+    ensures capacity { sections.new.capacity ≡ sections.old.capacity }
+    ensures len { length sections.new.entries ≤ length sections.old.entries + 1 }
+    ensures others { (other : List ℕ) → same_name name other ≡ false
+        → lookup same_name sections.new.entries other
+        ≡ lookup same_name sections.old.entries other }
+{
+    match sections.get_mut(&name) {
+        Some(there) => there.append(&mut texts).unwrap(),
+        None => {
+            sections.insert(name, texts).unwrap();
+        }
+    }
+}

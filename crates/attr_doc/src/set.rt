@@ -1,0 +1,70 @@
+//! The work of `Document::set`, over the map of sections alone, which has simpler contracts than a document.
+ghost use Rattle.attr_doc.specs.Documents.{sections_of, text_of, with_text};
+ghost use Rattle.attr_doc.specs.Names.{same_name};
+ghost use Rattle.std.specs.Prelude.{◌≡◌, IfErr, IfOk, IsOk, IsSome, OnErr, OnOk, option_map, string_bytes};
+ghost use Rattle.vecmap.specs.Pairs.{index_of, lookup, put};
+
+use crate::Name;
+use std::alloc::Global;
+use vecmap::{Refused, VecMap};
+
+// Sets the text under a section and a name, and returns the previous one. Reserves capacity for a new section and for
+// its text before it inserts either.
+pub(crate) fn set_text(
+    sections: &mut VecMap<Name, VecMap<Name, String>>,
+    alloc: Global,
+    section: Name,
+    name: Name,
+    text: String,
+) -> Result<Option<String>, Refused<(Name, Name, String)>>
+    ensures sections { OnOk result (sections_of sections.new.entries
+        ≡ with_text (sections_of sections.old.entries) section name text) }
+    ensures old { IfOk result (λ old. option_map string_bytes old
+        ≡ text_of (sections_of sections.old.entries) section name) }
+    ensures there { IsSome (text_of (sections_of sections.old.entries) section name) → IsOk result }
+    ensures given { IfErr result (λ refused. refused.given ≡ (section, name, text)) }
+    ensures err { OnErr result (sections_of sections.new.entries
+        ≡ sections_of sections.old.entries) }
+{
+    match sections.get_mut(&section) {
+        Some(texts) => {
+            let old = set_in(texts, section, name, text)?;
+            Ok(old)
+        }
+        None => {
+            let mut texts = VecMap::new(alloc);
+            if texts.reserve(1).is_err() || sections.reserve(1).is_err() {
+                return Err(Refused {
+                    given: (section, name, text),
+                });
+            }
+            texts.insert(name, text).unwrap();
+            sections.insert(section, texts).unwrap();
+            Ok(None)
+        }
+    }
+}
+
+// Sets the text under a name in an existing section.
+fn set_in(
+    texts: &mut VecMap<Name, String>,
+    section: Name,
+    name: Name,
+    text: String,
+) -> Result<Option<String>, Refused<(Name, Name, String)>>
+    ensures texts { OnOk result (texts.new.entries ≡ put same_name texts.old.entries name text) }
+    ensures old { IfOk result (λ old. old ≡ lookup same_name texts.old.entries name) }
+    ensures there { IsSome (index_of same_name texts.old.entries name) → IsOk result }
+    ensures given { IfErr result (λ refused. refused.given ≡ (section, name, text)) }
+    ensures err { OnErr result (texts.new ≡ texts.old) }
+{
+    match texts.insert(name, text) {
+        Ok(old) => Ok(old),
+        Err(refused) => {
+            let (name, text) = refused.given;
+            Err(Refused {
+                given: (section, name, text),
+            })
+        }
+    }
+}

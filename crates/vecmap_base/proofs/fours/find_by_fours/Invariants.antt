@@ -1,6 +1,0 @@
-use Rattle.std.proofs.Common.{◌≡◌, ◌*◌, Bool, None, position, take}
-use Rattle.vecmap_base.specs.Orders.{AnswersOnItem}
-use Rattle.vecmap_base.proofs.fours.find_by_fours.Given as goal
-
-abbrev pub invariant-loop-four : goal.invariant-loop-four
-invariant-loop-four g l = (p : g.row.T.Denot → Bool) → AnswersOnItem g.F.Fn p l.asks → position p (take (4 * l.four) l.items) ≡ None

@@ -1,0 +1,108 @@
+//! The pairs of a map that closures keep.
+use std::mem;
+use std::test::Fail;
+use vecmap::VecMap;
+use vecmap::map::MutableKeys;
+use vecmap_fixtures::{Log, has_pairs, make_item, repeating_map, told_pairs};
+
+const FOUR: &[(u32, char, u32)] = &[(1, 'a', 1), (2, 'b', 2), (1, 'c', 3), (4, 'd', 4)];
+
+#[test]
+fn retain_keeps_the_values_that_the_closure_wrote(rt: HostRuntime) -> Result<(), Fail> {
+    let mut map = repeating_map(rt.alloc(), FOUR)?;
+    let room = map.capacity();
+    let mut asked = 0u32;
+    map.retain(|key, value| {
+        asked = asked.wrapping_add(1);
+        *value = asked.wrapping_mul(100);
+        key.number == 1
+    });
+    assert!(rt; asked == 4);
+    assert!(rt; has_pairs(map.as_slice(), &[(1, 'a', 100), (1, 'c', 300)]));
+    assert!(rt; map.capacity() == room);
+    map.retain(|_key, _value| true);
+    assert!(rt; has_pairs(map.as_slice(), &[(1, 'a', 100), (1, 'c', 300)]));
+    map.retain(|_key, _value| false);
+    assert!(rt; map.is_empty() && map.capacity() == room);
+    map.retain(|_key, _value| true);
+    assert!(rt; map.is_empty());
+    Ok(())
+}
+
+#[test]
+fn retain_calls_a_closure_with_state_in_order(rt: HostRuntime) -> Result<(), Fail> {
+    let mut map = repeating_map(rt.alloc(), FOUR)?;
+    let mut asked = Vec::new(rt.alloc());
+    let mut turn = false;
+    map.retain(|key, _value| {
+        let _pushed = asked.push(key.mark);
+        turn = !turn;
+        !turn
+    });
+    assert!(rt; asked.as_slice() == ['a', 'b', 'c', 'd'].as_slice());
+    assert!(rt; has_pairs(map.as_slice(), &[(2, 'b', 2), (4, 'd', 4)]));
+    Ok(())
+}
+
+#[test]
+fn closures_of_retain_count_their_calls(rt: HostRuntime) -> Result<(), Fail> {
+    let four = [('a', 0), ('b', 0), ('c', 0), ('d', 0)];
+    let mut map = VecMap::from_slice(rt.alloc(), &four)?;
+    let mut count = 0u32;
+    map.retain(|_key, value| {
+        count = count.wrapping_add(1);
+        *value = count;
+        count % 2 == 0
+    });
+    assert!(rt; count == 4 && map.as_slice() == [('b', 2), ('d', 4)].as_slice());
+    map.retain2(|key, value| {
+        count = count.wrapping_add(1);
+        *value = count;
+        *key = 'e';
+        count == 6
+    });
+    assert!(rt; count == 6 && map.as_slice() == [('e', 6)].as_slice());
+    Ok(())
+}
+
+#[test]
+fn retain2_writes_keys_too(rt: HostRuntime) -> Result<(), Fail> {
+    let mut map = VecMap::new(rt.alloc());
+    for x in 0..8u32 {
+        map.insert(x, x * 10)?;
+    }
+    let room = map.capacity();
+    map.retain2(|key, value| {
+        mem::swap(key, value);
+        *value % 2 == 0
+    });
+    assert!(rt; map.as_slice() == [(0, 0), (20, 2), (40, 4), (60, 6)].as_slice());
+    assert!(rt; map.capacity() == room);
+    Ok(())
+}
+
+#[test]
+fn retain2_may_make_keys_equal(rt: HostRuntime) -> Result<(), Fail> {
+    let mut map = repeating_map(rt.alloc(), &[(1, 'a', 1), (2, 'b', 2), (3, 'c', 3)])?;
+    map.retain2(|key, value| {
+        *key = make_item(7, key.mark);
+        *value != 2
+    });
+    assert!(rt; has_pairs(map.as_slice(), &[(7, 'a', 1), (7, 'c', 3)]));
+    assert!(rt; !map.has_distinct_keys());
+    assert!(rt; map.get(&make_item(7, 'z')) == Some(&1));
+    Ok(())
+}
+
+#[test]
+fn each_key_that_retain_removes_is_dropped_once(rt: HostRuntime) -> Result<(), Fail> {
+    let log = Log::new();
+    let mut map = VecMap::from(told_pairs(rt.alloc(), &log, &[0, 1, 2, 3, 4])?);
+    map.retain(|_key, value| *value % 2 == 0);
+    assert!(rt; (map.len(), log.drops()) == (3, 2));
+    map.retain2(|_key, value| *value == 2);
+    assert!(rt; (map.len(), log.drops()) == (1, 4));
+    drop(map);
+    assert!(rt; log.drops() == 5);
+    Ok(())
+}

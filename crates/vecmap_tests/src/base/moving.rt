@@ -1,0 +1,66 @@
+//! Moves of items within a vector.
+use std::alloc::{AllocError, Global};
+use std::test::Fail;
+use vecmap_base::{put_in, replace_and_move, take_out};
+
+#[test]
+fn replace_and_move_shifts_the_items_between_both_indices(rt: HostRuntime) -> Result<(), Fail> {
+    for (from, to, old, left) in [
+        (0, 0, 'a', ['z', 'b', 'c', 'd']),
+        (0, 2, 'a', ['b', 'c', 'z', 'd']),
+        (0, 3, 'a', ['b', 'c', 'd', 'z']),
+        (2, 1, 'c', ['a', 'z', 'b', 'd']),
+        (3, 0, 'd', ['z', 'a', 'b', 'c']),
+    ] {
+        let mut items = vec![in rt.alloc(); 'a', 'b', 'c', 'd']?;
+        assert!(rt; from < items.len() && to < items.len());
+        assert!(rt; replace_and_move(&mut items, from, to, 'z') == old);
+        assert!(rt; items.as_slice() == left.as_slice(), "from {from} to {to}");
+    }
+    Ok(())
+}
+
+// Whether `take_out` removes each of three items in turn, and leaves the two others and the capacity.
+fn takes_each<T: Eq + Copy + Drop>(alloc: Global, items: &[T; 3]) -> Result<bool, AllocError> {
+    for (index, left) in [
+        (0, [items[1], items[2]]),
+        (1, [items[0], items[2]]),
+        (2, [items[0], items[1]]),
+    ] {
+        let mut list = items.to_vec(alloc)?;
+        let capacity = list.capacity();
+        if list.len() <= index || take_out(&mut list, index) != items[index] {
+            return Ok(false);
+        }
+        if list.as_slice() != left.as_slice() || list.capacity() != capacity {
+            return Ok(false);
+        }
+    }
+    Ok(true)
+}
+
+#[test]
+fn take_out_removes_small_and_large_items(rt: HostRuntime) -> Result<(), Fail> {
+    assert!(rt; takes_each(rt.alloc(), &[7_u8, 8, 9])?);
+    assert!(rt; takes_each(rt.alloc(), &[[7_u64; 8], [8; 8], [9; 8]])?);
+    assert!(rt; takes_each(rt.alloc(), &[[7_u64; 9], [8; 9], [9; 9]])?);
+    assert!(rt; takes_each(rt.alloc(), &[(), (), ()])?);
+    Ok(())
+}
+
+#[test]
+fn put_in_inserts_at_each_index(rt: HostRuntime) -> Result<(), Fail> {
+    for (index, left) in [
+        (0, ['z', 'a', 'b']),
+        (1, ['a', 'z', 'b']),
+        (2, ['a', 'b', 'z']),
+    ] {
+        let mut items = vec![in rt.alloc(); 'a', 'b']?;
+        items.reserve(1)?;
+        let capacity = items.capacity();
+        assert!(rt; index <= items.len() && items.len() < items.capacity());
+        put_in(&mut items, index, 'z');
+        assert!(rt; items.as_slice() == left.as_slice() && items.capacity() == capacity);
+    }
+    Ok(())
+}

@@ -1,0 +1,28 @@
+//! A map that is created by insertions, and what a proof knows of it.
+ghost use Rattle.std.specs.Prelude.{◌≡◌, ◌∷◌, IfOk, List, [], codes, map, ℕ};
+
+use std::alloc::{AllocError, Global};
+use vecmap::VecMap;
+
+/// Inserts three pairs, two of them with the same key. The contract states the pairs of the map.
+pub fn headers(alloc: Global) -> Result<VecMap<&'static str, u32>, AllocError>
+    ensures { IfOk result (λ made. map {B = List ℕ × ℕ} (λ pair. (pair.0.now, pair.1)) made.entries ≡ (codes "age", 30) ∷ (codes "max", 20) ∷ []) }
+{
+    let mut map = VecMap::new(alloc);
+    map.insert("age", 10)?;
+    map.insert("max", 20)?;
+    map.insert("age", 30)?;
+    Ok(map) // [("age", 30), ("max", 20)]
+}
+
+#[cfg(test)]
+mod tests {
+    use super::*;
+    use std::test::Fail;
+
+    #[test]
+    fn insertions_give_the_list_of_the_contract(rt: HostRuntime) -> Result<(), Fail> {
+        assert!(rt; headers(rt.alloc())?.as_slice() == [("age", 30), ("max", 20)].as_slice());
+        Ok(())
+    }
+}
