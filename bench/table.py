@@ -1,21 +1,21 @@
 """Reads runs of the benchmark, one for each order of the functions, and prints a table for each contender.
 
-A cell is the median over the runs of the ratio to the original, then the least and the greatest, and the medians of the
-least nanoseconds of an operation, the contender's and the original's.
+A cell has the median of the ratios to the original over the runs, the least and the greatest ratio, and the medians of
+the least nanoseconds of an operation, of the contender and of the original.
 """
 import statistics
 import sys
 
 
 def read(name):
-    """The lines of a run: (contender, row, size) to the original's time, the contender's, and the ratio."""
+    """Returns the lines of a run: for (contender, row, size), the original's time, the contender's, and the ratio."""
     with open(name) as file:
         lines = [line.rstrip("\n").split("\t") for line in file]
     return {(who, row, int(size)): [float(x) for x in rest] for row, size, who, *rest in lines}
 
 
 def cell(found):
-    """What a table shows of one row at one size."""
+    """Returns the cell of one row at one size."""
     if not found:
         return ""
     theirs, ours = (statistics.median(times[i] for times in found) for i in (0, 1))

@@ -1,7 +1,7 @@
-//! Counts requests for memory: those of one round of each row, of the original and of this library.
+//! Counts requests for memory: those of one round of each row, for the original and for this library.
 //!
-//! It prints the rows that differ, and how many do not. The heap of the Rattle library is this program's, in place of
-//! the kit's, and so is the allocator of Rust.
+//! It prints the rows that differ, and the number of rows that do not. Both sides use the heap of this program: the
+//! Rattle library instead of the kit's heap, and Rust as its allocator.
 #[macro_use]
 mod loops;
 mod inputs;
@@ -89,7 +89,7 @@ pub extern "C" fn rattle_dealloc(p: *mut u8) {
     unsafe { free(p) }
 }
 
-/// Requests, growths, frees, and bytes asked for.
+/// Requests, growths, frees, and the bytes that were requested.
 type Counts = [u64; 4];
 
 fn counts() -> Counts {
@@ -103,13 +103,13 @@ fn counts_of<T>(row: &Row<T>, run: Loop<T>, rounds: u64) -> Counts {
     [0, 1, 2, 3].map(|i| after[i] - before[i])
 }
 
-/// What the second of two rounds asks for.
+/// Returns the requests of the second of two rounds.
 fn round<T>(row: &Row<T>, run: Loop<T>) -> Counts {
     let (one, two) = (counts_of(row, run, 1), counts_of(row, run, 2));
     [0, 1, 2, 3].map(|i| two[i].wrapping_sub(one[i]))
 }
 
-/// How many loops of this library ask for what the original does, and how many there are.
+/// Returns how many loops of this library make the same requests as the original, and how many loops there are.
 fn compare<T>(rows: Vec<Row<T>>, n: usize) -> (usize, usize) {
     let mut equal = (0, 0);
     for row in rows {

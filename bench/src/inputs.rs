@@ -1,4 +1,4 @@
-//! What the rows run on. A key is a random number, and probes stand in a shuffled order.
+//! The inputs of the rows. Keys are random numbers, and probes are in a shuffled order.
 
 /// splitmix64
 struct Random(u64);
@@ -25,25 +25,25 @@ impl Random {
     }
 }
 
-/// Keys, and what is looked up, inserted or removed.
+/// Keys, and the numbers that are looked up, inserted or removed.
 pub struct Numbers {
-    /// Distinct, and even.
+    /// Distinct even numbers.
     pub keys: Vec<u64>,
     /// The keys in another order.
     pub hits: Vec<u64>,
-    /// Eight orders of the keys, so that a removal is not always at the first place.
+    /// Eight orders of the keys, so that a removal is not always at the first index.
     pub orders: Vec<u64>,
-    /// As many others.
+    /// As many odd numbers, none of them a key.
     pub misses: Vec<u64>,
-    /// Of each hit and miss one of both.
+    /// At each index, either the hit or the miss at that index.
     pub mixed: Vec<u64>,
-    /// Half of the keys and as many others.
+    /// Half of the hits and as many misses, shuffled.
     pub half: Vec<u64>,
-    /// As many as there are keys, about four to a key.
+    /// As many numbers as keys, with each key about four times.
     pub repeats: Vec<u64>,
-    /// Four times as many, the front ones more often.
+    /// Four times as many keys, the first ones more often.
     pub words: Vec<u64>,
-    /// 1000 commands: a key below the size, above a byte that says which.
+    /// 1000 commands. Each has a key below the size, and in its low byte the kind of the command.
     pub commands: Vec<u64>,
 }
 
@@ -83,7 +83,7 @@ impl Numbers {
     }
 }
 
-/// The same as lines of text.
+/// The same inputs as lines of text.
 pub struct Texts {
     pub keys: Vec<u8>,
     pub hits: Vec<u8>,
@@ -92,7 +92,7 @@ pub struct Texts {
     /// Keys of 188 bytes, of which the first 168 are equal.
     pub long_keys: Vec<u8>,
     pub long_hits: Vec<u8>,
-    /// A section and a name in each line: eight names to a section.
+    /// A section and a name in each line, with eight names to a section.
     pub names: Vec<u8>,
     /// The same in another order, and in capital letters.
     pub other_names: Vec<u8>,

@@ -1,5 +1,5 @@
-//! The loops, once for each map and set that they run over: the same text, statement by statement, as those in Rattle
-//! in `crates/vecmap_bench`.
+//! The loops, once for each map and set that they run over. Statement by statement, they are the same as the loops in
+//! Rattle in `crates/vecmap_bench`.
 #[macro_use]
 mod equality;
 #[macro_use]

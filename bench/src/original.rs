@@ -31,7 +31,7 @@ placed_set_loops!(VecSet);
 text_loops!(VecMap);
 placed_text_loops!(VecMap);
 
-// The last element and the number of elements, in one number.
+// Returns the last element and the number of elements, combined in one number.
 fn set_mark(set: &VecSet<u64>) -> u64 {
     match set.last() {
         Some(item) => item.wrapping_add(set.len() as u64),

@@ -1,4 +1,4 @@
-//! The loops over the peers, where their folders are given.
+//! The loops over the peers, if their folders are given.
 
 /// indexmap, with its own hasher.
 pub mod index {

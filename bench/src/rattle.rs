@@ -1,4 +1,5 @@
-//! The loops over this library, in Rattle. A slice is a pointer and a length; `alloc: Global` is no argument.
+//! The loops over this library, in Rattle. A slice is passed as a pointer and a length, and `alloc: Global` is not
+//! passed.
 macro_rules! calls {
     ($t:ty: $($name:ident = $export:ident),* $(,)?) => {$(
         pub fn $name(keys: &[$t], probes: &[$t], rounds: u64) -> u64 {

@@ -1,4 +1,4 @@
-//! The rows: what is timed or counted, on which input.
+//! The rows: each loop that is timed or counted, with its input.
 use crate::inputs::{Numbers, Texts};
 #[cfg(peers)]
 use crate::peers::{index, linear};
@@ -9,11 +9,11 @@ pub type Loop<T> = fn(&[T], &[T], u64) -> u64;
 /// One loop over the original, this library and perhaps the peers.
 pub struct Row<'a, T> {
     pub name: &'static str,
-    /// How many operations one round makes.
+    /// The number of operations of one round.
     pub steps: usize,
     pub keys: &'a [T],
     pub probes: &'a [T],
-    /// The loop over the original stands first.
+    /// The loops. The first is that over the original.
     pub loops: Vec<(&'static str, Loop<T>)>,
 }
 
@@ -37,7 +37,7 @@ macro_rules! row {
     }};
 }
 
-/// All rows over numbers.
+/// Returns all rows over numbers.
 pub fn numbers(it: &Numbers) -> Vec<Row<'_, u64>> {
     let mut rows = lookups(it);
     rows.extend(insertions(it));
@@ -195,7 +195,7 @@ fn runs(it: &Numbers) -> Vec<Row<'_, u64>> {
     vec![map, set]
 }
 
-/// All rows over texts, of which there are `n`.
+/// Returns all rows over texts, of which there are `n`.
 pub fn texts(it: &Texts, n: usize) -> Vec<Row<'_, u8>> {
     let mut rows = vec![
         row!("String get_str hit", n, &it.keys, &it.hits, text_get, linear, index),

@@ -1,7 +1,8 @@
-//! Times each row: its loops in turn, on the same inputs, in many interleaved samples.
+//! Times each row: its loops alternate on the same inputs, in many interleaved samples.
 //!
-//! A line for each loop but the original's: the row, the size, whose loop it is, the least nanoseconds of an operation of
-//! the original and of it, and the median of its ratios to the original, sample by sample.
+//! It prints a line for each loop except the original's: the row, the size, the name of the library, the least
+//! nanoseconds of an operation of the original and of this loop, and the median of the ratios to the original, sample
+//! by sample.
 #[macro_use]
 mod loops;
 mod inputs;
@@ -17,10 +18,10 @@ use std::env;
 use std::hint::black_box;
 
 struct Settings {
-    /// Parts of the names of the rows that are timed; none for all.
+    /// Parts of the names of the rows that are timed. If it is empty, all rows are.
     only: Vec<String>,
     samples: usize,
-    /// How long a sample takes at least.
+    /// The least time of a sample.
     seconds: f64,
 }
 
@@ -34,27 +35,27 @@ unsafe extern "C" {
     fn clock_gettime(clock: i32, time: &mut Timespec) -> i32;
 }
 
-/// The processor time of this thread, which leaves out what other programs take of a busy machine.
+/// Returns the processor time of this thread, which does not include the time of other programs.
 fn processor_seconds() -> f64 {
     const CLOCK_THREAD_CPUTIME_ID: i32 = 3;
     let mut time = Timespec {
         seconds: 0,
         nanoseconds: 0,
     };
-    // Safety: it writes the time and no more.
+    // Safety: it only writes the time.
     let status = unsafe { clock_gettime(CLOCK_THREAD_CPUTIME_ID, &mut time) };
     assert_eq!(status, 0);
     time.seconds as f64 + time.nanoseconds as f64 * 1e-9
 }
 
-/// The seconds that a loop takes, and its checksum.
+/// Returns the seconds that a loop takes, and its checksum.
 fn timed<T>(row: &Row<T>, run: Loop<T>, rounds: u64) -> (f64, u64) {
     let start = processor_seconds();
     let sum = black_box(run)(black_box(row.keys), black_box(row.probes), black_box(rounds));
     (processor_seconds() - start, black_box(sum))
 }
 
-/// As many rounds as the original needs for a sample.
+/// Returns the number of rounds that the original needs for a sample.
 fn rounds_of<T>(row: &Row<T>, seconds: f64) -> u64 {
     let mut rounds = 1;
     while timed(row, row.loops[0].1, rounds).0 < seconds {

@@ -1,6 +1,6 @@
 //! Loops that compare maps.
 
-/// Equality of maps with places. `$end` lends the pair at a place for writing.
+/// Loops that compare maps with indices. `$end` lends the pair at an index for writing.
 macro_rules! equality_loops {
     ($end:expr) => {
         #[inline(never)]

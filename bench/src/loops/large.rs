@@ -1,6 +1,6 @@
 //! Loops over maps whose values have 128 bytes.
 
-/// What every map can do. `$remove` keeps the order, `$last` answers the last pair, `$from` takes a vector.
+/// Loops over any map. `$remove` keeps the order, `$last` returns the last pair, and `$from` takes a vector.
 macro_rules! large_loops {
     ($map:ident, $remove:ident, $last:expr, $from:expr) => {
         type Large = [u64; 16];
@@ -91,7 +91,7 @@ macro_rules! large_loops {
     };
 }
 
-/// What maps with places can do.
+/// Loops over maps with indices.
 macro_rules! placed_large_loops {
     ($map:ident) => {
         #[inline(never)]

@@ -1,6 +1,6 @@
 //! Loops over maps of numbers.
 
-/// What every map can do. `$remove` keeps the order, `$last` answers the last pair, `$from` takes a vector.
+/// Loops over any map. `$remove` keeps the order, `$last` returns the last pair, and `$from` takes a vector.
 macro_rules! map_loops {
     ($map:ident, $remove:ident, $last:expr, $from:expr) => {
         pub fn filled(keys: &[u64]) -> $map<u64, u64> {
@@ -168,7 +168,7 @@ macro_rules! map_loops {
     };
 }
 
-/// What maps with places can do. `$remove_index` keeps the order, and `$first` takes the pair out of its answer.
+/// Loops over maps with indices. `$remove_index` keeps the order, and `$first` extracts the pair from its result.
 macro_rules! placed_loops {
     ($map:ident, $remove_index:ident, $first:expr) => {
         #[inline(never)]

@@ -1,6 +1,6 @@
 //! Loops over sets of numbers.
 
-/// What every set can do.
+/// Loops over any set.
 macro_rules! set_loops {
     ($set:ident, $from:expr) => {
         pub fn set_filled(items: &[u64]) -> $set<u64> {
@@ -55,7 +55,7 @@ macro_rules! set_loops {
     };
 }
 
-/// What sets with places can do.
+/// Loops over sets with indices.
 macro_rules! placed_set_loops {
     ($set:ident) => {
         fn turn(set: &mut $set<u64>) {

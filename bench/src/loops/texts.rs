@@ -1,6 +1,6 @@
 //! Loops over maps whose keys are texts.
 
-/// What every map can do.
+/// Loops over any map.
 macro_rules! text_loops {
     ($map:ident) => {
         fn numbered(text: &str) -> $map<String, u64> {
@@ -72,7 +72,7 @@ macro_rules! text_loops {
     };
 }
 
-/// What maps with places can do.
+/// Loops over maps with indices.
 macro_rules! placed_text_loops {
     ($map:ident) => {
         #[inline(never)]

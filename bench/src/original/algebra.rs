@@ -1,4 +1,4 @@
-//! Sets of two sets: by iterators, and by operators.
+//! Sets that are computed from two sets, by iterators and by operators.
 use super::{set_filled as filled, set_mark as mark};
 
 #[inline(never)]

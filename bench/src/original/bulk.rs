@@ -1,8 +1,9 @@
-//! What the peers cannot do: insertions at a place, a map appended to another, and counted comparisons.
+//! Calls that the peers do not have: insertions at an index, a map that is appended to another, and counted
+//! comparisons.
 use super::{filled, mark, pairs};
 use vecmap::VecMap;
 
-/// The original counts nothing: of distinct keys the number of comparisons is known.
+/// The original does not count, but for distinct keys the number of comparisons is known.
 #[inline(never)]
 pub fn from_vec_counted(keys: &[u64], _: &[u64], rounds: u64) -> u64 {
     let mut sum = 0u64;
@@ -16,7 +17,7 @@ pub fn from_vec_counted(keys: &[u64], _: &[u64], rounds: u64) -> u64 {
     sum
 }
 
-// Each key goes to the place that its number gives.
+// Each key moves to the index that its number gives.
 #[inline(never)]
 pub fn insert_at_present(keys: &[u64], probes: &[u64], rounds: u64) -> u64 {
     let mut map = filled(keys);
@@ -37,7 +38,7 @@ pub fn insert_at_present(keys: &[u64], probes: &[u64], rounds: u64) -> u64 {
     sum
 }
 
-// Each key is new and goes to the middle.
+// Each key is new and is inserted in the middle.
 #[inline(never)]
 pub fn insert_at_absent(keys: &[u64], _: &[u64], rounds: u64) -> u64 {
     let mut sum = 0u64;

@@ -1,7 +1,7 @@
-//! Documents of sections and texts over the original's maps: what `crates/attr_doc` does, call by call.
+//! Documents of sections and texts over the original's maps: the same as `crates/attr_doc`, call by call.
 use vecmap::VecMap;
 
-/// A name that is the same in either case of its ASCII letters.
+/// A name whose `==` ignores the case of ASCII letters.
 pub struct Name(pub String);
 
 impl PartialEq for Name {

@@ -1,11 +1,11 @@
-//! Attribute documents: a line of the text is a section and a name, with a space between them.
+//! Attribute documents. A line of the text is a section and a name, with a space between them.
 use super::document::{Document, Name};
 
 fn name(text: &str) -> Name {
     Name(String::from(text))
 }
 
-// The sections and names of the lines.
+// Returns the sections and names of the lines.
 fn names(lines: &str) -> Vec<(Name, Name)> {
     let mut names = Vec::new();
     for line in lines.lines() {
@@ -16,7 +16,7 @@ fn names(lines: &str) -> Vec<(Name, Name)> {
     names
 }
 
-// Sets each name of each line, to itself, and answers how many were there.
+// Sets each name of each line to itself, and returns how many names were present.
 fn set_all(document: &mut Document, lines: &str) -> u64 {
     let mut there = 0u64;
     for line in lines.lines() {
@@ -94,7 +94,7 @@ pub fn document_merge(lines: &[u8], others: &[u8], rounds: u64) -> u64 {
     sum
 }
 
-// A text is written in each round, so that no comparison is made once for all.
+// A text is written in each round, so that the compiler cannot compare once for all rounds.
 #[inline(never)]
 pub fn document_same(lines: &[u8], others: &[u8], rounds: u64) -> u64 {
     let (Ok(lines), Ok(others)) = (str::from_utf8(lines), str::from_utf8(others)) else {

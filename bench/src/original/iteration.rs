@@ -1,4 +1,4 @@
-//! Iterators over maps, from either end.
+//! Iterators over maps, from both ends.
 use super::{filled, mark};
 
 #[inline(never)]
@@ -25,7 +25,7 @@ pub fn iter_back(keys: &[u64], _: &[u64], rounds: u64) -> u64 {
     sum
 }
 
-// Half of the pulls come from each end.
+// Half of the calls are of `next`, and half of `next_back`.
 #[inline(never)]
 pub fn iter_both(keys: &[u64], _: &[u64], rounds: u64) -> u64 {
     let map = filled(keys);

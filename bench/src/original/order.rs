@@ -1,7 +1,7 @@
 //! Sorts of clones, and searches of sorted maps.
 use super::{filled, mark};
 
-/// The place that a search answers, whether there is an equal item or not.
+/// Returns the index that a search found, whether or not it has an equal item.
 pub fn either(found: Result<usize, usize>) -> usize {
     match found {
         Ok(place) | Err(place) => place,

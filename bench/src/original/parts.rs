@@ -1,7 +1,7 @@
-//! Parts of maps: what a closure keeps, what a drain gives, what is split off.
+//! Parts of maps: what a closure keeps, what a drain returns, what is split off.
 use super::{filled, mark};
 
-// About half of the pairs stay.
+// About half of the pairs are kept.
 #[inline(never)]
 pub fn retain(keys: &[u64], _: &[u64], rounds: u64) -> u64 {
     let full = filled(keys);
@@ -14,7 +14,7 @@ pub fn retain(keys: &[u64], _: &[u64], rounds: u64) -> u64 {
     sum
 }
 
-// The front half goes.
+// The front half is removed.
 #[inline(never)]
 pub fn drain(keys: &[u64], _: &[u64], rounds: u64) -> u64 {
     let full = filled(keys);
@@ -30,7 +30,7 @@ pub fn drain(keys: &[u64], _: &[u64], rounds: u64) -> u64 {
     sum
 }
 
-// All go, last first.
+// All pairs are removed, from the back.
 #[inline(never)]
 pub fn drain_back(keys: &[u64], _: &[u64], rounds: u64) -> u64 {
     let full = filled(keys);

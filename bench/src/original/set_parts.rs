@@ -44,7 +44,7 @@ pub fn set_swap_take(keys: &[u64], probes: &[u64], rounds: u64) -> u64 {
     sum
 }
 
-// About half of the elements stay.
+// About half of the elements are kept.
 #[inline(never)]
 pub fn set_retain(keys: &[u64], _: &[u64], rounds: u64) -> u64 {
     let full = filled(keys);
@@ -57,7 +57,7 @@ pub fn set_retain(keys: &[u64], _: &[u64], rounds: u64) -> u64 {
     sum
 }
 
-// The front half goes.
+// The front half is removed.
 #[inline(never)]
 pub fn set_drain(keys: &[u64], _: &[u64], rounds: u64) -> u64 {
     let full = filled(keys);
