@@ -1,6 +1,7 @@
 //! Keys and values that a refused call keeps, returns or drops, each once. `alive` counts those that are not dropped.
 use crate::telling::{make, tell, told_couples, told_map};
 use std::alloc::{AllocError, Global};
+use std::mem::replace;
 use std::process::Abort;
 use std::test::Fail;
 use vecmap::macros::put_pair;
@@ -121,7 +122,7 @@ fn put_many<'a>(
         ManyPairs::ExtendPairs => map.extend_pairs(&more),
         ManyPairs::Append => map.append(&mut VecMap::from(more)),
         ManyPairs::FromIter => {
-            *map = VecMap::from_iter(alloc, more)?;
+            drop(replace(map, VecMap::from_iter(alloc, more)?));
             Ok(())
         }
     }

@@ -1,6 +1,7 @@
 //! Elements that a refused call keeps, returns or drops, each once. `alive` counts those that are not dropped.
 use crate::telling::{make, tell, told_items, told_set};
 use std::alloc::{AllocError, Global};
+use std::mem::replace;
 use std::process::Abort;
 use std::test::Fail;
 use vecmap::macros::add_item;
@@ -45,7 +46,7 @@ fn add_many<'a>(
         ManyElements::Extend => set.extend(more),
         ManyElements::Append => set.append(&mut VecSet::from(more)),
         ManyElements::FromIter => {
-            *set = VecSet::from_iter(alloc, more)?;
+            drop(replace(set, VecSet::from_iter(alloc, more)?));
             Ok(())
         }
     }
