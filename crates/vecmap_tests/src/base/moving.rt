@@ -20,19 +20,18 @@ fn replace_and_move_shifts_the_items_between_both_indices(rt: HostRuntime) -> Re
     Ok(())
 }
 
-// Whether `take_out` removes each of three items in turn, and leaves the two others and the capacity.
-fn takes_each<T: Eq + Copy + Drop>(alloc: Global, items: &[T; 3]) -> Result<bool, AllocError> {
-    for (index, left) in [
-        (0, [items[1], items[2]]),
-        (1, [items[0], items[2]]),
-        (2, [items[0], items[1]]),
-    ] {
-        let mut list = items.to_vec(alloc)?;
-        let capacity = list.capacity();
-        if list.len() <= index || take_out(&mut list, index) != items[index] {
+// Returns whether `take_out` removes each item, and leaves the others and the capacity.
+fn takes_each<T: Eq + Clone + Drop>(alloc: Global, items: &[T]) -> Result<bool, AllocError> {
+    for index in 0..items.len() {
+        let mut left = items.to_vec(alloc)?;
+        let capacity = left.capacity();
+        if left.len() <= index || take_out(&mut left, index) != items[index] {
             return Ok(false);
         }
-        if list.as_slice() != left.as_slice() || list.capacity() != capacity {
+        if left.len() < index || left.capacity() != capacity {
+            return Ok(false);
+        }
+        if left[..index] != items[..index] || left[index..] != items[index + 1..] {
             return Ok(false);
         }
     }

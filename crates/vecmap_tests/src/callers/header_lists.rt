@@ -3,13 +3,28 @@ use std::test::Fail;
 use vecmap_callers::header_lists::HeaderList;
 use vecmap_callers::names::Name;
 
-// The name of a text.
-fn name(alloc: Global, text: &str) -> Result<Name, AllocError> {
-    let text = String::from_str(alloc, text)?;
-    Ok(Name::new(text))
+// Creates the list of these fields, appended in order.
+fn headers_of(alloc: Global, fields: &[(&str, &str)]) -> Result<HeaderList, AllocError> {
+    let mut headers = HeaderList::new(alloc);
+    for field in fields {
+        let name = Name::new(String::from_str(alloc, field.0)?);
+        headers.append(name, String::from_str(alloc, field.1)?)?;
+    }
+    Ok(headers)
 }
 
-// Whether a name has these values, in this order, and no more.
+// Sets the value of a name.
+fn set_field(
+    alloc: Global,
+    headers: &mut HeaderList,
+    name: &str,
+    value: &str,
+) -> Result<(), AllocError> {
+    let name = Name::new(String::from_str(alloc, name)?);
+    headers.set(name, String::from_str(alloc, value)?)
+}
+
+// Returns whether a name has these values, in this order, and no more.
 fn has_values(headers: &HeaderList, name: &str, expected: &[&str]) -> bool {
     let values = headers.get_all(name);
     values.len() == expected.len()
@@ -19,40 +34,37 @@ fn has_values(headers: &HeaderList, name: &str, expected: &[&str]) -> bool {
             .all(|(value, wanted)| value.as_str() == *wanted)
 }
 
+// Returns whether the list has exactly these names, in this order.
+fn has_names(headers: &HeaderList, expected: &[&str]) -> bool {
+    let fields = headers.as_slice();
+    fields.len() == expected.len()
+        && fields
+            .iter()
+            .zip(expected)
+            .all(|(field, wanted)| field.0.as_str() == *wanted)
+}
+
 #[test]
 fn a_header_list_keeps_all_values_of_a_name(rt: HostRuntime) -> Result<(), Fail> {
-    let mut headers = HeaderList::new(rt.alloc());
-    for (text, value) in [
-        ("Accept", "a"),
-        ("Host", "b"),
-        ("ACCEPT", "c"),
-        ("accept", "a"),
-    ] {
-        headers.append(
-            name(rt.alloc(), text)?,
-            String::from_str(rt.alloc(), value)?,
-        )?;
-    }
+    let mut headers = headers_of(
+        rt.alloc(),
+        &[
+            ("Accept", "a"),
+            ("Host", "b"),
+            ("ACCEPT", "c"),
+            ("accept", "a"),
+        ],
+    )?;
     assert!(rt; has_values(&headers, "accept", &["a", "c", "a"]));
     assert!(rt; has_values(&headers, "HOST", &["b"]));
     assert!(rt; has_values(&headers, "acc", &[]));
     assert!(rt; (headers.get("aCCEPT"), headers.get("Age")) == (Some("a"), None));
-    headers.set(
-        name(rt.alloc(), "host")?,
-        String::from_str(rt.alloc(), "d")?,
-    )?;
-    headers.set(name(rt.alloc(), "Age")?, String::from_str(rt.alloc(), "e")?)?;
+    set_field(rt.alloc(), &mut headers, "host", "d")?;
+    set_field(rt.alloc(), &mut headers, "Age", "e")?;
     assert!(rt; has_values(&headers, "Host", &["d"]));
     let removed = headers.remove("accept").ok_or("absent")?;
     assert!(rt; removed.len() == 3);
     assert!(rt; headers.remove("accept").is_none());
-    let fields = headers.as_slice();
-    assert!(rt; fields.len() == 2);
-    assert!(rt;
-        fields
-            .iter()
-            .map(|field| field.0.as_str())
-            .eq(["Host", "Age"])
-    );
+    assert!(rt; has_names(&headers, &["Host", "Age"]));
     Ok(())
 }
