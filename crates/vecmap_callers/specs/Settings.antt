@@ -1,22 +1,14 @@
 -- What settings in sections hold: pairs of a section and the map of its settings.
-use Rattle.std.specs.Prelude.{◌≡◌, ℕ, List, [], ◌++◌, Option, String, if◌then◌else◌, option_map, string_bytes, string_eq}
-use Rattle.std.specs.List.{flat_map}
+use Rattle.std.specs.Prelude.{◌≡◌, ℕ, List, ◌++◌, Option, String, fold, if◌then◌else◌, option_map, string_bytes, string_eq}
 use Rattle.vecmap.specs.Contents.{Contents}
 use Rattle.vecmap.specs.Nested.{inner_entries, inner_entries_by}
-use Rattle.vecmap.specs.Pairs.{has_text, lookup, lookup_by, puts}
+use Rattle.vecmap.specs.Pairs.{has_text, lookup_by, puts}
 
 module _ {A V : Type 0} where
-  -- The value of a setting, or `None` if the section or the setting is absent.
-  abbrev pub value_of : List (String A × Contents (String A) V) → String A → String A → Option V
-  value_of sections section name = lookup string_eq (inner_entries string_eq sections section) name
-
-  -- All pairs of the sections that are equal to this one, in order.
-  abbrev pub pairs_of : List (String A × Contents (String A) V) → String A → List (String A × V)
-  pairs_of sections section = flat_map (λ p. if string_eq p.0 section then p.1.entries else []) sections
-
-  -- `new` holds the pairs of `first`, and in each section also those of `done`, which win.
+  -- `new` holds the pairs of `first`, and in each section also those of the equal sections of `done`, in order. Where
+  -- both have a pair of the same key, the later one wins.
   abbrev pub IsMerged : List (String A × Contents (String A) V) → List (String A × Contents (String A) V) → List (String A × Contents (String A) V) → Type 0
-  IsMerged first done new = (section : String A) → inner_entries string_eq new section ≡ puts string_eq (inner_entries string_eq first section) (pairs_of done section)
+  IsMerged first done new = (section : String A) → inner_entries string_eq new section ≡ fold (λ pairs p. if string_eq p.0 section then puts string_eq pairs p.1.entries else pairs) (inner_entries string_eq first section) done
 
   -- `new` holds the pairs of `first` and those of the first sections of `upper`, up to some section.
   abbrev pub IsMergedInPart : List (String A × Contents (String A) V) → List (String A × Contents (String A) V) → List (String A × Contents (String A) V) → Type 0

@@ -101,6 +101,7 @@ impl HeaderList {
     {
         laws::insertions_are_found::<Name, Vec<String>>();
         laws::insertion_keeps_keys_distinct::<Name, Vec<String>>();
+        laws::writes_are_insertions::<Name, Vec<String>>();
         let alloc = *self.fields.allocator();
         if let Some(values) = self.fields.get_mut(&name) {
             values.push(value)?;

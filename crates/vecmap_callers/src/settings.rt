@@ -6,8 +6,8 @@ ghost use Rattle.std.specs.Prelude.{◌≡◌, OnErr, OnOk, String, [], false, o
 ghost use Rattle.std.specs.Option.{option_or};
 ghost use Rattle.std.specs.declared.alloc.Global.{Global};
 ghost use Rattle.vecmap.specs.Nested.{inner_entries, inner_entries_by};
-ghost use Rattle.vecmap.specs.Pairs.{has_text, lookup, put, puts, without_by};
-ghost use Rattle.vecmap_callers.specs.Settings.{IsMerged, IsMergedInPart, pairs_of, text_at, value_of};
+ghost use Rattle.vecmap.specs.Pairs.{has_text, put, puts, without_by};
+ghost use Rattle.vecmap_callers.specs.Settings.{IsMerged, IsMergedInPart, text_at};
 
 use std::alloc::{AllocError, Global};
 use vecmap::VecMap;
@@ -114,20 +114,15 @@ impl Settings {
     ///
     /// [`AllocError`] if the allocator refuses a request. The sections before the refused one are then merged.
     pub fn merge(&mut self, upper: Settings) -> Result<(), AllocError>
-        ensures defaults { OnOk result ((section name : String Global)
-            → value_of self.new.defaults.entries section name
-            ≡ option_or
-            (lookup string_eq (puts string_eq [] (pairs_of upper.defaults.entries section)) name)
-            (value_of self.old.defaults.entries section name)) }
-        ensures overrides { OnOk result ((section name : String Global)
-            → value_of self.new.overrides.entries section name
-            ≡ option_or
-            (lookup string_eq (puts string_eq [] (pairs_of upper.overrides.entries section)) name)
-            (value_of self.old.overrides.entries section name)) }
-        ensures defaults_err { OnErr result (IsMergedInPart self.old.defaults.entries upper.defaults.entries self.new.defaults.entries) }
-        ensures overrides_err { OnErr result (IsMergedInPart self.old.overrides.entries upper.overrides.entries self.new.overrides.entries) }
+        ensures defaults { OnOk result (IsMerged
+            self.old.defaults.entries upper.defaults.entries self.new.defaults.entries) }
+        ensures overrides { OnOk result (IsMerged
+            self.old.overrides.entries upper.overrides.entries self.new.overrides.entries) }
+        ensures defaults_in_part { IsMergedInPart
+            self.old.defaults.entries upper.defaults.entries self.new.defaults.entries }
+        ensures overrides_in_part { IsMergedInPart
+            self.old.overrides.entries upper.overrides.entries self.new.overrides.entries }
     {
-        laws::bulk_insertions_are_single_ones::<String, String>();
         merge_sections(&mut self.defaults, upper.defaults)?;
         merge_sections(&mut self.overrides, upper.overrides)?;
         Ok(())
@@ -199,8 +194,9 @@ pub fn merge_section(
 ///
 /// [`AllocError`] if the allocator refuses a request. The sections before the refused one are then merged.
 pub fn merge_sections(sections: &mut Sections, upper: Sections) -> Result<(), AllocError>
-    ensures merged { OnOk result (IsMerged sections.old.entries upper.entries sections.new.entries) }
-    ensures err { OnErr result (IsMergedInPart sections.old.entries upper.entries sections.new.entries) }
+    ensures merged { OnOk result (IsMerged
+        sections.old.entries upper.entries sections.new.entries) }
+    ensures in_part { IsMergedInPart sections.old.entries upper.entries sections.new.entries }
 {
     for (section, settings) in upper {
         merge_section(sections, section, settings)?;

@@ -1,11 +1,13 @@
 //! The examples of `crates/vecmap/CALLING.md`, one file for each block of the page.
 pub mod count;
 pub mod errors;
+pub mod filter;
 pub mod inner;
 pub mod intern;
 pub mod keep;
 pub mod keys;
 pub mod lookups;
+pub mod merge;
 pub mod pair;
 pub mod program;
 pub mod refused;

@@ -2,7 +2,7 @@ use std::alloc::AllocError;
 use std::num::ParseIntError;
 use vecmap::{Refused, VecMap};
 
-/// Why a line is not taken in.
+/// Why a line is refused.
 #[derive(Debug, Drop)]
 pub enum ReadError {
     NoMemory,
@@ -27,7 +27,7 @@ impl From<ParseIntError> for ReadError {
     }
 }
 
-/// Reads a number under a name: each `?` makes one error type.
+/// Reads a number and inserts it under a name. Each `?` makes the one error type.
 pub fn read(numbers: &mut VecMap<String, u32>, name: &str, text: &str) -> Result<(), ReadError> {
     let key = String::from_str(*numbers.allocator(), name)?;
     numbers.insert(key, text.parse::<u32>()?)?;

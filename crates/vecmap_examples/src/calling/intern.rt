@@ -4,7 +4,7 @@ ghost use Rattle.vecmap.specs.Items.{item_index};
 use vecmap::set::laws::additions_move_nothing;
 use vecmap::{Refused, VecSet};
 
-/// The number of a name, which it keeps for good.
+/// Returns the number of a name. A new name gets the next number, and keeps it.
 pub fn intern(names: &mut VecSet<String>, name: String) -> Result<usize, Refused<String>>
     ensures number { IfOk result (λ number. item_index string_eq names.new.elements name ≡ Some number) }
     ensures earlier { (i : ℕ) → i < length names.old.elements → slice_get names.new.elements i ≡ slice_get names.old.elements i }

@@ -26,7 +26,7 @@ impl Model for Bill {
 }
 
 impl Bill {
-    /// Nobody pays.
+    /// Creates a bill without guests.
     pub fn new(alloc: Global) -> Bill {
         insertion_keeps_keys_distinct::<u32, u32>();
         Bill {
@@ -34,7 +34,7 @@ impl Bill {
         }
     }
 
-    /// A guest pays this much.
+    /// Sets what a guest pays.
     pub fn set(&mut self, guest: u32, amount: u32) -> Result<(), Refused<(u32, u32)>>
         ensures list { OnOk result (self.new ≡ put nat_eq self.old guest amount) }
         ensures err { OnErr result (self.new ≡ self.old) }
@@ -44,7 +44,7 @@ impl Bill {
         Ok(())
     }
 
-    /// A guest leaves, and is not found again.
+    /// Removes a guest, who is not found again.
     pub fn leave(&mut self, guest: u32)
         ensures list { self.new ≡ without_key nat_eq self.old guest }
         ensures gone { lookup nat_eq self.new guest ≡ None }

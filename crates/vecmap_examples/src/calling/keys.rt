@@ -17,12 +17,12 @@ pub struct Ticket {
     pub note: String,
 }
 
-/// Whether a place is free.
+/// Returns whether a place is free.
 pub fn is_free(board: &VecMap<Place, char>, row: u32, column: u32) -> bool {
     !board.contains_key(&Place { row, column })
 }
 
-/// Takes a ticket in. The note of the first one of its number stays.
+/// Adds a ticket. If its number is present, the ticket that is stored stays, with its note.
 pub fn file(tickets: &mut VecSet<Ticket>, ticket: Ticket) -> Result<(), AllocError> {
     tickets.insert(ticket)?;
     Ok(())

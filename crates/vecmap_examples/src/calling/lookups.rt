@@ -3,7 +3,7 @@ ghost use Rattle.vecmap.specs.Pairs.{lookup};
 
 use vecmap::{Refused, VecMap};
 
-/// Remembers a number under a key.
+/// Inserts a number under a key.
 pub fn remember(
     map: &mut VecMap<u32, u32>,
     key: u32,

@@ -4,7 +4,7 @@ ghost use Rattle.vecmap.specs.Pairs.{put};
 use std::alloc::AllocError;
 use vecmap::VecMap;
 
-/// Puts two pairs or, where there is no memory, neither.
+/// Inserts two pairs or, if memory runs out, neither.
 pub fn put_both(map: &mut VecMap<u32, u32>, a: (u32, u32), b: (u32, u32)) -> Result<(), AllocError>
     ensures both { OnOk result (map.new.entries ≡ put nat_eq (put nat_eq map.old.entries a.0 a.1) b.0 b.1) }
     ensures neither { OnErr result (map.new ≡ map.old) }

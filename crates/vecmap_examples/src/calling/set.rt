@@ -4,7 +4,7 @@ ghost use Rattle.vecmap.specs.Pairs.{lookup};
 use vecmap::map::laws::insertions_are_found;
 use vecmap::{Refused, VecMap};
 
-/// Gives a service a port.
+/// Sets the port of a service.
 pub fn set_port(
     ports: &mut VecMap<u32, u16>,
     service: u32,

@@ -1,5 +1,7 @@
 //! Tests of the functions of the page.
-use super::{count, errors, inner, intern, keys, lookups, pair, program, refused, set, texts};
+use super::{
+    count, errors, filter, inner, intern, keys, lookups, merge, pair, program, refused, set, texts,
+};
 use keys::{Place, Ticket};
 use std::alloc::{AllocError, Global};
 use std::string::String;
@@ -120,5 +122,23 @@ fn errors_of_ones_own_are_told_apart(rt: HostRuntime) -> Result<(), Fail> {
         )
     );
     assert!(rt; numbers.get("a") == Some(&7) && numbers.len() == 1);
+    Ok(())
+}
+
+#[test]
+fn overrides_win_and_pairs_are_filtered(rt: HostRuntime) -> Result<(), Fail> {
+    let alloc = rt.alloc();
+    let text = |text| String::from_str(alloc, text);
+    let mut options = vecmap!(alloc; text("a")? => 1, text("b")? => 2);
+    let mut overrides = vecmap!(alloc; text("b")? => 20, text("c")? => 30);
+    if overrides.has_distinct_keys() {
+        merge::merge(&mut options, &mut overrides)?;
+    }
+    assert!(rt;
+        (options.get("a"), options.get("b"), options.get("c")) == (Some(&1), Some(&20), Some(&30))
+    );
+    let mut stock = vecmap!(alloc; text("a")? => 2, text("b")? => 0, text("c")? => 1);
+    filter::remove_sold_out(&mut stock);
+    assert!(rt; (stock.get("a"), stock.get("b"), stock.len()) == (Some(&2), None, 2));
     Ok(())
 }

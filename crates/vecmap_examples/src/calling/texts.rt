@@ -5,7 +5,7 @@ use std::alloc::AllocError;
 use vecmap::VecMap;
 use vecmap::map::laws::texts_find_as_strings;
 
-/// Gives a name a number. The name, looked up by its text, finds it.
+/// Sets the number of a name. A lookup of the name by its text finds it.
 pub fn set_number(
     numbers: &mut VecMap<String, u32>,
     name: &str,

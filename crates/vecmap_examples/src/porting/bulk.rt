@@ -19,7 +19,7 @@ pub fn added(a: &VecSet<u32>, b: &VecSet<u32>) -> Result<VecSet<u32>, AllocError
     &both - a
 }
 
-/// `map.remove_index(0)`, which panics in Rust where there is no pair.
+/// `map.remove_index(0)`, which panics in Rust if the map is empty.
 pub fn first_out(map: &mut VecMap<u32, char>) -> Option<(u32, char)> {
     if map.is_empty() {
         return None;

@@ -7,7 +7,7 @@ pub fn references<'a>(alloc: Global, numbers: &'a [i32]) -> Result<VecSet<&'a i3
     numbers.iter().collect::<VecSet<&i32>>(alloc)
 }
 
-/// `map.sort_by_cached_key(|_, number| number.to_string())` in Rust. A text that finds no memory is `None`, which comes
+/// `map.sort_by_cached_key(|_, number| number.to_string())` in Rust. If memory runs out, a text is `None`, which comes
 /// before all others.
 pub fn sort_by_digits(alloc: Global, map: &mut VecMap<char, u32>) -> Result<(), AllocError> {
     map.sort_by_cached_key(|_, number| number.to_string(alloc).ok())

@@ -1,6 +1,7 @@
 //! Tests of the functions of the page.
 use super::bulk::{added, first_out, lengths, letters, sorted};
 use super::calls::{count, print_counts, references, sort_by_digits};
+use super::closures::{copy, drop_from, number_of, push_if_present, sort_and_count};
 use super::order::Order;
 use super::traits::{
     Config, LineError, count_one, forget, lent, parsed, parted, push_or_make, sort_by_text,
@@ -107,6 +108,28 @@ fn shows_orders_and_closures(alloc: Global) -> Result<bool, Fail> {
     )
 }
 
+fn shows_closures_that_count(alloc: Global) -> Result<bool, Fail> {
+    let mut map = vecmap!(alloc; 1 => 30, 2 => 10, 3 => 20);
+    let compared = sort_and_count(&mut map)?;
+    let sorted = map.as_slice() == [(2, 10), (3, 20), (1, 30)].as_slice();
+    let dropped = drop_from(&mut map, 20);
+    Ok(sorted && compared >= 2 && dropped == 2 && map.as_slice() == [(2, 10)].as_slice())
+}
+
+fn shows_a_copy_and_a_push(alloc: Global) -> Result<bool, Fail> {
+    let maps = vecmap!(alloc; 1 => vecmap!(alloc; 2 => 3));
+    let mut lists = vecmap!(alloc; 1 => vec![in alloc; 10]?);
+    push_if_present(&mut lists, 1, 20)?;
+    push_if_present(&mut lists, 2, 30)?;
+    let names = vecmap!(alloc; String::from_str(alloc, "a")? => 1);
+    Ok(
+        copy(&maps)? == maps
+            && lists.len() == 1
+            && lists.get(&1).map(Vec::as_slice) == Some([10, 20].as_slice())
+            && number_of(&names, String::from_str(alloc, "a")?) == Some(1),
+    )
+}
+
 #[test]
 fn a_count_wraps_and_is_printed(rt: HostRuntime) -> Result<(), Fail> {
     let mut counts = VecMap::from_slice(rt.alloc(), &[('a', 255)])?;
@@ -129,5 +152,7 @@ fn examples_hold(rt: HostRuntime) -> Result<(), Fail> {
     assert!(rt; shows_parts(alloc)?);
     assert!(rt; shows_entries(alloc)?);
     assert!(rt; shows_orders_and_closures(alloc)?);
+    assert!(rt; shows_closures_that_count(alloc)?);
+    assert!(rt; shows_a_copy_and_a_push(alloc)?);
     Ok(())
 }

@@ -21,7 +21,7 @@ pub fn with_port(config: &Config, port: u32) -> Result<Config, AllocError> {
     Ok(copy)
 }
 
-/// What a line of numbers can be refused for.
+/// Why a line of numbers is refused.
 #[derive(Debug, Drop)]
 pub enum LineError {
     NoMemory,
@@ -76,7 +76,7 @@ pub fn push_or_make(
 /// `map.entry(k).and_modify(|n| *n += 1).or_insert(1)`.
 pub fn count_one<'a>(map: &mut VecMap<&'a str, u32>, word: &'a str) -> Result<(), AllocError> {
     map.entry(word)
-        .and_modify(|n: &mut u32| *n = n.saturating_add(1))
+        .and_modify(|n| *n = n.saturating_add(1))
         .or_insert(1)?;
     Ok(())
 }
