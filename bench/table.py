@@ -1,7 +1,8 @@
 """Reads runs of the benchmark, one for each order of the functions, and prints a table for each contender.
 
-A cell has the median of the ratios to the original over the runs, the least and the greatest ratio, and the medians of
-the least nanoseconds of an operation, of the contender and of the original.
+A cell has the median of the ratios to the original over the runs. With `--full` as the first argument, it also has the
+least and the greatest ratio, and the medians of the least nanoseconds of an operation, of the contender and of the
+original. Above a short table stands how many of its cells are at most 1.05, and at most 0.9.
 """
 import statistics
 import sys
@@ -14,33 +15,46 @@ def read(name):
     return {(who, row, int(size)): [float(x) for x in rest] for row, size, who, *rest in lines}
 
 
-def cell(found):
-    """Returns the cell of one row at one size."""
+def short(found):
+    """Returns the cell of one row at one size: its median ratio."""
+    return f"{statistics.median(times[2] for times in found):.2f}" if found else ""
+
+
+def full(found):
+    """Returns the cell of one row at one size, with its range and its nanoseconds."""
     if not found:
         return ""
     theirs, ours = (statistics.median(times[i] for times in found) for i in (0, 1))
     ratios = [times[2] for times in found]
     digits = 1 if theirs < 1000 else 0
     spread = f"[{min(ratios):.2f}..{max(ratios):.2f}]"
-    return f"{statistics.median(ratios):.2f} {spread} {ours:.{digits}f}:{theirs:.{digits}f}"
+    return f"{short(found)} {spread} {ours:.{digits}f}:{theirs:.{digits}f}"
 
 
-def table(runs, who):
+def table(runs, who, cell):
     """Prints the table of a contender."""
     keys = [key for key in dict.fromkeys(key for run in runs for key in run) if key[0] == who]
     sizes = sorted({size for _, _, size in keys})
+    rows = {row: [[run[who, row, n] for run in runs if (who, row, n) in run] for n in sizes] for _, row, _ in keys}
+    if cell is short:
+        medians = [float(short(found)) for cells in rows.values() for found in cells if found]
+        counts = (sum(ratio <= most for ratio in medians) for most in (1.05, 0.9))
+        print("\nOf {} cells, {} are at most 1.05, and {} at most 0.9.".format(len(medians), *counts))
     print(f"\n| {who} : vecmap-rs | " + " | ".join(map(str, sizes)) + " |")
     print("|---" * (len(sizes) + 1) + "|")
-    for row in dict.fromkeys(row for _, row, _ in keys):
-        cells = [cell([run[who, row, n] for run in runs if (who, row, n) in run]) for n in sizes]
+    for row, cells in rows.items():
         name = row.replace("|", "\\|")
-        print(f"| {name} | " + " | ".join(cells) + " |")
+        print(f"| {name} | " + " | ".join(map(cell, cells)) + " |")
 
 
 def main():
-    runs = [read(name) for name in sys.argv[1:]]
+    names = sys.argv[1:]
+    cell = short
+    if names[:1] == ["--full"]:
+        cell, names = full, names[1:]
+    runs = [read(name) for name in names]
     for who in dict.fromkeys(key[0] for run in runs for key in run):
-        table(runs, who)
+        table(runs, who, cell)
 
 
 main()

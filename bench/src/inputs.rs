@@ -25,6 +25,16 @@ impl Random {
     }
 }
 
+/// Returns the character that the first 19 bits of a number name, or `a` if they name none.
+pub fn letter(number: u64) -> char {
+    char::from_u32((number >> 45) as u32).unwrap_or('a')
+}
+
+/// Returns the first 32 bits of a number.
+pub fn half(number: u64) -> u32 {
+    (number >> 32) as u32
+}
+
 /// Keys, and the numbers that are looked up, inserted or removed.
 pub struct Numbers {
     /// Distinct even numbers.

@@ -19,6 +19,8 @@ pub use parts::*;
 pub use runs::*;
 pub use set_parts::*;
 pub use set_runs::*;
+
+use crate::inputs::{half, letter};
 use vecmap::{VecMap, VecSet};
 
 map_loops!(VecMap, remove, VecMap::last, VecMap::from);

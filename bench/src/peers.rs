@@ -2,6 +2,7 @@
 
 /// indexmap, with its own hasher.
 pub mod index {
+    use crate::inputs::{half, letter};
     use indexmap::{IndexMap, IndexSet};
 
     pub const NAME: &str = "indexmap";
@@ -23,6 +24,7 @@ pub mod index {
 
 /// linear-map.
 pub mod linear {
+    use crate::inputs::{half, letter};
     use linear_map::LinearMap;
     use linear_map::set::LinearSet;
 

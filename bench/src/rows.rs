@@ -58,6 +58,7 @@ fn lookups(it: &Numbers) -> Vec<Row<'_, u64>> {
         row!("get hit", n, &it.keys, &it.hits, get, linear, index),
         row!("get miss", n, &it.keys, &it.misses, get, linear, index),
         row!("get_index_of", n, &it.keys, &it.mixed, place, index),
+        row!("get, char keys", n, &it.keys, &it.mixed, get_char, linear, index),
     ]
 }
 
@@ -142,6 +143,7 @@ fn sets(it: &Numbers) -> Vec<Row<'_, u64>> {
     vec![
         row!("set insert", n, &it.keys, &[], set_insert, linear, index),
         row!("set contains", n, &it.keys, &it.mixed, set_contains, linear, index),
+        row!("set contains, u32", n, &it.keys, &it.mixed, set_contains_u32, linear, index),
         row!("set remove+insert", 8 * n, &it.keys, &it.orders, set_remove),
         row!("set swap_take+insert", 8 * n, &it.keys, &it.orders, set_swap_take),
         row!("set From<Vec>", n, &it.keys, &[], set_from_vec, linear, index),
@@ -186,13 +188,19 @@ fn large(it: &Numbers) -> Vec<Row<'_, u64>> {
     ]
 }
 
-// The same commands as calls of the original, as calls of this library and by its `run`.
+// The same commands as calls of the original, as calls of this library and by its `run`. In the rows of runs, the side
+// of the original has the same commands and replies as values, too.
 fn runs(it: &Numbers) -> Vec<Row<'_, u64>> {
     let mut map = row!("1000 commands", 1000, &[], &it.commands, calls);
     map.loops.push(("vecmap run", rattle::run));
     let mut set = row!("1000 set commands", 1000, &[], &it.commands, set_calls);
     set.loops.push(("vecmap run", rattle::set_run));
-    vec![map, set]
+    vec![
+        map,
+        row!("run of 1000", 1000, &[], &it.commands, run),
+        set,
+        row!("run_set of 1000", 1000, &[], &it.commands, set_run),
+    ]
 }
 
 /// Returns all rows over texts, of which there are `n`.

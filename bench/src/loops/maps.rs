@@ -27,6 +27,24 @@ macro_rules! map_loops {
         }
 
         #[inline(never)]
+        pub fn get_char(keys: &[u64], probes: &[u64], rounds: u64) -> u64 {
+            let mut map: $map<char, u32> = $map::with_capacity(keys.len());
+            for key in keys {
+                map.insert(letter(*key), half(*key));
+            }
+            let wanted: Vec<char> = probes.iter().map(|probe| letter(*probe)).collect();
+            let mut sum = 0u64;
+            for round in 0..rounds {
+                for probe in &wanted {
+                    if let Some(value) = map.get(probe) {
+                        sum = sum.wrapping_add(u64::from(*value) ^ round);
+                    }
+                }
+            }
+            sum
+        }
+
+        #[inline(never)]
         pub fn get(keys: &[u64], probes: &[u64], rounds: u64) -> u64 {
             let map = filled(keys);
             let mut sum = 0u64;

@@ -40,6 +40,24 @@ macro_rules! set_loops {
         }
 
         #[inline(never)]
+        pub fn set_contains_u32(items: &[u64], probes: &[u64], rounds: u64) -> u64 {
+            let mut set: $set<u32> = $set::with_capacity(items.len());
+            for item in items {
+                set.insert(half(*item));
+            }
+            let wanted: Vec<u32> = probes.iter().map(|probe| half(*probe)).collect();
+            let mut sum = 0u64;
+            for round in 0..rounds {
+                for probe in &wanted {
+                    if set.contains(probe) {
+                        sum = sum.wrapping_add(u64::from(*probe) ^ round);
+                    }
+                }
+            }
+            sum
+        }
+
+        #[inline(never)]
         pub fn set_from_vec(items: &[u64], _: &[u64], rounds: u64) -> u64 {
             let mut sum = 0u64;
             for round in 0..rounds {

@@ -9,7 +9,9 @@ ghost use Rattle.std.specs.List.{list_any};
 ghost use Rattle.std.specs.Rc.{rc_str_bytes};
 ghost use Rattle.vecmap_base.specs.Pairs.{has_text, index_by};
 
-use crate::unrolled::{find_item_unrolled, find_pair_unrolled, is_small};
+use crate::unrolled::{
+    MIN_LENGTH_FOR_EIGHTS, find_by_eights, find_item_unrolled, find_pair_unrolled, is_small,
+};
 use std::borrow::CowStr;
 use std::boxed::{BoxedSlice, BoxedStr};
 use std::rc::RcStr;
@@ -166,7 +168,12 @@ pub fn find_equivalent<K: Eq, V, Q: Equivalent<K>>(pairs: &[(K, V)], query: Q) -
     ensures within { IfSome result (λ i. i < length pairs.now) }
 {
     if pairs.first().is_some_and(|pair| is_small(&pair.0)) {
-        return find_pair_unrolled(pairs, query);
+        return find_pair_unrolled(
+            pairs,
+            |key: &K| -> bool
+                ensures { result ≡ Q.equivalent query key.now }
+            { query.equivalent(key) },
+        );
     }
     pairs.iter().position(|pair| query.equivalent(&pair.0))
 }
@@ -175,18 +182,23 @@ pub fn find_equivalent<K: Eq, V, Q: Equivalent<K>>(pairs: &[(K, V)], query: Q) -
 ///
 /// # Complexity
 ///
-/// At most `items.len()` comparisons.
+/// At most `items.len()` comparisons. Among 32 items or more, of at most 8 bytes each, up to seven of them come after the
+/// one that matches.
 ///
 /// # Examples
 ///
 /// ```
 /// find_item_equivalent(&["a", "b"], "b") // Some(1)
 /// ```
+#[inline]
 pub fn find_item_equivalent<T: Eq, Q: Equivalent<T>>(items: &[T], query: Q) -> Option<usize>
     ensures place { result ≡ position (Q.equivalent query) items.now }
     ensures within { IfSome result (λ i. i < length items.now) }
 {
     if items.first().is_some_and(is_small) {
+        if items.len() >= MIN_LENGTH_FOR_EIGHTS {
+            return find_item_of_many(items, query);
+        }
         return find_item_unrolled(
             items,
             |item: &T| -> bool
@@ -195,6 +207,21 @@ pub fn find_item_equivalent<T: Eq, Q: Equivalent<T>>(items: &[T], query: Q) -> O
         );
     }
     items.iter().position(|item| query.equivalent(item))
+}
+
+// Returns the index of the first of many small items that matches `query`. It is not inlined, so that the search of a
+// short list is.
+#[inline(never)]
+fn find_item_of_many<T: Eq, Q: Equivalent<T>>(items: &[T], query: Q) -> Option<usize>
+    ensures place { result ≡ position (Q.equivalent query) items.now }
+    ensures within { IfSome result (λ i. i < length items.now) }
+{
+    find_by_eights(
+        items,
+        |item: &T| -> bool
+            ensures { result ≡ Q.equivalent query item.now }
+        { query.equivalent(item) },
+    )
 }
 
 /// Returns `true` if one of `items` matches `query`.

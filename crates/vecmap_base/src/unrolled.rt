@@ -1,40 +1,46 @@
-//! Unrolled searches, of two pairs or four items in a turn of the loop. They ask as often as a search of one at a time, in
-//! the same order. They are faster if a comparison takes no longer than one turn of a loop.
-ghost use Rattle.std.specs.Prelude.{◌≡◌, ◌<◌, Bool, IfSome, None, length, position, take};
+//! Searches that ask about several items in a turn of the loop. They ask in order, of each item at most once.
+//!
+//! They are faster if a comparison takes no longer than one turn of a loop. With up to four items in a turn, a search
+//! stops at the first that passes. With eight, it asks about all eight and then branches once, so that the compiler
+//! compares vectors; so it asks about at most seven items after the first that passes.
+ghost use Rattle.std.specs.Prelude.{◌≡◌, ◌+◌, ◌<◌, ◌≤◌, Bool, IfSome, None, length, position, take};
 ghost use Rattle.vecmap_base.specs.Orders.{AnswersOnItem};
 ghost use Rattle.vecmap_base.specs.Pairs.{index_by};
 
-use crate::equivalent::Equivalent;
 use std::mem::size_of_val;
 
 // The size of a word in bytes.
 const WORD: usize = 8;
+
+// The least length of a list for which `find_by_eights` is faster.
+pub(crate) const MIN_LENGTH_FOR_EIGHTS: usize = 32;
 
 // Returns whether an item is no larger than a word, as a `u64` is and a text is not.
 pub(crate) fn is_small<T>(item: &T) -> bool {
     size_of_val(item) <= WORD
 }
 
-// Returns the index of the first pair whose key matches `query`.
-pub(crate) fn find_pair_unrolled<K: Eq, V, Q: Equivalent<K>>(
-    pairs: &[(K, V)],
-    query: Q,
+// Returns the index of the first pair for whose key `asks` returns `true`.
+pub(crate) fn find_pair_unrolled<'a, K, V, F: Fn(&'a K) -> bool>(
+    pairs: &'a [(K, V)],
+    asks: F,
 ) -> Option<usize>
-    ensures place { result ≡ index_by (Q.equivalent query) pairs.now }
+    requires { F.IsAlwaysCallable asks }
+    ensures place { (p : K → Bool) → AnswersOnItem F.Fn p asks → result ≡ index_by p pairs.now }
     ensures within { IfSome result (λ i. i < length pairs.now) }
 {
     let twos = pairs.len() / 2;
     for two in 0..twos {
         let at = 2 * two;
-        if query.equivalent(&pairs[at].0) {
+        if asks(&pairs[at].0) {
             return Some(at);
         }
-        if query.equivalent(&pairs[at + 1].0) {
+        if asks(&pairs[at + 1].0) {
             return Some(at + 1);
         }
     }
     let last = 2 * twos;
-    if last < pairs.len() && query.equivalent(&pairs[last].0) {
+    if last < pairs.len() && asks(&pairs[last].0) {
         return Some(last);
     }
     None
@@ -66,6 +72,70 @@ pub(crate) fn find_item_unrolled<'a, T, F: Fn(&'a T) -> bool>(
         }
     }
     find_from(items, 4 * fours, asks)
+}
+
+// Returns the index of the first item for which `asks` returns `true`. It asks about eight items before it branches.
+pub(crate) fn find_by_eights<'a, T, F: Fn(&'a T) -> bool>(items: &'a [T], asks: F) -> Option<usize>
+    requires { F.IsAlwaysCallable asks }
+    ensures place { (p : T → Bool) → AnswersOnItem F.Fn p asks → result ≡ position p items.now }
+    ensures within { IfSome result (λ i. i < length items.now) }
+{
+    let eights = items.len() / 8;
+    for eight in 0..eights {
+        let found = find_of_eight(items, 8 * eight, &asks);
+        if found.is_some() {
+            return found;
+        }
+    }
+    find_from(items, 8 * eights, asks)
+}
+
+// Returns the index of the first of the eight items from `at` on for which `asks` returns `true`. It asks about each of
+// them once. For each item before `at`, `asks` returns `false`.
+fn find_of_eight<'a, T, F: Fn(&'a T) -> bool>(items: &'a [T], at: usize, asks: &F) -> Option<usize>
+    requires callable { F.IsAlwaysCallable asks.now }
+    requires within { at + 8 ≤ length items.now }
+    requires before { (p : T → Bool) → AnswersOnItem F.Fn p asks.now
+        → position p (take at items.now) ≡ None }
+    ensures place { (p : T → Bool) → AnswersOnItem F.Fn p asks.now
+        → IfSome result (λ i. position p items.now ≡ Some i) }
+    ensures within { IfSome result (λ i. i < length items.now) }
+    ensures none { result ≡ None → (p : T → Bool) → AnswersOnItem F.Fn p asks.now
+        → position p (take (at + 8) items.now) ≡ None }
+{
+    let a = asks(&items[at]);
+    let b = asks(&items[at + 1]);
+    let c = asks(&items[at + 2]);
+    let d = asks(&items[at + 3]);
+    let e = asks(&items[at + 4]);
+    let f = asks(&items[at + 5]);
+    let g = asks(&items[at + 6]);
+    let h = asks(&items[at + 7]);
+    if !(a | b | c | d | e | f | g | h) {
+        return None;
+    }
+    if a {
+        return Some(at);
+    }
+    if b {
+        return Some(at + 1);
+    }
+    if c {
+        return Some(at + 2);
+    }
+    if d {
+        return Some(at + 3);
+    }
+    if e {
+        return Some(at + 4);
+    }
+    if f {
+        return Some(at + 5);
+    }
+    if g {
+        return Some(at + 6);
+    }
+    Some(at + 7)
 }
 
 // Returns the index of the first item from `from` on for which `asks` returns `true`. For each item before `from` it
