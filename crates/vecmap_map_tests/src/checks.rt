@@ -1,4 +1,4 @@
-//! Assertions on one value, one list or one pair. Each is a function, since a call is cheaper to prove in a test than an
+//! Assertions on one value, one list or one pair. Each is a function: a call is cheaper to prove in a test than an
 //! `assert!` with its comparison. A failed one prints what it compared.
 use std::alloc::AllocError;
 use std::fmt::Debug;
