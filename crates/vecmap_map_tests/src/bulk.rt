@@ -1,7 +1,8 @@
 //! Calls that insert many pairs at once, with keys that are equal and not identical.
+use crate::checks::{assert_is, assert_list, assert_pairs, check};
 use std::test::Fail;
 use vecmap::VecMap;
-use vecmap_fixtures::{has_pairs, item_map, make_item};
+use vecmap_fixtures::{item_map, make_item};
 
 #[test]
 fn all_ways_of_many_pairs_agree_with_single_inserts(rt: HostRuntime) -> Result<(), Fail> {
@@ -34,7 +35,7 @@ fn all_ways_of_many_pairs_agree_with_single_inserts(rt: HostRuntime) -> Result<(
         VecMap::from_slice(rt.alloc(), &pairs)?,
         pairs.iter().copied().collect(rt.alloc())?,
     ] {
-        assert!(rt; has_pairs(map.as_slice(), &[(1, 'x', 3), (2, 'b', 2)]));
+        assert_pairs(&rt, &map, &[(1, 'x', 3), (2, 'b', 2)]);
     }
     Ok(())
 }
@@ -56,8 +57,8 @@ fn the_last_value_of_a_key_is_found(rt: HostRuntime) -> Result<(), Fail> {
         VecMap::from_slice(rt.alloc(), &pairs)?,
         pairs.iter().copied().collect(rt.alloc())?,
     ] {
-        assert!(rt; map.as_slice() == [("a", 3), ("b", 2)].as_slice());
-        assert!(rt; map.get(&"a").copied() == Some(3));
+        assert_list(&rt, map.as_slice(), &[("a", 3), ("b", 2)]);
+        assert_is(&rt, map.get(&"a").copied(), Some(3));
     }
     Ok(())
 }
@@ -79,9 +80,9 @@ fn extending_keeps_stored_keys(rt: HostRuntime) -> Result<(), Fail> {
     let mut appended = start()?;
     let mut other = VecMap::from_slice(rt.alloc(), &more)?;
     appended.append(&mut other)?;
-    assert!(rt; other.is_empty());
+    check!(rt; other.is_empty());
     for map in [single, extended, by_refs, by_pairs, appended] {
-        assert!(rt; has_pairs(map.as_slice(), &[(1, 'x', 20), (2, 'z', 30)]));
+        assert_pairs(&rt, &map, &[(1, 'x', 20), (2, 'z', 30)]);
     }
     Ok(())
 }
@@ -99,13 +100,13 @@ fn append_inserts_all_and_leaves_the_capacity_of_the_other(rt: HostRuntime) -> R
         (4, 'e', 40),
         (5, 'f', 50),
     ];
-    assert!(rt; has_pairs(map.as_slice(), &left));
-    assert!(rt; 6 <= map.capacity());
-    assert!(rt; (other.len(), other.capacity()) == (0, room));
+    assert_pairs(&rt, &map, &left);
+    check!(rt; 6 <= map.capacity());
+    assert_is(&rt, (other.len(), other.capacity()), (0, room));
     let granted = map.capacity();
     map.append(&mut other)?;
-    assert!(rt; has_pairs(map.as_slice(), &left));
-    assert!(rt; (map.capacity(), other.capacity()) == (granted, room));
+    assert_pairs(&rt, &map, &left);
+    assert_is(&rt, (map.capacity(), other.capacity()), (granted, room));
     Ok(())
 }
 
@@ -117,17 +118,17 @@ fn from_slice_keeps_distinct_pairs_of_every_kind(rt: HostRuntime) -> Result<(), 
     );
     let pairs = [(1i64, foo), (2, bar)];
     let numbered = VecMap::from_slice(rt.alloc(), &pairs)?;
-    assert!(rt; numbered.as_slice() == pairs.as_slice());
+    assert_list(&rt, numbered.as_slice(), &pairs);
     let (foo, bar) = (
         String::from_str(rt.alloc(), "foo")?,
         String::from_str(rt.alloc(), "bar")?,
     );
     let pairs = [(foo, 1i64), (bar, 2)];
     let named = VecMap::from_slice(rt.alloc(), &pairs)?;
-    assert!(rt; named.as_slice() == pairs.as_slice());
+    assert_list(&rt, named.as_slice(), &pairs);
     let told = VecMap::from_slice(rt.alloc(), &[(true, 1i64), (false, 2)])?;
-    assert!(rt; told.as_slice() == [(true, 1), (false, 2)].as_slice());
+    assert_list(&rt, told.as_slice(), &[(true, 1), (false, 2)]);
     let flags = VecMap::from_slice(rt.alloc(), &[(1i64, true), (2, false)])?;
-    assert!(rt; flags.as_slice() == [(1, true), (2, false)].as_slice());
+    assert_list(&rt, flags.as_slice(), &[(1, true), (2, false)]);
     Ok(())
 }

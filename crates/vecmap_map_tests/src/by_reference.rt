@@ -3,6 +3,7 @@
 ghost use Rattle.std.specs.Prelude.{◌≡◌, ◌<◌, ◌^◌, sum};
 ghost use Rattle.std.specs.Map.{values_of};
 
+use crate::checks::{assert_granted, assert_is, assert_list};
 use std::alloc::{AllocError, Global};
 use std::test::Fail;
 use vecmap::VecMap;
@@ -39,11 +40,15 @@ fn gather(alloc: Global, map: &VecMap<u64, u32>) -> Result<Vec<(u64, u32)>, Allo
 #[test]
 fn loops_by_reference_run(rt: HostRuntime) -> Result<(), Fail> {
     let mut map: VecMap<u64, u32> = VecMap::new(rt.alloc());
-    assert!(rt; total(&map) == 0);
-    map.insert(1, 10)?;
-    map.insert(2, 20)?;
-    assert!(rt; gather(rt.alloc(), &map)?.as_slice() == [(1, 10), (2, 20)].as_slice());
-    assert!(rt; write_values(&mut map, 7) == 2);
-    assert!(rt; map.as_slice() == [(1, 7), (2, 7)].as_slice());
+    assert_is(&rt, total(&map), 0);
+    assert_granted(&rt, map.insert(1, 10));
+    assert_granted(&rt, map.insert(2, 20));
+    assert_list(
+        &rt,
+        gather(rt.alloc(), &map)?.as_slice(),
+        &[(1, 10), (2, 20)],
+    );
+    assert_is(&rt, write_values(&mut map, 7), 2);
+    assert_list(&rt, map.as_slice(), &[(1, 7), (2, 7)]);
     Ok(())
 }

@@ -1,4 +1,5 @@
 //! Clones that fail at a key or a value of a chosen number: the source is unchanged, and the clones so far are dropped.
+use crate::checks::{assert_is, assert_refused, assert_told, check};
 use std::test::Fail;
 use vecmap::VecMap;
 use vecmap_fixtures::{Log, Told, has_told, has_told_pairs, told_map};
@@ -11,24 +12,22 @@ fn a_refused_clone_leaves_the_map(rt: HostRuntime) -> Result<(), Fail> {
     let map = told_map(rt.alloc(), &log, &[1, 2, 3])?;
     for number in [1, 11, 2, 12, 3, 13] {
         log.refuse_clones_of(number);
-        assert!(rt;
-            map.clone().is_err() && map.to_vec().is_err(),
-            "at {number}"
+        let by_slice = VecMap::from_slice(rt.alloc(), map.as_slice()).is_err();
+        assert_is(
+            &rt,
+            (number, map.clone().is_err(), map.to_vec().is_err()),
+            (number, true, true),
         );
-        assert!(rt;
-            VecMap::from_slice(rt.alloc(), map.as_slice()).is_err(),
-            "at {number}"
-        );
-        assert!(rt;
-            log.alive() == 6 && has_told_pairs(map.as_slice(), THREE),
-            "at {number}"
-        );
+        assert_is(&rt, (number, by_slice, log.alive()), (number, true, 6));
+        assert_told(&rt, &map, THREE);
     }
     log.refuse_clones_of(0);
     let (copy, copies) = (map.clone()?, map.to_vec()?);
     let made = VecMap::from_slice(rt.alloc(), map.as_slice())?;
-    assert!(rt; has_told_pairs(copy.as_slice(), THREE) && has_told_pairs(&copies, THREE));
-    assert!(rt; log.alive() == 24 && has_told_pairs(made.as_slice(), THREE));
+    assert_told(&rt, &copy, THREE);
+    check!(rt; has_told_pairs(&copies, THREE));
+    assert_is(&rt, log.alive(), 24);
+    assert_told(&rt, &made, THREE);
     Ok(())
 }
 
@@ -41,22 +40,25 @@ fn a_refused_clone_leaves_an_iterator(rt: HostRuntime) -> Result<(), Fail> {
         let mut keys = told_map(rt.alloc(), &log, &[1, 2, 3])?.into_keys();
         let mut values = told_map(rt.alloc(), &log, &[1, 2, 3])?.into_values();
         drop((pairs.next(), keys.next(), values.next()));
-        assert!(rt; log.alive() == 12 && pairs.clone().is_err());
+        assert_is(&rt, log.alive(), 12);
+        assert_refused(&rt, pairs.clone());
         // An iterator over keys or values clones both.
-        assert!(rt; keys.clone().is_err() && values.clone().is_err());
-        assert!(rt; log.alive() == 12);
+        assert_refused(&rt, keys.clone());
+        assert_refused(&rt, values.clone());
+        assert_is(&rt, log.alive(), 12);
         log.refuse_clones_of(0);
         let copies: Vec<(Told<'_>, Told<'_>)> = pairs.clone()?.collect(rt.alloc())?;
-        assert!(rt; has_told_pairs(&copies, &[(2, 12), (3, 13)]));
+        check!(rt; has_told_pairs(&copies, &[(2, 12), (3, 13)]));
         let copies: Vec<Told<'_>> = keys.clone()?.collect(rt.alloc())?;
-        assert!(rt; has_told(&copies, &[2, 3]));
+        check!(rt; has_told(&copies, &[2, 3]));
         let copies: Vec<Told<'_>> = values.clone()?.collect(rt.alloc())?;
-        assert!(rt; has_told(&copies, &[12, 13]));
+        check!(rt; has_told(&copies, &[12, 13]));
         let pairs: Vec<(Told<'_>, Told<'_>)> = pairs.collect(rt.alloc())?;
-        assert!(rt; has_told_pairs(&pairs, &[(2, 12), (3, 13)]));
+        check!(rt; has_told_pairs(&pairs, &[(2, 12), (3, 13)]));
         let keys: Vec<Told<'_>> = keys.collect(rt.alloc())?;
         let values: Vec<Told<'_>> = values.collect(rt.alloc())?;
-        assert!(rt; has_told(&keys, &[2, 3]) && has_told(&values, &[12, 13]));
+        check!(rt; has_told(&keys, &[2, 3]));
+        check!(rt; has_told(&values, &[12, 13]));
     }
     Ok(())
 }
@@ -69,23 +71,16 @@ fn extending_inserts_the_clones_before_the_refused_one(rt: HostRuntime) -> Resul
         log.refuse_clones_of(number);
         let more = told_map(rt.alloc(), &log, &[4, 1, 5])?;
         let mut by_pairs = told_map(rt.alloc(), &log, &[1, 2])?;
-        assert!(rt;
-            by_pairs.extend_pairs(more.as_slice()).is_err(),
-            "at {number}"
-        );
-        assert!(rt;
-            has_told_pairs(by_pairs.as_slice(), &all[..count]),
-            "at {number}"
-        );
+        let is_refused = by_pairs.extend_pairs(more.as_slice()).is_err();
+        assert_is(&rt, (number, is_refused), (number, true));
+        assert_told(&rt, &by_pairs, &all[..count]);
         drop(by_pairs);
         let mut by_refs = told_map(rt.alloc(), &log, &[1, 2])?;
-        assert!(rt; by_refs.extend_refs(more.iter()).is_err(), "at {number}");
-        assert!(rt;
-            has_told_pairs(by_refs.as_slice(), &all[..count]),
-            "at {number}"
-        );
+        let is_refused = by_refs.extend_refs(more.iter()).is_err();
+        assert_is(&rt, (number, is_refused), (number, true));
+        assert_told(&rt, &by_refs, &all[..count]);
         drop(by_refs);
-        assert!(rt; log.alive() == 6, "at {number}");
+        assert_is(&rt, (number, log.alive()), (number, 6));
     }
     Ok(())
 }

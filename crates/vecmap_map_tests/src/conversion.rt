@@ -1,4 +1,5 @@
 //! Conversion from vectors to maps, and from maps to vectors.
+use crate::checks::{assert_is, assert_list, assert_pairs, check};
 use std::alloc::{AllocError, Global};
 use std::test::Fail;
 use vecmap::{VecMap, keys_distinct};
@@ -53,11 +54,11 @@ fn a_vector_keeps_first_keys_and_last_values(rt: HostRuntime) -> Result<(), Fail
         let vec = item_pairs(rt.alloc(), pairs)?;
         let room = vec.capacity();
         let map = VecMap::from(vec);
-        assert!(rt; has_pairs(map.as_slice(), left));
-        assert!(rt; map.capacity() == room);
+        assert_pairs(&rt, &map, left);
+        assert_is(&rt, map.capacity(), room);
         let (map, comparisons) = VecMap::from_vec_counted(item_pairs(rt.alloc(), pairs)?);
-        assert!(rt; has_pairs(map.as_slice(), left));
-        assert!(rt; comparisons <= 15);
+        assert_pairs(&rt, &map, left);
+        check!(rt; comparisons <= 15);
     }
     Ok(())
 }
@@ -74,13 +75,13 @@ fn a_map_of_a_vector_counts_its_comparisons(rt: HostRuntime) -> Result<(), Fail>
     ] {
         let log = Log::new();
         let (_map, comparisons) = VecMap::from_vec_counted(told_pairs(rt.alloc(), &log, numbers)?);
-        assert!(rt; comparisons == expected);
-        assert!(rt; u128::from(log.comparisons()) == expected);
-        assert!(rt; !log.compares_after_drop());
+        assert_is(&rt, comparisons, expected);
+        assert_is(&rt, u128::from(log.comparisons()), expected);
+        check!(rt; !log.compares_after_drop());
         let log = Log::new();
         let _map = VecMap::from(told_pairs(rt.alloc(), &log, numbers)?);
-        assert!(rt; u128::from(log.comparisons()) == expected);
-        assert!(rt; !log.compares_after_drop());
+        assert_is(&rt, u128::from(log.comparisons()), expected);
+        check!(rt; !log.compares_after_drop());
     }
     Ok(())
 }
@@ -89,9 +90,9 @@ fn a_map_of_a_vector_counts_its_comparisons(rt: HostRuntime) -> Result<(), Fail>
 fn clones_hold_the_pairs_in_their_order(rt: HostRuntime) -> Result<(), Fail> {
     for pairs in [[].as_slice(), [(2, 'b', 20), (1, 'a', 10)].as_slice()] {
         let map = item_map(rt.alloc(), pairs)?;
-        assert!(rt; has_pairs(map.clone()?.as_slice(), pairs));
-        assert!(rt; has_pairs(map.to_vec()?.as_slice(), pairs));
-        assert!(rt; has_pairs(map.as_slice(), pairs));
+        check!(rt; has_pairs(map.clone()?.as_slice(), pairs));
+        check!(rt; has_pairs(map.to_vec()?.as_slice(), pairs));
+        assert_pairs(&rt, &map, pairs);
     }
     Ok(())
 }
@@ -107,8 +108,8 @@ fn distinct_keys_are_distinguished_from_repeats(rt: HostRuntime) -> Result<(), F
         let pairs_again = pairs.to_vec(rt.alloc())?;
         if keys_distinct(&pairs_again) {
             let map = VecMap::from_vec_unchecked(pairs_again);
-            assert!(rt; map.has_distinct_keys());
-            assert!(rt; map.as_slice() == pairs);
+            check!(rt; map.has_distinct_keys());
+            assert_list(&rt, map.as_slice(), pairs);
         }
     }
     Ok(())
@@ -120,7 +121,7 @@ fn the_vector_of_a_map_has_its_pairs_and_its_capacity(rt: HostRuntime) -> Result
     map.extend([("b", 2), ("a", 1)])?;
     let room = map.capacity();
     let pairs = map.into_vec();
-    assert!(rt; pairs.as_slice() == [("b", 2), ("a", 1)].as_slice());
-    assert!(rt; pairs.capacity() == room);
+    assert_list(&rt, pairs.as_slice(), &[("b", 2), ("a", 1)]);
+    assert_is(&rt, pairs.capacity(), room);
     Ok(())
 }

@@ -1,9 +1,10 @@
 //! Drains of a map.
+use crate::checks::{assert_is, assert_list, assert_pair, assert_pairs, assert_text, check};
 use std::alloc::{AllocError, Global};
 use std::ops::Bound;
 use std::test::Fail;
 use vecmap::VecMap;
-use vecmap_fixtures::{Log, has_pairs, pulls_as_list, repeating_map, told_pairs};
+use vecmap_fixtures::{Log, pulls_as_list, repeating_map, told_pairs};
 
 // Two keys are equal: a drain does not compare keys.
 const FIVE: &[(u32, char, u32)] = &[
@@ -29,19 +30,18 @@ fn a_drain_returns_its_range_from_both_ends(rt: HostRuntime) -> Result<(), Fail>
     let room = map.capacity();
     assert!(rt; 4 <= map.len());
     let mut pairs = map.drain(1..4);
-    assert!(rt; pairs.size_hint() == (3, Some(3)));
-    let (key, value) = pairs.next().ok_or("nothing")?;
-    assert!(rt; (key.number, key.mark, value) == (1, 'b', 10));
-    let (key, value) = pairs.next_back().ok_or("nothing")?;
-    assert!(rt; (key.number, key.mark, value) == (3, 'd', 30));
-    assert!(rt; pairs.len() == 1);
-    let (key, value) = pairs.next().ok_or("nothing")?;
-    assert!(rt; (key.number, key.mark, value) == (1, 'c', 20));
-    assert!(rt; pairs.next().is_none() && pairs.next_back().is_none() && pairs.next().is_none());
-    assert!(rt; pairs.size_hint() == (0, Some(0)));
+    assert_is(&rt, pairs.size_hint(), (3, Some(3)));
+    assert_pair(&rt, pairs.next(), (1, 'b', 10));
+    assert_pair(&rt, pairs.next_back(), (3, 'd', 30));
+    assert_is(&rt, pairs.len(), 1);
+    assert_pair(&rt, pairs.next(), (1, 'c', 20));
+    check!(rt; pairs.next().is_none());
+    check!(rt; pairs.next_back().is_none());
+    check!(rt; pairs.next().is_none());
+    assert_is(&rt, pairs.size_hint(), (0, Some(0)));
     drop(pairs);
-    assert!(rt; has_pairs(map.as_slice(), &[(0, 'a', 0), (4, 'e', 40)]));
-    assert!(rt; map.capacity() == room);
+    assert_pairs(&rt, &map, &[(0, 'a', 0), (4, 'e', 40)]);
+    assert_is(&rt, map.capacity(), room);
     Ok(())
 }
 
@@ -54,8 +54,12 @@ fn a_drain_is_exact_for_every_mixture_of_next_and_next_back(rt: HostRuntime) -> 
         for ends in 0..64 {
             let mut map = VecMap::from_slice(rt.alloc(), &SIX)?;
             assert!(rt; end <= map.len());
-            assert!(rt; pulls_as_list(map.drain(1..end), |pair| pair, &SIX[1..end], ends));
-            assert!(rt; map.as_slice().split_first() == Some((&SIX[0], &SIX[end..])));
+            check!(rt; pulls_as_list(map.drain(1..end), |pair| pair, &SIX[1..end], ends));
+            assert_is(
+                &rt,
+                map.as_slice().split_first(),
+                Some((&SIX[0], &SIX[end..])),
+            );
         }
     }
     Ok(())
@@ -76,8 +80,8 @@ fn a_dropped_drain_removes_the_whole_range(rt: HostRuntime) -> Result<(), Fail> 
             };
         }
         drop(pairs);
-        assert!(rt; has_pairs(map.as_slice(), &[(0, 'a', 0), (4, 'e', 40)]));
-        assert!(rt; map.capacity() == room);
+        assert_pairs(&rt, &map, &[(0, 'a', 0), (4, 'e', 40)]);
+        assert_is(&rt, map.capacity(), room);
     }
     Ok(())
 }
@@ -86,22 +90,22 @@ fn a_dropped_drain_removes_the_whole_range(rt: HostRuntime) -> Result<(), Fail> 
 fn a_range_may_have_any_ends(rt: HostRuntime) -> Result<(), Fail> {
     let mut map = numbered(rt.alloc(), &[0, 1, 2, 3, 4])?;
     assert!(rt; 4 <= map.len());
-    assert!(rt; map.drain(1..4).next() == Some((1, 1)));
-    assert!(rt; map.as_slice() == [(0, 0), (4, 4)].as_slice());
+    assert_is(&rt, map.drain(1..4).next(), Some((1, 1)));
+    assert_list(&rt, map.as_slice(), &[(0, 0), (4, 4)]);
     assert!(rt; 1 <= map.len());
     let mut pairs = map.drain((Bound::Excluded(0), Bound::Unbounded));
-    assert!(rt; pairs.next() == Some((4, 4)));
-    assert!(rt; pairs.next() == None);
+    assert_is(&rt, pairs.next(), Some((4, 4)));
+    assert_is(&rt, pairs.next(), None);
     drop(pairs);
-    assert!(rt; map.as_slice() == [(0, 0)].as_slice());
+    assert_list(&rt, map.as_slice(), &[(0, 0)]);
     drop(map.drain(..0));
-    assert!(rt; map.as_slice() == [(0, 0)].as_slice());
+    assert_list(&rt, map.as_slice(), &[(0, 0)]);
     let end = map.len();
-    assert!(rt; map.drain(end..).next().is_none());
-    assert!(rt; map.as_slice() == [(0, 0)].as_slice());
-    assert!(rt; map.drain(..).next_back() == Some((0, 0)));
-    assert!(rt; map.is_empty());
-    assert!(rt; map.drain(..).next().is_none());
+    check!(rt; map.drain(end..).next().is_none());
+    assert_list(&rt, map.as_slice(), &[(0, 0)]);
+    assert_is(&rt, map.drain(..).next_back(), Some((0, 0)));
+    check!(rt; map.is_empty());
+    check!(rt; map.drain(..).next().is_none());
     Ok(())
 }
 
@@ -111,21 +115,21 @@ fn a_drain_can_be_read_from_one_end_alone(rt: HostRuntime) -> Result<(), Fail> {
     let mut sum = 0;
     let mut last = 0;
     for (key, value) in map.drain(..) {
-        assert!(rt; key == 0 || last < value);
+        check!(rt; key == 0 || last < value);
         last = value;
         sum ^= value;
     }
-    assert!(rt; (last, sum) == (8, 5 ^ 6 ^ 7 ^ 8));
-    assert!(rt; map.is_empty());
+    assert_is(&rt, (last, sum), (8, 5 ^ 6 ^ 7 ^ 8));
+    check!(rt; map.is_empty());
     let mut map = numbered(rt.alloc(), &[5, 6, 7, 8])?;
     assert!(rt; 3 <= map.len());
     let mut pairs = map.drain(..3);
-    assert!(rt; pairs.next_back() == Some((2, 7)));
-    assert!(rt; pairs.next_back() == Some((1, 6)));
-    assert!(rt; pairs.next_back() == Some((0, 5)));
-    assert!(rt; pairs.next_back() == None);
+    assert_is(&rt, pairs.next_back(), Some((2, 7)));
+    assert_is(&rt, pairs.next_back(), Some((1, 6)));
+    assert_is(&rt, pairs.next_back(), Some((0, 5)));
+    assert_is(&rt, pairs.next_back(), None);
     drop(pairs);
-    assert!(rt; map.as_slice() == [(3, 8)].as_slice());
+    assert_list(&rt, map.as_slice(), &[(3, 8)]);
     Ok(())
 }
 
@@ -143,14 +147,14 @@ fn each_key_that_a_drain_removes_is_dropped_once(rt: HostRuntime) -> Result<(), 
             } else {
                 pairs.next_back()
             };
-            assert!(rt; log.drops() == pull);
+            assert_is(&rt, log.drops(), pull);
             drop(pair);
         }
-        assert!(rt; log.drops() == pulls);
+        assert_is(&rt, log.drops(), pulls);
         drop(pairs);
-        assert!(rt; log.drops() == 3);
+        assert_is(&rt, log.drops(), 3);
         drop(map);
-        assert!(rt; log.drops() == 5);
+        assert_is(&rt, log.drops(), 5);
     }
     Ok(())
 }
@@ -159,10 +163,16 @@ fn each_key_that_a_drain_removes_is_dropped_once(rt: HostRuntime) -> Result<(), 
 fn a_drain_prints_the_pairs_that_are_left(rt: HostRuntime) -> Result<(), Fail> {
     let mut map = numbered(rt.alloc(), &[5, 6, 7, 8])?;
     let mut pairs = map.drain(..);
-    assert!(rt;
-        format!(in rt.alloc(); "{pairs:?}")?.as_str() == "[(0, 5), (1, 6), (2, 7), (3, 8)]"
+    assert_text(
+        &rt,
+        format!(in rt.alloc(); "{pairs:?}"),
+        "[(0, 5), (1, 6), (2, 7), (3, 8)]",
     );
     let _last = pairs.next_back();
-    assert!(rt; format!(in rt.alloc(); "{pairs:?}")?.as_str() == "[(0, 5), (1, 6), (2, 7)]");
+    assert_text(
+        &rt,
+        format!(in rt.alloc(); "{pairs:?}"),
+        "[(0, 5), (1, 6), (2, 7)]",
+    );
     Ok(())
 }

@@ -1,6 +1,6 @@
 //! Indexing of a map in brackets, by index and by key. `queries` has it by text.
-use std::test::Fail;
-use vecmap_fixtures::{has_pairs, item_map, make_item};
+use crate::checks::{assert_is, assert_pairs, granted};
+use vecmap_fixtures::{item_map, make_item};
 
 const THREE: &[(u32, char, u32)] = &[(7, 'a', 1), (8, 'b', 2), (9, 'c', 3)];
 
@@ -12,53 +12,49 @@ const WRITTEN: [[(u32, char, u32); 3]; 3] = [
 ];
 
 #[test]
-fn brackets_read_and_write_by_index_and_by_key(rt: HostRuntime) -> Result<(), Fail> {
-    let mut map = item_map(rt.alloc(), &[(1, 'a', 1), (2, 'b', 2)])?;
+fn brackets_read_and_write_by_index_and_by_key(rt: HostRuntime) {
+    let mut map = granted(&rt, item_map(rt.alloc(), &[(1, 'a', 1), (2, 'b', 2)]));
     assert!(rt; map.len() == 2);
-    assert!(rt; (map[0], map[1]) == (1, 2));
+    assert_is(&rt, (map[0], map[1]), (1, 2));
     map[0] = 8;
-    assert!(rt; has_pairs(map.as_slice(), &[(1, 'a', 8), (2, 'b', 2)]));
+    assert_pairs(&rt, &map, &[(1, 'a', 8), (2, 'b', 2)]);
     let there = make_item(2, 'z');
     assert!(rt; map.contains_key(&there));
-    assert!(rt; map[&there] == 2);
+    assert_is(&rt, map[&there], 2);
     map[&there] = 9;
-    assert!(rt; has_pairs(map.as_slice(), &[(1, 'a', 8), (2, 'b', 9)]));
-    Ok(())
+    assert_pairs(&rt, &map, &[(1, 'a', 8), (2, 'b', 9)]);
 }
 
 #[test]
-fn brackets_read_each_value(rt: HostRuntime) -> Result<(), Fail> {
-    let map = item_map(rt.alloc(), THREE)?;
+fn brackets_read_each_value(rt: HostRuntime) {
+    let map = granted(&rt, item_map(rt.alloc(), THREE));
     for (index, (number, _, value)) in THREE.iter().enumerate() {
         assert!(rt; index < map.len());
-        assert!(rt; map[index] == *value);
+        assert_is(&rt, map[index], *value);
         let key = make_item(*number, 'z');
         assert!(rt; map.contains_key(&key));
-        assert!(rt; map[&key] == *value);
+        assert_is(&rt, map[&key], *value);
     }
-    assert!(rt; has_pairs(map.as_slice(), THREE));
-    Ok(())
+    assert_pairs(&rt, &map, THREE);
 }
 
 #[test]
-fn brackets_write_one_value_by_index(rt: HostRuntime) -> Result<(), Fail> {
+fn brackets_write_one_value_by_index(rt: HostRuntime) {
     for (index, written) in WRITTEN.iter().enumerate() {
-        let mut map = item_map(rt.alloc(), THREE)?;
+        let mut map = granted(&rt, item_map(rt.alloc(), THREE));
         assert!(rt; index < map.len());
         map[index] = 5;
-        assert!(rt; has_pairs(map.as_slice(), written));
+        assert_pairs(&rt, &map, written);
     }
-    Ok(())
 }
 
 #[test]
-fn brackets_write_one_value_by_key(rt: HostRuntime) -> Result<(), Fail> {
+fn brackets_write_one_value_by_key(rt: HostRuntime) {
     for (number, written) in [7, 8, 9].iter().zip(&WRITTEN) {
-        let mut map = item_map(rt.alloc(), THREE)?;
+        let mut map = granted(&rt, item_map(rt.alloc(), THREE));
         let key = make_item(*number, 'z');
         assert!(rt; map.contains_key(&key));
         map[&key] = 5;
-        assert!(rt; has_pairs(map.as_slice(), written));
+        assert_pairs(&rt, &map, written);
     }
-    Ok(())
 }

@@ -7,12 +7,16 @@
 //! - `no_size`: keys and values of no size.
 //! - `repeats`: calls by key on a map in which keys repeat.
 //! - `sizes`: sizes of keys, pairs and maps for which a call has a path of its own.
+//!
+//! `checks` has the functions by which they assert.
 #![tactic(auto)]
 
 #[cfg(test)]
 mod bulk;
 #[cfg(test)]
 mod by_reference;
+#[cfg(test)]
+mod checks;
 #[cfg(test)]
 mod clones;
 #[cfg(test)]

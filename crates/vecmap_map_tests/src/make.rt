@@ -1,4 +1,5 @@
 //! The allocator of a map.
+use crate::checks::{assert_granted, assert_is};
 use std::test::Fail;
 use vecmap::VecMap;
 
@@ -7,7 +8,8 @@ fn the_allocator_serves_texts_and_further_maps(rt: HostRuntime) -> Result<(), Fa
     let map: VecMap<u32, u32> = VecMap::new(rt.alloc());
     let text = String::from_str(*map.allocator(), "a")?;
     let mut names = VecMap::new(*map.allocator());
-    names.insert(text, 1)?;
-    assert!(rt; names.get("a") == Some(&1) && map.capacity() == 0);
+    assert_granted(&rt, names.insert(text, 1));
+    assert_is(&rt, names.get("a"), Some(&1));
+    assert_is(&rt, map.capacity(), 0);
     Ok(())
 }

@@ -2,10 +2,11 @@
 mod retain;
 mod split_off;
 
+use crate::checks::{assert_is, assert_list, assert_pair, assert_pairs, check};
 use std::alloc::{AllocError, Global};
 use std::test::Fail;
 use vecmap::VecMap;
-use vecmap_fixtures::{Item, has_pairs, item_map, make_item};
+use vecmap_fixtures::{Item, item_map, make_item};
 
 fn start(alloc: Global) -> Result<VecMap<Item, u32>, AllocError> {
     item_map(
@@ -18,14 +19,13 @@ fn start(alloc: Global) -> Result<VecMap<Item, u32>, AllocError> {
 fn a_removal_by_key_shifts_what_follows(rt: HostRuntime) -> Result<(), Fail> {
     let left = &[(1, 'a', 10), (3, 'c', 30), (4, 'd', 40)];
     let mut map = start(rt.alloc())?;
-    assert!(rt; map.remove(&make_item(2, 'z')) == Some(20));
-    assert!(rt; has_pairs(map.as_slice(), left));
-    assert!(rt; map.remove(&make_item(2, 'z')) == None);
-    assert!(rt; map.remove_entry(&make_item(2, 'z')).is_none());
-    assert!(rt; has_pairs(map.as_slice(), left));
-    let (key, value) = map.remove_entry(&make_item(1, 'z')).ok_or("absent")?;
-    assert!(rt; (key.number, key.mark, value) == (1, 'a', 10));
-    assert!(rt; has_pairs(map.as_slice(), &[(3, 'c', 30), (4, 'd', 40)]));
+    assert_is(&rt, map.remove(&make_item(2, 'z')), Some(20));
+    assert_pairs(&rt, &map, left);
+    assert_is(&rt, map.remove(&make_item(2, 'z')), None);
+    check!(rt; map.remove_entry(&make_item(2, 'z')).is_none());
+    assert_pairs(&rt, &map, left);
+    assert_pair(&rt, map.remove_entry(&make_item(1, 'z')), (1, 'a', 10));
+    assert_pairs(&rt, &map, &[(3, 'c', 30), (4, 'd', 40)]);
     Ok(())
 }
 
@@ -33,16 +33,15 @@ fn a_removal_by_key_shifts_what_follows(rt: HostRuntime) -> Result<(), Fail> {
 fn a_swap_removal_by_key_fills_the_gap_with_the_last(rt: HostRuntime) -> Result<(), Fail> {
     let left = &[(1, 'a', 10), (4, 'd', 40), (3, 'c', 30)];
     let mut map = start(rt.alloc())?;
-    assert!(rt; map.swap_remove(&make_item(2, 'z')) == Some(20));
-    assert!(rt; has_pairs(map.as_slice(), left));
-    assert!(rt; map.swap_remove(&make_item(2, 'z')) == None);
-    assert!(rt; map.swap_remove_entry(&make_item(2, 'z')).is_none());
-    assert!(rt; has_pairs(map.as_slice(), left));
-    let (key, value) = map.swap_remove_entry(&make_item(1, 'z')).ok_or("absent")?;
-    assert!(rt; (key.number, key.mark, value) == (1, 'a', 10));
-    assert!(rt; has_pairs(map.as_slice(), &[(3, 'c', 30), (4, 'd', 40)]));
-    assert!(rt; map.swap_remove(&make_item(4, 'z')) == Some(40));
-    assert!(rt; has_pairs(map.as_slice(), &[(3, 'c', 30)]));
+    assert_is(&rt, map.swap_remove(&make_item(2, 'z')), Some(20));
+    assert_pairs(&rt, &map, left);
+    assert_is(&rt, map.swap_remove(&make_item(2, 'z')), None);
+    check!(rt; map.swap_remove_entry(&make_item(2, 'z')).is_none());
+    assert_pairs(&rt, &map, left);
+    assert_pair(&rt, map.swap_remove_entry(&make_item(1, 'z')), (1, 'a', 10));
+    assert_pairs(&rt, &map, &[(3, 'c', 30), (4, 'd', 40)]);
+    assert_is(&rt, map.swap_remove(&make_item(4, 'z')), Some(40));
+    assert_pairs(&rt, &map, &[(3, 'c', 30)]);
     Ok(())
 }
 
@@ -70,14 +69,12 @@ fn a_removal_by_index_shifts_or_swaps(rt: HostRuntime) -> Result<(), Fail> {
     ] {
         let mut map = start(rt.alloc())?;
         assert!(rt; index < map.len());
-        let (key, value) = map.remove_index(index);
-        assert!(rt; (key.number, key.mark, value) == pair);
-        assert!(rt; has_pairs(map.as_slice(), &shifted), "at {index}");
+        assert_pair(&rt, Some(map.remove_index(index)), pair);
+        assert_pairs(&rt, &map, &shifted);
         let mut map = start(rt.alloc())?;
         assert!(rt; index < map.len());
-        let (key, value) = map.swap_remove_index(index);
-        assert!(rt; (key.number, key.mark, value) == pair);
-        assert!(rt; has_pairs(map.as_slice(), &swapped), "at {index}");
+        assert_pair(&rt, Some(map.swap_remove_index(index)), pair);
+        assert_pairs(&rt, &map, &swapped);
     }
     Ok(())
 }
@@ -86,17 +83,17 @@ fn a_removal_by_index_shifts_or_swaps(rt: HostRuntime) -> Result<(), Fail> {
 fn pop_truncate_and_clear_remove_from_the_end(rt: HostRuntime) -> Result<(), Fail> {
     let mut map = start(rt.alloc())?;
     let room = map.capacity();
-    let (key, value) = map.pop().ok_or("empty")?;
-    assert!(rt; (key.number, key.mark, value) == (4, 'd', 40));
+    assert_pair(&rt, map.pop(), (4, 'd', 40));
     let left = &[(1, 'a', 10), (2, 'b', 20), (3, 'c', 30)];
-    assert!(rt; has_pairs(map.as_slice(), left));
+    assert_pairs(&rt, &map, left);
     map.truncate(3);
-    assert!(rt; has_pairs(map.as_slice(), left));
+    assert_pairs(&rt, &map, left);
     map.truncate(1);
-    assert!(rt; has_pairs(map.as_slice(), &[(1, 'a', 10)]));
+    assert_pairs(&rt, &map, &[(1, 'a', 10)]);
     map.clear();
-    assert!(rt; map.is_empty() && map.pop().is_none());
-    assert!(rt; (map.len(), map.capacity()) == (0, room));
+    check!(rt; map.is_empty());
+    check!(rt; map.pop().is_none());
+    assert_is(&rt, (map.len(), map.capacity()), (0, room));
     Ok(())
 }
 
@@ -106,10 +103,10 @@ fn swap_remove_removes_a_key_and_then_the_key_that_became_last(
 ) -> Result<(), Fail> {
     let pairs = [(1, "a"), (2, "b"), (3, "c"), (4, "d")];
     let mut map = VecMap::from_slice(rt.alloc(), &pairs)?;
-    assert!(rt; map.swap_remove(&2) == Some("b"));
-    assert!(rt; map.as_slice() == [(1, "a"), (4, "d"), (3, "c")].as_slice());
-    assert!(rt; map.swap_remove(&2) == None);
-    assert!(rt; map.swap_remove(&3) == Some("c"));
-    assert!(rt; map.as_slice() == [(1, "a"), (4, "d")].as_slice());
+    assert_is(&rt, map.swap_remove(&2), Some("b"));
+    assert_list(&rt, map.as_slice(), &[(1, "a"), (4, "d"), (3, "c")]);
+    assert_is(&rt, map.swap_remove(&2), None);
+    assert_is(&rt, map.swap_remove(&3), Some("c"));
+    assert_list(&rt, map.as_slice(), &[(1, "a"), (4, "d")]);
     Ok(())
 }

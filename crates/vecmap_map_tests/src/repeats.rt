@@ -1,9 +1,11 @@
 //! Calls by key on a map with equal keys: each uses the first of the equal keys, and leaves the others unchanged.
 use super::entry::occupied;
+use crate::checks::{assert_full, assert_gives, assert_is, assert_pair, assert_pairs, check};
 use std::alloc::{AllocError, Global};
+use std::process::Abort;
 use std::test::Fail;
 use vecmap::VecMap;
-use vecmap::map::{Entry, MutableKeys};
+use vecmap::map::MutableKeys;
 use vecmap_fixtures::{Item, has_pairs, make_item, repeating_map};
 
 // Creates a map with the key 1 at three indices, neither at the first nor at the last.
@@ -37,8 +39,8 @@ const SWAPPED: &[(u32, char, u32)] = &[
     (1, 'e', 5),
 ];
 
-// Returns whether the map is as it was created, except for the value and the mark of the first of the equal keys.
-fn has_first(map: &VecMap<Item, u32>, mark: char, value: u32) -> bool {
+// Asserts that the map is as it was created, except for the value and the mark of the first of the equal keys.
+fn assert_first(rt: &impl Abort, map: &VecMap<Item, u32>, mark: char, value: u32) {
     let expected = [
         (9, 'a', 1),
         (1, mark, value),
@@ -47,21 +49,24 @@ fn has_first(map: &VecMap<Item, u32>, mark: char, value: u32) -> bool {
         (1, 'e', 5),
         (8, 'f', 6),
     ];
-    has_pairs(map.as_slice(), &expected)
+    assert_pairs(rt, map, &expected);
 }
 
 #[test]
 fn lookups_return_the_first_of_equal_keys(rt: HostRuntime) -> Result<(), Fail> {
     let map = start(rt.alloc())?;
     let key = make_item(1, 'z');
-    assert!(rt; has_first(&map, 'b', 2) && !map.has_distinct_keys());
+    assert_first(&rt, &map, 'b', 2);
+    check!(rt; !map.has_distinct_keys());
     assert!(rt; map.contains_key(&key));
-    assert!(rt; (map.get_index_of(&key), map.get(&key).copied()) == (Some(1), Some(2)));
-    let (stored, value) = map.get_key_value(&key).ok_or("absent")?;
-    assert!(rt; (stored.mark, *value) == ('b', 2));
-    let (index, stored, value) = map.get_full(&key).ok_or("absent")?;
-    assert!(rt; (index, stored.mark, *value) == (1, 'b', 2));
-    assert!(rt; map[&key] == 2);
+    assert_is(
+        &rt,
+        (map.get_index_of(&key), map.get(&key).copied()),
+        (Some(1), Some(2)),
+    );
+    assert_pair(&rt, map.get_key_value(&key), (1, 'b', 2));
+    assert_full(&rt, map.get_full(&key), 1, (1, 'b', 2));
+    assert_is(&rt, map[&key], 2);
     Ok(())
 }
 
@@ -69,42 +74,42 @@ fn lookups_return_the_first_of_equal_keys(rt: HostRuntime) -> Result<(), Fail> {
 fn the_first_of_equal_keys_lends_its_value(rt: HostRuntime) -> Result<(), Fail> {
     let mut map = start(rt.alloc())?;
     let key = make_item(1, 'z');
-    *map.get_mut(&key).ok_or("absent")? = 20;
-    assert!(rt; has_first(&map, 'b', 20));
-    let (index, stored, value) = map.get_full_mut(&key).ok_or("absent")?;
-    assert!(rt; (index, stored.mark, *value) == (1, 'b', 20));
+    *map.get_mut(&key).expect(&rt, "absent") = 20;
+    assert_first(&rt, &map, 'b', 20);
+    let (index, stored, value) = map.get_full_mut(&key).expect(&rt, "absent");
+    assert_is(&rt, (index, stored.mark, *value), (1, 'b', 20));
     *value = 30;
-    assert!(rt; has_first(&map, 'b', 30) && map.contains_key(&key));
+    assert_first(&rt, &map, 'b', 30);
+    assert!(rt; map.contains_key(&key));
     map[&key] = 40;
-    assert!(rt; has_first(&map, 'b', 40));
-    let (index, stored, value) = map.get_full_mut2(&key).ok_or("absent")?;
-    assert!(rt; (index, stored.mark, *value) == (1, 'b', 40));
+    assert_first(&rt, &map, 'b', 40);
+    let (index, stored, value) = map.get_full_mut2(&key).expect(&rt, "absent");
+    assert_is(&rt, (index, stored.mark, *value), (1, 'b', 40));
     *stored = make_item(1, 'y');
     *value = 50;
-    assert!(rt; has_first(&map, 'y', 50));
+    assert_first(&rt, &map, 'y', 50);
     Ok(())
 }
 
 #[test]
 fn insertions_change_the_value_of_the_first_of_equal_keys(rt: HostRuntime) -> Result<(), Fail> {
     let mut map = start(rt.alloc())?;
-    assert!(rt; map.insert(make_item(1, 'z'), 20)? == Some(2));
-    assert!(rt; has_first(&map, 'b', 20));
-    assert!(rt; map.insert_full(make_item(1, 'z'), 30)? == (1, Some(20)));
-    assert!(rt; has_first(&map, 'b', 30));
+    assert_gives(&rt, map.insert(make_item(1, 'z'), 20), Some(2));
+    assert_first(&rt, &map, 'b', 20);
+    assert_gives(&rt, map.insert_full(make_item(1, 'z'), 30), (1, Some(20)));
+    assert_first(&rt, &map, 'b', 30);
     map.extend([(make_item(1, 'z'), 40)])?;
-    assert!(rt; has_first(&map, 'b', 40));
+    assert_first(&rt, &map, 'b', 40);
     map.extend_pairs(&[(make_item(1, 'z'), 50)])?;
-    assert!(rt; has_first(&map, 'b', 50));
+    assert_first(&rt, &map, 'b', 50);
     Ok(())
 }
 
 #[test]
 fn insert_key_replaces_the_first_of_equal_keys(rt: HostRuntime) -> Result<(), Fail> {
     let mut map = start(rt.alloc())?;
-    let (key, value) = map.insert_key(make_item(1, 'z'), 20)?.ok_or("absent")?;
-    assert!(rt; (key.mark, value) == ('b', 2));
-    assert!(rt; has_first(&map, 'z', 20));
+    assert_pair(&rt, map.insert_key(make_item(1, 'z'), 20)?, (1, 'b', 2));
+    assert_first(&rt, &map, 'z', 20);
     Ok(())
 }
 
@@ -113,7 +118,8 @@ fn append_changes_the_value_of_the_first_of_equal_keys(rt: HostRuntime) -> Resul
     let mut map = start(rt.alloc())?;
     let mut other = VecMap::from_slice(rt.alloc(), &[(make_item(1, 'z'), 20)])?;
     map.append(&mut other)?;
-    assert!(rt; has_first(&map, 'b', 20) && other.is_empty());
+    assert_first(&rt, &map, 'b', 20);
+    check!(rt; other.is_empty());
     Ok(())
 }
 
@@ -122,7 +128,7 @@ fn extend_refs_changes_the_value_of_the_first_of_equal_keys(rt: HostRuntime) -> 
     let mut map = start(rt.alloc())?;
     let more = [(make_item(1, 'z'), 20)];
     map.extend_refs(more.iter().map(|pair| (&pair.0, &pair.1)))?;
-    assert!(rt; has_first(&map, 'b', 20));
+    assert_first(&rt, &map, 'b', 20);
     Ok(())
 }
 
@@ -131,11 +137,15 @@ fn insert_at_moves_the_first_of_equal_keys(rt: HostRuntime) -> Result<(), Fail> 
     for (index, place) in [(0, 0), (1, 1), (2, 2), (4, 4), (5, 5), (6, 5)] {
         let mut map = start(rt.alloc())?;
         assert!(rt; index <= map.len());
-        assert!(rt; map.insert_at(index, make_item(1, 'z'), 20)? == Some((1, 2)));
+        assert_gives(
+            &rt,
+            map.insert_at(index, make_item(1, 'z'), 20),
+            Some((1, 2)),
+        );
         let mut expected = SHIFTED.to_vec(rt.alloc())?;
         assert!(rt; place <= expected.len());
         expected.insert(place, (1, 'z', 20))?;
-        assert!(rt; has_pairs(map.as_slice(), &expected), "at {index}");
+        assert_pairs(&rt, &map, &expected);
     }
     Ok(())
 }
@@ -144,19 +154,17 @@ fn insert_at_moves_the_first_of_equal_keys(rt: HostRuntime) -> Result<(), Fail> 
 fn removals_remove_the_first_of_equal_keys(rt: HostRuntime) -> Result<(), Fail> {
     let key = make_item(1, 'z');
     let mut map = start(rt.alloc())?;
-    assert!(rt; map.remove(&key) == Some(2));
-    assert!(rt; has_pairs(map.as_slice(), SHIFTED));
+    assert_is(&rt, map.remove(&key), Some(2));
+    assert_pairs(&rt, &map, SHIFTED);
     let mut map = start(rt.alloc())?;
-    let (stored, value) = map.remove_entry(&key).ok_or("absent")?;
-    assert!(rt; (stored.mark, value) == ('b', 2));
-    assert!(rt; has_pairs(map.as_slice(), SHIFTED));
+    assert_pair(&rt, map.remove_entry(&key), (1, 'b', 2));
+    assert_pairs(&rt, &map, SHIFTED);
     let mut map = start(rt.alloc())?;
-    assert!(rt; map.swap_remove(&key) == Some(2));
-    assert!(rt; has_pairs(map.as_slice(), SWAPPED));
+    assert_is(&rt, map.swap_remove(&key), Some(2));
+    assert_pairs(&rt, &map, SWAPPED);
     let mut map = start(rt.alloc())?;
-    let (stored, value) = map.swap_remove_entry(&key).ok_or("absent")?;
-    assert!(rt; (stored.mark, value) == ('b', 2));
-    assert!(rt; has_pairs(map.as_slice(), SWAPPED));
+    assert_pair(&rt, map.swap_remove_entry(&key), (1, 'b', 2));
+    assert_pairs(&rt, &map, SWAPPED);
     Ok(())
 }
 
@@ -164,18 +172,24 @@ fn removals_remove_the_first_of_equal_keys(rt: HostRuntime) -> Result<(), Fail> 
 fn an_entry_is_that_of_the_first_of_equal_keys(rt: HostRuntime) -> Result<(), Fail> {
     let mut map = start(rt.alloc())?;
     let entry = map.entry(make_item(1, 'z'));
-    assert!(rt; entry.index() == 1);
-    assert!(rt; *entry.and_modify(|value| *value = 20).or_insert(0)? == 20);
-    assert!(rt; has_first(&map, 'b', 20));
+    assert_is(&rt, entry.index(), 1);
+    assert_is(
+        &rt,
+        *entry.and_modify(|value| *value = 20).or_insert(0)?,
+        20,
+    );
+    assert_first(&rt, &map, 'b', 20);
     map.entry(make_item(1, 'z')).insert_entry(30)?.into_key();
-    assert!(rt; has_first(&map, 'b', 30));
-    let Entry::Occupied(mut entry) = map.entry(make_item(1, 'z')) else {
-        return Err(Fail::new("vacant"));
-    };
-    assert!(rt; (entry.index(), *entry.get(), entry.insert(40)) == (1, 30, 30));
+    assert_first(&rt, &map, 'b', 30);
+    let mut entry = occupied(&rt, map.entry(make_item(1, 'z')));
+    assert_is(
+        &rt,
+        (entry.index(), *entry.get(), entry.insert(40)),
+        (1, 30, 30),
+    );
     *entry.get_mut() = 50;
     *entry.into_mut() = 60;
-    assert!(rt; has_first(&map, 'b', 60));
+    assert_first(&rt, &map, 'b', 60);
     Ok(())
 }
 
@@ -183,31 +197,33 @@ fn an_entry_is_that_of_the_first_of_equal_keys(rt: HostRuntime) -> Result<(), Fa
 fn an_entry_lends_the_value_of_the_first_of_equal_keys(rt: HostRuntime) -> Result<(), Fail> {
     let mut map = start(rt.alloc())?;
     let value = map.entry(make_item(1, 'z')).or_insert_with(|| 0)?;
-    assert!(rt; *value == 2);
+    assert_is(&rt, *value, 2);
     *value = 20;
-    assert!(rt; has_first(&map, 'b', 20));
+    assert_first(&rt, &map, 'b', 20);
     let value = map
         .entry(make_item(1, 'z'))
         .or_insert_with_key(|key| key.number)?;
-    assert!(rt; *value == 20);
+    assert_is(&rt, *value, 20);
     *value = 30;
-    assert!(rt; has_first(&map, 'b', 30));
+    assert_first(&rt, &map, 'b', 30);
     let value = map.entry(make_item(1, 'z')).or_default()?;
-    assert!(rt; *value == 30);
+    assert_is(&rt, *value, 30);
     *value = 40;
-    assert!(rt; has_first(&map, 'b', 40));
+    assert_first(&rt, &map, 'b', 40);
     Ok(())
 }
 
 #[test]
 fn an_entry_of_a_new_key_is_appended_after_the_repeats(rt: HostRuntime) -> Result<(), Fail> {
     let mut map = repeating_map(rt.alloc(), &[(1, 'a', 1), (1, 'b', 2)])?;
-    assert!(rt; *map.entry(make_item(2, 'c')).or_insert_with(|| 3)? == 3);
-    let value = map
-        .entry(make_item(3, 'd'))
-        .or_insert_with_key(|key| key.number.wrapping_mul(10))?;
-    assert!(rt; *value == 30);
-    assert!(rt; *map.entry(make_item(4, 'e')).or_default()? == 0);
+    assert_is(&rt, *map.entry(make_item(2, 'c')).or_insert_with(|| 3)?, 3);
+    assert_is(
+        &rt,
+        *map.entry(make_item(3, 'd'))
+            .or_insert_with_key(|key| key.number.wrapping_mul(10))?,
+        30,
+    );
+    assert_is(&rt, *map.entry(make_item(4, 'e')).or_default()?, 0);
     let all = [
         (1, 'a', 1),
         (1, 'b', 2),
@@ -215,40 +231,42 @@ fn an_entry_of_a_new_key_is_appended_after_the_repeats(rt: HostRuntime) -> Resul
         (3, 'd', 30),
         (4, 'e', 0),
     ];
-    assert!(rt; has_pairs(map.as_slice(), &all));
+    assert_pairs(&rt, &map, &all);
     Ok(())
 }
 
 #[test]
 fn removals_of_an_entry_remove_the_first_of_equal_keys(rt: HostRuntime) -> Result<(), Fail> {
     let mut map = start(rt.alloc())?;
-    let entry = occupied(map.entry(make_item(1, 'z'))).ok_or("vacant")?;
-    assert!(rt; entry.remove() == 2);
-    assert!(rt; has_pairs(map.as_slice(), SHIFTED));
+    let entry = occupied(&rt, map.entry(make_item(1, 'z')));
+    assert_is(&rt, entry.remove(), 2);
+    assert_pairs(&rt, &map, SHIFTED);
     let mut map = start(rt.alloc())?;
-    let entry = occupied(map.entry(make_item(1, 'z'))).ok_or("vacant")?;
-    assert!(rt; entry.swap_remove() == 2);
-    assert!(rt; has_pairs(map.as_slice(), SWAPPED));
+    let entry = occupied(&rt, map.entry(make_item(1, 'z')));
+    assert_is(&rt, entry.swap_remove(), 2);
+    assert_pairs(&rt, &map, SWAPPED);
     let mut map = start(rt.alloc())?;
-    let entry = occupied(map.entry(make_item(1, 'z'))).ok_or("vacant")?;
-    let (stored, value) = entry.remove_entry();
-    assert!(rt; (stored.mark, value) == ('b', 2));
-    assert!(rt; has_pairs(map.as_slice(), SHIFTED));
+    let entry = occupied(&rt, map.entry(make_item(1, 'z')));
+    assert_pair(&rt, Some(entry.remove_entry()), (1, 'b', 2));
+    assert_pairs(&rt, &map, SHIFTED);
     let mut map = start(rt.alloc())?;
-    let entry = occupied(map.entry(make_item(1, 'z'))).ok_or("vacant")?;
-    let (stored, value) = entry.swap_remove_entry();
-    assert!(rt; (stored.mark, value) == ('b', 2));
-    assert!(rt; has_pairs(map.as_slice(), SWAPPED));
+    let entry = occupied(&rt, map.entry(make_item(1, 'z')));
+    assert_pair(&rt, Some(entry.swap_remove_entry()), (1, 'b', 2));
+    assert_pairs(&rt, &map, SWAPPED);
     Ok(())
 }
 
 #[test]
 fn clones_and_vectors_of_a_map_have_its_repeats(rt: HostRuntime) -> Result<(), Fail> {
     let map = start(rt.alloc())?;
-    assert!(rt; has_first(&map.clone()?, 'b', 2));
-    assert!(rt; map == map.clone()?);
+    assert_first(&rt, &map.clone()?, 'b', 2);
+    check!(rt; map == map.clone()?);
     let pairs = map.to_vec()?;
-    assert!(rt; (pairs.len(), pairs.as_slice() == map.as_slice()) == (6, true));
+    assert_is(
+        &rt,
+        (pairs.len(), pairs.as_slice() == map.as_slice()),
+        (6, true),
+    );
     let mut map = start(rt.alloc())?;
     map.reverse();
     let expected = [
@@ -259,7 +277,7 @@ fn clones_and_vectors_of_a_map_have_its_repeats(rt: HostRuntime) -> Result<(), F
         (1, 'b', 2),
         (9, 'a', 1),
     ];
-    assert!(rt; has_pairs(&map.into_vec(), &expected));
+    check!(rt; has_pairs(&map.into_vec(), &expected));
     Ok(())
 }
 
@@ -270,21 +288,26 @@ fn texts_match_the_first_of_equal_keys(rt: HostRuntime) -> Result<(), Fail> {
         map.insert(String::from_str(rt.alloc(), text)?, value)?;
     }
     for place in [3, 4] {
-        let (key, _value) = map.get_index_mut2(place).ok_or("nothing there")?;
+        let (key, _value) = map.get_index_mut2(place).expect(&rt, "nothing there");
         *key = String::from_str(rt.alloc(), "b")?;
     }
-    assert!(rt; map.contains_key_str("b") && !map.contains_key_str("d"));
-    assert!(rt; (map.get_index_of_str("b"), map.get_str("b").copied()) == (Some(1), Some(2)));
+    check!(rt; map.contains_key_str("b"));
+    check!(rt; !map.contains_key_str("d"));
+    assert_is(
+        &rt,
+        (map.get_index_of_str("b"), map.get_str("b").copied()),
+        (Some(1), Some(2)),
+    );
     for (value, left) in [
         (Some(2), [("a", 1), ("c", 3), ("b", 4), ("b", 5)].as_slice()),
         (Some(4), [("a", 1), ("c", 3), ("b", 5)].as_slice()),
         (Some(5), [("a", 1), ("c", 3)].as_slice()),
         (None, [("a", 1), ("c", 3)].as_slice()),
     ] {
-        assert!(rt; map.remove_str("b") == value);
-        assert!(rt; map.len() == left.len());
+        assert_is(&rt, map.remove_str("b"), value);
+        assert_is(&rt, map.len(), left.len());
         for (pair, wanted) in map.as_slice().iter().zip(left) {
-            assert!(rt; (pair.0.as_str(), pair.1) == *wanted);
+            assert_is(&rt, (pair.0.as_str(), pair.1), *wanted);
         }
     }
     Ok(())

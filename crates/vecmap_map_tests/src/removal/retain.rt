@@ -1,9 +1,10 @@
 //! The pairs of a map that closures keep.
+use crate::checks::{assert_is, assert_list, assert_pairs, check};
 use std::mem;
 use std::test::Fail;
 use vecmap::VecMap;
 use vecmap::map::MutableKeys;
-use vecmap_fixtures::{Log, has_pairs, make_item, repeating_map, told_pairs};
+use vecmap_fixtures::{Log, make_item, repeating_map, told_pairs};
 
 const FOUR: &[(u32, char, u32)] = &[(1, 'a', 1), (2, 'b', 2), (1, 'c', 3), (4, 'd', 4)];
 
@@ -17,15 +18,16 @@ fn retain_keeps_the_values_that_the_closure_wrote(rt: HostRuntime) -> Result<(),
         *value = asked.wrapping_mul(100);
         key.number == 1
     });
-    assert!(rt; asked == 4);
-    assert!(rt; has_pairs(map.as_slice(), &[(1, 'a', 100), (1, 'c', 300)]));
-    assert!(rt; map.capacity() == room);
+    assert_is(&rt, asked, 4);
+    assert_pairs(&rt, &map, &[(1, 'a', 100), (1, 'c', 300)]);
+    assert_is(&rt, map.capacity(), room);
     map.retain(|_key, _value| true);
-    assert!(rt; has_pairs(map.as_slice(), &[(1, 'a', 100), (1, 'c', 300)]));
+    assert_pairs(&rt, &map, &[(1, 'a', 100), (1, 'c', 300)]);
     map.retain(|_key, _value| false);
-    assert!(rt; map.is_empty() && map.capacity() == room);
+    check!(rt; map.is_empty());
+    assert_is(&rt, map.capacity(), room);
     map.retain(|_key, _value| true);
-    assert!(rt; map.is_empty());
+    check!(rt; map.is_empty());
     Ok(())
 }
 
@@ -39,8 +41,8 @@ fn retain_calls_a_closure_with_state_in_order(rt: HostRuntime) -> Result<(), Fai
         turn = !turn;
         !turn
     });
-    assert!(rt; asked.as_slice() == ['a', 'b', 'c', 'd'].as_slice());
-    assert!(rt; has_pairs(map.as_slice(), &[(2, 'b', 2), (4, 'd', 4)]));
+    assert_list(&rt, asked.as_slice(), &['a', 'b', 'c', 'd']);
+    assert_pairs(&rt, &map, &[(2, 'b', 2), (4, 'd', 4)]);
     Ok(())
 }
 
@@ -54,14 +56,16 @@ fn closures_of_retain_count_their_calls(rt: HostRuntime) -> Result<(), Fail> {
         *value = count;
         count % 2 == 0
     });
-    assert!(rt; count == 4 && map.as_slice() == [('b', 2), ('d', 4)].as_slice());
+    assert_is(&rt, count, 4);
+    assert_list(&rt, map.as_slice(), &[('b', 2), ('d', 4)]);
     map.retain2(|key, value| {
         count = count.wrapping_add(1);
         *value = count;
         *key = 'e';
         count == 6
     });
-    assert!(rt; count == 6 && map.as_slice() == [('e', 6)].as_slice());
+    assert_is(&rt, count, 6);
+    assert_list(&rt, map.as_slice(), &[('e', 6)]);
     Ok(())
 }
 
@@ -76,8 +80,8 @@ fn retain2_writes_keys_too(rt: HostRuntime) -> Result<(), Fail> {
         mem::swap(key, value);
         *value % 2 == 0
     });
-    assert!(rt; map.as_slice() == [(0, 0), (20, 2), (40, 4), (60, 6)].as_slice());
-    assert!(rt; map.capacity() == room);
+    assert_list(&rt, map.as_slice(), &[(0, 0), (20, 2), (40, 4), (60, 6)]);
+    assert_is(&rt, map.capacity(), room);
     Ok(())
 }
 
@@ -88,9 +92,9 @@ fn retain2_may_make_keys_equal(rt: HostRuntime) -> Result<(), Fail> {
         *key = make_item(7, key.mark);
         *value != 2
     });
-    assert!(rt; has_pairs(map.as_slice(), &[(7, 'a', 1), (7, 'c', 3)]));
-    assert!(rt; !map.has_distinct_keys());
-    assert!(rt; map.get(&make_item(7, 'z')) == Some(&1));
+    assert_pairs(&rt, &map, &[(7, 'a', 1), (7, 'c', 3)]);
+    check!(rt; !map.has_distinct_keys());
+    assert_is(&rt, map.get(&make_item(7, 'z')), Some(&1));
     Ok(())
 }
 
@@ -99,10 +103,10 @@ fn each_key_that_retain_removes_is_dropped_once(rt: HostRuntime) -> Result<(), F
     let log = Log::new();
     let mut map = VecMap::from(told_pairs(rt.alloc(), &log, &[0, 1, 2, 3, 4])?);
     map.retain(|_key, value| *value % 2 == 0);
-    assert!(rt; (map.len(), log.drops()) == (3, 2));
+    assert_is(&rt, (map.len(), log.drops()), (3, 2));
     map.retain2(|_key, value| *value == 2);
-    assert!(rt; (map.len(), log.drops()) == (1, 4));
+    assert_is(&rt, (map.len(), log.drops()), (1, 4));
     drop(map);
-    assert!(rt; log.drops() == 5);
+    assert_is(&rt, log.drops(), 5);
     Ok(())
 }

@@ -1,6 +1,7 @@
 //! A map that is split in two.
+use crate::checks::{assert_is, assert_pairs, check};
 use std::test::Fail;
-use vecmap_fixtures::{has_pairs, item_map, repeating_map};
+use vecmap_fixtures::{item_map, repeating_map};
 
 #[test]
 fn split_off_returns_what_follows(rt: HostRuntime) -> Result<(), Fail> {
@@ -8,19 +9,21 @@ fn split_off_returns_what_follows(rt: HostRuntime) -> Result<(), Fail> {
     let room = map.capacity();
     assert!(rt; 1 <= map.len());
     let mut part = map.split_off(1)?;
-    assert!(rt; has_pairs(map.as_slice(), &[(1, 'a', 1)]));
-    assert!(rt; has_pairs(part.as_slice(), &[(2, 'b', 2), (3, 'c', 3)]));
-    assert!(rt; map.capacity() == room);
+    assert_pairs(&rt, &map, &[(1, 'a', 1)]);
+    assert_pairs(&rt, &part, &[(2, 'b', 2), (3, 'c', 3)]);
+    assert_is(&rt, map.capacity(), room);
     map.append(&mut part)?;
-    assert!(rt; has_pairs(map.as_slice(), &[(1, 'a', 1), (2, 'b', 2), (3, 'c', 3)]));
-    assert!(rt; part.is_empty());
+    assert_pairs(&rt, &map, &[(1, 'a', 1), (2, 'b', 2), (3, 'c', 3)]);
+    check!(rt; part.is_empty());
     let end = map.len();
     let none = map.split_off(end)?;
-    assert!(rt; none.is_empty() && none.capacity() == 0);
-    assert!(rt; has_pairs(map.as_slice(), &[(1, 'a', 1), (2, 'b', 2), (3, 'c', 3)]));
+    check!(rt; none.is_empty());
+    assert_is(&rt, none.capacity(), 0);
+    assert_pairs(&rt, &map, &[(1, 'a', 1), (2, 'b', 2), (3, 'c', 3)]);
     let all = map.split_off(0)?;
-    assert!(rt; map.is_empty() && map.capacity() == room);
-    assert!(rt; has_pairs(all.as_slice(), &[(1, 'a', 1), (2, 'b', 2), (3, 'c', 3)]));
+    check!(rt; map.is_empty());
+    assert_is(&rt, map.capacity(), room);
+    assert_pairs(&rt, &all, &[(1, 'a', 1), (2, 'b', 2), (3, 'c', 3)]);
     Ok(())
 }
 
@@ -29,9 +32,9 @@ fn split_off_leaves_repeats_as_they_are(rt: HostRuntime) -> Result<(), Fail> {
     let mut map = repeating_map(rt.alloc(), &[(1, 'a', 1), (1, 'b', 2), (1, 'c', 3)])?;
     assert!(rt; 2 <= map.len());
     let mut part = map.split_off(2)?;
-    assert!(rt; has_pairs(map.as_slice(), &[(1, 'a', 1), (1, 'b', 2)]));
-    assert!(rt; has_pairs(part.as_slice(), &[(1, 'c', 3)]));
+    assert_pairs(&rt, &map, &[(1, 'a', 1), (1, 'b', 2)]);
+    assert_pairs(&rt, &part, &[(1, 'c', 3)]);
     map.append(&mut part)?;
-    assert!(rt; has_pairs(map.as_slice(), &[(1, 'a', 3), (1, 'b', 2)]));
+    assert_pairs(&rt, &map, &[(1, 'a', 3), (1, 'b', 2)]);
     Ok(())
 }

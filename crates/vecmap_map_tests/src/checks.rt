@@ -1,0 +1,156 @@
+//! Assertions on one value, one list or one pair. Each is a function: a call is cheaper to prove in a test than an
+//! `assert!` with its comparison. A failed one prints what it compared.
+use std::alloc::AllocError;
+use std::fmt::Debug;
+use std::process::Abort;
+use vecmap::VecMap;
+use vecmap_fixtures::{Item, Log, Told, has_pairs, has_told_pairs};
+
+/// Asserts that a condition holds. Unlike `assert!`, it is a call, and later code may not rely on the condition.
+macro_rules! check {
+    ($rt:ident; $condition:expr) => {
+        $crate::checks::assert_holds(&$rt, $condition, stringify!($condition))
+    };
+}
+
+pub(crate) use check;
+
+/// Asserts that a condition holds, whose text is passed too.
+pub(crate) fn assert_holds(rt: &impl Abort, holds: bool, text: &str) {
+    assert!(*rt; holds, "assertion failed: {text}");
+}
+
+/// Asserts that a value is the expected one.
+pub(crate) fn assert_is<T: PartialEq + Debug + Drop>(rt: &impl Abort, value: T, expected: T) {
+    assert_eq!(*rt; value, expected);
+}
+
+/// Asserts that a call was not refused memory, and that it returned the expected value.
+pub(crate) fn assert_gives<T: PartialEq + Debug + Drop, E: Drop>(
+    rt: &impl Abort,
+    outcome: Result<T, E>,
+    expected: T,
+) {
+    match outcome {
+        Ok(value) => assert_eq!(*rt; value, expected),
+        Err(_) => panic!(*rt; "refused, and not {expected:?}"),
+    }
+}
+
+/// Asserts that a call was not refused memory, and returns its value.
+pub(crate) fn granted<T, E: Drop>(rt: &impl Abort, outcome: Result<T, E>) -> T {
+    match outcome {
+        Ok(value) => value,
+        Err(_) => panic!(*rt; "refused"),
+    }
+}
+
+/// Asserts that a call was not refused memory, and drops what it returned.
+pub(crate) fn assert_granted<T: Drop, E: Drop>(rt: &impl Abort, outcome: Result<T, E>) {
+    assert!(*rt; outcome.is_ok());
+}
+
+/// Asserts that a call was refused memory.
+pub(crate) fn assert_refused<T: Drop, E: Drop>(rt: &impl Abort, outcome: Result<T, E>) {
+    assert!(*rt; outcome.is_err());
+}
+
+/// Asserts that a list has exactly these items, in this order.
+pub(crate) fn assert_list<T: PartialEq + Debug>(rt: &impl Abort, list: &[T], expected: &[T]) {
+    assert_eq!(*rt; list, expected);
+}
+
+/// Asserts that a map has exactly these pairs, each a number, a mark and a value, in this order.
+pub(crate) fn assert_pairs(
+    rt: &impl Abort,
+    map: &VecMap<Item, u32>,
+    expected: &[(u32, char, u32)],
+) {
+    assert!(*rt;
+        has_pairs(map.as_slice(), expected),
+        "{map:?} is not {expected:?}"
+    );
+}
+
+/// Asserts that a map has exactly these numbers as keys and as values, in this order.
+pub(crate) fn assert_told(
+    rt: &impl Abort,
+    map: &VecMap<Told<'_>, Told<'_>>,
+    expected: &[(u32, u32)],
+) {
+    assert!(*rt;
+        has_told_pairs(map.as_slice(), expected),
+        "{map:?} is not {expected:?}"
+    );
+}
+
+/// Asserts that a text was made, and that it is the expected one.
+pub(crate) fn assert_text(rt: &impl Abort, text: Result<String, AllocError>, expected: &str) {
+    match text {
+        Ok(text) => assert_eq!(*rt; text.as_str(), expected),
+        Err(_) => panic!(*rt; "refused, and not {expected:?}"),
+    }
+}
+
+/// A pair that a call returns: it is owned, or a part of it is borrowed.
+pub(crate) trait Pair {
+    /// Returns the number and the mark of the key, and the value.
+    fn parts(&self) -> (u32, char, u32);
+}
+
+impl Pair for (Item, u32) {
+    fn parts(&self) -> (u32, char, u32) {
+        (self.0.number, self.0.mark, self.1)
+    }
+}
+
+impl Pair for (&Item, &u32) {
+    fn parts(&self) -> (u32, char, u32) {
+        (self.0.number, self.0.mark, *self.1)
+    }
+}
+
+/// Asserts that a call returned a pair of this number, this mark and this value.
+pub(crate) fn assert_pair<P: Pair + Drop>(
+    rt: &impl Abort,
+    pair: Option<P>,
+    expected: (u32, char, u32),
+) {
+    match pair {
+        Some(pair) => assert_eq!(*rt; pair.parts(), expected),
+        None => panic!(*rt; "no pair, and not {expected:?}"),
+    }
+}
+
+/// Asserts that a call lent a pair of this number, this mark and this value, with its index.
+pub(crate) fn assert_full(
+    rt: &impl Abort,
+    full: Option<(usize, &Item, &u32)>,
+    index: usize,
+    expected: (u32, char, u32),
+) {
+    match full {
+        Some((at, key, value)) => {
+            assert_eq!(*rt; (at, (key.number, key.mark, *value)), (index, expected));
+        }
+        None => panic!(*rt; "no pair, and not {expected:?}"),
+    }
+}
+
+/// Asserts that a key has this number and this mark.
+pub(crate) fn assert_key(rt: &impl Abort, key: &Item, expected: (u32, char)) {
+    assert_eq!(*rt; (key.number, key.mark), expected);
+}
+
+/// Asserts how many values are alive while the result of a call is held, and how many after it is dropped.
+pub(crate) fn assert_alive<T: Drop>(
+    rt: &impl Abort,
+    log: &Log,
+    outcome: T,
+    held: u32,
+    dropped: u32,
+) {
+    assert_eq!(*rt; log.alive(), held);
+    drop(outcome);
+    assert_eq!(*rt; log.alive(), dropped);
+}
