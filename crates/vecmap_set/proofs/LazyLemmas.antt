@@ -9,11 +9,7 @@ use Rattle.std.proofs.iter.runs.Sources.{from_front, from_back}
 use Rattle.std.specs.Iterator.{UpTo, at_most}
 use Rattle.std.specs.List.{after_first, before_last, filter, position_or_len, prefix_len, suffix_len}
 use Rattle.std.specs.Option.{IfSome, SomeIff}
-use Rattle.vecmap_set.specs.Lazy.{
-    JoinsFirst, JoinsInOrder, JoinsInReverse, JoinsLast, PairsFirst, PairsInOrder, PairsInReverse,
-    PairsLast, Parts, Sift, SiftsFirst, SiftsInOrder, SiftsInReverse, SiftsLast, joined,
-    lacks_item, paired, sifted
-}
+use Rattle.vecmap_set.specs.Lazy.{JoinsFirst, JoinsInOrder, JoinsInReverse, JoinsLast, PairsFirst, PairsInOrder, PairsInReverse, PairsLast, Parts, Sift, SiftsFirst, SiftsInOrder, SiftsInReverse, SiftsLast, joined, lacks_item, paired, sifted}
 
 module _ {T : Type 0} (p : T → Bool) where
   -- An element at the front that is kept.

@@ -4,11 +4,7 @@ use Rattle.std.specs.List.{SwappedAt}
 use Rattle.std.specs.Map.{keys_of, values_of}
 use Rattle.std.proofs.Common.{set, get_or, sym, ap, ◌∙◌, arith}
 use Rattle.std.proofs.Math.Seq.{take-set-lt}
-use Rattle.std.proofs.lemmas.List.{
-    drop-map, get_or-map, map-append, map-set, take-map, length-append, take_more, take-set-le,
-    drop-set-lt, drop_more, length-set, set-append_left, set-append_right, get_or_append_left,
-    get_or-append_right
-}
+use Rattle.std.proofs.lemmas.List.{drop-map, get_or-map, map-append, map-set, take-map, length-append, take_more, take-set-le, drop-set-lt, drop_more, length-set, set-append_left, set-append_right, get_or_append_left, get_or-append_right}
 use Rattle.std.proofs.lemmas.List.Edits.{swap_is}
 use Rattle.std.proofs.lemmas.Map.Entries.{length-values_of}
 use Rattle.vecmap_base.specs.Pairs.{index_of, put, with_value}

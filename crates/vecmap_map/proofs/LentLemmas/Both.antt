@@ -9,11 +9,7 @@ use base.Logic.{SProp, ent, sep, ex, emp, all_e, wand, apply∗, id⊢}
 use base.Fml.{Lft, Share, GName, ftrue, fsep, flft, fobs, fbor, fres}
 use prog.Memory.{size, align, up}
 use types.Logic.{Logic, sem}
-use types.Kit.{
-    ‵, raw, ◌⊛◌, some, later, ◌$◌, ◌∵◌, !, qed, move, drop, use1, use2, split, split3, join, group,
-    pick, fsplit3, fjoin, fjoin3, fpack, feq_i, show, await, updating, now, done, Item, Seq, Goal,
-    fpick, feq_l, each, assume, by, rewrite, fsplit
-}
+use types.Kit.{‵, raw, ◌⊛◌, some, later, ◌$◌, ◌∵◌, !, qed, move, drop, use1, use2, split, split3, join, group, pick, fsplit3, fjoin, fjoin3, fpack, feq_i, show, await, updating, now, done, Item, Seq, Goal, fpick, feq_l, each, assume, by, rewrite, fsplit}
 use types.SemTy.{Body}
 use types.Mut.{open_ref}
 use types.Follow.{after₂, takes_two, followed₂}

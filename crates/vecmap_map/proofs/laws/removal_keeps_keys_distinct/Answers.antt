@@ -1,7 +1,4 @@
-use Rattle.vecmap_base.proofs.DistinctLemmas.Keys.{
-    distinct_keys_remove, distinct_keys_swap_without, distinct_keys_swap_without_by,
-    distinct_keys_swap_without_key, distinct_keys_take, distinct_keys_without
-}
+use Rattle.vecmap_base.proofs.DistinctLemmas.Keys.{distinct_keys_remove, distinct_keys_swap_without, distinct_keys_swap_without_by, distinct_keys_swap_without_key, distinct_keys_take, distinct_keys_without}
 use Rattle.vecmap_map.proofs.laws.removal_keeps_keys_distinct.Goals as goal
 
 pub returns-clause-by_test : goal.returns-clause-by_test

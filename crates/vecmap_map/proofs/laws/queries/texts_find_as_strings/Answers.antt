@@ -1,10 +1,7 @@
 -- The idea: each clause is a lemma of `vecmap_base` on queries, for the test of the text.
 use Rattle.std.specs.Prelude.{string_eq}
 use Rattle.vecmap_base.specs.Pairs.{has_text}
-use Rattle.vecmap_base.proofs.PairsLemmas.Queries.{
-    index_by_query, lookup_by_query, lookup_put_other_query, lookup_put_query,
-    lookup_without_query, same_text, string_equality, text_respects, without_by_query
-}
+use Rattle.vecmap_base.proofs.PairsLemmas.Queries.{index_by_query, lookup_by_query, lookup_put_other_query, lookup_put_query, lookup_without_query, same_text, string_equality, text_respects, without_by_query}
 use Rattle.vecmap_map.proofs.laws.queries.texts_find_as_strings.Goals as goal
 
 pub returns-clause-value : goal.returns-clause-value
