@@ -3,7 +3,7 @@
 //! In contracts an iterator is the list of what it has left, as it was when the iterator was created. No clause speaks
 //! of what is written. `next` removes the first item of this list and returns it, and `next_back` the last. Once the
 //! list is empty, both return `None`. Each call takes constant time and does not allocate.
-ghost use Rattle.std.specs.Prelude.{◌≡◌, ◌<◌, IfSome, length};
+ghost use Rattle.std.specs.Prelude.{◌≡◌, IfSome, length};
 ghost use Rattle.std.specs.Iterator.{UpTo, at_most};
 ghost use Rattle.std.specs.Iterator.SizeHint.{IsWithinCount};
 ghost use Rattle.std.specs.Map.{keys_of, values_of};

@@ -3,7 +3,7 @@
 //! In contracts an iterator is the list of the values that it has left. `next` removes the first of them and returns
 //! it, and `next_back` the last, in constant time. Once the list is empty, both return `None`. Only the `clone` of
 //! `IntoValues` allocates, and its time is linear in the length of the list.
-ghost use Rattle.std.specs.Prelude.{◌≡◌, ◌<◌, IfOk, IfSome, length};
+ghost use Rattle.std.specs.Prelude.{◌≡◌, IfOk, IfSome, length};
 ghost use Rattle.std.specs.Iterator.{UpTo, at_most};
 ghost use Rattle.std.specs.Iterator.SizeHint.{IsWithinCount};
 ghost use Rattle.std.specs.Map.{values_of};
