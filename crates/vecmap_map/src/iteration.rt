@@ -2,7 +2,6 @@
 //!
 //! A contract sees an iterator as the list of its remaining items. Each iterator knows its exact length and gives items
 //! from both ends. After its last item it returns only `None`. Creating one takes constant time and does not allocate.
-ghost use Rattle.std.specs.Prelude.{◌<◌, length};
 ghost use Rattle.std.specs.Map.{keys_of, values_of};
 ghost use Rattle.std.specs.Map.Iter.{ShowsValuesInOrder, ShowsValuesInReverse, deref, deref_pair, deref_pair_mut};
 ghost use Rattle.vecmap_base.specs.Walks.{GivesAll, ShowsAll, deref_mut};

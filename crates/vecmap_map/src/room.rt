@@ -1,5 +1,5 @@
 //! The number of pairs, and the capacity.
-ghost use Rattle.std.specs.Prelude.{◌≡◌, ◌<◌, ◌==◌, ◌^◌, ◌↔◌, ◌≤◌, IsOk, IsTrue, OnErr, OnOk, [], length, min};
+ghost use Rattle.std.specs.Prelude.{◌≡◌, ◌<◌, ◌==◌, ◌^◌, ◌↔◌, ◌≤◌, IsTrue, [], length, min};
 ghost use Rattle.vecmap_map.specs.Contents.{HasRoom, Reserves};
 
 use crate::VecMap;
