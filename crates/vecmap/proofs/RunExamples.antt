@@ -20,8 +20,8 @@ module _ (keys values : clone.Ghosts ℕ) where
       let grown : Contents ℕ ℕ = record { entries = (1, 10) ∷ left; capacity = 4 } in
       let all : Contents ℕ ℕ = with_entries grown ((1, 30) ∷ left) in
       let last : Contents ℕ ℕ = with_entries grown left in
-      let grows : KeepsRoom nat_eq pair 2 grown = record { capacity = omega arith; there = λ there. absurd (cc there); spare = λ room. absurd (omega (arith, room)) } in
-      let stays : KeepsRoom nat_eq grown 1 all = record { capacity = omega arith; there = λ there. refl; spare = λ room. refl } in
+      let grows : KeepsRoom nat_eq pair 2 grown = record { capacity = omega arith; present = λ there. absurd (cc there); spare = λ room. absurd (omega (arith, room)) } in
+      let stays : KeepsRoom nat_eq grown 1 all = record { capacity = omega arith; present = λ there. refl; spare = λ room. refl } in
       (grown, ((refl, refl), (grows, omega arith)), (all, ((refl, refl), (stays, omega arith)), (all, ((refl, refl), (refl, omega arith)), (last, ((refl, refl), (refl, omega arith)), (last, ((refl, refl), (refl, omega arith)), refl)))))
 
   a_refused_new_key_changes_nothing : Step nat_eq nat_eq keys values pair (Insert 2 20) NoMemory pair

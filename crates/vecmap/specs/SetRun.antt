@@ -9,7 +9,7 @@ use Rattle.vecmap.specs.declared.set_run.reply.SetReply.TheVariants.{Done, Item,
 use Rattle.vecmap_base.specs.Clones.{AreClones, IsCloneOf}
 use Rattle.vecmap_base.specs.Equality.{has_same_items, is_within}
 use Rattle.vecmap_base.specs.Items.{add, add_new, adds, both, has_item, item_index, only, stored_item, swap_without, swap_without_item, without_item}
-use Rattle.vecmap_set.specs.Contents.{Contents, HasRoom, KeepsRoom}
+use Rattle.vecmap_set.specs.Contents.{Contents, HasRoom, IsFull, KeepsRoom}
 use Rattle.vecmap_set.specs.Operators.{symmetric_difference_of, union_of}
 
 module _ {T : Type 0} where
@@ -105,7 +105,7 @@ module _ {T : Type 0} (eq : T → T → Bool) (clones : clone.Ghosts T) where
 
   -- The capacity after an element is added: only a new element in a full set needs memory.
   abbrev pub AddsInRoom : T → Contents T → SetReply T → Contents T → Type 0
-  AddsInRoom x s NoMemory t = (length s.elements ≡ s.capacity) × (t.capacity ≡ s.capacity)
+  AddsInRoom x s NoMemory t = IsFull s × (t.capacity ≡ s.capacity)
   AddsInRoom x s reply t = KeepsRoom eq s x t
 
   -- What becomes of the capacity: all commands but those that add keep it, and so does a refused command.
@@ -125,8 +125,8 @@ module _ {T : Type 0} (eq : T → T → Bool) (clones : clone.Ghosts T) where
   RoomStep s command reply t = CapacityStep s command reply t × (length t.elements ≤ t.capacity)
 
   -- One command with this reply takes the set s to the set t, whose elements fit its capacity.
-  abbrev pub StepSet : Contents T → SetCommand T → SetReply T → Contents T → Type 0
-  StepSet s command reply t = ListStep s.elements command reply t.elements × RoomStep s command reply t
+  abbrev pub Step : Contents T → SetCommand T → SetReply T → Contents T → Type 0
+  Step s command reply t = ListStep s.elements command reply t.elements × RoomStep s command reply t
 
   -- The commands, in order, take the list l to the list m, and each has one reply.
   abbrev pub ListRun : List T → List (SetCommand T) → List (SetReply T) → List T → Type 0
@@ -137,9 +137,9 @@ module _ {T : Type 0} (eq : T → T → Bool) (clones : clone.Ghosts T) where
   ListRun l (command ∷ commands) [] m = ⊥
 
   -- The same for a set, with its list and its capacity.
-  abbrev pub RunSet : Contents T → List (SetCommand T) → List (SetReply T) → Contents T → Type 0
-  RunSet s [] [] t = t ≡ s
-  RunSet s (command ∷ commands) (reply ∷ replies) t =
-      (next : Contents T) × StepSet s command reply next × RunSet next commands replies t
-  RunSet s [] (reply ∷ replies) t = ⊥
-  RunSet s (command ∷ commands) [] t = ⊥
+  abbrev pub Run : Contents T → List (SetCommand T) → List (SetReply T) → Contents T → Type 0
+  Run s [] [] t = t ≡ s
+  Run s (command ∷ commands) (reply ∷ replies) t =
+      (next : Contents T) × Step s command reply next × Run next commands replies t
+  Run s [] (reply ∷ replies) t = ⊥
+  Run s (command ∷ commands) [] t = ⊥

@@ -3,7 +3,7 @@
 ghost use Rattle.std.specs.Option.{UnwrapsOrElse};
 ghost use Rattle.std.specs.Prelude.{◌≡◌, Bool, List, Option, false, map};
 ghost use Rattle.vecmap.specs.NestedSets.{IsMadeEmptySet, inner_elements};
-ghost use Rattle.vecmap.specs.MapRun.{ListRun, Run};
+ghost use Rattle.vecmap.specs.MapRun as maps;
 ghost use Rattle.vecmap.specs.SetRun as sets;
 ghost use Rattle.vecmap.specs.declared.map_run.command.MapCommand.{MapCommand};
 ghost use Rattle.vecmap.specs.declared.map_run.command.MapCommand.TheVariants.{Insert};
@@ -23,22 +23,23 @@ ghost use Rattle.vecmap_set.specs.Contents as set_contents;
 /// What a run does to a map, it does to the list of its pairs, whatever the capacity.
 pub fn runs_of_maps_are_of_lists<K: Eq + Clone, V: Eq + Clone>()
     ensures { (m : Contents K V) (commands : List (MapCommand K V)) (replies : List (MapReply K V))
-        (n : Contents K V) → Run K.eq V.eq K.Clone V.Clone m commands replies n
-        → ListRun K.eq V.eq K.Clone V.Clone m.entries commands replies n.entries }
+        (n : Contents K V) → maps.Run K.eq V.eq K.Clone V.Clone m commands replies n
+        → maps.ListRun K.eq V.eq K.Clone V.Clone m.entries commands replies n.entries }
 {}
 
 /// What a run does to a set, it does to the list of its elements, whatever the capacity.
 pub fn runs_of_sets_are_of_lists<T: Eq + Clone>()
     ensures { (s : set_contents.Contents T) (commands : List (SetCommand T))
         (replies : List (SetReply T)) (t : set_contents.Contents T)
-        → sets.RunSet T.eq T.Clone s commands replies t
+        → sets.Run T.eq T.Clone s commands replies t
         → sets.ListRun T.eq T.Clone s.elements commands replies t.elements }
 {}
 
 /// A run of insertions that all succeed leaves what one bulk insertion of the pairs does.
 pub fn runs_of_insertions_are_bulk_insertions<K: Eq + Clone, V: Eq + Clone>()
     ensures { (l pairs : List (K × V)) (olds : List (Option V)) (m : List (K × V))
-        → ListRun K.eq V.eq K.Clone V.Clone l (map (λ p. Insert p.0 p.1) pairs) (map Value olds) m
+        → maps.ListRun K.eq V.eq K.Clone V.Clone l (map (λ p. Insert p.0 p.1) pairs)
+        (map Value olds) m
         → m ≡ puts K.eq l pairs }
 {}
 

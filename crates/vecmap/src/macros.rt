@@ -81,7 +81,7 @@ pub fn put_pair<K: Eq + Drop, V: Drop>(
     value: V,
 ) -> Result<(), AllocError>
     ensures entries { OnOk result (map.new.entries ≡ put K.eq map.old.entries key value) }
-    ensures room { KeepsRoom K.eq map.old key map.new }
+    ensures capacity { KeepsRoom K.eq map.old key map.new }
     ensures err { OnErr result (Refuses K.eq map.old key map.new) }
 {
     map.insert(key, value)?;
@@ -106,7 +106,7 @@ pub fn add_item<T: Eq + Drop>(set: &mut VecSet<T>, item: T) -> Result<(), AllocE
     ensures elements { OnOk result (set.new.elements ≡ add T.eq set.old.elements item) }
     ensures distinct { IsDistinct T.eq set.new.elements }
     ensures unchanged { IsTrue (has_item T.eq set.old.elements item) → set.new ≡ set.old }
-    ensures room { SetKeepsRoom T.eq set.old item set.new }
+    ensures capacity { SetKeepsRoom T.eq set.old item set.new }
     ensures err { OnErr result (SetRefuses T.eq set.old item set.new) }
 {
     set.insert(item)?;

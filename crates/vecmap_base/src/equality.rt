@@ -43,8 +43,8 @@ pub fn pairs_equal<K: Eq, V: Eq>(a: &[(K, V)], b: &[(K, V)]) -> bool
 // cost less to make than marks for many.
 fn rests_equal<K: Eq, V: Eq>(a: &[(K, V)], b: &[(K, V)]) -> bool
     requires as_long { length a.now ≡ length b.now }
-    requires some { 0 < length a.now }
-    requires apart { FirstDiffer K.eq V.eq a.now b.now }
+    requires not_empty { 0 < length a.now }
+    requires first_differ { FirstDiffer K.eq V.eq a.now b.now }
     ensures { result ≡ counts_agree K.eq V.eq a.now a.now b.now }
 {
     if b.len() <= MARKS_SMALL {
@@ -62,7 +62,7 @@ fn equal_front<K: Eq, V: Eq>(a: &[(K, V)], b: &[(K, V)]) -> usize
     ensures within { result ≤ length a.now }
     ensures equal { AllZip (λ p q. same_pair K.eq V.eq p q ≡ true) (take result a.now)
         (take result b.now) }
-    ensures apart { result < length a.now
+    ensures differ { result < length a.now
         → FirstDiffer K.eq V.eq (drop result a.now) (drop result b.now) }
 {
     for i in 0..a.len() {

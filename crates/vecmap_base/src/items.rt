@@ -3,11 +3,12 @@
 //! In contracts an iterator is the list of the elements that it has left. `next` removes the first of them and returns
 //! it, and `next_back` the last, in constant time. Once the list is empty, both return `None`. Only the `clone` of
 //! `IntoIter` allocates, and its time is linear in the length of the list.
-ghost use Rattle.std.specs.Prelude.{◌≡◌, ◌<◌, ◌^◌, IfOk, IfSome, length};
+ghost use Rattle.std.specs.Prelude.{◌≡◌, IfOk, IfSome, length};
 ghost use Rattle.std.specs.Iterator.{UpTo, at_most};
 ghost use Rattle.std.specs.Iterator.SizeHint.{IsWithinCount};
-ghost use Rattle.std.specs.Map.Iter.{GivesInOrder, GivesInReverse, ShowsInOrder, ShowsInReverse, TakesFirst, TakesLast, deref};
+ghost use Rattle.std.specs.Map.Iter.{TakesFirst, TakesLast, deref};
 ghost use Rattle.vecmap_base.specs.Clones.{AreClones};
+ghost use Rattle.vecmap_base.specs.Walks.{GivesAll, ShowsAll};
 
 use std::alloc::AllocError;
 use std::collections::VecDeque;
@@ -50,10 +51,7 @@ impl<'a, T> Iter<'a, T> {
     /// items.next_back() // Some(&2)
     /// ```
     pub fn over(items: &'a [T]) -> Iter<'a, T>
-        ensures rest { result ≡ items.now }
-        ensures fits { length result < 2 ^ 64 }
-        ensures runs { ShowsInOrder (deref {X = T}) }
-        ensures runs_back { ShowsInReverse (deref {X = T}) }
+        ensures { ShowsAll deref items.now result }
     {
         Iter {
             items: items.iter(),
@@ -168,10 +166,7 @@ impl<T> IntoIter<T> {
     /// items.next() // Some(1)
     /// ```
     pub fn over(items: Vec<T>) -> IntoIter<T>
-        ensures rest { result ≡ items.items }
-        ensures fits { length result < 2 ^ 64 }
-        ensures runs { GivesInOrder T }
-        ensures runs_back { GivesInReverse T }
+        ensures { GivesAll items.items result }
     {
         IntoIter {
             items: VecDeque::from_vec(items),

@@ -3,12 +3,12 @@
 //! In contracts an iterator is the list of what it has left, as it was when the iterator was created. No clause speaks
 //! of what is written. `next` removes the first item of this list and returns it, and `next_back` the last. Once the
 //! list is empty, both return `None`. Each call takes constant time and does not allocate.
-ghost use Rattle.std.specs.Prelude.{◌≡◌, ◌<◌, ◌^◌, IfSome, length};
+ghost use Rattle.std.specs.Prelude.{◌≡◌, IfSome, length};
 ghost use Rattle.std.specs.Iterator.{UpTo, at_most};
 ghost use Rattle.std.specs.Iterator.SizeHint.{IsWithinCount};
 ghost use Rattle.std.specs.Map.{keys_of, values_of};
-ghost use Rattle.std.specs.Map.Iter.{ShowsInOrder, ShowsInReverse, TakesFirst, TakesLast, deref_pair_mut};
-ghost use Rattle.vecmap_base.specs.Walks.{deref_both_mut, deref_mut};
+ghost use Rattle.std.specs.Map.Iter.{TakesFirst, TakesLast, deref_pair_mut};
+ghost use Rattle.vecmap_base.specs.Walks.{ShowsAll, deref_both_mut, deref_mut};
 
 use std::marker::Model;
 use std::{fmt, slice};
@@ -54,10 +54,7 @@ impl<'a, K, V> IterMut<'a, K, V> {
     /// pairs[0] // ('a', 3)
     /// ```
     pub fn over(pairs: &'a mut [(K, V)]) -> IterMut<'a, K, V>
-        ensures rest { result ≡ pairs.old }
-        ensures fits { length result < 2 ^ 64 }
-        ensures runs { ShowsInOrder (deref_pair_mut {K = K} {X = V}) }
-        ensures runs_back { ShowsInReverse (deref_pair_mut {K = K} {X = V}) }
+        ensures { ShowsAll deref_pair_mut pairs.old result }
     {
         IterMut {
             pairs: pairs.iter_mut(),
@@ -152,10 +149,7 @@ impl<'a, K, V> IterMut2<'a, K, V> {
     /// pairs[0] // ('c', 1)
     /// ```
     pub fn over(pairs: &'a mut [(K, V)]) -> IterMut2<'a, K, V>
-        ensures rest { result ≡ pairs.old }
-        ensures fits { length result < 2 ^ 64 }
-        ensures runs { ShowsInOrder (deref_both_mut {K = K} {V = V}) }
-        ensures runs_back { ShowsInReverse (deref_both_mut {K = K} {V = V}) }
+        ensures { ShowsAll deref_both_mut pairs.old result }
     {
         IterMut2 {
             pairs: pairs.iter_mut(),
@@ -251,10 +245,7 @@ impl<'a, K, V> KeysMut<'a, K, V> {
     /// pairs[0] // ('c', 1)
     /// ```
     pub fn over(pairs: &'a mut [(K, V)]) -> KeysMut<'a, K, V>
-        ensures rest { result ≡ keys_of pairs.old }
-        ensures fits { length result < 2 ^ 64 }
-        ensures runs { ShowsInOrder (deref_mut {X = K}) }
-        ensures runs_back { ShowsInReverse (deref_mut {X = K}) }
+        ensures { ShowsAll deref_mut (keys_of pairs.old) result }
     {
         KeysMut {
             pairs: pairs.iter_mut(),
@@ -352,10 +343,7 @@ impl<'a, K, V> ValuesMut<'a, K, V> {
     /// pairs[0] // ('a', 3)
     /// ```
     pub fn over(pairs: &'a mut [(K, V)]) -> ValuesMut<'a, K, V>
-        ensures rest { result ≡ values_of pairs.old }
-        ensures fits { length result < 2 ^ 64 }
-        ensures runs { ShowsInOrder (deref_mut {X = V}) }
-        ensures runs_back { ShowsInReverse (deref_mut {X = V}) }
+        ensures { ShowsAll deref_mut (values_of pairs.old) result }
     {
         ValuesMut {
             pairs: pairs.iter_mut(),

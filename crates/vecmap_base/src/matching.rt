@@ -11,8 +11,8 @@ pub(crate) fn pairs_match<K: Eq, V: Eq>(a: &[(K, V)], b: &[(K, V)], taken: &mut 
     requires as_long { length a.now ≡ length b.now }
     requires enough { length b.now ≤ length taken.old }
     requires unmarked { taken.old ≡ replicate (length taken.old) false }
-    requires some { 0 < length a.now }
-    requires apart { FirstDiffer K.eq V.eq a.now b.now }
+    requires not_empty { 0 < length a.now }
+    requires first_differ { FirstDiffer K.eq V.eq a.now b.now }
     ensures { result ≡ counts_agree K.eq V.eq a.now a.now b.now }
 {
     let Some(first) = find_free(&b[1..], &taken[1..], &a[0]) else {
@@ -33,7 +33,7 @@ fn find_free<K: Eq, V: Eq>(pairs: &[(K, V)], taken: &[bool], pair: &(K, V)) -> O
     requires enough { length pairs.now ≤ length taken.now }
     ensures within { IfSome result (λ i. i < length pairs.now) }
     ensures unmarked { IfSome result (λ i. slice_index_or taken.now i true ≡ false) }
-    ensures same { IfSome result (λ i. same_pair K.eq V.eq pair.now
+    ensures equal { IfSome result (λ i. same_pair K.eq V.eq pair.now
         (slice_index_or pairs.now i pair.now) ≡ true) }
     ensures none { result ≡ None
         → list_any (same_pair K.eq V.eq pair.now) (free pairs.now taken.now) ≡ false }

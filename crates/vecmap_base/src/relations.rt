@@ -39,7 +39,7 @@ pub fn are_within<T: Eq>(items: &[T], others: &[T]) -> bool
 /// are_apart(&[2, 1], &[3, 4]) // true
 /// ```
 pub fn are_apart<T: Eq>(items: &[T], others: &[T]) -> bool
-    ensures apart { IsTrue result ↔ (both T.eq items.now others.now ≡ []) }
+    ensures disjoint { IsTrue result ↔ (both T.eq items.now others.now ≡ []) }
     ensures from_other_side { IsTrue result ↔ (both T.eq others.now items.now ≡ []) }
 {
     !overlap(items, others)

@@ -14,8 +14,8 @@ use std::mem;
 
 // Returns whether an element of `front` is equal to `item`. Stops at the first equal element.
 fn is_repeat<T: Eq>(front: &[T], item: &T, steps: &mut Steps) -> bool
-    requires countable { steps.old + length front.now ≤ u128.MAX }
-    ensures answer { result ≡ has_item T.eq front.now item.now }
+    requires bounded { steps.old + length front.now ≤ u128.MAX }
+    ensures repeat { result ≡ has_item T.eq front.now item.now }
     ensures counted { steps.new ≡ steps.old + search_cost T.eq front.now item.now }
 {
     for stored in front {
@@ -28,7 +28,7 @@ fn is_repeat<T: Eq>(front: &[T], item: &T, steps: &mut Steps) -> bool
 
 // Returns the index of the first pair of `front` whose key is equal to `key`. Stops at this pair.
 fn find_repeat<K: Eq, V>(front: &[(K, V)], key: &K, steps: &mut Steps) -> Option<usize>
-    requires countable { steps.old + length front.now ≤ u128.MAX }
+    requires bounded { steps.old + length front.now ≤ u128.MAX }
     ensures place { result ≡ index_of K.eq front.now key.now }
     ensures within { IfSome result (λ i. i < length front.now) }
     ensures counted { steps.new ≡ steps.old + search_cost K.eq (keys_of front.now) key.now }
@@ -43,7 +43,7 @@ fn find_repeat<K: Eq, V>(front: &[(K, V)], key: &K, steps: &mut Steps) -> Option
 
 // Swaps the values of two pairs.
 fn swap_values<K, V>(pairs: &mut [(K, V)], i: usize, j: usize)
-    requires order { i < j }
+    requires before { i < j }
     requires within { j < length pairs.old }
     ensures keys { keys_of pairs.new ≡ keys_of pairs.old }
     ensures values { values_of pairs.new ≡ swap (values_of pairs.old) i j }
@@ -74,7 +74,7 @@ fn swap_values<K, V>(pairs: &mut [(K, V)], i: usize, j: usize)
 /// pairs.as_slice() // [('a', 3), ('b', 2), ('a', 1)]
 /// ```
 pub fn gather_pairs<K: Eq, V>(pairs: &mut [(K, V)], steps: &mut Steps) -> usize
-    requires countable { steps.old + cost (length pairs.old) ≤ u128.MAX }
+    requires bounded { steps.old + cost (length pairs.old) ≤ u128.MAX }
     ensures count { result ≡ length (puts K.eq [] pairs.old) }
     ensures front { take result pairs.new ≡ puts K.eq [] pairs.old }
     ensures keys { IsPermutation (keys_of pairs.old) (keys_of pairs.new) }
@@ -116,7 +116,7 @@ pub fn gather_pairs<K: Eq, V>(pairs: &mut [(K, V)], steps: &mut Steps) -> usize
 /// items.as_slice() // [1, 2, 1]
 /// ```
 pub fn gather_items<T: Eq>(items: &mut [T], steps: &mut Steps) -> usize
-    requires countable { steps.old + cost (length items.old) ≤ u128.MAX }
+    requires bounded { steps.old + cost (length items.old) ≤ u128.MAX }
     ensures count { result ≡ length (adds T.eq [] items.old) }
     ensures front { take result items.new ≡ adds T.eq [] items.old }
     ensures items { IsPermutation items.old items.new }
@@ -155,7 +155,7 @@ pub fn gather_items<T: Eq>(items: &mut [T], steps: &mut Steps) -> usize
 /// pairs.as_slice() // [('a', 3), ('b', 2)]
 /// ```
 pub fn dedup_keep_last_value<K: Eq + Drop, V: Drop>(pairs: &mut Vec<(K, V)>, steps: &mut Steps)
-    requires countable { steps.old + cost (length pairs.old.items) ≤ u128.MAX }
+    requires bounded { steps.old + cost (length pairs.old.items) ≤ u128.MAX }
     ensures pairs { pairs.new.items ≡ puts K.eq [] pairs.old.items }
     ensures capacity { vec_capacity pairs.new ≡ vec_capacity pairs.old }
     ensures counted { steps.new ≡ steps.old + comparisons K.eq (keys_of pairs.old.items) }
@@ -185,7 +185,7 @@ pub fn dedup_keep_last_value<K: Eq + Drop, V: Drop>(pairs: &mut Vec<(K, V)>, ste
 /// items.as_slice() // [2, 1]
 /// ```
 pub fn dedup_keep_first<T: Eq + Drop>(items: &mut Vec<T>, steps: &mut Steps)
-    requires countable { steps.old + cost (length items.old.items) ≤ u128.MAX }
+    requires bounded { steps.old + cost (length items.old.items) ≤ u128.MAX }
     ensures items { items.new.items ≡ adds T.eq [] items.old.items }
     ensures capacity { vec_capacity items.new ≡ vec_capacity items.old }
     ensures counted { steps.new ≡ steps.old + comparisons T.eq items.old.items }

@@ -73,7 +73,7 @@ impl Steps {
     #[inline]
     pub fn same<T: Eq>(&mut self, a: &T, b: &T) -> bool
         requires { self.old < u128.MAX }
-        ensures answer { result ≡ T.eq a.now b.now }
+        ensures equal { result ≡ T.eq a.now b.now }
         ensures counted { self.new ≡ self.old + 1 }
     {
         self.made += 1;

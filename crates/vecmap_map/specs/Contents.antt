@@ -1,5 +1,5 @@
 -- What a contract sees of a `VecMap`, and what calls say of its capacity.
-use Rattle.std.specs.Prelude.{◌≡◌, ◌+◌, ◌≤◌, ℕ, Bool, List, None, Option, IsSome, length}
+use Rattle.std.specs.Prelude.{◌≡◌, ◌+◌, ◌<◌, ◌≤◌, ℕ, Bool, IsOk, IsSome, List, None, OnErr, OnOk, Option, Result, length}
 use Rattle.std.specs.Option.{option_map_or}
 use Rattle.vecmap_base.specs.Pairs.{index_by, index_of, with_pair, with_value}
 
@@ -41,16 +41,26 @@ module _ {K V : Type 0} where
   abbrev pub IsFull : Contents K V → Type 0
   IsFull m = length m.entries ≡ m.capacity
 
+  -- What a call that reserves capacity for `additional` more pairs returns and leaves.
+  pub record Reserves {A E : Type 0} (additional : ℕ) (old : Contents K V) (result : Result A E) (new : Contents K V) : Type 0 where
+    pub entries : new.entries ≡ old.entries
+    pub room : OnOk result (HasRoom new additional)
+    pub capacity : old.capacity ≤ new.capacity
+    pub some : OnErr result (0 < additional)
+    pub succeeds : HasRoom old additional → IsOk result
+    pub unchanged : HasRoom old additional → new ≡ old
+    pub err : OnErr result (new ≡ old)
+
   -- The capacity does not shrink. It stays if the key has an index. It also stays if there is spare capacity for one
   -- more pair.
   pub record KeepsRoomAt (place : Option ℕ) (old new : Contents K V) : Type 0 where
     pub capacity : old.capacity ≤ new.capacity
-    pub there : IsSome place → new.capacity ≡ old.capacity
+    pub present : IsSome place → new.capacity ≡ old.capacity
     pub spare : HasRoom old 1 → new.capacity ≡ old.capacity
 
   -- A key was refused: the map is unchanged, the key has no index, and the map is full.
   pub record RefusesAt (place : Option ℕ) (old new : Contents K V) : Type 0 where
-    pub same : new ≡ old
+    pub unchanged : new ≡ old
     pub absent : place ≡ None
     pub full : IsFull old
 

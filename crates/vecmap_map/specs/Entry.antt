@@ -76,7 +76,7 @@ module _ {K V : Type 0} where
     pub index : o.index ≡ entry_index e
     pub value : entry_value (Occupied o) ≡ Some v
     pub entries : AreEntriesWith is_clone e v o.map.now.entries
-    pub room : KeepsRoomAt (entry_place e) (entry_map e) o.map.now
+    pub capacity : KeepsRoomAt (entry_place e) (entry_map e) o.map.now
     -- What a later write or removal through o leaves.
     pub write : (w : V) → AreEntriesWith is_clone e w (entries_with (Occupied o) w)
     pub removal : entries_without (Occupied o) ≡ entries_without e

@@ -76,7 +76,7 @@ impl<K, V> VecMap<K, V> {
         ensures entries { IfOk result (λ map. (clones : List (K × V))
             × ArePairClones K.is_clone V.is_clone pairs.now clones
             × (map.entries ≡ puts K.eq [] clones)) }
-        ensures room { IfOk result (λ map. length pairs.now ≤ map.capacity) }
+        ensures at_least { IfOk result (λ map. length pairs.now ≤ map.capacity) }
     {
         let mut map = VecMap::with_capacity(alloc, pairs.len())?;
         for pair in pairs {
@@ -115,7 +115,7 @@ impl<K, V> VecMap<K, V> {
         ensures emptied { OnOk result (other.new ≡ with_entries other.old []) }
         ensures capacity { self.old.capacity ≤ self.new.capacity }
         ensures succeeds { HasRoom self.old (length other.old.entries) → IsOk result }
-        ensures stays { HasRoom self.old (length other.old.entries)
+        ensures capacity_stays { HasRoom self.old (length other.old.entries)
             → self.new.capacity ≡ self.old.capacity }
         ensures some { OnErr result (0 < length other.old.entries) }
         ensures err { OnErr result (self.new ≡ self.old) }
@@ -164,7 +164,7 @@ impl<K, V> VecMap<K, V> {
         ensures capacity { self.old.capacity ≤ self.new.capacity }
         ensures succeeds { HasRoomForAll I.into_iter_gives I.IntoIter.remaining iter
             (length self.old.entries) self.old.capacity → IsOk result }
-        ensures stays { HasRoomForAll I.into_iter_gives I.IntoIter.remaining iter
+        ensures capacity_stays { HasRoomForAll I.into_iter_gives I.IntoIter.remaining iter
             (length self.old.entries) self.old.capacity → self.new.capacity ≡ self.old.capacity }
 
         // On `Err` either the first request was refused and the map is unchanged, or a new key was refused in a full
@@ -217,7 +217,7 @@ impl<K, V> VecMap<K, V> {
         ensures succeeds { HasRoomForAll I.into_iter_gives I.IntoIter.remaining iter
             (length self.old.entries) self.old.capacity → ((k : K) → K.is_infallible k)
             → ((v : V) → V.is_infallible v) → IsOk result }
-        ensures stays { HasRoomForAll I.into_iter_gives I.IntoIter.remaining iter
+        ensures capacity_stays { HasRoomForAll I.into_iter_gives I.IntoIter.remaining iter
             (length self.old.entries) self.old.capacity → self.new.capacity ≡ self.old.capacity }
 
         // On `Err` either the first request was refused and the map is unchanged, or the next item was refused. If its
@@ -261,7 +261,7 @@ impl<K, V> VecMap<K, V> {
         ensures succeeds { HasRoomForAll I.into_iter_gives I.IntoIter.remaining iter
             (length self.old.entries) self.old.capacity → ((k : K) → K.is_infallible k)
             → ((v : V) → V.is_infallible v) → IsOk result }
-        ensures stays { HasRoomForAll I.into_iter_gives I.IntoIter.remaining iter
+        ensures capacity_stays { HasRoomForAll I.into_iter_gives I.IntoIter.remaining iter
             (length self.old.entries) self.old.capacity → self.new.capacity ≡ self.old.capacity }
 
         // On `Err` either the first request was refused and the map is unchanged, or the next item was refused. If its
@@ -286,7 +286,7 @@ impl<K, V> VecMap<K, V> {
         V: Clone,
         ensures entries { OnOk result ((k : K) × (v : V) × K.is_clone key.now k
             × V.is_clone value.now v × (self.new.entries ≡ put K.eq self.old.entries k v)) }
-        ensures room { KeepsRoomAt None self.old self.new }
+        ensures capacity { KeepsRoomAt None self.old self.new }
         ensures succeeds { HasRoom self.old 1 → K.is_infallible key.now → V.is_infallible value.now
             → IsOk result }
         ensures err { OnErr result (self.new ≡ self.old) }

@@ -321,7 +321,7 @@ impl<'a, K, V> Entry<'a, K, V> {
     where
         K: Clone,
         V: Drop,
-        ensures ok { IfOk result (IsInserted K.is_clone self.entry value) }
+        ensures inserted { IfOk result (IsInserted K.is_clone self.entry value) }
 
         // On `Err` the pair is returned. Only a new key is refused, and if its clone cannot fail, only in a full map.
         ensures* err { sem 𝓛 (entry_passes K.row V.row self.entry result) }

@@ -12,7 +12,7 @@ impl<K, V> VecMap<K, V> {
     fn place_of<Q: Equivalent<K>>(&self, query: Q) -> usize
     where
         K: Eq,
-        requires there { IsSome (index_by (Q.equivalent query) self.now.entries) }
+        requires present { IsSome (index_by (Q.equivalent query) self.now.entries) }
         ensures place { index_by (Q.equivalent query) self.now.entries ≡ Some result }
         ensures within { result < length self.now.entries }
     {
@@ -118,7 +118,7 @@ impl<'q, K: Eq, V> IndexMut<&'q K> for VecMap<K, V> {
     ghost use Rattle.vecmap_map.specs.Lends.{lends_value_of};
 
     fn index_mut(&mut self, key: &'q K) -> &mut V
-        requires there { IsSome (index_of K.eq self.old.entries key.now) }
+        requires present { IsSome (index_of K.eq self.old.entries key.now) }
         ensures* writes_back { sem 𝓛 (lends_value_of K.row V.row self.entry K.eq key.now result) }
         ensures value { lookup K.eq self.old.entries key.now ≡ Some result.now }
     {
@@ -177,7 +177,7 @@ impl<'q, V> IndexMut<&'q str> for VecMap<String, V> {
     ghost use Rattle.vecmap_map.specs.Lends.{lends_value_by, text_row};
 
     fn index_mut(&mut self, text: &'q str) -> &mut V
-        requires there { IsSome (index_by (has_text text.now) self.old.entries) }
+        requires present { IsSome (index_by (has_text text.now) self.old.entries) }
         ensures* writes_back { sem 𝓛 (lends_value_by text_row V.row self.entry
             (has_text text.now) result) }
         ensures value { lookup_by (has_text text.now) self.old.entries ≡ Some result.now }

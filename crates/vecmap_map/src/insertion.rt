@@ -36,7 +36,7 @@ impl<K, V> VecMap<K, V> {
         K: Eq + Drop,
         ensures entries { OnOk result (self.new.entries ≡ put K.eq self.old.entries key value) }
         ensures old { IfOk result (λ old. old ≡ lookup K.eq self.old.entries key) }
-        ensures room { KeepsRoom K.eq self.old key self.new }
+        ensures capacity { KeepsRoom K.eq self.old key self.new }
 
         // On `Err` the pair is returned. Only a new key is refused, and only if the map is full.
         ensures given { IfErr result (λ refused. refused.given ≡ (key, value)) }
@@ -65,7 +65,7 @@ impl<K, V> VecMap<K, V> {
         ensures entries { OnOk result (self.new.entries ≡ put K.eq self.old.entries key value) }
         ensures place { IfOk result (λ done. done.0 ≡ index_or_length K.eq self.old.entries key) }
         ensures old { IfOk result (λ done. done.1 ≡ lookup K.eq self.old.entries key) }
-        ensures room { KeepsRoom K.eq self.old key self.new }
+        ensures capacity { KeepsRoom K.eq self.old key self.new }
 
         // On `Err` the pair is returned. Only a new key is refused, and only if the map is full.
         ensures given { IfErr result (λ refused. refused.given ≡ (key, value)) }
@@ -104,7 +104,7 @@ impl<K, V> VecMap<K, V> {
         K: Eq,
         ensures entries { OnOk result (self.new.entries ≡ put_key K.eq self.old.entries key value) }
         ensures old { IfOk result (λ old. old ≡ lookup_pair K.eq self.old.entries key) }
-        ensures room { KeepsRoom K.eq self.old key self.new }
+        ensures capacity { KeepsRoom K.eq self.old key self.new }
 
         // On `Err` the pair is returned. Only a new key is refused, and only if the map is full.
         ensures given { IfErr result (λ refused. refused.given ≡ (key, value)) }
@@ -157,7 +157,7 @@ impl<K, V> VecMap<K, V> {
         ensures entries { OnOk result (self.new.entries
             ≡ put_at K.eq self.old.entries index key value) }
         ensures old { IfOk result (λ old. old ≡ lookup_full K.eq self.old.entries key) }
-        ensures room { KeepsRoom K.eq self.old key self.new }
+        ensures capacity { KeepsRoom K.eq self.old key self.new }
 
         // On `Err` the pair is returned. Only a new key is refused, and only if the map is full.
         ensures given { IfErr result (λ refused. refused.given ≡ (key, value)) }
@@ -180,7 +180,7 @@ impl<K, V> VecMap<K, V> {
     // Appends a pair.
     pub(crate) fn push(&mut self, key: K, value: V) -> Result<(), Refused<(K, V)>>
         ensures entries { OnOk result (self.new.entries ≡ self.old.entries ++ (key, value) ∷ []) }
-        ensures room { KeepsRoomAt None self.old self.new }
+        ensures capacity { KeepsRoomAt None self.old self.new }
         ensures given { IfErr result (λ refused. refused.given ≡ (key, value)) }
         ensures err { OnErr result (RefusesAt None self.old self.new) }
     {

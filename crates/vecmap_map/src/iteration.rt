@@ -2,9 +2,8 @@
 //!
 //! A contract sees an iterator as the list of its remaining items. Each iterator knows its exact length and gives items
 //! from both ends. After its last item it returns only `None`. Creating one takes constant time and does not allocate.
-ghost use Rattle.std.specs.Prelude.{◌≡◌, ◌<◌, ◌^◌, length};
 ghost use Rattle.std.specs.Map.{keys_of, values_of};
-ghost use Rattle.std.specs.Map.Iter.{GivesInOrder, GivesInReverse, ShowsInOrder, ShowsInReverse, ShowsValuesInOrder, ShowsValuesInReverse, deref, deref_pair, deref_pair_mut};
+ghost use Rattle.std.specs.Map.Iter.{ShowsValuesInOrder, ShowsValuesInReverse, deref, deref_pair, deref_pair_mut};
 ghost use Rattle.vecmap_base.specs.Walks.{GivesAll, ShowsAll, deref_mut};
 
 use crate::VecMap;
@@ -25,10 +24,7 @@ impl<K, V> VecMap<K, V> {
     /// map.iter().next_back() // Some((&'b', &2))
     /// ```
     pub fn iter(&self) -> Iter<'_, K, V>
-        ensures rest { result ≡ self.now.entries }
-        ensures fits { length result < 2 ^ 64 }
-        ensures runs { ShowsInOrder (deref_pair {K = K} {X = V}) }
-        ensures runs_back { ShowsInReverse (deref_pair {K = K} {X = V}) }
+        ensures rest { ShowsAll deref_pair self.now.entries result }
         ensures values_run { ShowsValuesInOrder (deref_pair {K = K} {X = V}) }
         ensures values_run_back { ShowsValuesInReverse (deref_pair {K = K} {X = V}) }
     {
@@ -54,10 +50,7 @@ impl<K, V> VecMap<K, V> {
     /// map.as_slice() // [('a', 3), ('b', 3)]
     /// ```
     pub fn iter_mut(&mut self) -> IterMut<'_, K, V>
-        ensures rest { result ≡ self.old.entries }
-        ensures fits { length result < 2 ^ 64 }
-        ensures runs { ShowsInOrder (deref_pair_mut {K = K} {X = V}) }
-        ensures runs_back { ShowsInReverse (deref_pair_mut {K = K} {X = V}) }
+        ensures { ShowsAll deref_pair_mut self.old.entries result }
     {
         IterMut::over(&mut self.pairs)
     }
@@ -75,10 +68,7 @@ impl<K, V> VecMap<K, V> {
     /// map.keys().copied().collect::<Vec<char>>(alloc)?.as_slice() // ['a', 'b']
     /// ```
     pub fn keys(&self) -> Keys<'_, K, V>
-        ensures rest { result ≡ keys_of self.now.entries }
-        ensures fits { length result < 2 ^ 64 }
-        ensures runs { ShowsInOrder (deref {X = K}) }
-        ensures runs_back { ShowsInReverse (deref {X = K}) }
+        ensures { ShowsAll deref (keys_of self.now.entries) result }
     {
         Keys::over(&self.pairs)
     }
@@ -96,10 +86,7 @@ impl<K, V> VecMap<K, V> {
     /// map.values().copied().collect::<Vec<u32>>(alloc)?.as_slice() // [1, 2]
     /// ```
     pub fn values(&self) -> Values<'_, K, V>
-        ensures rest { result ≡ values_of self.now.entries }
-        ensures fits { length result < 2 ^ 64 }
-        ensures runs { ShowsInOrder (deref {X = V}) }
-        ensures runs_back { ShowsInReverse (deref {X = V}) }
+        ensures { ShowsAll deref (values_of self.now.entries) result }
     {
         Values::over(&self.pairs)
     }
@@ -123,10 +110,7 @@ impl<K, V> VecMap<K, V> {
     /// map.as_slice() // [('a', 3), ('b', 3)]
     /// ```
     pub fn values_mut(&mut self) -> ValuesMut<'_, K, V>
-        ensures rest { result ≡ values_of self.old.entries }
-        ensures fits { length result < 2 ^ 64 }
-        ensures runs { ShowsInOrder (deref_mut {X = V}) }
-        ensures runs_back { ShowsInReverse (deref_mut {X = V}) }
+        ensures { ShowsAll deref_mut (values_of self.old.entries) result }
     {
         ValuesMut::over(&mut self.pairs)
     }
@@ -144,10 +128,7 @@ impl<K, V> VecMap<K, V> {
     /// map.into_keys().next() // Some('a')
     /// ```
     pub fn into_keys(self) -> IntoKeys<K, V>
-        ensures rest { result ≡ keys_of self.entries }
-        ensures fits { length result < 2 ^ 64 }
-        ensures runs { GivesInOrder K }
-        ensures runs_back { GivesInReverse K }
+        ensures { GivesAll (keys_of self.entries) result }
     {
         IntoKeys::over(self.into_vec())
     }
@@ -167,10 +148,7 @@ impl<K, V> VecMap<K, V> {
     /// map.into_values().next() // Some(1)
     /// ```
     pub fn into_values(self) -> IntoValues<K, V>
-        ensures rest { result ≡ values_of self.entries }
-        ensures fits { length result < 2 ^ 64 }
-        ensures runs { GivesInOrder V }
-        ensures runs_back { GivesInReverse V }
+        ensures { GivesAll (values_of self.entries) result }
     {
         IntoValues::over(self.into_vec())
     }

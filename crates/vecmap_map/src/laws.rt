@@ -75,11 +75,11 @@ pub fn insertion_keeps_keys_distinct<K: Eq, V>()
     ensures puts { (l : List (K × V)) → HasDistinctKeys K.eq l → (pairs : List (K × V))
         → HasDistinctKeys K.eq (puts K.eq l pairs) }
     ensures made { (pairs : List (K × V)) → HasDistinctKeys K.eq (puts K.eq [] pairs) }
-    ensures key { (l : List (K × V)) → HasDistinctKeys K.eq l → (k : K) (v : V)
+    ensures put_key { (l : List (K × V)) → HasDistinctKeys K.eq l → (k : K) (v : V)
         → HasDistinctKeys K.eq (put_key K.eq l k v) }
-    ensures at { (l : List (K × V)) → HasDistinctKeys K.eq l → (i : ℕ) (k : K) (v : V)
+    ensures put_at { (l : List (K × V)) → HasDistinctKeys K.eq l → (i : ℕ) (k : K) (v : V)
         → HasDistinctKeys K.eq (put_at K.eq l i k v) }
-    ensures value { (l : List (K × V)) → HasDistinctKeys K.eq l → (i : ℕ) (v : V)
+    ensures with_value { (l : List (K × V)) → HasDistinctKeys K.eq l → (i : ℕ) (v : V)
         → HasDistinctKeys K.eq (with_value l i v) }
 {}
 

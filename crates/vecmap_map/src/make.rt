@@ -41,7 +41,7 @@ impl<K, V> VecMap<K, V> {
     /// ```
     pub fn with_capacity(alloc: Global, capacity: usize) -> Result<VecMap<K, V>, AllocError>
         ensures entries { IfOk result (λ map. map.entries ≡ []) }
-        ensures room { IfOk result (λ map. capacity ≤ map.capacity) }
+        ensures at_least { IfOk result (λ map. capacity ≤ map.capacity) }
         ensures capacity { capacity ≡ 0 → IfOk result (λ map. map.capacity ≡ 0) }
         ensures succeeds { capacity ≡ 0 → IsOk result }
     {

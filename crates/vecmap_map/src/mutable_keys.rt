@@ -1,12 +1,11 @@
 //! Calls that return mutable references to keys.
-ghost use Rattle.std.specs.Prelude.{◌≡◌, ◌<◌, ◌^◌, ◌↔◌, IfSome, IsSome, List, length, option_map, slice_get};
+ghost use Rattle.std.specs.Prelude.{◌≡◌, ◌<◌, ◌↔◌, IfSome, IsSome, List, length, option_map, slice_get};
 ghost use Rattle.std.specs.Borrow.{sem};
 ghost use Rattle.std.specs.Map.{keys_of};
-ghost use Rattle.std.specs.Map.Iter.{ShowsInOrder, ShowsInReverse};
 ghost use Rattle.vecmap_base.specs.Asked.{CallableOnEach, CallsAtPairMut, TakesPairMut};
 ghost use Rattle.vecmap_base.specs.Kept.{Kept};
 ghost use Rattle.vecmap_base.specs.Pairs.{index_by, lookup_pair_by};
-ghost use Rattle.vecmap_base.specs.Walks.{deref_both_mut, deref_mut};
+ghost use Rattle.vecmap_base.specs.Walks.{ShowsAll, deref_both_mut, deref_mut};
 ghost use Rattle.vecmap_map.specs.Lends.{lends_parts};
 
 use crate::VecMap;
@@ -187,7 +186,7 @@ impl<K, V> MutableKeys for VecMap<K, V> {
         F: Drop,
         requires callable { CallableOnEach (CallsAtPairMut F.FnMut)
             (TakesPairMut F.FnMut) f self.old.entries }
-        ensures entries { (g : F) × Kept
+        ensures retained { (g : F) × Kept
             (CallsAtPairMut F.FnMut) f self.old.entries self.new.entries g }
         ensures capacity { self.new.capacity ≡ self.old.capacity }
     {
@@ -195,19 +194,13 @@ impl<K, V> MutableKeys for VecMap<K, V> {
     }
 
     fn iter_mut2(&mut self) -> IterMut2<'_, K, V>
-        ensures rest { result ≡ self.old.entries }
-        ensures fits { length result < 2 ^ 64 }
-        ensures runs { ShowsInOrder (deref_both_mut {K = K} {V = V}) }
-        ensures runs_back { ShowsInReverse (deref_both_mut {K = K} {V = V}) }
+        ensures { ShowsAll deref_both_mut self.old.entries result }
     {
         IterMut2::over(&mut self.pairs)
     }
 
     fn keys_mut(&mut self) -> KeysMut<'_, K, V>
-        ensures rest { result ≡ keys_of self.old.entries }
-        ensures fits { length result < 2 ^ 64 }
-        ensures runs { ShowsInOrder (deref_mut {X = K}) }
-        ensures runs_back { ShowsInReverse (deref_mut {X = K}) }
+        ensures { ShowsAll deref_mut (keys_of self.old.entries) result }
     {
         KeysMut::over(&mut self.pairs)
     }

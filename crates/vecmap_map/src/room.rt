@@ -1,6 +1,6 @@
 //! The number of pairs, and the capacity.
-ghost use Rattle.std.specs.Prelude.{◌≡◌, ◌<◌, ◌==◌, ◌^◌, ◌↔◌, ◌≤◌, IsOk, IsTrue, OnErr, OnOk, [], length, min};
-ghost use Rattle.vecmap_map.specs.Contents.{HasRoom};
+ghost use Rattle.std.specs.Prelude.{◌≡◌, ◌<◌, ◌==◌, ◌^◌, ◌↔◌, ◌≤◌, IsTrue, [], length, min};
+ghost use Rattle.vecmap_map.specs.Contents.{HasRoom, Reserves};
 
 use crate::VecMap;
 use std::alloc::AllocError;
@@ -17,7 +17,7 @@ impl<K, V> VecMap<K, V> {
     /// ```
     pub fn len(&self) -> usize
         ensures count { result ≡ length self.now.entries }
-        ensures room { result ≤ self.now.capacity }
+        ensures within_capacity { result ≤ self.now.capacity }
         ensures countable { result < 2 ^ 63 }
     {
         self.pairs.len()
@@ -68,13 +68,7 @@ impl<K, V> VecMap<K, V> {
     /// 12 <= map.capacity() // true
     /// ```
     pub fn reserve(&mut self, additional: usize) -> Result<(), AllocError>
-        ensures entries { self.new.entries ≡ self.old.entries }
-        ensures room { OnOk result (HasRoom self.new additional) }
-        ensures capacity { self.old.capacity ≤ self.new.capacity }
-        ensures some { OnErr result (0 < additional) }
-        ensures succeeds { HasRoom self.old additional → IsOk result }
-        ensures unchanged { HasRoom self.old additional → self.new ≡ self.old }
-        ensures err { OnErr result (self.new ≡ self.old) }
+        ensures reserved { Reserves additional self.old result self.new }
     {
         if self.has_room(additional) {
             return Ok(());
@@ -99,13 +93,7 @@ impl<K, V> VecMap<K, V> {
     /// 12 <= map.capacity() // true
     /// ```
     pub fn reserve_exact(&mut self, additional: usize) -> Result<(), AllocError>
-        ensures entries { self.new.entries ≡ self.old.entries }
-        ensures room { OnOk result (HasRoom self.new additional) }
-        ensures capacity { self.old.capacity ≤ self.new.capacity }
-        ensures some { OnErr result (0 < additional) }
-        ensures succeeds { HasRoom self.old additional → IsOk result }
-        ensures unchanged { HasRoom self.old additional → self.new ≡ self.old }
-        ensures err { OnErr result (self.new ≡ self.old) }
+        ensures reserved { Reserves additional self.old result self.new }
     {
         if self.has_room(additional) {
             return Ok(());
@@ -127,13 +115,7 @@ impl<K, V> VecMap<K, V> {
     /// map.try_reserve(usize::MAX).is_ok() // false
     /// ```
     pub fn try_reserve(&mut self, additional: usize) -> Result<(), TryReserveError>
-        ensures entries { self.new.entries ≡ self.old.entries }
-        ensures room { OnOk result (HasRoom self.new additional) }
-        ensures capacity { self.old.capacity ≤ self.new.capacity }
-        ensures some { OnErr result (0 < additional) }
-        ensures succeeds { HasRoom self.old additional → IsOk result }
-        ensures unchanged { HasRoom self.old additional → self.new ≡ self.old }
-        ensures err { OnErr result (self.new ≡ self.old) }
+        ensures reserved { Reserves additional self.old result self.new }
     {
         self.reserve(additional)
     }
@@ -152,13 +134,7 @@ impl<K, V> VecMap<K, V> {
     /// map.try_reserve_exact(usize::MAX).is_ok() // false
     /// ```
     pub fn try_reserve_exact(&mut self, additional: usize) -> Result<(), TryReserveError>
-        ensures entries { self.new.entries ≡ self.old.entries }
-        ensures room { OnOk result (HasRoom self.new additional) }
-        ensures capacity { self.old.capacity ≤ self.new.capacity }
-        ensures some { OnErr result (0 < additional) }
-        ensures succeeds { HasRoom self.old additional → IsOk result }
-        ensures unchanged { HasRoom self.old additional → self.new ≡ self.old }
-        ensures err { OnErr result (self.new ≡ self.old) }
+        ensures reserved { Reserves additional self.old result self.new }
     {
         self.reserve_exact(additional)
     }
@@ -178,7 +154,7 @@ impl<K, V> VecMap<K, V> {
     /// ```
     pub fn shrink_to_fit(&mut self)
         ensures entries { self.new.entries ≡ self.old.entries }
-        ensures room { length self.old.entries ≤ self.new.capacity }
+        ensures within_capacity { length self.old.entries ≤ self.new.capacity }
         ensures capacity { self.new.capacity ≤ self.old.capacity }
         ensures frees { self.old.entries ≡ [] → self.new.capacity ≡ 0 }
     {
@@ -200,7 +176,7 @@ impl<K, V> VecMap<K, V> {
     /// ```
     pub fn shrink_to(&mut self, min_capacity: usize)
         ensures entries { self.new.entries ≡ self.old.entries }
-        ensures room { length self.old.entries ≤ self.new.capacity }
+        ensures within_capacity { length self.old.entries ≤ self.new.capacity }
         ensures capacity { self.new.capacity ≤ self.old.capacity }
         ensures limit { min min_capacity self.old.capacity ≤ self.new.capacity }
     {
@@ -210,7 +186,7 @@ impl<K, V> VecMap<K, V> {
     // Returns whether `additional` more pairs fit into the spare capacity.
     fn has_room(&self, additional: usize) -> bool
         ensures room { IsTrue result ↔ HasRoom self.now additional }
-        ensures fits { HasRoom self.now 0 }
+        ensures within_capacity { HasRoom self.now 0 }
     {
         additional <= self.pairs.capacity() - self.pairs.len()
     }

@@ -9,7 +9,7 @@ use Rattle.std.proofs.iter.runs.Sources.{from_front, from_back}
 use Rattle.std.specs.Iterator.{UpTo, at_most}
 use Rattle.std.specs.List.{after_first, before_last, filter, position_or_len, prefix_len, suffix_len}
 use Rattle.std.specs.Option.{IfSome, SomeIff}
-use Rattle.vecmap_set.specs.Lazy.{JoinsFirst, JoinsInOrder, JoinsInReverse, JoinsLast, PairsFirst, PairsInOrder, PairsInReverse, PairsLast, Parts, Sift, SiftsFirst, SiftsInOrder, SiftsInReverse, SiftsLast, joined, lacks_item, paired, sifted}
+use Rattle.vecmap_set.specs.Lazy.{ExcludesFirst, ExcludesInOrder, ExcludesInReverse, ExcludesLast, JoinsFirst, JoinsInOrder, JoinsInReverse, JoinsLast, Parts, Sift, SiftsFirst, SiftsInOrder, SiftsInReverse, SiftsLast, exclusive, joined, lacks_item, sifted}
 
 module _ {T : Type 0} (p : T → Bool) where
   -- An element at the front that is kept.
@@ -65,11 +65,11 @@ module _ {T : Type 0} (eq : T → T → Bool) where
   pub joins_in_reverse : JoinsInReverse eq
   joins_in_reverse = from_back (JoinsLast eq) (λ y. y.now) (joined eq) (λ s t h. ap length h.0.0) (λ s x t h. h.0)
 
-  pub pairs_in_order : PairsInOrder eq
-  pairs_in_order = from_front (PairsFirst eq) (λ y. y.now) (paired eq) (λ s t h. ap length h.0.0) (λ s x t h. h.0)
+  pub excludes_in_order : ExcludesInOrder eq
+  excludes_in_order = from_front (ExcludesFirst eq) (λ y. y.now) (exclusive eq) (λ s t h. ap length h.0.0) (λ s x t h. h.0)
 
-  pub pairs_in_reverse : PairsInReverse eq
-  pairs_in_reverse = from_back (PairsLast eq) (λ y. y.now) (paired eq) (λ s t h. ap length h.0.0) (λ s x t h. h.0)
+  pub excludes_in_reverse : ExcludesInReverse eq
+  excludes_in_reverse = from_back (ExcludesLast eq) (λ y. y.now) (exclusive eq) (λ s t h. ap length h.0.0) (λ s x t h. h.0)
 
 -- No more elements are kept than the list has.
 pub length_filter : {T : Type 0} (p : T → Bool) (xs : List T) → length (filter p xs) ≤ length xs
@@ -81,7 +81,7 @@ length_joined eq s =
     let kept = lacks_item eq s.second.other in
     omega (arith, length-append s.first (filter kept s.second.unwalked), length_filter kept s.second.unwalked)
 
-pub length_paired : {T : Type 0} (eq : T → T → Bool) (s : Parts (Sift T) (Sift T)) → length (paired eq s) ≤ length s.first.unwalked + length s.second.unwalked
+pub length_paired : {T : Type 0} (eq : T → T → Bool) (s : Parts (Sift T) (Sift T)) → length (exclusive eq s) ≤ length s.first.unwalked + length s.second.unwalked
 length_paired eq s =
     let one = lacks_item eq s.first.other in
     let two = lacks_item eq s.second.other in

@@ -1,6 +1,6 @@
 -- What a query finds after an addition. By induction on the list for an element that does not match. A matching element
 -- is found as an equal one is.
-use Rattle.std.specs.Prelude.{◌≡◌, Bool, true, false, List, [], ◌∷◌, None, Some, IsTrue, if◌then◌else◌, is_some, length, option_map, position, suc, unwrap_or, refl}
+use Rattle.std.specs.Prelude.{◌≡◌, Bool, true, false, List, [], ◌∷◌, Some, IsTrue, if◌then◌else◌, is_some, length, option_map, position, suc, unwrap_or}
 use Rattle.std.specs.Cmp.{IsEquivalence}
 use Rattle.std.specs.List.{list_any}
 use Rattle.std.proofs.Common.{sym, ap, cond, ◌∙◌, inl, inr}

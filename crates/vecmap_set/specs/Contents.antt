@@ -1,5 +1,5 @@
 -- What a contract sees of a `VecSet`, and what calls say of its capacity.
-use Rattle.std.specs.Prelude.{◌≡◌, ◌+◌, ◌≤◌, ℕ, Bool, IsTrue, List, false, length}
+use Rattle.std.specs.Prelude.{◌≡◌, ◌+◌, ◌<◌, ◌≤◌, ℕ, Bool, IsOk, IsTrue, List, OnErr, OnOk, Result, false, length}
 use Rattle.vecmap_base.specs.Items.{has_item}
 
 -- The elements from the first to the last, and how many of them fit before the vector grows.
@@ -16,16 +16,30 @@ module _ {T : Type 0} where
   abbrev pub HasRoom : Contents T → ℕ → Type 0
   HasRoom s n = length s.elements + n ≤ s.capacity
 
+  -- The set is full: no more elements fit before the vector grows.
+  abbrev pub IsFull : Contents T → Type 0
+  IsFull s = length s.elements ≡ s.capacity
+
+  -- What a call that reserves capacity for `additional` more elements returns and leaves.
+  pub record Reserves {A E : Type 0} (additional : ℕ) (old : Contents T) (result : Result A E) (new : Contents T) : Type 0 where
+    pub elements : new.elements ≡ old.elements
+    pub room : OnOk result (HasRoom new additional)
+    pub capacity : old.capacity ≤ new.capacity
+    pub some : OnErr result (0 < additional)
+    pub succeeds : HasRoom old additional → IsOk result
+    pub unchanged : HasRoom old additional → new ≡ old
+    pub err : OnErr result (new ≡ old)
+
 module _ {T : Type 0} (eq : T → T → Bool) where
   -- The capacity does not shrink. It stays if an element equal to x is present. It also stays if there is spare
   -- capacity for one more element.
   pub record KeepsRoom (old : Contents T) (x : T) (new : Contents T) : Type 0 where
     pub capacity : old.capacity ≤ new.capacity
-    pub there : IsTrue (has_item eq old.elements x) → new.capacity ≡ old.capacity
+    pub present : IsTrue (has_item eq old.elements x) → new.capacity ≡ old.capacity
     pub spare : HasRoom old 1 → new.capacity ≡ old.capacity
 
   -- The element x was refused: the set is unchanged, no equal element is present, and the set is full.
   pub record Refuses (old : Contents T) (x : T) (new : Contents T) : Type 0 where
-    pub same : new ≡ old
+    pub unchanged : new ≡ old
     pub absent : has_item eq old.elements x ≡ false
-    pub full : length old.elements ≡ old.capacity
+    pub full : IsFull old

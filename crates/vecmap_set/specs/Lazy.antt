@@ -109,23 +109,23 @@ module _ {T : Type 0} (eq : T → T → Bool) where
   JoinsInReverse = YieldsRefsInReverse JoinsLast joined
 
   -- The elements of either list that are not in the other, as far as they are left.
-  abbrev pub paired : Parts (Sift T) (Sift T) → List T
-  paired s = sifted lacks_item s.first ++ sifted lacks_item s.second
+  abbrev pub exclusive : Parts (Sift T) (Sift T) → List T
+  exclusive s = sifted lacks_item s.first ++ sifted lacks_item s.second
 
   -- `next` at s gave r, and left t. It asks the first part, and then the second.
-  abbrev pub PairsFirst : Parts (Sift T) (Sift T) → Option (Bor T) → Parts (Sift T) (Sift T) → Type 0
-  PairsFirst s r t = YieldsFirstRef paired s r t × AsksThen (SiftsFirst lacks_item) (SiftsFirst lacks_item) s.first s.second r t.first t.second
+  abbrev pub ExcludesFirst : Parts (Sift T) (Sift T) → Option (Bor T) → Parts (Sift T) (Sift T) → Type 0
+  ExcludesFirst s r t = YieldsFirstRef exclusive s r t × AsksThen (SiftsFirst lacks_item) (SiftsFirst lacks_item) s.first s.second r t.first t.second
 
   -- `next_back` at s gave r, and left t. It asks the second part, and then the first.
-  abbrev pub PairsLast : Parts (Sift T) (Sift T) → Option (Bor T) → Parts (Sift T) (Sift T) → Type 0
-  PairsLast s r t = YieldsLastRef paired s r t × AsksThen (SiftsLast lacks_item) (SiftsLast lacks_item) s.second s.first r t.second t.first
+  abbrev pub ExcludesLast : Parts (Sift T) (Sift T) → Option (Bor T) → Parts (Sift T) (Sift T) → Type 0
+  ExcludesLast s r t = YieldsLastRef exclusive s r t × AsksThen (SiftsLast lacks_item) (SiftsLast lacks_item) s.second s.first r t.second t.first
 
   -- Each run of pulls gives what is left, from the front in order and from the back in reverse.
-  abbrev pub PairsInOrder : Type 0
-  PairsInOrder = YieldsRefsInOrder PairsFirst paired
+  abbrev pub ExcludesInOrder : Type 0
+  ExcludesInOrder = YieldsRefsInOrder ExcludesFirst exclusive
 
-  abbrev pub PairsInReverse : Type 0
-  PairsInReverse = YieldsRefsInReverse PairsLast paired
+  abbrev pub ExcludesInReverse : Type 0
+  ExcludesInReverse = YieldsRefsInReverse ExcludesLast exclusive
 
   -- The test of an element against the other list: whether it is present in it, or whether it is not.
   abbrev pub presence : Bool → List T → T → Bool

@@ -118,7 +118,7 @@ impl<T: Eq> VecSet<T> {
         ensures other_distinct { IsDistinct T.eq other.new.elements }
         ensures capacity { self.old.capacity ≤ self.new.capacity }
         ensures succeeds { HasRoom self.old (length other.old.elements) → IsOk result }
-        ensures stays { HasRoom self.old (length other.old.elements)
+        ensures capacity_stays { HasRoom self.old (length other.old.elements)
             → self.new.capacity ≡ self.old.capacity }
         ensures some { OnErr result (0 < length other.old.elements) }
         ensures err { OnErr result (self.new ≡ self.old) }
@@ -166,7 +166,7 @@ impl<T: Eq> VecSet<T> {
         ensures capacity { self.old.capacity ≤ self.new.capacity }
         ensures succeeds { HasRoomForAll I.into_iter_gives I.IntoIter.remaining iter
             (length self.old.elements) self.old.capacity → IsOk result }
-        ensures stays { HasRoomForAll I.into_iter_gives I.IntoIter.remaining iter
+        ensures capacity_stays { HasRoomForAll I.into_iter_gives I.IntoIter.remaining iter
             (length self.old.elements) self.old.capacity → self.new.capacity ≡ self.old.capacity }
 
         // On `Err` a new element was refused, in a full set.
@@ -214,7 +214,7 @@ impl<T: Eq> VecSet<T> {
         ensures capacity { self.old.capacity ≤ self.new.capacity }
         ensures succeeds { HasRoomForAll I.into_iter_gives I.IntoIter.remaining iter
             (length self.old.elements) self.old.capacity → IsOk result }
-        ensures stays { HasRoomForAll I.into_iter_gives I.IntoIter.remaining iter
+        ensures capacity_stays { HasRoomForAll I.into_iter_gives I.IntoIter.remaining iter
             (length self.old.elements) self.old.capacity → self.new.capacity ≡ self.old.capacity }
 
         // On `Err` a new element was refused, in a full set.

@@ -41,7 +41,7 @@ impl<T: Eq> VecSet<T> {
         ensures added { IfOk result (λ added. added ≡ not (has_item T.eq self.old.elements item)) }
         ensures distinct { IsDistinct T.eq self.new.elements }
         ensures unchanged { IsTrue (has_item T.eq self.old.elements item) → self.new ≡ self.old }
-        ensures room { KeepsRoom T.eq self.old item self.new }
+        ensures capacity { KeepsRoom T.eq self.old item self.new }
 
         // On `Err` the element is returned. Only a new element can be refused, and only if the set is full.
         ensures given { IfErr result (λ refused. refused.given ≡ item) }
@@ -82,7 +82,7 @@ impl<T: Eq> VecSet<T> {
         ensures elements { OnOk result (self.new.elements ≡ add_new T.eq self.old.elements item) }
         ensures old { IfOk result (λ old. old ≡ stored_item T.eq self.old.elements item) }
         ensures distinct { IsDistinct T.eq self.new.elements }
-        ensures room { KeepsRoom T.eq self.old item self.new }
+        ensures capacity { KeepsRoom T.eq self.old item self.new }
 
         // On `Err` the element is returned. Only a new element can be refused, and only if the set is full.
         ensures given { IfErr result (λ refused. refused.given ≡ item) }
@@ -100,7 +100,7 @@ impl<T: Eq> VecSet<T> {
         requires absent { has_item T.eq self.old.elements item ≡ false }
         ensures elements { OnOk result (self.new.elements ≡ self.old.elements ++ item ∷ []) }
         ensures distinct { IsDistinct T.eq self.new.elements }
-        ensures room { KeepsRoom T.eq self.old item self.new }
+        ensures capacity { KeepsRoom T.eq self.old item self.new }
         ensures given { IfErr result (λ refused. refused.given ≡ item) }
         ensures err { OnErr result (Refuses T.eq self.old item self.new) }
     {

@@ -2,9 +2,8 @@
 //!
 //! A contract sees an iterator as the list of its remaining items. Each iterator knows its exact length and gives items
 //! from both ends. After its last item it returns only `None`. Creating one takes constant time and does not allocate.
-ghost use Rattle.std.specs.Prelude.{◌≡◌, ◌<◌, ◌^◌, length};
 ghost use Rattle.std.specs.List.{IsDistinct};
-ghost use Rattle.std.specs.Map.Iter.{ShowsInOrder, ShowsInReverse, deref};
+ghost use Rattle.std.specs.Map.Iter.{deref};
 ghost use Rattle.vecmap_base.specs.Walks.{GivesAll, ShowsAll};
 
 use crate::VecSet;
@@ -25,11 +24,8 @@ impl<T: Eq> VecSet<T> {
     /// set.iter().next_back() // Some(&1)
     /// ```
     pub fn iter(&self) -> Iter<'_, T>
-        ensures rest { result ≡ self.now.elements }
+        ensures rest { ShowsAll deref self.now.elements result }
         ensures distinct { IsDistinct T.eq result }
-        ensures fits { length result < 2 ^ 64 }
-        ensures runs { ShowsInOrder (deref {X = T}) }
-        ensures runs_back { ShowsInReverse (deref {X = T}) }
     {
         Iter::over(&self.items)
     }

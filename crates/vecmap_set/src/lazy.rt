@@ -4,7 +4,7 @@
 ghost use Rattle.std.specs.Prelude.{◌≡◌, ℕ, ◌+◌, ◌<◌, ◌^◌, length};
 ghost use Rattle.std.specs.Slice.Iter.{iter_rest};
 ghost use Rattle.vecmap_base.specs.Items.{has_item};
-ghost use Rattle.vecmap_set.specs.Lazy.{IsBound, JoinsInOrder, JoinsInReverse, PairsInOrder, PairsInReverse, SiftsFirst, SiftsInOrder, SiftsInReverse, SiftsLast, joined, lacks_item, longer_first, paired, presence, sift_of, sift_of_shorter, sifted, symmetric_parts};
+ghost use Rattle.vecmap_set.specs.Lazy.{ExcludesInOrder, ExcludesInReverse, IsBound, JoinsInOrder, JoinsInReverse, SiftsFirst, SiftsInOrder, SiftsInReverse, SiftsLast, exclusive, joined, lacks_item, longer_first, presence, sift_of, sift_of_shorter, sifted, symmetric_parts};
 
 use crate::VecSet;
 use std::slice;
@@ -100,9 +100,9 @@ impl<T: Eq> VecSet<T> {
     /// ```
     pub fn symmetric_difference<'a>(&'a self, other: &'a VecSet<T>) -> SymmetricDifference<'a, T>
         ensures rest { result ≡ symmetric_parts self.now.elements other.now.elements }
-        ensures fits { length (paired T.eq result) < 2 ^ 64 }
-        ensures runs { PairsInOrder T.eq }
-        ensures runs_back { PairsInReverse T.eq }
+        ensures fits { length (exclusive T.eq result) < 2 ^ 64 }
+        ensures runs { ExcludesInOrder T.eq }
+        ensures runs_back { ExcludesInReverse T.eq }
     {
         SymmetricDifference::over(&self.items, &other.items)
     }

@@ -46,7 +46,7 @@ impl<T: Eq> VecSet<T> {
     pub fn with_capacity(alloc: Global, capacity: usize) -> Result<VecSet<T>, AllocError>
         ensures elements { IfOk result (λ set. set.elements ≡ []) }
         ensures distinct { IfOk result (λ set. IsDistinct T.eq set.elements) }
-        ensures room { IfOk result (λ set. capacity ≤ set.capacity) }
+        ensures at_least { IfOk result (λ set. capacity ≤ set.capacity) }
         ensures capacity { capacity ≡ 0 → IfOk result (λ set. set.capacity ≡ 0) }
         ensures succeeds { capacity ≡ 0 → IsOk result }
     {
@@ -81,7 +81,7 @@ impl<T: Eq> VecSet<T> {
     pub fn clone(&self) -> Result<VecSet<T>, AllocError>
     where
         T: Clone,
-        requires same { (x y : T) → Contains self.now.elements x → T.is_clone x y
+        requires clones_equal { (x y : T) → Contains self.now.elements x → T.is_clone x y
             → IsTrue (T.eq x y) }
         ensures elements { IfOk result (λ set. AreClones T.is_clone self.now.elements set.elements) }
         ensures distinct { IfOk result (λ set. IsDistinct T.eq set.elements) }

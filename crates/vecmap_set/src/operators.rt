@@ -172,7 +172,7 @@ fn clones_of<'a, T: Clone + 'a, I: Iterator<Item = &'a T>>(
     alloc: Global,
     iter: I,
 ) -> Result<Vec<T>, AllocError>
-    requires can { I.can_next iter }
+    requires can_next { I.can_next iter }
     requires ends { IsFinite (I.remaining iter) }
     ensures { IfOk result (λ made. DrainsIntoClones I.next_gives T.is_clone iter made.items) }
 {

@@ -1,7 +1,7 @@
 //! The number of elements, and the capacity.
-ghost use Rattle.std.specs.Prelude.{◌≡◌, ◌<◌, ◌==◌, ◌^◌, ◌↔◌, ◌≤◌, IsOk, IsTrue, OnErr, OnOk, [], length, min};
+ghost use Rattle.std.specs.Prelude.{◌≡◌, ◌<◌, ◌==◌, ◌^◌, ◌↔◌, ◌≤◌, IsTrue, [], length, min};
 ghost use Rattle.std.specs.List.{IsDistinct};
-ghost use Rattle.vecmap_set.specs.Contents.{HasRoom};
+ghost use Rattle.vecmap_set.specs.Contents.{HasRoom, Reserves};
 
 use crate::VecSet;
 use std::alloc::AllocError;
@@ -18,7 +18,7 @@ impl<T: Eq> VecSet<T> {
     /// ```
     pub fn len(&self) -> usize
         ensures count { result ≡ length self.now.elements }
-        ensures room { result ≤ self.now.capacity }
+        ensures within_capacity { result ≤ self.now.capacity }
         ensures countable { result < 2 ^ 63 }
     {
         self.items.len()
@@ -69,14 +69,8 @@ impl<T: Eq> VecSet<T> {
     /// 12 <= set.capacity() // true
     /// ```
     pub fn reserve(&mut self, additional: usize) -> Result<(), AllocError>
-        ensures elements { self.new.elements ≡ self.old.elements }
         ensures distinct { IsDistinct T.eq self.new.elements }
-        ensures room { OnOk result (HasRoom self.new additional) }
-        ensures capacity { self.old.capacity ≤ self.new.capacity }
-        ensures some { OnErr result (0 < additional) }
-        ensures succeeds { HasRoom self.old additional → IsOk result }
-        ensures unchanged { HasRoom self.old additional → self.new ≡ self.old }
-        ensures err { OnErr result (self.new ≡ self.old) }
+        ensures reserved { Reserves additional self.old result self.new }
     {
         if self.has_room(additional) {
             return Ok(());
@@ -101,14 +95,8 @@ impl<T: Eq> VecSet<T> {
     /// 12 <= set.capacity() // true
     /// ```
     pub fn reserve_exact(&mut self, additional: usize) -> Result<(), AllocError>
-        ensures elements { self.new.elements ≡ self.old.elements }
         ensures distinct { IsDistinct T.eq self.new.elements }
-        ensures room { OnOk result (HasRoom self.new additional) }
-        ensures capacity { self.old.capacity ≤ self.new.capacity }
-        ensures some { OnErr result (0 < additional) }
-        ensures succeeds { HasRoom self.old additional → IsOk result }
-        ensures unchanged { HasRoom self.old additional → self.new ≡ self.old }
-        ensures err { OnErr result (self.new ≡ self.old) }
+        ensures reserved { Reserves additional self.old result self.new }
     {
         if self.has_room(additional) {
             return Ok(());
@@ -130,14 +118,8 @@ impl<T: Eq> VecSet<T> {
     /// set.try_reserve(usize::MAX).is_ok() // false
     /// ```
     pub fn try_reserve(&mut self, additional: usize) -> Result<(), TryReserveError>
-        ensures elements { self.new.elements ≡ self.old.elements }
         ensures distinct { IsDistinct T.eq self.new.elements }
-        ensures room { OnOk result (HasRoom self.new additional) }
-        ensures capacity { self.old.capacity ≤ self.new.capacity }
-        ensures some { OnErr result (0 < additional) }
-        ensures succeeds { HasRoom self.old additional → IsOk result }
-        ensures unchanged { HasRoom self.old additional → self.new ≡ self.old }
-        ensures err { OnErr result (self.new ≡ self.old) }
+        ensures reserved { Reserves additional self.old result self.new }
     {
         self.reserve(additional)
     }
@@ -156,14 +138,8 @@ impl<T: Eq> VecSet<T> {
     /// set.try_reserve_exact(usize::MAX).is_ok() // false
     /// ```
     pub fn try_reserve_exact(&mut self, additional: usize) -> Result<(), TryReserveError>
-        ensures elements { self.new.elements ≡ self.old.elements }
         ensures distinct { IsDistinct T.eq self.new.elements }
-        ensures room { OnOk result (HasRoom self.new additional) }
-        ensures capacity { self.old.capacity ≤ self.new.capacity }
-        ensures some { OnErr result (0 < additional) }
-        ensures succeeds { HasRoom self.old additional → IsOk result }
-        ensures unchanged { HasRoom self.old additional → self.new ≡ self.old }
-        ensures err { OnErr result (self.new ≡ self.old) }
+        ensures reserved { Reserves additional self.old result self.new }
     {
         self.reserve_exact(additional)
     }
@@ -184,7 +160,7 @@ impl<T: Eq> VecSet<T> {
     pub fn shrink_to_fit(&mut self)
         ensures elements { self.new.elements ≡ self.old.elements }
         ensures distinct { IsDistinct T.eq self.new.elements }
-        ensures room { length self.old.elements ≤ self.new.capacity }
+        ensures within_capacity { length self.old.elements ≤ self.new.capacity }
         ensures capacity { self.new.capacity ≤ self.old.capacity }
         ensures frees { self.old.elements ≡ [] → self.new.capacity ≡ 0 }
     {
@@ -207,7 +183,7 @@ impl<T: Eq> VecSet<T> {
     pub fn shrink_to(&mut self, min_capacity: usize)
         ensures elements { self.new.elements ≡ self.old.elements }
         ensures distinct { IsDistinct T.eq self.new.elements }
-        ensures room { length self.old.elements ≤ self.new.capacity }
+        ensures within_capacity { length self.old.elements ≤ self.new.capacity }
         ensures capacity { self.new.capacity ≤ self.old.capacity }
         ensures limit { min min_capacity self.old.capacity ≤ self.new.capacity }
     {
@@ -217,7 +193,7 @@ impl<T: Eq> VecSet<T> {
     // Whether the spare capacity suffices for `additional` more elements.
     fn has_room(&self, additional: usize) -> bool
         ensures room { IsTrue result ↔ HasRoom self.now additional }
-        ensures fits { HasRoom self.now 0 }
+        ensures within_capacity { HasRoom self.now 0 }
     {
         additional <= self.items.capacity() - self.items.len()
     }

@@ -1,5 +1,5 @@
 //! One command on a set, and its reply.
-ghost use Rattle.vecmap.specs.SetRun.{Effect, StepSet};
+ghost use Rattle.vecmap.specs.SetRun.{Effect, Step};
 ghost use Rattle.vecmap_base.specs.Clones.{ClonesAreSame};
 
 mod make;
@@ -17,8 +17,8 @@ use vecmap_set::laws::elements_fit_the_capacity;
 
 /// Runs one command and returns its reply.
 pub(crate) fn step<T: Eq + Clone>(set: &mut VecSet<T>, command: SetCommand<T>) -> SetReply<T>
-    requires same { ClonesAreSame T.eq T.is_clone }
-    ensures { StepSet T.eq T.Clone set.old command result set.new }
+    requires clones_equal { ClonesAreSame T.eq T.is_clone }
+    ensures { Step T.eq T.Clone set.old command result set.new }
 {
     let reply = act(set, command);
     elements_fit_the_capacity(set);
@@ -27,7 +27,7 @@ pub(crate) fn step<T: Eq + Clone>(set: &mut VecSet<T>, command: SetCommand<T>) -
 
 // Runs one command; the contract says what becomes of the list and of the capacity.
 fn act<T: Eq + Clone>(set: &mut VecSet<T>, command: SetCommand<T>) -> SetReply<T>
-    requires same { ClonesAreSame T.eq T.is_clone }
+    requires clones_equal { ClonesAreSame T.eq T.is_clone }
     ensures { Effect T.eq T.Clone set.old command result set.new }
 {
     match command {

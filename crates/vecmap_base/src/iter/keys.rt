@@ -3,12 +3,13 @@
 //! In contracts an iterator is the list of the keys that it has left. `next` removes the first of them and returns it,
 //! and `next_back` the last, in constant time. Once the list is empty, both return `None`. Only the `clone` of
 //! `IntoKeys` allocates, and its time is linear in the length of the list.
-ghost use Rattle.std.specs.Prelude.{◌≡◌, ◌<◌, ◌^◌, IfOk, IfSome, length};
+ghost use Rattle.std.specs.Prelude.{◌≡◌, IfOk, IfSome, length};
 ghost use Rattle.std.specs.Iterator.{UpTo, at_most};
 ghost use Rattle.std.specs.Iterator.SizeHint.{IsWithinCount};
 ghost use Rattle.std.specs.Map.{keys_of};
-ghost use Rattle.std.specs.Map.Iter.{GivesInOrder, GivesInReverse, ShowsInOrder, ShowsInReverse, TakesFirst, TakesLast, deref};
+ghost use Rattle.std.specs.Map.Iter.{TakesFirst, TakesLast, deref};
 ghost use Rattle.vecmap_base.specs.Clones.{AreClones};
+ghost use Rattle.vecmap_base.specs.Walks.{GivesAll, ShowsAll};
 
 use std::alloc::AllocError;
 use std::collections::VecDeque;
@@ -52,10 +53,7 @@ impl<'a, K, V> Keys<'a, K, V> {
     /// keys.next_back() // Some(&'b')
     /// ```
     pub fn over(pairs: &'a [(K, V)]) -> Keys<'a, K, V>
-        ensures rest { result ≡ keys_of pairs.now }
-        ensures fits { length result < 2 ^ 64 }
-        ensures runs { ShowsInOrder (deref {X = K}) }
-        ensures runs_back { ShowsInReverse (deref {X = K}) }
+        ensures { ShowsAll deref (keys_of pairs.now) result }
     {
         Keys {
             pairs: pairs.iter(),
@@ -173,10 +171,7 @@ impl<K, V> IntoKeys<K, V> {
     /// keys.next() // Some('a')
     /// ```
     pub fn over(pairs: Vec<(K, V)>) -> IntoKeys<K, V>
-        ensures rest { result ≡ keys_of pairs.items }
-        ensures fits { length result < 2 ^ 64 }
-        ensures runs { GivesInOrder K }
-        ensures runs_back { GivesInReverse K }
+        ensures { GivesAll (keys_of pairs.items) result }
     {
         IntoKeys {
             pairs: VecDeque::from_vec(pairs),

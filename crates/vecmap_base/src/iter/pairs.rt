@@ -3,11 +3,12 @@
 //! In contracts an iterator is the list of the pairs that it has left. `next` removes the first of them and returns it,
 //! and `next_back` the last, in constant time. Once the list is empty, both return `None`. Only the `clone` of
 //! `IntoIter` allocates, and its time is linear in the length of the list.
-ghost use Rattle.std.specs.Prelude.{◌≡◌, ◌<◌, ◌^◌, IfOk, IfSome, length};
+ghost use Rattle.std.specs.Prelude.{◌≡◌, IfOk, IfSome, length};
 ghost use Rattle.std.specs.Iterator.{UpTo, at_most};
 ghost use Rattle.std.specs.Iterator.SizeHint.{IsWithinCount};
-ghost use Rattle.std.specs.Map.Iter.{GivesInOrder, GivesInReverse, ShowsInOrder, ShowsInReverse, ShowsValuesInOrder, ShowsValuesInReverse, TakesFirst, TakesLast, deref_pair};
+ghost use Rattle.std.specs.Map.Iter.{ShowsValuesInOrder, ShowsValuesInReverse, TakesFirst, TakesLast, deref_pair};
 ghost use Rattle.vecmap_base.specs.Clones.{AreClones, IsPairClone};
+ghost use Rattle.vecmap_base.specs.Walks.{GivesAll, ShowsAll};
 
 use std::alloc::AllocError;
 use std::collections::VecDeque;
@@ -50,10 +51,7 @@ impl<'a, K, V> Iter<'a, K, V> {
     /// pairs.next_back() // Some((&'b', &2))
     /// ```
     pub fn over(pairs: &'a [(K, V)]) -> Iter<'a, K, V>
-        ensures rest { result ≡ pairs.now }
-        ensures fits { length result < 2 ^ 64 }
-        ensures runs { ShowsInOrder (deref_pair {K = K} {X = V}) }
-        ensures runs_back { ShowsInReverse (deref_pair {K = K} {X = V}) }
+        ensures rest { ShowsAll deref_pair pairs.now result }
         ensures values_run { ShowsValuesInOrder (deref_pair {K = K} {X = V}) }
         ensures values_run_back { ShowsValuesInReverse (deref_pair {K = K} {X = V}) }
     {
@@ -172,10 +170,7 @@ impl<K, V> IntoIter<K, V> {
     /// pairs.next() // Some(('a', 1))
     /// ```
     pub fn over(pairs: Vec<(K, V)>) -> IntoIter<K, V>
-        ensures rest { result ≡ pairs.items }
-        ensures fits { length result < 2 ^ 64 }
-        ensures runs { GivesInOrder (K × V) }
-        ensures runs_back { GivesInReverse (K × V) }
+        ensures rest { GivesAll pairs.items result }
         ensures values_run { ShowsValuesInOrder (λ (p : K × V). p) }
         ensures values_run_back { ShowsValuesInReverse (λ (p : K × V). p) }
     {

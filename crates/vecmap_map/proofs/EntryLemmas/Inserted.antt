@@ -35,7 +35,7 @@ module _ {K V : Type 0} (is_clone : K → K → Type 0) where
     index = refl;
     value = value_written o.map.now.entries o.index o.within v;
     entries = refl;
-    room = record { capacity = le_refl _; there = λ _. refl; spare = λ _. refl };
+    capacity = record { capacity = le_refl _; present = λ _. refl; spare = λ _. refl };
     write = with_value_twice o.map.now.entries o.index o.within v;
     removal = remove_written o.map.now.entries o.index o.within v;
     swap_removal = swap_without_written o.map.now.entries o.index o.within v;
@@ -52,7 +52,7 @@ module _ {K V : Type 0} (is_clone : K → K → Type 0) where
         index = end;
         value = (λ j. value_at (put j) (end j)) ∙ value_last l p;
         entries = (k, clone, put);
-        room = room;
+        capacity = room;
         write = λ w. (k, clone, (λ j. with_value (put j) (end j) w) ∙ with_value_last l p w);
         removal = (λ j. remove (put j) (end j)) ∙ remove_last l p;
         swap_removal = (λ j. swap_without (put j) (end j)) ∙ swap_without_last l p;

@@ -249,7 +249,7 @@ impl<'a, K, V> OccupiedEntry<'a, K, V> {
         K: Clone,
         V: Drop,
         ensures* err { sem 𝓛 (entry_passes K.row V.row (Occupied self.entry) result) }
-        ensures ok { IfOk result (IsInserted K.is_clone (Occupied self.entry) value) }
+        ensures inserted { IfOk result (IsInserted K.is_clone (Occupied self.entry) value) }
         ensures succeeds { IsOk result }
     {
         let OccupiedEntry { map, key, index } = self;

@@ -121,7 +121,7 @@ impl<'a, K, V> VacantEntry<'a, K, V> {
     pub fn insert_entry(self, value: V) -> Result<OccupiedEntry<'a, K, V>, Refused<(K, V)>>
     where
         K: Clone,
-        ensures ok { IfOk result (IsInserted K.is_clone (Vacant self.entry) value) }
+        ensures inserted { IfOk result (IsInserted K.is_clone (Vacant self.entry) value) }
 
         // On `Err` the pair is returned. If the clone of the key cannot fail, this happens only in a full map.
         ensures* err { sem 𝓛 (entry_passes K.row V.row (Vacant self.entry) result) }

@@ -1,5 +1,5 @@
 //! Laws of lookups, indices and lengths after insertions and removals.
-ghost use Rattle.std.specs.Prelude.{◌≡◌, ◌+◌, ◌++◌, ◌<◌, ◌∷◌, ℕ, IsSome, List, None, Option, Some, [], drop, false, if◌then◌else◌, is_some, length, option_map, slice_get, take, true, unwrap_or};
+ghost use Rattle.std.specs.Prelude.{◌≡◌, ◌+◌, ◌++◌, ◌∷◌, ℕ, IsSome, List, None, Some, [], drop, false, if◌then◌else◌, is_some, length, option_map, slice_get, take, true, unwrap_or};
 ghost use Rattle.std.specs.Map.{keys_of};
 ghost use Rattle.std.specs.Option.{option_map_or, option_or};
 ghost use Rattle.vecmap_base.specs.Items.{add, adds, without_item};
@@ -14,7 +14,7 @@ pub fn equal_keys_find_the_same<K: Eq, V>()
         → lookup K.eq l x ≡ lookup K.eq l y }
     ensures place { (l : List (K × V)) (x y : K) → K.eq x y ≡ true
         → index_of K.eq l x ≡ index_of K.eq l y }
-    ensures there { (l : List (K × V)) (k : K)
+    ensures present { (l : List (K × V)) (k : K)
         → is_some (lookup K.eq l k) ≡ is_some (index_of K.eq l k) }
 {}
 
@@ -34,7 +34,7 @@ pub fn insertions_are_found<K: Eq, V>()
     ensures value { (l : List (K × V)) (k : K) (v : V) → lookup K.eq (put K.eq l k v) k ≡ Some v }
     ensures others { (l : List (K × V)) (k : K) (v : V) (q : K) → K.eq k q ≡ false
         → lookup K.eq (put K.eq l k v) q ≡ lookup K.eq l q }
-    ensures each { (l : List (K × V)) (k : K) (v : V) (q : K)
+    ensures lookups { (l : List (K × V)) (k : K) (v : V) (q : K)
         → lookup K.eq (put K.eq l k v) q ≡ (if K.eq k q then Some v else lookup K.eq l q) }
     ensures with_key { (l : List (K × V)) (k : K) (v : V) (q : K)
         → lookup K.eq (put_key K.eq l k v) q ≡ lookup K.eq (put K.eq l k v) q }
@@ -43,7 +43,7 @@ pub fn insertions_are_found<K: Eq, V>()
         ≡ (if K.eq k q then Some (index_or_length K.eq l k) else index_of K.eq l q) }
     ensures keys { (l : List (K × V)) (k : K) (v : V)
         → keys_of (put K.eq l k v) ≡ add K.eq (keys_of l) k }
-    ensures last { (l : List (K × V)) (k : K) (v : V) → index_of K.eq l k ≡ None
+    ensures appended { (l : List (K × V)) (k : K) (v : V) → index_of K.eq l k ≡ None
         → put K.eq l k v ≡ l ++ (k, v) ∷ [] }
     ensures len { (l : List (K × V)) (k : K) (v : V)
         → length (put K.eq l k v)
@@ -54,7 +54,7 @@ pub fn insertions_are_found<K: Eq, V>()
 ///
 /// A write of the value of a key that is present, as through `get_mut`, is an insertion.
 pub fn writes_are_insertions<K: Eq, V>()
-    ensures same { (l : List (K × V)) (k : K) (v : V) → lookup K.eq l k ≡ Some v
+    ensures unchanged { (l : List (K × V)) (k : K) (v : V) → lookup K.eq l k ≡ Some v
         → put K.eq l k v ≡ l }
     ensures write { (m : Contents K V) (k : K) (v : V) → IsSome (index_of K.eq m.entries k)
         → (with_value_of K.eq m k v).entries ≡ put K.eq m.entries k v }
@@ -64,10 +64,10 @@ pub fn writes_are_insertions<K: Eq, V>()
 ///
 /// `or_insert` leaves an existing value as it is.
 pub fn entries_insert_alike<K: Eq + Clone, V>()
-    ensures there { (e : Entry K V) (v : V) (l : List (K × V))
+    ensures present { (e : Entry K V) (v : V) (l : List (K × V))
         → entry_place e ≡ index_of K.eq (entry_map e).entries (entry_key e) → IsSome (entry_place e)
         → AreEntriesWith K.is_clone e v l → l ≡ put K.eq (entry_map e).entries (entry_key e) v }
-    ensures new { (e : Entry K V) (v : V) (l : List (K × V)) → entry_place e ≡ None
+    ensures absent { (e : Entry K V) (v : V) (l : List (K × V)) → entry_place e ≡ None
         → AreEntriesWith K.is_clone e v l → (k : K) × K.is_clone (entry_key e) k
         × (l ≡ (entry_map e).entries ++ (k, v) ∷ []) }
     ensures or_insert { (l : List (K × V)) (k : K) (v : V)
@@ -103,13 +103,13 @@ pub fn removals_are_forgotten<K: Eq, V>()
         → lookup K.eq (without_key K.eq l k) k ≡ None }
     ensures others { (l : List (K × V)) (k q : K) → K.eq k q ≡ false
         → lookup K.eq (without_key K.eq l k) q ≡ lookup K.eq l q }
-    ensures each { (l : List (K × V)) → HasDistinctKeys K.eq l → (k q : K)
+    ensures lookups { (l : List (K × V)) → HasDistinctKeys K.eq l → (k q : K)
         → lookup K.eq (without_key K.eq l k) q ≡ (if K.eq k q then None else lookup K.eq l q) }
     ensures absent { (l : List (K × V)) → HasDistinctKeys K.eq l → (k : K)
         → index_of K.eq (without_key K.eq l k) k ≡ None }
     ensures keys { (l : List (K × V)) (k : K)
         → keys_of (without_key K.eq l k) ≡ without_item K.eq (keys_of l) k }
-    ensures order { (l : List (K × V)) (k : K) (i : ℕ) → index_of K.eq l k ≡ Some i
+    ensures shifted { (l : List (K × V)) (k : K) (i : ℕ) → index_of K.eq l k ≡ Some i
         → without_key K.eq l k ≡ take i l ++ drop (i + 1) l }
 {}
 

@@ -1,5 +1,5 @@
 //! Laws about additions and removals: which elements are left, their indices, and the length.
-ghost use Rattle.std.specs.Prelude.{◌≡◌, ◌+◌, ◌++◌, ◌<◌, ◌∷◌, ℕ, List, Some, [], false, if◌then◌else◌, length, slice_get, true, unwrap_or};
+ghost use Rattle.std.specs.Prelude.{◌≡◌, ◌++◌, ◌<◌, ◌∷◌, ℕ, List, Some, [], false, if◌then◌else◌, length, slice_get, true, unwrap_or};
 ghost use Rattle.std.specs.List.{IsDistinct};
 ghost use Rattle.vecmap_base.specs.Items.{add, add_new, adds, has_item, item_index, without_item};
 
@@ -26,8 +26,8 @@ pub fn additions_move_nothing<T: Eq>()
         (unwrap_or (item_index T.eq s x) (length s)) else item_index T.eq s y) }
     ensures element { (s : List T) (x : T) (i : ℕ) → i < length s
         → slice_get (add T.eq s x) i ≡ slice_get s i }
-    ensures there { (s : List T) (x : T) → has_item T.eq s x ≡ true → add T.eq s x ≡ s }
-    ensures last { (s : List T) (x : T) → has_item T.eq s x ≡ false → add T.eq s x ≡ s ++ x ∷ [] }
+    ensures present { (s : List T) (x : T) → has_item T.eq s x ≡ true → add T.eq s x ≡ s }
+    ensures appended { (s : List T) (x : T) → has_item T.eq s x ≡ false → add T.eq s x ≡ s ++ x ∷ [] }
 {}
 
 /// Adding many elements is the same as adding each of them in order. Distinct elements that are added to an empty set

@@ -2,7 +2,7 @@
 ghost use Rattle.std.specs.Prelude.{◌≡◌, ◌↔◌, List, []};
 ghost use Rattle.vecmap_base.specs.Items.{both, has_item, only};
 ghost use Rattle.vecmap_set.specs.Algebra.{AgreeAsSets, IgnoresSides, LengthsAddUp, MakesSets};
-ghost use Rattle.vecmap_set.specs.Lazy.{JoinsFirst, JoinsLast, PairsFirst, PairsLast, PullsAsList, SiftsFirst, SiftsLast, joined, lacks_item, paired, sifted};
+ghost use Rattle.vecmap_set.specs.Lazy.{ExcludesFirst, ExcludesLast, JoinsFirst, JoinsLast, PullsAsList, SiftsFirst, SiftsLast, exclusive, joined, lacks_item, sifted};
 ghost use Rattle.vecmap_set.specs.Operators.{lazy_intersection, lazy_union, symmetric_difference_of, union_of};
 
 /// Any mixture of pulls from both ends of a lazy iterator returns the same as pulls from its list.
@@ -13,7 +13,8 @@ pub fn lazy_iterators_pull_as_lists<T: Eq>()
         (SiftsLast (lacks_item T.eq)) }
     ensures intersection { PullsAsList (sifted (has_item T.eq)) (SiftsFirst (has_item T.eq))
         (SiftsLast (has_item T.eq)) }
-    ensures symmetric_difference { PullsAsList (paired T.eq) (PairsFirst T.eq) (PairsLast T.eq) }
+    ensures symmetric_difference { PullsAsList (exclusive T.eq) (ExcludesFirst T.eq)
+        (ExcludesLast T.eq) }
     ensures union { PullsAsList (joined T.eq) (JoinsFirst T.eq) (JoinsLast T.eq) }
 {}
 

@@ -2,7 +2,7 @@
 ghost use Rattle.std.specs.Prelude.{◌≡◌, ◌+◌, IfSome, length};
 ghost use Rattle.std.specs.Iterator.{UpTo, at_most};
 ghost use Rattle.std.specs.Iterator.SizeHint.{IsWithinCount};
-ghost use Rattle.vecmap_set.specs.Lazy.{IsBound, PairsFirst, PairsInOrder, PairsInReverse, PairsLast, paired, symmetric_parts};
+ghost use Rattle.vecmap_set.specs.Lazy.{ExcludesFirst, ExcludesInOrder, ExcludesInReverse, ExcludesLast, IsBound, exclusive, symmetric_parts};
 
 use super::{Difference, add_bounds};
 use std::fmt;
@@ -46,8 +46,8 @@ impl<'a, T: Eq> SymmetricDifference<'a, T> {
     // lacks.
     pub(crate) fn over(items: &'a [T], other: &'a [T]) -> SymmetricDifference<'a, T>
         ensures rest { result ≡ symmetric_parts items.now other.now }
-        ensures runs { PairsInOrder T.eq }
-        ensures runs_back { PairsInReverse T.eq }
+        ensures runs { ExcludesInOrder T.eq }
+        ensures runs_back { ExcludesInReverse T.eq }
     {
         SymmetricDifference {
             first: Difference::over(items, other),
@@ -80,9 +80,9 @@ impl<'a, T: Eq> SymmetricDifference<'a, T> {
 impl<'a, T: Eq> Iterator for SymmetricDifference<'a, T> {
     type Item = &'a T;
 
-    ghost next_gives = { PairsFirst T.eq };
+    ghost next_gives = { ExcludesFirst T.eq };
 
-    ghost remaining = { λ s. at_most (length (paired T.eq s)) };
+    ghost remaining = { λ s. at_most (length (exclusive T.eq s)) };
 
     fn next(&mut self) -> Option<&'a T> {
         if let Some(item) = self.first.next() {
@@ -95,8 +95,8 @@ impl<'a, T: Eq> Iterator for SymmetricDifference<'a, T> {
     ///
     /// There is no upper bound if that number exceeds `usize::MAX`.
     fn size_hint(&self) -> (usize, Option<usize>)
-        ensures lower { IsWithinCount result.0 (at_most (length (paired T.eq self.now))) }
-        ensures upper { IfSome result.1 (UpTo (at_most (length (paired T.eq self.now)))) }
+        ensures lower { IsWithinCount result.0 (at_most (length (exclusive T.eq self.now))) }
+        ensures upper { IfSome result.1 (UpTo (at_most (length (exclusive T.eq self.now)))) }
         ensures lower_hint { result.0 ≡ 0 }
         ensures upper_hint { IsBound result.1
             (length self.now.first.unwalked + length self.now.second.unwalked) }
@@ -108,7 +108,7 @@ impl<'a, T: Eq> Iterator for SymmetricDifference<'a, T> {
 }
 
 impl<'a, T: Eq> DoubleEndedIterator for SymmetricDifference<'a, T> {
-    ghost next_back_gives = { PairsLast T.eq };
+    ghost next_back_gives = { ExcludesLast T.eq };
 
     fn next_back(&mut self) -> Option<&'a T> {
         if let Some(item) = self.second.next_back() {

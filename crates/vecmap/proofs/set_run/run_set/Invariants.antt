@@ -1,12 +1,12 @@
 use Rattle.std.proofs.Common.{◌≡◌, ◌+◌, ◌≤◌, ◌++◌}
 use Rattle.std.specs.Vec.{vec_len, vec_capacity}
 use Rattle.std.specs.Vec.Iter.{into_iter_items, into_iter_len}
-use Rattle.vecmap.specs.SetRun.{RunSet}
+use Rattle.vecmap.specs.SetRun.{Run}
 use Rattle.vecmap.proofs.set_run.run_set.Given as goal
 
 abbrev pub invariant-loop-command : goal.invariant-loop-command
 invariant-loop-command g l = record {
-  run : RunSet g.T.PartialEq.eq g.T.Clone l.fn.set l.yielded l.replies.items l.set;
+  run : Run g.T.PartialEq.eq g.T.Clone l.fn.set l.yielded l.replies.items l.set;
   rest : l.fn.commands.items ≡ l.yielded ++ into_iter_items l.command-iterator;
   room : vec_len l.replies + into_iter_len l.command-iterator ≤ vec_capacity l.replies;
 }

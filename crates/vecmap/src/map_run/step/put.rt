@@ -90,7 +90,7 @@ fn put_if_new<K: Eq + Clone, V: Eq + Clone>(
         ≡ not (is_some (index_of K.eq map.old.entries key))) }
     ensures entries { OnOk result (map.new.entries
         ≡ put K.eq map.old.entries key (unwrap_or (lookup K.eq map.old.entries key) value)) }
-    ensures room { KeepsRoom K.eq map.old key map.new }
+    ensures capacity { KeepsRoom K.eq map.old key map.new }
     ensures err { OnErr result (Refuses K.eq map.old key map.new) }
 {
     let entry = map.entry(key);

@@ -16,8 +16,8 @@ returns-then-eq-clause-unmarked g c =
     let within = c.in_ok-first.ensures.within in
     sym (get_or_default c.args.taken.now c.in_ok-first.first false true (omega (arith, within, c.requires.enough))) ∙ c.if-not-taken-first.true
 
-pub returns-then-eq-clause-same : goal.returns-then-eq-clause-same
-returns-then-eq-clause-same g c =
+pub returns-then-eq-clause-equal : goal.returns-then-eq-clause-equal
+returns-then-eq-clause-equal g c =
     let pairs = c.args.pairs.now in
     let pair = c.args.pair.now in
     let first = c.in_ok-first.first in

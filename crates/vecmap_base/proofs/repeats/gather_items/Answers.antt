@@ -13,7 +13,7 @@ use Rattle.vecmap_base.proofs.repeats.gather_items.Goals.{then-not-is_repeat, el
 
 pub is_repeat-requires : goal.is_repeat-requires
 is_repeat-requires g c = record {
-  countable = omega (arith, length-take c.loop-i.kept c.loop-i.items, comparisons_below g.T.PartialEq.eq c.args.items.now c.loop-i.i c.loop-i-test.true);
+  bounded = omega (arith, length-take c.loop-i.kept c.loop-i.items, comparisons_below g.T.PartialEq.eq c.args.items.now c.loop-i.i c.loop-i-test.true);
 }
 
 pub loop-i-preserved : goal.loop-i-preserved
@@ -33,7 +33,7 @@ loop-i-preserved g c =
     let next : x ≡ get_or xs i x = c.index-shared-i.is ∙ rest.0 in
     let next_steps : c.is_repeat.new.steps ≡ c.loop-i.steps + search_cost eq s (get_or xs i x) = c.is_repeat.ensures.counted ∙ (λ t. c.loop-i.steps + search_cost eq (was.front t) (next t)) in
     let counted : c.is_repeat.new.steps ≡ c.args.steps.now + comparisons eq (take (i + 1) xs) = omega (arith, next_steps, was.counted, comparisons_more eq xs i x l) in
-    let answer : c.is_repeat.result ≡ has_item eq s (get_or xs i x) = c.is_repeat.ensures.answer ∙ (λ t. has_item eq (was.front t) (next t)) in
+    let answer : c.is_repeat.result ≡ has_item eq s (get_or xs i x) = c.is_repeat.ensures.repeat ∙ (λ t. has_item eq (was.front t) (next t)) in
     elim c.if-not-is_repeat.branch [
       | then-not-is_repeat w ↦
           rw (w.items-is, w.kept-is) (

@@ -16,7 +16,7 @@ use Rattle.vecmap_base.proofs.repeats.gather_pairs.Goals.{in-Some, in-None}
 
 pub find_repeat-requires : goal.find_repeat-requires
 find_repeat-requires g c = record {
-  countable = omega (arith, length-take c.loop-i.kept c.loop-i.pairs, key_comparisons_below g.K.PartialEq.eq c.args.pairs.now c.loop-i.i c.loop-i-test.true);
+  bounded = omega (arith, length-take c.loop-i.kept c.loop-i.pairs, key_comparisons_below g.K.PartialEq.eq c.args.pairs.now c.loop-i.i c.loop-i-test.true);
 }
 
 pub loop-i-preserved : goal.loop-i-preserved

@@ -6,7 +6,7 @@ use Rattle.vecmap_base.proofs.repeats.is_repeat.Goals as goal
 
 pub returns-then-same-clause-counted : goal.returns-then-same-clause-counted
 returns-then-same-clause-counted g c =
-    omega (arith, search_cost_at g.T.PartialEq.eq c.args.front.now c.args.item.now c.loop-stored.stored-index c.stored-item.result c.loop-stored-test.true c.stored-item.is (sym c.same.ensures.answer ∙ c.if-same.true) c.loop-stored.invariant.1)
+    omega (arith, search_cost_at g.T.PartialEq.eq c.args.front.now c.args.item.now c.loop-stored.stored-index c.stored-item.result c.loop-stored-test.true c.stored-item.is (sym c.same.ensures.equal ∙ c.if-same.true) c.loop-stored.invariant.1)
 
 pub returns-clause-counted : goal.returns-clause-counted
 returns-clause-counted g c =

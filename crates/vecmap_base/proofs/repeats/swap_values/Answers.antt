@@ -14,5 +14,5 @@ returns-clause-values g c =
     let front = c.split_at_mut-front.result.0.now in
     let back = c.split_at_mut-front.result.1.now in
     let some : 0 < length back = omega (arith, e.back_len, c.requires.within) in
-    values_of_swapped front back c.args.i c.index-front-i.result c.index-back-0.result c.swap.new.x c.swap.new.y c.args.j e.front_len c.requires.order some c.swap.ensures.x_after c.swap.ensures.y_after
+    values_of_swapped front back c.args.i c.index-front-i.result c.index-back-0.result c.swap.new.x c.swap.new.y c.args.j e.front_len c.requires.before some c.swap.ensures.x_after c.swap.ensures.y_after
     ∙ ap (λ l. swap (values_of l) c.args.i c.args.j) (sym e.value)

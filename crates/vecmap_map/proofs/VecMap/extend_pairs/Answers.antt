@@ -29,5 +29,5 @@ returns-in_err-put_clones-clause-err g c =
       c.next.new.self,
       rw c.into_iter-pair-iterator.ensures.into_iter_gives c.into_iter-items.ensures.into_iter_gives,
       (c.loop-pair.pair-iterator, c.loop-pair.yielded_by, c.in-Some.ensures.steps),
-      (c.loop-pair.invariant.puts, λ k v. let one = c.in_err-put_clones.ensures.full k v in (one.0, one.1, record { same = refl; absent = one.2.absent; full = one.2.full })),
+      (c.loop-pair.invariant.puts, λ k v. let one = c.in_err-put_clones.ensures.full k v in (one.0, one.1, record { unchanged = refl; absent = one.2.absent; full = one.2.full })),
     ))

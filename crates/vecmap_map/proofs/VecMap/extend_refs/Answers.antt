@@ -30,5 +30,5 @@ returns-in_err-put_clones-clause-err g c =
       c.next.new.self,
       rw c.into_iter-key-iterator.ensures.into_iter_gives c.into_iter-items.ensures.into_iter_gives,
       (c.loop-key.key-iterator, c.loop-key.yielded_by, c.in-Some.ensures.steps),
-      (c.loop-key.invariant.puts, λ k v. let one = c.in_err-put_clones.ensures.full k v in (one.0, one.1, record { same = refl; absent = one.2.absent; full = one.2.full })),
+      (c.loop-key.invariant.puts, λ k v. let one = c.in_err-put_clones.ensures.full k v in (one.0, one.1, record { unchanged = refl; absent = one.2.absent; full = one.2.full })),
     ))

@@ -16,5 +16,5 @@ loop-pair-preserved g c =
     record {
       puts = subst (λ l. TakesClones is_clone (λ done r. put g.K.PartialEq.eq done r.0 r.1) [] l c.put_clones.new.self.entries) more
           (clone_taken is_clone (λ done r. put g.K.PartialEq.eq done r.0 r.1) [] (take i pairs) c.loop-pair.map.entries c.put_clones.new.self.entries p (one.0, one.1) c.loop-pair.invariant.puts (one.2, one.3) one.4);
-      room = omega (arith, c.put_clones.ensures.room.capacity, c.loop-pair.invariant.room);
+      room = omega (arith, c.put_clones.ensures.capacity.capacity, c.loop-pair.invariant.room);
     }

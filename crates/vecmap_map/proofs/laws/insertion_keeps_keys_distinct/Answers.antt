@@ -16,11 +16,11 @@ returns-clause-puts g c = λ l d pairs. distinct_puts g.K.PartialEq.eq g.met.K.E
 pub returns-clause-made : goal.returns-clause-made
 returns-clause-made g c = λ pairs. distinct_puts g.K.PartialEq.eq g.met.K.Eq.laws [] pairs (distinct_none g.K.PartialEq.eq)
 
-pub returns-clause-at : goal.returns-clause-at
-returns-clause-at g c = λ l d i k v. distinct_put_at g.K.PartialEq.eq g.met.K.Eq.laws l i k v d
+pub returns-clause-put_at : goal.returns-clause-put_at
+returns-clause-put_at g c = λ l d i k v. distinct_put_at g.K.PartialEq.eq g.met.K.Eq.laws l i k v d
 
-pub returns-clause-value : goal.returns-clause-value
-returns-clause-value g c = λ l d i v. distinct_keys_with_value g.K.PartialEq.eq l i v d
+pub returns-clause-with_value : goal.returns-clause-with_value
+returns-clause-with_value g c = λ l d i v. distinct_keys_with_value g.K.PartialEq.eq l i v d
 
-pub returns-clause-key : goal.returns-clause-key
-returns-clause-key g c = λ l d k v. distinct_put_key g.K.PartialEq.eq g.met.K.Eq.laws l k v d
+pub returns-clause-put_key : goal.returns-clause-put_key
+returns-clause-put_key g c = λ l d k v. distinct_put_key g.K.PartialEq.eq g.met.K.Eq.laws l k v d

@@ -3,7 +3,7 @@ use Rattle.vecmap_set.proofs.VecSet.clone.Goals as goal
 
 pub invariant_of-result : goal.invariant_of-result
 invariant_of-result g c =
-    let same = rw (← c.self.view_is) at c.requires.same in
+    let same = rw (← c.self.view_is) at c.requires.clones_equal in
     distinct_clones_of g.T.PartialEq.eq g.met.T.Eq.laws g.T.Clone.is_clone _ _ same c.in_ok-clone.ensures.cases.0 c.self.invariant
 
 pub returns-clause-distinct : goal.returns-clause-distinct

@@ -1,8 +1,7 @@
+use Rattle.std.proofs.Common.{arith}
+use Rattle.std.proofs.lemmas.Grind.{common_steps}
 use Rattle.vecmap_base.proofs.WalkLemmas.{gives_in_order, gives_in_reverse}
 use Rattle.vecmap_base.proofs.items.IntoIter.over.Goals as goal
 
-pub returns-clause-runs : goal.returns-clause-runs
-returns-clause-runs g c = gives_in_order
-
-pub returns-clause-runs_back : goal.returns-clause-runs_back
-returns-clause-runs_back g c = gives_in_reverse
+pub returns : goal.returns
+returns g c = (grind (arith, common_steps), grind (arith, common_steps), gives_in_order, gives_in_reverse)

@@ -1,9 +1,8 @@
+use Rattle.std.proofs.Common.{arith}
+use Rattle.std.proofs.lemmas.Grind.{common_steps}
 use Rattle.vecmap_base.specs.Walks.{deref_mut}
 use Rattle.vecmap_base.proofs.WalkLemmas.{shows_in_order, shows_in_reverse}
 use Rattle.vecmap_base.proofs.iter_mut.ValuesMut.over.Goals as goal
 
-pub returns-clause-runs : goal.returns-clause-runs
-returns-clause-runs g c = shows_in_order deref_mut
-
-pub returns-clause-runs_back : goal.returns-clause-runs_back
-returns-clause-runs_back g c = shows_in_reverse deref_mut
+pub returns : goal.returns
+returns g c = (grind (arith, common_steps), grind (arith, common_steps), shows_in_order deref_mut, shows_in_reverse deref_mut)

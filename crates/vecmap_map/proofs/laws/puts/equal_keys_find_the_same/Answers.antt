@@ -8,5 +8,5 @@ returns-clause-value g c = lookup_congr g.K.PartialEq.eq g.met.K.Eq.laws
 pub returns-clause-place : goal.returns-clause-place
 returns-clause-place g c = index_of_congr g.K.PartialEq.eq g.met.K.Eq.laws
 
-pub returns-clause-there : goal.returns-clause-there
-returns-clause-there g c = is_some_lookup g.K.PartialEq.eq
+pub returns-clause-present : goal.returns-clause-present
+returns-clause-present g c = is_some_lookup g.K.PartialEq.eq

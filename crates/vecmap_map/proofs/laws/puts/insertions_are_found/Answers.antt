@@ -11,8 +11,8 @@ returns-clause-value g c = lookup_put g.K.PartialEq.eq g.met.K.Eq.laws
 pub returns-clause-others : goal.returns-clause-others
 returns-clause-others g c = lookup_put_other g.K.PartialEq.eq g.met.K.Eq.laws
 
-pub returns-clause-each : goal.returns-clause-each
-returns-clause-each g c = lookup_put_any g.K.PartialEq.eq g.met.K.Eq.laws
+pub returns-clause-lookups : goal.returns-clause-lookups
+returns-clause-lookups g c = lookup_put_any g.K.PartialEq.eq g.met.K.Eq.laws
 
 pub returns-clause-with_key : goal.returns-clause-with_key
 returns-clause-with_key g c = lookup_put_key g.K.PartialEq.eq g.met.K.Eq.laws
@@ -23,8 +23,8 @@ returns-clause-place g c = index_of_put g.K.PartialEq.eq g.met.K.Eq.laws
 pub returns-clause-keys : goal.returns-clause-keys
 returns-clause-keys g c = keys_of_put g.K.PartialEq.eq
 
-pub returns-clause-last : goal.returns-clause-last
-returns-clause-last g c = put_absent g.K.PartialEq.eq
+pub returns-clause-appended : goal.returns-clause-appended
+returns-clause-appended g c = put_absent g.K.PartialEq.eq
 
 pub returns-clause-len : goal.returns-clause-len
 returns-clause-len g c = length_put g.K.PartialEq.eq

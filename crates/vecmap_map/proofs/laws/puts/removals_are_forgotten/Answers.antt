@@ -15,8 +15,8 @@ returns-clause-value g c = λ l d k. lookup_without_key g.K.PartialEq.eq g.met.K
 pub returns-clause-others : goal.returns-clause-others
 returns-clause-others g c = lookup_without_key_other g.K.PartialEq.eq g.met.K.Eq.laws
 
-pub returns-clause-each : goal.returns-clause-each
-returns-clause-each g c = λ l d k q. lookup_without_any g.K.PartialEq.eq g.met.K.Eq.laws l k q d
+pub returns-clause-lookups : goal.returns-clause-lookups
+returns-clause-lookups g c = λ l d k q. lookup_without_any g.K.PartialEq.eq g.met.K.Eq.laws l k q d
 
 pub returns-clause-absent : goal.returns-clause-absent
 returns-clause-absent g c = λ l d k. index_of_without_key g.K.PartialEq.eq g.met.K.Eq.laws l k d
@@ -24,5 +24,5 @@ returns-clause-absent g c = λ l d k. index_of_without_key g.K.PartialEq.eq g.me
 pub returns-clause-keys : goal.returns-clause-keys
 returns-clause-keys g c = keys_of_without_key g.K.PartialEq.eq
 
-pub returns-clause-order : goal.returns-clause-order
-returns-clause-order g c = λ l k i e. let gone : without_key g.K.PartialEq.eq l k ≡ remove l i = ap (λ found. option_map_or (λ j. remove l j) found l) e in simp unary_clauses gone
+pub returns-clause-shifted : goal.returns-clause-shifted
+returns-clause-shifted g c = λ l k i e. let gone : without_key g.K.PartialEq.eq l k ≡ remove l i = ap (λ found. option_map_or (λ j. remove l j) found l) e in simp unary_clauses gone

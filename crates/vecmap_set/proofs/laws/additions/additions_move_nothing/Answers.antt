@@ -8,8 +8,8 @@ returns-clause-place g c = item_index_add g.T.PartialEq.eq g.met.T.Eq.laws
 pub returns-clause-element : goal.returns-clause-element
 returns-clause-element g c = slice_get_add g.T.PartialEq.eq
 
-pub returns-clause-there : goal.returns-clause-there
-returns-clause-there g c = add_present g.T.PartialEq.eq
+pub returns-clause-present : goal.returns-clause-present
+returns-clause-present g c = add_present g.T.PartialEq.eq
 
-pub returns-clause-last : goal.returns-clause-last
-returns-clause-last g c = add_absent g.T.PartialEq.eq
+pub returns-clause-appended : goal.returns-clause-appended
+returns-clause-appended g c = add_absent g.T.PartialEq.eq

@@ -2,7 +2,7 @@
 use Rattle.std.specs.Map.Iter.{deref}
 use Rattle.vecmap_base.specs.Items.{has_item}
 use Rattle.vecmap_base.proofs.WalkLemmas.{pulls_by}
-use Rattle.vecmap_set.specs.Lazy.{JoinsFirst, JoinsLast, PairsFirst, PairsLast, SiftsFirst, SiftsLast, joined, lacks_item, paired, sifted}
+use Rattle.vecmap_set.specs.Lazy.{ExcludesFirst, ExcludesLast, JoinsFirst, JoinsLast, SiftsFirst, SiftsLast, exclusive, joined, lacks_item, sifted}
 use Rattle.vecmap_set.proofs.laws.algebra.lazy_iterators_pull_as_lists.Goals as goal
 
 pub returns-clause-difference : goal.returns-clause-difference
@@ -18,7 +18,7 @@ returns-clause-intersection g c =
 pub returns-clause-symmetric_difference : goal.returns-clause-symmetric_difference
 returns-clause-symmetric_difference g c =
     let eq = g.T.PartialEq.eq in
-    λ s t ends items h. pulls_by deref (paired eq) (PairsFirst eq) (PairsLast eq) (λ s r t k. k.0) (λ s r t k. k.0) s ends items t h
+    λ s t ends items h. pulls_by deref (exclusive eq) (ExcludesFirst eq) (ExcludesLast eq) (λ s r t k. k.0) (λ s r t k. k.0) s ends items t h
 
 pub returns-clause-union : goal.returns-clause-union
 returns-clause-union g c =

@@ -2,7 +2,7 @@
 -- distinct.
 use Rattle.std.proofs.Common.{◌≡◌, ◌∙◌, ap}
 use Rattle.vecmap_base.proofs.EqualityLemmas.Relations.{distinct_symmetric_difference}
-use Rattle.vecmap_set.specs.Lazy.{PairsFirst, paired}
+use Rattle.vecmap_set.specs.Lazy.{ExcludesFirst, exclusive}
 use Rattle.vecmap_set.specs.Operators.{symmetric_difference_of}
 use Rattle.vecmap_set.proofs.OperatorLemmas.{clones_drained}
 use Rattle.vecmap_set.proofs.SetLemmas.{distinct_clones_of}
@@ -13,8 +13,8 @@ invariant_of-result g c =
     let eq = g.T.PartialEq.eq in
     let a = c.self.inside.items.items in
     let b = c.other.inside.items.items in
-    let given : (paired eq) c.over-apart.result ≡ symmetric_difference_of eq a b = ap (paired eq) c.over-apart.ensures.rest ∙ (λ j. symmetric_difference_of eq (c.deref.ensures.value j) (c.deref-2.ensures.value j)) in
-    let cloned = clones_drained (PairsFirst eq) (paired eq) (λ s r t h. h.0) g.T.Clone.is_clone c.over-apart.result (symmetric_difference_of eq a b) c.in_ok-clones_of.field-0.items given c.in_ok-clones_of.ensures in
+    let given : (exclusive eq) c.over-apart.result ≡ symmetric_difference_of eq a b = ap (exclusive eq) c.over-apart.ensures.rest ∙ (λ j. symmetric_difference_of eq (c.deref.ensures.value j) (c.deref-2.ensures.value j)) in
+    let cloned = clones_drained (ExcludesFirst eq) (exclusive eq) (λ s r t h. h.0) g.T.Clone.is_clone c.over-apart.result (symmetric_difference_of eq a b) c.in_ok-clones_of.field-0.items given c.in_ok-clones_of.ensures in
     let same = rw (← c.self.view_is, ← c.other.view_is) at c.requires in
     distinct_clones_of eq g.met.T.Eq.laws g.T.Clone.is_clone (symmetric_difference_of eq a b) c.in_ok-clones_of.field-0.items same cloned (distinct_symmetric_difference eq g.met.T.Eq.laws a b c.self.invariant c.other.invariant)
 
@@ -23,6 +23,6 @@ returns g c =
     let eq = g.T.PartialEq.eq in
     let a = c.self.inside.items.items in
     let b = c.other.inside.items.items in
-    let given : (paired eq) c.over-apart.result ≡ symmetric_difference_of eq a b = ap (paired eq) c.over-apart.ensures.rest ∙ (λ j. symmetric_difference_of eq (c.deref.ensures.value j) (c.deref-2.ensures.value j)) in
-    let cloned = clones_drained (PairsFirst eq) (paired eq) (λ s r t h. h.0) g.T.Clone.is_clone c.over-apart.result (symmetric_difference_of eq a b) c.in_ok-clones_of.field-0.items given c.in_ok-clones_of.ensures in
+    let given : (exclusive eq) c.over-apart.result ≡ symmetric_difference_of eq a b = ap (exclusive eq) c.over-apart.ensures.rest ∙ (λ j. symmetric_difference_of eq (c.deref.ensures.value j) (c.deref-2.ensures.value j)) in
+    let cloned = clones_drained (ExcludesFirst eq) (exclusive eq) (λ s r t h. h.0) g.T.Clone.is_clone c.over-apart.result (symmetric_difference_of eq a b) c.in_ok-clones_of.field-0.items given c.in_ok-clones_of.ensures in
     rw (← c.self.view_is, ← c.other.view_is) (cloned, invariant_of-result g c)

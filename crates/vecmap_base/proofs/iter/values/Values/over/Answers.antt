@@ -1,9 +1,8 @@
+use Rattle.std.proofs.Common.{arith}
+use Rattle.std.proofs.lemmas.Grind.{common_steps}
 use Rattle.std.specs.Map.Iter.{deref}
 use Rattle.vecmap_base.proofs.WalkLemmas.{shows_in_order, shows_in_reverse}
 use Rattle.vecmap_base.proofs.iter.values.Values.over.Goals as goal
 
-pub returns-clause-runs : goal.returns-clause-runs
-returns-clause-runs g c = shows_in_order deref
-
-pub returns-clause-runs_back : goal.returns-clause-runs_back
-returns-clause-runs_back g c = shows_in_reverse deref
+pub returns : goal.returns
+returns g c = (grind (arith, common_steps), grind (arith, common_steps), shows_in_order deref, shows_in_reverse deref)
