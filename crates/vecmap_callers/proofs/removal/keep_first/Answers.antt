@@ -1,3 +1,4 @@
+-- Idea: the closure lowers its count at each call, so it keeps pairs exactly while the count is above zero.
 use Rattle.std.specs.Prelude.{◌≡◌, ℕ, ◌-◌, Bool, true, List, [], ◌∷◌, if◌then◌else◌, nat_lt, refl, take, zero, suc}
 use Rattle.std.proofs.Common.{ap, arith, rules, ◌∙◌}
 use Rattle.std.proofs.lemmas.Bool.Decides.{nat_tests}

@@ -1,3 +1,4 @@
+-- Idea: one more word adds one to its own count, so the counts are always those of the words so far.
 use Rattle.std.specs.Prelude.{◌≡◌, ◌+◌}
 use Rattle.std.specs.Map.{keys_of}
 use Rattle.std.proofs.Common.{ap, arith, ◌∙◌}
