@@ -19,7 +19,7 @@ unfolding IsDistinct
 no_names = tt
 
 pub document_of_none : (l : List (List ℕ × Stored)) → l ≡ [] → IsDocument (sections_of l)
-document_of_none l e = subst (λ m. IsDocument (sections_of m)) (sym e) (record { distinct = no_names; each = All-nil (λ p. IsSection p.1) })
+document_of_none l e = subst (λ m. IsDocument (sections_of m)) (sym e) (record { distinct = no_names; sections = All-nil (λ p. IsSection p.1) })
 
 pub names_apart : (l : List (List ℕ × Stored)) → IsDocument (sections_of l) → HasDistinctKeys same_name l
 names_apart l d = subst (λ ks. IsDistinct same_name ks) (keys_of-map_values (λ m. m.entries) l) d.distinct
@@ -36,7 +36,7 @@ document_put d i s make h =
     let f = make (lookup same_name d s) in
     record {
       distinct = distinct_put same_name same_name_laws d s f i.distinct;
-      each = holds_after_put same_name IsSection d i.each s f (h (lookup same_name d s) (λ g e. holds_of_found same_name IsSection d i.each s g e));
+      sections = holds_after_put same_name IsSection d i.sections s f (h (lookup same_name d s) (λ g e. holds_of_found same_name IsSection d i.sections s g e));
     }
 
 pub document_with_text : (d : Sections) → IsDocument d → (s n : List ℕ) (t : String Global) → IsDocument (with_text d s n t)

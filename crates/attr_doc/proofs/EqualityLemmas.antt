@@ -56,7 +56,7 @@ at_section (Some m) None s t = (λ h. absurd (true≢false (sym h)), λ h. let s
 at_section (Some m) (Some n) s t = sections_agree m.entries n.entries (s m refl) (t n refl)
 
 found_section : (l : List (List ℕ × Stored)) → IsDocument (sections_of l) → (s : List ℕ) (m : Stored) → lookup same_name l s ≡ Some m → IsSection m.entries
-found_section l d s m e = holds_of_found same_name IsSection (sections_of l) d.each s m.entries (lookup_map_values same_name (λ m. m.entries) l s ∙ ap (option_map (λ m. m.entries)) e)
+found_section l d s m e = holds_of_found same_name IsSection (sections_of l) d.sections s m.entries (lookup_map_values same_name (λ m. m.entries) l s ∙ ap (option_map (λ m. m.entries)) e)
 
 pub same_documents : (a b : List (List ℕ × Stored)) → IsDocument (sections_of a) → IsDocument (sections_of b) → IsTrue (has_same_counts same_name same_stored a b) ↔ ((s n : List ℕ) → text_of (sections_of a) s n ≡ text_of (sections_of b) s n)
 same_documents a b d e =

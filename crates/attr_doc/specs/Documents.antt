@@ -34,7 +34,7 @@ pub record IsSection (texts : Section) : Type 0 where
 -- No name of a section repeats, and no section is empty or repeats a name.
 pub record IsDocument (d : Sections) : Type 0 where
   pub distinct : HasDistinctKeys same_name d
-  pub each : All (λ p. IsSection p.1) d
+  pub sections : All (λ p. IsSection p.1) d
 
 -- The document `d` with a text stored in its section, or in a new last section.
 abbrev pub with_text : Sections → List ℕ → List ℕ → String Global → Sections

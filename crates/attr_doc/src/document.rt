@@ -100,7 +100,7 @@ impl Document {
         ensures document { IsDocument self.new }
         ensures old { IfOk result (λ old. option_map string_bytes old
             ≡ text_of self.old section name) }
-        ensures there { IsSome (text_of self.old section name) → IsOk result }
+        ensures succeeds { IsSome (text_of self.old section name) → IsOk result }
         ensures given { IfErr result (λ refused. refused.given ≡ (section, name, text)) }
         ensures err { OnErr result (self.new ≡ self.old) }
     {

@@ -1,4 +1,5 @@
 //! The work of `Document::merge`, over the maps of sections alone: to reserve capacity for everything, then to move it.
+//! `merge` forwards to it, because the contract of a map need not say at each step that its sections are a document.
 ghost use Rattle.attr_doc.specs.Documents.{HasRoomAt, IsRoomFor, merged, sections_of, with_section};
 ghost use Rattle.attr_doc.specs.Names.{same_name};
 ghost use Rattle.std.specs.Prelude.{All, ◌≡◌, ◌+◌, ◌<◌, ◌≤◌, ℕ, List, OnErr, OnOk, false, length};
@@ -15,9 +16,9 @@ pub(crate) fn make_room(
     sections: &mut VecMap<Name, VecMap<Name, String>>,
     others: &VecMap<Name, VecMap<Name, String>>,
 ) -> Result<(), AllocError>
-    ensures kept { sections_of sections.new.entries ≡ sections_of sections.old.entries }
+    ensures sections { sections_of sections.new.entries ≡ sections_of sections.old.entries }
     ensures room { OnOk result (HasRoom sections.new (length others.now.entries)) }
-    ensures each { OnOk result (All (IsRoomFor sections.new.entries) others.now.entries) }
+    ensures rooms { OnOk result (All (IsRoomFor sections.new.entries) others.now.entries) }
     ensures some { OnErr result (0 < length others.now.entries) }
 {
     sections.reserve(others.len())?;
@@ -33,8 +34,8 @@ pub(crate) fn move_all(
     others: Vec<(Name, VecMap<Name, String>)>,
 )
     requires room { HasRoom sections.old (length others.items) }
-    requires each { All (IsRoomFor sections.old.entries) others.items }
-    requires apart { HasDistinctKeys same_name others.items }
+    requires rooms { All (IsRoomFor sections.old.entries) others.items }
+    requires distinct { HasDistinctKeys same_name others.items }
     ensures { sections_of sections.new.entries
         ≡ merged (sections_of sections.old.entries) (sections_of others.items) }
 {
@@ -50,11 +51,11 @@ fn reserve_in(
     name: &Name,
     additional: usize,
 ) -> Result<(), AllocError>
-    ensures kept { sections_of sections.new.entries ≡ sections_of sections.old.entries }
+    ensures sections { sections_of sections.new.entries ≡ sections_of sections.old.entries }
     ensures capacity { sections.new.capacity ≡ sections.old.capacity }
-    ensures keeps { (other : List ℕ) (n : ℕ) → HasRoomAt sections.old.entries other n
+    ensures rooms_stay { (other : List ℕ) (n : ℕ) → HasRoomAt sections.old.entries other n
         → HasRoomAt sections.new.entries other n }
-    ensures room { OnOk result (HasRoomAt sections.new.entries name.now additional) }
+    ensures room_in { OnOk result (HasRoomAt sections.new.entries name.now additional) }
 {
     match sections.get_mut(name) {
         Some(texts) => {
@@ -82,7 +83,7 @@ fn move_section(
         ≡ lookup same_name sections.old.entries other }
 {
     match sections.get_mut(&name) {
-        Some(there) => there.append(&mut texts).unwrap(),
+        Some(existing) => existing.append(&mut texts).unwrap(),
         None => {
             sections.insert(name, texts).unwrap();
         }

@@ -1,4 +1,5 @@
-//! The work of `Document::set`, over the map of sections alone, which has simpler contracts than a document.
+//! The work of `Document::set`, over the map of sections alone. `set` forwards to it, because the contract of a map need
+//! not say at each step that its sections are a document.
 ghost use Rattle.attr_doc.specs.Documents.{sections_of, text_of, with_text};
 ghost use Rattle.attr_doc.specs.Names.{same_name};
 ghost use Rattle.std.specs.Prelude.{◌≡◌, IfErr, IfOk, IsOk, IsSome, OnErr, OnOk, option_map, string_bytes};
@@ -21,7 +22,7 @@ pub(crate) fn set_text(
         ≡ with_text (sections_of sections.old.entries) section name text) }
     ensures old { IfOk result (λ old. option_map string_bytes old
         ≡ text_of (sections_of sections.old.entries) section name) }
-    ensures there { IsSome (text_of (sections_of sections.old.entries) section name) → IsOk result }
+    ensures succeeds { IsSome (text_of (sections_of sections.old.entries) section name) → IsOk result }
     ensures given { IfErr result (λ refused. refused.given ≡ (section, name, text)) }
     ensures err { OnErr result (sections_of sections.new.entries
         ≡ sections_of sections.old.entries) }
@@ -54,7 +55,7 @@ fn set_in(
 ) -> Result<Option<String>, Refused<(Name, Name, String)>>
     ensures texts { OnOk result (texts.new.entries ≡ put same_name texts.old.entries name text) }
     ensures old { IfOk result (λ old. old ≡ lookup same_name texts.old.entries name) }
-    ensures there { IsSome (index_of same_name texts.old.entries name) → IsOk result }
+    ensures succeeds { IsSome (index_of same_name texts.old.entries name) → IsOk result }
     ensures given { IfErr result (λ refused. refused.given ≡ (section, name, text)) }
     ensures err { OnErr result (texts.new ≡ texts.old) }
 {

@@ -1,7 +1,6 @@
 pub mod HeaderLists
 pub mod Headers
 pub mod Interner
-pub mod Names
 pub mod Options
 pub mod Scopes
 pub mod Settings

@@ -44,10 +44,10 @@ pub fn join(
     next: &mut VecSet<u32>,
     last: &mut VecSet<u32>,
 ) -> Result<(), AllocError>
-    ensures joined { OnOk result (set.new.elements
+    ensures elements { OnOk result (set.new.elements
         ≡ adds nat_eq (adds nat_eq set.old.elements next.old.elements) last.old.elements) }
     ensures emptied { OnOk result ((next.new.elements ≡ []) × (last.new.elements ≡ [])) }
-    ensures kept { OnErr result (last.new ≡ last.old) }
+    ensures err { OnErr result (last.new ≡ last.old) }
 {
     set.append(next)?;
     set.append(last)

@@ -13,7 +13,7 @@ pub fn count_word<K: Eq + Drop>(map: &mut VecMap<K, u64>, word: K) -> Result<(),
     requires { IfSome (lookup K.eq map.old.entries word) (λ n. n + 1 < 2 ^ 64) }
     ensures entries { OnOk result (map.new.entries
         ≡ put K.eq map.old.entries word (unwrap_or (lookup K.eq map.old.entries word) 0 + 1)) }
-    ensures room { KeepsRoom K.eq map.old word map.new }
+    ensures capacity { KeepsRoom K.eq map.old word map.new }
     ensures err { OnErr result (Refuses K.eq map.old word map.new) }
 {
     *map.entry(word).or_insert(0)? += 1;
@@ -29,7 +29,7 @@ pub fn modify_or_insert<K: Eq + Drop>(
     ensures entries { OnOk result (map.new.entries
         ≡ put K.eq map.old.entries key
         (option_map_or (λ n. n + 1) (lookup K.eq map.old.entries key) 42)) }
-    ensures room { KeepsRoom K.eq map.old key map.new }
+    ensures capacity { KeepsRoom K.eq map.old key map.new }
     ensures err { OnErr result (Refuses K.eq map.old key map.new) }
 {
     map.entry(key).and_modify(|n| *n += 1).or_insert(42)?;
@@ -43,7 +43,7 @@ pub fn half_of(map: &mut VecMap<u64, u64>, number: u64) -> Result<u64, Refused<(
     ensures entries { OnOk result (map.new.entries
         ≡ put nat_eq map.old.entries number
         (unwrap_or (lookup nat_eq map.old.entries number) (number / 2))) }
-    ensures err { IfErr result (λ refused. refused.given ≡ (number, number / 2)) }
+    ensures given { IfErr result (λ refused. refused.given ≡ (number, number / 2)) }
 {
     Ok(*map.entry(number).or_insert_with_key(|key| *key / 2)?)
 }

@@ -2,10 +2,10 @@
 ghost use Rattle.std.specs.Prelude.{◌≡◌, ℕ, IsSome, List, None, OnErr, OnOk, Some, bytes_eq, codes, false, nat_eq, string_bytes, string_eq};
 ghost use Rattle.std.specs.Cmp.Lexicographic.{pointwise};
 ghost use Rattle.std.specs.List.{list_any};
+ghost use Rattle.std.specs.Str.{str_eq_ignore_ascii_case};
 ghost use Rattle.vecmap.specs.Contents.{with_value_by};
 ghost use Rattle.vecmap.specs.Items.{without_first};
 ghost use Rattle.vecmap.specs.Pairs.{HasDistinctKeys, has_text, index_by, lookup, lookup_by, lookup_pair_by, swap_without_by, without_by};
-ghost use Rattle.vecmap_callers.specs.Names.{same_name};
 
 use crate::names::{Name, NamedAs};
 use std::alloc::{AllocError, Global};
@@ -55,7 +55,7 @@ pub fn put_text(
     text: &str,
     value: u32,
 ) -> Result<(), AllocError>
-    ensures found { OnOk result (lookup_by (has_text text.now) map.new.entries ≡ Some value) }
+    ensures written { OnOk result (lookup_by (has_text text.now) map.new.entries ≡ Some value) }
     ensures others { OnOk result ((other : List ℕ) → bytes_eq text.now other ≡ false
         → lookup_by (has_text other) map.new.entries ≡ lookup_by (has_text other) map.old.entries) }
     ensures err { OnErr result (map.new ≡ map.old) }
@@ -115,7 +115,7 @@ pub fn write_port(map: &mut VecMap<String, u32>, value: u32)
 
 /// Removes a text from a set, and returns whether it was present.
 pub fn drop_text(set: &mut VecSet<String>, text: &str) -> bool
-    ensures found { result ≡ list_any (has_text text.now) set.old.elements }
+    ensures present { result ≡ list_any (has_text text.now) set.old.elements }
     ensures elements { set.new.elements ≡ without_first (has_text text.now) set.old.elements }
 {
     set.remove(text)
@@ -123,14 +123,14 @@ pub fn drop_text(set: &mut VecSet<String>, text: &str) -> bool
 
 /// Returns the value of the first name that is this text, in any case. No `Name` is created.
 pub fn value_of_name(map: &VecMap<Name, u32>, text: &str) -> Option<u32>
-    ensures { result ≡ lookup same_name map.now.entries text.now }
+    ensures { result ≡ lookup str_eq_ignore_ascii_case map.now.entries text.now }
 {
     map.get(NamedAs(text)).copied()
 }
 
 /// Returns the value of a name, found by its text. It is the value that a lookup by the name itself finds.
 pub fn value_by_text_of(map: &VecMap<Name, u32>, name: &Name) -> Option<u32>
-    ensures { result ≡ lookup same_name map.now.entries name.now }
+    ensures { result ≡ lookup str_eq_ignore_ascii_case map.now.entries name.now }
 {
     map.get(NamedAs(name.as_str())).copied()
 }

@@ -3,10 +3,11 @@
 //! After `Accept: a`, `Host: b` and `ACCEPT: c` are appended, `accept` has the values `a` and `c`, and `Host` has `b`. After
 //! `host` is set to `d`, it has this value alone.
 ghost use Rattle.std.specs.Prelude.{◌≡◌, ◌++◌, ◌∷◌, ℕ, IfOk, List, None, OnErr, OnOk, [], false, option_map, slice_get, string_bytes, unwrap_or};
+ghost use Rattle.std.specs.Map.{keys_of};
+ghost use Rattle.std.specs.Str.{str_eq_ignore_ascii_case};
 ghost use Rattle.vecmap.specs.Items.{add, without_item};
 ghost use Rattle.vecmap.specs.Pairs.{HasDistinctKeys};
-ghost use Rattle.vecmap_callers.specs.HeaderLists.{names_of, values_of};
-ghost use Rattle.vecmap_callers.specs.Names.{same_name};
+ghost use Rattle.vecmap_callers.specs.HeaderLists.{values_of};
 
 use crate::names::{Name, NamedAs};
 use std::alloc::{AllocError, Global};
@@ -23,14 +24,14 @@ pub struct HeaderList {
 impl Model for HeaderList {
     ghost use Rattle.std.specs.Prelude.{ℕ, List, String, Vec};
     ghost use Rattle.std.specs.declared.alloc.Global.{Global};
+    ghost use Rattle.std.specs.Str.{str_eq_ignore_ascii_case};
     ghost use Rattle.vecmap.specs.Pairs.{HasDistinctKeys};
-    ghost use Rattle.vecmap_callers.specs.Names.{same_name};
 
     ghost Value = { List (List ℕ × Vec (String Global) Global) };
 
     ghost view = { λ headers. headers.fields.entries };
 
-    ghost invariant = { λ headers. HasDistinctKeys same_name headers.fields.entries };
+    ghost invariant = { λ headers. HasDistinctKeys str_eq_ignore_ascii_case headers.fields.entries };
 }
 
 impl HeaderList {
@@ -47,7 +48,7 @@ impl HeaderList {
     /// Returns the names with their values, in the order in which the names were first written.
     pub fn as_slice(&self) -> &[(Name, Vec<String>)]
         ensures fields { result.now ≡ self.now }
-        ensures distinct { HasDistinctKeys same_name self.now }
+        ensures distinct { HasDistinctKeys str_eq_ignore_ascii_case self.now }
     {
         self.fields.as_slice()
     }
@@ -91,13 +92,14 @@ impl HeaderList {
     ///
     /// At most two comparisons for each name.
     pub fn append(&mut self, name: Name, value: String) -> Result<(), AllocError>
-        ensures values { OnOk result (values_of self.new name
+        ensures written { OnOk result (values_of self.new name
             ≡ values_of self.old name ++ value ∷ []) }
-        ensures others { (other : List ℕ) → same_name name other ≡ false
+        ensures others { (other : List ℕ) → str_eq_ignore_ascii_case name other ≡ false
             → values_of self.new other ≡ values_of self.old other }
-        ensures order { OnOk result (names_of self.new ≡ add same_name (names_of self.old) name) }
+        ensures names { OnOk result (keys_of self.new
+            ≡ add str_eq_ignore_ascii_case (keys_of self.old) name) }
         ensures err { OnErr result (values_of self.new name ≡ values_of self.old name) }
-        ensures order_err { OnErr result (names_of self.new ≡ names_of self.old) }
+        ensures names_err { OnErr result (keys_of self.new ≡ keys_of self.old) }
     {
         laws::insertions_are_found::<Name, Vec<String>>();
         laws::insertion_keeps_keys_distinct::<Name, Vec<String>>();
@@ -121,10 +123,11 @@ impl HeaderList {
     ///
     /// At most one comparison for each name.
     pub fn set(&mut self, name: Name, value: String) -> Result<(), AllocError>
-        ensures values { OnOk result (values_of self.new name ≡ value ∷ []) }
-        ensures others { OnOk result ((other : List ℕ) → same_name name other ≡ false
+        ensures written { OnOk result (values_of self.new name ≡ value ∷ []) }
+        ensures others { OnOk result ((other : List ℕ) → str_eq_ignore_ascii_case name other ≡ false
             → values_of self.new other ≡ values_of self.old other) }
-        ensures order { OnOk result (names_of self.new ≡ add same_name (names_of self.old) name) }
+        ensures names { OnOk result (keys_of self.new
+            ≡ add str_eq_ignore_ascii_case (keys_of self.old) name) }
         ensures err { OnErr result (self.new ≡ self.old) }
     {
         laws::insertions_are_found::<Name, Vec<String>>();
@@ -144,9 +147,10 @@ impl HeaderList {
         ensures values { unwrap_or (option_map (λ values. values.items) result) []
             ≡ values_of self.old name.now }
         ensures gone { values_of self.new name.now ≡ [] }
-        ensures others { (other : List ℕ) → same_name name.now other ≡ false
+        ensures others { (other : List ℕ) → str_eq_ignore_ascii_case name.now other ≡ false
             → values_of self.new other ≡ values_of self.old other }
-        ensures order { names_of self.new ≡ without_item same_name (names_of self.old) name.now }
+        ensures names { keys_of self.new
+            ≡ without_item str_eq_ignore_ascii_case (keys_of self.old) name.now }
     {
         laws::removals_are_forgotten::<Name, Vec<String>>();
         laws::removal_keeps_keys_distinct::<Name, Vec<String>>();

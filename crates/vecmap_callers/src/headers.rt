@@ -3,11 +3,12 @@
 //! After `Host: a`, `Accept: b` and `HOST: c` are set, the fields are `Host: c` and `Accept: b`. After a merge of
 //! `ACCEPT: d` and `Age: e`, they are `Host: c`, `Accept: d` and `Age: e`.
 ghost use Rattle.std.specs.Prelude.{◌≡◌, ℕ, IfErr, IfOk, List, None, OnErr, OnOk, Some, [], false, option_map, string_bytes};
+ghost use Rattle.std.specs.Map.{keys_of};
 ghost use Rattle.std.specs.Option.{option_or};
+ghost use Rattle.std.specs.Str.{str_eq_ignore_ascii_case};
 ghost use Rattle.vecmap.specs.Items.{add, adds, without_item};
 ghost use Rattle.vecmap.specs.Pairs.{HasDistinctKeys};
-ghost use Rattle.vecmap_callers.specs.Headers.{names_of, text_of};
-ghost use Rattle.vecmap_callers.specs.Names.{same_name};
+ghost use Rattle.vecmap_callers.specs.Headers.{text_of};
 
 use crate::names::{Name, NamedAs};
 use std::alloc::{AllocError, Global};
@@ -24,14 +25,14 @@ pub struct Headers {
 impl Model for Headers {
     ghost use Rattle.std.specs.Prelude.{ℕ, List, String};
     ghost use Rattle.std.specs.declared.alloc.Global.{Global};
+    ghost use Rattle.std.specs.Str.{str_eq_ignore_ascii_case};
     ghost use Rattle.vecmap.specs.Pairs.{HasDistinctKeys};
-    ghost use Rattle.vecmap_callers.specs.Names.{same_name};
 
     ghost Value = { List (List ℕ × String Global) };
 
     ghost view = { λ headers. headers.fields.entries };
 
-    ghost invariant = { λ headers. HasDistinctKeys same_name headers.fields.entries };
+    ghost invariant = { λ headers. HasDistinctKeys str_eq_ignore_ascii_case headers.fields.entries };
 }
 
 impl Headers {
@@ -48,7 +49,7 @@ impl Headers {
     /// Returns the fields, in order.
     pub fn as_slice(&self) -> &[(Name, String)]
         ensures fields { result.now ≡ self.now }
-        ensures distinct { HasDistinctKeys same_name self.now }
+        ensures distinct { HasDistinctKeys str_eq_ignore_ascii_case self.now }
     {
         self.fields.as_slice()
     }
@@ -86,10 +87,11 @@ impl Headers {
         name: Name,
         text: String,
     ) -> Result<Option<String>, Refused<(Name, String)>>
-        ensures there { OnOk result (text_of self.new name ≡ Some (string_bytes text)) }
-        ensures others { OnOk result ((other : List ℕ) → same_name name other ≡ false
+        ensures written { OnOk result (text_of self.new name ≡ Some (string_bytes text)) }
+        ensures others { OnOk result ((other : List ℕ) → str_eq_ignore_ascii_case name other ≡ false
             → text_of self.new other ≡ text_of self.old other) }
-        ensures order { OnOk result (names_of self.new ≡ add same_name (names_of self.old) name) }
+        ensures names { OnOk result (keys_of self.new
+            ≡ add str_eq_ignore_ascii_case (keys_of self.old) name) }
         ensures old { IfOk result (λ old. option_map string_bytes old ≡ text_of self.old name) }
         ensures err { OnErr result (self.new ≡ self.old) }
         ensures given { IfErr result (λ refused. refused.given ≡ (name, text)) }
@@ -108,9 +110,10 @@ impl Headers {
     pub fn remove(&mut self, name: &str) -> Option<String>
         ensures text { option_map string_bytes result ≡ text_of self.old name.now }
         ensures gone { text_of self.new name.now ≡ None }
-        ensures others { (other : List ℕ) → same_name name.now other ≡ false
+        ensures others { (other : List ℕ) → str_eq_ignore_ascii_case name.now other ≡ false
             → text_of self.new other ≡ text_of self.old other }
-        ensures order { names_of self.new ≡ without_item same_name (names_of self.old) name.now }
+        ensures names { keys_of self.new
+            ≡ without_item str_eq_ignore_ascii_case (keys_of self.old) name.now }
     {
         laws::removals_are_forgotten::<Name, String>();
         laws::removal_keeps_keys_distinct::<Name, String>();
@@ -132,8 +135,8 @@ impl Headers {
     pub fn merge(&mut self, other: &mut Headers) -> Result<(), AllocError>
         ensures texts { OnOk result ((name : List ℕ)
             → text_of self.new name ≡ option_or (text_of other.old name) (text_of self.old name)) }
-        ensures order { OnOk result (names_of self.new
-            ≡ adds same_name (names_of self.old) (names_of other.old)) }
+        ensures names { OnOk result (keys_of self.new
+            ≡ adds str_eq_ignore_ascii_case (keys_of self.old) (keys_of other.old)) }
         ensures emptied { OnOk result (other.new ≡ []) }
         ensures err { OnErr result (self.new ≡ self.old) }
         ensures other_err { OnErr result (other.new ≡ other.old) }

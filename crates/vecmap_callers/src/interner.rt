@@ -90,7 +90,7 @@ impl Interner {
         ensures id { IfOk result (λ id. id_of self.new text.now ≡ Some id.0) }
         ensures again { IfOk result (λ id. (known : ℕ) → id_of self.old text.now ≡ Some known
             → id.0 ≡ known) }
-        ensures texts { (id : ℕ) → id < length self.old
+        ensures earlier { (id : ℕ) → id < length self.old
             → text_of self.new id ≡ text_of self.old id }
         ensures ids { (other : List ℕ) (known : ℕ) → id_of self.old other ≡ Some known
             → id_of self.new other ≡ Some known }
@@ -119,8 +119,8 @@ pub fn intern_both(
 ) -> Result<(TextId, TextId), AllocError>
     ensures first { IfOk result (λ ids. text_of interner.new ids.0.0 ≡ Some first.now) }
     ensures second { IfOk result (λ ids. text_of interner.new ids.1.0 ≡ Some second.now) }
-    ensures same { IfOk result (λ ids. first.now ≡ second.now → ids.0.0 ≡ ids.1.0) }
-    ensures texts { (id : ℕ) → id < length interner.old
+    ensures equal_texts { IfOk result (λ ids. first.now ≡ second.now → ids.0.0 ≡ ids.1.0) }
+    ensures earlier { (id : ℕ) → id < length interner.old
         → text_of interner.new id ≡ text_of interner.old id }
 {
     let first_id = interner.intern(first)?;

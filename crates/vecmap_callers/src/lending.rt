@@ -8,7 +8,7 @@ use vecmap::VecMap;
 /// Writes the value of a key if the key is present, and returns whether it is.
 pub fn write_if_there<K: Eq>(map: &mut VecMap<K, u32>, key: &K, value: u32) -> bool
     ensures written { map.new ≡ with_value_of K.eq map.old key.now value }
-    ensures there { result ≡ is_some (index_of K.eq map.old.entries key.now) }
+    ensures present { result ≡ is_some (index_of K.eq map.old.entries key.now) }
 {
     match map.get_mut(key) {
         Some(stored) => {

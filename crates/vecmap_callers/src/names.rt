@@ -2,8 +2,7 @@
 ghost use Rattle.std.specs.Prelude.{◌≡◌, string_bytes};
 ghost use Rattle.std.specs.Cmp.{on_equiv, partial_equiv_from_equiv};
 ghost use Rattle.std.specs.Cmp.Lexicographic.{nat_list_eq_equiv};
-ghost use Rattle.std.specs.Str.{str_to_ascii_lowercase};
-ghost use Rattle.vecmap_callers.specs.Names.{same_name};
+ghost use Rattle.std.specs.Str.{str_eq_ignore_ascii_case, str_to_ascii_lowercase};
 
 use std::marker::Model;
 use vecmap::Equivalent;
@@ -40,7 +39,7 @@ impl Name {
 }
 
 impl PartialEq for Name {
-    ghost eq = { same_name };
+    ghost eq = { str_eq_ignore_ascii_case };
 
     ghost laws = { partial_equiv_from_equiv (on_equiv str_to_ascii_lowercase nat_list_eq_equiv) };
 
@@ -58,7 +57,7 @@ impl Eq for Name {
 pub struct NamedAs<'a>(pub &'a str);
 
 impl Equivalent<Name> for NamedAs<'_> {
-    ghost equivalent = { λ query. same_name query.0.now };
+    ghost equivalent = { λ query. str_eq_ignore_ascii_case query.0.now };
 
     fn equivalent(&self, name: &Name) -> bool {
         self.0.eq_ignore_ascii_case(name.as_str())

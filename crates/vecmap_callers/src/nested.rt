@@ -11,12 +11,16 @@ use vecmap::laws::inner_additions_are_found;
 use vecmap::map::laws::{inner_insertions_are_found, writes_by_texts_are_insertions};
 use vecmap::{VecMap, VecSet};
 
-/// Sets the value under a section and a name.
-pub fn set(
-    sections: &mut VecMap<String, VecMap<String, u32>>,
+/// Sets the value under a section and a name. A new section and a new name are appended.
+///
+/// # Errors
+///
+/// [`AllocError`] if the allocator refuses a request. Each section then has the pairs that it had.
+pub fn set<V: Drop>(
+    sections: &mut VecMap<String, VecMap<String, V>>,
     section: String,
     name: String,
-    value: u32,
+    value: V,
 ) -> Result<(), AllocError>
     ensures written { OnOk result (inner_entries string_eq sections.new.entries section
         ≡ put string_eq (inner_entries string_eq sections.old.entries section) name value) }
@@ -27,7 +31,7 @@ pub fn set(
         → inner_entries string_eq sections.new.entries other
         ≡ inner_entries string_eq sections.old.entries other) }
 {
-    inner_insertions_are_found::<String, String, u32>();
+    inner_insertions_are_found::<String, String, V>();
     sections.entry(section).or_default()?.insert(name, value)?;
     Ok(())
 }
@@ -54,7 +58,7 @@ pub fn join(
 
 /// Writes the value of a text if the text is present, and returns whether it is.
 pub fn write_text(map: &mut VecMap<String, u32>, text: &str, value: u32) -> bool
-    ensures found { result ≡ true → lookup_by (has_text text.now) map.new.entries ≡ Some value }
+    ensures written { result ≡ true → lookup_by (has_text text.now) map.new.entries ≡ Some value }
     ensures others { (other : List ℕ) → bytes_eq text.now other ≡ false
         → lookup_by (has_text other) map.new.entries ≡ lookup_by (has_text other) map.old.entries }
 {

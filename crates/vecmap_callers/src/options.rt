@@ -85,7 +85,7 @@ impl<K: Eq + Drop, V: Drop> Options<K, V> {
     ///
     /// At most one comparison for each default.
     pub fn set_default(&mut self, name: K, value: V) -> Result<(), Refused<(K, V)>>
-        ensures each { OnOk result ((q : K)
+        ensures settings { OnOk result ((q : K)
             → setting K.eq self.new q
             ≡ option_or (lookup K.eq self.old.overrides q)
             (if K.eq name q then Some value else lookup K.eq self.old.defaults q)) }
@@ -109,7 +109,7 @@ impl<K: Eq + Drop, V: Drop> Options<K, V> {
     ///
     /// At most one comparison for each override.
     pub fn set(&mut self, name: K, value: V) -> Result<(), Refused<(K, V)>>
-        ensures each { OnOk result ((q : K)
+        ensures settings { OnOk result ((q : K)
             → setting K.eq self.new q
             ≡ (if K.eq name q then Some value else setting K.eq self.old q)) }
         ensures defaults { self.new.defaults ≡ self.old.defaults }
@@ -151,7 +151,7 @@ impl<K: Eq + Drop, V: Drop> Options<K, V> {
     /// One lookup for each override of `upper`.
     #[tactic(auto, using(vecmap::proofs::Rules::distinct_keys))]
     pub fn lay(&mut self, upper: &mut Options<K, V>) -> Result<(), AllocError>
-        ensures each { OnOk result ((q : K)
+        ensures settings { OnOk result ((q : K)
             → setting K.eq self.new q
             ≡ option_or (lookup K.eq upper.old.overrides q) (setting K.eq self.old q)) }
         ensures emptied { OnOk result (upper.new
@@ -174,8 +174,8 @@ impl<K: Eq + Drop, V: Drop> Options<K, V> {
     /// One lookup for each override.
     #[tactic(auto, using(vecmap::proofs::Rules::distinct_keys))]
     pub fn settle(&mut self) -> Result<(), AllocError>
-        ensures each { OnOk result ((q : K) → setting K.eq self.new q ≡ setting K.eq self.old q) }
-        ensures settled { OnOk result (self.new.overrides ≡ []) }
+        ensures settings { OnOk result ((q : K) → setting K.eq self.new q ≡ setting K.eq self.old q) }
+        ensures emptied { OnOk result (self.new.overrides ≡ []) }
         ensures err { OnErr result (self.new ≡ self.old) }
     {
         self.defaults.append(&mut self.overrides)?;

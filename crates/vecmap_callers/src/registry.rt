@@ -92,7 +92,7 @@ impl<T: Eq> Registry<T> {
         ensures id { IfOk result (λ id. item_index T.eq self.new name ≡ Some id) }
         ensures again { IfOk result (λ id. (known : ℕ) → item_index T.eq self.old name ≡ Some known
             → id ≡ known) }
-        ensures names { (id : ℕ) → id < length self.old
+        ensures earlier { (id : ℕ) → id < length self.old
             → slice_get self.new id ≡ slice_get self.old id }
         ensures ids { (other : T) (id : ℕ) → item_index T.eq self.old other ≡ Some id
             → item_index T.eq self.new other ≡ Some id }
@@ -117,7 +117,7 @@ pub fn intern_around<T: Eq + Drop>(
     between: T,
     last: T,
 ) -> Result<(usize, usize), Refused<T>>
-    ensures same { IfOk result (λ ids. IsTrue (T.eq first last) → ids.0 ≡ ids.1) }
+    ensures equal_names { IfOk result (λ ids. IsTrue (T.eq first last) → ids.0 ≡ ids.1) }
 {
     laws::equal_elements_have_one_place::<T>();
     let first_id = registry.intern(first)?;

@@ -10,7 +10,7 @@ use vecmap::{VecMap, VecSet};
 
 /// Removes an element. What is left is still a set.
 pub fn without<T: Eq + Drop>(set: &mut VecSet<T>, item: &T)
-    ensures left { set.new.elements ≡ without_item T.eq set.old.elements item.now }
+    ensures elements { set.new.elements ≡ without_item T.eq set.old.elements item.now }
     ensures distinct { IsDistinct T.eq set.new.elements }
 {
     set.remove(item);
@@ -32,7 +32,7 @@ pub fn take_last<K>(map: &mut VecMap<K, u32>) -> (K, u32)
 
 /// Keeps the pairs with an even value.
 pub fn keep_even(map: &mut VecMap<u32, u32>)
-    ensures left { map.new.entries ≡ filter (λ p. nat_eq (p.1 % 2) 0) map.old.entries }
+    ensures entries { map.new.entries ≡ filter (λ p. nat_eq (p.1 % 2) 0) map.old.entries }
     ensures capacity { map.new.capacity ≡ map.old.capacity }
 {
     map.retain(|_key, value| *value % 2 == 0);
@@ -40,7 +40,7 @@ pub fn keep_even(map: &mut VecMap<u32, u32>)
 
 /// Keeps the first `count` pairs, by a closure that counts down.
 pub fn keep_first(map: &mut VecMap<u32, u32>, count: u32)
-    ensures left { map.new.entries ≡ take count map.old.entries }
+    ensures entries { map.new.entries ≡ take count map.old.entries }
     ensures capacity { map.new.capacity ≡ map.old.capacity }
 {
     let mut left = count;
@@ -54,7 +54,7 @@ pub fn keep_first(map: &mut VecMap<u32, u32>, count: u32)
 /// Removes the first `count` pairs, by a drain of which only two pairs are read.
 pub fn drop_front(map: &mut VecMap<u32, u32>, count: usize)
     requires within { count ≤ length map.old.entries }
-    ensures left { map.new.entries ≡ drop count map.old.entries }
+    ensures entries { map.new.entries ≡ drop count map.old.entries }
     ensures capacity { map.new.capacity ≡ map.old.capacity }
 {
     let mut pairs = map.drain(..count);
@@ -66,7 +66,7 @@ pub fn drop_front(map: &mut VecMap<u32, u32>, count: usize)
 pub fn first_of_three(map: &mut VecMap<u32, u32>) -> Option<(u32, u32)>
     requires within { 3 ≤ length map.old.entries }
     ensures first { result ≡ slice_get map.old.entries 0 }
-    ensures left { map.new.entries ≡ drop 3 map.old.entries }
+    ensures entries { map.new.entries ≡ drop 3 map.old.entries }
 {
     map.drain(..3).next()
 }
@@ -75,7 +75,7 @@ pub fn first_of_three(map: &mut VecMap<u32, u32>) -> Option<(u32, u32)>
 /// set.
 pub fn without_second_and_third<T: Eq + Drop>(set: &mut VecSet<T>)
     requires within { 3 ≤ length set.old.elements }
-    ensures left { set.new.elements ≡ take 1 set.old.elements ++ drop 3 set.old.elements }
+    ensures elements { set.new.elements ≡ take 1 set.old.elements ++ drop 3 set.old.elements }
     ensures distinct { IsDistinct T.eq set.new.elements }
 {
     let mut items = set.drain(1..=2);
@@ -85,7 +85,7 @@ pub fn without_second_and_third<T: Eq + Drop>(set: &mut VecSet<T>)
 /// Removes the elements from an index on, by a loop.
 pub fn take_out_from(set: &mut VecSet<u32>, at: usize)
     requires within { at ≤ length set.old.elements }
-    ensures left { set.new.elements ≡ take at set.old.elements }
+    ensures elements { set.new.elements ≡ take at set.old.elements }
 {
     for _item in set.drain(at..) {}
 }
@@ -93,7 +93,7 @@ pub fn take_out_from(set: &mut VecSet<u32>, at: usize)
 /// Removes the first `count` pairs, whichever of them are taken from the front or the back of the drain.
 pub fn pull_from_either_end(map: &mut VecMap<u32, u32>, count: usize, from_back: &[bool])
     requires within { count ≤ length map.old.entries }
-    ensures left { map.new.entries ≡ drop count map.old.entries }
+    ensures entries { map.new.entries ≡ drop count map.old.entries }
     ensures capacity { map.new.capacity ≡ map.old.capacity }
 {
     let mut range = map.drain(..count);
@@ -110,7 +110,7 @@ pub fn pull_from_either_end(map: &mut VecMap<u32, u32>, count: usize, from_back:
 pub fn split_and_append(map: &mut VecMap<u32, u32>, at: usize) -> Result<(), AllocError>
     requires within { at ≤ length map.old.entries }
     requires distinct { HasDistinctKeys ⟦<u32 as PartialEq>⟧.eq map.old.entries }
-    ensures whole { OnOk result (map.new.entries ≡ map.old.entries) }
+    ensures entries { OnOk result (map.new.entries ≡ map.old.entries) }
 {
     laws::appending_undoes_splitting::<u32, u32>();
     let mut part = map.split_off(at)?;

@@ -35,7 +35,7 @@ impl<K: Eq + Drop, V: Drop> Scopes<K, V> {
     ///
     /// [`AllocError`] if the allocator refuses the request.
     pub fn new(alloc: Global) -> Result<Scopes<K, V>, AllocError>
-        ensures nothing { IfOk result (λ table. (name : K) → resolved K.eq table name ≡ None) }
+        ensures undefined { IfOk result (λ table. (name : K) → resolved K.eq table name ≡ None) }
         ensures depth { IfOk result (λ table. length table ≡ 1) }
     {
         let mut scopes = Vec::new(alloc);
@@ -49,10 +49,10 @@ impl<K: Eq + Drop, V: Drop> Scopes<K, V> {
     ///
     /// [`AllocError`] if the allocator refuses the request; the table is then unchanged.
     pub fn enter(&mut self, alloc: Global) -> Result<(), AllocError>
-        ensures within { OnOk result (outer self.new ≡ self.old) }
+        ensures outer_scopes { OnOk result (outer self.new ≡ self.old) }
         ensures depth { OnOk result (length self.new ≡ length self.old + 1) }
         ensures nested { OnOk result (1 < length self.new) }
-        ensures same { OnOk result ((name : K)
+        ensures meanings { OnOk result ((name : K)
             → resolved K.eq self.new name ≡ resolved K.eq self.old name) }
         ensures err { OnErr result (self.new ≡ self.old) }
     {
@@ -64,9 +64,9 @@ impl<K: Eq + Drop, V: Drop> Scopes<K, V> {
     ///
     /// Every name then means what it meant before the scope was entered.
     pub fn leave(&mut self) -> bool
-        ensures left { IsTrue result → self.new ≡ outer self.old }
-        ensures stays { result ≡ false → self.new ≡ self.old }
-        ensures depth { 1 < length self.old → IsTrue result }
+        ensures scopes { IsTrue result → self.new ≡ outer self.old }
+        ensures unchanged { result ≡ false → self.new ≡ self.old }
+        ensures nested { 1 < length self.old → IsTrue result }
     {
         if self.scopes.len() < 2 {
             return false;
@@ -88,10 +88,10 @@ impl<K: Eq + Drop, V: Drop> Scopes<K, V> {
     ///
     /// At most one comparison for each name of the innermost scope.
     pub fn define(&mut self, name: K, value: V) -> Result<(), Refused<(K, V)>>
-        ensures each { OnOk result ((other : K)
+        ensures meanings { OnOk result ((other : K)
             → resolved K.eq self.new other
             ≡ (if K.eq name other then Some value else resolved K.eq self.old other)) }
-        ensures within { outer self.new ≡ outer self.old }
+        ensures outer_scopes { outer self.new ≡ outer self.old }
         ensures depth { length self.new ≡ length self.old }
         ensures given { IfErr result (λ refused. refused.given ≡ (name, value)) }
         ensures err { OnErr result (self.new ≡ self.old) }
@@ -129,9 +129,9 @@ pub fn resolved_within<K: Eq + Drop, V: Copy + Drop>(
     value: V,
     name: &K,
 ) -> Result<Option<V>, AllocError>
-    ensures answer { IfOk result (λ found. found
+    ensures value { IfOk result (λ found. found
         ≡ (if K.eq defined name.now then Some value else resolved K.eq table.old name.now)) }
-    ensures restored { table.new ≡ table.old }
+    ensures unchanged { table.new ≡ table.old }
 {
     table.enter(alloc)?;
     let is_defined = table.define(defined, value).is_ok();

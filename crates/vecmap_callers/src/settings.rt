@@ -9,6 +9,7 @@ ghost use Rattle.vecmap.specs.Nested.{inner_entries, inner_entries_by};
 ghost use Rattle.vecmap.specs.Pairs.{has_text, put, puts, without_by};
 ghost use Rattle.vecmap_callers.specs.Settings.{IsMerged, IsMergedInPart, text_at};
 
+use crate::nested;
 use std::alloc::{AllocError, Global};
 use vecmap::VecMap;
 use vecmap::map::laws;
@@ -72,7 +73,7 @@ impl Settings {
             → inner_entries string_eq self.new.defaults.entries other
             ≡ inner_entries string_eq self.old.defaults.entries other) }
     {
-        set_in(&mut self.defaults, section, name, text)
+        nested::set(&mut self.defaults, section, name, text)
     }
 
     /// Overrides a setting. An existing override keeps its index and gets the text.
@@ -92,7 +93,7 @@ impl Settings {
             → inner_entries string_eq self.new.overrides.entries other
             ≡ inner_entries string_eq self.old.overrides.entries other) }
     {
-        set_in(&mut self.overrides, section, name, text)
+        nested::set(&mut self.overrides, section, name, text)
     }
 
     /// Removes the override of a setting, if there is one. The setting then has its default.
@@ -141,27 +142,6 @@ pub fn get_in<'a>(sections: &'a Sections, section: &str, name: &str) -> Option<&
         },
         None => None,
     }
-}
-
-/// Sets the text under a section and a name.
-pub fn set_in(
-    sections: &mut Sections,
-    section: String,
-    name: String,
-    text: String,
-) -> Result<(), AllocError>
-    ensures written { OnOk result (inner_entries string_eq sections.new.entries section
-        ≡ put string_eq (inner_entries string_eq sections.old.entries section) name text) }
-    ensures others { OnOk result ((other : String Global) → string_eq section other ≡ false
-        → inner_entries string_eq sections.new.entries other
-        ≡ inner_entries string_eq sections.old.entries other) }
-    ensures err { OnErr result ((other : String Global)
-        → inner_entries string_eq sections.new.entries other
-        ≡ inner_entries string_eq sections.old.entries other) }
-{
-    laws::inner_insertions_are_found::<String, String, String>();
-    sections.entry(section).or_default()?.insert(name, text)?;
-    Ok(())
 }
 
 /// Moves settings into a section. Where the section has a setting already, the moved one replaces it.

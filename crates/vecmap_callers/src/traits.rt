@@ -31,7 +31,7 @@ pub fn parted(
 ) -> Result<(VecMap<u32, u32>, VecMap<u32, u32>), AllocError>
     ensures below { IfOk result (λ parts. parts.0.entries
         ≡ puts nat_eq [] (filter (λ p. nat_lt p.0 limit) pairs.items)) }
-    ensures rest { IfOk result (λ parts. parts.1.entries
+    ensures not_below { IfOk result (λ parts. parts.1.entries
         ≡ puts nat_eq [] (filter (λ p. not (nat_lt p.0 limit)) pairs.items)) }
 {
     collecting_one_more_is_extending::<u32, u32>();
@@ -46,7 +46,7 @@ pub fn parted_set(
 ) -> Result<(VecSet<u32>, VecSet<u32>), AllocError>
     ensures below { IfOk result (λ parts. parts.0.elements
         ≡ adds nat_eq [] (filter (λ x. nat_lt x limit) items.items)) }
-    ensures rest { IfOk result (λ parts. parts.1.elements
+    ensures not_below { IfOk result (λ parts. parts.1.elements
         ≡ adds nat_eq [] (filter (λ x. not (nat_lt x limit)) items.items)) }
 {
     collecting_one_more_element::<u32>();

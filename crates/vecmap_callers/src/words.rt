@@ -25,7 +25,7 @@ pub fn count_words<K: Eq + Copy + Drop>(
 ) -> Result<VecMap<K, u64>, AllocError>
     ensures counts { IfOk result (λ counts. (word : K)
         → count_of K.eq counts.entries word ≡ count_by (λ w. K.eq w word) words.now) }
-    ensures order { IfOk result (λ counts. keys_of counts.entries ≡ adds K.eq [] words.now) }
+    ensures keys { IfOk result (λ counts. keys_of counts.entries ≡ adds K.eq [] words.now) }
 {
     let mut counts = VecMap::new(alloc);
     for word in words {

@@ -10,6 +10,7 @@ pub mod lookups;
 pub mod merge;
 pub mod pair;
 pub mod program;
+pub mod raise;
 pub mod refused;
 pub mod set;
 #[cfg(test)]

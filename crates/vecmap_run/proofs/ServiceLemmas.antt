@@ -24,7 +24,7 @@ Answers-more old mid new (l ∷ lines) line text first (front, rest, next, whole
 Splits-more : (input : List ℕ) (lines : List (List ℕ)) (rest : List ℕ) (byte : ℕ) → Splits input lines rest → byte ≢ 10 → Splits (input ++ byte ∷ []) lines (rest ++ byte ∷ [])
 Splits-more input lines rest byte splits unbroken = record {
   whole = ap (λ l. l ++ byte ∷ []) splits.whole ∙ append_assoc _ rest _;
-  each = splits.each;
+  unbroken = splits.unbroken;
   unended = All-push (λ byte. byte ≢ 10) rest byte splits.unended unbroken;
 }
 
@@ -32,21 +32,21 @@ Splits-more input lines rest byte splits unbroken = record {
 Splits-ended : (input : List ℕ) (lines : List (List ℕ)) (rest : List ℕ) → Splits input lines rest → Splits (input ++ 10 ∷ []) (lines ++ rest ∷ []) []
 Splits-ended input lines rest splits = record {
   whole = ap (λ l. l ++ 10 ∷ []) splits.whole ∙ rw (flat_map-append, append-nil, append-nil) (append_assoc _ rest _);
-  each = All-push HasNoBreak lines rest splits.each splits.unended;
+  unbroken = All-push HasNoBreak lines rest splits.unbroken splits.unended;
   unended = All-nil (λ byte. byte ≢ 10);
 }
 
 -- The same of the test at which the input is cut.
-unbroken : (line : List ℕ) → HasNoBreak line → All (λ byte. (byte == 10) ≡ false) line
-unbroken line none = All-weaker (λ byte. byte ≢ 10) (λ byte. (byte == 10) ≡ false) (λ byte differs. grind (arith, nat_tests)) line none
+no_cut : (line : List ℕ) → HasNoBreak line → All (λ byte. (byte == 10) ≡ false) line
+no_cut line none = All-weaker (λ byte. byte ≢ 10) (λ byte. (byte == 10) ≡ false) (λ byte differs. grind (arith, nat_tests)) line none
 
 -- The pieces of the input are its lines and the rest.
 Splits-pieces : (input : List ℕ) (lines : List (List ℕ)) (rest : List ℕ) → Splits input lines rest → pieces_of input ≡ lines ++ rest ∷ []
-Splits-pieces input [] rest splits = rw (splits.whole) (slice_split_none (λ b. b == 10) rest (unbroken rest splits.unended))
+Splits-pieces input [] rest splits = rw (splits.whole) (slice_split_none (λ b. b == 10) rest (no_cut rest splits.unended))
 Splits-pieces input (line ∷ lines) rest splits =
     let others = flat_map (λ line. line ++ 10 ∷ []) lines ++ rest in
-    let tail : Splits others lines rest = record { whole = refl; each = All-tail HasNoBreak line lines splits.each; unended = splits.unended } in
-    let cut = slice_split_at (λ b. b == 10) line 10 others (unbroken line (All-head HasNoBreak line lines splits.each)) refl in
+    let tail : Splits others lines rest = record { whole = refl; unbroken = All-tail HasNoBreak line lines splits.unbroken; unended = splits.unended } in
+    let cut = slice_split_at (λ b. b == 10) line 10 others (no_cut line (All-head HasNoBreak line lines splits.unbroken)) refl in
     let joined : input ≡ line ++ 10 ∷ others = splits.whole ∙ simp append_assoc in
     rw joined (cut ∙ ap (λ l. line ∷ l) (Splits-pieces others lines rest tail))
 
@@ -79,7 +79,7 @@ GoesOn-pushed line new entries written byte unbroken pushed input text served = 
     lines = served.lines;
     rest = served.rest ++ byte ∷ [];
     splits = Splits-more input served.lines served.rest byte served.splits unbroken;
-    kept = pushed served.rest served.kept;
+    gathered = pushed served.rest served.gathered;
     answered = rw append-nil served.answered;
   },
 )
@@ -87,14 +87,14 @@ GoesOn-pushed line new entries written byte unbroken pushed input text served = 
 -- A service proceeds over a line break if it writes the answer to the line and clears it.
 pub GoesOn-answered : (line new : Option (List ℕ)) (entries last : Entries) (written now : Option (List ℕ)) → ((whole : List ℕ) → line ≡ within_limit whole → (answer : List ℕ) × Appends written now answer × AnswersLine entries whole answer last) → new ≡ within_limit [] → GoesOn line entries (10 ∷ []) written now new last
 GoesOn-answered line new entries last written now answers cleared input text served =
-    let (answer, wrote, step) = answers served.rest served.kept in (
+    let (answer, wrote, step) = answers served.rest served.gathered in (
       answer,
       wrote,
       record {
         lines = served.lines ++ served.rest ∷ [];
         rest = [];
         splits = Splits-ended input served.lines served.rest served.splits;
-        kept = cleared;
+        gathered = cleared;
         answered = Answers-more _ entries last served.lines served.rest text answer served.answered step;
       },
     )

@@ -40,7 +40,7 @@ HasNoBreak line = All (λ byte. byte ≢ 10) line
 -- The input is these lines, each with a line break (10) after it, and then a rest without a line break.
 pub record Splits (input : List ℕ) (lines : List (List ℕ)) (rest : List ℕ) : Type 0 where
   pub whole : input ≡ flat_map (λ line. line ++ 10 ∷ []) lines ++ rest
-  pub each : All HasNoBreak lines
+  pub unbroken : All HasNoBreak lines
   pub unended : HasNoBreak rest
 
 -- A service that has read this input and written this text. It keeps the unended line, and the text answers the lines
@@ -49,7 +49,7 @@ pub record HasServed (line : Option (List ℕ)) (entries : Entries) (input text 
   pub lines : List (List ℕ)
   pub rest : List ℕ
   pub splits : Splits input lines rest
-  pub kept : line ≡ within_limit rest
+  pub gathered : line ≡ within_limit rest
   pub answered : Answers [] lines text entries
 
 -- If a service reads these bytes, its line and entries become the new ones, and it appends the answers to what was

@@ -28,8 +28,8 @@ impl<'w, W: Write> Buffer<'w, W> {
 
     /// Writes what has been gathered.
     pub fn send(self) -> fmt::Result
-        ensures { OnOk result
-            (Appends (W.contents self.entry.writer.now) (W.contents self.exit.0.now) self.entry.gathered) }
+        ensures { OnOk result (Appends (W.contents self.entry.writer.now)
+            (W.contents self.exit.0.now) self.entry.gathered) }
     {
         let Buffer { writer, gathered } = self;
         write_bytes(writer, gathered.as_slice())

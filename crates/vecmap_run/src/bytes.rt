@@ -5,12 +5,12 @@ ghost use Rattle.std.specs.Bool.{OnFalse};
 use std::marker::Model;
 
 /// The greatest number of bytes.
-pub const CAPACITY: usize = 4096;
+pub const MAX_BYTES: usize = 4096;
 
-/// At most `CAPACITY` bytes. A contract sees them as a list.
+/// At most `MAX_BYTES` bytes. A contract sees them as a list.
 #[derive(Drop)]
 pub struct Bytes {
-    items: [u8; CAPACITY],
+    items: [u8; MAX_BYTES],
     len: usize,
 }
 
@@ -28,7 +28,7 @@ impl Bytes {
         ensures { result ≡ [] }
     {
         Bytes {
-            items: [0; CAPACITY],
+            items: [0; MAX_BYTES],
             len: 0,
         }
     }
@@ -52,7 +52,7 @@ impl Bytes {
         ensures full { result ≡ (length self.now == 4096) }
         ensures room { OnFalse result (length self.now < 4096) }
     {
-        self.len == CAPACITY
+        self.len == MAX_BYTES
     }
 
     /// Appends a byte.

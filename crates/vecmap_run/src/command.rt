@@ -5,6 +5,12 @@ ghost use Rattle.std.specs.List.{list_all};
 ghost use Rattle.vecmap_run.specs.declared.command.Command.{Command};
 ghost use Rattle.vecmap_run.specs.Grammar.{HasArguments, IsPair, IsPairAt, Says, has_length_to, is_key, is_key_byte, name_of, number_of, value_of};
 
+/// The greatest length of a key.
+const MAX_KEY_BYTES: usize = 64;
+
+/// The greatest number of digits of a number, which is then below 10 ^ 18.
+const MAX_DIGITS: usize = 18;
+
 /// A command on the map.
 #[derive(Clone, Copy, Debug, PartialEq, Eq)]
 pub enum Command<'a> {
@@ -116,7 +122,7 @@ fn key(word: &str) -> Option<&str>
     ensures said { IfSome result (λ key. IsTrue (is_key key.now) × (word.now ≡ key.now)) }
     ensures unsaid { IfNone result (is_key word.now ≡ false) }
 {
-    if has_length_to(word, 64) && are_key_bytes(word) {
+    if has_length_to(word, MAX_KEY_BYTES) && are_key_bytes(word) {
         Some(word)
     } else {
         None
@@ -150,7 +156,7 @@ fn number(word: &str) -> Option<usize>
     ensures value { result ≡ number_of word.now }
     ensures small { IfSome result (λ number. number < 10 ^ 18) }
 {
-    if has_length_to(word, 18) && are_digits(word) {
+    if has_length_to(word, MAX_DIGITS) && are_digits(word) {
         word.parse().ok()
     } else {
         None

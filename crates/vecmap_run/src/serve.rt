@@ -44,11 +44,13 @@ pub fn serve<R: Read, W: Write>(
     // At the end of the input, the text answers all its lines.
     ensures end { OnOk result (IsAtEnd (R.remaining reader.new)) }
     ensures ok { OnOk result (Serves all_lines
-        (R.remaining reader.old) (R.remaining reader.new) (W.contents writer.old) (W.contents writer.new)) }
+        (R.remaining reader.old) (R.remaining reader.new)
+        (W.contents writer.old) (W.contents writer.new)) }
 
     // If reading fails, the text answers the lines that have ended.
     ensures reading { IsErrOf result ServeError.Reading → Serves ended_lines
-        (R.remaining reader.old) (R.remaining reader.new) (W.contents writer.old) (W.contents writer.new) }
+        (R.remaining reader.old) (R.remaining reader.new)
+        (W.contents writer.old) (W.contents writer.new) }
 {
     let mut service = Service::new(alloc);
     let mut chunk = [0u8; 4096];
@@ -108,7 +110,8 @@ impl Service {
 
     /// Writes the answer to the line that ends with the input, if there is one.
     fn finish<W: Write>(&mut self, writer: &mut W) -> Result<(), ServeError>
-        ensures ok { OnOk result ((input text : List ℕ) → HasServed self.old.line self.old.map.entries input text
+        ensures ok { OnOk result ((input text : List ℕ)
+            → HasServed self.old.line self.old.map.entries input text
             → (more : List ℕ) × Appends (W.contents writer.old) (W.contents writer.new) more
             × Answers [] (all_lines input) (text ++ more) self.new.map.entries) }
         ensures err { IfErr result (λ error. error ≡ ServeError.Writing) }
@@ -142,8 +145,8 @@ impl Service {
 
 /// Writes an answer, and the end of its line.
 fn print<W: Write>(answer: Printed<'_>, writer: &mut W) -> fmt::Result
-    ensures { OnOk result
-        (Appends (W.contents writer.old) (W.contents writer.new) (printed answer.entry.answer answer.entry.pairs.now ++ 10 ∷ [])) }
+    ensures { OnOk result (Appends (W.contents writer.old) (W.contents writer.new)
+        (printed answer.entry.answer answer.entry.pairs.now ++ 10 ∷ [])) }
 {
     let mut buffer = Buffer::new(writer);
     writeln!(buffer, "{answer}")?;

@@ -14,8 +14,11 @@ pub fn set_in(
     name: String,
     value: u32,
 ) -> Result<(), AllocError>
-    ensures written { OnOk result (inner_entries string_eq sections.new.entries section ≡ put string_eq (inner_entries string_eq sections.old.entries section) name value) }
-    ensures others { OnOk result ((other : String Global) → string_eq section other ≡ false → inner_entries string_eq sections.new.entries other ≡ inner_entries string_eq sections.old.entries other) }
+    ensures written { OnOk result (inner_entries string_eq sections.new.entries section
+        ≡ put string_eq (inner_entries string_eq sections.old.entries section) name value) }
+    ensures others { OnOk result ((other : String Global) → string_eq section other ≡ false
+        → inner_entries string_eq sections.new.entries other
+        ≡ inner_entries string_eq sections.old.entries other) }
 {
     inner_insertions_are_found::<String, String, u32>();
     sections.entry(section).or_default()?.insert(name, value)?;

@@ -6,8 +6,10 @@ use vecmap::{Refused, VecSet};
 
 /// Returns the number of a name. A new name gets the next number, and keeps it.
 pub fn intern(names: &mut VecSet<String>, name: String) -> Result<usize, Refused<String>>
-    ensures number { IfOk result (λ number. item_index string_eq names.new.elements name ≡ Some number) }
-    ensures earlier { (i : ℕ) → i < length names.old.elements → slice_get names.new.elements i ≡ slice_get names.old.elements i }
+    ensures number { IfOk result (λ number. item_index string_eq names.new.elements name
+        ≡ Some number) }
+    ensures earlier { (i : ℕ) → i < length names.old.elements
+        → slice_get names.new.elements i ≡ slice_get names.old.elements i }
     ensures err { OnErr result (names.new ≡ names.old) }
 {
     additions_move_nothing::<String>();

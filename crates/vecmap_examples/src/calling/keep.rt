@@ -36,7 +36,7 @@ impl Bill {
 
     /// Sets what a guest pays.
     pub fn set(&mut self, guest: u32, amount: u32) -> Result<(), Refused<(u32, u32)>>
-        ensures list { OnOk result (self.new ≡ put nat_eq self.old guest amount) }
+        ensures entries { OnOk result (self.new ≡ put nat_eq self.old guest amount) }
         ensures err { OnErr result (self.new ≡ self.old) }
     {
         insertion_keeps_keys_distinct::<u32, u32>();
@@ -46,7 +46,7 @@ impl Bill {
 
     /// Removes a guest, who is not found again.
     pub fn leave(&mut self, guest: u32)
-        ensures list { self.new ≡ without_key nat_eq self.old guest }
+        ensures entries { self.new ≡ without_key nat_eq self.old guest }
         ensures gone { lookup nat_eq self.new guest ≡ None }
     {
         removal_keeps_keys_distinct::<u32, u32>();

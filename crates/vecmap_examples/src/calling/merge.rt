@@ -13,7 +13,7 @@ pub fn merge(
     overrides: &mut VecMap<String, u32>,
 ) -> Result<(), AllocError>
     requires { HasDistinctKeys string_eq overrides.old.entries }
-    ensures each { OnOk result ((name : String Global)
+    ensures lookups { OnOk result ((name : String Global)
         → lookup string_eq options.new.entries name
         ≡ option_or (lookup string_eq overrides.old.entries name)
         (lookup string_eq options.old.entries name)) }

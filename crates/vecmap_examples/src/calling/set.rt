@@ -10,8 +10,9 @@ pub fn set_port(
     service: u32,
     port: u16,
 ) -> Result<(), Refused<(u32, u16)>>
-    ensures found { OnOk result (lookup nat_eq ports.new.entries service ≡ Some port) }
-    ensures others { OnOk result ((other : ℕ) → nat_eq service other ≡ false → lookup nat_eq ports.new.entries other ≡ lookup nat_eq ports.old.entries other) }
+    ensures written { OnOk result (lookup nat_eq ports.new.entries service ≡ Some port) }
+    ensures others { OnOk result ((other : ℕ) → nat_eq service other ≡ false
+        → lookup nat_eq ports.new.entries other ≡ lookup nat_eq ports.old.entries other) }
 {
     insertions_are_found::<u32, u16>();
     ports.insert(service, port)?;

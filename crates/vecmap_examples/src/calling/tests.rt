@@ -1,6 +1,7 @@
 //! Tests of the functions of the page.
 use super::{
-    count, errors, filter, inner, intern, keys, lookups, merge, pair, program, refused, set, texts,
+    count, errors, filter, inner, intern, keys, lookups, merge, pair, program, raise, refused, set,
+    texts,
 };
 use keys::{Place, Ticket};
 use std::alloc::{AllocError, Global};
@@ -89,6 +90,15 @@ fn words_are_counted_and_pairs_inserted(rt: HostRuntime) -> Result<(), Fail> {
     let mut map = VecMap::new(alloc);
     pair::put_both(&mut map, (1, 2), (3, 4))?;
     assert!(rt; map.as_slice() == [(1, 2), (3, 4)].as_slice());
+    Ok(())
+}
+
+#[test]
+fn scores_are_raised_up_to_the_greatest(rt: HostRuntime) -> Result<(), Fail> {
+    let mut scores = VecMap::from_slice(rt.alloc(), &[(1, 5), (2, u32::MAX)])?;
+    assert!(rt; raise::raise(&mut scores, 1) && !raise::raise(&mut scores, 2));
+    assert!(rt; !raise::raise(&mut scores, 3));
+    assert!(rt; scores.as_slice() == [(1, 6), (2, u32::MAX)].as_slice());
     Ok(())
 }
 

@@ -13,14 +13,14 @@ loop-other-preserved c =
     let new = c.reserve_in.new.sections.entries in
     let ys = c.as_slice-other-items.result.now in
     let i = c.loop-other.other-index in
-    let done = All-weaker (IsRoomFor old) (IsRoomFor new) (λ p h. c.in_ok-reserve_in.ensures.keeps p.0 (length p.1.entries) h) (take i ys) c.loop-other.invariant.each in
-    let here : IsRoomFor new c.other-item.result = subst (λ n. HasRoomAt new c.other-item.result.0 n) c.len-in-loop-other.ensures.count c.in_ok-reserve_in.ensures.room in
-    let same = same_length new old c.in_ok-reserve_in.ensures.kept in
+    let done = All-weaker (IsRoomFor old) (IsRoomFor new) (λ p h. c.in_ok-reserve_in.ensures.rooms_stay p.0 (length p.1.entries) h) (take i ys) c.loop-other.invariant.rooms in
+    let here : IsRoomFor new c.other-item.result = subst (λ n. HasRoomAt new c.other-item.result.0 n) c.len-in-loop-other.ensures.count c.in_ok-reserve_in.ensures.room_in in
+    let same = same_length new old c.in_ok-reserve_in.ensures.sections in
     record {
-      kept = c.in_ok-reserve_in.ensures.kept ∙ c.loop-other.invariant.kept;
+      sections = c.in_ok-reserve_in.ensures.sections ∙ c.loop-other.invariant.sections;
       room = omega (arith, same, c.in_ok-reserve_in.ensures.capacity, c.loop-other.invariant.room);
-      each = All-more (IsRoomFor new) ys i c.other-item.result c.loop-other-test.true done (subst (IsRoomFor new) c.other-item.is here);
+      rooms = All-more (IsRoomFor new) ys i c.other-item.result c.loop-other-test.true done (subst (IsRoomFor new) c.other-item.is here);
     }
 
-pub returns-clause-each : goal.returns-clause-each
-returns-clause-each c = subst (All (IsRoomFor c.loop-other.sections.entries)) (take_all c.loop-other.other-index c.as_slice-other-items.result.now c.loop-other-test.false ∙ c.as_slice-other-items.ensures) c.loop-other.invariant.each
+pub returns-clause-rooms : goal.returns-clause-rooms
+returns-clause-rooms c = subst (All (IsRoomFor c.loop-other.sections.entries)) (take_all c.loop-other.other-index c.as_slice-other-items.result.now c.loop-other-test.false ∙ c.as_slice-other-items.ensures) c.loop-other.invariant.rooms

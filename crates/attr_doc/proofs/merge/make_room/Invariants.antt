@@ -6,7 +6,7 @@ use Rattle.attr_doc.proofs.merge.make_room.Given as goal
 
 abbrev pub invariant-loop-other : goal.invariant-loop-other
 invariant-loop-other l = record {
-  kept : sections_of l.sections.entries ≡ sections_of l.fn.sections.entries;
+  sections : sections_of l.sections.entries ≡ sections_of l.fn.sections.entries;
   room : HasRoom l.sections (length l.fn.others.entries);
-  each : All (IsRoomFor l.sections.entries) (take l.other-index l.other-items);
+  rooms : All (IsRoomFor l.sections.entries) (take l.other-index l.other-items);
 }

@@ -20,8 +20,8 @@ loop-name-init c =
       moved = refl;
       rest = sym items;
       room = subst (λ l. HasRoom c.args.sections.now (length l)) (sym items) c.requires.room;
-      each = subst (All (IsRoomFor c.args.sections.now.entries)) (sym items) c.requires.each;
-      apart = subst (HasDistinctKeys same_name) (sym items) c.requires.apart;
+      rooms = subst (All (IsRoomFor c.args.sections.now.entries)) (sym items) c.requires.rooms;
+      distinct = subst (HasDistinctKeys same_name) (sym items) c.requires.distinct;
     }
 
 pub move_section-requires-clause-room : goal.move_section-requires-clause-room
@@ -30,7 +30,7 @@ move_section-requires-clause-room c =
     omega (arith, long, c.loop-name.invariant.room)
 
 pub move_section-requires-clause-room_in : goal.move_section-requires-clause-room_in
-move_section-requires-clause-room_in c = All-head (IsRoomFor c.loop-name.sections.entries) (c.in-Some.name, c.in-Some.texts) (into_iter_items c.next.new.self) (subst (All (IsRoomFor c.loop-name.sections.entries)) c.in-Some.ensures.steps.0 c.loop-name.invariant.each)
+move_section-requires-clause-room_in c = All-head (IsRoomFor c.loop-name.sections.entries) (c.in-Some.name, c.in-Some.texts) (into_iter_items c.next.new.self) (subst (All (IsRoomFor c.loop-name.sections.entries)) c.in-Some.ensures.steps.0 c.loop-name.invariant.rooms)
 
 pub loop-name-preserved : goal.loop-name-preserved
 loop-name-preserved c =
@@ -38,13 +38,13 @@ loop-name-preserved c =
     let rest = into_iter_items c.next.new.self in
     let p : List ℕ × Stored = (c.in-Some.name, c.in-Some.texts) in
     let old = c.loop-name.sections.entries in
-    let apart = subst (HasDistinctKeys same_name) next.0 c.loop-name.invariant.apart in
-    let all = subst (All (IsRoomFor old)) next.0 c.loop-name.invariant.each in
+    let distinct = subst (HasDistinctKeys same_name) next.0 c.loop-name.invariant.distinct in
+    let all = subst (All (IsRoomFor old)) next.0 c.loop-name.invariant.rooms in
     let long = ap length next.0 in
     record {
       moved = c.move_section.ensures.sections ∙ ap (λ d. with_section d c.in-Some.name c.in-Some.texts.entries) c.loop-name.invariant.moved ∙ sym (merged_push (sections_of c.args.sections.now.entries) c.loop-name.yielded p);
       rest = rw append_assoc (c.loop-name.invariant.rest ∙ ap (λ l. c.loop-name.yielded ++ l) next.0);
       room = omega (arith, long, c.move_section.ensures.len, c.move_section.ensures.capacity, c.loop-name.invariant.room);
-      each = room_after old c.move_section.new.sections.entries c.in-Some.name rest (IsDistinct-head same_name c.in-Some.name (keys_of rest) apart) c.move_section.ensures.others (All-tail (IsRoomFor old) p rest all);
-      apart = IsDistinct-tail same_name c.in-Some.name (keys_of rest) apart;
+      rooms = room_after old c.move_section.new.sections.entries c.in-Some.name rest (IsDistinct-head same_name c.in-Some.name (keys_of rest) distinct) c.move_section.ensures.others (All-tail (IsRoomFor old) p rest all);
+      distinct = IsDistinct-tail same_name c.in-Some.name (keys_of rest) distinct;
     }

@@ -12,6 +12,6 @@ invariant-loop-name l = record {
   moved : sections_of l.sections.entries ≡ merged (sections_of l.fn.sections.entries) (sections_of l.yielded);
   rest : l.fn.others.items ≡ l.yielded ++ into_iter_items l.name-iterator;
   room : HasRoom l.sections (length (into_iter_items l.name-iterator));
-  each : All (IsRoomFor l.sections.entries) (into_iter_items l.name-iterator);
-  apart : HasDistinctKeys same_name (into_iter_items l.name-iterator);
+  rooms : All (IsRoomFor l.sections.entries) (into_iter_items l.name-iterator);
+  distinct : HasDistinctKeys same_name (into_iter_items l.name-iterator);
 }

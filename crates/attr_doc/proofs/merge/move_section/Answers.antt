@@ -4,10 +4,10 @@ use Rattle.attr_doc.proofs.RoomLemmas.{others_after, others_stay}
 use Rattle.attr_doc.proofs.merge.move_section.Goals as goal
 
 pub unwrap-requires : goal.unwrap-requires
-unwrap-requires c = c.append.ensures.succeeds (c.requires.room_in c.in-Some.there.now (sym c.in-Some.ensures.value))
+unwrap-requires c = c.append.ensures.succeeds (c.requires.room_in c.in-Some.existing.now (sym c.in-Some.ensures.value))
 
 pub returns-in-Some-clause-sections : goal.returns-in-Some-clause-sections
-returns-in-Some-clause-sections c = section_joined c.args.sections.now c.args.name c.in-Some.there.now c.append.new.self c.in-Some.ensures.value (c.in-Some.ensures.found.0 refl) c.args.texts.entries (at_ok c.append.result c.unwrap.result c.unwrap.ensures c.append.ensures.entries)
+returns-in-Some-clause-sections c = section_joined c.args.sections.now c.args.name c.in-Some.existing.now c.append.new.self c.in-Some.ensures.value (c.in-Some.ensures.found.0 refl) c.args.texts.entries (at_ok c.append.result c.unwrap.result c.unwrap.ensures c.append.ensures.entries)
 
 pub returns-in-Some-clause-others : goal.returns-in-Some-clause-others
 returns-in-Some-clause-others c = others_stay c.args.sections.now c.args.name c.append.new.self (c.in-Some.ensures.found.0 refl)

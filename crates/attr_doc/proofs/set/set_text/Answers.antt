@@ -10,9 +10,9 @@ pub returns-in_err-old-in-Some-clause-err : goal.returns-in_err-old-in-Some-clau
 returns-in_err-old-in-Some-clause-err c =
     on_err c.from_residual.result (section_stays c.args.sections.now c.args.section c.in-Some.texts.now c.set_in.new.texts c.in-Some.ensures.value (c.in-Some.ensures.found.0 refl) (ap (λ m. m.entries) c.in_err-old-in-Some.ensures.err))
 
-pub returns-in_err-old-in-Some-clause-there : goal.returns-in_err-old-in-Some-clause-there
-returns-in_err-old-in-Some-clause-there c = λ h.
-    absurd (true≢false (sym (c.in_err-old-in-Some.ensures.there (has_text c.args.sections.now.entries c.args.section c.args.name c.in-Some.texts.now c.in-Some.ensures.value h))))
+pub returns-in_err-old-in-Some-clause-succeeds : goal.returns-in_err-old-in-Some-clause-succeeds
+returns-in_err-old-in-Some-clause-succeeds c = λ h.
+    absurd (true≢false (sym (c.in_err-old-in-Some.ensures.succeeds (has_text c.args.sections.now.entries c.args.section c.args.name c.in-Some.texts.now c.in-Some.ensures.value h))))
 
 pub returns-in_ok-old-in-Some-clause-sections : goal.returns-in_ok-old-in-Some-clause-sections
 returns-in_ok-old-in-Some-clause-sections c = set_there c.args.sections.now c.args.section c.in-Some.texts.now c.set_in.new.texts c.in-Some.ensures.value (c.in-Some.ensures.found.0 refl) c.args.name c.args.text c.in_ok-old-in-Some.ensures.texts
@@ -22,8 +22,8 @@ returns-in_ok-old-in-Some-clause-old c =
     ap (option_map string_bytes) c.in_ok-old-in-Some.ensures.old
     ∙ text_of_some c.args.sections.now.entries c.args.section c.args.name c.in-Some.texts.now c.in-Some.ensures.value
 
-pub returns-then-is_err-clause-there : goal.returns-then-is_err-clause-there
-returns-then-is_err-clause-there c = no_text c.args.sections.now.entries c.args.section c.args.name c.in-None.ensures.value
+pub returns-then-is_err-clause-succeeds : goal.returns-then-is_err-clause-succeeds
+returns-then-is_err-clause-succeeds c = no_text c.args.sections.now.entries c.args.section c.args.name c.in-None.ensures.value
 
 pub returns-else-is_err-2-clause-sections : goal.returns-else-is_err-2-clause-sections
 returns-else-is_err-2-clause-sections c =

@@ -2,5 +2,5 @@ use Rattle.std.proofs.Common.{rules}
 use Rattle.vecmap.proofs.KeptLemmas.{kept_by_test}
 use Rattle.vecmap_callers.proofs.removal.keep_even.Goals as goal
 
-pub returns-clause-left : goal.returns-clause-left
-returns-clause-left c = kept_by_test _ _ (λ f p b q g call. search rules) _ _ _ _ c.retain.ensures.entries.1
+pub returns-clause-entries : goal.returns-clause-entries
+returns-clause-entries c = kept_by_test _ _ (λ f p b q g call. search rules) _ _ _ _ c.retain.ensures.entries.1

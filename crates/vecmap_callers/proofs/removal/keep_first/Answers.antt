@@ -1,3 +1,4 @@
+-- Idea: the closure lowers its count at each call, so it keeps pairs exactly while the count is above zero.
 use Rattle.std.specs.Prelude.{◌≡◌, ℕ, ◌-◌, Bool, true, List, [], ◌∷◌, if◌then◌else◌, nat_lt, refl, take, zero, suc}
 use Rattle.std.proofs.Common.{ap, arith, rules, ◌∙◌}
 use Rattle.std.proofs.lemmas.Bool.Decides.{nat_tests}
@@ -26,6 +27,6 @@ counted_down R count told (suc n) f (x ∷ xs) m g e k =
     let more : nat_lt 0 (suc n) ≡ true = grind (arith, nat_tests) in
     k.6 ∙ (λ i. if (call.0 ∙ ap (nat_lt 0) e ∙ more) i then k.1 ∷ k.3 else k.3) ∙ (λ i. call.1 i ∷ rest i)
 
-pub returns-clause-left : goal.returns-clause-left
-returns-clause-left c =
+pub returns-clause-entries : goal.returns-clause-entries
+returns-clause-entries c =
     counted_down _ (λ f. f.0.now) (λ f p b q g call. search rules) c.args.count _ _ _ _ refl c.retain.ensures.entries.1

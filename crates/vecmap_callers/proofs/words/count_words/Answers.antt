@@ -1,3 +1,4 @@
+-- Idea: one more word adds one to its own count, so the counts are always those of the words so far.
 use Rattle.std.specs.Prelude.{◌≡◌, ◌+◌}
 use Rattle.std.specs.Map.{keys_of}
 use Rattle.std.proofs.Common.{ap, arith, ◌∙◌}
@@ -16,5 +17,5 @@ loop-word-preserved g c =
     let counted : c.count_one.new.counts.entries ≡ put eq l w (count_of eq l w + 1) = grind (arith, c.count_one.ensures, c.if-is_err.ensures.value, c.if-is_err.false) in
     record {
       counts = λ q. ap (λ m. count_of eq m q) counted ∙ count_step eq g.met.K.Eq.laws words i w l q c.loop-word-test.true c.word-item.is (c.loop-word.invariant.counts q);
-      order = ap keys_of counted ∙ order_step eq words i w l (count_of eq l w + 1) c.loop-word-test.true c.word-item.is c.loop-word.invariant.order;
+      keys = ap keys_of counted ∙ order_step eq words i w l (count_of eq l w + 1) c.loop-word-test.true c.word-item.is c.loop-word.invariant.keys;
     }

@@ -7,5 +7,5 @@ use Rattle.vecmap_callers.proofs.words.count_words.Given as goal
 abbrev pub invariant-loop-word : goal.invariant-loop-word
 invariant-loop-word g l = record {
   counts : (q : g.row.K.Denot) → count_of g.K.PartialEq.eq l.counts.entries q ≡ count_by (λ w. g.K.PartialEq.eq w q) (take l.word-index l.words);
-  order : keys_of l.counts.entries ≡ adds g.K.PartialEq.eq [] (take l.word-index l.words);
+  keys : keys_of l.counts.entries ≡ adds g.K.PartialEq.eq [] (take l.word-index l.words);
 }

@@ -5,8 +5,8 @@ use Rattle.vecmap_callers.specs.Options.{setting}
 use Rattle.vecmap_callers.proofs.OptionLemmas.{laid_over}
 use Rattle.vecmap_callers.proofs.options.Options.lay.Goals as goal
 
-pub returns-clause-each : goal.returns-clause-each
-returns-clause-each g c = λ q.
+pub returns-clause-settings : goal.returns-clause-settings
+returns-clause-settings g c = λ q.
     let eq = g.K.PartialEq.eq in
     let mine = c.self.inside in
     let theirs = c.upper.inside in

@@ -5,8 +5,8 @@ use Rattle.vecmap.proofs.AfterPuts.{lookup_puts_distinct}
 use Rattle.vecmap_callers.specs.Options.{setting}
 use Rattle.vecmap_callers.proofs.options.Options.settle.Goals as goal
 
-pub returns-clause-each : goal.returns-clause-each
-returns-clause-each g c = λ q.
+pub returns-clause-settings : goal.returns-clause-settings
+returns-clause-settings g c = λ q.
     let eq = g.K.PartialEq.eq in
     let mine = c.self.inside in
     (λ t. option_or (lookup eq (c.in_ok-append.ensures.emptied t).entries q) (lookup eq (c.in_ok-append.ensures.entries t) q))

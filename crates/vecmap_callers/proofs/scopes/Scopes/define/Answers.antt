@@ -5,8 +5,8 @@ use Rattle.vecmap_callers.specs.Scopes.{resolved}
 use Rattle.vecmap_callers.proofs.ScopeLemmas.{resolved_defined}
 use Rattle.vecmap_callers.proofs.scopes.Scopes.define.Goals as goal
 
-pub returns-clause-each : goal.returns-clause-each
-returns-clause-each g c = λ q.
+pub returns-clause-meanings : goal.returns-clause-meanings
+returns-clause-meanings g c = λ q.
     let eq = g.K.PartialEq.eq in
     let scopes = c.self.inside.scopes.items in
     let last = c.index_mut.result.now in
