@@ -4,8 +4,9 @@ use Rattle.std.specs.List.{remove_range}
 use Rattle.std.specs.List.Sorted.{IsPermutation}
 use Rattle.std.specs.Vec.Iter.{reverse_if}
 use Rattle.std.proofs.Common.{sym, ap, ◌∙◌, append_assoc, arith, drop_at, length-append, length-drop, length-take, subst, take_at, true≢false}
-use Rattle.std.proofs.lemmas.List.{drop_all, length-reverse, length_push, reverse-append, reverse-reverse, take-append-le}
+use Rattle.std.proofs.lemmas.List.{append-nil, drop_all, length-reverse, length_push, reverse-append, reverse-reverse, take-append-le}
 use Rattle.std.proofs.lemmas.List.Edits.{split_between}
+use Rattle.std.proofs.lemmas.List.Folds.{drop_split}
 use Rattle.std.proofs.lemmas.List.Sorted.{IsPermutation-append_comm, IsPermutation-append_right, IsPermutation-reverse, IsPermutation-trans}
 use mathlib.Core.Bool.{beq}
 use lib.ListN.{length-drop, length-take}
@@ -21,6 +22,11 @@ module _ {X : Type 0} where
       let go = slice_range xs i j in
       let long : length stay ≡ k = omega (arith, length-append (take i xs) (drop j xs), length-take i xs, length-drop j xs) in
       (ap reverse (ap (drop k) moved ∙ drop_at stay (reverse go) k long) ∙ reverse-reverse go, ap (take k) moved ∙ take_at stay (reverse go) k long)
+
+  -- If the range from `i` up to `j` is the end of the list, the end holds the range, in order.
+  pub part_at_end : (xs : List X) (i j : ℕ) → i ≤ j → length xs ≤ j → reverse_if false (drop i xs) ≡ slice_range xs i j
+  unfolding reverse_if
+  part_at_end xs i j order last = drop_split xs i j order ∙ ap (λ l. slice_range xs i j ++ l) (drop_all j xs last) ∙ append-nil (slice_range xs i j)
 
   -- This move loses nothing.
   pub moved_rearranged : (xs : List X) (i j : ℕ) → i ≤ j → IsPermutation xs (remove_range xs i j ++ reverse (slice_range xs i j))

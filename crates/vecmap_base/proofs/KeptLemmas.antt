@@ -2,9 +2,9 @@
 use Rattle.std.specs.Prelude.{◌≡◌, ℕ, ◌+◌, ◌<◌, ◌≤◌, Bool, true, false, List, [], ◌∷◌, ◌++◌, drop, filter, if◌then◌else◌, length, refl, take}
 use Rattle.std.specs.List.{FoldsTo, SwappedAt}
 use Rattle.std.proofs.Common.{ap, append_assoc, arith, get_or, set, subst, sym, ◌∙◌}
-use Rattle.std.proofs.lemmas.List.{append-nil, drop-set-lt, drop_all, drop_more, get_or-set_same, length-set, take-append-drop, take-set-le, take_more}
+use Rattle.std.proofs.lemmas.List.{append-nil, drop-set-lt, drop_all, drop_more, get_or-set_same, length-set, take-append-drop, take-set-le, take_all, take_more, take_more_set}
 use Rattle.vecmap_base.specs.Asked.{CallableOnEach, SomeCall}
-use Rattle.vecmap_base.specs.Kept.{Kept}
+use Rattle.vecmap_base.specs.Kept.{Kept, KeptSoFar}
 use Rattle.vecmap_base.proofs.RepeatsLemmas.Gather.{front_swapped, rest_more}
 
 module _ {X : Type 0} where
@@ -24,20 +24,11 @@ module _ {X : Type 0} where
       (swapped.0 ∙ (λ t. left.0 t ++ at t ∷ []), swapped.1 ∙ left.1)
 
 module _ {F X : Type 0} (R : F → X → Bool → X → F → Type 0) where
-  -- The closure was called for the first `i` items of `xs`, in order, which took it from `f0` to `f`. The first `k`
-  -- items of `ys` are those that were kept, as they were written. From `i` on, `ys` is `xs`.
-  pub record KeptSoFar (f0 f : F) (xs ys : List X) (k i : ℕ) : Type 0 where
-    pub bound : k ≤ i
-    pub len : length ys ≡ length xs
-    pub rest : drop i ys ≡ drop i xs
-    pub calls : FoldsTo (SomeCall R) f0 (take i xs) f
-    pub kept : (m : List X) (g : F) → Kept R f (drop i xs) m g → Kept R f0 xs (take k ys ++ m) g
-
   folds_push : (f : F) (xs : List X) (g : F) (x : X) (h : F) → FoldsTo (SomeCall R) f xs g → SomeCall R g x h → FoldsTo (SomeCall R) f (xs ++ x ∷ []) h
   folds_push f [] g x h e c = (h, subst (λ s. SomeCall R s x h) (sym e) c, refl)
   folds_push f (y ∷ ys) g x h e c = (e.0, e.1, folds_push e.0 ys g x h e.2 c)
 
-  module _ (f0 f h : F) (xs ys : List X) (k i : ℕ) (p y : X) (so_far : KeptSoFar f0 f xs ys k i) (l : i < length xs) (at : p ≡ get_or ys i p) where
+  module _ (f0 f h : F) (xs ys : List X) (k i : ℕ) (p y : X) (so_far : KeptSoFar R f0 f xs ys k i) (l : i < length xs) (at : p ≡ get_or ys i p) where
     here : p ≡ get_or xs i p
     here = at ∙ (rest_more xs ys i p l (omega (arith, l, so_far.len)) so_far.rest).0
 
@@ -59,7 +50,7 @@ module _ {F X : Type 0} (R : F → X → Bool → X → F → Type 0) where
           so_far.kept (if b then y ∷ m else m) g (subst (λ t. Kept R f t (if b then y ∷ m else m) g) (sym (drop_more xs i p l)) (b, y, h, m, called, more, refl))
 
     -- If this call returns `true`, the item, as it was written, is appended to the front.
-    pub kept_one : (zs : List X) → R f p true y h → length zs ≡ length ys → SwappedAt (set ys i y) zs k i → KeptSoFar f0 h xs zs (k + 1) (i + 1)
+    pub kept_one : (zs : List X) → R f p true y h → length zs ≡ length ys → SwappedAt (set ys i y) zs k i → KeptSoFar R f0 h xs zs (k + 1) (i + 1)
     kept_one zs call long swapped =
         let front = front_more ys zs k i y so_far.bound (omega (arith, l, so_far.len)) long swapped in
         record {
@@ -71,7 +62,7 @@ module _ {F X : Type 0} (R : F → X → Bool → X → F → Type 0) where
         }
 
     -- If this call returns `false`, the front stays the same.
-    pub kept_not : R f p false y h → KeptSoFar f0 h xs (set ys i y) k (i + 1)
+    pub kept_not : R f p false y h → KeptSoFar R f0 h xs (set ys i y) k (i + 1)
     kept_not call =
         let front = front_left ys k i y so_far.bound in
         record {
@@ -82,8 +73,34 @@ module _ {F X : Type 0} (R : F → X → Bool → X → F → Type 0) where
           kept = λ m g more. subst (λ t. Kept R f0 xs (t ++ m) g) (sym front.0) (kept_more false call m g more);
         }
 
+  -- If all items so far were kept, and this call returns `true`, this item is kept where it is.
+  pub kept_here : (f0 f h : F) (xs ys : List X) (i : ℕ) (p y : X) → KeptSoFar R f0 f xs ys i i → i < length xs → p ≡ get_or ys i p → R f p true y h → KeptSoFar R f0 h xs (set ys i y) (i + 1) (i + 1)
+  kept_here f0 f h xs ys i p y so_far l at call =
+      let long : i < length ys = omega (arith, l, so_far.len) in
+      let front : take (i + 1) (set ys i y) ≡ take i ys ++ y ∷ [] = take_more_set ys i y long in
+      record {
+        bound = omega arith;
+        len = length-set ys i y ∙ so_far.len;
+        rest = (front_left ys i i y so_far.bound).1 ∙ (rest_more xs ys i p l long so_far.rest).1;
+        calls = calls_more f0 f h xs ys i i p y so_far l at true call;
+        kept = λ m g more. subst (λ t. Kept R f0 xs t g) (sym (ap (λ t. t ++ m) front ∙ append_assoc (take i ys) (y ∷ []) m)) (kept_more f0 f h xs ys i i p y so_far l at true call m g more);
+      }
+
+  -- If the closure was called for all items, it was called for the first of any greater number.
+  pub kept_past_end : (f0 f : F) (xs ys : List X) (k i j : ℕ) → length xs ≤ i → i ≤ j → KeptSoFar R f0 f xs ys k i → KeptSoFar R f0 f xs ys k j
+  kept_past_end f0 f xs ys k i j done le so_far =
+      let same : drop j xs ≡ drop i xs = drop_all j xs (omega (arith, done, le)) ∙ sym (drop_all i xs done) in
+      let first : take j xs ≡ take i xs = take_all j xs (omega (arith, done, le)) ∙ sym (take_all i xs done) in
+      record {
+        bound = omega (arith, so_far.bound, le);
+        len = so_far.len;
+        rest = drop_all j ys (omega (arith, done, le, so_far.len)) ∙ sym (drop_all j xs (omega (arith, done, le)));
+        calls = subst (λ t. FoldsTo (SomeCall R) f0 t f) (sym first) so_far.calls;
+        kept = λ m g more. so_far.kept m g (subst (λ t. Kept R f t m g) same more);
+      }
+
   -- Once the closure was called for all items, the kept ones are the front `m`.
-  pub kept_all : (f0 f : F) (xs ys : List X) (k i : ℕ) (m : List X) → KeptSoFar f0 f xs ys k i → length xs ≤ i → m ≡ take k ys → Kept R f0 xs m f
+  pub kept_all : (f0 f : F) (xs ys : List X) (k i : ℕ) (m : List X) → KeptSoFar R f0 f xs ys k i → length xs ≤ i → m ≡ take k ys → Kept R f0 xs m f
   kept_all f0 f xs ys k i m so_far done e =
       let none_left = subst (λ t. Kept R f t [] f) (sym (drop_all i xs done)) (refl, refl) in
       subst (λ t. Kept R f0 xs t f) (append-nil (take k ys) ∙ sym e) (so_far.kept [] f none_left)

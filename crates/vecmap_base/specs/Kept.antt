@@ -1,8 +1,20 @@
 -- What is left of a list if a closure is called for each item, in order, and decides which items stay.
-use Rattle.std.specs.Prelude.{◌≡◌, Bool, List, [], ◌∷◌, if◌then◌else◌}
+use Rattle.std.specs.Prelude.{◌≡◌, ℕ, ◌≤◌, Bool, List, [], ◌∷◌, ◌++◌, drop, if◌then◌else◌, length, take}
+use Rattle.std.specs.List.{FoldsTo}
+use Rattle.vecmap_base.specs.Asked.{SomeCall}
 
 -- The calls at the items of `l`, in order, took the closure from `f` to `g`. The list `m` has the items for which it
 -- returned `true`, as it left them.
 abbrev pub Kept : {F X : Type 0} → (F → X → Bool → X → F → Type 0) → F → List X → List X → F → Type 0
 Kept R f [] m g = (m ≡ []) × (g ≡ f)
 Kept {F} {X} R f (x ∷ xs) m g = (b : Bool) × (y : X) × (h : F) × (rest : List X) × R f x b y h × Kept R h xs rest g × (m ≡ (if b then y ∷ rest else rest))
+
+module _ {F X : Type 0} (R : F → X → Bool → X → F → Type 0) where
+  -- The closure was called for the first `i` items of `xs`, in order, which took it from `f0` to `f`. The first `k`
+  -- items of `ys` are those that were kept, as they were written. From `i` on, `ys` is `xs`.
+  pub record KeptSoFar (f0 f : F) (xs ys : List X) (k i : ℕ) : Type 0 where
+    pub bound : k ≤ i
+    pub len : length ys ≡ length xs
+    pub rest : drop i ys ≡ drop i xs
+    pub calls : FoldsTo (SomeCall R) f0 (take i xs) f
+    pub kept : (m : List X) (g : F) → Kept R f (drop i xs) m g → Kept R f0 xs (take k ys ++ m) g

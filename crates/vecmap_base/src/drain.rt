@@ -24,7 +24,7 @@ ghost use Rattle.vecmap_base.specs.Ranges.{IsRangeWithin};
 /// ```
 pub fn move_range_last<T>(items: &mut Vec<T>, start: usize, end: usize) -> usize
     requires within { IsRangeWithin start end (length items.old.items) }
-    ensures keep { result ≡ length items.old.items - (end - start) }
+    ensures count { result ≡ length items.old.items - (end - start) }
     ensures items { items.new.items
         ≡ remove_range items.old.items start end
         ++ reverse (slice_range items.old.items start end) }

@@ -2,7 +2,7 @@
 //!
 //! It holds a reference to the map and no vector. So the proof of a caller knows what the map has once the drain is
 //! dropped.
-ghost use Rattle.std.specs.Prelude.{◌≡◌, ◌<◌, ◌≤◌, ◌^◌, IfSome, Some, length, slice_range};
+ghost use Rattle.std.specs.Prelude.{◌≡◌, ◌++◌, ◌-◌, ◌<◌, ◌≤◌, ◌^◌, IfSome, Some, [], ◌∷◌, drop, length, reverse, slice_range, take};
 ghost use Rattle.std.specs.Iterator.{UpTo, at_most};
 ghost use Rattle.std.specs.Iterator.Runs.{YieldsInOrder, YieldsInReverse};
 ghost use Rattle.std.specs.Iterator.SizeHint.{IsWithinCount};
@@ -13,6 +13,7 @@ ghost use Rattle.vecmap_map.specs.Drain.{DrainKeeps, DrainNext, DrainNextBack, d
 
 use crate::VecMap;
 use std::fmt;
+use vecmap_base::{move_range_last, reverse_from};
 
 /// An iterator over the pairs of a range of a map, which it removes. [`VecMap::drain`] creates it.
 ///
@@ -21,9 +22,9 @@ use std::fmt;
 ///
 /// # Complexity
 ///
-/// Constant time for each pair that is taken from the same end as the one before, and for the first one from the front.
-/// A pair from the other end takes a number of moves that is linear in the number of remaining pairs, as they are first
-/// reversed. No call allocates.
+/// Constant time for each pair that is taken from the same end as the one before. The first pair, and one from the
+/// other end, can take a number of moves that is linear in the number of remaining pairs, as they are first reversed.
+/// No call allocates.
 ///
 /// # Examples
 ///
@@ -52,7 +53,7 @@ impl<'a, K: Drop, V: Drop> Drain<'a, K, V> {
     ///
     /// # Complexity
     ///
-    /// A number of moves that is linear in the number of pairs from `start` on.
+    /// A number of moves that is linear in the number of pairs from `start` on. If `end` is the number of pairs, none.
     ///
     /// # Examples
     ///
@@ -75,6 +76,13 @@ impl<'a, K: Drop, V: Drop> Drain<'a, K, V> {
         ensures keeps { KeepsAlong DrainNext DrainKeeps result }
         ensures keeps_back { KeepsAlong DrainNextBack DrainKeeps result }
     {
+        if end == map.len() {
+            return Drain {
+                map,
+                keep: start,
+                reversed: false,
+            };
+        }
         let keep = map.move_range_last(start, end);
         Drain {
             map,
@@ -84,12 +92,47 @@ impl<'a, K: Drop, V: Drop> Drain<'a, K, V> {
     }
 }
 
+// The steps of a drain.
+impl<K, V> VecMap<K, V> {
+    // Moves the pairs of a range to the end, in reverse order, and returns the number of the other pairs.
+    fn move_range_last(&mut self, start: usize, end: usize) -> usize
+        requires within { IsRangeWithin start end (length self.old.entries) }
+        ensures count { result ≡ length self.old.entries - (end - start) }
+        ensures countable { length self.new.entries < 2 ^ 63 }
+        ensures entries { self.new.entries
+            ≡ remove_range self.old.entries start end
+            ++ reverse (slice_range self.old.entries start end) }
+        ensures capacity { self.new.capacity ≡ self.old.capacity }
+    {
+        move_range_last(&mut self.pairs, start, end)
+    }
+
+    // Reverses the order of the pairs from index `start` on.
+    fn reverse_from(&mut self, start: usize)
+        requires within { start ≤ length self.old.entries }
+        ensures entries { self.new.entries
+            ≡ take start self.old.entries ++ reverse (drop start self.old.entries) }
+        ensures capacity { self.new.capacity ≡ self.old.capacity }
+    {
+        reverse_from(&mut self.pairs, start);
+    }
+
+    // Removes the last pair and returns it. The map must not be empty.
+    fn take_last(&mut self) -> (K, V)
+        requires within { 0 < length self.old.entries }
+        ensures entries { self.old.entries ≡ self.new.entries ++ result ∷ [] }
+        ensures capacity { self.new.capacity ≡ self.old.capacity }
+    {
+        self.pairs.take_last()
+    }
+}
+
 impl<'a, K, V> Drain<'a, K, V> {
     // Reverses the remaining pairs if their order is not the wanted one.
     fn lay(&mut self, reversed: bool)
         requires { self.old.keep ≤ length self.old.map.now.entries }
         ensures laid { self.new.reversed ≡ reversed }
-        ensures keep { self.new.keep ≡ self.old.keep }
+        ensures front { self.new.keep ≡ self.old.keep }
         ensures count { length self.new.map.now.entries ≡ length self.old.map.now.entries }
         ensures rest { drain_rest self.new ≡ drain_rest self.old }
         ensures keeps { DrainKeeps self.old self.new }

@@ -1,13 +1,12 @@
 //! Removal of pairs.
-ghost use Rattle.std.specs.Prelude.{◌≡◌, ◌-◌, ◌<◌, ◌≤◌, ◌^◌, ◌++◌, IfOk, IsOk, OnErr, OnOk, Some, String, [], ◌∷◌, drop, length, remove, reverse, slice_get, slice_range, take};
+ghost use Rattle.std.specs.Prelude.{◌≡◌, ◌-◌, ◌<◌, ◌≤◌, ◌^◌, IfOk, IsOk, OnErr, OnOk, Some, String, [], drop, length, remove, slice_get, take};
 ghost use Rattle.std.specs.Iterator.Runs.{YieldsInOrder, YieldsInReverse};
-ghost use Rattle.std.specs.List.{remove_range};
 ghost use Rattle.vecmap_base.specs.Drain.{KeepsAlong};
 ghost use Rattle.vecmap_base.specs.Items.{swap_without};
 ghost use Rattle.vecmap_base.specs.Asked.{CallableOnEach, CallsAtPair, TakesPairAt};
 ghost use Rattle.vecmap_base.specs.Kept.{Kept};
 ghost use Rattle.vecmap_base.specs.Pairs.{has_text, lookup_by, lookup_pair_by, swap_without_by, without_by};
-ghost use Rattle.vecmap_base.specs.Ranges.{AreEndsWithin, IsRangeWithin, items_between, without_between};
+ghost use Rattle.vecmap_base.specs.Ranges.{AreEndsWithin, items_between, without_between};
 ghost use Rattle.vecmap_map.specs.Drain.{DrainKeeps, DrainNext, DrainNextBack, drain_capacity, drain_kept, drain_lender, drain_rest};
 
 use crate::VecMap;
@@ -15,9 +14,7 @@ use crate::drain::Drain;
 use std::alloc::AllocError;
 use std::ops::RangeBounds;
 use std::slice;
-use vecmap_base::{
-    Equivalent, find_equivalent, move_range_last, retain_pairs, reverse_from, take_out,
-};
+use vecmap_base::{Equivalent, find_equivalent, retain_pairs, take_out};
 
 impl<K, V> VecMap<K, V> {
     /// Drops all pairs. The capacity stays.
@@ -120,7 +117,8 @@ impl<K, V> VecMap<K, V> {
     ///
     /// # Complexity
     ///
-    /// A number of moves that is linear in the number of pairs from the start of the range on. Does not allocate.
+    /// A number of moves that is linear in the number of pairs from the start of the range on. If the range reaches to
+    /// the end, none. Does not allocate.
     ///
     /// # Examples
     ///
@@ -165,7 +163,8 @@ impl<K, V> VecMap<K, V> {
     ///
     /// # Complexity
     ///
-    /// n calls of `f` and at most n swaps for n pairs. Does not allocate.
+    /// n calls of `f` for n pairs, and at most one swap for each pair after the first that is removed. Does
+    /// not allocate.
     ///
     /// # Examples
     ///
@@ -356,41 +355,6 @@ impl<K, V> VecMap<K, V> {
         ensures capacity { self.new.capacity ≡ self.old.capacity }
     {
         self.pairs.swap_remove(index)
-    }
-}
-
-// The steps of a drain.
-impl<K, V> VecMap<K, V> {
-    // Moves the pairs of a range to the end, in reverse order, and returns the number of the other pairs.
-    pub(crate) fn move_range_last(&mut self, start: usize, end: usize) -> usize
-        requires within { IsRangeWithin start end (length self.old.entries) }
-        ensures keep { result ≡ length self.old.entries - (end - start) }
-        ensures countable { length self.new.entries < 2 ^ 63 }
-        ensures entries { self.new.entries
-            ≡ remove_range self.old.entries start end
-            ++ reverse (slice_range self.old.entries start end) }
-        ensures capacity { self.new.capacity ≡ self.old.capacity }
-    {
-        move_range_last(&mut self.pairs, start, end)
-    }
-
-    // Reverses the order of the pairs from index `start` on.
-    pub(crate) fn reverse_from(&mut self, start: usize)
-        requires within { start ≤ length self.old.entries }
-        ensures entries { self.new.entries
-            ≡ take start self.old.entries ++ reverse (drop start self.old.entries) }
-        ensures capacity { self.new.capacity ≡ self.old.capacity }
-    {
-        reverse_from(&mut self.pairs, start);
-    }
-
-    // Removes the last pair and returns it. The map must not be empty.
-    pub(crate) fn take_last(&mut self) -> (K, V)
-        requires within { 0 < length self.old.entries }
-        ensures entries { self.old.entries ≡ self.new.entries ++ result ∷ [] }
-        ensures capacity { self.new.capacity ≡ self.old.capacity }
-    {
-        self.pairs.take_last()
     }
 }
 

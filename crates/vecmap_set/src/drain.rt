@@ -1,7 +1,7 @@
 //! The iterator that removes a range of elements from a set.
 //!
 //! It holds a reference to the set and no vector, so no two elements of the set are equal at any moment.
-ghost use Rattle.std.specs.Prelude.{◌≡◌, ◌<◌, ◌≤◌, ◌^◌, IfSome, Some, length, slice_range};
+ghost use Rattle.std.specs.Prelude.{◌≡◌, ◌++◌, ◌-◌, ◌<◌, ◌≤◌, ◌^◌, IfSome, Some, [], ◌∷◌, drop, length, reverse, slice_range, take};
 ghost use Rattle.std.specs.Iterator.{UpTo, at_most};
 ghost use Rattle.std.specs.Iterator.Runs.{YieldsInOrder, YieldsInReverse};
 ghost use Rattle.std.specs.Iterator.SizeHint.{IsWithinCount};
@@ -12,6 +12,7 @@ ghost use Rattle.vecmap_set.specs.Drain.{DrainKeeps, DrainNext, DrainNextBack, d
 
 use crate::VecSet;
 use std::fmt;
+use vecmap_base::{move_range_last, reverse_from};
 
 /// An iterator over the elements of a range of a set, which it removes. [`VecSet::drain`] creates it.
 ///
@@ -21,9 +22,9 @@ use std::fmt;
 ///
 /// # Complexity
 ///
-/// Constant time for each element that is taken from the same end as the one before, and for the first one from the
-/// front. An element from the other end takes a number of moves that is linear in the number of remaining elements, as
-/// they are first reversed. No call allocates.
+/// Constant time for each element that is taken from the same end as the one before. The first element, and one from the
+/// other end, can take a number of moves that is linear in the number of remaining elements, as they are first reversed.
+/// No call allocates.
 ///
 /// # Examples
 ///
@@ -52,7 +53,7 @@ impl<'a, T: Eq + Drop> Drain<'a, T> {
     ///
     /// # Complexity
     ///
-    /// A number of moves that is linear in the number of elements from `start` on.
+    /// A number of moves that is linear in the number of elements from `start` on. If `end` is the number of elements, none.
     ///
     /// # Examples
     ///
@@ -75,6 +76,13 @@ impl<'a, T: Eq + Drop> Drain<'a, T> {
         ensures keeps { KeepsAlong DrainNext DrainKeeps result }
         ensures keeps_back { KeepsAlong DrainNextBack DrainKeeps result }
     {
+        if end == set.len() {
+            return Drain {
+                set,
+                keep: start,
+                reversed: false,
+            };
+        }
         let keep = set.move_range_last(start, end);
         Drain {
             set,
@@ -84,12 +92,50 @@ impl<'a, T: Eq + Drop> Drain<'a, T> {
     }
 }
 
+// The steps of a drain. After each of them no two elements are equal.
+impl<T: Eq> VecSet<T> {
+    // Like the function of this name in `vecmap_base`, which it calls.
+    fn move_range_last(&mut self, start: usize, end: usize) -> usize
+        requires within { IsRangeWithin start end (length self.old.elements) }
+        ensures count { result ≡ length self.old.elements - (end - start) }
+        ensures countable { length self.new.elements < 2 ^ 63 }
+        ensures elements { self.new.elements
+            ≡ remove_range self.old.elements start end
+            ++ reverse (slice_range self.old.elements start end) }
+        ensures distinct { IsDistinct T.eq self.new.elements }
+        ensures capacity { self.new.capacity ≡ self.old.capacity }
+    {
+        move_range_last(&mut self.items, start, end)
+    }
+
+    // Like the function of this name in `vecmap_base`, which it calls.
+    fn reverse_from(&mut self, start: usize)
+        requires within { start ≤ length self.old.elements }
+        ensures elements { self.new.elements
+            ≡ take start self.old.elements ++ reverse (drop start self.old.elements) }
+        ensures distinct { IsDistinct T.eq self.new.elements }
+        ensures capacity { self.new.capacity ≡ self.old.capacity }
+    {
+        reverse_from(&mut self.items, start);
+    }
+
+    // Removes the last element of a set that is not empty, and returns it.
+    fn take_last(&mut self) -> T
+        requires within { 0 < length self.old.elements }
+        ensures elements { self.old.elements ≡ self.new.elements ++ result ∷ [] }
+        ensures distinct { IsDistinct T.eq self.new.elements }
+        ensures capacity { self.new.capacity ≡ self.old.capacity }
+    {
+        self.items.take_last()
+    }
+}
+
 impl<'a, T: Eq> Drain<'a, T> {
     // Reverses the remaining elements if their order is not the wanted one.
     fn lay(&mut self, reversed: bool)
         requires { self.old.keep ≤ length self.old.set.now.elements }
         ensures laid { self.new.reversed ≡ reversed }
-        ensures keep { self.new.keep ≡ self.old.keep }
+        ensures front { self.new.keep ≡ self.old.keep }
         ensures count { length self.new.set.now.elements ≡ length self.old.set.now.elements }
         ensures rest { drain_rest self.new ≡ drain_rest self.old }
         ensures keeps { DrainKeeps self.old self.new }

@@ -1,14 +1,14 @@
 //! Removal of elements.
-ghost use Rattle.std.specs.Prelude.{◌≡◌, ◌++◌, ◌-◌, ◌<◌, ◌≤◌, ◌^◌, IfOk, IsOk, OnErr, OnOk, Some, [], ◌∷◌, drop, length, remove, reverse, slice_get, slice_range, take};
+ghost use Rattle.std.specs.Prelude.{◌≡◌, ◌-◌, ◌<◌, ◌≤◌, ◌^◌, IfOk, IsOk, OnErr, OnOk, Some, [], drop, length, remove, slice_get, take};
 ghost use Rattle.std.specs.Fn.{TakesAt};
 ghost use Rattle.std.specs.Iterator.Runs.{YieldsInOrder, YieldsInReverse};
-ghost use Rattle.std.specs.List.{IsDistinct, list_any, remove_range};
+ghost use Rattle.std.specs.List.{IsDistinct, list_any};
 ghost use Rattle.vecmap_base.specs.Drain.{KeepsAlong};
 ghost use Rattle.vecmap_base.specs.Items.{stored_first, swap_without, swap_without_first, without_first};
 ghost use Rattle.vecmap_base.specs.Asked.{CallableOnEach, CallsAtItem};
 ghost use Rattle.vecmap_base.specs.Kept.{Kept};
 ghost use Rattle.vecmap_base.specs.Pairs.{has_text};
-ghost use Rattle.vecmap_base.specs.Ranges.{AreEndsWithin, IsRangeWithin, items_between, without_between};
+ghost use Rattle.vecmap_base.specs.Ranges.{AreEndsWithin, items_between, without_between};
 ghost use Rattle.vecmap_set.specs.Drain.{DrainKeeps, DrainNext, DrainNextBack, drain_capacity, drain_kept, drain_lender, drain_rest};
 
 use crate::VecSet;
@@ -16,9 +16,7 @@ use crate::drain::Drain;
 use std::alloc::AllocError;
 use std::ops::RangeBounds;
 use std::slice;
-use vecmap_base::{
-    Equivalent, find_item_equivalent, move_range_last, retain_items, reverse_from, take_out,
-};
+use vecmap_base::{Equivalent, find_item_equivalent, retain_items, take_out};
 
 impl<T: Eq> VecSet<T> {
     /// Drops all elements, in order. The capacity stays.
@@ -125,7 +123,8 @@ impl<T: Eq> VecSet<T> {
     ///
     /// # Complexity
     ///
-    /// A number of moves that is linear in the number of elements from the start of the range on. Does not allocate.
+    /// A number of moves that is linear in the number of elements from the start of the range on. If the range reaches to
+    /// the end, none. Does not allocate.
     ///
     /// # Examples
     ///
@@ -169,7 +168,8 @@ impl<T: Eq> VecSet<T> {
     ///
     /// # Complexity
     ///
-    /// n calls of `f` and at most n swaps for n elements. Does not allocate.
+    /// n calls of `f` for n elements, and at most one swap for each element after the first that is removed. Does
+    /// not allocate.
     ///
     /// # Examples
     ///
@@ -372,44 +372,6 @@ impl<T: Eq> VecSet<T> {
     {
         let index = find_item_equivalent(&self.items, query)?;
         Some(self.swap_remove_index(index))
-    }
-}
-
-// The steps of a drain. After each of them no two elements are equal.
-impl<T: Eq> VecSet<T> {
-    // Like the function of this name in `vecmap_base`, which it calls.
-    pub(crate) fn move_range_last(&mut self, start: usize, end: usize) -> usize
-        requires within { IsRangeWithin start end (length self.old.elements) }
-        ensures keep { result ≡ length self.old.elements - (end - start) }
-        ensures countable { length self.new.elements < 2 ^ 63 }
-        ensures elements { self.new.elements
-            ≡ remove_range self.old.elements start end
-            ++ reverse (slice_range self.old.elements start end) }
-        ensures distinct { IsDistinct T.eq self.new.elements }
-        ensures capacity { self.new.capacity ≡ self.old.capacity }
-    {
-        move_range_last(&mut self.items, start, end)
-    }
-
-    // Like the function of this name in `vecmap_base`, which it calls.
-    pub(crate) fn reverse_from(&mut self, start: usize)
-        requires within { start ≤ length self.old.elements }
-        ensures elements { self.new.elements
-            ≡ take start self.old.elements ++ reverse (drop start self.old.elements) }
-        ensures distinct { IsDistinct T.eq self.new.elements }
-        ensures capacity { self.new.capacity ≡ self.old.capacity }
-    {
-        reverse_from(&mut self.items, start);
-    }
-
-    // Removes the last element of a set that is not empty, and returns it.
-    pub(crate) fn take_last(&mut self) -> T
-        requires within { 0 < length self.old.elements }
-        ensures elements { self.old.elements ≡ self.new.elements ++ result ∷ [] }
-        ensures distinct { IsDistinct T.eq self.new.elements }
-        ensures capacity { self.new.capacity ≡ self.old.capacity }
-    {
-        self.items.take_last()
     }
 }
 

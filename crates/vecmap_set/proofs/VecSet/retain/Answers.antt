@@ -4,7 +4,7 @@ use Rattle.vecmap_set.proofs.VecSet.retain.Goals as goal
 
 pub invariant_of-self : goal.invariant_of-self
 invariant_of-self g c =
-    let kept = c.retain_items.ensures.kept in
+    let kept = c.retain_items.ensures.retained in
     distinct_kept _ (CallsAtItem g.F.FnMut) (λ f h x y b call. call.1) c.args.f kept.0 _ _ kept.1 c.self.invariant
 
 pub returns-clause-distinct : goal.returns-clause-distinct

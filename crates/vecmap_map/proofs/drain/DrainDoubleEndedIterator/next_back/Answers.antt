@@ -16,7 +16,7 @@ returns-clause-steps g c =
     let d = c.lay.new.self in
     let laid = c.lay.ensures in
     let took = c.take_last.ensures in
-    let pulled = last_pulled d.reversed d.map.now.entries c.take_last.new.self.entries c.take_last.result d.keep laid.laid (omega (arith, laid.count, laid.keep, c.len.ensures.count, c.if-len-self.false)) took.entries in
+    let pulled = last_pulled d.reversed d.map.now.entries c.take_last.new.self.entries c.take_last.result d.keep laid.laid (omega (arith, laid.count, laid.front, c.len.ensures.count, c.if-len-self.false)) took.entries in
     (sym laid.rest ∙ pulled.0, (laid.keeps.0, pulled.1 ∙ laid.keeps.1, took.capacity ∙ laid.keeps.2))
 
 pub returns-clause-goes : goal.returns-clause-goes

@@ -16,7 +16,7 @@ returns-clause-steps g c =
     let d = c.lay.new.self in
     let laid = c.lay.ensures in
     let took = c.take_last.ensures in
-    let pulled = last_pulled d.reversed d.set.now.elements c.take_last.new.self.elements c.take_last.result d.keep laid.laid (omega (arith, laid.count, laid.keep, c.len.ensures.count, c.if-len-self.false)) took.elements in
+    let pulled = last_pulled d.reversed d.set.now.elements c.take_last.new.self.elements c.take_last.result d.keep laid.laid (omega (arith, laid.count, laid.front, c.len.ensures.count, c.if-len-self.false)) took.elements in
     (sym laid.rest ∙ pulled.0, (laid.keeps.0, pulled.1 ∙ laid.keeps.1, took.capacity ∙ laid.keeps.2))
 
 pub returns-clause-goes : goal.returns-clause-goes

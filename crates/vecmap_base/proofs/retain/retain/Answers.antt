@@ -1,0 +1,50 @@
+-- The loop keeps `KeptSoFar`: the front has the kept items, as they were written. Each call extends it by one item.
+use Rattle.std.specs.Prelude.{◌≡◌, ◌<◌, ◌≤◌, false, length, true}
+use Rattle.std.proofs.Common.{arith, get_or, subst, ◌∙◌}
+use Rattle.std.proofs.lemmas.List.{length-set}
+use Rattle.vecmap_base.proofs.KeptLemmas.{callable_here, kept_all, kept_not, kept_one}
+use Rattle.vecmap_base.proofs.retain.retain.Goals as goal
+use Rattle.vecmap_base.proofs.retain.retain.Goals.{else-keeps, then-keeps}
+
+pub keeps-requires : goal.keeps-requires
+keeps-requires g c =
+    let so_far = c.loop-i.invariant.kept in
+    let p = c.index_mut.result.now in
+    let l : c.loop-i.i < length c.args.items.now.items = omega (arith, c.loop-i-test.true, c.len-i-end.ensures, c.args.items.now.ok.0) in
+    callable_here g.A.Keeps.step c.args.asked c.loop-i.asked c.loop-i.asked _ _ c.loop-i.kept c.loop-i.i p p so_far l c.index_mut.ensures.value g.A.Keeps.accepts c.requires.callable
+
+pub loop-i-preserved : goal.loop-i-preserved
+loop-i-preserved g c =
+    let R = g.A.Keeps.step in
+    let xs = c.args.items.now.items in
+    let ys = c.loop-i.items.items in
+    let i = c.loop-i.i in
+    let k = c.loop-i.kept in
+    let so_far = c.loop-i.invariant.kept in
+    let p = c.index_mut.result.now in
+    let y = c.keeps.new.item in
+    let f = c.loop-i.asked in
+    let h = c.keeps.new.self in
+    let at : p ≡ get_or ys i p = c.index_mut.ensures.value in
+    let l : i < length xs = omega (arith, c.loop-i-test.true, c.len-i-end.ensures, c.args.items.now.ok.0) in
+    elim c.if-keeps.branch [
+      | then-keeps w ↦
+          let call : R f p true y h = subst (λ b. R f p b y h) w.if-keeps.true c.keeps.ensures in
+          let zs = w.swap.new.self.items in
+          let long : length zs ≡ length ys = omega (arith, w.swap.new.self.ok.0, w.swap.ensures.len, length-set ys i y, c.loop-i.items.ok.0) in
+          rw (w.items-is, w.kept-is) (record {
+            kept = kept_one R c.args.asked f h xs ys k i p y so_far l at zs call long w.swap.ensures.by_index;
+            capacity = w.swap.ensures.capacity ∙ c.loop-i.invariant.capacity;
+          })
+      | else-keeps w ↦
+          let call : R f p false y h = subst (λ b. R f p b y h) w.if-keeps.false c.keeps.ensures in
+          rw (w.items-is, w.kept-is) (record {
+            kept = kept_not R c.args.asked f h xs ys k i p y so_far l at call;
+            capacity = c.loop-i.invariant.capacity;
+          })
+    ]
+
+pub returns-clause-retained : goal.returns-clause-retained
+returns-clause-retained g c =
+    let done : length c.args.items.now.items ≤ c.loop-i.i = omega (arith, c.loop-i-test.false, c.len-i-end.ensures, c.args.items.now.ok.0) in
+    (c.loop-i.asked, kept_all g.A.Keeps.step c.args.asked c.loop-i.asked _ _ c.loop-i.kept c.loop-i.i _ c.loop-i.invariant.kept done c.truncate.ensures.items)
