@@ -20,3 +20,8 @@ module _ {S T : Type 0} (steps : S → Option (Bor T) → S → Type 0) (rest : 
   -- Clones of what was taken are clones of that list.
   pub clones_drained : (C : T → T → Type 0) (s : S) (l made : List T) → rest s ≡ l → DrainsIntoClones steps C s made → AreClones C l made
   clones_drained C s l made e h = subst (λ m. AreClones C m made) (drained s h.0 h.1 ∙ e) h.2
+
+  -- The same of an iterator that is made over two lists, and yields a list that is computed from them.
+  pub operator_clones : (C : T → T → Type 0) (over : List T → List T → S) (list : List T → List T → List T) (yields : (a b : List T) → rest (over a b) ≡ list a b) (s : S) (a b x y made : List T) → s ≡ over x y → x ≡ a → y ≡ b → DrainsIntoClones steps C s made → AreClones C (list a b) made
+  operator_clones C over list yields s a b x y made e f h d =
+      clones_drained C s (list a b) made (ap rest e ∙ yields x y ∙ (λ j. list (f j) (h j))) d
