@@ -28,6 +28,23 @@ module _ {X : Type 0} where
   unfolding reverse_if
   part_at_end xs i j order last = drop_split xs i j order ∙ ap (λ l. slice_range xs i j ++ l) (drop_all j xs last) ∙ append-nil (slice_range xs i j)
 
+  -- The same move by two reversals, of the list from `i` on and of its part before `k`.
+  pub moved_by_reversals : (xs ys zs : List X) (i j k : ℕ) → i ≤ j → j ≤ length xs → k ≡ length xs - (j - i) → ys ≡ take i xs ++ reverse (drop i xs) → zs ≡ (take i ys ++ reverse (slice_range ys i k)) ++ drop k ys
+      → zs ≡ remove_range xs i j ++ reverse (slice_range xs i j)
+  moved_by_reversals xs ys zs i j k order within keep first second =
+      let front = take i xs in
+      let go = slice_range xs i j in
+      let back = drop j xs in
+      let long : length front ≡ i = omega (arith, length-take i xs) in
+      let behind : length (reverse back) ≡ k - i = omega (arith, length-reverse back, length-drop j xs) in
+      let both : length (front ++ reverse back) ≡ k = omega (arith, length-append front (reverse back), long, behind) in
+      let turned : ys ≡ front ++ (reverse back ++ reverse go) = first ∙ ap (λ l. front ++ reverse l) (drop_split xs i j order) ∙ ap (λ l. front ++ l) (reverse-append go back) in
+      let middle : slice_range ys i k ≡ reverse back =
+      ap (λ l. take (k - i) (drop i l)) turned ∙ ap (take (k - i)) (drop_at front (reverse back ++ reverse go) i long) ∙ take_at (reverse back) (reverse go) (k - i) behind in
+      let end : drop k ys ≡ reverse go = ap (drop k) (turned ∙ sym (append_assoc front (reverse back) (reverse go))) ∙ drop_at (front ++ reverse back) (reverse go) k both in
+      let kept : take i ys ≡ front = ap (take i) turned ∙ take_at front (reverse back ++ reverse go) i long in
+      second ∙ (λ t. (kept t ++ reverse (middle t)) ++ end t) ∙ ap (λ l. (front ++ l) ++ reverse go) (reverse-reverse back)
+
   -- This move loses nothing.
   pub moved_rearranged : (xs : List X) (i j : ℕ) → i ≤ j → IsPermutation xs (remove_range xs i j ++ reverse (slice_range xs i j))
   moved_rearranged xs i j order =

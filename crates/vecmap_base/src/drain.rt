@@ -3,6 +3,12 @@ ghost use Rattle.std.specs.Prelude.{◌≡◌, ◌++◌, ◌-◌, ◌≤◌, dro
 ghost use Rattle.std.specs.List.{remove_range};
 ghost use Rattle.vecmap_base.specs.Ranges.{IsRangeWithin};
 
+use std::mem::size_of_val;
+
+// A range is moved by two reversals if it has, with the items behind it, no more than these bytes, and by a rotation and
+// a reversal otherwise.
+const MAX_BYTES_FOR_REVERSALS: usize = 1024;
+
 /// Moves the items of `start..end` behind the others, in reverse order, and returns the number of the others.
 ///
 /// The others keep their order.
@@ -32,8 +38,13 @@ pub fn move_range_last<T>(items: &mut Vec<T>, start: usize, end: usize) -> usize
 {
     let count = end - start;
     let keep = items.len() - count;
-    items[start..].rotate_left(count);
-    items[keep..].reverse();
+    if size_of_val(&items[start..]) <= MAX_BYTES_FOR_REVERSALS {
+        reverse_from(items, start);
+        reverse_between(items, start, keep);
+    } else {
+        items[start..].rotate_left(count);
+        items[keep..].reverse();
+    }
     keep
 }
 
@@ -61,4 +72,16 @@ pub fn reverse_from<T>(items: &mut Vec<T>, start: usize)
     ensures capacity { vec_capacity items.new ≡ vec_capacity items.old }
 {
     items[start..].reverse();
+}
+
+// Reverses the items of `start..end`.
+fn reverse_between<T>(items: &mut Vec<T>, start: usize, end: usize)
+    requires within { IsRangeWithin start end (length items.old.items) }
+    ensures items { items.new.items
+        ≡ take start items.old.items
+        ++ reverse (slice_range items.old.items start end)
+        ++ drop end items.old.items }
+    ensures capacity { vec_capacity items.new ≡ vec_capacity items.old }
+{
+    items[start..end].reverse();
 }
