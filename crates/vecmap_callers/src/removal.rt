@@ -96,12 +96,12 @@ pub fn pull_from_either_end(map: &mut VecMap<u32, u32>, count: usize, from_back:
     ensures entries { map.new.entries ≡ drop count map.old.entries }
     ensures capacity { map.new.capacity ≡ map.old.capacity }
 {
-    let mut range = map.drain(..count);
+    let mut pairs = map.drain(..count);
     for back in from_back {
         if *back {
-            range.next_back();
+            pairs.next_back();
         } else {
-            range.next();
+            pairs.next();
         }
     }
 }
