@@ -9,4 +9,4 @@ pub returns-clause-others : goal.returns-clause-others
 returns-clause-others g c = search (rules, c.inner_insertions_are_found.ensures.entry_others)
 
 pub returns-in_err-insert-clause-err : goal.returns-in_err-insert-clause-err
-returns-in_err-insert-clause-err g c = on_err _ (c.inner_insertions_are_found.ensures.entry_unchanged _ _ _ c.entry.result _ c.insert.new.self (search rules) c.in_err-insert.ensures.err.same c.in_ok-or_default.ensures.value c.entry.ensures.unchanged c.entry.ensures.key c.entry.ensures.place)
+returns-in_err-insert-clause-err g c = on_err _ (c.inner_insertions_are_found.ensures.entry_unchanged _ _ _ c.entry.result _ c.insert.new.self (search rules) c.in_err-insert.ensures.err.unchanged c.in_ok-or_default.ensures.value c.entry.ensures.unchanged c.entry.ensures.key c.entry.ensures.place)

@@ -4,4 +4,4 @@ use Rattle.std.proofs.lemmas.Map.Made.{keys_of-map_values}
 use Rattle.attr_doc.proofs.document.Document.sections.Goals as goal
 
 pub returns-clause-rest : goal.returns-clause-rest
-returns-clause-rest c = c.keys.ensures.rest ∙ sym (keys_of-map_values (λ m. m.entries) c.self.inside.sections.entries) ∙ ap keys_of c.self.view_is
+returns-clause-rest c = c.keys.ensures.0 ∙ sym (keys_of-map_values (λ m. m.entries) c.self.inside.sections.entries) ∙ ap keys_of c.self.view_is

@@ -10,7 +10,7 @@ pub returns-in_err-push-clause-err : goal.returns-in_err-push-clause-err
 returns-in_err-push-clause-err c = rw (c.writes_are_insertions.ensures.write c.self.inside.fields c.args.name c.push.new.self (search rules)) (search (rules, on_err, c.insertions_are_found.ensures.value c.self.inside.fields.entries c.args.name c.push.new.self, c.in_err-push.ensures.items, c.in-Some.ensures.value, c.self.view_is))
 
 pub returns-in_err-push-clause-names_err : goal.returns-in_err-push-clause-names_err
-returns-in_err-push-clause-names_err c = rw (c.writes_are_insertions.ensures.write c.self.inside.fields c.args.name c.push.new.self (search rules)) (search (rules, on_err, c.insertions_are_found.ensures.keys c.self.inside.fields.entries c.args.name c.push.new.self, c.insertions_are_found.ensures.keys c.self.inside.fields.entries c.args.name c.in-Some.values.now, c.writes_are_insertions.ensures.same c.self.inside.fields.entries c.args.name c.in-Some.values.now (search rules), c.self.view_is))
+returns-in_err-push-clause-names_err c = rw (c.writes_are_insertions.ensures.write c.self.inside.fields c.args.name c.push.new.self (search rules)) (search (rules, on_err, c.insertions_are_found.ensures.keys c.self.inside.fields.entries c.args.name c.push.new.self, c.insertions_are_found.ensures.keys c.self.inside.fields.entries c.args.name c.in-Some.values.now, c.writes_are_insertions.ensures.unchanged c.self.inside.fields.entries c.args.name c.in-Some.values.now (search rules), c.self.view_is))
 
 pub returns-in-Some-clause-written : goal.returns-in-Some-clause-written
 returns-in-Some-clause-written c = grind (arith, c.writes_are_insertions.ensures.write c.self.inside.fields c.args.name c.push.new.self (search rules), c.insertions_are_found.ensures.value c.self.inside.fields.entries c.args.name c.push.new.self)
