@@ -5,8 +5,8 @@ ghost use Rattle.vecmap_base.specs.Ranges.{IsRangeWithin};
 
 use std::mem::size_of_val;
 
-// A range is moved by two reversals if it has, with the items behind it, no more than these bytes, and by a rotation and
-// a reversal otherwise.
+// The largest size, in bytes, of a range and the items behind it that is moved by two reversals. A larger one is moved
+// by a rotation and a reversal.
 const MAX_BYTES_FOR_REVERSALS: usize = 1024;
 
 /// Moves the items of `start..end` behind the others, in reverse order, and returns the number of the others.
@@ -28,6 +28,7 @@ const MAX_BYTES_FOR_REVERSALS: usize = 1024;
 /// move_range_last(&mut items, 0, 2) // 2
 /// items.as_slice() // [3, 4, 2, 1]
 /// ```
+#[inline(never)]
 pub fn move_range_last<T>(items: &mut Vec<T>, start: usize, end: usize) -> usize
     requires within { IsRangeWithin start end (length items.old.items) }
     ensures count { result ≡ length items.old.items - (end - start) }

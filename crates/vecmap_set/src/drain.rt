@@ -22,9 +22,9 @@ use vecmap_base::{move_range_last, reverse_from};
 ///
 /// # Complexity
 ///
-/// Constant time for each element that is taken from the same end as the one before. The first element, and one from the
-/// other end, can take a number of moves that is linear in the number of remaining elements, as they are first reversed.
-/// No call allocates.
+/// Constant time for each element that is taken from the same end as the one before. The first element, and one from
+/// the other end, can take a number of moves that is linear in the number of remaining elements, as they are first
+/// reversed. No call allocates.
 ///
 /// # Examples
 ///
@@ -53,7 +53,8 @@ impl<'a, T: Eq + Drop> Drain<'a, T> {
     ///
     /// # Complexity
     ///
-    /// A number of moves that is linear in the number of elements from `start` on. If `end` is the number of elements, none.
+    /// A number of moves that is linear in the number of elements from `start` on. If `end` is the number of elements,
+    /// none.
     ///
     /// # Examples
     ///

@@ -123,8 +123,8 @@ impl<T: Eq> VecSet<T> {
     ///
     /// # Complexity
     ///
-    /// A number of moves that is linear in the number of elements from the start of the range on. If the range reaches to
-    /// the end, none. Does not allocate.
+    /// A number of moves that is linear in the number of elements from the start of the range on. If the range reaches
+    /// to the end, none. Does not allocate.
     ///
     /// # Examples
     ///
