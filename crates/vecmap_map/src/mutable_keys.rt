@@ -80,7 +80,8 @@ pub trait MutableKeys: sealed::Sealed {
     ///
     /// # Complexity
     ///
-    /// n calls of `f` and at most n swaps for n pairs. Does not allocate.
+    /// n calls of `f` for n pairs, and at most one swap for each pair after the first that is removed. Does not
+    /// allocate.
     ///
     /// # Examples
     ///
