@@ -1,6 +1,6 @@
 -- The loop keeps `KeptSoFar` with all items kept: each item stays where it is, as it was written.
-use Rattle.std.specs.Prelude.{◌≡◌, ◌<◌, ◌≤◌, false, length, true}
-use Rattle.std.proofs.Common.{arith, get_or, subst}
+use Rattle.std.specs.Prelude.{◌<◌, false, length, true}
+use Rattle.std.proofs.Common.{arith, subst}
 use Rattle.vecmap_base.proofs.KeptLemmas.{callable_here, kept_here, kept_not}
 use Rattle.vecmap_base.proofs.retain.find_refused.Goals as goal
 
