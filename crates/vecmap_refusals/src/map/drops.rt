@@ -63,9 +63,9 @@ fn put<'a>(
 // Checks that an insertion keeps its pair, or returns it so that the call can be repeated.
 fn check<R: Abort + Print>(rt: &R, alloc: Global, call: Insertion) -> Result<(), Fail> {
     let log = Log::new();
-    let mut map = told_map(rt, alloc, &log, &[1, 2])?;
+    let mut map = told_map(rt, alloc, &log, &[1, 2]);
     if let Err(refused) = put(call, &mut map, make_told(&log, 3), make_told(&log, 13)) {
-        tell(rt)?;
+        tell(rt);
         assert!(rt; log.alive() == 6 && has_told_pairs(map.as_slice(), &[(1, 11), (2, 12)]));
         let (key, value) = refused.given;
         put(call, &mut map, key, value)?;
@@ -139,12 +139,12 @@ fn many_pairs_are_kept_or_dropped(rt: HostRuntime) -> Result<(), Fail> {
         (ManyPairs::FromIter, made),
     ] {
         let log = Log::new();
-        let mut map = told_map(&rt, rt.alloc(), &log, &[1, 2])?;
-        let more = told_couples(&rt, rt.alloc(), &log, &[3, 1, 4, 3, 5])?;
+        let mut map = told_map(&rt, rt.alloc(), &log, &[1, 2]);
+        let more = told_couples(&rt, rt.alloc(), &log, &[3, 1, 4, 3, 5]);
         if put_many(call, rt.alloc(), &mut map, more).is_err() {
-            tell(&rt)?;
+            tell(&rt);
             assert!(rt; log.alive() as usize == map.len().wrapping_mul(2));
-            let more = told_couples(&rt, rt.alloc(), &log, &[3, 1, 4, 3, 5])?;
+            let more = told_couples(&rt, rt.alloc(), &log, &[3, 1, 4, 3, 5]);
             put_many(call, rt.alloc(), &mut map, more)?;
         }
         assert!(rt; has_told_pairs(map.as_slice(), wanted));
@@ -168,13 +168,13 @@ fn carrying<'a>(
 #[test]
 fn a_map_run_keeps_what_its_commands_carry_or_drops_it(rt: HostRuntime) -> Result<(), Fail> {
     let log = Log::new();
-    let mut map = told_map(&rt, rt.alloc(), &log, &[1, 2])?;
+    let mut map = told_map(&rt, rt.alloc(), &log, &[1, 2]);
     let commands = make!(rt; carrying(rt.alloc(), &log));
     drop(run(rt.alloc(), &mut map, commands));
     if map.len() < 5 {
-        tell(&rt)?;
+        tell(&rt);
         assert!(rt; log.alive() as usize == map.len().wrapping_mul(2));
-        map = told_map(&rt, rt.alloc(), &log, &[1, 2])?;
+        map = told_map(&rt, rt.alloc(), &log, &[1, 2]);
         drop(run(rt.alloc(), &mut map, carrying(rt.alloc(), &log)?)?);
     }
     let all = [(1, 10), (2, 12), (3, 13), (5, 15), (6, 16)];
@@ -191,7 +191,7 @@ fn or_default_keeps_the_key_or_returns_it(rt: HostRuntime) -> Result<(), Fail> {
         Err(refused) => Some(refused.given),
     };
     if let Some((key, value)) = given {
-        tell(&rt)?;
+        tell(&rt);
         assert!(rt; map.is_empty() && (key.number(), value, log.alive()) == (1, 0, 1));
         map.entry(key).or_default()?;
     }
@@ -204,9 +204,9 @@ fn or_default_keeps_the_key_or_returns_it(rt: HostRuntime) -> Result<(), Fail> {
 #[test]
 fn put_pair_keeps_a_pair_or_drops_it(rt: HostRuntime) -> Result<(), Fail> {
     let log = Log::new();
-    let mut map = told_map(&rt, rt.alloc(), &log, &[1, 2])?;
+    let mut map = told_map(&rt, rt.alloc(), &log, &[1, 2]);
     if put_pair(&mut map, make_told(&log, 3), make_told(&log, 13)).is_err() {
-        tell(&rt)?;
+        tell(&rt);
         assert!(rt; log.alive() == 4 && has_told_pairs(map.as_slice(), &[(1, 11), (2, 12)]));
         put_pair(&mut map, make_told(&log, 3), make_told(&log, 13))?;
     }
@@ -230,7 +230,7 @@ fn three_made<'a, R: Abort + Print>(rt: &R, alloc: Global, log: &'a Log) -> Resu
     match three(alloc, log) {
         Ok(map) => Ok(map),
         Err(AllocError) => {
-            tell(rt)?;
+            tell(rt);
             assert!(rt; log.alive() == 0);
             Ok(three(alloc, log)?)
         }
@@ -256,13 +256,13 @@ fn collected_made<'a, R: Abort + Print>(
     alloc: Global,
     log: &'a Log,
 ) -> Result<Map<'a>, Fail> {
-    let couples = told_couples(rt, alloc, log, &[3, 1, 4, 3, 5])?;
+    let couples = told_couples(rt, alloc, log, &[3, 1, 4, 3, 5]);
     match collected(alloc, couples) {
         Ok(map) => Ok(map),
         Err(AllocError) => {
-            tell(rt)?;
+            tell(rt);
             assert!(rt; log.alive() == 0);
-            let couples = told_couples(rt, alloc, log, &[3, 1, 4, 3, 5])?;
+            let couples = told_couples(rt, alloc, log, &[3, 1, 4, 3, 5]);
             Ok(collected(alloc, couples)?)
         }
     }
@@ -299,14 +299,14 @@ fn puts<'a>(
 #[test]
 fn a_map_run_keeps_each_inserted_pair_or_drops_it(rt: HostRuntime) -> Result<(), Fail> {
     let log = Log::new();
-    let mut map = told_map(&rt, rt.alloc(), &log, &[1, 2])?;
+    let mut map = told_map(&rt, rt.alloc(), &log, &[1, 2]);
     let commands = make!(rt; puts(rt.alloc(), &log));
     assert!(rt; log.alive() == 22);
     drop(run(rt.alloc(), &mut map, commands));
     if map.len() < 6 {
-        tell(&rt)?;
+        tell(&rt);
         assert!(rt; log.alive() as usize == map.len().wrapping_mul(2));
-        map = told_map(&rt, rt.alloc(), &log, &[1, 2])?;
+        map = told_map(&rt, rt.alloc(), &log, &[1, 2]);
         drop(run(rt.alloc(), &mut map, puts(rt.alloc(), &log)?)?);
     }
     let all = [(2, 22), (4, 14), (1, 31), (3, 13), (5, 15), (6, 16)];
@@ -336,22 +336,22 @@ fn takes<'a>(
 #[test]
 fn a_map_run_drops_what_its_commands_compare_or_remove_by(rt: HostRuntime) -> Result<(), Fail> {
     let log = Log::new();
-    let mut map = told_map(&rt, rt.alloc(), &log, &[1, 2, 3, 4, 5, 6])?;
-    let carried = told_map(&rt, rt.alloc(), &log, &[6, 5, 4, 3, 2, 1])?;
+    let mut map = told_map(&rt, rt.alloc(), &log, &[1, 2, 3, 4, 5, 6]);
+    let carried = told_map(&rt, rt.alloc(), &log, &[6, 5, 4, 3, 2, 1]);
     let commands = match takes(rt.alloc(), &log, carried) {
         Ok(commands) => commands,
         Err(AllocError) => {
-            tell(&rt)?;
+            tell(&rt);
             assert!(rt; log.alive() == 12);
-            takes(rt.alloc(), &log, told_map(&rt, rt.alloc(), &log, &[6])?)?
+            takes(rt.alloc(), &log, told_map(&rt, rt.alloc(), &log, &[6]))?
         }
     };
     let replies = match run(rt.alloc(), &mut map, commands) {
         Ok(replies) => replies,
         Err(AllocError) => {
-            tell(&rt)?;
+            tell(&rt);
             assert!(rt; log.alive() == 12 && map.len() == 6);
-            let carried = told_map(&rt, rt.alloc(), &log, &[6])?;
+            let carried = told_map(&rt, rt.alloc(), &log, &[6]);
             run(rt.alloc(), &mut map, takes(rt.alloc(), &log, carried)?)?
         }
     };
@@ -383,10 +383,10 @@ fn insert_in_vacant<'a>(
 fn vacant_entries_keep_a_pair_or_return_it(rt: HostRuntime) -> Result<(), Fail> {
     for wants_entry in [false, true] {
         let log = Log::new();
-        let mut map = told_map(&rt, rt.alloc(), &log, &[1, 2])?;
+        let mut map = told_map(&rt, rt.alloc(), &log, &[1, 2]);
         let (key, value) = (make_told(&log, 3), make_told(&log, 13));
         if let Err(refused) = insert_in_vacant(&mut map, key, value, wants_entry) {
-            tell(&rt)?;
+            tell(&rt);
             assert!(rt; log.alive() == 6 && has_told_pairs(map.as_slice(), &[(1, 11), (2, 12)]));
             let (key, value) = refused.given;
             insert_in_vacant(&mut map, key, value, wants_entry)?;

@@ -44,14 +44,14 @@ fn has_all_but_the_first(replies: &[MapReply<Item, u32>], map: &VecMap<Item, u32
 fn a_map_run_goes_on_after_a_refused_command(rt: HostRuntime) -> Result<(), Fail> {
     let mut is_refused = false;
     for _ in 0..2 {
-        let mut map = full_map(&rt, rt.alloc(), FULL)?;
+        let mut map = full_map(&rt, rt.alloc(), FULL);
         let commands = make!(rt; commands(rt.alloc()));
         match run(rt.alloc(), &mut map, commands) {
             Ok(replies) if has_all(&replies, &map) => return Ok(()),
             Ok(replies) => assert!(rt; has_all_but_the_first(&replies, &map)),
             Err(AllocError) => assert!(rt; has_pairs(map.as_slice(), FULL) && map.capacity() == 2),
         }
-        tell(&rt)?;
+        tell(&rt);
         assert!(rt; !is_refused);
         is_refused = true;
     }
@@ -76,7 +76,7 @@ fn to_vec(alloc: Global) -> Result<Vec<MapCommand<String, String>>, AllocError> 
 fn a_get_of_a_map_whose_clone_is_refused_replies_out_of_memory(
     rt: HostRuntime,
 ) -> Result<(), Fail> {
-    let mut map = text_map(&rt, rt.alloc(), TEXTS)?;
+    let mut map = text_map(&rt, rt.alloc(), TEXTS);
     let mut is_refused = false;
     for _ in 0..2 {
         let commands = make!(rt; get(rt.alloc()));
@@ -84,7 +84,7 @@ fn a_get_of_a_map_whose_clone_is_refused_replies_out_of_memory(
         assert!(rt; has_text_pairs(map.as_slice(), TEXTS));
         match replies.as_deref() {
             Ok([MapReply::Value(Some(value))]) if value.as_str() == "1" => return Ok(()),
-            Ok([MapReply::NoMemory]) | Err(AllocError) => tell(&rt)?,
+            Ok([MapReply::NoMemory]) | Err(AllocError) => tell(&rt),
             _ => return Err(Fail::new("another reply")),
         }
         assert!(rt; !is_refused);
@@ -97,7 +97,7 @@ fn a_get_of_a_map_whose_clone_is_refused_replies_out_of_memory(
 fn a_list_of_a_map_whose_clones_are_refused_replies_out_of_memory(
     rt: HostRuntime,
 ) -> Result<(), Fail> {
-    let mut map = text_map(&rt, rt.alloc(), TEXTS)?;
+    let mut map = text_map(&rt, rt.alloc(), TEXTS);
     let mut is_refused = false;
     for _ in 0..2 {
         let commands = make!(rt; to_vec(rt.alloc()));
@@ -105,7 +105,7 @@ fn a_list_of_a_map_whose_clones_are_refused_replies_out_of_memory(
         assert!(rt; has_text_pairs(map.as_slice(), TEXTS));
         match replies.as_deref() {
             Ok([MapReply::Pairs(pairs)]) if has_text_pairs(pairs, TEXTS) => return Ok(()),
-            Ok([MapReply::NoMemory]) | Err(AllocError) => tell(&rt)?,
+            Ok([MapReply::NoMemory]) | Err(AllocError) => tell(&rt),
             _ => return Err(Fail::new("another reply")),
         }
         assert!(rt; !is_refused);
@@ -119,7 +119,7 @@ macro_rules! refused_then_done {
     ($rt:ident; $command:expr, $reply:pat => $left:expr $(, $is_wanted:expr)?) => {{
         let mut is_refused = false;
         for _ in 0..2 {
-            let mut map = full_map(&$rt, $rt.alloc(), FULL)?;
+            let mut map = full_map(&$rt, $rt.alloc(), FULL);
             let mut commands = make!($rt; Vec::with_capacity($rt.alloc(), 1));
             commands.push($command)?;
             match run($rt.alloc(), &mut map, commands).as_deref() {
@@ -132,7 +132,7 @@ macro_rules! refused_then_done {
                 }
                 _ => return Err(Fail::new("another reply")),
             }
-            tell(&$rt)?;
+            tell(&$rt);
             assert!($rt; !is_refused);
             is_refused = true;
         }
@@ -188,7 +188,7 @@ fn a_split_of_equal_keys_separates_them_or_replies_out_of_memory(
                 assert!(rt; has_pairs(part.as_slice(), &[(1, 'b', 20)]));
                 return Ok(());
             }
-            Ok([MapReply::NoMemory]) | Err(AllocError) => tell(&rt)?,
+            Ok([MapReply::NoMemory]) | Err(AllocError) => tell(&rt),
             _ => return Err(Fail::new("another reply")),
         }
         assert!(rt; has_pairs(map.as_slice(), &repeats) && !is_refused);
@@ -225,7 +225,7 @@ fn has_equal_keys(replies: &[MapReply<Item, u32>], map: &VecMap<Item, u32>) -> b
 // Only the replies allocate. If that is refused, no command is executed.
 #[test]
 fn a_command_with_an_equal_key_is_never_refused(rt: HostRuntime) -> Result<(), Fail> {
-    let mut map = full_map(&rt, rt.alloc(), FULL)?;
+    let mut map = full_map(&rt, rt.alloc(), FULL);
     assert!(rt; map.len() == map.capacity());
     let mut is_refused = false;
     for _ in 0..2 {
@@ -235,7 +235,7 @@ fn a_command_with_an_equal_key_is_never_refused(rt: HostRuntime) -> Result<(), F
                 assert!(rt; has_equal_keys(&replies, &map) && map.capacity() == 2);
                 return Ok(());
             }
-            Err(AllocError) => tell(&rt)?,
+            Err(AllocError) => tell(&rt),
         }
         assert!(rt; has_pairs(map.as_slice(), FULL) && map.capacity() == 2 && !is_refused);
         is_refused = true;
@@ -246,7 +246,7 @@ fn a_command_with_an_equal_key_is_never_refused(rt: HostRuntime) -> Result<(), F
 // A command that clones a pair: it is executed, or it is refused, leaves the map unchanged, and is then executed.
 macro_rules! pair_or_refused {
     ($rt:ident; $command:expr, $wanted:expr) => {{
-        let mut map = text_map(&$rt, $rt.alloc(), TEXTS)?;
+        let mut map = text_map(&$rt, $rt.alloc(), TEXTS);
         let mut is_refused = false;
         for _ in 0..2 {
             let mut commands = make!($rt; Vec::with_capacity($rt.alloc(), 1));
@@ -258,7 +258,7 @@ macro_rules! pair_or_refused {
                     assert!($rt; (key.as_str(), value.as_str()) == $wanted);
                     return Ok(());
                 }
-                Ok([MapReply::NoMemory]) | Err(AllocError) => tell(&$rt)?,
+                Ok([MapReply::NoMemory]) | Err(AllocError) => tell(&$rt),
                 _ => return Err(Fail::new("another reply")),
             }
             assert!($rt; !is_refused);

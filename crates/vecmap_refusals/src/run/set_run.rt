@@ -19,7 +19,7 @@ macro_rules! refused_then_done {
     ($rt:ident; $command:expr, $reply:pat => $left:expr $(, $is_wanted:expr)?) => {{
         let mut is_refused = false;
         for _ in 0..2 {
-            let mut set = full_set(&$rt, $rt.alloc(), FULL)?;
+            let mut set = full_set(&$rt, $rt.alloc(), FULL);
             let mut commands = make!($rt; Vec::with_capacity($rt.alloc(), 1));
             commands.push($command)?;
             match run_set($rt.alloc(), &mut set, commands).as_deref() {
@@ -32,7 +32,7 @@ macro_rules! refused_then_done {
                 }
                 _ => return Err(Fail::new("another reply")),
             }
-            tell(&$rt)?;
+            tell(&$rt);
             assert!($rt; !is_refused);
             is_refused = true;
         }
@@ -83,7 +83,7 @@ fn of_two_equal_elements_minus_has_neither(rt: HostRuntime) -> Result<(), Fail> 
 // Only the replies allocate. If that is refused, no command is executed.
 #[test]
 fn a_command_with_an_equal_element_is_never_refused(rt: HostRuntime) -> Result<(), Fail> {
-    let mut set = full_set(&rt, rt.alloc(), FULL)?;
+    let mut set = full_set(&rt, rt.alloc(), FULL);
     assert!(rt; set.len() == set.capacity());
     let mut is_refused = false;
     for _ in 0..2 {
@@ -96,7 +96,7 @@ fn a_command_with_an_equal_element_is_never_refused(rt: HostRuntime) -> Result<(
                 assert!(rt; has_items(set.as_slice(), &[(1, 'z'), (2, 'b')]));
                 return Ok(());
             }
-            Err(AllocError) => tell(&rt)?,
+            Err(AllocError) => tell(&rt),
             _ => return Err(Fail::new("another reply")),
         }
         assert!(rt; has_items(set.as_slice(), FULL) && set.capacity() == 2 && !is_refused);
@@ -137,7 +137,7 @@ fn check<R: Abort + Print, F: Fn(Global) -> Result<SetCommand<String>, AllocErro
 ) -> Result<(), Fail>
     requires { F.IsAlwaysCallable command }
 {
-    let mut set = text_set(rt, alloc, TEXTS)?;
+    let mut set = text_set(rt, alloc, TEXTS);
     let mut is_refused = false;
     for _ in 0..2 {
         let reply = match command(alloc) {
@@ -150,7 +150,7 @@ fn check<R: Abort + Print, F: Fn(Global) -> Result<SetCommand<String>, AllocErro
             return Ok(());
         }
         assert!(rt; !is_refused && matches!(reply, SetReply::NoMemory));
-        tell(rt)?;
+        tell(rt);
         is_refused = true;
     }
     Ok(())

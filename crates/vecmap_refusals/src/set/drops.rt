@@ -11,16 +11,16 @@ use vecmap_fixtures::{Log, Told, has_told, make_told};
 #[test]
 fn insertions_keep_an_element_or_return_it(rt: HostRuntime) -> Result<(), Fail> {
     let log = Log::new();
-    let mut set = told_set(&rt, rt.alloc(), &log, &[1, 2])?;
+    let mut set = told_set(&rt, rt.alloc(), &log, &[1, 2]);
     if let Err(refused) = set.insert(make_told(&log, 3)) {
-        tell(&rt)?;
+        tell(&rt);
         assert!(rt; log.alive() == 3 && has_told(set.as_slice(), &[1, 2]));
         set.insert(refused.given)?;
     }
     assert!(rt; log.alive() == 3 && has_told(set.as_slice(), &[1, 2, 3]));
-    let mut set = told_set(&rt, rt.alloc(), &log, &[1, 2])?;
+    let mut set = told_set(&rt, rt.alloc(), &log, &[1, 2]);
     if let Err(refused) = set.replace(make_told(&log, 3)) {
-        tell(&rt)?;
+        tell(&rt);
         assert!(rt; log.alive() == 6 && has_told(set.as_slice(), &[1, 2]));
         set.replace(refused.given)?;
     }
@@ -60,12 +60,12 @@ fn many_elements_are_kept_or_dropped(rt: HostRuntime) -> Result<(), Fail> {
         (ManyElements::FromIter, [3, 1, 4, 5].as_slice()),
     ] {
         let log = Log::new();
-        let mut set = told_set(&rt, rt.alloc(), &log, &[1, 2])?;
-        let more = told_items(&rt, rt.alloc(), &log, &[3, 1, 4, 3, 5])?;
+        let mut set = told_set(&rt, rt.alloc(), &log, &[1, 2]);
+        let more = told_items(&rt, rt.alloc(), &log, &[3, 1, 4, 3, 5]);
         if add_many(call, rt.alloc(), &mut set, more).is_err() {
-            tell(&rt)?;
+            tell(&rt);
             assert!(rt; log.alive() as usize == set.len());
-            let more = told_items(&rt, rt.alloc(), &log, &[3, 1, 4, 3, 5])?;
+            let more = told_items(&rt, rt.alloc(), &log, &[3, 1, 4, 3, 5]);
             add_many(call, rt.alloc(), &mut set, more)?;
         }
         assert!(rt; log.alive() as usize == set.len() && has_told(set.as_slice(), wanted));
@@ -85,13 +85,13 @@ fn carrying<'a>(alloc: Global, log: &'a Log) -> Result<Vec<SetCommand<Told<'a>>>
 #[test]
 fn a_set_run_keeps_what_its_commands_carry_or_drops_it(rt: HostRuntime) -> Result<(), Fail> {
     let log = Log::new();
-    let mut set = told_set(&rt, rt.alloc(), &log, &[1, 2])?;
+    let mut set = told_set(&rt, rt.alloc(), &log, &[1, 2]);
     let commands = make!(rt; carrying(rt.alloc(), &log));
     drop(run_set(rt.alloc(), &mut set, commands));
     if set.len() < 5 {
-        tell(&rt)?;
+        tell(&rt);
         assert!(rt; log.alive() as usize == set.len());
-        set = told_set(&rt, rt.alloc(), &log, &[1, 2])?;
+        set = told_set(&rt, rt.alloc(), &log, &[1, 2]);
         drop(run_set(rt.alloc(), &mut set, carrying(rt.alloc(), &log)?)?);
     }
     assert!(rt; log.alive() == 5 && has_told(set.as_slice(), &[1, 2, 3, 5, 6]));
@@ -101,9 +101,9 @@ fn a_set_run_keeps_what_its_commands_carry_or_drops_it(rt: HostRuntime) -> Resul
 #[test]
 fn add_item_keeps_an_element_or_drops_it(rt: HostRuntime) -> Result<(), Fail> {
     let log = Log::new();
-    let mut set = told_set(&rt, rt.alloc(), &log, &[1, 2])?;
+    let mut set = told_set(&rt, rt.alloc(), &log, &[1, 2]);
     if add_item(&mut set, make_told(&log, 3)).is_err() {
-        tell(&rt)?;
+        tell(&rt);
         assert!(rt; log.alive() == 2 && has_told(set.as_slice(), &[1, 2]));
         add_item(&mut set, make_told(&log, 3))?;
     }
@@ -125,7 +125,7 @@ fn three_made<'a, R: Abort + Print>(
     match three(alloc, log) {
         Ok(set) => Ok(set),
         Err(AllocError) => {
-            tell(rt)?;
+            tell(rt);
             assert!(rt; log.alive() == 0);
             Ok(three(alloc, log)?)
         }
@@ -151,13 +151,13 @@ fn collected_made<'a, R: Abort + Print>(
     alloc: Global,
     log: &'a Log,
 ) -> Result<VecSet<Told<'a>>, Fail> {
-    let items = told_items(rt, alloc, log, &[3, 1, 4, 3, 5])?;
+    let items = told_items(rt, alloc, log, &[3, 1, 4, 3, 5]);
     match collected(alloc, items) {
         Ok(set) => Ok(set),
         Err(AllocError) => {
-            tell(rt)?;
+            tell(rt);
             assert!(rt; log.alive() == 0);
-            let items = told_items(rt, alloc, log, &[3, 1, 4, 3, 5])?;
+            let items = told_items(rt, alloc, log, &[3, 1, 4, 3, 5]);
             Ok(collected(alloc, items)?)
         }
     }
@@ -188,13 +188,13 @@ fn comparing<'a>(alloc: Global, log: &'a Log) -> Result<Vec<SetCommand<Told<'a>>
 #[test]
 fn a_set_run_drops_the_sets_that_its_commands_compare(rt: HostRuntime) -> Result<(), Fail> {
     let log = Log::new();
-    let mut set = told_set(&rt, rt.alloc(), &log, &[1, 2])?;
+    let mut set = told_set(&rt, rt.alloc(), &log, &[1, 2]);
     let commands = make!(rt; comparing(rt.alloc(), &log));
     assert!(rt; log.alive() == 9);
     let replies = match run_set(rt.alloc(), &mut set, commands) {
         Ok(replies) => replies,
         Err(AllocError) => {
-            tell(&rt)?;
+            tell(&rt);
             assert!(rt; log.alive() == 2 && has_told(set.as_slice(), &[1, 2]));
             run_set(rt.alloc(), &mut set, comparing(rt.alloc(), &log)?)?
         }
@@ -222,13 +222,13 @@ fn removing<'a>(alloc: Global, log: &'a Log) -> Result<Vec<SetCommand<Told<'a>>>
 #[test]
 fn a_set_run_drops_the_elements_by_which_its_commands_remove(rt: HostRuntime) -> Result<(), Fail> {
     let log = Log::new();
-    let mut set = told_set(&rt, rt.alloc(), &log, &[1, 2, 3, 4, 5, 6])?;
+    let mut set = told_set(&rt, rt.alloc(), &log, &[1, 2, 3, 4, 5, 6]);
     let commands = make!(rt; removing(rt.alloc(), &log));
     assert!(rt; log.alive() == 12);
     let replies = match run_set(rt.alloc(), &mut set, commands) {
         Ok(replies) => replies,
         Err(AllocError) => {
-            tell(&rt)?;
+            tell(&rt);
             assert!(rt; log.alive() == 6 && has_told(set.as_slice(), &[1, 2, 3, 4, 5, 6]));
             run_set(rt.alloc(), &mut set, removing(rt.alloc(), &log)?)?
         }
