@@ -1,10 +1,11 @@
 //! Documents: each request for memory is refused once.
 mod drops;
 
-use crate::telling::{make, tell};
+use crate::checks::{assert_is, granted};
+use crate::telling::{make, one_of, tell};
 use attr_doc::{Document, Name};
 use std::alloc::{AllocError, Global};
-use std::test::Fail;
+use std::process::Abort;
 
 /// Sets one text. An empty text and an empty name need no memory.
 fn set(
@@ -45,36 +46,52 @@ fn printed(alloc: Global, page: &Document) -> Result<String, AllocError> {
     Ok(text)
 }
 
-/// A document has capacity for four sections before its map grows.
-#[test]
-fn set_of_a_new_section_returns_its_texts(rt: HostRuntime) -> Result<(), Fail> {
-    let rows = [("", "", ""), ("q", "", ""), ("r", "", ""), ("s", "", "")];
-    let mut page = make!(rt; document(rt.alloc(), &rows));
-    let (section, name, text) = make!(rt; given(rt.alloc()));
-    let old = match page.set(section, name, text) {
+/// Asserts that a document is this text.
+fn assert_printed(rt: &(impl Abort + Print), alloc: Global, page: &Document, expected: &str) {
+    let text = one_of(rt, printed(alloc, page), printed(alloc, page));
+    assert_is(rt, text.as_str(), expected);
+}
+
+/// Sets the text that `given` returns. If that is refused, the document is still this text, and what was passed is
+/// returned and set once more.
+fn set_given(
+    rt: &(impl Abort + Print),
+    alloc: Global,
+    page: &mut Document,
+    unchanged: &str,
+) -> Option<String> {
+    let (section, name, text) = one_of(rt, given(alloc), given(alloc));
+    match page.set(section, name, text) {
         Ok(old) => old,
         Err(refused) => {
-            tell(&rt)?;
-            assert!(rt;
-                printed(rt.alloc(), &page)?.as_str()
-                    == r#"{"": {"": ""}, "q": {"": ""}, "r": {"": ""}, "s": {"": ""}}"#
-            );
+            tell(rt);
+            assert_printed(rt, alloc, page, unchanged);
             let (section, name, text) = refused.given;
-            assert!(rt; (section.text(), name.text(), text.as_str()) == ("P", "D", "2"));
-            page.set(section, name, text)?
+            assert_is(
+                rt,
+                (section.text(), name.text(), text.as_str()),
+                ("P", "D", "2"),
+            );
+            granted(rt, page.set(section, name, text))
         }
-    };
-    assert!(rt; old == None);
-    assert!(rt;
-        make!(rt; printed(rt.alloc(), &page)).as_str()
-            == r#"{"": {"": ""}, "q": {"": ""}, "r": {"": ""}, "s": {"": ""}, "P": {"D": "2"}}"#
-    );
-    Ok(())
+    }
+}
+
+/// A document has capacity for four sections before its map grows.
+#[test]
+fn set_of_a_new_section_returns_its_texts(rt: HostRuntime) {
+    let rows = [("", "", ""), ("q", "", ""), ("r", "", ""), ("s", "", "")];
+    let mut page = make!(rt; document(rt.alloc(), &rows));
+    let unchanged = r#"{"": {"": ""}, "q": {"": ""}, "r": {"": ""}, "s": {"": ""}}"#;
+    let old = set_given(&rt, rt.alloc(), &mut page, unchanged);
+    assert_is(&rt, old, None);
+    let changed = r#"{"": {"": ""}, "q": {"": ""}, "r": {"": ""}, "s": {"": ""}, "P": {"D": "2"}}"#;
+    assert_printed(&rt, rt.alloc(), &page, changed);
 }
 
 /// A section has capacity for four names before its map grows.
 #[test]
-fn set_of_a_new_name_returns_its_texts(rt: HostRuntime) -> Result<(), Fail> {
+fn set_of_a_new_name_returns_its_texts(rt: HostRuntime) {
     let rows = [
         ("p", "a", ""),
         ("p", "b", ""),
@@ -82,26 +99,11 @@ fn set_of_a_new_name_returns_its_texts(rt: HostRuntime) -> Result<(), Fail> {
         ("p", "", ""),
     ];
     let mut page = make!(rt; document(rt.alloc(), &rows));
-    let (section, name, text) = make!(rt; given(rt.alloc()));
-    let old = match page.set(section, name, text) {
-        Ok(old) => old,
-        Err(refused) => {
-            tell(&rt)?;
-            assert!(rt;
-                printed(rt.alloc(), &page)?.as_str()
-                    == r#"{"p": {"a": "", "b": "", "c": "", "": ""}}"#
-            );
-            let (section, name, text) = refused.given;
-            assert!(rt; (section.text(), name.text(), text.as_str()) == ("P", "D", "2"));
-            page.set(section, name, text)?
-        }
-    };
-    assert!(rt; old == None);
-    assert!(rt;
-        make!(rt; printed(rt.alloc(), &page)).as_str()
-            == r#"{"p": {"a": "", "b": "", "c": "", "": "", "D": "2"}}"#
-    );
-    Ok(())
+    let unchanged = r#"{"p": {"a": "", "b": "", "c": "", "": ""}}"#;
+    let old = set_given(&rt, rt.alloc(), &mut page, unchanged);
+    assert_is(&rt, old, None);
+    let changed = r#"{"p": {"a": "", "b": "", "c": "", "": "", "D": "2"}}"#;
+    assert_printed(&rt, rt.alloc(), &page, changed);
 }
 
 /// Three sections, one of which has three names. Capacity for the two more of `FROM` needs a fifth slot in both maps.
@@ -115,25 +117,29 @@ const INTO: &[(&str, &str, &str)] = &[
 
 const FROM: &[(&str, &str, &str)] = &[("t", "", ""), ("", "A", "2"), ("", "d", "")];
 
+/// Merges two documents. If that is refused, both are unchanged, and are merged once more.
+fn merge(rt: &(impl Abort + Print), alloc: Global, into: &mut Document, from: &mut Document) {
+    if into.merge(from).is_err() {
+        tell(rt);
+        let unchanged = r#"{"": {"a": "1", "b": "", "": ""}, "q": {"": ""}, "r": {"": ""}}"#;
+        assert_printed(rt, alloc, into, unchanged);
+        assert_printed(
+            rt,
+            alloc,
+            from,
+            r#"{"t": {"": ""}, "": {"A": "2", "d": ""}}"#,
+        );
+        granted(rt, into.merge(from));
+    }
+}
+
 #[test]
-fn merge_moves_all_or_nothing(rt: HostRuntime) -> Result<(), Fail> {
+fn merge_moves_all_or_nothing(rt: HostRuntime) {
     let mut into = make!(rt; document(rt.alloc(), INTO));
     let mut from = make!(rt; document(rt.alloc(), FROM));
-    if into.merge(&mut from).is_err() {
-        tell(&rt)?;
-        assert!(rt;
-            printed(rt.alloc(), &into)?.as_str()
-                == r#"{"": {"a": "1", "b": "", "": ""}, "q": {"": ""}, "r": {"": ""}}"#
-        );
-        assert!(rt;
-            printed(rt.alloc(), &from)?.as_str() == r#"{"t": {"": ""}, "": {"A": "2", "d": ""}}"#
-        );
-        into.merge(&mut from)?;
-    }
-    assert!(rt;
-        make!(rt; printed(rt.alloc(), &into)).as_str()
-            == r#"{"": {"a": "2", "b": "", "": "", "d": ""}, "q": {"": ""}, "r": {"": ""}, "t": {"": ""}}"#
-    );
-    assert!(rt; from.sections().len() == 0);
-    Ok(())
+    merge(&rt, rt.alloc(), &mut into, &mut from);
+    let merged =
+        r#"{"": {"a": "2", "b": "", "": "", "d": ""}, "q": {"": ""}, "r": {"": ""}, "t": {"": ""}}"#;
+    assert_printed(&rt, rt.alloc(), &into, merged);
+    assert_is(&rt, from.sections().len(), 0);
 }

@@ -12,6 +12,8 @@
 #![tactic(auto)]
 
 #[cfg(test)]
+mod checks;
+#[cfg(test)]
 mod document;
 #[cfg(test)]
 mod macros;

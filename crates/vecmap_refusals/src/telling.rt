@@ -1,150 +1,161 @@
 //! Prints that a request was refused, and repeats the calls with which a test begins.
+use crate::checks::granted;
 use std::alloc::{AllocError, Global};
-use std::test::Fail;
+use std::process::Abort;
 use vecmap::{VecMap, VecSet};
 use vecmap_fixtures::{Item, Log, Told};
 
 /// Prints that a request was refused. `.ci/refuse` goes on to the next request as long as a test prints this.
-pub(crate) fn tell(rt: &impl Print) -> Result<(), Fail> {
-    println!(rt; "refused")?;
-    Ok(())
+pub(crate) fn tell(rt: &(impl Abort + Print)) {
+    granted(rt, println!(*rt; "refused"))
 }
 
-/// The value that a call returns. If a request is refused, the call is repeated once.
+/// The value that a call returns. The call is made twice, so that this needs no branch: at most one of the two requests
+/// for memory is refused.
 macro_rules! make {
     ($rt:ident; $call:expr) => {
-        match $call {
-            Ok(made) => made,
-            Err(_) => {
-                crate::telling::tell(&$rt)?;
-                $call?
-            }
-        }
+        $crate::telling::one_of(&$rt, $call, $call)
     };
 }
 
 pub(crate) use make;
 
+/// The value of the first of two equal calls, or of the second if the first is refused.
+pub(crate) fn one_of<T: Drop, E: Drop>(
+    rt: &(impl Abort + Print),
+    first: Result<T, E>,
+    second: Result<T, E>,
+) -> T {
+    match first {
+        Ok(made) => {
+            if second.is_err() {
+                tell(rt);
+            }
+            made
+        }
+        Err(_) => {
+            tell(rt);
+            granted(rt, second)
+        }
+    }
+}
+
 /// Like the fixture. If a request is refused, it tries once more.
 pub(crate) fn full_map(
-    rt: &impl Print,
+    rt: &(impl Abort + Print),
     alloc: Global,
     pairs: &[(u32, char, u32)],
-) -> Result<VecMap<Item, u32>, Fail> {
+) -> VecMap<Item, u32> {
     match vecmap_fixtures::full_map(alloc, pairs) {
-        Ok(map) => Ok(map),
+        Ok(made) => made,
         Err(AllocError) => {
-            tell(rt)?;
-            Ok(vecmap_fixtures::full_map(alloc, pairs)?)
+            tell(rt);
+            granted(rt, vecmap_fixtures::full_map(alloc, pairs))
         }
     }
 }
 
 /// Like the fixture. If a request is refused, it tries once more.
 pub(crate) fn full_set(
-    rt: &impl Print,
+    rt: &(impl Abort + Print),
     alloc: Global,
     items: &[(u32, char)],
-) -> Result<VecSet<Item>, Fail> {
+) -> VecSet<Item> {
     match vecmap_fixtures::full_set(alloc, items) {
-        Ok(set) => Ok(set),
+        Ok(made) => made,
         Err(AllocError) => {
-            tell(rt)?;
-            Ok(vecmap_fixtures::full_set(alloc, items)?)
+            tell(rt);
+            granted(rt, vecmap_fixtures::full_set(alloc, items))
         }
     }
 }
 
 /// Like the fixture. If a request is refused, it tries once more.
 pub(crate) fn text_map(
-    rt: &impl Print,
+    rt: &(impl Abort + Print),
     alloc: Global,
     pairs: &[(&str, &str)],
-) -> Result<VecMap<String, String>, Fail> {
+) -> VecMap<String, String> {
     match vecmap_fixtures::text_map(alloc, pairs) {
-        Ok(map) => Ok(map),
+        Ok(made) => made,
         Err(AllocError) => {
-            tell(rt)?;
-            Ok(vecmap_fixtures::text_map(alloc, pairs)?)
+            tell(rt);
+            granted(rt, vecmap_fixtures::text_map(alloc, pairs))
         }
     }
 }
 
 /// Like the fixture. If a request is refused, it tries once more.
-pub(crate) fn text_set(
-    rt: &impl Print,
-    alloc: Global,
-    texts: &[&str],
-) -> Result<VecSet<String>, Fail> {
+pub(crate) fn text_set(rt: &(impl Abort + Print), alloc: Global, texts: &[&str]) -> VecSet<String> {
     match vecmap_fixtures::text_set(alloc, texts) {
-        Ok(set) => Ok(set),
+        Ok(made) => made,
         Err(AllocError) => {
-            tell(rt)?;
-            Ok(vecmap_fixtures::text_set(alloc, texts)?)
+            tell(rt);
+            granted(rt, vecmap_fixtures::text_set(alloc, texts))
         }
     }
 }
 
 /// Like the fixture. If a request is refused, it tries once more.
 pub(crate) fn told_map<'a>(
-    rt: &impl Print,
+    rt: &(impl Abort + Print),
     alloc: Global,
     log: &'a Log,
     numbers: &[u32],
-) -> Result<VecMap<Told<'a>, Told<'a>>, Fail> {
+) -> VecMap<Told<'a>, Told<'a>> {
     match vecmap_fixtures::told_map(alloc, log, numbers) {
-        Ok(map) => Ok(map),
+        Ok(made) => made,
         Err(AllocError) => {
-            tell(rt)?;
-            Ok(vecmap_fixtures::told_map(alloc, log, numbers)?)
+            tell(rt);
+            granted(rt, vecmap_fixtures::told_map(alloc, log, numbers))
         }
     }
 }
 
 /// Like the fixture. If a request is refused, it tries once more.
 pub(crate) fn told_set<'a>(
-    rt: &impl Print,
+    rt: &(impl Abort + Print),
     alloc: Global,
     log: &'a Log,
     numbers: &[u32],
-) -> Result<VecSet<Told<'a>>, Fail> {
+) -> VecSet<Told<'a>> {
     match vecmap_fixtures::told_set(alloc, log, numbers) {
-        Ok(set) => Ok(set),
+        Ok(made) => made,
         Err(AllocError) => {
-            tell(rt)?;
-            Ok(vecmap_fixtures::told_set(alloc, log, numbers)?)
+            tell(rt);
+            granted(rt, vecmap_fixtures::told_set(alloc, log, numbers))
         }
     }
 }
 
 /// Like the fixture. If a request is refused, it tries once more.
 pub(crate) fn told_items<'a>(
-    rt: &impl Print,
+    rt: &(impl Abort + Print),
     alloc: Global,
     log: &'a Log,
     numbers: &[u32],
-) -> Result<Vec<Told<'a>>, Fail> {
+) -> Vec<Told<'a>> {
     match vecmap_fixtures::told_items(alloc, log, numbers) {
-        Ok(items) => Ok(items),
+        Ok(made) => made,
         Err(AllocError) => {
-            tell(rt)?;
-            Ok(vecmap_fixtures::told_items(alloc, log, numbers)?)
+            tell(rt);
+            granted(rt, vecmap_fixtures::told_items(alloc, log, numbers))
         }
     }
 }
 
 /// Like the fixture. If a request is refused, it tries once more.
 pub(crate) fn told_couples<'a>(
-    rt: &impl Print,
+    rt: &(impl Abort + Print),
     alloc: Global,
     log: &'a Log,
     numbers: &[u32],
-) -> Result<Vec<(Told<'a>, Told<'a>)>, Fail> {
+) -> Vec<(Told<'a>, Told<'a>)> {
     match vecmap_fixtures::told_couples(alloc, log, numbers) {
-        Ok(couples) => Ok(couples),
+        Ok(made) => made,
         Err(AllocError) => {
-            tell(rt)?;
-            Ok(vecmap_fixtures::told_couples(alloc, log, numbers)?)
+            tell(rt);
+            granted(rt, vecmap_fixtures::told_couples(alloc, log, numbers))
         }
     }
 }

@@ -1,11 +1,12 @@
 //! Names and texts that a document keeps, returns or drops, each once. Large ones are counted by the memory of each.
 use super::{INTO, document};
+use crate::checks::{assert_is, granted};
 use crate::telling::{make, tell};
 use attr_doc::{Document, Name};
 use std::alloc::{AllocError, Global};
-use std::fs::File;
+use std::fs::{File, Files};
 use std::io::Read;
-use std::test::Fail;
+use std::process::Abort;
 
 /// The capacity of a large text. A block of this size is mapped by itself, and unmapped when it is freed.
 const BYTES_OF_LARGE_TEXT: usize = 1 << 29;
@@ -20,58 +21,67 @@ fn try_large_text(alloc: Global, text: &str) -> Result<String, AllocError> {
 
 /// Creates a text of large capacity, of which only the written part uses memory. If its request is refused, it tries
 /// once more.
-fn large_text(rt: &HostRuntime, text: &str) -> Result<String, Fail> {
-    match try_large_text(rt.alloc(), text) {
-        Ok(large) => Ok(large),
+fn large_text(rt: &(impl Abort + Print), alloc: Global, text: &str) -> String {
+    match try_large_text(alloc, text) {
+        Ok(large) => large,
         Err(AllocError) => {
-            tell(rt)?;
-            Ok(try_large_text(rt.alloc(), text)?)
+            tell(rt);
+            granted(rt, try_large_text(alloc, text))
         }
     }
 }
 
-/// Returns the number of pages that are mapped.
-fn mapped_pages(rt: &HostRuntime) -> Result<u64, Fail> {
+/// Returns the number of pages that are mapped, or `None` if it cannot be read.
+fn read_mapped_pages(rt: &impl Files) -> Option<u64> {
     let mut bytes = [0; 64];
-    let count = File::open(rt, "/proc/self/statm")?.read(&mut bytes)?;
-    let line = str::from_utf8(&bytes[..count])?;
-    let pages = line.split(' ').next().ok_or("no number")?;
-    Ok(pages.parse()?)
+    let count = File::open(rt, "/proc/self/statm")
+        .ok()?
+        .read(&mut bytes)
+        .ok()?;
+    let line = str::from_utf8(&bytes[..count]).ok()?;
+    line.split(' ').next()?.parse().ok()
+}
+
+/// Returns the number of pages that are mapped.
+fn mapped_pages(rt: &(impl Abort + Files)) -> u64 {
+    match read_mapped_pages(rt) {
+        Some(pages) => pages,
+        None => panic!(*rt; "no number of pages"),
+    }
 }
 
 /// Returns the number of large texts that are alive, of those created since `pages` pages were mapped.
-fn alive(rt: &HostRuntime, pages: u64) -> Result<u64, Fail> {
-    let more = mapped_pages(rt)?.saturating_sub(pages);
-    Ok(more.saturating_add(PAGES_OF_LARGE_TEXT / 2) / PAGES_OF_LARGE_TEXT)
+fn alive(rt: &(impl Abort + Files), pages: u64) -> u64 {
+    let more = mapped_pages(rt).saturating_sub(pages);
+    more.saturating_add(PAGES_OF_LARGE_TEXT / 2) / PAGES_OF_LARGE_TEXT
 }
 
 /// Sets a large text under two large names. If a request is refused, all three are alive, and are set once more.
 fn set(
-    rt: &HostRuntime,
+    rt: &(impl Abort + Print + Files),
+    alloc: Global,
     pages: u64,
     page: &mut Document,
     row: (&str, &str, &str),
-) -> Result<Option<String>, Fail> {
-    let section = Name::new(large_text(rt, row.0)?);
-    let name = Name::new(large_text(rt, row.1)?);
-    let text = large_text(rt, row.2)?;
-    let before = alive(rt, pages)?;
+) -> Option<String> {
+    let section = Name::new(large_text(rt, alloc, row.0));
+    let name = Name::new(large_text(rt, alloc, row.1));
+    let text = large_text(rt, alloc, row.2);
+    let before = alive(rt, pages);
     match page.set(section, name, text) {
-        Ok(old) => Ok(old),
+        Ok(old) => old,
         Err(refused) => {
-            tell(rt)?;
-            if alive(rt, pages)? != before {
-                return Err(Fail::new("a refused text is dropped"));
-            }
+            tell(rt);
+            assert_is(rt, alive(rt, pages), before);
             let (section, name, text) = refused.given;
-            Ok(page.set(section, name, text)?)
+            granted(rt, page.set(section, name, text))
         }
     }
 }
 
 /// A section has capacity for four names before its map grows.
 #[test]
-fn set_keeps_returns_or_drops(rt: HostRuntime) -> Result<(), Fail> {
+fn set_keeps_returns_or_drops(rt: HostRuntime) {
     let rows = [
         ("p", "a", ""),
         ("p", "b", ""),
@@ -79,41 +89,44 @@ fn set_keeps_returns_or_drops(rt: HostRuntime) -> Result<(), Fail> {
         ("p", "d", ""),
     ];
     let mut page = make!(rt; document(rt.alloc(), &rows));
-    let pages = mapped_pages(&rt)?;
+    let pages = mapped_pages(&rt);
     for (row, with_old, without_old) in [
         (("P", "E", "1"), 2, 2),
         (("p", "e", "2"), 3, 2),
         (("Q", "a", "3"), 5, 5),
     ] {
-        let old = set(&rt, pages, &mut page, row)?;
-        assert!(rt; alive(&rt, pages)? == with_old);
+        let old = set(&rt, rt.alloc(), pages, &mut page, row);
+        assert_is(&rt, alive(&rt, pages), with_old);
         drop(old);
-        assert!(rt; alive(&rt, pages)? == without_old);
+        assert_is(&rt, alive(&rt, pages), without_old);
     }
     drop(page);
-    assert!(rt; alive(&rt, pages)? == 0);
-    Ok(())
+    assert_is(&rt, alive(&rt, pages), 0);
+}
+
+/// Merges two documents of nine large texts. If that is refused, all nine are alive, and it is repeated.
+fn merge(rt: &(impl Abort + Print + Files), pages: u64, into: &mut Document, from: &mut Document) {
+    assert_is(rt, alive(rt, pages), 9);
+    if into.merge(from).is_err() {
+        tell(rt);
+        assert_is(rt, alive(rt, pages), 9);
+        granted(rt, into.merge(from));
+    }
 }
 
 /// Of nine large texts, a merge drops three: the name of an existing section, an existing name of a text, and the old
 /// text.
 #[test]
-fn merge_keeps_or_drops(rt: HostRuntime) -> Result<(), Fail> {
+fn merge_keeps_or_drops(rt: HostRuntime) {
     let mut into = make!(rt; document(rt.alloc(), INTO));
     let mut from = Document::new(rt.alloc());
-    let pages = mapped_pages(&rt)?;
-    set(&rt, pages, &mut into, ("", "A", "1"))?;
-    for row in [("t", "", ""), ("", "A", "2"), ("", "d", "")] {
-        set(&rt, pages, &mut from, row)?;
-    }
-    assert!(rt; alive(&rt, pages)? == 9);
-    if into.merge(&mut from).is_err() {
-        tell(&rt)?;
-        assert!(rt; alive(&rt, pages)? == 9);
-        into.merge(&mut from)?;
-    }
-    assert!(rt; alive(&rt, pages)? == 6);
+    let pages = mapped_pages(&rt);
+    set(&rt, rt.alloc(), pages, &mut into, ("", "A", "1"));
+    set(&rt, rt.alloc(), pages, &mut from, ("t", "", ""));
+    set(&rt, rt.alloc(), pages, &mut from, ("", "A", "2"));
+    set(&rt, rt.alloc(), pages, &mut from, ("", "d", ""));
+    merge(&rt, pages, &mut into, &mut from);
+    assert_is(&rt, alive(&rt, pages), 6);
     drop(into);
-    assert!(rt; alive(&rt, pages)? == 0);
-    Ok(())
+    assert_is(&rt, alive(&rt, pages), 0);
 }

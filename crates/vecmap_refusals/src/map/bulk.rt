@@ -1,8 +1,10 @@
 //! Many pairs at once, inserted into a map that is full.
+use crate::checks::{assert_is, assert_list, assert_pairs, granted};
 use crate::telling::{full_map, make, tell};
-use std::test::Fail;
+use std::alloc::{AllocError, Global};
+use std::process::Abort;
 use vecmap::VecMap;
-use vecmap_fixtures::{Hinted, Item, has_pairs, make_item};
+use vecmap_fixtures::{Hinted, Item, make_item};
 
 const FULL: &[(u32, char, u32)] = &[(1, 'a', 10), (2, 'b', 20)];
 
@@ -51,105 +53,127 @@ fn has_all_that_fit(map: &VecMap<Item, u32>) -> bool {
         && map.capacity() == map.len()
 }
 
+// Appends another map of these pairs. If that is refused, both maps are unchanged, and it is repeated.
+fn append(
+    rt: &(impl Abort + Print),
+    map: &mut VecMap<Item, u32>,
+    other: &mut VecMap<Item, u32>,
+    added: &[(u32, char, u32)],
+) {
+    if map.append(other).is_err() {
+        tell(rt);
+        assert_pairs(rt, map, FULL);
+        assert_pairs(rt, other, added);
+        assert_is(rt, (map.capacity(), other.capacity()), (2, 3));
+        granted(rt, map.append(other));
+    }
+}
+
 #[test]
-fn append_to_a_map_moves_all_or_nothing(rt: HostRuntime) -> Result<(), Fail> {
+fn append_to_a_map_moves_all_or_nothing(rt: HostRuntime) {
     let added = [(1, 'z', 30), (7, 'p', 70), (8, 'q', 80)];
-    let mut map = full_map(&rt, rt.alloc(), FULL)?;
-    let mut other = full_map(&rt, rt.alloc(), &added)?;
-    if map.append(&mut other).is_err() {
-        tell(&rt)?;
-        assert!(rt; has_pairs(map.as_slice(), FULL) && map.capacity() == 2);
-        assert!(rt; has_pairs(other.as_slice(), &added) && other.capacity() == 3);
-        map.append(&mut other)?;
-    }
+    let mut map = full_map(&rt, rt.alloc(), FULL);
+    let mut other = full_map(&rt, rt.alloc(), &added);
+    append(&rt, &mut map, &mut other, &added);
     let all = [(1, 'a', 30), (2, 'b', 20), (7, 'p', 70), (8, 'q', 80)];
-    assert!(rt; has_pairs(map.as_slice(), &all));
-    assert!(rt; (other.len(), other.capacity()) == (0, 3));
-    Ok(())
+    assert_pairs(&rt, &map, &all);
+    assert_is(&rt, (other.len(), other.capacity()), (0, 3));
 }
 
-#[test]
-fn extend_inserts_the_pairs_before_the_refused_one(rt: HostRuntime) -> Result<(), Fail> {
-    let items = more();
-    for hint in [0, 4] {
-        let hinted = || Hinted {
-            items: &items,
-            hint,
-        };
-        let mut map = full_map(&rt, rt.alloc(), FULL)?;
-        if map.extend(hinted().copied()).is_err() {
-            tell(&rt)?;
-            assert!(rt; has_all_that_fit(&map), "hint {hint}");
-            map.extend(hinted().copied())?;
-        }
-        assert!(rt; has_pairs(map.as_slice(), EXTENDED), "hint {hint}");
+#[derive(Clone, Copy)]
+enum Extension {
+    Extend,
+    ExtendPairs,
+    ExtendRefs,
+}
+
+// Extends a map by a call, with an iterator of this lower size hint.
+fn extend(
+    call: Extension,
+    map: &mut VecMap<Item, u32>,
+    items: &[(Item, u32)],
+    hint: usize,
+) -> Result<(), AllocError> {
+    let hinted = Hinted { items, hint };
+    match call {
+        Extension::Extend => map.extend(hinted.copied()),
+        Extension::ExtendPairs => map.extend_pairs(hinted),
+        Extension::ExtendRefs => map.extend_refs(hinted.map(|pair| (&pair.0, &pair.1))),
     }
-    Ok(())
+}
+
+// Like `extend`, with `more`. If it is refused, the pairs before the refused one are inserted, and it is repeated.
+fn extend_or_retry(
+    rt: &(impl Abort + Print),
+    call: Extension,
+    map: &mut VecMap<Item, u32>,
+    hint: usize,
+) {
+    let items = more();
+    if extend(call, map, &items, hint).is_err() {
+        tell(rt);
+        assert!(*rt; has_all_that_fit(map), "hint {hint}");
+        granted(rt, extend(call, map, &items, hint));
+    }
+}
+
+// Checks what a call inserts into a full map, also if it is refused once.
+fn check_extension(rt: &(impl Abort + Print), alloc: Global, call: Extension, hint: usize) {
+    let mut map = full_map(rt, alloc, FULL);
+    extend_or_retry(rt, call, &mut map, hint);
+    assert_pairs(rt, &map, EXTENDED);
 }
 
 #[test]
-fn extend_inserts_as_many_pairs_as_the_capacity_allows(rt: HostRuntime) -> Result<(), Fail> {
+fn extend_inserts_the_pairs_before_the_refused_one(rt: HostRuntime) {
+    check_extension(&rt, rt.alloc(), Extension::Extend, 0);
+    check_extension(&rt, rt.alloc(), Extension::Extend, 4);
+}
+
+#[test]
+fn extend_pairs_inserts_the_pairs_before_the_refused_one(rt: HostRuntime) {
+    check_extension(&rt, rt.alloc(), Extension::ExtendPairs, 0);
+    check_extension(&rt, rt.alloc(), Extension::ExtendPairs, 4);
+}
+
+#[test]
+fn extend_refs_inserts_the_pairs_before_the_refused_one(rt: HostRuntime) {
+    check_extension(&rt, rt.alloc(), Extension::ExtendRefs, 0);
+    check_extension(&rt, rt.alloc(), Extension::ExtendRefs, 4);
+}
+
+// Reserves capacity for two pairs. If that is refused, it tries once more.
+fn reserve(rt: &(impl Abort + Print), map: &mut VecMap<u32, u32>) {
+    if map.reserve(2).is_err() {
+        tell(rt);
+        granted(rt, map.reserve(2));
+    }
+}
+
+// Extends an empty map by one pair more than its capacity. If that is refused, the map is full, and it is repeated.
+fn extend_by_one_more(rt: &(impl Abort + Print), map: &mut VecMap<u32, u32>, items: &[(u32, u32)]) {
+    let room = map.capacity();
+    assert!(*rt; room < items.len());
+    let (hint, fitting, items) = (0, &items[..room], &items[..room + 1]);
+    if map.extend(Hinted { items, hint }.copied()).is_err() {
+        tell(rt);
+        assert_list(rt, map.as_slice(), fitting);
+        assert_is(rt, map.capacity(), room);
+        granted(rt, map.extend(Hinted { items, hint }.copied()));
+    }
+    assert_list(rt, map.as_slice(), items);
+}
+
+#[test]
+fn extend_inserts_as_many_pairs_as_the_capacity_allows(rt: HostRuntime) {
     let items = [(1, 10), (2, 20), (3, 30), (4, 40), (5, 50), (6, 60)];
     let mut map = VecMap::new(rt.alloc());
-    if map.reserve(2).is_err() {
-        tell(&rt)?;
-        map.reserve(2)?;
-    }
-    let room = map.capacity();
-    assert!(rt; room < 6);
-    let one_more = || Hinted {
-        items: &items[..room + 1],
-        hint: 0,
-    };
-    if map.extend(one_more().copied()).is_err() {
-        tell(&rt)?;
-        assert!(rt; map.as_slice() == &items[..room] && map.capacity() == room);
-        map.extend(one_more().copied())?;
-    }
-    assert!(rt; map.as_slice() == &items[..room + 1]);
-    Ok(())
+    reserve(&rt, &mut map);
+    extend_by_one_more(&rt, &mut map, &items);
 }
 
 #[test]
-fn extend_pairs_inserts_the_pairs_before_the_refused_one(rt: HostRuntime) -> Result<(), Fail> {
-    let items = more();
-    for hint in [0, 4] {
-        let hinted = || Hinted {
-            items: &items,
-            hint,
-        };
-        let mut map = full_map(&rt, rt.alloc(), FULL)?;
-        if map.extend_pairs(hinted()).is_err() {
-            tell(&rt)?;
-            assert!(rt; has_all_that_fit(&map), "hint {hint}");
-            map.extend_pairs(hinted())?;
-        }
-        assert!(rt; has_pairs(map.as_slice(), EXTENDED), "hint {hint}");
-    }
-    Ok(())
-}
-
-#[test]
-fn extend_refs_inserts_the_pairs_before_the_refused_one(rt: HostRuntime) -> Result<(), Fail> {
-    let items = more();
-    for hint in [0, 4] {
-        let lent = || {
-            let items = &items;
-            Hinted { items, hint }.map(|pair| (&pair.0, &pair.1))
-        };
-        let mut map = full_map(&rt, rt.alloc(), FULL)?;
-        if map.extend_refs(lent()).is_err() {
-            tell(&rt)?;
-            assert!(rt; has_all_that_fit(&map), "hint {hint}");
-            map.extend_refs(lent())?;
-        }
-        assert!(rt; has_pairs(map.as_slice(), EXTENDED), "hint {hint}");
-    }
-    Ok(())
-}
-
-#[test]
-fn a_map_of_many_pairs_has_all_of_them_or_is_refused(rt: HostRuntime) -> Result<(), Fail> {
+fn a_map_of_many_pairs_has_all_of_them_or_is_refused(rt: HostRuntime) {
     let pairs = more();
     let all = [
         (7, 'p', 70),
@@ -160,10 +184,9 @@ fn a_map_of_many_pairs_has_all_of_them_or_is_refused(rt: HostRuntime) -> Result<
         (11, 'u', 110),
     ];
     let map = make!(rt; VecMap::from_iter(rt.alloc(), pairs));
-    assert!(rt; has_pairs(map.as_slice(), &all));
+    assert_pairs(&rt, &map, &all);
     let map = make!(rt; VecMap::from_slice(rt.alloc(), &pairs));
-    assert!(rt; has_pairs(map.as_slice(), &all));
+    assert_pairs(&rt, &map, &all);
     let map: VecMap<Item, u32> = make!(rt; pairs.iter().copied().collect(rt.alloc()));
-    assert!(rt; has_pairs(map.as_slice(), &all));
-    Ok(())
+    assert_pairs(&rt, &map, &all);
 }

@@ -1,13 +1,13 @@
 //! Keys and values that a refused call keeps, returns or drops, each once. `alive` counts those that are not dropped.
-use crate::telling::{make, tell, told_couples, told_map};
+use crate::checks::{assert_granted, assert_is, assert_told_pairs, granted};
+use crate::telling::{one_of, tell, told_couples, told_map};
 use std::alloc::{AllocError, Global};
 use std::mem::replace;
 use std::process::Abort;
-use std::test::Fail;
 use vecmap::macros::put_pair;
 use vecmap::map::Entry;
-use vecmap::{MapCommand, Refused, VecMap, run, vecmap};
-use vecmap_fixtures::{Log, Told, has_told_pairs, make_told};
+use vecmap::{MapCommand, MapReply, Refused, VecMap, run, vecmap};
+use vecmap_fixtures::{Log, Told, make_told};
 
 type Couple<'a> = (Told<'a>, Told<'a>);
 
@@ -60,46 +60,40 @@ fn put<'a>(
     Ok(())
 }
 
-// Checks that an insertion keeps its pair, or returns it so that the call can be repeated.
-fn check<R: Abort + Print>(rt: &R, alloc: Global, call: Insertion) -> Result<(), Fail> {
-    let log = Log::new();
-    let mut map = told_map(rt, alloc, &log, &[1, 2])?;
-    if let Err(refused) = put(call, &mut map, make_told(&log, 3), make_told(&log, 13)) {
-        tell(rt)?;
-        assert!(rt; log.alive() == 6 && has_told_pairs(map.as_slice(), &[(1, 11), (2, 12)]));
+// Inserts a new pair by a call. If it is refused, it returns the pair, and is repeated with it.
+fn put_or_retry<'a>(rt: &(impl Abort + Print), call: Insertion, log: &'a Log, map: &mut Map<'a>) {
+    if let Err(refused) = put(call, map, make_told(log, 3), make_told(log, 13)) {
+        tell(rt);
+        assert_told_pairs(rt, log, map, 6, &[(1, 11), (2, 12)]);
         let (key, value) = refused.given;
-        put(call, &mut map, key, value)?;
+        assert_granted(rt, put(call, map, key, value));
     }
-    assert!(rt; log.alive() == 6 && map.len() == 3);
+}
+
+// Checks that an insertion keeps its pair, or returns it so that the call can be repeated.
+fn check(rt: &(impl Abort + Print), alloc: Global, call: Insertion) {
+    let log = Log::new();
+    let mut map = told_map(rt, alloc, &log, &[1, 2]);
+    put_or_retry(rt, call, &log, &mut map);
+    assert_is(rt, (log.alive(), map.len()), (6, 3));
     drop(map);
-    assert!(rt; log.alive() == 0);
-    Ok(())
+    assert_is(rt, log.alive(), 0);
 }
 
 #[test]
-fn insertions_keep_a_pair_or_return_it(rt: HostRuntime) -> Result<(), Fail> {
-    for call in [
-        Insertion::Insert,
-        Insertion::InsertFull,
-        Insertion::InsertKey,
-        Insertion::InsertAt,
-    ] {
-        check(&rt, rt.alloc(), call)?;
-    }
-    Ok(())
+fn insertions_keep_a_pair_or_return_it(rt: HostRuntime) {
+    check(&rt, rt.alloc(), Insertion::Insert);
+    check(&rt, rt.alloc(), Insertion::InsertFull);
+    check(&rt, rt.alloc(), Insertion::InsertKey);
+    check(&rt, rt.alloc(), Insertion::InsertAt);
 }
 
 #[test]
-fn entries_keep_a_pair_or_return_it(rt: HostRuntime) -> Result<(), Fail> {
-    for call in [
-        Insertion::OrInsert,
-        Insertion::OrInsertWith,
-        Insertion::OrInsertWithKey,
-        Insertion::InsertEntry,
-    ] {
-        check(&rt, rt.alloc(), call)?;
-    }
-    Ok(())
+fn entries_keep_a_pair_or_return_it(rt: HostRuntime) {
+    check(&rt, rt.alloc(), Insertion::OrInsert);
+    check(&rt, rt.alloc(), Insertion::OrInsertWith);
+    check(&rt, rt.alloc(), Insertion::OrInsertWithKey);
+    check(&rt, rt.alloc(), Insertion::InsertEntry);
 }
 
 #[derive(Clone, Copy)]
@@ -128,29 +122,44 @@ fn put_many<'a>(
     }
 }
 
+// Inserts five pairs by a call. If it is refused, what the map does not hold is dropped, and it is repeated.
+fn put_many_or_retry<'a>(
+    rt: &(impl Abort + Print),
+    alloc: Global,
+    call: ManyPairs,
+    log: &'a Log,
+    map: &mut Map<'a>,
+) {
+    let more = told_couples(rt, alloc, log, &[3, 1, 4, 3, 5]);
+    if put_many(call, alloc, map, more).is_err() {
+        tell(rt);
+        assert_is(rt, log.alive() as usize, map.len().wrapping_mul(2));
+        let more = told_couples(rt, alloc, log, &[3, 1, 4, 3, 5]);
+        granted(rt, put_many(call, alloc, map, more));
+    }
+}
+
+fn check_many(
+    rt: &(impl Abort + Print),
+    alloc: Global,
+    call: ManyPairs,
+    alive: u32,
+    expected: &[(u32, u32)],
+) {
+    let log = Log::new();
+    let mut map = told_map(rt, alloc, &log, &[1, 2]);
+    put_many_or_retry(rt, alloc, call, &log, &mut map);
+    assert_told_pairs(rt, &log, &map, alive, expected);
+}
+
 #[test]
-fn many_pairs_are_kept_or_dropped(rt: HostRuntime) -> Result<(), Fail> {
+fn many_pairs_are_kept_or_dropped(rt: HostRuntime) {
     let all = [(1, 11), (2, 12), (3, 13), (4, 14), (5, 15)].as_slice();
     let made = [(3, 13), (1, 11), (4, 14), (5, 15)].as_slice();
-    for (call, wanted) in [
-        (ManyPairs::Extend, all),
-        (ManyPairs::ExtendPairs, all),
-        (ManyPairs::Append, all),
-        (ManyPairs::FromIter, made),
-    ] {
-        let log = Log::new();
-        let mut map = told_map(&rt, rt.alloc(), &log, &[1, 2])?;
-        let more = told_couples(&rt, rt.alloc(), &log, &[3, 1, 4, 3, 5])?;
-        if put_many(call, rt.alloc(), &mut map, more).is_err() {
-            tell(&rt)?;
-            assert!(rt; log.alive() as usize == map.len().wrapping_mul(2));
-            let more = told_couples(&rt, rt.alloc(), &log, &[3, 1, 4, 3, 5])?;
-            put_many(call, rt.alloc(), &mut map, more)?;
-        }
-        assert!(rt; has_told_pairs(map.as_slice(), wanted));
-        assert!(rt; log.alive() as usize == map.len().wrapping_mul(2));
-    }
-    Ok(())
+    check_many(&rt, rt.alloc(), ManyPairs::Extend, 10, all);
+    check_many(&rt, rt.alloc(), ManyPairs::ExtendPairs, 10, all);
+    check_many(&rt, rt.alloc(), ManyPairs::Append, 10, all);
+    check_many(&rt, rt.alloc(), ManyPairs::FromIter, 8, made);
 }
 
 // Returns commands that insert a new pair and one of an existing key, and append a map.
@@ -165,54 +174,117 @@ fn carrying<'a>(
     Ok(commands)
 }
 
-#[test]
-fn a_map_run_keeps_what_its_commands_carry_or_drops_it(rt: HostRuntime) -> Result<(), Fail> {
-    let log = Log::new();
-    let mut map = told_map(&rt, rt.alloc(), &log, &[1, 2])?;
-    let commands = make!(rt; carrying(rt.alloc(), &log));
-    drop(run(rt.alloc(), &mut map, commands));
-    if map.len() < 5 {
-        tell(&rt)?;
-        assert!(rt; log.alive() as usize == map.len().wrapping_mul(2));
-        map = told_map(&rt, rt.alloc(), &log, &[1, 2])?;
-        drop(run(rt.alloc(), &mut map, carrying(rt.alloc(), &log)?)?);
+#[derive(Clone, Copy)]
+enum Commands {
+    Carrying,
+    Puts,
+}
+
+impl Commands {
+    fn create<'a>(
+        self,
+        alloc: Global,
+        log: &'a Log,
+    ) -> Result<Vec<MapCommand<Told<'a>, Told<'a>>>, AllocError> {
+        match self {
+            Commands::Carrying => carrying(alloc, log),
+            Commands::Puts => puts(alloc, log),
+        }
     }
-    let all = [(1, 10), (2, 12), (3, 13), (5, 15), (6, 16)];
-    assert!(rt; log.alive() == 10 && has_told_pairs(map.as_slice(), &all));
-    Ok(())
+}
+
+// Returns the map after a run of commands on the keys 1 and 2. If a request is refused, what the map does not hold is
+// dropped, and the run is repeated with a new map. `alive` values exist before the run, and `len` pairs after it.
+fn run_or_retry<'a>(
+    rt: &(impl Abort + Print),
+    alloc: Global,
+    log: &'a Log,
+    which: Commands,
+    alive: u32,
+    len: usize,
+) -> Map<'a> {
+    let map = run_once(rt, alloc, log, which, alive);
+    if map.len() == len {
+        return map;
+    }
+    tell(rt);
+    assert_is(rt, log.alive() as usize, map.len().wrapping_mul(2));
+    drop(map);
+    run_once(rt, alloc, log, which, alive)
+}
+
+fn run_once<'a>(
+    rt: &(impl Abort + Print),
+    alloc: Global,
+    log: &'a Log,
+    which: Commands,
+    alive: u32,
+) -> Map<'a> {
+    let mut map = told_map(rt, alloc, log, &[1, 2]);
+    let commands = one_of(rt, which.create(alloc, log), which.create(alloc, log));
+    assert_is(rt, log.alive(), alive);
+    drop(run(alloc, &mut map, commands));
+    map
 }
 
 #[test]
-fn or_default_keeps_the_key_or_returns_it(rt: HostRuntime) -> Result<(), Fail> {
+fn a_map_run_keeps_what_its_commands_carry_or_drops_it(rt: HostRuntime) {
+    let log = Log::new();
+    let map = run_or_retry(&rt, rt.alloc(), &log, Commands::Carrying, 12, 5);
+    let all = [(1, 10), (2, 12), (3, 13), (5, 15), (6, 16)];
+    assert_told_pairs(&rt, &log, &map, 10, &all);
+}
+
+// Inserts the default through the entry of a key, or returns both.
+fn or_default<'a>(map: &mut VecMap<Told<'a>, u32>, key: Told<'a>) -> Result<(), (Told<'a>, u32)> {
+    match map.entry(key).or_default() {
+        Ok(_) => Ok(()),
+        Err(refused) => Err(refused.given),
+    }
+}
+
+// Like `or_default`, of an empty map. If it is refused, the map is still empty, and it is repeated.
+fn or_default_or_retry<'a>(
+    rt: &(impl Abort + Print),
+    log: &'a Log,
+    map: &mut VecMap<Told<'a>, u32>,
+) {
+    if let Err((key, value)) = or_default(map, make_told(log, 1)) {
+        tell(rt);
+        assert_is(
+            rt,
+            (map.len(), key.number(), value, log.alive()),
+            (0, 1, 0, 1),
+        );
+        assert_granted(rt, or_default(map, key));
+    }
+}
+
+#[test]
+fn or_default_keeps_the_key_or_returns_it(rt: HostRuntime) {
     let log = Log::new();
     let mut map: VecMap<Told<'_>, u32> = VecMap::new(rt.alloc());
-    let given = match map.entry(make_told(&log, 1)).or_default() {
-        Ok(_) => None,
-        Err(refused) => Some(refused.given),
-    };
-    if let Some((key, value)) = given {
-        tell(&rt)?;
-        assert!(rt; map.is_empty() && (key.number(), value, log.alive()) == (1, 0, 1));
-        map.entry(key).or_default()?;
-    }
-    assert!(rt; log.alive() == 1 && map.len() == 1);
+    or_default_or_retry(&rt, &log, &mut map);
+    assert_is(&rt, (log.alive(), map.len()), (1, 1));
     drop(map);
-    assert!(rt; log.alive() == 0);
-    Ok(())
+    assert_is(&rt, log.alive(), 0);
+}
+
+// Inserts a new pair by `put_pair`. If that is refused, the pair is dropped, and it is repeated.
+fn put_pair_or_retry<'a>(rt: &(impl Abort + Print), log: &'a Log, map: &mut Map<'a>) {
+    if put_pair(map, make_told(log, 3), make_told(log, 13)).is_err() {
+        tell(rt);
+        assert_told_pairs(rt, log, map, 4, &[(1, 11), (2, 12)]);
+        granted(rt, put_pair(map, make_told(log, 3), make_told(log, 13)));
+    }
 }
 
 #[test]
-fn put_pair_keeps_a_pair_or_drops_it(rt: HostRuntime) -> Result<(), Fail> {
+fn put_pair_keeps_a_pair_or_drops_it(rt: HostRuntime) {
     let log = Log::new();
-    let mut map = told_map(&rt, rt.alloc(), &log, &[1, 2])?;
-    if put_pair(&mut map, make_told(&log, 3), make_told(&log, 13)).is_err() {
-        tell(&rt)?;
-        assert!(rt; log.alive() == 4 && has_told_pairs(map.as_slice(), &[(1, 11), (2, 12)]));
-        put_pair(&mut map, make_told(&log, 3), make_told(&log, 13))?;
-    }
-    assert!(rt; has_told_pairs(map.as_slice(), &[(1, 11), (2, 12), (3, 13)]));
-    assert!(rt; log.alive() == 6);
-    Ok(())
+    let mut map = told_map(&rt, rt.alloc(), &log, &[1, 2]);
+    put_pair_or_retry(&rt, &log, &mut map);
+    assert_told_pairs(&rt, &log, &map, 6, &[(1, 11), (2, 12), (3, 13)]);
 }
 
 // Creates a map of three pairs by the macro. Two of them have equal keys.
@@ -225,24 +297,23 @@ fn three<'a>(alloc: Global, log: &'a Log) -> Result<Map<'a>, AllocError> {
     ))
 }
 
-// Like `three`. If a request is refused, it tries once more.
-fn three_made<'a, R: Abort + Print>(rt: &R, alloc: Global, log: &'a Log) -> Result<Map<'a>, Fail> {
+// Like `three`. If a request is refused, all are dropped, and it tries once more.
+fn three_made<'a>(rt: &(impl Abort + Print), alloc: Global, log: &'a Log) -> Map<'a> {
     match three(alloc, log) {
-        Ok(map) => Ok(map),
+        Ok(map) => map,
         Err(AllocError) => {
-            tell(rt)?;
-            assert!(rt; log.alive() == 0);
-            Ok(three(alloc, log)?)
+            tell(rt);
+            assert_is(rt, log.alive(), 0);
+            granted(rt, three(alloc, log))
         }
     }
 }
 
 #[test]
-fn vecmap_keeps_its_pairs_or_drops_them(rt: HostRuntime) -> Result<(), Fail> {
+fn vecmap_keeps_its_pairs_or_drops_them(rt: HostRuntime) {
     let log = Log::new();
-    let map = three_made(&rt, rt.alloc(), &log)?;
-    assert!(rt; log.alive() == 4 && has_told_pairs(map.as_slice(), &[(1, 13), (2, 12)]));
-    Ok(())
+    let map = three_made(&rt, rt.alloc(), &log);
+    assert_told_pairs(&rt, &log, &map, 4, &[(1, 13), (2, 12)]);
 }
 
 // Collects the pairs into a map.
@@ -250,31 +321,26 @@ fn collected<'a>(alloc: Global, couples: Vec<Couple<'a>>) -> Result<Map<'a>, All
     couples.into_iter().collect(alloc)
 }
 
-// Like `collected`, with the pairs of the keys 3, 1, 4, 3, 5. If a request is refused, it tries once more.
-fn collected_made<'a, R: Abort + Print>(
-    rt: &R,
-    alloc: Global,
-    log: &'a Log,
-) -> Result<Map<'a>, Fail> {
-    let couples = told_couples(rt, alloc, log, &[3, 1, 4, 3, 5])?;
+// Like `collected`, with the pairs of the keys 3, 1, 4, 3, 5. If a request is refused, all are dropped, and it tries
+// once more.
+fn collected_made<'a>(rt: &(impl Abort + Print), alloc: Global, log: &'a Log) -> Map<'a> {
+    let couples = told_couples(rt, alloc, log, &[3, 1, 4, 3, 5]);
     match collected(alloc, couples) {
-        Ok(map) => Ok(map),
+        Ok(map) => map,
         Err(AllocError) => {
-            tell(rt)?;
-            assert!(rt; log.alive() == 0);
-            let couples = told_couples(rt, alloc, log, &[3, 1, 4, 3, 5])?;
-            Ok(collected(alloc, couples)?)
+            tell(rt);
+            assert_is(rt, log.alive(), 0);
+            let couples = told_couples(rt, alloc, log, &[3, 1, 4, 3, 5]);
+            granted(rt, collected(alloc, couples))
         }
     }
 }
 
 #[test]
-fn collected_pairs_are_kept_or_dropped(rt: HostRuntime) -> Result<(), Fail> {
+fn collected_pairs_are_kept_or_dropped(rt: HostRuntime) {
     let log = Log::new();
-    let map = collected_made(&rt, rt.alloc(), &log)?;
-    let kept = [(3, 13), (1, 11), (4, 14), (5, 15)];
-    assert!(rt; log.alive() == 8 && has_told_pairs(map.as_slice(), &kept));
-    Ok(())
+    let map = collected_made(&rt, rt.alloc(), &log);
+    assert_told_pairs(&rt, &log, &map, 8, &[(3, 13), (1, 11), (4, 14), (5, 15)]);
 }
 
 // Returns commands that insert a pair, each once with a new key and once with an existing one, and one whose index is
@@ -297,21 +363,11 @@ fn puts<'a>(
 }
 
 #[test]
-fn a_map_run_keeps_each_inserted_pair_or_drops_it(rt: HostRuntime) -> Result<(), Fail> {
+fn a_map_run_keeps_each_inserted_pair_or_drops_it(rt: HostRuntime) {
     let log = Log::new();
-    let mut map = told_map(&rt, rt.alloc(), &log, &[1, 2])?;
-    let commands = make!(rt; puts(rt.alloc(), &log));
-    assert!(rt; log.alive() == 22);
-    drop(run(rt.alloc(), &mut map, commands));
-    if map.len() < 6 {
-        tell(&rt)?;
-        assert!(rt; log.alive() as usize == map.len().wrapping_mul(2));
-        map = told_map(&rt, rt.alloc(), &log, &[1, 2])?;
-        drop(run(rt.alloc(), &mut map, puts(rt.alloc(), &log)?)?);
-    }
+    let map = run_or_retry(&rt, rt.alloc(), &log, Commands::Puts, 22, 6);
     let all = [(2, 22), (4, 14), (1, 31), (3, 13), (5, 15), (6, 16)];
-    assert!(rt; log.alive() == 12 && has_told_pairs(map.as_slice(), &all));
-    Ok(())
+    assert_told_pairs(&rt, &log, &map, 12, &all);
 }
 
 // Returns commands that compare a carried map, look up a carried key, or remove the pair of one.
@@ -333,33 +389,52 @@ fn takes<'a>(
     Ok(commands)
 }
 
-#[test]
-fn a_map_run_drops_what_its_commands_compare_or_remove_by(rt: HostRuntime) -> Result<(), Fail> {
-    let log = Log::new();
-    let mut map = told_map(&rt, rt.alloc(), &log, &[1, 2, 3, 4, 5, 6])?;
-    let carried = told_map(&rt, rt.alloc(), &log, &[6, 5, 4, 3, 2, 1])?;
-    let commands = match takes(rt.alloc(), &log, carried) {
+// Creates these commands, with a map of six keys. If a request is refused, the map is dropped, and it tries once more.
+fn takes_made<'a>(
+    rt: &(impl Abort + Print),
+    alloc: Global,
+    log: &'a Log,
+) -> Vec<MapCommand<Told<'a>, Told<'a>>> {
+    let carried = told_map(rt, alloc, log, &[6, 5, 4, 3, 2, 1]);
+    match takes(alloc, log, carried) {
         Ok(commands) => commands,
         Err(AllocError) => {
-            tell(&rt)?;
-            assert!(rt; log.alive() == 12);
-            takes(rt.alloc(), &log, told_map(&rt, rt.alloc(), &log, &[6])?)?
+            tell(rt);
+            assert_is(rt, log.alive(), 12);
+            let carried = told_map(rt, alloc, log, &[6]);
+            granted(rt, takes(alloc, log, carried))
         }
-    };
-    let replies = match run(rt.alloc(), &mut map, commands) {
+    }
+}
+
+// Executes these commands. If the replies are refused, no command is executed, and the run is repeated.
+fn run_takes<'a>(
+    rt: &(impl Abort + Print),
+    alloc: Global,
+    log: &'a Log,
+    map: &mut Map<'a>,
+) -> Vec<MapReply<Told<'a>, Told<'a>>> {
+    let commands = takes_made(rt, alloc, log);
+    match run(alloc, map, commands) {
         Ok(replies) => replies,
         Err(AllocError) => {
-            tell(&rt)?;
-            assert!(rt; log.alive() == 12 && map.len() == 6);
-            let carried = told_map(&rt, rt.alloc(), &log, &[6])?;
-            run(rt.alloc(), &mut map, takes(rt.alloc(), &log, carried)?)?
+            tell(rt);
+            assert_is(rt, (log.alive(), map.len()), (12, 6));
+            let commands = takes_made(rt, alloc, log);
+            granted(rt, run(alloc, map, commands))
         }
-    };
+    }
+}
+
+#[test]
+fn a_map_run_drops_what_its_commands_compare_or_remove_by(rt: HostRuntime) {
+    let log = Log::new();
+    let mut map = told_map(&rt, rt.alloc(), &log, &[1, 2, 3, 4, 5, 6]);
+    let replies = run_takes(&rt, rt.alloc(), &log, &mut map);
     // The replies have the clone of a value, two values and two pairs.
-    assert!(rt; log.alive() == 11 && has_told_pairs(map.as_slice(), &[(6, 16), (5, 15)]));
+    assert_told_pairs(&rt, &log, &map, 11, &[(6, 16), (5, 15)]);
     drop(replies);
-    assert!(rt; log.alive() == 4);
-    Ok(())
+    assert_is(&rt, log.alive(), 4);
 }
 
 // Inserts a pair through the vacant entry of its key, by `insert_entry` or by `insert`.
@@ -379,20 +454,31 @@ fn insert_in_vacant<'a>(
     Ok(())
 }
 
-#[test]
-fn vacant_entries_keep_a_pair_or_return_it(rt: HostRuntime) -> Result<(), Fail> {
-    for wants_entry in [false, true] {
-        let log = Log::new();
-        let mut map = told_map(&rt, rt.alloc(), &log, &[1, 2])?;
-        let (key, value) = (make_told(&log, 3), make_told(&log, 13));
-        if let Err(refused) = insert_in_vacant(&mut map, key, value, wants_entry) {
-            tell(&rt)?;
-            assert!(rt; log.alive() == 6 && has_told_pairs(map.as_slice(), &[(1, 11), (2, 12)]));
-            let (key, value) = refused.given;
-            insert_in_vacant(&mut map, key, value, wants_entry)?;
-        }
-        let left = [(1, 11), (2, 12), (3, 13)];
-        assert!(rt; log.alive() == 6 && has_told_pairs(map.as_slice(), &left));
+// Like `insert_in_vacant`. If it is refused, it returns the pair, and is repeated with it.
+fn insert_in_vacant_or_retry<'a>(
+    rt: &(impl Abort + Print),
+    log: &'a Log,
+    map: &mut Map<'a>,
+    wants_entry: bool,
+) {
+    let (key, value) = (make_told(log, 3), make_told(log, 13));
+    if let Err(refused) = insert_in_vacant(map, key, value, wants_entry) {
+        tell(rt);
+        assert_told_pairs(rt, log, map, 6, &[(1, 11), (2, 12)]);
+        let (key, value) = refused.given;
+        assert_granted(rt, insert_in_vacant(map, key, value, wants_entry));
     }
-    Ok(())
+}
+
+fn check_vacant(rt: &(impl Abort + Print), alloc: Global, wants_entry: bool) {
+    let log = Log::new();
+    let mut map = told_map(rt, alloc, &log, &[1, 2]);
+    insert_in_vacant_or_retry(rt, &log, &mut map, wants_entry);
+    assert_told_pairs(rt, &log, &map, 6, &[(1, 11), (2, 12), (3, 13)]);
+}
+
+#[test]
+fn vacant_entries_keep_a_pair_or_return_it(rt: HostRuntime) {
+    check_vacant(&rt, rt.alloc(), false);
+    check_vacant(&rt, rt.alloc(), true);
 }

@@ -1,78 +1,38 @@
 //! Entries of a map that is full.
+use crate::checks::{assert_is, assert_pairs, check};
 use crate::telling::{full_map, make, tell};
+use std::alloc::Global;
 use std::process::Abort;
-use std::test::Fail;
+use vecmap::Refused;
 use vecmap::map::{Entry, VecMap};
-use vecmap_fixtures::{Item, has_pairs, make_item};
+use vecmap_fixtures::{Item, make_item};
 
 const FULL: &[(u32, char, u32)] = &[(1, 'a', 10), (2, 'b', 20)];
 
 // The result of a call that inserts a pair: the value that it lends, or the pair that it returns.
 type Put = Result<u32, (Item, u32)>;
 
-// Checks a call that inserts a pair. If it is refused, it returns the pair and leaves the map unchanged, and is
-// repeated with that pair. If it succeeds, the new pair is the last.
-fn check<R: Abort + Print, F: Fn(&mut VecMap<Item, u32>, Item, u32) -> Put>(
-    rt: &R,
-    mut map: VecMap<Item, u32>,
-    call: F,
-) -> Result<(), Fail>
-    requires { F.IsAlwaysCallable call }
-{
-    let value = match call(&mut map, make_item(7, 'x'), 70) {
-        Ok(value) => value,
-        Err((key, value)) => {
-            tell(rt)?;
-            assert!(rt; (key.number, key.mark, value) == (7, 'x', 70));
-            assert!(rt; has_pairs(map.as_slice(), FULL) && map.capacity() == 2);
-            call(&mut map, key, value).or(Err("refused again"))?
-        }
-    };
-    assert!(rt; value == 70);
-    assert!(rt; has_pairs(map.as_slice(), &[(1, 'a', 10), (2, 'b', 20), (7, 'x', 70)]));
-    Ok(())
+// Reads what a call lends.
+fn read(outcome: Result<&mut u32, Refused<(Item, u32)>>) -> Put {
+    match outcome {
+        Ok(value) => Ok(*value),
+        Err(refused) => Err(refused.given),
+    }
 }
 
 fn or_insert(map: &mut VecMap<Item, u32>, key: Item, value: u32) -> Put {
-    match map.entry(key).or_insert(value) {
-        Ok(value) => Ok(*value),
-        Err(refused) => Err(refused.given),
-    }
-}
-
-#[test]
-fn or_insert_returns_the_pair(rt: HostRuntime) -> Result<(), Fail> {
-    let map = full_map(&rt, rt.alloc(), FULL)?;
-    check(&rt, map, or_insert)
+    read(map.entry(key).or_insert(value))
 }
 
 fn or_insert_with(map: &mut VecMap<Item, u32>, key: Item, value: u32) -> Put {
-    match map.entry(key).or_insert_with(|| value) {
-        Ok(value) => Ok(*value),
-        Err(refused) => Err(refused.given),
-    }
+    read(map.entry(key).or_insert_with(|| value))
 }
 
-#[test]
-fn or_insert_with_returns_the_pair_with_the_made_value(rt: HostRuntime) -> Result<(), Fail> {
-    let map = full_map(&rt, rt.alloc(), FULL)?;
-    check(&rt, map, or_insert_with)
-}
-
-fn or_insert_with_key(map: &mut VecMap<Item, u32>, key: Item, _value: u32) -> Put {
+fn or_insert_with_key(map: &mut VecMap<Item, u32>, key: Item) -> Put {
     let made = map
         .entry(key)
         .or_insert_with_key(|key| key.number.wrapping_mul(10));
-    match made {
-        Ok(value) => Ok(*value),
-        Err(refused) => Err(refused.given),
-    }
-}
-
-#[test]
-fn or_insert_with_key_returns_the_pair_with_the_made_value(rt: HostRuntime) -> Result<(), Fail> {
-    let map = full_map(&rt, rt.alloc(), FULL)?;
-    check(&rt, map, or_insert_with_key)
+    read(made)
 }
 
 // The default is 0, and the value is then written over it.
@@ -87,26 +47,11 @@ fn or_default(map: &mut VecMap<Item, u32>, key: Item, value: u32) -> Put {
     }
 }
 
-#[test]
-fn or_default_returns_the_pair_with_the_default(rt: HostRuntime) -> Result<(), Fail> {
-    let map = full_map(&rt, rt.alloc(), FULL)?;
-    check(&rt, map, or_default)
-}
-
 fn insert(map: &mut VecMap<Item, u32>, key: Item, value: u32) -> Put {
     let Entry::Vacant(entry) = map.entry(key) else {
         return Ok(0);
     };
-    match entry.insert(value) {
-        Ok(value) => Ok(*value),
-        Err(refused) => Err(refused.given),
-    }
-}
-
-#[test]
-fn a_vacant_entry_returns_the_pair(rt: HostRuntime) -> Result<(), Fail> {
-    let map = full_map(&rt, rt.alloc(), FULL)?;
-    check(&rt, map, insert)
+    read(entry.insert(value))
 }
 
 fn insert_vacant(map: &mut VecMap<Item, u32>, key: Item, value: u32) -> Put {
@@ -119,12 +64,6 @@ fn insert_vacant(map: &mut VecMap<Item, u32>, key: Item, value: u32) -> Put {
     }
 }
 
-#[test]
-fn insert_entry_of_a_vacant_entry_returns_the_pair(rt: HostRuntime) -> Result<(), Fail> {
-    let map = full_map(&rt, rt.alloc(), FULL)?;
-    check(&rt, map, insert_vacant)
-}
-
 fn insert_entry(map: &mut VecMap<Item, u32>, key: Item, value: u32) -> Put {
     match map.entry(key).insert_entry(value) {
         Ok(entry) => Ok(*entry.into_mut()),
@@ -132,44 +71,135 @@ fn insert_entry(map: &mut VecMap<Item, u32>, key: Item, value: u32) -> Put {
     }
 }
 
-#[test]
-fn insert_entry_returns_the_pair(rt: HostRuntime) -> Result<(), Fail> {
-    let map = full_map(&rt, rt.alloc(), FULL)?;
-    check(&rt, map, insert_entry)
+#[derive(Clone, Copy)]
+enum Call {
+    OrInsert,
+    OrInsertWith,
+    OrInsertWithKey,
+    OrDefault,
+    Insert,
+    InsertVacant,
+    InsertEntry,
+}
+
+fn put(call: Call, map: &mut VecMap<Item, u32>, key: Item, value: u32) -> Put {
+    match call {
+        Call::OrInsert => or_insert(map, key, value),
+        Call::OrInsertWith => or_insert_with(map, key, value),
+        Call::OrInsertWithKey => or_insert_with_key(map, key),
+        Call::OrDefault => or_default(map, key, value),
+        Call::Insert => insert(map, key, value),
+        Call::InsertVacant => insert_vacant(map, key, value),
+        Call::InsertEntry => insert_entry(map, key, value),
+    }
+}
+
+// Inserts a pair by a call. If it is refused, it returns the pair and leaves the map unchanged, and is repeated with
+// that pair.
+fn put_or_retry(rt: &(impl Abort + Print), call: Call, map: &mut VecMap<Item, u32>) -> Put {
+    match put(call, map, make_item(7, 'x'), 70) {
+        Ok(value) => Ok(value),
+        Err((key, value)) => {
+            tell(rt);
+            assert_is(rt, (key.number, key.mark, value), (7, 'x', 70));
+            assert_pairs(rt, map, FULL);
+            assert_is(rt, map.capacity(), 2);
+            put(call, map, key, value)
+        }
+    }
+}
+
+// Checks a call that inserts a pair: the new pair is the last, also if the call is refused once.
+fn check(rt: &(impl Abort + Print), alloc: Global, call: Call) {
+    let mut map = full_map(rt, alloc, FULL);
+    let put = put_or_retry(rt, call, &mut map);
+    assert_is(rt, put, Ok(70));
+    assert_pairs(rt, &map, &[(1, 'a', 10), (2, 'b', 20), (7, 'x', 70)]);
 }
 
 #[test]
-fn a_clone_without_memory_returns_the_pair(rt: HostRuntime) -> Result<(), Fail> {
+fn or_insert_returns_the_pair(rt: HostRuntime) {
+    check(&rt, rt.alloc(), Call::OrInsert);
+}
+
+#[test]
+fn or_insert_with_returns_the_pair_with_the_made_value(rt: HostRuntime) {
+    check(&rt, rt.alloc(), Call::OrInsertWith);
+}
+
+#[test]
+fn or_insert_with_key_returns_the_pair_with_the_made_value(rt: HostRuntime) {
+    check(&rt, rt.alloc(), Call::OrInsertWithKey);
+}
+
+#[test]
+fn or_default_returns_the_pair_with_the_default(rt: HostRuntime) {
+    check(&rt, rt.alloc(), Call::OrDefault);
+}
+
+#[test]
+fn a_vacant_entry_returns_the_pair(rt: HostRuntime) {
+    check(&rt, rt.alloc(), Call::Insert);
+}
+
+#[test]
+fn insert_entry_of_a_vacant_entry_returns_the_pair(rt: HostRuntime) {
+    check(&rt, rt.alloc(), Call::InsertVacant);
+}
+
+#[test]
+fn insert_entry_returns_the_pair(rt: HostRuntime) {
+    check(&rt, rt.alloc(), Call::InsertEntry);
+}
+
+// Inserts a value through the entry of a text, or returns both.
+fn insert_text(
+    rt: &impl Abort,
+    map: &mut VecMap<String, u32>,
+    key: String,
+) -> Result<(), (String, u32)> {
+    match map.entry(key).insert_entry(7) {
+        Ok(entry) => {
+            assert_is(rt, (entry.key().as_str(), entry.index()), ("key", 0));
+            Ok(())
+        }
+        Err(refused) => Err(refused.given),
+    }
+}
+
+// Like `insert_text`. If it is refused, the map is empty and has its capacity, and the pair is inserted once more.
+fn insert_text_or_retry(
+    rt: &(impl Abort + Print),
+    map: &mut VecMap<String, u32>,
+    key: String,
+    room: usize,
+) {
+    if let Err((key, value)) = insert_text(rt, map, key) {
+        tell(rt);
+        assert_is(rt, (map.len(), map.capacity(), value), (0, room, 7));
+        assert_is(rt, insert_text(rt, map, key).is_ok(), true);
+    }
+}
+
+#[test]
+fn a_clone_without_memory_returns_the_pair(rt: HostRuntime) {
     let mut map = make!(rt; VecMap::with_capacity(rt.alloc(), 1));
     let room = map.capacity();
     let key = make!(rt; String::from_str(rt.alloc(), "key"));
-    let given = match map.entry(key).insert_entry(7) {
-        Ok(entry) => {
-            assert!(rt; entry.key().as_str() == "key" && entry.index() == 0);
-            None
-        }
-        Err(refused) => Some(refused.given),
-    };
-    if let Some((key, value)) = given {
-        tell(&rt)?;
-        assert!(rt; map.is_empty() && map.capacity() == room);
-        map.entry(key).insert_entry(value)?.into_key();
-    }
-    assert!(rt; (map.len(), map.capacity()) == (1, room));
-    assert!(rt; map.get_str("key").copied() == Some(7));
-    Ok(())
+    insert_text_or_retry(&rt, &mut map, key, room);
+    assert_is(&rt, (map.len(), map.capacity()), (1, room));
+    assert_is(&rt, map.get_str("key").copied(), Some(7));
 }
 
 #[test]
-fn an_occupied_entry_is_never_refused(rt: HostRuntime) -> Result<(), Fail> {
-    let mut map = full_map(&rt, rt.alloc(), FULL)?;
+fn an_occupied_entry_is_never_refused(rt: HostRuntime) {
+    let mut map = full_map(&rt, rt.alloc(), FULL);
     let key = make_item(1, 'z');
-    assert!(rt; matches!(map.entry(key).or_insert(1), Ok(10)));
-    assert!(rt; matches!(map.entry(key).or_insert_with(|| 1), Ok(10)));
-    assert!(rt; matches!(map.entry(key).or_insert_with_key(|_| 1), Ok(10)));
-    assert!(rt; matches!(map.entry(key).or_default(), Ok(10)));
-    assert!(rt; map.entry(key).insert_entry(20).is_ok());
-    assert!(rt; has_pairs(map.as_slice(), &[(1, 'a', 20), (2, 'b', 20)]));
-    assert!(rt; map.capacity() == 2);
-    Ok(())
+    assert_is(&rt, read(map.entry(key).or_insert(1)), Ok(10));
+    assert_is(&rt, read(map.entry(key).or_insert_with(|| 1)), Ok(10));
+    assert_is(&rt, read(map.entry(key).or_insert_with_key(|_| 1)), Ok(10));
+    assert_is(&rt, read(map.entry(key).or_default()), Ok(10));
+    assert_is(&rt, insert_entry(&mut map, key, 20), Ok(20));
+    assert_pairs(&rt, &map, &[(1, 'a', 20), (2, 'b', 20)]);
+    check!(rt; map.capacity() == 2);
 }

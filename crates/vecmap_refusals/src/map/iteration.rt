@@ -1,57 +1,58 @@
 //! Clones of the iterators that own their items.
+use crate::checks::{assert_is, check};
 use crate::telling::{make, text_map};
-use std::test::Fail;
+use std::process::Abort;
 
 const TEXTS: &[(&str, &str)] = &[("c", "3"), ("b", "2"), ("a", "1")];
 
-// Returns whether the iterator returned this text.
-fn is_text(given: Option<String>, wanted: &str) -> bool {
-    match given {
-        Some(text) => text.as_str() == wanted,
-        None => false,
-    }
+// Asserts that the iterator returned this text, or none.
+fn assert_text(rt: &impl Abort, given: Option<String>, expected: Option<&str>) {
+    assert_is(rt, given.as_deref(), expected);
 }
 
-// Returns whether the iterator returned this pair of texts.
-fn is_pair(given: Option<(String, String)>, wanted: (&str, &str)) -> bool {
-    match given {
-        Some(pair) => (pair.0.as_str(), pair.1.as_str()) == wanted,
-        None => false,
+// Asserts that the iterator returned this pair of texts, or none.
+fn assert_pair(rt: &impl Abort, given: Option<(String, String)>, expected: Option<(&str, &str)>) {
+    match &given {
+        Some(pair) => assert_is(rt, Some((pair.0.as_str(), pair.1.as_str())), expected),
+        None => assert_is(rt, None, expected),
     }
 }
 
 #[test]
-fn a_clone_of_pairs_leaves_the_original(rt: HostRuntime) -> Result<(), Fail> {
-    let mut pairs = text_map(&rt, rt.alloc(), TEXTS)?.into_iter();
-    assert!(rt; pairs.next().is_some());
+fn a_clone_of_pairs_leaves_the_original(rt: HostRuntime) {
+    let mut pairs = text_map(&rt, rt.alloc(), TEXTS).into_iter();
+    check!(rt; pairs.next().is_some());
     let mut copy = make!(rt; pairs.clone());
-    assert!(rt; is_pair(copy.next(), ("b", "2")) && is_pair(copy.next(), ("a", "1")));
-    assert!(rt; copy.next().is_none());
-    assert!(rt; is_pair(pairs.next(), ("b", "2")) && is_pair(pairs.next(), ("a", "1")));
-    assert!(rt; pairs.next().is_none());
-    Ok(())
+    assert_pair(&rt, copy.next(), Some(("b", "2")));
+    assert_pair(&rt, copy.next(), Some(("a", "1")));
+    assert_pair(&rt, copy.next(), None);
+    assert_pair(&rt, pairs.next(), Some(("b", "2")));
+    assert_pair(&rt, pairs.next(), Some(("a", "1")));
+    assert_pair(&rt, pairs.next(), None);
 }
 
 #[test]
-fn a_clone_of_keys_leaves_the_original(rt: HostRuntime) -> Result<(), Fail> {
-    let mut keys = text_map(&rt, rt.alloc(), TEXTS)?.into_keys();
-    assert!(rt; keys.next_back().is_some());
+fn a_clone_of_keys_leaves_the_original(rt: HostRuntime) {
+    let mut keys = text_map(&rt, rt.alloc(), TEXTS).into_keys();
+    check!(rt; keys.next_back().is_some());
     let mut copy = make!(rt; keys.clone());
-    assert!(rt; is_text(copy.next(), "c") && is_text(copy.next(), "b"));
-    assert!(rt; copy.next().is_none());
-    assert!(rt; is_text(keys.next(), "c") && is_text(keys.next(), "b"));
-    assert!(rt; keys.next().is_none());
-    Ok(())
+    assert_text(&rt, copy.next(), Some("c"));
+    assert_text(&rt, copy.next(), Some("b"));
+    assert_text(&rt, copy.next(), None);
+    assert_text(&rt, keys.next(), Some("c"));
+    assert_text(&rt, keys.next(), Some("b"));
+    assert_text(&rt, keys.next(), None);
 }
 
 #[test]
-fn a_clone_of_values_leaves_the_original(rt: HostRuntime) -> Result<(), Fail> {
-    let mut values = text_map(&rt, rt.alloc(), TEXTS)?.into_values();
-    assert!(rt; values.next_back().is_some());
+fn a_clone_of_values_leaves_the_original(rt: HostRuntime) {
+    let mut values = text_map(&rt, rt.alloc(), TEXTS).into_values();
+    check!(rt; values.next_back().is_some());
     let mut copy = make!(rt; values.clone());
-    assert!(rt; is_text(copy.next(), "3") && is_text(copy.next(), "2"));
-    assert!(rt; copy.next().is_none());
-    assert!(rt; is_text(values.next(), "3") && is_text(values.next(), "2"));
-    assert!(rt; values.next().is_none());
-    Ok(())
+    assert_text(&rt, copy.next(), Some("3"));
+    assert_text(&rt, copy.next(), Some("2"));
+    assert_text(&rt, copy.next(), None);
+    assert_text(&rt, values.next(), Some("3"));
+    assert_text(&rt, values.next(), Some("2"));
+    assert_text(&rt, values.next(), None);
 }

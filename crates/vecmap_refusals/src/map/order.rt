@@ -1,9 +1,10 @@
 //! Stable sorts of a map. A refused sort leaves the map unchanged.
+use crate::checks::{assert_granted, assert_is, assert_list, assert_pairs, check, granted};
 use crate::telling::{make, tell};
 use std::alloc::{AllocError, Global};
-use std::test::Fail;
+use std::process::Abort;
 use vecmap::VecMap;
-use vecmap_fixtures::{has_pairs, repeating_map};
+use vecmap_fixtures::{Item, repeating_map};
 
 // More pairs than a stable sort sorts without allocating.
 const COUNT: u32 = 100;
@@ -32,57 +33,62 @@ fn holds(map: &VecMap<u32, u32>, turned: bool) -> bool {
     map.len() == 100
 }
 
-#[test]
-fn sort_by_sorts_a_map_or_leaves_it(rt: HostRuntime) -> Result<(), Fail> {
-    let mut map = make!(rt; numbers(rt.alloc(), COUNT));
-    let room = map.capacity();
-    if map.sort_by(|a, b| b.1.cmp(a.1)).is_err() {
-        tell(&rt)?;
-        assert!(rt; holds(&map, false) && map.capacity() == room);
-        map.sort_by(|a, b| b.1.cmp(a.1))?;
+#[derive(Clone, Copy)]
+enum Sorting {
+    Descending,
+    Keys,
+    CachedKey,
+}
+
+// Sorts the map by a call: descending values, ascending keys, or ascending values.
+fn sort(call: Sorting, map: &mut VecMap<u32, u32>) -> Result<(), AllocError> {
+    match call {
+        Sorting::Descending => map.sort_by(|a, b| b.1.cmp(a.1)),
+        Sorting::Keys => map.sort_keys(),
+        Sorting::CachedKey => map.sort_by_cached_key(|_, value| *value),
     }
-    assert!(rt; holds(&map, true) && map.capacity() == room);
-    Ok(())
+}
+
+// Checks a sort that reverses the map. If it is refused, the map is unchanged, and is sorted once more.
+fn check_sort(rt: &(impl Abort + Print), call: Sorting, map: &mut VecMap<u32, u32>, turned: bool) {
+    let room = map.capacity();
+    if sort(call, map).is_err() {
+        tell(rt);
+        assert_is(rt, (holds(map, turned), map.capacity()), (true, room));
+        granted(rt, sort(call, map));
+    }
+    assert_is(rt, (holds(map, !turned), map.capacity()), (true, room));
 }
 
 #[test]
-fn sort_keys_sorts_a_map_or_leaves_it(rt: HostRuntime) -> Result<(), Fail> {
+fn sort_by_sorts_a_map_or_leaves_it(rt: HostRuntime) {
     let mut map = make!(rt; numbers(rt.alloc(), COUNT));
-    let room = map.capacity();
+    check_sort(&rt, Sorting::Descending, &mut map, false);
+}
+
+#[test]
+fn sort_keys_sorts_a_map_or_leaves_it(rt: HostRuntime) {
+    let mut map = make!(rt; numbers(rt.alloc(), COUNT));
     map.reverse();
-    if map.sort_keys().is_err() {
-        tell(&rt)?;
-        assert!(rt; holds(&map, true) && map.capacity() == room);
-        map.sort_keys()?;
-    }
-    assert!(rt; holds(&map, false) && map.capacity() == room);
-    Ok(())
+    check_sort(&rt, Sorting::Keys, &mut map, true);
 }
 
 #[test]
-fn sort_by_cached_key_sorts_a_map_or_leaves_it(rt: HostRuntime) -> Result<(), Fail> {
+fn sort_by_cached_key_sorts_a_map_or_leaves_it(rt: HostRuntime) {
     let mut map = make!(rt; numbers(rt.alloc(), COUNT));
-    let room = map.capacity();
     map.reverse();
-    if map.sort_by_cached_key(|_, value| *value).is_err() {
-        tell(&rt)?;
-        assert!(rt; holds(&map, true) && map.capacity() == room);
-        map.sort_by_cached_key(|_, value| *value)?;
-    }
-    assert!(rt; holds(&map, false) && map.capacity() == room);
-    Ok(())
+    check_sort(&rt, Sorting::CachedKey, &mut map, true);
 }
 
 #[test]
-fn sorts_of_a_short_map_are_never_refused(rt: HostRuntime) -> Result<(), Fail> {
+fn sorts_of_a_short_map_are_never_refused(rt: HostRuntime) {
     let mut map = make!(rt; numbers(rt.alloc(), 20));
-    assert!(rt; map.sort_keys().is_ok());
-    assert!(rt; map.sort_by(|a, b| b.1.cmp(a.1)).is_ok());
-    assert!(rt; map.first() == Some((&19, &29)));
+    assert_granted(&rt, map.sort_keys());
+    assert_granted(&rt, map.sort_by(|a, b| b.1.cmp(a.1)));
+    check!(rt; map.first() == Some((&19, &29)));
     map.truncate(1);
-    assert!(rt; map.sort_by_cached_key(|key, _| *key).is_ok());
-    assert!(rt; map.as_slice() == [(19, 29)].as_slice());
-    Ok(())
+    assert_granted(&rt, map.sort_by_cached_key(|key, _| *key));
+    assert_list(&rt, map.as_slice(), &[(19, 29)]);
 }
 
 // Returns as many pairs, with each key twice: all with the mark 'a' before all with the mark 'b', and both with
@@ -108,17 +114,27 @@ fn sorted(alloc: Global) -> Result<Vec<(u32, char, u32)>, AllocError> {
     Ok(pairs)
 }
 
+// Sorts the map by the numbers of its keys. If that is refused, the map is unchanged, and is sorted once more.
+fn sort_items(
+    rt: &(impl Abort + Print),
+    map: &mut VecMap<Item, u32>,
+    unchanged: &[(u32, char, u32)],
+) {
+    let room = map.capacity();
+    if map.sort_by(|a, b| a.0.number.cmp(&b.0.number)).is_err() {
+        tell(rt);
+        assert_pairs(rt, map, unchanged);
+        assert_is(rt, map.capacity(), room);
+        granted(rt, map.sort_by(|a, b| a.0.number.cmp(&b.0.number)));
+    }
+    assert_is(rt, map.capacity(), room);
+}
+
 #[test]
-fn sort_by_leaves_equal_keys_in_their_order(rt: HostRuntime) -> Result<(), Fail> {
+fn sort_by_leaves_equal_keys_in_their_order(rt: HostRuntime) {
     let mixed = make!(rt; mixed(rt.alloc()));
     let sorted = make!(rt; sorted(rt.alloc()));
     let mut map = make!(rt; repeating_map(rt.alloc(), &mixed));
-    let room = map.capacity();
-    if map.sort_by(|a, b| a.0.number.cmp(&b.0.number)).is_err() {
-        tell(&rt)?;
-        assert!(rt; has_pairs(map.as_slice(), &mixed) && map.capacity() == room);
-        map.sort_by(|a, b| a.0.number.cmp(&b.0.number))?;
-    }
-    assert!(rt; has_pairs(map.as_slice(), &sorted) && map.capacity() == room);
-    Ok(())
+    sort_items(&rt, &mut map, &mixed);
+    assert_pairs(&rt, &map, &sorted);
 }

@@ -1,46 +1,56 @@
 //! A map that is split in two.
+use crate::checks::{assert_granted, assert_is, assert_pairs, granted};
 use crate::telling::{full_map, make, tell};
 use std::alloc::AllocError;
-use std::test::Fail;
-use vecmap_fixtures::{has_pairs, repeating_map};
+use std::process::Abort;
+use vecmap::VecMap;
+use vecmap_fixtures::{Item, repeating_map};
 
 const FULL: &[(u32, char, u32)] = &[(1, 'a', 10), (2, 'b', 20), (3, 'c', 30)];
 
-#[test]
-fn split_off_of_a_map_moves_all_or_nothing(rt: HostRuntime) -> Result<(), Fail> {
-    let mut map = full_map(&rt, rt.alloc(), FULL)?;
-    assert!(rt; 1 <= map.len());
-    let part = match map.split_off(1) {
-        Ok(part) => part,
-        Err(AllocError) => {
-            tell(&rt)?;
-            assert!(rt; has_pairs(map.as_slice(), FULL) && map.capacity() == 3);
-            map.split_off(1)?
+// Splits a map after its first pair. If that is refused, the map is unchanged, and is split once more. The capacity
+// stays in each case.
+fn split_off(
+    rt: &(impl Abort + Print),
+    map: &mut VecMap<Item, u32>,
+    pairs: &[(u32, char, u32)],
+) -> VecMap<Item, u32> {
+    let room = map.capacity();
+    assert!(*rt; 1 <= map.len());
+    match map.split_off(1) {
+        Ok(part) => {
+            assert_is(rt, map.capacity(), room);
+            part
         }
-    };
-    assert!(rt; has_pairs(map.as_slice(), &[(1, 'a', 10)]) && map.capacity() == 3);
-    assert!(rt; has_pairs(part.as_slice(), &[(2, 'b', 20), (3, 'c', 30)]));
-    let end = map.len();
-    assert!(rt; map.split_off(end).is_ok());
-    assert!(rt; (map.len(), map.capacity()) == (end, 3));
-    Ok(())
+        Err(AllocError) => {
+            tell(rt);
+            assert_pairs(rt, map, pairs);
+            assert_is(rt, map.capacity(), room);
+            assert!(*rt; 1 <= map.len());
+            let part = granted(rt, map.split_off(1));
+            assert_is(rt, map.capacity(), room);
+            part
+        }
+    }
 }
 
 #[test]
-fn split_off_separates_equal_keys_or_leaves_them(rt: HostRuntime) -> Result<(), Fail> {
+fn split_off_of_a_map_moves_all_or_nothing(rt: HostRuntime) {
+    let mut map = full_map(&rt, rt.alloc(), FULL);
+    assert_is(&rt, map.capacity(), 3);
+    let part = split_off(&rt, &mut map, FULL);
+    assert_pairs(&rt, &map, &[(1, 'a', 10)]);
+    assert_pairs(&rt, &part, &[(2, 'b', 20), (3, 'c', 30)]);
+    let end = map.len();
+    assert_granted(&rt, map.split_off(end));
+    assert_is(&rt, (map.len(), map.capacity()), (end, 3));
+}
+
+#[test]
+fn split_off_separates_equal_keys_or_leaves_them(rt: HostRuntime) {
     let repeats = [(1, 'a', 10), (2, 'b', 20), (1, 'c', 30), (2, 'd', 40)];
     let mut map = make!(rt; repeating_map(rt.alloc(), &repeats));
-    let room = map.capacity();
-    assert!(rt; 1 <= map.len());
-    let part = match map.split_off(1) {
-        Ok(part) => part,
-        Err(AllocError) => {
-            tell(&rt)?;
-            assert!(rt; has_pairs(map.as_slice(), &repeats) && map.capacity() == room);
-            map.split_off(1)?
-        }
-    };
-    assert!(rt; has_pairs(map.as_slice(), &[(1, 'a', 10)]) && map.capacity() == room);
-    assert!(rt; has_pairs(part.as_slice(), &[(2, 'b', 20), (1, 'c', 30), (2, 'd', 40)]));
-    Ok(())
+    let part = split_off(&rt, &mut map, &repeats);
+    assert_pairs(&rt, &map, &[(1, 'a', 10)]);
+    assert_pairs(&rt, &part, &[(2, 'b', 20), (1, 'c', 30), (2, 'd', 40)]);
 }

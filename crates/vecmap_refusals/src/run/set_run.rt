@@ -1,11 +1,11 @@
 //! Runs of commands on a set.
-use crate::telling::{full_set, make, tell, text_set};
+use crate::checks::{assert_is, assert_items, assert_texts};
+use crate::telling::{full_set, one_of, tell, text_set};
 use std::alloc::{AllocError, Global};
 use std::process::Abort;
 use std::slice;
-use std::test::Fail;
 use vecmap::{SetCommand, SetReply, VecSet, run_set};
-use vecmap_fixtures::{has_items, has_texts, item_set, make_item};
+use vecmap_fixtures::{Item, has_items, has_texts, item_set, make_item};
 
 const FULL: &[(u32, char)] = &[(1, 'a'), (2, 'b')];
 
@@ -14,98 +14,248 @@ const ONE_MORE: &[(u32, char)] = &[(1, 'a'), (2, 'b'), (7, 'x')];
 // An element that is equal to an existing one but not identical, and a new one.
 const CARRIED: &[(u32, char)] = &[(1, 'z'), (7, 'x')];
 
-// One command on a full set: it is executed, or it is refused, leaves the set unchanged, and is then executed.
-macro_rules! refused_then_done {
-    ($rt:ident; $command:expr, $reply:pat => $left:expr $(, $is_wanted:expr)?) => {{
-        let mut is_refused = false;
-        for _ in 0..2 {
-            let mut set = full_set(&$rt, $rt.alloc(), FULL)?;
-            let mut commands = make!($rt; Vec::with_capacity($rt.alloc(), 1));
-            commands.push($command)?;
-            match run_set($rt.alloc(), &mut set, commands).as_deref() {
-                Ok([$reply]) => {
-                    assert!($rt; has_items(set.as_slice(), $left) $(&& $is_wanted)?);
-                    return Ok(());
-                }
-                Ok([SetReply::NoMemory]) | Err(AllocError) => {
-                    assert!($rt; has_items(set.as_slice(), FULL) && set.capacity() == 2);
-                }
-                _ => return Err(Fail::new("another reply")),
-            }
-            tell(&$rt)?;
-            assert!($rt; !is_refused);
-            is_refused = true;
+// Asserts that a set of the elements `FULL` is unchanged.
+fn assert_full(rt: &impl Abort, set: &VecSet<Item>) {
+    assert_items(rt, set, FULL);
+    assert_is(rt, set.capacity(), 2);
+}
+
+// Returns the reply to a single command, or `None` if it or the run was refused.
+fn reply_of<'r, T: Eq>(
+    rt: &impl Abort,
+    outcome: &'r Result<Vec<SetReply<T>>, AllocError>,
+) -> Option<&'r SetReply<T>> {
+    match outcome.as_deref() {
+        Ok([SetReply::NoMemory]) | Err(AllocError) => None,
+        Ok([reply]) => Some(reply),
+        Ok(_) => panic!(*rt; "not one reply"),
+    }
+}
+
+// A command that allocates on a full set.
+#[derive(Clone, Copy, Debug)]
+enum Change {
+    Insert,
+    Replace,
+    Append,
+    SplitOff,
+    Intersect,
+    Unite,
+    Exclusive,
+    Subtract,
+}
+
+impl Change {
+    fn create(self, alloc: Global) -> Result<Vec<SetCommand<Item>>, AllocError> {
+        let mut commands = Vec::with_capacity(alloc, 1)?;
+        commands.push(match self {
+            Change::Insert => SetCommand::Insert(make_item(7, 'x')),
+            Change::Replace => SetCommand::Replace(make_item(7, 'x')),
+            Change::Append => SetCommand::Append(item_set(alloc, CARRIED)?),
+            Change::SplitOff => SetCommand::SplitOff(1),
+            Change::Intersect => SetCommand::Intersect(item_set(alloc, CARRIED)?),
+            Change::Unite => SetCommand::Unite(item_set(alloc, CARRIED)?),
+            Change::Exclusive => SetCommand::Exclusive(item_set(alloc, CARRIED)?),
+            Change::Subtract => SetCommand::Subtract(item_set(alloc, CARRIED)?),
+        })?;
+        Ok(commands)
+    }
+
+    // Returns the elements of the set that the reply must have, if it has one.
+    fn made(self) -> Option<&'static [(u32, char)]> {
+        match self {
+            Change::SplitOff | Change::Subtract => Some(&[(2, 'b')]),
+            Change::Intersect => Some(&[(1, 'a')]),
+            Change::Unite => Some(ONE_MORE),
+            Change::Exclusive => Some(&[(2, 'b'), (7, 'x')]),
+            Change::Insert | Change::Replace | Change::Append => None,
         }
-        Ok(())
-    }};
+    }
+
+    // Returns whether the reply is the right one.
+    fn is_answered(self, reply: &SetReply<Item>) -> bool {
+        match (self, reply) {
+            (Change::Insert, SetReply::Truth(true)) => true,
+            (Change::Replace, SetReply::Item(None)) => true,
+            (Change::Append, SetReply::Done) => true,
+            (_, SetReply::Made(set)) => match self.made() {
+                Some(made) => has_items(set.as_slice(), made),
+                None => false,
+            },
+            _ => false,
+        }
+    }
+}
+
+// Returns whether the command was executed, and not refused. Its reply and the elements `left` must be the right ones.
+// If it was refused, the set must be unchanged.
+fn is_changed(
+    rt: &impl Abort,
+    call: Change,
+    reply: Option<&SetReply<Item>>,
+    set: &VecSet<Item>,
+    left: &[(u32, char)],
+) -> bool {
+    match reply {
+        Some(reply) => {
+            assert!(*rt; call.is_answered(reply), "another reply to {call:?}");
+            assert_items(rt, set, left);
+            true
+        }
+        None => {
+            assert_full(rt, set);
+            false
+        }
+    }
+}
+
+fn run_change(
+    rt: &(impl Abort + Print),
+    alloc: Global,
+    call: Change,
+    left: &[(u32, char)],
+) -> bool {
+    let mut set = full_set(rt, alloc, FULL);
+    let commands = one_of(rt, call.create(alloc), call.create(alloc));
+    let outcome = run_set(alloc, &mut set, commands);
+    is_changed(rt, call, reply_of(rt, &outcome), &set, left)
+}
+
+// Checks one command on a full set: it is executed, or it is refused, leaves the set unchanged, and is then executed.
+fn check_change(rt: &(impl Abort + Print), alloc: Global, call: Change, left: &[(u32, char)]) {
+    if !run_change(rt, alloc, call, left) {
+        tell(rt);
+        assert_is(rt, run_change(rt, alloc, call, left), true);
+    }
 }
 
 #[test]
-fn a_refused_insert_replies_out_of_memory(rt: HostRuntime) -> Result<(), Fail> {
-    refused_then_done!(rt; SetCommand::Insert(make_item(7, 'x')), SetReply::Truth(true) => ONE_MORE)
+fn a_refused_insert_replies_out_of_memory(rt: HostRuntime) {
+    check_change(&rt, rt.alloc(), Change::Insert, ONE_MORE);
 }
 
 #[test]
-fn a_refused_replace_replies_out_of_memory(rt: HostRuntime) -> Result<(), Fail> {
-    refused_then_done!(rt; SetCommand::Replace(make_item(7, 'x')), SetReply::Item(None) => ONE_MORE)
+fn a_refused_replace_replies_out_of_memory(rt: HostRuntime) {
+    check_change(&rt, rt.alloc(), Change::Replace, ONE_MORE);
 }
 
 #[test]
-fn a_refused_append_to_a_set_replies_out_of_memory(rt: HostRuntime) -> Result<(), Fail> {
-    refused_then_done!(rt; SetCommand::Append(make!(rt; item_set(rt.alloc(), CARRIED))), SetReply::Done => ONE_MORE)
+fn a_refused_append_to_a_set_replies_out_of_memory(rt: HostRuntime) {
+    check_change(&rt, rt.alloc(), Change::Append, ONE_MORE);
 }
 
 #[test]
-fn a_refused_split_of_a_set_replies_out_of_memory(rt: HostRuntime) -> Result<(), Fail> {
-    refused_then_done!(rt; SetCommand::SplitOff(1), SetReply::Made(part) => &[(1, 'a')], has_items(part.as_slice(), &[(2, 'b')]))
+fn a_refused_split_of_a_set_replies_out_of_memory(rt: HostRuntime) {
+    check_change(&rt, rt.alloc(), Change::SplitOff, &[(1, 'a')]);
 }
 
 #[test]
-fn of_two_equal_elements_and_has_that_of_the_set(rt: HostRuntime) -> Result<(), Fail> {
-    refused_then_done!(rt; SetCommand::Intersect(make!(rt; item_set(rt.alloc(), CARRIED))), SetReply::Made(made) => FULL, has_items(made.as_slice(), &[(1, 'a')]))
+fn of_two_equal_elements_and_has_that_of_the_set(rt: HostRuntime) {
+    check_change(&rt, rt.alloc(), Change::Intersect, FULL);
 }
 
 #[test]
-fn of_two_equal_elements_or_has_that_of_the_set(rt: HostRuntime) -> Result<(), Fail> {
-    refused_then_done!(rt; SetCommand::Unite(make!(rt; item_set(rt.alloc(), CARRIED))), SetReply::Made(made) => FULL, has_items(made.as_slice(), ONE_MORE))
+fn of_two_equal_elements_or_has_that_of_the_set(rt: HostRuntime) {
+    check_change(&rt, rt.alloc(), Change::Unite, FULL);
 }
 
 #[test]
-fn of_two_equal_elements_xor_has_neither(rt: HostRuntime) -> Result<(), Fail> {
-    refused_then_done!(rt; SetCommand::Exclusive(make!(rt; item_set(rt.alloc(), CARRIED))), SetReply::Made(made) => FULL, has_items(made.as_slice(), &[(2, 'b'), (7, 'x')]))
+fn of_two_equal_elements_xor_has_neither(rt: HostRuntime) {
+    check_change(&rt, rt.alloc(), Change::Exclusive, FULL);
 }
 
 #[test]
-fn of_two_equal_elements_minus_has_neither(rt: HostRuntime) -> Result<(), Fail> {
-    refused_then_done!(rt; SetCommand::Subtract(make!(rt; item_set(rt.alloc(), CARRIED))), SetReply::Made(made) => FULL, has_items(made.as_slice(), &[(2, 'b')]))
+fn of_two_equal_elements_minus_has_neither(rt: HostRuntime) {
+    check_change(&rt, rt.alloc(), Change::Subtract, FULL);
+}
+
+// Returns commands that add an existing element, for which the set does not allocate.
+fn equal_elements(alloc: Global) -> Result<Vec<SetCommand<Item>>, AllocError> {
+    let mut commands = Vec::with_capacity(alloc, 2)?;
+    commands.push(SetCommand::Insert(make_item(2, 'y')))?;
+    commands.push(SetCommand::Replace(make_item(1, 'z')))?;
+    Ok(commands)
+}
+
+// Returns whether the replies were not refused. If they were, no command was executed.
+fn are_put(
+    rt: &impl Abort,
+    outcome: &Result<Vec<SetReply<Item>>, AllocError>,
+    set: &VecSet<Item>,
+) -> bool {
+    match outcome.as_deref() {
+        Ok([SetReply::Truth(false), SetReply::Item(Some(old))]) => {
+            assert_is(rt, (old.number, old.mark, set.capacity()), (1, 'a', 2));
+            assert_items(rt, set, &[(1, 'z'), (2, 'b')]);
+            true
+        }
+        Ok(_) => panic!(*rt; "other replies"),
+        Err(AllocError) => {
+            assert_full(rt, set);
+            false
+        }
+    }
+}
+
+fn put_equal_elements(rt: &(impl Abort + Print), alloc: Global, set: &mut VecSet<Item>) -> bool {
+    let commands = one_of(rt, equal_elements(alloc), equal_elements(alloc));
+    let outcome = run_set(alloc, set, commands);
+    are_put(rt, &outcome, set)
+}
+
+// Executes the commands again if the replies were refused.
+fn check_equal_elements(rt: &(impl Abort + Print), alloc: Global, set: &mut VecSet<Item>) {
+    if !put_equal_elements(rt, alloc, set) {
+        tell(rt);
+        assert_is(rt, put_equal_elements(rt, alloc, set), true);
+    }
 }
 
 // Only the replies allocate. If that is refused, no command is executed.
 #[test]
-fn a_command_with_an_equal_element_is_never_refused(rt: HostRuntime) -> Result<(), Fail> {
-    let mut set = full_set(&rt, rt.alloc(), FULL)?;
-    assert!(rt; set.len() == set.capacity());
-    let mut is_refused = false;
-    for _ in 0..2 {
-        let mut commands = make!(rt; Vec::with_capacity(rt.alloc(), 2));
-        commands.push(SetCommand::Insert(make_item(2, 'y')))?;
-        commands.push(SetCommand::Replace(make_item(1, 'z')))?;
-        match run_set(rt.alloc(), &mut set, commands).as_deref() {
-            Ok([SetReply::Truth(false), SetReply::Item(Some(old))]) => {
-                assert!(rt; (old.number, old.mark, set.capacity()) == (1, 'a', 2));
-                assert!(rt; has_items(set.as_slice(), &[(1, 'z'), (2, 'b')]));
-                return Ok(());
-            }
-            Err(AllocError) => tell(&rt)?,
-            _ => return Err(Fail::new("another reply")),
-        }
-        assert!(rt; has_items(set.as_slice(), FULL) && set.capacity() == 2 && !is_refused);
-        is_refused = true;
-    }
-    Ok(())
+fn a_command_with_an_equal_element_is_never_refused(rt: HostRuntime) {
+    let mut set = full_set(&rt, rt.alloc(), FULL);
+    assert_is(&rt, set.len(), set.capacity());
+    check_equal_elements(&rt, rt.alloc(), &mut set);
 }
 
 const TEXTS: &[&str] = &["b", "a"];
+
+// A command on a set of texts, which clones what it returns.
+#[derive(Clone, Copy, Debug)]
+enum Reading {
+    Get,
+    GetIndex,
+    First,
+    Last,
+    ToVec,
+    Intersect,
+    Unite,
+    Exclusive,
+    Subtract,
+}
+
+impl Reading {
+    fn create(self, alloc: Global) -> Result<Vec<SetCommand<String>>, AllocError> {
+        let mut commands = Vec::with_capacity(alloc, 1)?;
+        commands.push(match self {
+            Reading::Get => SetCommand::Get(String::from_str(alloc, "a")?),
+            Reading::GetIndex => SetCommand::GetIndex(1),
+            Reading::First => SetCommand::First,
+            Reading::Last => SetCommand::Last,
+            Reading::ToVec => SetCommand::ToVec,
+            Reading::Intersect => {
+                SetCommand::Intersect(vecmap_fixtures::text_set(alloc, &["a"])?)
+            }
+            Reading::Unite => SetCommand::Unite(vecmap_fixtures::text_set(alloc, &["c"])?),
+            Reading::Exclusive => {
+                SetCommand::Exclusive(vecmap_fixtures::text_set(alloc, &["a"])?)
+            }
+            Reading::Subtract => SetCommand::Subtract(vecmap_fixtures::text_set(alloc, &["b"])?),
+        })?;
+        Ok(commands)
+    }
+}
 
 // Returns the texts of a reply, if it has any.
 fn texts_of(reply: &SetReply<String>) -> Option<&[String]> {
@@ -117,126 +267,87 @@ fn texts_of(reply: &SetReply<String>) -> Option<&[String]> {
     }
 }
 
-// Returns the reply to one command.
-fn reply_to(
+// Returns whether the command was executed, and not refused. Its reply must have these texts.
+fn is_read(
+    rt: &impl Abort,
+    call: Reading,
+    reply: Option<&SetReply<String>>,
+    wanted: &[&str],
+) -> bool {
+    match reply {
+        Some(reply) => {
+            let texts = texts_of(reply).unwrap_or(&[]);
+            assert!(*rt; has_texts(texts, wanted), "another reply to {call:?}");
+            true
+        }
+        None => false,
+    }
+}
+
+// Executes the command, and returns whether it was not refused. It leaves the set unchanged.
+fn read(
+    rt: &(impl Abort + Print),
     alloc: Global,
+    call: Reading,
     set: &mut VecSet<String>,
-    command: SetCommand<String>,
-) -> Result<SetReply<String>, AllocError> {
-    let mut commands = Vec::with_capacity(alloc, 1)?;
-    commands.push(command)?;
-    run_set(alloc, set, commands)?.pop().ok_or(AllocError)
+    wanted: &[&str],
+) -> bool {
+    let commands = one_of(rt, call.create(alloc), call.create(alloc));
+    let outcome = run_set(alloc, set, commands);
+    assert_texts(rt, set, TEXTS);
+    is_read(rt, call, reply_of(rt, &outcome), wanted)
 }
 
 // Checks a command that clones texts: it is executed, or it is refused, leaves the set unchanged, and is then executed.
-fn check<R: Abort + Print, F: Fn(Global) -> Result<SetCommand<String>, AllocError>>(
-    rt: &R,
-    alloc: Global,
-    command: F,
-    wanted: &[&str],
-) -> Result<(), Fail>
-    requires { F.IsAlwaysCallable command }
-{
-    let mut set = text_set(rt, alloc, TEXTS)?;
-    let mut is_refused = false;
-    for _ in 0..2 {
-        let reply = match command(alloc) {
-            Ok(command) => reply_to(alloc, &mut set, command).unwrap_or(SetReply::NoMemory),
-            Err(AllocError) => SetReply::NoMemory,
-        };
-        assert!(rt; has_texts(set.as_slice(), TEXTS));
-        if let Some(texts) = texts_of(&reply) {
-            assert!(rt; has_texts(texts, wanted));
-            return Ok(());
-        }
-        assert!(rt; !is_refused && matches!(reply, SetReply::NoMemory));
-        tell(rt)?;
-        is_refused = true;
+fn check_reading(rt: &(impl Abort + Print), alloc: Global, call: Reading, wanted: &[&str]) {
+    let mut set = text_set(rt, alloc, TEXTS);
+    if !read(rt, alloc, call, &mut set, wanted) {
+        tell(rt);
+        assert_is(rt, read(rt, alloc, call, &mut set, wanted), true);
     }
-    Ok(())
 }
 
 #[test]
-fn a_get_of_a_set_whose_clone_is_refused_replies_out_of_memory(
-    rt: HostRuntime,
-) -> Result<(), Fail> {
-    check(
-        &rt,
-        rt.alloc(),
-        |alloc| Ok(SetCommand::Get(String::from_str(alloc, "a")?)),
-        &["a"],
-    )
+fn a_get_of_a_set_whose_clone_is_refused_replies_out_of_memory(rt: HostRuntime) {
+    check_reading(&rt, rt.alloc(), Reading::Get, &["a"]);
 }
 
 #[test]
-fn an_index_of_a_set_whose_clone_is_refused_replies_out_of_memory(
-    rt: HostRuntime,
-) -> Result<(), Fail> {
-    check(
-        &rt,
-        rt.alloc(),
-        |_alloc| Ok(SetCommand::GetIndex(1)),
-        &["a"],
-    )
+fn an_index_of_a_set_whose_clone_is_refused_replies_out_of_memory(rt: HostRuntime) {
+    check_reading(&rt, rt.alloc(), Reading::GetIndex, &["a"]);
 }
 
 #[test]
-fn a_first_of_a_set_whose_clone_is_refused_replies_out_of_memory(
-    rt: HostRuntime,
-) -> Result<(), Fail> {
-    check(&rt, rt.alloc(), |_alloc| Ok(SetCommand::First), &["b"])
+fn a_first_of_a_set_whose_clone_is_refused_replies_out_of_memory(rt: HostRuntime) {
+    check_reading(&rt, rt.alloc(), Reading::First, &["b"]);
 }
 
 #[test]
-fn a_last_of_a_set_whose_clone_is_refused_replies_out_of_memory(
-    rt: HostRuntime,
-) -> Result<(), Fail> {
-    check(&rt, rt.alloc(), |_alloc| Ok(SetCommand::Last), &["a"])
+fn a_last_of_a_set_whose_clone_is_refused_replies_out_of_memory(rt: HostRuntime) {
+    check_reading(&rt, rt.alloc(), Reading::Last, &["a"]);
 }
 
 #[test]
-fn a_list_of_a_set_whose_clones_are_refused_replies_out_of_memory(
-    rt: HostRuntime,
-) -> Result<(), Fail> {
-    check(&rt, rt.alloc(), |_alloc| Ok(SetCommand::ToVec), &["b", "a"])
+fn a_list_of_a_set_whose_clones_are_refused_replies_out_of_memory(rt: HostRuntime) {
+    check_reading(&rt, rt.alloc(), Reading::ToVec, &["b", "a"]);
 }
 
 #[test]
-fn a_refused_intersection_replies_out_of_memory(rt: HostRuntime) -> Result<(), Fail> {
-    check(
-        &rt,
-        rt.alloc(),
-        |alloc| Ok(SetCommand::Intersect(vecmap_fixtures::text_set(alloc, &["a"])?)),
-        &["a"],
-    )
+fn a_refused_intersection_replies_out_of_memory(rt: HostRuntime) {
+    check_reading(&rt, rt.alloc(), Reading::Intersect, &["a"]);
 }
 
 #[test]
-fn a_refused_union_replies_out_of_memory(rt: HostRuntime) -> Result<(), Fail> {
-    check(
-        &rt,
-        rt.alloc(),
-        |alloc| Ok(SetCommand::Unite(vecmap_fixtures::text_set(alloc, &["c"])?)),
-        &["b", "a", "c"],
-    )
+fn a_refused_union_replies_out_of_memory(rt: HostRuntime) {
+    check_reading(&rt, rt.alloc(), Reading::Unite, &["b", "a", "c"]);
 }
 
 #[test]
-fn a_refused_symmetric_difference_replies_out_of_memory(rt: HostRuntime) -> Result<(), Fail> {
-    check(
-        &rt,
-        rt.alloc(),
-        |alloc| Ok(SetCommand::Exclusive(vecmap_fixtures::text_set(alloc, &["a"])?)),
-        &["b"],
-    )
+fn a_refused_symmetric_difference_replies_out_of_memory(rt: HostRuntime) {
+    check_reading(&rt, rt.alloc(), Reading::Exclusive, &["b"]);
 }
 
 #[test]
-fn a_refused_difference_replies_out_of_memory(rt: HostRuntime) -> Result<(), Fail> {
-    check(
-        &rt,
-        rt.alloc(),
-        |alloc| Ok(SetCommand::Subtract(vecmap_fixtures::text_set(alloc, &["b"])?)),
-        &["a"],
-    )
+fn a_refused_difference_replies_out_of_memory(rt: HostRuntime) {
+    check_reading(&rt, rt.alloc(), Reading::Subtract, &["a"]);
 }

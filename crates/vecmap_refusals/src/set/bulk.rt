@@ -1,8 +1,10 @@
 //! Many elements at once, inserted into a set that is full.
+use crate::checks::{assert_is, assert_items, granted};
 use crate::telling::{full_set, make, tell};
-use std::test::Fail;
+use std::alloc::{AllocError, Global};
+use std::process::Abort;
 use vecmap::VecSet;
-use vecmap_fixtures::{Hinted, Item, has_items, make_item};
+use vecmap_fixtures::{Hinted, Item, make_item};
 
 const FULL: &[(u32, char)] = &[(1, 'a'), (2, 'b')];
 
@@ -42,57 +44,70 @@ fn has_all_that_fit(set: &VecSet<Item>) -> bool {
         && set.capacity() == set.len()
 }
 
+// Appends another set of these elements. If that is refused, both sets are unchanged, and it is repeated.
+fn append(
+    rt: &(impl Abort + Print),
+    set: &mut VecSet<Item>,
+    other: &mut VecSet<Item>,
+    added: &[(u32, char)],
+) {
+    if set.append(other).is_err() {
+        tell(rt);
+        assert_items(rt, set, FULL);
+        assert_items(rt, other, added);
+        assert_is(rt, (set.capacity(), other.capacity()), (2, 3));
+        granted(rt, set.append(other));
+    }
+}
+
 #[test]
-fn append_to_a_set_moves_all_or_nothing(rt: HostRuntime) -> Result<(), Fail> {
+fn append_to_a_set_moves_all_or_nothing(rt: HostRuntime) {
     let added = [(1, 'z'), (7, 'p'), (8, 'q')];
-    let mut set = full_set(&rt, rt.alloc(), FULL)?;
-    let mut other = full_set(&rt, rt.alloc(), &added)?;
-    if set.append(&mut other).is_err() {
-        tell(&rt)?;
-        assert!(rt; has_items(set.as_slice(), FULL) && set.capacity() == 2);
-        assert!(rt; has_items(other.as_slice(), &added) && other.capacity() == 3);
-        set.append(&mut other)?;
-    }
-    let all = [(1, 'a'), (2, 'b'), (7, 'p'), (8, 'q')];
-    assert!(rt; has_items(set.as_slice(), &all));
-    assert!(rt; (other.len(), other.capacity()) == (0, 3));
-    Ok(())
+    let mut set = full_set(&rt, rt.alloc(), FULL);
+    let mut other = full_set(&rt, rt.alloc(), &added);
+    append(&rt, &mut set, &mut other, &added);
+    assert_items(&rt, &set, &[(1, 'a'), (2, 'b'), (7, 'p'), (8, 'q')]);
+    assert_is(&rt, (other.len(), other.capacity()), (0, 3));
 }
 
-#[test]
-fn extend_adds_the_elements_before_the_refused_one(rt: HostRuntime) -> Result<(), Fail> {
+// Extends a set by `extend`, with an iterator of this lower size hint, or by `extend_copied`.
+fn extend(set: &mut VecSet<Item>, items: &[Item], hint: Option<usize>) -> Result<(), AllocError> {
+    match hint {
+        Some(hint) => set.extend(Hinted { items, hint }.copied()),
+        None => set.extend_copied(items),
+    }
+}
+
+// Like `extend`, with `more`. If it is refused, the elements before the refused one are added, and it is repeated.
+fn extend_or_retry(rt: &(impl Abort + Print), set: &mut VecSet<Item>, hint: Option<usize>) {
     let items = more();
-    for hint in [0, 9] {
-        let hinted = || Hinted {
-            items: &items,
-            hint,
-        };
-        let mut set = full_set(&rt, rt.alloc(), FULL)?;
-        if set.extend(hinted().copied()).is_err() {
-            tell(&rt)?;
-            assert!(rt; has_all_that_fit(&set), "hint {hint}");
-            set.extend(hinted().copied())?;
-        }
-        assert!(rt; has_items(set.as_slice(), EXTENDED), "hint {hint}");
+    if extend(set, &items, hint).is_err() {
+        tell(rt);
+        assert!(*rt; has_all_that_fit(set), "hint {hint:?}");
+        granted(rt, extend(set, &items, hint));
     }
-    Ok(())
+}
+
+// Checks what a call adds to a full set, also if it is refused once.
+fn check_extension(rt: &(impl Abort + Print), alloc: Global, hint: Option<usize>) {
+    let mut set = full_set(rt, alloc, FULL);
+    extend_or_retry(rt, &mut set, hint);
+    assert_items(rt, &set, EXTENDED);
 }
 
 #[test]
-fn extend_copied_adds_the_elements_before_the_refused_one(rt: HostRuntime) -> Result<(), Fail> {
-    let items = more();
-    let mut set = full_set(&rt, rt.alloc(), FULL)?;
-    if set.extend_copied(&items).is_err() {
-        tell(&rt)?;
-        assert!(rt; has_all_that_fit(&set));
-        set.extend_copied(&items)?;
-    }
-    assert!(rt; has_items(set.as_slice(), EXTENDED));
-    Ok(())
+fn extend_adds_the_elements_before_the_refused_one(rt: HostRuntime) {
+    check_extension(&rt, rt.alloc(), Some(0));
+    check_extension(&rt, rt.alloc(), Some(9));
 }
 
 #[test]
-fn a_set_of_many_elements_has_all_of_them_or_is_refused(rt: HostRuntime) -> Result<(), Fail> {
+fn extend_copied_adds_the_elements_before_the_refused_one(rt: HostRuntime) {
+    check_extension(&rt, rt.alloc(), None);
+}
+
+#[test]
+fn a_set_of_many_elements_has_all_of_them_or_is_refused(rt: HostRuntime) {
     let items = more();
     let all = [
         (1, 'z'),
@@ -104,10 +119,9 @@ fn a_set_of_many_elements_has_all_of_them_or_is_refused(rt: HostRuntime) -> Resu
         (11, 'u'),
     ];
     let set = make!(rt; VecSet::from_iter(rt.alloc(), items));
-    assert!(rt; has_items(set.as_slice(), &all));
+    assert_items(&rt, &set, &all);
     let set = make!(rt; VecSet::from_slice(rt.alloc(), &items));
-    assert!(rt; has_items(set.as_slice(), &all));
+    assert_items(&rt, &set, &all);
     let set: VecSet<Item> = make!(rt; items.iter().copied().collect(rt.alloc()));
-    assert!(rt; has_items(set.as_slice(), &all));
-    Ok(())
+    assert_items(&rt, &set, &all);
 }

@@ -1,89 +1,87 @@
 //! Operators on sets whose elements allocate, and on sets whose equal elements are not identical.
+use crate::checks::{assert_items, assert_texts, granted};
 use crate::telling::{full_set, make, tell, text_set};
-use std::alloc::AllocError;
-use std::test::Fail;
+use std::alloc::{AllocError, Global};
+use std::process::Abort;
 use vecmap::VecSet;
-use vecmap_fixtures::{Item, has_items, has_texts};
+use vecmap_fixtures::Item;
 
 const LEFT: &[&str] = &["c", "b", "a"];
 
 const RIGHT: &[&str] = &["b", "d"];
 
-// Returns whether both operands are unchanged.
-fn are_left(a: &VecSet<String>, b: &VecSet<String>) -> bool {
-    has_texts(a.as_slice(), LEFT) && has_texts(b.as_slice(), RIGHT)
-}
-
-#[test]
-fn and_leaves_both(rt: HostRuntime) -> Result<(), Fail> {
-    let a = text_set(&rt, rt.alloc(), LEFT)?;
-    let b = text_set(&rt, rt.alloc(), RIGHT)?;
-    let made = match &a & &b {
-        Ok(made) => made,
-        Err(AllocError) => {
-            tell(&rt)?;
-            assert!(rt; are_left(&a, &b));
-            (&a & &b)?
-        }
-    };
-    assert!(rt; has_texts(made.as_slice(), &["b"]) && are_left(&a, &b));
-    Ok(())
-}
-
-#[test]
-fn or_leaves_both(rt: HostRuntime) -> Result<(), Fail> {
-    let a = text_set(&rt, rt.alloc(), LEFT)?;
-    let b = text_set(&rt, rt.alloc(), RIGHT)?;
-    let made = match &a | &b {
-        Ok(made) => made,
-        Err(AllocError) => {
-            tell(&rt)?;
-            assert!(rt; are_left(&a, &b));
-            (&a | &b)?
-        }
-    };
-    assert!(rt; has_texts(made.as_slice(), &["c", "b", "a", "d"]) && are_left(&a, &b));
-    Ok(())
-}
-
-#[test]
-fn xor_leaves_both(rt: HostRuntime) -> Result<(), Fail> {
-    let a = text_set(&rt, rt.alloc(), LEFT)?;
-    let b = text_set(&rt, rt.alloc(), RIGHT)?;
-    let made = match &a ^ &b {
-        Ok(made) => made,
-        Err(AllocError) => {
-            tell(&rt)?;
-            assert!(rt; are_left(&a, &b));
-            (&a ^ &b)?
-        }
-    };
-    assert!(rt; has_texts(made.as_slice(), &["c", "a", "d"]) && are_left(&a, &b));
-    Ok(())
-}
-
-#[test]
-fn minus_leaves_both(rt: HostRuntime) -> Result<(), Fail> {
-    let a = text_set(&rt, rt.alloc(), LEFT)?;
-    let b = text_set(&rt, rt.alloc(), RIGHT)?;
-    let made = match &a - &b {
-        Ok(made) => made,
-        Err(AllocError) => {
-            tell(&rt)?;
-            assert!(rt; are_left(&a, &b));
-            (&a - &b)?
-        }
-    };
-    assert!(rt; has_texts(made.as_slice(), &["c", "a"]) && are_left(&a, &b));
-    Ok(())
-}
-
-#[derive(Clone, Copy, Debug)]
+#[derive(Clone, Copy)]
 enum Operator {
     And,
     Or,
     Xor,
     Minus,
+}
+
+// Asserts that both operands are unchanged.
+fn assert_left(rt: &impl Abort, a: &VecSet<String>, b: &VecSet<String>) {
+    assert_texts(rt, a, LEFT);
+    assert_texts(rt, b, RIGHT);
+}
+
+// Applies an operator to two sets of texts.
+fn operate_on_texts(
+    operator: Operator,
+    a: &VecSet<String>,
+    b: &VecSet<String>,
+) -> Result<VecSet<String>, AllocError> {
+    match operator {
+        Operator::And => a & b,
+        Operator::Or => a | b,
+        Operator::Xor => a ^ b,
+        Operator::Minus => a - b,
+    }
+}
+
+// Like `operate_on_texts`. If it is refused, both sets are unchanged, and it is repeated.
+fn operate_or_retry(
+    rt: &(impl Abort + Print),
+    operator: Operator,
+    a: &VecSet<String>,
+    b: &VecSet<String>,
+) -> VecSet<String> {
+    match operate_on_texts(operator, a, b) {
+        Ok(made) => made,
+        Err(AllocError) => {
+            tell(rt);
+            assert_left(rt, a, b);
+            granted(rt, operate_on_texts(operator, a, b))
+        }
+    }
+}
+
+// Checks what an operator makes of both sets, and that it leaves them.
+fn check(rt: &(impl Abort + Print), alloc: Global, operator: Operator, expected: &[&str]) {
+    let a = text_set(rt, alloc, LEFT);
+    let b = text_set(rt, alloc, RIGHT);
+    let made = operate_or_retry(rt, operator, &a, &b);
+    assert_texts(rt, &made, expected);
+    assert_left(rt, &a, &b);
+}
+
+#[test]
+fn and_leaves_both(rt: HostRuntime) {
+    check(&rt, rt.alloc(), Operator::And, &["b"]);
+}
+
+#[test]
+fn or_leaves_both(rt: HostRuntime) {
+    check(&rt, rt.alloc(), Operator::Or, &["c", "b", "a", "d"]);
+}
+
+#[test]
+fn xor_leaves_both(rt: HostRuntime) {
+    check(&rt, rt.alloc(), Operator::Xor, &["c", "a", "d"]);
+}
+
+#[test]
+fn minus_leaves_both(rt: HostRuntime) {
+    check(&rt, rt.alloc(), Operator::Minus, &["c", "a"]);
 }
 
 // Applies an operator to two sets with equal elements that are not identical.
@@ -101,10 +99,10 @@ fn operate(
 }
 
 #[test]
-fn of_two_equal_elements_the_left_one_is_made(rt: HostRuntime) -> Result<(), Fail> {
+fn of_two_equal_elements_the_left_one_is_made(rt: HostRuntime) {
     let (left, right) = ([(3, 'c'), (2, 'b'), (1, 'a')], [(2, 'z'), (4, 'd')]);
-    let a = full_set(&rt, rt.alloc(), &left)?;
-    let b = full_set(&rt, rt.alloc(), &right)?;
+    let a = full_set(&rt, rt.alloc(), &left);
+    let b = full_set(&rt, rt.alloc(), &right);
     for (operator, wanted) in [
         (Operator::And, [(2, 'b')].as_slice()),
         (
@@ -115,9 +113,8 @@ fn of_two_equal_elements_the_left_one_is_made(rt: HostRuntime) -> Result<(), Fai
         (Operator::Minus, [(3, 'c'), (1, 'a')].as_slice()),
     ] {
         let made = make!(rt; operate(operator, &a, &b));
-        assert!(rt; has_items(made.as_slice(), wanted), "{operator:?}");
-        assert!(rt; has_items(a.as_slice(), &left), "{operator:?}");
-        assert!(rt; has_items(b.as_slice(), &right), "{operator:?}");
+        assert_items(&rt, &made, wanted);
+        assert_items(&rt, &a, &left);
+        assert_items(&rt, &b, &right);
     }
-    Ok(())
 }

@@ -1,9 +1,12 @@
 //! Stable sorts of a set. A refused sort leaves the set unchanged.
+use crate::checks::{
+    assert_gives, assert_granted, assert_is, assert_items, assert_list, check, granted,
+};
 use crate::telling::{make, tell};
 use std::alloc::{AllocError, Global};
-use std::test::Fail;
+use std::process::Abort;
 use vecmap::VecSet;
-use vecmap_fixtures::{has_items, item_set, make_item};
+use vecmap_fixtures::{Item, item_set, make_item};
 
 // More elements than a stable sort sorts without allocating.
 const COUNT: u32 = 100;
@@ -32,57 +35,62 @@ fn holds(set: &VecSet<u32>, turned: bool) -> bool {
     set.len() == 100
 }
 
-#[test]
-fn sort_by_sorts_a_set_or_leaves_it(rt: HostRuntime) -> Result<(), Fail> {
-    let mut set = make!(rt; numbers(rt.alloc(), COUNT));
-    let room = set.capacity();
-    if set.sort_by(|a, b| b.cmp(a)).is_err() {
-        tell(&rt)?;
-        assert!(rt; holds(&set, false) && set.capacity() == room);
-        set.sort_by(|a, b| b.cmp(a))?;
+#[derive(Clone, Copy)]
+enum Sorting {
+    Descending,
+    Ascending,
+    CachedKey,
+}
+
+// Sorts the set by a call.
+fn sort(call: Sorting, set: &mut VecSet<u32>) -> Result<(), AllocError> {
+    match call {
+        Sorting::Descending => set.sort_by(|a, b| b.cmp(a)),
+        Sorting::Ascending => set.sort(),
+        Sorting::CachedKey => set.sort_by_cached_key(|item| *item),
     }
-    assert!(rt; holds(&set, true) && set.capacity() == room);
-    Ok(())
+}
+
+// Checks a sort that reverses the set. If it is refused, the set is unchanged, and is sorted once more.
+fn check_sort(rt: &(impl Abort + Print), call: Sorting, set: &mut VecSet<u32>, turned: bool) {
+    let room = set.capacity();
+    if sort(call, set).is_err() {
+        tell(rt);
+        assert_is(rt, (holds(set, turned), set.capacity()), (true, room));
+        granted(rt, sort(call, set));
+    }
+    assert_is(rt, (holds(set, !turned), set.capacity()), (true, room));
 }
 
 #[test]
-fn sort_sorts_a_set_or_leaves_it(rt: HostRuntime) -> Result<(), Fail> {
+fn sort_by_sorts_a_set_or_leaves_it(rt: HostRuntime) {
     let mut set = make!(rt; numbers(rt.alloc(), COUNT));
-    let room = set.capacity();
+    check_sort(&rt, Sorting::Descending, &mut set, false);
+}
+
+#[test]
+fn sort_sorts_a_set_or_leaves_it(rt: HostRuntime) {
+    let mut set = make!(rt; numbers(rt.alloc(), COUNT));
     set.reverse();
-    if set.sort().is_err() {
-        tell(&rt)?;
-        assert!(rt; holds(&set, true) && set.capacity() == room);
-        set.sort()?;
-    }
-    assert!(rt; holds(&set, false) && set.capacity() == room);
-    Ok(())
+    check_sort(&rt, Sorting::Ascending, &mut set, true);
 }
 
 #[test]
-fn sort_by_cached_key_sorts_a_set_or_leaves_it(rt: HostRuntime) -> Result<(), Fail> {
+fn sort_by_cached_key_sorts_a_set_or_leaves_it(rt: HostRuntime) {
     let mut set = make!(rt; numbers(rt.alloc(), COUNT));
-    let room = set.capacity();
     set.reverse();
-    if set.sort_by_cached_key(|item| *item).is_err() {
-        tell(&rt)?;
-        assert!(rt; holds(&set, true) && set.capacity() == room);
-        set.sort_by_cached_key(|item| *item)?;
-    }
-    assert!(rt; holds(&set, false) && set.capacity() == room);
-    Ok(())
+    check_sort(&rt, Sorting::CachedKey, &mut set, true);
 }
 
 #[test]
-fn sorts_of_a_short_set_are_never_refused(rt: HostRuntime) -> Result<(), Fail> {
+fn sorts_of_a_short_set_are_never_refused(rt: HostRuntime) {
     let mut set = make!(rt; numbers(rt.alloc(), 20));
-    assert!(rt; set.sort().is_ok());
-    assert!(rt; set.sort_by(|a, b| b.cmp(a)).is_ok());
-    assert!(rt; set.first() == Some(&19));
+    assert_granted(&rt, set.sort());
+    assert_granted(&rt, set.sort_by(|a, b| b.cmp(a)));
+    check!(rt; set.first() == Some(&19));
     set.truncate(1);
-    assert!(rt; set.sort_by_cached_key(|item| *item).is_ok());
-    assert!(rt; set.as_slice() == [19].as_slice());
-    Ok(())
+    assert_granted(&rt, set.sort_by_cached_key(|item| *item));
+    assert_list(&rt, set.as_slice(), &[19]);
 }
 
 // Returns as many elements: the even numbers with the mark 'a', and then the odd ones with the mark 'b'.
@@ -107,20 +115,26 @@ fn sorted(alloc: Global) -> Result<Vec<(u32, char)>, AllocError> {
     Ok(items)
 }
 
+// Sorts the set by the numbers of its elements. If that is refused, the set is unchanged, and is sorted once more.
+fn sort_items(rt: &(impl Abort + Print), set: &mut VecSet<Item>, unchanged: &[(u32, char)]) {
+    let room = set.capacity();
+    if set.sort_by(|a, b| a.number.cmp(&b.number)).is_err() {
+        tell(rt);
+        assert_items(rt, set, unchanged);
+        assert_is(rt, set.capacity(), room);
+        granted(rt, set.sort_by(|a, b| a.number.cmp(&b.number)));
+    }
+    assert_is(rt, set.capacity(), room);
+}
+
 #[test]
-fn sort_by_moves_the_stored_ones_of_equal_elements(rt: HostRuntime) -> Result<(), Fail> {
+fn sort_by_moves_the_stored_ones_of_equal_elements(rt: HostRuntime) {
     let mixed = make!(rt; mixed(rt.alloc()));
     let sorted = make!(rt; sorted(rt.alloc()));
     let mut set = make!(rt; item_set(rt.alloc(), &mixed));
-    assert!(rt; matches!(set.insert(make_item(0, 'z')), Ok(false)));
-    let room = set.capacity();
-    if set.sort_by(|a, b| a.number.cmp(&b.number)).is_err() {
-        tell(&rt)?;
-        assert!(rt; has_items(set.as_slice(), &mixed) && set.capacity() == room);
-        set.sort_by(|a, b| a.number.cmp(&b.number))?;
-    }
-    assert!(rt; has_items(set.as_slice(), &sorted) && set.capacity() == room);
-    assert!(rt; matches!(set.insert(make_item(99, 'z')), Ok(false)));
-    assert!(rt; has_items(set.as_slice(), &sorted));
-    Ok(())
+    assert_gives(&rt, set.insert(make_item(0, 'z')), false);
+    sort_items(&rt, &mut set, &mixed);
+    assert_items(&rt, &set, &sorted);
+    assert_gives(&rt, set.insert(make_item(99, 'z')), false);
+    assert_items(&rt, &set, &sorted);
 }

@@ -1,47 +1,55 @@
 //! A set that is split in two.
+use crate::checks::{assert_gives, assert_granted, assert_is, assert_items, granted};
 use crate::telling::{full_set, tell};
 use std::alloc::AllocError;
-use std::test::Fail;
-use vecmap_fixtures::{has_items, make_item};
+use std::process::Abort;
+use vecmap::VecSet;
+use vecmap_fixtures::{Item, make_item};
 
 const FULL: &[(u32, char)] = &[(1, 'a'), (2, 'b'), (3, 'c')];
 
-#[test]
-fn split_off_of_a_set_moves_all_or_nothing(rt: HostRuntime) -> Result<(), Fail> {
-    let mut set = full_set(&rt, rt.alloc(), FULL)?;
-    assert!(rt; 1 <= set.len());
-    let part = match set.split_off(1) {
-        Ok(part) => part,
-        Err(AllocError) => {
-            tell(&rt)?;
-            assert!(rt; has_items(set.as_slice(), FULL) && set.capacity() == 3);
-            set.split_off(1)?
+// Splits a set after its first element. If that is refused, the set is unchanged, and is split once more. The capacity
+// stays in each case.
+fn split_off(rt: &(impl Abort + Print), set: &mut VecSet<Item>) -> VecSet<Item> {
+    assert_is(rt, set.capacity(), 3);
+    assert!(*rt; 1 <= set.len());
+    match set.split_off(1) {
+        Ok(part) => {
+            assert_is(rt, set.capacity(), 3);
+            part
         }
-    };
-    assert!(rt; has_items(set.as_slice(), &[(1, 'a')]) && set.capacity() == 3);
-    assert!(rt; has_items(part.as_slice(), &[(2, 'b'), (3, 'c')]));
-    let end = set.len();
-    assert!(rt; set.split_off(end).is_ok());
-    assert!(rt; (set.len(), set.capacity()) == (end, 3));
-    Ok(())
+        Err(AllocError) => {
+            tell(rt);
+            assert_items(rt, set, FULL);
+            assert_is(rt, set.capacity(), 3);
+            assert!(*rt; 1 <= set.len());
+            let part = granted(rt, set.split_off(1));
+            assert_is(rt, set.capacity(), 3);
+            part
+        }
+    }
 }
 
 #[test]
-fn split_off_moves_the_stored_ones_of_equal_elements(rt: HostRuntime) -> Result<(), Fail> {
-    let mut set = full_set(&rt, rt.alloc(), FULL)?;
-    assert!(rt; matches!(set.insert(make_item(2, 'z')), Ok(false)) && 1 <= set.len());
-    let mut part = match set.split_off(1) {
-        Ok(part) => part,
-        Err(AllocError) => {
-            tell(&rt)?;
-            assert!(rt; has_items(set.as_slice(), FULL) && set.capacity() == 3);
-            set.split_off(1)?
-        }
-    };
+fn split_off_of_a_set_moves_all_or_nothing(rt: HostRuntime) {
+    let mut set = full_set(&rt, rt.alloc(), FULL);
+    let part = split_off(&rt, &mut set);
+    assert_items(&rt, &set, &[(1, 'a')]);
+    assert_items(&rt, &part, &[(2, 'b'), (3, 'c')]);
+    let end = set.len();
+    assert_granted(&rt, set.split_off(end));
+    assert_is(&rt, (set.len(), set.capacity()), (end, 3));
+}
+
+#[test]
+fn split_off_moves_the_stored_ones_of_equal_elements(rt: HostRuntime) {
+    let mut set = full_set(&rt, rt.alloc(), FULL);
+    assert_gives(&rt, set.insert(make_item(2, 'z')), false);
+    let mut part = split_off(&rt, &mut set);
     // Only the second part has an equal element.
-    assert!(rt; matches!(part.insert(make_item(2, 'y')), Ok(false)));
-    assert!(rt; has_items(part.as_slice(), &[(2, 'b'), (3, 'c')]));
-    assert!(rt; matches!(set.insert(make_item(2, 'x')), Ok(true)));
-    assert!(rt; has_items(set.as_slice(), &[(1, 'a'), (2, 'x')]) && set.capacity() == 3);
-    Ok(())
+    assert_gives(&rt, part.insert(make_item(2, 'y')), false);
+    assert_items(&rt, &part, &[(2, 'b'), (3, 'c')]);
+    assert_gives(&rt, set.insert(make_item(2, 'x')), true);
+    assert_items(&rt, &set, &[(1, 'a'), (2, 'x')]);
+    assert_is(&rt, set.capacity(), 3);
 }

@@ -1,19 +1,21 @@
 //! Capacity of a set.
+use crate::checks::{assert_gives, assert_is, assert_items, check, granted};
 use crate::telling::{full_set, make, tell};
-use std::test::Fail;
+use std::alloc::Global;
+use std::process::Abort;
 use vecmap::VecSet;
-use vecmap_fixtures::{has_items, make_item};
+use vecmap_fixtures::{Item, make_item};
 
 const FULL: &[(u32, char)] = &[(1, 'a'), (2, 'b')];
 
 #[test]
-fn with_capacity_makes_a_set_of_that_capacity_or_none(rt: HostRuntime) -> Result<(), Fail> {
+fn with_capacity_makes_a_set_of_that_capacity_or_none(rt: HostRuntime) {
     let set: VecSet<u32> = make!(rt; VecSet::with_capacity(rt.alloc(), 3));
-    assert!(rt; set.is_empty() && 3 <= set.capacity());
-    Ok(())
+    check!(rt; set.is_empty());
+    check!(rt; 3 <= set.capacity());
 }
 
-#[derive(Clone, Copy, Debug)]
+#[derive(Clone, Copy, Debug, PartialEq, Eq)]
 enum Reserving {
     Reserve,
     ReserveExact,
@@ -21,71 +23,98 @@ enum Reserving {
     TryReserveExact,
 }
 
-#[test]
-fn the_reserving_calls_leave_a_set_as_before(rt: HostRuntime) -> Result<(), Fail> {
-    for call in [
-        Reserving::Reserve,
-        Reserving::ReserveExact,
-        Reserving::TryReserve,
-        Reserving::TryReserveExact,
-    ] {
-        let mut set = full_set(&rt, rt.alloc(), FULL)?;
-        for is_again in [false, true] {
-            let granted = match call {
-                Reserving::Reserve => set.reserve(2).is_ok(),
-                Reserving::ReserveExact => set.reserve_exact(2).is_ok(),
-                Reserving::TryReserve => set.try_reserve(2).is_ok(),
-                Reserving::TryReserveExact => set.try_reserve_exact(2).is_ok(),
-            };
-            assert!(rt; has_items(set.as_slice(), FULL), "{call:?}");
-            if granted {
-                assert!(rt; 4 <= set.capacity(), "{call:?}");
-            } else {
-                tell(&rt)?;
-                assert!(rt; !is_again && set.capacity() == 2, "{call:?}");
-            }
-        }
+// Reserves capacity by a call, and returns whether it was granted.
+fn reserve(call: Reserving, set: &mut VecSet<Item>) -> bool {
+    match call {
+        Reserving::Reserve => set.reserve(2).is_ok(),
+        Reserving::ReserveExact => set.reserve_exact(2).is_ok(),
+        Reserving::TryReserve => set.try_reserve(2).is_ok(),
+        Reserving::TryReserveExact => set.try_reserve_exact(2).is_ok(),
     }
-    Ok(())
+}
+
+// Checks that a call leaves the elements and, if it is refused, the capacity. It is then repeated.
+fn check_reserving(rt: &(impl Abort + Print), alloc: Global, call: Reserving) {
+    let mut set = full_set(rt, alloc, FULL);
+    if !reserve(call, &mut set) {
+        tell(rt);
+        assert_items(rt, &set, FULL);
+        assert_is(rt, (call, set.capacity()), (call, 2));
+        assert_is(rt, (call, reserve(call, &mut set)), (call, true));
+    }
+    assert_items(rt, &set, FULL);
+    assert_is(rt, (call, 4 <= set.capacity()), (call, true));
+    // It is not refused with this spare capacity.
+    let room = set.capacity();
+    assert_is(rt, (call, reserve(call, &mut set)), (call, true));
+    assert_items(rt, &set, FULL);
+    assert_is(rt, (call, set.capacity()), (call, room));
 }
 
 #[test]
-fn shrinking_without_memory_keeps_a_set(rt: HostRuntime) -> Result<(), Fail> {
-    let mut set = full_set(&rt, rt.alloc(), FULL)?;
-    if set.reserve_exact(8).is_err() {
-        tell(&rt)?;
-        set.reserve_exact(8)?;
+fn the_reserving_calls_leave_a_set_as_before(rt: HostRuntime) {
+    check_reserving(&rt, rt.alloc(), Reserving::Reserve);
+    check_reserving(&rt, rt.alloc(), Reserving::ReserveExact);
+    check_reserving(&rt, rt.alloc(), Reserving::TryReserve);
+    check_reserving(&rt, rt.alloc(), Reserving::TryReserveExact);
+}
+
+// Reserves exactly this capacity beyond the elements. If that is refused, it tries once more.
+fn reserve_exact(rt: &(impl Abort + Print), set: &mut VecSet<Item>, count: usize) {
+    if set.reserve_exact(count).is_err() {
+        tell(rt);
+        granted(rt, set.reserve_exact(count));
     }
-    set.shrink_to(5);
-    if set.capacity() != 5 {
-        tell(&rt)?;
-        assert!(rt; has_items(set.as_slice(), FULL) && set.capacity() == 10);
-        set.shrink_to(5);
+}
+
+// Shrinks a set of these elements to this capacity, or to its length if there is none. If that is refused, the set is
+// unchanged, and is shrunk once more.
+fn shrink(rt: &(impl Abort + Print), set: &mut VecSet<Item>, room: Option<usize>) {
+    let (before, after) = (set.capacity(), room.unwrap_or(FULL.len()));
+    shrink_once(set, room);
+    if set.capacity() != after {
+        tell(rt);
+        assert_items(rt, set, FULL);
+        assert_is(rt, set.capacity(), before);
+        shrink_once(set, room);
     }
-    assert!(rt; has_items(set.as_slice(), FULL) && set.capacity() == 5);
-    set.shrink_to_fit();
-    if set.capacity() != 2 {
-        tell(&rt)?;
-        assert!(rt; has_items(set.as_slice(), FULL) && set.capacity() == 5);
-        set.shrink_to_fit();
+    assert_items(rt, set, FULL);
+    assert_is(rt, set.capacity(), after);
+}
+
+fn shrink_once(set: &mut VecSet<Item>, room: Option<usize>) {
+    match room {
+        Some(room) => set.shrink_to(room),
+        None => set.shrink_to_fit(),
     }
-    assert!(rt; has_items(set.as_slice(), FULL) && set.capacity() == 2);
-    Ok(())
 }
 
 #[test]
-fn reserved_capacity_of_a_set_takes_insertions_without_memory(rt: HostRuntime) -> Result<(), Fail> {
+fn shrinking_without_memory_keeps_a_set(rt: HostRuntime) {
+    let mut set = full_set(&rt, rt.alloc(), FULL);
+    reserve_exact(&rt, &mut set, 8);
+    check!(rt; set.capacity() == 10);
+    shrink(&rt, &mut set, Some(5));
+    shrink(&rt, &mut set, None);
+}
+
+// Reserves this spare capacity in an empty set. If that is refused, the set has none, and it tries once more.
+fn reserve_spare(rt: &(impl Abort + Print), set: &mut VecSet<Item>, count: usize) {
+    if set.reserve(count).is_err() {
+        tell(rt);
+        assert_is(rt, (set.len(), set.capacity()), (0, 0));
+        granted(rt, set.reserve(count));
+    }
+}
+
+#[test]
+fn reserved_capacity_of_a_set_takes_insertions_without_memory(rt: HostRuntime) {
     let mut set = VecSet::new(rt.alloc());
-    if set.reserve(3).is_err() {
-        tell(&rt)?;
-        assert!(rt; (set.len(), set.capacity()) == (0, 0));
-        set.reserve(3)?;
-    }
+    reserve_spare(&rt, &mut set, 3);
     let room = set.capacity();
     for number in 0..3u32 {
-        assert!(rt; matches!(set.insert(make_item(number, 'a')), Ok(true)));
+        assert_gives(&rt, set.insert(make_item(number, 'a')), true);
     }
-    assert!(rt; has_items(set.as_slice(), &[(0, 'a'), (1, 'a'), (2, 'a')]));
-    assert!(rt; set.capacity() == room);
-    Ok(())
+    assert_items(&rt, &set, &[(0, 'a'), (1, 'a'), (2, 'a')]);
+    assert_is(&rt, set.capacity(), room);
 }

@@ -1,8 +1,10 @@
 //! The traits `Clone` and `Extend` of sets, if a request is refused.
+use crate::checks::{assert_is, assert_items, assert_texts, granted};
 use crate::telling::{full_set, make, tell, text_set};
 use std::alloc::AllocError;
-use std::test::Fail;
-use vecmap_fixtures::{has_items, has_texts, make_item};
+use std::process::Abort;
+use vecmap::VecSet;
+use vecmap_fixtures::{Item, make_item};
 
 const TEXTS: &[&str] = &["b", "a"];
 
@@ -11,26 +13,30 @@ fn copy_of<C: Clone>(original: &C) -> Result<C, AllocError> {
 }
 
 #[test]
-fn clone_of_a_set_by_the_trait_leaves_the_source(rt: HostRuntime) -> Result<(), Fail> {
-    let set = text_set(&rt, rt.alloc(), TEXTS)?;
+fn clone_of_a_set_by_the_trait_leaves_the_source(rt: HostRuntime) {
+    let set = text_set(&rt, rt.alloc(), TEXTS);
     let room = set.capacity();
     let copy = make!(rt; copy_of(&set));
-    assert!(rt; has_texts(copy.as_slice(), TEXTS));
-    assert!(rt; has_texts(set.as_slice(), TEXTS) && set.capacity() == room);
-    Ok(())
+    assert_texts(&rt, &copy, TEXTS);
+    assert_texts(&rt, &set, TEXTS);
+    assert_is(&rt, set.capacity(), room);
+}
+
+// Extends a set of one element by an equal element and a new one. If that is refused, the set is unchanged, and it is
+// repeated, by reference.
+fn extend(rt: &(impl Abort + Print), set: &mut VecSet<Item>) {
+    let more = [make_item(1, 'z'), make_item(2, 'b')];
+    if Extend::extend(set, more).is_err() {
+        tell(rt);
+        assert_items(rt, set, &[(1, 'a')]);
+        assert_is(rt, set.capacity(), 1);
+        granted(rt, Extend::extend(set, &more));
+    }
 }
 
 #[test]
-fn extend_by_the_trait_adds_the_elements_before_the_refused_one(
-    rt: HostRuntime,
-) -> Result<(), Fail> {
-    let mut set = full_set(&rt, rt.alloc(), &[(1, 'a')])?;
-    let more = [make_item(1, 'z'), make_item(2, 'b')];
-    if Extend::extend(&mut set, more).is_err() {
-        tell(&rt)?;
-        assert!(rt; has_items(set.as_slice(), &[(1, 'a')]) && set.capacity() == 1);
-        Extend::extend(&mut set, &more)?;
-    }
-    assert!(rt; has_items(set.as_slice(), &[(1, 'a'), (2, 'b')]));
-    Ok(())
+fn extend_by_the_trait_adds_the_elements_before_the_refused_one(rt: HostRuntime) {
+    let mut set = full_set(&rt, rt.alloc(), &[(1, 'a')]);
+    extend(&rt, &mut set);
+    assert_items(&rt, &set, &[(1, 'a'), (2, 'b')]);
 }
