@@ -1,16 +1,17 @@
 //! Calls on a map by each kind of query: a key, a text, a slice, and a query that is not a key.
 mod matching;
 
-use self::matching::{finds, matches_at};
+use self::matching::{assert_finds, assert_matches};
+use crate::checks::{assert_granted, assert_is, assert_pairs, check, granted, present};
 use std::alloc::{AllocError, Global};
 use std::borrow::CowStr;
 use std::boxed::{BoxedSlice, BoxedStr};
+use std::process::Abort;
 use std::rc::RcStr;
 use std::sync::ArcStr;
-use std::test::Fail;
 use vecmap::VecMap;
 use vecmap::map::MutableKeys;
-use vecmap_fixtures::{Item, Number, has_pairs, make_item, repeating_map};
+use vecmap_fixtures::{Item, Number, make_item, repeating_map};
 
 // Keys of which one is a prefix of another, and one is not ASCII.
 const TEXTS: &[(&'static str, u32)] = &[("age", 10), ("agent", 20), ("max", 30), ("é", 40)];
@@ -66,34 +67,96 @@ fn has_texts(pairs: &[(String, u32)], expected: &[(&str, u32)]) -> bool {
             .all(|(pair, wanted)| (pair.0.as_str(), pair.1) == *wanted)
 }
 
+// Asserts that a map has exactly these texts as keys and these values, in this order.
+fn assert_text_keys(rt: &impl Abort, map: &VecMap<String, u32>, expected: &[(&str, u32)]) {
+    assert!(*rt;
+        has_texts(map.as_slice(), expected),
+        "{map:?} is not {expected:?}"
+    );
+}
+
+// Writes the key at an index.
+fn write_key<K: Eq + Drop>(rt: &impl Abort, map: &mut VecMap<K, u32>, index: usize, new: K) {
+    match map.get_index_mut2(index) {
+        Some((key, _value)) => *key = new,
+        None => panic!(*rt; "nothing there"),
+    }
+}
+
+// Asserts that a call lent a pair of this index, this text and this value, and returns the value.
+fn present_full<'a>(
+    rt: &impl Abort,
+    full: Option<(usize, &'a String, &'a mut u32)>,
+    expected: (usize, &str, u32),
+) -> &'a mut u32 {
+    match full {
+        Some((index, key, value)) => {
+            assert_eq!(*rt; (index, key.as_str(), *value), expected);
+            value
+        }
+        None => panic!(*rt; "absent"),
+    }
+}
+
+// Asserts that a call returned a pair of this text and this value.
+fn assert_text_pair(rt: &impl Abort, pair: Option<(String, u32)>, expected: (&str, u32)) {
+    match pair {
+        Some((key, value)) => assert_eq!(*rt; (key.as_str(), value), expected),
+        None => panic!(*rt; "absent"),
+    }
+}
+
+// Asserts that a call returned a pair of this mark and this value.
+fn assert_mark_pair(rt: &impl Abort, pair: Option<(Item, u32)>, expected: (char, u32)) {
+    match pair {
+        Some((key, value)) => assert_eq!(*rt; (key.mark, value), expected),
+        None => panic!(*rt; "absent"),
+    }
+}
+
+// Asserts that a query lends a pair of this index, this mark and this value, and writes another key and value.
+fn write_full(
+    rt: &impl Abort,
+    map: &mut VecMap<Item, u32>,
+    query: Number,
+    expected: (usize, char, u32),
+    new: (Item, u32),
+) {
+    match map.get_full_mut2(query) {
+        Some((index, key, value)) => {
+            assert_eq!(*rt; (index, key.mark, *value), expected);
+            *key = new.0;
+            *value = new.1;
+        }
+        None => panic!(*rt; "absent"),
+    }
+}
+
 #[test]
-fn a_key_matches_the_first_equal_key(rt: HostRuntime) -> Result<(), Fail> {
-    let mut map = repeating_map(rt.alloc(), REPEATS)?;
-    assert!(rt; has_pairs(map.as_slice(), REPEATS));
+fn a_key_matches_the_first_equal_key(rt: HostRuntime) {
+    let mut map = granted(&rt, repeating_map(rt.alloc(), REPEATS));
+    assert_pairs(&rt, &map, REPEATS);
     for (number, place) in [(9, Some(0)), (1, Some(1)), (5, Some(2)), (0, None)] {
         let key = make_item(number, 'z');
-        assert!(rt; matches_at(&mut map, &key, place)?, "{number}");
+        assert_matches(&rt, &mut map, &key, place);
     }
-    Ok(())
 }
 
 #[test]
-fn a_query_that_is_not_a_key_matches_the_first_equivalent_key(rt: HostRuntime) -> Result<(), Fail> {
-    let mut map = repeating_map(rt.alloc(), REPEATS)?;
+fn a_query_that_is_not_a_key_matches_the_first_equivalent_key(rt: HostRuntime) {
+    let mut map = granted(&rt, repeating_map(rt.alloc(), REPEATS));
     for (number, place) in [(9, Some(0)), (1, Some(1)), (5, Some(2)), (0, None)] {
-        assert!(rt; matches_at(&mut map, Number(number), place)?, "{number}");
+        assert_matches(&rt, &mut map, Number(number), place);
     }
-    Ok(())
 }
 
 #[test]
-fn a_query_that_is_not_a_key_is_passed_by_value(rt: HostRuntime) -> Result<(), Fail> {
-    let mut map = repeating_map(rt.alloc(), REPEATS)?;
-    assert!(rt; (map.get_index_of(Number(1)), map.get(Number(1)).copied()) == (Some(1), Some(20)));
-    let (index, key, value) = map.get_full_mut2(Number(1)).ok_or("absent")?;
-    assert!(rt; (index, key.mark, *value) == (1, 'b', 20));
-    *key = make_item(2, 'y');
-    *value = 70;
+fn a_query_that_is_not_a_key_is_passed_by_value(rt: HostRuntime) {
+    let mut map = granted(&rt, repeating_map(rt.alloc(), REPEATS));
+    assert_is(&rt, map.get_index_of(Number(1)), Some(1));
+    assert_is(&rt, map.get(Number(1)).copied(), Some(20));
+    let new = (make_item(2, 'y'), 70);
+    write_full(&rt, &mut map, Number(1), (1, 'b', 20), new);
     let written = [
         (9, 'a', 10),
         (2, 'y', 70),
@@ -101,54 +164,50 @@ fn a_query_that_is_not_a_key_is_passed_by_value(rt: HostRuntime) -> Result<(), F
         (1, 'd', 40),
         (1, 'e', 50),
     ];
-    assert!(rt; has_pairs(map.as_slice(), &written));
-    let (key, value) = map.remove_entry(Number(1)).ok_or("absent")?;
-    assert!(rt; (key.mark, value) == ('d', 40));
-    assert!(rt; map.swap_remove(Number(9)) == Some(10));
+    assert_pairs(&rt, &map, &written);
+    assert_mark_pair(&rt, map.remove_entry(Number(1)), ('d', 40));
+    assert_is(&rt, map.swap_remove(Number(9)), Some(10));
     let left = [(1, 'e', 50), (2, 'y', 70), (5, 'c', 30)];
-    assert!(rt; has_pairs(map.as_slice(), &left));
-    Ok(())
+    assert_pairs(&rt, &map, &left);
 }
 
 #[test]
-fn a_text_matches_the_string_of_its_bytes_in_a_map(rt: HostRuntime) -> Result<(), Fail> {
-    let mut map = text_keys(rt.alloc())?;
-    assert!(rt; has_texts(map.as_slice(), TEXTS));
+fn a_text_matches_the_string_of_its_bytes_in_a_map(rt: HostRuntime) {
+    let mut map = granted(&rt, text_keys(rt.alloc()));
+    assert_text_keys(&rt, &map, TEXTS);
     for (text, place) in QUERIES {
-        assert!(rt; matches_at(&mut map, *text, *place)?, "{text}");
-        let key = String::from_str(rt.alloc(), text)?;
-        assert!(rt; matches_at(&mut map, &key, *place)?, "{text}");
-        assert!(rt; matches_at(&mut map, key.as_str(), *place)?, "{text}");
+        assert_matches(&rt, &mut map, *text, *place);
+        let key = granted(&rt, String::from_str(rt.alloc(), text));
+        assert_matches(&rt, &mut map, &key, *place);
+        assert_matches(&rt, &mut map, key.as_str(), *place);
     }
-    Ok(())
 }
 
 #[test]
-fn a_text_is_passed_as_a_literal_in_a_map(rt: HostRuntime) -> Result<(), Fail> {
-    let mut map = text_keys(rt.alloc())?;
-    assert!(rt; map.contains_key("max") && !map.contains_key("ma"));
-    assert!(rt; (map.get("max").copied(), map.get_index_of("max")) == (Some(30), Some(2)));
-    *map.get_mut("age").ok_or("absent")? = 11;
-    let (index, key, value) = map.get_full_mut("é").ok_or("absent")?;
-    assert!(rt; (index, key.as_str(), *value) == (3, "é", 40));
-    *value = 41;
+fn a_text_is_passed_as_a_literal_in_a_map(rt: HostRuntime) {
+    let mut map = granted(&rt, text_keys(rt.alloc()));
+    check!(rt; map.contains_key("max"));
+    check!(rt; !map.contains_key("ma"));
+    assert_is(&rt, map.get("max").copied(), Some(30));
+    assert_is(&rt, map.get_index_of("max"), Some(2));
+    *present(&rt, map.get_mut("age")) = 11;
+    *present_full(&rt, map.get_full_mut("é"), (3, "é", 40)) = 41;
     let written = [("age", 11), ("agent", 20), ("max", 30), ("é", 41)];
-    assert!(rt; has_texts(map.as_slice(), &written));
-    let (key, value) = map.swap_remove_entry("age").ok_or("absent")?;
-    assert!(rt; (key.as_str(), value) == ("age", 11));
-    assert!(rt; has_texts(map.as_slice(), &[("é", 41), ("agent", 20), ("max", 30)]));
-    assert!(rt; map.remove("agent") == Some(20));
-    assert!(rt; (map.remove("agent"), map.swap_remove("")) == (None, None));
-    assert!(rt; has_texts(map.as_slice(), &[("é", 41), ("max", 30)]));
-    Ok(())
+    assert_text_keys(&rt, &map, &written);
+    assert_text_pair(&rt, map.swap_remove_entry("age"), ("age", 11));
+    assert_text_keys(&rt, &map, &[("é", 41), ("agent", 20), ("max", 30)]);
+    assert_is(&rt, map.remove("agent"), Some(20));
+    assert_is(&rt, map.remove("agent"), None);
+    assert_is(&rt, map.swap_remove(""), None);
+    assert_text_keys(&rt, &map, &[("é", 41), ("max", 30)]);
 }
 
 #[test]
-fn a_text_matches_the_first_of_equal_strings(rt: HostRuntime) -> Result<(), Fail> {
-    let mut map = text_keys(rt.alloc())?;
+fn a_text_matches_the_first_of_equal_strings(rt: HostRuntime) {
+    let mut map = granted(&rt, text_keys(rt.alloc()));
     for place in [0, 3] {
-        let (key, _value) = map.get_index_mut2(place).ok_or("nothing there")?;
-        *key = String::from_str(rt.alloc(), "max")?;
+        let key = granted(&rt, String::from_str(rt.alloc(), "max"));
+        write_key(&rt, &mut map, place, key);
     }
     for (text, place) in [
         ("max", Some(0)),
@@ -156,175 +215,176 @@ fn a_text_matches_the_first_of_equal_strings(rt: HostRuntime) -> Result<(), Fail
         ("age", None),
         ("é", None),
     ] {
-        assert!(rt; matches_at(&mut map, text, place)?, "{text}");
+        assert_matches(&rt, &mut map, text, place);
     }
-    Ok(())
 }
 
 #[test]
-fn the_empty_text_matches_the_empty_key(rt: HostRuntime) -> Result<(), Fail> {
-    let mut map = text_keys(rt.alloc())?;
-    map.insert(String::new(rt.alloc()), 50)?;
-    assert!(rt; matches_at(&mut map, "", Some(4))?);
-    assert!(rt; matches_at(&mut map, "agent", Some(1))?);
+fn the_empty_text_matches_the_empty_key(rt: HostRuntime) {
+    let mut map = granted(&rt, text_keys(rt.alloc()));
+    assert_granted(&rt, map.insert(String::new(rt.alloc()), 50));
+    assert_matches(&rt, &mut map, "", Some(4));
+    assert_matches(&rt, &mut map, "agent", Some(1));
     let mut empty = VecMap::new(rt.alloc());
-    assert!(rt; matches_at::<String, &str>(&mut empty, "", None)?);
-    assert!(rt; matches_at::<Item, Number>(&mut repeating_map(rt.alloc(), &[])?, Number(0), None)?);
-    Ok(())
+    assert_matches::<String, &str>(&rt, &mut empty, "", None);
+    let mut none = granted(&rt, repeating_map(rt.alloc(), &[]));
+    assert_matches(&rt, &mut none, Number(0), None);
 }
 
 #[test]
-fn a_text_made_at_run_time_matches_a_static_key(rt: HostRuntime) -> Result<(), Fail> {
-    let mut map = static_keys(rt.alloc())?;
+fn a_text_made_at_run_time_matches_a_static_key(rt: HostRuntime) {
+    let mut map = granted(&rt, static_keys(rt.alloc()));
     for (text, place) in QUERIES {
-        let made = String::from_str(rt.alloc(), text)?;
-        assert!(rt; matches_at(&mut map, made.as_str(), *place)?, "{text}");
-        assert!(rt; matches_at(&mut map, *text, *place)?, "{text}");
-        assert!(rt; matches_at(&mut map, text, *place)?, "{text}");
+        let made = granted(&rt, String::from_str(rt.alloc(), text));
+        assert_matches(&rt, &mut map, made.as_str(), *place);
+        assert_matches(&rt, &mut map, *text, *place);
+        assert_matches(&rt, &mut map, text, *place);
     }
-    let (key, _value) = map.get_index_mut2(0).ok_or("nothing there")?;
-    *key = "max";
-    let made = String::from_str(rt.alloc(), "max")?;
-    assert!(rt; matches_at(&mut map, made.as_str(), Some(0))?);
-    Ok(())
+    write_key(&rt, &mut map, 0, "max");
+    let made = granted(&rt, String::from_str(rt.alloc(), "max"));
+    assert_matches(&rt, &mut map, made.as_str(), Some(0));
 }
 
 #[test]
-fn brackets_take_a_text_in_a_map_of_strings(rt: HostRuntime) -> Result<(), Fail> {
-    let mut map = text_keys(rt.alloc())?;
-    assert!(rt; map.contains_key("agent") && map.contains_key("é"));
-    assert!(rt; (map["agent"], map["é"]) == (20, 40));
+fn brackets_take_a_text_in_a_map_of_strings(rt: HostRuntime) {
+    let mut map = granted(&rt, text_keys(rt.alloc()));
+    assert!(rt; map.contains_key("agent"));
+    assert!(rt; map.contains_key("é"));
+    assert_is(&rt, (map["agent"], map["é"]), (20, 40));
     map["agent"] = 21;
     let written = [("age", 10), ("agent", 21), ("max", 30), ("é", 40)];
-    assert!(rt; has_texts(map.as_slice(), &written));
-    let (key, _value) = map.get_index_mut2(0).ok_or("nothing there")?;
-    *key = String::from_str(rt.alloc(), "agent")?;
+    assert_text_keys(&rt, &map, &written);
+    let key = granted(&rt, String::from_str(rt.alloc(), "agent"));
+    write_key(&rt, &mut map, 0, key);
     assert!(rt; map.contains_key("agent"));
-    assert!(rt; map["agent"] == 10);
-    let key = String::from_str(rt.alloc(), "agent")?;
+    assert_is(&rt, map["agent"], 10);
+    let key = granted(&rt, String::from_str(rt.alloc(), "agent"));
     assert!(rt; map.contains_key(key.as_str()));
     map[key.as_str()] = 12;
     let written = [("agent", 12), ("agent", 21), ("max", 30), ("é", 40)];
-    assert!(rt; has_texts(map.as_slice(), &written));
+    assert_text_keys(&rt, &map, &written);
     assert!(rt; map.contains_key(&key));
     map[&key] = 13;
-    assert!(rt; map.get("agent").copied() == Some(13));
-    Ok(())
+    assert_is(&rt, map.get("agent").copied(), Some(13));
 }
 
 #[test]
-fn brackets_take_a_text_in_a_map_of_static_texts(rt: HostRuntime) -> Result<(), Fail> {
-    let mut map = static_keys(rt.alloc())?;
-    let made = String::from_str(rt.alloc(), "max")?;
-    assert!(rt; map.contains_key("max") && map.contains_key(made.as_str()));
-    assert!(rt; (map["max"], map[made.as_str()]) == (30, 30));
-    let (key, _value) = map.get_index_mut2(1).ok_or("nothing there")?;
-    *key = "max";
+fn brackets_take_a_text_in_a_map_of_static_texts(rt: HostRuntime) {
+    let mut map = granted(&rt, static_keys(rt.alloc()));
+    let made = granted(&rt, String::from_str(rt.alloc(), "max"));
     assert!(rt; map.contains_key("max"));
-    assert!(rt; map["max"] == 20);
-    Ok(())
+    assert!(rt; map.contains_key(made.as_str()));
+    assert_is(&rt, (map["max"], map[made.as_str()]), (30, 30));
+    write_key(&rt, &mut map, 1, "max");
+    assert!(rt; map.contains_key("max"));
+    assert_is(&rt, map["max"], 20);
 }
 
 #[test]
-fn a_text_matches_the_boxed_text_of_its_bytes_in_a_map(rt: HostRuntime) -> Result<(), Fail> {
+fn a_text_matches_the_boxed_text_of_its_bytes_in_a_map(rt: HostRuntime) {
     let mut map = VecMap::new(rt.alloc());
     for (text, value) in TEXTS {
-        map.insert(BoxedStr::from_str(rt.alloc(), text)?, *value)?;
+        let key = granted(&rt, BoxedStr::from_str(rt.alloc(), text));
+        assert_granted(&rt, map.insert(key, *value));
     }
     for (text, place) in QUERIES {
-        assert!(rt; matches_at(&mut map, *text, *place)?, "{text}");
+        assert_matches(&rt, &mut map, *text, *place);
     }
-    assert!(rt; map.remove("agent") == Some(9));
-    assert!(rt; finds(&map, "max", Some(1)) && finds(&map, "agent", None));
-    Ok(())
+    assert_is(&rt, map.remove("agent"), Some(9));
+    assert_finds(&rt, &map, "max", Some(1));
+    assert_finds(&rt, &map, "agent", None);
 }
 
 #[test]
-fn a_text_matches_the_shared_text_of_its_bytes_in_a_map(rt: HostRuntime) -> Result<(), Fail> {
+fn a_text_matches_the_shared_text_of_its_bytes_in_a_map(rt: HostRuntime) {
     let mut map = VecMap::new(rt.alloc());
     for (text, value) in TEXTS {
-        map.insert(RcStr::from_str(rt.alloc(), text)?, *value)?;
+        let key = granted(&rt, RcStr::from_str(rt.alloc(), text));
+        assert_granted(&rt, map.insert(key, *value));
     }
     for (text, place) in QUERIES {
-        assert!(rt; matches_at(&mut map, *text, *place)?, "{text}");
+        assert_matches(&rt, &mut map, *text, *place);
     }
-    assert!(rt; map.remove("agent") == Some(9));
-    assert!(rt; finds(&map, "max", Some(1)) && finds(&map, "agent", None));
-    Ok(())
+    assert_is(&rt, map.remove("agent"), Some(9));
+    assert_finds(&rt, &map, "max", Some(1));
+    assert_finds(&rt, &map, "agent", None);
 }
 
 #[test]
-fn a_text_matches_the_text_that_threads_share_in_a_map(rt: HostRuntime) -> Result<(), Fail> {
+fn a_text_matches_the_text_that_threads_share_in_a_map(rt: HostRuntime) {
     let mut map = VecMap::new(rt.alloc());
     for (text, value) in TEXTS {
-        map.insert(ArcStr::from_str(rt.alloc(), text)?, *value)?;
+        let key = granted(&rt, ArcStr::from_str(rt.alloc(), text));
+        assert_granted(&rt, map.insert(key, *value));
     }
     for (text, place) in QUERIES {
-        assert!(rt; matches_at(&mut map, *text, *place)?, "{text}");
+        assert_matches(&rt, &mut map, *text, *place);
     }
-    assert!(rt; map.remove("agent") == Some(9));
-    assert!(rt; finds(&map, "max", Some(1)) && finds(&map, "agent", None));
-    Ok(())
+    assert_is(&rt, map.remove("agent"), Some(9));
+    assert_finds(&rt, &map, "max", Some(1));
+    assert_finds(&rt, &map, "agent", None);
 }
 
 #[test]
-fn a_text_matches_a_borrowed_or_an_owned_text_in_a_map(rt: HostRuntime) -> Result<(), Fail> {
+fn a_text_matches_a_borrowed_or_an_owned_text_in_a_map(rt: HostRuntime) {
     let mut map = VecMap::new(rt.alloc());
     for (text, value) in TEXTS {
         let key = if *value == 20 {
             CowStr::Borrowed(*text)
         } else {
-            CowStr::Owned(String::from_str(rt.alloc(), text)?)
+            CowStr::Owned(granted(&rt, String::from_str(rt.alloc(), text)))
         };
-        map.insert(key, *value)?;
+        assert_granted(&rt, map.insert(key, *value));
     }
     for (text, place) in QUERIES {
-        assert!(rt; matches_at(&mut map, *text, *place)?, "{text}");
+        assert_matches(&rt, &mut map, *text, *place);
     }
-    assert!(rt; map.remove("agent") == Some(9));
-    assert!(rt; finds(&map, "max", Some(1)) && finds(&map, "agent", None));
-    Ok(())
+    assert_is(&rt, map.remove("agent"), Some(9));
+    assert_finds(&rt, &map, "max", Some(1));
+    assert_finds(&rt, &map, "agent", None);
 }
 
 #[test]
-fn bytes_match_the_vector_of_them_in_a_map(rt: HostRuntime) -> Result<(), Fail> {
+fn bytes_match_the_vector_of_them_in_a_map(rt: HostRuntime) {
     let mut map = VecMap::new(rt.alloc());
     for (text, value) in TEXTS {
-        map.insert(text.as_bytes().to_vec(rt.alloc())?, *value)?;
+        let key = granted(&rt, text.as_bytes().to_vec(rt.alloc()));
+        assert_granted(&rt, map.insert(key, *value));
     }
     for (text, place) in QUERIES {
-        assert!(rt; matches_at(&mut map, text.as_bytes(), *place)?, "{text}");
+        assert_matches(&rt, &mut map, text.as_bytes(), *place);
     }
-    assert!(rt; finds(&map, b"max".as_slice(), Some(2)) && finds(&map, [].as_slice(), None));
-    Ok(())
+    assert_finds(&rt, &map, b"max".as_slice(), Some(2));
+    assert_finds(&rt, &map, [].as_slice(), None);
 }
 
 #[test]
-fn bytes_match_the_boxed_slice_of_them_in_a_map(rt: HostRuntime) -> Result<(), Fail> {
+fn bytes_match_the_boxed_slice_of_them_in_a_map(rt: HostRuntime) {
     let mut map = VecMap::new(rt.alloc());
     for (text, value) in TEXTS {
-        map.insert(BoxedSlice::from_slice(rt.alloc(), text.as_bytes())?, *value)?;
+        let key = granted(&rt, BoxedSlice::from_slice(rt.alloc(), text.as_bytes()));
+        assert_granted(&rt, map.insert(key, *value));
     }
     for (text, place) in QUERIES {
-        assert!(rt; matches_at(&mut map, text.as_bytes(), *place)?, "{text}");
+        assert_matches(&rt, &mut map, text.as_bytes(), *place);
     }
-    assert!(rt; map.remove(b"agent".as_slice()) == Some(9));
-    assert!(rt; finds(&map, b"max".as_slice(), Some(1)));
-    Ok(())
+    assert_is(&rt, map.remove(b"agent".as_slice()), Some(9));
+    assert_finds(&rt, &map, b"max".as_slice(), Some(1));
 }
 
 #[test]
-fn a_slice_matches_the_vector_of_equal_items_in_a_map(rt: HostRuntime) -> Result<(), Fail> {
+fn a_slice_matches_the_vector_of_equal_items_in_a_map(rt: HostRuntime) {
     let mut map = VecMap::new(rt.alloc());
-    map.insert(vec![in rt.alloc(); make_item(1, 'a')]?, 10)?;
-    map.insert(
-        vec![in rt.alloc(); make_item(1, 'b'), make_item(2, 'c')]?,
-        20,
-    )?;
+    let key = granted(&rt, vec![in rt.alloc(); make_item(1, 'a')]);
+    assert_granted(&rt, map.insert(key, 10));
+    let key = granted(
+        &rt,
+        vec![in rt.alloc(); make_item(1, 'b'), make_item(2, 'c')],
+    );
+    assert_granted(&rt, map.insert(key, 20));
     let query = [make_item(1, 'z'), make_item(2, 'z')];
-    assert!(rt; matches_at(&mut map, query.as_slice(), Some(1))?);
-    assert!(rt; matches_at(&mut map, &query[..1], Some(0))?);
-    assert!(rt; matches_at(&mut map, &query[1..], None)?);
-    assert!(rt; matches_at(&mut map, &query[..0], None)?);
-    Ok(())
+    assert_matches(&rt, &mut map, query.as_slice(), Some(1));
+    assert_matches(&rt, &mut map, &query[..1], Some(0));
+    assert_matches(&rt, &mut map, &query[1..], None);
+    assert_matches(&rt, &mut map, &query[..0], None);
 }

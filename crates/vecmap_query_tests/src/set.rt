@@ -1,14 +1,14 @@
 //! Calls on a set by each kind of query: an element, a text, a slice, and a query that is not an element.
+use crate::checks::{assert_granted, assert_is, assert_items, assert_texts, check, granted};
 use std::alloc::AllocError;
 use std::borrow::CowStr;
 use std::boxed::{BoxedSlice, BoxedStr};
+use std::fmt::Debug;
+use std::process::Abort;
 use std::rc::RcStr;
 use std::sync::ArcStr;
-use std::test::Fail;
 use vecmap::{Equivalent, VecSet};
-use vecmap_fixtures::{
-    Item, Number, Same, are_same, has_items, has_texts, item_set, make_item, set_of, text_set,
-};
+use vecmap_fixtures::{Item, Number, Same, are_same, item_set, make_item, set_of, text_set};
 
 // Elements of which one is a prefix of another, and one is not ASCII.
 const TEXTS: &[&'static str] = &["age", "agent", "max", "é"];
@@ -119,191 +119,255 @@ fn matches_at<T: Eq + Clone + Drop + Same, Q: Equivalent<T>>(
     Ok(finds(set, query, place) && removes(set, query, place)? && swaps(set, query, place)?)
 }
 
+// Asserts that each lookup by the query finds the element at this index, or none.
+fn assert_finds<T: Eq + Same, Q: Equivalent<T> + Debug>(
+    rt: &impl Abort,
+    set: &VecSet<T>,
+    query: Q,
+    place: Option<usize>,
+) {
+    assert!(*rt;
+        finds(set, query, place),
+        "{query:?} is not found at {place:?}"
+    );
+}
+
+// Asserts that every call by the query uses the element at this index, or none.
+fn assert_matches<T: Eq + Clone + Drop + Same, Q: Equivalent<T> + Debug>(
+    rt: &impl Abort,
+    set: &VecSet<T>,
+    query: Q,
+    place: Option<usize>,
+) {
+    assert!(*rt;
+        matches!(matches_at(set, query, place), Ok(true)),
+        "{query:?} does not match at {place:?}"
+    );
+}
+
+// Asserts that a call returned an element of this number and this mark.
+fn assert_item(rt: &impl Abort, item: Option<Item>, expected: (u32, char)) {
+    match item {
+        Some(item) => assert_eq!(*rt; (item.number, item.mark), expected),
+        None => panic!(*rt; "absent"),
+    }
+}
+
+// Asserts that a call lent an element of this index, this number and this mark.
+fn assert_full_item(rt: &impl Abort, full: Option<(usize, &Item)>, expected: (usize, u32, char)) {
+    match full {
+        Some((index, item)) => assert_eq!(*rt; (index, item.number, item.mark), expected),
+        None => panic!(*rt; "absent"),
+    }
+}
+
+// Asserts that a call returned this text.
+fn assert_text(rt: &impl Abort, item: Option<&String>, expected: &str) {
+    match item {
+        Some(item) => assert_eq!(*rt; item.as_str(), expected),
+        None => panic!(*rt; "absent"),
+    }
+}
+
+// Asserts that a call lent an element of this index and this text.
+fn assert_full_text(rt: &impl Abort, full: Option<(usize, &String)>, expected: (usize, &str)) {
+    match full {
+        Some((index, item)) => assert_eq!(*rt; (index, item.as_str()), expected),
+        None => panic!(*rt; "absent"),
+    }
+}
+
 #[test]
-fn an_element_matches_the_equal_one(rt: HostRuntime) -> Result<(), Fail> {
-    let set = item_set(rt.alloc(), ITEMS)?;
-    assert!(rt; has_items(set.as_slice(), ITEMS));
+fn an_element_matches_the_equal_one(rt: HostRuntime) {
+    let set = granted(&rt, item_set(rt.alloc(), ITEMS));
+    assert_items(&rt, &set, ITEMS);
     for (number, place) in NUMBERS {
         let item = make_item(*number, 'z');
-        assert!(rt; matches_at(&set, &item, *place)?, "{number}");
+        assert_matches(&rt, &set, &item, *place);
     }
-    Ok(())
 }
 
 #[test]
-fn a_query_that_is_not_an_element_matches_the_equivalent_one(rt: HostRuntime) -> Result<(), Fail> {
-    let set = item_set(rt.alloc(), ITEMS)?;
+fn a_query_that_is_not_an_element_matches_the_equivalent_one(rt: HostRuntime) {
+    let set = granted(&rt, item_set(rt.alloc(), ITEMS));
     for (number, place) in NUMBERS {
-        assert!(rt; matches_at(&set, Number(*number), *place)?, "{number}");
+        assert_matches(&rt, &set, Number(*number), *place);
     }
-    Ok(())
 }
 
 #[test]
-fn a_query_that_is_not_an_element_is_passed_by_value(rt: HostRuntime) -> Result<(), Fail> {
-    let mut set = item_set(rt.alloc(), ITEMS)?;
-    assert!(rt; set.contains(Number(1)) && !set.contains(Number(3)));
-    let (index, stored) = set.get_full(Number(1)).ok_or("absent")?;
-    assert!(rt; (index, stored.number, stored.mark) == (1, 1, 'b'));
-    let taken = set.swap_take(Number(9)).ok_or("absent")?;
-    assert!(rt; (taken.number, taken.mark) == (9, 'a'));
-    assert!(rt; has_items(set.as_slice(), &[(2, 'd'), (1, 'b'), (5, 'c')]));
-    assert!(rt; set.remove(Number(1)) && !set.remove(Number(1)));
-    assert!(rt; has_items(set.as_slice(), &[(2, 'd'), (5, 'c')]));
-    Ok(())
+fn a_query_that_is_not_an_element_is_passed_by_value(rt: HostRuntime) {
+    let mut set = granted(&rt, item_set(rt.alloc(), ITEMS));
+    check!(rt; set.contains(Number(1)));
+    check!(rt; !set.contains(Number(3)));
+    assert_full_item(&rt, set.get_full(Number(1)), (1, 1, 'b'));
+    assert_item(&rt, set.swap_take(Number(9)), (9, 'a'));
+    assert_items(&rt, &set, &[(2, 'd'), (1, 'b'), (5, 'c')]);
+    check!(rt; set.remove(Number(1)));
+    check!(rt; !set.remove(Number(1)));
+    assert_items(&rt, &set, &[(2, 'd'), (5, 'c')]);
 }
 
 #[test]
-fn a_text_matches_the_string_of_its_bytes_in_a_set(rt: HostRuntime) -> Result<(), Fail> {
-    let set = text_set(rt.alloc(), TEXTS)?;
-    assert!(rt; has_texts(set.as_slice(), TEXTS));
+fn a_text_matches_the_string_of_its_bytes_in_a_set(rt: HostRuntime) {
+    let set = granted(&rt, text_set(rt.alloc(), TEXTS));
+    assert_texts(&rt, &set, TEXTS);
     for (text, place) in QUERIES {
-        assert!(rt; matches_at(&set, *text, *place)?, "{text}");
-        let item = String::from_str(rt.alloc(), text)?;
-        assert!(rt; matches_at(&set, &item, *place)?, "{text}");
-        assert!(rt; matches_at(&set, item.as_str(), *place)?, "{text}");
+        assert_matches(&rt, &set, *text, *place);
+        let item = granted(&rt, String::from_str(rt.alloc(), text));
+        assert_matches(&rt, &set, &item, *place);
+        assert_matches(&rt, &set, item.as_str(), *place);
     }
-    Ok(())
 }
 
 #[test]
-fn a_text_is_passed_as_a_literal_in_a_set(rt: HostRuntime) -> Result<(), Fail> {
-    let mut set = text_set(rt.alloc(), TEXTS)?;
-    assert!(rt; set.contains("max") && !set.contains("ma"));
-    assert!(rt; (set.get_index_of("max"), set.get_index_of("")) == (Some(2), None));
-    let (index, stored) = set.get_full("é").ok_or("absent")?;
-    assert!(rt; (index, stored.as_str()) == (3, "é"));
-    assert!(rt; set.get("agent").ok_or("absent")?.as_str() == "agent");
-    assert!(rt; set.swap_take("age").ok_or("absent")?.as_str() == "age");
-    assert!(rt; has_texts(set.as_slice(), &["é", "agent", "max"]));
-    assert!(rt; set.remove("é") && !set.swap_remove("é") && set.take("é").is_none());
-    assert!(rt; has_texts(set.as_slice(), &["agent", "max"]));
-    assert!(rt; set.swap_remove("agent"));
-    assert!(rt; set.take("max").ok_or("absent")?.as_str() == "max");
-    assert!(rt; set.is_empty() && !set.contains("max"));
-    Ok(())
+fn a_text_is_passed_as_a_literal_in_a_set(rt: HostRuntime) {
+    let mut set = granted(&rt, text_set(rt.alloc(), TEXTS));
+    check!(rt; set.contains("max"));
+    check!(rt; !set.contains("ma"));
+    assert_is(&rt, set.get_index_of("max"), Some(2));
+    assert_is(&rt, set.get_index_of(""), None);
+    assert_full_text(&rt, set.get_full("é"), (3, "é"));
+    assert_text(&rt, set.get("agent"), "agent");
+    assert_text(&rt, set.swap_take("age").as_ref(), "age");
+    assert_texts(&rt, &set, &["é", "agent", "max"]);
+    check!(rt; set.remove("é"));
+    check!(rt; !set.swap_remove("é"));
+    check!(rt; set.take("é").is_none());
+    assert_texts(&rt, &set, &["agent", "max"]);
+    check!(rt; set.swap_remove("agent"));
+    assert_text(&rt, set.take("max").as_ref(), "max");
+    check!(rt; set.is_empty());
+    check!(rt; !set.contains("max"));
 }
 
 #[test]
-fn the_empty_text_matches_the_empty_element(rt: HostRuntime) -> Result<(), Fail> {
-    let set = text_set(rt.alloc(), &["age", "", "agent"])?;
-    assert!(rt; matches_at(&set, "", Some(1))?);
-    assert!(rt; matches_at(&set, "agent", Some(2))?);
+fn the_empty_text_matches_the_empty_element(rt: HostRuntime) {
+    let set = granted(&rt, text_set(rt.alloc(), &["age", "", "agent"]));
+    assert_matches(&rt, &set, "", Some(1));
+    assert_matches(&rt, &set, "agent", Some(2));
     let empty = VecSet::new(rt.alloc());
-    assert!(rt; matches_at::<String, &str>(&empty, "", None)?);
-    assert!(rt; matches_at::<Item, Number>(&item_set(rt.alloc(), &[])?, Number(0), None)?);
-    Ok(())
+    assert_matches::<String, &str>(&rt, &empty, "", None);
+    let none = granted(&rt, item_set(rt.alloc(), &[]));
+    assert_matches(&rt, &none, Number(0), None);
 }
 
 #[test]
-fn a_text_made_at_run_time_matches_a_static_element(rt: HostRuntime) -> Result<(), Fail> {
-    let set = set_of(rt.alloc(), TEXTS)?;
+fn a_text_made_at_run_time_matches_a_static_element(rt: HostRuntime) {
+    let set = granted(&rt, set_of(rt.alloc(), TEXTS));
     for (text, place) in QUERIES {
-        let made = String::from_str(rt.alloc(), text)?;
-        assert!(rt; matches_at(&set, made.as_str(), *place)?, "{text}");
-        assert!(rt; matches_at(&set, *text, *place)?, "{text}");
-        assert!(rt; matches_at(&set, text, *place)?, "{text}");
+        let made = granted(&rt, String::from_str(rt.alloc(), text));
+        assert_matches(&rt, &set, made.as_str(), *place);
+        assert_matches(&rt, &set, *text, *place);
+        assert_matches(&rt, &set, text, *place);
     }
-    Ok(())
 }
 
 #[test]
-fn a_text_matches_the_boxed_text_of_its_bytes_in_a_set(rt: HostRuntime) -> Result<(), Fail> {
+fn a_text_matches_the_boxed_text_of_its_bytes_in_a_set(rt: HostRuntime) {
     let mut set = VecSet::new(rt.alloc());
     for text in TEXTS {
-        set.insert(BoxedStr::from_str(rt.alloc(), text)?)?;
+        let item = granted(&rt, BoxedStr::from_str(rt.alloc(), text));
+        assert_granted(&rt, set.insert(item));
     }
     for (text, place) in QUERIES {
-        assert!(rt; matches_at(&set, *text, *place)?, "{text}");
+        assert_matches(&rt, &set, *text, *place);
     }
-    assert!(rt; set.remove("agent"));
-    assert!(rt; finds(&set, "max", Some(1)) && finds(&set, "agent", None));
-    Ok(())
+    check!(rt; set.remove("agent"));
+    assert_finds(&rt, &set, "max", Some(1));
+    assert_finds(&rt, &set, "agent", None);
 }
 
 #[test]
-fn a_text_matches_the_shared_text_of_its_bytes_in_a_set(rt: HostRuntime) -> Result<(), Fail> {
+fn a_text_matches_the_shared_text_of_its_bytes_in_a_set(rt: HostRuntime) {
     let mut set = VecSet::new(rt.alloc());
     for text in TEXTS {
-        set.insert(RcStr::from_str(rt.alloc(), text)?)?;
+        let item = granted(&rt, RcStr::from_str(rt.alloc(), text));
+        assert_granted(&rt, set.insert(item));
     }
     for (text, place) in QUERIES {
-        assert!(rt; matches_at(&set, *text, *place)?, "{text}");
+        assert_matches(&rt, &set, *text, *place);
     }
-    assert!(rt; set.remove("agent"));
-    assert!(rt; finds(&set, "max", Some(1)) && finds(&set, "agent", None));
-    Ok(())
+    check!(rt; set.remove("agent"));
+    assert_finds(&rt, &set, "max", Some(1));
+    assert_finds(&rt, &set, "agent", None);
 }
 
 #[test]
-fn a_text_matches_the_text_that_threads_share_in_a_set(rt: HostRuntime) -> Result<(), Fail> {
+fn a_text_matches_the_text_that_threads_share_in_a_set(rt: HostRuntime) {
     let mut set = VecSet::new(rt.alloc());
     for text in TEXTS {
-        set.insert(ArcStr::from_str(rt.alloc(), text)?)?;
+        let item = granted(&rt, ArcStr::from_str(rt.alloc(), text));
+        assert_granted(&rt, set.insert(item));
     }
     for (text, place) in QUERIES {
-        assert!(rt; matches_at(&set, *text, *place)?, "{text}");
+        assert_matches(&rt, &set, *text, *place);
     }
-    assert!(rt; set.remove("agent"));
-    assert!(rt; finds(&set, "max", Some(1)) && finds(&set, "agent", None));
-    Ok(())
+    check!(rt; set.remove("agent"));
+    assert_finds(&rt, &set, "max", Some(1));
+    assert_finds(&rt, &set, "agent", None);
 }
 
 #[test]
-fn a_text_matches_a_borrowed_or_an_owned_text_in_a_set(rt: HostRuntime) -> Result<(), Fail> {
+fn a_text_matches_a_borrowed_or_an_owned_text_in_a_set(rt: HostRuntime) {
     let mut set = VecSet::new(rt.alloc());
     for text in TEXTS {
         let item = if text.len() == 3 {
             CowStr::Borrowed(*text)
         } else {
-            CowStr::Owned(String::from_str(rt.alloc(), text)?)
+            CowStr::Owned(granted(&rt, String::from_str(rt.alloc(), text)))
         };
-        set.insert(item)?;
+        assert_granted(&rt, set.insert(item));
     }
     for (text, place) in QUERIES {
-        assert!(rt; matches_at(&set, *text, *place)?, "{text}");
+        assert_matches(&rt, &set, *text, *place);
     }
-    assert!(rt; set.remove("agent"));
-    assert!(rt; finds(&set, "max", Some(1)) && finds(&set, "agent", None));
-    Ok(())
+    check!(rt; set.remove("agent"));
+    assert_finds(&rt, &set, "max", Some(1));
+    assert_finds(&rt, &set, "agent", None);
 }
 
 #[test]
-fn bytes_match_the_vector_of_them_in_a_set(rt: HostRuntime) -> Result<(), Fail> {
+fn bytes_match_the_vector_of_them_in_a_set(rt: HostRuntime) {
     let mut set = VecSet::new(rt.alloc());
     for text in TEXTS {
-        set.insert(text.as_bytes().to_vec(rt.alloc())?)?;
+        let item = granted(&rt, text.as_bytes().to_vec(rt.alloc()));
+        assert_granted(&rt, set.insert(item));
     }
     for (text, place) in QUERIES {
-        assert!(rt; matches_at(&set, text.as_bytes(), *place)?, "{text}");
+        assert_matches(&rt, &set, text.as_bytes(), *place);
     }
-    assert!(rt; finds(&set, b"max".as_slice(), Some(2)) && finds(&set, [].as_slice(), None));
-    Ok(())
+    assert_finds(&rt, &set, b"max".as_slice(), Some(2));
+    assert_finds(&rt, &set, [].as_slice(), None);
 }
 
 #[test]
-fn bytes_match_the_boxed_slice_of_them_in_a_set(rt: HostRuntime) -> Result<(), Fail> {
+fn bytes_match_the_boxed_slice_of_them_in_a_set(rt: HostRuntime) {
     let mut set = VecSet::new(rt.alloc());
     for text in TEXTS {
-        set.insert(BoxedSlice::from_slice(rt.alloc(), text.as_bytes())?)?;
+        let item = granted(&rt, BoxedSlice::from_slice(rt.alloc(), text.as_bytes()));
+        assert_granted(&rt, set.insert(item));
     }
     for (text, place) in QUERIES {
-        assert!(rt; matches_at(&set, text.as_bytes(), *place)?, "{text}");
+        assert_matches(&rt, &set, text.as_bytes(), *place);
     }
-    assert!(rt; set.remove(b"agent".as_slice()));
-    assert!(rt; finds(&set, b"max".as_slice(), Some(1)));
-    Ok(())
+    check!(rt; set.remove(b"agent".as_slice()));
+    assert_finds(&rt, &set, b"max".as_slice(), Some(1));
 }
 
 #[test]
-fn a_slice_matches_the_vector_of_equal_items_in_a_set(rt: HostRuntime) -> Result<(), Fail> {
+fn a_slice_matches_the_vector_of_equal_items_in_a_set(rt: HostRuntime) {
     let mut set = VecSet::new(rt.alloc());
-    set.insert(vec![in rt.alloc(); make_item(1, 'a')]?)?;
-    set.insert(vec![in rt.alloc(); make_item(1, 'b'), make_item(2, 'c')]?)?;
+    let item = granted(&rt, vec![in rt.alloc(); make_item(1, 'a')]);
+    assert_granted(&rt, set.insert(item));
+    let item = granted(
+        &rt,
+        vec![in rt.alloc(); make_item(1, 'b'), make_item(2, 'c')],
+    );
+    assert_granted(&rt, set.insert(item));
     let query = [make_item(1, 'z'), make_item(2, 'z')];
-    assert!(rt; matches_at(&set, query.as_slice(), Some(1))?);
-    assert!(rt; matches_at(&set, &query[..1], Some(0))?);
-    assert!(rt; matches_at(&set, &query[1..], None)?);
-    assert!(rt; matches_at(&set, &query[..0], None)?);
-    Ok(())
+    assert_matches(&rt, &set, query.as_slice(), Some(1));
+    assert_matches(&rt, &set, &query[..1], Some(0));
+    assert_matches(&rt, &set, &query[1..], None);
+    assert_matches(&rt, &set, &query[..0], None);
 }

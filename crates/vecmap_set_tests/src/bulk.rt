@@ -1,110 +1,104 @@
 //! Calls that insert many elements at once, with elements that are equal and not identical.
-use std::test::Fail;
+use crate::checks::{assert_granted, assert_is, assert_items, assert_list, check, granted};
 use vecmap::VecSet;
-use vecmap_fixtures::{Hinted, has_items, make_item, set_of};
+use vecmap_fixtures::{Hinted, item_set, make_item, set_of};
 
 #[test]
-fn all_ways_of_many_elements_agree_with_single_inserts(rt: HostRuntime) -> Result<(), Fail> {
+fn all_ways_of_many_elements_agree_with_single_inserts(rt: HostRuntime) {
     let items = [make_item(1, 'f'), make_item(2, 'b'), make_item(1, 's')];
     let mut extended = VecSet::new(rt.alloc());
-    extended.extend(items)?;
+    assert_granted(&rt, extended.extend(items));
     let mut copied = VecSet::new(rt.alloc());
-    copied.extend_copied(&items)?;
+    assert_granted(&rt, copied.extend_copied(&items));
     for set in [
-        set_of(rt.alloc(), &items)?,
+        granted(&rt, set_of(rt.alloc(), &items)),
         extended,
         copied,
-        VecSet::from(items.to_vec(rt.alloc())?),
-        VecSet::from_iter(rt.alloc(), items)?,
-        VecSet::from_slice(rt.alloc(), &items)?,
-        items.iter().copied().collect(rt.alloc())?,
+        VecSet::from(granted(&rt, items.to_vec(rt.alloc()))),
+        granted(&rt, VecSet::from_iter(rt.alloc(), items)),
+        granted(&rt, VecSet::from_slice(rt.alloc(), &items)),
+        granted(&rt, items.iter().copied().collect(rt.alloc())),
     ] {
-        assert!(rt; has_items(set.as_slice(), &[(1, 'f'), (2, 'b')]));
+        assert_items(&rt, &set, &[(1, 'f'), (2, 'b')]);
     }
-    Ok(())
 }
 
 #[test]
-fn extending_keeps_stored_elements(rt: HostRuntime) -> Result<(), Fail> {
-    let start = [make_item(1, 'x')];
+fn extending_keeps_stored_elements(rt: HostRuntime) {
     let more = [make_item(1, 'y'), make_item(2, 'z')];
-    let mut single = set_of(rt.alloc(), &start)?;
+    let left = [(1, 'x'), (2, 'z')];
+    let mut single = granted(&rt, item_set(rt.alloc(), &[(1, 'x')]));
     for item in more {
-        single.insert(item)?;
+        assert_granted(&rt, single.insert(item));
     }
-    let mut extended = set_of(rt.alloc(), &start)?;
-    extended.extend(more)?;
-    let mut copied = set_of(rt.alloc(), &start)?;
-    copied.extend_copied(&more)?;
-    let mut appended = set_of(rt.alloc(), &start)?;
-    let mut other = set_of(rt.alloc(), &more)?;
-    appended.append(&mut other)?;
-    assert!(rt; other.is_empty());
-    for set in [single, extended, copied, appended] {
-        assert!(rt; has_items(set.as_slice(), &[(1, 'x'), (2, 'z')]));
-    }
-    Ok(())
+    assert_items(&rt, &single, &left);
+    let mut extended = granted(&rt, item_set(rt.alloc(), &[(1, 'x')]));
+    assert_granted(&rt, extended.extend(more));
+    assert_items(&rt, &extended, &left);
+    let mut copied = granted(&rt, item_set(rt.alloc(), &[(1, 'x')]));
+    assert_granted(&rt, copied.extend_copied(&more));
+    assert_items(&rt, &copied, &left);
+    let mut appended = granted(&rt, item_set(rt.alloc(), &[(1, 'x')]));
+    let mut other = granted(&rt, set_of(rt.alloc(), &more));
+    assert_granted(&rt, appended.append(&mut other));
+    check!(rt; other.is_empty());
+    assert_items(&rt, &appended, &left);
 }
 
 #[test]
-fn append_adds_all_and_leaves_the_capacity_of_the_other(rt: HostRuntime) -> Result<(), Fail> {
-    let mut set = set_of(rt.alloc(), &[3, 2, 1])?;
-    let mut other = set_of(rt.alloc(), &[3, 4, 5])?;
+fn append_adds_all_and_leaves_the_capacity_of_the_other(rt: HostRuntime) {
+    let mut set = granted(&rt, set_of(rt.alloc(), &[3, 2, 1]));
+    let mut other = granted(&rt, set_of(rt.alloc(), &[3, 4, 5]));
     let room = other.capacity();
-    set.append(&mut other)?;
-    assert!(rt; set.as_slice() == [3, 2, 1, 4, 5].as_slice());
-    assert!(rt; 6 <= set.capacity());
-    assert!(rt; (other.len(), other.capacity()) == (0, room));
-    let granted = set.capacity();
-    set.append(&mut other)?;
-    assert!(rt; set.as_slice() == [3, 2, 1, 4, 5].as_slice());
-    assert!(rt; (set.capacity(), other.capacity()) == (granted, room));
-    Ok(())
+    assert_granted(&rt, set.append(&mut other));
+    assert_list(&rt, set.as_slice(), &[3, 2, 1, 4, 5]);
+    check!(rt; 6 <= set.capacity());
+    assert_is(&rt, (other.len(), other.capacity()), (0, room));
+    let before = set.capacity();
+    assert_granted(&rt, set.append(&mut other));
+    assert_list(&rt, set.as_slice(), &[3, 2, 1, 4, 5]);
+    assert_is(&rt, (set.capacity(), other.capacity()), (before, room));
 }
 
 #[test]
-fn a_size_hint_decides_nothing(rt: HostRuntime) -> Result<(), Fail> {
+fn a_size_hint_decides_nothing(rt: HostRuntime) {
     let items = [1, 2, 1, 3].as_slice();
     for hint in [0, 1, 4, 20, usize::MAX] {
         let hinted = || Hinted { items, hint };
-        let set = VecSet::from_iter(rt.alloc(), hinted().copied())?;
-        assert!(rt; set.as_slice() == [1, 2, 3].as_slice());
-        let set: VecSet<i32> = hinted().copied().collect(rt.alloc())?;
-        assert!(rt; set.as_slice() == [1, 2, 3].as_slice());
-        let mut set = set_of(rt.alloc(), &[3, 7])?;
-        set.extend(hinted().copied())?;
-        assert!(rt; set.as_slice() == [3, 7, 1, 2].as_slice());
-        let mut set = set_of(rt.alloc(), &[3, 7])?;
-        set.extend_copied(hinted())?;
-        assert!(rt; set.as_slice() == [3, 7, 1, 2].as_slice());
+        let made = VecSet::from_iter(rt.alloc(), hinted().copied());
+        assert_list(&rt, granted(&rt, made).as_slice(), &[1, 2, 3]);
+        let set: VecSet<i32> = granted(&rt, hinted().copied().collect(rt.alloc()));
+        assert_list(&rt, set.as_slice(), &[1, 2, 3]);
+        let mut set = granted(&rt, set_of(rt.alloc(), &[3, 7]));
+        assert_granted(&rt, set.extend(hinted().copied()));
+        assert_list(&rt, set.as_slice(), &[3, 7, 1, 2]);
+        let mut set = granted(&rt, set_of(rt.alloc(), &[3, 7]));
+        assert_granted(&rt, set.extend_copied(hinted()));
+        assert_list(&rt, set.as_slice(), &[3, 7, 1, 2]);
     }
-    Ok(())
 }
 
 #[test]
-fn nothing_is_reserved_for_existing_elements(rt: HostRuntime) -> Result<(), Fail> {
-    let mut set = set_of(rt.alloc(), &[1, 2])?;
+fn nothing_is_reserved_for_existing_elements(rt: HostRuntime) {
+    let mut set = granted(&rt, set_of(rt.alloc(), &[1, 2]));
     set.shrink_to_fit();
     let room = set.capacity();
-    set.extend([2, 1, 2])?;
-    set.extend_copied(&[1, 1, 2])?;
-    assert!(rt; set.as_slice() == [1, 2].as_slice());
-    assert!(rt; set.capacity() == room);
-    Ok(())
+    assert_granted(&rt, set.extend([2, 1, 2]));
+    assert_granted(&rt, set.extend_copied(&[1, 1, 2]));
+    assert_list(&rt, set.as_slice(), &[1, 2]);
+    assert_is(&rt, set.capacity(), room);
 }
 
 #[test]
-fn from_slice_keeps_the_first_of_equal_elements(rt: HostRuntime) -> Result<(), Fail> {
+fn from_slice_keeps_the_first_of_equal_elements(rt: HostRuntime) {
     let items = [make_item(1, 'x'), make_item(1, 'y'), make_item(2, 'z')];
-    let set = VecSet::from_slice(rt.alloc(), &items)?;
-    assert!(rt; has_items(set.as_slice(), &[(1, 'x'), (2, 'z')]));
-    Ok(())
+    let set = granted(&rt, VecSet::from_slice(rt.alloc(), &items));
+    assert_items(&rt, &set, &[(1, 'x'), (2, 'z')]);
 }
 
 #[test]
-fn from_slice_reserves_nothing_for_repeats(rt: HostRuntime) -> Result<(), Fail> {
-    let set = VecSet::from_slice(rt.alloc(), &[1; 9])?;
-    assert!(rt; set.as_slice() == [1].as_slice());
-    assert!(rt; set.capacity() < 9);
-    Ok(())
+fn from_slice_reserves_nothing_for_repeats(rt: HostRuntime) {
+    let set = granted(&rt, VecSet::from_slice(rt.alloc(), &[1; 9]));
+    assert_list(&rt, set.as_slice(), &[1]);
+    check!(rt; set.capacity() < 9);
 }

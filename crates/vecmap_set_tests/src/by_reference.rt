@@ -2,8 +2,8 @@
 //! addition to `vecmap`, as `vecmap_set` holds the impl of `IntoIterator` for references to a set.
 ghost use Rattle.std.specs.Prelude.{◌≡◌, ◌<◌, ◌^◌, sum};
 
+use crate::checks::{assert_is, assert_list, granted};
 use std::alloc::{AllocError, Global};
-use std::test::Fail;
 use vecmap::VecSet;
 use vecmap_fixtures::set_of;
 
@@ -29,11 +29,11 @@ fn gather(alloc: Global, set: &VecSet<u32>) -> Result<Vec<u32>, AllocError> {
 }
 
 #[test]
-fn loops_by_reference_run(rt: HostRuntime) -> Result<(), Fail> {
+fn loops_by_reference_run(rt: HostRuntime) {
     let set: VecSet<u32> = VecSet::new(rt.alloc());
-    assert!(rt; total(&set) == 0);
-    let set: VecSet<u32> = set_of(rt.alloc(), &[3, 1, 2])?;
-    assert!(rt; gather(rt.alloc(), &set)?.as_slice() == [3, 1, 2].as_slice());
-    assert!(rt; set.as_slice() == [3, 1, 2].as_slice());
-    Ok(())
+    assert_is(&rt, total(&set), 0);
+    let set: VecSet<u32> = granted(&rt, set_of(rt.alloc(), &[3, 1, 2]));
+    let gathered = granted(&rt, gather(rt.alloc(), &set));
+    assert_list(&rt, gathered.as_slice(), &[3, 1, 2]);
+    assert_list(&rt, set.as_slice(), &[3, 1, 2]);
 }

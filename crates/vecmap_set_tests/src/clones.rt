@@ -1,57 +1,65 @@
 //! Clones that fail at an element of a chosen number: the sources are unchanged, and the clones so far are dropped.
-use std::test::Fail;
+use crate::checks::{assert_is, assert_told, granted};
+use std::process::Abort;
 use vecmap::VecSet;
-use vecmap_fixtures::{Log, Told, has_told, told_set};
+use vecmap_fixtures::{Log, Told, told_set};
 
-#[test]
-fn a_refused_clone_leaves_the_set(rt: HostRuntime) -> Result<(), Fail> {
-    let log = Log::new();
-    let set = told_set(rt.alloc(), &log, &[1, 2, 3])?;
-    for number in [1, 2, 3] {
-        log.refuse_clones_of(number);
-        assert!(rt;
-            set.clone().is_err() && set.to_vec().is_err(),
-            "at {number}"
-        );
-        assert!(rt;
-            VecSet::from_slice(rt.alloc(), set.as_slice()).is_err(),
-            "at {number}"
-        );
-        assert!(rt;
-            log.alive() == 3 && has_told(set.as_slice(), &[1, 2, 3]),
-            "at {number}"
-        );
-    }
-    log.refuse_clones_of(0);
-    let (copy, copies) = (set.clone()?, set.to_vec()?);
-    let made = VecSet::from_slice(rt.alloc(), set.as_slice())?;
-    assert!(rt; has_told(copy.as_slice(), &[1, 2, 3]) && has_told(&copies, &[1, 2, 3]));
-    assert!(rt; log.alive() == 12 && has_told(made.as_slice(), &[1, 2, 3]));
-    Ok(())
+// Asserts whether a call was granted while the clones of this number fail, and drops what it returned.
+fn assert_outcome<T: Drop, E: Drop>(
+    rt: &impl Abort,
+    number: u32,
+    outcome: Result<T, E>,
+    is_granted: bool,
+) {
+    assert_eq!(*rt; (number, outcome.is_ok()), (number, is_granted));
 }
 
 #[test]
-fn a_refused_clone_leaves_an_iterator(rt: HostRuntime) -> Result<(), Fail> {
+fn a_refused_clone_leaves_the_set(rt: HostRuntime) {
+    let log = Log::new();
+    let set = granted(&rt, told_set(rt.alloc(), &log, &[1, 2, 3]));
+    for number in [1, 2, 3] {
+        log.refuse_clones_of(number);
+        assert_outcome(&rt, number, set.clone(), false);
+        assert_outcome(&rt, number, set.to_vec(), false);
+        let by_slice = VecSet::from_slice(rt.alloc(), set.as_slice());
+        assert_outcome(&rt, number, by_slice, false);
+        assert_is(&rt, (number, log.alive()), (number, 3));
+        assert_told(&rt, set.as_slice(), &[1, 2, 3]);
+    }
+    log.refuse_clones_of(0);
+    let copy = granted(&rt, set.clone());
+    let copies = granted(&rt, set.to_vec());
+    let made = granted(&rt, VecSet::from_slice(rt.alloc(), set.as_slice()));
+    assert_told(&rt, copy.as_slice(), &[1, 2, 3]);
+    assert_told(&rt, &copies, &[1, 2, 3]);
+    assert_is(&rt, log.alive(), 12);
+    assert_told(&rt, made.as_slice(), &[1, 2, 3]);
+}
+
+#[test]
+fn a_refused_clone_leaves_an_iterator(rt: HostRuntime) {
     for number in [2, 3] {
         let log = Log::new();
         log.refuse_clones_of(number);
-        let mut items = told_set(rt.alloc(), &log, &[1, 2, 3])?.into_iter();
+        let mut items = granted(&rt, told_set(rt.alloc(), &log, &[1, 2, 3])).into_iter();
         drop(items.next());
-        assert!(rt; items.clone().is_err() && log.alive() == 2, "at {number}");
+        assert_outcome(&rt, number, items.clone(), false);
+        assert_is(&rt, (number, log.alive()), (number, 2));
         log.refuse_clones_of(0);
-        let copies: Vec<Told<'_>> = items.clone()?.collect(rt.alloc())?;
-        assert!(rt; has_told(&copies, &[2, 3]), "at {number}");
-        let items: Vec<Told<'_>> = items.collect(rt.alloc())?;
-        assert!(rt; has_told(&items, &[2, 3]), "at {number}");
+        let copy = granted(&rt, items.clone());
+        let copies: Vec<Told<'_>> = granted(&rt, copy.collect(rt.alloc()));
+        assert_told(&rt, &copies, &[2, 3]);
+        let items: Vec<Told<'_>> = granted(&rt, items.collect(rt.alloc()));
+        assert_told(&rt, &items, &[2, 3]);
     }
-    Ok(())
 }
 
 #[test]
-fn an_operator_clones_what_it_keeps_alone(rt: HostRuntime) -> Result<(), Fail> {
+fn an_operator_clones_what_it_keeps_alone(rt: HostRuntime) {
     let log = Log::new();
-    let a = told_set(rt.alloc(), &log, &[1, 2, 3])?;
-    let b = told_set(rt.alloc(), &log, &[2, 4])?;
+    let a = granted(&rt, told_set(rt.alloc(), &log, &[1, 2, 3]));
+    let b = granted(&rt, told_set(rt.alloc(), &log, &[2, 4]));
     for (number, and, or, xor, minus) in [
         (1, true, false, false, false),
         (2, false, false, true, true),
@@ -60,16 +68,12 @@ fn an_operator_clones_what_it_keeps_alone(rt: HostRuntime) -> Result<(), Fail> {
         (5, true, true, true, true),
     ] {
         log.refuse_clones_of(number);
-        assert!(rt;
-            (&a & &b).is_ok() == and && (&a | &b).is_ok() == or,
-            "at {number}"
-        );
-        assert!(rt;
-            (&a ^ &b).is_ok() == xor && (&a - &b).is_ok() == minus,
-            "at {number}"
-        );
-        assert!(rt; has_told(a.as_slice(), &[1, 2, 3]) && has_told(b.as_slice(), &[2, 4]));
-        assert!(rt; log.alive() == 5, "at {number}");
+        assert_outcome(&rt, number, &a & &b, and);
+        assert_outcome(&rt, number, &a | &b, or);
+        assert_outcome(&rt, number, &a ^ &b, xor);
+        assert_outcome(&rt, number, &a - &b, minus);
+        assert_told(&rt, a.as_slice(), &[1, 2, 3]);
+        assert_told(&rt, b.as_slice(), &[2, 4]);
+        assert_is(&rt, (number, log.alive()), (number, 5));
     }
-    Ok(())
 }

@@ -1,65 +1,96 @@
 //! The trait `Clone` of sets, as generic code and derives call it.
+use crate::checks::{
+    assert_gives, assert_is, assert_items, assert_refused, assert_told, check, granted,
+};
 use std::alloc::{AllocError, Global};
-use std::test::Fail;
+use std::process::Abort;
 use vecmap::{VecMap, VecSet, vecmap, vecset};
-use vecmap_fixtures::{Log, has_items, has_told, item_set, told_set};
+use vecmap_fixtures::{Log, item_set, told_set};
 
 fn copy_of<C: Clone>(original: &C) -> Result<C, AllocError> {
     original.clone()
 }
 
 #[test]
-fn a_clone_by_the_trait_has_the_elements_in_order(rt: HostRuntime) -> Result<(), Fail> {
+fn a_clone_by_the_trait_has_the_elements_in_order(rt: HostRuntime) {
     let items = [(2, 'b'), (1, 'a'), (3, 'c')];
-    let set = item_set(rt.alloc(), &items)?;
-    let copy = copy_of(&set)?;
-    assert!(rt; has_items(copy.as_slice(), &items) && has_items(set.as_slice(), &items));
+    let set = granted(&rt, item_set(rt.alloc(), &items));
+    let copy = granted(&rt, copy_of(&set));
+    assert_items(&rt, &copy, &items);
+    assert_items(&rt, &set, &items);
     let empty: VecSet<u32> = VecSet::new(rt.alloc());
-    assert!(rt; copy_of(&empty)?.is_empty());
-    Ok(())
+    let copy = granted(&rt, copy_of(&empty));
+    check!(rt; copy.is_empty());
+}
+
+// Creates a map of two sets, the second of which is empty.
+fn make_groups(alloc: Global) -> Result<VecMap<char, VecSet<u32>>, AllocError> {
+    Ok(vecmap!(alloc; 'a' => vecset!(alloc; 2, 1), 'b' => vecset!(alloc;)))
+}
+
+// Inserts an element into the set of a key.
+fn insert_into(
+    groups: &mut VecMap<char, VecSet<u32>>,
+    key: char,
+    element: u32,
+) -> Result<bool, AllocError> {
+    Ok(groups.entry(key).or_default()?.insert(element)?)
 }
 
 #[test]
-fn sets_in_maps_are_cloned(rt: HostRuntime) -> Result<(), Fail> {
-    let alloc = rt.alloc();
-    let groups = vecmap!(alloc; 'a' => vecset!(alloc; 2, 1), 'b' => vecset!(alloc;));
-    let mut copy = copy_of(&groups)?;
-    copy.entry('b').or_default()?.insert(3)?;
-    assert!(rt; groups.get(&'a').map(VecSet::as_slice) == Some([2, 1].as_slice()));
-    assert!(rt; groups.get(&'b').is_some_and(VecSet::is_empty));
-    assert!(rt; copy.get(&'a').map(VecSet::as_slice) == Some([2, 1].as_slice()));
-    assert!(rt; copy.get(&'b').map(VecSet::as_slice) == Some([3].as_slice()));
-    Ok(())
-}
-
-#[test]
-fn each_element_is_compared_with_its_clone_alone(rt: HostRuntime) -> Result<(), Fail> {
-    let log = Log::new();
-    let set = VecSet::from(vecmap_fixtures::told_items(rt.alloc(), &log, &[1, 2, 3, 4])?);
-    let before = log.comparisons();
-    let copy = copy_of(&set)?;
-    assert!(rt; log.comparisons() == before.wrapping_add(4));
-    assert!(rt; log.alive() == 8 && has_told(copy.as_slice(), &[1, 2, 3, 4]));
-    let inherent = set.clone()?;
-    assert!(rt;
-        log.comparisons() == before.wrapping_add(4) && has_told(inherent.as_slice(), &[1, 2, 3, 4])
+fn sets_in_maps_are_cloned(rt: HostRuntime) {
+    let groups = granted(&rt, make_groups(rt.alloc()));
+    let mut copy = granted(&rt, copy_of(&groups));
+    assert_gives(&rt, insert_into(&mut copy, 'b', 3), true);
+    assert_is(
+        &rt,
+        (
+            groups.get(&'a').map(VecSet::as_slice),
+            groups.get(&'b').map(VecSet::as_slice),
+        ),
+        (Some([2, 1].as_slice()), Some([].as_slice())),
     );
-    Ok(())
+    assert_is(
+        &rt,
+        (
+            copy.get(&'a').map(VecSet::as_slice),
+            copy.get(&'b').map(VecSet::as_slice),
+        ),
+        (Some([2, 1].as_slice()), Some([3].as_slice())),
+    );
 }
 
 #[test]
-fn a_refused_clone_by_the_trait_leaves_the_set(rt: HostRuntime) -> Result<(), Fail> {
+fn each_element_is_compared_with_its_clone_alone(rt: HostRuntime) {
     let log = Log::new();
-    let set = told_set(rt.alloc(), &log, &[1, 2, 3])?;
+    let set = granted(&rt, told_set(rt.alloc(), &log, &[1, 2, 3, 4]));
+    let before = log.comparisons();
+    let copy = granted(&rt, copy_of(&set));
+    assert_is(&rt, log.comparisons(), before.wrapping_add(4));
+    assert_is(&rt, log.alive(), 8);
+    assert_told(&rt, copy.as_slice(), &[1, 2, 3, 4]);
+    let inherent = granted(&rt, set.clone());
+    assert_is(&rt, log.comparisons(), before.wrapping_add(4));
+    assert_told(&rt, inherent.as_slice(), &[1, 2, 3, 4]);
+}
+
+#[test]
+fn a_refused_clone_by_the_trait_leaves_the_set(rt: HostRuntime) {
+    let log = Log::new();
+    let set = granted(&rt, told_set(rt.alloc(), &log, &[1, 2, 3]));
     for number in [1, 2, 3] {
         log.refuse_clones_of(number);
-        assert!(rt; copy_of(&set).is_err() && log.alive() == 3, "at {number}");
+        assert_is(
+            &rt,
+            (number, copy_of(&set).is_err(), log.alive()),
+            (number, true, 3),
+        );
     }
     log.refuse_clones_of(0);
-    let copy = copy_of(&set)?;
-    assert!(rt; log.alive() == 6 && has_told(copy.as_slice(), &[1, 2, 3]));
-    assert!(rt; has_told(set.as_slice(), &[1, 2, 3]));
-    Ok(())
+    let copy = granted(&rt, copy_of(&set));
+    assert_is(&rt, log.alive(), 6);
+    assert_told(&rt, copy.as_slice(), &[1, 2, 3]);
+    assert_told(&rt, set.as_slice(), &[1, 2, 3]);
 }
 
 /// An element whose clone is greater by `step`, or is 0 if `step` is 9.
@@ -83,18 +114,22 @@ fn make_restless(alloc: Global, step: u32) -> Result<VecSet<Restless>, AllocErro
     Ok(vecset!(alloc; Restless { number: 1, step }, Restless { number: 2, step }))
 }
 
+// Asserts that a set has exactly these numbers, in this order.
+fn assert_numbers(rt: &impl Abort, set: &VecSet<Restless>, expected: [u32; 2]) {
+    assert!(*rt;
+        set.iter().map(|item| item.number).eq(expected),
+        "{set:?} is not {expected:?}"
+    );
+}
+
 #[test]
-fn clones_that_differ_stay_if_they_are_distinct(rt: HostRuntime) -> Result<(), Fail> {
-    let alloc = rt.alloc();
-    for step in [0, 1, 5] {
-        let copy = copy_of(&make_restless(alloc, step)?)?;
-        let numbers = [1u32.wrapping_add(step), 2u32.wrapping_add(step)];
-        assert!(rt;
-            copy.iter().map(|item| item.number).eq(numbers),
-            "step {step}"
-        );
+fn clones_that_differ_stay_if_they_are_distinct(rt: HostRuntime) {
+    for (step, numbers) in [(0, [1, 2]), (1, [2, 3]), (5, [6, 7])] {
+        let set = granted(&rt, make_restless(rt.alloc(), step));
+        let copy = granted(&rt, copy_of(&set));
+        assert_numbers(&rt, &copy, numbers);
     }
-    let set = make_restless(alloc, 9)?;
-    assert!(rt; copy_of(&set).is_err() && set.iter().map(|item| item.number).eq([1, 2]));
-    Ok(())
+    let set = granted(&rt, make_restless(rt.alloc(), 9));
+    assert_refused(&rt, copy_of(&set));
+    assert_numbers(&rt, &set, [1, 2]);
 }

@@ -1,24 +1,23 @@
 //! The trait `Extend` of sets, as generic code, `try_collect` and `partition` call it.
+use crate::checks::{assert_granted, assert_items, assert_list, assert_refused, granted};
 use std::alloc::AllocError;
-use std::test::Fail;
 use vecmap::VecSet;
-use vecmap_fixtures::{Item, has_items, item_set, make_item};
+use vecmap_fixtures::{Item, item_set, make_item};
 
 const ALL: &[(u32, char)] = &[(1, 'a'), (2, 'b'), (3, 'c')];
 
 #[test]
-fn extend_by_the_trait_adds_in_order(rt: HostRuntime) -> Result<(), Fail> {
+fn extend_by_the_trait_adds_in_order(rt: HostRuntime) {
     let more = [make_item(2, 'y'), make_item(3, 'c'), make_item(3, 'z')];
-    let mut set = item_set(rt.alloc(), &[(1, 'a'), (2, 'b')])?;
-    Extend::extend(&mut set, more)?;
-    assert!(rt; has_items(set.as_slice(), ALL));
-    let mut copied = item_set(rt.alloc(), &[(1, 'a'), (2, 'b')])?;
-    Extend::extend(&mut copied, &more)?;
-    assert!(rt; has_items(copied.as_slice(), ALL));
+    let mut set = granted(&rt, item_set(rt.alloc(), &[(1, 'a'), (2, 'b')]));
+    assert_granted(&rt, Extend::extend(&mut set, more));
+    assert_items(&rt, &set, ALL);
+    let mut copied = granted(&rt, item_set(rt.alloc(), &[(1, 'a'), (2, 'b')]));
+    assert_granted(&rt, Extend::extend(&mut copied, &more));
+    assert_items(&rt, &copied, ALL);
     let none: [Item; 0] = [];
-    Extend::extend(&mut set, none)?;
-    assert!(rt; has_items(set.as_slice(), ALL));
-    Ok(())
+    assert_granted(&rt, Extend::extend(&mut set, none));
+    assert_items(&rt, &set, ALL);
 }
 
 // Returns ten times a number, or an error.
@@ -27,26 +26,26 @@ fn tenfold(number: u32) -> Result<u32, AllocError> {
 }
 
 #[test]
-fn try_collect_makes_a_set_or_returns_the_error(rt: HostRuntime) -> Result<(), Fail> {
+fn try_collect_makes_a_set_or_returns_the_error(rt: HostRuntime) {
     let alloc = rt.alloc();
-    let set: VecSet<u32> = [2, 1, 2, 3]
+    let made: Result<VecSet<u32>, AllocError> = [2, 1, 2, 3]
         .iter()
         .map(|number| tenfold(*number))
-        .try_collect(alloc)?;
-    assert!(rt; set.as_slice() == [20, 10, 30].as_slice());
+        .try_collect(alloc);
+    assert_list(&rt, granted(&rt, made).as_slice(), &[20, 10, 30]);
     let refused: Result<VecSet<u32>, AllocError> = [2, u32::MAX, 1]
         .iter()
         .map(|number| tenfold(*number))
         .try_collect(alloc);
-    assert!(rt; refused.is_err());
-    Ok(())
+    assert_refused(&rt, refused);
 }
 
 #[test]
-fn partition_makes_two_sets_in_order(rt: HostRuntime) -> Result<(), Fail> {
-    let (odd, even): (VecSet<u32>, VecSet<u32>) = [3, 4, 1, 3, 2]
+fn partition_makes_two_sets_in_order(rt: HostRuntime) {
+    let made: Result<(VecSet<u32>, VecSet<u32>), AllocError> = [3, 4, 1, 3, 2]
         .into_iter()
-        .partition(rt.alloc(), |item| *item % 2 == 1)?;
-    assert!(rt; odd.as_slice() == [3, 1].as_slice() && even.as_slice() == [4, 2].as_slice());
-    Ok(())
+        .partition(rt.alloc(), |item| *item % 2 == 1);
+    let (odd, even) = granted(&rt, made);
+    assert_list(&rt, odd.as_slice(), &[3, 1]);
+    assert_list(&rt, even.as_slice(), &[4, 2]);
 }

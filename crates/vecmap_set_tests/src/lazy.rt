@@ -1,7 +1,10 @@
 //! The iterators of `difference`, `intersection`, `symmetric_difference` and `union`.
-use std::test::Fail;
+ghost use Rattle.std.specs.Iterator.{IsFinite};
+
+use crate::checks::{assert_is, assert_item, assert_text, check, granted};
+use std::process::Abort;
 use vecmap::VecSet;
-use vecmap_fixtures::{Log, item_set, set_of, told_items};
+use vecmap_fixtures::{Item, Log, item_set, set_of, told_set};
 
 // What is left of one list: the range of indices not yet visited, and the indices of the elements that are kept.
 #[derive(Clone, Copy)]
@@ -160,32 +163,43 @@ const CASES: &[Case] = &[
     },
 ];
 
-// Checks every mixture of six calls of `next` and `next_back`, with the hint at each step, and with a clone after the
-// second call that continues by itself.
+// Asserts that as many calls as `count` says return what is left, with the hint before each call and after the last.
+// Each bit of `ends` says from which end the next item is taken: 0 from the front, 1 from the back.
+fn assert_next<'a, I: DoubleEndedIterator<Item = &'a Item>>(
+    rt: &impl Abort,
+    iter: &mut I,
+    left: &mut Parts<'_>,
+    mut ends: u32,
+    count: u32,
+)
+    requires front { (it : I) → I.can_next it }
+    requires back { (it : I) → I.can_next_back it }
+{
+    for _call in 0..count {
+        assert_eq!(*rt; iter.size_hint(), left.hint());
+        let (item, expected) = if ends & 1 == 0 {
+            (iter.next(), left.front())
+        } else {
+            (iter.next_back(), left.back())
+        };
+        assert_eq!(*rt; item.map(|item| (item.number, item.mark)), expected);
+        ends >>= 1;
+    }
+    assert_eq!(*rt; iter.size_hint(), left.hint());
+}
+
+// Asserts what every mixture of six calls of `next` and `next_back` returns, with the hint at each step, and with a
+// clone after the second call that continues by itself.
 macro_rules! assert_pulls {
-    ($rt:expr, $iter:expr, $left:expr) => {
+    ($rt:ident; $iter:expr, $left:expr) => {
         for ends in 0..64_u32 {
             let mut iter = $iter;
             let mut left: Parts<'_> = $left;
-            for step in 0..6_u32 {
-                assert!($rt; iter.size_hint() == left.hint());
-                let (item, expected) = if ends >> step & 1 == 0 {
-                    (iter.next(), left.front())
-                } else {
-                    (iter.next_back(), left.back())
-                };
-                assert!($rt; item.map(|item| (item.number, item.mark)) == expected);
-                if step == 1 {
-                    let mut copy = iter.clone();
-                    let mut copy_left = left;
-                    for _pull in 0..6 {
-                        let item = copy.next().map(|item| (item.number, item.mark));
-                        assert!($rt; item == copy_left.front());
-                        assert!($rt; copy.size_hint() == copy_left.hint());
-                    }
-                }
-            }
-            assert!($rt; iter.size_hint() == left.hint());
+            assert_next(&$rt, &mut iter, &mut left, ends, 2);
+            let mut copy = iter.clone();
+            let mut copy_left = left;
+            assert_next(&$rt, &mut copy, &mut copy_left, 0, 6);
+            assert_next(&$rt, &mut iter, &mut left, ends >> 2, 4);
         }
     };
 }
@@ -198,29 +212,24 @@ const NONE: Left<'static> = Left {
 };
 
 #[test]
-fn a_difference_is_exact_for_every_mixture_of_next_and_next_back(
-    rt: HostRuntime,
-) -> Result<(), Fail> {
+fn a_difference_is_exact_for_every_mixture_of_next_and_next_back(rt: HostRuntime) {
     for case in CASES {
-        let a = item_set(rt.alloc(), case.left)?;
-        let b = item_set(rt.alloc(), case.right)?;
+        let a = granted(&rt, item_set(rt.alloc(), case.left));
+        let b = granted(&rt, item_set(rt.alloc(), case.right));
         let left = Parts {
             first: all_of(case.left, case.left_alone),
             second: NONE,
             is_whole: false,
         };
-        assert_pulls!(rt, a.difference(&b), left);
+        assert_pulls!(rt; a.difference(&b), left);
     }
-    Ok(())
 }
 
 #[test]
-fn an_intersection_is_exact_for_every_mixture_of_next_and_next_back(
-    rt: HostRuntime,
-) -> Result<(), Fail> {
+fn an_intersection_is_exact_for_every_mixture_of_next_and_next_back(rt: HostRuntime) {
     for case in CASES {
-        let a = item_set(rt.alloc(), case.left)?;
-        let b = item_set(rt.alloc(), case.right)?;
+        let a = granted(&rt, item_set(rt.alloc(), case.left));
+        let b = granted(&rt, item_set(rt.alloc(), case.right));
         let first = if case.right.len() < case.left.len() {
             all_of(case.right, case.right_shared)
         } else {
@@ -231,33 +240,29 @@ fn an_intersection_is_exact_for_every_mixture_of_next_and_next_back(
             second: NONE,
             is_whole: false,
         };
-        assert_pulls!(rt, a.intersection(&b), left);
+        assert_pulls!(rt; a.intersection(&b), left);
     }
-    Ok(())
 }
 
 #[test]
-fn a_symmetric_difference_is_exact_for_every_mixture_of_next_and_next_back(
-    rt: HostRuntime,
-) -> Result<(), Fail> {
+fn a_symmetric_difference_is_exact_for_every_mixture_of_next_and_next_back(rt: HostRuntime) {
     for case in CASES {
-        let a = item_set(rt.alloc(), case.left)?;
-        let b = item_set(rt.alloc(), case.right)?;
+        let a = granted(&rt, item_set(rt.alloc(), case.left));
+        let b = granted(&rt, item_set(rt.alloc(), case.right));
         let left = Parts {
             first: all_of(case.left, case.left_alone),
             second: all_of(case.right, case.right_alone),
             is_whole: false,
         };
-        assert_pulls!(rt, a.symmetric_difference(&b), left);
+        assert_pulls!(rt; a.symmetric_difference(&b), left);
     }
-    Ok(())
 }
 
 #[test]
-fn a_union_is_exact_for_every_mixture_of_next_and_next_back(rt: HostRuntime) -> Result<(), Fail> {
+fn a_union_is_exact_for_every_mixture_of_next_and_next_back(rt: HostRuntime) {
     for case in CASES {
-        let a = item_set(rt.alloc(), case.left)?;
-        let b = item_set(rt.alloc(), case.right)?;
+        let a = granted(&rt, item_set(rt.alloc(), case.left));
+        let b = granted(&rt, item_set(rt.alloc(), case.right));
         let (first, second) = if case.left.len() < case.right.len() {
             (
                 all_of(case.right, &[0, 1, 2, 3]),
@@ -274,143 +279,166 @@ fn a_union_is_exact_for_every_mixture_of_next_and_next_back(rt: HostRuntime) -> 
             second,
             is_whole: true,
         };
-        assert_pulls!(rt, a.union(&b), left);
+        assert_pulls!(rt; a.union(&b), left);
     }
-    Ok(())
 }
 
 #[test]
-fn size_hints_follow_the_calls_of_next(rt: HostRuntime) -> Result<(), Fail> {
-    let a = set_of(rt.alloc(), &[1, 2, 3, 4])?;
-    let b = set_of(rt.alloc(), &[2, 4])?;
+fn size_hints_follow_the_calls_of_next(rt: HostRuntime) {
+    let a = granted(&rt, set_of(rt.alloc(), &[1, 2, 3, 4]));
+    let b = granted(&rt, set_of(rt.alloc(), &[2, 4]));
     let mut lacking = a.difference(&b);
-    assert!(rt; lacking.size_hint() == (0, Some(4)));
-    assert!(rt; lacking.next_back() == Some(&3));
-    assert!(rt; lacking.size_hint() == (0, Some(2)));
-    assert!(rt; lacking.next() == Some(&1));
-    assert!(rt; lacking.size_hint() == (0, Some(1)));
-    assert!(rt; lacking.next_back() == None);
-    assert!(rt; lacking.size_hint() == (0, Some(0)));
-    let a = set_of(rt.alloc(), &[1, 2, 3])?;
-    let b = set_of(rt.alloc(), &[3, 4])?;
+    assert_is(&rt, lacking.size_hint(), (0, Some(4)));
+    assert_is(&rt, lacking.next_back(), Some(&3));
+    assert_is(&rt, lacking.size_hint(), (0, Some(2)));
+    assert_is(&rt, lacking.next(), Some(&1));
+    assert_is(&rt, lacking.size_hint(), (0, Some(1)));
+    assert_is(&rt, lacking.next_back(), None);
+    assert_is(&rt, lacking.size_hint(), (0, Some(0)));
+    let a = granted(&rt, set_of(rt.alloc(), &[1, 2, 3]));
+    let b = granted(&rt, set_of(rt.alloc(), &[3, 4]));
     let mut all = a.union(&b);
-    assert!(rt; all.size_hint() == (3, Some(5)));
-    assert!(rt; all.next_back() == Some(&4));
-    assert!(rt; all.next() == Some(&1));
-    assert!(rt; all.next_back() == Some(&3));
-    assert!(rt; all.next() == Some(&2));
-    assert!(rt; all.next() == None);
-    assert!(rt; all.next_back() == None);
-    Ok(())
+    assert_is(&rt, all.size_hint(), (3, Some(5)));
+    assert_is(&rt, all.next_back(), Some(&4));
+    assert_is(&rt, all.next(), Some(&1));
+    assert_is(&rt, all.next_back(), Some(&3));
+    assert_is(&rt, all.next(), Some(&2));
+    assert_is(&rt, (all.next(), all.next_back()), (None, None));
 }
 
 #[test]
-fn a_union_and_its_clone_are_independent(rt: HostRuntime) -> Result<(), Fail> {
-    let a = set_of(rt.alloc(), &[1, 2])?;
-    let b = set_of(rt.alloc(), &[2, 3])?;
+fn a_union_and_its_clone_are_independent(rt: HostRuntime) {
+    let a = granted(&rt, set_of(rt.alloc(), &[1, 2]));
+    let b = granted(&rt, set_of(rt.alloc(), &[2, 3]));
     let mut all = a.union(&b);
-    assert!(rt; all.next() == Some(&1) && all.next_back() == Some(&3));
+    assert_is(&rt, (all.next(), all.next_back()), (Some(&1), Some(&3)));
     let copy = all.clone();
     for mut left in [all, copy] {
-        assert!(rt; left.next_back() == Some(&2));
-        assert!(rt; left.next_back().is_none() && left.next().is_none());
+        assert_is(&rt, left.next_back(), Some(&2));
+        assert_is(&rt, (left.next_back(), left.next()), (None, None));
     }
-    Ok(())
+}
+
+// Asserts that an iterator returns exactly these numbers, in this order.
+fn assert_all<'a, I: Iterator<Item = &'a u32> + Drop>(
+    rt: &impl Abort,
+    items: I,
+    expected: &'a [u32],
+)
+    requires can { I.can_next items }
+    requires ends { IsFinite (I.remaining items) }
+{
+    assert!(*rt; items.eq(expected), "not {expected:?}");
 }
 
 #[test]
-fn lazy_iterators_keep_the_order(rt: HostRuntime) -> Result<(), Fail> {
-    let a = set_of(rt.alloc(), &[1, 2, 3])?;
-    let b = VecSet::from([4, 2, 3, 4].to_vec(rt.alloc())?);
-    let difference: Vec<u32> = a.difference(&b).copied().collect(rt.alloc())?;
-    assert!(rt; difference.as_slice() == [1].as_slice());
-    let intersection: Vec<u32> = a.intersection(&b).copied().collect(rt.alloc())?;
-    assert!(rt; intersection.as_slice() == [2, 3].as_slice());
-    let apart: Vec<u32> = a.symmetric_difference(&b).copied().collect(rt.alloc())?;
-    assert!(rt; apart.as_slice() == [1, 4].as_slice());
-    let all: Vec<u32> = a.union(&b).copied().collect(rt.alloc())?;
-    assert!(rt; all.as_slice() == [1, 2, 3, 4].as_slice());
-    let a = set_of(rt.alloc(), &[3, 2, 1])?;
-    let b = set_of(rt.alloc(), &[1, 2])?;
-    let shared: Vec<u32> = a.intersection(&b).copied().collect(rt.alloc())?;
-    assert!(rt; shared.as_slice() == [1, 2].as_slice());
-    let a = set_of(rt.alloc(), &[1])?;
-    let b = set_of(rt.alloc(), &[2, 3])?;
-    let all: Vec<u32> = a.union(&b).copied().collect(rt.alloc())?;
-    assert!(rt; all.as_slice() == [2, 3, 1].as_slice());
-    Ok(())
+fn lazy_iterators_keep_the_order(rt: HostRuntime) {
+    let a = granted(&rt, set_of(rt.alloc(), &[1, 2, 3]));
+    let b = VecSet::from(granted(&rt, [4, 2, 3, 4].to_vec(rt.alloc())));
+    assert_all(&rt, a.difference(&b), &[1]);
+    assert_all(&rt, a.intersection(&b), &[2, 3]);
+    assert_all(&rt, a.symmetric_difference(&b), &[1, 4]);
+    assert_all(&rt, a.union(&b), &[1, 2, 3, 4]);
+    let a = granted(&rt, set_of(rt.alloc(), &[3, 2, 1]));
+    let b = granted(&rt, set_of(rt.alloc(), &[1, 2]));
+    assert_all(&rt, a.intersection(&b), &[1, 2]);
+    let a = granted(&rt, set_of(rt.alloc(), &[1]));
+    let b = granted(&rt, set_of(rt.alloc(), &[2, 3]));
+    assert_all(&rt, a.union(&b), &[2, 3, 1]);
 }
 
-// Checks that each of these calls makes as many comparisons as expected.
-macro_rules! assert_comparisons {
-    ($rt:expr, $log:expr, $iter:ident.$pull:ident, $expected:expr) => {
-        for expected in $expected {
-            let before = $log.comparisons();
-            let _item = $iter.$pull();
-            assert!($rt; $log.comparisons().wrapping_sub(before) == expected);
-        }
-    };
+// Asserts how many comparisons each of these calls of `next` makes.
+fn assert_comparisons<I: Iterator + Drop>(
+    rt: &impl Abort,
+    log: &Log,
+    mut items: I,
+    expected: &[u32],
+)
+where
+    I::Item: Drop,
+    requires front { (it : I) → I.can_next it }
+{
+    for wanted in expected {
+        let before = log.comparisons();
+        let _item = items.next();
+        assert_eq!(*rt; log.comparisons().wrapping_sub(before), *wanted);
+    }
+}
+
+// The same for `next_back`.
+fn assert_comparisons_back<I: DoubleEndedIterator + Drop>(
+    rt: &impl Abort,
+    log: &Log,
+    mut items: I,
+    expected: &[u32],
+)
+where
+    I::Item: Drop,
+    requires back { (it : I) → I.can_next_back it }
+{
+    for wanted in expected {
+        let before = log.comparisons();
+        let _item = items.next_back();
+        assert_eq!(*rt; log.comparisons().wrapping_sub(before), *wanted);
+    }
 }
 
 #[test]
-fn calls_of_next_compare_no_more_than_they_need(rt: HostRuntime) -> Result<(), Fail> {
+fn calls_of_next_compare_no_more_than_they_need(rt: HostRuntime) {
     let log = Log::new();
-    let a = VecSet::from(told_items(rt.alloc(), &log, &[1, 2, 3, 4])?);
-    let b = VecSet::from(told_items(rt.alloc(), &log, &[2, 4])?);
+    let a = granted(&rt, told_set(rt.alloc(), &log, &[1, 2, 3, 4]));
+    let b = granted(&rt, told_set(rt.alloc(), &log, &[2, 4]));
     let made = log.comparisons();
-    let mut lacking = a.difference(&b);
-    let mut lacking_back = lacking.clone();
-    let mut shared = a.intersection(&b);
-    let mut shared_back = shared.clone();
-    let mut apart = a.symmetric_difference(&b);
-    let mut apart_back = apart.clone();
-    let mut all = a.union(&b);
-    let mut all_back = all.clone();
+    let lacking = a.difference(&b);
+    let lacking_back = lacking.clone();
+    let shared = a.intersection(&b);
+    let shared_back = shared.clone();
+    let apart = a.symmetric_difference(&b);
+    let apart_back = apart.clone();
+    let all = a.union(&b);
+    let all_back = all.clone();
     let _hints = (lacking.size_hint(), all.size_hint());
-    assert!(rt; log.comparisons() == made);
-    assert_comparisons!(rt, log, lacking.next, [2, 3, 2, 0]);
-    assert_comparisons!(rt, log, lacking_back.next_back, [4, 3, 0, 0]);
-    assert_comparisons!(rt, log, shared.next, [2, 4, 0]);
-    assert_comparisons!(rt, log, shared_back.next_back, [4, 2, 0]);
-    assert_comparisons!(rt, log, apart.next, [2, 3, 8, 0]);
-    assert_comparisons!(rt, log, apart_back.next_back, [10, 3, 0, 0]);
-    assert_comparisons!(rt, log, all.next, [0, 0, 0, 0, 6, 0]);
-    assert_comparisons!(rt, log, all_back.next_back, [6, 0, 0, 0, 0]);
-    Ok(())
+    assert_is(&rt, log.comparisons(), made);
+    assert_comparisons(&rt, &log, lacking, &[2, 3, 2, 0]);
+    assert_comparisons_back(&rt, &log, lacking_back, &[4, 3, 0, 0]);
+    assert_comparisons(&rt, &log, shared, &[2, 4, 0]);
+    assert_comparisons_back(&rt, &log, shared_back, &[4, 2, 0]);
+    assert_comparisons(&rt, &log, apart, &[2, 3, 8, 0]);
+    assert_comparisons_back(&rt, &log, apart_back, &[10, 3, 0, 0]);
+    assert_comparisons(&rt, &log, all, &[0, 0, 0, 0, 6, 0]);
+    assert_comparisons_back(&rt, &log, all_back, &[6, 0, 0, 0, 0]);
 }
 
 #[test]
-fn what_is_left_is_printed(rt: HostRuntime) -> Result<(), Fail> {
-    let a = set_of(rt.alloc(), &[1, 2, 3])?;
-    let b = set_of(rt.alloc(), &[4, 2, 3])?;
+fn what_is_left_is_printed(rt: HostRuntime) {
+    let a = granted(&rt, set_of(rt.alloc(), &[1, 2, 3]));
+    let b = granted(&rt, set_of(rt.alloc(), &[4, 2, 3]));
     let mut all = a.union(&b);
     let _first = all.next();
     let (lacking, shared) = (a.difference(&b), a.intersection(&b));
     let apart = a.symmetric_difference(&b);
-    let text = format!(in rt.alloc(); "{lacking:?} {shared:?} {apart:?} {all:?}")?;
-    assert!(rt; text.as_str() == "[1] [2, 3] [1, 4] [2, 3, 4]");
-    Ok(())
+    assert_text(
+        &rt,
+        format!(in rt.alloc(); "{lacking:?} {shared:?} {apart:?} {all:?}"),
+        "[1] [2, 3] [1, 4] [2, 3, 4]",
+    );
 }
 
 #[test]
-fn an_intersection_returns_the_element_of_the_shorter_set(rt: HostRuntime) -> Result<(), Fail> {
-    let a = item_set(rt.alloc(), &[(1, 'x'), (2, 'y')])?;
-    let b = item_set(rt.alloc(), &[(2, 'z')])?;
+fn an_intersection_returns_the_element_of_the_shorter_set(rt: HostRuntime) {
+    let a = granted(&rt, item_set(rt.alloc(), &[(1, 'x'), (2, 'y')]));
+    let b = granted(&rt, item_set(rt.alloc(), &[(2, 'z')]));
     for mut shared in [a.intersection(&b), b.intersection(&a)] {
-        assert!(rt; shared.next().map(|item| (item.number, item.mark)) == Some((2, 'z')));
-        assert!(rt; shared.next().is_none());
+        assert_item(&rt, shared.next(), (2, 'z'));
+        check!(rt; shared.next().is_none());
     }
-    Ok(())
 }
 
 #[test]
-fn an_intersection_of_equally_long_sets_returns_the_element_of_the_left_one(
-    rt: HostRuntime,
-) -> Result<(), Fail> {
-    let a = item_set(rt.alloc(), &[(2, 'y')])?;
-    let b = item_set(rt.alloc(), &[(2, 'z')])?;
+fn an_intersection_of_equally_long_sets_returns_the_element_of_the_left_one(rt: HostRuntime) {
+    let a = granted(&rt, item_set(rt.alloc(), &[(2, 'y')]));
+    let b = granted(&rt, item_set(rt.alloc(), &[(2, 'z')]));
     let mut shared = a.intersection(&b);
-    assert!(rt; shared.next().map(|item| (item.number, item.mark)) == Some((2, 'y')));
-    assert!(rt; shared.next().is_none());
-    Ok(())
+    assert_item(&rt, shared.next(), (2, 'y'));
+    check!(rt; shared.next().is_none());
 }

@@ -4,12 +4,16 @@
 //! - `clones`: elements whose clones are refused.
 //! - `drops`: each element that is passed is dropped once, or returned.
 //! - `no_size`: elements of no size.
+//!
+//! `checks` has the functions by which they assert.
 #![tactic(auto)]
 
 #[cfg(test)]
 mod bulk;
 #[cfg(test)]
 mod by_reference;
+#[cfg(test)]
+mod checks;
 #[cfg(test)]
 mod clones;
 #[cfg(test)]

@@ -1,13 +1,13 @@
 //! The allocator of a set.
-use std::test::Fail;
+use crate::checks::{assert_granted, assert_is, check, granted};
 use vecmap::VecSet;
 
 #[test]
-fn the_allocator_serves_texts_and_further_sets(rt: HostRuntime) -> Result<(), Fail> {
+fn the_allocator_serves_texts_and_further_sets(rt: HostRuntime) {
     let set: VecSet<u32> = VecSet::new(rt.alloc());
-    let text = String::from_str(*set.allocator(), "a")?;
+    let text = granted(&rt, String::from_str(*set.allocator(), "a"));
     let mut names = VecSet::new(*set.allocator());
-    names.insert(text)?;
-    assert!(rt; names.contains("a") && set.capacity() == 0);
-    Ok(())
+    assert_granted(&rt, names.insert(text));
+    check!(rt; names.contains("a"));
+    assert_is(&rt, set.capacity(), 0);
 }

@@ -1,10 +1,20 @@
 //! `&`, `|`, `^` and `-`.
-use std::test::Fail;
+use crate::checks::{assert_items, assert_list, assert_texts, granted};
+use std::alloc::AllocError;
+use std::process::Abort;
 use vecmap::VecSet;
-use vecmap_fixtures::{has_items, has_texts, item_set, set_of, text_set};
+use vecmap_fixtures::{item_set, set_of, text_set};
+
+// Asserts that an operator was not refused memory, and that its set has exactly these numbers, in this order.
+fn assert_numbers(rt: &impl Abort, made: Result<VecSet<u32>, AllocError>, expected: &[u32]) {
+    match made {
+        Ok(set) => assert_eq!(*rt; set.as_slice(), expected),
+        Err(_) => panic!(*rt; "refused, and not {expected:?}"),
+    }
+}
 
 #[test]
-fn operators_keep_the_order_of_the_left_set(rt: HostRuntime) -> Result<(), Fail> {
+fn operators_keep_the_order_of_the_left_set(rt: HostRuntime) {
     for (left, right, and, or, xor, minus) in [
         (
             [3, 2, 1].as_slice(),
@@ -55,42 +65,39 @@ fn operators_keep_the_order_of_the_left_set(rt: HostRuntime) -> Result<(), Fail>
             [2, 1].as_slice(),
         ),
     ] {
-        let a: VecSet<u32> = set_of(rt.alloc(), left)?;
-        let b: VecSet<u32> = set_of(rt.alloc(), right)?;
-        assert!(rt; (&a & &b)?.as_slice() == and, "{a:?} and {b:?}");
-        assert!(rt; (&a | &b)?.as_slice() == or, "{a:?} and {b:?}");
-        assert!(rt; (&a ^ &b)?.as_slice() == xor, "{a:?} and {b:?}");
-        assert!(rt; (&a - &b)?.as_slice() == minus, "{a:?} and {b:?}");
-        assert!(rt; a.as_slice() == left);
-        assert!(rt; b.as_slice() == right);
+        let a: VecSet<u32> = granted(&rt, set_of(rt.alloc(), left));
+        let b: VecSet<u32> = granted(&rt, set_of(rt.alloc(), right));
+        assert_numbers(&rt, &a & &b, and);
+        assert_numbers(&rt, &a | &b, or);
+        assert_numbers(&rt, &a ^ &b, xor);
+        assert_numbers(&rt, &a - &b, minus);
+        assert_list(&rt, a.as_slice(), left);
+        assert_list(&rt, b.as_slice(), right);
     }
-    Ok(())
 }
 
 #[test]
-fn of_two_equal_elements_the_left_one_is_cloned(rt: HostRuntime) -> Result<(), Fail> {
-    let a = item_set(rt.alloc(), &[(1, 'x'), (2, 'y')])?;
-    let b = item_set(rt.alloc(), &[(2, 'z')])?;
-    assert!(rt; has_items((&a & &b)?.as_slice(), &[(2, 'y')]));
-    assert!(rt; has_items((&b & &a)?.as_slice(), &[(2, 'z')]));
-    assert!(rt; has_items((&a | &b)?.as_slice(), &[(1, 'x'), (2, 'y')]));
-    assert!(rt; has_items((&b | &a)?.as_slice(), &[(2, 'z'), (1, 'x')]));
-    assert!(rt; has_items((&a ^ &b)?.as_slice(), &[(1, 'x')]));
-    assert!(rt; has_items((&b ^ &a)?.as_slice(), &[(1, 'x')]));
-    assert!(rt; has_items((&a - &b)?.as_slice(), &[(1, 'x')]));
-    assert!(rt; has_items((&b - &a)?.as_slice(), &[]));
-    Ok(())
+fn of_two_equal_elements_the_left_one_is_cloned(rt: HostRuntime) {
+    let a = granted(&rt, item_set(rt.alloc(), &[(1, 'x'), (2, 'y')]));
+    let b = granted(&rt, item_set(rt.alloc(), &[(2, 'z')]));
+    assert_items(&rt, &granted(&rt, &a & &b), &[(2, 'y')]);
+    assert_items(&rt, &granted(&rt, &b & &a), &[(2, 'z')]);
+    assert_items(&rt, &granted(&rt, &a | &b), &[(1, 'x'), (2, 'y')]);
+    assert_items(&rt, &granted(&rt, &b | &a), &[(2, 'z'), (1, 'x')]);
+    assert_items(&rt, &granted(&rt, &a ^ &b), &[(1, 'x')]);
+    assert_items(&rt, &granted(&rt, &b ^ &a), &[(1, 'x')]);
+    assert_items(&rt, &granted(&rt, &a - &b), &[(1, 'x')]);
+    assert_items(&rt, &granted(&rt, &b - &a), &[]);
 }
 
 #[test]
-fn operators_clone_elements_with_memory_of_their_own(rt: HostRuntime) -> Result<(), Fail> {
-    let a = text_set(rt.alloc(), &["b", "a"])?;
-    let b = text_set(rt.alloc(), &["c", "b"])?;
-    assert!(rt; has_texts((&a & &b)?.as_slice(), &["b"]));
-    assert!(rt; has_texts((&a | &b)?.as_slice(), &["b", "a", "c"]));
-    assert!(rt; has_texts((&a ^ &b)?.as_slice(), &["a", "c"]));
-    assert!(rt; has_texts((&a - &b)?.as_slice(), &["a"]));
-    assert!(rt; has_texts(a.as_slice(), &["b", "a"]));
-    assert!(rt; has_texts(b.as_slice(), &["c", "b"]));
-    Ok(())
+fn operators_clone_elements_with_memory_of_their_own(rt: HostRuntime) {
+    let a = granted(&rt, text_set(rt.alloc(), &["b", "a"]));
+    let b = granted(&rt, text_set(rt.alloc(), &["c", "b"]));
+    assert_texts(&rt, &granted(&rt, &a & &b), &["b"]);
+    assert_texts(&rt, &granted(&rt, &a | &b), &["b", "a", "c"]);
+    assert_texts(&rt, &granted(&rt, &a ^ &b), &["a", "c"]);
+    assert_texts(&rt, &granted(&rt, &a - &b), &["a"]);
+    assert_texts(&rt, &a, &["b", "a"]);
+    assert_texts(&rt, &b, &["c", "b"]);
 }

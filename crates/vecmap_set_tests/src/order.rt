@@ -1,10 +1,11 @@
 //! The order of a set's elements.
+use crate::checks::{assert_granted, assert_is, assert_items, assert_list, check, granted};
 use std::alloc::{AllocError, Global};
 use std::cell::Cell;
 use std::cmp::Ordering;
-use std::test::Fail;
+use std::process::Abort;
 use vecmap::VecSet;
-use vecmap_fixtures::{has_items, item_set, set_of};
+use vecmap_fixtures::{item_set, set_of};
 
 // Creates a set of the numbers below `count`, in ascending or descending order.
 fn shaped_set(alloc: Global, falls: bool, count: u32) -> Result<VecSet<u32>, AllocError> {
@@ -27,76 +28,84 @@ fn rises(set: &VecSet<u32>, count: u32) -> bool {
 }
 
 #[test]
-fn swap_indices_and_reverse_move_elements(rt: HostRuntime) -> Result<(), Fail> {
-    let mut set = set_of(rt.alloc(), &[1, 2, 3, 4])?;
+fn swap_indices_and_reverse_move_elements(rt: HostRuntime) {
+    let mut set = granted(&rt, set_of(rt.alloc(), &[1, 2, 3, 4]));
     assert!(rt; set.len() == 4);
     set.swap_indices(1, 3);
-    assert!(rt; set.as_slice() == [1, 4, 3, 2].as_slice());
+    assert_list(&rt, set.as_slice(), &[1, 4, 3, 2]);
     set.reverse();
-    assert!(rt; set.as_slice() == [2, 3, 4, 1].as_slice());
-    Ok(())
+    assert_list(&rt, set.as_slice(), &[2, 3, 4, 1]);
 }
 
 #[test]
-fn sorts_leave_a_set_in_order(rt: HostRuntime) -> Result<(), Fail> {
-    let mut set = set_of(rt.alloc(), &[3, 1, 2])?;
+fn sorts_leave_a_set_in_order(rt: HostRuntime) {
+    let mut set = granted(&rt, set_of(rt.alloc(), &[3, 1, 2]));
     set.sort_unstable();
-    assert!(rt; set.as_slice() == [1, 2, 3].as_slice());
+    assert_list(&rt, set.as_slice(), &[1, 2, 3]);
     set.sort_unstable_by(|a, b| b.cmp(a));
-    assert!(rt; set.as_slice() == [3, 2, 1].as_slice());
+    assert_list(&rt, set.as_slice(), &[3, 2, 1]);
     let room = set.capacity();
-    set.sort()?;
-    assert!(rt; set.as_slice() == [1, 2, 3].as_slice());
-    set.sort_by(|a, b| b.cmp(a))?;
-    assert!(rt; set.as_slice() == [3, 2, 1].as_slice());
+    assert_granted(&rt, set.sort());
+    assert_list(&rt, set.as_slice(), &[1, 2, 3]);
+    assert_granted(&rt, set.sort_by(|a, b| b.cmp(a)));
+    assert_list(&rt, set.as_slice(), &[3, 2, 1]);
     let calls = Cell::new(0u32);
-    set.sort_by_cached_key(|item| {
+    let sorted = set.sort_by_cached_key(|item| {
         calls.set(calls.get().wrapping_add(1));
         *item
-    })?;
-    assert!(rt; set.as_slice() == [1, 2, 3].as_slice());
-    assert!(rt; calls.get() <= 3 && set.capacity() == room);
-    Ok(())
+    });
+    assert_granted(&rt, sorted);
+    assert_list(&rt, set.as_slice(), &[1, 2, 3]);
+    check!(rt; calls.get() <= 3);
+    assert_is(&rt, set.capacity(), room);
 }
 
 #[test]
-fn stable_sorts_leave_ties_in_their_order(rt: HostRuntime) -> Result<(), Fail> {
+fn stable_sorts_leave_ties_in_their_order(rt: HostRuntime) {
     let mixed = [(4, 'b'), (1, 'a'), (3, 'b'), (2, 'a')];
     let by_mark = [(1, 'a'), (2, 'a'), (4, 'b'), (3, 'b')];
-    let mut set = item_set(rt.alloc(), &mixed)?;
-    set.sort_by(|a, b| a.mark.cmp(&b.mark))?;
-    assert!(rt; has_items(set.as_slice(), &by_mark));
-    let mut set = item_set(rt.alloc(), &mixed)?;
-    set.sort_by_cached_key(|item| item.mark)?;
-    assert!(rt; has_items(set.as_slice(), &by_mark));
-    Ok(())
+    let mut set = granted(&rt, item_set(rt.alloc(), &mixed));
+    assert_granted(&rt, set.sort_by(|a, b| a.mark.cmp(&b.mark)));
+    assert_items(&rt, &set, &by_mark);
+    let mut set = granted(&rt, item_set(rt.alloc(), &mixed));
+    assert_granted(&rt, set.sort_by_cached_key(|item| item.mark));
+    assert_items(&rt, &set, &by_mark);
+}
+
+// Asserts that the stable sorts sort the set of this length and order.
+fn assert_stable_sorts(rt: &impl Abort, alloc: Global, falls: bool, count: u32) {
+    let mut set = granted(rt, shaped_set(alloc, falls, count));
+    assert_granted(rt, set.sort());
+    assert_is(rt, rises(&set, count), true);
+    let mut set = granted(rt, shaped_set(alloc, falls, count));
+    assert_granted(rt, set.sort_by(|a, b| a.cmp(b)));
+    assert_is(rt, rises(&set, count), true);
+    let mut set = granted(rt, shaped_set(alloc, falls, count));
+    assert_granted(rt, set.sort_by_cached_key(|item| *item));
+    assert_is(rt, rises(&set, count), true);
+    // The comparison returns `Equal` for all elements, so a stable sort leaves their order.
+    assert_granted(rt, set.sort_by(|_, _| Ordering::Equal));
+    assert_granted(rt, set.sort_by_cached_key(|_| 0u8));
+    assert_is(rt, rises(&set, count), true);
+}
+
+// Asserts that the unstable sorts sort the set of this length and order.
+fn assert_unstable_sorts(rt: &impl Abort, alloc: Global, falls: bool, count: u32) {
+    let mut set = granted(rt, shaped_set(alloc, falls, count));
+    set.sort_unstable();
+    assert_is(rt, rises(&set, count), true);
+    let mut set = granted(rt, shaped_set(alloc, falls, count));
+    set.sort_unstable_by(|_, _| Ordering::Equal);
+    set.sort_unstable_by(|a, b| a.cmp(b));
+    assert_is(rt, rises(&set, count), true);
 }
 
 #[test]
-fn sorts_of_every_length_and_shape(rt: HostRuntime) -> Result<(), Fail> {
+fn sorts_of_every_length_and_shape(rt: HostRuntime) {
     for count in [0, 1, 2, 100] {
         for falls in [false, true] {
-            let mut set = shaped_set(rt.alloc(), falls, count)?;
-            set.sort()?;
-            assert!(rt; rises(&set, count));
-            let mut set = shaped_set(rt.alloc(), falls, count)?;
-            set.sort_by(|a, b| a.cmp(b))?;
-            assert!(rt; rises(&set, count));
-            let mut set = shaped_set(rt.alloc(), falls, count)?;
-            set.sort_by_cached_key(|item| *item)?;
-            assert!(rt; rises(&set, count));
-            // The comparison returns `Equal` for all elements, so a stable sort leaves their order.
-            set.sort_by(|_, _| Ordering::Equal)?;
-            set.sort_by_cached_key(|_| 0u8)?;
-            assert!(rt; rises(&set, count));
-            let mut set = shaped_set(rt.alloc(), falls, count)?;
-            set.sort_unstable();
-            assert!(rt; rises(&set, count));
-            let mut set = shaped_set(rt.alloc(), falls, count)?;
-            set.sort_unstable_by(|_, _| Ordering::Equal);
-            set.sort_unstable_by(|a, b| a.cmp(b));
-            assert!(rt; rises(&set, count));
+            assert_stable_sorts(&rt, rt.alloc(), falls, count);
+            assert_unstable_sorts(&rt, rt.alloc(), falls, count);
         }
     }
-    Ok(())
 }

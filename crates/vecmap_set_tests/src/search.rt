@@ -1,46 +1,59 @@
 //! Binary searches of a set.
+use crate::checks::{assert_granted, assert_is, granted};
 use std::cell::Cell;
-use std::test::Fail;
+use std::process::Abort;
 use vecmap::VecSet;
 use vecmap_fixtures::set_of;
 
 #[test]
-fn searches_return_an_equal_index_or_where_to_insert(rt: HostRuntime) -> Result<(), Fail> {
-    let set = set_of(rt.alloc(), &[1u32, 2, 3])?;
-    assert!(rt; set.binary_search(&2) == Ok(1));
-    assert!(rt; set.binary_search(&5) == Err(3));
-    assert!(rt; set.binary_search(&0) == Err(0));
-    assert!(rt; set.binary_search_by(|item| item.cmp(&3)) == Ok(2));
-    assert!(rt; set.binary_search_by(|item| item.cmp(&4)) == Err(3));
-    assert!(rt; set.binary_search_by_key(&20, |item| item.wrapping_mul(10)) == Ok(1));
-    assert!(rt; set.binary_search_by_key(&15, |item| item.wrapping_mul(10)) == Err(1));
-    assert!(rt; set.partition_point(|item| *item < 3) == 2);
-    Ok(())
+fn searches_return_an_equal_index_or_where_to_insert(rt: HostRuntime) {
+    let set = granted(&rt, set_of(rt.alloc(), &[1u32, 2, 3]));
+    assert_is(&rt, set.binary_search(&2), Ok(1));
+    assert_is(&rt, set.binary_search(&5), Err(3));
+    assert_is(&rt, set.binary_search(&0), Err(0));
+    assert_is(&rt, set.binary_search_by(|item| item.cmp(&3)), Ok(2));
+    assert_is(&rt, set.binary_search_by(|item| item.cmp(&4)), Err(3));
+    let found = set.binary_search_by_key(&20, |item| item.wrapping_mul(10));
+    assert_is(&rt, found, Ok(1));
+    let found = set.binary_search_by_key(&15, |item| item.wrapping_mul(10));
+    assert_is(&rt, found, Err(1));
+    assert_is(&rt, set.partition_point(|item| *item < 3), 2);
+}
+
+// Asserts that each search finds the number at its index, and that the next number would follow it.
+fn assert_found(rt: &impl Abort, set: &VecSet<u32>, even: u32, place: usize) {
+    let next = Err(place.wrapping_add(1));
+    assert_is(
+        rt,
+        (
+            set.binary_search(&even),
+            set.binary_search_by(|item| item.cmp(&even)),
+            set.binary_search_by_key(&even, |item| *item),
+        ),
+        (Ok(place), Ok(place), Ok(place)),
+    );
+    assert_is(rt, set.partition_point(|item| *item < even), place);
+    assert_is(rt, set.binary_search(&even.wrapping_add(1)), next);
 }
 
 #[test]
-fn searches_of_every_length(rt: HostRuntime) -> Result<(), Fail> {
+fn searches_of_every_length(rt: HostRuntime) {
     for count in [0u32, 1, 2, 100] {
         let mut set = VecSet::new(rt.alloc());
         for number in 0..count {
-            set.insert(number.wrapping_mul(2))?;
+            assert_granted(&rt, set.insert(number.wrapping_mul(2)));
         }
         for number in 0..count {
-            let place = number as usize;
-            let even = number.wrapping_mul(2);
-            let odd = even.wrapping_add(1);
-            assert!(rt; set.binary_search(&even) == Ok(place));
-            assert!(rt; set.binary_search_by(|item| item.cmp(&even)) == Ok(place));
-            assert!(rt; set.binary_search_by_key(&even, |item| *item) == Ok(place));
-            assert!(rt; set.partition_point(|item| *item < even) == place);
-            assert!(rt; set.binary_search(&odd) == Err(place.wrapping_add(1)));
+            assert_found(&rt, &set, number.wrapping_mul(2), number as usize);
         }
         // All sort keys are equal: each index is a match, or none is.
-        assert!(rt; set.binary_search_by_key(&7, |_| 7).is_ok() == (0 < count));
-        assert!(rt; set.binary_search_by_key(&6, |_| 7) == Err(0));
-        assert!(rt; set.binary_search_by_key(&8, |_| 7) == Err(count as usize));
+        let found = set.binary_search_by_key(&7, |_| 7);
+        assert_is(&rt, found.is_ok(), 0 < count);
+        let found = set.binary_search_by_key(&6, |_| 7);
+        assert_is(&rt, found, Err(0));
+        let found = set.binary_search_by_key(&8, |_| 7);
+        assert_is(&rt, found, Err(count as usize));
     }
-    Ok(())
 }
 
 // How many elements a search compares, for a number of elements: it halves what is left, down to one.
@@ -55,22 +68,25 @@ const ASKED: [(u32, u32); 8] = [
     (100, 8),
 ];
 
+// Asserts that a search for where the numbers reach a limit finds it, and how many elements it compares.
+fn assert_asked(rt: &impl Abort, set: &VecSet<u32>, limit: u32, place: u32, asked: u32) {
+    let calls = Cell::new(0u32);
+    let found = set.partition_point(|item| {
+        calls.set(calls.get().wrapping_add(1));
+        *item < limit
+    });
+    assert_is(rt, (found as u64, calls.get()), (u64::from(place), asked));
+}
+
 #[test]
-fn searches_compare_as_often_as_they_halve(rt: HostRuntime) -> Result<(), Fail> {
+fn searches_compare_as_often_as_they_halve(rt: HostRuntime) {
     for (count, asked) in ASKED {
         let mut set = VecSet::new(rt.alloc());
         for item in 0..count {
-            set.insert(item)?;
+            assert_granted(&rt, set.insert(item));
         }
         for limit in [0, 1, count / 2, count] {
-            let calls = Cell::new(0u32);
-            let place = set.partition_point(|item| {
-                calls.set(calls.get().wrapping_add(1));
-                *item < limit
-            });
-            assert!(rt; place as u64 == u64::from(limit.min(count)));
-            assert!(rt; calls.get() == asked);
+            assert_asked(&rt, &set, limit, limit.min(count), asked);
         }
     }
-    Ok(())
 }

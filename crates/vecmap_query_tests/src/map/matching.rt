@@ -1,5 +1,7 @@
 //! Checks that every call of a map by a query uses the same pair.
 use std::alloc::AllocError;
+use std::fmt::Debug;
+use std::process::Abort;
 use vecmap::map::MutableKeys;
 use vecmap::{Equivalent, VecMap};
 use vecmap_fixtures::{Same, are_same};
@@ -28,7 +30,7 @@ fn are_same_pair<K: Same>(found: Option<(&K, &u32)>, pair: Option<(&K, &u32)>) -
 }
 
 // Returns whether each lookup by the query finds the pair at this index, or none.
-pub(super) fn finds<K: Eq + Same, Q: Equivalent<K>>(
+fn finds<K: Eq + Same, Q: Equivalent<K>>(
     map: &VecMap<K, u32>,
     query: Q,
     place: Option<usize>,
@@ -180,7 +182,7 @@ fn swaps<K: Eq + Clone + Drop + Same, Q: Equivalent<K>>(
 }
 
 // Returns whether every call by the query uses the pair at this index, or none.
-pub(super) fn matches_at<K: Eq + Clone + Drop + Same, Q: Equivalent<K>>(
+fn matches_at<K: Eq + Clone + Drop + Same, Q: Equivalent<K>>(
     map: &mut VecMap<K, u32>,
     query: Q,
     place: Option<usize>,
@@ -192,4 +194,30 @@ pub(super) fn matches_at<K: Eq + Clone + Drop + Same, Q: Equivalent<K>>(
             && lends(map, query, place)?
             && finds(map, query, place),
     )
+}
+
+// Asserts that each lookup by the query finds the pair at this index, or none.
+pub(super) fn assert_finds<K: Eq + Same, Q: Equivalent<K> + Debug>(
+    rt: &impl Abort,
+    map: &VecMap<K, u32>,
+    query: Q,
+    place: Option<usize>,
+) {
+    assert!(*rt;
+        finds(map, query, place),
+        "{query:?} is not found at {place:?}"
+    );
+}
+
+// Asserts that every call by the query uses the pair at this index, or none.
+pub(super) fn assert_matches<K: Eq + Clone + Drop + Same, Q: Equivalent<K> + Debug>(
+    rt: &impl Abort,
+    map: &mut VecMap<K, u32>,
+    query: Q,
+    place: Option<usize>,
+) {
+    assert!(*rt;
+        matches!(matches_at(map, query, place), Ok(true)),
+        "{query:?} does not match at {place:?}"
+    );
 }
