@@ -55,6 +55,24 @@ pub(crate) fn assert_refused<T: Drop, E: Drop>(rt: &impl Abort, outcome: Result<
     assert!(*rt; outcome.is_err());
 }
 
+/// Asserts that two values are equal, by `==` both ways round.
+pub(crate) fn assert_equal<T: PartialEq + Debug>(rt: &impl Abort, one: &T, other: &T) {
+    assert_eq!(*rt;
+        (*one == *other, *other == *one),
+        (true, true),
+        "{one:?} and {other:?}"
+    );
+}
+
+/// Asserts that two values differ, by `!=` both ways round.
+pub(crate) fn assert_differ<T: PartialEq + Debug>(rt: &impl Abort, one: &T, other: &T) {
+    assert_eq!(*rt;
+        (*one != *other, *other != *one),
+        (true, true),
+        "{one:?} and {other:?}"
+    );
+}
+
 /// Asserts that a list has exactly these items, in this order.
 pub(crate) fn assert_list<T: PartialEq + Debug>(rt: &impl Abort, list: &[T], expected: &[T]) {
     assert_eq!(*rt; list, expected);
@@ -132,6 +150,39 @@ pub(crate) fn assert_full(
     match full {
         Some((at, key, value)) => {
             assert_eq!(*rt; (at, (key.number, key.mark, *value)), (index, expected));
+        }
+        None => panic!(*rt; "no pair, and not {expected:?}"),
+    }
+}
+
+/// Asserts that a call lent a pair of this number, this mark and this value, and writes another value.
+pub(crate) fn assert_and_write(
+    rt: &impl Abort,
+    lent: Option<(&Item, &mut u32)>,
+    expected: (u32, char, u32),
+    value: u32,
+) {
+    match lent {
+        Some((key, stored)) => {
+            assert_eq!(*rt; (key.number, key.mark, *stored), expected);
+            *stored = value;
+        }
+        None => panic!(*rt; "no pair, and not {expected:?}"),
+    }
+}
+
+/// Like `assert_and_write`, with the index of the pair.
+pub(crate) fn assert_full_and_write(
+    rt: &impl Abort,
+    lent: Option<(usize, &Item, &mut u32)>,
+    index: usize,
+    expected: (u32, char, u32),
+    value: u32,
+) {
+    match lent {
+        Some((at, key, stored)) => {
+            assert_eq!(*rt; (at, (key.number, key.mark, *stored)), (index, expected));
+            *stored = value;
         }
         None => panic!(*rt; "no pair, and not {expected:?}"),
     }
