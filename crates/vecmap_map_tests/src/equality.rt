@@ -26,14 +26,10 @@ fn equality_ignores_order_and_nothing_else(rt: HostRuntime) {
     );
     assert_equal(&rt, &one, &granted(&rt, map_of(rt.alloc(), &[("a", 1)])));
     assert_differ(&rt, &one, &both);
-    for pairs in [
-        [].as_slice(),
-        [("b", 1)].as_slice(),
-        [("b", 2)].as_slice(),
-        [("a", 2)].as_slice(),
-    ] {
-        assert_differ(&rt, &one, &granted(&rt, map_of(rt.alloc(), pairs)));
-    }
+    assert_differ(&rt, &one, &VecMap::new(rt.alloc()));
+    assert_differ(&rt, &one, &granted(&rt, map_of(rt.alloc(), &[("b", 1)])));
+    assert_differ(&rt, &one, &granted(&rt, map_of(rt.alloc(), &[("b", 2)])));
+    assert_differ(&rt, &one, &granted(&rt, map_of(rt.alloc(), &[("a", 2)])));
 }
 
 #[test]

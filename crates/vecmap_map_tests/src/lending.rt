@@ -1,7 +1,5 @@
 //! Values of a map that are lent for writing, by key and by index.
-use crate::checks::{
-    assert_and_write, assert_full_and_write, assert_is, assert_pairs, check, granted,
-};
+use crate::checks::{assert_and_write, assert_is, assert_pairs, check, granted};
 use vecmap::VecMap;
 use vecmap_fixtures::{item_map, make_item};
 
@@ -10,7 +8,8 @@ const TWO: &[(u32, char, u32)] = &[(1, 'a', 1), (2, 'b', 2)];
 #[test]
 fn an_index_lends_its_value(rt: HostRuntime) {
     let mut map = granted(&rt, item_map(rt.alloc(), TWO));
-    assert_and_write(&rt, map.get_index_mut(1), (2, 'b', 2), 9);
+    let (key, value) = map.get_index_mut(1).expect(&rt, "nothing there");
+    assert_and_write(&rt, key, value, (2, 'b', 2), 9);
     assert_pairs(&rt, &map, &[(1, 'a', 1), (2, 'b', 9)]);
     check!(rt; map.get_index_mut(2).is_none());
     check!(rt; map.get_index_mut(usize::MAX).is_none());
@@ -20,12 +19,15 @@ fn an_index_lends_its_value(rt: HostRuntime) {
 #[test]
 fn the_ends_lend_their_values(rt: HostRuntime) {
     let mut map = granted(&rt, item_map(rt.alloc(), &[(1, 'a', 1), (2, 'b', 9)]));
-    assert_and_write(&rt, map.first_mut(), (1, 'a', 1), 8);
+    let (key, value) = map.first_mut().expect(&rt, "nothing there");
+    assert_and_write(&rt, key, value, (1, 'a', 1), 8);
     assert_pairs(&rt, &map, &[(1, 'a', 8), (2, 'b', 9)]);
-    assert_and_write(&rt, map.last_mut(), (2, 'b', 9), 7);
+    let (key, value) = map.last_mut().expect(&rt, "nothing there");
+    assert_and_write(&rt, key, value, (2, 'b', 9), 7);
     assert_pairs(&rt, &map, &[(1, 'a', 8), (2, 'b', 7)]);
     let mut single = granted(&rt, item_map(rt.alloc(), &[(3, 'c', 3)]));
-    assert_and_write(&rt, single.last_mut(), (3, 'c', 3), 4);
+    let (key, value) = single.last_mut().expect(&rt, "nothing there");
+    assert_and_write(&rt, key, value, (3, 'c', 3), 4);
     assert_pairs(&rt, &single, &[(3, 'c', 4)]);
     let mut empty: VecMap<u32, u32> = VecMap::new(rt.alloc());
     check!(rt; empty.first_mut().is_none());
@@ -41,9 +43,14 @@ fn a_key_lends_its_value(rt: HostRuntime) {
     assert_is(&rt, *value, 2);
     *value = 9;
     assert_pairs(&rt, &map, &[(1, 'a', 1), (2, 'b', 9)]);
-    assert_full_and_write(&rt, map.get_full_mut(&make_item(1, 'z')), 0, (1, 'a', 1), 8);
+    let found = map.get_full_mut(&make_item(1, 'z'));
+    let (index, key, value) = found.expect(&rt, "absent");
+    assert_is(&rt, index, 0);
+    assert_and_write(&rt, key, value, (1, 'a', 1), 8);
     assert_pairs(&rt, &map, &[(1, 'a', 8), (2, 'b', 9)]);
-    assert_full_and_write(&rt, map.get_full_mut(&there), 1, (2, 'b', 9), 7);
+    let (index, key, value) = map.get_full_mut(&there).expect(&rt, "absent");
+    assert_is(&rt, index, 1);
+    assert_and_write(&rt, key, value, (2, 'b', 9), 7);
     assert_pairs(&rt, &map, &[(1, 'a', 8), (2, 'b', 7)]);
     check!(rt; map.get_mut(&absent).is_none());
     check!(rt; map.get_full_mut(&absent).is_none());
