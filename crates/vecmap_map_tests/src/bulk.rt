@@ -1,98 +1,143 @@
 //! Calls that insert many pairs at once, with keys that are equal and not identical.
-use crate::checks::{assert_is, assert_list, assert_pairs, check};
-use std::test::Fail;
+use crate::checks::{assert_granted, assert_is, assert_list, assert_pairs, check, granted};
+use std::alloc::{AllocError, Global};
+use std::process::Abort;
 use vecmap::VecMap;
-use vecmap_fixtures::{item_map, make_item};
+use vecmap_fixtures::{Item, item_map, make_item};
+
+// The calls that insert many pairs into a map.
+#[derive(Clone, Copy)]
+enum Way {
+    Insert,
+    Append,
+    Extend,
+    ExtendRefs,
+    ExtendPairs,
+}
+
+const WAYS: [Way; 5] = [
+    Way::Insert,
+    Way::Append,
+    Way::Extend,
+    Way::ExtendRefs,
+    Way::ExtendPairs,
+];
+
+// Inserts the pairs, one by one.
+fn insert_each<K: Eq + Copy>(
+    map: &mut VecMap<K, u32>,
+    pairs: &[(K, u32)],
+) -> Result<(), AllocError> {
+    for pair in pairs {
+        map.insert(pair.0, pair.1)?;
+    }
+    Ok(())
+}
+
+// Appends the map of each pair.
+fn append_each(
+    alloc: Global,
+    map: &mut VecMap<Item, u32>,
+    pairs: &[(Item, u32)],
+) -> Result<(), AllocError> {
+    for pair in pairs {
+        let mut other = VecMap::from_slice(alloc, &[*pair])?;
+        map.append(&mut other)?;
+    }
+    Ok(())
+}
+
+// Inserts the pairs.
+fn insert_by(
+    alloc: Global,
+    map: &mut VecMap<Item, u32>,
+    pairs: &[(Item, u32)],
+    way: Way,
+) -> Result<(), AllocError> {
+    match way {
+        Way::Insert => insert_each(map, pairs),
+        Way::Append => append_each(alloc, map, pairs),
+        Way::Extend => map.extend(pairs.iter().copied()),
+        Way::ExtendRefs => map.extend_refs(pairs.iter().map(|pair| (&pair.0, &pair.1))),
+        Way::ExtendPairs => map.extend_pairs(pairs),
+    }
+}
 
 #[test]
-fn all_ways_of_many_pairs_agree_with_single_inserts(rt: HostRuntime) -> Result<(), Fail> {
+fn all_ways_of_many_pairs_agree_with_single_inserts(rt: HostRuntime) {
+    let left = [(1, 'x', 3), (2, 'b', 2)];
     let pairs = [
         (make_item(1, 'x'), 1),
         (make_item(2, 'b'), 2),
         (make_item(1, 'y'), 3),
     ];
-    let mut single = VecMap::new(rt.alloc());
-    let mut appended = VecMap::new(rt.alloc());
-    for pair in pairs {
-        single.insert(pair.0, pair.1)?;
-        let mut other = VecMap::from_slice(rt.alloc(), &[pair])?;
-        appended.append(&mut other)?;
+    for way in WAYS {
+        let mut map = VecMap::new(rt.alloc());
+        assert_granted(&rt, insert_by(rt.alloc(), &mut map, &pairs, way));
+        assert_pairs(&rt, &map, &left);
     }
-    let mut extended = VecMap::new(rt.alloc());
-    extended.extend(pairs)?;
-    let mut by_refs = VecMap::new(rt.alloc());
-    by_refs.extend_refs(pairs.iter().map(|pair| (&pair.0, &pair.1)))?;
-    let mut by_pairs = VecMap::new(rt.alloc());
-    by_pairs.extend_pairs(&pairs)?;
-    for map in [
-        single,
-        appended,
-        extended,
-        by_refs,
-        by_pairs,
-        VecMap::from(pairs.to_vec(rt.alloc())?),
-        VecMap::from_iter(rt.alloc(), pairs)?,
-        VecMap::from_slice(rt.alloc(), &pairs)?,
-        pairs.iter().copied().collect(rt.alloc())?,
-    ] {
-        assert_pairs(&rt, &map, &[(1, 'x', 3), (2, 'b', 2)]);
-    }
-    Ok(())
+    let map = VecMap::from(granted(&rt, pairs.to_vec(rt.alloc())));
+    assert_pairs(&rt, &map, &left);
+    let map = granted(&rt, VecMap::from_iter(rt.alloc(), pairs));
+    assert_pairs(&rt, &map, &left);
+    let map = granted(&rt, VecMap::from_slice(rt.alloc(), &pairs));
+    assert_pairs(&rt, &map, &left);
+    let map: VecMap<Item, u32> = granted(&rt, pairs.iter().copied().collect(rt.alloc()));
+    assert_pairs(&rt, &map, &left);
+}
+
+// Asserts the two pairs that `the_last_value_of_a_key_is_found` leaves.
+fn assert_last(rt: &impl Abort, map: &VecMap<&'static str, u32>) {
+    assert_list(rt, map.as_slice(), &[("a", 3), ("b", 2)]);
+    assert_is(rt, map.get(&"a").copied(), Some(3));
 }
 
 #[test]
-fn the_last_value_of_a_key_is_found(rt: HostRuntime) -> Result<(), Fail> {
+fn the_last_value_of_a_key_is_found(rt: HostRuntime) {
     let pairs = [("a", 1), ("b", 2), ("a", 3)];
-    let mut single = VecMap::new(rt.alloc());
-    for pair in pairs {
-        single.insert(pair.0, pair.1)?;
-    }
-    let mut extended = VecMap::new(rt.alloc());
-    extended.extend(pairs)?;
-    for map in [
-        single,
-        extended,
-        VecMap::from(vec![in rt.alloc(); ("a", 1), ("b", 2), ("a", 3)]?),
-        VecMap::from_iter(rt.alloc(), pairs)?,
-        VecMap::from_slice(rt.alloc(), &pairs)?,
-        pairs.iter().copied().collect(rt.alloc())?,
-    ] {
-        assert_list(&rt, map.as_slice(), &[("a", 3), ("b", 2)]);
-        assert_is(&rt, map.get(&"a").copied(), Some(3));
-    }
-    Ok(())
+    let mut map = VecMap::new(rt.alloc());
+    assert_granted(&rt, insert_each(&mut map, &pairs));
+    assert_last(&rt, &map);
+    let mut map = VecMap::new(rt.alloc());
+    assert_granted(&rt, map.extend(pairs));
+    assert_last(&rt, &map);
+    let map = VecMap::from(granted(&rt, pairs.to_vec(rt.alloc())));
+    assert_last(&rt, &map);
+    let map = granted(&rt, VecMap::from_iter(rt.alloc(), pairs));
+    assert_last(&rt, &map);
+    let map = granted(&rt, VecMap::from_slice(rt.alloc(), &pairs));
+    assert_last(&rt, &map);
+    let map = granted(&rt, pairs.iter().copied().collect(rt.alloc()));
+    assert_last(&rt, &map);
 }
 
 #[test]
-fn extending_keeps_stored_keys(rt: HostRuntime) -> Result<(), Fail> {
-    let start = || item_map(rt.alloc(), &[(1, 'x', 10)]);
+fn extending_keeps_stored_keys(rt: HostRuntime) {
     let more = [(make_item(1, 'y'), 20), (make_item(2, 'z'), 30)];
-    let mut single = start()?;
-    for pair in more {
-        single.insert(pair.0, pair.1)?;
-    }
-    let mut extended = start()?;
-    extended.extend(more)?;
-    let mut by_refs = start()?;
-    by_refs.extend_refs(more.iter().map(|pair| (&pair.0, &pair.1)))?;
-    let mut by_pairs = start()?;
-    by_pairs.extend_pairs(&more)?;
-    let mut appended = start()?;
-    let mut other = VecMap::from_slice(rt.alloc(), &more)?;
-    appended.append(&mut other)?;
-    check!(rt; other.is_empty());
-    for map in [single, extended, by_refs, by_pairs, appended] {
+    for way in WAYS {
+        let mut map = granted(&rt, item_map(rt.alloc(), &[(1, 'x', 10)]));
+        assert_granted(&rt, insert_by(rt.alloc(), &mut map, &more, way));
         assert_pairs(&rt, &map, &[(1, 'x', 20), (2, 'z', 30)]);
     }
-    Ok(())
+    let mut map = granted(&rt, item_map(rt.alloc(), &[(1, 'x', 10)]));
+    let mut other = granted(&rt, VecMap::from_slice(rt.alloc(), &more));
+    assert_granted(&rt, map.append(&mut other));
+    check!(rt; other.is_empty());
+    assert_pairs(&rt, &map, &[(1, 'x', 20), (2, 'z', 30)]);
 }
 
 #[test]
-fn append_inserts_all_and_leaves_the_capacity_of_the_other(rt: HostRuntime) -> Result<(), Fail> {
-    let mut map = item_map(rt.alloc(), &[(3, 'c', 3), (2, 'b', 2), (1, 'a', 1)])?;
-    let mut other = item_map(rt.alloc(), &[(3, 'd', 30), (4, 'e', 40), (5, 'f', 50)])?;
+fn append_inserts_all_and_leaves_the_capacity_of_the_other(rt: HostRuntime) {
+    let mut map = granted(
+        &rt,
+        item_map(rt.alloc(), &[(3, 'c', 3), (2, 'b', 2), (1, 'a', 1)]),
+    );
+    let mut other = granted(
+        &rt,
+        item_map(rt.alloc(), &[(3, 'd', 30), (4, 'e', 40), (5, 'f', 50)]),
+    );
     let room = other.capacity();
-    map.append(&mut other)?;
+    assert_granted(&rt, map.append(&mut other));
     let left = [
         (3, 'c', 30),
         (2, 'b', 2),
@@ -104,31 +149,31 @@ fn append_inserts_all_and_leaves_the_capacity_of_the_other(rt: HostRuntime) -> R
     check!(rt; 6 <= map.capacity());
     assert_is(&rt, (other.len(), other.capacity()), (0, room));
     let granted = map.capacity();
-    map.append(&mut other)?;
+    assert_granted(&rt, map.append(&mut other));
     assert_pairs(&rt, &map, &left);
     assert_is(&rt, (map.capacity(), other.capacity()), (granted, room));
-    Ok(())
 }
 
 #[test]
-fn from_slice_keeps_distinct_pairs_of_every_kind(rt: HostRuntime) -> Result<(), Fail> {
-    let (foo, bar) = (
-        String::from_str(rt.alloc(), "foo")?,
-        String::from_str(rt.alloc(), "bar")?,
-    );
+fn from_slice_keeps_distinct_pairs_of_every_kind(rt: HostRuntime) {
+    let foo = granted(&rt, String::from_str(rt.alloc(), "foo"));
+    let bar = granted(&rt, String::from_str(rt.alloc(), "bar"));
     let pairs = [(1i64, foo), (2, bar)];
-    let numbered = VecMap::from_slice(rt.alloc(), &pairs)?;
+    let numbered = granted(&rt, VecMap::from_slice(rt.alloc(), &pairs));
     assert_list(&rt, numbered.as_slice(), &pairs);
-    let (foo, bar) = (
-        String::from_str(rt.alloc(), "foo")?,
-        String::from_str(rt.alloc(), "bar")?,
-    );
+    let foo = granted(&rt, String::from_str(rt.alloc(), "foo"));
+    let bar = granted(&rt, String::from_str(rt.alloc(), "bar"));
     let pairs = [(foo, 1i64), (bar, 2)];
-    let named = VecMap::from_slice(rt.alloc(), &pairs)?;
+    let named = granted(&rt, VecMap::from_slice(rt.alloc(), &pairs));
     assert_list(&rt, named.as_slice(), &pairs);
-    let told = VecMap::from_slice(rt.alloc(), &[(true, 1i64), (false, 2)])?;
+    let told = granted(
+        &rt,
+        VecMap::from_slice(rt.alloc(), &[(true, 1i64), (false, 2)]),
+    );
     assert_list(&rt, told.as_slice(), &[(true, 1), (false, 2)]);
-    let flags = VecMap::from_slice(rt.alloc(), &[(1i64, true), (2, false)])?;
+    let flags = granted(
+        &rt,
+        VecMap::from_slice(rt.alloc(), &[(1i64, true), (2, false)]),
+    );
     assert_list(&rt, flags.as_slice(), &[(1, true), (2, false)]);
-    Ok(())
 }

@@ -1,7 +1,7 @@
 //! Conversion from vectors to maps, and from maps to vectors.
-use crate::checks::{assert_is, assert_list, assert_pairs, check};
+use crate::checks::{assert_granted, assert_is, assert_list, assert_pairs, check, granted};
 use std::alloc::{AllocError, Global};
-use std::test::Fail;
+use std::process::Abort;
 use vecmap::{VecMap, keys_distinct};
 use vecmap_fixtures::{Item, Log, has_pairs, item_map, make_item, told_pairs};
 
@@ -15,7 +15,7 @@ fn item_pairs(alloc: Global, pairs: &[(u32, char, u32)]) -> Result<Vec<(Item, u3
 }
 
 #[test]
-fn a_vector_keeps_first_keys_and_last_values(rt: HostRuntime) -> Result<(), Fail> {
+fn a_vector_keeps_first_keys_and_last_values(rt: HostRuntime) {
     for (pairs, left) in [
         ([].as_slice(), [].as_slice()),
         ([(7, 'a', 70)].as_slice(), [(7, 'a', 70)].as_slice()),
@@ -51,20 +51,20 @@ fn a_vector_keeps_first_keys_and_last_values(rt: HostRuntime) -> Result<(), Fail
             [(1, 'p', 4), (2, 'r', 6), (3, 't', 5)].as_slice(),
         ),
     ] {
-        let vec = item_pairs(rt.alloc(), pairs)?;
+        let vec = granted(&rt, item_pairs(rt.alloc(), pairs));
         let room = vec.capacity();
         let map = VecMap::from(vec);
         assert_pairs(&rt, &map, left);
         assert_is(&rt, map.capacity(), room);
-        let (map, comparisons) = VecMap::from_vec_counted(item_pairs(rt.alloc(), pairs)?);
+        let vec = granted(&rt, item_pairs(rt.alloc(), pairs));
+        let (map, comparisons) = VecMap::from_vec_counted(vec);
         assert_pairs(&rt, &map, left);
         check!(rt; comparisons <= 15);
     }
-    Ok(())
 }
 
 #[test]
-fn a_map_of_a_vector_counts_its_comparisons(rt: HostRuntime) -> Result<(), Fail> {
+fn a_map_of_a_vector_counts_its_comparisons(rt: HostRuntime) {
     for (numbers, expected) in [
         ([].as_slice(), 0),
         ([1].as_slice(), 0),
@@ -74,54 +74,53 @@ fn a_map_of_a_vector_counts_its_comparisons(rt: HostRuntime) -> Result<(), Fail>
         ([1, 1, 2, 3].as_slice(), 4),
     ] {
         let log = Log::new();
-        let (_map, comparisons) = VecMap::from_vec_counted(told_pairs(rt.alloc(), &log, numbers)?);
+        let pairs = granted(&rt, told_pairs(rt.alloc(), &log, numbers));
+        let (_map, comparisons) = VecMap::from_vec_counted(pairs);
         assert_is(&rt, comparisons, expected);
         assert_is(&rt, u128::from(log.comparisons()), expected);
         check!(rt; !log.compares_after_drop());
         let log = Log::new();
-        let _map = VecMap::from(told_pairs(rt.alloc(), &log, numbers)?);
+        let _map = VecMap::from(granted(&rt, told_pairs(rt.alloc(), &log, numbers)));
         assert_is(&rt, u128::from(log.comparisons()), expected);
         check!(rt; !log.compares_after_drop());
     }
-    Ok(())
 }
 
 #[test]
-fn clones_hold_the_pairs_in_their_order(rt: HostRuntime) -> Result<(), Fail> {
+fn clones_hold_the_pairs_in_their_order(rt: HostRuntime) {
     for pairs in [[].as_slice(), [(2, 'b', 20), (1, 'a', 10)].as_slice()] {
-        let map = item_map(rt.alloc(), pairs)?;
-        check!(rt; has_pairs(map.clone()?.as_slice(), pairs));
-        check!(rt; has_pairs(map.to_vec()?.as_slice(), pairs));
+        let map = granted(&rt, item_map(rt.alloc(), pairs));
+        assert_pairs(&rt, &granted(&rt, map.clone()), pairs);
+        check!(rt; has_pairs(&granted(&rt, map.to_vec()), pairs));
         assert_pairs(&rt, &map, pairs);
     }
-    Ok(())
 }
 
-#[test]
-fn distinct_keys_are_distinguished_from_repeats(rt: HostRuntime) -> Result<(), Fail> {
-    for (pairs, is_distinct) in [
-        ([].as_slice(), true),
-        ([(1, 'a'), (2, 'a')].as_slice(), true),
-        ([(1, 'a'), (2, 'b'), (1, 'a')].as_slice(), false),
-    ] {
-        assert!(rt; keys_distinct(pairs) == is_distinct);
-        let pairs_again = pairs.to_vec(rt.alloc())?;
-        if keys_distinct(&pairs_again) {
-            let map = VecMap::from_vec_unchecked(pairs_again);
-            check!(rt; map.has_distinct_keys());
-            assert_list(&rt, map.as_slice(), pairs);
-        }
+// Asserts whether the keys of these pairs are distinct. If they are, a map of the pairs has them in their order.
+fn assert_distinct(rt: &impl Abort, alloc: Global, pairs: &[(u32, char)], is_distinct: bool) {
+    assert_is(rt, keys_distinct(pairs), is_distinct);
+    let copy = granted(rt, pairs.to_vec(alloc));
+    if keys_distinct(&copy) {
+        let map = VecMap::from_vec_unchecked(copy);
+        assert_is(rt, map.has_distinct_keys(), true);
+        assert_list(rt, map.as_slice(), pairs);
     }
-    Ok(())
 }
 
 #[test]
-fn the_vector_of_a_map_has_its_pairs_and_its_capacity(rt: HostRuntime) -> Result<(), Fail> {
-    let mut map = VecMap::with_capacity(rt.alloc(), 5)?;
-    map.extend([("b", 2), ("a", 1)])?;
+fn distinct_keys_are_distinguished_from_repeats(rt: HostRuntime) {
+    assert_distinct(&rt, rt.alloc(), &[], true);
+    assert_distinct(&rt, rt.alloc(), &[(1, 'a'), (2, 'a')], true);
+    let repeats = [(1, 'a'), (2, 'b'), (1, 'a')];
+    assert_distinct(&rt, rt.alloc(), &repeats, false);
+}
+
+#[test]
+fn the_vector_of_a_map_has_its_pairs_and_its_capacity(rt: HostRuntime) {
+    let mut map = granted(&rt, VecMap::with_capacity(rt.alloc(), 5));
+    assert_granted(&rt, map.extend([("b", 2), ("a", 1)]));
     let room = map.capacity();
     let pairs = map.into_vec();
     assert_list(&rt, pairs.as_slice(), &[("b", 2), ("a", 1)]);
     assert_is(&rt, pairs.capacity(), room);
-    Ok(())
 }

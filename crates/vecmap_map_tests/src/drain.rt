@@ -1,10 +1,13 @@
 //! Drains of a map.
-use crate::checks::{assert_is, assert_list, assert_pair, assert_pairs, assert_text, check};
+use crate::checks::{
+    assert_is, assert_list, assert_pair, assert_pairs, assert_prints, assert_pulls, check, granted,
+};
 use std::alloc::{AllocError, Global};
 use std::ops::Bound;
-use std::test::Fail;
+use std::process::Abort;
 use vecmap::VecMap;
-use vecmap_fixtures::{Log, pulls_as_list, repeating_map, told_pairs};
+use vecmap::map::Drain;
+use vecmap_fixtures::{Item, Log, Told, repeating_map, told_pairs};
 
 // Two keys are equal: a drain does not compare keys.
 const FIVE: &[(u32, char, u32)] = &[
@@ -25,8 +28,8 @@ fn numbered(alloc: Global, values: &[u32]) -> Result<VecMap<u32, u32>, AllocErro
 }
 
 #[test]
-fn a_drain_returns_its_range_from_both_ends(rt: HostRuntime) -> Result<(), Fail> {
-    let mut map = repeating_map(rt.alloc(), FIVE)?;
+fn a_drain_returns_its_range_from_both_ends(rt: HostRuntime) {
+    let mut map = granted(&rt, repeating_map(rt.alloc(), FIVE));
     let room = map.capacity();
     assert!(rt; 4 <= map.len());
     let mut pairs = map.drain(1..4);
@@ -42,53 +45,52 @@ fn a_drain_returns_its_range_from_both_ends(rt: HostRuntime) -> Result<(), Fail>
     drop(pairs);
     assert_pairs(&rt, &map, &[(0, 'a', 0), (4, 'e', 40)]);
     assert_is(&rt, map.capacity(), room);
-    Ok(())
 }
 
 const SIX: [(u32, u32); 6] = [(0, 5), (1, 6), (2, 7), (3, 8), (4, 9), (5, 10)];
 
 #[test]
-fn a_drain_is_exact_for_every_mixture_of_next_and_next_back(rt: HostRuntime) -> Result<(), Fail> {
+fn a_drain_is_exact_for_every_mixture_of_next_and_next_back(rt: HostRuntime) {
     for count in 0..5 {
         let end = count + 1;
         for ends in 0..64 {
-            let mut map = VecMap::from_slice(rt.alloc(), &SIX)?;
+            let mut map = granted(&rt, VecMap::from_slice(rt.alloc(), &SIX));
             assert!(rt; end <= map.len());
-            check!(rt; pulls_as_list(map.drain(1..end), |pair| pair, &SIX[1..end], ends));
-            assert_is(
-                &rt,
-                map.as_slice().split_first(),
-                Some((&SIX[0], &SIX[end..])),
-            );
+            assert_pulls(&rt, map.drain(1..end), &SIX[1..end], ends);
+            let left = map.as_slice().split_first();
+            assert_is(&rt, left, Some((&SIX[0], &SIX[end..])));
         }
     }
-    Ok(())
+}
+
+// Takes pairs of a drain from its two ends, in turn, the first from the back.
+fn pull_pairs(pairs: &mut Drain<'_, Item, u32>, pulls: usize) {
+    for pull in 0..pulls {
+        let _pair = if pull % 2 == 0 {
+            pairs.next_back()
+        } else {
+            pairs.next()
+        };
+    }
 }
 
 #[test]
-fn a_dropped_drain_removes_the_whole_range(rt: HostRuntime) -> Result<(), Fail> {
+fn a_dropped_drain_removes_the_whole_range(rt: HostRuntime) {
     for pulls in 0..5 {
-        let mut map = repeating_map(rt.alloc(), FIVE)?;
+        let mut map = granted(&rt, repeating_map(rt.alloc(), FIVE));
         let room = map.capacity();
         assert!(rt; 4 <= map.len());
         let mut pairs = map.drain(1..=3);
-        for pull in 0..pulls {
-            let _pair = if pull % 2 == 0 {
-                pairs.next_back()
-            } else {
-                pairs.next()
-            };
-        }
+        pull_pairs(&mut pairs, pulls);
         drop(pairs);
         assert_pairs(&rt, &map, &[(0, 'a', 0), (4, 'e', 40)]);
         assert_is(&rt, map.capacity(), room);
     }
-    Ok(())
 }
 
 #[test]
-fn a_range_may_have_any_ends(rt: HostRuntime) -> Result<(), Fail> {
-    let mut map = numbered(rt.alloc(), &[0, 1, 2, 3, 4])?;
+fn a_range_may_have_any_ends(rt: HostRuntime) {
+    let mut map = granted(&rt, numbered(rt.alloc(), &[0, 1, 2, 3, 4]));
     assert!(rt; 4 <= map.len());
     assert_is(&rt, map.drain(1..4).next(), Some((1, 1)));
     assert_list(&rt, map.as_slice(), &[(0, 0), (4, 4)]);
@@ -106,22 +108,27 @@ fn a_range_may_have_any_ends(rt: HostRuntime) -> Result<(), Fail> {
     assert_is(&rt, map.drain(..).next_back(), Some((0, 0)));
     check!(rt; map.is_empty());
     check!(rt; map.drain(..).next().is_none());
-    Ok(())
 }
 
-#[test]
-fn a_drain_can_be_read_from_one_end_alone(rt: HostRuntime) -> Result<(), Fail> {
-    let mut map = numbered(rt.alloc(), &[5, 6, 7, 8])?;
+// Asserts that the values of a map rise, from its first key 0 on, while all pairs are drained. Returns the last value and
+// the exclusive or of all.
+fn drain_all(rt: &impl Abort, map: &mut VecMap<u32, u32>) -> (u32, u32) {
     let mut sum = 0;
     let mut last = 0;
     for (key, value) in map.drain(..) {
-        check!(rt; key == 0 || last < value);
+        assert!(*rt; key == 0 || last < value);
         last = value;
         sum ^= value;
     }
-    assert_is(&rt, (last, sum), (8, 5 ^ 6 ^ 7 ^ 8));
+    (last, sum)
+}
+
+#[test]
+fn a_drain_can_be_read_from_one_end_alone(rt: HostRuntime) {
+    let mut map = granted(&rt, numbered(rt.alloc(), &[5, 6, 7, 8]));
+    assert_is(&rt, drain_all(&rt, &mut map), (8, 5 ^ 6 ^ 7 ^ 8));
     check!(rt; map.is_empty());
-    let mut map = numbered(rt.alloc(), &[5, 6, 7, 8])?;
+    let mut map = granted(&rt, numbered(rt.alloc(), &[5, 6, 7, 8]));
     assert!(rt; 3 <= map.len());
     let mut pairs = map.drain(..3);
     assert_is(&rt, pairs.next_back(), Some((2, 7)));
@@ -130,49 +137,44 @@ fn a_drain_can_be_read_from_one_end_alone(rt: HostRuntime) -> Result<(), Fail> {
     assert_is(&rt, pairs.next_back(), None);
     drop(pairs);
     assert_list(&rt, map.as_slice(), &[(3, 8)]);
-    Ok(())
+}
+
+// Takes pairs of a drain from its two ends, in turn, the first from the front. Asserts that each is dropped once it is
+// let go, and not before.
+fn assert_pulled(rt: &impl Abort, log: &Log, pairs: &mut Drain<'_, Told<'_>, u32>, pulls: u32) {
+    for pull in 0..pulls {
+        let pair = if pull % 2 == 0 {
+            pairs.next()
+        } else {
+            pairs.next_back()
+        };
+        assert_is(rt, log.drops(), pull);
+        drop(pair);
+    }
+    assert_is(rt, log.drops(), pulls);
 }
 
 #[test]
-fn each_key_that_a_drain_removes_is_dropped_once(rt: HostRuntime) -> Result<(), Fail> {
+fn each_key_that_a_drain_removes_is_dropped_once(rt: HostRuntime) {
     for pulls in 0..4 {
         let log = Log::new();
-        let pairs = told_pairs(rt.alloc(), &log, &[0, 1, 2, 3, 4])?;
+        let pairs = granted(&rt, told_pairs(rt.alloc(), &log, &[0, 1, 2, 3, 4]));
         let mut map = VecMap::from(pairs);
         assert!(rt; 4 <= map.len());
         let mut pairs = map.drain(1..4);
-        for pull in 0..pulls {
-            let pair = if pull % 2 == 0 {
-                pairs.next()
-            } else {
-                pairs.next_back()
-            };
-            assert_is(&rt, log.drops(), pull);
-            drop(pair);
-        }
-        assert_is(&rt, log.drops(), pulls);
+        assert_pulled(&rt, &log, &mut pairs, pulls);
         drop(pairs);
         assert_is(&rt, log.drops(), 3);
         drop(map);
         assert_is(&rt, log.drops(), 5);
     }
-    Ok(())
 }
 
 #[test]
-fn a_drain_prints_the_pairs_that_are_left(rt: HostRuntime) -> Result<(), Fail> {
-    let mut map = numbered(rt.alloc(), &[5, 6, 7, 8])?;
+fn a_drain_prints_the_pairs_that_are_left(rt: HostRuntime) {
+    let mut map = granted(&rt, numbered(rt.alloc(), &[5, 6, 7, 8]));
     let mut pairs = map.drain(..);
-    assert_text(
-        &rt,
-        format!(in rt.alloc(); "{pairs:?}"),
-        "[(0, 5), (1, 6), (2, 7), (3, 8)]",
-    );
+    assert_prints(&rt, rt.alloc(), &pairs, "[(0, 5), (1, 6), (2, 7), (3, 8)]");
     let _last = pairs.next_back();
-    assert_text(
-        &rt,
-        format!(in rt.alloc(); "{pairs:?}"),
-        "[(0, 5), (1, 6), (2, 7)]",
-    );
-    Ok(())
+    assert_prints(&rt, rt.alloc(), &pairs, "[(0, 5), (1, 6), (2, 7)]");
 }

@@ -1,106 +1,127 @@
 //! The capacity that a map reserves for many pairs at once.
-use std::test::Fail;
+use crate::checks::{assert_granted, assert_is, assert_list, assert_refused, granted};
+use std::alloc::{AllocError, Global};
+use std::process::Abort;
 use vecmap::VecMap;
 use vecmap_fixtures::Hinted;
 
-#[test]
-fn a_size_hint_decides_nothing_but_the_capacity(rt: HostRuntime) -> Result<(), Fail> {
-    let items = [(1, 'm'), (2, 'm'), (3, 'm')].as_slice();
-    let start = [(2, 'a')].as_slice();
-    let left = [(2, 'm'), (1, 'm'), (3, 'm')].as_slice();
-    for (hint, room) in [(0, 3), (1, 3), (3, 3), (20, 20)] {
-        let hinted = || Hinted { items, hint };
-        let map = VecMap::from_iter(rt.alloc(), hinted().copied())?;
-        assert!(rt; map.as_slice() == items);
-        assert!(rt; room <= map.capacity());
-        let map: VecMap<i32, char> = hinted().copied().collect(rt.alloc())?;
-        assert!(rt; map.as_slice() == items && room <= map.capacity());
-        let mut map = VecMap::from_slice(rt.alloc(), start)?;
-        map.extend(hinted().copied())?;
-        assert!(rt; map.as_slice() == left);
-        assert!(rt; hint.div_ceil(2) < map.capacity());
-        let mut map = VecMap::from_slice(rt.alloc(), start)?;
-        map.extend_pairs(hinted())?;
-        assert!(rt; map.as_slice() == left);
-        assert!(rt; hint.div_ceil(2) < map.capacity());
-        let mut map = VecMap::from_slice(rt.alloc(), start)?;
-        map.extend_refs(hinted().map(|pair| (&pair.0, &pair.1)))?;
-        assert!(rt; map.as_slice() == left);
-        assert!(rt; hint.div_ceil(2) < map.capacity());
+// The calls that extend a map.
+#[derive(Clone, Copy)]
+enum Way {
+    Extend,
+    ExtendPairs,
+    ExtendRefs,
+}
+
+const WAYS: [Way; 3] = [Way::Extend, Way::ExtendPairs, Way::ExtendRefs];
+
+const ONE: &[(i32, char)] = &[(1, 'm')];
+
+const THREE: &[(i32, char)] = &[(1, 'm'), (2, 'm'), (3, 'm')];
+
+// Extends a map by an iterator over these pairs, with this hint.
+fn extend(
+    map: &mut VecMap<i32, char>,
+    way: Way,
+    items: &[(i32, char)],
+    hint: usize,
+) -> Result<(), AllocError> {
+    let hinted = Hinted { items, hint };
+    match way {
+        Way::Extend => map.extend(hinted.copied()),
+        Way::ExtendPairs => map.extend_pairs(hinted),
+        Way::ExtendRefs => map.extend_refs(hinted.map(|pair| (&pair.0, &pair.1))),
     }
-    Ok(())
+}
+
+// Collects the pairs of an iterator with this hint.
+fn collected(
+    alloc: Global,
+    items: &[(i32, char)],
+    hint: usize,
+) -> Result<VecMap<i32, char>, AllocError> {
+    Hinted { items, hint }.copied().collect(alloc)
+}
+
+// Asserts that a map has exactly these pairs, and at least this capacity.
+fn assert_room(rt: &impl Abort, map: &VecMap<i32, char>, expected: &[(i32, char)], room: usize) {
+    assert_list(rt, map.as_slice(), expected);
+    assert!(*rt; room <= map.capacity(), "{} < {room}", map.capacity());
+}
+
+// Asserts the pairs and the capacity of a map of the pairs `start`, once each call has extended it.
+fn assert_extended(
+    rt: &impl Abort,
+    alloc: Global,
+    start: &[(i32, char)],
+    more: (&[(i32, char)], usize),
+    expected: (&[(i32, char)], usize),
+) {
+    for way in WAYS {
+        let mut map = granted(rt, VecMap::from_slice(alloc, start));
+        assert_granted(rt, extend(&mut map, way, more.0, more.1));
+        assert_room(rt, &map, expected.0, expected.1);
+    }
+}
+
+// Asserts that each call refuses to reserve capacity for the greatest hint, and leaves the map.
+fn assert_each_refused(rt: &impl Abort, map: &mut VecMap<i32, char>) {
+    for way in WAYS {
+        assert_refused(rt, extend(map, way, ONE, usize::MAX));
+    }
 }
 
 #[test]
-fn capacity_for_the_greatest_hint_is_refused(rt: HostRuntime) -> Result<(), Fail> {
-    let items = [(1, 'm')].as_slice();
-    let hint = usize::MAX;
-    let hinted = || Hinted { items, hint };
+fn a_size_hint_decides_nothing_but_the_capacity(rt: HostRuntime) {
+    let left = [(2, 'm'), (1, 'm'), (3, 'm')];
+    for (hint, room, extended) in [(0, 3, 1), (1, 3, 2), (3, 3, 3), (20, 20, 11)] {
+        let hinted = Hinted { items: THREE, hint };
+        let map = granted(&rt, VecMap::from_iter(rt.alloc(), hinted.copied()));
+        assert_room(&rt, &map, THREE, room);
+        let map = granted(&rt, collected(rt.alloc(), THREE, hint));
+        assert_room(&rt, &map, THREE, room);
+        assert_extended(
+            &rt,
+            rt.alloc(),
+            &[(2, 'a')],
+            (THREE, hint),
+            (&left, extended),
+        );
+    }
+}
+
+#[test]
+fn capacity_for_the_greatest_hint_is_refused(rt: HostRuntime) {
     let mut map = VecMap::new(rt.alloc());
-    assert!(rt; map.extend(hinted().copied()).is_err());
-    assert!(rt; map.extend_pairs(hinted()).is_err());
-    assert!(rt;
-        map.extend_refs(hinted().map(|pair| (&pair.0, &pair.1)))
-            .is_err()
-    );
-    assert!(rt; (map.len(), map.capacity()) == (0, 0));
-    map.extend([(5, 'a')])?;
+    assert_each_refused(&rt, &mut map);
+    assert_is(&rt, (map.len(), map.capacity()), (0, 0));
+    assert_granted(&rt, map.extend([(5, 'a')]));
     let room = map.capacity();
-    assert!(rt; map.extend(hinted().copied()).is_err());
-    assert!(rt; map.extend_pairs(hinted()).is_err());
-    assert!(rt;
-        map.extend_refs(hinted().map(|pair| (&pair.0, &pair.1)))
-            .is_err()
-    );
-    assert!(rt; map.as_slice() == [(5, 'a')].as_slice());
-    assert!(rt; map.capacity() == room);
-    assert!(rt; VecMap::from_iter(rt.alloc(), hinted().copied()).is_err());
-    let collected: Result<VecMap<i32, char>, _> = hinted().copied().collect(rt.alloc());
-    assert!(rt; collected.is_err());
-    Ok(())
+    assert_each_refused(&rt, &mut map);
+    assert_list(&rt, map.as_slice(), &[(5, 'a')]);
+    assert_is(&rt, map.capacity(), room);
+    let hinted = Hinted {
+        items: ONE,
+        hint: usize::MAX,
+    };
+    assert_refused(&rt, VecMap::from_iter(rt.alloc(), hinted.copied()));
+    assert_refused(&rt, collected(rt.alloc(), ONE, usize::MAX));
 }
 
 #[test]
-fn an_empty_map_reserves_the_whole_hint(rt: HostRuntime) -> Result<(), Fail> {
-    let items = [(1, 'm')].as_slice();
-    for (hint, room) in [(0, 1), (20, 20)] {
-        let hinted = || Hinted { items, hint };
-        let mut extended = VecMap::new(rt.alloc());
-        extended.extend(hinted().copied())?;
-        let mut by_pairs = VecMap::new(rt.alloc());
-        by_pairs.extend_pairs(hinted())?;
-        let mut by_refs = VecMap::new(rt.alloc());
-        by_refs.extend_refs(hinted().map(|pair| (&pair.0, &pair.1)))?;
-        for map in [extended, by_pairs, by_refs] {
-            assert!(rt; map.as_slice() == items);
-            assert!(rt; room <= map.capacity());
-        }
-    }
-    Ok(())
+fn an_empty_map_reserves_the_whole_hint(rt: HostRuntime) {
+    assert_extended(&rt, rt.alloc(), &[], (ONE, 0), (ONE, 1));
+    assert_extended(&rt, rt.alloc(), &[], (ONE, 20), (ONE, 20));
 }
 
 #[test]
-fn a_map_with_pairs_reserves_half_of_the_hint_rounded_up(rt: HostRuntime) -> Result<(), Fail> {
-    let items = [(1, 'm')].as_slice();
-    let hinted = || Hinted { items, hint: 21 };
-    let start = || VecMap::from_slice(rt.alloc(), &[(2, 'a')]);
-    let mut extended = start()?;
-    extended.extend(hinted().copied())?;
-    let mut by_pairs = start()?;
-    by_pairs.extend_pairs(hinted())?;
-    let mut by_refs = start()?;
-    by_refs.extend_refs(hinted().map(|pair| (&pair.0, &pair.1)))?;
-    for map in [extended, by_pairs, by_refs] {
-        assert!(rt; map.as_slice() == [(2, 'a'), (1, 'm')].as_slice());
-        assert!(rt; 12 <= map.capacity());
-    }
-    Ok(())
+fn a_map_with_pairs_reserves_half_of_the_hint_rounded_up(rt: HostRuntime) {
+    let both = [(2, 'a'), (1, 'm')];
+    assert_extended(&rt, rt.alloc(), &[(2, 'a')], (ONE, 21), (&both, 12));
 }
 
 #[test]
-fn from_slice_reserves_capacity_for_all_pairs(rt: HostRuntime) -> Result<(), Fail> {
-    let map = VecMap::from_slice(rt.alloc(), &[(1, 'm'); 9])?;
-    assert!(rt; map.as_slice() == [(1, 'm')].as_slice());
-    assert!(rt; 9 <= map.capacity());
-    Ok(())
+fn from_slice_reserves_capacity_for_all_pairs(rt: HostRuntime) {
+    let map = granted(&rt, VecMap::from_slice(rt.alloc(), &[(1, 'm'); 9]));
+    assert_room(&rt, &map, ONE, 9);
 }

@@ -1,41 +1,47 @@
 //! Keys and values of zero size.
-use std::test::Fail;
+use crate::checks::{
+    assert_gives, assert_granted, assert_is, assert_list, assert_refused, check, granted,
+};
 use vecmap::VecMap;
 
 #[test]
-fn keys_of_no_size_are_inserted_once(rt: HostRuntime) -> Result<(), Fail> {
-    let numbered = VecMap::from(vec![in rt.alloc(); ((), 1), ((), 2)]?);
-    assert!(rt; numbered.as_slice() == [((), 2)].as_slice());
+fn keys_of_no_size_are_inserted_once(rt: HostRuntime) {
+    let pairs = granted(&rt, vec![in rt.alloc(); ((), 1), ((), 2)]);
+    assert_list(&rt, VecMap::from(pairs).as_slice(), &[((), 2)]);
     let mut map = VecMap::new(rt.alloc());
-    assert!(rt; matches!(map.insert((), ()), Ok(None)));
-    assert!(rt; matches!(map.insert((), ()), Ok(Some(()))));
-    assert!(rt; matches!(map.insert_full((), ()), Ok((0, Some(())))));
-    assert!(rt; matches!(map.insert_key((), ()), Ok(Some(((), ())))));
-    assert!(rt; map.entry(()).or_insert(()).is_ok());
-    assert!(rt; map.get_index_of(&()) == Some(0) && map.get_index(usize::MAX).is_none());
-    let mut part = map.split_off(0)?;
-    assert!(rt; map.is_empty() && part.as_slice() == [((), ())].as_slice());
-    map.append(&mut part)?;
-    assert!(rt; map == map.clone()? && part.is_empty());
-    assert!(rt; map.drain(..).next_back() == Some(((), ())) && map.is_empty());
-    Ok(())
+    assert_gives(&rt, map.insert((), ()), None);
+    assert_gives(&rt, map.insert((), ()), Some(()));
+    assert_gives(&rt, map.insert_full((), ()), (0, Some(())));
+    assert_gives(&rt, map.insert_key((), ()), Some(((), ())));
+    assert_granted(&rt, map.entry(()).or_insert(()));
+    assert_is(&rt, map.get_index_of(&()), Some(0));
+    check!(rt; map.get_index(usize::MAX).is_none());
+    let mut part = granted(&rt, map.split_off(0));
+    check!(rt; map.is_empty());
+    assert_list(&rt, part.as_slice(), &[((), ())]);
+    assert_granted(&rt, map.append(&mut part));
+    check!(rt; map == granted(&rt, map.clone()));
+    check!(rt; part.is_empty());
+    assert_is(&rt, map.drain(..).next_back(), Some(((), ())));
+    check!(rt; map.is_empty());
 }
 
 #[test]
-fn keys_of_no_size_have_less_capacity_than_the_greatest_number(
-    rt: HostRuntime,
-) -> Result<(), Fail> {
+fn keys_of_no_size_have_less_capacity_than_the_greatest_number(rt: HostRuntime) {
     let refused: Result<VecMap<(), ()>, _> = VecMap::with_capacity(rt.alloc(), usize::MAX);
-    assert!(rt; refused.is_err());
-    let mut map: VecMap<(), ()> = VecMap::with_capacity(rt.alloc(), usize::MAX / 2)?;
-    map.insert((), ())?;
+    assert_refused(&rt, refused);
+    let half = usize::MAX / 2;
+    let mut map: VecMap<(), ()> = granted(&rt, VecMap::with_capacity(rt.alloc(), half));
+    assert_granted(&rt, map.insert((), ()));
     let room = map.capacity();
-    assert!(rt; usize::MAX / 2 <= room && room < usize::MAX);
-    assert!(rt; map.reserve(usize::MAX).is_err() && map.reserve_exact(usize::MAX).is_err());
+    check!(rt; (half..usize::MAX).contains(&room));
+    assert_refused(&rt, map.reserve(usize::MAX));
+    assert_refused(&rt, map.reserve_exact(usize::MAX));
     map.shrink_to(usize::MAX);
     map.truncate(usize::MAX);
-    assert!(rt; map.as_slice() == [((), ())].as_slice() && map.capacity() == room);
+    assert_list(&rt, map.as_slice(), &[((), ())]);
+    assert_is(&rt, map.capacity(), room);
     map.shrink_to_fit();
-    assert!(rt; map.as_slice() == [((), ())].as_slice() && map.capacity() < room);
-    Ok(())
+    assert_list(&rt, map.as_slice(), &[((), ())]);
+    check!(rt; map.capacity() < room);
 }

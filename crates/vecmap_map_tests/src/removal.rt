@@ -2,9 +2,8 @@
 mod retain;
 mod split_off;
 
-use crate::checks::{assert_is, assert_list, assert_pair, assert_pairs, check};
+use crate::checks::{assert_is, assert_list, assert_pair, assert_pairs, check, granted};
 use std::alloc::{AllocError, Global};
-use std::test::Fail;
 use vecmap::VecMap;
 use vecmap_fixtures::{Item, item_map, make_item};
 
@@ -16,9 +15,9 @@ fn start(alloc: Global) -> Result<VecMap<Item, u32>, AllocError> {
 }
 
 #[test]
-fn a_removal_by_key_shifts_what_follows(rt: HostRuntime) -> Result<(), Fail> {
+fn a_removal_by_key_shifts_what_follows(rt: HostRuntime) {
     let left = &[(1, 'a', 10), (3, 'c', 30), (4, 'd', 40)];
-    let mut map = start(rt.alloc())?;
+    let mut map = granted(&rt, start(rt.alloc()));
     assert_is(&rt, map.remove(&make_item(2, 'z')), Some(20));
     assert_pairs(&rt, &map, left);
     assert_is(&rt, map.remove(&make_item(2, 'z')), None);
@@ -26,13 +25,12 @@ fn a_removal_by_key_shifts_what_follows(rt: HostRuntime) -> Result<(), Fail> {
     assert_pairs(&rt, &map, left);
     assert_pair(&rt, map.remove_entry(&make_item(1, 'z')), (1, 'a', 10));
     assert_pairs(&rt, &map, &[(3, 'c', 30), (4, 'd', 40)]);
-    Ok(())
 }
 
 #[test]
-fn a_swap_removal_by_key_fills_the_gap_with_the_last(rt: HostRuntime) -> Result<(), Fail> {
+fn a_swap_removal_by_key_fills_the_gap_with_the_last(rt: HostRuntime) {
     let left = &[(1, 'a', 10), (4, 'd', 40), (3, 'c', 30)];
-    let mut map = start(rt.alloc())?;
+    let mut map = granted(&rt, start(rt.alloc()));
     assert_is(&rt, map.swap_remove(&make_item(2, 'z')), Some(20));
     assert_pairs(&rt, &map, left);
     assert_is(&rt, map.swap_remove(&make_item(2, 'z')), None);
@@ -42,11 +40,10 @@ fn a_swap_removal_by_key_fills_the_gap_with_the_last(rt: HostRuntime) -> Result<
     assert_pairs(&rt, &map, &[(3, 'c', 30), (4, 'd', 40)]);
     assert_is(&rt, map.swap_remove(&make_item(4, 'z')), Some(40));
     assert_pairs(&rt, &map, &[(3, 'c', 30)]);
-    Ok(())
 }
 
 #[test]
-fn a_removal_by_index_shifts_or_swaps(rt: HostRuntime) -> Result<(), Fail> {
+fn a_removal_by_index_shifts_or_swaps(rt: HostRuntime) {
     for (index, pair, shifted, swapped) in [
         (
             0,
@@ -67,21 +64,20 @@ fn a_removal_by_index_shifts_or_swaps(rt: HostRuntime) -> Result<(), Fail> {
             [(1, 'a', 10), (2, 'b', 20), (3, 'c', 30)],
         ),
     ] {
-        let mut map = start(rt.alloc())?;
+        let mut map = granted(&rt, start(rt.alloc()));
         assert!(rt; index < map.len());
         assert_pair(&rt, Some(map.remove_index(index)), pair);
         assert_pairs(&rt, &map, &shifted);
-        let mut map = start(rt.alloc())?;
+        let mut map = granted(&rt, start(rt.alloc()));
         assert!(rt; index < map.len());
         assert_pair(&rt, Some(map.swap_remove_index(index)), pair);
         assert_pairs(&rt, &map, &swapped);
     }
-    Ok(())
 }
 
 #[test]
-fn pop_truncate_and_clear_remove_from_the_end(rt: HostRuntime) -> Result<(), Fail> {
-    let mut map = start(rt.alloc())?;
+fn pop_truncate_and_clear_remove_from_the_end(rt: HostRuntime) {
+    let mut map = granted(&rt, start(rt.alloc()));
     let room = map.capacity();
     assert_pair(&rt, map.pop(), (4, 'd', 40));
     let left = &[(1, 'a', 10), (2, 'b', 20), (3, 'c', 30)];
@@ -94,19 +90,15 @@ fn pop_truncate_and_clear_remove_from_the_end(rt: HostRuntime) -> Result<(), Fai
     check!(rt; map.is_empty());
     check!(rt; map.pop().is_none());
     assert_is(&rt, (map.len(), map.capacity()), (0, room));
-    Ok(())
 }
 
 #[test]
-fn swap_remove_removes_a_key_and_then_the_key_that_became_last(
-    rt: HostRuntime,
-) -> Result<(), Fail> {
+fn swap_remove_removes_a_key_and_then_the_key_that_became_last(rt: HostRuntime) {
     let pairs = [(1, "a"), (2, "b"), (3, "c"), (4, "d")];
-    let mut map = VecMap::from_slice(rt.alloc(), &pairs)?;
+    let mut map = granted(&rt, VecMap::from_slice(rt.alloc(), &pairs));
     assert_is(&rt, map.swap_remove(&2), Some("b"));
     assert_list(&rt, map.as_slice(), &[(1, "a"), (4, "d"), (3, "c")]);
     assert_is(&rt, map.swap_remove(&2), None);
     assert_is(&rt, map.swap_remove(&3), Some("c"));
     assert_list(&rt, map.as_slice(), &[(1, "a"), (4, "d")]);
-    Ok(())
 }

@@ -1,12 +1,16 @@
 //! Calls by key on a map with equal keys: each uses the first of the equal keys, and leaves the others unchanged.
 use super::entry::occupied;
-use crate::checks::{assert_full, assert_gives, assert_is, assert_pair, assert_pairs, check};
+use super::lookup::numbered_texts;
+use crate::checks::{
+    assert_full, assert_gives, assert_granted, assert_is, assert_list, assert_pair, assert_pairs,
+    check, granted,
+};
 use std::alloc::{AllocError, Global};
 use std::process::Abort;
-use std::test::Fail;
 use vecmap::VecMap;
 use vecmap::map::MutableKeys;
-use vecmap_fixtures::{Item, has_pairs, make_item, repeating_map};
+use vecmap_fixtures::plain::inserted;
+use vecmap_fixtures::{Item, has_pairs, item_map, make_item, repeating_map};
 
 // Creates a map with the key 1 at three indices, neither at the first nor at the last.
 fn start(alloc: Global) -> Result<VecMap<Item, u32>, AllocError> {
@@ -53,8 +57,8 @@ fn assert_first(rt: &impl Abort, map: &VecMap<Item, u32>, mark: char, value: u32
 }
 
 #[test]
-fn lookups_return_the_first_of_equal_keys(rt: HostRuntime) -> Result<(), Fail> {
-    let map = start(rt.alloc())?;
+fn lookups_return_the_first_of_equal_keys(rt: HostRuntime) {
+    let map = granted(&rt, start(rt.alloc()));
     let key = make_item(1, 'z');
     assert_first(&rt, &map, 'b', 2);
     check!(rt; !map.has_distinct_keys());
@@ -67,12 +71,11 @@ fn lookups_return_the_first_of_equal_keys(rt: HostRuntime) -> Result<(), Fail> {
     assert_pair(&rt, map.get_key_value(&key), (1, 'b', 2));
     assert_full(&rt, map.get_full(&key), 1, (1, 'b', 2));
     assert_is(&rt, map[&key], 2);
-    Ok(())
 }
 
 #[test]
-fn the_first_of_equal_keys_lends_its_value(rt: HostRuntime) -> Result<(), Fail> {
-    let mut map = start(rt.alloc())?;
+fn the_first_of_equal_keys_lends_its_value(rt: HostRuntime) {
+    let mut map = granted(&rt, start(rt.alloc()));
     let key = make_item(1, 'z');
     *map.get_mut(&key).expect(&rt, "absent") = 20;
     assert_first(&rt, &map, 'b', 20);
@@ -88,98 +91,84 @@ fn the_first_of_equal_keys_lends_its_value(rt: HostRuntime) -> Result<(), Fail> 
     *stored = make_item(1, 'y');
     *value = 50;
     assert_first(&rt, &map, 'y', 50);
-    Ok(())
 }
 
 #[test]
-fn insertions_change_the_value_of_the_first_of_equal_keys(rt: HostRuntime) -> Result<(), Fail> {
-    let mut map = start(rt.alloc())?;
+fn insertions_change_the_value_of_the_first_of_equal_keys(rt: HostRuntime) {
+    let mut map = granted(&rt, start(rt.alloc()));
     assert_gives(&rt, map.insert(make_item(1, 'z'), 20), Some(2));
     assert_first(&rt, &map, 'b', 20);
     assert_gives(&rt, map.insert_full(make_item(1, 'z'), 30), (1, Some(20)));
     assert_first(&rt, &map, 'b', 30);
-    map.extend([(make_item(1, 'z'), 40)])?;
+    assert_granted(&rt, map.extend([(make_item(1, 'z'), 40)]));
     assert_first(&rt, &map, 'b', 40);
-    map.extend_pairs(&[(make_item(1, 'z'), 50)])?;
+    assert_granted(&rt, map.extend_pairs(&[(make_item(1, 'z'), 50)]));
     assert_first(&rt, &map, 'b', 50);
-    Ok(())
 }
 
 #[test]
-fn insert_key_replaces_the_first_of_equal_keys(rt: HostRuntime) -> Result<(), Fail> {
-    let mut map = start(rt.alloc())?;
-    assert_pair(&rt, map.insert_key(make_item(1, 'z'), 20)?, (1, 'b', 2));
+fn insert_key_replaces_the_first_of_equal_keys(rt: HostRuntime) {
+    let mut map = granted(&rt, start(rt.alloc()));
+    let old = granted(&rt, map.insert_key(make_item(1, 'z'), 20));
+    assert_pair(&rt, old, (1, 'b', 2));
     assert_first(&rt, &map, 'z', 20);
-    Ok(())
 }
 
 #[test]
-fn append_changes_the_value_of_the_first_of_equal_keys(rt: HostRuntime) -> Result<(), Fail> {
-    let mut map = start(rt.alloc())?;
-    let mut other = VecMap::from_slice(rt.alloc(), &[(make_item(1, 'z'), 20)])?;
-    map.append(&mut other)?;
+fn append_changes_the_value_of_the_first_of_equal_keys(rt: HostRuntime) {
+    let mut map = granted(&rt, start(rt.alloc()));
+    let mut other = granted(&rt, item_map(rt.alloc(), &[(1, 'z', 20)]));
+    assert_granted(&rt, map.append(&mut other));
     assert_first(&rt, &map, 'b', 20);
     check!(rt; other.is_empty());
-    Ok(())
 }
 
 #[test]
-fn extend_refs_changes_the_value_of_the_first_of_equal_keys(rt: HostRuntime) -> Result<(), Fail> {
-    let mut map = start(rt.alloc())?;
-    let more = [(make_item(1, 'z'), 20)];
-    map.extend_refs(more.iter().map(|pair| (&pair.0, &pair.1)))?;
+fn extend_refs_changes_the_value_of_the_first_of_equal_keys(rt: HostRuntime) {
+    let mut map = granted(&rt, start(rt.alloc()));
+    let more = granted(&rt, item_map(rt.alloc(), &[(1, 'z', 20)]));
+    assert_granted(&rt, map.extend_refs(more.iter()));
     assert_first(&rt, &map, 'b', 20);
-    Ok(())
 }
 
 #[test]
-fn insert_at_moves_the_first_of_equal_keys(rt: HostRuntime) -> Result<(), Fail> {
+fn insert_at_moves_the_first_of_equal_keys(rt: HostRuntime) {
     for (index, place) in [(0, 0), (1, 1), (2, 2), (4, 4), (5, 5), (6, 5)] {
-        let mut map = start(rt.alloc())?;
+        let mut map = granted(&rt, start(rt.alloc()));
         assert!(rt; index <= map.len());
-        assert_gives(
-            &rt,
-            map.insert_at(index, make_item(1, 'z'), 20),
-            Some((1, 2)),
-        );
-        let mut expected = SHIFTED.to_vec(rt.alloc())?;
-        assert!(rt; place <= expected.len());
-        expected.insert(place, (1, 'z', 20))?;
-        assert_pairs(&rt, &map, &expected);
+        let old = map.insert_at(index, make_item(1, 'z'), 20);
+        assert_gives(&rt, old, Some((1, 2)));
+        let expected = inserted(rt.alloc(), SHIFTED, place, (1, 'z', 20));
+        assert_pairs(&rt, &map, &granted(&rt, expected));
     }
-    Ok(())
 }
 
 #[test]
-fn removals_remove_the_first_of_equal_keys(rt: HostRuntime) -> Result<(), Fail> {
+fn removals_remove_the_first_of_equal_keys(rt: HostRuntime) {
     let key = make_item(1, 'z');
-    let mut map = start(rt.alloc())?;
+    let mut map = granted(&rt, start(rt.alloc()));
     assert_is(&rt, map.remove(&key), Some(2));
     assert_pairs(&rt, &map, SHIFTED);
-    let mut map = start(rt.alloc())?;
+    let mut map = granted(&rt, start(rt.alloc()));
     assert_pair(&rt, map.remove_entry(&key), (1, 'b', 2));
     assert_pairs(&rt, &map, SHIFTED);
-    let mut map = start(rt.alloc())?;
+    let mut map = granted(&rt, start(rt.alloc()));
     assert_is(&rt, map.swap_remove(&key), Some(2));
     assert_pairs(&rt, &map, SWAPPED);
-    let mut map = start(rt.alloc())?;
+    let mut map = granted(&rt, start(rt.alloc()));
     assert_pair(&rt, map.swap_remove_entry(&key), (1, 'b', 2));
     assert_pairs(&rt, &map, SWAPPED);
-    Ok(())
 }
 
 #[test]
-fn an_entry_is_that_of_the_first_of_equal_keys(rt: HostRuntime) -> Result<(), Fail> {
-    let mut map = start(rt.alloc())?;
+fn an_entry_is_that_of_the_first_of_equal_keys(rt: HostRuntime) {
+    let mut map = granted(&rt, start(rt.alloc()));
     let entry = map.entry(make_item(1, 'z'));
     assert_is(&rt, entry.index(), 1);
-    assert_is(
-        &rt,
-        *entry.and_modify(|value| *value = 20).or_insert(0)?,
-        20,
-    );
+    let value = granted(&rt, entry.and_modify(|value| *value = 20).or_insert(0));
+    assert_is(&rt, *value, 20);
     assert_first(&rt, &map, 'b', 20);
-    map.entry(make_item(1, 'z')).insert_entry(30)?.into_key();
+    granted(&rt, map.entry(make_item(1, 'z')).insert_entry(30)).into_key();
     assert_first(&rt, &map, 'b', 30);
     let mut entry = occupied(&rt, map.entry(make_item(1, 'z')));
     assert_is(
@@ -190,40 +179,39 @@ fn an_entry_is_that_of_the_first_of_equal_keys(rt: HostRuntime) -> Result<(), Fa
     *entry.get_mut() = 50;
     *entry.into_mut() = 60;
     assert_first(&rt, &map, 'b', 60);
-    Ok(())
 }
 
 #[test]
-fn an_entry_lends_the_value_of_the_first_of_equal_keys(rt: HostRuntime) -> Result<(), Fail> {
-    let mut map = start(rt.alloc())?;
-    let value = map.entry(make_item(1, 'z')).or_insert_with(|| 0)?;
+fn an_entry_lends_the_value_of_the_first_of_equal_keys(rt: HostRuntime) {
+    let mut map = granted(&rt, start(rt.alloc()));
+    let value = granted(&rt, map.entry(make_item(1, 'z')).or_insert_with(|| 0));
     assert_is(&rt, *value, 2);
     *value = 20;
     assert_first(&rt, &map, 'b', 20);
-    let value = map
-        .entry(make_item(1, 'z'))
-        .or_insert_with_key(|key| key.number)?;
+    let entry = map.entry(make_item(1, 'z'));
+    let value = granted(&rt, entry.or_insert_with_key(|key| key.number));
     assert_is(&rt, *value, 20);
     *value = 30;
     assert_first(&rt, &map, 'b', 30);
-    let value = map.entry(make_item(1, 'z')).or_default()?;
+    let value = granted(&rt, map.entry(make_item(1, 'z')).or_default());
     assert_is(&rt, *value, 30);
     *value = 40;
     assert_first(&rt, &map, 'b', 40);
-    Ok(())
 }
 
 #[test]
-fn an_entry_of_a_new_key_is_appended_after_the_repeats(rt: HostRuntime) -> Result<(), Fail> {
-    let mut map = repeating_map(rt.alloc(), &[(1, 'a', 1), (1, 'b', 2)])?;
-    assert_is(&rt, *map.entry(make_item(2, 'c')).or_insert_with(|| 3)?, 3);
-    assert_is(
+fn an_entry_of_a_new_key_is_appended_after_the_repeats(rt: HostRuntime) {
+    let mut map = granted(&rt, repeating_map(rt.alloc(), &[(1, 'a', 1), (1, 'b', 2)]));
+    let value = granted(&rt, map.entry(make_item(2, 'c')).or_insert_with(|| 3));
+    assert_is(&rt, *value, 3);
+    let entry = map.entry(make_item(3, 'd'));
+    let value = granted(
         &rt,
-        *map.entry(make_item(3, 'd'))
-            .or_insert_with_key(|key| key.number.wrapping_mul(10))?,
-        30,
+        entry.or_insert_with_key(|key| key.number.wrapping_mul(10)),
     );
-    assert_is(&rt, *map.entry(make_item(4, 'e')).or_default()?, 0);
+    assert_is(&rt, *value, 30);
+    let value = granted(&rt, map.entry(make_item(4, 'e')).or_default());
+    assert_is(&rt, *value, 0);
     let all = [
         (1, 'a', 1),
         (1, 'b', 2),
@@ -232,42 +220,38 @@ fn an_entry_of_a_new_key_is_appended_after_the_repeats(rt: HostRuntime) -> Resul
         (4, 'e', 0),
     ];
     assert_pairs(&rt, &map, &all);
-    Ok(())
 }
 
 #[test]
-fn removals_of_an_entry_remove_the_first_of_equal_keys(rt: HostRuntime) -> Result<(), Fail> {
-    let mut map = start(rt.alloc())?;
+fn removals_of_an_entry_remove_the_first_of_equal_keys(rt: HostRuntime) {
+    let mut map = granted(&rt, start(rt.alloc()));
     let entry = occupied(&rt, map.entry(make_item(1, 'z')));
     assert_is(&rt, entry.remove(), 2);
     assert_pairs(&rt, &map, SHIFTED);
-    let mut map = start(rt.alloc())?;
+    let mut map = granted(&rt, start(rt.alloc()));
     let entry = occupied(&rt, map.entry(make_item(1, 'z')));
     assert_is(&rt, entry.swap_remove(), 2);
     assert_pairs(&rt, &map, SWAPPED);
-    let mut map = start(rt.alloc())?;
+    let mut map = granted(&rt, start(rt.alloc()));
     let entry = occupied(&rt, map.entry(make_item(1, 'z')));
     assert_pair(&rt, Some(entry.remove_entry()), (1, 'b', 2));
     assert_pairs(&rt, &map, SHIFTED);
-    let mut map = start(rt.alloc())?;
+    let mut map = granted(&rt, start(rt.alloc()));
     let entry = occupied(&rt, map.entry(make_item(1, 'z')));
     assert_pair(&rt, Some(entry.swap_remove_entry()), (1, 'b', 2));
     assert_pairs(&rt, &map, SWAPPED);
-    Ok(())
 }
 
 #[test]
-fn clones_and_vectors_of_a_map_have_its_repeats(rt: HostRuntime) -> Result<(), Fail> {
-    let map = start(rt.alloc())?;
-    assert_first(&rt, &map.clone()?, 'b', 2);
-    check!(rt; map == map.clone()?);
-    let pairs = map.to_vec()?;
-    assert_is(
-        &rt,
-        (pairs.len(), pairs.as_slice() == map.as_slice()),
-        (6, true),
-    );
-    let mut map = start(rt.alloc())?;
+fn clones_and_vectors_of_a_map_have_its_repeats(rt: HostRuntime) {
+    let map = granted(&rt, start(rt.alloc()));
+    let copy = granted(&rt, map.clone());
+    assert_first(&rt, &copy, 'b', 2);
+    check!(rt; map == copy);
+    let pairs = granted(&rt, map.to_vec());
+    assert_is(&rt, pairs.len(), 6);
+    assert_list(&rt, &pairs, map.as_slice());
+    let mut map = granted(&rt, start(rt.alloc()));
     map.reverse();
     let expected = [
         (8, 'f', 6),
@@ -278,37 +262,48 @@ fn clones_and_vectors_of_a_map_have_its_repeats(rt: HostRuntime) -> Result<(), F
         (9, 'a', 1),
     ];
     check!(rt; has_pairs(&map.into_vec(), &expected));
-    Ok(())
+}
+
+// Writes the key at an index.
+fn write_text(rt: &impl Abort, map: &mut VecMap<String, u32>, index: usize, text: String) {
+    let (key, _value) = map.get_index_mut2(index).expect(rt, "nothing there");
+    *key = text;
+}
+
+// Asserts that a map has exactly these texts and numbers, in this order.
+fn assert_texts(rt: &impl Abort, map: &VecMap<String, u32>, expected: &[(&str, u32)]) {
+    assert_is(rt, map.len(), expected.len());
+    for (pair, wanted) in map.as_slice().iter().zip(expected) {
+        assert_is(rt, (pair.0.as_str(), pair.1), *wanted);
+    }
 }
 
 #[test]
-fn texts_match_the_first_of_equal_keys(rt: HostRuntime) -> Result<(), Fail> {
-    let mut map = VecMap::new(rt.alloc());
-    for (text, value) in [("a", 1), ("b", 2), ("c", 3), ("d", 4), ("e", 5)] {
-        map.insert(String::from_str(rt.alloc(), text)?, value)?;
-    }
-    for place in [3, 4] {
-        let (key, _value) = map.get_index_mut2(place).expect(&rt, "nothing there");
-        *key = String::from_str(rt.alloc(), "b")?;
-    }
+fn texts_match_the_first_of_equal_keys(rt: HostRuntime) {
+    let texts = [("a", 1), ("b", 2), ("c", 3), ("d", 4), ("e", 5)];
+    let mut map = granted(&rt, numbered_texts(rt.alloc(), &texts));
+    write_text(
+        &rt,
+        &mut map,
+        3,
+        granted(&rt, String::from_str(rt.alloc(), "b")),
+    );
+    write_text(
+        &rt,
+        &mut map,
+        4,
+        granted(&rt, String::from_str(rt.alloc(), "b")),
+    );
     check!(rt; map.contains_key_str("b"));
     check!(rt; !map.contains_key_str("d"));
-    assert_is(
-        &rt,
-        (map.get_index_of_str("b"), map.get_str("b").copied()),
-        (Some(1), Some(2)),
-    );
-    for (value, left) in [
-        (Some(2), [("a", 1), ("c", 3), ("b", 4), ("b", 5)].as_slice()),
-        (Some(4), [("a", 1), ("c", 3), ("b", 5)].as_slice()),
-        (Some(5), [("a", 1), ("c", 3)].as_slice()),
-        (None, [("a", 1), ("c", 3)].as_slice()),
-    ] {
-        assert_is(&rt, map.remove_str("b"), value);
-        assert_is(&rt, map.len(), left.len());
-        for (pair, wanted) in map.as_slice().iter().zip(left) {
-            assert_is(&rt, (pair.0.as_str(), pair.1), *wanted);
-        }
-    }
-    Ok(())
+    let found = (map.get_index_of_str("b"), map.get_str("b").copied());
+    assert_is(&rt, found, (Some(1), Some(2)));
+    assert_is(&rt, map.remove_str("b"), Some(2));
+    assert_texts(&rt, &map, &[("a", 1), ("c", 3), ("b", 4), ("b", 5)]);
+    assert_is(&rt, map.remove_str("b"), Some(4));
+    assert_texts(&rt, &map, &[("a", 1), ("c", 3), ("b", 5)]);
+    assert_is(&rt, map.remove_str("b"), Some(5));
+    assert_texts(&rt, &map, &[("a", 1), ("c", 3)]);
+    assert_is(&rt, map.remove_str("b"), None);
+    assert_texts(&rt, &map, &[("a", 1), ("c", 3)]);
 }

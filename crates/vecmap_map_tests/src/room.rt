@@ -1,79 +1,70 @@
 //! The capacity of a map.
-use std::test::Fail;
+use crate::checks::{
+    assert_gives, assert_granted, assert_is, assert_list, assert_refused, check, granted,
+};
 use vecmap::VecMap;
 
 #[test]
-fn reserved_capacity_takes_insertions(rt: HostRuntime) -> Result<(), Fail> {
-    let mut map: VecMap<u32, u32> = VecMap::with_capacity(rt.alloc(), 0)?;
-    assert!(rt; map.capacity() == 0);
-    map.reserve(3)?;
+fn reserved_capacity_takes_insertions(rt: HostRuntime) {
+    let mut map: VecMap<u32, u32> = granted(&rt, VecMap::with_capacity(rt.alloc(), 0));
+    assert_is(&rt, map.capacity(), 0);
+    assert_granted(&rt, map.reserve(3));
     let room = map.capacity();
-    assert!(rt; 3 <= room);
+    check!(rt; 3 <= room);
     for number in 0..3 {
-        assert!(rt; map.insert(number, number)? == None);
+        assert_gives(&rt, map.insert(number, number), None);
     }
-    assert!(rt; map.capacity() == room);
-    for granted in [
-        map.reserve_exact(room - 3).is_ok(),
-        map.try_reserve(room - 3).is_ok(),
-        map.try_reserve_exact(room - 3).is_ok(),
-    ] {
-        assert!(rt; granted);
-    }
-    assert!(rt; map.capacity() == room);
-    map.reserve_exact(room)?;
-    assert!(rt; room + 3 <= map.capacity());
-    map.try_reserve(9)?;
-    map.try_reserve_exact(10)?;
-    assert!(rt; 13 <= map.capacity());
-    assert!(rt; map.as_slice() == [(0, 0), (1, 1), (2, 2)].as_slice());
-    Ok(())
+    assert_is(&rt, map.capacity(), room);
+    let spare = room.saturating_sub(3);
+    assert_granted(&rt, map.reserve_exact(spare));
+    assert_granted(&rt, map.try_reserve(spare));
+    assert_granted(&rt, map.try_reserve_exact(spare));
+    assert_is(&rt, map.capacity(), room);
+    assert_granted(&rt, map.reserve_exact(room));
+    check!(rt; room.saturating_add(3) <= map.capacity());
+    assert_granted(&rt, map.try_reserve(9));
+    assert_granted(&rt, map.try_reserve_exact(10));
+    check!(rt; 13 <= map.capacity());
+    assert_list(&rt, map.as_slice(), &[(0, 0), (1, 1), (2, 2)]);
 }
 
 #[test]
-fn capacity_past_what_a_vector_holds_is_refused(rt: HostRuntime) -> Result<(), Fail> {
-    let mut map: VecMap<u32, u32> = VecMap::with_capacity(rt.alloc(), 2)?;
-    map.insert(1, 10)?;
+fn capacity_past_what_a_vector_holds_is_refused(rt: HostRuntime) {
+    let mut map: VecMap<u32, u32> = granted(&rt, VecMap::with_capacity(rt.alloc(), 2));
+    assert_granted(&rt, map.insert(1, 10));
     let room = map.capacity();
-    for refused in [
-        map.reserve(usize::MAX).is_err(),
-        map.reserve_exact(usize::MAX).is_err(),
-        map.try_reserve(usize::MAX).is_err(),
-        map.try_reserve_exact(usize::MAX).is_err(),
-    ] {
-        assert!(rt; refused);
-    }
-    assert!(rt; map.as_slice() == [(1, 10)].as_slice());
-    assert!(rt; map.capacity() == room);
+    assert_refused(&rt, map.reserve(usize::MAX));
+    assert_refused(&rt, map.reserve_exact(usize::MAX));
+    assert_refused(&rt, map.try_reserve(usize::MAX));
+    assert_refused(&rt, map.try_reserve_exact(usize::MAX));
+    assert_list(&rt, map.as_slice(), &[(1, 10)]);
+    assert_is(&rt, map.capacity(), room);
     let refused: Result<VecMap<u32, u32>, _> = VecMap::with_capacity(rt.alloc(), usize::MAX);
-    assert!(rt; refused.is_err());
-    Ok(())
+    assert_refused(&rt, refused);
 }
 
 #[test]
-fn shrinking_goes_no_lower_than_its_limit(rt: HostRuntime) -> Result<(), Fail> {
-    let mut map = VecMap::with_capacity(rt.alloc(), 10)?;
-    map.insert('a', 1u32)?;
-    map.insert('b', 2)?;
+fn shrinking_goes_no_lower_than_its_limit(rt: HostRuntime) {
+    let mut map = granted(&rt, VecMap::with_capacity(rt.alloc(), 10));
+    assert_granted(&rt, map.insert('a', 1u32));
+    assert_granted(&rt, map.insert('b', 2));
     map.shrink_to(5);
-    assert!(rt; map.capacity() == 5);
+    assert_is(&rt, map.capacity(), 5);
     map.shrink_to(9);
-    assert!(rt; map.capacity() == 5);
+    assert_is(&rt, map.capacity(), 5);
     map.shrink_to(0);
-    assert!(rt; map.capacity() == 2);
-    assert!(rt; map.as_slice() == [('a', 1), ('b', 2)].as_slice());
+    assert_is(&rt, map.capacity(), 2);
+    assert_list(&rt, map.as_slice(), &[('a', 1), ('b', 2)]);
     map.clear();
     map.shrink_to_fit();
-    assert!(rt; map.capacity() == 0);
-    Ok(())
+    assert_is(&rt, map.capacity(), 0);
 }
 
 #[test]
-fn shrinking_to_fit_keeps_the_pairs(rt: HostRuntime) -> Result<(), Fail> {
-    let mut map = VecMap::with_capacity(rt.alloc(), 10)?;
-    map.extend([("b", 2), ("a", 1)])?;
+fn shrinking_to_fit_keeps_the_pairs(rt: HostRuntime) {
+    let mut map = granted(&rt, VecMap::with_capacity(rt.alloc(), 10));
+    assert_granted(&rt, map.extend([("b", 2), ("a", 1)]));
     map.shrink_to_fit();
-    assert!(rt; map.as_slice() == [("b", 2), ("a", 1)].as_slice());
-    assert!(rt; 2 <= map.capacity() && map.capacity() < 10);
-    Ok(())
+    assert_list(&rt, map.as_slice(), &[("b", 2), ("a", 1)]);
+    check!(rt; (2..10).contains(&map.capacity()));
 }

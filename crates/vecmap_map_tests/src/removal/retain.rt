@@ -1,7 +1,7 @@
 //! The pairs of a map that closures keep.
-use crate::checks::{assert_is, assert_list, assert_pairs, check};
+use crate::checks::{assert_is, assert_list, assert_pairs, check, granted};
+use std::alloc::{AllocError, Global};
 use std::mem;
-use std::test::Fail;
 use vecmap::VecMap;
 use vecmap::map::MutableKeys;
 use vecmap_fixtures::{Log, make_item, repeating_map, told_pairs};
@@ -9,8 +9,8 @@ use vecmap_fixtures::{Log, make_item, repeating_map, told_pairs};
 const FOUR: &[(u32, char, u32)] = &[(1, 'a', 1), (2, 'b', 2), (1, 'c', 3), (4, 'd', 4)];
 
 #[test]
-fn retain_keeps_the_values_that_the_closure_wrote(rt: HostRuntime) -> Result<(), Fail> {
-    let mut map = repeating_map(rt.alloc(), FOUR)?;
+fn retain_keeps_the_values_that_the_closure_wrote(rt: HostRuntime) {
+    let mut map = granted(&rt, repeating_map(rt.alloc(), FOUR));
     let room = map.capacity();
     let mut asked = 0u32;
     map.retain(|key, value| {
@@ -28,12 +28,11 @@ fn retain_keeps_the_values_that_the_closure_wrote(rt: HostRuntime) -> Result<(),
     assert_is(&rt, map.capacity(), room);
     map.retain(|_key, _value| true);
     check!(rt; map.is_empty());
-    Ok(())
 }
 
 #[test]
-fn retain_calls_a_closure_with_state_in_order(rt: HostRuntime) -> Result<(), Fail> {
-    let mut map = repeating_map(rt.alloc(), FOUR)?;
+fn retain_calls_a_closure_with_state_in_order(rt: HostRuntime) {
+    let mut map = granted(&rt, repeating_map(rt.alloc(), FOUR));
     let mut asked = Vec::new(rt.alloc());
     let mut turn = false;
     map.retain(|key, _value| {
@@ -43,13 +42,12 @@ fn retain_calls_a_closure_with_state_in_order(rt: HostRuntime) -> Result<(), Fai
     });
     assert_list(&rt, asked.as_slice(), &['a', 'b', 'c', 'd']);
     assert_pairs(&rt, &map, &[(2, 'b', 2), (4, 'd', 4)]);
-    Ok(())
 }
 
 #[test]
-fn closures_of_retain_count_their_calls(rt: HostRuntime) -> Result<(), Fail> {
+fn closures_of_retain_count_their_calls(rt: HostRuntime) {
     let four = [('a', 0), ('b', 0), ('c', 0), ('d', 0)];
-    let mut map = VecMap::from_slice(rt.alloc(), &four)?;
+    let mut map = granted(&rt, VecMap::from_slice(rt.alloc(), &four));
     let mut count = 0u32;
     map.retain(|_key, value| {
         count = count.wrapping_add(1);
@@ -66,15 +64,20 @@ fn closures_of_retain_count_their_calls(rt: HostRuntime) -> Result<(), Fail> {
     });
     assert_is(&rt, count, 6);
     assert_list(&rt, map.as_slice(), &[('e', 6)]);
-    Ok(())
+}
+
+// Creates a map of the numbers below 8, each with ten times as much.
+fn tens(alloc: Global) -> Result<VecMap<u32, u32>, AllocError> {
+    let mut map = VecMap::new(alloc);
+    for number in 0..8u32 {
+        map.insert(number, number.wrapping_mul(10))?;
+    }
+    Ok(map)
 }
 
 #[test]
-fn retain2_writes_keys_too(rt: HostRuntime) -> Result<(), Fail> {
-    let mut map = VecMap::new(rt.alloc());
-    for x in 0..8u32 {
-        map.insert(x, x * 10)?;
-    }
+fn retain2_writes_keys_too(rt: HostRuntime) {
+    let mut map = granted(&rt, tens(rt.alloc()));
     let room = map.capacity();
     map.retain2(|key, value| {
         mem::swap(key, value);
@@ -82,12 +85,14 @@ fn retain2_writes_keys_too(rt: HostRuntime) -> Result<(), Fail> {
     });
     assert_list(&rt, map.as_slice(), &[(0, 0), (20, 2), (40, 4), (60, 6)]);
     assert_is(&rt, map.capacity(), room);
-    Ok(())
 }
 
 #[test]
-fn retain2_may_make_keys_equal(rt: HostRuntime) -> Result<(), Fail> {
-    let mut map = repeating_map(rt.alloc(), &[(1, 'a', 1), (2, 'b', 2), (3, 'c', 3)])?;
+fn retain2_may_make_keys_equal(rt: HostRuntime) {
+    let mut map = granted(
+        &rt,
+        repeating_map(rt.alloc(), &[(1, 'a', 1), (2, 'b', 2), (3, 'c', 3)]),
+    );
     map.retain2(|key, value| {
         *key = make_item(7, key.mark);
         *value != 2
@@ -95,18 +100,16 @@ fn retain2_may_make_keys_equal(rt: HostRuntime) -> Result<(), Fail> {
     assert_pairs(&rt, &map, &[(7, 'a', 1), (7, 'c', 3)]);
     check!(rt; !map.has_distinct_keys());
     assert_is(&rt, map.get(&make_item(7, 'z')), Some(&1));
-    Ok(())
 }
 
 #[test]
-fn each_key_that_retain_removes_is_dropped_once(rt: HostRuntime) -> Result<(), Fail> {
+fn each_key_that_retain_removes_is_dropped_once(rt: HostRuntime) {
     let log = Log::new();
-    let mut map = VecMap::from(told_pairs(rt.alloc(), &log, &[0, 1, 2, 3, 4])?);
+    let mut map = VecMap::from(granted(&rt, told_pairs(rt.alloc(), &log, &[0, 1, 2, 3, 4])));
     map.retain(|_key, value| *value % 2 == 0);
     assert_is(&rt, (map.len(), log.drops()), (3, 2));
     map.retain2(|_key, value| *value == 2);
     assert_is(&rt, (map.len(), log.drops()), (1, 4));
     drop(map);
     assert_is(&rt, log.drops(), 5);
-    Ok(())
 }
