@@ -6,6 +6,8 @@
 mod base;
 pub mod calling;
 #[cfg(test)]
+mod checks;
+#[cfg(test)]
 mod made;
 #[cfg(test)]
 mod map;

@@ -18,6 +18,22 @@ pub fn two_words(alloc: Global) -> Result<VecMap<&'static str, u32>, AllocError>
     Ok(vecmap!(alloc; "a" => 1, "b" => 2))
 }
 
+pub fn one_letter(alloc: Global) -> Result<VecMap<char, u32>, AllocError> {
+    Ok(vecmap!(alloc; 'a' => 1))
+}
+
+pub fn repeated_letters(alloc: Global) -> Result<VecMap<char, u32>, AllocError> {
+    Ok(vecmap!(alloc; 'a' => 1, 'b' => 2, 'a' => 3))
+}
+
+pub fn one_room(alloc: Global) -> Result<VecMap<char, VecMap<u32, u32>>, AllocError> {
+    Ok(vecmap!(alloc; 'a' => vecmap!(alloc; 1 => 10)))
+}
+
+pub fn one_group(alloc: Global) -> Result<VecMap<char, VecSet<u32>>, AllocError> {
+    Ok(vecmap!(alloc; 'a' => vecset!(alloc; 2, 1)))
+}
+
 pub fn one_text(alloc: Global) -> Result<VecMap<String, u32>, AllocError> {
     Ok(vecmap!(alloc; String::from_str(alloc, "a")? => 1))
 }
@@ -38,16 +54,26 @@ pub fn other_numbers(alloc: Global) -> Result<VecSet<u32>, AllocError> {
     Ok(vecset!(alloc; 2, 3))
 }
 
+pub fn one_number(alloc: Global) -> Result<VecSet<u32>, AllocError> {
+    Ok(vecset!(alloc; 1))
+}
+
+pub fn one_other_number(alloc: Global) -> Result<VecSet<u32>, AllocError> {
+    Ok(vecset!(alloc; 2))
+}
+
+pub fn repeated_numbers(alloc: Global) -> Result<VecSet<u32>, AllocError> {
+    Ok(vecset!(alloc; 2, 1, 2))
+}
+
+pub fn rotated_numbers(alloc: Global) -> Result<VecSet<u32>, AllocError> {
+    Ok(vecset!(alloc; 2, 3, 1))
+}
+
+pub fn larger_numbers(alloc: Global) -> Result<VecSet<u32>, AllocError> {
+    Ok(vecset!(alloc; 3, 4))
+}
+
 pub fn one_text_set(alloc: Global) -> Result<VecSet<String>, AllocError> {
     Ok(vecset!(alloc; String::from_str(alloc, "a")?))
-}
-
-/// Returns whether a map has these pairs, in this order.
-pub fn has_pairs<K: Eq, V: Eq>(map: &VecMap<K, V>, pairs: &[(K, V)]) -> bool {
-    map.as_slice() == pairs
-}
-
-/// Returns whether a set has these elements, in this order.
-pub fn has_items<T: Eq>(set: &VecSet<T>, items: &[T]) -> bool {
-    set.as_slice() == items
 }

@@ -18,11 +18,14 @@ pub fn headers(alloc: Global) -> Result<VecMap<&'static str, u32>, AllocError>
 #[cfg(test)]
 mod tests {
     use super::*;
-    use std::test::Fail;
+    use crate::checks::{assert_list, granted};
 
     #[test]
-    fn insertions_give_the_list_of_the_contract(rt: HostRuntime) -> Result<(), Fail> {
-        assert!(rt; headers(rt.alloc())?.as_slice() == [("age", 30), ("max", 20)].as_slice());
-        Ok(())
+    fn insertions_give_the_list_of_the_contract(rt: HostRuntime) {
+        assert_list(
+            &rt,
+            granted(&rt, headers(rt.alloc())).as_slice(),
+            &[("age", 30), ("max", 20)],
+        );
     }
 }

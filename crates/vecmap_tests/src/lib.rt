@@ -5,6 +5,8 @@
 mod base;
 #[cfg(test)]
 mod callers;
+#[cfg(test)]
+mod checks;
 pub mod insertions;
 #[cfg(test)]
 mod macros;

@@ -1,26 +1,46 @@
 //! `vecmap!` and `vecset!`.
-use std::test::Fail;
+use crate::checks::{assert_is, assert_list, check, granted};
+use std::alloc::{AllocError, Global};
 use vecmap::{VecMap, VecSet, vecmap, vecset};
 use vecmap_callers::macros::{ages, ports};
 
-#[test]
-fn macros_insert_in_order(rt: HostRuntime) -> Result<(), Fail> {
-    let map = vecmap!(rt.alloc(); "a" => 1, "b" => 2, "a" => 3,);
-    assert!(rt; map.as_slice() == [("a", 3), ("b", 2)].as_slice());
-    assert!(rt; 3 <= map.capacity());
-    let set = vecset!(rt.alloc(); 2, 1, 2,);
-    assert!(rt; set.as_slice() == [2, 1].as_slice());
-    assert!(rt; 3 <= set.capacity());
-    assert!(rt; ages(rt.alloc())?.as_slice() == [(7, 30), (8, 20)].as_slice());
-    assert!(rt; ports(rt.alloc())?.as_slice() == [2, 1].as_slice());
-    Ok(())
+// Each macro in a function of its own, as it returns an error by `?`.
+fn repeated_words(alloc: Global) -> Result<VecMap<&'static str, u32>, AllocError> {
+    Ok(vecmap!(alloc; "a" => 1, "b" => 2, "a" => 3,))
+}
+
+fn repeated_numbers(alloc: Global) -> Result<VecSet<u32>, AllocError> {
+    Ok(vecset!(alloc; 2, 1, 2,))
+}
+
+fn no_pairs(alloc: Global) -> Result<VecMap<u32, char>, AllocError> {
+    Ok(vecmap!(alloc;))
+}
+
+fn no_items(alloc: Global) -> Result<VecSet<char>, AllocError> {
+    Ok(vecset!(alloc;))
 }
 
 #[test]
-fn macros_of_nothing_do_not_allocate(rt: HostRuntime) -> Result<(), Fail> {
-    let map: VecMap<u32, char> = vecmap!(rt.alloc(););
-    assert!(rt; (map.len(), map.capacity()) == (0, 0));
-    let set: VecSet<char> = vecset!(rt.alloc(););
-    assert!(rt; (set.len(), set.capacity()) == (0, 0));
-    Ok(())
+fn macros_insert_in_order(rt: HostRuntime) {
+    let map = granted(&rt, repeated_words(rt.alloc()));
+    assert_list(&rt, map.as_slice(), &[("a", 3), ("b", 2)]);
+    check!(rt; 3 <= map.capacity());
+    let set = granted(&rt, repeated_numbers(rt.alloc()));
+    assert_list(&rt, set.as_slice(), &[2, 1]);
+    check!(rt; 3 <= set.capacity());
+    assert_list(
+        &rt,
+        granted(&rt, ages(rt.alloc())).as_slice(),
+        &[(7, 30), (8, 20)],
+    );
+    assert_list(&rt, granted(&rt, ports(rt.alloc())).as_slice(), &[2, 1]);
+}
+
+#[test]
+fn macros_of_nothing_do_not_allocate(rt: HostRuntime) {
+    let map = granted(&rt, no_pairs(rt.alloc()));
+    assert_is(&rt, (map.len(), map.capacity()), (0, 0));
+    let set = granted(&rt, no_items(rt.alloc()));
+    assert_is(&rt, (set.len(), set.capacity()), (0, 0));
 }

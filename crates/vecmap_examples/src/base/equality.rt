@@ -1,15 +1,17 @@
 //! Examples of `vecmap_base/src/equality.rt`.
-use std::alloc::Global;
-use std::test::Fail;
+use crate::checks::assert_is;
+use std::process::Abort;
 use vecmap_base::pairs_equal;
 
-fn shows_pairs_equal(alloc: Global) -> Result<bool, Fail> {
-    Ok(pairs_equal(&[('a', 1), ('b', 2)], &[('b', 2), ('a', 1)]))
+fn shows_pairs_equal(rt: &impl Abort) {
+    assert_is(
+        rt,
+        pairs_equal(&[('a', 1), ('b', 2)], &[('b', 2), ('a', 1)]),
+        true,
+    );
 }
 
 #[test]
-fn examples_of_base_equality_hold(rt: HostRuntime) -> Result<(), Fail> {
-    let alloc = rt.alloc();
-    assert!(rt; shows_pairs_equal(alloc)?);
-    Ok(())
+fn examples_of_base_equality_hold(rt: HostRuntime) {
+    shows_pairs_equal(&rt);
 }

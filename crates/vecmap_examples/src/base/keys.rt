@@ -1,52 +1,58 @@
 //! Examples of `vecmap_base/src/iter/keys.rt`.
+use crate::checks::{assert_is, granted};
 use crate::made::two_letters;
 use std::alloc::Global;
-use std::test::Fail;
+use std::process::Abort;
 use vecmap::map::{IntoKeys, Keys};
 
-fn shows_keys(alloc: Global) -> Result<bool, Fail> {
-    let map = two_letters(alloc)?;
+fn shows_keys(rt: &impl Abort, alloc: Global) {
+    let map = granted(rt, two_letters(alloc));
     let mut keys = map.keys();
-    Ok(keys.next() == Some(&'a') && keys.len() == 1)
+    assert_is(rt, keys.next(), Some(&'a'));
+    assert_is(rt, keys.len(), 1);
 }
 
-fn shows_into_keys(alloc: Global) -> Result<bool, Fail> {
-    let map = two_letters(alloc)?;
+fn shows_into_keys(rt: &impl Abort, alloc: Global) {
+    let map = granted(rt, two_letters(alloc));
     let mut keys = map.into_keys();
-    Ok(keys.next_back() == Some('b') && keys.len() == 1)
+    assert_is(rt, keys.next_back(), Some('b'));
+    assert_is(rt, keys.len(), 1);
 }
 
-fn shows_keys_over(alloc: Global) -> Result<bool, Fail> {
+fn shows_keys_over(rt: &impl Abort) {
     let mut keys = Keys::over(&[('a', 1), ('b', 2)]);
-    Ok(keys.next_back() == Some(&'b'))
+    assert_is(rt, keys.next_back(), Some(&'b'));
 }
 
-fn shows_keys_clone(alloc: Global) -> Result<bool, Fail> {
-    let map = two_letters(alloc)?;
+fn shows_keys_clone(rt: &impl Abort, alloc: Global) {
+    let map = granted(rt, two_letters(alloc));
     let mut keys = map.keys();
-    Ok(keys.next() == Some(&'a') && keys.clone().next() == Some(&'b') && keys.len() == 1)
+    assert_is(rt, keys.next(), Some(&'a'));
+    assert_is(rt, keys.clone().next(), Some(&'b'));
+    assert_is(rt, keys.len(), 1);
 }
 
-fn shows_into_keys_over(alloc: Global) -> Result<bool, Fail> {
-    let map = two_letters(alloc)?;
+fn shows_into_keys_over(rt: &impl Abort, alloc: Global) {
+    let map = granted(rt, two_letters(alloc));
     let mut keys = IntoKeys::over(map.into_vec());
-    Ok(keys.next() == Some('a'))
+    assert_is(rt, keys.next(), Some('a'));
 }
 
-fn shows_into_keys_clone(alloc: Global) -> Result<bool, Fail> {
-    let map = two_letters(alloc)?;
+fn shows_into_keys_clone(rt: &impl Abort, alloc: Global) {
+    let map = granted(rt, two_letters(alloc));
     let mut keys = map.into_keys();
-    Ok(keys.next() == Some('a') && keys.clone()?.next() == Some('b') && keys.len() == 1)
+    assert_is(rt, keys.next(), Some('a'));
+    assert_is(rt, granted(rt, keys.clone()).next(), Some('b'));
+    assert_is(rt, keys.len(), 1);
 }
 
 #[test]
-fn examples_of_base_keys_hold(rt: HostRuntime) -> Result<(), Fail> {
+fn examples_of_base_keys_hold(rt: HostRuntime) {
     let alloc = rt.alloc();
-    assert!(rt; shows_keys(alloc)?);
-    assert!(rt; shows_into_keys(alloc)?);
-    assert!(rt; shows_keys_over(alloc)?);
-    assert!(rt; shows_keys_clone(alloc)?);
-    assert!(rt; shows_into_keys_over(alloc)?);
-    assert!(rt; shows_into_keys_clone(alloc)?);
-    Ok(())
+    shows_keys(&rt, alloc);
+    shows_into_keys(&rt, alloc);
+    shows_keys_over(&rt);
+    shows_keys_clone(&rt, alloc);
+    shows_into_keys_over(&rt, alloc);
+    shows_into_keys_clone(&rt, alloc);
 }

@@ -1,37 +1,43 @@
 //! Examples of `vecmap_base/src/lookup.rt`.
+use crate::checks::{assert_is, granted};
 use std::alloc::Global;
-use std::test::Fail;
+use std::process::Abort;
 use vecmap_base::{find, find_item, find_item_str, find_str, is_in};
 
-fn shows_find(alloc: Global) -> Result<bool, Fail> {
-    Ok(find(&[('a', 1), ('b', 2)], &'b') == Some(1))
+fn shows_find(rt: &impl Abort) {
+    assert_is(rt, find(&[('a', 1), ('b', 2)], &'b'), Some(1));
 }
 
-fn shows_find_item(alloc: Global) -> Result<bool, Fail> {
-    Ok(find_item(&['a', 'b'], &'b') == Some(1))
+fn shows_find_item(rt: &impl Abort) {
+    assert_is(rt, find_item(&['a', 'b'], &'b'), Some(1));
 }
 
-fn shows_find_str(alloc: Global) -> Result<bool, Fail> {
-    let pairs = vec![in alloc; (String::from_str(alloc, "a")?, 1)]?;
-    Ok(find_str(&pairs, "a") == Some(0))
+fn shows_find_str(rt: &impl Abort, alloc: Global) {
+    let pairs = granted(
+        rt,
+        vec![in alloc; (granted(rt, String::from_str(alloc, "a")), 1)],
+    );
+    assert_is(rt, find_str(&pairs, "a"), Some(0));
 }
 
-fn shows_find_item_str(alloc: Global) -> Result<bool, Fail> {
-    let items = vec![in alloc; String::from_str(alloc, "a")?]?;
-    Ok(find_item_str(&items, "a") == Some(0))
+fn shows_find_item_str(rt: &impl Abort, alloc: Global) {
+    let items = granted(
+        rt,
+        vec![in alloc; granted(rt, String::from_str(alloc, "a"))],
+    );
+    assert_is(rt, find_item_str(&items, "a"), Some(0));
 }
 
-fn shows_is_in(alloc: Global) -> Result<bool, Fail> {
-    Ok(!is_in(&['a', 'b'], &'c'))
+fn shows_is_in(rt: &impl Abort) {
+    assert_is(rt, is_in(&['a', 'b'], &'c'), false);
 }
 
 #[test]
-fn examples_of_base_lookup_hold(rt: HostRuntime) -> Result<(), Fail> {
+fn examples_of_base_lookup_hold(rt: HostRuntime) {
     let alloc = rt.alloc();
-    assert!(rt; shows_find(alloc)?);
-    assert!(rt; shows_find_item(alloc)?);
-    assert!(rt; shows_find_str(alloc)?);
-    assert!(rt; shows_find_item_str(alloc)?);
-    assert!(rt; shows_is_in(alloc)?);
-    Ok(())
+    shows_find(&rt);
+    shows_find_item(&rt);
+    shows_find_str(&rt, alloc);
+    shows_find_item_str(&rt, alloc);
+    shows_is_in(&rt);
 }

@@ -1,38 +1,38 @@
 //! Examples of `vecmap/src/macros.rt`.
-use crate::made::{has_items, has_pairs};
+use crate::checks::{assert_items, assert_pairs, granted};
+use crate::made::{repeated_letters, repeated_numbers};
 use std::alloc::Global;
-use std::test::Fail;
+use std::process::Abort;
 use vecmap::macros::{add_item, put_pair};
-use vecmap::{VecMap, VecSet, vecmap, vecset};
+use vecmap::{VecMap, VecSet};
 
-fn shows_vecmap(alloc: Global) -> Result<bool, Fail> {
-    let map = vecmap!(alloc; 'a' => 1, 'b' => 2, 'a' => 3);
-    Ok(has_pairs(&map, &[('a', 3), ('b', 2)]))
+fn shows_vecmap(rt: &impl Abort, alloc: Global) {
+    let map = granted(rt, repeated_letters(alloc));
+    assert_pairs(rt, &map, &[('a', 3), ('b', 2)]);
 }
 
-fn shows_vecset(alloc: Global) -> Result<bool, Fail> {
-    let set = vecset!(alloc; 2, 1, 2);
-    Ok(has_items(&set, &[2, 1]))
+fn shows_vecset(rt: &impl Abort, alloc: Global) {
+    let set = granted(rt, repeated_numbers(alloc));
+    assert_items(rt, &set, &[2, 1]);
 }
 
-fn shows_put_pair(alloc: Global) -> Result<bool, Fail> {
+fn shows_put_pair(rt: &impl Abort, alloc: Global) {
     let mut map = VecMap::new(alloc);
-    put_pair(&mut map, 'a', 1)?;
-    Ok(has_pairs(&map, &[('a', 1)]))
+    granted(rt, put_pair(&mut map, 'a', 1));
+    assert_pairs(rt, &map, &[('a', 1)]);
 }
 
-fn shows_add_item(alloc: Global) -> Result<bool, Fail> {
+fn shows_add_item(rt: &impl Abort, alloc: Global) {
     let mut set = VecSet::new(alloc);
-    add_item(&mut set, 'a')?;
-    Ok(has_items(&set, &['a']))
+    granted(rt, add_item(&mut set, 'a'));
+    assert_items(rt, &set, &['a']);
 }
 
 #[test]
-fn examples_of_base_macros_hold(rt: HostRuntime) -> Result<(), Fail> {
+fn examples_of_base_macros_hold(rt: HostRuntime) {
     let alloc = rt.alloc();
-    assert!(rt; shows_vecmap(alloc)?);
-    assert!(rt; shows_vecset(alloc)?);
-    assert!(rt; shows_put_pair(alloc)?);
-    assert!(rt; shows_add_item(alloc)?);
-    Ok(())
+    shows_vecmap(&rt, alloc);
+    shows_vecset(&rt, alloc);
+    shows_put_pair(&rt, alloc);
+    shows_add_item(&rt, alloc);
 }

@@ -1,42 +1,35 @@
 //! Examples of `vecmap_base/src/moving.rt`.
+use crate::checks::{assert_is, assert_list, granted};
 use std::alloc::Global;
-use std::test::Fail;
+use std::process::Abort;
 use vecmap_base::{put_in, replace_and_move, take_out};
 
-fn shows_replace_and_move(alloc: Global) -> Result<bool, Fail> {
-    let mut items = vec![in alloc; 'a', 'b', 'c']?;
-    if items.len() <= 2 {
-        return Ok(false);
-    }
-    Ok(
-        replace_and_move(&mut items, 0, 2, 'd') == 'a'
-            && items.as_slice() == ['b', 'c', 'd'].as_slice(),
-    )
+fn shows_replace_and_move(rt: &impl Abort, alloc: Global) {
+    let mut items = granted(rt, vec![in alloc; 'a', 'b', 'c']);
+    assert!(*rt; 2 < items.len());
+    assert_is(rt, replace_and_move(&mut items, 0, 2, 'd'), 'a');
+    assert_list(rt, items.as_slice(), &['b', 'c', 'd']);
 }
 
-fn shows_take_out(alloc: Global) -> Result<bool, Fail> {
-    let mut items = vec![in alloc; 'a', 'b', 'c']?;
-    if items.len() <= 0 {
-        return Ok(false);
-    }
-    Ok(take_out(&mut items, 0) == 'a' && items.as_slice() == ['b', 'c'].as_slice())
+fn shows_take_out(rt: &impl Abort, alloc: Global) {
+    let mut items = granted(rt, vec![in alloc; 'a', 'b', 'c']);
+    assert!(*rt; 0 < items.len());
+    assert_is(rt, take_out(&mut items, 0), 'a');
+    assert_list(rt, items.as_slice(), &['b', 'c']);
 }
 
-fn shows_put_in(alloc: Global) -> Result<bool, Fail> {
-    let mut items = vec![in alloc; 'a', 'b', 'c']?;
-    items.reserve(1)?;
-    if items.len() < 1 || items.len() == items.capacity() {
-        return Ok(false);
-    }
+fn shows_put_in(rt: &impl Abort, alloc: Global) {
+    let mut items = granted(rt, vec![in alloc; 'a', 'b', 'c']);
+    granted(rt, items.reserve(1));
+    assert!(*rt; 1 <= items.len() && items.len() != items.capacity());
     put_in(&mut items, 1, 'd');
-    Ok(items.as_slice() == ['a', 'd', 'b', 'c'].as_slice())
+    assert_list(rt, items.as_slice(), &['a', 'd', 'b', 'c']);
 }
 
 #[test]
-fn examples_of_base_moving_hold(rt: HostRuntime) -> Result<(), Fail> {
+fn examples_of_base_moving_hold(rt: HostRuntime) {
     let alloc = rt.alloc();
-    assert!(rt; shows_replace_and_move(alloc)?);
-    assert!(rt; shows_take_out(alloc)?);
-    assert!(rt; shows_put_in(alloc)?);
-    Ok(())
+    shows_replace_and_move(&rt, alloc);
+    shows_take_out(&rt, alloc);
+    shows_put_in(&rt, alloc);
 }

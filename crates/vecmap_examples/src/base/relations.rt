@@ -1,20 +1,18 @@
 //! Examples of `vecmap_base/src/relations.rt`.
-use std::alloc::Global;
-use std::test::Fail;
+use crate::checks::assert_is;
+use std::process::Abort;
 use vecmap_base::{are_apart, are_within};
 
-fn shows_are_within(alloc: Global) -> Result<bool, Fail> {
-    Ok(are_within(&[2, 1], &[1, 2, 3]))
+fn shows_are_within(rt: &impl Abort) {
+    assert_is(rt, are_within(&[2, 1], &[1, 2, 3]), true);
 }
 
-fn shows_are_apart(alloc: Global) -> Result<bool, Fail> {
-    Ok(are_apart(&[2, 1], &[3, 4]))
+fn shows_are_apart(rt: &impl Abort) {
+    assert_is(rt, are_apart(&[2, 1], &[3, 4]), true);
 }
 
 #[test]
-fn examples_of_base_relations_hold(rt: HostRuntime) -> Result<(), Fail> {
-    let alloc = rt.alloc();
-    assert!(rt; shows_are_within(alloc)?);
-    assert!(rt; shows_are_apart(alloc)?);
-    Ok(())
+fn examples_of_base_relations_hold(rt: HostRuntime) {
+    shows_are_within(&rt);
+    shows_are_apart(&rt);
 }

@@ -1,39 +1,38 @@
 //! Examples of `vecmap_base/src/repeats.rt`.
+use crate::checks::{assert_is, assert_list, granted};
 use std::alloc::Global;
-use std::test::Fail;
+use std::process::Abort;
 use vecmap_base::{Steps, dedup_keep_first, dedup_keep_last_value, gather_items, gather_pairs};
 
-fn shows_gather_pairs(alloc: Global) -> Result<bool, Fail> {
+fn shows_gather_pairs(rt: &impl Abort) {
     let mut pairs = [('a', 1), ('b', 2), ('a', 3)];
-    Ok(
-        gather_pairs(&mut pairs, &mut Steps::new()) == 2
-            && pairs.as_slice() == [('a', 3), ('b', 2), ('a', 1)].as_slice(),
-    )
+    assert_is(rt, gather_pairs(&mut pairs, &mut Steps::new()), 2);
+    assert_list(rt, pairs.as_slice(), &[('a', 3), ('b', 2), ('a', 1)]);
 }
 
-fn shows_gather_items(alloc: Global) -> Result<bool, Fail> {
+fn shows_gather_items(rt: &impl Abort) {
     let mut items = [1, 1, 2];
-    Ok(gather_items(&mut items, &mut Steps::new()) == 2 && items.as_slice() == [1, 2, 1].as_slice())
+    assert_is(rt, gather_items(&mut items, &mut Steps::new()), 2);
+    assert_list(rt, items.as_slice(), &[1, 2, 1]);
 }
 
-fn shows_dedup_keep_last_value(alloc: Global) -> Result<bool, Fail> {
-    let mut pairs = vec![in alloc; ('a', 1), ('b', 2), ('a', 3)]?;
+fn shows_dedup_keep_last_value(rt: &impl Abort, alloc: Global) {
+    let mut pairs = granted(rt, vec![in alloc; ('a', 1), ('b', 2), ('a', 3)]);
     dedup_keep_last_value(&mut pairs, &mut Steps::new());
-    Ok(pairs.as_slice() == [('a', 3), ('b', 2)].as_slice())
+    assert_list(rt, pairs.as_slice(), &[('a', 3), ('b', 2)]);
 }
 
-fn shows_dedup_keep_first(alloc: Global) -> Result<bool, Fail> {
-    let mut items = vec![in alloc; 2, 1, 2]?;
+fn shows_dedup_keep_first(rt: &impl Abort, alloc: Global) {
+    let mut items = granted(rt, vec![in alloc; 2, 1, 2]);
     dedup_keep_first(&mut items, &mut Steps::new());
-    Ok(items.as_slice() == [2, 1].as_slice())
+    assert_list(rt, items.as_slice(), &[2, 1]);
 }
 
 #[test]
-fn examples_of_base_repeats_hold(rt: HostRuntime) -> Result<(), Fail> {
+fn examples_of_base_repeats_hold(rt: HostRuntime) {
     let alloc = rt.alloc();
-    assert!(rt; shows_gather_pairs(alloc)?);
-    assert!(rt; shows_gather_items(alloc)?);
-    assert!(rt; shows_dedup_keep_last_value(alloc)?);
-    assert!(rt; shows_dedup_keep_first(alloc)?);
-    Ok(())
+    shows_gather_pairs(&rt);
+    shows_gather_items(&rt);
+    shows_dedup_keep_last_value(&rt, alloc);
+    shows_dedup_keep_first(&rt, alloc);
 }

@@ -1,31 +1,31 @@
 //! Examples of `vecmap_base/src/retain.rt`.
+use crate::checks::{assert_list, granted};
 use std::alloc::Global;
-use std::test::Fail;
+use std::process::Abort;
 use vecmap_base::{retain_items, retain_pairs, retain_pairs_mut};
 
-fn shows_retain_pairs(alloc: Global) -> Result<bool, Fail> {
-    let mut pairs = vec![in alloc; ('a', 1), ('b', 2)]?;
+fn shows_retain_pairs(rt: &impl Abort, alloc: Global) {
+    let mut pairs = granted(rt, vec![in alloc; ('a', 1), ('b', 2)]);
     retain_pairs(&mut pairs, |_key, value| *value != 1);
-    Ok(pairs.as_slice() == [('b', 2)].as_slice())
+    assert_list(rt, pairs.as_slice(), &[('b', 2)]);
 }
 
-fn shows_retain_pairs_mut(alloc: Global) -> Result<bool, Fail> {
-    let mut pairs = vec![in alloc; ('a', 1), ('b', 2)]?;
+fn shows_retain_pairs_mut(rt: &impl Abort, alloc: Global) {
+    let mut pairs = granted(rt, vec![in alloc; ('a', 1), ('b', 2)]);
     retain_pairs_mut(&mut pairs, |key, _value| *key != 'a');
-    Ok(pairs.as_slice() == [('b', 2)].as_slice())
+    assert_list(rt, pairs.as_slice(), &[('b', 2)]);
 }
 
-fn shows_retain_items(alloc: Global) -> Result<bool, Fail> {
-    let mut items = vec![in alloc; 1, 2, 3]?;
+fn shows_retain_items(rt: &impl Abort, alloc: Global) {
+    let mut items = granted(rt, vec![in alloc; 1, 2, 3]);
     retain_items(&mut items, |item| *item != 2);
-    Ok(items.as_slice() == [1, 3].as_slice())
+    assert_list(rt, items.as_slice(), &[1, 3]);
 }
 
 #[test]
-fn examples_of_base_retain_hold(rt: HostRuntime) -> Result<(), Fail> {
+fn examples_of_base_retain_hold(rt: HostRuntime) {
     let alloc = rt.alloc();
-    assert!(rt; shows_retain_pairs(alloc)?);
-    assert!(rt; shows_retain_pairs_mut(alloc)?);
-    assert!(rt; shows_retain_items(alloc)?);
-    Ok(())
+    shows_retain_pairs(&rt, alloc);
+    shows_retain_pairs_mut(&rt, alloc);
+    shows_retain_items(&rt, alloc);
 }

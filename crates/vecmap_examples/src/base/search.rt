@@ -1,25 +1,27 @@
 //! Examples of `vecmap_base/src/search.rt`.
-use std::alloc::Global;
-use std::test::Fail;
+use crate::checks::assert_is;
+use std::process::Abort;
 use vecmap_base::{partition_point, search_items_by_key, search_pairs_by_key};
 
-fn shows_search_pairs_by_key(alloc: Global) -> Result<bool, Fail> {
-    Ok(search_pairs_by_key(&[('a', 1), ('b', 2)], &2, |_key, value| *value) == Ok(1))
+fn shows_search_pairs_by_key(rt: &impl Abort) {
+    assert_is(
+        rt,
+        search_pairs_by_key(&[('a', 1), ('b', 2)], &2, |_key, value| *value),
+        Ok(1),
+    );
 }
 
-fn shows_search_items_by_key(alloc: Global) -> Result<bool, Fail> {
-    Ok(search_items_by_key(&[1, 3], &2, |item| *item) == Err(1))
+fn shows_search_items_by_key(rt: &impl Abort) {
+    assert_is(rt, search_items_by_key(&[1, 3], &2, |item| *item), Err(1));
 }
 
-fn shows_partition_point(alloc: Global) -> Result<bool, Fail> {
-    Ok(partition_point(&[1, 3], |item| *item < 2) == 1)
+fn shows_partition_point(rt: &impl Abort) {
+    assert_is(rt, partition_point(&[1, 3], |item| *item < 2), 1);
 }
 
 #[test]
-fn examples_of_base_search_hold(rt: HostRuntime) -> Result<(), Fail> {
-    let alloc = rt.alloc();
-    assert!(rt; shows_search_pairs_by_key(alloc)?);
-    assert!(rt; shows_search_items_by_key(alloc)?);
-    assert!(rt; shows_partition_point(alloc)?);
-    Ok(())
+fn examples_of_base_search_hold(rt: HostRuntime) {
+    shows_search_pairs_by_key(&rt);
+    shows_search_items_by_key(&rt);
+    shows_partition_point(&rt);
 }

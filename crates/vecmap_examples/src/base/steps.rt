@@ -1,33 +1,34 @@
 //! Examples of `vecmap_base/src/steps.rt`.
-use std::alloc::Global;
-use std::test::Fail;
+use crate::checks::assert_is;
+use std::process::Abort;
 use vecmap_base::Steps;
 
-fn shows_steps(alloc: Global) -> Result<bool, Fail> {
+fn shows_steps(rt: &impl Abort) {
     let mut steps = Steps::new();
-    Ok(!steps.same(&1, &2) && steps.count() == 1)
+    assert_is(rt, steps.same(&1, &2), false);
+    assert_is(rt, steps.count(), 1);
 }
 
-fn shows_new(alloc: Global) -> Result<bool, Fail> {
-    Ok(Steps::new().count() == 0)
+fn shows_new(rt: &impl Abort) {
+    assert_is(rt, Steps::new().count(), 0);
 }
 
-fn shows_count(alloc: Global) -> Result<bool, Fail> {
+fn shows_count(rt: &impl Abort) {
     let mut steps = Steps::new();
-    Ok(!steps.same(&1, &2) && steps.same(&1, &1) && steps.count() == 2)
+    assert_is(rt, steps.same(&1, &2), false);
+    assert_is(rt, steps.same(&1, &1), true);
+    assert_is(rt, steps.count(), 2);
 }
 
-fn shows_same(alloc: Global) -> Result<bool, Fail> {
+fn shows_same(rt: &impl Abort) {
     let mut steps = Steps::new();
-    Ok(steps.same(&1, &1))
+    assert_is(rt, steps.same(&1, &1), true);
 }
 
 #[test]
-fn examples_of_base_steps_hold(rt: HostRuntime) -> Result<(), Fail> {
-    let alloc = rt.alloc();
-    assert!(rt; shows_steps(alloc)?);
-    assert!(rt; shows_new(alloc)?);
-    assert!(rt; shows_count(alloc)?);
-    assert!(rt; shows_same(alloc)?);
-    Ok(())
+fn examples_of_base_steps_hold(rt: HostRuntime) {
+    shows_steps(&rt);
+    shows_new(&rt);
+    shows_count(&rt);
+    shows_same(&rt);
 }

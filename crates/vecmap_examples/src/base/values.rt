@@ -1,52 +1,58 @@
 //! Examples of `vecmap_base/src/iter/values.rt`.
+use crate::checks::{assert_is, granted};
 use crate::made::two_letters;
 use std::alloc::Global;
-use std::test::Fail;
+use std::process::Abort;
 use vecmap::map::{IntoValues, Values};
 
-fn shows_values(alloc: Global) -> Result<bool, Fail> {
-    let map = two_letters(alloc)?;
+fn shows_values(rt: &impl Abort, alloc: Global) {
+    let map = granted(rt, two_letters(alloc));
     let mut values = map.values();
-    Ok(values.next() == Some(&1) && values.len() == 1)
+    assert_is(rt, values.next(), Some(&1));
+    assert_is(rt, values.len(), 1);
 }
 
-fn shows_into_values(alloc: Global) -> Result<bool, Fail> {
-    let map = two_letters(alloc)?;
+fn shows_into_values(rt: &impl Abort, alloc: Global) {
+    let map = granted(rt, two_letters(alloc));
     let mut values = map.into_values();
-    Ok(values.next_back() == Some(2) && values.len() == 1)
+    assert_is(rt, values.next_back(), Some(2));
+    assert_is(rt, values.len(), 1);
 }
 
-fn shows_values_over(alloc: Global) -> Result<bool, Fail> {
+fn shows_values_over(rt: &impl Abort) {
     let mut values = Values::over(&[('a', 1), ('b', 2)]);
-    Ok(values.next_back() == Some(&2))
+    assert_is(rt, values.next_back(), Some(&2));
 }
 
-fn shows_values_clone(alloc: Global) -> Result<bool, Fail> {
-    let map = two_letters(alloc)?;
+fn shows_values_clone(rt: &impl Abort, alloc: Global) {
+    let map = granted(rt, two_letters(alloc));
     let mut values = map.values();
-    Ok(values.next() == Some(&1) && values.clone().next() == Some(&2) && values.len() == 1)
+    assert_is(rt, values.next(), Some(&1));
+    assert_is(rt, values.clone().next(), Some(&2));
+    assert_is(rt, values.len(), 1);
 }
 
-fn shows_into_values_over(alloc: Global) -> Result<bool, Fail> {
-    let map = two_letters(alloc)?;
+fn shows_into_values_over(rt: &impl Abort, alloc: Global) {
+    let map = granted(rt, two_letters(alloc));
     let mut values = IntoValues::over(map.into_vec());
-    Ok(values.next() == Some(1))
+    assert_is(rt, values.next(), Some(1));
 }
 
-fn shows_into_values_clone(alloc: Global) -> Result<bool, Fail> {
-    let map = two_letters(alloc)?;
+fn shows_into_values_clone(rt: &impl Abort, alloc: Global) {
+    let map = granted(rt, two_letters(alloc));
     let mut values = map.into_values();
-    Ok(values.next() == Some(1) && values.clone()?.next() == Some(2) && values.len() == 1)
+    assert_is(rt, values.next(), Some(1));
+    assert_is(rt, granted(rt, values.clone()).next(), Some(2));
+    assert_is(rt, values.len(), 1);
 }
 
 #[test]
-fn examples_of_base_values_hold(rt: HostRuntime) -> Result<(), Fail> {
+fn examples_of_base_values_hold(rt: HostRuntime) {
     let alloc = rt.alloc();
-    assert!(rt; shows_values(alloc)?);
-    assert!(rt; shows_into_values(alloc)?);
-    assert!(rt; shows_values_over(alloc)?);
-    assert!(rt; shows_values_clone(alloc)?);
-    assert!(rt; shows_into_values_over(alloc)?);
-    assert!(rt; shows_into_values_clone(alloc)?);
-    Ok(())
+    shows_values(&rt, alloc);
+    shows_into_values(&rt, alloc);
+    shows_values_over(&rt);
+    shows_values_clone(&rt, alloc);
+    shows_into_values_over(&rt, alloc);
+    shows_into_values_clone(&rt, alloc);
 }

@@ -1,59 +1,63 @@
 //! Examples of `vecmap_map/src/bulk.rt`.
-use crate::made::{has_pairs, letters_back, two_letters};
+use crate::checks::{assert_is, assert_pairs, granted};
+use crate::made::{letters_back, two_letters};
 use std::alloc::Global;
-use std::test::Fail;
+use std::process::Abort;
 use vecmap::VecMap;
 
-fn shows_from_iter(alloc: Global) -> Result<bool, Fail> {
-    let map = VecMap::from_iter(alloc, [('a', 1), ('b', 2), ('a', 3)])?;
-    Ok(has_pairs(&map, &[('a', 3), ('b', 2)]))
+fn shows_from_iter(rt: &impl Abort, alloc: Global) {
+    let map = granted(rt, VecMap::from_iter(alloc, [('a', 1), ('b', 2), ('a', 3)]));
+    assert_pairs(rt, &map, &[('a', 3), ('b', 2)]);
 }
 
-fn shows_from_slice(alloc: Global) -> Result<bool, Fail> {
-    let map = VecMap::from_slice(alloc, &[('a', 1), ('b', 2), ('a', 3)])?;
-    Ok(has_pairs(&map, &[('a', 3), ('b', 2)]))
+fn shows_from_slice(rt: &impl Abort, alloc: Global) {
+    let map = granted(
+        rt,
+        VecMap::from_slice(alloc, &[('a', 1), ('b', 2), ('a', 3)]),
+    );
+    assert_pairs(rt, &map, &[('a', 3), ('b', 2)]);
 }
 
-fn shows_append(alloc: Global) -> Result<bool, Fail> {
-    let mut map = two_letters(alloc)?;
-    let mut other = letters_back(alloc)?;
-    map.append(&mut other)?;
-    Ok(has_pairs(&map, &[('a', 2), ('b', 1)]) && other.is_empty())
+fn shows_append(rt: &impl Abort, alloc: Global) {
+    let mut map = granted(rt, two_letters(alloc));
+    let mut other = granted(rt, letters_back(alloc));
+    granted(rt, map.append(&mut other));
+    assert_pairs(rt, &map, &[('a', 2), ('b', 1)]);
+    assert_is(rt, other.is_empty(), true);
 }
 
-fn shows_extend(alloc: Global) -> Result<bool, Fail> {
-    let mut map = two_letters(alloc)?;
-    map.extend([('b', 3), ('c', 4)])?;
-    Ok(has_pairs(&map, &[('a', 1), ('b', 3), ('c', 4)]))
+fn shows_extend(rt: &impl Abort, alloc: Global) {
+    let mut map = granted(rt, two_letters(alloc));
+    granted(rt, map.extend([('b', 3), ('c', 4)]));
+    assert_pairs(rt, &map, &[('a', 1), ('b', 3), ('c', 4)]);
 }
 
-fn shows_extend_refs(alloc: Global) -> Result<bool, Fail> {
-    let mut map = two_letters(alloc)?;
-    let other = letters_back(alloc)?;
-    map.extend_refs(other.iter())?;
-    Ok(has_pairs(&map, &[('a', 2), ('b', 1)]))
+fn shows_extend_refs(rt: &impl Abort, alloc: Global) {
+    let mut map = granted(rt, two_letters(alloc));
+    let other = granted(rt, letters_back(alloc));
+    granted(rt, map.extend_refs(other.iter()));
+    assert_pairs(rt, &map, &[('a', 2), ('b', 1)]);
 }
 
-fn shows_extend_pairs(alloc: Global) -> Result<bool, Fail> {
-    let mut map = two_letters(alloc)?;
-    map.extend_pairs(&[('b', 3), ('c', 4)])?;
-    Ok(has_pairs(&map, &[('a', 1), ('b', 3), ('c', 4)]))
+fn shows_extend_pairs(rt: &impl Abort, alloc: Global) {
+    let mut map = granted(rt, two_letters(alloc));
+    granted(rt, map.extend_pairs(&[('b', 3), ('c', 4)]));
+    assert_pairs(rt, &map, &[('a', 1), ('b', 3), ('c', 4)]);
 }
 
-fn shows_collect(alloc: Global) -> Result<bool, Fail> {
-    let map: VecMap<char, u32> = [('a', 1), ('b', 2)].into_iter().collect(alloc)?;
-    Ok(has_pairs(&map, &[('a', 1), ('b', 2)]))
+fn shows_collect(rt: &impl Abort, alloc: Global) {
+    let map: VecMap<char, u32> = granted(rt, [('a', 1), ('b', 2)].into_iter().collect(alloc));
+    assert_pairs(rt, &map, &[('a', 1), ('b', 2)]);
 }
 
 #[test]
-fn examples_of_map_bulk_hold(rt: HostRuntime) -> Result<(), Fail> {
+fn examples_of_map_bulk_hold(rt: HostRuntime) {
     let alloc = rt.alloc();
-    assert!(rt; shows_from_iter(alloc)?);
-    assert!(rt; shows_from_slice(alloc)?);
-    assert!(rt; shows_append(alloc)?);
-    assert!(rt; shows_extend(alloc)?);
-    assert!(rt; shows_extend_refs(alloc)?);
-    assert!(rt; shows_extend_pairs(alloc)?);
-    assert!(rt; shows_collect(alloc)?);
-    Ok(())
+    shows_from_iter(&rt, alloc);
+    shows_from_slice(&rt, alloc);
+    shows_append(&rt, alloc);
+    shows_extend(&rt, alloc);
+    shows_extend_refs(&rt, alloc);
+    shows_extend_pairs(&rt, alloc);
+    shows_collect(&rt, alloc);
 }

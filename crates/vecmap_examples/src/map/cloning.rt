@@ -1,22 +1,26 @@
 //! Examples of `vecmap_map/src/cloning.rt`.
+use crate::checks::{assert_is, granted};
+use crate::made::one_room;
 use std::alloc::Global;
-use std::test::Fail;
-use vecmap::{VecMap, vecmap};
+use std::process::Abort;
+use vecmap::VecMap;
 
-fn shows_clone(alloc: Global) -> Result<bool, Fail> {
-    let rooms = vecmap!(alloc; 'a' => vecmap!(alloc; 1 => 10));
-    let mut copy = rooms.clone()?;
-    copy.entry('a').or_default()?.insert(2, 20)?;
-    Ok(
+fn shows_clone(rt: &impl Abort, alloc: Global) {
+    let rooms = granted(rt, one_room(alloc));
+    let mut copy = granted(rt, rooms.clone());
+    granted(rt, granted(rt, copy.entry('a').or_default()).insert(2, 20));
+    assert_is(
+        rt,
         (
             rooms.get(&'a').map(VecMap::len),
             copy.get(&'a').map(VecMap::len),
-        ) == (Some(1), Some(2)),
-    )
+        ),
+        (Some(1), Some(2)),
+    );
 }
 
 #[test]
-fn examples_of_map_cloning_hold(rt: HostRuntime) -> Result<(), Fail> {
-    assert!(rt; shows_clone(rt.alloc())?);
-    Ok(())
+fn examples_of_map_cloning_hold(rt: HostRuntime) {
+    let alloc = rt.alloc();
+    shows_clone(&rt, alloc);
 }

@@ -1,43 +1,45 @@
 //! Examples of `vecmap_map/src/conversion.rt`.
-use crate::made::{has_pairs, two_letters};
+use crate::checks::{assert_is, assert_list, assert_pairs, granted};
+use crate::made::two_letters;
 use std::alloc::Global;
-use std::test::Fail;
+use std::process::Abort;
 use vecmap::{VecMap, keys_distinct};
 
-fn shows_from_vec(alloc: Global) -> Result<bool, Fail> {
-    let map = VecMap::from(vec![in alloc; ('a', 1), ('b', 2), ('a', 3)]?);
-    Ok(has_pairs(&map, &[('a', 3), ('b', 2)]))
+fn shows_from_vec(rt: &impl Abort, alloc: Global) {
+    let map = VecMap::from(granted(rt, vec![in alloc; ('a', 1), ('b', 2), ('a', 3)]));
+    assert_pairs(rt, &map, &[('a', 3), ('b', 2)]);
 }
 
-fn shows_from_vec_counted(alloc: Global) -> Result<bool, Fail> {
-    let (map, comparisons) = VecMap::from_vec_counted(vec![in alloc;
-        ('a', 1),
-        ('b', 2),
-        ('a', 3),
-    ]?);
-    Ok(comparisons == 2 && has_pairs(&map, &[('a', 3), ('b', 2)]))
+fn shows_from_vec_counted(rt: &impl Abort, alloc: Global) {
+    let (map, comparisons) = VecMap::from_vec_counted(granted(
+        rt,
+        vec![in alloc; ('a', 1), ('b', 2), ('a', 3)],
+    ));
+    assert_is(rt, comparisons, 2);
+    assert_pairs(rt, &map, &[('a', 3), ('b', 2)]);
 }
 
-fn shows_from_vec_unchecked(alloc: Global) -> Result<bool, Fail> {
-    let pairs = vec![in alloc; ('a', 1), ('b', 2)]?;
-    if !keys_distinct(&pairs) {
-        return Ok(false);
-    }
+fn shows_from_vec_unchecked(rt: &impl Abort, alloc: Global) {
+    let pairs = granted(rt, vec![in alloc; ('a', 1), ('b', 2)]);
+    assert!(*rt; keys_distinct(&pairs));
     let map = VecMap::from_vec_unchecked(pairs);
-    Ok(has_pairs(&map, &[('a', 1), ('b', 2)]))
+    assert_pairs(rt, &map, &[('a', 1), ('b', 2)]);
 }
 
-fn shows_to_vec(alloc: Global) -> Result<bool, Fail> {
-    let map = two_letters(alloc)?;
-    Ok(map.to_vec()?.as_slice() == [('a', 1), ('b', 2)].as_slice())
+fn shows_to_vec(rt: &impl Abort, alloc: Global) {
+    let map = granted(rt, two_letters(alloc));
+    assert_list(
+        rt,
+        granted(rt, map.to_vec()).as_slice(),
+        &[('a', 1), ('b', 2)],
+    );
 }
 
 #[test]
-fn examples_of_map_conversion_hold(rt: HostRuntime) -> Result<(), Fail> {
+fn examples_of_map_conversion_hold(rt: HostRuntime) {
     let alloc = rt.alloc();
-    assert!(rt; shows_from_vec(alloc)?);
-    assert!(rt; shows_from_vec_counted(alloc)?);
-    assert!(rt; shows_from_vec_unchecked(alloc)?);
-    assert!(rt; shows_to_vec(alloc)?);
-    Ok(())
+    shows_from_vec(&rt, alloc);
+    shows_from_vec_counted(&rt, alloc);
+    shows_from_vec_unchecked(&rt, alloc);
+    shows_to_vec(&rt, alloc);
 }

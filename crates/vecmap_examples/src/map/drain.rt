@@ -1,34 +1,30 @@
 //! Examples of `vecmap_map/src/drain.rt`.
-use crate::made::{has_pairs, three_letters};
+use crate::checks::{assert_is, assert_pairs, granted};
+use crate::made::three_letters;
 use std::alloc::Global;
-use std::test::Fail;
+use std::process::Abort;
 use vecmap::map::Drain;
 
-fn shows_drain(alloc: Global) -> Result<bool, Fail> {
-    let mut map = three_letters(alloc)?;
-    if map.len() < 1 {
-        return Ok(false);
-    }
+fn shows_drain(rt: &impl Abort, alloc: Global) {
+    let mut map = granted(rt, three_letters(alloc));
+    assert!(*rt; 1 <= map.len());
     let mut drain = map.drain(1..);
-    if !(drain.next_back() == Some(('c', 3)) && drain.len() == 1) {
-        return Ok(false);
-    }
+    assert_is(rt, drain.next_back(), Some(('c', 3)));
+    assert_is(rt, drain.len(), 1);
     drop(drain);
-    Ok(has_pairs(&map, &[('a', 1)]))
+    assert_pairs(rt, &map, &[('a', 1)]);
 }
 
-fn shows_over(alloc: Global) -> Result<bool, Fail> {
-    let mut map = three_letters(alloc)?;
-    if map.len() != 3 {
-        return Ok(false);
-    }
-    Ok(Drain::over(&mut map, 1, 3).next() == Some(('b', 2)) && has_pairs(&map, &[('a', 1)]))
+fn shows_over(rt: &impl Abort, alloc: Global) {
+    let mut map = granted(rt, three_letters(alloc));
+    assert!(*rt; map.len() == 3);
+    assert_is(rt, Drain::over(&mut map, 1, 3).next(), Some(('b', 2)));
+    assert_pairs(rt, &map, &[('a', 1)]);
 }
 
 #[test]
-fn examples_of_map_drain_hold(rt: HostRuntime) -> Result<(), Fail> {
+fn examples_of_map_drain_hold(rt: HostRuntime) {
     let alloc = rt.alloc();
-    assert!(rt; shows_drain(alloc)?);
-    assert!(rt; shows_over(alloc)?);
-    Ok(())
+    shows_drain(&rt, alloc);
+    shows_over(&rt, alloc);
 }

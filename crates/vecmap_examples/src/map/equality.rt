@@ -1,17 +1,21 @@
 //! Examples of `vecmap_map/src/equality.rt`.
+use crate::checks::{assert_is, granted};
 use crate::made::two_letters;
 use std::alloc::Global;
-use std::test::Fail;
+use std::process::Abort;
 use vecmap::VecMap;
 
-fn shows_equality(alloc: Global) -> Result<bool, Fail> {
-    let map = two_letters(alloc)?;
-    Ok(map == VecMap::from_iter(alloc, [('b', 2), ('a', 1)])?)
+fn shows_equality(rt: &impl Abort, alloc: Global) {
+    let map = granted(rt, two_letters(alloc));
+    assert_is(
+        rt,
+        map == granted(rt, VecMap::from_iter(alloc, [('b', 2), ('a', 1)])),
+        true,
+    );
 }
 
 #[test]
-fn examples_of_map_equality_hold(rt: HostRuntime) -> Result<(), Fail> {
+fn examples_of_map_equality_hold(rt: HostRuntime) {
     let alloc = rt.alloc();
-    assert!(rt; shows_equality(alloc)?);
-    Ok(())
+    shows_equality(&rt, alloc);
 }

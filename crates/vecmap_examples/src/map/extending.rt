@@ -1,35 +1,37 @@
 //! Examples of `vecmap_map/src/extending.rt`.
-use crate::made::{has_pairs, letters_back, two_letters};
+use crate::checks::{assert_pairs, granted};
+use crate::made::{letters_back, two_letters};
 use std::alloc::Global;
-use std::test::Fail;
+use std::process::Abort;
 use vecmap::VecMap;
 
-fn shows_extend(alloc: Global) -> Result<bool, Fail> {
-    let map = two_letters(alloc)?;
-    let (odd, even): (VecMap<char, u32>, VecMap<char, u32>) = map
-        .into_iter()
-        .partition(alloc, |pair| pair.1 % 2 == 1)?;
-    Ok(has_pairs(&odd, &[('a', 1)]) && has_pairs(&even, &[('b', 2)]))
+fn shows_extend(rt: &impl Abort, alloc: Global) {
+    let map = granted(rt, two_letters(alloc));
+    let (odd, even): (VecMap<char, u32>, VecMap<char, u32>) = granted(
+        rt,
+        map.into_iter().partition(alloc, |pair| pair.1 % 2 == 1),
+    );
+    assert_pairs(rt, &odd, &[('a', 1)]);
+    assert_pairs(rt, &even, &[('b', 2)]);
 }
 
-fn shows_extend_2(alloc: Global) -> Result<bool, Fail> {
-    let mut map = two_letters(alloc)?;
-    let other = letters_back(alloc)?;
-    Extend::extend(&mut map, other.iter())?;
-    Ok(has_pairs(&map, &[('a', 2), ('b', 1)]))
+fn shows_extend_2(rt: &impl Abort, alloc: Global) {
+    let mut map = granted(rt, two_letters(alloc));
+    let other = granted(rt, letters_back(alloc));
+    granted(rt, Extend::extend(&mut map, other.iter()));
+    assert_pairs(rt, &map, &[('a', 2), ('b', 1)]);
 }
 
-fn shows_extend_3(alloc: Global) -> Result<bool, Fail> {
-    let mut map = two_letters(alloc)?;
-    Extend::extend(&mut map, &[('b', 3), ('c', 4)])?;
-    Ok(has_pairs(&map, &[('a', 1), ('b', 3), ('c', 4)]))
+fn shows_extend_3(rt: &impl Abort, alloc: Global) {
+    let mut map = granted(rt, two_letters(alloc));
+    granted(rt, Extend::extend(&mut map, &[('b', 3), ('c', 4)]));
+    assert_pairs(rt, &map, &[('a', 1), ('b', 3), ('c', 4)]);
 }
 
 #[test]
-fn examples_of_map_extending_hold(rt: HostRuntime) -> Result<(), Fail> {
+fn examples_of_map_extending_hold(rt: HostRuntime) {
     let alloc = rt.alloc();
-    assert!(rt; shows_extend(alloc)?);
-    assert!(rt; shows_extend_2(alloc)?);
-    assert!(rt; shows_extend_3(alloc)?);
-    Ok(())
+    shows_extend(&rt, alloc);
+    shows_extend_2(&rt, alloc);
+    shows_extend_3(&rt, alloc);
 }

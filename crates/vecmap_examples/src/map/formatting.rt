@@ -1,16 +1,16 @@
 //! Examples of `vecmap_map/src/formatting.rt`.
+use crate::checks::{assert_text, granted};
 use crate::made::two_letters;
 use std::alloc::Global;
-use std::test::Fail;
+use std::process::Abort;
 
-fn shows_debug(alloc: Global) -> Result<bool, Fail> {
-    let map = two_letters(alloc)?;
-    Ok(format!(in alloc; "{map:?}")?.as_str() == "{'a': 1, 'b': 2}")
+fn shows_debug(rt: &impl Abort, alloc: Global) {
+    let map = granted(rt, two_letters(alloc));
+    assert_text(rt, format!(in alloc; "{map:?}"), "{'a': 1, 'b': 2}");
 }
 
 #[test]
-fn examples_of_map_formatting_hold(rt: HostRuntime) -> Result<(), Fail> {
+fn examples_of_map_formatting_hold(rt: HostRuntime) {
     let alloc = rt.alloc();
-    assert!(rt; shows_debug(alloc)?);
-    Ok(())
+    shows_debug(&rt, alloc);
 }

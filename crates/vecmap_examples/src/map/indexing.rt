@@ -1,76 +1,62 @@
 //! Examples of `vecmap_map/src/indexing.rt`.
-use crate::made::{has_pairs, one_text, two_letters, two_words};
+use crate::checks::{assert_is, assert_pairs, granted};
+use crate::made::{one_text, two_letters, two_words};
 use std::alloc::Global;
-use std::test::Fail;
+use std::process::Abort;
 
-fn shows_index_by_place(alloc: Global) -> Result<bool, Fail> {
-    let map = two_letters(alloc)?;
-    if map.len() <= 1 {
-        return Ok(false);
-    }
-    Ok(map[1] == 2)
+fn shows_index_by_place(rt: &impl Abort, alloc: Global) {
+    let map = granted(rt, two_letters(alloc));
+    assert!(*rt; 1 < map.len());
+    assert_is(rt, map[1], 2);
 }
 
-fn shows_write_by_place(alloc: Global) -> Result<bool, Fail> {
-    let mut map = two_letters(alloc)?;
-    if map.len() <= 1 {
-        return Ok(false);
-    }
+fn shows_write_by_place(rt: &impl Abort, alloc: Global) {
+    let mut map = granted(rt, two_letters(alloc));
+    assert!(*rt; 1 < map.len());
     map[1] = 3;
-    Ok(has_pairs(&map, &[('a', 1), ('b', 3)]))
+    assert_pairs(rt, &map, &[('a', 1), ('b', 3)]);
 }
 
-fn shows_index_by_key(alloc: Global) -> Result<bool, Fail> {
-    let map = two_letters(alloc)?;
-    if !map.contains_key(&'b') {
-        return Ok(false);
-    }
-    Ok(map[&'b'] == 2)
+fn shows_index_by_key(rt: &impl Abort, alloc: Global) {
+    let map = granted(rt, two_letters(alloc));
+    assert!(*rt; map.contains_key(&'b'));
+    assert_is(rt, map[&'b'], 2);
 }
 
-fn shows_write_by_key(alloc: Global) -> Result<bool, Fail> {
-    let mut map = two_letters(alloc)?;
-    if !map.contains_key(&'b') {
-        return Ok(false);
-    }
+fn shows_write_by_key(rt: &impl Abort, alloc: Global) {
+    let mut map = granted(rt, two_letters(alloc));
+    assert!(*rt; map.contains_key(&'b'));
     map[&'b'] = 3;
-    Ok(has_pairs(&map, &[('a', 1), ('b', 3)]))
+    assert_pairs(rt, &map, &[('a', 1), ('b', 3)]);
 }
 
-fn shows_index_by_text(alloc: Global) -> Result<bool, Fail> {
-    let map = one_text(alloc)?;
-    if !map.contains_key("a") {
-        return Ok(false);
-    }
-    Ok(map["a"] == 1)
+fn shows_index_by_text(rt: &impl Abort, alloc: Global) {
+    let map = granted(rt, one_text(alloc));
+    assert!(*rt; map.contains_key("a"));
+    assert_is(rt, map["a"], 1);
 }
 
-fn shows_write_by_text(alloc: Global) -> Result<bool, Fail> {
-    let mut map = one_text(alloc)?;
-    if !map.contains_key("a") {
-        return Ok(false);
-    }
+fn shows_write_by_text(rt: &impl Abort, alloc: Global) {
+    let mut map = granted(rt, one_text(alloc));
+    assert!(*rt; map.contains_key("a"));
     map["a"] = 3;
-    Ok(map.get("a") == Some(&3))
+    assert_is(rt, map.get("a"), Some(&3));
 }
 
-fn shows_index_by_borrowed_text(alloc: Global) -> Result<bool, Fail> {
-    let map = two_words(alloc)?;
-    if !map.contains_key("b") {
-        return Ok(false);
-    }
-    Ok(map["b"] == 2)
+fn shows_index_by_borrowed_text(rt: &impl Abort, alloc: Global) {
+    let map = granted(rt, two_words(alloc));
+    assert!(*rt; map.contains_key("b"));
+    assert_is(rt, map["b"], 2);
 }
 
 #[test]
-fn examples_of_map_indexing_hold(rt: HostRuntime) -> Result<(), Fail> {
+fn examples_of_map_indexing_hold(rt: HostRuntime) {
     let alloc = rt.alloc();
-    assert!(rt; shows_index_by_place(alloc)?);
-    assert!(rt; shows_write_by_place(alloc)?);
-    assert!(rt; shows_index_by_key(alloc)?);
-    assert!(rt; shows_write_by_key(alloc)?);
-    assert!(rt; shows_index_by_text(alloc)?);
-    assert!(rt; shows_write_by_text(alloc)?);
-    assert!(rt; shows_index_by_borrowed_text(alloc)?);
-    Ok(())
+    shows_index_by_place(&rt, alloc);
+    shows_write_by_place(&rt, alloc);
+    shows_index_by_key(&rt, alloc);
+    shows_write_by_key(&rt, alloc);
+    shows_index_by_text(&rt, alloc);
+    shows_write_by_text(&rt, alloc);
+    shows_index_by_borrowed_text(&rt, alloc);
 }

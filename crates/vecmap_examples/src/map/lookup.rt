@@ -1,82 +1,86 @@
 //! Examples of `vecmap_map/src/lookup.rt`.
+use crate::checks::{assert_is, granted};
 use crate::made::{one_text, two_letters};
 use std::alloc::Global;
-use std::test::Fail;
+use std::process::Abort;
 
-fn shows_contains_key(alloc: Global) -> Result<bool, Fail> {
-    let map = two_letters(alloc)?;
-    Ok(map.contains_key(&'a') && !map.contains_key(&'c'))
+fn shows_contains_key(rt: &impl Abort, alloc: Global) {
+    let map = granted(rt, two_letters(alloc));
+    assert_is(rt, map.contains_key(&'a'), true);
+    assert_is(rt, map.contains_key(&'c'), false);
 }
 
-fn shows_first(alloc: Global) -> Result<bool, Fail> {
-    let map = two_letters(alloc)?;
-    Ok(map.first() == Some((&'a', &1)))
+fn shows_first(rt: &impl Abort, alloc: Global) {
+    let map = granted(rt, two_letters(alloc));
+    assert_is(rt, map.first(), Some((&'a', &1)));
 }
 
-fn shows_last(alloc: Global) -> Result<bool, Fail> {
-    let map = two_letters(alloc)?;
-    Ok(map.last() == Some((&'b', &2)))
+fn shows_last(rt: &impl Abort, alloc: Global) {
+    let map = granted(rt, two_letters(alloc));
+    assert_is(rt, map.last(), Some((&'b', &2)));
 }
 
-fn shows_get(alloc: Global) -> Result<bool, Fail> {
-    let map = two_letters(alloc)?;
-    Ok(map.get(&'b') == Some(&2) && map.get(&'c').is_none())
+fn shows_get(rt: &impl Abort, alloc: Global) {
+    let map = granted(rt, two_letters(alloc));
+    assert_is(rt, map.get(&'b'), Some(&2));
+    assert_is(rt, map.get(&'c'), None);
 }
 
-fn shows_get_index(alloc: Global) -> Result<bool, Fail> {
-    let map = two_letters(alloc)?;
-    Ok(map.get_index(1) == Some((&'b', &2)) && map.get_index(2).is_none())
+fn shows_get_index(rt: &impl Abort, alloc: Global) {
+    let map = granted(rt, two_letters(alloc));
+    assert_is(rt, map.get_index(1), Some((&'b', &2)));
+    assert_is(rt, map.get_index(2), None);
 }
 
-fn shows_get_full(alloc: Global) -> Result<bool, Fail> {
-    let map = two_letters(alloc)?;
-    Ok(map.get_full(&'b') == Some((1, &'b', &2)))
+fn shows_get_full(rt: &impl Abort, alloc: Global) {
+    let map = granted(rt, two_letters(alloc));
+    assert_is(rt, map.get_full(&'b'), Some((1, &'b', &2)));
 }
 
-fn shows_get_key_value(alloc: Global) -> Result<bool, Fail> {
-    let map = two_letters(alloc)?;
-    Ok(map.get_key_value(&'b') == Some((&'b', &2)))
+fn shows_get_key_value(rt: &impl Abort, alloc: Global) {
+    let map = granted(rt, two_letters(alloc));
+    assert_is(rt, map.get_key_value(&'b'), Some((&'b', &2)));
 }
 
-fn shows_get_index_of(alloc: Global) -> Result<bool, Fail> {
-    let map = two_letters(alloc)?;
-    Ok(map.get_index_of(&'b') == Some(1) && map.get_index_of(&'c').is_none())
+fn shows_get_index_of(rt: &impl Abort, alloc: Global) {
+    let map = granted(rt, two_letters(alloc));
+    assert_is(rt, map.get_index_of(&'b'), Some(1));
+    assert_is(rt, map.get_index_of(&'c'), None);
 }
 
-fn shows_has_distinct_keys(alloc: Global) -> Result<bool, Fail> {
-    let map = two_letters(alloc)?;
-    Ok(map.has_distinct_keys())
+fn shows_has_distinct_keys(rt: &impl Abort, alloc: Global) {
+    let map = granted(rt, two_letters(alloc));
+    assert_is(rt, map.has_distinct_keys(), true);
 }
 
-fn shows_contains_key_str(alloc: Global) -> Result<bool, Fail> {
-    let map = one_text(alloc)?;
-    Ok(map.contains_key_str("a"))
+fn shows_contains_key_str(rt: &impl Abort, alloc: Global) {
+    let map = granted(rt, one_text(alloc));
+    assert_is(rt, map.contains_key_str("a"), true);
 }
 
-fn shows_get_str(alloc: Global) -> Result<bool, Fail> {
-    let map = one_text(alloc)?;
-    Ok(map.get_str("a") == Some(&1))
+fn shows_get_str(rt: &impl Abort, alloc: Global) {
+    let map = granted(rt, one_text(alloc));
+    assert_is(rt, map.get_str("a"), Some(&1));
 }
 
-fn shows_get_index_of_str(alloc: Global) -> Result<bool, Fail> {
-    let map = one_text(alloc)?;
-    Ok(map.get_index_of_str("a") == Some(0))
+fn shows_get_index_of_str(rt: &impl Abort, alloc: Global) {
+    let map = granted(rt, one_text(alloc));
+    assert_is(rt, map.get_index_of_str("a"), Some(0));
 }
 
 #[test]
-fn examples_of_map_lookup_hold(rt: HostRuntime) -> Result<(), Fail> {
+fn examples_of_map_lookup_hold(rt: HostRuntime) {
     let alloc = rt.alloc();
-    assert!(rt; shows_contains_key(alloc)?);
-    assert!(rt; shows_first(alloc)?);
-    assert!(rt; shows_last(alloc)?);
-    assert!(rt; shows_get(alloc)?);
-    assert!(rt; shows_get_index(alloc)?);
-    assert!(rt; shows_get_full(alloc)?);
-    assert!(rt; shows_get_key_value(alloc)?);
-    assert!(rt; shows_get_index_of(alloc)?);
-    assert!(rt; shows_has_distinct_keys(alloc)?);
-    assert!(rt; shows_contains_key_str(alloc)?);
-    assert!(rt; shows_get_str(alloc)?);
-    assert!(rt; shows_get_index_of_str(alloc)?);
-    Ok(())
+    shows_contains_key(&rt, alloc);
+    shows_first(&rt, alloc);
+    shows_last(&rt, alloc);
+    shows_get(&rt, alloc);
+    shows_get_index(&rt, alloc);
+    shows_get_full(&rt, alloc);
+    shows_get_key_value(&rt, alloc);
+    shows_get_index_of(&rt, alloc);
+    shows_has_distinct_keys(&rt, alloc);
+    shows_contains_key_str(&rt, alloc);
+    shows_get_str(&rt, alloc);
+    shows_get_index_of_str(&rt, alloc);
 }

@@ -1,62 +1,60 @@
 //! Examples of `vecmap_map/src/order.rt`.
-use crate::made::{has_pairs, letters_back, three_letters, two_letters};
+use crate::checks::{assert_pairs, granted};
+use crate::made::{letters_back, three_letters, two_letters};
 use std::alloc::Global;
-use std::test::Fail;
+use std::process::Abort;
 
-fn shows_reverse(alloc: Global) -> Result<bool, Fail> {
-    let mut map = three_letters(alloc)?;
+fn shows_reverse(rt: &impl Abort, alloc: Global) {
+    let mut map = granted(rt, three_letters(alloc));
     map.reverse();
-    Ok(has_pairs(&map, &[('c', 3), ('b', 2), ('a', 1)]))
+    assert_pairs(rt, &map, &[('c', 3), ('b', 2), ('a', 1)]);
 }
 
-fn shows_swap_indices(alloc: Global) -> Result<bool, Fail> {
-    let mut map = three_letters(alloc)?;
-    if map.len() <= 2 {
-        return Ok(false);
-    }
+fn shows_swap_indices(rt: &impl Abort, alloc: Global) {
+    let mut map = granted(rt, three_letters(alloc));
+    assert!(*rt; 2 < map.len());
     map.swap_indices(0, 2);
-    Ok(has_pairs(&map, &[('c', 3), ('b', 2), ('a', 1)]))
+    assert_pairs(rt, &map, &[('c', 3), ('b', 2), ('a', 1)]);
 }
 
-fn shows_sort_keys(alloc: Global) -> Result<bool, Fail> {
-    let mut map = letters_back(alloc)?;
-    map.sort_keys()?;
-    Ok(has_pairs(&map, &[('a', 2), ('b', 1)]))
+fn shows_sort_keys(rt: &impl Abort, alloc: Global) {
+    let mut map = granted(rt, letters_back(alloc));
+    granted(rt, map.sort_keys());
+    assert_pairs(rt, &map, &[('a', 2), ('b', 1)]);
 }
 
-fn shows_sort_by(alloc: Global) -> Result<bool, Fail> {
-    let mut map = two_letters(alloc)?;
-    map.sort_by(|a, b| b.1.cmp(a.1))?;
-    Ok(has_pairs(&map, &[('b', 2), ('a', 1)]))
+fn shows_sort_by(rt: &impl Abort, alloc: Global) {
+    let mut map = granted(rt, two_letters(alloc));
+    granted(rt, map.sort_by(|a, b| b.1.cmp(a.1)));
+    assert_pairs(rt, &map, &[('b', 2), ('a', 1)]);
 }
 
-fn shows_sort_by_cached_key(alloc: Global) -> Result<bool, Fail> {
-    let mut map = letters_back(alloc)?;
-    map.sort_by_cached_key(|key, _value| *key)?;
-    Ok(has_pairs(&map, &[('a', 2), ('b', 1)]))
+fn shows_sort_by_cached_key(rt: &impl Abort, alloc: Global) {
+    let mut map = granted(rt, letters_back(alloc));
+    granted(rt, map.sort_by_cached_key(|key, _value| *key));
+    assert_pairs(rt, &map, &[('a', 2), ('b', 1)]);
 }
 
-fn shows_sort_unstable_keys(alloc: Global) -> Result<bool, Fail> {
-    let mut map = letters_back(alloc)?;
+fn shows_sort_unstable_keys(rt: &impl Abort, alloc: Global) {
+    let mut map = granted(rt, letters_back(alloc));
     map.sort_unstable_keys();
-    Ok(has_pairs(&map, &[('a', 2), ('b', 1)]))
+    assert_pairs(rt, &map, &[('a', 2), ('b', 1)]);
 }
 
-fn shows_sort_unstable_by(alloc: Global) -> Result<bool, Fail> {
-    let mut map = two_letters(alloc)?;
+fn shows_sort_unstable_by(rt: &impl Abort, alloc: Global) {
+    let mut map = granted(rt, two_letters(alloc));
     map.sort_unstable_by(|a, b| b.1.cmp(a.1));
-    Ok(has_pairs(&map, &[('b', 2), ('a', 1)]))
+    assert_pairs(rt, &map, &[('b', 2), ('a', 1)]);
 }
 
 #[test]
-fn examples_of_map_order_hold(rt: HostRuntime) -> Result<(), Fail> {
+fn examples_of_map_order_hold(rt: HostRuntime) {
     let alloc = rt.alloc();
-    assert!(rt; shows_reverse(alloc)?);
-    assert!(rt; shows_swap_indices(alloc)?);
-    assert!(rt; shows_sort_keys(alloc)?);
-    assert!(rt; shows_sort_by(alloc)?);
-    assert!(rt; shows_sort_by_cached_key(alloc)?);
-    assert!(rt; shows_sort_unstable_keys(alloc)?);
-    assert!(rt; shows_sort_unstable_by(alloc)?);
-    Ok(())
+    shows_reverse(&rt, alloc);
+    shows_swap_indices(&rt, alloc);
+    shows_sort_keys(&rt, alloc);
+    shows_sort_by(&rt, alloc);
+    shows_sort_by_cached_key(&rt, alloc);
+    shows_sort_unstable_keys(&rt, alloc);
+    shows_sort_unstable_by(&rt, alloc);
 }

@@ -1,108 +1,106 @@
 //! Examples of `vecmap_map/src/removal.rt`.
-use crate::made::{has_pairs, one_text, three_letters, two_letters};
+use crate::checks::{assert_is, assert_list, assert_pairs, granted};
+use crate::made::{one_text, three_letters, two_letters};
 use std::alloc::Global;
-use std::test::Fail;
+use std::process::Abort;
 
-fn shows_clear(alloc: Global) -> Result<bool, Fail> {
-    let mut map = two_letters(alloc)?;
+fn shows_clear(rt: &impl Abort, alloc: Global) {
+    let mut map = granted(rt, two_letters(alloc));
     map.clear();
-    Ok(map.is_empty())
+    assert_is(rt, map.is_empty(), true);
 }
 
-fn shows_truncate(alloc: Global) -> Result<bool, Fail> {
-    let mut map = three_letters(alloc)?;
+fn shows_truncate(rt: &impl Abort, alloc: Global) {
+    let mut map = granted(rt, three_letters(alloc));
     map.truncate(1);
-    Ok(has_pairs(&map, &[('a', 1)]))
+    assert_pairs(rt, &map, &[('a', 1)]);
 }
 
-fn shows_split_off(alloc: Global) -> Result<bool, Fail> {
-    let mut map = three_letters(alloc)?;
-    if map.len() < 1 {
-        return Ok(false);
-    }
-    let part = map.split_off(1)?;
-    Ok(has_pairs(&map, &[('a', 1)]) && part.as_slice() == [('b', 2), ('c', 3)].as_slice())
+fn shows_split_off(rt: &impl Abort, alloc: Global) {
+    let mut map = granted(rt, three_letters(alloc));
+    assert!(*rt; 1 <= map.len());
+    let part = granted(rt, map.split_off(1));
+    assert_pairs(rt, &map, &[('a', 1)]);
+    assert_list(rt, part.as_slice(), &[('b', 2), ('c', 3)]);
 }
 
-fn shows_drain(alloc: Global) -> Result<bool, Fail> {
-    let mut map = three_letters(alloc)?;
-    if map.len() < 2 {
-        return Ok(false);
-    }
-    Ok(map.drain(..2).next() == Some(('a', 1)) && has_pairs(&map, &[('c', 3)]))
+fn shows_drain(rt: &impl Abort, alloc: Global) {
+    let mut map = granted(rt, three_letters(alloc));
+    assert!(*rt; 2 <= map.len());
+    assert_is(rt, map.drain(..2).next(), Some(('a', 1)));
+    assert_pairs(rt, &map, &[('c', 3)]);
 }
 
-fn shows_retain(alloc: Global) -> Result<bool, Fail> {
-    let mut map = three_letters(alloc)?;
+fn shows_retain(rt: &impl Abort, alloc: Global) {
+    let mut map = granted(rt, three_letters(alloc));
     map.retain(|_key, value| *value != 2);
-    Ok(has_pairs(&map, &[('a', 1), ('c', 3)]))
+    assert_pairs(rt, &map, &[('a', 1), ('c', 3)]);
 }
 
-fn shows_pop(alloc: Global) -> Result<bool, Fail> {
-    let mut map = two_letters(alloc)?;
-    Ok(map.pop() == Some(('b', 2)) && has_pairs(&map, &[('a', 1)]))
+fn shows_pop(rt: &impl Abort, alloc: Global) {
+    let mut map = granted(rt, two_letters(alloc));
+    assert_is(rt, map.pop(), Some(('b', 2)));
+    assert_pairs(rt, &map, &[('a', 1)]);
 }
 
-fn shows_remove(alloc: Global) -> Result<bool, Fail> {
-    let mut map = three_letters(alloc)?;
-    Ok(
-        map.remove(&'a') == Some(1)
-            && map.remove(&'a').is_none()
-            && has_pairs(&map, &[('b', 2), ('c', 3)]),
-    )
+fn shows_remove(rt: &impl Abort, alloc: Global) {
+    let mut map = granted(rt, three_letters(alloc));
+    assert_is(rt, map.remove(&'a'), Some(1));
+    assert_is(rt, map.remove(&'a'), None);
+    assert_pairs(rt, &map, &[('b', 2), ('c', 3)]);
 }
 
-fn shows_remove_entry(alloc: Global) -> Result<bool, Fail> {
-    let mut map = three_letters(alloc)?;
-    Ok(map.remove_entry(&'a') == Some(('a', 1)) && has_pairs(&map, &[('b', 2), ('c', 3)]))
+fn shows_remove_entry(rt: &impl Abort, alloc: Global) {
+    let mut map = granted(rt, three_letters(alloc));
+    assert_is(rt, map.remove_entry(&'a'), Some(('a', 1)));
+    assert_pairs(rt, &map, &[('b', 2), ('c', 3)]);
 }
 
-fn shows_remove_index(alloc: Global) -> Result<bool, Fail> {
-    let mut map = three_letters(alloc)?;
-    if map.len() <= 0 {
-        return Ok(false);
-    }
-    Ok(map.remove_index(0) == ('a', 1) && has_pairs(&map, &[('b', 2), ('c', 3)]))
+fn shows_remove_index(rt: &impl Abort, alloc: Global) {
+    let mut map = granted(rt, three_letters(alloc));
+    assert!(*rt; 0 < map.len());
+    assert_is(rt, map.remove_index(0), ('a', 1));
+    assert_pairs(rt, &map, &[('b', 2), ('c', 3)]);
 }
 
-fn shows_swap_remove(alloc: Global) -> Result<bool, Fail> {
-    let mut map = three_letters(alloc)?;
-    Ok(map.swap_remove(&'a') == Some(1) && has_pairs(&map, &[('c', 3), ('b', 2)]))
+fn shows_swap_remove(rt: &impl Abort, alloc: Global) {
+    let mut map = granted(rt, three_letters(alloc));
+    assert_is(rt, map.swap_remove(&'a'), Some(1));
+    assert_pairs(rt, &map, &[('c', 3), ('b', 2)]);
 }
 
-fn shows_swap_remove_entry(alloc: Global) -> Result<bool, Fail> {
-    let mut map = three_letters(alloc)?;
-    Ok(map.swap_remove_entry(&'a') == Some(('a', 1)) && has_pairs(&map, &[('c', 3), ('b', 2)]))
+fn shows_swap_remove_entry(rt: &impl Abort, alloc: Global) {
+    let mut map = granted(rt, three_letters(alloc));
+    assert_is(rt, map.swap_remove_entry(&'a'), Some(('a', 1)));
+    assert_pairs(rt, &map, &[('c', 3), ('b', 2)]);
 }
 
-fn shows_swap_remove_index(alloc: Global) -> Result<bool, Fail> {
-    let mut map = three_letters(alloc)?;
-    if map.len() <= 0 {
-        return Ok(false);
-    }
-    Ok(map.swap_remove_index(0) == ('a', 1) && has_pairs(&map, &[('c', 3), ('b', 2)]))
+fn shows_swap_remove_index(rt: &impl Abort, alloc: Global) {
+    let mut map = granted(rt, three_letters(alloc));
+    assert!(*rt; 0 < map.len());
+    assert_is(rt, map.swap_remove_index(0), ('a', 1));
+    assert_pairs(rt, &map, &[('c', 3), ('b', 2)]);
 }
 
-fn shows_remove_str(alloc: Global) -> Result<bool, Fail> {
-    let mut map = one_text(alloc)?;
-    Ok(map.remove_str("a") == Some(1))
+fn shows_remove_str(rt: &impl Abort, alloc: Global) {
+    let mut map = granted(rt, one_text(alloc));
+    assert_is(rt, map.remove_str("a"), Some(1));
 }
 
 #[test]
-fn examples_of_map_removal_hold(rt: HostRuntime) -> Result<(), Fail> {
+fn examples_of_map_removal_hold(rt: HostRuntime) {
     let alloc = rt.alloc();
-    assert!(rt; shows_clear(alloc)?);
-    assert!(rt; shows_truncate(alloc)?);
-    assert!(rt; shows_split_off(alloc)?);
-    assert!(rt; shows_drain(alloc)?);
-    assert!(rt; shows_retain(alloc)?);
-    assert!(rt; shows_pop(alloc)?);
-    assert!(rt; shows_remove(alloc)?);
-    assert!(rt; shows_remove_entry(alloc)?);
-    assert!(rt; shows_remove_index(alloc)?);
-    assert!(rt; shows_swap_remove(alloc)?);
-    assert!(rt; shows_swap_remove_entry(alloc)?);
-    assert!(rt; shows_swap_remove_index(alloc)?);
-    assert!(rt; shows_remove_str(alloc)?);
-    Ok(())
+    shows_clear(&rt, alloc);
+    shows_truncate(&rt, alloc);
+    shows_split_off(&rt, alloc);
+    shows_drain(&rt, alloc);
+    shows_retain(&rt, alloc);
+    shows_pop(&rt, alloc);
+    shows_remove(&rt, alloc);
+    shows_remove_entry(&rt, alloc);
+    shows_remove_index(&rt, alloc);
+    shows_swap_remove(&rt, alloc);
+    shows_swap_remove_entry(&rt, alloc);
+    shows_swap_remove_index(&rt, alloc);
+    shows_remove_str(&rt, alloc);
 }

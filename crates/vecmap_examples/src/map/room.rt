@@ -1,71 +1,74 @@
 //! Examples of `vecmap_map/src/room.rt`.
-use crate::made::{has_pairs, two_letters};
+use crate::checks::{assert_is, assert_pairs, granted};
+use crate::made::two_letters;
 use std::alloc::Global;
-use std::test::Fail;
+use std::process::Abort;
 use vecmap::VecMap;
 
-fn shows_len(alloc: Global) -> Result<bool, Fail> {
-    let map = two_letters(alloc)?;
-    Ok(map.len() == 2)
+fn shows_len(rt: &impl Abort, alloc: Global) {
+    let map = granted(rt, two_letters(alloc));
+    assert_is(rt, map.len(), 2);
 }
 
-fn shows_is_empty(alloc: Global) -> Result<bool, Fail> {
-    let map = two_letters(alloc)?;
-    Ok(!map.is_empty())
+fn shows_is_empty(rt: &impl Abort, alloc: Global) {
+    let map = granted(rt, two_letters(alloc));
+    assert_is(rt, map.is_empty(), false);
 }
 
-fn shows_capacity(alloc: Global) -> Result<bool, Fail> {
-    let map: VecMap<char, u32> = VecMap::with_capacity(alloc, 4)?;
-    Ok(4 <= map.capacity())
+fn shows_capacity(rt: &impl Abort, alloc: Global) {
+    let map: VecMap<char, u32> = granted(rt, VecMap::with_capacity(alloc, 4));
+    assert_is(rt, 4 <= map.capacity(), true);
 }
 
-fn shows_reserve(alloc: Global) -> Result<bool, Fail> {
-    let mut map = two_letters(alloc)?;
-    map.reserve(10)?;
-    Ok(12 <= map.capacity())
+fn shows_reserve(rt: &impl Abort, alloc: Global) {
+    let mut map = granted(rt, two_letters(alloc));
+    granted(rt, map.reserve(10));
+    assert_is(rt, 12 <= map.capacity(), true);
 }
 
-fn shows_reserve_exact(alloc: Global) -> Result<bool, Fail> {
-    let mut map = two_letters(alloc)?;
-    map.reserve_exact(10)?;
-    Ok(12 <= map.capacity())
+fn shows_reserve_exact(rt: &impl Abort, alloc: Global) {
+    let mut map = granted(rt, two_letters(alloc));
+    granted(rt, map.reserve_exact(10));
+    assert_is(rt, 12 <= map.capacity(), true);
 }
 
-fn shows_try_reserve(alloc: Global) -> Result<bool, Fail> {
-    let mut map = two_letters(alloc)?;
-    Ok(map.try_reserve(10).is_ok() && !map.try_reserve(usize::MAX).is_ok())
+fn shows_try_reserve(rt: &impl Abort, alloc: Global) {
+    let mut map = granted(rt, two_letters(alloc));
+    assert_is(rt, map.try_reserve(10).is_ok(), true);
+    assert_is(rt, map.try_reserve(usize::MAX).is_ok(), false);
 }
 
-fn shows_try_reserve_exact(alloc: Global) -> Result<bool, Fail> {
-    let mut map = two_letters(alloc)?;
-    Ok(map.try_reserve_exact(10).is_ok() && !map.try_reserve_exact(usize::MAX).is_ok())
+fn shows_try_reserve_exact(rt: &impl Abort, alloc: Global) {
+    let mut map = granted(rt, two_letters(alloc));
+    assert_is(rt, map.try_reserve_exact(10).is_ok(), true);
+    assert_is(rt, map.try_reserve_exact(usize::MAX).is_ok(), false);
 }
 
-fn shows_shrink_to_fit(alloc: Global) -> Result<bool, Fail> {
-    let mut map: VecMap<char, u32> = VecMap::with_capacity(alloc, 10)?;
-    map.insert('a', 1)?;
+fn shows_shrink_to_fit(rt: &impl Abort, alloc: Global) {
+    let mut map: VecMap<char, u32> = granted(rt, VecMap::with_capacity(alloc, 10));
+    granted(rt, map.insert('a', 1));
     map.shrink_to_fit();
-    Ok(has_pairs(&map, &[('a', 1)]) && 1 <= map.capacity())
+    assert_pairs(rt, &map, &[('a', 1)]);
+    assert_is(rt, 1 <= map.capacity(), true);
 }
 
-fn shows_shrink_to(alloc: Global) -> Result<bool, Fail> {
-    let mut map: VecMap<char, u32> = VecMap::with_capacity(alloc, 10)?;
-    map.insert('a', 1)?;
+fn shows_shrink_to(rt: &impl Abort, alloc: Global) {
+    let mut map: VecMap<char, u32> = granted(rt, VecMap::with_capacity(alloc, 10));
+    granted(rt, map.insert('a', 1));
     map.shrink_to(4);
-    Ok(4 <= map.capacity())
+    assert_is(rt, 4 <= map.capacity(), true);
 }
 
 #[test]
-fn examples_of_map_room_hold(rt: HostRuntime) -> Result<(), Fail> {
+fn examples_of_map_room_hold(rt: HostRuntime) {
     let alloc = rt.alloc();
-    assert!(rt; shows_len(alloc)?);
-    assert!(rt; shows_is_empty(alloc)?);
-    assert!(rt; shows_capacity(alloc)?);
-    assert!(rt; shows_reserve(alloc)?);
-    assert!(rt; shows_reserve_exact(alloc)?);
-    assert!(rt; shows_try_reserve(alloc)?);
-    assert!(rt; shows_try_reserve_exact(alloc)?);
-    assert!(rt; shows_shrink_to_fit(alloc)?);
-    assert!(rt; shows_shrink_to(alloc)?);
-    Ok(())
+    shows_len(&rt, alloc);
+    shows_is_empty(&rt, alloc);
+    shows_capacity(&rt, alloc);
+    shows_reserve(&rt, alloc);
+    shows_reserve_exact(&rt, alloc);
+    shows_try_reserve(&rt, alloc);
+    shows_try_reserve_exact(&rt, alloc);
+    shows_shrink_to_fit(&rt, alloc);
+    shows_shrink_to(&rt, alloc);
 }

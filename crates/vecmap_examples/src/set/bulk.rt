@@ -1,51 +1,52 @@
 //! Examples of `vecmap_set/src/bulk.rt`.
-use crate::made::{has_items, other_numbers, two_numbers};
+use crate::checks::{assert_is, assert_items, granted};
+use crate::made::{other_numbers, two_numbers};
 use std::alloc::Global;
-use std::test::Fail;
+use std::process::Abort;
 use vecmap::VecSet;
 
-fn shows_from_iter(alloc: Global) -> Result<bool, Fail> {
-    let set = VecSet::from_iter(alloc, [2, 1, 2])?;
-    Ok(has_items(&set, &[2, 1]))
+fn shows_from_iter(rt: &impl Abort, alloc: Global) {
+    let set = granted(rt, VecSet::from_iter(alloc, [2, 1, 2]));
+    assert_items(rt, &set, &[2, 1]);
 }
 
-fn shows_from_slice(alloc: Global) -> Result<bool, Fail> {
-    let set = VecSet::from_slice(alloc, &[2, 1, 2])?;
-    Ok(has_items(&set, &[2, 1]))
+fn shows_from_slice(rt: &impl Abort, alloc: Global) {
+    let set = granted(rt, VecSet::from_slice(alloc, &[2, 1, 2]));
+    assert_items(rt, &set, &[2, 1]);
 }
 
-fn shows_append(alloc: Global) -> Result<bool, Fail> {
-    let mut set = two_numbers(alloc)?;
-    let mut other = other_numbers(alloc)?;
-    set.append(&mut other)?;
-    Ok(has_items(&set, &[1, 2, 3]) && other.is_empty())
+fn shows_append(rt: &impl Abort, alloc: Global) {
+    let mut set = granted(rt, two_numbers(alloc));
+    let mut other = granted(rt, other_numbers(alloc));
+    granted(rt, set.append(&mut other));
+    assert_items(rt, &set, &[1, 2, 3]);
+    assert_is(rt, other.is_empty(), true);
 }
 
-fn shows_extend(alloc: Global) -> Result<bool, Fail> {
-    let mut set = two_numbers(alloc)?;
-    set.extend([2, 3])?;
-    Ok(has_items(&set, &[1, 2, 3]))
+fn shows_extend(rt: &impl Abort, alloc: Global) {
+    let mut set = granted(rt, two_numbers(alloc));
+    granted(rt, set.extend([2, 3]));
+    assert_items(rt, &set, &[1, 2, 3]);
 }
 
-fn shows_extend_copied(alloc: Global) -> Result<bool, Fail> {
-    let mut set = two_numbers(alloc)?;
-    set.extend_copied(&[2, 3])?;
-    Ok(has_items(&set, &[1, 2, 3]))
+fn shows_extend_copied(rt: &impl Abort, alloc: Global) {
+    let mut set = granted(rt, two_numbers(alloc));
+    granted(rt, set.extend_copied(&[2, 3]));
+    assert_items(rt, &set, &[1, 2, 3]);
 }
 
-fn shows_collect(alloc: Global) -> Result<bool, Fail> {
-    let set: VecSet<u32> = [2, 1, 2].into_iter().collect(alloc)?;
-    Ok(has_items(&set, &[2, 1]))
+fn shows_collect(rt: &impl Abort, alloc: Global) {
+    let set: VecSet<u32> = granted(rt, [2, 1, 2].into_iter().collect(alloc));
+    assert_items(rt, &set, &[2, 1]);
 }
 
 #[test]
-fn examples_of_set_bulk_hold(rt: HostRuntime) -> Result<(), Fail> {
+fn examples_of_set_bulk_hold(rt: HostRuntime) {
     let alloc = rt.alloc();
-    assert!(rt; shows_from_iter(alloc)?);
-    assert!(rt; shows_from_slice(alloc)?);
-    assert!(rt; shows_append(alloc)?);
-    assert!(rt; shows_extend(alloc)?);
-    assert!(rt; shows_extend_copied(alloc)?);
-    assert!(rt; shows_collect(alloc)?);
-    Ok(())
+    shows_from_iter(&rt, alloc);
+    shows_from_slice(&rt, alloc);
+    shows_append(&rt, alloc);
+    shows_extend(&rt, alloc);
+    shows_extend_copied(&rt, alloc);
+    shows_collect(&rt, alloc);
 }

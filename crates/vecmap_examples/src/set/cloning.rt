@@ -1,22 +1,26 @@
 //! Examples of `vecmap_set/src/cloning.rt`.
+use crate::checks::{assert_is, granted};
+use crate::made::one_group;
 use std::alloc::Global;
-use std::test::Fail;
-use vecmap::{VecSet, vecmap, vecset};
+use std::process::Abort;
+use vecmap::VecSet;
 
-fn shows_clone(alloc: Global) -> Result<bool, Fail> {
-    let groups = vecmap!(alloc; 'a' => vecset!(alloc; 2, 1));
-    let mut copy = groups.clone()?;
-    copy.entry('a').or_default()?.insert(3)?;
-    Ok(
+fn shows_clone(rt: &impl Abort, alloc: Global) {
+    let groups = granted(rt, one_group(alloc));
+    let mut copy = granted(rt, groups.clone());
+    granted(rt, granted(rt, copy.entry('a').or_default()).insert(3));
+    assert_is(
+        rt,
         (
             groups.get(&'a').map(VecSet::len),
             copy.get(&'a').map(VecSet::len),
-        ) == (Some(2), Some(3)),
-    )
+        ),
+        (Some(2), Some(3)),
+    );
 }
 
 #[test]
-fn examples_of_set_cloning_hold(rt: HostRuntime) -> Result<(), Fail> {
-    assert!(rt; shows_clone(rt.alloc())?);
-    Ok(())
+fn examples_of_set_cloning_hold(rt: HostRuntime) {
+    let alloc = rt.alloc();
+    shows_clone(&rt, alloc);
 }

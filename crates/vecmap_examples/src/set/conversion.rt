@@ -1,39 +1,38 @@
 //! Examples of `vecmap_set/src/conversion.rt`.
-use crate::made::{has_items, numbers_back};
+use crate::checks::{assert_is, assert_items, assert_list, granted};
+use crate::made::numbers_back;
 use std::alloc::Global;
-use std::test::Fail;
+use std::process::Abort;
 use vecmap::{VecSet, items_distinct};
 
-fn shows_from_vec(alloc: Global) -> Result<bool, Fail> {
-    let set = VecSet::from(vec![in alloc; 2, 1, 2]?);
-    Ok(has_items(&set, &[2, 1]))
+fn shows_from_vec(rt: &impl Abort, alloc: Global) {
+    let set = VecSet::from(granted(rt, vec![in alloc; 2, 1, 2]));
+    assert_items(rt, &set, &[2, 1]);
 }
 
-fn shows_from_vec_counted(alloc: Global) -> Result<bool, Fail> {
-    let (set, comparisons) = VecSet::from_vec_counted(vec![in alloc; 2, 1, 2]?);
-    Ok(comparisons == 2 && has_items(&set, &[2, 1]))
+fn shows_from_vec_counted(rt: &impl Abort, alloc: Global) {
+    let (set, comparisons) = VecSet::from_vec_counted(granted(rt, vec![in alloc; 2, 1, 2]));
+    assert_is(rt, comparisons, 2);
+    assert_items(rt, &set, &[2, 1]);
 }
 
-fn shows_from_vec_unchecked(alloc: Global) -> Result<bool, Fail> {
-    let items = vec![in alloc; 2, 1]?;
-    if !items_distinct(&items) {
-        return Ok(false);
-    }
+fn shows_from_vec_unchecked(rt: &impl Abort, alloc: Global) {
+    let items = granted(rt, vec![in alloc; 2, 1]);
+    assert!(*rt; items_distinct(&items));
     let set = VecSet::from_vec_unchecked(items);
-    Ok(has_items(&set, &[2, 1]))
+    assert_items(rt, &set, &[2, 1]);
 }
 
-fn shows_to_vec(alloc: Global) -> Result<bool, Fail> {
-    let set = numbers_back(alloc)?;
-    Ok(set.to_vec()?.as_slice() == [2, 1].as_slice())
+fn shows_to_vec(rt: &impl Abort, alloc: Global) {
+    let set = granted(rt, numbers_back(alloc));
+    assert_list(rt, granted(rt, set.to_vec()).as_slice(), &[2, 1]);
 }
 
 #[test]
-fn examples_of_set_conversion_hold(rt: HostRuntime) -> Result<(), Fail> {
+fn examples_of_set_conversion_hold(rt: HostRuntime) {
     let alloc = rt.alloc();
-    assert!(rt; shows_from_vec(alloc)?);
-    assert!(rt; shows_from_vec_counted(alloc)?);
-    assert!(rt; shows_from_vec_unchecked(alloc)?);
-    assert!(rt; shows_to_vec(alloc)?);
-    Ok(())
+    shows_from_vec(&rt, alloc);
+    shows_from_vec_counted(&rt, alloc);
+    shows_from_vec_unchecked(&rt, alloc);
+    shows_to_vec(&rt, alloc);
 }

@@ -1,34 +1,30 @@
 //! Examples of `vecmap_set/src/drain.rt`.
-use crate::made::{has_items, three_numbers};
+use crate::checks::{assert_is, assert_items, granted};
+use crate::made::three_numbers;
 use std::alloc::Global;
-use std::test::Fail;
+use std::process::Abort;
 use vecmap::set::Drain;
 
-fn shows_drain(alloc: Global) -> Result<bool, Fail> {
-    let mut set = three_numbers(alloc)?;
-    if set.len() < 1 {
-        return Ok(false);
-    }
+fn shows_drain(rt: &impl Abort, alloc: Global) {
+    let mut set = granted(rt, three_numbers(alloc));
+    assert!(*rt; 1 <= set.len());
     let mut drain = set.drain(1..);
-    if !(drain.next_back() == Some(3) && drain.len() == 1) {
-        return Ok(false);
-    }
+    assert_is(rt, drain.next_back(), Some(3));
+    assert_is(rt, drain.len(), 1);
     drop(drain);
-    Ok(has_items(&set, &[1]))
+    assert_items(rt, &set, &[1]);
 }
 
-fn shows_over(alloc: Global) -> Result<bool, Fail> {
-    let mut set = three_numbers(alloc)?;
-    if set.len() != 3 {
-        return Ok(false);
-    }
-    Ok(Drain::over(&mut set, 1, 3).next() == Some(2) && has_items(&set, &[1]))
+fn shows_over(rt: &impl Abort, alloc: Global) {
+    let mut set = granted(rt, three_numbers(alloc));
+    assert!(*rt; set.len() == 3);
+    assert_is(rt, Drain::over(&mut set, 1, 3).next(), Some(2));
+    assert_items(rt, &set, &[1]);
 }
 
 #[test]
-fn examples_of_set_drain_hold(rt: HostRuntime) -> Result<(), Fail> {
+fn examples_of_set_drain_hold(rt: HostRuntime) {
     let alloc = rt.alloc();
-    assert!(rt; shows_drain(alloc)?);
-    assert!(rt; shows_over(alloc)?);
-    Ok(())
+    shows_drain(&rt, alloc);
+    shows_over(&rt, alloc);
 }

@@ -1,35 +1,46 @@
 //! Examples of `vecmap_set/src/equality.rt`.
-use crate::made::two_numbers;
+use crate::checks::{assert_is, granted};
+use crate::made::{larger_numbers, numbers_back, one_other_number, rotated_numbers, two_numbers};
 use std::alloc::Global;
-use std::test::Fail;
-use vecmap::vecset;
+use std::process::Abort;
 
-fn shows_is_disjoint(alloc: Global) -> Result<bool, Fail> {
-    let set = two_numbers(alloc)?;
-    Ok(set.is_disjoint(&vecset!(alloc; 3, 4)))
+fn shows_is_disjoint(rt: &impl Abort, alloc: Global) {
+    let set = granted(rt, two_numbers(alloc));
+    assert_is(
+        rt,
+        set.is_disjoint(&granted(rt, larger_numbers(alloc))),
+        true,
+    );
 }
 
-fn shows_is_subset(alloc: Global) -> Result<bool, Fail> {
-    let set = two_numbers(alloc)?;
-    Ok(set.is_subset(&vecset!(alloc; 2, 3, 1)))
+fn shows_is_subset(rt: &impl Abort, alloc: Global) {
+    let set = granted(rt, two_numbers(alloc));
+    assert_is(
+        rt,
+        set.is_subset(&granted(rt, rotated_numbers(alloc))),
+        true,
+    );
 }
 
-fn shows_is_superset(alloc: Global) -> Result<bool, Fail> {
-    let set = two_numbers(alloc)?;
-    Ok(set.is_superset(&vecset!(alloc; 2)))
+fn shows_is_superset(rt: &impl Abort, alloc: Global) {
+    let set = granted(rt, two_numbers(alloc));
+    assert_is(
+        rt,
+        set.is_superset(&granted(rt, one_other_number(alloc))),
+        true,
+    );
 }
 
-fn shows_equality(alloc: Global) -> Result<bool, Fail> {
-    let set = two_numbers(alloc)?;
-    Ok(set == vecset!(alloc; 2, 1))
+fn shows_equality(rt: &impl Abort, alloc: Global) {
+    let set = granted(rt, two_numbers(alloc));
+    assert_is(rt, set == granted(rt, numbers_back(alloc)), true);
 }
 
 #[test]
-fn examples_of_set_equality_hold(rt: HostRuntime) -> Result<(), Fail> {
+fn examples_of_set_equality_hold(rt: HostRuntime) {
     let alloc = rt.alloc();
-    assert!(rt; shows_is_disjoint(alloc)?);
-    assert!(rt; shows_is_subset(alloc)?);
-    assert!(rt; shows_is_superset(alloc)?);
-    assert!(rt; shows_equality(alloc)?);
-    Ok(())
+    shows_is_disjoint(&rt, alloc);
+    shows_is_subset(&rt, alloc);
+    shows_is_superset(&rt, alloc);
+    shows_equality(&rt, alloc);
 }

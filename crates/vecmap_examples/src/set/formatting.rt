@@ -1,16 +1,16 @@
 //! Examples of `vecmap_set/src/formatting.rt`.
+use crate::checks::{assert_text, granted};
 use crate::made::numbers_back;
 use std::alloc::Global;
-use std::test::Fail;
+use std::process::Abort;
 
-fn shows_debug(alloc: Global) -> Result<bool, Fail> {
-    let set = numbers_back(alloc)?;
-    Ok(format!(in alloc; "{set:?}")?.as_str() == "{2, 1}")
+fn shows_debug(rt: &impl Abort, alloc: Global) {
+    let set = granted(rt, numbers_back(alloc));
+    assert_text(rt, format!(in alloc; "{set:?}"), "{2, 1}");
 }
 
 #[test]
-fn examples_of_set_formatting_hold(rt: HostRuntime) -> Result<(), Fail> {
+fn examples_of_set_formatting_hold(rt: HostRuntime) {
     let alloc = rt.alloc();
-    assert!(rt; shows_debug(alloc)?);
-    Ok(())
+    shows_debug(&rt, alloc);
 }

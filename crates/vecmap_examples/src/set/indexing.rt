@@ -1,19 +1,17 @@
 //! Examples of `vecmap_set/src/indexing.rt`.
+use crate::checks::{assert_is, granted};
 use crate::made::numbers_back;
 use std::alloc::Global;
-use std::test::Fail;
+use std::process::Abort;
 
-fn shows_index_by_place(alloc: Global) -> Result<bool, Fail> {
-    let set = numbers_back(alloc)?;
-    if set.len() <= 1 {
-        return Ok(false);
-    }
-    Ok(set[1] == 1)
+fn shows_index_by_place(rt: &impl Abort, alloc: Global) {
+    let set = granted(rt, numbers_back(alloc));
+    assert!(*rt; 1 < set.len());
+    assert_is(rt, set[1], 1);
 }
 
 #[test]
-fn examples_of_set_indexing_hold(rt: HostRuntime) -> Result<(), Fail> {
+fn examples_of_set_indexing_hold(rt: HostRuntime) {
     let alloc = rt.alloc();
-    assert!(rt; shows_index_by_place(alloc)?);
-    Ok(())
+    shows_index_by_place(&rt, alloc);
 }

@@ -1,22 +1,26 @@
 //! Examples of `vecmap_set/src/insertion.rt`.
-use crate::made::{has_items, two_numbers};
+use crate::checks::{assert_gives, assert_items, granted};
+use crate::made::two_numbers;
 use std::alloc::Global;
-use std::test::Fail;
+use std::process::Abort;
 
-fn shows_insert(alloc: Global) -> Result<bool, Fail> {
-    let mut set = two_numbers(alloc)?;
-    Ok(set.insert(3)? && !set.insert(1)? && has_items(&set, &[1, 2, 3]))
+fn shows_insert(rt: &impl Abort, alloc: Global) {
+    let mut set = granted(rt, two_numbers(alloc));
+    assert_gives(rt, set.insert(3), true);
+    assert_gives(rt, set.insert(1), false);
+    assert_items(rt, &set, &[1, 2, 3]);
 }
 
-fn shows_replace(alloc: Global) -> Result<bool, Fail> {
-    let mut set = two_numbers(alloc)?;
-    Ok(set.replace(1)? == Some(1) && set.replace(3)?.is_none() && has_items(&set, &[1, 2, 3]))
+fn shows_replace(rt: &impl Abort, alloc: Global) {
+    let mut set = granted(rt, two_numbers(alloc));
+    assert_gives(rt, set.replace(1), Some(1));
+    assert_gives(rt, set.replace(3), None);
+    assert_items(rt, &set, &[1, 2, 3]);
 }
 
 #[test]
-fn examples_of_set_insertion_hold(rt: HostRuntime) -> Result<(), Fail> {
+fn examples_of_set_insertion_hold(rt: HostRuntime) {
     let alloc = rt.alloc();
-    assert!(rt; shows_insert(alloc)?);
-    assert!(rt; shows_replace(alloc)?);
-    Ok(())
+    shows_insert(&rt, alloc);
+    shows_replace(&rt, alloc);
 }

@@ -1,28 +1,28 @@
 //! Examples of `vecmap_set/src/lazy/intersection.rt`.
+use crate::checks::{assert_is, granted};
 use crate::made::{other_numbers, three_numbers};
 use std::alloc::Global;
-use std::test::Fail;
+use std::process::Abort;
 
-fn shows_intersection(alloc: Global) -> Result<bool, Fail> {
-    let set = three_numbers(alloc)?;
-    let other = other_numbers(alloc)?;
-    Ok(
-        set.intersection(&other).next() == Some(&2)
-            && set.intersection(&other).size_hint() == (0, Some(2)),
-    )
+fn shows_intersection(rt: &impl Abort, alloc: Global) {
+    let set = granted(rt, three_numbers(alloc));
+    let other = granted(rt, other_numbers(alloc));
+    assert_is(rt, set.intersection(&other).next(), Some(&2));
+    assert_is(rt, set.intersection(&other).size_hint(), (0, Some(2)));
 }
 
-fn shows_clone(alloc: Global) -> Result<bool, Fail> {
-    let set = three_numbers(alloc)?;
-    let other = other_numbers(alloc)?;
+fn shows_clone(rt: &impl Abort, alloc: Global) {
+    let set = granted(rt, three_numbers(alloc));
+    let other = granted(rt, other_numbers(alloc));
     let mut items = set.intersection(&other);
-    Ok(items.next() == Some(&2) && items.clone().next() == Some(&3) && items.next() == Some(&3))
+    assert_is(rt, items.next(), Some(&2));
+    assert_is(rt, items.clone().next(), Some(&3));
+    assert_is(rt, items.next(), Some(&3));
 }
 
 #[test]
-fn examples_of_set_intersection_hold(rt: HostRuntime) -> Result<(), Fail> {
+fn examples_of_set_intersection_hold(rt: HostRuntime) {
     let alloc = rt.alloc();
-    assert!(rt; shows_intersection(alloc)?);
-    assert!(rt; shows_clone(alloc)?);
-    Ok(())
+    shows_intersection(&rt, alloc);
+    shows_clone(&rt, alloc);
 }

@@ -1,32 +1,33 @@
 //! Examples of `vecmap_set/src/iteration.rt`.
+use crate::checks::{assert_is, granted};
 use crate::made::numbers_back;
 use std::alloc::Global;
-use std::test::Fail;
+use std::process::Abort;
 
-fn shows_iter(alloc: Global) -> Result<bool, Fail> {
-    let set = numbers_back(alloc)?;
-    Ok(set.iter().next() == Some(&2) && set.iter().next_back() == Some(&1))
+fn shows_iter(rt: &impl Abort, alloc: Global) {
+    let set = granted(rt, numbers_back(alloc));
+    assert_is(rt, set.iter().next(), Some(&2));
+    assert_is(rt, set.iter().next_back(), Some(&1));
 }
 
-fn shows_loop_by_reference(alloc: Global) -> Result<bool, Fail> {
-    let set = numbers_back(alloc)?;
+fn shows_loop_by_reference(rt: &impl Abort, alloc: Global) {
+    let set = granted(rt, numbers_back(alloc));
     let mut last = 0;
     for item in &set {
         last = *item;
     }
-    Ok(last == 1)
+    assert_is(rt, last, 1);
 }
 
-fn shows_loop_by_value(alloc: Global) -> Result<bool, Fail> {
-    let set = numbers_back(alloc)?;
-    Ok(set.into_iter().next() == Some(2))
+fn shows_loop_by_value(rt: &impl Abort, alloc: Global) {
+    let set = granted(rt, numbers_back(alloc));
+    assert_is(rt, set.into_iter().next(), Some(2));
 }
 
 #[test]
-fn examples_of_set_iteration_hold(rt: HostRuntime) -> Result<(), Fail> {
+fn examples_of_set_iteration_hold(rt: HostRuntime) {
     let alloc = rt.alloc();
-    assert!(rt; shows_iter(alloc)?);
-    assert!(rt; shows_loop_by_reference(alloc)?);
-    assert!(rt; shows_loop_by_value(alloc)?);
-    Ok(())
+    shows_iter(&rt, alloc);
+    shows_loop_by_reference(&rt, alloc);
+    shows_loop_by_value(&rt, alloc);
 }

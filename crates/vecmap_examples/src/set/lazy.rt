@@ -1,42 +1,46 @@
 //! Examples of `vecmap_set/src/lazy.rt`.
+use crate::checks::{assert_is, granted};
 use crate::made::{other_numbers, two_numbers};
 use std::alloc::Global;
-use std::test::Fail;
+use std::process::Abort;
 
-fn shows_difference(alloc: Global) -> Result<bool, Fail> {
-    let set = two_numbers(alloc)?;
-    let other = other_numbers(alloc)?;
+fn shows_difference(rt: &impl Abort, alloc: Global) {
+    let set = granted(rt, two_numbers(alloc));
+    let other = granted(rt, other_numbers(alloc));
     let mut items = set.difference(&other);
-    Ok(items.next() == Some(&1) && items.next().is_none())
+    assert_is(rt, items.next(), Some(&1));
+    assert_is(rt, items.next(), None);
 }
 
-fn shows_intersection(alloc: Global) -> Result<bool, Fail> {
-    let set = two_numbers(alloc)?;
-    let other = other_numbers(alloc)?;
+fn shows_intersection(rt: &impl Abort, alloc: Global) {
+    let set = granted(rt, two_numbers(alloc));
+    let other = granted(rt, other_numbers(alloc));
     let mut items = set.intersection(&other);
-    Ok(items.next() == Some(&2) && items.next().is_none())
+    assert_is(rt, items.next(), Some(&2));
+    assert_is(rt, items.next(), None);
 }
 
-fn shows_symmetric_difference(alloc: Global) -> Result<bool, Fail> {
-    let set = two_numbers(alloc)?;
-    let other = other_numbers(alloc)?;
+fn shows_symmetric_difference(rt: &impl Abort, alloc: Global) {
+    let set = granted(rt, two_numbers(alloc));
+    let other = granted(rt, other_numbers(alloc));
     let mut items = set.symmetric_difference(&other);
-    Ok(items.next() == Some(&1) && items.next() == Some(&3))
+    assert_is(rt, items.next(), Some(&1));
+    assert_is(rt, items.next(), Some(&3));
 }
 
-fn shows_union(alloc: Global) -> Result<bool, Fail> {
-    let set = two_numbers(alloc)?;
-    let other = other_numbers(alloc)?;
+fn shows_union(rt: &impl Abort, alloc: Global) {
+    let set = granted(rt, two_numbers(alloc));
+    let other = granted(rt, other_numbers(alloc));
     let mut items = set.union(&other);
-    Ok(items.next_back() == Some(&3) && items.next() == Some(&1))
+    assert_is(rt, items.next_back(), Some(&3));
+    assert_is(rt, items.next(), Some(&1));
 }
 
 #[test]
-fn examples_of_set_lazy_hold(rt: HostRuntime) -> Result<(), Fail> {
+fn examples_of_set_lazy_hold(rt: HostRuntime) {
     let alloc = rt.alloc();
-    assert!(rt; shows_difference(alloc)?);
-    assert!(rt; shows_intersection(alloc)?);
-    assert!(rt; shows_symmetric_difference(alloc)?);
-    assert!(rt; shows_union(alloc)?);
-    Ok(())
+    shows_difference(&rt, alloc);
+    shows_intersection(&rt, alloc);
+    shows_symmetric_difference(&rt, alloc);
+    shows_union(&rt, alloc);
 }

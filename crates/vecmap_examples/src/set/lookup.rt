@@ -1,58 +1,62 @@
 //! Examples of `vecmap_set/src/lookup.rt`.
+use crate::checks::{assert_is, granted};
 use crate::made::{numbers_back, one_text_set, two_numbers};
 use std::alloc::Global;
-use std::test::Fail;
+use std::process::Abort;
 
-fn shows_contains(alloc: Global) -> Result<bool, Fail> {
-    let set = two_numbers(alloc)?;
-    Ok(set.contains(&1) && !set.contains(&3))
+fn shows_contains(rt: &impl Abort, alloc: Global) {
+    let set = granted(rt, two_numbers(alloc));
+    assert_is(rt, set.contains(&1), true);
+    assert_is(rt, set.contains(&3), false);
 }
 
-fn shows_first(alloc: Global) -> Result<bool, Fail> {
-    let set = numbers_back(alloc)?;
-    Ok(set.first() == Some(&2))
+fn shows_first(rt: &impl Abort, alloc: Global) {
+    let set = granted(rt, numbers_back(alloc));
+    assert_is(rt, set.first(), Some(&2));
 }
 
-fn shows_last(alloc: Global) -> Result<bool, Fail> {
-    let set = numbers_back(alloc)?;
-    Ok(set.last() == Some(&1))
+fn shows_last(rt: &impl Abort, alloc: Global) {
+    let set = granted(rt, numbers_back(alloc));
+    assert_is(rt, set.last(), Some(&1));
 }
 
-fn shows_get(alloc: Global) -> Result<bool, Fail> {
-    let set = two_numbers(alloc)?;
-    Ok(set.get(&2) == Some(&2) && set.get(&3).is_none())
+fn shows_get(rt: &impl Abort, alloc: Global) {
+    let set = granted(rt, two_numbers(alloc));
+    assert_is(rt, set.get(&2), Some(&2));
+    assert_is(rt, set.get(&3), None);
 }
 
-fn shows_get_index(alloc: Global) -> Result<bool, Fail> {
-    let set = numbers_back(alloc)?;
-    Ok(set.get_index(0) == Some(&2) && set.get_index(2).is_none())
+fn shows_get_index(rt: &impl Abort, alloc: Global) {
+    let set = granted(rt, numbers_back(alloc));
+    assert_is(rt, set.get_index(0), Some(&2));
+    assert_is(rt, set.get_index(2), None);
 }
 
-fn shows_get_full(alloc: Global) -> Result<bool, Fail> {
-    let set = numbers_back(alloc)?;
-    Ok(set.get_full(&1) == Some((1, &1)))
+fn shows_get_full(rt: &impl Abort, alloc: Global) {
+    let set = granted(rt, numbers_back(alloc));
+    assert_is(rt, set.get_full(&1), Some((1, &1)));
 }
 
-fn shows_get_index_of(alloc: Global) -> Result<bool, Fail> {
-    let set = numbers_back(alloc)?;
-    Ok(set.get_index_of(&1) == Some(1) && set.get_index_of(&3).is_none())
+fn shows_get_index_of(rt: &impl Abort, alloc: Global) {
+    let set = granted(rt, numbers_back(alloc));
+    assert_is(rt, set.get_index_of(&1), Some(1));
+    assert_is(rt, set.get_index_of(&3), None);
 }
 
-fn shows_contains_str(alloc: Global) -> Result<bool, Fail> {
-    let set = one_text_set(alloc)?;
-    Ok(set.contains_str("a"))
+fn shows_contains_str(rt: &impl Abort, alloc: Global) {
+    let set = granted(rt, one_text_set(alloc));
+    assert_is(rt, set.contains_str("a"), true);
 }
 
 #[test]
-fn examples_of_set_lookup_hold(rt: HostRuntime) -> Result<(), Fail> {
+fn examples_of_set_lookup_hold(rt: HostRuntime) {
     let alloc = rt.alloc();
-    assert!(rt; shows_contains(alloc)?);
-    assert!(rt; shows_first(alloc)?);
-    assert!(rt; shows_last(alloc)?);
-    assert!(rt; shows_get(alloc)?);
-    assert!(rt; shows_get_index(alloc)?);
-    assert!(rt; shows_get_full(alloc)?);
-    assert!(rt; shows_get_index_of(alloc)?);
-    assert!(rt; shows_contains_str(alloc)?);
-    Ok(())
+    shows_contains(&rt, alloc);
+    shows_first(&rt, alloc);
+    shows_last(&rt, alloc);
+    shows_get(&rt, alloc);
+    shows_get_index(&rt, alloc);
+    shows_get_full(&rt, alloc);
+    shows_get_index_of(&rt, alloc);
+    shows_contains_str(&rt, alloc);
 }

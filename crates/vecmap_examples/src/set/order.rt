@@ -1,62 +1,60 @@
 //! Examples of `vecmap_set/src/order.rt`.
-use crate::made::{has_items, numbers_back, three_numbers, two_numbers};
+use crate::checks::{assert_items, granted};
+use crate::made::{numbers_back, three_numbers, two_numbers};
 use std::alloc::Global;
-use std::test::Fail;
+use std::process::Abort;
 
-fn shows_reverse(alloc: Global) -> Result<bool, Fail> {
-    let mut set = three_numbers(alloc)?;
+fn shows_reverse(rt: &impl Abort, alloc: Global) {
+    let mut set = granted(rt, three_numbers(alloc));
     set.reverse();
-    Ok(has_items(&set, &[3, 2, 1]))
+    assert_items(rt, &set, &[3, 2, 1]);
 }
 
-fn shows_swap_indices(alloc: Global) -> Result<bool, Fail> {
-    let mut set = three_numbers(alloc)?;
-    if set.len() <= 2 {
-        return Ok(false);
-    }
+fn shows_swap_indices(rt: &impl Abort, alloc: Global) {
+    let mut set = granted(rt, three_numbers(alloc));
+    assert!(*rt; 2 < set.len());
     set.swap_indices(0, 2);
-    Ok(has_items(&set, &[3, 2, 1]))
+    assert_items(rt, &set, &[3, 2, 1]);
 }
 
-fn shows_sort(alloc: Global) -> Result<bool, Fail> {
-    let mut set = numbers_back(alloc)?;
-    set.sort()?;
-    Ok(has_items(&set, &[1, 2]))
+fn shows_sort(rt: &impl Abort, alloc: Global) {
+    let mut set = granted(rt, numbers_back(alloc));
+    granted(rt, set.sort());
+    assert_items(rt, &set, &[1, 2]);
 }
 
-fn shows_sort_by(alloc: Global) -> Result<bool, Fail> {
-    let mut set = two_numbers(alloc)?;
-    set.sort_by(|a, b| b.cmp(a))?;
-    Ok(has_items(&set, &[2, 1]))
+fn shows_sort_by(rt: &impl Abort, alloc: Global) {
+    let mut set = granted(rt, two_numbers(alloc));
+    granted(rt, set.sort_by(|a, b| b.cmp(a)));
+    assert_items(rt, &set, &[2, 1]);
 }
 
-fn shows_sort_by_cached_key(alloc: Global) -> Result<bool, Fail> {
-    let mut set = numbers_back(alloc)?;
-    set.sort_by_cached_key(|item| *item)?;
-    Ok(has_items(&set, &[1, 2]))
+fn shows_sort_by_cached_key(rt: &impl Abort, alloc: Global) {
+    let mut set = granted(rt, numbers_back(alloc));
+    granted(rt, set.sort_by_cached_key(|item| *item));
+    assert_items(rt, &set, &[1, 2]);
 }
 
-fn shows_sort_unstable(alloc: Global) -> Result<bool, Fail> {
-    let mut set = numbers_back(alloc)?;
+fn shows_sort_unstable(rt: &impl Abort, alloc: Global) {
+    let mut set = granted(rt, numbers_back(alloc));
     set.sort_unstable();
-    Ok(has_items(&set, &[1, 2]))
+    assert_items(rt, &set, &[1, 2]);
 }
 
-fn shows_sort_unstable_by(alloc: Global) -> Result<bool, Fail> {
-    let mut set = two_numbers(alloc)?;
+fn shows_sort_unstable_by(rt: &impl Abort, alloc: Global) {
+    let mut set = granted(rt, two_numbers(alloc));
     set.sort_unstable_by(|a, b| b.cmp(a));
-    Ok(has_items(&set, &[2, 1]))
+    assert_items(rt, &set, &[2, 1]);
 }
 
 #[test]
-fn examples_of_set_order_hold(rt: HostRuntime) -> Result<(), Fail> {
+fn examples_of_set_order_hold(rt: HostRuntime) {
     let alloc = rt.alloc();
-    assert!(rt; shows_reverse(alloc)?);
-    assert!(rt; shows_swap_indices(alloc)?);
-    assert!(rt; shows_sort(alloc)?);
-    assert!(rt; shows_sort_by(alloc)?);
-    assert!(rt; shows_sort_by_cached_key(alloc)?);
-    assert!(rt; shows_sort_unstable(alloc)?);
-    assert!(rt; shows_sort_unstable_by(alloc)?);
-    Ok(())
+    shows_reverse(&rt, alloc);
+    shows_swap_indices(&rt, alloc);
+    shows_sort(&rt, alloc);
+    shows_sort_by(&rt, alloc);
+    shows_sort_by_cached_key(&rt, alloc);
+    shows_sort_unstable(&rt, alloc);
+    shows_sort_unstable_by(&rt, alloc);
 }

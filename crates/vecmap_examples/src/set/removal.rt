@@ -1,104 +1,106 @@
 //! Examples of `vecmap_set/src/removal.rt`.
-use crate::made::{has_items, one_text_set, three_numbers, two_numbers};
+use crate::checks::{assert_is, assert_items, assert_list, granted};
+use crate::made::{one_text_set, three_numbers, two_numbers};
 use std::alloc::Global;
-use std::test::Fail;
+use std::process::Abort;
 
-fn shows_clear(alloc: Global) -> Result<bool, Fail> {
-    let mut set = two_numbers(alloc)?;
+fn shows_clear(rt: &impl Abort, alloc: Global) {
+    let mut set = granted(rt, two_numbers(alloc));
     set.clear();
-    Ok(set.is_empty())
+    assert_is(rt, set.is_empty(), true);
 }
 
-fn shows_truncate(alloc: Global) -> Result<bool, Fail> {
-    let mut set = three_numbers(alloc)?;
+fn shows_truncate(rt: &impl Abort, alloc: Global) {
+    let mut set = granted(rt, three_numbers(alloc));
     set.truncate(1);
-    Ok(has_items(&set, &[1]))
+    assert_items(rt, &set, &[1]);
 }
 
-fn shows_split_off(alloc: Global) -> Result<bool, Fail> {
-    let mut set = three_numbers(alloc)?;
-    if set.len() < 1 {
-        return Ok(false);
-    }
-    let part = set.split_off(1)?;
-    Ok(has_items(&set, &[1]) && part.as_slice() == [2, 3].as_slice())
+fn shows_split_off(rt: &impl Abort, alloc: Global) {
+    let mut set = granted(rt, three_numbers(alloc));
+    assert!(*rt; 1 <= set.len());
+    let part = granted(rt, set.split_off(1));
+    assert_items(rt, &set, &[1]);
+    assert_list(rt, part.as_slice(), &[2, 3]);
 }
 
-fn shows_drain(alloc: Global) -> Result<bool, Fail> {
-    let mut set = three_numbers(alloc)?;
-    if set.len() < 2 {
-        return Ok(false);
-    }
-    Ok(set.drain(..2).next() == Some(1) && has_items(&set, &[3]))
+fn shows_drain(rt: &impl Abort, alloc: Global) {
+    let mut set = granted(rt, three_numbers(alloc));
+    assert!(*rt; 2 <= set.len());
+    assert_is(rt, set.drain(..2).next(), Some(1));
+    assert_items(rt, &set, &[3]);
 }
 
-fn shows_retain(alloc: Global) -> Result<bool, Fail> {
-    let mut set = three_numbers(alloc)?;
+fn shows_retain(rt: &impl Abort, alloc: Global) {
+    let mut set = granted(rt, three_numbers(alloc));
     set.retain(|item| *item != 2);
-    Ok(has_items(&set, &[1, 3]))
+    assert_items(rt, &set, &[1, 3]);
 }
 
-fn shows_pop(alloc: Global) -> Result<bool, Fail> {
-    let mut set = two_numbers(alloc)?;
-    Ok(set.pop() == Some(2) && has_items(&set, &[1]))
+fn shows_pop(rt: &impl Abort, alloc: Global) {
+    let mut set = granted(rt, two_numbers(alloc));
+    assert_is(rt, set.pop(), Some(2));
+    assert_items(rt, &set, &[1]);
 }
 
-fn shows_remove(alloc: Global) -> Result<bool, Fail> {
-    let mut set = three_numbers(alloc)?;
-    Ok(set.remove(&1) && !set.remove(&1) && has_items(&set, &[2, 3]))
+fn shows_remove(rt: &impl Abort, alloc: Global) {
+    let mut set = granted(rt, three_numbers(alloc));
+    assert_is(rt, set.remove(&1), true);
+    assert_is(rt, set.remove(&1), false);
+    assert_items(rt, &set, &[2, 3]);
 }
 
-fn shows_remove_index(alloc: Global) -> Result<bool, Fail> {
-    let mut set = three_numbers(alloc)?;
-    if set.len() <= 0 {
-        return Ok(false);
-    }
-    Ok(set.remove_index(0) == 1 && has_items(&set, &[2, 3]))
+fn shows_remove_index(rt: &impl Abort, alloc: Global) {
+    let mut set = granted(rt, three_numbers(alloc));
+    assert!(*rt; 0 < set.len());
+    assert_is(rt, set.remove_index(0), 1);
+    assert_items(rt, &set, &[2, 3]);
 }
 
-fn shows_swap_remove(alloc: Global) -> Result<bool, Fail> {
-    let mut set = three_numbers(alloc)?;
-    Ok(set.swap_remove(&1) && has_items(&set, &[3, 2]))
+fn shows_swap_remove(rt: &impl Abort, alloc: Global) {
+    let mut set = granted(rt, three_numbers(alloc));
+    assert_is(rt, set.swap_remove(&1), true);
+    assert_items(rt, &set, &[3, 2]);
 }
 
-fn shows_swap_remove_index(alloc: Global) -> Result<bool, Fail> {
-    let mut set = three_numbers(alloc)?;
-    if set.len() <= 0 {
-        return Ok(false);
-    }
-    Ok(set.swap_remove_index(0) == 1 && has_items(&set, &[3, 2]))
+fn shows_swap_remove_index(rt: &impl Abort, alloc: Global) {
+    let mut set = granted(rt, three_numbers(alloc));
+    assert!(*rt; 0 < set.len());
+    assert_is(rt, set.swap_remove_index(0), 1);
+    assert_items(rt, &set, &[3, 2]);
 }
 
-fn shows_take(alloc: Global) -> Result<bool, Fail> {
-    let mut set = three_numbers(alloc)?;
-    Ok(set.take(&1) == Some(1) && has_items(&set, &[2, 3]))
+fn shows_take(rt: &impl Abort, alloc: Global) {
+    let mut set = granted(rt, three_numbers(alloc));
+    assert_is(rt, set.take(&1), Some(1));
+    assert_items(rt, &set, &[2, 3]);
 }
 
-fn shows_swap_take(alloc: Global) -> Result<bool, Fail> {
-    let mut set = three_numbers(alloc)?;
-    Ok(set.swap_take(&1) == Some(1) && has_items(&set, &[3, 2]))
+fn shows_swap_take(rt: &impl Abort, alloc: Global) {
+    let mut set = granted(rt, three_numbers(alloc));
+    assert_is(rt, set.swap_take(&1), Some(1));
+    assert_items(rt, &set, &[3, 2]);
 }
 
-fn shows_remove_str(alloc: Global) -> Result<bool, Fail> {
-    let mut set = one_text_set(alloc)?;
-    Ok(set.remove_str("a"))
+fn shows_remove_str(rt: &impl Abort, alloc: Global) {
+    let mut set = granted(rt, one_text_set(alloc));
+    assert_is(rt, set.remove_str("a"), true);
 }
 
 #[test]
-fn examples_of_set_removal_hold(rt: HostRuntime) -> Result<(), Fail> {
+fn examples_of_set_removal_hold(rt: HostRuntime) {
     let alloc = rt.alloc();
-    assert!(rt; shows_clear(alloc)?);
-    assert!(rt; shows_truncate(alloc)?);
-    assert!(rt; shows_split_off(alloc)?);
-    assert!(rt; shows_drain(alloc)?);
-    assert!(rt; shows_retain(alloc)?);
-    assert!(rt; shows_pop(alloc)?);
-    assert!(rt; shows_remove(alloc)?);
-    assert!(rt; shows_remove_index(alloc)?);
-    assert!(rt; shows_swap_remove(alloc)?);
-    assert!(rt; shows_swap_remove_index(alloc)?);
-    assert!(rt; shows_take(alloc)?);
-    assert!(rt; shows_swap_take(alloc)?);
-    assert!(rt; shows_remove_str(alloc)?);
-    Ok(())
+    shows_clear(&rt, alloc);
+    shows_truncate(&rt, alloc);
+    shows_split_off(&rt, alloc);
+    shows_drain(&rt, alloc);
+    shows_retain(&rt, alloc);
+    shows_pop(&rt, alloc);
+    shows_remove(&rt, alloc);
+    shows_remove_index(&rt, alloc);
+    shows_swap_remove(&rt, alloc);
+    shows_swap_remove_index(&rt, alloc);
+    shows_take(&rt, alloc);
+    shows_swap_take(&rt, alloc);
+    shows_remove_str(&rt, alloc);
 }

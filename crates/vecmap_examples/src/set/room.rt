@@ -1,71 +1,74 @@
 //! Examples of `vecmap_set/src/room.rt`.
-use crate::made::{has_items, two_numbers};
+use crate::checks::{assert_is, assert_items, granted};
+use crate::made::two_numbers;
 use std::alloc::Global;
-use std::test::Fail;
+use std::process::Abort;
 use vecmap::VecSet;
 
-fn shows_len(alloc: Global) -> Result<bool, Fail> {
-    let set = two_numbers(alloc)?;
-    Ok(set.len() == 2)
+fn shows_len(rt: &impl Abort, alloc: Global) {
+    let set = granted(rt, two_numbers(alloc));
+    assert_is(rt, set.len(), 2);
 }
 
-fn shows_is_empty(alloc: Global) -> Result<bool, Fail> {
-    let set = two_numbers(alloc)?;
-    Ok(!set.is_empty())
+fn shows_is_empty(rt: &impl Abort, alloc: Global) {
+    let set = granted(rt, two_numbers(alloc));
+    assert_is(rt, set.is_empty(), false);
 }
 
-fn shows_capacity(alloc: Global) -> Result<bool, Fail> {
-    let set: VecSet<u32> = VecSet::with_capacity(alloc, 4)?;
-    Ok(4 <= set.capacity())
+fn shows_capacity(rt: &impl Abort, alloc: Global) {
+    let set: VecSet<u32> = granted(rt, VecSet::with_capacity(alloc, 4));
+    assert_is(rt, 4 <= set.capacity(), true);
 }
 
-fn shows_reserve(alloc: Global) -> Result<bool, Fail> {
-    let mut set = two_numbers(alloc)?;
-    set.reserve(10)?;
-    Ok(12 <= set.capacity())
+fn shows_reserve(rt: &impl Abort, alloc: Global) {
+    let mut set = granted(rt, two_numbers(alloc));
+    granted(rt, set.reserve(10));
+    assert_is(rt, 12 <= set.capacity(), true);
 }
 
-fn shows_reserve_exact(alloc: Global) -> Result<bool, Fail> {
-    let mut set = two_numbers(alloc)?;
-    set.reserve_exact(10)?;
-    Ok(12 <= set.capacity())
+fn shows_reserve_exact(rt: &impl Abort, alloc: Global) {
+    let mut set = granted(rt, two_numbers(alloc));
+    granted(rt, set.reserve_exact(10));
+    assert_is(rt, 12 <= set.capacity(), true);
 }
 
-fn shows_try_reserve(alloc: Global) -> Result<bool, Fail> {
-    let mut set = two_numbers(alloc)?;
-    Ok(set.try_reserve(10).is_ok() && !set.try_reserve(usize::MAX).is_ok())
+fn shows_try_reserve(rt: &impl Abort, alloc: Global) {
+    let mut set = granted(rt, two_numbers(alloc));
+    assert_is(rt, set.try_reserve(10).is_ok(), true);
+    assert_is(rt, set.try_reserve(usize::MAX).is_ok(), false);
 }
 
-fn shows_try_reserve_exact(alloc: Global) -> Result<bool, Fail> {
-    let mut set = two_numbers(alloc)?;
-    Ok(set.try_reserve_exact(10).is_ok() && !set.try_reserve_exact(usize::MAX).is_ok())
+fn shows_try_reserve_exact(rt: &impl Abort, alloc: Global) {
+    let mut set = granted(rt, two_numbers(alloc));
+    assert_is(rt, set.try_reserve_exact(10).is_ok(), true);
+    assert_is(rt, set.try_reserve_exact(usize::MAX).is_ok(), false);
 }
 
-fn shows_shrink_to_fit(alloc: Global) -> Result<bool, Fail> {
-    let mut set: VecSet<u32> = VecSet::with_capacity(alloc, 10)?;
-    set.insert(1)?;
+fn shows_shrink_to_fit(rt: &impl Abort, alloc: Global) {
+    let mut set: VecSet<u32> = granted(rt, VecSet::with_capacity(alloc, 10));
+    granted(rt, set.insert(1));
     set.shrink_to_fit();
-    Ok(has_items(&set, &[1]) && 1 <= set.capacity())
+    assert_items(rt, &set, &[1]);
+    assert_is(rt, 1 <= set.capacity(), true);
 }
 
-fn shows_shrink_to(alloc: Global) -> Result<bool, Fail> {
-    let mut set: VecSet<u32> = VecSet::with_capacity(alloc, 10)?;
-    set.insert(1)?;
+fn shows_shrink_to(rt: &impl Abort, alloc: Global) {
+    let mut set: VecSet<u32> = granted(rt, VecSet::with_capacity(alloc, 10));
+    granted(rt, set.insert(1));
     set.shrink_to(4);
-    Ok(4 <= set.capacity())
+    assert_is(rt, 4 <= set.capacity(), true);
 }
 
 #[test]
-fn examples_of_set_room_hold(rt: HostRuntime) -> Result<(), Fail> {
+fn examples_of_set_room_hold(rt: HostRuntime) {
     let alloc = rt.alloc();
-    assert!(rt; shows_len(alloc)?);
-    assert!(rt; shows_is_empty(alloc)?);
-    assert!(rt; shows_capacity(alloc)?);
-    assert!(rt; shows_reserve(alloc)?);
-    assert!(rt; shows_reserve_exact(alloc)?);
-    assert!(rt; shows_try_reserve(alloc)?);
-    assert!(rt; shows_try_reserve_exact(alloc)?);
-    assert!(rt; shows_shrink_to_fit(alloc)?);
-    assert!(rt; shows_shrink_to(alloc)?);
-    Ok(())
+    shows_len(&rt, alloc);
+    shows_is_empty(&rt, alloc);
+    shows_capacity(&rt, alloc);
+    shows_reserve(&rt, alloc);
+    shows_reserve_exact(&rt, alloc);
+    shows_try_reserve(&rt, alloc);
+    shows_try_reserve_exact(&rt, alloc);
+    shows_shrink_to_fit(&rt, alloc);
+    shows_shrink_to(&rt, alloc);
 }

@@ -1,34 +1,35 @@
 //! Examples of `vecmap_set/src/search.rt`.
+use crate::checks::{assert_is, granted};
 use crate::made::two_numbers;
 use std::alloc::Global;
-use std::test::Fail;
+use std::process::Abort;
 
-fn shows_binary_search(alloc: Global) -> Result<bool, Fail> {
-    let set = two_numbers(alloc)?;
-    Ok(set.binary_search(&2) == Ok(1) && set.binary_search(&3) == Err(2))
+fn shows_binary_search(rt: &impl Abort, alloc: Global) {
+    let set = granted(rt, two_numbers(alloc));
+    assert_is(rt, set.binary_search(&2), Ok(1));
+    assert_is(rt, set.binary_search(&3), Err(2));
 }
 
-fn shows_binary_search_by(alloc: Global) -> Result<bool, Fail> {
-    let set = two_numbers(alloc)?;
-    Ok(set.binary_search_by(|item| item.cmp(&2)) == Ok(1))
+fn shows_binary_search_by(rt: &impl Abort, alloc: Global) {
+    let set = granted(rt, two_numbers(alloc));
+    assert_is(rt, set.binary_search_by(|item| item.cmp(&2)), Ok(1));
 }
 
-fn shows_binary_search_by_key(alloc: Global) -> Result<bool, Fail> {
-    let set = two_numbers(alloc)?;
-    Ok(set.binary_search_by_key(&2, |item| *item) == Ok(1))
+fn shows_binary_search_by_key(rt: &impl Abort, alloc: Global) {
+    let set = granted(rt, two_numbers(alloc));
+    assert_is(rt, set.binary_search_by_key(&2, |item| *item), Ok(1));
 }
 
-fn shows_partition_point(alloc: Global) -> Result<bool, Fail> {
-    let set = two_numbers(alloc)?;
-    Ok(set.partition_point(|item| *item < 2) == 1)
+fn shows_partition_point(rt: &impl Abort, alloc: Global) {
+    let set = granted(rt, two_numbers(alloc));
+    assert_is(rt, set.partition_point(|item| *item < 2), 1);
 }
 
 #[test]
-fn examples_of_set_search_hold(rt: HostRuntime) -> Result<(), Fail> {
+fn examples_of_set_search_hold(rt: HostRuntime) {
     let alloc = rt.alloc();
-    assert!(rt; shows_binary_search(alloc)?);
-    assert!(rt; shows_binary_search_by(alloc)?);
-    assert!(rt; shows_binary_search_by_key(alloc)?);
-    assert!(rt; shows_partition_point(alloc)?);
-    Ok(())
+    shows_binary_search(&rt, alloc);
+    shows_binary_search_by(&rt, alloc);
+    shows_binary_search_by_key(&rt, alloc);
+    shows_partition_point(&rt, alloc);
 }

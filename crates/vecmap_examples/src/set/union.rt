@@ -1,25 +1,27 @@
 //! Examples of `vecmap_set/src/lazy/union.rt`.
+use crate::checks::{assert_is, granted};
 use crate::made::{other_numbers, two_numbers};
 use std::alloc::Global;
-use std::test::Fail;
+use std::process::Abort;
 
-fn shows_union(alloc: Global) -> Result<bool, Fail> {
-    let set = two_numbers(alloc)?;
-    let other = other_numbers(alloc)?;
-    Ok(set.union(&other).size_hint() == (2, Some(4)))
+fn shows_union(rt: &impl Abort, alloc: Global) {
+    let set = granted(rt, two_numbers(alloc));
+    let other = granted(rt, other_numbers(alloc));
+    assert_is(rt, set.union(&other).size_hint(), (2, Some(4)));
 }
 
-fn shows_clone(alloc: Global) -> Result<bool, Fail> {
-    let set = two_numbers(alloc)?;
-    let other = other_numbers(alloc)?;
+fn shows_clone(rt: &impl Abort, alloc: Global) {
+    let set = granted(rt, two_numbers(alloc));
+    let other = granted(rt, other_numbers(alloc));
     let mut items = set.union(&other);
-    Ok(items.next() == Some(&1) && items.clone().next() == Some(&2) && items.next() == Some(&2))
+    assert_is(rt, items.next(), Some(&1));
+    assert_is(rt, items.clone().next(), Some(&2));
+    assert_is(rt, items.next(), Some(&2));
 }
 
 #[test]
-fn examples_of_set_union_hold(rt: HostRuntime) -> Result<(), Fail> {
+fn examples_of_set_union_hold(rt: HostRuntime) {
     let alloc = rt.alloc();
-    assert!(rt; shows_union(alloc)?);
-    assert!(rt; shows_clone(alloc)?);
-    Ok(())
+    shows_union(&rt, alloc);
+    shows_clone(&rt, alloc);
 }

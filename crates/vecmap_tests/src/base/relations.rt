@@ -1,4 +1,5 @@
 //! Relations of two lists, seen as sets.
+use crate::checks::assert_is;
 use vecmap_base::{are_apart, are_within};
 
 #[test]
@@ -12,8 +13,8 @@ fn relations_of_lists_ignore_order_and_repeats(rt: HostRuntime) {
         ([1, 4].as_slice(), [1, 2, 3].as_slice(), false, false),
         ([4, 5].as_slice(), [1, 2, 3].as_slice(), false, true),
     ] {
-        assert!(rt; are_within(items, others) == is_within);
-        assert!(rt; are_apart(items, others) == is_apart);
-        assert!(rt; are_apart(others, items) == is_apart);
+        assert_is(&rt, are_within(items, others), is_within);
+        assert_is(&rt, are_apart(items, others), is_apart);
+        assert_is(&rt, are_apart(others, items), is_apart);
     }
 }

@@ -1,5 +1,5 @@
 //! Binary searches of sorted slices.
-use std::test::Fail;
+use crate::checks::assert_is;
 use vecmap_base::{partition_point, search_items_by_key, search_pairs_by_key};
 
 #[test]
@@ -17,27 +17,30 @@ fn a_search_by_key_returns_an_equal_index_or_where_to_insert(rt: HostRuntime) {
         (9, Ok(4)),
         (10, Err(5)),
     ] {
-        assert!(rt;
-            search_pairs_by_key(&pairs, &key, |_key, value| *value) == found,
-            "{key}"
+        assert_is(
+            &rt,
+            search_pairs_by_key(&pairs, &key, |_key, value| *value),
+            found,
         );
-        assert!(rt;
-            search_items_by_key(&items, &key, |item| *item) == found,
-            "{key}"
-        );
+        assert_is(&rt, search_items_by_key(&items, &key, |item| *item), found);
     }
-    assert!(rt; search_pairs_by_key::<char, i32, _, _>(&[], &1, |_key, value| *value) == Err(0));
-    assert!(rt; search_items_by_key::<i32, _, _>(&[], &1, |item| *item) == Err(0));
+    assert_is(
+        &rt,
+        search_pairs_by_key::<char, i32, _, _>(&[], &1, |_key, value| *value),
+        Err(0),
+    );
+    assert_is(
+        &rt,
+        search_items_by_key::<i32, _, _>(&[], &1, |item| *item),
+        Err(0),
+    );
 }
 
 #[test]
 fn partition_point_returns_the_number_of_items_that_hold(rt: HostRuntime) {
     let items = [1, 3, 5, 7, 9];
     for (limit, count) in [(0, 0), (2, 1), (4, 2), (5, 2), (6, 3), (8, 4), (10, 5)] {
-        assert!(rt;
-            partition_point(&items, |item| *item < limit) == count,
-            "{limit}"
-        );
+        assert_is(&rt, partition_point(&items, |item| *item < limit), count);
     }
-    assert!(rt; partition_point::<i32, _>(&[], |item| *item < 1) == 0);
+    assert_is(&rt, partition_point::<i32, _>(&[], |item| *item < 1), 0);
 }

@@ -1,5 +1,5 @@
+use crate::checks::{assert_is, check, granted, present};
 use std::alloc::{AllocError, Global};
-use std::test::Fail;
 use vecmap_callers::header_lists::HeaderList;
 use vecmap_callers::names::Name;
 
@@ -45,26 +45,32 @@ fn has_names(headers: &HeaderList, expected: &[&str]) -> bool {
 }
 
 #[test]
-fn a_header_list_keeps_all_values_of_a_name(rt: HostRuntime) -> Result<(), Fail> {
-    let mut headers = headers_of(
-        rt.alloc(),
-        &[
-            ("Accept", "a"),
-            ("Host", "b"),
-            ("ACCEPT", "c"),
-            ("accept", "a"),
-        ],
-    )?;
-    assert!(rt; has_values(&headers, "accept", &["a", "c", "a"]));
-    assert!(rt; has_values(&headers, "HOST", &["b"]));
-    assert!(rt; has_values(&headers, "acc", &[]));
-    assert!(rt; (headers.get("aCCEPT"), headers.get("Age")) == (Some("a"), None));
-    set_field(rt.alloc(), &mut headers, "host", "d")?;
-    set_field(rt.alloc(), &mut headers, "Age", "e")?;
-    assert!(rt; has_values(&headers, "Host", &["d"]));
-    let removed = headers.remove("accept").ok_or("absent")?;
-    assert!(rt; removed.len() == 3);
-    assert!(rt; headers.remove("accept").is_none());
-    assert!(rt; has_names(&headers, &["Host", "Age"]));
-    Ok(())
+fn a_header_list_keeps_all_values_of_a_name(rt: HostRuntime) {
+    let mut headers = granted(
+        &rt,
+        headers_of(
+            rt.alloc(),
+            &[
+                ("Accept", "a"),
+                ("Host", "b"),
+                ("ACCEPT", "c"),
+                ("accept", "a"),
+            ],
+        ),
+    );
+    check!(rt; has_values(&headers, "accept", &["a", "c", "a"]));
+    check!(rt; has_values(&headers, "HOST", &["b"]));
+    check!(rt; has_values(&headers, "acc", &[]));
+    assert_is(
+        &rt,
+        (headers.get("aCCEPT"), headers.get("Age")),
+        (Some("a"), None),
+    );
+    granted(&rt, set_field(rt.alloc(), &mut headers, "host", "d"));
+    granted(&rt, set_field(rt.alloc(), &mut headers, "Age", "e"));
+    check!(rt; has_values(&headers, "Host", &["d"]));
+    let removed = present(&rt, headers.remove("accept"));
+    assert_is(&rt, removed.len(), 3);
+    assert_is(&rt, headers.remove("accept"), None);
+    check!(rt; has_names(&headers, &["Host", "Age"]));
 }

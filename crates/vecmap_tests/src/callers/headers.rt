@@ -1,5 +1,5 @@
+use crate::checks::{assert_is, check, granted, present};
 use std::alloc::{AllocError, Global};
-use std::test::Fail;
 use vecmap_callers::headers::Headers;
 use vecmap_callers::names::Name;
 
@@ -22,17 +22,26 @@ fn has_fields(headers: &Headers, expected: &[(&str, &str)]) -> bool {
 }
 
 #[test]
-fn headers_keep_the_first_case_and_the_last_text(rt: HostRuntime) -> Result<(), Fail> {
-    let mut headers = headers_of(rt.alloc(), &[("Host", "a"), ("Accept", "b"), ("HOST", "c")])?;
-    assert!(rt; has_fields(&headers, &[("Host", "c"), ("Accept", "b")]));
-    assert!(rt; (headers.get("hOST"), headers.get("hos")) == (Some("c"), None));
-    let mut more = headers_of(rt.alloc(), &[("Age", "d"), ("ACCEPT", "e")])?;
-    headers.merge(&mut more)?;
-    assert!(rt; has_fields(&headers, &[("Host", "c"), ("Accept", "e"), ("Age", "d")]));
-    assert!(rt; has_fields(&more, &[]));
-    let text = headers.remove("host").ok_or("absent")?;
-    assert!(rt; text.as_str() == "c");
-    assert!(rt; headers.remove("host").is_none());
-    assert!(rt; has_fields(&headers, &[("Accept", "e"), ("Age", "d")]));
-    Ok(())
+fn headers_keep_the_first_case_and_the_last_text(rt: HostRuntime) {
+    let mut headers = granted(
+        &rt,
+        headers_of(rt.alloc(), &[("Host", "a"), ("Accept", "b"), ("HOST", "c")]),
+    );
+    check!(rt; has_fields(&headers, &[("Host", "c"), ("Accept", "b")]));
+    assert_is(
+        &rt,
+        (headers.get("hOST"), headers.get("hos")),
+        (Some("c"), None),
+    );
+    let mut more = granted(
+        &rt,
+        headers_of(rt.alloc(), &[("Age", "d"), ("ACCEPT", "e")]),
+    );
+    granted(&rt, headers.merge(&mut more));
+    check!(rt; has_fields(&headers, &[("Host", "c"), ("Accept", "e"), ("Age", "d")]));
+    check!(rt; has_fields(&more, &[]));
+    let text = present(&rt, headers.remove("host"));
+    assert_is(&rt, text.as_str(), "c");
+    assert_is(&rt, headers.remove("host"), None);
+    check!(rt; has_fields(&headers, &[("Accept", "e"), ("Age", "d")]));
 }

@@ -1,8 +1,8 @@
-use std::test::Fail;
+use crate::checks::{assert_gives, assert_is};
 use vecmap_callers::interner::{Interner, TextId, intern_both};
 
 #[test]
-fn each_text_keeps_its_id_and_each_id_its_text(rt: HostRuntime) -> Result<(), Fail> {
+fn each_text_keeps_its_id_and_each_id_its_text(rt: HostRuntime) {
     let mut interner = Interner::new(rt.alloc());
     for (text, id) in [
         ("to", 0),
@@ -12,9 +12,9 @@ fn each_text_keeps_its_id_and_each_id_its_text(rt: HostRuntime) -> Result<(), Fa
         ("", 3),
         ("be", 1),
     ] {
-        assert!(rt; interner.intern(text)? == TextId(id));
+        assert_gives(&rt, interner.intern(text), TextId(id));
     }
-    assert!(rt; interner.len() == 4);
+    assert_is(&rt, interner.len(), 4);
     for (id, text) in [
         (0, Some("to")),
         (1, Some("be")),
@@ -22,12 +22,19 @@ fn each_text_keeps_its_id_and_each_id_its_text(rt: HostRuntime) -> Result<(), Fa
         (3, Some("")),
         (4, None),
     ] {
-        assert!(rt; interner.resolve(TextId(id)) == text);
+        assert_is(&rt, interner.resolve(TextId(id)), text);
     }
-    assert!(rt; interner.id_of_text("or") == Some(TextId(2)));
-    assert!(rt; interner.id_of_text("not") == None);
-    assert!(rt; intern_both(&mut interner, "not", "not")? == (TextId(4), TextId(4)));
-    assert!(rt; intern_both(&mut interner, "to", "be")? == (TextId(0), TextId(1)));
-    assert!(rt; interner.len() == 5);
-    Ok(())
+    assert_is(&rt, interner.id_of_text("or"), Some(TextId(2)));
+    assert_is(&rt, interner.id_of_text("not"), None);
+    assert_gives(
+        &rt,
+        intern_both(&mut interner, "not", "not"),
+        (TextId(4), TextId(4)),
+    );
+    assert_gives(
+        &rt,
+        intern_both(&mut interner, "to", "be"),
+        (TextId(0), TextId(1)),
+    );
+    assert_is(&rt, interner.len(), 5);
 }

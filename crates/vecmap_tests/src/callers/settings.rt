@@ -1,5 +1,5 @@
+use crate::checks::{assert_is, granted};
 use std::alloc::{AllocError, Global};
-use std::test::Fail;
 use vecmap_callers::settings::Settings;
 
 // A text of its own.
@@ -30,38 +30,50 @@ fn set_all(
 }
 
 #[test]
-fn overrides_of_sections_win_in_a_merge(rt: HostRuntime) -> Result<(), Fail> {
+fn overrides_of_sections_win_in_a_merge(rt: HostRuntime) {
     let mut settings = Settings::new(rt.alloc());
-    set_all(
-        rt.alloc(),
-        &mut settings,
-        false,
-        &[("server", "port", "80"), ("log", "level", "info")],
-    )?;
-    set_all(
-        rt.alloc(),
-        &mut settings,
-        true,
-        &[("server", "port", "8080"), ("server", "name", "a")],
-    )?;
-    assert!(rt; settings.get("server", "port") == Some("8080"));
-    assert!(rt; settings.get("log", "level") == Some("info"));
-    assert!(rt; settings.get("log", "port") == None);
-    assert!(rt; settings.get("user", "port") == None);
+    granted(
+        &rt,
+        set_all(
+            rt.alloc(),
+            &mut settings,
+            false,
+            &[("server", "port", "80"), ("log", "level", "info")],
+        ),
+    );
+    granted(
+        &rt,
+        set_all(
+            rt.alloc(),
+            &mut settings,
+            true,
+            &[("server", "port", "8080"), ("server", "name", "a")],
+        ),
+    );
+    assert_is(&rt, settings.get("server", "port"), Some("8080"));
+    assert_is(&rt, settings.get("log", "level"), Some("info"));
+    assert_is(&rt, settings.get("log", "port"), None);
+    assert_is(&rt, settings.get("user", "port"), None);
     let mut upper = Settings::new(rt.alloc());
-    set_all(
-        rt.alloc(),
-        &mut upper,
-        false,
-        &[("log", "level", "warn"), ("log", "file", "f")],
-    )?;
-    set_all(
-        rt.alloc(),
-        &mut upper,
-        true,
-        &[("server", "port", "90"), ("user", "name", "b")],
-    )?;
-    settings.merge(upper)?;
+    granted(
+        &rt,
+        set_all(
+            rt.alloc(),
+            &mut upper,
+            false,
+            &[("log", "level", "warn"), ("log", "file", "f")],
+        ),
+    );
+    granted(
+        &rt,
+        set_all(
+            rt.alloc(),
+            &mut upper,
+            true,
+            &[("server", "port", "90"), ("user", "name", "b")],
+        ),
+    );
+    granted(&rt, settings.merge(upper));
     for (section, name, text) in [
         ("server", "port", "90"),
         ("server", "name", "a"),
@@ -69,13 +81,12 @@ fn overrides_of_sections_win_in_a_merge(rt: HostRuntime) -> Result<(), Fail> {
         ("log", "level", "warn"),
         ("log", "file", "f"),
     ] {
-        assert!(rt; settings.get(section, name) == Some(text));
+        assert_is(&rt, settings.get(section, name), Some(text));
     }
-    let copy = settings.clone()?;
+    let copy = granted(&rt, settings.clone());
     settings.reset("server", "port");
     settings.reset("server", "user");
-    assert!(rt; settings.get("server", "port") == Some("80"));
-    assert!(rt; settings.get("server", "name") == Some("a"));
-    assert!(rt; copy.get("server", "port") == Some("90"));
-    Ok(())
+    assert_is(&rt, settings.get("server", "port"), Some("80"));
+    assert_is(&rt, settings.get("server", "name"), Some("a"));
+    assert_is(&rt, copy.get("server", "port"), Some("90"));
 }

@@ -1,18 +1,26 @@
 //! Runs of commands on a set. The replies are compared as they print, in order.
+ghost use Rattle.vecmap_base.specs.Clones.{ClonesAreSame};
+
+use crate::checks::{assert_is, assert_list, assert_text, check, granted};
 use std::alloc::{AllocError, Global};
-use std::test::Fail;
+use std::fmt::Debug;
+use std::process::Abort;
 use vecmap::{SetCommand, SetReply, VecSet, run_set};
 use vecmap_fixtures::{Log, Told, has_items, has_told, item_set, make_item, make_told, told_set};
 
-// The replies of a run of the commands, as they print.
-macro_rules! answers {
-    ($rt:ident, $set:ident, $commands:expr) => {{
-        let mut all = Vec::new($rt.alloc());
-        for command in $commands {
-            all.push(command)?;
-        }
-        format!(in $rt.alloc(); "{:?}", run_set($rt.alloc(), &mut $set, all)?)?
-    }};
+// Asserts how the replies of a run of commands print, in order.
+fn assert_replies<T: Eq + Clone + Debug, E: Drop>(
+    rt: &impl Abort,
+    set: &mut VecSet<T>,
+    commands: Result<Vec<SetCommand<T>>, E>,
+    expected: &str,
+)
+where
+    requires same { ClonesAreSame T.eq T.is_clone }
+{
+    let alloc = *set.allocator();
+    let replies = granted(rt, run_set(alloc, set, granted(rt, commands)));
+    assert_text(rt, format!(in alloc; "{replies:?}"), expected);
 }
 
 fn made(alloc: Global, items: &[u32]) -> Result<VecSet<u32>, AllocError> {
@@ -20,65 +28,67 @@ fn made(alloc: Global, items: &[u32]) -> Result<VecSet<u32>, AllocError> {
 }
 
 #[test]
-fn a_set_run_replies_to_each_command(rt: HostRuntime) -> Result<(), Fail> {
-    let mut set = made(rt.alloc(), &[3, 2, 1])?;
-    let commands = [
+fn a_set_run_replies_to_each_command(rt: HostRuntime) {
+    let mut set = granted(&rt, made(rt.alloc(), &[3, 2, 1]));
+    let commands = vec![in rt.alloc();
         SetCommand::Insert(2),
-        SetCommand::Intersect(made(rt.alloc(), &[1, 2])?),
+        SetCommand::Intersect(granted(&rt, made(rt.alloc(), &[1, 2]))),
         SetCommand::RemoveIndex(3),
         SetCommand::SplitOff(1),
         SetCommand::Len,
     ];
-    assert!(rt;
-        answers!(rt, set, commands).as_str()
-            == "[Truth(false), Made({2, 1}), OutOfRange, Made({2, 1}), Number(1)]"
+    assert_replies(
+        &rt,
+        &mut set,
+        commands,
+        "[Truth(false), Made({2, 1}), OutOfRange, Made({2, 1}), Number(1)]",
     );
-    assert!(rt; set.as_slice() == [3].as_slice());
-    Ok(())
+    assert_list(&rt, set.as_slice(), &[3]);
 }
 
 #[test]
-fn a_set_run_goes_on_after_an_index_out_of_range(rt: HostRuntime) -> Result<(), Fail> {
-    let mut set = made(rt.alloc(), &[1])?;
-    let commands = [
+fn a_set_run_goes_on_after_an_index_out_of_range(rt: HostRuntime) {
+    let mut set = granted(&rt, made(rt.alloc(), &[1]));
+    let commands = vec![in rt.alloc();
         SetCommand::SwapIndices(0, 1),
-        SetCommand::Unite(made(rt.alloc(), &[2, 1, 3])?),
-        SetCommand::IsSubset(made(rt.alloc(), &[2, 1])?),
+        SetCommand::Unite(granted(&rt, made(rt.alloc(), &[2, 1, 3]))),
+        SetCommand::IsSubset(granted(&rt, made(rt.alloc(), &[2, 1]))),
         SetCommand::Take(1),
         SetCommand::Last,
     ];
-    assert!(rt;
-        answers!(rt, set, commands).as_str()
-            == "[OutOfRange, Made({1, 2, 3}), Truth(true), Item(Some(1)), Item(None)]"
+    assert_replies(
+        &rt,
+        &mut set,
+        commands,
+        "[OutOfRange, Made({1, 2, 3}), Truth(true), Item(Some(1)), Item(None)]",
     );
-    assert!(rt; set.is_empty());
-    Ok(())
+    check!(rt; set.is_empty());
 }
 
 #[test]
-fn a_set_run_inserts_elements(rt: HostRuntime) -> Result<(), Fail> {
-    let mut set = item_set(rt.alloc(), &[(1, 'x'), (2, 'b')])?;
-    let mut commands = Vec::new(rt.alloc());
-    commands.push(SetCommand::Replace(make_item(1, 'y')))?;
-    commands.push(SetCommand::Insert(make_item(2, 'c')))?;
-    commands.push(SetCommand::Replace(make_item(3, 'd')))?;
-    commands.push(SetCommand::Insert(make_item(4, 'e')))?;
-    let replies = run_set(rt.alloc(), &mut set, commands)?;
-    let printed = format!(in rt.alloc(); "{replies:?}")?;
-    assert!(rt;
-        printed.as_str()
-            == "[Item(Some(Item { number: 1, mark: 'x' })), Truth(false), Item(None), Truth(true)]"
+fn a_set_run_inserts_elements(rt: HostRuntime) {
+    let mut set = granted(&rt, item_set(rt.alloc(), &[(1, 'x'), (2, 'b')]));
+    let commands = vec![in rt.alloc();
+        SetCommand::Replace(make_item(1, 'y')),
+        SetCommand::Insert(make_item(2, 'c')),
+        SetCommand::Replace(make_item(3, 'd')),
+        SetCommand::Insert(make_item(4, 'e')),
+    ];
+    assert_replies(
+        &rt,
+        &mut set,
+        commands,
+        "[Item(Some(Item { number: 1, mark: 'x' })), Truth(false), Item(None), Truth(true)]",
     );
-    assert!(rt; has_items(set.as_slice(), &[(1, 'y'), (2, 'b'), (3, 'd'), (4, 'e')]));
-    Ok(())
+    check!(rt; has_items(set.as_slice(), &[(1, 'y'), (2, 'b'), (3, 'd'), (4, 'e')]));
 }
 
 #[test]
-fn a_set_run_reads(rt: HostRuntime) -> Result<(), Fail> {
+fn a_set_run_reads(rt: HostRuntime) {
     let items = [1, 2];
-    let mut set = made(rt.alloc(), &items)?;
+    let mut set = granted(&rt, made(rt.alloc(), &items));
     let room = set.capacity();
-    let commands = [
+    let commands = vec![in rt.alloc();
         SetCommand::Get(2),
         SetCommand::Get(9),
         SetCommand::GetIndex(1),
@@ -91,18 +101,23 @@ fn a_set_run_reads(rt: HostRuntime) -> Result<(), Fail> {
         SetCommand::Last,
         SetCommand::ToVec,
     ];
-    assert!(rt;
-        answers!(rt, set, commands).as_str()
-            == "[Item(Some(2)), Item(None), Item(Some(2)), Item(None), Place(Some(1)), Place(None), Truth(true), Truth(false), Item(Some(1)), Item(Some(2)), Items([1, 2])]"
+    assert_replies(
+        &rt,
+        &mut set,
+        commands,
+        "[Item(Some(2)), Item(None), Item(Some(2)), Item(None), Place(Some(1)), Place(None), Truth(true), Truth(false), Item(Some(1)), Item(Some(2)), Items([1, 2])]",
     );
-    assert!(rt; (set.as_slice(), set.capacity()) == (items.as_slice(), room));
-    Ok(())
+    assert_is(
+        &rt,
+        (set.as_slice(), set.capacity()),
+        (items.as_slice(), room),
+    );
 }
 
 #[test]
-fn a_set_run_removes_elements_by_index(rt: HostRuntime) -> Result<(), Fail> {
-    let mut set = made(rt.alloc(), &[1, 2, 3, 4, 5])?;
-    let commands = [
+fn a_set_run_removes_elements_by_index(rt: HostRuntime) {
+    let mut set = granted(&rt, made(rt.alloc(), &[1, 2, 3, 4, 5]));
+    let commands = vec![in rt.alloc();
         SetCommand::RemoveIndex(1),
         SetCommand::ToVec,
         SetCommand::SwapRemoveIndex(0),
@@ -113,22 +128,26 @@ fn a_set_run_removes_elements_by_index(rt: HostRuntime) -> Result<(), Fail> {
         SetCommand::Pop,
         SetCommand::ToVec,
     ];
-    assert!(rt;
-        answers!(rt, set, commands).as_str()
-            == "[Item(Some(2)), Items([1, 3, 4, 5]), Item(Some(1)), Items([5, 3, 4]), OutOfRange, OutOfRange, Items([5, 3, 4]), Item(Some(4)), Items([5, 3])]"
+    assert_replies(
+        &rt,
+        &mut set,
+        commands,
+        "[Item(Some(2)), Items([1, 3, 4, 5]), Item(Some(1)), Items([5, 3, 4]), OutOfRange, OutOfRange, Items([5, 3, 4]), Item(Some(4)), Items([5, 3])]",
     );
-    let commands = [SetCommand::Pop, SetCommand::Pop, SetCommand::Pop];
-    assert!(rt;
-        answers!(rt, set, commands).as_str() == "[Item(Some(3)), Item(Some(5)), Item(None)]"
+    let commands = vec![in rt.alloc(); SetCommand::Pop, SetCommand::Pop, SetCommand::Pop];
+    assert_replies(
+        &rt,
+        &mut set,
+        commands,
+        "[Item(Some(3)), Item(Some(5)), Item(None)]",
     );
-    assert!(rt; set.is_empty());
-    Ok(())
+    check!(rt; set.is_empty());
 }
 
 #[test]
-fn a_set_run_removes_elements(rt: HostRuntime) -> Result<(), Fail> {
-    let mut set = made(rt.alloc(), &[1, 2, 3, 4, 5, 6])?;
-    let commands = [
+fn a_set_run_removes_elements(rt: HostRuntime) {
+    let mut set = granted(&rt, made(rt.alloc(), &[1, 2, 3, 4, 5, 6]));
+    let commands = vec![in rt.alloc();
         SetCommand::Take(1),
         SetCommand::ToVec,
         SetCommand::SwapTake(2),
@@ -138,62 +157,70 @@ fn a_set_run_removes_elements(rt: HostRuntime) -> Result<(), Fail> {
         SetCommand::SwapRemove(3),
         SetCommand::ToVec,
     ];
-    assert!(rt;
-        answers!(rt, set, commands).as_str()
-            == "[Item(Some(1)), Items([2, 3, 4, 5, 6]), Item(Some(2)), Items([6, 3, 4, 5]), Truth(true), Items([3, 4, 5]), Truth(true), Items([5, 4])]"
+    assert_replies(
+        &rt,
+        &mut set,
+        commands,
+        "[Item(Some(1)), Items([2, 3, 4, 5, 6]), Item(Some(2)), Items([6, 3, 4, 5]), Truth(true), Items([3, 4, 5]), Truth(true), Items([5, 4])]",
     );
-    assert!(rt; set.as_slice() == [5, 4].as_slice());
-    Ok(())
+    assert_list(&rt, set.as_slice(), &[5, 4]);
 }
 
 #[test]
-fn a_set_run_removes_nothing_by_an_absent_element(rt: HostRuntime) -> Result<(), Fail> {
+fn a_set_run_removes_nothing_by_an_absent_element(rt: HostRuntime) {
     let items = [1, 2];
-    let mut set = made(rt.alloc(), &items)?;
+    let mut set = granted(&rt, made(rt.alloc(), &items));
     let room = set.capacity();
-    let commands = [
+    let commands = vec![in rt.alloc();
         SetCommand::Remove(9),
         SetCommand::SwapRemove(9),
         SetCommand::Take(9),
         SetCommand::SwapTake(9),
     ];
-    assert!(rt;
-        answers!(rt, set, commands).as_str()
-            == "[Truth(false), Truth(false), Item(None), Item(None)]"
+    assert_replies(
+        &rt,
+        &mut set,
+        commands,
+        "[Truth(false), Truth(false), Item(None), Item(None)]",
     );
-    assert!(rt; (set.as_slice(), set.capacity()) == (items.as_slice(), room));
-    Ok(())
+    assert_is(
+        &rt,
+        (set.as_slice(), set.capacity()),
+        (items.as_slice(), room),
+    );
 }
 
 #[test]
-fn a_set_run_changes_the_whole_list(rt: HostRuntime) -> Result<(), Fail> {
-    let mut set = made(rt.alloc(), &[1, 2, 3, 4])?;
-    let commands = [
+fn a_set_run_changes_the_whole_list(rt: HostRuntime) {
+    let mut set = granted(&rt, made(rt.alloc(), &[1, 2, 3, 4]));
+    let commands = vec![in rt.alloc();
         SetCommand::SwapIndices(0, 2),
         SetCommand::SwapIndices(4, 0),
         SetCommand::ToVec,
         SetCommand::Reverse,
         SetCommand::Truncate(3),
-        SetCommand::Append(made(rt.alloc(), &[9, 1, 8])?),
+        SetCommand::Append(granted(&rt, made(rt.alloc(), &[9, 1, 8]))),
         SetCommand::ToVec,
         SetCommand::SplitOff(6),
         SetCommand::SplitOff(5),
         SetCommand::Clear,
         SetCommand::Pop,
     ];
-    assert!(rt;
-        answers!(rt, set, commands).as_str()
-            == "[Done, OutOfRange, Items([3, 2, 1, 4]), Done, Done, Done, Items([4, 1, 2, 9, 8]), OutOfRange, Made({}), Done, Item(None)]"
+    assert_replies(
+        &rt,
+        &mut set,
+        commands,
+        "[Done, OutOfRange, Items([3, 2, 1, 4]), Done, Done, Done, Items([4, 1, 2, 9, 8]), OutOfRange, Made({}), Done, Item(None)]",
     );
-    assert!(rt; set.is_empty() && 5 <= set.capacity());
-    Ok(())
+    check!(rt; set.is_empty());
+    check!(rt; 5 <= set.capacity());
 }
 
 #[test]
-fn a_set_run_finds_nothing_at_the_greatest_index(rt: HostRuntime) -> Result<(), Fail> {
-    let mut set = made(rt.alloc(), &[1])?;
+fn a_set_run_finds_nothing_at_the_greatest_index(rt: HostRuntime) {
+    let mut set = granted(&rt, made(rt.alloc(), &[1]));
     let room = set.capacity();
-    let commands = [
+    let commands = vec![in rt.alloc();
         SetCommand::SplitOff(usize::MAX),
         SetCommand::GetIndex(usize::MAX),
         SetCommand::RemoveIndex(usize::MAX),
@@ -202,20 +229,23 @@ fn a_set_run_finds_nothing_at_the_greatest_index(rt: HostRuntime) -> Result<(), 
         SetCommand::SwapIndices(usize::MAX, usize::MAX),
         SetCommand::Truncate(usize::MAX),
     ];
-    assert!(rt;
-        answers!(rt, set, commands).as_str()
-            == "[OutOfRange, Item(None), OutOfRange, OutOfRange, OutOfRange, OutOfRange, Done]"
+    assert_replies(
+        &rt,
+        &mut set,
+        commands,
+        "[OutOfRange, Item(None), OutOfRange, OutOfRange, OutOfRange, OutOfRange, Done]",
     );
-    assert!(rt; (set.as_slice(), set.capacity()) == ([1].as_slice(), room));
-    Ok(())
+    assert_is(
+        &rt,
+        (set.as_slice(), set.capacity()),
+        ([1].as_slice(), room),
+    );
 }
 
 #[test]
-fn a_refused_clone_in_a_set_run_replies_out_of_memory_and_changes_nothing(
-    rt: HostRuntime,
-) -> Result<(), Fail> {
+fn a_refused_clone_in_a_set_run_replies_out_of_memory_and_changes_nothing(rt: HostRuntime) {
     let log = Log::new();
-    let mut set = told_set(rt.alloc(), &log, &[1, 2])?;
+    let mut set = granted(&rt, told_set(rt.alloc(), &log, &[1, 2]));
     for (number, replies) in [
         (
             1,
@@ -227,17 +257,17 @@ fn a_refused_clone_in_a_set_run_replies_out_of_memory_and_changes_nothing(
         ),
     ] {
         log.refuse_clones_of(number);
-        let commands = [
+        let commands = vec![in rt.alloc();
             SetCommand::Get(make_told(&log, 1)),
             SetCommand::GetIndex(1),
             SetCommand::First,
             SetCommand::Last,
             SetCommand::ToVec,
         ];
-        assert!(rt; answers!(rt, set, commands).as_str() == replies);
-        assert!(rt; log.alive() == 2 && has_told(set.as_slice(), &[1, 2]));
+        assert_replies(&rt, &mut set, commands, replies);
+        assert_is(&rt, log.alive(), 2);
+        check!(rt; has_told(set.as_slice(), &[1, 2]));
     }
-    Ok(())
 }
 
 // Returns a command for each operator, with the same right operand.
@@ -251,53 +281,52 @@ fn operators(alloc: Global, log: &Log) -> Result<Vec<SetCommand<Told<'_>>>, Allo
 }
 
 #[test]
-fn an_operator_whose_clone_is_refused_replies_out_of_memory(rt: HostRuntime) -> Result<(), Fail> {
+fn an_operator_whose_clone_is_refused_replies_out_of_memory(rt: HostRuntime) {
     let log = Log::new();
-    let mut set = told_set(rt.alloc(), &log, &[1, 2])?;
+    let mut set = granted(&rt, told_set(rt.alloc(), &log, &[1, 2]));
     for (number, replies) in [
         (1, "[Made({2}), NoMemory, NoMemory, NoMemory]"),
         (2, "[NoMemory, NoMemory, Made({1, 3}), Made({1})]"),
         (3, "[Made({2}), NoMemory, NoMemory, Made({1})]"),
     ] {
         log.refuse_clones_of(number);
-        let answers = run_set(rt.alloc(), &mut set, operators(rt.alloc(), &log)?)?;
-        assert!(rt; format!(in rt.alloc(); "{answers:?}")?.as_str() == replies);
-        drop(answers);
-        assert!(rt; log.alive() == 2 && has_told(set.as_slice(), &[1, 2]));
+        assert_replies(&rt, &mut set, operators(rt.alloc(), &log), replies);
+        assert_is(&rt, log.alive(), 2);
+        check!(rt; has_told(set.as_slice(), &[1, 2]));
     }
-    Ok(())
 }
 
 #[test]
-fn a_set_run_compares_and_joins_sets(rt: HostRuntime) -> Result<(), Fail> {
-    let mut set = made(rt.alloc(), &[1, 2, 3])?;
-    let commands = [
-        SetCommand::Equals(made(rt.alloc(), &[3, 2, 1])?),
-        SetCommand::Equals(made(rt.alloc(), &[1, 2, 3, 4])?),
-        SetCommand::IsSubset(made(rt.alloc(), &[1, 2])?),
-        SetCommand::IsSuperset(made(rt.alloc(), &[1, 2])?),
-        SetCommand::IsSuperset(made(rt.alloc(), &[1, 4])?),
-        SetCommand::IsDisjoint(made(rt.alloc(), &[4, 5])?),
-        SetCommand::IsDisjoint(made(rt.alloc(), &[4, 3])?),
-        SetCommand::Intersect(made(rt.alloc(), &[2, 4, 1])?),
-        SetCommand::Unite(made(rt.alloc(), &[5, 2, 4, 6])?),
-        SetCommand::Exclusive(made(rt.alloc(), &[4, 2, 3])?),
-        SetCommand::Subtract(made(rt.alloc(), &[4, 2, 3])?),
+fn a_set_run_compares_and_joins_sets(rt: HostRuntime) {
+    let mut set = granted(&rt, made(rt.alloc(), &[1, 2, 3]));
+    let commands = vec![in rt.alloc();
+        SetCommand::Equals(granted(&rt, made(rt.alloc(), &[3, 2, 1]))),
+        SetCommand::Equals(granted(&rt, made(rt.alloc(), &[1, 2, 3, 4]))),
+        SetCommand::IsSubset(granted(&rt, made(rt.alloc(), &[1, 2]))),
+        SetCommand::IsSuperset(granted(&rt, made(rt.alloc(), &[1, 2]))),
+        SetCommand::IsSuperset(granted(&rt, made(rt.alloc(), &[1, 4]))),
+        SetCommand::IsDisjoint(granted(&rt, made(rt.alloc(), &[4, 5]))),
+        SetCommand::IsDisjoint(granted(&rt, made(rt.alloc(), &[4, 3]))),
+        SetCommand::Intersect(granted(&rt, made(rt.alloc(), &[2, 4, 1]))),
+        SetCommand::Unite(granted(&rt, made(rt.alloc(), &[5, 2, 4, 6]))),
+        SetCommand::Exclusive(granted(&rt, made(rt.alloc(), &[4, 2, 3]))),
+        SetCommand::Subtract(granted(&rt, made(rt.alloc(), &[4, 2, 3]))),
     ];
-    assert!(rt;
-        answers!(rt, set, commands).as_str()
-            == "[Truth(true), Truth(false), Truth(false), Truth(true), Truth(false), Truth(true), Truth(false), Made({1, 2}), Made({1, 2, 3, 5, 4, 6}), Made({1, 4}), Made({1})]"
+    assert_replies(
+        &rt,
+        &mut set,
+        commands,
+        "[Truth(true), Truth(false), Truth(false), Truth(true), Truth(false), Truth(true), Truth(false), Made({1, 2}), Made({1, 2, 3, 5, 4, 6}), Made({1, 4}), Made({1})]",
     );
-    assert!(rt; set.as_slice() == [1, 2, 3].as_slice());
-    Ok(())
+    assert_list(&rt, set.as_slice(), &[1, 2, 3]);
 }
 
 #[test]
-fn set_commands_and_replies_can_be_compared(rt: HostRuntime) -> Result<(), Fail> {
-    let rest = SetReply::Made(made(rt.alloc(), &[1, 2])?);
-    assert!(rt; rest == SetReply::Made(made(rt.alloc(), &[2, 1])?));
-    assert!(rt; rest != SetReply::Item(None));
-    assert!(rt; SetCommand::Insert(1) == SetCommand::Insert(1));
-    assert!(rt; SetCommand::Insert(1) != SetCommand::Replace(1));
-    Ok(())
+fn set_commands_and_replies_can_be_compared(rt: HostRuntime) {
+    let rest = SetReply::Made(granted(&rt, made(rt.alloc(), &[1, 2])));
+    let same = SetReply::Made(granted(&rt, made(rt.alloc(), &[2, 1])));
+    check!(rt; rest == same);
+    check!(rt; rest != SetReply::Item(None));
+    assert_is(&rt, SetCommand::Insert(1), SetCommand::Insert(1));
+    check!(rt; SetCommand::Insert(1) != SetCommand::Replace(1));
 }
