@@ -74,17 +74,6 @@ pub fn make_told(log: &Log, number: u32) -> Told<'_>
     Told { number, log }
 }
 
-/// Checks how many values are alive while the result of a call is held, and how many after it is dropped.
-#[macro_export]
-macro_rules! assert_alive {
-    ($rt:ident, $log:ident, $call:expr, $with:expr, $without:expr) => {{
-        let answer = $call;
-        assert!($rt; $log.alive() == $with);
-        drop(answer);
-        assert!($rt; $log.alive() == $without);
-    }};
-}
-
 /// A clone has the number of its original. It fails if the log says so.
 impl<'a> Clone for Told<'a> {
     ghost use Rattle.std.specs.Prelude.{IsTrue, nat_eq};

@@ -110,8 +110,8 @@ fn a_range_may_have_any_ends(rt: HostRuntime) {
     check!(rt; map.drain(..).next().is_none());
 }
 
-// Asserts that the values of a map rise, from its first key 0 on, while all pairs are drained. Returns the last value and
-// the exclusive or of all.
+// Asserts that the values of a map rise, from its first key 0 on, while all pairs are drained. Returns the last value
+// and the exclusive or of all.
 fn drain_all(rt: &impl Abort, map: &mut VecMap<u32, u32>) -> (u32, u32) {
     let mut sum = 0;
     let mut last = 0;

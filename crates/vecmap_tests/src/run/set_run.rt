@@ -16,7 +16,7 @@ fn assert_replies<T: Eq + Clone + Debug, E: Drop>(
     expected: &str,
 )
 where
-    requires same { ClonesAreSame T.eq T.is_clone }
+    requires clones_equal { ClonesAreSame T.eq T.is_clone }
 {
     let alloc = *set.allocator();
     let replies = granted(rt, run_set(alloc, set, granted(rt, commands)));
