@@ -50,6 +50,14 @@ pub(crate) fn assert_granted<T: Drop, E: Drop>(rt: &impl Abort, outcome: Result<
     assert!(*rt; outcome.is_ok());
 }
 
+/// Asserts that a call returned a value, and returns it.
+pub(crate) fn present<T>(rt: &impl Abort, found: Option<T>) -> T {
+    match found {
+        Some(value) => value,
+        None => panic!(*rt; "absent"),
+    }
+}
+
 /// Asserts that a call was refused memory.
 pub(crate) fn assert_refused<T: Drop, E: Drop>(rt: &impl Abort, outcome: Result<T, E>) {
     assert!(*rt; outcome.is_err());

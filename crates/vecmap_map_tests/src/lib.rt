@@ -5,6 +5,7 @@
 //! - `drops`: each key and value that is passed is dropped once, or returned.
 //! - `hints`: the capacity that a map reserves for the size hint of an iterator.
 //! - `no_size`: keys and values of no size.
+//! - `queries`: calls by each kind of query: a key, a text, a slice, and a query that is not a key.
 //! - `repeats`: calls by key on a map in which keys repeat.
 //! - `sizes`: sizes of keys, pairs and maps for which a call has a path of its own.
 //!
@@ -55,6 +56,8 @@ mod mutable_keys;
 mod no_size;
 #[cfg(test)]
 mod order;
+#[cfg(test)]
+mod queries;
 #[cfg(test)]
 mod removal;
 #[cfg(test)]

@@ -4,6 +4,7 @@
 //! - `clones`: elements whose clones are refused.
 //! - `drops`: each element that is passed is dropped once, or returned.
 //! - `no_size`: elements of no size.
+//! - `queries`: calls by each kind of query: an element, a text, a slice, and a query that is not an element.
 //!
 //! `checks` has the functions by which they assert.
 #![tactic(auto)]
@@ -48,6 +49,8 @@ mod no_size;
 mod operators;
 #[cfg(test)]
 mod order;
+#[cfg(test)]
+mod queries;
 #[cfg(test)]
 mod removal;
 #[cfg(test)]

@@ -1,4 +1,4 @@
-//! Tests of functions over lists, of the macros and of runs of commands, and runs of proved callers.
+//! Tests of functions over lists, of the macros and of runs of commands, random ones too, and runs of proved callers.
 #![tactic(auto)]
 
 #[cfg(test)]
@@ -10,5 +10,7 @@ mod checks;
 pub mod insertions;
 #[cfg(test)]
 mod macros;
+#[cfg(test)]
+mod random;
 #[cfg(test)]
 mod run;
