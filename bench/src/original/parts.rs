@@ -14,6 +14,19 @@ pub fn retain(keys: &[u64], _: &[u64], rounds: u64) -> u64 {
     sum
 }
 
+// All pairs are kept.
+#[inline(never)]
+pub fn retain_all(keys: &[u64], _: &[u64], rounds: u64) -> u64 {
+    let full = filled(keys);
+    let mut sum: u64 = 0;
+    for round in 0..rounds {
+        let mut map = full.clone();
+        map.retain(|key, _value| *key != round);
+        sum = sum.wrapping_add(mark(&map) ^ round);
+    }
+    sum
+}
+
 // The front half is removed.
 #[inline(never)]
 pub fn drain(keys: &[u64], _: &[u64], rounds: u64) -> u64 {

@@ -57,6 +57,19 @@ pub fn set_retain(keys: &[u64], _: &[u64], rounds: u64) -> u64 {
     sum
 }
 
+// All elements are kept.
+#[inline(never)]
+pub fn set_retain_all(keys: &[u64], _: &[u64], rounds: u64) -> u64 {
+    let full = filled(keys);
+    let mut sum: u64 = 0;
+    for round in 0..rounds {
+        let mut set = full.clone();
+        set.retain(|item| *item != round);
+        sum = sum.wrapping_add(mark(&set) ^ round);
+    }
+    sum
+}
+
 // The front half is removed.
 #[inline(never)]
 pub fn set_drain(keys: &[u64], _: &[u64], rounds: u64) -> u64 {

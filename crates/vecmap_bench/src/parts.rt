@@ -24,6 +24,28 @@ pub extern "C" fn vecmap_bench_retain(
     sum
 }
 
+// All pairs are kept.
+#[unsafe(no_mangle)]
+pub extern "C" fn vecmap_bench_retain_all(
+    alloc: Global,
+    keys: &[u64],
+    _probes: &[u64],
+    rounds: u64,
+) -> u64 {
+    let Ok(full) = filled(alloc, keys) else {
+        return REFUSED;
+    };
+    let mut sum: u64 = 0;
+    for round in 0..rounds {
+        let Ok(mut map) = full.clone() else {
+            return REFUSED;
+        };
+        map.retain(|key, _value| *key != round);
+        sum = sum.wrapping_add(mark(&map) ^ round);
+    }
+    sum
+}
+
 // The front half is removed.
 #[unsafe(no_mangle)]
 pub extern "C" fn vecmap_bench_drain(

@@ -93,6 +93,28 @@ pub extern "C" fn vecmap_bench_set_retain(
     sum
 }
 
+// All elements are kept.
+#[unsafe(no_mangle)]
+pub extern "C" fn vecmap_bench_set_retain_all(
+    alloc: Global,
+    keys: &[u64],
+    _probes: &[u64],
+    rounds: u64,
+) -> u64 {
+    let Ok(full) = filled(alloc, keys) else {
+        return REFUSED;
+    };
+    let mut sum: u64 = 0;
+    for round in 0..rounds {
+        let Ok(mut set) = full.clone() else {
+            return REFUSED;
+        };
+        set.retain(|item| *item != round);
+        sum = sum.wrapping_add(mark(&set) ^ round);
+    }
+    sum
+}
+
 // The front half is removed.
 #[unsafe(no_mangle)]
 pub extern "C" fn vecmap_bench_set_drain(
