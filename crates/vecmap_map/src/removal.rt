@@ -180,7 +180,7 @@ impl<K, V> VecMap<K, V> {
         F: Drop,
         requires callable { CallableOnEach (CallsAtPair F.FnMut)
             (TakesPairAt F.FnMut) f self.old.entries }
-        ensures entries { (g : F) × Kept
+        ensures retained { (g : F) × Kept
             (CallsAtPair F.FnMut) f self.old.entries self.new.entries g }
         ensures capacity { self.new.capacity ≡ self.old.capacity }
     {

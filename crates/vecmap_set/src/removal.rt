@@ -184,7 +184,7 @@ impl<T: Eq> VecSet<T> {
         F: Drop,
         requires callable { CallableOnEach (CallsAtItem F.FnMut)
             (TakesAt F.FnMut) f self.old.elements }
-        ensures elements { (g : F) × Kept
+        ensures retained { (g : F) × Kept
             (CallsAtItem F.FnMut) f self.old.elements self.new.elements g }
         ensures distinct { IsDistinct T.eq self.new.elements }
         ensures capacity { self.new.capacity ≡ self.old.capacity }

@@ -4,7 +4,7 @@ use Rattle.vecmap_base.proofs.PlaceLemmas.{none_before_next, position_at}
 use Rattle.vecmap_base.proofs.unrolled.find_from.Goals as goal
 
 pub loop-index-init : goal.loop-index-init
-loop-index-init g c = λ p by. c.requires.before p by
+loop-index-init g c = λ p by. c.requires.none_before p by
 
 pub returns-then-asks-clause-place : goal.returns-then-asks-clause-place
 returns-then-asks-clause-place g c = λ p by.

@@ -22,7 +22,7 @@ returns-then-not-a-b-clause-none g c = λ r p by.
     let to_d = or_parts _ _ to_e.0 in
     let to_c = or_parts _ _ to_d.0 in
     let to_b = or_parts _ _ to_c.0 in
-    let one = none_before_next p xs at (at + 1) c.index-items-at.result (omega (arith, w)) refl c.index-items-at.is (sym (by _ _ c.asks-a.ensures) ∙ to_b.0) (c.requires.before p by) in
+    let one = none_before_next p xs at (at + 1) c.index-items-at.result (omega (arith, w)) refl c.index-items-at.is (sym (by _ _ c.asks-a.ensures) ∙ to_b.0) (c.requires.none_before p by) in
     let two = none_before_next p xs (at + 1) (at + 2) c.index-items-at-2.result (omega (arith, w)) (omega arith) c.index-items-at-2.is (sym (by _ _ c.asks-b.ensures) ∙ to_b.1) one in
     let three = none_before_next p xs (at + 2) (at + 3) c.index-items-at-3.result (omega (arith, w)) (omega arith) c.index-items-at-3.is (sym (by _ _ c.asks-c.ensures) ∙ to_c.1) two in
     let four = none_before_next p xs (at + 3) (at + 4) c.index-items-at-4.result (omega (arith, w)) (omega arith) c.index-items-at-4.is (sym (by _ _ c.asks-d.ensures) ∙ to_d.1) three in
@@ -36,14 +36,14 @@ returns-then-a-clause-place g c = λ p by.
     let xs = c.args.items.now in
     let at = c.args.at in
     let w = c.requires.within in
-    position_at p xs at c.index-items-at.result (omega (arith, w)) c.index-items-at.is (sym (by _ _ c.asks-a.ensures) ∙ c.if-a.true) (c.requires.before p by)
+    position_at p xs at c.index-items-at.result (omega (arith, w)) c.index-items-at.is (sym (by _ _ c.asks-a.ensures) ∙ c.if-a.true) (c.requires.none_before p by)
 
 pub returns-then-b-clause-place : goal.returns-then-b-clause-place
 returns-then-b-clause-place g c = λ p by.
     let xs = c.args.items.now in
     let at = c.args.at in
     let w = c.requires.within in
-    let one = none_before_next p xs at (at + 1) c.index-items-at.result (omega (arith, w)) refl c.index-items-at.is (sym (by _ _ c.asks-a.ensures) ∙ c.if-a.false) (c.requires.before p by) in
+    let one = none_before_next p xs at (at + 1) c.index-items-at.result (omega (arith, w)) refl c.index-items-at.is (sym (by _ _ c.asks-a.ensures) ∙ c.if-a.false) (c.requires.none_before p by) in
     position_at p xs (at + 1) c.index-items-at-2.result (omega (arith, w)) c.index-items-at-2.is (sym (by _ _ c.asks-b.ensures) ∙ c.if-b.true) one
 
 pub returns-then-c-clause-place : goal.returns-then-c-clause-place
@@ -51,7 +51,7 @@ returns-then-c-clause-place g c = λ p by.
     let xs = c.args.items.now in
     let at = c.args.at in
     let w = c.requires.within in
-    let one = none_before_next p xs at (at + 1) c.index-items-at.result (omega (arith, w)) refl c.index-items-at.is (sym (by _ _ c.asks-a.ensures) ∙ c.if-a.false) (c.requires.before p by) in
+    let one = none_before_next p xs at (at + 1) c.index-items-at.result (omega (arith, w)) refl c.index-items-at.is (sym (by _ _ c.asks-a.ensures) ∙ c.if-a.false) (c.requires.none_before p by) in
     let two = none_before_next p xs (at + 1) (at + 2) c.index-items-at-2.result (omega (arith, w)) (omega arith) c.index-items-at-2.is (sym (by _ _ c.asks-b.ensures) ∙ c.if-b.false) one in
     position_at p xs (at + 2) c.index-items-at-3.result (omega (arith, w)) c.index-items-at-3.is (sym (by _ _ c.asks-c.ensures) ∙ c.if-c.true) two
 
@@ -60,7 +60,7 @@ returns-then-d-clause-place g c = λ p by.
     let xs = c.args.items.now in
     let at = c.args.at in
     let w = c.requires.within in
-    let one = none_before_next p xs at (at + 1) c.index-items-at.result (omega (arith, w)) refl c.index-items-at.is (sym (by _ _ c.asks-a.ensures) ∙ c.if-a.false) (c.requires.before p by) in
+    let one = none_before_next p xs at (at + 1) c.index-items-at.result (omega (arith, w)) refl c.index-items-at.is (sym (by _ _ c.asks-a.ensures) ∙ c.if-a.false) (c.requires.none_before p by) in
     let two = none_before_next p xs (at + 1) (at + 2) c.index-items-at-2.result (omega (arith, w)) (omega arith) c.index-items-at-2.is (sym (by _ _ c.asks-b.ensures) ∙ c.if-b.false) one in
     let three = none_before_next p xs (at + 2) (at + 3) c.index-items-at-3.result (omega (arith, w)) (omega arith) c.index-items-at-3.is (sym (by _ _ c.asks-c.ensures) ∙ c.if-c.false) two in
     position_at p xs (at + 3) c.index-items-at-4.result (omega (arith, w)) c.index-items-at-4.is (sym (by _ _ c.asks-d.ensures) ∙ c.if-d.true) three
@@ -70,7 +70,7 @@ returns-then-e-clause-place g c = λ p by.
     let xs = c.args.items.now in
     let at = c.args.at in
     let w = c.requires.within in
-    let one = none_before_next p xs at (at + 1) c.index-items-at.result (omega (arith, w)) refl c.index-items-at.is (sym (by _ _ c.asks-a.ensures) ∙ c.if-a.false) (c.requires.before p by) in
+    let one = none_before_next p xs at (at + 1) c.index-items-at.result (omega (arith, w)) refl c.index-items-at.is (sym (by _ _ c.asks-a.ensures) ∙ c.if-a.false) (c.requires.none_before p by) in
     let two = none_before_next p xs (at + 1) (at + 2) c.index-items-at-2.result (omega (arith, w)) (omega arith) c.index-items-at-2.is (sym (by _ _ c.asks-b.ensures) ∙ c.if-b.false) one in
     let three = none_before_next p xs (at + 2) (at + 3) c.index-items-at-3.result (omega (arith, w)) (omega arith) c.index-items-at-3.is (sym (by _ _ c.asks-c.ensures) ∙ c.if-c.false) two in
     let four = none_before_next p xs (at + 3) (at + 4) c.index-items-at-4.result (omega (arith, w)) (omega arith) c.index-items-at-4.is (sym (by _ _ c.asks-d.ensures) ∙ c.if-d.false) three in
@@ -81,7 +81,7 @@ returns-then-f-clause-place g c = λ p by.
     let xs = c.args.items.now in
     let at = c.args.at in
     let w = c.requires.within in
-    let one = none_before_next p xs at (at + 1) c.index-items-at.result (omega (arith, w)) refl c.index-items-at.is (sym (by _ _ c.asks-a.ensures) ∙ c.if-a.false) (c.requires.before p by) in
+    let one = none_before_next p xs at (at + 1) c.index-items-at.result (omega (arith, w)) refl c.index-items-at.is (sym (by _ _ c.asks-a.ensures) ∙ c.if-a.false) (c.requires.none_before p by) in
     let two = none_before_next p xs (at + 1) (at + 2) c.index-items-at-2.result (omega (arith, w)) (omega arith) c.index-items-at-2.is (sym (by _ _ c.asks-b.ensures) ∙ c.if-b.false) one in
     let three = none_before_next p xs (at + 2) (at + 3) c.index-items-at-3.result (omega (arith, w)) (omega arith) c.index-items-at-3.is (sym (by _ _ c.asks-c.ensures) ∙ c.if-c.false) two in
     let four = none_before_next p xs (at + 3) (at + 4) c.index-items-at-4.result (omega (arith, w)) (omega arith) c.index-items-at-4.is (sym (by _ _ c.asks-d.ensures) ∙ c.if-d.false) three in
@@ -93,7 +93,7 @@ returns-then-g-clause-place g c = λ p by.
     let xs = c.args.items.now in
     let at = c.args.at in
     let w = c.requires.within in
-    let one = none_before_next p xs at (at + 1) c.index-items-at.result (omega (arith, w)) refl c.index-items-at.is (sym (by _ _ c.asks-a.ensures) ∙ c.if-a.false) (c.requires.before p by) in
+    let one = none_before_next p xs at (at + 1) c.index-items-at.result (omega (arith, w)) refl c.index-items-at.is (sym (by _ _ c.asks-a.ensures) ∙ c.if-a.false) (c.requires.none_before p by) in
     let two = none_before_next p xs (at + 1) (at + 2) c.index-items-at-2.result (omega (arith, w)) (omega arith) c.index-items-at-2.is (sym (by _ _ c.asks-b.ensures) ∙ c.if-b.false) one in
     let three = none_before_next p xs (at + 2) (at + 3) c.index-items-at-3.result (omega (arith, w)) (omega arith) c.index-items-at-3.is (sym (by _ _ c.asks-c.ensures) ∙ c.if-c.false) two in
     let four = none_before_next p xs (at + 3) (at + 4) c.index-items-at-4.result (omega (arith, w)) (omega arith) c.index-items-at-4.is (sym (by _ _ c.asks-d.ensures) ∙ c.if-d.false) three in
@@ -106,7 +106,7 @@ returns-clause-place g c = λ p by.
     let xs = c.args.items.now in
     let at = c.args.at in
     let w = c.requires.within in
-    let one = none_before_next p xs at (at + 1) c.index-items-at.result (omega (arith, w)) refl c.index-items-at.is (sym (by _ _ c.asks-a.ensures) ∙ c.if-a.false) (c.requires.before p by) in
+    let one = none_before_next p xs at (at + 1) c.index-items-at.result (omega (arith, w)) refl c.index-items-at.is (sym (by _ _ c.asks-a.ensures) ∙ c.if-a.false) (c.requires.none_before p by) in
     let two = none_before_next p xs (at + 1) (at + 2) c.index-items-at-2.result (omega (arith, w)) (omega arith) c.index-items-at-2.is (sym (by _ _ c.asks-b.ensures) ∙ c.if-b.false) one in
     let three = none_before_next p xs (at + 2) (at + 3) c.index-items-at-3.result (omega (arith, w)) (omega arith) c.index-items-at-3.is (sym (by _ _ c.asks-c.ensures) ∙ c.if-c.false) two in
     let four = none_before_next p xs (at + 3) (at + 4) c.index-items-at-4.result (omega (arith, w)) (omega arith) c.index-items-at-4.is (sym (by _ _ c.asks-d.ensures) ∙ c.if-d.false) three in

@@ -29,4 +29,4 @@ counted_down R count told (suc n) f (x ∷ xs) m g e k =
 
 pub returns-clause-entries : goal.returns-clause-entries
 returns-clause-entries c =
-    counted_down _ (λ f. f.0.now) (λ f p b q g call. search rules) c.args.count _ _ _ _ refl c.retain.ensures.entries.1
+    counted_down _ (λ f. f.0.now) (λ f p b q g call. search rules) c.args.count _ _ _ _ refl c.retain.ensures.retained.1
