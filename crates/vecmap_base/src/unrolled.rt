@@ -13,7 +13,7 @@ use std::mem::size_of_val;
 const WORD: usize = 8;
 
 // The least length of a list for which `find_by_eights` is faster.
-pub(crate) const MIN_LENGTH_FOR_EIGHTS: usize = 32;
+pub(crate) const MIN_LENGTH_FOR_EIGHTS: usize = 64;
 
 // Returns whether an item is no larger than a word, as a `u64` is and a text is not.
 pub(crate) fn is_small<T>(item: &T) -> bool {
@@ -95,7 +95,7 @@ pub(crate) fn find_by_eights<'a, T, F: Fn(&'a T) -> bool>(items: &'a [T], asks: 
 fn find_of_eight<'a, T, F: Fn(&'a T) -> bool>(items: &'a [T], at: usize, asks: &F) -> Option<usize>
     requires callable { F.IsAlwaysCallable asks.now }
     requires within { at + 8 ≤ length items.now }
-    requires before { (p : T → Bool) → AnswersOnItem F.Fn p asks.now
+    requires none_before { (p : T → Bool) → AnswersOnItem F.Fn p asks.now
         → position p (take at items.now) ≡ None }
     ensures place { (p : T → Bool) → AnswersOnItem F.Fn p asks.now
         → IfSome result (λ i. position p items.now ≡ Some i) }
@@ -142,7 +142,7 @@ fn find_of_eight<'a, T, F: Fn(&'a T) -> bool>(items: &'a [T], at: usize, asks: &
 // returns `false`.
 fn find_from<'a, T, F: Fn(&'a T) -> bool>(items: &'a [T], from: usize, asks: F) -> Option<usize>
     requires callable { F.IsAlwaysCallable asks }
-    requires before { (p : T → Bool) → AnswersOnItem F.Fn p asks
+    requires none_before { (p : T → Bool) → AnswersOnItem F.Fn p asks
         → position p (take from items.now) ≡ None }
     ensures place { (p : T → Bool) → AnswersOnItem F.Fn p asks → result ≡ position p items.now }
     ensures within { IfSome result (λ i. i < length items.now) }

@@ -33,7 +33,7 @@ impl<T: Eq> VecSet<T> {
     /// set.as_slice() // [1, 2, 3]
     /// ```
     #[tactic(auto, using(vecmap_base::proofs::PlaceLemmas::list_any_position))]
-    #[inline]
+    #[inline(always)]
     pub fn insert(&mut self, item: T) -> Result<bool, Refused<T>>
     where
         T: Drop,
