@@ -1,10 +1,11 @@
 //! Tests of whole documents, which are compared as they are printed.
+mod checks;
 mod examples;
 mod names;
 
 use crate::{Document, Name};
+use checks::{assert_gives, assert_is, assert_prints, assert_text, granted};
 use std::alloc::{AllocError, Global};
-use std::test::Fail;
 
 type Rows<'t> = &'t [(&'t str, &'t str, &'t str)];
 
@@ -31,11 +32,6 @@ fn set(
         Ok(old) => Ok(old),
         Err(_refused) => Err(AllocError),
     }
-}
-
-/// Prints the whole document.
-fn printed(alloc: Global, document: &Document) -> Result<String, AllocError> {
-    format!(in alloc; "{document:?}")
 }
 
 /// Returns the text under a section and a name.
@@ -75,16 +71,16 @@ const SECOND: &[(&str, &str, &str)] = &[
 ];
 
 #[test]
-fn prints_the_example(rt: HostRuntime) -> Result<(), Fail> {
-    assert!(rt;
-        example(rt.alloc())?.as_str()
-            == r#"{"Font": {"Size": "12"}, "Page": {"Width": "7"}, "Link": {"Color": "red"}}"#
+fn prints_the_example(rt: HostRuntime) {
+    assert_text(
+        &rt,
+        example(rt.alloc()),
+        r#"{"Font": {"Size": "12"}, "Page": {"Width": "7"}, "Link": {"Color": "red"}}"#,
     );
-    Ok(())
 }
 
 #[test]
-fn sets_in_order(rt: HostRuntime) -> Result<(), Fail> {
+fn sets_in_order(rt: HostRuntime) {
     let runs: [(Rows<'_>, &str); 6] = [
         (&[], "{}"),
         (
@@ -114,14 +110,13 @@ fn sets_in_order(rt: HostRuntime) -> Result<(), Fail> {
         ),
     ];
     for (rows, output) in runs {
-        let document = document(rt.alloc(), rows)?;
-        assert!(rt; printed(rt.alloc(), &document)?.as_str() == output);
+        let document = granted(&rt, document(rt.alloc(), rows));
+        assert_prints(&rt, rt.alloc(), &document, output);
     }
-    Ok(())
 }
 
 #[test]
-fn set_returns_the_old_text(rt: HostRuntime) -> Result<(), Fail> {
+fn set_returns_the_old_text(rt: HostRuntime) {
     let mut document = Document::new(rt.alloc());
     for (section, name, new, old) in [
         ("Page", "Width", "5", None),
@@ -130,30 +125,32 @@ fn set_returns_the_old_text(rt: HostRuntime) -> Result<(), Fail> {
         ("Font", "Width", "8", None),
         ("pAGE", "wIDTH", "9", Some("6")),
     ] {
-        let answer = set(rt.alloc(), &mut document, section, name, new)?;
-        assert!(rt; answer.as_deref() == old, "at {new}");
+        let previous = granted(&rt, set(rt.alloc(), &mut document, section, name, new));
+        assert_is(&rt, (new, previous.as_deref()), (new, old));
     }
-    Ok(())
 }
 
 #[test]
-fn names_stay_as_they_were_first_written(rt: HostRuntime) -> Result<(), Fail> {
+fn names_stay_as_they_were_first_written(rt: HostRuntime) {
     let mut page = Document::new(rt.alloc());
-    assert!(rt; set(rt.alloc(), &mut page, "Font", "Size", "10")? == None);
-    assert!(rt; set(rt.alloc(), &mut page, "FONT", "size", "12")?.as_deref() == Some("10"));
-    assert!(rt; text(rt.alloc(), &page, "font", "SIZE")? == Some("12"));
-    assert!(rt; format!(in rt.alloc(); "{:?}", page.sections())?.as_str() == r#"["Font"]"#);
-    assert!(rt; printed(rt.alloc(), &page)?.as_str() == r#"{"Font": {"Size": "12"}}"#);
-    Ok(())
+    assert_gives(&rt, set(rt.alloc(), &mut page, "Font", "Size", "10"), None);
+    let old = granted(&rt, set(rt.alloc(), &mut page, "FONT", "size", "12"));
+    assert_is(&rt, old.as_deref(), Some("10"));
+    assert_gives(&rt, text(rt.alloc(), &page, "font", "SIZE"), Some("12"));
+    assert_prints(&rt, rt.alloc(), &page.sections(), r#"["Font"]"#);
+    assert_prints(&rt, rt.alloc(), &page, r#"{"Font": {"Size": "12"}}"#);
 }
 
 #[test]
-fn merges_sections(rt: HostRuntime) -> Result<(), Fail> {
-    let mut first = document(rt.alloc(), FIRST)?;
-    let mut second = document(rt.alloc(), SECOND)?;
-    first.merge(&mut second)?;
-    assert!(rt;
-        format!(in rt.alloc(); "{:?}", first.sections())?.as_str() == r#"["Font", "Page", "Link"]"#
+fn merges_sections(rt: HostRuntime) {
+    let mut first = granted(&rt, document(rt.alloc(), FIRST));
+    let mut second = granted(&rt, document(rt.alloc(), SECOND));
+    granted(&rt, first.merge(&mut second));
+    assert_prints(
+        &rt,
+        rt.alloc(),
+        &first.sections(),
+        r#"["Font", "Page", "Link"]"#,
     );
     for (section, name, wanted) in [
         ("page", "width", Some("7")),
@@ -165,11 +162,10 @@ fn merges_sections(rt: HostRuntime) -> Result<(), Fail> {
         ("Pag", "Width", None),
         ("", "", None),
     ] {
-        let found = text(rt.alloc(), &first, section, name)?;
-        assert!(rt; found == wanted, "at {section} {name}");
+        let found = granted(&rt, text(rt.alloc(), &first, section, name));
+        assert_is(&rt, (section, name, found), (section, name, wanted));
     }
-    assert!(rt; printed(rt.alloc(), &second)?.as_str() == "{}");
-    Ok(())
+    assert_prints(&rt, rt.alloc(), &second, "{}");
 }
 
 /// Returns what a merge leaves of the two documents.
@@ -185,27 +181,30 @@ fn merged(
 }
 
 #[test]
-fn merges_in_order(rt: HostRuntime) -> Result<(), Fail> {
-    assert!(rt; merged(rt.alloc(), &[], &[])?.as_str() == "{} {}");
-    assert!(rt;
-        merged(rt.alloc(), &[], SECOND)?.as_str()
-            == r#"{"page": {"WIDTH": "7", "Margin": "1"}, "Link": {"Color": "red"}} {}"#
+fn merges_in_order(rt: HostRuntime) {
+    assert_text(&rt, merged(rt.alloc(), &[], &[]), "{} {}");
+    assert_text(
+        &rt,
+        merged(rt.alloc(), &[], SECOND),
+        r#"{"page": {"WIDTH": "7", "Margin": "1"}, "Link": {"Color": "red"}} {}"#,
     );
-    assert!(rt;
-        merged(rt.alloc(), FIRST, &[])?.as_str()
-            == r#"{"Font": {"Size": "12"}, "Page": {"Width": "5", "Height": "9"}} {}"#
+    assert_text(
+        &rt,
+        merged(rt.alloc(), FIRST, &[]),
+        r#"{"Font": {"Size": "12"}, "Page": {"Width": "5", "Height": "9"}} {}"#,
     );
-    assert!(rt;
-        merged(rt.alloc(), FIRST, SECOND)?.as_str()
-            == r#"{"Font": {"Size": "12"}, "Page": {"Width": "7", "Height": "9", "Margin": "1"}, "Link": {"Color": "red"}} {}"#
+    assert_text(
+        &rt,
+        merged(rt.alloc(), FIRST, SECOND),
+        r#"{"Font": {"Size": "12"}, "Page": {"Width": "7", "Height": "9", "Margin": "1"}, "Link": {"Color": "red"}} {}"#,
     );
     let odd = [("É", "a", "1"), ("", "", "2")];
     let other = [("", "b", ""), ("é", "A", "3"), ("É", "A", "4")];
-    assert!(rt;
-        merged(rt.alloc(), &odd, &other)?.as_str()
-            == r#"{"É": {"a": "4"}, "": {"": "2", "b": ""}, "é": {"A": "3"}} {}"#
+    assert_text(
+        &rt,
+        merged(rt.alloc(), &odd, &other),
+        r#"{"É": {"a": "4"}, "": {"": "2", "b": ""}, "é": {"A": "3"}} {}"#,
     );
-    Ok(())
 }
 
 /// Returns whether two documents are the same, compared from either side.
@@ -220,21 +219,20 @@ fn are_same(
 }
 
 #[test]
-fn same_ignores_order_and_case(rt: HostRuntime) -> Result<(), Fail> {
+fn same_ignores_order_and_case(rt: HostRuntime) {
     let turned = [
         ("PAGE", "height", "9"),
         ("Page", "WIDTH", "5"),
         ("font", "size", "12"),
     ];
     let empty = [("", "", "")];
-    assert!(rt; are_same(rt.alloc(), FIRST, &turned)? == (true, true));
-    assert!(rt; are_same(rt.alloc(), &empty, &empty)? == (true, true));
-    assert!(rt; are_same(rt.alloc(), &[], &[])? == (true, true));
-    Ok(())
+    assert_gives(&rt, are_same(rt.alloc(), FIRST, &turned), (true, true));
+    assert_gives(&rt, are_same(rt.alloc(), &empty, &empty), (true, true));
+    assert_gives(&rt, are_same(rt.alloc(), &[], &[]), (true, true));
 }
 
 #[test]
-fn same_compares_each_text(rt: HostRuntime) -> Result<(), Fail> {
+fn same_compares_each_text(rt: HostRuntime) {
     let changed = [
         ("PAGE", "height", "9"),
         ("Page", "WIDTH", "6"),
@@ -247,9 +245,16 @@ fn same_compares_each_text(rt: HostRuntime) -> Result<(), Fail> {
         ("Font", "Height", "9"),
     ];
     for rows in [&changed[..], &shorter[..], &moved[..]] {
-        assert!(rt; are_same(rt.alloc(), FIRST, rows)? == (false, false));
+        assert_gives(&rt, are_same(rt.alloc(), FIRST, rows), (false, false));
     }
-    assert!(rt; are_same(rt.alloc(), &[], &[("", "", "")])? == (false, false));
-    assert!(rt; are_same(rt.alloc(), &[("ß", "É", "a")], &[("ß", "é", "a")])? == (false, false));
-    Ok(())
+    assert_gives(
+        &rt,
+        are_same(rt.alloc(), &[], &[("", "", "")]),
+        (false, false),
+    );
+    assert_gives(
+        &rt,
+        are_same(rt.alloc(), &[("ß", "É", "a")], &[("ß", "é", "a")]),
+        (false, false),
+    );
 }

@@ -1,9 +1,9 @@
 //! Tests of names.
+use super::checks::{assert_is, assert_prints, granted};
 use crate::Name;
-use std::test::Fail;
 
 #[test]
-fn names_ignore_the_case_of_ascii_letters(rt: HostRuntime) -> Result<(), Fail> {
+fn names_ignore_the_case_of_ascii_letters(rt: HostRuntime) {
     for (first, second, same) in [
         ("", "", true),
         ("Width", "wIDTH", true),
@@ -20,20 +20,18 @@ fn names_ignore_the_case_of_ascii_letters(rt: HostRuntime) -> Result<(), Fail> {
         ("é", "é", true),
         ("a\u{0}", "A\u{0}", true),
     ] {
-        let first = Name::new(first.to_string(rt.alloc())?);
-        let second = Name::new(second.to_string(rt.alloc())?);
+        let first = Name::new(granted(&rt, first.to_string(rt.alloc())));
+        let second = Name::new(granted(&rt, second.to_string(rt.alloc())));
         assert!(rt;
             (first == second, second == first) == (same, same),
             "{first:?} {second:?}"
         );
     }
-    Ok(())
 }
 
 #[test]
-fn a_name_keeps_its_text(rt: HostRuntime) -> Result<(), Fail> {
-    let name = Name::new("Hi \"é\"\n".to_string(rt.alloc())?);
-    assert!(rt; name.text() == "Hi \"é\"\n");
-    assert!(rt; format!(in rt.alloc(); "{name:?}")?.as_str() == r#""Hi \"é\"\n""#);
-    Ok(())
+fn a_name_keeps_its_text(rt: HostRuntime) {
+    let name = Name::new(granted(&rt, "Hi \"é\"\n".to_string(rt.alloc())));
+    assert_is(&rt, name.text(), "Hi \"é\"\n");
+    assert_prints(&rt, rt.alloc(), &name, r#""Hi \"é\"\n""#);
 }
