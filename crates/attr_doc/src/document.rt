@@ -1,8 +1,9 @@
 //! The type of documents.
 ghost use Rattle.attr_doc.specs.Documents.{IsDocument, merged, text_of, with_text};
 ghost use Rattle.std.specs.Map.{keys_of};
-ghost use Rattle.std.specs.Map.Iter.{ShowsInOrder, ShowsInReverse, deref};
-ghost use Rattle.std.specs.Prelude.{◌≡◌, ◌<◌, ◌^◌, ◌↔◌, ℕ, IfErr, IfOk, IsOk, IsSome, IsTrue, List, OnErr, OnOk, [], length, option_copied, option_map, string_bytes};
+ghost use Rattle.std.specs.Map.Iter.{deref};
+ghost use Rattle.std.specs.Prelude.{◌≡◌, ◌<◌, ◌↔◌, ℕ, IfErr, IfOk, IsOk, IsSome, IsTrue, List, OnErr, OnOk, [], length, option_copied, option_map, string_bytes};
+ghost use Rattle.vecmap.specs.Walks.{ShowsAll};
 
 use crate::Name;
 use crate::merge::{make_room, move_all};
@@ -203,10 +204,7 @@ impl Document {
     /// page.sections().next().map(Name::text) // Some("Font")
     /// ```
     pub fn sections(&self) -> Keys<'_, Name, VecMap<Name, String>>
-        ensures rest { result ≡ keys_of self.now }
-        ensures fits { length result < 2 ^ 64 }
-        ensures runs { ShowsInOrder (deref {X = List ℕ}) }
-        ensures runs_back { ShowsInReverse (deref {X = List ℕ}) }
+        ensures { ShowsAll deref (keys_of self.now) result }
     {
         self.sections.keys()
     }

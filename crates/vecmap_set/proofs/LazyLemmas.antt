@@ -7,9 +7,10 @@ use Rattle.std.proofs.lemmas.List.Elements.{filter-append}
 use Rattle.std.proofs.lemmas.List.Filters.{length-filter_both}
 use Rattle.std.proofs.iter.runs.Sources.{from_front, from_back}
 use Rattle.std.specs.Iterator.{UpTo, at_most}
+use Rattle.std.specs.Iterator.Runs.{YieldsRefsInOrder, YieldsRefsInReverse}
 use Rattle.std.specs.List.{after_first, before_last, filter, position_or_len, prefix_len, suffix_len}
 use Rattle.std.specs.Option.{IfSome, SomeIff}
-use Rattle.vecmap_set.specs.Lazy.{ExcludesFirst, ExcludesInOrder, ExcludesInReverse, ExcludesLast, JoinsFirst, JoinsInOrder, JoinsInReverse, JoinsLast, Parts, Sift, SiftsFirst, SiftsInOrder, SiftsInReverse, SiftsLast, exclusive, joined, lacks_item, sifted}
+use Rattle.vecmap_set.specs.Lazy.{ExcludesFirst, ExcludesLast, JoinsFirst, JoinsLast, Parts, Sift, SiftsFirst, SiftsLast, exclusive, joined, lacks_item, sifted}
 
 module _ {T : Type 0} (p : T → Bool) where
   -- An element at the front that is kept.
@@ -52,23 +53,23 @@ module _ {T : Type 0} (p : T → Bool) where
 
 module _ {T : Type 0} (keeps : List T → T → Bool) where
   -- Each run of pulls gives what is left, in order or in reverse.
-  pub sifts_in_order : SiftsInOrder keeps
+  pub sifts_in_order : YieldsRefsInOrder (SiftsFirst keeps) (sifted keeps)
   sifts_in_order = from_front (SiftsFirst keeps) (λ y. y.now) (sifted keeps) (λ s t h. ap length h.0.0) (λ s x t h. h.0)
 
-  pub sifts_in_reverse : SiftsInReverse keeps
+  pub sifts_in_reverse : YieldsRefsInReverse (SiftsLast keeps) (sifted keeps)
   sifts_in_reverse = from_back (SiftsLast keeps) (λ y. y.now) (sifted keeps) (λ s t h. ap length h.0.0) (λ s x t h. h.0)
 
 module _ {T : Type 0} (eq : T → T → Bool) where
-  pub joins_in_order : JoinsInOrder eq
+  pub joins_in_order : YieldsRefsInOrder (JoinsFirst eq) (joined eq)
   joins_in_order = from_front (JoinsFirst eq) (λ y. y.now) (joined eq) (λ s t h. ap length h.0.0) (λ s x t h. h.0)
 
-  pub joins_in_reverse : JoinsInReverse eq
+  pub joins_in_reverse : YieldsRefsInReverse (JoinsLast eq) (joined eq)
   joins_in_reverse = from_back (JoinsLast eq) (λ y. y.now) (joined eq) (λ s t h. ap length h.0.0) (λ s x t h. h.0)
 
-  pub excludes_in_order : ExcludesInOrder eq
+  pub excludes_in_order : YieldsRefsInOrder (ExcludesFirst eq) (exclusive eq)
   excludes_in_order = from_front (ExcludesFirst eq) (λ y. y.now) (exclusive eq) (λ s t h. ap length h.0.0) (λ s x t h. h.0)
 
-  pub excludes_in_reverse : ExcludesInReverse eq
+  pub excludes_in_reverse : YieldsRefsInReverse (ExcludesLast eq) (exclusive eq)
   excludes_in_reverse = from_back (ExcludesLast eq) (λ y. y.now) (exclusive eq) (λ s t h. ap length h.0.0) (λ s x t h. h.0)
 
 -- No more elements are kept than the list has.

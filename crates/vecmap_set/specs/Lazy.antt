@@ -64,6 +64,17 @@ IsBound r n = SomeIff r (n < 2 ^ 64) n
 abbrev pub AsksThen : {A B R : Type 0} → (A → Option R → A → Type 0) → (B → Option R → B → Type 0) → A → B → Option R → A → B → Type 0
 AsksThen one two a b r c d = MatchOption r (one a None c × two b None d) (λ x. (one a (Some x) c × (d ≡ b)) ⊎ (one a None c × two b (Some x) d))
 
+module _ {S T : Type 0} (rest : S → List T) (next next_back : S → Option (Bor T) → S → Type 0) where
+  -- The iterator `r` is in the state `s`. It lends what is left there in order, and in reverse from the back. The
+  -- number of these elements fits a `usize`.
+  abbrev pub LendsAll : S → S → Type 0
+  LendsAll s r = (r ≡ s) × (length (rest r) < 2 ^ 64) × YieldsRefsInOrder next rest × YieldsRefsInReverse next_back rest
+
+  -- Any mixture of pulls that leads from s to t gives what the same pulls of the list left at s give. It leaves the
+  -- list left at t.
+  abbrev pub PullsAsList : Type 0
+  PullsAsList = (s t : S) (ends : List End) (items : List (Option (Bor T))) → PullsBy next next_back s ends items t → Pulls (rest s) ends (map (option_map deref) items) (rest t)
+
 module _ {T : Type 0} (keeps : List T → T → Bool) where
   -- The elements that are not yet visited and are kept.
   abbrev pub sifted : Sift T → List T
@@ -77,12 +88,9 @@ module _ {T : Type 0} (keeps : List T → T → Bool) where
   abbrev pub SiftsLast : Sift T → Option (Bor T) → Sift T → Type 0
   SiftsLast s r t = YieldsLastRef sifted s r t × (t ≡ record s { unwalked = before_last (keeps s.other) s.unwalked })
 
-  -- Each run of pulls gives what is left, from the front in order and from the back in reverse.
-  abbrev pub SiftsInOrder : Type 0
-  SiftsInOrder = YieldsRefsInOrder SiftsFirst sifted
-
-  abbrev pub SiftsInReverse : Type 0
-  SiftsInReverse = YieldsRefsInReverse SiftsLast sifted
+  -- The iterator `r` is in the state `s`, and lends the elements that are left there and kept.
+  abbrev pub SiftsAll : Sift T → Sift T → Type 0
+  SiftsAll = LendsAll sifted SiftsFirst SiftsLast
 
 module _ {T : Type 0} (eq : T → T → Bool) where
   -- Whether no element of s is equal to x.
@@ -101,12 +109,9 @@ module _ {T : Type 0} (eq : T → T → Bool) where
   abbrev pub JoinsLast : Parts (List T) (Sift T) → Option (Bor T) → Parts (List T) (Sift T) → Type 0
   JoinsLast s r t = YieldsLastRef joined s r t × AsksThen (SiftsLast lacks_item) (TakesLast deref) s.second s.first r t.second t.first
 
-  -- Each run of pulls gives what is left, from the front in order and from the back in reverse.
-  abbrev pub JoinsInOrder : Type 0
-  JoinsInOrder = YieldsRefsInOrder JoinsFirst joined
-
-  abbrev pub JoinsInReverse : Type 0
-  JoinsInReverse = YieldsRefsInReverse JoinsLast joined
+  -- The iterator `r` is in the state `s`, and lends the elements that are joined there.
+  abbrev pub JoinsAll : Parts (List T) (Sift T) → Parts (List T) (Sift T) → Type 0
+  JoinsAll = LendsAll joined JoinsFirst JoinsLast
 
   -- The elements of either list that are not in the other, as far as they are left.
   abbrev pub exclusive : Parts (Sift T) (Sift T) → List T
@@ -120,19 +125,10 @@ module _ {T : Type 0} (eq : T → T → Bool) where
   abbrev pub ExcludesLast : Parts (Sift T) (Sift T) → Option (Bor T) → Parts (Sift T) (Sift T) → Type 0
   ExcludesLast s r t = YieldsLastRef exclusive s r t × AsksThen (SiftsLast lacks_item) (SiftsLast lacks_item) s.second s.first r t.second t.first
 
-  -- Each run of pulls gives what is left, from the front in order and from the back in reverse.
-  abbrev pub ExcludesInOrder : Type 0
-  ExcludesInOrder = YieldsRefsInOrder ExcludesFirst exclusive
-
-  abbrev pub ExcludesInReverse : Type 0
-  ExcludesInReverse = YieldsRefsInReverse ExcludesLast exclusive
+  -- The iterator `r` is in the state `s`, and lends the elements that are exclusive there.
+  abbrev pub ExcludesAll : Parts (Sift T) (Sift T) → Parts (Sift T) (Sift T) → Type 0
+  ExcludesAll = LendsAll exclusive ExcludesFirst ExcludesLast
 
   -- The test of an element against the other list: whether it is present in it, or whether it is not.
   abbrev pub presence : Bool → List T → T → Bool
   presence within = if within then has_item eq else lacks_item
-
-module _ {S T : Type 0} (rest : S → List T) (next next_back : S → Option (Bor T) → S → Type 0) where
-  -- Any mixture of pulls that leads from s to t gives what the same pulls of the list left at s give. It leaves the
-  -- list left at t.
-  abbrev pub PullsAsList : Type 0
-  PullsAsList = (s t : S) (ends : List End) (items : List (Option (Bor T))) → PullsBy next next_back s ends items t → Pulls (rest s) ends (map (option_map deref) items) (rest t)

@@ -1,10 +1,10 @@
 //! Iterators over differences, intersections and unions of two sets, and the calls that create them.
 //!
 //! None of them allocates, and each yields from both ends. Elements are looked up when they are pulled.
-ghost use Rattle.std.specs.Prelude.{◌≡◌, ℕ, ◌+◌, ◌<◌, ◌^◌, length};
+ghost use Rattle.std.specs.Prelude.{◌≡◌, ℕ, ◌+◌};
 ghost use Rattle.std.specs.Slice.Iter.{iter_rest};
 ghost use Rattle.vecmap_base.specs.Items.{has_item};
-ghost use Rattle.vecmap_set.specs.Lazy.{ExcludesInOrder, ExcludesInReverse, IsBound, JoinsInOrder, JoinsInReverse, SiftsFirst, SiftsInOrder, SiftsInReverse, SiftsLast, exclusive, joined, lacks_item, longer_first, presence, sift_of, sift_of_shorter, sifted, symmetric_parts};
+ghost use Rattle.vecmap_set.specs.Lazy.{ExcludesAll, IsBound, JoinsAll, SiftsAll, SiftsFirst, SiftsLast, lacks_item, longer_first, presence, sift_of, sift_of_shorter, symmetric_parts};
 
 use crate::VecSet;
 use std::slice;
@@ -39,10 +39,7 @@ impl<T: Eq> VecSet<T> {
     /// items.next() // None
     /// ```
     pub fn difference<'a>(&'a self, other: &'a VecSet<T>) -> Difference<'a, T>
-        ensures rest { result ≡ sift_of self.now.elements other.now.elements }
-        ensures fits { length (sifted (lacks_item T.eq) result) < 2 ^ 64 }
-        ensures runs { SiftsInOrder (lacks_item T.eq) }
-        ensures runs_back { SiftsInReverse (lacks_item T.eq) }
+        ensures { SiftsAll (lacks_item T.eq) (sift_of self.now.elements other.now.elements) result }
     {
         Difference::over(&self.items, &other.items)
     }
@@ -68,10 +65,8 @@ impl<T: Eq> VecSet<T> {
     /// items.next() // None
     /// ```
     pub fn intersection<'a>(&'a self, other: &'a VecSet<T>) -> Intersection<'a, T>
-        ensures rest { result ≡ sift_of_shorter self.now.elements other.now.elements }
-        ensures fits { length (sifted (has_item T.eq) result) < 2 ^ 64 }
-        ensures runs { SiftsInOrder (has_item T.eq) }
-        ensures runs_back { SiftsInReverse (has_item T.eq) }
+        ensures { SiftsAll (has_item T.eq)
+            (sift_of_shorter self.now.elements other.now.elements) result }
     {
         if other.len() < self.len() {
             Intersection::over(&other.items, &self.items)
@@ -99,10 +94,7 @@ impl<T: Eq> VecSet<T> {
     /// items.next() // Some(&3)
     /// ```
     pub fn symmetric_difference<'a>(&'a self, other: &'a VecSet<T>) -> SymmetricDifference<'a, T>
-        ensures rest { result ≡ symmetric_parts self.now.elements other.now.elements }
-        ensures fits { length (exclusive T.eq result) < 2 ^ 64 }
-        ensures runs { ExcludesInOrder T.eq }
-        ensures runs_back { ExcludesInReverse T.eq }
+        ensures { ExcludesAll T.eq (symmetric_parts self.now.elements other.now.elements) result }
     {
         SymmetricDifference::over(&self.items, &other.items)
     }
@@ -128,10 +120,7 @@ impl<T: Eq> VecSet<T> {
     /// items.next() // Some(&1)
     /// ```
     pub fn union<'a>(&'a self, other: &'a VecSet<T>) -> Union<'a, T>
-        ensures rest { result ≡ longer_first self.now.elements other.now.elements }
-        ensures fits { length (joined T.eq result) < 2 ^ 64 }
-        ensures runs { JoinsInOrder T.eq }
-        ensures runs_back { JoinsInReverse T.eq }
+        ensures { JoinsAll T.eq (longer_first self.now.elements other.now.elements) result }
     {
         if self.len() < other.len() {
             Union::over(&other.items, &self.items)

@@ -1,8 +1,8 @@
 //! An iterator over the elements of one set that another lacks.
-ghost use Rattle.std.specs.Prelude.{◌≡◌, ◌<◌, ◌^◌, IfSome, length};
+ghost use Rattle.std.specs.Prelude.{◌≡◌, IfSome, length};
 ghost use Rattle.std.specs.Iterator.{UpTo, at_most};
 ghost use Rattle.std.specs.Iterator.SizeHint.{IsWithinCount};
-ghost use Rattle.vecmap_set.specs.Lazy.{SiftsFirst, SiftsInOrder, SiftsInReverse, SiftsLast, lacks_item, sift_of, sifted};
+ghost use Rattle.vecmap_set.specs.Lazy.{SiftsAll, SiftsFirst, SiftsLast, lacks_item, sift_of, sifted};
 
 use super::{sift_back, sift_front};
 use std::iter::FusedIterator;
@@ -42,12 +42,8 @@ impl<'a, T: Eq> Model for Difference<'a, T> {
 
 impl<'a, T: Eq> Difference<'a, T> {
     // Creates an iterator over the elements of `items` that `other` lacks.
-    #[tactic(auto, using(crate::proofs::LazyLemmas::length_filter))]
     pub(crate) fn over(items: &'a [T], other: &'a [T]) -> Difference<'a, T>
-        ensures rest { result ≡ sift_of items.now other.now }
-        ensures fits { length (sifted (lacks_item T.eq) result) < 2 ^ 64 }
-        ensures runs { SiftsInOrder (lacks_item T.eq) }
-        ensures runs_back { SiftsInReverse (lacks_item T.eq) }
+        ensures { SiftsAll (lacks_item T.eq) (sift_of items.now other.now) result }
     {
         Difference {
             items: items.iter(),

@@ -1,9 +1,9 @@
 //! An iterator over the elements of one set that another has.
-ghost use Rattle.std.specs.Prelude.{◌≡◌, ◌<◌, ◌^◌, IfSome, length};
+ghost use Rattle.std.specs.Prelude.{◌≡◌, IfSome, length};
 ghost use Rattle.std.specs.Iterator.{UpTo, at_most};
 ghost use Rattle.std.specs.Iterator.SizeHint.{IsWithinCount};
 ghost use Rattle.vecmap_base.specs.Items.{has_item};
-ghost use Rattle.vecmap_set.specs.Lazy.{SiftsFirst, SiftsInOrder, SiftsInReverse, SiftsLast, sift_of, sifted};
+ghost use Rattle.vecmap_set.specs.Lazy.{SiftsAll, SiftsFirst, SiftsLast, sift_of, sifted};
 
 use super::{sift_back, sift_front};
 use std::iter::FusedIterator;
@@ -45,12 +45,8 @@ impl<'a, T: Eq> Model for Intersection<'a, T> {
 
 impl<'a, T: Eq> Intersection<'a, T> {
     // Creates an iterator over the elements of `items` that `other` has.
-    #[tactic(auto, using(crate::proofs::LazyLemmas::length_filter))]
     pub(crate) fn over(items: &'a [T], other: &'a [T]) -> Intersection<'a, T>
-        ensures rest { result ≡ sift_of items.now other.now }
-        ensures fits { length (sifted (has_item T.eq) result) < 2 ^ 64 }
-        ensures runs { SiftsInOrder (has_item T.eq) }
-        ensures runs_back { SiftsInReverse (has_item T.eq) }
+        ensures { SiftsAll (has_item T.eq) (sift_of items.now other.now) result }
     {
         Intersection {
             items: items.iter(),

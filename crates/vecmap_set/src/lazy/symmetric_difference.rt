@@ -1,8 +1,9 @@
 //! An iterator over the elements that only one of two sets has.
 ghost use Rattle.std.specs.Prelude.{◌≡◌, ◌+◌, IfSome, length};
 ghost use Rattle.std.specs.Iterator.{UpTo, at_most};
+ghost use Rattle.std.specs.Iterator.Runs.{YieldsRefsInOrder, YieldsRefsInReverse};
 ghost use Rattle.std.specs.Iterator.SizeHint.{IsWithinCount};
-ghost use Rattle.vecmap_set.specs.Lazy.{ExcludesFirst, ExcludesInOrder, ExcludesInReverse, ExcludesLast, IsBound, exclusive, symmetric_parts};
+ghost use Rattle.vecmap_set.specs.Lazy.{ExcludesFirst, ExcludesLast, IsBound, exclusive, symmetric_parts};
 
 use super::{Difference, add_bounds};
 use std::fmt;
@@ -46,8 +47,8 @@ impl<'a, T: Eq> SymmetricDifference<'a, T> {
     // lacks.
     pub(crate) fn over(items: &'a [T], other: &'a [T]) -> SymmetricDifference<'a, T>
         ensures rest { result ≡ symmetric_parts items.now other.now }
-        ensures runs { ExcludesInOrder T.eq }
-        ensures runs_back { ExcludesInReverse T.eq }
+        ensures runs { YieldsRefsInOrder (ExcludesFirst T.eq) (exclusive T.eq) }
+        ensures runs_back { YieldsRefsInReverse (ExcludesLast T.eq) (exclusive T.eq) }
     {
         SymmetricDifference {
             first: Difference::over(items, other),

@@ -1,8 +1,9 @@
 //! An iterator over the elements of one set, and then those of another that it lacks.
 ghost use Rattle.std.specs.Prelude.{◌≡◌, ◌+◌, IfSome, length};
 ghost use Rattle.std.specs.Iterator.{UpTo, at_most};
+ghost use Rattle.std.specs.Iterator.Runs.{YieldsRefsInOrder, YieldsRefsInReverse};
 ghost use Rattle.std.specs.Iterator.SizeHint.{IsWithinCount};
-ghost use Rattle.vecmap_set.specs.Lazy.{IsBound, JoinsFirst, JoinsInOrder, JoinsInReverse, JoinsLast, joined, union_parts};
+ghost use Rattle.vecmap_set.specs.Lazy.{IsBound, JoinsFirst, JoinsLast, joined, union_parts};
 
 use super::{Difference, add_bounds};
 use std::iter::FusedIterator;
@@ -46,8 +47,8 @@ impl<'a, T: Eq> Union<'a, T> {
     // Creates an iterator over all of `items`, and then the elements of `other` that `items` lacks.
     pub(crate) fn over(items: &'a [T], other: &'a [T]) -> Union<'a, T>
         ensures rest { result ≡ union_parts items.now other.now }
-        ensures runs { JoinsInOrder T.eq }
-        ensures runs_back { JoinsInReverse T.eq }
+        ensures runs { YieldsRefsInOrder (JoinsFirst T.eq) (joined T.eq) }
+        ensures runs_back { YieldsRefsInReverse (JoinsLast T.eq) (joined T.eq) }
     {
         Union {
             first: items.iter(),

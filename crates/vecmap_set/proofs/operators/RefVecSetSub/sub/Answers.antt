@@ -14,11 +14,11 @@ invariant_of-result g c =
     let a = c.self.inside.items.items in
     let b = c.other.inside.items.items in
     let same = rw (← c.self.view_is, ← c.other.view_is) at c.requires in
-    distinct_clones_of eq g.met.T.Eq.laws g.T.Clone.is_clone (only eq a b) c.in_ok-clones_of.field-0.items same (operator_clones (SiftsFirst (lacks_item eq)) (sifted (lacks_item eq)) (λ s r t h. h.0) g.T.Clone.is_clone sift_of (only eq) (λ x y. refl) _ a b _ _ _ c.over-left.ensures.rest c.deref.ensures.value c.deref-2.ensures.value c.in_ok-clones_of.ensures) (distinct_only eq g.met.T.Eq.laws a b c.self.invariant)
+    distinct_clones_of eq g.met.T.Eq.laws g.T.Clone.is_clone (only eq a b) c.in_ok-clones_of.field-0.items same (operator_clones (SiftsFirst (lacks_item eq)) (sifted (lacks_item eq)) (λ s r t h. h.0) g.T.Clone.is_clone sift_of (only eq) (λ x y. refl) _ a b _ _ _ c.over-left.ensures.0 c.deref.ensures.value c.deref-2.ensures.value c.in_ok-clones_of.ensures) (distinct_only eq g.met.T.Eq.laws a b c.self.invariant)
 
 pub returns : goal.returns
 returns g c =
     let eq = g.T.PartialEq.eq in
     let a = c.self.inside.items.items in
     let b = c.other.inside.items.items in
-    rw (← c.self.view_is, ← c.other.view_is) (operator_clones (SiftsFirst (lacks_item eq)) (sifted (lacks_item eq)) (λ s r t h. h.0) g.T.Clone.is_clone sift_of (only eq) (λ x y. refl) _ a b _ _ _ c.over-left.ensures.rest c.deref.ensures.value c.deref-2.ensures.value c.in_ok-clones_of.ensures, invariant_of-result g c)
+    rw (← c.self.view_is, ← c.other.view_is) (operator_clones (SiftsFirst (lacks_item eq)) (sifted (lacks_item eq)) (λ s r t h. h.0) g.T.Clone.is_clone sift_of (only eq) (λ x y. refl) _ a b _ _ _ c.over-left.ensures.0 c.deref.ensures.value c.deref-2.ensures.value c.in_ok-clones_of.ensures, invariant_of-result g c)
