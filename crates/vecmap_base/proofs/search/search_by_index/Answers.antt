@@ -1,7 +1,6 @@
 -- The loop keeps `Narrowed`: what is known of the item at `base` and of those from `base + size` on. Each call halves
 -- `size`.
 use Rattle.std.specs.Ordering.{is_le}
-use Rattle.std.specs.declared.cmp.Ordering.TheVariants.{Greater, Less}
 use Rattle.std.proofs.Common.{◌≡◌, ◌+◌, ◌-◌, ◌/◌, Ordering, true, false, arith, subst, sym, ◌∙◌}
 use Rattle.vecmap_base.proofs.SearchLemmas.{narrowed_down, narrowed_greater, narrowed_less, narrowed_up}
 use Rattle.vecmap_base.proofs.search.search_by_index.Goals as goal
