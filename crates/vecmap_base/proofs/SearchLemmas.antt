@@ -6,15 +6,12 @@ use Rattle.std.specs.List.Sorted.{IsNonDecreasingBy, IsPartitionPoint, IsPartiti
 use Rattle.std.specs.Ordering.{is_le, ordering_index}
 use Rattle.std.specs.declared.cmp.Ordering.{Ordering}
 use Rattle.std.specs.declared.cmp.Ordering.TheVariants.{Less, Equal, Greater}
+use Rattle.vecmap_base.specs.Orders.{side}
 
 -- What a call returned for the item `x`, which was read at the index `i`, holds of the item at this index, whatever the
 -- default.
-pub said_at : {X R : Type 0} (h : X → R) (P : R → Type 0) (xs : List X) (i : ℕ) (x : X) (said : R) → i < length xs → x ≡ get_or xs i x → said ≡ h x → P said → HoldsAt (λ y. P (h y)) xs i
-said_at h P xs i x said within at by is d = subst P (by ∙ ap h (at ∙ sym (get_or_default xs i d x within))) is
-
--- The same if a call made a key of the item.
-pub said_at_key : {X B : Type 0} (cmp : B → B → Ordering) (key_of : X → B) (key : B) (P : Ordering → Type 0) (xs : List X) (i : ℕ) (x : X) (found : B) (said : Ordering) → i < length xs → x ≡ get_or xs i x → found ≡ key_of x → said ≡ cmp found key → P said → HoldsAt (λ y. P (cmp (key_of y) key)) xs i
-said_at_key cmp key_of key P xs i x found said within at by compared is = said_at (λ y. cmp (key_of y) key) P xs i x said within at (compared ∙ ap (λ k. cmp k key) by) is
+pub said_at : {X R : Type 0} (h : X → R) (xs : List X) (i : ℕ) (x : X) (said : R) → i < length xs → x ≡ get_or xs i x → said ≡ h x → HoldsAt (λ y. said ≡ h y) xs i
+said_at h xs i x said within at by d = by ∙ ap h (at ∙ sym (get_or_default xs i d x within))
 
 -- Nothing is below `Less`, or above `Greater`.
 is_less : (o : Ordering) → ordering_index o ≤ ordering_index Less → o ≡ Less
@@ -68,34 +65,29 @@ module _ {X : Type 0} (ord : X → Ordering) (xs : List X) where
     all_greater base base (omega arith) at up,
   )
 
-failing : (b : Bool) → (b ≡ true → ⊥) → b ≡ false
-failing true h = absurd (h refl)
+passing : (b : Bool) → side b ≡ Less → b ≡ true
+passing true h = refl
+passing false h = cc
+
+failing : (b : Bool) → side b ≡ Greater → b ≡ false
+failing true h = cc
 failing false h = refl
 
+neither : (b : Bool) → side b ≡ Equal → ⊥
+neither true h = cc
+neither false h = cc
+
+sides_rise : (a b : Bool) → (b ≡ true → a ≡ true) → ordering_index (side a) ≤ ordering_index (side b)
+sides_rise true b h = omega arith
+sides_rise false true h = absurd (true≢false (sym (h refl)))
+sides_rise false false h = omega arith
+
 module _ {X : Type 0} (p : X → Bool) (xs : List X) where
-  -- The item at `base` passes, unless `base` is 0. If those that pass come first, the items from `base + size` on fail.
-  pub record Parted (base size : ℕ) : Type 0 where
-    pub low : 0 < base → HoldsAt (λ y. p y ≡ true) xs base
-    pub high : IsPartitionedBy p xs → AllWithin (λ y. p y ≡ false) xs (base + size) (length xs)
+  -- No item is equal.
+  pub parted_ok : (i : ℕ) → HoldsAt (λ y. side (p y) ≡ Equal) xs i → IsPartitionPoint (λ y. p y ≡ true) (λ y. p y ≡ false) xs i
+  parted_ok i at = (λ k d a b. absurd (neither _ (at d)), λ k d a b. absurd (neither _ (at d)))
 
-  all_failing : (i from : ℕ) → i ≤ from → HoldsAt (λ y. p y ≡ false) xs i → IsPartitionedBy p xs → AllWithin (λ y. p y ≡ false) xs from (length xs)
-  all_failing i from le at first k d a b = failing _ (λ t. true≢false (sym (first i k d (omega arith) b t) ∙ at d))
-
-  pub parted_none : Parted 0 (length xs)
-  parted_none = record { low = λ more. absurd (omega arith); high = λ first k d a b. absurd (omega arith) }
-
-  -- If the item in the middle passes, the search continues from it.
-  pub parted_up : (base size middle left : ℕ) → base + size ≤ middle + left → HoldsAt (λ y. p y ≡ true) xs middle → Parted base size → Parted middle left
-  parted_up base size middle left le at n = record { low = λ more. at; high = λ first k d a b. n.high first k d (omega arith) b }
-
-  -- If the item in the middle fails, the items after it fail too.
-  pub parted_down : (base size middle left : ℕ) → middle ≤ base + left → HoldsAt (λ y. p y ≡ false) xs middle → Parted base size → Parted base left
-  parted_down base size middle left le at n = record { low = n.low; high = all_failing middle (base + left) le at }
-
-  -- If the one item that is left passes, the index after it separates those that pass from those that fail.
-  pub parted_passing : (base size : ℕ) → size ≤ 1 → base < length xs → HoldsAt (λ y. p y ≡ true) xs base → Parted base size → IsPartitionedBy p xs → IsPartitionPoint (λ y. p y ≡ true) (λ y. p y ≡ false) xs (base + 1)
-  parted_passing base size one within at n first = (λ k d a b. first k base d (omega arith) within (at d), λ k d a b. n.high first k d (omega arith) b)
-
-  -- If the one item that is left fails, it is the first item.
-  pub parted_failing : (base size : ℕ) → HoldsAt (λ y. p y ≡ false) xs base → Parted base size → IsPartitionedBy p xs → IsPartitionPoint (λ y. p y ≡ true) (λ y. p y ≡ false) xs base
-  parted_failing base size at n first = (λ k d a b. absurd (true≢false (sym (n.low (omega arith) d) ∙ at d)), all_failing base base (omega arith) at first)
+  pub parted_err : (i : ℕ) → (IsNonDecreasingBy (λ y. ordering_index (side (p y))) xs → IsPartitionPoint (λ y. side (p y) ≡ Less) (λ y. side (p y) ≡ Greater) xs i) → IsPartitionedBy p xs → IsPartitionPoint (λ y. p y ≡ true) (λ y. p y ≡ false) xs i
+  parted_err i found first =
+      let point = found (λ i j d le within. sides_rise _ _ (first i j d le within)) in
+      (λ k d a b. passing _ (point.0 k d a b), λ k d a b. failing _ (point.1 k d a b))

@@ -1,12 +1,14 @@
 -- Closures over pairs or items: where they may be called, what they return, and the order that they give a list. The
 -- closures are `Fn`, so one statement holds for all calls.
-use Rattle.std.specs.Prelude.{◌≡◌, Bool, List}
+use Rattle.std.specs.Prelude.{◌≡◌, ◌<◌, ℕ, Bool, List, length, cond}
 use Rattle.std.specs.Borrow.{Bor}
 use Rattle.std.specs.Cmp.{IsStrictWeakOrder}
 use Rattle.std.specs.Fn.{Shared}
+use Rattle.std.specs.List.{HoldsAt}
 use Rattle.std.specs.List.Sorted.{IsSortedBy, IsSortedByKey, IsStableBy, IsStableByKey}
 use Rattle.std.specs.Ordering.{is_lt}
 use Rattle.std.specs.declared.cmp.Ordering.{Ordering}
+use Rattle.std.specs.declared.cmp.Ordering.TheVariants.{Greater, Less}
 
 -- The closure `f` may be called at the item `x`.
 abbrev pub CallableOnItem : {F T R : Type 0} → Shared F (Bor T × Unit {0}) R → F → T → Type 0
@@ -16,6 +18,10 @@ CallableOnItem {F} {T} g f x = (a : Bor T) → a.now ≡ x → g.pre f (a, tt)
 abbrev pub CallableOnPair : {F K V R : Type 0} → Shared F (Bor K × (Bor V × Unit {0})) R → F → K × V → Type 0
 CallableOnPair {F} {K} {V} g f p = (k : Bor K) (v : Bor V) → k.now ≡ p.0 → v.now ≡ p.1 → g.pre f (k, (v, tt))
 
+-- The closure `f` may be called at each index of a list of `n` items.
+abbrev pub CallableBelow : {F R : Type 0} → Shared F (ℕ × Unit {0}) R → F → ℕ → Type 0
+CallableBelow g f n = (i : ℕ) → i < n → g.pre f (i, tt)
+
 -- Each call of `f`, at an item, returns what `h` gives of it.
 abbrev pub AnswersOnItem : {F T R : Type 0} → Shared F (Bor T × Unit {0}) R → (T → R) → F → Type 0
 AnswersOnItem {F} {T} {R} g h f = (x : Bor T) (r : R) → g.post f (x, tt) r → r ≡ h x.now
@@ -23,6 +29,14 @@ AnswersOnItem {F} {T} {R} g h f = (x : Bor T) (r : R) → g.post f (x, tt) r →
 -- Each call of `f`, at a key and its value, returns what `h` gives of the pair.
 abbrev pub AnswersOnPair : {F K V R : Type 0} → Shared F (Bor K × (Bor V × Unit {0})) R → (K × V → R) → F → Type 0
 AnswersOnPair {F} {K} {V} {R} g h f = (k : Bor K) (v : Bor V) (r : R) → g.post f (k, (v, tt)) r → r ≡ h (k.now, v.now)
+
+-- How an item compares with a partition point: one that passes is less, and one that fails is greater.
+abbrev pub side : Bool → Ordering
+side passes = cond passes Less Greater
+
+-- Each call of `f`, at the index of an item of `xs`, returns what `h` gives of the item.
+abbrev pub AnswersAtIndex : {F T R : Type 0} → Shared F (ℕ × Unit {0}) R → (T → R) → F → List T → Type 0
+AnswersAtIndex {F} {T} {R} g h f xs = (i : ℕ) (r : R) → i < length xs → g.post f (i, tt) r → HoldsAt (λ x. r ≡ h x) xs i
 
 module _ {F K V : Type 0} (g : Shared F ((Bor K × Bor V) × ((Bor K × Bor V) × Unit {0})) Ordering) where
   -- Each call of `f`, at two pairs, returns `Less` exactly if `lt` holds of them.

@@ -35,5 +35,5 @@ pub use refused::Refused;
 pub use relations::{are_apart, are_within};
 pub use repeats::{dedup_keep_first, dedup_keep_last_value, gather_items, gather_pairs};
 pub use retain::{retain_items, retain_pairs, retain_pairs_mut};
-pub use search::{partition_point, search_items_by_key, search_pairs_by_key};
+pub use search::{partition_point, search_by_index, search_items_by_key, search_pairs_by_key};
 pub use steps::Steps;

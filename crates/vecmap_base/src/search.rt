@@ -1,11 +1,60 @@
 //! Binary searches of a sorted slice, by what a closure returns for its items. Each call of the closure halves the
 //! items that are left to search, whatever it returns. No search allocates.
-ghost use Rattle.std.specs.Prelude.{◌≡◌, ◌≤◌, Bool, false, length, true};
-ghost use Rattle.std.specs.List.{All};
+ghost use Rattle.std.specs.Prelude.{◌≡◌, ◌<◌, ◌≤◌, Bool, false, length, true};
+ghost use Rattle.std.specs.List.{All, HoldsAt};
 ghost use Rattle.std.specs.List.Sorted.{IsBinarySearchResult, IsPartitionPoint, IsPartitionedBy, IsSearchInRange};
-ghost use Rattle.vecmap_base.specs.Orders.{AnswersOnItem, AnswersOnPair, CallableOnItem, CallableOnPair};
+ghost use Rattle.std.specs.declared.cmp.Ordering.{Ordering};
+ghost use Rattle.vecmap_base.specs.Orders.{AnswersAtIndex, AnswersOnItem, AnswersOnPair};
+ghost use Rattle.vecmap_base.specs.Orders.{CallableBelow, CallableOnItem, CallableOnPair, side};
 
 use std::cmp::Ordering;
+
+/// Searches `items` with `f`, which compares the item at an index with what is sought.
+///
+/// `f` returns `Less` for the first items, then `Equal`, then `Greater`. `Ok` holds the index of an equal item. If there
+/// is none, `Err` holds the number of items that are less. If the items are in another order, `Ok` is still the index of
+/// an equal item, but `Err` says nothing.
+///
+/// # Conditions
+///
+/// `f` can be called for each index of `items`.
+///
+/// # Complexity
+///
+/// O(log n) calls of `f` for n items. Does not allocate.
+///
+/// # Examples
+///
+/// ```
+/// let items = [1, 3];
+/// search_by_index(&items, |index| items[index].cmp(&3)) // Ok(1)
+/// ```
+#[inline]
+pub fn search_by_index<T, F: Fn(usize) -> Ordering>(items: &[T], f: F) -> Result<usize, usize>
+    requires callable { CallableBelow F.Fn f (length items.now) }
+    ensures within { IsSearchInRange result (length items.now) }
+    ensures place { (ord : T → Ordering) → AnswersAtIndex F.Fn ord f items.now
+        → IsBinarySearchResult ord items.now result }
+{
+    let mut size = items.len();
+    if size == 0 {
+        return Err(0);
+    }
+    let mut base = 0;
+    while size > 1 {
+        let half = size / 2;
+        let middle = base + half;
+        size -= half;
+        if f(middle).is_le() {
+            base = middle;
+        }
+    }
+    match f(base) {
+        Ordering::Less => Err(base + 1),
+        Ordering::Equal => Ok(base),
+        Ordering::Greater => Err(base),
+    }
+}
 
 /// Searches for `key` in pairs that ascend by the key that `f` extracts.
 ///
@@ -35,26 +84,18 @@ pub fn search_pairs_by_key<'a, K, V, B: Ord + Drop, F: Fn(&'a K, &'a V) -> B>(
     ensures place { (key_of : K × V → B) → AnswersOnPair F.Fn key_of f
         → IsBinarySearchResult (λ p. B.cmp (key_of p) key.now) pairs.now result }
 {
-    let mut size = pairs.len();
-    if size == 0 {
-        return Err(0);
-    }
-    let mut base = 0;
-    while size > 1 {
-        let half = size / 2;
-        let middle = base + half;
-        size -= half;
-        let pair = &pairs[middle];
-        if f(&pair.0, &pair.1).cmp(key).is_le() {
-            base = middle;
-        }
-    }
-    let pair = &pairs[base];
-    match f(&pair.0, &pair.1).cmp(key) {
-        Ordering::Less => Err(base + 1),
-        Ordering::Equal => Ok(base),
-        Ordering::Greater => Err(base),
-    }
+    search_by_index(
+        pairs,
+        |index: usize| -> Ordering
+            requires callable { All (CallableOnPair F.Fn f) pairs.now }
+            requires within { index < length pairs.now }
+            ensures { (key_of : K × V → B) → AnswersOnPair F.Fn key_of f
+                → HoldsAt (λ p. result ≡ B.cmp (key_of p) key.entry.now) pairs.entry.now index }
+        {
+            let pair = &pairs[index];
+            f(&pair.0, &pair.1).cmp(key)
+        },
+    )
 }
 
 /// Searches for `key` in items that ascend by the key that `f` extracts.
@@ -85,24 +126,15 @@ pub fn search_items_by_key<'a, T, B: Ord + Drop, F: Fn(&'a T) -> B>(
     ensures place { (key_of : T → B) → AnswersOnItem F.Fn key_of f
         → IsBinarySearchResult (λ x. B.cmp (key_of x) key.now) items.now result }
 {
-    let mut size = items.len();
-    if size == 0 {
-        return Err(0);
-    }
-    let mut base = 0;
-    while size > 1 {
-        let half = size / 2;
-        let middle = base + half;
-        size -= half;
-        if f(&items[middle]).cmp(key).is_le() {
-            base = middle;
-        }
-    }
-    match f(&items[base]).cmp(key) {
-        Ordering::Less => Err(base + 1),
-        Ordering::Equal => Ok(base),
-        Ordering::Greater => Err(base),
-    }
+    search_by_index(
+        items,
+        |index: usize| -> Ordering
+            requires callable { All (CallableOnItem F.Fn f) items.now }
+            requires within { index < length items.now }
+            ensures { (key_of : T → B) → AnswersOnItem F.Fn key_of f
+                → HoldsAt (λ x. result ≡ B.cmp (key_of x) key.entry.now) items.entry.now index }
+        { f(&items[index]).cmp(key) },
+    )
 }
 
 /// Returns the number of items for which `pred` returns `true`.
@@ -128,18 +160,23 @@ pub fn partition_point<T, P: Fn(&T) -> bool>(items: &[T], pred: P) -> usize
     ensures place { (p : T → Bool) → AnswersOnItem P.Fn p pred → IsPartitionedBy p items.now
         → IsPartitionPoint (λ x. p x ≡ true) (λ x. p x ≡ false) items.now result }
 {
-    let mut size = items.len();
-    if size == 0 {
-        return 0;
+    let found = search_by_index(
+        items,
+        |index: usize| -> Ordering
+            requires callable { All (CallableOnItem P.Fn pred) items.now }
+            requires within { index < length items.now }
+            ensures { (p : T → Bool) → AnswersOnItem P.Fn p pred
+                → HoldsAt (λ x. result ≡ side (p x)) items.entry.now index }
+        {
+            if pred(&items[index]) {
+                Ordering::Less
+            } else {
+                Ordering::Greater
+            }
+        },
+    );
+    match found {
+        Ok(index) => index,
+        Err(index) => index,
     }
-    let mut base = 0;
-    while size > 1 {
-        let half = size / 2;
-        let middle = base + half;
-        size -= half;
-        if pred(&items[middle]) {
-            base = middle;
-        }
-    }
-    if pred(&items[base]) { base + 1 } else { base }
 }

@@ -1,13 +1,13 @@
 //! Binary searches in sorted pairs. None allocates, and each looks at about log2(n) of n pairs.
-ghost use Rattle.std.specs.Prelude.{◌≡◌, ◌≤◌, Bool, false, length, true};
-ghost use Rattle.std.specs.List.{All};
+ghost use Rattle.std.specs.Prelude.{◌≡◌, ◌<◌, ◌≤◌, Bool, false, length, true};
+ghost use Rattle.std.specs.List.{All, HoldsAt};
 ghost use Rattle.std.specs.List.Sorted.{IsBinarySearchResult, IsPartitionPoint, IsPartitionedBy, IsSearchInRange};
 ghost use Rattle.std.specs.declared.cmp.Ordering.{Ordering};
 ghost use Rattle.vecmap_base.specs.Orders.{AnswersOnPair, CallableOnPair};
 
 use crate::VecMap;
 use std::cmp::Ordering;
-use vecmap_base::{partition_point, search_pairs_by_key};
+use vecmap_base::{partition_point, search_by_index, search_pairs_by_key};
 
 impl<K, V> VecMap<K, V> {
     /// Searches for a key by binary search, in a map whose keys are in ascending order.
@@ -69,7 +69,19 @@ impl<K, V> VecMap<K, V> {
         ensures place { (ord : K × V → Ordering) → AnswersOnPair F.Fn ord f
             → IsBinarySearchResult ord self.now.entries result }
     {
-        search_pairs_by(self.pairs.as_slice(), f)
+        let pairs = self.pairs.as_slice();
+        search_by_index(
+            pairs,
+            |index: usize| -> Ordering
+                requires callable { All (CallableOnPair F.Fn f) pairs.now }
+                requires within { index < length pairs.now }
+                ensures { (ord : K × V → Ordering) → AnswersOnPair F.Fn ord f
+                    → HoldsAt (λ p. result ≡ ord p) pairs.entry.now index }
+            {
+                let pair = &pairs[index];
+                f(&pair.0, &pair.1)
+            },
+        )
     }
 
     /// Searches the pairs by binary search for the sort key `key`, where `f` returns the sort key of a pair.
@@ -134,37 +146,5 @@ impl<K, V> VecMap<K, V> {
                 ensures { (p : K × V → Bool) → AnswersOnPair P.Fn p pred → result ≡ p pair.now }
             { pred(&pair.0, &pair.1) },
         )
-    }
-}
-
-// Searches the pairs by `f`, like `VecMap::binary_search_by`.
-fn search_pairs_by<'a, K, V, F: Fn(&'a K, &'a V) -> Ordering>(
-    pairs: &'a [(K, V)],
-    f: F,
-) -> Result<usize, usize>
-    requires callable { All (CallableOnPair F.Fn f) pairs.now }
-    ensures within { IsSearchInRange result (length pairs.now) }
-    ensures place { (ord : K × V → Ordering) → AnswersOnPair F.Fn ord f
-        → IsBinarySearchResult ord pairs.now result }
-{
-    let mut size = pairs.len();
-    if size == 0 {
-        return Err(0);
-    }
-    let mut base = 0;
-    while size > 1 {
-        let half = size / 2;
-        let middle = base + half;
-        size -= half;
-        let pair = &pairs[middle];
-        if f(&pair.0, &pair.1).is_le() {
-            base = middle;
-        }
-    }
-    let pair = &pairs[base];
-    match f(&pair.0, &pair.1) {
-        Ordering::Less => Err(base + 1),
-        Ordering::Equal => Ok(base),
-        Ordering::Greater => Err(base),
     }
 }

@@ -1,14 +1,14 @@
 //! Binary searches in sorted elements. None allocates.
-ghost use Rattle.std.specs.Prelude.{◌≡◌, ◌≤◌, Bool, false, length, true};
+ghost use Rattle.std.specs.Prelude.{◌≡◌, ◌<◌, ◌≤◌, Bool, false, length, true};
 ghost use Rattle.std.specs.Fn.{ComputesKey};
-ghost use Rattle.std.specs.List.{All};
+ghost use Rattle.std.specs.List.{All, HoldsAt};
 ghost use Rattle.std.specs.List.Sorted.{IsBinarySearchResult, IsPartitionPoint, IsPartitionedBy, IsSearchInRange};
 ghost use Rattle.std.specs.declared.cmp.Ordering.{Ordering};
 ghost use Rattle.vecmap_base.specs.Orders.{AnswersOnItem, CallableOnItem};
 
 use crate::VecSet;
 use std::cmp::Ordering;
-use vecmap_base::{partition_point, search_items_by_key};
+use vecmap_base::{partition_point, search_by_index, search_items_by_key};
 
 impl<T: Eq> VecSet<T> {
     /// Searches for an element by binary search, in a set whose elements are in ascending order.
@@ -64,7 +64,16 @@ impl<T: Eq> VecSet<T> {
         ensures place { (ord : T → Ordering) → AnswersOnItem F.Fn ord f
             → IsBinarySearchResult ord self.now.elements result }
     {
-        search_items_by(self.items.as_slice(), f)
+        let items = self.items.as_slice();
+        search_by_index(
+            items,
+            |index: usize| -> Ordering
+                requires callable { All (CallableOnItem F.Fn f) items.now }
+                requires within { index < length items.now }
+                ensures { (ord : T → Ordering) → AnswersOnItem F.Fn ord f
+                    → HoldsAt (λ x. result ≡ ord x) items.entry.now index }
+            { f(&items[index]) },
+        )
     }
 
     /// Searches the elements by binary search for the sort key `key`, where `f` returns the sort key of an element.
@@ -123,32 +132,5 @@ impl<T: Eq> VecSet<T> {
             → IsPartitionPoint (λ x. p x ≡ true) (λ x. p x ≡ false) self.now.elements result }
     {
         partition_point(&self.items, pred)
-    }
-}
-
-// Searches items by `f`, like `VecSet::binary_search_by`.
-fn search_items_by<'a, T, F: Fn(&'a T) -> Ordering>(items: &'a [T], f: F) -> Result<usize, usize>
-    requires callable { All (CallableOnItem F.Fn f) items.now }
-    ensures within { IsSearchInRange result (length items.now) }
-    ensures place { (ord : T → Ordering) → AnswersOnItem F.Fn ord f
-        → IsBinarySearchResult ord items.now result }
-{
-    let mut size = items.len();
-    if size == 0 {
-        return Err(0);
-    }
-    let mut base = 0;
-    while size > 1 {
-        let half = size / 2;
-        let middle = base + half;
-        size -= half;
-        if f(&items[middle]).is_le() {
-            base = middle;
-        }
-    }
-    match f(&items[base]) {
-        Ordering::Less => Err(base + 1),
-        Ordering::Equal => Ok(base),
-        Ordering::Greater => Err(base),
     }
 }

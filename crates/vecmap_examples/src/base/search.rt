@@ -1,7 +1,16 @@
 //! Examples of `vecmap_base/src/search.rt`.
 use crate::checks::assert_is;
 use std::process::Abort;
-use vecmap_base::{partition_point, search_items_by_key, search_pairs_by_key};
+use vecmap_base::{partition_point, search_by_index, search_items_by_key, search_pairs_by_key};
+
+fn shows_search_by_index(rt: &impl Abort) {
+    let items = [1, 3];
+    assert_is(
+        rt,
+        search_by_index(&items, |index| items[index].cmp(&3)),
+        Ok(1),
+    );
+}
 
 fn shows_search_pairs_by_key(rt: &impl Abort) {
     assert_is(
@@ -21,6 +30,7 @@ fn shows_partition_point(rt: &impl Abort) {
 
 #[test]
 fn examples_of_base_search_hold(rt: HostRuntime) {
+    shows_search_by_index(&rt);
     shows_search_pairs_by_key(&rt);
     shows_search_items_by_key(&rt);
     shows_partition_point(&rt);

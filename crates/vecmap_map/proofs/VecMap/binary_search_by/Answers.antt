@@ -4,5 +4,5 @@ use Rattle.vecmap_map.proofs.VecMap.binary_search_by.Goals as goal
 
 pub returns-clause-place : goal.returns-clause-place
 returns-clause-place g c = λ ord by.
-    subst (λ l. IsBinarySearchResult ord l c.search_pairs_by.result) (c.as_slice.ensures.value ∙ ap (λ m. m.entries) c.self.view_is)
-    (c.search_pairs_by.ensures.place ord by)
+    subst (λ l. IsBinarySearchResult ord l c.search_by_index.result) (c.as_slice-pairs.ensures.value ∙ ap (λ m. m.entries) c.self.view_is)
+    (c.search_by_index.ensures.place ord (λ i r within said. said ord by))

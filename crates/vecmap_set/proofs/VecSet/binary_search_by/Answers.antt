@@ -4,5 +4,5 @@ use Rattle.vecmap_set.proofs.VecSet.binary_search_by.Goals as goal
 
 pub returns-clause-place : goal.returns-clause-place
 returns-clause-place g c = λ ord by.
-    subst (λ l. IsBinarySearchResult ord l c.search_items_by.result) (c.as_slice.ensures.value ∙ ap (λ m. m.elements) c.self.view_is)
-    (c.search_items_by.ensures.place ord by)
+    subst (λ l. IsBinarySearchResult ord l c.search_by_index.result) (c.as_slice-items.ensures.value ∙ ap (λ m. m.elements) c.self.view_is)
+    (c.search_by_index.ensures.place ord (λ i r within said. said ord by))

@@ -1,0 +1,47 @@
+-- The loop keeps `Narrowed`: what is known of the item at `base` and of those from `base + size` on. Each call halves
+-- `size`.
+use Rattle.std.specs.Ordering.{is_le}
+use Rattle.std.proofs.Common.{◌≡◌, ◌+◌, ◌-◌, ◌/◌, Ordering, true, false, arith, subst, sym, ◌∙◌}
+use Rattle.vecmap_base.proofs.SearchLemmas.{narrowed_down, narrowed_greater, narrowed_less, narrowed_up}
+use Rattle.vecmap_base.proofs.search.search_by_index.Goals as goal
+
+pub loop-size-preserved-then-is_le : goal.loop-size-preserved-then-is_le
+loop-size-preserved-then-is_le g c =
+    let base = c.loop-size.base in let size = c.loop-size.size in let middle = base + size / 2 in (
+      omega arith,
+      omega arith,
+      λ ord by.
+          narrowed_up ord c.args.items.now base size middle (size - size / 2) (omega arith)
+          (λ d. subst (λ (o : Ordering). is_le o ≡ true) (by middle _ (omega arith) c.f.ensures d) (sym c.if-is_le.ensures))
+          (c.loop-size.invariant.2 ord by),
+    )
+
+pub loop-size-preserved : goal.loop-size-preserved
+loop-size-preserved g c =
+    let base = c.loop-size.base in let size = c.loop-size.size in let middle = base + size / 2 in (
+      omega arith,
+      omega arith,
+      λ ord by.
+          narrowed_down ord c.args.items.now base size middle (size - size / 2) (omega arith)
+          (λ d. subst (λ (o : Ordering). is_le o ≡ false) (by middle _ (omega arith) c.f.ensures d) (sym c.if-is_le.ensures))
+          (c.loop-size.invariant.2 ord by),
+    )
+
+pub returns-in-Less-clause-place : goal.returns-in-Less-clause-place
+returns-in-Less-clause-place g c =
+    let base = c.loop-size.base in
+    λ ord by.
+    narrowed_less ord c.args.items.now base c.loop-size.size (omega arith) (omega arith)
+    (λ d. sym (by base _ (omega arith) c.f-2.ensures d) ∙ c.in-Less.is)
+    (c.loop-size.invariant.2 ord by)
+
+pub returns-in-Equal-clause-place : goal.returns-in-Equal-clause-place
+returns-in-Equal-clause-place g c = λ ord by d. sym (by c.loop-size.base _ (omega arith) c.f-2.ensures d) ∙ c.in-Equal.is
+
+pub returns-clause-place : goal.returns-clause-place
+returns-clause-place g c =
+    let base = c.loop-size.base in
+    λ ord by.
+    narrowed_greater ord c.args.items.now base c.loop-size.size
+    (λ d. sym (by base _ (omega arith) c.f-2.ensures d) ∙ c.in-Greater.is)
+    (c.loop-size.invariant.2 ord by)
