@@ -1,5 +1,5 @@
 -- What a binary search has found so far: about the item at its base, and about the items above the part that is left.
-use Rattle.std.proofs.Common.{◌≡◌, ℕ, ◌+◌, ◌<◌, ◌≤◌, Bool, true, false, List, length, get_or, HoldsAt, ap, sym, ◌∙◌, arith, refl, subst, true≢false}
+use Rattle.std.proofs.Common.{◌≡◌, ℕ, ◌+◌, ◌-◌, ◌<◌, ◌≤◌, Bool, true, false, List, length, get_or, HoldsAt, if◌then◌else◌, ap, sym, ◌∙◌, arith, refl, subst, true≢false}
 use Rattle.std.proofs.lemmas.List.{get_or_default}
 use Rattle.std.specs.List.{AllWithin}
 use Rattle.std.specs.List.Sorted.{IsNonDecreasingBy, IsPartitionPoint, IsPartitionedBy}
@@ -29,6 +29,10 @@ greater Less h = absurd (true≢false h)
 greater Equal h = absurd (true≢false h)
 greater Greater h = refl
 
+pub no_step_past : (half step : ℕ) (is_up : Bool) → step ≡ (if is_up then half else 0) → step ≤ half
+no_step_past half step true by = omega (arith, by)
+no_step_past half step false by = omega (arith, by)
+
 module _ {X : Type 0} (ord : X → Ordering) (xs : List X) where
   -- The item at `base` is not greater, unless `base` is 0. If the items ascend, those from `base + size` on are
   -- greater.
@@ -50,6 +54,11 @@ module _ {X : Type 0} (ord : X → Ordering) (xs : List X) where
   -- If the item in the middle is greater, the items after it are greater too.
   pub narrowed_down : (base size middle left : ℕ) → middle ≤ base + left → HoldsAt (λ y. is_le (ord y) ≡ false) xs middle → Narrowed base size → Narrowed base left
   narrowed_down base size middle left le at n = record { low = n.low; high = all_greater middle (base + left) le (λ d. greater _ (at d)) }
+
+  -- The search continues from the item in the middle if this item is not greater, and else from `base`.
+  pub narrowed_on : (base size half step : ℕ) (is_up : Bool) → half + half ≤ size → step ≡ (if is_up then half else 0) → HoldsAt (λ y. is_le (ord y) ≡ is_up) xs (base + half) → Narrowed base size → Narrowed (base + step) (size - half)
+  narrowed_on base size half step true within by at n = subst (λ i. Narrowed i (size - half)) (ap (λ k. base + k) (sym by)) (narrowed_up base size (base + half) (size - half) (omega arith) at n)
+  narrowed_on base size half step false within by at n = subst (λ i. Narrowed i (size - half)) (omega (arith, by)) (narrowed_down base size (base + half) (size - half) (omega arith) at n)
 
   -- If the one item that is left is less, the index after it separates the lesser items from the greater ones.
   pub narrowed_less : (base size : ℕ) → size ≤ 1 → base < length xs → HoldsAt (λ y. ord y ≡ Less) xs base → Narrowed base size → IsNonDecreasingBy (λ y. ordering_index (ord y)) xs → IsPartitionPoint (λ y. ord y ≡ Less) (λ y. ord y ≡ Greater) xs (base + 1)

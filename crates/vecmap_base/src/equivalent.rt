@@ -182,7 +182,7 @@ pub fn find_equivalent<K: Eq, V, Q: Equivalent<K>>(pairs: &[(K, V)], query: Q) -
 ///
 /// # Complexity
 ///
-/// At most `items.len()` comparisons. Among 64 items or more, of at most 8 bytes each, up to seven of them come after the
+/// At most `items.len()` comparisons. Among 32 items or more, of at most 8 bytes each, up to seven of them come after the
 /// one that matches.
 ///
 /// # Examples

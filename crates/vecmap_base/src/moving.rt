@@ -96,7 +96,8 @@ pub fn put_in<T>(items: &mut Vec<T>, index: usize, item: T)
     ensures items { items.new.items ≡ insert items.old.items index item }
     ensures capacity { vec_capacity items.new ≡ vec_capacity items.old }
 {
-    items.insert(index, item).unwrap();
+    items.push_reserved(item);
+    items[index..].rotate_right(1);
 }
 
 // Moves the item at `from` to `to`. The items between the two indices shift by one index.

@@ -1,6 +1,6 @@
 //! Binary searches of a sorted slice, by what a closure returns for its items. Each call of the closure halves the
 //! items that are left to search, whatever it returns. No search allocates.
-ghost use Rattle.std.specs.Prelude.{◌≡◌, ◌<◌, ◌≤◌, Bool, false, length, true};
+ghost use Rattle.std.specs.Prelude.{◌≡◌, ◌<◌, ◌≤◌, Bool, false, if◌then◌else◌, length, true};
 ghost use Rattle.std.specs.List.{All, HoldsAt};
 ghost use Rattle.std.specs.List.Sorted.{IsBinarySearchResult, IsPartitionPoint, IsPartitionedBy, IsSearchInRange};
 ghost use Rattle.std.specs.declared.cmp.Ordering.{Ordering};
@@ -43,11 +43,8 @@ pub fn search_by_index<T, F: Fn(usize) -> Ordering>(items: &[T], f: F) -> Result
     let mut base = 0;
     while size > 1 {
         let half = size / 2;
-        let middle = base + half;
         size -= half;
-        if f(middle).is_le() {
-            base = middle;
-        }
+        base += only_if(f(base + half).is_le(), half);
     }
     match f(base) {
         Ordering::Less => Err(base + 1),
@@ -179,4 +176,13 @@ pub fn partition_point<T, P: Fn(&T) -> bool>(items: &[T], pred: P) -> usize
         Ok(index) => index,
         Err(index) => index,
     }
+}
+
+// Returns `n` if `condition` holds, and 0 otherwise. The minimum of two numbers compiles to no branch. A branch would be
+// predicted wrongly in every second iteration of a search.
+#[inline]
+fn only_if(condition: bool, n: usize) -> usize
+    ensures { result ≡ (if condition then n else 0) }
+{
+    n.min(0usize.wrapping_sub(usize::from(condition)))
 }

@@ -13,7 +13,7 @@ use std::mem::size_of_val;
 const WORD: usize = 8;
 
 // The least length of a list for which `find_by_eights` is faster.
-pub(crate) const MIN_LENGTH_FOR_EIGHTS: usize = 64;
+pub(crate) const MIN_LENGTH_FOR_EIGHTS: usize = 32;
 
 // Returns whether an item is no larger than a word, as a `u64` is and a text is not.
 pub(crate) fn is_small<T>(item: &T) -> bool {

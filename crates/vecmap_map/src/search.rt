@@ -32,10 +32,13 @@ impl<K, V> VecMap<K, V> {
         ensures within { IsSearchInRange result (length self.now.entries) }
         ensures place { IsBinarySearchResult (λ p. K.cmp p.0 key.now) self.now.entries result }
     {
-        self.pairs.binary_search_by(
-            |pair: &(K, V)| -> Ordering
-                ensures { result ≡ K.cmp pair.now.0 key.entry.now }
-            { pair.0.cmp(key) },
+        let pairs = self.pairs.as_slice();
+        search_by_index(
+            pairs,
+            |index: usize| -> Ordering
+                requires { index < length pairs.now }
+                ensures { HoldsAt (λ p. result ≡ K.cmp p.0 key.entry.now) pairs.entry.now index }
+            { pairs[index].0.cmp(key) },
         )
     }
 

@@ -33,7 +33,14 @@ impl<T: Eq> VecSet<T> {
         ensures within { IsSearchInRange result (length self.now.elements) }
         ensures place { IsBinarySearchResult (λ x. T.cmp x item.now) self.now.elements result }
     {
-        self.items.binary_search(item)
+        let items = self.items.as_slice();
+        search_by_index(
+            items,
+            |index: usize| -> Ordering
+                requires { index < length items.now }
+                ensures { HoldsAt (λ x. result ≡ T.cmp x item.entry.now) items.entry.now index }
+            { items[index].cmp(item) },
+        )
     }
 
     /// Searches the elements by binary search, with the comparison `f`.

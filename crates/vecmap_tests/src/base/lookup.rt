@@ -83,7 +83,7 @@ fn a_lookup_compares_each_item_once_at_most(rt: HostRuntime) {
 
 #[test]
 fn many_small_items_are_found_at_their_first_index(rt: HostRuntime) {
-    for length in [7, 8, 31, 32, 47, 63, 64, 65, 72, 79] {
+    for length in [7, 8, 31, 32, 33, 39, 40, 47, 64, 71] {
         let mut items = Vec::new(rt.alloc());
         let mut pairs = Vec::new(rt.alloc());
         for number in 0..length {
@@ -108,7 +108,7 @@ fn many_small_items_are_found_at_their_first_index(rt: HostRuntime) {
 
 #[test]
 fn a_search_of_words_asks_about_at_most_seven_more(rt: HostRuntime) {
-    for length in [1, 31, 63, 64, 65, 71, 72, 79] {
+    for length in [1, 31, 32, 33, 39, 40, 47] {
         let log = Log::new();
         let mut numbers = Vec::new(rt.alloc());
         for number in 0..length {

@@ -1,29 +1,19 @@
 -- The loop keeps `Narrowed`: what is known of the item at `base` and of those from `base + size` on. Each call halves
 -- `size`.
 use Rattle.std.specs.Ordering.{is_le}
-use Rattle.std.proofs.Common.{◌≡◌, ◌+◌, ◌-◌, ◌/◌, Ordering, true, false, arith, subst, sym, ◌∙◌}
-use Rattle.vecmap_base.proofs.SearchLemmas.{narrowed_down, narrowed_greater, narrowed_less, narrowed_up}
+use Rattle.std.proofs.Common.{◌≡◌, ◌+◌, ◌/◌, Ordering, arith, subst, sym, ◌∙◌}
+use Rattle.vecmap_base.proofs.SearchLemmas.{narrowed_greater, narrowed_less, narrowed_on, no_step_past}
 use Rattle.vecmap_base.proofs.search.search_by_index.Goals as goal
-
-pub loop-size-preserved-then-is_le : goal.loop-size-preserved-then-is_le
-loop-size-preserved-then-is_le g c =
-    let base = c.loop-size.base in let size = c.loop-size.size in let middle = base + size / 2 in (
-      omega arith,
-      omega arith,
-      λ ord by.
-          narrowed_up ord c.args.items.now base size middle (size - size / 2) (omega arith)
-          (λ d. subst (λ (o : Ordering). is_le o ≡ true) (by middle _ (omega arith) c.f.ensures d) (sym c.if-is_le.ensures))
-          (c.loop-size.invariant.2 ord by),
-    )
 
 pub loop-size-preserved : goal.loop-size-preserved
 loop-size-preserved g c =
-    let base = c.loop-size.base in let size = c.loop-size.size in let middle = base + size / 2 in (
+    let base = c.loop-size.base in let size = c.loop-size.size in let half = size / 2 in
+    let within = no_step_past half c.only_if-base.result c.is_le.result c.only_if-base.ensures in (
       omega arith,
-      omega arith,
+      omega (arith, within),
       λ ord by.
-          narrowed_down ord c.args.items.now base size middle (size - size / 2) (omega arith)
-          (λ d. subst (λ (o : Ordering). is_le o ≡ false) (by middle _ (omega arith) c.f.ensures d) (sym c.if-is_le.ensures))
+          narrowed_on ord c.args.items.now base size half c.only_if-base.result c.is_le.result (omega arith) c.only_if-base.ensures
+          (λ d. subst (λ (o : Ordering). is_le o ≡ c.is_le.result) (by (base + half) _ (omega arith) c.f.ensures d) (sym c.is_le.ensures))
           (c.loop-size.invariant.2 ord by),
     )
 
