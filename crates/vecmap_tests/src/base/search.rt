@@ -1,9 +1,10 @@
 //! Binary searches of sorted slices.
 use crate::checks::assert_is;
-use vecmap_base::{partition_point, search_items_by_key, search_pairs_by_key};
+use std::cmp::Ordering;
+use vecmap_base::{partition_point, search_by_index, search_items_by_key, search_pairs_by_key};
 
 #[test]
-fn a_search_by_key_returns_an_equal_index_or_where_to_insert(rt: HostRuntime) {
+fn a_search_returns_an_equal_index_or_where_to_insert(rt: HostRuntime) {
     let pairs = [('a', 1), ('b', 3), ('c', 5), ('d', 7), ('e', 9)];
     let items = [1, 3, 5, 7, 9];
     for (key, found) in [
@@ -23,6 +24,11 @@ fn a_search_by_key_returns_an_equal_index_or_where_to_insert(rt: HostRuntime) {
             found,
         );
         assert_is(&rt, search_items_by_key(&items, &key, |item| *item), found);
+        assert_is(
+            &rt,
+            search_by_index(&items, |index| items[index].cmp(&key)),
+            found,
+        );
     }
     assert_is(
         &rt,
@@ -32,6 +38,11 @@ fn a_search_by_key_returns_an_equal_index_or_where_to_insert(rt: HostRuntime) {
     assert_is(
         &rt,
         search_items_by_key::<i32, _, _>(&[], &1, |item| *item),
+        Err(0),
+    );
+    assert_is(
+        &rt,
+        search_by_index::<i32, _>(&[], |_index| Ordering::Less),
         Err(0),
     );
 }
