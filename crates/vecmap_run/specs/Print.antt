@@ -5,7 +5,7 @@ use Rattle.std.specs.List.{flat_map}
 use Rattle.std.specs.declared.alloc.Global.{Global}
 use Rattle.vecmap_run.specs.Steps.{Entries}
 use Rattle.vecmap_run.specs.declared.answer.Answer.{Answer}
-use Rattle.vecmap_run.specs.declared.answer.Answer.TheVariants.{Fault, Memory, Moved, Number, Pairs, Place, Range, Value}
+use Rattle.vecmap_run.specs.declared.answer.Answer.TheVariants.{Fault, Moved, NoMemory, Number, OutOfRange, Pairs, Place, Value}
 
 -- A key, `=` (61) and its value.
 abbrev pub printed_pair : String Global × ℤ → List ℕ
@@ -27,5 +27,5 @@ printed (Moved (Some (index, value))) pairs = codes "some " ++ decimal index ++ 
 printed (Number number) pairs = decimal number
 printed Pairs pairs = printed_pairs pairs
 printed Fault pairs = codes "fault"
-printed Range pairs = codes "range"
-printed Memory pairs = codes "memory"
+printed OutOfRange pairs = codes "range"
+printed NoMemory pairs = codes "memory"

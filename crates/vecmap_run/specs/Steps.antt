@@ -3,7 +3,7 @@ use Rattle.std.specs.Prelude.{◌≡◌, ℕ, ◌<◌, ◌≤◌, List, Some, St
 use Rattle.std.specs.declared.alloc.Global.{Global}
 use Rattle.vecmap.specs.Pairs.{has_text, index_by, lookup, lookup_by, lookup_full, put, put_at, swap_without_by, without_by}
 use Rattle.vecmap_run.specs.declared.answer.Answer.{Answer}
-use Rattle.vecmap_run.specs.declared.answer.Answer.TheVariants.{Memory, Moved, Number, Pairs, Place, Range, Value}
+use Rattle.vecmap_run.specs.declared.answer.Answer.TheVariants.{Moved, NoMemory, Number, OutOfRange, Pairs, Place, Value}
 use Rattle.vecmap_run.specs.declared.command.Command.{Command}
 use Rattle.vecmap_run.specs.declared.command.Command.TheVariants as command
 
@@ -14,20 +14,20 @@ Entries = List (String Global × ℤ)
 -- This answer is allowed for the insertion of this text and value, and it changes `old` to `new`.
 abbrev pub Inserts : Entries → List ℕ → ℤ → Answer → Entries → Type 0
 Inserts old text value (Value was) new = (key : String Global) × (string_bytes key ≡ text) × (was ≡ lookup string_eq old key) × (new ≡ put string_eq old key value)
-Inserts old text value Memory new = new ≡ old
+Inserts old text value NoMemory new = new ≡ old
 Inserts old text value _ new = ⊥
 
 -- The same for an insertion at an index.
 abbrev pub InsertsAt : Entries → ℕ → List ℕ → ℤ → Answer → Entries → Type 0
 InsertsAt old index text value (Moved was) new = (index ≤ length old) × (key : String Global) × (string_bytes key ≡ text) × (was ≡ lookup_full string_eq old key) × (new ≡ put_at string_eq old index key value)
-InsertsAt old index text value Memory new = (index ≤ length old) × (new ≡ old)
-InsertsAt old index text value Range new = (length old < index) × (new ≡ old)
+InsertsAt old index text value NoMemory new = (index ≤ length old) × (new ≡ old)
+InsertsAt old index text value OutOfRange new = (length old < index) × (new ≡ old)
 InsertsAt old index text value _ new = ⊥
 
 -- The same for an insertion that keeps an existing value.
 abbrev pub OrInserts : Entries → List ℕ → ℤ → Answer → Entries → Type 0
 OrInserts old text value (Value found) new = (key : String Global) × (string_bytes key ≡ text) × (found ≡ Some (unwrap_or (lookup string_eq old key) value)) × (new ≡ put string_eq old key (unwrap_or (lookup string_eq old key) value))
-OrInserts old text value Memory new = new ≡ old
+OrInserts old text value NoMemory new = new ≡ old
 OrInserts old text value _ new = ⊥
 
 -- This answer is allowed for the command, and it changes `old` to `new`. Only an insertion has more than one allowed

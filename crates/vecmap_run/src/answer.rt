@@ -1,5 +1,5 @@
 //! The answer to each command.
-ghost use Rattle.std.specs.Prelude.{◌≡◌, IfOk, List, OnErr, OnOk, Some, option_copied, string_eq, unwrap_or, ℕ};
+ghost use Rattle.std.specs.Prelude.{◌≡◌, IfOk, List, OnErr, OnOk, option_copied, string_eq, unwrap_or, ℕ};
 ghost use Rattle.vecmap.specs.Pairs.{lookup, put};
 ghost use Rattle.vecmap_run.specs.Lines.{within_limit};
 ghost use Rattle.vecmap_run.specs.Service.{MayAnswer};
@@ -25,9 +25,9 @@ pub enum Answer {
     /// The line does not say a command.
     Fault,
     /// The index is greater than the number of pairs.
-    Range,
+    OutOfRange,
     /// Memory ran out for the key or the pair; the map is unchanged.
-    Memory,
+    NoMemory,
 }
 
 /// Executes the command of a line. The line is `None` if it is too long.
@@ -39,13 +39,13 @@ pub fn answer_line(alloc: Global, map: &mut VecMap<String, i64>, line: Option<&[
         return Answer::Fault;
     };
     match parse(line) {
-        Some(command) => act(alloc, map, command),
+        Some(command) => execute(alloc, map, command),
         None => Answer::Fault,
     }
 }
 
 /// Executes a command.
-fn act(alloc: Global, map: &mut VecMap<String, i64>, command: Command<'_>) -> Answer
+fn execute(alloc: Global, map: &mut VecMap<String, i64>, command: Command<'_>) -> Answer
     ensures { Step map.old.entries command.entry result map.new.entries }
 {
     match command {
@@ -65,11 +65,11 @@ fn insert(alloc: Global, map: &mut VecMap<String, i64>, key: &str, value: i64) -
     ensures { Inserts map.old.entries key.now value result map.new.entries }
 {
     let Ok(key) = key.to_string(alloc) else {
-        return Answer::Memory;
+        return Answer::NoMemory;
     };
     match map.insert(key, value) {
         Ok(old) => Answer::Value(old),
-        Err(_refused) => Answer::Memory,
+        Err(_refused) => Answer::NoMemory,
     }
 }
 
@@ -83,14 +83,14 @@ fn insert_at(
     ensures { InsertsAt map.old.entries index key.now value result map.new.entries }
 {
     if map.len() < index {
-        return Answer::Range;
+        return Answer::OutOfRange;
     }
     let Ok(key) = key.to_string(alloc) else {
-        return Answer::Memory;
+        return Answer::NoMemory;
     };
     match map.insert_at(index, key, value) {
         Ok(old) => Answer::Moved(old),
-        Err(_refused) => Answer::Memory,
+        Err(_refused) => Answer::NoMemory,
     }
 }
 
@@ -98,11 +98,11 @@ fn or_insert(alloc: Global, map: &mut VecMap<String, i64>, key: &str, value: i64
     ensures { OrInserts map.old.entries key.now value result map.new.entries }
 {
     let Ok(key) = key.to_string(alloc) else {
-        return Answer::Memory;
+        return Answer::NoMemory;
     };
     match value_or_insert(map, key, value) {
-        Ok(found) => Answer::Value(found),
-        Err(AllocError) => Answer::Memory,
+        Ok(found) => Answer::Value(Some(found)),
+        Err(AllocError) => Answer::NoMemory,
     }
 }
 
@@ -111,16 +111,16 @@ fn value_or_insert(
     map: &mut VecMap<String, i64>,
     key: String,
     value: i64,
-) -> Result<Option<i64>, AllocError>
+) -> Result<i64, AllocError>
     ensures value { IfOk result (λ found. found
-        ≡ Some (unwrap_or (lookup string_eq map.old.entries key) value)) }
+        ≡ unwrap_or (lookup string_eq map.old.entries key) value) }
     ensures entries { OnOk result (map.new.entries
         ≡ put string_eq map.old.entries key
         (unwrap_or (lookup string_eq map.old.entries key) value)) }
     ensures err { OnErr result (map.new ≡ map.old) }
 {
     match map.entry(key).or_insert(value) {
-        Ok(found) => Ok(Some(*found)),
+        Ok(found) => Ok(*found),
         Err(_refused) => Err(AllocError),
     }
 }

@@ -7,11 +7,14 @@ use crate::bytes::Bytes;
 use std::fmt;
 use std::io::Write;
 
+/// The number of bytes that are gathered before they are written.
+const GATHERED_BYTES: usize = 512;
+
 /// Gathers text for a writer. The text is written by `send`, or earlier if the buffer is full.
 #[derive(Drop)]
 pub struct Buffer<'w, W> {
     writer: &'w mut W,
-    gathered: Bytes,
+    gathered: Bytes<GATHERED_BYTES>,
 }
 
 impl<'w, W: Write> Buffer<'w, W> {

@@ -4,31 +4,28 @@ ghost use Rattle.std.specs.Bool.{OnFalse};
 
 use std::marker::Model;
 
-/// The greatest number of bytes.
-pub const MAX_BYTES: usize = 4096;
-
-/// At most `MAX_BYTES` bytes. A contract sees them as a list.
+/// At most `N` bytes. A contract sees them as a list.
 #[derive(Drop)]
-pub struct Bytes {
-    items: [u8; MAX_BYTES],
+pub struct Bytes<const N: usize> {
+    items: [u8; N],
     len: usize,
 }
 
-impl Model for Bytes {
+impl<const N: usize> Model for Bytes<N> {
     ghost Value = { List ℕ };
 
     ghost view = { λ b. take b.len b.items };
 
-    ghost invariant = { λ b. b.len ≤ 4096 };
+    ghost invariant = { λ b. b.len ≤ N };
 }
 
-impl Bytes {
+impl<const N: usize> Bytes<N> {
     /// Creates an empty list of bytes.
-    pub fn new() -> Bytes
+    pub fn new() -> Bytes<N>
         ensures { result ≡ [] }
     {
         Bytes {
-            items: [0; MAX_BYTES],
+            items: [0; N],
             len: 0,
         }
     }
@@ -49,15 +46,15 @@ impl Bytes {
 
     /// Returns whether the array has no spare capacity.
     pub fn is_full(&self) -> bool
-        ensures full { result ≡ (length self.now == 4096) }
-        ensures room { OnFalse result (length self.now < 4096) }
+        ensures full { result ≡ (length self.now == N) }
+        ensures room { OnFalse result (length self.now < N) }
     {
-        self.len == MAX_BYTES
+        self.len == N
     }
 
     /// Appends a byte.
     pub fn push(&mut self, byte: u8)
-        requires { length self.old < 4096 }
+        requires { length self.old < N }
         ensures { self.new ≡ self.old ++ byte ∷ [] }
     {
         self.items[self.len] = byte;

@@ -5,11 +5,14 @@ ghost use Rattle.vecmap_run.specs.Lines.{within_limit};
 use crate::bytes::Bytes;
 use std::marker::Model;
 
+/// The greatest number of bytes of a line.
+const MAX_LINE_BYTES: usize = 4096;
+
 /// The bytes of a line so far. Of a line past the limit, only the fact is kept that it is too long. A contract sees
 /// them as `within_limit` of the whole line.
 #[derive(Drop)]
 pub struct Line {
-    bytes: Bytes,
+    bytes: Bytes<MAX_LINE_BYTES>,
     is_too_long: bool,
 }
 

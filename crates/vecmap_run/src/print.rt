@@ -22,19 +22,19 @@ impl fmt::Display for Printed<'_> {
             Answer::Place(Some(index)) => write!(f, "some {index}"),
             Answer::Moved(Some((index, value))) => write!(f, "some {index} {value}"),
             Answer::Number(number) => write!(f, "{number}"),
-            Answer::Pairs => write!(f, "{}", Pairs(self.pairs)),
+            Answer::Pairs => write!(f, "{}", PrintedPairs(self.pairs)),
             Answer::Fault => write!(f, "fault"),
-            Answer::Range => write!(f, "range"),
-            Answer::Memory => write!(f, "memory"),
+            Answer::OutOfRange => write!(f, "range"),
+            Answer::NoMemory => write!(f, "memory"),
         }
     }
 }
 
 /// Pairs, as they are printed.
 #[derive(Clone, Copy)]
-struct Pairs<'m>(&'m [(String, i64)]);
+struct PrintedPairs<'m>(&'m [(String, i64)]);
 
-impl fmt::Display for Pairs<'_> {
+impl fmt::Display for PrintedPairs<'_> {
     ghost output = { λ p. Some (printed_pairs p.0.now) };
 
     fn fmt<W: fmt::Write>(&self, f: &mut fmt::Formatter<W>) -> fmt::Result {

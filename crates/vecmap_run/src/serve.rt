@@ -18,9 +18,12 @@ use vecmap::VecMap;
 #[cfg(test)]
 mod tests;
 
+/// The greatest number of bytes that are read at once.
+const READ_BYTES: usize = 4096;
+
 /// Why `serve` stopped before the end of its input.
 #[derive(Clone, Copy, Debug, PartialEq, Eq)]
-pub enum ServeError {
+pub enum Fault {
     /// A read failed, or there were too many of them.
     Reading,
     /// A write failed.
@@ -34,13 +37,9 @@ pub enum ServeError {
 ///
 /// # Errors
 ///
-/// - [`ServeError::Reading`] if a read fails, or after `u64::MAX` reads.
-/// - [`ServeError::Writing`] if a write fails. It is then unknown how much of the answer was written.
-pub fn serve<R: Read, W: Write>(
-    alloc: Global,
-    reader: &mut R,
-    writer: &mut W,
-) -> Result<(), ServeError>
+/// - [`Fault::Reading`] if a read fails, or after `u64::MAX` reads.
+/// - [`Fault::Writing`] if a write fails. It is then unknown how much of the answer was written.
+pub fn serve<R: Read, W: Write>(alloc: Global, reader: &mut R, writer: &mut W) -> Result<(), Fault>
     // At the end of the input, the text answers all its lines.
     ensures end { OnOk result (IsAtEnd (R.remaining reader.new)) }
     ensures ok { OnOk result (Serves all_lines
@@ -48,21 +47,21 @@ pub fn serve<R: Read, W: Write>(
         (W.contents writer.old) (W.contents writer.new)) }
 
     // If reading fails, the text answers the lines that have ended.
-    ensures reading { IsErrOf result ServeError.Reading → Serves ended_lines
+    ensures reading { IsErrOf result Fault.Reading → Serves ended_lines
         (R.remaining reader.old) (R.remaining reader.new)
         (W.contents writer.old) (W.contents writer.new) }
 {
     let mut service = Service::new(alloc);
-    let mut chunk = [0u8; 4096];
+    let mut chunk = [0u8; READ_BYTES];
     for _ in 0..u64::MAX {
         match reader.read(&mut chunk) {
             Ok(0) => return service.finish(writer),
             Ok(count) => service.take(&chunk[..count], writer)?,
             Err(error) if error.kind() == ErrorKind::Interrupted => {}
-            Err(_error) => return Err(ServeError::Reading),
+            Err(_error) => return Err(Fault::Reading),
         }
     }
-    Err(ServeError::Reading)
+    Err(Fault::Reading)
 }
 
 /// The map, and the line that is being read.
@@ -85,10 +84,10 @@ impl Service {
     }
 
     /// Reads the next bytes of the input, and writes the answer to each line that ends in them.
-    fn take<W: Write>(&mut self, bytes: &[u8], writer: &mut W) -> Result<(), ServeError>
+    fn take<W: Write>(&mut self, bytes: &[u8], writer: &mut W) -> Result<(), Fault>
         ensures ok { OnOk result (GoesOn self.old.line self.old.map.entries bytes.now
             (W.contents writer.old) (W.contents writer.new) self.new.line self.new.map.entries) }
-        ensures err { IfErr result (λ error. error ≡ ServeError.Writing) }
+        ensures err { IfErr result (λ error. error ≡ Fault.Writing) }
     {
         for byte in bytes {
             self.take_byte(*byte, writer)?;
@@ -96,10 +95,10 @@ impl Service {
         Ok(())
     }
 
-    fn take_byte<W: Write>(&mut self, byte: u8, writer: &mut W) -> Result<(), ServeError>
+    fn take_byte<W: Write>(&mut self, byte: u8, writer: &mut W) -> Result<(), Fault>
         ensures ok { OnOk result (GoesOn self.old.line self.old.map.entries (byte ∷ [])
             (W.contents writer.old) (W.contents writer.new) self.new.line self.new.map.entries) }
-        ensures err { IfErr result (λ error. error ≡ ServeError.Writing) }
+        ensures err { IfErr result (λ error. error ≡ Fault.Writing) }
     {
         if byte == b'\n' {
             return self.answer(writer);
@@ -109,12 +108,12 @@ impl Service {
     }
 
     /// Writes the answer to the line that ends with the input, if there is one.
-    fn finish<W: Write>(&mut self, writer: &mut W) -> Result<(), ServeError>
+    fn finish<W: Write>(&mut self, writer: &mut W) -> Result<(), Fault>
         ensures ok { OnOk result ((input text : List ℕ)
             → HasServed self.old.line self.old.map.entries input text
             → (more : List ℕ) × Appends (W.contents writer.old) (W.contents writer.new) more
             × Answers [] (all_lines input) (text ++ more) self.new.map.entries) }
-        ensures err { IfErr result (λ error. error ≡ ServeError.Writing) }
+        ensures err { IfErr result (λ error. error ≡ Fault.Writing) }
     {
         if self.line.is_empty() {
             return Ok(());
@@ -123,12 +122,12 @@ impl Service {
     }
 
     /// Writes the answer to the line, and begins the next one.
-    fn answer<W: Write>(&mut self, writer: &mut W) -> Result<(), ServeError>
+    fn answer<W: Write>(&mut self, writer: &mut W) -> Result<(), Fault>
         ensures ok { OnOk result ((line : List ℕ) → self.old.line ≡ within_limit line
             → (text : List ℕ) × Appends (W.contents writer.old) (W.contents writer.new) text
             × AnswersLine self.old.map.entries line text self.new.map.entries) }
         ensures line { self.new.line ≡ within_limit [] }
-        ensures err { IfErr result (λ error. error ≡ ServeError.Writing) }
+        ensures err { IfErr result (λ error. error ≡ Fault.Writing) }
     {
         let answer = answer_line(self.alloc, &mut self.map, self.line.bytes());
         self.line.clear();
@@ -138,7 +137,7 @@ impl Service {
         };
         match print(printed, writer) {
             Ok(()) => Ok(()),
-            Err(_error) => Err(ServeError::Writing),
+            Err(_error) => Err(Fault::Writing),
         }
     }
 }

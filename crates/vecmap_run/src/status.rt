@@ -2,14 +2,14 @@
 ghost use Rattle.std.specs.Prelude.{◌≡◌, OnErr, OnOk};
 ghost use Rattle.std.specs.Process.{exit_status};
 
-use crate::serve::ServeError;
+use crate::serve::Fault;
 use std::process::ExitCode;
 
 #[cfg(test)]
 mod tests;
 
 /// Returns the exit status for this outcome of `serve`.
-pub fn status(served: Result<(), ServeError>) -> ExitCode
+pub fn status(served: Result<(), Fault>) -> ExitCode
     ensures ok { OnOk served (exit_status result ≡ 0) }
     ensures err { OnErr served (exit_status result ≡ 1) }
 {

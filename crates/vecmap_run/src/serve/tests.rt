@@ -1,5 +1,5 @@
 //! Whole runs, over readers and writers in memory.
-use super::{ServeError, serve};
+use super::{Fault, serve};
 use std::alloc::Global;
 use std::io;
 use std::io::{Error, ErrorKind, Read, Write};
@@ -314,7 +314,7 @@ fn stops_if_a_read_fails(rt: HostRuntime) -> Result<(), Fail> {
         let mut reader = FakeReader::new(input.as_bytes());
         reader.failure = Some(ErrorKind::Other);
         let mut writer = FakeWriter::new(rt.alloc(), usize::MAX);
-        assert!(rt; serve(rt.alloc(), &mut reader, &mut writer) == Err(ServeError::Reading));
+        assert!(rt; serve(rt.alloc(), &mut reader, &mut writer) == Err(Fault::Reading));
         assert!(rt; writer.text() == output, "at {input:?}");
     }
     Ok(())
@@ -332,7 +332,7 @@ fn stops_if_a_write_fails(rt: HostRuntime) -> Result<(), Fail> {
     for (room, output) in runs {
         let mut reader = FakeReader::new(b"insert a 1\ninsert a 2\nlist\n");
         let mut writer = FakeWriter::new(rt.alloc(), room);
-        assert!(rt; serve(rt.alloc(), &mut reader, &mut writer) == Err(ServeError::Writing));
+        assert!(rt; serve(rt.alloc(), &mut reader, &mut writer) == Err(Fault::Writing));
         assert!(rt; writer.text() == output, "at {room}");
         assert!(rt; reader.reads == 1, "at {room}");
     }

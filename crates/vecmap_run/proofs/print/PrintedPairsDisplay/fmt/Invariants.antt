@@ -2,7 +2,7 @@ use Rattle.std.proofs.Common.{◌∷◌, take}
 use Rattle.std.specs.Fmt.{HasWritten, IsPlainFormatter}
 use Rattle.std.specs.List.{flat_map}
 use Rattle.vecmap_run.specs.Print.{printed_pair}
-use Rattle.vecmap_run.proofs.print.PairsDisplay.fmt.Given as goal
+use Rattle.vecmap_run.proofs.print.PrintedPairsDisplay.fmt.Given as goal
 
 -- The pairs so far have been written, each after a space.
 abbrev pub invariant-loop-pair : goal.invariant-loop-pair
