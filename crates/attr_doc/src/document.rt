@@ -88,7 +88,10 @@ impl Document {
     /// # Examples
     ///
     /// ```
-    /// page.set(name(alloc, "FONT")?, name(alloc, "size")?, "14".to_string(alloc)?)? // Some("12")
+    /// # let mut page = Document::new(alloc);
+    /// # page.set(name(alloc, "Font")?, name(alloc, "Size")?, "12".to_string(alloc)?)?;
+    /// let old = page.set(name(alloc, "FONT")?, name(alloc, "size")?, "14".to_string(alloc)?)?;
+    /// old.as_deref() // Some("12")
     /// format!(in alloc; "{page:?}")?.as_str() // r#"{"Font": {"Size": "14"}}"#
     /// ```
     pub fn set(
@@ -117,6 +120,8 @@ impl Document {
     /// # Examples
     ///
     /// ```
+    /// # let mut page = Document::new(alloc);
+    /// # page.set(name(alloc, "Font")?, name(alloc, "Size")?, "12".to_string(alloc)?)?;
     /// page.get(&name(alloc, "font")?, &name(alloc, "SIZE")?) // Some("12")
     /// page.get(&name(alloc, "font")?, &name(alloc, "Color")?) // None
     /// ```
@@ -149,6 +154,8 @@ impl Document {
     /// # Examples
     ///
     /// ```
+    /// # let mut page = Document::new(alloc);
+    /// # page.set(name(alloc, "Font")?, name(alloc, "Size")?, "12".to_string(alloc)?)?;
     /// let mut changes = Document::new(alloc);
     /// changes.set(name(alloc, "font")?, name(alloc, "Color")?, "red".to_string(alloc)?)?;
     /// page.merge(&mut changes)?;
@@ -180,6 +187,8 @@ impl Document {
     /// # Examples
     ///
     /// ```
+    /// # let mut page = Document::new(alloc);
+    /// # page.set(name(alloc, "Font")?, name(alloc, "Size")?, "12".to_string(alloc)?)?;
     /// let mut other = Document::new(alloc);
     /// other.set(name(alloc, "FONT")?, name(alloc, "SIZE")?, "12".to_string(alloc)?)?;
     /// page.same(&other) // true
@@ -201,6 +210,8 @@ impl Document {
     /// # Examples
     ///
     /// ```
+    /// # let mut page = Document::new(alloc);
+    /// # page.set(name(alloc, "Font")?, name(alloc, "Size")?, "12".to_string(alloc)?)?;
     /// page.sections().next().map(Name::text) // Some("Font")
     /// ```
     pub fn sections(&self) -> Keys<'_, Name, VecMap<Name, String>>

@@ -1,6 +1,5 @@
 //! Tests of whole documents, which are compared as they are printed.
 mod checks;
-mod examples;
 mod names;
 
 use crate::{Document, Name};

@@ -25,6 +25,7 @@ const MAX_BYTES_FOR_REVERSALS: usize = 1024;
 ///
 /// ```
 /// let mut items = vec![in alloc; 1, 2, 3, 4]?;
+/// # assert!(*rt; items.len() == 4);
 /// move_range_last(&mut items, 0, 2) // 2
 /// items.as_slice() // [3, 4, 2, 1]
 /// ```
@@ -63,6 +64,7 @@ pub fn move_range_last<T>(items: &mut Vec<T>, start: usize, end: usize) -> usize
 ///
 /// ```
 /// let mut items = vec![in alloc; 1, 2, 3]?;
+/// # assert!(*rt; 1 <= items.len());
 /// reverse_from(&mut items, 1);
 /// items.as_slice() // [1, 3, 2]
 /// ```

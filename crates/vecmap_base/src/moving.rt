@@ -22,6 +22,7 @@ const MAX_BYTES_FOR_ROTATION: usize = 64;
 ///
 /// ```
 /// let mut items = vec![in alloc; 'a', 'b', 'c']?;
+/// # assert!(*rt; 2 < items.len());
 /// replace_and_move(&mut items, 0, 2, 'd') // 'a'
 /// items.as_slice() // ['b', 'c', 'd']
 /// ```
@@ -53,6 +54,7 @@ pub fn replace_and_move<T>(items: &mut Vec<T>, from: usize, to: usize, item: T) 
 ///
 /// ```
 /// let mut items = vec![in alloc; 'a', 'b', 'c']?;
+/// # assert!(*rt; 0 < items.len());
 /// take_out(&mut items, 0) // 'a'
 /// items.as_slice() // ['b', 'c']
 /// ```
@@ -87,6 +89,7 @@ pub fn take_out<T>(items: &mut Vec<T>, index: usize) -> T
 /// ```
 /// let mut items = vec![in alloc; 'a', 'b', 'c']?;
 /// items.reserve(1)?;
+/// # assert!(*rt; 1 <= items.len() && items.len() != items.capacity());
 /// put_in(&mut items, 1, 'd');
 /// items.as_slice() // ['a', 'd', 'b', 'c']
 /// ```

@@ -1,6 +1,7 @@
-//! Assertions in examples. Each is a function: a call is cheaper to prove than an `assert!` with its comparison. A
-//! failed one prints what it compared.
-use std::alloc::AllocError;
+//! What the examples of comments call: assertions, and `name`. An assertion is a function, since a call is cheaper to
+//! prove than an `assert!` with its comparison. A failed one prints what it compared.
+use attr_doc::Name;
+use std::alloc::{AllocError, Global};
 use std::fmt::Debug;
 use std::process::Abort;
 use vecmap::{VecMap, VecSet};
@@ -55,4 +56,9 @@ pub fn assert_text(rt: &impl Abort, text: Result<String, AllocError>, expected: 
         Ok(text) => assert_eq!(*rt; text.as_str(), expected),
         Err(_) => panic!(*rt; "refused, and not {expected:?}"),
     }
+}
+
+/// Creates a name of a document.
+pub fn name(alloc: Global, text: &str) -> Result<Name, AllocError> {
+    Ok(Name::new(text.to_string(alloc)?))
 }

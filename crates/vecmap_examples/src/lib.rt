@@ -3,17 +3,7 @@
 #![tactic(auto)]
 
 #[cfg(test)]
-mod base;
-pub mod calling;
-#[cfg(test)]
 mod checks;
 #[cfg(test)]
-mod made;
-#[cfg(test)]
-mod map;
-pub mod porting;
-pub mod readme;
-#[cfg(test)]
-mod run;
-#[cfg(test)]
-mod set;
+mod comments;
+pub mod pages;

@@ -74,6 +74,7 @@ impl<K, V> VecMap<K, V> {
     ///
     /// ```
     /// let pairs = vec![in alloc; ('a', 1), ('b', 2)]?;
+    /// # assert!(*rt; keys_distinct(&pairs));
     /// let map = VecMap::from_vec_unchecked(pairs);
     /// map.as_slice() // [('a', 1), ('b', 2)]
     /// ```

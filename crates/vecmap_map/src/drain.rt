@@ -30,6 +30,7 @@ use vecmap_base::{move_range_last, reverse_from};
 ///
 /// ```
 /// let mut map = vecmap!(alloc; 'a' => 1, 'b' => 2, 'c' => 3);
+/// # assert!(*rt; 1 <= map.len());
 /// let mut drain = map.drain(1..);
 /// drain.next_back() // Some(('c', 3))
 /// drain.len() // 1
@@ -59,6 +60,7 @@ impl<'a, K: Drop, V: Drop> Drain<'a, K, V> {
     ///
     /// ```
     /// let mut map = vecmap!(alloc; 'a' => 1, 'b' => 2, 'c' => 3);
+    /// # assert!(*rt; map.len() == 3);
     /// Drain::over(&mut map, 1, 3).next() // Some(('b', 2))
     /// map.as_slice() // [('a', 1)]
     /// ```

@@ -30,6 +30,7 @@ impl<K, V> VecMap<K, V> {
 ///
 /// ```
 /// let map = vecmap!(alloc; 'a' => 1, 'b' => 2);
+/// # assert!(*rt; 1 < map.len());
 /// map[1] // 2
 /// ```
 impl<K, V> Index<usize> for VecMap<K, V> {
@@ -54,6 +55,7 @@ impl<K, V> Index<usize> for VecMap<K, V> {
 ///
 /// ```
 /// let mut map = vecmap!(alloc; 'a' => 1, 'b' => 2);
+/// # assert!(*rt; 1 < map.len());
 /// map[1] = 3;
 /// map.as_slice() // [('a', 1), ('b', 3)]
 /// ```
@@ -83,6 +85,7 @@ impl<K, V> IndexMut<usize> for VecMap<K, V> {
 ///
 /// ```
 /// let map = vecmap!(alloc; 'a' => 1, 'b' => 2);
+/// # assert!(*rt; map.contains_key(&'b'));
 /// map[&'b'] // 2
 /// ```
 impl<'q, K: Eq, V> Index<&'q K> for VecMap<K, V> {
@@ -111,6 +114,7 @@ impl<'q, K: Eq, V> Index<&'q K> for VecMap<K, V> {
 ///
 /// ```
 /// let mut map = vecmap!(alloc; 'a' => 1, 'b' => 2);
+/// # assert!(*rt; map.contains_key(&'b'));
 /// map[&'b'] = 3;
 /// map.as_slice() // [('a', 1), ('b', 3)]
 /// ```
@@ -141,6 +145,7 @@ impl<'q, K: Eq, V> IndexMut<&'q K> for VecMap<K, V> {
 ///
 /// ```
 /// let map = vecmap!(alloc; String::from_str(alloc, "a")? => 1);
+/// # assert!(*rt; map.contains_key("a"));
 /// map["a"] // 1
 /// ```
 impl<'q, V> Index<&'q str> for VecMap<String, V> {
@@ -170,6 +175,7 @@ impl<'q, V> Index<&'q str> for VecMap<String, V> {
 ///
 /// ```
 /// let mut map = vecmap!(alloc; String::from_str(alloc, "a")? => 1);
+/// # assert!(*rt; map.contains_key("a"));
 /// map["a"] = 3;
 /// map.get("a") // Some(&3)
 /// ```
@@ -201,6 +207,7 @@ impl<'q, V> IndexMut<&'q str> for VecMap<String, V> {
 ///
 /// ```
 /// let map = vecmap!(alloc; "a" => 1, "b" => 2);
+/// # assert!(*rt; map.contains_key("b"));
 /// map["b"] // 2
 /// ```
 impl<'q, 'k, V> Index<&'q str> for VecMap<&'k str, V> {

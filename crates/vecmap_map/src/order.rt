@@ -43,6 +43,7 @@ impl<K, V> VecMap<K, V> {
     ///
     /// ```
     /// let mut map = vecmap!(alloc; 'a' => 1, 'b' => 2, 'c' => 3);
+    /// # assert!(*rt; 2 < map.len());
     /// map.swap_indices(0, 2);
     /// map.as_slice() // [('c', 3), ('b', 2), ('a', 1)]
     /// ```

@@ -86,6 +86,7 @@ impl<K, V> VecMap<K, V> {
     ///
     /// ```
     /// let mut map = vecmap!(alloc; 'a' => 1, 'b' => 2, 'c' => 3);
+    /// # assert!(*rt; 1 <= map.len());
     /// let part = map.split_off(1)?;
     /// map.as_slice() // [('a', 1)]
     /// part.as_slice() // [('b', 2), ('c', 3)]
@@ -124,6 +125,7 @@ impl<K, V> VecMap<K, V> {
     ///
     /// ```
     /// let mut map = vecmap!(alloc; 'a' => 1, 'b' => 2, 'c' => 3);
+    /// # assert!(*rt; 2 <= map.len());
     /// map.drain(..2).next() // Some(('a', 1))
     /// map.as_slice() // [('c', 3)]
     /// ```
@@ -271,6 +273,7 @@ impl<K, V> VecMap<K, V> {
     ///
     /// ```
     /// let mut map = vecmap!(alloc; 'a' => 1, 'b' => 2, 'c' => 3);
+    /// # assert!(*rt; 0 < map.len());
     /// map.remove_index(0) // ('a', 1)
     /// map.as_slice() // [('b', 2), ('c', 3)]
     /// ```
@@ -345,6 +348,7 @@ impl<K, V> VecMap<K, V> {
     ///
     /// ```
     /// let mut map = vecmap!(alloc; 'a' => 1, 'b' => 2, 'c' => 3);
+    /// # assert!(*rt; 0 < map.len());
     /// map.swap_remove_index(0) // ('a', 1)
     /// map.as_slice() // [('c', 3), ('b', 2)]
     /// ```

@@ -74,6 +74,7 @@ impl<T: Eq> VecSet<T> {
     ///
     /// ```
     /// let items = vec![in alloc; 2, 1]?;
+    /// # assert!(*rt; items_distinct(&items));
     /// let set = VecSet::from_vec_unchecked(items);
     /// set.as_slice() // [2, 1]
     /// ```

@@ -30,6 +30,7 @@ use vecmap_base::{move_range_last, reverse_from};
 ///
 /// ```
 /// let mut set = vecset!(alloc; 1, 2, 3);
+/// # assert!(*rt; 1 <= set.len());
 /// let mut drain = set.drain(1..);
 /// drain.next_back() // Some(3)
 /// drain.len() // 1
@@ -60,6 +61,7 @@ impl<'a, T: Eq + Drop> Drain<'a, T> {
     ///
     /// ```
     /// let mut set = vecset!(alloc; 1, 2, 3);
+    /// # assert!(*rt; set.len() == 3);
     /// Drain::over(&mut set, 1, 3).next() // Some(2)
     /// set.as_slice() // [1]
     /// ```

@@ -18,6 +18,7 @@ use std::ops::Index;
 ///
 /// ```
 /// let set = vecset!(alloc; 2, 1);
+/// # assert!(*rt; 1 < set.len());
 /// set[1] // 1
 /// ```
 impl<T: Eq> Index<usize> for VecSet<T> {

@@ -43,6 +43,7 @@ impl<T: Eq> VecSet<T> {
     ///
     /// ```
     /// let mut set = vecset!(alloc; 1, 2, 3);
+    /// # assert!(*rt; 2 < set.len());
     /// set.swap_indices(0, 2);
     /// set.as_slice() // [3, 2, 1]
     /// ```

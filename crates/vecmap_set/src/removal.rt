@@ -90,6 +90,7 @@ impl<T: Eq> VecSet<T> {
     ///
     /// ```
     /// let mut set = vecset!(alloc; 1, 2, 3);
+    /// # assert!(*rt; 1 <= set.len());
     /// let part = set.split_off(1)?;
     /// set.as_slice() // [1]
     /// part.as_slice() // [2, 3]
@@ -130,6 +131,7 @@ impl<T: Eq> VecSet<T> {
     ///
     /// ```
     /// let mut set = vecset!(alloc; 1, 2, 3);
+    /// # assert!(*rt; 2 <= set.len());
     /// set.drain(..2).next() // Some(1)
     /// set.as_slice() // [3]
     /// ```
@@ -262,6 +264,7 @@ impl<T: Eq> VecSet<T> {
     ///
     /// ```
     /// let mut set = vecset!(alloc; 1, 2, 3);
+    /// # assert!(*rt; 0 < set.len());
     /// set.remove_index(0) // 1
     /// set.as_slice() // [2, 3]
     /// ```
@@ -320,6 +323,7 @@ impl<T: Eq> VecSet<T> {
     ///
     /// ```
     /// let mut set = vecset!(alloc; 1, 2, 3);
+    /// # assert!(*rt; 0 < set.len());
     /// set.swap_remove_index(0) // 1
     /// set.as_slice() // [3, 2]
     /// ```

@@ -1,0 +1,16 @@
+//! Made by `.ci/examples --write`: the modules of examples.
+mod distinct;
+mod drain;
+mod equality;
+mod equivalent;
+mod items;
+mod iter;
+mod iter_mut;
+mod lookup;
+mod moving;
+mod refused;
+mod relations;
+mod repeats;
+mod retain;
+mod search;
+mod steps;

@@ -1,0 +1,43 @@
+//! Made by `.ci/examples --write` from the doc comments of `vecmap_base/src/lookup.rt`.
+use crate::checks::{assert_is, granted};
+use std::alloc::Global;
+use std::process::Abort;
+use vecmap_base::{find, find_item, find_item_str, find_str, is_in};
+
+fn shows_find(rt: &impl Abort) {
+    assert_is(rt, find(&[('a', 1), ('b', 2)], &'b'), Some(1));
+}
+
+fn shows_find_item(rt: &impl Abort) {
+    assert_is(rt, find_item(&['a', 'b'], &'b'), Some(1));
+}
+
+fn shows_find_str(rt: &impl Abort, alloc: Global) {
+    let pairs = granted(
+        rt,
+        vec![in alloc; (granted(rt, String::from_str(alloc, "a")), 1)],
+    );
+    assert_is(rt, find_str(&pairs, "a"), Some(0));
+}
+
+fn shows_find_item_str(rt: &impl Abort, alloc: Global) {
+    let items = granted(
+        rt,
+        vec![in alloc; granted(rt, String::from_str(alloc, "a"))],
+    );
+    assert_is(rt, find_item_str(&items, "a"), Some(0));
+}
+
+fn shows_is_in(rt: &impl Abort) {
+    assert_is(rt, is_in(&['a', 'b'], &'c'), false);
+}
+
+#[test]
+fn examples_of_vecmap_base_lookup_hold(rt: HostRuntime) {
+    let alloc = rt.alloc();
+    shows_find(&rt);
+    shows_find_item(&rt);
+    shows_find_str(&rt, alloc);
+    shows_find_item_str(&rt, alloc);
+    shows_is_in(&rt);
+}

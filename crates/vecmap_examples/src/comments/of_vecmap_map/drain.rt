@@ -1,0 +1,30 @@
+//! Made by `.ci/examples --write` from the doc comments of `vecmap_map/src/drain.rt`.
+use crate::checks::{assert_is, assert_pairs, granted};
+use crate::comments::made::vecmap_a_1_b_2_c_3;
+use std::alloc::Global;
+use std::process::Abort;
+use vecmap::map::Drain;
+
+fn shows_drain(rt: &impl Abort, alloc: Global) {
+    let mut map = granted(rt, vecmap_a_1_b_2_c_3(alloc));
+    assert!(*rt; 1 <= map.len());
+    let mut drain = map.drain(1..);
+    assert_is(rt, drain.next_back(), Some(('c', 3)));
+    assert_is(rt, drain.len(), 1);
+    drop(drain);
+    assert_pairs(rt, &map, &[('a', 1)]);
+}
+
+fn shows_over(rt: &impl Abort, alloc: Global) {
+    let mut map = granted(rt, vecmap_a_1_b_2_c_3(alloc));
+    assert!(*rt; map.len() == 3);
+    assert_is(rt, Drain::over(&mut map, 1, 3).next(), Some(('b', 2)));
+    assert_pairs(rt, &map, &[('a', 1)]);
+}
+
+#[test]
+fn examples_of_vecmap_map_drain_hold(rt: HostRuntime) {
+    let alloc = rt.alloc();
+    shows_drain(&rt, alloc);
+    shows_over(&rt, alloc);
+}

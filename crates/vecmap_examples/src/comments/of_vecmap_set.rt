@@ -1,0 +1,19 @@
+//! Made by `.ci/examples --write`: the modules of examples.
+mod bulk;
+mod cloning;
+mod conversion;
+mod drain;
+mod equality;
+mod extending;
+mod formatting;
+mod indexing;
+mod insertion;
+mod iteration;
+mod lazy;
+mod lookup;
+mod make;
+mod operators;
+mod order;
+mod removal;
+mod room;
+mod search;

@@ -1,0 +1,30 @@
+//! Made by `.ci/examples --write` from the doc comments of `vecmap_set/src/drain.rt`.
+use crate::checks::{assert_is, assert_items, granted};
+use crate::comments::made::vecset_1_2_3;
+use std::alloc::Global;
+use std::process::Abort;
+use vecmap::set::Drain;
+
+fn shows_drain(rt: &impl Abort, alloc: Global) {
+    let mut set = granted(rt, vecset_1_2_3(alloc));
+    assert!(*rt; 1 <= set.len());
+    let mut drain = set.drain(1..);
+    assert_is(rt, drain.next_back(), Some(3));
+    assert_is(rt, drain.len(), 1);
+    drop(drain);
+    assert_items(rt, &set, &[1]);
+}
+
+fn shows_over(rt: &impl Abort, alloc: Global) {
+    let mut set = granted(rt, vecset_1_2_3(alloc));
+    assert!(*rt; set.len() == 3);
+    assert_is(rt, Drain::over(&mut set, 1, 3).next(), Some(2));
+    assert_items(rt, &set, &[1]);
+}
+
+#[test]
+fn examples_of_vecmap_set_drain_hold(rt: HostRuntime) {
+    let alloc = rt.alloc();
+    shows_drain(&rt, alloc);
+    shows_over(&rt, alloc);
+}

@@ -1,0 +1,27 @@
+//! Made by `.ci/examples --write` from the doc comments of `vecmap_set/src/lazy/union.rt`.
+use crate::checks::{assert_is, granted};
+use crate::comments::made::{vecset_1_2, vecset_2_3};
+use std::alloc::Global;
+use std::process::Abort;
+
+fn shows_union(rt: &impl Abort, alloc: Global) {
+    let set = granted(rt, vecset_1_2(alloc));
+    let other = granted(rt, vecset_2_3(alloc));
+    assert_is(rt, set.union(&other).size_hint(), (2, Some(4)));
+}
+
+fn shows_clone(rt: &impl Abort, alloc: Global) {
+    let set = granted(rt, vecset_1_2(alloc));
+    let other = granted(rt, vecset_2_3(alloc));
+    let mut items = set.union(&other);
+    assert_is(rt, items.next(), Some(&1));
+    assert_is(rt, items.clone().next(), Some(&2));
+    assert_is(rt, items.next(), Some(&2));
+}
+
+#[test]
+fn examples_of_vecmap_set_lazy_union_hold(rt: HostRuntime) {
+    let alloc = rt.alloc();
+    shows_union(&rt, alloc);
+    shows_clone(&rt, alloc);
+}

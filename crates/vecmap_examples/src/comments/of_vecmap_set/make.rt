@@ -1,0 +1,69 @@
+//! Made by `.ci/examples --write` from the doc comments of `vecmap_set/src/make.rt`.
+use crate::checks::{assert_is, assert_items, assert_list, assert_text, granted};
+use crate::comments::made::{vecset_1_2, vecset_2_1};
+use std::alloc::Global;
+use std::mem;
+use std::process::Abort;
+use vecmap::{VecMap, VecSet};
+
+fn shows_new(rt: &impl Abort, alloc: Global) {
+    let set: VecSet<u32> = VecSet::new(alloc);
+    assert_is(rt, (set.len(), set.capacity()), (0, 0));
+}
+
+fn shows_with_capacity(rt: &impl Abort, alloc: Global) {
+    let set: VecSet<u32> = granted(rt, VecSet::with_capacity(alloc, 4));
+    assert_is(rt, set.is_empty(), true);
+    assert_is(rt, 4 <= set.capacity(), true);
+}
+
+fn shows_clone(rt: &impl Abort, alloc: Global) {
+    let set = granted(rt, vecset_1_2(alloc));
+    let mut copy = granted(rt, set.clone());
+    granted(rt, copy.insert(3));
+    assert_is(rt, (set.len(), copy.len()), (2, 3));
+}
+
+fn shows_as_slice(rt: &impl Abort, alloc: Global) {
+    let set = granted(rt, vecset_2_1(alloc));
+    assert_items(rt, &set, &[2, 1]);
+}
+
+fn shows_into_vec(rt: &impl Abort, alloc: Global) {
+    let set = granted(rt, vecset_2_1(alloc));
+    assert_list(rt, set.into_vec().as_slice(), &[2, 1]);
+}
+
+fn shows_allocator(rt: &impl Abort, alloc: Global) {
+    let names: VecSet<String> = VecSet::new(alloc);
+    assert_text(rt, String::from_str(*names.allocator(), "a"), "a");
+}
+
+fn shows_made_with(rt: &impl Abort, alloc: Global) {
+    let mut groups: VecMap<char, VecSet<u32>> = VecMap::new(alloc);
+    granted(rt, granted(rt, groups.entry('a').or_default()).insert(1));
+    assert_is(
+        rt,
+        groups.get(&'a').map(VecSet::as_slice),
+        Some([1].as_slice()),
+    );
+}
+
+fn shows_emptied(rt: &impl Abort, alloc: Global) {
+    let mut set = granted(rt, vecset_2_1(alloc));
+    let taken = granted(rt, mem::try_take(&mut set));
+    assert_is(rt, (taken.len(), set.len()), (2, 0));
+}
+
+#[test]
+fn examples_of_vecmap_set_make_hold(rt: HostRuntime) {
+    let alloc = rt.alloc();
+    shows_new(&rt, alloc);
+    shows_with_capacity(&rt, alloc);
+    shows_clone(&rt, alloc);
+    shows_as_slice(&rt, alloc);
+    shows_into_vec(&rt, alloc);
+    shows_allocator(&rt, alloc);
+    shows_made_with(&rt, alloc);
+    shows_emptied(&rt, alloc);
+}

@@ -1,0 +1,4 @@
+//! The examples of the pages for users.
+pub mod calling;
+pub mod porting;
+pub mod readme;

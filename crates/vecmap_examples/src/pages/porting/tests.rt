@@ -1,0 +1,157 @@
+//! Tests of the functions of the page.
+use super::bulk::{added, first_out, lengths, letters, sorted};
+use super::calls::{count, print_counts, references, sort_by_digits};
+use super::closures::{copy, drop_from, number_of, push_if_present, sort_and_count};
+use super::order::Order;
+use super::traits::{
+    Config, LineError, count_one, forget, lent, parsed, parted, push_or_make, sort_by_text,
+    sort_down, with_port,
+};
+use std::alloc::Global;
+use std::test::Fail;
+use vecmap::{VecMap, vecmap, vecset};
+
+fn shows_orders(alloc: Global) -> Result<bool, Fail> {
+    let mut order = Order::from_slice(alloc, &[("tea", 2), ("milk", 1)])?;
+    let copy = order.clone()?;
+    order.add("tea", 3)?;
+    Ok(order.count("tea") == 5 && order.total() == 6 && copy.total() == 3)
+}
+
+fn shows_bulk(alloc: Global) -> Result<bool, Fail> {
+    let words = lengths(alloc, &["a", "to", "a"])?;
+    let more = vecmap!(alloc; 2 => 'x', 3 => 'c');
+    let map = letters(alloc, &more)?;
+    Ok(
+        words.as_slice() == [("a", 1), ("to", 2)].as_slice()
+            && map.as_slice() == [(1, 'a'), (2, 'x'), (3, 'c')].as_slice(),
+    )
+}
+
+fn shows_sets_and_places(alloc: Global) -> Result<bool, Fail> {
+    let mut map = vecmap!(alloc; 4 => 'd');
+    let both = (vecset!(alloc; 1, 2), vecset!(alloc; 2, 3));
+    Ok(
+        first_out(&mut map) == Some((4, 'd'))
+            && first_out(&mut map).is_none()
+            && added(&both.0, &both.1)?.as_slice() == [3].as_slice()
+            && sorted(alloc)?.as_slice() == [1, 2, 3].as_slice(),
+    )
+}
+
+fn shows_references_and_digits(alloc: Global) -> Result<bool, Fail> {
+    let references = references(alloc, &[1, 2, 1])?;
+    let mut map = vecmap!(alloc; 'a' => 9, 'b' => 10, 'c' => 1);
+    sort_by_digits(alloc, &mut map)?;
+    Ok(
+        references.as_slice() == [&1, &2].as_slice()
+            && map.as_slice() == [('c', 1), ('b', 10), ('a', 9)].as_slice(),
+    )
+}
+
+fn shows_a_derived_clone(alloc: Global) -> Result<bool, Fail> {
+    let config = Config {
+        sections: VecMap::new(alloc),
+        flags: vecset!(alloc; 'x'),
+    };
+    let copy = with_port(&config, 80)?;
+    Ok(
+        config.sections.is_empty()
+            && copy.flags.as_slice() == ['x'].as_slice()
+            && copy
+                .sections
+                .get("server")
+                .and_then(|section| section.get("port"))
+                == Some(&80),
+    )
+}
+
+fn shows_collecting_that_may_fail(alloc: Global) -> Result<bool, Fail> {
+    let numbers = parsed(alloc, &["7", "10", "7"]);
+    let refused = parsed(alloc, &["7", "x", "10"]);
+    Ok(
+        numbers.is_ok_and(|map| map.as_slice() == [("7", 7), ("10", 10)].as_slice())
+            && matches!(refused, Err(LineError::NoNumber)),
+    )
+}
+
+fn shows_parts(alloc: Global) -> Result<bool, Fail> {
+    let (low, high) = parted(alloc, vecmap!(alloc; 1 => 10, 2 => 30, 3 => 20), 25)?;
+    Ok(low.as_slice() == [(1, 10), (3, 20)].as_slice() && high.as_slice() == [(2, 30)].as_slice())
+}
+
+fn shows_entries(alloc: Global) -> Result<bool, Fail> {
+    let mut lists = VecMap::new(alloc);
+    push_or_make(&mut lists, 1, 10)?;
+    push_or_make(&mut lists, 1, 20)?;
+    let mut counts = VecMap::new(alloc);
+    count_one(&mut counts, "a")?;
+    count_one(&mut counts, "a")?;
+    Ok(
+        lists.get(&1).map(Vec::as_slice) == Some([10, 20].as_slice())
+            && counts.as_slice() == [("a", 2)].as_slice(),
+    )
+}
+
+fn shows_orders_and_closures(alloc: Global) -> Result<bool, Fail> {
+    let mut map = vecmap!(alloc; 1 => 9, 3 => 10, 2 => 8);
+    sort_down(&mut map)?;
+    let down = map.as_slice() == [(3, 10), (2, 8), (1, 9)].as_slice();
+    sort_by_text(alloc, &mut map)?;
+    let by_text = map.as_slice() == [(3, 10), (2, 8), (1, 9)].as_slice();
+    forget(&mut map, 2);
+    Ok(
+        down && by_text
+            && map.as_slice() == [(3, 10), (1, 9)].as_slice()
+            && lent(alloc, &[2, 1, 2])?.as_slice() == [&2, &1].as_slice(),
+    )
+}
+
+fn shows_closures_that_count(alloc: Global) -> Result<bool, Fail> {
+    let mut map = vecmap!(alloc; 1 => 30, 2 => 10, 3 => 20);
+    let compared = sort_and_count(&mut map)?;
+    let sorted = map.as_slice() == [(2, 10), (3, 20), (1, 30)].as_slice();
+    let dropped = drop_from(&mut map, 20);
+    Ok(sorted && compared >= 2 && dropped == 2 && map.as_slice() == [(2, 10)].as_slice())
+}
+
+fn shows_a_copy_and_a_push(alloc: Global) -> Result<bool, Fail> {
+    let maps = vecmap!(alloc; 1 => vecmap!(alloc; 2 => 3));
+    let mut lists = vecmap!(alloc; 1 => vec![in alloc; 10]?);
+    push_if_present(&mut lists, 1, 20)?;
+    push_if_present(&mut lists, 2, 30)?;
+    let names = vecmap!(alloc; String::from_str(alloc, "a")? => 1);
+    Ok(
+        copy(&maps)? == maps
+            && lists.len() == 1
+            && lists.get(&1).map(Vec::as_slice) == Some([10, 20].as_slice())
+            && number_of(&names, String::from_str(alloc, "a")?) == Some(1),
+    )
+}
+
+#[test]
+fn a_count_wraps_and_is_printed(rt: HostRuntime) -> Result<(), Fail> {
+    let mut counts = VecMap::from_slice(rt.alloc(), &[('a', 255)])?;
+    count(&mut counts, 'a')?;
+    count(&mut counts, 'b')?;
+    assert!(rt; counts.as_slice() == [('a', 0), ('b', 1)].as_slice());
+    print_counts(&rt, &counts)?;
+    Ok(())
+}
+
+#[test]
+fn examples_hold(rt: HostRuntime) -> Result<(), Fail> {
+    let alloc = rt.alloc();
+    assert!(rt; shows_orders(alloc)?);
+    assert!(rt; shows_bulk(alloc)?);
+    assert!(rt; shows_sets_and_places(alloc)?);
+    assert!(rt; shows_references_and_digits(alloc)?);
+    assert!(rt; shows_a_derived_clone(alloc)?);
+    assert!(rt; shows_collecting_that_may_fail(alloc)?);
+    assert!(rt; shows_parts(alloc)?);
+    assert!(rt; shows_entries(alloc)?);
+    assert!(rt; shows_orders_and_closures(alloc)?);
+    assert!(rt; shows_closures_that_count(alloc)?);
+    assert!(rt; shows_a_copy_and_a_push(alloc)?);
+    Ok(())
+}
