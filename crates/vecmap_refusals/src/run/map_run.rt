@@ -97,7 +97,7 @@ fn reply_of<'r, K: Eq, V>(
 }
 
 // A command on a map of texts, which clones what it returns.
-#[derive(Clone, Copy, Debug)]
+#[derive(Clone, Copy)]
 enum Reading {
     Get,
     ToVec,
@@ -141,7 +141,7 @@ impl Reading {
 fn is_read(rt: &impl Abort, call: Reading, reply: Option<&MapReply<String, String>>) -> bool {
     match reply {
         Some(reply) => {
-            assert!(*rt; call.is_answered(reply), "another reply to {call:?}");
+            assert!(*rt; call.is_answered(reply), "another reply");
             true
         }
         None => false,
@@ -196,7 +196,7 @@ fn an_index_of_a_map_whose_clone_is_refused_replies_out_of_memory(rt: HostRuntim
 }
 
 // A command that allocates on a full map.
-#[derive(Clone, Copy, Debug)]
+#[derive(Clone, Copy)]
 enum Change {
     InsertFull,
     InsertAt,
@@ -250,7 +250,7 @@ fn is_changed(
 ) -> bool {
     match reply {
         Some(reply) => {
-            assert!(*rt; call.is_answered(reply), "another reply to {call:?}");
+            assert!(*rt; call.is_answered(reply), "another reply");
             assert_pairs(rt, map, left);
             true
         }

@@ -33,7 +33,7 @@ fn reply_of<'r, T: Eq>(
 }
 
 // A command that allocates on a full set.
-#[derive(Clone, Copy, Debug)]
+#[derive(Clone, Copy)]
 enum Change {
     Insert,
     Replace,
@@ -76,7 +76,7 @@ fn is_changed(
 ) -> bool {
     match reply {
         Some(reply) => {
-            assert!(*rt; call.is_answered(reply), "another reply to {call:?}");
+            assert!(*rt; call.is_answered(reply), "another reply");
             assert_items(rt, set, left);
             true
         }
@@ -180,7 +180,7 @@ fn a_command_with_an_equal_element_is_never_refused(rt: HostRuntime) {
 const TEXTS: &[&str] = &["b", "a"];
 
 // A command on a set of texts, which clones what it returns.
-#[derive(Clone, Copy, Debug)]
+#[derive(Clone, Copy)]
 enum Reading {
     Get,
     GetIndex,
@@ -226,16 +226,11 @@ fn texts_of(reply: &SetReply<String>) -> Option<&[String]> {
 }
 
 // Returns whether the command was executed, and not refused. Its reply must have these texts.
-fn is_read(
-    rt: &impl Abort,
-    call: Reading,
-    reply: Option<&SetReply<String>>,
-    wanted: &[&str],
-) -> bool {
+fn is_read(rt: &impl Abort, reply: Option<&SetReply<String>>, wanted: &[&str]) -> bool {
     match reply {
         Some(reply) => {
             let texts = texts_of(reply).unwrap_or(&[]);
-            assert!(*rt; has_texts(texts, wanted), "another reply to {call:?}");
+            assert!(*rt; has_texts(texts, wanted), "not {wanted:?}");
             true
         }
         None => false,
@@ -253,7 +248,7 @@ fn read(
     let commands = one_of(rt, call.create(alloc), call.create(alloc));
     let outcome = run_set(alloc, set, commands);
     assert_texts(rt, set, TEXTS);
-    is_read(rt, call, reply_of(rt, &outcome), wanted)
+    is_read(rt, reply_of(rt, &outcome), wanted)
 }
 
 // Checks a command that clones texts: it is executed, or it is refused, leaves the set unchanged, and is then executed.
