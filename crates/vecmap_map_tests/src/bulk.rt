@@ -1,4 +1,4 @@
-//! Calls that insert many pairs at once, with keys that are equal and not identical.
+//! Calls that insert many pairs at once, and the trait `Extend`, with keys that are equal and not identical.
 use crate::checks::{assert_granted, assert_is, assert_list, assert_pairs, check, granted};
 use std::alloc::{AllocError, Global};
 use std::process::Abort;
@@ -13,14 +13,20 @@ enum Way {
     Extend,
     ExtendRefs,
     ExtendPairs,
+    TraitExtend,
+    TraitExtendRefs,
+    TraitExtendPairs,
 }
 
-const WAYS: [Way; 5] = [
+const WAYS: [Way; 8] = [
     Way::Insert,
     Way::Append,
     Way::Extend,
     Way::ExtendRefs,
     Way::ExtendPairs,
+    Way::TraitExtend,
+    Way::TraitExtendRefs,
+    Way::TraitExtendPairs,
 ];
 
 // Inserts the pairs, one by one.
@@ -60,6 +66,9 @@ fn insert_by(
         Way::Extend => map.extend(pairs.iter().copied()),
         Way::ExtendRefs => map.extend_refs(pairs.iter().map(|pair| (&pair.0, &pair.1))),
         Way::ExtendPairs => map.extend_pairs(pairs),
+        Way::TraitExtend => Extend::extend(map, pairs.iter().copied()),
+        Way::TraitExtendRefs => Extend::extend(map, pairs.iter().map(|pair| (&pair.0, &pair.1))),
+        Way::TraitExtendPairs => Extend::extend(map, pairs),
     }
 }
 
@@ -105,10 +114,6 @@ fn the_last_value_of_a_key_is_found(rt: HostRuntime) {
     assert_last(&rt, &map);
     let map = granted(&rt, VecMap::from_iter(rt.alloc(), pairs));
     assert_last(&rt, &map);
-    let map = granted(&rt, VecMap::from_slice(rt.alloc(), &pairs));
-    assert_last(&rt, &map);
-    let map = granted(&rt, pairs.iter().copied().collect(rt.alloc()));
-    assert_last(&rt, &map);
 }
 
 #[test]
@@ -119,11 +124,6 @@ fn extending_keeps_stored_keys(rt: HostRuntime) {
         assert_granted(&rt, insert_by(rt.alloc(), &mut map, &more, way));
         assert_pairs(&rt, &map, &[(1, 'x', 20), (2, 'z', 30)]);
     }
-    let mut map = granted(&rt, item_map(rt.alloc(), &[(1, 'x', 10)]));
-    let mut other = granted(&rt, VecMap::from_slice(rt.alloc(), &more));
-    assert_granted(&rt, map.append(&mut other));
-    check!(rt; other.is_empty());
-    assert_pairs(&rt, &map, &[(1, 'x', 20), (2, 'z', 30)]);
 }
 
 #[test]

@@ -216,21 +216,6 @@ pub(crate) fn assert_pair<P: Pair + Drop>(
     }
 }
 
-/// Asserts that a call lent a pair of this number, this mark and this value, with its index.
-pub(crate) fn assert_full(
-    rt: &impl Abort,
-    full: Option<(usize, &Item, &u32)>,
-    index: usize,
-    expected: (u32, char, u32),
-) {
-    match full {
-        Some((at, key, value)) => {
-            assert_eq!(*rt; (at, (key.number, key.mark, *value)), (index, expected));
-        }
-        None => panic!(*rt; "no pair, and not {expected:?}"),
-    }
-}
-
 /// Asserts that a lent pair has this number, this mark and this value, and writes another value.
 pub(crate) fn assert_and_write(
     rt: &impl Abort,

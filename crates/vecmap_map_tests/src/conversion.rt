@@ -1,9 +1,8 @@
 //! Conversion from vectors to maps, and from maps to vectors.
 use crate::checks::{assert_granted, assert_is, assert_list, assert_pairs, check, granted};
 use std::alloc::{AllocError, Global};
-use std::process::Abort;
 use vecmap::{VecMap, keys_distinct};
-use vecmap_fixtures::{Item, Log, has_pairs, item_map, make_item, told_pairs};
+use vecmap_fixtures::{Item, Log, make_item, told_pairs};
 
 // Returns the items of these pairs, in a vector.
 fn item_pairs(alloc: Global, pairs: &[(u32, char, u32)]) -> Result<Vec<(Item, u32)>, AllocError> {
@@ -87,32 +86,10 @@ fn a_map_of_a_vector_counts_its_comparisons(rt: HostRuntime) {
 }
 
 #[test]
-fn clones_hold_the_pairs_in_their_order(rt: HostRuntime) {
-    for pairs in [[].as_slice(), [(2, 'b', 20), (1, 'a', 10)].as_slice()] {
-        let map = granted(&rt, item_map(rt.alloc(), pairs));
-        assert_pairs(&rt, &granted(&rt, map.clone()), pairs);
-        check!(rt; has_pairs(&granted(&rt, map.to_vec()), pairs));
-        assert_pairs(&rt, &map, pairs);
-    }
-}
-
-// Asserts whether the keys of these pairs are distinct. If they are, a map of the pairs has them in their order.
-fn assert_distinct(rt: &impl Abort, alloc: Global, pairs: &[(u32, char)], is_distinct: bool) {
-    assert_is(rt, keys_distinct(pairs), is_distinct);
-    let copy = granted(rt, pairs.to_vec(alloc));
-    if keys_distinct(&copy) {
-        let map = VecMap::from_vec_unchecked(copy);
-        assert_is(rt, map.has_distinct_keys(), true);
-        assert_list(rt, map.as_slice(), pairs);
-    }
-}
-
-#[test]
 fn distinct_keys_are_distinguished_from_repeats(rt: HostRuntime) {
-    assert_distinct(&rt, rt.alloc(), &[], true);
-    assert_distinct(&rt, rt.alloc(), &[(1, 'a'), (2, 'a')], true);
-    let repeats = [(1, 'a'), (2, 'b'), (1, 'a')];
-    assert_distinct(&rt, rt.alloc(), &repeats, false);
+    assert_is(&rt, keys_distinct::<u32, char>(&[]), true);
+    assert_is(&rt, keys_distinct(&[(1, 'a'), (2, 'a')]), true);
+    assert_is(&rt, keys_distinct(&[(1, 'a'), (2, 'b'), (1, 'a')]), false);
 }
 
 #[test]

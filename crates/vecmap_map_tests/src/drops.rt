@@ -1,7 +1,7 @@
 //! Keys and values that are passed to a call are dropped once, or returned. `alive` counts those that are not dropped.
 use super::entry::{occupied, vacant};
 use crate::checks::{
-    assert_alive, assert_gives, assert_granted, assert_is, assert_told, check, granted, refused,
+    assert_alive, assert_gives, assert_granted, assert_is, assert_told, check, granted,
 };
 use std::alloc::{AllocError, Global};
 use std::process::Abort;
@@ -278,33 +278,6 @@ fn bulk_calls_drop_what_they_do_not_keep(rt: HostRuntime) {
     let map = VecMap::from_vec_unchecked(pairs);
     assert_is(&rt, log.alive(), 4);
     assert_told(&rt, &map, &[(3, 13), (1, 11)]);
-}
-
-#[test]
-fn a_vacant_entry_keeps_its_key_and_a_value(rt: HostRuntime) {
-    let log = Log::new();
-    let mut map = granted(&rt, told_map(rt.alloc(), &log, &[1, 2]));
-    let entry = vacant(&rt, map.entry(make_told(&log, 3)));
-    let value = granted(&rt, entry.insert(make_told(&log, 30)));
-    assert_is(&rt, (value.number(), log.alive()), (30, 6));
-    let entry = vacant(&rt, map.entry(make_told(&log, 4)));
-    // The map has a clone of the key, and the entry the key itself.
-    let entry = granted(&rt, entry.insert_entry(make_told(&log, 40)));
-    assert_alive(&rt, &log, entry, 9, 8);
-    assert_told(&rt, &map, &[(1, 11), (2, 12), (3, 30), (4, 40)]);
-    drop(map);
-    assert_is(&rt, log.alive(), 0);
-}
-
-#[test]
-fn insert_entry_returns_a_key_whose_clone_is_refused(rt: HostRuntime) {
-    let log = Log::new();
-    log.refuse_clones_of(3);
-    let mut map = granted(&rt, told_map(rt.alloc(), &log, &[1, 2]));
-    let entry = vacant(&rt, map.entry(make_told(&log, 3)));
-    let given = refused(&rt, entry.insert_entry(make_told(&log, 30)));
-    assert_alive(&rt, &log, given, 6, 4);
-    assert_told(&rt, &map, &[(1, 11), (2, 12)]);
 }
 
 #[test]

@@ -1,32 +1,13 @@
 //! Entries of a map, with keys that are equal and not identical.
 use crate::checks::{
-    assert_gives, assert_granted, assert_is, assert_key, assert_list, assert_pair, assert_pairs,
-    check, granted, refused,
+    assert_gives, assert_is, assert_key, assert_list, assert_pair, assert_pairs, check, granted,
 };
 use std::alloc::{AllocError, Global};
 use std::cell::Cell;
 use std::fmt::Debug;
 use std::process::Abort;
-use vecmap::Refused;
 use vecmap::map::{Entry, OccupiedEntry, VacantEntry, VecMap};
 use vecmap_fixtures::{Item, item_map, make_item};
-
-// A key that is compared by its number. A clone of the number 13 fails.
-#[derive(Debug, Drop, PartialEq, Eq)]
-struct Unlucky {
-    number: u32,
-}
-
-impl Clone for Unlucky {
-    fn clone(&self) -> Result<Unlucky, AllocError> {
-        if self.number == 13 {
-            return Err(AllocError);
-        }
-        Ok(Unlucky {
-            number: self.number,
-        })
-    }
-}
 
 // Asserts that an entry is occupied, and returns it.
 pub(crate) fn occupied<'a, K: Drop, V: Drop>(
@@ -75,10 +56,6 @@ fn count_letters(alloc: Global, text: &str) -> Result<VecMap<char, u32>, AllocEr
 #[test]
 fn characters_are_counted(rt: HostRuntime) {
     let counts = granted(&rt, count_letters(rt.alloc(), "a short treatise on fungi"));
-    let found = (counts.get(&'s').copied(), counts.get(&'t').copied());
-    assert_is(&rt, found, (Some(2), Some(3)));
-    let found = (counts.get(&'u').copied(), counts.get(&'y').copied());
-    assert_is(&rt, found, (Some(1), None));
     let expected = [
         ('a', 2),
         (' ', 4),
@@ -98,11 +75,9 @@ fn characters_are_counted(rt: HostRuntime) {
 }
 
 #[test]
-fn an_existing_value_stays(rt: HostRuntime) {
+fn an_existing_value_stays_and_no_closure_is_called(rt: HostRuntime) {
     let mut map = granted(&rt, item_map(rt.alloc(), &[(1, 'x', 7)]));
     let calls = Cell::new(0u32);
-    let value = granted(&rt, map.entry(make_item(1, 'y')).or_insert(9));
-    assert_is(&rt, *value, 7);
     let entry = map.entry(make_item(1, 'y'));
     let value = granted(&rt, entry.or_insert_with(|| counted(&calls, 9)));
     assert_is(&rt, *value, 7);
@@ -112,48 +87,14 @@ fn an_existing_value_stays(rt: HostRuntime) {
         entry.or_insert_with_key(|key| counted(&calls, key.number)),
     );
     assert_is(&rt, *value, 7);
-    let value = granted(&rt, map.entry(make_item(1, 'y')).or_default());
-    assert_is(&rt, *value, 7);
     assert_is(&rt, calls.get(), 0);
     assert_pairs(&rt, &map, &[(1, 'x', 7)]);
-    *granted(&rt, map.entry(make_item(1, 'y')).or_insert(9)) = 8;
-    assert_pairs(&rt, &map, &[(1, 'x', 8)]);
 }
 
 // Counts a call, and returns the value.
 fn counted(calls: &Cell<u32>, value: u32) -> u32 {
     calls.set(calls.get().wrapping_add(1));
     value
-}
-
-#[test]
-fn a_new_key_is_appended_as_it_was_passed(rt: HostRuntime) {
-    let mut map = granted(&rt, item_map(rt.alloc(), &[(1, 'x', 7)]));
-    let value = granted(&rt, map.entry(make_item(2, 'b')).or_insert(20));
-    assert_is(&rt, *value, 20);
-    let value = granted(&rt, map.entry(make_item(3, 'c')).or_insert_with(|| 30));
-    assert_is(&rt, *value, 30);
-    let entry = map.entry(make_item(4, 'd'));
-    let value = granted(
-        &rt,
-        entry.or_insert_with_key(|key| key.number.wrapping_mul(10)),
-    );
-    assert_is(&rt, *value, 40);
-    *value = 41;
-    let value = granted(&rt, map.entry(make_item(5, 'e')).or_default());
-    assert_is(&rt, *value, 0);
-    *value = 50;
-    assert_pairs(
-        &rt,
-        &map,
-        &[
-            (1, 'x', 7),
-            (2, 'b', 20),
-            (3, 'c', 30),
-            (4, 'd', 41),
-            (5, 'e', 50),
-        ],
-    );
 }
 
 // Returns the value of an occupied entry.
@@ -191,25 +132,6 @@ fn an_entry_that_is_only_dropped_leaves_the_list(rt: HostRuntime) {
 }
 
 #[test]
-fn an_occupied_entry_reads_and_writes_its_value(rt: HostRuntime) {
-    let mut map = granted(&rt, item_map(rt.alloc(), &[(1, 'x', 7), (2, 'b', 8)]));
-    let mut entry = occupied(&rt, map.entry(make_item(2, 'y')));
-    assert_key(&rt, entry.key(), (2, 'y'));
-    assert_is(&rt, entry.index(), 1);
-    assert_is(&rt, *entry.get(), 8);
-    *entry.get_mut() = 9;
-    assert_is(&rt, entry.insert(10), 9);
-    assert_is(&rt, *entry.get(), 10);
-    let key = entry.into_key();
-    assert_key(&rt, &key, (2, 'y'));
-    assert_pairs(&rt, &map, &[(1, 'x', 7), (2, 'b', 10)]);
-    let value = occupied(&rt, map.entry(make_item(1, 'y'))).into_mut();
-    assert_is(&rt, *value, 7);
-    *value = 11;
-    assert_pairs(&rt, &map, &[(1, 'x', 11), (2, 'b', 10)]);
-}
-
-#[test]
 fn a_removal_returns_the_stored_key(rt: HostRuntime) {
     let mut map = granted(&rt, item_map(rt.alloc(), &[(1, 'x', 7)]));
     let entry = occupied(&rt, map.entry(make_item(1, 'y')));
@@ -217,13 +139,6 @@ fn a_removal_returns_the_stored_key(rt: HostRuntime) {
     assert_is(&rt, entry.index(), 0);
     assert_pair(&rt, Some(entry.remove_entry()), (1, 'x', 7));
     check!(rt; map.is_empty());
-    let mut map = granted(
-        &rt,
-        item_map(rt.alloc(), &[(1, 'x', 7), (2, 'b', 8), (3, 'c', 9)]),
-    );
-    let entry = occupied(&rt, map.entry(make_item(1, 'y')));
-    assert_pair(&rt, Some(entry.swap_remove_entry()), (1, 'x', 7));
-    assert_pairs(&rt, &map, &[(3, 'c', 9), (2, 'b', 8)]);
 }
 
 // Returns the occupied entry of a name, in a map of three names.
@@ -248,22 +163,6 @@ fn a_removal_of_an_entry_shifts_or_swaps(rt: HostRuntime) {
 }
 
 #[test]
-fn a_vacant_entry_takes_its_value(rt: HostRuntime) {
-    let mut map = granted(&rt, item_map(rt.alloc(), &[(1, 'x', 7)]));
-    let entry = vacant(&rt, map.entry(make_item(2, 'y')));
-    assert_key(&rt, entry.key(), (2, 'y'));
-    assert_is(&rt, entry.index(), 1);
-    let key = entry.into_key();
-    assert_key(&rt, &key, (2, 'y'));
-    assert_pairs(&rt, &map, &[(1, 'x', 7)]);
-    let entry = vacant(&rt, map.entry(make_item(2, 'y')));
-    let value = granted(&rt, entry.insert(8));
-    assert_is(&rt, *value, 8);
-    *value = 9;
-    assert_pairs(&rt, &map, &[(1, 'x', 7), (2, 'y', 9)]);
-}
-
-#[test]
 fn insert_entry_replaces_the_value_alone(rt: HostRuntime) {
     let mut map = granted(&rt, item_map(rt.alloc(), &[(1, 'x', 7)]));
     let entry = granted(&rt, map.entry(make_item(1, 'y')).insert_entry(9));
@@ -283,44 +182,6 @@ fn insert_entry_stores_a_clone_of_a_new_key(rt: HostRuntime) {
     assert_is(&rt, *entry.get(), 9);
     entry.into_key();
     assert_pairs(&rt, &map, &[(1, 'y', 9)]);
-    let entry = vacant(&rt, map.entry(make_item(2, 'z')));
-    let mut entry = granted(&rt, entry.insert_entry(8));
-    assert_key(&rt, entry.key(), (2, 'z'));
-    assert_is(&rt, entry.index(), 1);
-    assert_is(&rt, entry.insert(7), 8);
-    entry.into_key();
-    assert_pairs(&rt, &map, &[(1, 'y', 9), (2, 'z', 7)]);
-}
-
-// Asserts that a call was refused memory, and that it returned the number of the key and the value.
-fn assert_returned<T: Drop>(
-    rt: &impl Abort,
-    outcome: Result<T, Refused<(Unlucky, u32)>>,
-    expected: (u32, u32),
-) {
-    let error = refused(rt, outcome);
-    assert_eq!(*rt; (error.given.0.number, error.given.1), expected);
-}
-
-#[test]
-fn a_refused_clone_returns_the_pair(rt: HostRuntime) {
-    let mut map = VecMap::new(rt.alloc());
-    let entry = map.entry(Unlucky { number: 13 });
-    assert_returned(&rt, entry.insert_entry(9), (13, 9));
-    assert_is(&rt, (map.len(), map.capacity()), (0, 0));
-    let entry = map.entry(Unlucky { number: 12 });
-    granted(&rt, entry.insert_entry(8)).into_key();
-    let entry = vacant(&rt, map.entry(Unlucky { number: 13 }));
-    assert_returned(&rt, entry.insert_entry(9), (13, 9));
-    let found = map.get(&Unlucky { number: 12 }).copied();
-    assert_is(&rt, (map.len(), found), (1, Some(8)));
-
-    // An existing key is not cloned.
-    assert_granted(&rt, map.insert(Unlucky { number: 13 }, 1));
-    let entry = map.entry(Unlucky { number: 13 });
-    granted(&rt, entry.insert_entry(9)).into_key();
-    let found = map.get(&Unlucky { number: 13 }).copied();
-    assert_is(&rt, (map.len(), found), (2, Some(9)));
 }
 
 // Asserts that a value prints a text that is not empty.

@@ -12,20 +12,6 @@ const WRITTEN: [[(u32, char, u32); 3]; 3] = [
 ];
 
 #[test]
-fn brackets_read_and_write_by_index_and_by_key(rt: HostRuntime) {
-    let mut map = granted(&rt, item_map(rt.alloc(), &[(1, 'a', 1), (2, 'b', 2)]));
-    assert!(rt; map.len() == 2);
-    assert_is(&rt, (map[0], map[1]), (1, 2));
-    map[0] = 8;
-    assert_pairs(&rt, &map, &[(1, 'a', 8), (2, 'b', 2)]);
-    let there = make_item(2, 'z');
-    assert!(rt; map.contains_key(&there));
-    assert_is(&rt, map[&there], 2);
-    map[&there] = 9;
-    assert_pairs(&rt, &map, &[(1, 'a', 8), (2, 'b', 9)]);
-}
-
-#[test]
 fn brackets_read_each_value(rt: HostRuntime) {
     let map = granted(&rt, item_map(rt.alloc(), THREE));
     for (index, (number, _, value)) in THREE.iter().enumerate() {
@@ -39,17 +25,13 @@ fn brackets_read_each_value(rt: HostRuntime) {
 }
 
 #[test]
-fn brackets_write_one_value_by_index(rt: HostRuntime) {
+fn brackets_write_one_value(rt: HostRuntime) {
     for (index, written) in WRITTEN.iter().enumerate() {
         let mut map = granted(&rt, item_map(rt.alloc(), THREE));
         assert!(rt; index < map.len());
         map[index] = 5;
         assert_pairs(&rt, &map, written);
     }
-}
-
-#[test]
-fn brackets_write_one_value_by_key(rt: HostRuntime) {
     for (number, written) in [7, 8, 9].iter().zip(&WRITTEN) {
         let mut map = granted(&rt, item_map(rt.alloc(), THREE));
         let key = make_item(*number, 'z');

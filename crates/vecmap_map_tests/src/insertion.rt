@@ -1,7 +1,5 @@
 //! Insertion into a map, with keys that are equal and not identical.
-use crate::checks::{
-    assert_gives, assert_granted, assert_is, assert_list, assert_pair, assert_pairs, check, granted,
-};
+use crate::checks::{assert_gives, assert_list, assert_pair, assert_pairs, check, granted};
 use vecmap::VecMap;
 use vecmap_fixtures::{item_map, make_item};
 
@@ -12,19 +10,6 @@ fn an_insert_of_an_equal_key_keeps_the_stored_one(rt: HostRuntime) {
     assert_gives(&rt, map.insert(make_item(1, 'y'), 20), Some(10));
     assert_gives(&rt, map.insert(make_item(2, 'b'), 30), None);
     assert_pairs(&rt, &map, &[(1, 'x', 20), (2, 'b', 30)]);
-}
-
-#[test]
-fn insert_key_stores_the_new_key(rt: HostRuntime) {
-    let mut map = granted(&rt, item_map(rt.alloc(), &[(1, 'x', 10), (2, 'b', 20)]));
-    let room = map.capacity();
-    let old = granted(&rt, map.insert_key(make_item(1, 'y'), 30));
-    assert_pair(&rt, old, (1, 'x', 10));
-    assert_pairs(&rt, &map, &[(1, 'y', 30), (2, 'b', 20)]);
-    assert_is(&rt, map.capacity(), room);
-    let old = granted(&rt, map.insert_key(make_item(3, 'c'), 40));
-    check!(rt; old.is_none());
-    assert_pairs(&rt, &map, &[(1, 'y', 30), (2, 'b', 20), (3, 'c', 40)]);
 }
 
 #[test]
@@ -45,13 +30,6 @@ fn insert_full_returns_the_index(rt: HostRuntime) {
     assert_gives(&rt, map.insert_full("b", 2), (1, None));
     assert_gives(&rt, map.insert_full("b", 3), (1, Some(2)));
     assert_list(&rt, map.as_slice(), &[("a", 1), ("b", 3)]);
-}
-
-#[test]
-fn insert_full_keeps_the_stored_key(rt: HostRuntime) {
-    let mut map = granted(&rt, item_map(rt.alloc(), &[(1, 'x', 10), (2, 'b', 20)]));
-    assert_gives(&rt, map.insert_full(make_item(2, 'y'), 30), (1, Some(20)));
-    assert_pairs(&rt, &map, &[(1, 'x', 10), (2, 'b', 30)]);
 }
 
 #[test]
@@ -89,23 +67,4 @@ fn insert_at_stores_the_new_key(rt: HostRuntime) {
     let mut map = granted(&rt, item_map(rt.alloc(), &[(1, 'x', 10)]));
     assert_gives(&rt, map.insert_at(0, make_item(1, 'y'), 20), Some((0, 10)));
     assert_pairs(&rt, &map, &[(1, 'y', 20)]);
-    assert_gives(&rt, map.insert_at(0, make_item(2, 'z'), 30), None);
-    assert_pairs(&rt, &map, &[(2, 'z', 30), (1, 'y', 20)]);
-    assert!(rt; 1 <= map.len());
-    assert_gives(&rt, map.insert_at(0, make_item(1, 'w'), 40), Some((1, 20)));
-    assert_pairs(&rt, &map, &[(1, 'w', 40), (2, 'z', 30)]);
-}
-
-#[test]
-fn a_full_map_takes_an_existing_key_without_memory(rt: HostRuntime) {
-    let mut map = VecMap::new(rt.alloc());
-    assert_granted(&rt, map.reserve_exact(2));
-    let room = map.capacity();
-    for number in 0..2u32 {
-        assert_gives(&rt, map.insert(number, 'a'), None);
-    }
-    assert_is(&rt, (map.len(), map.capacity()), (room, room));
-    assert_gives(&rt, map.insert(1, 'b'), Some('a'));
-    assert_list(&rt, map.as_slice(), &[(0, 'a'), (1, 'b')]);
-    assert_is(&rt, map.capacity(), room);
 }

@@ -33,10 +33,6 @@ mod entry;
 #[cfg(test)]
 mod equality;
 #[cfg(test)]
-mod extending;
-#[cfg(test)]
-mod formatting;
-#[cfg(test)]
 mod hints;
 #[cfg(test)]
 mod indexing;
@@ -48,8 +44,6 @@ mod iteration;
 mod lending;
 #[cfg(test)]
 mod lookup;
-#[cfg(test)]
-mod make;
 #[cfg(test)]
 mod mutable_keys;
 #[cfg(test)]

@@ -1,14 +1,9 @@
 //! The order of a map's pairs.
-use crate::checks::{assert_granted, assert_is, assert_list, assert_pairs, check, granted};
+use crate::checks::{assert_granted, assert_is, assert_list, check, granted};
 use std::alloc::{AllocError, Global};
 use std::cell::Cell;
 use std::process::Abort;
 use vecmap::VecMap;
-use vecmap_fixtures::{Item, item_map, repeating_map};
-
-const MIXED: &[(u32, char, u32)] = &[(4, 'a', 2), (1, 'b', 1), (3, 'c', 2), (2, 'd', 1)];
-
-const BY_VALUE: &[(u32, char, u32)] = &[(1, 'b', 1), (2, 'd', 1), (4, 'a', 2), (3, 'c', 2)];
 
 // The order of the numbers before a sort.
 #[derive(Clone, Copy)]
@@ -131,16 +126,6 @@ fn swap_indices_swaps_two_pairs(rt: HostRuntime) {
     );
 }
 
-#[test]
-fn reverse_reverses_the_order(rt: HostRuntime) {
-    let mut map = granted(
-        &rt,
-        VecMap::from_slice(rt.alloc(), &[("a", 1), ("b", 2), ("c", 3)]),
-    );
-    map.reverse();
-    assert_list(&rt, map.as_slice(), &[("c", 3), ("b", 2), ("a", 1)]);
-}
-
 // Sorts a map by a cached key, its value, and returns how often the closure was called.
 fn count_cached(rt: &impl Abort, map: &mut VecMap<&'static str, u32>) -> u32 {
     let calls = Cell::new(0u32);
@@ -154,46 +139,26 @@ fn count_cached(rt: &impl Abort, map: &mut VecMap<&'static str, u32>) -> u32 {
 
 #[test]
 fn sorts_by_key_and_by_value(rt: HostRuntime) {
-    let mut map = granted(
-        &rt,
-        VecMap::from_slice(rt.alloc(), &[("b", 2), ("a", 1), ("c", 3)]),
+    let pairs = [("b", 2), ("a", 1), ("c", 3)];
+    let (up, down) = (
+        [("a", 1), ("b", 2), ("c", 3)],
+        [("c", 3), ("b", 2), ("a", 1)],
     );
-    check!(rt; count_cached(&rt, &mut map) <= 3);
-    assert_list(&rt, map.as_slice(), &[("a", 1), ("b", 2), ("c", 3)]);
-    assert_granted(&rt, sort_down(&mut map));
-    assert_list(&rt, map.as_slice(), &[("c", 3), ("b", 2), ("a", 1)]);
+    let mut map = granted(&rt, VecMap::from_slice(rt.alloc(), &pairs));
     assert_granted(&rt, map.sort_keys());
-    assert_list(&rt, map.as_slice(), &[("a", 1), ("b", 2), ("c", 3)]);
-    map.sort_unstable_by(|a, b| b.1.cmp(a.1));
-    assert_list(&rt, map.as_slice(), &[("c", 3), ("b", 2), ("a", 1)]);
+    assert_list(&rt, map.as_slice(), &up);
+    map.reverse();
+    assert_list(&rt, map.as_slice(), &down);
     map.sort_unstable_keys();
-    assert_list(&rt, map.as_slice(), &[("a", 1), ("b", 2), ("c", 3)]);
-}
-
-// Sorts a map by the numbers of its keys.
-fn sort_by_number(map: &mut VecMap<Item, u32>) -> Result<(), AllocError> {
-    map.sort_by(|a, b| a.0.number.cmp(&b.0.number))
-}
-
-#[test]
-fn stable_sorts_leave_ties_in_their_order(rt: HostRuntime) {
-    let mut map = granted(&rt, item_map(rt.alloc(), MIXED));
-    let room = map.capacity();
-    assert_granted(&rt, sort_by_value(&mut map));
-    assert_pairs(&rt, &map, BY_VALUE);
-    assert_is(&rt, map.capacity(), room);
-    let mut map = granted(&rt, item_map(rt.alloc(), MIXED));
-    assert_granted(&rt, sort_by_cached_value(&mut map));
-    assert_pairs(&rt, &map, BY_VALUE);
-    // Keys that are equal and not identical.
-    let repeats = [(2, 'a', 1), (1, 'b', 2), (2, 'c', 3), (1, 'd', 4)];
-    let mut map = granted(&rt, repeating_map(rt.alloc(), &repeats));
-    assert_granted(&rt, sort_by_number(&mut map));
-    assert_pairs(
-        &rt,
-        &map,
-        &[(1, 'b', 2), (1, 'd', 4), (2, 'a', 1), (2, 'c', 3)],
-    );
+    assert_list(&rt, map.as_slice(), &up);
+    map.sort_unstable_by(|a, b| b.1.cmp(a.1));
+    assert_list(&rt, map.as_slice(), &down);
+    let mut map = granted(&rt, VecMap::from_slice(rt.alloc(), &pairs));
+    check!(rt; count_cached(&rt, &mut map) <= 3);
+    assert_list(&rt, map.as_slice(), &up);
+    let mut map = granted(&rt, VecMap::from_slice(rt.alloc(), &pairs));
+    assert_granted(&rt, sort_down(&mut map));
+    assert_list(&rt, map.as_slice(), &down);
 }
 
 #[test]
@@ -215,31 +180,14 @@ fn unstable_sorts_of_every_length_and_shape(rt: HostRuntime) {
 }
 
 #[test]
-fn sort_by_value_leaves_equal_values_in_their_order(rt: HostRuntime) {
+fn stable_sorts_by_value_leave_equal_values_in_their_order(rt: HostRuntime) {
     let mut map = granted(
         &rt,
         VecMap::from_slice(rt.alloc(), &[("b", 1), ("a", 2), ("c", 1)]),
     );
+    let mut copy = granted(&rt, map.clone());
     assert_granted(&rt, sort_by_value(&mut map));
     assert_list(&rt, map.as_slice(), &[("b", 1), ("c", 1), ("a", 2)]);
-}
-
-#[test]
-fn sort_keys_sorts_by_key(rt: HostRuntime) {
-    let mut map = granted(
-        &rt,
-        VecMap::from_slice(rt.alloc(), &[("b", 2), ("a", 1), ("c", 3)]),
-    );
-    assert_granted(&rt, map.sort_keys());
-    assert_list(&rt, map.as_slice(), &[("a", 1), ("b", 2), ("c", 3)]);
-}
-
-#[test]
-fn sort_by_sorts_keys_in_reverse(rt: HostRuntime) {
-    let mut map = granted(
-        &rt,
-        VecMap::from_slice(rt.alloc(), &[("b", 2), ("a", 1), ("c", 3)]),
-    );
-    assert_granted(&rt, sort_down(&mut map));
-    assert_list(&rt, map.as_slice(), &[("c", 3), ("b", 2), ("a", 1)]);
+    assert_granted(&rt, sort_by_cached_value(&mut copy));
+    assert_list(&rt, copy.as_slice(), &[("b", 1), ("c", 1), ("a", 2)]);
 }

@@ -1,8 +1,8 @@
 //! Calls on a map by each kind of query: a key, a text, a slice, and a query that is not a key.
 mod matching;
 
-use self::matching::{assert_finds, assert_matches};
-use crate::checks::{assert_granted, assert_is, assert_pairs, check, granted, present};
+use self::matching::assert_matches;
+use crate::checks::{assert_granted, assert_is, assert_pairs, granted};
 use std::alloc::{AllocError, Global};
 use std::borrow::CowStr;
 use std::boxed::{BoxedSlice, BoxedStr};
@@ -11,7 +11,7 @@ use std::rc::RcStr;
 use std::sync::ArcStr;
 use vecmap::VecMap;
 use vecmap::map::MutableKeys;
-use vecmap_fixtures::{Item, Number, make_item, repeating_map};
+use vecmap_fixtures::{Number, make_item, repeating_map};
 
 // Keys of which one is a prefix of another, and one is not ASCII.
 const TEXTS: &[(&'static str, u32)] = &[("age", 10), ("agent", 20), ("max", 30), ("é", 40)];
@@ -83,55 +83,6 @@ fn write_key<K: Eq + Drop>(rt: &impl Abort, map: &mut VecMap<K, u32>, index: usi
     }
 }
 
-// Asserts that a call lent a pair of this index, this text and this value, and returns the value.
-fn present_full<'a>(
-    rt: &impl Abort,
-    full: Option<(usize, &'a String, &'a mut u32)>,
-    expected: (usize, &str, u32),
-) -> &'a mut u32 {
-    match full {
-        Some((index, key, value)) => {
-            assert_eq!(*rt; (index, key.as_str(), *value), expected);
-            value
-        }
-        None => panic!(*rt; "absent"),
-    }
-}
-
-// Asserts that a call returned a pair of this text and this value.
-fn assert_text_pair(rt: &impl Abort, pair: Option<(String, u32)>, expected: (&str, u32)) {
-    match pair {
-        Some((key, value)) => assert_eq!(*rt; (key.as_str(), value), expected),
-        None => panic!(*rt; "absent"),
-    }
-}
-
-// Asserts that a call returned a pair of this mark and this value.
-fn assert_mark_pair(rt: &impl Abort, pair: Option<(Item, u32)>, expected: (char, u32)) {
-    match pair {
-        Some((key, value)) => assert_eq!(*rt; (key.mark, value), expected),
-        None => panic!(*rt; "absent"),
-    }
-}
-
-// Asserts that a query lends a pair of this index, this mark and this value, and writes another key and value.
-fn write_full(
-    rt: &impl Abort,
-    map: &mut VecMap<Item, u32>,
-    query: Number,
-    expected: (usize, char, u32),
-    new: (Item, u32),
-) {
-    match map.get_full_mut2(query) {
-        Some((index, key, value)) => {
-            assert_eq!(*rt; (index, key.mark, *value), expected);
-            *key = new.0;
-            *value = new.1;
-        }
-        None => panic!(*rt; "absent"),
-    }
-}
-
 #[test]
 fn a_key_matches_the_first_equal_key(rt: HostRuntime) {
     let mut map = granted(&rt, repeating_map(rt.alloc(), REPEATS));
@@ -151,27 +102,6 @@ fn a_query_that_is_not_a_key_matches_the_first_equivalent_key(rt: HostRuntime) {
 }
 
 #[test]
-fn a_query_that_is_not_a_key_is_passed_by_value(rt: HostRuntime) {
-    let mut map = granted(&rt, repeating_map(rt.alloc(), REPEATS));
-    assert_is(&rt, map.get_index_of(Number(1)), Some(1));
-    assert_is(&rt, map.get(Number(1)).copied(), Some(20));
-    let new = (make_item(2, 'y'), 70);
-    write_full(&rt, &mut map, Number(1), (1, 'b', 20), new);
-    let written = [
-        (9, 'a', 10),
-        (2, 'y', 70),
-        (5, 'c', 30),
-        (1, 'd', 40),
-        (1, 'e', 50),
-    ];
-    assert_pairs(&rt, &map, &written);
-    assert_mark_pair(&rt, map.remove_entry(Number(1)), ('d', 40));
-    assert_is(&rt, map.swap_remove(Number(9)), Some(10));
-    let left = [(1, 'e', 50), (2, 'y', 70), (5, 'c', 30)];
-    assert_pairs(&rt, &map, &left);
-}
-
-#[test]
 fn a_text_matches_the_string_of_its_bytes_in_a_map(rt: HostRuntime) {
     let mut map = granted(&rt, text_keys(rt.alloc()));
     assert_text_keys(&rt, &map, TEXTS);
@@ -181,25 +111,6 @@ fn a_text_matches_the_string_of_its_bytes_in_a_map(rt: HostRuntime) {
         assert_matches(&rt, &mut map, &key, *place);
         assert_matches(&rt, &mut map, key.as_str(), *place);
     }
-}
-
-#[test]
-fn a_text_is_passed_as_a_literal_in_a_map(rt: HostRuntime) {
-    let mut map = granted(&rt, text_keys(rt.alloc()));
-    check!(rt; map.contains_key("max"));
-    check!(rt; !map.contains_key("ma"));
-    assert_is(&rt, map.get("max").copied(), Some(30));
-    assert_is(&rt, map.get_index_of("max"), Some(2));
-    *present(&rt, map.get_mut("age")) = 11;
-    *present_full(&rt, map.get_full_mut("é"), (3, "é", 40)) = 41;
-    let written = [("age", 11), ("agent", 20), ("max", 30), ("é", 41)];
-    assert_text_keys(&rt, &map, &written);
-    assert_text_pair(&rt, map.swap_remove_entry("age"), ("age", 11));
-    assert_text_keys(&rt, &map, &[("é", 41), ("agent", 20), ("max", 30)]);
-    assert_is(&rt, map.remove("agent"), Some(20));
-    assert_is(&rt, map.remove("agent"), None);
-    assert_is(&rt, map.swap_remove(""), None);
-    assert_text_keys(&rt, &map, &[("é", 41), ("max", 30)]);
 }
 
 #[test]
@@ -246,14 +157,8 @@ fn a_text_made_at_run_time_matches_a_static_key(rt: HostRuntime) {
 }
 
 #[test]
-fn brackets_take_a_text_in_a_map_of_strings(rt: HostRuntime) {
+fn brackets_take_a_text_of_the_first_of_equal_keys(rt: HostRuntime) {
     let mut map = granted(&rt, text_keys(rt.alloc()));
-    assert!(rt; map.contains_key("agent"));
-    assert!(rt; map.contains_key("é"));
-    assert_is(&rt, (map["agent"], map["é"]), (20, 40));
-    map["agent"] = 21;
-    let written = [("age", 10), ("agent", 21), ("max", 30), ("é", 40)];
-    assert_text_keys(&rt, &map, &written);
     let key = granted(&rt, String::from_str(rt.alloc(), "agent"));
     write_key(&rt, &mut map, 0, key);
     assert!(rt; map.contains_key("agent"));
@@ -261,23 +166,15 @@ fn brackets_take_a_text_in_a_map_of_strings(rt: HostRuntime) {
     let key = granted(&rt, String::from_str(rt.alloc(), "agent"));
     assert!(rt; map.contains_key(key.as_str()));
     map[key.as_str()] = 12;
-    let written = [("agent", 12), ("agent", 21), ("max", 30), ("é", 40)];
-    assert_text_keys(&rt, &map, &written);
     assert!(rt; map.contains_key(&key));
-    map[&key] = 13;
-    assert_is(&rt, map.get("agent").copied(), Some(13));
-}
-
-#[test]
-fn brackets_take_a_text_in_a_map_of_static_texts(rt: HostRuntime) {
+    map[&key] = map[&key].wrapping_add(1);
+    let written = [("agent", 13), ("agent", 20), ("max", 30), ("é", 40)];
+    assert_text_keys(&rt, &map, &written);
     let mut map = granted(&rt, static_keys(rt.alloc()));
-    let made = granted(&rt, String::from_str(rt.alloc(), "max"));
-    assert!(rt; map.contains_key("max"));
-    assert!(rt; map.contains_key(made.as_str()));
-    assert_is(&rt, (map["max"], map[made.as_str()]), (30, 30));
-    write_key(&rt, &mut map, 1, "max");
-    assert!(rt; map.contains_key("max"));
-    assert_is(&rt, map["max"], 20);
+    write_key(&rt, &mut map, 1, "agent");
+    write_key(&rt, &mut map, 0, "agent");
+    assert!(rt; map.contains_key(key.as_str()));
+    assert_is(&rt, map[key.as_str()], 10);
 }
 
 #[test]
@@ -290,9 +187,6 @@ fn a_text_matches_the_boxed_text_of_its_bytes_in_a_map(rt: HostRuntime) {
     for (text, place) in QUERIES {
         assert_matches(&rt, &mut map, *text, *place);
     }
-    assert_is(&rt, map.remove("agent"), Some(9));
-    assert_finds(&rt, &map, "max", Some(1));
-    assert_finds(&rt, &map, "agent", None);
 }
 
 #[test]
@@ -305,9 +199,6 @@ fn a_text_matches_the_shared_text_of_its_bytes_in_a_map(rt: HostRuntime) {
     for (text, place) in QUERIES {
         assert_matches(&rt, &mut map, *text, *place);
     }
-    assert_is(&rt, map.remove("agent"), Some(9));
-    assert_finds(&rt, &map, "max", Some(1));
-    assert_finds(&rt, &map, "agent", None);
 }
 
 #[test]
@@ -320,9 +211,6 @@ fn a_text_matches_the_text_that_threads_share_in_a_map(rt: HostRuntime) {
     for (text, place) in QUERIES {
         assert_matches(&rt, &mut map, *text, *place);
     }
-    assert_is(&rt, map.remove("agent"), Some(9));
-    assert_finds(&rt, &map, "max", Some(1));
-    assert_finds(&rt, &map, "agent", None);
 }
 
 #[test]
@@ -339,9 +227,6 @@ fn a_text_matches_a_borrowed_or_an_owned_text_in_a_map(rt: HostRuntime) {
     for (text, place) in QUERIES {
         assert_matches(&rt, &mut map, *text, *place);
     }
-    assert_is(&rt, map.remove("agent"), Some(9));
-    assert_finds(&rt, &map, "max", Some(1));
-    assert_finds(&rt, &map, "agent", None);
 }
 
 #[test]
@@ -354,8 +239,6 @@ fn bytes_match_the_vector_of_them_in_a_map(rt: HostRuntime) {
     for (text, place) in QUERIES {
         assert_matches(&rt, &mut map, text.as_bytes(), *place);
     }
-    assert_finds(&rt, &map, b"max".as_slice(), Some(2));
-    assert_finds(&rt, &map, [].as_slice(), None);
 }
 
 #[test]
@@ -368,8 +251,6 @@ fn bytes_match_the_boxed_slice_of_them_in_a_map(rt: HostRuntime) {
     for (text, place) in QUERIES {
         assert_matches(&rt, &mut map, text.as_bytes(), *place);
     }
-    assert_is(&rt, map.remove(b"agent".as_slice()), Some(9));
-    assert_finds(&rt, &map, b"max".as_slice(), Some(1));
 }
 
 #[test]

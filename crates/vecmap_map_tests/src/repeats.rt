@@ -2,15 +2,14 @@
 use super::entry::occupied;
 use super::lookup::numbered_texts;
 use crate::checks::{
-    assert_full, assert_gives, assert_granted, assert_is, assert_list, assert_pair, assert_pairs,
-    check, granted,
+    assert_gives, assert_granted, assert_is, assert_list, assert_pair, assert_pairs, check, granted,
 };
 use std::alloc::{AllocError, Global};
 use std::process::Abort;
 use vecmap::VecMap;
 use vecmap::map::MutableKeys;
 use vecmap_fixtures::plain::inserted;
-use vecmap_fixtures::{Item, has_pairs, item_map, make_item, repeating_map};
+use vecmap_fixtures::{Item, item_map, make_item, repeating_map};
 
 // Creates a map with the key 1 at three indices, neither at the first nor at the last.
 fn start(alloc: Global) -> Result<VecMap<Item, u32>, AllocError> {
@@ -57,40 +56,14 @@ fn assert_first(rt: &impl Abort, map: &VecMap<Item, u32>, mark: char, value: u32
 }
 
 #[test]
-fn lookups_return_the_first_of_equal_keys(rt: HostRuntime) {
-    let map = granted(&rt, start(rt.alloc()));
-    let key = make_item(1, 'z');
-    assert_first(&rt, &map, 'b', 2);
-    check!(rt; !map.has_distinct_keys());
-    assert!(rt; map.contains_key(&key));
-    assert_is(
-        &rt,
-        (map.get_index_of(&key), map.get(&key).copied()),
-        (Some(1), Some(2)),
-    );
-    assert_pair(&rt, map.get_key_value(&key), (1, 'b', 2));
-    assert_full(&rt, map.get_full(&key), 1, (1, 'b', 2));
-    assert_is(&rt, map[&key], 2);
-}
-
-#[test]
-fn the_first_of_equal_keys_lends_its_value(rt: HostRuntime) {
+fn brackets_use_the_first_of_equal_keys(rt: HostRuntime) {
     let mut map = granted(&rt, start(rt.alloc()));
     let key = make_item(1, 'z');
-    *map.get_mut(&key).expect(&rt, "absent") = 20;
-    assert_first(&rt, &map, 'b', 20);
-    let (index, stored, value) = map.get_full_mut(&key).expect(&rt, "absent");
-    assert_is(&rt, (index, stored.mark, *value), (1, 'b', 20));
-    *value = 30;
-    assert_first(&rt, &map, 'b', 30);
+    check!(rt; !map.has_distinct_keys());
     assert!(rt; map.contains_key(&key));
+    assert_is(&rt, map[&key], 2);
     map[&key] = 40;
     assert_first(&rt, &map, 'b', 40);
-    let (index, stored, value) = map.get_full_mut2(&key).expect(&rt, "absent");
-    assert_is(&rt, (index, stored.mark, *value), (1, 'b', 40));
-    *stored = make_item(1, 'y');
-    *value = 50;
-    assert_first(&rt, &map, 'y', 50);
 }
 
 #[test]
@@ -104,31 +77,15 @@ fn insertions_change_the_value_of_the_first_of_equal_keys(rt: HostRuntime) {
     assert_first(&rt, &map, 'b', 40);
     assert_granted(&rt, map.extend_pairs(&[(make_item(1, 'z'), 50)]));
     assert_first(&rt, &map, 'b', 50);
-}
-
-#[test]
-fn insert_key_replaces_the_first_of_equal_keys(rt: HostRuntime) {
-    let mut map = granted(&rt, start(rt.alloc()));
-    let old = granted(&rt, map.insert_key(make_item(1, 'z'), 20));
-    assert_pair(&rt, old, (1, 'b', 2));
-    assert_first(&rt, &map, 'z', 20);
-}
-
-#[test]
-fn append_changes_the_value_of_the_first_of_equal_keys(rt: HostRuntime) {
-    let mut map = granted(&rt, start(rt.alloc()));
-    let mut other = granted(&rt, item_map(rt.alloc(), &[(1, 'z', 20)]));
+    let mut other = granted(&rt, item_map(rt.alloc(), &[(1, 'z', 60)]));
+    assert_granted(&rt, map.extend_refs(other.iter()));
+    assert_first(&rt, &map, 'b', 60);
+    assert_gives(&rt, other.insert(make_item(1, 'z'), 70), Some(60));
     assert_granted(&rt, map.append(&mut other));
-    assert_first(&rt, &map, 'b', 20);
-    check!(rt; other.is_empty());
-}
-
-#[test]
-fn extend_refs_changes_the_value_of_the_first_of_equal_keys(rt: HostRuntime) {
-    let mut map = granted(&rt, start(rt.alloc()));
-    let more = granted(&rt, item_map(rt.alloc(), &[(1, 'z', 20)]));
-    assert_granted(&rt, map.extend_refs(more.iter()));
-    assert_first(&rt, &map, 'b', 20);
+    assert_first(&rt, &map, 'b', 70);
+    let old = granted(&rt, map.insert_key(make_item(1, 'z'), 80));
+    assert_pair(&rt, old, (1, 'b', 70));
+    assert_first(&rt, &map, 'z', 80);
 }
 
 #[test]
@@ -141,23 +98,6 @@ fn insert_at_moves_the_first_of_equal_keys(rt: HostRuntime) {
         let expected = inserted(rt.alloc(), SHIFTED, place, (1, 'z', 20));
         assert_pairs(&rt, &map, &granted(&rt, expected));
     }
-}
-
-#[test]
-fn removals_remove_the_first_of_equal_keys(rt: HostRuntime) {
-    let key = make_item(1, 'z');
-    let mut map = granted(&rt, start(rt.alloc()));
-    assert_is(&rt, map.remove(&key), Some(2));
-    assert_pairs(&rt, &map, SHIFTED);
-    let mut map = granted(&rt, start(rt.alloc()));
-    assert_pair(&rt, map.remove_entry(&key), (1, 'b', 2));
-    assert_pairs(&rt, &map, SHIFTED);
-    let mut map = granted(&rt, start(rt.alloc()));
-    assert_is(&rt, map.swap_remove(&key), Some(2));
-    assert_pairs(&rt, &map, SWAPPED);
-    let mut map = granted(&rt, start(rt.alloc()));
-    assert_pair(&rt, map.swap_remove_entry(&key), (1, 'b', 2));
-    assert_pairs(&rt, &map, SWAPPED);
 }
 
 #[test]
@@ -251,17 +191,7 @@ fn clones_and_vectors_of_a_map_have_its_repeats(rt: HostRuntime) {
     let pairs = granted(&rt, map.to_vec());
     assert_is(&rt, pairs.len(), 6);
     assert_list(&rt, &pairs, map.as_slice());
-    let mut map = granted(&rt, start(rt.alloc()));
-    map.reverse();
-    let expected = [
-        (8, 'f', 6),
-        (1, 'e', 5),
-        (1, 'd', 4),
-        (5, 'c', 3),
-        (1, 'b', 2),
-        (9, 'a', 1),
-    ];
-    check!(rt; has_pairs(&map.into_vec(), &expected));
+    assert_list(&rt, &map.into_vec(), &pairs);
 }
 
 // Writes the key at an index.

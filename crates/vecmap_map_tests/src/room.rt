@@ -1,32 +1,6 @@
 //! The capacity of a map.
-use crate::checks::{
-    assert_gives, assert_granted, assert_is, assert_list, assert_refused, check, granted,
-};
+use crate::checks::{assert_granted, assert_is, assert_list, assert_refused, granted};
 use vecmap::VecMap;
-
-#[test]
-fn reserved_capacity_takes_insertions(rt: HostRuntime) {
-    let mut map: VecMap<u32, u32> = granted(&rt, VecMap::with_capacity(rt.alloc(), 0));
-    assert_is(&rt, map.capacity(), 0);
-    assert_granted(&rt, map.reserve(3));
-    let room = map.capacity();
-    check!(rt; 3 <= room);
-    for number in 0..3 {
-        assert_gives(&rt, map.insert(number, number), None);
-    }
-    assert_is(&rt, map.capacity(), room);
-    let spare = room.saturating_sub(3);
-    assert_granted(&rt, map.reserve_exact(spare));
-    assert_granted(&rt, map.try_reserve(spare));
-    assert_granted(&rt, map.try_reserve_exact(spare));
-    assert_is(&rt, map.capacity(), room);
-    assert_granted(&rt, map.reserve_exact(room));
-    check!(rt; room.saturating_add(3) <= map.capacity());
-    assert_granted(&rt, map.try_reserve(9));
-    assert_granted(&rt, map.try_reserve_exact(10));
-    check!(rt; 13 <= map.capacity());
-    assert_list(&rt, map.as_slice(), &[(0, 0), (1, 1), (2, 2)]);
-}
 
 #[test]
 fn capacity_past_what_a_vector_holds_is_refused(rt: HostRuntime) {
@@ -41,6 +15,8 @@ fn capacity_past_what_a_vector_holds_is_refused(rt: HostRuntime) {
     assert_is(&rt, map.capacity(), room);
     let refused: Result<VecMap<u32, u32>, _> = VecMap::with_capacity(rt.alloc(), usize::MAX);
     assert_refused(&rt, refused);
+    let none: VecMap<u32, u32> = granted(&rt, VecMap::with_capacity(rt.alloc(), 0));
+    assert_is(&rt, none.capacity(), 0);
 }
 
 #[test]
@@ -58,13 +34,4 @@ fn shrinking_goes_no_lower_than_its_limit(rt: HostRuntime) {
     map.clear();
     map.shrink_to_fit();
     assert_is(&rt, map.capacity(), 0);
-}
-
-#[test]
-fn shrinking_to_fit_keeps_the_pairs(rt: HostRuntime) {
-    let mut map = granted(&rt, VecMap::with_capacity(rt.alloc(), 10));
-    assert_granted(&rt, map.extend([("b", 2), ("a", 1)]));
-    map.shrink_to_fit();
-    assert_list(&rt, map.as_slice(), &[("b", 2), ("a", 1)]);
-    check!(rt; (2..10).contains(&map.capacity()));
 }

@@ -7,16 +7,14 @@
 //! The files in `map` and `set` are named for the modules that they test, but these are by topic:
 //!
 //! - `clones`: keys, values and elements whose clones allocate.
-//! - `drops`: what a refused call keeps, returns or drops.
-//! - `traits`: the traits `Clone` and `Extend`.
+//! - `drops`: what a refused call leaves, returns or drops.
+//! - `traits`: the trait `Extend`.
 #![tactic(auto)]
 
 #[cfg(test)]
 mod checks;
 #[cfg(test)]
 mod document;
-#[cfg(test)]
-mod macros;
 #[cfg(test)]
 mod map;
 #[cfg(test)]

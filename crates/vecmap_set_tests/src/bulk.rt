@@ -1,19 +1,63 @@
-//! Calls that insert many elements at once, with elements that are equal and not identical.
+//! Calls that insert many elements at once, and the trait `Extend`, with elements that are equal and not identical.
 use crate::checks::{assert_granted, assert_is, assert_items, assert_list, check, granted};
+use std::alloc::{AllocError, Global};
 use vecmap::VecSet;
-use vecmap_fixtures::{Hinted, item_set, make_item, set_of};
+use vecmap_fixtures::{Hinted, Item, item_set, make_item, set_of};
+
+// The calls that insert many elements into a set.
+#[derive(Clone, Copy)]
+enum Way {
+    Insert,
+    Append,
+    Extend,
+    ExtendCopied,
+    TraitExtend,
+    TraitExtendCopied,
+}
+
+const WAYS: [Way; 6] = [
+    Way::Insert,
+    Way::Append,
+    Way::Extend,
+    Way::ExtendCopied,
+    Way::TraitExtend,
+    Way::TraitExtendCopied,
+];
+
+// Inserts the elements, one by one.
+fn insert_each(set: &mut VecSet<Item>, items: &[Item]) -> Result<(), AllocError> {
+    for item in items {
+        set.insert(*item)?;
+    }
+    Ok(())
+}
+
+// Inserts the elements.
+fn insert_by(
+    alloc: Global,
+    set: &mut VecSet<Item>,
+    items: &[Item],
+    way: Way,
+) -> Result<(), AllocError> {
+    match way {
+        Way::Insert => insert_each(set, items),
+        Way::Append => set.append(&mut VecSet::from_slice(alloc, items)?),
+        Way::Extend => set.extend(items.iter().copied()),
+        Way::ExtendCopied => set.extend_copied(items),
+        Way::TraitExtend => Extend::extend(set, items.iter().copied()),
+        Way::TraitExtendCopied => Extend::extend(set, items),
+    }
+}
 
 #[test]
 fn all_ways_of_many_elements_agree_with_single_inserts(rt: HostRuntime) {
     let items = [make_item(1, 'f'), make_item(2, 'b'), make_item(1, 's')];
-    let mut extended = VecSet::new(rt.alloc());
-    assert_granted(&rt, extended.extend(items));
-    let mut copied = VecSet::new(rt.alloc());
-    assert_granted(&rt, copied.extend_copied(&items));
+    for way in WAYS {
+        let mut set = VecSet::new(rt.alloc());
+        assert_granted(&rt, insert_by(rt.alloc(), &mut set, &items, way));
+        assert_items(&rt, &set, &[(1, 'f'), (2, 'b')]);
+    }
     for set in [
-        granted(&rt, set_of(rt.alloc(), &items)),
-        extended,
-        copied,
         VecSet::from(granted(&rt, items.to_vec(rt.alloc()))),
         granted(&rt, VecSet::from_iter(rt.alloc(), items)),
         granted(&rt, VecSet::from_slice(rt.alloc(), &items)),
@@ -26,23 +70,11 @@ fn all_ways_of_many_elements_agree_with_single_inserts(rt: HostRuntime) {
 #[test]
 fn extending_keeps_stored_elements(rt: HostRuntime) {
     let more = [make_item(1, 'y'), make_item(2, 'z')];
-    let left = [(1, 'x'), (2, 'z')];
-    let mut single = granted(&rt, item_set(rt.alloc(), &[(1, 'x')]));
-    for item in more {
-        assert_granted(&rt, single.insert(item));
+    for way in WAYS {
+        let mut set = granted(&rt, item_set(rt.alloc(), &[(1, 'x')]));
+        assert_granted(&rt, insert_by(rt.alloc(), &mut set, &more, way));
+        assert_items(&rt, &set, &[(1, 'x'), (2, 'z')]);
     }
-    assert_items(&rt, &single, &left);
-    let mut extended = granted(&rt, item_set(rt.alloc(), &[(1, 'x')]));
-    assert_granted(&rt, extended.extend(more));
-    assert_items(&rt, &extended, &left);
-    let mut copied = granted(&rt, item_set(rt.alloc(), &[(1, 'x')]));
-    assert_granted(&rt, copied.extend_copied(&more));
-    assert_items(&rt, &copied, &left);
-    let mut appended = granted(&rt, item_set(rt.alloc(), &[(1, 'x')]));
-    let mut other = granted(&rt, set_of(rt.alloc(), &more));
-    assert_granted(&rt, appended.append(&mut other));
-    check!(rt; other.is_empty());
-    assert_items(&rt, &appended, &left);
 }
 
 #[test]

@@ -119,19 +119,6 @@ pub(crate) fn assert_item<E: Element + Drop>(
     }
 }
 
-/// Asserts that a call lent an element of this number and this mark, with its index.
-pub(crate) fn assert_full(
-    rt: &impl Abort,
-    full: Option<(usize, &Item)>,
-    index: usize,
-    expected: (u32, char),
-) {
-    match full {
-        Some((at, item)) => assert_eq!(*rt; (at, item.parts()), (index, expected)),
-        None => panic!(*rt; "no element, and not {expected:?}"),
-    }
-}
-
 /// Asserts how many values are alive while the result of a call is held, and how many after it is dropped.
 pub(crate) fn assert_alive<T: Drop>(
     rt: &impl Abort,

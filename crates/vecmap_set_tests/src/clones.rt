@@ -1,4 +1,5 @@
 //! Clones that fail at an element of a chosen number: the sources are unchanged, and the clones so far are dropped.
+use super::cloning::copy_of;
 use crate::checks::{assert_is, assert_told, granted};
 use std::process::Abort;
 use vecmap::VecSet;
@@ -21,6 +22,7 @@ fn a_refused_clone_leaves_the_set(rt: HostRuntime) {
     for number in [1, 2, 3] {
         log.refuse_clones_of(number);
         assert_outcome(&rt, number, set.clone(), false);
+        assert_outcome(&rt, number, copy_of(&set), false);
         assert_outcome(&rt, number, set.to_vec(), false);
         let by_slice = VecSet::from_slice(rt.alloc(), set.as_slice());
         assert_outcome(&rt, number, by_slice, false);

@@ -4,27 +4,6 @@ use std::ops::Bound;
 use vecmap::VecSet;
 use vecmap_fixtures::{Log, item_set, pulls_as_list, set_of, told_items};
 
-#[test]
-fn a_drain_returns_its_range_from_both_ends(rt: HostRuntime) {
-    let mut set = granted(&rt, set_of(rt.alloc(), &[0, 1, 2, 3, 4]));
-    let room = set.capacity();
-    assert!(rt; 4 <= set.len());
-    let mut items = set.drain(1..4);
-    assert_is(&rt, items.size_hint(), (3, Some(3)));
-    assert_is(&rt, items.next_back(), Some(3));
-    assert_is(&rt, items.next(), Some(1));
-    assert_is(&rt, items.len(), 1);
-    assert_is(&rt, items.next_back(), Some(2));
-    assert_is(
-        &rt,
-        (items.next(), items.next_back(), items.next()),
-        (None, None, None),
-    );
-    drop(items);
-    assert_list(&rt, set.as_slice(), &[0, 4]);
-    assert_is(&rt, set.capacity(), room);
-}
-
 const SIX: [u32; 6] = [5, 6, 7, 8, 9, 10];
 
 #[test]

@@ -53,8 +53,9 @@ fn bulk_calls_drop_what_they_do_not_keep(rt: HostRuntime) {
     assert!(rt; 2 <= set.len());
     assert_alive(&rt, &log, granted(&rt, set.split_off(2)), 3, 2);
     let items = set.into_vec();
+    let room = items.capacity();
     assert!(rt; items_distinct(&items));
     let set = VecSet::from_vec_unchecked(items);
-    assert_is(&rt, log.alive(), 2);
+    assert_is(&rt, (log.alive(), set.capacity()), (2, room));
     assert_told(&rt, set.as_slice(), &[3, 1]);
 }

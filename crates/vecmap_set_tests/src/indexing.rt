@@ -1,14 +1,6 @@
 //! Indexing of a set in brackets.
-use crate::checks::{assert_is, assert_item, assert_items, assert_list, granted};
-use vecmap_fixtures::{item_set, set_of};
-
-#[test]
-fn brackets_read_by_index(rt: HostRuntime) {
-    let set = granted(&rt, set_of(rt.alloc(), &[30, 10, 20]));
-    assert!(rt; set.len() == 3);
-    assert_is(&rt, (set[0], set[1], set[2]), (30, 10, 20));
-    assert_list(&rt, set.as_slice(), &[30, 10, 20]);
-}
+use crate::checks::{assert_item, assert_items, granted};
+use vecmap_fixtures::item_set;
 
 #[test]
 fn brackets_read_the_stored_element(rt: HostRuntime) {

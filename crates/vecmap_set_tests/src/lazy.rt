@@ -433,12 +433,3 @@ fn an_intersection_returns_the_element_of_the_shorter_set(rt: HostRuntime) {
         check!(rt; shared.next().is_none());
     }
 }
-
-#[test]
-fn an_intersection_of_equally_long_sets_returns_the_element_of_the_left_one(rt: HostRuntime) {
-    let a = granted(&rt, item_set(rt.alloc(), &[(2, 'y')]));
-    let b = granted(&rt, item_set(rt.alloc(), &[(2, 'z')]));
-    let mut shared = a.intersection(&b);
-    assert_item(&rt, shared.next(), (2, 'y'));
-    check!(rt; shared.next().is_none());
-}

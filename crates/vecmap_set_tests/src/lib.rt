@@ -30,8 +30,6 @@ mod equality;
 #[cfg(test)]
 mod extending;
 #[cfg(test)]
-mod formatting;
-#[cfg(test)]
 mod indexing;
 #[cfg(test)]
 mod insertion;
@@ -41,8 +39,6 @@ mod iteration;
 mod lazy;
 #[cfg(test)]
 mod lookup;
-#[cfg(test)]
-mod make;
 #[cfg(test)]
 mod no_size;
 #[cfg(test)]

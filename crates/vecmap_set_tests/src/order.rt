@@ -28,16 +28,6 @@ fn rises(set: &VecSet<u32>, count: u32) -> bool {
 }
 
 #[test]
-fn swap_indices_and_reverse_move_elements(rt: HostRuntime) {
-    let mut set = granted(&rt, set_of(rt.alloc(), &[1, 2, 3, 4]));
-    assert!(rt; set.len() == 4);
-    set.swap_indices(1, 3);
-    assert_list(&rt, set.as_slice(), &[1, 4, 3, 2]);
-    set.reverse();
-    assert_list(&rt, set.as_slice(), &[2, 3, 4, 1]);
-}
-
-#[test]
 fn sorts_leave_a_set_in_order(rt: HostRuntime) {
     let mut set = granted(&rt, set_of(rt.alloc(), &[3, 1, 2]));
     set.sort_unstable();

@@ -1,5 +1,5 @@
 //! Calls on a set by each kind of query: an element, a text, a slice, and a query that is not an element.
-use crate::checks::{assert_granted, assert_is, assert_items, assert_texts, check, granted};
+use crate::checks::{assert_granted, assert_items, assert_texts, granted};
 use std::alloc::AllocError;
 use std::borrow::CowStr;
 use std::boxed::{BoxedSlice, BoxedStr};
@@ -8,7 +8,7 @@ use std::process::Abort;
 use std::rc::RcStr;
 use std::sync::ArcStr;
 use vecmap::{Equivalent, VecSet};
-use vecmap_fixtures::{Item, Number, Same, are_same, item_set, make_item, set_of, text_set};
+use vecmap_fixtures::{Number, Same, are_same, item_set, make_item, set_of, text_set};
 
 // Elements of which one is a prefix of another, and one is not ASCII.
 const TEXTS: &[&'static str] = &["age", "agent", "max", "é"];
@@ -119,19 +119,6 @@ fn matches_at<T: Eq + Clone + Drop + Same, Q: Equivalent<T>>(
     Ok(finds(set, query, place) && removes(set, query, place)? && swaps(set, query, place)?)
 }
 
-// Asserts that each lookup by the query finds the element at this index, or none.
-fn assert_finds<T: Eq + Same, Q: Equivalent<T> + Debug>(
-    rt: &impl Abort,
-    set: &VecSet<T>,
-    query: Q,
-    place: Option<usize>,
-) {
-    assert!(*rt;
-        finds(set, query, place),
-        "{query:?} is not found at {place:?}"
-    );
-}
-
 // Asserts that every call by the query uses the element at this index, or none.
 fn assert_matches<T: Eq + Clone + Drop + Same, Q: Equivalent<T> + Debug>(
     rt: &impl Abort,
@@ -143,38 +130,6 @@ fn assert_matches<T: Eq + Clone + Drop + Same, Q: Equivalent<T> + Debug>(
         matches!(matches_at(set, query, place), Ok(true)),
         "{query:?} does not match at {place:?}"
     );
-}
-
-// Asserts that a call returned an element of this number and this mark.
-fn assert_item(rt: &impl Abort, item: Option<Item>, expected: (u32, char)) {
-    match item {
-        Some(item) => assert_eq!(*rt; (item.number, item.mark), expected),
-        None => panic!(*rt; "absent"),
-    }
-}
-
-// Asserts that a call lent an element of this index, this number and this mark.
-fn assert_full_item(rt: &impl Abort, full: Option<(usize, &Item)>, expected: (usize, u32, char)) {
-    match full {
-        Some((index, item)) => assert_eq!(*rt; (index, item.number, item.mark), expected),
-        None => panic!(*rt; "absent"),
-    }
-}
-
-// Asserts that a call returned this text.
-fn assert_text(rt: &impl Abort, item: Option<&String>, expected: &str) {
-    match item {
-        Some(item) => assert_eq!(*rt; item.as_str(), expected),
-        None => panic!(*rt; "absent"),
-    }
-}
-
-// Asserts that a call lent an element of this index and this text.
-fn assert_full_text(rt: &impl Abort, full: Option<(usize, &String)>, expected: (usize, &str)) {
-    match full {
-        Some((index, item)) => assert_eq!(*rt; (index, item.as_str()), expected),
-        None => panic!(*rt; "absent"),
-    }
 }
 
 #[test]
@@ -196,19 +151,6 @@ fn a_query_that_is_not_an_element_matches_the_equivalent_one(rt: HostRuntime) {
 }
 
 #[test]
-fn a_query_that_is_not_an_element_is_passed_by_value(rt: HostRuntime) {
-    let mut set = granted(&rt, item_set(rt.alloc(), ITEMS));
-    check!(rt; set.contains(Number(1)));
-    check!(rt; !set.contains(Number(3)));
-    assert_full_item(&rt, set.get_full(Number(1)), (1, 1, 'b'));
-    assert_item(&rt, set.swap_take(Number(9)), (9, 'a'));
-    assert_items(&rt, &set, &[(2, 'd'), (1, 'b'), (5, 'c')]);
-    check!(rt; set.remove(Number(1)));
-    check!(rt; !set.remove(Number(1)));
-    assert_items(&rt, &set, &[(2, 'd'), (5, 'c')]);
-}
-
-#[test]
 fn a_text_matches_the_string_of_its_bytes_in_a_set(rt: HostRuntime) {
     let set = granted(&rt, text_set(rt.alloc(), TEXTS));
     assert_texts(&rt, &set, TEXTS);
@@ -218,27 +160,6 @@ fn a_text_matches_the_string_of_its_bytes_in_a_set(rt: HostRuntime) {
         assert_matches(&rt, &set, &item, *place);
         assert_matches(&rt, &set, item.as_str(), *place);
     }
-}
-
-#[test]
-fn a_text_is_passed_as_a_literal_in_a_set(rt: HostRuntime) {
-    let mut set = granted(&rt, text_set(rt.alloc(), TEXTS));
-    check!(rt; set.contains("max"));
-    check!(rt; !set.contains("ma"));
-    assert_is(&rt, set.get_index_of("max"), Some(2));
-    assert_is(&rt, set.get_index_of(""), None);
-    assert_full_text(&rt, set.get_full("é"), (3, "é"));
-    assert_text(&rt, set.get("agent"), "agent");
-    assert_text(&rt, set.swap_take("age").as_ref(), "age");
-    assert_texts(&rt, &set, &["é", "agent", "max"]);
-    check!(rt; set.remove("é"));
-    check!(rt; !set.swap_remove("é"));
-    check!(rt; set.take("é").is_none());
-    assert_texts(&rt, &set, &["agent", "max"]);
-    check!(rt; set.swap_remove("agent"));
-    assert_text(&rt, set.take("max").as_ref(), "max");
-    check!(rt; set.is_empty());
-    check!(rt; !set.contains("max"));
 }
 
 #[test]
@@ -273,9 +194,6 @@ fn a_text_matches_the_boxed_text_of_its_bytes_in_a_set(rt: HostRuntime) {
     for (text, place) in QUERIES {
         assert_matches(&rt, &set, *text, *place);
     }
-    check!(rt; set.remove("agent"));
-    assert_finds(&rt, &set, "max", Some(1));
-    assert_finds(&rt, &set, "agent", None);
 }
 
 #[test]
@@ -288,9 +206,6 @@ fn a_text_matches_the_shared_text_of_its_bytes_in_a_set(rt: HostRuntime) {
     for (text, place) in QUERIES {
         assert_matches(&rt, &set, *text, *place);
     }
-    check!(rt; set.remove("agent"));
-    assert_finds(&rt, &set, "max", Some(1));
-    assert_finds(&rt, &set, "agent", None);
 }
 
 #[test]
@@ -303,9 +218,6 @@ fn a_text_matches_the_text_that_threads_share_in_a_set(rt: HostRuntime) {
     for (text, place) in QUERIES {
         assert_matches(&rt, &set, *text, *place);
     }
-    check!(rt; set.remove("agent"));
-    assert_finds(&rt, &set, "max", Some(1));
-    assert_finds(&rt, &set, "agent", None);
 }
 
 #[test]
@@ -322,9 +234,6 @@ fn a_text_matches_a_borrowed_or_an_owned_text_in_a_set(rt: HostRuntime) {
     for (text, place) in QUERIES {
         assert_matches(&rt, &set, *text, *place);
     }
-    check!(rt; set.remove("agent"));
-    assert_finds(&rt, &set, "max", Some(1));
-    assert_finds(&rt, &set, "agent", None);
 }
 
 #[test]
@@ -337,8 +246,6 @@ fn bytes_match_the_vector_of_them_in_a_set(rt: HostRuntime) {
     for (text, place) in QUERIES {
         assert_matches(&rt, &set, text.as_bytes(), *place);
     }
-    assert_finds(&rt, &set, b"max".as_slice(), Some(2));
-    assert_finds(&rt, &set, [].as_slice(), None);
 }
 
 #[test]
@@ -351,8 +258,6 @@ fn bytes_match_the_boxed_slice_of_them_in_a_set(rt: HostRuntime) {
     for (text, place) in QUERIES {
         assert_matches(&rt, &set, text.as_bytes(), *place);
     }
-    check!(rt; set.remove(b"agent".as_slice()));
-    assert_finds(&rt, &set, b"max".as_slice(), Some(1));
 }
 
 #[test]

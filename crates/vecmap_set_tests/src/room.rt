@@ -1,55 +1,7 @@
-//! The length and the capacity of a set.
-use crate::checks::{
-    assert_gives, assert_granted, assert_is, assert_list, assert_refused, check, granted,
-};
+//! The capacity of a set.
+use crate::checks::{assert_granted, assert_is, assert_list, assert_refused, check, granted};
 use vecmap::VecSet;
 use vecmap_fixtures::set_of;
-
-#[test]
-fn an_empty_set_has_no_element_and_no_capacity(rt: HostRuntime) {
-    let mut set: VecSet<u32> = VecSet::new(rt.alloc());
-    check!(rt; set.is_empty());
-    check!(rt; set.as_slice().is_empty());
-    assert_is(&rt, (set.len(), set.capacity()), (0, 0));
-    assert_granted(&rt, set.insert(7));
-    check!(rt; !set.is_empty());
-    assert_is(&rt, set.len(), 1);
-    let none: VecSet<u32> = granted(&rt, VecSet::with_capacity(rt.alloc(), 0));
-    assert_is(&rt, (none.len(), none.capacity()), (0, 0));
-}
-
-#[test]
-fn reserved_capacity_takes_insertions(rt: HostRuntime) {
-    let mut set = granted(&rt, VecSet::with_capacity(rt.alloc(), 3));
-    let room = set.capacity();
-    check!(rt; room >= 3);
-    for item in [5, 6, 7] {
-        assert_gives(&rt, set.insert(item), true);
-    }
-    assert_is(&rt, set.capacity(), room);
-    assert_granted(&rt, set.reserve(4));
-    check!(rt; set.capacity() >= 7);
-    assert_granted(&rt, set.reserve_exact(9));
-    check!(rt; set.capacity() >= 12);
-    assert_granted(&rt, set.try_reserve(13));
-    check!(rt; set.capacity() >= 16);
-    assert_granted(&rt, set.try_reserve_exact(17));
-    check!(rt; set.capacity() >= 20);
-    assert_list(&rt, set.as_slice(), &[5, 6, 7]);
-}
-
-#[test]
-fn capacity_that_suffices_stays(rt: HostRuntime) {
-    let mut set = granted(&rt, VecSet::with_capacity(rt.alloc(), 8));
-    assert_granted(&rt, set.insert(5));
-    let room = set.capacity();
-    assert_granted(&rt, set.reserve(7));
-    assert_granted(&rt, set.reserve_exact(7));
-    assert_granted(&rt, set.try_reserve(7));
-    assert_granted(&rt, set.try_reserve_exact(7));
-    assert_is(&rt, set.capacity(), room);
-    assert_list(&rt, set.as_slice(), &[5]);
-}
 
 #[test]
 fn capacity_past_what_a_vector_holds_is_refused(rt: HostRuntime) {
@@ -62,6 +14,8 @@ fn capacity_past_what_a_vector_holds_is_refused(rt: HostRuntime) {
     assert_is(&rt, set.capacity(), room);
     assert_list(&rt, set.as_slice(), &[1, 2]);
     assert_refused(&rt, VecSet::<u32>::with_capacity(rt.alloc(), usize::MAX));
+    let none: VecSet<u32> = granted(&rt, VecSet::with_capacity(rt.alloc(), 0));
+    assert_is(&rt, none.capacity(), 0);
 }
 
 // Returns whether a number is at least the one and less than the other.
@@ -86,16 +40,6 @@ fn shrinking_stops_at_its_limit(rt: HostRuntime) {
     set.shrink_to(0);
     check!(rt; is_between(set.capacity(), 3, lower));
     assert_list(&rt, set.as_slice(), &[1, 2, 3]);
-}
-
-#[test]
-fn shrinking_to_fit_keeps_the_elements(rt: HostRuntime) {
-    let mut set = granted(&rt, VecSet::with_capacity(rt.alloc(), 10));
-    assert_granted(&rt, set.insert(1));
-    let room = set.capacity();
-    set.shrink_to_fit();
-    check!(rt; is_between(set.capacity(), 1, room));
-    assert_list(&rt, set.as_slice(), &[1]);
     set.clear();
     set.shrink_to_fit();
     assert_is(&rt, set.capacity(), 0);

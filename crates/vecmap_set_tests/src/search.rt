@@ -10,14 +10,6 @@ fn searches_return_an_equal_index_or_where_to_insert(rt: HostRuntime) {
     let set = granted(&rt, set_of(rt.alloc(), &[1u32, 2, 3]));
     assert_is(&rt, set.binary_search(&2), Ok(1));
     assert_is(&rt, set.binary_search(&5), Err(3));
-    assert_is(&rt, set.binary_search(&0), Err(0));
-    assert_is(&rt, set.binary_search_by(|item| item.cmp(&3)), Ok(2));
-    assert_is(&rt, set.binary_search_by(|item| item.cmp(&4)), Err(3));
-    let found = set.binary_search_by_key(&20, |item| item.wrapping_mul(10));
-    assert_is(&rt, found, Ok(1));
-    let found = set.binary_search_by_key(&15, |item| item.wrapping_mul(10));
-    assert_is(&rt, found, Err(1));
-    assert_is(&rt, set.partition_point(|item| *item < 3), 2);
 }
 
 // Asserts that each search finds the number at its index, and that the next number would follow it.

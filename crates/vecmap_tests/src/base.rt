@@ -1,12 +1,9 @@
-//! Tests of `vecmap_base`. Each file tests the module that it is named for.
+//! Tests of `vecmap_base`. Each file tests the module that it is named for. The tests of maps and sets compare what the
+//! other modules do.
 mod distinct;
 mod drain;
-mod equality;
 mod iter_mut;
 mod lookup;
-mod moving;
 mod relations;
 mod repeats;
 mod retain;
-mod search;
-mod steps;

@@ -196,19 +196,6 @@ fn matches_at<K: Eq + Clone + Drop + Same, Q: Equivalent<K>>(
     )
 }
 
-// Asserts that each lookup by the query finds the pair at this index, or none.
-pub(super) fn assert_finds<K: Eq + Same, Q: Equivalent<K> + Debug>(
-    rt: &impl Abort,
-    map: &VecMap<K, u32>,
-    query: Q,
-    place: Option<usize>,
-) {
-    assert!(*rt;
-        finds(map, query, place),
-        "{query:?} is not found at {place:?}"
-    );
-}
-
 // Asserts that every call by the query uses the pair at this index, or none.
 pub(super) fn assert_matches<K: Eq + Clone + Drop + Same, Q: Equivalent<K> + Debug>(
     rt: &impl Abort,

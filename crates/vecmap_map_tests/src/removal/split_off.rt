@@ -1,6 +1,6 @@
 //! A map that is split in two.
 use crate::checks::{assert_granted, assert_is, assert_pairs, check, granted};
-use vecmap_fixtures::{item_map, repeating_map};
+use vecmap_fixtures::item_map;
 
 #[test]
 fn split_off_returns_what_follows(rt: HostRuntime) {
@@ -22,22 +22,4 @@ fn split_off_returns_what_follows(rt: HostRuntime) {
     check!(rt; none.is_empty());
     assert_is(&rt, none.capacity(), 0);
     assert_pairs(&rt, &map, &[(1, 'a', 1), (2, 'b', 2), (3, 'c', 3)]);
-    let all = granted(&rt, map.split_off(0));
-    check!(rt; map.is_empty());
-    assert_is(&rt, map.capacity(), room);
-    assert_pairs(&rt, &all, &[(1, 'a', 1), (2, 'b', 2), (3, 'c', 3)]);
-}
-
-#[test]
-fn split_off_leaves_repeats_as_they_are(rt: HostRuntime) {
-    let mut map = granted(
-        &rt,
-        repeating_map(rt.alloc(), &[(1, 'a', 1), (1, 'b', 2), (1, 'c', 3)]),
-    );
-    assert!(rt; 2 <= map.len());
-    let mut part = granted(&rt, map.split_off(2));
-    assert_pairs(&rt, &map, &[(1, 'a', 1), (1, 'b', 2)]);
-    assert_pairs(&rt, &part, &[(1, 'c', 3)]);
-    assert_granted(&rt, map.append(&mut part));
-    assert_pairs(&rt, &map, &[(1, 'a', 3), (1, 'b', 2)]);
 }

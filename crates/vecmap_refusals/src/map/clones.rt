@@ -8,32 +8,25 @@ use vecmap_fixtures::has_text_pairs;
 
 const TEXTS: &[(&str, &str)] = &[("b", "2"), ("a", "1")];
 
+// Clones by the trait, as generic code and derives do.
+fn copy_of<C: Clone>(original: &C) -> Result<C, AllocError> {
+    original.clone()
+}
+
 #[test]
-fn clone_of_a_map_leaves_the_source(rt: HostRuntime) {
+fn clones_of_a_map_leave_the_source(rt: HostRuntime) {
     let map = text_map(&rt, rt.alloc(), TEXTS);
     let room = map.capacity();
     let copy = make!(rt; map.clone());
     assert_text_pairs(&rt, &copy, TEXTS);
-    assert_text_pairs(&rt, &map, TEXTS);
-    assert_is(&rt, map.capacity(), room);
-}
-
-#[test]
-fn to_vec_of_a_map_leaves_the_source(rt: HostRuntime) {
-    let map = text_map(&rt, rt.alloc(), TEXTS);
-    let room = map.capacity();
+    let copy = make!(rt; copy_of(&map));
+    assert_text_pairs(&rt, &copy, TEXTS);
     let copies = make!(rt; map.to_vec());
     check!(rt; has_text_pairs(copies.as_slice(), TEXTS));
-    assert_text_pairs(&rt, &map, TEXTS);
-    assert_is(&rt, map.capacity(), room);
-}
-
-#[test]
-fn from_slice_of_a_map_leaves_the_source(rt: HostRuntime) {
-    let map = text_map(&rt, rt.alloc(), TEXTS);
     let copy = make!(rt; VecMap::from_slice(rt.alloc(), map.as_slice()));
     assert_text_pairs(&rt, &copy, TEXTS);
     assert_text_pairs(&rt, &map, TEXTS);
+    assert_is(&rt, map.capacity(), room);
 }
 
 const MORE: &[(&str, &str)] = &[("b", "2"), ("a", "3")];

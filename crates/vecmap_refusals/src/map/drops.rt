@@ -1,4 +1,5 @@
-//! Keys and values that a refused call keeps, returns or drops, each once. `alive` counts those that are not dropped.
+//! The pairs that a refused call leaves, and the keys and values that it keeps, returns or drops, each once. `alive`
+//! counts those that are not dropped.
 use crate::checks::{assert_granted, assert_is, assert_told_pairs, granted};
 use crate::telling::{one_of, tell, told_couples, told_map};
 use std::alloc::{AllocError, Global};
@@ -66,34 +67,43 @@ fn put_or_retry<'a>(rt: &(impl Abort + Print), call: Insertion, log: &'a Log, ma
         tell(rt);
         assert_told_pairs(rt, log, map, 6, &[(1, 11), (2, 12)]);
         let (key, value) = refused.given;
+        assert_is(
+            rt,
+            (map.capacity(), key.number(), value.number()),
+            (2, 3, 13),
+        );
         assert_granted(rt, put(call, map, key, value));
     }
 }
 
 // Checks that an insertion keeps its pair, or returns it so that the call can be repeated.
-fn check(rt: &(impl Abort + Print), alloc: Global, call: Insertion) {
+fn check(rt: &(impl Abort + Print), alloc: Global, call: Insertion, expected: &[(u32, u32)]) {
     let log = Log::new();
     let mut map = told_map(rt, alloc, &log, &[1, 2]);
     put_or_retry(rt, call, &log, &mut map);
-    assert_is(rt, (log.alive(), map.len()), (6, 3));
+    assert_told_pairs(rt, &log, &map, 6, expected);
     drop(map);
     assert_is(rt, log.alive(), 0);
 }
 
+const LAST: &[(u32, u32)] = &[(1, 11), (2, 12), (3, 13)];
+
+const FIRST: &[(u32, u32)] = &[(3, 13), (1, 11), (2, 12)];
+
 #[test]
 fn insertions_keep_a_pair_or_return_it(rt: HostRuntime) {
-    check(&rt, rt.alloc(), Insertion::Insert);
-    check(&rt, rt.alloc(), Insertion::InsertFull);
-    check(&rt, rt.alloc(), Insertion::InsertKey);
-    check(&rt, rt.alloc(), Insertion::InsertAt);
+    check(&rt, rt.alloc(), Insertion::Insert, LAST);
+    check(&rt, rt.alloc(), Insertion::InsertFull, LAST);
+    check(&rt, rt.alloc(), Insertion::InsertKey, LAST);
+    check(&rt, rt.alloc(), Insertion::InsertAt, FIRST);
 }
 
 #[test]
 fn entries_keep_a_pair_or_return_it(rt: HostRuntime) {
-    check(&rt, rt.alloc(), Insertion::OrInsert);
-    check(&rt, rt.alloc(), Insertion::OrInsertWith);
-    check(&rt, rt.alloc(), Insertion::OrInsertWithKey);
-    check(&rt, rt.alloc(), Insertion::InsertEntry);
+    check(&rt, rt.alloc(), Insertion::OrInsert, LAST);
+    check(&rt, rt.alloc(), Insertion::OrInsertWith, LAST);
+    check(&rt, rt.alloc(), Insertion::OrInsertWithKey, LAST);
+    check(&rt, rt.alloc(), Insertion::InsertEntry, LAST);
 }
 
 #[derive(Clone, Copy)]
@@ -102,9 +112,10 @@ enum ManyPairs {
     ExtendPairs,
     Append,
     FromIter,
+    Collect,
 }
 
-// Inserts the pairs into the map by one call. `FromIter` makes a map of them in its place.
+// Inserts the pairs into the map by one call. `FromIter` and `Collect` make a map of them in its place.
 fn put_many<'a>(
     call: ManyPairs,
     alloc: Global,
@@ -117,6 +128,10 @@ fn put_many<'a>(
         ManyPairs::Append => map.append(&mut VecMap::from(more)),
         ManyPairs::FromIter => {
             drop(replace(map, VecMap::from_iter(alloc, more)?));
+            Ok(())
+        }
+        ManyPairs::Collect => {
+            drop(replace(map, more.into_iter().collect(alloc)?));
             Ok(())
         }
     }
@@ -160,6 +175,7 @@ fn many_pairs_are_kept_or_dropped(rt: HostRuntime) {
     check_many(&rt, rt.alloc(), ManyPairs::ExtendPairs, 10, all);
     check_many(&rt, rt.alloc(), ManyPairs::Append, 10, all);
     check_many(&rt, rt.alloc(), ManyPairs::FromIter, 8, made);
+    check_many(&rt, rt.alloc(), ManyPairs::Collect, 8, made);
 }
 
 // Returns commands that insert a new pair and one of an existing key, and append a map.
@@ -274,7 +290,8 @@ fn or_default_keeps_the_key_or_returns_it(rt: HostRuntime) {
 fn put_pair_or_retry<'a>(rt: &(impl Abort + Print), log: &'a Log, map: &mut Map<'a>) {
     if put_pair(map, make_told(log, 3), make_told(log, 13)).is_err() {
         tell(rt);
-        assert_told_pairs(rt, log, map, 4, &[(1, 11), (2, 12)]);
+        assert_told_pairs(rt, log, map, 4, &[(1, 21), (2, 12)]);
+        assert_is(rt, map.capacity(), 2);
         granted(rt, put_pair(map, make_told(log, 3), make_told(log, 13)));
     }
 }
@@ -283,8 +300,13 @@ fn put_pair_or_retry<'a>(rt: &(impl Abort + Print), log: &'a Log, map: &mut Map<
 fn put_pair_keeps_a_pair_or_drops_it(rt: HostRuntime) {
     let log = Log::new();
     let mut map = told_map(&rt, rt.alloc(), &log, &[1, 2]);
+    // The map is full, and an existing key needs no memory.
+    granted(
+        &rt,
+        put_pair(&mut map, make_told(&log, 1), make_told(&log, 21)),
+    );
     put_pair_or_retry(&rt, &log, &mut map);
-    assert_told_pairs(&rt, &log, &map, 6, &[(1, 11), (2, 12), (3, 13)]);
+    assert_told_pairs(&rt, &log, &map, 6, &[(1, 21), (2, 12), (3, 13)]);
 }
 
 // Creates a map of three pairs by the macro. Two of them have equal keys.
@@ -314,33 +336,6 @@ fn vecmap_keeps_its_pairs_or_drops_them(rt: HostRuntime) {
     let log = Log::new();
     let map = three_made(&rt, rt.alloc(), &log);
     assert_told_pairs(&rt, &log, &map, 4, &[(1, 13), (2, 12)]);
-}
-
-// Collects the pairs into a map.
-fn collected<'a>(alloc: Global, couples: Vec<Couple<'a>>) -> Result<Map<'a>, AllocError> {
-    couples.into_iter().collect(alloc)
-}
-
-// Like `collected`, with the pairs of the keys 3, 1, 4, 3, 5. If a request is refused, all are dropped, and it tries
-// once more.
-fn collected_made<'a>(rt: &(impl Abort + Print), alloc: Global, log: &'a Log) -> Map<'a> {
-    let couples = told_couples(rt, alloc, log, &[3, 1, 4, 3, 5]);
-    match collected(alloc, couples) {
-        Ok(map) => map,
-        Err(AllocError) => {
-            tell(rt);
-            assert_is(rt, log.alive(), 0);
-            let couples = told_couples(rt, alloc, log, &[3, 1, 4, 3, 5]);
-            granted(rt, collected(alloc, couples))
-        }
-    }
-}
-
-#[test]
-fn collected_pairs_are_kept_or_dropped(rt: HostRuntime) {
-    let log = Log::new();
-    let map = collected_made(&rt, rt.alloc(), &log);
-    assert_told_pairs(&rt, &log, &map, 8, &[(3, 13), (1, 11), (4, 14), (5, 15)]);
 }
 
 // Returns commands that insert a pair, each once with a new key and once with an existing one, and one whose index is

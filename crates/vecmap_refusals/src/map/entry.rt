@@ -1,156 +1,11 @@
-//! Entries of a map that is full.
-use crate::checks::{assert_is, assert_pairs, check};
+//! Entries of an existing key in a map that is full, and of a key whose clone is refused. `drops` has those of a new key.
+use crate::checks::{assert_granted, assert_is, assert_pairs, check, granted};
 use crate::telling::{full_map, make, tell};
-use std::alloc::Global;
 use std::process::Abort;
-use vecmap::Refused;
-use vecmap::map::{Entry, VecMap};
-use vecmap_fixtures::{Item, make_item};
+use vecmap::VecMap;
+use vecmap_fixtures::make_item;
 
 const FULL: &[(u32, char, u32)] = &[(1, 'a', 10), (2, 'b', 20)];
-
-// The result of a call that inserts a pair: the value that it lends, or the pair that it returns.
-type Put = Result<u32, (Item, u32)>;
-
-// Reads what a call lends.
-fn read(outcome: Result<&mut u32, Refused<(Item, u32)>>) -> Put {
-    match outcome {
-        Ok(value) => Ok(*value),
-        Err(refused) => Err(refused.given),
-    }
-}
-
-fn or_insert(map: &mut VecMap<Item, u32>, key: Item, value: u32) -> Put {
-    read(map.entry(key).or_insert(value))
-}
-
-fn or_insert_with(map: &mut VecMap<Item, u32>, key: Item, value: u32) -> Put {
-    read(map.entry(key).or_insert_with(|| value))
-}
-
-fn or_insert_with_key(map: &mut VecMap<Item, u32>, key: Item) -> Put {
-    let made = map
-        .entry(key)
-        .or_insert_with_key(|key| key.number.wrapping_mul(10));
-    read(made)
-}
-
-// The default is 0, and the value is then written over it.
-fn or_default(map: &mut VecMap<Item, u32>, key: Item, value: u32) -> Put {
-    match map.entry(key).or_default() {
-        Ok(stored) => {
-            let default = *stored;
-            *stored = value;
-            Ok(default.wrapping_add(value))
-        }
-        Err(refused) => Err((refused.given.0, refused.given.1.wrapping_add(value))),
-    }
-}
-
-fn insert(map: &mut VecMap<Item, u32>, key: Item, value: u32) -> Put {
-    let Entry::Vacant(entry) = map.entry(key) else {
-        return Ok(0);
-    };
-    read(entry.insert(value))
-}
-
-fn insert_vacant(map: &mut VecMap<Item, u32>, key: Item, value: u32) -> Put {
-    let Entry::Vacant(entry) = map.entry(key) else {
-        return Ok(0);
-    };
-    match entry.insert_entry(value) {
-        Ok(entry) => Ok(*entry.into_mut()),
-        Err(refused) => Err(refused.given),
-    }
-}
-
-fn insert_entry(map: &mut VecMap<Item, u32>, key: Item, value: u32) -> Put {
-    match map.entry(key).insert_entry(value) {
-        Ok(entry) => Ok(*entry.into_mut()),
-        Err(refused) => Err(refused.given),
-    }
-}
-
-#[derive(Clone, Copy)]
-enum Call {
-    OrInsert,
-    OrInsertWith,
-    OrInsertWithKey,
-    OrDefault,
-    Insert,
-    InsertVacant,
-    InsertEntry,
-}
-
-fn put(call: Call, map: &mut VecMap<Item, u32>, key: Item, value: u32) -> Put {
-    match call {
-        Call::OrInsert => or_insert(map, key, value),
-        Call::OrInsertWith => or_insert_with(map, key, value),
-        Call::OrInsertWithKey => or_insert_with_key(map, key),
-        Call::OrDefault => or_default(map, key, value),
-        Call::Insert => insert(map, key, value),
-        Call::InsertVacant => insert_vacant(map, key, value),
-        Call::InsertEntry => insert_entry(map, key, value),
-    }
-}
-
-// Inserts a pair by a call. If it is refused, it returns the pair and leaves the map unchanged, and is repeated with
-// that pair.
-fn put_or_retry(rt: &(impl Abort + Print), call: Call, map: &mut VecMap<Item, u32>) -> Put {
-    match put(call, map, make_item(7, 'x'), 70) {
-        Ok(value) => Ok(value),
-        Err((key, value)) => {
-            tell(rt);
-            assert_is(rt, (key.number, key.mark, value), (7, 'x', 70));
-            assert_pairs(rt, map, FULL);
-            assert_is(rt, map.capacity(), 2);
-            put(call, map, key, value)
-        }
-    }
-}
-
-// Checks a call that inserts a pair: the new pair is the last, also if the call is refused once.
-fn check(rt: &(impl Abort + Print), alloc: Global, call: Call) {
-    let mut map = full_map(rt, alloc, FULL);
-    let put = put_or_retry(rt, call, &mut map);
-    assert_is(rt, put, Ok(70));
-    assert_pairs(rt, &map, &[(1, 'a', 10), (2, 'b', 20), (7, 'x', 70)]);
-}
-
-#[test]
-fn or_insert_returns_the_pair(rt: HostRuntime) {
-    check(&rt, rt.alloc(), Call::OrInsert);
-}
-
-#[test]
-fn or_insert_with_returns_the_pair_with_the_made_value(rt: HostRuntime) {
-    check(&rt, rt.alloc(), Call::OrInsertWith);
-}
-
-#[test]
-fn or_insert_with_key_returns_the_pair_with_the_made_value(rt: HostRuntime) {
-    check(&rt, rt.alloc(), Call::OrInsertWithKey);
-}
-
-#[test]
-fn or_default_returns_the_pair_with_the_default(rt: HostRuntime) {
-    check(&rt, rt.alloc(), Call::OrDefault);
-}
-
-#[test]
-fn a_vacant_entry_returns_the_pair(rt: HostRuntime) {
-    check(&rt, rt.alloc(), Call::Insert);
-}
-
-#[test]
-fn insert_entry_of_a_vacant_entry_returns_the_pair(rt: HostRuntime) {
-    check(&rt, rt.alloc(), Call::InsertVacant);
-}
-
-#[test]
-fn insert_entry_returns_the_pair(rt: HostRuntime) {
-    check(&rt, rt.alloc(), Call::InsertEntry);
-}
 
 // Inserts a value through the entry of a text, or returns both.
 fn insert_text(
@@ -195,11 +50,12 @@ fn a_clone_without_memory_returns_the_pair(rt: HostRuntime) {
 fn an_occupied_entry_is_never_refused(rt: HostRuntime) {
     let mut map = full_map(&rt, rt.alloc(), FULL);
     let key = make_item(1, 'z');
-    assert_is(&rt, read(map.entry(key).or_insert(1)), Ok(10));
-    assert_is(&rt, read(map.entry(key).or_insert_with(|| 1)), Ok(10));
-    assert_is(&rt, read(map.entry(key).or_insert_with_key(|_| 1)), Ok(10));
-    assert_is(&rt, read(map.entry(key).or_default()), Ok(10));
-    assert_is(&rt, insert_entry(&mut map, key, 20), Ok(20));
+    assert_is(&rt, *granted(&rt, map.entry(key).or_insert(1)), 10);
+    assert_is(&rt, *granted(&rt, map.entry(key).or_insert_with(|| 1)), 10);
+    let value = granted(&rt, map.entry(key).or_insert_with_key(|_| 1));
+    assert_is(&rt, *value, 10);
+    assert_is(&rt, *granted(&rt, map.entry(key).or_default()), 10);
+    assert_granted(&rt, map.entry(key).insert_entry(20));
     assert_pairs(&rt, &map, &[(1, 'a', 20), (2, 'b', 20)]);
     check!(rt; map.capacity() == 2);
 }

@@ -15,7 +15,7 @@ fn with_capacity_makes_a_map_of_that_capacity_or_none(rt: HostRuntime) {
     check!(rt; 3 <= map.capacity());
 }
 
-#[derive(Clone, Copy, Debug, PartialEq, Eq)]
+#[derive(Clone, Copy)]
 enum Reserving {
     Reserve,
     ReserveExact,
@@ -39,16 +39,16 @@ fn check_reserving(rt: &(impl Abort + Print), alloc: Global, call: Reserving) {
     if !reserve(call, &mut map) {
         tell(rt);
         assert_pairs(rt, &map, FULL);
-        assert_is(rt, (call, map.capacity()), (call, 2));
-        assert_is(rt, (call, reserve(call, &mut map)), (call, true));
+        assert_is(rt, map.capacity(), 2);
+        assert_is(rt, reserve(call, &mut map), true);
     }
     assert_pairs(rt, &map, FULL);
-    assert_is(rt, (call, 4 <= map.capacity()), (call, true));
+    assert_is(rt, 4 <= map.capacity(), true);
     // It is not refused with this spare capacity.
     let room = map.capacity();
-    assert_is(rt, (call, reserve(call, &mut map)), (call, true));
+    assert_is(rt, reserve(call, &mut map), true);
     assert_pairs(rt, &map, FULL);
-    assert_is(rt, (call, map.capacity()), (call, room));
+    assert_is(rt, map.capacity(), room);
 }
 
 #[test]

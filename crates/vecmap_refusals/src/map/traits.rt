@@ -1,26 +1,10 @@
-//! The traits `Clone` and `Extend` of maps, if a request is refused.
-use crate::checks::{assert_is, assert_list, assert_pairs, assert_text_pairs, granted};
-use crate::telling::{full_map, make, tell, text_map};
+//! The trait `Extend` of maps, if a request is refused.
+use crate::checks::{assert_is, assert_list, assert_pairs, granted};
+use crate::telling::{full_map, make, tell};
 use std::alloc::{AllocError, Global};
 use std::process::Abort;
 use vecmap::VecMap;
 use vecmap_fixtures::{Item, has_pairs, make_item};
-
-const TEXTS: &[(&str, &str)] = &[("b", "2"), ("a", "1")];
-
-fn copy_of<C: Clone>(original: &C) -> Result<C, AllocError> {
-    original.clone()
-}
-
-#[test]
-fn clone_of_a_map_by_the_trait_leaves_the_source(rt: HostRuntime) {
-    let map = text_map(&rt, rt.alloc(), TEXTS);
-    let room = map.capacity();
-    let copy = make!(rt; copy_of(&map));
-    assert_text_pairs(&rt, &copy, TEXTS);
-    assert_text_pairs(&rt, &map, TEXTS);
-    assert_is(&rt, map.capacity(), room);
-}
 
 // Extends a map of one pair by its key with another value, and by a new pair. If that is refused, the map has its
 // capacity, with the old value or the other one, and it is repeated.

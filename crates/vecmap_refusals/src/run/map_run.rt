@@ -1,10 +1,10 @@
 //! Runs of commands on a map.
 use crate::checks::{assert_is, assert_pairs, assert_text_pairs};
-use crate::telling::{full_map, make, one_of, tell, text_map};
+use crate::telling::{full_map, one_of, tell, text_map};
 use std::alloc::{AllocError, Global};
 use std::process::Abort;
 use vecmap::{MapCommand, MapReply, VecMap, run};
-use vecmap_fixtures::{Item, has_pairs, has_text_pairs, item_map, make_item, repeating_map};
+use vecmap_fixtures::{Item, has_pairs, has_text_pairs, item_map, make_item};
 
 const FULL: &[(u32, char, u32)] = &[(1, 'a', 10), (2, 'b', 20)];
 
@@ -97,7 +97,7 @@ fn reply_of<'r, K: Eq, V>(
 }
 
 // A command on a map of texts, which clones what it returns.
-#[derive(Clone, Copy, Debug)]
+#[derive(Clone, Copy)]
 enum Reading {
     Get,
     ToVec,
@@ -141,7 +141,7 @@ impl Reading {
 fn is_read(rt: &impl Abort, call: Reading, reply: Option<&MapReply<String, String>>) -> bool {
     match reply {
         Some(reply) => {
-            assert!(*rt; call.is_answered(reply), "another reply to {call:?}");
+            assert!(*rt; call.is_answered(reply), "another reply");
             true
         }
         None => false,
@@ -196,7 +196,7 @@ fn an_index_of_a_map_whose_clone_is_refused_replies_out_of_memory(rt: HostRuntim
 }
 
 // A command that allocates on a full map.
-#[derive(Clone, Copy, Debug)]
+#[derive(Clone, Copy)]
 enum Change {
     InsertFull,
     InsertAt,
@@ -250,7 +250,7 @@ fn is_changed(
 ) -> bool {
     match reply {
         Some(reply) => {
-            assert!(*rt; call.is_answered(reply), "another reply to {call:?}");
+            assert!(*rt; call.is_answered(reply), "another reply");
             assert_pairs(rt, map, left);
             true
         }
@@ -312,45 +312,6 @@ fn a_refused_append_to_a_map_replies_out_of_memory(rt: HostRuntime) {
 #[test]
 fn a_refused_split_of_a_map_replies_out_of_memory(rt: HostRuntime) {
     check_change(&rt, rt.alloc(), Change::SplitOff, &[(1, 'a', 10)]);
-}
-
-const REPEATS: &[(u32, char, u32)] = &[(1, 'a', 10), (1, 'b', 20)];
-
-// Returns whether the map was split. If that was refused, the map must be unchanged.
-fn is_split(rt: &impl Abort, reply: Option<&MapReply<Item, u32>>, map: &VecMap<Item, u32>) -> bool {
-    match reply {
-        Some(MapReply::Rest(part)) => {
-            assert_pairs(rt, map, &[(1, 'a', 10)]);
-            assert!(*rt; has_pairs(part.as_slice(), &[(1, 'b', 20)]));
-            true
-        }
-        Some(_) => panic!(*rt; "another reply"),
-        None => {
-            assert_pairs(rt, map, REPEATS);
-            false
-        }
-    }
-}
-
-fn split(rt: &(impl Abort + Print), alloc: Global, map: &mut VecMap<Item, u32>) -> bool {
-    let call = Change::SplitOff;
-    let commands = one_of(rt, call.create(alloc), call.create(alloc));
-    let outcome = run(alloc, map, commands);
-    is_split(rt, reply_of(rt, &outcome), map)
-}
-
-// Splits the map again if a request was refused.
-fn check_split(rt: &(impl Abort + Print), alloc: Global, map: &mut VecMap<Item, u32>) {
-    if !split(rt, alloc, map) {
-        tell(rt);
-        assert_is(rt, split(rt, alloc, map), true);
-    }
-}
-
-#[test]
-fn a_split_of_equal_keys_separates_them_or_replies_out_of_memory(rt: HostRuntime) {
-    let mut map = make!(rt; repeating_map(rt.alloc(), REPEATS));
-    check_split(&rt, rt.alloc(), &mut map);
 }
 
 // Returns commands that insert an existing key, for which the map does not allocate.

@@ -33,16 +33,12 @@ fn reply_of<'r, T: Eq>(
 }
 
 // A command that allocates on a full set.
-#[derive(Clone, Copy, Debug)]
+#[derive(Clone, Copy)]
 enum Change {
     Insert,
     Replace,
     Append,
     SplitOff,
-    Intersect,
-    Unite,
-    Exclusive,
-    Subtract,
 }
 
 impl Change {
@@ -53,23 +49,8 @@ impl Change {
             Change::Replace => SetCommand::Replace(make_item(7, 'x')),
             Change::Append => SetCommand::Append(item_set(alloc, CARRIED)?),
             Change::SplitOff => SetCommand::SplitOff(1),
-            Change::Intersect => SetCommand::Intersect(item_set(alloc, CARRIED)?),
-            Change::Unite => SetCommand::Unite(item_set(alloc, CARRIED)?),
-            Change::Exclusive => SetCommand::Exclusive(item_set(alloc, CARRIED)?),
-            Change::Subtract => SetCommand::Subtract(item_set(alloc, CARRIED)?),
         })?;
         Ok(commands)
-    }
-
-    // Returns the elements of the set that the reply must have, if it has one.
-    fn made(self) -> Option<&'static [(u32, char)]> {
-        match self {
-            Change::SplitOff | Change::Subtract => Some(&[(2, 'b')]),
-            Change::Intersect => Some(&[(1, 'a')]),
-            Change::Unite => Some(ONE_MORE),
-            Change::Exclusive => Some(&[(2, 'b'), (7, 'x')]),
-            Change::Insert | Change::Replace | Change::Append => None,
-        }
     }
 
     // Returns whether the reply is the right one.
@@ -78,10 +59,7 @@ impl Change {
             (Change::Insert, SetReply::Truth(true)) => true,
             (Change::Replace, SetReply::Item(None)) => true,
             (Change::Append, SetReply::Done) => true,
-            (_, SetReply::Made(set)) => match self.made() {
-                Some(made) => has_items(set.as_slice(), made),
-                None => false,
-            },
+            (Change::SplitOff, SetReply::Made(set)) => has_items(set.as_slice(), &[(2, 'b')]),
             _ => false,
         }
     }
@@ -98,7 +76,7 @@ fn is_changed(
 ) -> bool {
     match reply {
         Some(reply) => {
-            assert!(*rt; call.is_answered(reply), "another reply to {call:?}");
+            assert!(*rt; call.is_answered(reply), "another reply");
             assert_items(rt, set, left);
             true
         }
@@ -147,26 +125,6 @@ fn a_refused_append_to_a_set_replies_out_of_memory(rt: HostRuntime) {
 #[test]
 fn a_refused_split_of_a_set_replies_out_of_memory(rt: HostRuntime) {
     check_change(&rt, rt.alloc(), Change::SplitOff, &[(1, 'a')]);
-}
-
-#[test]
-fn of_two_equal_elements_and_has_that_of_the_set(rt: HostRuntime) {
-    check_change(&rt, rt.alloc(), Change::Intersect, FULL);
-}
-
-#[test]
-fn of_two_equal_elements_or_has_that_of_the_set(rt: HostRuntime) {
-    check_change(&rt, rt.alloc(), Change::Unite, FULL);
-}
-
-#[test]
-fn of_two_equal_elements_xor_has_neither(rt: HostRuntime) {
-    check_change(&rt, rt.alloc(), Change::Exclusive, FULL);
-}
-
-#[test]
-fn of_two_equal_elements_minus_has_neither(rt: HostRuntime) {
-    check_change(&rt, rt.alloc(), Change::Subtract, FULL);
 }
 
 // Returns commands that add an existing element, for which the set does not allocate.
@@ -222,7 +180,7 @@ fn a_command_with_an_equal_element_is_never_refused(rt: HostRuntime) {
 const TEXTS: &[&str] = &["b", "a"];
 
 // A command on a set of texts, which clones what it returns.
-#[derive(Clone, Copy, Debug)]
+#[derive(Clone, Copy)]
 enum Reading {
     Get,
     GetIndex,
@@ -268,16 +226,11 @@ fn texts_of(reply: &SetReply<String>) -> Option<&[String]> {
 }
 
 // Returns whether the command was executed, and not refused. Its reply must have these texts.
-fn is_read(
-    rt: &impl Abort,
-    call: Reading,
-    reply: Option<&SetReply<String>>,
-    wanted: &[&str],
-) -> bool {
+fn is_read(rt: &impl Abort, reply: Option<&SetReply<String>>, wanted: &[&str]) -> bool {
     match reply {
         Some(reply) => {
             let texts = texts_of(reply).unwrap_or(&[]);
-            assert!(*rt; has_texts(texts, wanted), "another reply to {call:?}");
+            assert!(*rt; has_texts(texts, wanted), "not {wanted:?}");
             true
         }
         None => false,
@@ -295,7 +248,7 @@ fn read(
     let commands = one_of(rt, call.create(alloc), call.create(alloc));
     let outcome = run_set(alloc, set, commands);
     assert_texts(rt, set, TEXTS);
-    is_read(rt, call, reply_of(rt, &outcome), wanted)
+    is_read(rt, reply_of(rt, &outcome), wanted)
 }
 
 // Checks a command that clones texts: it is executed, or it is refused, leaves the set unchanged, and is then executed.

@@ -1,35 +1,29 @@
 //! Clones of elements that allocate.
 use crate::checks::{assert_is, assert_texts, check};
 use crate::telling::{make, text_set};
+use std::alloc::AllocError;
 use vecmap::VecSet;
 use vecmap_fixtures::has_texts;
 
 const TEXTS: &[&str] = &["b", "a"];
 
+// Clones by the trait, as generic code and derives do.
+fn copy_of<C: Clone>(original: &C) -> Result<C, AllocError> {
+    original.clone()
+}
+
 #[test]
-fn clone_of_a_set_leaves_the_source(rt: HostRuntime) {
+fn clones_of_a_set_leave_the_source(rt: HostRuntime) {
     let set = text_set(&rt, rt.alloc(), TEXTS);
     let room = set.capacity();
     let copy = make!(rt; set.clone());
     assert_texts(&rt, &copy, TEXTS);
-    assert_texts(&rt, &set, TEXTS);
-    assert_is(&rt, set.capacity(), room);
-}
-
-#[test]
-fn to_vec_of_a_set_leaves_the_source(rt: HostRuntime) {
-    let set = text_set(&rt, rt.alloc(), TEXTS);
-    let room = set.capacity();
+    let copy = make!(rt; copy_of(&set));
+    assert_texts(&rt, &copy, TEXTS);
     let copies = make!(rt; set.to_vec());
     check!(rt; has_texts(copies.as_slice(), TEXTS));
-    assert_texts(&rt, &set, TEXTS);
-    assert_is(&rt, set.capacity(), room);
-}
-
-#[test]
-fn from_slice_of_a_set_leaves_the_source(rt: HostRuntime) {
-    let set = text_set(&rt, rt.alloc(), TEXTS);
     let copy = make!(rt; VecSet::from_slice(rt.alloc(), set.as_slice()));
     assert_texts(&rt, &copy, TEXTS);
     assert_texts(&rt, &set, TEXTS);
+    assert_is(&rt, set.capacity(), room);
 }

@@ -1,4 +1,5 @@
-//! Elements that a refused call keeps, returns or drops, each once. `alive` counts those that are not dropped.
+//! The set that a refused call leaves, and the elements that it keeps, returns or drops, each once. `alive` counts those
+//! that are not dropped.
 use crate::checks::{assert_granted, assert_is, assert_told, check, granted};
 use crate::telling::{one_of, tell, told_items, told_set};
 use std::alloc::{AllocError, Global};
@@ -25,6 +26,7 @@ fn add_or_retry<'a>(rt: &(impl Abort + Print), replaces: bool, log: &'a Log, set
     if let Err(refused) = add(replaces, set, make_told(log, 3)) {
         tell(rt);
         assert_told(rt, log, set, 3, &[1, 2]);
+        assert_is(rt, (set.capacity(), refused.given.number()), (2, 3));
         assert_granted(rt, add(replaces, set, refused.given));
     }
 }
@@ -48,9 +50,10 @@ enum ManyElements {
     Extend,
     Append,
     FromIter,
+    Collect,
 }
 
-// Inserts the elements into the set by one call. `FromIter` makes a set of them in its place.
+// Inserts the elements into the set by one call. `FromIter` and `Collect` make a set of them in its place.
 fn add_many<'a>(
     call: ManyElements,
     alloc: Global,
@@ -62,6 +65,10 @@ fn add_many<'a>(
         ManyElements::Append => set.append(&mut VecSet::from(more)),
         ManyElements::FromIter => {
             drop(replace(set, VecSet::from_iter(alloc, more)?));
+            Ok(())
+        }
+        ManyElements::Collect => {
+            drop(replace(set, more.into_iter().collect(alloc)?));
             Ok(())
         }
     }
@@ -102,6 +109,7 @@ fn many_elements_are_kept_or_dropped(rt: HostRuntime) {
     check_many(&rt, rt.alloc(), ManyElements::Extend, 5, &[1, 2, 3, 4, 5]);
     check_many(&rt, rt.alloc(), ManyElements::Append, 5, &[1, 2, 3, 4, 5]);
     check_many(&rt, rt.alloc(), ManyElements::FromIter, 4, &[3, 1, 4, 5]);
+    check_many(&rt, rt.alloc(), ManyElements::Collect, 4, &[3, 1, 4, 5]);
 }
 
 // Returns commands that insert a new element and an existing one, and append a set.
@@ -145,6 +153,7 @@ fn add_item_or_retry<'a>(rt: &(impl Abort + Print), log: &'a Log, set: &mut Set<
     if add_item(set, make_told(log, 3)).is_err() {
         tell(rt);
         assert_told(rt, log, set, 2, &[1, 2]);
+        assert_is(rt, set.capacity(), 2);
         granted(rt, add_item(set, make_told(log, 3)));
     }
 }
@@ -153,6 +162,8 @@ fn add_item_or_retry<'a>(rt: &(impl Abort + Print), log: &'a Log, set: &mut Set<
 fn add_item_keeps_an_element_or_drops_it(rt: HostRuntime) {
     let log = Log::new();
     let mut set = told_set(&rt, rt.alloc(), &log, &[1, 2]);
+    // The set is full, and an existing element needs no memory.
+    granted(&rt, add_item(&mut set, make_told(&log, 1)));
     add_item_or_retry(&rt, &log, &mut set);
     assert_told(&rt, &log, &set, 3, &[1, 2, 3]);
 }
@@ -179,32 +190,6 @@ fn vecset_keeps_its_elements_or_drops_them(rt: HostRuntime) {
     let log = Log::new();
     let set = three_made(&rt, rt.alloc(), &log);
     assert_told(&rt, &log, &set, 2, &[1, 2]);
-}
-
-// Collects the elements into a set.
-fn collected<'a>(alloc: Global, items: Vec<Told<'a>>) -> Result<VecSet<Told<'a>>, AllocError> {
-    items.into_iter().collect(alloc)
-}
-
-// Like `collected`, with the elements 3, 1, 4, 3, 5. If a request is refused, all are dropped, and it tries once more.
-fn collected_made<'a>(rt: &(impl Abort + Print), alloc: Global, log: &'a Log) -> Set<'a> {
-    let items = told_items(rt, alloc, log, &[3, 1, 4, 3, 5]);
-    match collected(alloc, items) {
-        Ok(set) => set,
-        Err(AllocError) => {
-            tell(rt);
-            assert_is(rt, log.alive(), 0);
-            let items = told_items(rt, alloc, log, &[3, 1, 4, 3, 5]);
-            granted(rt, collected(alloc, items))
-        }
-    }
-}
-
-#[test]
-fn collected_elements_are_kept_or_dropped(rt: HostRuntime) {
-    let log = Log::new();
-    let set = collected_made(&rt, rt.alloc(), &log);
-    assert_told(&rt, &log, &set, 4, &[3, 1, 4, 5]);
 }
 
 // Returns commands that compare a set of 1 and 2 with an equal set, a greater, a lesser and a disjoint one.

@@ -15,7 +15,7 @@ fn with_capacity_makes_a_set_of_that_capacity_or_none(rt: HostRuntime) {
     check!(rt; 3 <= set.capacity());
 }
 
-#[derive(Clone, Copy, Debug, PartialEq, Eq)]
+#[derive(Clone, Copy)]
 enum Reserving {
     Reserve,
     ReserveExact,
@@ -39,16 +39,16 @@ fn check_reserving(rt: &(impl Abort + Print), alloc: Global, call: Reserving) {
     if !reserve(call, &mut set) {
         tell(rt);
         assert_items(rt, &set, FULL);
-        assert_is(rt, (call, set.capacity()), (call, 2));
-        assert_is(rt, (call, reserve(call, &mut set)), (call, true));
+        assert_is(rt, set.capacity(), 2);
+        assert_is(rt, reserve(call, &mut set), true);
     }
     assert_items(rt, &set, FULL);
-    assert_is(rt, (call, 4 <= set.capacity()), (call, true));
+    assert_is(rt, 4 <= set.capacity(), true);
     // It is not refused with this spare capacity.
     let room = set.capacity();
-    assert_is(rt, (call, reserve(call, &mut set)), (call, true));
+    assert_is(rt, reserve(call, &mut set), true);
     assert_items(rt, &set, FULL);
-    assert_is(rt, (call, set.capacity()), (call, room));
+    assert_is(rt, set.capacity(), room);
 }
 
 #[test]

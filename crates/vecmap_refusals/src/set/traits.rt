@@ -1,26 +1,9 @@
-//! The traits `Clone` and `Extend` of sets, if a request is refused.
-use crate::checks::{assert_is, assert_items, assert_texts, granted};
-use crate::telling::{full_set, make, tell, text_set};
-use std::alloc::AllocError;
+//! The trait `Extend` of sets, if a request is refused.
+use crate::checks::{assert_is, assert_items, granted};
+use crate::telling::{full_set, tell};
 use std::process::Abort;
 use vecmap::VecSet;
 use vecmap_fixtures::{Item, make_item};
-
-const TEXTS: &[&str] = &["b", "a"];
-
-fn copy_of<C: Clone>(original: &C) -> Result<C, AllocError> {
-    original.clone()
-}
-
-#[test]
-fn clone_of_a_set_by_the_trait_leaves_the_source(rt: HostRuntime) {
-    let set = text_set(&rt, rt.alloc(), TEXTS);
-    let room = set.capacity();
-    let copy = make!(rt; copy_of(&set));
-    assert_texts(&rt, &copy, TEXTS);
-    assert_texts(&rt, &set, TEXTS);
-    assert_is(&rt, set.capacity(), room);
-}
 
 // Extends a set of one element by an equal element and a new one. If that is refused, the set is unchanged, and it is
 // repeated, by reference.

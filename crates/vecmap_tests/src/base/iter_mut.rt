@@ -8,21 +8,12 @@ const PAIRS: [(u32, u32); 4] = [(1, 10), (2, 20), (3, 30), (4, 40)];
 const KEYS: [u32; 4] = [1, 2, 3, 4];
 
 #[test]
-fn iter_mut2_is_exact_for_every_mixture_of_next_and_next_back(rt: HostRuntime) {
+fn iter_mut2_and_keys_mut_are_exact_for_every_mixture_of_next_and_next_back(rt: HostRuntime) {
     for count in 0..5 {
         let mut pairs = granted(&rt, PAIRS[..count].to_vec(rt.alloc()));
         for ends in 0..64 {
             let read = |(key, value): (&mut u32, &mut u32)| (*key, *value);
             check!(rt; pulls_as_list(IterMut2::over(&mut pairs), read, &PAIRS[..count], ends));
-        }
-    }
-}
-
-#[test]
-fn keys_mut_are_exact_for_every_mixture_of_next_and_next_back(rt: HostRuntime) {
-    for count in 0..5 {
-        let mut pairs = granted(&rt, PAIRS[..count].to_vec(rt.alloc()));
-        for ends in 0..64 {
             let read = |key: &mut u32| *key;
             check!(rt; pulls_as_list(KeysMut::over(&mut pairs), read, &KEYS[..count], ends));
         }

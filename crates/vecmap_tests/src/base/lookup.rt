@@ -1,35 +1,7 @@
 //! Lookups in lists, and the number of their comparisons.
 use crate::checks::{assert_is, check, granted};
 use vecmap_base::{find, find_item, find_item_str, find_str, is_in};
-use vecmap_fixtures::{Log, make_item, told_items, told_pairs};
-
-#[test]
-fn find_returns_the_first_of_equal_keys(rt: HostRuntime) {
-    let pairs = [
-        (make_item(2, 'b'), 20),
-        (make_item(1, 'x'), 10),
-        (make_item(1, 'y'), 30),
-        (make_item(2, 'c'), 40),
-    ];
-    for (number, place) in [(1, Some(1)), (2, Some(0)), (3, None)] {
-        assert_is(&rt, find(&pairs, &make_item(number, 'z')), place);
-    }
-    assert_is(&rt, find::<u32, u32>(&[], &1), None);
-}
-
-#[test]
-fn find_item_returns_the_first_of_equal_elements(rt: HostRuntime) {
-    let items = [
-        make_item(2, 'b'),
-        make_item(1, 'x'),
-        make_item(1, 'y'),
-        make_item(2, 'c'),
-    ];
-    for (number, place) in [(1, Some(1)), (2, Some(0)), (3, None)] {
-        assert_is(&rt, find_item(&items, &make_item(number, 'z')), place);
-    }
-    assert_is(&rt, find_item::<u32>(&[], &1), None);
-}
+use vecmap_fixtures::{Log, told_items, told_pairs};
 
 #[test]
 fn texts_are_found_at_their_first_index(rt: HostRuntime) {

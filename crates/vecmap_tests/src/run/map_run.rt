@@ -1,9 +1,9 @@
 //! Runs of commands on a map. The replies are compared as they print, in order.
-use crate::checks::{assert_is, assert_list, assert_pairs, assert_text, check, granted};
+use crate::checks::{assert_is, assert_list, assert_text, check, granted};
 use std::fmt::Debug;
 use std::process::Abort;
 use vecmap::{MapCommand, MapReply, VecMap, run};
-use vecmap_fixtures::{Log, has_told_pairs, item_map, make_item, make_told, told_map};
+use vecmap_fixtures::{Log, has_told_pairs, make_told, told_map};
 
 // Asserts how the replies of a run of commands print, in order.
 fn assert_replies<K: Eq + Clone + Debug, V: Eq + Clone + Debug, E: Drop>(
@@ -61,59 +61,6 @@ fn a_map_run_appends_and_compares_maps(rt: HostRuntime) {
 }
 
 #[test]
-fn a_map_run_inserts_pairs(rt: HostRuntime) {
-    let mut map = granted(&rt, VecMap::from_slice(rt.alloc(), &[('a', 1), ('b', 2)]));
-    let commands = vec![in rt.alloc();
-        MapCommand::Insert('b', 3),
-        MapCommand::InsertFull('c', 4),
-        MapCommand::InsertAt(0, 'b', 5),
-        MapCommand::InsertAt(4, 'd', 6),
-        MapCommand::InsertAt(3, 'd', 6),
-        MapCommand::InsertKey('d', 7),
-        MapCommand::InsertKey('e', 8),
-    ];
-    assert_replies(
-        &rt,
-        &mut map,
-        commands,
-        "[Value(Some(2)), Full(2, None), Moved(Some((1, 3))), OutOfRange, Moved(None), Pair(Some(('d', 6))), Pair(None)]",
-    );
-    let left = [('b', 5), ('a', 1), ('c', 4), ('d', 7), ('e', 8)];
-    assert_list(&rt, map.as_slice(), &left);
-}
-
-#[test]
-fn a_map_run_reads(rt: HostRuntime) {
-    let pairs = [('a', 1), ('b', 2)];
-    let mut map = granted(&rt, VecMap::from_slice(rt.alloc(), &pairs));
-    let room = map.capacity();
-    let commands = vec![in rt.alloc();
-        MapCommand::Get('a'),
-        MapCommand::Get('z'),
-        MapCommand::GetIndex(1),
-        MapCommand::GetIndex(2),
-        MapCommand::IndexOf('b'),
-        MapCommand::IndexOf('z'),
-        MapCommand::ContainsKey('a'),
-        MapCommand::ContainsKey('z'),
-        MapCommand::First,
-        MapCommand::Last,
-        MapCommand::Len,
-    ];
-    assert_replies(
-        &rt,
-        &mut map,
-        commands,
-        "[Value(Some(1)), Value(None), Pair(Some(('b', 2))), Pair(None), Place(Some(1)), Place(None), Truth(true), Truth(false), Pair(Some(('a', 1))), Pair(Some(('b', 2))), Number(2)]",
-    );
-    assert_is(
-        &rt,
-        (map.as_slice(), map.capacity()),
-        (pairs.as_slice(), room),
-    );
-}
-
-#[test]
 fn a_map_run_inserts_finds_and_removes(rt: HostRuntime) {
     let mut map = VecMap::new(rt.alloc());
     let commands = vec![in rt.alloc();
@@ -134,84 +81,6 @@ fn a_map_run_inserts_finds_and_removes(rt: HostRuntime) {
         "[Value(None), Value(None), Value(Some(1)), Value(Some(3)), Place(Some(1)), Value(Some(3)), Value(None), Number(1), Pairs([('b', 2)])]",
     );
     assert_list(&rt, map.as_slice(), &[('b', 2)]);
-}
-
-#[test]
-fn a_map_run_removes_pairs_by_index(rt: HostRuntime) {
-    let pairs = [('a', 1), ('b', 2), ('c', 3), ('d', 4), ('e', 5)];
-    let mut map = granted(&rt, VecMap::from_slice(rt.alloc(), &pairs));
-    let commands = vec![in rt.alloc();
-        MapCommand::RemoveIndex(1),
-        MapCommand::ToVec,
-        MapCommand::SwapRemoveIndex(0),
-        MapCommand::ToVec,
-        MapCommand::RemoveIndex(3),
-        MapCommand::SwapRemoveIndex(3),
-        MapCommand::ToVec,
-        MapCommand::Pop,
-        MapCommand::ToVec,
-    ];
-    assert_replies(
-        &rt,
-        &mut map,
-        commands,
-        "[Pair(Some(('b', 2))), Pairs([('a', 1), ('c', 3), ('d', 4), ('e', 5)]), Pair(Some(('a', 1))), Pairs([('e', 5), ('c', 3), ('d', 4)]), OutOfRange, OutOfRange, Pairs([('e', 5), ('c', 3), ('d', 4)]), Pair(Some(('d', 4))), Pairs([('e', 5), ('c', 3)])]",
-    );
-    let commands = vec![in rt.alloc(); MapCommand::Pop, MapCommand::Pop, MapCommand::Pop];
-    assert_replies(
-        &rt,
-        &mut map,
-        commands,
-        "[Pair(Some(('c', 3))), Pair(Some(('e', 5))), Pair(None)]",
-    );
-    check!(rt; map.is_empty());
-}
-
-#[test]
-fn a_map_run_removes_pairs_by_key(rt: HostRuntime) {
-    let pairs = [('a', 1), ('b', 2), ('c', 3), ('d', 4), ('e', 5), ('f', 6)];
-    let mut map = granted(&rt, VecMap::from_slice(rt.alloc(), &pairs));
-    let commands = vec![in rt.alloc();
-        MapCommand::RemoveEntry('a'),
-        MapCommand::ToVec,
-        MapCommand::SwapRemoveEntry('b'),
-        MapCommand::ToVec,
-        MapCommand::Remove('f'),
-        MapCommand::ToVec,
-        MapCommand::SwapRemove('c'),
-        MapCommand::ToVec,
-    ];
-    assert_replies(
-        &rt,
-        &mut map,
-        commands,
-        "[Pair(Some(('a', 1))), Pairs([('b', 2), ('c', 3), ('d', 4), ('e', 5), ('f', 6)]), Pair(Some(('b', 2))), Pairs([('f', 6), ('c', 3), ('d', 4), ('e', 5)]), Value(Some(6)), Pairs([('c', 3), ('d', 4), ('e', 5)]), Value(Some(3)), Pairs([('e', 5), ('d', 4)])]",
-    );
-    assert_list(&rt, map.as_slice(), &[('e', 5), ('d', 4)]);
-}
-
-#[test]
-fn a_map_run_removes_nothing_by_an_absent_key(rt: HostRuntime) {
-    let pairs = [('a', 1), ('b', 2)];
-    let mut map = granted(&rt, VecMap::from_slice(rt.alloc(), &pairs));
-    let room = map.capacity();
-    let commands = vec![in rt.alloc();
-        MapCommand::Remove('z'),
-        MapCommand::SwapRemove('z'),
-        MapCommand::RemoveEntry('z'),
-        MapCommand::SwapRemoveEntry('z'),
-    ];
-    assert_replies(
-        &rt,
-        &mut map,
-        commands,
-        "[Value(None), Value(None), Pair(None), Pair(None)]",
-    );
-    assert_is(
-        &rt,
-        (map.as_slice(), map.capacity()),
-        (pairs.as_slice(), room),
-    );
 }
 
 #[test]
@@ -236,32 +105,6 @@ fn a_map_run_goes_on_after_indices_out_of_range(rt: HostRuntime) {
         (map.as_slice(), map.capacity()),
         (pairs.as_slice(), room),
     );
-}
-
-#[test]
-fn a_map_run_changes_the_whole_list(rt: HostRuntime) {
-    let pairs = [('a', 1), ('b', 2), ('c', 3), ('d', 4)];
-    let mut map = granted(&rt, VecMap::from_slice(rt.alloc(), &pairs));
-    let commands = vec![in rt.alloc();
-        MapCommand::SwapIndices(0, 2),
-        MapCommand::SwapIndices(0, 4),
-        MapCommand::SwapIndices(4, 0),
-        MapCommand::ToVec,
-        MapCommand::Reverse,
-        MapCommand::Truncate(3),
-        MapCommand::ToVec,
-        MapCommand::SplitOff(4),
-        MapCommand::SplitOff(3),
-        MapCommand::Clear,
-        MapCommand::Last,
-    ];
-    assert_replies(
-        &rt,
-        &mut map,
-        commands,
-        "[Done, OutOfRange, OutOfRange, Pairs([('c', 3), ('b', 2), ('a', 1), ('d', 4)]), Done, Done, Pairs([('d', 4), ('a', 1), ('b', 2)]), OutOfRange, Rest({}), Done, Pair(None)]",
-    );
-    assert_is(&rt, (map.len(), map.capacity() >= 4), (0, true));
 }
 
 #[test]
@@ -326,17 +169,6 @@ fn a_refused_clone_in_a_map_run_replies_out_of_memory_and_changes_nothing(rt: Ho
         assert_is(&rt, log.alive(), 4);
         check!(rt; has_told_pairs(map.as_slice(), &[(1, 11), (2, 12)]));
     }
-}
-
-#[test]
-fn a_map_run_keeps_the_stored_key(rt: HostRuntime) {
-    let mut map = granted(&rt, item_map(rt.alloc(), &[(1, 'x', 10)]));
-    let commands = vec![in rt.alloc();
-        MapCommand::Insert(make_item(1, 'y'), 20),
-        MapCommand::OrInsert(make_item(1, 'z'), 30),
-    ];
-    assert_replies(&rt, &mut map, commands, "[Value(Some(10)), Kept(0, false)]");
-    assert_pairs(&rt, &map, &[(1, 'x', 20)]);
 }
 
 #[test]
