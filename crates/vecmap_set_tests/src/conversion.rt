@@ -89,3 +89,19 @@ fn distinct_elements_are_distinguished_from_repeats(rt: HostRuntime) {
         }
     }
 }
+
+#[test]
+fn an_array_loses_its_repeats(rt: HostRuntime) {
+    let items = [
+        make_item(2, 'b'),
+        make_item(1, 'x'),
+        make_item(2, 'y'),
+        make_item(3, 'c'),
+        make_item(1, 'z'),
+    ];
+    let set = granted(&rt, VecSet::from_array(rt.alloc(), items));
+    assert_items(&rt, &set, &[(2, 'b'), (1, 'x'), (3, 'c')]);
+    check!(rt; 5 <= set.capacity());
+    let set: VecSet<u32> = granted(&rt, VecSet::from_array(rt.alloc(), []));
+    assert_list(&rt, set.as_slice(), &[]);
+}

@@ -5,6 +5,7 @@ mod equality;
 mod iter_mut;
 mod lookup;
 mod moving;
+mod refused;
 mod relations;
 mod repeats;
 mod retain;
