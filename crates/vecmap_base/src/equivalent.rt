@@ -1,12 +1,13 @@
 //! Queries that match keys or elements, and the searches by a query.
 ghost use Rattle.std.proofs.Common.{sym, ◌∙◌};
-ghost use Rattle.std.specs.Prelude.{◌≡◌, ◌<◌, Bool, IfSome, IsTrue, bytes_eq, length, position, string_bytes};
-ghost use Rattle.std.specs.Arc.{arc_str_bytes};
+ghost use Rattle.std.proofs.lemmas.Bool.{and_parts};
+ghost use Rattle.std.specs.Prelude.{◌≡◌, ◌&&◌, ◌<◌, Bool, IfSome, IsTrue, bytes_eq, length, position, string_bytes};
+ghost use Rattle.std.specs.Arc.{arc_slice_items, arc_str_bytes};
 ghost use Rattle.std.specs.Box.{boxed_slice_items, boxed_str_bytes};
 ghost use Rattle.std.specs.Cmp.Lexicographic.{lists_equiv, nat_list_eq_equiv, pointwise};
 ghost use Rattle.std.specs.Cow.{cow_str_bytes};
 ghost use Rattle.std.specs.List.{list_any};
-ghost use Rattle.std.specs.Rc.{rc_str_bytes};
+ghost use Rattle.std.specs.Rc.{rc_slice_items, rc_str_bytes};
 ghost use Rattle.vecmap_base.specs.Pairs.{has_text, index_by};
 
 use crate::unrolled::{
@@ -14,13 +15,15 @@ use crate::unrolled::{
 };
 use std::borrow::CowStr;
 use std::boxed::{BoxedSlice, BoxedStr};
-use std::rc::RcStr;
-use std::sync::ArcStr;
+use std::ops::Deref;
+use std::rc::{Rc, RcSlice, RcStr};
+use std::sync::{Arc, ArcSlice, ArcStr};
 
 /// A query that may match keys, or elements.
 ///
-/// A `&K` matches the keys that are equal to it. A `&str` matches the texts with the same bytes, whatever type holds
-/// them. A `&[T]` matches the vectors and boxed slices whose items are equal to its own.
+/// A `&K` matches the keys that are equal to it, and a `&T` also each `Box`, `Rc` and `Arc` whose value is equal to it. A
+/// `&str` matches the texts with the same bytes, whatever type holds them. A `&[T]` matches the vectors, and the boxed and
+/// shared slices, whose items are equal to its own. A pair of queries matches the pairs of keys that both match.
 ///
 /// Other types can implement this trait. If a query matches a key, it must match the keys that are equal to that key,
 /// and no others.
@@ -150,6 +153,89 @@ impl<T: Eq> Equivalent<BoxedSlice<T>> for &[T] {
     }
 
     ghost respects_eq = { λ query x y. (lists_equiv T.Eq.laws).congr query.now (boxed_slice_items x) (boxed_slice_items y) };
+}
+
+/// Matches each `RcSlice` whose items are equal to those of the query, index by index.
+impl<T: Eq> Equivalent<RcSlice<T>> for &[T] {
+    ghost equivalent = { λ query key. pointwise T.eq query.now (rc_slice_items key) };
+
+    #[inline]
+    fn equivalent(&self, key: &RcSlice<T>) -> bool {
+        **self == *key.as_slice()
+    }
+
+    ghost respects_eq = { λ query x y. (lists_equiv T.Eq.laws).congr query.now (rc_slice_items x) (rc_slice_items y) };
+}
+
+/// Matches each `ArcSlice`, which threads may share, whose items are equal to those of the query, index by index.
+impl<T: Eq> Equivalent<ArcSlice<T>> for &[T] {
+    ghost equivalent = { λ query key. pointwise T.eq query.now (arc_slice_items key) };
+
+    #[inline]
+    fn equivalent(&self, key: &ArcSlice<T>) -> bool {
+        **self == *key.as_slice()
+    }
+
+    ghost respects_eq = { λ query x y. (lists_equiv T.Eq.laws).congr query.now (arc_slice_items x) (arc_slice_items y) };
+}
+
+/// Matches each `Box` whose value is equal to that of the query.
+impl<T: Eq> Equivalent<Box<T>> for &T {
+    ghost equivalent = { λ query key. T.eq query.now key.value };
+
+    #[inline]
+    fn equivalent(&self, key: &Box<T>) -> bool {
+        **self == *key.deref()
+    }
+
+    ghost respects_eq = { λ query x y. T.Eq.laws.congr query.now x.value y.value };
+}
+
+/// Matches each `Rc` whose value is equal to that of the query.
+impl<T: Eq> Equivalent<Rc<T>> for &T {
+    ghost equivalent = { λ query key. T.eq query.now key.value };
+
+    #[inline]
+    fn equivalent(&self, key: &Rc<T>) -> bool {
+        **self == *key.deref()
+    }
+
+    ghost respects_eq = { λ query x y. T.Eq.laws.congr query.now x.value y.value };
+}
+
+/// Matches each `Arc`, which threads may share, whose value is equal to that of the query.
+impl<T: Eq> Equivalent<Arc<T>> for &T {
+    ghost equivalent = { λ query key. T.eq query.now key.value };
+
+    #[inline]
+    fn equivalent(&self, key: &Arc<T>) -> bool {
+        **self == *key.deref()
+    }
+
+    ghost respects_eq = { λ query x y. T.Eq.laws.congr query.now x.value y.value };
+}
+
+/// Matches each pair of keys that its two queries match, the first one the first key and the second one the second.
+///
+/// So two texts find a key `(String, String)`.
+///
+/// # Examples
+///
+/// ```
+/// let key = (String::from_str(alloc, "Ada")?, 1);
+/// ("Ada", &1).equivalent(&key) // true
+/// ("Ada", &2).equivalent(&key) // false
+/// ```
+impl<A: Eq, B: Eq, P: Equivalent<A>, Q: Equivalent<B>> Equivalent<(A, B)> for (P, Q) {
+    ghost equivalent = { λ query key. P.equivalent query.0 key.0 && Q.equivalent query.1 key.1 };
+
+    #[inline]
+    fn equivalent(&self, key: &(A, B)) -> bool {
+        self.0.equivalent(&key.0) && self.1.equivalent(&key.1)
+    }
+
+    // Each of the two queries respects the equality of its own keys.
+    ghost respects_eq = { λ query x y h. let both = and_parts (P.equivalent query.0 x.0) (Q.equivalent query.1 x.1) h in λ j. P.respects_eq query.0 x.0 y.0 both.0 j && Q.respects_eq query.1 x.1 y.1 both.1 j };
 }
 
 /// Returns the index of the first pair whose key matches `query`.

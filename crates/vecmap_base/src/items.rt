@@ -3,7 +3,7 @@
 //! In contracts an iterator is the list of the elements that it has left. `next` removes the first of them and returns
 //! it, and `next_back` the last, in constant time. Once the list is empty, both return `None`. Only the `clone` of
 //! `IntoIter` allocates, and its time is linear in the length of the list.
-ghost use Rattle.std.specs.Prelude.{◌≡◌, IfOk, IfSome, length};
+ghost use Rattle.std.specs.Prelude.{◌≡◌, ⊤, IfOk, IfSome, length};
 ghost use Rattle.std.specs.Iterator.{UpTo, at_most};
 ghost use Rattle.std.specs.Iterator.SizeHint.{IsWithinCount};
 ghost use Rattle.std.specs.Map.Iter.{TakesFirst, TakesLast, deref};
@@ -12,6 +12,7 @@ ghost use Rattle.vecmap_base.specs.Walks.{GivesAll, ShowsAll};
 
 use std::alloc::AllocError;
 use std::collections::VecDeque;
+use std::iter::FusedIterator;
 use std::marker::Model;
 use std::{fmt, slice};
 
@@ -116,6 +117,19 @@ impl<'a, T> ExactSizeIterator for Iter<'a, T> {
     /// Returns the number of elements left.
     fn len(&self) -> usize {
         self.items.len()
+    }
+}
+
+impl<'a, T> FusedIterator for Iter<'a, T> {}
+
+/// Returns another iterator over the elements that are left, like the inherent [`Iter::clone`]. It never fails.
+impl<'a, T> Clone for Iter<'a, T> {
+    ghost is_clone = { λ iter copy. copy ≡ iter };
+
+    ghost is_infallible = { λ _. ⊤ };
+
+    fn clone(&self) -> Result<Iter<'a, T>, AllocError> {
+        Ok(self.clone())
     }
 }
 
@@ -235,6 +249,8 @@ impl<T: Drop> ExactSizeIterator for IntoIter<T> {
         self.items.len()
     }
 }
+
+impl<T: Drop> FusedIterator for IntoIter<T> {}
 
 /// Prints the elements that are left, as std prints a list.
 impl<T: fmt::Debug> fmt::Debug for IntoIter<T> {

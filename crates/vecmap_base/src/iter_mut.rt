@@ -10,6 +10,7 @@ ghost use Rattle.std.specs.Map.{keys_of, values_of};
 ghost use Rattle.std.specs.Map.Iter.{TakesFirst, TakesLast, deref_pair_mut};
 ghost use Rattle.vecmap_base.specs.Walks.{ShowsAll, deref_both_mut, deref_mut};
 
+use std::iter::FusedIterator;
 use std::marker::Model;
 use std::{fmt, slice};
 
@@ -100,6 +101,8 @@ impl<'a, K, V> ExactSizeIterator for IterMut<'a, K, V> {
         self.pairs.len()
     }
 }
+
+impl<'a, K, V> FusedIterator for IterMut<'a, K, V> {}
 
 /// Prints the pairs that are left, as std prints a list.
 impl<'a, K: fmt::Debug, V: fmt::Debug> fmt::Debug for IterMut<'a, K, V> {
@@ -196,6 +199,8 @@ impl<'a, K, V> ExactSizeIterator for IterMut2<'a, K, V> {
     }
 }
 
+impl<'a, K, V> FusedIterator for IterMut2<'a, K, V> {}
+
 /// Prints the pairs that are left, as std prints a list.
 impl<'a, K: fmt::Debug, V: fmt::Debug> fmt::Debug for IterMut2<'a, K, V> {
     fn fmt<W: fmt::Write>(&self, f: &mut fmt::Formatter<W>) -> fmt::Result {
@@ -291,6 +296,8 @@ impl<'a, K, V> ExactSizeIterator for KeysMut<'a, K, V> {
         self.pairs.len()
     }
 }
+
+impl<'a, K, V> FusedIterator for KeysMut<'a, K, V> {}
 
 /// Prints the keys that are left, as std prints a list.
 impl<'a, K: fmt::Debug, V> fmt::Debug for KeysMut<'a, K, V> {
@@ -389,6 +396,8 @@ impl<'a, K, V> ExactSizeIterator for ValuesMut<'a, K, V> {
         self.pairs.len()
     }
 }
+
+impl<'a, K, V> FusedIterator for ValuesMut<'a, K, V> {}
 
 /// Prints the values that are left, as std prints a list.
 impl<'a, K, V: fmt::Debug> fmt::Debug for ValuesMut<'a, K, V> {

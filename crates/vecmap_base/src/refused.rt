@@ -11,7 +11,7 @@ use std::{fmt, io};
 /// let refused = Refused { given: ('a', 1) };
 /// refused.given // ('a', 1)
 /// ```
-#[derive(Clone, Copy, Debug, Drop, PartialEq, Eq)]
+#[derive(Clone, Copy, Drop, PartialEq, Eq)]
 pub struct Refused<T> {
     pub given: T,
 }
@@ -52,6 +52,20 @@ impl<T: Drop> From<Refused<T>> for io::Error {
     }
 }
 
+/// Prints `Refused { .. }`, whatever value is in the error. So the value needs no `Debug`.
+///
+/// # Examples
+///
+/// ```
+/// let refused = Refused { given: ('a', 1) };
+/// format!(in alloc; "{refused:?}")?.as_str() // "Refused { .. }"
+/// ```
+impl<T> fmt::Debug for Refused<T> {
+    fn fmt<W: fmt::Write>(&self, f: &mut fmt::Formatter<W>) -> fmt::Result {
+        f.write_str("Refused { .. }")
+    }
+}
+
 /// Prints the same text as an `AllocError`, whatever value is in the error.
 ///
 /// # Examples
@@ -66,4 +80,4 @@ impl<T> fmt::Display for Refused<T> {
     }
 }
 
-impl<T: fmt::Debug + Drop> Error for Refused<T> {}
+impl<T: Drop> Error for Refused<T> {}

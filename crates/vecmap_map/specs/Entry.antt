@@ -4,7 +4,8 @@ use Rattle.std.specs.Borrow.{MutBor}
 use Rattle.std.specs.Option.{option_and_then, option_map_or}
 use Rattle.vecmap_base.specs.Items.{swap_without}
 use Rattle.vecmap_base.specs.Pairs.{value_at, with_value}
-use Rattle.vecmap_map.specs.Contents.{Contents, KeepsRoomAt, with_value_at}
+use Rattle.vecmap_base.specs.declared.refused.Refused.{Refused}
+use Rattle.vecmap_map.specs.Contents.{Contents, IsFull, KeepsRoomAt, with_value_at}
 use Rattle.vecmap_map.specs.EntryWithin.{still_within}
 use Rattle.vecmap_map.specs.declared.entry.Entry.{Entry}
 use Rattle.vecmap_map.specs.declared.entry.Entry.TheVariants.{Occupied, Vacant}
@@ -63,6 +64,10 @@ module _ {K V : Type 0} where
   -- The entry o with v as its value.
   abbrev pub occupied_with : OccupiedEntry K V → V → OccupiedEntry K V
   occupied_with o v = record o { map = record o.map { now = with_value_at o.map.now o.index v }; within = still_within o v }
+
+  -- The map is full, and the refusal of the key of e with a made value became the error.
+  abbrev pub RefusesMade : {E : Type 0} → (Refused (K × V) → E → Type 0) → (V → Type 0) → Entry K V → E → Type 0
+  RefusesMade becomes made e error = (v : V) × made v × IsFull (entry_map e) × becomes (record { given = (entry_key e, v) }) error
 
   -- The list l has the pairs after v is set as the value of the key of e. A vacant entry stores a clone of the key.
   abbrev pub AreEntriesWith : (K → K → Type 0) → Entry K V → V → List (K × V) → Type 0

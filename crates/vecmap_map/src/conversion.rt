@@ -1,12 +1,12 @@
 //! Conversions of a vector into a map, which keep the vector, and clones of the pairs in a new vector.
-ghost use Rattle.std.specs.Prelude.{◌≡◌, IfOk, [], vec_capacity};
+ghost use Rattle.std.specs.Prelude.{◌≡◌, ◌≤◌, IfOk, [], vec_capacity};
 ghost use Rattle.std.specs.Map.{keys_of};
 ghost use Rattle.vecmap_base.specs.Pairs.{HasDistinctKeys, puts};
 ghost use Rattle.vecmap_base.specs.Repeats.{comparisons};
 ghost use Rattle.vecmap_map.specs.MapBulk.{ArePairClones};
 
 use crate::VecMap;
-use std::alloc::AllocError;
+use std::alloc::{AllocError, Global};
 use vecmap_base::{Steps, dedup_keep_last_value};
 
 /// Inserts the pairs of a vector in order, and keeps them in that vector.
@@ -58,6 +58,37 @@ impl<K, V> VecMap<K, V> {
         let mut steps = Steps::new();
         dedup_keep_last_value(&mut pairs, &mut steps);
         (VecMap { pairs }, steps.count())
+    }
+
+    /// Creates a map and inserts the pairs of an array, in order.
+    ///
+    /// This is Rust's `From<[(K, V); N]>`. Of equal keys the first one stays, with the last of their values.
+    ///
+    /// # Errors
+    ///
+    /// [`AllocError`] if the allocator refuses the request; the pairs are then dropped, and no map is created.
+    ///
+    /// # Complexity
+    ///
+    /// As many comparisons as [`VecMap::from_vec_counted`], and one allocation.
+    ///
+    /// # Examples
+    ///
+    /// ```
+    /// let map = VecMap::from_array(alloc, [('a', 1), ('b', 2), ('a', 3)])?;
+    /// map.as_slice() // [('a', 3), ('b', 2)]
+    /// ```
+    pub fn from_array<const N: usize>(
+        alloc: Global,
+        pairs: [(K, V); N],
+    ) -> Result<VecMap<K, V>, AllocError>
+    where
+        K: Eq + Drop,
+        V: Drop,
+        ensures entries { IfOk result (λ map. map.entries ≡ puts K.eq [] pairs) }
+        ensures at_least { IfOk result (λ map. N ≤ map.capacity) }
+    {
+        Ok(VecMap::from(Vec::from_array(alloc, pairs)?))
     }
 
     /// Creates a map of the pairs as they are, in the vector that holds them.

@@ -13,6 +13,7 @@ ghost use Rattle.vecmap_map.specs.Drain.{DrainKeeps, DrainNext, DrainNextBack, d
 
 use crate::VecMap;
 use std::fmt;
+use std::iter::FusedIterator;
 use vecmap_base::{move_range_last, reverse_from};
 
 /// An iterator over the pairs of a range of a map, which it removes. [`VecMap::drain`] creates it.
@@ -205,6 +206,8 @@ impl<'a, K: Drop, V: Drop> ExactSizeIterator for Drain<'a, K, V> {
         self.map.len().saturating_sub(self.keep)
     }
 }
+
+impl<'a, K: Drop, V: Drop> FusedIterator for Drain<'a, K, V> {}
 
 /// Prints the remaining pairs in order, as std prints lists.
 impl<'a, K: fmt::Debug, V: fmt::Debug> fmt::Debug for Drain<'a, K, V> {

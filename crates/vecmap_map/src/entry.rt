@@ -2,7 +2,7 @@
 //!
 //! An entry holds the map, the key that was passed to `entry`, and the index of that key. A clause `writes_back` says
 //! what the map is once the returned reference has ended.
-ghost use Rattle.std.specs.Prelude.{◌≡◌, IfErr, IfOk, None, OnErr, Some, unwrap_or};
+ghost use Rattle.std.specs.Prelude.{◌≡◌, ◌⊎◌, Err, IfErr, IfOk, None, Ok, OnErr, Some, unwrap_or};
 ghost use Rattle.std.specs.Borrow.{Bor, MutBor, sem};
 ghost use Rattle.std.specs.Fn.{FnOnceReturnsAt};
 ghost use Rattle.std.specs.Map.Calls.{ModifiesValue};
@@ -68,8 +68,8 @@ impl<K, V> VecMap<K, V> {
 }
 
 impl<'a, K, V> Entry<'a, K, V> {
-    ghost use Rattle.vecmap_map.specs.Entry.{IsInserted, LeavesSame, entries_with, entry_index, entry_key, entry_map, entry_place, entry_ref, entry_value};
-    ghost use Rattle.vecmap_map.specs.EntryLends.{entry_lends, entry_passes};
+    ghost use Rattle.vecmap_map.specs.Entry.{IsInserted, LeavesSame, RefusesMade, entries_with, entry_index, entry_key, entry_map, entry_place, entry_ref, entry_value};
+    ghost use Rattle.vecmap_map.specs.EntryLends.{entry_lends, entry_lends_or_stays, entry_passes};
 
     /// Creates the entry of `key` in `map`. [`VecMap::entry`] calls it.
     ///
@@ -191,6 +191,54 @@ impl<'a, K, V> Entry<'a, K, V> {
                 let value = f(entry.key());
                 entry.insert(value)
             }
+        }
+    }
+
+    /// Like [`Entry::or_insert_with`], but `f` may fail, for instance because it allocates.
+    ///
+    /// # Errors
+    ///
+    /// If `f` returns an error, the call returns that error. If the map is full and the allocator refuses to grow it,
+    /// the [`Refused`] with the passed key and the value that `f` returned is converted to `E`. The map is unchanged in
+    /// both cases. Without a new key nothing fails.
+    ///
+    /// # Conditions
+    ///
+    /// If the key has no value, `f` can be called.
+    ///
+    /// # Examples
+    ///
+    /// ```
+    /// let mut names: VecMap<u32, String> = VecMap::new(alloc);
+    /// names.entry(7).or_try_insert_with(|| String::from_str(alloc, "seven"))?.as_str() // "seven"
+    /// names.entry(8).or_try_insert_with(|| Err(AllocError)).is_err() // true
+    /// names.len() // 1
+    /// ```
+    pub fn or_try_insert_with<E, F: FnOnce() -> Result<V, E>>(self, f: F) -> Result<&'a mut V, E>
+    where
+        K: Drop,
+        E: From<Refused<(K, V)>>,
+        F: Drop,
+        requires { entry_place self ≡ None → F.pre f }
+        ensures* writes_back { sem 𝓛 (entry_lends_or_stays K.row V.row self.entry result) }
+        ensures value { IfOk result (λ x. UnwrapsOrElse (entry_value self.entry)
+            (λ v. F.post f (Ok v)) x.now) }
+
+        // On `Err` the key is new. Either `f` failed, or the map is full and the pair was refused.
+        ensures absent { OnErr result (entry_place self.entry ≡ None) }
+        ensures err { IfErr result (λ error. F.post f (Err error) ⊎ RefusesMade
+            E.from_gives (λ v. F.post f (Ok v)) self.entry error) }
+    {
+        match self {
+            Entry::Occupied(entry) => Ok(entry.into_mut()),
+            Entry::Vacant(entry) => match f() {
+                Ok(value) => entry.insert_or_convert(value),
+                Err(error) => {
+                    // Gives the map back, for the proof.
+                    let _map = entry.map;
+                    Err(error)
+                }
+            },
         }
     }
 

@@ -164,7 +164,8 @@ impl<K, V> VecMap<K, V> {
         ensures err { OnErr result (Refuses K.eq self.old key self.new) }
     {
         if let Some(from) = find(&self.pairs, &key) {
-            let to = index.min(self.pairs.len() - 1);
+            let is_last = index == self.pairs.len();
+            let to = if is_last { index - 1 } else { index };
             let (_key, old) = replace_and_move(&mut self.pairs, from, to, (key, value));
             return Ok(Some((from, old)));
         }

@@ -101,3 +101,18 @@ fn the_vector_of_a_map_has_its_pairs_and_its_capacity(rt: HostRuntime) {
     assert_list(&rt, pairs.as_slice(), &[("b", 2), ("a", 1)]);
     assert_is(&rt, pairs.capacity(), room);
 }
+
+#[test]
+fn an_array_keeps_first_keys_and_last_values(rt: HostRuntime) {
+    let pairs = [
+        (make_item(2, 'b'), 20),
+        (make_item(1, 'x'), 10),
+        (make_item(2, 'y'), 21),
+        (make_item(1, 'z'), 11),
+    ];
+    let map = granted(&rt, VecMap::from_array(rt.alloc(), pairs));
+    assert_pairs(&rt, &map, &[(2, 'b', 21), (1, 'x', 11)]);
+    check!(rt; 4 <= map.capacity());
+    let map: VecMap<Item, u32> = granted(&rt, VecMap::from_array(rt.alloc(), []));
+    assert_pairs(&rt, &map, &[]);
+}

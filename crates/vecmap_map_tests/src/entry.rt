@@ -200,3 +200,85 @@ fn entries_print(rt: HostRuntime) {
     let entry = vacant(&rt, map.entry(make_item(2, 'y')));
     assert_prints_some(&rt, rt.alloc(), &entry);
 }
+
+// The entry's error: the pair that was refused, or the number that the closure returned.
+#[derive(Debug, Drop)]
+enum Unmade {
+    Pair(Item, u32),
+    Number(u32),
+}
+
+impl From<Refused<(Item, u32)>> for Unmade {
+    fn from(refused: Refused<(Item, u32)>) -> Unmade {
+        Unmade::Pair(refused.given.0, refused.given.1)
+    }
+}
+
+// Inserts what a closure returns for a key that is absent. Returns the stored value, or the number of the closure's
+// error.
+fn or_try_insert_with(
+    map: &mut VecMap<Item, u32>,
+    key: Item,
+    calls: &Cell<u32>,
+    made: Result<u32, u32>,
+) -> Result<u32, u32> {
+    let outcome = map.entry(key).or_try_insert_with(|| match made {
+        Ok(value) => Ok(counted(calls, value)),
+        Err(number) => Err(Unmade::Number(counted(calls, number))),
+    });
+    match outcome {
+        Ok(value) => {
+            *value = value.wrapping_add(1);
+            Ok(*value)
+        }
+        Err(Unmade::Number(number)) => Err(number),
+        Err(Unmade::Pair(_, _)) => Err(0),
+    }
+}
+
+#[test]
+fn a_value_that_may_fail_is_inserted_for_a_new_key(rt: HostRuntime) {
+    let mut map = granted(&rt, item_map(rt.alloc(), &[(1, 'x', 7)]));
+    let calls = Cell::new(0u32);
+    let stored = or_try_insert_with(&mut map, make_item(1, 'y'), &calls, Ok(9));
+    assert_is(&rt, (stored, calls.get()), (Ok(8), 0));
+    let stored = or_try_insert_with(&mut map, make_item(1, 'y'), &calls, Err(9));
+    assert_is(&rt, (stored, calls.get()), (Ok(9), 0));
+    let stored = or_try_insert_with(&mut map, make_item(2, 'b'), &calls, Err(5));
+    assert_is(&rt, (stored, calls.get()), (Err(5), 1));
+    assert_pairs(&rt, &map, &[(1, 'x', 9)]);
+    let stored = or_try_insert_with(&mut map, make_item(2, 'c'), &calls, Ok(20));
+    assert_is(&rt, (stored, calls.get()), (Ok(21), 2));
+    assert_pairs(&rt, &map, &[(1, 'x', 9), (2, 'c', 21)]);
+}
+
+// Returns the text of a number, which is made only if the number is new.
+fn spell<'a>(
+    alloc: Global,
+    texts: &'a mut VecMap<u32, String>,
+    number: u32,
+) -> Result<&'a mut String, AllocError> {
+    texts
+        .entry(number)
+        .or_try_insert_with(|| number.to_string(alloc))
+}
+
+#[test]
+fn a_value_that_allocates_is_inserted_for_a_new_key(rt: HostRuntime) {
+    let mut texts = VecMap::new(rt.alloc());
+    assert_granted(
+        &rt,
+        granted(&rt, spell(rt.alloc(), &mut texts, 7)).push('!'),
+    );
+    assert_is(
+        &rt,
+        granted(&rt, spell(rt.alloc(), &mut texts, 7)).as_str(),
+        "7!",
+    );
+    assert_is(
+        &rt,
+        granted(&rt, spell(rt.alloc(), &mut texts, 8)).as_str(),
+        "8",
+    );
+    assert_is(&rt, texts.len(), 2);
+}

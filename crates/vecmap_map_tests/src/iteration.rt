@@ -1,6 +1,10 @@
 //! The iterators of maps.
-use crate::checks::{assert_is, assert_prints, assert_pulls, check, granted};
+use crate::checks::{Plain, assert_is, assert_list, assert_prints, assert_pulls, check, granted};
+use std::fmt::Debug;
+use std::iter::FusedIterator;
+use std::process::Abort;
 use vecmap::VecMap;
+use vecmap::map::MutableKeys;
 use vecmap_fixtures::{Log, told_pairs};
 
 const PAIRS: [(u32, u32); 4] = [(1, 10), (2, 20), (3, 30), (4, 40)];
@@ -165,4 +169,68 @@ fn iterators_print_what_is_left(rt: HostRuntime) {
     assert_prints(&rt, alloc, &map.into_keys(), "[1, 2]");
     let map = granted(&rt, VecMap::from_slice(alloc, &[(1, 'a'), (2, 'b')]));
     assert_prints(&rt, alloc, &map.into_values(), "['a', 'b']");
+}
+
+// Returns whether an iterator over two items has ended after them for good.
+fn ends_after_two<I: FusedIterator + Drop>(mut iter: I) -> bool
+where
+    I::Item: Drop,
+    requires { (it : I) → I.can_next it }
+{
+    iter.next().is_some() && iter.next().is_some() && iter.next().is_none() && iter.next().is_none()
+}
+
+#[test]
+fn every_iterator_of_a_map_is_fused(rt: HostRuntime) {
+    let mut map = granted(
+        &rt,
+        VecMap::from_array(rt.alloc(), [(1u32, 10u32), (2, 20)]),
+    );
+    check!(rt; ends_after_two(map.iter()));
+    check!(rt; ends_after_two(map.keys()));
+    check!(rt; ends_after_two(map.values()));
+    check!(rt; ends_after_two(map.iter_mut()));
+    check!(rt; ends_after_two(map.iter_mut2()));
+    check!(rt; ends_after_two(map.keys_mut()));
+    check!(rt; ends_after_two(map.values_mut()));
+    check!(rt; ends_after_two(granted(&rt, map.clone()).into_iter()));
+    check!(rt; ends_after_two(granted(&rt, map.clone()).into_keys()));
+    check!(rt; ends_after_two(granted(&rt, map.clone()).into_values()));
+    check!(rt; ends_after_two(map.drain(..)));
+}
+
+// Asserts that an iterator and its clone by the trait `Clone` both have these items left.
+fn assert_trait_clone<I, T>(rt: &impl Abort, iter: I, left: &[T])
+where
+    I: DoubleEndedIterator + ExactSizeIterator + Clone,
+    I::Item: Plain<T> + Drop,
+    T: PartialEq + Debug + Drop,
+    requires front { (it : I) → I.can_next it }
+    requires back { (it : I) → I.can_next_back it }
+{
+    let copy = granted(rt, iter.clone());
+    assert_pulls(rt, copy, left, 0);
+    assert_pulls(rt, iter, left, 0);
+}
+
+#[test]
+fn the_trait_clone_copies_an_iterator_that_borrows_a_map(rt: HostRuntime) {
+    let map = granted(&rt, VecMap::from_slice(rt.alloc(), &PAIRS));
+    let mut pairs = map.iter();
+    assert_is(
+        &rt,
+        (pairs.next(), pairs.next_back()),
+        (Some((&1, &10)), Some((&4, &40))),
+    );
+    assert_trait_clone(&rt, pairs, MIDDLE);
+    let mut keys = map.keys();
+    assert_is(&rt, (keys.next(), keys.next_back()), (Some(&1), Some(&4)));
+    assert_trait_clone(&rt, keys, MIDDLE_KEYS);
+    let mut values = map.values();
+    assert_is(
+        &rt,
+        (values.next(), values.next_back()),
+        (Some(&10), Some(&40)),
+    );
+    assert_trait_clone(&rt, values, MIDDLE_VALUES);
 }

@@ -7,8 +7,8 @@ use std::alloc::{AllocError, Global};
 use std::borrow::CowStr;
 use std::boxed::{BoxedSlice, BoxedStr};
 use std::process::Abort;
-use std::rc::RcStr;
-use std::sync::ArcStr;
+use std::rc::{Rc, RcSlice, RcStr};
+use std::sync::{Arc, ArcSlice, ArcStr};
 use vecmap::VecMap;
 use vecmap::map::MutableKeys;
 use vecmap_fixtures::{Number, make_item, repeating_map};
@@ -268,4 +268,75 @@ fn a_slice_matches_the_vector_of_equal_items_in_a_map(rt: HostRuntime) {
     assert_matches(&rt, &mut map, &query[..1], Some(0));
     assert_matches(&rt, &mut map, &query[1..], None);
     assert_matches(&rt, &mut map, &query[..0], None);
+}
+
+#[test]
+fn a_reference_matches_boxed_and_shared_keys_in_a_map(rt: HostRuntime) {
+    let mut boxed = VecMap::new(rt.alloc());
+    let mut shared = VecMap::new(rt.alloc());
+    let mut sent = VecMap::new(rt.alloc());
+    for number in [5u32, 7] {
+        let key = granted(&rt, Box::new(rt.alloc(), make_item(number, 'a')));
+        assert_granted(&rt, boxed.insert(key, number));
+        let key = granted(&rt, Rc::new(rt.alloc(), make_item(number, 'a')));
+        assert_granted(&rt, shared.insert(key, number));
+        let key = granted(&rt, Arc::new(rt.alloc(), make_item(number, 'a')));
+        assert_granted(&rt, sent.insert(key, number));
+    }
+    let (present, absent) = (make_item(7, 'z'), make_item(6, 'a'));
+    let found = (
+        boxed.get(&present),
+        shared.get(&present),
+        sent.get(&present),
+    );
+    assert_is(&rt, found, (Some(&7), Some(&7), Some(&7)));
+    let found = (boxed.get(&absent), shared.get(&absent), sent.get(&absent));
+    assert_is(&rt, found, (None, None, None));
+    assert_is(&rt, boxed.remove(&make_item(5, 'z')), Some(5));
+    let key = granted(&rt, Box::new(rt.alloc(), make_item(7, 'y')));
+    assert_is(
+        &rt,
+        (boxed.get_index_of(&present), boxed.get_index_of(&key)),
+        (Some(0), Some(0)),
+    );
+}
+
+#[test]
+fn a_slice_matches_the_shared_slice_of_equal_items_in_a_map(rt: HostRuntime) {
+    let mut shared = VecMap::new(rt.alloc());
+    let mut sent = VecMap::new(rt.alloc());
+    for (text, value) in TEXTS {
+        let key = granted(&rt, RcSlice::from_slice(rt.alloc(), text.as_bytes()));
+        assert_granted(&rt, shared.insert(key, *value));
+        let key = granted(&rt, ArcSlice::from_slice(rt.alloc(), text.as_bytes()));
+        assert_granted(&rt, sent.insert(key, *value));
+    }
+    for (text, place) in QUERIES {
+        let bytes = text.as_bytes();
+        assert_is(
+            &rt,
+            (shared.get_index_of(bytes), sent.get_index_of(bytes)),
+            (*place, *place),
+        );
+    }
+}
+
+#[test]
+fn two_queries_match_a_key_of_two_parts_in_a_map(rt: HostRuntime) {
+    let mut map = VecMap::new(rt.alloc());
+    for (text, value) in TEXTS {
+        let name = granted(&rt, String::from_str(rt.alloc(), text));
+        assert_granted(&rt, map.insert((name, make_item(*value, 'a')), *value));
+    }
+    for (text, place) in QUERIES {
+        let number = place.map_or(10, |place| TEXTS[place % 4].1);
+        let query = (*text, &make_item(number, 'z'));
+        assert_is(
+            &rt,
+            (map.get_index_of(query), map.contains_key(query)),
+            (*place, place.is_some()),
+        );
+        assert_is(&rt, map.get((*text, &make_item(11, 'a'))), None);
+    }
+    assert_is(&rt, map.remove(("agent", &make_item(20, 'z'))), Some(20));
 }

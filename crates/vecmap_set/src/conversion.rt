@@ -1,12 +1,12 @@
 //! Conversions of a vector into a set, which keep the vector, and clones of the elements in a new vector.
-ghost use Rattle.std.specs.Prelude.{◌≡◌, IfOk, [], vec_capacity};
+ghost use Rattle.std.specs.Prelude.{◌≡◌, ◌≤◌, IfOk, [], vec_capacity};
 ghost use Rattle.std.specs.List.{IsDistinct};
 ghost use Rattle.vecmap_base.specs.Clones.{AreClones};
 ghost use Rattle.vecmap_base.specs.Items.{adds};
 ghost use Rattle.vecmap_base.specs.Repeats.{comparisons};
 
 use crate::VecSet;
-use std::alloc::AllocError;
+use std::alloc::{AllocError, Global};
 use vecmap_base::{Steps, dedup_keep_first};
 
 /// Adds the elements of a vector in order, and keeps them in that vector.
@@ -58,6 +58,34 @@ impl<T: Eq> VecSet<T> {
         let mut steps = Steps::new();
         dedup_keep_first(&mut items, &mut steps);
         (VecSet { items }, steps.count())
+    }
+
+    /// Creates a set and adds the elements of an array, in order.
+    ///
+    /// This is Rust's `From<[T; N]>`. Of equal elements the first one stays, and the others are dropped.
+    ///
+    /// # Errors
+    ///
+    /// [`AllocError`] if the allocator refuses the request; the elements are then dropped, and no set is created.
+    ///
+    /// # Complexity
+    ///
+    /// As many comparisons as [`VecSet::from_vec_counted`], and one allocation.
+    ///
+    /// # Examples
+    ///
+    /// ```
+    /// let set = VecSet::from_array(alloc, [2, 1, 2])?;
+    /// set.as_slice() // [2, 1]
+    /// ```
+    pub fn from_array<const N: usize>(alloc: Global, items: [T; N]) -> Result<VecSet<T>, AllocError>
+    where
+        T: Drop,
+        ensures elements { IfOk result (λ set. set.elements ≡ adds T.eq [] items) }
+        ensures distinct { IfOk result (λ set. IsDistinct T.eq set.elements) }
+        ensures at_least { IfOk result (λ set. N ≤ set.capacity) }
+    {
+        Ok(VecSet::from(Vec::from_array(alloc, items)?))
     }
 
     /// Creates a set of the elements as they are, in the vector that holds them.

@@ -12,6 +12,7 @@ ghost use Rattle.vecmap_set.specs.Drain.{DrainKeeps, DrainNext, DrainNextBack, d
 
 use crate::VecSet;
 use std::fmt;
+use std::iter::FusedIterator;
 use vecmap_base::{move_range_last, reverse_from};
 
 /// An iterator over the elements of a range of a set, which it removes. [`VecSet::drain`] creates it.
@@ -210,6 +211,8 @@ impl<'a, T: Eq + Drop> ExactSizeIterator for Drain<'a, T> {
         self.set.len().saturating_sub(self.keep)
     }
 }
+
+impl<'a, T: Eq + Drop> FusedIterator for Drain<'a, T> {}
 
 /// Prints the remaining elements in order, as std prints lists.
 impl<'a, T: Eq + fmt::Debug> fmt::Debug for Drain<'a, T> {

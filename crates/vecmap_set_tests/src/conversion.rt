@@ -1,7 +1,7 @@
 //! Conversion from vectors to sets.
-use crate::checks::{assert_is, assert_list, check, granted};
+use crate::checks::{assert_is, assert_items, assert_list, check, granted};
 use vecmap::VecSet;
-use vecmap_fixtures::{Log, told_items};
+use vecmap_fixtures::{Log, make_item, told_items};
 
 #[test]
 fn a_vector_loses_its_repeats(rt: HostRuntime) {
@@ -41,4 +41,20 @@ fn a_set_of_a_vector_counts_its_comparisons(rt: HostRuntime) {
         assert_is(&rt, u128::from(log.comparisons()), expected);
         check!(rt; !log.compares_after_drop());
     }
+}
+
+#[test]
+fn an_array_loses_its_repeats(rt: HostRuntime) {
+    let items = [
+        make_item(2, 'b'),
+        make_item(1, 'x'),
+        make_item(2, 'y'),
+        make_item(3, 'c'),
+        make_item(1, 'z'),
+    ];
+    let set = granted(&rt, VecSet::from_array(rt.alloc(), items));
+    assert_items(&rt, &set, &[(2, 'b'), (1, 'x'), (3, 'c')]);
+    check!(rt; 5 <= set.capacity());
+    let set: VecSet<u32> = granted(&rt, VecSet::from_array(rt.alloc(), []));
+    assert_list(&rt, set.as_slice(), &[]);
 }

@@ -5,8 +5,8 @@ use std::borrow::CowStr;
 use std::boxed::{BoxedSlice, BoxedStr};
 use std::fmt::Debug;
 use std::process::Abort;
-use std::rc::RcStr;
-use std::sync::ArcStr;
+use std::rc::{Rc, RcSlice, RcStr};
+use std::sync::{Arc, ArcSlice, ArcStr};
 use vecmap::{Equivalent, VecSet};
 use vecmap_fixtures::{Number, Same, are_same, item_set, make_item, set_of, text_set};
 
@@ -275,4 +275,48 @@ fn a_slice_matches_the_vector_of_equal_items_in_a_set(rt: HostRuntime) {
     assert_matches(&rt, &set, &query[..1], Some(0));
     assert_matches(&rt, &set, &query[1..], None);
     assert_matches(&rt, &set, &query[..0], None);
+}
+
+#[test]
+fn a_reference_matches_boxed_and_shared_elements_in_a_set(rt: HostRuntime) {
+    let mut boxed = VecSet::new(rt.alloc());
+    let mut shared = VecSet::new(rt.alloc());
+    let mut sent = VecSet::new(rt.alloc());
+    for number in [5, 7] {
+        assert_granted(
+            &rt,
+            boxed.insert(granted(&rt, Box::new(rt.alloc(), number))),
+        );
+        assert_granted(
+            &rt,
+            shared.insert(granted(&rt, Rc::new(rt.alloc(), number))),
+        );
+        assert_granted(&rt, sent.insert(granted(&rt, Arc::new(rt.alloc(), number))));
+    }
+    let found = (boxed.contains(&7), shared.contains(&7), sent.contains(&7));
+    assert_is(&rt, found, (true, true, true));
+    let found = (boxed.contains(&6), shared.contains(&6), sent.contains(&6));
+    assert_is(&rt, found, (false, false, false));
+    check!(rt; shared.remove(&5));
+    assert_is(&rt, shared.get_index_of(&7), Some(0));
+}
+
+#[test]
+fn a_slice_matches_the_shared_slice_of_equal_items_in_a_set(rt: HostRuntime) {
+    let mut shared = VecSet::new(rt.alloc());
+    let mut sent = VecSet::new(rt.alloc());
+    for text in TEXTS {
+        let item = granted(&rt, RcSlice::from_slice(rt.alloc(), text.as_bytes()));
+        assert_granted(&rt, shared.insert(item));
+        let item = granted(&rt, ArcSlice::from_slice(rt.alloc(), text.as_bytes()));
+        assert_granted(&rt, sent.insert(item));
+    }
+    for (text, place) in QUERIES {
+        let bytes = text.as_bytes();
+        assert_is(
+            &rt,
+            (shared.get_index_of(bytes), sent.get_index_of(bytes)),
+            (*place, *place),
+        );
+    }
 }

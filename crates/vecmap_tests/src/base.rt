@@ -4,6 +4,7 @@ mod distinct;
 mod drain;
 mod iter_mut;
 mod lookup;
+mod refused;
 mod relations;
 mod repeats;
 mod retain;

@@ -3,7 +3,7 @@
 //! In contracts an iterator is the list of the keys that it has left. `next` removes the first of them and returns it,
 //! and `next_back` the last, in constant time. Once the list is empty, both return `None`. Only the `clone` of
 //! `IntoKeys` allocates, and its time is linear in the length of the list.
-ghost use Rattle.std.specs.Prelude.{◌≡◌, IfOk, IfSome, length};
+ghost use Rattle.std.specs.Prelude.{◌≡◌, ⊤, IfOk, IfSome, length};
 ghost use Rattle.std.specs.Iterator.{UpTo, at_most};
 ghost use Rattle.std.specs.Iterator.SizeHint.{IsWithinCount};
 ghost use Rattle.std.specs.Map.{keys_of};
@@ -13,6 +13,7 @@ ghost use Rattle.vecmap_base.specs.Walks.{GivesAll, ShowsAll};
 
 use std::alloc::AllocError;
 use std::collections::VecDeque;
+use std::iter::FusedIterator;
 use std::marker::Model;
 use std::{fmt, slice};
 
@@ -120,6 +121,19 @@ impl<'a, K, V> ExactSizeIterator for Keys<'a, K, V> {
     /// Returns the number of keys left.
     fn len(&self) -> usize {
         self.pairs.len()
+    }
+}
+
+impl<'a, K, V> FusedIterator for Keys<'a, K, V> {}
+
+/// Returns another iterator over the keys that are left, like the inherent [`Keys::clone`]. It never fails.
+impl<'a, K, V> Clone for Keys<'a, K, V> {
+    ghost is_clone = { λ iter copy. copy ≡ iter };
+
+    ghost is_infallible = { λ _. ⊤ };
+
+    fn clone(&self) -> Result<Keys<'a, K, V>, AllocError> {
+        Ok(self.clone())
     }
 }
 
@@ -245,6 +259,8 @@ impl<K: Drop, V: Drop> ExactSizeIterator for IntoKeys<K, V> {
         self.pairs.len()
     }
 }
+
+impl<K: Drop, V: Drop> FusedIterator for IntoKeys<K, V> {}
 
 /// Prints the keys that are left, as std prints a list.
 impl<K: fmt::Debug, V> fmt::Debug for IntoKeys<K, V> {

@@ -100,6 +100,24 @@ impl<'a, K, V> VacantEntry<'a, K, V> {
         }
     }
 
+    // Like `insert`, but converts the error.
+    pub(super) fn insert_or_convert<E: From<Refused<(K, V)>>>(
+        self,
+        value: V,
+    ) -> Result<&'a mut V, E>
+        ensures* writes_back { sem 𝓛 (entry_lends K.row V.row (Vacant self.entry) result) }
+        ensures value { IfOk result (λ x. x.now ≡ value) }
+        ensures err { IfErr result (λ error. IsFull self.entry.map.now
+            × E.from_gives (record { given = (self.entry.key, value) }) error) }
+    {
+        let VacantEntry { map, key } = self;
+        let last = map.len();
+        match map.push(key, value) {
+            Ok(()) => Ok(map.value_mut(last)),
+            Err(refused) => Err(E::from(refused)),
+        }
+    }
+
     /// Appends a clone of the passed key with `value`, and returns the entry of the key.
     ///
     /// The entry keeps the passed key. The clone is made first.

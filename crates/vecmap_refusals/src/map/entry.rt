@@ -1,9 +1,10 @@
 //! Entries of an existing key in a map that is full, and of a key whose clone is refused. `drops` has those of a new key.
 use crate::checks::{assert_granted, assert_is, assert_pairs, check, granted};
 use crate::telling::{full_map, make, tell};
+use std::alloc::{AllocError, Global};
 use std::process::Abort;
-use vecmap::VecMap;
-use vecmap_fixtures::make_item;
+use vecmap::{Refused, VecMap};
+use vecmap_fixtures::{Item, make_item};
 
 const FULL: &[(u32, char, u32)] = &[(1, 'a', 10), (2, 'b', 20)];
 
@@ -58,4 +59,65 @@ fn an_occupied_entry_is_never_refused(rt: HostRuntime) {
     assert_granted(&rt, map.entry(key).insert_entry(20));
     assert_pairs(&rt, &map, &[(1, 'a', 20), (2, 'b', 20)]);
     check!(rt; map.capacity() == 2);
+}
+
+// Inserts what a closure returns through the entry of a key. If it is refused, its error has the pair.
+fn or_try_insert_with(
+    map: &mut VecMap<Item, u32>,
+    key: Item,
+    value: u32,
+) -> Result<u32, (Item, u32)> {
+    let made = || -> Result<u32, Given> { Ok(value) };
+    match map.entry(key).or_try_insert_with(made) {
+        Ok(stored) => Ok(*stored),
+        Err(given) => Err((given.key, given.value)),
+    }
+}
+
+// The pair of a refused insertion.
+#[derive(Drop)]
+struct Given {
+    key: Item,
+    value: u32,
+}
+
+impl From<Refused<(Item, u32)>> for Given {
+    fn from(refused: Refused<(Item, u32)>) -> Given {
+        let (key, value) = refused.given;
+        Given { key, value }
+    }
+}
+
+#[test]
+fn or_try_insert_with_converts_the_refusal_of_the_made_pair(rt: HostRuntime) {
+    let mut map = full_map(&rt, rt.alloc(), FULL);
+    let mut stored = or_try_insert_with(&mut map, make_item(7, 'x'), 70);
+    if let Err((key, value)) = stored {
+        tell(&rt);
+        assert_is(&rt, (key.number, key.mark, value), (7, 'x', 70));
+        assert_pairs(&rt, &map, FULL);
+        assert_is(&rt, map.capacity(), 2);
+        stored = or_try_insert_with(&mut map, key, value);
+    }
+    assert_is(&rt, stored, Ok(70));
+    assert_pairs(&rt, &map, &[(1, 'a', 10), (2, 'b', 20), (7, 'x', 70)]);
+}
+
+// Inserts a text, which is made only if its number is new.
+fn spell(alloc: Global, texts: &mut VecMap<u32, String>, number: u32) -> Result<(), AllocError> {
+    texts
+        .entry(number)
+        .or_try_insert_with(|| number.to_string(alloc))?;
+    Ok(())
+}
+
+#[test]
+fn or_try_insert_with_leaves_the_map_if_its_closure_runs_out_of_memory(rt: HostRuntime) {
+    let mut texts = VecMap::new(rt.alloc());
+    if spell(rt.alloc(), &mut texts, 7).is_err() {
+        tell(&rt);
+        assert_is(&rt, (texts.len(), texts.capacity()), (0, 0));
+        granted(&rt, spell(rt.alloc(), &mut texts, 7));
+    }
+    assert_is(&rt, texts.get(&7).map(String::as_str), Some("7"));
 }

@@ -125,3 +125,18 @@ fn a_set_of_many_elements_has_all_of_them_or_is_refused(rt: HostRuntime) {
     let set: VecSet<Item> = make!(rt; items.iter().copied().collect(rt.alloc()));
     assert_items(&rt, &set, &all);
 }
+
+#[test]
+fn a_set_of_an_array_has_all_elements_or_is_refused(rt: HostRuntime) {
+    let set = make!(rt; VecSet::from_array(rt.alloc(), more()));
+    let all = [
+        (1, 'z'),
+        (7, 'p'),
+        (2, 'y'),
+        (8, 'r'),
+        (9, 's'),
+        (10, 't'),
+        (11, 'u'),
+    ];
+    assert_items(&rt, &set, &all);
+}

@@ -1,10 +1,11 @@
 //! An iterator over the elements of one set that another lacks.
-ghost use Rattle.std.specs.Prelude.{◌≡◌, IfSome, length};
+ghost use Rattle.std.specs.Prelude.{◌≡◌, ⊤, IfSome, length};
 ghost use Rattle.std.specs.Iterator.{UpTo, at_most};
 ghost use Rattle.std.specs.Iterator.SizeHint.{IsWithinCount};
 ghost use Rattle.vecmap_set.specs.Lazy.{SiftsAll, SiftsFirst, SiftsLast, lacks_item, sift_of, sifted};
 
 use super::{sift_back, sift_front};
+use std::alloc::AllocError;
 use std::iter::FusedIterator;
 use std::marker::Model;
 use std::{fmt, slice};
@@ -106,6 +107,17 @@ impl<'a, T: Eq> DoubleEndedIterator for Difference<'a, T> {
 }
 
 impl<T: Eq> FusedIterator for Difference<'_, T> {}
+
+/// Returns another iterator over the elements that are left, like the inherent [`Difference::clone`]. It never fails.
+impl<'a, T: Eq> Clone for Difference<'a, T> {
+    ghost is_clone = { λ iter copy. copy ≡ iter };
+
+    ghost is_infallible = { λ _. ⊤ };
+
+    fn clone(&self) -> Result<Difference<'a, T>, AllocError> {
+        Ok(self.clone())
+    }
+}
 
 /// Prints the remaining elements in order, as std prints lists: `[element, ..]`.
 impl<T: Eq + fmt::Debug> fmt::Debug for Difference<'_, T> {

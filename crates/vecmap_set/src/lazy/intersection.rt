@@ -1,11 +1,12 @@
 //! An iterator over the elements of one set that another has.
-ghost use Rattle.std.specs.Prelude.{◌≡◌, IfSome, length};
+ghost use Rattle.std.specs.Prelude.{◌≡◌, ⊤, IfSome, length};
 ghost use Rattle.std.specs.Iterator.{UpTo, at_most};
 ghost use Rattle.std.specs.Iterator.SizeHint.{IsWithinCount};
 ghost use Rattle.vecmap_base.specs.Items.{has_item};
 ghost use Rattle.vecmap_set.specs.Lazy.{SiftsAll, SiftsFirst, SiftsLast, sift_of, sifted};
 
 use super::{sift_back, sift_front};
+use std::alloc::AllocError;
 use std::iter::FusedIterator;
 use std::marker::Model;
 use std::{fmt, slice};
@@ -109,6 +110,17 @@ impl<'a, T: Eq> DoubleEndedIterator for Intersection<'a, T> {
 }
 
 impl<T: Eq> FusedIterator for Intersection<'_, T> {}
+
+/// Returns another iterator over the elements that are left, like the inherent [`Intersection::clone`]. It never fails.
+impl<'a, T: Eq> Clone for Intersection<'a, T> {
+    ghost is_clone = { λ iter copy. copy ≡ iter };
+
+    ghost is_infallible = { λ _. ⊤ };
+
+    fn clone(&self) -> Result<Intersection<'a, T>, AllocError> {
+        Ok(self.clone())
+    }
+}
 
 /// Prints the remaining elements in order, as std prints lists: `[element, ..]`.
 impl<T: Eq + fmt::Debug> fmt::Debug for Intersection<'_, T> {

@@ -1,11 +1,12 @@
 //! An iterator over the elements that only one of two sets has.
-ghost use Rattle.std.specs.Prelude.{◌≡◌, ◌+◌, IfSome, length};
+ghost use Rattle.std.specs.Prelude.{◌≡◌, ⊤, ◌+◌, IfSome, length};
 ghost use Rattle.std.specs.Iterator.{UpTo, at_most};
 ghost use Rattle.std.specs.Iterator.Runs.{YieldsRefsInOrder, YieldsRefsInReverse};
 ghost use Rattle.std.specs.Iterator.SizeHint.{IsWithinCount};
 ghost use Rattle.vecmap_set.specs.Lazy.{ExcludesFirst, ExcludesLast, IsBound, exclusive, symmetric_parts};
 
 use super::{Difference, add_bounds};
+use std::alloc::AllocError;
 use std::fmt;
 use std::iter::FusedIterator;
 use std::marker::Model;
@@ -120,6 +121,17 @@ impl<'a, T: Eq> DoubleEndedIterator for SymmetricDifference<'a, T> {
 }
 
 impl<T: Eq> FusedIterator for SymmetricDifference<'_, T> {}
+
+/// Returns another iterator over the elements that are left, like the inherent [`SymmetricDifference::clone`]. It never fails.
+impl<'a, T: Eq> Clone for SymmetricDifference<'a, T> {
+    ghost is_clone = { λ iter copy. copy ≡ iter };
+
+    ghost is_infallible = { λ _. ⊤ };
+
+    fn clone(&self) -> Result<SymmetricDifference<'a, T>, AllocError> {
+        Ok(self.clone())
+    }
+}
 
 /// Prints the remaining elements in order, as std prints lists: `[element, ..]`.
 impl<T: Eq + fmt::Debug> fmt::Debug for SymmetricDifference<'_, T> {

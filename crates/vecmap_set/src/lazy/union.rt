@@ -1,11 +1,12 @@
 //! An iterator over the elements of one set, and then those of another that it lacks.
-ghost use Rattle.std.specs.Prelude.{◌≡◌, ◌+◌, IfSome, length};
+ghost use Rattle.std.specs.Prelude.{◌≡◌, ⊤, ◌+◌, IfSome, length};
 ghost use Rattle.std.specs.Iterator.{UpTo, at_most};
 ghost use Rattle.std.specs.Iterator.Runs.{YieldsRefsInOrder, YieldsRefsInReverse};
 ghost use Rattle.std.specs.Iterator.SizeHint.{IsWithinCount};
 ghost use Rattle.vecmap_set.specs.Lazy.{IsBound, JoinsFirst, JoinsLast, joined, union_parts};
 
 use super::{Difference, add_bounds};
+use std::alloc::AllocError;
 use std::iter::FusedIterator;
 use std::marker::Model;
 use std::{fmt, slice};
@@ -121,6 +122,17 @@ impl<'a, T: Eq> DoubleEndedIterator for Union<'a, T> {
 }
 
 impl<T: Eq> FusedIterator for Union<'_, T> {}
+
+/// Returns another iterator over the elements that are left, like the inherent [`Union::clone`]. It never fails.
+impl<'a, T: Eq> Clone for Union<'a, T> {
+    ghost is_clone = { λ iter copy. copy ≡ iter };
+
+    ghost is_infallible = { λ _. ⊤ };
+
+    fn clone(&self) -> Result<Union<'a, T>, AllocError> {
+        Ok(self.clone())
+    }
+}
 
 /// Prints the remaining elements in order, as std prints lists: `[element, ..]`.
 impl<T: Eq + fmt::Debug> fmt::Debug for Union<'_, T> {
