@@ -5,6 +5,7 @@ pub use Rattle.vecmap_base.proofs.DistinctLemmas.Order as DistinctOrder
 pub use Rattle.vecmap_base.proofs.DistinctLemmas.Removals as DistinctRemovals
 pub use Rattle.vecmap_base.proofs.DrainRuns
 pub use Rattle.vecmap_base.proofs.EqualityLemmas.Maps as MapEquality
+pub use Rattle.vecmap_base.proofs.EqualityLemmas.Partial as PartialMapEquality
 pub use Rattle.vecmap_base.proofs.EqualityLemmas.Relations as SetRelations
 pub use Rattle.vecmap_base.proofs.EqualityLemmas.Sets as SetEquality
 pub use Rattle.vecmap_base.proofs.ItemsLemmas.Additions as ItemAdditions

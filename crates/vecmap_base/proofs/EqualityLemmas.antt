@@ -2,5 +2,6 @@
 pub mod Counts
 pub mod Fronts
 pub mod Maps
+pub mod Partial
 pub mod Relations
 pub mod Sets

@@ -1,9 +1,9 @@
 -- Items without a mark, and two lists whose items are matched one to one.
 use Rattle.std.specs.Prelude.{◌≡◌, ℕ, zero, suc, ◌+◌, ◌-◌, ◌<◌, ◌≤◌, Bool, true, false, ◌&&◌, ◌||◌, not, List, [], ◌∷◌, None, Some, length, refl}
-use Rattle.std.specs.Cmp.{IsEquivalence}
+use Rattle.std.specs.Cmp.{IsEquivalence, IsPartialEquivalence}
 use Rattle.std.specs.List.{list_any, sum_by}
-use Rattle.std.proofs.Common.{cond, drop, get_or, replicate, set, sym, ap, ◌∙◌, arith, true≢false, ⊎_elim}
-use Rattle.std.proofs.lemmas.Bool.{cases_lt, false_from_ne_true}
+use Rattle.std.proofs.Common.{cond, drop, get_or, replicate, set, sym, ap, ◌∙◌, arith, true≢false, inl, inr, ⊎_elim}
+use Rattle.std.proofs.lemmas.Bool.{cases_Bool, cases_lt, false_from_ne_true}
 use Rattle.std.proofs.lemmas.Grind.{get_or_after_one}
 use Rattle.std.proofs.lemmas.List.{at_drop_more, drop-replicate, drop_all, length-drop, nil_from_length}
 use Rattle.std.proofs.lemmas.List.Folds.{list_any_at}
@@ -12,6 +12,7 @@ use Rattle.std.proofs.lemmas.List.Sums.{sum_by-cons, sum_by-drop_more}
 use Rattle.vecmap_base.specs.Equality.{free, same_pair}
 use Rattle.vecmap_base.specs.Pairs.{index_of}
 use Rattle.vecmap_base.proofs.EqualityLemmas.Counts.{agree_everywhere, agreed, all_agree, many, many_absent}
+use Rattle.vecmap_base.proofs.EqualityLemmas.Partial.{agree, all_reflexive, at_self, disagree, disagree_at, from_lumps, lumped, lumped_if_same, lumped_laws, self_left}
 use Rattle.vecmap_base.proofs.PlaceLemmas.{fails_everywhere}
 
 module _ {X : Type 0} where
@@ -55,11 +56,11 @@ module _ {X : Type 0} where
 
 module _ {X : Type 0} (same : X → X → Bool) (o : IsEquivalence same) where
   -- The items of `a`, except `rest`, are matched with the items of `b` that have marks.
-  abbrev pub Matched : List X → List X → List X → List Bool → Type 0
+  abbrev Matched : List X → List X → List X → List Bool → Type 0
   Matched a b rest marks = (length rest ≡ length (free b marks)) × ((z : X) → many same o a z + many same o (free b marks) z ≡ many same o b z + many same o rest z)
 
   -- The item of `a` at `i` is matched with that of `b` at `j`.
-  pub one_matched : (a b : List X) (i j : ℕ) (x : X) (marks : List Bool) → i < length a → x ≡ get_or a i x → j < length b → get_or marks j true ≡ false → same x (get_or b j x) ≡ true → Matched a b (drop i a) marks → Matched a b (drop (i + 1) a) (set marks j true)
+  one_matched : (a b : List X) (i j : ℕ) (x : X) (marks : List Bool) → i < length a → x ≡ get_or a i x → j < length b → get_or marks j true ≡ false → same x (get_or b j x) ≡ true → Matched a b (drop i a) marks → Matched a b (drop (i + 1) a) (set marks j true)
   one_matched a b i j x marks within at j_within unmarked like m =
       let fewer = length_free b marks j j_within unmarked in (
         omega (arith, m.0, fewer, length-drop i a, length-drop (i + 1) a),
@@ -70,14 +71,14 @@ module _ {X : Type 0} (same : X → X → Bool) (o : IsEquivalence same) where
             omega (arith, m.1 z, left, taken, ap {B = ℕ} (λ c. cond c 1 0) alike),
       )
 
-  pub all_matched : (a b : List X) (i : ℕ) (marks : List Bool) → length a ≤ i → Matched a b (drop i a) marks → all_agree same o a a b ≡ true
+  all_matched : (a b : List X) (i : ℕ) (marks : List Bool) → length a ≤ i → Matched a b (drop i a) marks → all_agree same o a a b ≡ true
   all_matched a b i marks end m =
       let no_rest : drop i a ≡ [] = drop_all i a end in
       let none_left : free b marks ≡ [] = nil_from_length (free b marks) (sym m.0 ∙ ap length no_rest) in
       agree_everywhere same o a a b (λ z. let counts = m.1 z in let none : many same o (drop i a) z ≡ 0 = ap (λ l. many same o l z) no_rest in let left : many same o (free b marks) z ≡ 0 = ap (λ l. many same o l z) none_left in omega (arith, counts, none, left))
 
   -- If the item of `a` at `i` cannot be matched, the counts do not agree.
-  pub unmatched : (a b : List X) (i : ℕ) (x : X) (marks : List Bool) → i < length a → x ≡ get_or a i x → list_any (same x) (free b marks) ≡ false → Matched a b (drop i a) marks → all_agree same o a a b ≡ false
+  unmatched : (a b : List X) (i : ℕ) (x : X) (marks : List Bool) → i < length a → x ≡ get_or a i x → list_any (same x) (free b marks) ≡ false → Matched a b (drop i a) marks → all_agree same o a a b ≡ false
   unmatched a b i x marks within at absent m = false_from_ne_true (all_agree same o a a b) (λ e.
       let there : list_any (same x) a ≡ true = list_any_at (same x) a i x within (ap (same x) (sym at) ∙ o.refl x) in
       let as_many = agreed same o a a b x e there in
@@ -94,17 +95,58 @@ module _ {X : Type 0} (same : X → X → Bool) (o : IsEquivalence same) where
   no_marks b marks none = ap (free b) none ∙ free_unmarked b (length marks)
 
   -- The first item of `a` is matched with one behind the first of `b`.
-  pub first_matched : (a b : List X) (j : ℕ) (x : X) (marks : List Bool) → 0 < length a → length a ≡ length b → marks ≡ replicate (length marks) false → x ≡ get_or a 0 x → j < length (drop 1 b) → get_or (drop 1 marks) j true ≡ false → same x (get_or (drop 1 b) j x) ≡ true → Matched a b (drop 1 a) (set marks (1 + j) true)
+  first_matched : (a b : List X) (j : ℕ) (x : X) (marks : List Bool) → 0 < length a → length a ≡ length b → marks ≡ replicate (length marks) false → x ≡ get_or a 0 x → j < length (drop 1 b) → get_or (drop 1 marks) j true ≡ false → same x (get_or (drop 1 b) j x) ≡ true → Matched a b (drop 1 a) (set marks (1 + j) true)
   first_matched a b j x marks some as_long none at within unmarked like =
       one_matched a b 0 (1 + j) x marks some at (omega (arith, within, length-drop 1 b)) (sym (get_or_after_one marks j true) ∙ unmarked) (ap (same x) (sym (get_or_after_one b j x)) ∙ like) (none_matched a b marks as_long (no_marks b marks none))
 
   -- The first item of `a` cannot be matched: it differs from the first of `b`, and from those behind that one.
-  pub first_unmatched : (a b : List X) (x : X) (marks : List Bool) → 0 < length a → length a ≡ length b → marks ≡ replicate (length marks) false → x ≡ get_or a 0 x → same x (get_or b 0 x) ≡ false → list_any (same x) (free (drop 1 b) (drop 1 marks)) ≡ false → all_agree same o a a b ≡ false
+  first_unmatched : (a b : List X) (x : X) (marks : List Bool) → 0 < length a → length a ≡ length b → marks ≡ replicate (length marks) false → x ≡ get_or a 0 x → same x (get_or b 0 x) ≡ false → list_any (same x) (free (drop 1 b) (drop 1 marks)) ≡ false → all_agree same o a a b ≡ false
   first_unmatched a b x marks some as_long none at differs absent =
       let behind : free (drop 1 b) (drop 1 marks) ≡ drop 1 b = ap (λ l. free (drop 1 b) (drop 1 l)) none ∙ ap (free (drop 1 b)) (drop-replicate 1 (length marks) false) ∙ free_unmarked (drop 1 b) (length marks - 1) in
       let rest : list_any (same x) (drop 1 b) ≡ false = ap (list_any (same x)) (sym behind) ∙ absent in
       let all : list_any (same x) b ≡ false = at_drop_more (list_any (same x)) b 0 x (omega (arith, some, as_long)) ∙ ap (λ c. c || list_any (same x) (drop 1 b)) differs ∙ rest in
       unmatched a b 0 x marks some at (ap (list_any (same x)) (no_marks b marks none) ∙ all) (none_matched a b marks as_long (no_marks b marks none))
+
+-- The same, where an item may differ from itself. Items are compared by `lumped`; those that are matched are equal to
+-- themselves.
+module _ {X : Type 0} (same : X → X → Bool) (o : IsPartialEquivalence same) where
+  abbrev pub MatchedPartial : List X → List X → List X → List Bool → Type 0
+  MatchedPartial a b rest marks = Matched (lumped same o) (lumped_laws same o) a b rest marks × (all_reflexive same o a ≡ all_reflexive same o rest)
+
+  one_reflexive : (a : List X) (i : ℕ) (x : X) → i < length a → x ≡ get_or a i x → same x x ≡ true → all_reflexive same o (drop i a) ≡ all_reflexive same o (drop (i + 1) a)
+  one_reflexive a i x within at e = at_drop_more (all_reflexive same o) a i x within ∙ ap (λ z. same z z && all_reflexive same o (drop (i + 1) a)) (sym at) ∙ ap (λ c. c && all_reflexive same o (drop (i + 1) a)) e
+
+  pub one_matched_partial : (a b : List X) (i j : ℕ) (x : X) (marks : List Bool) → i < length a → x ≡ get_or a i x → j < length b → get_or marks j true ≡ false → same x (get_or b j x) ≡ true → MatchedPartial a b (drop i a) marks → MatchedPartial a b (drop (i + 1) a) (set marks j true)
+  one_matched_partial a b i j x marks within at j_within unmarked like m = (
+      one_matched (lumped same o) (lumped_laws same o) a b i j x marks within at j_within unmarked (lumped_if_same same o x (get_or b j x) like) m.0,
+      m.1 ∙ one_reflexive a i x within at (self_left same o x (get_or b j x) like),
+  )
+
+  pub all_matched_partial : (a b : List X) (i : ℕ) (marks : List Bool) → length a ≤ i → MatchedPartial a b (drop i a) marks → agree same o a a b ≡ true
+  all_matched_partial a b i marks end m = from_lumps same o a a b (m.1 ∙ ap (all_reflexive same o) (drop_all i a end)) (all_matched (lumped same o) (lumped_laws same o) a b i marks end m.0)
+
+  absent_lumped : (l : List X) (x : X) → same x x ≡ true → list_any (same x) l ≡ false → list_any (lumped same o x) l ≡ false
+  absent_lumped l x e absent = (λ t. list_any (λ z. at_self same o x z e t) l) ∙ absent
+
+  pub unmatched_partial : (a b : List X) (i : ℕ) (x : X) (marks : List Bool) → i < length a → x ≡ get_or a i x → list_any (same x) (free b marks) ≡ false → MatchedPartial a b (drop i a) marks → agree same o a a b ≡ false
+  unmatched_partial a b i x marks within at absent m =
+      elim (cases_Bool (same x x)) [
+        | inl e ↦ disagree same o a b (unmatched (lumped same o) (lumped_laws same o) a b i x marks within at (absent_lumped (free b marks) x e absent) m.0)
+        | inr e ↦ disagree_at same o a b i x within at e
+      ]
+
+  pub first_matched_partial : (a b : List X) (j : ℕ) (x : X) (marks : List Bool) → 0 < length a → length a ≡ length b → marks ≡ replicate (length marks) false → x ≡ get_or a 0 x → j < length (drop 1 b) → get_or (drop 1 marks) j true ≡ false → same x (get_or (drop 1 b) j x) ≡ true → MatchedPartial a b (drop 1 a) (set marks (1 + j) true)
+  first_matched_partial a b j x marks some as_long none at within unmarked like = (
+      first_matched (lumped same o) (lumped_laws same o) a b j x marks some as_long none at within unmarked (lumped_if_same same o x (get_or (drop 1 b) j x) like),
+      one_reflexive a 0 x some at (self_left same o x (get_or (drop 1 b) j x) like),
+  )
+
+  pub first_unmatched_partial : (a b : List X) (x : X) (marks : List Bool) → 0 < length a → length a ≡ length b → marks ≡ replicate (length marks) false → x ≡ get_or a 0 x → same x (get_or b 0 x) ≡ false → list_any (same x) (free (drop 1 b) (drop 1 marks)) ≡ false → agree same o a a b ≡ false
+  first_unmatched_partial a b x marks some as_long none at differs absent =
+      elim (cases_Bool (same x x)) [
+        | inl e ↦ disagree same o a b (first_unmatched (lumped same o) (lumped_laws same o) a b x marks some as_long none at (at_self same o x (get_or b 0 x) e ∙ differs) (absent_lumped (free (drop 1 b) (drop 1 marks)) x e absent))
+        | inr e ↦ disagree_at same o a b 0 x some at e
+      ]
 
 module _ {K V : Type 0} (key : K → K → Bool) (value : V → V → Bool) where
   -- None of the first `n` pairs without a mark is the same as `p`.

@@ -24,11 +24,11 @@ module _ {K V : Type 0} (key : K → K → Bool) (value : V → V → Bool) wher
   abbrev pub count : List (K × V) → K × V → ℕ
   count l p = count_by (same_pair p) l
 
-  -- Each of these pairs occurs equally often in `a` and in `b`.
+  -- Each of these pairs is equal to itself, and occurs equally often in `a` and in `b`.
   abbrev pub counts_agree : List (K × V) → List (K × V) → List (K × V) → Bool
-  counts_agree pairs a b = list_all (λ p. nat_eq (count a p) (count b p)) pairs
+  counts_agree pairs a b = list_all (λ p. same_pair p p && nat_eq (count a p) (count b p)) pairs
 
-  -- Equality of maps: each pair of either list occurs equally often in both.
+  -- Equality of maps: each pair of either list is equal to itself, and occurs equally often in both.
   abbrev pub has_same_counts : List (K × V) → List (K × V) → Bool
   has_same_counts a b = counts_agree a a b && counts_agree b a b
 

@@ -1,5 +1,5 @@
 //! Equality of lists of pairs as maps, where the order of the pairs makes no difference.
-ghost use Rattle.std.specs.Prelude.{◌≡◌, ◌<◌, ◌≤◌, drop, length, take, true};
+ghost use Rattle.std.specs.Prelude.{◌≡◌, ◌<◌, ◌≤◌, ◌&&◌, drop, length, nat_eq, not, take, true};
 ghost use Rattle.std.specs.List.{AllZip};
 ghost use Rattle.vecmap_base.specs.Equality.{FirstDiffer, count, counts_agree, has_same_counts, same_pair};
 
@@ -11,6 +11,9 @@ const MARKS_SMALL: usize = 128;
 const MARKS_LARGE: usize = 1024;
 
 /// Returns `true` if each pair of either list, by its key and its value, occurs equally often in both.
+///
+/// A pair whose value differs from itself, as a NaN does, is equal to no pair. A list with such a pair is equal to no
+/// list.
 ///
 /// If the lengths differ, nothing is compared. Otherwise, the call skips the equal pairs at the front of both lists. It
 /// then matches the rests one to one, each pair with the first one that has the same key and value and is still free.
@@ -26,7 +29,7 @@ const MARKS_LARGE: usize = 1024;
 /// ```
 /// pairs_equal(&[('a', 1), ('b', 2)], &[('b', 2), ('a', 1)]) // true
 /// ```
-pub fn pairs_equal<K: Eq, V: Eq>(a: &[(K, V)], b: &[(K, V)]) -> bool
+pub fn pairs_equal<K: Eq, V: PartialEq>(a: &[(K, V)], b: &[(K, V)]) -> bool
     ensures { result ≡ has_same_counts K.eq V.eq a.now b.now }
 {
     if a.len() != b.len() {
@@ -41,7 +44,7 @@ pub fn pairs_equal<K: Eq, V: Eq>(a: &[(K, V)], b: &[(K, V)]) -> bool
 
 // Returns whether each pair of `a` occurs equally often in both lists. The first pairs differ. Marks for a few pairs
 // cost less to make than marks for many.
-fn rests_equal<K: Eq, V: Eq>(a: &[(K, V)], b: &[(K, V)]) -> bool
+fn rests_equal<K: Eq, V: PartialEq>(a: &[(K, V)], b: &[(K, V)]) -> bool
     requires as_long { length a.now ≡ length b.now }
     requires not_empty { 0 < length a.now }
     requires first_differ { FirstDiffer K.eq V.eq a.now b.now }
@@ -57,7 +60,7 @@ fn rests_equal<K: Eq, V: Eq>(a: &[(K, V)], b: &[(K, V)]) -> bool
 }
 
 // Returns the number of indices, from the front on, at which both lists hold equal pairs.
-fn equal_front<K: Eq, V: Eq>(a: &[(K, V)], b: &[(K, V)]) -> usize
+fn equal_front<K: Eq, V: PartialEq>(a: &[(K, V)], b: &[(K, V)]) -> usize
     requires { length a.now ≡ length b.now }
     ensures within { result ≤ length a.now }
     ensures equal { AllZip (λ p q. same_pair K.eq V.eq p q ≡ true) (take result a.now)
@@ -73,16 +76,24 @@ fn equal_front<K: Eq, V: Eq>(a: &[(K, V)], b: &[(K, V)]) -> usize
     a.len()
 }
 
-// Returns whether each pair of `a` occurs equally often in both lists.
-fn counts_equal<K: Eq, V: Eq>(a: &[(K, V)], b: &[(K, V)]) -> bool
+// Returns whether each pair of `a` occurs equally often in both lists. A pair that differs from itself has the count 0.
+fn counts_equal<K: Eq, V: PartialEq>(a: &[(K, V)], b: &[(K, V)]) -> bool
     ensures { result ≡ counts_agree K.eq V.eq a.now a.now b.now }
 {
-    a.iter()
-        .all(|pair| count_pairs(a, pair) == count_pairs(b, pair))
+    a.iter().all(|pair| occurs_equally_often(pair, a, b))
+}
+
+// Returns whether a pair occurs in `a`, and equally often in both lists.
+fn occurs_equally_often<K: Eq, V: PartialEq>(pair: &(K, V), a: &[(K, V)], b: &[(K, V)]) -> bool
+    ensures { result ≡ (not (nat_eq (count K.eq V.eq a.now pair.now) 0)
+        && nat_eq (count K.eq V.eq a.now pair.now) (count K.eq V.eq b.now pair.now)) }
+{
+    let own = count_pairs(a, pair);
+    own != 0 && own == count_pairs(b, pair)
 }
 
 // Returns the number of pairs with the key and the value of `pair`.
-fn count_pairs<K: Eq, V: Eq>(pairs: &[(K, V)], pair: &(K, V)) -> usize
+fn count_pairs<K: Eq, V: PartialEq>(pairs: &[(K, V)], pair: &(K, V)) -> usize
     ensures { result ≡ count K.eq V.eq pairs.now pair.now }
 {
     pairs.iter().filter(|stored| is_same(pair, stored)).count()

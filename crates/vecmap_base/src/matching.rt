@@ -7,7 +7,7 @@ use crate::lookup::find;
 
 // Returns whether each pair of `a` is matched with a pair of `b` that has an equal key and an equal value. `taken` has
 // no marks yet. The first pairs are known to differ, and are not compared with each other again.
-pub(crate) fn pairs_match<K: Eq, V: Eq>(a: &[(K, V)], b: &[(K, V)], taken: &mut [bool]) -> bool
+pub(crate) fn pairs_match<K: Eq, V: PartialEq>(a: &[(K, V)], b: &[(K, V)], taken: &mut [bool]) -> bool
     requires as_long { length a.now ≡ length b.now }
     requires enough { length b.now ≤ length taken.old }
     requires unmarked { taken.old ≡ replicate (length taken.old) false }
@@ -29,7 +29,7 @@ pub(crate) fn pairs_match<K: Eq, V: Eq>(a: &[(K, V)], b: &[(K, V)], taken: &mut 
 }
 
 // Returns the index of the first pair without a mark that has the same key and the same value as `pair`.
-fn find_free<K: Eq, V: Eq>(pairs: &[(K, V)], taken: &[bool], pair: &(K, V)) -> Option<usize>
+fn find_free<K: Eq, V: PartialEq>(pairs: &[(K, V)], taken: &[bool], pair: &(K, V)) -> Option<usize>
     requires enough { length pairs.now ≤ length taken.now }
     ensures within { IfSome result (λ i. i < length pairs.now) }
     ensures unmarked { IfSome result (λ i. slice_index_or taken.now i true ≡ false) }
@@ -51,7 +51,7 @@ fn find_free<K: Eq, V: Eq>(pairs: &[(K, V)], taken: &[bool], pair: &(K, V)) -> O
 }
 
 // Returns whether the keys of two pairs are equal, and their values too.
-pub(crate) fn is_same<K: Eq, V: Eq>(p: &(K, V), q: &(K, V)) -> bool
+pub(crate) fn is_same<K: Eq, V: PartialEq>(p: &(K, V), q: &(K, V)) -> bool
     ensures { result ≡ same_pair K.eq V.eq p.now q.now }
 {
     p.0 == q.0 && p.1 == q.1

@@ -6,3 +6,4 @@ pub mod EntryWithin
 pub mod Lends
 pub mod MapBulk
 pub mod Nested
+pub mod formers

@@ -6,7 +6,8 @@ use vecmap_base::pairs_equal;
 
 /// Two maps are equal if each pair, by its key and its value, occurs equally often in both.
 ///
-/// If no keys repeat, this means that each key of either map has an equal value in both.
+/// If no keys repeat, this means that each key of either map has an equal value in both. A map with a value that differs
+/// from itself, as a NaN does, is not equal to any map, not even to itself.
 ///
 /// # Complexity
 ///
@@ -26,14 +27,13 @@ use vecmap_base::pairs_equal;
 /// let map = vecmap!(alloc; 'a' => 1, 'b' => 2);
 /// map == VecMap::from_iter(alloc, [('b', 2), ('a', 1)])? // true
 /// ```
-impl<K: Eq, V: Eq> PartialEq for VecMap<K, V> {
-    ghost use Rattle.std.specs.Cmp.{partial_equiv_from_equiv};
-    ghost use Rattle.std.proofs.lemmas.Cmp.{on_equiv};
-    ghost use Rattle.vecmap_base.proofs.EqualityLemmas.Maps.{map_equality_laws};
+impl<K: Eq, V: PartialEq> PartialEq for VecMap<K, V> {
+    ghost use Rattle.std.specs.Cmp.{on_per};
+    ghost use Rattle.vecmap_base.proofs.EqualityLemmas.Partial.{partial_map_equality_laws};
 
     ghost eq = { λ a b. has_same_counts K.eq V.eq a.entries b.entries };
 
-    ghost laws = { partial_equiv_from_equiv (on_equiv (λ map. map.entries) (map_equality_laws K.eq V.eq K.Eq.laws V.Eq.laws)) };
+    ghost laws = { on_per (λ map. map.entries) (partial_map_equality_laws K.eq V.eq K.Eq.laws V.laws) };
 
     fn eq(&self, other: &VecMap<K, V>) -> bool {
         pairs_equal(&self.pairs, &other.pairs)

@@ -1,5 +1,5 @@
 -- How often elements occur in a list, up to an equivalence.
-use Rattle.std.specs.Prelude.{◌≡◌, ℕ, ◌+◌, Bool, true, false, ◌&&◌, ◌||◌, nat_eq, List, [], ◌∷◌, length, remove, refl, if◌then◌else◌}
+use Rattle.std.specs.Prelude.{◌≡◌, ℕ, ◌+◌, ◌<◌, Bool, true, false, ◌&&◌, ◌||◌, nat_eq, List, [], ◌∷◌, length, remove, refl, if◌then◌else◌}
 use Rattle.std.specs.Cmp.{IsEquivalence, both_ways}
 use Rattle.std.specs.List.{count_by, list_all, list_any}
 use Rattle.std.specs.List.Sorted.{IsPermutation}
@@ -36,6 +36,17 @@ module _ {X : Type 0} (same : X → X → Bool) (o : IsEquivalence same) where
   many_absent (y ∷ ys) x e =
       let apart = or_parts (same x y) (list_any (same x) ys) e in
       many_cons y ys x ∙ ap (λ b. cond b 1 0 + many ys x) apart.0 ∙ (let rest = many_absent ys x apart.1 in omega (arith, rest))
+
+  pub many_present : (l : List X) (x : X) → list_any (same x) l ≡ true → 0 < many l x
+  many_present [] x e = absurd (true≢false (sym e))
+  many_present (y ∷ ys) x e =
+      elim (cases_Bool (same x y)) [
+        | inl h ↦ let one = ap {B = ℕ} (λ b. cond b 1 0) h in let more = many_cons y ys x in omega (arith, one, more)
+        | inr h ↦
+            let rest = many_present ys x (sym (ap (λ c. c || list_any (same x) ys) h) ∙ e) in
+            let more = many_cons y ys x in
+            omega (arith, rest, more)
+      ]
 
   pub agreed : (xs a b : List X) (x : X) → all_agree xs a b ≡ true → list_any (same x) xs ≡ true → many a x ≡ many b x
   agreed [] a b x e h = absurd (true≢false (sym h))

@@ -1,6 +1,6 @@
 -- The laws of the equality of maps. They hold of all lists of pairs, also if keys repeat.
 use Rattle.std.specs.Prelude.{◌≡◌, ◌↔◌, IsTrue, ℕ, ◌+◌, Bool, true, false, ◌&&◌, ◌||◌, List, [], ◌∷◌, Option, None, Some, length, refl}
-use Rattle.std.specs.Cmp.{IsEquivalence, both_ways}
+use Rattle.std.specs.Cmp.{IsEquivalence, both_ways, equiv, partial_equiv_from_equiv}
 use Rattle.std.specs.List.{list_any}
 use Rattle.std.specs.List.Sorted.{IsPermutation}
 use Rattle.std.specs.Map.{keys_of}
@@ -10,7 +10,8 @@ use Rattle.std.proofs.lemmas.Map.Keys.{IsDistinct-head, IsDistinct-tail}
 use Rattle.std.proofs.lemmas.Map.Steps.{list_any_congr}
 use Rattle.vecmap_base.specs.Equality.{agrees, count, counts_agree, has_same_counts, lookups_agree, same_option, same_pair}
 use Rattle.vecmap_base.specs.Pairs.{HasDistinctKeys, lookup}
-use Rattle.vecmap_base.proofs.EqualityLemmas.Counts.{many_cons, counts_from_test, test_from_counts, as_often_laws, rearranged_as_often, lengths_differ, settled_by_half}
+use Rattle.vecmap_base.proofs.EqualityLemmas.Counts.{as_often, many_cons, counts_from_test, test_from_counts, as_often_laws, rearranged_as_often}
+use Rattle.vecmap_base.proofs.EqualityLemmas.Partial.{equally_often_is, partial_map_equal_by_half, partial_map_equality_laws, partial_map_lengths_differ}
 use Rattle.vecmap_base.proofs.DistinctLemmas.Absent.{none_equal}
 use Rattle.vecmap_base.proofs.PairsLemmas.Lookups.{look, lookup_absent, lookup_congr}
 
@@ -24,19 +25,22 @@ module _ {K V : Type 0} (key : K → K → Bool) (value : V → V → Bool) (k :
         λ t. k.congr p.0 q.0 r.0 both.0 t && v.congr p.1 q.1 r.1 both.1 t;
   }
 
+  counted : (a b : List (K × V)) → has_same_counts key value a b ≡ as_often (same_pair key value) same_pair_laws a b
+  counted = equally_often_is (same_pair key value) same_pair_laws
+
   pub map_equality_laws : IsEquivalence (has_same_counts key value)
-  map_equality_laws = as_often_laws (same_pair key value) same_pair_laws
+  map_equality_laws = equiv (partial_map_equality_laws key value k (partial_equiv_from_equiv v)) (λ a. counted a a ∙ (as_often_laws (same_pair key value) same_pair_laws).refl a)
 
   -- The order of the pairs makes no difference.
   pub rearranged_maps_equal : (a b : List (K × V)) → IsPermutation a b → has_same_counts key value a b ≡ true
-  rearranged_maps_equal = rearranged_as_often (same_pair key value) same_pair_laws
+  rearranged_maps_equal a b p = counted a b ∙ rearranged_as_often (same_pair key value) same_pair_laws a b p
 
   pub map_lengths_differ : (a b : List (K × V)) → (length a ≡ length b → ⊥) → has_same_counts key value a b ≡ false
-  map_lengths_differ = lengths_differ (same_pair key value) same_pair_laws
+  map_lengths_differ = partial_map_lengths_differ key value k (partial_equiv_from_equiv v)
 
   -- For lists of one length, it is enough to compare the counts of the pairs of one list.
   pub map_equal_by_half : (a b : List (K × V)) → length a ≡ length b → has_same_counts key value a b ≡ counts_agree key value a a b
-  map_equal_by_half = settled_by_half (same_pair key value) same_pair_laws
+  map_equal_by_half = partial_map_equal_by_half key value k (partial_equiv_from_equiv v)
 
   -- How often a pair with the value `w` occurs in a list of distinct keys, if `o` is the lookup of its key.
   hits : Option V → V → ℕ
@@ -123,8 +127,8 @@ module _ {K V : Type 0} (key : K → K → Bool) (value : V → V → Bool) (k :
   pub equality_is_agreement : (a b : List (K × V)) → HasDistinctKeys key a → HasDistinctKeys key b → has_same_counts key value a b ≡ agrees key value a b
   equality_is_agreement a b d e =
       both_ways _ _
-      (λ h. test_from_lookups a b (λ x. same_from_hits (lookup key a x) (lookup key b x) (λ w. sym (count_is_hits a x w d) ∙ counts_from_test (same_pair key value) same_pair_laws a b h (x, w) ∙ count_is_hits b x w e)))
-      (λ h. test_from_counts (same_pair key value) same_pair_laws a b (λ p. count_is_hits a p.0 p.1 d ∙ hits_from_same (lookup key a p.0) (lookup key b p.0) p.1 (lookups_from_test a b h p.0) ∙ sym (count_is_hits b p.0 p.1 e)))
+      (λ h. test_from_lookups a b (λ x. same_from_hits (lookup key a x) (lookup key b x) (λ w. sym (count_is_hits a x w d) ∙ counts_from_test (same_pair key value) same_pair_laws a b (sym (counted a b) ∙ h) (x, w) ∙ count_is_hits b x w e)))
+      (λ h. counted a b ∙ test_from_counts (same_pair key value) same_pair_laws a b (λ p. count_is_hits a p.0 p.1 d ∙ hits_from_same (lookup key a p.0) (lookup key b p.0) p.1 (lookups_from_test a b h p.0) ∙ sym (count_is_hits b p.0 p.1 e)))
 
   -- The same as one equivalence: each key has equal values, or none, in both lists.
   pub equal_where_lookups_agree : (a b : List (K × V)) → HasDistinctKeys key a → HasDistinctKeys key b → IsTrue (has_same_counts key value a b) ↔ ((x : K) → IsTrue (same_option value (lookup key a x) (lookup key b x)))

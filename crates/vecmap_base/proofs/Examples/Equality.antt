@@ -1,5 +1,5 @@
 -- Worked examples: equality of maps, also of lists with repeats.
-use Rattle.std.specs.Prelude.{◌≡◌, ℕ, Bool, true, false, List, [], ◌∷◌, None, Some, nat_eq, refl}
+use Rattle.std.specs.Prelude.{◌≡◌, ℕ, Bool, true, false, ◌&&◌, not, List, [], ◌∷◌, None, Some, nat_eq, refl}
 use Rattle.vecmap_base.specs.Equality.{agrees, count, counts_agree, free, has_same_counts, lookups_agree, same_option, same_pair}
 use Rattle.vecmap_base.proofs.Examples.Tagged.{one_x, one_y, same_number}
 
@@ -48,3 +48,10 @@ from_one_side = (refl, refl)
 
 in_another_order_lookups_agree : agrees nat_eq nat_eq ((1, 10) ∷ (2, 20) ∷ []) ((2, 20) ∷ (1, 10) ∷ []) ≡ true
 in_another_order_lookups_agree = refl
+
+-- A number that is equal to itself, except 0.
+abbrev same_unless_zero : ℕ → ℕ → Bool
+same_unless_zero x y = nat_eq x y && not (nat_eq x 0)
+
+a_value_that_differs_from_itself : (has_same_counts nat_eq same_unless_zero ((1, 0) ∷ []) ((1, 0) ∷ []) ≡ false) × (has_same_counts nat_eq same_unless_zero ((1, 5) ∷ []) ((1, 5) ∷ []) ≡ true) × (counts_agree nat_eq same_unless_zero ((1, 0) ∷ []) [] [] ≡ false)
+a_value_that_differs_from_itself = (refl, refl, refl)
