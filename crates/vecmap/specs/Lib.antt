@@ -8,6 +8,7 @@ pub use Rattle.vecmap_base.specs.Drain as Drains
 pub use Rattle.vecmap_base.specs.Equality
 pub use Rattle.vecmap_base.specs.Items
 pub use Rattle.vecmap_base.specs.Kept
+pub use Rattle.vecmap_base.specs.Lending
 pub use Rattle.vecmap_base.specs.Orders
 pub use Rattle.vecmap_base.specs.Pairs
 pub use Rattle.vecmap_base.specs.Ranges

@@ -7,7 +7,8 @@ use Rattle.std.specs.List.{AllZip, slice_get}
 use Rattle.std.specs.Map.{values_of}
 use Rattle.std.specs.Map.Iter.{GivesInOrder, GivesInReverse, ShowsInOrder, ShowsInReverse, ShowsValuesInOrder, ShowsValuesInReverse, TakesFirst, TakesLast}
 use Rattle.std.specs.Option.{option_map}
-use Rattle.vecmap_base.specs.Walks.{End, back, front, Pulls, PullsBy}
+use Rattle.std.specs.Iterator.Runs.{EveryRun, ItemsMapTo, ItemsMapToReversed}
+use Rattle.vecmap_base.specs.Walks.{End, back, front, Pulls, PullsBy, TakesFirstOf, TakesLastOf}
 
 -- Each run shows the list that was left.
 module _ {A X : Type 0} (shows : A → X) where
@@ -16,6 +17,14 @@ module _ {A X : Type 0} (shows : A → X) where
 
   pub shows_in_reverse : ShowsInReverse shows
   shows_in_reverse = from_back (TakesLast shows) shows (λ s. s) (λ s t h. ap length h.0) (λ s x t h. h)
+
+-- The same of an iterator that has `rest s` left in the state `s`.
+module _ {S A X : Type 0} (shows : A → X) (rest : S → List X) where
+  pub shows_rest_in_order : EveryRun (TakesFirstOf shows rest) (λ p. ItemsMapTo p shows (rest p.from))
+  shows_rest_in_order = from_front (TakesFirstOf shows rest) shows rest (λ s t h. ap length h.0) (λ s x t h. h)
+
+  pub shows_rest_in_reverse : EveryRun (TakesLastOf shows rest) (λ p. ItemsMapToReversed p shows (rest p.from))
+  shows_rest_in_reverse = from_back (TakesLastOf shows rest) shows rest (λ s t h. ap length h.0) (λ s x t h. h)
 
 -- Each run shows the values of the pairs that were left.
 module _ {A K V : Type 0} (shows : A → K × V) where

@@ -5,6 +5,7 @@ pub mod Drain
 pub mod Equality
 pub mod Items
 pub mod Kept
+pub mod Lending
 pub mod Orders
 pub mod Pairs
 pub mod Ranges

@@ -1,7 +1,8 @@
 -- What iterators lend and give, and pulls from both ends.
 use Rattle.std.specs.Prelude.{◌≡◌, ◌-◌, ◌<◌, ◌^◌, List, [], ◌∷◌, Option, drop, length, slice_get, take}
 use Rattle.std.specs.Borrow.{MutBor}
-use Rattle.std.specs.Map.Iter.{GivesInOrder, GivesInReverse, ShowsInOrder, ShowsInReverse}
+use Rattle.std.specs.Iterator.Runs.{EveryRun, ItemsMapTo, ItemsMapToReversed}
+use Rattle.std.specs.Map.Iter.{GivesInOrder, GivesInReverse, ShowsInOrder, ShowsInReverse, TakesFirst, TakesLast}
 
 -- What a `&mut T` points to.
 abbrev pub deref_mut : {X : Type 0} → MutBor X → X
@@ -19,6 +20,20 @@ ShowsAll shows l r = (r ≡ l) × (length r < 2 ^ 64) × ShowsInOrder shows × S
 -- The same of an iterator that owns what it gives.
 abbrev pub GivesAll : {X : Type 0} → List X → List X → Type 0
 GivesAll {X} l r = (r ≡ l) × (length r < 2 ^ 64) × GivesInOrder X × GivesInReverse X
+
+-- An iterator that is not seen as a list, as its loan is followed: in the state `s` it has the list `rest s` left.
+module _ {S A X : Type 0} (shows : A → X) (rest : S → List X) where
+  -- A call of `next` at `s` returned `r`, which shows the first item that was left, and led to `t`.
+  abbrev pub TakesFirstOf : S → Option A → S → Type 0
+  TakesFirstOf s r t = TakesFirst shows (rest s) r (rest t)
+
+  -- The same of `next_back` and the last item.
+  abbrev pub TakesLastOf : S → Option A → S → Type 0
+  TakesLastOf s r t = TakesLast shows (rest s) r (rest t)
+
+  -- `ShowsAll` of such an iterator.
+  abbrev pub ShowsAllOf : List X → S → Type 0
+  ShowsAllOf l s = (rest s ≡ l) × (length l < 2 ^ 64) × EveryRun TakesFirstOf (λ p. ItemsMapTo p shows (rest p.from)) × EveryRun TakesLastOf (λ p. ItemsMapToReversed p shows (rest p.from))
 
 -- The end at which a pull is made: `next` pulls from the front, `next_back` from the back.
 pub data End : Type 0 where

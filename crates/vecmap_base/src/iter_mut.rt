@@ -1,17 +1,19 @@
 //! The iterators that lend keys or values by `&mut`.
 //!
-//! In contracts an iterator is the list of what it has left, as it was when the iterator was created. No clause speaks
-//! of what is written. `next` removes the first item of this list and returns it, and `next_back` the last. Once the
-//! list is empty, both return `None`. Each call takes constant time and does not allocate.
+//! In contracts an iterator has a list of what it has left, as it was when the iterator was created. `next` removes the
+//! first item of this list and returns it, and `next_back` the last. Once the list is empty, both return `None`. Each
+//! call takes constant time and does not allocate.
+//!
+//! An iterator also has the name of its loan, by which a contract says what the lender holds once the loan ends.
 ghost use Rattle.std.specs.Prelude.{◌≡◌, IfSome, length};
 ghost use Rattle.std.specs.Iterator.{UpTo, at_most};
 ghost use Rattle.std.specs.Iterator.SizeHint.{IsWithinCount};
 ghost use Rattle.std.specs.Map.{keys_of, values_of};
-ghost use Rattle.std.specs.Map.Iter.{TakesFirst, TakesLast, deref_pair_mut};
-ghost use Rattle.vecmap_base.specs.Walks.{ShowsAll, deref_both_mut, deref_mut};
+ghost use Rattle.std.specs.Map.Iter.{deref_pair_mut};
+ghost use Rattle.vecmap_base.specs.Lending.{iter_mut2_name, iter_mut2_rest, iter_mut_name, iter_mut_rest, keys_mut_name, keys_mut_rest, values_mut_name, values_mut_rest};
+ghost use Rattle.vecmap_base.specs.Walks.{ShowsAllOf, TakesFirstOf, TakesLastOf, deref_both_mut, deref_mut};
 
 use std::iter::FusedIterator;
-use std::marker::Model;
 use std::{fmt, slice};
 
 /// An iterator over the pairs of a map, each as `(&K, &mut V)`, in their order.
@@ -33,15 +35,6 @@ pub struct IterMut<'a, K, V> {
     pairs: slice::IterMut<'a, (K, V)>,
 }
 
-impl<'a, K, V> Model for IterMut<'a, K, V> {
-    ghost use Rattle.std.specs.Prelude.{List};
-    ghost use Rattle.std.specs.Slice.Iter.{iter_mut_rest};
-
-    ghost Value = { List (K × V) };
-
-    ghost view = { λ a. iter_mut_rest a.pairs };
-}
-
 impl<'a, K, V> IterMut<'a, K, V> {
     /// Creates an iterator over the pairs of a slice, from the first to the last, with mutable values.
     ///
@@ -55,7 +48,8 @@ impl<'a, K, V> IterMut<'a, K, V> {
     /// pairs[0] // ('a', 3)
     /// ```
     pub fn over(pairs: &'a mut [(K, V)]) -> IterMut<'a, K, V>
-        ensures { ShowsAll deref_pair_mut pairs.old result }
+        ensures same_slice { iter_mut_name result ≡ pairs.entry.ghost_name }
+        ensures rest { ShowsAllOf deref_pair_mut iter_mut_rest pairs.old result }
     {
         IterMut {
             pairs: pairs.iter_mut(),
@@ -66,9 +60,9 @@ impl<'a, K, V> IterMut<'a, K, V> {
 impl<'a, K, V> Iterator for IterMut<'a, K, V> {
     type Item = (&'a K, &'a mut V);
 
-    ghost next_gives = { TakesFirst deref_pair_mut };
+    ghost next_gives = { TakesFirstOf deref_pair_mut iter_mut_rest };
 
-    ghost remaining = { λ s. at_most (length s) };
+    ghost remaining = { λ s. at_most (length (iter_mut_rest s)) };
 
     fn next(&mut self) -> Option<(&'a K, &'a mut V)> {
         let (key, value) = self.pairs.next()?;
@@ -77,9 +71,9 @@ impl<'a, K, V> Iterator for IterMut<'a, K, V> {
 
     /// Returns the number of pairs left, as both bounds.
     fn size_hint(&self) -> (usize, Option<usize>)
-        ensures lower { IsWithinCount result.0 (at_most (length self.now)) }
-        ensures upper { IfSome result.1 (UpTo (at_most (length self.now))) }
-        ensures exact { result ≡ (length self.now, Some (length self.now)) }
+        ensures lower { IsWithinCount result.0 (at_most (length (iter_mut_rest self.now))) }
+        ensures upper { IfSome result.1 (UpTo (at_most (length (iter_mut_rest self.now)))) }
+        ensures exact { result ≡ (length (iter_mut_rest self.now), Some (length (iter_mut_rest self.now))) }
     {
         let len = self.len();
         (len, Some(len))
@@ -87,7 +81,7 @@ impl<'a, K, V> Iterator for IterMut<'a, K, V> {
 }
 
 impl<'a, K, V> DoubleEndedIterator for IterMut<'a, K, V> {
-    ghost next_back_gives = { TakesLast deref_pair_mut };
+    ghost next_back_gives = { TakesLastOf deref_pair_mut iter_mut_rest };
 
     fn next_back(&mut self) -> Option<(&'a K, &'a mut V)> {
         let (key, value) = self.pairs.next_back()?;
@@ -130,15 +124,6 @@ pub struct IterMut2<'a, K, V> {
     pairs: slice::IterMut<'a, (K, V)>,
 }
 
-impl<'a, K, V> Model for IterMut2<'a, K, V> {
-    ghost use Rattle.std.specs.Prelude.{List};
-    ghost use Rattle.std.specs.Slice.Iter.{iter_mut_rest};
-
-    ghost Value = { List (K × V) };
-
-    ghost view = { λ a. iter_mut_rest a.pairs };
-}
-
 impl<'a, K, V> IterMut2<'a, K, V> {
     /// Creates an iterator over the pairs of a slice, from the first to the last, with mutable keys and values.
     ///
@@ -152,7 +137,8 @@ impl<'a, K, V> IterMut2<'a, K, V> {
     /// pairs[0] // ('c', 1)
     /// ```
     pub fn over(pairs: &'a mut [(K, V)]) -> IterMut2<'a, K, V>
-        ensures { ShowsAll deref_both_mut pairs.old result }
+        ensures same_slice { iter_mut2_name result ≡ pairs.entry.ghost_name }
+        ensures rest { ShowsAllOf deref_both_mut iter_mut2_rest pairs.old result }
     {
         IterMut2 {
             pairs: pairs.iter_mut(),
@@ -163,9 +149,9 @@ impl<'a, K, V> IterMut2<'a, K, V> {
 impl<'a, K, V> Iterator for IterMut2<'a, K, V> {
     type Item = (&'a mut K, &'a mut V);
 
-    ghost next_gives = { TakesFirst deref_both_mut };
+    ghost next_gives = { TakesFirstOf deref_both_mut iter_mut2_rest };
 
-    ghost remaining = { λ s. at_most (length s) };
+    ghost remaining = { λ s. at_most (length (iter_mut2_rest s)) };
 
     fn next(&mut self) -> Option<(&'a mut K, &'a mut V)> {
         let pair = self.pairs.next()?;
@@ -174,9 +160,9 @@ impl<'a, K, V> Iterator for IterMut2<'a, K, V> {
 
     /// Returns the number of pairs left, as both bounds.
     fn size_hint(&self) -> (usize, Option<usize>)
-        ensures lower { IsWithinCount result.0 (at_most (length self.now)) }
-        ensures upper { IfSome result.1 (UpTo (at_most (length self.now))) }
-        ensures exact { result ≡ (length self.now, Some (length self.now)) }
+        ensures lower { IsWithinCount result.0 (at_most (length (iter_mut2_rest self.now))) }
+        ensures upper { IfSome result.1 (UpTo (at_most (length (iter_mut2_rest self.now)))) }
+        ensures exact { result ≡ (length (iter_mut2_rest self.now), Some (length (iter_mut2_rest self.now))) }
     {
         let len = self.len();
         (len, Some(len))
@@ -184,7 +170,7 @@ impl<'a, K, V> Iterator for IterMut2<'a, K, V> {
 }
 
 impl<'a, K, V> DoubleEndedIterator for IterMut2<'a, K, V> {
-    ghost next_back_gives = { TakesLast deref_both_mut };
+    ghost next_back_gives = { TakesLastOf deref_both_mut iter_mut2_rest };
 
     fn next_back(&mut self) -> Option<(&'a mut K, &'a mut V)> {
         let pair = self.pairs.next_back()?;
@@ -227,16 +213,6 @@ pub struct KeysMut<'a, K, V> {
     pairs: slice::IterMut<'a, (K, V)>,
 }
 
-impl<'a, K, V> Model for KeysMut<'a, K, V> {
-    ghost use Rattle.std.specs.Prelude.{List};
-    ghost use Rattle.std.specs.Map.{keys_of};
-    ghost use Rattle.std.specs.Slice.Iter.{iter_mut_rest};
-
-    ghost Value = { List K };
-
-    ghost view = { λ a. keys_of (iter_mut_rest a.pairs) };
-}
-
 impl<'a, K, V> KeysMut<'a, K, V> {
     /// Creates an iterator over the keys of a slice of pairs, from the first to the last, each of them mutable.
     ///
@@ -250,7 +226,8 @@ impl<'a, K, V> KeysMut<'a, K, V> {
     /// pairs[0] // ('c', 1)
     /// ```
     pub fn over(pairs: &'a mut [(K, V)]) -> KeysMut<'a, K, V>
-        ensures { ShowsAll deref_mut (keys_of pairs.old) result }
+        ensures same_slice { keys_mut_name result ≡ pairs.entry.ghost_name }
+        ensures rest { ShowsAllOf deref_mut keys_mut_rest (keys_of pairs.old) result }
     {
         KeysMut {
             pairs: pairs.iter_mut(),
@@ -261,9 +238,9 @@ impl<'a, K, V> KeysMut<'a, K, V> {
 impl<'a, K, V> Iterator for KeysMut<'a, K, V> {
     type Item = &'a mut K;
 
-    ghost next_gives = { TakesFirst deref_mut };
+    ghost next_gives = { TakesFirstOf deref_mut keys_mut_rest };
 
-    ghost remaining = { λ s. at_most (length s) };
+    ghost remaining = { λ s. at_most (length (keys_mut_rest s)) };
 
     fn next(&mut self) -> Option<&'a mut K> {
         let pair = self.pairs.next()?;
@@ -272,9 +249,9 @@ impl<'a, K, V> Iterator for KeysMut<'a, K, V> {
 
     /// Returns the number of keys left, as both bounds.
     fn size_hint(&self) -> (usize, Option<usize>)
-        ensures lower { IsWithinCount result.0 (at_most (length self.now)) }
-        ensures upper { IfSome result.1 (UpTo (at_most (length self.now))) }
-        ensures exact { result ≡ (length self.now, Some (length self.now)) }
+        ensures lower { IsWithinCount result.0 (at_most (length (keys_mut_rest self.now))) }
+        ensures upper { IfSome result.1 (UpTo (at_most (length (keys_mut_rest self.now)))) }
+        ensures exact { result ≡ (length (keys_mut_rest self.now), Some (length (keys_mut_rest self.now))) }
     {
         let len = self.len();
         (len, Some(len))
@@ -282,7 +259,7 @@ impl<'a, K, V> Iterator for KeysMut<'a, K, V> {
 }
 
 impl<'a, K, V> DoubleEndedIterator for KeysMut<'a, K, V> {
-    ghost next_back_gives = { TakesLast deref_mut };
+    ghost next_back_gives = { TakesLastOf deref_mut keys_mut_rest };
 
     fn next_back(&mut self) -> Option<&'a mut K> {
         let pair = self.pairs.next_back()?;
@@ -327,16 +304,6 @@ pub struct ValuesMut<'a, K, V> {
     pairs: slice::IterMut<'a, (K, V)>,
 }
 
-impl<'a, K, V> Model for ValuesMut<'a, K, V> {
-    ghost use Rattle.std.specs.Prelude.{List};
-    ghost use Rattle.std.specs.Map.{values_of};
-    ghost use Rattle.std.specs.Slice.Iter.{iter_mut_rest};
-
-    ghost Value = { List V };
-
-    ghost view = { λ a. values_of (iter_mut_rest a.pairs) };
-}
-
 impl<'a, K, V> ValuesMut<'a, K, V> {
     /// Creates an iterator over the values of a slice of pairs, from the first to the last, each of them mutable.
     ///
@@ -350,7 +317,8 @@ impl<'a, K, V> ValuesMut<'a, K, V> {
     /// pairs[0] // ('a', 3)
     /// ```
     pub fn over(pairs: &'a mut [(K, V)]) -> ValuesMut<'a, K, V>
-        ensures { ShowsAll deref_mut (values_of pairs.old) result }
+        ensures same_slice { values_mut_name result ≡ pairs.entry.ghost_name }
+        ensures rest { ShowsAllOf deref_mut values_mut_rest (values_of pairs.old) result }
     {
         ValuesMut {
             pairs: pairs.iter_mut(),
@@ -361,9 +329,9 @@ impl<'a, K, V> ValuesMut<'a, K, V> {
 impl<'a, K, V> Iterator for ValuesMut<'a, K, V> {
     type Item = &'a mut V;
 
-    ghost next_gives = { TakesFirst deref_mut };
+    ghost next_gives = { TakesFirstOf deref_mut values_mut_rest };
 
-    ghost remaining = { λ s. at_most (length s) };
+    ghost remaining = { λ s. at_most (length (values_mut_rest s)) };
 
     fn next(&mut self) -> Option<&'a mut V> {
         let pair = self.pairs.next()?;
@@ -372,9 +340,9 @@ impl<'a, K, V> Iterator for ValuesMut<'a, K, V> {
 
     /// Returns the number of values left, as both bounds.
     fn size_hint(&self) -> (usize, Option<usize>)
-        ensures lower { IsWithinCount result.0 (at_most (length self.now)) }
-        ensures upper { IfSome result.1 (UpTo (at_most (length self.now))) }
-        ensures exact { result ≡ (length self.now, Some (length self.now)) }
+        ensures lower { IsWithinCount result.0 (at_most (length (values_mut_rest self.now))) }
+        ensures upper { IfSome result.1 (UpTo (at_most (length (values_mut_rest self.now)))) }
+        ensures exact { result ≡ (length (values_mut_rest self.now), Some (length (values_mut_rest self.now))) }
     {
         let len = self.len();
         (len, Some(len))
@@ -382,7 +350,7 @@ impl<'a, K, V> Iterator for ValuesMut<'a, K, V> {
 }
 
 impl<'a, K, V> DoubleEndedIterator for ValuesMut<'a, K, V> {
-    ghost next_back_gives = { TakesLast deref_mut };
+    ghost next_back_gives = { TakesLastOf deref_mut values_mut_rest };
 
     fn next_back(&mut self) -> Option<&'a mut V> {
         let pair = self.pairs.next_back()?;

@@ -6,7 +6,7 @@ ghost use Rattle.std.specs.Map.{keys_of};
 ghost use Rattle.std.specs.Map.Iter.{TakesFirst, TakesLast};
 ghost use Rattle.vecmap_base.specs.Pairs.{HasDistinctKeys};
 ghost use Rattle.vecmap_base.specs.Repeats.{comparisons, cost};
-ghost use Rattle.vecmap_base.specs.Walks.{End, Pulls, PullsBy};
+ghost use Rattle.vecmap_base.specs.Walks.{End, Pulls, PullsBy, TakesFirstOf, TakesLastOf};
 
 /// Bounds the number of comparisons that a removal of repeats makes.
 ///
@@ -33,4 +33,14 @@ pub fn iterators_pull_as_lists<A, X>()
     ensures { (shows : A → X) (s t : List X) (ends : List End) (items : List (Option A))
         → PullsBy (TakesFirst shows) (TakesLast shows) s ends items t
         → Pulls s ends (map (option_map shows) items) t }
+{}
+
+/// Like [`iterators_pull_as_lists`], for the iterators that lend keys or values by `&mut`.
+///
+/// Such an iterator is not itself a list in contracts, but has one left in each state `S`: `rest` is a definition such
+/// as `iter_mut_rest`.
+pub fn mutable_iterators_pull_as_lists<S, A, X>()
+    ensures { (shows : A → X) (rest : S → List X) (s t : S) (ends : List End) (items : List (Option A))
+        → PullsBy (TakesFirstOf shows rest) (TakesLastOf shows rest) s ends items t
+        → Pulls (rest s) ends (map (option_map shows) items) (rest t) }
 {}

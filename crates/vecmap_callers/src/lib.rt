@@ -27,3 +27,4 @@ pub mod search;
 pub mod settings;
 pub mod traits;
 pub mod words;
+pub mod writing;

@@ -1,5 +1,6 @@
 -- What a contract sees of a `VecMap`, and what calls say of its capacity.
 use Rattle.std.specs.Prelude.{◌≡◌, ◌+◌, ◌<◌, ◌≤◌, ℕ, Bool, IsOk, IsSome, List, None, OnErr, OnOk, Option, Result, length}
+use Rattle.std.specs.List.{refill}
 use Rattle.std.specs.Option.{option_map_or}
 use Rattle.vecmap_base.specs.Pairs.{index_by, index_of, with_pair, with_value}
 
@@ -12,6 +13,10 @@ module _ {K V : Type 0} where
   -- The map m with other pairs.
   abbrev pub with_entries : Contents K V → List (K × V) → Contents K V
   with_entries m l = record { entries = l; capacity = m.capacity }
+
+  -- The map m with the pairs l over its own, as many as it has.
+  abbrev pub with_written : Contents K V → List (K × V) → Contents K V
+  with_written m l = with_entries m (refill (length m.entries) m.entries l)
 
   -- The map m with v as the value at the index i.
   abbrev pub with_value_at : Contents K V → ℕ → V → Contents K V

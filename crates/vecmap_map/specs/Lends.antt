@@ -2,10 +2,10 @@
 use Rattle.std.specs.Prelude.{ℕ, Bool, [], ◌∷◌}
 use Rattle.std.specs.declared.option.Option.{Option}
 use Rattle.std.specs.declared.option.Option.TheVariants.{None, Some}
-use Rattle.std.specs.Borrow.{RattleType, Fml, GName, Bor, MutBor, Lends, LendsIf, LendsBoth, LendsBothIf, follows_if, follows_both_if}
+use Rattle.std.specs.Borrow.{RattleType, Fml, GName, Array, Bor, MutBor, Lends, LendsIf, LendsBoth, LendsBothIf, follows, follows_if, follows_both_if}
 use denote.Struct.Tuple.{Tuple}
 use mathlib.Core.Option as maybe
-use Rattle.vecmap_map.specs.Contents.{Contents, with_pair_at, with_pair_by, with_value_at, with_value_by, with_value_of}
+use Rattle.vecmap_map.specs.Contents.{Contents, with_pair_at, with_pair_by, with_value_at, with_value_by, with_value_of, with_written}
 use Rattle.std.specs.contracts.alloc.Global as global
 use Rattle.std.specs.contracts.impls.GlobalAllocator.TheImpl.{ghosts}
 use Rattle.std.specs.contracts.string.String as text
@@ -82,3 +82,8 @@ module _ (K V : RattleType) (m : MutBor (Contents K.Denot V.Denot)) where
   -- The same for the first key that passes the test, if the result also has the index.
   abbrev pub lends_both_beside_place : (K.Denot → Bool) → Option (ℕ × MutBor K.Denot × MutBor V.Denot) → Fml
   lends_both_beside_place test r = follows_both_if (the_row K V) K V m.ghost_name (both_names_at r) (λ key v. with_pair_by test m.now (key, v)) m.now
+
+  -- Once the loan with this name ends, the map has the pairs that were last written through it, as many as before, and
+  -- its capacity.
+  abbrev pub lends_pairs : GName → Fml
+  lends_pairs r = follows (the_row K V) (Array (Tuple (K ∷ V ∷ [])) 0) m.ghost_name r (with_written m.now)

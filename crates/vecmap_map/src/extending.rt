@@ -1,10 +1,12 @@
 //! The trait `Extend` of a map, for generic code, `try_collect` and `partition`.
 //!
-//! Each impl calls the inherent function that it names. The contract of that function says more: what a refusal leaves,
-//! and when no call is refused.
+//! Each impl calls the inherent function that it names, and says the same of a refusal. Generic code knows only what the
+//! trait says: that some first part of the items was inserted.
+ghost use Rattle.std.specs.Iterator.{ExtendsWithItems, IsFiniteIterable};
 ghost use Rattle.std.specs.Map.Iter.{deref_pair};
-ghost use Rattle.std.specs.Prelude.{◌≤◌, map};
-ghost use Rattle.vecmap_map.specs.MapBulk.{Puts, PutsClones};
+ghost use Rattle.std.specs.Prelude.{◌≡◌, ◌≤◌, ◌⊎◌, IsOk, OnErr, length, map};
+ghost use Rattle.vecmap_base.specs.Bulk.{HasRoomForAll, StopsAt};
+ghost use Rattle.vecmap_map.specs.MapBulk.{Puts, PutsClones, RefusesAfter, RefusesClonesAfter};
 
 use crate::VecMap;
 use std::alloc::AllocError;
@@ -27,7 +29,17 @@ use std::alloc::AllocError;
 impl<K: Eq + Drop, V: Drop> Extend<(K, V)> for VecMap<K, V> {
     ghost extend_gives = { λ old pairs new. Puts K.eq old pairs new × (old.capacity ≤ new.capacity) };
 
-    fn extend<I: IntoIterator<Item = (K, V)>>(&mut self, iter: I) -> Result<(), AllocError> {
+    fn extend<I: IntoIterator<Item = (K, V)>>(&mut self, iter: I) -> Result<(), AllocError>
+        requires ends { IsFiniteIterable I.into_iter_gives I.IntoIter.can_next I.IntoIter.remaining iter }
+        ensures ran { ExtendsWithItems I.into_iter_gives I.IntoIter.next_gives
+            (λ old pairs new. Puts K.eq old pairs new × (old.capacity ≤ new.capacity))
+            iter self.old self.new result }
+        ensures succeeds { HasRoomForAll I.into_iter_gives I.IntoIter.remaining iter
+            (length self.old.entries) self.old.capacity → IsOk result }
+        ensures err { OnErr result ((self.new ≡ self.old)
+            ⊎ StopsAt I.into_iter_gives I.IntoIter.next_gives iter
+            (λ pairs next. RefusesAfter K.eq self.old pairs next self.new)) }
+    {
         VecMap::extend(self, iter)
     }
 }
@@ -50,10 +62,19 @@ impl<K: Eq + Drop, V: Drop> Extend<(K, V)> for VecMap<K, V> {
 impl<'a, K: Eq + Clone + 'a, V: Clone + 'a> Extend<(&'a K, &'a V)> for VecMap<K, V> {
     ghost extend_gives = { λ old pairs new. PutsClones K.eq K.is_clone V.is_clone old (map deref_pair pairs) new × (old.capacity ≤ new.capacity) };
 
-    fn extend<I: IntoIterator<Item = (&'a K, &'a V)>>(
-        &mut self,
-        iter: I,
-    ) -> Result<(), AllocError> {
+    fn extend<I: IntoIterator<Item = (&'a K, &'a V)>>(&mut self, iter: I) -> Result<(), AllocError>
+        requires ends { IsFiniteIterable I.into_iter_gives I.IntoIter.can_next I.IntoIter.remaining iter }
+        ensures ran { ExtendsWithItems I.into_iter_gives I.IntoIter.next_gives
+            (λ old pairs new. PutsClones K.eq K.is_clone V.is_clone old (map deref_pair pairs) new
+            × (old.capacity ≤ new.capacity)) iter self.old self.new result }
+        ensures succeeds { HasRoomForAll I.into_iter_gives I.IntoIter.remaining iter
+            (length self.old.entries) self.old.capacity → ((k : K) → K.is_infallible k)
+            → ((v : V) → V.is_infallible v) → IsOk result }
+        ensures err { OnErr result ((self.new ≡ self.old)
+            ⊎ StopsAt I.into_iter_gives I.IntoIter.next_gives iter
+            (λ items next. RefusesClonesAfter K.eq K.Clone V.Clone self.old (map deref_pair items)
+            (deref_pair next) self.new)) }
+    {
         self.extend_refs(iter)
     }
 }
@@ -75,7 +96,19 @@ impl<'a, K: Eq + Clone + 'a, V: Clone + 'a> Extend<(&'a K, &'a V)> for VecMap<K,
 impl<'a, K: Eq + Clone + 'a, V: Clone + 'a> Extend<&'a (K, V)> for VecMap<K, V> {
     ghost extend_gives = { λ old pairs new. PutsClones K.eq K.is_clone V.is_clone old (map (λ p. p.now) pairs) new × (old.capacity ≤ new.capacity) };
 
-    fn extend<I: IntoIterator<Item = &'a (K, V)>>(&mut self, iter: I) -> Result<(), AllocError> {
+    fn extend<I: IntoIterator<Item = &'a (K, V)>>(&mut self, iter: I) -> Result<(), AllocError>
+        requires ends { IsFiniteIterable I.into_iter_gives I.IntoIter.can_next I.IntoIter.remaining iter }
+        ensures ran { ExtendsWithItems I.into_iter_gives I.IntoIter.next_gives
+            (λ old pairs new. PutsClones K.eq K.is_clone V.is_clone old (map (λ p. p.now) pairs) new
+            × (old.capacity ≤ new.capacity)) iter self.old self.new result }
+        ensures succeeds { HasRoomForAll I.into_iter_gives I.IntoIter.remaining iter
+            (length self.old.entries) self.old.capacity → ((k : K) → K.is_infallible k)
+            → ((v : V) → V.is_infallible v) → IsOk result }
+        ensures err { OnErr result ((self.new ≡ self.old)
+            ⊎ StopsAt I.into_iter_gives I.IntoIter.next_gives iter
+            (λ items next. RefusesClonesAfter K.eq K.Clone V.Clone self.old
+            (map (λ p. p.now) items) next.now self.new)) }
+    {
         self.extend_pairs(iter)
     }
 }

@@ -2,9 +2,12 @@
 //!
 //! A contract sees an iterator as the list of its remaining items. Each iterator knows its exact length and gives items
 //! from both ends. After its last item it returns only `None`. Creating one takes constant time and does not allocate.
+ghost use Rattle.std.specs.Borrow.{sem};
 ghost use Rattle.std.specs.Map.{keys_of, values_of};
 ghost use Rattle.std.specs.Map.Iter.{ShowsValuesInOrder, ShowsValuesInReverse, deref, deref_pair, deref_pair_mut};
-ghost use Rattle.vecmap_base.specs.Walks.{GivesAll, ShowsAll, deref_mut};
+ghost use Rattle.vecmap_base.specs.Lending.{iter_mut_name, iter_mut_rest, values_mut_name, values_mut_rest};
+ghost use Rattle.vecmap_base.specs.Walks.{GivesAll, ShowsAll, ShowsAllOf, deref_mut};
+ghost use Rattle.vecmap_map.specs.Lends.{lends_pairs};
 
 use crate::VecMap;
 use vecmap_base::{IntoIter, IntoKeys, IntoValues, Iter, IterMut, Keys, Values, ValuesMut};
@@ -33,8 +36,9 @@ impl<K, V> VecMap<K, V> {
 
     /// Returns an iterator over the pairs in order, each as `(&K, &mut V)`.
     ///
-    /// Each value comes as it was at this call. No contract says what the map holds after the iteration. If a proof
-    /// needs that, write through [`VecMap::get_mut`] or `map[index]`.
+    /// Each value comes as it was at this call. Once the iterator is no longer used, the map has its old length and
+    /// capacity. No contract says which values were written. If a proof needs that, write through [`VecMap::get_mut`],
+    /// `map[index]` or [`VecMap::retain`].
     ///
     /// # Complexity
     ///
@@ -50,7 +54,8 @@ impl<K, V> VecMap<K, V> {
     /// map.as_slice() // [('a', 3), ('b', 3)]
     /// ```
     pub fn iter_mut(&mut self) -> IterMut<'_, K, V>
-        ensures { ShowsAll deref_pair_mut self.old.entries result }
+        ensures* writes_back { sem 𝓛 (lends_pairs K.row V.row self.entry (iter_mut_name result)) }
+        ensures rest { ShowsAllOf deref_pair_mut iter_mut_rest self.old.entries result }
     {
         IterMut::over(&mut self.pairs)
     }
@@ -93,8 +98,9 @@ impl<K, V> VecMap<K, V> {
 
     /// Returns an iterator over mutable references to the values, in the order of their keys.
     ///
-    /// Each value comes as it was at this call. No contract says what the map holds after the iteration. If a proof
-    /// needs that, write through [`VecMap::get_mut`] or `map[index]`.
+    /// Each value comes as it was at this call. Once the iterator is no longer used, the map has its old length and
+    /// capacity. No contract says which values were written. If a proof needs that, write through [`VecMap::get_mut`],
+    /// `map[index]` or [`VecMap::retain`].
     ///
     /// # Complexity
     ///
@@ -110,7 +116,8 @@ impl<K, V> VecMap<K, V> {
     /// map.as_slice() // [('a', 3), ('b', 3)]
     /// ```
     pub fn values_mut(&mut self) -> ValuesMut<'_, K, V>
-        ensures { ShowsAll deref_mut (values_of self.old.entries) result }
+        ensures* writes_back { sem 𝓛 (lends_pairs K.row V.row self.entry (values_mut_name result)) }
+        ensures rest { ShowsAllOf deref_mut values_mut_rest (values_of self.old.entries) result }
     {
         ValuesMut::over(&mut self.pairs)
     }
@@ -194,9 +201,12 @@ impl<'a, K, V> IntoIterator for &'a mut VecMap<K, V> {
 
     type IntoIter = IterMut<'a, K, V>;
 
-    ghost into_iter_gives = { λ map iter. ShowsAll deref_pair_mut map.now.entries iter };
+    ghost into_iter_gives = { λ map iter. ShowsAllOf deref_pair_mut iter_mut_rest map.now.entries iter };
 
-    fn into_iter(self) -> IterMut<'a, K, V> {
+    fn into_iter(self) -> IterMut<'a, K, V>
+        ensures* writes_back { sem 𝓛 (lends_pairs K.row V.row self.entry (iter_mut_name result)) }
+        ensures into_iter_gives { ShowsAllOf deref_pair_mut iter_mut_rest self.old.entries result }
+    {
         self.iter_mut()
     }
 }

@@ -27,7 +27,9 @@ pub use puts::{
     stored_pairs_are_found, writes_are_insertions,
 };
 pub use queries::{queries_find_as_keys, texts_find_as_strings};
-pub use vecmap_base::laws::{iterators_pull_as_lists, key_comparisons_are_bounded};
+pub use vecmap_base::laws::{
+    iterators_pull_as_lists, key_comparisons_are_bounded, mutable_iterators_pull_as_lists,
+};
 pub use writes::{writes_by_queries_are_insertions, writes_by_texts_are_insertions};
 
 /// Equality of maps is reflexive, symmetric and transitive, even if keys repeat.

@@ -5,8 +5,9 @@ ghost use Rattle.std.specs.Map.{keys_of};
 ghost use Rattle.vecmap_base.specs.Asked.{CallableOnEach, CallsAtPairMut, TakesPairMut};
 ghost use Rattle.vecmap_base.specs.Kept.{Kept};
 ghost use Rattle.vecmap_base.specs.Pairs.{index_by, lookup_pair_by};
-ghost use Rattle.vecmap_base.specs.Walks.{ShowsAll, deref_both_mut, deref_mut};
-ghost use Rattle.vecmap_map.specs.Lends.{lends_parts};
+ghost use Rattle.vecmap_base.specs.Lending.{iter_mut2_name, iter_mut2_rest, keys_mut_name, keys_mut_rest};
+ghost use Rattle.vecmap_base.specs.Walks.{ShowsAllOf, deref_both_mut, deref_mut};
+ghost use Rattle.vecmap_map.specs.Lends.{lends_pairs, lends_parts};
 
 use crate::VecMap;
 use vecmap_base::{Equivalent, IterMut2, KeysMut, retain_pairs_mut};
@@ -99,8 +100,8 @@ pub trait MutableKeys: sealed::Sealed {
 
     /// Returns an iterator over the pairs in order, each as `(&mut K, &mut V)`.
     ///
-    /// Each pair comes as it was at this call. No contract says what the map holds after the iteration. If a proof
-    /// needs that, write through [`MutableKeys::get_index_mut2`] or [`MutableKeys::retain2`].
+    /// Each pair comes as it was at this call. Once the iterator is no longer used, the map has its old length and
+    /// capacity. No contract says what was written. If a proof needs that, write through [`MutableKeys::retain2`].
     ///
     /// # Complexity
     ///
@@ -119,8 +120,8 @@ pub trait MutableKeys: sealed::Sealed {
 
     /// Returns an iterator over mutable references to the keys, in order.
     ///
-    /// Each key comes as it was at this call. No contract says what the map holds after the iteration. If a proof needs
-    /// that, write through [`MutableKeys::get_index_mut2`] or [`MutableKeys::retain2`].
+    /// Each key comes as it was at this call. Once the iterator is no longer used, the map has its old length and
+    /// capacity. No contract says what was written. If a proof needs that, write through [`MutableKeys::retain2`].
     ///
     /// # Complexity
     ///
@@ -195,13 +196,15 @@ impl<K, V> MutableKeys for VecMap<K, V> {
     }
 
     fn iter_mut2(&mut self) -> IterMut2<'_, K, V>
-        ensures { ShowsAll deref_both_mut self.old.entries result }
+        ensures* writes_back { sem 𝓛 (lends_pairs K.row V.row self.entry (iter_mut2_name result)) }
+        ensures rest { ShowsAllOf deref_both_mut iter_mut2_rest self.old.entries result }
     {
         IterMut2::over(&mut self.pairs)
     }
 
     fn keys_mut(&mut self) -> KeysMut<'_, K, V>
-        ensures { ShowsAll deref_mut (keys_of self.old.entries) result }
+        ensures* writes_back { sem 𝓛 (lends_pairs K.row V.row self.entry (keys_mut_name result)) }
+        ensures rest { ShowsAllOf deref_mut keys_mut_rest (keys_of self.old.entries) result }
     {
         KeysMut::over(&mut self.pairs)
     }

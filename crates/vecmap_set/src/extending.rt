@@ -1,11 +1,13 @@
 //! The trait `Extend` of a set, for generic code, `try_collect` and `partition`.
 //!
-//! Each impl calls the inherent function that it names. The contract of that function says more: what a refusal leaves,
-//! and when no call is refused.
+//! Each impl calls the inherent function that it names, and says the same of a refusal. Generic code knows only what the
+//! trait says: that some first part of the items was added.
+ghost use Rattle.std.specs.Iterator.{ExtendsWithItems, IsFiniteIterable};
 ghost use Rattle.std.specs.List.{IsDistinct};
 ghost use Rattle.std.specs.Map.Iter.{deref};
-ghost use Rattle.std.specs.Prelude.{◌≤◌, map};
-ghost use Rattle.vecmap_set.specs.SetBulk.{Adds};
+ghost use Rattle.std.specs.Prelude.{◌≤◌, IsOk, OnErr, length, map};
+ghost use Rattle.vecmap_base.specs.Bulk.{HasRoomForAll, StopsAt};
+ghost use Rattle.vecmap_set.specs.SetBulk.{Adds, RefusesAfter};
 
 use crate::VecSet;
 use std::alloc::AllocError;
@@ -27,7 +29,16 @@ use std::alloc::AllocError;
 impl<T: Eq + Drop> Extend<T> for VecSet<T> {
     ghost extend_gives = { λ old items new. Adds T.eq old items new × IsDistinct T.eq new.elements × (old.capacity ≤ new.capacity) };
 
-    fn extend<I: IntoIterator<Item = T>>(&mut self, iter: I) -> Result<(), AllocError> {
+    fn extend<I: IntoIterator<Item = T>>(&mut self, iter: I) -> Result<(), AllocError>
+        requires ends { IsFiniteIterable I.into_iter_gives I.IntoIter.can_next I.IntoIter.remaining iter }
+        ensures ran { ExtendsWithItems I.into_iter_gives I.IntoIter.next_gives
+            (λ old items new. Adds T.eq old items new × IsDistinct T.eq new.elements
+            × (old.capacity ≤ new.capacity)) iter self.old self.new result }
+        ensures succeeds { HasRoomForAll I.into_iter_gives I.IntoIter.remaining iter
+            (length self.old.elements) self.old.capacity → IsOk result }
+        ensures err { OnErr result (StopsAt I.into_iter_gives I.IntoIter.next_gives iter
+            (λ items next. RefusesAfter T.eq self.old items next self.new)) }
+    {
         VecSet::extend(self, iter)
     }
 }
@@ -49,7 +60,16 @@ impl<T: Eq + Drop> Extend<T> for VecSet<T> {
 impl<'a, T: Eq + Copy + 'a> Extend<&'a T> for VecSet<T> {
     ghost extend_gives = { λ old items new. Adds T.eq old (map deref items) new × IsDistinct T.eq new.elements × (old.capacity ≤ new.capacity) };
 
-    fn extend<I: IntoIterator<Item = &'a T>>(&mut self, iter: I) -> Result<(), AllocError> {
+    fn extend<I: IntoIterator<Item = &'a T>>(&mut self, iter: I) -> Result<(), AllocError>
+        requires ends { IsFiniteIterable I.into_iter_gives I.IntoIter.can_next I.IntoIter.remaining iter }
+        ensures ran { ExtendsWithItems I.into_iter_gives I.IntoIter.next_gives
+            (λ old items new. Adds T.eq old (map deref items) new × IsDistinct T.eq new.elements
+            × (old.capacity ≤ new.capacity)) iter self.old self.new result }
+        ensures succeeds { HasRoomForAll I.into_iter_gives I.IntoIter.remaining iter
+            (length self.old.elements) self.old.capacity → IsOk result }
+        ensures err { OnErr result (StopsAt I.into_iter_gives I.IntoIter.next_gives iter
+            (λ items next. RefusesAfter T.eq self.old (map deref items) (deref next) self.new)) }
+    {
         self.extend_copied(iter)
     }
 }

@@ -1,0 +1,136 @@
+//! Callers of the iterators that lend keys or values by `&mut`. Afterwards they know the length and the capacity of the
+//! map, without a proof by hand.
+ghost use Rattle.std.specs.Prelude.{◌≡◌, ◌+◌, ◌<◌, count_by, length, nat_lt};
+
+use vecmap::VecMap;
+use vecmap::map::MutableKeys;
+
+/// Writes a value at each key, by a loop over the map.
+pub fn write_all<K, V: Copy>(map: &mut VecMap<K, V>, value: V)
+    ensures len { length map.new.entries ≡ length map.old.entries }
+    ensures capacity { map.new.capacity ≡ map.old.capacity }
+{
+    for (_key, stored) in &mut *map {
+        *stored = value;
+    }
+}
+
+/// Clears each text.
+pub fn clear_texts<K>(map: &mut VecMap<K, String>)
+    ensures len { length map.new.entries ≡ length map.old.entries }
+    ensures capacity { map.new.capacity ≡ map.old.capacity }
+{
+    for text in map.values_mut() {
+        text.clear();
+    }
+}
+
+/// Writes the length of each key.
+pub fn write_lengths<'s>(map: &mut VecMap<&'s str, usize>)
+    ensures len { length map.new.entries ≡ length map.old.entries }
+    ensures capacity { map.new.capacity ≡ map.old.capacity }
+{
+    for (key, value) in map.iter_mut() {
+        *value = key.len();
+    }
+}
+
+/// Writes the first two values, by two calls of `next`.
+pub fn write_first_two(map: &mut VecMap<u32, u8>)
+    ensures len { length map.new.entries ≡ length map.old.entries }
+    ensures capacity { map.new.capacity ≡ map.old.capacity }
+{
+    let mut pairs = map.iter_mut();
+    if let Some((_key, value)) = pairs.next() {
+        *value = 1;
+    }
+    if let Some((_key, value)) = pairs.next() {
+        *value = 2;
+    }
+}
+
+/// Writes the values at both ends, and returns the number of pairs, asked of the iterator.
+pub fn write_ends(map: &mut VecMap<u32, u8>) -> usize
+    ensures count { result ≡ length map.old.entries }
+    ensures len { length map.new.entries ≡ length map.old.entries }
+{
+    let mut values = map.values_mut();
+    let count = values.len();
+    if let Some(value) = values.next_back() {
+        *value = 1;
+    }
+    if let Some(value) = values.next() {
+        *value = 2;
+    }
+    count
+}
+
+/// Subtracts one from each value, up to the first that is zero.
+pub fn lower_until_zero(map: &mut VecMap<u32, u8>)
+    ensures { length map.new.entries ≡ length map.old.entries }
+{
+    for (_key, value) in map.iter_mut() {
+        if *value == 0 {
+            break;
+        }
+        *value -= 1;
+    }
+}
+
+/// Writes each value by a closure, from the back.
+pub fn write_by_closure(map: &mut VecMap<u32, u8>)
+    ensures { length map.new.entries ≡ length map.old.entries }
+{
+    map.values_mut().rev().for_each(|value| *value = 1);
+}
+
+/// Returns the number of values above three, by a chain over mutable references.
+pub fn count_above_three(map: &mut VecMap<u32, u8>) -> usize
+    ensures count { result ≡ count_by (λ p. nat_lt 3 p.1) map.old.entries }
+    ensures len { length map.new.entries ≡ length map.old.entries }
+    ensures capacity { map.new.capacity ≡ map.old.capacity }
+{
+    map.iter_mut().filter(|pair| *pair.1 > 3).count()
+}
+
+/// Writes each key and each value.
+pub fn write_pairs(map: &mut VecMap<u32, u8>)
+    ensures len { length map.new.entries ≡ length map.old.entries }
+    ensures capacity { map.new.capacity ≡ map.old.capacity }
+{
+    for (key, value) in map.iter_mut2() {
+        *key = 0;
+        *value = 0;
+    }
+}
+
+/// Writes the first key.
+pub fn write_first_key(map: &mut VecMap<u32, u8>)
+    ensures len { length map.new.entries ≡ length map.old.entries }
+    ensures capacity { map.new.capacity ≡ map.old.capacity }
+{
+    if let Some(key) = map.keys_mut().next() {
+        *key = 0;
+    }
+}
+
+/// A map next to a count of its rounds.
+#[derive(Drop)]
+pub struct Rounds {
+    pub scores: VecMap<u32, u8>,
+    pub count: u8,
+}
+
+impl Rounds {
+    /// Sets each score to zero, in a map that is a field.
+    pub fn next_round(&mut self)
+        requires { self.old.count < 9 }
+        ensures len { length self.new.scores.entries ≡ length self.old.scores.entries }
+        ensures count { self.new.count ≡ self.old.count + 1 }
+    {
+        for (_key, score) in self.scores.iter_mut() {
+            *score = 0;
+        }
+        self.count += 1;
+    }
+}
