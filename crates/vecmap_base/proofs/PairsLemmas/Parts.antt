@@ -1,12 +1,16 @@
--- What lookups find in a list of two parts, and the last value that insertions give a key.
-use Rattle.std.specs.Prelude.{◌≡◌, Bool, true, false, List, [], ◌∷◌, ◌++◌, Option, Some, None, if◌then◌else◌, refl, reverse}
+-- What lookups find in a list of two parts, and the value and the index of a key after many insertions.
+use Rattle.std.specs.Prelude.{◌≡◌, ℕ, Bool, true, false, List, [], ◌∷◌, ◌++◌, Option, Some, None, if◌then◌else◌, position, refl, reverse}
 use Rattle.std.specs.Cmp.{IsEquivalence}
 use Rattle.std.specs.Option.{option_or}
 use Rattle.std.proofs.Common.{sym, ap, ◌∙◌, inl, inr}
 use Rattle.std.proofs.lemmas.Bool.{cases_Bool}
 use Rattle.std.proofs.lemmas.List.{reverse-append}
-use Rattle.vecmap_base.specs.Pairs.{lookup, put, puts}
+use Rattle.std.specs.Map.{keys_of}
+use Rattle.vecmap_base.specs.Items.{adds, item_index}
+use Rattle.vecmap_base.specs.Pairs.{index_of, lookup, put, puts}
+use Rattle.vecmap_base.proofs.ItemsLemmas.Members.{item_index_adds_kept}
 use Rattle.vecmap_base.proofs.PairsLemmas.AfterPuts.{lookup_put_any, option_or_assoc, option_or_none}
+use Rattle.vecmap_base.proofs.PairsLemmas.Keys.{index_of_is, keys_of_puts}
 use Rattle.vecmap_base.proofs.PairsLemmas.Lookups.{look}
 
 module _ {K V : Type 0} (eq : K → K → Bool) where
@@ -18,6 +22,14 @@ module _ {K V : Type 0} (eq : K → K → Bool) where
         | inl e ↦ look eq p (ps ++ b) q true e ∙ sym (ap (λ found. option_or found (lookup eq b q)) (look eq p ps q true e))
         | inr e ↦ look eq p (ps ++ b) q false e ∙ lookup_append ps b q ∙ sym (ap (λ found. option_or found (lookup eq b q)) (look eq p ps q false e))
       ]
+
+  -- After insertions, the index of a key is that of an element after additions.
+  pub index_of_puts : (l pairs : List (K × V)) (q : K) → index_of eq (puts eq l pairs) q ≡ item_index eq (adds eq (keys_of l) (keys_of pairs)) q
+  index_of_puts l pairs q = index_of_is eq (puts eq l pairs) q ∙ ap (position (eq q)) (keys_of_puts eq l pairs)
+
+  -- An existing key keeps its index.
+  pub index_of_puts_kept : (l pairs : List (K × V)) (q : K) (i : ℕ) → index_of eq l q ≡ Some i → index_of eq (puts eq l pairs) q ≡ Some i
+  index_of_puts_kept l pairs q i e = index_of_puts l pairs q ∙ item_index_adds_kept eq (keys_of l) (keys_of pairs) q i (sym (index_of_is eq l q) ∙ e)
 
   module _ (o : IsEquivalence eq) where
     one_put : (l : List (K × V)) (p : K × V) (q : K) → lookup eq (put eq l p.0 p.1) q ≡ option_or (lookup eq (p ∷ []) q) (lookup eq l q)
