@@ -149,6 +149,13 @@ pub fn clones_keep_keys_distinct<K: Eq + Clone, V: Clone>()
         → HasDistinctKeys K.eq m }
 {}
 
+/// Clones of pairs that are the same as their originals, as those of numbers are, make the same list.
+pub fn clones_have_the_same_pairs<K: Clone, V: Clone>()
+    ensures { (l m : List (K × V)) → ((x y : K) → K.is_clone x y → y ≡ x)
+        → ((x y : V) → V.is_clone x y → y ≡ x)
+        → AreClones (IsPairClone K.is_clone V.is_clone) l m → m ≡ l }
+{}
+
 /// Any mixture of pulls from both ends of a drain returns the same as pulls from the list of its range.
 ///
 /// Each pair comes once: in order from the front, in reverse order from the back. Then each pull returns `None`. What

@@ -1,6 +1,6 @@
 -- Which elements are present, and at which indices, after one addition and after many. Many additions append those of
 -- the new elements that are not present.
-use Rattle.std.specs.Prelude.{◌≡◌, ◌<◌, ◌+◌, ℕ, Bool, true, false, ◌||◌, not, List, [], ◌∷◌, ◌++◌, None, Option, Some, if◌then◌else◌, length, option_map, position, slice_get, suc, zero, refl}
+use Rattle.std.specs.Prelude.{◌≡◌, ◌<◌, ◌+◌, ℕ, Bool, true, false, ◌||◌, not, Contains, IsTrue, List, [], ◌∷◌, ◌++◌, None, Option, Some, if◌then◌else◌, length, option_map, position, slice_get, suc, zero, refl}
 use Rattle.std.specs.Cmp.{IsEquivalence}
 use Rattle.std.specs.List.{list_any}
 use Rattle.std.specs.Option.{option_or}
@@ -10,6 +10,7 @@ use Rattle.std.proofs.lemmas.Bool.{cases_Bool}
 use Rattle.std.proofs.lemmas.List.{append-nil, append_assoc}
 use Rattle.std.proofs.lemmas.List.Folds.{list_any-append}
 use Rattle.std.proofs.lemmas.Map.Steps.{list_any_congr}
+use Rattle.vecmap_base.specs.Clones.{AreClones}
 use Rattle.vecmap_base.specs.Items.{add, adds, has_item, item_index, only}
 use Rattle.vecmap_base.proofs.ItemsLemmas.Additions.{add_absent, add_present}
 use Rattle.vecmap_base.proofs.ItemsLemmas.Recursion.{item_index_cons}
@@ -120,3 +121,13 @@ module _ {T : Type 0} (eq : T → T → Bool) where
         has_item_adds (add eq s x) xs y
         ∙ ap (λ b. b || has_item eq xs y) (has_item_add s x y ∙ ap (λ b. has_item eq s y || b) (o.symm x y))
         ∙ or_assoc (has_item eq s y) (eq y x) (has_item eq xs y)
+
+    -- If each clone of an element is equal to it, the same elements are present in clones of a list.
+    pub has_item_clones : (C : T → T → Type 0) (l m : List T) → ((x y : T) → Contains l x → C x y → IsTrue (eq x y)) → AreClones C l m → (z : T) → has_item eq m z ≡ has_item eq l z
+    has_item_clones C [] [] same c z = refl
+    has_item_clones C [] (y ∷ ys) same c z = absurd c
+    has_item_clones C (x ∷ xs) [] same c z = absurd c
+    has_item_clones C (x ∷ xs) (y ∷ ys) same c z =
+        let first : eq z y ≡ eq z x = o.symm z y ∙ sym (o.congr x y z (same x y (0, omega arith, refl) c.0)) ∙ o.symm x z in
+        let rest = has_item_clones C xs ys (λ v w in_rest. same v w (suc in_rest.0, omega (arith, in_rest.1), in_rest.2)) c.1 z in
+        λ i. first i || rest i
