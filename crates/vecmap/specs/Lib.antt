@@ -1,5 +1,6 @@
 pub mod MapRun
 pub mod NestedSets
+pub mod Reads
 pub mod SetRun
 pub use Rattle.vecmap_base.specs.Asked
 pub use Rattle.vecmap_base.specs.Bulk

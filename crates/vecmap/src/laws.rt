@@ -1,9 +1,10 @@
 //! Laws of runs of commands, and of sets in maps. A call of a law costs nothing at run time, and gives the law to a
 //! proof.
 ghost use Rattle.std.specs.Option.{UnwrapsOrElse};
-ghost use Rattle.std.specs.Prelude.{◌≡◌, Bool, List, Option, false, map};
+ghost use Rattle.std.specs.Prelude.{◌≡◌, All, Bool, List, Option, false, map};
 ghost use Rattle.vecmap.specs.NestedSets.{IsMadeEmptySet, inner_elements};
 ghost use Rattle.vecmap.specs.MapRun as maps;
+ghost use Rattle.vecmap.specs.Reads.{IsRead, IsSetRead};
 ghost use Rattle.vecmap.specs.SetRun as sets;
 ghost use Rattle.vecmap.specs.declared.map_run.command.MapCommand.{MapCommand};
 ghost use Rattle.vecmap.specs.declared.map_run.command.MapCommand.TheVariants.{Insert};
@@ -48,6 +49,20 @@ pub fn runs_of_additions_are_bulk_additions<T: Eq + Clone>()
     ensures { (l xs : List T) (added : List Bool) (m : List T)
         → sets.ListRun T.eq T.Clone l (map set_commands.Insert xs) (map Truth added) m
         → m ≡ adds T.eq l xs }
+{}
+
+/// A run of commands that only read leaves the map as it was, its capacity too.
+pub fn runs_of_reads_leave_maps<K: Eq + Clone, V: Eq + Clone>()
+    ensures { (m : Contents K V) (commands : List (MapCommand K V)) (replies : List (MapReply K V))
+        (n : Contents K V) → All IsRead commands
+        → maps.Run K.eq V.eq K.Clone V.Clone m commands replies n → n ≡ m }
+{}
+
+/// A run of commands that only read leaves the set as it was, its capacity too.
+pub fn runs_of_reads_leave_sets<T: Eq + Clone>()
+    ensures { (s : set_contents.Contents T) (commands : List (SetCommand T))
+        (replies : List (SetReply T)) (t : set_contents.Contents T) → All IsSetRead commands
+        → sets.Run T.eq T.Clone s commands replies t → t ≡ s }
 {}
 
 /// In a map of sets, an addition to the set of a key adds to the inner elements of that key.

@@ -1,8 +1,11 @@
 -- Lemmas about lists of pairs.
 pub mod AfterPuts
 pub mod EachValue
+pub mod Inserted
 pub mod Keys
 pub mod Lookups
+pub mod Order
+pub mod Parts
 pub mod Places
 pub mod Puts
 pub mod Queries

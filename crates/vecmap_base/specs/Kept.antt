@@ -1,5 +1,5 @@
 -- What is left of a list if a closure is called for each item, in order, and decides which items stay.
-use Rattle.std.specs.Prelude.{◌≡◌, ℕ, ◌≤◌, Bool, List, [], ◌∷◌, ◌++◌, drop, if◌then◌else◌, length, take}
+use Rattle.std.specs.Prelude.{◌≡◌, ℕ, ◌≤◌, Bool, true, List, [], ◌∷◌, ◌++◌, drop, if◌then◌else◌, length, take}
 use Rattle.std.specs.List.{FoldsTo}
 use Rattle.vecmap_base.specs.Asked.{SomeCall}
 
@@ -10,6 +10,14 @@ Kept R f [] m g = (m ≡ []) × (g ≡ f)
 Kept {F} {X} R f (x ∷ xs) m g = (b : Bool) × (y : X) × (h : F) × (rest : List X) × R f x b y h × Kept R h xs rest g × (m ≡ (if b then y ∷ rest else rest))
 
 module _ {F X : Type 0} (R : F → X → Bool → X → F → Type 0) where
+  -- Each call of the closure in the state `f` returns the result of the test, writes nothing and leaves that state.
+  abbrev pub TestsItems : F → (X → Bool) → Type 0
+  TestsItems f test = (x : X) (b : Bool) (y : X) (g : F) → R f x b y g → (b ≡ test x) × (y ≡ x) × (g ≡ f)
+
+  -- Each call of the closure in the state `f` returns `true`, writes `h` of the item and leaves that state.
+  abbrev pub WritesItems : F → (X → X) → Type 0
+  WritesItems f h = (x : X) (b : Bool) (y : X) (g : F) → R f x b y g → (b ≡ true) × (y ≡ h x) × (g ≡ f)
+
   -- The closure was called for the first `i` items of `xs`, in order, which took it from `f0` to `f`. The first `k`
   -- items of `ys` are those that were kept, as they were written. From `i` on, `ys` is `xs`.
   pub record KeptSoFar (f0 f : F) (xs ys : List X) (k i : ℕ) : Type 0 where

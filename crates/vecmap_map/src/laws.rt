@@ -1,32 +1,39 @@
 //! Laws of the definitions that contracts use. A call of a law costs nothing at run time, and gives the law to a proof.
-ghost use Rattle.std.specs.Prelude.{◌≡◌, ◌≢◌, ◌↔◌, ◌<◌, ◌≤◌, ◌++◌, ◌∷◌, ℕ, Bool, IsTrue, List, None, Option, [], drop, false, length, remove, reverse, slice_range, swap, take};
+ghost use Rattle.std.specs.Prelude.{◌≡◌, ◌≢◌, ◌↔◌, ◌<◌, ◌≤◌, ◌++◌, ◌∷◌, ℕ, Bool, IsTrue, List, None, Option, [], drop, false, filter, length, remove, reverse, slice_range, swap, take};
 ghost use Rattle.std.specs.List.{remove_range};
 ghost use Rattle.std.specs.List.Sorted.{IsPermutation};
 ghost use Rattle.vecmap_base.specs.Clones.{AreClones, ClonesAreSame, IsPairClone};
 ghost use Rattle.vecmap_base.specs.Equality.{agrees, counts_agree, has_same_counts, same_option};
 ghost use Rattle.vecmap_base.specs.Items.{swap_without};
-ghost use Rattle.vecmap_base.specs.Asked.{CallsAtPair};
-ghost use Rattle.vecmap_base.specs.Kept.{Kept};
 ghost use Rattle.vecmap_base.specs.Pairs.{HasDistinctKeys, index_of, lookup, put, put_at, put_key, puts, swap_without_by, swap_without_key, with_value, without_by};
 ghost use Rattle.vecmap_base.specs.Walks.{End, Pulls, PullsBy};
 ghost use Rattle.vecmap_map.specs.Drain.{DrainKeeps, DrainNext, DrainNextBack, drain_rest};
 ghost use Rattle.vecmap_map.specs.declared.drain.Drain.{Drain};
 
 mod collecting;
+mod moving;
 mod nested;
 mod puts;
 mod queries;
+mod retaining;
 mod writes;
 
 use crate::VecMap;
 pub use collecting::collecting_one_more_is_extending;
+pub use moving::{
+    insertions_at_an_index_are_found, moves_keep_lookups, order_keeps_lookups,
+    removals_by_index_are_undone,
+};
 pub use nested::inner_insertions_are_found;
 pub use puts::{
     bulk_insertions_are_single_ones, entries_insert_alike, equal_keys_find_the_same,
-    functions_of_values_are_found, insertions_are_found, removals_are_forgotten,
-    stored_pairs_are_found, writes_are_insertions,
+    first_parts_are_found_first, functions_of_values_are_found, insertions_are_found,
+    removals_are_forgotten, stored_pairs_are_found, writes_are_insertions,
 };
 pub use queries::{queries_find_as_keys, texts_find_as_strings};
+pub use retaining::{
+    retain_filters_or_writes, retain2_filters_or_writes, retaining_keeps_keys_distinct,
+};
 pub use vecmap_base::laws::{
     iterators_pull_as_lists, key_comparisons_are_bounded, mutable_iterators_pull_as_lists,
 };
@@ -104,7 +111,7 @@ pub fn removal_keeps_keys_distinct<K: Eq, V>()
         → HasDistinctKeys K.eq (take n l) }
 {}
 
-/// If no keys repeat, none repeat in a part of the list, nor once a part is left out.
+/// If no keys repeat, none repeat in a part of the list, once a part is left out, nor in the pairs that pass a test.
 pub fn parts_keep_keys_distinct<K: Eq, V>()
     ensures back { (l : List (K × V)) → HasDistinctKeys K.eq l → (n : ℕ)
         → HasDistinctKeys K.eq (drop n l) }
@@ -112,12 +119,8 @@ pub fn parts_keep_keys_distinct<K: Eq, V>()
         → HasDistinctKeys K.eq (slice_range l i j) }
     ensures without_part { (l : List (K × V)) → HasDistinctKeys K.eq l → (i j : ℕ) → i ≤ j
         → HasDistinctKeys K.eq (remove_range l i j) }
-{}
-
-/// If no keys repeat, none repeat in what a closure keeps that may write only the values.
-pub fn retaining_keeps_keys_distinct<K: Eq, V, F: FnMut(&K, &mut V) -> bool>()
-    ensures { (f g : F) (l m : List (K × V)) → Kept (CallsAtPair F.FnMut) f l m g
-        → HasDistinctKeys K.eq l → HasDistinctKeys K.eq m }
+    ensures filtered { (l : List (K × V)) → HasDistinctKeys K.eq l → (test : K × V → Bool)
+        → HasDistinctKeys K.eq (filter test l) }
 {}
 
 /// If no keys repeat, a list that is split is whole again once the second part is appended to the first.
@@ -146,6 +149,13 @@ pub fn clones_keep_keys_distinct<K: Eq + Clone, V: Clone>()
     ensures pairs { ClonesAreSame K.eq K.is_clone → (l m : List (K × V))
         → AreClones (IsPairClone K.is_clone V.is_clone) l m → HasDistinctKeys K.eq l
         → HasDistinctKeys K.eq m }
+{}
+
+/// Clones of pairs that are the same as their originals, as those of numbers are, make the same list.
+pub fn clones_have_the_same_pairs<K: Clone, V: Clone>()
+    ensures { (l m : List (K × V)) → ((x y : K) → K.is_clone x y → y ≡ x)
+        → ((x y : V) → V.is_clone x y → y ≡ x)
+        → AreClones (IsPairClone K.is_clone V.is_clone) l m → m ≡ l }
 {}
 
 /// Any mixture of pulls from both ends of a drain returns the same as pulls from the list of its range.

@@ -1,14 +1,15 @@
 -- What `intersection` and `union` yield, whichever of two lists is longer. The idea: a fact about two lists in either
 -- order is one about the shorter and the other.
-use Rattle.std.proofs.Common.{◌≡◌, ◌+◌, ◌∙◌, Bool, true, false, List, arith, if◌then◌else◌, length, nat_lt}
+use Rattle.std.proofs.Common.{◌≡◌, ◌+◌, ◌∙◌, Bool, true, false, ◌&&◌, ◌||◌, List, arith, if◌then◌else◌, length, nat_lt, not}
+use Rattle.std.proofs.lemmas.List.Folds.{list_any-append}
 use Rattle.std.specs.Cmp.{IsEquivalence}
 use Rattle.std.specs.List.{IsDistinct}
 use Rattle.vecmap_base.specs.Equality.{has_same_items}
-use Rattle.vecmap_base.specs.Items.{both}
+use Rattle.vecmap_base.specs.Items.{both, has_item, only}
 use Rattle.vecmap_base.proofs.EqualityLemmas.Sets.{set_equality_laws}
-use Rattle.vecmap_base.proofs.EqualityLemmas.Relations.{both_turned, length_both_turned, length_union, union_turned}
+use Rattle.vecmap_base.proofs.EqualityLemmas.Relations.{both_turned, has_item_only, length_both_turned, length_union, union_turned}
 use Rattle.vecmap_set.specs.Lazy.{longer, not_longer, not_shorter, shorter}
-use Rattle.vecmap_set.specs.Operators.{lazy_intersection, lazy_union, union_of}
+use Rattle.vecmap_set.specs.Operators.{lazy_intersection, lazy_union, symmetric_difference_of, union_of}
 
 module _ {T : Type 0} (a b : List T) (P : List T → List T → Type 0) where
   -- What holds of two lists in either order holds of the shorter and the other.
@@ -28,6 +29,10 @@ module _ {T : Type 0} (a b : List T) (P : List T → List T → Type 0) where
       by false = y
 
 module _ {T : Type 0} (eq : T → T → Bool) (o : IsEquivalence eq) (a b : List T) where
+  -- An element is in the symmetric difference if it is in exactly one of the two lists.
+  pub has_item_symmetric_difference : (x : T) → has_item eq (symmetric_difference_of eq a b) x ≡ ((has_item eq a x && not (has_item eq b x)) || (has_item eq b x && not (has_item eq a x)))
+  has_item_symmetric_difference x = list_any-append (eq x) (only eq a b) (only eq b a) ∙ (λ i. has_item_only eq o a b x i || has_item_only eq o b a x i)
+
   -- The lazy lists are equal, as sets, to those of the operators.
   pub lazy_intersection_is_both : has_same_items eq (lazy_intersection eq a b) (both eq a b) ≡ true
   lazy_intersection_is_both = on_shorter a b (λ s t. has_same_items eq (both eq s t) (both eq a b) ≡ true) (both_turned eq o b a) ((set_equality_laws eq o).refl (both eq a b))

@@ -12,12 +12,15 @@ mod additions;
 mod algebra;
 mod collecting;
 mod finding;
+mod members;
 mod queries;
+mod retaining;
 
 use crate::VecSet;
 pub use additions::{
     additions_keep_elements_distinct, additions_move_nothing, bulk_additions_are_single_ones,
-    equal_elements_have_one_place, removals_are_forgotten, stored_elements_are_found,
+    bulk_additions_move_nothing, equal_elements_have_one_place, removals_are_forgotten,
+    stored_elements_are_found,
 };
 pub use algebra::{
     algebra_is_symmetric, disjoint_sets_have_no_intersection, lazy_iterators_agree_with_operators,
@@ -26,7 +29,11 @@ pub use algebra::{
 };
 pub use collecting::collecting_one_more_is_extending;
 pub use finding::{queries_find_after_additions, texts_find_as_strings};
+pub use members::{
+    added_elements_are_present, clones_have_the_same_members, operators_combine_members,
+};
 pub use queries::queries_find_as_elements;
+pub use retaining::retain_filters;
 pub use vecmap_base::laws::{comparisons_are_bounded, iterators_pull_as_lists};
 
 /// Equality of sets is reflexive, symmetric and transitive.

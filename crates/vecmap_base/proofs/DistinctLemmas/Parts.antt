@@ -1,9 +1,10 @@
 -- Distinct keys stay distinct in parts of a list, without one of them, and in what a closure that writes no key keeps.
-use Rattle.std.specs.Prelude.{◌≡◌, ℕ, ◌≤◌, ◌-◌, Bool, true, false, List, [], ◌∷◌, ◌++◌, drop, if◌then◌else◌, refl, slice_range, take}
+use Rattle.std.specs.Prelude.{◌≡◌, ℕ, ◌≤◌, ◌-◌, Bool, true, false, List, [], ◌∷◌, ◌++◌, drop, filter, if◌then◌else◌, refl, slice_range, take}
 use Rattle.std.specs.List.{IsDistinct, remove_range}
 use Rattle.std.specs.Map.{keys_of}
 use Rattle.std.proofs.Common.{ap, subst, sym, ◌∙◌}
 use Rattle.std.proofs.lemmas.List.{drop-map, map-append, take-map}
+use Rattle.std.proofs.lemmas.Map.Made.{IsDistinct-keys_filter}
 use Rattle.vecmap_base.specs.Kept.{Kept}
 use Rattle.vecmap_base.specs.Pairs.{HasDistinctKeys}
 use Rattle.vecmap_base.proofs.DistinctLemmas.Keys.{distinct_keys_take}
@@ -20,6 +21,9 @@ module _ {K V : Type 0} (eq : K → K → Bool) where
   distinct_keys_remove_range l i j order d =
       let keys : remove_range (keys_of l) i j ≡ keys_of (remove_range l i j) = (λ t. take-map (λ p. p.0) i l t ++ drop-map (λ p. p.0) j l t) ∙ sym (map-append (λ p. p.0) (take i l) (drop j l)) in
       subst (IsDistinct eq) keys (distinct_remove_range eq (keys_of l) i j order d)
+
+  pub distinct_keys_filter : (test : K × V → Bool) (l : List (K × V)) → HasDistinctKeys eq l → HasDistinctKeys eq (filter test l)
+  distinct_keys_filter test l d = IsDistinct-keys_filter eq test l d
 
   module _ {F : Type 0} (R : F → K × V → Bool → K × V → F → Type 0) (keeps : (f g : F) (p q : K × V) (b : Bool) → R f p b q g → q.0 ≡ p.0) where
     -- The same calls, as the keys see them.

@@ -39,8 +39,8 @@ module _ {T : Type 0} (eq : T → T → Bool) (o : IsEquivalence eq) where
   pub both_turned : (a b : List T) → has_same_items eq (both eq a b) (both eq b a) ≡ true
   both_turned a b = same_items (both eq a b) (both eq b a) (λ x. has_item_both a b x ∙ and_comm (has_item eq a x) (has_item eq b x) ∙ sym (has_item_both b a x))
 
-  has_item-union : (a b : List T) (x : T) → has_item eq (a ++ only eq b a) x ≡ (has_item eq a x || has_item eq b x)
-  has_item-union a b x = list_any-append (eq x) a (only eq b a) ∙ ap (λ c. has_item eq a x || c) (has_item_only b a x) ∙ by (has_item eq a x) (has_item eq b x)
+  pub has_item_union : (a b : List T) (x : T) → has_item eq (a ++ only eq b a) x ≡ (has_item eq a x || has_item eq b x)
+  has_item_union a b x = list_any-append (eq x) a (only eq b a) ∙ ap (λ c. has_item eq a x || c) (has_item_only b a x) ∙ by (has_item eq a x) (has_item eq b x)
     where
       by : (c d : Bool) → (c || (d && not c)) ≡ (c || d)
       by true d = refl
@@ -48,7 +48,7 @@ module _ {T : Type 0} (eq : T → T → Bool) (o : IsEquivalence eq) where
       by false false = refl
 
   pub union_turned : (a b : List T) → has_same_items eq (a ++ only eq b a) (b ++ only eq a b) ≡ true
-  union_turned a b = same_items (a ++ only eq b a) (b ++ only eq a b) (λ x. has_item-union a b x ∙ or_comm (has_item eq a x) (has_item eq b x) ∙ sym (has_item-union b a x))
+  union_turned a b = same_items (a ++ only eq b a) (b ++ only eq a b) (λ x. has_item_union a b x ∙ or_comm (has_item eq a x) (has_item eq b x) ∙ sym (has_item_union b a x))
 
   pub symmetric_difference_turned : (a b : List T) → has_same_items eq (only eq a b ++ only eq b a) (only eq b a ++ only eq a b) ≡ true
   symmetric_difference_turned a b =

@@ -6,7 +6,7 @@ use Rattle.std.specs.Option.{option_map_or}
 use Rattle.std.proofs.Common.{sym, ap, ◌∙◌, get_or, inl, inr, true≢false}
 use Rattle.std.proofs.lemmas.Bool.{cases_Bool}
 use Rattle.std.proofs.lemmas.List.Quantifiers.{position-Some}
-use Rattle.vecmap_base.specs.Items.{has_item, item_index, without_first, without_item}
+use Rattle.vecmap_base.specs.Items.{has_item, item_index, stored_first, stored_item, swap_without_first, swap_without_item, without_first, without_item}
 use Rattle.vecmap_base.proofs.ItemsLemmas.Removals.{without_item_absent}
 use Rattle.vecmap_base.proofs.PlaceLemmas.{is_some_position}
 
@@ -31,6 +31,12 @@ module _ {T : Type 0} (eq : T → T → Bool) (o : IsEquivalence eq) (test : T �
 
   pub without_item_query : (s : List T) (x : T) → IsTrue (test x) → without_first test s ≡ without_item eq s x
   without_item_query s x h = ap (λ f. without_first f s) (tells_as x h)
+
+  pub stored_item_query : (s : List T) (x : T) → IsTrue (test x) → stored_first test s ≡ stored_item eq s x
+  stored_item_query s x h = ap (λ f. stored_first f s) (tells_as x h)
+
+  pub swap_without_item_query : (s : List T) (x : T) → IsTrue (test x) → swap_without_first test s ≡ swap_without_item eq s x
+  swap_without_item_query s x h = ap (λ f. swap_without_first f s) (tells_as x h)
 
   -- After the removal of its match from a distinct list, a query matches nothing.
   pub without_query_absent : (s : List T) → IsDistinct eq s → list_any test (without_first test s) ≡ false

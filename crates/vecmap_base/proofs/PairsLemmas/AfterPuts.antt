@@ -21,11 +21,11 @@ use Rattle.vecmap_base.proofs.PairsLemmas.Puts.{puts_distinct}
 use Rattle.vecmap_base.proofs.PairsLemmas.Recursion.{lookup_cons, put_cons, put_key_cons}
 use Rattle.vecmap_base.proofs.PairsLemmas.Values.{length_with_value, with_own_value}
 
-option_or_none : {X : Type 0} (a : Option X) → option_or a None ≡ a
+pub option_or_none : {X : Type 0} (a : Option X) → option_or a None ≡ a
 option_or_none None = refl
 option_or_none (Some x) = refl
 
-option_or_assoc : {X : Type 0} (a b c : Option X) → option_or (option_or a b) c ≡ option_or a (option_or b c)
+pub option_or_assoc : {X : Type 0} (a b c : Option X) → option_or (option_or a b) c ≡ option_or a (option_or b c)
 option_or_assoc None b c = refl
 option_or_assoc (Some x) b c = refl
 

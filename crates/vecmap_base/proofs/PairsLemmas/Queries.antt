@@ -7,7 +7,7 @@ use Rattle.std.specs.Option.{option_and_then, option_map_or}
 use Rattle.std.proofs.Common.{sym, ap, ◌∙◌, get_or, inl, inr}
 use Rattle.std.proofs.lemmas.Bool.{cases_Bool}
 use Rattle.std.proofs.lemmas.List.Quantifiers.{position-Some}
-use Rattle.vecmap_base.specs.Pairs.{HasDistinctKeys, has_text, index_by, index_of, lookup, lookup_by, put, value_at, without_by, without_key}
+use Rattle.vecmap_base.specs.Pairs.{HasDistinctKeys, has_text, index_by, index_of, lookup, lookup_by, lookup_pair, lookup_pair_by, put, swap_without_by, swap_without_key, value_at, without_by, without_key}
 use Rattle.vecmap_base.proofs.ItemsLemmas.Queries.{stands_apart, tells_as}
 use Rattle.vecmap_base.proofs.PairsLemmas.Lookups.{lookup_put, lookup_without_key}
 use Rattle.vecmap_base.proofs.PairsLemmas.Recursion.{lookup_by_cons, put_cons}
@@ -21,6 +21,12 @@ module _ {K V : Type 0} (eq : K → K → Bool) (o : IsEquivalence eq) (test : K
 
   pub without_by_query : (l : List (K × V)) (k : K) → IsTrue (test k) → without_by test l ≡ without_key eq l k
   without_by_query l k h = ap (λ f. without_by f l) (tells_as eq o test respects k h)
+
+  pub lookup_pair_by_query : (l : List (K × V)) (k : K) → IsTrue (test k) → lookup_pair_by test l ≡ lookup_pair eq l k
+  lookup_pair_by_query l k h = ap (λ f. lookup_pair_by f l) (tells_as eq o test respects k h)
+
+  pub swap_without_by_query : (l : List (K × V)) (k : K) → IsTrue (test k) → swap_without_by test l ≡ swap_without_key eq l k
+  swap_without_by_query l k h = ap (λ f. swap_without_by f l) (tells_as eq o test respects k h)
 
   -- After the insertion of a key that matches, the query finds the value.
   pub lookup_put_query : (l : List (K × V)) (k : K) (v : V) → IsTrue (test k) → lookup_by test (put eq l k v) ≡ Some v

@@ -1,8 +1,8 @@
 //! Laws of lookups, indices and lengths after insertions and removals.
-ghost use Rattle.std.specs.Prelude.{◌≡◌, ◌+◌, ◌++◌, ◌∷◌, ℕ, IsSome, List, None, Some, [], drop, false, if◌then◌else◌, is_some, length, option_map, slice_get, take, true, unwrap_or};
+ghost use Rattle.std.specs.Prelude.{◌≡◌, ◌+◌, ◌++◌, ◌∷◌, ℕ, IsSome, List, None, Some, [], drop, false, if◌then◌else◌, is_some, length, option_map, reverse, slice_get, take, true, unwrap_or};
 ghost use Rattle.std.specs.Map.{keys_of};
 ghost use Rattle.std.specs.Option.{option_map_or, option_or};
-ghost use Rattle.vecmap_base.specs.Items.{add, adds, without_item};
+ghost use Rattle.vecmap_base.specs.Items.{add, adds, item_index, without_item};
 ghost use Rattle.vecmap_base.specs.Pairs.{HasDistinctKeys, index_of, index_or_length, lookup, map_values, put, put_key, puts, without_key};
 ghost use Rattle.vecmap_map.specs.Contents.{Contents, with_value_of};
 ghost use Rattle.vecmap_map.specs.Entry.{AreEntriesWith, entry_key, entry_map, entry_place};
@@ -77,8 +77,8 @@ pub fn entries_insert_alike<K: Eq + Clone, V>()
 
 /// Many insertions at once are the same as single insertions, in order.
 ///
-/// The last value of a key is the one that is found. New keys are appended in order. Pairs whose keys do not repeat
-/// become the list of a map if they are inserted into an empty one.
+/// A lookup finds the last value that the pairs give its key, or else the old one. No key moves, and new keys are
+/// appended in order. Pairs whose keys do not repeat become the list of a map if they are inserted into an empty one.
 pub fn bulk_insertions_are_single_ones<K: Eq, V>()
     ensures one { (l : List (K × V)) (p : K × V) (pairs : List (K × V))
         → puts K.eq l (p ∷ pairs) ≡ puts K.eq (put K.eq l p.0 p.1) pairs }
@@ -89,6 +89,16 @@ pub fn bulk_insertions_are_single_ones<K: Eq, V>()
         ≡ option_or (lookup K.eq (puts K.eq [] pairs) q) (lookup K.eq l q) }
     ensures value_distinct { (l pairs : List (K × V)) → HasDistinctKeys K.eq pairs → (q : K)
         → lookup K.eq (puts K.eq l pairs) q ≡ option_or (lookup K.eq pairs q) (lookup K.eq l q) }
+    ensures last { (l pairs : List (K × V)) (q : K)
+        → lookup K.eq (puts K.eq l pairs) q
+        ≡ option_or (lookup K.eq (reverse pairs) q) (lookup K.eq l q) }
+    ensures made { (pairs : List (K × V)) (q : K)
+        → lookup K.eq (puts K.eq [] pairs) q ≡ lookup K.eq (reverse pairs) q }
+    ensures place { (l pairs : List (K × V)) (q : K) (i : ℕ) → index_of K.eq l q ≡ Some i
+        → index_of K.eq (puts K.eq l pairs) q ≡ Some i }
+    ensures places { (l pairs : List (K × V)) (q : K)
+        → index_of K.eq (puts K.eq l pairs) q
+        ≡ item_index K.eq (adds K.eq (keys_of l) (keys_of pairs)) q }
     ensures keys { (l pairs : List (K × V))
         → keys_of (puts K.eq l pairs) ≡ adds K.eq (keys_of l) (keys_of pairs) }
     ensures distinct { (pairs : List (K × V)) → HasDistinctKeys K.eq pairs
@@ -111,6 +121,12 @@ pub fn removals_are_forgotten<K: Eq, V>()
         → keys_of (without_key K.eq l k) ≡ without_item K.eq (keys_of l) k }
     ensures shifted { (l : List (K × V)) (k : K) (i : ℕ) → index_of K.eq l k ≡ Some i
         → without_key K.eq l k ≡ take i l ++ drop (i + 1) l }
+{}
+
+/// A lookup in a list of two parts finds what the first part has, or else what the second has.
+pub fn first_parts_are_found_first<K: Eq, V>()
+    ensures { (a b : List (K × V)) (q : K)
+        → lookup K.eq (a ++ b) q ≡ option_or (lookup K.eq a q) (lookup K.eq b q) }
 {}
 
 /// If a function is applied to each value, a lookup finds the function of the value that it found before.

@@ -1,7 +1,8 @@
 //! Laws about additions and removals: which elements are left, their indices, and the length.
-ghost use Rattle.std.specs.Prelude.{◌≡◌, ◌++◌, ◌<◌, ◌∷◌, ℕ, List, Some, [], false, if◌then◌else◌, length, slice_get, true, unwrap_or};
+ghost use Rattle.std.specs.Prelude.{◌≡◌, ◌+◌, ◌++◌, ◌<◌, ◌∷◌, ℕ, List, Some, [], false, if◌then◌else◌, length, option_map, slice_get, true, unwrap_or};
 ghost use Rattle.std.specs.List.{IsDistinct};
-ghost use Rattle.vecmap_base.specs.Items.{add, add_new, adds, has_item, item_index, without_item};
+ghost use Rattle.std.specs.Option.{option_or};
+ghost use Rattle.vecmap_base.specs.Items.{add, add_new, adds, has_item, item_index, only, without_item};
 
 /// Elements that are equal have the same index.
 pub fn equal_elements_have_one_place<T: Eq>()
@@ -28,6 +29,21 @@ pub fn additions_move_nothing<T: Eq>()
         → slice_get (add T.eq s x) i ≡ slice_get s i }
     ensures present { (s : List T) (x : T) → has_item T.eq s x ≡ true → add T.eq s x ≡ s }
     ensures appended { (s : List T) (x : T) → has_item T.eq s x ≡ false → add T.eq s x ≡ s ++ x ∷ [] }
+{}
+
+/// Many additions move no element.
+///
+/// An element that is present keeps its index. The new elements that are absent are appended, each once and in order.
+pub fn bulk_additions_move_nothing<T: Eq>()
+    ensures appended { (s xs : List T) → adds T.eq s xs ≡ s ++ adds T.eq [] (only T.eq xs s) }
+    ensures element { (s xs : List T) (i : ℕ) → i < length s
+        → slice_get (adds T.eq s xs) i ≡ slice_get s i }
+    ensures place { (s xs : List T) (x : T) (i : ℕ) → item_index T.eq s x ≡ Some i
+        → item_index T.eq (adds T.eq s xs) x ≡ Some i }
+    ensures places { (s xs : List T) (x : T)
+        → item_index T.eq (adds T.eq s xs) x
+        ≡ option_or (item_index T.eq s x) (option_map (λ i. length s + i)
+        (item_index T.eq (adds T.eq [] (only T.eq xs s)) x)) }
 {}
 
 /// Adding many elements is the same as adding each of them in order. Distinct elements that are added to an empty set

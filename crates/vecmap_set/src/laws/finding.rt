@@ -2,7 +2,7 @@
 ghost use Rattle.std.specs.List.{IsDistinct, list_any};
 ghost use Rattle.std.specs.Prelude.{◌≡◌, ℕ, List, Some, String, bytes_eq, false, length, position, string_bytes, string_eq, true, unwrap_or};
 ghost use Rattle.std.specs.declared.alloc.Global.{Global};
-ghost use Rattle.vecmap_base.specs.Items.{add, has_item, item_index, without_first, without_item};
+ghost use Rattle.vecmap_base.specs.Items.{add, has_item, item_index, stored_first, stored_item, swap_without_first, swap_without_item, without_first, without_item};
 ghost use Rattle.vecmap_base.specs.Pairs.{has_text};
 
 use vecmap_base::Equivalent;
@@ -29,6 +29,11 @@ pub fn texts_find_as_strings()
         → string_bytes x ≡ text → list_any (has_text text) s ≡ has_item string_eq s x }
     ensures removal { (s : List (String Global)) (text : List ℕ) (x : String Global)
         → string_bytes x ≡ text → without_first (has_text text) s ≡ without_item string_eq s x }
+    ensures stored { (s : List (String Global)) (text : List ℕ) (x : String Global)
+        → string_bytes x ≡ text → stored_first (has_text text) s ≡ stored_item string_eq s x }
+    ensures swap_removal { (s : List (String Global)) (text : List ℕ) (x : String Global)
+        → string_bytes x ≡ text
+        → swap_without_first (has_text text) s ≡ swap_without_item string_eq s x }
     ensures inserted { (s : List (String Global)) (x : String Global) (text : List ℕ)
         → string_bytes x ≡ text → list_any (has_text text) (add string_eq s x) ≡ true }
     ensures others { (s : List (String Global)) (x : String Global) (text : List ℕ)

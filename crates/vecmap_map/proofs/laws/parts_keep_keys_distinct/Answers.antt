@@ -1,4 +1,4 @@
-use Rattle.vecmap_base.proofs.DistinctLemmas.Parts.{distinct_keys_drop, distinct_keys_remove_range, distinct_keys_slice_range}
+use Rattle.vecmap_base.proofs.DistinctLemmas.Parts.{distinct_keys_drop, distinct_keys_filter, distinct_keys_remove_range, distinct_keys_slice_range}
 use Rattle.vecmap_map.proofs.laws.parts_keep_keys_distinct.Goals as goal
 
 pub returns-clause-back : goal.returns-clause-back
@@ -9,3 +9,6 @@ returns-clause-part g c = λ l d i j. distinct_keys_slice_range g.K.PartialEq.eq
 
 pub returns-clause-without_part : goal.returns-clause-without_part
 returns-clause-without_part g c = λ l d i j order. distinct_keys_remove_range g.K.PartialEq.eq l i j order d
+
+pub returns-clause-filtered : goal.returns-clause-filtered
+returns-clause-filtered g c = λ l d test. distinct_keys_filter g.K.PartialEq.eq test l d

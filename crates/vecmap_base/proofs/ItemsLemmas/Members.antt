@@ -1,0 +1,133 @@
+-- Which elements are present, and at which indices, after one addition and after many. Many additions append those of
+-- the new elements that are not present.
+use Rattle.std.specs.Prelude.{◌≡◌, ◌<◌, ◌+◌, ℕ, Bool, true, false, ◌||◌, not, Contains, IsTrue, List, [], ◌∷◌, ◌++◌, None, Option, Some, if◌then◌else◌, length, option_map, position, slice_get, suc, zero, refl}
+use Rattle.std.specs.Cmp.{IsEquivalence}
+use Rattle.std.specs.List.{list_any}
+use Rattle.std.specs.Option.{option_or}
+use Rattle.std.proofs.Common.{sym, ap, ◌∙◌, arith, inl, inr}
+use Rattle.std.proofs.Math.Bool.{or_assoc}
+use Rattle.std.proofs.lemmas.Bool.{cases_Bool}
+use Rattle.std.proofs.lemmas.List.{append-nil, append_assoc}
+use Rattle.std.proofs.lemmas.List.Folds.{list_any-append}
+use Rattle.std.proofs.lemmas.Map.Steps.{list_any_congr}
+use Rattle.vecmap_base.specs.Clones.{AreClones}
+use Rattle.vecmap_base.specs.Items.{add, adds, has_item, item_index, only}
+use Rattle.vecmap_base.proofs.ItemsLemmas.Additions.{add_absent, add_present}
+use Rattle.vecmap_base.proofs.ItemsLemmas.Recursion.{item_index_cons}
+
+-- An item of the front of a list is at its index in the whole list.
+slice_get_append : {T : Type 0} (s t : List T) (i : ℕ) → i < length s → slice_get (s ++ t) i ≡ slice_get s i
+slice_get_append [] t i h = absurd (omega arith)
+slice_get_append (x ∷ xs) t zero h = refl
+slice_get_append (x ∷ xs) t (suc i) h = slice_get_append xs t i (omega arith)
+
+module _ {T : Type 0} (eq : T → T → Bool) where
+  -- The index of an element in a list of two parts.
+  pub item_index_append : (s t : List T) (x : T) → item_index eq (s ++ t) x ≡ option_or (item_index eq s x) (option_map (λ i. length s + i) (item_index eq t x))
+  item_index_append [] t x = by (item_index eq t x)
+    where
+      by : (found : Option ℕ) → found ≡ option_map (λ i. 0 + i) found
+      by None = refl
+      by (Some i) = ap Some (let e : i ≡ 0 + i = omega arith in e)
+  item_index_append (y ∷ ys) t x =
+      item_index_cons eq y (ys ++ t) x
+      ∙ ap (λ found. if eq x y then Some 0 else option_map suc found) (item_index_append ys t x)
+      ∙ by (eq x y) (item_index eq ys x) (item_index eq t x)
+      ∙ ap (λ found. option_or found (option_map (λ i. length (y ∷ ys) + i) (item_index eq t x))) (sym (item_index_cons eq y ys x))
+    where
+      by : (b : Bool) (here there : Option ℕ) → (if b then Some 0 else option_map suc (option_or here (option_map (λ i. length ys + i) there))) ≡ option_or (if b then Some 0 else option_map suc here) (option_map (λ i. length (y ∷ ys) + i) there)
+      by true here there = refl
+      by false (Some i) there = refl
+      by false None None = refl
+      by false None (Some i) = ap Some (let e : suc (length ys + i) ≡ suc (length ys) + i = omega arith in e)
+
+  -- An addition behind a front, in which the element is absent.
+  add_behind : (s t : List T) (x : T) → has_item eq s x ≡ false → add eq (s ++ t) x ≡ s ++ add eq t x
+  add_behind s t x none = by (has_item eq t x) (list_any-append (eq x) s t ∙ ap (λ b. b || has_item eq t x) none)
+    where
+      by : (b : Bool) → has_item eq (s ++ t) x ≡ b → add eq (s ++ t) x ≡ s ++ (if b then t else t ++ x ∷ [])
+      by true e = add_present eq (s ++ t) x e
+      by false e = add_absent eq (s ++ t) x e ∙ append_assoc s t (x ∷ [])
+
+  adds_behind : (s t xs : List T) → adds eq (s ++ t) xs ≡ s ++ adds eq t (only eq xs s)
+  adds_behind s t [] = refl
+  adds_behind s t (x ∷ xs) =
+      elim (cases_Bool (has_item eq s x)) [
+        | inl e ↦
+            ap (λ m. adds eq m xs) (add_present eq (s ++ t) x (list_any-append (eq x) s t ∙ ap (λ b. b || has_item eq t x) e))
+            ∙ adds_behind s t xs
+            ∙ sym (ap (λ b. s ++ adds eq t (if not b then x ∷ only eq xs s else only eq xs s)) e)
+        | inr e ↦
+            ap (λ m. adds eq m xs) (add_behind s t x e)
+            ∙ adds_behind s (add eq t x) xs
+            ∙ sym (ap (λ b. s ++ adds eq t (if not b then x ∷ only eq xs s else only eq xs s)) e)
+      ]
+
+  -- Many additions append the new elements that are absent, each once.
+  pub adds_as_append : (s xs : List T) → adds eq s xs ≡ s ++ adds eq [] (only eq xs s)
+  adds_as_append s xs = ap (λ m. adds eq m xs) (sym (append-nil s)) ∙ adds_behind s [] xs
+
+  -- Many additions move no element.
+  pub slice_get_adds : (s xs : List T) (i : ℕ) → i < length s → slice_get (adds eq s xs) i ≡ slice_get s i
+  slice_get_adds s xs i h = ap (λ m. slice_get m i) (adds_as_append s xs) ∙ slice_get_append s (adds eq [] (only eq xs s)) i h
+
+  -- After many additions, an element that was present keeps its index, and the others follow.
+  pub item_index_adds : (s xs : List T) (x : T) → item_index eq (adds eq s xs) x ≡ option_or (item_index eq s x) (option_map (λ i. length s + i) (item_index eq (adds eq [] (only eq xs s)) x))
+  item_index_adds s xs x = ap (λ m. item_index eq m x) (adds_as_append s xs) ∙ item_index_append s (adds eq [] (only eq xs s)) x
+
+  pub item_index_adds_kept : (s xs : List T) (x : T) (i : ℕ) → item_index eq s x ≡ Some i → item_index eq (adds eq s xs) x ≡ Some i
+  item_index_adds_kept s xs x i e =
+      item_index_adds s xs x ∙ ap (λ found. option_or found (option_map (λ j. length s + j) (item_index eq (adds eq [] (only eq xs s)) x))) e
+
+  module _ (o : IsEquivalence eq) where
+    -- After an addition, an element is present if it was, or if it is equal to the added one.
+    pub has_item_add : (s : List T) (x y : T) → has_item eq (add eq s x) y ≡ (has_item eq s y || eq x y)
+    has_item_add s x y =
+        elim (cases_Bool (has_item eq s x)) [
+          | inl e ↦ ap (λ m. has_item eq m y) (add_present eq s x e) ∙ there (eq x y) refl e
+          | inr e ↦ ap (λ m. has_item eq m y) (add_absent eq s x e) ∙ list_any-append (eq y) s (x ∷ []) ∙ ap (λ b. has_item eq s y || b) (last (eq y x) ∙ o.symm y x)
+        ]
+      where
+        last : (b : Bool) → (b || false) ≡ b
+        last true = refl
+        last false = refl
+
+        more : (b : Bool) → b ≡ (b || false)
+        more b = sym (last b)
+
+        there : (b : Bool) → eq x y ≡ b → has_item eq s x ≡ true → has_item eq s y ≡ (has_item eq s y || b)
+        there true same e = let h : has_item eq s y ≡ true = sym (list_any_congr o x y s same) ∙ e in h ∙ sym (ap (λ b. b || true) h)
+        there false same e = more (has_item eq s y)
+
+    -- What was present stays present, and what was added is present.
+    pub has_item_kept : (s : List T) (x y : T) → has_item eq s y ≡ true → has_item eq (add eq s x) y ≡ true
+    has_item_kept s x y e = has_item_add s x y ∙ ap (λ b. b || eq x y) e
+
+    pub has_item_added : (s : List T) (x : T) → has_item eq (add eq s x) x ≡ true
+    has_item_added s x = has_item_add s x x ∙ ap (λ b. has_item eq s x || b) (o.refl x) ∙ by (has_item eq s x)
+      where
+        by : (b : Bool) → (b || true) ≡ true
+        by true = refl
+        by false = refl
+
+    -- After many additions, an element is present if it was, or if one of the added elements is equal to it.
+    pub has_item_adds : (s xs : List T) (y : T) → has_item eq (adds eq s xs) y ≡ (has_item eq s y || has_item eq xs y)
+    has_item_adds s [] y = by (has_item eq s y)
+      where
+        by : (b : Bool) → b ≡ (b || false)
+        by true = refl
+        by false = refl
+    has_item_adds s (x ∷ xs) y =
+        has_item_adds (add eq s x) xs y
+        ∙ ap (λ b. b || has_item eq xs y) (has_item_add s x y ∙ ap (λ b. has_item eq s y || b) (o.symm x y))
+        ∙ or_assoc (has_item eq s y) (eq y x) (has_item eq xs y)
+
+    -- If each clone of an element is equal to it, the same elements are present in clones of a list.
+    pub has_item_clones : (C : T → T → Type 0) (l m : List T) → ((x y : T) → Contains l x → C x y → IsTrue (eq x y)) → AreClones C l m → (z : T) → has_item eq m z ≡ has_item eq l z
+    has_item_clones C [] [] same c z = refl
+    has_item_clones C [] (y ∷ ys) same c z = absurd c
+    has_item_clones C (x ∷ xs) [] same c z = absurd c
+    has_item_clones C (x ∷ xs) (y ∷ ys) same c z =
+        let first : eq z y ≡ eq z x = o.symm z y ∙ sym (o.congr x y z (same x y (0, omega arith, refl) c.0)) ∙ o.symm x z in
+        let rest = has_item_clones C xs ys (λ v w in_rest. same v w (suc in_rest.0, omega (arith, in_rest.1), in_rest.2)) c.1 z in
+        λ i. first i || rest i
