@@ -24,6 +24,11 @@ fn shows_from_2(rt: &impl Abort) {
     );
 }
 
+fn shows_debug(rt: &impl Abort, alloc: Global) {
+    let refused = Refused { given: ('a', 1) };
+    assert_text(rt, format!(in alloc; "{refused:?}"), "Refused { .. }");
+}
+
 fn shows_display(rt: &impl Abort, alloc: Global) {
     let refused = Refused { given: ('a', 1) };
     assert_text(
@@ -39,5 +44,6 @@ fn examples_of_vecmap_base_refused_hold(rt: HostRuntime) {
     shows_refused(&rt);
     shows_from(&rt);
     shows_from_2(&rt);
+    shows_debug(&rt, alloc);
     shows_display(&rt, alloc);
 }

@@ -19,6 +19,14 @@ fn shows_from_vec_counted(rt: &impl Abort, alloc: Global) {
     assert_pairs(rt, &map, &[('a', 3), ('b', 2)]);
 }
 
+fn shows_from_array(rt: &impl Abort, alloc: Global) {
+    let map = granted(
+        rt,
+        VecMap::from_array(alloc, [('a', 1), ('b', 2), ('a', 3)]),
+    );
+    assert_pairs(rt, &map, &[('a', 3), ('b', 2)]);
+}
+
 fn shows_from_vec_unchecked(rt: &impl Abort, alloc: Global) {
     let pairs = granted(rt, vec![in alloc; ('a', 1), ('b', 2)]);
     assert!(*rt; keys_distinct(&pairs));
@@ -40,6 +48,7 @@ fn examples_of_vecmap_map_conversion_hold(rt: HostRuntime) {
     let alloc = rt.alloc();
     shows_from(&rt, alloc);
     shows_from_vec_counted(&rt, alloc);
+    shows_from_array(&rt, alloc);
     shows_from_vec_unchecked(&rt, alloc);
     shows_to_vec(&rt, alloc);
 }

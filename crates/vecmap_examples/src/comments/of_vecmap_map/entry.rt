@@ -4,7 +4,7 @@ mod vacant;
 
 use crate::checks::{assert_is, assert_pairs, granted};
 use crate::comments::made::vecmap_a_1_b_2;
-use std::alloc::Global;
+use std::alloc::{AllocError, Global};
 use std::process::Abort;
 use vecmap::VecMap;
 use vecmap::map::Entry;
@@ -44,6 +44,30 @@ fn shows_or_insert_with_key(rt: &impl Abort, alloc: Global) {
         *granted(rt, map.entry('c').or_insert_with_key(|key| u32::from(*key))),
         99,
     );
+}
+
+fn shows_or_try_insert_with(rt: &impl Abort, alloc: Global) {
+    let mut names: VecMap<u32, String> = VecMap::new(alloc);
+    assert_is(
+        rt,
+        granted(
+            rt,
+            names
+                .entry(7)
+                .or_try_insert_with(|| String::from_str(alloc, "seven")),
+        )
+        .as_str(),
+        "seven",
+    );
+    assert_is(
+        rt,
+        names
+            .entry(8)
+            .or_try_insert_with(|| Err(AllocError))
+            .is_err(),
+        true,
+    );
+    assert_is(rt, names.len(), 1);
 }
 
 fn shows_or_default(rt: &impl Abort, alloc: Global) {
@@ -100,6 +124,7 @@ fn examples_of_vecmap_map_entry_hold(rt: HostRuntime) {
     shows_or_insert(&rt, alloc);
     shows_or_insert_with(&rt, alloc);
     shows_or_insert_with_key(&rt, alloc);
+    shows_or_try_insert_with(&rt, alloc);
     shows_or_default(&rt, alloc);
     shows_key(&rt, alloc);
     shows_index(&rt, alloc);

@@ -16,6 +16,11 @@ fn shows_from_vec_counted(rt: &impl Abort, alloc: Global) {
     assert_items(rt, &set, &[2, 1]);
 }
 
+fn shows_from_array(rt: &impl Abort, alloc: Global) {
+    let set = granted(rt, VecSet::from_array(alloc, [2, 1, 2]));
+    assert_items(rt, &set, &[2, 1]);
+}
+
 fn shows_from_vec_unchecked(rt: &impl Abort, alloc: Global) {
     let items = granted(rt, vec![in alloc; 2, 1]);
     assert!(*rt; items_distinct(&items));
@@ -33,6 +38,7 @@ fn examples_of_vecmap_set_conversion_hold(rt: HostRuntime) {
     let alloc = rt.alloc();
     shows_from(&rt, alloc);
     shows_from_vec_counted(&rt, alloc);
+    shows_from_array(&rt, alloc);
     shows_from_vec_unchecked(&rt, alloc);
     shows_to_vec(&rt, alloc);
 }
