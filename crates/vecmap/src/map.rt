@@ -18,8 +18,8 @@
 //!   `get_index_mut` (`lending.rt`); `map[index]`, `map[&key]`, `map["text"]` (`indexing.rt`)
 //! - insertion: `insert`, `insert_full`, `insert_key`, `insert_at` (`insertion.rt`)
 //! - many pairs at once: `from_iter`, `from_slice`, `append`, `extend`, `extend_refs`, `extend_pairs`, `collect`
-//!   (`bulk.rt`); the trait `Extend` (`extending.rt`); `From<Vec>`, `from_vec_counted`, `from_vec_unchecked`, `to_vec`
-//!   (`conversion.rt`)
+//!   (`bulk.rt`); the trait `Extend` (`extending.rt`); `From<Vec>`, `from_vec_counted`, `from_array`,
+//!   `from_vec_unchecked`, `to_vec` (`conversion.rt`)
 //! - entries: `entry`, `Entry` (`entry.rt`), `OccupiedEntry` (`entry/occupied.rt`), `VacantEntry` (`entry/vacant.rt`)
 //! - iteration: `iter`, `iter_mut`, `keys`, `values`, `values_mut`, `into_keys`, `into_values`, loops (`iteration.rt`);
 //!   the iterators themselves (`iter/pairs.rt`, `iter/keys.rt`, `iter/values.rt` and `iter_mut.rt` of

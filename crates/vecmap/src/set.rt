@@ -16,7 +16,8 @@
 //!   (`lookup.rt`); `set[index]` (`indexing.rt`)
 //! - insertion: `insert`, `replace` (`insertion.rt`)
 //! - many elements at once: `from_iter`, `from_slice`, `append`, `extend`, `extend_copied`, `collect` (`bulk.rt`); the
-//!   trait `Extend` (`extending.rt`); `From<Vec>`, `from_vec_counted`, `from_vec_unchecked`, `to_vec` (`conversion.rt`)
+//!   trait `Extend` (`extending.rt`); `From<Vec>`, `from_vec_counted`, `from_array`, `from_vec_unchecked`, `to_vec`
+//!   (`conversion.rt`)
 //! - two sets: `is_disjoint`, `is_subset`, `is_superset`, `==` (`equality.rt`); `difference`, `intersection`,
 //!   `symmetric_difference`, `union` (`lazy.rt`) with their iterators (`lazy/`); `&`, `|`, `^`, `-` (`operators.rt`)
 //! - iteration: `iter`, loops (`iteration.rt`); the iterators themselves (`crates/vecmap_base/src/items.rt`); `Drain`

@@ -9,6 +9,7 @@ pub mod keys;
 pub mod lookups;
 pub mod merge;
 pub mod pair;
+pub mod parts;
 pub mod program;
 pub mod raise;
 pub mod refused;

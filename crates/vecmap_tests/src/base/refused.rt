@@ -22,7 +22,11 @@ fn a_refusal_prints_the_same_whatever_was_refused(rt: HostRuntime) {
     let refused = Refused {
         given: Silent { number: 7 },
     };
-    assert_text(&rt, format!(in rt.alloc(); "{refused}"), "memory allocation failed");
+    assert_text(
+        &rt,
+        format!(in rt.alloc(); "{refused}"),
+        "memory allocation failed",
+    );
     assert_text(&rt, format!(in rt.alloc(); "{refused:?}"), "Refused { .. }");
     assert_is(&rt, refused.given.number, 7);
 }

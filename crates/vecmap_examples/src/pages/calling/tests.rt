@@ -1,7 +1,7 @@
 //! Tests of the functions of the page.
 use super::{
-    count, errors, filter, inner, intern, keys, lookups, merge, pair, program, raise, refused, set,
-    texts,
+    count, errors, filter, inner, intern, keys, lookups, merge, pair, parts, program, raise, refused,
+    set, texts,
 };
 use keys::{Place, Ticket};
 use std::alloc::{AllocError, Global};
@@ -33,6 +33,19 @@ fn keys_are_found_by_their_own_equality(rt: HostRuntime) -> Result<(), Fail> {
         )?;
     }
     assert!(rt; tickets.len() == 1 && tickets.iter().all(|ticket| ticket.note.as_str() == "first"));
+    Ok(())
+}
+
+#[test]
+fn a_grade_is_found_by_both_names(rt: HostRuntime) -> Result<(), Fail> {
+    let alloc = rt.alloc();
+    let mut grades = VecMap::new(alloc);
+    for (first, last, grade) in [("Ada", "Berg", 1), ("Ada", "Lund", 2), ("Bo", "Lund", 3)] {
+        let name = (String::from_str(alloc, first)?, String::from_str(alloc, last)?);
+        grades.insert(name, grade)?;
+    }
+    assert!(rt; parts::grade(&grades, "Ada", "Lund") == Some(2));
+    assert!(rt; parts::grade(&grades, "Bo", "Berg").is_none());
     Ok(())
 }
 

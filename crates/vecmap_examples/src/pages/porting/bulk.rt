@@ -8,7 +8,7 @@ pub fn lengths<'a>(alloc: Global, words: &[&'a str]) -> Result<VecMap<&'a str, u
 
 /// `VecMap::from([(1, 'a'), (2, 'b')])` and `map.extend(&more)` in Rust.
 pub fn letters(alloc: Global, more: &VecMap<u32, char>) -> Result<VecMap<u32, char>, AllocError> {
-    let mut map = VecMap::from_slice(alloc, &[(1, 'a'), (2, 'b')])?;
+    let mut map = VecMap::from_array(alloc, [(1, 'a'), (2, 'b')])?;
     map.extend_refs(more.iter())?;
     Ok(map)
 }

@@ -4,8 +4,8 @@ use super::calls::{count, print_counts, references, sort_by_digits};
 use super::closures::{copy, drop_from, number_of, push_if_present, sort_and_count};
 use super::order::Order;
 use super::traits::{
-    Config, LineError, count_one, forget, lent, parsed, parted, push_or_make, sort_by_text,
-    sort_down, with_port,
+    Config, LineError, count_one, extend_parsed, forget, lent, make_first, parsed, parted,
+    push_or_make, sort_by_text, sort_down, with_port,
 };
 use std::alloc::Global;
 use std::test::Fail;
@@ -75,6 +75,17 @@ fn shows_collecting_that_may_fail(alloc: Global) -> Result<bool, Fail> {
     )
 }
 
+fn shows_extending_that_may_fail(alloc: Global) -> Result<bool, Fail> {
+    let mut map = VecMap::new(alloc);
+    let first = extend_parsed(&mut map, &["7", "10"]);
+    let second = extend_parsed(&mut map, &["8", "x", "9"]);
+    Ok(
+        first.is_ok()
+            && matches!(second, Err(LineError::NoNumber))
+            && map.as_slice() == [("7", 7), ("10", 10), ("8", 8)].as_slice(),
+    )
+}
+
 fn shows_parts(alloc: Global) -> Result<bool, Fail> {
     let (low, high) = parted(alloc, vecmap!(alloc; 1 => 10, 2 => 30, 3 => 20), 25)?;
     Ok(low.as_slice() == [(1, 10), (3, 20)].as_slice() && high.as_slice() == [(2, 30)].as_slice())
@@ -84,11 +95,14 @@ fn shows_entries(alloc: Global) -> Result<bool, Fail> {
     let mut lists = VecMap::new(alloc);
     push_or_make(&mut lists, 1, 10)?;
     push_or_make(&mut lists, 1, 20)?;
+    make_first(&mut lists, 1, 30)?;
+    make_first(&mut lists, 2, 40)?;
     let mut counts = VecMap::new(alloc);
     count_one(&mut counts, "a")?;
     count_one(&mut counts, "a")?;
     Ok(
         lists.get(&1).map(Vec::as_slice) == Some([10, 20].as_slice())
+            && lists.get(&2).map(Vec::as_slice) == Some([40].as_slice())
             && counts.as_slice() == [("a", 2)].as_slice(),
     )
 }
@@ -148,6 +162,7 @@ fn examples_hold(rt: HostRuntime) -> Result<(), Fail> {
     assert!(rt; shows_references_and_digits(alloc)?);
     assert!(rt; shows_a_derived_clone(alloc)?);
     assert!(rt; shows_collecting_that_may_fail(alloc)?);
+    assert!(rt; shows_extending_that_may_fail(alloc)?);
     assert!(rt; shows_parts(alloc)?);
     assert!(rt; shows_entries(alloc)?);
     assert!(rt; shows_orders_and_closures(alloc)?);

@@ -48,6 +48,18 @@ pub fn parsed<'a>(alloc: Global, words: &[&'a str]) -> Result<VecMap<&'a str, u3
         .try_collect(alloc)
 }
 
+/// `for word in words { map.insert(word, word.parse()?); }`, or `try_extend` of other crates.
+pub fn extend_parsed<'a>(
+    map: &mut VecMap<&'a str, u32>,
+    words: &[&'a str],
+) -> Result<(), LineError> {
+    for word in words {
+        let number = word.parse::<u32>()?;
+        map.insert(*word, number).map_err(|_| AllocError)?;
+    }
+    Ok(())
+}
+
 /// `map.into_iter().partition(|pair| pair.1 < limit)`.
 pub fn parted(
     alloc: Global,
@@ -57,7 +69,19 @@ pub fn parted(
     map.into_iter().partition(alloc, |pair| pair.1 < limit)
 }
 
-/// `map.entry(k).or_insert_with(|| vec![first])`, with a closure that would allocate.
+/// `map.entry(k).or_insert_with(|| vec![first])`, with a closure that allocates.
+pub fn make_first(
+    map: &mut VecMap<u32, Vec<u32>>,
+    key: u32,
+    first: u32,
+) -> Result<(), AllocError> {
+    let alloc = *map.allocator();
+    map.entry(key)
+        .or_try_insert_with(|| -> Result<Vec<u32>, AllocError> { Ok(vec![in alloc; first]?) })?;
+    Ok(())
+}
+
+/// `map.entry(k).and_modify(|list| list.push(n)).or_insert_with(|| vec![n])`, with closures that allocate.
 pub fn push_or_make(
     map: &mut VecMap<u32, Vec<u32>>,
     key: u32,
