@@ -43,14 +43,13 @@ enum Change {
 
 impl Change {
     fn create(self, alloc: Global) -> Result<Vec<SetCommand<Item>>, AllocError> {
-        let mut commands = Vec::with_capacity(alloc, 1)?;
-        commands.push(match self {
+        let command = match self {
             Change::Insert => SetCommand::Insert(make_item(7, 'x')),
             Change::Replace => SetCommand::Replace(make_item(7, 'x')),
             Change::Append => SetCommand::Append(item_set(alloc, CARRIED)?),
             Change::SplitOff => SetCommand::SplitOff(1),
-        })?;
-        Ok(commands)
+        };
+        vec![in alloc; command]
     }
 
     // Returns whether the reply is the right one.
@@ -129,10 +128,10 @@ fn a_refused_split_of_a_set_replies_out_of_memory(rt: HostRuntime) {
 
 // Returns commands that add an existing element, for which the set does not allocate.
 fn equal_elements(alloc: Global) -> Result<Vec<SetCommand<Item>>, AllocError> {
-    let mut commands = Vec::with_capacity(alloc, 2)?;
-    commands.push(SetCommand::Insert(make_item(2, 'y')))?;
-    commands.push(SetCommand::Replace(make_item(1, 'z')))?;
-    Ok(commands)
+    vec![in alloc;
+        SetCommand::Insert(make_item(2, 'y')),
+        SetCommand::Replace(make_item(1, 'z')),
+    ]
 }
 
 // Returns whether the replies were not refused. If they were, no command was executed.
@@ -195,8 +194,7 @@ enum Reading {
 
 impl Reading {
     fn create(self, alloc: Global) -> Result<Vec<SetCommand<String>>, AllocError> {
-        let mut commands = Vec::with_capacity(alloc, 1)?;
-        commands.push(match self {
+        let command = match self {
             Reading::Get => SetCommand::Get(String::from_str(alloc, "a")?),
             Reading::GetIndex => SetCommand::GetIndex(1),
             Reading::First => SetCommand::First,
@@ -210,8 +208,8 @@ impl Reading {
                 SetCommand::Exclusive(vecmap_fixtures::text_set(alloc, &["a"])?)
             }
             Reading::Subtract => SetCommand::Subtract(vecmap_fixtures::text_set(alloc, &["b"])?),
-        })?;
-        Ok(commands)
+        };
+        vec![in alloc; command]
     }
 }
 
