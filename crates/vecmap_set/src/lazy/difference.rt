@@ -108,7 +108,7 @@ impl<'a, T: Eq> DoubleEndedIterator for Difference<'a, T> {
 
 impl<T: Eq> FusedIterator for Difference<'_, T> {}
 
-/// Returns another iterator over the elements that are left, like the inherent [`Difference::clone`]. It never fails.
+/// Returns an iterator over the same remaining elements, like the inherent [`Difference::clone`]. It never fails.
 impl<'a, T: Eq> Clone for Difference<'a, T> {
     ghost is_clone = { λ iter copy. copy ≡ iter };
 

@@ -111,7 +111,7 @@ impl<'a, T: Eq> DoubleEndedIterator for Intersection<'a, T> {
 
 impl<T: Eq> FusedIterator for Intersection<'_, T> {}
 
-/// Returns another iterator over the elements that are left, like the inherent [`Intersection::clone`]. It never fails.
+/// Returns an iterator over the same remaining elements, like the inherent [`Intersection::clone`]. It never fails.
 impl<'a, T: Eq> Clone for Intersection<'a, T> {
     ghost is_clone = { λ iter copy. copy ≡ iter };
 

@@ -122,7 +122,7 @@ impl<'a, T: Eq> DoubleEndedIterator for SymmetricDifference<'a, T> {
 
 impl<T: Eq> FusedIterator for SymmetricDifference<'_, T> {}
 
-/// Returns another iterator over the elements that are left, like the inherent [`SymmetricDifference::clone`]. It never fails.
+/// Returns an iterator over the same remaining elements, like the inherent [`SymmetricDifference::clone`]. It never fails.
 impl<'a, T: Eq> Clone for SymmetricDifference<'a, T> {
     ghost is_clone = { λ iter copy. copy ≡ iter };
 

@@ -123,7 +123,7 @@ impl<'a, T: Eq> DoubleEndedIterator for Union<'a, T> {
 
 impl<T: Eq> FusedIterator for Union<'_, T> {}
 
-/// Returns another iterator over the elements that are left, like the inherent [`Union::clone`]. It never fails.
+/// Returns an iterator over the same remaining elements, like the inherent [`Union::clone`]. It never fails.
 impl<'a, T: Eq> Clone for Union<'a, T> {
     ghost is_clone = { λ iter copy. copy ≡ iter };
 

@@ -1,7 +1,7 @@
 //! Tests of the functions of the page.
 use super::{
-    count, errors, filter, inner, intern, keys, lookups, merge, pair, parts, program, raise, refused,
-    set, texts,
+    count, errors, filter, inner, intern, keys, lookups, merge, pair, parts, program, raise,
+    refused, set, texts,
 };
 use keys::{Place, Ticket};
 use std::alloc::{AllocError, Global};
@@ -41,7 +41,10 @@ fn a_grade_is_found_by_both_names(rt: HostRuntime) -> Result<(), Fail> {
     let alloc = rt.alloc();
     let mut grades = VecMap::new(alloc);
     for (first, last, grade) in [("Ada", "Berg", 1), ("Ada", "Lund", 2), ("Bo", "Lund", 3)] {
-        let name = (String::from_str(alloc, first)?, String::from_str(alloc, last)?);
+        let name = (
+            String::from_str(alloc, first)?,
+            String::from_str(alloc, last)?,
+        );
         grades.insert(name, grade)?;
     }
     assert!(rt; parts::grade(&grades, "Ada", "Lund") == Some(2));

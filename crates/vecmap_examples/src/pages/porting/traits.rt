@@ -70,14 +70,11 @@ pub fn parted(
 }
 
 /// `map.entry(k).or_insert_with(|| vec![first])`, with a closure that allocates.
-pub fn make_first(
-    map: &mut VecMap<u32, Vec<u32>>,
-    key: u32,
-    first: u32,
-) -> Result<(), AllocError> {
+pub fn make_first(map: &mut VecMap<u32, Vec<u32>>, key: u32, first: u32) -> Result<(), AllocError> {
     let alloc = *map.allocator();
-    map.entry(key)
-        .or_try_insert_with(|| -> Result<Vec<u32>, AllocError> { Ok(vec![in alloc; first]?) })?;
+    map.entry(key).or_try_insert_with(|| -> Result<Vec<u32>, AllocError> {
+        Ok(vec![in alloc; first]?)
+    })?;
     Ok(())
 }
 
