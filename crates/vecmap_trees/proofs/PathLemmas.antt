@@ -3,6 +3,7 @@
 use Rattle.std.specs.Prelude.{◌≡◌, ℕ, IsSome, List, [], ◌∷◌, None, Option, Some, String, bytes_eq, false, string_eq, true, refl}
 use Rattle.std.specs.Option.{option_and_then, option_map, option_map_or}
 use Rattle.std.proofs.Common.{ap, sym, subst, ◌∙◌, inl, inr, true≢false}
+use Rattle.std.specs.declared.alloc.Global.{Global}
 use Rattle.vecmap.specs.Contents.{Contents, with_value_by}
 use Rattle.vecmap.specs.Pairs.{has_text, index_by, lookup_by, value_at}
 use Rattle.vecmap.proofs.Queries.{string_equality, text_respects}
@@ -93,19 +94,32 @@ unseen_elsewhere (name ∷ names) (next ∷ others) f j (inr h) =
     subst (λ n. option_and_then (at_path others) (member n (changed_at (name ∷ names) f j)) ≡ option_and_then (at_path others) (member n j)) h.0
     (at_same_name name next names others (changed_at names f) (λ w. unseen_elsewhere names others f w h.1) j (out-Json j) refl)
 
--- Two trees with the same values at all paths that part from a path below a name, and at all other names.
-pub seen_alike : (name : List ℕ) (names : List (List ℕ)) (t u : Json) → ((other : List ℕ) → bytes_eq name other ≡ false → member other u ≡ member other t)
-    → ((other : List (List ℕ)) → ArePartedPaths names other → option_and_then (at_path other) (member name u) ≡ option_and_then (at_path other) (member name t))
-    → (other : List (List ℕ)) → ArePartedPaths (name ∷ names) other → at_path other u ≡ at_path other t
-seen_alike name names t u apart below [] h = absurd h
-seen_alike name names t u apart below (next ∷ others) (inl e) = ap (option_and_then (at_path others)) (apart next e)
-seen_alike name names t u apart below (next ∷ others) (inr h) =
-    subst (λ n. option_and_then (at_path others) (member n u) ≡ option_and_then (at_path others) (member n t)) h.0 (below others h.1)
+-- Two trees with the same values at all paths that part from a path: at all other names, and below the name.
+pub seen_alike : (path : List (List ℕ)) (name : List ℕ) (names : List (List ℕ)) (t u : Json) (old new : List (String Global × Json)) → path ≡ name ∷ names
+    → ((other : List ℕ) → bytes_eq name other ≡ false → lookup_by (has_text other) new ≡ lookup_by (has_text other) old)
+    → ((other : List (List ℕ)) → ArePartedPaths names other → option_and_then (at_path other) (lookup_by (has_text name) new) ≡ option_and_then (at_path other) (lookup_by (has_text name) old))
+    → members t ≡ old → members u ≡ new → (other : List (List ℕ)) → ArePartedPaths path other → at_path other u ≡ at_path other t
+seen_alike path name names t u old new is apart below before after other h = by other (subst (λ p. ArePartedPaths p other) is h)
+  where
+    at : (next : List ℕ) (rest : List (List ℕ)) → option_and_then (at_path rest) (lookup_by (has_text next) new) ≡ option_and_then (at_path rest) (lookup_by (has_text next) old) → at_path (next ∷ rest) u ≡ at_path (next ∷ rest) t
+    at next rest e = ap (λ l. option_and_then (at_path rest) (lookup_by (has_text next) l)) after ∙ e ∙ ap (λ l. option_and_then (at_path rest) (lookup_by (has_text next) l)) (sym before)
+
+    by : (other : List (List ℕ)) → ArePartedPaths (name ∷ names) other → at_path other u ≡ at_path other t
+    by [] h = absurd h
+    by (next ∷ others) (inl e) = at next others (ap (option_and_then (at_path others)) (apart next e))
+    by (next ∷ others) (inr h) = subst (λ n. at_path (n ∷ others) u ≡ at_path (n ∷ others) t) h.0 (at name others (below others h.1))
 
 -- A tree with nothing at any path that parts from a path.
-pub nothing_seen : (name : List ℕ) (names : List (List ℕ)) (u : Json) → ((other : List ℕ) → bytes_eq name other ≡ false → member other u ≡ None)
-    → ((other : List (List ℕ)) → ArePartedPaths names other → option_and_then (at_path other) (member name u) ≡ None)
-    → (other : List (List ℕ)) → ArePartedPaths (name ∷ names) other → at_path other u ≡ None
-nothing_seen name names u apart below [] h = absurd h
-nothing_seen name names u apart below (next ∷ others) (inl e) = ap (option_and_then (at_path others)) (apart next e)
-nothing_seen name names u apart below (next ∷ others) (inr h) = subst (λ n. option_and_then (at_path others) (member n u) ≡ None) h.0 (below others h.1)
+pub nothing_seen : (path : List (List ℕ)) (name : List ℕ) (names : List (List ℕ)) (u : Json) (new : List (String Global × Json)) → path ≡ name ∷ names → members u ≡ new
+    → ((other : List ℕ) → bytes_eq name other ≡ false → lookup_by (has_text other) new ≡ None)
+    → ((other : List (List ℕ)) → ArePartedPaths names other → option_and_then (at_path other) (lookup_by (has_text name) new) ≡ None)
+    → (other : List (List ℕ)) → ArePartedPaths path other → at_path other u ≡ None
+nothing_seen path name names u new is after apart below other h = by other (subst (λ p. ArePartedPaths p other) is h)
+  where
+    at : (next : List ℕ) (rest : List (List ℕ)) → option_and_then (at_path rest) (lookup_by (has_text next) new) ≡ None → at_path (next ∷ rest) u ≡ None
+    at next rest e = ap (λ l. option_and_then (at_path rest) (lookup_by (has_text next) l)) after ∙ e
+
+    by : (other : List (List ℕ)) → ArePartedPaths (name ∷ names) other → at_path other u ≡ None
+    by [] h = absurd h
+    by (next ∷ others) (inl e) = at next others (ap (option_and_then (at_path others)) (apart next e))
+    by (next ∷ others) (inr h) = subst (λ n. at_path (n ∷ others) u ≡ None) h.0 (at name others (below others h.1))
