@@ -1,18 +1,18 @@
 -- What lookups find after a write of the value that a query finds. The idea: the write is `put` of any key that the
 -- query matches, so the lemmas on `put` hold.
-use Rattle.std.specs.Prelude.{◌≡◌, ℕ, Bool, false, List, [], ◌∷◌, None, Option, Some, IsSome, IsTrue, bytes_eq, string_bytes, string_eq, String, refl}
+use Rattle.std.specs.Prelude.{◌≡◌, ℕ, Bool, false, List, [], ◌∷◌, None, Option, Some, IsSome, IsTrue, bytes_eq, string_bytes, string_eq, String, refl, unwrap_or}
 use Rattle.std.specs.Cmp.{IsEquivalence}
 use Rattle.std.specs.Cmp.Lexicographic.{nat_list_eq_equiv}
 use Rattle.std.specs.declared.alloc.Global.{Global}
 use Rattle.std.specs.Map.{keys_of}
-use Rattle.std.specs.Option.{option_map_or}
+use Rattle.std.specs.Option.{option_and_then, option_map_or}
 use Rattle.std.proofs.Common.{sym, ap, subst, ◌∙◌, get_or, true≢false}
 use Rattle.std.proofs.lemmas.List.Quantifiers.{position-Some}
-use Rattle.vecmap_base.specs.Pairs.{has_text, index_by, lookup, lookup_by, put}
+use Rattle.vecmap_base.specs.Pairs.{has_text, index_by, lookup, lookup_by, put, value_at, with_value}
 use Rattle.vecmap_base.proofs.ItemsLemmas.Queries.{tells_as}
 use Rattle.vecmap_base.proofs.PairsLemmas.Queries.{lookup_put_other_query, lookup_put_query, string_equality, text_respects}
-use Rattle.vecmap_base.proofs.PairsLemmas.Values.{keys_of_with_value}
-use Rattle.vecmap_map.specs.Contents.{Contents, with_value_at, with_value_by}
+use Rattle.vecmap_base.proofs.PairsLemmas.Values.{keys_of_with_value, with_own_value}
+use Rattle.vecmap_map.specs.Contents.{Contents, with_entries, with_value_at, with_value_by}
 use Rattle.vecmap_map.proofs.ContentsLemmas.{with_value_of_is_put}
 
 -- A key that passes the test, if there is an index of one.
@@ -31,6 +31,14 @@ keys_of_with_value_by test m v = by (index_by test m.entries)
     by : (found : Option ℕ) → keys_of (option_map_or (λ i. with_value_at m i v) found m).entries ≡ keys_of m.entries
     by None = refl
     by (Some i) = keys_of_with_value m.entries i v
+
+-- A write of the value that a test finds changes nothing.
+pub written_back : {K V : Type 0} (test : K → Bool) (m : Contents K V) (v : V) → lookup_by test m.entries ≡ Some v → with_value_by test m v ≡ m
+written_back test m v = by (index_by test m.entries)
+  where
+    by : (found : Option ℕ) → option_and_then (value_at m.entries) found ≡ Some v → option_map_or (λ i. with_value_at m i v) found m ≡ m
+    by None e = refl
+    by (Some i) e = ap (with_entries m) (ap (with_value m.entries i) (sym (ap (λ o. unwrap_or o v) e)) ∙ with_own_value m.entries i v)
 
 module _ {K V : Type 0} (eq : K → K → Bool) (o : IsEquivalence eq) (test : K → Bool) (respects : (x y : K) → IsTrue (test x) → test y ≡ eq x y) where
   -- A write of the value that a query finds is `put` of each key that the query matches.

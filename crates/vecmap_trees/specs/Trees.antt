@@ -1,0 +1,97 @@
+-- What contracts say of a tree of values. A name is the list of its bytes, and a path is a list of names.
+use Rattle.std.specs.Prelude.{◌≡◌, ℕ, ◌+◌, ◌⊎◌, false, bytes_eq, List, [], ◌∷◌, Option, Some, String, map, string_bytes}
+use Rattle.std.specs.Option.{option_and_then, option_map_or}
+use Rattle.std.specs.declared.alloc.Global.{Global}
+use Rattle.vecmap.specs.Contents.{Contents, with_entries, with_value_by}
+use Rattle.vecmap.specs.Pairs.{has_text, lookup_by, without_by}
+use Rattle.vecmap_trees.specs.declared.Json.{Json, out-Json, roll-Json}
+use Rattle.vecmap_trees.specs.declared.Json.TheOpen.{Json-F, Array, Object, Text}
+use Rattle.vecmap_trees.specs.declared.Json.TheFolds.{fold-Json}
+
+-- What a contract sees of the members of an object.
+abbrev pub Members : Type 0
+Members = Contents (String Global) Json
+
+abbrev pub members_of_layer : Json-F Json → List (String Global × Json)
+members_of_layer (Object m) = m.entries
+members_of_layer _ = []
+
+-- The members of a value, or none if it is no object.
+abbrev pub members : Json → List (String Global × Json)
+members j = members_of_layer (out-Json j)
+
+abbrev pub IsTextLayer : List ℕ → Json-F Json → Type 0
+IsTextLayer text (Text s) = string_bytes s ≡ text
+IsTextLayer text _ = ⊥
+
+-- The value is a text of these bytes.
+abbrev pub IsText : List ℕ → Json → Type 0
+IsText text j = IsTextLayer text (out-Json j)
+
+abbrev pub IsObjectLayer : Json-F Json → Type 0
+IsObjectLayer (Object m) = Unit {0}
+IsObjectLayer _ = ⊥
+
+-- The value is an object.
+abbrev pub IsObject : Json → Type 0
+IsObject j = IsObjectLayer (out-Json j)
+
+-- The value of the first member with this name.
+abbrev pub member : List ℕ → Json → Option Json
+member name j = lookup_by (has_text name) (members j)
+
+-- The value at a path. The empty path leads to the value itself.
+abbrev pub at_path : List (List ℕ) → Json → Option Json
+at_path [] j = Some j
+at_path (name ∷ names) j = option_and_then (at_path names) (member name j)
+
+abbrev pub layer_with_members : (Members → Members) → Json → Json-F Json → Json
+layer_with_members f j (Object m) = roll-Json (Object (f m))
+layer_with_members f j _ = j
+
+-- The object with `f` of its members. A value that is no object stays as it is.
+abbrev pub with_members : (Members → Members) → Json → Json
+with_members f j = layer_with_members f j (out-Json j)
+
+-- The members with `f` of the first member with this name, if there is one.
+abbrev pub with_member : List ℕ → (Json → Json) → Members → Members
+with_member name f m = option_map_or (λ w. with_value_by (has_text name) m (f w)) (lookup_by (has_text name) m.entries) m
+
+-- The tree with `f` of the value at a path, if there is one.
+abbrev pub changed_at : List (List ℕ) → (Json → Json) → Json → Json
+changed_at [] f j = f j
+changed_at (name ∷ names) f j = with_members (with_member name (changed_at names f)) j
+
+-- The object without the first member with this name.
+abbrev pub without_member : List ℕ → Json → Json
+without_member name j = with_members (λ m. with_entries m (without_by (has_text name) m.entries)) j
+
+-- Neither path leads through the other: they part at some name.
+abbrev pub ArePartedPaths : List (List ℕ) → List (List ℕ) → Type 0
+ArePartedPaths [] path = ⊥
+ArePartedPaths (name ∷ names) [] = ⊥
+ArePartedPaths (name ∷ names) (other ∷ others) = (bytes_eq name other ≡ false) ⊎ ((name ≡ other) × ArePartedPaths names others)
+
+-- The sum of a list.
+abbrev pub sum_of : List ℕ → ℕ
+sum_of [] = 0
+sum_of (n ∷ ns) = n + sum_of ns
+
+-- The sum of the values of pairs.
+abbrev pub sum_of_values : List (String Global × ℕ) → ℕ
+sum_of_values [] = 0
+sum_of_values (p ∷ ps) = p.1 + sum_of_values ps
+
+-- The leaves of one layer, with those of each value in it in its place.
+abbrev pub leaves_step : Json-F ℕ → ℕ
+leaves_step (Array items) = sum_of items.items
+leaves_step (Object m) = sum_of_values m.entries
+leaves_step _ = 1
+
+-- How many values of the tree are neither an array nor an object.
+abbrev pub leaves : Json → ℕ
+leaves = fold-Json ℕ leaves_step
+
+-- The leaves of all members.
+abbrev pub leaves_of_members : List (String Global × Json) → ℕ
+leaves_of_members ps = sum_of_values (map (λ p. (p.0, leaves p.1)) ps)

@@ -1,0 +1,95 @@
+//! Paths that are made as far as they are missing.
+ghost use Rattle.std.specs.Prelude.{◌≡◌, map, List, ℕ, IfSome, IsSome, IsTrue, None, Some, bytes_eq, false};
+ghost use Rattle.std.specs.Option.{option_and_then};
+ghost use Rattle.vecmap.specs.Pairs.{has_text, lookup_by};
+ghost use Rattle.vecmap_trees.specs.Trees.{ArePartedPaths, at_path};
+
+use crate::Json;
+use std::alloc::Global;
+use vecmap::VecMap;
+use vecmap::map::laws::{texts_find_as_strings, writes_by_texts_are_insertions};
+
+// Makes a path lead to a value, and returns whether it does. What is missing is created, with `null` at its end.
+#[cycle(make_path)]
+pub(crate) fn make_path(tree: &mut Json, alloc: Global, path: &[&str]) -> bool
+    ensures made { IsTrue result
+        → IsSome (at_path (map (λ name. name.now) path.now) tree.new) }
+    ensures others { (other : List (List ℕ))
+        → ArePartedPaths (map (λ name. name.now) path.now) other
+        → at_path other tree.new ≡ at_path other tree.old }
+    ensures present { IsSome (at_path (map (λ name. name.now) path.now) tree.old)
+        → IsTrue result × (tree.new ≡ tree.old) }
+    ensures refused { result ≡ false → tree.new ≡ tree.old }
+{
+    let Some((name, rest)) = path.split_first() else {
+        return true;
+    };
+    match tree {
+        Json::Object(members) => make_below(members, alloc, *name, rest),
+        _ => false,
+    }
+}
+
+// Makes a path below the member of a name lead to a value, and returns whether it does.
+#[cycle(make_path)]
+fn make_below(members: &mut VecMap<String, Json>, alloc: Global, name: &str, path: &[&str]) -> bool
+    ensures made { IsTrue result
+        → IsSome (option_and_then (at_path (map (λ name. name.now) path.now))
+        (lookup_by (has_text name.now) members.new.entries)) }
+    ensures others { (other : List (List ℕ))
+        → ArePartedPaths (map (λ name. name.now) path.now) other
+        → option_and_then (at_path other) (lookup_by (has_text name.now) members.new.entries)
+        ≡ option_and_then (at_path other) (lookup_by (has_text name.now) members.old.entries) }
+    ensures other_names { (other : List ℕ) → bytes_eq name.now other ≡ false
+        → lookup_by (has_text other) members.new.entries
+        ≡ lookup_by (has_text other) members.old.entries }
+    ensures present { IsSome (option_and_then (at_path (map (λ name. name.now) path.now))
+        (lookup_by (has_text name.now) members.old.entries))
+        → IsTrue result × (members.new ≡ members.old) }
+    ensures refused { result ≡ false → members.new ≡ members.old }
+{
+    writes_by_texts_are_insertions::<Json>();
+    match members.get_mut(name) {
+        Some(inner) => make_path(inner, alloc, path),
+        None => match branch(alloc, path) {
+            Some(branch) => add_member(members, alloc, name, branch),
+            None => false,
+        },
+    }
+}
+
+// Creates objects that a path leads through, with `null` at its end.
+fn branch(alloc: Global, path: &[&str]) -> Option<Json>
+    ensures made { IfSome result (λ tree. IsSome (at_path (map (λ name. name.now) path.now) tree)) }
+    ensures nothing_else { IfSome result (λ tree. (other : List (List ℕ))
+        → ArePartedPaths (map (λ name. name.now) path.now) other → at_path other tree ≡ None) }
+{
+    let Some((name, rest)) = path.split_first() else {
+        return Some(Json::Null);
+    };
+    let inner = branch(alloc, rest)?;
+    let mut members = VecMap::new(alloc);
+    if !add_member(&mut members, alloc, *name, inner) {
+        return None;
+    }
+    Some(Json::Object(members))
+}
+
+// Adds a member with a copy of a name, and returns whether the memory sufficed.
+fn add_member(members: &mut VecMap<String, Json>, alloc: Global, name: &str, value: Json) -> bool
+    ensures added { IsTrue result
+        → lookup_by (has_text name.now) members.new.entries ≡ Some value }
+    ensures other_names { (other : List ℕ) → bytes_eq name.now other ≡ false
+        → lookup_by (has_text other) members.new.entries
+        ≡ lookup_by (has_text other) members.old.entries }
+    ensures refused { result ≡ false → members.new ≡ members.old }
+{
+    texts_find_as_strings::<Json>();
+    let Ok(key) = String::from_str(alloc, name) else {
+        return false;
+    };
+    match members.insert(key, value) {
+        Ok(_old) => true,
+        Err(_refused) => false,
+    }
+}

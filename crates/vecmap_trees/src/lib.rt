@@ -1,0 +1,42 @@
+//! A tree of values as JSON has them, whose objects keep the order of their members.
+//!
+//! A [`Json`] is built, read, written and removed at a path of names of any depth, merged with another one, counted,
+//! compared and printed. An object is a `VecMap<String, Json>`, so a value holds maps of values of its own type.
+//!
+//! Contracts speak of what stands at a path: `at_path` is the value that a path of names leads to.
+#![tactic(auto)]
+
+mod building;
+mod equality;
+mod growing;
+pub mod laws;
+mod merging;
+mod reading;
+mod removal;
+mod text;
+mod writing;
+
+pub use equality::{equal, equal_members};
+use vecmap::VecMap;
+
+/// A value as JSON has them. The members of an object keep their order.
+///
+/// Two values are equal if they differ at most in the order of members, at any depth. A value prints as JSON.
+///
+/// # Examples
+///
+/// ```
+/// # let mut page = Json::object(alloc);
+/// # page.set_at(alloc, &["font", "size"], Json::Number(12))?;
+/// # page.set_at(alloc, &["title"], Json::text(alloc, "Map")?)?;
+/// format!(in alloc; "{page}")?.as_str() // r#"{"font":{"size":12},"title":"Map"}"#
+/// ```
+#[derive(Clone, Debug, PartialEq, Eq, Drop)]
+pub enum Json {
+    Null,
+    Bool(bool),
+    Number(i64),
+    Text(String),
+    Array(Vec<Json>),
+    Object(VecMap<String, Json>),
+}
