@@ -1,5 +1,5 @@
-//! The set that a refused call leaves, and the elements that it keeps, returns or drops, each once. `alive` counts those
-//! that are not dropped.
+//! The set that a refused call leaves, and the elements that it keeps, returns or drops, each once. `alive` counts
+//! those that are not dropped.
 use crate::checks::{assert_granted, assert_is, assert_told, check, granted};
 use crate::telling::{one_of, tell, told_items, told_set};
 use std::alloc::{AllocError, Global};
