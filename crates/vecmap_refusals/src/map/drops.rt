@@ -183,12 +183,11 @@ fn carrying<'a>(
     alloc: Global,
     log: &'a Log,
 ) -> Result<Vec<MapCommand<Told<'a>, Told<'a>>>, AllocError> {
-    let more = vecmap_fixtures::told_map(alloc, log, &[5, 6])?;
-    vec![in alloc;
-        MapCommand::Insert(make_told(log, 3), make_told(log, 13)),
-        MapCommand::Insert(make_told(log, 1), make_told(log, 10)),
-        MapCommand::Append(more),
-    ]
+    let mut commands = Vec::with_capacity(alloc, 3)?;
+    commands.push(MapCommand::Insert(make_told(log, 3), make_told(log, 13)))?;
+    commands.push(MapCommand::Insert(make_told(log, 1), make_told(log, 10)))?;
+    commands.push(MapCommand::Append(vecmap_fixtures::told_map(alloc, log, &[5, 6])?))?;
+    Ok(commands)
 }
 
 #[derive(Clone, Copy)]
@@ -345,17 +344,17 @@ fn puts<'a>(
     alloc: Global,
     log: &'a Log,
 ) -> Result<Vec<MapCommand<Told<'a>, Told<'a>>>, AllocError> {
-    vec![in alloc;
-        MapCommand::InsertFull(make_told(log, 3), make_told(log, 13)),
-        MapCommand::InsertFull(make_told(log, 1), make_told(log, 21)),
-        MapCommand::InsertAt(0, make_told(log, 4), make_told(log, 14)),
-        MapCommand::InsertAt(0, make_told(log, 2), make_told(log, 22)),
-        MapCommand::InsertAt(9, make_told(log, 5), make_told(log, 15)),
-        MapCommand::InsertKey(make_told(log, 5), make_told(log, 15)),
-        MapCommand::InsertKey(make_told(log, 1), make_told(log, 31)),
-        MapCommand::OrInsert(make_told(log, 6), make_told(log, 16)),
-        MapCommand::OrInsert(make_told(log, 1), make_told(log, 41)),
-    ]
+    let mut commands = Vec::with_capacity(alloc, 9)?;
+    commands.push(MapCommand::InsertFull(make_told(log, 3), make_told(log, 13)))?;
+    commands.push(MapCommand::InsertFull(make_told(log, 1), make_told(log, 21)))?;
+    commands.push(MapCommand::InsertAt(0, make_told(log, 4), make_told(log, 14)))?;
+    commands.push(MapCommand::InsertAt(0, make_told(log, 2), make_told(log, 22)))?;
+    commands.push(MapCommand::InsertAt(9, make_told(log, 5), make_told(log, 15)))?;
+    commands.push(MapCommand::InsertKey(make_told(log, 5), make_told(log, 15)))?;
+    commands.push(MapCommand::InsertKey(make_told(log, 1), make_told(log, 31)))?;
+    commands.push(MapCommand::OrInsert(make_told(log, 6), make_told(log, 16)))?;
+    commands.push(MapCommand::OrInsert(make_told(log, 1), make_told(log, 41)))?;
+    Ok(commands)
 }
 
 #[test]
@@ -372,17 +371,17 @@ fn takes<'a>(
     log: &'a Log,
     carried: Map<'a>,
 ) -> Result<Vec<MapCommand<Told<'a>, Told<'a>>>, AllocError> {
-    vec![in alloc;
-        MapCommand::Equals(carried),
-        MapCommand::Get(make_told(log, 1)),
-        MapCommand::IndexOf(make_told(log, 1)),
-        MapCommand::ContainsKey(make_told(log, 1)),
-        MapCommand::Remove(make_told(log, 1)),
-        MapCommand::RemoveEntry(make_told(log, 2)),
-        MapCommand::SwapRemove(make_told(log, 3)),
-        MapCommand::SwapRemoveEntry(make_told(log, 4)),
-        MapCommand::Remove(make_told(log, 9)),
-    ]
+    let mut commands = Vec::with_capacity(alloc, 9)?;
+    commands.push(MapCommand::Equals(carried))?;
+    commands.push(MapCommand::Get(make_told(log, 1)))?;
+    commands.push(MapCommand::IndexOf(make_told(log, 1)))?;
+    commands.push(MapCommand::ContainsKey(make_told(log, 1)))?;
+    commands.push(MapCommand::Remove(make_told(log, 1)))?;
+    commands.push(MapCommand::RemoveEntry(make_told(log, 2)))?;
+    commands.push(MapCommand::SwapRemove(make_told(log, 3)))?;
+    commands.push(MapCommand::SwapRemoveEntry(make_told(log, 4)))?;
+    commands.push(MapCommand::Remove(make_told(log, 9)))?;
+    Ok(commands)
 }
 
 // Creates these commands, with a map of six keys. If a request is refused, the map is dropped, and it tries once more.

@@ -1,4 +1,5 @@
-//! Entries of an existing key in a map that is full, and of a key whose clone is refused. `drops` has those of a new key.
+//! Entries of an existing key in a map that is full, and of a key whose clone is refused. `drops` has those of a new
+//! key.
 use crate::checks::{assert_granted, assert_is, assert_pairs, check, granted};
 use crate::telling::{full_map, make, tell};
 use std::alloc::{AllocError, Global};

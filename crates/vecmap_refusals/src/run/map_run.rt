@@ -17,11 +17,11 @@ fn assert_full(rt: &impl Abort, map: &VecMap<Item, u32>) {
 }
 
 fn commands(alloc: Global) -> Result<Vec<MapCommand<Item, u32>>, AllocError> {
-    vec![in alloc;
-        MapCommand::Insert(make_item(7, 'x'), 70),
-        MapCommand::Insert(make_item(1, 'z'), 30),
-        MapCommand::Len,
-    ]
+    let mut commands = Vec::with_capacity(alloc, 3)?;
+    commands.push(MapCommand::Insert(make_item(7, 'x'), 70))?;
+    commands.push(MapCommand::Insert(make_item(1, 'z'), 30))?;
+    commands.push(MapCommand::Len)?;
+    Ok(commands)
 }
 
 // Returns whether all commands were executed, with the right replies.
@@ -110,14 +110,15 @@ const TEXTS: &[(&str, &str)] = &[("b", "2"), ("a", "1")];
 
 impl Reading {
     fn create(self, alloc: Global) -> Result<Vec<MapCommand<String, String>>, AllocError> {
-        let command = match self {
+        let mut commands = Vec::with_capacity(alloc, 1)?;
+        commands.push(match self {
             Reading::Get => MapCommand::Get(String::from_str(alloc, "a")?),
             Reading::ToVec => MapCommand::ToVec,
             Reading::First => MapCommand::First,
             Reading::Last => MapCommand::Last,
             Reading::GetIndex => MapCommand::GetIndex(1),
-        };
-        vec![in alloc; command]
+        })?;
+        Ok(commands)
     }
 
     // Returns whether the reply is the right one.
@@ -315,13 +316,13 @@ fn a_refused_split_of_a_map_replies_out_of_memory(rt: HostRuntime) {
 
 // Returns commands that insert an existing key, for which the map does not allocate.
 fn equal_keys(alloc: Global) -> Result<Vec<MapCommand<Item, u32>>, AllocError> {
-    vec![in alloc;
-        MapCommand::Insert(make_item(1, 'z'), 30),
-        MapCommand::InsertFull(make_item(2, 'y'), 40),
-        MapCommand::InsertKey(make_item(1, 'w'), 50),
-        MapCommand::OrInsert(make_item(2, 'v'), 60),
-        MapCommand::InsertAt(2, make_item(1, 'u'), 70),
-    ]
+    let mut commands = Vec::with_capacity(alloc, 5)?;
+    commands.push(MapCommand::Insert(make_item(1, 'z'), 30))?;
+    commands.push(MapCommand::InsertFull(make_item(2, 'y'), 40))?;
+    commands.push(MapCommand::InsertKey(make_item(1, 'w'), 50))?;
+    commands.push(MapCommand::OrInsert(make_item(2, 'v'), 60))?;
+    commands.push(MapCommand::InsertAt(2, make_item(1, 'u'), 70))?;
+    Ok(commands)
 }
 
 // Returns whether all of them were executed, with the right replies.

@@ -43,13 +43,14 @@ enum Change {
 
 impl Change {
     fn create(self, alloc: Global) -> Result<Vec<SetCommand<Item>>, AllocError> {
-        let command = match self {
+        let mut commands = Vec::with_capacity(alloc, 1)?;
+        commands.push(match self {
             Change::Insert => SetCommand::Insert(make_item(7, 'x')),
             Change::Replace => SetCommand::Replace(make_item(7, 'x')),
             Change::Append => SetCommand::Append(item_set(alloc, CARRIED)?),
             Change::SplitOff => SetCommand::SplitOff(1),
-        };
-        vec![in alloc; command]
+        })?;
+        Ok(commands)
     }
 
     // Returns whether the reply is the right one.
@@ -128,10 +129,10 @@ fn a_refused_split_of_a_set_replies_out_of_memory(rt: HostRuntime) {
 
 // Returns commands that add an existing element, for which the set does not allocate.
 fn equal_elements(alloc: Global) -> Result<Vec<SetCommand<Item>>, AllocError> {
-    vec![in alloc;
-        SetCommand::Insert(make_item(2, 'y')),
-        SetCommand::Replace(make_item(1, 'z')),
-    ]
+    let mut commands = Vec::with_capacity(alloc, 2)?;
+    commands.push(SetCommand::Insert(make_item(2, 'y')))?;
+    commands.push(SetCommand::Replace(make_item(1, 'z')))?;
+    Ok(commands)
 }
 
 // Returns whether the replies were not refused. If they were, no command was executed.
@@ -194,7 +195,8 @@ enum Reading {
 
 impl Reading {
     fn create(self, alloc: Global) -> Result<Vec<SetCommand<String>>, AllocError> {
-        let command = match self {
+        let mut commands = Vec::with_capacity(alloc, 1)?;
+        commands.push(match self {
             Reading::Get => SetCommand::Get(String::from_str(alloc, "a")?),
             Reading::GetIndex => SetCommand::GetIndex(1),
             Reading::First => SetCommand::First,
@@ -208,8 +210,8 @@ impl Reading {
                 SetCommand::Exclusive(vecmap_fixtures::text_set(alloc, &["a"])?)
             }
             Reading::Subtract => SetCommand::Subtract(vecmap_fixtures::text_set(alloc, &["b"])?),
-        };
-        vec![in alloc; command]
+        })?;
+        Ok(commands)
     }
 }
 

@@ -1,5 +1,5 @@
-//! The set that a refused call leaves, and the elements that it keeps, returns or drops, each once. `alive` counts those
-//! that are not dropped.
+//! The set that a refused call leaves, and the elements that it keeps, returns or drops, each once. `alive` counts
+//! those that are not dropped.
 use crate::checks::{assert_granted, assert_is, assert_told, check, granted};
 use crate::telling::{one_of, tell, told_items, told_set};
 use std::alloc::{AllocError, Global};
@@ -114,12 +114,11 @@ fn many_elements_are_kept_or_dropped(rt: HostRuntime) {
 
 // Returns commands that insert a new element and an existing one, and append a set.
 fn carrying<'a>(alloc: Global, log: &'a Log) -> Result<Vec<SetCommand<Told<'a>>>, AllocError> {
-    let more = vecmap_fixtures::told_set(alloc, log, &[5, 6])?;
-    vec![in alloc;
-        SetCommand::Insert(make_told(log, 3)),
-        SetCommand::Replace(make_told(log, 1)),
-        SetCommand::Append(more),
-    ]
+    let mut commands = Vec::with_capacity(alloc, 3)?;
+    commands.push(SetCommand::Insert(make_told(log, 3)))?;
+    commands.push(SetCommand::Replace(make_told(log, 1)))?;
+    commands.push(SetCommand::Append(vecmap_fixtures::told_set(alloc, log, &[5, 6])?))?;
+    Ok(commands)
 }
 
 // Returns the set after a run of these commands on the elements 1 and 2. If a request is refused, what the set does not
@@ -199,12 +198,12 @@ fn comparing<'a>(alloc: Global, log: &'a Log) -> Result<Vec<SetCommand<Told<'a>>
     let more = vecmap_fixtures::told_set(alloc, log, &[3, 2, 1])?;
     let fewer = vecmap_fixtures::told_set(alloc, log, &[2])?;
     let other = vecmap_fixtures::told_set(alloc, log, &[3])?;
-    vec![in alloc;
-        SetCommand::Equals(equal),
-        SetCommand::IsSubset(more),
-        SetCommand::IsSuperset(fewer),
-        SetCommand::IsDisjoint(other),
-    ]
+    let mut commands = Vec::with_capacity(alloc, 4)?;
+    commands.push(SetCommand::Equals(equal))?;
+    commands.push(SetCommand::IsSubset(more))?;
+    commands.push(SetCommand::IsSuperset(fewer))?;
+    commands.push(SetCommand::IsDisjoint(other))?;
+    Ok(commands)
 }
 
 // Executes these commands. If the replies are refused, no command is executed, and the run is repeated.
@@ -251,14 +250,14 @@ fn a_set_run_drops_the_sets_that_its_commands_compare(rt: HostRuntime) {
 
 // Returns commands that look up an element, or remove elements.
 fn removing<'a>(alloc: Global, log: &'a Log) -> Result<Vec<SetCommand<Told<'a>>>, AllocError> {
-    vec![in alloc;
-        SetCommand::Contains(make_told(log, 1)),
-        SetCommand::Remove(make_told(log, 1)),
-        SetCommand::Take(make_told(log, 2)),
-        SetCommand::SwapRemove(make_told(log, 3)),
-        SetCommand::SwapTake(make_told(log, 4)),
-        SetCommand::Take(make_told(log, 9)),
-    ]
+    let mut commands = Vec::with_capacity(alloc, 6)?;
+    commands.push(SetCommand::Contains(make_told(log, 1)))?;
+    commands.push(SetCommand::Remove(make_told(log, 1)))?;
+    commands.push(SetCommand::Take(make_told(log, 2)))?;
+    commands.push(SetCommand::SwapRemove(make_told(log, 3)))?;
+    commands.push(SetCommand::SwapTake(make_told(log, 4)))?;
+    commands.push(SetCommand::Take(make_told(log, 9)))?;
+    Ok(commands)
 }
 
 // Executes these commands. If the replies are refused, no command is executed, and the run is repeated.
