@@ -23,6 +23,6 @@
 //! - iteration: `iter`, loops (`iteration.rt`); the iterators themselves (`crates/vecmap_base/src/items.rt`); `Drain`
 //!   (`drain.rt`)
 //! - `Debug` (`formatting.rt`), laws for proofs (`laws.rt`, `laws/additions.rt`, `laws/algebra.rt`,
-//!   `laws/collecting.rt`, `laws/finding.rt`, `laws/queries.rt`)
+//!   `laws/collecting.rt`, `laws/finding.rt`, `laws/members.rt`, `laws/queries.rt`, `laws/retaining.rt`)
 pub use vecmap_base::items::{IntoIter, Iter};
 pub use vecmap_set::{Difference, Drain, Intersection, SymmetricDifference, Union, VecSet, laws};

@@ -10,6 +10,7 @@ pub mod header_lists;
 pub mod headers;
 pub mod interner;
 pub mod iteration;
+pub mod laws;
 pub mod lazy;
 pub mod lending;
 pub mod lookup;

@@ -119,7 +119,7 @@ pub fn parts_keep_keys_distinct<K: Eq, V>()
         → HasDistinctKeys K.eq (slice_range l i j) }
     ensures without_part { (l : List (K × V)) → HasDistinctKeys K.eq l → (i j : ℕ) → i ≤ j
         → HasDistinctKeys K.eq (remove_range l i j) }
-    ensures filtered { (l : List (K × V)) → HasDistinctKeys K.eq l → (test : K × V → Bool)
+    ensures passing { (l : List (K × V)) → HasDistinctKeys K.eq l → (test : K × V → Bool)
         → HasDistinctKeys K.eq (filter test l) }
 {}
 

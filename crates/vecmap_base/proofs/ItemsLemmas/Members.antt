@@ -1,8 +1,7 @@
 -- Which elements are present, and at which indices, after one addition and after many. Many additions append those of
 -- the new elements that are not present.
-use Rattle.std.specs.Prelude.{◌≡◌, ◌<◌, ◌+◌, ℕ, Bool, true, false, ◌||◌, not, Contains, IsTrue, List, [], ◌∷◌, ◌++◌, None, Option, Some, if◌then◌else◌, length, option_map, position, slice_get, suc, zero, refl}
+use Rattle.std.specs.Prelude.{◌≡◌, ◌<◌, ◌+◌, ℕ, Bool, true, false, ◌||◌, not, Contains, IsTrue, List, [], ◌∷◌, ◌++◌, None, Option, Some, if◌then◌else◌, length, option_map, slice_get, suc, zero, refl}
 use Rattle.std.specs.Cmp.{IsEquivalence}
-use Rattle.std.specs.List.{list_any}
 use Rattle.std.specs.Option.{option_or}
 use Rattle.std.proofs.Common.{sym, ap, ◌∙◌, arith, inl, inr}
 use Rattle.std.proofs.Math.Bool.{or_assoc}

@@ -11,7 +11,7 @@ pub fn insertions_at_an_index_are_found<K: Eq, V>()
         → lookup K.eq (put_at K.eq l i k v) q ≡ (if K.eq k q then Some v else lookup K.eq l q) }
     ensures lookups { (l : List (K × V)) (i : ℕ) (k : K) (v : V) → HasDistinctKeys K.eq l → (q : K)
         → lookup K.eq (put_at K.eq l i k v) q ≡ (if K.eq k q then Some v else lookup K.eq l q) }
-    ensures inserted { (l : List (K × V)) (i : ℕ) (k : K) (v : V) → index_of K.eq l k ≡ None
+    ensures as_insert { (l : List (K × V)) (i : ℕ) (k : K) (v : V) → index_of K.eq l k ≡ None
         → put_at K.eq l i k v ≡ insert l i (k, v) }
 {}
 

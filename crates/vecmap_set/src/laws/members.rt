@@ -9,7 +9,7 @@ ghost use Rattle.vecmap_set.specs.Operators.{symmetric_difference_of, union_of};
 /// After many additions, an element is present if it was, or if it is equal to one of the added elements.
 pub fn added_elements_are_present<T: Eq>()
     ensures added { (s : List T) (x : T) → has_item T.eq (add T.eq s x) x ≡ true }
-    ensures kept { (s : List T) (x y : T) → has_item T.eq s y ≡ true
+    ensures present { (s : List T) (x y : T) → has_item T.eq s y ≡ true
         → has_item T.eq (add T.eq s x) y ≡ true }
     ensures members { (s : List T) (x y : T)
         → has_item T.eq (add T.eq s x) y ≡ (has_item T.eq s y || T.eq x y) }

@@ -10,5 +10,5 @@ returns-clause-part g c = λ l d i j. distinct_keys_slice_range g.K.PartialEq.eq
 pub returns-clause-without_part : goal.returns-clause-without_part
 returns-clause-without_part g c = λ l d i j order. distinct_keys_remove_range g.K.PartialEq.eq l i j order d
 
-pub returns-clause-filtered : goal.returns-clause-filtered
-returns-clause-filtered g c = λ l d test. distinct_keys_filter g.K.PartialEq.eq test l d
+pub returns-clause-passing : goal.returns-clause-passing
+returns-clause-passing g c = λ l d test. distinct_keys_filter g.K.PartialEq.eq test l d

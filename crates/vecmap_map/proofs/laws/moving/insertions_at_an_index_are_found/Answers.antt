@@ -8,5 +8,5 @@ returns-clause-new_key g c = lookup_put_at_absent g.K.PartialEq.eq g.met.K.Eq.la
 pub returns-clause-lookups : goal.returns-clause-lookups
 returns-clause-lookups g c = lookup_put_at g.K.PartialEq.eq g.met.K.Eq.laws
 
-pub returns-clause-inserted : goal.returns-clause-inserted
-returns-clause-inserted g c = put_at_absent g.K.PartialEq.eq
+pub returns-clause-as_insert : goal.returns-clause-as_insert
+returns-clause-as_insert g c = put_at_absent g.K.PartialEq.eq

@@ -1,0 +1,59 @@
+//! Callers of laws that keep keys, or elements, distinct.
+ghost use Rattle.std.specs.List.{IsDistinct};
+ghost use Rattle.std.specs.Prelude.{◌≡◌, ◌≤◌, IfOk, OnOk, length, nat_eq};
+ghost use Rattle.vecmap.specs.Items.{adds};
+ghost use Rattle.vecmap.specs.Pairs.{HasDistinctKeys};
+
+use std::alloc::AllocError;
+use vecmap::map::laws::{
+    clones_have_the_same_pairs, clones_keep_keys_distinct, order_keeps_keys_distinct,
+    parts_keep_keys_distinct, removal_keeps_keys_distinct,
+};
+use vecmap::set::laws as set_laws;
+use vecmap::{VecMap, VecSet};
+
+/// Splits a map in two. If no keys repeat, none repeat in either part.
+pub fn halves<K: Eq, V>(map: &mut VecMap<K, V>, at: usize) -> Result<VecMap<K, V>, AllocError>
+    requires within { at ≤ length map.old.entries }
+    requires distinct { HasDistinctKeys K.eq map.old.entries }
+    ensures front { OnOk result (HasDistinctKeys K.eq map.new.entries) }
+    ensures back { IfOk result (λ back. HasDistinctKeys K.eq back.entries) }
+{
+    removal_keeps_keys_distinct::<K, V>();
+    parts_keep_keys_distinct::<K, V>();
+    map.split_off(at)
+}
+
+/// Sorts the keys. If no keys repeat, none repeat afterwards.
+pub fn sorted_keys(map: &mut VecMap<u32, u32>)
+    requires { HasDistinctKeys nat_eq map.old.entries }
+    ensures { HasDistinctKeys nat_eq map.new.entries }
+{
+    order_keeps_keys_distinct::<u32, u32>();
+    map.sort_unstable_keys();
+}
+
+/// Returns a copy of a map. If no keys repeat, none repeat in the copy.
+pub fn copy_of_distinct(map: &VecMap<u32, u32>) -> Result<VecMap<u32, u32>, AllocError>
+    requires { HasDistinctKeys nat_eq map.now.entries }
+    ensures { IfOk result (λ copy. HasDistinctKeys nat_eq copy.entries) }
+{
+    clones_keep_keys_distinct::<u32, u32>();
+    map.clone()
+}
+
+/// Returns a copy of a map. It has the same pairs.
+pub fn copy_of_numbers(map: &VecMap<u32, u32>) -> Result<VecMap<u32, u32>, AllocError>
+    ensures { IfOk result (λ copy. copy.entries ≡ map.now.entries) }
+{
+    clones_have_the_same_pairs::<u32, u32>();
+    map.clone()
+}
+
+/// Returns the elements without repeats. None repeat if they are added to themselves.
+pub fn added_list<T: Eq + Drop>(items: Vec<T>) -> Vec<T>
+    ensures { IsDistinct T.eq (adds T.eq result.items result.items) }
+{
+    set_laws::additions_keep_elements_distinct::<T>();
+    VecSet::from(items).into_vec()
+}

@@ -1,0 +1,87 @@
+//! Callers of laws about equality and about parts of sets.
+ghost use Rattle.std.specs.Prelude.{◌≡◌, ◌≤◌, ◌↔◌, IsTrue, OnOk, [], length, nat_eq};
+ghost use Rattle.vecmap.specs.Equality.{has_same_counts, has_same_items, is_within, same_option};
+ghost use Rattle.vecmap.specs.Items.{both};
+ghost use Rattle.vecmap.specs.Pairs.{HasDistinctKeys, lookup};
+
+use std::alloc::AllocError;
+use vecmap::map::laws::{equality_ignores_order, equality_is_agreement, lengths_tell_of_equality};
+use vecmap::set::laws as set_laws;
+use vecmap::{VecMap, VecSet};
+
+/// Sorts the keys. The map is equal to what it was.
+pub fn sorted_is_equal(map: &mut VecMap<u32, u32>)
+    ensures { IsTrue (has_same_counts nat_eq nat_eq map.old.entries map.new.entries) }
+{
+    equality_ignores_order::<u32, u32>();
+    map.sort_unstable_keys();
+}
+
+/// Returns whether all lookups in two maps agree.
+pub fn lookups_agree<K: Eq, V: Eq>(a: &VecMap<K, V>, b: &VecMap<K, V>) -> bool
+    requires distinct { HasDistinctKeys K.eq a.now.entries }
+    requires other_distinct { HasDistinctKeys K.eq b.now.entries }
+    ensures { IsTrue result ↔ ((key : K) → IsTrue
+        (same_option V.eq (lookup K.eq a.now.entries key) (lookup K.eq b.now.entries key))) }
+{
+    equality_is_agreement::<K, V>();
+    *a == *b
+}
+
+/// Returns whether two maps are equal, and compares no pairs if their lengths differ.
+pub fn are_equal<K: Eq, V: Eq>(a: &VecMap<K, V>, b: &VecMap<K, V>) -> bool
+    ensures { result ≡ has_same_counts K.eq V.eq a.now.entries b.now.entries }
+{
+    lengths_tell_of_equality::<K, V>();
+    if a.len() != b.len() {
+        return false;
+    }
+    *a == *b
+}
+
+/// Sorts a set. It is equal to what it was.
+pub fn sorted_set_is_equal(set: &mut VecSet<u32>)
+    ensures { IsTrue (has_same_items nat_eq set.old.elements set.new.elements) }
+{
+    set_laws::equality_ignores_order::<u32>();
+    set.sort_unstable();
+}
+
+/// Returns whether two sets are equal, by two tests of inclusion.
+pub fn are_within_each_other<T: Eq>(a: &VecSet<T>, b: &VecSet<T>) -> bool
+    ensures { IsTrue result ↔ IsTrue (has_same_items T.eq a.now.elements b.now.elements) }
+{
+    set_laws::equality_is_inclusion_both_ways::<T>();
+    a.is_subset(b) && b.is_subset(a)
+}
+
+/// Returns whether a set is a subset, and compares no elements if it is longer.
+pub fn is_part<T: Eq>(a: &VecSet<T>, b: &VecSet<T>) -> bool
+    ensures { result ≡ is_within T.eq a.now.elements b.now.elements }
+{
+    set_laws::lengths_tell_of_inclusion::<T>();
+    a.as_slice();
+    if a.len() > b.len() {
+        return false;
+    }
+    a.is_subset(b)
+}
+
+/// Returns whether two sets share no element, asked from the other side.
+pub fn are_apart<T: Eq>(a: &VecSet<T>, b: &VecSet<T>) -> bool
+    ensures { IsTrue result ↔ (both T.eq a.now.elements b.now.elements ≡ []) }
+{
+    set_laws::disjointness_is_symmetric::<T>();
+    b.is_disjoint(a)
+}
+
+/// Splits a set and appends the second part again, which restores the set if no request is refused.
+pub fn split_and_restore(set: &mut VecSet<u32>, at: usize) -> Result<(), AllocError>
+    requires within { at ≤ length set.old.elements }
+    ensures { OnOk result (set.new.elements ≡ set.old.elements) }
+{
+    set_laws::appending_undoes_splitting::<u32>();
+    set.as_slice();
+    let mut part = set.split_off(at)?;
+    set.append(&mut part)
+}

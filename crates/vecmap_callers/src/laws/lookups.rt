@@ -1,0 +1,86 @@
+//! Callers of laws about what lookups find.
+ghost use Rattle.std.specs.Option.{option_map_or, option_or};
+ghost use Rattle.std.specs.Prelude.{◌≡◌, ◌+◌, ◌-◌, ◌++◌, ◌≤◌, ◌^◌, ◌∷◌, ℕ, IfSome, OnOk, Some, [], drop, length, min, nat_eq, option_map, reverse, take, true};
+ghost use Rattle.vecmap.specs.Pairs.{HasDistinctKeys, index_of, lookup};
+
+use crate::laws::retaining::raise_all;
+use std::alloc::AllocError;
+use vecmap::VecMap;
+use vecmap::map::laws::{
+    bulk_insertions_are_single_ones, entries_insert_alike, equal_keys_find_the_same,
+    first_parts_are_found_first, functions_of_values_are_found, stored_pairs_are_found,
+};
+
+/// Returns the index of a key. Each equal key has the same index.
+pub fn index_of_equal_keys<K: Eq, V>(map: &VecMap<K, V>, key: &K) -> Option<usize>
+    ensures { (other : K) → K.eq key.now other ≡ true
+        → index_of K.eq map.now.entries other ≡ result }
+{
+    equal_keys_find_the_same::<K, V>();
+    map.get_index_of(key)
+}
+
+/// Returns the pair at an index. If no keys repeat, a lookup of its key finds that index.
+pub fn pair_at<K: Eq, V>(map: &VecMap<K, V>, index: usize) -> Option<(&K, &V)>
+    requires { HasDistinctKeys K.eq map.now.entries }
+    ensures { IfSome result (λ pair. index_of K.eq map.now.entries pair.0.now ≡ Some index) }
+{
+    stored_pairs_are_found::<K, V>();
+    map.get_index(index)
+}
+
+/// Creates the map of these pairs. A lookup finds the last value of its key.
+pub fn last_values(pairs: Vec<(u32, u32)>) -> VecMap<u32, u32>
+    ensures { (key : ℕ) → lookup nat_eq result.entries key
+        ≡ lookup nat_eq (reverse pairs.items) key }
+{
+    bulk_insertions_are_single_ones::<u32, u32>();
+    VecMap::from(pairs)
+}
+
+/// Appends a map to another. A lookup finds the last value that the appended map has, or else the old one.
+pub fn append_all<K: Eq + Drop, V: Drop>(
+    map: &mut VecMap<K, V>,
+    other: &mut VecMap<K, V>,
+) -> Result<(), AllocError>
+    ensures lookups { OnOk result ((key : K) → lookup K.eq map.new.entries key
+        ≡ option_or (lookup K.eq (reverse other.old.entries) key)
+        (lookup K.eq map.old.entries key)) }
+    ensures places { OnOk result ((key : K) (i : ℕ) → index_of K.eq map.old.entries key ≡ Some i
+        → index_of K.eq map.new.entries key ≡ Some i) }
+{
+    bulk_insertions_are_single_ones::<K, V>();
+    map.append(other)?;
+    Ok(())
+}
+
+/// Removes the second pair. A lookup finds what the first pair has, or else what the pairs from the third on have.
+pub fn without_second(map: &mut VecMap<u32, u32>)
+    requires within { 2 ≤ length map.old.entries }
+    ensures { (key : ℕ) → lookup nat_eq map.new.entries key
+        ≡ option_or (lookup nat_eq (take 1 map.old.entries) key)
+        (lookup nat_eq (drop 2 map.old.entries) key) }
+{
+    first_parts_are_found_first::<u32, u32>();
+    map.drain(1..2);
+}
+
+/// Adds one to each value; the greatest value stays. A lookup finds one more than it found before.
+pub fn one_more(map: &mut VecMap<u32, u32>)
+    ensures { (key : ℕ) → lookup nat_eq map.new.entries key
+        ≡ option_map (λ value. min (value + 1) (2 ^ 32 - 1)) (lookup nat_eq map.old.entries key) }
+{
+    functions_of_values_are_found::<u32, u32, u32>();
+    raise_all(map);
+}
+
+/// Stores a value under a key by an entry, unless the key is present.
+pub fn keep_or_store(map: &mut VecMap<u32, u32>, key: u32, value: u32) -> Result<(), AllocError>
+    ensures { OnOk result (map.new.entries
+        ≡ option_map_or (λ i. map.old.entries) (index_of nat_eq map.old.entries key)
+        (map.old.entries ++ (key, value) ∷ [])) }
+{
+    entries_insert_alike::<u32, u32>();
+    map.entry(key).or_insert(value)?;
+    Ok(())
+}

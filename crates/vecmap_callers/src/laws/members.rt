@@ -1,0 +1,94 @@
+//! Callers of laws about which elements a set has, and at which indices.
+ghost use Rattle.std.specs.List.{IsDistinct};
+ghost use Rattle.std.specs.Prelude.{◌&&◌, ◌||◌, ◌≡◌, ◌<◌, ℕ, IfOk, OnOk, Some, false, filter, length, nat_eq, nat_lt, slice_get, true};
+ghost use Rattle.vecmap.specs.Items.{has_item, item_index};
+
+use std::alloc::AllocError;
+use vecmap::set::laws::{
+    added_elements_are_present, bulk_additions_are_single_ones, bulk_additions_move_nothing,
+    clones_have_the_same_members, operators_combine_members, removals_are_forgotten,
+    retain_filters,
+};
+use vecmap::{Refused, VecSet};
+
+/// Adds an element. It is then present, and so is what was present before.
+pub fn include<T: Eq + Drop>(set: &mut VecSet<T>, item: T) -> Result<(), Refused<T>>
+    ensures added { OnOk result (has_item T.eq set.new.elements item ≡ true) }
+    ensures kept { OnOk result ((other : T) → has_item T.eq set.old.elements other ≡ true
+        → has_item T.eq set.new.elements other ≡ true) }
+{
+    added_elements_are_present::<T>();
+    set.insert(item)?;
+    Ok(())
+}
+
+/// Moves the elements of one set into another, which then has those of both.
+pub fn unite_into<T: Eq + Drop>(
+    set: &mut VecSet<T>,
+    other: &mut VecSet<T>,
+) -> Result<(), AllocError>
+    ensures { OnOk result ((x : T) → has_item T.eq set.new.elements x
+        ≡ (has_item T.eq set.old.elements x || has_item T.eq other.old.elements x)) }
+{
+    added_elements_are_present::<T>();
+    set.append(other)
+}
+
+/// Moves the elements of one set into another. Elements of the other keep their indices.
+pub fn append_behind<T: Eq + Drop>(
+    set: &mut VecSet<T>,
+    other: &mut VecSet<T>,
+) -> Result<(), AllocError>
+    ensures element { OnOk result ((i : ℕ) → i < length set.old.elements
+        → slice_get set.new.elements i ≡ slice_get set.old.elements i) }
+    ensures place { OnOk result ((x : T) (i : ℕ) → item_index T.eq set.old.elements x ≡ Some i
+        → item_index T.eq set.new.elements x ≡ Some i) }
+{
+    bulk_additions_move_nothing::<T>();
+    set.append(other)
+}
+
+/// Removes an element, which is then absent.
+pub fn exclude<T: Eq + Drop>(set: &mut VecSet<T>, item: &T)
+    ensures { has_item T.eq set.new.elements item.now ≡ false }
+{
+    removals_are_forgotten::<T>();
+    set.as_slice();
+    set.remove(item);
+}
+
+/// Returns what two sets share. It has an element if both sets have it.
+pub fn shared(a: &VecSet<u32>, b: &VecSet<u32>) -> Result<VecSet<u32>, AllocError>
+    ensures { IfOk result (λ set. (x : ℕ) → has_item nat_eq set.elements x
+        ≡ (has_item nat_eq a.now.elements x && has_item nat_eq b.now.elements x)) }
+{
+    operators_combine_members::<u32>();
+    clones_have_the_same_members::<u32>();
+    a & b
+}
+
+/// Returns a copy of a set with the same elements.
+pub fn copy_of_set(set: &VecSet<u32>) -> Result<VecSet<u32>, AllocError>
+    ensures { IfOk result (λ copy. copy.elements ≡ set.now.elements) }
+{
+    clones_have_the_same_members::<u32>();
+    set.clone()
+}
+
+/// Creates a set of elements that do not repeat. It has their list.
+pub fn set_of_distinct(items: Vec<u32>) -> VecSet<u32>
+    requires { IsDistinct nat_eq items.items }
+    ensures { result.elements ≡ items.items }
+{
+    bulk_additions_are_single_ones::<u32>();
+    VecSet::from(items)
+}
+
+/// Keeps the elements below a limit.
+pub fn keep_items_below(set: &mut VecSet<u32>, limit: u32)
+    ensures { set.new.elements ≡ filter (λ x. nat_lt x limit) set.old.elements }
+{
+    let is_below = |item: &u32| *item < limit;
+    retain_filters(&is_below);
+    set.retain(is_below);
+}
