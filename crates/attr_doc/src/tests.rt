@@ -2,6 +2,7 @@
 mod checks;
 mod examples;
 mod names;
+mod room;
 
 use crate::{Document, Name};
 use checks::{assert_gives, assert_is, assert_prints, assert_text, granted};
