@@ -1,6 +1,7 @@
 //! Tests of whole documents, which are compared as they are printed.
 mod checks;
 mod names;
+mod room;
 
 use crate::{Document, Name};
 use checks::{assert_gives, assert_is, assert_prints, assert_text, granted};

@@ -1,5 +1,9 @@
 //! The capacity of a map.
-use crate::checks::{assert_granted, assert_is, assert_list, assert_refused, granted};
+use crate::checks::{
+    assert_gives, assert_granted, assert_is, assert_list, assert_refused, granted,
+};
+use std::alloc::Global;
+use std::process::Abort;
 use vecmap::VecMap;
 
 #[test]
@@ -34,4 +38,26 @@ fn shrinking_goes_no_lower_than_its_limit(rt: HostRuntime) {
     map.clear();
     map.shrink_to_fit();
     assert_is(&rt, map.capacity(), 0);
+}
+
+// Inserts new pairs into an empty map, and pushes as many into a vector, with one call of `reserve` before each if
+// `reserves`. The capacities are the same after each.
+fn assert_grows_like_a_vector(rt: &impl Abort, alloc: Global, reserves: bool) {
+    let mut map = VecMap::new(alloc);
+    let mut pairs = Vec::new(alloc);
+    for number in 0..100_u32 {
+        if reserves {
+            granted(rt, map.reserve(1));
+            granted(rt, pairs.reserve(1));
+        }
+        assert_gives(rt, map.insert(number, number), None);
+        granted(rt, pairs.push((number, number)));
+        assert_is(rt, map.capacity(), pairs.capacity());
+    }
+}
+
+#[test]
+fn the_capacity_grows_like_that_of_a_vector(rt: HostRuntime) {
+    assert_grows_like_a_vector(&rt, rt.alloc(), false);
+    assert_grows_like_a_vector(&rt, rt.alloc(), true);
 }

@@ -1,5 +1,9 @@
-//! The capacity of a set.
-use crate::checks::{assert_granted, assert_is, assert_list, assert_refused, check, granted};
+//! The length and the capacity of a set.
+use crate::checks::{
+    assert_gives, assert_granted, assert_is, assert_list, assert_refused, check, granted,
+};
+use std::alloc::Global;
+use std::process::Abort;
 use vecmap::VecSet;
 use vecmap_fixtures::set_of;
 
@@ -43,4 +47,26 @@ fn shrinking_stops_at_its_limit(rt: HostRuntime) {
     set.clear();
     set.shrink_to_fit();
     assert_is(&rt, set.capacity(), 0);
+}
+
+// Inserts new elements into an empty set, and pushes as many into a vector, with one call of `reserve` before each if
+// `reserves`. The capacities are the same after each.
+fn assert_grows_like_a_vector(rt: &impl Abort, alloc: Global, reserves: bool) {
+    let mut set = VecSet::new(alloc);
+    let mut items = Vec::new(alloc);
+    for number in 0..100_u32 {
+        if reserves {
+            granted(rt, set.reserve(1));
+            granted(rt, items.reserve(1));
+        }
+        assert_gives(rt, set.insert(number), true);
+        granted(rt, items.push(number));
+        assert_is(rt, set.capacity(), items.capacity());
+    }
+}
+
+#[test]
+fn the_capacity_grows_like_that_of_a_vector(rt: HostRuntime) {
+    assert_grows_like_a_vector(&rt, rt.alloc(), false);
+    assert_grows_like_a_vector(&rt, rt.alloc(), true);
 }
