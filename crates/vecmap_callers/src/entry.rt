@@ -169,7 +169,7 @@ pub fn put_entry<K: Eq + Clone>(
     Ok((index, entry.into_key()))
 }
 
-/// A quotient that is neither stored nor made: the divisor is 0, or memory ran out.
+/// No quotient was inserted: the divisor is 0, or memory ran out.
 #[derive(Debug, Drop)]
 pub struct NoQuotient;
 
@@ -179,18 +179,15 @@ impl From<Refused<(u64, u64)>> for NoQuotient {
     }
 }
 
-/// Returns the value of a number. A number that is absent is first inserted with its quotient by a divisor.
-pub fn quotient_of(map: &mut VecMap<u64, u64>, number: u64, divisor: u64) -> Result<u64, NoQuotient>
-    ensures value { IfOk result (λ quotient. quotient
-        ≡ unwrap_or (lookup nat_eq map.old.entries number) (number / divisor)) }
+/// Inserts a number with its quotient by a divisor, if the number is absent.
+pub fn put_quotient(map: &mut VecMap<u64, u64>, number: u64, divisor: u64) -> Result<(), NoQuotient>
     ensures entries { OnOk result (map.new.entries
         ≡ put nat_eq map.old.entries number
         (unwrap_or (lookup nat_eq map.old.entries number) (number / divisor))) }
     ensures err { OnErr result (map.new ≡ map.old) }
     ensures absent { OnErr result (index_of nat_eq map.old.entries number ≡ None) }
 {
-    let quotient = map
-        .entry(number)
+    map.entry(number)
         .or_try_insert_with(|| number.checked_div(divisor).ok_or(NoQuotient))?;
-    Ok(*quotient)
+    Ok(())
 }
