@@ -1,9 +1,12 @@
 //! Callers of the iterators that lend keys or values by `&mut`. Afterwards they know the length and the capacity of the
 //! map, without a proof by hand.
-ghost use Rattle.std.specs.Prelude.{◌≡◌, ◌+◌, ◌<◌, count_by, length, nat_lt};
+ghost use Rattle.std.specs.Map.{values_of};
+ghost use Rattle.std.specs.Prelude.{◌≡◌, ◌+◌, ◌<◌, ◌∷◌, ℕ, List, [], count_by, length, nat_lt, option_map};
+ghost use Rattle.vecmap.specs.Walks.{Pulls, back, deref_mut, front};
 
 use vecmap::VecMap;
-use vecmap::map::MutableKeys;
+use vecmap::map::laws::mutable_iterators_pull_as_lists;
+use vecmap::map::{MutableKeys, ValuesMut};
 
 /// Writes a value at each key, by a loop over the map.
 pub fn write_all<K, V: Copy>(map: &mut VecMap<K, V>, value: V)
@@ -133,4 +136,26 @@ impl Rounds {
         }
         self.count += 1;
     }
+}
+
+// The value behind a mutable reference, if there is one.
+fn read(value: Option<&mut u8>) -> Option<u8>
+    ensures { result ≡ option_map deref_mut value.entry }
+{
+    match value {
+        Some(value) => Some(*value),
+        None => None,
+    }
+}
+
+/// Returns the first value, and the last of the others, by one call of `next` and one of `next_back`.
+pub fn both_ends(map: &mut VecMap<u32, u8>) -> (Option<u8>, Option<u8>)
+    ensures { (rest : List ℕ) × Pulls (values_of map.old.entries)
+        (front ∷ back ∷ []) (result.0 ∷ result.1 ∷ []) rest }
+{
+    mutable_iterators_pull_as_lists::<ValuesMut<'_, u32, u8>, &mut u8, u8>();
+    let mut values = map.values_mut();
+    let first = read(values.next());
+    let last = read(values.next_back());
+    (first, last)
 }
