@@ -26,8 +26,8 @@ make_below-returns-in-Some-clause-other_names t c =
 pub make_below-returns-in-Some-clause-present : goal.make_below-returns-in-Some-clause-present
 make_below-returns-in-Some-clause-present t c =
     λ there.
-        let present = c.make_path.ensures.present (subst (λ o. IsSome (option_and_then (at_path (map (λ name. name.now) c.args.path.now)) o)) (sym c.in-Some.ensures.value) there) in
-        (present.0, written_back (has_text c.args.name.now) c.args.members.now c.make_path.new.tree (sym c.in-Some.ensures.value ∙ ap Some (sym present.1)))
+    let present = c.make_path.ensures.present (subst (λ o. IsSome (option_and_then (at_path (map (λ name. name.now) c.args.path.now)) o)) (sym c.in-Some.ensures.value) there) in
+    (present.0, written_back (has_text c.args.name.now) c.args.members.now c.make_path.new.tree (sym c.in-Some.ensures.value ∙ ap Some (sym present.1)))
 
 pub make_below-returns-in-Some-clause-refused : goal.make_below-returns-in-Some-clause-refused
 make_below-returns-in-Some-clause-refused t c =
