@@ -21,6 +21,7 @@ pub mod operators;
 pub mod options;
 pub mod order;
 pub mod places;
+pub mod recursive;
 pub mod registry;
 pub mod removal;
 pub mod scopes;

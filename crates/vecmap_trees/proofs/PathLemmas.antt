@@ -14,7 +14,7 @@ use Rattle.vecmap_trees.specs.declared.Json.TheOpen.{Json-F, Object}
 use Rattle.vecmap_trees.specs.declared.Json.TheViews.{out-roll-Json, roll-out-Json}
 
 -- A value that is found has an index.
-index_from_value : {K V : Type 0} (l : List (K × V)) (found : Option ℕ) (v : V) → option_and_then (value_at l) found ≡ Some v → IsSome found
+pub index_from_value : {K V : Type 0} (l : List (K × V)) (found : Option ℕ) (v : V) → option_and_then (value_at l) found ≡ Some v → IsSome found
 index_from_value l None v e = absurd (let f : None ≡ Some v = e in cc)
 index_from_value l (Some i) v e = refl
 

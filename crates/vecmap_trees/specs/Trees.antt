@@ -1,9 +1,9 @@
 -- What contracts say of a tree of values. A name is the list of its bytes, and a path is a list of names.
-use Rattle.std.specs.Prelude.{◌≡◌, ℕ, ◌+◌, ◌⊎◌, false, bytes_eq, List, [], ◌∷◌, Option, Some, String, map, string_bytes}
+use Rattle.std.specs.Prelude.{◌≡◌, ℕ, ◌+◌, ◌⊎◌, Bool, true, false, cond, bytes_eq, List, [], ◌∷◌, None, Option, Some, String, map, string_bytes, string_eq}
 use Rattle.std.specs.Option.{option_and_then, option_map_or}
 use Rattle.std.specs.declared.alloc.Global.{Global}
 use Rattle.vecmap.specs.Contents.{Contents, with_entries, with_value_by}
-use Rattle.vecmap.specs.Pairs.{has_text, lookup_by, without_by}
+use Rattle.vecmap.specs.Pairs.{HasDistinctKeys, has_text, lookup_by, without_by}
 use Rattle.vecmap_trees.specs.declared.Json.{Json, out-Json, roll-Json}
 use Rattle.vecmap_trees.specs.declared.Json.TheOpen.{Json-F, Array, Object, Text}
 use Rattle.vecmap_trees.specs.declared.Json.TheFolds.{fold-Json}
@@ -71,6 +71,44 @@ abbrev pub ArePartedPaths : List (List ℕ) → List (List ℕ) → Type 0
 ArePartedPaths [] path = ⊥
 ArePartedPaths (name ∷ names) [] = ⊥
 ArePartedPaths (name ∷ names) (other ∷ others) = (bytes_eq name other ≡ false) ⊎ ((name ≡ other) × ArePartedPaths names others)
+
+abbrev pub leaf_of_layer : Json → Json-F Json → Option Json
+leaf_of_layer j (Object m) = None
+leaf_of_layer j _ = Some j
+
+-- The value, if it is no object.
+abbrev pub leaf_of : Json → Option Json
+leaf_of j = leaf_of_layer j (out-Json j)
+
+-- The value at a path, if there is one and it is no object.
+abbrev pub leaf_at : List (List ℕ) → Json → Option Json
+leaf_at [] j = leaf_of j
+leaf_at (name ∷ names) j = option_and_then (leaf_at names) (member name j)
+
+abbrev pub is_object_layer : Json-F Json → Bool
+is_object_layer (Object m) = true
+is_object_layer _ = false
+
+-- What stands at a path below a name in a merge of two objects, by the members of this name in the other object and in
+-- this one. `merged` says what stands there if both have one.
+abbrev pub merged_below : (Json → Json → Option Json) → List (List ℕ) → Option Json → Option Json → Option Json
+merged_below merged names None ours = option_and_then (leaf_at names) ours
+merged_below merged names (Some w) None = leaf_at names w
+merged_below merged names (Some w) (Some v) = merged v w
+
+-- What stands at a path in a merge of `other` into `old`, if it is no object. Two objects are merged member by member,
+-- and in any other case `other` replaces `old`.
+abbrev pub merged_leaf : List (List ℕ) → Json → Json → Option Json
+merged_leaf [] old other = leaf_of other
+merged_leaf (name ∷ names) old other = cond (is_object_layer (out-Json other)) (merged_below (merged_leaf names) names (member name other) (member name old)) None
+
+-- No object in the tree has two members of one name.
+abbrev pub HasDistinctNames : Json → Type 0
+HasDistinctNames j = (path : List (List ℕ)) (w : Json) → at_path path j ≡ Some w → HasDistinctKeys string_eq (members w)
+
+-- The same of members and of all that they hold.
+abbrev pub AreDistinctMembers : List (String Global × Json) → Type 0
+AreDistinctMembers l = HasDistinctKeys string_eq l × ((name : List ℕ) (w : Json) → lookup_by (has_text name) l ≡ Some w → HasDistinctNames w)
 
 -- The sum of a list.
 abbrev pub sum_of : List ℕ → ℕ

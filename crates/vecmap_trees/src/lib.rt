@@ -13,6 +13,8 @@ pub mod laws;
 mod merging;
 mod reading;
 mod removal;
+#[cfg(test)]
+mod tests;
 mod text;
 mod writing;
 

@@ -1,11 +1,13 @@
 //! Merges of trees.
-ghost use Rattle.std.specs.Prelude.{◌≡◌, OnErr, OnOk, string_eq};
-ghost use Rattle.vecmap.specs.Pairs.{puts};
-ghost use Rattle.vecmap_trees.specs.Trees.{IsObject, members};
+ghost use Rattle.std.specs.Prelude.{◌≡◌, ℕ, List, None, OnErr, OnOk, Some, bytes_eq, false, string_bytes, string_eq};
+ghost use Rattle.std.specs.Option.{option_and_then};
+ghost use Rattle.vecmap.specs.Pairs.{has_text, lookup_by, puts};
+ghost use Rattle.vecmap_trees.specs.Trees.{AreDistinctMembers, HasDistinctNames, IsObject, leaf_at, member, members, merged_below, merged_leaf};
 
 use crate::Json;
 use std::alloc::AllocError;
 use vecmap::VecMap;
+use vecmap::map::laws::{texts_find_as_strings, writes_by_texts_are_insertions};
 
 impl Json {
     /// Moves the members of another object into this one. If both have a member of a name, it keeps its place, and gets
@@ -46,5 +48,111 @@ impl Json {
             mine.append(&mut theirs)?;
         }
         Ok(())
+    }
+
+    /// Merges another value into this one, at every depth.
+    ///
+    /// Two objects are merged member by member: if both have a member of a name, these two are merged in the same way,
+    /// and any other member of the other object is appended. In any other case the other value replaces this one.
+    ///
+    /// # Errors
+    ///
+    /// [`AllocError`] if memory runs out. The members before the refused one are then merged. Members whose names the
+    /// other object does not have are as before.
+    ///
+    /// # Complexity
+    ///
+    /// At most one comparison for each member of the other tree and each member of the object that it is merged into.
+    ///
+    /// # Examples
+    ///
+    /// ```
+    /// # let mut page = Json::object(alloc);
+    /// # page.set_at(alloc, &["font", "size"], Json::Number(12))?;
+    /// # page.set_at(alloc, &["title"], Json::text(alloc, "Map")?)?;
+    /// # let mut other = Json::object(alloc);
+    /// # other.set_at(alloc, &["font", "bold"], Json::Bool(true))?;
+    /// page.merge_deep(other)?;
+    /// format!(in alloc; "{page}")?.as_str() // r#"{"font":{"size":12,"bold":true},"title":"Map"}"#
+    /// ```
+    pub fn merge_deep(&mut self, other: Json) -> Result<(), AllocError>
+        ensures merged { OnOk result (HasDistinctNames other → (path : List (List ℕ))
+            → leaf_at path self.new ≡ merged_leaf path self.old other) }
+        ensures kept { IsObject self.old → IsObject other → (name : List ℕ) → member name other ≡ None
+            → member name self.new ≡ member name self.old }
+    {
+        merge_into(other, self)
+    }
+}
+
+// Merges a value into another one, at every depth. What goes down, the value, is the first parameter of each function
+// of this cycle: by it the recursion ends.
+#[cycle(merge_into)]
+fn merge_into(other: Json, tree: &mut Json) -> Result<(), AllocError>
+    ensures merged { OnOk result (HasDistinctNames other → (path : List (List ℕ))
+        → leaf_at path tree.new ≡ merged_leaf path tree.old other) }
+    ensures kept { IsObject tree.old → IsObject other → (name : List ℕ) → member name other ≡ None
+        → member name tree.new ≡ member name tree.old }
+{
+    match other {
+        Json::Object(theirs) => match tree {
+            Json::Object(mine) => merge_members(theirs, mine),
+            _ => {
+                *tree = Json::Object(theirs);
+                Ok(())
+            },
+        },
+        leaf => {
+            *tree = leaf;
+            Ok(())
+        },
+    }
+}
+
+// Merges members into those of an object.
+#[cycle(merge_into)]
+fn merge_members(
+    theirs: VecMap<String, Json>,
+    mine: &mut VecMap<String, Json>,
+) -> Result<(), AllocError>
+    ensures merged { OnOk result (AreDistinctMembers theirs.entries → (name : List ℕ)
+        (names : List (List ℕ))
+        → option_and_then (leaf_at names) (lookup_by (has_text name) mine.new.entries)
+        ≡ merged_below (merged_leaf names) names (lookup_by (has_text name) theirs.entries)
+        (lookup_by (has_text name) mine.old.entries)) }
+    ensures kept { (name : List ℕ) → lookup_by (has_text name) theirs.entries ≡ None
+        → lookup_by (has_text name) mine.new.entries
+        ≡ lookup_by (has_text name) mine.old.entries }
+{
+    for (name, value) in theirs {
+        merge_member(value, name, mine)?;
+    }
+    Ok(())
+}
+
+// Merges a value into the member of a name, or appends it.
+#[cycle(merge_into)]
+fn merge_member(
+    value: Json,
+    name: String,
+    mine: &mut VecMap<String, Json>,
+) -> Result<(), AllocError>
+    ensures merged { OnOk result (HasDistinctNames value → (names : List (List ℕ))
+        → option_and_then (leaf_at names)
+        (lookup_by (has_text (string_bytes name)) mine.new.entries)
+        ≡ merged_below (merged_leaf names) names (Some value)
+        (lookup_by (has_text (string_bytes name)) mine.old.entries)) }
+    ensures other_names { (other : List ℕ) → bytes_eq (string_bytes name) other ≡ false
+        → lookup_by (has_text other) mine.new.entries
+        ≡ lookup_by (has_text other) mine.old.entries }
+{
+    texts_find_as_strings::<Json>();
+    writes_by_texts_are_insertions::<Json>();
+    match mine.get_mut(name.as_str()) {
+        Some(old) => merge_into(value, old),
+        None => {
+            mine.insert(name, value)?;
+            Ok(())
+        },
     }
 }

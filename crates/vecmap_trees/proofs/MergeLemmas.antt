@@ -1,0 +1,123 @@
+-- What stands in a tree after a merge. The idea: as long as no names repeat, a merge of one member after the other
+-- leaves at each name what `merged_below` says, since each name comes once.
+use Rattle.std.specs.Prelude.{◌≡◌, ℕ, Bool, Err, List, [], ◌∷◌, None, Ok, OnOk, Option, Result, Some, String, bytes_eq, cond, false, if◌then◌else◌, refl, string_bytes, string_eq, true}
+use Rattle.std.specs.Option.{option_and_then}
+use Rattle.std.specs.Map.{keys_of}
+use Rattle.std.specs.declared.alloc.Global.{Global}
+use Rattle.std.proofs.Common.{ap, inl, inr, subst, sym, ◌∙◌}
+use Rattle.std.proofs.lemmas.Bool.{cases_Bool}
+use Rattle.std.proofs.lemmas.Map.Keys.{IsDistinct-head, IsDistinct-tail}
+use Rattle.std.proofs.lemmas.Slice.Eq.{bytes_eq-Decides}
+use Rattle.vecmap.specs.Contents.{with_value_by}
+use Rattle.vecmap.specs.Pairs.{has_text, index_by, lookup_by}
+use Rattle.vecmap.proofs.Lookups.{look, lookup_absent}
+use Rattle.vecmap.proofs.Queries.{lookup_by_query, same_text, string_equality, text_respects}
+use Rattle.vecmap.proofs.WriteLemmas.{lookup_written, lookup_written_other_text}
+use Rattle.vecmap_base.proofs.DistinctLemmas.Absent.{none_equal}
+use Rattle.vecmap_trees.specs.Trees.{AreDistinctMembers, HasDistinctNames, IsObject, IsObjectLayer, Members, at_path, is_object_layer, leaf_at, leaf_of_layer, member, members, members_of_layer, merged_below, merged_leaf}
+use Rattle.vecmap_trees.specs.declared.Json.{Json, out-Json}
+use Rattle.vecmap_trees.specs.declared.Json.TheOpen.{Json-F, Object}
+use Rattle.vecmap_trees.proofs.PathLemmas.{index_from_value}
+
+abbrev Pairs : Type 0
+Pairs = List (String Global × Json)
+
+look_text : (name : List ℕ) (k : String Global) (v : Json) (rest : Pairs) (b : Bool) → has_text name k ≡ b → lookup_by (has_text name) ((k, v) ∷ rest) ≡ (if b then Some v else lookup_by (has_text name) rest)
+look_text name k v rest b e = look (λ (x y : String Global). has_text name y) (k, v) rest k b e
+
+module _ (k : String Global) (v : Json) (rest : Pairs) (d : AreDistinctMembers ((k, v) ∷ rest)) where
+  -- The first name does not come again.
+  pub absent_in_rest : lookup_by (has_text (string_bytes k)) rest ≡ None
+  absent_in_rest =
+      lookup_by_query string_eq string_equality (has_text (string_bytes k)) (text_respects (string_bytes k)) rest k (same_text (string_bytes k) k refl)
+      ∙ lookup_absent string_eq rest k (none_equal string_eq k (keys_of rest) (IsDistinct-head string_eq k (keys_of rest) d.0))
+
+  pub distinct_first : HasDistinctNames v
+  distinct_first = d.1 (string_bytes k) v (look_text (string_bytes k) k v rest true (same_text (string_bytes k) k refl))
+
+  pub distinct_rest : AreDistinctMembers rest
+  distinct_rest = (IsDistinct-tail string_eq k (keys_of rest) d.0, below)
+    where
+      below : (name : List ℕ) (w : Json) → lookup_by (has_text name) rest ≡ Some w → HasDistinctNames w
+      below name w e =
+          elim (cases_Bool (has_text name k)) [
+            | inl h ↦
+                let same : string_bytes k ≡ name = (bytes_eq-Decides (string_bytes k) name).0 h in
+                let none : lookup_by (has_text name) rest ≡ None = subst (λ n. lookup_by (has_text n) rest ≡ None) same absent_in_rest in
+                absurd (let f : None ≡ Some w = sym none ∙ e in cc)
+            | inr h ↦ d.1 name w (look_text name k v rest false h ∙ e)
+          ]
+
+  -- One member more is merged.
+  pub one_merged : (mine new : Pairs)
+      → ((names : List (List ℕ)) → option_and_then (leaf_at names) (lookup_by (has_text (string_bytes k)) new) ≡ merged_below (merged_leaf names) names (Some v) (lookup_by (has_text (string_bytes k)) mine))
+      → ((other : List ℕ) → bytes_eq (string_bytes k) other ≡ false → lookup_by (has_text other) new ≡ lookup_by (has_text other) mine)
+      → (name : List ℕ) (names : List (List ℕ)) → merged_below (merged_leaf names) names (lookup_by (has_text name) rest) (lookup_by (has_text name) new) ≡ merged_below (merged_leaf names) names (lookup_by (has_text name) ((k, v) ∷ rest)) (lookup_by (has_text name) mine)
+  one_merged mine new here others name names =
+      elim (cases_Bool (has_text name k)) [
+        | inl h ↦
+            let same : string_bytes k ≡ name = (bytes_eq-Decides (string_bytes k) name).0 h in
+            subst (λ n. merged_below (merged_leaf names) names (lookup_by (has_text n) rest) (lookup_by (has_text n) new) ≡ merged_below (merged_leaf names) names (lookup_by (has_text n) ((k, v) ∷ rest)) (lookup_by (has_text n) mine)) same
+            (ap (λ o. merged_below (merged_leaf names) names o (lookup_by (has_text (string_bytes k)) new)) absent_in_rest ∙ here names
+            ∙ ap (λ o. merged_below (merged_leaf names) names o (lookup_by (has_text (string_bytes k)) mine)) (sym (look_text (string_bytes k) k v rest true (same_text (string_bytes k) k refl))))
+        | inr h ↦
+            ap (merged_below (merged_leaf names) names (lookup_by (has_text name) rest)) (others name h)
+            ∙ ap (λ o. merged_below (merged_leaf names) names o (lookup_by (has_text name) mine)) (sym (look_text name k v rest false h))
+      ]
+
+-- A name that none of the members has is not that of the first, and none of the others has it.
+pub absent_below : (k : String Global) (v : Json) (rest : Pairs) (name : List ℕ) → lookup_by (has_text name) ((k, v) ∷ rest) ≡ None → (bytes_eq (string_bytes k) name ≡ false) × (lookup_by (has_text name) rest ≡ None)
+absent_below k v rest name e =
+    elim (cases_Bool (has_text name k)) [
+      | inl h ↦ absurd (let f : Some v ≡ None = sym (look_text name k v rest true h) ∙ e in cc)
+      | inr h ↦ (h, sym (look_text name k v rest false h) ∙ e)
+    ]
+
+pub distinct_members : (j : Json) (l : Pairs) → members j ≡ l → HasDistinctNames j → AreDistinctMembers l
+distinct_members j l e d = subst AreDistinctMembers e (d [] j refl, λ name w found path x at. d (name ∷ path) x (ap (option_and_then (at_path path)) found ∙ at))
+
+-- What holds where a call succeeds, and what follows from it.
+pub weaker : {A E P Q : Type 0} (outcome : Result A E) → (P → Q) → OnOk outcome P → OnOk outcome Q
+weaker (Ok a) f h = f h
+weaker (Err e) f h = tt
+
+-- Two objects that were merged member by member.
+pub merged_at : (path : List (List ℕ)) (t old other : Json) (m n : Members) (mine : Pairs)
+    → ((name : List ℕ) (names : List (List ℕ)) → option_and_then (leaf_at names) (lookup_by (has_text name) m.entries) ≡ merged_below (merged_leaf names) names (lookup_by (has_text name) n.entries) (lookup_by (has_text name) mine))
+    → members old ≡ mine → out-Json t ≡ Object m → out-Json other ≡ Object n → leaf_at path t ≡ merged_leaf path old other
+merged_at [] t old other m n mine below g e f = ap (leaf_of_layer t) e ∙ sym (ap (leaf_of_layer other) f)
+merged_at (name ∷ names) t old other m n mine below g e f =
+    ap (λ z. option_and_then (leaf_at names) (lookup_by (has_text name) (members_of_layer z))) e ∙ below name names
+    ∙ ap (λ l. merged_below (merged_leaf names) names (lookup_by (has_text name) n.entries) (lookup_by (has_text name) l)) (sym g)
+    ∙ sym (ap (λ z. cond (is_object_layer z) (merged_below (merged_leaf names) names (lookup_by (has_text name) (members_of_layer z)) (member name old)) None) f)
+
+-- A name that the other object does not have finds what it found before.
+pub kept_at : (t old other : Json) (new mine theirs : Pairs) → ((name : List ℕ) → lookup_by (has_text name) theirs ≡ None → lookup_by (has_text name) new ≡ lookup_by (has_text name) mine)
+    → members old ≡ mine → members t ≡ new → members other ≡ theirs → (name : List ℕ) → member name other ≡ None → member name t ≡ member name old
+kept_at t old other new mine theirs kept g e f name none =
+    ap (lookup_by (has_text name)) e ∙ kept name (ap (lookup_by (has_text name)) (sym f) ∙ none) ∙ ap (lookup_by (has_text name)) (sym g)
+
+-- The member of a text, after its value was merged.
+pub member_merged : (m : Members) (text name : List ℕ) → text ≡ name → (old new value : Json) → Some old ≡ lookup_by (has_text text) m.entries → (names : List (List ℕ)) → leaf_at names new ≡ merged_leaf names old value
+    → option_and_then (leaf_at names) (lookup_by (has_text name) (with_value_by (has_text text) m new).entries) ≡ merged_below (merged_leaf names) names (Some value) (lookup_by (has_text name) m.entries)
+member_merged m text name same old new value at names h =
+    subst (λ n. option_and_then (leaf_at names) (lookup_by (has_text n) (with_value_by (has_text text) m new).entries) ≡ merged_below (merged_leaf names) names (Some value) (lookup_by (has_text n) m.entries)) same
+    (ap (option_and_then (leaf_at names)) (lookup_written string_eq string_equality (has_text text) (text_respects text) m new (index_from_value m.entries (index_by (has_text text) m.entries) old (sym at)))
+    ∙ h ∙ ap (merged_below (merged_leaf names) names (Some value)) at)
+
+pub other_member_kept : (m : Members) (text name other : List ℕ) → text ≡ name → (new : Json) → bytes_eq name other ≡ false → lookup_by (has_text other) (with_value_by (has_text text) m new).entries ≡ lookup_by (has_text other) m.entries
+other_member_kept m text name other same new apart = lookup_written_other_text m text other new (subst (λ n. bytes_eq n other ≡ false) (sym same) apart)
+
+-- A value that replaced another one, since they are not both objects.
+pub replaced_at : (path : List (List ℕ)) (old other : Json) → (IsObject old → IsObject other → ⊥) → leaf_at path other ≡ merged_leaf path old other
+replaced_at [] old other apart = refl
+replaced_at (name ∷ names) old other apart = at (out-Json old) (out-Json other) apart
+  where
+    none : (found : Option Json) → option_and_then (leaf_at names) found ≡ merged_below (merged_leaf names) names found None
+    none None = refl
+    none (Some w) = refl
+
+    at : (x y : Json-F Json) → (IsObjectLayer x → IsObjectLayer y → ⊥) → option_and_then (leaf_at names) (lookup_by (has_text name) (members_of_layer y)) ≡ cond (is_object_layer y) (merged_below (merged_leaf names) names (lookup_by (has_text name) (members_of_layer y)) (lookup_by (has_text name) (members_of_layer x))) None
+    at (Object m) (Object n) apart = absurd (apart tt tt)
+    at x (Object n) apart = none (lookup_by (has_text name) n.entries)
+    at x y apart = refl
