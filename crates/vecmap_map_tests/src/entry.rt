@@ -1,11 +1,13 @@
 //! Entries of a map, with keys that are equal and not identical.
 use crate::checks::{
-    assert_gives, assert_is, assert_key, assert_list, assert_pair, assert_pairs, check, granted,
+    assert_gives, assert_granted, assert_is, assert_key, assert_list, assert_pair, assert_pairs,
+    check, granted,
 };
 use std::alloc::{AllocError, Global};
 use std::cell::Cell;
 use std::fmt::Debug;
 use std::process::Abort;
+use vecmap::Refused;
 use vecmap::map::{Entry, OccupiedEntry, VacantEntry, VecMap};
 use vecmap_fixtures::{Item, item_map, make_item};
 
