@@ -1,6 +1,8 @@
 //! Equality of maps.
 use crate::checks::{assert_differ, assert_equal, assert_is, assert_pairs, check, granted};
 use std::alloc::{AllocError, Global};
+use std::process::Abort;
+use std::test::Fail;
 use vecmap::VecMap;
 use vecmap_fixtures::{Log, Told, repeating_map, told_pairs};
 
@@ -120,4 +122,43 @@ fn maps_in_maps_are_compared_once(rt: HostRuntime) {
     let made = log.comparisons();
     check!(rt; one != other);
     assert_is(&rt, log.comparisons().wrapping_sub(made), 2);
+}
+
+// Creates the map of a vector of these numbers.
+fn numbers(alloc: Global, pairs: &[(u32, f64)]) -> Result<VecMap<u32, f64>, AllocError> {
+    Ok(VecMap::from(pairs.to_vec(alloc)?))
+}
+
+// Whether two maps of these numbers are equal.
+fn are_equal_numbers(rt: &impl Abort, alloc: Global, a: &[(u32, f64)], b: &[(u32, f64)]) -> bool {
+    granted(rt, numbers(alloc, a)) == granted(rt, numbers(alloc, b))
+}
+
+#[test]
+fn a_value_that_differs_from_itself_is_in_no_equal_map(rt: HostRuntime) {
+    let alloc = rt.alloc();
+    check!(rt; are_equal_numbers(&rt, alloc, &[(1, 0.5), (2, 1.5)], &[(2, 1.5), (1, 0.5)]));
+    check!(rt; are_equal_numbers(&rt, alloc, &[(1, 0.0)], &[(1, -0.0)]));
+    check!(rt; !are_equal_numbers(&rt, alloc, &[(1, f64::NAN)], &[(1, f64::NAN)]));
+    check!(rt; !are_equal_numbers(&rt, alloc, &[(1, 0.5), (2, f64::NAN)], &[(2, f64::NAN), (1, 0.5)]));
+    check!(rt; !are_equal_numbers(&rt, alloc, &[(1, 0.5), (1, f64::NAN)], &[(1, 0.5), (1, 0.5)]));
+}
+
+#[test]
+fn a_long_map_with_a_value_that_differs_from_itself_equals_none(
+    rt: HostRuntime,
+) -> Result<(), Fail> {
+    let mut pairs = Vec::new(rt.alloc());
+    for key in 0..1026u32 {
+        pairs.push((key, 0.5))?;
+    }
+    let map = VecMap::from(pairs.clone()?);
+    pairs.reverse();
+    let reversed = VecMap::from(pairs.clone()?);
+    check!(rt; map == reversed);
+    pairs.push((2000, f64::NAN))?;
+    let other = VecMap::from(pairs.clone()?);
+    pairs.reverse();
+    check!(rt; other != VecMap::from(pairs));
+    Ok(())
 }

@@ -23,3 +23,5 @@ mod run;
 mod set;
 #[cfg(test)]
 mod telling;
+#[cfg(test)]
+mod trees;

@@ -1,4 +1,7 @@
-//! What stands in the place of a map or a set that a type cannot hold of itself: a vector, with the base's searches.
+//! What stands in the place of what a type that holds itself cannot have. In the place of a map by keys of the type
+//! itself, or of a set of the type itself, it is a vector, with the base's searches.
+use crate::recursive::walks::Value;
+use std::alloc::AllocError;
 use vecmap_base::{find, find_item};
 
 /// A type whose keys are of the type itself: a vector of pairs.
@@ -24,4 +27,13 @@ pub struct Tag {
 /// Returns whether a tag is directly within another.
 pub fn is_directly_within(tag: &Tag, outer: &Tag) -> bool {
     find_item(&tag.within, outer).is_some()
+}
+
+/// Clones a value, and returns the clone if it is equal. The derived `clone` says nothing of its result.
+pub fn equal_clone(value: &Value) -> Result<Option<Value>, AllocError> {
+    let copy = value.clone()?;
+    if copy == *value {
+        return Ok(Some(copy));
+    }
+    Ok(None)
 }

@@ -17,3 +17,4 @@ pub mod set;
 #[cfg(test)]
 mod tests;
 pub mod texts;
+pub mod values;

@@ -1,0 +1,76 @@
+//! Trees: each request for memory is refused once.
+use crate::checks::{assert_granted, assert_is, granted};
+use crate::telling::{make, one_of, tell};
+use std::alloc::{AllocError, Global};
+use std::process::Abort;
+use vecmap_trees::Json;
+
+/// Creates `{"b":{"y":1},"a":2}`.
+fn sample(alloc: Global) -> Result<Json, AllocError> {
+    let mut tree = Json::object(alloc);
+    tree.set_at(alloc, &["b", "y"], Json::Number(1))?;
+    tree.set_at(alloc, &["a"], Json::Number(2))?;
+    Ok(tree)
+}
+
+/// Creates `{"a":3,"b":{"x":4},"c":{"d":5}}`.
+fn other(alloc: Global) -> Result<Json, AllocError> {
+    let mut tree = Json::object(alloc);
+    tree.set_at(alloc, &["a"], Json::Number(3))?;
+    tree.set_at(alloc, &["b", "x"], Json::Number(4))?;
+    tree.set_at(alloc, &["c", "d"], Json::Number(5))?;
+    Ok(tree)
+}
+
+/// Returns the whole tree as text, by one request.
+fn printed(alloc: Global, tree: &Json) -> Result<String, AllocError> {
+    let mut text = String::with_capacity(alloc, 128)?;
+    write!(text, "{tree}")?;
+    Ok(text)
+}
+
+/// Asserts that a tree prints as this text.
+fn assert_printed(rt: &(impl Abort + Print), alloc: Global, tree: &Json, expected: &str) {
+    let text = one_of(rt, printed(alloc, tree), printed(alloc, tree));
+    assert_is(rt, text.as_str(), expected);
+}
+
+#[test]
+fn a_refused_path_leaves_the_tree_and_returns_the_value(rt: HostRuntime) {
+    let alloc = rt.alloc();
+    let mut tree = make!(rt; sample(alloc));
+    if let Err(refused) = tree.set_at(alloc, &["b", "c", "d"], Json::Number(3)) {
+        tell(&rt);
+        assert_printed(&rt, alloc, &tree, r#"{"b":{"y":1},"a":2}"#);
+        assert_granted(&rt, tree.set_at(alloc, &["b", "c", "d"], refused.given));
+    }
+    assert_printed(&rt, alloc, &tree, r#"{"b":{"y":1,"c":{"d":3}},"a":2}"#);
+}
+
+#[test]
+fn a_refused_merge_leaves_the_tree(rt: HostRuntime) {
+    let alloc = rt.alloc();
+    let mut tree = make!(rt; sample(alloc));
+    if let Err(AllocError) = tree.merge(make!(rt; other(alloc))) {
+        tell(&rt);
+        assert_printed(&rt, alloc, &tree, r#"{"b":{"y":1},"a":2}"#);
+        assert_granted(&rt, tree.merge(granted(&rt, other(alloc))));
+    }
+    assert_printed(&rt, alloc, &tree, r#"{"b":{"x":4},"a":3,"c":{"d":5}}"#);
+}
+
+#[test]
+fn a_refused_deep_merge_can_be_repeated(rt: HostRuntime) {
+    let alloc = rt.alloc();
+    let mut tree = make!(rt; sample(alloc));
+    if let Err(AllocError) = tree.merge_deep(make!(rt; other(alloc))) {
+        tell(&rt);
+        assert_granted(&rt, tree.merge_deep(granted(&rt, other(alloc))));
+    }
+    assert_printed(
+        &rt,
+        alloc,
+        &tree,
+        r#"{"b":{"y":1,"x":4},"a":3,"c":{"d":5}}"#,
+    );
+}
