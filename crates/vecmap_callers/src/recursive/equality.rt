@@ -1,6 +1,6 @@
 //! `==` of types that hold maps of themselves, and of maps whose values may differ from themselves.
+ghost use Rattle.std.specs.Float.Ieee.{eq};
 ghost use Rattle.std.specs.Prelude.{◌≡◌, nat_eq};
-ghost use Rattle.std.specs.Float.Cmp.{eq};
 ghost use Rattle.vecmap.specs.Equality.{has_same_counts};
 
 use crate::recursive::walks::Value;
