@@ -5,3 +5,4 @@ mod of_vecmap;
 mod of_vecmap_base;
 mod of_vecmap_map;
 mod of_vecmap_set;
+mod of_vecmap_trees;

@@ -35,6 +35,7 @@ impl Json {
     /// # page.set_at(alloc, &["title"], Json::text(alloc, "Map")?)?;
     /// # let mut other = Json::object(alloc);
     /// # other.set_at(alloc, &["font", "bold"], Json::Bool(true))?;
+    /// # assert!(*rt; page.is_object());
     /// page.merge(other)?;
     /// format!(in alloc; "{page}")?.as_str() // r#"{"font":{"bold":true},"title":"Map"}"#
     /// ```
