@@ -1,4 +1,4 @@
-//! Conversions of a vector into a map, which keep the vector, and clones of the pairs in a new vector.
+//! Conversions of a vector into a map, which keep the vector, and of an array; clones of the pairs in a new vector.
 ghost use Rattle.std.specs.Prelude.{◌≡◌, ◌≤◌, IfOk, [], vec_capacity};
 ghost use Rattle.std.specs.Map.{keys_of};
 ghost use Rattle.vecmap_base.specs.Pairs.{HasDistinctKeys, puts};

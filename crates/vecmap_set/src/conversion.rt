@@ -1,4 +1,4 @@
-//! Conversions of a vector into a set, which keep the vector, and clones of the elements in a new vector.
+//! Conversions of a vector into a set, which keep the vector, and of an array; clones of the elements in a new vector.
 ghost use Rattle.std.specs.Prelude.{◌≡◌, ◌≤◌, IfOk, [], vec_capacity};
 ghost use Rattle.std.specs.List.{IsDistinct};
 ghost use Rattle.vecmap_base.specs.Clones.{AreClones};
