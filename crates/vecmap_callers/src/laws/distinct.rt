@@ -7,8 +7,8 @@ ghost use Rattle.vecmap.specs.Pairs.{HasDistinctKeys};
 
 use std::alloc::AllocError;
 use vecmap::map::laws::{
-    clones_have_the_same_pairs, clones_keep_keys_distinct, order_keeps_keys_distinct,
-    parts_keep_keys_distinct, removal_keeps_keys_distinct,
+    clones_keep_keys_distinct, order_keeps_keys_distinct, parts_keep_keys_distinct,
+    removal_keeps_keys_distinct,
 };
 use vecmap::set::laws as set_laws;
 use vecmap::{VecMap, VecSet};
@@ -43,16 +43,6 @@ pub fn copy_of_distinct<K: Eq + Clone, V: Clone>(
     ensures { IfOk result (λ copy. HasDistinctKeys K.eq copy.entries) }
 {
     clones_keep_keys_distinct::<K, V>();
-    map.clone()
-}
-
-/// Returns a copy of a map, whose keys and values are the same as their clones. It has the same pairs.
-pub fn copy_of_same<K: Clone, V: Clone>(map: &VecMap<K, V>) -> Result<VecMap<K, V>, AllocError>
-    requires keys { (x y : K) → K.is_clone x y → y ≡ x }
-    requires values { (x y : V) → V.is_clone x y → y ≡ x }
-    ensures { IfOk result (λ copy. copy.entries ≡ map.now.entries) }
-{
-    clones_have_the_same_pairs::<K, V>();
     map.clone()
 }
 
