@@ -1,25 +1,33 @@
 //! Callers of laws that bound lengths and counts of comparisons.
-ghost use Rattle.std.specs.Prelude.{◌≡◌, ◌-◌, ◌≤◌, length};
+ghost use Rattle.std.specs.Prelude.{◌≡◌, ◌-◌, ◌<◌, ◌≤◌, length, nat_eq, take};
+ghost use Rattle.vecmap.specs.Items.{add};
+ghost use Rattle.vecmap.specs.Pairs.{put};
 ghost use Rattle.vecmap.specs.Repeats.{cost};
 
 use vecmap::map::laws::{key_comparisons_are_bounded, pairs_fit_the_capacity};
 use vecmap::set::laws::{comparisons_are_bounded, elements_fit_the_capacity};
 use vecmap::{VecMap, VecSet};
 
-/// Returns how many more pairs a map has room for.
-pub fn spare_pairs(map: &VecMap<u32, u32>) -> usize
-    ensures { result ≡ map.now.capacity - length map.now.entries }
+/// Replaces the last pair. Nothing is refused, since a map has at most as many pairs as its capacity.
+pub fn replace_last(map: &mut VecMap<u32, u32>, key: u32, value: u32)
+    requires { 0 < length map.old.entries }
+    ensures { map.new.entries
+        ≡ put nat_eq (take (length map.old.entries - 1) map.old.entries) key value }
 {
     pairs_fit_the_capacity(map);
-    map.capacity() - map.len()
+    map.pop();
+    map.insert(key, value).unwrap();
 }
 
-/// Returns how many more elements a set has room for.
-pub fn spare_elements(set: &VecSet<u32>) -> usize
-    ensures { result ≡ set.now.capacity - length set.now.elements }
+/// Replaces the last element. Nothing is refused, since a set has at most as many elements as its capacity.
+pub fn replace_last_item(set: &mut VecSet<u32>, item: u32)
+    requires { 0 < length set.old.elements }
+    ensures { set.new.elements
+        ≡ add nat_eq (take (length set.old.elements - 1) set.old.elements) item }
 {
     elements_fit_the_capacity(set);
-    set.capacity() - set.len()
+    set.pop();
+    set.insert(item).unwrap();
 }
 
 /// Creates a map of these pairs, and returns the number of comparisons that this took.

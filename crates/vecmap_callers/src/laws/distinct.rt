@@ -1,13 +1,14 @@
 //! Callers of laws that keep keys, or elements, distinct.
 ghost use Rattle.std.specs.List.{IsDistinct};
 ghost use Rattle.std.specs.Prelude.{◌≡◌, ◌≤◌, IfOk, OnOk, length, nat_eq};
+ghost use Rattle.vecmap.specs.Clones.{ClonesAreSame};
 ghost use Rattle.vecmap.specs.Items.{adds};
 ghost use Rattle.vecmap.specs.Pairs.{HasDistinctKeys};
 
 use std::alloc::AllocError;
 use vecmap::map::laws::{
-    clones_have_the_same_pairs, clones_keep_keys_distinct, order_keeps_keys_distinct,
-    parts_keep_keys_distinct, removal_keeps_keys_distinct,
+    clones_keep_keys_distinct, order_keeps_keys_distinct, parts_keep_keys_distinct,
+    removal_keeps_keys_distinct,
 };
 use vecmap::set::laws as set_laws;
 use vecmap::{VecMap, VecSet};
@@ -33,20 +34,15 @@ pub fn sorted_keys(map: &mut VecMap<u32, u32>)
     map.sort_unstable_keys();
 }
 
-/// Returns a copy of a map. If no keys repeat, none repeat in the copy.
-pub fn copy_of_distinct(map: &VecMap<u32, u32>) -> Result<VecMap<u32, u32>, AllocError>
-    requires { HasDistinctKeys nat_eq map.now.entries }
-    ensures { IfOk result (λ copy. HasDistinctKeys nat_eq copy.entries) }
+/// Returns a copy of a map. If no keys repeat, and each clone equals its original, none repeat in the copy.
+pub fn copy_of_distinct<K: Eq + Clone, V: Clone>(
+    map: &VecMap<K, V>,
+) -> Result<VecMap<K, V>, AllocError>
+    requires distinct { HasDistinctKeys K.eq map.now.entries }
+    requires clones_equal { ClonesAreSame K.eq K.is_clone }
+    ensures { IfOk result (λ copy. HasDistinctKeys K.eq copy.entries) }
 {
-    clones_keep_keys_distinct::<u32, u32>();
-    map.clone()
-}
-
-/// Returns a copy of a map. It has the same pairs.
-pub fn copy_of_numbers(map: &VecMap<u32, u32>) -> Result<VecMap<u32, u32>, AllocError>
-    ensures { IfOk result (λ copy. copy.entries ≡ map.now.entries) }
-{
-    clones_have_the_same_pairs::<u32, u32>();
+    clones_keep_keys_distinct::<K, V>();
     map.clone()
 }
 

@@ -47,12 +47,13 @@ pub fn sorted_set_is_equal(set: &mut VecSet<u32>)
     set.sort_unstable();
 }
 
-/// Returns whether two sets are equal, by two tests of inclusion.
-pub fn are_within_each_other<T: Eq>(a: &VecSet<T>, b: &VecSet<T>) -> bool
-    ensures { IsTrue result ↔ IsTrue (has_same_items T.eq a.now.elements b.now.elements) }
+/// Returns whether each of two sets is a subset of the other. Both are exactly if the sets are equal.
+pub fn subsets<T: Eq>(a: &VecSet<T>, b: &VecSet<T>) -> (bool, bool)
+    ensures { IsTrue (has_same_items T.eq a.now.elements b.now.elements)
+        ↔ (IsTrue result.0 × IsTrue result.1) }
 {
     set_laws::equality_is_inclusion_both_ways::<T>();
-    a.is_subset(b) && b.is_subset(a)
+    (a.is_subset(b), b.is_subset(a))
 }
 
 /// Returns whether a set is a subset, and compares no elements if it is longer.

@@ -1,6 +1,6 @@
 //! Callers of laws about what lookups find.
 ghost use Rattle.std.specs.Option.{option_map_or, option_or};
-ghost use Rattle.std.specs.Prelude.{◌≡◌, ◌+◌, ◌-◌, ◌++◌, ◌≤◌, ◌^◌, ◌∷◌, ℕ, IfSome, OnOk, Some, [], drop, length, min, nat_eq, option_map, reverse, take, true};
+ghost use Rattle.std.specs.Prelude.{◌≡◌, ◌+◌, ◌-◌, ◌++◌, ◌≤◌, ◌^◌, ◌∷◌, ℕ, IfOk, IfSome, OnOk, Some, [], is_some, length, min, nat_eq, option_map, reverse, true};
 ghost use Rattle.vecmap.specs.Pairs.{HasDistinctKeys, index_of, lookup};
 
 use crate::laws::retaining::raise_all;
@@ -11,13 +11,13 @@ use vecmap::map::laws::{
     first_parts_are_found_first, functions_of_values_are_found, stored_pairs_are_found,
 };
 
-/// Returns the index of a key. Each equal key has the same index.
-pub fn index_of_equal_keys<K: Eq, V>(map: &VecMap<K, V>, key: &K) -> Option<usize>
+/// Returns whether a key, or any key that is equal to it, has a value.
+pub fn has_value<K: Eq, V>(map: &VecMap<K, V>, key: &K) -> bool
     ensures { (other : K) → K.eq key.now other ≡ true
-        → index_of K.eq map.now.entries other ≡ result }
+        → is_some (lookup K.eq map.now.entries other) ≡ result }
 {
     equal_keys_find_the_same::<K, V>();
-    map.get_index_of(key)
+    map.contains_key(key)
 }
 
 /// Returns the pair at an index. If no keys repeat, a lookup of its key finds that index.
@@ -54,15 +54,15 @@ pub fn append_all<K: Eq + Drop, V: Drop>(
     Ok(())
 }
 
-/// Removes the second pair. A lookup finds what the first pair has, or else what the pairs from the third on have.
-pub fn without_second(map: &mut VecMap<u32, u32>)
-    requires within { 2 ≤ length map.old.entries }
-    ensures { (key : ℕ) → lookup nat_eq map.new.entries key
-        ≡ option_or (lookup nat_eq (take 1 map.old.entries) key)
-        (lookup nat_eq (drop 2 map.old.entries) key) }
+/// Splits a map in two. A lookup found what the front has, or else what the back has.
+pub fn split<K: Eq, V>(map: &mut VecMap<K, V>, at: usize) -> Result<VecMap<K, V>, AllocError>
+    requires within { at ≤ length map.old.entries }
+    ensures { IfOk result (λ back. (key : K) → lookup K.eq map.old.entries key
+        ≡ option_or (lookup K.eq map.new.entries key) (lookup K.eq back.entries key)) }
 {
-    first_parts_are_found_first::<u32, u32>();
-    map.drain(1..2);
+    first_parts_are_found_first::<K, V>();
+    let back = map.split_off(at)?;
+    Ok(back)
 }
 
 /// Adds one to each value; the greatest value stays. A lookup finds one more than it found before.

@@ -1,6 +1,6 @@
 //! Callers of laws about which elements a set has, and at which indices.
 ghost use Rattle.std.specs.List.{IsDistinct};
-ghost use Rattle.std.specs.Prelude.{◌&&◌, ◌||◌, ◌≡◌, ◌<◌, ℕ, IfOk, OnOk, Some, false, filter, length, nat_eq, nat_lt, slice_get, true};
+ghost use Rattle.std.specs.Prelude.{◌&&◌, ◌||◌, ◌≡◌, ◌<◌, ℕ, Contains, IfOk, IsTrue, OnOk, Some, false, filter, length, nat_eq, nat_lt, slice_get};
 ghost use Rattle.vecmap.specs.Items.{has_item, item_index};
 
 use std::alloc::AllocError;
@@ -11,11 +11,10 @@ use vecmap::set::laws::{
 };
 use vecmap::{Refused, VecSet};
 
-/// Adds an element. It is then present, and so is what was present before.
+/// Adds an element. What was present is then present, and what is equal to the element.
 pub fn include<T: Eq + Drop>(set: &mut VecSet<T>, item: T) -> Result<(), Refused<T>>
-    ensures added { OnOk result (has_item T.eq set.new.elements item ≡ true) }
-    ensures kept { OnOk result ((other : T) → has_item T.eq set.old.elements other ≡ true
-        → has_item T.eq set.new.elements other ≡ true) }
+    ensures { OnOk result ((other : T) → has_item T.eq set.new.elements other
+        ≡ (has_item T.eq set.old.elements other || T.eq item other)) }
 {
     added_elements_are_present::<T>();
     set.insert(item)?;
@@ -67,11 +66,14 @@ pub fn shared(a: &VecSet<u32>, b: &VecSet<u32>) -> Result<VecSet<u32>, AllocErro
     a & b
 }
 
-/// Returns a copy of a set with the same elements.
-pub fn copy_of_set(set: &VecSet<u32>) -> Result<VecSet<u32>, AllocError>
-    ensures { IfOk result (λ copy. copy.elements ≡ set.now.elements) }
+/// Returns a copy of a set. The same elements are present in it.
+pub fn copy_of_set<T: Eq + Clone>(set: &VecSet<T>) -> Result<VecSet<T>, AllocError>
+    requires clones_equal { (x y : T) → Contains set.now.elements x → T.is_clone x y
+        → IsTrue (T.eq x y) }
+    ensures { IfOk result (λ copy. (x : T) → has_item T.eq copy.elements x
+        ≡ has_item T.eq set.now.elements x) }
 {
-    clones_have_the_same_members::<u32>();
+    clones_have_the_same_members::<T>();
     set.clone()
 }
 

@@ -1,6 +1,5 @@
 //! Callers of laws about queries that are not keys or elements.
-ghost use Rattle.std.specs.List.{list_any};
-ghost use Rattle.std.specs.Prelude.{◌≡◌, OnOk, Some, false, true};
+ghost use Rattle.std.specs.Prelude.{◌≡◌, OnOk, Some, false, length, position, true, unwrap_or};
 ghost use Rattle.vecmap.specs.Items.{swap_without_item};
 ghost use Rattle.vecmap.specs.Pairs.{lookup, lookup_by, swap_without_key};
 
@@ -42,17 +41,16 @@ pub fn forget_item<T: Eq + Drop, Q: Equivalent<T>>(set: &mut VecSet<T>, query: Q
     set.swap_remove(query);
 }
 
-/// Adds an element. A query that matches it then finds an element.
+/// Adds an element. A query that matches it then finds the index of an equal element, or the last index.
 pub fn add_for<T: Eq + Drop, Q: Equivalent<T>>(
     set: &mut VecSet<T>,
     item: T,
     query: &Q,
 ) -> Result<(), Refused<T>>
-    ensures found { OnOk result (Q.equivalent query.now item ≡ true
-        → list_any (Q.equivalent query.now) set.new.elements ≡ true) }
-    ensures others { OnOk result (Q.equivalent query.now item ≡ false
-        → list_any (Q.equivalent query.now) set.new.elements
-        ≡ list_any (Q.equivalent query.now) set.old.elements) }
+    ensures { OnOk result (Q.equivalent query.now item ≡ true
+        → position (Q.equivalent query.now) set.new.elements
+        ≡ Some (unwrap_or (position (Q.equivalent query.now) set.old.elements)
+        (length set.old.elements))) }
 {
     queries_find_after_additions::<T, Q>();
     set.insert(item)?;

@@ -1,11 +1,13 @@
 //! Callers of laws about what a closure keeps.
-ghost use Rattle.std.specs.Prelude.{◌≡◌, ◌+◌, ◌-◌, ◌^◌, filter, map, min, nat_eq, nat_lt};
+ghost use Rattle.std.specs.Prelude.{◌≡◌, ◌+◌, ◌-◌, ◌^◌, IfOk, filter, map, min, nat_eq, nat_lt};
 ghost use Rattle.vecmap.specs.Pairs.{HasDistinctKeys, map_values};
 
+use std::alloc::AllocError;
 use vecmap::VecMap;
 use vecmap::map::MutableKeys;
 use vecmap::map::laws::{
-    retain_filters_or_writes, retain2_filters_or_writes, retaining_keeps_keys_distinct,
+    clones_have_the_same_pairs, retain_filters_or_writes, retain2_filters_or_writes,
+    retaining_keeps_keys_distinct,
 };
 
 /// Adds one to each value; the greatest value stays.
@@ -31,6 +33,19 @@ pub fn keep_below(map: &mut VecMap<u32, u32>, limit: u32)
     retaining_keeps_keys_distinct(&is_below);
     retain_filters_or_writes(&is_below);
     map.retain(is_below);
+}
+
+/// Returns a copy of the pairs whose values are below a limit.
+pub fn copy_below(map: &VecMap<u32, u32>, limit: u32) -> Result<VecMap<u32, u32>, AllocError>
+    ensures { IfOk result (λ copy. copy.entries
+        ≡ filter (λ pair. nat_lt pair.1 limit) map.now.entries) }
+{
+    clones_have_the_same_pairs::<u32, u32>();
+    let mut copy = map.clone()?;
+    let is_below = |_key: &u32, value: &mut u32| *value < limit;
+    retain_filters_or_writes(&is_below);
+    copy.retain(is_below);
+    Ok(copy)
 }
 
 /// Adds one to each key; the greatest key stays.
