@@ -118,8 +118,8 @@ module _ {X : Type 0} (same : X → X → Bool) (o : IsPartialEquivalence same) 
 
   pub one_matched_partial : (a b : List X) (i j : ℕ) (x : X) (marks : List Bool) → i < length a → x ≡ get_or a i x → j < length b → get_or marks j true ≡ false → same x (get_or b j x) ≡ true → MatchedPartial a b (drop i a) marks → MatchedPartial a b (drop (i + 1) a) (set marks j true)
   one_matched_partial a b i j x marks within at j_within unmarked like m = (
-      one_matched (lumped same o) (lumped_laws same o) a b i j x marks within at j_within unmarked (lumped_if_same same o x (get_or b j x) like) m.0,
-      m.1 ∙ one_reflexive a i x within at (self_left same o x (get_or b j x) like),
+    one_matched (lumped same o) (lumped_laws same o) a b i j x marks within at j_within unmarked (lumped_if_same same o x (get_or b j x) like) m.0,
+    m.1 ∙ one_reflexive a i x within at (self_left same o x (get_or b j x) like),
   )
 
   pub all_matched_partial : (a b : List X) (i : ℕ) (marks : List Bool) → length a ≤ i → MatchedPartial a b (drop i a) marks → agree same o a a b ≡ true
@@ -137,8 +137,8 @@ module _ {X : Type 0} (same : X → X → Bool) (o : IsPartialEquivalence same) 
 
   pub first_matched_partial : (a b : List X) (j : ℕ) (x : X) (marks : List Bool) → 0 < length a → length a ≡ length b → marks ≡ replicate (length marks) false → x ≡ get_or a 0 x → j < length (drop 1 b) → get_or (drop 1 marks) j true ≡ false → same x (get_or (drop 1 b) j x) ≡ true → MatchedPartial a b (drop 1 a) (set marks (1 + j) true)
   first_matched_partial a b j x marks some as_long none at within unmarked like = (
-      first_matched (lumped same o) (lumped_laws same o) a b j x marks some as_long none at within unmarked (lumped_if_same same o x (get_or (drop 1 b) j x) like),
-      one_reflexive a 0 x some at (self_left same o x (get_or (drop 1 b) j x) like),
+    first_matched (lumped same o) (lumped_laws same o) a b j x marks some as_long none at within unmarked (lumped_if_same same o x (get_or (drop 1 b) j x) like),
+    one_reflexive a 0 x some at (self_left same o x (get_or (drop 1 b) j x) like),
   )
 
   pub first_unmatched_partial : (a b : List X) (x : X) (marks : List Bool) → 0 < length a → length a ≡ length b → marks ≡ replicate (length marks) false → x ≡ get_or a 0 x → same x (get_or b 0 x) ≡ false → list_any (same x) (free (drop 1 b) (drop 1 marks)) ≡ false → agree same o a a b ≡ false

@@ -7,7 +7,11 @@ use crate::lookup::find;
 
 // Returns whether each pair of `a` is matched with a pair of `b` that has an equal key and an equal value. `taken` has
 // no marks yet. The first pairs are known to differ, and are not compared with each other again.
-pub(crate) fn pairs_match<K: Eq, V: PartialEq>(a: &[(K, V)], b: &[(K, V)], taken: &mut [bool]) -> bool
+pub(crate) fn pairs_match<K: Eq, V: PartialEq>(
+    a: &[(K, V)],
+    b: &[(K, V)],
+    taken: &mut [bool],
+) -> bool
     requires as_long { length a.now ≡ length b.now }
     requires enough { length b.now ≤ length taken.old }
     requires unmarked { taken.old ≡ replicate (length taken.old) false }
