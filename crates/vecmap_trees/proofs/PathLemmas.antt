@@ -1,14 +1,14 @@
 -- What stands at a path after a change at a path. The idea: induction on the path, and at each name the laws of a write
 -- of a value in a map.
-use Rattle.std.specs.Prelude.{◌≡◌, ℕ, IsSome, List, [], ◌∷◌, None, Option, Some, String, bytes_eq, false, string_eq, true, refl}
+use Rattle.std.specs.Prelude.{◌≡◌, ℕ, IsSome, List, [], ◌∷◌, None, Option, Some, String, bytes_eq, false, string_eq, refl}
 use Rattle.std.specs.Option.{option_and_then, option_map, option_map_or}
-use Rattle.std.proofs.Common.{ap, sym, subst, ◌∙◌, inl, inr, true≢false}
+use Rattle.std.proofs.Common.{ap, sym, subst, ◌∙◌, inl, inr}
 use Rattle.std.specs.declared.alloc.Global.{Global}
-use Rattle.vecmap.specs.Contents.{Contents, with_value_by}
+use Rattle.vecmap.specs.Contents.{with_value_by}
 use Rattle.vecmap.specs.Pairs.{has_text, index_by, lookup_by, value_at}
 use Rattle.vecmap.proofs.Queries.{string_equality, text_respects}
 use Rattle.vecmap.proofs.WriteLemmas.{lookup_written, lookup_written_other_text, written_back}
-use Rattle.vecmap_trees.specs.Trees.{ArePartedPaths, Members, at_path, changed_at, layer_with_members, member, members, members_of_layer, with_member, with_members}
+use Rattle.vecmap_trees.specs.Trees.{ArePartedPaths, Members, at_path, changed_at, layer_with_members, member, members, members_of_layer, with_member}
 use Rattle.vecmap_trees.specs.declared.Json.{Json, out-Json, roll-Json}
 use Rattle.vecmap_trees.specs.declared.Json.TheOpen.{Json-F, Object}
 use Rattle.vecmap_trees.specs.declared.Json.TheViews.{out-roll-Json, roll-out-Json}

@@ -8,7 +8,7 @@ use Rattle.std.proofs.lemmas.Bool.{and_from, and_parts, cases_Bool, eq-eqb, ne_e
 use Rattle.std.proofs.lemmas.List.Folds.{list_all_at}
 use Rattle.std.proofs.lemmas.List.Sums.{sum_by-cons}
 use Rattle.vecmap_base.specs.Equality.{counts_agree, has_same_counts, same_pair}
-use Rattle.vecmap_base.proofs.EqualityLemmas.Counts.{SameCounts, all_agree, as_often, as_often_laws, counts_from_test, lengths_differ, many, many_absent, many_cons, many_present, settled_by_half}
+use Rattle.vecmap_base.proofs.EqualityLemmas.Counts.{SameCounts, all_agree, as_often, as_often_laws, counts_from_test, lengths_differ, many_absent, many_present, settled_by_half}
 
 module _ {X : Type 0} (same : X → X → Bool) (o : IsPartialEquivalence same) where
   -- Equal elements, and any two that differ from themselves.

@@ -1,6 +1,6 @@
 -- The loop keeps that a merge of the members still to come leads to what the whole merge is to lead to. Members that
 -- have no name of the other object are never written.
-use Rattle.std.proofs.Common.{◌≡◌, ◌≤◌, List, None, Some, [], ap, arith, refl, rules, string_bytes, subst, sym, ◌∙◌}
+use Rattle.std.proofs.Common.{◌≡◌, ◌≤◌, None, Some, [], ap, arith, refl, rules, string_bytes, subst, sym, ◌∙◌}
 use Rattle.std.specs.Option.{option_and_then}
 use Rattle.vecmap.specs.Pairs.{has_text, lookup_by}
 use Rattle.vecmap_trees.specs.Trees.{AreDistinctMembers, IsObject, leaf_at, members, merged_below, merged_leaf}
