@@ -297,3 +297,38 @@ fn a_removed_entry_returns_its_value_and_into_key_leaves_it(rt: HostRuntime) {
     drop(map);
     assert_is(&rt, Rc::strong_count(&shared), 1);
 }
+
+// Like `or_insert_with`, but without a value the closure fails.
+fn or_try_insert_with<'a>(
+    map: &mut ToldMap<'a>,
+    log: &'a Log,
+    key: u32,
+    value: Option<u32>,
+) -> Result<u32, AllocError> {
+    let entry = map.entry(make_told(log, key));
+    let stored = entry.or_try_insert_with(|| match value {
+        Some(value) => Ok(make_told(log, value)),
+        None => Err(AllocError),
+    })?;
+    Ok(stored.number())
+}
+
+#[test]
+fn arrays_and_values_that_may_fail_are_kept_or_dropped(rt: HostRuntime) {
+    let log = Log::new();
+    let pairs = [
+        (make_told(&log, 1), make_told(&log, 10)),
+        (make_told(&log, 2), make_told(&log, 20)),
+        (make_told(&log, 1), make_told(&log, 30)),
+    ];
+    let mut map = granted(&rt, VecMap::from_array(rt.alloc(), pairs));
+    assert_told(&rt, &map, &[(1, 30), (2, 20)]);
+    assert_is(&rt, log.alive(), 4);
+    assert_gives(&rt, or_try_insert_with(&mut map, &log, 3, Some(40)), 40);
+    assert_gives(&rt, or_try_insert_with(&mut map, &log, 1, Some(50)), 30);
+    check!(rt; or_try_insert_with(&mut map, &log, 4, None).is_err());
+    assert_told(&rt, &map, &[(1, 30), (2, 20), (3, 40)]);
+    assert_is(&rt, log.alive(), 6);
+    drop(map);
+    assert_is(&rt, log.alive(), 0);
+}

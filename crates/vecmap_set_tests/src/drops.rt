@@ -38,6 +38,14 @@ fn bulk_calls_drop_what_they_do_not_keep(rt: HostRuntime) {
     let log = Log::new();
     let items = || granted(&rt, told_items(rt.alloc(), &log, &[1, 2, 1]));
     assert_alive(&rt, &log, VecSet::from(items()), 2, 0);
+    let array = [1, 2, 1].map(|number| make_told(&log, number));
+    assert_alive(
+        &rt,
+        &log,
+        granted(&rt, VecSet::from_array(rt.alloc(), array)),
+        2,
+        0,
+    );
     assert_alive(&rt, &log, VecSet::from_vec_counted(items()), 2, 0);
     let made = granted(&rt, VecSet::from_iter(rt.alloc(), items()));
     assert_alive(&rt, &log, made, 2, 0);
