@@ -126,6 +126,7 @@ fn a_drain_prints_the_pairs_that_are_left(rt: HostRuntime) {
 #[test]
 fn a_drain_of_a_part_prints_what_is_left_of_it(rt: HostRuntime) {
     let mut map = granted(&rt, VecMap::from_slice(rt.alloc(), &SIX[..4]));
+    assert!(rt; map.len() == 4);
     let mut pairs = map.drain(1..3);
     assert_prints(&rt, rt.alloc(), &pairs, "[(1, 6), (2, 7)]");
     let _last = pairs.next_back();
@@ -135,10 +136,12 @@ fn a_drain_of_a_part_prints_what_is_left_of_it(rt: HostRuntime) {
 #[test]
 fn a_drain_prints_what_is_left_after_the_first(rt: HostRuntime) {
     let mut map = granted(&rt, VecMap::from_slice(rt.alloc(), &SIX[..4]));
+    assert!(rt; map.len() == 4);
     let mut pairs = map.drain(0..2);
     let _first = pairs.next();
     assert_prints(&rt, rt.alloc(), &pairs, "[(1, 6)]");
     let mut map = granted(&rt, VecMap::from_slice(rt.alloc(), &SIX[..4]));
+    assert!(rt; map.len() == 4);
     let mut pairs = map.drain(1..);
     let _first = pairs.next();
     assert_prints(&rt, rt.alloc(), &pairs, "[(2, 7), (3, 8)]");

@@ -100,6 +100,7 @@ fn a_drain_prints_the_elements_that_are_left(rt: HostRuntime) {
 #[test]
 fn a_drain_of_a_part_prints_what_is_left_of_it(rt: HostRuntime) {
     let mut set = granted(&rt, set_of(rt.alloc(), &[5, 6, 7, 8]));
+    assert!(rt; set.len() == 4);
     let mut items = set.drain(1..3);
     assert_text(&rt, format!(in rt.alloc(); "{items:?}"), "[6, 7]");
     let _last = items.next_back();
@@ -109,10 +110,12 @@ fn a_drain_of_a_part_prints_what_is_left_of_it(rt: HostRuntime) {
 #[test]
 fn a_drain_prints_what_is_left_after_the_first(rt: HostRuntime) {
     let mut set = granted(&rt, set_of(rt.alloc(), &[5, 6, 7, 8]));
+    assert!(rt; set.len() == 4);
     let mut items = set.drain(0..2);
     let _first = items.next();
     assert_text(&rt, format!(in rt.alloc(); "{items:?}"), "[6]");
     let mut set = granted(&rt, set_of(rt.alloc(), &[5, 6, 7, 8]));
+    assert!(rt; set.len() == 4);
     let mut items = set.drain(1..);
     let _first = items.next();
     assert_text(&rt, format!(in rt.alloc(); "{items:?}"), "[7, 8]");
