@@ -51,6 +51,7 @@ fn a_refused_path_leaves_the_tree_and_returns_the_value(rt: HostRuntime) {
 fn a_refused_merge_leaves_the_tree(rt: HostRuntime) {
     let alloc = rt.alloc();
     let mut tree = make!(rt; sample(alloc));
+    assert!(rt; tree.is_object());
     if let Err(AllocError) = tree.merge(make!(rt; other(alloc))) {
         tell(&rt);
         assert_printed(&rt, alloc, &tree, r#"{"b":{"y":1},"a":2}"#);
