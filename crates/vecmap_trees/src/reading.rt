@@ -68,10 +68,8 @@ impl Json {
     /// # Examples
     ///
     /// ```
-    /// # let mut page = Json::object(alloc);
-    /// # page.set_at(alloc, &["font", "size"], Json::Number(12))?;
-    /// # page.set_at(alloc, &["title"], Json::text(alloc, "Map")?)?;
-    /// page.leaves() // 2
+    /// Json::Bool(true).leaves() // 1
+    /// Json::object(alloc).leaves() // 0
     /// ```
     pub fn leaves(&self) -> u64
         requires fits { leaves self.now < 2 ^ 64 }
