@@ -2,10 +2,15 @@
 
 A cell has the median of the ratios to the original over the runs. With `--full` as the first argument, it also has the
 least and the greatest ratio, and the medians of the least nanoseconds of an operation, of the contender and of the
-original. Above a short table stands how many of its cells are at most 1.05, and at most 0.9.
+original. Above a short table stands how many of its cells are at most 1.05, and at most 0.9. Its last line has the
+geometric mean of each size. A row of tight loops is marked with a star: at some size, one run's ratio is at least twice
+another's.
 """
 import statistics
 import sys
+
+# What each contender is compared with, if it is not the original.
+COMPARED_WITH = {"the kit's Vec": "Rust's Vec"}
 
 
 def read(name):
@@ -31,6 +36,17 @@ def full(found):
     return f"{short(found)} {spread} {ours:.{digits}f}:{theirs:.{digits}f}"
 
 
+def is_tight(cells):
+    """Returns whether at some size the greatest ratio is at least twice the least."""
+    ratios = [[times[2] for times in found] for found in cells if found]
+    return any(max(found) >= 2 * min(found) for found in ratios)
+
+
+def mean(column):
+    """Returns the cell of the geometric mean of a column."""
+    return f"{statistics.geometric_mean(float(short(found)) for found in column if found):.2f}"
+
+
 def table(runs, who, cell):
     """Prints the table of a contender."""
     keys = [key for key in dict.fromkeys(key for run in runs for key in run) if key[0] == who]
@@ -40,11 +56,13 @@ def table(runs, who, cell):
         medians = [float(short(found)) for cells in rows.values() for found in cells if found]
         counts = (sum(ratio <= most for ratio in medians) for most in (1.05, 0.9))
         print("\nOf {} cells, {} are at most 1.05, and {} at most 0.9.".format(len(medians), *counts))
-    print(f"\n| {who} : vecmap-rs | " + " | ".join(map(str, sizes)) + " |")
+    print(f"\n| {who} : {COMPARED_WITH.get(who, 'vecmap-rs')} | " + " | ".join(map(str, sizes)) + " |")
     print("|---" * (len(sizes) + 1) + "|")
     for row, cells in rows.items():
-        name = row.replace("|", "\\|")
+        name = row.replace("|", "\\|") + (" \\*" if cell is short and is_tight(cells) else "")
         print(f"| {name} | " + " | ".join(map(cell, cells)) + " |")
+    if cell is short:
+        print("| geometric mean | " + " | ".join(map(mean, zip(*rows.values()))) + " |")
 
 
 def main():

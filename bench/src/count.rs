@@ -132,7 +132,7 @@ fn main() {
     println!("\n| requests, growths, frees, bytes of a round | size | vecmap-rs | vecmap |");
     println!("|---|---|---|---|");
     let mut equal = (0, 0);
-    for n in [8, 32, 128, 512] {
+    for n in [2, 4, 8, 16, 32, 128, 512] {
         let inputs = Numbers::of(n);
         for part in [
             compare(rows::numbers(&inputs), n),

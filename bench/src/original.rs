@@ -9,6 +9,7 @@ mod parts;
 mod runs;
 mod set_parts;
 mod set_runs;
+mod vectors;
 
 pub use algebra::*;
 pub use bulk::*;
@@ -19,6 +20,7 @@ pub use parts::*;
 pub use runs::*;
 pub use set_parts::*;
 pub use set_runs::*;
+pub use vectors::*;
 
 use crate::inputs::{half, letter};
 use vecmap::{VecMap, VecSet};

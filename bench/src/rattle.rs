@@ -103,6 +103,10 @@ calls! { u64:
     set_binary_search = vecmap_bench_set_binary_search,
     set_run = vecmap_bench_set_run,
     set_calls = vecmap_bench_set_calls,
+    vec_clone = vecmap_bench_vec_clone,
+    vec_push = vecmap_bench_vec_push,
+    vec_remove = vecmap_bench_vec_remove,
+    vec_insert = vecmap_bench_vec_insert,
 }
 
 calls! { u8:

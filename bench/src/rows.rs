@@ -17,6 +17,12 @@ pub struct Row<'a, T> {
     pub loops: Vec<(&'static str, Loop<T>)>,
 }
 
+/// The name of the kit's vector, in rows that compare it with Rust's.
+const VECTOR: &str = "the kit's Vec";
+
+/// The sizes of the rows of commands and of documents.
+pub const SIZES_OF_PROGRAMS: [usize; 4] = [8, 32, 128, 512];
+
 // A row with its name, its operations, its two inputs, the name of its loop, and the peers that have it.
 macro_rules! row {
     ($name:literal, $steps:expr, $keys:expr, $probes:expr, $loop:ident $(, $peer:ident)*) => {{
@@ -48,7 +54,10 @@ pub fn numbers(it: &Numbers) -> Vec<Row<'_, u64>> {
     rows.extend(sets(it));
     rows.extend(set_pairs(it));
     rows.extend(large(it));
-    rows.extend(runs(it));
+    if SIZES_OF_PROGRAMS.contains(&it.keys.len()) {
+        rows.extend(runs(it));
+    }
+    rows.extend(vectors(it));
     rows
 }
 
@@ -205,6 +214,21 @@ fn runs(it: &Numbers) -> Vec<Row<'_, u64>> {
     ]
 }
 
+// The same loops over a plain vector of either side.
+fn vectors(it: &Numbers) -> Vec<Row<'_, u64>> {
+    let n = it.keys.len();
+    let mut rows = vec![
+        row!("Vec clone", n, &it.keys, &[], vec_clone),
+        row!("Vec push", n, &it.keys, &[], vec_push),
+        row!("Vec remove(0)", n, &it.keys, &[], vec_remove),
+        row!("Vec insert(0)", n, &it.keys, &[], vec_insert),
+    ];
+    for row in &mut rows {
+        row.loops[1].0 = VECTOR;
+    }
+    rows
+}
+
 /// Returns all rows over texts, of which there are `n`.
 pub fn texts(it: &Texts, n: usize) -> Vec<Row<'_, u8>> {
     let mut rows = vec![
@@ -216,11 +240,19 @@ pub fn texts(it: &Texts, n: usize) -> Vec<Row<'_, u8>> {
     rows.extend([
         row!("String insert new", n, &it.keys, &[], string_insert, linear, index),
         row!("count lines", 4 * n, &[], &it.words, count_lines, index),
+    ]);
+    if SIZES_OF_PROGRAMS.contains(&n) {
+        rows.extend(documents(it, n));
+    }
+    rows
+}
+
+fn documents(it: &Texts, n: usize) -> Vec<Row<'_, u8>> {
+    vec![
         row!("document set new", n, &it.names, &[], document_new),
         row!("document set present", n, &it.names, &[], document_present),
         row!("document get", n, &it.names, &it.other_names, document_get),
         row!("document merge", n, &it.names, &it.half_names, document_merge),
         row!("document same", n, &it.names, &it.other_names, document_same),
-    ]);
-    rows
+    ]
 }

@@ -120,7 +120,7 @@ fn main() {
         samples: number("SAMPLES", 15),
         seconds: number("SECONDS", 0.003),
     };
-    let sizes = env::var("SIZES").unwrap_or_else(|_| "8 32 128 512".to_string());
+    let sizes = env::var("SIZES").unwrap_or_else(|_| "2 4 8 16 32 128 512".to_string());
     for n in sizes.split_whitespace().filter_map(|it| it.parse().ok()) {
         let inputs = Numbers::of(n);
         for row in rows::numbers(&inputs) {

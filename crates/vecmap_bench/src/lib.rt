@@ -18,6 +18,7 @@ mod removals;
 mod runs;
 mod sets;
 mod texts;
+mod vectors;
 
 use std::alloc::{AllocError, Global};
 use vecmap::VecMap;

@@ -1,0 +1,99 @@
+//! The same work on a plain vector of pairs, without a map: the least that a row with such work can take.
+use crate::{REFUSED, pairs};
+use std::alloc::Global;
+
+#[unsafe(no_mangle)]
+pub extern "C" fn vecmap_bench_vec_clone(
+    alloc: Global,
+    keys: &[u64],
+    _probes: &[u64],
+    rounds: u64,
+) -> u64 {
+    let Ok(full) = pairs(alloc, keys) else {
+        return REFUSED;
+    };
+    let mut sum: u64 = 0;
+    for round in 0..rounds {
+        let Ok(copy) = full.clone() else {
+            return REFUSED;
+        };
+        sum = sum.wrapping_add(last_key(&copy) ^ round);
+    }
+    sum
+}
+
+// The pairs are appended to an empty vector.
+#[unsafe(no_mangle)]
+pub extern "C" fn vecmap_bench_vec_push(
+    alloc: Global,
+    keys: &[u64],
+    _probes: &[u64],
+    rounds: u64,
+) -> u64 {
+    let mut sum: u64 = 0;
+    for round in 0..rounds {
+        let mut list: Vec<(u64, u64)> = Vec::new(alloc);
+        for key in keys {
+            if list.push((*key, *key ^ round)).is_err() {
+                return REFUSED;
+            }
+        }
+        sum = sum.wrapping_add(last_key(&list) ^ round);
+    }
+    sum
+}
+
+// All pairs of a clone are removed, from the front.
+#[unsafe(no_mangle)]
+pub extern "C" fn vecmap_bench_vec_remove(
+    alloc: Global,
+    keys: &[u64],
+    _probes: &[u64],
+    rounds: u64,
+) -> u64 {
+    let Ok(full) = pairs(alloc, keys) else {
+        return REFUSED;
+    };
+    let mut sum: u64 = 0;
+    for round in 0..rounds {
+        let Ok(mut list) = full.clone() else {
+            return REFUSED;
+        };
+        for _ in 0..keys.len() {
+            if !list.is_empty() {
+                let (key, value) = list.remove(0);
+                sum = sum.wrapping_mul(3).wrapping_add(key ^ value ^ round);
+            }
+        }
+    }
+    sum
+}
+
+// The pairs are inserted at the front of an empty vector.
+#[unsafe(no_mangle)]
+pub extern "C" fn vecmap_bench_vec_insert(
+    alloc: Global,
+    keys: &[u64],
+    _probes: &[u64],
+    rounds: u64,
+) -> u64 {
+    let mut sum: u64 = 0;
+    for round in 0..rounds {
+        let mut list: Vec<(u64, u64)> = Vec::new(alloc);
+        for key in keys {
+            if list.insert(0, (*key, *key ^ round)).is_err() {
+                return REFUSED;
+            }
+        }
+        sum = sum.wrapping_add(last_key(&list) ^ round);
+    }
+    sum
+}
+
+// Returns the key of the last pair, and 0 if there is none.
+fn last_key(list: &[(u64, u64)]) -> u64 {
+    match list.last() {
+        Some(pair) => pair.0,
+        None => 0,
+    }
+}
