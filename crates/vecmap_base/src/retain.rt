@@ -41,6 +41,10 @@ pub fn retain_pairs<K: Drop, V: Drop, F: FnMut(&K, &mut V) -> bool + Drop>(
 
 /// Like [`retain_pairs`], but `f` can also write the key.
 ///
+/// # Conditions
+///
+/// `f` can be called for each pair, in the state that the calls before have left.
+///
 /// # Examples
 ///
 /// ```

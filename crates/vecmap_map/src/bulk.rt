@@ -13,7 +13,8 @@ use std::alloc::{AllocError, Global};
 impl<K, V> VecMap<K, V> {
     /// Creates a map and inserts the pairs of an iterator, in order.
     ///
-    /// The call first reserves capacity for as many pairs as the lower size hint of the iterator says.
+    /// Of equal keys, the first one is kept, at its index, with the last of their values. The call first reserves
+    /// capacity for as many pairs as the lower size hint of the iterator says.
     ///
     /// # Errors
     ///
@@ -52,7 +53,8 @@ impl<K, V> VecMap<K, V> {
 
     /// Creates a map and inserts clones of the pairs, in order.
     ///
-    /// This is Rust's `From<&[(K, V)]>`. The call first reserves capacity for as many pairs as the slice has.
+    /// This is Rust's `From<&[(K, V)]>`. Of equal keys, the clone of the first one is kept, at its index, with a clone
+    /// of the last of their values. The call first reserves capacity for as many pairs as the slice has.
     ///
     /// # Errors
     ///
@@ -87,11 +89,13 @@ impl<K, V> VecMap<K, V> {
 
     /// Inserts the pairs of `other`, in order, and leaves `other` empty.
     ///
-    /// The call first reserves capacity for all pairs of `other`. The capacity of `other` stays.
+    /// An existing key stays as it is, at its index, and only its value changes. A new pair is appended. The call first
+    /// reserves capacity for all pairs of `other`. The capacity of `other` stays.
     ///
     /// # Errors
     ///
-    /// [`AllocError`] if the allocator refuses the request; both maps are then unchanged.
+    /// [`AllocError`] if the allocator refuses the request; both maps are then unchanged. With spare capacity for all
+    /// pairs of `other`, the call makes no request and always succeeds.
     ///
     /// # Complexity
     ///
@@ -130,6 +134,8 @@ impl<K, V> VecMap<K, V> {
 
     /// Inserts the pairs of an iterator, in order.
     ///
+    /// An existing key stays as it is, at its index, and only its value changes. A new pair is appended.
+    ///
     /// This is Rust's `Extend<(K, V)>`. The call first reserves capacity. If the map is empty, it reserves as much as
     /// the lower size hint of the iterator says. Otherwise it reserves half of that, rounded up, as some keys may be
     /// present already. The hint decides nothing else.
@@ -137,7 +143,8 @@ impl<K, V> VecMap<K, V> {
     /// # Errors
     ///
     /// [`AllocError`] if the allocator refuses a request. If it refuses the first one, the map is unchanged. If it
-    /// refuses to grow the map for a pair, the pairs before it stay, and that pair is dropped with the iterator.
+    /// refuses to grow the map for a pair, the pairs before it stay, and that pair is dropped with the iterator. With
+    /// spare capacity for all pairs, the call makes no request and always succeeds.
     ///
     /// # Conditions
     ///
@@ -183,7 +190,7 @@ impl<K, V> VecMap<K, V> {
 
     /// Like [`VecMap::extend`], but inserts clones of the keys and values that the iterator lends.
     ///
-    /// This is Rust's `Extend<(&K, &V)>`.
+    /// This is Rust's `Extend<(&K, &V)>`. An existing key stays as it is, and the clone of the equal key is dropped.
     ///
     /// # Errors
     ///
@@ -237,7 +244,15 @@ impl<K, V> VecMap<K, V> {
 
     /// Like [`VecMap::extend_refs`], but for an iterator over references to pairs.
     ///
-    /// This is Rust's `Extend<&(K, V)>`.
+    /// This is Rust's `Extend<&(K, V)>`. An existing key stays as it is, and the clone of the equal key is dropped.
+    ///
+    /// # Errors
+    ///
+    /// As for [`VecMap::extend_refs`].
+    ///
+    /// # Conditions
+    ///
+    /// The iterator ends.
     ///
     /// # Examples
     ///

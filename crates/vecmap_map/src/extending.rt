@@ -15,7 +15,8 @@ use std::alloc::AllocError;
 ///
 /// # Errors
 ///
-/// [`AllocError`] if the allocator refuses a request; the pairs before the refused one are then in the map.
+/// [`AllocError`] if the allocator refuses a request. If it refuses the reservation, the map is unchanged. If it refuses
+/// to grow the map for a pair, the pairs before it are in the map.
 ///
 /// # Examples
 ///
@@ -48,8 +49,8 @@ impl<K: Eq + Drop, V: Drop> Extend<(K, V)> for VecMap<K, V> {
 ///
 /// # Errors
 ///
-/// [`AllocError`] if the allocator refuses a request, or if a clone is refused; clones of the pairs before the refused
-/// one are then in the map.
+/// [`AllocError`] if the allocator refuses a request, or if a clone is refused. If the reservation is refused, the map is
+/// unchanged. If a pair or one of its clones is refused, clones of the pairs before it are in the map.
 ///
 /// # Examples
 ///
@@ -83,8 +84,8 @@ impl<'a, K: Eq + Clone + 'a, V: Clone + 'a> Extend<(&'a K, &'a V)> for VecMap<K,
 ///
 /// # Errors
 ///
-/// [`AllocError`] if the allocator refuses a request, or if a clone is refused; clones of the pairs before the refused
-/// one are then in the map.
+/// [`AllocError`] if the allocator refuses a request, or if a clone is refused. If the reservation is refused, the map is
+/// unchanged. If a pair or one of its clones is refused, clones of the pairs before it are in the map.
 ///
 /// # Examples
 ///

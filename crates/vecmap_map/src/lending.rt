@@ -12,7 +12,8 @@ use vecmap_base::Equivalent;
 impl<K, V> VecMap<K, V> {
     ghost use Rattle.vecmap_map.specs.Lends.{lends_beside_key, lends_beside_place, lends_value_at, lends_value_if_by, lends_whole_at, lends_whole_if_at};
 
-    /// Returns a mutable reference to the value of the first pair whose key matches `query`.
+    /// Returns a mutable reference to the value of the first pair whose key matches `query`, or `None` if no key
+    /// matches.
     ///
     /// # Complexity
     ///
@@ -41,7 +42,10 @@ impl<K, V> VecMap<K, V> {
         }
     }
 
-    /// Returns the first pair, with a mutable reference to its value.
+    /// Returns the first pair, with a mutable reference to its value, or `None` if the map is empty.
+    ///
+    /// A proof of a caller that the search makes learns which pair the reference leads to, but not what the map holds
+    /// once it was written. [`VecMap::get_mut`] and `map[index] = value` say both.
     ///
     /// # Complexity
     ///
@@ -64,7 +68,10 @@ impl<K, V> VecMap<K, V> {
         self.get_index_mut(0)
     }
 
-    /// Returns the last pair, with a mutable reference to its value.
+    /// Returns the last pair, with a mutable reference to its value, or `None` if the map is empty.
+    ///
+    /// A proof of a caller that the search makes learns which pair the reference leads to, but not what the map holds
+    /// once it was written. [`VecMap::get_mut`] and `map[index] = value` say both.
     ///
     /// # Complexity
     ///
@@ -91,7 +98,10 @@ impl<K, V> VecMap<K, V> {
     }
 
     /// Returns the index and the stored key of the first pair whose key matches `query`, with a mutable reference to
-    /// its value.
+    /// its value, or `None` if no key matches.
+    ///
+    /// A proof of a caller that the search makes learns which pair the reference leads to, but not what the map holds
+    /// once it was written. [`VecMap::get_mut`] and `map[index] = value` say both.
     ///
     /// # Complexity
     ///
@@ -124,7 +134,10 @@ impl<K, V> VecMap<K, V> {
         }
     }
 
-    /// Returns the pair at `index`, if there is one, with a mutable reference to its value.
+    /// Returns the pair at `index`, with a mutable reference to its value, or `None` if `index` is out of range.
+    ///
+    /// A proof of a caller that the search makes learns which pair the reference leads to, but not what the map holds
+    /// once it was written. [`VecMap::get_mut`] and `map[index] = value` say both.
     ///
     /// # Complexity
     ///

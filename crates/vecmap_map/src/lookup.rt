@@ -111,7 +111,8 @@ impl<K, V> VecMap<K, V> {
         Some((&pair.0, &pair.1))
     }
 
-    /// Returns the index, the stored key and the value of the first pair whose key matches `query`.
+    /// Returns the index, the stored key and the value of the first pair whose key matches `query`, or `None` if no key
+    /// matches.
     ///
     /// # Complexity
     ///

@@ -22,6 +22,9 @@ impl<K, V> sealed::Sealed for VecMap<K, V> {}
 ///
 /// No other type can implement this trait. A key may be written so that it equals another one. It then stays as it was
 /// written, and lookups find the first of the two.
+///
+/// A proof of a caller that the search makes does not learn what the map holds once a key or a value was written through
+/// such a reference. It learns what [`MutableKeys::retain2`] leaves.
 pub trait MutableKeys: sealed::Sealed {
     type Key;
 
@@ -31,7 +34,7 @@ pub trait MutableKeys: sealed::Sealed {
     ghost pairs: { Self → List (Self.Key × Self.Value) };
 
     /// Returns the index of the first pair whose key matches `query`, with mutable references to the stored key and the
-    /// value.
+    /// value, or `None` if no key matches.
     ///
     /// # Complexity
     ///

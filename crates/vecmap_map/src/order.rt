@@ -195,6 +195,8 @@ impl<K, V> VecMap<K, V> {
 
     /// Sorts the pairs by `f`, which compares two pairs. Pairs that compare as equal may change their order.
     ///
+    /// If `f` is not a consistent order, the pairs may end in any order, but none is lost.
+    ///
     /// # Conditions
     ///
     /// `f` can be called with any two pairs.

@@ -93,7 +93,8 @@ impl<T: Eq> VecSet<T> {
     ///
     /// # Errors
     ///
-    /// [`AllocError`] if the allocator refuses the request; both sets are then unchanged.
+    /// [`AllocError`] if the allocator refuses the request; both sets are then unchanged. With spare capacity for all
+    /// elements of `other`, the call makes no request and always succeeds.
     ///
     /// # Complexity
     ///
@@ -139,7 +140,8 @@ impl<T: Eq> VecSet<T> {
     /// # Errors
     ///
     /// [`AllocError`] if the allocator refuses a request. If it refuses to grow the set for an element, the elements
-    /// before it stay, and that element is dropped with the iterator.
+    /// before it stay, and that element is dropped with the iterator. With spare capacity for all elements, the call
+    /// makes no request and always succeeds.
     ///
     /// # Conditions
     ///

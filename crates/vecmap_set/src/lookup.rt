@@ -106,7 +106,7 @@ impl<T: Eq> VecSet<T> {
         self.items.get(index)
     }
 
-    /// Returns the index of the element that matches `query`, and the stored element.
+    /// Returns the index of the element that matches `query`, and the stored element, or `None` if no element matches.
     ///
     /// # Complexity
     ///

@@ -189,6 +189,8 @@ impl<T: Eq> VecSet<T> {
 
     /// Sorts the elements by `f`, which compares two elements. Elements that compare as equal may change their order.
     ///
+    /// If `f` is not a consistent order, the elements may end in any order, but none is lost.
+    ///
     /// # Conditions
     ///
     /// `f` can be called with any two elements.

@@ -55,7 +55,7 @@ impl<T: Eq> VecSet<T> {
     /// Reserves capacity for at least `additional` more elements.
     ///
     /// The call reserves some more than that, so that repeated insertions seldom allocate. If the spare capacity is
-    /// already enough, it succeeds and nothing changes. Otherwise all elements may be moved.
+    /// already enough, it succeeds and the capacity stays. Otherwise all elements may be moved.
     ///
     /// # Errors
     ///
@@ -80,8 +80,8 @@ impl<T: Eq> VecSet<T> {
 
     /// Reserves capacity for `additional` more elements, without the surplus that [`VecSet::reserve`] adds.
     ///
-    /// The allocator may still give more. If the spare capacity is already enough, the call succeeds and nothing
-    /// changes. Otherwise all elements may be moved.
+    /// The allocator may still give more. If the spare capacity is already enough, the call succeeds and the capacity
+    /// stays. Otherwise all elements may be moved.
     ///
     /// # Errors
     ///
@@ -146,7 +146,8 @@ impl<T: Eq> VecSet<T> {
 
     /// Reduces the capacity as much as possible.
     ///
-    /// All elements may be moved. The call never fails: if the allocator refuses a smaller block, the capacity stays.
+    /// All elements may be moved. The call never fails: if the allocator refuses a smaller block, the capacity stays. If there
+    /// are no elements, nothing is requested, and the capacity is 0 afterwards.
     ///
     /// # Examples
     ///
