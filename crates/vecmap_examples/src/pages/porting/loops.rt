@@ -13,8 +13,7 @@ pub fn move_reversed(
     Ok(())
 }
 
-/// `while let Some(next) = work.pop() { .. }`, where the body adds work: each name is taken once, so a counted loop with
-/// as many rounds as there are names ends too.
+/// `while let Some(next) = work.pop() { .. }`, where the body adds work. The loop counts, so that it is proved to end.
 pub fn reached(
     alloc: Global,
     graph: &VecMap<u32, Vec<u32>>,
@@ -22,8 +21,8 @@ pub fn reached(
 ) -> Result<VecSet<u32>, AllocError> {
     let mut seen = VecSet::new(alloc);
     seen.insert(start)?;
-    for round in 0..=graph.len() {
-        let Some(name) = seen.get_index(round).copied() else {
+    for index in 0..usize::MAX {
+        let Some(name) = seen.get_index(index).copied() else {
             break;
         };
         if let Some(list) = graph.get(&name) {

@@ -163,11 +163,11 @@ fn shows_loops(alloc: Global) -> Result<bool, Fail> {
     insert_sorted(&mut from, 5, 50)?;
     insert_sorted(&mut from, 4, 40)?;
     insert_sorted(&mut from, 5, 51)?;
-    let graph = vecmap!(alloc; 1 => vec![in alloc; 2, 3]?, 3 => vec![in alloc; 1, 4]?);
+    let graph = vecmap!(alloc; 1 => vec![in alloc; 2, 3, 4]?, 4 => vec![in alloc; 1, 5]?);
     Ok(
         to.as_slice() == [(2, 20), (1, 10)].as_slice()
             && from.as_slice() == [(4, 40), (5, 51)].as_slice()
-            && reached(alloc, &graph, 1)?.as_slice() == [1, 2, 3, 4].as_slice(),
+            && reached(alloc, &graph, 1)?.as_slice() == [1, 2, 3, 4, 5].as_slice(),
     )
 }
 
