@@ -2,7 +2,9 @@
 pub mod bulk;
 pub mod calls;
 pub mod closures;
+pub mod loops;
 pub mod order;
+pub mod own;
 #[cfg(test)]
 mod tests;
 pub mod traits;

@@ -1,5 +1,6 @@
 //! The examples of `README.md`.
 use std::alloc::{AllocError, Global};
+use std::io;
 use vecmap::{VecMap, VecSet, vecset};
 
 /// A new value replaces the old one, and the key keeps its index.
@@ -8,14 +9,21 @@ pub fn headers(alloc: Global) -> Result<VecMap<&'static str, u32>, AllocError> {
     map.insert("age", 10)?;
     map.insert("max", 20)?;
     map.insert("age", 30)?;
-    Ok(map) // {"age": 30, "max": 20}
+    Ok(map)
 }
 
 /// The elements of both sets, in the order of the first.
 pub fn common(alloc: Global) -> Result<VecSet<u32>, AllocError> {
     let a = vecset!(alloc; 3, 1, 2, 3);
     let b = vecset!(alloc; 2, 4, 3);
-    &a & &b // {3, 2}
+    &a & &b
+}
+
+pub fn main(rt: HostRuntime) -> io::Result<()> {
+    let headers = headers(rt.alloc())?;
+    println!(rt; "{headers:?}")?;
+    let common = common(rt.alloc())?;
+    println!(rt; "{common:?}")
 }
 
 #[cfg(test)]
@@ -38,6 +46,7 @@ mod tests {
         let set = common(alloc)?;
         assert!(rt; set.as_slice() == [3, 2].as_slice());
         assert!(rt; format!(in alloc; "{set:?}")?.as_str() == "{3, 2}");
+        main(rt)?;
         Ok(())
     }
 }

@@ -1,4 +1,4 @@
-use std::alloc::AllocError;
+use std::alloc::{AllocError, AllocFailed};
 use std::num::ParseIntError;
 use vecmap::{Refused, VecMap};
 
@@ -11,6 +11,12 @@ pub enum ReadError {
 
 impl From<AllocError> for ReadError {
     fn from(_error: AllocError) -> ReadError {
+        ReadError::NoMemory
+    }
+}
+
+impl<T: Drop> From<AllocFailed<T>> for ReadError {
+    fn from(_failed: AllocFailed<T>) -> ReadError {
         ReadError::NoMemory
     }
 }
@@ -31,5 +37,11 @@ impl From<ParseIntError> for ReadError {
 pub fn read(numbers: &mut VecMap<String, u32>, name: &str, text: &str) -> Result<(), ReadError> {
     let key = String::from_str(*numbers.allocator(), name)?;
     numbers.insert(key, text.parse::<u32>()?)?;
+    Ok(())
+}
+
+/// Appends a number to a list. The error of `push` is an `AllocFailed`.
+pub fn append(list: &mut Vec<u32>, text: &str) -> Result<(), ReadError> {
+    list.push(text.parse::<u32>()?)?;
     Ok(())
 }

@@ -2,7 +2,9 @@
 use super::bulk::{added, first_out, lengths, letters, sorted};
 use super::calls::{count, print_counts, references, sort_by_digits};
 use super::closures::{copy, drop_from, number_of, push_if_present, sort_and_count};
+use super::loops::{add_words, insert_sorted, move_reversed, names, reached};
 use super::order::Order;
+use super::own::{Attributes, add_all, add_each};
 use super::traits::{
     Config, LineError, count_one, extend_parsed, forget, lent, make_first, parsed, parted,
     push_or_make, sort_by_text, sort_down, with_port,
@@ -143,6 +145,39 @@ fn shows_a_copy_and_a_push(alloc: Global) -> Result<bool, Fail> {
     )
 }
 
+fn shows_a_type_of_ones_own(alloc: Global) -> Result<bool, Fail> {
+    let pairs = [(1, 10), (2, 20)];
+    let mut own = pairs.iter().copied().collect::<Attributes>(alloc)?;
+    own.extend([(3, 30)].iter().copied())?;
+    let count = (&own).into_iter().count();
+    let mut map = VecMap::new(alloc);
+    add_all(&mut map, own.into_iter())?;
+    add_each(&mut map, pairs.iter().copied())?;
+    Ok(count == 3 && map.as_slice() == [(1, 10), (2, 20), (3, 30)].as_slice())
+}
+
+fn shows_loops(alloc: Global) -> Result<bool, Fail> {
+    let mut from = vecmap!(alloc; 1 => 10, 2 => 20);
+    let mut to = VecMap::new(alloc);
+    move_reversed(&mut from, &mut to)?;
+    insert_sorted(&mut from, 5, 50)?;
+    insert_sorted(&mut from, 4, 40)?;
+    insert_sorted(&mut from, 5, 51)?;
+    let graph = vecmap!(alloc; 1 => vec![in alloc; 2, 3, 4]?, 4 => vec![in alloc; 1, 5]?);
+    Ok(
+        to.as_slice() == [(2, 20), (1, 10)].as_slice()
+            && from.as_slice() == [(4, 40), (5, 51)].as_slice()
+            && reached(alloc, &graph, 1)?.as_slice() == [1, 2, 3, 4, 5].as_slice(),
+    )
+}
+
+fn shows_words_and_names(alloc: Global) -> Result<bool, Fail> {
+    let mut map = VecMap::new(alloc);
+    add_words(&mut map, &["b", "a", "b"])?;
+    let names = names(alloc, &map)?;
+    Ok(names.len() == 2 && names[0].as_str() == "b" && names[1].as_str() == "a")
+}
+
 #[test]
 fn a_count_wraps_and_is_printed(rt: HostRuntime) -> Result<(), Fail> {
     let mut counts = VecMap::from_slice(rt.alloc(), &[('a', 255)])?;
@@ -168,5 +203,8 @@ fn examples_hold(rt: HostRuntime) -> Result<(), Fail> {
     assert!(rt; shows_orders_and_closures(alloc)?);
     assert!(rt; shows_closures_that_count(alloc)?);
     assert!(rt; shows_a_copy_and_a_push(alloc)?);
+    assert!(rt; shows_a_type_of_ones_own(alloc)?);
+    assert!(rt; shows_loops(alloc)?);
+    assert!(rt; shows_words_and_names(alloc)?);
     Ok(())
 }

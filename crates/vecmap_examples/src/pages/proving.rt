@@ -1,0 +1,18 @@
+//! The examples of `crates/vecmap/PROVING.md`, one file for each block of the page.
+pub mod count;
+pub mod filter;
+pub mod greatest;
+pub mod inner;
+pub mod intern;
+pub mod keep;
+pub mod lookups;
+pub mod merge;
+pub mod moved;
+pub mod pair;
+pub mod raise;
+pub mod set;
+pub mod signed;
+#[cfg(test)]
+mod tests;
+pub mod texts;
+pub mod total;
