@@ -1,4 +1,4 @@
-use Rattle.std.proofs.Common.{rules, ◌≡◌, ℕ, ◌×◌, ◌≤◌, map, nat_eq}
+use Rattle.std.proofs.Common.{rules, ◌≡◌, ℕ, ◌≤◌, map, nat_eq}
 use Rattle.std.specs.Map.Iter.{deref_pair}
 use Rattle.std.proofs.lemmas.List.Elements.{All-map}
 use Rattle.std.proofs.lemmas.Map.Iter.{iter_end}
