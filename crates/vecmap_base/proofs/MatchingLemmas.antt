@@ -3,7 +3,7 @@ use Rattle.std.specs.Prelude.{◌≡◌, ℕ, zero, suc, ◌+◌, ◌-◌, ◌<�
 use Rattle.std.specs.Cmp.{IsEquivalence, IsPartialEquivalence}
 use Rattle.std.specs.List.{list_any, sum_by}
 use Rattle.std.proofs.Common.{cond, drop, get_or, replicate, set, sym, ap, ◌∙◌, arith, true≢false, inl, inr, ⊎_elim}
-use Rattle.std.proofs.lemmas.Bool.{cases_Bool, cases_lt, false_from_ne_true}
+use Rattle.std.proofs.lemmas.Bool.{and_from, cases_Bool, cases_lt, false_from_ne_true}
 use Rattle.std.proofs.lemmas.Grind.{get_or_after_one}
 use Rattle.std.proofs.lemmas.List.{at_drop_more, drop-replicate, drop_all, length-drop, nil_from_length}
 use Rattle.std.proofs.lemmas.List.Folds.{list_any_at}
@@ -147,6 +147,48 @@ module _ {X : Type 0} (same : X → X → Bool) (o : IsPartialEquivalence same) 
         | inl e ↦ disagree same o a b (first_unmatched (lumped same o) (lumped_laws same o) a b x marks some as_long none at (at_self same o x (get_or b 0 x) e ∙ differs) (absent_lumped (free (drop 1 b) (drop 1 marks)) x e absent))
         | inr e ↦ disagree_at same o a b 0 x some at e
       ]
+
+  -- Lists of one item whose items differ are not matched.
+  pub one_differs : (a b : List X) → length a ≡ 1 → length b ≡ 1 → ((d : X) → same (get_or a 0 d) (get_or b 0 d) ≡ false) → agree same o a a b ≡ false
+  unfolding free
+  one_differs (x ∷ []) (y ∷ []) one one_too differs =
+      first_unmatched_partial (x ∷ []) (y ∷ []) x (false ∷ []) (omega arith) refl refl refl (differs x) refl
+  one_differs [] b one one_too differs = absurd (omega (arith, one))
+  one_differs (x ∷ w ∷ l) b one one_too differs = absurd (omega (arith, one))
+  one_differs (x ∷ []) [] one one_too differs = absurd (omega (arith, one_too))
+  one_differs (x ∷ []) (y ∷ z ∷ l) one one_too differs = absurd (omega (arith, one_too))
+
+  -- Lists of two items whose first differ are matched only crosswise.
+  two_agree : (x w y z : X) → same x y ≡ false → agree same o (x ∷ w ∷ []) (x ∷ w ∷ []) (y ∷ z ∷ []) ≡ (same x z && same w y)
+  unfolding free
+  two_agree x w y z differs =
+      let a = x ∷ w ∷ [] in
+      let b = y ∷ z ∷ [] in
+      elim (cases_Bool (same x z)) [
+        | inl like ↦
+            let matched = first_matched_partial a b 0 x (false ∷ false ∷ []) (omega arith) refl refl refl (omega arith) refl like in
+            elim (cases_Bool (same w y)) [
+              | inl other ↦
+                  all_matched_partial a b 2 (true ∷ true ∷ []) (omega arith) (one_matched_partial a b 1 0 w (false ∷ true ∷ []) (omega arith) refl (omega arith) refl other matched)
+                  ∙ sym (and_from _ _ like other)
+              | inr apart ↦
+                  unmatched_partial a b 1 w (false ∷ true ∷ []) (omega arith) refl (ap (λ c. c || false) apart) matched
+                  ∙ sym (ap (λ c. c && same w y) like ∙ apart)
+            ]
+        | inr apart ↦
+            first_unmatched_partial a b x (false ∷ false ∷ []) (omega arith) refl refl refl differs (ap (λ c. c || false) apart)
+            ∙ sym (ap (λ c. c && same w y) apart)
+      ]
+
+  pub two_agree_at : (a b : List X) (x w y z : X) → length a ≡ 2 → length b ≡ 2 → ((d : X) → same (get_or a 0 d) (get_or b 0 d) ≡ false) → x ≡ get_or a 0 x → w ≡ get_or a 1 w → y ≡ get_or b 0 y → z ≡ get_or b 1 z → agree same o a a b ≡ (same x z && same w y)
+  two_agree_at (p ∷ q ∷ []) (r ∷ s ∷ []) x w y z two two_too differs at_x at_w at_y at_z =
+      two_agree p q r s (differs p) ∙ sym (λ t. same (at_x t) (at_z t) && same (at_w t) (at_y t))
+  two_agree_at [] b x w y z two two_too differs at_x at_w at_y at_z = absurd (omega (arith, two))
+  two_agree_at (p ∷ []) b x w y z two two_too differs at_x at_w at_y at_z = absurd (omega (arith, two))
+  two_agree_at (p ∷ q ∷ v ∷ l) b x w y z two two_too differs at_x at_w at_y at_z = absurd (omega (arith, two))
+  two_agree_at (p ∷ q ∷ []) [] x w y z two two_too differs at_x at_w at_y at_z = absurd (omega (arith, two_too))
+  two_agree_at (p ∷ q ∷ []) (r ∷ []) x w y z two two_too differs at_x at_w at_y at_z = absurd (omega (arith, two_too))
+  two_agree_at (p ∷ q ∷ []) (r ∷ s ∷ v ∷ l) x w y z two two_too differs at_x at_w at_y at_z = absurd (omega (arith, two_too))
 
 module _ {K V : Type 0} (key : K → K → Bool) (value : V → V → Bool) where
   -- None of the first `n` pairs without a mark is the same as `p`.

@@ -3,10 +3,12 @@ ghost use Rattle.std.specs.Prelude.{◌≡◌, ◌<◌, ◌≤◌, ◌&&◌, dro
 ghost use Rattle.std.specs.List.{AllZip};
 ghost use Rattle.vecmap_base.specs.Equality.{FirstDiffer, count, counts_agree, has_same_counts, same_pair};
 
-use crate::matching::{is_same, pairs_match};
+use crate::matching::{is_same, pairs_match, pairs_match_crosswise};
 
 // The largest numbers of pairs for which marks are made.
-const MARKS_SMALL: usize = 128;
+const MARKS_SMALL: usize = 8;
+
+const MARKS_MEDIUM: usize = 128;
 
 const MARKS_LARGE: usize = 1024;
 
@@ -42,16 +44,22 @@ pub fn pairs_equal<K: Eq, V: PartialEq>(a: &[(K, V)], b: &[(K, V)]) -> bool
     rests_equal(&a[start..], &b[start..])
 }
 
-// Returns whether each pair of `a` occurs equally often in both lists. The first pairs differ. Marks for a few pairs
-// cost less to make than marks for many.
+// Returns whether each pair of `a` occurs equally often in both lists. The first pairs differ. Up to two pairs need no
+// marks, and marks for a few pairs cost less to make than marks for many.
 fn rests_equal<K: Eq, V: PartialEq>(a: &[(K, V)], b: &[(K, V)]) -> bool
     requires as_long { length a.now ≡ length b.now }
     requires not_empty { 0 < length a.now }
     requires first_differ { FirstDiffer K.eq V.eq a.now b.now }
     ensures { result ≡ counts_agree K.eq V.eq a.now a.now b.now }
 {
+    if b.len() <= 2 {
+        return pairs_match_crosswise(a, b);
+    }
     if b.len() <= MARKS_SMALL {
         return pairs_match(a, b, &mut [false; MARKS_SMALL]);
+    }
+    if b.len() <= MARKS_MEDIUM {
+        return pairs_match(a, b, &mut [false; MARKS_MEDIUM]);
     }
     if b.len() <= MARKS_LARGE {
         return pairs_match(a, b, &mut [false; MARKS_LARGE]);

@@ -32,6 +32,21 @@ pub(crate) fn pairs_match<K: Eq, V: PartialEq>(
     true
 }
 
+// Like `pairs_match`, for at most two pairs. As the first pairs differ, the pairs can only match crosswise, which needs
+// no marks.
+pub(crate) fn pairs_match_crosswise<K: Eq, V: PartialEq>(a: &[(K, V)], b: &[(K, V)]) -> bool
+    requires as_long { length a.now ≡ length b.now }
+    requires not_empty { 0 < length a.now }
+    requires at_most_two { length a.now ≤ 2 }
+    requires first_differ { FirstDiffer K.eq V.eq a.now b.now }
+    ensures { result ≡ counts_agree K.eq V.eq a.now a.now b.now }
+{
+    if a.len() == 1 {
+        return false;
+    }
+    is_same(&a[0], &b[1]) && is_same(&a[1], &b[0])
+}
+
 // Returns the index of the first pair without a mark that has the same key and the same value as `pair`.
 fn find_free<K: Eq, V: PartialEq>(pairs: &[(K, V)], taken: &[bool], pair: &(K, V)) -> Option<usize>
     requires enough { length pairs.now ≤ length taken.now }

@@ -104,8 +104,8 @@ fn counted(alloc: Global, count: usize) -> Result<VecMap<usize, usize>, AllocErr
 }
 
 #[test]
-fn long_maps_are_equal_in_any_order(rt: HostRuntime) {
-    for len in [127, 128, 129, 1024, 1025] {
+fn maps_of_each_length_are_equal_in_any_order(rt: HostRuntime) {
+    for len in [1, 2, 3, 8, 9, 127, 128, 129, 1024, 1025] {
         let map = granted(&rt, counted(rt.alloc(), len));
         let mut turned = granted(&rt, counted(rt.alloc(), len));
         turned.reverse();
