@@ -87,6 +87,22 @@ module _ {X : Type 0} (p : X → Bool) where
       let before : list_any p (take j xs) ≡ false = list_any_position (take j xs) ∙ ap is_some none in
       ap (λ m. position p (take m xs)) next ∙ position_none (take (j + 1) xs) (list_any_more p xs j x within ∙ (λ t. before t || (sym (ap p e) ∙ miss) t))
 
+  -- What the first `j` elements and the one at `j` answer, the first `k = j + 1` elements answer together.
+  pub list_any_next : (xs : List X) (j k : ℕ) (x : X) (before here : Bool) → j < length xs → k ≡ j + 1 → x ≡ get_or xs j x → here ≡ p x → list_any p (take j xs) ≡ before → list_any p (take k xs) ≡ (before || here)
+  list_any_next xs j k x before here within next e answer front =
+      ap (λ m. list_any p (take m xs)) next ∙ list_any_more p xs j x within ∙ (λ t. front t || (sym (ap p e) ∙ sym answer) t)
+
+  -- If one of the first `k` elements passes, one of all passes.
+  pub list_any_front : (xs : List X) (k : ℕ) → list_any p (take k xs) ≡ true → list_any p xs ≡ true
+  list_any_front [] zero e = e
+  list_any_front [] (suc k) e = e
+  list_any_front (x ∷ xs) zero e = absurd (true≢false (sym e))
+  list_any_front (x ∷ xs) (suc k) e =
+      elim (cases_Bool (p x)) [
+        | inl h ↦ ap (λ b. b || list_any p xs) h
+        | inr h ↦ ap (λ b. b || list_any p xs) h ∙ list_any_front xs k (sym (ap (λ b. b || list_any p (take k xs)) h) ∙ e)
+      ]
+
 module _ {X Y : Type 0} (p : Y → Bool) (f : X → Y) where
   pub list_any_map : (xs : List X) → list_any p (map f xs) ≡ list_any (λ x. p (f x)) xs
   list_any_map [] = refl

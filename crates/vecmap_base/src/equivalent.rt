@@ -11,7 +11,8 @@ ghost use Rattle.std.specs.Rc.{rc_slice_items, rc_str_bytes};
 ghost use Rattle.vecmap_base.specs.Pairs.{has_text, index_by};
 
 use crate::unrolled::{
-    MIN_LENGTH_FOR_EIGHTS, find_by_eights, find_item_unrolled, find_pair_unrolled, is_small,
+    MIN_LENGTH_FOR_BLOCKS, MIN_LENGTH_FOR_EIGHTS, find_by_eights, find_item_unrolled,
+    find_pair_unrolled, is_any_in_blocks, is_small,
 };
 use std::borrow::CowStr;
 use std::boxed::{BoxedSlice, BoxedStr};
@@ -282,7 +283,7 @@ pub fn find_item_equivalent<T: Eq, Q: Equivalent<T>>(items: &[T], query: Q) -> O
     ensures place { result ≡ position (Q.equivalent query) items.now }
     ensures within { IfSome result (λ i. i < length items.now) }
 {
-    if items.first().is_some_and(is_small) {
+    if items.len() >= MIN_LENGTH_FOR_BLOCKS && items.first().is_some_and(is_small) {
         if items.len() >= MIN_LENGTH_FOR_EIGHTS {
             return find_item_of_many(items, query);
         }
@@ -315,16 +316,25 @@ fn find_item_of_many<T: Eq, Q: Equivalent<T>>(items: &[T], query: Q) -> Option<u
 ///
 /// # Complexity
 ///
-/// At most `items.len()` comparisons.
+/// At most `items.len()` comparisons. Among eight items or more, of at most 8 bytes each, up to seven of them come after
+/// the first that matches.
 ///
 /// # Examples
 ///
 /// ```
 /// is_in_equivalent(&["a", "b"], "c") // false
 /// ```
-#[tactic(auto, using(crate::proofs::PlaceLemmas::list_any_position))]
+#[inline]
 pub fn is_in_equivalent<T: Eq, Q: Equivalent<T>>(items: &[T], query: Q) -> bool
     ensures { result ≡ list_any (Q.equivalent query) items.now }
 {
-    find_item_equivalent(items, query).is_some()
+    if items.len() >= MIN_LENGTH_FOR_BLOCKS && items.first().is_some_and(is_small) {
+        return is_any_in_blocks(
+            items,
+            |item: &T| -> bool
+                ensures { result ≡ Q.equivalent query item.now }
+            { query.equivalent(item) },
+        );
+    }
+    items.iter().any(|item| query.equivalent(item))
 }

@@ -1,9 +1,11 @@
 //! Searches that ask about several items in a turn of the loop. They ask in order, of each item at most once.
 //!
 //! They are faster if a comparison takes no longer than one turn of a loop. With up to four items in a turn, a search
-//! stops at the first that passes. With eight, it asks about all eight and then branches once, so that the compiler
-//! compares vectors; so it asks about at most seven items after the first that passes.
-ghost use Rattle.std.specs.Prelude.{◌≡◌, ◌+◌, ◌<◌, ◌≤◌, Bool, IfSome, None, length, position, take};
+//! for an index stops at the first that passes. With eight, and in a test for an item, it asks about a whole block of
+//! eight or four and then branches once, so that the compiler compares vectors; so it asks about at most seven items
+//! after the first that passes.
+ghost use Rattle.std.specs.Prelude.{◌≡◌, ◌+◌, ◌<◌, ◌≤◌, Bool, IfSome, None, false, length, position, take};
+ghost use Rattle.std.specs.List.{list_any};
 ghost use Rattle.vecmap_base.specs.Orders.{AnswersOnItem};
 ghost use Rattle.vecmap_base.specs.Pairs.{index_by};
 
@@ -11,6 +13,9 @@ use std::mem::size_of_val;
 
 // The size of a word in bytes.
 const WORD: usize = 8;
+
+// The least length of a list for which `find_item_unrolled` and `is_any_in_blocks` are faster than a plain loop.
+pub(crate) const MIN_LENGTH_FOR_BLOCKS: usize = 8;
 
 // The least length of a list for which `find_by_eights` is faster.
 pub(crate) const MIN_LENGTH_FOR_EIGHTS: usize = 32;
@@ -153,4 +158,79 @@ fn find_from<'a, T, F: Fn(&'a T) -> bool>(items: &'a [T], from: usize, asks: F) 
         }
     }
     None
+}
+
+// Returns whether `asks` returns `true` for an item. It asks about eight items before it branches, then about four, and
+// about the others one by one.
+pub(crate) fn is_any_in_blocks<'a, T, F: Fn(&'a T) -> bool>(items: &'a [T], asks: F) -> bool
+    requires { F.IsAlwaysCallable asks }
+    ensures { (p : T → Bool) → AnswersOnItem F.Fn p asks → result ≡ list_any p items.now }
+{
+    let eights = items.len() / 8;
+    for eight in 0..eights {
+        if is_any_of_eight(items, 8 * eight, &asks) {
+            return true;
+        }
+    }
+    let mut from = 8 * eights;
+    if 4 <= items.len() - from {
+        if is_any_of_four(items, from, &asks) {
+            return true;
+        }
+        from += 4;
+    }
+    is_any_from(items, from, asks)
+}
+
+// Returns whether `asks` returns `true` for one of the eight items from `at` on. It asks about each of them once. For
+// each item before `at`, `asks` returns `false`.
+fn is_any_of_eight<'a, T, F: Fn(&'a T) -> bool>(items: &'a [T], at: usize, asks: &F) -> bool
+    requires callable { F.IsAlwaysCallable asks.now }
+    requires within { at + 8 ≤ length items.now }
+    requires none_before { (p : T → Bool) → AnswersOnItem F.Fn p asks.now
+        → list_any p (take at items.now) ≡ false }
+    ensures { (p : T → Bool) → AnswersOnItem F.Fn p asks.now
+        → list_any p (take (at + 8) items.now) ≡ result }
+{
+    let a = asks(&items[at]);
+    let b = asks(&items[at + 1]);
+    let c = asks(&items[at + 2]);
+    let d = asks(&items[at + 3]);
+    let e = asks(&items[at + 4]);
+    let f = asks(&items[at + 5]);
+    let g = asks(&items[at + 6]);
+    let h = asks(&items[at + 7]);
+    a | b | c | d | e | f | g | h
+}
+
+// The same of the four items from `at` on.
+fn is_any_of_four<'a, T, F: Fn(&'a T) -> bool>(items: &'a [T], at: usize, asks: &F) -> bool
+    requires callable { F.IsAlwaysCallable asks.now }
+    requires within { at + 4 ≤ length items.now }
+    requires none_before { (p : T → Bool) → AnswersOnItem F.Fn p asks.now
+        → list_any p (take at items.now) ≡ false }
+    ensures { (p : T → Bool) → AnswersOnItem F.Fn p asks.now
+        → list_any p (take (at + 4) items.now) ≡ result }
+{
+    let a = asks(&items[at]);
+    let b = asks(&items[at + 1]);
+    let c = asks(&items[at + 2]);
+    let d = asks(&items[at + 3]);
+    a | b | c | d
+}
+
+// Returns whether `asks` returns `true` for one of the items from `from` on. For each item before `from` it returns
+// `false`.
+fn is_any_from<'a, T, F: Fn(&'a T) -> bool>(items: &'a [T], from: usize, asks: F) -> bool
+    requires callable { F.IsAlwaysCallable asks }
+    requires none_before { (p : T → Bool) → AnswersOnItem F.Fn p asks
+        → list_any p (take from items.now) ≡ false }
+    ensures { (p : T → Bool) → AnswersOnItem F.Fn p asks → result ≡ list_any p items.now }
+{
+    for index in from..items.len() {
+        if asks(&items[index]) {
+            return true;
+        }
+    }
+    false
 }

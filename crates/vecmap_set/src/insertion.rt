@@ -6,7 +6,7 @@ ghost use Rattle.vecmap_set.specs.Contents.{KeepsRoom, Refuses};
 
 use crate::VecSet;
 use std::mem;
-use vecmap_base::{Refused, find_item};
+use vecmap_base::{Refused, find_item, is_in};
 
 impl<T: Eq> VecSet<T> {
     /// Inserts an element and returns whether it is new.
@@ -32,7 +32,6 @@ impl<T: Eq> VecSet<T> {
     /// set.insert(1)? // false
     /// set.as_slice() // [1, 2, 3]
     /// ```
-    #[tactic(auto, using(vecmap_base::proofs::PlaceLemmas::list_any_position))]
     #[inline(always)]
     pub fn insert(&mut self, item: T) -> Result<bool, Refused<T>>
     where
@@ -47,7 +46,7 @@ impl<T: Eq> VecSet<T> {
         ensures given { IfErr result (λ refused. refused.given ≡ item) }
         ensures err { OnErr result (Refuses T.eq self.old item self.new) }
     {
-        if find_item(&self.items, &item).is_some() {
+        if is_in(&self.items, &item) {
             return Ok(false);
         }
         self.push(item)?;

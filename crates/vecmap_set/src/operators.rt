@@ -1,5 +1,5 @@
 //! The operators `&`, `|`, `^` and `-` on sets.
-ghost use Rattle.std.specs.Prelude.{IfOk};
+ghost use Rattle.std.specs.Prelude.{◌≤◌, IfOk};
 ghost use Rattle.std.specs.Iterator.{IsFinite};
 ghost use Rattle.vecmap_base.specs.Items.{both, only};
 ghost use Rattle.vecmap_set.specs.Operators.{ClonesStaySame, DrainsIntoClones, MakesClones, symmetric_difference_of, union_of};
@@ -7,6 +7,9 @@ ghost use Rattle.vecmap_set.specs.Operators.{ClonesStaySame, DrainsIntoClones, M
 use crate::{Difference, Intersection, SymmetricDifference, Union, VecSet};
 use std::alloc::{AllocError, Global};
 use std::ops::{BitAnd, BitOr, BitXor, Sub};
+
+// The capacity to which an empty vector first grows, if its items are not large.
+const MIN_CAPACITY: usize = 4;
 
 /// Creates a set of clones of the elements that both sets have.
 ///
@@ -167,7 +170,7 @@ impl<'a, 'b, T: Eq + Clone> Sub<&'b VecSet<T>> for &'a VecSet<T> {
     }
 }
 
-// Returns clones of what an iterator yields, in order. Capacity for its lower bound is reserved first.
+// Returns clones of what an iterator yields, in order. Capacity is reserved first, for the items that it yields at least.
 fn clones_of<'a, T: Clone + 'a, I: Iterator<Item = &'a T>>(
     alloc: Global,
     iter: I,
@@ -176,10 +179,21 @@ fn clones_of<'a, T: Clone + 'a, I: Iterator<Item = &'a T>>(
     requires ends { IsFinite (I.remaining iter) }
     ensures { IfOk result (λ made. DrainsIntoClones I.next_gives T.is_clone iter made.items) }
 {
-    let (at_least, _) = iter.size_hint();
-    let mut made = Vec::with_capacity(alloc, at_least)?;
+    let (at_least, at_most) = iter.size_hint();
+    let mut made = Vec::with_capacity(alloc, first_capacity(at_least, at_most))?;
     for item in iter {
         made.push(item.clone()?)?;
     }
     Ok(made)
+}
+
+// Returns the capacity to reserve for an iterator with these bounds. If it yields an item, and may yield several, that is
+// at least what a vector first grows to, so that the vector does not grow for the second item.
+fn first_capacity(at_least: usize, at_most: Option<usize>) -> usize
+    ensures { at_least ≤ result }
+{
+    if at_least == 0 {
+        return 0;
+    }
+    at_least.max(at_most.unwrap_or(at_least).min(MIN_CAPACITY))
 }

@@ -114,3 +114,29 @@ fn a_search_of_words_asks_about_at_most_seven_more(rt: HostRuntime) {
         }
     }
 }
+
+#[test]
+fn a_test_for_a_word_asks_about_at_most_seven_more(rt: HostRuntime) {
+    for length in [1, 7, 8, 11, 12, 13, 20, 31] {
+        let log = Log::new();
+        let mut numbers = Vec::new(rt.alloc());
+        for number in 0..length {
+            granted(&rt, numbers.push(number));
+        }
+        let told = granted(&rt, told_items(rt.alloc(), &log, &numbers));
+        granted(&rt, numbers.push(length));
+        let wanted = granted(&rt, told_items(rt.alloc(), &log, &numbers));
+        let mut words = Vec::new(rt.alloc());
+        for word in &told {
+            granted(&rt, words.push(word));
+        }
+        let more: usize = if told.len() < 8 { 1 } else { 8 };
+        for (index, word) in wanted.iter().enumerate() {
+            let before = log.comparisons();
+            assert_is(&rt, is_in(&words, &word), index < told.len());
+            let asked = log.comparisons().wrapping_sub(before) as usize;
+            check!(rt; asked <= told.len());
+            check!(rt; asked <= index.wrapping_add(more));
+        }
+    }
+}
