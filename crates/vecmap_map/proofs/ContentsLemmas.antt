@@ -1,7 +1,6 @@
 -- A write of a value leaves what `put` gives.
-use Rattle.std.specs.Prelude.{◌≡◌, ℕ, Bool, [], ◌∷◌, ◌++◌, None, Option, Some, IsSome, refl}
 use Rattle.std.specs.Option.{option_map_or}
-use Rattle.std.proofs.Common.{sym, true≢false}
+use Rattle.std.proofs.Common.{◌≡◌, ℕ, Bool, [], ◌∷◌, ◌++◌, None, Option, Some, IsSome, refl, sym, true≢false}
 use Rattle.vecmap_base.specs.Pairs.{index_of, put, with_value}
 use Rattle.vecmap_map.specs.Contents.{Contents, with_value_at, with_value_of}
 

@@ -1,5 +1,4 @@
-use Rattle.vecmap_base.proofs.PairsLemmas.Inserted.{lookup_put_at, lookup_put_at_absent}
-use Rattle.vecmap_base.proofs.PairsLemmas.Puts.{put_at_absent}
+use Rattle.vecmap_base.proofs.PairsLemmas.{Inserted.lookup_put_at, Inserted.lookup_put_at_absent, Puts.put_at_absent}
 use Rattle.vecmap_map.proofs.laws.moving.insertions_at_an_index_are_found.Goals as goal
 
 pub returns-clause-new_key : goal.returns-clause-new_key

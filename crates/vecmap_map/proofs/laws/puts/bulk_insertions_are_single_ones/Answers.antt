@@ -1,7 +1,5 @@
-use Rattle.vecmap_base.proofs.PairsLemmas.AfterPuts.{lookup_puts, lookup_puts_distinct}
-use Rattle.vecmap_base.proofs.PairsLemmas.Keys.{keys_of_puts}
-use Rattle.vecmap_base.proofs.PairsLemmas.Parts.{index_of_puts, index_of_puts_kept, lookup_made_last, lookup_puts_last}
-use Rattle.vecmap_base.proofs.PairsLemmas.Puts.{puts_append, puts_distinct}
+use Rattle.vecmap_base.proofs.PairsLemmas.{AfterPuts.lookup_puts, AfterPuts.lookup_puts_distinct, Keys.keys_of_puts}
+use Rattle.vecmap_base.proofs.PairsLemmas.{Parts.index_of_puts, Parts.index_of_puts_kept, Parts.lookup_made_last, Parts.lookup_puts_last, Puts.puts_append, Puts.puts_distinct}
 use Rattle.vecmap_map.proofs.laws.puts.bulk_insertions_are_single_ones.Goals as goal
 
 pub returns-clause-more : goal.returns-clause-more

@@ -1,5 +1,4 @@
-use Rattle.vecmap_base.proofs.PairsLemmas.AfterPuts.{index_of_congr, is_some_lookup}
-use Rattle.vecmap_base.proofs.PairsLemmas.Lookups.{lookup_congr}
+use Rattle.vecmap_base.proofs.PairsLemmas.{AfterPuts.index_of_congr, AfterPuts.is_some_lookup, Lookups.lookup_congr}
 use Rattle.vecmap_map.proofs.laws.puts.equal_keys_find_the_same.Goals as goal
 
 pub returns-clause-value : goal.returns-clause-value
