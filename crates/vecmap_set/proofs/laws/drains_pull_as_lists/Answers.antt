@@ -1,5 +1,4 @@
-use Rattle.std.specs.Prelude.{refl}
-use Rattle.std.proofs.Common.{◌∙◌}
+use Rattle.std.proofs.Common.{refl, ◌∙◌}
 use Rattle.vecmap_base.proofs.DrainRuns.{drains_pull, keeps_pulled}
 use Rattle.vecmap_set.specs.Drain.{DrainKeeps, drain_rest}
 use Rattle.vecmap_set.proofs.laws.drains_pull_as_lists.Goals as goal

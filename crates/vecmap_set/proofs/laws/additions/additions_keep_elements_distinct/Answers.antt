@@ -1,5 +1,4 @@
-use Rattle.vecmap_base.proofs.DistinctLemmas.Absent.{distinct_none}
-use Rattle.vecmap_base.proofs.DistinctLemmas.Additions.{distinct_add, distinct_add_new, distinct_adds}
+use Rattle.vecmap_base.proofs.DistinctLemmas.{Absent.distinct_none, Additions.distinct_add, Additions.distinct_add_new, Additions.distinct_adds}
 use Rattle.vecmap_set.proofs.laws.additions.additions_keep_elements_distinct.Goals as goal
 
 pub returns-clause-empty : goal.returns-clause-empty

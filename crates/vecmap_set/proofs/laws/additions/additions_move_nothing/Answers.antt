@@ -1,5 +1,4 @@
-use Rattle.vecmap_base.proofs.ItemsLemmas.Additions.{add_absent, add_present}
-use Rattle.vecmap_base.proofs.ItemsLemmas.Places.{item_index_add, slice_get_add}
+use Rattle.vecmap_base.proofs.ItemsLemmas.{Additions.add_absent, Additions.add_present, Places.item_index_add, Places.slice_get_add}
 use Rattle.vecmap_set.proofs.laws.additions.additions_move_nothing.Goals as goal
 
 pub returns-clause-place : goal.returns-clause-place

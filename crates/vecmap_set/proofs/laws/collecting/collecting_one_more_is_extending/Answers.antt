@@ -1,5 +1,4 @@
-use Rattle.std.proofs.Common.{ap, sym, ◌∙◌}
-use Rattle.std.specs.Prelude.{[], ◌∷◌}
+use Rattle.std.proofs.Common.{[], ◌∷◌, ap, sym, ◌∙◌}
 use Rattle.vecmap_base.specs.Items.{adds}
 use Rattle.vecmap_base.proofs.ItemsLemmas.Additions.{adds_append}
 use Rattle.vecmap_set.proofs.laws.collecting.collecting_one_more_is_extending.Goals as goal
