@@ -1,17 +1,15 @@
 -- The idea: each clause is a lemma of `vecmap_base`.
-use Rattle.vecmap_base.proofs.PairsLemmas.{AfterPuts.index_of_put, AfterPuts.length_put, AfterPuts.lookup_put_any, AfterPuts.lookup_put_key, Keys.keys_of_put}
-use Rattle.vecmap_base.proofs.PairsLemmas.{Lookups.lookup_put, Lookups.lookup_put_other, Puts.put_absent}
+use Rattle.vecmap_base.proofs.PairsLemmas.{AfterPuts.lookup_put_any, AfterPuts.lookup_put_key, Lookups.lookup_put, Lookups.lookup_put_other}
 use Rattle.vecmap_map.proofs.laws.puts.insertions_are_found.Goals as goal
 
-pub returns : goal.returns
-returns g c =
-    let eq = g.K.PartialEq.eq in let laws = g.met.K.Eq.laws in record {
-      value = lookup_put eq laws;
-      others = lookup_put_other eq laws;
-      lookups = lookup_put_any eq laws;
-      with_key = lookup_put_key eq laws;
-      place = index_of_put eq laws;
-      keys = keys_of_put eq;
-      appended = put_absent eq;
-      len = length_put eq;
-    }
+pub returns-clause-value : goal.returns-clause-value
+returns-clause-value g c = lookup_put g.K.PartialEq.eq g.met.K.Eq.laws
+
+pub returns-clause-others : goal.returns-clause-others
+returns-clause-others g c = lookup_put_other g.K.PartialEq.eq g.met.K.Eq.laws
+
+pub returns-clause-lookups : goal.returns-clause-lookups
+returns-clause-lookups g c = lookup_put_any g.K.PartialEq.eq g.met.K.Eq.laws
+
+pub returns-clause-with_key : goal.returns-clause-with_key
+returns-clause-with_key g c = lookup_put_key g.K.PartialEq.eq g.met.K.Eq.laws
