@@ -34,7 +34,6 @@ use vecmap::{Refused, VecMap};
 #[derive(Drop)]
 pub struct Document {
     sections: VecMap<Name, VecMap<Name, String>>,
-    alloc: Global,
 }
 
 impl Model for Document {
@@ -65,7 +64,6 @@ impl Document {
     {
         Document {
             sections: VecMap::new(alloc),
-            alloc,
         }
     }
 
@@ -108,7 +106,7 @@ impl Document {
         ensures given { IfErr result (λ refused. refused.given ≡ (section, name, text)) }
         ensures err { OnErr result (self.new ≡ self.old) }
     {
-        set_text(&mut self.sections, self.alloc, section, name, text)
+        set_text(&mut self.sections, section, name, text)
     }
 
     /// Returns the text under a section and a name, if there is one.
@@ -170,7 +168,8 @@ impl Document {
         ensures other_err { OnErr result (other.new ≡ other.old) }
     {
         make_room(&mut self.sections, &other.sections)?;
-        let others = replace(&mut other.sections, VecMap::new(self.alloc)).into_vec();
+        let alloc = *self.sections.allocator();
+        let others = replace(&mut other.sections, VecMap::new(alloc)).into_vec();
         move_all(&mut self.sections, others);
         Ok(())
     }

@@ -6,14 +6,12 @@ ghost use Rattle.std.specs.Prelude.{◌≡◌, IfErr, IfOk, IsOk, IsSome, OnErr,
 ghost use Rattle.vecmap.specs.Pairs.{index_of, lookup, put};
 
 use crate::Name;
-use std::alloc::Global;
 use vecmap::{Refused, VecMap};
 
 // Sets the text under a section and a name, and returns the previous one. Reserves capacity for a new section and for
 // its text before it inserts either.
 pub(crate) fn set_text(
     sections: &mut VecMap<Name, VecMap<Name, String>>,
-    alloc: Global,
     section: Name,
     name: Name,
     text: String,
@@ -33,6 +31,7 @@ pub(crate) fn set_text(
             Ok(old)
         }
         None => {
+            let alloc = *sections.allocator();
             let mut texts = VecMap::new(alloc);
             if texts.reserve(1).is_err() || sections.reserve(1).is_err() {
                 return Err(Refused {

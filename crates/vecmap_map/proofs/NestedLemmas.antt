@@ -1,15 +1,12 @@
 -- The lists of the collections that are the values of a map, after a write of one of them. `inside` is the list of a
 -- collection, and IsMade holds of a collection that was created empty. The idea: a lookup after `put` finds the written
 -- collection at its key, and at other keys what it found before.
-use Rattle.std.specs.Prelude.{◌≡◌, Bool, true, false, List, [], ◌∷◌, ◌++◌, None, Option, Some}
-use Rattle.std.specs.Cmp.{IsEquivalence}
-use Rattle.std.specs.Option.{UnwrapsOrElse, option_and_then, option_map_or}
-use Rattle.std.proofs.Common.{sym, ap, subst, ◌∙◌, inl, inr}
+use Rattle.std.specs.{Cmp.IsEquivalence, Option.UnwrapsOrElse, Option.option_and_then, Option.option_map_or}
+use Rattle.std.proofs.Common.{◌≡◌, Bool, true, false, List, [], ◌∷◌, ◌++◌, None, Option, Some, sym, ap, subst, ◌∙◌, inl, inr}
 use Rattle.std.proofs.lemmas.Bool.{cases_Bool}
 use Rattle.vecmap_base.specs.Pairs.{index_of, lookup, put, value_at, with_value}
 use Rattle.vecmap_base.proofs.PairsLemmas.Lookups.{lookup_congr, lookup_put, lookup_put_other}
-use Rattle.vecmap_map.specs.Contents.{Contents}
-use Rattle.vecmap_map.specs.Entry.{entries_with, entry_key, entry_map, entry_place, entry_value}
+use Rattle.vecmap_map.specs.{Contents.Contents, Entry.entries_with, Entry.entry_key, Entry.entry_map, Entry.entry_place, Entry.entry_value}
 use Rattle.vecmap_map.specs.declared.entry.Entry.{Entry}
 
 module _ {K W : Type 0} (eq : K → K → Bool) where

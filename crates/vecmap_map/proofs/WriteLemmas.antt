@@ -1,17 +1,11 @@
 -- What lookups find after a write of the value that a query finds. The idea: the write is `put` of any key that the
 -- query matches, so the lemmas on `put` hold.
-use Rattle.std.specs.Prelude.{◌≡◌, ℕ, Bool, false, List, [], ◌∷◌, None, Option, Some, IsSome, IsTrue, bytes_eq, string_bytes, string_eq, String, refl, unwrap_or}
-use Rattle.std.specs.Cmp.{IsEquivalence}
-use Rattle.std.specs.Cmp.Lexicographic.{nat_list_eq_equiv}
-use Rattle.std.specs.declared.alloc.Global.{Global}
-use Rattle.std.specs.Map.{keys_of}
-use Rattle.std.specs.Option.{option_and_then, option_map_or}
-use Rattle.std.proofs.Common.{sym, ap, subst, ◌∙◌, get_or, true≢false}
+use Rattle.std.specs.{Cmp.IsEquivalence, Cmp.Lexicographic.nat_list_eq_equiv, declared.alloc.Global.Global, Map.keys_of, Option.option_and_then, Option.option_map_or}
+use Rattle.std.proofs.Common.{◌≡◌, ℕ, Bool, false, List, [], ◌∷◌, None, Option, Some, IsSome, IsTrue, bytes_eq, string_bytes, string_eq, String, refl, unwrap_or, sym, ap, subst, ◌∙◌, get_or, true≢false}
 use Rattle.std.proofs.lemmas.List.Quantifiers.{position-Some}
 use Rattle.vecmap_base.specs.Pairs.{has_text, index_by, lookup, lookup_by, put, value_at, with_value}
 use Rattle.vecmap_base.proofs.ItemsLemmas.Queries.{tells_as}
-use Rattle.vecmap_base.proofs.PairsLemmas.Queries.{lookup_put_other_query, lookup_put_query, string_equality, text_respects}
-use Rattle.vecmap_base.proofs.PairsLemmas.Values.{keys_of_with_value, with_own_value}
+use Rattle.vecmap_base.proofs.PairsLemmas.{Queries.lookup_put_other_query, Queries.lookup_put_query, Queries.string_equality, Queries.text_respects, Values.keys_of_with_value, Values.with_own_value}
 use Rattle.vecmap_map.specs.Contents.{Contents, with_entries, with_value_at, with_value_by}
 use Rattle.vecmap_map.proofs.ContentsLemmas.{with_value_of_is_put}
 

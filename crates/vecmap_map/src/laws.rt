@@ -49,6 +49,7 @@ pub fn equality_is_an_equivalence<K: Eq, V: Eq>()
 {}
 
 /// Maps of the same pairs in different orders are equal, even if keys repeat.
+#[tactic(auto, using(vecmap_base::proofs::EqualityLemmas::Maps::rearranged_maps_equal))]
 pub fn equality_ignores_order<K: Eq, V: Eq>()
     ensures { (a b : List (K × V)) → IsPermutation a b → IsTrue (has_same_counts K.eq V.eq a b) }
 {}
@@ -67,6 +68,7 @@ pub fn equality_is_agreement<K: Eq, V: Eq>()
 {}
 
 /// Maps of different lengths are not equal. For maps of the same length it is enough to count the pairs of one of them.
+#[tactic(auto, using(crate::proofs::LawLemmas::lengths_tell_of_equality))]
 pub fn lengths_tell_of_equality<K: Eq, V: Eq>()
     ensures unequal { (a b : List (K × V)) → length a ≢ length b
         → has_same_counts K.eq V.eq a b ≡ false }
@@ -77,6 +79,7 @@ pub fn lengths_tell_of_equality<K: Eq, V: Eq>()
 /// If no keys repeat, none repeat after an insertion, after many insertions, or after a write of a value.
 ///
 /// No keys repeat in the empty list, nor in what insertions make of it.
+#[tactic(auto, using(crate::proofs::LawLemmas::insertion_keeps_keys_distinct))]
 pub fn insertion_keeps_keys_distinct<K: Eq, V>()
     ensures empty { HasDistinctKeys {V = V} K.eq [] }
     ensures put { (l : List (K × V)) → HasDistinctKeys K.eq l → (k : K) (v : V)
@@ -96,6 +99,7 @@ pub fn insertion_keeps_keys_distinct<K: Eq, V>()
 ///
 /// The removal is by a test of the keys or by index. It shifts the later pairs or swaps in the last one. The test is
 /// the `==` of a key, that of a text, or that of a query type of your own.
+#[tactic(auto, using(crate::proofs::LawLemmas::removal_keeps_keys_distinct))]
 pub fn removal_keeps_keys_distinct<K: Eq, V>()
     ensures by_test { (l : List (K × V)) → HasDistinctKeys K.eq l → (test : K → Bool)
         → HasDistinctKeys K.eq (without_by test l) }
@@ -112,6 +116,7 @@ pub fn removal_keeps_keys_distinct<K: Eq, V>()
 {}
 
 /// If no keys repeat, none repeat in a part of the list, once a part is left out, nor in the pairs that pass a test.
+#[tactic(auto, using(crate::proofs::LawLemmas::parts_keep_keys_distinct))]
 pub fn parts_keep_keys_distinct<K: Eq, V>()
     ensures back { (l : List (K × V)) → HasDistinctKeys K.eq l → (n : ℕ)
         → HasDistinctKeys K.eq (drop n l) }
@@ -124,12 +129,14 @@ pub fn parts_keep_keys_distinct<K: Eq, V>()
 {}
 
 /// If no keys repeat, a list that is split is whole again once the second part is appended to the first.
+#[tactic(auto, using(vecmap_base::proofs::PairsLemmas::Puts::puts_restore))]
 pub fn appending_undoes_splitting<K: Eq, V>()
     ensures { (l : List (K × V)) → HasDistinctKeys K.eq l → (at : ℕ)
         → puts K.eq (take at l) (drop at l) ≡ l }
 {}
 
 /// If no keys repeat, none repeat in another order.
+#[tactic(auto, using(crate::proofs::LawLemmas::order_keeps_keys_distinct))]
 pub fn order_keeps_keys_distinct<K: Eq, V>()
     ensures rearranged { (l m : List (K × V)) → HasDistinctKeys K.eq l → IsPermutation l m
         → HasDistinctKeys K.eq m }
@@ -142,6 +149,7 @@ pub fn order_keeps_keys_distinct<K: Eq, V>()
 /// If no keys repeat and each clone of a key is equal to its original, none repeat in clones of the pairs.
 ///
 /// The same holds after the clone of a key that is not present has been appended.
+#[tactic(auto, using(crate::proofs::LawLemmas::clones_keep_keys_distinct))]
 pub fn clones_keep_keys_distinct<K: Eq + Clone, V: Clone>()
     ensures stored { ClonesAreSame K.eq K.is_clone → (l : List (K × V)) (key clone : K) (v : V)
         → K.is_clone key clone → index_of K.eq l key ≡ None → HasDistinctKeys K.eq l
@@ -162,6 +170,7 @@ pub fn clones_have_the_same_pairs<K: Clone, V: Clone>()
 ///
 /// Each pair comes once: in order from the front, in reverse order from the back. Then each pull returns `None`. What
 /// the map has once the drain is dropped stays: the pairs outside of the range, and the capacity.
+#[tactic(auto, using(crate::proofs::LawLemmas::drains_pull_as_lists))]
 pub fn drains_pull_as_lists<K, V>()
     ensures pulls { (s t : Drain K V) (ends : List End) (items : List (Option (K × V)))
         → PullsBy DrainNext DrainNextBack s ends items t

@@ -2,14 +2,10 @@
 -- order is one about the shorter and the other.
 use Rattle.std.proofs.Common.{◌≡◌, ◌+◌, ◌∙◌, Bool, true, false, ◌&&◌, ◌||◌, List, arith, if◌then◌else◌, length, nat_lt, not}
 use Rattle.std.proofs.lemmas.List.Folds.{list_any-append}
-use Rattle.std.specs.Cmp.{IsEquivalence}
-use Rattle.std.specs.List.{IsDistinct}
-use Rattle.vecmap_base.specs.Equality.{has_same_items}
-use Rattle.vecmap_base.specs.Items.{both, has_item, only}
-use Rattle.vecmap_base.proofs.EqualityLemmas.Sets.{set_equality_laws}
-use Rattle.vecmap_base.proofs.EqualityLemmas.Relations.{both_turned, has_item_only, length_both_turned, length_union, union_turned}
-use Rattle.vecmap_set.specs.Lazy.{longer, not_longer, not_shorter, shorter}
-use Rattle.vecmap_set.specs.Operators.{lazy_intersection, lazy_union, symmetric_difference_of, union_of}
+use Rattle.std.specs.{Cmp.IsEquivalence, List.IsDistinct}
+use Rattle.vecmap_base.specs.{Equality.has_same_items, Items.both, Items.has_item, Items.only}
+use Rattle.vecmap_base.proofs.EqualityLemmas.{Sets.set_equality_laws, Relations.both_turned, Relations.has_item_only, Relations.length_both_turned, Relations.length_union, Relations.union_turned}
+use Rattle.vecmap_set.specs.{Lazy.longer, Lazy.not_longer, Lazy.not_shorter, Lazy.shorter, Operators.lazy_intersection, Operators.lazy_union, Operators.symmetric_difference_of, Operators.union_of}
 
 module _ {T : Type 0} (a b : List T) (P : List T → List T → Type 0) where
   -- What holds of two lists in either order holds of the shorter and the other.

@@ -1,9 +1,7 @@
 -- What is taken from an iterator until nothing is left is the list that it had. By induction on the taken items.
 use Rattle.std.proofs.Common.{◌≡◌, List, [], ◌∷◌, ◌++◌, Option, None, Some, ap, sym, subst, ◌∙◌, map}
 use Rattle.std.proofs.lemmas.List.{append-nil}
-use Rattle.std.specs.Borrow.{Bor}
-use Rattle.std.specs.Iterator.{Drains, Yields, YieldsFirstRef}
-use Rattle.std.specs.Map.Iter.{deref}
+use Rattle.std.specs.{Borrow.Bor, Iterator.Drains, Iterator.Yields, Iterator.YieldsFirstRef, Map.Iter.deref}
 use Rattle.vecmap_base.specs.Clones.{AreClones}
 use Rattle.vecmap_set.specs.Operators.{DrainsIntoClones}
 

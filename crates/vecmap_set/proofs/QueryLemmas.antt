@@ -1,14 +1,10 @@
 -- What a query finds after an addition. By induction on the list for an element that does not match. A matching element
 -- is found as an equal one is.
-use Rattle.std.specs.Prelude.{◌≡◌, Bool, true, false, List, [], ◌∷◌, Some, IsTrue, if◌then◌else◌, is_some, length, option_map, position, suc, unwrap_or}
-use Rattle.std.specs.Cmp.{IsEquivalence}
-use Rattle.std.specs.List.{list_any}
-use Rattle.std.proofs.Common.{sym, ap, cond, ◌∙◌, inl, inr}
+use Rattle.std.specs.{Cmp.IsEquivalence, List.list_any}
+use Rattle.std.proofs.Common.{◌≡◌, Bool, true, false, List, [], ◌∷◌, Some, IsTrue, if◌then◌else◌, is_some, length, option_map, position, suc, unwrap_or, sym, ap, cond, ◌∙◌, inl, inr}
 use Rattle.std.proofs.lemmas.Bool.{cases_Bool}
 use Rattle.vecmap_base.specs.Items.{add, item_index}
-use Rattle.vecmap_base.proofs.ItemsLemmas.Places.{item_index_add}
-use Rattle.vecmap_base.proofs.ItemsLemmas.Queries.{tells_as}
-use Rattle.vecmap_base.proofs.ItemsLemmas.Recursion.{add_cons}
+use Rattle.vecmap_base.proofs.ItemsLemmas.{Places.item_index_add, Queries.tells_as, Recursion.add_cons}
 use Rattle.vecmap_base.proofs.PlaceLemmas.{is_some_position, list_any_position, position_cons}
 
 module _ {T : Type 0} (eq : T → T → Bool) (test : T → Bool) where

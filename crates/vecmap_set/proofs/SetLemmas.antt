@@ -1,7 +1,6 @@
 -- Clones of the elements of a set. The idea: each clone is equal to its original, and the originals are distinct.
-use Rattle.std.specs.Prelude.{Bool, Contains, IsTrue, List, [], ◌∷◌}
-use Rattle.std.specs.Cmp.{IsEquivalence}
-use Rattle.std.specs.List.{IsDistinct}
+use Rattle.std.proofs.Common.{Bool, Contains, IsTrue, List, [], ◌∷◌}
+use Rattle.std.specs.{Cmp.IsEquivalence, List.IsDistinct}
 use Rattle.std.proofs.lemmas.List.Elements.{Contains-append_left, Contains-append_right, Contains-push}
 use Rattle.vecmap_base.specs.Clones.{AreClones}
 use Rattle.vecmap_base.proofs.DistinctLemmas.Clones.{distinct_clones}

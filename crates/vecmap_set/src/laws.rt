@@ -45,11 +45,13 @@ pub fn equality_is_an_equivalence<T: Eq>()
 {}
 
 /// Sets of the same elements in another order are equal.
+#[tactic(auto, using(vecmap_base::proofs::EqualityLemmas::Sets::rearranged_sets_equal))]
 pub fn equality_ignores_order<T: Eq>()
     ensures { (a b : List T) → IsPermutation a b → IsTrue (has_same_items T.eq a b) }
 {}
 
 /// Two sets are equal exactly if each is a subset of the other.
+#[tactic(auto, using(vecmap_base::proofs::EqualityLemmas::Sets::equal_if_within_each_other))]
 pub fn equality_is_inclusion_both_ways<T: Eq>()
     ensures { (a b : List T)
         → IsTrue (has_same_items T.eq a b)
@@ -57,6 +59,7 @@ pub fn equality_is_inclusion_both_ways<T: Eq>()
 {}
 
 /// Sets of different lengths are not equal, and a longer set is no subset. A subset of the same length is equal.
+#[tactic(auto, using(crate::proofs::LawLemmas::lengths_tell_of_inclusion))]
 pub fn lengths_tell_of_inclusion<T: Eq>()
     ensures unequal { (a b : List T) → IsDistinct T.eq a → IsDistinct T.eq b → length a ≢ length b
         → has_same_items T.eq a b ≡ false }
@@ -67,6 +70,7 @@ pub fn lengths_tell_of_inclusion<T: Eq>()
 {}
 
 /// Whether two sets are disjoint is the same from either side.
+#[tactic(auto, using(vecmap_base::proofs::EqualityLemmas::Relations::both_empty_turned))]
 pub fn disjointness_is_symmetric<T: Eq>()
     ensures { (a b : List T) → (both T.eq a b ≡ []) ↔ (both T.eq b a ≡ []) }
 {}
@@ -80,6 +84,7 @@ pub fn appending_undoes_splitting<T: Eq>()
 ///
 /// Each element comes once: in order from the front, in reverse order from the back. Then each pull returns `None`.
 /// What the set has once the drain is dropped stays: the elements outside of the range, and the capacity.
+#[tactic(auto, using(crate::proofs::LawLemmas::drains_pull_as_lists))]
 pub fn drains_pull_as_lists<T: Eq>()
     ensures pulls { (s t : Drain T) (ends : List End) (items : List (Option T))
         → PullsBy DrainNext DrainNextBack s ends items t

@@ -8,6 +8,7 @@ ghost use Rattle.vecmap_map.specs.MapBulk.{Puts};
 /// Collecting some pairs and extending the map by one more is the same as collecting the longer list.
 ///
 /// The clauses of `try_collect`, `partition` and `unzip` require this of a collection.
+#[tactic(auto, using(vecmap_base::proofs::PairsLemmas::Puts::puts_append))]
 pub fn collecting_one_more_is_extending<K: Eq, V>()
     ensures { CollectsByExtend {A = K × V} {B = Contents K V}
         (λ pairs map. map.entries ≡ puts K.eq [] pairs)

@@ -6,6 +6,7 @@ ghost use Rattle.vecmap_base.specs.Pairs.{HasDistinctKeys, index_of, lookup, put
 /// After an insertion at an index, its key finds the new value, and every other key finds what it found before.
 ///
 /// This holds of a new key, and of every key if no keys repeat.
+#[tactic(auto, using(crate::proofs::LawLemmas::insertions_at_an_index_are_found))]
 pub fn insertions_at_an_index_are_found<K: Eq, V>()
     ensures new_key { (l : List (K × V)) (i : ℕ) (k : K) (v : V) → index_of K.eq l k ≡ None → (q : K)
         → lookup K.eq (put_at K.eq l i k v) q ≡ (if K.eq k q then Some v else lookup K.eq l q) }
@@ -18,6 +19,7 @@ pub fn insertions_at_an_index_are_found<K: Eq, V>()
 /// A pair that is inserted where one was removed replaces it. An absent key stays absent after a removal.
 ///
 /// The removal of a key is the removal of the pair at its index.
+#[tactic(auto, using(crate::proofs::LawLemmas::removals_by_index_are_undone))]
 pub fn removals_by_index_are_undone<K: Eq, V>()
     ensures replaced { (l : List (K × V)) (i : ℕ) (k : K) (v : V) → i < length l
         → insert (remove l i) i (k, v) ≡ with_pair l i k v }
@@ -41,6 +43,7 @@ pub fn moves_keep_lookups<K: Eq, V>()
 {}
 
 /// If no keys repeat, each key finds the same value in another order.
+#[tactic(auto, using(crate::proofs::LawLemmas::order_keeps_lookups))]
 pub fn order_keeps_lookups<K: Eq, V>()
     ensures rearranged { (l m : List (K × V)) → HasDistinctKeys K.eq l → IsPermutation l m → (q : K)
         → lookup K.eq m q ≡ lookup K.eq l q }

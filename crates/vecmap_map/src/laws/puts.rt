@@ -9,6 +9,7 @@ ghost use Rattle.vecmap_map.specs.Entry.{AreEntriesWith, entry_key, entry_map, e
 ghost use Rattle.vecmap_map.specs.declared.entry.Entry.{Entry};
 
 /// Equal keys have the same value and the same index. A lookup finds a value exactly if its key has an index.
+#[tactic(auto, using(crate::proofs::LawLemmas::equal_keys_find_the_same))]
 pub fn equal_keys_find_the_same<K: Eq, V>()
     ensures value { (l : List (K × V)) (x y : K) → K.eq x y ≡ true
         → lookup K.eq l x ≡ lookup K.eq l y }
@@ -19,6 +20,7 @@ pub fn equal_keys_find_the_same<K: Eq, V>()
 {}
 
 /// If no keys repeat, each stored key is found at its own index, with its own value.
+#[tactic(auto, using(crate::proofs::LawLemmas::stored_pairs_are_found))]
 pub fn stored_pairs_are_found<K: Eq, V>()
     ensures value { (l : List (K × V)) → HasDistinctKeys K.eq l → (i : ℕ) (k : K) (v : V)
         → slice_get l i ≡ Some (k, v) → lookup K.eq l k ≡ Some v }
@@ -30,6 +32,7 @@ pub fn stored_pairs_are_found<K: Eq, V>()
 ///
 /// The inserted key keeps its index or is appended. No other key moves, and no stored key changes. Lookups find the
 /// same values if the insertion also replaces the stored key.
+#[tactic(auto, using(crate::proofs::LawLemmas::insertions_are_found))]
 pub fn insertions_are_found<K: Eq, V>()
     ensures value { (l : List (K × V)) (k : K) (v : V) → lookup K.eq (put K.eq l k v) k ≡ Some v }
     ensures others { (l : List (K × V)) (k : K) (v : V) (q : K) → K.eq k q ≡ false
@@ -53,6 +56,7 @@ pub fn insertions_are_found<K: Eq, V>()
 /// An insertion of the value that its key already has changes nothing.
 ///
 /// A write of the value of a key that is present, as through `get_mut`, is an insertion.
+#[tactic(auto, using(crate::proofs::LawLemmas::writes_are_insertions))]
 pub fn writes_are_insertions<K: Eq, V>()
     ensures unchanged { (l : List (K × V)) (k : K) (v : V) → lookup K.eq l k ≡ Some v
         → put K.eq l k v ≡ l }
@@ -63,6 +67,7 @@ pub fn writes_are_insertions<K: Eq, V>()
 /// An insertion by an entry leaves what `insert` leaves, but a new key may be stored as a clone.
 ///
 /// `or_insert` leaves an existing value as it is.
+#[tactic(auto, using(crate::proofs::LawLemmas::entries_insert_alike))]
 pub fn entries_insert_alike<K: Eq + Clone, V>()
     ensures present { (e : Entry K V) (v : V) (l : List (K × V))
         → entry_place e ≡ index_of K.eq (entry_map e).entries (entry_key e) → IsSome (entry_place e)
@@ -79,6 +84,7 @@ pub fn entries_insert_alike<K: Eq + Clone, V>()
 ///
 /// A lookup finds the last value that the pairs give its key, or else the old one. No key moves, and new keys are
 /// appended in order. Pairs whose keys do not repeat become the list of a map if they are inserted into an empty one.
+#[tactic(auto, using(crate::proofs::LawLemmas::bulk_insertions_are_single_ones))]
 pub fn bulk_insertions_are_single_ones<K: Eq, V>()
     ensures one { (l : List (K × V)) (p : K × V) (pairs : List (K × V))
         → puts K.eq l (p ∷ pairs) ≡ puts K.eq (put K.eq l p.0 p.1) pairs }
@@ -108,6 +114,7 @@ pub fn bulk_insertions_are_single_ones<K: Eq, V>()
 /// If no keys repeat, a key is absent after its removal, and every other key finds what it found before.
 ///
 /// The remaining pairs keep their order.
+#[tactic(auto, using(crate::proofs::LawLemmas::removals_are_forgotten))]
 pub fn removals_are_forgotten<K: Eq, V>()
     ensures value { (l : List (K × V)) → HasDistinctKeys K.eq l → (k : K)
         → lookup K.eq (without_key K.eq l k) k ≡ None }
@@ -124,6 +131,7 @@ pub fn removals_are_forgotten<K: Eq, V>()
 {}
 
 /// A lookup in a list of two parts finds what the first part has, or else what the second has.
+#[tactic(auto, using(vecmap_base::proofs::PairsLemmas::Parts::lookup_append))]
 pub fn first_parts_are_found_first<K: Eq, V>()
     ensures { (a b : List (K × V)) (q : K)
         → lookup K.eq (a ++ b) q ≡ option_or (lookup K.eq a q) (lookup K.eq b q) }
@@ -132,6 +140,7 @@ pub fn first_parts_are_found_first<K: Eq, V>()
 /// If a function is applied to each value, a lookup finds the function of the value that it found before.
 ///
 /// An insertion then inserts the function of its value.
+#[tactic(auto, using(crate::proofs::LawLemmas::functions_of_values_are_found))]
 pub fn functions_of_values_are_found<K: Eq, V, W>()
     ensures value { (g : V → W) (l : List (K × V)) (k : K)
         → lookup K.eq (map_values g l) k ≡ option_map g (lookup K.eq l k) }

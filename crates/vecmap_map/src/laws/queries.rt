@@ -9,6 +9,7 @@ use vecmap_base::Equivalent;
 ///
 /// After an insertion of a key that it matches, a query finds the new value. After an insertion of any other key, it
 /// finds what it found before. If no keys repeat, a query finds nothing after a removal by it.
+#[tactic(auto, using(crate::proofs::LawLemmas::queries_find_as_keys))]
 pub fn queries_find_as_keys<K: Eq, V, Q: Equivalent<K>>()
     ensures value { (l : List (K × V)) (query : Q) (k : K) → Q.equivalent query k ≡ true
         → lookup_by (Q.equivalent query) l ≡ lookup K.eq l k }
@@ -29,6 +30,7 @@ pub fn queries_find_as_keys<K: Eq, V, Q: Equivalent<K>>()
 {}
 
 /// The same laws for a text and `String` keys: a text matches the `String` of its bytes.
+#[tactic(auto, using(crate::proofs::LawLemmas::texts_find_as_strings))]
 pub fn texts_find_as_strings<V>()
     ensures value { (l : List (String Global × V)) (text : List ℕ) (k : String Global)
         → string_bytes k ≡ text → lookup_by (has_text text) l ≡ lookup string_eq l k }

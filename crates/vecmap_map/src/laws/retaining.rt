@@ -5,6 +5,7 @@ ghost use Rattle.vecmap_base.specs.Kept.{Kept, TestsItems, WritesItems};
 ghost use Rattle.vecmap_base.specs.Pairs.{HasDistinctKeys};
 
 /// If no keys repeat, none repeat in what a closure keeps that may write only the values.
+#[tactic(auto, using(vecmap_base::proofs::DistinctLemmas::Parts::distinct_keys_kept))]
 pub fn retaining_keeps_keys_distinct<K: Eq, V, F: FnMut(&K, &mut V) -> bool>(_keep: &F)
     ensures { (f g : F) (l m : List (K × V)) → Kept (CallsAtPair F.FnMut) f l m g
         → HasDistinctKeys K.eq l → HasDistinctKeys K.eq m }
@@ -16,6 +17,7 @@ pub fn retaining_keeps_keys_distinct<K: Eq, V, F: FnMut(&K, &mut V) -> bool>(_ke
 /// function of each pair if the closure returns `true` and writes what the function says. In `filtered` and `written`
 /// the closure stays in its state, such as the values that it captures. In `filtered_by_states` and `written_by_states`
 /// its state may change, but not the test or the function.
+#[tactic(auto, using(crate::proofs::LawLemmas::retain_filters_or_writes))]
 pub fn retain_filters_or_writes<K, V, F: FnMut(&K, &mut V) -> bool>(_keep: &F)
     ensures filtered { (f g : F) (l m : List (K × V)) (test : K × V → Bool)
         → TestsItems (CallsAtPair F.FnMut) f test → Kept (CallsAtPair F.FnMut) f l m g
@@ -33,6 +35,7 @@ pub fn retain_filters_or_writes<K, V, F: FnMut(&K, &mut V) -> bool>(_keep: &F)
 {}
 
 /// The same laws for `retain2`, whose closure may write the key too.
+#[tactic(auto, using(crate::proofs::LawLemmas::retain2_filters_or_writes))]
 pub fn retain2_filters_or_writes<K, V, F: FnMut(&mut K, &mut V) -> bool>(_keep: &F)
     ensures filtered { (f g : F) (l m : List (K × V)) (test : K × V → Bool)
         → TestsItems (CallsAtPairMut F.FnMut) f test → Kept (CallsAtPairMut F.FnMut) f l m g

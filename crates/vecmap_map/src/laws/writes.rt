@@ -11,6 +11,7 @@ use vecmap_base::Equivalent;
 ///
 /// The query then finds the written value. Every other key and query finds what it found before, and the keys stay. If
 /// the query finds nothing, nothing changes.
+#[tactic(auto, using(crate::proofs::LawLemmas::writes_by_queries_are_insertions))]
 pub fn writes_by_queries_are_insertions<K: Eq, V, Q: Equivalent<K>>()
     ensures write { (m : Contents K V) (query : Q) (k : K) (v : V) → Q.equivalent query k ≡ true
         → IsSome (index_by (Q.equivalent query) m.entries)
@@ -32,6 +33,7 @@ pub fn writes_by_queries_are_insertions<K: Eq, V, Q: Equivalent<K>>()
 {}
 
 /// The same laws for a text and `String` keys: a text matches the `String` of its bytes.
+#[tactic(auto, using(crate::proofs::LawLemmas::writes_by_texts_are_insertions))]
 pub fn writes_by_texts_are_insertions<V>()
     ensures write { (m : Contents (String Global) V) (text : List ℕ) (k : String Global) (v : V)
         → string_bytes k ≡ text → IsSome (index_by (has_text text) m.entries)

@@ -5,11 +5,13 @@ ghost use Rattle.std.specs.Option.{option_or};
 ghost use Rattle.vecmap_base.specs.Items.{add, add_new, adds, has_item, item_index, only, without_item};
 
 /// Elements that are equal have the same index.
+#[tactic(auto, using(vecmap_base::proofs::ItemsLemmas::Places::item_index_congr))]
 pub fn equal_elements_have_one_place<T: Eq>()
     ensures { (s : List T) (x y : T) → T.eq x y ≡ true → item_index T.eq s x ≡ item_index T.eq s y }
 {}
 
 /// If no two elements are equal, each is found at its own index.
+#[tactic(auto, using(vecmap_base::proofs::ItemsLemmas::Places::item_index_own))]
 pub fn stored_elements_are_found<T: Eq>()
     ensures { (s : List T) → IsDistinct T.eq s → (i : ℕ) (x : T) → slice_get s i ≡ Some x
         → item_index T.eq s x ≡ Some i }
@@ -20,6 +22,7 @@ pub fn stored_elements_are_found<T: Eq>()
 /// An added element has the index of the existing element that is equal to it, or the last index. All other elements
 /// keep their indices. If an equal element is present, the addition changes nothing; otherwise the new element is
 /// appended.
+#[tactic(auto, using(crate::proofs::LawLemmas::additions_move_nothing))]
 pub fn additions_move_nothing<T: Eq>()
     ensures place { (s : List T) (x y : T)
         → item_index T.eq (add T.eq s x) y
@@ -34,6 +37,7 @@ pub fn additions_move_nothing<T: Eq>()
 /// Many additions move no element.
 ///
 /// An element that is present keeps its index. The new elements that are absent are appended, each once and in order.
+#[tactic(auto, using(crate::proofs::LawLemmas::bulk_additions_move_nothing))]
 pub fn bulk_additions_move_nothing<T: Eq>()
     ensures appended { (s xs : List T) → adds T.eq s xs ≡ s ++ adds T.eq [] (only T.eq xs s) }
     ensures element { (s xs : List T) (i : ℕ) → i < length s
@@ -48,6 +52,7 @@ pub fn bulk_additions_move_nothing<T: Eq>()
 
 /// Adding many elements is the same as adding each of them in order. Distinct elements that are added to an empty set
 /// are its list.
+#[tactic(auto, using(crate::proofs::LawLemmas::bulk_additions_are_single_ones))]
 pub fn bulk_additions_are_single_ones<T: Eq>()
     ensures one { (s : List T) (x : T) (xs : List T)
         → adds T.eq s (x ∷ xs) ≡ adds T.eq (add T.eq s x) xs }
@@ -57,6 +62,7 @@ pub fn bulk_additions_are_single_ones<T: Eq>()
 
 /// No two elements of the empty list are equal. If no two elements are equal, none are after additions, nor after
 /// replacements.
+#[tactic(auto, using(crate::proofs::LawLemmas::additions_keep_elements_distinct))]
 pub fn additions_keep_elements_distinct<T: Eq>()
     ensures empty { IsDistinct T.eq [] }
     ensures add { (s : List T) → IsDistinct T.eq s → (x : T) → IsDistinct T.eq (add T.eq s x) }
@@ -67,6 +73,7 @@ pub fn additions_keep_elements_distinct<T: Eq>()
 {}
 
 /// After a removal from distinct elements, no element that is left is equal to the removed one.
+#[tactic(auto, using(vecmap_base::proofs::ItemsLemmas::Removals::without_item_absent))]
 pub fn removals_are_forgotten<T: Eq>()
     ensures { (s : List T) → IsDistinct T.eq s → (x : T)
         → has_item T.eq (without_item T.eq s x) x ≡ false }

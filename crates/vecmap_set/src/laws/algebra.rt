@@ -19,6 +19,7 @@ pub fn lazy_iterators_pull_as_lists<T: Eq>()
 {}
 
 /// No two elements that a lazy iterator over two sets yields are equal.
+#[tactic(auto, using(crate::proofs::LawLemmas::lazy_iterators_give_no_repeats))]
 pub fn lazy_iterators_give_no_repeats<T: Eq>()
     ensures difference { MakesSets T.eq only }
     ensures intersection { MakesSets T.eq lazy_intersection }
@@ -30,24 +31,28 @@ pub fn lazy_iterators_give_no_repeats<T: Eq>()
 ///
 /// The list that `difference` yields is the one that `-` clones, and the list that `symmetric_difference` yields is the
 /// one that `^` clones.
+#[tactic(auto, using(crate::proofs::LawLemmas::lazy_iterators_agree_with_operators))]
 pub fn lazy_iterators_agree_with_operators<T: Eq>()
     ensures intersection { AgreeAsSets T.eq lazy_intersection both }
     ensures union { AgreeAsSets T.eq lazy_union union_of }
 {}
 
 /// The lengths of the intersection and the union add up to those of the two sets.
+#[tactic(auto, using(crate::proofs::LawLemmas::lengths_of_intersection_and_union_add_up))]
 pub fn lengths_of_intersection_and_union_add_up<T: Eq>()
     ensures lazily { LengthsAddUp T.eq lazy_intersection lazy_union }
     ensures by_operators { LengthsAddUp T.eq both union_of }
 {}
 
 /// Two sets are disjoint exactly if `intersection` yields nothing.
+#[tactic(auto, using(crate::proofs::LawLemmas::disjoint_sets_have_no_intersection))]
 pub fn disjoint_sets_have_no_intersection<T: Eq>()
     ensures { (a b : List T) → (both T.eq a b ≡ []) ↔ (lazy_intersection T.eq a b ≡ []) }
 {}
 
 /// Intersection, union and symmetric difference are equal sets whichever of the two sets comes first. This also holds
 /// of what the lazy iterators yield.
+#[tactic(auto, using(crate::proofs::LawLemmas::algebra_is_symmetric))]
 pub fn algebra_is_symmetric<T: Eq>()
     ensures and { IgnoresSides T.eq both }
     ensures or { IgnoresSides T.eq union_of }

@@ -9,6 +9,7 @@ ghost use Rattle.vecmap_set.specs.SetBulk.{Adds};
 /// A collected set, extended by one more element, is the set that is collected from the longer list.
 ///
 /// The clauses of `try_collect`, `partition` and `unzip` require this of the collection.
+#[tactic(auto, using(vecmap_base::proofs::ItemsLemmas::Additions::adds_append))]
 pub fn collecting_one_more_is_extending<T: Eq>()
     ensures { CollectsByExtend {A = T} {B = Contents T}
         (λ items set. (set.elements ≡ adds T.eq [] items) × IsDistinct T.eq set.elements)

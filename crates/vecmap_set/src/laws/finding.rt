@@ -9,6 +9,7 @@ use vecmap_base::Equivalent;
 
 /// After an addition of an element that matches it, a query finds the index of an equal existing element, or the last
 /// index. After an addition of any other element it finds what it found before.
+#[tactic(auto, using(crate::proofs::LawLemmas::queries_find_after_additions))]
 pub fn queries_find_after_additions<T: Eq, Q: Equivalent<T>>()
     ensures place { (s : List T) (x : T) (q : Q) → Q.equivalent q x ≡ true
         → position (Q.equivalent q) (add T.eq s x)
@@ -22,6 +23,7 @@ pub fn queries_find_after_additions<T: Eq, Q: Equivalent<T>>()
 {}
 
 /// A text finds and removes what the `String` of its bytes does. After additions too, it finds what that string finds.
+#[tactic(auto, using(crate::proofs::LawLemmas::texts_find_as_strings))]
 pub fn texts_find_as_strings()
     ensures place { (s : List (String Global)) (text : List ℕ) (x : String Global)
         → string_bytes x ≡ text → position (has_text text) s ≡ item_index string_eq s x }

@@ -7,6 +7,7 @@ ghost use Rattle.vecmap_set.specs.Operators.{symmetric_difference_of, union_of};
 /// After an addition, an element is present if it was, or if it is equal to the added one.
 ///
 /// After many additions, an element is present if it was, or if it is equal to one of the added elements.
+#[tactic(auto, using(crate::proofs::LawLemmas::added_elements_are_present))]
 pub fn added_elements_are_present<T: Eq>()
     ensures added { (s : List T) (x : T) → has_item T.eq (add T.eq s x) x ≡ true }
     ensures present { (s : List T) (x y : T) → has_item T.eq s y ≡ true
@@ -21,6 +22,7 @@ pub fn added_elements_are_present<T: Eq>()
 ///
 /// It is in the intersection if it is in both, in the union if it is in one of them, in the difference if it is in the
 /// first only, and in the symmetric difference if it is in exactly one.
+#[tactic(auto, using(crate::proofs::LawLemmas::operators_combine_members))]
 pub fn operators_combine_members<T: Eq>()
     ensures and { (a b : List T) (x : T)
         → has_item T.eq (both T.eq a b) x ≡ (has_item T.eq a x && has_item T.eq b x) }
@@ -37,6 +39,7 @@ pub fn operators_combine_members<T: Eq>()
 /// If each clone of an element is equal to it, the same elements are present in clones of a list.
 ///
 /// Clones that are the same as their originals, as those of numbers are, make the same list.
+#[tactic(auto, using(vecmap_base::proofs::ItemsLemmas::Members::has_item_clones))]
 pub fn clones_have_the_same_members<T: Eq + Clone>()
     ensures members { (l m : List T)
         → ((x y : T) → Contains l x → T.is_clone x y → IsTrue (T.eq x y))

@@ -8,6 +8,7 @@ use vecmap_base::Equivalent;
 /// A query finds and removes what an element that matches it does, also if the last element is swapped in.
 ///
 /// It does not find again what it removed from a set.
+#[tactic(auto, using(crate::proofs::LawLemmas::queries_find_as_elements))]
 pub fn queries_find_as_elements<T: Eq, Q: Equivalent<T>>()
     ensures place { (s : List T) (q : Q) (x : T) → Q.equivalent q x ≡ true
         → position (Q.equivalent q) s ≡ item_index T.eq s x }

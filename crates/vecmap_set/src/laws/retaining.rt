@@ -7,6 +7,7 @@ ghost use Rattle.vecmap_base.specs.Kept.{Kept, TestsItems};
 ///
 /// In `filtered` the closure stays in its state, such as the values that it captures. In `filtered_by_states` its state
 /// may change, but not the test.
+#[tactic(auto, using(crate::proofs::LawLemmas::retain_filters))]
 pub fn retain_filters<T, F: FnMut(&T) -> bool>(_keep: &F)
     ensures filtered { (f g : F) (l m : List T) (test : T → Bool)
         → TestsItems (CallsAtItem F.FnMut) f test → Kept (CallsAtItem F.FnMut) f l m g

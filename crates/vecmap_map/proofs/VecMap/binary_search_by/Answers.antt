@@ -1,8 +1,5 @@
-use Rattle.std.proofs.Common.{◌∙◌, ap, subst}
-use Rattle.std.specs.List.Sorted.{IsBinarySearchResult}
 use Rattle.vecmap_map.proofs.VecMap.binary_search_by.Goals as goal
 
 pub returns-clause-place : goal.returns-clause-place
 returns-clause-place g c = λ ord by.
-    subst (λ l. IsBinarySearchResult ord l c.search_by_index.result) (c.as_slice-pairs.ensures.value ∙ ap (λ m. m.entries) c.self.view_is)
-    (c.search_by_index.ensures.place ord (λ i r within said. said ord by))
+    rw (← c.self.view_is, ← c.as_slice-pairs.ensures.value) (c.search_by_index.ensures.place ord (λ i r within said. said ord by))

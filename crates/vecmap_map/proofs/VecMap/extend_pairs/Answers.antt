@@ -1,10 +1,8 @@
 -- The idea: each round appends a clone to the list of clones that the invariant names, and a refused round is where the
 -- call stops.
 use Rattle.std.proofs.Common.{arith, inr, refl, rules}
-use Rattle.std.proofs.lemmas.Grind.{common_steps}
-use Rattle.std.proofs.lemmas.Result.{err_from_is_err_and}
-use Rattle.vecmap_base.specs.Clones.{IsPairClone}
-use Rattle.vecmap_base.specs.Pairs.{put}
+use Rattle.std.proofs.lemmas.{Grind.common_steps, Result.err_from_is_err_and}
+use Rattle.vecmap_base.specs.{Clones.IsPairClone, Pairs.put}
 use Rattle.vecmap_base.proofs.CloneLemmas.{lent_clone_taken}
 use Rattle.vecmap_map.proofs.VecMap.extend_pairs.Goals as goal
 

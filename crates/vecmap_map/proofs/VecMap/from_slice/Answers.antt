@@ -1,7 +1,6 @@
 use Rattle.std.proofs.Common.{◌+◌, ◌∷◌, [], ◌++◌, ap, arith, sym, subst, take, ◌∙◌, ◌≡◌}
 use Rattle.std.proofs.lemmas.List.{take_more}
-use Rattle.vecmap_base.specs.Clones.{IsPairClone}
-use Rattle.vecmap_base.specs.Pairs.{put}
+use Rattle.vecmap_base.specs.{Clones.IsPairClone, Pairs.put}
 use Rattle.vecmap_base.proofs.CloneLemmas.{TakesClones, clone_taken}
 use Rattle.vecmap_map.proofs.VecMap.from_slice.Goals as goal
 

@@ -1,6 +1,5 @@
 use Rattle.std.proofs.Common.{◌≡◌, ◌≤◌, [], List, length, take}
-use Rattle.vecmap_base.specs.Clones.{AreClones, IsPairClone}
-use Rattle.vecmap_base.specs.Pairs.{puts}
+use Rattle.vecmap_base.specs.{Clones.AreClones, Clones.IsPairClone, Pairs.puts}
 use Rattle.vecmap_map.proofs.VecMap.from_slice.Given as goal
 
 abbrev pub invariant-loop-pair : goal.invariant-loop-pair

@@ -1,6 +1,5 @@
 use Rattle.std.proofs.Common.{◌≡◌, ◌∙◌, ap, refl, subst, sym}
-use Rattle.std.proofs.lemmas.Fn.{answers_by}
-use Rattle.std.proofs.lemmas.Result.{on_ok_weaker}
+use Rattle.std.proofs.lemmas.{Fn.answers_by, Result.on_ok_weaker}
 use Rattle.vecmap_base.specs.Orders.{AnswersOnPair}
 use Rattle.vecmap_map.proofs.VecMap.sort_by_cached_key.Goals as goal
 

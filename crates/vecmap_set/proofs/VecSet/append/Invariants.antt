@@ -1,6 +1,5 @@
 use Rattle.std.proofs.Common.{◌≡◌, ◌+◌, ◌≤◌, ◌++◌, length}
-use Rattle.std.specs.List.{IsDistinct}
-use Rattle.std.specs.Vec.Iter.{drain_items}
+use Rattle.std.specs.{List.IsDistinct, Vec.Iter.drain_items}
 use Rattle.vecmap_base.specs.Items.{adds}
 use Rattle.vecmap_set.proofs.VecSet.append.Given as goal
 

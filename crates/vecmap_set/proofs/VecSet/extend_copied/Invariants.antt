@@ -1,6 +1,5 @@
 use Rattle.std.proofs.Common.{◌≡◌, ◌+◌, ◌≤◌, length, map}
-use Rattle.std.specs.List.{IsDistinct}
-use Rattle.std.specs.Map.Iter.{deref}
+use Rattle.std.specs.{List.IsDistinct, Map.Iter.deref}
 use Rattle.vecmap_base.specs.Items.{adds}
 use Rattle.vecmap_set.proofs.VecSet.extend_copied.Given as goal
 

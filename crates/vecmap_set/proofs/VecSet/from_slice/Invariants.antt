@@ -1,7 +1,6 @@
 use Rattle.std.proofs.Common.{◌≡◌, [], List, take}
 use Rattle.std.specs.List.{IsDistinct}
-use Rattle.vecmap_base.specs.Clones.{AreClones}
-use Rattle.vecmap_base.specs.Items.{adds}
+use Rattle.vecmap_base.specs.{Clones.AreClones, Items.adds}
 use Rattle.vecmap_set.proofs.VecSet.from_slice.Given as goal
 
 abbrev pub invariant-loop-item : goal.invariant-loop-item

@@ -1,6 +1,5 @@
 use Rattle.std.proofs.Common.{[]}
-use Rattle.vecmap_base.proofs.DistinctLemmas.Absent.{distinct_none}
-use Rattle.vecmap_base.proofs.DistinctLemmas.Additions.{distinct_adds}
+use Rattle.vecmap_base.proofs.DistinctLemmas.{Absent.distinct_none, Additions.distinct_adds}
 use Rattle.vecmap_set.proofs.VecSet.from_vec_counted.Goals as goal
 
 pub invariant_of-result : goal.invariant_of-result

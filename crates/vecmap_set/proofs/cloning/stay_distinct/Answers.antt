@@ -1,8 +1,6 @@
 -- The idea: if each clone is equal to its original, the clones are as distinct as the originals.
-use Rattle.std.proofs.Common.{sym, true≢false}
-use Rattle.std.specs.Prelude.{◌≡◌, Bool, IsTrue, List, [], ◌∷◌, true}
-use Rattle.std.specs.Cmp.{first_so, second_so}
-use Rattle.std.specs.Cmp.Lexicographic.{pointwise}
+use Rattle.std.proofs.Common.{◌≡◌, Bool, IsTrue, List, [], ◌∷◌, true, sym, true≢false}
+use Rattle.std.specs.{Cmp.first_so, Cmp.second_so, Cmp.Lexicographic.pointwise}
 use Rattle.vecmap_base.specs.Clones.{AreClones}
 use Rattle.vecmap_base.proofs.DistinctLemmas.Clones.{distinct_clones}
 use Rattle.vecmap_set.proofs.cloning.stay_distinct.Goals as goal

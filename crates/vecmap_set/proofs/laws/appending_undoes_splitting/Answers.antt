@@ -1,6 +1,5 @@
-use Rattle.std.specs.Prelude.{drop, take}
 use Rattle.std.specs.List.{IsDistinct}
-use Rattle.std.proofs.Common.{subst, sym, ◌∙◌}
+use Rattle.std.proofs.Common.{drop, take, subst, sym, ◌∙◌}
 use Rattle.std.proofs.lemmas.List.{take-append-drop}
 use Rattle.vecmap_base.proofs.ItemsLemmas.Additions.{adds_apart}
 use Rattle.vecmap_set.proofs.laws.appending_undoes_splitting.Goals as goal

@@ -1,5 +1,4 @@
-use Rattle.std.proofs.lemmas.List.{map_push}
-use Rattle.std.proofs.lemmas.List.Elements.{AllZip-push}
+use Rattle.std.proofs.lemmas.{List.map_push, List.Elements.AllZip-push}
 use Rattle.std.specs.Map.Iter.{deref}
 use Rattle.vecmap_set.proofs.operators.clones_of.Goals as goal
 

@@ -1,16 +1,9 @@
-use Rattle.std.proofs.Common.{◌∙◌, ap, sym, subst}
-use Rattle.std.specs.List.{refill}
-use Rattle.std.specs.Map.{keys_of}
-use Rattle.vecmap_base.specs.Lending.{keys_mut_rest}
-use Rattle.vecmap_base.specs.Walks.{ShowsAllOf, deref_mut}
-use Rattle.vecmap_map.specs.Contents.{with_written}
+use Rattle.std.proofs.Common.{sym}
+use Rattle.vecmap_map.proofs.ContentsLemmas.{written_back}
 use Rattle.vecmap_map.proofs.mutable_keys.VecMapMutableKeys.keys_mut.Goals as goal
 
 pub returns : goal.returns
 returns g c = (
-  (sym c.over.ensures.same_slice, λ w. ap (λ n. record { entries = refill n c.self.inside.pairs.items w; capacity = c.self.inside.pairs.cap }) c.self.inside.pairs.ok.0 ∙ ap (λ m. with_written m w) c.self.view_is),
-  record {
-    writes_back = tt;
-    rest = subst (λ l. ShowsAllOf deref_mut keys_mut_rest (keys_of l) c.over.result) (c.deref_mut.ensures.value ∙ ap (λ m. m.entries) c.self.view_is) c.over.ensures.rest;
-  },
+  (sym c.over.ensures.same_slice, written_back _ _ c.self.view_is _ c.self.inside.pairs.ok.0),
+  record { writes_back = tt; rest = rw (← c.self.view_is, ← c.deref_mut.ensures.value) c.over.ensures.rest },
 )

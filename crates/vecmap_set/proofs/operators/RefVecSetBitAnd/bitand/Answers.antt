@@ -4,8 +4,7 @@ use Rattle.std.proofs.Common.{refl}
 use Rattle.vecmap_base.specs.Items.{both, has_item}
 use Rattle.vecmap_base.proofs.EqualityLemmas.Relations.{distinct_both}
 use Rattle.vecmap_set.specs.Lazy.{SiftsFirst, sift_of, sifted}
-use Rattle.vecmap_set.proofs.OperatorLemmas.{operator_clones}
-use Rattle.vecmap_set.proofs.SetLemmas.{distinct_clones_of}
+use Rattle.vecmap_set.proofs.{OperatorLemmas.operator_clones, SetLemmas.distinct_clones_of}
 use Rattle.vecmap_set.proofs.operators.RefVecSetBitAnd.bitand.Goals as goal
 
 pub invariant_of-result : goal.invariant_of-result

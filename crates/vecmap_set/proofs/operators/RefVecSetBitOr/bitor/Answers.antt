@@ -2,10 +2,8 @@
 -- distinct.
 use Rattle.std.proofs.Common.{refl}
 use Rattle.vecmap_base.proofs.EqualityLemmas.Relations.{distinct_union}
-use Rattle.vecmap_set.specs.Lazy.{JoinsFirst, joined, union_parts}
-use Rattle.vecmap_set.specs.Operators.{union_of}
-use Rattle.vecmap_set.proofs.OperatorLemmas.{operator_clones}
-use Rattle.vecmap_set.proofs.SetLemmas.{distinct_clones_of}
+use Rattle.vecmap_set.specs.{Lazy.JoinsFirst, Lazy.joined, Lazy.union_parts, Operators.union_of}
+use Rattle.vecmap_set.proofs.{OperatorLemmas.operator_clones, SetLemmas.distinct_clones_of}
 use Rattle.vecmap_set.proofs.operators.RefVecSetBitOr.bitor.Goals as goal
 
 pub invariant_of-result : goal.invariant_of-result

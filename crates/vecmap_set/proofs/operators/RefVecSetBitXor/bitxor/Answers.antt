@@ -2,10 +2,8 @@
 -- distinct.
 use Rattle.std.proofs.Common.{refl}
 use Rattle.vecmap_base.proofs.EqualityLemmas.Relations.{distinct_symmetric_difference}
-use Rattle.vecmap_set.specs.Lazy.{ExcludesFirst, exclusive, symmetric_parts}
-use Rattle.vecmap_set.specs.Operators.{symmetric_difference_of}
-use Rattle.vecmap_set.proofs.OperatorLemmas.{operator_clones}
-use Rattle.vecmap_set.proofs.SetLemmas.{distinct_clones_of}
+use Rattle.vecmap_set.specs.{Lazy.ExcludesFirst, Lazy.exclusive, Lazy.symmetric_parts, Operators.symmetric_difference_of}
+use Rattle.vecmap_set.proofs.{OperatorLemmas.operator_clones, SetLemmas.distinct_clones_of}
 use Rattle.vecmap_set.proofs.operators.RefVecSetBitXor.bitxor.Goals as goal
 
 pub invariant_of-result : goal.invariant_of-result

@@ -4,8 +4,7 @@ use Rattle.std.proofs.Common.{refl}
 use Rattle.vecmap_base.specs.Items.{only}
 use Rattle.vecmap_base.proofs.EqualityLemmas.Relations.{distinct_only}
 use Rattle.vecmap_set.specs.Lazy.{SiftsFirst, lacks_item, sift_of, sifted}
-use Rattle.vecmap_set.proofs.OperatorLemmas.{operator_clones}
-use Rattle.vecmap_set.proofs.SetLemmas.{distinct_clones_of}
+use Rattle.vecmap_set.proofs.{OperatorLemmas.operator_clones, SetLemmas.distinct_clones_of}
 use Rattle.vecmap_set.proofs.operators.RefVecSetSub.sub.Goals as goal
 
 pub invariant_of-result : goal.invariant_of-result
