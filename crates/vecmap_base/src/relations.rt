@@ -5,6 +5,7 @@ ghost use Rattle.vecmap_base.specs.Equality.{is_within};
 ghost use Rattle.vecmap_base.specs.Items.{both, has_item};
 
 use crate::lookup::is_in;
+use crate::unrolled::MIN_LENGTH_FOR_BLOCKS;
 
 /// Returns `true` if each of `items` is equal to one of `others`.
 ///
@@ -22,6 +23,9 @@ use crate::lookup::is_in;
 pub fn are_within<T: Eq>(items: &[T], others: &[T]) -> bool
     ensures { result ≡ is_within T.eq items.now others.now }
 {
+    if others.len() < MIN_LENGTH_FOR_BLOCKS {
+        return are_within_few(items, others);
+    }
     items.iter().all(|item| is_in(others, item))
 }
 
@@ -49,5 +53,31 @@ pub fn are_apart<T: Eq>(items: &[T], others: &[T]) -> bool
 fn overlap<T: Eq>(items: &[T], others: &[T]) -> bool
     ensures { result ≡ list_any (has_item T.eq others.now) items.now }
 {
+    if others.len() < MIN_LENGTH_FOR_BLOCKS {
+        return overlap_few(items, others);
+    }
     items.iter().any(|item| is_in(others, item))
+}
+
+// The same as `are_within`, for few others. It is not inlined, so that neither loop depends on the code around the other.
+#[inline(never)]
+fn are_within_few<T: Eq>(items: &[T], others: &[T]) -> bool
+    ensures { result ≡ is_within T.eq items.now others.now }
+{
+    items.iter().all(|item| is_in_few(others, item))
+}
+
+// The same as `overlap`, for few others. It is not inlined, either.
+#[inline(never)]
+fn overlap_few<T: Eq>(items: &[T], others: &[T]) -> bool
+    ensures { result ≡ list_any (has_item T.eq others.now) items.now }
+{
+    items.iter().any(|item| is_in_few(others, item))
+}
+
+// The same as `is_in`, for few items.
+fn is_in_few<T: Eq>(items: &[T], item: &T) -> bool
+    ensures { result ≡ has_item T.eq items.now item.now }
+{
+    items.iter().any(|other| *item == *other)
 }

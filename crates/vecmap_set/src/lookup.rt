@@ -1,7 +1,7 @@
 //! Lookups by query and by index.
 //!
-//! A lookup by a query compares it with the elements in order, up to the first one that matches: at most `len`
-//! comparisons. A lookup by index makes none.
+//! A lookup by a query compares it with the elements in order, up to the first one that matches, and of small elements
+//! with at most seven more: at most `len` comparisons in all. A lookup by index makes none.
 ghost use Rattle.std.specs.Prelude.{◌≡◌, ◌-◌, ◌<◌, IfSome, length, option_copied, option_map, position, slice_get};
 ghost use Rattle.std.specs.List.{list_any};
 ghost use Rattle.vecmap_base.specs.Items.{stored_first};
