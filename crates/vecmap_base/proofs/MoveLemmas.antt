@@ -1,6 +1,8 @@
--- A rotation by one of the part between two indices moves one item from one index to the other.
-use Rattle.std.proofs.Common.{◌≡◌, ℕ, zero, suc, ◌+◌, ◌<◌, ◌≤◌, List, [], ◌∷◌, ◌++◌, ap, arith, append_assoc, drop, drop_at, get_or, insert, length, length-take-le, remove, set, take, take_at, ◌∙◌}
+-- A rotation by one of the part between two indices moves one item from one index to the other. Replacing each item of
+-- the part by the one next to it does the same.
+use Rattle.std.proofs.Common.{◌≡◌, ℕ, zero, suc, ◌+◌, ◌<◌, ◌≤◌, List, [], ◌∷◌, ◌++◌, ap, arith, append_assoc, drop, drop_at, get_or, insert, length, length-take-le, refl, remove, set, slice_get, Some, sym, take, take_at, ◌∙◌}
 use Rattle.std.proofs.lemmas.List.{drop-set-lt, get_or-set_same, take-set-le, take_more}
+use Rattle.std.proofs.lemmas.List.Edits.{insert_end}
 use Rattle.std.proofs.Math.Seq.{take-length}
 
 module _ {X : Type 0} where
@@ -45,3 +47,70 @@ module _ {X : Type 0} where
   taken_last ys n m x e f =
       let size : length (take m ys) ≡ n = length-take-le m ys (omega (arith, f)) ∙ omega (arith, e, f) in
       take_at (take m ys) (x ∷ drop m ys) n size ∙ rw f (take-length ys)
+
+  -- An inserted item is removed.
+  pub inserted_removed : (xs : List X) (i : ℕ) (x : X) → i ≤ length xs → remove (insert xs i x) i ≡ xs
+  inserted_removed [] zero x within = refl
+  inserted_removed [] (suc i) x within = absurd (omega arith)
+  inserted_removed (y ∷ ys) zero x within = refl
+  inserted_removed (y ∷ ys) (suc i) x within = ap (λ l. y ∷ l) (inserted_removed ys i x (omega arith))
+
+  pub inserted_found : (xs : List X) (i : ℕ) (x : X) → i ≤ length xs → slice_get (insert xs i x) i ≡ Some x
+  inserted_found [] zero x within = refl
+  inserted_found [] (suc i) x within = absurd (omega arith)
+  inserted_found (y ∷ ys) zero x within = refl
+  inserted_found (y ∷ ys) (suc i) x within = inserted_found ys i x (omega arith)
+
+  -- The items between `from` and `to` shift to the left, and `item` goes to `to`.
+  remove_before : (xs : List X) (from to : ℕ) (item : X) → from ≤ to → to < length xs → remove (insert xs (suc to) item) from ≡ insert (remove xs from) to item
+  remove_before [] from to item order within = absurd (omega arith)
+  remove_before (z ∷ zs) zero to item order within = refl
+  remove_before (z ∷ zs) (suc from) zero item order within = absurd (omega arith)
+  remove_before (z ∷ zs) (suc from) (suc to) item order within = ap (λ l. z ∷ l) (remove_before zs from to item (omega arith) (omega arith))
+
+  found_before : (xs : List X) (from to : ℕ) (item : X) → from ≤ to → to < length xs → slice_get (insert xs (suc to) item) from ≡ slice_get xs from
+  found_before [] from to item order within = absurd (omega arith)
+  found_before (z ∷ zs) zero to item order within = refl
+  found_before (z ∷ zs) (suc from) zero item order within = absurd (omega arith)
+  found_before (z ∷ zs) (suc from) (suc to) item order within = found_before zs from to item (omega arith) (omega arith)
+
+  -- The items between `to` and `from` shift to the right, and `item` goes to `to`.
+  remove_after : (xs : List X) (from to : ℕ) (item : X) → to ≤ from → from < length xs → remove (insert xs to item) (suc from) ≡ insert (remove xs from) to item
+  remove_after [] from to item order within = absurd (omega arith)
+  remove_after (z ∷ zs) from zero item order within = refl
+  remove_after (z ∷ zs) zero (suc to) item order within = absurd (omega arith)
+  remove_after (z ∷ zs) (suc from) (suc to) item order within = ap (λ l. z ∷ l) (remove_after zs from to item (omega arith) (omega arith))
+
+  found_after : (xs : List X) (from to : ℕ) (item : X) → to ≤ from → from < length xs → slice_get (insert xs to item) (suc from) ≡ slice_get xs from
+  found_after [] from to item order within = absurd (omega arith)
+  found_after (z ∷ zs) from zero item order within = refl
+  found_after (z ∷ zs) zero (suc to) item order within = absurd (omega arith)
+  found_after (z ∷ zs) (suc from) (suc to) item order within = found_after zs from to item (omega arith) (omega arith)
+
+  -- What the list is once each item from `to` down to `from` took the place before its own.
+  pub carried_to : (xs ys : List X) (from to next : ℕ) (item x : X) → next ≡ suc to → from ≤ to → to < length xs → from ≤ length ys → insert ys from x ≡ insert xs next item → (ys ≡ insert (remove xs from) to item) × (slice_get xs from ≡ Some x)
+  carried_to xs ys from to next item x after order within long e =
+      let moved : insert ys from x ≡ insert xs (suc to) item = e ∙ ap (λ m. insert xs m item) after in (
+        sym (inserted_removed ys from x long) ∙ ap (λ l. remove l from) moved ∙ remove_before xs from to item order within,
+        sym (found_before xs from to item order within) ∙ ap (λ l. slice_get l from) (sym moved) ∙ inserted_found ys from x long,
+      )
+
+  -- The same once each item from `to` up to `from` took the place after its own.
+  pub carried_back_to : (xs ys : List X) (from to next : ℕ) (item x : X) → next ≡ suc from → to ≤ from → from < length xs → suc from ≤ length ys → insert ys next x ≡ insert xs to item → (ys ≡ insert (remove xs from) to item) × (slice_get xs from ≡ Some x)
+  carried_back_to xs ys from to next item x after order within long e =
+      let moved : insert ys (suc from) x ≡ insert xs to item = sym (ap (λ m. insert ys m x) after) ∙ e in (
+        sym (inserted_removed ys (suc from) x long) ∙ ap (λ l. remove l (suc from)) moved ∙ remove_after xs from to item order within,
+        sym (found_after xs from to item order within) ∙ ap (λ l. slice_get l (suc from)) (sym moved) ∙ inserted_found ys (suc from) x long,
+      )
+
+  -- The list without its last item, which was carried down to `i`.
+  pub carried_from_end : (xs ys zs : List X) (i end : ℕ) (last x : X) → xs ≡ ys ++ last ∷ [] → end ≡ length ys → i ≤ length zs → insert zs i x ≡ insert ys end last → (zs ≡ remove xs i) × (slice_get xs i ≡ Some x)
+  carried_from_end xs ys zs i end last x parts at_end long e =
+      let whole : insert zs i x ≡ xs = e ∙ ap (λ m. insert ys m last) at_end ∙ insert_end ys last ∙ sym parts in (
+        sym (inserted_removed zs i x long) ∙ ap (λ l. remove l i) whole,
+        ap (λ l. slice_get l i) (sym whole) ∙ inserted_found zs i x long,
+      )
+
+  -- The list with the item that was carried up to its end.
+  pub carried_to_end : (xs ys : List X) (i end : ℕ) (item x : X) → end ≡ length ys → insert ys end x ≡ insert xs i item → ys ++ x ∷ [] ≡ insert xs i item
+  carried_to_end xs ys i end item x at_end e = sym (insert_end ys x) ∙ sym (ap (λ m. insert ys m x) at_end) ∙ e

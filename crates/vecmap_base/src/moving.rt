@@ -3,8 +3,13 @@ ghost use Rattle.std.specs.Prelude.{◌≡◌, ◌<◌, ◌≤◌, Some, insert,
 
 use std::mem::{replace, size_of_val};
 
-// The largest size, in bytes, of an item that `take_out` removes by a rotation.
+// The largest size, in bytes, of an item that moves one by one, or that `take_out` removes by a rotation.
 const MAX_BYTES_FOR_ROTATION: usize = 64;
+
+// The greatest numbers of items that move one by one, and not by a rotation, to the left and to the right.
+const MAX_MOVED_LEFT_SINGLY: usize = 8;
+
+const MAX_MOVED_RIGHT_SINGLY: usize = 32;
 
 /// Replaces the item at `from`, moves the new item to `to`, and returns the old one.
 ///
@@ -33,9 +38,14 @@ pub fn replace_and_move<T>(items: &mut Vec<T>, from: usize, to: usize, item: T) 
     ensures items { items.new.items ≡ insert (remove items.old.items from) to item }
     ensures capacity { vec_capacity items.new ≡ vec_capacity items.old }
 {
-    let old = replace(&mut items[from], item);
-    move_item(items, from, to);
-    old
+    let is_small = size_of_val(&item) <= MAX_BYTES_FOR_ROTATION;
+    if is_small && from <= to && to - from < MAX_MOVED_LEFT_SINGLY {
+        return carry_left(items, from, to + 1, item);
+    }
+    if is_small && to < from && from - to < MAX_MOVED_RIGHT_SINGLY {
+        return carry_right(items, to, from + 1, item);
+    }
+    replace_and_rotate(items, from, to, item)
 }
 
 /// Removes and returns the item at `index`.
@@ -67,9 +77,12 @@ pub fn take_out<T>(items: &mut Vec<T>, index: usize) -> T
     if size_of_val(&items[index]) > MAX_BYTES_FOR_ROTATION {
         return items.remove(index);
     }
-    let last = items.len() - 1;
-    move_item(items, index, last);
-    items.pop().unwrap()
+    if items.len() - index <= MAX_MOVED_LEFT_SINGLY {
+        let last = items.take_last();
+        let end = items.len();
+        return carry_left(items, index, end, last);
+    }
+    take_out_by_rotation(items, index)
 }
 
 /// Inserts an item at `index` into a vector that has spare capacity.
@@ -99,8 +112,73 @@ pub fn put_in<T>(items: &mut Vec<T>, index: usize, item: T)
     ensures items { items.new.items ≡ insert items.old.items index item }
     ensures capacity { vec_capacity items.new ≡ vec_capacity items.old }
 {
+    if size_of_val(&item) <= MAX_BYTES_FOR_ROTATION
+        && items.len() - index <= MAX_MOVED_RIGHT_SINGLY
+    {
+        let end = items.len();
+        let last = carry_right(items, index, end, item);
+        items.push_reserved(last);
+        return;
+    }
     items.push_reserved(item);
     items[index..].rotate_right(1);
+}
+
+// Puts `item` at the index before `end`, each item from there down to `from` at the index before its own, and returns
+// the item at `from`. If `from` is `end`, `item` is returned.
+fn carry_left<T>(items: &mut Vec<T>, from: usize, end: usize, item: T) -> T
+    requires order { from ≤ end }
+    requires within { end ≤ length items.old.items }
+    ensures items { insert items.new.items from result ≡ insert items.old.items end item }
+    ensures count { length items.new.items ≡ length items.old.items }
+    ensures capacity { vec_capacity items.new ≡ vec_capacity items.old }
+{
+    let mut carried = item;
+    for step in 0..end - from {
+        carried = replace(&mut items[end - 1 - step], carried);
+    }
+    carried
+}
+
+// Puts `item` at `from`, each item from there up to `end` at the index after its own, and returns the one before `end`.
+// If `from` is `end`, `item` is returned.
+fn carry_right<T>(items: &mut Vec<T>, from: usize, end: usize, item: T) -> T
+    requires order { from ≤ end }
+    requires within { end ≤ length items.old.items }
+    ensures items { insert items.new.items end result ≡ insert items.old.items from item }
+    ensures count { length items.new.items ≡ length items.old.items }
+    ensures capacity { vec_capacity items.new ≡ vec_capacity items.old }
+{
+    let mut carried = item;
+    for at in from..end {
+        carried = replace(&mut items[at], carried);
+    }
+    carried
+}
+
+// Like `replace_and_move`, by one rotation.
+fn replace_and_rotate<T>(items: &mut Vec<T>, from: usize, to: usize, item: T) -> T
+    requires from_within { from < length items.old.items }
+    requires to_within { to < length items.old.items }
+    ensures old { slice_get items.old.items from ≡ Some result }
+    ensures items { items.new.items ≡ insert (remove items.old.items from) to item }
+    ensures capacity { vec_capacity items.new ≡ vec_capacity items.old }
+{
+    let old = replace(&mut items[from], item);
+    move_item(items, from, to);
+    old
+}
+
+// Like `take_out`, by one rotation.
+fn take_out_by_rotation<T>(items: &mut Vec<T>, index: usize) -> T
+    requires within { index < length items.old.items }
+    ensures item { slice_get items.old.items index ≡ Some result }
+    ensures items { items.new.items ≡ remove items.old.items index }
+    ensures capacity { vec_capacity items.new ≡ vec_capacity items.old }
+{
+    let last = items.len() - 1;
+    move_item(items, index, last);
+    items.pop().unwrap()
 }
 
 // Moves the item at `from` to `to`. The items between the two indices shift by one index.

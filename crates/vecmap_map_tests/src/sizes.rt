@@ -89,6 +89,7 @@ fn following(place: usize, len: usize) -> Option<usize> {
 #[test]
 fn pairs_of_any_size_are_removed_and_inserted_at_each_index(rt: HostRuntime) {
     assert_each_moved(&rt, rt.alloc(), &[7_u8, 8, 9]);
+    assert_each_moved(&rt, rt.alloc(), &[7_u8; 40]);
     assert_each_moved(&rt, rt.alloc(), &[[7_u64; 7], [8; 7], [9; 7]]);
     assert_each_moved(&rt, rt.alloc(), &[[7_u64; 8], [8; 8], [9; 8]]);
     assert_each_moved(&rt, rt.alloc(), &[[7_u64; 40], [8; 40], [9; 40]]);
@@ -125,8 +126,8 @@ fn repeated(alloc: Global, count: u32) -> Result<VecMap<Item, u32>, AllocError> 
 }
 
 #[test]
-fn long_maps_with_repeats_are_equal_in_any_order(rt: HostRuntime) {
-    for len in [128, 129, 200] {
+fn maps_with_repeats_are_equal_in_any_order(rt: HostRuntime) {
+    for len in [2, 3, 8, 9, 128, 129, 200] {
         let map = granted(&rt, repeated(rt.alloc(), len));
         let mut turned = granted(&rt, repeated(rt.alloc(), len));
         turned.reverse();
