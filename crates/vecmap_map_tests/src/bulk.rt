@@ -155,6 +155,22 @@ fn append_inserts_all_and_leaves_the_capacity_of_the_other(rt: HostRuntime) {
 }
 
 #[test]
+fn append_replaces_texts(rt: HostRuntime) {
+    let mut map = granted(
+        &rt,
+        VecMap::from_slice(rt.alloc(), &[(3, "c"), (2, "b"), (1, "a")]),
+    );
+    let mut other = granted(
+        &rt,
+        VecMap::from_slice(rt.alloc(), &[(3, "d"), (4, "e"), (5, "f")]),
+    );
+    assert_granted(&rt, map.append(&mut other));
+    let left = [(3, "d"), (2, "b"), (1, "a"), (4, "e"), (5, "f")];
+    assert_list(&rt, map.as_slice(), &left);
+    assert_list(&rt, other.as_slice(), &[]);
+}
+
+#[test]
 fn from_slice_keeps_distinct_pairs_of_every_kind(rt: HostRuntime) {
     let foo = granted(&rt, String::from_str(rt.alloc(), "foo"));
     let bar = granted(&rt, String::from_str(rt.alloc(), "bar"));

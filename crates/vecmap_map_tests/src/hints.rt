@@ -15,15 +15,15 @@ enum Way {
 
 const WAYS: [Way; 3] = [Way::Extend, Way::ExtendPairs, Way::ExtendRefs];
 
-const ONE: &[(i32, char)] = &[(1, 'm')];
+const ONE: &[(u32, u32)] = &[(1, 7)];
 
-const THREE: &[(i32, char)] = &[(1, 'm'), (2, 'm'), (3, 'm')];
+const THREE: &[(u32, u32)] = &[(1, 7), (2, 7), (3, 7)];
 
 // Extends a map by an iterator over these pairs, with this hint.
 fn extend(
-    map: &mut VecMap<i32, char>,
+    map: &mut VecMap<u32, u32>,
     way: Way,
-    items: &[(i32, char)],
+    items: &[(u32, u32)],
     hint: usize,
 ) -> Result<(), AllocError> {
     let hinted = Hinted { items, hint };
@@ -37,14 +37,14 @@ fn extend(
 // Collects the pairs of an iterator with this hint.
 fn collected(
     alloc: Global,
-    items: &[(i32, char)],
+    items: &[(u32, u32)],
     hint: usize,
-) -> Result<VecMap<i32, char>, AllocError> {
+) -> Result<VecMap<u32, u32>, AllocError> {
     Hinted { items, hint }.copied().collect(alloc)
 }
 
 // Asserts that a map has exactly these pairs, and at least this capacity.
-fn assert_room(rt: &impl Abort, map: &VecMap<i32, char>, expected: &[(i32, char)], room: usize) {
+fn assert_room(rt: &impl Abort, map: &VecMap<u32, u32>, expected: &[(u32, u32)], room: usize) {
     assert_list(rt, map.as_slice(), expected);
     assert!(*rt; room <= map.capacity(), "{} < {room}", map.capacity());
 }
@@ -53,9 +53,9 @@ fn assert_room(rt: &impl Abort, map: &VecMap<i32, char>, expected: &[(i32, char)
 fn assert_extended(
     rt: &impl Abort,
     alloc: Global,
-    start: &[(i32, char)],
-    more: (&[(i32, char)], usize),
-    expected: (&[(i32, char)], usize),
+    start: &[(u32, u32)],
+    more: (&[(u32, u32)], usize),
+    expected: (&[(u32, u32)], usize),
 ) {
     for way in WAYS {
         let mut map = granted(rt, VecMap::from_slice(alloc, start));
@@ -65,7 +65,7 @@ fn assert_extended(
 }
 
 // Asserts that each call refuses to reserve capacity for the greatest hint, and leaves the map.
-fn assert_each_refused(rt: &impl Abort, map: &mut VecMap<i32, char>) {
+fn assert_each_refused(rt: &impl Abort, map: &mut VecMap<u32, u32>) {
     for way in WAYS {
         assert_refused(rt, extend(map, way, ONE, usize::MAX));
     }
@@ -73,20 +73,14 @@ fn assert_each_refused(rt: &impl Abort, map: &mut VecMap<i32, char>) {
 
 #[test]
 fn a_size_hint_decides_nothing_but_the_capacity(rt: HostRuntime) {
-    let left = [(2, 'm'), (1, 'm'), (3, 'm')];
+    let left = [(2, 7), (1, 7), (3, 7)];
     for (hint, room, extended) in [(0, 3, 1), (1, 3, 2), (3, 3, 3), (20, 20, 11)] {
         let hinted = Hinted { items: THREE, hint };
         let map = granted(&rt, VecMap::from_iter(rt.alloc(), hinted.copied()));
         assert_room(&rt, &map, THREE, room);
         let map = granted(&rt, collected(rt.alloc(), THREE, hint));
         assert_room(&rt, &map, THREE, room);
-        assert_extended(
-            &rt,
-            rt.alloc(),
-            &[(2, 'a')],
-            (THREE, hint),
-            (&left, extended),
-        );
+        assert_extended(&rt, rt.alloc(), &[(2, 5)], (THREE, hint), (&left, extended));
     }
 }
 
@@ -95,10 +89,10 @@ fn capacity_for_the_greatest_hint_is_refused(rt: HostRuntime) {
     let mut map = VecMap::new(rt.alloc());
     assert_each_refused(&rt, &mut map);
     assert_is(&rt, (map.len(), map.capacity()), (0, 0));
-    assert_granted(&rt, map.extend([(5, 'a')]));
+    assert_granted(&rt, map.extend([(5, 5)]));
     let room = map.capacity();
     assert_each_refused(&rt, &mut map);
-    assert_list(&rt, map.as_slice(), &[(5, 'a')]);
+    assert_list(&rt, map.as_slice(), &[(5, 5)]);
     assert_is(&rt, map.capacity(), room);
     let hinted = Hinted {
         items: ONE,
@@ -116,12 +110,12 @@ fn an_empty_map_reserves_the_whole_hint(rt: HostRuntime) {
 
 #[test]
 fn a_map_with_pairs_reserves_half_of_the_hint_rounded_up(rt: HostRuntime) {
-    let both = [(2, 'a'), (1, 'm')];
-    assert_extended(&rt, rt.alloc(), &[(2, 'a')], (ONE, 21), (&both, 12));
+    let both = [(2, 5), (1, 7)];
+    assert_extended(&rt, rt.alloc(), &[(2, 5)], (ONE, 21), (&both, 12));
 }
 
 #[test]
 fn from_slice_reserves_capacity_for_all_pairs(rt: HostRuntime) {
-    let map = granted(&rt, VecMap::from_slice(rt.alloc(), &[(1, 'm'); 9]));
+    let map = granted(&rt, VecMap::from_slice(rt.alloc(), &[(1, 7); 9]));
     assert_room(&rt, &map, ONE, 9);
 }

@@ -7,7 +7,9 @@ use vecmap_fixtures::{item_map, make_item};
 fn an_insert_of_an_equal_key_keeps_the_stored_one(rt: HostRuntime) {
     let mut map = VecMap::new(rt.alloc());
     assert_gives(&rt, map.insert(make_item(1, 'x'), 10), None);
+    assert_pairs(&rt, &map, &[(1, 'x', 10)]);
     assert_gives(&rt, map.insert(make_item(1, 'y'), 20), Some(10));
+    assert_pairs(&rt, &map, &[(1, 'x', 20)]);
     assert_gives(&rt, map.insert(make_item(2, 'b'), 30), None);
     assert_pairs(&rt, &map, &[(1, 'x', 20), (2, 'b', 30)]);
 }

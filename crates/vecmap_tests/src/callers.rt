@@ -3,7 +3,6 @@ mod header_lists;
 mod headers;
 mod interner;
 mod options;
-mod registry;
 mod scopes;
 mod settings;
 mod traits;
@@ -13,7 +12,7 @@ use crate::checks::{assert_gives, assert_is, assert_list, assert_pairs, check, g
 use std::alloc::{AllocError, Global};
 use vecmap::{VecMap, VecSet};
 use vecmap_callers::names::{Name, NamedAs};
-use vecmap_callers::{entry, equivalent, lending, places};
+use vecmap_callers::{entry, equivalent, insertion, lending, places};
 use vecmap_fixtures::{item_map, make_item};
 
 #[test]
@@ -42,6 +41,12 @@ fn callers_of_entries_do_what_they_say(rt: HostRuntime) {
     assert_gives(&rt, entry::or_empty(&mut maps, 'a'), 0);
     assert_is(&rt, maps.len(), 1);
     check!(rt; maps.get(&'a').is_some_and(VecMap::is_empty));
+}
+
+#[test]
+fn a_caller_of_insertions_does_what_it_says(rt: HostRuntime) {
+    let map = granted(&rt, insertion::headers(rt.alloc()));
+    assert_list(&rt, map.as_slice(), &[("age", 30), ("max", 20)]);
 }
 
 #[test]

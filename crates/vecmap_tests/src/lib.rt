@@ -7,7 +7,6 @@ mod base;
 mod callers;
 #[cfg(test)]
 mod checks;
-pub mod insertions;
 #[cfg(test)]
 mod macros;
 #[cfg(test)]

@@ -343,7 +343,7 @@ fn stops_if_a_write_fails(rt: HostRuntime) -> Result<(), Fail> {
 // first or the fifth pair. The test prints that it was refused. No second request is refused, so the next run has all
 // answers.
 #[test]
-fn goes_on_after_a_refused_request_for_memory(rt: HostRuntime) -> Result<(), Fail> {
+fn answers_each_line_or_memory_where_one_is_refused(rt: HostRuntime) -> Result<(), Fail> {
     let input =
         "insert a 1\nlen\ninsert_at 1 b 2\nor_insert c 3\ninsert a 4\ninsert d 5\ninsert e 6\nlist";
     let outputs = [
@@ -375,7 +375,7 @@ fn goes_on_after_a_refused_request_for_memory(rt: HostRuntime) -> Result<(), Fai
 // The writer is an array, so there are two requests: for the text of the key, and for the capacity of the map. The
 // program prints the same text, whichever of them is refused.
 #[test]
-fn prints_memory_after_a_refused_request(rt: HostRuntime) -> Result<(), Fail> {
+fn answers_an_insertion_or_memory_if_it_is_refused(rt: HostRuntime) -> Result<(), Fail> {
     for is_first in [true, false] {
         let mut reader = b"insert a 1\nlen".as_slice();
         let mut output = [0; 9];

@@ -46,7 +46,6 @@ fn a_map_run_appends_and_compares_maps(rt: HostRuntime) {
         MapCommand::Append(granted(&rt, VecMap::from_slice(rt.alloc(), &[('b', 2), ('a', 3)]))),
         MapCommand::ToVec,
         MapCommand::Equals(granted(&rt, VecMap::from_slice(rt.alloc(), &[('b', 2), ('a', 3)]))),
-        MapCommand::Equals(granted(&rt, VecMap::from_slice(rt.alloc(), &[('b', 2), ('a', 1)]))),
         MapCommand::First,
         MapCommand::Pop,
         MapCommand::Get('b'),
@@ -55,9 +54,20 @@ fn a_map_run_appends_and_compares_maps(rt: HostRuntime) {
         &rt,
         &mut map,
         commands,
-        "[Done, Pairs([('a', 3), ('b', 2)]), Truth(true), Truth(false), Pair(Some(('a', 3))), Pair(Some(('b', 2))), Value(None)]",
+        "[Done, Pairs([('a', 3), ('b', 2)]), Truth(true), Pair(Some(('a', 3))), Pair(Some(('b', 2))), Value(None)]",
     );
     assert_list(&rt, map.as_slice(), &[('a', 3)]);
+}
+
+#[test]
+fn a_map_run_compares_maps_that_differ_in_a_value(rt: HostRuntime) {
+    let pairs = [('a', 3), ('b', 2)];
+    let mut map = granted(&rt, VecMap::from_slice(rt.alloc(), &pairs));
+    let commands = vec![in rt.alloc();
+        MapCommand::Equals(granted(&rt, VecMap::from_slice(rt.alloc(), &[('b', 2), ('a', 1)]))),
+    ];
+    assert_replies(&rt, &mut map, commands, "[Truth(false)]");
+    assert_list(&rt, map.as_slice(), &pairs);
 }
 
 #[test]
@@ -114,19 +124,38 @@ fn a_map_run_finds_nothing_at_the_greatest_index(rt: HostRuntime) {
     let commands = vec![in rt.alloc();
         MapCommand::InsertAt(usize::MAX, 'b', 2),
         MapCommand::SplitOff(2),
-        MapCommand::SplitOff(usize::MAX),
         MapCommand::GetIndex(usize::MAX),
-        MapCommand::RemoveIndex(usize::MAX),
-        MapCommand::SwapRemoveIndex(usize::MAX),
-        MapCommand::SwapIndices(0, usize::MAX),
-        MapCommand::SwapIndices(usize::MAX, usize::MAX),
         MapCommand::Truncate(usize::MAX),
     ];
     assert_replies(
         &rt,
         &mut map,
         commands,
-        "[OutOfRange, OutOfRange, OutOfRange, Pair(None), OutOfRange, OutOfRange, OutOfRange, OutOfRange, Done]",
+        "[OutOfRange, OutOfRange, Pair(None), Done]",
+    );
+    assert_is(
+        &rt,
+        (map.as_slice(), map.capacity()),
+        ([('a', 1)].as_slice(), room),
+    );
+}
+
+#[test]
+fn a_map_run_removes_and_moves_nothing_at_the_greatest_index(rt: HostRuntime) {
+    let mut map = granted(&rt, VecMap::from_slice(rt.alloc(), &[('a', 1)]));
+    let room = map.capacity();
+    let commands = vec![in rt.alloc();
+        MapCommand::SplitOff(usize::MAX),
+        MapCommand::RemoveIndex(usize::MAX),
+        MapCommand::SwapRemoveIndex(usize::MAX),
+        MapCommand::SwapIndices(0, usize::MAX),
+        MapCommand::SwapIndices(usize::MAX, usize::MAX),
+    ];
+    assert_replies(
+        &rt,
+        &mut map,
+        commands,
+        "[OutOfRange, OutOfRange, OutOfRange, OutOfRange, OutOfRange]",
     );
     assert_is(
         &rt,

@@ -71,15 +71,19 @@ fn a_set_run_inserts_elements(rt: HostRuntime) {
     let commands = vec![in rt.alloc();
         SetCommand::Replace(make_item(1, 'y')),
         SetCommand::Insert(make_item(2, 'c')),
-        SetCommand::Replace(make_item(3, 'd')),
-        SetCommand::Insert(make_item(4, 'e')),
     ];
     assert_replies(
         &rt,
         &mut set,
         commands,
-        "[Item(Some(Item { number: 1, mark: 'x' })), Truth(false), Item(None), Truth(true)]",
+        "[Item(Some(Item { number: 1, mark: 'x' })), Truth(false)]",
     );
+    check!(rt; has_items(set.as_slice(), &[(1, 'y'), (2, 'b')]));
+    let commands = vec![in rt.alloc();
+        SetCommand::Replace(make_item(3, 'd')),
+        SetCommand::Insert(make_item(4, 'e')),
+    ];
+    assert_replies(&rt, &mut set, commands, "[Item(None), Truth(true)]");
     check!(rt; has_items(set.as_slice(), &[(1, 'y'), (2, 'b'), (3, 'd'), (4, 'e')]));
 }
 

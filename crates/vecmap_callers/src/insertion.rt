@@ -1,4 +1,4 @@
-//! A map that is created by insertions, and what a proof knows of it.
+//! A caller of insertions, and what a proof knows of the map that they create.
 ghost use Rattle.std.specs.Prelude.{◌≡◌, ◌∷◌, IfOk, List, [], codes, map, ℕ};
 
 use std::alloc::{AllocError, Global};
@@ -13,19 +13,4 @@ pub fn headers(alloc: Global) -> Result<VecMap<&'static str, u32>, AllocError>
     map.insert("max", 20)?;
     map.insert("age", 30)?;
     Ok(map) // [("age", 30), ("max", 20)]
-}
-
-#[cfg(test)]
-mod tests {
-    use super::*;
-    use crate::checks::{assert_list, granted};
-
-    #[test]
-    fn insertions_give_the_list_of_the_contract(rt: HostRuntime) {
-        assert_list(
-            &rt,
-            granted(&rt, headers(rt.alloc())).as_slice(),
-            &[("age", 30), ("max", 20)],
-        );
-    }
 }
