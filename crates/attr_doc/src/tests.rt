@@ -1,10 +1,9 @@
 //! Tests of whole documents, which are compared as they are printed.
-mod checks;
 mod names;
 mod room;
 
+use crate::checks::{assert_gives, assert_is, assert_prints, assert_text, granted};
 use crate::{Document, Name};
-use checks::{assert_gives, assert_is, assert_prints, assert_text, granted};
 use std::alloc::{AllocError, Global};
 
 type Rows<'t> = &'t [(&'t str, &'t str, &'t str)];

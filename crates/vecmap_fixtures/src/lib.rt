@@ -24,11 +24,11 @@ pub use draws::Draws;
 pub use hinted::Hinted;
 pub use item::{Item, has_items, has_pairs, make_item};
 pub use made::{full_map, full_set, item_map, item_set, repeating_map, set_of};
-pub use pulls::pulls_as_list;
+pub use pulls::{End, all_ends, pulls_as_list};
 pub use query::Number;
 pub use same::{Same, are_same};
 pub use texts::{has_text_pairs, has_texts, text_map, text_set};
 pub use told::{
-    Log, Told, has_told, has_told_pairs, make_told, told_couples, told_items, told_map, told_pairs,
-    told_set,
+    Drops, Log, Told, has_told, has_told_pairs, make_told, told_couples, told_items, told_map,
+    told_pairs, told_set,
 };

@@ -1,9 +1,41 @@
 //! The comparison of an exact iterator with a plain list, by calls from both ends.
-/// Returns whether six calls of the iterator return the items of `list`, and then `None`.
+
+/// The end from which an item is taken: by `next`, or by `next_back`.
+#[derive(Clone, Copy, Debug, PartialEq, Eq)]
+pub enum End {
+    Front,
+    Back,
+}
+
+/// Returns every list of six ends.
+pub fn all_ends() -> [[End; 6]; 64] {
+    let mut all = [[End::Front; 6]; 64];
+    let mut ends = [End::Front; 6];
+    for list in &mut all {
+        *list = ends;
+        turn_next(&mut ends);
+    }
+    all
+}
+
+// Changes the ends to the next list. Like a counter, it turns each `Back` up to the first `Front` into `Front`, and
+// this `Front` into `Back`, so 64 calls make every list once.
+fn turn_next(ends: &mut [End; 6]) {
+    for end in ends {
+        match *end {
+            End::Front => {
+                *end = End::Back;
+                return;
+            }
+            End::Back => *end = End::Front,
+        }
+    }
+}
+
+/// Returns whether a call of the iterator for each of these ends returns the items of `list`, and then `None`.
 ///
-/// Each bit of `ends` says from which end the next item is taken: 0 from the front, 1 from the back. `read` reads an
-/// item. `len` and both ends of `size_hint` must be exact at each step.
-pub fn pulls_as_list<I, T, F>(mut iter: I, read: F, list: &[T], ends: u32) -> bool
+/// `read` reads an item. `len` and both ends of `size_hint` must be exact at each step.
+pub fn pulls_as_list<I, T, F>(mut iter: I, read: F, list: &[T], ends: &[End]) -> bool
 where
     I: DoubleEndedIterator + ExactSizeIterator + Drop,
     I::Item: Drop,
@@ -14,14 +46,13 @@ where
     requires reads { F.IsAlwaysCallable read }
 {
     let mut rest = list;
-    for bit in [1, 2, 4, 8, 16, 32] {
+    for end in ends {
         if !is_exact(&iter, rest.len()) {
             return false;
         }
-        let (answer, wanted) = if ends & bit == 0 {
-            (iter.next(), take_first(&mut rest))
-        } else {
-            (iter.next_back(), take_last(&mut rest))
+        let (answer, wanted) = match end {
+            End::Front => (iter.next(), take_first(&mut rest)),
+            End::Back => (iter.next_back(), take_last(&mut rest)),
         };
         let agree = match (answer, wanted) {
             (Some(item), Some(wanted)) => read(item) == *wanted,

@@ -1,10 +1,11 @@
 //! Tests of the comparisons themselves: each must also fail where it should. A test that uses one proves no more than
 //! this.
 use super::{
-    Log, are_same, has_items, has_pairs, has_text_pairs, has_texts, has_told, has_told_pairs,
-    make_item, pulls_as_list, text_map, text_set, told_map, told_set,
+    Log, all_ends, are_same, has_items, has_pairs, has_text_pairs, has_texts, has_told,
+    has_told_pairs, make_item, pulls_as_list, text_map, text_set, told_map, told_set,
 };
 use std::test::Fail;
+use vecmap::VecSet;
 
 #[test]
 fn pairs_and_elements_are_told_apart(rt: HostRuntime) {
@@ -53,15 +54,23 @@ fn what_tells_is_told_apart(rt: HostRuntime) -> Result<(), Fail> {
     assert!(rt; !has_told(set.as_slice(), &[1, 3]) && !has_told(set.as_slice(), &[1]));
     drop((map, set));
     assert!(rt; log.alive() == 0 && log.drops() == 6);
+    assert!(rt; log.take_drops().as_slice() == [1, 1, 2, 2, 11, 12].as_slice());
+    assert!(rt; log.take_drops().as_slice().is_empty());
+    Ok(())
+}
+
+#[test]
+fn every_list_of_six_ends_is_another(rt: HostRuntime) -> Result<(), Fail> {
+    assert!(rt; VecSet::from_array(rt.alloc(), all_ends())?.len() == 64);
     Ok(())
 }
 
 #[test]
 fn pulls_are_told_apart(rt: HostRuntime) {
-    for ends in 0..64 {
-        assert!(rt; pulls_as_list([1, 2, 3].iter(), |item| *item, &[1, 2, 3], ends));
-        assert!(rt; !pulls_as_list([1, 2, 3].iter(), |item| *item, &[1, 4, 3], ends));
-        assert!(rt; !pulls_as_list([1, 2, 3].iter(), |item| *item, &[1, 2], ends));
-        assert!(rt; !pulls_as_list([1, 2].iter(), |item| *item, &[1, 2, 3], ends));
+    for ends in all_ends() {
+        assert!(rt; pulls_as_list([1, 2, 3].iter(), |item| *item, &[1, 2, 3], &ends));
+        assert!(rt; !pulls_as_list([1, 2, 3].iter(), |item| *item, &[1, 4, 3], &ends));
+        assert!(rt; !pulls_as_list([1, 2, 3].iter(), |item| *item, &[1, 2], &ends));
+        assert!(rt; !pulls_as_list([1, 2].iter(), |item| *item, &[1, 2, 3], &ends));
     }
 }

@@ -12,6 +12,7 @@ pub struct Log {
     comparisons: Cell<u32>,
     made: Cell<u32>,
     drops: Cell<u32>,
+    last_drops: Cell<Drops>,
     compares_after_drop: Cell<bool>,
     unlucky: Cell<Option<u32>>,
 }
@@ -23,6 +24,7 @@ impl Log {
             comparisons: Cell::new(0),
             made: Cell::new(0),
             drops: Cell::new(0),
+            last_drops: Cell::new(Drops::new()),
             compares_after_drop: Cell::new(false),
             unlucky: Cell::new(None),
         }
@@ -38,6 +40,11 @@ impl Log {
         self.drops.get()
     }
 
+    /// Returns what was dropped since the last call of this function.
+    pub fn take_drops(&self) -> Drops {
+        self.last_drops.replace(Drops::new())
+    }
+
     /// Returns the number of values that are alive: those that were created, clones too, less those that were dropped.
     pub fn alive(&self) -> u32 {
         self.made.get().wrapping_sub(self.drops.get())
@@ -51,6 +58,41 @@ impl Log {
     /// Returns whether there was a comparison after a drop.
     pub fn compares_after_drop(&self) -> bool {
         self.compares_after_drop.get()
+    }
+}
+
+/// The numbers of the values that were dropped, in ascending order. Of more than sixteen drops, it has the first.
+#[derive(Clone, Copy)]
+pub struct Drops {
+    numbers: [u32; 16],
+    count: usize,
+}
+
+impl Drops {
+    fn new() -> Drops {
+        Drops {
+            numbers: [0; 16],
+            count: 0,
+        }
+    }
+
+    // Returns these drops and that of one more value.
+    fn and(mut self, number: u32) -> Drops {
+        let count = self.count;
+        if let Some(slot) = self.numbers.get_mut(count) {
+            *slot = number;
+            self.count = count.saturating_add(1);
+        }
+        let count = self.count;
+        if let Some(numbers) = self.numbers.get_mut(..count) {
+            numbers.sort_unstable();
+        }
+        self
+    }
+
+    pub fn as_slice(&self) -> &[u32] {
+        let count = self.count;
+        self.numbers.get(..count).unwrap_or(&[])
     }
 }
 
@@ -123,6 +165,9 @@ impl Eq for Told<'_> {
 impl Drop for Told<'_> {
     fn drop(self) {
         self.log.drops.set(self.log.drops.get().wrapping_add(1));
+        self.log
+            .last_drops
+            .set(self.log.last_drops.get().and(self.number));
         let Told { number: _, log: _ } = self;
     }
 }

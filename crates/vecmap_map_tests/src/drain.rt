@@ -6,7 +6,7 @@ use std::ops::Bound;
 use std::process::Abort;
 use vecmap::VecMap;
 use vecmap::map::Drain;
-use vecmap_fixtures::{Item, Log, Told, repeating_map, told_pairs};
+use vecmap_fixtures::{End, Item, Log, Told, all_ends, repeating_map, told_pairs};
 
 // Two keys are equal: a drain does not compare keys.
 const FIVE: &[(u32, char, u32)] = &[
@@ -23,10 +23,10 @@ const SIX: [(u32, u32); 6] = [(0, 5), (1, 6), (2, 7), (3, 8), (4, 9), (5, 10)];
 fn a_drain_is_exact_for_every_mixture_of_next_and_next_back(rt: HostRuntime) {
     for count in 0..5 {
         let end = count + 1;
-        for ends in 0..64 {
+        for ends in all_ends() {
             let mut map = granted(&rt, VecMap::from_slice(rt.alloc(), &SIX));
             assert!(rt; end <= map.len());
-            assert_pulls(&rt, map.drain(1..end), &SIX[1..end], ends);
+            assert_pulls(&rt, map.drain(1..end), &SIX[1..end], &ends);
             let left = map.as_slice().split_first();
             assert_is(&rt, left, Some((&SIX[0], &SIX[end..])));
         }
@@ -116,33 +116,32 @@ fn each_key_that_a_drain_removes_is_dropped_once(rt: HostRuntime) {
 
 #[test]
 fn a_drain_prints_the_pairs_that_are_left(rt: HostRuntime) {
-    let mut map = granted(&rt, VecMap::from_slice(rt.alloc(), &SIX[..4]));
-    let mut pairs = map.drain(..);
-    assert_prints(&rt, rt.alloc(), &pairs, "[(0, 5), (1, 6), (2, 7), (3, 8)]");
-    let _last = pairs.next_back();
-    assert_prints(&rt, rt.alloc(), &pairs, "[(0, 5), (1, 6), (2, 7)]");
-}
-
-#[test]
-fn a_drain_of_a_part_prints_what_is_left_of_it(rt: HostRuntime) {
-    let mut map = granted(&rt, VecMap::from_slice(rt.alloc(), &SIX[..4]));
-    assert!(rt; map.len() == 4);
-    let mut pairs = map.drain(1..3);
-    assert_prints(&rt, rt.alloc(), &pairs, "[(1, 6), (2, 7)]");
-    let _last = pairs.next_back();
-    assert_prints(&rt, rt.alloc(), &pairs, "[(1, 6)]");
-}
-
-#[test]
-fn a_drain_prints_what_is_left_after_the_first(rt: HostRuntime) {
-    let mut map = granted(&rt, VecMap::from_slice(rt.alloc(), &SIX[..4]));
-    assert!(rt; map.len() == 4);
-    let mut pairs = map.drain(0..2);
-    let _first = pairs.next();
-    assert_prints(&rt, rt.alloc(), &pairs, "[(1, 6)]");
-    let mut map = granted(&rt, VecMap::from_slice(rt.alloc(), &SIX[..4]));
-    assert!(rt; map.len() == 4);
-    let mut pairs = map.drain(1..);
-    let _first = pairs.next();
-    assert_prints(&rt, rt.alloc(), &pairs, "[(2, 7), (3, 8)]");
+    for (first, last, end, before, after) in [
+        (
+            0,
+            4,
+            End::Back,
+            "[(0, 5), (1, 6), (2, 7), (3, 8)]",
+            "[(0, 5), (1, 6), (2, 7)]",
+        ),
+        (1, 3, End::Back, "[(1, 6), (2, 7)]", "[(1, 6)]"),
+        (0, 2, End::Front, "[(0, 5), (1, 6)]", "[(1, 6)]"),
+        (
+            1,
+            4,
+            End::Front,
+            "[(1, 6), (2, 7), (3, 8)]",
+            "[(2, 7), (3, 8)]",
+        ),
+    ] {
+        let mut map = granted(&rt, VecMap::from_slice(rt.alloc(), &SIX[..4]));
+        assert!(rt; first <= last && last <= map.len());
+        let mut pairs = map.drain(first..last);
+        assert_prints(&rt, rt.alloc(), &pairs, before);
+        let _taken = match end {
+            End::Front => pairs.next(),
+            End::Back => pairs.next_back(),
+        };
+        assert_prints(&rt, rt.alloc(), &pairs, after);
+    }
 }

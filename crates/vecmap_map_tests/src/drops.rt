@@ -1,7 +1,7 @@
 //! Keys and values that are passed to a call are dropped once, or returned. `alive` counts those that are not dropped.
 use super::entry::{occupied, vacant};
 use crate::checks::{
-    assert_alive, assert_gives, assert_granted, assert_is, assert_told, check, granted,
+    assert_drops, assert_gives, assert_granted, assert_is, assert_told, check, granted,
 };
 use std::alloc::{AllocError, Global};
 use std::process::Abort;
@@ -16,39 +16,28 @@ type ToldMap<'a> = VecMap<Told<'a>, Told<'a>>;
 #[test]
 fn insertions_drop_what_they_do_not_keep(rt: HostRuntime) {
     let log = Log::new();
+    let told = |number| make_told(&log, number);
     let mut map = granted(&rt, told_map(rt.alloc(), &log, &[1, 2]));
-    let old = granted(&rt, map.insert(make_told(&log, 1), make_told(&log, 10)));
-    assert_alive(&rt, &log, old, 5, 4);
-    let old = granted(&rt, map.insert(make_told(&log, 3), make_told(&log, 30)));
-    assert_alive(&rt, &log, old, 6, 6);
-    let old = granted(
-        &rt,
-        map.insert_full(make_told(&log, 1), make_told(&log, 11)),
-    );
-    assert_alive(&rt, &log, old, 7, 6);
-    let old = granted(&rt, map.insert_key(make_told(&log, 1), make_told(&log, 12)));
-    assert_alive(&rt, &log, old, 8, 6);
+    let old = granted(&rt, map.insert(told(1), told(10)));
+    assert_drops(&rt, &log, old, &[1], &[11]);
+    let old = granted(&rt, map.insert(told(3), told(30)));
+    assert_drops(&rt, &log, old, &[], &[]);
+    let old = granted(&rt, map.insert_full(told(1), told(11)));
+    assert_drops(&rt, &log, old, &[1], &[10]);
+    let old = granted(&rt, map.insert_key(told(1), told(12)));
+    assert_drops(&rt, &log, old, &[], &[1, 11]);
     assert!(rt; 3 <= map.len());
-    let old = granted(
-        &rt,
-        map.insert_at(3, make_told(&log, 1), make_told(&log, 13)),
-    );
-    assert_alive(&rt, &log, old, 7, 6);
+    let old = granted(&rt, map.insert_at(3, told(1), told(13)));
+    assert_drops(&rt, &log, old, &[1], &[12]);
     assert!(rt; 1 <= map.len());
-    let old = granted(
-        &rt,
-        map.insert_at(1, make_told(&log, 4), make_told(&log, 40)),
-    );
-    assert_alive(&rt, &log, old, 8, 8);
-    assert_granted(
-        &rt,
-        put_pair(&mut map, make_told(&log, 1), make_told(&log, 14)),
-    );
-    assert_is(&rt, log.alive(), 8);
+    let old = granted(&rt, map.insert_at(1, told(4), told(40)));
+    assert_drops(&rt, &log, old, &[], &[]);
+    let put = granted(&rt, put_pair(&mut map, told(1), told(14)));
+    assert_drops(&rt, &log, put, &[1, 13], &[]);
     let error = Refused {
-        given: (make_told(&log, 5), make_told(&log, 50)),
+        given: (told(5), told(50)),
     };
-    assert_alive(&rt, &log, AllocError::from(error), 8, 8);
+    assert_drops(&rt, &log, AllocError::from(error), &[5, 50], &[]);
     assert_told(&rt, &map, &[(2, 12), (4, 40), (3, 30), (1, 14)]);
     drop(map);
     assert_is(&rt, log.alive(), 0);
@@ -93,32 +82,31 @@ fn or_insert_with_key<'a>(
 fn entries_drop_what_they_do_not_keep(rt: HostRuntime) {
     let log = Log::new();
     let mut map = granted(&rt, told_map(rt.alloc(), &log, &[1, 2]));
-    assert_alive(&rt, &log, map.entry(make_told(&log, 1)), 5, 4);
-    assert_alive(&rt, &log, map.entry(make_told(&log, 3)), 5, 4);
+    assert_drops(&rt, &log, map.entry(make_told(&log, 1)), &[], &[1]);
+    assert_drops(&rt, &log, map.entry(make_told(&log, 3)), &[], &[3]);
     let entry = map.entry(make_told(&log, 3)).and_modify(|_| {});
-    assert_alive(&rt, &log, entry, 5, 4);
-    assert_gives(&rt, or_insert(&mut map, &log, 1, 10), 11);
-    assert_is(&rt, log.alive(), 4);
-    assert_gives(&rt, or_insert(&mut map, &log, 3, 30), 30);
-    assert_is(&rt, log.alive(), 6);
-    assert_gives(&rt, or_insert_with(&mut map, &log, 1, 10), 11);
-    assert_is(&rt, log.alive(), 6);
-    assert_gives(&rt, or_insert_with(&mut map, &log, 4, 40), 40);
-    assert_is(&rt, log.alive(), 8);
-    assert_gives(&rt, or_insert_with_key(&mut map, &log, 5), 50);
-    assert_is(&rt, log.alive(), 10);
-    let entry = granted(
-        &rt,
-        map.entry(make_told(&log, 1))
-            .insert_entry(make_told(&log, 11)),
-    );
-    assert_alive(&rt, &log, entry, 11, 10);
-    let entry = granted(
-        &rt,
-        map.entry(make_told(&log, 6))
-            .insert_entry(make_told(&log, 60)),
-    );
-    assert_alive(&rt, &log, entry, 13, 12);
+    assert_drops(&rt, &log, entry, &[], &[3]);
+    let stored = granted(&rt, or_insert(&mut map, &log, 1, 10));
+    assert_drops(&rt, &log, stored, &[1, 10], &[]);
+    assert_is(&rt, stored, 11);
+    let stored = granted(&rt, or_insert(&mut map, &log, 3, 30));
+    assert_drops(&rt, &log, stored, &[], &[]);
+    assert_is(&rt, stored, 30);
+    let stored = granted(&rt, or_insert_with(&mut map, &log, 1, 10));
+    assert_drops(&rt, &log, stored, &[1], &[]);
+    assert_is(&rt, stored, 11);
+    let stored = granted(&rt, or_insert_with(&mut map, &log, 4, 40));
+    assert_drops(&rt, &log, stored, &[], &[]);
+    assert_is(&rt, stored, 40);
+    let stored = granted(&rt, or_insert_with_key(&mut map, &log, 5));
+    assert_drops(&rt, &log, stored, &[], &[]);
+    assert_is(&rt, stored, 50);
+    let entry = map.entry(make_told(&log, 1));
+    let entry = granted(&rt, entry.insert_entry(make_told(&log, 11)));
+    assert_drops(&rt, &log, entry, &[11], &[1]);
+    let entry = map.entry(make_told(&log, 6));
+    let entry = granted(&rt, entry.insert_entry(make_told(&log, 60)));
+    assert_drops(&rt, &log, entry, &[], &[6]);
     let left = [(1, 11), (2, 12), (3, 30), (4, 40), (5, 50), (6, 60)];
     assert_told(&rt, &map, &left);
     drop(map);
@@ -131,7 +119,7 @@ fn an_occupied_entry_returns_the_value_that_it_replaces(rt: HostRuntime) {
     let mut map = VecMap::new(rt.alloc());
     assert_granted(&rt, map.insert(1, make_told(&log, 11)));
     let mut entry = occupied(&rt, map.entry(1));
-    assert_alive(&rt, &log, entry.insert(make_told(&log, 12)), 2, 1);
+    assert_drops(&rt, &log, entry.insert(make_told(&log, 12)), &[], &[11]);
     assert_is(&rt, map.get(&1).map(Told::number), Some(12));
     assert_is(&rt, log.alive(), 1);
 }
@@ -224,20 +212,22 @@ fn removals_drop_what_they_do_not_return(rt: HostRuntime) {
     let log = Log::new();
     let numbers = [1, 2, 3, 4, 5, 6, 7, 8, 9];
     let mut map = granted(&rt, told_map(rt.alloc(), &log, &numbers));
+    // Each query is dropped too, after the call.
     let removed = map.remove(&make_told(&log, 1));
-    assert_alive(&rt, &log, removed, 17, 16);
+    assert_drops(&rt, &log, removed, &[1, 1], &[11]);
     let removed = map.remove_entry(&make_told(&log, 2));
-    assert_alive(&rt, &log, removed, 16, 14);
+    assert_drops(&rt, &log, removed, &[2], &[2, 12]);
     let removed = map.swap_remove(&make_told(&log, 3));
-    assert_alive(&rt, &log, removed, 13, 12);
+    assert_drops(&rt, &log, removed, &[3, 3], &[13]);
     let removed = map.swap_remove_entry(&make_told(&log, 4));
-    assert_alive(&rt, &log, removed, 12, 10);
-    assert_alive(&rt, &log, map.pop(), 10, 8);
+    assert_drops(&rt, &log, removed, &[4], &[4, 14]);
+    assert_drops(&rt, &log, map.pop(), &[], &[7, 17]);
     assert!(rt; 1 < map.len());
-    assert_alive(&rt, &log, map.remove_index(0), 8, 6);
+    assert_drops(&rt, &log, map.remove_index(0), &[], &[9, 19]);
     assert!(rt; 1 < map.len());
-    assert_alive(&rt, &log, map.swap_remove_index(0), 6, 4);
+    assert_drops(&rt, &log, map.swap_remove_index(0), &[], &[8, 18]);
     map.truncate(1);
+    assert_drops(&rt, &log, map.len(), &[5, 15], &[]);
     assert_is(&rt, (map.len(), log.alive()), (1, 2));
     map.clear();
     assert_is(&rt, log.alive(), 0);
@@ -253,26 +243,31 @@ fn couples<'a>(rt: &impl Abort, alloc: Global, log: &'a Log) -> Couples<'a> {
 #[test]
 fn bulk_constructors_drop_what_they_do_not_keep(rt: HostRuntime) {
     let (log, alloc) = (Log::new(), rt.alloc());
-    assert_alive(&rt, &log, VecMap::from(couples(&rt, alloc, &log)), 4, 0);
+    // The value of the last pair replaces that of the first, whose key stays.
+    let kept = [1, 2, 11, 12];
+    let made = VecMap::from(couples(&rt, alloc, &log));
+    assert_drops(&rt, &log, made, &[1, 11], &kept);
     let made = VecMap::from_vec_counted(couples(&rt, alloc, &log));
-    assert_alive(&rt, &log, made, 4, 0);
+    assert_drops(&rt, &log, made, &[1, 11], &kept);
     let made = granted(&rt, VecMap::from_iter(alloc, couples(&rt, alloc, &log)));
-    assert_alive(&rt, &log, made, 4, 0);
+    assert_drops(&rt, &log, made, &[1, 11], &kept);
     let made: ToldMap<'_> = granted(&rt, couples(&rt, alloc, &log).into_iter().collect(alloc));
-    assert_alive(&rt, &log, made, 4, 0);
+    assert_drops(&rt, &log, made, &[1, 11], &kept);
 }
 
 #[test]
 fn bulk_calls_drop_what_they_do_not_keep(rt: HostRuntime) {
     let (log, alloc) = (Log::new(), rt.alloc());
     let mut map = granted(&rt, told_map(alloc, &log, &[3]));
-    assert_granted(&rt, map.extend(couples(&rt, alloc, &log)));
-    assert_is(&rt, log.alive(), 6);
-    let mut other = VecMap::from(couples(&rt, alloc, &log));
-    assert_granted(&rt, map.append(&mut other));
+    let extended = granted(&rt, map.extend(couples(&rt, alloc, &log)));
+    assert_drops(&rt, &log, extended, &[1, 11], &[]);
+    let mut other = granted(&rt, told_map(alloc, &log, &[1, 2]));
+    let appended = granted(&rt, map.append(&mut other));
+    assert_drops(&rt, &log, appended, &[1, 2, 11, 12], &[]);
     assert_is(&rt, (other.len(), log.alive()), (0, 6));
     assert!(rt; 2 <= map.len());
-    assert_alive(&rt, &log, granted(&rt, map.split_off(2)), 6, 4);
+    let rest = granted(&rt, map.split_off(2));
+    assert_drops(&rt, &log, rest, &[], &[2, 12]);
     let pairs = map.into_vec();
     assert!(rt; keys_distinct(&pairs));
     let map = VecMap::from_vec_unchecked(pairs);

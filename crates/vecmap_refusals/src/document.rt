@@ -1,11 +1,12 @@
 //! Documents: each request for memory is refused once.
 mod drops;
 
-use crate::checks::{assert_is, granted};
-use crate::telling::{make, one_of, tell};
+use crate::checks::assert_is;
+use crate::telling::{make, retry};
 use attr_doc::{Document, Name};
 use std::alloc::{AllocError, Global};
 use std::process::Abort;
+use vecmap::Refused;
 
 /// Sets one text. An empty text and an empty name need no memory.
 fn set(
@@ -48,7 +49,7 @@ fn printed(alloc: Global, page: &Document) -> Result<String, AllocError> {
 
 /// Asserts that a document is this text.
 fn assert_printed(rt: &(impl Abort + Print), alloc: Global, page: &Document, expected: &str) {
-    let text = one_of(rt, printed(alloc, page), printed(alloc, page));
+    let text = make!(rt; printed(alloc, page));
     assert_is(rt, text.as_str(), expected);
 }
 
@@ -60,26 +61,16 @@ fn set_given(
     page: &mut Document,
     unchanged: &str,
 ) -> Option<String> {
-    let (section, name, text) = one_of(rt, given(alloc), given(alloc));
-    match page.set(section, name, text) {
-        Ok(old) => old,
-        Err(refused) => {
-            tell(rt);
-            assert_printed(rt, alloc, page, unchanged);
-            let (section, name, text) = refused.given;
-            assert_is(
-                rt,
-                (section.text(), name.text(), text.as_str()),
-                ("P", "D", "2"),
-            );
-            granted(rt, page.set(section, name, text))
-        }
-    }
+    let (section, name, text) = make!(rt; given(alloc));
+    retry!(rt; page.set(section, name, text), Refused { given: (section, name, text) } => {
+        assert_printed(rt, alloc, page, unchanged);
+        assert_is(rt, (section.text(), name.text(), text.as_str()), ("P", "D", "2"));
+    })
 }
 
 /// A document has capacity for four sections before its map grows.
 #[test]
-fn set_of_a_new_section_returns_its_texts(rt: HostRuntime) {
+fn set_of_a_new_section_keeps_its_texts_or_returns_them(rt: HostRuntime) {
     let rows = [("", "", ""), ("q", "", ""), ("r", "", ""), ("s", "", "")];
     let mut page = make!(rt; document(rt.alloc(), &rows));
     let unchanged = r#"{"": {"": ""}, "q": {"": ""}, "r": {"": ""}, "s": {"": ""}}"#;
@@ -91,7 +82,7 @@ fn set_of_a_new_section_returns_its_texts(rt: HostRuntime) {
 
 /// A section has capacity for four names before its map grows.
 #[test]
-fn set_of_a_new_name_returns_its_texts(rt: HostRuntime) {
+fn set_of_a_new_name_keeps_its_texts_or_returns_them(rt: HostRuntime) {
     let rows = [
         ("p", "a", ""),
         ("p", "b", ""),
@@ -117,27 +108,16 @@ const INTO: &[(&str, &str, &str)] = &[
 
 const FROM: &[(&str, &str, &str)] = &[("t", "", ""), ("", "A", "2"), ("", "d", "")];
 
-/// Merges two documents. If that is refused, both are unchanged, and are merged once more.
-fn merge(rt: &(impl Abort + Print), alloc: Global, into: &mut Document, from: &mut Document) {
-    if into.merge(from).is_err() {
-        tell(rt);
-        let unchanged = r#"{"": {"a": "1", "b": "", "": ""}, "q": {"": ""}, "r": {"": ""}}"#;
-        assert_printed(rt, alloc, into, unchanged);
-        assert_printed(
-            rt,
-            alloc,
-            from,
-            r#"{"t": {"": ""}, "": {"A": "2", "d": ""}}"#,
-        );
-        granted(rt, into.merge(from));
-    }
-}
-
 #[test]
 fn merge_moves_all_or_nothing(rt: HostRuntime) {
     let mut into = make!(rt; document(rt.alloc(), INTO));
     let mut from = make!(rt; document(rt.alloc(), FROM));
-    merge(&rt, rt.alloc(), &mut into, &mut from);
+    retry!(rt; into.merge(&mut from), AllocError => {
+        let unchanged = r#"{"": {"a": "1", "b": "", "": ""}, "q": {"": ""}, "r": {"": ""}}"#;
+        assert_printed(&rt, rt.alloc(), &into, unchanged);
+        let unchanged = r#"{"t": {"": ""}, "": {"A": "2", "d": ""}}"#;
+        assert_printed(&rt, rt.alloc(), &from, unchanged);
+    });
     let merged =
         r#"{"": {"a": "2", "b": "", "": "", "d": ""}, "q": {"": ""}, "r": {"": ""}, "t": {"": ""}}"#;
     assert_printed(&rt, rt.alloc(), &into, merged);

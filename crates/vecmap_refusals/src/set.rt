@@ -9,3 +9,6 @@ mod order;
 mod removal;
 mod room;
 mod traits;
+
+// The elements of a set without spare capacity.
+const FULL: &[(u32, char)] = &[(1, 'a'), (2, 'b')];

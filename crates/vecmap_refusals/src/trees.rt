@@ -1,8 +1,9 @@
 //! Trees: each request for memory is refused once.
-use crate::checks::{assert_granted, assert_is, granted};
-use crate::telling::{make, one_of, tell};
+use crate::checks::{assert_is, granted};
+use crate::telling::{make, retry};
 use std::alloc::{AllocError, Global};
 use std::process::Abort;
+use vecmap::Refused;
 use vecmap_trees::Json;
 
 /// Creates `{"b":{"y":1},"a":2}`.
@@ -31,47 +32,42 @@ fn printed(alloc: Global, tree: &Json) -> Result<String, AllocError> {
 
 /// Asserts that a tree prints as this text.
 fn assert_printed(rt: &(impl Abort + Print), alloc: Global, tree: &Json, expected: &str) {
-    let text = one_of(rt, printed(alloc, tree), printed(alloc, tree));
+    let text = make!(rt; printed(alloc, tree));
     assert_is(rt, text.as_str(), expected);
 }
 
 #[test]
-fn a_refused_path_leaves_the_tree_and_returns_the_value(rt: HostRuntime) {
+fn set_at_makes_the_path_or_returns_the_value(rt: HostRuntime) {
     let alloc = rt.alloc();
     let mut tree = make!(rt; sample(alloc));
-    if let Err(refused) = tree.set_at(alloc, &["b", "c", "d"], Json::Number(3)) {
-        tell(&rt);
+    let leaf = Json::Number(3);
+    retry!(rt; tree.set_at(alloc, &["b", "c", "d"], leaf), Refused { given: leaf } => {
         assert_printed(&rt, alloc, &tree, r#"{"b":{"y":1},"a":2}"#);
-        assert_granted(&rt, tree.set_at(alloc, &["b", "c", "d"], refused.given));
-    }
+    });
     assert_printed(&rt, alloc, &tree, r#"{"b":{"y":1,"c":{"d":3}},"a":2}"#);
 }
 
 #[test]
-fn a_refused_merge_leaves_the_tree(rt: HostRuntime) {
+fn a_merge_of_trees_moves_all_or_nothing(rt: HostRuntime) {
     let alloc = rt.alloc();
     let mut tree = make!(rt; sample(alloc));
     assert!(rt; tree.is_object());
-    if let Err(AllocError) = tree.merge(make!(rt; other(alloc))) {
-        tell(&rt);
+    let more = make!(rt; other(alloc));
+    retry!(rt; tree.merge(more), AllocError => {
         assert_printed(&rt, alloc, &tree, r#"{"b":{"y":1},"a":2}"#);
-        assert_granted(&rt, tree.merge(granted(&rt, other(alloc))));
-    }
+        let more = granted(&rt, other(alloc));
+    });
     assert_printed(&rt, alloc, &tree, r#"{"b":{"x":4},"a":3,"c":{"d":5}}"#);
 }
 
 #[test]
-fn a_refused_deep_merge_can_be_repeated(rt: HostRuntime) {
+fn a_deep_merge_of_trees_moves_all_or_can_be_repeated(rt: HostRuntime) {
     let alloc = rt.alloc();
     let mut tree = make!(rt; sample(alloc));
-    if let Err(AllocError) = tree.merge_deep(make!(rt; other(alloc))) {
-        tell(&rt);
-        assert_granted(&rt, tree.merge_deep(granted(&rt, other(alloc))));
-    }
-    assert_printed(
-        &rt,
-        alloc,
-        &tree,
-        r#"{"b":{"y":1,"x":4},"a":3,"c":{"d":5}}"#,
-    );
+    let more = make!(rt; other(alloc));
+    retry!(rt; tree.merge_deep(more), AllocError => {
+        let more = granted(&rt, other(alloc));
+    });
+    let merged = r#"{"b":{"y":1,"x":4},"a":3,"c":{"d":5}}"#;
+    assert_printed(&rt, alloc, &tree, merged);
 }

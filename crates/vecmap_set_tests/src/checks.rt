@@ -1,10 +1,13 @@
-//! Assertions on one value, one list or one element. Each is a function: a call is cheaper to prove in a test than an
+//! Assertions on one value, one list or one text. Each is a function: a call is cheaper to prove in a test than an
 //! `assert!` with its comparison. A failed one prints what it compared.
+//!
+//! This file is the same in each crate of tests. `own` has what one crate needs beyond it.
+mod own;
+
+pub(crate) use own::*;
 use std::alloc::AllocError;
 use std::fmt::Debug;
 use std::process::Abort;
-use vecmap::VecSet;
-use vecmap_fixtures::{Item, Log, Told, has_items, has_texts, has_told};
 
 /// Asserts that a condition holds. Unlike `assert!`, it is a call, and later code may not rely on the condition.
 macro_rules! check {
@@ -50,35 +53,9 @@ pub(crate) fn assert_granted<T: Drop, E: Drop>(rt: &impl Abort, outcome: Result<
     assert!(*rt; outcome.is_ok());
 }
 
-/// Asserts that a call was refused memory.
-pub(crate) fn assert_refused<T: Drop, E: Drop>(rt: &impl Abort, outcome: Result<T, E>) {
-    assert!(*rt; outcome.is_err());
-}
-
 /// Asserts that a list has exactly these items, in this order.
 pub(crate) fn assert_list<T: PartialEq + Debug>(rt: &impl Abort, list: &[T], expected: &[T]) {
     assert_eq!(*rt; list, expected);
-}
-
-/// Asserts that a set has exactly these elements, each a number and a mark, in this order.
-pub(crate) fn assert_items(rt: &impl Abort, set: &VecSet<Item>, expected: &[(u32, char)]) {
-    assert!(*rt;
-        has_items(set.as_slice(), expected),
-        "{set:?} is not {expected:?}"
-    );
-}
-
-/// Asserts that a set has exactly these texts, in this order.
-pub(crate) fn assert_texts(rt: &impl Abort, set: &VecSet<String>, expected: &[&str]) {
-    assert!(*rt;
-        has_texts(set.as_slice(), expected),
-        "{set:?} is not {expected:?}"
-    );
-}
-
-/// Asserts that a list has exactly these numbers as elements, in this order.
-pub(crate) fn assert_told(rt: &impl Abort, items: &[Told<'_>], expected: &[u32]) {
-    assert!(*rt; has_told(items, expected), "{items:?} is not {expected:?}");
 }
 
 /// Asserts that a text was made, and that it is the expected one.
@@ -87,47 +64,4 @@ pub(crate) fn assert_text(rt: &impl Abort, text: Result<String, AllocError>, exp
         Ok(text) => assert_eq!(*rt; text.as_str(), expected),
         Err(_) => panic!(*rt; "refused, and not {expected:?}"),
     }
-}
-
-/// An element that a call returns: it is owned or borrowed.
-pub(crate) trait Element {
-    /// Returns its number and its mark.
-    fn parts(&self) -> (u32, char);
-}
-
-impl Element for Item {
-    fn parts(&self) -> (u32, char) {
-        (self.number, self.mark)
-    }
-}
-
-impl Element for &Item {
-    fn parts(&self) -> (u32, char) {
-        (self.number, self.mark)
-    }
-}
-
-/// Asserts that a call returned an element of this number and this mark.
-pub(crate) fn assert_item<E: Element + Drop>(
-    rt: &impl Abort,
-    item: Option<E>,
-    expected: (u32, char),
-) {
-    match item {
-        Some(item) => assert_eq!(*rt; item.parts(), expected),
-        None => panic!(*rt; "no element, and not {expected:?}"),
-    }
-}
-
-/// Asserts how many values are alive while the result of a call is held, and how many after it is dropped.
-pub(crate) fn assert_alive<T: Drop>(
-    rt: &impl Abort,
-    log: &Log,
-    outcome: T,
-    held: u32,
-    dropped: u32,
-) {
-    assert_eq!(*rt; log.alive(), held);
-    drop(outcome);
-    assert_eq!(*rt; log.alive(), dropped);
 }

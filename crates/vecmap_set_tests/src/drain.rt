@@ -2,7 +2,7 @@
 use crate::checks::{assert_is, assert_items, assert_list, assert_text, check, granted};
 use std::ops::Bound;
 use vecmap::VecSet;
-use vecmap_fixtures::{Log, item_set, pulls_as_list, set_of, told_items};
+use vecmap_fixtures::{End, Log, all_ends, item_set, pulls_as_list, set_of, told_items};
 
 const SIX: [u32; 6] = [5, 6, 7, 8, 9, 10];
 
@@ -10,10 +10,10 @@ const SIX: [u32; 6] = [5, 6, 7, 8, 9, 10];
 fn a_drain_is_exact_for_every_mixture_of_next_and_next_back(rt: HostRuntime) {
     for count in 0..5 {
         let end = count + 1;
-        for ends in 0..64 {
+        for ends in all_ends() {
             let mut set = granted(&rt, VecSet::from_slice(rt.alloc(), &SIX));
             assert!(rt; end <= set.len());
-            check!(rt; pulls_as_list(set.drain(1..end), |item| item, &SIX[1..end], ends));
+            check!(rt; pulls_as_list(set.drain(1..end), |item| item, &SIX[1..end], &ends));
             assert_is(
                 &rt,
                 set.as_slice().split_first(),
@@ -48,6 +48,9 @@ fn a_dropped_drain_removes_the_whole_range(rt: HostRuntime) {
 fn a_range_may_have_any_ends(rt: HostRuntime) {
     let mut set = granted(&rt, set_of(rt.alloc(), &[0, 1, 2, 3]));
     assert!(rt; 2 <= set.len());
+    drop(set.drain(2..2));
+    assert_list(&rt, set.as_slice(), &[0, 1, 2, 3]);
+    assert!(rt; 2 <= set.len());
     assert_is(&rt, set.drain(2..2).next(), None);
     assert_list(&rt, set.as_slice(), &[0, 1, 2, 3]);
     assert!(rt; 2 <= set.len());
@@ -61,6 +64,9 @@ fn a_range_may_have_any_ends(rt: HostRuntime) {
     assert_is(&rt, set.drain(end..).next(), None);
     assert_is(&rt, set.drain(..).next(), Some(2));
     check!(rt; set.is_empty());
+    let mut set = granted(&rt, set_of(rt.alloc(), &[0, 1, 2, 3]));
+    check!(rt; pulls_as_list(set.drain(..), |item| item, &[0, 1, 2, 3], &[End::Front; 6]));
+    assert_list(&rt, set.as_slice(), &[]);
 }
 
 #[test]
@@ -90,33 +96,20 @@ fn each_element_that_a_drain_removes_is_dropped_once(rt: HostRuntime) {
 
 #[test]
 fn a_drain_prints_the_elements_that_are_left(rt: HostRuntime) {
-    let mut set = granted(&rt, set_of(rt.alloc(), &[5, 6, 7]));
-    let mut items = set.drain(..);
-    assert_text(&rt, format!(in rt.alloc(); "{items:?}"), "[5, 6, 7]");
-    let _last = items.next_back();
-    assert_text(&rt, format!(in rt.alloc(); "{items:?}"), "[5, 6]");
-}
-
-#[test]
-fn a_drain_of_a_part_prints_what_is_left_of_it(rt: HostRuntime) {
-    let mut set = granted(&rt, set_of(rt.alloc(), &[5, 6, 7, 8]));
-    assert!(rt; set.len() == 4);
-    let mut items = set.drain(1..3);
-    assert_text(&rt, format!(in rt.alloc(); "{items:?}"), "[6, 7]");
-    let _last = items.next_back();
-    assert_text(&rt, format!(in rt.alloc(); "{items:?}"), "[6]");
-}
-
-#[test]
-fn a_drain_prints_what_is_left_after_the_first(rt: HostRuntime) {
-    let mut set = granted(&rt, set_of(rt.alloc(), &[5, 6, 7, 8]));
-    assert!(rt; set.len() == 4);
-    let mut items = set.drain(0..2);
-    let _first = items.next();
-    assert_text(&rt, format!(in rt.alloc(); "{items:?}"), "[6]");
-    let mut set = granted(&rt, set_of(rt.alloc(), &[5, 6, 7, 8]));
-    assert!(rt; set.len() == 4);
-    let mut items = set.drain(1..);
-    let _first = items.next();
-    assert_text(&rt, format!(in rt.alloc(); "{items:?}"), "[7, 8]");
+    for (first, last, end, before, after) in [
+        (0, 4, End::Back, "[5, 6, 7, 8]", "[5, 6, 7]"),
+        (1, 3, End::Back, "[6, 7]", "[6]"),
+        (0, 2, End::Front, "[5, 6]", "[6]"),
+        (1, 4, End::Front, "[6, 7, 8]", "[7, 8]"),
+    ] {
+        let mut set = granted(&rt, set_of(rt.alloc(), &SIX[..4]));
+        assert!(rt; first <= last && last <= set.len());
+        let mut items = set.drain(first..last);
+        assert_text(&rt, format!(in rt.alloc(); "{items:?}"), before);
+        let _taken = match end {
+            End::Front => items.next(),
+            End::Back => items.next_back(),
+        };
+        assert_text(&rt, format!(in rt.alloc(); "{items:?}"), after);
+    }
 }

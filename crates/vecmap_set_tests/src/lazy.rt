@@ -4,7 +4,7 @@ ghost use Rattle.std.specs.Iterator.{IsFinite};
 use crate::checks::{assert_is, assert_item, assert_text, check, granted};
 use std::process::Abort;
 use vecmap::VecSet;
-use vecmap_fixtures::{Item, Log, item_set, set_of, told_set};
+use vecmap_fixtures::{End, Item, Log, all_ends, item_set, set_of, told_set};
 
 // What is left of one list: the range of indices not yet visited, and the indices of the elements that are kept.
 #[derive(Clone, Copy)]
@@ -163,27 +163,23 @@ const CASES: &[Case] = &[
     },
 ];
 
-// Asserts that as many calls as `count` says return what is left, with the hint before each call and after the last.
-// Each bit of `ends` says from which end the next item is taken: 0 from the front, 1 from the back.
+// Asserts that a call for each of these ends returns what is left, with the hint before each call and after the last.
 fn assert_next<'a, I: DoubleEndedIterator<Item = &'a Item>>(
     rt: &impl Abort,
     iter: &mut I,
     left: &mut Parts<'_>,
-    mut ends: u32,
-    count: u32,
+    ends: &[End],
 )
     requires front { (it : I) → I.can_next it }
     requires back { (it : I) → I.can_next_back it }
 {
-    for _call in 0..count {
+    for end in ends {
         assert_eq!(*rt; iter.size_hint(), left.hint());
-        let (item, expected) = if ends & 1 == 0 {
-            (iter.next(), left.front())
-        } else {
-            (iter.next_back(), left.back())
+        let (item, expected) = match end {
+            End::Front => (iter.next(), left.front()),
+            End::Back => (iter.next_back(), left.back()),
         };
         assert_eq!(*rt; item.map(|item| (item.number, item.mark)), expected);
-        ends >>= 1;
     }
     assert_eq!(*rt; iter.size_hint(), left.hint());
 }
@@ -192,14 +188,14 @@ fn assert_next<'a, I: DoubleEndedIterator<Item = &'a Item>>(
 // clone after the second call that continues by itself.
 macro_rules! assert_pulls {
     ($rt:ident; $iter:expr, $left:expr) => {
-        for ends in 0..64_u32 {
+        for ends in all_ends() {
             let mut iter = $iter;
             let mut left: Parts<'_> = $left;
-            assert_next(&$rt, &mut iter, &mut left, ends, 2);
+            assert_next(&$rt, &mut iter, &mut left, &ends[..2]);
             let mut copy = iter.clone();
             let mut copy_left = left;
-            assert_next(&$rt, &mut copy, &mut copy_left, 0, 6);
-            assert_next(&$rt, &mut iter, &mut left, ends >> 2, 4);
+            assert_next(&$rt, &mut copy, &mut copy_left, &[End::Front; 6]);
+            assert_next(&$rt, &mut iter, &mut left, &ends[2..]);
         }
     };
 }

@@ -1,10 +1,13 @@
 //! Assertions on one value, one list or one text. Each is a function: a call is cheaper to prove in a test than an
 //! `assert!` with its comparison. A failed one prints what it compared.
+//!
+//! This file is the same in each crate of tests. `own` has what one crate needs beyond it.
+mod own;
+
+pub(crate) use own::*;
 use std::alloc::AllocError;
 use std::fmt::Debug;
 use std::process::Abort;
-use vecmap::VecMap;
-use vecmap_fixtures::{Item, has_pairs};
 
 /// Asserts that a condition holds. Unlike `assert!`, it is a call, and later code may not rely on the condition.
 macro_rules! check {
@@ -45,29 +48,14 @@ pub(crate) fn granted<T, E: Drop>(rt: &impl Abort, outcome: Result<T, E>) -> T {
     }
 }
 
-/// Asserts that a call returned a value, and returns this value.
-pub(crate) fn present<T>(rt: &impl Abort, value: Option<T>) -> T {
-    match value {
-        Some(value) => value,
-        None => panic!(*rt; "absent"),
-    }
+/// Asserts that a call was not refused memory, and drops what it returned.
+pub(crate) fn assert_granted<T: Drop, E: Drop>(rt: &impl Abort, outcome: Result<T, E>) {
+    assert!(*rt; outcome.is_ok());
 }
 
 /// Asserts that a list has exactly these items, in this order.
 pub(crate) fn assert_list<T: PartialEq + Debug>(rt: &impl Abort, list: &[T], expected: &[T]) {
     assert_eq!(*rt; list, expected);
-}
-
-/// Asserts that a map has exactly these pairs, each a number, a mark and a value, in this order.
-pub(crate) fn assert_pairs(
-    rt: &impl Abort,
-    map: &VecMap<Item, u32>,
-    expected: &[(u32, char, u32)],
-) {
-    assert!(*rt;
-        has_pairs(map.as_slice(), expected),
-        "{map:?} is not {expected:?}"
-    );
 }
 
 /// Asserts that a text was made, and that it is the expected one.

@@ -1,6 +1,6 @@
 //! Tests of names.
-use super::checks::{assert_is, assert_prints, granted};
 use crate::Name;
+use crate::checks::{assert_is, assert_prints, granted};
 
 #[test]
 fn names_ignore_the_case_of_ascii_letters(rt: HostRuntime) {

@@ -1,6 +1,6 @@
 //! The capacity of the sections of a document.
-use super::checks::{assert_is, granted};
 use crate::Name;
+use crate::checks::{assert_is, granted};
 use crate::set::set_text;
 use std::alloc::Global;
 use std::process::Abort;

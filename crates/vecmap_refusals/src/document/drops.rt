@@ -1,34 +1,24 @@
 //! Names and texts that a document keeps, returns or drops, each once. Large ones are counted by the memory of each.
 use super::{INTO, document};
-use crate::checks::{assert_is, granted};
-use crate::telling::{make, tell};
+use crate::checks::assert_is;
+use crate::telling::{make, retry};
 use attr_doc::{Document, Name};
 use std::alloc::{AllocError, Global};
 use std::fs::{File, Files};
 use std::io::Read;
 use std::process::Abort;
+use vecmap::Refused;
 
 /// The capacity of a large text. A block of this size is mapped by itself, and unmapped when it is freed.
 const BYTES_OF_LARGE_TEXT: usize = 1 << 29;
 
 const PAGES_OF_LARGE_TEXT: u64 = 1 << 17;
 
-fn try_large_text(alloc: Global, text: &str) -> Result<String, AllocError> {
+/// Creates a text of large capacity, of which only the written part uses memory.
+fn large_text(alloc: Global, text: &str) -> Result<String, AllocError> {
     let mut large = String::with_capacity(alloc, BYTES_OF_LARGE_TEXT)?;
     large.push_str(text)?;
     Ok(large)
-}
-
-/// Creates a text of large capacity, of which only the written part uses memory. If its request is refused, it tries
-/// once more.
-fn large_text(rt: &(impl Abort + Print), alloc: Global, text: &str) -> String {
-    match try_large_text(alloc, text) {
-        Ok(large) => large,
-        Err(AllocError) => {
-            tell(rt);
-            granted(rt, try_large_text(alloc, text))
-        }
-    }
 }
 
 /// Returns the number of pages that are mapped, or `None` if it cannot be read.
@@ -64,19 +54,13 @@ fn set(
     page: &mut Document,
     row: (&str, &str, &str),
 ) -> Option<String> {
-    let section = Name::new(large_text(rt, alloc, row.0));
-    let name = Name::new(large_text(rt, alloc, row.1));
-    let text = large_text(rt, alloc, row.2);
+    let section = Name::new(make!(rt; large_text(alloc, row.0)));
+    let name = Name::new(make!(rt; large_text(alloc, row.1)));
+    let text = make!(rt; large_text(alloc, row.2));
     let before = alive(rt, pages);
-    match page.set(section, name, text) {
-        Ok(old) => old,
-        Err(refused) => {
-            tell(rt);
-            assert_is(rt, alive(rt, pages), before);
-            let (section, name, text) = refused.given;
-            granted(rt, page.set(section, name, text))
-        }
-    }
+    retry!(rt; page.set(section, name, text), Refused { given: (section, name, text) } => {
+        assert_is(rt, alive(rt, pages), before);
+    })
 }
 
 /// A section has capacity for four names before its map grows.
@@ -104,16 +88,6 @@ fn set_keeps_returns_or_drops(rt: HostRuntime) {
     assert_is(&rt, alive(&rt, pages), 0);
 }
 
-/// Merges two documents of nine large texts. If that is refused, all nine are alive, and it is repeated.
-fn merge(rt: &(impl Abort + Print + Files), pages: u64, into: &mut Document, from: &mut Document) {
-    assert_is(rt, alive(rt, pages), 9);
-    if into.merge(from).is_err() {
-        tell(rt);
-        assert_is(rt, alive(rt, pages), 9);
-        granted(rt, into.merge(from));
-    }
-}
-
 /// Of nine large texts, a merge drops three: the name of an existing section, an existing name of a text, and the old
 /// text.
 #[test]
@@ -125,7 +99,10 @@ fn merge_keeps_or_drops(rt: HostRuntime) {
     set(&rt, rt.alloc(), pages, &mut from, ("t", "", ""));
     set(&rt, rt.alloc(), pages, &mut from, ("", "A", "2"));
     set(&rt, rt.alloc(), pages, &mut from, ("", "d", ""));
-    merge(&rt, pages, &mut into, &mut from);
+    assert_is(&rt, alive(&rt, pages), 9);
+    retry!(rt; into.merge(&mut from), AllocError => {
+        assert_is(&rt, alive(&rt, pages), 9);
+    });
     assert_is(&rt, alive(&rt, pages), 6);
     drop(into);
     assert_is(&rt, alive(&rt, pages), 0);

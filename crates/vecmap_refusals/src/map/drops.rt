@@ -1,18 +1,41 @@
 //! The pairs that a refused call leaves, and the keys and values that it keeps, returns or drops, each once. `alive`
 //! counts those that are not dropped.
-use crate::checks::{assert_granted, assert_is, assert_told_pairs, granted};
-use crate::telling::{one_of, tell, told_couples, told_map};
+use crate::checks::{assert_is, assert_told_pairs, check, granted};
+use crate::telling::{make, retry};
 use std::alloc::{AllocError, Global};
 use std::mem::replace;
 use std::process::Abort;
 use vecmap::macros::put_pair;
 use vecmap::map::Entry;
-use vecmap::{MapCommand, MapReply, Refused, VecMap, run, vecmap};
-use vecmap_fixtures::{Log, Told, make_told};
+use vecmap::{MapCommand, Refused, VecMap, run, vecmap};
+use vecmap_fixtures::{Log, Told, has_told_pairs, make_told, told_couples, told_map};
 
 type Couple<'a> = (Told<'a>, Told<'a>);
 
 type Map<'a> = VecMap<Told<'a>, Told<'a>>;
+
+type List<'a> = Vec<MapCommand<Told<'a>, Told<'a>>>;
+
+const LAST: &[(u32, u32)] = &[(1, 11), (2, 12), (3, 13)];
+
+const FIRST: &[(u32, u32)] = &[(3, 13), (1, 11), (2, 12)];
+
+// Inserts a pair through the vacant entry of its key, by `insert_entry` or by `insert`.
+fn insert_in_vacant<'a>(
+    map: &mut Map<'a>,
+    key: Told<'a>,
+    value: Told<'a>,
+    wants_entry: bool,
+) -> Result<(), Refused<Couple<'a>>> {
+    if let Entry::Vacant(entry) = map.entry(key) {
+        if wants_entry {
+            entry.insert_entry(value)?;
+        } else {
+            entry.insert(value)?;
+        }
+    }
+    Ok(())
+}
 
 #[derive(Clone, Copy)]
 enum Insertion {
@@ -24,8 +47,11 @@ enum Insertion {
     OrInsertWith,
     OrInsertWithKey,
     InsertEntry,
+    VacantInsert,
+    VacantInsertEntry,
 }
 
+// Inserts a new pair by a call.
 fn put<'a>(
     call: Insertion,
     map: &mut Map<'a>,
@@ -57,38 +83,29 @@ fn put<'a>(
         Insertion::InsertEntry => {
             map.entry(key).insert_entry(value)?;
         }
+        Insertion::VacantInsert => {
+            insert_in_vacant(map, key, value, false)?;
+        }
+        Insertion::VacantInsertEntry => {
+            insert_in_vacant(map, key, value, true)?;
+        }
     }
     Ok(())
-}
-
-// Inserts a new pair by a call. If it is refused, it returns the pair, and is repeated with it.
-fn put_or_retry<'a>(rt: &(impl Abort + Print), call: Insertion, log: &'a Log, map: &mut Map<'a>) {
-    if let Err(refused) = put(call, map, make_told(log, 3), make_told(log, 13)) {
-        tell(rt);
-        assert_told_pairs(rt, log, map, 6, &[(1, 11), (2, 12)]);
-        let (key, value) = refused.given;
-        assert_is(
-            rt,
-            (map.capacity(), key.number(), value.number()),
-            (2, 3, 13),
-        );
-        assert_granted(rt, put(call, map, key, value));
-    }
 }
 
 // Checks that an insertion keeps its pair, or returns it so that the call can be repeated.
 fn check(rt: &(impl Abort + Print), alloc: Global, call: Insertion, expected: &[(u32, u32)]) {
     let log = Log::new();
-    let mut map = told_map(rt, alloc, &log, &[1, 2]);
-    put_or_retry(rt, call, &log, &mut map);
+    let mut map = make!(rt; told_map(alloc, &log, &[1, 2]));
+    let (key, value) = (make_told(&log, 3), make_told(&log, 13));
+    retry!(rt; put(call, &mut map, key, value), Refused { given: (key, value) } => {
+        assert_told_pairs(rt, &log, &map, 6, &[(1, 11), (2, 12)]);
+        assert_is(rt, (map.capacity(), key.number(), value.number()), (2, 3, 13));
+    });
     assert_told_pairs(rt, &log, &map, 6, expected);
     drop(map);
     assert_is(rt, log.alive(), 0);
 }
-
-const LAST: &[(u32, u32)] = &[(1, 11), (2, 12), (3, 13)];
-
-const FIRST: &[(u32, u32)] = &[(3, 13), (1, 11), (2, 12)];
 
 #[test]
 fn insertions_keep_a_pair_or_return_it(rt: HostRuntime) {
@@ -104,6 +121,8 @@ fn entries_keep_a_pair_or_return_it(rt: HostRuntime) {
     check(&rt, rt.alloc(), Insertion::OrInsertWith, LAST);
     check(&rt, rt.alloc(), Insertion::OrInsertWithKey, LAST);
     check(&rt, rt.alloc(), Insertion::InsertEntry, LAST);
+    check(&rt, rt.alloc(), Insertion::VacantInsert, LAST);
+    check(&rt, rt.alloc(), Insertion::VacantInsertEntry, LAST);
 }
 
 #[derive(Clone, Copy)]
@@ -137,23 +156,7 @@ fn put_many<'a>(
     }
 }
 
-// Inserts five pairs by a call. If it is refused, what the map does not hold is dropped, and it is repeated.
-fn put_many_or_retry<'a>(
-    rt: &(impl Abort + Print),
-    alloc: Global,
-    call: ManyPairs,
-    log: &'a Log,
-    map: &mut Map<'a>,
-) {
-    let more = told_couples(rt, alloc, log, &[3, 1, 4, 3, 5]);
-    if put_many(call, alloc, map, more).is_err() {
-        tell(rt);
-        assert_is(rt, log.alive() as usize, map.len().wrapping_mul(2));
-        let more = told_couples(rt, alloc, log, &[3, 1, 4, 3, 5]);
-        granted(rt, put_many(call, alloc, map, more));
-    }
-}
-
+// Checks that a call inserts all of five pairs into a map or, if it is refused, drops those that the map does not hold.
 fn check_many(
     rt: &(impl Abort + Print),
     alloc: Global,
@@ -162,8 +165,12 @@ fn check_many(
     expected: &[(u32, u32)],
 ) {
     let log = Log::new();
-    let mut map = told_map(rt, alloc, &log, &[1, 2]);
-    put_many_or_retry(rt, alloc, call, &log, &mut map);
+    let mut map = make!(rt; told_map(alloc, &log, &[1, 2]));
+    let more = make!(rt; told_couples(alloc, &log, &[3, 1, 4, 3, 5]));
+    retry!(rt; put_many(call, alloc, &mut map, more), AllocError => {
+        assert_is(rt, log.alive() as usize, map.len().wrapping_mul(2));
+        let more = granted(rt, told_couples(alloc, &log, &[3, 1, 4, 3, 5]));
+    });
     assert_told_pairs(rt, &log, &map, alive, expected);
 }
 
@@ -179,14 +186,11 @@ fn many_pairs_are_kept_or_dropped(rt: HostRuntime) {
 }
 
 // Returns commands that insert a new pair and one of an existing key, and append a map.
-fn carrying<'a>(
-    alloc: Global,
-    log: &'a Log,
-) -> Result<Vec<MapCommand<Told<'a>, Told<'a>>>, AllocError> {
+fn carrying<'a>(alloc: Global, log: &'a Log) -> Result<List<'a>, AllocError> {
     let mut commands = Vec::with_capacity(alloc, 3)?;
     commands.push(MapCommand::Insert(make_told(log, 3), make_told(log, 13)))?;
     commands.push(MapCommand::Insert(make_told(log, 1), make_told(log, 10)))?;
-    commands.push(MapCommand::Append(vecmap_fixtures::told_map(alloc, log, &[5, 6])?))?;
+    commands.push(MapCommand::Append(told_map(alloc, log, &[5, 6])?))?;
     Ok(commands)
 }
 
@@ -197,11 +201,7 @@ enum Commands {
 }
 
 impl Commands {
-    fn create<'a>(
-        self,
-        alloc: Global,
-        log: &'a Log,
-    ) -> Result<Vec<MapCommand<Told<'a>, Told<'a>>>, AllocError> {
+    fn create<'a>(self, alloc: Global, log: &'a Log) -> Result<List<'a>, AllocError> {
         match self {
             Commands::Carrying => carrying(alloc, log),
             Commands::Puts => puts(alloc, log),
@@ -209,46 +209,44 @@ impl Commands {
     }
 }
 
-// Returns the map after a run of commands on the keys 1 and 2. If a request is refused, what the map does not hold is
-// dropped, and the run is repeated with a new map. `alive` values exist before the run, and `len` pairs after it.
-fn run_or_retry<'a>(
-    rt: &(impl Abort + Print),
-    alloc: Global,
-    log: &'a Log,
-    which: Commands,
-    alive: u32,
-    len: usize,
-) -> Map<'a> {
-    let map = run_once(rt, alloc, log, which, alive);
-    if map.len() == len {
-        return map;
-    }
-    tell(rt);
-    assert_is(rt, log.alive() as usize, map.len().wrapping_mul(2));
-    drop(map);
-    run_once(rt, alloc, log, which, alive)
-}
-
+// Executes these commands on the keys 1 and 2. If a command or the run is refused, the error has the map.
 fn run_once<'a>(
     rt: &(impl Abort + Print),
     alloc: Global,
     log: &'a Log,
+    commands: List<'a>,
+    len: usize,
+) -> Result<Map<'a>, Map<'a>> {
+    let mut map = make!(rt; told_map(alloc, log, &[1, 2]));
+    drop(run(alloc, &mut map, commands));
+    if map.len() == len { Ok(map) } else { Err(map) }
+}
+
+// Checks the map after these commands, which hold `alive` keys and values. If a request is refused, what the map does
+// not hold is dropped.
+fn check_run(
+    rt: &(impl Abort + Print),
+    alloc: Global,
     which: Commands,
     alive: u32,
-) -> Map<'a> {
-    let mut map = told_map(rt, alloc, log, &[1, 2]);
-    let commands = one_of(rt, which.create(alloc, log), which.create(alloc, log));
+    expected: &[(u32, u32)],
+) {
+    let log = Log::new();
+    let commands = make!(rt; which.create(alloc, &log));
     assert_is(rt, log.alive(), alive);
-    drop(run(alloc, &mut map, commands));
-    map
+    let map = retry!(rt; run_once(rt, alloc, &log, commands, expected.len()), map => {
+        assert_is(rt, log.alive() as usize, map.len().wrapping_mul(2));
+        drop(map);
+        let commands = granted(rt, which.create(alloc, &log));
+    });
+    assert_is(rt, log.alive() as usize, map.len().wrapping_mul(2));
+    check!(rt; has_told_pairs(map.as_slice(), expected));
 }
 
 #[test]
 fn a_map_run_keeps_what_its_commands_carry_or_drops_it(rt: HostRuntime) {
-    let log = Log::new();
-    let map = run_or_retry(&rt, rt.alloc(), &log, Commands::Carrying, 12, 5);
     let all = [(1, 10), (2, 12), (3, 13), (5, 15), (6, 16)];
-    assert_told_pairs(&rt, &log, &map, 10, &all);
+    check_run(&rt, rt.alloc(), Commands::Carrying, 8, &all);
 }
 
 // Inserts the default through the entry of a key, or returns both.
@@ -259,53 +257,32 @@ fn or_default<'a>(map: &mut VecMap<Told<'a>, u32>, key: Told<'a>) -> Result<(), 
     }
 }
 
-// Like `or_default`, of an empty map. If it is refused, the map is still empty, and it is repeated.
-fn or_default_or_retry<'a>(
-    rt: &(impl Abort + Print),
-    log: &'a Log,
-    map: &mut VecMap<Told<'a>, u32>,
-) {
-    if let Err((key, value)) = or_default(map, make_told(log, 1)) {
-        tell(rt);
-        assert_is(
-            rt,
-            (map.len(), key.number(), value, log.alive()),
-            (0, 1, 0, 1),
-        );
-        assert_granted(rt, or_default(map, key));
-    }
-}
-
 #[test]
 fn or_default_keeps_the_key_or_returns_it(rt: HostRuntime) {
     let log = Log::new();
     let mut map: VecMap<Told<'_>, u32> = VecMap::new(rt.alloc());
-    or_default_or_retry(&rt, &log, &mut map);
+    let key = make_told(&log, 1);
+    retry!(rt; or_default(&mut map, key), (key, value) => {
+        assert_is(&rt, (map.len(), key.number(), value, log.alive()), (0, 1, 0, 1));
+    });
     assert_is(&rt, (log.alive(), map.len()), (1, 1));
     drop(map);
     assert_is(&rt, log.alive(), 0);
 }
 
-// Inserts a new pair by `put_pair`. If that is refused, the pair is dropped, and it is repeated.
-fn put_pair_or_retry<'a>(rt: &(impl Abort + Print), log: &'a Log, map: &mut Map<'a>) {
-    if put_pair(map, make_told(log, 3), make_told(log, 13)).is_err() {
-        tell(rt);
-        assert_told_pairs(rt, log, map, 4, &[(1, 21), (2, 12)]);
-        assert_is(rt, map.capacity(), 2);
-        granted(rt, put_pair(map, make_told(log, 3), make_told(log, 13)));
-    }
-}
-
 #[test]
 fn put_pair_keeps_a_pair_or_drops_it(rt: HostRuntime) {
     let log = Log::new();
-    let mut map = told_map(&rt, rt.alloc(), &log, &[1, 2]);
+    let mut map = make!(rt; told_map(rt.alloc(), &log, &[1, 2]));
     // The map is full, and an existing key needs no memory.
     granted(
         &rt,
         put_pair(&mut map, make_told(&log, 1), make_told(&log, 21)),
     );
-    put_pair_or_retry(&rt, &log, &mut map);
+    retry!(rt; put_pair(&mut map, make_told(&log, 3), make_told(&log, 13)), AllocError => {
+        assert_told_pairs(&rt, &log, &map, 4, &[(1, 21), (2, 12)]);
+        assert_is(&rt, map.capacity(), 2);
+    });
     assert_told_pairs(&rt, &log, &map, 6, &[(1, 21), (2, 12), (3, 13)]);
 }
 
@@ -319,31 +296,18 @@ fn three<'a>(alloc: Global, log: &'a Log) -> Result<Map<'a>, AllocError> {
     ))
 }
 
-// Like `three`. If a request is refused, all are dropped, and it tries once more.
-fn three_made<'a>(rt: &(impl Abort + Print), alloc: Global, log: &'a Log) -> Map<'a> {
-    match three(alloc, log) {
-        Ok(map) => map,
-        Err(AllocError) => {
-            tell(rt);
-            assert_is(rt, log.alive(), 0);
-            granted(rt, three(alloc, log))
-        }
-    }
-}
-
 #[test]
 fn vecmap_keeps_its_pairs_or_drops_them(rt: HostRuntime) {
     let log = Log::new();
-    let map = three_made(&rt, rt.alloc(), &log);
+    let map = retry!(rt; three(rt.alloc(), &log), AllocError => {
+        assert_is(&rt, log.alive(), 0);
+    });
     assert_told_pairs(&rt, &log, &map, 4, &[(1, 13), (2, 12)]);
 }
 
 // Returns commands that insert a pair, each once with a new key and once with an existing one, and one whose index is
 // out of range.
-fn puts<'a>(
-    alloc: Global,
-    log: &'a Log,
-) -> Result<Vec<MapCommand<Told<'a>, Told<'a>>>, AllocError> {
+fn puts<'a>(alloc: Global, log: &'a Log) -> Result<List<'a>, AllocError> {
     let mut commands = Vec::with_capacity(alloc, 9)?;
     commands.push(MapCommand::InsertFull(make_told(log, 3), make_told(log, 13)))?;
     commands.push(MapCommand::InsertFull(make_told(log, 1), make_told(log, 21)))?;
@@ -359,18 +323,12 @@ fn puts<'a>(
 
 #[test]
 fn a_map_run_keeps_each_inserted_pair_or_drops_it(rt: HostRuntime) {
-    let log = Log::new();
-    let map = run_or_retry(&rt, rt.alloc(), &log, Commands::Puts, 22, 6);
     let all = [(2, 22), (4, 14), (1, 31), (3, 13), (5, 15), (6, 16)];
-    assert_told_pairs(&rt, &log, &map, 12, &all);
+    check_run(&rt, rt.alloc(), Commands::Puts, 18, &all);
 }
 
 // Returns commands that compare a carried map, look up a carried key, or remove the pair of one.
-fn takes<'a>(
-    alloc: Global,
-    log: &'a Log,
-    carried: Map<'a>,
-) -> Result<Vec<MapCommand<Told<'a>, Told<'a>>>, AllocError> {
+fn takes<'a>(alloc: Global, log: &'a Log, carried: Map<'a>) -> Result<List<'a>, AllocError> {
     let mut commands = Vec::with_capacity(alloc, 9)?;
     commands.push(MapCommand::Equals(carried))?;
     commands.push(MapCommand::Get(make_told(log, 1)))?;
@@ -385,95 +343,26 @@ fn takes<'a>(
 }
 
 // Creates these commands, with a map of six keys. If a request is refused, the map is dropped, and it tries once more.
-fn takes_made<'a>(
-    rt: &(impl Abort + Print),
-    alloc: Global,
-    log: &'a Log,
-) -> Vec<MapCommand<Told<'a>, Told<'a>>> {
-    let carried = told_map(rt, alloc, log, &[6, 5, 4, 3, 2, 1]);
-    match takes(alloc, log, carried) {
-        Ok(commands) => commands,
-        Err(AllocError) => {
-            tell(rt);
-            assert_is(rt, log.alive(), 12);
-            let carried = told_map(rt, alloc, log, &[6]);
-            granted(rt, takes(alloc, log, carried))
-        }
-    }
-}
-
-// Executes these commands. If the replies are refused, no command is executed, and the run is repeated.
-fn run_takes<'a>(
-    rt: &(impl Abort + Print),
-    alloc: Global,
-    log: &'a Log,
-    map: &mut Map<'a>,
-) -> Vec<MapReply<Told<'a>, Told<'a>>> {
-    let commands = takes_made(rt, alloc, log);
-    match run(alloc, map, commands) {
-        Ok(replies) => replies,
-        Err(AllocError) => {
-            tell(rt);
-            assert_is(rt, (log.alive(), map.len()), (12, 6));
-            let commands = takes_made(rt, alloc, log);
-            granted(rt, run(alloc, map, commands))
-        }
-    }
+fn takes_made<'a>(rt: &(impl Abort + Print), alloc: Global, log: &'a Log) -> List<'a> {
+    let carried = make!(rt; told_map(alloc, log, &[6, 5, 4, 3, 2, 1]));
+    retry!(rt; takes(alloc, log, carried), AllocError => {
+        assert_is(rt, log.alive(), 12);
+        let carried = granted(rt, told_map(alloc, log, &[6]));
+    })
 }
 
 #[test]
 fn a_map_run_drops_what_its_commands_compare_or_remove_by(rt: HostRuntime) {
     let log = Log::new();
-    let mut map = told_map(&rt, rt.alloc(), &log, &[1, 2, 3, 4, 5, 6]);
-    let replies = run_takes(&rt, rt.alloc(), &log, &mut map);
+    let mut map = make!(rt; told_map(rt.alloc(), &log, &[1, 2, 3, 4, 5, 6]));
+    let commands = takes_made(&rt, rt.alloc(), &log);
+    // If the replies are refused, no command is executed.
+    let replies = retry!(rt; run(rt.alloc(), &mut map, commands), AllocError => {
+        assert_is(&rt, (log.alive(), map.len()), (12, 6));
+        let commands = takes_made(&rt, rt.alloc(), &log);
+    });
     // The replies have the clone of a value, two values and two pairs.
     assert_told_pairs(&rt, &log, &map, 11, &[(6, 16), (5, 15)]);
     drop(replies);
     assert_is(&rt, log.alive(), 4);
-}
-
-// Inserts a pair through the vacant entry of its key, by `insert_entry` or by `insert`.
-fn insert_in_vacant<'a>(
-    map: &mut Map<'a>,
-    key: Told<'a>,
-    value: Told<'a>,
-    wants_entry: bool,
-) -> Result<(), Refused<Couple<'a>>> {
-    if let Entry::Vacant(entry) = map.entry(key) {
-        if wants_entry {
-            entry.insert_entry(value)?;
-        } else {
-            entry.insert(value)?;
-        }
-    }
-    Ok(())
-}
-
-// Like `insert_in_vacant`. If it is refused, it returns the pair, and is repeated with it.
-fn insert_in_vacant_or_retry<'a>(
-    rt: &(impl Abort + Print),
-    log: &'a Log,
-    map: &mut Map<'a>,
-    wants_entry: bool,
-) {
-    let (key, value) = (make_told(log, 3), make_told(log, 13));
-    if let Err(refused) = insert_in_vacant(map, key, value, wants_entry) {
-        tell(rt);
-        assert_told_pairs(rt, log, map, 6, &[(1, 11), (2, 12)]);
-        let (key, value) = refused.given;
-        assert_granted(rt, insert_in_vacant(map, key, value, wants_entry));
-    }
-}
-
-fn check_vacant(rt: &(impl Abort + Print), alloc: Global, wants_entry: bool) {
-    let log = Log::new();
-    let mut map = told_map(rt, alloc, &log, &[1, 2]);
-    insert_in_vacant_or_retry(rt, &log, &mut map, wants_entry);
-    assert_told_pairs(rt, &log, &map, 6, &[(1, 11), (2, 12), (3, 13)]);
-}
-
-#[test]
-fn vacant_entries_keep_a_pair_or_return_it(rt: HostRuntime) {
-    check_vacant(&rt, rt.alloc(), false);
-    check_vacant(&rt, rt.alloc(), true);
 }

@@ -1,13 +1,12 @@
 //! Entries of an existing key in a map that is full, and of a key whose clone is refused. `drops` has those of a new
 //! key.
+use super::FULL;
 use crate::checks::{assert_granted, assert_is, assert_pairs, check, granted};
-use crate::telling::{full_map, make, tell};
+use crate::telling::{make, retry};
 use std::alloc::{AllocError, Global};
 use std::process::Abort;
 use vecmap::{Refused, VecMap};
-use vecmap_fixtures::{Item, make_item};
-
-const FULL: &[(u32, char, u32)] = &[(1, 'a', 10), (2, 'b', 20)];
+use vecmap_fixtures::{Item, full_map, make_item};
 
 // Inserts a value through the entry of a text, or returns both.
 fn insert_text(
@@ -24,33 +23,21 @@ fn insert_text(
     }
 }
 
-// Like `insert_text`. If it is refused, the map is empty and has its capacity, and the pair is inserted once more.
-fn insert_text_or_retry(
-    rt: &(impl Abort + Print),
-    map: &mut VecMap<String, u32>,
-    key: String,
-    room: usize,
-) {
-    if let Err((key, value)) = insert_text(rt, map, key) {
-        tell(rt);
-        assert_is(rt, (map.len(), map.capacity(), value), (0, room, 7));
-        assert_is(rt, insert_text(rt, map, key).is_ok(), true);
-    }
-}
-
 #[test]
-fn a_clone_without_memory_returns_the_pair(rt: HostRuntime) {
+fn an_entry_clones_its_key_or_returns_the_pair(rt: HostRuntime) {
     let mut map = make!(rt; VecMap::with_capacity(rt.alloc(), 1));
     let room = map.capacity();
     let key = make!(rt; String::from_str(rt.alloc(), "key"));
-    insert_text_or_retry(&rt, &mut map, key, room);
+    retry!(rt; insert_text(&rt, &mut map, key), (key, value) => {
+        assert_is(&rt, (map.len(), map.capacity(), value), (0, room, 7));
+    });
     assert_is(&rt, (map.len(), map.capacity()), (1, room));
     assert_is(&rt, map.get_str("key").copied(), Some(7));
 }
 
 #[test]
 fn an_occupied_entry_is_never_refused(rt: HostRuntime) {
-    let mut map = full_map(&rt, rt.alloc(), FULL);
+    let mut map = make!(rt; full_map(rt.alloc(), FULL));
     let key = make_item(1, 'z');
     assert_is(&rt, *granted(&rt, map.entry(key).or_insert(1)), 10);
     assert_is(&rt, *granted(&rt, map.entry(key).or_insert_with(|| 1)), 10);
@@ -90,17 +77,15 @@ impl From<Refused<(Item, u32)>> for Given {
 }
 
 #[test]
-fn or_try_insert_with_converts_the_refusal_of_the_made_pair(rt: HostRuntime) {
-    let mut map = full_map(&rt, rt.alloc(), FULL);
-    let mut stored = or_try_insert_with(&mut map, make_item(7, 'x'), 70);
-    if let Err((key, value)) = stored {
-        tell(&rt);
+fn or_try_insert_with_inserts_the_made_pair_or_converts_its_refusal(rt: HostRuntime) {
+    let mut map = make!(rt; full_map(rt.alloc(), FULL));
+    let (key, value) = (make_item(7, 'x'), 70);
+    let stored = retry!(rt; or_try_insert_with(&mut map, key, value), (key, value) => {
         assert_is(&rt, (key.number, key.mark, value), (7, 'x', 70));
         assert_pairs(&rt, &map, FULL);
         assert_is(&rt, map.capacity(), 2);
-        stored = or_try_insert_with(&mut map, key, value);
-    }
-    assert_is(&rt, stored, Ok(70));
+    });
+    assert_is(&rt, stored, 70);
     assert_pairs(&rt, &map, &[(1, 'a', 10), (2, 'b', 20), (7, 'x', 70)]);
 }
 
@@ -113,12 +98,10 @@ fn spell(alloc: Global, texts: &mut VecMap<u32, String>, number: u32) -> Result<
 }
 
 #[test]
-fn or_try_insert_with_leaves_the_map_if_its_closure_runs_out_of_memory(rt: HostRuntime) {
+fn or_try_insert_with_inserts_the_made_text_or_leaves_the_map(rt: HostRuntime) {
     let mut texts = VecMap::new(rt.alloc());
-    if spell(rt.alloc(), &mut texts, 7).is_err() {
-        tell(&rt);
+    retry!(rt; spell(rt.alloc(), &mut texts, 7), AllocError => {
         assert_is(&rt, (texts.len(), texts.capacity()), (0, 0));
-        granted(&rt, spell(rt.alloc(), &mut texts, 7));
-    }
+    });
     assert_is(&rt, texts.get(&7).map(String::as_str), Some("7"));
 }

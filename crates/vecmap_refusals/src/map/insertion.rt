@@ -1,13 +1,12 @@
 //! Insertion of an existing key into a map that is full. `drops` has that of a new key.
+use super::FULL;
 use crate::checks::{assert_gives, assert_pairs, check};
-use crate::telling::full_map;
-use vecmap_fixtures::make_item;
-
-const FULL: &[(u32, char, u32)] = &[(1, 'a', 10), (2, 'b', 20)];
+use crate::telling::make;
+use vecmap_fixtures::{full_map, make_item};
 
 #[test]
 fn an_insertion_of_an_equal_key_is_never_refused(rt: HostRuntime) {
-    let mut map = full_map(&rt, rt.alloc(), FULL);
+    let mut map = make!(rt; full_map(rt.alloc(), FULL));
     assert_gives(&rt, map.insert(make_item(1, 'x'), 1), Some(10));
     assert_gives(&rt, map.insert_full(make_item(1, 'y'), 2), (0, Some(1)));
     assert_pairs(&rt, &map, &[(1, 'a', 2), (2, 'b', 20)]);

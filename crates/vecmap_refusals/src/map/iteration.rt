@@ -1,7 +1,8 @@
 //! Clones of the iterators that own their items.
 use crate::checks::{assert_is, check};
-use crate::telling::{make, text_map};
+use crate::telling::make;
 use std::process::Abort;
+use vecmap_fixtures::text_map;
 
 const TEXTS: &[(&str, &str)] = &[("c", "3"), ("b", "2"), ("a", "1")];
 
@@ -20,7 +21,7 @@ fn assert_pair(rt: &impl Abort, given: Option<(String, String)>, expected: Optio
 
 #[test]
 fn a_clone_of_pairs_leaves_the_original(rt: HostRuntime) {
-    let mut pairs = text_map(&rt, rt.alloc(), TEXTS).into_iter();
+    let mut pairs = make!(rt; text_map(rt.alloc(), TEXTS)).into_iter();
     check!(rt; pairs.next().is_some());
     let mut copy = make!(rt; pairs.clone());
     assert_pair(&rt, copy.next(), Some(("b", "2")));
@@ -31,7 +32,7 @@ fn a_clone_of_pairs_leaves_the_original(rt: HostRuntime) {
 
 #[test]
 fn a_clone_of_keys_leaves_the_original(rt: HostRuntime) {
-    let mut keys = text_map(&rt, rt.alloc(), TEXTS).into_keys();
+    let mut keys = make!(rt; text_map(rt.alloc(), TEXTS)).into_keys();
     check!(rt; keys.next_back().is_some());
     let mut copy = make!(rt; keys.clone());
     assert_text(&rt, copy.next(), Some("c"));
@@ -42,7 +43,7 @@ fn a_clone_of_keys_leaves_the_original(rt: HostRuntime) {
 
 #[test]
 fn a_clone_of_values_leaves_the_original(rt: HostRuntime) {
-    let mut values = text_map(&rt, rt.alloc(), TEXTS).into_values();
+    let mut values = make!(rt; text_map(rt.alloc(), TEXTS)).into_values();
     check!(rt; values.next_back().is_some());
     let mut copy = make!(rt; values.clone());
     assert_text(&rt, copy.next(), Some("3"));

@@ -1,10 +1,10 @@
 //! Stable sorts of a map. A refused sort leaves the map unchanged.
-use crate::checks::{assert_granted, assert_is, assert_list, assert_pairs, check, granted};
-use crate::telling::{make, tell};
+use crate::checks::{assert_granted, assert_is, assert_list, assert_pairs, check};
+use crate::telling::{make, retry};
 use std::alloc::{AllocError, Global};
 use std::process::Abort;
 use vecmap::VecMap;
-use vecmap_fixtures::{Item, repeating_map};
+use vecmap_fixtures::repeating_map;
 
 // More pairs than a stable sort sorts without allocating.
 const COUNT: u32 = 100;
@@ -33,51 +33,42 @@ fn holds(map: &VecMap<u32, u32>, turned: bool) -> bool {
     map.len() == 100
 }
 
-#[derive(Clone, Copy)]
-enum Sorting {
-    Descending,
-    Keys,
-    CachedKey,
-}
-
-// Sorts the map by a call: descending values, ascending keys, or ascending values.
-fn sort(call: Sorting, map: &mut VecMap<u32, u32>) -> Result<(), AllocError> {
-    match call {
-        Sorting::Descending => map.sort_by(|a, b| b.1.cmp(a.1)),
-        Sorting::Keys => map.sort_keys(),
-        Sorting::CachedKey => map.sort_by_cached_key(|_, value| *value),
-    }
-}
-
-// Checks a sort that reverses the map. If it is refused, the map is unchanged, and is sorted once more.
-fn check_sort(rt: &(impl Abort + Print), call: Sorting, map: &mut VecMap<u32, u32>, turned: bool) {
+// Checks that a call reverses the map, or leaves it unchanged.
+fn check_sort<F>(rt: &(impl Abort + Print), map: &mut VecMap<u32, u32>, turned: bool, sort: F)
+where
+    F: Fn(&mut VecMap<u32, u32>) -> Result<(), AllocError> + Drop,
+    requires { F.IsAlwaysCallable sort }
+{
     let room = map.capacity();
-    if sort(call, map).is_err() {
-        tell(rt);
+    retry!(rt; sort(map), AllocError => {
         assert_is(rt, (holds(map, turned), map.capacity()), (true, room));
-        granted(rt, sort(call, map));
-    }
+    });
     assert_is(rt, (holds(map, !turned), map.capacity()), (true, room));
 }
 
 #[test]
 fn sort_by_sorts_a_map_or_leaves_it(rt: HostRuntime) {
     let mut map = make!(rt; numbers(rt.alloc(), COUNT));
-    check_sort(&rt, Sorting::Descending, &mut map, false);
+    check_sort(&rt, &mut map, false, |map| map.sort_by(|a, b| b.1.cmp(a.1)));
 }
 
 #[test]
 fn sort_keys_sorts_a_map_or_leaves_it(rt: HostRuntime) {
     let mut map = make!(rt; numbers(rt.alloc(), COUNT));
     map.reverse();
-    check_sort(&rt, Sorting::Keys, &mut map, true);
+    check_sort(&rt, &mut map, true, |map| map.sort_keys());
 }
 
 #[test]
 fn sort_by_cached_key_sorts_a_map_or_leaves_it(rt: HostRuntime) {
     let mut map = make!(rt; numbers(rt.alloc(), COUNT));
     map.reverse();
-    check_sort(&rt, Sorting::CachedKey, &mut map, true);
+    check_sort(
+        &rt,
+        &mut map,
+        true,
+        |map| map.sort_by_cached_key(|_, value| *value),
+    );
 }
 
 #[test]
@@ -114,27 +105,16 @@ fn sorted(alloc: Global) -> Result<Vec<(u32, char, u32)>, AllocError> {
     Ok(pairs)
 }
 
-// Sorts the map by the numbers of its keys. If that is refused, the map is unchanged, and is sorted once more.
-fn sort_items(
-    rt: &(impl Abort + Print),
-    map: &mut VecMap<Item, u32>,
-    unchanged: &[(u32, char, u32)],
-) {
-    let room = map.capacity();
-    if map.sort_by(|a, b| a.0.number.cmp(&b.0.number)).is_err() {
-        tell(rt);
-        assert_pairs(rt, map, unchanged);
-        assert_is(rt, map.capacity(), room);
-        granted(rt, map.sort_by(|a, b| a.0.number.cmp(&b.0.number)));
-    }
-    assert_is(rt, map.capacity(), room);
-}
-
 #[test]
 fn sort_by_leaves_equal_keys_in_their_order(rt: HostRuntime) {
     let mixed = make!(rt; mixed(rt.alloc()));
     let sorted = make!(rt; sorted(rt.alloc()));
     let mut map = make!(rt; repeating_map(rt.alloc(), &mixed));
-    sort_items(&rt, &mut map, &mixed);
+    let room = map.capacity();
+    retry!(rt; map.sort_by(|a, b| a.0.number.cmp(&b.0.number)), AllocError => {
+        assert_pairs(&rt, &map, &mixed);
+        assert_is(&rt, map.capacity(), room);
+    });
+    assert_is(&rt, map.capacity(), room);
     assert_pairs(&rt, &map, &sorted);
 }

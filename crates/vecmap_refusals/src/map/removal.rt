@@ -1,10 +1,10 @@
 //! A map that is split in two.
-use crate::checks::{assert_granted, assert_is, assert_pairs, granted};
-use crate::telling::{full_map, make, tell};
+use crate::checks::{assert_granted, assert_is, assert_pairs};
+use crate::telling::{make, retry};
 use std::alloc::AllocError;
 use std::process::Abort;
 use vecmap::VecMap;
-use vecmap_fixtures::{Item, repeating_map};
+use vecmap_fixtures::{Item, full_map, repeating_map};
 
 const FULL: &[(u32, char, u32)] = &[(1, 'a', 10), (2, 'b', 20), (3, 'c', 30)];
 
@@ -17,26 +17,18 @@ fn split_off(
 ) -> VecMap<Item, u32> {
     let room = map.capacity();
     assert!(*rt; 1 <= map.len());
-    match map.split_off(1) {
-        Ok(part) => {
-            assert_is(rt, map.capacity(), room);
-            part
-        }
-        Err(AllocError) => {
-            tell(rt);
-            assert_pairs(rt, map, pairs);
-            assert_is(rt, map.capacity(), room);
-            assert!(*rt; 1 <= map.len());
-            let part = granted(rt, map.split_off(1));
-            assert_is(rt, map.capacity(), room);
-            part
-        }
-    }
+    let part = retry!(rt; map.split_off(1), AllocError => {
+        assert_pairs(rt, map, pairs);
+        assert_is(rt, map.capacity(), room);
+        assert!(*rt; 1 <= map.len());
+    });
+    assert_is(rt, map.capacity(), room);
+    part
 }
 
 #[test]
 fn split_off_of_a_map_moves_all_or_nothing(rt: HostRuntime) {
-    let mut map = full_map(&rt, rt.alloc(), FULL);
+    let mut map = make!(rt; full_map(rt.alloc(), FULL));
     assert_is(&rt, map.capacity(), 3);
     let part = split_off(&rt, &mut map, FULL);
     assert_pairs(&rt, &map, &[(1, 'a', 10)]);

@@ -1,12 +1,11 @@
 //! Capacity of a map.
-use crate::checks::{assert_gives, assert_is, assert_pairs, check, granted};
-use crate::telling::{full_map, make, tell};
-use std::alloc::Global;
+use super::FULL;
+use crate::checks::{assert_gives, assert_granted, assert_is, assert_pairs, check};
+use crate::telling::{make, retry, tell};
+use std::alloc::{AllocError, Global};
 use std::process::Abort;
 use vecmap::VecMap;
-use vecmap_fixtures::{Item, make_item};
-
-const FULL: &[(u32, char, u32)] = &[(1, 'a', 10), (2, 'b', 20)];
+use vecmap_fixtures::{Item, full_map, make_item};
 
 #[test]
 fn with_capacity_makes_a_map_of_that_capacity_or_none(rt: HostRuntime) {
@@ -15,102 +14,73 @@ fn with_capacity_makes_a_map_of_that_capacity_or_none(rt: HostRuntime) {
     check!(rt; 3 <= map.capacity());
 }
 
-#[derive(Clone, Copy)]
-enum Reserving {
-    Reserve,
-    ReserveExact,
-    TryReserve,
-    TryReserveExact,
-}
-
-// Reserves capacity by a call, and returns whether it was granted.
-fn reserve(call: Reserving, map: &mut VecMap<Item, u32>) -> bool {
-    match call {
-        Reserving::Reserve => map.reserve(2).is_ok(),
-        Reserving::ReserveExact => map.reserve_exact(2).is_ok(),
-        Reserving::TryReserve => map.try_reserve(2).is_ok(),
-        Reserving::TryReserveExact => map.try_reserve_exact(2).is_ok(),
-    }
-}
-
-// Checks that a call leaves the pairs and, if it is refused, the capacity. It is then repeated.
-fn check_reserving(rt: &(impl Abort + Print), alloc: Global, call: Reserving) {
-    let mut map = full_map(rt, alloc, FULL);
-    if !reserve(call, &mut map) {
-        tell(rt);
+// Checks that a call that reserves capacity leaves the pairs and, if it is refused, the capacity.
+fn check_reserving<E, F>(rt: &(impl Abort + Print), alloc: Global, reserve: F)
+where
+    E: Drop,
+    F: Fn(&mut VecMap<Item, u32>) -> Result<(), E> + Drop,
+    requires { F.IsAlwaysCallable reserve }
+{
+    let mut map = make!(rt; full_map(alloc, FULL));
+    retry!(rt; reserve(&mut map), _ => {
         assert_pairs(rt, &map, FULL);
         assert_is(rt, map.capacity(), 2);
-        assert_is(rt, reserve(call, &mut map), true);
-    }
+    });
     assert_pairs(rt, &map, FULL);
     assert_is(rt, 4 <= map.capacity(), true);
     // It is not refused with this spare capacity.
     let room = map.capacity();
-    assert_is(rt, reserve(call, &mut map), true);
+    assert_granted(rt, reserve(&mut map));
     assert_pairs(rt, &map, FULL);
     assert_is(rt, map.capacity(), room);
 }
 
 #[test]
 fn the_reserving_calls_leave_a_map_as_before(rt: HostRuntime) {
-    check_reserving(&rt, rt.alloc(), Reserving::Reserve);
-    check_reserving(&rt, rt.alloc(), Reserving::ReserveExact);
-    check_reserving(&rt, rt.alloc(), Reserving::TryReserve);
-    check_reserving(&rt, rt.alloc(), Reserving::TryReserveExact);
+    check_reserving(&rt, rt.alloc(), |map| map.reserve(2));
+    check_reserving(&rt, rt.alloc(), |map| map.reserve_exact(2));
+    check_reserving(&rt, rt.alloc(), |map| map.try_reserve(2));
+    check_reserving(&rt, rt.alloc(), |map| map.try_reserve_exact(2));
 }
 
-// Reserves exactly this capacity beyond the pairs. If that is refused, it tries once more.
-fn reserve_exact(rt: &(impl Abort + Print), map: &mut VecMap<Item, u32>, count: usize) {
-    if map.reserve_exact(count).is_err() {
-        tell(rt);
-        granted(rt, map.reserve_exact(count));
-    }
-}
-
-// Shrinks a map of these pairs to this capacity, or to its length if there is none. If that is refused, the map is
-// unchanged, and is shrunk once more.
-fn shrink(rt: &(impl Abort + Print), map: &mut VecMap<Item, u32>, room: Option<usize>) {
-    let (before, after) = (map.capacity(), room.unwrap_or(FULL.len()));
-    shrink_once(map, room);
+// Checks that a call leaves a map of the pairs `FULL` with this capacity or, if it is refused, with its own.
+fn check_shrinking<F>(
+    rt: &(impl Abort + Print),
+    map: &mut VecMap<Item, u32>,
+    after: usize,
+    shrink: F,
+)
+where
+    F: Fn(&mut VecMap<Item, u32>) + Drop,
+    requires { F.IsAlwaysCallable shrink }
+{
+    let before = map.capacity();
+    shrink(map);
     if map.capacity() != after {
         tell(rt);
         assert_pairs(rt, map, FULL);
         assert_is(rt, map.capacity(), before);
-        shrink_once(map, room);
+        shrink(map);
     }
     assert_pairs(rt, map, FULL);
     assert_is(rt, map.capacity(), after);
 }
 
-fn shrink_once(map: &mut VecMap<Item, u32>, room: Option<usize>) {
-    match room {
-        Some(room) => map.shrink_to(room),
-        None => map.shrink_to_fit(),
-    }
-}
-
 #[test]
-fn shrinking_without_memory_keeps_a_map(rt: HostRuntime) {
-    let mut map = full_map(&rt, rt.alloc(), FULL);
-    reserve_exact(&rt, &mut map, 8);
+fn shrinking_calls_shrink_a_map_or_leave_it(rt: HostRuntime) {
+    let mut map = make!(rt; full_map(rt.alloc(), FULL));
+    make!(rt; map.reserve_exact(8));
     check!(rt; map.capacity() == 10);
-    shrink(&rt, &mut map, Some(5));
-    shrink(&rt, &mut map, None);
-}
-
-// Reserves this spare capacity in an empty map. If that is refused, the map has none, and it tries once more.
-fn reserve_spare(rt: &(impl Abort + Print), map: &mut VecMap<Item, u32>, count: usize) {
-    if map.reserve(count).is_err() {
-        tell(rt);
-        assert_is(rt, (map.len(), map.capacity()), (0, 0));
-        granted(rt, map.reserve(count));
-    }
+    check_shrinking(&rt, &mut map, 5, |map| map.shrink_to(5));
+    check_shrinking(&rt, &mut map, 2, |map| map.shrink_to_fit());
 }
 
 #[test]
 fn reserved_capacity_of_a_map_takes_insertions_without_memory(rt: HostRuntime) {
     let mut map = VecMap::new(rt.alloc());
-    reserve_spare(&rt, &mut map, 3);
+    retry!(rt; map.reserve(3), AllocError => {
+        assert_is(&rt, (map.len(), map.capacity()), (0, 0));
+    });
     let room = map.capacity();
     for number in 0..3u32 {
         assert_gives(&rt, map.insert(make_item(number, 'a'), number), None);

@@ -1,78 +1,36 @@
 //! The trait `Extend` of maps, if a request is refused.
-use crate::checks::{assert_is, assert_list, assert_pairs, granted};
-use crate::telling::{full_map, make, tell};
+use super::bulk::check_one_more;
+use crate::checks::{assert_is, assert_list, assert_pairs};
+use crate::telling::{make, retry};
 use std::alloc::{AllocError, Global};
-use std::process::Abort;
 use vecmap::VecMap;
-use vecmap_fixtures::{Hinted, Item, has_pairs, make_item};
-
-// Extends a map of one pair by its key with another value, and by a new pair. If that is refused, the map has its
-// capacity, with the old value or the other one, and it is repeated.
-fn extend(rt: &(impl Abort + Print), map: &mut VecMap<Item, u32>) {
-    let more = [(make_item(1, 'z'), 11), (make_item(2, 'b'), 20)];
-    if Extend::extend(map, more).is_err() {
-        tell(rt);
-        assert_is(rt, map.capacity(), 1);
-        assert!(*rt;
-            has_pairs(map.as_slice(), &[(1, 'a', 10)]) || has_pairs(map.as_slice(), &[(1, 'a', 11)])
-        );
-        granted(rt, Extend::extend(map, more));
-    }
-}
+use vecmap_fixtures::{full_map, has_pairs, make_item};
 
 #[test]
-fn extend_by_the_trait_inserts_the_pairs_before_the_refused_one(rt: HostRuntime) {
-    let mut map = full_map(&rt, rt.alloc(), &[(1, 'a', 10)]);
-    extend(&rt, &mut map);
+fn extend_by_the_trait_inserts_all_pairs_or_those_before_the_refused_one(rt: HostRuntime) {
+    let mut map = make!(rt; full_map(rt.alloc(), &[(1, 'a', 10)]));
+    let more = [(make_item(1, 'z'), 11), (make_item(2, 'b'), 20)];
+    // The map may grow before the first pair or after it.
+    retry!(rt; Extend::extend(&mut map, more), AllocError => {
+        assert_is(&rt, map.capacity(), 1);
+        assert!(rt;
+            has_pairs(map.as_slice(), &[(1, 'a', 10)]) || has_pairs(map.as_slice(), &[(1, 'a', 11)])
+        );
+    });
     assert_pairs(&rt, &map, &[(1, 'a', 11), (2, 'b', 20)]);
-}
-
-// What the trait extends a map by.
-#[derive(Clone, Copy)]
-enum Items {
-    Pairs,
-    PairsOfReferences,
-    ReferencesToPairs,
-}
-
-fn extend_by(
-    items: Items,
-    map: &mut VecMap<u32, u32>,
-    pairs: &[(u32, u32)],
-) -> Result<(), AllocError> {
-    let hinted = Hinted {
-        items: pairs,
-        hint: 0,
-    };
-    match items {
-        Items::Pairs => Extend::extend(map, hinted.copied()),
-        Items::PairsOfReferences => Extend::extend(map, hinted.map(|pair| (&pair.0, &pair.1))),
-        Items::ReferencesToPairs => Extend::extend(map, hinted),
-    }
-}
-
-// Extends an empty map by one pair more than its capacity. If that is refused, the map has the others, and it is
-// repeated.
-fn extend_by_one_more(rt: &(impl Abort + Print), alloc: Global, items: Items) {
-    let pairs = [(1, 10), (2, 20), (3, 30), (4, 40), (5, 50), (6, 60)];
-    let mut map = make!(rt; VecMap::with_capacity(alloc, 2));
-    let room = map.capacity();
-    assert!(*rt; room < pairs.len());
-    let (fitting, pairs) = (&pairs[..room], &pairs[..room + 1]);
-    if extend_by(items, &mut map, pairs).is_err() {
-        tell(rt);
-        assert_list(rt, map.as_slice(), fitting);
-        assert_is(rt, map.capacity(), room);
-        granted(rt, extend_by(items, &mut map, pairs));
-    }
-    assert_list(rt, map.as_slice(), pairs);
 }
 
 #[test]
 fn extend_by_the_trait_inserts_as_many_pairs_as_the_capacity_allows(rt: HostRuntime) {
-    extend_by_one_more(&rt, rt.alloc(), Items::Pairs);
-    extend_by_one_more(&rt, rt.alloc(), Items::PairsOfReferences);
-    extend_by_one_more(&rt, rt.alloc(), Items::ReferencesToPairs);
+    check_one_more(
+        &rt,
+        rt.alloc(),
+        |map, pairs| Extend::extend(map, pairs.copied()),
+    );
+    check_one_more(&rt, rt.alloc(), |map, pairs| {
+        Extend::extend(map, pairs.map(|pair| (&pair.0, &pair.1)))
+    });
+    check_one_more(&rt, rt.alloc(), |map, pairs| Extend::extend(map, pairs));
 }
 
 const PAIRS: [(u32, u32); 3] = [(1, 10), (2, 20), (1, 30)];

@@ -1,11 +1,13 @@
 //! Runs of commands on a set.
-use crate::checks::{assert_is, assert_items, assert_texts};
-use crate::telling::{full_set, one_of, tell, text_set};
+ghost use Rattle.vecmap_base.specs.Clones.{ClonesAreSame};
+
+use crate::checks::{assert_is, assert_items, assert_texts, check, granted};
+use crate::telling::{make, retry};
 use std::alloc::{AllocError, Global};
 use std::process::Abort;
 use std::slice;
 use vecmap::{SetCommand, SetReply, VecSet, run_set};
-use vecmap_fixtures::{Item, has_items, has_texts, item_set, make_item};
+use vecmap_fixtures::{Item, full_set, has_items, has_texts, item_set, make_item, text_set};
 
 const FULL: &[(u32, char)] = &[(1, 'a'), (2, 'b')];
 
@@ -20,111 +22,90 @@ fn assert_full(rt: &impl Abort, set: &VecSet<Item>) {
     assert_is(rt, set.capacity(), 2);
 }
 
-// Returns the reply to a single command, or `None` if it or the run was refused.
-fn reply_of<'r, T: Eq>(
+// Executes one command, and returns its reply. The error says that the command or the run was refused.
+fn reply_to<T: Eq + Clone + Drop>(
     rt: &impl Abort,
-    outcome: &'r Result<Vec<SetReply<T>>, AllocError>,
-) -> Option<&'r SetReply<T>> {
-    match outcome.as_deref() {
-        Ok([SetReply::NoMemory]) | Err(AllocError) => None,
-        Ok([reply]) => Some(reply),
-        Ok(_) => panic!(*rt; "not one reply"),
+    alloc: Global,
+    set: &mut VecSet<T>,
+    command: Result<SetCommand<T>, AllocError>,
+) -> Result<SetReply<T>, AllocError>
+    requires clones_equal { ClonesAreSame T.eq T.is_clone }
+{
+    let mut commands = Vec::with_capacity(alloc, 1)?;
+    commands.push(command?)?;
+    let mut replies = run_set(alloc, set, commands)?;
+    match (replies.pop(), replies.is_empty()) {
+        (Some(SetReply::NoMemory), true) => Err(AllocError),
+        (Some(reply), true) => Ok(reply),
+        _ => panic!(*rt; "not one reply"),
     }
 }
 
-// A command that allocates on a full set.
-#[derive(Clone, Copy)]
-enum Change {
-    Insert,
-    Replace,
-    Append,
-    SplitOff,
-}
-
-impl Change {
-    fn create(self, alloc: Global) -> Result<Vec<SetCommand<Item>>, AllocError> {
-        let mut commands = Vec::with_capacity(alloc, 1)?;
-        commands.push(match self {
-            Change::Insert => SetCommand::Insert(make_item(7, 'x')),
-            Change::Replace => SetCommand::Replace(make_item(7, 'x')),
-            Change::Append => SetCommand::Append(item_set(alloc, CARRIED)?),
-            Change::SplitOff => SetCommand::SplitOff(1),
-        })?;
-        Ok(commands)
-    }
-
-    // Returns whether the reply is the right one.
-    fn is_answered(self, reply: &SetReply<Item>) -> bool {
-        match (self, reply) {
-            (Change::Insert, SetReply::Truth(true)) => true,
-            (Change::Replace, SetReply::Item(None)) => true,
-            (Change::Append, SetReply::Done) => true,
-            (Change::SplitOff, SetReply::Made(set)) => has_items(set.as_slice(), &[(2, 'b')]),
-            _ => false,
-        }
-    }
-}
-
-// Returns whether the command was executed, and not refused. Its reply and the elements `left` must be the right ones.
-// If it was refused, the set must be unchanged.
-fn is_changed(
-    rt: &impl Abort,
-    call: Change,
-    reply: Option<&SetReply<Item>>,
-    set: &VecSet<Item>,
-    left: &[(u32, char)],
-) -> bool {
-    match reply {
-        Some(reply) => {
-            assert!(*rt; call.is_answered(reply), "another reply");
-            assert_items(rt, set, left);
-            true
-        }
-        None => {
-            assert_full(rt, set);
-            false
-        }
-    }
-}
-
-fn run_change(
+// Checks a command that allocates on a full set: it has the right reply and leaves these elements, or it is refused and
+// leaves the set unchanged.
+fn check_change<F, G>(
     rt: &(impl Abort + Print),
     alloc: Global,
-    call: Change,
     left: &[(u32, char)],
-) -> bool {
-    let mut set = full_set(rt, alloc, FULL);
-    let commands = one_of(rt, call.create(alloc), call.create(alloc));
-    let outcome = run_set(alloc, &mut set, commands);
-    is_changed(rt, call, reply_of(rt, &outcome), &set, left)
-}
-
-// Checks one command on a full set: it is executed, or it is refused, leaves the set unchanged, and is then executed.
-fn check_change(rt: &(impl Abort + Print), alloc: Global, call: Change, left: &[(u32, char)]) {
-    if !run_change(rt, alloc, call, left) {
-        tell(rt);
-        assert_is(rt, run_change(rt, alloc, call, left), true);
-    }
-}
-
-#[test]
-fn a_refused_insert_replies_out_of_memory(rt: HostRuntime) {
-    check_change(&rt, rt.alloc(), Change::Insert, ONE_MORE);
+    command: F,
+    is_answered: G,
+)
+where
+    F: Fn(Global) -> Result<SetCommand<Item>, AllocError> + Drop,
+    G: Fn(&SetReply<Item>) -> bool + Drop,
+    requires callable { F.IsAlwaysCallable command }
+    requires reads { G.IsAlwaysCallable is_answered }
+{
+    let mut set = make!(rt; full_set(alloc, FULL));
+    let reply = retry!(rt; reply_to(rt, alloc, &mut set, command(alloc)), AllocError => {
+        assert_full(rt, &set);
+    });
+    assert!(*rt; is_answered(&reply), "another reply");
+    assert_items(rt, &set, left);
 }
 
 #[test]
-fn a_refused_replace_replies_out_of_memory(rt: HostRuntime) {
-    check_change(&rt, rt.alloc(), Change::Replace, ONE_MORE);
+fn insert_is_executed_or_the_set_is_unchanged(rt: HostRuntime) {
+    check_change(
+        &rt,
+        rt.alloc(),
+        ONE_MORE,
+        |_| Ok(SetCommand::Insert(make_item(7, 'x'))),
+        |reply| matches!(reply, SetReply::Truth(true)),
+    );
 }
 
 #[test]
-fn a_refused_append_to_a_set_replies_out_of_memory(rt: HostRuntime) {
-    check_change(&rt, rt.alloc(), Change::Append, ONE_MORE);
+fn replace_is_executed_or_the_set_is_unchanged(rt: HostRuntime) {
+    check_change(
+        &rt,
+        rt.alloc(),
+        ONE_MORE,
+        |_| Ok(SetCommand::Replace(make_item(7, 'x'))),
+        |reply| matches!(reply, SetReply::Item(None)),
+    );
 }
 
 #[test]
-fn a_refused_split_of_a_set_replies_out_of_memory(rt: HostRuntime) {
-    check_change(&rt, rt.alloc(), Change::SplitOff, &[(1, 'a')]);
+fn append_is_executed_or_the_set_is_unchanged(rt: HostRuntime) {
+    check_change(
+        &rt,
+        rt.alloc(),
+        ONE_MORE,
+        |alloc| Ok(SetCommand::Append(item_set(alloc, CARRIED)?)),
+        |reply| matches!(reply, SetReply::Done),
+    );
+}
+
+#[test]
+fn split_off_is_executed_or_the_set_is_unchanged(rt: HostRuntime) {
+    check_change(
+        &rt,
+        rt.alloc(),
+        &[(1, 'a')],
+        |_| Ok(SetCommand::SplitOff(1)),
+        |reply| matches!(reply, SetReply::Made(set) if has_items(set.as_slice(), &[(2, 'b')])),
+    );
 }
 
 // Returns commands that add an existing element, for which the set does not allocate.
@@ -135,85 +116,30 @@ fn equal_elements(alloc: Global) -> Result<Vec<SetCommand<Item>>, AllocError> {
     Ok(commands)
 }
 
-// Returns whether the replies were not refused. If they were, no command was executed.
-fn are_put(
-    rt: &impl Abort,
-    outcome: &Result<Vec<SetReply<Item>>, AllocError>,
-    set: &VecSet<Item>,
-) -> bool {
-    match outcome.as_deref() {
-        Ok([SetReply::Truth(false), SetReply::Item(Some(old))]) => {
-            assert_is(rt, (old.number, old.mark, set.capacity()), (1, 'a', 2));
-            assert_items(rt, set, &[(1, 'z'), (2, 'b')]);
-            true
-        }
-        Ok(_) => panic!(*rt; "other replies"),
-        Err(AllocError) => {
-            assert_full(rt, set);
-            false
-        }
-    }
-}
-
-fn put_equal_elements(rt: &(impl Abort + Print), alloc: Global, set: &mut VecSet<Item>) -> bool {
-    let commands = one_of(rt, equal_elements(alloc), equal_elements(alloc));
-    let outcome = run_set(alloc, set, commands);
-    are_put(rt, &outcome, set)
-}
-
-// Executes the commands again if the replies were refused.
-fn check_equal_elements(rt: &(impl Abort + Print), alloc: Global, set: &mut VecSet<Item>) {
-    if !put_equal_elements(rt, alloc, set) {
-        tell(rt);
-        assert_is(rt, put_equal_elements(rt, alloc, set), true);
+// Returns whether the replies are the right ones.
+fn has_equal_elements(replies: &[SetReply<Item>]) -> bool {
+    match replies {
+        [SetReply::Truth(false), SetReply::Item(Some(old))] => (old.number, old.mark) == (1, 'a'),
+        _ => false,
     }
 }
 
 // Only the replies allocate. If that is refused, no command is executed.
 #[test]
 fn a_command_with_an_equal_element_is_never_refused(rt: HostRuntime) {
-    let mut set = full_set(&rt, rt.alloc(), FULL);
+    let mut set = make!(rt; full_set(rt.alloc(), FULL));
     assert_is(&rt, set.len(), set.capacity());
-    check_equal_elements(&rt, rt.alloc(), &mut set);
+    let commands = make!(rt; equal_elements(rt.alloc()));
+    let replies = retry!(rt; run_set(rt.alloc(), &mut set, commands), AllocError => {
+        assert_full(&rt, &set);
+        let commands = granted(&rt, equal_elements(rt.alloc()));
+    });
+    check!(rt; has_equal_elements(&replies));
+    assert_items(&rt, &set, &[(1, 'z'), (2, 'b')]);
+    assert_is(&rt, set.capacity(), 2);
 }
 
 const TEXTS: &[&str] = &["b", "a"];
-
-// A command on a set of texts, which clones what it returns.
-#[derive(Clone, Copy)]
-enum Reading {
-    Get,
-    GetIndex,
-    First,
-    Last,
-    ToVec,
-    Intersect,
-    Unite,
-    Exclusive,
-    Subtract,
-}
-
-impl Reading {
-    fn create(self, alloc: Global) -> Result<Vec<SetCommand<String>>, AllocError> {
-        let mut commands = Vec::with_capacity(alloc, 1)?;
-        commands.push(match self {
-            Reading::Get => SetCommand::Get(String::from_str(alloc, "a")?),
-            Reading::GetIndex => SetCommand::GetIndex(1),
-            Reading::First => SetCommand::First,
-            Reading::Last => SetCommand::Last,
-            Reading::ToVec => SetCommand::ToVec,
-            Reading::Intersect => {
-                SetCommand::Intersect(vecmap_fixtures::text_set(alloc, &["a"])?)
-            }
-            Reading::Unite => SetCommand::Unite(vecmap_fixtures::text_set(alloc, &["c"])?),
-            Reading::Exclusive => {
-                SetCommand::Exclusive(vecmap_fixtures::text_set(alloc, &["a"])?)
-            }
-            Reading::Subtract => SetCommand::Subtract(vecmap_fixtures::text_set(alloc, &["b"])?),
-        })?;
-        Ok(commands)
-    }
-}
 
 // Returns the texts of a reply, if it has any.
 fn texts_of(reply: &SetReply<String>) -> Option<&[String]> {
@@ -225,82 +151,89 @@ fn texts_of(reply: &SetReply<String>) -> Option<&[String]> {
     }
 }
 
-// Returns whether the command was executed, and not refused. Its reply must have these texts.
-fn is_read(rt: &impl Abort, reply: Option<&SetReply<String>>, wanted: &[&str]) -> bool {
-    match reply {
-        Some(reply) => {
-            let texts = texts_of(reply).unwrap_or(&[]);
-            assert!(*rt; has_texts(texts, wanted), "not {wanted:?}");
-            true
-        }
-        None => false,
-    }
-}
-
-// Executes the command, and returns whether it was not refused. It leaves the set unchanged.
-fn read(
-    rt: &(impl Abort + Print),
-    alloc: Global,
-    call: Reading,
-    set: &mut VecSet<String>,
-    wanted: &[&str],
-) -> bool {
-    let commands = one_of(rt, call.create(alloc), call.create(alloc));
-    let outcome = run_set(alloc, set, commands);
-    assert_texts(rt, set, TEXTS);
-    is_read(rt, reply_of(rt, &outcome), wanted)
-}
-
-// Checks a command that clones texts: it is executed, or it is refused, leaves the set unchanged, and is then executed.
-fn check_reading(rt: &(impl Abort + Print), alloc: Global, call: Reading, wanted: &[&str]) {
-    let mut set = text_set(rt, alloc, TEXTS);
-    if !read(rt, alloc, call, &mut set, wanted) {
-        tell(rt);
-        assert_is(rt, read(rt, alloc, call, &mut set, wanted), true);
-    }
+// Checks a command that clones texts of a set: its reply has these texts, or it is refused. The set is unchanged.
+fn check_reading<F>(rt: &(impl Abort + Print), alloc: Global, wanted: &[&str], command: F)
+where
+    F: Fn(Global) -> Result<SetCommand<String>, AllocError> + Drop,
+    requires { F.IsAlwaysCallable command }
+{
+    let mut set = make!(rt; text_set(alloc, TEXTS));
+    let reply = retry!(rt; reply_to(rt, alloc, &mut set, command(alloc)), AllocError => {
+        assert_texts(rt, &set, TEXTS);
+    });
+    assert!(*rt;
+        has_texts(texts_of(&reply).unwrap_or(&[]), wanted),
+        "not {wanted:?}"
+    );
+    assert_texts(rt, &set, TEXTS);
 }
 
 #[test]
-fn a_get_of_a_set_whose_clone_is_refused_replies_out_of_memory(rt: HostRuntime) {
-    check_reading(&rt, rt.alloc(), Reading::Get, &["a"]);
+fn get_of_a_set_replies_a_clone_or_out_of_memory(rt: HostRuntime) {
+    check_reading(
+        &rt,
+        rt.alloc(),
+        &["a"],
+        |alloc| Ok(SetCommand::Get(String::from_str(alloc, "a")?)),
+    );
 }
 
 #[test]
-fn an_index_of_a_set_whose_clone_is_refused_replies_out_of_memory(rt: HostRuntime) {
-    check_reading(&rt, rt.alloc(), Reading::GetIndex, &["a"]);
+fn get_index_of_a_set_replies_a_clone_or_out_of_memory(rt: HostRuntime) {
+    check_reading(&rt, rt.alloc(), &["a"], |_| Ok(SetCommand::GetIndex(1)));
 }
 
 #[test]
-fn a_first_of_a_set_whose_clone_is_refused_replies_out_of_memory(rt: HostRuntime) {
-    check_reading(&rt, rt.alloc(), Reading::First, &["b"]);
+fn first_of_a_set_replies_a_clone_or_out_of_memory(rt: HostRuntime) {
+    check_reading(&rt, rt.alloc(), &["b"], |_| Ok(SetCommand::First));
 }
 
 #[test]
-fn a_last_of_a_set_whose_clone_is_refused_replies_out_of_memory(rt: HostRuntime) {
-    check_reading(&rt, rt.alloc(), Reading::Last, &["a"]);
+fn last_of_a_set_replies_a_clone_or_out_of_memory(rt: HostRuntime) {
+    check_reading(&rt, rt.alloc(), &["a"], |_| Ok(SetCommand::Last));
 }
 
 #[test]
-fn a_list_of_a_set_whose_clones_are_refused_replies_out_of_memory(rt: HostRuntime) {
-    check_reading(&rt, rt.alloc(), Reading::ToVec, &["b", "a"]);
+fn to_vec_of_a_set_replies_clones_or_out_of_memory(rt: HostRuntime) {
+    check_reading(&rt, rt.alloc(), &["b", "a"], |_| Ok(SetCommand::ToVec));
 }
 
 #[test]
-fn a_refused_intersection_replies_out_of_memory(rt: HostRuntime) {
-    check_reading(&rt, rt.alloc(), Reading::Intersect, &["a"]);
+fn intersect_replies_clones_or_out_of_memory(rt: HostRuntime) {
+    check_reading(
+        &rt,
+        rt.alloc(),
+        &["a"],
+        |alloc| Ok(SetCommand::Intersect(text_set(alloc, &["a"])?)),
+    );
 }
 
 #[test]
-fn a_refused_union_replies_out_of_memory(rt: HostRuntime) {
-    check_reading(&rt, rt.alloc(), Reading::Unite, &["b", "a", "c"]);
+fn unite_replies_clones_or_out_of_memory(rt: HostRuntime) {
+    check_reading(
+        &rt,
+        rt.alloc(),
+        &["b", "a", "c"],
+        |alloc| Ok(SetCommand::Unite(text_set(alloc, &["c"])?)),
+    );
 }
 
 #[test]
-fn a_refused_symmetric_difference_replies_out_of_memory(rt: HostRuntime) {
-    check_reading(&rt, rt.alloc(), Reading::Exclusive, &["b"]);
+fn exclusive_replies_clones_or_out_of_memory(rt: HostRuntime) {
+    check_reading(
+        &rt,
+        rt.alloc(),
+        &["b"],
+        |alloc| Ok(SetCommand::Exclusive(text_set(alloc, &["a"])?)),
+    );
 }
 
 #[test]
-fn a_refused_difference_replies_out_of_memory(rt: HostRuntime) {
-    check_reading(&rt, rt.alloc(), Reading::Subtract, &["a"]);
+fn subtract_replies_clones_or_out_of_memory(rt: HostRuntime) {
+    check_reading(
+        &rt,
+        rt.alloc(),
+        &["a"],
+        |alloc| Ok(SetCommand::Subtract(text_set(alloc, &["b"])?)),
+    );
 }

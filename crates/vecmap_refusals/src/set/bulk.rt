@@ -1,12 +1,11 @@
 //! Many elements at once, inserted into a set that is full.
-use crate::checks::{assert_is, assert_items, granted};
-use crate::telling::{full_set, make, tell};
+use super::FULL;
+use crate::checks::{assert_is, assert_items};
+use crate::telling::{make, retry};
 use std::alloc::{AllocError, Global};
 use std::process::Abort;
 use vecmap::VecSet;
-use vecmap_fixtures::{Hinted, Item, make_item};
-
-const FULL: &[(u32, char)] = &[(1, 'a'), (2, 'b')];
+use vecmap_fixtures::{Hinted, Item, full_set, make_item};
 
 fn more() -> [Item; 9] {
     [
@@ -44,66 +43,47 @@ fn has_all_that_fit(set: &VecSet<Item>) -> bool {
         && set.capacity() == set.len()
 }
 
-// Appends another set of these elements. If that is refused, both sets are unchanged, and it is repeated.
-fn append(
-    rt: &(impl Abort + Print),
-    set: &mut VecSet<Item>,
-    other: &mut VecSet<Item>,
-    added: &[(u32, char)],
-) {
-    if set.append(other).is_err() {
-        tell(rt);
-        assert_items(rt, set, FULL);
-        assert_items(rt, other, added);
-        assert_is(rt, (set.capacity(), other.capacity()), (2, 3));
-        granted(rt, set.append(other));
-    }
-}
-
 #[test]
 fn append_to_a_set_moves_all_or_nothing(rt: HostRuntime) {
     let added = [(1, 'z'), (7, 'p'), (8, 'q')];
-    let mut set = full_set(&rt, rt.alloc(), FULL);
-    let mut other = full_set(&rt, rt.alloc(), &added);
-    append(&rt, &mut set, &mut other, &added);
+    let mut set = make!(rt; full_set(rt.alloc(), FULL));
+    let mut other = make!(rt; full_set(rt.alloc(), &added));
+    retry!(rt; set.append(&mut other), AllocError => {
+        assert_items(&rt, &set, FULL);
+        assert_items(&rt, &other, &added);
+        assert_is(&rt, (set.capacity(), other.capacity()), (2, 3));
+    });
     assert_items(&rt, &set, &[(1, 'a'), (2, 'b'), (7, 'p'), (8, 'q')]);
     assert_is(&rt, (other.len(), other.capacity()), (0, 3));
 }
 
-// Extends a set by `extend`, with an iterator of this lower size hint, or by `extend_copied`.
-fn extend(set: &mut VecSet<Item>, items: &[Item], hint: Option<usize>) -> Result<(), AllocError> {
-    match hint {
-        Some(hint) => set.extend(Hinted { items, hint }.copied()),
-        None => set.extend_copied(items),
-    }
-}
-
-// Like `extend`, with `more`. If it is refused, the elements before the refused one are added, and it is repeated.
-fn extend_or_retry(rt: &(impl Abort + Print), set: &mut VecSet<Item>, hint: Option<usize>) {
-    let items = more();
-    if extend(set, &items, hint).is_err() {
-        tell(rt);
-        assert!(*rt; has_all_that_fit(set), "hint {hint:?}");
-        granted(rt, extend(set, &items, hint));
-    }
-}
-
-// Checks what a call adds to a full set, also if it is refused once.
-fn check_extension(rt: &(impl Abort + Print), alloc: Global, hint: Option<usize>) {
-    let mut set = full_set(rt, alloc, FULL);
-    extend_or_retry(rt, &mut set, hint);
+// Checks that a call extends a full set by `more`, or by the elements before the refused one.
+fn check_extension<F>(rt: &(impl Abort + Print), alloc: Global, extend: F)
+where
+    F: Fn(&mut VecSet<Item>, &[Item]) -> Result<(), AllocError> + Drop,
+    requires { F.IsAlwaysCallable extend }
+{
+    let (items, mut set) = (more(), make!(rt; full_set(alloc, FULL)));
+    retry!(rt; extend(&mut set, &items), AllocError => {
+        assert!(*rt; has_all_that_fit(&set), "{set:?}");
+    });
     assert_items(rt, &set, EXTENDED);
 }
 
 #[test]
-fn extend_adds_the_elements_before_the_refused_one(rt: HostRuntime) {
-    check_extension(&rt, rt.alloc(), Some(0));
-    check_extension(&rt, rt.alloc(), Some(9));
+fn extend_adds_all_elements_or_those_before_the_refused_one(rt: HostRuntime) {
+    for hint in [0, 9] {
+        check_extension(
+            &rt,
+            rt.alloc(),
+            |set, items| set.extend(Hinted { items, hint }.copied()),
+        );
+    }
 }
 
 #[test]
-fn extend_copied_adds_the_elements_before_the_refused_one(rt: HostRuntime) {
-    check_extension(&rt, rt.alloc(), None);
+fn extend_copied_adds_all_elements_or_those_before_the_refused_one(rt: HostRuntime) {
+    check_extension(&rt, rt.alloc(), |set, items| set.extend_copied(items));
 }
 
 #[test]

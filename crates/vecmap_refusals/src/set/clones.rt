@@ -1,9 +1,9 @@
 //! Clones of elements that allocate.
 use crate::checks::{assert_is, assert_texts, check};
-use crate::telling::{make, text_set};
+use crate::telling::make;
 use std::alloc::AllocError;
 use vecmap::VecSet;
-use vecmap_fixtures::has_texts;
+use vecmap_fixtures::{has_texts, text_set};
 
 const TEXTS: &[&str] = &["b", "a"];
 
@@ -14,7 +14,7 @@ fn copy_of<C: Clone>(original: &C) -> Result<C, AllocError> {
 
 #[test]
 fn clones_of_a_set_leave_the_source(rt: HostRuntime) {
-    let set = text_set(&rt, rt.alloc(), TEXTS);
+    let set = make!(rt; text_set(rt.alloc(), TEXTS));
     let room = set.capacity();
     let copy = make!(rt; set.clone());
     assert_texts(&rt, &copy, TEXTS);

@@ -1,7 +1,8 @@
 //! Clones of the iterator that owns its items.
 use crate::checks::{assert_is, check};
-use crate::telling::{make, text_set};
+use crate::telling::make;
 use std::process::Abort;
+use vecmap_fixtures::text_set;
 
 // Asserts that the iterator returned this text.
 fn assert_text(rt: &impl Abort, given: Option<String>, expected: Option<&str>) {
@@ -10,7 +11,7 @@ fn assert_text(rt: &impl Abort, given: Option<String>, expected: Option<&str>) {
 
 #[test]
 fn a_clone_of_elements_leaves_the_original(rt: HostRuntime) {
-    let set = text_set(&rt, rt.alloc(), &["c", "b", "a"]);
+    let set = make!(rt; text_set(rt.alloc(), &["c", "b", "a"]));
     let mut elements = set.into_iter();
     check!(rt; elements.next().is_some());
     let mut copy = make!(rt; elements.clone());

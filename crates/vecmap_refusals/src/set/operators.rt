@@ -1,22 +1,14 @@
 //! Operators on sets whose elements allocate, and on sets whose equal elements are not identical.
-use crate::checks::{assert_items, assert_texts, granted};
-use crate::telling::{full_set, make, tell, text_set};
+use crate::checks::{assert_items, assert_texts};
+use crate::telling::{make, retry};
 use std::alloc::{AllocError, Global};
 use std::process::Abort;
 use vecmap::VecSet;
-use vecmap_fixtures::Item;
+use vecmap_fixtures::{Item, full_set, text_set};
 
 const LEFT: &[&str] = &["c", "b", "a"];
 
 const RIGHT: &[&str] = &["b", "d"];
-
-#[derive(Clone, Copy)]
-enum Operator {
-    And,
-    Or,
-    Xor,
-    Minus,
-}
 
 // Asserts that both operands are unchanged.
 fn assert_left(rt: &impl Abort, a: &VecSet<String>, b: &VecSet<String>) {
@@ -24,97 +16,66 @@ fn assert_left(rt: &impl Abort, a: &VecSet<String>, b: &VecSet<String>) {
     assert_texts(rt, b, RIGHT);
 }
 
-// Applies an operator to two sets of texts.
-fn operate_on_texts(
-    operator: Operator,
-    a: &VecSet<String>,
-    b: &VecSet<String>,
-) -> Result<VecSet<String>, AllocError> {
-    match operator {
-        Operator::And => a & b,
-        Operator::Or => a | b,
-        Operator::Xor => a ^ b,
-        Operator::Minus => a - b,
-    }
-}
-
-// Like `operate_on_texts`. If it is refused, both sets are unchanged, and it is repeated.
-fn operate_or_retry(
-    rt: &(impl Abort + Print),
-    operator: Operator,
-    a: &VecSet<String>,
-    b: &VecSet<String>,
-) -> VecSet<String> {
-    match operate_on_texts(operator, a, b) {
-        Ok(made) => made,
-        Err(AllocError) => {
-            tell(rt);
-            assert_left(rt, a, b);
-            granted(rt, operate_on_texts(operator, a, b))
-        }
-    }
-}
-
-// Checks what an operator makes of both sets, and that it leaves them.
-fn check(rt: &(impl Abort + Print), alloc: Global, operator: Operator, expected: &[&str]) {
-    let a = text_set(rt, alloc, LEFT);
-    let b = text_set(rt, alloc, RIGHT);
-    let made = operate_or_retry(rt, operator, &a, &b);
+// Checks what an operator makes of both sets, and that it leaves them, also if it is refused.
+fn check<F>(rt: &(impl Abort + Print), alloc: Global, operate: F, expected: &[&str])
+where
+    F: Fn(&VecSet<String>, &VecSet<String>) -> Result<VecSet<String>, AllocError> + Drop,
+    requires { F.IsAlwaysCallable operate }
+{
+    let a = make!(rt; text_set(alloc, LEFT));
+    let b = make!(rt; text_set(alloc, RIGHT));
+    let made = retry!(rt; operate(&a, &b), AllocError => {
+        assert_left(rt, &a, &b);
+    });
     assert_texts(rt, &made, expected);
     assert_left(rt, &a, &b);
 }
 
 #[test]
 fn and_leaves_both(rt: HostRuntime) {
-    check(&rt, rt.alloc(), Operator::And, &["b"]);
+    check(&rt, rt.alloc(), |a, b| a & b, &["b"]);
 }
 
 #[test]
 fn or_leaves_both(rt: HostRuntime) {
-    check(&rt, rt.alloc(), Operator::Or, &["c", "b", "a", "d"]);
+    check(&rt, rt.alloc(), |a, b| a | b, &["c", "b", "a", "d"]);
 }
 
 #[test]
 fn xor_leaves_both(rt: HostRuntime) {
-    check(&rt, rt.alloc(), Operator::Xor, &["c", "a", "d"]);
+    check(&rt, rt.alloc(), |a, b| a ^ b, &["c", "a", "d"]);
 }
 
 #[test]
 fn minus_leaves_both(rt: HostRuntime) {
-    check(&rt, rt.alloc(), Operator::Minus, &["c", "a"]);
+    check(&rt, rt.alloc(), |a, b| a - b, &["c", "a"]);
 }
 
-// Applies an operator to two sets with equal elements that are not identical.
-fn operate(
-    operator: Operator,
-    a: &VecSet<Item>,
-    b: &VecSet<Item>,
-) -> Result<VecSet<Item>, AllocError> {
-    match operator {
-        Operator::And => a & b,
-        Operator::Or => a | b,
-        Operator::Xor => a ^ b,
-        Operator::Minus => a - b,
-    }
+// Checks what an operator makes of two sets with equal elements that are not identical, and that it leaves them.
+fn check_items<F>(rt: &(impl Abort + Print), alloc: Global, operate: F, expected: &[(u32, char)])
+where
+    F: Fn(&VecSet<Item>, &VecSet<Item>) -> Result<VecSet<Item>, AllocError> + Drop,
+    requires { F.IsAlwaysCallable operate }
+{
+    let (left, right) = ([(3, 'c'), (2, 'b'), (1, 'a')], [(2, 'z'), (4, 'd')]);
+    let a = make!(rt; full_set(alloc, &left));
+    let b = make!(rt; full_set(alloc, &right));
+    let made = make!(rt; operate(&a, &b));
+    assert_items(rt, &made, expected);
+    assert_items(rt, &a, &left);
+    assert_items(rt, &b, &right);
 }
 
 #[test]
 fn of_two_equal_elements_the_left_one_is_made(rt: HostRuntime) {
-    let (left, right) = ([(3, 'c'), (2, 'b'), (1, 'a')], [(2, 'z'), (4, 'd')]);
-    let a = full_set(&rt, rt.alloc(), &left);
-    let b = full_set(&rt, rt.alloc(), &right);
-    for (operator, wanted) in [
-        (Operator::And, [(2, 'b')].as_slice()),
-        (
-            Operator::Or,
-            [(3, 'c'), (2, 'b'), (1, 'a'), (4, 'd')].as_slice(),
-        ),
-        (Operator::Xor, [(3, 'c'), (1, 'a'), (4, 'd')].as_slice()),
-        (Operator::Minus, [(3, 'c'), (1, 'a')].as_slice()),
-    ] {
-        let made = make!(rt; operate(operator, &a, &b));
-        assert_items(&rt, &made, wanted);
-        assert_items(&rt, &a, &left);
-        assert_items(&rt, &b, &right);
-    }
+    let all = [(3, 'c'), (2, 'b'), (1, 'a'), (4, 'd')];
+    check_items(&rt, rt.alloc(), |a, b| a & b, &[(2, 'b')]);
+    check_items(&rt, rt.alloc(), |a, b| a | b, &all);
+    check_items(
+        &rt,
+        rt.alloc(),
+        |a, b| a ^ b,
+        &[(3, 'c'), (1, 'a'), (4, 'd')],
+    );
+    check_items(&rt, rt.alloc(), |a, b| a - b, &[(3, 'c'), (1, 'a')]);
 }

@@ -1,12 +1,10 @@
 //! Stable sorts of a set. A refused sort leaves the set unchanged.
-use crate::checks::{
-    assert_gives, assert_granted, assert_is, assert_items, assert_list, check, granted,
-};
-use crate::telling::{make, tell};
+use crate::checks::{assert_gives, assert_granted, assert_is, assert_items, assert_list, check};
+use crate::telling::{make, retry};
 use std::alloc::{AllocError, Global};
 use std::process::Abort;
 use vecmap::VecSet;
-use vecmap_fixtures::{Item, item_set, make_item};
+use vecmap_fixtures::{item_set, make_item};
 
 // More elements than a stable sort sorts without allocating.
 const COUNT: u32 = 100;
@@ -35,51 +33,42 @@ fn holds(set: &VecSet<u32>, turned: bool) -> bool {
     set.len() == 100
 }
 
-#[derive(Clone, Copy)]
-enum Sorting {
-    Descending,
-    Ascending,
-    CachedKey,
-}
-
-// Sorts the set by a call.
-fn sort(call: Sorting, set: &mut VecSet<u32>) -> Result<(), AllocError> {
-    match call {
-        Sorting::Descending => set.sort_by(|a, b| b.cmp(a)),
-        Sorting::Ascending => set.sort(),
-        Sorting::CachedKey => set.sort_by_cached_key(|item| *item),
-    }
-}
-
-// Checks a sort that reverses the set. If it is refused, the set is unchanged, and is sorted once more.
-fn check_sort(rt: &(impl Abort + Print), call: Sorting, set: &mut VecSet<u32>, turned: bool) {
+// Checks that a call reverses the set, or leaves it unchanged.
+fn check_sort<F>(rt: &(impl Abort + Print), set: &mut VecSet<u32>, turned: bool, sort: F)
+where
+    F: Fn(&mut VecSet<u32>) -> Result<(), AllocError> + Drop,
+    requires { F.IsAlwaysCallable sort }
+{
     let room = set.capacity();
-    if sort(call, set).is_err() {
-        tell(rt);
+    retry!(rt; sort(set), AllocError => {
         assert_is(rt, (holds(set, turned), set.capacity()), (true, room));
-        granted(rt, sort(call, set));
-    }
+    });
     assert_is(rt, (holds(set, !turned), set.capacity()), (true, room));
 }
 
 #[test]
 fn sort_by_sorts_a_set_or_leaves_it(rt: HostRuntime) {
     let mut set = make!(rt; numbers(rt.alloc(), COUNT));
-    check_sort(&rt, Sorting::Descending, &mut set, false);
+    check_sort(&rt, &mut set, false, |set| set.sort_by(|a, b| b.cmp(a)));
 }
 
 #[test]
 fn sort_sorts_a_set_or_leaves_it(rt: HostRuntime) {
     let mut set = make!(rt; numbers(rt.alloc(), COUNT));
     set.reverse();
-    check_sort(&rt, Sorting::Ascending, &mut set, true);
+    check_sort(&rt, &mut set, true, |set| set.sort());
 }
 
 #[test]
 fn sort_by_cached_key_sorts_a_set_or_leaves_it(rt: HostRuntime) {
     let mut set = make!(rt; numbers(rt.alloc(), COUNT));
     set.reverse();
-    check_sort(&rt, Sorting::CachedKey, &mut set, true);
+    check_sort(
+        &rt,
+        &mut set,
+        true,
+        |set| set.sort_by_cached_key(|item| *item),
+    );
 }
 
 #[test]
@@ -115,25 +104,18 @@ fn sorted(alloc: Global) -> Result<Vec<(u32, char)>, AllocError> {
     Ok(items)
 }
 
-// Sorts the set by the numbers of its elements. If that is refused, the set is unchanged, and is sorted once more.
-fn sort_items(rt: &(impl Abort + Print), set: &mut VecSet<Item>, unchanged: &[(u32, char)]) {
-    let room = set.capacity();
-    if set.sort_by(|a, b| a.number.cmp(&b.number)).is_err() {
-        tell(rt);
-        assert_items(rt, set, unchanged);
-        assert_is(rt, set.capacity(), room);
-        granted(rt, set.sort_by(|a, b| a.number.cmp(&b.number)));
-    }
-    assert_is(rt, set.capacity(), room);
-}
-
 #[test]
 fn sort_by_moves_the_stored_ones_of_equal_elements(rt: HostRuntime) {
     let mixed = make!(rt; mixed(rt.alloc()));
     let sorted = make!(rt; sorted(rt.alloc()));
     let mut set = make!(rt; item_set(rt.alloc(), &mixed));
     assert_gives(&rt, set.insert(make_item(0, 'z')), false);
-    sort_items(&rt, &mut set, &mixed);
+    let room = set.capacity();
+    retry!(rt; set.sort_by(|a, b| a.number.cmp(&b.number)), AllocError => {
+        assert_items(&rt, &set, &mixed);
+        assert_is(&rt, set.capacity(), room);
+    });
+    assert_is(&rt, set.capacity(), room);
     assert_items(&rt, &set, &sorted);
     assert_gives(&rt, set.insert(make_item(99, 'z')), false);
     assert_items(&rt, &set, &sorted);

@@ -1,10 +1,10 @@
 //! A set that is split in two.
-use crate::checks::{assert_gives, assert_granted, assert_is, assert_items, granted};
-use crate::telling::{full_set, tell};
+use crate::checks::{assert_gives, assert_granted, assert_is, assert_items};
+use crate::telling::{make, retry};
 use std::alloc::AllocError;
 use std::process::Abort;
 use vecmap::VecSet;
-use vecmap_fixtures::{Item, make_item};
+use vecmap_fixtures::{Item, full_set, make_item};
 
 const FULL: &[(u32, char)] = &[(1, 'a'), (2, 'b'), (3, 'c')];
 
@@ -13,26 +13,18 @@ const FULL: &[(u32, char)] = &[(1, 'a'), (2, 'b'), (3, 'c')];
 fn split_off(rt: &(impl Abort + Print), set: &mut VecSet<Item>) -> VecSet<Item> {
     assert_is(rt, set.capacity(), 3);
     assert!(*rt; 1 <= set.len());
-    match set.split_off(1) {
-        Ok(part) => {
-            assert_is(rt, set.capacity(), 3);
-            part
-        }
-        Err(AllocError) => {
-            tell(rt);
-            assert_items(rt, set, FULL);
-            assert_is(rt, set.capacity(), 3);
-            assert!(*rt; 1 <= set.len());
-            let part = granted(rt, set.split_off(1));
-            assert_is(rt, set.capacity(), 3);
-            part
-        }
-    }
+    let part = retry!(rt; set.split_off(1), AllocError => {
+        assert_items(rt, set, FULL);
+        assert_is(rt, set.capacity(), 3);
+        assert!(*rt; 1 <= set.len());
+    });
+    assert_is(rt, set.capacity(), 3);
+    part
 }
 
 #[test]
 fn split_off_of_a_set_moves_all_or_nothing(rt: HostRuntime) {
-    let mut set = full_set(&rt, rt.alloc(), FULL);
+    let mut set = make!(rt; full_set(rt.alloc(), FULL));
     let part = split_off(&rt, &mut set);
     assert_items(&rt, &set, &[(1, 'a')]);
     assert_items(&rt, &part, &[(2, 'b'), (3, 'c')]);
@@ -43,7 +35,7 @@ fn split_off_of_a_set_moves_all_or_nothing(rt: HostRuntime) {
 
 #[test]
 fn split_off_moves_the_stored_ones_of_equal_elements(rt: HostRuntime) {
-    let mut set = full_set(&rt, rt.alloc(), FULL);
+    let mut set = make!(rt; full_set(rt.alloc(), FULL));
     assert_gives(&rt, set.insert(make_item(2, 'z')), false);
     let mut part = split_off(&rt, &mut set);
     // Only the second part has an equal element.

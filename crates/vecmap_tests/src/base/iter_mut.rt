@@ -1,7 +1,7 @@
 //! The iterators that lend keys for writing.
 use crate::checks::{assert_list, assert_text, check, granted};
 use vecmap::map::{IterMut2, KeysMut};
-use vecmap_fixtures::pulls_as_list;
+use vecmap_fixtures::{all_ends, pulls_as_list};
 
 const PAIRS: [(u32, u32); 4] = [(1, 10), (2, 20), (3, 30), (4, 40)];
 
@@ -11,11 +11,11 @@ const KEYS: [u32; 4] = [1, 2, 3, 4];
 fn iter_mut2_and_keys_mut_are_exact_for_every_mixture_of_next_and_next_back(rt: HostRuntime) {
     for count in 0..5 {
         let mut pairs = granted(&rt, PAIRS[..count].to_vec(rt.alloc()));
-        for ends in 0..64 {
+        for ends in all_ends() {
             let read = |(key, value): (&mut u32, &mut u32)| (*key, *value);
-            check!(rt; pulls_as_list(IterMut2::over(&mut pairs), read, &PAIRS[..count], ends));
+            check!(rt; pulls_as_list(IterMut2::over(&mut pairs), read, &PAIRS[..count], &ends));
             let read = |key: &mut u32| *key;
-            check!(rt; pulls_as_list(KeysMut::over(&mut pairs), read, &KEYS[..count], ends));
+            check!(rt; pulls_as_list(KeysMut::over(&mut pairs), read, &KEYS[..count], &ends));
         }
     }
 }
