@@ -1,9 +1,6 @@
 -- Lists of clones, index by index, and one more clone that is inserted.
-use Rattle.std.specs.Prelude.{◌≡◌, List, [], ◌∷◌, ◌++◌, fold, map, ◌↔◌}
-use Rattle.std.proofs.Common.{sym, ap, subst, ◌∙◌}
-use Rattle.std.proofs.lemmas.List.{map_push}
-use Rattle.std.proofs.lemmas.List.Elements.{AllZip-push}
-use Rattle.std.proofs.lemmas.List.Sums.{fold_push}
+use Rattle.std.proofs.Common.{◌≡◌, List, [], ◌∷◌, ◌++◌, fold, map, ◌↔◌, sym, ap, subst, ◌∙◌}
+use Rattle.std.proofs.lemmas.{List.map_push, List.Elements.AllZip-push, List.Sums.fold_push}
 use Rattle.vecmap_base.specs.Clones.{AreClones}
 
 module _ {T : Type 0} (is_clone : T → T → Type 0) where

@@ -6,6 +6,7 @@ pub mod EqualityLemmas
 mod Examples
 pub mod ItemsLemmas
 pub mod KeptLemmas
+pub mod LawLemmas
 pub mod MatchingLemmas
 pub mod MoveLemmas
 pub mod PairsLemmas

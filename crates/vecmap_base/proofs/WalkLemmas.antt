@@ -2,12 +2,9 @@
 use Rattle.std.proofs.Common.{◌≡◌, ◌-◌, List, [], ◌∷◌, ◌++◌, Option, None, Some, ap, sym, subst, ◌∙◌, drop, take, length, length-append, map, arith, refl}
 use Rattle.std.proofs.iter.runs.Sources.{as_is, as_is_back, from_back, from_front}
 use Rattle.std.proofs.lemmas.List.{map_push}
-use Rattle.std.specs.Iterator.{YieldsFirstBy, YieldsLastBy}
-use Rattle.std.specs.List.{AllZip, slice_get}
-use Rattle.std.specs.Map.{values_of}
+use Rattle.std.specs.{Iterator.YieldsFirstBy, Iterator.YieldsLastBy, List.AllZip, List.slice_get, Map.values_of}
 use Rattle.std.specs.Map.Iter.{GivesInOrder, GivesInReverse, ShowsInOrder, ShowsInReverse, ShowsValuesInOrder, ShowsValuesInReverse, TakesFirst, TakesLast}
-use Rattle.std.specs.Option.{option_map}
-use Rattle.std.specs.Iterator.Runs.{EveryRun, ItemsMapTo, ItemsMapToReversed}
+use Rattle.std.specs.{Option.option_map, Iterator.Runs.EveryRun, Iterator.Runs.ItemsMapTo, Iterator.Runs.ItemsMapToReversed}
 use Rattle.vecmap_base.specs.Walks.{End, back, front, Pulls, PullsBy, TakesFirstOf, TakesLastOf}
 
 -- Each run shows the list that was left.

@@ -1,19 +1,14 @@
-//! Queries that match keys or elements, and the searches by a query.
+//! Queries that match keys or elements.
 ghost use Rattle.std.proofs.Common.{sym, ◌∙◌};
 ghost use Rattle.std.proofs.lemmas.Bool.{and_parts};
-ghost use Rattle.std.specs.Prelude.{◌≡◌, ◌&&◌, ◌<◌, Bool, IfSome, IsTrue, bytes_eq, length, position, string_bytes};
+ghost use Rattle.std.specs.Prelude.{◌≡◌, ◌&&◌, Bool, IsTrue, bytes_eq, string_bytes};
 ghost use Rattle.std.specs.Arc.{arc_slice_items, arc_str_bytes};
 ghost use Rattle.std.specs.Box.{boxed_slice_items, boxed_str_bytes};
 ghost use Rattle.std.specs.Cmp.Lexicographic.{lists_equiv, nat_list_eq_equiv, pointwise};
 ghost use Rattle.std.specs.Cow.{cow_str_bytes};
-ghost use Rattle.std.specs.List.{list_any};
 ghost use Rattle.std.specs.Rc.{rc_slice_items, rc_str_bytes};
-ghost use Rattle.vecmap_base.specs.Pairs.{has_text, index_by};
+ghost use Rattle.vecmap_base.specs.Pairs.{has_text};
 
-use crate::unrolled::{
-    MIN_LENGTH_FOR_BLOCKS, MIN_LENGTH_FOR_EIGHTS, find_by_eights, find_item_unrolled,
-    find_pair_unrolled, is_any_in_blocks, is_small,
-};
 use std::borrow::CowStr;
 use std::boxed::{BoxedSlice, BoxedStr};
 use std::ops::Deref;
@@ -238,103 +233,4 @@ impl<A: Eq, B: Eq, P: Equivalent<A>, Q: Equivalent<B>> Equivalent<(A, B)> for (P
 
     // Each of the two queries respects the equality of its own keys.
     ghost respects_eq = { λ query x y h. let both = and_parts (P.equivalent query.0 x.0) (Q.equivalent query.1 x.1) h in λ j. P.respects_eq query.0 x.0 y.0 both.0 j && Q.respects_eq query.1 x.1 y.1 both.1 j };
-}
-
-/// Returns the index of the first pair whose key matches `query`.
-///
-/// # Complexity
-///
-/// At most `pairs.len()` comparisons.
-///
-/// # Examples
-///
-/// ```
-/// find_equivalent(&[("a", 1), ("b", 2)], "b") // Some(1)
-/// ```
-pub fn find_equivalent<K: Eq, V, Q: Equivalent<K>>(pairs: &[(K, V)], query: Q) -> Option<usize>
-    ensures place { result ≡ index_by (Q.equivalent query) pairs.now }
-    ensures within { IfSome result (λ i. i < length pairs.now) }
-{
-    if pairs.first().is_some_and(|pair| is_small(&pair.0)) {
-        return find_pair_unrolled(
-            pairs,
-            |key: &K| -> bool
-                ensures { result ≡ Q.equivalent query key.now }
-            { query.equivalent(key) },
-        );
-    }
-    pairs.iter().position(|pair| query.equivalent(&pair.0))
-}
-
-/// Returns the index of the first item that matches `query`.
-///
-/// # Complexity
-///
-/// At most `items.len()` comparisons. Among 32 items or more, of at most 8 bytes each, up to seven of them come after the
-/// one that matches.
-///
-/// # Examples
-///
-/// ```
-/// find_item_equivalent(&["a", "b"], "b") // Some(1)
-/// ```
-#[inline]
-pub fn find_item_equivalent<T: Eq, Q: Equivalent<T>>(items: &[T], query: Q) -> Option<usize>
-    ensures place { result ≡ position (Q.equivalent query) items.now }
-    ensures within { IfSome result (λ i. i < length items.now) }
-{
-    if items.len() >= MIN_LENGTH_FOR_BLOCKS && items.first().is_some_and(is_small) {
-        if items.len() >= MIN_LENGTH_FOR_EIGHTS {
-            return find_item_of_many(items, query);
-        }
-        return find_item_unrolled(
-            items,
-            |item: &T| -> bool
-                ensures { result ≡ Q.equivalent query item.now }
-            { query.equivalent(item) },
-        );
-    }
-    items.iter().position(|item| query.equivalent(item))
-}
-
-// Returns the index of the first of many small items that matches `query`. It is not inlined, so that the search of a
-// short list is.
-#[inline(never)]
-fn find_item_of_many<T: Eq, Q: Equivalent<T>>(items: &[T], query: Q) -> Option<usize>
-    ensures place { result ≡ position (Q.equivalent query) items.now }
-    ensures within { IfSome result (λ i. i < length items.now) }
-{
-    find_by_eights(
-        items,
-        |item: &T| -> bool
-            ensures { result ≡ Q.equivalent query item.now }
-        { query.equivalent(item) },
-    )
-}
-
-/// Returns `true` if one of `items` matches `query`.
-///
-/// # Complexity
-///
-/// At most `items.len()` comparisons. Among eight items or more, of at most 8 bytes each, up to seven of them come after
-/// the first that matches.
-///
-/// # Examples
-///
-/// ```
-/// is_in_equivalent(&["a", "b"], "c") // false
-/// ```
-#[inline]
-pub fn is_in_equivalent<T: Eq, Q: Equivalent<T>>(items: &[T], query: Q) -> bool
-    ensures { result ≡ list_any (Q.equivalent query) items.now }
-{
-    if items.len() >= MIN_LENGTH_FOR_BLOCKS && items.first().is_some_and(is_small) {
-        return is_any_in_blocks(
-            items,
-            |item: &T| -> bool
-                ensures { result ≡ Q.equivalent query item.now }
-            { query.equivalent(item) },
-        );
-    }
-    items.iter().any(|item| query.equivalent(item))
 }

@@ -1,4 +1,5 @@
-//! The iterators over a map's pairs, keys and values, by reference and by value.
+//! The iterators over a map's pairs, keys and values and over a set's elements, by reference and by value.
+pub(crate) mod elements;
 mod keys;
 mod pairs;
 mod values;

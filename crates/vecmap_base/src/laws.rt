@@ -11,6 +11,7 @@ ghost use Rattle.vecmap_base.specs.Walks.{End, Pulls, PullsBy, TakesFirstOf, Tak
 /// Bounds the number of comparisons that a removal of repeats makes.
 ///
 /// It is at most one comparison for each two elements, and exactly as many if no two elements are equal.
+#[tactic(auto, using(crate::proofs::LawLemmas::comparisons_are_bounded))]
 pub fn comparisons_are_bounded<T: Eq>()
     ensures at_most { (xs : List T) → comparisons T.eq xs ≤ cost (length xs) }
     ensures exact_if_distinct { (xs : List T) → IsDistinct T.eq xs
@@ -18,6 +19,7 @@ pub fn comparisons_are_bounded<T: Eq>()
 {}
 
 /// Like [`comparisons_are_bounded`], for pairs, whose keys are compared.
+#[tactic(auto, using(crate::proofs::LawLemmas::key_comparisons_are_bounded))]
 pub fn key_comparisons_are_bounded<K: Eq, V>()
     ensures at_most { (l : List (K × V)) → comparisons K.eq (keys_of l) ≤ cost (length l) }
     ensures exact_if_distinct { (l : List (K × V)) → HasDistinctKeys K.eq l

@@ -8,7 +8,6 @@ mod distinct;
 mod drain;
 mod equality;
 mod equivalent;
-pub mod items;
 mod iter;
 mod iter_mut;
 pub mod laws;
@@ -26,10 +25,13 @@ mod unrolled;
 pub use distinct::{items_distinct, keys_distinct};
 pub use drain::{move_range_last, reverse_from};
 pub use equality::pairs_equal;
-pub use equivalent::{Equivalent, find_equivalent, find_item_equivalent, is_in_equivalent};
+pub use equivalent::Equivalent;
 pub use iter::{IntoIter, IntoKeys, IntoValues, Iter, Keys, Values};
 pub use iter_mut::{IterMut, IterMut2, KeysMut, ValuesMut};
-pub use lookup::{find, find_item, find_item_str, find_str, is_in};
+pub use lookup::{
+    find, find_equivalent, find_item, find_item_equivalent, find_item_str, find_str, is_in,
+    is_in_equivalent,
+};
 pub use moving::{put_in, replace_and_move, take_out};
 pub use refused::Refused;
 pub use relations::{are_apart, are_within};
@@ -37,3 +39,8 @@ pub use repeats::{dedup_keep_first, dedup_keep_last_value, gather_items, gather_
 pub use retain::{retain_items, retain_pairs, retain_pairs_mut};
 pub use search::{partition_point, search_by_index, search_items_by_key, search_pairs_by_key};
 pub use steps::Steps;
+
+/// The iterators over a set's elements.
+pub mod items {
+    pub use crate::iter::elements::{IntoIter, Iter};
+}

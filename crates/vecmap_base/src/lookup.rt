@@ -1,9 +1,14 @@
-//! Searches of a slice for the first equal key or item, and for the first with the bytes of a text.
+//! Searches of a slice for the first key or item that is equal to one, has the bytes of a text, or matches a query.
 ghost use Rattle.std.specs.Prelude.{◌≡◌, ◌<◌, IfSome, length, position};
+ghost use Rattle.std.specs.List.{list_any};
 ghost use Rattle.vecmap_base.specs.Items.{has_item, item_index};
 ghost use Rattle.vecmap_base.specs.Pairs.{has_text, index_by, index_of};
 
-use crate::equivalent::{find_equivalent, find_item_equivalent, is_in_equivalent};
+use crate::equivalent::Equivalent;
+use crate::unrolled::{
+    MIN_LENGTH_FOR_BLOCKS, MIN_LENGTH_FOR_EIGHTS, find_by_eights, find_item_unrolled,
+    find_pair_unrolled, is_any_in_blocks, is_small,
+};
 
 /// Returns the index of the first pair whose key is equal to `key`.
 ///
@@ -94,4 +99,103 @@ pub fn is_in<T: Eq>(items: &[T], item: &T) -> bool
     ensures { result ≡ has_item T.eq items.now item.now }
 {
     is_in_equivalent(items, item)
+}
+
+/// Returns the index of the first pair whose key matches `query`.
+///
+/// # Complexity
+///
+/// At most `pairs.len()` comparisons.
+///
+/// # Examples
+///
+/// ```
+/// find_equivalent(&[("a", 1), ("b", 2)], "b") // Some(1)
+/// ```
+pub fn find_equivalent<K: Eq, V, Q: Equivalent<K>>(pairs: &[(K, V)], query: Q) -> Option<usize>
+    ensures place { result ≡ index_by (Q.equivalent query) pairs.now }
+    ensures within { IfSome result (λ i. i < length pairs.now) }
+{
+    if pairs.first().is_some_and(|pair| is_small(&pair.0)) {
+        return find_pair_unrolled(
+            pairs,
+            |key: &K| -> bool
+                ensures { result ≡ Q.equivalent query key.now }
+            { query.equivalent(key) },
+        );
+    }
+    pairs.iter().position(|pair| query.equivalent(&pair.0))
+}
+
+/// Returns the index of the first item that matches `query`.
+///
+/// # Complexity
+///
+/// At most `items.len()` comparisons. Among 32 items or more, of at most 8 bytes each, up to seven of them come after the
+/// one that matches.
+///
+/// # Examples
+///
+/// ```
+/// find_item_equivalent(&["a", "b"], "b") // Some(1)
+/// ```
+#[inline]
+pub fn find_item_equivalent<T: Eq, Q: Equivalent<T>>(items: &[T], query: Q) -> Option<usize>
+    ensures place { result ≡ position (Q.equivalent query) items.now }
+    ensures within { IfSome result (λ i. i < length items.now) }
+{
+    if items.len() >= MIN_LENGTH_FOR_BLOCKS && items.first().is_some_and(is_small) {
+        if items.len() >= MIN_LENGTH_FOR_EIGHTS {
+            return find_item_of_many(items, query);
+        }
+        return find_item_unrolled(
+            items,
+            |item: &T| -> bool
+                ensures { result ≡ Q.equivalent query item.now }
+            { query.equivalent(item) },
+        );
+    }
+    items.iter().position(|item| query.equivalent(item))
+}
+
+// Returns the index of the first of many small items that matches `query`. It is not inlined, so that the search of a
+// short list is.
+#[inline(never)]
+fn find_item_of_many<T: Eq, Q: Equivalent<T>>(items: &[T], query: Q) -> Option<usize>
+    ensures place { result ≡ position (Q.equivalent query) items.now }
+    ensures within { IfSome result (λ i. i < length items.now) }
+{
+    find_by_eights(
+        items,
+        |item: &T| -> bool
+            ensures { result ≡ Q.equivalent query item.now }
+        { query.equivalent(item) },
+    )
+}
+
+/// Returns `true` if one of `items` matches `query`.
+///
+/// # Complexity
+///
+/// At most `items.len()` comparisons. Among eight items or more, of at most 8 bytes each, up to seven of them come after
+/// the first that matches.
+///
+/// # Examples
+///
+/// ```
+/// is_in_equivalent(&["a", "b"], "c") // false
+/// ```
+#[inline]
+pub fn is_in_equivalent<T: Eq, Q: Equivalent<T>>(items: &[T], query: Q) -> bool
+    ensures { result ≡ list_any (Q.equivalent query) items.now }
+{
+    if items.len() >= MIN_LENGTH_FOR_BLOCKS && items.first().is_some_and(is_small) {
+        return is_any_in_blocks(
+            items,
+            |item: &T| -> bool
+                ensures { result ≡ Q.equivalent query item.now }
+            { query.equivalent(item) },
+        );
+    }
+    items.iter().any(|item| query.equivalent(item))
 }

@@ -49,6 +49,8 @@ pub struct Drain<'a, K, V> {
 impl<'a, K: Drop, V: Drop> Drain<'a, K, V> {
     /// Creates the drain of the pairs from the index `start` up to, but not including, `end`.
     ///
+    /// [`VecMap::drain`] is the usual call, and calls it. This one is for callers that have two indices, and no range.
+    ///
     /// # Conditions
     ///
     /// `start` is at most `end`, and `end` is at most the number of pairs.

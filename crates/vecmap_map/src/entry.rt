@@ -71,7 +71,10 @@ impl<'a, K, V> Entry<'a, K, V> {
     ghost use Rattle.vecmap_map.specs.Entry.{IsInserted, LeavesSame, RefusesMade, entries_with, entry_index, entry_key, entry_map, entry_place, entry_ref, entry_value};
     ghost use Rattle.vecmap_map.specs.EntryLends.{entry_lends, entry_lends_or_stays, entry_passes};
 
-    /// Creates the entry of `key` in `map`. [`VecMap::entry`] calls it.
+    /// Creates the entry of `key` in `map`.
+    ///
+    /// [`VecMap::entry`] is the usual call, and calls it. This one is for callers that create entries by their type, as
+    /// iterators by their `over`.
     ///
     /// # Examples
     ///

@@ -49,6 +49,8 @@ pub struct Drain<'a, T: Eq> {
 impl<'a, T: Eq + Drop> Drain<'a, T> {
     /// Creates the drain of the elements from the index `start` up to, but not including, `end`.
     ///
+    /// [`VecSet::drain`] is the usual call, and calls it. This one is for callers that have two indices, and no range.
+    ///
     /// # Conditions
     ///
     /// `start` is at most `end`, and `end` is at most the number of elements.

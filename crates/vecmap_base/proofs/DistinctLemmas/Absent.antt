@@ -1,10 +1,7 @@
 -- Elements that are equal to no element of a list.
-use Rattle.std.specs.Prelude.{◌≡◌, Bool, false, ◌||◌, List, [], ◌∷◌, ◌++◌, refl}
-use Rattle.std.specs.Cmp.{IsEquivalence}
-use Rattle.std.specs.List.{IsDistinct, AllByRecursion, list_any}
-use Rattle.std.proofs.Common.{sym, ap, ◌∙◌, true≢false, inl, inr}
-use Rattle.std.proofs.lemmas.Bool.{cases_Bool}
-use Rattle.std.proofs.lemmas.Map.Keys.{IsDistinct-cons}
+use Rattle.std.specs.{Cmp.IsEquivalence, List.IsDistinct, List.AllByRecursion, List.list_any}
+use Rattle.std.proofs.Common.{◌≡◌, Bool, false, ◌||◌, List, [], ◌∷◌, ◌++◌, refl, sym, ap, ◌∙◌, true≢false, inl, inr}
+use Rattle.std.proofs.lemmas.{Bool.cases_Bool, Map.Keys.IsDistinct-cons}
 
 module _ {T : Type 0} (eq : T → T → Bool) where
   pub distinct_none : IsDistinct eq []

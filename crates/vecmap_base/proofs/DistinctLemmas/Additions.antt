@@ -1,20 +1,11 @@
 -- Insertions that keep a list distinct.
-use Rattle.std.specs.Prelude.{◌≡◌, ℕ, ◌<◌, Bool, true, false, ◌||◌, List, [], ◌∷◌, ◌++◌, Option, None, Some, if◌then◌else◌, insert, is_some, length, slice_set, suc, zero, refl}
-use Rattle.std.specs.Cmp.{IsEquivalence}
-use Rattle.std.specs.List.{IsDistinct, AllByRecursion, list_any}
-use Rattle.std.specs.Option.{option_map_or}
-use Rattle.std.proofs.Common.{sym, ap, ◌∙◌, subst, get_or, true≢false, arith}
-use Rattle.std.proofs.lemmas.Bool.{false_from_ne_true, or_left, or_right}
-use Rattle.std.proofs.lemmas.List.{append-nil, append_assoc}
-use Rattle.std.proofs.lemmas.List.Folds.{list_any-append}
-use Rattle.std.proofs.lemmas.List.Quantifiers.{position-Some}
-use Rattle.std.proofs.lemmas.List.Sorted.{IsPermutation-insert}
-use Rattle.std.proofs.lemmas.Map.Keys.{IsDistinct-head, IsDistinct-tail, IsDistinct-push}
-use Rattle.std.proofs.lemmas.Map.Steps.{list_any_congr}
+use Rattle.std.specs.{Cmp.IsEquivalence, List.IsDistinct, List.AllByRecursion, List.list_any, Option.option_map_or}
+use Rattle.std.proofs.Common.{◌≡◌, ℕ, ◌<◌, Bool, true, false, ◌||◌, List, [], ◌∷◌, ◌++◌, Option, None, Some, if◌then◌else◌, insert, is_some, length, slice_set, suc, zero, refl, sym, ap, ◌∙◌, subst, get_or, true≢false, arith}
+use Rattle.std.proofs.lemmas.{Bool.false_from_ne_true, Bool.or_left, Bool.or_right, List.append-nil, List.append_assoc, List.Folds.list_any-append, List.Quantifiers.position-Some}
+use Rattle.std.proofs.lemmas.{List.Sorted.IsPermutation-insert, Map.Keys.IsDistinct-head, Map.Keys.IsDistinct-tail, Map.Keys.IsDistinct-push, Map.Steps.list_any_congr}
 use Rattle.vecmap_base.specs.Items.{add, add_new, adds, has_item, item_index}
 use Rattle.vecmap_base.proofs.PlaceLemmas.{is_some_position}
-use Rattle.vecmap_base.proofs.DistinctLemmas.Absent.{distinct_if_absent, none_equal}
-use Rattle.vecmap_base.proofs.DistinctLemmas.Order.{distinct_rearranged}
+use Rattle.vecmap_base.proofs.DistinctLemmas.{Absent.distinct_if_absent, Absent.none_equal, Order.distinct_rearranged}
 
 module _ {T : Type 0} (eq : T → T → Bool) (o : IsEquivalence eq) where
   -- A list stays distinct if an element is inserted that is equal to none of it.

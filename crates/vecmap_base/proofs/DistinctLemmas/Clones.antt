@@ -1,8 +1,6 @@
 -- The clones of distinct elements, each equal to its original, are distinct.
-use Rattle.std.specs.Prelude.{◌≡◌, Bool, false, List, [], ◌∷◌}
-use Rattle.std.specs.Cmp.{IsEquivalence}
-use Rattle.std.specs.List.{IsDistinct, AllByRecursion}
-use Rattle.std.proofs.Common.{sym, ◌∙◌}
+use Rattle.std.specs.{Cmp.IsEquivalence, List.IsDistinct, List.AllByRecursion}
+use Rattle.std.proofs.Common.{◌≡◌, Bool, false, List, [], ◌∷◌, sym, ◌∙◌}
 use Rattle.vecmap_base.specs.Clones.{AreClones, ClonesAreSame}
 
 module _ {T : Type 0} (eq : T → T → Bool) (o : IsEquivalence eq) where

@@ -1,28 +1,15 @@
 -- Keys that are distinct stay distinct in the lists that calls leave.
-use Rattle.std.specs.Prelude.{◌≡◌, ℕ, ◌-◌, ◌<◌, Bool, false, List, [], ◌∷◌, ◌++◌, Option, None, Some, IsTrue, insert, is_some, length, min, remove, reverse, slice_get, swap, take, refl}
-use Rattle.std.specs.Cmp.{IsEquivalence}
-use Rattle.std.specs.List.{IsDistinct, list_any, swap_remove}
-use Rattle.std.specs.List.Sorted.{IsPermutation}
-use Rattle.std.specs.Map.{keys_of}
-use Rattle.std.specs.Option.{option_map_or}
-use Rattle.std.proofs.Common.{sym, ap, subst, get_or, ◌∙◌}
-use Rattle.std.proofs.lemmas.List.{take-map}
-use Rattle.std.proofs.lemmas.List.Sorted.{IsPermutation-map, IsPermutation-reverse, IsPermutation-swap, IsPermutation-swap_remove}
-use Rattle.std.proofs.lemmas.Map.Keys.{IsDistinct-tail}
-use Rattle.std.proofs.lemmas.Map.Steps.{list_any_congr}
-use Rattle.std.proofs.lemmas.Option.{get_or_from_slice_get, slice_get_within}
-use Rattle.vecmap_base.specs.Clones.{AreClones, ClonesAreSame, IsPairClone}
-use Rattle.vecmap_base.specs.Items.{has_item, swap_without, without_item}
+use Rattle.std.specs.{Cmp.IsEquivalence, List.IsDistinct, List.list_any, List.swap_remove, List.Sorted.IsPermutation, Map.keys_of, Option.option_map_or}
+use Rattle.std.proofs.Common.{◌≡◌, ℕ, ◌-◌, ◌<◌, Bool, false, List, [], ◌∷◌, ◌++◌, Option, None, Some, IsTrue, insert, is_some, length, min, remove, reverse, slice_get, swap, take, refl, sym, ap, subst, get_or, ◌∙◌}
+use Rattle.std.proofs.lemmas.{List.take-map, List.Sorted.IsPermutation-map, List.Sorted.IsPermutation-reverse, List.Sorted.IsPermutation-swap, List.Sorted.IsPermutation-swap_remove}
+use Rattle.std.proofs.lemmas.{Map.Keys.IsDistinct-tail, Map.Steps.list_any_congr, Option.get_or_from_slice_get, Option.slice_get_within}
+use Rattle.vecmap_base.specs.{Clones.AreClones, Clones.ClonesAreSame, Clones.IsPairClone, Items.has_item, Items.swap_without, Items.without_item}
 use Rattle.vecmap_base.specs.Pairs.{HasDistinctKeys, index_by, index_of, put, put_at, put_key, puts, swap_without_by, swap_without_key, with_value, without_by}
 use Rattle.vecmap_base.proofs.ItemsLemmas.Removals.{without_item_absent}
 use Rattle.vecmap_base.proofs.PairsLemmas.Keys.{index_of_is, keys_of_insert, keys_of_put, keys_of_put_key, keys_of_puts, keys_of_remove}
-use Rattle.vecmap_base.proofs.PairsLemmas.Places.{index_of_none, is_some_index_of}
-use Rattle.vecmap_base.proofs.PairsLemmas.Puts.{put_absent, put_at_absent, put_at_present}
-use Rattle.vecmap_base.proofs.PairsLemmas.Values.{keys_of_with_value}
+use Rattle.vecmap_base.proofs.PairsLemmas.{Places.index_of_none, Places.is_some_index_of, Puts.put_absent, Puts.put_at_absent, Puts.put_at_present, Values.keys_of_with_value}
 use Rattle.vecmap_base.proofs.PlaceLemmas.{is_some_position}
-use Rattle.vecmap_base.proofs.DistinctLemmas.Additions.{distinct_add, distinct_add_new, distinct_adds, distinct_insert}
-use Rattle.vecmap_base.proofs.DistinctLemmas.Clones.{distinct_clones}
-use Rattle.vecmap_base.proofs.DistinctLemmas.Order.{distinct_rearranged}
+use Rattle.vecmap_base.proofs.DistinctLemmas.{Additions.distinct_add, Additions.distinct_add_new, Additions.distinct_adds, Additions.distinct_insert, Clones.distinct_clones, Order.distinct_rearranged}
 use Rattle.vecmap_base.proofs.DistinctLemmas.Removals.{distinct_remove, distinct_take}
 
 -- Clones of pairs have clones of their keys.

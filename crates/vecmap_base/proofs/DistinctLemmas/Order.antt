@@ -1,14 +1,8 @@
 -- A distinct list in another order is distinct.
-use Rattle.std.specs.Prelude.{◌≡◌, ℕ, ◌<◌, Bool, List, ◌∷◌, ◌++◌, Option, None, Some, drop, length, reverse, slice_get, swap, take, refl}
-use Rattle.std.specs.Cmp.{IsEquivalence}
-use Rattle.std.specs.List.{IsDistinct, swap_remove}
-use Rattle.std.specs.List.Sorted.{IsPermutation}
-use Rattle.std.specs.Option.{option_map_or}
-use Rattle.std.proofs.Common.{sym, get_or}
-use Rattle.std.proofs.lemmas.List.{take-append-drop}
-use Rattle.std.proofs.lemmas.List.Sorted.{IsPermutation-append_right, IsPermutation-reverse, IsPermutation-swap, IsPermutation-swap_remove}
-use Rattle.std.proofs.lemmas.Map.Keys.{IsDistinct-tail, IsDistinct-IsPermutation}
-use Rattle.std.proofs.lemmas.Option.{get_or_from_slice_get, slice_get_within}
+use Rattle.std.specs.{Cmp.IsEquivalence, List.IsDistinct, List.swap_remove, List.Sorted.IsPermutation, Option.option_map_or}
+use Rattle.std.proofs.Common.{◌≡◌, ℕ, ◌<◌, Bool, List, ◌∷◌, ◌++◌, Option, None, Some, drop, length, reverse, slice_get, swap, take, refl, sym, get_or}
+use Rattle.std.proofs.lemmas.{List.take-append-drop, List.Sorted.IsPermutation-append_right, List.Sorted.IsPermutation-reverse, List.Sorted.IsPermutation-swap, List.Sorted.IsPermutation-swap_remove}
+use Rattle.std.proofs.lemmas.{Map.Keys.IsDistinct-tail, Map.Keys.IsDistinct-IsPermutation, Option.get_or_from_slice_get, Option.slice_get_within}
 use Rattle.vecmap_base.specs.Items.{swap_without}
 
 module _ {T : Type 0} (eq : T → T → Bool) (o : IsEquivalence eq) where

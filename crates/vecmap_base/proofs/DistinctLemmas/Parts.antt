@@ -1,14 +1,9 @@
 -- Distinct keys stay distinct in parts of a list, without one of them, and in what a closure that writes no key keeps.
-use Rattle.std.specs.Prelude.{◌≡◌, ℕ, ◌≤◌, ◌-◌, Bool, true, false, List, [], ◌∷◌, ◌++◌, drop, filter, if◌then◌else◌, refl, slice_range, take}
-use Rattle.std.specs.List.{IsDistinct, remove_range}
-use Rattle.std.specs.Map.{keys_of}
-use Rattle.std.proofs.Common.{ap, subst, sym, ◌∙◌}
-use Rattle.std.proofs.lemmas.List.{drop-map, map-append, take-map}
-use Rattle.std.proofs.lemmas.Map.Made.{IsDistinct-keys_filter}
-use Rattle.vecmap_base.specs.Kept.{Kept}
-use Rattle.vecmap_base.specs.Pairs.{HasDistinctKeys}
-use Rattle.vecmap_base.proofs.DistinctLemmas.Keys.{distinct_keys_take}
-use Rattle.vecmap_base.proofs.DistinctLemmas.Removals.{distinct_drop, distinct_kept, distinct_remove_range}
+use Rattle.std.specs.{List.IsDistinct, List.remove_range, Map.keys_of}
+use Rattle.std.proofs.Common.{◌≡◌, ℕ, ◌≤◌, ◌-◌, Bool, true, false, List, [], ◌∷◌, ◌++◌, drop, filter, if◌then◌else◌, refl, slice_range, take, ap, subst, sym, ◌∙◌}
+use Rattle.std.proofs.lemmas.{List.drop-map, List.map-append, List.take-map, Map.Made.IsDistinct-keys_filter}
+use Rattle.vecmap_base.specs.{Kept.Kept, Pairs.HasDistinctKeys}
+use Rattle.vecmap_base.proofs.DistinctLemmas.{Keys.distinct_keys_take, Removals.distinct_drop, Removals.distinct_kept, Removals.distinct_remove_range}
 
 module _ {K V : Type 0} (eq : K → K → Bool) where
   pub distinct_keys_drop : (l : List (K × V)) (n : ℕ) → HasDistinctKeys eq l → HasDistinctKeys eq (drop n l)

@@ -1,10 +1,7 @@
 -- What is left of a distinct list is distinct.
-use Rattle.std.specs.Prelude.{◌≡◌, ℕ, ◌+◌, ◌≤◌, Bool, true, false, List, [], ◌∷◌, ◌++◌, drop, filter, if◌then◌else◌, remove, suc, take}
 use Rattle.std.specs.List.{between, IsDistinct, AllByRecursion, remove_range}
-use Rattle.std.proofs.Common.{sym, subst, arith}
-use Rattle.std.proofs.lemmas.List.{take-append-drop}
-use Rattle.std.proofs.lemmas.List.Edits.{split_between}
-use Rattle.std.proofs.lemmas.Map.Keys.{IsDistinct-tail}
+use Rattle.std.proofs.Common.{◌≡◌, ℕ, ◌+◌, ◌≤◌, Bool, true, false, List, [], ◌∷◌, ◌++◌, drop, filter, if◌then◌else◌, remove, suc, take, sym, subst, arith}
+use Rattle.std.proofs.lemmas.{List.take-append-drop, List.Edits.split_between, Map.Keys.IsDistinct-tail}
 use Rattle.vecmap_base.specs.Kept.{Kept}
 
 module _ {T : Type 0} (eq : T → T → Bool) where

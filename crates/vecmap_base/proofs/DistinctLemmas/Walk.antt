@@ -1,9 +1,7 @@
 -- The steps of a loop that tests a list for repeats.
-use Rattle.std.specs.Prelude.{◌≡◌, ◌↔◌, ℕ, ◌+◌, ◌<◌, ◌≤◌, Bool, true, false, List, ◌∷◌, drop, length}
 use Rattle.std.specs.List.{IsDistinct, list_any}
-use Rattle.std.proofs.Common.{sym, ap, ◌∙◌, subst, get_or, true≢false}
-use Rattle.std.proofs.lemmas.List.{drop_more, drop_all}
-use Rattle.std.proofs.lemmas.Map.Keys.{IsDistinct-head, IsDistinct-tail}
+use Rattle.std.proofs.Common.{◌≡◌, ◌↔◌, ℕ, ◌+◌, ◌<◌, ◌≤◌, Bool, true, false, List, ◌∷◌, drop, length, sym, ap, ◌∙◌, subst, get_or, true≢false}
+use Rattle.std.proofs.lemmas.{List.drop_more, List.drop_all, Map.Keys.IsDistinct-head, Map.Keys.IsDistinct-tail}
 use Rattle.vecmap_base.proofs.DistinctLemmas.Absent.{distinct_if_absent, distinct_none, none_equal}
 
 module _ {T : Type 0} (eq : T → T → Bool) where

@@ -1,9 +1,6 @@
 -- Worked examples: calls of closures over the keys and values of pairs.
-use Rattle.std.specs.Prelude.{◌≡◌, ℕ, ◌+◌, ◌<◌, Bool, true, List, [], ◌∷◌, ◌++◌, ⊤, length, refl}
-use Rattle.std.specs.Borrow.{Bor, MutBor}
-use Rattle.std.specs.Fn.{Mut}
-use Rattle.std.specs.List.{FoldsTo}
-use Rattle.std.proofs.Common.{ap, arith, length-append}
+use Rattle.std.specs.{Prelude.⊤, Borrow.Bor, Borrow.MutBor, Fn.Mut, List.FoldsTo}
+use Rattle.std.proofs.Common.{◌≡◌, ℕ, ◌+◌, ◌<◌, Bool, true, List, [], ◌∷◌, ◌++◌, length, refl, ap, arith, length-append}
 use Rattle.vecmap_base.specs.Asked.{CallableOnEach, CallsAtPair, CallsAtPairMut, SomeCall, TakesPairMut}
 
 -- The references to a number.

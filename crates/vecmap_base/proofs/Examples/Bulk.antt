@@ -1,7 +1,6 @@
 -- Worked examples: an iterator that gives the elements of a list in order.
-use Rattle.std.specs.Prelude.{◌≡◌, ℕ, ◌+◌, ◌≤◌, List, [], ◌∷◌, None, Option, Some, length, refl}
 use Rattle.std.specs.Iterator.{at_most, endless}
-use Rattle.std.proofs.Common.{arith, subst, sym}
+use Rattle.std.proofs.Common.{◌≡◌, ℕ, ◌+◌, ◌≤◌, List, [], ◌∷◌, None, Option, Some, length, refl, arith, subst, sym}
 use Rattle.vecmap_base.specs.Bulk.{HasRoomForAll, StopsAt}
 
 -- A list becomes the iterator of its elements.

@@ -1,7 +1,6 @@
 -- Worked examples: clones that are identical to their originals.
-use Rattle.std.specs.Prelude.{◌≡◌, ℕ, [], ◌∷◌, None, Some, IsTrue, nat_eq, refl}
 use Rattle.std.specs.Cmp.{nat_eq_equiv}
-use Rattle.std.proofs.Common.{subst}
+use Rattle.std.proofs.Common.{◌≡◌, ℕ, [], ◌∷◌, None, Some, IsTrue, nat_eq, refl, subst}
 use Rattle.vecmap_base.specs.Clones.{AreClones, ClonesAreSame, IsCloneOf, IsPairClone}
 use Rattle.vecmap_base.proofs.Examples.Tagged.{a, b, c, letters}
 

@@ -1,5 +1,5 @@
 -- Worked examples: equality of maps, also of lists with repeats.
-use Rattle.std.specs.Prelude.{◌≡◌, ℕ, Bool, true, false, ◌&&◌, not, List, [], ◌∷◌, None, Some, nat_eq, refl}
+use Rattle.std.proofs.Common.{◌≡◌, ℕ, Bool, true, false, ◌&&◌, not, List, [], ◌∷◌, None, Some, nat_eq, refl}
 use Rattle.vecmap_base.specs.Equality.{agrees, count, counts_agree, free, has_same_counts, lookups_agree, same_option, same_pair}
 use Rattle.vecmap_base.proofs.Examples.Tagged.{one_x, one_y, same_number}
 

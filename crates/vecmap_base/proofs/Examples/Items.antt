@@ -1,5 +1,5 @@
 -- Worked examples: sets. Elements are numbers, or numbers with a letter that are compared by the number alone.
-use Rattle.std.specs.Prelude.{◌≡◌, ℕ, true, false, [], ◌∷◌, ◌++◌, Some, nat_eq, nat_lt, refl}
+use Rattle.std.proofs.Common.{◌≡◌, ℕ, true, false, [], ◌∷◌, ◌++◌, Some, nat_eq, nat_lt, refl}
 use Rattle.vecmap_base.specs.Equality.{has_same_items, is_within}
 use Rattle.vecmap_base.specs.Items.{add, add_new, adds, both, has_item, item_index, only, stored_item, swap_without, swap_without_first, swap_without_item, without_first, without_item}
 use Rattle.vecmap_base.proofs.Examples.Tagged.{one_x, one_y, same_number, two_b, two_z}

@@ -1,7 +1,6 @@
 -- Worked examples: lists of pairs.
-use Rattle.std.specs.Prelude.{◌≡◌, ℕ, List, [], ◌∷◌, None, Some, nat_eq, refl, String, bytes_eq, false, string_bytes, true}
 use Rattle.std.specs.List.{IsDistinct}
-use Rattle.std.proofs.Common.{ap, true≢false}
+use Rattle.std.proofs.Common.{◌≡◌, ℕ, List, [], ◌∷◌, None, Some, nat_eq, refl, String, bytes_eq, false, string_bytes, true, ap, true≢false}
 use Rattle.vecmap_base.specs.Pairs.{HasDistinctKeys, has_text, index_by, index_of, index_or_length, lookup, lookup_by, lookup_full, lookup_pair, put, put_at, put_key, puts, swap_without_by, swap_without_key, value_at, with_pair, with_value, without_by, without_key}
 use Rattle.vecmap_base.proofs.Examples.Tagged.{a, b, c, one_x, one_y, two_b, two_z, three_c, letters, same_number}
 

@@ -1,5 +1,5 @@
 -- Worked examples: the number of comparisons.
-use Rattle.std.specs.Prelude.{◌≡◌, ◌+◌, [], ◌∷◌, nat_eq, refl}
+use Rattle.std.proofs.Common.{◌≡◌, ◌+◌, [], ◌∷◌, nat_eq, refl}
 use Rattle.vecmap_base.specs.Repeats.{adds_cost, comparisons, cost, search_cost}
 use Rattle.vecmap_base.proofs.Examples.Tagged.{one_x, one_y, same_number, two_b, two_z}
 

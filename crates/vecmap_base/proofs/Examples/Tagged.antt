@@ -1,5 +1,5 @@
 -- The data of the examples: numbers with a letter that are compared by the number alone, and a short map.
-use Rattle.std.specs.Prelude.{ℕ, Bool, List, [], ◌∷◌, nat_eq}
+use Rattle.std.proofs.Common.{ℕ, Bool, List, [], ◌∷◌, nat_eq}
 
 -- A number and the code of a letter.
 abbrev pub Tagged : Type 0

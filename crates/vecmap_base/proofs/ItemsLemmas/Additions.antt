@@ -1,10 +1,7 @@
 -- What additions, in order, make of a list.
-use Rattle.std.specs.Prelude.{◌≡◌, ℕ, Bool, true, false, List, [], ◌∷◌, ◌++◌, if◌then◌else◌, ◌+◌, ◌<◌, length, take}
-use Rattle.std.specs.Cmp.{IsEquivalence}
-use Rattle.std.specs.List.{IsDistinct}
-use Rattle.std.proofs.Common.{ap, ◌∙◌, get_or, sym, subst}
-use Rattle.std.proofs.lemmas.List.{append-nil, append_assoc}
-use Rattle.std.proofs.lemmas.List.Sums.{fold_more, fold-append}
+use Rattle.std.specs.{Cmp.IsEquivalence, List.IsDistinct}
+use Rattle.std.proofs.Common.{◌≡◌, ℕ, Bool, true, false, List, [], ◌∷◌, ◌++◌, if◌then◌else◌, ◌+◌, ◌<◌, length, take, ap, ◌∙◌, get_or, sym, subst}
+use Rattle.std.proofs.lemmas.{List.append-nil, List.append_assoc, List.Sums.fold_more, List.Sums.fold-append}
 use Rattle.vecmap_base.specs.Items.{add, adds, has_item}
 use Rattle.vecmap_base.proofs.DistinctLemmas.Absent.{none_before}
 

@@ -1,18 +1,11 @@
 -- Which elements are present, and at which indices, after one addition and after many. Many additions append those of
 -- the new elements that are not present.
-use Rattle.std.specs.Prelude.{◌≡◌, ◌<◌, ◌+◌, ℕ, Bool, true, false, ◌||◌, not, Contains, IsTrue, List, [], ◌∷◌, ◌++◌, None, Option, Some, if◌then◌else◌, length, option_map, slice_get, suc, zero, refl}
-use Rattle.std.specs.Cmp.{IsEquivalence}
-use Rattle.std.specs.Option.{option_or}
-use Rattle.std.proofs.Common.{sym, ap, ◌∙◌, arith, inl, inr}
+use Rattle.std.specs.{Cmp.IsEquivalence, Option.option_or}
+use Rattle.std.proofs.Common.{◌≡◌, ◌<◌, ◌+◌, ℕ, Bool, true, false, ◌||◌, not, Contains, IsTrue, List, [], ◌∷◌, ◌++◌, None, Option, Some, if◌then◌else◌, length, option_map, slice_get, suc, zero, refl, sym, ap, ◌∙◌, arith, inl, inr}
 use Rattle.std.proofs.Math.Bool.{or_assoc}
-use Rattle.std.proofs.lemmas.Bool.{cases_Bool}
-use Rattle.std.proofs.lemmas.List.{append-nil, append_assoc}
-use Rattle.std.proofs.lemmas.List.Folds.{list_any-append}
-use Rattle.std.proofs.lemmas.Map.Steps.{list_any_congr}
-use Rattle.vecmap_base.specs.Clones.{AreClones}
-use Rattle.vecmap_base.specs.Items.{add, adds, has_item, item_index, only}
-use Rattle.vecmap_base.proofs.ItemsLemmas.Additions.{add_absent, add_present}
-use Rattle.vecmap_base.proofs.ItemsLemmas.Recursion.{item_index_cons}
+use Rattle.std.proofs.lemmas.{Bool.cases_Bool, List.append-nil, List.append_assoc, List.Folds.list_any-append, Map.Steps.list_any_congr}
+use Rattle.vecmap_base.specs.{Clones.AreClones, Items.add, Items.adds, Items.has_item, Items.item_index, Items.only}
+use Rattle.vecmap_base.proofs.ItemsLemmas.{Additions.add_absent, Additions.add_present, Recursion.item_index_cons}
 
 -- An item of the front of a list is at its index in the whole list.
 slice_get_append : {T : Type 0} (s t : List T) (i : ℕ) → i < length s → slice_get (s ++ t) i ≡ slice_get s i

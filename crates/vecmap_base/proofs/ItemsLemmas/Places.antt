@@ -1,12 +1,7 @@
 -- The indices of elements, before and after an addition.
-use Rattle.std.specs.Prelude.{◌≡◌, ◌<◌, ℕ, zero, suc, Bool, true, false, List, [], ◌∷◌, None, Option, Some, IsTrue, if◌then◌else◌, length, option_map, slice_get, unwrap_or, refl}
-use Rattle.std.specs.Cmp.{IsEquivalence}
-use Rattle.std.specs.List.{AllByRecursion, IsDistinct}
-use Rattle.std.proofs.Common.{sym, ap, ◌∙◌, arith, get_or, inl, inr, subst}
-use Rattle.std.proofs.lemmas.Bool.{cases_Bool}
-use Rattle.std.proofs.lemmas.List.Quantifiers.{position-Some}
-use Rattle.std.proofs.lemmas.Map.Keys.{IsDistinct-head, IsDistinct-tail}
-use Rattle.std.proofs.lemmas.Option.{slice_get-get_or}
+use Rattle.std.specs.{Cmp.IsEquivalence, List.AllByRecursion, List.IsDistinct}
+use Rattle.std.proofs.Common.{◌≡◌, ◌<◌, ℕ, zero, suc, Bool, true, false, List, [], ◌∷◌, None, Option, Some, IsTrue, if◌then◌else◌, length, option_map, slice_get, unwrap_or, refl, sym, ap, ◌∙◌, arith, get_or, inl, inr, subst}
+use Rattle.std.proofs.lemmas.{Bool.cases_Bool, List.Quantifiers.position-Some, Map.Keys.IsDistinct-head, Map.Keys.IsDistinct-tail, Option.slice_get-get_or}
 use Rattle.vecmap_base.specs.Items.{add, item_index}
 use Rattle.vecmap_base.proofs.ItemsLemmas.Recursion.{add_cons, item_index_cons}
 

@@ -1,11 +1,7 @@
 -- What a query finds that matches exactly the elements that are equal to one of its matches.
-use Rattle.std.specs.Prelude.{◌≡◌, ℕ, Bool, true, false, List, [], ◌∷◌, Option, None, Some, IsTrue, is_some, position, remove, refl}
-use Rattle.std.specs.Cmp.{IsEquivalence}
-use Rattle.std.specs.List.{IsDistinct, list_any}
-use Rattle.std.specs.Option.{option_map_or}
-use Rattle.std.proofs.Common.{sym, ap, ◌∙◌, get_or, inl, inr, true≢false}
-use Rattle.std.proofs.lemmas.Bool.{cases_Bool}
-use Rattle.std.proofs.lemmas.List.Quantifiers.{position-Some}
+use Rattle.std.specs.{Cmp.IsEquivalence, List.IsDistinct, List.list_any, Option.option_map_or}
+use Rattle.std.proofs.Common.{◌≡◌, ℕ, Bool, true, false, List, [], ◌∷◌, Option, None, Some, IsTrue, is_some, position, remove, refl, sym, ap, ◌∙◌, get_or, inl, inr, true≢false}
+use Rattle.std.proofs.lemmas.{Bool.cases_Bool, List.Quantifiers.position-Some}
 use Rattle.vecmap_base.specs.Items.{has_item, item_index, stored_first, stored_item, swap_without_first, swap_without_item, without_first, without_item}
 use Rattle.vecmap_base.proofs.ItemsLemmas.Removals.{without_item_absent}
 use Rattle.vecmap_base.proofs.PlaceLemmas.{is_some_position}

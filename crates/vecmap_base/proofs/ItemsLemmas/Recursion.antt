@@ -1,7 +1,6 @@
 -- The definitions on elements, for an empty list and for a list with one element more.
-use Rattle.std.specs.Prelude.{◌≡◌, ℕ, suc, Bool, true, false, ◌&&◌, ◌||◌, List, [], ◌∷◌, ◌++◌, Option, None, Some, if◌then◌else◌, not, position, remove, slice_get, slice_set, refl}
 use Rattle.std.specs.Option.{option_and_then, option_map, option_map_or}
-use Rattle.std.proofs.Common.{ap, ◌∙◌}
+use Rattle.std.proofs.Common.{◌≡◌, ℕ, suc, Bool, true, false, ◌&&◌, ◌||◌, List, [], ◌∷◌, ◌++◌, Option, None, Some, if◌then◌else◌, not, position, remove, slice_get, slice_set, refl, ap, ◌∙◌}
 use Rattle.vecmap_base.specs.Equality.{is_within}
 use Rattle.vecmap_base.specs.Items.{add, add_new, adds, both, has_item, item_index, only, stored_item, without_first, without_item, swap_without}
 use Rattle.vecmap_base.proofs.PlaceLemmas.{position_cons}

@@ -1,12 +1,7 @@
 -- What a removal leaves, and whether the rest of a list has an equal element.
-use Rattle.std.specs.Prelude.{◌≡◌, ℕ, Bool, false, ◌||◌, List, [], ◌∷◌, if◌then◌else◌, refl, ◌-◌, drop, is_some, length, take}
-use Rattle.std.specs.Cmp.{IsEquivalence}
-use Rattle.std.specs.List.{IsDistinct, list_any}
-use Rattle.std.proofs.Common.{ap, ◌∙◌, inl, inr}
-use Rattle.std.proofs.lemmas.Bool.{cases_Bool}
-use Rattle.std.proofs.lemmas.List.{take_rest}
-use Rattle.std.proofs.lemmas.Map.Keys.{IsDistinct-head, IsDistinct-tail}
-use Rattle.std.proofs.lemmas.Map.Steps.{list_any_congr}
+use Rattle.std.specs.{Cmp.IsEquivalence, List.IsDistinct, List.list_any}
+use Rattle.std.proofs.Common.{◌≡◌, ℕ, Bool, false, ◌||◌, List, [], ◌∷◌, if◌then◌else◌, refl, ◌-◌, drop, is_some, length, take, ap, ◌∙◌, inl, inr}
+use Rattle.std.proofs.lemmas.{Bool.cases_Bool, List.take_rest, Map.Keys.IsDistinct-head, Map.Keys.IsDistinct-tail, Map.Steps.list_any_congr}
 use Rattle.vecmap_base.specs.Items.{has_item, item_index, without_item}
 use Rattle.vecmap_base.proofs.DistinctLemmas.Absent.{none_equal}
 use Rattle.vecmap_base.proofs.PlaceLemmas.{is_some_position}

@@ -1,24 +1,13 @@
 -- What is found, and at which index, after one insertion and after many.
-use Rattle.std.specs.Prelude.{◌≡◌, ◌<◌, ◌+◌, ℕ, Bool, position, true, false, List, [], ◌∷◌, ◌++◌, Option, None, Some, if◌then◌else◌, is_some, length, slice_get, unwrap_or, refl}
-use Rattle.std.specs.Cmp.{IsEquivalence}
-use Rattle.std.specs.List.{list_any}
-use Rattle.std.specs.Map.{keys_of}
-use Rattle.std.specs.Option.{option_and_then, option_map, option_map_or, option_or}
-use Rattle.std.proofs.Common.{sym, ap, ◌∙◌, arith, length-append, inl, inr}
-use Rattle.std.proofs.lemmas.Bool.{cases_Bool}
-use Rattle.std.proofs.lemmas.List.{length-map}
-use Rattle.std.proofs.lemmas.Map.Made.{is_some-lookup}
-use Rattle.std.proofs.lemmas.Option.{slice_get-map}
+use Rattle.std.specs.{Cmp.IsEquivalence, List.list_any, Map.keys_of, Option.option_and_then, Option.option_map, Option.option_map_or, Option.option_or}
+use Rattle.std.proofs.Common.{◌≡◌, ◌<◌, ◌+◌, ℕ, Bool, position, true, false, List, [], ◌∷◌, ◌++◌, Option, None, Some, if◌then◌else◌, is_some, length, slice_get, unwrap_or, refl, sym, ap, ◌∙◌, arith, length-append, inl, inr}
+use Rattle.std.proofs.lemmas.{Bool.cases_Bool, List.length-map, Map.Made.is_some-lookup, Option.slice_get-map}
 use Rattle.vecmap_base.specs.Items.{add}
 use Rattle.vecmap_base.specs.Pairs.{HasDistinctKeys, index_of, index_or_length, lookup, put, put_key, puts, value_at, with_value, without_key}
-use Rattle.vecmap_base.proofs.ItemsLemmas.Additions.{add_present}
-use Rattle.vecmap_base.proofs.ItemsLemmas.Places.{item_index_add, item_index_congr, item_index_own}
-use Rattle.vecmap_base.proofs.ItemsLemmas.Removals.{without_item_absent}
+use Rattle.vecmap_base.proofs.ItemsLemmas.{Additions.add_present, Places.item_index_add, Places.item_index_congr, Places.item_index_own, Removals.without_item_absent}
 use Rattle.vecmap_base.proofs.PairsLemmas.Keys.{index_of_is, keys_of_put, keys_of_without_key}
 use Rattle.vecmap_base.proofs.PairsLemmas.Lookups.{look, lookup_congr, lookup_put, lookup_put_other, lookup_without_key, lookup_without_key_other}
-use Rattle.vecmap_base.proofs.PairsLemmas.Places.{index_of_none, is_some_index_of, lookup_by_is}
-use Rattle.vecmap_base.proofs.PairsLemmas.Puts.{puts_distinct}
-use Rattle.vecmap_base.proofs.PairsLemmas.Recursion.{lookup_cons, put_cons, put_key_cons}
+use Rattle.vecmap_base.proofs.PairsLemmas.{Places.index_of_none, Places.is_some_index_of, Places.lookup_by_is, Puts.puts_distinct, Recursion.lookup_cons, Recursion.put_cons, Recursion.put_key_cons}
 use Rattle.vecmap_base.proofs.PairsLemmas.Values.{length_with_value, with_own_value}
 
 pub option_or_none : {X : Type 0} (a : Option X) → option_or a None ≡ a

@@ -1,13 +1,10 @@
 -- Insertions at an index, removals by index, and a pair that is removed and then inserted again.
-use Rattle.std.proofs.Common.{◌≡◌, ◌<◌, ℕ, Bool, true, false, List, [], ◌∷◌, None, Option, Some, ap, arith, if◌then◌else◌, is_some, length, refl, suc, sym, true≢false, zero, ◌∙◌}
+use Rattle.std.proofs.Common.{◌-◌, insert, min, remove, slice_get, slice_set, ◌≡◌, ◌<◌, ℕ, Bool, true, false, List, [], ◌∷◌, None, Option, Some, ap, arith, if◌then◌else◌, is_some, length, refl, suc, sym, true≢false, zero, ◌∙◌}
 use Rattle.std.proofs.lemmas.Option.{none-some}
-use Rattle.std.specs.Cmp.{IsEquivalence}
-use Rattle.std.specs.Option.{option_and_then, option_map_or}
-use Rattle.std.specs.Prelude.{◌-◌, insert, min, remove, slice_get, slice_set}
+use Rattle.std.specs.{Cmp.IsEquivalence, Option.option_and_then, Option.option_map_or}
 use Rattle.vecmap_base.specs.Pairs.{HasDistinctKeys, index_of, lookup, put_at, value_at, with_pair, without_key}
 use Rattle.vecmap_base.proofs.PairsLemmas.AfterPuts.{index_of_own, index_of_without_key, is_some_lookup, lookup_own, lookup_without_any}
-use Rattle.vecmap_base.proofs.PairsLemmas.Lookups.{look, lookup_congr}
-use Rattle.vecmap_base.proofs.PairsLemmas.Puts.{put_at_absent, put_at_present}
+use Rattle.vecmap_base.proofs.PairsLemmas.{Lookups.look, Lookups.lookup_congr, Puts.put_at_absent, Puts.put_at_present}
 
 pub none_if_not_some : {A : Type 0} (found : Option A) → is_some found ≡ false → found ≡ None
 none_if_not_some None e = refl

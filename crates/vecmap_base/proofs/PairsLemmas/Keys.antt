@@ -1,11 +1,8 @@
 -- The keys of a list of pairs, as a list of elements. What changes the pairs changes the keys in the same way.
-use Rattle.std.specs.Prelude.{◌≡◌, ℕ, suc, Bool, true, false, List, [], ◌∷◌, ◌++◌, Some, drop, if◌then◌else◌, insert, remove, take, refl}
-use Rattle.std.specs.Map.{keys_of}
-use Rattle.std.specs.Option.{option_map}
-use Rattle.std.proofs.Common.{sym, ap, ◌∙◌}
+use Rattle.std.specs.{Map.keys_of, Option.option_map}
+use Rattle.std.proofs.Common.{◌≡◌, ℕ, suc, Bool, true, false, List, [], ◌∷◌, ◌++◌, Some, drop, if◌then◌else◌, insert, remove, take, refl, sym, ap, ◌∙◌}
 use Rattle.std.proofs.lemmas.List.{drop-map, map-append, take-map}
-use Rattle.vecmap_base.specs.Items.{add, add_new, adds, item_index, without_item}
-use Rattle.vecmap_base.specs.Pairs.{index_of, put, put_key, puts, without_key}
+use Rattle.vecmap_base.specs.{Items.add, Items.add_new, Items.adds, Items.item_index, Items.without_item, Pairs.index_of, Pairs.put, Pairs.put_key, Pairs.puts, Pairs.without_key}
 use Rattle.vecmap_base.proofs.ItemsLemmas.Recursion.{add_cons, add_new_cons, item_index_cons, without_item_cons}
 use Rattle.vecmap_base.proofs.PairsLemmas.Recursion.{index_of_cons, put_cons, put_key_cons, without_key_cons}
 

@@ -1,15 +1,10 @@
 -- What a lookup finds after an insertion and after a removal.
-use Rattle.std.specs.Prelude.{◌≡◌, Bool, true, false, ◌||◌, List, [], ◌∷◌, None, Some, if◌then◌else◌, refl}
-use Rattle.std.specs.Cmp.{IsEquivalence}
-use Rattle.std.specs.List.{list_any}
-use Rattle.std.specs.Map.{keys_of}
-use Rattle.std.proofs.Common.{sym, ap, ◌∙◌, true≢false, inl, inr}
+use Rattle.std.specs.{Cmp.IsEquivalence, List.list_any, Map.keys_of}
+use Rattle.std.proofs.Common.{◌≡◌, Bool, true, false, ◌||◌, List, [], ◌∷◌, None, Some, if◌then◌else◌, refl, sym, ap, ◌∙◌, true≢false, inl, inr}
 use Rattle.std.proofs.lemmas.Bool.{cases_Bool}
-use Rattle.vecmap_base.specs.Items.{has_item}
-use Rattle.vecmap_base.specs.Pairs.{HasDistinctKeys, lookup, put, without_key}
+use Rattle.vecmap_base.specs.{Items.has_item, Pairs.HasDistinctKeys, Pairs.lookup, Pairs.put, Pairs.without_key}
 use Rattle.vecmap_base.proofs.ItemsLemmas.Removals.{without_item_absent}
-use Rattle.vecmap_base.proofs.PairsLemmas.Keys.{keys_of_without_key}
-use Rattle.vecmap_base.proofs.PairsLemmas.Recursion.{lookup_cons, put_cons, without_key_cons}
+use Rattle.vecmap_base.proofs.PairsLemmas.{Keys.keys_of_without_key, Recursion.lookup_cons, Recursion.put_cons, Recursion.without_key_cons}
 
 module _ {K V : Type 0} (eq : K → K → Bool) where
   -- A lookup in a list with one pair more.

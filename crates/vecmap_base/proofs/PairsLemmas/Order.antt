@@ -1,15 +1,12 @@
 -- What lookups find in another order. A lookup finds the value of a pair with an equal key, and if no keys repeat there
 -- is one such pair in any order.
 use Rattle.std.proofs.Common.{◌≡◌, ◌<◌, ℕ, Bool, true, false, Contains, IsTrue, List, [], ◌∷◌, None, Option, Some, ap, arith, inl, inr, length, refl, reverse, suc, swap, sym, ◌∙◌}
-use Rattle.std.proofs.lemmas.Bool.{cases_Bool}
-use Rattle.std.proofs.lemmas.List.Sorted.{Contains-permutation, IsPermutation-reverse, IsPermutation-swap, IsPermutation-sym}
+use Rattle.std.proofs.lemmas.{Bool.cases_Bool, List.Sorted.Contains-permutation, List.Sorted.IsPermutation-reverse, List.Sorted.IsPermutation-swap, List.Sorted.IsPermutation-sym}
 use Rattle.std.proofs.lemmas.Option.{none-some, same_Some, slice_get-get_or}
-use Rattle.std.specs.Cmp.{IsEquivalence}
-use Rattle.std.specs.List.Sorted.{IsPermutation}
+use Rattle.std.specs.{Cmp.IsEquivalence, List.Sorted.IsPermutation}
 use Rattle.vecmap_base.specs.Pairs.{HasDistinctKeys, lookup}
 use Rattle.vecmap_base.proofs.DistinctLemmas.Keys.{distinct_keys_rearranged}
-use Rattle.vecmap_base.proofs.PairsLemmas.AfterPuts.{lookup_own}
-use Rattle.vecmap_base.proofs.PairsLemmas.Lookups.{look, lookup_congr}
+use Rattle.vecmap_base.proofs.PairsLemmas.{AfterPuts.lookup_own, Lookups.look, Lookups.lookup_congr}
 
 module _ {K V : Type 0} (eq : K → K → Bool) where
   -- What a lookup finds is the value of a pair with an equal key.

@@ -1,17 +1,10 @@
 -- What lookups find in a list of two parts, and the value and the index of a key after many insertions.
-use Rattle.std.specs.Prelude.{◌≡◌, ℕ, Bool, true, false, List, [], ◌∷◌, ◌++◌, Some, if◌then◌else◌, position, refl, reverse}
-use Rattle.std.specs.Cmp.{IsEquivalence}
-use Rattle.std.specs.Option.{option_or}
-use Rattle.std.proofs.Common.{sym, ap, ◌∙◌, inl, inr}
-use Rattle.std.proofs.lemmas.Bool.{cases_Bool}
-use Rattle.std.proofs.lemmas.List.{reverse-append}
-use Rattle.std.specs.Map.{keys_of}
-use Rattle.vecmap_base.specs.Items.{adds, item_index}
-use Rattle.vecmap_base.specs.Pairs.{index_of, lookup, put, puts}
+use Rattle.std.specs.{Cmp.IsEquivalence, Option.option_or, Map.keys_of}
+use Rattle.std.proofs.Common.{◌≡◌, ℕ, Bool, true, false, List, [], ◌∷◌, ◌++◌, Some, if◌then◌else◌, position, refl, reverse, sym, ap, ◌∙◌, inl, inr}
+use Rattle.std.proofs.lemmas.{Bool.cases_Bool, List.reverse-append}
+use Rattle.vecmap_base.specs.{Items.adds, Items.item_index, Pairs.index_of, Pairs.lookup, Pairs.put, Pairs.puts}
 use Rattle.vecmap_base.proofs.ItemsLemmas.Members.{item_index_adds_kept}
-use Rattle.vecmap_base.proofs.PairsLemmas.AfterPuts.{lookup_put_any, option_or_assoc, option_or_none}
-use Rattle.vecmap_base.proofs.PairsLemmas.Keys.{index_of_is, keys_of_puts}
-use Rattle.vecmap_base.proofs.PairsLemmas.Lookups.{look}
+use Rattle.vecmap_base.proofs.PairsLemmas.{AfterPuts.lookup_put_any, AfterPuts.option_or_assoc, AfterPuts.option_or_none, Keys.index_of_is, Keys.keys_of_puts, Lookups.look}
 
 module _ {K V : Type 0} (eq : K → K → Bool) where
   -- A lookup in a list of two parts finds what the first part has, or else what the second has.

@@ -1,12 +1,9 @@
 -- What the definitions say that are about an index.
-use Rattle.std.specs.Prelude.{◌≡◌, ℕ, suc, Bool, true, false, List, [], ◌∷◌, Option, None, Some, if◌then◌else◌, length, slice_get, unwrap_or, refl, ◌-◌, drop, is_some, take}
-use Rattle.std.specs.Option.{option_and_then, option_map}
-use Rattle.std.proofs.Common.{ap, ◌∙◌, sym}
+use Rattle.std.specs.{Option.option_and_then, Option.option_map, List.list_any, Map.keys_of}
+use Rattle.std.proofs.Common.{◌≡◌, ℕ, suc, Bool, true, false, List, [], ◌∷◌, Option, None, Some, if◌then◌else◌, length, slice_get, unwrap_or, refl, ◌-◌, drop, is_some, take, ap, ◌∙◌, sym}
 use Rattle.vecmap_base.specs.Pairs.{index_of, index_or_length, lookup_full, lookup_pair, value_at, with_pair, lookup_by}
 use Rattle.vecmap_base.proofs.PairsLemmas.Recursion.{index_of_cons, lookup_by_cons}
-use Rattle.std.specs.List.{list_any}
 use Rattle.std.specs.Map as entries
-use Rattle.std.specs.Map.{keys_of}
 use Rattle.std.proofs.lemmas.List.{drop-map, take_rest}
 use Rattle.vecmap_base.proofs.PlaceLemmas.{is_some_position, list_any_map, position_none}
 

@@ -1,12 +1,7 @@
 -- What insertions make of a list, one at a time and many in order.
-use Rattle.std.specs.Prelude.{◌≡◌, ℕ, ◌+◌, ◌-◌, Bool, List, [], ◌∷◌, ◌++◌, None, Some, insert, length, min, remove, ◌<◌, drop, take}
-use Rattle.std.specs.Cmp.{IsEquivalence}
-use Rattle.std.specs.List.{IsDistinct}
-use Rattle.std.specs.Map.{keys_of}
-use Rattle.std.specs.Option.{option_map_or}
-use Rattle.std.proofs.Common.{ap, ◌∙◌, get_or, sym, subst}
-use Rattle.std.proofs.lemmas.List.{append-nil, append_assoc, map-append, take-append-drop}
-use Rattle.std.proofs.lemmas.List.Sums.{fold_more, fold-append}
+use Rattle.std.specs.{Cmp.IsEquivalence, List.IsDistinct, Map.keys_of, Option.option_map_or}
+use Rattle.std.proofs.Common.{◌≡◌, ℕ, ◌+◌, ◌-◌, Bool, List, [], ◌∷◌, ◌++◌, None, Some, insert, length, min, remove, ◌<◌, drop, take, ap, ◌∙◌, get_or, sym, subst}
+use Rattle.std.proofs.lemmas.{List.append-nil, List.append_assoc, List.map-append, List.take-append-drop, List.Sums.fold_more, List.Sums.fold-append}
 use Rattle.vecmap_base.specs.Pairs.{index_of, put, put_at, puts, with_value, HasDistinctKeys}
 use Rattle.vecmap_base.proofs.DistinctLemmas.Absent.{none_before}
 use Rattle.vecmap_base.proofs.PairsLemmas.Places.{index_of_none}

@@ -1,16 +1,11 @@
 -- What a query finds that matches exactly the keys that are equal to one of its matches.
-use Rattle.std.specs.Prelude.{◌≡◌, ℕ, Bool, false, List, [], ◌∷◌, Option, None, Some, String, IsTrue, bytes_eq, if◌then◌else◌, remove, string_bytes, string_eq, refl}
-use Rattle.std.specs.Cmp.{IsEquivalence, on_equiv}
-use Rattle.std.specs.Cmp.Lexicographic.{nat_list_eq_equiv}
 use Rattle.std.specs.declared.alloc.Global.{Global}
-use Rattle.std.specs.Option.{option_and_then, option_map_or}
-use Rattle.std.proofs.Common.{sym, ap, ◌∙◌, get_or, inl, inr}
-use Rattle.std.proofs.lemmas.Bool.{cases_Bool}
-use Rattle.std.proofs.lemmas.List.Quantifiers.{position-Some}
+use Rattle.std.specs.{Cmp.IsEquivalence, Cmp.on_equiv, Cmp.Lexicographic.nat_list_eq_equiv, Option.option_and_then, Option.option_map_or}
+use Rattle.std.proofs.Common.{◌≡◌, ℕ, Bool, false, List, [], ◌∷◌, Option, None, Some, String, IsTrue, bytes_eq, if◌then◌else◌, remove, string_bytes, string_eq, refl, sym, ap, ◌∙◌, get_or, inl, inr}
+use Rattle.std.proofs.lemmas.{Bool.cases_Bool, List.Quantifiers.position-Some}
 use Rattle.vecmap_base.specs.Pairs.{HasDistinctKeys, has_text, index_by, index_of, lookup, lookup_by, lookup_pair, lookup_pair_by, put, swap_without_by, swap_without_key, value_at, without_by, without_key}
 use Rattle.vecmap_base.proofs.ItemsLemmas.Queries.{stands_apart, tells_as}
-use Rattle.vecmap_base.proofs.PairsLemmas.Lookups.{lookup_put, lookup_without_key}
-use Rattle.vecmap_base.proofs.PairsLemmas.Recursion.{lookup_by_cons, put_cons}
+use Rattle.vecmap_base.proofs.PairsLemmas.{Lookups.lookup_put, Lookups.lookup_without_key, Recursion.lookup_by_cons, Recursion.put_cons}
 
 module _ {K V : Type 0} (eq : K → K → Bool) (o : IsEquivalence eq) (test : K → Bool) (respects : (x y : K) → IsTrue (test x) → test y ≡ eq x y) where
   pub lookup_by_query : (l : List (K × V)) (k : K) → IsTrue (test k) → lookup_by test l ≡ lookup eq l k

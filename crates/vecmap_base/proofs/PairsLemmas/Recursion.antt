@@ -1,7 +1,6 @@
 -- The definitions on pairs, for an empty list and for a list with one pair more.
-use Rattle.std.specs.Prelude.{◌≡◌, ℕ, suc, Bool, true, false, List, [], ◌∷◌, ◌++◌, Option, None, Some, if◌then◌else◌, refl}
 use Rattle.std.specs.Option.{option_map, option_map_or, option_and_then}
-use Rattle.std.proofs.Common.{ap, ◌∙◌}
+use Rattle.std.proofs.Common.{◌≡◌, ℕ, suc, Bool, true, false, List, [], ◌∷◌, ◌++◌, Option, None, Some, if◌then◌else◌, refl, ap, ◌∙◌}
 use Rattle.vecmap_base.specs.Pairs.{index_of, lookup, put, put_key, puts, with_pair, with_value, without_key, index_by, lookup_by, value_at}
 use Rattle.vecmap_base.proofs.ItemsLemmas.Recursion.{without_first_cons}
 use Rattle.vecmap_base.proofs.PlaceLemmas.{position_cons}

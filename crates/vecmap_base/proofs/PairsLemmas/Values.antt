@@ -1,8 +1,6 @@
 -- A list of pairs is determined by its keys and its values, and a write of a value leaves the keys.
-use Rattle.std.specs.Prelude.{◌≡◌, ℕ, suc, List, [], ◌∷◌, Option, None, Some, length, refl, zero, ◌<◌, slice_get, slice_set, unwrap_or}
-use Rattle.std.specs.Map.{keys_of, values_of}
-use Rattle.std.specs.Option.{option_map_or}
-use Rattle.std.proofs.Common.{ap, ◌∙◌, get_or, set, sym}
+use Rattle.std.specs.{Map.keys_of, Map.values_of, Option.option_map_or}
+use Rattle.std.proofs.Common.{◌≡◌, ℕ, suc, List, [], ◌∷◌, Option, None, Some, length, refl, zero, ◌<◌, slice_get, slice_set, unwrap_or, ap, ◌∙◌, get_or, set, sym}
 use Rattle.std.proofs.lemmas.List.{get_or-map}
 use Rattle.vecmap_base.specs.Pairs.{value_at, with_value}
 

@@ -1,16 +1,8 @@
 -- The number of comparisons that a removal of repeats makes.
-use Rattle.std.specs.Prelude.{◌≡◌, ℕ, suc, ◌+◌, ◌<◌, ◌≤◌, Bool, true, false, List, [], ◌∷◌, ◌++◌, Option, None, Some, length, take, refl}
-use Rattle.std.specs.Cmp.{IsEquivalence}
-use Rattle.std.specs.List.{IsDistinct}
-use Rattle.std.specs.Map.{keys_of}
-use Rattle.std.specs.Option.{option_map_or}
-use Rattle.std.proofs.Common.{sym, ap, ◌∙◌, subst, get_or, arith, inl, inr}
-use Rattle.std.proofs.lemmas.Bool.{cases_Bool}
-use Rattle.std.proofs.lemmas.List.{append_assoc, length-take, length_push, map-append, take_more}
-use Rattle.std.proofs.lemmas.List.Quantifiers.{position-Some}
-use Rattle.std.proofs.lemmas.Map.Entries.{length-keys_of}
-use Rattle.vecmap_base.specs.Items.{add, adds, has_item, item_index}
-use Rattle.vecmap_base.specs.Pairs.{HasDistinctKeys, index_of, puts}
+use Rattle.std.specs.{Cmp.IsEquivalence, List.IsDistinct, Map.keys_of, Option.option_map_or}
+use Rattle.std.proofs.Common.{◌≡◌, ℕ, suc, ◌+◌, ◌<◌, ◌≤◌, Bool, true, false, List, [], ◌∷◌, ◌++◌, Option, None, Some, length, take, refl, sym, ap, ◌∙◌, subst, get_or, arith, inl, inr}
+use Rattle.std.proofs.lemmas.{Bool.cases_Bool, List.append_assoc, List.length-take, List.length_push, List.map-append, List.take_more, List.Quantifiers.position-Some, Map.Entries.length-keys_of}
+use Rattle.vecmap_base.specs.{Items.add, Items.adds, Items.has_item, Items.item_index, Pairs.HasDistinctKeys, Pairs.index_of, Pairs.puts}
 use Rattle.vecmap_base.specs.Repeats.{adds_cost, comparisons, cost, search_cost}
 use Rattle.vecmap_base.proofs.DistinctLemmas.Absent.{none_before}
 use Rattle.vecmap_base.proofs.ItemsLemmas.Additions.{add_absent, add_present}

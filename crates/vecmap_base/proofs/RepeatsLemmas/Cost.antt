@@ -1,6 +1,5 @@
 -- The most comparisons that a number of items may take.
-use Rattle.std.specs.Prelude.{◌≡◌, ℕ, zero, suc, ◌+◌, ◌-◌, ◌*◌, ◌<◌, ◌≤◌, refl}
-use Rattle.std.proofs.Common.{arith}
+use Rattle.std.proofs.Common.{◌≡◌, ℕ, zero, suc, ◌+◌, ◌-◌, ◌*◌, ◌<◌, ◌≤◌, refl, arith}
 use Rattle.vecmap_base.specs.Repeats.{cost}
 
 twice_more : (n : ℕ) → (n + 1) * n ≡ n * (n - 1) + 2 * n

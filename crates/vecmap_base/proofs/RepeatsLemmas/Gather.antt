@@ -1,15 +1,11 @@
 -- The steps of a gathering: two elements, or the values of two pairs, are swapped.
-use Rattle.std.specs.Prelude.{◌≡◌, ℕ, ◌+◌, ◌-◌, ◌<◌, ◌≤◌, zero, suc, Bool, Some, List, [], ◌∷◌, ◌++◌, drop, length, swap, take, refl}
-use Rattle.std.specs.List.{SwappedAt}
-use Rattle.std.specs.Map.{keys_of, values_of}
-use Rattle.std.proofs.Common.{set, get_or, sym, ap, ◌∙◌, arith}
+use Rattle.std.specs.{List.SwappedAt, Map.keys_of, Map.values_of}
+use Rattle.std.proofs.Common.{◌≡◌, ℕ, ◌+◌, ◌-◌, ◌<◌, ◌≤◌, zero, suc, Bool, Some, List, [], ◌∷◌, ◌++◌, drop, length, swap, take, refl, set, get_or, sym, ap, ◌∙◌, arith}
 use Rattle.std.proofs.Math.Seq.{take-set-lt}
 use Rattle.std.proofs.lemmas.List.{drop-map, get_or-map, map-append, map-set, take-map, length-append, take_more, take-set-le, drop-set-lt, drop_more, length-set, set-append_left, set-append_right, get_or_append_left, get_or-append_right}
-use Rattle.std.proofs.lemmas.List.Edits.{swap_is}
-use Rattle.std.proofs.lemmas.Map.Entries.{length-values_of}
+use Rattle.std.proofs.lemmas.{List.Edits.swap_is, Map.Entries.length-values_of}
 use Rattle.vecmap_base.specs.Pairs.{index_of, put, with_value}
-use Rattle.vecmap_base.proofs.PairsLemmas.Puts.{put_present}
-use Rattle.vecmap_base.proofs.PairsLemmas.Values.{keys_of_with_value, same_pairs, values_of_with_value}
+use Rattle.vecmap_base.proofs.PairsLemmas.{Puts.put_present, Values.keys_of_with_value, Values.same_pairs, Values.values_of_with_value}
 
 module _ {X : Type 0} where
   -- A swap, seen in a front that holds only the first of the two indices.

@@ -3,7 +3,6 @@ mod distinct;
 mod drain;
 mod equality;
 mod equivalent;
-mod items;
 mod iter;
 mod iter_mut;
 mod lookup;

@@ -3,8 +3,7 @@ use Rattle.std.proofs.Common.{◌+◌, ◌<◌, ◌≤◌, get_or, is_some, leng
 use Rattle.std.specs.Map.{keys_of}
 use Rattle.std.proofs.lemmas.Map.Entries.{length-keys_of}
 use Rattle.vecmap_base.proofs.DistinctLemmas.Walk.{distinct_more, repeat_at, distinct_all}
-use Rattle.vecmap_base.proofs.PairsLemmas.Places.{is_some_index_of_rest}
-use Rattle.vecmap_base.proofs.PairsLemmas.Values.{key_at}
+use Rattle.vecmap_base.proofs.PairsLemmas.{Places.is_some_index_of_rest, Values.key_at}
 use Rattle.vecmap_base.proofs.distinct.keys_distinct.Goals as goal
 
 pub returns-then-is_some : goal.returns-then-is_some

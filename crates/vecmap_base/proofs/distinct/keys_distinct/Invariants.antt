@@ -1,6 +1,5 @@
 use Rattle.std.proofs.Common.{◌↔◌, drop}
-use Rattle.std.specs.List.{IsDistinct}
-use Rattle.std.specs.Map.{keys_of}
+use Rattle.std.specs.{List.IsDistinct, Map.keys_of}
 use Rattle.vecmap_base.proofs.distinct.keys_distinct.Given as goal
 
 abbrev pub invariant-loop-i : goal.invariant-loop-i

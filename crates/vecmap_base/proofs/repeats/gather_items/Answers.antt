@@ -1,13 +1,10 @@
 -- After `i` items the front is what their additions leave, and the rest is unchanged. A new item is swapped to the end
 -- of the front.
 use Rattle.std.proofs.Common.{◌≡◌, ◌+◌, ◌<◌, take, length, get_or, [], ◌∷◌, ◌++◌, sym, ap, ◌∙◌, arith}
-use Rattle.std.proofs.lemmas.List.{length_push, length-take, take_all}
-use Rattle.std.proofs.lemmas.List.Sorted.{IsPermutation-trans}
-use Rattle.vecmap_base.specs.Items.{adds, has_item}
-use Rattle.vecmap_base.specs.Repeats.{comparisons, search_cost}
-use Rattle.vecmap_base.proofs.RepeatsLemmas.Comparisons.{comparisons_below, comparisons_more}
+use Rattle.std.proofs.lemmas.{List.length_push, List.length-take, List.take_all, List.Sorted.IsPermutation-trans}
+use Rattle.vecmap_base.specs.{Items.adds, Items.has_item, Repeats.comparisons, Repeats.search_cost}
+use Rattle.vecmap_base.proofs.RepeatsLemmas.{Comparisons.comparisons_below, Comparisons.comparisons_more, Gather.front_swapped, Gather.rest_more}
 use Rattle.vecmap_base.proofs.ItemsLemmas.Additions.{adds_more, add_absent, add_present}
-use Rattle.vecmap_base.proofs.RepeatsLemmas.Gather.{front_swapped, rest_more}
 use Rattle.vecmap_base.proofs.repeats.gather_items.Goals as goal
 use Rattle.vecmap_base.proofs.repeats.gather_items.Goals.{then-not-is_repeat, else-not-is_repeat}
 

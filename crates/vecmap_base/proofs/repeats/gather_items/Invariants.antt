@@ -1,7 +1,6 @@
 use Rattle.std.proofs.Common.{◌≡◌, ◌+◌, ◌≤◌, take, drop, [], length}
 use Rattle.std.specs.List.Sorted.{IsPermutation}
-use Rattle.vecmap_base.specs.Items.{adds}
-use Rattle.vecmap_base.specs.Repeats.{comparisons}
+use Rattle.vecmap_base.specs.{Items.adds, Repeats.comparisons}
 use Rattle.vecmap_base.proofs.repeats.gather_items.Given as goal
 
 abbrev pub invariant-loop-i : goal.invariant-loop-i

@@ -1,16 +1,12 @@
 -- After `i` pairs the front is what their insertions leave, and the rest is unchanged. The keys and the values are
 -- permuted.
 use Rattle.std.proofs.Common.{◌≡◌, ◌+◌, ◌<◌, None, take, length, get_or, [], ◌∷◌, ◌++◌, sym, ap, subst, ◌∙◌, arith}
-use Rattle.std.specs.List.Sorted.{IsPermutation}
-use Rattle.std.specs.Map.{keys_of, values_of}
-use Rattle.std.proofs.lemmas.Map.Entries.{length-values_of}
-use Rattle.std.proofs.lemmas.List.{length_push, length-take, take_all}
+use Rattle.std.specs.{List.Sorted.IsPermutation, Map.keys_of, Map.values_of}
+use Rattle.std.proofs.lemmas.{Map.Entries.length-values_of, List.length_push, List.length-take, List.take_all}
 use Rattle.std.proofs.lemmas.List.Sorted.{IsPermutation-trans, IsPermutation-map, IsPermutation-swap}
-use Rattle.vecmap_base.specs.Pairs.{index_of, put, puts}
-use Rattle.vecmap_base.specs.Repeats.{comparisons, search_cost}
-use Rattle.vecmap_base.proofs.RepeatsLemmas.Comparisons.{key_comparisons_below, key_comparisons_more}
+use Rattle.vecmap_base.specs.{Pairs.index_of, Pairs.put, Pairs.puts, Repeats.comparisons, Repeats.search_cost}
+use Rattle.vecmap_base.proofs.RepeatsLemmas.{Comparisons.key_comparisons_below, Comparisons.key_comparisons_more, Gather.front_put, Gather.front_swapped, Gather.rest_more}
 use Rattle.vecmap_base.proofs.PairsLemmas.Puts.{puts_more, put_absent}
-use Rattle.vecmap_base.proofs.RepeatsLemmas.Gather.{front_put, front_swapped, rest_more}
 use Rattle.vecmap_base.proofs.repeats.gather_pairs.Goals as goal
 use Rattle.vecmap_base.proofs.repeats.gather_pairs.Goals.{in-Some, in-None}
 

@@ -1,8 +1,6 @@
 use Rattle.std.proofs.Common.{◌≡◌, ◌+◌, ◌≤◌, take, drop, [], length}
-use Rattle.std.specs.List.Sorted.{IsPermutation}
-use Rattle.std.specs.Map.{keys_of, values_of}
-use Rattle.vecmap_base.specs.Pairs.{puts}
-use Rattle.vecmap_base.specs.Repeats.{comparisons}
+use Rattle.std.specs.{List.Sorted.IsPermutation, Map.keys_of, Map.values_of}
+use Rattle.vecmap_base.specs.{Pairs.puts, Repeats.comparisons}
 use Rattle.vecmap_base.proofs.repeats.gather_pairs.Given as goal
 
 abbrev pub invariant-loop-i : goal.invariant-loop-i

@@ -2,7 +2,10 @@
 use crate::checks::{assert_is, granted};
 use std::alloc::Global;
 use std::process::Abort;
-use vecmap_base::{find, find_item, find_item_str, find_str, is_in};
+use vecmap_base::{
+    find, find_equivalent, find_item, find_item_equivalent, find_item_str, find_str, is_in,
+    is_in_equivalent,
+};
 
 fn shows_find(rt: &impl Abort) {
     assert_is(rt, find(&[('a', 1), ('b', 2)], &'b'), Some(1));
@@ -32,6 +35,18 @@ fn shows_is_in(rt: &impl Abort) {
     assert_is(rt, is_in(&['a', 'b'], &'c'), false);
 }
 
+fn shows_find_equivalent(rt: &impl Abort) {
+    assert_is(rt, find_equivalent(&[("a", 1), ("b", 2)], "b"), Some(1));
+}
+
+fn shows_find_item_equivalent(rt: &impl Abort) {
+    assert_is(rt, find_item_equivalent(&["a", "b"], "b"), Some(1));
+}
+
+fn shows_is_in_equivalent(rt: &impl Abort) {
+    assert_is(rt, is_in_equivalent(&["a", "b"], "c"), false);
+}
+
 #[test]
 fn examples_of_vecmap_base_lookup_hold(rt: HostRuntime) {
     let alloc = rt.alloc();
@@ -40,4 +55,7 @@ fn examples_of_vecmap_base_lookup_hold(rt: HostRuntime) {
     shows_find_str(&rt, alloc);
     shows_find_item_str(&rt, alloc);
     shows_is_in(&rt);
+    shows_find_equivalent(&rt);
+    shows_find_item_equivalent(&rt);
+    shows_is_in_equivalent(&rt);
 }

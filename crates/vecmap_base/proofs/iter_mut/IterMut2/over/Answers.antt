@@ -1,5 +1,4 @@
-use Rattle.vecmap_base.specs.Lending.{iter_mut2_rest}
-use Rattle.vecmap_base.specs.Walks.{deref_both_mut}
+use Rattle.vecmap_base.specs.{Lending.iter_mut2_rest, Walks.deref_both_mut}
 use Rattle.vecmap_base.proofs.WalkLemmas.{shows_rest_in_order, shows_rest_in_reverse}
 use Rattle.vecmap_base.proofs.iter_mut.IterMut2.over.Goals as goal
 

@@ -1,7 +1,6 @@
 use Rattle.std.proofs.Common.{arith}
 use Rattle.std.proofs.lemmas.Grind.{common_steps}
-use Rattle.vecmap_base.specs.Lending.{values_mut_rest}
-use Rattle.vecmap_base.specs.Walks.{deref_mut}
+use Rattle.vecmap_base.specs.{Lending.values_mut_rest, Walks.deref_mut}
 use Rattle.vecmap_base.proofs.WalkLemmas.{shows_rest_in_order, shows_rest_in_reverse}
 use Rattle.vecmap_base.proofs.iter_mut.ValuesMut.over.Goals as goal
 

@@ -1,9 +1,9 @@
-//! Made by `.ci/examples --write` from the doc comments of `vecmap_base/src/items.rt`.
+//! Made by `.ci/examples --write` from the doc comments of `vecmap_base/src/iter/elements.rt`.
 use crate::checks::{assert_is, granted};
 use crate::comments::made::vecset_1_2;
 use std::alloc::Global;
 use std::process::Abort;
-use vecmap::set::{IntoIter, Iter};
+use vecmap::map::{IntoIter, Iter};
 
 fn shows_iter(rt: &impl Abort, alloc: Global) {
     let set = granted(rt, vecset_1_2(alloc));
@@ -47,7 +47,7 @@ fn shows_clone_2(rt: &impl Abort, alloc: Global) {
 }
 
 #[test]
-fn examples_of_vecmap_base_items_hold(rt: HostRuntime) {
+fn examples_of_vecmap_base_iter_elements_hold(rt: HostRuntime) {
     let alloc = rt.alloc();
     shows_iter(&rt, alloc);
     shows_over(&rt);
