@@ -11,8 +11,7 @@ use Rattle.vecmap.specs.declared.set_run.command.SetCommand.{SetCommand}
 use Rattle.vecmap.specs.declared.set_run.command.SetCommand.TheVariants as commands
 use Rattle.vecmap.specs.declared.set_run.reply.SetReply.{SetReply}
 use Rattle.vecmap.specs.declared.set_run.reply.SetReply.TheVariants.{Truth}
-use Rattle.vecmap_base.specs.Items.{adds}
-use Rattle.vecmap_base.specs.Pairs.{puts}
+use Rattle.vecmap_base.specs.{Items.adds, Pairs.puts}
 use Rattle.vecmap_map.specs.Contents.{Contents}
 use Rattle.vecmap_set.specs.Contents as set
 

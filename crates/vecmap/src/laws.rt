@@ -22,6 +22,7 @@ ghost use Rattle.vecmap_map.specs.declared.entry.Entry.{Entry};
 ghost use Rattle.vecmap_set.specs.Contents as set_contents;
 
 /// What a run does to a map, it does to the list of its pairs, whatever the capacity.
+#[tactic(auto, using(crate::proofs::RunLemmas::run_of_list))]
 pub fn runs_of_maps_are_of_lists<K: Eq + Clone, V: Eq + Clone>()
     ensures { (m : Contents K V) (commands : List (MapCommand K V)) (replies : List (MapReply K V))
         (n : Contents K V) → maps.Run K.eq V.eq K.Clone V.Clone m commands replies n
@@ -29,6 +30,7 @@ pub fn runs_of_maps_are_of_lists<K: Eq + Clone, V: Eq + Clone>()
 {}
 
 /// What a run does to a set, it does to the list of its elements, whatever the capacity.
+#[tactic(auto, using(crate::proofs::RunLemmas::run_set_of_list))]
 pub fn runs_of_sets_are_of_lists<T: Eq + Clone>()
     ensures { (s : set_contents.Contents T) (commands : List (SetCommand T))
         (replies : List (SetReply T)) (t : set_contents.Contents T)
@@ -37,6 +39,7 @@ pub fn runs_of_sets_are_of_lists<T: Eq + Clone>()
 {}
 
 /// A run of insertions that all succeed leaves what one bulk insertion of the pairs does.
+#[tactic(auto, using(crate::proofs::RunLemmas::insertions_are_puts))]
 pub fn runs_of_insertions_are_bulk_insertions<K: Eq + Clone, V: Eq + Clone>()
     ensures { (l pairs : List (K × V)) (olds : List (Option V)) (m : List (K × V))
         → maps.ListRun K.eq V.eq K.Clone V.Clone l (map (λ p. Insert p.0 p.1) pairs)
@@ -45,6 +48,7 @@ pub fn runs_of_insertions_are_bulk_insertions<K: Eq + Clone, V: Eq + Clone>()
 {}
 
 /// A run of additions that all succeed leaves what one bulk addition of the elements does.
+#[tactic(auto, using(crate::proofs::RunLemmas::insertions_are_additions))]
 pub fn runs_of_additions_are_bulk_additions<T: Eq + Clone>()
     ensures { (l xs : List T) (added : List Bool) (m : List T)
         → sets.ListRun T.eq T.Clone l (map set_commands.Insert xs) (map Truth added) m
@@ -52,6 +56,7 @@ pub fn runs_of_additions_are_bulk_additions<T: Eq + Clone>()
 {}
 
 /// A run of commands that only read leaves the map as it was, its capacity too.
+#[tactic(auto, using(crate::proofs::ReadLemmas::read_run))]
 pub fn runs_of_reads_leave_maps<K: Eq + Clone, V: Eq + Clone>()
     ensures { (m : Contents K V) (commands : List (MapCommand K V)) (replies : List (MapReply K V))
         (n : Contents K V) → All IsRead commands
@@ -59,6 +64,7 @@ pub fn runs_of_reads_leave_maps<K: Eq + Clone, V: Eq + Clone>()
 {}
 
 /// A run of commands that only read leaves the set as it was, its capacity too.
+#[tactic(auto, using(crate::proofs::ReadLemmas::read_set_run))]
 pub fn runs_of_reads_leave_sets<T: Eq + Clone>()
     ensures { (s : set_contents.Contents T) (commands : List (SetCommand T))
         (replies : List (SetReply T)) (t : set_contents.Contents T) → All IsSetRead commands

@@ -1,6 +1,7 @@
 -- The lemmas that prove the clauses of a law, in lists that the laws name by `using(..)`.
 use Rattle.vecmap_base.proofs.DistinctLemmas.Absent.{distinct_none}
-use Rattle.vecmap_base.proofs.DistinctLemmas.Keys.{distinct_keys_clones, distinct_keys_remove, distinct_keys_reverse, distinct_keys_stored, distinct_keys_swap, distinct_keys_swap_without, distinct_keys_swap_without_by, distinct_keys_swap_without_key, distinct_keys_take, distinct_keys_with_value, distinct_keys_without, distinct_put, distinct_put_at, distinct_put_key, distinct_puts}
+use Rattle.vecmap_base.proofs.DistinctLemmas.Keys.{distinct_keys_clones, distinct_keys_remove, distinct_keys_reverse, distinct_keys_stored, distinct_keys_swap, distinct_keys_swap_without, distinct_keys_swap_without_by, distinct_keys_swap_without_key}
+use Rattle.vecmap_base.proofs.DistinctLemmas.Keys.{distinct_keys_take, distinct_keys_with_value, distinct_keys_without, distinct_put, distinct_put_at, distinct_put_key, distinct_puts}
 use Rattle.vecmap_base.proofs.DistinctLemmas.Parts.{distinct_keys_drop, distinct_keys_filter, distinct_keys_remove_range, distinct_keys_slice_range}
 use Rattle.vecmap_base.proofs.{DrainRuns.drains_pull, DrainRuns.keeps_pulled, KeptLemmas.kept_by_states, KeptLemmas.kept_in_state, KeptLemmas.written_by_states, KeptLemmas.written_in_state}
 use Rattle.vecmap_base.proofs.EqualityLemmas.Maps.{map_equal_by_half, map_lengths_differ}
