@@ -19,10 +19,7 @@ fn add_section(
 ) {
     let section = numbered(rt, alloc, number);
     let name = numbered(rt, alloc, 0);
-    let _old = granted(
-        rt,
-        set_text(sections, alloc, section, name, String::new(alloc)),
-    );
+    let _old = granted(rt, set_text(sections, section, name, String::new(alloc)));
 }
 
 #[test]

@@ -3,7 +3,7 @@ use crate::checks::{assert_is, granted};
 use crate::comments::made::vecset_1_2;
 use std::alloc::Global;
 use std::process::Abort;
-use vecmap::map::{IntoIter, Iter};
+use vecmap::set::{IntoIter, Iter};
 
 fn shows_iter(rt: &impl Abort, alloc: Global) {
     let set = granted(rt, vecset_1_2(alloc));
