@@ -185,22 +185,6 @@ impl<K, V> VecMap<K, V> {
         ensures given { IfErr result (λ refused. refused.given ≡ (key, value)) }
         ensures err { OnErr result (RefusesAt None self.old self.new) }
     {
-        if self.pairs.len() < self.pairs.capacity() {
-            self.pairs.push_reserved((key, value));
-            return Ok(());
-        }
-        self.push_grown(key, value)
-    }
-
-    // Like `push`. It stands apart, so that `push` without growth is inlined.
-    #[cold]
-    #[inline(never)]
-    fn push_grown(&mut self, key: K, value: V) -> Result<(), Refused<(K, V)>>
-        ensures entries { OnOk result (self.new.entries ≡ self.old.entries ++ (key, value) ∷ []) }
-        ensures capacity { KeepsRoomAt None self.old self.new }
-        ensures given { IfErr result (λ refused. refused.given ≡ (key, value)) }
-        ensures err { OnErr result (RefusesAt None self.old self.new) }
-    {
         if self.reserve_one().is_err() {
             return Err(Refused {
                 given: (key, value),

@@ -103,24 +103,6 @@ impl<T: Eq> VecSet<T> {
         ensures given { IfErr result (λ refused. refused.given ≡ item) }
         ensures err { OnErr result (Refuses T.eq self.old item self.new) }
     {
-        if self.items.len() < self.items.capacity() {
-            self.items.push_reserved(item);
-            return Ok(());
-        }
-        self.push_grown(item)
-    }
-
-    // Like `push`. It stands apart, so that `push` without growth is inlined.
-    #[cold]
-    #[inline(never)]
-    fn push_grown(&mut self, item: T) -> Result<(), Refused<T>>
-        requires absent { has_item T.eq self.old.elements item ≡ false }
-        ensures elements { OnOk result (self.new.elements ≡ self.old.elements ++ item ∷ []) }
-        ensures distinct { IsDistinct T.eq self.new.elements }
-        ensures capacity { KeepsRoom T.eq self.old item self.new }
-        ensures given { IfErr result (λ refused. refused.given ≡ item) }
-        ensures err { OnErr result (Refuses T.eq self.old item self.new) }
-    {
         if self.items.len() == self.items.capacity() && self.reserve(1).is_err() {
             return Err(Refused { given: item });
         }
