@@ -77,12 +77,9 @@ pub fn take_out<T>(items: &mut Vec<T>, index: usize) -> T
     if size_of_val(&items[index]) > MAX_BYTES_FOR_ROTATION {
         return items.remove(index);
     }
-    if items.len() - index <= MAX_MOVED_LEFT_SINGLY {
-        let last = items.take_last();
-        let end = items.len();
-        return carry_left(items, index, end, last);
-    }
-    take_out_by_rotation(items, index)
+    let last = items.len() - 1;
+    move_item(items, index, last);
+    items.pop().unwrap()
 }
 
 /// Inserts an item at `index` into a vector that has spare capacity.
@@ -167,18 +164,6 @@ fn replace_and_rotate<T>(items: &mut Vec<T>, from: usize, to: usize, item: T) ->
     let old = replace(&mut items[from], item);
     move_item(items, from, to);
     old
-}
-
-// Like `take_out`, by one rotation.
-fn take_out_by_rotation<T>(items: &mut Vec<T>, index: usize) -> T
-    requires within { index < length items.old.items }
-    ensures item { slice_get items.old.items index ≡ Some result }
-    ensures items { items.new.items ≡ remove items.old.items index }
-    ensures capacity { vec_capacity items.new ≡ vec_capacity items.old }
-{
-    let last = items.len() - 1;
-    move_item(items, index, last);
-    items.pop().unwrap()
 }
 
 // Moves the item at `from` to `to`. The items between the two indices shift by one index.

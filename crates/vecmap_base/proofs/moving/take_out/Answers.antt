@@ -1,15 +1,12 @@
-use Rattle.std.proofs.Common.{◌≤◌, arith, length}
-use Rattle.vecmap_base.proofs.MoveLemmas.{carried_from_end}
+use Rattle.std.proofs.Common.{◌≡◌, ◌+◌, ◌-◌, ap, arith, get_or, insert, length, remove, take, take_at, ◌∙◌}
+use Rattle.std.proofs.lemmas.List.Edits.{length-remove}
+use Rattle.vecmap_base.proofs.MoveLemmas.{taken_last}
 use Rattle.vecmap_base.proofs.moving.take_out.Goals as goal
 
-pub returns-then-len-index-le-MAX_MOVED_LEFT_SINGLY-clause-item : goal.returns-then-len-index-le-MAX_MOVED_LEFT_SINGLY-clause-item
-returns-then-len-index-le-MAX_MOVED_LEFT_SINGLY-clause-item g c =
-    let before = c.take_last-last.new.self in
-    let long : c.args.index ≤ length c.carry_left.new.items.items = omega (arith, c.requires.within, c.carry_left.ensures.count, c.take_last-last.ensures.len, c.args.items.now.ok, before.ok) in
-    (carried_from_end c.args.items.now.items before.items c.carry_left.new.items.items c.args.index c.len-end.result c.take_last-last.result c.carry_left.result c.take_last-last.ensures.items (omega (arith, c.len-end.ensures, before.ok)) long c.carry_left.ensures.items).1
-
-pub returns-then-len-index-le-MAX_MOVED_LEFT_SINGLY-clause-items : goal.returns-then-len-index-le-MAX_MOVED_LEFT_SINGLY-clause-items
-returns-then-len-index-le-MAX_MOVED_LEFT_SINGLY-clause-items g c =
-    let before = c.take_last-last.new.self in
-    let long : c.args.index ≤ length c.carry_left.new.items.items = omega (arith, c.requires.within, c.carry_left.ensures.count, c.take_last-last.ensures.len, c.args.items.now.ok, before.ok) in
-    (carried_from_end c.args.items.now.items before.items c.carry_left.new.items.items c.args.index c.len-end.result c.take_last-last.result c.carry_left.result c.take_last-last.ensures.items (omega (arith, c.len-end.ensures, before.ok)) long c.carry_left.ensures.items).0
+pub returns-clause-items : goal.returns-clause-items
+returns-clause-items g c =
+    let xs = c.args.items.now.items in
+    let i = c.args.index in
+    let long : length c.move_item.new.items ≡ c.args.items.now.len = omega (arith, c.move_item.auto.items, c.deref_mut.ensures.len, c.args.items.now.ok) in
+    let fewer : length (remove xs i) + 1 ≡ length xs = length-remove xs i c.requires.within in
+    c.pop.ensures.rest ∙ ap (take (c.args.items.now.len - 1)) (take_at c.move_item.new.items _ _ long ∙ c.move_item.ensures c.unwrap.result ∙ ap (λ ys. insert (remove ys i) (c.len-last.result - 1) (get_or ys i c.unwrap.result)) c.deref_mut.ensures.value) ∙ taken_last (remove xs i) (c.args.items.now.len - 1) (c.len-last.result - 1) (get_or xs i c.unwrap.result) (omega (arith, fewer, c.args.items.now.ok)) (omega (arith, fewer, c.args.items.now.ok, c.len-last.ensures))
