@@ -67,10 +67,10 @@ fn every_list_of_six_ends_is_another(rt: HostRuntime) -> Result<(), Fail> {
 
 #[test]
 fn pulls_are_told_apart(rt: HostRuntime) {
-    for ends in all_ends() {
-        assert!(rt; pulls_as_list([1, 2, 3].iter(), |item| *item, &[1, 2, 3], &ends));
-        assert!(rt; !pulls_as_list([1, 2, 3].iter(), |item| *item, &[1, 4, 3], &ends));
-        assert!(rt; !pulls_as_list([1, 2, 3].iter(), |item| *item, &[1, 2], &ends));
-        assert!(rt; !pulls_as_list([1, 2].iter(), |item| *item, &[1, 2, 3], &ends));
+    for ends in &all_ends() {
+        assert!(rt; pulls_as_list([1, 2, 3].iter(), |item| *item, &[1, 2, 3], ends));
+        assert!(rt; !pulls_as_list([1, 2, 3].iter(), |item| *item, &[1, 4, 3], ends));
+        assert!(rt; !pulls_as_list([1, 2, 3].iter(), |item| *item, &[1, 2], ends));
+        assert!(rt; !pulls_as_list([1, 2].iter(), |item| *item, &[1, 2, 3], ends));
     }
 }

@@ -23,10 +23,10 @@ const SIX: [(u32, u32); 6] = [(0, 5), (1, 6), (2, 7), (3, 8), (4, 9), (5, 10)];
 fn a_drain_is_exact_for_every_mixture_of_next_and_next_back(rt: HostRuntime) {
     for count in 0..5 {
         let end = count + 1;
-        for ends in all_ends() {
+        for ends in &all_ends() {
             let mut map = granted(&rt, VecMap::from_slice(rt.alloc(), &SIX));
             assert!(rt; end <= map.len());
-            assert_pulls(&rt, map.drain(1..end), &SIX[1..end], &ends);
+            assert_pulls(&rt, map.drain(1..end), &SIX[1..end], ends);
             let left = map.as_slice().split_first();
             assert_is(&rt, left, Some((&SIX[0], &SIX[end..])));
         }

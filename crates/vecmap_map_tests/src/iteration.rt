@@ -24,11 +24,11 @@ const MIDDLE_VALUES: &[u32] = &[20, 30];
 fn borrowing_iterators_are_exact_for_every_mixture_of_next_and_next_back(rt: HostRuntime) {
     for count in 0..5 {
         let map = granted(&rt, VecMap::from_slice(rt.alloc(), &PAIRS[..count]));
-        for ends in all_ends() {
-            assert_pulls(&rt, map.iter(), &PAIRS[..count], &ends);
-            assert_pulls(&rt, (&map).into_iter(), &PAIRS[..count], &ends);
-            assert_pulls(&rt, map.keys(), &KEYS[..count], &ends);
-            assert_pulls(&rt, map.values(), &VALUES[..count], &ends);
+        for ends in &all_ends() {
+            assert_pulls(&rt, map.iter(), &PAIRS[..count], ends);
+            assert_pulls(&rt, (&map).into_iter(), &PAIRS[..count], ends);
+            assert_pulls(&rt, map.keys(), &KEYS[..count], ends);
+            assert_pulls(&rt, map.values(), &VALUES[..count], ends);
         }
     }
 }
@@ -37,10 +37,10 @@ fn borrowing_iterators_are_exact_for_every_mixture_of_next_and_next_back(rt: Hos
 fn lending_iterators_are_exact_for_every_mixture_of_next_and_next_back(rt: HostRuntime) {
     for count in 0..5 {
         let mut map = granted(&rt, VecMap::from_slice(rt.alloc(), &PAIRS[..count]));
-        for ends in all_ends() {
-            assert_pulls(&rt, map.iter_mut(), &PAIRS[..count], &ends);
-            assert_pulls(&rt, (&mut map).into_iter(), &PAIRS[..count], &ends);
-            assert_pulls(&rt, map.values_mut(), &VALUES[..count], &ends);
+        for ends in &all_ends() {
+            assert_pulls(&rt, map.iter_mut(), &PAIRS[..count], ends);
+            assert_pulls(&rt, (&mut map).into_iter(), &PAIRS[..count], ends);
+            assert_pulls(&rt, map.values_mut(), &VALUES[..count], ends);
         }
     }
 }
@@ -49,13 +49,13 @@ fn lending_iterators_are_exact_for_every_mixture_of_next_and_next_back(rt: HostR
 fn owning_iterators_are_exact_for_every_mixture_of_next_and_next_back(rt: HostRuntime) {
     for count in 0..5 {
         let map = granted(&rt, VecMap::from_slice(rt.alloc(), &PAIRS[..count]));
-        for ends in all_ends() {
+        for ends in &all_ends() {
             let copy = granted(&rt, map.clone());
-            assert_pulls(&rt, copy.into_iter(), &PAIRS[..count], &ends);
+            assert_pulls(&rt, copy.into_iter(), &PAIRS[..count], ends);
             let copy = granted(&rt, map.clone());
-            assert_pulls(&rt, copy.into_keys(), &KEYS[..count], &ends);
+            assert_pulls(&rt, copy.into_keys(), &KEYS[..count], ends);
             let copy = granted(&rt, map.clone());
-            assert_pulls(&rt, copy.into_values(), &VALUES[..count], &ends);
+            assert_pulls(&rt, copy.into_values(), &VALUES[..count], ends);
         }
     }
 }
@@ -77,34 +77,34 @@ fn keys_are_returned_from_both_ends(rt: HostRuntime) {
 #[test]
 fn clones_of_borrowing_iterators_return_what_is_left(rt: HostRuntime) {
     let map = granted(&rt, VecMap::from_slice(rt.alloc(), &PAIRS));
-    for ends in all_ends() {
+    for ends in &all_ends() {
         let (mut pairs, mut keys, mut values) = (map.iter(), map.keys(), map.values());
         drop((pairs.next(), keys.next(), values.next()));
         drop((pairs.next_back(), keys.next_back(), values.next_back()));
-        assert_pulls(&rt, pairs.clone(), MIDDLE, &ends);
-        assert_pulls(&rt, pairs, MIDDLE, &ends);
-        assert_pulls(&rt, keys.clone(), MIDDLE_KEYS, &ends);
-        assert_pulls(&rt, keys, MIDDLE_KEYS, &ends);
-        assert_pulls(&rt, values.clone(), MIDDLE_VALUES, &ends);
-        assert_pulls(&rt, values, MIDDLE_VALUES, &ends);
+        assert_pulls(&rt, pairs.clone(), MIDDLE, ends);
+        assert_pulls(&rt, pairs, MIDDLE, ends);
+        assert_pulls(&rt, keys.clone(), MIDDLE_KEYS, ends);
+        assert_pulls(&rt, keys, MIDDLE_KEYS, ends);
+        assert_pulls(&rt, values.clone(), MIDDLE_VALUES, ends);
+        assert_pulls(&rt, values, MIDDLE_VALUES, ends);
     }
 }
 
 #[test]
 fn clones_of_owning_iterators_return_what_is_left(rt: HostRuntime) {
     let map = granted(&rt, VecMap::from_slice(rt.alloc(), &PAIRS));
-    for ends in all_ends() {
+    for ends in &all_ends() {
         let mut pairs = granted(&rt, map.clone()).into_iter();
         let mut keys = granted(&rt, map.clone()).into_keys();
         let mut values = granted(&rt, map.clone()).into_values();
         drop((pairs.next(), keys.next(), values.next()));
         drop((pairs.next_back(), keys.next_back(), values.next_back()));
-        assert_pulls(&rt, granted(&rt, pairs.clone()), MIDDLE, &ends);
-        assert_pulls(&rt, pairs, MIDDLE, &ends);
-        assert_pulls(&rt, granted(&rt, keys.clone()), MIDDLE_KEYS, &ends);
-        assert_pulls(&rt, keys, MIDDLE_KEYS, &ends);
-        assert_pulls(&rt, granted(&rt, values.clone()), MIDDLE_VALUES, &ends);
-        assert_pulls(&rt, values, MIDDLE_VALUES, &ends);
+        assert_pulls(&rt, granted(&rt, pairs.clone()), MIDDLE, ends);
+        assert_pulls(&rt, pairs, MIDDLE, ends);
+        assert_pulls(&rt, granted(&rt, keys.clone()), MIDDLE_KEYS, ends);
+        assert_pulls(&rt, keys, MIDDLE_KEYS, ends);
+        assert_pulls(&rt, granted(&rt, values.clone()), MIDDLE_VALUES, ends);
+        assert_pulls(&rt, values, MIDDLE_VALUES, ends);
     }
 }
 

@@ -10,10 +10,10 @@ const SIX: [u32; 6] = [5, 6, 7, 8, 9, 10];
 fn a_drain_is_exact_for_every_mixture_of_next_and_next_back(rt: HostRuntime) {
     for count in 0..5 {
         let end = count + 1;
-        for ends in all_ends() {
+        for ends in &all_ends() {
             let mut set = granted(&rt, VecSet::from_slice(rt.alloc(), &SIX));
             assert!(rt; end <= set.len());
-            check!(rt; pulls_as_list(set.drain(1..end), |item| item, &SIX[1..end], &ends));
+            check!(rt; pulls_as_list(set.drain(1..end), |item| item, &SIX[1..end], ends));
             assert_is(
                 &rt,
                 set.as_slice().split_first(),

@@ -11,12 +11,12 @@ const ELEMENTS: [u32; 4] = [1, 2, 3, 4];
 fn iterators_are_exact_for_every_mixture_of_next_and_next_back(rt: HostRuntime) {
     for count in 0..5 {
         let set = granted(&rt, VecSet::from_slice(rt.alloc(), &ELEMENTS[..count]));
-        for ends in all_ends() {
+        for ends in &all_ends() {
             let read = |element: &u32| *element;
-            check!(rt; pulls_as_list(set.iter(), read, &ELEMENTS[..count], &ends));
-            check!(rt; pulls_as_list((&set).into_iter(), read, &ELEMENTS[..count], &ends));
+            check!(rt; pulls_as_list(set.iter(), read, &ELEMENTS[..count], ends));
+            check!(rt; pulls_as_list((&set).into_iter(), read, &ELEMENTS[..count], ends));
             let elements = granted(&rt, set.clone()).into_iter();
-            check!(rt; pulls_as_list(elements, |element| element, &ELEMENTS[..count], &ends));
+            check!(rt; pulls_as_list(elements, |element| element, &ELEMENTS[..count], ends));
         }
     }
 }
@@ -24,17 +24,17 @@ fn iterators_are_exact_for_every_mixture_of_next_and_next_back(rt: HostRuntime) 
 #[test]
 fn clones_return_what_is_left(rt: HostRuntime) {
     let set = granted(&rt, VecSet::from_slice(rt.alloc(), &ELEMENTS));
-    for ends in all_ends() {
+    for ends in &all_ends() {
         let read = |element: &u32| *element;
         let mut lent = set.iter();
         drop((lent.next(), lent.next_back()));
-        check!(rt; pulls_as_list(lent.clone(), read, &ELEMENTS[1..3], &ends));
-        check!(rt; pulls_as_list(lent, read, &ELEMENTS[1..3], &ends));
+        check!(rt; pulls_as_list(lent.clone(), read, &ELEMENTS[1..3], ends));
+        check!(rt; pulls_as_list(lent, read, &ELEMENTS[1..3], ends));
         let mut owned = granted(&rt, set.clone()).into_iter();
         drop((owned.next(), owned.next_back()));
         let copy = granted(&rt, owned.clone());
-        check!(rt; pulls_as_list(copy, |element| element, &ELEMENTS[1..3], &ends));
-        check!(rt; pulls_as_list(owned, |element| element, &ELEMENTS[1..3], &ends));
+        check!(rt; pulls_as_list(copy, |element| element, &ELEMENTS[1..3], ends));
+        check!(rt; pulls_as_list(owned, |element| element, &ELEMENTS[1..3], ends));
     }
 }
 

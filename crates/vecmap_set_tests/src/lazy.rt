@@ -188,7 +188,7 @@ fn assert_next<'a, I: DoubleEndedIterator<Item = &'a Item>>(
 // clone after the second call that continues by itself.
 macro_rules! assert_pulls {
     ($rt:ident; $iter:expr, $left:expr) => {
-        for ends in all_ends() {
+        for ends in &all_ends() {
             let mut iter = $iter;
             let mut left: Parts<'_> = $left;
             assert_next(&$rt, &mut iter, &mut left, &ends[..2]);

@@ -11,11 +11,11 @@ const KEYS: [u32; 4] = [1, 2, 3, 4];
 fn iter_mut2_and_keys_mut_are_exact_for_every_mixture_of_next_and_next_back(rt: HostRuntime) {
     for count in 0..5 {
         let mut pairs = granted(&rt, PAIRS[..count].to_vec(rt.alloc()));
-        for ends in all_ends() {
+        for ends in &all_ends() {
             let read = |(key, value): (&mut u32, &mut u32)| (*key, *value);
-            check!(rt; pulls_as_list(IterMut2::over(&mut pairs), read, &PAIRS[..count], &ends));
+            check!(rt; pulls_as_list(IterMut2::over(&mut pairs), read, &PAIRS[..count], ends));
             let read = |key: &mut u32| *key;
-            check!(rt; pulls_as_list(KeysMut::over(&mut pairs), read, &KEYS[..count], &ends));
+            check!(rt; pulls_as_list(KeysMut::over(&mut pairs), read, &KEYS[..count], ends));
         }
     }
 }
