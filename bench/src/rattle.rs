@@ -53,7 +53,7 @@ calls! { u64:
     large_from_vec = vecmap_bench_large_from_vec,
     large_entry = vecmap_bench_large_entry,
     get = vecmap_bench_get,
-    place = vecmap_bench_place,
+    place = vecmap_bench_get_index_of,
     get_char = vecmap_bench_get_char,
     sort_keys = vecmap_bench_sort_keys,
     sort_by = vecmap_bench_sort_by,

@@ -1,5 +1,5 @@
 //! Mixed calls on sets, also as values. A word holds a command in its low byte and an element above it.
-use super::runs::of_place;
+use super::runs::of_index;
 use vecmap::VecSet;
 
 #[inline(never)]
@@ -13,7 +13,7 @@ pub fn set_calls(_: &[u64], words: &[u64], rounds: u64) -> u64 {
             let answer = match word & 255 {
                 0..=29 => u64::from(set.insert(item)),
                 30..=69 => u64::from(set.contains(&item)),
-                70..=84 => of_place(set.get_index_of(&item)),
+                70..=84 => of_index(set.get_index_of(&item)),
                 85..=88 => set.len() as u64,
                 89..=98 => u64::from(set.remove(&item)),
                 _ => set.to_vec().len() as u64,
@@ -170,7 +170,7 @@ fn command(word: u64) -> SetCommand<u64> {
 fn of_reply(reply: &SetReply<u64>) -> u64 {
     match reply {
         SetReply::Truth(truth) => u64::from(*truth),
-        SetReply::Place(place) => of_place(*place),
+        SetReply::Place(place) => of_index(*place),
         SetReply::Number(n) => *n as u64,
         SetReply::Items(items) => items.len() as u64,
         _ => u64::MAX,

@@ -163,7 +163,7 @@ impl Document {
         ensures sections { OnOk result (self.new ≡ merged self.old other.old) }
         ensures document { IsDocument self.new }
         ensures emptied { OnOk result (other.new ≡ []) }
-        ensures some { OnErr result (0 < length other.old) }
+        ensures not_empty { OnErr result (0 < length other.old) }
         ensures err { OnErr result (self.new ≡ self.old) }
         ensures other_err { OnErr result (other.new ≡ other.old) }
     {

@@ -19,7 +19,7 @@ pub(crate) fn make_room(
     ensures sections { sections_of sections.new.entries ≡ sections_of sections.old.entries }
     ensures room { OnOk result (HasRoom sections.new (length others.now.entries)) }
     ensures rooms { OnOk result (All (IsRoomFor sections.new.entries) others.now.entries) }
-    ensures some { OnErr result (0 < length others.now.entries) }
+    ensures not_empty { OnErr result (0 < length others.now.entries) }
 {
     sections.reserve(others.len())?;
     for other in others.as_slice() {

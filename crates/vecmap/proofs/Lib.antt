@@ -11,7 +11,7 @@ pub use Rattle.vecmap_base.proofs.EqualityLemmas.Relations as SetRelations
 pub use Rattle.vecmap_base.proofs.EqualityLemmas.Sets as SetEquality
 pub use Rattle.vecmap_base.proofs.ItemsLemmas.Additions as ItemAdditions
 pub use Rattle.vecmap_base.proofs.ItemsLemmas.Members as ItemMembers
-pub use Rattle.vecmap_base.proofs.ItemsLemmas.Places as ItemPlaces
+pub use Rattle.vecmap_base.proofs.ItemsLemmas.Indices as ItemIndices
 pub use Rattle.vecmap_base.proofs.ItemsLemmas.Queries as ItemQueries
 pub use Rattle.vecmap_base.proofs.ItemsLemmas.Recursion as ItemRecursion
 pub use Rattle.vecmap_base.proofs.ItemsLemmas.Removals as ItemRemovals
@@ -23,7 +23,7 @@ pub use Rattle.vecmap_base.proofs.PairsLemmas.Keys
 pub use Rattle.vecmap_base.proofs.PairsLemmas.Lookups
 pub use Rattle.vecmap_base.proofs.PairsLemmas.Order
 pub use Rattle.vecmap_base.proofs.PairsLemmas.Parts
-pub use Rattle.vecmap_base.proofs.PairsLemmas.Places
+pub use Rattle.vecmap_base.proofs.PairsLemmas.Indices
 pub use Rattle.vecmap_base.proofs.PairsLemmas.Puts
 pub use Rattle.vecmap_base.proofs.PairsLemmas.Queries
 pub use Rattle.vecmap_base.proofs.PairsLemmas.Recursion

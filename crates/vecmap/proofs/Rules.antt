@@ -6,7 +6,7 @@ use Rattle.vecmap_base.specs.Pairs.{HasDistinctKeys}
 use Rattle.vecmap_base.proofs.DistinctLemmas.Absent.{distinct_none}
 use Rattle.vecmap_base.proofs.DistinctLemmas.Additions.{distinct_add, distinct_adds}
 use Rattle.vecmap_base.proofs.DistinctLemmas.Keys.{distinct_put, distinct_puts}
-use Rattle.vecmap_base.proofs.ItemsLemmas.Places.{item_index_add, slice_get_add}
+use Rattle.vecmap_base.proofs.ItemsLemmas.Indices.{item_index_add, slice_get_add}
 use Rattle.vecmap_base.proofs.PairsLemmas.Keys.{keys_of_put, keys_of_puts}
 
 -- An empty list has no two equal keys.

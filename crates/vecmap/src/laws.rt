@@ -17,7 +17,7 @@ ghost use Rattle.vecmap.specs.declared.set_run.reply.SetReply.TheVariants.{Truth
 ghost use Rattle.vecmap_base.specs.Items.{add, adds};
 ghost use Rattle.vecmap_base.specs.Pairs.{index_of, lookup, put, puts};
 ghost use Rattle.vecmap_map.specs.Contents.{Contents};
-ghost use Rattle.vecmap_map.specs.Entry.{entries_with, entry_key, entry_map, entry_place, entry_value};
+ghost use Rattle.vecmap_map.specs.Entry.{entries_with, entry_key, entry_map, entry_index_of, entry_value};
 ghost use Rattle.vecmap_map.specs.declared.entry.Entry.{Entry};
 ghost use Rattle.vecmap_set.specs.Contents as set_contents;
 
@@ -95,18 +95,18 @@ pub fn inner_additions_are_found<K: Eq, T: Eq>()
         (before after : set_contents.Contents T) (x : T) → l ≡ entries_with e after
         → after.elements ≡ add T.eq before.elements x
         → UnwrapsOrElse (entry_value e) IsMadeEmptySet before → entry_map e ≡ m → entry_key e ≡ k
-        → entry_place e ≡ index_of K.eq m.entries k
+        → entry_index_of e ≡ index_of K.eq m.entries k
         → inner_elements K.eq l k ≡ add T.eq (inner_elements K.eq m.entries k) x }
     ensures entry_others { (l : List (K × set_contents.Contents T))
         (m : Contents K (set_contents.Contents T)) (k : K) (e : Entry K (set_contents.Contents T))
         (s : set_contents.Contents T) → l ≡ entries_with e s → entry_map e ≡ m → entry_key e ≡ k
-        → entry_place e ≡ index_of K.eq m.entries k → (q : K) → K.eq k q ≡ false
+        → entry_index_of e ≡ index_of K.eq m.entries k → (q : K) → K.eq k q ≡ false
         → inner_elements K.eq l q ≡ inner_elements K.eq m.entries q }
     ensures entry_unchanged { (l : List (K × set_contents.Contents T))
         (m : Contents K (set_contents.Contents T)) (k : K) (e : Entry K (set_contents.Contents T))
         (before after : set_contents.Contents T) → l ≡ entries_with e after → after ≡ before
         → UnwrapsOrElse (entry_value e) IsMadeEmptySet before → entry_map e ≡ m → entry_key e ≡ k
-        → entry_place e ≡ index_of K.eq m.entries k → (q : K)
+        → entry_index_of e ≡ index_of K.eq m.entries k → (q : K)
         → inner_elements K.eq l q ≡ inner_elements K.eq m.entries q }
     ensures unchanged { (l : List (K × set_contents.Contents T)) (k : K)
         (s : set_contents.Contents T) → UnwrapsOrElse (lookup K.eq l k) IsMadeEmptySet s → (q : K)

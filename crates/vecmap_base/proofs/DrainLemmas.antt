@@ -65,8 +65,8 @@ module _ {X : Type 0} where
   pub first_pulled : (b : Bool) (xs ys : List X) (x : X) (k : ℕ) → b ≡ true → k < length xs → xs ≡ ys ++ x ∷ []
       → (reverse_if b (drop k xs) ≡ x ∷ reverse_if b (drop k ys)) × (take k ys ≡ take k xs)
   unfolding reverse_if
-  first_pulled false xs ys x k laid more e = absurd (true≢false (sym laid))
-  first_pulled true xs ys x k laid more e =
+  first_pulled false xs ys x k ordered more e = absurd (true≢false (sym ordered))
+  first_pulled true xs ys x k ordered more e =
       let long : k ≤ length ys = omega (arith, ap length e, length_push ys x, more) in
       (ap (λ l. reverse (drop k l)) e ∙ ap reverse (drop_end ys x k long) ∙ reverse-append (drop k ys) (x ∷ []), sym (ap (take k) e ∙ take-append-le k ys (x ∷ []) long))
 
@@ -74,8 +74,8 @@ module _ {X : Type 0} where
   pub last_pulled : (b : Bool) (xs ys : List X) (x : X) (k : ℕ) → b ≡ false → k < length xs → xs ≡ ys ++ x ∷ []
       → (reverse_if b (drop k xs) ≡ reverse_if b (drop k ys) ++ x ∷ []) × (take k ys ≡ take k xs)
   unfolding reverse_if
-  last_pulled true xs ys x k laid more e = absurd (true≢false laid)
-  last_pulled false xs ys x k laid more e =
+  last_pulled true xs ys x k ordered more e = absurd (true≢false ordered)
+  last_pulled false xs ys x k ordered more e =
       let long : k ≤ length ys = omega (arith, ap length e, length_push ys x, more) in
       (ap (drop k) e ∙ drop_end ys x k long, sym (ap (take k) e ∙ take-append-le k ys (x ∷ []) long))
 

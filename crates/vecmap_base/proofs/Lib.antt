@@ -10,7 +10,7 @@ pub mod LawLemmas
 pub mod MatchingLemmas
 pub mod MoveLemmas
 pub mod PairsLemmas
-pub mod PlaceLemmas
+pub mod IndexLemmas
 pub mod RepeatsLemmas
 pub mod SearchLemmas
 pub mod WalkLemmas

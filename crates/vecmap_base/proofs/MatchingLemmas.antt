@@ -13,7 +13,7 @@ use Rattle.vecmap_base.specs.Equality.{free, same_pair}
 use Rattle.vecmap_base.specs.Pairs.{index_of}
 use Rattle.vecmap_base.proofs.EqualityLemmas.Counts.{agree_everywhere, agreed, all_agree, many, many_absent}
 use Rattle.vecmap_base.proofs.EqualityLemmas.Partial.{agree, all_reflexive, at_self, disagree, disagree_at, from_lumps, lumped, lumped_if_same, lumped_laws, self_left}
-use Rattle.vecmap_base.proofs.PlaceLemmas.{fails_everywhere}
+use Rattle.vecmap_base.proofs.IndexLemmas.{fails_everywhere}
 
 module _ {X : Type 0} where
   pub free_unmarked : (xs : List X) (n : ℕ) → free xs (replicate n false) ≡ xs

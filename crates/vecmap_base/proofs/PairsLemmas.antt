@@ -6,7 +6,7 @@ pub mod Keys
 pub mod Lookups
 pub mod Order
 pub mod Parts
-pub mod Places
+pub mod Indices
 pub mod Puts
 pub mod Queries
 pub mod Recursion

@@ -29,12 +29,12 @@ pub use equivalent::Equivalent;
 pub use iter::{IntoIter, IntoKeys, IntoValues, Iter, Keys, Values};
 pub use iter_mut::{IterMut, IterMut2, KeysMut, ValuesMut};
 pub use lookup::{
-    find, find_equivalent, find_item, find_item_equivalent, find_item_str, find_str, is_in,
-    is_in_equivalent,
+    contains_equivalent, contains_item, find, find_equivalent, find_item, find_item_equivalent,
+    find_item_str, find_str,
 };
-pub use moving::{put_in, replace_and_move, take_out};
+pub use moving::{insert_reserved, remove_item, replace_and_move};
 pub use refused::Refused;
-pub use relations::{are_apart, are_within};
+pub use relations::{are_disjoint, are_within};
 pub use repeats::{dedup_keep_first, dedup_keep_last_value, gather_items, gather_pairs};
 pub use retain::{retain_items, retain_pairs, retain_pairs_mut};
 pub use search::{partition_point, search_by_index, search_items_by_key, search_pairs_by_key};

@@ -22,7 +22,7 @@ use crate::unrolled::{
 /// find(&[('a', 1), ('b', 2)], &'b') // Some(1)
 /// ```
 pub fn find<K: Eq, V>(pairs: &[(K, V)], key: &K) -> Option<usize>
-    ensures place { result ≡ index_of K.eq pairs.now key.now }
+    ensures index { result ≡ index_of K.eq pairs.now key.now }
     ensures within { IfSome result (λ i. i < length pairs.now) }
 {
     find_equivalent(pairs, key)
@@ -40,7 +40,7 @@ pub fn find<K: Eq, V>(pairs: &[(K, V)], key: &K) -> Option<usize>
 /// find_item(&['a', 'b'], &'b') // Some(1)
 /// ```
 pub fn find_item<T: Eq>(items: &[T], item: &T) -> Option<usize>
-    ensures place { result ≡ item_index T.eq items.now item.now }
+    ensures index { result ≡ item_index T.eq items.now item.now }
     ensures within { IfSome result (λ i. i < length items.now) }
 {
     find_item_equivalent(items, item)
@@ -59,7 +59,7 @@ pub fn find_item<T: Eq>(items: &[T], item: &T) -> Option<usize>
 /// find_str(&pairs, "a") // Some(0)
 /// ```
 pub fn find_str<V>(pairs: &[(String, V)], text: &str) -> Option<usize>
-    ensures place { result ≡ index_by (has_text text.now) pairs.now }
+    ensures index { result ≡ index_by (has_text text.now) pairs.now }
     ensures within { IfSome result (λ i. i < length pairs.now) }
 {
     find_equivalent(pairs, text)
@@ -78,7 +78,7 @@ pub fn find_str<V>(pairs: &[(String, V)], text: &str) -> Option<usize>
 /// find_item_str(&items, "a") // Some(0)
 /// ```
 pub fn find_item_str(items: &[String], text: &str) -> Option<usize>
-    ensures place { result ≡ position (has_text text.now) items.now }
+    ensures index { result ≡ position (has_text text.now) items.now }
     ensures within { IfSome result (λ i. i < length items.now) }
 {
     find_item_equivalent(items, text)
@@ -93,12 +93,12 @@ pub fn find_item_str(items: &[String], text: &str) -> Option<usize>
 /// # Examples
 ///
 /// ```
-/// is_in(&['a', 'b'], &'c') // false
+/// contains_item(&['a', 'b'], &'c') // false
 /// ```
-pub fn is_in<T: Eq>(items: &[T], item: &T) -> bool
+pub fn contains_item<T: Eq>(items: &[T], item: &T) -> bool
     ensures { result ≡ has_item T.eq items.now item.now }
 {
-    is_in_equivalent(items, item)
+    contains_equivalent(items, item)
 }
 
 /// Returns the index of the first pair whose key matches `query`.
@@ -113,7 +113,7 @@ pub fn is_in<T: Eq>(items: &[T], item: &T) -> bool
 /// find_equivalent(&[("a", 1), ("b", 2)], "b") // Some(1)
 /// ```
 pub fn find_equivalent<K: Eq, V, Q: Equivalent<K>>(pairs: &[(K, V)], query: Q) -> Option<usize>
-    ensures place { result ≡ index_by (Q.equivalent query) pairs.now }
+    ensures index { result ≡ index_by (Q.equivalent query) pairs.now }
     ensures within { IfSome result (λ i. i < length pairs.now) }
 {
     if pairs.first().is_some_and(|pair| is_small(&pair.0)) {
@@ -141,7 +141,7 @@ pub fn find_equivalent<K: Eq, V, Q: Equivalent<K>>(pairs: &[(K, V)], query: Q) -
 /// ```
 #[inline]
 pub fn find_item_equivalent<T: Eq, Q: Equivalent<T>>(items: &[T], query: Q) -> Option<usize>
-    ensures place { result ≡ position (Q.equivalent query) items.now }
+    ensures index { result ≡ position (Q.equivalent query) items.now }
     ensures within { IfSome result (λ i. i < length items.now) }
 {
     if items.len() >= MIN_LENGTH_FOR_BLOCKS && items.first().is_some_and(is_small) {
@@ -162,7 +162,7 @@ pub fn find_item_equivalent<T: Eq, Q: Equivalent<T>>(items: &[T], query: Q) -> O
 // short list is.
 #[inline(never)]
 fn find_item_of_many<T: Eq, Q: Equivalent<T>>(items: &[T], query: Q) -> Option<usize>
-    ensures place { result ≡ position (Q.equivalent query) items.now }
+    ensures index { result ≡ position (Q.equivalent query) items.now }
     ensures within { IfSome result (λ i. i < length items.now) }
 {
     find_by_eights(
@@ -183,10 +183,10 @@ fn find_item_of_many<T: Eq, Q: Equivalent<T>>(items: &[T], query: Q) -> Option<u
 /// # Examples
 ///
 /// ```
-/// is_in_equivalent(&["a", "b"], "c") // false
+/// contains_equivalent(&["a", "b"], "c") // false
 /// ```
 #[inline]
-pub fn is_in_equivalent<T: Eq, Q: Equivalent<T>>(items: &[T], query: Q) -> bool
+pub fn contains_equivalent<T: Eq, Q: Equivalent<T>>(items: &[T], query: Q) -> bool
     ensures { result ≡ list_any (Q.equivalent query) items.now }
 {
     if items.len() >= MIN_LENGTH_FOR_BLOCKS && items.first().is_some_and(is_small) {

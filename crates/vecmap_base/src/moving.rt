@@ -3,7 +3,7 @@ ghost use Rattle.std.specs.Prelude.{◌≡◌, ◌<◌, ◌≤◌, Some, insert,
 
 use std::mem::{replace, size_of_val};
 
-// The largest size, in bytes, of an item that moves one by one, or that `take_out` removes by a rotation.
+// The largest size, in bytes, of an item that moves one by one, or that `remove_item` removes by a rotation.
 const MAX_BYTES_FOR_ROTATION: usize = 64;
 
 // The greatest numbers of items that move one by one, and not by a rotation, to the left and to the right.
@@ -65,10 +65,10 @@ pub fn replace_and_move<T>(items: &mut Vec<T>, from: usize, to: usize, item: T) 
 /// ```
 /// let mut items = vec![in alloc; 'a', 'b', 'c']?;
 /// # assert!(*rt; 0 < items.len());
-/// take_out(&mut items, 0) // 'a'
+/// remove_item(&mut items, 0) // 'a'
 /// items.as_slice() // ['b', 'c']
 /// ```
-pub fn take_out<T>(items: &mut Vec<T>, index: usize) -> T
+pub fn remove_item<T>(items: &mut Vec<T>, index: usize) -> T
     requires within { index < length items.old.items }
     ensures item { slice_get items.old.items index ≡ Some result }
     ensures items { items.new.items ≡ remove items.old.items index }
@@ -100,10 +100,10 @@ pub fn take_out<T>(items: &mut Vec<T>, index: usize) -> T
 /// let mut items = vec![in alloc; 'a', 'b', 'c']?;
 /// items.reserve(1)?;
 /// # assert!(*rt; 1 <= items.len() && items.len() != items.capacity());
-/// put_in(&mut items, 1, 'd');
+/// insert_reserved(&mut items, 1, 'd');
 /// items.as_slice() // ['a', 'd', 'b', 'c']
 /// ```
-pub fn put_in<T>(items: &mut Vec<T>, index: usize, item: T)
+pub fn insert_reserved<T>(items: &mut Vec<T>, index: usize, item: T)
     requires within { index ≤ length items.old.items }
     requires room { length items.old.items < vec_capacity items.old }
     ensures items { items.new.items ≡ insert items.old.items index item }

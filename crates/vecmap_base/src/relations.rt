@@ -4,7 +4,7 @@ ghost use Rattle.std.specs.List.{list_any};
 ghost use Rattle.vecmap_base.specs.Equality.{is_within};
 ghost use Rattle.vecmap_base.specs.Items.{both, has_item};
 
-use crate::lookup::is_in;
+use crate::lookup::contains_item;
 use crate::unrolled::MIN_LENGTH_FOR_BLOCKS;
 
 /// Returns `true` if each of `items` is equal to one of `others`.
@@ -26,7 +26,7 @@ pub fn are_within<T: Eq>(items: &[T], others: &[T]) -> bool
     if others.len() < MIN_LENGTH_FOR_BLOCKS {
         return are_within_few(items, others);
     }
-    items.iter().all(|item| is_in(others, item))
+    items.iter().all(|item| contains_item(others, item))
 }
 
 /// Returns `true` if none of `items` is equal to one of `others`.
@@ -40,9 +40,9 @@ pub fn are_within<T: Eq>(items: &[T], others: &[T]) -> bool
 /// # Examples
 ///
 /// ```
-/// are_apart(&[2, 1], &[3, 4]) // true
+/// are_disjoint(&[2, 1], &[3, 4]) // true
 /// ```
-pub fn are_apart<T: Eq>(items: &[T], others: &[T]) -> bool
+pub fn are_disjoint<T: Eq>(items: &[T], others: &[T]) -> bool
     ensures disjoint { IsTrue result ↔ (both T.eq items.now others.now ≡ []) }
     ensures from_other_side { IsTrue result ↔ (both T.eq others.now items.now ≡ []) }
 {
@@ -56,7 +56,7 @@ fn overlap<T: Eq>(items: &[T], others: &[T]) -> bool
     if others.len() < MIN_LENGTH_FOR_BLOCKS {
         return overlap_few(items, others);
     }
-    items.iter().any(|item| is_in(others, item))
+    items.iter().any(|item| contains_item(others, item))
 }
 
 // The same as `are_within`, for few others. It is not inlined, so that neither loop depends on the code around the other.
@@ -75,7 +75,7 @@ fn overlap_few<T: Eq>(items: &[T], others: &[T]) -> bool
     items.iter().any(|item| is_in_few(others, item))
 }
 
-// The same as `is_in`, for few items.
+// The same as `contains_item`, for few items.
 fn is_in_few<T: Eq>(items: &[T], item: &T) -> bool
     ensures { result ≡ has_item T.eq items.now item.now }
 {

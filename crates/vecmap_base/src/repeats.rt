@@ -29,7 +29,7 @@ fn is_repeat<T: Eq>(front: &[T], item: &T, steps: &mut Steps) -> bool
 // Returns the index of the first pair of `front` whose key is equal to `key`. Stops at this pair.
 fn find_repeat<K: Eq, V>(front: &[(K, V)], key: &K, steps: &mut Steps) -> Option<usize>
     requires bounded { steps.old + length front.now ≤ u128.MAX }
-    ensures place { result ≡ index_of K.eq front.now key.now }
+    ensures index { result ≡ index_of K.eq front.now key.now }
     ensures within { IfSome result (λ i. i < length front.now) }
     ensures counted { steps.new ≡ steps.old + search_cost K.eq (keys_of front.now) key.now }
 {

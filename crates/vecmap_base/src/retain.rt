@@ -93,7 +93,7 @@ pub fn retain_items<T: Drop, F: FnMut(&T) -> bool + Drop>(items: &mut Vec<T>, f:
 }
 
 // A closure that is asked whether an item stays.
-trait Keeps<X>: Drop {
+trait Predicate<X>: Drop {
     // It may be asked about this item.
     ghost accepts: { Self → X → Type 0 };
 
@@ -117,7 +117,7 @@ impl<F> Model for OnPair<F> {
     ghost view = { λ a. a.keep };
 }
 
-impl<K, V, F: FnMut(&K, &mut V) -> bool> Keeps<(K, V)> for OnPair<F> {
+impl<K, V, F: FnMut(&K, &mut V) -> bool> Predicate<(K, V)> for OnPair<F> {
     ghost accepts = { TakesPairAt F.FnMut };
 
     ghost step = { CallsAtPair F.FnMut };
@@ -140,7 +140,7 @@ impl<F> Model for OnPairMut<F> {
     ghost view = { λ a. a.keep };
 }
 
-impl<K, V, F: FnMut(&mut K, &mut V) -> bool> Keeps<(K, V)> for OnPairMut<F> {
+impl<K, V, F: FnMut(&mut K, &mut V) -> bool> Predicate<(K, V)> for OnPairMut<F> {
     ghost accepts = { TakesPairMut F.FnMut };
 
     ghost step = { CallsAtPairMut F.FnMut };
@@ -163,7 +163,7 @@ impl<F> Model for OnItem<F> {
     ghost view = { λ a. a.keep };
 }
 
-impl<T, F: FnMut(&T) -> bool> Keeps<T> for OnItem<F> {
+impl<T, F: FnMut(&T) -> bool> Predicate<T> for OnItem<F> {
     ghost accepts = { TakesAt F.FnMut };
 
     ghost step = { CallsAtItem F.FnMut };
@@ -175,12 +175,12 @@ impl<T, F: FnMut(&T) -> bool> Keeps<T> for OnItem<F> {
 }
 
 // Retains the items that `asked` keeps. No item moves before the first that it refuses.
-fn retain<X: Drop, A: Keeps<X>>(items: &mut Vec<X>, mut asked: A)
+fn retain<X: Drop, A: Predicate<X>>(items: &mut Vec<X>, mut asked: A)
     requires callable { CallableOnEach A.step A.accepts asked items.old.items }
     ensures retained { (g : A) × Kept A.step asked items.old.items items.new.items g }
     ensures capacity { vec_capacity items.new ≡ vec_capacity items.old }
 {
-    let refused = find_refused(items, &mut asked);
+    let refused = find_rejected(items, &mut asked);
     let mut kept = refused;
     for i in refused + 1..items.len() {
         if asked.keeps(&mut items[i]) {
@@ -193,7 +193,7 @@ fn retain<X: Drop, A: Keeps<X>>(items: &mut Vec<X>, mut asked: A)
 
 // Asks about the items in order, up to the first that is refused, and returns its index. If there is none, returns the
 // number of items.
-fn find_refused<X, A: Keeps<X>>(items: &mut Vec<X>, asked: &mut A) -> usize
+fn find_rejected<X, A: Predicate<X>>(items: &mut Vec<X>, asked: &mut A) -> usize
     requires callable { CallableOnEach A.step A.accepts asked.old items.old.items }
     ensures retained { KeptSoFar A.step asked.old asked.new items.old.items items.new.items
         result (result + 1) }

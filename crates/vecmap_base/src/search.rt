@@ -33,7 +33,7 @@ use std::cmp::Ordering;
 pub fn search_by_index<T, F: Fn(usize) -> Ordering>(items: &[T], f: F) -> Result<usize, usize>
     requires callable { CallableBelow F.Fn f (length items.now) }
     ensures within { IsSearchInRange result (length items.now) }
-    ensures place { (ord : T → Ordering) → AnswersAtIndex F.Fn ord f items.now
+    ensures index { (ord : T → Ordering) → AnswersAtIndex F.Fn ord f items.now
         → IsBinarySearchResult ord items.now result }
 {
     let mut size = items.len();
@@ -78,7 +78,7 @@ pub fn search_pairs_by_key<'a, K, V, B: Ord + Drop, F: Fn(&'a K, &'a V) -> B>(
 ) -> Result<usize, usize>
     requires callable { All (CallableOnPair F.Fn f) pairs.now }
     ensures within { IsSearchInRange result (length pairs.now) }
-    ensures place { (key_of : K × V → B) → AnswersOnPair F.Fn key_of f
+    ensures index { (key_of : K × V → B) → AnswersOnPair F.Fn key_of f
         → IsBinarySearchResult (λ p. B.cmp (key_of p) key.now) pairs.now result }
 {
     search_by_index(
@@ -120,7 +120,7 @@ pub fn search_items_by_key<'a, T, B: Ord + Drop, F: Fn(&'a T) -> B>(
 ) -> Result<usize, usize>
     requires callable { All (CallableOnItem F.Fn f) items.now }
     ensures within { IsSearchInRange result (length items.now) }
-    ensures place { (key_of : T → B) → AnswersOnItem F.Fn key_of f
+    ensures index { (key_of : T → B) → AnswersOnItem F.Fn key_of f
         → IsBinarySearchResult (λ x. B.cmp (key_of x) key.now) items.now result }
 {
     search_by_index(
@@ -154,7 +154,7 @@ pub fn search_items_by_key<'a, T, B: Ord + Drop, F: Fn(&'a T) -> B>(
 pub fn partition_point<T, P: Fn(&T) -> bool>(items: &[T], pred: P) -> usize
     requires callable { All (CallableOnItem P.Fn pred) items.now }
     ensures within { result ≤ length items.now }
-    ensures place { (p : T → Bool) → AnswersOnItem P.Fn p pred → IsPartitionedBy p items.now
+    ensures index { (p : T → Bool) → AnswersOnItem P.Fn p pred → IsPartitionedBy p items.now
         → IsPartitionPoint (λ x. p x ≡ true) (λ x. p x ≡ false) items.now result }
 {
     let found = search_by_index(

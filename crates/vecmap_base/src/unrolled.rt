@@ -31,7 +31,7 @@ pub(crate) fn find_pair_unrolled<'a, K, V, F: Fn(&'a K) -> bool>(
     asks: F,
 ) -> Option<usize>
     requires { F.IsAlwaysCallable asks }
-    ensures place { (p : K → Bool) → AnswersOnItem F.Fn p asks → result ≡ index_by p pairs.now }
+    ensures index { (p : K → Bool) → AnswersOnItem F.Fn p asks → result ≡ index_by p pairs.now }
     ensures within { IfSome result (λ i. i < length pairs.now) }
 {
     let twos = pairs.len() / 2;
@@ -57,7 +57,7 @@ pub(crate) fn find_item_unrolled<'a, T, F: Fn(&'a T) -> bool>(
     asks: F,
 ) -> Option<usize>
     requires { F.IsAlwaysCallable asks }
-    ensures place { (p : T → Bool) → AnswersOnItem F.Fn p asks → result ≡ position p items.now }
+    ensures index { (p : T → Bool) → AnswersOnItem F.Fn p asks → result ≡ position p items.now }
     ensures within { IfSome result (λ i. i < length items.now) }
 {
     let fours = items.len() / 4;
@@ -82,7 +82,7 @@ pub(crate) fn find_item_unrolled<'a, T, F: Fn(&'a T) -> bool>(
 // Returns the index of the first item for which `asks` returns `true`. It asks about eight items before it branches.
 pub(crate) fn find_by_eights<'a, T, F: Fn(&'a T) -> bool>(items: &'a [T], asks: F) -> Option<usize>
     requires { F.IsAlwaysCallable asks }
-    ensures place { (p : T → Bool) → AnswersOnItem F.Fn p asks → result ≡ position p items.now }
+    ensures index { (p : T → Bool) → AnswersOnItem F.Fn p asks → result ≡ position p items.now }
     ensures within { IfSome result (λ i. i < length items.now) }
 {
     let eights = items.len() / 8;
@@ -102,7 +102,7 @@ fn find_of_eight<'a, T, F: Fn(&'a T) -> bool>(items: &'a [T], at: usize, asks: &
     requires within { at + 8 ≤ length items.now }
     requires none_before { (p : T → Bool) → AnswersOnItem F.Fn p asks.now
         → position p (take at items.now) ≡ None }
-    ensures place { (p : T → Bool) → AnswersOnItem F.Fn p asks.now
+    ensures index { (p : T → Bool) → AnswersOnItem F.Fn p asks.now
         → IfSome result (λ i. position p items.now ≡ Some i) }
     ensures within { IfSome result (λ i. i < length items.now) }
     ensures none { result ≡ None → (p : T → Bool) → AnswersOnItem F.Fn p asks.now
@@ -149,7 +149,7 @@ fn find_from<'a, T, F: Fn(&'a T) -> bool>(items: &'a [T], from: usize, asks: F) 
     requires callable { F.IsAlwaysCallable asks }
     requires none_before { (p : T → Bool) → AnswersOnItem F.Fn p asks
         → position p (take from items.now) ≡ None }
-    ensures place { (p : T → Bool) → AnswersOnItem F.Fn p asks → result ≡ position p items.now }
+    ensures index { (p : T → Bool) → AnswersOnItem F.Fn p asks → result ≡ position p items.now }
     ensures within { IfSome result (λ i. i < length items.now) }
 {
     for index in from..items.len() {

@@ -77,7 +77,7 @@ pub extern "C" fn vecmap_bench_get(
 }
 
 #[unsafe(no_mangle)]
-pub extern "C" fn vecmap_bench_place(
+pub extern "C" fn vecmap_bench_get_index_of(
     alloc: Global,
     keys: &[u64],
     probes: &[u64],

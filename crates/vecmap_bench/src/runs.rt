@@ -30,7 +30,7 @@ fn of_value(value: Option<u64>) -> u64 {
     }
 }
 
-fn of_place(place: Option<usize>) -> u64 {
+fn of_index(place: Option<usize>) -> u64 {
     match place {
         Some(place) => place as u64,
         None => 2,
@@ -40,7 +40,7 @@ fn of_place(place: Option<usize>) -> u64 {
 fn of_reply(reply: &MapReply<u64, u64>) -> u64 {
     match reply {
         MapReply::Value(value) => of_value(*value),
-        MapReply::Place(place) => of_place(*place),
+        MapReply::Place(place) => of_index(*place),
         MapReply::Number(n) => *n as u64,
         MapReply::Pairs(pairs) => pairs.len() as u64,
         _ => REFUSED,
@@ -69,7 +69,7 @@ fn call_runs(alloc: Global, words: &[u64], rounds: u64) -> Result<u64, AllocErro
             let answer = match word & 255 {
                 0..=29 => of_value(map.insert(key, word)?),
                 30..=69 => of_value(map.get(&key).copied()),
-                70..=84 => of_place(map.get_index_of(&key)),
+                70..=84 => of_index(map.get_index_of(&key)),
                 85..=88 => map.len() as u64,
                 89..=98 => of_value(map.remove(&key)),
                 _ => map.to_vec()?.len() as u64,

@@ -154,7 +154,7 @@ pub fn put_entry<K: Eq + Clone>(
     map: &mut VecMap<K, u64>,
     key: K,
 ) -> Result<(usize, K), Refused<(K, u64)>>
-    ensures place { IfOk result (λ done. done.0 ≡ index_or_length K.eq map.old.entries key) }
+    ensures index { IfOk result (λ done. done.0 ≡ index_or_length K.eq map.old.entries key) }
     ensures key { IfOk result (λ done. done.1 ≡ key) }
     ensures present { IsSome (index_of K.eq map.old.entries key)
         → OnOk result (map.new.entries ≡ put K.eq map.old.entries key 9) }

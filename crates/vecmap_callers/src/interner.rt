@@ -121,7 +121,7 @@ pub fn intern_around<T: Eq + Drop>(
 ) -> Result<(usize, usize), Refused<T>>
     ensures equal_names { IfOk result (λ ids. IsTrue (T.eq first last) → ids.0 ≡ ids.1) }
 {
-    laws::equal_elements_have_one_place::<T>();
+    laws::equal_elements_have_one_index::<T>();
     let first_id = registry.intern(first)?;
     registry.intern(between)?;
     let last_id = registry.intern(last)?;

@@ -150,7 +150,7 @@ impl<K: Eq + Drop, V: Drop> Options<K, V> {
     ///
     /// One lookup for each override of `upper`.
     #[tactic(auto, using(vecmap::proofs::Rules::distinct_keys))]
-    pub fn lay(&mut self, upper: &mut Options<K, V>) -> Result<(), AllocError>
+    pub fn overlay(&mut self, upper: &mut Options<K, V>) -> Result<(), AllocError>
         ensures settings { OnOk result ((q : K)
             → setting K.eq self.new q
             ≡ option_or (lookup K.eq upper.old.overrides q) (setting K.eq self.old q)) }

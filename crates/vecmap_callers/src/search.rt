@@ -16,7 +16,7 @@ pub fn search_value(map: &VecMap<char, u32>, value: u32) -> Result<usize, usize>
 
 /// Sorts the keys and searches for one. If it is absent, the returned index separates the lesser keys from the greater
 /// ones.
-pub fn place_among_keys(map: &mut VecMap<u32, char>, key: u32) -> Result<usize, usize>
+pub fn index_among_keys(map: &mut VecMap<u32, char>, key: u32) -> Result<usize, usize>
     ensures { IfErr result (λ i. IsPartitionPoint (λ p. nat_cmp p.0 key ≡ Less)
         (λ p. nat_cmp p.0 key ≡ Greater) map.new.entries i) }
 {

@@ -41,8 +41,8 @@ where
     I::Item: Drop,
     T: PartialEq + Drop,
     F: Fn(I::Item) -> T + Drop,
-    requires front { (it : I) → I.can_next it }
-    requires back { (it : I) → I.can_next_back it }
+    requires next { (it : I) → I.can_next it }
+    requires next_back { (it : I) → I.can_next_back it }
     requires reads { F.IsAlwaysCallable read }
 {
     let mut rest = list;

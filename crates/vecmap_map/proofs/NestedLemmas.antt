@@ -6,16 +6,16 @@ use Rattle.std.proofs.Common.{◌≡◌, Bool, true, false, List, [], ◌∷◌,
 use Rattle.std.proofs.lemmas.Bool.{cases_Bool}
 use Rattle.vecmap_base.specs.Pairs.{index_of, lookup, put, value_at, with_value}
 use Rattle.vecmap_base.proofs.PairsLemmas.Lookups.{lookup_congr, lookup_put, lookup_put_other}
-use Rattle.vecmap_map.specs.{Contents.Contents, Entry.entries_with, Entry.entry_key, Entry.entry_map, Entry.entry_place, Entry.entry_value}
+use Rattle.vecmap_map.specs.{Contents.Contents, Entry.entries_with, Entry.entry_key, Entry.entry_map, Entry.entry_index_of, Entry.entry_value}
 use Rattle.vecmap_map.specs.declared.entry.Entry.{Entry}
 
 module _ {K W : Type 0} (eq : K → K → Bool) where
   -- An entry with a new value leaves the same list as `put`.
-  entry_puts : (m : Contents K W) (k : K) (e : Entry K W) (w : W) → entry_map e ≡ m → entry_key e ≡ k → entry_place e ≡ index_of eq m.entries k → entries_with e w ≡ put eq m.entries k w
+  entry_puts : (m : Contents K W) (k : K) (e : Entry K W) (w : W) → entry_map e ≡ m → entry_key e ≡ k → entry_index_of e ≡ index_of eq m.entries k → entries_with e w ≡ put eq m.entries k w
   entry_puts m k e w same key place = λ t. option_map_or (λ i. with_value (same t).entries i w) (place t) ((same t).entries ++ (key t, w) ∷ [])
 
   -- The value of an entry is what a lookup finds.
-  entry_finds : (m : Contents K W) (k : K) (e : Entry K W) → entry_map e ≡ m → entry_place e ≡ index_of eq m.entries k → entry_value e ≡ lookup eq m.entries k
+  entry_finds : (m : Contents K W) (k : K) (e : Entry K W) → entry_map e ≡ m → entry_index_of e ≡ index_of eq m.entries k → entry_value e ≡ lookup eq m.entries k
   entry_finds m k e same place = λ t. option_and_then (value_at (same t).entries) (place t)
 
 module _ {K W A : Type 0} (eq : K → K → Bool) (inside : W → List A) where
@@ -60,18 +60,18 @@ module _ {K W A : Type 0} (eq : K → K → Bool) (inside : W → List A) where
           ]
 
     -- The same through the entry e of the key k: l is the list that it leaves.
-    pub inner_entered_other : (l : List (K × W)) (m : Contents K W) (k : K) (e : Entry K W) (w : W) → l ≡ entries_with e w → entry_map e ≡ m → entry_key e ≡ k → entry_place e ≡ index_of eq m.entries k → (q : K) → eq k q ≡ false → inner l q ≡ inner m.entries q
+    pub inner_entered_other : (l : List (K × W)) (m : Contents K W) (k : K) (e : Entry K W) (w : W) → l ≡ entries_with e w → entry_map e ≡ m → entry_key e ≡ k → entry_index_of e ≡ index_of eq m.entries k → (q : K) → eq k q ≡ false → inner l q ≡ inner m.entries q
     inner_entered_other l m k e w leaves same key place q apart = ap (λ pairs. inner pairs q) (leaves ∙ entry_puts eq m k e w same key place) ∙ inner_put_other m.entries k w q apart
 
     module _ (IsMade : W → Type 0) (empty : (w : W) → IsMade w → inside w ≡ []) where
       pub inner_entered : (change : List A → List A) (l : List (K × W)) (m : Contents K W) (k : K) (e : Entry K W) (before after : W) → l ≡ entries_with e after → inside after ≡ change (inside before) → UnwrapsOrElse (entry_value e) IsMade before
-          → entry_map e ≡ m → entry_key e ≡ k → entry_place e ≡ index_of eq m.entries k → inner l k ≡ change (inner m.entries k)
+          → entry_map e ≡ m → entry_key e ≡ k → entry_index_of e ≡ index_of eq m.entries k → inner l k ≡ change (inner m.entries k)
       inner_entered change l m k e before after leaves changed found same key place =
           ap (λ pairs. inner pairs k) (leaves ∙ entry_puts eq m k e after same key place)
           ∙ inner_written IsMade empty change m.entries k before after (subst (λ f. UnwrapsOrElse f IsMade before) (entry_finds eq m k e same place) found) changed
 
       pub inner_entered_unchanged : (l : List (K × W)) (m : Contents K W) (k : K) (e : Entry K W) (before after : W) → l ≡ entries_with e after → after ≡ before → UnwrapsOrElse (entry_value e) IsMade before
-          → entry_map e ≡ m → entry_key e ≡ k → entry_place e ≡ index_of eq m.entries k → (q : K) → inner l q ≡ inner m.entries q
+          → entry_map e ≡ m → entry_key e ≡ k → entry_index_of e ≡ index_of eq m.entries k → (q : K) → inner l q ≡ inner m.entries q
       inner_entered_unchanged l m k e before after leaves kept found same key place q =
           ap (λ pairs. inner pairs q) (leaves ∙ ap (entries_with e) kept ∙ entry_puts eq m k e before same key place)
           ∙ inner_unchanged IsMade empty m.entries k before (subst (λ f. UnwrapsOrElse f IsMade before) (entry_finds eq m k e same place) found) q

@@ -58,15 +58,15 @@ module _ {K V : Type 0} where
 
   -- The capacity does not shrink. It stays if the key has an index. It also stays if there is spare capacity for one
   -- more pair.
-  pub record KeepsRoomAt (place : Option ℕ) (old new : Contents K V) : Type 0 where
+  pub record KeepsRoomAt (index : Option ℕ) (old new : Contents K V) : Type 0 where
     pub capacity : old.capacity ≤ new.capacity
-    pub present : IsSome place → new.capacity ≡ old.capacity
+    pub present : IsSome index → new.capacity ≡ old.capacity
     pub spare : HasRoom old 1 → new.capacity ≡ old.capacity
 
   -- A key was refused: the map is unchanged, the key has no index, and the map is full.
-  pub record RefusesAt (place : Option ℕ) (old new : Contents K V) : Type 0 where
+  pub record RefusesAt (index : Option ℕ) (old new : Contents K V) : Type 0 where
     pub unchanged : new ≡ old
-    pub absent : place ≡ None
+    pub absent : index ≡ None
     pub full : IsFull old
 
 module _ {K V : Type 0} (eq : K → K → Bool) where

@@ -27,33 +27,33 @@ module _ {K V : Type 0} where
   entry_key (Vacant e) = e.key
 
   -- The index of the key, if it has one.
-  abbrev pub entry_place : Entry K V → Option ℕ
-  entry_place (Occupied o) = Some o.index
-  entry_place (Vacant e) = None
+  abbrev pub entry_index_of : Entry K V → Option ℕ
+  entry_index_of (Occupied o) = Some o.index
+  entry_index_of (Vacant e) = None
 
   -- The index of the key, or the one that it will get.
   abbrev pub entry_index : Entry K V → ℕ
-  entry_index e = unwrap_or (entry_place e) (length (entry_map e).entries)
+  entry_index e = unwrap_or (entry_index_of e) (length (entry_map e).entries)
 
   -- The value of the key, if it has one.
   abbrev pub entry_value : Entry K V → Option V
-  entry_value e = option_and_then (value_at (entry_map e).entries) (entry_place e)
+  entry_value e = option_and_then (value_at (entry_map e).entries) (entry_index_of e)
 
   -- The stored pair of the key, if it has one.
   abbrev pub entry_pair : Entry K V → Option (K × V)
-  entry_pair e = option_and_then (slice_get (entry_map e).entries) (entry_place e)
+  entry_pair e = option_and_then (slice_get (entry_map e).entries) (entry_index_of e)
 
   -- The pairs after v is set as the value of the key. It replaces an existing value, and a new pair is appended.
   abbrev pub entries_with : Entry K V → V → List (K × V)
-  entries_with e v = option_map_or (λ i. with_value (entry_map e).entries i v) (entry_place e) ((entry_map e).entries ++ (entry_key e, v) ∷ [])
+  entries_with e v = option_map_or (λ i. with_value (entry_map e).entries i v) (entry_index_of e) ((entry_map e).entries ++ (entry_key e, v) ∷ [])
 
   -- The pairs without the pair of the key, if it has one. The index of each later pair decreases by one.
   abbrev pub entries_without : Entry K V → List (K × V)
-  entries_without e = option_map_or (remove (entry_map e).entries) (entry_place e) (entry_map e).entries
+  entries_without e = option_map_or (remove (entry_map e).entries) (entry_index_of e) (entry_map e).entries
 
   -- The pairs without the pair of the key, if it has one. The last pair moves to its index.
   abbrev pub entries_swap_without : Entry K V → List (K × V)
-  entries_swap_without e = option_map_or (swap_without (entry_map e).entries) (entry_place e) (entry_map e).entries
+  entries_swap_without e = option_map_or (swap_without (entry_map e).entries) (entry_index_of e) (entry_map e).entries
 
   -- A later write or removal through d leaves the same pairs as one through e.
   pub record LeavesSame (e d : Entry K V) : Type 0 where
@@ -81,7 +81,7 @@ module _ {K V : Type 0} where
     pub index : o.index ≡ entry_index e
     pub value : entry_value (Occupied o) ≡ Some v
     pub entries : AreEntriesWith is_clone e v o.map.now.entries
-    pub capacity : KeepsRoomAt (entry_place e) (entry_map e) o.map.now
+    pub capacity : KeepsRoomAt (entry_index_of e) (entry_map e) o.map.now
     -- What a later write or removal through o leaves.
     pub write : (w : V) → AreEntriesWith is_clone e w (entries_with (Occupied o) w)
     pub removal : entries_without (Occupied o) ≡ entries_without e

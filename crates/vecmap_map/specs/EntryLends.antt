@@ -3,7 +3,7 @@ use Rattle.std.specs.Prelude.{◌≡◌, [], Result}
 use Rattle.std.specs.Borrow.{RattleType, Fml, MutBor, LendsSoOk, RestsIfErr, follows}
 use mir.Syntax.{named}
 use Rattle.vecmap_map.specs.Contents.{KeepsRoomAt, RefusesAt}
-use Rattle.vecmap_map.specs.Entry.{entry_map, entry_place, entry_ref, entries_with, occupied_with}
+use Rattle.vecmap_map.specs.Entry.{entry_map, entry_index_of, entry_ref, entries_with, occupied_with}
 use Rattle.vecmap_map.specs.Lends.{lends_value_at}
 use Rattle.vecmap_map.specs.contracts.VecMap.{the_row}
 use Rattle.vecmap_map.specs.contracts.entry.occupied.OccupiedEntry as occupied
@@ -13,11 +13,11 @@ use Rattle.vecmap_map.specs.declared.entry.occupied.OccupiedEntry.{OccupiedEntry
 module _ (K V : RattleType) where
   -- Once r ends, its last value is the value of the key of e. On `Err` the map is full and stays.
   abbrev pub entry_lends : {E : Type 0} → Entry K.Denot V.Denot → Result (MutBor V.Denot) E → Fml
-  entry_lends e r = LendsSoOk (the_row K V) V (entry_ref e) r (λ n v. (n.entries ≡ entries_with e v) × KeepsRoomAt (entry_place e) (entry_map e) n) (RefusesAt (entry_place e) (entry_map e))
+  entry_lends e r = LendsSoOk (the_row K V) V (entry_ref e) r (λ n v. (n.entries ≡ entries_with e v) × KeepsRoomAt (entry_index_of e) (entry_map e) n) (RefusesAt (entry_index_of e) (entry_map e))
 
   -- The same, but on `Err` nothing more is said than that the map stays.
   abbrev pub entry_lends_or_stays : {E : Type 0} → Entry K.Denot V.Denot → Result (MutBor V.Denot) E → Fml
-  entry_lends_or_stays e r = LendsSoOk (the_row K V) V (entry_ref e) r (λ n v. (n.entries ≡ entries_with e v) × KeepsRoomAt (entry_place e) (entry_map e) n) (λ n. n ≡ entry_map e)
+  entry_lends_or_stays e r = LendsSoOk (the_row K V) V (entry_ref e) r (λ n v. (n.entries ≡ entries_with e v) × KeepsRoomAt (entry_index_of e) (entry_map e) n) (λ n. n ≡ entry_map e)
 
   -- On `Ok` the returned entry holds the map of e. On `Err` the map stays.
   abbrev pub entry_passes : {E : Type 0} → Entry K.Denot V.Denot → Result (OccupiedEntry K.Denot V.Denot) E → Fml

@@ -58,12 +58,12 @@ module _ (K V : RattleType) (m : MutBor (Contents K.Denot V.Denot)) where
   lends_value_if_by test r = LendsIf (the_row K V) V m r (with_value_by test m.now) m.now
 
   -- Once r ends, its last pair is the pair at the index i, and nothing else has changed.
-  abbrev pub lends_whole_at : ℕ → MutBor (K.Denot × V.Denot) → Fml
-  lends_whole_at i r = Lends (the_row K V) (Tuple (K ∷ V ∷ [])) m r (with_pair_at m.now i)
+  abbrev pub lends_pair_at : ℕ → MutBor (K.Denot × V.Denot) → Fml
+  lends_pair_at i r = Lends (the_row K V) (Tuple (K ∷ V ∷ [])) m r (with_pair_at m.now i)
 
   -- The same if there is a reference. At `None` the map stays.
-  abbrev pub lends_whole_if_at : ℕ → Option (MutBor (K.Denot × V.Denot)) → Fml
-  lends_whole_if_at i r = LendsIf (the_row K V) (Tuple (K ∷ V ∷ [])) m r (with_pair_at m.now i) m.now
+  abbrev pub lends_pair_if_at : ℕ → Option (MutBor (K.Denot × V.Denot)) → Fml
+  lends_pair_if_at i r = LendsIf (the_row K V) (Tuple (K ∷ V ∷ [])) m r (with_pair_at m.now i) m.now
 
   -- Once the mutable reference ends, its last value is the value at the index i, and nothing else has changed. At
   -- `None` the map stays.
@@ -71,8 +71,8 @@ module _ (K V : RattleType) (m : MutBor (Contents K.Denot V.Denot)) where
   lends_beside_key i r = follows_if (the_row K V) V m.ghost_name (value_name r) (with_value_at m.now i) m.now
 
   -- The same for the first key that passes the test, if the result also has the index.
-  abbrev pub lends_beside_place : (K.Denot → Bool) → Option (ℕ × Bor K.Denot × MutBor V.Denot) → Fml
-  lends_beside_place test r = follows_if (the_row K V) V m.ghost_name (value_name_at r) (with_value_by test m.now) m.now
+  abbrev pub lends_beside_index : (K.Denot → Bool) → Option (ℕ × Bor K.Denot × MutBor V.Denot) → Fml
+  lends_beside_index test r = follows_if (the_row K V) V m.ghost_name (value_name_at r) (with_value_by test m.now) m.now
 
   -- Once both references end, their last key and value are the pair at the index i, and nothing else has changed. At
   -- `None` the map stays.
@@ -80,8 +80,8 @@ module _ (K V : RattleType) (m : MutBor (Contents K.Denot V.Denot)) where
   lends_both_at i r = LendsBothIf (the_row K V) K V m r (λ k v. with_pair_at m.now i (k, v)) m.now
 
   -- The same for the first key that passes the test, if the result also has the index.
-  abbrev pub lends_both_beside_place : (K.Denot → Bool) → Option (ℕ × MutBor K.Denot × MutBor V.Denot) → Fml
-  lends_both_beside_place test r = follows_both_if (the_row K V) K V m.ghost_name (both_names_at r) (λ key v. with_pair_by test m.now (key, v)) m.now
+  abbrev pub lends_both_beside_index : (K.Denot → Bool) → Option (ℕ × MutBor K.Denot × MutBor V.Denot) → Fml
+  lends_both_beside_index test r = follows_both_if (the_row K V) K V m.ghost_name (both_names_at r) (λ key v. with_pair_by test m.now (key, v)) m.now
 
   -- Once the loan with this name ends, the map has the pairs that were last written through it, as many as before, and
   -- its capacity.

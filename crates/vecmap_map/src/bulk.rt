@@ -121,7 +121,7 @@ impl<K, V> VecMap<K, V> {
         ensures succeeds { HasRoom self.old (length other.old.entries) → IsOk result }
         ensures capacity_stays { HasRoom self.old (length other.old.entries)
             → self.new.capacity ≡ self.old.capacity }
-        ensures some { OnErr result (0 < length other.old.entries) }
+        ensures not_empty { OnErr result (0 < length other.old.entries) }
         ensures err { OnErr result (self.new ≡ self.old) }
         ensures other_err { OnErr result (other.new ≡ other.old) }
     {

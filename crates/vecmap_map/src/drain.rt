@@ -134,10 +134,10 @@ impl<K, V> VecMap<K, V> {
 
 impl<'a, K, V> Drain<'a, K, V> {
     // Reverses the remaining pairs if their order is not the wanted one.
-    fn lay(&mut self, reversed: bool)
+    fn put_in_order(&mut self, reversed: bool)
         requires { self.old.keep ≤ length self.old.map.now.entries }
-        ensures laid { self.new.reversed ≡ reversed }
-        ensures front { self.new.keep ≡ self.old.keep }
+        ensures ordered { self.new.reversed ≡ reversed }
+        ensures keep { self.new.keep ≡ self.old.keep }
         ensures count { length self.new.map.now.entries ≡ length self.old.map.now.entries }
         ensures rest { drain_rest self.new ≡ drain_rest self.old }
         ensures keeps { DrainKeeps self.old self.new }
@@ -174,7 +174,7 @@ impl<'a, K: Drop, V: Drop> Iterator for Drain<'a, K, V> {
         if self.map.len() <= self.keep {
             return None;
         }
-        self.lay(true);
+        self.put_in_order(true);
         Some(self.map.take_last())
     }
 
@@ -197,7 +197,7 @@ impl<'a, K: Drop, V: Drop> DoubleEndedIterator for Drain<'a, K, V> {
         if self.map.len() <= self.keep {
             return None;
         }
-        self.lay(false);
+        self.put_in_order(false);
         Some(self.map.take_last())
     }
 }

@@ -38,7 +38,7 @@ pub enum Entry<'a, K, V> {
 }
 
 impl<K, V> VecMap<K, V> {
-    ghost use Rattle.vecmap_map.specs.Entry.{entry_key, entry_map, entry_place, entry_ref};
+    ghost use Rattle.vecmap_map.specs.Entry.{entry_key, entry_map, entry_index_of, entry_ref};
 
     /// Returns the entry of `key`: occupied if an equal key is present, and vacant otherwise.
     ///
@@ -61,14 +61,14 @@ impl<K, V> VecMap<K, V> {
         ensures same_map { (entry_ref result).ghost_name ≡ self.entry.ghost_name }
         ensures unchanged { entry_map result ≡ self.old }
         ensures key { entry_key result ≡ key }
-        ensures place { entry_place result ≡ index_of K.eq self.old.entries key }
+        ensures index { entry_index_of result ≡ index_of K.eq self.old.entries key }
     {
         Entry::over(self, key)
     }
 }
 
 impl<'a, K, V> Entry<'a, K, V> {
-    ghost use Rattle.vecmap_map.specs.Entry.{IsInserted, LeavesSame, RefusesMade, entries_with, entry_index, entry_key, entry_map, entry_place, entry_ref, entry_value};
+    ghost use Rattle.vecmap_map.specs.Entry.{IsInserted, LeavesSame, RefusesMade, entries_with, entry_index, entry_key, entry_map, entry_index_of, entry_ref, entry_value};
     ghost use Rattle.vecmap_map.specs.EntryLends.{entry_lends, entry_lends_or_stays, entry_passes};
 
     /// Creates the entry of `key` in `map`.
@@ -88,7 +88,7 @@ impl<'a, K, V> Entry<'a, K, V> {
         ensures same_map { (entry_ref result).ghost_name ≡ map.entry.ghost_name }
         ensures unchanged { entry_map result ≡ map.old }
         ensures key { entry_key result ≡ key }
-        ensures place { entry_place result ≡ index_of K.eq map.old.entries key }
+        ensures index { entry_index_of result ≡ index_of K.eq map.old.entries key }
     {
         match map.get_index_of(&key) {
             Some(index) => Entry::Occupied(OccupiedEntry { map, key, index }),
@@ -148,7 +148,7 @@ impl<'a, K, V> Entry<'a, K, V> {
     where
         K: Drop,
         F: Drop,
-        requires { entry_place self ≡ None → F.pre f }
+        requires { entry_index_of self ≡ None → F.pre f }
         ensures* writes_back { sem 𝓛 (entry_lends K.row V.row self.entry result) }
         ensures value { IfOk result (λ x. UnwrapsOrElse (entry_value self.entry) (F.post f) x.now) }
 
@@ -178,7 +178,7 @@ impl<'a, K, V> Entry<'a, K, V> {
     where
         K: Drop,
         F: Drop,
-        requires { entry_place self ≡ None → (p : Bor K) → p.now ≡ entry_key self → F.pre f p }
+        requires { entry_index_of self ≡ None → (p : Bor K) → p.now ≡ entry_key self → F.pre f p }
         ensures* writes_back { sem 𝓛 (entry_lends K.row V.row self.entry result) }
         ensures value { IfOk result (λ x. UnwrapsOrElse (entry_value self.entry)
             (FnOnceReturnsAt F.FnOnce f (entry_key self.entry)) x.now) }
@@ -222,13 +222,13 @@ impl<'a, K, V> Entry<'a, K, V> {
         K: Drop,
         E: From<Refused<(K, V)>>,
         F: Drop,
-        requires { entry_place self ≡ None → F.pre f }
+        requires { entry_index_of self ≡ None → F.pre f }
         ensures* writes_back { sem 𝓛 (entry_lends_or_stays K.row V.row self.entry result) }
         ensures value { IfOk result (λ x. UnwrapsOrElse (entry_value self.entry)
             (λ v. F.post f (Ok v)) x.now) }
 
         // On `Err` the key is new. Either `f` failed, or the map is full and the pair was refused.
-        ensures absent { OnErr result (entry_place self.entry ≡ None) }
+        ensures absent { OnErr result (entry_index_of self.entry ≡ None) }
         ensures err { IfErr result (λ error. F.post f (Err error) ⊎ RefusesMade
             E.from_gives (λ v. F.post f (Ok v)) self.entry error) }
     {
@@ -334,7 +334,7 @@ impl<'a, K, V> Entry<'a, K, V> {
         requires { (p : MutBor V) → entry_value self ≡ Some p.now → F.pre f p }
         ensures same_map { (entry_ref result).ghost_name ≡ (entry_ref self.entry).ghost_name }
         ensures key { entry_key result ≡ entry_key self.entry }
-        ensures place { entry_place result ≡ entry_place self.entry }
+        ensures index { entry_index_of result ≡ entry_index_of self.entry }
         ensures update { ModifiesValue F.FnOnce f (entry_value self.entry) (entry_value result) }
         ensures entries { (entry_map result).entries
             ≡ option_map_or (entries_with self.entry) (entry_value result)
@@ -377,7 +377,7 @@ impl<'a, K, V> Entry<'a, K, V> {
         // On `Err` the pair is returned. Only a new key is refused, and if its clone cannot fail, only in a full map.
         ensures* err { sem 𝓛 (entry_passes K.row V.row self.entry result) }
         ensures given { IfErr result (λ refused. refused.given ≡ (entry_key self.entry, value)) }
-        ensures absent { OnErr result (entry_place self.entry ≡ None) }
+        ensures absent { OnErr result (entry_index_of self.entry ≡ None) }
         ensures full { K.is_infallible (entry_key self.entry)
             → OnErr result (IsFull (entry_map self.entry)) }
     {

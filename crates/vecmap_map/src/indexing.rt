@@ -9,11 +9,11 @@ use vecmap_base::Equivalent;
 
 impl<K, V> VecMap<K, V> {
     // Returns the index of the first pair whose key matches `query`. Such a pair must be present.
-    fn place_of<Q: Equivalent<K>>(&self, query: Q) -> usize
+    fn present_index<Q: Equivalent<K>>(&self, query: Q) -> usize
     where
         K: Eq,
         requires present { IsSome (index_by (Q.equivalent query) self.now.entries) }
-        ensures place { index_by (Q.equivalent query) self.now.entries ≡ Some result }
+        ensures index { index_by (Q.equivalent query) self.now.entries ≡ Some result }
         ensures within { result < length self.now.entries }
     {
         self.get_index_of(query).unwrap()
@@ -96,7 +96,7 @@ impl<'q, K: Eq, V> Index<&'q K> for VecMap<K, V> {
     ghost index_gives = { λ m k v. lookup K.eq m.entries k.now ≡ Some v };
 
     fn index(&self, key: &'q K) -> &V {
-        &self.pairs[self.place_of(key)].1
+        &self.pairs[self.present_index(key)].1
     }
 }
 
@@ -126,8 +126,8 @@ impl<'q, K: Eq, V> IndexMut<&'q K> for VecMap<K, V> {
         ensures* writes_back { sem 𝓛 (lends_value_of K.row V.row self.entry K.eq key.now result) }
         ensures value { lookup K.eq self.old.entries key.now ≡ Some result.now }
     {
-        let place = self.place_of(key);
-        self.value_mut(place)
+        let index = self.present_index(key);
+        self.value_mut(index)
     }
 }
 
@@ -156,7 +156,7 @@ impl<'q, V> Index<&'q str> for VecMap<String, V> {
     ghost index_gives = { λ m text v. lookup_by (has_text text.now) m.entries ≡ Some v };
 
     fn index(&self, text: &'q str) -> &V {
-        &self.pairs[self.place_of(text)].1
+        &self.pairs[self.present_index(text)].1
     }
 }
 
@@ -188,8 +188,8 @@ impl<'q, V> IndexMut<&'q str> for VecMap<String, V> {
             (has_text text.now) result) }
         ensures value { lookup_by (has_text text.now) self.old.entries ≡ Some result.now }
     {
-        let place = self.place_of(text);
-        self.value_mut(place)
+        let index = self.present_index(text);
+        self.value_mut(index)
     }
 }
 
@@ -218,6 +218,6 @@ impl<'q, 'k, V> Index<&'q str> for VecMap<&'k str, V> {
     ghost index_gives = { λ m query v. lookup_by (λ k. bytes_eq query.now k.now) m.entries ≡ Some v };
 
     fn index(&self, query: &'q str) -> &V {
-        &self.pairs[self.place_of(query)].1
+        &self.pairs[self.present_index(query)].1
     }
 }

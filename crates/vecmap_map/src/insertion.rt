@@ -6,7 +6,7 @@ ghost use Rattle.vecmap_map.specs.Contents.{HasRoom, KeepsRoom, KeepsRoomAt, Ref
 use crate::VecMap;
 use std::alloc::AllocError;
 use std::mem::replace;
-use vecmap_base::{Refused, find, put_in, replace_and_move};
+use vecmap_base::{Refused, find, insert_reserved, replace_and_move};
 
 impl<K, V> VecMap<K, V> {
     /// Inserts a pair and returns the previous value of its key.
@@ -63,7 +63,7 @@ impl<K, V> VecMap<K, V> {
     where
         K: Eq + Drop,
         ensures entries { OnOk result (self.new.entries ≡ put K.eq self.old.entries key value) }
-        ensures place { IfOk result (λ done. done.0 ≡ index_or_length K.eq self.old.entries key) }
+        ensures index { IfOk result (λ done. done.0 ≡ index_or_length K.eq self.old.entries key) }
         ensures old { IfOk result (λ done. done.1 ≡ lookup K.eq self.old.entries key) }
         ensures capacity { KeepsRoom K.eq self.old key self.new }
 
@@ -174,7 +174,7 @@ impl<K, V> VecMap<K, V> {
                 given: (key, value),
             });
         }
-        put_in(&mut self.pairs, index, (key, value));
+        insert_reserved(&mut self.pairs, index, (key, value));
         Ok(None)
     }
 

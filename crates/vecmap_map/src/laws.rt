@@ -103,13 +103,13 @@ pub fn insertion_keeps_keys_distinct<K: Eq, V>()
 pub fn removal_keeps_keys_distinct<K: Eq, V>()
     ensures by_test { (l : List (K × V)) → HasDistinctKeys K.eq l → (test : K → Bool)
         → HasDistinctKeys K.eq (without_by test l) }
-    ensures by_place { (l : List (K × V)) → HasDistinctKeys K.eq l → (i : ℕ)
+    ensures by_index { (l : List (K × V)) → HasDistinctKeys K.eq l → (i : ℕ)
         → HasDistinctKeys K.eq (remove l i) }
     ensures swap_by_test { (l : List (K × V)) → HasDistinctKeys K.eq l → (test : K → Bool)
         → HasDistinctKeys K.eq (swap_without_by test l) }
     ensures swap_by_key { (l : List (K × V)) → HasDistinctKeys K.eq l → (k : K)
         → HasDistinctKeys K.eq (swap_without_key K.eq l k) }
-    ensures swap_by_place { (l : List (K × V)) → HasDistinctKeys K.eq l → (i : ℕ)
+    ensures swap_by_index { (l : List (K × V)) → HasDistinctKeys K.eq l → (i : ℕ)
         → HasDistinctKeys K.eq (swap_without l i) }
     ensures front { (l : List (K × V)) → HasDistinctKeys K.eq l → (n : ℕ)
         → HasDistinctKeys K.eq (take n l) }

@@ -10,7 +10,7 @@ use crate::VecMap;
 use vecmap_base::Equivalent;
 
 impl<K, V> VecMap<K, V> {
-    ghost use Rattle.vecmap_map.specs.Lends.{lends_beside_key, lends_beside_place, lends_value_at, lends_value_if_by, lends_whole_at, lends_whole_if_at};
+    ghost use Rattle.vecmap_map.specs.Lends.{lends_beside_key, lends_beside_index, lends_value_at, lends_value_if_by, lends_pair_at, lends_pair_if_at};
 
     /// Returns a mutable reference to the value of the first pair whose key matches `query`, or `None` if no key
     /// matches.
@@ -93,7 +93,7 @@ impl<K, V> VecMap<K, V> {
             ≡ slice_get self.old.entries (length self.old.entries - 1) }
         ensures found { IsSome result ↔ (0 < length self.old.entries) }
     {
-        let (index, map) = self.with_last_place();
+        let (index, map) = self.with_last_index();
         map.get_index_mut(index)
     }
 
@@ -111,7 +111,7 @@ impl<K, V> VecMap<K, V> {
     ///
     /// ```
     /// let mut map = vecmap!(alloc; 'a' => 1, 'b' => 2);
-    /// if let Some((_place, _key, value)) = map.get_full_mut(&'b') {
+    /// if let Some((_index, _key, value)) = map.get_full_mut(&'b') {
     ///     *value = 3;
     /// }
     /// map.as_slice() // [('a', 1), ('b', 3)]
@@ -119,15 +119,15 @@ impl<K, V> VecMap<K, V> {
     pub fn get_full_mut<Q: Equivalent<K>>(&mut self, query: Q) -> Option<(usize, &K, &mut V)>
     where
         K: Eq,
-        ensures* writes_back { sem 𝓛 (lends_beside_place K.row V.row self.entry
+        ensures* writes_back { sem 𝓛 (lends_beside_index K.row V.row self.entry
             (Q.equivalent query) result) }
-        ensures place { option_map (λ found. found.0) result
+        ensures index { option_map (λ found. found.0) result
             ≡ index_by (Q.equivalent query) self.old.entries }
         ensures within { IfSome result (λ found. found.0 < length self.old.entries) }
         ensures pair { option_map (λ found. (found.1.now, found.2.now)) result
             ≡ lookup_pair_by (Q.equivalent query) self.old.entries }
     {
-        let (place, map) = self.with_place_by(query);
+        let (place, map) = self.with_index_by(query);
         match place {
             Some(index) => Some(map.full_mut(index)),
             None => None,
@@ -157,8 +157,8 @@ impl<K, V> VecMap<K, V> {
         ensures pair { option_map deref_pair_mut result ≡ slice_get self.old.entries index }
         ensures found { IsSome result ↔ (index < length self.old.entries) }
     {
-        match self.whole_at(index) {
-            Some(pair) => Some(ends(pair)),
+        match self.pair_at_mut(index) {
+            Some(pair) => Some(key_and_value(pair)),
             None => None,
         }
     }
@@ -173,22 +173,22 @@ impl<K, V> VecMap<K, V> {
     }
 
     // Returns a mutable reference to the pair at `index`, if there is one.
-    pub(crate) fn whole_at(&mut self, index: usize) -> Option<&mut (K, V)>
-        ensures* writes_back { sem 𝓛 (lends_whole_if_at K.row V.row self.entry index result) }
+    pub(crate) fn pair_at_mut(&mut self, index: usize) -> Option<&mut (K, V)>
+        ensures* writes_back { sem 𝓛 (lends_pair_if_at K.row V.row self.entry index result) }
         ensures pair { option_copied_mut result ≡ slice_get self.old.entries index }
         ensures found { IsSome result ↔ (index < length self.old.entries) }
     {
         if index < self.len() {
-            Some(self.whole_mut(index))
+            Some(self.pair_mut(index))
         } else {
             None
         }
     }
 
     // Returns a mutable reference to the pair at `index`.
-    pub(crate) fn whole_mut(&mut self, index: usize) -> &mut (K, V)
+    pub(crate) fn pair_mut(&mut self, index: usize) -> &mut (K, V)
         requires { index < length self.old.entries }
-        ensures* writes_back { sem 𝓛 (lends_whole_at K.row V.row self.entry index result) }
+        ensures* writes_back { sem 𝓛 (lends_pair_at K.row V.row self.entry index result) }
         ensures pair { slice_get self.old.entries index ≡ Some result.now }
     {
         &mut self.pairs[index]
@@ -198,7 +198,7 @@ impl<K, V> VecMap<K, V> {
     fn full_mut(&mut self, index: usize) -> (usize, &K, &mut V)
         requires { index < length self.old.entries }
         ensures* writes_back { sem 𝓛 (lends_value_at K.row V.row self.entry index result.2) }
-        ensures place { result.0 ≡ index }
+        ensures index { result.0 ≡ index }
         ensures pair { slice_get self.old.entries index ≡ Some (result.1.now, result.2.now) }
     {
         let pair = &mut self.pairs[index];
@@ -206,13 +206,13 @@ impl<K, V> VecMap<K, V> {
     }
 
     // Returns the index of the first pair whose key matches `query`, and the map itself.
-    pub(crate) fn with_place_by<Q: Equivalent<K>>(
+    pub(crate) fn with_index_by<Q: Equivalent<K>>(
         &mut self,
         query: Q,
     ) -> (Option<usize>, &mut VecMap<K, V>)
     where
         K: Eq,
-        ensures place { result.0 ≡ index_by (Q.equivalent query) self.old.entries }
+        ensures index { result.0 ≡ index_by (Q.equivalent query) self.old.entries }
         ensures within { IfSome result.0 (λ i. i < length self.old.entries) }
         ensures same_map { result.1.ghost_name ≡ self.entry.ghost_name }
         ensures unchanged { result.1.now ≡ self.old }
@@ -221,8 +221,8 @@ impl<K, V> VecMap<K, V> {
     }
 
     // Returns the last index, or 0 if the map is empty, and the map itself.
-    fn with_last_place(&mut self) -> (usize, &mut VecMap<K, V>)
-        ensures place { result.0 ≡ length self.old.entries - 1 }
+    fn with_last_index(&mut self) -> (usize, &mut VecMap<K, V>)
+        ensures index { result.0 ≡ length self.old.entries - 1 }
         ensures same_map { result.1.ghost_name ≡ self.entry.ghost_name }
         ensures unchanged { result.1.now ≡ self.old }
     {
@@ -231,7 +231,7 @@ impl<K, V> VecMap<K, V> {
 }
 
 // Returns the key of a pair, and a mutable reference to its value.
-fn ends<K, V>(pair: &mut (K, V)) -> (&K, &mut V)
+fn key_and_value<K, V>(pair: &mut (K, V)) -> (&K, &mut V)
     ensures* writes_back { sem 𝓛 (lends_value K.row V.row pair.entry result.1) }
     ensures parts { pair.old ≡ (result.0.now, result.1.now) }
 {

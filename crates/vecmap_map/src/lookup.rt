@@ -127,7 +127,7 @@ impl<K, V> VecMap<K, V> {
     pub fn get_full<Q: Equivalent<K>>(&self, query: Q) -> Option<(usize, &K, &V)>
     where
         K: Eq,
-        ensures place { option_map (λ found. found.0) result
+        ensures index { option_map (λ found. found.0) result
             ≡ index_by (Q.equivalent query) self.now.entries }
         ensures within { IfSome result (λ found. found.0 < length self.now.entries) }
         ensures pair { option_map (λ found. (found.1.now, found.2.now)) result
@@ -176,7 +176,7 @@ impl<K, V> VecMap<K, V> {
     pub fn get_index_of<Q: Equivalent<K>>(&self, query: Q) -> Option<usize>
     where
         K: Eq,
-        ensures place { result ≡ index_by (Q.equivalent query) self.now.entries }
+        ensures index { result ≡ index_by (Q.equivalent query) self.now.entries }
         ensures within { IfSome result (λ i. i < length self.now.entries) }
     {
         find_equivalent(&self.pairs, query)
@@ -253,7 +253,7 @@ impl<V> VecMap<String, V> {
     /// map.get_index_of_str("a") // Some(0)
     /// ```
     pub fn get_index_of_str(&self, text: &str) -> Option<usize>
-        ensures place { result ≡ index_by (has_text text.now) self.now.entries }
+        ensures index { result ≡ index_by (has_text text.now) self.now.entries }
         ensures within { IfSome result (λ i. i < length self.now.entries) }
     {
         self.get_index_of(text)

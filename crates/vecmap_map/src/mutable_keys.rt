@@ -44,7 +44,7 @@ pub trait MutableKeys: sealed::Sealed {
     ///
     /// ```
     /// let mut map = vecmap!(alloc; 'a' => 1, 'b' => 2);
-    /// if let Some((_place, key, _value)) = map.get_full_mut2(&'b') {
+    /// if let Some((_index, key, _value)) = map.get_full_mut2(&'b') {
     ///     *key = 'c';
     /// }
     /// map.as_slice() // [('a', 1), ('c', 2)]
@@ -149,23 +149,23 @@ impl<K, V> MutableKeys for VecMap<K, V> {
 
     ghost pairs = { λ map. map.entries };
 
-    ghost use Rattle.vecmap_map.specs.Lends.{lends_both_at, lends_both_beside_place};
+    ghost use Rattle.vecmap_map.specs.Lends.{lends_both_at, lends_both_beside_index};
 
     fn get_full_mut2<Q: Equivalent<K>>(&mut self, query: Q) -> Option<(usize, &mut K, &mut V)>
     where
         K: Eq,
-        ensures* writes_back { sem 𝓛 (lends_both_beside_place K.row V.row self.entry
+        ensures* writes_back { sem 𝓛 (lends_both_beside_index K.row V.row self.entry
             (Q.equivalent query) result) }
-        ensures place { option_map (λ found. found.0) result
+        ensures index { option_map (λ found. found.0) result
             ≡ index_by (Q.equivalent query) self.old.entries }
         ensures within { IfSome result (λ found. found.0 < length self.old.entries) }
         ensures pair { option_map (λ found. (found.1.now, found.2.now)) result
             ≡ lookup_pair_by (Q.equivalent query) self.old.entries }
     {
-        let (place, map) = self.with_place_by(query);
+        let (place, map) = self.with_index_by(query);
         match place {
             Some(index) => {
-                let (key, value) = parts_mut(map.whole_mut(index));
+                let (key, value) = parts_mut(map.pair_mut(index));
                 Some((index, key, value))
             }
             None => None,
@@ -178,7 +178,7 @@ impl<K, V> MutableKeys for VecMap<K, V> {
             ≡ slice_get self.old.entries index }
         ensures found { IsSome result ↔ (index < length self.old.entries) }
     {
-        match self.whole_at(index) {
+        match self.pair_at_mut(index) {
             Some(pair) => Some(parts_mut(pair)),
             None => None,
         }

@@ -14,7 +14,7 @@ use crate::drain::Drain;
 use std::alloc::AllocError;
 use std::ops::RangeBounds;
 use std::slice;
-use vecmap_base::{Equivalent, find_equivalent, retain_pairs, take_out};
+use vecmap_base::{Equivalent, find_equivalent, remove_item, retain_pairs};
 
 impl<K, V> VecMap<K, V> {
     /// Drops all pairs. The capacity stays.
@@ -254,7 +254,7 @@ impl<K, V> VecMap<K, V> {
         ensures capacity { self.new.capacity ≡ self.old.capacity }
     {
         let index = find_equivalent(&self.pairs, query)?;
-        Some(take_out(&mut self.pairs, index))
+        Some(remove_item(&mut self.pairs, index))
     }
 
     /// Removes the pair at `index`, and returns it.
@@ -283,7 +283,7 @@ impl<K, V> VecMap<K, V> {
         ensures entries { self.new.entries ≡ remove self.old.entries index }
         ensures capacity { self.new.capacity ≡ self.old.capacity }
     {
-        take_out(&mut self.pairs, index)
+        remove_item(&mut self.pairs, index)
     }
 
     /// Removes the first pair whose key matches `query`, and returns its value.

@@ -30,7 +30,7 @@ impl<K, V> VecMap<K, V> {
     where
         K: Ord,
         ensures within { IsSearchInRange result (length self.now.entries) }
-        ensures place { IsBinarySearchResult (λ p. K.cmp p.0 key.now) self.now.entries result }
+        ensures index { IsBinarySearchResult (λ p. K.cmp p.0 key.now) self.now.entries result }
     {
         let pairs = self.pairs.as_slice();
         search_by_index(
@@ -69,7 +69,7 @@ impl<K, V> VecMap<K, V> {
     ) -> Result<usize, usize>
         requires callable { All (CallableOnPair F.Fn f) self.now.entries }
         ensures within { IsSearchInRange result (length self.now.entries) }
-        ensures place { (ord : K × V → Ordering) → AnswersOnPair F.Fn ord f
+        ensures index { (ord : K × V → Ordering) → AnswersOnPair F.Fn ord f
             → IsBinarySearchResult ord self.now.entries result }
     {
         let pairs = self.pairs.as_slice();
@@ -112,7 +112,7 @@ impl<K, V> VecMap<K, V> {
     ) -> Result<usize, usize>
         requires callable { All (CallableOnPair F.Fn f) self.now.entries }
         ensures within { IsSearchInRange result (length self.now.entries) }
-        ensures place { (key_of : K × V → B) → AnswersOnPair F.Fn key_of f
+        ensures index { (key_of : K × V → B) → AnswersOnPair F.Fn key_of f
             → IsBinarySearchResult (λ p. B.cmp (key_of p) key.now) self.now.entries result }
     {
         let pairs = self.pairs.as_slice();
@@ -138,7 +138,7 @@ impl<K, V> VecMap<K, V> {
     pub fn partition_point<P: Fn(&K, &V) -> bool>(&self, pred: P) -> usize
         requires callable { All (CallableOnPair P.Fn pred) self.now.entries }
         ensures within { result ≤ length self.now.entries }
-        ensures place { (p : K × V → Bool) → AnswersOnPair P.Fn p pred
+        ensures index { (p : K × V → Bool) → AnswersOnPair P.Fn p pred
             → IsPartitionedBy p self.now.entries
             → IsPartitionPoint (λ x. p x ≡ true) (λ x. p x ≡ false) self.now.entries result }
     {

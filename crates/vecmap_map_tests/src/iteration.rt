@@ -205,8 +205,8 @@ where
     I: DoubleEndedIterator + ExactSizeIterator + Clone,
     I::Item: Plain<T> + Drop,
     T: PartialEq + Debug + Drop,
-    requires front { (it : I) → I.can_next it }
-    requires back { (it : I) → I.can_next_back it }
+    requires next { (it : I) → I.can_next it }
+    requires next_back { (it : I) → I.can_next_back it }
 {
     let copy = granted(rt, iter.clone());
     assert_pulls(rt, copy, left, &[End::Front; 6]);

@@ -21,7 +21,7 @@ fn calls_by_key_match_the_first_of_repeats(rt: HostRuntime) {
         &rt,
         VecMap::from_slice(rt.alloc(), &[(1, 'a'), (2, 'b'), (3, 'c')]),
     );
-    let (_place, key, _value) = map.get_full_mut2(&2).expect(&rt, "absent");
+    let (_index, key, _value) = map.get_full_mut2(&2).expect(&rt, "absent");
     *key = 1;
     assert_list(&rt, map.as_slice(), &[(1, 'a'), (1, 'b'), (3, 'c')]);
     check!(rt; !map.has_distinct_keys());

@@ -5,11 +5,11 @@ use Rattle.vecmap_base.proofs.EqualityLemmas.Relations.{both_empty_turned, both_
 use Rattle.vecmap_base.proofs.EqualityLemmas.Sets.{longer_not_within, set_equal_by_half, set_lengths_differ}
 use Rattle.vecmap_base.proofs.ItemsLemmas.Additions.{add_absent, add_present, adds_append, adds_distinct}
 use Rattle.vecmap_base.proofs.ItemsLemmas.Members.{adds_as_append, has_item_add, has_item_added, has_item_adds, has_item_kept, item_index_adds, item_index_adds_kept, slice_get_adds}
-use Rattle.vecmap_base.proofs.ItemsLemmas.Places.{item_index_add, slice_get_add}
+use Rattle.vecmap_base.proofs.ItemsLemmas.Indices.{item_index_add, slice_get_add}
 use Rattle.vecmap_base.proofs.ItemsLemmas.Queries.{has_item_query, item_index_query, stored_item_query, swap_without_item_query, without_item_query, without_query_absent}
 use Rattle.vecmap_base.proofs.PairsLemmas.Queries.{same_text, string_equality, text_respects}
 use Rattle.vecmap_set.proofs.AlgebraLemmas.{has_item_symmetric_difference, lazy_intersection_is_both, lazy_intersection_turned, lazy_lengths_add, lazy_union_is_union, lengths_add, on_longer, on_shorter}
-use Rattle.vecmap_set.proofs.QueryLemmas.{found_after_other, found_after_own, place_after_other, place_after_own}
+use Rattle.vecmap_set.proofs.QueryLemmas.{found_after_other, found_after_own, index_after_other, index_after_own}
 
 pub ruleset additions_keep_elements_distinct = (distinct_none, distinct_add, distinct_adds, distinct_add_new)
 
@@ -31,7 +31,7 @@ pub ruleset lengths_of_intersection_and_union_add_up = (lazy_lengths_add, length
 
 pub ruleset drains_pull_as_lists = (drains_pull, keeps_pulled)
 
-pub ruleset queries_find_after_additions = (place_after_own, found_after_own, place_after_other, found_after_other)
+pub ruleset queries_find_after_additions = (index_after_own, found_after_own, index_after_other, found_after_other)
 
 pub ruleset texts_find_as_strings = (item_index_query, string_equality, text_respects, same_text, has_item_query, stored_item_query, swap_without_item_query, found_after_other, without_query_absent)
 

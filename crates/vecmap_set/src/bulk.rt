@@ -121,7 +121,7 @@ impl<T: Eq> VecSet<T> {
         ensures succeeds { HasRoom self.old (length other.old.elements) → IsOk result }
         ensures capacity_stays { HasRoom self.old (length other.old.elements)
             → self.new.capacity ≡ self.old.capacity }
-        ensures some { OnErr result (0 < length other.old.elements) }
+        ensures not_empty { OnErr result (0 < length other.old.elements) }
         ensures err { OnErr result (self.new ≡ self.old) }
         ensures other_err { OnErr result (other.new ≡ other.old) }
     {

@@ -138,10 +138,10 @@ impl<T: Eq> VecSet<T> {
 
 impl<'a, T: Eq> Drain<'a, T> {
     // Reverses the remaining elements if their order is not the wanted one.
-    fn lay(&mut self, reversed: bool)
+    fn put_in_order(&mut self, reversed: bool)
         requires { self.old.keep ≤ length self.old.set.now.elements }
-        ensures laid { self.new.reversed ≡ reversed }
-        ensures front { self.new.keep ≡ self.old.keep }
+        ensures ordered { self.new.reversed ≡ reversed }
+        ensures keep { self.new.keep ≡ self.old.keep }
         ensures count { length self.new.set.now.elements ≡ length self.old.set.now.elements }
         ensures rest { drain_rest self.new ≡ drain_rest self.old }
         ensures keeps { DrainKeeps self.old self.new }
@@ -179,7 +179,7 @@ impl<'a, T: Eq + Drop> Iterator for Drain<'a, T> {
         if self.set.len() <= self.keep {
             return None;
         }
-        self.lay(true);
+        self.put_in_order(true);
         Some(self.set.take_last())
     }
 
@@ -202,7 +202,7 @@ impl<'a, T: Eq + Drop> DoubleEndedIterator for Drain<'a, T> {
         if self.set.len() <= self.keep {
             return None;
         }
-        self.lay(false);
+        self.put_in_order(false);
         Some(self.set.take_last())
     }
 }

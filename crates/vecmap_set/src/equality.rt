@@ -4,7 +4,7 @@ ghost use Rattle.vecmap_base.specs.Equality.{is_within};
 ghost use Rattle.vecmap_base.specs.Items.{both};
 
 use crate::VecSet;
-use vecmap_base::{are_apart, are_within};
+use vecmap_base::{are_disjoint, are_within};
 
 impl<T: Eq> VecSet<T> {
     /// Returns whether the sets have no element in common.
@@ -24,9 +24,9 @@ impl<T: Eq> VecSet<T> {
         ensures { IsTrue result ↔ (both T.eq self.now.elements other.now.elements ≡ []) }
     {
         if self.len() <= other.len() {
-            are_apart(&self.items, &other.items)
+            are_disjoint(&self.items, &other.items)
         } else {
-            are_apart(&other.items, &self.items)
+            are_disjoint(&other.items, &self.items)
         }
     }
 

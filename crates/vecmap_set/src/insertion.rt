@@ -6,7 +6,7 @@ ghost use Rattle.vecmap_set.specs.Contents.{KeepsRoom, Refuses};
 
 use crate::VecSet;
 use std::mem;
-use vecmap_base::{Refused, find_item, is_in};
+use vecmap_base::{Refused, contains_item, find_item};
 
 impl<T: Eq> VecSet<T> {
     /// Inserts an element and returns whether it is new.
@@ -46,7 +46,7 @@ impl<T: Eq> VecSet<T> {
         ensures given { IfErr result (λ refused. refused.given ≡ item) }
         ensures err { OnErr result (Refuses T.eq self.old item self.new) }
     {
-        if is_in(&self.items, &item) {
+        if contains_item(&self.items, &item) {
             return Ok(false);
         }
         self.push(item)?;
@@ -76,7 +76,7 @@ impl<T: Eq> VecSet<T> {
     /// set.replace(3)? // None
     /// set.as_slice() // [1, 2, 3]
     /// ```
-    #[tactic(auto, using(vecmap_base::proofs::PlaceLemmas::list_any_position))]
+    #[tactic(auto, using(vecmap_base::proofs::IndexLemmas::list_any_position))]
     pub fn replace(&mut self, item: T) -> Result<Option<T>, Refused<T>>
         ensures elements { OnOk result (self.new.elements ≡ add_new T.eq self.old.elements item) }
         ensures old { IfOk result (λ old. old ≡ stored_item T.eq self.old.elements item) }

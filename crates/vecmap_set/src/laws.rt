@@ -19,7 +19,7 @@ mod retaining;
 use crate::VecSet;
 pub use additions::{
     additions_keep_elements_distinct, additions_move_nothing, bulk_additions_are_single_ones,
-    bulk_additions_move_nothing, equal_elements_have_one_place, removals_are_forgotten,
+    bulk_additions_move_nothing, equal_elements_have_one_index, removals_are_forgotten,
     stored_elements_are_found,
 };
 pub use algebra::{

@@ -8,7 +8,7 @@ ghost use Rattle.vecmap_set.specs.Lazy.{ExcludesAll, IsBound, JoinsAll, SiftsAll
 
 use crate::VecSet;
 use std::slice;
-use vecmap_base::is_in;
+use vecmap_base::contains_item;
 
 mod difference;
 mod intersection;
@@ -136,7 +136,7 @@ fn sift_front<'a, T: Eq>(items: &mut slice::Iter<'a, T>, other: &[T], within: bo
         (sift_of (iter_rest items.new) other.now) }
 {
     while let Some(item) = items.next() {
-        if is_in(other, item) == within {
+        if contains_item(other, item) == within {
             return Some(item);
         }
     }
@@ -149,7 +149,7 @@ fn sift_back<'a, T: Eq>(items: &mut slice::Iter<'a, T>, other: &[T], within: boo
         (sift_of (iter_rest items.new) other.now) }
 {
     while let Some(item) = items.next_back() {
-        if is_in(other, item) == within {
+        if contains_item(other, item) == within {
             return Some(item);
         }
     }

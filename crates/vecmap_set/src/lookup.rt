@@ -8,7 +8,7 @@ ghost use Rattle.vecmap_base.specs.Items.{stored_first};
 ghost use Rattle.vecmap_base.specs.Pairs.{has_text};
 
 use crate::VecSet;
-use vecmap_base::{Equivalent, find_item_equivalent, is_in_equivalent};
+use vecmap_base::{Equivalent, contains_equivalent, find_item_equivalent};
 
 impl<T: Eq> VecSet<T> {
     /// Returns whether an element matches `query`.
@@ -27,7 +27,7 @@ impl<T: Eq> VecSet<T> {
     pub fn contains<Q: Equivalent<T>>(&self, query: Q) -> bool
         ensures { result ≡ list_any (Q.equivalent query) self.now.elements }
     {
-        is_in_equivalent(&self.items, query)
+        contains_equivalent(&self.items, query)
     }
 
     /// Returns the first element, or `None` if the set is empty.
@@ -119,7 +119,7 @@ impl<T: Eq> VecSet<T> {
     /// set.get_full(&1) // Some((1, &1))
     /// ```
     pub fn get_full<Q: Equivalent<T>>(&self, query: Q) -> Option<(usize, &T)>
-        ensures place { option_map (λ found. found.0) result
+        ensures index { option_map (λ found. found.0) result
             ≡ position (Q.equivalent query) self.now.elements }
         ensures within { IfSome result (λ found. found.0 < length self.now.elements) }
         ensures element { option_map (λ found. found.1.now) result
@@ -143,7 +143,7 @@ impl<T: Eq> VecSet<T> {
     /// set.get_index_of(&3) // None
     /// ```
     pub fn get_index_of<Q: Equivalent<T>>(&self, query: Q) -> Option<usize>
-        ensures place { result ≡ position (Q.equivalent query) self.now.elements }
+        ensures index { result ≡ position (Q.equivalent query) self.now.elements }
         ensures within { IfSome result (λ i. i < length self.now.elements) }
     {
         find_item_equivalent(&self.items, query)

@@ -16,7 +16,7 @@ use crate::drain::Drain;
 use std::alloc::AllocError;
 use std::ops::RangeBounds;
 use std::slice;
-use vecmap_base::{Equivalent, find_item_equivalent, retain_items, take_out};
+use vecmap_base::{Equivalent, find_item_equivalent, remove_item, retain_items};
 
 impl<T: Eq> VecSet<T> {
     /// Drops all elements, in order. The capacity stays.
@@ -235,7 +235,7 @@ impl<T: Eq> VecSet<T> {
     /// set.remove(&1) // false
     /// set.as_slice() // [2, 3]
     /// ```
-    #[tactic(auto, using(vecmap_base::proofs::PlaceLemmas::list_any_stored))]
+    #[tactic(auto, using(vecmap_base::proofs::IndexLemmas::list_any_stored))]
     pub fn remove<Q: Equivalent<T>>(&mut self, query: Q) -> bool
     where
         T: Drop,
@@ -276,7 +276,7 @@ impl<T: Eq> VecSet<T> {
         ensures distinct { IsDistinct T.eq self.new.elements }
         ensures capacity { self.new.capacity ≡ self.old.capacity }
     {
-        take_out(&mut self.items, index)
+        remove_item(&mut self.items, index)
     }
 
     /// Removes the element that matches `query`, and returns whether there was one.
@@ -294,7 +294,7 @@ impl<T: Eq> VecSet<T> {
     /// set.swap_remove(&1) // true
     /// set.as_slice() // [3, 2]
     /// ```
-    #[tactic(auto, using(vecmap_base::proofs::PlaceLemmas::list_any_stored))]
+    #[tactic(auto, using(vecmap_base::proofs::IndexLemmas::list_any_stored))]
     pub fn swap_remove<Q: Equivalent<T>>(&mut self, query: Q) -> bool
     where
         T: Drop,

@@ -31,7 +31,7 @@ impl<T: Eq> VecSet<T> {
     where
         T: Ord,
         ensures within { IsSearchInRange result (length self.now.elements) }
-        ensures place { IsBinarySearchResult (λ x. T.cmp x item.now) self.now.elements result }
+        ensures index { IsBinarySearchResult (λ x. T.cmp x item.now) self.now.elements result }
     {
         let items = self.items.as_slice();
         search_by_index(
@@ -68,7 +68,7 @@ impl<T: Eq> VecSet<T> {
     pub fn binary_search_by<'a, F: Fn(&'a T) -> Ordering>(&'a self, f: F) -> Result<usize, usize>
         requires callable { All (CallableOnItem F.Fn f) self.now.elements }
         ensures within { IsSearchInRange result (length self.now.elements) }
-        ensures place { (ord : T → Ordering) → AnswersOnItem F.Fn ord f
+        ensures index { (ord : T → Ordering) → AnswersOnItem F.Fn ord f
             → IsBinarySearchResult ord self.now.elements result }
     {
         let items = self.items.as_slice();
@@ -108,7 +108,7 @@ impl<T: Eq> VecSet<T> {
     ) -> Result<usize, usize>
         requires callable { All (CallableOnItem F.Fn f) self.now.elements }
         ensures within { IsSearchInRange result (length self.now.elements) }
-        ensures place { (key_of : T → B) → AnswersOnItem F.Fn key_of f
+        ensures index { (key_of : T → B) → AnswersOnItem F.Fn key_of f
             → IsBinarySearchResult (λ x. B.cmp (key_of x) key.now) self.now.elements result }
     {
         let items = self.items.as_slice();
@@ -134,7 +134,7 @@ impl<T: Eq> VecSet<T> {
     pub fn partition_point<P: Fn(&T) -> bool>(&self, pred: P) -> usize
         requires callable { All (CallableOnItem P.Fn pred) self.now.elements }
         ensures within { result ≤ length self.now.elements }
-        ensures place { (p : T → Bool) → ComputesKey P.FnMut p pred
+        ensures index { (p : T → Bool) → ComputesKey P.FnMut p pred
             → IsPartitionedBy p self.now.elements
             → IsPartitionPoint (λ x. p x ≡ true) (λ x. p x ≡ false) self.now.elements result }
     {

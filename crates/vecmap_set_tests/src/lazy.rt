@@ -170,8 +170,8 @@ fn assert_next<'a, I: DoubleEndedIterator<Item = &'a Item>>(
     left: &mut Parts<'_>,
     ends: &[End],
 )
-    requires front { (it : I) → I.can_next it }
-    requires back { (it : I) → I.can_next_back it }
+    requires next { (it : I) → I.can_next it }
+    requires next_back { (it : I) → I.can_next_back it }
 {
     for end in ends {
         assert_eq!(*rt; iter.size_hint(), left.hint());
@@ -321,7 +321,7 @@ fn assert_all<'a, I: Iterator<Item = &'a u32> + Drop>(
     items: I,
     expected: &'a [u32],
 )
-    requires can { I.can_next items }
+    requires next { I.can_next items }
     requires ends { IsFinite (I.remaining items) }
 {
     assert!(*rt; items.eq(expected), "not {expected:?}");
@@ -352,7 +352,7 @@ fn assert_comparisons<I: Iterator + Drop>(
 )
 where
     I::Item: Drop,
-    requires front { (it : I) → I.can_next it }
+    requires next { (it : I) → I.can_next it }
 {
     for wanted in expected {
         let before = log.comparisons();
@@ -370,7 +370,7 @@ fn assert_comparisons_back<I: DoubleEndedIterator + Drop>(
 )
 where
     I::Item: Drop,
-    requires back { (it : I) → I.can_next_back it }
+    requires next_back { (it : I) → I.can_next_back it }
 {
     for wanted in expected {
         let before = log.comparisons();

@@ -55,14 +55,14 @@ fn finds<T: Eq + Same, Q: Equivalent<T>>(set: &VecSet<T>, query: Q, place: Optio
         Some(place) => set.as_slice().get(place),
         None => None,
     };
-    let (full_place, full_item) = match set.get_full(query) {
+    let (full_index, full_item) = match set.get_full(query) {
         Some((index, stored)) => (Some(index), Some(stored)),
         None => (None, None),
     };
     set.contains(query) == place.is_some()
         && set.get_index_of(query) == place
         && are_same_item(set.get(query), item)
-        && full_place == place
+        && full_index == place
         && are_same_item(full_item, item)
 }
 

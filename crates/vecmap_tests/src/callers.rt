@@ -12,7 +12,7 @@ use crate::checks::{assert_gives, assert_is, assert_list, assert_pairs, check, g
 use std::alloc::{AllocError, Global};
 use vecmap::{VecMap, VecSet};
 use vecmap_callers::names::{Name, NamedAs};
-use vecmap_callers::{entry, equivalent, insertion, lending, places};
+use vecmap_callers::{entry, equivalent, indices, insertion, lending};
 use vecmap_fixtures::{item_map, make_item};
 
 #[test]
@@ -94,10 +94,10 @@ fn callers_of_lent_values_write_what_they_say(rt: HostRuntime) {
 #[test]
 fn callers_by_index_do_what_they_say(rt: HostRuntime) {
     let mut map = granted(&rt, VecMap::from_slice(rt.alloc(), &[('a', 1), ('b', 2)]));
-    assert_gives(&rt, places::put_last(&mut map, 'a', 3), Some((0, 1)));
+    assert_gives(&rt, indices::put_last(&mut map, 'a', 3), Some((0, 1)));
     assert_list(&rt, map.as_slice(), &[('b', 2), ('a', 3)]);
     assert!(rt; 0 < map.len());
-    places::exchange_ends(&mut map);
+    indices::exchange_ends(&mut map);
     assert_list(&rt, map.as_slice(), &[('a', 3), ('b', 2)]);
 }
 

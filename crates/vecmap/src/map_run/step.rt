@@ -19,13 +19,13 @@ pub(crate) fn step<K: Eq + Clone, V: Eq + Clone>(
 ) -> MapReply<K, V>
     ensures { Step K.eq V.eq K.Clone V.Clone map.old command result map.new }
 {
-    let reply = act(map, command);
+    let reply = execute(map, command);
     pairs_fit_the_capacity(map);
     reply
 }
 
 // Runs one command; the contract says what becomes of the list and of the capacity.
-fn act<K: Eq + Clone, V: Eq + Clone>(
+fn execute<K: Eq + Clone, V: Eq + Clone>(
     map: &mut VecMap<K, V>,
     command: MapCommand<K, V>,
 ) -> MapReply<K, V>

@@ -20,13 +20,13 @@ pub(crate) fn step<T: Eq + Clone>(set: &mut VecSet<T>, command: SetCommand<T>) -
     requires clones_equal { ClonesAreSame T.eq T.is_clone }
     ensures { Step T.eq T.Clone set.old command result set.new }
 {
-    let reply = act(set, command);
+    let reply = execute(set, command);
     elements_fit_the_capacity(set);
     reply
 }
 
 // Runs one command; the contract says what becomes of the list and of the capacity.
-fn act<T: Eq + Clone>(set: &mut VecSet<T>, command: SetCommand<T>) -> SetReply<T>
+fn execute<T: Eq + Clone>(set: &mut VecSet<T>, command: SetCommand<T>) -> SetReply<T>
     requires clones_equal { ClonesAreSame T.eq T.is_clone }
     ensures { Effect T.eq T.Clone set.old command result set.new }
 {

@@ -4,7 +4,7 @@ use Rattle.std.proofs.Common.{◌≡◌, ℕ, ◌<◌, Bool, true, false, ◌||�
 use Rattle.std.proofs.lemmas.{Bool.false_from_ne_true, Bool.or_left, Bool.or_right, List.append-nil, List.append_assoc, List.Folds.list_any-append, List.Quantifiers.position-Some}
 use Rattle.std.proofs.lemmas.{List.Sorted.IsPermutation-insert, Map.Keys.IsDistinct-head, Map.Keys.IsDistinct-tail, Map.Keys.IsDistinct-push, Map.Steps.list_any_congr}
 use Rattle.vecmap_base.specs.Items.{add, add_new, adds, has_item, item_index}
-use Rattle.vecmap_base.proofs.PlaceLemmas.{is_some_position}
+use Rattle.vecmap_base.proofs.IndexLemmas.{is_some_position}
 use Rattle.vecmap_base.proofs.DistinctLemmas.{Absent.distinct_if_absent, Absent.none_equal, Order.distinct_rearranged}
 
 module _ {T : Type 0} (eq : T → T → Bool) (o : IsEquivalence eq) where

@@ -7,8 +7,8 @@ use Rattle.vecmap_base.specs.{Clones.AreClones, Clones.ClonesAreSame, Clones.IsP
 use Rattle.vecmap_base.specs.Pairs.{HasDistinctKeys, index_by, index_of, put, put_at, put_key, puts, swap_without_by, swap_without_key, with_value, without_by}
 use Rattle.vecmap_base.proofs.ItemsLemmas.Removals.{without_item_absent}
 use Rattle.vecmap_base.proofs.PairsLemmas.Keys.{index_of_is, keys_of_insert, keys_of_put, keys_of_put_key, keys_of_puts, keys_of_remove}
-use Rattle.vecmap_base.proofs.PairsLemmas.{Places.index_of_none, Places.is_some_index_of, Puts.put_absent, Puts.put_at_absent, Puts.put_at_present, Values.keys_of_with_value}
-use Rattle.vecmap_base.proofs.PlaceLemmas.{is_some_position}
+use Rattle.vecmap_base.proofs.PairsLemmas.{Indices.index_of_none, Indices.is_some_index_of, Puts.put_absent, Puts.put_at_absent, Puts.put_at_present, Values.keys_of_with_value}
+use Rattle.vecmap_base.proofs.IndexLemmas.{is_some_position}
 use Rattle.vecmap_base.proofs.DistinctLemmas.{Additions.distinct_add, Additions.distinct_add_new, Additions.distinct_adds, Additions.distinct_insert, Clones.distinct_clones, Order.distinct_rearranged}
 use Rattle.vecmap_base.proofs.DistinctLemmas.Removals.{distinct_remove, distinct_take}
 

@@ -7,8 +7,8 @@ use Rattle.vecmap_base.proofs.Examples.Tagged.{a, b, c, letters}
 abbrev IsSame : ℕ → ℕ → Type 0
 IsSame m n = m ≡ n
 
-clones_place_by_place : AreClones (IsPairClone IsSame IsSame) letters ((a, 1) ∷ (b, 2) ∷ (c, 3) ∷ [])
-clones_place_by_place = ((refl, refl), ((refl, refl), ((refl, refl), tt)))
+clones_index_by_index : AreClones (IsPairClone IsSame IsSame) letters ((a, 1) ∷ (b, 2) ∷ (c, 3) ∷ [])
+clones_index_by_index = ((refl, refl), ((refl, refl), ((refl, refl), tt)))
 
 a_clone_of_what_is_there : IsCloneOf IsSame None None × IsCloneOf IsSame (Some 7) (Some 7)
 a_clone_of_what_is_there = (tt, refl)

@@ -21,8 +21,8 @@ whether_one_is_there = (refl, refl)
 the_stored_one_is_found : stored_item same_number (one_x ∷ two_b ∷ []) one_y ≡ Some one_x
 the_stored_one_is_found = refl
 
-the_place : item_index nat_eq (3 ∷ 1 ∷ 2 ∷ []) 2 ≡ Some 2
-the_place = refl
+the_index : item_index nat_eq (3 ∷ 1 ∷ 2 ∷ []) 2 ≡ Some 2
+the_index = refl
 
 an_addition_that_takes_the_new_one : add_new same_number (one_x ∷ two_b ∷ []) one_y ≡ one_y ∷ two_b ∷ []
 an_addition_that_takes_the_new_one = refl
@@ -36,8 +36,8 @@ the_rest_moves_up = refl
 the_last_fills_the_gap : swap_without_item nat_eq (3 ∷ 1 ∷ 2 ∷ []) 3 ≡ 2 ∷ 1 ∷ []
 the_last_fills_the_gap = refl
 
-by_place : (swap_without {T = ℕ} (1 ∷ 2 ∷ 3 ∷ []) 0 ≡ 3 ∷ 2 ∷ []) × (swap_without {T = ℕ} (1 ∷ 2 ∷ 3 ∷ []) 2 ≡ 1 ∷ 2 ∷ []) × (swap_without {T = ℕ} (1 ∷ 2 ∷ []) 2 ≡ 1 ∷ 2 ∷ [])
-by_place = (refl, refl, refl)
+by_index : (swap_without {T = ℕ} (1 ∷ 2 ∷ 3 ∷ []) 0 ≡ 3 ∷ 2 ∷ []) × (swap_without {T = ℕ} (1 ∷ 2 ∷ 3 ∷ []) 2 ≡ 1 ∷ 2 ∷ []) × (swap_without {T = ℕ} (1 ∷ 2 ∷ []) 2 ≡ 1 ∷ 2 ∷ [])
+by_index = (refl, refl, refl)
 
 by_a_test : (without_first (nat_lt 1) (1 ∷ 2 ∷ 3 ∷ 4 ∷ []) ≡ 1 ∷ 3 ∷ 4 ∷ []) × (swap_without_first (nat_lt 1) (1 ∷ 2 ∷ 3 ∷ 4 ∷ []) ≡ 1 ∷ 4 ∷ 3 ∷ [])
 by_a_test = (refl, refl)

@@ -6,14 +6,14 @@ use Rattle.vecmap_base.proofs.Examples.Tagged.{a, b, c, one_x, one_y, two_b, two
 
 -- ---- indices and values
 
-the_place : index_of nat_eq letters b ≡ Some 1
-the_place = refl
+the_index : index_of nat_eq letters b ≡ Some 1
+the_index = refl
 
-no_place : index_of nat_eq letters 100 ≡ None
-no_place = refl
+no_index : index_of nat_eq letters 100 ≡ None
+no_index = refl
 
-the_length_without_a_place : index_or_length nat_eq letters 100 ≡ 3
-the_length_without_a_place = refl
+the_length_without_an_index : index_or_length nat_eq letters 100 ≡ 3
+the_length_without_an_index = refl
 
 the_value : lookup nat_eq letters b ≡ Some 2
 the_value = refl
@@ -21,14 +21,14 @@ the_value = refl
 no_value : lookup nat_eq letters 100 ≡ None
 no_value = refl
 
-place_and_value : lookup_full nat_eq letters c ≡ Some (2, 3)
-place_and_value = refl
+index_and_value : lookup_full nat_eq letters c ≡ Some (2, 3)
+index_and_value = refl
 
 a_written_value : with_value letters 1 9 ≡ (a, 1) ∷ (b, 9) ∷ (c, 3) ∷ []
 a_written_value = refl
 
-no_place_to_write : with_value letters 3 9 ≡ letters
-no_place_to_write = refl
+no_index_to_write : with_value letters 3 9 ≡ letters
+no_index_to_write = refl
 
 a_written_pair : with_pair letters 2 a 9 ≡ (a, 1) ∷ (b, 2) ∷ (a, 9) ∷ []
 a_written_pair = refl
@@ -77,14 +77,14 @@ from_the_end_to_the_middle : put_at {V = ℕ} nat_eq ((b, 2) ∷ (c, 3) ∷ (a, 
 from_the_end_to_the_middle = refl
 
 -- The index counts in the list without the old pair.
-one_place_on : put_at {V = ℕ} nat_eq ((b, 2) ∷ (a, 6) ∷ (c, 3) ∷ []) 1 b 7 ≡ (a, 6) ∷ (b, 7) ∷ (c, 3) ∷ []
-one_place_on = refl
+one_index_on : put_at {V = ℕ} nat_eq ((b, 2) ∷ (a, 6) ∷ (c, 3) ∷ []) 1 b 7 ≡ (a, 6) ∷ (b, 7) ∷ (c, 3) ∷ []
+one_index_on = refl
 
 the_new_key_is_taken : put_at {V = ℕ} same_number ((one_x, 10) ∷ []) 0 one_y 20 ≡ (one_y, 20) ∷ []
 the_new_key_is_taken = refl
 
-a_new_key_comes_in_at_its_place : put_at nat_eq letters 1 100 9 ≡ (a, 1) ∷ (100, 9) ∷ (b, 2) ∷ (c, 3) ∷ []
-a_new_key_comes_in_at_its_place = refl
+a_new_key_is_inserted_at_its_index : put_at nat_eq letters 1 100 9 ≡ (a, 1) ∷ (100, 9) ∷ (b, 2) ∷ (c, 3) ∷ []
+a_new_key_is_inserted_at_its_index = refl
 
 a_new_key_at_the_end : put_at nat_eq letters 3 100 9 ≡ (a, 1) ∷ (b, 2) ∷ (c, 3) ∷ (100, 9) ∷ []
 a_new_key_at_the_end = refl
@@ -120,8 +120,8 @@ the_first_of_two = refl
 a_put_writes_the_first : put nat_eq twice 1 122 ≡ (1, 122) ∷ (1, b) ∷ (3, c) ∷ []
 a_put_writes_the_first = refl
 
-a_put_at_a_place_moves_the_first : put_at {V = ℕ} nat_eq ((1, 122) ∷ (1, b) ∷ (3, c) ∷ []) 3 1 119 ≡ (1, b) ∷ (3, c) ∷ (1, 119) ∷ []
-a_put_at_a_place_moves_the_first = refl
+a_put_at_an_index_moves_the_first : put_at {V = ℕ} nat_eq ((1, 122) ∷ (1, b) ∷ (3, c) ∷ []) 3 1 119 ≡ (1, b) ∷ (3, c) ∷ (1, 119) ∷ []
+a_put_at_an_index_moves_the_first = refl
 
 a_removal_takes_the_first : swap_without_key {V = ℕ} nat_eq ((1, b) ∷ (3, c) ∷ (1, 119) ∷ []) 1 ≡ (1, 119) ∷ (3, c) ∷ []
 a_removal_takes_the_first = refl
@@ -136,8 +136,8 @@ equal_keys d = true≢false d.0.1.0
 
 -- ---- by a test of keys, by index
 
-a_place_by_a_test : index_by (λ k. nat_eq k 98) letters ≡ Some 1
-a_place_by_a_test = refl
+an_index_by_a_test : index_by (λ k. nat_eq k 98) letters ≡ Some 1
+an_index_by_a_test = refl
 
 a_removal_by_a_test : without_by (λ k. nat_eq k 98) letters ≡ (a, 1) ∷ (c, 3) ∷ []
 a_removal_by_a_test = refl
@@ -154,8 +154,8 @@ the_last_fills_the_gap_by_a_test = refl
 nothing_passes_the_test : swap_without_by (λ k. nat_eq k 100) letters ≡ letters
 nothing_passes_the_test = refl
 
-values_by_place : (value_at letters 2 ≡ Some 3) × (value_at letters 3 ≡ None)
-values_by_place = (refl, refl)
+values_by_index : (value_at letters 2 ≡ Some 3) × (value_at letters 3 ≡ None)
+values_by_index = (refl, refl)
 
 of_an_empty_list : (index_or_length {V = ℕ} nat_eq [] 1 ≡ 0) × (lookup_pair {V = ℕ} nat_eq [] 1 ≡ None) × (lookup_full {V = ℕ} nat_eq [] 1 ≡ None)
 of_an_empty_list = (refl, refl, refl)

@@ -4,7 +4,7 @@ use Rattle.std.proofs.Common.{◌≡◌, ℕ, Bool, true, false, List, [], ◌�
 use Rattle.std.proofs.lemmas.{Bool.cases_Bool, List.Quantifiers.position-Some}
 use Rattle.vecmap_base.specs.Items.{has_item, item_index, stored_first, stored_item, swap_without_first, swap_without_item, without_first, without_item}
 use Rattle.vecmap_base.proofs.ItemsLemmas.Removals.{without_item_absent}
-use Rattle.vecmap_base.proofs.PlaceLemmas.{is_some_position}
+use Rattle.vecmap_base.proofs.IndexLemmas.{is_some_position}
 
 module _ {T : Type 0} (eq : T → T → Bool) (o : IsEquivalence eq) (test : T → Bool) (respects : (x y : T) → IsTrue (test x) → test y ≡ eq x y) where
   -- A query that matches `x` matches exactly the elements that are equal to `x`.

@@ -3,7 +3,7 @@ use Rattle.std.specs.Option.{option_and_then, option_map, option_map_or}
 use Rattle.std.proofs.Common.{◌≡◌, ℕ, suc, Bool, true, false, ◌&&◌, ◌||◌, List, [], ◌∷◌, ◌++◌, Option, None, Some, if◌then◌else◌, not, position, remove, slice_get, slice_set, refl, ap, ◌∙◌}
 use Rattle.vecmap_base.specs.Equality.{is_within}
 use Rattle.vecmap_base.specs.Items.{add, add_new, adds, both, has_item, item_index, only, stored_item, without_first, without_item, swap_without}
-use Rattle.vecmap_base.proofs.PlaceLemmas.{position_cons}
+use Rattle.vecmap_base.proofs.IndexLemmas.{position_cons}
 
 -- The removal of the only element leaves the empty list.
 pub swap_without_one : {T : Type 0} (x : T) → swap_without (x ∷ []) 0 ≡ []

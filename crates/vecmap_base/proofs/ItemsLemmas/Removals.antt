@@ -4,7 +4,7 @@ use Rattle.std.proofs.Common.{◌≡◌, ℕ, Bool, false, ◌||◌, List, [], �
 use Rattle.std.proofs.lemmas.{Bool.cases_Bool, List.take_rest, Map.Keys.IsDistinct-head, Map.Keys.IsDistinct-tail, Map.Steps.list_any_congr}
 use Rattle.vecmap_base.specs.Items.{has_item, item_index, without_item}
 use Rattle.vecmap_base.proofs.DistinctLemmas.Absent.{none_equal}
-use Rattle.vecmap_base.proofs.PlaceLemmas.{is_some_position}
+use Rattle.vecmap_base.proofs.IndexLemmas.{is_some_position}
 use Rattle.vecmap_base.proofs.ItemsLemmas.Recursion.{without_item_cons}
 
 module _ {T : Type 0} (eq : T → T → Bool) where

@@ -4,10 +4,10 @@ use Rattle.std.proofs.Common.{◌≡◌, ◌<◌, ◌+◌, ℕ, Bool, position, 
 use Rattle.std.proofs.lemmas.{Bool.cases_Bool, List.length-map, Map.Made.is_some-lookup, Option.slice_get-map}
 use Rattle.vecmap_base.specs.Items.{add}
 use Rattle.vecmap_base.specs.Pairs.{HasDistinctKeys, index_of, index_or_length, lookup, put, put_key, puts, value_at, with_value, without_key}
-use Rattle.vecmap_base.proofs.ItemsLemmas.{Additions.add_present, Places.item_index_add, Places.item_index_congr, Places.item_index_own, Removals.without_item_absent}
+use Rattle.vecmap_base.proofs.ItemsLemmas.{Additions.add_present, Indices.item_index_add, Indices.item_index_congr, Indices.item_index_own, Removals.without_item_absent}
 use Rattle.vecmap_base.proofs.PairsLemmas.Keys.{index_of_is, keys_of_put, keys_of_without_key}
 use Rattle.vecmap_base.proofs.PairsLemmas.Lookups.{look, lookup_congr, lookup_put, lookup_put_other, lookup_without_key, lookup_without_key_other}
-use Rattle.vecmap_base.proofs.PairsLemmas.{Places.index_of_none, Places.is_some_index_of, Places.lookup_by_is, Puts.puts_distinct, Recursion.lookup_cons, Recursion.put_cons, Recursion.put_key_cons}
+use Rattle.vecmap_base.proofs.PairsLemmas.{Indices.index_of_none, Indices.is_some_index_of, Indices.lookup_by_is, Puts.puts_distinct, Recursion.lookup_cons, Recursion.put_cons, Recursion.put_key_cons}
 use Rattle.vecmap_base.proofs.PairsLemmas.Values.{length_with_value, with_own_value}
 
 pub option_or_none : {X : Type 0} (a : Option X) → option_or a None ≡ a

@@ -2,7 +2,7 @@
 use Rattle.std.proofs.Common.{◌≡◌, Bool, true, false, List, [], ◌∷◌, None, Some, All, if◌then◌else◌, option_map, refl, sym, ap, ◌∙◌, subst, inl, inr}
 use Rattle.std.proofs.lemmas.{Bool.cases_Bool, List.Elements.All-cons, List.Elements.All-head, List.Elements.All-tail, Map.Made.lookup-map_values}
 use Rattle.vecmap_base.specs.Pairs.{lookup, map_values, put}
-use Rattle.vecmap_base.proofs.PairsLemmas.{Lookups.look, Places.lookup_by_is, Recursion.put_cons}
+use Rattle.vecmap_base.proofs.PairsLemmas.{Lookups.look, Indices.lookup_by_is, Recursion.put_cons}
 
 module _ {K V W : Type 0} (eq : K → K → Bool) (g : V → W) where
   -- In the list with `g` of each value, a lookup finds `g` of what it found before.

@@ -4,7 +4,7 @@ use Rattle.std.proofs.Common.{◌≡◌, ℕ, ◌+◌, ◌-◌, Bool, List, [], 
 use Rattle.std.proofs.lemmas.{List.append-nil, List.append_assoc, List.map-append, List.take-append-drop, List.Sums.fold_more, List.Sums.fold-append}
 use Rattle.vecmap_base.specs.Pairs.{index_of, put, put_at, puts, with_value, HasDistinctKeys}
 use Rattle.vecmap_base.proofs.DistinctLemmas.Absent.{none_before}
-use Rattle.vecmap_base.proofs.PairsLemmas.Places.{index_of_none}
+use Rattle.vecmap_base.proofs.PairsLemmas.Indices.{index_of_none}
 
 module _ {K V : Type 0} (eq : K → K → Bool) where
   pub put_absent : (l : List (K × V)) (k : K) (v : V) → index_of eq l k ≡ None → put eq l k v ≡ l ++ (k, v) ∷ []

@@ -3,7 +3,7 @@ use Rattle.std.specs.Option.{option_map, option_map_or, option_and_then}
 use Rattle.std.proofs.Common.{◌≡◌, ℕ, suc, Bool, true, false, List, [], ◌∷◌, ◌++◌, Option, None, Some, if◌then◌else◌, refl, ap, ◌∙◌}
 use Rattle.vecmap_base.specs.Pairs.{index_of, lookup, put, put_key, puts, with_pair, with_value, without_key, index_by, lookup_by, value_at}
 use Rattle.vecmap_base.proofs.ItemsLemmas.Recursion.{without_first_cons}
-use Rattle.vecmap_base.proofs.PlaceLemmas.{position_cons}
+use Rattle.vecmap_base.proofs.IndexLemmas.{position_cons}
 use Rattle.vecmap_base.proofs.PairsLemmas.Values.{with_value_cons}
 
 module _ {K V : Type 0} (test : K → Bool) where

@@ -7,7 +7,7 @@ use Rattle.vecmap_base.specs.Repeats.{adds_cost, comparisons, cost, search_cost}
 use Rattle.vecmap_base.proofs.DistinctLemmas.Absent.{none_before}
 use Rattle.vecmap_base.proofs.ItemsLemmas.Additions.{add_absent, add_present}
 use Rattle.vecmap_base.proofs.PairsLemmas.Keys.{index_of_is, keys_of_puts}
-use Rattle.vecmap_base.proofs.PlaceLemmas.{position_at, position_none}
+use Rattle.vecmap_base.proofs.IndexLemmas.{position_at, position_none}
 use Rattle.vecmap_base.proofs.RepeatsLemmas.Cost.{cost_below, cost_more}
 
 module _ {T : Type 0} (eq : T → T → Bool) where

@@ -23,7 +23,7 @@ fn commands(alloc: Global, words: &[u64]) -> Result<Vec<SetCommand<u64>>, AllocE
     Ok(commands)
 }
 
-fn of_place(place: Option<usize>) -> u64 {
+fn of_index(place: Option<usize>) -> u64 {
     match place {
         Some(place) => place as u64,
         None => 2,
@@ -33,7 +33,7 @@ fn of_place(place: Option<usize>) -> u64 {
 fn of_reply(reply: &SetReply<u64>) -> u64 {
     match reply {
         SetReply::Truth(truth) => u64::from(*truth),
-        SetReply::Place(place) => of_place(*place),
+        SetReply::Place(place) => of_index(*place),
         SetReply::Number(n) => *n as u64,
         SetReply::Items(items) => items.len() as u64,
         _ => REFUSED,
@@ -62,7 +62,7 @@ fn call_runs(alloc: Global, words: &[u64], rounds: u64) -> Result<u64, AllocErro
             let answer = match word & 255 {
                 0..=29 => u64::from(set.insert(item)?),
                 30..=69 => u64::from(set.contains(&item)),
-                70..=84 => of_place(set.get_index_of(&item)),
+                70..=84 => of_index(set.get_index_of(&item)),
                 85..=88 => set.len() as u64,
                 89..=98 => u64::from(set.remove(&item)),
                 _ => set.to_vec()?.len() as u64,

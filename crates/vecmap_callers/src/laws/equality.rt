@@ -69,7 +69,7 @@ pub fn is_part<T: Eq>(a: &VecSet<T>, b: &VecSet<T>) -> bool
 }
 
 /// Returns whether two sets share no element, asked from the other side.
-pub fn are_apart<T: Eq>(a: &VecSet<T>, b: &VecSet<T>) -> bool
+pub fn are_disjoint<T: Eq>(a: &VecSet<T>, b: &VecSet<T>) -> bool
     ensures { IsTrue result ↔ (both T.eq a.now.elements b.now.elements ≡ []) }
 {
     set_laws::disjointness_is_symmetric::<T>();

@@ -46,7 +46,7 @@ pub fn append_all<K: Eq + Drop, V: Drop>(
     ensures lookups { OnOk result ((key : K) → lookup K.eq map.new.entries key
         ≡ option_or (lookup K.eq (reverse other.old.entries) key)
         (lookup K.eq map.old.entries key)) }
-    ensures places { OnOk result ((key : K) (i : ℕ) → index_of K.eq map.old.entries key ≡ Some i
+    ensures indices { OnOk result ((key : K) (i : ℕ) → index_of K.eq map.old.entries key ≡ Some i
         → index_of K.eq map.new.entries key ≡ Some i) }
 {
     bulk_insertions_are_single_ones::<K, V>();

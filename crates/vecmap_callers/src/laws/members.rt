@@ -40,7 +40,7 @@ pub fn append_behind<T: Eq + Drop>(
 ) -> Result<(), AllocError>
     ensures element { OnOk result ((i : ℕ) → i < length set.old.elements
         → slice_get set.new.elements i ≡ slice_get set.old.elements i) }
-    ensures place { OnOk result ((x : T) (i : ℕ) → item_index T.eq set.old.elements x ≡ Some i
+    ensures index { OnOk result ((x : T) (i : ℕ) → item_index T.eq set.old.elements x ≡ Some i
         → item_index T.eq set.new.elements x ≡ Some i) }
 {
     bulk_additions_move_nothing::<T>();

@@ -10,7 +10,7 @@ use Rattle.vecmap_map.specs.EntryWithin.{still_within}
 use Rattle.vecmap_map.specs.declared.entry.Entry.TheVariants.{Occupied, Vacant}
 use Rattle.vecmap_map.specs.declared.entry.occupied.OccupiedEntry.{OccupiedEntry}
 use Rattle.vecmap_map.specs.declared.entry.vacant.VacantEntry.{VacantEntry}
-use Rattle.vecmap_map.proofs.EntryLemmas.Places.{remove_last, swap_without_last}
+use Rattle.vecmap_map.proofs.EntryLemmas.Indices.{remove_last, swap_without_last}
 use Rattle.vecmap_map.proofs.EntryLemmas.Written.{remove_written, swap_without_written, value_last, value_written, with_value_last, with_value_twice}
 
 module _ {K V : Type 0} (o : OccupiedEntry K V) (v : V) where

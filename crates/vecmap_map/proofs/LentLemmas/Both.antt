@@ -31,7 +31,7 @@ use denote.Laws.{Is}
 use Rattle.vecmap_base.specs.Pairs.{index_by}
 use Rattle.std.specs.Option.{option_map_or}
 use Rattle.vecmap_map.specs.Contents.{Contents, with_pair_at, with_pair_by}
-use Rattle.vecmap_map.specs.Lends.{lends_parts, lends_whole_at, lends_whole_if_at, lends_both_at, lends_both_beside_place}
+use Rattle.vecmap_map.specs.Lends.{lends_parts, lends_pair_at, lends_pair_if_at, lends_both_at, lends_both_beside_index}
 use Rattle.vecmap_map.specs.contracts.VecMap.{the_row}
 
 module _ (KT VT : RattleType) where
@@ -110,7 +110,7 @@ module _ {M : Type 1} {𝓤 : Ura M} (𝓛 : Logic 𝓤) (K V : RattleType) (m :
 
   -- The map follows the pair, and the pair follows its two parts.
   pub parts_then : (p : MutBor (K.Denot × V.Denot)) (r : MutBor K.Denot × MutBor V.Denot)
-      → ent 𝓤 (sep 𝓤 (sem 𝓛 (lends_whole_at K V m i p)) (sem 𝓛 (lends_parts K V p r))) (sem 𝓛 (follows_both (the_row K V) K V m.ghost_name r.0.ghost_name r.1.ghost_name (λ k v. with_pair_at m.now i (k, v))))
+      → ent 𝓤 (sep 𝓤 (sem 𝓛 (lends_pair_at K V m i p)) (sem 𝓛 (lends_parts K V p r))) (sem 𝓛 (follows_both (the_row K V) K V m.ghost_name r.0.ghost_name r.1.ghost_name (λ k v. with_pair_at m.now i (k, v))))
   unfolding both_by
   parts_then p r =
       let R : RattleType = the_row K V in let P : RattleType = Tuple (K ∷ V ∷ []) in let F : K.Denot × V.Denot → Contents K.Denot V.Denot = λ q. with_pair_at m.now i q in
@@ -121,29 +121,29 @@ module _ {M : Type 1} {𝓤 : Ura M} (𝓛 : Logic 𝓤) (K V : RattleType) (m :
       move ! (1 ∷ 0 ∷ []) $ by ! (followed 𝓛 R P F m.ghost_name p.ghost_name (w.0, w.1)))
 
   pub both_then : (p : MutBor (K.Denot × V.Denot)) (r : MutBor K.Denot × MutBor V.Denot)
-      → ent 𝓤 (sep 𝓤 (sem 𝓛 (lends_whole_if_at K V m i (Some p))) (sem 𝓛 (lends_parts K V p r))) (sem 𝓛 (lends_both_at K V m i (Some r)))
+      → ent 𝓤 (sep 𝓤 (sem 𝓛 (lends_pair_if_at K V m i (Some p))) (sem 𝓛 (lends_parts K V p r))) (sem 𝓛 (lends_both_at K V m i (Some r)))
   unfolding follows_by both_if_by
   both_then p r = parts_then p r
 
   -- No references are returned.
-  pub nothing_both : ent 𝓤 (sem 𝓛 (lends_whole_if_at K V m i None)) (sem 𝓛 (lends_both_at K V m i None))
+  pub nothing_both : ent 𝓤 (sem 𝓛 (lends_pair_if_at K V m i None)) (sem 𝓛 (lends_both_at K V m i None))
   unfolding follows_by both_if_by
   nothing_both = id⊢ 𝓤 _
 
 module _ {M : Type 1} {𝓤 : Ura M} (𝓛 : Logic 𝓤) (K V : RattleType) (m : MutBor (Contents K.Denot V.Denot)) (test : K.Denot → Bool) where
   -- References at the first index that passes the test are references by the test.
-  pub both_place_then : (i : ℕ) (p : MutBor (K.Denot × V.Denot)) (r : MutBor K.Denot × MutBor V.Denot) → Some i ≡ index_by test m.now.entries
-      → ent 𝓤 (sep 𝓤 (sem 𝓛 (lends_whole_at K V m i p)) (sem 𝓛 (lends_parts K V p r))) (sem 𝓛 (lends_both_beside_place K V m test (Some (i, r.0, r.1))))
+  pub both_index_then : (i : ℕ) (p : MutBor (K.Denot × V.Denot)) (r : MutBor K.Denot × MutBor V.Denot) → Some i ≡ index_by test m.now.entries
+      → ent 𝓤 (sep 𝓤 (sem 𝓛 (lends_pair_at K V m i p)) (sem 𝓛 (lends_parts K V p r))) (sem 𝓛 (lends_both_beside_index K V m test (Some (i, r.0, r.1))))
   unfolding both_if_by
-  both_place_then i p r at =
+  both_index_then i p r at =
       let F : K.Denot → V.Denot → Contents K.Denot V.Denot = λ key v. with_pair_at m.now i (key, v) in
       let same : F ≡ (λ key v. with_pair_by test m.now (key, v)) = λ j key v. option_map_or (λ n. with_pair_at m.now n (key, v)) (at j) m.now in
-      qed 𝓛 (‵ (lends_whole_at K V m i p) ∷ ‵ (lends_parts K V p r) ∷ []) ∵
+      qed 𝓛 (‵ (lends_pair_at K V m i p) ∷ ‵ (lends_parts K V p r) ∷ []) ∵
       use2 𝓛 (‵ (follows_both (the_row K V) K V m.ghost_name r.0.ghost_name r.1.ghost_name F)) (parts_then 𝓛 K V m i p r) $
       rewrite ! 0 (λ (f : K.Denot → V.Denot → Contents K.Denot V.Denot). ‵ (follows_both (the_row K V) K V m.ghost_name r.0.ghost_name r.1.ghost_name f)) same refl $ done !
 
   -- Without references the map stays.
-  pub stays_unlent : ent 𝓤 (𝓛.A.res m.ghost_name ((the_row K V).coded.code m.now)) (sem 𝓛 (lends_both_beside_place K V m test None))
+  pub stays_unlent : ent 𝓤 (𝓛.A.res m.ghost_name ((the_row K V).coded.code m.now)) (sem 𝓛 (lends_both_beside_index K V m test None))
   unfolding both_if_by
   stays_unlent = id⊢ 𝓤 _
 
@@ -164,10 +164,10 @@ module _ (ℓ : Lifetime) (κ : Lft) (K V : RattleType) where
         fsplit3 t $ feq_l t (λ e'. feq_i t (List Val) (mut_vals r.1) (mut_vals r.1) refl $ fjoin3 t $ move t (1 ∷ 0 ∷ []) $
         k (ap only is ∙ ap (λ (z : List Val × List Val). vstruct (of_list (z.0 ++ (z.1 ++ [])))) (λ j. (e j, e' j)))))))
 
-  pub beside_place : {M : Type 1} {𝓤 : Ura M} (𝓛 : Logic 𝓤) (i : ℕ) → i < 2 ^ 64 → (r : MutBor K.Denot × MutBor V.Denot)
+  pub beside_index : {M : Type 1} {𝓤 : Ura M} (𝓛 : Logic 𝓤) (i : ℕ) → i < 2 ^ 64 → (r : MutBor K.Denot × MutBor V.Denot)
       → ent 𝓤 (sep 𝓤 (sem 𝓛 (Key.own_val r.0 (mut_vals r.0))) (sem 𝓛 (Value.own_val r.1 (mut_vals r.1))))
       (sem 𝓛 ((Tuple (usize ∷ Key ∷ Value ∷ [])).own_val (i, r.0, r.1) (vstruct (vcons (vint w64 i) (vcons (vptr r.0.ref_ptr.0 r.0.ref_ptr.1) (vcons (vptr r.1.ref_ptr.0 r.1.ref_ptr.1) vnil))) ∷ [])))
-  beside_place {𝓤 = 𝓤} 𝓛 i fits r =
+  beside_index {𝓤 = 𝓤} 𝓛 i fits r =
       let bs : List RattleType = usize ∷ Key ∷ Value ∷ [] in
       let w : Val = vstruct (vcons (vint w64 i) (vcons (vptr r.0.ref_ptr.0 r.0.ref_ptr.1) (vcons (vptr r.1.ref_ptr.0 r.1.ref_ptr.1) vnil))) in
       qed 𝓛 (‵ (Key.own_val r.0 (mut_vals r.0)) ∷ ‵ (Value.own_val r.1 (mut_vals r.1)) ∷ []) ∵

@@ -29,7 +29,7 @@ use Rattle.std.specs.contracts.option.Option as OP
 use Rattle.std.specs.Option.{option_map_or}
 use Rattle.vecmap_base.specs.Pairs.{index_by, with_value}
 use Rattle.vecmap_map.specs.Contents.{Contents, with_entries, with_value_at, with_value_by}
-use Rattle.vecmap_map.specs.Lends.{lends_beside_key, lends_beside_place, lends_value, lends_value_at, lends_whole_if_at}
+use Rattle.vecmap_map.specs.Lends.{lends_beside_key, lends_beside_index, lends_value, lends_value_at, lends_pair_if_at}
 use Rattle.vecmap_map.specs.contracts.VecMap.{the_row}
 
 module _ {M : Type 1} (𝓤 : Ura M) (𝓛 : Logic 𝓤) where
@@ -99,13 +99,13 @@ module _ (ℓ : Lifetime) (κ : Lft) (X R : RattleType) {M : Type 1} {𝓤 : Ura
 
 -- Splits an `Option` of a number into its two cases.
 module _ {M : Type 1} {𝓤 : Ura M} {𝓛 : Logic 𝓤} {K : Type 0} {Γ : List (Item 𝓤)} {G : Goal 𝓤 𝓛.H} where
-  pub by_place : K → (x : Option ℕ) (us : List Val)
+  pub by_index : K → (x : Option ℕ) (us : List Val)
       → ((i : ℕ) → x ≡ Some i → us ≡ live 1 (vcons (vint w64 i) vnil) ∷ [] → i < 2 ^ 64 → Seq K 𝓛 (‵ (usize.own_val i (uint_vals w64 i)) ∷ Γ) G)
       → (x ≡ None → us ≡ live 0 vnil ∷ [] → Seq K 𝓛 Γ G)
       → Seq K 𝓛 (‵ ((OP.the_row usize).own_val x us) ∷ Γ) G
-  by_place t None us some none =
+  by_index t None us some none =
       facts t (OP.the_row usize) (Is (OP.the_row usize)) (shows 𝓛 (OP.the_row usize)) None us (λ told. none refl (told.1.0 ∙ ap (λ (ws : List Val). live 0 (of_list ws) ∷ []) told.1.1.1.0))
-  by_place t (Some i) us some none =
+  by_index t (Some i) us some none =
       facts t (OP.the_row usize) (Is (OP.the_row usize)) (shows 𝓛 (OP.the_row usize)) (Some i) us
       (λ told. owned t usize (Is usize) (uint_Makes 𝓛 w64) i (uint_vals w64 i) (refl, told.1.1.1.1.0.1) $
       some i refl (told.1.0 ∙ ap (λ (ws : List Val). live 1 (of_list ws) ∷ []) (told.1.1.1.0 ∙ ap (λ (ws : List Val). ws ++ []) told.1.1.1.1.0.0)) told.1.1.1.1.0.1)
@@ -134,7 +134,7 @@ module _ {M : Type 1} {𝓤 : Ura M} (𝓛 : Logic 𝓤) (K V : RattleType) (m :
 
   -- The map follows the pair, and the pair follows its value.
   pub value_then : (p : MutBor (K.Denot × V.Denot)) (r : Bor K.Denot × MutBor V.Denot) → slice_get m.now.entries i ≡ Some p.now
-      → ent 𝓤 (sep 𝓤 (sem 𝓛 (lends_whole_if_at K V m i (Some p))) (sem 𝓛 (lends_value K V p r.1))) (sem 𝓛 (lends_beside_key K V m i (Some r)))
+      → ent 𝓤 (sep 𝓤 (sem 𝓛 (lends_pair_if_at K V m i (Some p))) (sem 𝓛 (lends_value K V p r.1))) (sem 𝓛 (lends_beside_key K V m i (Some r)))
   unfolding follows_by
   value_then p r at =
       let P : RattleType = Tuple (K ∷ V ∷ []) in
@@ -145,20 +145,20 @@ module _ {M : Type 1} {𝓤 : Ura M} (𝓛 : Logic 𝓤) (K V : RattleType) (m :
       rewrite ! 0 (λ (f : V.Denot → Contents K.Denot V.Denot). ‵ (follows (the_row K V) V m.ghost_name r.1.ghost_name f)) same refl $ done !
 
   -- No reference is returned.
-  pub nothing_then : ent 𝓤 (sem 𝓛 (lends_whole_if_at K V m i None)) (sem 𝓛 (lends_beside_key K V m i None))
+  pub nothing_then : ent 𝓤 (sem 𝓛 (lends_pair_if_at K V m i None)) (sem 𝓛 (lends_beside_key K V m i None))
   unfolding follows_by
   nothing_then = id⊢ 𝓤 _
 
 module _ {M : Type 1} {𝓤 : Ura M} (𝓛 : Logic 𝓤) (K V : RattleType) (m : MutBor (Contents K.Denot V.Denot)) (test : K.Denot → Bool) where
   -- A reference to the value at the first index that passes the test is a reference by the test.
-  pub place_then : (i : ℕ) (r : ℕ × Bor K.Denot × MutBor V.Denot) → Some i ≡ index_by test m.now.entries
-      → ent 𝓤 (sem 𝓛 (lends_value_at K V m i r.2)) (sem 𝓛 (lends_beside_place K V m test (Some r)))
+  pub index_then : (i : ℕ) (r : ℕ × Bor K.Denot × MutBor V.Denot) → Some i ≡ index_by test m.now.entries
+      → ent 𝓤 (sem 𝓛 (lends_value_at K V m i r.2)) (sem 𝓛 (lends_beside_index K V m test (Some r)))
   unfolding follows_by
-  place_then i r at =
+  index_then i r at =
       let same : with_value_at m.now i ≡ with_value_by test m.now = λ j v. option_map_or (λ n. with_value_at m.now n v) (at j) m.now in
       qed 𝓛 (‵ (lends_value_at K V m i r.2) ∷ []) ∵ rewrite ! 0 (λ (f : V.Denot → Contents K.Denot V.Denot). ‵ (follows (the_row K V) V m.ghost_name r.2.ghost_name f)) same refl $ done !
 
   -- Without a reference the map stays.
-  pub stays_at_none : ent 𝓤 (𝓛.A.res m.ghost_name ((the_row K V).coded.code m.now)) (sem 𝓛 (lends_beside_place K V m test None))
+  pub stays_at_none : ent 𝓤 (𝓛.A.res m.ghost_name ((the_row K V).coded.code m.now)) (sem 𝓛 (lends_beside_index K V m test None))
   unfolding follows_by
   stays_at_none = id⊢ 𝓤 _

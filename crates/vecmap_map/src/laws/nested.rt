@@ -3,7 +3,7 @@ ghost use Rattle.std.specs.Prelude.{◌≡◌, List, false};
 ghost use Rattle.std.specs.Option.{UnwrapsOrElse};
 ghost use Rattle.vecmap_base.specs.Pairs.{index_of, lookup, put};
 ghost use Rattle.vecmap_map.specs.Contents.{Contents};
-ghost use Rattle.vecmap_map.specs.Entry.{entries_with, entry_key, entry_map, entry_place, entry_value};
+ghost use Rattle.vecmap_map.specs.Entry.{entries_with, entry_key, entry_map, entry_index_of, entry_value};
 ghost use Rattle.vecmap_map.specs.Nested.{IsMadeEmpty, inner_entries};
 ghost use Rattle.vecmap_map.specs.declared.entry.Entry.{Entry};
 
@@ -29,16 +29,16 @@ pub fn inner_insertions_are_found<K: Eq, N: Eq, V>()
         (e : Entry K (Contents N V)) (before after : Contents N V) (name : N) (v : V)
         → l ≡ entries_with e after → after.entries ≡ put N.eq before.entries name v
         → UnwrapsOrElse (entry_value e) IsMadeEmpty before → entry_map e ≡ m → entry_key e ≡ k
-        → entry_place e ≡ index_of K.eq m.entries k
+        → entry_index_of e ≡ index_of K.eq m.entries k
         → inner_entries K.eq l k ≡ put N.eq (inner_entries K.eq m.entries k) name v }
     ensures entry_others { (l : List (K × Contents N V)) (m : Contents K (Contents N V)) (k : K)
         (e : Entry K (Contents N V)) (w : Contents N V) → l ≡ entries_with e w → entry_map e ≡ m
-        → entry_key e ≡ k → entry_place e ≡ index_of K.eq m.entries k → (q : K) → K.eq k q ≡ false
+        → entry_key e ≡ k → entry_index_of e ≡ index_of K.eq m.entries k → (q : K) → K.eq k q ≡ false
         → inner_entries K.eq l q ≡ inner_entries K.eq m.entries q }
     ensures entry_unchanged { (l : List (K × Contents N V)) (m : Contents K (Contents N V)) (k : K)
         (e : Entry K (Contents N V)) (before after : Contents N V) → l ≡ entries_with e after
         → after ≡ before → UnwrapsOrElse (entry_value e) IsMadeEmpty before → entry_map e ≡ m
-        → entry_key e ≡ k → entry_place e ≡ index_of K.eq m.entries k → (q : K)
+        → entry_key e ≡ k → entry_index_of e ≡ index_of K.eq m.entries k → (q : K)
         → inner_entries K.eq l q ≡ inner_entries K.eq m.entries q }
     ensures unchanged { (l : List (K × Contents N V)) (k : K) (m : Contents N V)
         → UnwrapsOrElse (lookup K.eq l k) IsMadeEmpty m → (q : K)

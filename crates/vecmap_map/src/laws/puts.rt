@@ -5,7 +5,7 @@ ghost use Rattle.std.specs.Option.{option_map_or, option_or};
 ghost use Rattle.vecmap_base.specs.Items.{add, adds, item_index, without_item};
 ghost use Rattle.vecmap_base.specs.Pairs.{HasDistinctKeys, index_of, index_or_length, lookup, map_values, put, put_key, puts, without_key};
 ghost use Rattle.vecmap_map.specs.Contents.{Contents, with_value_of};
-ghost use Rattle.vecmap_map.specs.Entry.{AreEntriesWith, entry_key, entry_map, entry_place};
+ghost use Rattle.vecmap_map.specs.Entry.{AreEntriesWith, entry_key, entry_map, entry_index_of};
 ghost use Rattle.vecmap_map.specs.declared.entry.Entry.{Entry};
 
 /// Equal keys have the same value and the same index. A lookup finds a value exactly if its key has an index.
@@ -13,7 +13,7 @@ ghost use Rattle.vecmap_map.specs.declared.entry.Entry.{Entry};
 pub fn equal_keys_find_the_same<K: Eq, V>()
     ensures value { (l : List (K × V)) (x y : K) → K.eq x y ≡ true
         → lookup K.eq l x ≡ lookup K.eq l y }
-    ensures place { (l : List (K × V)) (x y : K) → K.eq x y ≡ true
+    ensures index { (l : List (K × V)) (x y : K) → K.eq x y ≡ true
         → index_of K.eq l x ≡ index_of K.eq l y }
     ensures present { (l : List (K × V)) (k : K)
         → is_some (lookup K.eq l k) ≡ is_some (index_of K.eq l k) }
@@ -24,7 +24,7 @@ pub fn equal_keys_find_the_same<K: Eq, V>()
 pub fn stored_pairs_are_found<K: Eq, V>()
     ensures value { (l : List (K × V)) → HasDistinctKeys K.eq l → (i : ℕ) (k : K) (v : V)
         → slice_get l i ≡ Some (k, v) → lookup K.eq l k ≡ Some v }
-    ensures place { (l : List (K × V)) → HasDistinctKeys K.eq l → (i : ℕ) (k : K) (v : V)
+    ensures index { (l : List (K × V)) → HasDistinctKeys K.eq l → (i : ℕ) (k : K) (v : V)
         → slice_get l i ≡ Some (k, v) → index_of K.eq l k ≡ Some i }
 {}
 
@@ -41,7 +41,7 @@ pub fn insertions_are_found<K: Eq, V>()
         → lookup K.eq (put K.eq l k v) q ≡ (if K.eq k q then Some v else lookup K.eq l q) }
     ensures with_key { (l : List (K × V)) (k : K) (v : V) (q : K)
         → lookup K.eq (put_key K.eq l k v) q ≡ lookup K.eq (put K.eq l k v) q }
-    ensures place { (l : List (K × V)) (k : K) (v : V) (q : K)
+    ensures index { (l : List (K × V)) (k : K) (v : V) (q : K)
         → index_of K.eq (put K.eq l k v) q
         ≡ (if K.eq k q then Some (index_or_length K.eq l k) else index_of K.eq l q) }
     ensures keys { (l : List (K × V)) (k : K) (v : V)
@@ -70,9 +70,9 @@ pub fn writes_are_insertions<K: Eq, V>()
 #[tactic(auto, using(crate::proofs::LawLemmas::entries_insert_alike))]
 pub fn entries_insert_alike<K: Eq + Clone, V>()
     ensures present { (e : Entry K V) (v : V) (l : List (K × V))
-        → entry_place e ≡ index_of K.eq (entry_map e).entries (entry_key e) → IsSome (entry_place e)
+        → entry_index_of e ≡ index_of K.eq (entry_map e).entries (entry_key e) → IsSome (entry_index_of e)
         → AreEntriesWith K.is_clone e v l → l ≡ put K.eq (entry_map e).entries (entry_key e) v }
-    ensures absent { (e : Entry K V) (v : V) (l : List (K × V)) → entry_place e ≡ None
+    ensures absent { (e : Entry K V) (v : V) (l : List (K × V)) → entry_index_of e ≡ None
         → AreEntriesWith K.is_clone e v l → (k : K) × K.is_clone (entry_key e) k
         × (l ≡ (entry_map e).entries ++ (k, v) ∷ []) }
     ensures or_insert { (l : List (K × V)) (k : K) (v : V)
@@ -100,9 +100,9 @@ pub fn bulk_insertions_are_single_ones<K: Eq, V>()
         ≡ option_or (lookup K.eq (reverse pairs) q) (lookup K.eq l q) }
     ensures made { (pairs : List (K × V)) (q : K)
         → lookup K.eq (puts K.eq [] pairs) q ≡ lookup K.eq (reverse pairs) q }
-    ensures place { (l pairs : List (K × V)) (q : K) (i : ℕ) → index_of K.eq l q ≡ Some i
+    ensures index { (l pairs : List (K × V)) (q : K) (i : ℕ) → index_of K.eq l q ≡ Some i
         → index_of K.eq (puts K.eq l pairs) q ≡ Some i }
-    ensures places { (l pairs : List (K × V)) (q : K)
+    ensures indices { (l pairs : List (K × V)) (q : K)
         → index_of K.eq (puts K.eq l pairs) q
         ≡ item_index K.eq (adds K.eq (keys_of l) (keys_of pairs)) q }
     ensures keys { (l pairs : List (K × V))

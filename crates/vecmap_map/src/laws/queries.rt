@@ -13,7 +13,7 @@ use vecmap_base::Equivalent;
 pub fn queries_find_as_keys<K: Eq, V, Q: Equivalent<K>>()
     ensures value { (l : List (K × V)) (query : Q) (k : K) → Q.equivalent query k ≡ true
         → lookup_by (Q.equivalent query) l ≡ lookup K.eq l k }
-    ensures place { (l : List (K × V)) (query : Q) (k : K) → Q.equivalent query k ≡ true
+    ensures index { (l : List (K × V)) (query : Q) (k : K) → Q.equivalent query k ≡ true
         → index_by (Q.equivalent query) l ≡ index_of K.eq l k }
     ensures removal { (l : List (K × V)) (query : Q) (k : K) → Q.equivalent query k ≡ true
         → without_by (Q.equivalent query) l ≡ without_key K.eq l k }
@@ -34,7 +34,7 @@ pub fn queries_find_as_keys<K: Eq, V, Q: Equivalent<K>>()
 pub fn texts_find_as_strings<V>()
     ensures value { (l : List (String Global × V)) (text : List ℕ) (k : String Global)
         → string_bytes k ≡ text → lookup_by (has_text text) l ≡ lookup string_eq l k }
-    ensures place { (l : List (String Global × V)) (text : List ℕ) (k : String Global)
+    ensures index { (l : List (String Global × V)) (text : List ℕ) (k : String Global)
         → string_bytes k ≡ text → index_by (has_text text) l ≡ index_of string_eq l k }
     ensures removal { (l : List (String Global × V)) (text : List ℕ) (k : String Global)
         → string_bytes k ≡ text → without_by (has_text text) l ≡ without_key string_eq l k }

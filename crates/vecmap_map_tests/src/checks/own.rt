@@ -122,8 +122,8 @@ where
     I: DoubleEndedIterator + ExactSizeIterator + Drop,
     I::Item: Plain<T> + Drop,
     T: PartialEq + Debug + Drop,
-    requires front { (it : I) → I.can_next it }
-    requires back { (it : I) → I.can_next_back it }
+    requires next { (it : I) → I.can_next it }
+    requires next_back { (it : I) → I.can_next_back it }
 {
     let agrees = pulls_as_list(iter, |item: I::Item| item.plain(), list, ends);
     assert!(*rt; agrees, "not {list:?}, from the ends {ends:?}");

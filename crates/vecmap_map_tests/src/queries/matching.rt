@@ -40,7 +40,7 @@ fn finds<K: Eq + Same, Q: Equivalent<K>>(
         Some((_key, value)) => Some(*value),
         None => None,
     };
-    let (full_place, full_pair) = match map.get_full(query) {
+    let (full_index, full_pair) = match map.get_full(query) {
         Some((index, key, value)) => (Some(index), Some((key, value))),
         None => (None, None),
     };
@@ -48,7 +48,7 @@ fn finds<K: Eq + Same, Q: Equivalent<K>>(
         && map.get_index_of(query) == place
         && map.get(query).copied() == value
         && are_same_pair(map.get_key_value(query), pair)
-        && full_place == place
+        && full_index == place
         && are_same_pair(full_pair, pair)
 }
 

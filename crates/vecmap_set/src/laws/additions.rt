@@ -5,13 +5,13 @@ ghost use Rattle.std.specs.Option.{option_or};
 ghost use Rattle.vecmap_base.specs.Items.{add, add_new, adds, has_item, item_index, only, without_item};
 
 /// Elements that are equal have the same index.
-#[tactic(auto, using(vecmap_base::proofs::ItemsLemmas::Places::item_index_congr))]
-pub fn equal_elements_have_one_place<T: Eq>()
+#[tactic(auto, using(vecmap_base::proofs::ItemsLemmas::Indices::item_index_congr))]
+pub fn equal_elements_have_one_index<T: Eq>()
     ensures { (s : List T) (x y : T) → T.eq x y ≡ true → item_index T.eq s x ≡ item_index T.eq s y }
 {}
 
 /// If no two elements are equal, each is found at its own index.
-#[tactic(auto, using(vecmap_base::proofs::ItemsLemmas::Places::item_index_own))]
+#[tactic(auto, using(vecmap_base::proofs::ItemsLemmas::Indices::item_index_own))]
 pub fn stored_elements_are_found<T: Eq>()
     ensures { (s : List T) → IsDistinct T.eq s → (i : ℕ) (x : T) → slice_get s i ≡ Some x
         → item_index T.eq s x ≡ Some i }
@@ -24,7 +24,7 @@ pub fn stored_elements_are_found<T: Eq>()
 /// appended.
 #[tactic(auto, using(crate::proofs::LawLemmas::additions_move_nothing))]
 pub fn additions_move_nothing<T: Eq>()
-    ensures place { (s : List T) (x y : T)
+    ensures index { (s : List T) (x y : T)
         → item_index T.eq (add T.eq s x) y
         ≡ (if T.eq x y then Some
         (unwrap_or (item_index T.eq s x) (length s)) else item_index T.eq s y) }
@@ -42,9 +42,9 @@ pub fn bulk_additions_move_nothing<T: Eq>()
     ensures appended { (s xs : List T) → adds T.eq s xs ≡ s ++ adds T.eq [] (only T.eq xs s) }
     ensures element { (s xs : List T) (i : ℕ) → i < length s
         → slice_get (adds T.eq s xs) i ≡ slice_get s i }
-    ensures place { (s xs : List T) (x : T) (i : ℕ) → item_index T.eq s x ≡ Some i
+    ensures index { (s xs : List T) (x : T) (i : ℕ) → item_index T.eq s x ≡ Some i
         → item_index T.eq (adds T.eq s xs) x ≡ Some i }
-    ensures places { (s xs : List T) (x : T)
+    ensures indices { (s xs : List T) (x : T)
         → item_index T.eq (adds T.eq s xs) x
         ≡ option_or (item_index T.eq s x) (option_map (λ i. length s + i)
         (item_index T.eq (adds T.eq [] (only T.eq xs s)) x)) }

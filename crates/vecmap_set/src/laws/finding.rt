@@ -11,12 +11,12 @@ use vecmap_base::Equivalent;
 /// index. After an addition of any other element it finds what it found before.
 #[tactic(auto, using(crate::proofs::LawLemmas::queries_find_after_additions))]
 pub fn queries_find_after_additions<T: Eq, Q: Equivalent<T>>()
-    ensures place { (s : List T) (x : T) (q : Q) → Q.equivalent q x ≡ true
+    ensures index { (s : List T) (x : T) (q : Q) → Q.equivalent q x ≡ true
         → position (Q.equivalent q) (add T.eq s x)
         ≡ Some (unwrap_or (position (Q.equivalent q) s) (length s)) }
     ensures inserted { (s : List T) (x : T) (q : Q) → Q.equivalent q x ≡ true
         → list_any (Q.equivalent q) (add T.eq s x) ≡ true }
-    ensures other_place { (s : List T) (x : T) (q : Q) → Q.equivalent q x ≡ false
+    ensures other_index { (s : List T) (x : T) (q : Q) → Q.equivalent q x ≡ false
         → position (Q.equivalent q) (add T.eq s x) ≡ position (Q.equivalent q) s }
     ensures others { (s : List T) (x : T) (q : Q) → Q.equivalent q x ≡ false
         → list_any (Q.equivalent q) (add T.eq s x) ≡ list_any (Q.equivalent q) s }
@@ -25,7 +25,7 @@ pub fn queries_find_after_additions<T: Eq, Q: Equivalent<T>>()
 /// A text finds and removes what the `String` of its bytes does. After additions too, it finds what that string finds.
 #[tactic(auto, using(crate::proofs::LawLemmas::texts_find_as_strings))]
 pub fn texts_find_as_strings()
-    ensures place { (s : List (String Global)) (text : List ℕ) (x : String Global)
+    ensures index { (s : List (String Global)) (text : List ℕ) (x : String Global)
         → string_bytes x ≡ text → position (has_text text) s ≡ item_index string_eq s x }
     ensures found { (s : List (String Global)) (text : List ℕ) (x : String Global)
         → string_bytes x ≡ text → list_any (has_text text) s ≡ has_item string_eq s x }

@@ -10,7 +10,7 @@ use vecmap_base::Equivalent;
 /// It does not find again what it removed from a set.
 #[tactic(auto, using(crate::proofs::LawLemmas::queries_find_as_elements))]
 pub fn queries_find_as_elements<T: Eq, Q: Equivalent<T>>()
-    ensures place { (s : List T) (q : Q) (x : T) → Q.equivalent q x ≡ true
+    ensures index { (s : List T) (q : Q) (x : T) → Q.equivalent q x ≡ true
         → position (Q.equivalent q) s ≡ item_index T.eq s x }
     ensures found { (s : List T) (q : Q) (x : T) → Q.equivalent q x ≡ true
         → list_any (Q.equivalent q) s ≡ has_item T.eq s x }

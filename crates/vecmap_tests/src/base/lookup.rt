@@ -1,6 +1,6 @@
 //! Lookups in lists, and the number of their comparisons.
 use crate::checks::{assert_is, check, granted};
-use vecmap_base::{find, find_item, find_item_str, find_str, is_in};
+use vecmap_base::{contains_item, find, find_item, find_item_str, find_str};
 use vecmap_fixtures::{Log, told_items, told_pairs};
 
 #[test]
@@ -69,11 +69,11 @@ fn many_small_items_are_found_at_their_first_index(rt: HostRuntime) {
             let place = Some((number % 47) as usize);
             let letter = char::from_u32(number % 47).unwrap_or('a');
             assert_is(&rt, find_item(&items, &(number % 47)), place);
-            check!(rt; is_in(&items, &(number % 47)));
+            check!(rt; contains_item(&items, &(number % 47)));
             assert_is(&rt, find(&pairs, &letter), place);
         }
         assert_is(&rt, find_item(&items, &47), None);
-        check!(rt; !is_in(&items, &47));
+        check!(rt; !contains_item(&items, &47));
         assert_is(&rt, find(&pairs, &'~'), None);
     }
 }
@@ -133,7 +133,7 @@ fn a_test_for_a_word_asks_about_at_most_seven_more(rt: HostRuntime) {
         let more: usize = if told.len() < 8 { 1 } else { 8 };
         for (index, word) in wanted.iter().enumerate() {
             let before = log.comparisons();
-            assert_is(&rt, is_in(&words, &word), index < told.len());
+            assert_is(&rt, contains_item(&words, &word), index < told.len());
             let asked = log.comparisons().wrapping_sub(before) as usize;
             check!(rt; asked <= told.len());
             check!(rt; asked <= index.wrapping_add(more));

@@ -1,6 +1,6 @@
 //! Relations of two lists, seen as sets.
 use crate::checks::assert_is;
-use vecmap_base::{are_apart, are_within};
+use vecmap_base::{are_disjoint, are_within};
 
 #[test]
 fn relations_of_lists_ignore_order_and_repeats(rt: HostRuntime) {
@@ -14,7 +14,7 @@ fn relations_of_lists_ignore_order_and_repeats(rt: HostRuntime) {
         ([4, 5].as_slice(), [1, 2, 3].as_slice(), false, true),
     ] {
         assert_is(&rt, are_within(items, others), is_within);
-        assert_is(&rt, are_apart(items, others), is_apart);
-        assert_is(&rt, are_apart(others, items), is_apart);
+        assert_is(&rt, are_disjoint(items, others), is_apart);
+        assert_is(&rt, are_disjoint(others, items), is_apart);
     }
 }

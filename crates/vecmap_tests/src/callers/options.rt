@@ -20,7 +20,7 @@ fn overrides_are_found_before_defaults(rt: HostRuntime) {
     granted(&rt, upper.set_default("depth", 9));
     granted(&rt, upper.set("depth", 4));
     granted(&rt, upper.set("size", 1));
-    granted(&rt, options.lay(&mut upper));
+    granted(&rt, options.overlay(&mut upper));
     assert_is(
         &rt,
         (upper.defaults(), upper.overrides().len()),

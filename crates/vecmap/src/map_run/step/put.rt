@@ -4,7 +4,7 @@ ghost use Rattle.vecmap.specs.MapRun.{Effect};
 ghost use Rattle.vecmap.specs.declared.map_run.command.MapCommand.TheVariants.{Append, Insert, InsertAt, InsertFull, InsertKey, OrInsert};
 ghost use Rattle.vecmap_base.specs.Pairs.{index_of, index_or_length, lookup, put};
 ghost use Rattle.vecmap_map.specs.Contents.{KeepsRoom, Refuses};
-ghost use Rattle.vecmap_map.specs.Entry.{entry_place};
+ghost use Rattle.vecmap_map.specs.Entry.{entry_index_of};
 
 use super::MapReply;
 use vecmap_base::Refused;
@@ -85,7 +85,7 @@ fn put_if_new<K: Eq + Clone, V: Eq + Clone>(
     key: K,
     value: V,
 ) -> Result<(usize, bool), Refused<(K, V)>>
-    ensures place { IfOk result (λ kept. kept.0 ≡ index_or_length K.eq map.old.entries key) }
+    ensures index { IfOk result (λ kept. kept.0 ≡ index_or_length K.eq map.old.entries key) }
     ensures added { IfOk result (λ kept. kept.1
         ≡ not (is_some (index_of K.eq map.old.entries key))) }
     ensures entries { OnOk result (map.new.entries
@@ -101,7 +101,7 @@ fn put_if_new<K: Eq + Clone, V: Eq + Clone>(
 
 // Returns `true` if the key of the entry is not present.
 fn is_vacant<K, V>(entry: &Entry<'_, K, V>) -> bool
-    ensures { result ≡ not (is_some (entry_place entry.now)) }
+    ensures { result ≡ not (is_some (entry_index_of entry.now)) }
 {
     match entry {
         Entry::Occupied(_) => false,

@@ -9,7 +9,7 @@ returns-then-is_some g c =
     let xs = c.args.items.now in
     let i = c.loop-i.i in
     let x = c.index-items-i.result in
-    let found = sym (is_some_item_index_rest g.T.PartialEq.eq xs (i + 1) x) ∙ ap is_some (sym c.find_item.ensures.place) ∙ sym c.is_some.ensures ∙ c.if-is_some.true in
+    let found = sym (is_some_item_index_rest g.T.PartialEq.eq xs (i + 1) x) ∙ ap is_some (sym c.find_item.ensures.index) ∙ sym c.is_some.ensures ∙ c.if-is_some.true in
     (λ t. absurd (true≢false (sym t)), λ d. absurd (repeat_at g.T.PartialEq.eq xs i x c.loop-i-test.true c.index-items-i.is found c.loop-i.invariant d))
 
 pub loop-i-preserved : goal.loop-i-preserved
@@ -17,7 +17,7 @@ loop-i-preserved g c =
     let xs = c.args.items.now in
     let i = c.loop-i.i in
     let x = c.index-items-i.result in
-    let none = sym (is_some_item_index_rest g.T.PartialEq.eq xs (i + 1) x) ∙ ap is_some (sym c.find_item.ensures.place) ∙ sym c.is_some.ensures ∙ c.if-is_some.false in
+    let none = sym (is_some_item_index_rest g.T.PartialEq.eq xs (i + 1) x) ∙ ap is_some (sym c.find_item.ensures.index) ∙ sym c.is_some.ensures ∙ c.if-is_some.false in
     distinct_more g.T.PartialEq.eq xs i x c.loop-i-test.true c.index-items-i.is none c.loop-i.invariant
 
 pub returns : goal.returns

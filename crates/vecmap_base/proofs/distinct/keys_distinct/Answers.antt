@@ -3,7 +3,7 @@ use Rattle.std.proofs.Common.{◌+◌, ◌<◌, ◌≤◌, get_or, is_some, leng
 use Rattle.std.specs.Map.{keys_of}
 use Rattle.std.proofs.lemmas.Map.Entries.{length-keys_of}
 use Rattle.vecmap_base.proofs.DistinctLemmas.Walk.{distinct_more, repeat_at, distinct_all}
-use Rattle.vecmap_base.proofs.PairsLemmas.{Places.is_some_index_of_rest, Values.key_at}
+use Rattle.vecmap_base.proofs.PairsLemmas.{Indices.is_some_index_of_rest, Values.key_at}
 use Rattle.vecmap_base.proofs.distinct.keys_distinct.Goals as goal
 
 pub returns-then-is_some : goal.returns-then-is_some
@@ -12,7 +12,7 @@ returns-then-is_some g c =
     let i = c.loop-i.i in
     let k = (get_or c.args.pairs.now i c.index-pairs-i.result).0 in
     let l : i < length ks = omega (arith, length-keys_of c.args.pairs.now) in
-    let found = sym (is_some_index_of_rest g.K.PartialEq.eq c.args.pairs.now (i + 1) k) ∙ ap is_some (sym c.find.ensures.place) ∙ sym c.is_some.ensures ∙ c.if-is_some.true in
+    let found = sym (is_some_index_of_rest g.K.PartialEq.eq c.args.pairs.now (i + 1) k) ∙ ap is_some (sym c.find.ensures.index) ∙ sym c.is_some.ensures ∙ c.if-is_some.true in
     (λ t. absurd (true≢false (sym t)), λ d. absurd (repeat_at g.K.PartialEq.eq ks i k l (key_at c.args.pairs.now i c.index-pairs-i.result k c.loop-i-test.true) found c.loop-i.invariant d))
 
 pub loop-i-preserved : goal.loop-i-preserved
@@ -21,7 +21,7 @@ loop-i-preserved g c =
     let i = c.loop-i.i in
     let k = (get_or c.args.pairs.now i c.index-pairs-i.result).0 in
     let l : i < length ks = omega (arith, length-keys_of c.args.pairs.now) in
-    let none = sym (is_some_index_of_rest g.K.PartialEq.eq c.args.pairs.now (i + 1) k) ∙ ap is_some (sym c.find.ensures.place) ∙ sym c.is_some.ensures ∙ c.if-is_some.false in
+    let none = sym (is_some_index_of_rest g.K.PartialEq.eq c.args.pairs.now (i + 1) k) ∙ ap is_some (sym c.find.ensures.index) ∙ sym c.is_some.ensures ∙ c.if-is_some.false in
     distinct_more g.K.PartialEq.eq ks i k l (key_at c.args.pairs.now i c.index-pairs-i.result k c.loop-i-test.true) none c.loop-i.invariant
 
 pub returns : goal.returns

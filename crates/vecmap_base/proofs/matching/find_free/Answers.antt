@@ -9,7 +9,7 @@ use Rattle.vecmap_base.proofs.matching.find_free.Goals as goal
 use Rattle.vecmap_base.proofs.matching.find_free.Goals.{else-not-taken-first-via-then-not-taken-first+else-eq, else-not-taken-first-via-else-not-taken-first}
 
 pub returns-in_err-first-clause-none : goal.returns-in_err-first-clause-none
-returns-in_err-first-clause-none g c = λ e. none_free_absent g.K.PartialEq.eq g.V.PartialEq.eq c.args.pairs.now c.args.taken.now c.args.pair.now c.requires.enough c.in_err-first.ensures.place
+returns-in_err-first-clause-none g c = λ e. none_free_absent g.K.PartialEq.eq g.V.PartialEq.eq c.args.pairs.now c.args.taken.now c.args.pair.now c.requires.enough c.in_err-first.ensures.index
 
 pub returns-then-eq-clause-unmarked : goal.returns-then-eq-clause-unmarked
 returns-then-eq-clause-unmarked g c =
@@ -22,7 +22,7 @@ returns-then-eq-clause-equal g c =
     let pair = c.args.pair.now in
     let first = c.in_ok-first.first in
     let stored = get_or_default pairs first c.index-pairs-first.result pair c.in_ok-first.ensures.within in
-    let key = (position-Some (λ (p : g.row.K.Denot × g.row.V.Denot). g.K.PartialEq.eq pair.0 p.0) pairs first pair (sym c.in_ok-first.ensures.place)).1 in
+    let key = (position-Some (λ (p : g.row.K.Denot × g.row.V.Denot). g.K.PartialEq.eq pair.0 p.0) pairs first pair (sym c.in_ok-first.ensures.index)).1 in
     and_from _ _ key (sym (ap (λ (p : g.row.K.Denot × g.row.V.Denot). g.V.PartialEq.eq pair.1 p.1) stored) ∙ sym c.eq.ensures ∙ c.if-eq.true)
 
 pub loop-at-init : goal.loop-at-init
@@ -32,7 +32,7 @@ loop-at-init g c =
     let first = c.in_ok-first.first in
     let within = c.in_ok-first.ensures.within in
     let mark = get_or_default c.args.taken.now first false true (omega (arith, within, c.requires.enough)) in
-    let before = none_free_before g.K.PartialEq.eq g.V.PartialEq.eq pairs c.args.taken.now pair first c.in_ok-first.ensures.place in
+    let before = none_free_before g.K.PartialEq.eq g.V.PartialEq.eq pairs c.args.taken.now pair first c.in_ok-first.ensures.index in
     let here : (not (get_or c.args.taken.now first true) && same_pair g.K.PartialEq.eq g.V.PartialEq.eq pair (get_or pairs first pair)) ≡ false =
     elim c.else-not-taken-first.branch [
       | else-not-taken-first-via-then-not-taken-first+else-eq w ↦ other_value g.K.PartialEq.eq g.V.PartialEq.eq (get_or c.args.taken.now first true) pair (get_or pairs first pair) (sym (ap (λ (p : g.row.K.Denot × g.row.V.Denot). g.V.PartialEq.eq pair.1 p.1) (get_or_default pairs first w.index-pairs-first.result pair within)) ∙ sym w.eq.ensures ∙ w.if-eq.false)

@@ -39,7 +39,7 @@ loop-i-preserved g c =
           let j = w.in-Some.place in
           let long : length zs ≡ length ys = w.swap_values.auto.pairs in
           let before : j < n = omega (arith, length-take n ys, w.in-Some.ensures.within) in
-          let moved = front_put eq ys zs n j i (get_or ys i p).0 p before was.bound m w.swap_values.ensures.keys w.swap_values.ensures.values (sym w.in-Some.ensures.place) in
+          let moved = front_put eq ys zs n j i (get_or ys i p).0 p before was.bound m w.swap_values.ensures.keys w.swap_values.ensures.values (sym w.in-Some.ensures.index) in
           let there : put eq (take n ys) (get_or ys i p).0 (get_or ys i p).1 ≡ puts eq [] (take (i + 1) xs) = (λ t. put eq (was.front t) (rest.0 t).0 (rest.0 t).1) ∙ sym more in
           let kept : length (take n zs) ≡ n = omega (arith, length-take n zs) in
           record {
@@ -53,7 +53,7 @@ loop-i-preserved g c =
           })
       | in-None w ↦
           rw (w.pairs-is, w.kept-is) (
-          let none : index_of eq s q.0 ≡ None = sym (λ t. index_of eq (was.front t) (rest.0 t).0) ∙ sym w.in-None.ensures.place in
+          let none : index_of eq s q.0 ≡ None = sym (λ t. index_of eq (was.front t) (rest.0 t).0) ∙ sym w.in-None.ensures.index in
           let new : puts eq [] (take (i + 1) xs) ≡ s ++ q ∷ [] = more ∙ put_absent eq s q.0 q.1 none in
           let moved = front_swapped ys w.swap.new.self n i p was.bound m w.swap.ensures.len w.swap.ensures.by_index in
           record {

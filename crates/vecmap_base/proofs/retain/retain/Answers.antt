@@ -11,11 +11,11 @@ keeps-requires g c =
     let so_far = c.loop-i.invariant.kept in
     let p = c.index_mut.result.now in
     let l : c.loop-i.i < length c.args.items.now.items = omega (arith, c.loop-i-test.true, c.len-i-end.ensures, c.args.items.now.ok.0) in
-    callable_here g.A.Keeps.step c.args.asked c.loop-i.asked c.loop-i.asked _ _ c.loop-i.kept c.loop-i.i p p so_far l c.index_mut.ensures.value g.A.Keeps.accepts c.requires.callable
+    callable_here g.A.Predicate.step c.args.asked c.loop-i.asked c.loop-i.asked _ _ c.loop-i.kept c.loop-i.i p p so_far l c.index_mut.ensures.value g.A.Predicate.accepts c.requires.callable
 
 pub loop-i-preserved : goal.loop-i-preserved
 loop-i-preserved g c =
-    let R = g.A.Keeps.step in
+    let R = g.A.Predicate.step in
     let xs = c.args.items.now.items in
     let ys = c.loop-i.items.items in
     let i = c.loop-i.i in
@@ -47,4 +47,4 @@ loop-i-preserved g c =
 pub returns-clause-retained : goal.returns-clause-retained
 returns-clause-retained g c =
     let done : length c.args.items.now.items ≤ c.loop-i.i = omega (arith, c.loop-i-test.false, c.len-i-end.ensures, c.args.items.now.ok.0) in
-    (c.loop-i.asked, kept_all g.A.Keeps.step c.args.asked c.loop-i.asked _ _ c.loop-i.kept c.loop-i.i _ c.loop-i.invariant.kept done c.truncate.ensures.items)
+    (c.loop-i.asked, kept_all g.A.Predicate.step c.args.asked c.loop-i.asked _ _ c.loop-i.kept c.loop-i.i _ c.loop-i.invariant.kept done c.truncate.ensures.items)

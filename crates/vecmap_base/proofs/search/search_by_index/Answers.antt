@@ -17,19 +17,19 @@ loop-size-preserved g c =
           (c.loop-size.invariant.2 ord by),
     )
 
-pub returns-in-Less-clause-place : goal.returns-in-Less-clause-place
-returns-in-Less-clause-place g c =
+pub returns-in-Less-clause-index : goal.returns-in-Less-clause-index
+returns-in-Less-clause-index g c =
     let base = c.loop-size.base in
     λ ord by.
     narrowed_less ord c.args.items.now base c.loop-size.size (omega arith) (omega arith)
     (λ d. sym (by base _ (omega arith) c.f-2.ensures d) ∙ c.in-Less.is)
     (c.loop-size.invariant.2 ord by)
 
-pub returns-in-Equal-clause-place : goal.returns-in-Equal-clause-place
-returns-in-Equal-clause-place g c = λ ord by d. sym (by c.loop-size.base _ (omega arith) c.f-2.ensures d) ∙ c.in-Equal.is
+pub returns-in-Equal-clause-index : goal.returns-in-Equal-clause-index
+returns-in-Equal-clause-index g c = λ ord by d. sym (by c.loop-size.base _ (omega arith) c.f-2.ensures d) ∙ c.in-Equal.is
 
-pub returns-clause-place : goal.returns-clause-place
-returns-clause-place g c =
+pub returns-clause-index : goal.returns-clause-index
+returns-clause-index g c =
     let base = c.loop-size.base in
     λ ord by.
     narrowed_greater ord c.args.items.now base c.loop-size.size

@@ -2,7 +2,7 @@
 -- each returns `false`.
 use Rattle.std.proofs.Common.{◌≡◌, ◌+◌, ◌||◌, Bool, false, true, arith, refl, sym, true≢false, ◌∙◌}
 use Rattle.std.proofs.lemmas.Bool.{or_from, or_parts}
-use Rattle.vecmap_base.proofs.PlaceLemmas.{none_before_next, position_at}
+use Rattle.vecmap_base.proofs.IndexLemmas.{none_before_next, position_at}
 use Rattle.vecmap_base.proofs.unrolled.find_of_eight.Goals as goal
 
 -- If one of two is true and the first is not, the second is.
@@ -31,23 +31,23 @@ returns-then-not-a-b-clause-none g c = λ r p by.
     let seven = none_before_next p xs (at + 6) (at + 7) c.index-items-at-7.result (omega (arith, w)) (omega arith) c.index-items-at-7.is (sym (by _ _ c.asks-g.ensures) ∙ to_g.1) six in
     none_before_next p xs (at + 7) (at + 8) c.index-items-at-8.result (omega (arith, w)) (omega arith) c.index-items-at-8.is (sym (by _ _ c.asks-h.ensures) ∙ to_h.1) seven
 
-pub returns-then-a-clause-place : goal.returns-then-a-clause-place
-returns-then-a-clause-place g c = λ p by.
+pub returns-then-a-clause-index : goal.returns-then-a-clause-index
+returns-then-a-clause-index g c = λ p by.
     let xs = c.args.items.now in
     let at = c.args.at in
     let w = c.requires.within in
     position_at p xs at c.index-items-at.result (omega (arith, w)) c.index-items-at.is (sym (by _ _ c.asks-a.ensures) ∙ c.if-a.true) (c.requires.none_before p by)
 
-pub returns-then-b-clause-place : goal.returns-then-b-clause-place
-returns-then-b-clause-place g c = λ p by.
+pub returns-then-b-clause-index : goal.returns-then-b-clause-index
+returns-then-b-clause-index g c = λ p by.
     let xs = c.args.items.now in
     let at = c.args.at in
     let w = c.requires.within in
     let one = none_before_next p xs at (at + 1) c.index-items-at.result (omega (arith, w)) refl c.index-items-at.is (sym (by _ _ c.asks-a.ensures) ∙ c.if-a.false) (c.requires.none_before p by) in
     position_at p xs (at + 1) c.index-items-at-2.result (omega (arith, w)) c.index-items-at-2.is (sym (by _ _ c.asks-b.ensures) ∙ c.if-b.true) one
 
-pub returns-then-c-clause-place : goal.returns-then-c-clause-place
-returns-then-c-clause-place g c = λ p by.
+pub returns-then-c-clause-index : goal.returns-then-c-clause-index
+returns-then-c-clause-index g c = λ p by.
     let xs = c.args.items.now in
     let at = c.args.at in
     let w = c.requires.within in
@@ -55,8 +55,8 @@ returns-then-c-clause-place g c = λ p by.
     let two = none_before_next p xs (at + 1) (at + 2) c.index-items-at-2.result (omega (arith, w)) (omega arith) c.index-items-at-2.is (sym (by _ _ c.asks-b.ensures) ∙ c.if-b.false) one in
     position_at p xs (at + 2) c.index-items-at-3.result (omega (arith, w)) c.index-items-at-3.is (sym (by _ _ c.asks-c.ensures) ∙ c.if-c.true) two
 
-pub returns-then-d-clause-place : goal.returns-then-d-clause-place
-returns-then-d-clause-place g c = λ p by.
+pub returns-then-d-clause-index : goal.returns-then-d-clause-index
+returns-then-d-clause-index g c = λ p by.
     let xs = c.args.items.now in
     let at = c.args.at in
     let w = c.requires.within in
@@ -65,8 +65,8 @@ returns-then-d-clause-place g c = λ p by.
     let three = none_before_next p xs (at + 2) (at + 3) c.index-items-at-3.result (omega (arith, w)) (omega arith) c.index-items-at-3.is (sym (by _ _ c.asks-c.ensures) ∙ c.if-c.false) two in
     position_at p xs (at + 3) c.index-items-at-4.result (omega (arith, w)) c.index-items-at-4.is (sym (by _ _ c.asks-d.ensures) ∙ c.if-d.true) three
 
-pub returns-then-e-clause-place : goal.returns-then-e-clause-place
-returns-then-e-clause-place g c = λ p by.
+pub returns-then-e-clause-index : goal.returns-then-e-clause-index
+returns-then-e-clause-index g c = λ p by.
     let xs = c.args.items.now in
     let at = c.args.at in
     let w = c.requires.within in
@@ -76,8 +76,8 @@ returns-then-e-clause-place g c = λ p by.
     let four = none_before_next p xs (at + 3) (at + 4) c.index-items-at-4.result (omega (arith, w)) (omega arith) c.index-items-at-4.is (sym (by _ _ c.asks-d.ensures) ∙ c.if-d.false) three in
     position_at p xs (at + 4) c.index-items-at-5.result (omega (arith, w)) c.index-items-at-5.is (sym (by _ _ c.asks-e.ensures) ∙ c.if-e.true) four
 
-pub returns-then-f-clause-place : goal.returns-then-f-clause-place
-returns-then-f-clause-place g c = λ p by.
+pub returns-then-f-clause-index : goal.returns-then-f-clause-index
+returns-then-f-clause-index g c = λ p by.
     let xs = c.args.items.now in
     let at = c.args.at in
     let w = c.requires.within in
@@ -88,8 +88,8 @@ returns-then-f-clause-place g c = λ p by.
     let five = none_before_next p xs (at + 4) (at + 5) c.index-items-at-5.result (omega (arith, w)) (omega arith) c.index-items-at-5.is (sym (by _ _ c.asks-e.ensures) ∙ c.if-e.false) four in
     position_at p xs (at + 5) c.index-items-at-6.result (omega (arith, w)) c.index-items-at-6.is (sym (by _ _ c.asks-f.ensures) ∙ c.if-f.true) five
 
-pub returns-then-g-clause-place : goal.returns-then-g-clause-place
-returns-then-g-clause-place g c = λ p by.
+pub returns-then-g-clause-index : goal.returns-then-g-clause-index
+returns-then-g-clause-index g c = λ p by.
     let xs = c.args.items.now in
     let at = c.args.at in
     let w = c.requires.within in
@@ -101,8 +101,8 @@ returns-then-g-clause-place g c = λ p by.
     let six = none_before_next p xs (at + 5) (at + 6) c.index-items-at-6.result (omega (arith, w)) (omega arith) c.index-items-at-6.is (sym (by _ _ c.asks-f.ensures) ∙ c.if-f.false) five in
     position_at p xs (at + 6) c.index-items-at-7.result (omega (arith, w)) c.index-items-at-7.is (sym (by _ _ c.asks-g.ensures) ∙ c.if-g.true) six
 
-pub returns-clause-place : goal.returns-clause-place
-returns-clause-place g c = λ p by.
+pub returns-clause-index : goal.returns-clause-index
+returns-clause-index g c = λ p by.
     let xs = c.args.items.now in
     let at = c.args.at in
     let w = c.requires.within in

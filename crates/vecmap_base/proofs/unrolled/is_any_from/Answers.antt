@@ -2,7 +2,7 @@ use Rattle.std.proofs.Common.{◌+◌, ap, refl, sym, ◌∙◌}
 use Rattle.std.specs.List.{list_any}
 use Rattle.std.proofs.lemmas.List.{take_all}
 use Rattle.std.proofs.lemmas.List.Folds.{list_any_at}
-use Rattle.vecmap_base.proofs.PlaceLemmas.{list_any_next}
+use Rattle.vecmap_base.proofs.IndexLemmas.{list_any_next}
 use Rattle.vecmap_base.proofs.unrolled.is_any_from.Goals as goal
 
 pub loop-index-init : goal.loop-index-init

@@ -1,5 +1,5 @@
 use Rattle.std.proofs.Common.{sym, ◌∙◌}
-use Rattle.vecmap_base.proofs.PlaceLemmas.{list_any_front}
+use Rattle.vecmap_base.proofs.IndexLemmas.{list_any_front}
 use Rattle.vecmap_base.proofs.unrolled.is_any_in_blocks.Goals as goal
 
 pub returns-then-is_any_of_eight : goal.returns-then-is_any_of_eight

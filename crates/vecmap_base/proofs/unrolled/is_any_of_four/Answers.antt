@@ -1,6 +1,6 @@
 -- Each call adds one item to the front, and its answer to what the front answers.
 use Rattle.std.proofs.Common.{◌+◌, arith, refl}
-use Rattle.vecmap_base.proofs.PlaceLemmas.{list_any_next}
+use Rattle.vecmap_base.proofs.IndexLemmas.{list_any_next}
 use Rattle.vecmap_base.proofs.unrolled.is_any_of_four.Goals as goal
 
 pub returns : goal.returns

@@ -3,4 +3,4 @@ use Rattle.std.proofs.lemmas.List.Sorted.{IsPartitionPoint-from_clause}
 use Rattle.vecmap_callers.proofs.search.count_below.Goals as goal
 
 pub returns : goal.returns
-returns c = IsPartitionPoint-from_clause (λ x. nat_lt x c.args.limit) _ _ c.partition_point.ensures.place c.requires (λ a r q k. search rules)
+returns c = IsPartitionPoint-from_clause (λ x. nat_lt x c.args.limit) _ _ c.partition_point.ensures.index c.requires (λ a r q k. search rules)

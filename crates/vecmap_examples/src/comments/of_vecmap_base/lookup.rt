@@ -3,8 +3,8 @@ use crate::checks::{assert_is, granted};
 use std::alloc::Global;
 use std::process::Abort;
 use vecmap_base::{
-    find, find_equivalent, find_item, find_item_equivalent, find_item_str, find_str, is_in,
-    is_in_equivalent,
+    contains_equivalent, contains_item, find, find_equivalent, find_item, find_item_equivalent,
+    find_item_str, find_str,
 };
 
 fn shows_find(rt: &impl Abort) {
@@ -31,8 +31,8 @@ fn shows_find_item_str(rt: &impl Abort, alloc: Global) {
     assert_is(rt, find_item_str(&items, "a"), Some(0));
 }
 
-fn shows_is_in(rt: &impl Abort) {
-    assert_is(rt, is_in(&['a', 'b'], &'c'), false);
+fn shows_contains_item(rt: &impl Abort) {
+    assert_is(rt, contains_item(&['a', 'b'], &'c'), false);
 }
 
 fn shows_find_equivalent(rt: &impl Abort) {
@@ -43,8 +43,8 @@ fn shows_find_item_equivalent(rt: &impl Abort) {
     assert_is(rt, find_item_equivalent(&["a", "b"], "b"), Some(1));
 }
 
-fn shows_is_in_equivalent(rt: &impl Abort) {
-    assert_is(rt, is_in_equivalent(&["a", "b"], "c"), false);
+fn shows_contains_equivalent(rt: &impl Abort) {
+    assert_is(rt, contains_equivalent(&["a", "b"], "c"), false);
 }
 
 #[test]
@@ -54,8 +54,8 @@ fn examples_of_vecmap_base_lookup_hold(rt: HostRuntime) {
     shows_find_item(&rt);
     shows_find_str(&rt, alloc);
     shows_find_item_str(&rt, alloc);
-    shows_is_in(&rt);
+    shows_contains_item(&rt);
     shows_find_equivalent(&rt);
     shows_find_item_equivalent(&rt);
-    shows_is_in_equivalent(&rt);
+    shows_contains_equivalent(&rt);
 }

@@ -30,7 +30,7 @@ fn shows_last_mut(rt: &impl Abort, alloc: Global) {
 
 fn shows_get_full_mut(rt: &impl Abort, alloc: Global) {
     let mut map = granted(rt, vecmap_a_1_b_2(alloc));
-    if let Some((_place, _key, value)) = map.get_full_mut(&'b') {
+    if let Some((_index, _key, value)) = map.get_full_mut(&'b') {
         *value = 3;
     }
     assert_pairs(rt, &map, &[('a', 1), ('b', 3)]);

@@ -7,7 +7,7 @@ use vecmap::map::MutableKeys;
 
 fn shows_get_full_mut2(rt: &impl Abort, alloc: Global) {
     let mut map = granted(rt, vecmap_a_1_b_2(alloc));
-    if let Some((_place, key, _value)) = map.get_full_mut2(&'b') {
+    if let Some((_index, key, _value)) = map.get_full_mut2(&'b') {
         *key = 'c';
     }
     assert_pairs(rt, &map, &[('a', 1), ('c', 2)]);

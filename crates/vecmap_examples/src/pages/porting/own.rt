@@ -55,7 +55,7 @@ pub fn add_all<I: Iterator<Item = (u32, u32)>>(
     map: &mut VecMap<u32, u32>,
     pairs: I,
 ) -> Result<(), AllocError>
-    requires can { I.can_next pairs }
+    requires next { I.can_next pairs }
     requires ends { IsFinite (I.remaining pairs) }
 {
     map.extend(pairs)

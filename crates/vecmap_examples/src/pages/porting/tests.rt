@@ -30,7 +30,7 @@ fn shows_bulk(alloc: Global) -> Result<bool, Fail> {
     )
 }
 
-fn shows_sets_and_places(alloc: Global) -> Result<bool, Fail> {
+fn shows_sets_and_indices(alloc: Global) -> Result<bool, Fail> {
     let mut map = vecmap!(alloc; 4 => 'd');
     let both = (vecset!(alloc; 1, 2), vecset!(alloc; 2, 3));
     Ok(
@@ -193,7 +193,7 @@ fn examples_hold(rt: HostRuntime) -> Result<(), Fail> {
     let alloc = rt.alloc();
     assert!(rt; shows_orders(alloc)?);
     assert!(rt; shows_bulk(alloc)?);
-    assert!(rt; shows_sets_and_places(alloc)?);
+    assert!(rt; shows_sets_and_indices(alloc)?);
     assert!(rt; shows_references_and_digits(alloc)?);
     assert!(rt; shows_a_derived_clone(alloc)?);
     assert!(rt; shows_collecting_that_may_fail(alloc)?);

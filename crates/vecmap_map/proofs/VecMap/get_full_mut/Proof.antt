@@ -1,4 +1,4 @@
--- The idea: `with_place_by` returns the map with the index of the key, and `full_mut` the references at that index.
+-- The idea: `with_index_by` returns the map with the index of the key, and `full_mut` the references at that index.
 -- The clause `writes_back` is worth a proof by hand: the others say nothing of the map after the loan, so a body that
 -- changes another pair meets them.
 use Rattle.vecmap_map.proofs.LentLemmas.Steps.{Bool, done, ◌≡◌, ℕ, ◌<◌, refl, sym, ap, ◌∙◌, subst, lit<, w64, List, [], ◌∷◌, ◌++◌, Option, Some, None, IfSome, length, option_map, slice_get, a_type, named, dcons, dnil, Val, vint, vptr, vstruct, vcons, vnil, of_list, inst_fn, SProp, sep, emp, id⊢, ftrue, flft, sem, ‵, raw, ◌⊛◌, some, later, at_ret, ◌$◌, ◌∵◌, !, qed, by, move, keep, drop, split, split3, join, fjoin, fsplit3, pick, await, use0, use1, rewrite, live, vrt, in_variant, whole, sub, agg, name_done, enter, of_opd, lit, addr, stop, fld, no_more, and_then, first, switches_on, exec, returns, alloc_all, pass_all, free_all, look_at, get, get_in, get_tag, through, sets, sets_last, lands_as, env, fact, fact_i, Lfts, Shares, ◌⊑◌, tables, no, RattleType, Is, shows, type_at, plain, RefMutOf, usize, Bor, MutBor, mut_vals, mut_Tells, uint_vals, param, bounded, nothing, only, peeks, heard, calls_at, Lasts, lasts, on_entry, alive, Vals, triple_of, framed, Stays, stay_dropped, walk_of, Goes-dropped, proved, leaves, after, head, arm_body, option_and_then}
@@ -6,11 +6,11 @@ use denote.Param.{copied}
 use denote.Param.Laws.{copied_laws}
 use Rattle.vecmap_base.specs.Pairs.{index_by, lookup_pair_by}
 use Rattle.std.specs.contracts.option.Option as OP
-use Rattle.vecmap_map.proofs.LentLemmas.Parts.{then_runs, beside, by_parts, by_place, some_of, none_of, place_then, stays_at_none}
-use Rattle.vecmap_map.specs.Lends.{lends_value_at, lends_beside_place}
+use Rattle.vecmap_map.proofs.LentLemmas.Parts.{then_runs, beside, by_parts, by_index, some_of, none_of, index_then, stays_at_none}
+use Rattle.vecmap_map.specs.Lends.{lends_value_at, lends_beside_index}
 use Rattle.vecmap_map.specs.contracts.VecMap.{the_row}
-use Rattle.vecmap_map.specs.contracts.VecMap.with_place_by as A
-use Rattle.vecmap_map.proofs.VecMap.with_place_by.Met as A-thm
+use Rattle.vecmap_map.specs.contracts.VecMap.with_index_by as A
+use Rattle.vecmap_map.proofs.VecMap.with_index_by.Met as A-thm
 use Rattle.vecmap_map.specs.contracts.VecMap.full_mut as B
 use Rattle.vecmap_map.proofs.VecMap.full_mut.Met as B-thm
 use Rattle.vecmap_map.specs.contracts.VecMap.get_full_mut.{ended, clauses}
@@ -44,14 +44,14 @@ get_full_mut_spec 𝓤 𝓛 𝓜 𝓡 wired KT VT QT KL VL QL CQ E E-dict C C-di
     let Ev = env fn.locals l in
     sets ! (addr ! (through ! refl (stop !))) refl (tt, tt) $
     use1 𝓛 (raw (kA.pre yA)) (beside 𝓤 𝓛 (on_entry 𝓛 S κs qs a vs) _ F G inK inV (qed 𝓛 (raw (emp 𝓤) ∷ []) ∵ use0 𝓛 (raw (fact 𝓤 J)) (fact_i 𝓤 J (emp 𝓤) inQ) $ join ! $ done !)) $
-    calls_at ! (framed 𝓤 H 𝓜 𝓣) kA (A-thm.met 𝓤 𝓛 𝓜 𝓡 (code.calls-vecmap_map::VecMap::with_place_by 𝓡.env wired) KT VT QT KL VL QL CQ E E-dict C C-dict O O-dict P P-dict E-met C-met O-met P-met) yA (and_then ! (get ! refl) (and_then ! (get ! refl) (no_more !))) (λ v.
+    calls_at ! (framed 𝓤 H 𝓜 𝓣) kA (A-thm.met 𝓤 𝓛 𝓜 𝓡 (code.calls-vecmap_map::VecMap::with_index_by 𝓡.env wired) KT VT QT KL VL QL CQ E E-dict C C-dict O O-dict P P-dict E-met C-met O-met P-met) yA (and_then ! (get ! refl) (and_then ! (get ! refl) (no_more !))) (λ v.
     use1 𝓛 (later (some (λ (x : Both.Denot). (raw toks ⊛ ‵ (Both.own_val x (v ∷ []))) ⊛ some (λ (ls : Lasts (A.ended KT VT QT E E-dict C C-dict O O-dict P P-dict) κs a). ‵ (lasts (A.ended KT VT QT E E-dict C C-dict O O-dict P P-dict) κs a ls) ⊛ (raw (fact 𝓤 (x.0 ≡ found)) ⊛ (raw (fact 𝓤 (IfSome x.0 (λ i. i < length m.now.entries))) ⊛ (raw (fact 𝓤 (x.1.ghost_name ≡ m.ghost_name)) ⊛ raw (fact 𝓤 (x.1.now ≡ m.now)))))))))
     (id⊢ 𝓤 (kA.post yA v)) $
     await ! tt $ pick ! (λ x. split ! $ move ! (1 ∷ []) $ pick ! (λ _. split ! $ drop ! $ split ! $ heard ! _ (λ place. split ! $ heard ! _ (λ within. split ! $ heard ! _ (λ name. heard ! _ (λ same. split ! $ move ! (1 ∷ []) $
     -- [the index and the map; the tokens]
     by_parts (named 0) κs.0 (OP.the_row usize) Row ! x v m name same (λ us is.
     let map : MutBor Row.Denot = record m { ref_ptr = x.1.ref_ptr } in let p : Val = vptr x.1.ref_ptr.0 x.1.ref_ptr.1 in
-    by_place ! x.0 us
+    by_index ! x.0 us
     (λ i there e fits.
     let at : Some i ≡ found = sym there ∙ place in let here : i < length m.now.entries = subst (λ (z : Option ℕ). IfSome z (λ j. j < length m.now.entries)) there within in
     let κs' : Lfts 3 = (κs.0, (κs.1.0, (κs.1.1.0, tt))) in let qs' : Shares 3 = (qs.0, (qs.1.0, (qs.1.1.0, tt))) in
@@ -69,8 +69,8 @@ get_full_mut_spec 𝓤 𝓛 𝓜 𝓡 wired KT VT QT KL VL QL CQ E E-dict C C-di
     calls_at ! (framed 𝓤 H 𝓜 𝓣) kB (B-thm.met 𝓤 𝓛 𝓜 𝓡 (code.calls-vecmap_map::VecMap::full_mut 𝓡.env wired) KT VT KL VL) yB (and_then ! (get ! refl) (and_then ! (get ! refl) (no_more !))) (λ u.
     use1 𝓛 (later (some (λ (r : Parts.Denot). ((‵ (flft κs.0 qs.0) ⊛ ‵ (flft κs.1.0 qs.1.0) ⊛ ‵ (flft κs.1.1.0 qs.1.1.0) ⊛ ‵ ftrue) ⊛ ‵ (Parts.own_val r (u ∷ []))) ⊛ some (λ (ls : Lasts (B.ended KT VT) κs' (map, (i, tt))). ‵ (lasts (B.ended KT VT) κs' (map, (i, tt)) ls) ⊛ (‵ (lends_value_at K V m i r.2) ⊛ (raw (fact 𝓤 (r.0 ≡ i)) ⊛ raw (fact 𝓤 (slice_get m.now.entries i ≡ Some (r.1.now, r.2.now)))))))))
     (id⊢ 𝓤 (kB.post yB u)) $
-    await ! tt $ pick ! (λ r. split ! $ move ! (1 ∷ []) $ pick ! (λ _. split ! $ drop ! $ split ! $ move ! (1 ∷ []) $ split ! $ heard ! _ (λ same_place. heard ! _ (λ shown.
-    use1 𝓛 (‵ (lends_beside_place K V m test (Some r))) (place_then 𝓛 K V m test i r at) $
+    await ! tt $ pick ! (λ r. split ! $ move ! (1 ∷ []) $ pick ! (λ _. split ! $ drop ! $ split ! $ move ! (1 ∷ []) $ split ! $ heard ! _ (λ same_index. heard ! _ (λ shown.
+    use1 𝓛 (‵ (lends_beside_index K V m test (Some r))) (index_then 𝓛 K V m test i r at) $
     move ! (1 ∷ []) $ split ! $ split3 ! $ move ! (2 ∷ []) $ split ! $ move ! (1 ∷ []) $ drop ! $ move ! (0 ∷ 5 ∷ []) $ join ! $ move ! (2 ∷ 0 ∷ []) $ join ! $ move ! (1 ∷ 0 ∷ []) $ join ! $ move ! (1 ∷ []) $
     peeks ! Parts (Is Parts) (shows 𝓛 Parts) r (u ∷ []) (λ told.
     let w : Val = vstruct (vcons (vint w64 r.0) (vcons (vptr r.1.ref_ptr.0 r.1.ref_ptr.1) (vcons (vptr r.2.ref_ptr.0 r.2.ref_ptr.1) vnil))) in
@@ -81,11 +81,11 @@ get_full_mut_spec 𝓤 𝓛 𝓜 𝓡 wired KT VT QT KL VL QL CQ E E-dict C C-di
     use1 𝓛 (‵ (Out.own_val (Some r) (live 1 (vcons w vnil) ∷ []))) (some_of 𝓛 Parts r w) $ returns ! (look_at ! 0 refl) $ free_all ! refl $
     nothing ! $ nothing ! $ fjoin ! $ nothing ! $ fjoin ! $
     use0 𝓛 (raw (fact 𝓤 (Shown (Some r)))) (fact_i 𝓤 (Shown (Some r)) (emp 𝓤) (sym shown ∙ ap (option_and_then (slice_get m.now.entries)) at)) $
-    use0 𝓛 (raw (fact 𝓤 (Within (Some r)))) (fact_i 𝓤 (Within (Some r)) (emp 𝓤) (subst (λ (j : ℕ). j < length m.now.entries) (sym same_place) here)) $ join ! $
-    use0 𝓛 (raw (fact 𝓤 (Place (Some r)))) (fact_i 𝓤 (Place (Some r)) (emp 𝓤) (ap Some same_place ∙ at)) $ join ! $
+    use0 𝓛 (raw (fact 𝓤 (Within (Some r)))) (fact_i 𝓤 (Within (Some r)) (emp 𝓤) (subst (λ (j : ℕ). j < length m.now.entries) (sym same_index) here)) $ join ! $
+    use0 𝓛 (raw (fact 𝓤 (Place (Some r)))) (fact_i 𝓤 (Place (Some r)) (emp 𝓤) (ap Some same_index ∙ at)) $ join ! $
     move ! (4 ∷ 0 ∷ []) $ join ! $ move ! (3 ∷ 1 ∷ 2 ∷ 0 ∷ []) $ by ! (leaves 𝓛 En hs c y (live 1 (vcons w vnil)) (Some r) (tt, (tt, tt)) (tt, (tt, tt))))))))))
     (λ none e.
-    let no_place : Option ℕ = None in let at : no_place ≡ found = sym none ∙ place in
+    let no_index : Option ℕ = None in let at : no_index ≡ found = sym none ∙ place in
     lands_as ! (is ∙ ap (λ (ws : List Val). vstruct (of_list (ws ++ p ∷ []))) e) refl (tt, ((record { fits = lit< tt }, tt), (tt, tt))) $
     sets ! (of_opd ! (get_in ! (fld ! refl (stop !)) (sub ! 0 refl (whole !)))) refl (tt, (record { fits = lit< tt }, tt)) $
     sets ! (of_opd ! (get_in ! (fld ! refl (stop !)) (sub ! 1 refl (whole !)))) refl (tt, tt) $
@@ -93,7 +93,7 @@ get_full_mut_spec 𝓤 𝓛 𝓜 𝓡 wired KT VT QT KL VL QL CQ E E-dict C C-di
     sets_last ! (agg ! (and_then ! (lit ! tt) (no_more !))) refl (tt, (record { fits = lit< tt }, tt)) $
     exec ! 𝓣.C 𝓣.Λ Ev (after 5 fn.body) (at_ret Ev Post) $ sets ! (of_opd ! (get ! refl)) refl (tt, (record { fits = lit< tt }, tt)) $
     fsplit3 ! $ drop ! $ name_done ! tt $ move ! (1 ∷ []) $ drop ! $
-    use1 𝓛 (‵ (lends_beside_place K V m test None)) (stays_at_none 𝓛 K V m test) $ use0 𝓛 (‵ (Out.own_val None (live 0 vnil ∷ []))) (none_of 𝓛 Parts) $ returns ! (look_at ! 0 refl) $ free_all ! refl $
+    use1 𝓛 (‵ (lends_beside_index K V m test None)) (stays_at_none 𝓛 K V m test) $ use0 𝓛 (‵ (Out.own_val None (live 0 vnil ∷ []))) (none_of 𝓛 Parts) $ returns ! (look_at ! 0 refl) $ free_all ! refl $
     nothing ! $ nothing ! $ fjoin ! $ nothing ! $ fjoin ! $
     use0 𝓛 (raw (fact 𝓤 (Shown None))) (fact_i 𝓤 (Shown None) (emp 𝓤) (ap (option_and_then (slice_get m.now.entries)) at)) $
     use0 𝓛 (raw (fact 𝓤 (Within None))) (fact_i 𝓤 (Within None) (emp 𝓤) tt) $ join ! $

@@ -1,14 +1,14 @@
--- The idea: `whole_at` returns a reference to the pair at the index, and `ends` splits it.
+-- The idea: `pair_at_mut` returns a reference to the pair at the index, and `key_and_value` splits it.
 -- The clause `writes_back` is worth a proof by hand: the others say nothing of the map after the loan, so a body that
 -- changes another pair meets them.
 use Rattle.vecmap_map.proofs.LentLemmas.Steps.{◌≡◌, ℕ, ◌↔◌, ◌<◌, refl, sym, ap, ◌∙◌, subst, lit<, w64, List, [], ◌∷◌, ◌++◌, Option, Some, None, IsSome, length, option_map, slice_get, a_type, named, Val, vptr, vstruct, vcons, vnil, of_list, inst_fn, SProp, emp, id⊢, ftrue, ‵, raw, ◌⊛◌, some, later, at_ret, ◌$◌, ◌∵◌, !, qed, by, move, keep, drop, split, join, fjoin, pick, await, use0, use1, use2, rewrite, live, vrt, in_variant, whole, agg, enter, of_opd, lit, addr, stop, fld, no_more, and_then, first, switches_on, exec, returns, alloc_all, pass_all, free_all, look_at, get, get_in, get_tag, through, sets, sets_last, lands_as, env, fact, fact_i, ◌⊑◌, tables, yes, no, RattleType, Is, shows, type_at, plain, RefMutOf, usize, Bor, MutBor, mut_vals, mut_Tells, uint_vals, uint_Tells, param, layouts, nothing, only, peeks, heard, Tuple, calls_at, Lasts, lasts, on_entry, alive, Vals, triple_of, framed, Stays, stay_dropped, walk_of, Goes-dropped, proved, leaves, after, head, arm_body, option_copied_mut}
 use Rattle.vecmap_map.proofs.LentLemmas.Parts.{then_runs, beside_facts, by_cases, some_of, none_of, value_then, nothing_then}
-use Rattle.vecmap_map.specs.Lends.{lends_whole_if_at, lends_value, lends_beside_key}
+use Rattle.vecmap_map.specs.Lends.{lends_pair_if_at, lends_value, lends_beside_key}
 use Rattle.vecmap_map.specs.contracts.VecMap.{the_row}
-use Rattle.vecmap_map.specs.contracts.VecMap.whole_at as A
-use Rattle.vecmap_map.proofs.VecMap.whole_at.Met as A-thm
-use Rattle.vecmap_map.specs.contracts.lending.ends as B
-use Rattle.vecmap_map.proofs.lending.ends.Met as B-thm
+use Rattle.vecmap_map.specs.contracts.VecMap.pair_at_mut as A
+use Rattle.vecmap_map.proofs.VecMap.pair_at_mut.Met as A-thm
+use Rattle.vecmap_map.specs.contracts.lending.key_and_value as B
+use Rattle.vecmap_map.proofs.lending.key_and_value.Met as B-thm
 use Rattle.vecmap_map.specs.contracts.VecMap.get_index_mut.{ended, clauses}
 use Rattle.vecmap_map.specs.contracts.VecMap.get_index_mut.Key.{name as #self}
 use Rattle.vecmap_map.proofs.VecMap.get_index_mut.Statement.{statement}
@@ -38,12 +38,12 @@ get_index_mut_spec 𝓤 𝓛 𝓜 𝓡 wired KT VT KL VL =
     let Ev = env fn.locals l in
     sets ! (addr ! (through ! refl (stop !))) refl (tt, tt) $
     use1 𝓛 (raw (kA.pre yA)) (beside_facts 𝓤 𝓛 (on_entry 𝓛 S κs qs a vs) F G inK inV) $
-    calls_at ! (framed 𝓤 H 𝓜 𝓣) kA (A-thm.met 𝓤 𝓛 𝓜 𝓡 (code.calls-vecmap_map::VecMap::whole_at 𝓡.env wired) KT VT KL VL) yA (and_then ! (get ! refl) (and_then ! (get ! refl) (no_more !))) (λ v.
-    use1 𝓛 (later (some (λ (x : OptP.Denot). (raw toks ⊛ ‵ (OptP.own_val x (v ∷ []))) ⊛ some (λ (ls : Lasts (A.ended KT VT) κs a). ‵ (lasts (A.ended KT VT) κs a ls) ⊛ (‵ (lends_whole_if_at K V m i x) ⊛ (raw (fact 𝓤 (option_copied_mut x ≡ slice_get m.now.entries i)) ⊛ raw (fact 𝓤 (IsSome x ↔ i < length m.now.entries))))))))
+    calls_at ! (framed 𝓤 H 𝓜 𝓣) kA (A-thm.met 𝓤 𝓛 𝓜 𝓡 (code.calls-vecmap_map::VecMap::pair_at_mut 𝓡.env wired) KT VT KL VL) yA (and_then ! (get ! refl) (and_then ! (get ! refl) (no_more !))) (λ v.
+    use1 𝓛 (later (some (λ (x : OptP.Denot). (raw toks ⊛ ‵ (OptP.own_val x (v ∷ []))) ⊛ some (λ (ls : Lasts (A.ended KT VT) κs a). ‵ (lasts (A.ended KT VT) κs a ls) ⊛ (‵ (lends_pair_if_at K V m i x) ⊛ (raw (fact 𝓤 (option_copied_mut x ≡ slice_get m.now.entries i)) ⊛ raw (fact 𝓤 (IsSome x ↔ i < length m.now.entries))))))))
     (id⊢ 𝓤 (kA.post yA v)) $
     await ! tt $ pick ! (λ x. split ! $ move ! (1 ∷ []) $ pick ! (λ _. split ! $ drop ! $ split ! $ move ! (1 ∷ []) $ split ! $ heard ! _ (λ there. heard ! _ (λ found. move ! (1 ∷ []) $ split ! $ move ! (1 ∷ 2 ∷ []) $
     -- [the pair's reference, if any; what the map then is; the tokens]
-    by_cases (named 0) κs.0 P ! (lends_whole_if_at K V m i) x v
+    by_cases (named 0) κs.0 P ! (lends_pair_if_at K V m i) x v
     (λ p is e.
     let at : slice_get m.now.entries i ≡ Some p.now = sym (subst (λ (z : Option (MutBor P.Denot)). option_copied_mut z ≡ slice_get m.now.entries i) is there) in
     let at_some : IsSome (Some p) ↔ i < length m.now.entries = subst (λ (z : Option (MutBor P.Denot)). IsSome z ↔ i < length m.now.entries) is found in
@@ -54,7 +54,7 @@ get_index_mut_spec 𝓤 𝓛 𝓜 𝓡 wired KT VT KL VL =
     sets ! (addr ! (through ! refl (stop !))) refl (tt, tt) $
     nothing ! $ move ! (1 ∷ 0 ∷ []) $ join ! $ move ! (2 ∷ 0 ∷ []) $ join ! $
     use1 𝓛 (raw (kB.pre yB)) (beside_facts 𝓤 𝓛 (on_entry 𝓛 (B.signature KT VT) κs qs (p, tt) (mut_vals p, tt)) F G inK inV) $
-    calls_at ! (framed 𝓤 H 𝓜 𝓣) kB (B-thm.met 𝓤 𝓛 𝓜 𝓡 (code.calls-vecmap_map::lending::ends 𝓡.env wired) KT VT KL VL) yB (and_then ! (get ! refl) (no_more !)) (λ u.
+    calls_at ! (framed 𝓤 H 𝓜 𝓣) kB (B-thm.met 𝓤 𝓛 𝓜 𝓡 (code.calls-vecmap_map::lending::key_and_value 𝓡.env wired) KT VT KL VL) yB (and_then ! (get ! refl) (no_more !)) (λ u.
     use1 𝓛 (later (some (λ (r : Parts.Denot). (raw toks ⊛ ‵ (Parts.own_val r (u ∷ []))) ⊛ some (λ (ls : Lasts (B.ended KT VT) κs (p, tt)). ‵ (lasts (B.ended KT VT) κs (p, tt) ls) ⊛ (‵ (lends_value K V p r.1) ⊛ raw (fact 𝓤 (p.now ≡ (r.0.now, r.1.now))))))))
     (id⊢ 𝓤 (kB.post yB u)) $
     await ! tt $ pick ! (λ r. split ! $ move ! (1 ∷ []) $ pick ! (λ _. split ! $ drop ! $ split ! $ move ! (1 ∷ []) $ heard ! _ (λ parts. move ! (2 ∷ 0 ∷ []) $

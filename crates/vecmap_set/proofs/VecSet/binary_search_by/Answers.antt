@@ -1,5 +1,5 @@
 use Rattle.vecmap_set.proofs.VecSet.binary_search_by.Goals as goal
 
-pub returns-clause-place : goal.returns-clause-place
-returns-clause-place g c = λ ord by.
-    rw (← c.self.view_is, ← c.as_slice-items.ensures.value) (c.search_by_index.ensures.place ord (λ i r within said. said ord by))
+pub returns-clause-index : goal.returns-clause-index
+returns-clause-index g c = λ ord by.
+    rw (← c.self.view_is, ← c.as_slice-items.ensures.value) (c.search_by_index.ensures.index ord (λ i r within said. said ord by))

@@ -10,7 +10,7 @@ use Rattle.vecmap_set.proofs.VecSet.replace.Goals as goal
 
 pub invariant_of-self : goal.invariant_of-self
 invariant_of-self g c =
-    let place : item_index g.T.PartialEq.eq c.self.inside.items.items c.args.item ≡ Some c.in-Some.index = ap (λ s. item_index g.T.PartialEq.eq s c.args.item) (sym c.deref.ensures.value) ∙ sym c.find_item.ensures.place ∙ c.in-Some.is in
+    let place : item_index g.T.PartialEq.eq c.self.inside.items.items c.args.item ≡ Some c.in-Some.index = ap (λ s. item_index g.T.PartialEq.eq s c.args.item) (sym c.deref.ensures.value) ∙ sym c.find_item.ensures.index ∙ c.in-Some.is in
     let at = position-Some (g.T.PartialEq.eq c.args.item) c.self.inside.items.items c.in-Some.index c.args.item place in
     rw c.replace.ensures.after (distinct_replace g.T.PartialEq.eq g.met.T.Eq.laws c.self.inside.items.items c.in-Some.index c.args.item at.0 at.1 c.self.invariant)
 
@@ -19,5 +19,5 @@ returns-in-Some-clause-distinct g c = invariant_of-self g c
 
 pub returns-in-Some-clause-old : goal.returns-in-Some-clause-old
 returns-in-Some-clause-old g c =
-    let place : item_index g.T.PartialEq.eq c.self.inside.items.items c.args.item ≡ Some c.in-Some.index = ap (λ s. item_index g.T.PartialEq.eq s c.args.item) (sym c.deref.ensures.value) ∙ sym c.find_item.ensures.place ∙ c.in-Some.is in
+    let place : item_index g.T.PartialEq.eq c.self.inside.items.items c.args.item ≡ Some c.in-Some.index = ap (λ s. item_index g.T.PartialEq.eq s c.args.item) (sym c.deref.ensures.value) ∙ sym c.find_item.ensures.index ∙ c.in-Some.is in
     grind (arith, common_steps, gets, place)

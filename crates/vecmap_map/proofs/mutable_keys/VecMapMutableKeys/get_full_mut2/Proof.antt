@@ -1,4 +1,4 @@
--- The idea: `with_place_by` returns the map with the index of the key, `whole_mut` a reference to the pair at that
+-- The idea: `with_index_by` returns the map with the index of the key, `pair_mut` a reference to the pair at that
 -- index, and `parts_mut` splits it.
 -- The clause `writes_back` is worth a proof by hand: the others say nothing of the map after the loan, so a body that
 -- changes another pair meets them.
@@ -7,14 +7,14 @@ use denote.Param.{copied}
 use denote.Param.Laws.{copied_laws}
 use Rattle.vecmap_base.specs.Pairs.{index_by, lookup_pair_by}
 use Rattle.std.specs.contracts.option.Option as OP
-use Rattle.vecmap_map.proofs.LentLemmas.Both.{beside_place, both_place_then, by_both, stays_unlent}
-use Rattle.vecmap_map.proofs.LentLemmas.Parts.{then_runs, beside, beside_facts, by_parts, by_place, some_of, none_of}
-use Rattle.vecmap_map.specs.Lends.{lends_both_beside_place, lends_parts, lends_whole_at}
+use Rattle.vecmap_map.proofs.LentLemmas.Both.{beside_index, both_index_then, by_both, stays_unlent}
+use Rattle.vecmap_map.proofs.LentLemmas.Parts.{then_runs, beside, beside_facts, by_parts, by_index, some_of, none_of}
+use Rattle.vecmap_map.specs.Lends.{lends_both_beside_index, lends_parts, lends_pair_at}
 use Rattle.vecmap_map.specs.contracts.VecMap.{the_row}
-use Rattle.vecmap_map.specs.contracts.VecMap.with_place_by as A
-use Rattle.vecmap_map.proofs.VecMap.with_place_by.Met as A-thm
-use Rattle.vecmap_map.specs.contracts.VecMap.whole_mut as B
-use Rattle.vecmap_map.proofs.VecMap.whole_mut.Met as B-thm
+use Rattle.vecmap_map.specs.contracts.VecMap.with_index_by as A
+use Rattle.vecmap_map.proofs.VecMap.with_index_by.Met as A-thm
+use Rattle.vecmap_map.specs.contracts.VecMap.pair_mut as B
+use Rattle.vecmap_map.proofs.VecMap.pair_mut.Met as B-thm
 use Rattle.vecmap_map.specs.contracts.mutable_keys.parts_mut as D
 use Rattle.vecmap_map.proofs.mutable_keys.parts_mut.Met as D-thm
 use Rattle.vecmap_map.specs.contracts.mutable_keys.VecMapMutableKeys.get_full_mut2.{ended, clauses}
@@ -48,14 +48,14 @@ get_full_mut2_spec 𝓤 𝓛 𝓜 𝓡 wired KT VT QT KL VL QL CQ E E-dict C C-d
     let Ev = env fn.locals l in
     sets ! (addr ! (through ! refl (stop !))) refl (tt, tt) $
     use1 𝓛 (raw (kA.pre yA)) (beside 𝓤 𝓛 (on_entry 𝓛 S κs qs a vs) _ F G inK inV (qed 𝓛 (raw (emp 𝓤) ∷ []) ∵ use0 𝓛 (raw (fact 𝓤 J)) (fact_i 𝓤 J (emp 𝓤) inQ) $ join ! $ done !)) $
-    calls_at ! (framed 𝓤 H 𝓜 𝓣) kA (A-thm.met 𝓤 𝓛 𝓜 𝓡 (code.calls-vecmap_map::VecMap::with_place_by 𝓡.env wired) KT VT QT KL VL QL CQ E E-dict C C-dict O O-dict P P-dict E-met C-met O-met P-met) yA (and_then ! (get ! refl) (and_then ! (get ! refl) (no_more !))) (λ v.
+    calls_at ! (framed 𝓤 H 𝓜 𝓣) kA (A-thm.met 𝓤 𝓛 𝓜 𝓡 (code.calls-vecmap_map::VecMap::with_index_by 𝓡.env wired) KT VT QT KL VL QL CQ E E-dict C C-dict O O-dict P P-dict E-met C-met O-met P-met) yA (and_then ! (get ! refl) (and_then ! (get ! refl) (no_more !))) (λ v.
     use1 𝓛 (later (some (λ (x : Found.Denot). (raw toks ⊛ ‵ (Found.own_val x (v ∷ []))) ⊛ some (λ (ls : Lasts (A.ended KT VT QT E E-dict C C-dict O O-dict P P-dict) κs a). ‵ (lasts (A.ended KT VT QT E E-dict C C-dict O O-dict P P-dict) κs a ls) ⊛ (raw (fact 𝓤 (x.0 ≡ found)) ⊛ (raw (fact 𝓤 (IfSome x.0 (λ i. i < length m.now.entries))) ⊛ (raw (fact 𝓤 (x.1.ghost_name ≡ m.ghost_name)) ⊛ raw (fact 𝓤 (x.1.now ≡ m.now)))))))))
     (id⊢ 𝓤 (kA.post yA v)) $
     await ! tt $ pick ! (λ x. split ! $ move ! (1 ∷ []) $ pick ! (λ _. split ! $ drop ! $ split ! $ heard ! _ (λ place. split ! $ heard ! _ (λ within. split ! $ heard ! _ (λ name. heard ! _ (λ same. split ! $ move ! (1 ∷ []) $
     -- [the index and the map; the tokens]
     by_parts (named 0) κs.0 (OP.the_row usize) Row ! x v m name same (λ us is.
     let map : MutBor Row.Denot = record m { ref_ptr = x.1.ref_ptr } in let p : Val = vptr x.1.ref_ptr.0 x.1.ref_ptr.1 in
-    by_place ! x.0 us
+    by_index ! x.0 us
     (λ i there e fits.
     let at : Some i ≡ found = sym there ∙ place in let here : i < length m.now.entries = subst (λ (z : Option ℕ). IfSome z (λ j. j < length m.now.entries)) there within in
     let κs' : Lfts 3 = (κs.0, (κs.1.0, (κs.1.1.0, tt))) in let qs' : Shares 3 = (qs.0, (qs.1.0, (qs.1.1.0, tt))) in
@@ -70,8 +70,8 @@ get_full_mut2_spec 𝓤 𝓛 𝓜 𝓡 wired KT VT QT KL VL QL CQ E E-dict C C-d
     use1 𝓛 (‵ (flft κs.0 qs.0) ⊛ ‵ (flft κs.1.0 qs.1.0) ⊛ ‵ (flft κs.1.1.0 qs.1.1.0) ⊛ raw rest) (id⊢ 𝓤 toks) $ split3 ! $ move ! (2 ∷ []) $ split ! $
     nothing ! $ move ! (1 ∷ 0 ∷ []) $ join ! $ move ! (3 ∷ 0 ∷ []) $ join ! $ move ! (2 ∷ 0 ∷ []) $ join ! $ move ! (0 ∷ 2 ∷ []) $ join ! $
     use1 𝓛 (raw (kB.pre yB)) (beside 𝓤 𝓛 (on_entry 𝓛 (B.signature KT VT) κs' qs' (map, (i, tt)) (mut_vals map, (uint_vals w64 i, tt))) _ F G inK inV (fact_i 𝓤 (i < length m.now.entries) (emp 𝓤) here)) $
-    calls_at ! (framed 𝓤 H 𝓜 𝓣) kB (B-thm.met 𝓤 𝓛 𝓜 𝓡 (code.calls-vecmap_map::VecMap::whole_mut 𝓡.env wired) KT VT KL VL) yB (and_then ! (get ! refl) (and_then ! (get ! refl) (no_more !))) (λ u.
-    use1 𝓛 (later (some (λ (pair : Whole.Denot). ((‵ (flft κs.0 qs.0) ⊛ ‵ (flft κs.1.0 qs.1.0) ⊛ ‵ (flft κs.1.1.0 qs.1.1.0) ⊛ ‵ ftrue) ⊛ ‵ (Whole.own_val pair (u ∷ []))) ⊛ some (λ (ls : Lasts (B.ended KT VT) κs' (map, (i, tt))). ‵ (lasts (B.ended KT VT) κs' (map, (i, tt)) ls) ⊛ (‵ (lends_whole_at K V m i pair) ⊛ raw (fact 𝓤 (slice_get m.now.entries i ≡ Some pair.now)))))))
+    calls_at ! (framed 𝓤 H 𝓜 𝓣) kB (B-thm.met 𝓤 𝓛 𝓜 𝓡 (code.calls-vecmap_map::VecMap::pair_mut 𝓡.env wired) KT VT KL VL) yB (and_then ! (get ! refl) (and_then ! (get ! refl) (no_more !))) (λ u.
+    use1 𝓛 (later (some (λ (pair : Whole.Denot). ((‵ (flft κs.0 qs.0) ⊛ ‵ (flft κs.1.0 qs.1.0) ⊛ ‵ (flft κs.1.1.0 qs.1.1.0) ⊛ ‵ ftrue) ⊛ ‵ (Whole.own_val pair (u ∷ []))) ⊛ some (λ (ls : Lasts (B.ended KT VT) κs' (map, (i, tt))). ‵ (lasts (B.ended KT VT) κs' (map, (i, tt)) ls) ⊛ (‵ (lends_pair_at K V m i pair) ⊛ raw (fact 𝓤 (slice_get m.now.entries i ≡ Some pair.now)))))))
     (id⊢ 𝓤 (kB.post yB u)) $
     await ! tt $ pick ! (λ pair. split ! $ move ! (1 ∷ []) $ pick ! (λ _. split ! $ drop ! $ split ! $ move ! (1 ∷ []) $ heard ! _ (λ shown. move ! (1 ∷ []) $ split ! $ move ! (1 ∷ []) $ fsplit3 ! $ feq_l ! (λ e'.
     let yD : kD.Ghost = ((κs', qs', (bounds.0, (bounds.1.0, tt)), (pair, tt), (mut_vals pair, tt)), tt) in
@@ -82,7 +82,7 @@ get_full_mut2_spec 𝓤 𝓛 𝓜 𝓡 wired KT VT QT KL VL QL CQ E E-dict C C-d
     use1 𝓛 (later (some (λ (r : Both.Denot). ((‵ (flft κs.0 qs.0) ⊛ ‵ (flft κs.1.0 qs.1.0) ⊛ ‵ (flft κs.1.1.0 qs.1.1.0) ⊛ ‵ ftrue) ⊛ ‵ (Both.own_val r (t ∷ []))) ⊛ some (λ (ls : Lasts (D.ended KT VT) κs' (pair, tt)). ‵ (lasts (D.ended KT VT) κs' (pair, tt) ls) ⊛ (‵ (lends_parts K V pair r) ⊛ raw (fact 𝓤 (pair.now ≡ (r.0.now, r.1.now))))))))
     (id⊢ 𝓤 (kD.post yD t)) $
     await ! tt $ pick ! (λ r. split ! $ move ! (1 ∷ []) $ pick ! (λ _. split ! $ drop ! $ split ! $ move ! (1 ∷ []) $ heard ! _ (λ parts.
-    move ! (2 ∷ 0 ∷ []) $ use2 𝓛 (‵ (lends_both_beside_place K V m test (Some (i, r.0, r.1)))) (both_place_then 𝓛 K V m test i pair r at) $
+    move ! (2 ∷ 0 ∷ []) $ use2 𝓛 (‵ (lends_both_beside_index K V m test (Some (i, r.0, r.1)))) (both_index_then 𝓛 K V m test i pair r at) $
     move ! (1 ∷ []) $ split ! $ split3 ! $ move ! (2 ∷ []) $ split ! $ move ! (1 ∷ []) $ drop ! $ move ! (0 ∷ 5 ∷ []) $ join ! $ move ! (2 ∷ 0 ∷ []) $ join ! $ move ! (1 ∷ 0 ∷ []) $ join ! $ move ! (1 ∷ []) $
     by_both (named 0) κs.0 K V ! r t (λ so.
     let w : Val = vstruct (vcons (vint w64 i) (vcons (vptr r.0.ref_ptr.0 r.0.ref_ptr.1) (vcons (vptr r.1.ref_ptr.0 r.1.ref_ptr.1) vnil))) in
@@ -92,7 +92,7 @@ get_full_mut2_spec 𝓤 𝓛 𝓜 𝓡 wired KT VT QT KL VL QL CQ E E-dict C C-d
     sets ! (agg ! (and_then ! (get ! refl) (and_then ! (get ! refl) (and_then ! (get ! refl) (no_more !))))) refl (tt, (record { fits = fits }, (tt, (tt, tt)))) $
     sets_last ! (agg ! (and_then ! (lit ! tt) (and_then ! (get ! refl) (no_more !)))) refl (tt, (record { fits = lit< tt }, ((record { fits = fits }, (tt, (tt, tt))), tt))) $
     exec ! 𝓣.C 𝓣.Λ Ev (after 5 fn.body) (at_ret Ev Post) $ sets ! (of_opd ! (get ! refl)) refl (tt, (record { fits = lit< tt }, ((record { fits = fits }, (tt, (tt, tt))), tt))) $
-    use2 𝓛 (‵ (Parts.own_val (i, r.0, r.1) (w ∷ []))) (beside_place (named 0) κs.0 K V 𝓛 i fits r) $
+    use2 𝓛 (‵ (Parts.own_val (i, r.0, r.1) (w ∷ []))) (beside_index (named 0) κs.0 K V 𝓛 i fits r) $
     use1 𝓛 (‵ (Out.own_val (Some (i, r.0, r.1)) (live 1 (vcons w vnil) ∷ []))) (some_of 𝓛 Parts (i, r.0, r.1) w) $ returns ! (look_at ! 0 refl) $ free_all ! refl $
     nothing ! $ nothing ! $ fjoin ! $ nothing ! $ fjoin ! $
     use0 𝓛 (raw (fact 𝓤 (Shown (Some (i, r.0, r.1))))) (fact_i 𝓤 (Shown (Some (i, r.0, r.1))) (emp 𝓤) (sym (shown ∙ ap Some parts) ∙ ap (option_and_then (slice_get m.now.entries)) at)) $
@@ -100,7 +100,7 @@ get_full_mut2_spec 𝓤 𝓛 𝓜 𝓡 wired KT VT QT KL VL QL CQ E E-dict C C-d
     use0 𝓛 (raw (fact 𝓤 (Place (Some (i, r.0, r.1))))) (fact_i 𝓤 (Place (Some (i, r.0, r.1))) (emp 𝓤) at) $ join ! $
     move ! (4 ∷ 0 ∷ []) $ join ! $ move ! (3 ∷ 1 ∷ 2 ∷ 0 ∷ []) $ by ! (leaves 𝓛 En hs c y (live 1 (vcons w vnil)) (Some (i, r.0, r.1)) (tt, (tt, tt)) (tt, (tt, tt))))))))))))))
     (λ none e.
-    let no_place : Option ℕ = None in let at : no_place ≡ found = sym none ∙ place in
+    let no_index : Option ℕ = None in let at : no_index ≡ found = sym none ∙ place in
     lands_as ! (is ∙ ap (λ (ws : List Val). vstruct (of_list (ws ++ p ∷ []))) e) refl (tt, ((record { fits = lit< tt }, tt), (tt, tt))) $
     sets ! (of_opd ! (get_in ! (fld ! refl (stop !)) (sub ! 0 refl (whole !)))) refl (tt, (record { fits = lit< tt }, tt)) $
     sets ! (of_opd ! (get_in ! (fld ! refl (stop !)) (sub ! 1 refl (whole !)))) refl (tt, tt) $
@@ -108,7 +108,7 @@ get_full_mut2_spec 𝓤 𝓛 𝓜 𝓡 wired KT VT QT KL VL QL CQ E E-dict C C-d
     sets_last ! (agg ! (and_then ! (lit ! tt) (no_more !))) refl (tt, (record { fits = lit< tt }, tt)) $
     exec ! 𝓣.C 𝓣.Λ Ev (after 5 fn.body) (at_ret Ev Post) $ sets ! (of_opd ! (get ! refl)) refl (tt, (record { fits = lit< tt }, tt)) $
     fsplit3 ! $ drop ! $ name_done ! tt $ move ! (1 ∷ []) $ drop ! $
-    use1 𝓛 (‵ (lends_both_beside_place K V m test None)) (stays_unlent 𝓛 K V m test) $ use0 𝓛 (‵ (Out.own_val None (live 0 vnil ∷ []))) (none_of 𝓛 Parts) $ returns ! (look_at ! 0 refl) $ free_all ! refl $
+    use1 𝓛 (‵ (lends_both_beside_index K V m test None)) (stays_unlent 𝓛 K V m test) $ use0 𝓛 (‵ (Out.own_val None (live 0 vnil ∷ []))) (none_of 𝓛 Parts) $ returns ! (look_at ! 0 refl) $ free_all ! refl $
     nothing ! $ nothing ! $ fjoin ! $ nothing ! $ fjoin ! $
     use0 𝓛 (raw (fact 𝓤 (Shown None))) (fact_i 𝓤 (Shown None) (emp 𝓤) (ap (option_and_then (slice_get m.now.entries)) at)) $
     use0 𝓛 (raw (fact 𝓤 (Within None))) (fact_i 𝓤 (Within None) (emp 𝓤) tt) $ join ! $

@@ -1,11 +1,11 @@
--- The idea: `whole_at` returns a reference to the pair at the index, and `parts_mut` splits it.
+-- The idea: `pair_at_mut` returns a reference to the pair at the index, and `parts_mut` splits it.
 use Rattle.vecmap_map.proofs.LentLemmas.Steps.{◌≡◌, ℕ, ◌↔◌, ◌<◌, refl, sym, ap, ◌∙◌, subst, lit<, w64, List, [], ◌∷◌, ◌++◌, Option, Some, None, IsSome, length, option_map, slice_get, a_type, named, Val, vptr, vstruct, vcons, vnil, of_list, inst_fn, SProp, emp, id⊢, ftrue, ‵, raw, ◌⊛◌, some, later, at_ret, ◌$◌, ◌∵◌, !, qed, by, move, keep, drop, split, join, fjoin, pick, await, use0, use1, use2, rewrite, live, vrt, in_variant, whole, agg, enter, of_opd, lit, addr, stop, fld, no_more, and_then, first, switches_on, exec, returns, alloc_all, pass_all, free_all, look_at, get, get_in, get_tag, through, sets, sets_last, lands_as, env, fact, fact_i, ◌⊑◌, tables, yes, no, RattleType, Is, shows, type_at, plain, RefMutOf, usize, MutBor, mut_vals, mut_Tells, uint_vals, uint_Tells, param, layouts, nothing, only, peeks, heard, Tuple, calls_at, Lasts, lasts, on_entry, alive, Vals, triple_of, framed, Stays, stay_dropped, walk_of, Goes-dropped, proved, leaves, after, head, arm_body, option_copied_mut}
 use Rattle.vecmap_map.proofs.LentLemmas.Both.{both_then, nothing_both}
 use Rattle.vecmap_map.proofs.LentLemmas.Parts.{then_runs, beside_facts, by_cases, some_of, none_of}
-use Rattle.vecmap_map.specs.Lends.{lends_whole_if_at, lends_parts, lends_both_at}
+use Rattle.vecmap_map.specs.Lends.{lends_pair_if_at, lends_parts, lends_both_at}
 use Rattle.vecmap_map.specs.contracts.VecMap.{the_row}
-use Rattle.vecmap_map.specs.contracts.VecMap.whole_at as A
-use Rattle.vecmap_map.proofs.VecMap.whole_at.Met as A-thm
+use Rattle.vecmap_map.specs.contracts.VecMap.pair_at_mut as A
+use Rattle.vecmap_map.proofs.VecMap.pair_at_mut.Met as A-thm
 use Rattle.vecmap_map.specs.contracts.mutable_keys.parts_mut as B
 use Rattle.vecmap_map.proofs.mutable_keys.parts_mut.Met as B-thm
 use Rattle.vecmap_map.specs.contracts.mutable_keys.VecMapMutableKeys.get_index_mut2.{ended, clauses}
@@ -37,12 +37,12 @@ get_index_mut2_spec 𝓤 𝓛 𝓜 𝓡 wired KT VT KL VL =
     let Ev = env fn.locals l in
     sets ! (addr ! (through ! refl (stop !))) refl (tt, tt) $
     use1 𝓛 (raw (kA.pre yA)) (beside_facts 𝓤 𝓛 (on_entry 𝓛 S κs qs a vs) F G inK inV) $
-    calls_at ! (framed 𝓤 H 𝓜 𝓣) kA (A-thm.met 𝓤 𝓛 𝓜 𝓡 (code.calls-vecmap_map::VecMap::whole_at 𝓡.env wired) KT VT KL VL) yA (and_then ! (get ! refl) (and_then ! (get ! refl) (no_more !))) (λ v.
-    use1 𝓛 (later (some (λ (x : OptP.Denot). (raw toks ⊛ ‵ (OptP.own_val x (v ∷ []))) ⊛ some (λ (ls : Lasts (A.ended KT VT) κs a). ‵ (lasts (A.ended KT VT) κs a ls) ⊛ (‵ (lends_whole_if_at K V m i x) ⊛ (raw (fact 𝓤 (option_copied_mut x ≡ slice_get m.now.entries i)) ⊛ raw (fact 𝓤 (IsSome x ↔ i < length m.now.entries))))))))
+    calls_at ! (framed 𝓤 H 𝓜 𝓣) kA (A-thm.met 𝓤 𝓛 𝓜 𝓡 (code.calls-vecmap_map::VecMap::pair_at_mut 𝓡.env wired) KT VT KL VL) yA (and_then ! (get ! refl) (and_then ! (get ! refl) (no_more !))) (λ v.
+    use1 𝓛 (later (some (λ (x : OptP.Denot). (raw toks ⊛ ‵ (OptP.own_val x (v ∷ []))) ⊛ some (λ (ls : Lasts (A.ended KT VT) κs a). ‵ (lasts (A.ended KT VT) κs a ls) ⊛ (‵ (lends_pair_if_at K V m i x) ⊛ (raw (fact 𝓤 (option_copied_mut x ≡ slice_get m.now.entries i)) ⊛ raw (fact 𝓤 (IsSome x ↔ i < length m.now.entries))))))))
     (id⊢ 𝓤 (kA.post yA v)) $
     await ! tt $ pick ! (λ x. split ! $ move ! (1 ∷ []) $ pick ! (λ _. split ! $ drop ! $ split ! $ move ! (1 ∷ []) $ split ! $ heard ! _ (λ there. heard ! _ (λ found. move ! (1 ∷ []) $ split ! $ move ! (1 ∷ 2 ∷ []) $
     -- [the pair's reference, if any; what the map then is; the tokens]
-    by_cases (named 0) κs.0 P ! (lends_whole_if_at K V m i) x v
+    by_cases (named 0) κs.0 P ! (lends_pair_if_at K V m i) x v
     (λ p is e.
     let at : slice_get m.now.entries i ≡ Some p.now = sym (subst (λ (z : Option (MutBor P.Denot)). option_copied_mut z ≡ slice_get m.now.entries i) is there) in
     let at_some : IsSome (Some p) ↔ i < length m.now.entries = subst (λ (z : Option (MutBor P.Denot)). IsSome z ↔ i < length m.now.entries) is found in

@@ -13,14 +13,14 @@ returns-then-len-self-clause-steps g c =
 
 pub returns-clause-steps : goal.returns-clause-steps
 returns-clause-steps g c =
-    let d = c.lay.new.self in
-    let laid = c.lay.ensures in
+    let d = c.put_in_order.new.self in
+    let ordered = c.put_in_order.ensures in
     let took = c.take_last.ensures in
-    let pulled = last_pulled d.reversed d.set.now.elements c.take_last.new.self.elements c.take_last.result d.keep laid.laid (omega (arith, laid.count, laid.front, c.len.ensures.count, c.if-len-self.false)) took.elements in
-    (sym laid.rest ∙ pulled.0, (laid.keeps.0, pulled.1 ∙ laid.keeps.1, took.capacity ∙ laid.keeps.2))
+    let pulled = last_pulled d.reversed d.set.now.elements c.take_last.new.self.elements c.take_last.result d.keep ordered.ordered (omega (arith, ordered.count, ordered.keep, c.len.ensures.count, c.if-len-self.false)) took.elements in
+    (sym ordered.rest ∙ pulled.0, (ordered.keeps.0, pulled.1 ∙ ordered.keeps.1, took.capacity ∙ ordered.keeps.2))
 
 pub returns-clause-goes : goal.returns-clause-goes
 returns-clause-goes g c =
-    let d = c.lay.new.self in
+    let d = c.put_in_order.new.self in
     let left = length_push (reverse_if d.reversed (drop d.keep c.take_last.new.self.elements)) c.take_last.result in
     record { on = λ _. (tt, tt, omega (arith, ap length (returns-clause-steps g c).0, left)); keeps = tt; rests = λ _. tt }

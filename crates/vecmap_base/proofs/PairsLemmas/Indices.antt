@@ -5,7 +5,7 @@ use Rattle.vecmap_base.specs.Pairs.{index_of, index_or_length, lookup_full, look
 use Rattle.vecmap_base.proofs.PairsLemmas.Recursion.{index_of_cons, lookup_by_cons}
 use Rattle.std.specs.Map as entries
 use Rattle.std.proofs.lemmas.List.{drop-map, take_rest}
-use Rattle.vecmap_base.proofs.PlaceLemmas.{is_some_position, list_any_map, position_none}
+use Rattle.vecmap_base.proofs.IndexLemmas.{is_some_position, list_any_map, position_none}
 
 -- An index and what it holds, counted with one pair more at the front.
 abbrev pub one_on : {V : Type 0} → ℕ × V → ℕ × V

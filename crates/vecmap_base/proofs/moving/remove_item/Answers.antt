@@ -1,7 +1,7 @@
 use Rattle.std.proofs.Common.{◌≡◌, ◌+◌, ◌-◌, ap, arith, get_or, insert, length, remove, take, take_at, ◌∙◌}
 use Rattle.std.proofs.lemmas.List.Edits.{length-remove}
 use Rattle.vecmap_base.proofs.MoveLemmas.{taken_last}
-use Rattle.vecmap_base.proofs.moving.take_out.Goals as goal
+use Rattle.vecmap_base.proofs.moving.remove_item.Goals as goal
 
 pub returns-clause-items : goal.returns-clause-items
 returns-clause-items g c =

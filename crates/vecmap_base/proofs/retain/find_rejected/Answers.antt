@@ -2,17 +2,17 @@
 use Rattle.std.specs.Prelude.{◌<◌, false, length, true}
 use Rattle.std.proofs.Common.{arith, subst}
 use Rattle.vecmap_base.proofs.KeptLemmas.{callable_here, kept_here, kept_not}
-use Rattle.vecmap_base.proofs.retain.find_refused.Goals as goal
+use Rattle.vecmap_base.proofs.retain.find_rejected.Goals as goal
 
 pub keeps-requires : goal.keeps-requires
 keeps-requires g c =
     let x = c.index_mut.result.now in
     let l : c.loop-i.i < length c.args.items.now.items = omega (arith, c.loop-i-test.true, c.len-i-end.ensures, c.args.items.now.ok.0) in
-    callable_here g.A.Keeps.step c.args.asked.now c.loop-i.asked c.loop-i.asked _ _ c.loop-i.i c.loop-i.i x x c.loop-i.invariant.kept l c.index_mut.ensures.value g.A.Keeps.accepts c.requires.callable
+    callable_here g.A.Predicate.step c.args.asked.now c.loop-i.asked c.loop-i.asked _ _ c.loop-i.i c.loop-i.i x x c.loop-i.invariant.kept l c.index_mut.ensures.value g.A.Predicate.accepts c.requires.callable
 
 pub returns-then-not-keeps-clause-retained : goal.returns-then-not-keeps-clause-retained
 returns-then-not-keeps-clause-retained g c =
-    let R = g.A.Keeps.step in
+    let R = g.A.Predicate.step in
     let x = c.index_mut.result.now in
     let y = c.keeps.new.item in
     let f = c.loop-i.asked in
@@ -23,7 +23,7 @@ returns-then-not-keeps-clause-retained g c =
 
 pub loop-i-preserved : goal.loop-i-preserved
 loop-i-preserved g c =
-    let R = g.A.Keeps.step in
+    let R = g.A.Predicate.step in
     let x = c.index_mut.result.now in
     let y = c.keeps.new.item in
     let f = c.loop-i.asked in

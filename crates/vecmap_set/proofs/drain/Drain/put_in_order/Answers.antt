@@ -1,5 +1,5 @@
 use Rattle.vecmap_base.proofs.DrainLemmas.{end_turned}
-use Rattle.vecmap_set.proofs.drain.Drain.lay.Goals as goal
+use Rattle.vecmap_set.proofs.drain.Drain.put_in_order.Goals as goal
 
 pub returns-then-self-reversed-clause-rest : goal.returns-then-self-reversed-clause-rest
 returns-then-self-reversed-clause-rest g c =

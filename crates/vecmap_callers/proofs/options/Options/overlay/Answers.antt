@@ -3,7 +3,7 @@ use Rattle.std.specs.Option.{option_or}
 use Rattle.vecmap.specs.Pairs.{lookup}
 use Rattle.vecmap_callers.specs.Options.{setting}
 use Rattle.vecmap_callers.proofs.OptionLemmas.{laid_over}
-use Rattle.vecmap_callers.proofs.options.Options.lay.Goals as goal
+use Rattle.vecmap_callers.proofs.options.Options.overlay.Goals as goal
 
 pub returns-clause-settings : goal.returns-clause-settings
 returns-clause-settings g c = λ q.
