@@ -232,15 +232,27 @@ fn check_run(
     expected: &[(u32, u32)],
 ) {
     let log = Log::new();
-    let commands = make!(rt; which.create(alloc, &log));
-    assert_is(rt, log.alive(), alive);
-    let map = retry!(rt; run_once(rt, alloc, &log, commands, expected.len()), map => {
-        assert_is(rt, log.alive() as usize, map.len().wrapping_mul(2));
-        drop(map);
-        let commands = granted(rt, which.create(alloc, &log));
-    });
+    let map = run_or_again(rt, alloc, &log, which, alive, expected.len());
     assert_is(rt, log.alive() as usize, map.len().wrapping_mul(2));
     check!(rt; has_told_pairs(map.as_slice(), expected));
+}
+
+// Runs these commands, and again where the run is refused.
+fn run_or_again<'a>(
+    rt: &(impl Abort + Print),
+    alloc: Global,
+    log: &'a Log,
+    which: Commands,
+    alive: u32,
+    count: usize,
+) -> Map<'a> {
+    let commands = make!(rt; which.create(alloc, log));
+    assert_is(rt, log.alive(), alive);
+    retry!(rt; run_once(rt, alloc, log, commands, count), map => {
+        assert_is(rt, log.alive() as usize, map.len().wrapping_mul(2));
+        drop(map);
+        let commands = granted(rt, which.create(alloc, log));
+    })
 }
 
 #[test]
@@ -299,10 +311,15 @@ fn three<'a>(alloc: Global, log: &'a Log) -> Result<Map<'a>, AllocError> {
 #[test]
 fn vecmap_keeps_its_pairs_or_drops_them(rt: HostRuntime) {
     let log = Log::new();
-    let map = retry!(rt; three(rt.alloc(), &log), AllocError => {
-        assert_is(&rt, log.alive(), 0);
-    });
+    let map = three_or_again(&rt, rt.alloc(), &log);
     assert_told_pairs(&rt, &log, &map, 4, &[(1, 13), (2, 12)]);
+}
+
+// Creates the map of `three`, and again where it is refused.
+fn three_or_again<'a>(rt: &(impl Abort + Print), alloc: Global, log: &'a Log) -> Map<'a> {
+    retry!(rt; three(alloc, log), AllocError => {
+        assert_is(rt, log.alive(), 0);
+    })
 }
 
 // Returns commands that insert a pair, each once with a new key and once with an existing one, and one whose index is

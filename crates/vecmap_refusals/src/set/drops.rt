@@ -120,13 +120,18 @@ fn run_once<'a>(
 #[test]
 fn a_set_run_keeps_what_its_commands_carry_or_drops_it(rt: HostRuntime) {
     let (log, alloc) = (Log::new(), rt.alloc());
-    let commands = make!(rt; carrying(alloc, &log));
-    let set = retry!(rt; run_once(&rt, alloc, &log, commands), set => {
-        assert_is(&rt, log.alive() as usize, set.len());
-        drop(set);
-        let commands = granted(&rt, carrying(alloc, &log));
-    });
+    let set = run_or_again(&rt, alloc, &log);
     assert_told(&rt, &log, &set, 5, &[1, 2, 3, 5, 6]);
+}
+
+// Runs the commands of `carrying`, and again where the run is refused.
+fn run_or_again<'a>(rt: &(impl Abort + Print), alloc: Global, log: &'a Log) -> Set<'a> {
+    let commands = make!(rt; carrying(alloc, log));
+    retry!(rt; run_once(rt, alloc, log, commands), set => {
+        assert_is(rt, log.alive() as usize, set.len());
+        drop(set);
+        let commands = granted(rt, carrying(alloc, log));
+    })
 }
 
 #[test]
@@ -150,10 +155,15 @@ fn three<'a>(alloc: Global, log: &'a Log) -> Result<VecSet<Told<'a>>, AllocError
 #[test]
 fn vecset_keeps_its_elements_or_drops_them(rt: HostRuntime) {
     let log = Log::new();
-    let set = retry!(rt; three(rt.alloc(), &log), AllocError => {
-        assert_is(&rt, log.alive(), 0);
-    });
+    let set = three_or_again(&rt, rt.alloc(), &log);
     assert_told(&rt, &log, &set, 2, &[1, 2]);
+}
+
+// Creates the set of `three`, and again where it is refused.
+fn three_or_again<'a>(rt: &(impl Abort + Print), alloc: Global, log: &'a Log) -> Set<'a> {
+    retry!(rt; three(alloc, log), AllocError => {
+        assert_is(rt, log.alive(), 0);
+    })
 }
 
 // Returns commands that compare a set of 1 and 2 with an equal set, a greater, a lesser and a disjoint one.
