@@ -20,7 +20,7 @@ module _ {X : Type 0} where
   moved_up (x ∷ xs) (suc from) (suc to) k d e above within =
       ap (λ l. x ∷ l) (moved_up xs from to k d (omega arith) (omega arith) (omega arith))
 
-  -- The item at `from` moves to an earlier index, or stays.
+  -- The item at `from` moves to an earlier index.
   pub moved_down : (xs : List X) (from to k n : ℕ) (d : X) → k + to ≡ from + 1 → n + 1 ≡ k → to ≤ from → from < length xs → turned xs to k n ≡ insert (remove xs from) to (get_or xs from d)
   moved_down [] from to k n d e f below within = absurd (omega arith)
   moved_down (x ∷ xs) from zero k n d e f below within =
@@ -34,6 +34,28 @@ module _ {X : Type 0} where
   moved_down (x ∷ xs) zero (suc to) k n d e f below within = absurd (omega arith)
   moved_down (x ∷ xs) (suc from) (suc to) k n d e f below within =
       ap (λ l. x ∷ l) (moved_down xs from to k n d (omega arith) f (omega arith) (omega arith))
+
+  -- The item stays.
+  pub not_moved : (xs : List X) (from to : ℕ) (d : X) → from ≡ to → from < length xs → xs ≡ insert (remove xs from) to (get_or xs from d)
+  not_moved [] from to d e within = absurd (omega arith)
+  not_moved (x ∷ xs) zero zero d e within = refl
+  not_moved (x ∷ xs) zero (suc to) d e within = absurd (omega arith)
+  not_moved (x ∷ xs) (suc from) zero d e within = absurd (omega arith)
+  not_moved (x ∷ xs) (suc from) (suc to) d e within = ap (λ l. x ∷ l) (not_moved xs from to d (omega arith) (omega arith))
+
+  -- If at most one item follows the item at `i`, it makes no difference whether the others shift or the last takes its
+  -- place.
+  pub swap_removed_near_end : (xs : List X) (i last : ℕ) (d : X) → last + 1 ≡ length xs → i ≤ last → last ≤ i + 1 → take last (set xs i (get_or xs last d)) ≡ remove xs i
+  swap_removed_near_end [] i last d e within near = absurd (omega arith)
+  swap_removed_near_end (x ∷ []) zero zero d e within near = refl
+  swap_removed_near_end (x ∷ []) zero (suc last) d e within near = absurd (omega arith)
+  swap_removed_near_end (x ∷ y ∷ xs) zero zero d e within near = absurd (omega arith)
+  swap_removed_near_end (x ∷ y ∷ []) zero (suc zero) d e within near = refl
+  swap_removed_near_end (x ∷ y ∷ []) zero (suc (suc last)) d e within near = absurd (omega arith)
+  swap_removed_near_end (x ∷ y ∷ z ∷ xs) zero (suc last) d e within near = absurd (omega arith)
+  swap_removed_near_end (x ∷ xs) (suc i) zero d e within near = absurd (omega arith)
+  swap_removed_near_end (x ∷ xs) (suc i) (suc last) d e within near =
+      ap (λ l. x ∷ l) (swap_removed_near_end xs i last d (omega arith) (omega arith) (omega arith))
 
   -- The item at `i` is replaced before it moves.
   pub replaced_and_moved : (xs : List X) (i to : ℕ) (x d : X) → i < length xs → insert (remove (set xs i x) i) to (get_or (set xs i x) i d) ≡ insert (remove xs i) to x

@@ -3,7 +3,7 @@ ghost use Rattle.std.specs.Prelude.{◌≡◌, ◌<◌, ◌≤◌, ◌&&◌, dro
 ghost use Rattle.std.specs.List.{AllZip};
 ghost use Rattle.vecmap_base.specs.Equality.{FirstDiffer, count, counts_agree, has_same_counts, same_pair};
 
-use crate::matching::{is_same, pairs_match, pairs_match_crosswise};
+use crate::matching::{is_same, pairs_match_by_marks, pairs_match_crosswise};
 
 // The largest numbers of pairs for which marks are made.
 const MARKS_SMALL: usize = 8;
@@ -56,13 +56,13 @@ fn rests_equal<K: Eq, V: PartialEq>(a: &[(K, V)], b: &[(K, V)]) -> bool
         return pairs_match_crosswise(a, b);
     }
     if b.len() <= MARKS_SMALL {
-        return pairs_match(a, b, &mut [false; MARKS_SMALL]);
+        return pairs_match_by_marks::<MARKS_SMALL, K, V>(a, b);
     }
     if b.len() <= MARKS_MEDIUM {
-        return pairs_match(a, b, &mut [false; MARKS_MEDIUM]);
+        return pairs_match_by_marks::<MARKS_MEDIUM, K, V>(a, b);
     }
     if b.len() <= MARKS_LARGE {
-        return pairs_match(a, b, &mut [false; MARKS_LARGE]);
+        return pairs_match_by_marks::<MARKS_LARGE, K, V>(a, b);
     }
     counts_equal(a, b)
 }

@@ -1,17 +1,30 @@
 //! A one-to-one match of the pairs of two lists. A matched pair is marked, so that no other pair is matched with it.
-ghost use Rattle.std.specs.Prelude.{◌≡◌, ◌<◌, ◌≤◌, IfSome, None, false, length, replicate, slice_index_or, true};
+ghost use Rattle.std.specs.Prelude.{◌≡◌, ◌<◌, ◌≤◌, ◌^◌, IfSome, None, false, length, replicate, slice_index_or, true};
 ghost use Rattle.std.specs.List.{list_any};
 ghost use Rattle.vecmap_base.specs.Equality.{FirstDiffer, counts_agree, free, same_pair};
 
 use crate::lookup::find;
 
-// Returns whether each pair of `a` is matched with a pair of `b` that has an equal key and an equal value. `taken` has
-// no marks yet. The first pairs are known to differ, and are not compared with each other again.
-pub(crate) fn pairs_match<K: Eq, V: PartialEq>(
+// Like `pairs_match`, with `N` marks. It is a call of its own: a function makes all its arrays when it begins, also
+// those of branches that it does not take.
+#[inline(never)]
+pub(crate) fn pairs_match_by_marks<const N: usize, K: Eq, V: PartialEq>(
     a: &[(K, V)],
     b: &[(K, V)],
-    taken: &mut [bool],
 ) -> bool
+    requires as_long { length a.now ≡ length b.now }
+    requires countable { N < 2 ^ 63 }
+    requires enough { length b.now ≤ N }
+    requires not_empty { 0 < length a.now }
+    requires first_differ { FirstDiffer K.eq V.eq a.now b.now }
+    ensures { result ≡ counts_agree K.eq V.eq a.now a.now b.now }
+{
+    pairs_match(a, b, &mut [false; N])
+}
+
+// Returns whether each pair of `a` is matched with a pair of `b` that has an equal key and an equal value. `taken` has
+// no marks yet. The first pairs are known to differ, and are not compared with each other again.
+fn pairs_match<K: Eq, V: PartialEq>(a: &[(K, V)], b: &[(K, V)], taken: &mut [bool]) -> bool
     requires as_long { length a.now ≡ length b.now }
     requires enough { length b.now ≤ length taken.old }
     requires unmarked { taken.old ≡ replicate (length taken.old) false }

@@ -74,12 +74,11 @@ pub fn remove_item<T>(items: &mut Vec<T>, index: usize) -> T
     ensures items { items.new.items ≡ remove items.old.items index }
     ensures capacity { vec_capacity items.new ≡ vec_capacity items.old }
 {
-    if size_of_val(&items[index]) > MAX_BYTES_FOR_ROTATION {
-        return items.remove(index);
+    // If one item follows, it takes the index of the removed one. If none follows, nothing moves.
+    if items.len() - index <= 2 {
+        return items.swap_remove(index);
     }
-    let last = items.len() - 1;
-    move_item(items, index, last);
-    items.pop().unwrap()
+    remove_and_shift(items, index)
 }
 
 /// Inserts an item at `index` into a vector that has spare capacity.
@@ -119,6 +118,21 @@ pub fn insert_reserved<T>(items: &mut Vec<T>, index: usize, item: T)
     }
     items.push_reserved(item);
     items[index..].rotate_right(1);
+}
+
+// Like `remove_item`, by one rotation of the item and those after it.
+fn remove_and_shift<T>(items: &mut Vec<T>, index: usize) -> T
+    requires within { index < length items.old.items }
+    ensures item { slice_get items.old.items index ≡ Some result }
+    ensures items { items.new.items ≡ remove items.old.items index }
+    ensures capacity { vec_capacity items.new ≡ vec_capacity items.old }
+{
+    if size_of_val(&items[index]) > MAX_BYTES_FOR_ROTATION {
+        return items.remove(index);
+    }
+    let last = items.len() - 1;
+    move_item(items, index, last);
+    items.pop().unwrap()
 }
 
 // Puts `item` at the index before `end`, each item from there down to `from` at the index before its own, and returns
@@ -175,7 +189,7 @@ fn move_item<T>(items: &mut [T], from: usize, to: usize)
 {
     if from < to {
         items[from..to + 1].rotate_left(1);
-    } else {
+    } else if to < from {
         items[to..from + 1].rotate_right(1);
     }
 }

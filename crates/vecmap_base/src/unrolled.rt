@@ -4,7 +4,7 @@
 //! for an index stops at the first that passes. With eight, and in a test for an item, it asks about a whole block of
 //! eight or four and then branches once, so that the compiler compares vectors; so it asks about at most seven items
 //! after the first that passes.
-ghost use Rattle.std.specs.Prelude.{◌≡◌, ◌+◌, ◌<◌, ◌≤◌, Bool, IfSome, None, false, length, position, take};
+ghost use Rattle.std.specs.Prelude.{◌≡◌, ◌+◌, ◌<◌, ◌≤◌, ◌||◌, Bool, IfSome, None, false, length, position, take};
 ghost use Rattle.std.specs.List.{list_any};
 ghost use Rattle.vecmap_base.specs.Orders.{AnswersOnItem};
 ghost use Rattle.vecmap_base.specs.Pairs.{index_by};
@@ -182,35 +182,22 @@ pub(crate) fn is_any_in_blocks<'a, T, F: Fn(&'a T) -> bool>(items: &'a [T], asks
     is_any_from(items, from, asks)
 }
 
-// Returns whether `asks` returns `true` for one of the eight items from `at` on. It asks about each of them once. For
-// each item before `at`, `asks` returns `false`.
+// Returns whether `asks` returns `true` for one of the eight items from `at` on. It asks about each of them once.
 fn is_any_of_eight<'a, T, F: Fn(&'a T) -> bool>(items: &'a [T], at: usize, asks: &F) -> bool
     requires callable { F.IsAlwaysCallable asks.now }
     requires within { at + 8 ≤ length items.now }
-    requires none_before { (p : T → Bool) → AnswersOnItem F.Fn p asks.now
-        → list_any p (take at items.now) ≡ false }
     ensures { (p : T → Bool) → AnswersOnItem F.Fn p asks.now
-        → list_any p (take (at + 8) items.now) ≡ result }
+        → list_any p (take (at + 8) items.now) ≡ (list_any p (take at items.now) || result) }
 {
-    let a = asks(&items[at]);
-    let b = asks(&items[at + 1]);
-    let c = asks(&items[at + 2]);
-    let d = asks(&items[at + 3]);
-    let e = asks(&items[at + 4]);
-    let f = asks(&items[at + 5]);
-    let g = asks(&items[at + 6]);
-    let h = asks(&items[at + 7]);
-    a | b | c | d | e | f | g | h
+    is_any_of_four(items, at, asks) | is_any_of_four(items, at + 4, asks)
 }
 
 // The same of the four items from `at` on.
 fn is_any_of_four<'a, T, F: Fn(&'a T) -> bool>(items: &'a [T], at: usize, asks: &F) -> bool
     requires callable { F.IsAlwaysCallable asks.now }
     requires within { at + 4 ≤ length items.now }
-    requires none_before { (p : T → Bool) → AnswersOnItem F.Fn p asks.now
-        → list_any p (take at items.now) ≡ false }
     ensures { (p : T → Bool) → AnswersOnItem F.Fn p asks.now
-        → list_any p (take (at + 4) items.now) ≡ result }
+        → list_any p (take (at + 4) items.now) ≡ (list_any p (take at items.now) || result) }
 {
     let a = asks(&items[at]);
     let b = asks(&items[at + 1]);

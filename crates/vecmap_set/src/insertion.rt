@@ -8,6 +8,9 @@ use crate::VecSet;
 use std::mem;
 use vecmap_base::{Refused, contains_item, find_item};
 
+// The least length of a set for which a test whether an element is present is worth a call.
+const MIN_LENGTH_FOR_CALL: usize = 8;
+
 impl<T: Eq> VecSet<T> {
     /// Inserts an element and returns whether it is new.
     ///
@@ -46,7 +49,7 @@ impl<T: Eq> VecSet<T> {
         ensures given { IfErr result (λ refused. refused.given ≡ item) }
         ensures err { OnErr result (Refuses T.eq self.old item self.new) }
     {
-        if contains_item(&self.items, &item) {
+        if is_present(&self.items, &item) {
             return Ok(false);
         }
         self.push(item)?;
@@ -109,4 +112,15 @@ impl<T: Eq> VecSet<T> {
         self.items.push_reserved(item);
         Ok(())
     }
+}
+
+// The same as `contains_item`, but the loop over few items becomes part of the caller.
+#[inline(always)]
+fn is_present<T: Eq>(items: &[T], item: &T) -> bool
+    ensures { result ≡ has_item T.eq items.now item.now }
+{
+    if items.len() < MIN_LENGTH_FOR_CALL {
+        return items.iter().any(|other| *item == *other);
+    }
+    contains_item(items, item)
 }

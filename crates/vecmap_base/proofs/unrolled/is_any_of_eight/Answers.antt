@@ -1,18 +1,13 @@
--- Each call adds one item to the front, and its answer to what the front answers.
-use Rattle.std.proofs.Common.{◌+◌, arith, refl}
-use Rattle.vecmap_base.proofs.IndexLemmas.{list_any_next}
+-- The second four follow the first.
+use Rattle.std.proofs.Common.{◌≡◌, ◌+◌, ◌||◌, Bool, ap, arith, take, ◌∙◌}
+use Rattle.std.specs.List.{list_any}
+use Rattle.std.proofs.Math.Bool.{or_assoc}
 use Rattle.vecmap_base.proofs.unrolled.is_any_of_eight.Goals as goal
 
 pub returns : goal.returns
 returns g c = λ p by.
-    let xs = c.args.items.now in
-    let at = c.args.at in
-    let w = c.requires.within in
-    let one = list_any_next p xs at (at + 1) c.index-items-at.result _ _ (omega (arith, w)) refl c.index-items-at.is (by _ _ c.asks-a.ensures) (c.requires.none_before p by) in
-    let two = list_any_next p xs (at + 1) (at + 2) c.index-items-at-2.result _ _ (omega (arith, w)) (omega arith) c.index-items-at-2.is (by _ _ c.asks-b.ensures) one in
-    let three = list_any_next p xs (at + 2) (at + 3) c.index-items-at-3.result _ _ (omega (arith, w)) (omega arith) c.index-items-at-3.is (by _ _ c.asks-c.ensures) two in
-    let four = list_any_next p xs (at + 3) (at + 4) c.index-items-at-4.result _ _ (omega (arith, w)) (omega arith) c.index-items-at-4.is (by _ _ c.asks-d.ensures) three in
-    let five = list_any_next p xs (at + 4) (at + 5) c.index-items-at-5.result _ _ (omega (arith, w)) (omega arith) c.index-items-at-5.is (by _ _ c.asks-e.ensures) four in
-    let six = list_any_next p xs (at + 5) (at + 6) c.index-items-at-6.result _ _ (omega (arith, w)) (omega arith) c.index-items-at-6.is (by _ _ c.asks-f.ensures) five in
-    let seven = list_any_next p xs (at + 6) (at + 7) c.index-items-at-7.result _ _ (omega (arith, w)) (omega arith) c.index-items-at-7.is (by _ _ c.asks-g.ensures) six in
-    list_any_next p xs (at + 7) (at + 8) c.index-items-at-8.result _ _ (omega (arith, w)) (omega arith) c.index-items-at-8.is (by _ _ c.asks-h.ensures) seven
+    let next : c.args.at + 8 ≡ c.args.at + 4 + 4 = omega arith in
+    ap (λ n. list_any p (take n c.args.items.now)) next
+    ∙ c.is_any_of_four-2.ensures p by
+    ∙ ap (λ (front : Bool). front || c.is_any_of_four-2.result) (c.is_any_of_four.ensures p by)
+    ∙ or_assoc (list_any p (take c.args.at c.args.items.now)) c.is_any_of_four.result c.is_any_of_four-2.result
