@@ -2,13 +2,13 @@
 //!
 //! It holds a reference to the map and no vector. So the proof of a caller knows what the map has once the drain is
 //! dropped.
-ghost use Rattle.std.specs.Prelude.{◌≡◌, ◌++◌, ◌-◌, ◌<◌, ◌≤◌, ◌^◌, IfSome, Some, [], ◌∷◌, drop, length, reverse, slice_range, take};
-ghost use Rattle.std.specs.Iterator.{UpTo, at_most};
+ghost use Rattle.std.specs.Prelude.{◌≡◌, ◌++◌, ◌-◌, ◌<◌, ◌≤◌, ◌^◌, [], ◌∷◌, drop, length, reverse, slice_range, take};
+ghost use Rattle.std.specs.Iterator.{at_most};
 ghost use Rattle.std.specs.Iterator.Runs.{YieldsInOrder, YieldsInReverse};
-ghost use Rattle.std.specs.Iterator.SizeHint.{IsWithinCount};
 ghost use Rattle.std.specs.List.{remove_range};
 ghost use Rattle.vecmap_base.specs.Drain.{KeepsAlong};
 ghost use Rattle.vecmap_base.specs.Ranges.{IsRangeWithin};
+ghost use Rattle.vecmap_base.specs.Walks.{HintsExactly};
 ghost use Rattle.vecmap_map.specs.Drain.{DrainKeeps, DrainNext, DrainNextBack, drain_capacity, drain_kept, drain_lender, drain_rest};
 
 use crate::VecMap;
@@ -180,10 +180,7 @@ impl<'a, K: Drop, V: Drop> Iterator for Drain<'a, K, V> {
 
     /// Returns the number of remaining pairs, as both bounds.
     fn size_hint(&self) -> (usize, Option<usize>)
-        ensures lower { IsWithinCount result.0 (at_most (length (drain_rest self.now))) }
-        ensures upper { IfSome result.1 (UpTo (at_most (length (drain_rest self.now)))) }
-        ensures exact { result
-            ≡ (length (drain_rest self.now), Some (length (drain_rest self.now))) }
+        ensures exact { HintsExactly (length (drain_rest self.now)) result }
     {
         let len = self.len();
         (len, Some(len))
