@@ -20,14 +20,13 @@ module _ {S T : Type 0} (steps : S → Option (Bor T) → S → Type 0) (rest : 
   pub clones_drained : (C : T → T → Type 0) (s : S) (l made : List T) → rest s ≡ l → DrainsIntoClones steps C s made → AreClones C l made
   clones_drained C s l made e h = subst (λ m. AreClones C m made) (drained s h.0 h.1 ∙ e) h.2
 
-  -- Of an iterator that is made over two sets, and yields a list that is computed from their lists. If each clone of an
-  -- item of that list is equal to it, no two of the clones are equal.
-  pub operator_clones : {eq : T → T → Bool} (o : IsEquivalence eq) (C : T → T → Type 0) (over : List T → List T → S) (list : (T → T → Bool) → List T → List T → List T)
-      → (yields : (a b : List T) → rest (over a b) ≡ list eq a b) → (apart : (a b : List T) → IsDistinct eq a → IsDistinct eq b → IsDistinct eq (list eq a b))
-      → (made : List T) {s : S} {x y : List T} {p q a b : Contents T} → s ≡ over x y → x ≡ p.elements → y ≡ q.elements → p ≡ a → q ≡ b → IsDistinct eq p.elements → IsDistinct eq q.elements
-      → ClonesStaySame eq C list a b → DrainsIntoClones steps C s made → AreClones C (list eq a.elements b.elements) made × IsDistinct eq made
-  operator_clones {eq} o C over list yields apart made {s} {x} {y} {p} {q} {a} {b} e f h left right left_apart right_apart same d =
-      let same_list : rest s ≡ list eq a.elements b.elements = ap rest e ∙ yields x y ∙ (λ j. list eq ((f ∙ ap (λ m. m.elements) left) j) ((h ∙ ap (λ m. m.elements) right) j)) in
-      let clones = clones_drained C s (list eq a.elements b.elements) made same_list d in
+  -- Of an iterator that is made over the lists of two sets. If each clone of an item that it yields is equal to it, no
+  -- two of the clones are equal.
+  pub operator_clones : {eq : T → T → Bool} (o : IsEquivalence eq) (C : T → T → Type 0) (over : List T → List T → S) (apart : (a b : List T) → IsDistinct eq a → IsDistinct eq b → IsDistinct eq (rest (over a b))) (made : List T) {s : S} {x y : List T} {p q a b : Contents T} → s ≡ over x y → x ≡ p.elements → y ≡ q.elements → p ≡ a → q ≡ b → IsDistinct eq p.elements → IsDistinct eq q.elements
+      → ClonesStaySame eq C (λ _ a b. rest (over a b)) a b → DrainsIntoClones steps C s made → AreClones C (rest (over a.elements b.elements)) made × IsDistinct eq made
+  operator_clones {eq} o C over apart made {s} {x} {y} {p} {q} {a} {b} e f h left right left_apart right_apart same d =
+      let list = rest (over a.elements b.elements) in
+      let same_list : rest s ≡ list = ap rest e ∙ (λ j. rest (over ((f ∙ ap (λ m. m.elements) left) j) ((h ∙ ap (λ m. m.elements) right) j))) in
+      let clones = clones_drained C s list made same_list d in
       let list_apart = apart a.elements b.elements (subst (λ m. IsDistinct eq m.elements) left left_apart) (subst (λ m. IsDistinct eq m.elements) right right_apart) in
-      (clones, distinct_clones_of eq o C (list eq a.elements b.elements) made same clones list_apart)
+      (clones, distinct_clones_of eq o C list made same clones list_apart)

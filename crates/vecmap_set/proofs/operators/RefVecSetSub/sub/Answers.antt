@@ -1,7 +1,5 @@
 -- The idea: the clones are those of the list that the iterator yields, and clones of its distinct elements are
 -- distinct.
-use Rattle.std.proofs.Common.{refl}
-use Rattle.vecmap_base.specs.Items.{only}
 use Rattle.vecmap_base.proofs.EqualityLemmas.Relations.{distinct_only}
 use Rattle.vecmap_set.specs.Lazy.{SiftsFirst, lacks_item, sift_of, sifted}
 use Rattle.vecmap_set.proofs.OperatorLemmas.{operator_clones}
@@ -11,7 +9,8 @@ pub returns : goal.returns
 returns g c =
     let eq = g.T.PartialEq.eq in
     let laws = g.met.T.Eq.laws in
-    operator_clones (SiftsFirst (lacks_item eq)) (sifted (lacks_item eq)) (λ s r t h. h.0) laws g.T.Clone.is_clone sift_of only (λ a b. refl) (λ a b apart _. distinct_only eq laws a b apart) c.in_ok-clones_of.field-0.items c.over-left.ensures.0 c.deref.ensures.value c.deref-2.ensures.value c.self.view_is c.other.view_is c.self.invariant c.other.invariant c.requires c.in_ok-clones_of.ensures
+    operator_clones (SiftsFirst (lacks_item eq)) (sifted (lacks_item eq)) (λ s r t h. h.0) laws _ sift_of (λ a b apart _. distinct_only eq laws a b apart) _
+    c.over-left.ensures.0 c.deref.ensures.value c.deref-2.ensures.value c.self.view_is c.other.view_is c.self.invariant c.other.invariant c.requires c.in_ok-clones_of.ensures
 
 pub invariant_of-result : goal.invariant_of-result
 invariant_of-result g c = (returns g c).1
