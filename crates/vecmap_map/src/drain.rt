@@ -67,6 +67,7 @@ impl<'a, K: Drop, V: Drop> Drain<'a, K, V> {
     /// Drain::over(&mut map, 1, 3).next() // Some(('b', 2))
     /// map.as_slice() // [('a', 1)]
     /// ```
+    #[tactic(auto, using(vecmap_base::proofs::DrainRuns::drains))]
     pub fn over(map: &'a mut VecMap<K, V>, start: usize, end: usize) -> Drain<'a, K, V>
         requires within { IsRangeWithin start end (length map.old.entries) }
         ensures rest { drain_rest result ≡ slice_range map.old.entries start end }
@@ -134,6 +135,7 @@ impl<K, V> VecMap<K, V> {
 
 impl<'a, K, V> Drain<'a, K, V> {
     // Reverses the remaining pairs if their order is not the wanted one.
+    #[tactic(auto, using(vecmap_base::proofs::DrainRuns::drains))]
     fn put_in_order(&mut self, reversed: bool)
         requires { self.old.keep ≤ length self.old.map.now.entries }
         ensures ordered { self.new.reversed ≡ reversed }
@@ -170,6 +172,7 @@ impl<'a, K: Drop, V: Drop> Iterator for Drain<'a, K, V> {
 
     ghost remaining = { λ s. at_most (length (drain_rest s)) };
 
+    #[tactic(auto, using(vecmap_base::proofs::DrainRuns::drains))]
     fn next(&mut self) -> Option<(K, V)> {
         if self.map.len() <= self.keep {
             return None;
@@ -190,6 +193,7 @@ impl<'a, K: Drop, V: Drop> Iterator for Drain<'a, K, V> {
 impl<'a, K: Drop, V: Drop> DoubleEndedIterator for Drain<'a, K, V> {
     ghost next_back_gives = { DrainNextBack };
 
+    #[tactic(auto, using(vecmap_base::proofs::DrainRuns::drains))]
     fn next_back(&mut self) -> Option<(K, V)> {
         if self.map.len() <= self.keep {
             return None;
@@ -201,6 +205,7 @@ impl<'a, K: Drop, V: Drop> DoubleEndedIterator for Drain<'a, K, V> {
 
 impl<'a, K: Drop, V: Drop> ExactSizeIterator for Drain<'a, K, V> {
     /// Returns the number of remaining pairs.
+    #[tactic(auto, using(vecmap_base::proofs::DrainRuns::drains))]
     fn len(&self) -> usize {
         self.map.len().saturating_sub(self.keep)
     }

@@ -68,6 +68,7 @@ impl<'a, T: Eq + Drop> Drain<'a, T> {
     /// Drain::over(&mut set, 1, 3).next() // Some(2)
     /// set.as_slice() // [1]
     /// ```
+    #[tactic(auto, using(vecmap_base::proofs::DrainRuns::drains))]
     pub fn over(set: &'a mut VecSet<T>, start: usize, end: usize) -> Drain<'a, T>
         requires within { IsRangeWithin start end (length set.old.elements) }
         ensures rest { drain_rest result ≡ slice_range set.old.elements start end }
@@ -138,6 +139,7 @@ impl<T: Eq> VecSet<T> {
 
 impl<'a, T: Eq> Drain<'a, T> {
     // Reverses the remaining elements if their order is not the wanted one.
+    #[tactic(auto, using(vecmap_base::proofs::DrainRuns::drains))]
     fn put_in_order(&mut self, reversed: bool)
         requires { self.old.keep ≤ length self.old.set.now.elements }
         ensures ordered { self.new.reversed ≡ reversed }
@@ -175,6 +177,7 @@ impl<'a, T: Eq + Drop> Iterator for Drain<'a, T> {
 
     ghost remaining = { λ s. at_most (length (drain_rest s)) };
 
+    #[tactic(auto, using(vecmap_base::proofs::DrainRuns::drains))]
     fn next(&mut self) -> Option<T> {
         if self.set.len() <= self.keep {
             return None;
@@ -195,6 +198,7 @@ impl<'a, T: Eq + Drop> Iterator for Drain<'a, T> {
 impl<'a, T: Eq + Drop> DoubleEndedIterator for Drain<'a, T> {
     ghost next_back_gives = { DrainNextBack };
 
+    #[tactic(auto, using(vecmap_base::proofs::DrainRuns::drains))]
     fn next_back(&mut self) -> Option<T> {
         if self.set.len() <= self.keep {
             return None;
@@ -206,6 +210,7 @@ impl<'a, T: Eq + Drop> DoubleEndedIterator for Drain<'a, T> {
 
 impl<'a, T: Eq + Drop> ExactSizeIterator for Drain<'a, T> {
     /// Returns the number of remaining elements.
+    #[tactic(auto, using(vecmap_base::proofs::DrainRuns::drains))]
     fn len(&self) -> usize {
         self.set.len().saturating_sub(self.keep)
     }
