@@ -1,5 +1,5 @@
 -- What a document is after a change of its map of maps.
-use Rattle.std.specs.Prelude.{◌≡◌, ◌++◌, ℕ, Err, List, Ok, OnErr, OnOk, Result, [], ◌∷◌, None, Option, Some, String, IsSome, option_map, unwrap_or, refl}
+use Rattle.std.specs.Prelude.{◌≡◌, ◌++◌, ℕ, List, Ok, OnOk, Result, [], ◌∷◌, None, Option, Some, String, IsSome, option_map, unwrap_or, refl}
 use Rattle.std.specs.Option.{option_map_or}
 use Rattle.std.specs.declared.alloc.Global.{Global}
 use Rattle.std.proofs.Common.{sym, ap, ◌∙◌, subst}
@@ -45,10 +45,6 @@ module _ (c : Contents (List ℕ) Stored) (s : List ℕ) (m new : Stored) (e : S
 pub merged_push : (d : Sections) (ps : List (List ℕ × Stored)) (p : List ℕ × Stored) → merged d (sections_of (ps ++ p ∷ [])) ≡ with_section (merged d (sections_of ps)) p.0 p.1.entries
 merged_push d [] p = refl
 merged_push d (q ∷ qs) p = merged_push (with_section d q.0 q.1.entries) qs p
-
-pub on_err : {X E P : Type 0} (r : Result X E) → P → OnErr r P
-on_err (Ok x) p = tt
-on_err (Err e) p = p
 
 pub at_ok : {X E P : Type 0} (r : Result X E) (x : X) → r ≡ Ok x → OnOk r P → P
 at_ok {P = P} r x e h = subst (λ q. OnOk q P) e h

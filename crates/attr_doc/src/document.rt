@@ -126,13 +126,9 @@ impl Document {
     pub fn get(&self, section: &Name, name: &Name) -> Option<&str>
         ensures { option_copied result ≡ text_of self.now section.now name.now }
     {
-        match self.sections.get(section) {
-            Some(texts) => match texts.get(name) {
-                Some(text) => Some(text.as_str()),
-                None => None,
-            },
-            None => None,
-        }
+        let texts = self.sections.get(section)?;
+        let text = texts.get(name)?;
+        Some(text.as_str())
     }
 
     /// Sets all texts of `other`, section by section in its order, and leaves `other` empty.

@@ -58,10 +58,7 @@ fn reserve_in(
     ensures room_in { OnOk result (HasRoomAt sections.new.entries name.now additional) }
 {
     match sections.get_mut(name) {
-        Some(texts) => {
-            texts.reserve(additional)?;
-            Ok(())
-        }
+        Some(texts) => texts.reserve(additional),
         None => Ok(()),
     }
 }

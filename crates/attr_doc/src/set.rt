@@ -26,10 +26,7 @@ pub(crate) fn set_text(
         ≡ sections_of sections.old.entries) }
 {
     match sections.get_mut(&section) {
-        Some(texts) => {
-            let old = set_in(texts, section, name, text)?;
-            Ok(old)
-        }
+        Some(texts) => set_in(texts, section, name, text),
         None => {
             let alloc = *sections.allocator();
             let mut texts = VecMap::new(alloc);

@@ -6,8 +6,10 @@ use Rattle.std.specs.Option.{option_map}
 use Rattle.std.proofs.Common.{ap, subst, sym, ◌∙◌}
 use Rattle.std.proofs.iter.runs.Sources.{as_is, as_is_back, from_back, from_front}
 use Rattle.std.proofs.lemmas.Iterator.Adapters.{option_map_id}
+use Rattle.std.proofs.lemmas.List.{length_push}
 use Rattle.vecmap_base.specs.Drain.{DrainsFirst, DrainsLast, KeepsAlong}
 use Rattle.vecmap_base.specs.Walks.{End, Pulls, PullsBy, back, front}
+use Rattle.vecmap_base.proofs.DrainLemmas.{end_turned, first_pulled, last_pulled, length_rest, none_left, part_at_end, parts_of_moved}
 use Rattle.vecmap_base.proofs.WalkLemmas.{pulls_by}
 
 each_as_is : {A : Type 0} (items : List (Option A)) → map (option_map (λ x. x)) items ≡ items
@@ -60,3 +62,6 @@ module _ {D A : Type 0} (rest : D → List A) (Keeps : D → D → Type 0) where
     keeps_pulled s [] items t h = subst (Keeps s) (sym h.1) (same s)
     keeps_pulled s (front ∷ ends) items t h = on s h.1 t (first_keeps s h.0 h.1 h.3) (keeps_pulled h.1 ends h.2 t h.5)
     keeps_pulled s (back ∷ ends) items t h = on s h.1 t (last_keeps s h.0 h.1 h.3) (keeps_pulled h.1 ends h.2 t h.5)
+
+-- The lemmas for the goals of the calls of a drain.
+pub ruleset drains = (length_rest, none_left, part_at_end, parts_of_moved, end_turned, first_pulled, last_pulled, keeps_along, keeps_along_back, length_push)

@@ -50,8 +50,9 @@ module _ {F X : Type 0} (R : F → X → Bool → X → F → Type 0) where
           so_far.kept (if b then y ∷ m else m) g (subst (λ t. Kept R f t (if b then y ∷ m else m) g) (sym (drop_more xs i p l)) (b, y, h, m, called, more, refl))
 
     -- If this call returns `true`, the item, as it was written, is appended to the front.
-    pub kept_one : (zs : List X) → R f p true y h → length zs ≡ length ys → SwappedAt (set ys i y) zs k i → KeptSoFar R f0 h xs zs (k + 1) (i + 1)
-    kept_one zs call long swapped =
+    pub kept_one : (zs : List X) {b : Bool} → b ≡ true → R f p b y h → length zs ≡ length ys → SwappedAt (set ys i y) zs k i → KeptSoFar R f0 h xs zs (k + 1) (i + 1)
+    kept_one zs kept did long swapped =
+        let call = subst (λ b. R f p b y h) kept did in
         let front = front_more ys zs k i y so_far.bound (omega (arith, l, so_far.len)) long swapped in
         record {
           bound = omega (arith, so_far.bound);
@@ -62,8 +63,9 @@ module _ {F X : Type 0} (R : F → X → Bool → X → F → Type 0) where
         }
 
     -- If this call returns `false`, the front stays the same.
-    pub kept_not : R f p false y h → KeptSoFar R f0 h xs (set ys i y) k (i + 1)
-    kept_not call =
+    pub kept_not : {b : Bool} → b ≡ false → R f p b y h → KeptSoFar R f0 h xs (set ys i y) k (i + 1)
+    kept_not rejected did =
+        let call = subst (λ b. R f p b y h) rejected did in
         let front = front_left ys k i y so_far.bound in
         record {
           bound = omega (arith, so_far.bound);
@@ -74,8 +76,9 @@ module _ {F X : Type 0} (R : F → X → Bool → X → F → Type 0) where
         }
 
   -- If all items so far were kept, and this call returns `true`, this item is kept where it is.
-  pub kept_here : (f0 f h : F) (xs ys : List X) (i : ℕ) (p y : X) → KeptSoFar R f0 f xs ys i i → i < length xs → p ≡ get_or ys i p → R f p true y h → KeptSoFar R f0 h xs (set ys i y) (i + 1) (i + 1)
-  kept_here f0 f h xs ys i p y so_far l at call =
+  pub kept_here : (f0 f h : F) (xs ys : List X) (i : ℕ) (p y : X) → KeptSoFar R f0 f xs ys i i → i < length xs → p ≡ get_or ys i p → {b : Bool} → b ≡ true → R f p b y h → KeptSoFar R f0 h xs (set ys i y) (i + 1) (i + 1)
+  kept_here f0 f h xs ys i p y so_far l at kept did =
+      let call = subst (λ b. R f p b y h) kept did in
       let long : i < length ys = omega (arith, l, so_far.len) in
       let front : take (i + 1) (set ys i y) ≡ take i ys ++ y ∷ [] = take_more_set ys i y long in
       record {

@@ -1,6 +1,8 @@
 -- What iterators lend and give, and pulls from both ends.
-use Rattle.std.specs.Prelude.{◌≡◌, ◌-◌, ◌<◌, ◌^◌, List, [], ◌∷◌, Option, drop, length, slice_get, take}
+use Rattle.std.specs.Prelude.{◌≡◌, ℕ, ◌-◌, ◌<◌, ◌^◌, IfSome, List, [], ◌∷◌, Option, Some, drop, length, slice_get, take}
 use Rattle.std.specs.Borrow.{MutBor}
+use Rattle.std.specs.Iterator.{UpTo, at_most}
+use Rattle.std.specs.Iterator.SizeHint.{IsWithinCount}
 use Rattle.std.specs.Iterator.Runs.{EveryRun, ItemsMapTo, ItemsMapToReversed}
 use Rattle.std.specs.Map.Iter.{GivesInOrder, GivesInReverse, ShowsInOrder, ShowsInReverse, TakesFirst, TakesLast}
 
@@ -34,6 +36,15 @@ module _ {S A X : Type 0} (shows : A → X) (rest : S → List X) where
   -- `ShowsAll` of such an iterator.
   abbrev pub ShowsAllOf : List X → S → Type 0
   ShowsAllOf l s = (rest s ≡ l) × (length l < 2 ^ 64) × EveryRun TakesFirstOf (λ p. ItemsMapTo p shows (rest p.from)) × EveryRun TakesLastOf (λ p. ItemsMapToReversed p shows (rest p.from))
+
+-- `hint` is the exact `size_hint` of an iterator that has `n` items left.
+pub record HintsExactly (n : ℕ) (hint : ℕ × Option ℕ) : Type 0 where
+  -- The lower bound is at most `n`, as the trait `Iterator` requires.
+  pub lower : IsWithinCount hint.0 (at_most n)
+  -- If there is an upper bound, it is at least `n`, as the trait requires.
+  pub upper : IfSome hint.1 (UpTo (at_most n))
+  -- Both bounds are `n`.
+  pub exact : hint ≡ (n, Some n)
 
 -- The end at which a pull is made: `next` pulls from the front, `next_back` from the back.
 pub data End : Type 0 where

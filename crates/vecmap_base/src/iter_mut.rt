@@ -5,13 +5,12 @@
 //! call takes constant time and does not allocate.
 //!
 //! An iterator also has the name of its loan, by which a contract says what the lender holds once the loan ends.
-ghost use Rattle.std.specs.Prelude.{◌≡◌, IfSome, length};
-ghost use Rattle.std.specs.Iterator.{UpTo, at_most};
-ghost use Rattle.std.specs.Iterator.SizeHint.{IsWithinCount};
+ghost use Rattle.std.specs.Prelude.{◌≡◌, length};
+ghost use Rattle.std.specs.Iterator.{at_most};
 ghost use Rattle.std.specs.Map.{keys_of, values_of};
 ghost use Rattle.std.specs.Map.Iter.{deref_pair_mut};
 ghost use Rattle.vecmap_base.specs.Lending.{iter_mut2_name, iter_mut2_rest, iter_mut_name, iter_mut_rest, keys_mut_name, keys_mut_rest, values_mut_name, values_mut_rest};
-ghost use Rattle.vecmap_base.specs.Walks.{ShowsAllOf, TakesFirstOf, TakesLastOf, deref_both_mut, deref_mut};
+ghost use Rattle.vecmap_base.specs.Walks.{HintsExactly, ShowsAllOf, TakesFirstOf, TakesLastOf, deref_both_mut, deref_mut};
 
 use std::iter::FusedIterator;
 use std::{fmt, slice};
@@ -71,9 +70,7 @@ impl<'a, K, V> Iterator for IterMut<'a, K, V> {
 
     /// Returns the number of pairs left, as both bounds.
     fn size_hint(&self) -> (usize, Option<usize>)
-        ensures lower { IsWithinCount result.0 (at_most (length (iter_mut_rest self.now))) }
-        ensures upper { IfSome result.1 (UpTo (at_most (length (iter_mut_rest self.now)))) }
-        ensures exact { result ≡ (length (iter_mut_rest self.now), Some (length (iter_mut_rest self.now))) }
+        ensures exact { HintsExactly (length (iter_mut_rest self.now)) result }
     {
         let len = self.len();
         (len, Some(len))
@@ -160,9 +157,7 @@ impl<'a, K, V> Iterator for IterMut2<'a, K, V> {
 
     /// Returns the number of pairs left, as both bounds.
     fn size_hint(&self) -> (usize, Option<usize>)
-        ensures lower { IsWithinCount result.0 (at_most (length (iter_mut2_rest self.now))) }
-        ensures upper { IfSome result.1 (UpTo (at_most (length (iter_mut2_rest self.now)))) }
-        ensures exact { result ≡ (length (iter_mut2_rest self.now), Some (length (iter_mut2_rest self.now))) }
+        ensures exact { HintsExactly (length (iter_mut2_rest self.now)) result }
     {
         let len = self.len();
         (len, Some(len))
@@ -249,9 +244,7 @@ impl<'a, K, V> Iterator for KeysMut<'a, K, V> {
 
     /// Returns the number of keys left, as both bounds.
     fn size_hint(&self) -> (usize, Option<usize>)
-        ensures lower { IsWithinCount result.0 (at_most (length (keys_mut_rest self.now))) }
-        ensures upper { IfSome result.1 (UpTo (at_most (length (keys_mut_rest self.now)))) }
-        ensures exact { result ≡ (length (keys_mut_rest self.now), Some (length (keys_mut_rest self.now))) }
+        ensures exact { HintsExactly (length (keys_mut_rest self.now)) result }
     {
         let len = self.len();
         (len, Some(len))
@@ -340,9 +333,7 @@ impl<'a, K, V> Iterator for ValuesMut<'a, K, V> {
 
     /// Returns the number of values left, as both bounds.
     fn size_hint(&self) -> (usize, Option<usize>)
-        ensures lower { IsWithinCount result.0 (at_most (length (values_mut_rest self.now))) }
-        ensures upper { IfSome result.1 (UpTo (at_most (length (values_mut_rest self.now)))) }
-        ensures exact { result ≡ (length (values_mut_rest self.now), Some (length (values_mut_rest self.now))) }
+        ensures exact { HintsExactly (length (values_mut_rest self.now)) result }
     {
         let len = self.len();
         (len, Some(len))

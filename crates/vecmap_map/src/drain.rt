@@ -2,13 +2,13 @@
 //!
 //! It holds a reference to the map and no vector. So the proof of a caller knows what the map has once the drain is
 //! dropped.
-ghost use Rattle.std.specs.Prelude.{◌≡◌, ◌++◌, ◌-◌, ◌<◌, ◌≤◌, ◌^◌, IfSome, Some, [], ◌∷◌, drop, length, reverse, slice_range, take};
-ghost use Rattle.std.specs.Iterator.{UpTo, at_most};
+ghost use Rattle.std.specs.Prelude.{◌≡◌, ◌++◌, ◌-◌, ◌<◌, ◌≤◌, ◌^◌, [], ◌∷◌, drop, length, reverse, slice_range, take};
+ghost use Rattle.std.specs.Iterator.{at_most};
 ghost use Rattle.std.specs.Iterator.Runs.{YieldsInOrder, YieldsInReverse};
-ghost use Rattle.std.specs.Iterator.SizeHint.{IsWithinCount};
 ghost use Rattle.std.specs.List.{remove_range};
 ghost use Rattle.vecmap_base.specs.Drain.{KeepsAlong};
 ghost use Rattle.vecmap_base.specs.Ranges.{IsRangeWithin};
+ghost use Rattle.vecmap_base.specs.Walks.{HintsExactly};
 ghost use Rattle.vecmap_map.specs.Drain.{DrainKeeps, DrainNext, DrainNextBack, drain_capacity, drain_kept, drain_lender, drain_rest};
 
 use crate::VecMap;
@@ -67,6 +67,7 @@ impl<'a, K: Drop, V: Drop> Drain<'a, K, V> {
     /// Drain::over(&mut map, 1, 3).next() // Some(('b', 2))
     /// map.as_slice() // [('a', 1)]
     /// ```
+    #[tactic(auto, using(vecmap_base::proofs::DrainRuns::drains))]
     pub fn over(map: &'a mut VecMap<K, V>, start: usize, end: usize) -> Drain<'a, K, V>
         requires within { IsRangeWithin start end (length map.old.entries) }
         ensures rest { drain_rest result ≡ slice_range map.old.entries start end }
@@ -134,6 +135,7 @@ impl<K, V> VecMap<K, V> {
 
 impl<'a, K, V> Drain<'a, K, V> {
     // Reverses the remaining pairs if their order is not the wanted one.
+    #[tactic(auto, using(vecmap_base::proofs::DrainRuns::drains))]
     fn put_in_order(&mut self, reversed: bool)
         requires { self.old.keep ≤ length self.old.map.now.entries }
         ensures ordered { self.new.reversed ≡ reversed }
@@ -170,6 +172,7 @@ impl<'a, K: Drop, V: Drop> Iterator for Drain<'a, K, V> {
 
     ghost remaining = { λ s. at_most (length (drain_rest s)) };
 
+    #[tactic(auto, using(vecmap_base::proofs::DrainRuns::drains))]
     fn next(&mut self) -> Option<(K, V)> {
         if self.map.len() <= self.keep {
             return None;
@@ -180,10 +183,7 @@ impl<'a, K: Drop, V: Drop> Iterator for Drain<'a, K, V> {
 
     /// Returns the number of remaining pairs, as both bounds.
     fn size_hint(&self) -> (usize, Option<usize>)
-        ensures lower { IsWithinCount result.0 (at_most (length (drain_rest self.now))) }
-        ensures upper { IfSome result.1 (UpTo (at_most (length (drain_rest self.now)))) }
-        ensures exact { result
-            ≡ (length (drain_rest self.now), Some (length (drain_rest self.now))) }
+        ensures exact { HintsExactly (length (drain_rest self.now)) result }
     {
         let len = self.len();
         (len, Some(len))
@@ -193,6 +193,7 @@ impl<'a, K: Drop, V: Drop> Iterator for Drain<'a, K, V> {
 impl<'a, K: Drop, V: Drop> DoubleEndedIterator for Drain<'a, K, V> {
     ghost next_back_gives = { DrainNextBack };
 
+    #[tactic(auto, using(vecmap_base::proofs::DrainRuns::drains))]
     fn next_back(&mut self) -> Option<(K, V)> {
         if self.map.len() <= self.keep {
             return None;
@@ -204,6 +205,7 @@ impl<'a, K: Drop, V: Drop> DoubleEndedIterator for Drain<'a, K, V> {
 
 impl<'a, K: Drop, V: Drop> ExactSizeIterator for Drain<'a, K, V> {
     /// Returns the number of remaining pairs.
+    #[tactic(auto, using(vecmap_base::proofs::DrainRuns::drains))]
     fn len(&self) -> usize {
         self.map.len().saturating_sub(self.keep)
     }

@@ -1,9 +1,10 @@
 -- What is taken from an iterator until nothing is left is the list that it had. By induction on the taken items.
-use Rattle.std.proofs.Common.{◌≡◌, List, [], ◌∷◌, ◌++◌, Option, None, Some, ap, sym, subst, ◌∙◌, map}
+use Rattle.std.proofs.Common.{◌≡◌, Bool, List, [], ◌∷◌, ◌++◌, Option, None, Some, ap, sym, subst, ◌∙◌, map}
 use Rattle.std.proofs.lemmas.List.{append-nil}
-use Rattle.std.specs.{Borrow.Bor, Iterator.Drains, Iterator.Yields, Iterator.YieldsFirstRef, Map.Iter.deref}
+use Rattle.std.specs.{Borrow.Bor, Cmp.IsEquivalence, Iterator.Drains, Iterator.Yields, Iterator.YieldsFirstRef, List.IsDistinct, Map.Iter.deref}
 use Rattle.vecmap_base.specs.Clones.{AreClones}
-use Rattle.vecmap_set.specs.Operators.{DrainsIntoClones}
+use Rattle.vecmap_set.specs.{Contents.Contents, Operators.ClonesStaySame, Operators.DrainsIntoClones}
+use Rattle.vecmap_set.proofs.SetLemmas.{distinct_clones_of}
 
 module _ {S T : Type 0} (steps : S → Option (Bor T) → S → Type 0) (rest : S → List T) (gives : (s : S) (r : Option (Bor T)) (t : S) → steps s r t → YieldsFirstRef rest s r t) where
   taken : (s t : S) (items : List (Bor T)) → Yields steps s items t → rest s ≡ map deref items ++ rest t
@@ -19,7 +20,13 @@ module _ {S T : Type 0} (steps : S → Option (Bor T) → S → Type 0) (rest : 
   pub clones_drained : (C : T → T → Type 0) (s : S) (l made : List T) → rest s ≡ l → DrainsIntoClones steps C s made → AreClones C l made
   clones_drained C s l made e h = subst (λ m. AreClones C m made) (drained s h.0 h.1 ∙ e) h.2
 
-  -- The same of an iterator that is made over two lists, and yields a list that is computed from them.
-  pub operator_clones : (C : T → T → Type 0) (over : List T → List T → S) (list : List T → List T → List T) (yields : (a b : List T) → rest (over a b) ≡ list a b) (s : S) (a b x y made : List T) → s ≡ over x y → x ≡ a → y ≡ b → DrainsIntoClones steps C s made → AreClones C (list a b) made
-  operator_clones C over list yields s a b x y made e f h d =
-      clones_drained C s (list a b) made (ap rest e ∙ yields x y ∙ (λ j. list (f j) (h j))) d
+  -- Of an iterator that is made over the lists of two sets. If each clone of an item that it yields is equal to it, no
+  -- two of the clones are equal.
+  pub operator_clones : {eq : T → T → Bool} (o : IsEquivalence eq) (C : T → T → Type 0) (over : List T → List T → S) (apart : (a b : List T) → IsDistinct eq a → IsDistinct eq b → IsDistinct eq (rest (over a b))) (made : List T) {s : S} {x y : List T} {p q a b : Contents T} → s ≡ over x y → x ≡ p.elements → y ≡ q.elements → p ≡ a → q ≡ b → IsDistinct eq p.elements → IsDistinct eq q.elements
+      → ClonesStaySame eq C (λ _ a b. rest (over a b)) a b → DrainsIntoClones steps C s made → AreClones C (rest (over a.elements b.elements)) made × IsDistinct eq made
+  operator_clones {eq} o C over apart made {s} {x} {y} {p} {q} {a} {b} e f h left right left_apart right_apart same d =
+      let list = rest (over a.elements b.elements) in
+      let same_list : rest s ≡ list = ap rest e ∙ (λ j. rest (over ((f ∙ ap (λ m. m.elements) left) j) ((h ∙ ap (λ m. m.elements) right) j))) in
+      let clones = clones_drained C s list made same_list d in
+      let list_apart = apart a.elements b.elements (subst (λ m. IsDistinct eq m.elements) left left_apart) (subst (λ m. IsDistinct eq m.elements) right right_apart) in
+      (clones, distinct_clones_of eq o C list made same clones list_apart)

@@ -1,9 +1,10 @@
 -- What the lazy iterators over two lists of elements have left, and what their pulls give. `eq` is the `==` of the
 -- elements.
-use Rattle.std.specs.Prelude.{◌≡◌, ℕ, ◌<◌, ◌^◌, Bool, List, ◌++◌, ◌⊎◌, MatchOption, None, Option, Some, SomeIff, filter, if◌then◌else◌, length, map, nat_lt, not, option_map}
+use Rattle.std.specs.Prelude.{◌≡◌, ℕ, ◌<◌, ◌^◌, Bool, IfSome, List, ◌++◌, ◌⊎◌, MatchOption, None, Option, Some, SomeIff, filter, if◌then◌else◌, length, map, nat_lt, not, option_map}
 use Rattle.std.specs.Borrow.{Bor}
-use Rattle.std.specs.Iterator.{YieldsFirstRef, YieldsLastRef}
+use Rattle.std.specs.Iterator.{UpTo, YieldsFirstRef, YieldsLastRef, at_most}
 use Rattle.std.specs.Iterator.Runs.{YieldsRefsInOrder, YieldsRefsInReverse}
+use Rattle.std.specs.Iterator.SizeHint.{IsWithinCount}
 use Rattle.std.specs.List.{after_first, before_last}
 use Rattle.std.specs.Map.Iter.{TakesFirst, TakesLast, deref}
 use Rattle.vecmap_base.specs.Items.{has_item}
@@ -55,6 +56,10 @@ module _ {T : Type 0} where
   -- The elements of a, each to be looked up in b, and then those of b, each to be looked up in a.
   abbrev pub symmetric_parts : List T → List T → Parts (Sift T) (Sift T)
   symmetric_parts a b = record { first = sift_of a b; second = sift_of b a }
+
+-- Both bounds of a hint allow for n items, as the trait `Iterator` requires.
+abbrev pub IsHintFor : ℕ → ℕ × Option ℕ → Type 0
+IsHintFor n hint = IsWithinCount hint.0 (at_most n) × IfSome hint.1 (UpTo (at_most n))
 
 -- The bound r is n, or none if n is greater than `usize::MAX`.
 abbrev pub IsBound : Option ℕ → ℕ → Type 0

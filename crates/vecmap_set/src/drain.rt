@@ -1,13 +1,13 @@
 //! The iterator that removes a range of elements from a set.
 //!
 //! It holds a reference to the set and no vector, so no two elements of the set are equal at any moment.
-ghost use Rattle.std.specs.Prelude.{◌≡◌, ◌++◌, ◌-◌, ◌<◌, ◌≤◌, ◌^◌, IfSome, Some, [], ◌∷◌, drop, length, reverse, slice_range, take};
-ghost use Rattle.std.specs.Iterator.{UpTo, at_most};
+ghost use Rattle.std.specs.Prelude.{◌≡◌, ◌++◌, ◌-◌, ◌<◌, ◌≤◌, ◌^◌, [], ◌∷◌, drop, length, reverse, slice_range, take};
+ghost use Rattle.std.specs.Iterator.{at_most};
 ghost use Rattle.std.specs.Iterator.Runs.{YieldsInOrder, YieldsInReverse};
-ghost use Rattle.std.specs.Iterator.SizeHint.{IsWithinCount};
 ghost use Rattle.std.specs.List.{IsDistinct, remove_range};
 ghost use Rattle.vecmap_base.specs.Drain.{KeepsAlong};
 ghost use Rattle.vecmap_base.specs.Ranges.{IsRangeWithin};
+ghost use Rattle.vecmap_base.specs.Walks.{HintsExactly};
 ghost use Rattle.vecmap_set.specs.Drain.{DrainKeeps, DrainNext, DrainNextBack, drain_capacity, drain_kept, drain_lender, drain_rest};
 
 use crate::VecSet;
@@ -68,6 +68,7 @@ impl<'a, T: Eq + Drop> Drain<'a, T> {
     /// Drain::over(&mut set, 1, 3).next() // Some(2)
     /// set.as_slice() // [1]
     /// ```
+    #[tactic(auto, using(vecmap_base::proofs::DrainRuns::drains))]
     pub fn over(set: &'a mut VecSet<T>, start: usize, end: usize) -> Drain<'a, T>
         requires within { IsRangeWithin start end (length set.old.elements) }
         ensures rest { drain_rest result ≡ slice_range set.old.elements start end }
@@ -138,6 +139,7 @@ impl<T: Eq> VecSet<T> {
 
 impl<'a, T: Eq> Drain<'a, T> {
     // Reverses the remaining elements if their order is not the wanted one.
+    #[tactic(auto, using(vecmap_base::proofs::DrainRuns::drains))]
     fn put_in_order(&mut self, reversed: bool)
         requires { self.old.keep ≤ length self.old.set.now.elements }
         ensures ordered { self.new.reversed ≡ reversed }
@@ -175,6 +177,7 @@ impl<'a, T: Eq + Drop> Iterator for Drain<'a, T> {
 
     ghost remaining = { λ s. at_most (length (drain_rest s)) };
 
+    #[tactic(auto, using(vecmap_base::proofs::DrainRuns::drains))]
     fn next(&mut self) -> Option<T> {
         if self.set.len() <= self.keep {
             return None;
@@ -185,10 +188,7 @@ impl<'a, T: Eq + Drop> Iterator for Drain<'a, T> {
 
     /// Returns the number of remaining elements, as both bounds.
     fn size_hint(&self) -> (usize, Option<usize>)
-        ensures lower { IsWithinCount result.0 (at_most (length (drain_rest self.now))) }
-        ensures upper { IfSome result.1 (UpTo (at_most (length (drain_rest self.now)))) }
-        ensures exact { result
-            ≡ (length (drain_rest self.now), Some (length (drain_rest self.now))) }
+        ensures exact { HintsExactly (length (drain_rest self.now)) result }
     {
         let len = self.len();
         (len, Some(len))
@@ -198,6 +198,7 @@ impl<'a, T: Eq + Drop> Iterator for Drain<'a, T> {
 impl<'a, T: Eq + Drop> DoubleEndedIterator for Drain<'a, T> {
     ghost next_back_gives = { DrainNextBack };
 
+    #[tactic(auto, using(vecmap_base::proofs::DrainRuns::drains))]
     fn next_back(&mut self) -> Option<T> {
         if self.set.len() <= self.keep {
             return None;
@@ -209,6 +210,7 @@ impl<'a, T: Eq + Drop> DoubleEndedIterator for Drain<'a, T> {
 
 impl<'a, T: Eq + Drop> ExactSizeIterator for Drain<'a, T> {
     /// Returns the number of remaining elements.
+    #[tactic(auto, using(vecmap_base::proofs::DrainRuns::drains))]
     fn len(&self) -> usize {
         self.set.len().saturating_sub(self.keep)
     }

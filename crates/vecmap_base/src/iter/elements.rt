@@ -3,12 +3,11 @@
 //! In contracts an iterator is the list of the elements that it has left. `next` removes the first of them and returns
 //! it, and `next_back` the last, in constant time. Once the list is empty, both return `None`. Only the `clone` of
 //! `IntoIter` allocates, and its time is linear in the length of the list.
-ghost use Rattle.std.specs.Prelude.{◌≡◌, ⊤, IfOk, IfSome, length};
-ghost use Rattle.std.specs.Iterator.{UpTo, at_most};
-ghost use Rattle.std.specs.Iterator.SizeHint.{IsWithinCount};
+ghost use Rattle.std.specs.Prelude.{◌≡◌, ⊤, IfOk, length};
+ghost use Rattle.std.specs.Iterator.{at_most};
 ghost use Rattle.std.specs.Map.Iter.{TakesFirst, TakesLast, deref};
 ghost use Rattle.vecmap_base.specs.Clones.{AreClones};
-ghost use Rattle.vecmap_base.specs.Walks.{GivesAll, ShowsAll};
+ghost use Rattle.vecmap_base.specs.Walks.{GivesAll, HintsExactly, ShowsAll};
 
 use std::alloc::AllocError;
 use std::collections::VecDeque;
@@ -96,9 +95,7 @@ impl<'a, T> Iterator for Iter<'a, T> {
 
     /// Returns the number of elements left, as both bounds.
     fn size_hint(&self) -> (usize, Option<usize>)
-        ensures lower { IsWithinCount result.0 (at_most (length self.now)) }
-        ensures upper { IfSome result.1 (UpTo (at_most (length self.now))) }
-        ensures exact { result ≡ (length self.now, Some (length self.now)) }
+        ensures exact { HintsExactly (length self.now) result }
     {
         let len = self.len();
         (len, Some(len))
@@ -226,9 +223,7 @@ impl<T: Drop> Iterator for IntoIter<T> {
 
     /// Returns the number of elements left, as both bounds.
     fn size_hint(&self) -> (usize, Option<usize>)
-        ensures lower { IsWithinCount result.0 (at_most (length self.now)) }
-        ensures upper { IfSome result.1 (UpTo (at_most (length self.now))) }
-        ensures exact { result ≡ (length self.now, Some (length self.now)) }
+        ensures exact { HintsExactly (length self.now) result }
     {
         let len = self.len();
         (len, Some(len))

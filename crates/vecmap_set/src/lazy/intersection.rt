@@ -1,9 +1,8 @@
 //! An iterator over the elements of one set that another has.
-ghost use Rattle.std.specs.Prelude.{◌≡◌, ⊤, IfSome, length};
-ghost use Rattle.std.specs.Iterator.{UpTo, at_most};
-ghost use Rattle.std.specs.Iterator.SizeHint.{IsWithinCount};
+ghost use Rattle.std.specs.Prelude.{◌≡◌, ⊤, length};
+ghost use Rattle.std.specs.Iterator.{at_most};
 ghost use Rattle.vecmap_base.specs.Items.{has_item};
-ghost use Rattle.vecmap_set.specs.Lazy.{SiftsAll, SiftsFirst, SiftsLast, sift_of, sifted};
+ghost use Rattle.vecmap_set.specs.Lazy.{IsHintFor, SiftsAll, SiftsFirst, SiftsLast, sift_of, sifted};
 
 use super::{sift_back, sift_front};
 use std::alloc::AllocError;
@@ -91,10 +90,7 @@ impl<'a, T: Eq> Iterator for Intersection<'a, T> {
     /// Returns 0 and the number of elements that are not yet visited.
     #[tactic(auto, using(crate::proofs::LazyLemmas::length_filter))]
     fn size_hint(&self) -> (usize, Option<usize>)
-        ensures lower { IsWithinCount result.0
-            (at_most (length (sifted (has_item T.eq) self.now))) }
-        ensures upper { IfSome result.1
-            (UpTo (at_most (length (sifted (has_item T.eq) self.now)))) }
+        ensures bounds { IsHintFor (length (sifted (has_item T.eq) self.now)) result }
         ensures hint { result ≡ (0, Some (length self.now.unwalked)) }
     {
         (0, Some(self.items.len()))

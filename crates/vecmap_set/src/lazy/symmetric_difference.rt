@@ -1,9 +1,8 @@
 //! An iterator over the elements that only one of two sets has.
-ghost use Rattle.std.specs.Prelude.{◌≡◌, ⊤, ◌+◌, IfSome, length};
-ghost use Rattle.std.specs.Iterator.{UpTo, at_most};
+ghost use Rattle.std.specs.Prelude.{◌≡◌, ⊤, ◌+◌, length};
+ghost use Rattle.std.specs.Iterator.{at_most};
 ghost use Rattle.std.specs.Iterator.Runs.{YieldsRefsInOrder, YieldsRefsInReverse};
-ghost use Rattle.std.specs.Iterator.SizeHint.{IsWithinCount};
-ghost use Rattle.vecmap_set.specs.Lazy.{ExcludesFirst, ExcludesLast, IsBound, exclusive, symmetric_parts};
+ghost use Rattle.vecmap_set.specs.Lazy.{ExcludesFirst, ExcludesLast, IsBound, IsHintFor, exclusive, symmetric_parts};
 
 use super::{Difference, add_bounds};
 use std::alloc::AllocError;
@@ -97,8 +96,7 @@ impl<'a, T: Eq> Iterator for SymmetricDifference<'a, T> {
     ///
     /// There is no upper bound if that number exceeds `usize::MAX`.
     fn size_hint(&self) -> (usize, Option<usize>)
-        ensures lower { IsWithinCount result.0 (at_most (length (exclusive T.eq self.now))) }
-        ensures upper { IfSome result.1 (UpTo (at_most (length (exclusive T.eq self.now)))) }
+        ensures bounds { IsHintFor (length (exclusive T.eq self.now)) result }
         ensures lower_hint { result.0 ≡ 0 }
         ensures upper_hint { IsBound result.1
             (length self.now.first.unwalked + length self.now.second.unwalked) }

@@ -1,9 +1,8 @@
 //! An iterator over the elements of one set, and then those of another that it lacks.
-ghost use Rattle.std.specs.Prelude.{◌≡◌, ⊤, ◌+◌, IfSome, length};
-ghost use Rattle.std.specs.Iterator.{UpTo, at_most};
+ghost use Rattle.std.specs.Prelude.{◌≡◌, ⊤, ◌+◌, length};
+ghost use Rattle.std.specs.Iterator.{at_most};
 ghost use Rattle.std.specs.Iterator.Runs.{YieldsRefsInOrder, YieldsRefsInReverse};
-ghost use Rattle.std.specs.Iterator.SizeHint.{IsWithinCount};
-ghost use Rattle.vecmap_set.specs.Lazy.{IsBound, JoinsFirst, JoinsLast, joined, union_parts};
+ghost use Rattle.vecmap_set.specs.Lazy.{IsBound, IsHintFor, JoinsFirst, JoinsLast, joined, union_parts};
 
 use super::{Difference, add_bounds};
 use std::alloc::AllocError;
@@ -98,8 +97,7 @@ impl<'a, T: Eq> Iterator for Union<'a, T> {
     /// The upper bound adds the number of elements of the second part that are not yet visited. There is no upper bound
     /// if that sum exceeds `usize::MAX`.
     fn size_hint(&self) -> (usize, Option<usize>)
-        ensures lower { IsWithinCount result.0 (at_most (length (joined T.eq self.now))) }
-        ensures upper { IfSome result.1 (UpTo (at_most (length (joined T.eq self.now)))) }
+        ensures bounds { IsHintFor (length (joined T.eq self.now)) result }
         ensures lower_hint { result.0 ≡ length self.now.first }
         ensures upper_hint { IsBound result.1
             (length self.now.first + length self.now.second.unwalked) }

@@ -1,26 +1,27 @@
 -- An existing section changes by one insertion into its map. A new one is made with its text, and then inserted.
-use Rattle.std.proofs.Common.{◌≡◌, [], ap, option_map, string_bytes, sym, true≢false, refl, ◌∙◌}
+use Rattle.std.proofs.Common.{◌≡◌, [], ap, option_map, string_bytes, refl, ◌∙◌}
+use Rattle.std.proofs.lemmas.Result.{IfOk-weaker, on_err_weaker, on_ok_weaker}
 use Rattle.vecmap.specs.Pairs.{put}
 use Rattle.attr_doc.specs.Names.{same_name}
-use Rattle.attr_doc.proofs.ChangeLemmas.{at_ok, on_err, section_stays, set_new, set_there}
+use Rattle.attr_doc.proofs.ChangeLemmas.{at_ok, section_stays, set_new, set_there}
 use Rattle.attr_doc.proofs.TextLemmas.{has_text, no_text, text_of_none, text_of_some}
 use Rattle.attr_doc.proofs.set.set_text.Goals as goal
 
-pub returns-in_err-old-in-Some-clause-err : goal.returns-in_err-old-in-Some-clause-err
-returns-in_err-old-in-Some-clause-err c =
-    on_err c.from_residual.result (section_stays c.args.sections.now c.args.section c.in-Some.texts.now c.set_in.new.texts c.in-Some.ensures.value (c.in-Some.ensures.found.0 refl) (ap (λ m. m.entries) c.in_err-old-in-Some.ensures.err))
+pub returns-in-Some-clause-err : goal.returns-in-Some-clause-err
+returns-in-Some-clause-err c =
+    on_err_weaker c.set_in.result (λ same. section_stays c.args.sections.now c.args.section c.in-Some.texts.now c.set_in.new.texts c.in-Some.ensures.value (c.in-Some.ensures.found.0 refl) (ap (λ m. m.entries) same)) c.set_in.ensures.err
 
-pub returns-in_err-old-in-Some-clause-succeeds : goal.returns-in_err-old-in-Some-clause-succeeds
-returns-in_err-old-in-Some-clause-succeeds c = λ h.
-    absurd (true≢false (sym (c.in_err-old-in-Some.ensures.succeeds (has_text c.args.sections.now.entries c.args.section c.args.name c.in-Some.texts.now c.in-Some.ensures.value h))))
+pub returns-in-Some-clause-succeeds : goal.returns-in-Some-clause-succeeds
+returns-in-Some-clause-succeeds c = λ h.
+    c.set_in.ensures.succeeds (has_text c.args.sections.now.entries c.args.section c.args.name c.in-Some.texts.now c.in-Some.ensures.value h)
 
-pub returns-in_ok-old-in-Some-clause-sections : goal.returns-in_ok-old-in-Some-clause-sections
-returns-in_ok-old-in-Some-clause-sections c = set_there c.args.sections.now c.args.section c.in-Some.texts.now c.set_in.new.texts c.in-Some.ensures.value (c.in-Some.ensures.found.0 refl) c.args.name c.args.text c.in_ok-old-in-Some.ensures.texts
+pub returns-in-Some-clause-sections : goal.returns-in-Some-clause-sections
+returns-in-Some-clause-sections c =
+    on_ok_weaker c.set_in.result (set_there c.args.sections.now c.args.section c.in-Some.texts.now c.set_in.new.texts c.in-Some.ensures.value (c.in-Some.ensures.found.0 refl) c.args.name c.args.text) c.set_in.ensures.texts
 
-pub returns-in_ok-old-in-Some-clause-old : goal.returns-in_ok-old-in-Some-clause-old
-returns-in_ok-old-in-Some-clause-old c =
-    ap (option_map string_bytes) c.in_ok-old-in-Some.ensures.old
-    ∙ text_of_some c.args.sections.now.entries c.args.section c.args.name c.in-Some.texts.now c.in-Some.ensures.value
+pub returns-in-Some-clause-old : goal.returns-in-Some-clause-old
+returns-in-Some-clause-old c =
+    IfOk-weaker c.set_in.result _ _ (λ old e. ap (option_map string_bytes) e ∙ text_of_some c.args.sections.now.entries c.args.section c.args.name c.in-Some.texts.now c.in-Some.ensures.value) c.set_in.ensures.old
 
 pub returns-then-is_err-clause-succeeds : goal.returns-then-is_err-clause-succeeds
 returns-then-is_err-clause-succeeds c = no_text c.args.sections.now.entries c.args.section c.args.name c.in-None.ensures.value

@@ -1,6 +1,6 @@
 -- The loop keeps `KeptSoFar`: the front has the kept items, as they were written. Each call extends it by one item.
-use Rattle.std.specs.Prelude.{◌≡◌, ◌<◌, ◌≤◌, false, length, true}
-use Rattle.std.proofs.Common.{arith, get_or, subst, ◌∙◌}
+use Rattle.std.specs.Prelude.{◌≡◌, ◌<◌, ◌≤◌, length}
+use Rattle.std.proofs.Common.{arith, get_or, ◌∙◌}
 use Rattle.std.proofs.lemmas.List.{length-set}
 use Rattle.vecmap_base.proofs.KeptLemmas.{callable_here, kept_all, kept_not, kept_one}
 use Rattle.vecmap_base.proofs.retain.retain.Goals as goal
@@ -29,17 +29,15 @@ loop-i-preserved g c =
     let l : i < length xs = omega (arith, c.loop-i-test.true, c.len-i-end.ensures, c.args.items.now.ok.0) in
     elim c.if-keeps.branch [
       | then-keeps w ↦
-          let call : R f p true y h = subst (λ b. R f p b y h) w.if-keeps.true c.keeps.ensures in
           let zs = w.swap.new.self.items in
           let long : length zs ≡ length ys = omega (arith, w.swap.new.self.ok.0, w.swap.ensures.len, length-set ys i y, c.loop-i.items.ok.0) in
           rw (w.items-is, w.kept-is) (record {
-            kept = kept_one R c.args.asked f h xs ys k i p y so_far l at zs call long w.swap.ensures.by_index;
+            kept = kept_one R c.args.asked f h xs ys k i p y so_far l at zs w.if-keeps.true c.keeps.ensures long w.swap.ensures.by_index;
             capacity = w.swap.ensures.capacity ∙ c.loop-i.invariant.capacity;
           })
       | else-keeps w ↦
-          let call : R f p false y h = subst (λ b. R f p b y h) w.if-keeps.false c.keeps.ensures in
           rw (w.items-is, w.kept-is) (record {
-            kept = kept_not R c.args.asked f h xs ys k i p y so_far l at call;
+            kept = kept_not R c.args.asked f h xs ys k i p y so_far l at w.if-keeps.false c.keeps.ensures;
             capacity = c.loop-i.invariant.capacity;
           })
     ]

@@ -1,5 +1,10 @@
 -- The idea: the call returns what `get_index_mut` at the index 0 returns.
-use Rattle.vecmap_map.proofs.LentLemmas.Steps.{refl, lit<, w64, [], ◌∷◌, a_type, named, Val, vptr, inst_fn, SProp, id⊢, ftrue, ‵, raw, ◌⊛◌, some, later, ◌$◌, ◌∵◌, !, qed, by, move, keep, drop, split, join, fjoin, pick, await, use1, rewrite, enter, lit, addr, stop, no_more, and_then, returns, alloc_all, pass_all, free_all, look_at, get, through, sets, lands_as, fact, ◌⊑◌, tables, no, RattleType, Is, type_at, plain, RefMutOf, usize, MutBor, MutRef, mut_vals, mut_Tells, uint_vals, uint_Makes, param, layouts, nothing, heard, owned, calls_at, Lasts, lasts, at_exit, on_entry, alive, Vals, triple_of, framed, Stays, stay_dropped, walk_of, Goes-dropped, proved, leaves}
+use Rattle.vecmap_map.proofs.LentLemmas.Steps
+use Steps.{refl, lit<, w64, [], ◌∷◌, a_type, named, Val, vptr, inst_fn}
+use Steps.{SProp, id⊢, ftrue, ‵, raw, ◌⊛◌, some, later, ◌$◌, ◌∵◌, !, qed, by, move, keep, drop, split, join, fjoin, pick, await, use1, rewrite}
+use Steps.{enter, lit, addr, stop, no_more, and_then, returns, alloc_all, pass_all, free_all, look_at, get, through, sets, lands_as, proved, leaves}
+use Steps.{no, RattleType, Is, type_at, plain, RefMutOf, usize, MutBor, mut_vals, mut_Tells, MutRef, uint_vals, uint_Makes, param, layouts, nothing, heard, owned}
+use Steps.{fact, ◌⊑◌, tables, calls_at, Lasts, lasts, at_exit, on_entry, alive, Vals, triple_of, framed, Stays, stay_dropped, walk_of, Goes-dropped}
 use Rattle.vecmap_map.proofs.LentLemmas.Parts.{beside_facts, by_ends}
 use Rattle.vecmap_map.specs.contracts.VecMap.{the_row}
 use Rattle.vecmap_map.specs.contracts.VecMap.get_index_mut as A

@@ -1,7 +1,12 @@
 -- The idea: `pair_at_mut` returns a reference to the pair at the index, and `key_and_value` splits it.
 -- The clause `writes_back` is worth a proof by hand: the others say nothing of the map after the loan, so a body that
 -- changes another pair meets them.
-use Rattle.vecmap_map.proofs.LentLemmas.Steps.{◌≡◌, ℕ, ◌↔◌, ◌<◌, refl, sym, ap, ◌∙◌, subst, lit<, w64, List, [], ◌∷◌, ◌++◌, Option, Some, None, IsSome, length, option_map, slice_get, a_type, named, Val, vptr, vstruct, vcons, vnil, of_list, inst_fn, SProp, emp, id⊢, ftrue, ‵, raw, ◌⊛◌, some, later, at_ret, ◌$◌, ◌∵◌, !, qed, by, move, keep, drop, split, join, fjoin, pick, await, use0, use1, use2, rewrite, live, vrt, in_variant, whole, agg, enter, of_opd, lit, addr, stop, fld, no_more, and_then, first, switches_on, exec, returns, alloc_all, pass_all, free_all, look_at, get, get_in, get_tag, through, sets, sets_last, lands_as, env, fact, fact_i, ◌⊑◌, tables, yes, no, RattleType, Is, shows, type_at, plain, RefMutOf, usize, Bor, MutBor, mut_vals, mut_Tells, uint_vals, uint_Tells, param, layouts, nothing, only, peeks, heard, Tuple, calls_at, Lasts, lasts, on_entry, alive, Vals, triple_of, framed, Stays, stay_dropped, walk_of, Goes-dropped, proved, leaves, after, head, arm_body, option_copied_mut}
+use Rattle.vecmap_map.proofs.LentLemmas.Steps
+use Steps.{◌≡◌, ℕ, ◌↔◌, ◌<◌, refl, sym, ap, ◌∙◌, subst, lit<, w64, List, [], ◌∷◌, ◌++◌, Option, Some, None, IsSome, length, option_map, slice_get, a_type, named, Val, vptr, vstruct, vcons, vnil, of_list, inst_fn, option_copied_mut}
+use Steps.{SProp, emp, id⊢, ftrue, ‵, raw, ◌⊛◌, some, later, at_ret, ◌$◌, ◌∵◌, !, qed, by, move, keep, drop, split, join, fjoin, pick, await, use0, use1, use2, rewrite}
+use Steps.{live, vrt, in_variant, whole, agg, enter, of_opd, lit, addr, stop, fld, no_more, and_then, first, switches_on, exec, returns, alloc_all, pass_all, free_all, look_at, get, get_in, get_tag, through, sets, sets_last, lands_as, env, proved, leaves, after, head, arm_body}
+use Steps.{yes, no, RattleType, Is, shows, type_at, plain, RefMutOf, usize, Bor, MutBor, mut_vals, mut_Tells, uint_vals, uint_Tells, param, layouts, nothing, only, peeks, heard, Tuple}
+use Steps.{fact, fact_i, ◌⊑◌, tables, calls_at, Lasts, lasts, on_entry, alive, Vals, triple_of, framed, Stays, stay_dropped, walk_of, Goes-dropped}
 use Rattle.vecmap_map.proofs.LentLemmas.Parts.{then_runs, beside_facts, by_cases, some_of, none_of, value_then, nothing_then}
 use Rattle.vecmap_map.specs.Lends.{lends_pair_if_at, lends_value, lends_beside_key}
 use Rattle.vecmap_map.specs.contracts.VecMap.{the_row}

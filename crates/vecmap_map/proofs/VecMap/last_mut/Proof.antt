@@ -1,5 +1,10 @@
 -- The idea: the call returns what `get_index_mut` at the last index returns.
-use Rattle.vecmap_map.proofs.LentLemmas.Steps.{◌≡◌, ℕ, ◌↔◌, ◌<◌, ◌-◌, refl, ap, ◌∙◌, lit<, w64, List, [], ◌∷◌, ◌++◌, IsSome, length, option_map, slice_get, arith, a_type, named, Val, vptr, vstruct, of_list, inst_fn, SProp, emp, id⊢, ftrue, ‵, raw, ◌⊛◌, some, later, ◌$◌, ◌∵◌, !, qed, by, move, keep, drop, split, join, fjoin, pick, await, use0, use1, rewrite, whole, sub, enter, of_opd, addr, stop, fld, no_more, and_then, returns, alloc_all, pass_all, free_all, look_at, get, get_in, through, sets, lands_as, fact, fact_i, ◌⊑◌, tables, no, RattleType, Is, shows, type_at, plain, RefMutOf, usize, MutBor, mut_vals, mut_Tells, uint_vals, param, layouts, nothing, peeks, heard, calls_at, Lasts, lasts, on_entry, alive, Vals, triple_of, framed, Stays, stay_dropped, walk_of, Goes-dropped, proved, leaves}
+use Rattle.vecmap_map.proofs.LentLemmas.Steps
+use Steps.{◌≡◌, ℕ, ◌↔◌, ◌<◌, refl, ap, ◌∙◌, lit<, w64, List, [], ◌∷◌, ◌++◌, IsSome, length, option_map, slice_get, ◌-◌, arith, a_type, named, Val, vptr, vstruct, of_list, inst_fn}
+use Steps.{SProp, emp, id⊢, ftrue, ‵, raw, ◌⊛◌, some, later, ◌$◌, ◌∵◌, !, qed, by, move, keep, drop, split, join, fjoin, pick, await, use0, use1, rewrite}
+use Steps.{whole, sub, enter, of_opd, addr, stop, fld, no_more, and_then, returns, alloc_all, pass_all, free_all, look_at, get, get_in, through, sets, lands_as, proved, leaves}
+use Steps.{no, RattleType, Is, shows, type_at, plain, RefMutOf, usize, MutBor, mut_vals, mut_Tells, uint_vals, param, layouts, nothing, peeks, heard}
+use Steps.{fact, fact_i, ◌⊑◌, tables, calls_at, Lasts, lasts, on_entry, alive, Vals, triple_of, framed, Stays, stay_dropped, walk_of, Goes-dropped}
 use Rattle.vecmap_map.proofs.LentLemmas.Parts.{beside_facts, by_ends, by_parts}
 use Rattle.vecmap_map.specs.Lends.{lends_beside_key}
 use Rattle.vecmap_map.specs.contracts.VecMap.{the_row}

@@ -1,6 +1,11 @@
 -- The idea: the `&mut` to the pair is split into a `&mut` to each part.
 -- The clause `writes_back` is worth a proof by hand: what `get_index_mut2` and `get_full_mut2` write back follows from it.
-use Rattle.vecmap_map.proofs.LentLemmas.Steps.{◌≡◌, refl, [], ◌∷◌, a_type, named, Val, vptr, inst_fn, SProp, ex, emp, id⊢, ftrue, fsep, GName, ‵, raw, ◌⊛◌, some, later, ◌$◌, ◌∵◌, !, qed, by, move, keep, split, split3, join, fjoin, pick, await, use0, use1, use2, agg, enter, addr, stop, fld, no_more, and_then, returns, alloc_all, pass_all, free_all, look_at, get, through, sets, fact, fact_i, tables, no, RattleType, plain, RefMutOf, MutBor, MutRef, mut_vals, mut_Tells, param, layouts, nothing, Vals, Stays, stay_dropped, walk_of, Goes-dropped, proved, leaves, flft}
+use Rattle.vecmap_map.proofs.LentLemmas.Steps
+use Steps.{◌≡◌, refl, [], ◌∷◌, a_type, named, Val, vptr, inst_fn}
+use Steps.{SProp, emp, id⊢, ex, ftrue, flft, fsep, GName, ‵, raw, ◌⊛◌, some, later, ◌$◌, ◌∵◌, !, qed, by, move, keep, split, join, fjoin, pick, await, use0, use1, use2, split3}
+use Steps.{agg, enter, addr, stop, fld, no_more, and_then, returns, alloc_all, pass_all, free_all, look_at, get, through, sets, proved, leaves}
+use Steps.{no, RattleType, plain, RefMutOf, MutBor, mut_vals, mut_Tells, MutRef, param, layouts, nothing}
+use Steps.{fact, fact_i, tables, Vals, Stays, stay_dropped, walk_of, Goes-dropped}
 use Rattle.vecmap_map.proofs.LentLemmas.Both.{P, Both, parts_of, both_val, cuts, Cut}
 use Rattle.vecmap_map.specs.Lends.{lends_parts}
 use Rattle.vecmap_map.specs.contracts.mutable_keys.parts_mut.{ended, clauses}

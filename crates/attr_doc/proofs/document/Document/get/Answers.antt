@@ -1,19 +1,22 @@
-use Rattle.std.proofs.Common.{Some, ap, option_map, string_bytes, ◌∙◌}
+use Rattle.std.proofs.Common.{Some, ap, option_copied, option_map, string_bytes, ◌∙◌}
 use Rattle.attr_doc.specs.Documents.{text_of}
 use Rattle.attr_doc.proofs.TextLemmas.{text_of_none, text_of_some}
 use Rattle.attr_doc.proofs.document.Document.get.Goals as goal
 
-pub returns-in-Some-get : goal.returns-in-Some-get
-returns-in-Some-get c =
-    ap (λ x. Some x) c.as_str.ensures.value ∙ ap (option_map string_bytes) c.in-Some-get.ensures
-    ∙ text_of_some c.self.inside.sections.entries c.args.section.now c.args.name.now c.in-Some.texts.now c.in-Some.ensures
+pub returns-in_err-texts : goal.returns-in_err-texts
+returns-in_err-texts c =
+    ap option_copied c.from_residual.ensures
+    ∙ text_of_none c.self.inside.sections.entries c.args.section.now c.args.name.now c.in_err-texts.ensures
     ∙ ap (λ d. text_of d c.args.section.now c.args.name.now) c.self.view_is
 
-pub returns-in-None-get : goal.returns-in-None-get
-returns-in-None-get c =
-    ap (option_map string_bytes) c.in-None-get.ensures
-    ∙ text_of_some c.self.inside.sections.entries c.args.section.now c.args.name.now c.in-Some.texts.now c.in-Some.ensures
+pub returns-in_err-text : goal.returns-in_err-text
+returns-in_err-text c =
+    ap option_copied c.from_residual-in_err-text.ensures ∙ ap (option_map string_bytes) c.in_err-text.ensures
+    ∙ text_of_some c.self.inside.sections.entries c.args.section.now c.args.name.now c.in_ok-texts.texts.now c.in_ok-texts.ensures
     ∙ ap (λ d. text_of d c.args.section.now c.args.name.now) c.self.view_is
 
-pub returns-in-None : goal.returns-in-None
-returns-in-None c = text_of_none c.self.inside.sections.entries c.args.section.now c.args.name.now c.in-None.ensures ∙ ap (λ d. text_of d c.args.section.now c.args.name.now) c.self.view_is
+pub returns : goal.returns
+returns c =
+    ap (λ x. Some x) c.as_str.ensures.value ∙ ap (option_map string_bytes) c.in_ok-text.ensures
+    ∙ text_of_some c.self.inside.sections.entries c.args.section.now c.args.name.now c.in_ok-texts.texts.now c.in_ok-texts.ensures
+    ∙ ap (λ d. text_of d c.args.section.now c.args.name.now) c.self.view_is

@@ -2,7 +2,12 @@
 -- index, and `parts_mut` splits it.
 -- The clause `writes_back` is worth a proof by hand: the others say nothing of the map after the loan, so a body that
 -- changes another pair meets them.
-use Rattle.vecmap_map.proofs.LentLemmas.Steps.{Bool, done, ◌≡◌, ℕ, ◌<◌, refl, sym, ap, ◌∙◌, subst, lit<, w64, List, [], ◌∷◌, ◌++◌, Option, Some, None, IfSome, length, option_map, slice_get, a_type, named, dcons, dnil, Val, vint, vptr, vstruct, vcons, vnil, of_list, inst_fn, SProp, sep, emp, id⊢, ftrue, flft, sem, ‵, raw, ◌⊛◌, some, later, at_ret, ◌$◌, ◌∵◌, !, qed, by, move, keep, drop, split, split3, join, fjoin, fsplit3, pick, await, use0, use1, live, vrt, in_variant, whole, sub, agg, name_done, enter, of_opd, lit, addr, stop, fld, no_more, and_then, first, switches_on, exec, returns, alloc_all, pass_all, free_all, look_at, get, get_in, get_tag, through, sets, sets_last, lands_as, env, fact, fact_i, Lfts, Shares, ◌⊑◌, tables, no, RattleType, type_at, plain, RefMutOf, usize, MutBor, mut_vals, mut_Tells, uint_vals, param, bounded, nothing, only, heard, calls_at, Lasts, lasts, on_entry, alive, Vals, triple_of, framed, Stays, stay_dropped, walk_of, Goes-dropped, proved, leaves, after, head, arm_body, option_and_then, feq_i, feq_l, fjoin3, use2, MutRef, Tuple}
+use Rattle.vecmap_map.proofs.LentLemmas.Steps
+use Steps.{◌≡◌, ℕ, ◌<◌, refl, sym, ap, ◌∙◌, subst, lit<, w64, List, [], ◌∷◌, ◌++◌, Option, Some, None, length, option_map, slice_get, IfSome, Bool, a_type, named, dcons, dnil, Val, vptr, vstruct, vcons, vnil, of_list, vint, inst_fn, option_and_then}
+use Steps.{SProp, emp, id⊢, sep, ftrue, flft, ‵, raw, ◌⊛◌, some, later, at_ret, ◌$◌, ◌∵◌, !, qed, by, move, keep, drop, split, join, fjoin, pick, await, use0, use1, use2, split3, fsplit3, done, feq_i, feq_l, fjoin3, sem, name_done}
+use Steps.{live, vrt, in_variant, whole, agg, sub, enter, of_opd, lit, addr, stop, fld, no_more, and_then, first, switches_on, exec, returns, alloc_all, pass_all, free_all, look_at, get, get_in, get_tag, through, sets, sets_last, lands_as, env, proved, leaves, after, head, arm_body}
+use Steps.{no, RattleType, type_at, plain, RefMutOf, usize, MutBor, mut_vals, mut_Tells, MutRef, uint_vals, param, bounded, nothing, only, heard, Tuple}
+use Steps.{fact, fact_i, ◌⊑◌, tables, calls_at, Lasts, lasts, on_entry, alive, Vals, triple_of, framed, Stays, stay_dropped, walk_of, Goes-dropped, Lfts, Shares}
 use denote.Param.{copied}
 use denote.Param.Laws.{copied_laws}
 use Rattle.vecmap_base.specs.Pairs.{index_by, lookup_pair_by}

@@ -1,13 +1,7 @@
 -- The idea: once the remaining elements are reversed, the last element of the vector is the first of the drain.
-use Rattle.std.specs.Prelude.{length, refl}
-use Rattle.std.proofs.Common.{sym, ap, ◌∙◌, arith}
-use Rattle.vecmap_base.proofs.DrainLemmas.{first_pulled, none_left}
+use Rattle.std.proofs.Common.{sym, ◌∙◌, arith}
+use Rattle.vecmap_base.proofs.DrainLemmas.{first_pulled}
 use Rattle.vecmap_set.proofs.drain.DrainIterator.next.Goals as goal
-
-pub returns-then-len-self-clause-steps : goal.returns-then-len-self-clause-steps
-returns-then-len-self-clause-steps g c =
-    let d = c.args.self.now in
-    (none_left d.reversed d.set.now.elements d.keep (omega (arith, c.len.ensures.count, c.if-len-self.true)), refl)
 
 pub returns-clause-steps : goal.returns-clause-steps
 returns-clause-steps g c =
@@ -16,7 +10,3 @@ returns-clause-steps g c =
     let took = c.take_last.ensures in
     let pulled = first_pulled d.reversed d.set.now.elements c.take_last.new.self.elements c.take_last.result d.keep ordered.ordered (omega (arith, ordered.count, ordered.keep, c.len.ensures.count, c.if-len-self.false)) took.elements in
     (sym ordered.rest ∙ pulled.0, (ordered.keeps.0, pulled.1 ∙ ordered.keeps.1, took.capacity ∙ ordered.keeps.2))
-
-pub returns-clause-goes : goal.returns-clause-goes
-returns-clause-goes g c =
-    record { on = λ _. (tt, tt, omega (arith, ap length (returns-clause-steps g c).0)); keeps = tt; rests = λ _. tt }

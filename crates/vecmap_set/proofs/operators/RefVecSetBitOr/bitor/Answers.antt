@@ -1,21 +1,16 @@
 -- The idea: the clones are those of the list that the iterator yields, and clones of its distinct elements are
 -- distinct.
-use Rattle.std.proofs.Common.{refl}
-use Rattle.vecmap_base.specs.Clones.{AreClones}
 use Rattle.vecmap_base.proofs.EqualityLemmas.Relations.{distinct_union}
-use Rattle.vecmap_set.specs.{Lazy.JoinsFirst, Lazy.joined, Lazy.union_parts, Operators.union_of}
-use Rattle.vecmap_set.proofs.{OperatorLemmas.operator_clones, SetLemmas.distinct_clones_of}
+use Rattle.vecmap_set.specs.Lazy.{JoinsFirst, joined, union_parts}
+use Rattle.vecmap_set.proofs.OperatorLemmas.{operator_clones}
 use Rattle.vecmap_set.proofs.operators.RefVecSetBitOr.bitor.Goals as goal
 
 pub returns : goal.returns
 returns g c =
     let eq = g.T.PartialEq.eq in
-    let a = c.self.inside.items.items in
-    let b = c.other.inside.items.items in
-    let made = c.in_ok-clones_of.field-0.items in
-    let same = rw (← c.self.view_is, ← c.other.view_is) at c.requires in
-    let clones : AreClones g.T.Clone.is_clone (union_of eq a b) made = operator_clones (JoinsFirst eq) (joined eq) (λ s r t h. h.0) g.T.Clone.is_clone union_parts (union_of eq) (λ x y. refl) _ a b _ _ _ c.over-all.ensures.rest c.deref.ensures.value c.deref-2.ensures.value c.in_ok-clones_of.ensures in
-    rw (← c.self.view_is, ← c.other.view_is) (clones, distinct_clones_of eq g.met.T.Eq.laws g.T.Clone.is_clone (union_of eq a b) made same clones (distinct_union eq g.met.T.Eq.laws a b c.self.invariant c.other.invariant))
+    let laws = g.met.T.Eq.laws in
+    operator_clones (JoinsFirst eq) (joined eq) (λ s r t h. h.0) laws _ union_parts (distinct_union eq laws) _
+    c.over-all.ensures.rest c.deref.ensures.value c.deref-2.ensures.value c.self.view_is c.other.view_is c.self.invariant c.other.invariant c.requires c.in_ok-clones_of.ensures
 
 pub invariant_of-result : goal.invariant_of-result
 invariant_of-result g c = (returns g c).1
