@@ -137,12 +137,11 @@ fn remove_and_shift<T>(items: &mut Vec<T>, index: usize) -> T
 
 // Puts `item` at the index before `end`, each item from there down to `from` at the index before its own, and returns
 // the item at `from`. If `from` is `end`, `item` is returned.
-fn carry_left<T>(items: &mut Vec<T>, from: usize, end: usize, item: T) -> T
+fn carry_left<T>(items: &mut [T], from: usize, end: usize, item: T) -> T
     requires order { from ≤ end }
-    requires within { end ≤ length items.old.items }
-    ensures items { insert items.new.items from result ≡ insert items.old.items end item }
-    ensures count { length items.new.items ≡ length items.old.items }
-    ensures capacity { vec_capacity items.new ≡ vec_capacity items.old }
+    requires within { end ≤ length items.old }
+    ensures items { insert items.new from result ≡ insert items.old end item }
+    ensures count { length items.new ≡ length items.old }
 {
     let mut carried = item;
     for step in 0..end - from {
@@ -153,12 +152,11 @@ fn carry_left<T>(items: &mut Vec<T>, from: usize, end: usize, item: T) -> T
 
 // Puts `item` at `from`, each item from there up to `end` at the index after its own, and returns the one before `end`.
 // If `from` is `end`, `item` is returned.
-fn carry_right<T>(items: &mut Vec<T>, from: usize, end: usize, item: T) -> T
+fn carry_right<T>(items: &mut [T], from: usize, end: usize, item: T) -> T
     requires order { from ≤ end }
-    requires within { end ≤ length items.old.items }
-    ensures items { insert items.new.items end result ≡ insert items.old.items from item }
-    ensures count { length items.new.items ≡ length items.old.items }
-    ensures capacity { vec_capacity items.new ≡ vec_capacity items.old }
+    requires within { end ≤ length items.old }
+    ensures items { insert items.new end result ≡ insert items.old from item }
+    ensures count { length items.new ≡ length items.old }
 {
     let mut carried = item;
     for at in from..end {
