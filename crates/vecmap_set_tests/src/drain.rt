@@ -74,15 +74,14 @@ fn a_range_may_have_any_ends(rt: HostRuntime) {
 fn over_drains_from_one_index_to_another(rt: HostRuntime) {
     let ends = [End::Front, End::Back, End::Back, End::Front];
     for (start, end, taken, left) in [
-        (1, 4, [6, 7, 8], [5, 9, 10]),
-        (3, 6, [8, 9, 10], [5, 6, 7]),
+        (1, 4, [6, 7, 8].as_slice(), [5, 9, 10].as_slice()),
+        (3, 6, [8, 9, 10].as_slice(), [5, 6, 7].as_slice()),
     ] {
         let mut set = granted(&rt, set_of(rt.alloc(), &SIX));
         let room = set.capacity();
         assert!(rt; start <= end && end <= set.len());
-        let items = Drain::over(&mut set, start, end);
-        check!(rt; pulls_as_list(items, |item| item, &taken, &ends));
-        assert_list(&rt, set.as_slice(), &left);
+        check!(rt; pulls_as_list(Drain::over(&mut set, start, end), |item| item, taken, &ends));
+        assert_list(&rt, set.as_slice(), left);
         assert_is(&rt, set.capacity(), room);
     }
 }
