@@ -1,5 +1,5 @@
-//! Tests of maps. Each file is named for a module of `vecmap_map`, and tests each call of that module: its whole result,
-//! and the whole list that it leaves. These files have further tests by topic:
+//! Tests of maps. Each file is named for a module of `vecmap_map`, and tests each call of that module: its whole
+//! result, and the whole list that it leaves. These files have further tests by topic:
 //!
 //! - `by_reference`: loops over references to a map.
 //! - `clones`: keys and values whose clones are refused.

@@ -1,5 +1,5 @@
-//! The trait `Extend` of sets, by each kind of item, and as `try_collect` calls it. `bulk` compares it with the calls of
-//! the set.
+//! The trait `Extend` of sets, by each kind of item, and as `try_collect` calls it. `bulk` compares it with the calls
+//! of the set.
 use crate::checks::{assert_granted, assert_items, assert_list, assert_refused, granted};
 use std::alloc::AllocError;
 use vecmap::VecSet;
