@@ -3,12 +3,13 @@
 //! Each call has a comment, a contract and an example where it is defined. These are the calls by topic, in the order
 //! of the Rust crate's documentation, with their files in `crates/vecmap_map/src`:
 //!
-//! - creation and taking apart: `new`, `with_capacity`, `as_slice`, `into_vec`, `clone`, `allocator` (`make.rt`); the
-//!   trait `Clone` (`cloning.rt`)
+//! - creation and taking apart: `new`, `with_capacity`, `as_slice`, `into_vec`, `allocator` (`make.rt`); `clone` and
+//!   the trait `Clone` (`cloning.rt`)
 //! - size and capacity: `len`, `is_empty`, `capacity`, `reserve`, `reserve_exact`, `try_reserve`, `try_reserve_exact`,
 //!   `shrink_to_fit`, `shrink_to` (`room.rt`)
-//! - removal: `clear`, `truncate`, `split_off`, `drain`, `retain`, `pop`, `remove`, `remove_entry`, `remove_index`,
-//!   `swap_remove`, `swap_remove_entry`, `swap_remove_index`, `remove_str` (`removal.rt`)
+//! - removal: `clear`, `truncate`, `split_off`, `retain`, `pop`, `remove`, `remove_entry`, `remove_index`,
+//!   `swap_remove`, `swap_remove_entry`, `swap_remove_index`, `remove_str` (`removal.rt`); `drain` and its iterator
+//!   `Drain` (`drain.rt`)
 //! - order: `reverse`, `swap_indices`, `sort_keys`, `sort_by`, `sort_by_cached_key`, `sort_unstable_keys`,
 //!   `sort_unstable_by` (`order.rt`)
 //! - binary searches: `binary_search_keys`, `binary_search_by`, `binary_search_by_key`, `partition_point` (`search.rt`)
@@ -23,7 +24,7 @@
 //! - entries: `entry`, `Entry` (`entry.rt`), `OccupiedEntry` (`entry/occupied.rt`), `VacantEntry` (`entry/vacant.rt`)
 //! - iteration: `iter`, `iter_mut`, `keys`, `values`, `values_mut`, `into_keys`, `into_values`, loops (`iteration.rt`);
 //!   the iterators themselves (`iter/pairs.rt`, `iter/keys.rt`, `iter/values.rt` and `iter_mut.rt` of
-//!   `crates/vecmap_base/src`); `Drain` (`drain.rt`)
+//!   `crates/vecmap_base/src`)
 //! - mutable references to keys: `MutableKeys`, with `get_full_mut2`, `get_index_mut2`, `retain2`, `iter_mut2`,
 //!   `keys_mut` (`mutable_keys.rt`)
 //! - `==` (`equality.rt`), `Debug` (`formatting.rt`), laws for proofs (`laws.rt`, `laws/collecting.rt`,

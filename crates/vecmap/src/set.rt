@@ -3,12 +3,13 @@
 //! Each call has a comment, a contract and an example where it is defined. These are the calls by topic, in the order
 //! of the Rust crate's documentation, with their files in `crates/vecmap_set/src`:
 //!
-//! - creation and taking apart: `new`, `with_capacity`, `clone`, `as_slice`, `into_vec`, `allocator` (`make.rt`); the
-//!   trait `Clone` (`cloning.rt`)
+//! - creation and taking apart: `new`, `with_capacity`, `as_slice`, `into_vec`, `allocator` (`make.rt`); `clone` and
+//!   the trait `Clone` (`cloning.rt`)
 //! - size and capacity: `len`, `is_empty`, `capacity`, `reserve`, `reserve_exact`, `try_reserve`, `try_reserve_exact`,
 //!   `shrink_to_fit`, `shrink_to` (`room.rt`)
-//! - removal: `clear`, `truncate`, `split_off`, `drain`, `retain`, `pop`, `remove`, `remove_index`, `swap_remove`,
-//!   `swap_remove_index`, `take`, `swap_take`, `remove_str` (`removal.rt`)
+//! - removal: `clear`, `truncate`, `split_off`, `retain`, `pop`, `remove`, `remove_index`, `swap_remove`,
+//!   `swap_remove_index`, `take`, `swap_take`, `remove_str` (`removal.rt`); `drain` and its iterator `Drain`
+//!   (`drain.rt`)
 //! - order: `reverse`, `swap_indices`, `sort`, `sort_by`, `sort_by_cached_key`, `sort_unstable`, `sort_unstable_by`
 //!   (`order.rt`)
 //! - binary searches: `binary_search`, `binary_search_by`, `binary_search_by_key`, `partition_point` (`search.rt`)
@@ -20,8 +21,7 @@
 //!   (`conversion.rt`)
 //! - two sets: `is_disjoint`, `is_subset`, `is_superset`, `==` (`equality.rt`); `difference`, `intersection`,
 //!   `symmetric_difference`, `union` (`lazy.rt`) with their iterators (`lazy/`); `&`, `|`, `^`, `-` (`operators.rt`)
-//! - iteration: `iter`, loops (`iteration.rt`); the iterators themselves (`crates/vecmap_base/src/items.rt`); `Drain`
-//!   (`drain.rt`)
+//! - iteration: `iter`, loops (`iteration.rt`); the iterators themselves (`crates/vecmap_base/src/items.rt`)
 //! - `Debug` (`formatting.rt`), laws for proofs (`laws.rt`, `laws/additions.rt`, `laws/algebra.rt`,
 //!   `laws/collecting.rt`, `laws/finding.rt`, `laws/members.rt`, `laws/queries.rt`, `laws/retaining.rt`)
 pub use vecmap_base::items::{IntoIter, Iter};

@@ -1,6 +1,41 @@
-//! The trait `Clone` of a map, for generic code, derives and maps in maps.
+//! Clones of a map, by a call and by the trait `Clone`, for generic code, derives and maps in maps.
+ghost use Rattle.std.specs.Prelude.{IfOk};
+ghost use Rattle.vecmap_map.specs.MapBulk.{ArePairClones};
+
 use crate::VecMap;
 use std::alloc::AllocError;
+
+impl<K, V> VecMap<K, V> {
+    /// Returns a map of clones of the pairs, in order.
+    ///
+    /// # Errors
+    ///
+    /// [`AllocError`] if the allocator refuses the request, or if the clone of a key or of a value is refused; no map
+    /// is created.
+    ///
+    /// # Complexity
+    ///
+    /// One clone of each key and of each value, one allocation for the pairs, and no comparisons.
+    ///
+    /// # Examples
+    ///
+    /// ```
+    /// let map = vecmap!(alloc; 'a' => 1, 'b' => 2);
+    /// let mut copy = map.clone()?;
+    /// copy.insert('c', 3)?;
+    /// (map.len(), copy.len()) // (2, 3)
+    /// ```
+    pub fn clone(&self) -> Result<VecMap<K, V>, AllocError>
+    where
+        K: Clone,
+        V: Clone,
+        ensures { IfOk result (λ map. ArePairClones K.is_clone V.is_clone self.now.entries map.entries) }
+    {
+        Ok(VecMap {
+            pairs: self.to_vec()?,
+        })
+    }
+}
 
 /// Clones a map pair by pair, in order, like the inherent [`VecMap::clone`].
 ///
@@ -24,8 +59,6 @@ use std::alloc::AllocError;
 /// (rooms.get(&'a').map(VecMap::len), copy.get(&'a').map(VecMap::len)) // (Some(1), Some(2))
 /// ```
 impl<K: Clone, V: Clone> Clone for VecMap<K, V> {
-    ghost use Rattle.vecmap_map.specs.MapBulk.{ArePairClones};
-
     ghost is_clone = { λ map copy. ArePairClones K.is_clone V.is_clone map.entries copy.entries };
 
     fn clone(&self) -> Result<VecMap<K, V>, AllocError> {

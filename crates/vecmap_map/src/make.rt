@@ -1,6 +1,5 @@
 //! Calls that create a map, and calls that return its slice, its vector or its allocator.
 ghost use Rattle.std.specs.Prelude.{◌≡◌, ◌≤◌, IfOk, IsOk, [], vec_capacity};
-ghost use Rattle.vecmap_map.specs.MapBulk.{ArePairClones};
 
 use crate::VecMap;
 use std::alloc::{AllocError, Global};
@@ -86,36 +85,6 @@ impl<K, V> VecMap<K, V> {
     {
         let VecMap { pairs } = self;
         pairs
-    }
-
-    /// Returns a map of clones of the pairs, in order.
-    ///
-    /// # Errors
-    ///
-    /// [`AllocError`] if the allocator refuses the request, or if the clone of a key or of a value is refused; no map
-    /// is created.
-    ///
-    /// # Complexity
-    ///
-    /// One clone of each key and of each value, one allocation for the pairs, and no comparisons.
-    ///
-    /// # Examples
-    ///
-    /// ```
-    /// let map = vecmap!(alloc; 'a' => 1, 'b' => 2);
-    /// let mut copy = map.clone()?;
-    /// copy.insert('c', 3)?;
-    /// (map.len(), copy.len()) // (2, 3)
-    /// ```
-    pub fn clone(&self) -> Result<VecMap<K, V>, AllocError>
-    where
-        K: Clone,
-        V: Clone,
-        ensures { IfOk result (λ map. ArePairClones K.is_clone V.is_clone self.now.entries map.entries) }
-    {
-        Ok(VecMap {
-            pairs: self.to_vec()?,
-        })
     }
 
     /// Returns the allocator of the map.

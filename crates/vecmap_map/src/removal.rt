@@ -1,19 +1,12 @@
 //! Removal of pairs.
-ghost use Rattle.std.specs.Prelude.{◌≡◌, ◌-◌, ◌<◌, ◌≤◌, ◌^◌, IfOk, IsOk, OnErr, OnOk, Some, String, [], drop, length, remove, slice_get, take};
-ghost use Rattle.std.specs.Iterator.Runs.{YieldsInOrder, YieldsInReverse};
-ghost use Rattle.vecmap_base.specs.Drain.{KeepsAlong};
+ghost use Rattle.std.specs.Prelude.{◌≡◌, ◌-◌, ◌<◌, ◌≤◌, IfOk, IsOk, OnErr, OnOk, Some, String, [], drop, length, remove, slice_get, take};
 ghost use Rattle.vecmap_base.specs.Items.{swap_without};
 ghost use Rattle.vecmap_base.specs.Asked.{CallableOnEach, CallsAtPair, TakesPairAt};
 ghost use Rattle.vecmap_base.specs.Kept.{Kept};
 ghost use Rattle.vecmap_base.specs.Pairs.{has_text, lookup_by, lookup_pair_by, swap_without_by, without_by};
-ghost use Rattle.vecmap_base.specs.Ranges.{AreEndsWithin, items_between, without_between};
-ghost use Rattle.vecmap_map.specs.Drain.{DrainKeeps, DrainNext, DrainNextBack, drain_capacity, drain_kept, drain_lender, drain_rest};
 
 use crate::VecMap;
-use crate::drain::Drain;
 use std::alloc::AllocError;
-use std::ops::RangeBounds;
-use std::slice;
 use vecmap_base::{Equivalent, find_equivalent, remove_item, retain_pairs};
 
 impl<K, V> VecMap<K, V> {
@@ -102,56 +95,6 @@ impl<K, V> VecMap<K, V> {
         Ok(VecMap {
             pairs: self.pairs.split_off(at)?,
         })
-    }
-
-    /// Removes the pairs of a range of indices, and returns an iterator over them.
-    ///
-    /// The iterator gives the pairs in order, from either end. `range` is any range of std, with included, excluded or
-    /// open ends. Once the iterator is dropped, after any number of calls of `next`, the whole range is gone. The other
-    /// pairs keep their order, and the capacity stays.
-    ///
-    /// # Conditions
-    ///
-    /// The start of the range is at most its end, and its end is at most [`VecMap::len`]. Both are computed without
-    /// overflow, so a range whose start is `Excluded(usize::MAX)` is in no map. A `RangeInclusive` that was iterated to
-    /// its end is in no map either.
-    ///
-    /// # Complexity
-    ///
-    /// A number of moves that is linear in the number of pairs from the start of the range on. If the range reaches to
-    /// the end, none. Does not allocate.
-    ///
-    /// # Examples
-    ///
-    /// ```
-    /// let mut map = vecmap!(alloc; 'a' => 1, 'b' => 2, 'c' => 3);
-    /// # assert!(*rt; 2 <= map.len());
-    /// map.drain(..2).next() // Some(('a', 1))
-    /// map.as_slice() // [('c', 3)]
-    /// ```
-    pub fn drain<R: RangeBounds<usize>>(&mut self, range: R) -> Drain<'_, K, V>
-    where
-        K: Drop,
-        V: Drop,
-        requires known { R.has_bounds range }
-        requires within { AreEndsWithin (R.start_bound range) (R.end_bound range)
-            (length self.old.entries) }
-        ensures rest { drain_rest result
-            ≡ items_between self.old.entries (R.start_bound range) (R.end_bound range) }
-        ensures fits { length (drain_rest result) < 2 ^ 64 }
-        ensures runs { YieldsInOrder (DrainNext {K = K} {V = V}) drain_rest }
-        ensures runs_back { YieldsInReverse (DrainNextBack {K = K} {V = V}) drain_rest }
-
-        // Once the drain is dropped, after any number of pulls, the map has the other pairs and its old capacity.
-        ensures kept { drain_kept result
-            ≡ without_between self.old.entries (R.start_bound range) (R.end_bound range) }
-        ensures capacity { drain_capacity result ≡ self.old.capacity }
-        ensures same_map { drain_lender result ≡ self.entry.ghost_name }
-        ensures keeps { KeepsAlong DrainNext DrainKeeps result }
-        ensures keeps_back { KeepsAlong DrainNextBack DrainKeeps result }
-    {
-        let range = slice::range(range, ..self.len());
-        Drain::over(self, range.start, range.end)
     }
 
     /// Keeps the pairs for which `f` returns `true`, each with the value that `f` left in it.

@@ -1,8 +1,8 @@
-//! Conversion from vectors to maps, and from maps to vectors.
-use crate::checks::{assert_granted, assert_is, assert_list, assert_pairs, check, granted};
+//! Conversion from vectors and arrays to maps, and from maps to vectors.
+use crate::checks::{assert_is, assert_pairs, check, granted};
 use std::alloc::{AllocError, Global};
 use vecmap::{VecMap, keys_distinct};
-use vecmap_fixtures::{Item, Log, make_item, told_pairs};
+use vecmap_fixtures::{Item, Log, has_pairs, make_item, told_pairs};
 
 // Returns the items of these pairs, in a vector.
 fn item_pairs(alloc: Global, pairs: &[(u32, char, u32)]) -> Result<Vec<(Item, u32)>, AllocError> {
@@ -93,16 +93,6 @@ fn distinct_keys_are_distinguished_from_repeats(rt: HostRuntime) {
 }
 
 #[test]
-fn the_vector_of_a_map_has_its_pairs_and_its_capacity(rt: HostRuntime) {
-    let mut map = granted(&rt, VecMap::with_capacity(rt.alloc(), 5));
-    assert_granted(&rt, map.extend([("b", 2), ("a", 1)]));
-    let room = map.capacity();
-    let pairs = map.into_vec();
-    assert_list(&rt, pairs.as_slice(), &[("b", 2), ("a", 1)]);
-    assert_is(&rt, pairs.capacity(), room);
-}
-
-#[test]
 fn an_array_keeps_first_keys_and_last_values(rt: HostRuntime) {
     let pairs = [
         (make_item(2, 'b'), 20),
@@ -115,4 +105,16 @@ fn an_array_keeps_first_keys_and_last_values(rt: HostRuntime) {
     check!(rt; 4 <= map.capacity());
     let map: VecMap<Item, u32> = granted(&rt, VecMap::from_array(rt.alloc(), []));
     assert_pairs(&rt, &map, &[]);
+}
+
+#[test]
+fn a_vector_without_repeats_is_taken_as_it_is_and_cloned(rt: HostRuntime) {
+    let expected = [(2, 'b', 20), (1, 'a', 10)];
+    let pairs = granted(&rt, item_pairs(rt.alloc(), &expected));
+    let room = pairs.capacity();
+    assert!(rt; keys_distinct(&pairs));
+    let map = VecMap::from_vec_unchecked(pairs);
+    assert_is(&rt, map.capacity(), room);
+    check!(rt; has_pairs(&granted(&rt, map.to_vec()), &expected));
+    assert_pairs(&rt, &map, &expected);
 }

@@ -83,6 +83,22 @@ fn a_range_may_have_any_ends(rt: HostRuntime) {
     check!(rt; map.drain(..).next().is_none());
 }
 
+#[test]
+fn over_drains_from_one_index_to_another(rt: HostRuntime) {
+    let ends = [End::Front, End::Back, End::Back, End::Front];
+    for (start, end, taken, left) in [
+        (1, 4, [(1, 6), (2, 7), (3, 8)], [(0, 5), (4, 9), (5, 10)]),
+        (3, 6, [(3, 8), (4, 9), (5, 10)], [(0, 5), (1, 6), (2, 7)]),
+    ] {
+        let mut map = granted(&rt, VecMap::from_slice(rt.alloc(), &SIX));
+        let room = map.capacity();
+        assert!(rt; start <= end && end <= map.len());
+        assert_pulls(&rt, Drain::over(&mut map, start, end), &taken, &ends);
+        assert_list(&rt, map.as_slice(), &left);
+        assert_is(&rt, map.capacity(), room);
+    }
+}
+
 // Takes pairs of a drain from its two ends, in turn, the first from the front. Asserts that each is dropped once it is
 // let go, and not before.
 fn assert_pulled(rt: &impl Abort, log: &Log, pairs: &mut Drain<'_, Told<'_>, u32>, pulls: u32) {

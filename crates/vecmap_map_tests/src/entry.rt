@@ -186,6 +186,61 @@ fn insert_entry_stores_a_clone_of_a_new_key(rt: HostRuntime) {
     assert_pairs(&rt, &map, &[(1, 'y', 9)]);
 }
 
+#[test]
+fn a_made_value_is_inserted_for_a_new_key(rt: HostRuntime) {
+    let mut map = granted(&rt, item_map(rt.alloc(), &[(1, 'x', 7)]));
+    let value = granted(&rt, map.entry(make_item(2, 'b')).or_insert_with(|| 20));
+    assert_is(&rt, *value, 20);
+    let entry = map.entry(make_item(3, 'c'));
+    let value = granted(
+        &rt,
+        entry.or_insert_with_key(|key| key.number.wrapping_mul(10)),
+    );
+    assert_is(&rt, *value, 30);
+    let value = granted(&rt, map.entry(make_item(4, 'd')).or_default());
+    assert_is(&rt, *value, 0);
+    let value = granted(&rt, map.entry(make_item(1, 'y')).or_default());
+    assert_is(&rt, *value, 7);
+    let all = [(1, 'x', 7), (2, 'b', 20), (3, 'c', 30), (4, 'd', 0)];
+    assert_pairs(&rt, &map, &all);
+}
+
+#[test]
+fn an_occupied_entry_lends_replaces_and_removes(rt: HostRuntime) {
+    let mut map = granted(&rt, item_map(rt.alloc(), &[(1, 'x', 7), (2, 'b', 8)]));
+    let mut entry = occupied(&rt, map.entry(make_item(2, 'y')));
+    let replaced = (entry.index(), *entry.get(), entry.insert(9));
+    assert_is(&rt, replaced, (1, 8, 8));
+    *entry.get_mut() = 10;
+    assert_is(&rt, *entry.get(), 10);
+    *entry.into_mut() = 11;
+    assert_pairs(&rt, &map, &[(1, 'x', 7), (2, 'b', 11)]);
+    let entry = occupied(&rt, map.entry(make_item(1, 'y')));
+    assert_key(&rt, &entry.into_key(), (1, 'y'));
+    let entry = occupied(&rt, map.entry(make_item(1, 'y')));
+    assert_pair(&rt, Some(entry.swap_remove_entry()), (1, 'x', 7));
+    assert_pairs(&rt, &map, &[(2, 'b', 11)]);
+}
+
+#[test]
+fn a_vacant_entry_appends_its_pair(rt: HostRuntime) {
+    let mut map = granted(&rt, item_map(rt.alloc(), &[(1, 'x', 7)]));
+    let entry = vacant(&rt, map.entry(make_item(2, 'b')));
+    assert_key(&rt, entry.key(), (2, 'b'));
+    assert_is(&rt, entry.index(), 1);
+    assert_key(&rt, &entry.into_key(), (2, 'b'));
+    assert_pairs(&rt, &map, &[(1, 'x', 7)]);
+    let entry = vacant(&rt, map.entry(make_item(2, 'c')));
+    let value = granted(&rt, entry.insert(8));
+    assert_is(&rt, *value, 8);
+    *value = 9;
+    let entry = vacant(&rt, map.entry(make_item(3, 'd')));
+    let entry = granted(&rt, entry.insert_entry(30));
+    assert_is(&rt, (entry.index(), *entry.get()), (2, 30));
+    assert_key(&rt, &entry.into_key(), (3, 'd'));
+    assert_pairs(&rt, &map, &[(1, 'x', 7), (2, 'c', 9), (3, 'd', 30)]);
+}
+
 // Asserts that a value prints a text that is not empty.
 fn assert_prints_some<T: Debug>(rt: &impl Abort, alloc: Global, value: &T) {
     let text = granted(rt, format!(in alloc; "{value:?}"));

@@ -1,5 +1,7 @@
-//! Indexing of a map in brackets, by index and by key. `queries` has it by text.
-use crate::checks::{assert_is, assert_pairs, granted};
+//! Indexing of a map in brackets, by index, by key and by text.
+use super::lookup::numbered_texts;
+use crate::checks::{assert_is, assert_pairs, assert_texts, granted};
+use vecmap::VecMap;
 use vecmap_fixtures::{item_map, make_item};
 
 const THREE: &[(u32, char, u32)] = &[(7, 'a', 1), (8, 'b', 2), (9, 'c', 3)];
@@ -39,4 +41,17 @@ fn brackets_write_one_value(rt: HostRuntime) {
         map[&key] = 5;
         assert_pairs(&rt, &map, written);
     }
+}
+
+#[test]
+fn brackets_take_a_text(rt: HostRuntime) {
+    let mut map = granted(&rt, numbered_texts(rt.alloc(), &[("b", 2), ("a", 1)]));
+    assert!(rt; map.contains_key("a"));
+    assert_is(&rt, map["a"], 1);
+    assert!(rt; map.contains_key("b"));
+    map["b"] = 5;
+    assert_texts(&rt, &map, &[("b", 5), ("a", 1)]);
+    let map = granted(&rt, VecMap::from_slice(rt.alloc(), &[("b", 2), ("a", 1)]));
+    assert!(rt; map.contains_key("a"));
+    assert_is(&rt, map["a"], 1);
 }

@@ -1,5 +1,5 @@
 //! The iterators of maps.
-use crate::checks::{Plain, assert_is, assert_list, assert_prints, assert_pulls, check, granted};
+use crate::checks::{Plain, assert_is, assert_prints, assert_pulls, check, granted};
 use std::fmt::Debug;
 use std::iter::FusedIterator;
 use std::process::Abort;

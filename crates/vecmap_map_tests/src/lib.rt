@@ -1,4 +1,5 @@
-//! Tests of maps. Each file tests the module of `vecmap_map` that it is named for, but these, which are by topic:
+//! Tests of maps. Each file is named for a module of `vecmap_map`, and tests each call of that module: its whole
+//! result, and the whole list that it leaves. These files have further tests by topic:
 //!
 //! - `by_reference`: loops over references to a map.
 //! - `clones`: keys and values whose clones are refused.
@@ -33,6 +34,10 @@ mod entry;
 #[cfg(test)]
 mod equality;
 #[cfg(test)]
+mod extending;
+#[cfg(test)]
+mod formatting;
+#[cfg(test)]
 mod hints;
 #[cfg(test)]
 mod indexing;
@@ -44,6 +49,8 @@ mod iteration;
 mod lending;
 #[cfg(test)]
 mod lookup;
+#[cfg(test)]
+mod make;
 #[cfg(test)]
 mod mutable_keys;
 #[cfg(test)]

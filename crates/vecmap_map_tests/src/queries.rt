@@ -1,8 +1,9 @@
-//! Calls on a map by each kind of query: a key, a text, a slice, and a query that is not a key.
+//! Calls on a map by each kind of query: a key, a text, a slice, and a query that is not a key. The file of each call's
+//! module has the call by a key.
 mod matching;
 
 use self::matching::assert_matches;
-use crate::checks::{assert_granted, assert_is, assert_pairs, granted};
+use crate::checks::{assert_granted, assert_is, assert_pairs, assert_texts, granted};
 use std::alloc::{AllocError, Global};
 use std::borrow::CowStr;
 use std::boxed::{BoxedSlice, BoxedStr};
@@ -40,6 +41,7 @@ const REPEATS: &[(u32, char, u32)] = &[
     (1, 'd', 40),
     (1, 'e', 50),
 ];
+
 // Creates the map of the texts, as `String`s.
 fn text_keys(alloc: Global) -> Result<VecMap<String, u32>, AllocError> {
     let mut map = VecMap::new(alloc);
@@ -56,23 +58,6 @@ fn static_keys(alloc: Global) -> Result<VecMap<&'static str, u32>, AllocError> {
         map.insert(*text, *value)?;
     }
     Ok(map)
-}
-
-// Returns whether the pairs have exactly these texts as keys and these values, in this order.
-fn has_texts(pairs: &[(String, u32)], expected: &[(&str, u32)]) -> bool {
-    pairs.len() == expected.len()
-        && pairs
-            .iter()
-            .zip(expected)
-            .all(|(pair, wanted)| (pair.0.as_str(), pair.1) == *wanted)
-}
-
-// Asserts that a map has exactly these texts as keys and these values, in this order.
-fn assert_text_keys(rt: &impl Abort, map: &VecMap<String, u32>, expected: &[(&str, u32)]) {
-    assert!(*rt;
-        has_texts(map.as_slice(), expected),
-        "{map:?} is not {expected:?}"
-    );
 }
 
 // Writes the key at an index.
@@ -104,7 +89,7 @@ fn a_query_that_is_not_a_key_matches_the_first_equivalent_key(rt: HostRuntime) {
 #[test]
 fn a_text_matches_the_string_of_its_bytes_in_a_map(rt: HostRuntime) {
     let mut map = granted(&rt, text_keys(rt.alloc()));
-    assert_text_keys(&rt, &map, TEXTS);
+    assert_texts(&rt, &map, TEXTS);
     for (text, place) in QUERIES {
         assert_matches(&rt, &mut map, *text, *place);
         let key = granted(&rt, String::from_str(rt.alloc(), text));
@@ -169,7 +154,7 @@ fn brackets_take_a_text_of_the_first_of_equal_keys(rt: HostRuntime) {
     assert!(rt; map.contains_key(&key));
     map[&key] = map[&key].wrapping_add(1);
     let written = [("agent", 13), ("agent", 20), ("max", 30), ("é", 40)];
-    assert_text_keys(&rt, &map, &written);
+    assert_texts(&rt, &map, &written);
     let mut map = granted(&rt, static_keys(rt.alloc()));
     write_key(&rt, &mut map, 1, "agent");
     write_key(&rt, &mut map, 0, "agent");

@@ -2,7 +2,8 @@
 use super::entry::occupied;
 use super::lookup::numbered_texts;
 use crate::checks::{
-    assert_gives, assert_granted, assert_is, assert_list, assert_pair, assert_pairs, check, granted,
+    assert_gives, assert_granted, assert_is, assert_list, assert_pair, assert_pairs, assert_texts,
+    check, granted,
 };
 use std::alloc::{AllocError, Global};
 use std::process::Abort;
@@ -198,14 +199,6 @@ fn clones_and_vectors_of_a_map_have_its_repeats(rt: HostRuntime) {
 fn write_text(rt: &impl Abort, map: &mut VecMap<String, u32>, index: usize, text: String) {
     let (key, _value) = map.get_index_mut2(index).expect(rt, "nothing there");
     *key = text;
-}
-
-// Asserts that a map has exactly these texts and numbers, in this order.
-fn assert_texts(rt: &impl Abort, map: &VecMap<String, u32>, expected: &[(&str, u32)]) {
-    assert_is(rt, map.len(), expected.len());
-    for (pair, wanted) in map.as_slice().iter().zip(expected) {
-        assert_is(rt, (pair.0.as_str(), pair.1), *wanted);
-    }
 }
 
 #[test]

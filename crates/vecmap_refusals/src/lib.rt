@@ -4,11 +4,11 @@
 //! refuses the Nth request of each test. If a call is refused, the test prints that, compares what the call returns and
 //! what it leaves, and repeats the call. No second request is refused, so this call must succeed.
 //!
-//! The files in `map` and `set` are named for the modules that they test, but these are by topic:
+//! Each file in `map` and `set` is named for a module, and tests each call of that module that can be refused. These
+//! files have further tests by topic:
 //!
-//! - `clones`: keys, values and elements whose clones allocate.
-//! - `drops`: what a refused call leaves, returns or drops.
-//! - `traits`: the trait `Extend`.
+//! - `clones`: pairs that are inserted as clones.
+//! - `drops`: what a refused call of many items, or a refused run, keeps or drops.
 #![tactic(auto)]
 
 #[cfg(test)]

@@ -1,14 +1,17 @@
 //! Sets: each request for memory is refused once.
 mod bulk;
-mod clones;
+mod cloning;
+mod conversion;
 mod drops;
+mod extending;
 mod insertion;
 mod iteration;
+mod macros;
+mod make;
 mod operators;
 mod order;
 mod removal;
 mod room;
-mod traits;
 
 // The elements of a set without spare capacity.
 const FULL: &[(u32, char)] = &[(1, 'a'), (2, 'b')];

@@ -1,10 +1,49 @@
-//! The trait `Clone` of a set, for generic code, derives and sets in maps.
+//! Clones of a set, by a call and by the trait `Clone`, for generic code, derives and sets in maps.
+ghost use Rattle.std.specs.Prelude.{◌↔◌, Contains, IfOk, IsTrue};
 ghost use Rattle.std.specs.List.{IsDistinct};
-ghost use Rattle.std.specs.Prelude.{◌↔◌, IsTrue};
+ghost use Rattle.vecmap_base.specs.Clones.{AreClones};
 
 use crate::VecSet;
 use std::alloc::AllocError;
 use vecmap_base::items_distinct;
+
+impl<T: Eq> VecSet<T> {
+    /// Returns a set of clones of the elements, in order.
+    ///
+    /// # Errors
+    ///
+    /// [`AllocError`] if the allocator refuses the request, or if the clone of an element is refused; no set is
+    /// created.
+    ///
+    /// # Conditions
+    ///
+    /// A clone of each element is equal to it, so no two clones are equal.
+    ///
+    /// # Complexity
+    ///
+    /// One clone of each element, one allocation for the elements, and no comparisons.
+    ///
+    /// # Examples
+    ///
+    /// ```
+    /// let set = vecset!(alloc; 1, 2);
+    /// let mut copy = set.clone()?;
+    /// copy.insert(3)?;
+    /// (set.len(), copy.len()) // (2, 3)
+    /// ```
+    pub fn clone(&self) -> Result<VecSet<T>, AllocError>
+    where
+        T: Clone,
+        requires clones_equal { (x y : T) → Contains self.now.elements x → T.is_clone x y
+            → IsTrue (T.eq x y) }
+        ensures elements { IfOk result (λ set. AreClones T.is_clone self.now.elements set.elements) }
+        ensures distinct { IfOk result (λ set. IsDistinct T.eq set.elements) }
+    {
+        Ok(VecSet {
+            items: self.items.clone()?,
+        })
+    }
+}
 
 /// Clones a set element by element, in order, and checks that no two clones are equal.
 ///
@@ -30,8 +69,6 @@ use vecmap_base::items_distinct;
 /// (groups.get(&'a').map(VecSet::len), copy.get(&'a').map(VecSet::len)) // (Some(2), Some(3))
 /// ```
 impl<T: Eq + Clone> Clone for VecSet<T> {
-    ghost use Rattle.vecmap_base.specs.Clones.{AreClones};
-
     ghost is_clone = { λ set copy. AreClones T.is_clone set.elements copy.elements × IsDistinct T.eq copy.elements };
 
     fn clone(&self) -> Result<VecSet<T>, AllocError> {

@@ -1,19 +1,71 @@
-//! The iterator that removes a range of elements from a set.
+//! The call `drain`, and its iterator, which removes a range of elements from a set.
 //!
-//! It holds a reference to the set and no vector, so no two elements of the set are equal at any moment.
+//! The iterator holds a reference to the set and no vector, so no two elements of the set are equal at any moment.
 ghost use Rattle.std.specs.Prelude.{◌≡◌, ◌++◌, ◌-◌, ◌<◌, ◌≤◌, ◌^◌, [], ◌∷◌, drop, length, reverse, slice_range, take};
 ghost use Rattle.std.specs.Iterator.{at_most};
 ghost use Rattle.std.specs.Iterator.Runs.{YieldsInOrder, YieldsInReverse};
 ghost use Rattle.std.specs.List.{IsDistinct, remove_range};
 ghost use Rattle.vecmap_base.specs.Drain.{KeepsAlong};
-ghost use Rattle.vecmap_base.specs.Ranges.{IsRangeWithin};
+ghost use Rattle.vecmap_base.specs.Ranges.{AreEndsWithin, IsRangeWithin, items_between, without_between};
 ghost use Rattle.vecmap_base.specs.Walks.{HintsExactly};
 ghost use Rattle.vecmap_set.specs.Drain.{DrainKeeps, DrainNext, DrainNextBack, drain_capacity, drain_kept, drain_lender, drain_rest};
 
 use crate::VecSet;
-use std::fmt;
 use std::iter::FusedIterator;
+use std::ops::RangeBounds;
+use std::{fmt, slice};
 use vecmap_base::{move_range_last, reverse_from};
+
+impl<T: Eq> VecSet<T> {
+    /// Removes the elements of a range of indices, and returns an iterator over them.
+    ///
+    /// The iterator gives the elements in order, from either end. `range` is any range of std, with included, excluded
+    /// or open ends. Once the iterator is dropped, after any number of calls of `next`, the whole range is gone. The
+    /// other elements keep their order, and the capacity stays.
+    ///
+    /// # Conditions
+    ///
+    /// The start of the range is at most its end, and its end is at most [`VecSet::len`]. Both are computed without
+    /// overflow, so a range whose start is `Excluded(usize::MAX)` is in no set. A `RangeInclusive` that was iterated to
+    /// its end is in no set either.
+    ///
+    /// # Complexity
+    ///
+    /// A number of moves that is linear in the number of elements from the start of the range on. If the range reaches
+    /// to the end, none. Does not allocate.
+    ///
+    /// # Examples
+    ///
+    /// ```
+    /// let mut set = vecset!(alloc; 1, 2, 3);
+    /// # assert!(*rt; 2 <= set.len());
+    /// set.drain(..2).next() // Some(1)
+    /// set.as_slice() // [3]
+    /// ```
+    pub fn drain<R: RangeBounds<usize>>(&mut self, range: R) -> Drain<'_, T>
+    where
+        T: Drop,
+        requires known { R.has_bounds range }
+        requires within { AreEndsWithin (R.start_bound range) (R.end_bound range)
+            (length self.old.elements) }
+        ensures rest { drain_rest result
+            ≡ items_between self.old.elements (R.start_bound range) (R.end_bound range) }
+        ensures fits { length (drain_rest result) < 2 ^ 64 }
+        ensures runs { YieldsInOrder (DrainNext {T = T}) drain_rest }
+        ensures runs_back { YieldsInReverse (DrainNextBack {T = T}) drain_rest }
+
+        // Once the drain is dropped, after any number of pulls, the set has the other elements and its old capacity.
+        ensures kept { drain_kept result
+            ≡ without_between self.old.elements (R.start_bound range) (R.end_bound range) }
+        ensures capacity { drain_capacity result ≡ self.old.capacity }
+        ensures same_set { drain_lender result ≡ self.entry.ghost_name }
+        ensures keeps { KeepsAlong DrainNext DrainKeeps result }
+        ensures keeps_back { KeepsAlong DrainNextBack DrainKeeps result }
+    {
+        let range = slice::range(range, ..self.len());
+        Drain::over(self, range.start, range.end)
+    }
+}
 
 /// An iterator over the elements of a range of a set, which it removes. [`VecSet::drain`] creates it.
 ///

@@ -1,7 +1,6 @@
 //! Calls that create a set, and calls that return its slice, its vector or its allocator.
-ghost use Rattle.std.specs.Prelude.{◌≡◌, ◌≤◌, Contains, IfOk, IsOk, IsTrue, [], vec_capacity};
+ghost use Rattle.std.specs.Prelude.{◌≡◌, ◌≤◌, IfOk, IsOk, [], vec_capacity};
 ghost use Rattle.std.specs.List.{IsDistinct};
-ghost use Rattle.vecmap_base.specs.Clones.{AreClones};
 
 use crate::VecSet;
 use std::alloc::{AllocError, Global};
@@ -52,42 +51,6 @@ impl<T: Eq> VecSet<T> {
     {
         Ok(VecSet {
             items: Vec::with_capacity(alloc, capacity)?,
-        })
-    }
-
-    /// Returns a set of clones of the elements, in order.
-    ///
-    /// # Errors
-    ///
-    /// [`AllocError`] if the allocator refuses the request, or if the clone of an element is refused; no set is
-    /// created.
-    ///
-    /// # Conditions
-    ///
-    /// A clone of each element is equal to it, so no two clones are equal.
-    ///
-    /// # Complexity
-    ///
-    /// One clone of each element, one allocation for the elements, and no comparisons.
-    ///
-    /// # Examples
-    ///
-    /// ```
-    /// let set = vecset!(alloc; 1, 2);
-    /// let mut copy = set.clone()?;
-    /// copy.insert(3)?;
-    /// (set.len(), copy.len()) // (2, 3)
-    /// ```
-    pub fn clone(&self) -> Result<VecSet<T>, AllocError>
-    where
-        T: Clone,
-        requires clones_equal { (x y : T) → Contains self.now.elements x → T.is_clone x y
-            → IsTrue (T.eq x y) }
-        ensures elements { IfOk result (λ set. AreClones T.is_clone self.now.elements set.elements) }
-        ensures distinct { IfOk result (λ set. IsDistinct T.eq set.elements) }
-    {
-        Ok(VecSet {
-            items: self.items.clone()?,
         })
     }
 

@@ -1,7 +1,7 @@
-//! Conversion from vectors to sets.
+//! Conversion from vectors and arrays to sets, and from sets to vectors.
 use crate::checks::{assert_is, assert_items, assert_list, check, granted};
-use vecmap::VecSet;
-use vecmap_fixtures::{Log, make_item, told_items};
+use vecmap::{VecSet, items_distinct};
+use vecmap_fixtures::{Log, has_items, make_item, told_items};
 
 #[test]
 fn a_vector_loses_its_repeats(rt: HostRuntime) {
@@ -57,4 +57,18 @@ fn an_array_loses_its_repeats(rt: HostRuntime) {
     check!(rt; 5 <= set.capacity());
     let set: VecSet<u32> = granted(&rt, VecSet::from_array(rt.alloc(), []));
     assert_list(&rt, set.as_slice(), &[]);
+}
+
+#[test]
+fn a_vector_without_repeats_is_taken_as_it_is_and_cloned(rt: HostRuntime) {
+    let items = granted(
+        &rt,
+        vec![in rt.alloc(); make_item(2, 'b'), make_item(1, 'a')],
+    );
+    let room = items.capacity();
+    assert!(rt; items_distinct(&items));
+    let set = VecSet::from_vec_unchecked(items);
+    assert_is(&rt, set.capacity(), room);
+    check!(rt; has_items(&granted(&rt, set.to_vec()), &[(2, 'b'), (1, 'a')]));
+    assert_items(&rt, &set, &[(2, 'b'), (1, 'a')]);
 }

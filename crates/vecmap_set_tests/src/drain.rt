@@ -2,6 +2,7 @@
 use crate::checks::{assert_is, assert_items, assert_list, assert_text, check, granted};
 use std::ops::Bound;
 use vecmap::VecSet;
+use vecmap::set::Drain;
 use vecmap_fixtures::{End, Log, all_ends, item_set, pulls_as_list, set_of, told_items};
 
 const SIX: [u32; 6] = [5, 6, 7, 8, 9, 10];
@@ -67,6 +68,22 @@ fn a_range_may_have_any_ends(rt: HostRuntime) {
     let mut set = granted(&rt, set_of(rt.alloc(), &[0, 1, 2, 3]));
     check!(rt; pulls_as_list(set.drain(..), |item| item, &[0, 1, 2, 3], &[End::Front; 6]));
     assert_list(&rt, set.as_slice(), &[]);
+}
+
+#[test]
+fn over_drains_from_one_index_to_another(rt: HostRuntime) {
+    let ends = [End::Front, End::Back, End::Back, End::Front];
+    for (start, end, taken, left) in [
+        (1, 4, [6, 7, 8].as_slice(), [5, 9, 10].as_slice()),
+        (3, 6, [8, 9, 10].as_slice(), [5, 6, 7].as_slice()),
+    ] {
+        let mut set = granted(&rt, set_of(rt.alloc(), &SIX));
+        let room = set.capacity();
+        assert!(rt; start <= end && end <= set.len());
+        check!(rt; pulls_as_list(Drain::over(&mut set, start, end), |item| item, taken, &ends));
+        assert_list(&rt, set.as_slice(), left);
+        assert_is(&rt, set.capacity(), room);
+    }
 }
 
 #[test]

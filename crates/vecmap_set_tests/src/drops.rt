@@ -1,5 +1,5 @@
 //! Elements that are passed to a call are dropped once, or returned. `alive` counts those that are not dropped.
-use crate::checks::{assert_drops, assert_granted, assert_is, assert_told, check, granted};
+use crate::checks::{assert_drops, assert_is, assert_told, check, granted};
 use vecmap::macros::add_item;
 use vecmap::{VecSet, items_distinct};
 use vecmap_fixtures::{Log, Told, make_told, told_items, told_set};

@@ -1,7 +1,20 @@
-//! The trait `Extend` of sets, as `try_collect` calls it. `bulk` has direct calls.
-use crate::checks::{assert_list, assert_refused, granted};
+//! The trait `Extend` of sets, by each kind of item, and as `try_collect` calls it. `bulk` compares it with the calls
+//! of the set.
+use crate::checks::{assert_granted, assert_items, assert_list, assert_refused, granted};
 use std::alloc::AllocError;
 use vecmap::VecSet;
+use vecmap_fixtures::{item_set, make_item};
+
+#[test]
+fn the_trait_extend_takes_elements_and_references(rt: HostRuntime) {
+    let mut set = granted(&rt, item_set(rt.alloc(), &[(1, 'x')]));
+    let owned = [make_item(1, 'y'), make_item(2, 'b')];
+    assert_granted(&rt, Extend::extend(&mut set, owned));
+    assert_items(&rt, &set, &[(1, 'x'), (2, 'b')]);
+    let more = granted(&rt, item_set(rt.alloc(), &[(2, 'z'), (3, 'c')]));
+    assert_granted(&rt, Extend::extend(&mut set, more.iter()));
+    assert_items(&rt, &set, &[(1, 'x'), (2, 'b'), (3, 'c')]);
+}
 
 // Returns ten times a number, or an error.
 fn tenfold(number: u32) -> Result<u32, AllocError> {

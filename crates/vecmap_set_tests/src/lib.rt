@@ -1,4 +1,5 @@
-//! Tests of sets. Each file tests the module of `vecmap_set` that it is named for, but these, which are by topic:
+//! Tests of sets. Each file is named for a module of `vecmap_set`, and tests each call of that module: its whole
+//! result, and the whole list that it leaves. These files have further tests by topic:
 //!
 //! - `by_reference`: loops over references to a set.
 //! - `clones`: elements whose clones are refused.
@@ -30,6 +31,8 @@ mod equality;
 #[cfg(test)]
 mod extending;
 #[cfg(test)]
+mod formatting;
+#[cfg(test)]
 mod indexing;
 #[cfg(test)]
 mod insertion;
@@ -39,6 +42,8 @@ mod iteration;
 mod lazy;
 #[cfg(test)]
 mod lookup;
+#[cfg(test)]
+mod make;
 #[cfg(test)]
 mod no_size;
 #[cfg(test)]

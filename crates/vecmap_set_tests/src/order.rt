@@ -51,6 +51,18 @@ fn sorts_leave_a_set_in_order(rt: HostRuntime) {
 }
 
 #[test]
+fn reverse_and_swap_indices_move_elements(rt: HostRuntime) {
+    let mut set = granted(&rt, set_of(rt.alloc(), &["a", "b", "c", "d"]));
+    set.reverse();
+    assert_list(&rt, set.as_slice(), &["d", "c", "b", "a"]);
+    assert!(rt; set.len() == 4);
+    set.swap_indices(1, 3);
+    assert_list(&rt, set.as_slice(), &["d", "a", "b", "c"]);
+    set.swap_indices(2, 2);
+    assert_list(&rt, set.as_slice(), &["d", "a", "b", "c"]);
+}
+
+#[test]
 fn stable_sorts_leave_ties_in_their_order(rt: HostRuntime) {
     let mixed = [(4, 'b'), (1, 'a'), (3, 'b'), (2, 'a')];
     let by_mark = [(1, 'a'), (2, 'a'), (4, 'b'), (3, 'b')];

@@ -1,4 +1,5 @@
-//! Calls on a set by each kind of query: an element, a text, a slice, and a query that is not an element.
+//! Calls on a set by each kind of query: an element, a text, a slice, and a query that is not an element. The file of
+//! each call's module has the call by an element.
 use crate::checks::{assert_granted, assert_is, assert_items, assert_texts, check, granted};
 use std::alloc::AllocError;
 use std::borrow::CowStr;

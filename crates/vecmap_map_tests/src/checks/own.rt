@@ -57,6 +57,23 @@ pub(crate) fn assert_pairs(
     );
 }
 
+// Returns whether the pairs have exactly these texts as keys and these values, in this order.
+fn has_texts(pairs: &[(String, u32)], expected: &[(&str, u32)]) -> bool {
+    pairs.len() == expected.len()
+        && pairs
+            .iter()
+            .zip(expected)
+            .all(|(pair, wanted)| (pair.0.as_str(), pair.1) == *wanted)
+}
+
+/// Asserts that a map has exactly these texts as keys and these values, in this order.
+pub(crate) fn assert_texts(rt: &impl Abort, map: &VecMap<String, u32>, expected: &[(&str, u32)]) {
+    assert!(*rt;
+        has_texts(map.as_slice(), expected),
+        "{map:?} is not {expected:?}"
+    );
+}
+
 /// Asserts that a map has exactly these numbers as keys and as values, in this order.
 pub(crate) fn assert_told(
     rt: &impl Abort,

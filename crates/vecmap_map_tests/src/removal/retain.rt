@@ -1,9 +1,6 @@
 //! The pairs of a map that closures keep.
 use crate::checks::{assert_is, assert_list, assert_pairs, check, granted};
-use std::alloc::{AllocError, Global};
-use std::mem;
 use vecmap::VecMap;
-use vecmap::map::MutableKeys;
 use vecmap_fixtures::{Log, repeating_map, told_pairs};
 
 const FOUR: &[(u32, char, u32)] = &[(1, 'a', 1), (2, 'b', 2), (1, 'c', 3), (4, 'd', 4)];
@@ -35,35 +32,6 @@ fn closures_of_retain_count_their_calls(rt: HostRuntime) {
     });
     assert_is(&rt, count, 4);
     assert_list(&rt, map.as_slice(), &[('b', 2), ('d', 4)]);
-    map.retain2(|key, value| {
-        count = count.wrapping_add(1);
-        *value = count;
-        *key = 'e';
-        count == 6
-    });
-    assert_is(&rt, count, 6);
-    assert_list(&rt, map.as_slice(), &[('e', 6)]);
-}
-
-// Creates a map of the numbers below 8, each with ten times as much.
-fn tens(alloc: Global) -> Result<VecMap<u32, u32>, AllocError> {
-    let mut map = VecMap::new(alloc);
-    for number in 0..8u32 {
-        map.insert(number, number.wrapping_mul(10))?;
-    }
-    Ok(map)
-}
-
-#[test]
-fn retain2_writes_keys_too(rt: HostRuntime) {
-    let mut map = granted(&rt, tens(rt.alloc()));
-    let room = map.capacity();
-    map.retain2(|key, value| {
-        mem::swap(key, value);
-        *value % 2 == 0
-    });
-    assert_list(&rt, map.as_slice(), &[(0, 0), (20, 2), (40, 4), (60, 6)]);
-    assert_is(&rt, map.capacity(), room);
 }
 
 #[test]
@@ -72,8 +40,6 @@ fn each_key_that_retain_removes_is_dropped_once(rt: HostRuntime) {
     let mut map = VecMap::from(granted(&rt, told_pairs(rt.alloc(), &log, &[0, 1, 2, 3, 4])));
     map.retain(|_key, value| *value % 2 == 0);
     assert_is(&rt, (map.len(), log.drops()), (3, 2));
-    map.retain2(|_key, value| *value == 2);
-    assert_is(&rt, (map.len(), log.drops()), (1, 4));
     drop(map);
     assert_is(&rt, log.drops(), 5);
 }

@@ -8,7 +8,7 @@ use vecmap::VecMap;
 use vecmap_fixtures::{Hinted, Item, full_map, make_item};
 
 // Returns pairs in which each pair with a new key is followed by one with a key that is then present.
-fn more() -> [(Item, u32); 11] {
+pub(super) fn more() -> [(Item, u32); 11] {
     [
         (make_item(7, 'p'), 1),
         (make_item(1, 'z'), 11),
@@ -142,19 +142,5 @@ fn a_map_of_many_pairs_has_all_of_them_or_is_refused(rt: HostRuntime) {
     let map = make!(rt; VecMap::from_slice(rt.alloc(), &pairs));
     assert_pairs(&rt, &map, &all);
     let map: VecMap<Item, u32> = make!(rt; pairs.iter().copied().collect(rt.alloc()));
-    assert_pairs(&rt, &map, &all);
-}
-
-#[test]
-fn a_map_of_an_array_has_all_pairs_or_is_refused(rt: HostRuntime) {
-    let map = make!(rt; VecMap::from_array(rt.alloc(), more()));
-    let all = [
-        (7, 'p', 70),
-        (1, 'z', 15),
-        (8, 'r', 80),
-        (9, 's', 90),
-        (10, 't', 100),
-        (11, 'u', 110),
-    ];
     assert_pairs(&rt, &map, &all);
 }

@@ -1,13 +1,11 @@
-//! The pairs that a refused call leaves, and the keys and values that it keeps, returns or drops, each once. `alive`
-//! counts those that are not dropped.
+//! The keys and values that a refused call of many pairs, or a refused run, keeps or drops, each once. `alive` counts
+//! those that are not dropped.
 use crate::checks::{assert_is, assert_told_pairs, check, granted};
 use crate::telling::{make, retry};
 use std::alloc::{AllocError, Global};
 use std::mem::replace;
 use std::process::Abort;
-use vecmap::macros::put_pair;
-use vecmap::map::Entry;
-use vecmap::{MapCommand, Refused, VecMap, run, vecmap};
+use vecmap::{MapCommand, VecMap, run};
 use vecmap_fixtures::{Log, Told, has_told_pairs, make_told, told_couples, told_map};
 
 type Couple<'a> = (Told<'a>, Told<'a>);
@@ -15,115 +13,6 @@ type Couple<'a> = (Told<'a>, Told<'a>);
 type Map<'a> = VecMap<Told<'a>, Told<'a>>;
 
 type List<'a> = Vec<MapCommand<Told<'a>, Told<'a>>>;
-
-const LAST: &[(u32, u32)] = &[(1, 11), (2, 12), (3, 13)];
-
-const FIRST: &[(u32, u32)] = &[(3, 13), (1, 11), (2, 12)];
-
-// Inserts a pair through the vacant entry of its key, by `insert_entry` or by `insert`.
-fn insert_in_vacant<'a>(
-    map: &mut Map<'a>,
-    key: Told<'a>,
-    value: Told<'a>,
-    wants_entry: bool,
-) -> Result<(), Refused<Couple<'a>>> {
-    if let Entry::Vacant(entry) = map.entry(key) {
-        if wants_entry {
-            entry.insert_entry(value)?;
-        } else {
-            entry.insert(value)?;
-        }
-    }
-    Ok(())
-}
-
-#[derive(Clone, Copy)]
-enum Insertion {
-    Insert,
-    InsertFull,
-    InsertKey,
-    InsertAt,
-    OrInsert,
-    OrInsertWith,
-    OrInsertWithKey,
-    InsertEntry,
-    VacantInsert,
-    VacantInsertEntry,
-}
-
-// Inserts a new pair by a call.
-fn put<'a>(
-    call: Insertion,
-    map: &mut Map<'a>,
-    key: Told<'a>,
-    value: Told<'a>,
-) -> Result<(), Refused<Couple<'a>>> {
-    match call {
-        Insertion::Insert => {
-            map.insert(key, value)?;
-        }
-        Insertion::InsertFull => {
-            map.insert_full(key, value)?;
-        }
-        Insertion::InsertKey => {
-            map.insert_key(key, value)?;
-        }
-        Insertion::InsertAt => {
-            map.insert_at(0, key, value)?;
-        }
-        Insertion::OrInsert => {
-            map.entry(key).or_insert(value)?;
-        }
-        Insertion::OrInsertWith => {
-            map.entry(key).or_insert_with(|| value)?;
-        }
-        Insertion::OrInsertWithKey => {
-            map.entry(key).or_insert_with_key(|_| value)?;
-        }
-        Insertion::InsertEntry => {
-            map.entry(key).insert_entry(value)?;
-        }
-        Insertion::VacantInsert => {
-            insert_in_vacant(map, key, value, false)?;
-        }
-        Insertion::VacantInsertEntry => {
-            insert_in_vacant(map, key, value, true)?;
-        }
-    }
-    Ok(())
-}
-
-// Checks that an insertion keeps its pair, or returns it so that the call can be repeated.
-fn check(rt: &(impl Abort + Print), alloc: Global, call: Insertion, expected: &[(u32, u32)]) {
-    let log = Log::new();
-    let mut map = make!(rt; told_map(alloc, &log, &[1, 2]));
-    let (key, value) = (make_told(&log, 3), make_told(&log, 13));
-    retry!(rt; put(call, &mut map, key, value), Refused { given: (key, value) } => {
-        assert_told_pairs(rt, &log, &map, 6, &[(1, 11), (2, 12)]);
-        assert_is(rt, (map.capacity(), key.number(), value.number()), (2, 3, 13));
-    });
-    assert_told_pairs(rt, &log, &map, 6, expected);
-    drop(map);
-    assert_is(rt, log.alive(), 0);
-}
-
-#[test]
-fn insertions_keep_a_pair_or_return_it(rt: HostRuntime) {
-    check(&rt, rt.alloc(), Insertion::Insert, LAST);
-    check(&rt, rt.alloc(), Insertion::InsertFull, LAST);
-    check(&rt, rt.alloc(), Insertion::InsertKey, LAST);
-    check(&rt, rt.alloc(), Insertion::InsertAt, FIRST);
-}
-
-#[test]
-fn entries_keep_a_pair_or_return_it(rt: HostRuntime) {
-    check(&rt, rt.alloc(), Insertion::OrInsert, LAST);
-    check(&rt, rt.alloc(), Insertion::OrInsertWith, LAST);
-    check(&rt, rt.alloc(), Insertion::OrInsertWithKey, LAST);
-    check(&rt, rt.alloc(), Insertion::InsertEntry, LAST);
-    check(&rt, rt.alloc(), Insertion::VacantInsert, LAST);
-    check(&rt, rt.alloc(), Insertion::VacantInsertEntry, LAST);
-}
 
 #[derive(Clone, Copy)]
 enum ManyPairs {
@@ -259,67 +148,6 @@ fn run_or_again<'a>(
 fn a_map_run_keeps_what_its_commands_carry_or_drops_it(rt: HostRuntime) {
     let all = [(1, 10), (2, 12), (3, 13), (5, 15), (6, 16)];
     check_run(&rt, rt.alloc(), Commands::Carrying, 8, &all);
-}
-
-// Inserts the default through the entry of a key, or returns both.
-fn or_default<'a>(map: &mut VecMap<Told<'a>, u32>, key: Told<'a>) -> Result<(), (Told<'a>, u32)> {
-    match map.entry(key).or_default() {
-        Ok(_) => Ok(()),
-        Err(refused) => Err(refused.given),
-    }
-}
-
-#[test]
-fn or_default_keeps_the_key_or_returns_it(rt: HostRuntime) {
-    let log = Log::new();
-    let mut map: VecMap<Told<'_>, u32> = VecMap::new(rt.alloc());
-    let key = make_told(&log, 1);
-    retry!(rt; or_default(&mut map, key), (key, value) => {
-        assert_is(&rt, (map.len(), key.number(), value, log.alive()), (0, 1, 0, 1));
-    });
-    assert_is(&rt, (log.alive(), map.len()), (1, 1));
-    drop(map);
-    assert_is(&rt, log.alive(), 0);
-}
-
-#[test]
-fn put_pair_keeps_a_pair_or_drops_it(rt: HostRuntime) {
-    let log = Log::new();
-    let mut map = make!(rt; told_map(rt.alloc(), &log, &[1, 2]));
-    // The map is full, and an existing key needs no memory.
-    granted(
-        &rt,
-        put_pair(&mut map, make_told(&log, 1), make_told(&log, 21)),
-    );
-    retry!(rt; put_pair(&mut map, make_told(&log, 3), make_told(&log, 13)), AllocError => {
-        assert_told_pairs(&rt, &log, &map, 4, &[(1, 21), (2, 12)]);
-        assert_is(&rt, map.capacity(), 2);
-    });
-    assert_told_pairs(&rt, &log, &map, 6, &[(1, 21), (2, 12), (3, 13)]);
-}
-
-// Creates a map of three pairs by the macro. Two of them have equal keys.
-fn three<'a>(alloc: Global, log: &'a Log) -> Result<Map<'a>, AllocError> {
-    Ok(vecmap!(
-        alloc;
-        make_told(log, 1) => make_told(log, 11),
-        make_told(log, 2) => make_told(log, 12),
-        make_told(log, 1) => make_told(log, 13),
-    ))
-}
-
-#[test]
-fn vecmap_keeps_its_pairs_or_drops_them(rt: HostRuntime) {
-    let log = Log::new();
-    let map = three_or_again(&rt, rt.alloc(), &log);
-    assert_told_pairs(&rt, &log, &map, 4, &[(1, 13), (2, 12)]);
-}
-
-// Creates the map of `three`, and again where it is refused.
-fn three_or_again<'a>(rt: &(impl Abort + Print), alloc: Global, log: &'a Log) -> Map<'a> {
-    retry!(rt; three(alloc, log), AllocError => {
-        assert_is(rt, log.alive(), 0);
-    })
 }
 
 // Returns commands that insert a pair, each once with a new key and once with an existing one, and one whose index is

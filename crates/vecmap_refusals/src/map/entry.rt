@@ -1,12 +1,14 @@
-//! Entries of an existing key in a map that is full, and of a key whose clone is refused. `drops` has those of a new
-//! key.
+//! Entries of an existing key and of a new one in a map that is full, and of a key whose clone is refused.
 use super::FULL;
+use super::keeping::{Insertion, check_kept};
 use crate::checks::{assert_granted, assert_is, assert_pairs, check, granted};
 use crate::telling::{make, retry};
 use std::alloc::{AllocError, Global};
 use std::process::Abort;
 use vecmap::{Refused, VecMap};
-use vecmap_fixtures::{Item, full_map, make_item};
+use vecmap_fixtures::{Item, Log, Told, full_map, make_item, make_told};
+
+const LAST: &[(u32, u32)] = &[(1, 11), (2, 12), (3, 13)];
 
 // Inserts a value through the entry of a text, or returns both.
 fn insert_text(
@@ -104,4 +106,35 @@ fn or_try_insert_with_inserts_the_made_text_or_leaves_the_map(rt: HostRuntime) {
         assert_is(&rt, (texts.len(), texts.capacity()), (0, 0));
     });
     assert_is(&rt, texts.get(&7).map(String::as_str), Some("7"));
+}
+
+#[test]
+fn entries_keep_a_pair_or_return_it(rt: HostRuntime) {
+    check_kept(&rt, rt.alloc(), Insertion::OrInsert, LAST);
+    check_kept(&rt, rt.alloc(), Insertion::OrInsertWith, LAST);
+    check_kept(&rt, rt.alloc(), Insertion::OrInsertWithKey, LAST);
+    check_kept(&rt, rt.alloc(), Insertion::InsertEntry, LAST);
+    check_kept(&rt, rt.alloc(), Insertion::VacantInsert, LAST);
+    check_kept(&rt, rt.alloc(), Insertion::VacantInsertEntry, LAST);
+}
+
+// Inserts the default through the entry of a key, or returns both.
+fn or_default<'a>(map: &mut VecMap<Told<'a>, u32>, key: Told<'a>) -> Result<(), (Told<'a>, u32)> {
+    match map.entry(key).or_default() {
+        Ok(_) => Ok(()),
+        Err(refused) => Err(refused.given),
+    }
+}
+
+#[test]
+fn or_default_keeps_the_key_or_returns_it(rt: HostRuntime) {
+    let log = Log::new();
+    let mut map: VecMap<Told<'_>, u32> = VecMap::new(rt.alloc());
+    let key = make_told(&log, 1);
+    retry!(rt; or_default(&mut map, key), (key, value) => {
+        assert_is(&rt, (map.len(), key.number(), value, log.alive()), (0, 1, 0, 1));
+    });
+    assert_is(&rt, (log.alive(), map.len()), (1, 1));
+    drop(map);
+    assert_is(&rt, log.alive(), 0);
 }

@@ -7,13 +7,6 @@ use std::process::Abort;
 use vecmap::VecMap;
 use vecmap_fixtures::{Item, full_map, make_item};
 
-#[test]
-fn with_capacity_makes_a_map_of_that_capacity_or_none(rt: HostRuntime) {
-    let map: VecMap<u32, u32> = make!(rt; VecMap::with_capacity(rt.alloc(), 3));
-    check!(rt; map.is_empty());
-    check!(rt; 3 <= map.capacity());
-}
-
 // Checks that a call that reserves capacity leaves the pairs and, if it is refused, the capacity.
 fn check_reserving<E, F>(rt: &(impl Abort + Print), alloc: Global, reserve: F)
 where

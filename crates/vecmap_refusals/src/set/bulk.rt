@@ -7,7 +7,8 @@ use std::process::Abort;
 use vecmap::VecSet;
 use vecmap_fixtures::{Hinted, Item, full_set, make_item};
 
-fn more() -> [Item; 9] {
+// Returns elements of which some are equal, to each other or to those of a full set.
+pub(super) fn more() -> [Item; 9] {
     [
         make_item(1, 'z'),
         make_item(7, 'p'),
@@ -103,20 +104,5 @@ fn a_set_of_many_elements_has_all_of_them_or_is_refused(rt: HostRuntime) {
     let set = make!(rt; VecSet::from_slice(rt.alloc(), &items));
     assert_items(&rt, &set, &all);
     let set: VecSet<Item> = make!(rt; items.iter().copied().collect(rt.alloc()));
-    assert_items(&rt, &set, &all);
-}
-
-#[test]
-fn a_set_of_an_array_has_all_elements_or_is_refused(rt: HostRuntime) {
-    let set = make!(rt; VecSet::from_array(rt.alloc(), more()));
-    let all = [
-        (1, 'z'),
-        (7, 'p'),
-        (2, 'y'),
-        (8, 'r'),
-        (9, 's'),
-        (10, 't'),
-        (11, 'u'),
-    ];
     assert_items(&rt, &set, &all);
 }

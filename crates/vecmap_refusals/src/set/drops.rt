@@ -1,45 +1,16 @@
-//! The set that a refused call leaves, and the elements that it keeps, returns or drops, each once. `alive` counts
-//! those that are not dropped.
+//! The elements that a refused call of many elements, or a refused run, keeps or drops, each once. `alive` counts those
+//! that are not dropped.
 use crate::checks::{assert_is, assert_told, check, granted};
 use crate::telling::{make, retry};
 use std::alloc::{AllocError, Global};
 use std::mem::replace;
 use std::process::Abort;
-use vecmap::macros::add_item;
-use vecmap::{Refused, SetCommand, SetReply, VecSet, run_set, vecset};
+use vecmap::{SetCommand, SetReply, VecSet, run_set};
 use vecmap_fixtures::{Log, Told, make_told, told_items, told_set};
 
 type Set<'a> = VecSet<Told<'a>>;
 
 type Commands<'a> = Vec<SetCommand<Told<'a>>>;
-
-// Adds an element by `insert` or by `replace`.
-fn add<'a>(replaces: bool, set: &mut Set<'a>, item: Told<'a>) -> Result<(), Refused<Told<'a>>> {
-    if replaces {
-        set.replace(item)?;
-    } else {
-        set.insert(item)?;
-    }
-    Ok(())
-}
-
-// Checks that an element is kept, or returned so that the call can be repeated.
-fn check_add(rt: &(impl Abort + Print), alloc: Global, replaces: bool) {
-    let log = Log::new();
-    let mut set = make!(rt; told_set(alloc, &log, &[1, 2]));
-    let item = make_told(&log, 3);
-    retry!(rt; add(replaces, &mut set, item), Refused { given: item } => {
-        assert_told(rt, &log, &set, 3, &[1, 2]);
-        assert_is(rt, (set.capacity(), item.number()), (2, 3));
-    });
-    assert_told(rt, &log, &set, 3, &[1, 2, 3]);
-}
-
-#[test]
-fn insertions_keep_an_element_or_return_it(rt: HostRuntime) {
-    check_add(&rt, rt.alloc(), false);
-    check_add(&rt, rt.alloc(), true);
-}
 
 #[derive(Clone, Copy)]
 enum ManyElements {
@@ -131,38 +102,6 @@ fn run_or_again<'a>(rt: &(impl Abort + Print), alloc: Global, log: &'a Log) -> S
         assert_is(rt, log.alive() as usize, set.len());
         drop(set);
         let commands = granted(rt, carrying(alloc, log));
-    })
-}
-
-#[test]
-fn add_item_keeps_an_element_or_drops_it(rt: HostRuntime) {
-    let log = Log::new();
-    let mut set = make!(rt; told_set(rt.alloc(), &log, &[1, 2]));
-    // The set is full, and an existing element needs no memory.
-    granted(&rt, add_item(&mut set, make_told(&log, 1)));
-    retry!(rt; add_item(&mut set, make_told(&log, 3)), AllocError => {
-        assert_told(&rt, &log, &set, 2, &[1, 2]);
-        assert_is(&rt, set.capacity(), 2);
-    });
-    assert_told(&rt, &log, &set, 3, &[1, 2, 3]);
-}
-
-// Creates a set of three elements by the macro. Two of them are equal.
-fn three<'a>(alloc: Global, log: &'a Log) -> Result<VecSet<Told<'a>>, AllocError> {
-    Ok(vecset!(alloc; make_told(log, 1), make_told(log, 2), make_told(log, 1)))
-}
-
-#[test]
-fn vecset_keeps_its_elements_or_drops_them(rt: HostRuntime) {
-    let log = Log::new();
-    let set = three_or_again(&rt, rt.alloc(), &log);
-    assert_told(&rt, &log, &set, 2, &[1, 2]);
-}
-
-// Creates the set of `three`, and again where it is refused.
-fn three_or_again<'a>(rt: &(impl Abort + Print), alloc: Global, log: &'a Log) -> Set<'a> {
-    retry!(rt; three(alloc, log), AllocError => {
-        assert_is(rt, log.alive(), 0);
     })
 }
 

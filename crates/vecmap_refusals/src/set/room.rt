@@ -7,13 +7,6 @@ use std::process::Abort;
 use vecmap::VecSet;
 use vecmap_fixtures::{Item, full_set, make_item};
 
-#[test]
-fn with_capacity_makes_a_set_of_that_capacity_or_none(rt: HostRuntime) {
-    let set: VecSet<u32> = make!(rt; VecSet::with_capacity(rt.alloc(), 3));
-    check!(rt; set.is_empty());
-    check!(rt; 3 <= set.capacity());
-}
-
 // Checks that a call that reserves capacity leaves the elements and, if it is refused, the capacity.
 fn check_reserving<E, F>(rt: &(impl Abort + Print), alloc: Global, reserve: F)
 where

@@ -7,6 +7,13 @@ use vecmap::map::Drain;
 
 fn shows_drain(rt: &impl Abort, alloc: Global) {
     let mut map = granted(rt, vecmap_a_1_b_2_c_3(alloc));
+    assert!(*rt; 2 <= map.len());
+    assert_is(rt, map.drain(..2).next(), Some(('a', 1)));
+    assert_pairs(rt, &map, &[('c', 3)]);
+}
+
+fn shows_drain_2(rt: &impl Abort, alloc: Global) {
+    let mut map = granted(rt, vecmap_a_1_b_2_c_3(alloc));
     assert!(*rt; 1 <= map.len());
     let mut drain = map.drain(1..);
     assert_is(rt, drain.next_back(), Some(('c', 3)));
@@ -26,5 +33,6 @@ fn shows_over(rt: &impl Abort, alloc: Global) {
 fn examples_of_vecmap_map_drain_hold(rt: HostRuntime) {
     let alloc = rt.alloc();
     shows_drain(&rt, alloc);
+    shows_drain_2(&rt, alloc);
     shows_over(&rt, alloc);
 }

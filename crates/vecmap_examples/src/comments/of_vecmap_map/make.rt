@@ -27,13 +27,6 @@ fn shows_into_vec(rt: &impl Abort, alloc: Global) {
     assert_list(rt, map.into_vec().as_slice(), &[('a', 1), ('b', 2)]);
 }
 
-fn shows_clone(rt: &impl Abort, alloc: Global) {
-    let map = granted(rt, vecmap_a_1_b_2(alloc));
-    let mut copy = granted(rt, map.clone());
-    granted(rt, copy.insert('c', 3));
-    assert_is(rt, (map.len(), copy.len()), (2, 3));
-}
-
 fn shows_allocator(rt: &impl Abort, alloc: Global) {
     let names: VecMap<String, u32> = VecMap::new(alloc);
     assert_text(rt, String::from_str(*names.allocator(), "a"), "a");
@@ -65,7 +58,6 @@ fn examples_of_vecmap_map_make_hold(rt: HostRuntime) {
     shows_with_capacity(&rt, alloc);
     shows_as_slice(&rt, alloc);
     shows_into_vec(&rt, alloc);
-    shows_clone(&rt, alloc);
     shows_allocator(&rt, alloc);
     shows_made_with(&rt, alloc);
     shows_emptied(&rt, alloc);

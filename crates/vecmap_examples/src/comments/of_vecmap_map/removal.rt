@@ -24,13 +24,6 @@ fn shows_split_off(rt: &impl Abort, alloc: Global) {
     assert_list(rt, part.as_slice(), &[('b', 2), ('c', 3)]);
 }
 
-fn shows_drain(rt: &impl Abort, alloc: Global) {
-    let mut map = granted(rt, vecmap_a_1_b_2_c_3(alloc));
-    assert!(*rt; 2 <= map.len());
-    assert_is(rt, map.drain(..2).next(), Some(('a', 1)));
-    assert_pairs(rt, &map, &[('c', 3)]);
-}
-
 fn shows_retain(rt: &impl Abort, alloc: Global) {
     let mut map = granted(rt, vecmap_a_1_b_2_c_3(alloc));
     map.retain(|_key, value| *value != 2);
@@ -93,7 +86,6 @@ fn examples_of_vecmap_map_removal_hold(rt: HostRuntime) {
     shows_clear(&rt, alloc);
     shows_truncate(&rt, alloc);
     shows_split_off(&rt, alloc);
-    shows_drain(&rt, alloc);
     shows_retain(&rt, alloc);
     shows_pop(&rt, alloc);
     shows_remove(&rt, alloc);

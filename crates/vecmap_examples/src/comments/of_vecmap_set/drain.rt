@@ -7,6 +7,13 @@ use vecmap::set::Drain;
 
 fn shows_drain(rt: &impl Abort, alloc: Global) {
     let mut set = granted(rt, vecset_1_2_3(alloc));
+    assert!(*rt; 2 <= set.len());
+    assert_is(rt, set.drain(..2).next(), Some(1));
+    assert_items(rt, &set, &[3]);
+}
+
+fn shows_drain_2(rt: &impl Abort, alloc: Global) {
+    let mut set = granted(rt, vecset_1_2_3(alloc));
     assert!(*rt; 1 <= set.len());
     let mut drain = set.drain(1..);
     assert_is(rt, drain.next_back(), Some(3));
@@ -26,5 +33,6 @@ fn shows_over(rt: &impl Abort, alloc: Global) {
 fn examples_of_vecmap_set_drain_hold(rt: HostRuntime) {
     let alloc = rt.alloc();
     shows_drain(&rt, alloc);
+    shows_drain_2(&rt, alloc);
     shows_over(&rt, alloc);
 }

@@ -1,6 +1,6 @@
 //! Made by `.ci/examples --write` from the doc comments of `vecmap_set/src/make.rt`.
 use crate::checks::{assert_is, assert_items, assert_list, assert_text, granted};
-use crate::comments::made::{vecset_1_2, vecset_2_1};
+use crate::comments::made::vecset_2_1;
 use std::alloc::Global;
 use std::mem;
 use std::process::Abort;
@@ -15,13 +15,6 @@ fn shows_with_capacity(rt: &impl Abort, alloc: Global) {
     let set: VecSet<u32> = granted(rt, VecSet::with_capacity(alloc, 4));
     assert_is(rt, set.is_empty(), true);
     assert_is(rt, 4 <= set.capacity(), true);
-}
-
-fn shows_clone(rt: &impl Abort, alloc: Global) {
-    let set = granted(rt, vecset_1_2(alloc));
-    let mut copy = granted(rt, set.clone());
-    granted(rt, copy.insert(3));
-    assert_is(rt, (set.len(), copy.len()), (2, 3));
 }
 
 fn shows_as_slice(rt: &impl Abort, alloc: Global) {
@@ -60,7 +53,6 @@ fn examples_of_vecmap_set_make_hold(rt: HostRuntime) {
     let alloc = rt.alloc();
     shows_new(&rt, alloc);
     shows_with_capacity(&rt, alloc);
-    shows_clone(&rt, alloc);
     shows_as_slice(&rt, alloc);
     shows_into_vec(&rt, alloc);
     shows_allocator(&rt, alloc);

@@ -24,13 +24,6 @@ fn shows_split_off(rt: &impl Abort, alloc: Global) {
     assert_list(rt, part.as_slice(), &[2, 3]);
 }
 
-fn shows_drain(rt: &impl Abort, alloc: Global) {
-    let mut set = granted(rt, vecset_1_2_3(alloc));
-    assert!(*rt; 2 <= set.len());
-    assert_is(rt, set.drain(..2).next(), Some(1));
-    assert_items(rt, &set, &[3]);
-}
-
 fn shows_retain(rt: &impl Abort, alloc: Global) {
     let mut set = granted(rt, vecset_1_2_3(alloc));
     set.retain(|item| *item != 2);
@@ -93,7 +86,6 @@ fn examples_of_vecmap_set_removal_hold(rt: HostRuntime) {
     shows_clear(&rt, alloc);
     shows_truncate(&rt, alloc);
     shows_split_off(&rt, alloc);
-    shows_drain(&rt, alloc);
     shows_retain(&rt, alloc);
     shows_pop(&rt, alloc);
     shows_remove(&rt, alloc);

@@ -1,4 +1,4 @@
-//! Clones of elements that allocate.
+//! Clones of a set whose elements allocate, and its other copies.
 use crate::checks::{assert_is, assert_texts, check};
 use crate::telling::make;
 use std::alloc::AllocError;
