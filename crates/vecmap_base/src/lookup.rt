@@ -6,8 +6,8 @@ ghost use Rattle.vecmap_base.specs.Pairs.{has_text, index_by, index_of};
 
 use crate::equivalent::Equivalent;
 use crate::unrolled::{
-    MIN_LENGTH_FOR_BLOCKS, MIN_LENGTH_FOR_EIGHTS, find_by_eights, find_item_unrolled,
-    find_pair_unrolled, is_any_in_blocks, is_small,
+    MIN_LENGTH_FOR_BLOCKS, MIN_LENGTH_FOR_EIGHTS, MIN_LENGTH_FOR_FOURS, find_by_eights,
+    find_item_unrolled, find_pair_unrolled, is_any_in_blocks, is_small,
 };
 
 /// Returns the index of the first pair whose key is equal to `key`.
@@ -144,7 +144,7 @@ pub fn find_item_equivalent<T: Eq, Q: Equivalent<T>>(items: &[T], query: Q) -> O
     ensures index { result ≡ position (Q.equivalent query) items.now }
     ensures within { IfSome result (λ i. i < length items.now) }
 {
-    if items.len() >= MIN_LENGTH_FOR_BLOCKS && items.first().is_some_and(is_small) {
+    if items.len() >= MIN_LENGTH_FOR_FOURS && items.first().is_some_and(is_small) {
         if items.len() >= MIN_LENGTH_FOR_EIGHTS {
             return find_item_of_many(items, query);
         }
@@ -177,7 +177,7 @@ fn find_item_of_many<T: Eq, Q: Equivalent<T>>(items: &[T], query: Q) -> Option<u
 ///
 /// # Complexity
 ///
-/// At most `items.len()` comparisons. Among eight items or more, of at most 8 bytes each, up to seven of them come after
+/// At most `items.len()` comparisons. Among four items or more, of at most 8 bytes each, up to seven of them come after
 /// the first that matches.
 ///
 /// # Examples

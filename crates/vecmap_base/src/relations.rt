@@ -5,7 +5,9 @@ ghost use Rattle.vecmap_base.specs.Equality.{is_within};
 ghost use Rattle.vecmap_base.specs.Items.{both, has_item};
 
 use crate::lookup::contains_item;
-use crate::unrolled::MIN_LENGTH_FOR_BLOCKS;
+
+// The least length of the other list for which a relation looks each item up by a call.
+const MIN_LENGTH_FOR_LOOKUPS: usize = 8;
 
 /// Returns `true` if each of `items` is equal to one of `others`.
 ///
@@ -23,7 +25,7 @@ use crate::unrolled::MIN_LENGTH_FOR_BLOCKS;
 pub fn are_within<T: Eq>(items: &[T], others: &[T]) -> bool
     ensures { result ≡ is_within T.eq items.now others.now }
 {
-    if others.len() < MIN_LENGTH_FOR_BLOCKS {
+    if others.len() < MIN_LENGTH_FOR_LOOKUPS {
         return are_within_few(items, others);
     }
     items.iter().all(|item| contains_item(others, item))
@@ -53,7 +55,7 @@ pub fn are_disjoint<T: Eq>(items: &[T], others: &[T]) -> bool
 fn overlap<T: Eq>(items: &[T], others: &[T]) -> bool
     ensures { result ≡ list_any (has_item T.eq others.now) items.now }
 {
-    if others.len() < MIN_LENGTH_FOR_BLOCKS {
+    if others.len() < MIN_LENGTH_FOR_LOOKUPS {
         return overlap_few(items, others);
     }
     items.iter().any(|item| contains_item(others, item))

@@ -14,8 +14,11 @@ use std::mem::size_of_val;
 // The size of a word in bytes.
 const WORD: usize = 8;
 
-// The least length of a list for which `find_item_unrolled` and `is_any_in_blocks` are faster than a plain loop.
-pub(crate) const MIN_LENGTH_FOR_BLOCKS: usize = 8;
+// The least length of a list for which `is_any_in_blocks` is faster than a plain loop.
+pub(crate) const MIN_LENGTH_FOR_BLOCKS: usize = 4;
+
+// The least length of a list for which `find_item_unrolled` is faster.
+pub(crate) const MIN_LENGTH_FOR_FOURS: usize = 8;
 
 // The least length of a list for which `find_by_eights` is faster.
 pub(crate) const MIN_LENGTH_FOR_EIGHTS: usize = 32;
