@@ -117,7 +117,7 @@ fn a_search_of_words_asks_about_at_most_seven_more(rt: HostRuntime) {
 
 #[test]
 fn a_test_for_a_word_asks_about_at_most_seven_more(rt: HostRuntime) {
-    for length in [1, 7, 8, 11, 12, 13, 20, 31] {
+    for length in [1, 3, 4, 5, 7, 8, 11, 12, 13, 20, 31] {
         let log = Log::new();
         let mut numbers = Vec::new(rt.alloc());
         for number in 0..length {
@@ -130,7 +130,7 @@ fn a_test_for_a_word_asks_about_at_most_seven_more(rt: HostRuntime) {
         for word in &told {
             granted(&rt, words.push(word));
         }
-        let more: usize = if told.len() < 8 { 1 } else { 8 };
+        let more: usize = if told.len() < 4 { 1 } else { 8 };
         for (index, word) in wanted.iter().enumerate() {
             let before = log.comparisons();
             assert_is(&rt, contains_item(&words, &word), index < told.len());
