@@ -12,7 +12,7 @@ pub fn headers(alloc: Global) -> Result<VecMap<&'static str, u32>, AllocError> {
     Ok(map)
 }
 
-/// The elements of both sets, in the order of the first.
+/// What both sets have, in the order of the first.
 pub fn common(alloc: Global) -> Result<VecSet<u32>, AllocError> {
     let a = vecset!(alloc; 3, 1, 2, 3);
     let b = vecset!(alloc; 2, 4, 3);

@@ -107,7 +107,7 @@ pub fn forget(map: &mut VecMap<u32, u32>, gone: u32) {
     map.retain(|key, _value| *key != gone);
 }
 
-/// `map.sort_by_key(|key, _| Reverse(*key))`.
+/// `map.sort_by_cached_key(|key, _| Reverse(*key))`.
 pub fn sort_down(map: &mut VecMap<u32, u32>) -> Result<(), AllocError> {
     map.sort_by(|a, b| b.0.cmp(a.0))
 }
