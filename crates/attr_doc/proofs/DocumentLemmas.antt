@@ -2,6 +2,7 @@
 use Rattle.std.specs.Prelude.{◌≡◌, ℕ, List, [], ◌∷◌, None, Option, Some, String, All, unwrap_or, refl, Ok, Err, OnOk, OnErr, Result}
 use Rattle.std.specs.List.{IsDistinct}
 use Rattle.std.specs.Option.{option_map_or}
+use Rattle.std.specs.Str.{str_eq_ignore_ascii_case}
 use Rattle.std.specs.declared.alloc.Global.{Global}
 use Rattle.std.proofs.Common.{sym, subst, arith}
 use Rattle.std.proofs.lemmas.List.Elements.{All-head, All-nil, All-tail}
@@ -9,47 +10,46 @@ use Rattle.std.proofs.lemmas.Map.Made.{keys_of-map_values}
 use Rattle.vecmap.specs.Pairs.{HasDistinctKeys, lookup, put, puts}
 use Rattle.vecmap.proofs.DistinctKeys.{distinct_put, distinct_puts}
 use Rattle.attr_doc.specs.Documents.{IsDocument, IsSection, Section, Sections, Stored, merged, sections_of, with_section, with_text}
-use Rattle.attr_doc.specs.Names.{same_name}
-use Rattle.attr_doc.proofs.NameLaws.{same_name_laws}
+use Rattle.attr_doc.proofs.NameLaws.{ignoring_case_equiv}
 use Rattle.vecmap.proofs.AfterPuts.{put_some, puts_some}
 use Rattle.vecmap.proofs.EachValue.{holds_after_put, holds_of_found}
 
-no_names : IsDistinct same_name []
+no_names : IsDistinct str_eq_ignore_ascii_case []
 unfolding IsDistinct
 no_names = tt
 
 pub document_of_none : (l : List (List ℕ × Stored)) → l ≡ [] → IsDocument (sections_of l)
 document_of_none l e = subst (λ m. IsDocument (sections_of m)) (sym e) (record { distinct = no_names; sections = All-nil (λ p. IsSection p.1) })
 
-pub names_apart : (l : List (List ℕ × Stored)) → IsDocument (sections_of l) → HasDistinctKeys same_name l
-names_apart l d = subst (λ ks. IsDistinct same_name ks) (keys_of-map_values (λ m. m.entries) l) d.distinct
+pub names_apart : (l : List (List ℕ × Stored)) → IsDocument (sections_of l) → HasDistinctKeys str_eq_ignore_ascii_case l
+names_apart l d = subst (λ ks. IsDistinct str_eq_ignore_ascii_case ks) (keys_of-map_values (λ m. m.entries) l) d.distinct
 
-section_put : (f : Section) → HasDistinctKeys same_name f → (n : List ℕ) (t : String Global) → IsSection (put same_name f n t)
-section_put f d n t = record { distinct = distinct_put same_name same_name_laws f n t d; some = put_some same_name f n t }
+section_put : (f : Section) → HasDistinctKeys str_eq_ignore_ascii_case f → (n : List ℕ) (t : String Global) → IsSection (put str_eq_ignore_ascii_case f n t)
+section_put f d n t = record { distinct = distinct_put str_eq_ignore_ascii_case ignoring_case_equiv f n t d; not_empty = put_some str_eq_ignore_ascii_case f n t }
 
-section_puts : (f g : Section) → IsSection f → IsSection (puts same_name f g)
-section_puts f g j = record { distinct = distinct_puts same_name same_name_laws f g j.distinct; some = puts_some same_name f g (omega (arith, j.some)) }
+section_puts : (f g : Section) → IsSection f → IsSection (puts str_eq_ignore_ascii_case f g)
+section_puts f g j = record { distinct = distinct_puts str_eq_ignore_ascii_case ignoring_case_equiv f g j.distinct; not_empty = puts_some str_eq_ignore_ascii_case f g (omega (arith, j.not_empty)) }
 
 -- A document stays a document if a section is inserted that is made from the existing one.
-document_put : (d : Sections) → IsDocument d → (s : List ℕ) (make : Option Section → Section) → ((o : Option Section) → ((f : Section) → o ≡ Some f → IsSection f) → IsSection (make o)) → IsDocument (put same_name d s (make (lookup same_name d s)))
+document_put : (d : Sections) → IsDocument d → (s : List ℕ) (make : Option Section → Section) → ((o : Option Section) → ((f : Section) → o ≡ Some f → IsSection f) → IsSection (make o)) → IsDocument (put str_eq_ignore_ascii_case d s (make (lookup str_eq_ignore_ascii_case d s)))
 document_put d i s make h =
-    let f = make (lookup same_name d s) in
+    let f = make (lookup str_eq_ignore_ascii_case d s) in
     record {
-      distinct = distinct_put same_name same_name_laws d s f i.distinct;
-      sections = holds_after_put same_name IsSection d i.sections s f (h (lookup same_name d s) (λ g e. holds_of_found same_name IsSection d i.sections s g e));
+      distinct = distinct_put str_eq_ignore_ascii_case ignoring_case_equiv d s f i.distinct;
+      sections = holds_after_put str_eq_ignore_ascii_case IsSection d i.sections s f (h (lookup str_eq_ignore_ascii_case d s) (λ g e. holds_of_found str_eq_ignore_ascii_case IsSection d i.sections s g e));
     }
 
 pub document_with_text : (d : Sections) → IsDocument d → (s n : List ℕ) (t : String Global) → IsDocument (with_text d s n t)
-document_with_text d i s n t = document_put d i s (λ o. put same_name (unwrap_or o []) n t) by
+document_with_text d i s n t = document_put d i s (λ o. put str_eq_ignore_ascii_case (unwrap_or o []) n t) by
   where
-    by : (o : Option Section) → ((f : Section) → o ≡ Some f → IsSection f) → IsSection (put same_name (unwrap_or o []) n t)
+    by : (o : Option Section) → ((f : Section) → o ≡ Some f → IsSection f) → IsSection (put str_eq_ignore_ascii_case (unwrap_or o []) n t)
     by None h = section_put [] (no_names) n t
     by (Some f) h = section_put f (h f refl).distinct n t
 
 document_with_section : (d : Sections) → IsDocument d → (s : List ℕ) (f : Section) → IsSection f → IsDocument (with_section d s f)
-document_with_section d i s f j = document_put d i s (λ o. option_map_or (λ old. puts same_name old f) o f) by
+document_with_section d i s f j = document_put d i s (λ o. option_map_or (λ old. puts str_eq_ignore_ascii_case old f) o f) by
   where
-    by : (o : Option Section) → ((g : Section) → o ≡ Some g → IsSection g) → IsSection (option_map_or (λ old. puts same_name old f) o f)
+    by : (o : Option Section) → ((g : Section) → o ≡ Some g → IsSection g) → IsSection (option_map_or (λ old. puts str_eq_ignore_ascii_case old f) o f)
     by None h = j
     by (Some g) h = section_puts g f (h g refl)
 

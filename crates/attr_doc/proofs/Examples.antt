@@ -1,19 +1,19 @@
 -- Worked examples: names by their bytes, and small documents. `t`, `u` and `v` are any texts.
 use Rattle.std.specs.Prelude.{◌≡◌, [], ◌∷◌, None, Some, String, false, refl, string_bytes, true}
+use Rattle.std.specs.Str.{str_eq_ignore_ascii_case}
 use Rattle.std.specs.declared.alloc.Global.{Global}
 use Rattle.attr_doc.specs.Documents.{Sections, merged, text_of, with_section, with_text}
-use Rattle.attr_doc.specs.Names.{same_name}
 
 -- `Az[` and `aZ[`
-a_name_in_other_case : same_name (65 ∷ 122 ∷ 91 ∷ []) (97 ∷ 90 ∷ 91 ∷ []) ≡ true
+a_name_in_other_case : str_eq_ignore_ascii_case (65 ∷ 122 ∷ 91 ∷ []) (97 ∷ 90 ∷ 91 ∷ []) ≡ true
 a_name_in_other_case = refl
 
 -- `@` and a backquote, `[` and a brace: their codes differ as those of a letter's two cases do.
-a_name_beside_the_letters : same_name (64 ∷ 91 ∷ []) (96 ∷ 123 ∷ []) ≡ false
+a_name_beside_the_letters : str_eq_ignore_ascii_case (64 ∷ 91 ∷ []) (96 ∷ 123 ∷ []) ≡ false
 a_name_beside_the_letters = refl
 
 -- `é` and `É`
-a_name_past_ascii : same_name (195 ∷ 169 ∷ []) (195 ∷ 137 ∷ []) ≡ false
+a_name_past_ascii : str_eq_ignore_ascii_case (195 ∷ 169 ∷ []) (195 ∷ 137 ∷ []) ≡ false
 a_name_past_ascii = refl
 
 module _ (t u v : String Global) where

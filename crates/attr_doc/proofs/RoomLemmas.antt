@@ -2,6 +2,7 @@
 use Rattle.std.specs.Prelude.{◌≡◌, ◌≤◌, ℕ, false, true, List, ◌∷◌, [], Some, IsSome, All, length, unwrap_or}
 use Rattle.std.specs.List.{AllByRecursion}
 use Rattle.std.specs.Map.{keys_of}
+use Rattle.std.specs.Str.{str_eq_ignore_ascii_case}
 use Rattle.std.proofs.Common.{sym, ap, ◌∙◌, subst, arith, inl, inr}
 use Rattle.std.proofs.lemmas.Bool.{cases_Bool}
 use Rattle.std.proofs.lemmas.List.{length-map}
@@ -10,38 +11,37 @@ use Rattle.vecmap.specs.Contents.{Contents, HasRoom, with_value_of}
 use Rattle.vecmap.specs.Pairs.{index_of, lookup, put}
 use Rattle.vecmap.proofs.Lookups.{lookup_put, lookup_put_other, lookup_congr}
 use Rattle.attr_doc.specs.Documents.{HasRoomAt, IsRoomFor, Stored, sections_of}
-use Rattle.attr_doc.specs.Names.{same_name}
 use Rattle.vecmap.proofs.ContentsLemmas.{with_value_of_is_put}
-use Rattle.attr_doc.proofs.NameLaws.{same_name_laws}
+use Rattle.attr_doc.proofs.NameLaws.{ignoring_case_equiv}
 
 pub same_length : (l k : List (List ℕ × Stored)) → sections_of l ≡ sections_of k → length l ≡ length k
 same_length l k e = sym (length-map l (λ p. (p.0, p.1.entries))) ∙ ap length e ∙ length-map k (λ p. (p.0, p.1.entries))
 
-pub others_after : (l new : List (List ℕ × Stored)) (s : List ℕ) (m : Stored) → new ≡ put same_name l s m → (q : List ℕ) → same_name s q ≡ false → lookup same_name new q ≡ lookup same_name l q
-others_after l new s m g q n = ap (λ k. lookup same_name k q) g ∙ lookup_put_other same_name same_name_laws l s m q n
+pub others_after : (l new : List (List ℕ × Stored)) (s : List ℕ) (m : Stored) → new ≡ put str_eq_ignore_ascii_case l s m → (q : List ℕ) → str_eq_ignore_ascii_case s q ≡ false → lookup str_eq_ignore_ascii_case new q ≡ lookup str_eq_ignore_ascii_case l q
+others_after l new s m g q n = ap (λ k. lookup str_eq_ignore_ascii_case k q) g ∙ lookup_put_other str_eq_ignore_ascii_case ignoring_case_equiv l s m q n
 
 -- The existing section `s` becomes `new`.
-module _ (c : Contents (List ℕ) Stored) (s : List ℕ) (new : Stored) (there : IsSome (index_of same_name c.entries s)) where
-  pub others_stay : (q : List ℕ) → same_name s q ≡ false → lookup same_name (with_value_of same_name c s new).entries q ≡ lookup same_name c.entries q
-  others_stay = others_after c.entries (with_value_of same_name c s new).entries s new (with_value_of_is_put same_name c s new there)
+module _ (c : Contents (List ℕ) Stored) (s : List ℕ) (new : Stored) (there : IsSome (index_of str_eq_ignore_ascii_case c.entries s)) where
+  pub others_stay : (q : List ℕ) → str_eq_ignore_ascii_case s q ≡ false → lookup str_eq_ignore_ascii_case (with_value_of str_eq_ignore_ascii_case c s new).entries q ≡ lookup str_eq_ignore_ascii_case c.entries q
+  others_stay = others_after c.entries (with_value_of str_eq_ignore_ascii_case c s new).entries s new (with_value_of_is_put str_eq_ignore_ascii_case c s new there)
 
   -- The lookup of its name finds `new`.
-  found_new : (q : List ℕ) → same_name s q ≡ true → (o : Stored) → lookup same_name (with_value_of same_name c s new).entries q ≡ Some o → new ≡ o
+  found_new : (q : List ℕ) → str_eq_ignore_ascii_case s q ≡ true → (o : Stored) → lookup str_eq_ignore_ascii_case (with_value_of str_eq_ignore_ascii_case c s new).entries q ≡ Some o → new ≡ o
   found_new q y o w =
-      let l = (with_value_of same_name c s new).entries in
-      let e : Some new ≡ Some o = sym (lookup_put same_name same_name_laws c.entries s new) ∙ ap (λ k. lookup same_name k s) (sym (with_value_of_is_put same_name c s new there)) ∙ lookup_congr same_name same_name_laws l s q y ∙ w in
+      let l = (with_value_of str_eq_ignore_ascii_case c s new).entries in
+      let e : Some new ≡ Some o = sym (lookup_put str_eq_ignore_ascii_case ignoring_case_equiv c.entries s new) ∙ ap (λ k. lookup str_eq_ignore_ascii_case k s) (sym (with_value_of_is_put str_eq_ignore_ascii_case c s new there)) ∙ lookup_congr str_eq_ignore_ascii_case ignoring_case_equiv l s q y ∙ w in
       ap (λ p. unwrap_or p new) e
 
   -- The section has spare capacity for `n` more texts if its map has.
-  pub has_room_at : (n : ℕ) → HasRoom new n → HasRoomAt (with_value_of same_name c s new).entries s n
-  has_room_at n room o w = subst (λ (x : Stored). HasRoom x n) (found_new s (same_name_laws.refl s) o w) room
+  pub has_room_at : (n : ℕ) → HasRoom new n → HasRoomAt (with_value_of str_eq_ignore_ascii_case c s new).entries s n
+  has_room_at n room o w = subst (λ (x : Stored). HasRoom x n) (found_new s (ignoring_case_equiv.refl s) o w) room
 
   -- If it has the same texts and no less capacity, each section keeps the spare capacity that it had.
-  pub keeps_room : (m : Stored) → Some m ≡ lookup same_name c.entries s → new.entries ≡ m.entries → m.capacity ≤ new.capacity → (q : List ℕ) (n : ℕ) → HasRoomAt c.entries q n → HasRoomAt (with_value_of same_name c s new).entries q n
+  pub keeps_room : (m : Stored) → Some m ≡ lookup str_eq_ignore_ascii_case c.entries s → new.entries ≡ m.entries → m.capacity ≤ new.capacity → (q : List ℕ) (n : ℕ) → HasRoomAt c.entries q n → HasRoomAt (with_value_of str_eq_ignore_ascii_case c s new).entries q n
   keeps_room m e f g q n room o w =
-      elim (cases_Bool (same_name s q)) [
+      elim (cases_Bool (str_eq_ignore_ascii_case s q)) [
         | inl y ↦
-            let before : HasRoom m n = room m (sym (lookup_congr same_name same_name_laws c.entries s q y) ∙ sym e) in
+            let before : HasRoom m n = room m (sym (lookup_congr str_eq_ignore_ascii_case ignoring_case_equiv c.entries s q y) ∙ sym e) in
             let same = ap length f in
             let after : HasRoom new n = omega (arith, before, same, g) in
             subst (λ (x : Stored). HasRoom x n) (found_new q y o w) after
@@ -49,6 +49,6 @@ module _ (c : Contents (List ℕ) Stored) (s : List ℕ) (new : Stored) (there :
       ]
 
 -- If a section of another name is inserted, the others keep their spare capacity.
-pub room_after : (l k : List (List ℕ × Stored)) (s : List ℕ) (ps : List (List ℕ × Stored)) → AllByRecursion (λ y. same_name s y ≡ false) (keys_of ps) → ((q : List ℕ) → same_name s q ≡ false → lookup same_name k q ≡ lookup same_name l q) → All (IsRoomFor l) ps → All (IsRoomFor k) ps
+pub room_after : (l k : List (List ℕ × Stored)) (s : List ℕ) (ps : List (List ℕ × Stored)) → AllByRecursion (λ y. str_eq_ignore_ascii_case s y ≡ false) (keys_of ps) → ((q : List ℕ) → str_eq_ignore_ascii_case s q ≡ false → lookup str_eq_ignore_ascii_case k q ≡ lookup str_eq_ignore_ascii_case l q) → All (IsRoomFor l) ps → All (IsRoomFor k) ps
 room_after l k s [] h o a = All-nil (IsRoomFor k)
 room_after l k s (q ∷ qs) h o a = All-cons (IsRoomFor k) q qs (λ m e. All-head (IsRoomFor l) q qs a m (sym (o q.0 h.0) ∙ e)) (room_after l k s qs h.1 o (All-tail (IsRoomFor l) q qs a))

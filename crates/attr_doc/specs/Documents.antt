@@ -1,10 +1,10 @@
 -- The definitions of documents, which are sections of texts under names.
 use Rattle.std.specs.Prelude.{ℕ, ◌≡◌, ◌<◌, Some, List, [], Option, String, All, fold, length, option_and_then, option_map, string_bytes, unwrap_or}
 use Rattle.std.specs.Option.{option_map_or}
+use Rattle.std.specs.Str.{str_eq_ignore_ascii_case}
 use Rattle.std.specs.declared.alloc.Global.{Global}
 use Rattle.vecmap.specs.Contents.{Contents, HasRoom}
 use Rattle.vecmap.specs.Pairs.{HasDistinctKeys, lookup, map_values, put, puts}
-use Rattle.attr_doc.specs.Names.{same_name}
 
 -- A section: its names with their texts, in their order.
 abbrev pub Section : Type 0
@@ -24,26 +24,26 @@ sections_of l = map_values (λ m. m.entries) l
 
 -- The text under a section and a name, if there is one.
 abbrev pub text_of : Sections → List ℕ → List ℕ → Option (List ℕ)
-text_of d section name = option_and_then (λ texts. option_map string_bytes (lookup same_name texts name)) (lookup same_name d section)
+text_of d section name = option_and_then (λ texts. option_map string_bytes (lookup str_eq_ignore_ascii_case texts name)) (lookup str_eq_ignore_ascii_case d section)
 
 -- No name of the section repeats, and it has at least one.
 pub record IsSection (texts : Section) : Type 0 where
-  pub distinct : HasDistinctKeys same_name texts
-  pub some : 0 < length texts
+  pub distinct : HasDistinctKeys str_eq_ignore_ascii_case texts
+  pub not_empty : 0 < length texts
 
 -- No name of a section repeats, and no section is empty or repeats a name.
 pub record IsDocument (d : Sections) : Type 0 where
-  pub distinct : HasDistinctKeys same_name d
+  pub distinct : HasDistinctKeys str_eq_ignore_ascii_case d
   pub sections : All (λ p. IsSection p.1) d
 
 -- The document `d` with a text stored in its section, or in a new last section.
 abbrev pub with_text : Sections → List ℕ → List ℕ → String Global → Sections
-with_text d section name text = put same_name d section (put same_name (unwrap_or (lookup same_name d section) []) name text)
+with_text d section name text = put str_eq_ignore_ascii_case d section (put str_eq_ignore_ascii_case (unwrap_or (lookup str_eq_ignore_ascii_case d section) []) name text)
 
 -- The document `d` with a section: its texts are inserted into an existing section of its name, and a new section is
 -- appended.
 abbrev pub with_section : Sections → List ℕ → Section → Sections
-with_section d section texts = put same_name d section (option_map_or (λ old. puts same_name old texts) (lookup same_name d section) texts)
+with_section d section texts = put str_eq_ignore_ascii_case d section (option_map_or (λ old. puts str_eq_ignore_ascii_case old texts) (lookup str_eq_ignore_ascii_case d section) texts)
 
 -- The document `d` with each section of `e` inserted, in order.
 abbrev pub merged : Sections → Sections → Sections
@@ -51,7 +51,7 @@ merged d e = fold (λ done p. with_section done p.0 p.1) d e
 
 -- If the section exists, it has spare capacity for `n` more texts.
 abbrev pub HasRoomAt : List (List ℕ × Stored) → List ℕ → ℕ → Type 0
-HasRoomAt l section n = (m : Stored) → lookup same_name l section ≡ Some m → HasRoom m n
+HasRoomAt l section n = (m : Stored) → lookup str_eq_ignore_ascii_case l section ≡ Some m → HasRoom m n
 
 -- The section with the name of `p` has spare capacity for as many texts as `p` has, if it exists.
 abbrev pub IsRoomFor : List (List ℕ × Stored) → List ℕ × Stored → Type 0

@@ -71,7 +71,7 @@ impl Document {
     ///
     /// An existing section and an existing name stay as they were first written, in their order, and only the text
     /// changes. A new name is appended to its section. A new section, which holds this one text, is appended to the
-    /// document. The call allocates only for a new name or a new section, where there is no spare capacity.
+    /// document.
     ///
     /// # Errors
     ///
@@ -82,6 +82,9 @@ impl Document {
     ///
     /// At most one comparison for each section, and for each name in the section. For a new section, at most two for
     /// each section.
+    ///
+    /// A new section always allocates, for its first text. Otherwise the call allocates only for a new name whose
+    /// section has no spare capacity.
     ///
     /// # Examples
     ///

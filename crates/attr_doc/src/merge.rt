@@ -1,8 +1,8 @@
 //! The work of `Document::merge`, over the maps of sections alone: to reserve capacity for everything, then to move it.
 //! `merge` forwards to it, because the contract of a map need not say at each step that its sections are a document.
 ghost use Rattle.attr_doc.specs.Documents.{HasRoomAt, IsRoomFor, merged, sections_of, with_section};
-ghost use Rattle.attr_doc.specs.Names.{same_name};
 ghost use Rattle.std.specs.Prelude.{All, ◌≡◌, ◌+◌, ◌<◌, ◌≤◌, ℕ, List, OnErr, OnOk, false, length};
+ghost use Rattle.std.specs.Str.{str_eq_ignore_ascii_case};
 ghost use Rattle.vecmap.specs.Contents.{HasRoom};
 ghost use Rattle.vecmap.specs.Pairs.{HasDistinctKeys, lookup};
 
@@ -35,7 +35,7 @@ pub(crate) fn move_all(
 )
     requires room { HasRoom sections.old (length others.items) }
     requires rooms { All (IsRoomFor sections.old.entries) others.items }
-    requires distinct { HasDistinctKeys same_name others.items }
+    requires distinct { HasDistinctKeys str_eq_ignore_ascii_case others.items }
     ensures { sections_of sections.new.entries
         ≡ merged (sections_of sections.old.entries) (sections_of others.items) }
 {
@@ -75,9 +75,9 @@ fn move_section(
         ≡ with_section (sections_of sections.old.entries) name texts.entries }
     ensures capacity { sections.new.capacity ≡ sections.old.capacity }
     ensures len { length sections.new.entries ≤ length sections.old.entries + 1 }
-    ensures others { (other : List ℕ) → same_name name other ≡ false
-        → lookup same_name sections.new.entries other
-        ≡ lookup same_name sections.old.entries other }
+    ensures others { (other : List ℕ) → str_eq_ignore_ascii_case name other ≡ false
+        → lookup str_eq_ignore_ascii_case sections.new.entries other
+        ≡ lookup str_eq_ignore_ascii_case sections.old.entries other }
 {
     match sections.get_mut(&name) {
         Some(existing) => existing.append(&mut texts).unwrap(),

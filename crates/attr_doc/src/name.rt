@@ -1,9 +1,8 @@
 //! Names that ignore the case of ASCII letters.
-ghost use Rattle.attr_doc.specs.Names.{same_name};
 ghost use Rattle.std.specs.Cmp.{on_equiv, partial_equiv_from_equiv};
 ghost use Rattle.std.specs.Cmp.Lexicographic.{nat_list_eq_equiv};
 ghost use Rattle.std.specs.Prelude.{◌≡◌, string_bytes};
-ghost use Rattle.std.specs.Str.{str_to_ascii_lowercase};
+ghost use Rattle.std.specs.Str.{str_eq_ignore_ascii_case, str_to_ascii_lowercase};
 
 use std::fmt;
 use std::marker::Model;
@@ -64,7 +63,7 @@ impl Name {
 ///
 /// Does not allocate.
 impl PartialEq for Name {
-    ghost eq = { same_name };
+    ghost eq = { str_eq_ignore_ascii_case };
 
     ghost laws = { partial_equiv_from_equiv (on_equiv str_to_ascii_lowercase nat_list_eq_equiv) };
 

@@ -1,8 +1,8 @@
-//! The work of `Document::set`, over the map of sections alone. `set` forwards to it, because the contract of a map need
-//! not say at each step that its sections are a document.
+//! The work of `Document::set`, over the map of sections alone. `set` forwards to it, because the contract of a map
+//! need not say at each step that its sections are a document.
 ghost use Rattle.attr_doc.specs.Documents.{sections_of, text_of, with_text};
-ghost use Rattle.attr_doc.specs.Names.{same_name};
 ghost use Rattle.std.specs.Prelude.{◌≡◌, IfErr, IfOk, IsOk, IsSome, OnErr, OnOk, option_map, string_bytes};
+ghost use Rattle.std.specs.Str.{str_eq_ignore_ascii_case};
 ghost use Rattle.vecmap.specs.Pairs.{index_of, lookup, put};
 
 use crate::Name;
@@ -49,9 +49,12 @@ fn set_in(
     name: Name,
     text: String,
 ) -> Result<Option<String>, Refused<(Name, Name, String)>>
-    ensures texts { OnOk result (texts.new.entries ≡ put same_name texts.old.entries name text) }
-    ensures old { IfOk result (λ old. old ≡ lookup same_name texts.old.entries name) }
-    ensures succeeds { IsSome (index_of same_name texts.old.entries name) → IsOk result }
+    ensures texts { OnOk result (texts.new.entries
+        ≡ put str_eq_ignore_ascii_case texts.old.entries name text) }
+    ensures old { IfOk result (λ old. old
+        ≡ lookup str_eq_ignore_ascii_case texts.old.entries name) }
+    ensures succeeds { IsSome (index_of str_eq_ignore_ascii_case texts.old.entries name)
+        → IsOk result }
     ensures given { IfErr result (λ refused. refused.given ≡ (section, name, text)) }
     ensures err { OnErr result (texts.new ≡ texts.old) }
 {

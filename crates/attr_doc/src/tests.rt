@@ -206,7 +206,7 @@ fn merges_in_order(rt: HostRuntime) {
     );
 }
 
-/// Returns whether two documents are the same, compared from either side.
+/// Returns for either side `true` if the two documents are the same, compared from that side.
 fn are_same(
     alloc: Global,
     first: &[(&str, &str, &str)],

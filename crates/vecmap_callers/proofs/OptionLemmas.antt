@@ -1,16 +1,12 @@
 -- What an option is after overrides are laid over others.
-use Rattle.std.specs.Prelude.{◌≡◌, Bool, List, None, Option, Some, refl}
+use Rattle.std.specs.Prelude.{◌≡◌, Bool, List}
 use Rattle.std.specs.Cmp.{IsEquivalence}
 use Rattle.std.specs.Option.{option_or}
 use Rattle.std.proofs.Common.{ap, ◌∙◌}
 use Rattle.vecmap.specs.Pairs.{HasDistinctKeys, lookup, puts}
-use Rattle.vecmap.proofs.AfterPuts.{lookup_puts_distinct}
-
-either_way : {X : Type 0} (a b c : Option X) → option_or (option_or a b) c ≡ option_or a (option_or b c)
-either_way None b c = refl
-either_way (Some x) b c = refl
+use Rattle.vecmap.proofs.AfterPuts.{lookup_puts_distinct, option_or_assoc}
 
 -- Overrides that are laid over others are read first, then the others, then the defaults.
 pub laid_over : {K V : Type 0} (eq : K → K → Bool) → IsEquivalence eq → (defaults overrides upper : List (K × V)) → HasDistinctKeys eq upper → (q : K) → option_or (lookup eq (puts eq overrides upper) q) (lookup eq defaults q) ≡ option_or (lookup eq upper q) (option_or (lookup eq overrides q) (lookup eq defaults q))
 laid_over eq o defaults overrides upper d q =
-    ap (λ found. option_or found (lookup eq defaults q)) (lookup_puts_distinct eq o overrides upper d q) ∙ either_way (lookup eq upper q) (lookup eq overrides q) (lookup eq defaults q)
+    ap (λ found. option_or found (lookup eq defaults q)) (lookup_puts_distinct eq o overrides upper d q) ∙ option_or_assoc (lookup eq upper q) (lookup eq overrides q) (lookup eq defaults q)

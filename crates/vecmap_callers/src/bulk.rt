@@ -1,5 +1,5 @@
 //! Callers that insert, collect or move many pairs or elements at once.
-ghost use Rattle.std.specs.Prelude.{◌≡◌, [], IfOk, OnErr, OnOk, nat_eq};
+ghost use Rattle.std.specs.Prelude.{◌≡◌, ◌⊎◌, [], IfOk, OnErr, OnOk, nat_eq};
 ghost use Rattle.vecmap.specs.Items.{adds};
 ghost use Rattle.vecmap.specs.Pairs.{puts};
 
@@ -38,7 +38,8 @@ pub fn add_all(set: &mut VecSet<u32>, items: Vec<u32>) -> Result<(), AllocError>
 ///
 /// # Errors
 ///
-/// [`AllocError`] if the allocator refuses a request; a set whose elements are refused keeps them all.
+/// [`AllocError`] if the allocator refuses a request. If that for `next` is refused, all three sets are unchanged. If
+/// that for `last` is refused, `last` is unchanged, and the elements of `next` are in `set`.
 pub fn join(
     set: &mut VecSet<u32>,
     next: &mut VecSet<u32>,
@@ -47,7 +48,10 @@ pub fn join(
     ensures elements { OnOk result (set.new.elements
         ≡ adds nat_eq (adds nat_eq set.old.elements next.old.elements) last.old.elements) }
     ensures emptied { OnOk result ((next.new.elements ≡ []) × (last.new.elements ≡ [])) }
-    ensures err { OnErr result (last.new ≡ last.old) }
+    ensures err { OnErr result (((set.new ≡ set.old) × (next.new ≡ next.old))
+        ⊎ ((set.new.elements ≡ adds nat_eq set.old.elements next.old.elements)
+        × (next.new.elements ≡ []))) }
+    ensures other_err { OnErr result (last.new ≡ last.old) }
 {
     set.append(next)?;
     set.append(last)

@@ -63,7 +63,7 @@ pub fn or_empty<K: Eq + Drop>(
     maps: &mut VecMap<K, VecMap<u64, u64>>,
     key: K,
 ) -> Result<usize, Refused<(K, VecMap<u64, u64>)>>
-    ensures len { IfOk result (λ n. n
+    ensures count { IfOk result (λ n. n
         ≡ option_map_or (λ map. length map.entries) (lookup K.eq maps.old.entries key) 0) }
     ensures entries { OnOk result (maps.new.entries
         ≡ put K.eq maps.old.entries key

@@ -6,7 +6,7 @@ use vecmap::map::laws as map_laws;
 use vecmap::set::laws as set_laws;
 use vecmap::{VecMap, VecSet};
 
-/// Returns whether two maps of maps are equal. The `==` of their values is that of maps.
+/// Returns `true` if two maps of maps are equal. The `==` of their values is that of maps.
 pub fn are_equal_tables(
     a: &VecMap<u32, VecMap<u32, u32>>,
     b: &VecMap<u32, VecMap<u32, u32>>,

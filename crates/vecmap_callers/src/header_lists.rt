@@ -1,7 +1,7 @@
 //! A header list that may hold several values for a name. The case of names is ignored.
 //!
-//! After `Accept: a`, `Host: b` and `ACCEPT: c` are appended, `accept` has the values `a` and `c`, and `Host` has `b`. After
-//! `host` is set to `d`, it has this value alone.
+//! After `Accept: a`, `Host: b` and `ACCEPT: c` are appended, `accept` has the values `a` and `c`, and `Host` has `b`.
+//! After `host` is set to `d`, it has this value alone.
 ghost use Rattle.std.specs.Prelude.{◌≡◌, ◌++◌, ◌∷◌, ℕ, IfOk, List, None, OnErr, OnOk, [], false, option_map, slice_get, string_bytes, unwrap_or};
 ghost use Rattle.std.specs.Map.{keys_of};
 ghost use Rattle.std.specs.Str.{str_eq_ignore_ascii_case};

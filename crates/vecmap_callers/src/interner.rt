@@ -1,7 +1,7 @@
 //! Ids that names and texts keep: each gets an id, and an id always stands for the same one.
 //!
-//! If `to`, `be`, `to` and `or` are interned in this order, their ids are 0, 1, 0 and 2. A [`Registry`] owns names of any
-//! type. An [`Interner`] makes its texts, which are looked up by a `&str`.
+//! If `to`, `be`, `to` and `or` are interned in this order, their ids are 0, 1, 0 and 2. A [`Registry`] owns names of
+//! any type. An [`Interner`] makes its texts, which are looked up by a `&str`.
 ghost use Rattle.std.specs.Prelude.{◌≡◌, ◌++◌, ◌∷◌, ◌<◌, ℕ, IfErr, IfOk, IfSome, IsSome, IsTrue, List, None, OnErr, OnOk, Some, [], length, map, option_copied, option_map, position, slice_get, string_bytes};
 ghost use Rattle.std.specs.List.{IsDistinct};
 ghost use Rattle.vecmap.specs.Items.{item_index};
@@ -72,11 +72,12 @@ impl<T: Eq> Registry<T> {
         ensures id { IfSome result (λ name. item_index T.eq self.now name.now ≡ Some id) }
     {
         laws::stored_elements_are_found::<T>();
+        // The law needs that no two names are equal, which `as_slice` states.
         self.names.as_slice();
         self.names.get_index(id)
     }
 
-    /// Returns the id of a name. A name without an id is first added.
+    /// Returns the id of a name. A name without an id is first appended.
     ///
     /// Each name keeps its id, and each id keeps its name. An existing name changes nothing and has the id that it had.
     ///
@@ -99,6 +100,8 @@ impl<T: Eq> Registry<T> {
         ensures ids { (other : T) (id : ℕ) → item_index T.eq self.old other ≡ Some id
             → item_index T.eq self.new other ≡ Some id }
         ensures unchanged { IsSome (item_index T.eq self.old name) → self.new ≡ self.old }
+        ensures appended { OnOk result (item_index T.eq self.old name ≡ None
+            → self.new ≡ self.old ++ name ∷ []) }
         ensures given { IfErr result (λ refused. refused.given ≡ name) }
         ensures err { OnErr result (self.new ≡ self.old) }
     {

@@ -38,7 +38,7 @@ pub fn total_by_sum(map: &VecMap<u64, u32>) -> u32
     map.values().sum()
 }
 
-/// Returns whether the map holds a value.
+/// Returns `true` if the map holds `value`.
 pub fn has_value(map: &VecMap<u64, u32>, value: u32) -> bool
     ensures { result ≡ list_any (λ v. nat_eq v value) (values_of map.now.entries) }
 {
@@ -185,7 +185,7 @@ pub fn set_total_by_sum(set: &VecSet<u32>) -> u32
     set.iter().sum()
 }
 
-/// Returns whether the set holds an element.
+/// Returns `true` if the set holds `element`.
 pub fn has_element(set: &VecSet<u32>, element: u32) -> bool
     ensures { result ≡ list_any (λ x. nat_eq x element) set.now.elements }
 {

@@ -138,7 +138,7 @@ pub fn first_lacking(a: &VecSet<u32>, b: &VecSet<u32>) -> Option<u32>
     a.difference(b).next().copied()
 }
 
-/// Returns whether the sets have no common element, by one call of `next`.
+/// Returns `true` if the sets have no common element, by one call of `next`.
 pub fn share_nothing<T: Eq>(a: &VecSet<T>, b: &VecSet<T>) -> bool
     ensures { IsTrue result ↔ (both T.eq a.now.elements b.now.elements ≡ []) }
 {

@@ -12,7 +12,7 @@ pub fn first_or_zero(set: &VecSet<u32>) -> u32
     if set.is_empty() { 0 } else { set[0] }
 }
 
-/// Returns whether a set of sets contains a set. The `==` of its elements is that of sets.
+/// Returns `true` if a set of sets contains a set. The `==` of its elements is that of sets.
 pub fn has_set(sets: &VecSet<VecSet<u32>>, set: &VecSet<u32>) -> bool
     ensures { result ≡ has_item
         (λ a b. has_same_items nat_eq a.elements b.elements) sets.now.elements set.now }

@@ -157,7 +157,7 @@ impl<K: Eq + Drop, V: Drop> Options<K, V> {
         ensures emptied { OnOk result (upper.new
             ≡ record { defaults = upper.old.defaults; overrides = [] }) }
         ensures err { OnErr result (self.new ≡ self.old) }
-        ensures upper_err { OnErr result (upper.new ≡ upper.old) }
+        ensures other_err { OnErr result (upper.new ≡ upper.old) }
     {
         self.overrides.append(&mut upper.overrides)?;
         Ok(())

@@ -82,9 +82,16 @@ pub fn search_item_by_rank(set: &VecSet<usize>, ranks: &[u32], rank: u32) -> Res
 }
 
 /// Returns how many elements have a rank below a limit.
+///
+/// # Conditions
+///
+/// The elements whose rank is below the limit come first.
 pub fn count_item_ranks_below(set: &VecSet<usize>, ranks: &[u32], limit: u32) -> usize
     requires within { All (λ x. x < length ranks.now) set.now.elements }
-    ensures { result ≤ length set.now.elements }
+    requires sorted { IsPartitionedBy (λ x. nat_lt (get_or ranks.now x 0) limit) set.now.elements }
+    ensures within { result ≤ length set.now.elements }
+    ensures index { IsPartitionPoint (λ x. nat_lt (get_or ranks.now x 0) limit ≡ true)
+        (λ x. nat_lt (get_or ranks.now x 0) limit ≡ false) set.now.elements result }
 {
     set.partition_point(|place| ranks[*place] < limit)
 }

@@ -1,8 +1,8 @@
 //! Settings in sections: defaults, and overrides that replace them.
 //!
-//! With the default `port = 80` in the section `server` and the override `port = 8080`, `server.port` is 8080. After other
-//! settings with the override `server.port = 90` are merged, it is 90.
-ghost use Rattle.std.specs.Prelude.{◌≡◌, OnErr, OnOk, String, [], false, option_map, string_eq};
+//! With the default `port = 80` in the section `server` and the override `port = 8080`, `server.port` is 8080. After
+//! other settings with the override `server.port = 90` are merged, it is 90.
+ghost use Rattle.std.specs.Prelude.{◌≡◌, ℕ, List, OnErr, OnOk, String, [], bytes_eq, false, option_map, string_eq};
 ghost use Rattle.std.specs.Option.{option_or};
 ghost use Rattle.std.specs.declared.alloc.Global.{Global};
 ghost use Rattle.vecmap.specs.Nested.{inner_entries, inner_entries_by};
@@ -96,11 +96,15 @@ impl Settings {
         nested::set(&mut self.overrides, section, name, text)
     }
 
-    /// Removes the override of a setting, if there is one. The setting then has its default.
+    /// Removes the override of a setting, if there is one. The setting then has its default, and every other section has
+    /// the settings that it had.
     pub fn reset(&mut self, section: &str, name: &str)
         ensures removed { inner_entries_by (has_text section.now) self.new.overrides.entries
             ≡ without_by (has_text name.now)
             (inner_entries_by (has_text section.now) self.old.overrides.entries) }
+        ensures others { (other : List ℕ) → bytes_eq section.now other ≡ false
+            → inner_entries_by (has_text other) self.new.overrides.entries
+            ≡ inner_entries_by (has_text other) self.old.overrides.entries }
         ensures defaults { self.new.defaults ≡ self.old.defaults }
     {
         laws::writes_by_texts_are_insertions::<VecMap<String, String>>();

@@ -1,12 +1,13 @@
 //! How often each word occurs.
-ghost use Rattle.std.specs.Prelude.{◌≡◌, ◌+◌, ◌<◌, ◌^◌, IfOk, OnOk, [], count_by, unwrap_or};
+ghost use Rattle.std.specs.Prelude.{◌≡◌, IfOk, [], count_by, unwrap_or};
 ghost use Rattle.std.specs.Map.{keys_of};
 ghost use Rattle.vecmap.specs.Items.{adds};
-ghost use Rattle.vecmap.specs.Pairs.{lookup_by, put};
+ghost use Rattle.vecmap.specs.Pairs.{lookup_by};
 ghost use Rattle.vecmap_callers.specs.Words.{count_of};
 
+use crate::entry::count_word;
 use std::alloc::{AllocError, Global};
-use vecmap::{Equivalent, Refused, VecMap};
+use vecmap::{Equivalent, VecMap};
 
 /// Counts words of any type that is copied, such as `&str`. The pairs are in the order in which each word first occurs.
 ///
@@ -29,21 +30,11 @@ pub fn count_words<K: Eq + Copy + Drop>(
 {
     let mut counts = VecMap::new(alloc);
     for word in words {
-        if count_one(&mut counts, *word).is_err() {
+        if count_word(&mut counts, *word).is_err() {
             return Err(AllocError);
         }
     }
     Ok(counts)
-}
-
-// Counts a word once more.
-fn count_one<K: Eq + Drop>(counts: &mut VecMap<K, u64>, word: K) -> Result<(), Refused<(K, u64)>>
-    requires { count_of K.eq counts.old.entries word + 1 < 2 ^ 64 }
-    ensures { OnOk result (counts.new.entries
-        ≡ put K.eq counts.old.entries word (count_of K.eq counts.old.entries word + 1)) }
-{
-    counts.entry(word).and_modify(|n| *n += 1).or_insert(1)?;
-    Ok(())
 }
 
 /// Returns how often a word was counted.

@@ -38,6 +38,7 @@ pub fn united_without_repeats(
     ensures { IfOk result (λ items. IsDistinct nat_eq items.items) }
 {
     lazy_iterators_give_no_repeats::<u32>();
+    // The law needs that no two elements are equal, which `as_slice` states.
     a.as_slice();
     b.as_slice();
     a.union(b).copied().collect(alloc)
@@ -48,6 +49,7 @@ pub fn counts(a: &VecSet<u32>, b: &VecSet<u32>) -> (usize, usize)
     ensures { result.0 + result.1 ≡ length a.now.elements + length b.now.elements }
 {
     lengths_of_intersection_and_union_add_up::<u32>();
+    // As in `united_without_repeats`.
     a.as_slice();
     b.as_slice();
     (a.intersection(b).count(), a.union(b).count())

@@ -17,7 +17,7 @@ pub fn sorted_is_equal(map: &mut VecMap<u32, u32>)
     map.sort_unstable_keys();
 }
 
-/// Returns whether all lookups in two maps agree.
+/// Returns `true` if all lookups in two maps agree.
 pub fn lookups_agree<K: Eq, V: Eq>(a: &VecMap<K, V>, b: &VecMap<K, V>) -> bool
     requires distinct { HasDistinctKeys K.eq a.now.entries }
     requires other_distinct { HasDistinctKeys K.eq b.now.entries }
@@ -28,7 +28,7 @@ pub fn lookups_agree<K: Eq, V: Eq>(a: &VecMap<K, V>, b: &VecMap<K, V>) -> bool
     *a == *b
 }
 
-/// Returns whether two maps are equal, and compares no pairs if their lengths differ.
+/// Returns `true` if two maps are equal. Compares no pairs if their lengths differ.
 pub fn are_equal<K: Eq, V: Eq>(a: &VecMap<K, V>, b: &VecMap<K, V>) -> bool
     ensures { result ≡ has_same_counts K.eq V.eq a.now.entries b.now.entries }
 {
@@ -47,7 +47,7 @@ pub fn sorted_set_is_equal(set: &mut VecSet<u32>)
     set.sort_unstable();
 }
 
-/// Returns whether each of two sets is a subset of the other. Both are exactly if the sets are equal.
+/// Returns for each of two sets `true` if it is a subset of the other. Both are `true` exactly if the sets are equal.
 pub fn subsets<T: Eq>(a: &VecSet<T>, b: &VecSet<T>) -> (bool, bool)
     ensures { IsTrue (has_same_items T.eq a.now.elements b.now.elements)
         ↔ (IsTrue result.0 × IsTrue result.1) }
@@ -56,11 +56,12 @@ pub fn subsets<T: Eq>(a: &VecSet<T>, b: &VecSet<T>) -> (bool, bool)
     (a.is_subset(b), b.is_subset(a))
 }
 
-/// Returns whether a set is a subset, and compares no elements if it is longer.
+/// Returns `true` if a set is a subset. Compares no elements if it is longer.
 pub fn is_part<T: Eq>(a: &VecSet<T>, b: &VecSet<T>) -> bool
     ensures { result ≡ is_within T.eq a.now.elements b.now.elements }
 {
     set_laws::lengths_tell_of_inclusion::<T>();
+    // The law needs that no two elements are equal, which `as_slice` states.
     a.as_slice();
     if a.len() > b.len() {
         return false;
@@ -68,7 +69,7 @@ pub fn is_part<T: Eq>(a: &VecSet<T>, b: &VecSet<T>) -> bool
     a.is_subset(b)
 }
 
-/// Returns whether two sets share no element, asked from the other side.
+/// Returns `true` if two sets share no element, asked from the other side.
 pub fn are_disjoint<T: Eq>(a: &VecSet<T>, b: &VecSet<T>) -> bool
     ensures { IsTrue result ↔ (both T.eq a.now.elements b.now.elements ≡ []) }
 {
@@ -82,6 +83,7 @@ pub fn split_and_restore(set: &mut VecSet<u32>, at: usize) -> Result<(), AllocEr
     ensures { OnOk result (set.new.elements ≡ set.old.elements) }
 {
     set_laws::appending_undoes_splitting::<u32>();
+    // As in `is_part`.
     set.as_slice();
     let mut part = set.split_off(at)?;
     set.append(&mut part)

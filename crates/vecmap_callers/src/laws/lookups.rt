@@ -11,7 +11,7 @@ use vecmap::map::laws::{
     first_parts_are_found_first, functions_of_values_are_found, stored_pairs_are_found,
 };
 
-/// Returns whether a key, or any key that is equal to it, has a value.
+/// Returns `true` if a key has a value. The result is the same for every key that is equal to it.
 pub fn has_value<K: Eq, V>(map: &VecMap<K, V>, key: &K) -> bool
     ensures { (other : K) → K.eq key.now other ≡ true
         → is_some (lookup K.eq map.now.entries other) ≡ result }

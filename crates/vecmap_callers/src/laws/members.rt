@@ -52,6 +52,7 @@ pub fn exclude<T: Eq + Drop>(set: &mut VecSet<T>, item: &T)
     ensures { has_item T.eq set.new.elements item.now ≡ false }
 {
     removals_are_forgotten::<T>();
+    // The law needs that no two elements are equal, which `as_slice` states.
     set.as_slice();
     set.remove(item);
 }

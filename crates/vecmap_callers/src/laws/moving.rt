@@ -58,7 +58,7 @@ pub fn sort_all(map: &mut VecMap<u32, u32>)
 }
 
 /// Reverses the order. Each key finds what it found before.
-pub fn turn<K: Eq, V>(map: &mut VecMap<K, V>)
+pub fn reverse_all<K: Eq, V>(map: &mut VecMap<K, V>)
     requires { HasDistinctKeys K.eq map.old.entries }
     ensures { (key : K) → lookup K.eq map.new.entries key ≡ lookup K.eq map.old.entries key }
 {

@@ -6,7 +6,7 @@ ghost use Rattle.vecmap.specs.Equality.{has_same_counts};
 use crate::recursive::walks::Value;
 use vecmap::VecMap;
 
-/// Returns whether two values are equal. The derived `==` compares their maps, at any depth.
+/// Returns `true` if two values are equal. The derived `==` compares their maps, at any depth.
 pub fn are_equal_values(a: &Value, b: &Value) -> bool {
     a == b
 }
@@ -19,12 +19,12 @@ pub enum Measure {
     Rows(Vec<VecMap<u32, Box<Measure>>>),
 }
 
-/// Returns whether two measures are equal.
+/// Returns `true` if two measures are equal.
 pub fn are_equal_measures(a: &Measure, b: &Measure) -> bool {
     a == b
 }
 
-/// Returns whether two maps of numbers are equal.
+/// Returns `true` if two maps of numbers are equal.
 pub fn are_equal_numbers(a: &VecMap<u32, f64>, b: &VecMap<u32, f64>) -> bool
     ensures { result ≡ has_same_counts nat_eq eq a.now.entries b.now.entries }
 {

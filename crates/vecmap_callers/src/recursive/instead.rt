@@ -21,12 +21,12 @@ pub fn weight_of(rule: &Rule, part: &Rule) -> Option<u32> {
 #[derive(PartialEq, Eq, Drop)]
 pub struct Tag {
     pub name: String,
-    pub within: Vec<Tag>,
+    pub outer: Vec<Tag>,
 }
 
-/// Returns whether a tag is directly within another.
+/// Returns `true` if a tag is directly within another.
 pub fn is_directly_within(tag: &Tag, outer: &Tag) -> bool {
-    find_item(&tag.within, outer).is_some()
+    find_item(&tag.outer, outer).is_some()
 }
 
 /// Clones a value, and returns the clone if it is equal. The derived `clone` says nothing of its result.

@@ -3,12 +3,12 @@ use Rattle.std.proofs.Common.{List, ℕ, ◌∙◌, ◌++◌, ap, append_assoc, 
 use Rattle.std.specs.List.{All}
 use Rattle.std.specs.Map.{keys_of}
 use Rattle.std.specs.Vec.Iter.{into_iter_items}
+use Rattle.std.specs.Str.{str_eq_ignore_ascii_case}
 use Rattle.std.proofs.lemmas.List.Elements.{All-head, All-tail}
 use Rattle.std.proofs.lemmas.Map.Keys.{IsDistinct-head, IsDistinct-tail}
 use Rattle.vecmap.specs.Contents.{HasRoom}
 use Rattle.vecmap.specs.Pairs.{HasDistinctKeys}
 use Rattle.attr_doc.specs.Documents.{IsRoomFor, Stored, sections_of, with_section}
-use Rattle.attr_doc.specs.Names.{same_name}
 use Rattle.attr_doc.proofs.ChangeLemmas.{merged_push}
 use Rattle.attr_doc.proofs.RoomLemmas.{room_after}
 use Rattle.attr_doc.proofs.merge.move_all.Goals as goal
@@ -21,7 +21,7 @@ loop-name-init c =
       rest = sym items;
       room = subst (λ l. HasRoom c.args.sections.now (length l)) (sym items) c.requires.room;
       rooms = subst (All (IsRoomFor c.args.sections.now.entries)) (sym items) c.requires.rooms;
-      distinct = subst (HasDistinctKeys same_name) (sym items) c.requires.distinct;
+      distinct = subst (HasDistinctKeys str_eq_ignore_ascii_case) (sym items) c.requires.distinct;
     }
 
 pub move_section-requires-clause-room : goal.move_section-requires-clause-room
@@ -38,13 +38,13 @@ loop-name-preserved c =
     let rest = into_iter_items c.next.new.self in
     let p : List ℕ × Stored = (c.in-Some.name, c.in-Some.texts) in
     let old = c.loop-name.sections.entries in
-    let distinct = subst (HasDistinctKeys same_name) next.0 c.loop-name.invariant.distinct in
+    let distinct = subst (HasDistinctKeys str_eq_ignore_ascii_case) next.0 c.loop-name.invariant.distinct in
     let all = subst (All (IsRoomFor old)) next.0 c.loop-name.invariant.rooms in
     let long = ap length next.0 in
     record {
       moved = c.move_section.ensures.sections ∙ ap (λ d. with_section d c.in-Some.name c.in-Some.texts.entries) c.loop-name.invariant.moved ∙ sym (merged_push (sections_of c.args.sections.now.entries) c.loop-name.yielded p);
       rest = rw append_assoc (c.loop-name.invariant.rest ∙ ap (λ l. c.loop-name.yielded ++ l) next.0);
       room = omega (arith, long, c.move_section.ensures.len, c.move_section.ensures.capacity, c.loop-name.invariant.room);
-      rooms = room_after old c.move_section.new.sections.entries c.in-Some.name rest (IsDistinct-head same_name c.in-Some.name (keys_of rest) distinct) c.move_section.ensures.others (All-tail (IsRoomFor old) p rest all);
-      distinct = IsDistinct-tail same_name c.in-Some.name (keys_of rest) distinct;
+      rooms = room_after old c.move_section.new.sections.entries c.in-Some.name rest (IsDistinct-head str_eq_ignore_ascii_case c.in-Some.name (keys_of rest) distinct) c.move_section.ensures.others (All-tail (IsRoomFor old) p rest all);
+      distinct = IsDistinct-tail str_eq_ignore_ascii_case c.in-Some.name (keys_of rest) distinct;
     }

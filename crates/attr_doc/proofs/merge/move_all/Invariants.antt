@@ -1,10 +1,10 @@
 use Rattle.std.proofs.Common.{◌≡◌, ◌++◌, length}
 use Rattle.std.specs.List.{All}
 use Rattle.std.specs.Vec.Iter.{into_iter_items}
+use Rattle.std.specs.Str.{str_eq_ignore_ascii_case}
 use Rattle.vecmap.specs.Contents.{HasRoom}
 use Rattle.vecmap.specs.Pairs.{HasDistinctKeys}
 use Rattle.attr_doc.specs.Documents.{IsRoomFor, merged, sections_of}
-use Rattle.attr_doc.specs.Names.{same_name}
 use Rattle.attr_doc.proofs.merge.move_all.Given as goal
 
 abbrev pub invariant-loop-name : goal.invariant-loop-name
@@ -13,5 +13,5 @@ invariant-loop-name l = record {
   rest : l.fn.others.items ≡ l.yielded ++ into_iter_items l.name-iterator;
   room : HasRoom l.sections (length (into_iter_items l.name-iterator));
   rooms : All (IsRoomFor l.sections.entries) (into_iter_items l.name-iterator);
-  distinct : HasDistinctKeys same_name (into_iter_items l.name-iterator);
+  distinct : HasDistinctKeys str_eq_ignore_ascii_case (into_iter_items l.name-iterator);
 }

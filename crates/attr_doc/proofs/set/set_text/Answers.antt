@@ -1,8 +1,8 @@
 -- An existing section changes by one insertion into its map. A new one is made with its text, and then inserted.
 use Rattle.std.proofs.Common.{◌≡◌, [], ap, option_map, string_bytes, refl, ◌∙◌}
 use Rattle.std.proofs.lemmas.Result.{IfOk-weaker, on_err_weaker, on_ok_weaker}
+use Rattle.std.specs.Str.{str_eq_ignore_ascii_case}
 use Rattle.vecmap.specs.Pairs.{put}
-use Rattle.attr_doc.specs.Names.{same_name}
 use Rattle.attr_doc.proofs.ChangeLemmas.{at_ok, section_stays, set_new, set_there}
 use Rattle.attr_doc.proofs.TextLemmas.{has_text, no_text, text_of_none, text_of_some}
 use Rattle.attr_doc.proofs.set.set_text.Goals as goal
@@ -29,8 +29,8 @@ returns-then-is_err-clause-succeeds c = no_text c.args.sections.now.entries c.ar
 pub returns-else-is_err-2-clause-sections : goal.returns-else-is_err-2-clause-sections
 returns-else-is_err-2-clause-sections c =
     let l = c.args.sections.now.entries in
-    let first : c.insert.new.self.entries ≡ put same_name [] c.args.name c.args.text = at_ok c.insert.result c.unwrap.result c.unwrap.ensures c.insert.ensures.entries ∙ ap (λ f. put same_name f c.args.name c.args.text) (c.reserve.ensures.reserved.entries ∙ c.new-texts.ensures.entries) in
-    let last : c.insert-in-None.new.self.entries ≡ put same_name l c.args.section c.insert.new.self = at_ok c.insert-in-None.result c.unwrap-in-None.result c.unwrap-in-None.ensures c.insert-in-None.ensures.entries ∙ ap (λ f. put same_name f c.args.section c.insert.new.self) c.reserve-else-is_err.ensures.reserved.entries in
+    let first : c.insert.new.self.entries ≡ put str_eq_ignore_ascii_case [] c.args.name c.args.text = at_ok c.insert.result c.unwrap.result c.unwrap.ensures c.insert.ensures.entries ∙ ap (λ f. put str_eq_ignore_ascii_case f c.args.name c.args.text) (c.reserve.ensures.reserved.entries ∙ c.new-texts.ensures.entries) in
+    let last : c.insert-in-None.new.self.entries ≡ put str_eq_ignore_ascii_case l c.args.section c.insert.new.self = at_ok c.insert-in-None.result c.unwrap-in-None.result c.unwrap-in-None.ensures c.insert-in-None.ensures.entries ∙ ap (λ f. put str_eq_ignore_ascii_case f c.args.section c.insert.new.self) c.reserve-else-is_err.ensures.reserved.entries in
     set_new l c.insert-in-None.new.self.entries c.args.section c.args.name c.args.text c.insert.new.self c.in-None.ensures.value first last
 
 pub returns-else-is_err-2-clause-old : goal.returns-else-is_err-2-clause-old

@@ -14,7 +14,7 @@ loop-word-preserved g c =
     let i = c.loop-word.word-index in
     let w = c.word-item.result in
     let l = c.loop-word.counts.entries in
-    let counted : c.count_one.new.counts.entries ≡ put eq l w (count_of eq l w + 1) = grind (arith, c.count_one.ensures, c.if-is_err.ensures.value, c.if-is_err.false) in
+    let counted : c.count_word.new.map.entries ≡ put eq l w (count_of eq l w + 1) = grind (arith, c.count_word.ensures.entries, c.if-is_err.ensures.value, c.if-is_err.false) in
     record {
       counts = λ q. ap (λ m. count_of eq m q) counted ∙ count_step eq g.met.K.Eq.laws words i w l q c.loop-word-test.true c.word-item.is (c.loop-word.invariant.counts q);
       keys = ap keys_of counted ∙ order_step eq words i w l (count_of eq l w + 1) c.loop-word-test.true c.word-item.is c.loop-word.invariant.keys;

@@ -2,9 +2,9 @@
 -- document.
 use Rattle.std.proofs.Common.{◌∙◌, ap, subst, sym}
 use Rattle.std.specs.List.{All}
+use Rattle.std.specs.Str.{str_eq_ignore_ascii_case}
 use Rattle.vecmap.specs.Pairs.{HasDistinctKeys}
 use Rattle.attr_doc.specs.Documents.{IsDocument, IsRoomFor, merged, sections_of}
-use Rattle.attr_doc.specs.Names.{same_name}
 use Rattle.attr_doc.proofs.DocumentLemmas.{document_merged, document_of_none, names_apart}
 use Rattle.attr_doc.proofs.document.Document.merge.Goals as goal
 
@@ -16,7 +16,7 @@ move_all-requires-clause-rooms c =
 pub move_all-requires-clause-distinct : goal.move_all-requires-clause-distinct
 move_all-requires-clause-distinct c =
     let items = c.into_vec-others.ensures.entries ∙ ap (λ m. m.entries) c.replace.ensures.value in
-    subst (HasDistinctKeys same_name) (sym items) (names_apart c.other.inside.sections.entries c.other.invariant)
+    subst (HasDistinctKeys str_eq_ignore_ascii_case) (sym items) (names_apart c.other.inside.sections.entries c.other.invariant)
 
 pub invariant_of-self-2 : goal.invariant_of-self-2
 invariant_of-self-2 c =
