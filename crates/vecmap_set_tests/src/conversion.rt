@@ -18,6 +18,12 @@ fn a_vector_loses_its_repeats(rt: HostRuntime) {
         let set: VecSet<u32> = VecSet::from(items);
         assert_list(&rt, set.as_slice(), expected);
         assert_is(&rt, set.capacity(), room);
+        let items = granted(&rt, numbers.to_vec(rt.alloc()));
+        let room = items.capacity();
+        let (set, comparisons) = VecSet::from_vec_counted(items);
+        assert_list(&rt, set.as_slice(), expected);
+        assert_is(&rt, set.capacity(), room);
+        check!(rt; comparisons <= 15);
     }
 }
 

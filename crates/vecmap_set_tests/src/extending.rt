@@ -1,5 +1,4 @@
-//! The trait `Extend` of sets, by each kind of item, and as `try_collect` calls it. `bulk` compares it with the calls
-//! of the set.
+//! The trait `Extend` of sets, by each kind of item, and as `try_collect` calls it.
 use crate::checks::{assert_granted, assert_items, assert_list, assert_refused, granted};
 use std::alloc::AllocError;
 use vecmap::VecSet;
@@ -8,12 +7,15 @@ use vecmap_fixtures::{item_set, make_item};
 #[test]
 fn the_trait_extend_takes_elements_and_references(rt: HostRuntime) {
     let mut set = granted(&rt, item_set(rt.alloc(), &[(1, 'x')]));
-    let owned = [make_item(1, 'y'), make_item(2, 'b')];
+    let owned = [make_item(1, 'y'), make_item(2, 'b'), make_item(2, 'y')];
     assert_granted(&rt, Extend::extend(&mut set, owned));
     assert_items(&rt, &set, &[(1, 'x'), (2, 'b')]);
     let more = granted(&rt, item_set(rt.alloc(), &[(2, 'z'), (3, 'c')]));
     assert_granted(&rt, Extend::extend(&mut set, more.iter()));
     assert_items(&rt, &set, &[(1, 'x'), (2, 'b'), (3, 'c')]);
+    let more = [make_item(1, 'w'), make_item(4, 'd'), make_item(4, 'w')];
+    assert_granted(&rt, Extend::extend(&mut set, more.as_slice()));
+    assert_items(&rt, &set, &[(1, 'x'), (2, 'b'), (3, 'c'), (4, 'd')]);
 }
 
 // Returns ten times a number, or an error.

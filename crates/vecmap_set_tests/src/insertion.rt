@@ -11,6 +11,8 @@ fn an_insert_of_an_equal_element_keeps_the_stored_one(rt: HostRuntime) {
     assert_gives(&rt, set.insert(make_item(1, 'y')), false);
     assert_items(&rt, &set, &[(1, 'x')]);
     assert_is(&rt, set.capacity(), room);
+    assert_gives(&rt, set.insert(make_item(2, 'b')), true);
+    assert_items(&rt, &set, &[(1, 'x'), (2, 'b')]);
 }
 
 #[test]

@@ -1,6 +1,6 @@
 //! The iterators of sets.
 use crate::checks::{assert_is, assert_text, check, granted};
-use std::alloc::AllocError;
+use crate::cloning::copy_of;
 use std::iter::FusedIterator;
 use vecmap::VecSet;
 use vecmap_fixtures::{Log, all_ends, pulls_as_list, told_items};
@@ -29,6 +29,8 @@ fn clones_return_what_is_left(rt: HostRuntime) {
         let mut lent = set.iter();
         drop((lent.next(), lent.next_back()));
         check!(rt; pulls_as_list(lent.clone(), read, &ELEMENTS[1..3], ends));
+        let copy = granted(&rt, copy_of(&lent));
+        check!(rt; pulls_as_list(copy, read, &ELEMENTS[1..3], ends));
         check!(rt; pulls_as_list(lent, read, &ELEMENTS[1..3], ends));
         let mut owned = granted(&rt, set.clone()).into_iter();
         drop((owned.next(), owned.next_back()));
@@ -77,47 +79,4 @@ fn every_iterator_of_a_set_is_fused(rt: HostRuntime) {
     check!(rt; ends_after_two(set.iter()));
     check!(rt; ends_after_two(granted(&rt, set.clone()).into_iter()));
     check!(rt; ends_after_two(set.drain(..)));
-}
-
-// Returns the number of elements left in an iterator and in its clone by the trait `Clone`.
-fn lengths_of_both<I: ExactSizeIterator + Clone>(iter: &I) -> Result<(usize, usize), AllocError> {
-    let copy = iter.clone()?;
-    Ok((iter.len(), copy.len()))
-}
-
-// Returns the first element of the clone of an iterator by the trait `Clone`.
-fn first_of_clone<'a, I: Iterator<Item = &'a u32> + Clone>(
-    iter: &I,
-) -> Result<Option<&'a u32>, AllocError>
-    requires { (it : I) → I.can_next it }
-{
-    let mut copy = iter.clone()?;
-    Ok(copy.next())
-}
-
-#[test]
-fn the_trait_clone_copies_an_iterator_that_borrows_a_set(rt: HostRuntime) {
-    let set = granted(&rt, VecSet::from_slice(rt.alloc(), &ELEMENTS));
-    let mut items = set.iter();
-    assert_is(&rt, items.next(), Some(&1));
-    assert_is(&rt, granted(&rt, lengths_of_both(&items)), (3, 3));
-    assert_is(&rt, granted(&rt, first_of_clone(&items)), Some(&2));
-    let other = granted(&rt, VecSet::from_slice(rt.alloc(), &[2, 9]));
-    assert_is(
-        &rt,
-        granted(&rt, first_of_clone(&set.difference(&other))),
-        Some(&1),
-    );
-    assert_is(
-        &rt,
-        granted(&rt, first_of_clone(&set.intersection(&other))),
-        Some(&2),
-    );
-    let mut rest = set.symmetric_difference(&other);
-    assert_is(&rt, (rest.next(), rest.next_back()), (Some(&1), Some(&9)));
-    assert_is(&rt, granted(&rt, first_of_clone(&rest)), Some(&3));
-    let mut rest = set.union(&other);
-    assert_is(&rt, (rest.next(), rest.next()), (Some(&1), Some(&2)));
-    assert_is(&rt, granted(&rt, first_of_clone(&rest)), Some(&3));
-    assert_is(&rt, rest.next(), Some(&3));
 }

@@ -1,9 +1,7 @@
 //! The iterators of `difference`, `intersection`, `symmetric_difference` and `union`.
-ghost use Rattle.std.specs.Iterator.{IsFinite};
-
-use crate::checks::{assert_is, assert_item, assert_text, check, granted};
+use crate::checks::{assert_is, assert_text, granted};
+use crate::cloning::copy_of;
 use std::process::Abort;
-use vecmap::VecSet;
 use vecmap_fixtures::{End, Item, Log, all_ends, item_set, set_of, told_set};
 
 // What is left of one list: the range of indices not yet visited, and the indices of the elements that are kept.
@@ -161,6 +159,22 @@ const CASES: &[Case] = &[
         right_shared: &[0, 2],
         right_alone: &[1, 3],
     },
+    Case {
+        left: &[(3, 'a'), (2, 'a'), (1, 'a')],
+        right: &[(1, 'b'), (2, 'b')],
+        left_shared: &[1, 2],
+        left_alone: &[0],
+        right_shared: &[0, 1],
+        right_alone: &[],
+    },
+    Case {
+        left: &[(1, 'a')],
+        right: &[(2, 'b'), (3, 'b')],
+        left_shared: &[],
+        left_alone: &[0],
+        right_shared: &[],
+        right_alone: &[0, 1],
+    },
 ];
 
 // Asserts that a call for each of these ends returns what is left, with the hint before each call and after the last.
@@ -184,8 +198,8 @@ fn assert_next<'a, I: DoubleEndedIterator<Item = &'a Item>>(
     assert_eq!(*rt; iter.size_hint(), left.hint());
 }
 
-// Asserts what every mixture of six calls of `next` and `next_back` returns, with the hint at each step, and with a
-// clone after the second call that continues by itself.
+// Asserts what every mixture of six calls of `next` and `next_back` returns, with the hint at each step. Two clones
+// after the second call, one by the trait `Clone`, continue by themselves.
 macro_rules! assert_pulls {
     ($rt:ident; $iter:expr, $left:expr) => {
         for ends in &all_ends() {
@@ -195,6 +209,9 @@ macro_rules! assert_pulls {
             let mut copy = iter.clone();
             let mut copy_left = left;
             assert_next(&$rt, &mut copy, &mut copy_left, &[End::Front; 6]);
+            let mut copy = granted(&$rt, copy_of(&iter));
+            let mut copy_left = left;
+            assert_next(&$rt, &mut copy, &mut copy_left, &[End::Back; 6]);
             assert_next(&$rt, &mut iter, &mut left, &ends[2..]);
         }
     };
@@ -279,70 +296,6 @@ fn a_union_is_exact_for_every_mixture_of_next_and_next_back(rt: HostRuntime) {
     }
 }
 
-#[test]
-fn size_hints_follow_the_calls_of_next(rt: HostRuntime) {
-    let a = granted(&rt, set_of(rt.alloc(), &[1, 2, 3, 4]));
-    let b = granted(&rt, set_of(rt.alloc(), &[2, 4]));
-    let mut lacking = a.difference(&b);
-    assert_is(&rt, lacking.size_hint(), (0, Some(4)));
-    assert_is(&rt, lacking.next_back(), Some(&3));
-    assert_is(&rt, lacking.size_hint(), (0, Some(2)));
-    assert_is(&rt, lacking.next(), Some(&1));
-    assert_is(&rt, lacking.size_hint(), (0, Some(1)));
-    assert_is(&rt, lacking.next_back(), None);
-    assert_is(&rt, lacking.size_hint(), (0, Some(0)));
-    let a = granted(&rt, set_of(rt.alloc(), &[1, 2, 3]));
-    let b = granted(&rt, set_of(rt.alloc(), &[3, 4]));
-    let mut all = a.union(&b);
-    assert_is(&rt, all.size_hint(), (3, Some(5)));
-    assert_is(&rt, all.next_back(), Some(&4));
-    assert_is(&rt, all.next(), Some(&1));
-    assert_is(&rt, all.next_back(), Some(&3));
-    assert_is(&rt, all.next(), Some(&2));
-    assert_is(&rt, (all.next(), all.next_back()), (None, None));
-}
-
-#[test]
-fn a_union_and_its_clone_are_independent(rt: HostRuntime) {
-    let a = granted(&rt, set_of(rt.alloc(), &[1, 2]));
-    let b = granted(&rt, set_of(rt.alloc(), &[2, 3]));
-    let mut all = a.union(&b);
-    assert_is(&rt, (all.next(), all.next_back()), (Some(&1), Some(&3)));
-    let copy = all.clone();
-    for mut left in [all, copy] {
-        assert_is(&rt, left.next_back(), Some(&2));
-        assert_is(&rt, (left.next_back(), left.next()), (None, None));
-    }
-}
-
-// Asserts that an iterator returns exactly these numbers, in this order.
-fn assert_all<'a, I: Iterator<Item = &'a u32> + Drop>(
-    rt: &impl Abort,
-    items: I,
-    expected: &'a [u32],
-)
-    requires next { I.can_next items }
-    requires ends { IsFinite (I.remaining items) }
-{
-    assert!(*rt; items.eq(expected), "not {expected:?}");
-}
-
-#[test]
-fn lazy_iterators_keep_the_order(rt: HostRuntime) {
-    let a = granted(&rt, set_of(rt.alloc(), &[1, 2, 3]));
-    let b = VecSet::from(granted(&rt, [4, 2, 3, 4].to_vec(rt.alloc())));
-    assert_all(&rt, a.difference(&b), &[1]);
-    assert_all(&rt, a.intersection(&b), &[2, 3]);
-    assert_all(&rt, a.symmetric_difference(&b), &[1, 4]);
-    assert_all(&rt, a.union(&b), &[1, 2, 3, 4]);
-    let a = granted(&rt, set_of(rt.alloc(), &[3, 2, 1]));
-    let b = granted(&rt, set_of(rt.alloc(), &[1, 2]));
-    assert_all(&rt, a.intersection(&b), &[1, 2]);
-    let a = granted(&rt, set_of(rt.alloc(), &[1]));
-    let b = granted(&rt, set_of(rt.alloc(), &[2, 3]));
-    assert_all(&rt, a.union(&b), &[2, 3, 1]);
-}
-
 // Asserts how many comparisons each of these calls of `next` makes.
 fn assert_comparisons<I: Iterator + Drop>(
     rt: &impl Abort,
@@ -418,14 +371,4 @@ fn what_is_left_is_printed(rt: HostRuntime) {
         format!(in rt.alloc(); "{lacking:?} {shared:?} {apart:?} {all:?}"),
         "[1] [2, 3] [1, 4] [2, 3, 4]",
     );
-}
-
-#[test]
-fn an_intersection_returns_the_element_of_the_shorter_set(rt: HostRuntime) {
-    let a = granted(&rt, item_set(rt.alloc(), &[(1, 'x'), (2, 'y')]));
-    let b = granted(&rt, item_set(rt.alloc(), &[(2, 'z')]));
-    for mut shared in [a.intersection(&b), b.intersection(&a)] {
-        assert_item(&rt, shared.next(), (2, 'z'));
-        check!(rt; shared.next().is_none());
-    }
 }

@@ -37,4 +37,6 @@ fn a_taken_set_leaves_an_empty_one_and_an_entry_makes_one(rt: HostRuntime) {
     assert_is(&rt, (group.len(), group.capacity()), (0, 0));
     assert_gives(&rt, group.insert(1), true);
     assert_is(&rt, groups.len(), 1);
+    let members = groups.get(&'a').map(VecSet::as_slice);
+    assert_is(&rt, members, Some([1].as_slice()));
 }

@@ -44,6 +44,11 @@ fn shrinking_stops_at_its_limit(rt: HostRuntime) {
     set.shrink_to(0);
     check!(rt; is_between(set.capacity(), 3, lower));
     assert_list(&rt, set.as_slice(), &[1, 2, 3]);
+    assert_granted(&rt, set.reserve(5));
+    let room = set.capacity();
+    set.shrink_to_fit();
+    check!(rt; is_between(set.capacity(), 3, room));
+    assert_list(&rt, set.as_slice(), &[1, 2, 3]);
     set.clear();
     set.shrink_to_fit();
     assert_is(&rt, set.capacity(), 0);

@@ -5,27 +5,37 @@ use std::process::Abort;
 use vecmap::VecSet;
 use vecmap_fixtures::set_of;
 
-#[test]
-fn searches_return_an_equal_index_or_where_to_insert(rt: HostRuntime) {
-    let set = granted(&rt, set_of(rt.alloc(), &[1u32, 2, 3]));
-    assert_is(&rt, set.binary_search(&2), Ok(1));
-    assert_is(&rt, set.binary_search(&5), Err(3));
-}
-
-// Asserts that each search finds the number at its index, and that the next number would follow it.
-fn assert_found(rt: &impl Abort, set: &VecSet<u32>, even: u32, place: usize) {
-    let next = Err(place.wrapping_add(1));
+// Asserts what each search for a number returns. A search for where the numbers reach it returns the same index.
+fn assert_found(rt: &impl Abort, set: &VecSet<u32>, number: u32, expected: Result<usize, usize>) {
     assert_is(
         rt,
         (
-            set.binary_search(&even),
-            set.binary_search_by(|item| item.cmp(&even)),
-            set.binary_search_by_key(&even, |item| *item),
+            set.binary_search(&number),
+            set.binary_search_by(|item| item.cmp(&number)),
+            set.binary_search_by_key(&number, |item| *item),
         ),
-        (Ok(place), Ok(place), Ok(place)),
+        (expected, expected, expected),
     );
-    assert_is(rt, set.partition_point(|item| *item < even), place);
-    assert_is(rt, set.binary_search(&even.wrapping_add(1)), next);
+    assert_is(
+        rt,
+        set.partition_point(|item| *item < number),
+        expected.unwrap_or_else(|place| place),
+    );
+}
+
+#[test]
+fn searches_return_an_equal_index_or_where_to_insert(rt: HostRuntime) {
+    let set = granted(&rt, set_of(rt.alloc(), &[1, 2, 4]));
+    for (number, expected) in [
+        (0, Err(0)),
+        (1, Ok(0)),
+        (2, Ok(1)),
+        (3, Err(2)),
+        (4, Ok(2)),
+        (5, Err(3)),
+    ] {
+        assert_found(&rt, &set, number, expected);
+    }
 }
 
 #[test]
@@ -36,8 +46,11 @@ fn searches_of_every_length(rt: HostRuntime) {
             assert_granted(&rt, set.insert(number.wrapping_mul(2)));
         }
         for number in 0..count {
-            assert_found(&rt, &set, number.wrapping_mul(2), number as usize);
+            let (even, place) = (number.wrapping_mul(2), number as usize);
+            assert_found(&rt, &set, even, Ok(place));
+            assert_found(&rt, &set, even.wrapping_add(1), Err(place.wrapping_add(1)));
         }
+        assert_found(&rt, &set, u32::MAX, Err(count as usize));
         // All sort keys are equal: each index is a match, or none is.
         let found = set.binary_search_by_key(&7, |_| 7);
         assert_is(&rt, found.is_ok(), 0 < count);
