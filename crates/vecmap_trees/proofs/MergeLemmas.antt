@@ -1,6 +1,6 @@
 -- What stands in a tree after a merge. The idea: as long as no names repeat, a merge of one member after the other
 -- leaves at each name what `merged_below` says, since each name comes once.
-use Rattle.std.specs.Prelude.{◌≡◌, ℕ, Bool, Err, List, [], ◌∷◌, None, Ok, OnOk, Option, Result, Some, String, bytes_eq, cond, false, if◌then◌else◌, refl, string_bytes, string_eq, true}
+use Rattle.std.specs.Prelude.{◌≡◌, ℕ, Bool, Err, List, [], ◌∷◌, ◌⊎◌, None, Ok, OnErr, OnOk, Option, Result, Some, String, bytes_eq, cond, false, if◌then◌else◌, refl, string_bytes, string_eq, true}
 use Rattle.std.specs.Option.{option_and_then}
 use Rattle.std.specs.Map.{keys_of}
 use Rattle.std.specs.declared.alloc.Global.{Global}
@@ -14,7 +14,7 @@ use Rattle.vecmap.proofs.Lookups.{look, lookup_absent}
 use Rattle.vecmap.proofs.Queries.{lookup_by_query, same_text, string_equality, text_respects}
 use Rattle.vecmap.proofs.WriteLemmas.{lookup_written, lookup_written_other_text}
 use Rattle.vecmap_base.proofs.DistinctLemmas.Absent.{none_equal}
-use Rattle.vecmap_trees.specs.Trees.{AreDistinctMembers, HasDistinctNames, IsObject, IsObjectLayer, Members, at_path, is_object_layer, leaf_at, leaf_of_layer, member, members, members_of_layer, merged_below, merged_leaf}
+use Rattle.vecmap_trees.specs.Trees.{AreDistinctMembers, HasDistinctNames, IsObject, IsObjectLayer, IsOldOrMerged, Members, at_path, is_object_layer, leaf_at, leaf_of_layer, member, members, members_of_layer, merged_below, merged_leaf}
 use Rattle.vecmap_trees.specs.declared.Json.{Json, out-Json}
 use Rattle.vecmap_trees.specs.declared.Json.TheOpen.{Json-F, Object}
 use Rattle.vecmap_trees.proofs.PathLemmas.{index_from_value}
@@ -65,6 +65,21 @@ module _ (k : String Global) (v : Json) (rest : Pairs) (d : AreDistinctMembers (
             ∙ ap (λ o. merged_below (merged_leaf names) names o (lookup_by (has_text name) mine)) (sym (look_text name k v rest false h))
       ]
 
+  -- A name that the members still to come do not have, or whose member is as before. So it is after one member more.
+  pub still_untouched : (mine new old : Pairs) → ((other : List ℕ) → bytes_eq (string_bytes k) other ≡ false → lookup_by (has_text other) new ≡ lookup_by (has_text other) mine)
+      → (name : List ℕ) → (lookup_by (has_text name) ((k, v) ∷ rest) ≡ None) ⊎ (lookup_by (has_text name) mine ≡ lookup_by (has_text name) old)
+      → (lookup_by (has_text name) rest ≡ None) ⊎ (lookup_by (has_text name) new ≡ lookup_by (has_text name) old)
+  still_untouched mine new old others name before =
+      elim (cases_Bool (has_text name k)) [
+        | inl h ↦ inl (subst (λ n. lookup_by (has_text n) rest ≡ None) ((bytes_eq-Decides (string_bytes k) name).0 h) absent_in_rest)
+        | inr h ↦ by h before
+      ]
+    where
+      by : has_text name k ≡ false → (lookup_by (has_text name) ((k, v) ∷ rest) ≡ None) ⊎ (lookup_by (has_text name) mine ≡ lookup_by (has_text name) old)
+          → (lookup_by (has_text name) rest ≡ None) ⊎ (lookup_by (has_text name) new ≡ lookup_by (has_text name) old)
+      by h (inl none) = inl (sym (look_text name k v rest false h) ∙ none)
+      by h (inr same) = inr (others name h ∙ same)
+
 -- A name that none of the members has is not that of the first, and none of the others has it.
 pub absent_below : (k : String Global) (v : Json) (rest : Pairs) (name : List ℕ) → lookup_by (has_text name) ((k, v) ∷ rest) ≡ None → (bytes_eq (string_bytes k) name ≡ false) × (lookup_by (has_text name) rest ≡ None)
 absent_below k v rest name e =
@@ -91,6 +106,65 @@ merged_at (name ∷ names) t old other m n mine below g e f =
     ∙ ap (λ l. merged_below (merged_leaf names) names (lookup_by (has_text name) n.entries) (lookup_by (has_text name) l)) (sym g)
     ∙ sym (ap (λ z. cond (is_object_layer z) (merged_below (merged_leaf names) names (lookup_by (has_text name) (members_of_layer z)) (member name old)) None) f)
 
+-- What holds where a call fails, and what follows from it.
+pub weaker_err : {A E P Q : Type 0} (outcome : Result A E) → (P → Q) → OnErr outcome P → OnErr outcome Q
+weaker_err (Ok a) f h = tt
+weaker_err (Err e) f h = f h
+
+-- What holds at all holds where the call fails.
+pub on_err : {A E P : Type 0} (outcome : Result A E) → P → OnErr outcome P
+on_err (Ok a) p = tt
+on_err (Err e) p = p
+
+-- Two objects whose merge failed at some member.
+pub failed_at : (path : List (List ℕ)) (t old other : Json) (m n : Members) (mine : Pairs)
+    → ((name : List ℕ) (names : List (List ℕ)) → IsOldOrMerged (option_and_then (leaf_at names) (lookup_by (has_text name) m.entries)) (option_and_then (leaf_at names) (lookup_by (has_text name) mine)) (merged_below (merged_leaf names) names (lookup_by (has_text name) n.entries) (lookup_by (has_text name) mine)))
+    → members old ≡ mine → out-Json t ≡ Object m → out-Json other ≡ Object n → IsOldOrMerged (leaf_at path t) (leaf_at path old) (merged_leaf path old other)
+failed_at [] t old other m n mine below g e f = inr (ap (leaf_of_layer t) e ∙ sym (ap (leaf_of_layer other) f))
+failed_at (name ∷ names) t old other m n mine below g e f = by (below name names)
+  where
+    new : leaf_at (name ∷ names) t ≡ option_and_then (leaf_at names) (lookup_by (has_text name) m.entries)
+    new = ap (λ z. option_and_then (leaf_at names) (lookup_by (has_text name) (members_of_layer z))) e
+
+    by : IsOldOrMerged (option_and_then (leaf_at names) (lookup_by (has_text name) m.entries)) (option_and_then (leaf_at names) (lookup_by (has_text name) mine)) (merged_below (merged_leaf names) names (lookup_by (has_text name) n.entries) (lookup_by (has_text name) mine))
+        → IsOldOrMerged (leaf_at (name ∷ names) t) (leaf_at (name ∷ names) old) (merged_leaf (name ∷ names) old other)
+    by (inl h) = inl (new ∙ h ∙ ap (λ l. option_and_then (leaf_at names) (lookup_by (has_text name) l)) (sym g))
+    by (inr h) =
+        inr (new ∙ h ∙ ap (λ l. merged_below (merged_leaf names) names (lookup_by (has_text name) n.entries) (lookup_by (has_text name) l)) (sym g)
+        ∙ sym (ap (λ z. cond (is_object_layer z) (merged_below (merged_leaf names) names (lookup_by (has_text name) (members_of_layer z)) (member name old)) None) f))
+
+-- What stands below a name once the merge of the first member to come failed. `goes` says what the merge of all that
+-- are to come would lead to.
+pub one_failed : (k : String Global) (v : Json) (rest theirs mine new old : Pairs)
+    → ((names : List (List ℕ)) → IsOldOrMerged (option_and_then (leaf_at names) (lookup_by (has_text (string_bytes k)) new)) (option_and_then (leaf_at names) (lookup_by (has_text (string_bytes k)) mine)) (merged_below (merged_leaf names) names (Some v) (lookup_by (has_text (string_bytes k)) mine)))
+    → ((other : List ℕ) → bytes_eq (string_bytes k) other ≡ false → lookup_by (has_text other) new ≡ lookup_by (has_text other) mine)
+    → (name : List ℕ) (names : List (List ℕ))
+    → merged_below (merged_leaf names) names (lookup_by (has_text name) ((k, v) ∷ rest)) (lookup_by (has_text name) mine) ≡ merged_below (merged_leaf names) names (lookup_by (has_text name) theirs) (lookup_by (has_text name) old)
+    → (lookup_by (has_text name) ((k, v) ∷ rest) ≡ None) ⊎ (lookup_by (has_text name) mine ≡ lookup_by (has_text name) old)
+    → IsOldOrMerged (option_and_then (leaf_at names) (lookup_by (has_text name) new)) (option_and_then (leaf_at names) (lookup_by (has_text name) old)) (merged_below (merged_leaf names) names (lookup_by (has_text name) theirs) (lookup_by (has_text name) old))
+one_failed k v rest theirs mine new old here others name names goes before =
+    elim (cases_Bool (has_text name k)) [
+      | inl h ↦
+          let found : lookup_by (has_text name) ((k, v) ∷ rest) ≡ Some v = look_text name k v rest true h in
+          let at = subst (λ n. IsOldOrMerged (option_and_then (leaf_at names) (lookup_by (has_text n) new)) (option_and_then (leaf_at names) (lookup_by (has_text n) mine)) (merged_below (merged_leaf names) names (Some v) (lookup_by (has_text n) mine))) ((bytes_eq-Decides (string_bytes k) name).0 h) (here names) in
+          same_name found at before
+      | inr h ↦ other_name (others name h) before
+    ]
+  where
+    same_name : lookup_by (has_text name) ((k, v) ∷ rest) ≡ Some v
+        → IsOldOrMerged (option_and_then (leaf_at names) (lookup_by (has_text name) new)) (option_and_then (leaf_at names) (lookup_by (has_text name) mine)) (merged_below (merged_leaf names) names (Some v) (lookup_by (has_text name) mine))
+        → (lookup_by (has_text name) ((k, v) ∷ rest) ≡ None) ⊎ (lookup_by (has_text name) mine ≡ lookup_by (has_text name) old)
+        → IsOldOrMerged (option_and_then (leaf_at names) (lookup_by (has_text name) new)) (option_and_then (leaf_at names) (lookup_by (has_text name) old)) (merged_below (merged_leaf names) names (lookup_by (has_text name) theirs) (lookup_by (has_text name) old))
+    same_name found at (inl none) = absurd (let f : None ≡ Some v = sym none ∙ found in cc)
+    same_name found (inl as_before) (inr same) = inl (as_before ∙ ap (option_and_then (leaf_at names)) same)
+    same_name found (inr merged) (inr same) = inr (merged ∙ ap (λ o. merged_below (merged_leaf names) names o (lookup_by (has_text name) mine)) (sym found) ∙ goes)
+
+    other_name : lookup_by (has_text name) new ≡ lookup_by (has_text name) mine
+        → (lookup_by (has_text name) ((k, v) ∷ rest) ≡ None) ⊎ (lookup_by (has_text name) mine ≡ lookup_by (has_text name) old)
+        → IsOldOrMerged (option_and_then (leaf_at names) (lookup_by (has_text name) new)) (option_and_then (leaf_at names) (lookup_by (has_text name) old)) (merged_below (merged_leaf names) names (lookup_by (has_text name) theirs) (lookup_by (has_text name) old))
+    other_name is (inl none) = inr (ap (option_and_then (leaf_at names)) is ∙ ap (λ o. merged_below (merged_leaf names) names o (lookup_by (has_text name) mine)) (sym none) ∙ goes)
+    other_name is (inr same) = inl (ap (option_and_then (leaf_at names)) (is ∙ same))
+
 -- A name that the other object does not have finds what it found before.
 pub kept_at : (t old other : Json) (new mine theirs : Pairs) → ((name : List ℕ) → lookup_by (has_text name) theirs ≡ None → lookup_by (has_text name) new ≡ lookup_by (has_text name) mine)
     → members old ≡ mine → members t ≡ new → members other ≡ theirs → (name : List ℕ) → member name other ≡ None → member name t ≡ member name old
@@ -104,6 +178,15 @@ member_merged m text name same old new value at names h =
     subst (λ n. option_and_then (leaf_at names) (lookup_by (has_text n) (with_value_by (has_text text) m new).entries) ≡ merged_below (merged_leaf names) names (Some value) (lookup_by (has_text n) m.entries)) same
     (ap (option_and_then (leaf_at names)) (lookup_written string_eq string_equality (has_text text) (text_respects text) m new (index_from_value m.entries (index_by (has_text text) m.entries) old (sym at)))
     ∙ h ∙ ap (merged_below (merged_leaf names) names (Some value)) at)
+
+-- The member of a text, after the merge of its value failed.
+pub member_failed : (m : Members) (text name : List ℕ) → text ≡ name → (old new value : Json) → Some old ≡ lookup_by (has_text text) m.entries → (names : List (List ℕ)) → IsOldOrMerged (leaf_at names new) (leaf_at names old) (merged_leaf names old value)
+    → IsOldOrMerged (option_and_then (leaf_at names) (lookup_by (has_text name) (with_value_by (has_text text) m new).entries)) (option_and_then (leaf_at names) (lookup_by (has_text name) m.entries)) (merged_below (merged_leaf names) names (Some value) (lookup_by (has_text name) m.entries))
+member_failed m text name same old new value at names (inr h) = inr (member_merged m text name same old new value at names h)
+member_failed m text name same old new value at names (inl h) =
+    inl (subst (λ n. option_and_then (leaf_at names) (lookup_by (has_text n) (with_value_by (has_text text) m new).entries) ≡ option_and_then (leaf_at names) (lookup_by (has_text n) m.entries)) same
+    (ap (option_and_then (leaf_at names)) (lookup_written string_eq string_equality (has_text text) (text_respects text) m new (index_from_value m.entries (index_by (has_text text) m.entries) old (sym at)))
+    ∙ h ∙ ap (option_and_then (leaf_at names)) at))
 
 pub other_member_kept : (m : Members) (text name other : List ℕ) → text ≡ name → (new : Json) → bytes_eq name other ≡ false → lookup_by (has_text other) (with_value_by (has_text text) m new).entries ≡ lookup_by (has_text other) m.entries
 other_member_kept m text name other same new apart = lookup_written_other_text m text other new (subst (λ n. bytes_eq n other ≡ false) (sym same) apart)

@@ -1,5 +1,6 @@
 -- What contracts say of a tree of values. A name is the list of its bytes, and a path is a list of names.
-use Rattle.std.specs.Prelude.{◌≡◌, ℕ, ◌+◌, ◌⊎◌, Bool, true, false, cond, bytes_eq, List, [], ◌∷◌, None, Option, Some, String, map, string_bytes, string_eq}
+use Rattle.std.specs.Prelude.{◌≡◌, ℕ, ◌⊎◌, Bool, true, false, cond, bytes_eq, List, [], ◌∷◌, None, Option, Some, String, map, string_bytes, string_eq, sum}
+use Rattle.std.specs.Map.{values_of}
 use Rattle.std.specs.Option.{option_and_then, option_map_or}
 use Rattle.std.specs.declared.alloc.Global.{Global}
 use Rattle.vecmap.specs.Contents.{Contents, with_entries, with_value_by}
@@ -16,7 +17,7 @@ abbrev pub members_of_layer : Json-F Json → List (String Global × Json)
 members_of_layer (Object m) = m.entries
 members_of_layer _ = []
 
--- The members of a value, or none if it is no object.
+-- The members of a value, or none if it is not an object.
 abbrev pub members : Json → List (String Global × Json)
 members j = members_of_layer (out-Json j)
 
@@ -49,7 +50,7 @@ abbrev pub layer_with_members : (Members → Members) → Json → Json-F Json �
 layer_with_members f j (Object m) = roll-Json (Object (f m))
 layer_with_members f j _ = j
 
--- The object with `f` of its members. A value that is no object stays as it is.
+-- The object with `f` of its members. A value that is not an object stays as it is.
 abbrev pub with_members : (Members → Members) → Json → Json
 with_members f j = layer_with_members f j (out-Json j)
 
@@ -76,11 +77,11 @@ abbrev pub leaf_of_layer : Json → Json-F Json → Option Json
 leaf_of_layer j (Object m) = None
 leaf_of_layer j _ = Some j
 
--- The value, if it is no object.
+-- The value, if it is not an object.
 abbrev pub leaf_of : Json → Option Json
 leaf_of j = leaf_of_layer j (out-Json j)
 
--- The value at a path, if there is one and it is no object.
+-- The value at a path, if there is one and it is not an object.
 abbrev pub leaf_at : List (List ℕ) → Json → Option Json
 leaf_at [] j = leaf_of j
 leaf_at (name ∷ names) j = option_and_then (leaf_at names) (member name j)
@@ -96,11 +97,15 @@ merged_below merged names None ours = option_and_then (leaf_at names) ours
 merged_below merged names (Some w) None = leaf_at names w
 merged_below merged names (Some w) (Some v) = merged v w
 
--- What stands at a path in a merge of `other` into `old`, if it is no object. Two objects are merged member by member,
--- and in any other case `other` replaces `old`.
+-- What stands at a path in a merge of `other` into `old`, if it is not an object. Two objects are merged member by
+-- member, and in any other case `other` replaces `old`.
 abbrev pub merged_leaf : List (List ℕ) → Json → Json → Option Json
 merged_leaf [] old other = leaf_of other
 merged_leaf (name ∷ names) old other = cond (is_object_layer (out-Json other)) (merged_below (merged_leaf names) names (member name other) (member name old)) None
+
+-- What stands at a path is what stood there before, or what the whole merge puts there.
+abbrev pub IsOldOrMerged : Option Json → Option Json → Option Json → Type 0
+IsOldOrMerged new old merged = (new ≡ old) ⊎ (new ≡ merged)
 
 -- No object in the tree has two members of one name.
 abbrev pub HasDistinctNames : Json → Type 0
@@ -110,20 +115,10 @@ HasDistinctNames j = (path : List (List ℕ)) (w : Json) → at_path path j ≡ 
 abbrev pub AreDistinctMembers : List (String Global × Json) → Type 0
 AreDistinctMembers l = HasDistinctKeys string_eq l × ((name : List ℕ) (w : Json) → lookup_by (has_text name) l ≡ Some w → HasDistinctNames w)
 
--- The sum of a list.
-abbrev pub sum_of : List ℕ → ℕ
-sum_of [] = 0
-sum_of (n ∷ ns) = n + sum_of ns
-
--- The sum of the values of pairs.
-abbrev pub sum_of_values : List (String Global × ℕ) → ℕ
-sum_of_values [] = 0
-sum_of_values (p ∷ ps) = p.1 + sum_of_values ps
-
 -- The leaves of one layer, with those of each value in it in its place.
 abbrev pub leaves_step : Json-F ℕ → ℕ
-leaves_step (Array items) = sum_of items.items
-leaves_step (Object m) = sum_of_values m.entries
+leaves_step (Array items) = sum items.items
+leaves_step (Object m) = sum (values_of m.entries)
 leaves_step _ = 1
 
 -- How many values of the tree are neither an array nor an object.
@@ -132,4 +127,4 @@ leaves = fold-Json ℕ leaves_step
 
 -- The leaves of all members.
 abbrev pub leaves_of_members : List (String Global × Json) → ℕ
-leaves_of_members ps = sum_of_values (map (λ p. (p.0, leaves p.1)) ps)
+leaves_of_members ps = sum (values_of (map (λ p. (p.0, leaves p.1)) ps))

@@ -1,15 +1,19 @@
 //! Equality of trees: the order of the members of an object makes no difference, at any depth.
-ghost use Rattle.std.specs.Prelude.{◌≡◌, IsTrue};
+ghost use Rattle.std.specs.Prelude.{◌≡◌, ◌↔◌, IsTrue, String, string_eq};
 ghost use Rattle.std.specs.List.Sorted.{IsPermutation};
+ghost use Rattle.std.specs.declared.alloc.Global.{Global};
+ghost use Rattle.vecmap.specs.Equality.{has_same_counts, same_option};
+ghost use Rattle.vecmap.specs.Pairs.{HasDistinctKeys, lookup};
 ghost use Rattle.vecmap_trees.specs.Trees.{IsObject, members};
 
 use crate::Json;
 use vecmap::VecMap;
-use vecmap::map::laws::equality_ignores_order;
+use vecmap::map::laws::{equality_ignores_order, equality_is_agreement};
 
-/// Returns whether two values are equal.
+/// Returns `true` if two values are equal, as `==` does.
 ///
-/// A value is equal to itself. Two objects with the same members in different orders are equal.
+/// A value is equal to itself. Two objects are equal if each member, by its name and its value, occurs equally often in
+/// both, in any order. If no names repeat, this means that each name has equal values in both objects, or none in both.
 ///
 /// # Examples
 ///
@@ -23,19 +27,36 @@ use vecmap::map::laws::equality_ignores_order;
 /// equal(&page, &other) // true
 /// ```
 pub fn equal(a: &Json, b: &Json) -> bool
+    ensures equal { (IsObject a.now → IsObject b.now → ⊥)
+        → result ≡ ⟦<Json as PartialEq>⟧.eq a.now b.now }
     ensures itself { a.now ≡ b.now → IsTrue result }
-    ensures any_order { IsObject a.now → IsObject b.now → IsPermutation (members a.now) (members b.now) → IsTrue result }
+    ensures objects { IsObject a.now → IsObject b.now
+        → result ≡ has_same_counts string_eq ⟦<Json as PartialEq>⟧.eq (members a.now)
+        (members b.now) }
+    ensures lookups { IsObject a.now → IsObject b.now → HasDistinctKeys string_eq (members a.now)
+        → HasDistinctKeys string_eq (members b.now) → IsTrue result
+        ↔ ((name : String Global) → IsTrue (same_option ⟦<Json as PartialEq>⟧.eq
+        (lookup string_eq (members a.now) name) (lookup string_eq (members b.now) name))) }
+    ensures rearranged { IsObject a.now → IsObject b.now
+        → IsPermutation (members a.now) (members b.now) → IsTrue result }
 {
-    if let (Json::Object(mine), Json::Object(theirs)) = (a, b) {
-        return equal_members(mine, theirs);
+    match (a, b) {
+        (Json::Object(mine), Json::Object(theirs)) => equal_members(mine, theirs),
+        _ => a == b,
     }
-    a == b
 }
 
-/// Returns whether the members of two objects are equal.
+/// Returns `true` if the members of two objects are equal, as `==` of maps does.
 pub fn equal_members(a: &VecMap<String, Json>, b: &VecMap<String, Json>) -> bool
-    ensures { IsPermutation a.now.entries b.now.entries → IsTrue result }
+    ensures equal { result
+        ≡ has_same_counts string_eq ⟦<Json as PartialEq>⟧.eq a.now.entries b.now.entries }
+    ensures lookups { HasDistinctKeys string_eq a.now.entries
+        → HasDistinctKeys string_eq b.now.entries → IsTrue result
+        ↔ ((name : String Global) → IsTrue (same_option ⟦<Json as PartialEq>⟧.eq
+        (lookup string_eq a.now.entries name) (lookup string_eq b.now.entries name))) }
+    ensures rearranged { IsPermutation a.now.entries b.now.entries → IsTrue result }
 {
     equality_ignores_order::<String, Json>();
+    equality_is_agreement::<String, Json>();
     a == b
 }

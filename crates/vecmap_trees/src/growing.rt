@@ -9,10 +9,10 @@ use std::alloc::Global;
 use vecmap::VecMap;
 use vecmap::map::laws::{texts_find_as_strings, writes_by_texts_are_insertions};
 
-// Makes a path lead to a value, and returns whether it does. What is missing is created, with `null` at its end.
+// Makes a path lead to a value, and returns `true` if it does. What is missing is created, with `null` at its end.
 #[cycle(make_path)]
 pub(crate) fn make_path(tree: &mut Json, alloc: Global, path: &[&str]) -> bool
-    ensures made { IsTrue result
+    ensures found { IsTrue result
         → IsSome (at_path (map (λ name. name.now) path.now) tree.new) }
     ensures others { (other : List (List ℕ))
         → ArePartedPaths (map (λ name. name.now) path.now) other
@@ -30,10 +30,10 @@ pub(crate) fn make_path(tree: &mut Json, alloc: Global, path: &[&str]) -> bool
     }
 }
 
-// Makes a path below the member of a name lead to a value, and returns whether it does.
+// Makes a path below the member of a name lead to a value, and returns `true` if it does.
 #[cycle(make_path)]
 fn make_below(members: &mut VecMap<String, Json>, alloc: Global, name: &str, path: &[&str]) -> bool
-    ensures made { IsTrue result
+    ensures found { IsTrue result
         → IsSome (option_and_then (at_path (map (λ name. name.now) path.now))
         (lookup_by (has_text name.now) members.new.entries)) }
     ensures others { (other : List (List ℕ))
@@ -60,7 +60,8 @@ fn make_below(members: &mut VecMap<String, Json>, alloc: Global, name: &str, pat
 
 // Creates objects that a path leads through, with `null` at its end.
 fn branch(alloc: Global, path: &[&str]) -> Option<Json>
-    ensures made { IfSome result (λ tree. IsSome (at_path (map (λ name. name.now) path.now) tree)) }
+    ensures found { IfSome result (λ tree.
+        IsSome (at_path (map (λ name. name.now) path.now) tree)) }
     ensures nothing_else { IfSome result (λ tree. (other : List (List ℕ))
         → ArePartedPaths (map (λ name. name.now) path.now) other → at_path other tree ≡ None) }
 {
@@ -75,9 +76,9 @@ fn branch(alloc: Global, path: &[&str]) -> Option<Json>
     Some(Json::Object(members))
 }
 
-// Adds a member with a copy of a name, and returns whether the memory sufficed.
+// Adds a member with a copy of a name, and returns `true` if the memory sufficed.
 fn add_member(members: &mut VecMap<String, Json>, alloc: Global, name: &str, value: Json) -> bool
-    ensures added { IsTrue result
+    ensures written { IsTrue result
         → lookup_by (has_text name.now) members.new.entries ≡ Some value }
     ensures other_names { (other : List ℕ) → bytes_eq name.now other ≡ false
         → lookup_by (has_text other) members.new.entries

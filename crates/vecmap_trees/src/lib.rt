@@ -1,4 +1,4 @@
-//! A tree of values as JSON has them, whose objects keep the order of their members.
+//! A tree of JSON values, whose objects keep the order of their members.
 //!
 //! A [`Json`] is built, read, written and removed at a path of names of any depth, merged with another one, counted,
 //! compared and printed. An object is a `VecMap<String, Json>`, so a value holds maps of values of its own type.
@@ -21,7 +21,7 @@ mod writing;
 pub use equality::{equal, equal_members};
 use vecmap::VecMap;
 
-/// A value as JSON has them. The members of an object keep their order.
+/// A JSON value. The members of an object keep their order.
 ///
 /// Two values are equal if they differ at most in the order of members, at any depth. A value prints as JSON.
 ///
@@ -35,10 +35,16 @@ use vecmap::VecMap;
 /// ```
 #[derive(Clone, Debug, PartialEq, Eq, Drop)]
 pub enum Json {
+    /// No value.
     Null,
+    /// A truth value.
     Bool(bool),
+    /// An integer.
     Number(i64),
+    /// A text.
     Text(String),
+    /// A list of values.
     Array(Vec<Json>),
+    /// Members, each a name and a value.
     Object(VecMap<String, Json>),
 }

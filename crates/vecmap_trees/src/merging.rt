@@ -2,7 +2,7 @@
 ghost use Rattle.std.specs.Prelude.{◌≡◌, ℕ, List, None, OnErr, OnOk, Some, bytes_eq, false, string_bytes, string_eq};
 ghost use Rattle.std.specs.Option.{option_and_then};
 ghost use Rattle.vecmap.specs.Pairs.{has_text, lookup_by, puts};
-ghost use Rattle.vecmap_trees.specs.Trees.{AreDistinctMembers, HasDistinctNames, IsObject, leaf_at, member, members, merged_below, merged_leaf};
+ghost use Rattle.vecmap_trees.specs.Trees.{AreDistinctMembers, HasDistinctNames, IsObject, IsOldOrMerged, leaf_at, member, members, merged_below, merged_leaf};
 
 use crate::Json;
 use std::alloc::AllocError;
@@ -10,14 +10,14 @@ use vecmap::VecMap;
 use vecmap::map::laws::{texts_find_as_strings, writes_by_texts_are_insertions};
 
 impl Json {
-    /// Moves the members of another object into this one. If both have a member of a name, it keeps its place, and gets
+    /// Moves the members of another object into this one. If both have a member of a name, it keeps its index, and gets
     /// the other's value.
     ///
-    /// If the other value is no object, it has no members, and nothing changes.
+    /// If the other value is not an object, it has no members, and this object is unchanged.
     ///
     /// # Errors
     ///
-    /// [`AllocError`] if memory runs out; nothing has changed then.
+    /// [`AllocError`] if memory runs out; this object is then unchanged.
     ///
     /// # Conditions
     ///
@@ -58,8 +58,9 @@ impl Json {
     ///
     /// # Errors
     ///
-    /// [`AllocError`] if memory runs out. The members before the refused one are then merged. Members whose names the
-    /// other object does not have are as before.
+    /// [`AllocError`] if memory runs out. Members whose names the other object does not have are then as before. If no
+    /// names repeat in the other value, the value at each path, unless it is an object, is as before or as the whole
+    /// merge would leave it.
     ///
     /// # Complexity
     ///
@@ -79,8 +80,11 @@ impl Json {
     pub fn merge_deep(&mut self, other: Json) -> Result<(), AllocError>
         ensures merged { OnOk result (HasDistinctNames other → (path : List (List ℕ))
             → leaf_at path self.new ≡ merged_leaf path self.old other) }
-        ensures kept { IsObject self.old → IsObject other → (name : List ℕ) → member name other ≡ None
-            → member name self.new ≡ member name self.old }
+        ensures other_names { IsObject self.old → IsObject other → (name : List ℕ)
+            → member name other ≡ None → member name self.new ≡ member name self.old }
+        ensures err { OnErr result (HasDistinctNames other → (path : List (List ℕ))
+            → IsOldOrMerged (leaf_at path self.new) (leaf_at path self.old)
+            (merged_leaf path self.old other)) }
     {
         merge_into(other, self)
     }
@@ -92,8 +96,11 @@ impl Json {
 fn merge_into(other: Json, tree: &mut Json) -> Result<(), AllocError>
     ensures merged { OnOk result (HasDistinctNames other → (path : List (List ℕ))
         → leaf_at path tree.new ≡ merged_leaf path tree.old other) }
-    ensures kept { IsObject tree.old → IsObject other → (name : List ℕ) → member name other ≡ None
-        → member name tree.new ≡ member name tree.old }
+    ensures other_names { IsObject tree.old → IsObject other → (name : List ℕ)
+        → member name other ≡ None → member name tree.new ≡ member name tree.old }
+    ensures err { OnErr result (HasDistinctNames other → (path : List (List ℕ))
+        → IsOldOrMerged (leaf_at path tree.new) (leaf_at path tree.old)
+        (merged_leaf path tree.old other)) }
 {
     match other {
         Json::Object(theirs) => match tree {
@@ -121,9 +128,16 @@ fn merge_members(
         → option_and_then (leaf_at names) (lookup_by (has_text name) mine.new.entries)
         ≡ merged_below (merged_leaf names) names (lookup_by (has_text name) theirs.entries)
         (lookup_by (has_text name) mine.old.entries)) }
-    ensures kept { (name : List ℕ) → lookup_by (has_text name) theirs.entries ≡ None
+    ensures other_names { (name : List ℕ) → lookup_by (has_text name) theirs.entries ≡ None
         → lookup_by (has_text name) mine.new.entries
         ≡ lookup_by (has_text name) mine.old.entries }
+    ensures err { OnErr result (AreDistinctMembers theirs.entries → (name : List ℕ)
+        (names : List (List ℕ))
+        → IsOldOrMerged
+        (option_and_then (leaf_at names) (lookup_by (has_text name) mine.new.entries))
+        (option_and_then (leaf_at names) (lookup_by (has_text name) mine.old.entries))
+        (merged_below (merged_leaf names) names (lookup_by (has_text name) theirs.entries)
+        (lookup_by (has_text name) mine.old.entries))) }
 {
     for (name, value) in theirs {
         merge_member(value, name, mine)?;
@@ -146,6 +160,13 @@ fn merge_member(
     ensures other_names { (other : List ℕ) → bytes_eq (string_bytes name) other ≡ false
         → lookup_by (has_text other) mine.new.entries
         ≡ lookup_by (has_text other) mine.old.entries }
+    ensures err { OnErr result (HasDistinctNames value → (names : List (List ℕ))
+        → IsOldOrMerged (option_and_then (leaf_at names)
+        (lookup_by (has_text (string_bytes name)) mine.new.entries))
+        (option_and_then (leaf_at names)
+        (lookup_by (has_text (string_bytes name)) mine.old.entries))
+        (merged_below (merged_leaf names) names (Some value)
+        (lookup_by (has_text (string_bytes name)) mine.old.entries))) }
 {
     texts_find_as_strings::<Json>();
     writes_by_texts_are_insertions::<Json>();

@@ -5,7 +5,7 @@ ghost use Rattle.vecmap_trees.specs.Trees.{IsObject, at_path, leaves, member};
 use crate::Json;
 
 impl Json {
-    /// Returns whether the value is an object.
+    /// Returns `true` if the value is an object.
     pub fn is_object(&self) -> bool
         ensures { IsTrue result ↔ IsObject self.now }
     {

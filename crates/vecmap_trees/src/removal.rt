@@ -9,9 +9,9 @@ use crate::Json;
 use vecmap::VecMap;
 
 impl Json {
-    /// Removes a member, and returns its value. The members after it move down.
+    /// Removes a member, and returns its value. The index of each later member decreases by one.
     ///
-    /// Returns `None` if there is no such member. Nothing has changed then.
+    /// Returns `None` if there is no such member; the value is then unchanged.
     ///
     /// # Complexity
     ///
@@ -35,9 +35,10 @@ impl Json {
         }
     }
 
-    /// Removes a member of the object at a path, and returns its value. The members after it move down.
+    /// Removes a member of the object at a path, and returns its value. The index of each later member of that object
+    /// decreases by one.
     ///
-    /// Returns `None` if the path leads to no object, or if the object has no such member. Nothing has changed then.
+    /// Returns `None` if the path leads to no object, or if the object has no such member; the tree is then unchanged.
     ///
     /// # Complexity
     ///

@@ -1,9 +1,13 @@
 //! Trees that are built, read, written, merged and compared. A tree is compared by its printed text.
+ghost use Rattle.std.specs.Prelude.{◌≡◌, IfOk};
+ghost use Rattle.vecmap_trees.specs.Trees.{leaves};
+
 use crate::Json;
 use crate::equality::equal;
 use std::alloc::{AllocError, Global};
 use std::process::Abort;
 use std::test::Fail;
+use vecmap::VecMap;
 
 // Asserts that a tree prints as this text.
 fn assert_prints(rt: &impl Abort, alloc: Global, tree: &Json, expected: &str) {
@@ -126,10 +130,16 @@ fn a_member_is_set(rt: HostRuntime) -> Result<(), Fail> {
     let alloc = rt.alloc();
     let mut tree = sample(&rt, alloc);
     let old = granted(&rt, tree.set("b".to_string(alloc)?, Json::Bool(false)));
-    assert!(rt; old.is_some());
+    assert_prints(&rt, alloc, &old.expect(&rt, "absent"), "{\"y\":1,\"x\":2}");
     assert!(rt; granted(&rt, tree.set("c".to_string(alloc)?, Json::Null)).is_none());
     assert_prints(&rt, alloc, &tree, "{\"b\":false,\"a\":3,\"c\":null}");
-    assert!(rt; Json::Null.set("c".to_string(alloc)?, Json::Null).is_err());
+    match Json::Null.set("c".to_string(alloc)?, Json::Number(7)) {
+        Ok(_) => panic!(rt; "set"),
+        Err(refused) => {
+            assert_eq!(rt; refused.given.0.as_str(), "c");
+            assert_prints(&rt, alloc, &refused.given.1, "7");
+        },
+    }
     Ok(())
 }
 
@@ -141,7 +151,8 @@ fn a_member_is_removed_at_a_path(rt: HostRuntime) {
     assert!(rt; tree.remove_at(&["b"], "y").is_none());
     assert!(rt; tree.remove_at(&["a"], "y").is_none());
     assert_prints(&rt, alloc, &tree, "{\"b\":{\"x\":2},\"a\":3}");
-    assert!(rt; tree.remove("b").is_some());
+    let removed = tree.remove("b").expect(&rt, "absent");
+    assert_prints(&rt, alloc, &removed, "{\"x\":2}");
     assert_prints(&rt, alloc, &tree, "{\"a\":3}");
 }
 
@@ -187,20 +198,62 @@ fn a_deep_merge_merges_objects(rt: HostRuntime) {
 fn order_makes_no_difference_to_equality(rt: HostRuntime) {
     let alloc = rt.alloc();
     let tree = sample(&rt, alloc);
-    let mut turned = Json::object(alloc);
-    set(&rt, alloc, &mut turned, &["a"], 3);
-    set(&rt, alloc, &mut turned, &["b", "x"], 2);
-    set(&rt, alloc, &mut turned, &["b", "y"], 1);
-    assert!(rt; equal(&tree, &turned));
+    let mut reversed = Json::object(alloc);
+    set(&rt, alloc, &mut reversed, &["a"], 3);
+    set(&rt, alloc, &mut reversed, &["b", "x"], 2);
+    set(&rt, alloc, &mut reversed, &["b", "y"], 1);
+    assert!(rt; equal(&tree, &reversed));
     let copy = granted(&rt, tree.clone());
     assert!(rt; tree == copy);
-    set(&rt, alloc, &mut turned, &["b", "y"], 2);
-    assert!(rt; tree != turned);
+    set(&rt, alloc, &mut reversed, &["b", "y"], 2);
+    assert!(rt; tree != reversed);
 }
 
 #[test]
-fn leaves_are_counted(rt: HostRuntime) {
+fn order_makes_no_difference_two_levels_down(rt: HostRuntime) {
     let alloc = rt.alloc();
-    assert_eq!(rt; Json::Bool(true).leaves(), 1);
-    assert_eq!(rt; Json::object(alloc).leaves(), 0);
+    let mut tree = sample(&rt, alloc);
+    let mut reversed = sample(&rt, alloc);
+    set(&rt, alloc, &mut tree, &["b", "c", "p"], 4);
+    set(&rt, alloc, &mut tree, &["b", "c", "q"], 5);
+    set(&rt, alloc, &mut reversed, &["b", "c", "q"], 5);
+    set(&rt, alloc, &mut reversed, &["b", "c", "p"], 4);
+    assert!(rt; equal(&tree, &reversed));
+}
+
+#[test]
+fn values_that_differ_are_not_equal(rt: HostRuntime) {
+    let alloc = rt.alloc();
+    let tree = sample(&rt, alloc);
+    let mut changed = sample(&rt, alloc);
+    set(&rt, alloc, &mut changed, &["b", "y"], 2);
+    assert!(rt; !equal(&tree, &changed));
+    set(&rt, alloc, &mut changed, &["b", "y"], 1);
+    assert!(rt; equal(&tree, &changed));
+    set(&rt, alloc, &mut changed, &["b", "z"], 1);
+    assert!(rt; !equal(&tree, &changed));
+    assert!(rt; !equal(&tree, &Json::Null));
+    assert!(rt; !equal(&Json::Number(1), &Json::Bool(true)));
+}
+
+// Creates `[1,[2,null],{"a":[3],"b":{}}]`.
+fn nested(alloc: Global) -> Result<Json, AllocError>
+    ensures { IfOk result (λ tree. leaves tree ≡ 4) }
+{
+    let items = vec![in alloc; Json::Number(2), Json::Null]?;
+    let inner = vec![in alloc; Json::Number(3)]?;
+    let mut members = VecMap::new(alloc);
+    members.insert("a".to_string(alloc)?, Json::Array(inner))?;
+    members.insert("b".to_string(alloc)?, Json::object(alloc))?;
+    let all = vec![in alloc; Json::Number(1), Json::Array(items), Json::Object(members)]?;
+    Ok(Json::Array(all))
+}
+
+#[test]
+fn leaves_are_counted_at_every_depth(rt: HostRuntime) -> Result<(), Fail> {
+    let alloc = rt.alloc();
+    let tree = nested(alloc)?;
+    assert_prints(&rt, alloc, &tree, "[1,[2,null],{\"a\":[3],\"b\":{}}]");
+    assert_eq!(rt; tree.leaves(), 4);
+    Ok(())
 }

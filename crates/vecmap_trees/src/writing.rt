@@ -12,13 +12,13 @@ use vecmap::map::laws::texts_find_as_strings;
 use vecmap::{Refused, VecMap};
 
 impl Json {
-    /// Sets a member of an object, and returns its previous value. An existing member keeps its place, and a new one is
+    /// Sets a member of an object, and returns its previous value. An existing member keeps its index, and a new one is
     /// appended.
     ///
     /// # Errors
     ///
-    /// [`Refused`] returns the name and the value if this value is no object, or if memory runs out; nothing has changed
-    /// then.
+    /// [`Refused`] returns the name and the value if this value is not an object, or if memory runs out; this value is
+    /// then unchanged.
     ///
     /// # Complexity
     ///
@@ -57,7 +57,7 @@ impl Json {
         }
     }
 
-    /// Replaces the value at a path, if there is one, and returns whether there is.
+    /// Replaces the value at a path, if there is one. Returns `true` if there is one.
     ///
     /// # Complexity
     ///
@@ -91,12 +91,13 @@ impl Json {
     ///
     /// # Errors
     ///
-    /// [`Refused`] returns the value if the path leads through a value that is no object, or if memory runs out; nothing
-    /// has changed then.
+    /// [`Refused`] returns the value if the path leads through a value that is not an object, or if memory runs out.
+    /// The tree is then unchanged.
     ///
     /// # Complexity
     ///
-    /// At most two comparisons for each member of each object on the path. Allocates only if the path leads to no value.
+    /// At most two comparisons for each member of each object on the path. Allocates only if the path leads to no
+    /// value.
     ///
     /// # Examples
     ///
@@ -128,7 +129,7 @@ impl Json {
     }
 }
 
-// Replaces the value at a path below the member of a name, if there is one, and returns whether there is.
+// Replaces the value at a path below the member of a name, if there is one. Returns `true` if there is one.
 #[cycle(write_at)]
 fn write_below(members: &mut VecMap<String, Json>, name: &str, path: &[&str], value: Json) -> bool
     ensures tree { members.new ≡ with_member name.now

@@ -12,4 +12,4 @@ returns-clause-nothing_else t c =
     let stored : members (Object c.add_member.new.members) ≡ c.add_member.new.members.entries = search (rules, the_lemmas) in
     nothing_seen _ _ _ _ c.add_member.new.members.entries (ap (map (λ name. name.now)) path) stored
     (λ other e. c.add_member.ensures.other_names other e ∙ ap (lookup_by (has_text other)) c.new-members.ensures.entries)
-    (λ other h. ap (option_and_then (at_path other)) (c.add_member.ensures.added c.if-not-add_member.false) ∙ c.in_ok-inner.ensures.nothing_else other h)
+    (λ other h. ap (option_and_then (at_path other)) (c.add_member.ensures.written c.if-not-add_member.false) ∙ c.in_ok-inner.ensures.nothing_else other h)

@@ -8,10 +8,10 @@ use Rattle.vecmap_trees.specs.declared.Json.TheViews.{the_lemmas}
 use Rattle.vecmap_trees.proofs.PathLemmas.{seen_alike}
 use Rattle.vecmap_trees.proofs.growing.+make_path.Goals as goal
 
-pub make_below-returns-in-Some-clause-made : goal.make_below-returns-in-Some-clause-made
-make_below-returns-in-Some-clause-made t c =
+pub make_below-returns-in-Some-clause-found : goal.make_below-returns-in-Some-clause-found
+make_below-returns-in-Some-clause-found t c =
     let value = c.writes_by_texts_are_insertions.ensures.value c.args.members.now c.args.name.now c.make_path.new.tree (c.in-Some.ensures.found.0 refl) in
-    λ done. subst (λ o. IsSome (option_and_then (at_path (map (λ name. name.now) c.args.path.now)) o)) (sym value) (c.make_path.ensures.made done)
+    λ done. subst (λ o. IsSome (option_and_then (at_path (map (λ name. name.now) c.args.path.now)) o)) (sym value) (c.make_path.ensures.found done)
 
 pub make_below-returns-in-Some-clause-others : goal.make_below-returns-in-Some-clause-others
 make_below-returns-in-Some-clause-others t c =

@@ -1,12 +1,12 @@
 -- The loop keeps that a merge of the members still to come leads to what the whole merge is to lead to. Members that
 -- have no name of the other object are never written.
-use Rattle.std.proofs.Common.{◌≡◌, ◌≤◌, None, Some, [], ap, arith, refl, rules, string_bytes, subst, sym, ◌∙◌}
+use Rattle.std.proofs.Common.{◌≡◌, ◌≤◌, ◌⊎◌, None, Some, [], ap, arith, inr, refl, rules, string_bytes, subst, sym, ◌∙◌}
 use Rattle.std.specs.Option.{option_and_then}
 use Rattle.vecmap.specs.Pairs.{has_text, lookup_by}
 use Rattle.vecmap_trees.specs.Trees.{AreDistinctMembers, IsObject, leaf_at, members, merged_below, merged_leaf}
 use Rattle.vecmap_trees.specs.declared.Json.TheViews.{size-Json, the_lemmas}
 use denote.Param.Weighed.{most}
-use Rattle.vecmap_trees.proofs.MergeLemmas.{absent_below, distinct_first, distinct_members, distinct_rest, kept_at, member_merged, merged_at, one_merged, other_member_kept, replaced_at, weaker}
+use Rattle.vecmap_trees.proofs.MergeLemmas.{absent_below, distinct_first, distinct_members, distinct_rest, failed_at, kept_at, member_failed, member_merged, merged_at, on_err, one_failed, one_merged, other_member_kept, replaced_at, still_untouched, weaker, weaker_err}
 use Rattle.vecmap_trees.proofs.merging.+merge_into.Goals as goal
 
 pub merge_into-returns-in-Object-tree-clause-merged :
@@ -17,17 +17,25 @@ merge_into-returns-in-Object-tree-clause-merged t c =
     (λ below d path. merged_at path _ _ _ c.merge_members.new.mine c.in-Object.theirs _ (below (distinct_members c.args.other c.in-Object.theirs.entries theirs d)) (search (rules, the_lemmas)) (search (rules, the_lemmas)) (search (rules, the_lemmas)))
     c.merge_members.ensures.merged
 
-pub merge_into-returns-in-Object-tree-clause-kept :
-    goal.merge_into-returns-in-Object-tree-clause-kept
-merge_into-returns-in-Object-tree-clause-kept t c =
-    λ i j. kept_at _ _ _ c.merge_members.new.mine.entries _ c.in-Object.theirs.entries c.merge_members.ensures.kept (search (rules, the_lemmas)) (search (rules, the_lemmas)) (search (rules, the_lemmas))
+pub merge_into-returns-in-Object-tree-clause-other_names :
+    goal.merge_into-returns-in-Object-tree-clause-other_names
+merge_into-returns-in-Object-tree-clause-other_names t c =
+    λ i j. kept_at _ _ _ c.merge_members.new.mine.entries _ c.in-Object.theirs.entries c.merge_members.ensures.other_names (search (rules, the_lemmas)) (search (rules, the_lemmas)) (search (rules, the_lemmas))
+
+pub merge_into-returns-in-Object-tree-clause-err : goal.merge_into-returns-in-Object-tree-clause-err
+merge_into-returns-in-Object-tree-clause-err t c =
+    let theirs : members c.args.other ≡ c.in-Object.theirs.entries = search (rules, the_lemmas) in
+    weaker_err c.merge_members.result
+    (λ below d path. failed_at path _ _ _ c.merge_members.new.mine c.in-Object.theirs _ (below (distinct_members c.args.other c.in-Object.theirs.entries theirs d)) (search (rules, the_lemmas)) (search (rules, the_lemmas)) (search (rules, the_lemmas)))
+    c.merge_members.ensures.err
 
 pub merge_into-returns-in_default-tree : goal.merge_into-returns-in_default-tree
 merge_into-returns-in_default-tree t c =
     let none : IsObject c.args.tree.now → ⊥ = search (rules, the_lemmas) in
     record {
       merged = λ d path. ap (leaf_at path) (sym c.in-Object.is) ∙ replaced_at path c.args.tree.now c.args.other (λ i j. none i);
-      kept = λ i. absurd (none i);
+      other_names = λ i. absurd (none i);
+      err = tt;
     }
 
 pub merge_into-returns-in_default : goal.merge_into-returns-in_default
@@ -35,12 +43,17 @@ merge_into-returns-in_default t c =
     let none : IsObject c.args.other → ⊥ = search (rules, the_lemmas) in
     record {
       merged = λ d path. replaced_at path c.args.tree.now c.args.other (λ i j. none j);
-      kept = λ i j. absurd (none j);
+      other_names = λ i j. absurd (none j);
+      err = tt;
     }
 
 pub merge_member-returns-in-Some-clause-merged : goal.merge_member-returns-in-Some-clause-merged
 merge_member-returns-in-Some-clause-merged t c =
     weaker c.merge_into.result (λ h d names. member_merged c.args.mine.now c.as_str.result.now _ c.as_str.ensures.value c.in-Some.old.now c.merge_into.new.tree c.args.value c.in-Some.ensures.value names (h d names)) c.merge_into.ensures.merged
+
+pub merge_member-returns-in-Some-clause-err : goal.merge_member-returns-in-Some-clause-err
+merge_member-returns-in-Some-clause-err t c =
+    weaker_err c.merge_into.result (λ h d names. member_failed c.args.mine.now c.as_str.result.now _ c.as_str.ensures.value c.in-Some.old.now c.merge_into.new.tree c.args.value c.in-Some.ensures.value names (h d names)) c.merge_into.ensures.err
 
 pub merge_member-returns-in-Some-clause-other_names :
     goal.merge_member-returns-in-Some-clause-other_names
@@ -64,6 +77,7 @@ merge_members-loop-name-init t c =
       distinct = subst AreDistinctMembers (sym items);
       merged = λ d name names. ap (λ l. merged_below (merged_leaf names) names (lookup_by (has_text name) l) (lookup_by (has_text name) c.args.mine.now.entries)) items;
       kept = λ name none. (ap (lookup_by (has_text name)) items ∙ none, refl);
+      untouched = λ d name. inr refl;
       lighter = let same = ap (most (λ p. size-Json p.1)) items in omega (arith, same);
     }
 
@@ -93,21 +107,41 @@ merge_members-loop-name-preserved t c =
           let before = inv.kept n none in
           let absent = absent_below name value rest n (ap (lookup_by (has_text n)) (sym steps) ∙ before.0) in
           (absent.1, c.merge_member.ensures.other_names n absent.0 ∙ before.1);
+      untouched = λ d n.
+          let at = subst (λ l. (lookup_by (has_text n) l ≡ None) ⊎ (lookup_by (has_text n) mine ≡ lookup_by (has_text n) c.args.mine.now.entries)) steps (inv.untouched d n) in
+          still_untouched name value rest (subst AreDistinctMembers steps (inv.distinct d)) mine new c.args.mine.now.entries c.merge_member.ensures.other_names n at;
       lighter = let first = ap (most (λ p. size-Json p.1)) steps in omega (arith, inv.lighter, first);
     }
 
-pub merge_members-returns-in_err-merge_member-clause-kept :
-    goal.merge_members-returns-in_err-merge_member-clause-kept
-merge_members-returns-in_err-merge_member-clause-kept t c =
+pub merge_members-returns-in_err-merge_member-clause-other_names :
+    goal.merge_members-returns-in_err-merge_member-clause-other_names
+merge_members-returns-in_err-merge_member-clause-other_names t c =
     λ n none.
     let before = c.loop-name.invariant.kept n none in
     let absent = absent_below c.in-Some.name c.in-Some.value c.next.new.self n (ap (lookup_by (has_text n)) (sym c.in-Some.ensures.steps) ∙ before.0) in
     c.merge_member.ensures.other_names n absent.0 ∙ before.1
+
+pub merge_members-returns-in_err-merge_member-clause-err :
+    goal.merge_members-returns-in_err-merge_member-clause-err
+merge_members-returns-in_err-merge_member-clause-err t c =
+    let inv = c.loop-name.invariant in
+    let steps = c.in-Some.ensures.steps in
+    let name = c.in-Some.name in
+    let value = c.in-Some.value in
+    let rest = c.next.new.self in
+    let mine = c.loop-name.mine.entries in
+    let old = c.args.mine.now.entries in
+    on_err c.from_residual.result
+    (λ d n names.
+    let e = subst AreDistinctMembers steps (inv.distinct d) in
+    one_failed name value rest c.args.theirs.entries mine c.merge_member.new.mine.entries old (c.in_err-merge_member.ensures.err (distinct_first name value rest e)) c.merge_member.ensures.other_names n names
+    (ap (λ l. merged_below (merged_leaf names) names (lookup_by (has_text n) l) (lookup_by (has_text n) mine)) (sym steps) ∙ inv.merged d n names)
+    (subst (λ l. (lookup_by (has_text n) l ≡ None) ⊎ (lookup_by (has_text n) mine ≡ lookup_by (has_text n) old)) steps (inv.untouched d n)))
 
 pub merge_members-returns-clause-merged : goal.merge_members-returns-clause-merged
 merge_members-returns-clause-merged t c =
     let none : c.loop-name.name-iterator ≡ [] = search rules in
     λ d n names. sym (ap (λ l. merged_below (merged_leaf names) names (lookup_by (has_text n) l) (lookup_by (has_text n) c.loop-name.mine.entries)) none) ∙ c.loop-name.invariant.merged d n names
 
-pub merge_members-returns-clause-kept : goal.merge_members-returns-clause-kept
-merge_members-returns-clause-kept t c = λ n none. (c.loop-name.invariant.kept n none).1
+pub merge_members-returns-clause-other_names : goal.merge_members-returns-clause-other_names
+merge_members-returns-clause-other_names t c = λ n none. (c.loop-name.invariant.kept n none).1
