@@ -1,5 +1,5 @@
 //! Trees: each request for memory is refused once.
-use crate::checks::{assert_is, granted};
+use crate::checks::{assert_is, check, granted};
 use crate::telling::{make, retry};
 use std::alloc::{AllocError, Global};
 use std::process::Abort;
@@ -23,6 +23,15 @@ fn other(alloc: Global) -> Result<Json, AllocError> {
     Ok(tree)
 }
 
+/// Creates an object of four members, which has no spare capacity.
+fn full(alloc: Global) -> Result<Json, AllocError> {
+    let mut tree = Json::object(alloc);
+    for name in ["a", "b", "c", "d"] {
+        tree.set_at(alloc, &[name], Json::Null)?;
+    }
+    Ok(tree)
+}
+
 /// Returns the whole tree as text, by one request.
 fn printed(alloc: Global, tree: &Json) -> Result<String, AllocError> {
     let mut text = String::with_capacity(alloc, 128)?;
@@ -34,6 +43,27 @@ fn printed(alloc: Global, tree: &Json) -> Result<String, AllocError> {
 fn assert_printed(rt: &(impl Abort + Print), alloc: Global, tree: &Json, expected: &str) {
     let text = make!(rt; printed(alloc, tree));
     assert_is(rt, text.as_str(), expected);
+}
+
+#[test]
+fn text_copies_its_argument_or_is_refused(rt: HostRuntime) {
+    let text = make!(rt; Json::text(rt.alloc(), "map"));
+    assert_printed(&rt, rt.alloc(), &text, r#""map""#);
+}
+
+#[test]
+fn set_keeps_a_member_or_returns_it(rt: HostRuntime) {
+    let alloc = rt.alloc();
+    let mut tree = make!(rt; full(alloc));
+    let (name, value) = (make!(rt; "e".to_string(alloc)), Json::Number(1));
+    let old = retry!(rt; tree.set(name, value), Refused { given: (name, value) } => {
+        assert_printed(&rt, alloc, &tree, r#"{"a":null,"b":null,"c":null,"d":null}"#);
+        assert_is(&rt, name.as_str(), "e");
+        assert_printed(&rt, alloc, &value, "1");
+    });
+    check!(rt; old.is_none());
+    let changed = r#"{"a":null,"b":null,"c":null,"d":null,"e":1}"#;
+    assert_printed(&rt, alloc, &tree, changed);
 }
 
 #[test]

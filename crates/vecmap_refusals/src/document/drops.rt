@@ -65,7 +65,7 @@ fn set(
 
 /// A section has capacity for four names before its map grows.
 #[test]
-fn set_keeps_returns_or_drops(rt: HostRuntime) {
+fn set_keeps_returns_or_drops_each_text(rt: HostRuntime) {
     let rows = [
         ("p", "a", ""),
         ("p", "b", ""),
@@ -91,7 +91,7 @@ fn set_keeps_returns_or_drops(rt: HostRuntime) {
 /// Of nine large texts, a merge drops three: the name of an existing section, an existing name of a text, and the old
 /// text.
 #[test]
-fn merge_keeps_or_drops(rt: HostRuntime) {
+fn merge_keeps_or_drops_each_text(rt: HostRuntime) {
     let mut into = make!(rt; document(rt.alloc(), INTO));
     let mut from = Document::new(rt.alloc());
     let pages = mapped_pages(&rt);

@@ -81,12 +81,12 @@ where
 }
 
 #[test]
-fn extend_pairs_inserts_all_clones_or_stops_at_the_refused_one(rt: HostRuntime) {
+fn extend_pairs_with_spare_capacity_inserts_the_clones_before_the_refused_one(rt: HostRuntime) {
     check_stops(&rt, rt.alloc(), |map, more| map.extend_pairs(more));
 }
 
 #[test]
-fn extend_refs_inserts_all_clones_or_stops_at_the_refused_one(rt: HostRuntime) {
+fn extend_refs_with_spare_capacity_inserts_the_clones_before_the_refused_one(rt: HostRuntime) {
     check_stops(&rt, rt.alloc(), |map, more| {
         map.extend_refs(more.iter().map(|pair| (&pair.0, &pair.1)))
     });

@@ -126,7 +126,7 @@ fn check_run(
     check!(rt; has_told_pairs(map.as_slice(), expected));
 }
 
-// Runs these commands, and again where the run is refused.
+// Runs these commands, and again if the run is refused.
 fn run_or_again<'a>(
     rt: &(impl Abort + Print),
     alloc: Global,
@@ -199,11 +199,12 @@ fn takes_made<'a>(rt: &(impl Abort + Print), alloc: Global, log: &'a Log) -> Lis
 #[test]
 fn a_map_run_drops_what_its_commands_compare_or_remove_by(rt: HostRuntime) {
     let log = Log::new();
+    let all = [(1, 11), (2, 12), (3, 13), (4, 14), (5, 15), (6, 16)];
     let mut map = make!(rt; told_map(rt.alloc(), &log, &[1, 2, 3, 4, 5, 6]));
     let commands = takes_made(&rt, rt.alloc(), &log);
     // If the replies are refused, no command is executed.
     let replies = retry!(rt; run(rt.alloc(), &mut map, commands), AllocError => {
-        assert_is(&rt, (log.alive(), map.len()), (12, 6));
+        assert_told_pairs(&rt, &log, &map, 12, &all);
         let commands = takes_made(&rt, rt.alloc(), &log);
     });
     // The replies have the clone of a value, two values and two pairs.

@@ -1,7 +1,7 @@
 //! Entries of an existing key and of a new one in a map that is full, and of a key whose clone is refused.
 use super::FULL;
 use super::keeping::{Insertion, check_kept};
-use crate::checks::{assert_granted, assert_is, assert_pairs, check, granted};
+use crate::checks::{assert_gives, assert_granted, assert_is, assert_pairs, check, granted};
 use crate::telling::{make, retry};
 use std::alloc::{AllocError, Global};
 use std::process::Abort;
@@ -45,6 +45,7 @@ fn an_occupied_entry_is_never_refused(rt: HostRuntime) {
     assert_is(&rt, *granted(&rt, map.entry(key).or_insert_with(|| 1)), 10);
     let value = granted(&rt, map.entry(key).or_insert_with_key(|_| 1));
     assert_is(&rt, *value, 10);
+    assert_gives(&rt, or_try_insert_with(&mut map, key, 1), 10);
     assert_is(&rt, *granted(&rt, map.entry(key).or_default()), 10);
     assert_granted(&rt, map.entry(key).insert_entry(20));
     assert_pairs(&rt, &map, &[(1, 'a', 20), (2, 'b', 20)]);
@@ -105,6 +106,7 @@ fn or_try_insert_with_inserts_the_made_text_or_leaves_the_map(rt: HostRuntime) {
     retry!(rt; spell(rt.alloc(), &mut texts, 7), AllocError => {
         assert_is(&rt, (texts.len(), texts.capacity()), (0, 0));
     });
+    assert_is(&rt, texts.len(), 1);
     assert_is(&rt, texts.get(&7).map(String::as_str), Some("7"));
 }
 
@@ -134,7 +136,8 @@ fn or_default_keeps_the_key_or_returns_it(rt: HostRuntime) {
     retry!(rt; or_default(&mut map, key), (key, value) => {
         assert_is(&rt, (map.len(), key.number(), value, log.alive()), (0, 1, 0, 1));
     });
-    assert_is(&rt, (log.alive(), map.len()), (1, 1));
+    assert_is(&rt, log.alive(), 1);
+    check!(rt; map.iter().map(|(key, value)| (key.number(), *value)).eq([(1, 0)]));
     drop(map);
     assert_is(&rt, log.alive(), 0);
 }

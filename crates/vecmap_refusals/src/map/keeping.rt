@@ -1,4 +1,4 @@
-//! A check of the calls that insert a pair of keys and values that are counted.
+//! The check of one insertion, which counts the keys and values that are alive.
 use crate::checks::{assert_is, assert_told_pairs};
 use crate::telling::{make, retry};
 use std::alloc::Global;

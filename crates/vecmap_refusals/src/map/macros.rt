@@ -42,7 +42,7 @@ fn vecmap_keeps_its_pairs_or_drops_them(rt: HostRuntime) {
     assert_told_pairs(&rt, &log, &map, 4, &[(1, 13), (2, 12)]);
 }
 
-// Creates the map of `three`, and again where it is refused.
+// Creates the map of `three`, and again if it is refused.
 fn three_or_again<'a>(rt: &(impl Abort + Print), alloc: Global, log: &'a Log) -> Map<'a> {
     retry!(rt; three(alloc, log), AllocError => {
         assert_is(rt, log.alive(), 0);

@@ -1,5 +1,5 @@
 //! A map that is split in two.
-use crate::checks::{assert_granted, assert_is, assert_pairs};
+use crate::checks::{assert_is, assert_pairs, granted};
 use crate::telling::{make, retry};
 use std::alloc::AllocError;
 use std::process::Abort;
@@ -34,8 +34,10 @@ fn split_off_of_a_map_moves_all_or_nothing(rt: HostRuntime) {
     assert_pairs(&rt, &map, &[(1, 'a', 10)]);
     assert_pairs(&rt, &part, &[(2, 'b', 20), (3, 'c', 30)]);
     let end = map.len();
-    assert_granted(&rt, map.split_off(end));
-    assert_is(&rt, (map.len(), map.capacity()), (end, 3));
+    let none = granted(&rt, map.split_off(end));
+    assert_pairs(&rt, &none, &[]);
+    assert_pairs(&rt, &map, &[(1, 'a', 10)]);
+    assert_is(&rt, map.capacity(), 3);
 }
 
 #[test]

@@ -29,7 +29,7 @@ where
 }
 
 #[test]
-fn the_reserving_calls_leave_a_map_as_before(rt: HostRuntime) {
+fn reserving_calls_reserve_or_leave_a_map_unchanged(rt: HostRuntime) {
     check_reserving(&rt, rt.alloc(), |map| map.reserve(2));
     check_reserving(&rt, rt.alloc(), |map| map.reserve_exact(2));
     check_reserving(&rt, rt.alloc(), |map| map.try_reserve(2));

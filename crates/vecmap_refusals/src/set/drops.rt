@@ -95,7 +95,7 @@ fn a_set_run_keeps_what_its_commands_carry_or_drops_it(rt: HostRuntime) {
     assert_told(&rt, &log, &set, 5, &[1, 2, 3, 5, 6]);
 }
 
-// Runs the commands of `carrying`, and again where the run is refused.
+// Runs the commands of `carrying`, and again if the run is refused.
 fn run_or_again<'a>(rt: &(impl Abort + Print), alloc: Global, log: &'a Log) -> Set<'a> {
     let commands = make!(rt; carrying(alloc, log));
     retry!(rt; run_once(rt, alloc, log, commands), set => {

@@ -54,3 +54,26 @@ fn extend_by_the_trait_adds_as_many_elements_as_the_capacity_allows(rt: HostRunt
     );
     check_one_more(&rt, rt.alloc(), |set, items| Extend::extend(set, items));
 }
+
+const ITEMS: [u32; 4] = [1, 3, 2, 1];
+
+fn collected(alloc: Global) -> Result<VecSet<u32>, AllocError> {
+    ITEMS
+        .into_iter()
+        .map(|item| -> Result<u32, AllocError> { Ok(item) })
+        .try_collect(alloc)
+}
+
+// Returns a set of the elements below 3, and one of the others.
+fn parted(alloc: Global) -> Result<(VecSet<u32>, VecSet<u32>), AllocError> {
+    ITEMS.into_iter().partition(alloc, |item| *item < 3)
+}
+
+#[test]
+fn try_collect_and_partition_make_all_elements_or_nothing(rt: HostRuntime) {
+    let set = make!(rt; collected(rt.alloc()));
+    assert_list(&rt, set.as_slice(), &[1, 3, 2]);
+    let parts = make!(rt; parted(rt.alloc()));
+    assert_list(&rt, parts.0.as_slice(), &[1, 2]);
+    assert_list(&rt, parts.1.as_slice(), &[3]);
+}

@@ -34,7 +34,7 @@ fn vecset_keeps_its_elements_or_drops_them(rt: HostRuntime) {
     assert_told(&rt, &log, &set, 2, &[1, 2]);
 }
 
-// Creates the set of `three`, and again where it is refused.
+// Creates the set of `three`, and again if it is refused.
 fn three_or_again<'a>(rt: &(impl Abort + Print), alloc: Global, log: &'a Log) -> Set<'a> {
     retry!(rt; three(alloc, log), AllocError => {
         assert_is(rt, log.alive(), 0);

@@ -11,7 +11,7 @@ const LEFT: &[&str] = &["c", "b", "a"];
 const RIGHT: &[&str] = &["b", "d"];
 
 // Asserts that both operands are unchanged.
-fn assert_left(rt: &impl Abort, a: &VecSet<String>, b: &VecSet<String>) {
+fn assert_unchanged(rt: &impl Abort, a: &VecSet<String>, b: &VecSet<String>) {
     assert_texts(rt, a, LEFT);
     assert_texts(rt, b, RIGHT);
 }
@@ -25,10 +25,10 @@ where
     let a = make!(rt; text_set(alloc, LEFT));
     let b = make!(rt; text_set(alloc, RIGHT));
     let made = retry!(rt; operate(&a, &b), AllocError => {
-        assert_left(rt, &a, &b);
+        assert_unchanged(rt, &a, &b);
     });
     assert_texts(rt, &made, expected);
-    assert_left(rt, &a, &b);
+    assert_unchanged(rt, &a, &b);
 }
 
 #[test]
@@ -67,7 +67,7 @@ where
 }
 
 #[test]
-fn of_two_equal_elements_the_left_one_is_made(rt: HostRuntime) {
+fn operators_clone_the_left_one_of_two_equal_elements(rt: HostRuntime) {
     let all = [(3, 'c'), (2, 'b'), (1, 'a'), (4, 'd')];
     check_items(&rt, rt.alloc(), |a, b| a & b, &[(2, 'b')]);
     check_items(&rt, rt.alloc(), |a, b| a | b, &all);

@@ -1,5 +1,5 @@
 //! A set that is split in two.
-use crate::checks::{assert_gives, assert_granted, assert_is, assert_items};
+use crate::checks::{assert_gives, assert_is, assert_items, check, granted};
 use crate::telling::{make, retry};
 use std::alloc::AllocError;
 use std::process::Abort;
@@ -29,12 +29,14 @@ fn split_off_of_a_set_moves_all_or_nothing(rt: HostRuntime) {
     assert_items(&rt, &set, &[(1, 'a')]);
     assert_items(&rt, &part, &[(2, 'b'), (3, 'c')]);
     let end = set.len();
-    assert_granted(&rt, set.split_off(end));
-    assert_is(&rt, (set.len(), set.capacity()), (end, 3));
+    let none = granted(&rt, set.split_off(end));
+    assert_items(&rt, &none, &[]);
+    assert_items(&rt, &set, &[(1, 'a')]);
+    assert_is(&rt, set.capacity(), 3);
 }
 
 #[test]
-fn split_off_moves_the_stored_ones_of_equal_elements(rt: HostRuntime) {
+fn each_part_of_a_split_set_finds_its_own_elements_alone(rt: HostRuntime) {
     let mut set = make!(rt; full_set(rt.alloc(), FULL));
     assert_gives(&rt, set.insert(make_item(2, 'z')), false);
     let mut part = split_off(&rt, &mut set);
@@ -44,4 +46,6 @@ fn split_off_moves_the_stored_ones_of_equal_elements(rt: HostRuntime) {
     assert_gives(&rt, set.insert(make_item(2, 'x')), true);
     assert_items(&rt, &set, &[(1, 'a'), (2, 'x')]);
     assert_is(&rt, set.capacity(), 3);
+    check!(rt; set.contains(&make_item(1, 'y')));
+    check!(rt; !part.contains(&make_item(1, 'y')));
 }

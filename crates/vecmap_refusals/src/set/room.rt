@@ -29,7 +29,7 @@ where
 }
 
 #[test]
-fn the_reserving_calls_leave_a_set_as_before(rt: HostRuntime) {
+fn reserving_calls_reserve_or_leave_a_set_unchanged(rt: HostRuntime) {
     check_reserving(&rt, rt.alloc(), |set| set.reserve(2));
     check_reserving(&rt, rt.alloc(), |set| set.reserve_exact(2));
     check_reserving(&rt, rt.alloc(), |set| set.try_reserve(2));
