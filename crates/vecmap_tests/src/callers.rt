@@ -16,7 +16,7 @@ use vecmap_callers::{entry, equivalent, indices, insertion, lending};
 use vecmap_fixtures::{item_map, make_item};
 
 #[test]
-fn callers_of_entries_do_what_they_say(rt: HostRuntime) {
+fn callers_of_entries_count_write_and_remove(rt: HostRuntime) {
     let mut map: VecMap<u64, u64> = VecMap::new(rt.alloc());
     granted(&rt, entry::count_word(&mut map, 5));
     assert_list(&rt, map.as_slice(), &[(5, 1)]);
@@ -44,13 +44,13 @@ fn callers_of_entries_do_what_they_say(rt: HostRuntime) {
 }
 
 #[test]
-fn a_caller_of_insertions_does_what_it_says(rt: HostRuntime) {
+fn headers_keep_the_last_value(rt: HostRuntime) {
     let map = granted(&rt, insertion::headers(rt.alloc()));
     assert_list(&rt, map.as_slice(), &[("age", 30), ("max", 20)]);
 }
 
 #[test]
-fn callers_by_texts_do_what_they_say(rt: HostRuntime) {
+fn texts_are_put_found_and_forgotten(rt: HostRuntime) {
     let mut map = VecMap::new(rt.alloc());
     granted(&rt, equivalent::put_text(rt.alloc(), &mut map, "age", 1));
     granted(&rt, equivalent::put_text(rt.alloc(), &mut map, "max", 2));
@@ -65,7 +65,7 @@ fn callers_by_texts_do_what_they_say(rt: HostRuntime) {
 }
 
 #[test]
-fn callers_of_lent_values_write_what_they_say(rt: HostRuntime) {
+fn callers_of_lent_values_write_and_read_them(rt: HostRuntime) {
     let mut map = granted(&rt, item_map(rt.alloc(), &[(1, 'a', 1), (2, 'b', 2)]));
     let (there, absent) = (make_item(2, 'z'), make_item(3, 'z'));
     check!(rt; lending::write_if_there(&mut map, &there, 9));
@@ -92,7 +92,7 @@ fn callers_of_lent_values_write_what_they_say(rt: HostRuntime) {
 }
 
 #[test]
-fn callers_by_index_do_what_they_say(rt: HostRuntime) {
+fn callers_by_index_move_and_exchange(rt: HostRuntime) {
     let mut map = granted(&rt, VecMap::from_slice(rt.alloc(), &[('a', 1), ('b', 2)]));
     assert_gives(&rt, indices::put_last(&mut map, 'a', 3), Some((0, 1)));
     assert_list(&rt, map.as_slice(), &[('b', 2), ('a', 3)]);
@@ -139,7 +139,7 @@ fn a_query_that_ignores_case_finds_names(rt: HostRuntime) {
 }
 
 #[test]
-fn callers_by_a_text_do_what_they_say(rt: HostRuntime) {
+fn the_value_of_a_text_is_read_written_and_taken(rt: HostRuntime) {
     let mut map = VecMap::new(rt.alloc());
     for (text, value) in [("host", 1), ("port", 2), ("user", 3)] {
         granted(
@@ -168,7 +168,7 @@ fn callers_by_a_text_do_what_they_say(rt: HostRuntime) {
 }
 
 #[test]
-fn callers_by_read_texts_and_bytes_do_what_they_say(rt: HostRuntime) {
+fn read_texts_and_bytes_find_their_values(rt: HostRuntime) {
     let words = granted(
         &rt,
         VecMap::from_slice(rt.alloc(), &[("get", 1), ("put", 2)]),

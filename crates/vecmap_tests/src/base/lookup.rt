@@ -79,7 +79,7 @@ fn many_small_items_are_found_at_their_first_index(rt: HostRuntime) {
 }
 
 #[test]
-fn a_search_of_words_asks_about_at_most_seven_more(rt: HostRuntime) {
+fn a_search_of_words_compares_at_most_seven_after_the_match(rt: HostRuntime) {
     for length in [1, 31, 32, 33, 39, 40, 47] {
         let log = Log::new();
         let mut numbers = Vec::new(rt.alloc());
@@ -116,7 +116,7 @@ fn a_search_of_words_asks_about_at_most_seven_more(rt: HostRuntime) {
 }
 
 #[test]
-fn a_test_for_a_word_asks_about_at_most_seven_more(rt: HostRuntime) {
+fn a_test_for_a_word_compares_at_most_seven_after_the_match(rt: HostRuntime) {
     for length in [1, 3, 4, 5, 7, 8, 11, 12, 13, 20, 31] {
         let log = Log::new();
         let mut numbers = Vec::new(rt.alloc());

@@ -12,7 +12,7 @@ fn text(alloc: Global, text: &str) -> Result<String, AllocError> {
 }
 
 #[test]
-fn callers_of_traits_do_what_they_say(rt: HostRuntime) {
+fn generic_calls_collect_part_and_extend(rt: HostRuntime) {
     let alloc = rt.alloc();
     let made = granted(
         &rt,

@@ -2,7 +2,7 @@ use crate::checks::{assert_is, assert_list, check, granted};
 use vecmap_callers::words::{count, count_words};
 
 #[test]
-fn words_are_counted_in_the_order_of_their_first(rt: HostRuntime) {
+fn words_are_counted_in_the_order_of_their_first_use(rt: HostRuntime) {
     let counts = granted(
         &rt,
         count_words(rt.alloc(), &["to", "be", "or", "not", "to", "be"]),

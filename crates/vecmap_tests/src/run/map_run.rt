@@ -18,7 +18,7 @@ fn assert_replies<K: Eq + Clone + Debug, V: Eq + Clone + Debug, E: Drop>(
 }
 
 #[test]
-fn a_map_run_replies_to_each_command(rt: HostRuntime) {
+fn a_map_run_replies_in_the_order_of_its_commands(rt: HostRuntime) {
     let mut map = VecMap::new(rt.alloc());
     let commands = vec![in rt.alloc();
         MapCommand::Insert('a', 1),

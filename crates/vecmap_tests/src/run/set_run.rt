@@ -28,7 +28,7 @@ fn made(alloc: Global, items: &[u32]) -> Result<VecSet<u32>, AllocError> {
 }
 
 #[test]
-fn a_set_run_replies_to_each_command(rt: HostRuntime) {
+fn a_set_run_replies_in_the_order_of_its_commands(rt: HostRuntime) {
     let mut set = granted(&rt, made(rt.alloc(), &[3, 2, 1]));
     let commands = vec![in rt.alloc();
         SetCommand::Insert(2),
