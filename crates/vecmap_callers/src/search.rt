@@ -56,9 +56,16 @@ pub fn search_by_rank(map: &VecMap<char, usize>, ranks: &[u32], rank: u32) -> Re
 }
 
 /// Returns how many values have a rank below a limit.
+///
+/// # Conditions
+///
+/// The values whose rank is below the limit come first.
 pub fn count_ranks_below(map: &VecMap<char, usize>, ranks: &[u32], limit: u32) -> usize
     requires within { All (λ p. p.1 < length ranks.now) map.now.entries }
-    ensures { result ≤ length map.now.entries }
+    requires sorted { IsPartitionedBy (λ p. nat_lt (get_or ranks.now p.1 0) limit) map.now.entries }
+    ensures within { result ≤ length map.now.entries }
+    ensures index { IsPartitionPoint (λ p. nat_lt (get_or ranks.now p.1 0) limit ≡ true)
+        (λ p. nat_lt (get_or ranks.now p.1 0) limit ≡ false) map.now.entries result }
 {
     map.partition_point(|_, place| ranks[*place] < limit)
 }

@@ -8,8 +8,8 @@ use Rattle.vecmap_run.specs.declared.command.Command.{Command}
 use Rattle.vecmap_run.specs.declared.command.Command.TheVariants as command
 
 -- Whether the word has at least one byte and at most `most`.
-abbrev pub has_length_to : ℕ → List ℕ → Bool
-has_length_to most word = nat_lt 0 (length word) && nat_le (length word) most
+abbrev pub has_length_up_to : ℕ → List ℕ → Bool
+has_length_up_to most word = nat_lt 0 (length word) && nat_le (length word) most
 
 -- Whether the byte is an ASCII letter or digit, `_`, `-` or `.`.
 abbrev pub is_key_byte : ℕ → Bool
@@ -17,11 +17,11 @@ is_key_byte byte = is_ascii_alphanumeric byte || (byte == 95 || (byte == 45 || b
 
 -- Whether the word has 1 to 64 such bytes.
 abbrev pub is_key : List ℕ → Bool
-is_key word = has_length_to 64 word && list_all is_key_byte word
+is_key word = has_length_up_to 64 word && list_all is_key_byte word
 
 -- Whether the word has 1 to 18 digits.
 abbrev pub is_number : List ℕ → Bool
-is_number word = has_length_to 18 word && list_all is_ascii_digit word
+is_number word = has_length_up_to 18 word && list_all is_ascii_digit word
 
 -- The number that these digits write, or `None` if the word is not a number.
 abbrev pub number_of : List ℕ → Option ℕ

@@ -44,7 +44,7 @@ pub fn answer_line(alloc: Global, map: &mut VecMap<String, i64>, line: Option<&[
     }
 }
 
-/// Executes a command.
+// Executes a command.
 fn execute(alloc: Global, map: &mut VecMap<String, i64>, command: Command<'_>) -> Answer
     ensures { Step map.old.entries command.entry result map.new.entries }
 {
@@ -106,7 +106,7 @@ fn or_insert(alloc: Global, map: &mut VecMap<String, i64>, key: &str, value: i64
     }
 }
 
-/// Returns the value of the key. A key that is absent is first inserted with `value`.
+// Returns the value of the key. A key that is absent is first inserted with `value`.
 fn value_or_insert(
     map: &mut VecMap<String, i64>,
     key: String,

@@ -7,7 +7,7 @@ use crate::bytes::Bytes;
 use std::fmt;
 use std::io::Write;
 
-/// The number of bytes that are gathered before they are written.
+// The number of bytes that are gathered before they are written.
 const GATHERED_BYTES: usize = 512;
 
 /// Gathers text for a writer. The text is written by `send`, or earlier if the buffer is full.
@@ -38,7 +38,7 @@ impl<'w, W: Write> Buffer<'w, W> {
         write_bytes(writer, gathered.as_slice())
     }
 
-    /// Gathers a byte. A full buffer is first written.
+    // Gathers a byte. A full buffer is first written.
     fn push(&mut self, byte: u8) -> fmt::Result
         ensures writer { self.new.writer.ghost_name ≡ self.old.writer.ghost_name }
         ensures held { OnOk result (Appends (held W.contents self.old) (held W.contents self.new)

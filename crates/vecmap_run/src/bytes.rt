@@ -37,14 +37,14 @@ impl<const N: usize> Bytes<N> {
         &self.items[..self.len]
     }
 
-    /// Returns whether there are no bytes.
+    /// Returns `true` if there are no bytes.
     pub fn is_empty(&self) -> bool
         ensures { result ≡ (length self.now == 0) }
     {
         self.len == 0
     }
 
-    /// Returns whether the array has no spare capacity.
+    /// Returns `true` if the array has no spare capacity.
     pub fn is_full(&self) -> bool
         ensures full { result ≡ (length self.now == N) }
         ensures room { OnFalse result (length self.now < N) }

@@ -5,7 +5,7 @@ ghost use Rattle.vecmap_run.specs.Lines.{within_limit};
 use crate::bytes::Bytes;
 use std::marker::Model;
 
-/// The greatest number of bytes of a line.
+// The greatest number of bytes of a line.
 const MAX_LINE_BYTES: usize = 4096;
 
 /// The bytes of a line so far. Of a line past the limit, only the fact is kept that it is too long. A contract sees
@@ -44,7 +44,7 @@ impl Line {
         }
     }
 
-    /// Returns whether the line is empty. A line that is too long is not.
+    /// Returns `true` if the line is empty. A line that is too long is not.
     pub fn is_empty(&self) -> bool
         ensures { (line : List ℕ) → self.now ≡ within_limit line → result ≡ (length line == 0) }
     {

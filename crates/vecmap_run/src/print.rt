@@ -30,7 +30,7 @@ impl fmt::Display for Printed<'_> {
     }
 }
 
-/// Pairs, as they are printed.
+// Pairs, as they are printed.
 #[derive(Clone, Copy)]
 struct PrintedPairs<'m>(&'m [(String, i64)]);
 

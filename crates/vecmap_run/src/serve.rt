@@ -18,7 +18,7 @@ use vecmap::VecMap;
 #[cfg(test)]
 mod tests;
 
-/// The greatest number of bytes that are read at once.
+// The greatest number of bytes that are read at once.
 const READ_BYTES: usize = 4096;
 
 /// Why `serve` stopped before the end of its input.
@@ -64,7 +64,7 @@ pub fn serve<R: Read, W: Write>(alloc: Global, reader: &mut R, writer: &mut W) -
     Err(Fault::Reading)
 }
 
-/// The map, and the line that is being read.
+// The map, and the line that is being read.
 #[derive(Drop)]
 struct Service {
     alloc: Global,
@@ -83,7 +83,7 @@ impl Service {
         }
     }
 
-    /// Reads the next bytes of the input, and writes the answer to each line that ends in them.
+    // Reads the next bytes of the input, and writes the answer to each line that ends in them.
     fn take<W: Write>(&mut self, bytes: &[u8], writer: &mut W) -> Result<(), Fault>
         ensures ok { OnOk result (GoesOn self.old.line self.old.map.entries bytes.now
             (W.contents writer.old) (W.contents writer.new) self.new.line self.new.map.entries) }
@@ -107,7 +107,7 @@ impl Service {
         Ok(())
     }
 
-    /// Writes the answer to the line that ends with the input, if there is one.
+    // Writes the answer to the line that ends with the input, if there is one.
     fn finish<W: Write>(&mut self, writer: &mut W) -> Result<(), Fault>
         ensures ok { OnOk result ((input text : List ℕ)
             → HasServed self.old.line self.old.map.entries input text
@@ -121,7 +121,7 @@ impl Service {
         self.answer(writer)
     }
 
-    /// Writes the answer to the line, and begins the next one.
+    // Writes the answer to the line, and begins the next one.
     fn answer<W: Write>(&mut self, writer: &mut W) -> Result<(), Fault>
         ensures ok { OnOk result ((line : List ℕ) → self.old.line ≡ within_limit line
             → (text : List ℕ) × Appends (W.contents writer.old) (W.contents writer.new) text
@@ -142,7 +142,7 @@ impl Service {
     }
 }
 
-/// Writes an answer, and the end of its line.
+// Writes an answer, and the end of its line.
 fn print<W: Write>(answer: Printed<'_>, writer: &mut W) -> fmt::Result
     ensures { OnOk result (Appends (W.contents writer.old) (W.contents writer.new)
         (printed answer.entry.answer answer.entry.pairs.now ++ 10 ∷ [])) }

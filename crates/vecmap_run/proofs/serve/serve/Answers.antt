@@ -1,5 +1,5 @@
--- Idea: the loop keeps an account of what was read and of the answers that were written. Each return closes it: with all
--- lines at the end of the input, and with the ended lines if a read fails.
+-- Idea: the loop keeps an account of what was read and of the answers that were written. Each return closes it: with
+-- all lines at the end of the input, and with the ended lines if a read fails.
 use Rattle.std.proofs.Common.{◌≡◌, arith}
 use Rattle.std.proofs.KnownBytes.{Keeps-refl}
 use Rattle.std.proofs.lemmas.Result.{on_ok_weaker}

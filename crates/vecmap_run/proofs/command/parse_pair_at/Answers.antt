@@ -2,7 +2,7 @@
 use Rattle.std.proofs.Common.{FitsSigned, rules, sym, w64}
 use Rattle.std.proofs.lemmas.Int.{to_z-of_z}
 use Rattle.vecmap_run.proofs.CommandLemmas.{cuts, must_cut, number_first, parts}
-use Rattle.vecmap_run.proofs.command.pair_at.Goals as goal
+use Rattle.vecmap_run.proofs.command.parse_pair_at.Goals as goal
 
 pub returns-in_err-word-clause-unsaid : goal.returns-in_err-word-clause-unsaid
 returns-in_err-word-clause-unsaid c = rw c.from_residual.ensures (λ index key value (word, pair, whole, says, _).

@@ -1,6 +1,6 @@
 use Rattle.std.proofs.Common.{arith}
 use Rattle.vecmap_run.proofs.CommandLemmas.{parsed_number}
-use Rattle.vecmap_run.proofs.command.number.Goals as goal
+use Rattle.vecmap_run.proofs.command.parse_number.Goals as goal
 
 pub returns-then-are_digits-clause-value : goal.returns-then-are_digits-clause-value
 returns-then-are_digits-clause-value c =
