@@ -3,7 +3,7 @@
 ghost use Rattle.std.specs.Prelude.{◌≡◌, ◌<◌, ◌^◌, sum};
 ghost use Rattle.std.specs.Map.{values_of};
 
-use crate::checks::{assert_granted, assert_is, assert_list, granted};
+use crate::checks::{assert_gives, assert_granted, assert_is, assert_list, granted};
 use std::alloc::{AllocError, Global};
 use vecmap::VecMap;
 
@@ -28,10 +28,19 @@ fn gather(alloc: Global, map: &VecMap<u64, u32>) -> Result<Vec<(u64, u32)>, Allo
     Ok(all)
 }
 
+// Returns the total of two values.
+fn total_of_two(alloc: Global) -> Result<u32, AllocError> {
+    let mut map = VecMap::new(alloc);
+    map.insert(1, 10)?;
+    map.insert(2, 20)?;
+    Ok(total(&map))
+}
+
 #[test]
 fn loops_by_reference_run(rt: HostRuntime) {
     let mut map: VecMap<u64, u32> = VecMap::new(rt.alloc());
     assert_is(&rt, total(&map), 0);
+    assert_gives(&rt, total_of_two(rt.alloc()), 30);
     assert_granted(&rt, map.extend([(1, 10), (2, 20)]));
     let pairs = granted(&rt, gather(rt.alloc(), &map));
     assert_list(&rt, &pairs, &[(1, 10), (2, 20)]);

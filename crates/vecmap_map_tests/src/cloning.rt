@@ -1,7 +1,7 @@
 //! Clones of maps, also by the trait `Clone`, and calls that clone values that are maps.
 use super::clones::copy_of;
 use crate::checks::{
-    assert_gives, assert_granted, assert_is, assert_list, assert_pairs, check, granted,
+    assert_gives, assert_granted, assert_is, assert_list, assert_pairs, check, granted, present,
 };
 use std::process::Abort;
 use vecmap::{MapCommand, MapReply, VecMap, run};
@@ -20,12 +20,11 @@ fn a_clone_has_the_pairs_in_order(rt: HostRuntime) {
 
 type Rooms = VecMap<char, VecMap<u32, u32>>;
 
-// Asserts that an inner map has exactly these pairs.
-fn assert_room(rt: &impl Abort, rooms: &Rooms, name: char, expected: &[(u32, u32)]) {
-    match rooms.get(&name) {
-        Some(room) => assert_list(rt, room.as_slice(), expected),
-        None => panic!(*rt; "no map {name}"),
-    }
+// Asserts that there is one inner map, with this name and exactly these pairs.
+fn assert_only_room(rt: &impl Abort, rooms: &Rooms, name: char, expected: &[(u32, u32)]) {
+    let room = present(rt, rooms.get(&name));
+    assert_list(rt, room.as_slice(), expected);
+    assert_is(rt, rooms.len(), 1);
 }
 
 #[test]
@@ -46,8 +45,7 @@ fn a_run_takes_maps_as_values(rt: HostRuntime) {
         MapReply::Value(None),
     ];
     assert_gives(&rt, replies, granted(&rt, wanted));
-    assert_is(&rt, rooms.len(), 1);
-    assert_room(&rt, &rooms, 'a', &[(1, 10)]);
+    assert_only_room(&rt, &rooms, 'a', &[(1, 10)]);
 }
 
 #[test]
@@ -58,8 +56,12 @@ fn calls_that_clone_take_maps_as_values(rt: HostRuntime) {
     let mut others: Rooms = VecMap::new(alloc);
     assert_granted(&rt, others.extend_refs(rooms.iter()));
     check!(rt; others == rooms);
-    assert_is(&rt, granted(&rt, rooms.to_vec()).len(), 1);
+    let copy = VecMap::from(granted(&rt, rooms.to_vec()));
+    assert_only_room(&rt, &copy, 'a', &[(1, 10)]);
     let other = granted(&rt, VecMap::from_slice(alloc, &[(2, 20)]));
     let entry = granted(&rt, others.entry('a').insert_entry(other));
     assert_list(&rt, entry.get().as_slice(), &[(2, 20)]);
+    entry.into_key();
+    assert_only_room(&rt, &others, 'a', &[(2, 20)]);
+    assert_only_room(&rt, &rooms, 'a', &[(1, 10)]);
 }

@@ -64,7 +64,7 @@ fn assert_extended(
     }
 }
 
-// Asserts that each call refuses to reserve capacity for the greatest hint, and leaves the map.
+// Asserts that each call refuses to reserve capacity for the greatest hint.
 fn assert_each_refused(rt: &impl Abort, map: &mut VecMap<u32, u32>) {
     for way in WAYS {
         assert_refused(rt, extend(map, way, ONE, usize::MAX));

@@ -15,7 +15,7 @@ fn an_insert_of_an_equal_key_keeps_the_stored_one(rt: HostRuntime) {
 }
 
 #[test]
-fn insert_key_replaces_an_only_pair(rt: HostRuntime) {
+fn insert_key_replaces_an_equal_key_or_appends(rt: HostRuntime) {
     let mut map = granted(&rt, item_map(rt.alloc(), &[(1, 'x', 10)]));
     let old = granted(&rt, map.insert_key(make_item(1, 'y'), 20));
     assert_pair(&rt, old, (1, 'x', 10));
@@ -35,13 +35,14 @@ fn insert_full_returns_the_index(rt: HostRuntime) {
 }
 
 #[test]
-fn insert_at_moves_a_key_to_the_front(rt: HostRuntime) {
-    let mut map = VecMap::new(rt.alloc());
-    assert_gives(&rt, map.insert_at(0, "a", 1), None);
+fn insert_at_inserts_a_new_key_before_others(rt: HostRuntime) {
+    let mut map = granted(&rt, VecMap::from_slice(rt.alloc(), &[('a', 1), ('b', 2)]));
     assert!(rt; 1 <= map.len());
-    assert_gives(&rt, map.insert_at(1, "b", 2), None);
-    assert_gives(&rt, map.insert_at(0, "b", 3), Some((1, 2)));
-    assert_list(&rt, map.as_slice(), &[("b", 3), ("a", 1)]);
+    assert_gives(&rt, map.insert_at(1, 'c', 3), None);
+    assert_list(&rt, map.as_slice(), &[('a', 1), ('c', 3), ('b', 2)]);
+    assert_gives(&rt, map.insert_at(0, 'd', 4), None);
+    let left = [('d', 4), ('a', 1), ('c', 3), ('b', 2)];
+    assert_list(&rt, map.as_slice(), &left);
 }
 
 #[test]
@@ -57,6 +58,7 @@ fn insert_at_moves_an_existing_key(rt: HostRuntime) {
         (3, 'a', 5, (2, 4), [('b', 2), ('c', 3), ('a', 5)]),
         (1, 'a', 6, (2, 5), [('b', 2), ('a', 6), ('c', 3)]),
         (1, 'b', 7, (0, 2), [('a', 6), ('b', 7), ('c', 3)]),
+        (0, 'c', 8, (2, 3), [('c', 8), ('a', 6), ('b', 7)]),
     ] {
         assert!(rt; index <= map.len());
         assert_gives(&rt, map.insert_at(index, key, value), Some(old));

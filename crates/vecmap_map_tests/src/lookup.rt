@@ -2,7 +2,7 @@
 use crate::checks::{assert_is, assert_pair, assert_pairs, assert_texts, check, granted, present};
 use std::alloc::{AllocError, Global};
 use vecmap::VecMap;
-use vecmap_fixtures::{Log, item_map, make_item, told_pairs};
+use vecmap_fixtures::{Log, item_map, make_item, repeating_map, told_pairs};
 
 const THREE: &[(u32, char, u32)] = &[(1, 'a', 10), (2, 'b', 20), (3, 'c', 30)];
 
@@ -22,6 +22,7 @@ pub(crate) fn numbered_texts(
 fn text_keys_are_found_by_their_bytes(rt: HostRuntime) {
     let map = granted(&rt, numbered_texts(rt.alloc(), &[("b", 2), ("a", 1)]));
     assert_is(&rt, map.get_index_of_str("a"), Some(1));
+    assert_is(&rt, map.get_index_of_str("ab"), None);
     let values = (map.get_str("b").copied(), map.get_str("").copied());
     assert_is(&rt, values, (Some(2), None));
     let contained = (map.contains_key_str("a"), map.contains_key_str("ab"));
@@ -64,7 +65,7 @@ fn an_index_and_the_ends_have_their_pairs(rt: HostRuntime) {
 }
 
 #[test]
-fn has_distinct_keys_compares_each_couple_once_at_most(rt: HostRuntime) {
+fn has_distinct_keys_finds_repeats_and_compares_each_couple_once_at_most(rt: HostRuntime) {
     for (numbers, most) in [
         ([].as_slice(), 0),
         ([1].as_slice(), 0),
@@ -76,4 +77,7 @@ fn has_distinct_keys_compares_each_couple_once_at_most(rt: HostRuntime) {
         check!(rt; map.has_distinct_keys());
         check!(rt; log.comparisons().wrapping_sub(before) <= most);
     }
+    let pairs = [(1, 'a', 10), (2, 'b', 20), (1, 'c', 30)];
+    let map = granted(&rt, repeating_map(rt.alloc(), &pairs));
+    check!(rt; !map.has_distinct_keys());
 }

@@ -1,6 +1,6 @@
 //! Creation of maps, and what a map returns of itself.
 use crate::checks::{
-    assert_gives, assert_granted, assert_is, assert_list, assert_text, check, granted,
+    assert_gives, assert_granted, assert_is, assert_list, assert_text, check, granted, present,
 };
 use std::mem;
 use vecmap::VecMap;
@@ -37,4 +37,5 @@ fn a_taken_map_leaves_an_empty_one_and_an_entry_makes_one(rt: HostRuntime) {
     assert_is(&rt, (room.len(), room.capacity()), (0, 0));
     assert_gives(&rt, room.insert(1, 10), None);
     assert_is(&rt, rooms.len(), 1);
+    assert_list(&rt, present(&rt, rooms.get(&'a')).as_slice(), &[(1, 10)]);
 }

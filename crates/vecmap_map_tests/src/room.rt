@@ -34,6 +34,9 @@ fn shrinking_goes_no_lower_than_its_limit(rt: HostRuntime) {
     assert_is(&rt, map.capacity(), 5);
     map.shrink_to(0);
     assert_is(&rt, map.capacity(), 2);
+    assert_granted(&rt, map.reserve(5));
+    map.shrink_to_fit();
+    assert_is(&rt, map.capacity(), 2);
     assert_list(&rt, map.as_slice(), &[('a', 1), ('b', 2)]);
     map.clear();
     map.shrink_to_fit();

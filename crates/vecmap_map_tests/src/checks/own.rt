@@ -1,4 +1,4 @@
-//! Assertions on pairs of maps, and on what is refused, printed or dropped.
+//! Assertions on results, pairs, equality and iterators of maps, and on what is refused, printed or dropped.
 use super::assert_text;
 use std::alloc::Global;
 use std::fmt::Debug;
