@@ -1,6 +1,7 @@
-//! Calls that insert many pairs at once, with keys that are equal and not identical.
+//! Calls that insert many pairs at once, and the trait `Extend`, with keys that are equal and not identical.
 use crate::checks::{assert_granted, assert_is, assert_list, assert_pairs, check, granted};
 use std::alloc::{AllocError, Global};
+use std::process::Abort;
 use vecmap::VecMap;
 use vecmap_fixtures::{Item, item_map, make_item};
 
@@ -12,18 +13,27 @@ enum Way {
     Extend,
     ExtendRefs,
     ExtendPairs,
+    TraitExtend,
+    TraitExtendRefs,
+    TraitExtendPairs,
 }
 
-const WAYS: [Way; 5] = [
+const WAYS: [Way; 8] = [
     Way::Insert,
     Way::Append,
     Way::Extend,
     Way::ExtendRefs,
     Way::ExtendPairs,
+    Way::TraitExtend,
+    Way::TraitExtendRefs,
+    Way::TraitExtendPairs,
 ];
 
 // Inserts the pairs, one by one.
-fn insert_each(map: &mut VecMap<Item, u32>, pairs: &[(Item, u32)]) -> Result<(), AllocError> {
+fn insert_each<K: Eq + Copy>(
+    map: &mut VecMap<K, u32>,
+    pairs: &[(K, u32)],
+) -> Result<(), AllocError> {
     for pair in pairs {
         map.insert(pair.0, pair.1)?;
     }
@@ -56,6 +66,9 @@ fn insert_by(
         Way::Extend => map.extend(pairs.iter().copied()),
         Way::ExtendRefs => map.extend_refs(pairs.iter().map(|pair| (&pair.0, &pair.1))),
         Way::ExtendPairs => map.extend_pairs(pairs),
+        Way::TraitExtend => Extend::extend(map, pairs.iter().copied()),
+        Way::TraitExtendRefs => Extend::extend(map, pairs.iter().map(|pair| (&pair.0, &pair.1))),
+        Way::TraitExtendPairs => Extend::extend(map, pairs),
     }
 }
 
@@ -80,6 +93,27 @@ fn all_ways_of_many_pairs_agree_with_single_inserts(rt: HostRuntime) {
     assert_pairs(&rt, &map, &left);
     let map: VecMap<Item, u32> = granted(&rt, pairs.iter().copied().collect(rt.alloc()));
     assert_pairs(&rt, &map, &left);
+}
+
+// Asserts the two pairs that `the_last_value_of_a_key_is_found` leaves.
+fn assert_last(rt: &impl Abort, map: &VecMap<&'static str, u32>) {
+    assert_list(rt, map.as_slice(), &[("a", 3), ("b", 2)]);
+    assert_is(rt, map.get(&"a").copied(), Some(3));
+}
+
+#[test]
+fn the_last_value_of_a_key_is_found(rt: HostRuntime) {
+    let pairs = [("a", 1), ("b", 2), ("a", 3)];
+    let mut map = VecMap::new(rt.alloc());
+    assert_granted(&rt, insert_each(&mut map, &pairs));
+    assert_last(&rt, &map);
+    let mut map = VecMap::new(rt.alloc());
+    assert_granted(&rt, map.extend(pairs));
+    assert_last(&rt, &map);
+    let map = VecMap::from(granted(&rt, pairs.to_vec(rt.alloc())));
+    assert_last(&rt, &map);
+    let map = granted(&rt, VecMap::from_iter(rt.alloc(), pairs));
+    assert_last(&rt, &map);
 }
 
 #[test]
@@ -118,6 +152,22 @@ fn append_inserts_all_and_leaves_the_capacity_of_the_other(rt: HostRuntime) {
     assert_granted(&rt, map.append(&mut other));
     assert_pairs(&rt, &map, &left);
     assert_is(&rt, (map.capacity(), other.capacity()), (granted, room));
+}
+
+#[test]
+fn append_replaces_texts(rt: HostRuntime) {
+    let mut map = granted(
+        &rt,
+        VecMap::from_slice(rt.alloc(), &[(3, "c"), (2, "b"), (1, "a")]),
+    );
+    let mut other = granted(
+        &rt,
+        VecMap::from_slice(rt.alloc(), &[(3, "d"), (4, "e"), (5, "f")]),
+    );
+    assert_granted(&rt, map.append(&mut other));
+    let left = [(3, "d"), (2, "b"), (1, "a"), (4, "e"), (5, "f")];
+    assert_list(&rt, map.as_slice(), &left);
+    assert_list(&rt, other.as_slice(), &[]);
 }
 
 #[test]

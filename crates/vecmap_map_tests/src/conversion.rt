@@ -86,6 +86,13 @@ fn a_map_of_a_vector_counts_its_comparisons(rt: HostRuntime) {
 }
 
 #[test]
+fn distinct_keys_are_distinguished_from_repeats(rt: HostRuntime) {
+    assert_is(&rt, keys_distinct::<u32, char>(&[]), true);
+    assert_is(&rt, keys_distinct(&[(1, 'a'), (2, 'a')]), true);
+    assert_is(&rt, keys_distinct(&[(1, 'a'), (2, 'b'), (1, 'a')]), false);
+}
+
+#[test]
 fn an_array_keeps_first_keys_and_last_values(rt: HostRuntime) {
     let pairs = [
         (make_item(2, 'b'), 20),

@@ -35,6 +35,16 @@ fn insert_full_returns_the_index(rt: HostRuntime) {
 }
 
 #[test]
+fn insert_at_moves_a_key_to_the_front(rt: HostRuntime) {
+    let mut map = VecMap::new(rt.alloc());
+    assert_gives(&rt, map.insert_at(0, "a", 1), None);
+    assert!(rt; 1 <= map.len());
+    assert_gives(&rt, map.insert_at(1, "b", 2), None);
+    assert_gives(&rt, map.insert_at(0, "b", 3), Some((1, 2)));
+    assert_list(&rt, map.as_slice(), &[("b", 3), ("a", 1)]);
+}
+
+#[test]
 fn insert_at_inserts_a_new_key_before_others(rt: HostRuntime) {
     let mut map = granted(&rt, VecMap::from_slice(rt.alloc(), &[('a', 1), ('b', 2)]));
     assert!(rt; 1 <= map.len());

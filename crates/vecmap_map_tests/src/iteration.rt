@@ -63,6 +63,20 @@ fn owning_iterators_are_exact_for_every_mixture_of_next_and_next_back(rt: HostRu
 }
 
 #[test]
+fn keys_are_returned_from_both_ends(rt: HostRuntime) {
+    let map = granted(
+        &rt,
+        VecMap::from_slice(rt.alloc(), &[(1, 'a'), (2, 'b'), (3, 'c')]),
+    );
+    let mut keys = map.keys();
+    assert_is(&rt, (keys.len(), keys.next()), (3, Some(&1)));
+    assert_is(&rt, (keys.len(), keys.next_back()), (2, Some(&3)));
+    assert_is(&rt, (keys.len(), keys.next()), (1, Some(&2)));
+    assert_is(&rt, (keys.len(), keys.next()), (0, None));
+    assert_is(&rt, (keys.len(), keys.next_back()), (0, None));
+}
+
+#[test]
 fn lending_iterators_write_each_value_at_its_key(rt: HostRuntime) {
     let mut map = granted(&rt, VecMap::from_slice(rt.alloc(), &PAIRS));
     for (key, value) in map.iter_mut() {
@@ -113,6 +127,21 @@ fn clones_of_owning_iterators_return_what_is_left(rt: HostRuntime) {
         assert_pulls(&rt, granted(&rt, values.clone()), MIDDLE_VALUES, ends);
         assert_pulls(&rt, values, MIDDLE_VALUES, ends);
     }
+}
+
+#[test]
+fn a_clone_of_values_leaves_the_original(rt: HostRuntime) {
+    let map = granted(
+        &rt,
+        VecMap::from_slice(rt.alloc(), &[('a', 1), ('b', 2), ('c', 3)]),
+    );
+    let mut values = map.into_values();
+    assert_is(&rt, values.next_back(), Some(3));
+    let mut copy = granted(&rt, values.clone());
+    let copied = (copy.next(), copy.next(), copy.next());
+    assert_is(&rt, copied, (Some(1), Some(2), None));
+    let left = (values.next(), values.next(), values.next());
+    assert_is(&rt, left, (Some(1), Some(2), None));
 }
 
 #[test]

@@ -1,4 +1,4 @@
-//! Calls that insert many elements at once, with elements that are equal and not identical.
+//! Calls that insert many elements at once, and the trait `Extend`, with elements that are equal and not identical.
 use crate::checks::{assert_granted, assert_is, assert_items, assert_list, check, granted};
 use std::alloc::{AllocError, Global};
 use vecmap::VecSet;
@@ -11,9 +11,18 @@ enum Way {
     Append,
     Extend,
     ExtendCopied,
+    TraitExtend,
+    TraitExtendCopied,
 }
 
-const WAYS: [Way; 4] = [Way::Insert, Way::Append, Way::Extend, Way::ExtendCopied];
+const WAYS: [Way; 6] = [
+    Way::Insert,
+    Way::Append,
+    Way::Extend,
+    Way::ExtendCopied,
+    Way::TraitExtend,
+    Way::TraitExtendCopied,
+];
 
 // Inserts the elements, one by one.
 fn insert_each(set: &mut VecSet<Item>, items: &[Item]) -> Result<(), AllocError> {
@@ -35,6 +44,8 @@ fn insert_by(
         Way::Append => set.append(&mut VecSet::from_slice(alloc, items)?),
         Way::Extend => set.extend(items.iter().copied()),
         Way::ExtendCopied => set.extend_copied(items),
+        Way::TraitExtend => Extend::extend(set, items.iter().copied()),
+        Way::TraitExtendCopied => Extend::extend(set, items),
     }
 }
 
@@ -108,6 +119,13 @@ fn nothing_is_reserved_for_existing_elements(rt: HostRuntime) {
     assert_granted(&rt, set.extend_copied(&[1, 1, 2]));
     assert_list(&rt, set.as_slice(), &[1, 2]);
     assert_is(&rt, set.capacity(), room);
+}
+
+#[test]
+fn from_slice_keeps_the_first_of_equal_elements(rt: HostRuntime) {
+    let items = [make_item(1, 'x'), make_item(1, 'y'), make_item(2, 'z')];
+    let set = granted(&rt, VecSet::from_slice(rt.alloc(), &items));
+    assert_items(&rt, &set, &[(1, 'x'), (2, 'z')]);
 }
 
 #[test]

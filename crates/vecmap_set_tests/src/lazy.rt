@@ -1,7 +1,10 @@
 //! The iterators of `difference`, `intersection`, `symmetric_difference` and `union`.
-use crate::checks::{assert_is, assert_text, granted};
+ghost use Rattle.std.specs.Iterator.{IsFinite};
+
+use crate::checks::{assert_is, assert_item, assert_text, check, granted};
 use crate::cloning::copy_of;
 use std::process::Abort;
+use vecmap::VecSet;
 use vecmap_fixtures::{End, Item, Log, all_ends, item_set, set_of, told_set};
 
 // What is left of one list: the range of indices not yet visited, and the indices of the elements that are kept.
@@ -296,6 +299,70 @@ fn a_union_is_exact_for_every_mixture_of_next_and_next_back(rt: HostRuntime) {
     }
 }
 
+#[test]
+fn size_hints_follow_the_calls_of_next(rt: HostRuntime) {
+    let a = granted(&rt, set_of(rt.alloc(), &[1, 2, 3, 4]));
+    let b = granted(&rt, set_of(rt.alloc(), &[2, 4]));
+    let mut lacking = a.difference(&b);
+    assert_is(&rt, lacking.size_hint(), (0, Some(4)));
+    assert_is(&rt, lacking.next_back(), Some(&3));
+    assert_is(&rt, lacking.size_hint(), (0, Some(2)));
+    assert_is(&rt, lacking.next(), Some(&1));
+    assert_is(&rt, lacking.size_hint(), (0, Some(1)));
+    assert_is(&rt, lacking.next_back(), None);
+    assert_is(&rt, lacking.size_hint(), (0, Some(0)));
+    let a = granted(&rt, set_of(rt.alloc(), &[1, 2, 3]));
+    let b = granted(&rt, set_of(rt.alloc(), &[3, 4]));
+    let mut all = a.union(&b);
+    assert_is(&rt, all.size_hint(), (3, Some(5)));
+    assert_is(&rt, all.next_back(), Some(&4));
+    assert_is(&rt, all.next(), Some(&1));
+    assert_is(&rt, all.next_back(), Some(&3));
+    assert_is(&rt, all.next(), Some(&2));
+    assert_is(&rt, (all.next(), all.next_back()), (None, None));
+}
+
+#[test]
+fn a_union_and_its_clone_are_independent(rt: HostRuntime) {
+    let a = granted(&rt, set_of(rt.alloc(), &[1, 2]));
+    let b = granted(&rt, set_of(rt.alloc(), &[2, 3]));
+    let mut all = a.union(&b);
+    assert_is(&rt, (all.next(), all.next_back()), (Some(&1), Some(&3)));
+    let copy = all.clone();
+    for mut left in [all, copy] {
+        assert_is(&rt, left.next_back(), Some(&2));
+        assert_is(&rt, (left.next_back(), left.next()), (None, None));
+    }
+}
+
+// Asserts that an iterator returns exactly these numbers, in this order.
+fn assert_all<'a, I: Iterator<Item = &'a u32> + Drop>(
+    rt: &impl Abort,
+    items: I,
+    expected: &'a [u32],
+)
+    requires next { I.can_next items }
+    requires ends { IsFinite (I.remaining items) }
+{
+    assert!(*rt; items.eq(expected), "not {expected:?}");
+}
+
+#[test]
+fn lazy_iterators_keep_the_order(rt: HostRuntime) {
+    let a = granted(&rt, set_of(rt.alloc(), &[1, 2, 3]));
+    let b = VecSet::from(granted(&rt, [4, 2, 3, 4].to_vec(rt.alloc())));
+    assert_all(&rt, a.difference(&b), &[1]);
+    assert_all(&rt, a.intersection(&b), &[2, 3]);
+    assert_all(&rt, a.symmetric_difference(&b), &[1, 4]);
+    assert_all(&rt, a.union(&b), &[1, 2, 3, 4]);
+    let a = granted(&rt, set_of(rt.alloc(), &[3, 2, 1]));
+    let b = granted(&rt, set_of(rt.alloc(), &[1, 2]));
+    assert_all(&rt, a.intersection(&b), &[1, 2]);
+    let a = granted(&rt, set_of(rt.alloc(), &[1]));
+    let b = granted(&rt, set_of(rt.alloc(), &[2, 3]));
+    assert_all(&rt, a.union(&b), &[2, 3, 1]);
+}
+
 // Asserts how many comparisons each of these calls of `next` makes.
 fn assert_comparisons<I: Iterator + Drop>(
     rt: &impl Abort,
@@ -371,4 +438,14 @@ fn what_is_left_is_printed(rt: HostRuntime) {
         format!(in rt.alloc(); "{lacking:?} {shared:?} {apart:?} {all:?}"),
         "[1] [2, 3] [1, 4] [2, 3, 4]",
     );
+}
+
+#[test]
+fn an_intersection_returns_the_element_of_the_shorter_set(rt: HostRuntime) {
+    let a = granted(&rt, item_set(rt.alloc(), &[(1, 'x'), (2, 'y')]));
+    let b = granted(&rt, item_set(rt.alloc(), &[(2, 'z')]));
+    for mut shared in [a.intersection(&b), b.intersection(&a)] {
+        assert_item(&rt, shared.next(), (2, 'z'));
+        check!(rt; shared.next().is_none());
+    }
 }

@@ -25,6 +25,9 @@ fn assert_found(rt: &impl Abort, set: &VecSet<u32>, number: u32, expected: Resul
 
 #[test]
 fn searches_return_an_equal_index_or_where_to_insert(rt: HostRuntime) {
+    let set = granted(&rt, set_of(rt.alloc(), &[1u32, 2, 3]));
+    assert_is(&rt, set.binary_search(&2), Ok(1));
+    assert_is(&rt, set.binary_search(&5), Err(3));
     let set = granted(&rt, set_of(rt.alloc(), &[1, 2, 4]));
     for (number, expected) in [
         (0, Err(0)),
