@@ -1,7 +1,8 @@
 //! Searches of a slice for the first key or item that is equal to one, has the bytes of a text, or matches a query.
 ghost use Rattle.std.specs.Prelude.{◌≡◌, ◌<◌, IfSome, length, position};
 ghost use Rattle.std.specs.List.{list_any};
-ghost use Rattle.vecmap_base.specs.Items.{has_item, item_index};
+ghost use Rattle.std.specs.Set.{is_member};
+ghost use Rattle.vecmap_base.specs.Items.{item_index};
 ghost use Rattle.vecmap_base.specs.Pairs.{has_text, index_by, index_of};
 
 use crate::equivalent::Equivalent;
@@ -96,7 +97,7 @@ pub fn find_item_str(items: &[String], text: &str) -> Option<usize>
 /// contains_item(&['a', 'b'], &'c') // false
 /// ```
 pub fn contains_item<T: Eq>(items: &[T], item: &T) -> bool
-    ensures { result ≡ has_item T.eq items.now item.now }
+    ensures { result ≡ is_member T.eq items.now item.now }
 {
     contains_equivalent(items, item)
 }

@@ -1,8 +1,9 @@
 //! Relations of two lists of items, seen as sets.
 ghost use Rattle.std.specs.Prelude.{◌≡◌, ◌↔◌, IsTrue, []};
 ghost use Rattle.std.specs.List.{list_any};
+ghost use Rattle.std.specs.Set.{is_member};
 ghost use Rattle.vecmap_base.specs.Equality.{is_within};
-ghost use Rattle.vecmap_base.specs.Items.{both, has_item};
+ghost use Rattle.vecmap_base.specs.Items.{both};
 
 use crate::lookup::contains_item;
 
@@ -53,7 +54,7 @@ pub fn are_disjoint<T: Eq>(items: &[T], others: &[T]) -> bool
 
 // Returns whether one of `items` is equal to one of `others`.
 fn overlap<T: Eq>(items: &[T], others: &[T]) -> bool
-    ensures { result ≡ list_any (has_item T.eq others.now) items.now }
+    ensures { result ≡ list_any (is_member T.eq others.now) items.now }
 {
     if others.len() < MIN_LENGTH_FOR_LOOKUPS {
         return overlap_few(items, others);
@@ -72,14 +73,14 @@ fn are_within_few<T: Eq>(items: &[T], others: &[T]) -> bool
 // The same as `overlap`, for few others. It is not inlined, either.
 #[inline(never)]
 fn overlap_few<T: Eq>(items: &[T], others: &[T]) -> bool
-    ensures { result ≡ list_any (has_item T.eq others.now) items.now }
+    ensures { result ≡ list_any (is_member T.eq others.now) items.now }
 {
     items.iter().any(|item| is_in_few(others, item))
 }
 
 // The same as `contains_item`, for few items.
 fn is_in_few<T: Eq>(items: &[T], item: &T) -> bool
-    ensures { result ≡ has_item T.eq items.now item.now }
+    ensures { result ≡ is_member T.eq items.now item.now }
 {
     items.iter().any(|other| *item == *other)
 }

@@ -7,7 +7,7 @@ use Rattle.std.specs.Iterator.Runs.{YieldsRefsInOrder, YieldsRefsInReverse}
 use Rattle.std.specs.Iterator.SizeHint.{IsWithinCount}
 use Rattle.std.specs.List.{after_first, before_last}
 use Rattle.std.specs.Map.Iter.{TakesFirst, TakesLast, deref}
-use Rattle.vecmap_base.specs.Items.{has_item}
+use Rattle.std.specs.Set.{is_member}
 use Rattle.vecmap_base.specs.Walks.{End, Pulls, PullsBy}
 
 -- The elements that are not yet visited, and the list in which each of them is looked up.
@@ -100,7 +100,7 @@ module _ {T : Type 0} (keeps : List T → T → Bool) where
 module _ {T : Type 0} (eq : T → T → Bool) where
   -- Whether no element of s is equal to x.
   abbrev pub lacks_item : List T → T → Bool
-  lacks_item s x = not (has_item eq s x)
+  lacks_item s x = not (is_member eq s x)
 
   -- The elements of one list, and then those of another that are not among them, as far as they are left.
   abbrev pub joined : Parts (List T) (Sift T) → List T
@@ -136,4 +136,4 @@ module _ {T : Type 0} (eq : T → T → Bool) where
 
   -- The test of an element against the other list: whether it is present in it, or whether it is not.
   abbrev pub presence : Bool → List T → T → Bool
-  presence within = if within then has_item eq else lacks_item
+  presence within = if within then is_member eq else lacks_item

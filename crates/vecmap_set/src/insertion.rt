@@ -1,7 +1,8 @@
 //! Insertion of one element.
 ghost use Rattle.std.specs.Prelude.{◌≡◌, ◌++◌, ◌∷◌, IfErr, IfOk, IsTrue, OnErr, OnOk, [], false, not};
 ghost use Rattle.std.specs.List.{IsDistinct};
-ghost use Rattle.vecmap_base.specs.Items.{add, add_new, has_item, stored_item};
+ghost use Rattle.std.specs.Set.{is_member};
+ghost use Rattle.vecmap_base.specs.Items.{add, put_item, stored_item};
 ghost use Rattle.vecmap_set.specs.Contents.{KeepsRoom, Refuses};
 
 use crate::VecSet;
@@ -40,9 +41,9 @@ impl<T: Eq> VecSet<T> {
     where
         T: Drop,
         ensures elements { OnOk result (self.new.elements ≡ add T.eq self.old.elements item) }
-        ensures added { IfOk result (λ added. added ≡ not (has_item T.eq self.old.elements item)) }
+        ensures added { IfOk result (λ added. added ≡ not (is_member T.eq self.old.elements item)) }
         ensures distinct { IsDistinct T.eq self.new.elements }
-        ensures unchanged { IsTrue (has_item T.eq self.old.elements item) → self.new ≡ self.old }
+        ensures unchanged { IsTrue (is_member T.eq self.old.elements item) → self.new ≡ self.old }
         ensures capacity { KeepsRoom T.eq self.old item self.new }
 
         // On `Err` the element is returned. Only a new element can be refused, and only if the set is full.
@@ -81,7 +82,7 @@ impl<T: Eq> VecSet<T> {
     /// ```
     #[tactic(auto, using(vecmap_base::proofs::IndexLemmas::list_any_position))]
     pub fn replace(&mut self, item: T) -> Result<Option<T>, Refused<T>>
-        ensures elements { OnOk result (self.new.elements ≡ add_new T.eq self.old.elements item) }
+        ensures elements { OnOk result (self.new.elements ≡ put_item T.eq self.old.elements item) }
         ensures old { IfOk result (λ old. old ≡ stored_item T.eq self.old.elements item) }
         ensures distinct { IsDistinct T.eq self.new.elements }
         ensures capacity { KeepsRoom T.eq self.old item self.new }
@@ -99,7 +100,7 @@ impl<T: Eq> VecSet<T> {
 
     // Appends a new element.
     fn push(&mut self, item: T) -> Result<(), Refused<T>>
-        requires absent { has_item T.eq self.old.elements item ≡ false }
+        requires absent { is_member T.eq self.old.elements item ≡ false }
         ensures elements { OnOk result (self.new.elements ≡ self.old.elements ++ item ∷ []) }
         ensures distinct { IsDistinct T.eq self.new.elements }
         ensures capacity { KeepsRoom T.eq self.old item self.new }
@@ -117,7 +118,7 @@ impl<T: Eq> VecSet<T> {
 // The same as `contains_item`, but the loop over few items becomes part of the caller.
 #[inline(always)]
 fn is_present<T: Eq>(items: &[T], item: &T) -> bool
-    ensures { result ≡ has_item T.eq items.now item.now }
+    ensures { result ≡ is_member T.eq items.now item.now }
 {
     if items.len() < MIN_LENGTH_FOR_CALL {
         return items.iter().any(|other| *item == *other);
