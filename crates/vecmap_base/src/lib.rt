@@ -20,7 +20,9 @@ mod repeats;
 mod retain;
 mod search;
 mod steps;
+mod try_update;
 mod unrolled;
+mod update;
 
 pub use distinct::{items_distinct, keys_distinct};
 pub use drain::{move_range_last, reverse_from};
@@ -39,6 +41,8 @@ pub use repeats::{dedup_keep_first, dedup_keep_last_value, gather_items, gather_
 pub use retain::{retain_items, retain_pairs, retain_pairs_mut};
 pub use search::{partition_point, search_by_index, search_items_by_key, search_pairs_by_key};
 pub use steps::Steps;
+pub use try_update::try_update_pairs;
+pub use update::update_pairs;
 
 /// The iterators over a set's elements.
 pub mod items {
