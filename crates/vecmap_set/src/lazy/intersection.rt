@@ -35,7 +35,7 @@ pub struct Intersection<'a, T: Eq> {
 
 impl<'a, T: Eq> Model for Intersection<'a, T> {
     ghost use Rattle.std.specs.Slice.Iter.{iter_rest};
-ghost use Rattle.std.specs.Set.{is_member};
+    ghost use Rattle.std.specs.Set.{is_member};
     ghost use Rattle.vecmap_set.specs.Lazy.{Sift};
 
     ghost Value = { Sift T };
