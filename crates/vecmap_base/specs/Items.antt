@@ -32,7 +32,7 @@ module _ {T : Type 0} (eq : T → T → Bool) where
 
   -- The list `s` with `x` added: nothing changes if an equal element is present, and a new element is appended.
   abbrev pub add : List T → T → List T
-  add s x = if is_member s x then s else s ++ x ∷ []
+  add s x = if is_member eq s x then s else s ++ x ∷ []
 
   -- The list `s` with each of `xs` added, in order.
   abbrev pub adds : List T → List T → List T
@@ -53,8 +53,8 @@ module _ {T : Type 0} (eq : T → T → Bool) where
 
   -- The elements of `a` that are in `b`, in the order of `a`.
   abbrev pub both : List T → List T → List T
-  both a b = filter (λ x. is_member b x) a
+  both a b = filter (λ x. is_member eq b x) a
 
   -- The elements of `a` that are not in `b`, in the order of `a`.
   abbrev pub only : List T → List T → List T
-  only a b = filter (λ x. not (is_member b x)) a
+  only a b = filter (λ x. not (is_member eq b x)) a

@@ -40,7 +40,7 @@ without_marks : (free {X = ℕ × ℕ} ((1, 5) ∷ (2, 6) ∷ []) (true ∷ []) 
 unfolding free
 without_marks = (refl, refl)
 
-values_or_none : (option_eq {V = ℕ} nat_eq None None ≡ true) × (option_eq nat_eq (Some 5) (Some 5) ≡ true) × (option_eq nat_eq (Some 5) None ≡ false) × (option_eq nat_eq (Some 5) (Some 6) ≡ false)
+values_or_none : (option_eq {T = ℕ} nat_eq None None ≡ true) × (option_eq nat_eq (Some 5) (Some 5) ≡ true) × (option_eq nat_eq (Some 5) None ≡ false) × (option_eq nat_eq (Some 5) (Some 6) ≡ false)
 values_or_none = (refl, refl, refl, refl)
 
 -- The keys of one list are not enough.

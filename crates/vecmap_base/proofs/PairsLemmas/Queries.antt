@@ -58,7 +58,7 @@ module _ {K V : Type 0} (eq : K → K → Bool) (o : IsEquivalence eq) (test : K
           ap (λ f. lookup_by f (without_by f (p ∷ ps))) same ∙ lookup_without_key eq o (p ∷ ps) k d
 
 -- A text matches the strings with the same bytes.
-pub text_respects : (text : List ℕ) → IsKeyTest string_eq (has_text text)
+pub text_respects : (text : List ℕ) → IsKeyTest {K = String Global} string_eq (has_text text)
 text_respects text x y h = nat_list_eq_equiv.symm (string_bytes y) text ∙ sym (nat_list_eq_equiv.congr (string_bytes x) text (string_bytes y) h)
 
 pub same_text : (text : List ℕ) (x : String Global) → string_bytes x ≡ text → IsTrue (has_text text x)
