@@ -1,6 +1,7 @@
 //! An iterator over the elements of one set that another has.
 ghost use Rattle.std.specs.Prelude.{◌≡◌, ⊤, length};
 ghost use Rattle.std.specs.Iterator.{at_most};
+ghost use Rattle.std.specs.Set.{is_member};
 ghost use Rattle.vecmap_set.specs.Lazy.{IsHintFor, SiftsAll, SiftsFirst, SiftsLast, sift_of, sifted};
 
 use super::{sift_back, sift_front};
@@ -35,7 +36,6 @@ pub struct Intersection<'a, T: Eq> {
 
 impl<'a, T: Eq> Model for Intersection<'a, T> {
     ghost use Rattle.std.specs.Slice.Iter.{iter_rest};
-    ghost use Rattle.std.specs.Set.{is_member};
     ghost use Rattle.vecmap_set.specs.Lazy.{Sift};
 
     ghost Value = { Sift T };
