@@ -19,9 +19,9 @@ use std::sync::{Arc, ArcSlice, ArcStr};
 /// A query that may match keys, or elements.
 ///
 /// A `&K` matches the keys that are equal to it, and a `&T` also each `Box`, `Rc` and `Arc` whose value is equal to it.
-/// A `&str` matches the texts with the same bytes, whatever type holds them. A `&[T]` matches the vectors, and the boxed
-/// and shared slices, whose items are equal to its own. A pair of queries matches the pairs of keys whose parts they
-/// match.
+/// A `&str` matches the texts with the same bytes, whatever type holds them. A `&[T]` matches the vectors, and the
+/// boxed and shared slices, whose items are equal to its own. A pair of queries matches the pairs of keys whose parts
+/// they match.
 ///
 /// Other types can implement this trait. If a query matches a key, it must match the keys that are equal to that key,
 /// and no others.

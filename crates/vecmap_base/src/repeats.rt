@@ -13,7 +13,7 @@ ghost use Rattle.vecmap_base.specs.Repeats.{comparisons, cost, search_cost};
 use crate::steps::Steps;
 use std::mem;
 
-// Returns whether an element of `front` is equal to `item`. Stops at the first equal element.
+// Returns `true` if an element of `front` is equal to `item`. Stops at the first equal element.
 fn is_repeat<T: Eq>(front: &[T], item: &T, steps: &mut Steps) -> bool
     requires bounded { steps.old + length front.now ≤ u128.MAX }
     ensures repeat { result ≡ is_member T.eq front.now item.now }

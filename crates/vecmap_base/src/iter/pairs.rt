@@ -165,8 +165,8 @@ impl<K, V> Model for IntoIter<K, V> {
     ghost view = { λ a. a.pairs.items };
 }
 
-/// Drops the values that are left. It is written by hand, so that a loop over the iterator keeps what it has taken where
-/// `?` may drop the rest: a derived one is run field by field where the iterator is dropped.
+/// Drops the values that are left. It is written by hand, so that a loop over the iterator keeps what it has taken
+/// where `?` may drop the rest: a derived one is run field by field where the iterator is dropped.
 impl<K: Drop, V: Drop> Drop for IntoIter<K, V> {
     fn drop(self) {
         let IntoIter { pairs } = self;
