@@ -1,7 +1,7 @@
 //! The trait `Extend` of a map, for generic code, `try_collect` and `partition`.
 //!
-//! Each impl calls the inherent function that it names, and says the same of a refusal. Generic code knows only what the
-//! trait says: that some first part of the items was inserted.
+//! Each impl calls the inherent function that it names, and says the same of a refusal. Generic code knows only what
+//! the trait says: that some first part of the items was inserted.
 ghost use Rattle.std.specs.Iterator.{ExtendsWithItems, IsFiniteIterable};
 ghost use Rattle.std.specs.Map.Iter.{deref_pair};
 ghost use Rattle.std.specs.Prelude.{◌≡◌, ◌≤◌, ◌⊎◌, IsOk, OnErr, length, map};
@@ -15,8 +15,8 @@ use std::alloc::AllocError;
 ///
 /// # Errors
 ///
-/// [`AllocError`] if the allocator refuses a request. If it refuses the reservation, the map is unchanged. If it refuses
-/// to grow the map for a pair, the pairs before it are in the map.
+/// [`AllocError`] if the allocator refuses a request. If it refuses the reservation, the map is unchanged. If it
+/// refuses to grow the map for a pair, the pairs before it are in the map.
 ///
 /// # Examples
 ///
@@ -49,8 +49,8 @@ impl<K: Eq + Drop, V: Drop> Extend<(K, V)> for VecMap<K, V> {
 ///
 /// # Errors
 ///
-/// [`AllocError`] if the allocator refuses a request, or if a clone is refused. If the reservation is refused, the map is
-/// unchanged. If a pair or one of its clones is refused, clones of the pairs before it are in the map.
+/// [`AllocError`] if the allocator refuses a request, or if a clone is refused. If the reservation is refused, the map
+/// is unchanged. If a pair or one of its clones is refused, clones of the pairs before it are in the map.
 ///
 /// # Examples
 ///
@@ -84,8 +84,8 @@ impl<'a, K: Eq + Clone + 'a, V: Clone + 'a> Extend<(&'a K, &'a V)> for VecMap<K,
 ///
 /// # Errors
 ///
-/// [`AllocError`] if the allocator refuses a request, or if a clone is refused. If the reservation is refused, the map is
-/// unchanged. If a pair or one of its clones is refused, clones of the pairs before it are in the map.
+/// [`AllocError`] if the allocator refuses a request, or if a clone is refused. If the reservation is refused, the map
+/// is unchanged. If a pair or one of its clones is refused, clones of the pairs before it are in the map.
 ///
 /// # Examples
 ///

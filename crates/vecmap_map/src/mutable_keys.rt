@@ -23,8 +23,8 @@ impl<K, V> sealed::Sealed for VecMap<K, V> {}
 /// No other type can implement this trait. A key may be written so that it equals another one. It then stays as it was
 /// written, and lookups find the first of the two.
 ///
-/// A proof of a caller that the search makes does not learn what the map holds once a key or a value was written through
-/// such a reference. It learns what [`MutableKeys::retain2`] leaves.
+/// A proof of a caller that the search makes does not learn what the map holds once a key or a value was written
+/// through such a reference. It learns what [`MutableKeys::retain2`] leaves.
 pub trait MutableKeys: sealed::Sealed {
     type Key;
 

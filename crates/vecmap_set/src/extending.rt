@@ -1,7 +1,7 @@
 //! The trait `Extend` of a set, for generic code, `try_collect` and `partition`.
 //!
-//! Each impl calls the inherent function that it names, and says the same of a refusal. Generic code knows only what the
-//! trait says: that some first part of the items was added.
+//! Each impl calls the inherent function that it names, and says the same of a refusal. Generic code knows only what
+//! the trait says: that some first part of the items was added.
 ghost use Rattle.std.specs.Iterator.{ExtendsWithItems, IsFiniteIterable};
 ghost use Rattle.std.specs.List.{IsDistinct};
 ghost use Rattle.std.specs.Map.Iter.{deref};

@@ -2,7 +2,8 @@
 ghost use Rattle.std.specs.Prelude.{◌≡◌, ⊤, length};
 ghost use Rattle.std.specs.Iterator.{at_most};
 ghost use Rattle.std.specs.Set.{is_member};
-ghost use Rattle.vecmap_set.specs.Lazy.{IsHintFor, SiftsAll, SiftsFirst, SiftsLast, sift_of, sifted};
+ghost use Rattle.vecmap_base.specs.Walks.{IsHintFor};
+ghost use Rattle.vecmap_set.specs.Lazy.{SiftsAll, SiftsFirst, SiftsLast, sift_of, sift_rest};
 
 use super::{sift_back, sift_front};
 use std::alloc::AllocError;
@@ -81,7 +82,7 @@ impl<'a, T: Eq> Iterator for Intersection<'a, T> {
 
     ghost next_gives = { SiftsFirst (is_member T.eq) };
 
-    ghost remaining = { λ s. at_most (length (sifted (is_member T.eq) s)) };
+    ghost remaining = { λ s. at_most (length (sift_rest (is_member T.eq) s)) };
 
     fn next(&mut self) -> Option<&'a T> {
         sift_front(&mut self.items, self.other, true)
@@ -90,7 +91,7 @@ impl<'a, T: Eq> Iterator for Intersection<'a, T> {
     /// Returns 0 and the number of elements that are not yet visited.
     #[tactic(auto, using(crate::proofs::LazyLemmas::length_filter))]
     fn size_hint(&self) -> (usize, Option<usize>)
-        ensures bounds { IsHintFor (length (sifted (is_member T.eq) self.now)) result }
+        ensures bounds { IsHintFor (length (sift_rest (is_member T.eq) self.now)) result }
         ensures hint { result ≡ (0, Some (length self.now.unwalked)) }
     {
         (0, Some(self.items.len()))
