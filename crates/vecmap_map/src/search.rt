@@ -1,5 +1,5 @@
 //! Binary searches in sorted pairs. None allocates, and each looks at about log2(n) of n pairs.
-ghost use Rattle.std.specs.Prelude.{◌≡◌, ◌<◌, ◌≤◌, Bool, false, length, true};
+ghost use Rattle.std.specs.Prelude.{◌≡◌, ◌<◌, ◌≤◌, Bool, Contains, List, false, length, true};
 ghost use Rattle.std.specs.List.{All, HoldsAt};
 ghost use Rattle.std.specs.List.Sorted.{IsBinarySearchResult, IsPartitionPoint, IsPartitionedBy, IsSearchInRange};
 ghost use Rattle.std.specs.declared.cmp.Ordering.{Ordering};
@@ -146,7 +146,8 @@ impl<K, V> VecMap<K, V> {
             &self.pairs,
             |pair: &(K, V)| -> bool
                 requires { CallableOnPair P.Fn pred pair.now }
-                ensures { (p : K × V → Bool) → AnswersOnPair P.Fn p pred → result ≡ p pair.now }
+                ensures { (p : K × V → Bool) (l : List (K × V)) → AnswersOnPairs P.Fn p pred l
+                    → Contains l pair.now → result ≡ p pair.now }
             { pred(&pair.0, &pair.1) },
         )
     }
