@@ -1,11 +1,12 @@
 -- Two maps of maps are equal exactly if each section and name have the same text in both.
 use Rattle.std.specs.Prelude.{◌≡◌, ◌↔◌, ℕ, Bool, true, List, [], ◌∷◌, None, Option, Some, String, IsTrue, option_map, string_bytes, string_eq, refl}
 use Rattle.std.specs.Cmp.{IsEquivalence, on_equiv}
+use Rattle.std.specs.Option.{option_eq}
 use Rattle.std.specs.Str.{str_eq_ignore_ascii_case}
 use Rattle.std.specs.declared.alloc.Global.{Global}
 use Rattle.std.proofs.Common.{sym, ap, ◌∙◌, arith, true≢false}
 use Rattle.std.proofs.lemmas.Slice.Eq.{bytes_eq-Decides}
-use Rattle.vecmap.specs.Equality.{has_same_counts, same_option}
+use Rattle.vecmap.specs.Equality.{has_same_counts}
 use Rattle.vecmap.specs.Pairs.{lookup}
 use Rattle.vecmap.proofs.MapEquality.{map_equality_laws}
 use Rattle.vecmap.proofs.Lookups.{look}
@@ -27,7 +28,7 @@ same_stored_laws : IsEquivalence same_stored
 same_stored_laws = on_equiv (λ m. m.entries) (map_equality_laws str_eq_ignore_ascii_case string_eq ignoring_case_equiv string_equality)
 
 -- Equal strings have equal bytes.
-same_texts : (o p : Option (String Global)) → IsTrue (same_option string_eq o p) ↔ (option_map string_bytes o ≡ option_map string_bytes p)
+same_texts : (o p : Option (String Global)) → IsTrue (option_eq string_eq o p) ↔ (option_map string_bytes o ≡ option_map string_bytes p)
 same_texts None None = (λ _. refl, λ _. refl)
 same_texts None (Some w) = (λ h. absurd (true≢false (sym h)), λ h. absurd (cc))
 same_texts (Some v) None = (λ h. absurd (true≢false (sym h)), λ h. absurd (cc))
@@ -46,7 +47,7 @@ some_text : (a : Section) → IsSection a → (n : List ℕ) × (t : List ℕ) �
 some_text [] s = absurd (let h = s.not_empty in omega (arith, h))
 some_text (p ∷ ps) s = (p.0, string_bytes p.1, ap (option_map string_bytes) (look str_eq_ignore_ascii_case p ps p.0 true (ignoring_case_equiv.refl p.0)))
 
-at_section : (o p : Option Stored) → ((m : Stored) → o ≡ Some m → IsSection m.entries) → ((m : Stored) → p ≡ Some m → IsSection m.entries) → IsTrue (same_option same_stored o p) ↔ ((n : List ℕ) → text_at o n ≡ text_at p n)
+at_section : (o p : Option Stored) → ((m : Stored) → o ≡ Some m → IsSection m.entries) → ((m : Stored) → p ≡ Some m → IsSection m.entries) → IsTrue (option_eq same_stored o p) ↔ ((n : List ℕ) → text_at o n ≡ text_at p n)
 at_section None None s t = (λ _ n. refl, λ _. refl)
 at_section None (Some m) s t = (λ h. absurd (true≢false (sym h)), λ h. let some = some_text m.entries (t m refl) in absurd (let f : None ≡ Some some.1 = h some.0 ∙ some.2 in cc))
 at_section (Some m) None s t = (λ h. absurd (true≢false (sym h)), λ h. let some = some_text m.entries (s m refl) in absurd (let f : None ≡ Some some.1 = sym (h some.0) ∙ some.2 in cc))

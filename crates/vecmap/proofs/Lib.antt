@@ -16,6 +16,7 @@ pub use Rattle.vecmap_base.proofs.ItemsLemmas.Queries as ItemQueries
 pub use Rattle.vecmap_base.proofs.ItemsLemmas.Recursion as ItemRecursion
 pub use Rattle.vecmap_base.proofs.ItemsLemmas.Removals as ItemRemovals
 pub use Rattle.vecmap_base.proofs.KeptLemmas
+pub use Rattle.vecmap_base.proofs.LoopLemmas
 pub use Rattle.vecmap_base.proofs.PairsLemmas.AfterPuts
 pub use Rattle.vecmap_base.proofs.PairsLemmas.EachValue
 pub use Rattle.vecmap_base.proofs.PairsLemmas.Inserted
@@ -28,6 +29,7 @@ pub use Rattle.vecmap_base.proofs.PairsLemmas.Puts
 pub use Rattle.vecmap_base.proofs.PairsLemmas.Queries
 pub use Rattle.vecmap_base.proofs.PairsLemmas.Recursion
 pub use Rattle.vecmap_base.proofs.PairsLemmas.Values
+pub use Rattle.vecmap_base.proofs.UpdatedLemmas
 pub use Rattle.vecmap_base.proofs.WalkLemmas
 pub use Rattle.vecmap_map.proofs.ContentsLemmas
 pub use Rattle.vecmap_map.proofs.NestedLemmas

@@ -14,6 +14,7 @@ pub use Rattle.vecmap_base.specs.Orders
 pub use Rattle.vecmap_base.specs.Pairs
 pub use Rattle.vecmap_base.specs.Ranges
 pub use Rattle.vecmap_base.specs.Repeats
+pub use Rattle.vecmap_base.specs.Updated
 pub use Rattle.vecmap_base.specs.Walks
 pub use Rattle.vecmap_map.specs.Contents
 pub use Rattle.vecmap_map.specs.Drain

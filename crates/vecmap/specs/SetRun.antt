@@ -1,6 +1,7 @@
 -- What the commands of `run_set` do to a set, in order.
 use Rattle.std.specs.Prelude.{◌≡◌, ◌-◌, ◌<◌, ◌≤◌, ◌↔◌, Bool, Err, IsSomeAnd, IsTrue, List, Ok, Option, Result, [], ◌∷◌, drop, false, length, not, remove, reverse, slice_get, swap, take, ⊤}
 use Rattle.std.specs.List.{IsDistinct}
+use Rattle.std.specs.Set.{is_member}
 use Rattle.std.specs.declared.clone.Clone as clone
 use Rattle.vecmap.specs.declared.set_run.command.SetCommand.{SetCommand}
 use Rattle.vecmap.specs.declared.set_run.command.SetCommand.TheVariants.{Contains, Equals, Exclusive, First, Get, GetIndex, IndexOf, Intersect, IsDisjoint, IsSubset, IsSuperset, Last, Len, Subtract, ToVec, Unite}
@@ -9,7 +10,7 @@ use Rattle.vecmap.specs.declared.set_run.reply.SetReply.{SetReply}
 use Rattle.vecmap.specs.declared.set_run.reply.SetReply.TheVariants.{Done, Item, Items, Made, NoMemory, Number, OutOfRange, Place, Truth}
 use Rattle.vecmap_base.specs.Clones.{AreClones, IsCloneOf}
 use Rattle.vecmap_base.specs.Equality.{has_same_items, is_within}
-use Rattle.vecmap_base.specs.Items.{add, add_new, adds, both, has_item, item_index, only, stored_item, swap_without, swap_without_item, without_item}
+use Rattle.vecmap_base.specs.Items.{add, put_item, adds, both, item_index, only, stored_item, swap_without, swap_without_item, without_item}
 use Rattle.vecmap_set.specs.Contents.{Contents, HasRoom, IsFull, KeepsRoom}
 use Rattle.vecmap_set.specs.Operators.{symmetric_difference_of, union_of}
 
@@ -42,27 +43,27 @@ module _ {T : Type 0} (eq : T → T → Bool) (clones : clone.Ghosts T) where
   -- One command with this reply takes the list l to the list m. A command that reads, is out of range or is refused
   -- leaves the list.
   abbrev pub ListStep : List T → SetCommand T → SetReply T → List T → Type 0
-  ListStep l (Insert x) (Truth added) m = (added ≡ not (has_item eq l x)) × (m ≡ add eq l x)
-  ListStep l (Insert x) NoMemory m = (has_item eq l x ≡ false) × (m ≡ l)
+  ListStep l (Insert x) (Truth added) m = (added ≡ not (is_member eq l x)) × (m ≡ add eq l x)
+  ListStep l (Insert x) NoMemory m = (is_member eq l x ≡ false) × (m ≡ l)
   ListStep l (Insert x) _ m = ⊥
-  ListStep l (Replace x) (Item old) m = (old ≡ stored_item eq l x) × (m ≡ add_new eq l x)
-  ListStep l (Replace x) NoMemory m = (has_item eq l x ≡ false) × (m ≡ l)
+  ListStep l (Replace x) (Item old) m = (old ≡ stored_item eq l x) × (m ≡ put_item eq l x)
+  ListStep l (Replace x) NoMemory m = (is_member eq l x ≡ false) × (m ≡ l)
   ListStep l (Replace x) _ m = ⊥
   ListStep l (Get x) reply m = ClonesItem clones (stored_item eq l x) reply × (m ≡ l)
   ListStep l (GetIndex i) reply m = ClonesItem clones (slice_get l i) reply × (m ≡ l)
   ListStep l (IndexOf x) (Place place) m = (place ≡ item_index eq l x) × (m ≡ l)
   ListStep l (IndexOf x) _ m = ⊥
-  ListStep l (Contains x) (Truth there) m = (there ≡ has_item eq l x) × (m ≡ l)
+  ListStep l (Contains x) (Truth there) m = (there ≡ is_member eq l x) × (m ≡ l)
   ListStep l (Contains x) _ m = ⊥
   ListStep l First reply m = ClonesItem clones (slice_get l 0) reply × (m ≡ l)
   ListStep l Last reply m = ClonesItem clones (slice_get l (length l - 1)) reply × (m ≡ l)
   ListStep l Len (Number count) m = (count ≡ length l) × (m ≡ l)
   ListStep l Len _ m = ⊥
-  ListStep l (Remove x) (Truth found) m = (found ≡ has_item eq l x) × (m ≡ without_item eq l x)
+  ListStep l (Remove x) (Truth found) m = (found ≡ is_member eq l x) × (m ≡ without_item eq l x)
   ListStep l (Remove x) _ m = ⊥
   ListStep l (Take x) (Item old) m = (old ≡ stored_item eq l x) × (m ≡ without_item eq l x)
   ListStep l (Take x) _ m = ⊥
-  ListStep l (SwapRemove x) (Truth found) m = (found ≡ has_item eq l x) × (m ≡ swap_without_item eq l x)
+  ListStep l (SwapRemove x) (Truth found) m = (found ≡ is_member eq l x) × (m ≡ swap_without_item eq l x)
   ListStep l (SwapRemove x) _ m = ⊥
   ListStep l (SwapTake x) (Item old) m = (old ≡ stored_item eq l x) × (m ≡ swap_without_item eq l x)
   ListStep l (SwapTake x) _ m = ⊥

@@ -1,7 +1,8 @@
 //! The macros `vecmap!` and `vecset!`, and the functions that they call.
 ghost use Rattle.std.specs.Prelude.{◌≡◌, IsTrue, OnErr, OnOk};
 ghost use Rattle.std.specs.List.{IsDistinct};
-ghost use Rattle.vecmap_base.specs.Items.{add, has_item};
+ghost use Rattle.std.specs.Set.{is_member};
+ghost use Rattle.vecmap_base.specs.Items.{add};
 ghost use Rattle.vecmap_base.specs.Pairs.{put};
 ghost use Rattle.vecmap_map.specs.Contents.{KeepsRoom, Refuses};
 ghost use Rattle.vecmap_set.specs.Contents.{KeepsRoom as SetKeepsRoom, Refuses as SetRefuses};
@@ -105,7 +106,7 @@ pub fn put_pair<K: Eq + Drop, V: Drop>(
 pub fn add_item<T: Eq + Drop>(set: &mut VecSet<T>, item: T) -> Result<(), AllocError>
     ensures elements { OnOk result (set.new.elements ≡ add T.eq set.old.elements item) }
     ensures distinct { IsDistinct T.eq set.new.elements }
-    ensures unchanged { IsTrue (has_item T.eq set.old.elements item) → set.new ≡ set.old }
+    ensures unchanged { IsTrue (is_member T.eq set.old.elements item) → set.new ≡ set.old }
     ensures capacity { SetKeepsRoom T.eq set.old item set.new }
     ensures err { OnErr result (SetRefuses T.eq set.old item set.new) }
 {

@@ -1,8 +1,8 @@
 //! Runs of commands on a set.
 ghost use Rattle.std.specs.Prelude.{◌≡◌, IfOk, OnErr};
 ghost use Rattle.std.specs.List.{IsDistinct};
+ghost use Rattle.std.specs.Set.{ClonesAreEqual};
 ghost use Rattle.vecmap.specs.SetRun.{Run};
-ghost use Rattle.vecmap_base.specs.Clones.{ClonesAreSame};
 
 mod command;
 mod reply;
@@ -46,7 +46,7 @@ pub fn run_set<T: Eq + Clone>(
     set: &mut VecSet<T>,
     commands: Vec<SetCommand<T>>,
 ) -> Result<Vec<SetReply<T>>, AllocError>
-    requires clones_equal { ClonesAreSame T.eq T.is_clone }
+    requires clones_equal { ClonesAreEqual T.eq T.is_clone }
     ensures run { IfOk result (λ replies. Run T.eq T.Clone set.old commands.items replies.items set.new) }
     ensures distinct { IsDistinct T.eq set.new.elements }
     ensures err { OnErr result (set.new ≡ set.old) }

@@ -7,10 +7,12 @@ mod Examples
 pub mod ItemsLemmas
 pub mod KeptLemmas
 pub mod LawLemmas
+pub mod LoopLemmas
 pub mod MatchingLemmas
 pub mod MoveLemmas
 pub mod PairsLemmas
 pub mod IndexLemmas
 pub mod RepeatsLemmas
 pub mod SearchLemmas
+pub mod UpdatedLemmas
 pub mod WalkLemmas

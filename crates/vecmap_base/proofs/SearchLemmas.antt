@@ -1,7 +1,8 @@
 -- What a binary search has found so far: about the item at its base, and about the items above the part that is left.
 use Rattle.std.proofs.Common.{◌≡◌, ℕ, ◌+◌, ◌-◌, ◌<◌, ◌≤◌, Bool, true, false, List, length, get_or, HoldsAt, if◌then◌else◌, ap, sym, ◌∙◌, arith, refl, subst, true≢false}
 use Rattle.std.proofs.lemmas.List.{get_or_default}
-use Rattle.std.specs.List.{AllWithin}
+use Rattle.std.proofs.lemmas.List.Elements.{Contains-get_or}
+use Rattle.std.specs.List.{AllWithin, Contains}
 use Rattle.std.specs.List.Sorted.{IsNonDecreasingBy, IsPartitionPoint, IsPartitionedBy}
 use Rattle.std.specs.Ordering.{is_le, ordering_index}
 use Rattle.std.specs.declared.cmp.Ordering.{Ordering}
@@ -10,8 +11,12 @@ use Rattle.vecmap_base.specs.Orders.{side}
 
 -- What a call returned for the item `x`, which was read at the index `i`, holds of the item at this index, whatever the
 -- default.
-pub said_at : {X R : Type 0} (h : X → R) (xs : List X) (i : ℕ) (x : X) (said : R) → i < length xs → x ≡ get_or xs i x → said ≡ h x → HoldsAt (λ y. said ≡ h y) xs i
+said_at : {X R : Type 0} (h : X → R) (xs : List X) (i : ℕ) (x : X) (said : R) → i < length xs → x ≡ get_or xs i x → said ≡ h x → HoldsAt (λ y. said ≡ h y) xs i
 said_at h xs i x said within at by d = by ∙ ap h (at ∙ sym (get_or_default xs i d x within))
+
+-- The same of what it returns for an item of the list.
+pub said_of : {X R : Type 0} (h : X → R) (xs : List X) (i : ℕ) (x : X) (said : R) → i < length xs → x ≡ get_or xs i x → (Contains xs x → said ≡ h x) → HoldsAt (λ y. said ≡ h y) xs i
+said_of h xs i x said within at by = said_at h xs i x said within at (by (subst (Contains xs) (sym at) (Contains-get_or xs i x within)))
 
 -- Nothing is below `Less`, or above `Greater`.
 is_less : (o : Ordering) → ordering_index o ≤ ordering_index Less → o ≡ Less

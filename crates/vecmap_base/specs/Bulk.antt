@@ -1,4 +1,5 @@
--- Calls that insert the items of an iterator: where they stop, and when there is spare capacity for all items.
+-- Calls that insert the items of an iterator: where they stop, what holds of each item, and when there is spare
+-- capacity for all items.
 use Rattle.std.specs.Prelude.{ℕ, ◌+◌, ◌≤◌, List, Option, Some}
 use Rattle.std.specs.Iterator.{Count, YieldsThen, size}
 
@@ -7,6 +8,10 @@ module _ {U T : Type 0} (becomes : U → T → Type 0) where
   abbrev pub StopsAt : {A : Type 0} → (T → Option A → T → Type 0) → U → (List A → A → Type 0) → Type 0
   StopsAt {A} steps iter R = (it : T) × (items : List A) × (next : A) × (rest : T)
       × becomes iter it × YieldsThen steps it items (Some next) rest × R items next
+
+  -- `P` holds of each item that `iter` may give.
+  abbrev pub HoldsOfEach : {A : Type 0} → (T → Option A → T → Type 0) → U → (A → Type 0) → Type 0
+  HoldsOfEach {A} steps iter P = (it : T) (items : List A) (next : A) (rest : T) → becomes iter it → YieldsThen steps it items (Some next) rest → P next
 
   -- A capacity of `c` holds `n` items and as many more as `iter` may give. The calls that use this require that `iter`
   -- ends. Of an endless iterator it would say no more than `n ≤ c`, as the `size` of no bound is 0.

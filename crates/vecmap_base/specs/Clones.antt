@@ -1,10 +1,6 @@
 -- What it means that a list, a pair or an option is a clone of another.
-use Rattle.std.specs.Prelude.{Bool, IsTrue, List, None, Option, Some, ⊤}
+use Rattle.std.specs.Prelude.{List, None, Option, Some, ⊤}
 use Rattle.std.specs.List.{AllZip}
-
--- Each clone is equal to its original.
-abbrev pub ClonesAreSame : {K : Type 0} → (K → K → Bool) → (K → K → Type 0) → Type 0
-ClonesAreSame {K} eq is_clone = (original clone : K) → is_clone original clone → IsTrue (eq original clone)
 
 -- The second pair has a clone of the key and a clone of the value of the first.
 abbrev pub IsPairClone : {K V : Type 0} → (K → K → Type 0) → (V → V → Type 0) → K × V → K × V → Type 0

@@ -1,15 +1,9 @@
 -- Equality of two lists as maps or as sets. `key`, `value` and `eq` are the `==` of keys, values and elements.
-use Rattle.std.specs.Prelude.{◌≡◌, ℕ, ◌<◌, Bool, ◌&&◌, false, true, List, [], ◌∷◌, None, Option, Some, get_or, length, nat_eq}
+use Rattle.std.specs.Prelude.{◌≡◌, ℕ, ◌<◌, Bool, ◌&&◌, false, true, List, [], ◌∷◌, get_or, length, nat_eq}
 use Rattle.std.specs.List.{count_by, list_all, list_any}
 use Rattle.std.specs.Map.{keys_of}
+use Rattle.std.specs.Option.{option_eq}
 use Rattle.vecmap_base.specs.Pairs.{lookup}
-
--- Both options are none, or their values are equal.
-abbrev pub same_option : {V : Type 0} → (V → V → Bool) → Option V → Option V → Bool
-same_option value None None = true
-same_option value None (Some w) = false
-same_option value (Some v) None = false
-same_option value (Some v) (Some w) = value v w
 
 module _ {K V : Type 0} (key : K → K → Bool) (value : V → V → Bool) where
   -- Two pairs have equal keys and equal values.
@@ -34,7 +28,7 @@ module _ {K V : Type 0} (key : K → K → Bool) (value : V → V → Bool) wher
 
   -- Each of these keys has equal values in both lists, or none in both.
   abbrev pub lookups_agree : List K → List (K × V) → List (K × V) → Bool
-  lookups_agree keys a b = list_all (λ k. same_option value (lookup key a k) (lookup key b k)) keys
+  lookups_agree keys a b = list_all (λ k. option_eq value (lookup key a k) (lookup key b k)) keys
 
   -- The lookups of each key of either list agree.
   abbrev pub agrees : List (K × V) → List (K × V) → Bool

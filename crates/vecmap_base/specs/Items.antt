@@ -1,7 +1,8 @@
 -- Lists of elements, as an ordered set sees them. `eq` is the `==` of elements.
 use Rattle.std.specs.Prelude.{ℕ, Bool, List, [], ◌∷◌, ◌++◌, Option, if◌then◌else◌, filter, fold, not, position, remove, slice_get, slice_set}
-use Rattle.std.specs.List.{list_any, swap_remove}
+use Rattle.std.specs.List.{swap_remove}
 use Rattle.std.specs.Option.{option_and_then, option_map_or}
+use Rattle.std.specs.Set.{is_member}
 
 -- The list `s` without the element at the index `i`; the last element takes its index.
 abbrev pub swap_without : {T : Type 0} → List T → ℕ → List T
@@ -25,17 +26,13 @@ module _ {T : Type 0} (eq : T → T → Bool) where
   abbrev pub item_index : List T → T → Option ℕ
   item_index s x = position (eq x) s
 
-  -- Whether an element of `s` is equal to `x`.
-  abbrev pub has_item : List T → T → Bool
-  has_item s x = list_any (eq x) s
-
   -- The stored element that is equal to `x`.
   abbrev pub stored_item : List T → T → Option T
   stored_item s x = stored_first (eq x) s
 
   -- The list `s` with `x` added: nothing changes if an equal element is present, and a new element is appended.
   abbrev pub add : List T → T → List T
-  add s x = if has_item s x then s else s ++ x ∷ []
+  add s x = if is_member eq s x then s else s ++ x ∷ []
 
   -- The list `s` with each of `xs` added, in order.
   abbrev pub adds : List T → List T → List T
@@ -43,8 +40,8 @@ module _ {T : Type 0} (eq : T → T → Bool) where
 
   -- The list `s` with `x` added as the new element: it replaces an equal element at its index, and is appended if there
   -- is none.
-  abbrev pub add_new : List T → T → List T
-  add_new s x = option_map_or (λ i. slice_set s i x) (item_index s x) (s ++ x ∷ [])
+  abbrev pub put_item : List T → T → List T
+  put_item s x = option_map_or (λ i. slice_set s i x) (item_index s x) (s ++ x ∷ [])
 
   -- The list `s` without the element that is equal to `x`.
   abbrev pub without_item : List T → T → List T
@@ -56,8 +53,8 @@ module _ {T : Type 0} (eq : T → T → Bool) where
 
   -- The elements of `a` that are in `b`, in the order of `a`.
   abbrev pub both : List T → List T → List T
-  both a b = filter (λ x. has_item b x) a
+  both a b = filter (λ x. is_member eq b x) a
 
   -- The elements of `a` that are not in `b`, in the order of `a`.
   abbrev pub only : List T → List T → List T
-  only a b = filter (λ x. not (has_item b x)) a
+  only a b = filter (λ x. not (is_member eq b x)) a

@@ -10,4 +10,5 @@ pub mod Orders
 pub mod Pairs
 pub mod Ranges
 pub mod Repeats
+pub mod Updated
 pub mod Walks

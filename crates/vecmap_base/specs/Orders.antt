@@ -1,6 +1,6 @@
 -- Closures over pairs or items: where they may be called, what they return, and the order that they give a list. The
 -- closures are `Fn`, so one statement holds for all calls.
-use Rattle.std.specs.Prelude.{◌≡◌, ◌<◌, ℕ, Bool, List, length, cond}
+use Rattle.std.specs.Prelude.{◌≡◌, ◌<◌, ℕ, Bool, Contains, List, length, cond}
 use Rattle.std.specs.Borrow.{Bor}
 use Rattle.std.specs.Cmp.{IsStrictWeakOrder}
 use Rattle.std.specs.Fn.{Shared}
@@ -26,9 +26,17 @@ CallableBelow g f n = (i : ℕ) → i < n → g.pre f (i, tt)
 abbrev pub AnswersOnItem : {F T R : Type 0} → Shared F (Bor T × Unit {0}) R → (T → R) → F → Type 0
 AnswersOnItem {F} {T} {R} g h f = (x : Bor T) (r : R) → g.post f (x, tt) r → r ≡ h x.now
 
+-- Each call of `f`, at an item of `xs`, returns what `h` gives of it.
+abbrev pub AnswersOnItems : {F T R : Type 0} → Shared F (Bor T × Unit {0}) R → (T → R) → F → List T → Type 0
+AnswersOnItems {F} {T} {R} g h f xs = (x : Bor T) (r : R) → Contains xs x.now → g.post f (x, tt) r → r ≡ h x.now
+
 -- Each call of `f`, at a key and its value, returns what `h` gives of the pair.
 abbrev pub AnswersOnPair : {F K V R : Type 0} → Shared F (Bor K × (Bor V × Unit {0})) R → (K × V → R) → F → Type 0
 AnswersOnPair {F} {K} {V} {R} g h f = (k : Bor K) (v : Bor V) (r : R) → g.post f (k, (v, tt)) r → r ≡ h (k.now, v.now)
+
+-- Each call of `f`, at the key and the value of a pair of `l`, returns what `h` gives of it.
+abbrev pub AnswersOnPairs : {F K V R : Type 0} → Shared F (Bor K × (Bor V × Unit {0})) R → (K × V → R) → F → List (K × V) → Type 0
+AnswersOnPairs {F} {K} {V} {R} g h f l = (k : Bor K) (v : Bor V) (r : R) → Contains l (k.now, v.now) → g.post f (k, (v, tt)) r → r ≡ h (k.now, v.now)
 
 -- How an item compares with a partition point: one that passes is less, and one that fails is greater.
 abbrev pub side : Bool → Ordering

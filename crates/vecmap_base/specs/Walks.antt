@@ -37,13 +37,13 @@ module _ {S A X : Type 0} (shows : A → X) (rest : S → List X) where
   abbrev pub ShowsAllOf : List X → S → Type 0
   ShowsAllOf l s = (rest s ≡ l) × (length l < 2 ^ 64) × EveryRun TakesFirstOf (λ p. ItemsMapTo p shows (rest p.from)) × EveryRun TakesLastOf (λ p. ItemsMapToReversed p shows (rest p.from))
 
--- `hint` is the exact `size_hint` of an iterator that has `n` items left.
+-- Both bounds of a `size_hint` allow for `n` items, as the trait `Iterator` requires.
+abbrev pub IsHintFor : ℕ → ℕ × Option ℕ → Type 0
+IsHintFor n hint = IsWithinCount hint.0 (at_most n) × IfSome hint.1 (UpTo (at_most n))
+
+-- `hint` is the exact `size_hint` of an iterator that has `n` items left: both bounds are `n`.
 pub record HintsExactly (n : ℕ) (hint : ℕ × Option ℕ) : Type 0 where
-  -- The lower bound is at most `n`, as the trait `Iterator` requires.
-  pub lower : IsWithinCount hint.0 (at_most n)
-  -- If there is an upper bound, it is at least `n`, as the trait requires.
-  pub upper : IfSome hint.1 (UpTo (at_most n))
-  -- Both bounds are `n`.
+  pub bounds : IsHintFor n hint
   pub exact : hint ≡ (n, Some n)
 
 -- The end at which a pull is made: `next` pulls from the front, `next_back` from the back.

@@ -22,9 +22,9 @@ const MARKS_LARGE: usize = 1024;
 ///
 /// # Complexity
 ///
-/// For two lists of n pairs, at most n² comparisons of keys. If they are equal in the same order, n comparisons. If
-/// they are equal and no keys repeat, at most n(n + 1)/2. If the rests have more than 1,024 pairs, the call counts each
-/// pair in both lists instead, with at most 2n² + 1 comparisons. Does not allocate.
+/// For two lists of n pairs that are equal in the same order, n comparisons of keys. If the rests have at most 1,024
+/// pairs, at most n² comparisons, and at most n(n + 1)/2 if the lists are equal and no keys repeat. If they have more,
+/// the call counts each pair in both lists, with at most 2n² + 1 comparisons. Does not allocate.
 ///
 /// # Examples
 ///
@@ -44,8 +44,8 @@ pub fn pairs_equal<K: Eq, V: PartialEq>(a: &[(K, V)], b: &[(K, V)]) -> bool
     rests_equal(&a[start..], &b[start..])
 }
 
-// Returns whether each pair of `a` occurs equally often in both lists. The first pairs differ. Up to two pairs need no
-// marks, and marks for a few pairs cost less to make than marks for many.
+// Returns `true` if each pair of `a` occurs equally often in both lists. The first pairs differ. Up to two pairs need
+// no marks, and marks for a few pairs cost less to make than marks for many.
 fn rests_equal<K: Eq, V: PartialEq>(a: &[(K, V)], b: &[(K, V)]) -> bool
     requires as_long { length a.now ≡ length b.now }
     requires not_empty { 0 < length a.now }
@@ -84,14 +84,15 @@ fn equal_front<K: Eq, V: PartialEq>(a: &[(K, V)], b: &[(K, V)]) -> usize
     a.len()
 }
 
-// Returns whether each pair of `a` occurs equally often in both lists. A pair that differs from itself has the count 0.
+// Returns `true` if each pair of `a` occurs equally often in both lists. A pair that differs from itself has the count
+// 0.
 fn counts_equal<K: Eq, V: PartialEq>(a: &[(K, V)], b: &[(K, V)]) -> bool
     ensures { result ≡ counts_agree K.eq V.eq a.now a.now b.now }
 {
     a.iter().all(|pair| occurs_equally_often(pair, a, b))
 }
 
-// Returns whether a pair occurs in `a`, and equally often in both lists.
+// Returns `true` if a pair occurs in `a`, and equally often in both lists.
 fn occurs_equally_often<K: Eq, V: PartialEq>(pair: &(K, V), a: &[(K, V)], b: &[(K, V)]) -> bool
     ensures { result ≡ (not (nat_eq (count K.eq V.eq a.now pair.now) 0)
         && nat_eq (count K.eq V.eq a.now pair.now) (count K.eq V.eq b.now pair.now)) }

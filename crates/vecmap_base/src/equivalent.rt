@@ -1,11 +1,12 @@
 //! Queries that match keys or elements.
 ghost use Rattle.std.proofs.Common.{sym, ◌∙◌};
 ghost use Rattle.std.proofs.lemmas.Bool.{and_parts};
-ghost use Rattle.std.specs.Prelude.{◌≡◌, ◌&&◌, Bool, IsTrue, bytes_eq, string_bytes};
+ghost use Rattle.std.specs.Prelude.{◌≡◌, ◌&&◌, Bool, bytes_eq, string_bytes};
 ghost use Rattle.std.specs.Arc.{arc_slice_items, arc_str_bytes};
 ghost use Rattle.std.specs.Box.{boxed_slice_items, boxed_str_bytes};
 ghost use Rattle.std.specs.Cmp.Lexicographic.{lists_equiv, nat_list_eq_equiv, pointwise};
 ghost use Rattle.std.specs.Cow.{cow_str_bytes};
+ghost use Rattle.std.specs.Map.{IsKeyTest};
 ghost use Rattle.std.specs.Rc.{rc_slice_items, rc_str_bytes};
 ghost use Rattle.vecmap_base.specs.Pairs.{has_text};
 
@@ -18,9 +19,9 @@ use std::sync::{Arc, ArcSlice, ArcStr};
 /// A query that may match keys, or elements.
 ///
 /// A `&K` matches the keys that are equal to it, and a `&T` also each `Box`, `Rc` and `Arc` whose value is equal to it.
-/// A `&str` matches the texts with the same bytes, whatever type holds them. A `&[T]` matches the vectors, and the boxed
-/// and shared slices, whose items are equal to its own. A pair of queries matches the pairs of keys whose parts they
-/// match.
+/// A `&str` matches the texts with the same bytes, whatever type holds them. A `&[T]` matches the vectors, and the
+/// boxed and shared slices, whose items are equal to its own. A pair of queries matches the pairs of keys whose parts
+/// they match.
 ///
 /// Other types can implement this trait. If a query matches a key, it must match the keys that are equal to that key,
 /// and no others.
@@ -40,7 +41,7 @@ pub trait Equivalent<K: Eq>: Copy {
         ensures { result ≡ equivalent self.now key.now };
 
     // If a query matches a key, it matches the keys that are equal to that key, and no others.
-    ghost respects_eq: { (query : Self) (x y : K) → IsTrue (equivalent query x) → equivalent query y ≡ K.eq x y };
+    ghost respects_eq: { (query : Self) → IsKeyTest K.eq (equivalent query) };
 }
 
 /// Matches the keys that are equal to the query.

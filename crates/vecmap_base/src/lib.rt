@@ -20,7 +20,9 @@ mod repeats;
 mod retain;
 mod search;
 mod steps;
+mod try_update;
 mod unrolled;
+mod update;
 
 pub use distinct::{items_distinct, keys_distinct};
 pub use drain::{move_range_last, reverse_from};
@@ -30,7 +32,7 @@ pub use iter::{IntoIter, IntoKeys, IntoValues, Iter, Keys, Values};
 pub use iter_mut::{IterMut, IterMut2, KeysMut, ValuesMut};
 pub use lookup::{
     contains_equivalent, contains_item, find, find_equivalent, find_item, find_item_equivalent,
-    find_item_str, find_str,
+    find_item_str, find_str, is_present,
 };
 pub use moving::{insert_reserved, remove_item, replace_and_move};
 pub use refused::Refused;
@@ -39,6 +41,8 @@ pub use repeats::{dedup_keep_first, dedup_keep_last_value, gather_items, gather_
 pub use retain::{retain_items, retain_pairs, retain_pairs_mut};
 pub use search::{partition_point, search_by_index, search_items_by_key, search_pairs_by_key};
 pub use steps::Steps;
+pub use try_update::try_update_pairs;
+pub use update::update_pairs;
 
 /// The iterators over a set's elements.
 pub mod items {

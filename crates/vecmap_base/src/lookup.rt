@@ -1,14 +1,26 @@
 //! Searches of a slice for the first key or item that is equal to one, has the bytes of a text, or matches a query.
 ghost use Rattle.std.specs.Prelude.{◌≡◌, ◌<◌, IfSome, length, position};
 ghost use Rattle.std.specs.List.{list_any};
-ghost use Rattle.vecmap_base.specs.Items.{has_item, item_index};
+ghost use Rattle.std.specs.Set.{is_member};
+ghost use Rattle.vecmap_base.specs.Items.{item_index};
 ghost use Rattle.vecmap_base.specs.Pairs.{has_text, index_by, index_of};
 
 use crate::equivalent::Equivalent;
 use crate::unrolled::{
-    MIN_LENGTH_FOR_BLOCKS, MIN_LENGTH_FOR_EIGHTS, MIN_LENGTH_FOR_FOURS, find_by_eights,
-    find_item_unrolled, find_pair_unrolled, is_any_in_blocks, is_small,
+    find_by_eights, find_item_unrolled, find_pair_unrolled, is_any_in_blocks, is_small,
 };
+
+// The least length of a list of small items for which `is_any_in_blocks` is faster than a plain loop.
+const MIN_LENGTH_FOR_BLOCKS: usize = 4;
+
+// The least length of a list of small items for which `find_item_unrolled` is faster.
+const MIN_LENGTH_FOR_FOURS: usize = 8;
+
+// The least length of a list of small items for which `find_by_eights` is faster.
+const MIN_LENGTH_FOR_EIGHTS: usize = 32;
+
+// The least length of a list for which a test whether an item is present is worth a call.
+pub(crate) const MIN_LENGTH_FOR_CALL: usize = 8;
 
 /// Returns the index of the first pair whose key is equal to `key`.
 ///
@@ -96,9 +108,38 @@ pub fn find_item_str(items: &[String], text: &str) -> Option<usize>
 /// contains_item(&['a', 'b'], &'c') // false
 /// ```
 pub fn contains_item<T: Eq>(items: &[T], item: &T) -> bool
-    ensures { result ≡ has_item T.eq items.now item.now }
+    ensures { result ≡ is_member T.eq items.now item.now }
 {
     contains_equivalent(items, item)
+}
+
+/// Like [`contains_item`], but the loop over few items becomes part of the caller.
+///
+/// # Complexity
+///
+/// At most `items.len()` comparisons.
+///
+/// # Examples
+///
+/// ```
+/// is_present(&['a', 'b'], &'c') // false
+/// ```
+#[inline(always)]
+pub fn is_present<T: Eq>(items: &[T], item: &T) -> bool
+    ensures { result ≡ is_member T.eq items.now item.now }
+{
+    if items.len() < MIN_LENGTH_FOR_CALL {
+        return is_in_few(items, item);
+    }
+    contains_item(items, item)
+}
+
+// The same as `contains_item`, for few items.
+#[inline(always)]
+pub(crate) fn is_in_few<T: Eq>(items: &[T], item: &T) -> bool
+    ensures { result ≡ is_member T.eq items.now item.now }
+{
+    items.iter().any(|other| *item == *other)
 }
 
 /// Returns the index of the first pair whose key matches `query`.
@@ -131,8 +172,8 @@ pub fn find_equivalent<K: Eq, V, Q: Equivalent<K>>(pairs: &[(K, V)], query: Q) -
 ///
 /// # Complexity
 ///
-/// At most `items.len()` comparisons. Among 32 items or more, of at most 8 bytes each, up to seven of them come after the
-/// one that matches.
+/// At most `items.len()` comparisons. Among 32 items or more, of at most 8 bytes each, up to seven of them come after
+/// the one that matches.
 ///
 /// # Examples
 ///

@@ -22,8 +22,8 @@ pub(crate) fn pairs_match_by_marks<const N: usize, K: Eq, V: PartialEq>(
     pairs_match(a, b, &mut [false; N])
 }
 
-// Returns whether each pair of `a` is matched with a pair of `b` that has an equal key and an equal value. `taken` has
-// no marks yet. The first pairs are known to differ, and are not compared with each other again.
+// Returns `true` if each pair of `a` is matched with a pair of `b` that has an equal key and an equal value. `taken`
+// has no marks yet. The first pairs are known to differ, and are not compared with each other again.
 fn pairs_match<K: Eq, V: PartialEq>(a: &[(K, V)], b: &[(K, V)], taken: &mut [bool]) -> bool
     requires as_long { length a.now ≡ length b.now }
     requires enough { length b.now ≤ length taken.old }
@@ -82,7 +82,7 @@ fn find_free<K: Eq, V: PartialEq>(pairs: &[(K, V)], taken: &[bool], pair: &(K, V
     None
 }
 
-// Returns whether the keys of two pairs are equal, and their values too.
+// Returns `true` if the keys of two pairs are equal, and their values too.
 pub(crate) fn is_same<K: Eq, V: PartialEq>(p: &(K, V), q: &(K, V)) -> bool
     ensures { result ≡ same_pair K.eq V.eq p.now q.now }
 {

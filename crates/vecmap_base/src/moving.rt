@@ -3,13 +3,16 @@ ghost use Rattle.std.specs.Prelude.{◌≡◌, ◌<◌, ◌≤◌, Some, insert,
 
 use std::mem::{replace, size_of_val};
 
-// The largest size, in bytes, of an item that moves one by one, or that `remove_item` removes by a rotation.
+// The largest size, in bytes, of items that are carried one by one, and not by a rotation.
+const MAX_BYTES_FOR_CARRYING: usize = 64;
+
+// The largest lengths of a part of a list whose items are carried one by one, to the left and to the right.
+const MAX_CARRIED_LEFT: usize = 8;
+
+const MAX_CARRIED_RIGHT: usize = 32;
+
+// The largest size, in bytes, of an item that `remove_item` moves by a rotation.
 const MAX_BYTES_FOR_ROTATION: usize = 64;
-
-// The greatest numbers of items that move one by one, and not by a rotation, to the left and to the right.
-const MAX_MOVED_LEFT_SINGLY: usize = 8;
-
-const MAX_MOVED_RIGHT_SINGLY: usize = 32;
 
 /// Replaces the item at `from`, moves the new item to `to`, and returns the old one.
 ///
@@ -38,11 +41,11 @@ pub fn replace_and_move<T>(items: &mut Vec<T>, from: usize, to: usize, item: T) 
     ensures items { items.new.items ≡ insert (remove items.old.items from) to item }
     ensures capacity { vec_capacity items.new ≡ vec_capacity items.old }
 {
-    let is_small = size_of_val(&item) <= MAX_BYTES_FOR_ROTATION;
-    if is_small && from <= to && to - from < MAX_MOVED_LEFT_SINGLY {
+    let is_small = size_of_val(&item) <= MAX_BYTES_FOR_CARRYING;
+    if is_small && from <= to && to - from < MAX_CARRIED_LEFT {
         return carry_left(items, from, to + 1, item);
     }
-    if is_small && to < from && from - to < MAX_MOVED_RIGHT_SINGLY {
+    if is_small && to < from && from - to < MAX_CARRIED_RIGHT {
         return carry_right(items, to, from + 1, item);
     }
     replace_and_rotate(items, from, to, item)
@@ -108,9 +111,7 @@ pub fn insert_reserved<T>(items: &mut Vec<T>, index: usize, item: T)
     ensures items { items.new.items ≡ insert items.old.items index item }
     ensures capacity { vec_capacity items.new ≡ vec_capacity items.old }
 {
-    if size_of_val(&item) <= MAX_BYTES_FOR_ROTATION
-        && items.len() - index <= MAX_MOVED_RIGHT_SINGLY
-    {
+    if size_of_val(&item) <= MAX_BYTES_FOR_CARRYING && items.len() - index <= MAX_CARRIED_RIGHT {
         let end = items.len();
         let last = carry_right(items, index, end, item);
         items.push_reserved(last);
@@ -120,7 +121,7 @@ pub fn insert_reserved<T>(items: &mut Vec<T>, index: usize, item: T)
     items[index..].rotate_right(1);
 }
 
-// Like `remove_item`, by one rotation of the item and those after it.
+// Like `remove_item`, by one rotation of the item and those after it. Large items move by `Vec::remove`.
 fn remove_and_shift<T>(items: &mut Vec<T>, index: usize) -> T
     requires within { index < length items.old.items }
     ensures item { slice_get items.old.items index ≡ Some result }

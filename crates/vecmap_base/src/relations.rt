@@ -1,13 +1,11 @@
 //! Relations of two lists of items, seen as sets.
 ghost use Rattle.std.specs.Prelude.{◌≡◌, ◌↔◌, IsTrue, []};
 ghost use Rattle.std.specs.List.{list_any};
+ghost use Rattle.std.specs.Set.{is_member};
 ghost use Rattle.vecmap_base.specs.Equality.{is_within};
-ghost use Rattle.vecmap_base.specs.Items.{both, has_item};
+ghost use Rattle.vecmap_base.specs.Items.{both};
 
-use crate::lookup::contains_item;
-
-// The least length of the other list for which a relation looks each item up by a call.
-const MIN_LENGTH_FOR_LOOKUPS: usize = 8;
+use crate::lookup::{MIN_LENGTH_FOR_CALL, contains_item, is_in_few};
 
 /// Returns `true` if each of `items` is equal to one of `others`.
 ///
@@ -25,7 +23,7 @@ const MIN_LENGTH_FOR_LOOKUPS: usize = 8;
 pub fn are_within<T: Eq>(items: &[T], others: &[T]) -> bool
     ensures { result ≡ is_within T.eq items.now others.now }
 {
-    if others.len() < MIN_LENGTH_FOR_LOOKUPS {
+    if others.len() < MIN_LENGTH_FOR_CALL {
         return are_within_few(items, others);
     }
     items.iter().all(|item| contains_item(others, item))
@@ -51,17 +49,18 @@ pub fn are_disjoint<T: Eq>(items: &[T], others: &[T]) -> bool
     !overlap(items, others)
 }
 
-// Returns whether one of `items` is equal to one of `others`.
+// Returns `true` if one of `items` is equal to one of `others`.
 fn overlap<T: Eq>(items: &[T], others: &[T]) -> bool
-    ensures { result ≡ list_any (has_item T.eq others.now) items.now }
+    ensures { result ≡ list_any (is_member T.eq others.now) items.now }
 {
-    if others.len() < MIN_LENGTH_FOR_LOOKUPS {
+    if others.len() < MIN_LENGTH_FOR_CALL {
         return overlap_few(items, others);
     }
     items.iter().any(|item| contains_item(others, item))
 }
 
-// The same as `are_within`, for few others. It is not inlined, so that neither loop depends on the code around the other.
+// The same as `are_within`, for few others. It is not inlined, so that neither loop depends on the code around the
+// other.
 #[inline(never)]
 fn are_within_few<T: Eq>(items: &[T], others: &[T]) -> bool
     ensures { result ≡ is_within T.eq items.now others.now }
@@ -72,14 +71,7 @@ fn are_within_few<T: Eq>(items: &[T], others: &[T]) -> bool
 // The same as `overlap`, for few others. It is not inlined, either.
 #[inline(never)]
 fn overlap_few<T: Eq>(items: &[T], others: &[T]) -> bool
-    ensures { result ≡ list_any (has_item T.eq others.now) items.now }
+    ensures { result ≡ list_any (is_member T.eq others.now) items.now }
 {
     items.iter().any(|item| is_in_few(others, item))
-}
-
-// The same as `contains_item`, for few items.
-fn is_in_few<T: Eq>(items: &[T], item: &T) -> bool
-    ensures { result ≡ has_item T.eq items.now item.now }
-{
-    items.iter().any(|other| *item == *other)
 }

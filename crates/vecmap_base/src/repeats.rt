@@ -5,17 +5,18 @@
 ghost use Rattle.std.specs.Prelude.{◌≡◌, ◌+◌, ◌<◌, ◌≤◌, [], IfSome, length, swap, take, vec_capacity};
 ghost use Rattle.std.specs.List.Sorted.{IsPermutation};
 ghost use Rattle.std.specs.Map.{keys_of, values_of};
-ghost use Rattle.vecmap_base.specs.Items.{adds, has_item};
+ghost use Rattle.std.specs.Set.{is_member};
+ghost use Rattle.vecmap_base.specs.Items.{adds};
 ghost use Rattle.vecmap_base.specs.Pairs.{index_of, puts};
 ghost use Rattle.vecmap_base.specs.Repeats.{comparisons, cost, search_cost};
 
 use crate::steps::Steps;
 use std::mem;
 
-// Returns whether an element of `front` is equal to `item`. Stops at the first equal element.
+// Returns `true` if an element of `front` is equal to `item`. Stops at the first equal element.
 fn is_repeat<T: Eq>(front: &[T], item: &T, steps: &mut Steps) -> bool
     requires bounded { steps.old + length front.now ≤ u128.MAX }
-    ensures repeat { result ≡ has_item T.eq front.now item.now }
+    ensures repeat { result ≡ is_member T.eq front.now item.now }
     ensures counted { steps.new ≡ steps.old + search_cost T.eq front.now item.now }
 {
     for stored in front {

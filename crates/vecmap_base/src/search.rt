@@ -4,16 +4,16 @@ ghost use Rattle.std.specs.Prelude.{◌≡◌, ◌<◌, ◌≤◌, Bool, false, 
 ghost use Rattle.std.specs.List.{All, HoldsAt};
 ghost use Rattle.std.specs.List.Sorted.{IsBinarySearchResult, IsPartitionPoint, IsPartitionedBy, IsSearchInRange};
 ghost use Rattle.std.specs.declared.cmp.Ordering.{Ordering};
-ghost use Rattle.vecmap_base.specs.Orders.{AnswersAtIndex, AnswersOnItem, AnswersOnPair};
+ghost use Rattle.vecmap_base.specs.Orders.{AnswersAtIndex, AnswersOnItems, AnswersOnPairs};
 ghost use Rattle.vecmap_base.specs.Orders.{CallableBelow, CallableOnItem, CallableOnPair, side};
 
 use std::cmp::Ordering;
 
 /// Searches `items` with `f`, which compares the item at an index with what is sought.
 ///
-/// `f` returns `Less` for the first items, then `Equal`, then `Greater`. `Ok` holds the index of an equal item. If there
-/// is none, `Err` holds the number of items that are less. If the items are in another order, `Ok` is still the index of
-/// an equal item, but `Err` says nothing.
+/// `f` returns `Less` for the first items, then `Equal`, then `Greater`. `Ok` holds the index of an equal item. If
+/// there is none, `Err` holds the number of items that are less. If the items are in another order, `Ok` is still the
+/// index of an equal item, but `Err` says nothing.
 ///
 /// # Conditions
 ///
@@ -78,7 +78,7 @@ pub fn search_pairs_by_key<'a, K, V, B: Ord + Drop, F: Fn(&'a K, &'a V) -> B>(
 ) -> Result<usize, usize>
     requires callable { All (CallableOnPair F.Fn f) pairs.now }
     ensures within { IsSearchInRange result (length pairs.now) }
-    ensures index { (key_of : K × V → B) → AnswersOnPair F.Fn key_of f
+    ensures index { (key_of : K × V → B) → AnswersOnPairs F.Fn key_of f pairs.now
         → IsBinarySearchResult (λ p. B.cmp (key_of p) key.now) pairs.now result }
 {
     search_by_index(
@@ -86,7 +86,7 @@ pub fn search_pairs_by_key<'a, K, V, B: Ord + Drop, F: Fn(&'a K, &'a V) -> B>(
         |index: usize| -> Ordering
             requires callable { All (CallableOnPair F.Fn f) pairs.now }
             requires within { index < length pairs.now }
-            ensures { (key_of : K × V → B) → AnswersOnPair F.Fn key_of f
+            ensures { (key_of : K × V → B) → AnswersOnPairs F.Fn key_of f pairs.entry.now
                 → HoldsAt (λ p. result ≡ B.cmp (key_of p) key.entry.now) pairs.entry.now index }
         {
             let pair = &pairs[index];
@@ -120,7 +120,7 @@ pub fn search_items_by_key<'a, T, B: Ord + Drop, F: Fn(&'a T) -> B>(
 ) -> Result<usize, usize>
     requires callable { All (CallableOnItem F.Fn f) items.now }
     ensures within { IsSearchInRange result (length items.now) }
-    ensures index { (key_of : T → B) → AnswersOnItem F.Fn key_of f
+    ensures index { (key_of : T → B) → AnswersOnItems F.Fn key_of f items.now
         → IsBinarySearchResult (λ x. B.cmp (key_of x) key.now) items.now result }
 {
     search_by_index(
@@ -128,7 +128,7 @@ pub fn search_items_by_key<'a, T, B: Ord + Drop, F: Fn(&'a T) -> B>(
         |index: usize| -> Ordering
             requires callable { All (CallableOnItem F.Fn f) items.now }
             requires within { index < length items.now }
-            ensures { (key_of : T → B) → AnswersOnItem F.Fn key_of f
+            ensures { (key_of : T → B) → AnswersOnItems F.Fn key_of f items.entry.now
                 → HoldsAt (λ x. result ≡ B.cmp (key_of x) key.entry.now) items.entry.now index }
         { f(&items[index]).cmp(key) },
     )
@@ -154,7 +154,8 @@ pub fn search_items_by_key<'a, T, B: Ord + Drop, F: Fn(&'a T) -> B>(
 pub fn partition_point<T, P: Fn(&T) -> bool>(items: &[T], pred: P) -> usize
     requires callable { All (CallableOnItem P.Fn pred) items.now }
     ensures within { result ≤ length items.now }
-    ensures index { (p : T → Bool) → AnswersOnItem P.Fn p pred → IsPartitionedBy p items.now
+    ensures index { (p : T → Bool) → AnswersOnItems P.Fn p pred items.now
+        → IsPartitionedBy p items.now
         → IsPartitionPoint (λ x. p x ≡ true) (λ x. p x ≡ false) items.now result }
 {
     let found = search_by_index(
@@ -162,7 +163,7 @@ pub fn partition_point<T, P: Fn(&T) -> bool>(items: &[T], pred: P) -> usize
         |index: usize| -> Ordering
             requires callable { All (CallableOnItem P.Fn pred) items.now }
             requires within { index < length items.now }
-            ensures { (p : T → Bool) → AnswersOnItem P.Fn p pred
+            ensures { (p : T → Bool) → AnswersOnItems P.Fn p pred items.entry.now
                 → HoldsAt (λ x. result ≡ side (p x)) items.entry.now index }
         {
             if pred(&items[index]) {
@@ -178,8 +179,8 @@ pub fn partition_point<T, P: Fn(&T) -> bool>(items: &[T], pred: P) -> usize
     }
 }
 
-// Returns `n` if `condition` holds, and 0 otherwise. The minimum of two numbers compiles to no branch. A branch would be
-// predicted wrongly in every second iteration of a search.
+// Returns `n` if `condition` holds, and 0 otherwise. The minimum of two numbers compiles to no branch. A branch would
+// be predicted wrongly in every second iteration of a search.
 #[inline]
 fn only_if(condition: bool, n: usize) -> usize
     ensures { result ≡ (if condition then n else 0) }

@@ -14,16 +14,7 @@ use std::mem::size_of_val;
 // The size of a word in bytes.
 const WORD: usize = 8;
 
-// The least length of a list for which `is_any_in_blocks` is faster than a plain loop.
-pub(crate) const MIN_LENGTH_FOR_BLOCKS: usize = 4;
-
-// The least length of a list for which `find_item_unrolled` is faster.
-pub(crate) const MIN_LENGTH_FOR_FOURS: usize = 8;
-
-// The least length of a list for which `find_by_eights` is faster.
-pub(crate) const MIN_LENGTH_FOR_EIGHTS: usize = 32;
-
-// Returns whether an item is no larger than a word, as a `u64` is and a text is not.
+// Returns `true` if an item is no larger than a word, as a `u64` is and a text is not.
 pub(crate) fn is_small<T>(item: &T) -> bool {
     size_of_val(item) <= WORD
 }
@@ -163,7 +154,7 @@ fn find_from<'a, T, F: Fn(&'a T) -> bool>(items: &'a [T], from: usize, asks: F) 
     None
 }
 
-// Returns whether `asks` returns `true` for an item. It asks about eight items before it branches, then about four, and
+// Returns `true` if `asks` does for an item. It asks about eight items before it branches, then about four, and
 // about the others one by one.
 pub(crate) fn is_any_in_blocks<'a, T, F: Fn(&'a T) -> bool>(items: &'a [T], asks: F) -> bool
     requires { F.IsAlwaysCallable asks }
@@ -185,7 +176,7 @@ pub(crate) fn is_any_in_blocks<'a, T, F: Fn(&'a T) -> bool>(items: &'a [T], asks
     is_any_from(items, from, asks)
 }
 
-// Returns whether `asks` returns `true` for one of the eight items from `at` on. It asks about each of them once.
+// Returns `true` if `asks` does for one of the eight items from `at` on. It asks about each of them once.
 fn is_any_of_eight<'a, T, F: Fn(&'a T) -> bool>(items: &'a [T], at: usize, asks: &F) -> bool
     requires callable { F.IsAlwaysCallable asks.now }
     requires within { at + 8 ≤ length items.now }
@@ -209,8 +200,7 @@ fn is_any_of_four<'a, T, F: Fn(&'a T) -> bool>(items: &'a [T], at: usize, asks: 
     a | b | c | d
 }
 
-// Returns whether `asks` returns `true` for one of the items from `from` on. For each item before `from` it returns
-// `false`.
+// Returns `true` if `asks` does for one of the items from `from` on. For each item before `from` it returns `false`.
 fn is_any_from<'a, T, F: Fn(&'a T) -> bool>(items: &'a [T], from: usize, asks: F) -> bool
     requires callable { F.IsAlwaysCallable asks }
     requires none_before { (p : T → Bool) → AnswersOnItem F.Fn p asks

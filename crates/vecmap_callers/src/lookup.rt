@@ -1,7 +1,7 @@
 //! Callers of lookups by index and by element.
 ghost use Rattle.std.specs.Prelude.{◌≡◌, MatchOption, nat_eq, slice_get};
+ghost use Rattle.std.specs.Set.{is_member};
 ghost use Rattle.vecmap.specs.Equality.{has_same_items};
-ghost use Rattle.vecmap.specs.Items.{has_item};
 
 use vecmap::VecSet;
 
@@ -14,7 +14,7 @@ pub fn first_or_zero(set: &VecSet<u32>) -> u32
 
 /// Returns `true` if a set of sets contains a set. The `==` of its elements is that of sets.
 pub fn has_set(sets: &VecSet<VecSet<u32>>, set: &VecSet<u32>) -> bool
-    ensures { result ≡ has_item
+    ensures { result ≡ is_member
         (λ a b. has_same_items nat_eq a.elements b.elements) sets.now.elements set.now }
 {
     sets.contains(set)

@@ -1,6 +1,6 @@
 -- What lookups find after a write of the value that a query finds. The idea: the write is `put` of any key that the
 -- query matches, so the lemmas on `put` hold.
-use Rattle.std.specs.{Cmp.IsEquivalence, Cmp.Lexicographic.nat_list_eq_equiv, declared.alloc.Global.Global, Map.keys_of, Option.option_and_then, Option.option_map_or}
+use Rattle.std.specs.{Cmp.IsEquivalence, Cmp.Lexicographic.nat_list_eq_equiv, declared.alloc.Global.Global, Map.IsKeyTest, Map.keys_of, Option.option_and_then, Option.option_map_or}
 use Rattle.std.proofs.Common.{◌≡◌, ℕ, Bool, false, List, [], ◌∷◌, None, Option, Some, IsSome, IsTrue, bytes_eq, string_bytes, string_eq, String, refl, unwrap_or, sym, ap, subst, ◌∙◌, get_or, true≢false}
 use Rattle.std.proofs.lemmas.List.Quantifiers.{position-Some}
 use Rattle.vecmap_base.specs.Pairs.{has_text, index_by, lookup, lookup_by, put, value_at, with_value}
@@ -34,7 +34,7 @@ written_back test m v = by (index_by test m.entries)
     by None e = refl
     by (Some i) e = ap (with_entries m) (ap (with_value m.entries i) (sym (ap (λ o. unwrap_or o v) e)) ∙ with_own_value m.entries i v)
 
-module _ {K V : Type 0} (eq : K → K → Bool) (o : IsEquivalence eq) (test : K → Bool) (respects : (x y : K) → IsTrue (test x) → test y ≡ eq x y) where
+module _ {K V : Type 0} (eq : K → K → Bool) (o : IsEquivalence eq) (test : K → Bool) (respects : IsKeyTest eq test) where
   -- A write of the value that a query finds is `put` of each key that the query matches.
   pub with_value_by_is_put : (m : Contents K V) (k : K) (v : V) → IsTrue (test k) → IsSome (index_by test m.entries) → (with_value_by test m v).entries ≡ put eq m.entries k v
   with_value_by_is_put m k v h there =
@@ -48,7 +48,7 @@ module _ {K V : Type 0} (eq : K → K → Bool) (o : IsEquivalence eq) (test : K
       ap (lookup_by test) (with_value_by_is_put m w.0 v w.1 there) ∙ lookup_put_query eq o test respects m.entries w.0 v w.1
 
   -- A query that matches no such key finds what it found before.
-  pub lookup_written_other_query : (other : K → Bool) → ((x y : K) → IsTrue (other x) → other y ≡ eq x y) → ((k : K) → IsTrue (test k) → other k ≡ false) → (m : Contents K V) (v : V) → lookup_by other (with_value_by test m v).entries ≡ lookup_by other m.entries
+  pub lookup_written_other_query : (other : K → Bool) → IsKeyTest eq other → ((k : K) → IsTrue (test k) → other k ≡ false) → (m : Contents K V) (v : V) → lookup_by other (with_value_by test m v).entries ≡ lookup_by other m.entries
   lookup_written_other_query other respects_other apart m v = by (index_by test m.entries) refl
     where
       by : (found : Option ℕ) → index_by test m.entries ≡ found → lookup_by other (with_value_by test m v).entries ≡ lookup_by other m.entries

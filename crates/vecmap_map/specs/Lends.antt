@@ -1,5 +1,5 @@
 -- What a `VecMap` is once a mutable reference into it has ended.
-use Rattle.std.specs.Prelude.{ℕ, Bool, [], ◌∷◌}
+use Rattle.std.specs.Prelude.{ℕ, Bool, List, [], ◌∷◌}
 use Rattle.std.specs.declared.option.Option.{Option}
 use Rattle.std.specs.declared.option.Option.TheVariants.{None, Some}
 use Rattle.std.specs.Borrow.{RattleType, Fml, GName, Array, Bor, MutBor, Lends, LendsIf, LendsBoth, LendsBothIf, follows, follows_if, follows_both_if}
@@ -87,3 +87,7 @@ module _ (K V : RattleType) (m : MutBor (Contents K.Denot V.Denot)) where
   -- its capacity.
   abbrev pub lends_pairs : GName → Fml
   lends_pairs r = follows (the_row K V) (Array (Tuple (K ∷ V ∷ [])) 0) m.ghost_name r (with_written m.now)
+
+  -- The same of a slice of pairs.
+  abbrev pub lends_slice : MutBor (List (K.Denot × V.Denot)) → Fml
+  lends_slice r = lends_pairs r.ghost_name

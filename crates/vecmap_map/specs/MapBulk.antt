@@ -10,6 +10,10 @@ module _ {K V : Type 0} where
   abbrev pub ArePairClones : (K → K → Type 0) → (V → V → Type 0) → List (K × V) → List (K × V) → Type 0
   ArePairClones key_clone value_clone l m = AreClones (IsPairClone key_clone value_clone) l m
 
+  -- No clone of the key or of the value of `p` fails.
+  abbrev pub ClonesSucceed : clone.Ghosts K → clone.Ghosts V → K × V → Type 0
+  ClonesSucceed keys values p = keys.is_infallible p.0 × values.is_infallible p.1
+
 module _ {K V : Type 0} (eq : K → K → Bool) where
   -- Insertions of the pairs, in order, turn old into new.
   abbrev pub Puts : Contents K V → List (K × V) → Contents K V → Type 0

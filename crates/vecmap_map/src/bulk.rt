@@ -2,10 +2,10 @@
 ghost use Rattle.std.specs.Prelude.{◌≡◌, ◌<◌, ◌+◌, ◌≤◌, ◌⊎◌, ◌/◌, IfOk, IsOk, List, None, OnErr, OnOk, [], if◌then◌else◌, length, map};
 ghost use Rattle.std.specs.Iterator.{Drains, ExtendsWithItems, IsFiniteIterable};
 ghost use Rattle.std.specs.Map.Iter.{deref_pair};
-ghost use Rattle.vecmap_base.specs.Bulk.{HasRoomForAll, StopsAt};
+ghost use Rattle.vecmap_base.specs.Bulk.{HasRoomForAll, HoldsOfEach, StopsAt};
 ghost use Rattle.vecmap_base.specs.Pairs.{put, puts};
 ghost use Rattle.vecmap_map.specs.Contents.{HasRoom, KeepsRoomAt, Refuses, with_entries};
-ghost use Rattle.vecmap_map.specs.MapBulk.{ArePairClones, Puts, PutsClones, RefusesAfter, RefusesClonesAfter};
+ghost use Rattle.vecmap_map.specs.MapBulk.{ArePairClones, ClonesSucceed, Puts, PutsClones, RefusesAfter, RefusesClonesAfter};
 
 use crate::VecMap;
 use std::alloc::{AllocError, Global};
@@ -188,7 +188,7 @@ impl<K, V> VecMap<K, V> {
         Ok(())
     }
 
-    /// Like [`VecMap::extend`], but inserts clones of the keys and values that the iterator lends.
+    /// Like [`VecMap::extend`], with the same cost, but inserts clones of the keys and values that the iterator lends.
     ///
     /// This is Rust's `Extend<(&K, &V)>`. An existing key stays as it is, and the clone of the equal key is dropped.
     ///
@@ -222,8 +222,9 @@ impl<K, V> VecMap<K, V> {
             (map deref_pair items) new) iter self.old self.new result }
         ensures capacity { self.old.capacity ≤ self.new.capacity }
         ensures succeeds { HasRoomForAll I.into_iter_gives I.IntoIter.remaining iter
-            (length self.old.entries) self.old.capacity → ((k : K) → K.is_infallible k)
-            → ((v : V) → V.is_infallible v) → IsOk result }
+            (length self.old.entries) self.old.capacity
+            → HoldsOfEach I.into_iter_gives I.IntoIter.next_gives iter
+            (λ item. ClonesSucceed K.Clone V.Clone (deref_pair item)) → IsOk result }
         ensures capacity_stays { HasRoomForAll I.into_iter_gives I.IntoIter.remaining iter
             (length self.old.entries) self.old.capacity → self.new.capacity ≡ self.old.capacity }
 
@@ -242,7 +243,7 @@ impl<K, V> VecMap<K, V> {
         Ok(())
     }
 
-    /// Like [`VecMap::extend_refs`], but for an iterator over references to pairs.
+    /// Like [`VecMap::extend_refs`], with the same cost, but for an iterator over references to pairs.
     ///
     /// This is Rust's `Extend<&(K, V)>`. An existing key stays as it is, and the clone of the equal key is dropped.
     ///
@@ -274,8 +275,9 @@ impl<K, V> VecMap<K, V> {
             (map (λ p. p.now) items) new) iter self.old self.new result }
         ensures capacity { self.old.capacity ≤ self.new.capacity }
         ensures succeeds { HasRoomForAll I.into_iter_gives I.IntoIter.remaining iter
-            (length self.old.entries) self.old.capacity → ((k : K) → K.is_infallible k)
-            → ((v : V) → V.is_infallible v) → IsOk result }
+            (length self.old.entries) self.old.capacity
+            → HoldsOfEach I.into_iter_gives I.IntoIter.next_gives iter
+            (λ item. ClonesSucceed K.Clone V.Clone item.now) → IsOk result }
         ensures capacity_stays { HasRoomForAll I.into_iter_gives I.IntoIter.remaining iter
             (length self.old.entries) self.old.capacity → self.new.capacity ≡ self.old.capacity }
 

@@ -6,8 +6,8 @@ use vecmap_base::pairs_equal;
 
 /// Two maps are equal if each pair, by its key and its value, occurs equally often in both.
 ///
-/// If no keys repeat, this means that each key of either map has an equal value in both. A map with a value that differs
-/// from itself, as a NaN does, is not equal to any map, not even to itself.
+/// If no keys repeat, this means that each key of either map has an equal value in both. A map with a value that
+/// differs from itself, as a NaN does, is not equal to any map, not even to itself.
 ///
 /// # Complexity
 ///

@@ -1,12 +1,12 @@
 //! The trait `Extend` of a map, for generic code, `try_collect` and `partition`.
 //!
-//! Each impl calls the inherent function that it names, and says the same of a refusal. Generic code knows only what the
-//! trait says: that some first part of the items was inserted.
+//! Each impl calls the inherent function that it names, and says the same of a refusal. Generic code knows only what
+//! the trait says: that some first part of the items was inserted.
 ghost use Rattle.std.specs.Iterator.{ExtendsWithItems, IsFiniteIterable};
 ghost use Rattle.std.specs.Map.Iter.{deref_pair};
 ghost use Rattle.std.specs.Prelude.{◌≡◌, ◌≤◌, ◌⊎◌, IsOk, OnErr, length, map};
-ghost use Rattle.vecmap_base.specs.Bulk.{HasRoomForAll, StopsAt};
-ghost use Rattle.vecmap_map.specs.MapBulk.{Puts, PutsClones, RefusesAfter, RefusesClonesAfter};
+ghost use Rattle.vecmap_base.specs.Bulk.{HasRoomForAll, HoldsOfEach, StopsAt};
+ghost use Rattle.vecmap_map.specs.MapBulk.{ClonesSucceed, Puts, PutsClones, RefusesAfter, RefusesClonesAfter};
 
 use crate::VecMap;
 use std::alloc::AllocError;
@@ -15,8 +15,16 @@ use std::alloc::AllocError;
 ///
 /// # Errors
 ///
-/// [`AllocError`] if the allocator refuses a request. If it refuses the reservation, the map is unchanged. If it refuses
-/// to grow the map for a pair, the pairs before it are in the map.
+/// [`AllocError`] if the allocator refuses a request. If it refuses the reservation, the map is unchanged. If it
+/// refuses to grow the map for a pair, the pairs before it are in the map.
+///
+/// # Conditions
+///
+/// The iterator ends.
+///
+/// # Complexity
+///
+/// One lookup for each pair, with at most as many comparisons as the map then has pairs.
 ///
 /// # Examples
 ///
@@ -37,6 +45,8 @@ impl<K: Eq + Drop, V: Drop> Extend<(K, V)> for VecMap<K, V> {
             iter self.old self.new result }
         ensures succeeds { HasRoomForAll I.into_iter_gives I.IntoIter.remaining iter
             (length self.old.entries) self.old.capacity → IsOk result }
+        ensures capacity_stays { HasRoomForAll I.into_iter_gives I.IntoIter.remaining iter
+            (length self.old.entries) self.old.capacity → self.new.capacity ≡ self.old.capacity }
         ensures err { OnErr result ((self.new ≡ self.old)
             ⊎ StopsAt I.into_iter_gives I.IntoIter.next_gives iter
             (λ pairs next. RefusesAfter K.eq self.old pairs next self.new)) }
@@ -49,8 +59,16 @@ impl<K: Eq + Drop, V: Drop> Extend<(K, V)> for VecMap<K, V> {
 ///
 /// # Errors
 ///
-/// [`AllocError`] if the allocator refuses a request, or if a clone is refused. If the reservation is refused, the map is
-/// unchanged. If a pair or one of its clones is refused, clones of the pairs before it are in the map.
+/// [`AllocError`] if the allocator refuses a request, or if a clone is refused. If the reservation is refused, the map
+/// is unchanged. If a pair or one of its clones is refused, clones of the pairs before it are in the map.
+///
+/// # Conditions
+///
+/// The iterator ends.
+///
+/// # Complexity
+///
+/// One lookup for each pair, with at most as many comparisons as the map then has pairs.
 ///
 /// # Examples
 ///
@@ -69,8 +87,11 @@ impl<'a, K: Eq + Clone + 'a, V: Clone + 'a> Extend<(&'a K, &'a V)> for VecMap<K,
             (λ old pairs new. PutsClones K.eq K.is_clone V.is_clone old (map deref_pair pairs) new
             × (old.capacity ≤ new.capacity)) iter self.old self.new result }
         ensures succeeds { HasRoomForAll I.into_iter_gives I.IntoIter.remaining iter
-            (length self.old.entries) self.old.capacity → ((k : K) → K.is_infallible k)
-            → ((v : V) → V.is_infallible v) → IsOk result }
+            (length self.old.entries) self.old.capacity
+            → HoldsOfEach I.into_iter_gives I.IntoIter.next_gives iter
+            (λ item. ClonesSucceed K.Clone V.Clone (deref_pair item)) → IsOk result }
+        ensures capacity_stays { HasRoomForAll I.into_iter_gives I.IntoIter.remaining iter
+            (length self.old.entries) self.old.capacity → self.new.capacity ≡ self.old.capacity }
         ensures err { OnErr result ((self.new ≡ self.old)
             ⊎ StopsAt I.into_iter_gives I.IntoIter.next_gives iter
             (λ items next. RefusesClonesAfter K.eq K.Clone V.Clone self.old (map deref_pair items)
@@ -84,8 +105,16 @@ impl<'a, K: Eq + Clone + 'a, V: Clone + 'a> Extend<(&'a K, &'a V)> for VecMap<K,
 ///
 /// # Errors
 ///
-/// [`AllocError`] if the allocator refuses a request, or if a clone is refused. If the reservation is refused, the map is
-/// unchanged. If a pair or one of its clones is refused, clones of the pairs before it are in the map.
+/// [`AllocError`] if the allocator refuses a request, or if a clone is refused. If the reservation is refused, the map
+/// is unchanged. If a pair or one of its clones is refused, clones of the pairs before it are in the map.
+///
+/// # Conditions
+///
+/// The iterator ends.
+///
+/// # Complexity
+///
+/// One lookup for each pair, with at most as many comparisons as the map then has pairs.
 ///
 /// # Examples
 ///
@@ -103,8 +132,11 @@ impl<'a, K: Eq + Clone + 'a, V: Clone + 'a> Extend<&'a (K, V)> for VecMap<K, V> 
             (λ old pairs new. PutsClones K.eq K.is_clone V.is_clone old (map (λ p. p.now) pairs) new
             × (old.capacity ≤ new.capacity)) iter self.old self.new result }
         ensures succeeds { HasRoomForAll I.into_iter_gives I.IntoIter.remaining iter
-            (length self.old.entries) self.old.capacity → ((k : K) → K.is_infallible k)
-            → ((v : V) → V.is_infallible v) → IsOk result }
+            (length self.old.entries) self.old.capacity
+            → HoldsOfEach I.into_iter_gives I.IntoIter.next_gives iter
+            (λ item. ClonesSucceed K.Clone V.Clone item.now) → IsOk result }
+        ensures capacity_stays { HasRoomForAll I.into_iter_gives I.IntoIter.remaining iter
+            (length self.old.entries) self.old.capacity → self.new.capacity ≡ self.old.capacity }
         ensures err { OnErr result ((self.new ≡ self.old)
             ⊎ StopsAt I.into_iter_gives I.IntoIter.next_gives iter
             (λ items next. RefusesClonesAfter K.eq K.Clone V.Clone self.old

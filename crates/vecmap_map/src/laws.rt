@@ -2,8 +2,10 @@
 ghost use Rattle.std.specs.Prelude.{◌≡◌, ◌≢◌, ◌↔◌, ◌<◌, ◌≤◌, ◌++◌, ◌∷◌, ℕ, Bool, IsTrue, List, None, Option, [], drop, false, filter, length, remove, reverse, slice_range, swap, take};
 ghost use Rattle.std.specs.List.{remove_range};
 ghost use Rattle.std.specs.List.Sorted.{IsPermutation};
-ghost use Rattle.vecmap_base.specs.Clones.{AreClones, ClonesAreSame, IsPairClone};
-ghost use Rattle.vecmap_base.specs.Equality.{agrees, counts_agree, has_same_counts, same_option};
+ghost use Rattle.std.specs.Option.{option_eq};
+ghost use Rattle.std.specs.Set.{ClonesAreEqual};
+ghost use Rattle.vecmap_base.specs.Clones.{AreClones, IsPairClone};
+ghost use Rattle.vecmap_base.specs.Equality.{agrees, counts_agree, has_same_counts};
 ghost use Rattle.vecmap_base.specs.Items.{swap_without};
 ghost use Rattle.vecmap_base.specs.Pairs.{HasDistinctKeys, index_of, lookup, put, put_at, put_key, puts, swap_without_by, swap_without_key, with_value, without_by};
 ghost use Rattle.vecmap_base.specs.Walks.{End, Pulls, PullsBy};
@@ -62,9 +64,9 @@ pub fn equality_is_agreement<K: Eq, V: Eq>()
         → has_same_counts K.eq V.eq a b ≡ agrees K.eq V.eq a b }
     ensures lookups { (a b : List (K × V)) → HasDistinctKeys K.eq a → HasDistinctKeys K.eq b
         → IsTrue (has_same_counts K.eq V.eq a b)
-        ↔ ((k : K) → IsTrue (same_option V.eq (lookup K.eq a k) (lookup K.eq b k))) }
+        ↔ ((k : K) → IsTrue (option_eq V.eq (lookup K.eq a k) (lookup K.eq b k))) }
     ensures every_key { (a b : List (K × V)) → IsTrue (agrees K.eq V.eq a b) → (k : K)
-        → IsTrue (same_option V.eq (lookup K.eq a k) (lookup K.eq b k)) }
+        → IsTrue (option_eq V.eq (lookup K.eq a k) (lookup K.eq b k)) }
 {}
 
 /// Maps of different lengths are not equal. For maps of the same length it is enough to count the pairs of one of them.
@@ -151,10 +153,10 @@ pub fn order_keeps_keys_distinct<K: Eq, V>()
 /// The same holds after the clone of a key that is not present has been appended.
 #[tactic(auto, using(crate::proofs::LawLemmas::clones_keep_keys_distinct))]
 pub fn clones_keep_keys_distinct<K: Eq + Clone, V: Clone>()
-    ensures stored { ClonesAreSame K.eq K.is_clone → (l : List (K × V)) (key clone : K) (v : V)
+    ensures stored { ClonesAreEqual K.eq K.is_clone → (l : List (K × V)) (key clone : K) (v : V)
         → K.is_clone key clone → index_of K.eq l key ≡ None → HasDistinctKeys K.eq l
         → HasDistinctKeys K.eq (l ++ (clone, v) ∷ []) }
-    ensures pairs { ClonesAreSame K.eq K.is_clone → (l m : List (K × V))
+    ensures pairs { ClonesAreEqual K.eq K.is_clone → (l m : List (K × V))
         → AreClones (IsPairClone K.is_clone V.is_clone) l m → HasDistinctKeys K.eq l
         → HasDistinctKeys K.eq m }
 {}

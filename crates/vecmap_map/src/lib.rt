@@ -21,6 +21,7 @@ mod order;
 mod removal;
 mod room;
 mod search;
+mod updating;
 
 pub use drain::Drain;
 pub use entry::{Entry, OccupiedEntry, VacantEntry};

@@ -7,7 +7,7 @@ ghost use Rattle.vecmap_base.specs.Kept.{Kept};
 ghost use Rattle.vecmap_base.specs.Pairs.{index_by, lookup_pair_by};
 ghost use Rattle.vecmap_base.specs.Lending.{iter_mut2_name, iter_mut2_rest, keys_mut_name, keys_mut_rest};
 ghost use Rattle.vecmap_base.specs.Walks.{ShowsAllOf, deref_both_mut, deref_mut};
-ghost use Rattle.vecmap_map.specs.Lends.{lends_pairs, lends_parts};
+ghost use Rattle.vecmap_map.specs.Lends.{lends_pairs, lends_parts, lends_slice};
 
 use crate::VecMap;
 use vecmap_base::{Equivalent, IterMut2, KeysMut, retain_pairs_mut};
@@ -23,8 +23,8 @@ impl<K, V> sealed::Sealed for VecMap<K, V> {}
 /// No other type can implement this trait. A key may be written so that it equals another one. It then stays as it was
 /// written, and lookups find the first of the two.
 ///
-/// A proof of a caller that the search makes does not learn what the map holds once a key or a value was written through
-/// such a reference. It learns what [`MutableKeys::retain2`] leaves.
+/// A proof of a caller that the search makes does not learn what the map holds once a key or a value was written
+/// through such a reference. It learns what [`MutableKeys::retain2`] leaves.
 pub trait MutableKeys: sealed::Sealed {
     type Key;
 
@@ -140,6 +140,26 @@ pub trait MutableKeys: sealed::Sealed {
     /// map.as_slice() // [('A', 1), ('B', 2)]
     /// ```
     fn keys_mut(&mut self) -> KeysMut<'_, Self::Key, Self::Value>;
+
+    /// Returns the pairs as a mutable slice.
+    ///
+    /// A proof of a loop over it knows each pair that the loop has written, and the map has these pairs once the slice
+    /// is no longer used.
+    ///
+    /// # Complexity
+    ///
+    /// Constant time. Does not allocate.
+    ///
+    /// # Examples
+    ///
+    /// ```
+    /// let mut map = vecmap!(alloc; 'a' => 1, 'b' => 2);
+    /// for (_key, value) in map.as_mut_slice().iter_mut() {
+    ///     *value = 3;
+    /// }
+    /// map.as_slice() // [('a', 3), ('b', 3)]
+    /// ```
+    fn as_mut_slice(&mut self) -> &mut [(Self::Key, Self::Value)];
 }
 
 impl<K, V> MutableKeys for VecMap<K, V> {
@@ -210,6 +230,13 @@ impl<K, V> MutableKeys for VecMap<K, V> {
         ensures rest { ShowsAllOf deref_mut keys_mut_rest (keys_of self.old.entries) result }
     {
         KeysMut::over(&mut self.pairs)
+    }
+
+    fn as_mut_slice(&mut self) -> &mut [(K, V)]
+        ensures* writes_back { sem 𝓛 (lends_slice K.row V.row self.entry result) }
+        ensures pairs { result.now ≡ self.old.entries }
+    {
+        self.pairs.as_mut_slice()
     }
 }
 

@@ -141,8 +141,8 @@ impl<K, V> VecMap<K, V> {
 
     /// Reduces the capacity as much as possible.
     ///
-    /// All pairs may be moved. The call never fails: if the allocator refuses a smaller block, the capacity stays. If there
-    /// are no pairs, nothing is requested, and the capacity is 0 afterwards.
+    /// All pairs may be moved. The call never fails: if the allocator refuses a smaller block, the capacity stays. If
+    /// there are no pairs, nothing is requested, and the capacity is 0 afterwards.
     ///
     /// # Examples
     ///

@@ -1,9 +1,9 @@
 //! Binary searches in sorted pairs. None allocates, and each looks at about log2(n) of n pairs.
-ghost use Rattle.std.specs.Prelude.{◌≡◌, ◌<◌, ◌≤◌, Bool, false, length, true};
+ghost use Rattle.std.specs.Prelude.{◌≡◌, ◌<◌, ◌≤◌, Bool, Contains, List, false, length, true};
 ghost use Rattle.std.specs.List.{All, HoldsAt};
 ghost use Rattle.std.specs.List.Sorted.{IsBinarySearchResult, IsPartitionPoint, IsPartitionedBy, IsSearchInRange};
 ghost use Rattle.std.specs.declared.cmp.Ordering.{Ordering};
-ghost use Rattle.vecmap_base.specs.Orders.{AnswersOnPair, CallableOnPair};
+ghost use Rattle.vecmap_base.specs.Orders.{AnswersOnPairs, CallableOnPair};
 
 use crate::VecMap;
 use std::cmp::Ordering;
@@ -69,7 +69,7 @@ impl<K, V> VecMap<K, V> {
     ) -> Result<usize, usize>
         requires callable { All (CallableOnPair F.Fn f) self.now.entries }
         ensures within { IsSearchInRange result (length self.now.entries) }
-        ensures index { (ord : K × V → Ordering) → AnswersOnPair F.Fn ord f
+        ensures index { (ord : K × V → Ordering) → AnswersOnPairs F.Fn ord f self.now.entries
             → IsBinarySearchResult ord self.now.entries result }
     {
         let pairs = self.pairs.as_slice();
@@ -78,7 +78,7 @@ impl<K, V> VecMap<K, V> {
             |index: usize| -> Ordering
                 requires callable { All (CallableOnPair F.Fn f) pairs.now }
                 requires within { index < length pairs.now }
-                ensures { (ord : K × V → Ordering) → AnswersOnPair F.Fn ord f
+                ensures { (ord : K × V → Ordering) → AnswersOnPairs F.Fn ord f pairs.entry.now
                     → HoldsAt (λ p. result ≡ ord p) pairs.entry.now index }
             {
                 let pair = &pairs[index];
@@ -112,7 +112,7 @@ impl<K, V> VecMap<K, V> {
     ) -> Result<usize, usize>
         requires callable { All (CallableOnPair F.Fn f) self.now.entries }
         ensures within { IsSearchInRange result (length self.now.entries) }
-        ensures index { (key_of : K × V → B) → AnswersOnPair F.Fn key_of f
+        ensures index { (key_of : K × V → B) → AnswersOnPairs F.Fn key_of f self.now.entries
             → IsBinarySearchResult (λ p. B.cmp (key_of p) key.now) self.now.entries result }
     {
         let pairs = self.pairs.as_slice();
@@ -138,7 +138,7 @@ impl<K, V> VecMap<K, V> {
     pub fn partition_point<P: Fn(&K, &V) -> bool>(&self, pred: P) -> usize
         requires callable { All (CallableOnPair P.Fn pred) self.now.entries }
         ensures within { result ≤ length self.now.entries }
-        ensures index { (p : K × V → Bool) → AnswersOnPair P.Fn p pred
+        ensures index { (p : K × V → Bool) → AnswersOnPairs P.Fn p pred self.now.entries
             → IsPartitionedBy p self.now.entries
             → IsPartitionPoint (λ x. p x ≡ true) (λ x. p x ≡ false) self.now.entries result }
     {
@@ -146,7 +146,8 @@ impl<K, V> VecMap<K, V> {
             &self.pairs,
             |pair: &(K, V)| -> bool
                 requires { CallableOnPair P.Fn pred pair.now }
-                ensures { (p : K × V → Bool) → AnswersOnPair P.Fn p pred → result ≡ p pair.now }
+                ensures { (p : K × V → Bool) (l : List (K × V)) → AnswersOnPairs P.Fn p pred l
+                    → Contains l pair.now → result ≡ p pair.now }
             { pred(&pair.0, &pair.1) },
         )
     }

@@ -1,10 +1,11 @@
 -- What `intersection` and `union` yield, whichever of two lists is longer. The idea: a fact about two lists in either
 -- order is one about the shorter and the other.
+use Rattle.std.specs.Set.{is_member}
 use Rattle.std.proofs.Common.{◌≡◌, ◌+◌, ◌∙◌, Bool, true, false, ◌&&◌, ◌||◌, List, arith, if◌then◌else◌, length, nat_lt, not}
 use Rattle.std.proofs.lemmas.List.Folds.{list_any-append}
 use Rattle.std.specs.{Cmp.IsEquivalence, List.IsDistinct}
-use Rattle.vecmap_base.specs.{Equality.has_same_items, Items.both, Items.has_item, Items.only}
-use Rattle.vecmap_base.proofs.EqualityLemmas.{Sets.set_equality_laws, Relations.both_turned, Relations.has_item_only, Relations.length_both_turned, Relations.length_union, Relations.union_turned}
+use Rattle.vecmap_base.specs.{Equality.has_same_items, Items.both, Items.only}
+use Rattle.vecmap_base.proofs.EqualityLemmas.{Sets.set_equality_laws, Relations.both_turned, Relations.is_member_only, Relations.length_both_turned, Relations.length_union, Relations.union_turned}
 use Rattle.vecmap_set.specs.{Lazy.longer, Lazy.not_longer, Lazy.not_shorter, Lazy.shorter, Operators.lazy_intersection, Operators.lazy_union, Operators.symmetric_difference_of, Operators.union_of}
 
 module _ {T : Type 0} (a b : List T) (P : List T → List T → Type 0) where
@@ -26,8 +27,8 @@ module _ {T : Type 0} (a b : List T) (P : List T → List T → Type 0) where
 
 module _ {T : Type 0} (eq : T → T → Bool) (o : IsEquivalence eq) (a b : List T) where
   -- An element is in the symmetric difference if it is in exactly one of the two lists.
-  pub has_item_symmetric_difference : (x : T) → has_item eq (symmetric_difference_of eq a b) x ≡ ((has_item eq a x && not (has_item eq b x)) || (has_item eq b x && not (has_item eq a x)))
-  has_item_symmetric_difference x = list_any-append (eq x) (only eq a b) (only eq b a) ∙ (λ i. has_item_only eq o a b x i || has_item_only eq o b a x i)
+  pub is_member_symmetric_difference : (x : T) → is_member eq (symmetric_difference_of eq a b) x ≡ ((is_member eq a x && not (is_member eq b x)) || (is_member eq b x && not (is_member eq a x)))
+  is_member_symmetric_difference x = list_any-append (eq x) (only eq a b) (only eq b a) ∙ (λ i. is_member_only eq o a b x i || is_member_only eq o b a x i)
 
   -- The lazy lists are equal, as sets, to those of the operators.
   pub lazy_intersection_is_both : has_same_items eq (lazy_intersection eq a b) (both eq a b) ≡ true

@@ -1,17 +1,17 @@
 -- The lemmas that prove the clauses of a law, in lists that the laws name by `using(..)`.
-use Rattle.vecmap_base.proofs.DistinctLemmas.{Absent.distinct_none, Additions.distinct_add, Additions.distinct_add_new, Additions.distinct_adds}
+use Rattle.vecmap_base.proofs.DistinctLemmas.{Absent.distinct_none, Additions.distinct_add, Additions.distinct_put_item, Additions.distinct_adds}
 use Rattle.vecmap_base.proofs.{DrainRuns.drains_pull, DrainRuns.keeps_pulled, KeptLemmas.kept_by_states, KeptLemmas.kept_in_state}
-use Rattle.vecmap_base.proofs.EqualityLemmas.Relations.{both_empty_turned, both_turned, distinct_only, distinct_symmetric_difference, distinct_union, has_item_both, has_item_only, has_item_union, symmetric_difference_turned, union_turned}
+use Rattle.vecmap_base.proofs.EqualityLemmas.Relations.{both_empty_turned, both_turned, distinct_only, distinct_symmetric_difference, distinct_union, is_member_both, is_member_only, is_member_union, symmetric_difference_turned, union_turned}
 use Rattle.vecmap_base.proofs.EqualityLemmas.Sets.{longer_not_within, set_equal_by_half, set_lengths_differ}
 use Rattle.vecmap_base.proofs.ItemsLemmas.Additions.{add_absent, add_present, adds_append, adds_distinct}
-use Rattle.vecmap_base.proofs.ItemsLemmas.Members.{adds_as_append, has_item_add, has_item_added, has_item_adds, has_item_kept, item_index_adds, item_index_adds_kept, slice_get_adds}
+use Rattle.vecmap_base.proofs.ItemsLemmas.Members.{adds_as_append, is_member_add, is_member_added, is_member_adds, is_member_kept, item_index_adds, item_index_adds_kept, slice_get_adds}
 use Rattle.vecmap_base.proofs.ItemsLemmas.Indices.{item_index_add, slice_get_add}
-use Rattle.vecmap_base.proofs.ItemsLemmas.Queries.{has_item_query, item_index_query, stored_item_query, swap_without_item_query, without_item_query, without_query_absent}
+use Rattle.vecmap_base.proofs.ItemsLemmas.Queries.{is_member_query, item_index_query, stored_item_query, swap_without_item_query, without_item_query, without_query_absent}
 use Rattle.vecmap_base.proofs.PairsLemmas.Queries.{same_text, string_equality, text_respects}
-use Rattle.vecmap_set.proofs.AlgebraLemmas.{has_item_symmetric_difference, lazy_intersection_is_both, lazy_intersection_turned, lazy_lengths_add, lazy_union_is_union, lengths_add, on_longer, on_shorter}
+use Rattle.vecmap_set.proofs.AlgebraLemmas.{is_member_symmetric_difference, lazy_intersection_is_both, lazy_intersection_turned, lazy_lengths_add, lazy_union_is_union, lengths_add, on_longer, on_shorter}
 use Rattle.vecmap_set.proofs.QueryLemmas.{found_after_other, found_after_own, index_after_other, index_after_own}
 
-pub ruleset additions_keep_elements_distinct = (distinct_none, distinct_add, distinct_adds, distinct_add_new)
+pub ruleset additions_keep_elements_distinct = (distinct_none, distinct_add, distinct_adds, distinct_put_item)
 
 pub ruleset additions_move_nothing = (item_index_add, slice_get_add, add_present, add_absent)
 
@@ -33,14 +33,14 @@ pub ruleset drains_pull_as_lists = (drains_pull, keeps_pulled)
 
 pub ruleset queries_find_after_additions = (index_after_own, found_after_own, index_after_other, found_after_other)
 
-pub ruleset texts_find_as_strings = (item_index_query, string_equality, text_respects, same_text, has_item_query, stored_item_query, swap_without_item_query, found_after_other, without_query_absent)
+pub ruleset texts_find_as_strings = (item_index_query, string_equality, text_respects, same_text, is_member_query, stored_item_query, swap_without_item_query, found_after_other, without_query_absent)
 
 pub ruleset lengths_tell_of_inclusion = (set_lengths_differ, longer_not_within, set_equal_by_half)
 
-pub ruleset added_elements_are_present = (has_item_added, has_item_kept, has_item_add, has_item_adds)
+pub ruleset added_elements_are_present = (is_member_added, is_member_kept, is_member_add, is_member_adds)
 
-pub ruleset operators_combine_members = (has_item_both, has_item_union, has_item_only, has_item_symmetric_difference)
+pub ruleset operators_combine_members = (is_member_both, is_member_union, is_member_only, is_member_symmetric_difference)
 
-pub ruleset queries_find_as_elements = (item_index_query, has_item_query, without_item_query, stored_item_query, without_query_absent)
+pub ruleset queries_find_as_elements = (item_index_query, is_member_query, without_item_query, stored_item_query, without_query_absent)
 
 pub ruleset retain_filters = (kept_in_state, kept_by_states)

@@ -10,7 +10,7 @@ use Rattle.std.specs.Iterator.{UpTo, at_most}
 use Rattle.std.specs.Iterator.Runs.{YieldsRefsInOrder, YieldsRefsInReverse}
 use Rattle.std.specs.List.{after_first, before_last, filter, position_or_len, prefix_len, suffix_len}
 use Rattle.std.specs.Option.{IfSome, SomeIff}
-use Rattle.vecmap_set.specs.Lazy.{ExcludesFirst, ExcludesLast, JoinsFirst, JoinsLast, Parts, Sift, SiftsFirst, SiftsLast, exclusive, joined, lacks_item, sifted}
+use Rattle.vecmap_set.specs.Lazy.{ExcludesFirst, ExcludesLast, JoinsFirst, JoinsLast, Parts, Sift, SiftsFirst, SiftsLast, lacks_item, sift_rest, symmetric_rest, union_rest}
 
 module _ {T : Type 0} (p : T → Bool) where
   -- An element at the front that is kept.
@@ -53,37 +53,37 @@ module _ {T : Type 0} (p : T → Bool) where
 
 module _ {T : Type 0} (keeps : List T → T → Bool) where
   -- Each run of pulls gives what is left, in order or in reverse.
-  pub sifts_in_order : YieldsRefsInOrder (SiftsFirst keeps) (sifted keeps)
-  sifts_in_order = from_front (SiftsFirst keeps) (λ y. y.now) (sifted keeps) (λ s t h. ap length h.0.0) (λ s x t h. h.0)
+  pub sifts_in_order : YieldsRefsInOrder (SiftsFirst keeps) (sift_rest keeps)
+  sifts_in_order = from_front (SiftsFirst keeps) (λ y. y.now) (sift_rest keeps) (λ s t h. ap length h.0.0) (λ s x t h. h.0)
 
-  pub sifts_in_reverse : YieldsRefsInReverse (SiftsLast keeps) (sifted keeps)
-  sifts_in_reverse = from_back (SiftsLast keeps) (λ y. y.now) (sifted keeps) (λ s t h. ap length h.0.0) (λ s x t h. h.0)
+  pub sifts_in_reverse : YieldsRefsInReverse (SiftsLast keeps) (sift_rest keeps)
+  sifts_in_reverse = from_back (SiftsLast keeps) (λ y. y.now) (sift_rest keeps) (λ s t h. ap length h.0.0) (λ s x t h. h.0)
 
 module _ {T : Type 0} (eq : T → T → Bool) where
-  pub joins_in_order : YieldsRefsInOrder (JoinsFirst eq) (joined eq)
-  joins_in_order = from_front (JoinsFirst eq) (λ y. y.now) (joined eq) (λ s t h. ap length h.0.0) (λ s x t h. h.0)
+  pub joins_in_order : YieldsRefsInOrder (JoinsFirst eq) (union_rest eq)
+  joins_in_order = from_front (JoinsFirst eq) (λ y. y.now) (union_rest eq) (λ s t h. ap length h.0.0) (λ s x t h. h.0)
 
-  pub joins_in_reverse : YieldsRefsInReverse (JoinsLast eq) (joined eq)
-  joins_in_reverse = from_back (JoinsLast eq) (λ y. y.now) (joined eq) (λ s t h. ap length h.0.0) (λ s x t h. h.0)
+  pub joins_in_reverse : YieldsRefsInReverse (JoinsLast eq) (union_rest eq)
+  joins_in_reverse = from_back (JoinsLast eq) (λ y. y.now) (union_rest eq) (λ s t h. ap length h.0.0) (λ s x t h. h.0)
 
-  pub excludes_in_order : YieldsRefsInOrder (ExcludesFirst eq) (exclusive eq)
-  excludes_in_order = from_front (ExcludesFirst eq) (λ y. y.now) (exclusive eq) (λ s t h. ap length h.0.0) (λ s x t h. h.0)
+  pub excludes_in_order : YieldsRefsInOrder (ExcludesFirst eq) (symmetric_rest eq)
+  excludes_in_order = from_front (ExcludesFirst eq) (λ y. y.now) (symmetric_rest eq) (λ s t h. ap length h.0.0) (λ s x t h. h.0)
 
-  pub excludes_in_reverse : YieldsRefsInReverse (ExcludesLast eq) (exclusive eq)
-  excludes_in_reverse = from_back (ExcludesLast eq) (λ y. y.now) (exclusive eq) (λ s t h. ap length h.0.0) (λ s x t h. h.0)
+  pub excludes_in_reverse : YieldsRefsInReverse (ExcludesLast eq) (symmetric_rest eq)
+  excludes_in_reverse = from_back (ExcludesLast eq) (λ y. y.now) (symmetric_rest eq) (λ s t h. ap length h.0.0) (λ s x t h. h.0)
 
 -- No more elements are kept than the list has.
 pub length_filter : {T : Type 0} (p : T → Bool) (xs : List T) → length (filter p xs) ≤ length xs
 length_filter p xs = omega (arith, length-filter_both p (λ x. not (p x)) (λ x. refl) xs)
 
 -- The same for two parts.
-pub length_joined : {T : Type 0} (eq : T → T → Bool) (s : Parts (List T) (Sift T)) → length (joined eq s) ≤ length s.first + length s.second.unwalked
-length_joined eq s =
+pub length_union_rest : {T : Type 0} (eq : T → T → Bool) (s : Parts (List T) (Sift T)) → length (union_rest eq s) ≤ length s.first + length s.second.unwalked
+length_union_rest eq s =
     let kept = lacks_item eq s.second.other in
     omega (arith, length-append s.first (filter kept s.second.unwalked), length_filter kept s.second.unwalked)
 
-pub length_paired : {T : Type 0} (eq : T → T → Bool) (s : Parts (Sift T) (Sift T)) → length (exclusive eq s) ≤ length s.first.unwalked + length s.second.unwalked
-length_paired eq s =
+pub length_symmetric_rest : {T : Type 0} (eq : T → T → Bool) (s : Parts (Sift T) (Sift T)) → length (symmetric_rest eq s) ≤ length s.first.unwalked + length s.second.unwalked
+length_symmetric_rest eq s =
     let one = lacks_item eq s.first.other in
     let two = lacks_item eq s.second.other in
     omega (arith, length-append (filter one s.first.unwalked) (filter two s.second.unwalked), length_filter one s.first.unwalked, length_filter two s.second.unwalked)

@@ -1,6 +1,6 @@
 -- What a query finds after an addition. By induction on the list for an element that does not match. A matching element
 -- is found as an equal one is.
-use Rattle.std.specs.{Cmp.IsEquivalence, List.list_any}
+use Rattle.std.specs.{Cmp.IsEquivalence, List.list_any, Map.IsKeyTest}
 use Rattle.std.proofs.Common.{◌≡◌, Bool, true, false, List, [], ◌∷◌, Some, IsTrue, if◌then◌else◌, is_some, length, option_map, position, suc, unwrap_or, sym, ap, cond, ◌∙◌, inl, inr}
 use Rattle.std.proofs.lemmas.Bool.{cases_Bool}
 use Rattle.vecmap_base.specs.Items.{add, item_index}
@@ -25,7 +25,7 @@ module _ {T : Type 0} (eq : T → T → Bool) (test : T → Bool) where
   pub found_after_other : (s : List T) (x : T) → test x ≡ false → list_any test (add eq s x) ≡ list_any test s
   found_after_other s x n = list_any_position test (add eq s x) ∙ ap is_some (index_after_other s x n) ∙ is_some_position test s
 
-  module _ (o : IsEquivalence eq) (respects : (x y : T) → IsTrue (test x) → test y ≡ eq x y) where
+  module _ (o : IsEquivalence eq) (respects : IsKeyTest eq test) where
     -- After an addition of an element that matches, it finds the index of an equal existing element, or the last index.
     pub index_after_own : (s : List T) (x : T) → IsTrue (test x) → position test (add eq s x) ≡ Some (unwrap_or (position test s) (length s))
     index_after_own s x h =

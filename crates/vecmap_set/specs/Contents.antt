@@ -1,6 +1,6 @@
 -- What a contract sees of a `VecSet`, and what calls say of its capacity.
 use Rattle.std.specs.Prelude.{◌≡◌, ◌+◌, ◌<◌, ◌≤◌, ℕ, Bool, IsOk, IsTrue, List, OnErr, OnOk, Result, false, length}
-use Rattle.vecmap_base.specs.Items.{has_item}
+use Rattle.std.specs.Set.{is_member}
 
 -- The elements from the first to the last, and how many of them fit before the vector grows.
 pub record Contents (T : Type 0) : Type 0 where
@@ -35,11 +35,11 @@ module _ {T : Type 0} (eq : T → T → Bool) where
   -- capacity for one more element.
   pub record KeepsRoom (old : Contents T) (x : T) (new : Contents T) : Type 0 where
     pub capacity : old.capacity ≤ new.capacity
-    pub present : IsTrue (has_item eq old.elements x) → new.capacity ≡ old.capacity
+    pub present : IsTrue (is_member eq old.elements x) → new.capacity ≡ old.capacity
     pub spare : HasRoom old 1 → new.capacity ≡ old.capacity
 
   -- The element x was refused: the set is unchanged, no equal element is present, and the set is full.
   pub record Refuses (old : Contents T) (x : T) (new : Contents T) : Type 0 where
     pub unchanged : new ≡ old
-    pub absent : has_item eq old.elements x ≡ false
+    pub absent : is_member eq old.elements x ≡ false
     pub full : IsFull old

@@ -1,13 +1,12 @@
 -- What the lazy iterators over two lists of elements have left, and what their pulls give. `eq` is the `==` of the
 -- elements.
-use Rattle.std.specs.Prelude.{◌≡◌, ℕ, ◌<◌, ◌^◌, Bool, IfSome, List, ◌++◌, ◌⊎◌, MatchOption, None, Option, Some, SomeIff, filter, if◌then◌else◌, length, map, nat_lt, not, option_map}
+use Rattle.std.specs.Prelude.{◌≡◌, ℕ, ◌<◌, ◌^◌, Bool, List, ◌++◌, ◌⊎◌, MatchOption, None, Option, Some, SomeIff, filter, if◌then◌else◌, length, map, nat_lt, not, option_map}
 use Rattle.std.specs.Borrow.{Bor}
-use Rattle.std.specs.Iterator.{UpTo, YieldsFirstRef, YieldsLastRef, at_most}
+use Rattle.std.specs.Iterator.{YieldsFirstRef, YieldsLastRef}
 use Rattle.std.specs.Iterator.Runs.{YieldsRefsInOrder, YieldsRefsInReverse}
-use Rattle.std.specs.Iterator.SizeHint.{IsWithinCount}
 use Rattle.std.specs.List.{after_first, before_last}
 use Rattle.std.specs.Map.Iter.{TakesFirst, TakesLast, deref}
-use Rattle.vecmap_base.specs.Items.{has_item}
+use Rattle.std.specs.Set.{is_member}
 use Rattle.vecmap_base.specs.Walks.{End, Pulls, PullsBy}
 
 -- The elements that are not yet visited, and the list in which each of them is looked up.
@@ -57,10 +56,6 @@ module _ {T : Type 0} where
   abbrev pub symmetric_parts : List T → List T → Parts (Sift T) (Sift T)
   symmetric_parts a b = record { first = sift_of a b; second = sift_of b a }
 
--- Both bounds of a hint allow for n items, as the trait `Iterator` requires.
-abbrev pub IsHintFor : ℕ → ℕ × Option ℕ → Type 0
-IsHintFor n hint = IsWithinCount hint.0 (at_most n) × IfSome hint.1 (UpTo (at_most n))
-
 -- The bound r is n, or none if n is greater than `usize::MAX`.
 abbrev pub IsBound : Option ℕ → ℕ → Type 0
 IsBound r n = SomeIff r (n < 2 ^ 64) n
@@ -82,58 +77,58 @@ module _ {S T : Type 0} (rest : S → List T) (next next_back : S → Option (Bo
 
 module _ {T : Type 0} (keeps : List T → T → Bool) where
   -- The elements that are not yet visited and are kept.
-  abbrev pub sifted : Sift T → List T
-  sifted s = filter (keeps s.other) s.unwalked
+  abbrev pub sift_rest : Sift T → List T
+  sift_rest s = filter (keeps s.other) s.unwalked
 
   -- `next` at s gave r, the first element that is kept. It left t, without this element and those before it.
   abbrev pub SiftsFirst : Sift T → Option (Bor T) → Sift T → Type 0
-  SiftsFirst s r t = YieldsFirstRef sifted s r t × (t ≡ record s { unwalked = after_first (keeps s.other) s.unwalked })
+  SiftsFirst s r t = YieldsFirstRef sift_rest s r t × (t ≡ record s { unwalked = after_first (keeps s.other) s.unwalked })
 
   -- `next_back` at s gave r, the last element that is kept. It left t, without this element and those after it.
   abbrev pub SiftsLast : Sift T → Option (Bor T) → Sift T → Type 0
-  SiftsLast s r t = YieldsLastRef sifted s r t × (t ≡ record s { unwalked = before_last (keeps s.other) s.unwalked })
+  SiftsLast s r t = YieldsLastRef sift_rest s r t × (t ≡ record s { unwalked = before_last (keeps s.other) s.unwalked })
 
   -- The iterator `r` is in the state `s`, and lends the elements that are left there and kept.
   abbrev pub SiftsAll : Sift T → Sift T → Type 0
-  SiftsAll = LendsAll sifted SiftsFirst SiftsLast
+  SiftsAll = LendsAll sift_rest SiftsFirst SiftsLast
 
 module _ {T : Type 0} (eq : T → T → Bool) where
   -- Whether no element of s is equal to x.
   abbrev pub lacks_item : List T → T → Bool
-  lacks_item s x = not (has_item eq s x)
+  lacks_item s x = not (is_member eq s x)
 
   -- The elements of one list, and then those of another that are not among them, as far as they are left.
-  abbrev pub joined : Parts (List T) (Sift T) → List T
-  joined s = s.first ++ sifted lacks_item s.second
+  abbrev pub union_rest : Parts (List T) (Sift T) → List T
+  union_rest s = s.first ++ sift_rest lacks_item s.second
 
   -- `next` at s gave r, and left t. It asks the first part, and then the second.
   abbrev pub JoinsFirst : Parts (List T) (Sift T) → Option (Bor T) → Parts (List T) (Sift T) → Type 0
-  JoinsFirst s r t = YieldsFirstRef joined s r t × AsksThen (TakesFirst deref) (SiftsFirst lacks_item) s.first s.second r t.first t.second
+  JoinsFirst s r t = YieldsFirstRef union_rest s r t × AsksThen (TakesFirst deref) (SiftsFirst lacks_item) s.first s.second r t.first t.second
 
   -- `next_back` at s gave r, and left t. It asks the second part, and then the first.
   abbrev pub JoinsLast : Parts (List T) (Sift T) → Option (Bor T) → Parts (List T) (Sift T) → Type 0
-  JoinsLast s r t = YieldsLastRef joined s r t × AsksThen (SiftsLast lacks_item) (TakesLast deref) s.second s.first r t.second t.first
+  JoinsLast s r t = YieldsLastRef union_rest s r t × AsksThen (SiftsLast lacks_item) (TakesLast deref) s.second s.first r t.second t.first
 
-  -- The iterator `r` is in the state `s`, and lends the elements that are joined there.
+  -- The iterator `r` is in the state `s`, and lends the union that is left there.
   abbrev pub JoinsAll : Parts (List T) (Sift T) → Parts (List T) (Sift T) → Type 0
-  JoinsAll = LendsAll joined JoinsFirst JoinsLast
+  JoinsAll = LendsAll union_rest JoinsFirst JoinsLast
 
   -- The elements of either list that are not in the other, as far as they are left.
-  abbrev pub exclusive : Parts (Sift T) (Sift T) → List T
-  exclusive s = sifted lacks_item s.first ++ sifted lacks_item s.second
+  abbrev pub symmetric_rest : Parts (Sift T) (Sift T) → List T
+  symmetric_rest s = sift_rest lacks_item s.first ++ sift_rest lacks_item s.second
 
   -- `next` at s gave r, and left t. It asks the first part, and then the second.
   abbrev pub ExcludesFirst : Parts (Sift T) (Sift T) → Option (Bor T) → Parts (Sift T) (Sift T) → Type 0
-  ExcludesFirst s r t = YieldsFirstRef exclusive s r t × AsksThen (SiftsFirst lacks_item) (SiftsFirst lacks_item) s.first s.second r t.first t.second
+  ExcludesFirst s r t = YieldsFirstRef symmetric_rest s r t × AsksThen (SiftsFirst lacks_item) (SiftsFirst lacks_item) s.first s.second r t.first t.second
 
   -- `next_back` at s gave r, and left t. It asks the second part, and then the first.
   abbrev pub ExcludesLast : Parts (Sift T) (Sift T) → Option (Bor T) → Parts (Sift T) (Sift T) → Type 0
-  ExcludesLast s r t = YieldsLastRef exclusive s r t × AsksThen (SiftsLast lacks_item) (SiftsLast lacks_item) s.second s.first r t.second t.first
+  ExcludesLast s r t = YieldsLastRef symmetric_rest s r t × AsksThen (SiftsLast lacks_item) (SiftsLast lacks_item) s.second s.first r t.second t.first
 
-  -- The iterator `r` is in the state `s`, and lends the elements that are exclusive there.
+  -- The iterator `r` is in the state `s`, and lends the elements that are left there and in one list only.
   abbrev pub ExcludesAll : Parts (Sift T) (Sift T) → Parts (Sift T) (Sift T) → Type 0
-  ExcludesAll = LendsAll exclusive ExcludesFirst ExcludesLast
+  ExcludesAll = LendsAll symmetric_rest ExcludesFirst ExcludesLast
 
   -- The test of an element against the other list: whether it is present in it, or whether it is not.
   abbrev pub presence : Bool → List T → T → Bool
-  presence within = if within then has_item eq else lacks_item
+  presence within = if within then is_member eq else lacks_item

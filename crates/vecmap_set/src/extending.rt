@@ -1,11 +1,11 @@
 //! The trait `Extend` of a set, for generic code, `try_collect` and `partition`.
 //!
-//! Each impl calls the inherent function that it names, and says the same of a refusal. Generic code knows only what the
-//! trait says: that some first part of the items was added.
+//! Each impl calls the inherent function that it names, and says the same of a refusal. Generic code knows only what
+//! the trait says: that some first part of the items was added.
 ghost use Rattle.std.specs.Iterator.{ExtendsWithItems, IsFiniteIterable};
 ghost use Rattle.std.specs.List.{IsDistinct};
 ghost use Rattle.std.specs.Map.Iter.{deref};
-ghost use Rattle.std.specs.Prelude.{◌≤◌, IsOk, OnErr, length, map};
+ghost use Rattle.std.specs.Prelude.{◌≡◌, ◌≤◌, IsOk, OnErr, length, map};
 ghost use Rattle.vecmap_base.specs.Bulk.{HasRoomForAll, StopsAt};
 ghost use Rattle.vecmap_set.specs.SetBulk.{Adds, RefusesAfter};
 
@@ -17,6 +17,14 @@ use std::alloc::AllocError;
 /// # Errors
 ///
 /// [`AllocError`] if the allocator refuses a request; the elements before the refused one are then in the set.
+///
+/// # Conditions
+///
+/// The iterator ends.
+///
+/// # Complexity
+///
+/// One lookup for each element, with at most as many comparisons as the set then has elements.
 ///
 /// # Examples
 ///
@@ -36,6 +44,8 @@ impl<T: Eq + Drop> Extend<T> for VecSet<T> {
             × (old.capacity ≤ new.capacity)) iter self.old self.new result }
         ensures succeeds { HasRoomForAll I.into_iter_gives I.IntoIter.remaining iter
             (length self.old.elements) self.old.capacity → IsOk result }
+        ensures capacity_stays { HasRoomForAll I.into_iter_gives I.IntoIter.remaining iter
+            (length self.old.elements) self.old.capacity → self.new.capacity ≡ self.old.capacity }
         ensures err { OnErr result (StopsAt I.into_iter_gives I.IntoIter.next_gives iter
             (λ items next. RefusesAfter T.eq self.old items next self.new)) }
     {
@@ -49,6 +59,14 @@ impl<T: Eq + Drop> Extend<T> for VecSet<T> {
 ///
 /// [`AllocError`] if the allocator refuses a request; copies of the elements before the refused one are then in the
 /// set.
+///
+/// # Conditions
+///
+/// The iterator ends.
+///
+/// # Complexity
+///
+/// One lookup for each element, with at most as many comparisons as the set then has elements.
 ///
 /// # Examples
 ///
@@ -67,6 +85,8 @@ impl<'a, T: Eq + Copy + 'a> Extend<&'a T> for VecSet<T> {
             × (old.capacity ≤ new.capacity)) iter self.old self.new result }
         ensures succeeds { HasRoomForAll I.into_iter_gives I.IntoIter.remaining iter
             (length self.old.elements) self.old.capacity → IsOk result }
+        ensures capacity_stays { HasRoomForAll I.into_iter_gives I.IntoIter.remaining iter
+            (length self.old.elements) self.old.capacity → self.new.capacity ≡ self.old.capacity }
         ensures err { OnErr result (StopsAt I.into_iter_gives I.IntoIter.next_gives iter
             (λ items next. RefusesAfter T.eq self.old (map deref items) (deref next) self.new)) }
     {

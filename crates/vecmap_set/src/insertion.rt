@@ -1,15 +1,14 @@
 //! Insertion of one element.
-ghost use Rattle.std.specs.Prelude.{◌≡◌, ◌++◌, ◌∷◌, IfErr, IfOk, IsTrue, OnErr, OnOk, [], false, not};
+ghost use Rattle.std.specs.Prelude.{◌≡◌, ◌++◌, ◌∷◌, ◌≤◌, IfErr, IfOk, IsTrue, OnErr, OnOk, [], false, not};
 ghost use Rattle.std.specs.List.{IsDistinct};
-ghost use Rattle.vecmap_base.specs.Items.{add, add_new, has_item, stored_item};
-ghost use Rattle.vecmap_set.specs.Contents.{KeepsRoom, Refuses};
+ghost use Rattle.std.specs.Set.{is_member};
+ghost use Rattle.vecmap_base.specs.Items.{add, put_item, stored_item};
+ghost use Rattle.vecmap_set.specs.Contents.{HasRoom, IsFull, KeepsRoom, Refuses};
 
 use crate::VecSet;
+use std::alloc::AllocError;
 use std::mem;
-use vecmap_base::{Refused, contains_item, find_item};
-
-// The least length of a set for which a test whether an element is present is worth a call.
-const MIN_LENGTH_FOR_CALL: usize = 8;
+use vecmap_base::{Refused, find_item, is_present};
 
 impl<T: Eq> VecSet<T> {
     /// Inserts an element and returns whether it is new.
@@ -40,9 +39,9 @@ impl<T: Eq> VecSet<T> {
     where
         T: Drop,
         ensures elements { OnOk result (self.new.elements ≡ add T.eq self.old.elements item) }
-        ensures added { IfOk result (λ added. added ≡ not (has_item T.eq self.old.elements item)) }
+        ensures added { IfOk result (λ added. added ≡ not (is_member T.eq self.old.elements item)) }
         ensures distinct { IsDistinct T.eq self.new.elements }
-        ensures unchanged { IsTrue (has_item T.eq self.old.elements item) → self.new ≡ self.old }
+        ensures unchanged { IsTrue (is_member T.eq self.old.elements item) → self.new ≡ self.old }
         ensures capacity { KeepsRoom T.eq self.old item self.new }
 
         // On `Err` the element is returned. Only a new element can be refused, and only if the set is full.
@@ -81,7 +80,7 @@ impl<T: Eq> VecSet<T> {
     /// ```
     #[tactic(auto, using(vecmap_base::proofs::IndexLemmas::list_any_position))]
     pub fn replace(&mut self, item: T) -> Result<Option<T>, Refused<T>>
-        ensures elements { OnOk result (self.new.elements ≡ add_new T.eq self.old.elements item) }
+        ensures elements { OnOk result (self.new.elements ≡ put_item T.eq self.old.elements item) }
         ensures old { IfOk result (λ old. old ≡ stored_item T.eq self.old.elements item) }
         ensures distinct { IsDistinct T.eq self.new.elements }
         ensures capacity { KeepsRoom T.eq self.old item self.new }
@@ -99,28 +98,33 @@ impl<T: Eq> VecSet<T> {
 
     // Appends a new element.
     fn push(&mut self, item: T) -> Result<(), Refused<T>>
-        requires absent { has_item T.eq self.old.elements item ≡ false }
+        requires absent { is_member T.eq self.old.elements item ≡ false }
         ensures elements { OnOk result (self.new.elements ≡ self.old.elements ++ item ∷ []) }
         ensures distinct { IsDistinct T.eq self.new.elements }
         ensures capacity { KeepsRoom T.eq self.old item self.new }
         ensures given { IfErr result (λ refused. refused.given ≡ item) }
         ensures err { OnErr result (Refuses T.eq self.old item self.new) }
     {
-        if self.items.len() == self.items.capacity() && self.reserve(1).is_err() {
+        if self.reserve_one().is_err() {
             return Err(Refused { given: item });
         }
         self.items.push_reserved(item);
         Ok(())
     }
-}
 
-// The same as `contains_item`, but the loop over few items becomes part of the caller.
-#[inline(always)]
-fn is_present<T: Eq>(items: &[T], item: &T) -> bool
-    ensures { result ≡ has_item T.eq items.now item.now }
-{
-    if items.len() < MIN_LENGTH_FOR_CALL {
-        return items.iter().any(|other| *item == *other);
+    // Reserves capacity for one more element.
+    fn reserve_one(&mut self) -> Result<(), AllocError>
+        ensures elements { self.new.elements ≡ self.old.elements }
+        ensures distinct { IsDistinct T.eq self.new.elements }
+        ensures room { OnOk result (HasRoom self.new 1) }
+        ensures capacity { self.old.capacity ≤ self.new.capacity }
+        ensures unchanged { HasRoom self.old 1 → self.new ≡ self.old }
+        ensures err { OnErr result (self.new ≡ self.old) }
+        ensures full { OnErr result (IsFull self.old) }
+    {
+        if self.items.len() < self.items.capacity() {
+            return Ok(());
+        }
+        self.reserve(1)
     }
-    contains_item(items, item)
 }

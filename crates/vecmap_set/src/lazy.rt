@@ -2,8 +2,8 @@
 //!
 //! None of them allocates, and each yields from both ends. Elements are looked up when they are pulled.
 ghost use Rattle.std.specs.Prelude.{◌≡◌, ℕ, ◌+◌};
+ghost use Rattle.std.specs.Set.{is_member};
 ghost use Rattle.std.specs.Slice.Iter.{iter_rest};
-ghost use Rattle.vecmap_base.specs.Items.{has_item};
 ghost use Rattle.vecmap_set.specs.Lazy.{ExcludesAll, IsBound, JoinsAll, SiftsAll, SiftsFirst, SiftsLast, lacks_item, longer_first, presence, sift_of, sift_of_shorter, symmetric_parts};
 
 use crate::VecSet;
@@ -65,7 +65,7 @@ impl<T: Eq> VecSet<T> {
     /// items.next() // None
     /// ```
     pub fn intersection<'a>(&'a self, other: &'a VecSet<T>) -> Intersection<'a, T>
-        ensures { SiftsAll (has_item T.eq)
+        ensures { SiftsAll (is_member T.eq)
             (sift_of_shorter self.now.elements other.now.elements) result }
     {
         if other.len() < self.len() {

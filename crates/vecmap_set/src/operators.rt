@@ -170,7 +170,8 @@ impl<'a, 'b, T: Eq + Clone> Sub<&'b VecSet<T>> for &'a VecSet<T> {
     }
 }
 
-// Returns clones of what an iterator yields, in order. Capacity is reserved first, for the items that it yields at least.
+// Returns clones of what an iterator yields, in order. Capacity is reserved first, for the items that it yields at
+// least.
 fn clones_of<'a, T: Clone + 'a, I: Iterator<Item = &'a T>>(
     alloc: Global,
     iter: I,
@@ -187,8 +188,8 @@ fn clones_of<'a, T: Clone + 'a, I: Iterator<Item = &'a T>>(
     Ok(made)
 }
 
-// Returns the capacity to reserve for an iterator with these bounds. If it yields an item, and may yield several, that is
-// at least what a vector first grows to, so that the vector does not grow for the second item.
+// Returns the capacity to reserve for an iterator with these bounds. If it yields an item, and may yield several, that
+// is at least what a vector first grows to, so that the vector does not grow for the second item.
 fn first_capacity(at_least: usize, at_most: Option<usize>) -> usize
     ensures { at_least ≤ result }
 {

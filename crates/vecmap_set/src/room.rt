@@ -146,8 +146,8 @@ impl<T: Eq> VecSet<T> {
 
     /// Reduces the capacity as much as possible.
     ///
-    /// All elements may be moved. The call never fails: if the allocator refuses a smaller block, the capacity stays. If there
-    /// are no elements, nothing is requested, and the capacity is 0 afterwards.
+    /// All elements may be moved. The call never fails: if the allocator refuses a smaller block, the capacity stays.
+    /// If there are no elements, nothing is requested, and the capacity is 0 afterwards.
     ///
     /// # Examples
     ///

@@ -1,10 +1,9 @@
 //! Binary searches in sorted elements. None allocates.
 ghost use Rattle.std.specs.Prelude.{◌≡◌, ◌<◌, ◌≤◌, Bool, false, length, true};
-ghost use Rattle.std.specs.Fn.{ComputesKey};
 ghost use Rattle.std.specs.List.{All, HoldsAt};
 ghost use Rattle.std.specs.List.Sorted.{IsBinarySearchResult, IsPartitionPoint, IsPartitionedBy, IsSearchInRange};
 ghost use Rattle.std.specs.declared.cmp.Ordering.{Ordering};
-ghost use Rattle.vecmap_base.specs.Orders.{AnswersOnItem, CallableOnItem};
+ghost use Rattle.vecmap_base.specs.Orders.{AnswersOnItems, CallableOnItem};
 
 use crate::VecSet;
 use std::cmp::Ordering;
@@ -68,7 +67,7 @@ impl<T: Eq> VecSet<T> {
     pub fn binary_search_by<'a, F: Fn(&'a T) -> Ordering>(&'a self, f: F) -> Result<usize, usize>
         requires callable { All (CallableOnItem F.Fn f) self.now.elements }
         ensures within { IsSearchInRange result (length self.now.elements) }
-        ensures index { (ord : T → Ordering) → AnswersOnItem F.Fn ord f
+        ensures index { (ord : T → Ordering) → AnswersOnItems F.Fn ord f self.now.elements
             → IsBinarySearchResult ord self.now.elements result }
     {
         let items = self.items.as_slice();
@@ -77,7 +76,7 @@ impl<T: Eq> VecSet<T> {
             |index: usize| -> Ordering
                 requires callable { All (CallableOnItem F.Fn f) items.now }
                 requires within { index < length items.now }
-                ensures { (ord : T → Ordering) → AnswersOnItem F.Fn ord f
+                ensures { (ord : T → Ordering) → AnswersOnItems F.Fn ord f items.entry.now
                     → HoldsAt (λ x. result ≡ ord x) items.entry.now index }
             { f(&items[index]) },
         )
@@ -108,7 +107,7 @@ impl<T: Eq> VecSet<T> {
     ) -> Result<usize, usize>
         requires callable { All (CallableOnItem F.Fn f) self.now.elements }
         ensures within { IsSearchInRange result (length self.now.elements) }
-        ensures index { (key_of : T → B) → AnswersOnItem F.Fn key_of f
+        ensures index { (key_of : T → B) → AnswersOnItems F.Fn key_of f self.now.elements
             → IsBinarySearchResult (λ x. B.cmp (key_of x) key.now) self.now.elements result }
     {
         let items = self.items.as_slice();
@@ -134,7 +133,7 @@ impl<T: Eq> VecSet<T> {
     pub fn partition_point<P: Fn(&T) -> bool>(&self, pred: P) -> usize
         requires callable { All (CallableOnItem P.Fn pred) self.now.elements }
         ensures within { result ≤ length self.now.elements }
-        ensures index { (p : T → Bool) → ComputesKey P.FnMut p pred
+        ensures index { (p : T → Bool) → AnswersOnItems P.Fn p pred self.now.elements
             → IsPartitionedBy p self.now.elements
             → IsPartitionPoint (λ x. p x ≡ true) (λ x. p x ≡ false) self.now.elements result }
     {

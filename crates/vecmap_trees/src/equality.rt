@@ -1,8 +1,9 @@
 //! Equality of trees: the order of the members of an object makes no difference, at any depth.
 ghost use Rattle.std.specs.Prelude.{◌≡◌, ◌↔◌, IsTrue, String, string_eq};
 ghost use Rattle.std.specs.List.Sorted.{IsPermutation};
+ghost use Rattle.std.specs.Option.{option_eq};
 ghost use Rattle.std.specs.declared.alloc.Global.{Global};
-ghost use Rattle.vecmap.specs.Equality.{has_same_counts, same_option};
+ghost use Rattle.vecmap.specs.Equality.{has_same_counts};
 ghost use Rattle.vecmap.specs.Pairs.{HasDistinctKeys, lookup};
 ghost use Rattle.vecmap_trees.specs.Trees.{IsObject, members};
 
@@ -35,7 +36,7 @@ pub fn equal(a: &Json, b: &Json) -> bool
         (members b.now) }
     ensures lookups { IsObject a.now → IsObject b.now → HasDistinctKeys string_eq (members a.now)
         → HasDistinctKeys string_eq (members b.now) → IsTrue result
-        ↔ ((name : String Global) → IsTrue (same_option ⟦<Json as PartialEq>⟧.eq
+        ↔ ((name : String Global) → IsTrue (option_eq ⟦<Json as PartialEq>⟧.eq
         (lookup string_eq (members a.now) name) (lookup string_eq (members b.now) name))) }
     ensures rearranged { IsObject a.now → IsObject b.now
         → IsPermutation (members a.now) (members b.now) → IsTrue result }
@@ -52,7 +53,7 @@ pub fn equal_members(a: &VecMap<String, Json>, b: &VecMap<String, Json>) -> bool
         ≡ has_same_counts string_eq ⟦<Json as PartialEq>⟧.eq a.now.entries b.now.entries }
     ensures lookups { HasDistinctKeys string_eq a.now.entries
         → HasDistinctKeys string_eq b.now.entries → IsTrue result
-        ↔ ((name : String Global) → IsTrue (same_option ⟦<Json as PartialEq>⟧.eq
+        ↔ ((name : String Global) → IsTrue (option_eq ⟦<Json as PartialEq>⟧.eq
         (lookup string_eq a.now.entries name) (lookup string_eq b.now.entries name))) }
     ensures rearranged { IsPermutation a.now.entries b.now.entries → IsTrue result }
 {

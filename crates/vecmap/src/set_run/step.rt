@@ -1,6 +1,6 @@
 //! One command on a set, and its reply.
+ghost use Rattle.std.specs.Set.{ClonesAreEqual};
 ghost use Rattle.vecmap.specs.SetRun.{Effect, Step};
-ghost use Rattle.vecmap_base.specs.Clones.{ClonesAreSame};
 
 mod make;
 mod put;
@@ -17,7 +17,7 @@ use vecmap_set::laws::elements_fit_the_capacity;
 
 /// Runs one command and returns its reply.
 pub(crate) fn step<T: Eq + Clone>(set: &mut VecSet<T>, command: SetCommand<T>) -> SetReply<T>
-    requires clones_equal { ClonesAreSame T.eq T.is_clone }
+    requires clones_equal { ClonesAreEqual T.eq T.is_clone }
     ensures { Step T.eq T.Clone set.old command result set.new }
 {
     let reply = execute(set, command);
@@ -27,7 +27,7 @@ pub(crate) fn step<T: Eq + Clone>(set: &mut VecSet<T>, command: SetCommand<T>) -
 
 // Runs one command; the contract says what becomes of the list and of the capacity.
 fn execute<T: Eq + Clone>(set: &mut VecSet<T>, command: SetCommand<T>) -> SetReply<T>
-    requires clones_equal { ClonesAreSame T.eq T.is_clone }
+    requires clones_equal { ClonesAreEqual T.eq T.is_clone }
     ensures { Effect T.eq T.Clone set.old command result set.new }
 {
     match command {

@@ -1,9 +1,10 @@
 -- Insertions that keep a list distinct.
+use Rattle.std.specs.Set.{is_member}
 use Rattle.std.specs.{Cmp.IsEquivalence, List.IsDistinct, List.AllByRecursion, List.list_any, Option.option_map_or}
 use Rattle.std.proofs.Common.{◌≡◌, ℕ, ◌<◌, Bool, true, false, ◌||◌, List, [], ◌∷◌, ◌++◌, Option, None, Some, if◌then◌else◌, insert, is_some, length, slice_set, suc, zero, refl, sym, ap, ◌∙◌, subst, get_or, true≢false, arith}
 use Rattle.std.proofs.lemmas.{Bool.false_from_ne_true, Bool.or_left, Bool.or_right, List.append-nil, List.append_assoc, List.Folds.list_any-append, List.Quantifiers.position-Some}
 use Rattle.std.proofs.lemmas.{List.Sorted.IsPermutation-insert, Map.Keys.IsDistinct-head, Map.Keys.IsDistinct-tail, Map.Keys.IsDistinct-push, Map.Steps.list_any_congr}
-use Rattle.vecmap_base.specs.Items.{add, add_new, adds, has_item, item_index}
+use Rattle.vecmap_base.specs.Items.{add, put_item, adds, item_index}
 use Rattle.vecmap_base.proofs.IndexLemmas.{is_some_position}
 use Rattle.vecmap_base.proofs.DistinctLemmas.{Absent.distinct_if_absent, Absent.none_equal, Order.distinct_rearranged}
 
@@ -44,9 +45,9 @@ module _ {T : Type 0} (eq : T → T → Bool) (o : IsEquivalence eq) where
   distinct_replace (x ∷ xs) (suc i) y l e d = (all_set (λ z. eq x z ≡ false) xs i y (apart_at x xs i y (omega arith) e d.0) d.0, distinct_replace xs i y (omega arith) e d.1)
 
   pub distinct_add : (s : List T) (x : T) → IsDistinct eq s → IsDistinct eq (add eq s x)
-  distinct_add s x d = by (has_item eq s x) refl
+  distinct_add s x d = by (is_member eq s x) refl
     where
-      by : (b : Bool) → has_item eq s x ≡ b → IsDistinct eq (if b then s else s ++ x ∷ [])
+      by : (b : Bool) → is_member eq s x ≡ b → IsDistinct eq (if b then s else s ++ x ∷ [])
       by true e = d
       by false e = IsDistinct-push o s x d e
 
@@ -54,8 +55,8 @@ module _ {T : Type 0} (eq : T → T → Bool) (o : IsEquivalence eq) where
   distinct_adds s [] d = d
   distinct_adds s (x ∷ xs) d = distinct_adds (add eq s x) xs (distinct_add s x d)
 
-  pub distinct_add_new : (s : List T) (x : T) → IsDistinct eq s → IsDistinct eq (add_new eq s x)
-  distinct_add_new s x d = by (item_index eq s x) refl
+  pub distinct_put_item : (s : List T) (x : T) → IsDistinct eq s → IsDistinct eq (put_item eq s x)
+  distinct_put_item s x d = by (item_index eq s x) refl
     where
       by : (place : Option ℕ) → item_index eq s x ≡ place → IsDistinct eq (option_map_or (λ i. slice_set s i x) place (s ++ x ∷ []))
       by None e = IsDistinct-push o s x d (sym (is_some_position (eq x) s) ∙ ap is_some e)

@@ -1,15 +1,16 @@
 -- Keys that are distinct stay distinct in the lists that calls leave.
+use Rattle.std.specs.Set.{ClonesAreEqual, is_member}
 use Rattle.std.specs.{Cmp.IsEquivalence, List.IsDistinct, List.list_any, List.swap_remove, List.Sorted.IsPermutation, Map.keys_of, Option.option_map_or}
 use Rattle.std.proofs.Common.{◌≡◌, ℕ, ◌-◌, ◌<◌, Bool, false, List, [], ◌∷◌, ◌++◌, Option, None, Some, IsTrue, insert, is_some, length, min, remove, reverse, slice_get, swap, take, refl, sym, ap, subst, get_or, ◌∙◌}
 use Rattle.std.proofs.lemmas.{List.take-map, List.Sorted.IsPermutation-map, List.Sorted.IsPermutation-reverse, List.Sorted.IsPermutation-swap, List.Sorted.IsPermutation-swap_remove}
 use Rattle.std.proofs.lemmas.{Map.Keys.IsDistinct-tail, Map.Steps.list_any_congr, Option.get_or_from_slice_get, Option.slice_get_within}
-use Rattle.vecmap_base.specs.{Clones.AreClones, Clones.ClonesAreSame, Clones.IsPairClone, Items.has_item, Items.swap_without, Items.without_item}
+use Rattle.vecmap_base.specs.{Clones.AreClones, Clones.IsPairClone, Items.swap_without, Items.without_item}
 use Rattle.vecmap_base.specs.Pairs.{HasDistinctKeys, index_by, index_of, put, put_at, put_key, puts, swap_without_by, swap_without_key, with_value, without_by}
 use Rattle.vecmap_base.proofs.ItemsLemmas.Removals.{without_item_absent}
 use Rattle.vecmap_base.proofs.PairsLemmas.Keys.{index_of_is, keys_of_insert, keys_of_put, keys_of_put_key, keys_of_puts, keys_of_remove}
 use Rattle.vecmap_base.proofs.PairsLemmas.{Indices.index_of_none, Indices.is_some_index_of, Puts.put_absent, Puts.put_at_absent, Puts.put_at_present, Values.keys_of_with_value}
 use Rattle.vecmap_base.proofs.IndexLemmas.{is_some_position}
-use Rattle.vecmap_base.proofs.DistinctLemmas.{Additions.distinct_add, Additions.distinct_add_new, Additions.distinct_adds, Additions.distinct_insert, Clones.distinct_clones, Order.distinct_rearranged}
+use Rattle.vecmap_base.proofs.DistinctLemmas.{Additions.distinct_add, Additions.distinct_put_item, Additions.distinct_adds, Additions.distinct_insert, Clones.distinct_clones, Order.distinct_rearranged}
 use Rattle.vecmap_base.proofs.DistinctLemmas.Removals.{distinct_remove, distinct_take}
 
 -- Clones of pairs have clones of their keys.
@@ -72,7 +73,7 @@ module _ {K V : Type 0} (eq : K → K → Bool) where
         let absent : list_any (eq stored) (keys_of l) ≡ false = sym (list_any_congr o k stored (keys_of l) same) ∙ sym (is_some_index_of eq l k) ∙ ap is_some e in
         subst (HasDistinctKeys eq) (put_absent eq l stored v (index_of_none eq l stored absent)) (subst (IsDistinct eq) (sym (keys_of_put eq l stored v)) (distinct_add eq o (keys_of l) stored d))
 
-    pub distinct_keys_clones : (key_clone : K → K → Type 0) (value_clone : V → V → Type 0) → ClonesAreSame eq key_clone → (l m : List (K × V)) → AreClones (IsPairClone key_clone value_clone) l m → HasDistinctKeys eq l → HasDistinctKeys eq m
+    pub distinct_keys_clones : (key_clone : K → K → Type 0) (value_clone : V → V → Type 0) → ClonesAreEqual eq key_clone → (l m : List (K × V)) → AreClones (IsPairClone key_clone value_clone) l m → HasDistinctKeys eq l → HasDistinctKeys eq m
     distinct_keys_clones C D same l m c = distinct_clones eq o C same (keys_of l) (keys_of m) (keys_of-clones C D l m c)
 
     pub distinct_put : (l : List (K × V)) (k : K) (v : V) → HasDistinctKeys eq l → HasDistinctKeys eq (put eq l k v)
@@ -82,18 +83,18 @@ module _ {K V : Type 0} (eq : K → K → Bool) where
     distinct_puts l ps d = subst (IsDistinct eq) (sym (keys_of_puts eq l ps)) (distinct_adds eq o (keys_of l) (keys_of ps) d)
 
     pub distinct_put_key : (l : List (K × V)) (k : K) (v : V) → HasDistinctKeys eq l → HasDistinctKeys eq (put_key eq l k v)
-    distinct_put_key l k v d = subst (IsDistinct eq) (sym (keys_of_put_key eq l k v)) (distinct_add_new eq o (keys_of l) k d)
+    distinct_put_key l k v d = subst (IsDistinct eq) (sym (keys_of_put_key eq l k v)) (distinct_put_item eq o (keys_of l) k d)
 
     pub distinct_put_at : (l : List (K × V)) (i : ℕ) (k : K) (v : V) → HasDistinctKeys eq l → HasDistinctKeys eq (put_at eq l i k v)
     distinct_put_at l i k v d = by (index_of eq l k) refl
       where
         by : (found : Option ℕ) → index_of eq l k ≡ found → HasDistinctKeys eq (put_at eq l i k v)
         by None e =
-            let absent : has_item eq (keys_of l) k ≡ false = sym (is_some_position (eq k) (keys_of l)) ∙ ap is_some (sym (index_of_is eq l k) ∙ e) in
+            let absent : is_member eq (keys_of l) k ≡ false = sym (is_some_position (eq k) (keys_of l)) ∙ ap is_some (sym (index_of_is eq l k) ∙ e) in
             subst (IsDistinct eq) (sym (ap keys_of (put_at_absent eq l i k v e) ∙ keys_of_insert l i k v)) (distinct_insert eq o (keys_of l) i k absent d)
         by (Some j) e =
             let n = min i (length l - 1) in
             let gone : without_item eq (keys_of l) k ≡ remove (keys_of l) j = ap (λ found. option_map_or (λ m. remove (keys_of l) m) found (keys_of l)) (sym (index_of_is eq l k) ∙ e) in
-            let absent : has_item eq (remove (keys_of l) j) k ≡ false = sym (ap (λ s. has_item eq s k) gone) ∙ without_item_absent eq o (keys_of l) k d in
+            let absent : is_member eq (remove (keys_of l) j) k ≡ false = sym (ap (λ s. is_member eq s k) gone) ∙ without_item_absent eq o (keys_of l) k d in
             subst (IsDistinct eq) (sym (ap keys_of (put_at_present eq l i k v j e) ∙ keys_of_insert (remove l j) n k v ∙ ap (λ s. insert s n k) (keys_of_remove l j)))
             (distinct_insert eq o (remove (keys_of l) j) n k absent (distinct_remove eq (keys_of l) j d))

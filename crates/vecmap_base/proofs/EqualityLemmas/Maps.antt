@@ -4,11 +4,12 @@ use Rattle.std.specs.Cmp.{IsEquivalence, both_ways, equiv, partial_equiv_from_eq
 use Rattle.std.specs.List.{list_any}
 use Rattle.std.specs.List.Sorted.{IsPermutation}
 use Rattle.std.specs.Map.{keys_of}
+use Rattle.std.specs.Option.{option_eq}
 use Rattle.std.proofs.Common.{cond, sym, ap, ◌∙◌, arith, true≢false, inl, inr}
 use Rattle.std.proofs.lemmas.Bool.{and_from, and_parts, cases_Bool, or_parts}
 use Rattle.std.proofs.lemmas.Map.Keys.{IsDistinct-head, IsDistinct-tail}
 use Rattle.std.proofs.lemmas.Map.Steps.{list_any_congr}
-use Rattle.vecmap_base.specs.Equality.{agrees, count, counts_agree, has_same_counts, lookups_agree, same_option, same_pair}
+use Rattle.vecmap_base.specs.Equality.{agrees, count, counts_agree, has_same_counts, lookups_agree, same_pair}
 use Rattle.vecmap_base.specs.Pairs.{HasDistinctKeys, lookup}
 use Rattle.vecmap_base.proofs.EqualityLemmas.Counts.{as_often, many_cons, counts_from_test, test_from_counts, as_often_laws, rearranged_as_often}
 use Rattle.vecmap_base.proofs.EqualityLemmas.Partial.{equally_often_is, partial_map_equal_by_half, partial_map_equality_laws, partial_map_lengths_differ}
@@ -73,14 +74,14 @@ module _ {K V : Type 0} (key : K → K → Bool) (value : V → V → Bool) (k :
             past ∙ rest ∙ ap (λ o. hits o w) (sym (look key p ps x false e))
       ]
 
-  hits_from_same : (a b : Option V) (w : V) → same_option value a b ≡ true → hits a w ≡ hits b w
+  hits_from_same : (a b : Option V) (w : V) → option_eq value a b ≡ true → hits a w ≡ hits b w
   unfolding hits
   hits_from_same None None w e = refl
   hits_from_same None (Some y) w e = absurd (true≢false (sym e))
   hits_from_same (Some x) None w e = absurd (true≢false (sym e))
   hits_from_same (Some x) (Some y) w e = ap (λ b. cond b 1 0) (v.symm w x ∙ v.congr x y w e ∙ v.symm y w)
 
-  same_from_hits : (a b : Option V) → ((w : V) → hits a w ≡ hits b w) → same_option value a b ≡ true
+  same_from_hits : (a b : Option V) → ((w : V) → hits a w ≡ hits b w) → option_eq value a b ≡ true
   unfolding hits
   same_from_hits None None h = refl
   same_from_hits None (Some y) h = absurd (let e : 0 ≡ cond (value y y) 1 0 = h y in let f = rw (v.refl y) at e in omega (arith, f))
@@ -93,14 +94,14 @@ module _ {K V : Type 0} (key : K → K → Bool) (value : V → V → Bool) (k :
 
   -- At each key, the two lookups are both none or have equal values.
   abbrev pub SameLookups : List (K × V) → List (K × V) → Type 0
-  SameLookups a b = (x : K) → same_option value (lookup key a x) (lookup key b x) ≡ true
+  SameLookups a b = (x : K) → option_eq value (lookup key a x) (lookup key b x) ≡ true
 
-  at_key : (keys : List K) (a b : List (K × V)) (x : K) → lookups_agree key value keys a b ≡ true → list_any (key x) keys ≡ true → same_option value (lookup key a x) (lookup key b x) ≡ true
+  at_key : (keys : List K) (a b : List (K × V)) (x : K) → lookups_agree key value keys a b ≡ true → list_any (key x) keys ≡ true → option_eq value (lookup key a x) (lookup key b x) ≡ true
   at_key [] a b x e h = absurd (true≢false (sym h))
   at_key (y ∷ ys) a b x e h =
-      let both = and_parts (same_option value (lookup key a y) (lookup key b y)) (lookups_agree key value ys a b) e in
+      let both = and_parts (option_eq value (lookup key a y) (lookup key b y)) (lookups_agree key value ys a b) e in
       elim (cases_Bool (key x y)) [
-        | inl i ↦ (λ t. same_option value (lookup_congr key k a x y i t) (lookup_congr key k b x y i t)) ∙ both.0
+        | inl i ↦ (λ t. option_eq value (lookup_congr key k a x y i t) (lookup_congr key k b x y i t)) ∙ both.0
         | inr i ↦ at_key ys a b x both.1 (sym (ap (λ c. c || list_any (key x) ys) i) ∙ h)
       ]
 
@@ -112,7 +113,7 @@ module _ {K V : Type 0} (key : K → K → Bool) (value : V → V → Bool) (k :
         | inr h ↦
             elim (cases_Bool (list_any (key x) (keys_of b))) [
               | inl i ↦ at_key (keys_of b) a b x both.1 i
-              | inr i ↦ λ t. same_option value (lookup_absent key a x h t) (lookup_absent key b x i t)
+              | inr i ↦ λ t. option_eq value (lookup_absent key a x h t) (lookup_absent key b x i t)
             ]
       ]
 
@@ -131,7 +132,7 @@ module _ {K V : Type 0} (key : K → K → Bool) (value : V → V → Bool) (k :
       (λ h. counted a b ∙ test_from_counts (same_pair key value) same_pair_laws a b (λ p. count_is_hits a p.0 p.1 d ∙ hits_from_same (lookup key a p.0) (lookup key b p.0) p.1 (lookups_from_test a b h p.0) ∙ sym (count_is_hits b p.0 p.1 e)))
 
   -- The same as one equivalence: each key has equal values, or none, in both lists.
-  pub equal_where_lookups_agree : (a b : List (K × V)) → HasDistinctKeys key a → HasDistinctKeys key b → IsTrue (has_same_counts key value a b) ↔ ((x : K) → IsTrue (same_option value (lookup key a x) (lookup key b x)))
+  pub equal_where_lookups_agree : (a b : List (K × V)) → HasDistinctKeys key a → HasDistinctKeys key b → IsTrue (has_same_counts key value a b) ↔ ((x : K) → IsTrue (option_eq value (lookup key a x) (lookup key b x)))
   equal_where_lookups_agree a b d e =
       let agreement = equality_is_agreement a b d e in
       (λ h. lookups_from_test a b (sym agreement ∙ h), λ h. agreement ∙ test_from_lookups a b h)

@@ -3,6 +3,7 @@ use Rattle.std.specs.Prelude.{◌≡◌, ◌↔◌, ◌<◌, ◌≤◌, Bool, tr
 use Rattle.std.specs.Cmp.{IsEquivalence, both_ways}
 use Rattle.std.specs.List.{IsDistinct}
 use Rattle.std.specs.List.Sorted.{IsPermutation}
+use Rattle.std.specs.Set.{is_member}
 use Rattle.std.proofs.Common.{sym, ap, ◌∙◌, arith, true≢false, length-append, inl, inr}
 use Rattle.std.proofs.lemmas.Bool.{and_from, and_parts, cases_Bool, false_from_ne_true, or_cases, or_left, or_right}
 use Rattle.std.proofs.lemmas.List.Folds.{list_any-append}
@@ -11,26 +12,25 @@ use Rattle.std.proofs.lemmas.Map.Keys.{IsDistinct-push}
 use Rattle.std.proofs.lemmas.Map.Made.{length-le_from_is_member}
 use Rattle.std.proofs.lemmas.Map.Steps.{list_any_congr}
 use Rattle.vecmap_base.specs.Equality.{has_same_items, is_within}
-use Rattle.vecmap_base.specs.Items.{has_item}
 
 module _ {T : Type 0} (eq : T → T → Bool) (o : IsEquivalence eq) where
   -- Each element of `a` is in `b`.
   abbrev pub Within : List T → List T → Type 0
-  Within a b = (x : T) → has_item eq a x ≡ true → has_item eq b x ≡ true
+  Within a b = (x : T) → is_member eq a x ≡ true → is_member eq b x ≡ true
 
   pub within_from_test : (a b : List T) → is_within eq a b ≡ true → Within a b
   within_from_test [] b e x h = absurd (true≢false (sym h))
   within_from_test (y ∷ ys) b e x h =
-      let split = and_parts (has_item eq b y) (is_within eq ys b) e in
+      let split = and_parts (is_member eq b y) (is_within eq ys b) e in
       elim (cases_Bool (eq x y)) [
         | inl i ↦ list_any_congr o x y b i ∙ split.0
-        | inr i ↦ within_from_test ys b split.1 x (sym (ap (λ c. c || has_item eq ys x) i) ∙ h)
+        | inr i ↦ within_from_test ys b split.1 x (sym (ap (λ c. c || is_member eq ys x) i) ∙ h)
       ]
 
   pub test_from_within : (a b : List T) → Within a b → is_within eq a b ≡ true
   test_from_within [] b h = refl
   test_from_within (y ∷ ys) b h =
-      and_from _ _ (h y (or_left (eq y y) (has_item eq ys y) (o.refl y))) (test_from_within ys b (λ x e. h x (or_right (eq x y) (has_item eq ys x) e)))
+      and_from _ _ (h y (or_left (eq y y) (is_member eq ys y) (o.refl y))) (test_from_within ys b (λ x e. h x (or_right (eq x y) (is_member eq ys x) e)))
 
   pub set_equality_laws : IsEquivalence (has_same_items eq)
   set_equality_laws = record {
@@ -74,11 +74,11 @@ module _ {T : Type 0} (eq : T → T → Bool) (o : IsEquivalence eq) where
   -- The pigeonhole principle: if a distinct list is within a list of the same length, that list is within it.
   pub within_back : (a b : List T) → IsDistinct eq a → length a ≡ length b → Within a b → Within b a
   within_back a b d n h x i =
-      elim (cases_Bool (has_item eq a x)) [
+      elim (cases_Bool (is_member eq a x)) [
         | inl j ↦ j
         | inr j ↦
             let one_more : Within (a ++ x ∷ []) b = λ q m.
-            elim (or_cases (has_item eq a q) (eq q x || false) (sym (list_any-append (eq q) a (x ∷ [])) ∙ m)) [
+            elim (or_cases (is_member eq a q) (eq q x || false) (sym (list_any-append (eq q) a (x ∷ [])) ∙ m)) [
               | inl e ↦ h q e
               | inr e ↦
                   elim (or_cases (eq q x) false e) [

@@ -1,7 +1,8 @@
 -- Worked examples: clones that are identical to their originals.
 use Rattle.std.specs.Cmp.{nat_eq_equiv}
+use Rattle.std.specs.Set.{ClonesAreEqual}
 use Rattle.std.proofs.Common.{◌≡◌, ℕ, [], ◌∷◌, None, Some, IsTrue, nat_eq, refl, subst}
-use Rattle.vecmap_base.specs.Clones.{AreClones, ClonesAreSame, IsCloneOf, IsPairClone}
+use Rattle.vecmap_base.specs.Clones.{AreClones, IsCloneOf, IsPairClone}
 use Rattle.vecmap_base.proofs.Examples.Tagged.{a, b, c, letters}
 
 abbrev IsSame : ℕ → ℕ → Type 0
@@ -16,5 +17,5 @@ a_clone_of_what_is_there = (tt, refl)
 nothing_is_no_clone : IsCloneOf IsSame (Some 7) None → ⊥
 nothing_is_no_clone c = c
 
-clones_are_the_same : ClonesAreSame nat_eq IsSame
+clones_are_the_same : ClonesAreEqual nat_eq IsSame
 clones_are_the_same m n e = subst (λ k. IsTrue (nat_eq m k)) e (nat_eq_equiv.refl m)

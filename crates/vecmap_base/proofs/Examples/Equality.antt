@@ -1,6 +1,7 @@
 -- Worked examples: equality of maps, also of lists with repeats.
+use Rattle.std.specs.Option.{option_eq}
 use Rattle.std.proofs.Common.{◌≡◌, ℕ, Bool, true, false, ◌&&◌, not, List, [], ◌∷◌, None, Some, nat_eq, refl}
-use Rattle.vecmap_base.specs.Equality.{agrees, count, counts_agree, free, has_same_counts, lookups_agree, same_option, same_pair}
+use Rattle.vecmap_base.specs.Equality.{agrees, count, counts_agree, free, has_same_counts, lookups_agree, same_pair}
 use Rattle.vecmap_base.proofs.Examples.Tagged.{one_x, one_y, same_number}
 
 abbrev equal : List (ℕ × ℕ) → List (ℕ × ℕ) → Bool
@@ -39,7 +40,7 @@ without_marks : (free {X = ℕ × ℕ} ((1, 5) ∷ (2, 6) ∷ []) (true ∷ []) 
 unfolding free
 without_marks = (refl, refl)
 
-values_or_none : (same_option {V = ℕ} nat_eq None None ≡ true) × (same_option nat_eq (Some 5) (Some 5) ≡ true) × (same_option nat_eq (Some 5) None ≡ false) × (same_option nat_eq (Some 5) (Some 6) ≡ false)
+values_or_none : (option_eq {T = ℕ} nat_eq None None ≡ true) × (option_eq nat_eq (Some 5) (Some 5) ≡ true) × (option_eq nat_eq (Some 5) None ≡ false) × (option_eq nat_eq (Some 5) (Some 6) ≡ false)
 values_or_none = (refl, refl, refl, refl)
 
 -- The keys of one list are not enough.

@@ -1,7 +1,8 @@
 -- Worked examples: sets. Elements are numbers, or numbers with a letter that are compared by the number alone.
+use Rattle.std.specs.Set.{is_member}
 use Rattle.std.proofs.Common.{◌≡◌, ℕ, true, false, [], ◌∷◌, ◌++◌, Some, nat_eq, nat_lt, refl}
 use Rattle.vecmap_base.specs.Equality.{has_same_items, is_within}
-use Rattle.vecmap_base.specs.Items.{add, add_new, adds, both, has_item, item_index, only, stored_item, swap_without, swap_without_first, swap_without_item, without_first, without_item}
+use Rattle.vecmap_base.specs.Items.{add, put_item, adds, both, item_index, only, stored_item, swap_without, swap_without_first, swap_without_item, without_first, without_item}
 use Rattle.vecmap_base.proofs.Examples.Tagged.{one_x, one_y, same_number, two_b, two_z}
 
 -- ---- additions and removals
@@ -15,7 +16,7 @@ the_stored_one_stays = refl
 one_addition : (add same_number (one_x ∷ []) one_y ≡ one_x ∷ []) × (add same_number (one_x ∷ []) two_b ≡ one_x ∷ two_b ∷ [])
 one_addition = (refl, refl)
 
-whether_one_is_there : (has_item same_number (one_x ∷ []) one_y ≡ true) × (has_item same_number (one_x ∷ []) two_b ≡ false)
+whether_one_is_there : (is_member same_number (one_x ∷ []) one_y ≡ true) × (is_member same_number (one_x ∷ []) two_b ≡ false)
 whether_one_is_there = (refl, refl)
 
 the_stored_one_is_found : stored_item same_number (one_x ∷ two_b ∷ []) one_y ≡ Some one_x
@@ -24,10 +25,10 @@ the_stored_one_is_found = refl
 the_index : item_index nat_eq (3 ∷ 1 ∷ 2 ∷ []) 2 ≡ Some 2
 the_index = refl
 
-an_addition_that_takes_the_new_one : add_new same_number (one_x ∷ two_b ∷ []) one_y ≡ one_y ∷ two_b ∷ []
+an_addition_that_takes_the_new_one : put_item same_number (one_x ∷ two_b ∷ []) one_y ≡ one_y ∷ two_b ∷ []
 an_addition_that_takes_the_new_one = refl
 
-an_absent_one_goes_last : add_new same_number (one_x ∷ []) two_b ≡ one_x ∷ two_b ∷ []
+an_absent_one_goes_last : put_item same_number (one_x ∷ []) two_b ≡ one_x ∷ two_b ∷ []
 an_absent_one_goes_last = refl
 
 the_rest_moves_up : without_item nat_eq (3 ∷ 1 ∷ 2 ∷ []) 3 ≡ 1 ∷ 2 ∷ []

@@ -1,15 +1,16 @@
 -- What additions, in order, make of a list.
+use Rattle.std.specs.Set.{is_member}
 use Rattle.std.specs.{Cmp.IsEquivalence, List.IsDistinct}
 use Rattle.std.proofs.Common.{◌≡◌, ℕ, Bool, true, false, List, [], ◌∷◌, ◌++◌, if◌then◌else◌, ◌+◌, ◌<◌, length, take, ap, ◌∙◌, get_or, sym, subst}
 use Rattle.std.proofs.lemmas.{List.append-nil, List.append_assoc, List.Sums.fold_more, List.Sums.fold-append}
-use Rattle.vecmap_base.specs.Items.{add, adds, has_item}
+use Rattle.vecmap_base.specs.Items.{add, adds}
 use Rattle.vecmap_base.proofs.DistinctLemmas.Absent.{none_before}
 
 module _ {T : Type 0} (eq : T → T → Bool) where
-  pub add_absent : (s : List T) (x : T) → has_item eq s x ≡ false → add eq s x ≡ s ++ x ∷ []
+  pub add_absent : (s : List T) (x : T) → is_member eq s x ≡ false → add eq s x ≡ s ++ x ∷ []
   add_absent s x e = ap (λ b. if b then s else s ++ x ∷ []) e
 
-  pub add_present : (s : List T) (x : T) → has_item eq s x ≡ true → add eq s x ≡ s
+  pub add_present : (s : List T) (x : T) → is_member eq s x ≡ true → add eq s x ≡ s
   add_present s x e = ap (λ b. if b then s else s ++ x ∷ []) e
 
   -- The additions of the first `i + 1` elements are those of the first `i` and one more.

@@ -1,10 +1,11 @@
 -- Which elements are present, and at which indices, after one addition and after many. Many additions append those of
 -- the new elements that are not present.
+use Rattle.std.specs.Set.{is_member}
 use Rattle.std.specs.{Cmp.IsEquivalence, Option.option_or}
 use Rattle.std.proofs.Common.{◌≡◌, ◌<◌, ◌+◌, ℕ, Bool, true, false, ◌||◌, not, Contains, IsTrue, List, [], ◌∷◌, ◌++◌, None, Option, Some, if◌then◌else◌, length, option_map, slice_get, suc, zero, refl, sym, ap, ◌∙◌, arith, inl, inr}
 use Rattle.std.proofs.Math.Bool.{or_assoc}
 use Rattle.std.proofs.lemmas.{Bool.cases_Bool, List.append-nil, List.append_assoc, List.Folds.list_any-append, Map.Steps.list_any_congr}
-use Rattle.vecmap_base.specs.{Clones.AreClones, Items.add, Items.adds, Items.has_item, Items.item_index, Items.only}
+use Rattle.vecmap_base.specs.{Clones.AreClones, Items.add, Items.adds, Items.item_index, Items.only}
 use Rattle.vecmap_base.proofs.ItemsLemmas.{Additions.add_absent, Additions.add_present, Recursion.item_index_cons}
 
 -- An item of the front of a list is at its index in the whole list.
@@ -34,19 +35,19 @@ module _ {T : Type 0} (eq : T → T → Bool) where
       by false None (Some i) = ap Some (let e : suc (length ys + i) ≡ suc (length ys) + i = omega arith in e)
 
   -- An addition behind a front, in which the element is absent.
-  add_behind : (s t : List T) (x : T) → has_item eq s x ≡ false → add eq (s ++ t) x ≡ s ++ add eq t x
-  add_behind s t x none = by (has_item eq t x) (list_any-append (eq x) s t ∙ ap (λ b. b || has_item eq t x) none)
+  add_behind : (s t : List T) (x : T) → is_member eq s x ≡ false → add eq (s ++ t) x ≡ s ++ add eq t x
+  add_behind s t x none = by (is_member eq t x) (list_any-append (eq x) s t ∙ ap (λ b. b || is_member eq t x) none)
     where
-      by : (b : Bool) → has_item eq (s ++ t) x ≡ b → add eq (s ++ t) x ≡ s ++ (if b then t else t ++ x ∷ [])
+      by : (b : Bool) → is_member eq (s ++ t) x ≡ b → add eq (s ++ t) x ≡ s ++ (if b then t else t ++ x ∷ [])
       by true e = add_present eq (s ++ t) x e
       by false e = add_absent eq (s ++ t) x e ∙ append_assoc s t (x ∷ [])
 
   adds_behind : (s t xs : List T) → adds eq (s ++ t) xs ≡ s ++ adds eq t (only eq xs s)
   adds_behind s t [] = refl
   adds_behind s t (x ∷ xs) =
-      elim (cases_Bool (has_item eq s x)) [
+      elim (cases_Bool (is_member eq s x)) [
         | inl e ↦
-            ap (λ m. adds eq m xs) (add_present eq (s ++ t) x (list_any-append (eq x) s t ∙ ap (λ b. b || has_item eq t x) e))
+            ap (λ m. adds eq m xs) (add_present eq (s ++ t) x (list_any-append (eq x) s t ∙ ap (λ b. b || is_member eq t x) e))
             ∙ adds_behind s t xs
             ∙ sym (ap (λ b. s ++ adds eq t (if not b then x ∷ only eq xs s else only eq xs s)) e)
         | inr e ↦
@@ -73,11 +74,11 @@ module _ {T : Type 0} (eq : T → T → Bool) where
 
   module _ (o : IsEquivalence eq) where
     -- After an addition, an element is present if it was, or if it is equal to the added one.
-    pub has_item_add : (s : List T) (x y : T) → has_item eq (add eq s x) y ≡ (has_item eq s y || eq x y)
-    has_item_add s x y =
-        elim (cases_Bool (has_item eq s x)) [
-          | inl e ↦ ap (λ m. has_item eq m y) (add_present eq s x e) ∙ there (eq x y) refl e
-          | inr e ↦ ap (λ m. has_item eq m y) (add_absent eq s x e) ∙ list_any-append (eq y) s (x ∷ []) ∙ ap (λ b. has_item eq s y || b) (last (eq y x) ∙ o.symm y x)
+    pub is_member_add : (s : List T) (x y : T) → is_member eq (add eq s x) y ≡ (is_member eq s y || eq x y)
+    is_member_add s x y =
+        elim (cases_Bool (is_member eq s x)) [
+          | inl e ↦ ap (λ m. is_member eq m y) (add_present eq s x e) ∙ there (eq x y) refl e
+          | inr e ↦ ap (λ m. is_member eq m y) (add_absent eq s x e) ∙ list_any-append (eq y) s (x ∷ []) ∙ ap (λ b. is_member eq s y || b) (last (eq y x) ∙ o.symm y x)
         ]
       where
         last : (b : Bool) → (b || false) ≡ b
@@ -87,39 +88,39 @@ module _ {T : Type 0} (eq : T → T → Bool) where
         more : (b : Bool) → b ≡ (b || false)
         more b = sym (last b)
 
-        there : (b : Bool) → eq x y ≡ b → has_item eq s x ≡ true → has_item eq s y ≡ (has_item eq s y || b)
-        there true same e = let h : has_item eq s y ≡ true = sym (list_any_congr o x y s same) ∙ e in h ∙ sym (ap (λ b. b || true) h)
-        there false same e = more (has_item eq s y)
+        there : (b : Bool) → eq x y ≡ b → is_member eq s x ≡ true → is_member eq s y ≡ (is_member eq s y || b)
+        there true same e = let h : is_member eq s y ≡ true = sym (list_any_congr o x y s same) ∙ e in h ∙ sym (ap (λ b. b || true) h)
+        there false same e = more (is_member eq s y)
 
     -- What was present stays present, and what was added is present.
-    pub has_item_kept : (s : List T) (x y : T) → has_item eq s y ≡ true → has_item eq (add eq s x) y ≡ true
-    has_item_kept s x y e = has_item_add s x y ∙ ap (λ b. b || eq x y) e
+    pub is_member_kept : (s : List T) (x y : T) → is_member eq s y ≡ true → is_member eq (add eq s x) y ≡ true
+    is_member_kept s x y e = is_member_add s x y ∙ ap (λ b. b || eq x y) e
 
-    pub has_item_added : (s : List T) (x : T) → has_item eq (add eq s x) x ≡ true
-    has_item_added s x = has_item_add s x x ∙ ap (λ b. has_item eq s x || b) (o.refl x) ∙ by (has_item eq s x)
+    pub is_member_added : (s : List T) (x : T) → is_member eq (add eq s x) x ≡ true
+    is_member_added s x = is_member_add s x x ∙ ap (λ b. is_member eq s x || b) (o.refl x) ∙ by (is_member eq s x)
       where
         by : (b : Bool) → (b || true) ≡ true
         by true = refl
         by false = refl
 
     -- After many additions, an element is present if it was, or if one of the added elements is equal to it.
-    pub has_item_adds : (s xs : List T) (y : T) → has_item eq (adds eq s xs) y ≡ (has_item eq s y || has_item eq xs y)
-    has_item_adds s [] y = by (has_item eq s y)
+    pub is_member_adds : (s xs : List T) (y : T) → is_member eq (adds eq s xs) y ≡ (is_member eq s y || is_member eq xs y)
+    is_member_adds s [] y = by (is_member eq s y)
       where
         by : (b : Bool) → b ≡ (b || false)
         by true = refl
         by false = refl
-    has_item_adds s (x ∷ xs) y =
-        has_item_adds (add eq s x) xs y
-        ∙ ap (λ b. b || has_item eq xs y) (has_item_add s x y ∙ ap (λ b. has_item eq s y || b) (o.symm x y))
-        ∙ or_assoc (has_item eq s y) (eq y x) (has_item eq xs y)
+    is_member_adds s (x ∷ xs) y =
+        is_member_adds (add eq s x) xs y
+        ∙ ap (λ b. b || is_member eq xs y) (is_member_add s x y ∙ ap (λ b. is_member eq s y || b) (o.symm x y))
+        ∙ or_assoc (is_member eq s y) (eq y x) (is_member eq xs y)
 
     -- If each clone of an element is equal to it, the same elements are present in clones of a list.
-    pub has_item_clones : (C : T → T → Type 0) (l m : List T) → ((x y : T) → Contains l x → C x y → IsTrue (eq x y)) → AreClones C l m → (z : T) → has_item eq m z ≡ has_item eq l z
-    has_item_clones C [] [] same c z = refl
-    has_item_clones C [] (y ∷ ys) same c z = absurd c
-    has_item_clones C (x ∷ xs) [] same c z = absurd c
-    has_item_clones C (x ∷ xs) (y ∷ ys) same c z =
+    pub is_member_clones : (C : T → T → Type 0) (l m : List T) → ((x y : T) → Contains l x → C x y → IsTrue (eq x y)) → AreClones C l m → (z : T) → is_member eq m z ≡ is_member eq l z
+    is_member_clones C [] [] same c z = refl
+    is_member_clones C [] (y ∷ ys) same c z = absurd c
+    is_member_clones C (x ∷ xs) [] same c z = absurd c
+    is_member_clones C (x ∷ xs) (y ∷ ys) same c z =
         let first : eq z y ≡ eq z x = o.symm z y ∙ sym (o.congr x y z (same x y (0, omega arith, refl) c.0)) ∙ o.symm x z in
-        let rest = has_item_clones C xs ys (λ v w in_rest. same v w (suc in_rest.0, omega (arith, in_rest.1), in_rest.2)) c.1 z in
+        let rest = is_member_clones C xs ys (λ v w in_rest. same v w (suc in_rest.0, omega (arith, in_rest.1), in_rest.2)) c.1 z in
         λ i. first i || rest i

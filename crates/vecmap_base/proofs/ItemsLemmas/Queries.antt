@@ -1,12 +1,13 @@
 -- What a query finds that matches exactly the elements that are equal to one of its matches.
-use Rattle.std.specs.{Cmp.IsEquivalence, List.IsDistinct, List.list_any, Option.option_map_or}
+use Rattle.std.specs.Set.{is_member}
+use Rattle.std.specs.{Cmp.IsEquivalence, List.IsDistinct, List.list_any, Map.IsKeyTest, Option.option_map_or}
 use Rattle.std.proofs.Common.{◌≡◌, ℕ, Bool, true, false, List, [], ◌∷◌, Option, None, Some, IsTrue, is_some, position, remove, refl, sym, ap, ◌∙◌, get_or, inl, inr, true≢false}
 use Rattle.std.proofs.lemmas.{Bool.cases_Bool, List.Quantifiers.position-Some}
-use Rattle.vecmap_base.specs.Items.{has_item, item_index, stored_first, stored_item, swap_without_first, swap_without_item, without_first, without_item}
+use Rattle.vecmap_base.specs.Items.{item_index, stored_first, stored_item, swap_without_first, swap_without_item, without_first, without_item}
 use Rattle.vecmap_base.proofs.ItemsLemmas.Removals.{without_item_absent}
 use Rattle.vecmap_base.proofs.IndexLemmas.{is_some_position}
 
-module _ {T : Type 0} (eq : T → T → Bool) (o : IsEquivalence eq) (test : T → Bool) (respects : (x y : T) → IsTrue (test x) → test y ≡ eq x y) where
+module _ {T : Type 0} (eq : T → T → Bool) (o : IsEquivalence eq) (test : T → Bool) (respects : IsKeyTest eq test) where
   -- A query that matches `x` matches exactly the elements that are equal to `x`.
   pub tells_as : (x : T) → IsTrue (test x) → test ≡ eq x
   tells_as x h = λ t y. respects x y h t
@@ -22,8 +23,8 @@ module _ {T : Type 0} (eq : T → T → Bool) (o : IsEquivalence eq) (test : T �
   pub item_index_query : (s : List T) (x : T) → IsTrue (test x) → position test s ≡ item_index eq s x
   item_index_query s x h = ap (λ f. position f s) (tells_as x h)
 
-  pub has_item_query : (s : List T) (x : T) → IsTrue (test x) → list_any test s ≡ has_item eq s x
-  has_item_query s x h = ap (λ f. list_any f s) (tells_as x h)
+  pub is_member_query : (s : List T) (x : T) → IsTrue (test x) → list_any test s ≡ is_member eq s x
+  is_member_query s x h = ap (λ f. list_any f s) (tells_as x h)
 
   pub without_item_query : (s : List T) (x : T) → IsTrue (test x) → without_first test s ≡ without_item eq s x
   without_item_query s x h = ap (λ f. without_first f s) (tells_as x h)

@@ -1,8 +1,9 @@
 -- The definitions on elements, for an empty list and for a list with one element more.
 use Rattle.std.specs.Option.{option_and_then, option_map, option_map_or}
+use Rattle.std.specs.Set.{is_member}
 use Rattle.std.proofs.Common.{◌≡◌, ℕ, suc, Bool, true, false, ◌&&◌, ◌||◌, List, [], ◌∷◌, ◌++◌, Option, None, Some, if◌then◌else◌, not, position, remove, slice_get, slice_set, refl, ap, ◌∙◌}
 use Rattle.vecmap_base.specs.Equality.{is_within}
-use Rattle.vecmap_base.specs.Items.{add, add_new, adds, both, has_item, item_index, only, stored_item, without_first, without_item, swap_without}
+use Rattle.vecmap_base.specs.Items.{add, put_item, adds, both, item_index, only, stored_item, without_first, without_item, swap_without}
 use Rattle.vecmap_base.proofs.IndexLemmas.{position_cons}
 
 -- The removal of the only element leaves the empty list.
@@ -28,11 +29,11 @@ module _ {T : Type 0} (eq : T → T → Bool) where
   pub item_index_cons : (y : T) (ys : List T) (x : T) → item_index eq (y ∷ ys) x ≡ (if eq x y then Some 0 else option_map suc (item_index eq ys x))
   item_index_cons y ys x = position_cons (eq x) y ys
 
-  has_item-nil : (x : T) → has_item eq [] x ≡ false
-  has_item-nil x = refl
+  is_member-nil : (x : T) → is_member eq [] x ≡ false
+  is_member-nil x = refl
 
-  has_item-cons : (y : T) (ys : List T) (x : T) → has_item eq (y ∷ ys) x ≡ (eq x y || has_item eq ys x)
-  has_item-cons y ys x = refl
+  is_member-cons : (y : T) (ys : List T) (x : T) → is_member eq (y ∷ ys) x ≡ (eq x y || is_member eq ys x)
+  is_member-cons y ys x = refl
 
   stored_item-nil : (x : T) → stored_item eq [] x ≡ None
   stored_item-nil x = refl
@@ -49,7 +50,7 @@ module _ {T : Type 0} (eq : T → T → Bool) where
   add-nil x = refl
 
   pub add_cons : (y : T) (ys : List T) (x : T) → add eq (y ∷ ys) x ≡ (if eq x y then y ∷ ys else y ∷ add eq ys x)
-  add_cons y ys x = by (eq x y) (has_item eq ys x)
+  add_cons y ys x = by (eq x y) (is_member eq ys x)
     where
       by : (b c : Bool) → (if b || c then y ∷ ys else y ∷ ys ++ x ∷ []) ≡ (if b then y ∷ ys else y ∷ (if c then ys else ys ++ x ∷ []))
       by true c = refl
@@ -62,11 +63,11 @@ module _ {T : Type 0} (eq : T → T → Bool) where
   adds-cons : (s : List T) (x : T) (xs : List T) → adds eq s (x ∷ xs) ≡ adds eq (add eq s x) xs
   adds-cons s x xs = refl
 
-  add_new-nil : (x : T) → add_new eq [] x ≡ x ∷ []
-  add_new-nil x = refl
+  put_item-nil : (x : T) → put_item eq [] x ≡ x ∷ []
+  put_item-nil x = refl
 
-  pub add_new_cons : (y : T) (ys : List T) (x : T) → add_new eq (y ∷ ys) x ≡ (if eq x y then x ∷ ys else y ∷ add_new eq ys x)
-  add_new_cons y ys x = ap (λ o. option_map_or (λ i. slice_set (y ∷ ys) i x) o (y ∷ ys ++ x ∷ [])) (item_index_cons y ys x) ∙ by (eq x y) (item_index eq ys x)
+  pub put_item_cons : (y : T) (ys : List T) (x : T) → put_item eq (y ∷ ys) x ≡ (if eq x y then x ∷ ys else y ∷ put_item eq ys x)
+  put_item_cons y ys x = ap (λ o. option_map_or (λ i. slice_set (y ∷ ys) i x) o (y ∷ ys ++ x ∷ [])) (item_index_cons y ys x) ∙ by (eq x y) (item_index eq ys x)
     where
       by : (b : Bool) (o : Option ℕ) → option_map_or (λ i. slice_set (y ∷ ys) i x) (if b then Some 0 else option_map suc o) (y ∷ ys ++ x ∷ []) ≡ (if b then x ∷ ys else y ∷ option_map_or (λ i. slice_set ys i x) o (ys ++ x ∷ []))
       by true o = refl
@@ -79,14 +80,14 @@ module _ {T : Type 0} (eq : T → T → Bool) where
   both-nil : (b : List T) → both eq [] b ≡ []
   both-nil b = refl
 
-  both-cons : (x : T) (a b : List T) → both eq (x ∷ a) b ≡ (if has_item eq b x then x ∷ both eq a b else both eq a b)
+  both-cons : (x : T) (a b : List T) → both eq (x ∷ a) b ≡ (if is_member eq b x then x ∷ both eq a b else both eq a b)
   both-cons x a b = refl
 
   only-nil : (b : List T) → only eq [] b ≡ []
   only-nil b = refl
 
-  only-cons : (x : T) (a b : List T) → only eq (x ∷ a) b ≡ (if has_item eq b x then only eq a b else x ∷ only eq a b)
-  only-cons x a b = by (has_item eq b x)
+  only-cons : (x : T) (a b : List T) → only eq (x ∷ a) b ≡ (if is_member eq b x then only eq a b else x ∷ only eq a b)
+  only-cons x a b = by (is_member eq b x)
     where
       by : (c : Bool) → (if not c then x ∷ only eq a b else only eq a b) ≡ (if c then only eq a b else x ∷ only eq a b)
       by true = refl
@@ -95,5 +96,5 @@ module _ {T : Type 0} (eq : T → T → Bool) where
   is_within-nil : (b : List T) → is_within eq [] b ≡ true
   is_within-nil b = refl
 
-  is_within-cons : (x : T) (a b : List T) → is_within eq (x ∷ a) b ≡ (has_item eq b x && is_within eq a b)
+  is_within-cons : (x : T) (a b : List T) → is_within eq (x ∷ a) b ≡ (is_member eq b x && is_within eq a b)
   is_within-cons x a b = refl

@@ -1,13 +1,18 @@
 -- A function of each value of a list of pairs, and a fact about each value.
 use Rattle.std.proofs.Common.{◌≡◌, Bool, true, false, List, [], ◌∷◌, None, Some, All, if◌then◌else◌, option_map, refl, sym, ap, ◌∙◌, subst, inl, inr}
 use Rattle.std.proofs.lemmas.{Bool.cases_Bool, List.Elements.All-cons, List.Elements.All-head, List.Elements.All-tail, Map.Made.lookup-map_values}
-use Rattle.vecmap_base.specs.Pairs.{lookup, map_values, put}
+use Rattle.vecmap_base.specs.Pairs.{lookup, lookup_by, map_values, put}
 use Rattle.vecmap_base.proofs.PairsLemmas.{Lookups.look, Indices.lookup_by_is, Recursion.put_cons}
+
+module _ {K V W : Type 0} (g : V → W) where
+  -- In the list with `g` of each value, a lookup finds `g` of what it found before.
+  pub lookup_by_map_values : (test : K → Bool) (l : List (K × V)) → lookup_by test (map_values g l) ≡ option_map g (lookup_by test l)
+  lookup_by_map_values test l = lookup_by_is test (map_values g l) ∙ lookup-map_values g test l ∙ ap (option_map g) (sym (lookup_by_is test l))
 
 module _ {K V W : Type 0} (eq : K → K → Bool) (g : V → W) where
   -- In the list with `g` of each value, a lookup finds `g` of what it found before.
   pub lookup_map_values : (l : List (K × V)) (k : K) → lookup eq (map_values g l) k ≡ option_map g (lookup eq l k)
-  lookup_map_values l k = lookup_by_is (eq k) (map_values g l) ∙ lookup-map_values g (eq k) l ∙ ap (option_map g) (sym (lookup_by_is (eq k) l))
+  lookup_map_values l k = lookup_by_map_values g (eq k) l
 
   -- An insertion, seen in the list with `g` of each value, inserts `g` of the value.
   pub map_values_put : (l : List (K × V)) (k : K) (v : V) → map_values g (put eq l k v) ≡ put eq (map_values g l) k (g v)

@@ -2,8 +2,8 @@
 use Rattle.std.specs.{Map.keys_of, Option.option_map}
 use Rattle.std.proofs.Common.{◌≡◌, ℕ, suc, Bool, true, false, List, [], ◌∷◌, ◌++◌, Some, drop, if◌then◌else◌, insert, remove, take, refl, sym, ap, ◌∙◌}
 use Rattle.std.proofs.lemmas.List.{drop-map, map-append, take-map}
-use Rattle.vecmap_base.specs.{Items.add, Items.add_new, Items.adds, Items.item_index, Items.without_item, Pairs.index_of, Pairs.put, Pairs.put_key, Pairs.puts, Pairs.without_key}
-use Rattle.vecmap_base.proofs.ItemsLemmas.Recursion.{add_cons, add_new_cons, item_index_cons, without_item_cons}
+use Rattle.vecmap_base.specs.{Items.add, Items.put_item, Items.adds, Items.item_index, Items.without_item, Pairs.index_of, Pairs.put, Pairs.put_key, Pairs.puts, Pairs.without_key}
+use Rattle.vecmap_base.proofs.ItemsLemmas.Recursion.{add_cons, put_item_cons, item_index_cons, without_item_cons}
 use Rattle.vecmap_base.proofs.PairsLemmas.Recursion.{index_of_cons, put_cons, put_key_cons, without_key_cons}
 
 module _ {K V : Type 0} where
@@ -30,11 +30,11 @@ module _ {K V : Type 0} (eq : K → K → Bool) where
   keys_of_puts l [] = refl
   keys_of_puts l (p ∷ ps) = keys_of_puts (put eq l p.0 p.1) ps ∙ ap (λ ks. adds eq ks (keys_of ps)) (keys_of_put l p.0 p.1)
 
-  pub keys_of_put_key : (l : List (K × V)) (k : K) (v : V) → keys_of (put_key eq l k v) ≡ add_new eq (keys_of l) k
+  pub keys_of_put_key : (l : List (K × V)) (k : K) (v : V) → keys_of (put_key eq l k v) ≡ put_item eq (keys_of l) k
   keys_of_put_key [] k v = refl
-  keys_of_put_key (p ∷ ps) k v = ap keys_of (put_key_cons eq p ps k v) ∙ by (eq k p.0) (keys_of_put_key ps k v) ∙ sym (add_new_cons eq p.0 (keys_of ps) k)
+  keys_of_put_key (p ∷ ps) k v = ap keys_of (put_key_cons eq p ps k v) ∙ by (eq k p.0) (keys_of_put_key ps k v) ∙ sym (put_item_cons eq p.0 (keys_of ps) k)
     where
-      by : (b : Bool) → keys_of (put_key eq ps k v) ≡ add_new eq (keys_of ps) k → keys_of (if b then (k, v) ∷ ps else p ∷ put_key eq ps k v) ≡ (if b then k ∷ keys_of ps else p.0 ∷ add_new eq (keys_of ps) k)
+      by : (b : Bool) → keys_of (put_key eq ps k v) ≡ put_item eq (keys_of ps) k → keys_of (if b then (k, v) ∷ ps else p ∷ put_key eq ps k v) ≡ (if b then k ∷ keys_of ps else p.0 ∷ put_item eq (keys_of ps) k)
       by true e = refl
       by false e = ap (λ ks. p.0 ∷ ks) e
 

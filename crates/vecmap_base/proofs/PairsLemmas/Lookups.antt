@@ -1,8 +1,9 @@
 -- What a lookup finds after an insertion and after a removal.
+use Rattle.std.specs.Set.{is_member}
 use Rattle.std.specs.{Cmp.IsEquivalence, List.list_any, Map.keys_of}
 use Rattle.std.proofs.Common.{◌≡◌, Bool, true, false, ◌||◌, List, [], ◌∷◌, None, Some, if◌then◌else◌, refl, sym, ap, ◌∙◌, true≢false, inl, inr}
 use Rattle.std.proofs.lemmas.Bool.{cases_Bool}
-use Rattle.vecmap_base.specs.{Items.has_item, Pairs.HasDistinctKeys, Pairs.lookup, Pairs.put, Pairs.without_key}
+use Rattle.vecmap_base.specs.{Pairs.HasDistinctKeys, Pairs.lookup, Pairs.put, Pairs.without_key}
 use Rattle.vecmap_base.proofs.ItemsLemmas.Removals.{without_item_absent}
 use Rattle.vecmap_base.proofs.PairsLemmas.{Keys.keys_of_without_key, Recursion.lookup_cons, Recursion.put_cons, Recursion.without_key_cons}
 
@@ -52,7 +53,7 @@ module _ {K V : Type 0} (eq : K → K → Bool) where
 
     -- A key that is removed from a list of distinct keys is absent.
     pub lookup_without_key : (l : List (K × V)) (k : K) → HasDistinctKeys eq l → lookup eq (without_key eq l k) k ≡ None
-    lookup_without_key l k d = lookup_absent (without_key eq l k) k (ap (λ ks. has_item eq ks k) (keys_of_without_key eq l k) ∙ without_item_absent eq o (keys_of l) k d)
+    lookup_without_key l k d = lookup_absent (without_key eq l k) k (ap (λ ks. is_member eq ks k) (keys_of_without_key eq l k) ∙ without_item_absent eq o (keys_of l) k d)
 
     -- After a removal, each other key has its old value.
     pub lookup_without_key_other : (l : List (K × V)) (k q : K) → eq k q ≡ false → lookup eq (without_key eq l k) q ≡ lookup eq l q

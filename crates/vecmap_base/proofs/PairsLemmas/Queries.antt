@@ -1,13 +1,13 @@
 -- What a query finds that matches exactly the keys that are equal to one of its matches.
 use Rattle.std.specs.declared.alloc.Global.{Global}
-use Rattle.std.specs.{Cmp.IsEquivalence, Cmp.on_equiv, Cmp.Lexicographic.nat_list_eq_equiv, Option.option_and_then, Option.option_map_or}
+use Rattle.std.specs.{Cmp.IsEquivalence, Cmp.on_equiv, Cmp.Lexicographic.nat_list_eq_equiv, Map.IsKeyTest, Option.option_and_then, Option.option_map_or}
 use Rattle.std.proofs.Common.{◌≡◌, ℕ, Bool, false, List, [], ◌∷◌, Option, None, Some, String, IsTrue, bytes_eq, if◌then◌else◌, remove, string_bytes, string_eq, refl, sym, ap, ◌∙◌, get_or, inl, inr}
 use Rattle.std.proofs.lemmas.{Bool.cases_Bool, List.Quantifiers.position-Some}
 use Rattle.vecmap_base.specs.Pairs.{HasDistinctKeys, has_text, index_by, index_of, lookup, lookup_by, lookup_pair, lookup_pair_by, put, swap_without_by, swap_without_key, value_at, without_by, without_key}
 use Rattle.vecmap_base.proofs.ItemsLemmas.Queries.{stands_apart, tells_as}
 use Rattle.vecmap_base.proofs.PairsLemmas.{Lookups.lookup_put, Lookups.lookup_without_key, Recursion.lookup_by_cons, Recursion.put_cons}
 
-module _ {K V : Type 0} (eq : K → K → Bool) (o : IsEquivalence eq) (test : K → Bool) (respects : (x y : K) → IsTrue (test x) → test y ≡ eq x y) where
+module _ {K V : Type 0} (eq : K → K → Bool) (o : IsEquivalence eq) (test : K → Bool) (respects : IsKeyTest eq test) where
   pub lookup_by_query : (l : List (K × V)) (k : K) → IsTrue (test k) → lookup_by test l ≡ lookup eq l k
   lookup_by_query l k h = ap (λ f. lookup_by f l) (tells_as eq o test respects k h)
 
@@ -58,7 +58,7 @@ module _ {K V : Type 0} (eq : K → K → Bool) (o : IsEquivalence eq) (test : K
           ap (λ f. lookup_by f (without_by f (p ∷ ps))) same ∙ lookup_without_key eq o (p ∷ ps) k d
 
 -- A text matches the strings with the same bytes.
-pub text_respects : (text : List ℕ) (x y : String Global) → IsTrue (has_text text x) → has_text text y ≡ string_eq x y
+pub text_respects : (text : List ℕ) → IsKeyTest {K = String Global} string_eq (has_text text)
 text_respects text x y h = nat_list_eq_equiv.symm (string_bytes y) text ∙ sym (nat_list_eq_equiv.congr (string_bytes x) text (string_bytes y) h)
 
 pub same_text : (text : List ℕ) (x : String Global) → string_bytes x ≡ text → IsTrue (has_text text x)

@@ -1,8 +1,9 @@
 -- The number of comparisons that a removal of repeats makes.
+use Rattle.std.specs.Set.{is_member}
 use Rattle.std.specs.{Cmp.IsEquivalence, List.IsDistinct, Map.keys_of, Option.option_map_or}
 use Rattle.std.proofs.Common.{◌≡◌, ℕ, suc, ◌+◌, ◌<◌, ◌≤◌, Bool, true, false, List, [], ◌∷◌, ◌++◌, Option, None, Some, length, take, refl, sym, ap, ◌∙◌, subst, get_or, arith, inl, inr}
 use Rattle.std.proofs.lemmas.{Bool.cases_Bool, List.append_assoc, List.length-take, List.length_push, List.map-append, List.take_more, List.Quantifiers.position-Some, Map.Entries.length-keys_of}
-use Rattle.vecmap_base.specs.{Items.add, Items.adds, Items.has_item, Items.item_index, Pairs.HasDistinctKeys, Pairs.index_of, Pairs.puts}
+use Rattle.vecmap_base.specs.{Items.add, Items.adds, Items.item_index, Pairs.HasDistinctKeys, Pairs.index_of, Pairs.puts}
 use Rattle.vecmap_base.specs.Repeats.{adds_cost, comparisons, cost, search_cost}
 use Rattle.vecmap_base.proofs.DistinctLemmas.Absent.{none_before}
 use Rattle.vecmap_base.proofs.ItemsLemmas.Additions.{add_absent, add_present}
@@ -14,11 +15,11 @@ module _ {T : Type 0} (eq : T → T → Bool) where
   pub search_cost_found : (s : List T) (x : T) (i : ℕ) → item_index eq s x ≡ Some i → search_cost eq s x ≡ i + 1
   search_cost_found s x i e = ap (λ o. option_map_or (λ j. j + 1) o (length s)) e
 
-  pub search_cost_absent : (s : List T) (x : T) → has_item eq s x ≡ false → search_cost eq s x ≡ length s
+  pub search_cost_absent : (s : List T) (x : T) → is_member eq s x ≡ false → search_cost eq s x ≡ length s
   search_cost_absent s x e = ap (λ o. option_map_or (λ j. j + 1) o (length s)) (position_none (eq x) s e)
 
   -- The element at `i` is equal to `x`, and none before it is.
-  pub search_cost_at : (s : List T) (x : T) (i : ℕ) (y : T) → i < length s → y ≡ get_or s i y → eq x y ≡ true → has_item eq (take i s) x ≡ false → search_cost eq s x ≡ i + 1
+  pub search_cost_at : (s : List T) (x : T) (i : ℕ) (y : T) → i < length s → y ≡ get_or s i y → eq x y ≡ true → is_member eq (take i s) x ≡ false → search_cost eq s x ≡ i + 1
   search_cost_at s x i y l e hit miss = search_cost_found s x i (position_at (eq x) s i y l e hit (position_none (eq x) (take i s) miss))
 
   search_cost_at_most : (s : List T) (x : T) → search_cost eq s x ≤ length s
@@ -46,7 +47,7 @@ module _ {T : Type 0} (eq : T → T → Bool) where
       let n = length s in
       let m = length xs in
       let one_on : n + suc m ≡ n + m + 1 = omega arith in
-      elim (cases_Bool (has_item eq s x)) [
+      elim (cases_Bool (is_member eq s x)) [
         | inl h ↦
             let rest : adds_cost eq (add eq s x) xs + cost n ≤ cost (n + m) = rw (add_present eq s x h) (adds_cost_at_most s xs) in
             rw one_on (omega (arith, rest, search_cost_at_most s x, cost_more (n + m)))

@@ -149,7 +149,6 @@ impl<'a, T: fmt::Debug> fmt::Debug for Iter<'a, T> {
 /// items.next_back() // Some(2)
 /// items.len() // 1
 /// ```
-#[derive(Drop)]
 pub struct IntoIter<T> {
     items: VecDeque<T>,
 }
@@ -160,6 +159,15 @@ impl<T> Model for IntoIter<T> {
     ghost Value = { List T };
 
     ghost view = { λ a. a.items.items };
+}
+
+/// Drops the values that are left. It is written by hand, so that a loop over the iterator keeps what it has taken
+/// where `?` may drop the rest: a derived one is run field by field where the iterator is dropped.
+impl<T: Drop> Drop for IntoIter<T> {
+    fn drop(self) {
+        let IntoIter { items } = self;
+        drop(items);
+    }
 }
 
 impl<T> IntoIter<T> {

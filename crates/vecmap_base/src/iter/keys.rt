@@ -153,7 +153,6 @@ impl<'a, K: fmt::Debug, V> fmt::Debug for Keys<'a, K, V> {
 /// keys.next_back() // Some('b')
 /// keys.len() // 1
 /// ```
-#[derive(Drop)]
 pub struct IntoKeys<K, V> {
     pairs: VecDeque<(K, V)>,
 }
@@ -165,6 +164,15 @@ impl<K, V> Model for IntoKeys<K, V> {
     ghost Value = { List K };
 
     ghost view = { λ a. keys_of a.pairs.items };
+}
+
+/// Drops the values that are left. It is written by hand, so that a loop over the iterator keeps what it has taken
+/// where `?` may drop the rest: a derived one is run field by field where the iterator is dropped.
+impl<K: Drop, V: Drop> Drop for IntoKeys<K, V> {
+    fn drop(self) {
+        let IntoKeys { pairs } = self;
+        drop(pairs);
+    }
 }
 
 impl<K, V> IntoKeys<K, V> {

@@ -153,7 +153,6 @@ impl<'a, K: fmt::Debug, V: fmt::Debug> fmt::Debug for Iter<'a, K, V> {
 /// pairs.next_back() // Some(('b', 2))
 /// pairs.len() // 1
 /// ```
-#[derive(Drop)]
 pub struct IntoIter<K, V> {
     pairs: VecDeque<(K, V)>,
 }
@@ -164,6 +163,15 @@ impl<K, V> Model for IntoIter<K, V> {
     ghost Value = { List (K × V) };
 
     ghost view = { λ a. a.pairs.items };
+}
+
+/// Drops the values that are left. It is written by hand, so that a loop over the iterator keeps what it has taken
+/// where `?` may drop the rest: a derived one is run field by field where the iterator is dropped.
+impl<K: Drop, V: Drop> Drop for IntoIter<K, V> {
+    fn drop(self) {
+        let IntoIter { pairs } = self;
+        drop(pairs);
+    }
 }
 
 impl<K, V> IntoIter<K, V> {

@@ -153,7 +153,6 @@ impl<'a, K, V: fmt::Debug> fmt::Debug for Values<'a, K, V> {
 /// values.next_back() // Some(2)
 /// values.len() // 1
 /// ```
-#[derive(Drop)]
 pub struct IntoValues<K, V> {
     pairs: VecDeque<(K, V)>,
 }
@@ -165,6 +164,15 @@ impl<K, V> Model for IntoValues<K, V> {
     ghost Value = { List V };
 
     ghost view = { λ a. values_of a.pairs.items };
+}
+
+/// Drops the values that are left. It is written by hand, so that a loop over the iterator keeps what it has taken
+/// where `?` may drop the rest: a derived one is run field by field where the iterator is dropped.
+impl<K: Drop, V: Drop> Drop for IntoValues<K, V> {
+    fn drop(self) {
+        let IntoValues { pairs } = self;
+        drop(pairs);
+    }
 }
 
 impl<K, V> IntoValues<K, V> {

@@ -1,7 +1,7 @@
 //! Callers of laws that keep keys, or elements, distinct.
 ghost use Rattle.std.specs.List.{IsDistinct};
 ghost use Rattle.std.specs.Prelude.{◌≡◌, ◌≤◌, IfOk, OnOk, length, nat_eq};
-ghost use Rattle.vecmap.specs.Clones.{ClonesAreSame};
+ghost use Rattle.std.specs.Set.{ClonesAreEqual};
 ghost use Rattle.vecmap.specs.Items.{adds};
 ghost use Rattle.vecmap.specs.Pairs.{HasDistinctKeys};
 
@@ -39,7 +39,7 @@ pub fn copy_of_distinct<K: Eq + Clone, V: Clone>(
     map: &VecMap<K, V>,
 ) -> Result<VecMap<K, V>, AllocError>
     requires distinct { HasDistinctKeys K.eq map.now.entries }
-    requires clones_equal { ClonesAreSame K.eq K.is_clone }
+    requires clones_equal { ClonesAreEqual K.eq K.is_clone }
     ensures { IfOk result (λ copy. HasDistinctKeys K.eq copy.entries) }
 {
     clones_keep_keys_distinct::<K, V>();

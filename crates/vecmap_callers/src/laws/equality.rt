@@ -1,6 +1,7 @@
 //! Callers of laws about equality and about parts of sets.
+ghost use Rattle.std.specs.Option.{option_eq};
 ghost use Rattle.std.specs.Prelude.{◌≡◌, ◌≤◌, ◌↔◌, IsTrue, OnOk, [], length, nat_eq};
-ghost use Rattle.vecmap.specs.Equality.{has_same_counts, has_same_items, is_within, same_option};
+ghost use Rattle.vecmap.specs.Equality.{has_same_counts, has_same_items, is_within};
 ghost use Rattle.vecmap.specs.Items.{both};
 ghost use Rattle.vecmap.specs.Pairs.{HasDistinctKeys, lookup};
 
@@ -22,7 +23,7 @@ pub fn lookups_agree<K: Eq, V: Eq>(a: &VecMap<K, V>, b: &VecMap<K, V>) -> bool
     requires distinct { HasDistinctKeys K.eq a.now.entries }
     requires other_distinct { HasDistinctKeys K.eq b.now.entries }
     ensures { IsTrue result ↔ ((key : K) → IsTrue
-        (same_option V.eq (lookup K.eq a.now.entries key) (lookup K.eq b.now.entries key))) }
+        (option_eq V.eq (lookup K.eq a.now.entries key) (lookup K.eq b.now.entries key))) }
 {
     equality_is_agreement::<K, V>();
     *a == *b

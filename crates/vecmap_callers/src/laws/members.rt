@@ -1,7 +1,8 @@
 //! Callers of laws about which elements a set has, and at which indices.
 ghost use Rattle.std.specs.List.{IsDistinct};
 ghost use Rattle.std.specs.Prelude.{◌&&◌, ◌||◌, ◌≡◌, ◌<◌, ℕ, Contains, IfOk, IsTrue, OnOk, Some, false, filter, length, nat_eq, nat_lt, slice_get};
-ghost use Rattle.vecmap.specs.Items.{has_item, item_index};
+ghost use Rattle.std.specs.Set.{is_member};
+ghost use Rattle.vecmap.specs.Items.{item_index};
 
 use std::alloc::AllocError;
 use vecmap::set::laws::{
@@ -13,8 +14,8 @@ use vecmap::{Refused, VecSet};
 
 /// Adds an element. What was present is then present, and what is equal to the element.
 pub fn include<T: Eq + Drop>(set: &mut VecSet<T>, item: T) -> Result<(), Refused<T>>
-    ensures { OnOk result ((other : T) → has_item T.eq set.new.elements other
-        ≡ (has_item T.eq set.old.elements other || T.eq item other)) }
+    ensures { OnOk result ((other : T) → is_member T.eq set.new.elements other
+        ≡ (is_member T.eq set.old.elements other || T.eq item other)) }
 {
     added_elements_are_present::<T>();
     set.insert(item)?;
@@ -26,8 +27,8 @@ pub fn unite_into<T: Eq + Drop>(
     set: &mut VecSet<T>,
     other: &mut VecSet<T>,
 ) -> Result<(), AllocError>
-    ensures { OnOk result ((x : T) → has_item T.eq set.new.elements x
-        ≡ (has_item T.eq set.old.elements x || has_item T.eq other.old.elements x)) }
+    ensures { OnOk result ((x : T) → is_member T.eq set.new.elements x
+        ≡ (is_member T.eq set.old.elements x || is_member T.eq other.old.elements x)) }
 {
     added_elements_are_present::<T>();
     set.append(other)
@@ -49,7 +50,7 @@ pub fn append_behind<T: Eq + Drop>(
 
 /// Removes an element, which is then absent.
 pub fn exclude<T: Eq + Drop>(set: &mut VecSet<T>, item: &T)
-    ensures { has_item T.eq set.new.elements item.now ≡ false }
+    ensures { is_member T.eq set.new.elements item.now ≡ false }
 {
     removals_are_forgotten::<T>();
     // The law needs that no two elements are equal, which `as_slice` states.
@@ -59,8 +60,8 @@ pub fn exclude<T: Eq + Drop>(set: &mut VecSet<T>, item: &T)
 
 /// Returns what two sets share. It has an element if both sets have it.
 pub fn shared(a: &VecSet<u32>, b: &VecSet<u32>) -> Result<VecSet<u32>, AllocError>
-    ensures { IfOk result (λ set. (x : ℕ) → has_item nat_eq set.elements x
-        ≡ (has_item nat_eq a.now.elements x && has_item nat_eq b.now.elements x)) }
+    ensures { IfOk result (λ set. (x : ℕ) → is_member nat_eq set.elements x
+        ≡ (is_member nat_eq a.now.elements x && is_member nat_eq b.now.elements x)) }
 {
     operators_combine_members::<u32>();
     clones_have_the_same_members::<u32>();
@@ -71,8 +72,8 @@ pub fn shared(a: &VecSet<u32>, b: &VecSet<u32>) -> Result<VecSet<u32>, AllocErro
 pub fn copy_of_set<T: Eq + Clone>(set: &VecSet<T>) -> Result<VecSet<T>, AllocError>
     requires clones_equal { (x y : T) → Contains set.now.elements x → T.is_clone x y
         → IsTrue (T.eq x y) }
-    ensures { IfOk result (λ copy. (x : T) → has_item T.eq copy.elements x
-        ≡ has_item T.eq set.now.elements x) }
+    ensures { IfOk result (λ copy. (x : T) → is_member T.eq copy.elements x
+        ≡ is_member T.eq set.now.elements x) }
 {
     clones_have_the_same_members::<T>();
     set.clone()

@@ -1,5 +1,5 @@
 //! Runs of commands on a set.
-ghost use Rattle.vecmap_base.specs.Clones.{ClonesAreSame};
+ghost use Rattle.std.specs.Set.{ClonesAreEqual};
 
 use crate::checks::{assert_is, assert_items, assert_texts, check, granted};
 use crate::telling::{make, retry};
@@ -29,7 +29,7 @@ fn reply_to<T: Eq + Clone + Drop>(
     set: &mut VecSet<T>,
     command: Result<SetCommand<T>, AllocError>,
 ) -> Result<SetReply<T>, AllocError>
-    requires clones_equal { ClonesAreSame T.eq T.is_clone }
+    requires clones_equal { ClonesAreEqual T.eq T.is_clone }
 {
     let mut commands = Vec::with_capacity(alloc, 1)?;
     commands.push(command?)?;

@@ -2,7 +2,8 @@
 ghost use Rattle.std.specs.Prelude.{◌≡◌, ◌+◌, ◌++◌, ◌<◌, ◌∷◌, ℕ, List, Some, [], false, if◌then◌else◌, length, option_map, slice_get, true, unwrap_or};
 ghost use Rattle.std.specs.List.{IsDistinct};
 ghost use Rattle.std.specs.Option.{option_or};
-ghost use Rattle.vecmap_base.specs.Items.{add, add_new, adds, has_item, item_index, only, without_item};
+ghost use Rattle.std.specs.Set.{is_member};
+ghost use Rattle.vecmap_base.specs.Items.{add, put_item, adds, item_index, only, without_item};
 
 /// Elements that are equal have the same index.
 #[tactic(auto, using(vecmap_base::proofs::ItemsLemmas::Indices::item_index_congr))]
@@ -30,8 +31,8 @@ pub fn additions_move_nothing<T: Eq>()
         (unwrap_or (item_index T.eq s x) (length s)) else item_index T.eq s y) }
     ensures element { (s : List T) (x : T) (i : ℕ) → i < length s
         → slice_get (add T.eq s x) i ≡ slice_get s i }
-    ensures present { (s : List T) (x : T) → has_item T.eq s x ≡ true → add T.eq s x ≡ s }
-    ensures appended { (s : List T) (x : T) → has_item T.eq s x ≡ false → add T.eq s x ≡ s ++ x ∷ [] }
+    ensures present { (s : List T) (x : T) → is_member T.eq s x ≡ true → add T.eq s x ≡ s }
+    ensures appended { (s : List T) (x : T) → is_member T.eq s x ≡ false → add T.eq s x ≡ s ++ x ∷ [] }
 {}
 
 /// Many additions move no element.
@@ -69,12 +70,12 @@ pub fn additions_keep_elements_distinct<T: Eq>()
     ensures adds { (s : List T) → IsDistinct T.eq s → (xs : List T)
         → IsDistinct T.eq (adds T.eq s xs) }
     ensures replace { (s : List T) → IsDistinct T.eq s → (x : T)
-        → IsDistinct T.eq (add_new T.eq s x) }
+        → IsDistinct T.eq (put_item T.eq s x) }
 {}
 
 /// After a removal from distinct elements, no element that is left is equal to the removed one.
 #[tactic(auto, using(vecmap_base::proofs::ItemsLemmas::Removals::without_item_absent))]
 pub fn removals_are_forgotten<T: Eq>()
     ensures { (s : List T) → IsDistinct T.eq s → (x : T)
-        → has_item T.eq (without_item T.eq s x) x ≡ false }
+        → is_member T.eq (without_item T.eq s x) x ≡ false }
 {}

@@ -1,21 +1,22 @@
 //! Laws about unions, intersections and differences, and about the lazy iterators over them.
 ghost use Rattle.std.specs.Prelude.{◌≡◌, ◌↔◌, List, []};
-ghost use Rattle.vecmap_base.specs.Items.{both, has_item, only};
+ghost use Rattle.std.specs.Set.{is_member};
+ghost use Rattle.vecmap_base.specs.Items.{both, only};
 ghost use Rattle.vecmap_set.specs.Algebra.{AgreeAsSets, IgnoresSides, LengthsAddUp, MakesSets};
-ghost use Rattle.vecmap_set.specs.Lazy.{ExcludesFirst, ExcludesLast, JoinsFirst, JoinsLast, PullsAsList, SiftsFirst, SiftsLast, exclusive, joined, lacks_item, sifted};
+ghost use Rattle.vecmap_set.specs.Lazy.{ExcludesFirst, ExcludesLast, JoinsFirst, JoinsLast, PullsAsList, SiftsFirst, SiftsLast, lacks_item, sift_rest, symmetric_rest, union_rest};
 ghost use Rattle.vecmap_set.specs.Operators.{lazy_intersection, lazy_union, symmetric_difference_of, union_of};
 
 /// Any mixture of pulls from both ends of a lazy iterator returns the same as pulls from its list.
 ///
 /// Each element comes once: in order from the front, in reverse order from the back. Then each pull returns `None`.
 pub fn lazy_iterators_pull_as_lists<T: Eq>()
-    ensures difference { PullsAsList (sifted (lacks_item T.eq)) (SiftsFirst (lacks_item T.eq))
+    ensures difference { PullsAsList (sift_rest (lacks_item T.eq)) (SiftsFirst (lacks_item T.eq))
         (SiftsLast (lacks_item T.eq)) }
-    ensures intersection { PullsAsList (sifted (has_item T.eq)) (SiftsFirst (has_item T.eq))
-        (SiftsLast (has_item T.eq)) }
-    ensures symmetric_difference { PullsAsList (exclusive T.eq) (ExcludesFirst T.eq)
+    ensures intersection { PullsAsList (sift_rest (is_member T.eq)) (SiftsFirst (is_member T.eq))
+        (SiftsLast (is_member T.eq)) }
+    ensures symmetric_difference { PullsAsList (symmetric_rest T.eq) (ExcludesFirst T.eq)
         (ExcludesLast T.eq) }
-    ensures union { PullsAsList (joined T.eq) (JoinsFirst T.eq) (JoinsLast T.eq) }
+    ensures union { PullsAsList (union_rest T.eq) (JoinsFirst T.eq) (JoinsLast T.eq) }
 {}
 
 /// No two elements that a lazy iterator over two sets yields are equal.

@@ -1,8 +1,9 @@
 //! Laws about what queries find after additions, and about what texts find.
 ghost use Rattle.std.specs.List.{IsDistinct, list_any};
 ghost use Rattle.std.specs.Prelude.{◌≡◌, ℕ, List, Some, String, bytes_eq, false, length, position, string_bytes, string_eq, true, unwrap_or};
+ghost use Rattle.std.specs.Set.{is_member};
 ghost use Rattle.std.specs.declared.alloc.Global.{Global};
-ghost use Rattle.vecmap_base.specs.Items.{add, has_item, item_index, stored_first, stored_item, swap_without_first, swap_without_item, without_first, without_item};
+ghost use Rattle.vecmap_base.specs.Items.{add, item_index, stored_first, stored_item, swap_without_first, swap_without_item, without_first, without_item};
 ghost use Rattle.vecmap_base.specs.Pairs.{has_text};
 
 use vecmap_base::Equivalent;
@@ -28,7 +29,7 @@ pub fn texts_find_as_strings()
     ensures index { (s : List (String Global)) (text : List ℕ) (x : String Global)
         → string_bytes x ≡ text → position (has_text text) s ≡ item_index string_eq s x }
     ensures found { (s : List (String Global)) (text : List ℕ) (x : String Global)
-        → string_bytes x ≡ text → list_any (has_text text) s ≡ has_item string_eq s x }
+        → string_bytes x ≡ text → list_any (has_text text) s ≡ is_member string_eq s x }
     ensures removal { (s : List (String Global)) (text : List ℕ) (x : String Global)
         → string_bytes x ≡ text → without_first (has_text text) s ≡ without_item string_eq s x }
     ensures stored { (s : List (String Global)) (text : List ℕ) (x : String Global)

@@ -1,7 +1,8 @@
 //! Laws about queries that are not elements themselves.
 ghost use Rattle.std.specs.Prelude.{◌≡◌, List, false, position, true};
 ghost use Rattle.std.specs.List.{IsDistinct, list_any};
-ghost use Rattle.vecmap_base.specs.Items.{has_item, item_index, stored_first, stored_item, swap_without_first, swap_without_item, without_first, without_item};
+ghost use Rattle.std.specs.Set.{is_member};
+ghost use Rattle.vecmap_base.specs.Items.{item_index, stored_first, stored_item, swap_without_first, swap_without_item, without_first, without_item};
 
 use vecmap_base::Equivalent;
 
@@ -13,7 +14,7 @@ pub fn queries_find_as_elements<T: Eq, Q: Equivalent<T>>()
     ensures index { (s : List T) (q : Q) (x : T) → Q.equivalent q x ≡ true
         → position (Q.equivalent q) s ≡ item_index T.eq s x }
     ensures found { (s : List T) (q : Q) (x : T) → Q.equivalent q x ≡ true
-        → list_any (Q.equivalent q) s ≡ has_item T.eq s x }
+        → list_any (Q.equivalent q) s ≡ is_member T.eq s x }
     ensures removal { (s : List T) (q : Q) (x : T) → Q.equivalent q x ≡ true
         → without_first (Q.equivalent q) s ≡ without_item T.eq s x }
     ensures stored { (s : List T) (q : Q) (x : T) → Q.equivalent q x ≡ true

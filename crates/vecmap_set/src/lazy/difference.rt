@@ -1,7 +1,8 @@
 //! An iterator over the elements of one set that another lacks.
 ghost use Rattle.std.specs.Prelude.{◌≡◌, ⊤, length};
 ghost use Rattle.std.specs.Iterator.{at_most};
-ghost use Rattle.vecmap_set.specs.Lazy.{IsHintFor, SiftsAll, SiftsFirst, SiftsLast, lacks_item, sift_of, sifted};
+ghost use Rattle.vecmap_base.specs.Walks.{IsHintFor};
+ghost use Rattle.vecmap_set.specs.Lazy.{SiftsAll, SiftsFirst, SiftsLast, lacks_item, sift_of, sift_rest};
 
 use super::{sift_back, sift_front};
 use std::alloc::AllocError;
@@ -78,7 +79,7 @@ impl<'a, T: Eq> Iterator for Difference<'a, T> {
 
     ghost next_gives = { SiftsFirst (lacks_item T.eq) };
 
-    ghost remaining = { λ s. at_most (length (sifted (lacks_item T.eq) s)) };
+    ghost remaining = { λ s. at_most (length (sift_rest (lacks_item T.eq) s)) };
 
     fn next(&mut self) -> Option<&'a T> {
         sift_front(&mut self.items, self.other, false)
@@ -87,7 +88,7 @@ impl<'a, T: Eq> Iterator for Difference<'a, T> {
     /// Returns 0 and the number of elements that are not yet visited.
     #[tactic(auto, using(crate::proofs::LazyLemmas::length_filter))]
     fn size_hint(&self) -> (usize, Option<usize>)
-        ensures bounds { IsHintFor (length (sifted (lacks_item T.eq) self.now)) result }
+        ensures bounds { IsHintFor (length (sift_rest (lacks_item T.eq) self.now)) result }
         ensures hint { result ≡ (0, Some (length self.now.unwalked)) }
     {
         (0, Some(self.items.len()))

@@ -1,8 +1,9 @@
 //! An iterator over the elements of one set that another has.
 ghost use Rattle.std.specs.Prelude.{◌≡◌, ⊤, length};
 ghost use Rattle.std.specs.Iterator.{at_most};
-ghost use Rattle.vecmap_base.specs.Items.{has_item};
-ghost use Rattle.vecmap_set.specs.Lazy.{IsHintFor, SiftsAll, SiftsFirst, SiftsLast, sift_of, sifted};
+ghost use Rattle.std.specs.Set.{is_member};
+ghost use Rattle.vecmap_base.specs.Walks.{IsHintFor};
+ghost use Rattle.vecmap_set.specs.Lazy.{SiftsAll, SiftsFirst, SiftsLast, sift_of, sift_rest};
 
 use super::{sift_back, sift_front};
 use std::alloc::AllocError;
@@ -46,7 +47,7 @@ impl<'a, T: Eq> Model for Intersection<'a, T> {
 impl<'a, T: Eq> Intersection<'a, T> {
     // Creates an iterator over the elements of `items` that `other` has.
     pub(crate) fn over(items: &'a [T], other: &'a [T]) -> Intersection<'a, T>
-        ensures { SiftsAll (has_item T.eq) (sift_of items.now other.now) result }
+        ensures { SiftsAll (is_member T.eq) (sift_of items.now other.now) result }
     {
         Intersection {
             items: items.iter(),
@@ -79,9 +80,9 @@ impl<'a, T: Eq> Intersection<'a, T> {
 impl<'a, T: Eq> Iterator for Intersection<'a, T> {
     type Item = &'a T;
 
-    ghost next_gives = { SiftsFirst (has_item T.eq) };
+    ghost next_gives = { SiftsFirst (is_member T.eq) };
 
-    ghost remaining = { λ s. at_most (length (sifted (has_item T.eq) s)) };
+    ghost remaining = { λ s. at_most (length (sift_rest (is_member T.eq) s)) };
 
     fn next(&mut self) -> Option<&'a T> {
         sift_front(&mut self.items, self.other, true)
@@ -90,7 +91,7 @@ impl<'a, T: Eq> Iterator for Intersection<'a, T> {
     /// Returns 0 and the number of elements that are not yet visited.
     #[tactic(auto, using(crate::proofs::LazyLemmas::length_filter))]
     fn size_hint(&self) -> (usize, Option<usize>)
-        ensures bounds { IsHintFor (length (sifted (has_item T.eq) self.now)) result }
+        ensures bounds { IsHintFor (length (sift_rest (is_member T.eq) self.now)) result }
         ensures hint { result ≡ (0, Some (length self.now.unwalked)) }
     {
         (0, Some(self.items.len()))
@@ -98,7 +99,7 @@ impl<'a, T: Eq> Iterator for Intersection<'a, T> {
 }
 
 impl<'a, T: Eq> DoubleEndedIterator for Intersection<'a, T> {
-    ghost next_back_gives = { SiftsLast (has_item T.eq) };
+    ghost next_back_gives = { SiftsLast (is_member T.eq) };
 
     fn next_back(&mut self) -> Option<&'a T> {
         sift_back(&mut self.items, self.other, true)

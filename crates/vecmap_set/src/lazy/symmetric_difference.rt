@@ -2,7 +2,8 @@
 ghost use Rattle.std.specs.Prelude.{◌≡◌, ⊤, ◌+◌, length};
 ghost use Rattle.std.specs.Iterator.{at_most};
 ghost use Rattle.std.specs.Iterator.Runs.{YieldsRefsInOrder, YieldsRefsInReverse};
-ghost use Rattle.vecmap_set.specs.Lazy.{ExcludesFirst, ExcludesLast, IsBound, IsHintFor, exclusive, symmetric_parts};
+ghost use Rattle.vecmap_base.specs.Walks.{IsHintFor};
+ghost use Rattle.vecmap_set.specs.Lazy.{ExcludesFirst, ExcludesLast, IsBound, symmetric_parts, symmetric_rest};
 
 use super::{Difference, add_bounds};
 use std::alloc::AllocError;
@@ -47,8 +48,8 @@ impl<'a, T: Eq> SymmetricDifference<'a, T> {
     // lacks.
     pub(crate) fn over(items: &'a [T], other: &'a [T]) -> SymmetricDifference<'a, T>
         ensures rest { result ≡ symmetric_parts items.now other.now }
-        ensures runs { YieldsRefsInOrder (ExcludesFirst T.eq) (exclusive T.eq) }
-        ensures runs_back { YieldsRefsInReverse (ExcludesLast T.eq) (exclusive T.eq) }
+        ensures runs { YieldsRefsInOrder (ExcludesFirst T.eq) (symmetric_rest T.eq) }
+        ensures runs_back { YieldsRefsInReverse (ExcludesLast T.eq) (symmetric_rest T.eq) }
     {
         SymmetricDifference {
             first: Difference::over(items, other),
@@ -83,7 +84,7 @@ impl<'a, T: Eq> Iterator for SymmetricDifference<'a, T> {
 
     ghost next_gives = { ExcludesFirst T.eq };
 
-    ghost remaining = { λ s. at_most (length (exclusive T.eq s)) };
+    ghost remaining = { λ s. at_most (length (symmetric_rest T.eq s)) };
 
     fn next(&mut self) -> Option<&'a T> {
         if let Some(item) = self.first.next() {
@@ -96,7 +97,7 @@ impl<'a, T: Eq> Iterator for SymmetricDifference<'a, T> {
     ///
     /// There is no upper bound if that number exceeds `usize::MAX`.
     fn size_hint(&self) -> (usize, Option<usize>)
-        ensures bounds { IsHintFor (length (exclusive T.eq self.now)) result }
+        ensures bounds { IsHintFor (length (symmetric_rest T.eq self.now)) result }
         ensures lower_hint { result.0 ≡ 0 }
         ensures upper_hint { IsBound result.1
             (length self.now.first.unwalked + length self.now.second.unwalked) }
@@ -120,7 +121,8 @@ impl<'a, T: Eq> DoubleEndedIterator for SymmetricDifference<'a, T> {
 
 impl<T: Eq> FusedIterator for SymmetricDifference<'_, T> {}
 
-/// Returns an iterator over the same remaining elements, like the inherent [`SymmetricDifference::clone`]. It never fails.
+/// Returns an iterator over the same remaining elements, like the inherent [`SymmetricDifference::clone`]. It never
+/// fails.
 impl<'a, T: Eq> Clone for SymmetricDifference<'a, T> {
     ghost is_clone = { λ iter copy. copy ≡ iter };
 

@@ -2,7 +2,8 @@
 ghost use Rattle.std.specs.Prelude.{◌≡◌, ⊤, ◌+◌, length};
 ghost use Rattle.std.specs.Iterator.{at_most};
 ghost use Rattle.std.specs.Iterator.Runs.{YieldsRefsInOrder, YieldsRefsInReverse};
-ghost use Rattle.vecmap_set.specs.Lazy.{IsBound, IsHintFor, JoinsFirst, JoinsLast, joined, union_parts};
+ghost use Rattle.vecmap_base.specs.Walks.{IsHintFor};
+ghost use Rattle.vecmap_set.specs.Lazy.{IsBound, JoinsFirst, JoinsLast, union_parts, union_rest};
 
 use super::{Difference, add_bounds};
 use std::alloc::AllocError;
@@ -47,8 +48,8 @@ impl<'a, T: Eq> Union<'a, T> {
     // Creates an iterator over all of `items`, and then the elements of `other` that `items` lacks.
     pub(crate) fn over(items: &'a [T], other: &'a [T]) -> Union<'a, T>
         ensures rest { result ≡ union_parts items.now other.now }
-        ensures runs { YieldsRefsInOrder (JoinsFirst T.eq) (joined T.eq) }
-        ensures runs_back { YieldsRefsInReverse (JoinsLast T.eq) (joined T.eq) }
+        ensures runs { YieldsRefsInOrder (JoinsFirst T.eq) (union_rest T.eq) }
+        ensures runs_back { YieldsRefsInReverse (JoinsLast T.eq) (union_rest T.eq) }
     {
         Union {
             first: items.iter(),
@@ -83,7 +84,7 @@ impl<'a, T: Eq> Iterator for Union<'a, T> {
 
     ghost next_gives = { JoinsFirst T.eq };
 
-    ghost remaining = { λ s. at_most (length (joined T.eq s)) };
+    ghost remaining = { λ s. at_most (length (union_rest T.eq s)) };
 
     fn next(&mut self) -> Option<&'a T> {
         if let Some(item) = self.first.next() {
@@ -97,7 +98,7 @@ impl<'a, T: Eq> Iterator for Union<'a, T> {
     /// The upper bound adds the number of elements of the second part that are not yet visited. There is no upper bound
     /// if that sum exceeds `usize::MAX`.
     fn size_hint(&self) -> (usize, Option<usize>)
-        ensures bounds { IsHintFor (length (joined T.eq self.now)) result }
+        ensures bounds { IsHintFor (length (union_rest T.eq self.now)) result }
         ensures lower_hint { result.0 ≡ length self.now.first }
         ensures upper_hint { IsBound result.1
             (length self.now.first + length self.now.second.unwalked) }

@@ -1,5 +1,5 @@
 //! Runs of commands on a set. The replies are compared as they print, in order.
-ghost use Rattle.vecmap_base.specs.Clones.{ClonesAreSame};
+ghost use Rattle.std.specs.Set.{ClonesAreEqual};
 
 use crate::checks::{assert_is, assert_list, assert_text, check, granted};
 use std::alloc::{AllocError, Global};
@@ -16,7 +16,7 @@ fn assert_replies<T: Eq + Clone + Debug, E: Drop>(
     expected: &str,
 )
 where
-    requires clones_equal { ClonesAreSame T.eq T.is_clone }
+    requires clones_equal { ClonesAreEqual T.eq T.is_clone }
 {
     let alloc = *set.allocator();
     let replies = granted(rt, run_set(alloc, set, granted(rt, commands)));

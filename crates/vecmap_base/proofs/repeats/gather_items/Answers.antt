@@ -1,8 +1,9 @@
 -- After `i` items the front is what their additions leave, and the rest is unchanged. A new item is swapped to the end
 -- of the front.
+use Rattle.std.specs.Set.{is_member}
 use Rattle.std.proofs.Common.{◌≡◌, ◌+◌, ◌<◌, take, length, get_or, [], ◌∷◌, ◌++◌, sym, ap, ◌∙◌, arith}
 use Rattle.std.proofs.lemmas.{List.length_push, List.length-take, List.take_all, List.Sorted.IsPermutation-trans}
-use Rattle.vecmap_base.specs.{Items.adds, Items.has_item, Repeats.comparisons, Repeats.search_cost}
+use Rattle.vecmap_base.specs.{Items.adds, Repeats.comparisons, Repeats.search_cost}
 use Rattle.vecmap_base.proofs.RepeatsLemmas.{Comparisons.comparisons_below, Comparisons.comparisons_more, Gather.front_swapped, Gather.rest_more}
 use Rattle.vecmap_base.proofs.ItemsLemmas.Additions.{adds_more, add_absent, add_present}
 use Rattle.vecmap_base.proofs.repeats.gather_items.Goals as goal
@@ -30,7 +31,7 @@ loop-i-preserved g c =
     let next : x ≡ get_or xs i x = c.index-shared-i.is ∙ rest.0 in
     let next_steps : c.is_repeat.new.steps ≡ c.loop-i.steps + search_cost eq s (get_or xs i x) = c.is_repeat.ensures.counted ∙ (λ t. c.loop-i.steps + search_cost eq (was.front t) (next t)) in
     let counted : c.is_repeat.new.steps ≡ c.args.steps.now + comparisons eq (take (i + 1) xs) = omega (arith, next_steps, was.counted, comparisons_more eq xs i x l) in
-    let answer : c.is_repeat.result ≡ has_item eq s (get_or xs i x) = c.is_repeat.ensures.repeat ∙ (λ t. has_item eq (was.front t) (next t)) in
+    let answer : c.is_repeat.result ≡ is_member eq s (get_or xs i x) = c.is_repeat.ensures.repeat ∙ (λ t. is_member eq (was.front t) (next t)) in
     elim c.if-not-is_repeat.branch [
       | then-not-is_repeat w ↦
           rw (w.items-is, w.kept-is) (

@@ -1,6 +1,6 @@
+use Rattle.std.specs.Set.{is_member}
 use Rattle.std.proofs.Common.{◌≡◌, ◌∙◌, ap, arith, false, sym}
 use Rattle.std.proofs.lemmas.List.{take_all}
-use Rattle.vecmap_base.specs.Items.{has_item}
 use Rattle.vecmap_base.proofs.RepeatsLemmas.Comparisons.{search_cost_absent, search_cost_at}
 use Rattle.vecmap_base.proofs.repeats.is_repeat.Goals as goal
 
@@ -11,5 +11,5 @@ returns-then-same-clause-counted g c =
 pub returns-clause-counted : goal.returns-clause-counted
 returns-clause-counted g c =
     let all = take_all c.loop-stored.stored-index c.args.front.now c.loop-stored-test.false in
-    let none : has_item g.T.PartialEq.eq c.args.front.now c.args.item.now ≡ false = sym (ap (λ l. has_item g.T.PartialEq.eq l c.args.item.now) all) ∙ c.loop-stored.invariant.1 in
+    let none : is_member g.T.PartialEq.eq c.args.front.now c.args.item.now ≡ false = sym (ap (λ l. is_member g.T.PartialEq.eq l c.args.item.now) all) ∙ c.loop-stored.invariant.1 in
     omega (arith, search_cost_absent g.T.PartialEq.eq c.args.front.now c.args.item.now none)

@@ -1,6 +1,6 @@
 -- The idea: each round appends a clone to the list of clones that the invariant names, and a refused round is where the
 -- call stops.
-use Rattle.std.proofs.Common.{arith, inr, refl, rules}
+use Rattle.std.proofs.Common.{◌+◌, ◌≤◌, arith, inr, length, refl, rules, sym, true≢false}
 use Rattle.std.proofs.lemmas.{Grind.common_steps, Result.err_from_is_err_and}
 use Rattle.vecmap_base.specs.{Clones.IsPairClone, Pairs.put}
 use Rattle.vecmap_base.proofs.CloneLemmas.{lent_clone_taken}
@@ -29,3 +29,10 @@ returns-in_err-put_clones-clause-err g c =
       (c.loop-pair.pair-iterator, c.loop-pair.yielded_by, c.in-Some.ensures.steps),
       (c.loop-pair.invariant.puts, λ k v. let one = c.in_err-put_clones.ensures.full k v in (one.0, one.1, record { unchanged = refl; absent = one.2.absent; full = one.2.full })),
     ))
+
+pub returns-in_err-put_clones-clause-succeeds : goal.returns-in_err-put_clones-clause-succeeds
+returns-in_err-put_clones-clause-succeeds g c = λ room clones.
+    let can = clones c.into_iter-pair-iterator.result c.loop-pair.yielded c.in-Some.pair c.next.new.self (rw c.into_iter-pair-iterator.ensures.into_iter_gives c.into_iter-items.ensures.into_iter_gives) (c.loop-pair.pair-iterator, c.loop-pair.yielded_by, c.in-Some.ensures.steps) in
+    let all = room c.into_iter-pair-iterator.result (rw c.into_iter-pair-iterator.ensures.into_iter_gives c.into_iter-items.ensures.into_iter_gives) in
+    let spare : length c.loop-pair.self.entries + 1 ≤ c.loop-pair.self.capacity = grind (arith, common_steps) in
+    absurd (true≢false (sym (c.in_err-put_clones.ensures.succeeds spare can.0 can.1)))

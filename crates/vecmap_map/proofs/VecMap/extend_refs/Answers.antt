@@ -1,6 +1,6 @@
 -- The idea: each round appends a clone to the list of clones that the invariant names, and a refused round is where the
 -- call stops.
-use Rattle.std.proofs.Common.{arith, inr, refl, rules}
+use Rattle.std.proofs.Common.{◌+◌, ◌≤◌, arith, inr, length, refl, rules, sym, true≢false}
 use Rattle.std.proofs.lemmas.{Grind.common_steps, Result.err_from_is_err_and}
 use Rattle.std.specs.Map.Iter.{deref_pair}
 use Rattle.vecmap_base.specs.{Clones.IsPairClone, Pairs.put}
@@ -30,3 +30,10 @@ returns-in_err-put_clones-clause-err g c =
       (c.loop-key.key-iterator, c.loop-key.yielded_by, c.in-Some.ensures.steps),
       (c.loop-key.invariant.puts, λ k v. let one = c.in_err-put_clones.ensures.full k v in (one.0, one.1, record { unchanged = refl; absent = one.2.absent; full = one.2.full })),
     ))
+
+pub returns-in_err-put_clones-clause-succeeds : goal.returns-in_err-put_clones-clause-succeeds
+returns-in_err-put_clones-clause-succeeds g c = λ room clones.
+    let can = clones c.into_iter-key-iterator.result c.loop-key.yielded (c.in-Some.key, c.in-Some.value) c.next.new.self (rw c.into_iter-key-iterator.ensures.into_iter_gives c.into_iter-items.ensures.into_iter_gives) (c.loop-key.key-iterator, c.loop-key.yielded_by, c.in-Some.ensures.steps) in
+    let all = room c.into_iter-key-iterator.result (rw c.into_iter-key-iterator.ensures.into_iter_gives c.into_iter-items.ensures.into_iter_gives) in
+    let spare : length c.loop-key.self.entries + 1 ≤ c.loop-key.self.capacity = grind (arith, common_steps) in
+    absurd (true≢false (sym (c.in_err-put_clones.ensures.succeeds spare can.0 can.1)))

@@ -1,5 +1,5 @@
 use Rattle.vecmap_set.proofs.VecSet.binary_search_by.Goals as goal
 
 pub returns-clause-index : goal.returns-clause-index
-returns-clause-index g c = λ ord by.
-    rw (← c.self.view_is, ← c.as_slice-items.ensures.value) (c.search_by_index.ensures.index ord (λ i r within said. said ord by))
+returns-clause-index g c =
+    rw (← c.self.view_is, ← c.as_slice-items.ensures.value) (λ ord by. c.search_by_index.ensures.index ord (λ i r within said. said ord by))

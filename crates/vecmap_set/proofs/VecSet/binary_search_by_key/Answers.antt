@@ -1,5 +1,5 @@
 use Rattle.vecmap_set.proofs.VecSet.binary_search_by_key.Goals as goal
 
 pub returns-clause-index : goal.returns-clause-index
-returns-clause-index g c = λ key_of by.
-    rw (← c.self.view_is, ← c.as_slice-items.ensures.value) (c.search_items_by_key.ensures.index key_of by)
+returns-clause-index g c =
+    rw (← c.self.view_is, ← c.as_slice-items.ensures.value) (λ key_of by. c.search_items_by_key.ensures.index key_of by)

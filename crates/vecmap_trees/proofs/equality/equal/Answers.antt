@@ -1,7 +1,7 @@
 -- Two objects have what `equal_members` says of their members. Any other values have what `==` says.
 use Rattle.std.proofs.Common.{◌≡◌, ◌↔◌, IsTrue, String, rules, string_eq, subst, subst₂, sym, true, ◌∙◌}
+use Rattle.std.specs.Option.{option_eq}
 use Rattle.std.specs.declared.alloc.Global.{Global}
-use Rattle.vecmap.specs.Equality.{same_option}
 use Rattle.vecmap.specs.Pairs.{HasDistinctKeys, lookup}
 use Rattle.vecmap_trees.specs.Trees.{IsObject, members}
 use Rattle.vecmap_trees.specs.contracts.JsonPartialEq.TheImpl.{ghosts}
@@ -19,7 +19,7 @@ pub returns-in-Object-Object-clause-lookups : goal.returns-in-Object-Object-clau
 returns-in-Object-Object-clause-lookups c =
     let mine : members c.args.a.now ≡ c.in-Object-Object.mine.entries = search (rules, the_lemmas) in
     let theirs : members c.args.b.now ≡ c.in-Object-Object.theirs.entries = search (rules, the_lemmas) in
-    λ i j. subst₂ (λ l m. HasDistinctKeys string_eq l → HasDistinctKeys string_eq m → IsTrue c.equal_members.result ↔ ((name : String Global) → IsTrue (same_option ghosts.eq (lookup string_eq l name) (lookup string_eq m name)))) (sym mine) (sym theirs) c.equal_members.ensures.lookups
+    λ i j. subst₂ (λ l m. HasDistinctKeys string_eq l → HasDistinctKeys string_eq m → IsTrue c.equal_members.result ↔ ((name : String Global) → IsTrue (option_eq ghosts.eq (lookup string_eq l name) (lookup string_eq m name)))) (sym mine) (sym theirs) c.equal_members.ensures.lookups
 
 pub returns-in_default-clause-itself : goal.returns-in_default-clause-itself
 returns-in_default-clause-itself c = λ same. c.eq.ensures ∙ subst (λ b. ghosts.eq c.args.a.now b ≡ true) same (laws-law.refl c.args.a.now)

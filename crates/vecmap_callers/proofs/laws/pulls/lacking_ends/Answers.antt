@@ -1,6 +1,6 @@
 use Rattle.std.proofs.Common.{[], ◌∷◌, nat_eq, option_map, refl, subst}
 use Rattle.std.specs.Map.Iter.{deref}
-use Rattle.vecmap.specs.Lazy.{lacks_item, sifted}
+use Rattle.vecmap.specs.Lazy.{lacks_item, sift_rest}
 use Rattle.vecmap.specs.Walks.{Pulls, back, front}
 use Rattle.vecmap_callers.proofs.laws.pulls.lacking_ends.Goals as goal
 
@@ -8,7 +8,7 @@ pub returns : goal.returns
 returns c =
     let a = c.next-first.result in
     let b = c.next_back-last.result in
-    let rest = sifted (lacks_item nat_eq) in
+    let rest = sift_rest (lacks_item nat_eq) in
     let last = c.next_back-last.new.self in (
       rest last,
       subst (λ s. Pulls (rest s) (front ∷ back ∷ []) (option_map deref a ∷ option_map deref b ∷ []) (rest last)) c.difference-items.ensures.0

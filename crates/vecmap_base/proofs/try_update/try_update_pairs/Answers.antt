@@ -1,0 +1,51 @@
+-- The loop keeps `UpdatedSoFar`: each pair stays where it is, as it was written.
+use Rattle.std.proofs.Common.{arith}
+use Rattle.std.specs.Prelude.{◌+◌, ◌≤◌, Ok, drop, length, take}
+use Rattle.std.proofs.Common.{get_or}
+use Rattle.vecmap_base.proofs.UpdatedLemmas.{all_updated, callable_next, computed, keys_stopped, keys_updated, one_updated, split, written_split}
+use Rattle.vecmap_base.proofs.try_update.try_update_pairs.Goals as goal
+use Rattle.vecmap_base.specs.Updated.{TakesTryAt, TriesValueAt}
+
+pub try_value-requires : goal.try_value-requires
+try_value-requires g c =
+    let l = c.loop-pair in
+    record { callable = callable_next (TriesValueAt g.F.FnMut (Ok tt)) c.args.f l.f c.args.pairs.now l.pairs l.pair-index c.pair-item.result l.invariant c.loop-pair-test.true (TakesTryAt g.F.FnMut) c.requires.callable }
+
+pub loop-pair-preserved : goal.loop-pair-preserved
+loop-pair-preserved g c =
+    let l = c.loop-pair in
+    one_updated (TriesValueAt g.F.FnMut (Ok tt)) c.args.f l.f c.args.pairs.now l.pairs l.pair-index c.pair-item.result l.invariant c.loop-pair-test.true c.try_value.new.pair c.try_value.new.f c.in-Ok.ensures.called
+
+pub returns-in-Err-clause-err : goal.returns-in-Err-clause-err
+returns-in-Err-clause-err g c =
+    let l = c.loop-pair in
+    let i = l.pair-index in
+    let R = TriesValueAt g.F.FnMut (Ok tt) in
+    record {
+      before = take i c.args.pairs.now;
+      after = drop (i + 1) c.args.pairs.now;
+      written = take i l.pairs;
+      pair = get_or l.pairs i c.pair-item.result;
+      left = c.try_value.new.pair;
+      state = l.f;
+      last = c.try_value.new.f;
+      all = split R c.args.f l.f c.args.pairs.now l.pairs i c.pair-item.result l.invariant c.loop-pair-test.true;
+      updated = l.invariant.run;
+      failed = c.in-Err.ensures.called;
+      leaves = written_split R c.args.f l.f c.args.pairs.now l.pairs i c.pair-item.result l.invariant c.loop-pair-test.true c.try_value.new.pair;
+    }
+
+pub returns-in-Err-clause-keys : goal.returns-in-Err-clause-keys
+returns-in-Err-clause-keys g c = keys_stopped g.F.FnMut c.in-Err.error c.args.f _ _ (returns-in-Err-clause-err g c)
+
+pub returns-clause-ok : goal.returns-clause-ok
+returns-clause-ok g c =
+    let l = c.loop-pair in
+    let done : length c.args.pairs.now ≤ l.pair-index = omega (arith, c.loop-pair-test.false) in
+    (l.f, all_updated (TriesValueAt g.F.FnMut (Ok tt)) c.args.f l.f c.args.pairs.now l.pairs l.pair-index l.invariant done)
+
+pub returns-clause-keys : goal.returns-clause-keys
+returns-clause-keys g c = let u = returns-clause-ok g c in keys_updated (TriesValueAt g.F.FnMut (Ok tt)) (λ f p q g call. call.1) c.args.f c.args.pairs.now c.loop-pair.pairs u.0 u.1
+
+pub returns-clause-written : goal.returns-clause-written
+returns-clause-written g c h told = let u = returns-clause-ok g c in computed (TriesValueAt g.F.FnMut (Ok tt)) c.args.f c.args.pairs.now c.loop-pair.pairs u.0 u.1 h told

@@ -1,0 +1,90 @@
+-- What a list of pairs is after a closure was called for each pair, in order, which may write the value.
+use Rattle.std.specs.Prelude.{◌≡◌, ℕ, Bool, true, List, ◌∷◌, ◌++◌, drop, length, take, Result, Ok, Err}
+use Rattle.std.specs.Borrow.{Bor, MutBor}
+use Rattle.std.specs.Fn.{Called, Mut, Takes}
+use Rattle.vecmap_base.specs.Asked.{CallableOnEach}
+use Rattle.vecmap_base.specs.Kept.{Kept}
+
+module _ {F X : Type 0} (R : F → X → X → F → Type 0) where
+  -- A closure that returns nothing, as one that keeps each item.
+  abbrev pub Keeping : F → X → Bool → X → F → Type 0
+  Keeping f x b y g = R f x y g × (b ≡ true)
+
+  -- The calls at the items of `l`, in order, took the closure from `f` to `g`. The list `m` has the items as they left
+  -- them.
+  abbrev pub Updated : F → List X → List X → F → Type 0
+  Updated = Kept Keeping
+
+  -- The closure was called for the first `i` items of `xs`, in order, which took it from `f0` to `f`. The list `ys` has
+  -- these items as the calls left them, and the others as they were.
+  pub record UpdatedSoFar (f0 f : F) (xs ys : List X) (i : ℕ) : Type 0 where
+    pub len : length ys ≡ length xs
+    pub rest : drop i ys ≡ drop i xs
+    pub run : Updated f0 (take i xs) (take i ys) f
+
+  -- Each call of the closure in the state `f` writes `h` of the item, and leaves that state.
+  abbrev pub Computes : F → (X → X) → Type 0
+  Computes f h = (x y : X) (g : F) → R f x y g → (y ≡ h x) × (g ≡ f)
+
+  -- Each call of the closure, in any state, writes `h` of the item.
+  abbrev pub AlwaysComputes : (X → X) → Type 0
+  AlwaysComputes h = (f : F) (x y : X) (g : F) → R f x y g → y ≡ h x
+
+module _ {F K V : Type 0} (c : Mut F (Bor K × (MutBor V × Unit {0})) (Unit {0} × (MutBor V × Unit {0}))) where
+  -- The closure may be called at the pair `p`, with its value to write.
+  abbrev pub TakesValueAt : F → K × V → Type 0
+  TakesValueAt f p = (k : Bor K) (v : MutBor V) → k.now ≡ p.0 → v.now ≡ p.1 → Takes c f (k, (v, tt))
+
+  -- A call at a `&` to `k` and a `&mut` to `v` may leave `w` there, and the closure `g`.
+  pub record WritesValue (f : F) (k : K) (v w : V) (g : F) : Type 0 where
+    pub key : Bor K
+    pub value : MutBor V
+    pub shows : (key.now ≡ k) × (value.now ≡ v)
+    pub left : MutBor V
+    pub called : Called c f (key, (value, tt)) (tt, (left, tt)) g
+    pub leaves : left.now ≡ w
+
+  -- A call at the pair `p` may leave the pair `q`, with the same key, and the closure `g`.
+  abbrev pub WritesValueAt : F → K × V → K × V → F → Type 0
+  WritesValueAt f p q g = WritesValue f p.0 p.1 q.1 g × (q.0 ≡ p.0)
+
+  -- The closure may be called at each pair of `l`, in the state that the calls before have left.
+  abbrev pub CallableOnValues : F → List (K × V) → Type 0
+  CallableOnValues f l = CallableOnEach (Keeping WritesValueAt) TakesValueAt f l
+
+module _ {F K V E : Type 0} (c : Mut F (Bor K × (MutBor V × Unit {0})) (Result (Unit {0}) E × (MutBor V × Unit {0}))) where
+  -- The closure may be called at the pair `p`, with its value to write.
+  abbrev pub TakesTryAt : F → K × V → Type 0
+  TakesTryAt f p = (k : Bor K) (v : MutBor V) → k.now ≡ p.0 → v.now ≡ p.1 → Takes c f (k, (v, tt))
+
+  -- A call at a `&` to `k` and a `&mut` to `v` may return `r`, and leave `w` there and the closure `g`.
+  pub record TriesValue (f : F) (k : K) (v : V) (r : Result (Unit {0}) E) (w : V) (g : F) : Type 0 where
+    pub key : Bor K
+    pub value : MutBor V
+    pub shows : (key.now ≡ k) × (value.now ≡ v)
+    pub left : MutBor V
+    pub called : Called c f (key, (value, tt)) (r, (left, tt)) g
+    pub leaves : left.now ≡ w
+
+  -- A call at the pair `p` may return `r`, and leave the pair `q`, with the same key, and the closure `g`.
+  abbrev pub TriesValueAt : Result (Unit {0}) E → F → K × V → K × V → F → Type 0
+  TriesValueAt r f p q g = TriesValue f p.0 p.1 r q.1 g × (q.0 ≡ p.0)
+
+  -- The closure may be called at each pair of `l`, in the state that the calls before have left, which returned `Ok`.
+  abbrev pub CallableWhileOk : F → List (K × V) → Type 0
+  CallableWhileOk f l = CallableOnEach (Keeping (TriesValueAt (Ok tt))) TakesTryAt f l
+
+  -- The calls at the first pairs of `l` returned `Ok`, and the next one `e`. The list `m` has these pairs as the calls
+  -- left them, and the others as they were.
+  pub record StoppedAt (e : E) (f : F) (l m : List (K × V)) : Type 0 where
+    pub before : List (K × V)
+    pub after : List (K × V)
+    pub written : List (K × V)
+    pub pair : K × V
+    pub left : K × V
+    pub state : F
+    pub last : F
+    pub all : l ≡ before ++ pair ∷ after
+    pub updated : Updated (TriesValueAt (Ok tt)) f before written state
+    pub failed : TriesValueAt (Err e) state pair left last
+    pub leaves : m ≡ written ++ left ∷ after
