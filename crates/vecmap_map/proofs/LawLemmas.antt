@@ -5,11 +5,11 @@ use Rattle.vecmap_base.proofs.DistinctLemmas.Keys.{distinct_keys_take, distinct_
 use Rattle.vecmap_base.proofs.DistinctLemmas.Parts.{distinct_keys_drop, distinct_keys_filter, distinct_keys_remove_range, distinct_keys_slice_range}
 use Rattle.vecmap_base.proofs.{DrainRuns.drains_pull, DrainRuns.keeps_pulled, KeptLemmas.kept_by_states, KeptLemmas.kept_in_state, KeptLemmas.written_by_states, KeptLemmas.written_in_state}
 use Rattle.vecmap_base.proofs.EqualityLemmas.Maps.{map_equal_by_half, map_lengths_differ}
-use Rattle.vecmap_base.proofs.PairsLemmas.AfterPuts.{index_of_congr, index_of_own, index_of_put, index_of_without_key, is_some_lookup, length_put, lookup_own, put_same, put_stored}
+use Rattle.vecmap_base.proofs.PairsLemmas.AfterPuts.{index_of_congr, index_of_own, index_of_put, index_of_without_key, is_some_lookup, length_put, lookup_own, put_same}
 use Rattle.vecmap_base.proofs.PairsLemmas.EachValue.{lookup_map_values, map_values_put}
 use Rattle.vecmap_base.proofs.PairsLemmas.Inserted.{index_of_removed_absent, insert_where_removed, lookup_put_at, lookup_put_at_absent, put_at_where_removed, without_key_at}
 use Rattle.vecmap_base.proofs.PairsLemmas.{Keys.keys_of_put, Keys.keys_of_puts, Keys.keys_of_without_key, Lookups.lookup_congr, Order.lookup_rearranged, Order.lookup_reverse}
-use Rattle.vecmap_base.proofs.PairsLemmas.{Parts.index_of_puts, Parts.index_of_puts_kept, Parts.lookup_made_last, Puts.put_absent, Puts.put_at_absent, Puts.puts_append, Puts.puts_distinct}
+use Rattle.vecmap_base.proofs.PairsLemmas.{Parts.index_of_puts, Parts.index_of_puts_kept, Parts.lookup_made_last, Puts.put_absent, Puts.put_at_absent, Puts.put_stored, Puts.puts_append, Puts.puts_distinct}
 use Rattle.vecmap_base.proofs.PairsLemmas.Queries.{index_by_query, lookup_by_query, lookup_pair_by_query, lookup_without_query, same_text, string_equality, swap_without_by_query, text_respects, without_by_query}
 use Rattle.vecmap_map.proofs.{ContentsLemmas.with_value_of_is_put, WriteLemmas.keys_of_with_value_by, WriteLemmas.lookup_written, WriteLemmas.with_value_by_is_put}
 use Rattle.vecmap_map.proofs.EntryLemmas.Puts.{entries_with_is_put, new_entries_with}

@@ -26,15 +26,16 @@ module _ {K V : Type 0} (key : K → K → Bool) (value : V → V → Bool) (k :
         λ t. k.congr p.0 q.0 r.0 both.0 t && v.congr p.1 q.1 r.1 both.1 t;
   }
 
-  counted : (a b : List (K × V)) → has_same_counts key value a b ≡ as_often (same_pair key value) same_pair_laws a b
-  counted = equally_often_is (same_pair key value) same_pair_laws
+  -- Equality of maps counts pairs by `same_pair`.
+  pub counts_as_often : (a b : List (K × V)) → has_same_counts key value a b ≡ as_often (same_pair key value) same_pair_laws a b
+  counts_as_often = equally_often_is (same_pair key value) same_pair_laws
 
   pub map_equality_laws : IsEquivalence (has_same_counts key value)
-  map_equality_laws = equiv (partial_map_equality_laws key value k (partial_equiv_from_equiv v)) (λ a. counted a a ∙ (as_often_laws (same_pair key value) same_pair_laws).refl a)
+  map_equality_laws = equiv (partial_map_equality_laws key value k (partial_equiv_from_equiv v)) (λ a. counts_as_often a a ∙ (as_often_laws (same_pair key value) same_pair_laws).refl a)
 
   -- The order of the pairs makes no difference.
   pub rearranged_maps_equal : (a b : List (K × V)) → IsPermutation a b → has_same_counts key value a b ≡ true
-  rearranged_maps_equal a b p = counted a b ∙ rearranged_as_often (same_pair key value) same_pair_laws a b p
+  rearranged_maps_equal a b p = counts_as_often a b ∙ rearranged_as_often (same_pair key value) same_pair_laws a b p
 
   pub map_lengths_differ : (a b : List (K × V)) → (length a ≡ length b → ⊥) → has_same_counts key value a b ≡ false
   map_lengths_differ = partial_map_lengths_differ key value k (partial_equiv_from_equiv v)
@@ -128,8 +129,8 @@ module _ {K V : Type 0} (key : K → K → Bool) (value : V → V → Bool) (k :
   pub equality_is_agreement : (a b : List (K × V)) → HasDistinctKeys key a → HasDistinctKeys key b → has_same_counts key value a b ≡ agrees key value a b
   equality_is_agreement a b d e =
       both_ways _ _
-      (λ h. test_from_lookups a b (λ x. same_from_hits (lookup key a x) (lookup key b x) (λ w. sym (count_is_hits a x w d) ∙ counts_from_test (same_pair key value) same_pair_laws a b (sym (counted a b) ∙ h) (x, w) ∙ count_is_hits b x w e)))
-      (λ h. counted a b ∙ test_from_counts (same_pair key value) same_pair_laws a b (λ p. count_is_hits a p.0 p.1 d ∙ hits_from_same (lookup key a p.0) (lookup key b p.0) p.1 (lookups_from_test a b h p.0) ∙ sym (count_is_hits b p.0 p.1 e)))
+      (λ h. test_from_lookups a b (λ x. same_from_hits (lookup key a x) (lookup key b x) (λ w. sym (count_is_hits a x w d) ∙ counts_from_test (same_pair key value) same_pair_laws a b (sym (counts_as_often a b) ∙ h) (x, w) ∙ count_is_hits b x w e)))
+      (λ h. counts_as_often a b ∙ test_from_counts (same_pair key value) same_pair_laws a b (λ p. count_is_hits a p.0 p.1 d ∙ hits_from_same (lookup key a p.0) (lookup key b p.0) p.1 (lookups_from_test a b h p.0) ∙ sym (count_is_hits b p.0 p.1 e)))
 
   -- The same as one equivalence: each key has equal values, or none, in both lists.
   pub equal_where_lookups_agree : (a b : List (K × V)) → HasDistinctKeys key a → HasDistinctKeys key b → IsTrue (has_same_counts key value a b) ↔ ((x : K) → IsTrue (option_eq value (lookup key a x) (lookup key b x)))

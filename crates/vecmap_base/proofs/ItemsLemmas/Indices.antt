@@ -2,7 +2,11 @@
 use Rattle.std.specs.{Cmp.IsEquivalence, List.AllByRecursion, List.IsDistinct}
 use Rattle.std.proofs.Common.{◌≡◌, ◌<◌, ℕ, zero, suc, Bool, true, false, List, [], ◌∷◌, None, Option, Some, IsTrue, if◌then◌else◌, length, option_map, slice_get, unwrap_or, refl, sym, ap, ◌∙◌, arith, get_or, inl, inr, subst}
 use Rattle.std.proofs.lemmas.{Bool.cases_Bool, List.Quantifiers.position-Some, Map.Keys.IsDistinct-head, Map.Keys.IsDistinct-tail, Option.slice_get-get_or}
+use Rattle.std.specs.List.{list_any}
+use Rattle.std.proofs.Common.{◌-◌, drop, is_some, take}
+use Rattle.std.proofs.lemmas.List.{take_rest}
 use Rattle.vecmap_base.specs.Items.{add, item_index}
+use Rattle.vecmap_base.proofs.IndexLemmas.{is_some_position}
 use Rattle.vecmap_base.proofs.ItemsLemmas.Recursion.{add_cons, item_index_cons}
 
 unwrap_or_suc : (found : Option ℕ) (n : ℕ) → unwrap_or (option_map suc found) (suc n) ≡ suc (unwrap_or found n)
@@ -33,6 +37,10 @@ module _ {T : Type 0} (eq : T → T → Bool) where
   -- An index that is found has an equal element.
   pub found_at : (s : List T) (x : T) (i : ℕ) → item_index eq s x ≡ Some i → (y : T) × (slice_get s i ≡ Some y) × IsTrue (eq x y)
   found_at s x i e = let at = position-Some (eq x) s i x e in (get_or s i x, slice_get-get_or s i x at.0, at.1)
+
+  -- The rest of the list from `i` on has an index of `x` exactly if it has an equal element.
+  pub is_some_item_index_rest : (s : List T) (i : ℕ) (x : T) → is_some (item_index eq (take (length s - i) (drop i s)) x) ≡ list_any (eq x) (drop i s)
+  is_some_item_index_rest s i x = ap (λ r. is_some (item_index eq r x)) (take_rest s i) ∙ is_some_position (eq x) (drop i s)
 
   module _ (o : IsEquivalence eq) where
     -- Equal elements have the same index.

@@ -8,7 +8,7 @@ use Rattle.vecmap_base.proofs.ItemsLemmas.{Additions.add_present, Indices.item_i
 use Rattle.vecmap_base.proofs.PairsLemmas.Keys.{index_of_is, keys_of_put, keys_of_without_key}
 use Rattle.vecmap_base.proofs.PairsLemmas.Lookups.{look, lookup_congr, lookup_put, lookup_put_other, lookup_without_key, lookup_without_key_other}
 use Rattle.vecmap_base.proofs.PairsLemmas.{Indices.index_of_none, Indices.is_some_index_of, Indices.lookup_by_is, Puts.puts_distinct, Recursion.lookup_cons, Recursion.put_cons, Recursion.put_key_cons}
-use Rattle.vecmap_base.proofs.PairsLemmas.Values.{length_with_value, with_own_value}
+use Rattle.vecmap_base.proofs.PairsLemmas.Values.{length_with_value}
 
 pub option_or_none : {X : Type 0} (a : Option X) → option_or a None ≡ a
 option_or_none None = refl
@@ -36,14 +36,6 @@ module _ {K V : Type 0} (eq : K → K → Bool) where
         | inl h ↦ let f : Some p.1 ≡ Some v = sym (look eq p ps k true h) ∙ e in let w : v ≡ p.1 = cc in ap (λ b. if b then (p.0, v) ∷ ps else p ∷ put eq ps k v) h ∙ ap (λ x. (p.0, x) ∷ ps) w
         | inr h ↦ ap (λ b. if b then (p.0, v) ∷ ps else p ∷ put eq ps k v) h ∙ ap (λ t. p ∷ t) (put_same ps k v (sym (look eq p ps k false h) ∙ e))
       ]
-
-  -- The insertion of the stored value, or of `v` if there is none, leaves the list or appends the pair.
-  pub put_stored : (l : List (K × V)) (k : K) (v : V) → put eq l k (unwrap_or (lookup eq l k) v) ≡ option_map_or (λ i. l) (index_of eq l k) (l ++ (k, v) ∷ [])
-  put_stored l k v = by (index_of eq l k)
-    where
-      by : (found : Option ℕ) → option_map_or (λ i. with_value l i (unwrap_or (option_and_then (value_at l) found) v)) found (l ++ (k, unwrap_or (option_and_then (value_at l) found) v) ∷ []) ≡ option_map_or (λ i. l) found (l ++ (k, v) ∷ [])
-      by None = refl
-      by (Some i) = with_own_value l i v
 
   -- The insertion of a new key makes the list longer by one. Any other insertion leaves its length.
   pub length_put : (l : List (K × V)) (k : K) (v : V) → length (put eq l k v) ≡ (if is_some (index_of eq l k) then length l else length l + 1)

@@ -1,13 +1,8 @@
 -- A function of each value of a list of pairs, and a fact about each value.
 use Rattle.std.proofs.Common.{◌≡◌, Bool, true, false, List, [], ◌∷◌, None, Some, All, if◌then◌else◌, option_map, refl, sym, ap, ◌∙◌, subst, inl, inr}
-use Rattle.std.proofs.lemmas.{Bool.cases_Bool, List.Elements.All-cons, List.Elements.All-head, List.Elements.All-tail, Map.Made.lookup-map_values}
-use Rattle.vecmap_base.specs.Pairs.{lookup, lookup_by, map_values, put}
-use Rattle.vecmap_base.proofs.PairsLemmas.{Lookups.look, Indices.lookup_by_is, Recursion.put_cons}
-
-module _ {K V W : Type 0} (g : V → W) where
-  -- In the list with `g` of each value, a lookup finds `g` of what it found before.
-  pub lookup_by_map_values : (test : K → Bool) (l : List (K × V)) → lookup_by test (map_values g l) ≡ option_map g (lookup_by test l)
-  lookup_by_map_values test l = lookup_by_is test (map_values g l) ∙ lookup-map_values g test l ∙ ap (option_map g) (sym (lookup_by_is test l))
+use Rattle.std.proofs.lemmas.{Bool.cases_Bool, List.Elements.All-cons, List.Elements.All-head, List.Elements.All-tail}
+use Rattle.vecmap_base.specs.Pairs.{lookup, map_values, put}
+use Rattle.vecmap_base.proofs.PairsLemmas.{Indices.lookup_by_map_values, Lookups.look, Recursion.put_cons}
 
 module _ {K V W : Type 0} (eq : K → K → Bool) (g : V → W) where
   -- In the list with `g` of each value, a lookup finds `g` of what it found before.

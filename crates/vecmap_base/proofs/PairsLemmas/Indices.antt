@@ -1,10 +1,10 @@
 -- What the definitions say that are about an index.
 use Rattle.std.specs.{Option.option_and_then, Option.option_map, List.list_any, Map.keys_of}
 use Rattle.std.proofs.Common.{◌≡◌, ℕ, suc, Bool, true, false, List, [], ◌∷◌, Option, None, Some, if◌then◌else◌, length, slice_get, unwrap_or, refl, ◌-◌, drop, is_some, take, ap, ◌∙◌, sym}
-use Rattle.vecmap_base.specs.Pairs.{index_of, index_or_length, lookup_full, lookup_pair, value_at, with_pair, lookup_by}
+use Rattle.vecmap_base.specs.Pairs.{index_of, index_or_length, lookup_full, lookup_pair, value_at, with_pair, lookup_by, map_values}
 use Rattle.vecmap_base.proofs.PairsLemmas.Recursion.{index_of_cons, lookup_by_cons}
 use Rattle.std.specs.Map as entries
-use Rattle.std.proofs.lemmas.List.{drop-map, take_rest}
+use Rattle.std.proofs.lemmas.{List.drop-map, List.take_rest, Map.Made.lookup-map_values}
 use Rattle.vecmap_base.proofs.IndexLemmas.{is_some_position, list_any_map, position_none}
 
 -- An index and what it holds, counted with one pair more at the front.
@@ -55,6 +55,11 @@ module _ {K V : Type 0} (test : K → Bool) where
   pub lookup_by_is : (l : List (K × V)) → lookup_by test l ≡ entries.lookup test l
   lookup_by_is [] = refl
   lookup_by_is (p ∷ ps) = lookup_by_cons test p ps ∙ ap (λ o. if test p.0 then Some p.1 else o) (lookup_by_is ps)
+
+module _ {K V W : Type 0} (g : V → W) where
+  -- In the list with `g` of each value, a lookup finds `g` of what it found before.
+  pub lookup_by_map_values : (test : K → Bool) (l : List (K × V)) → lookup_by test (map_values g l) ≡ option_map g (lookup_by test l)
+  lookup_by_map_values test l = lookup_by_is test (map_values g l) ∙ lookup-map_values g test l ∙ ap (option_map g) (sym (lookup_by_is test l))
 
 module _ {K V : Type 0} (eq : K → K → Bool) where
   pub is_some_index_of : (l : List (K × V)) (k : K) → is_some (index_of eq l k) ≡ list_any (eq k) (keys_of l)

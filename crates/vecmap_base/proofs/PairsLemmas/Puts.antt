@@ -1,10 +1,10 @@
 -- What insertions make of a list, one at a time and many in order.
-use Rattle.std.specs.{Cmp.IsEquivalence, List.IsDistinct, Map.keys_of, Option.option_map_or}
-use Rattle.std.proofs.Common.{◌≡◌, ℕ, ◌+◌, ◌-◌, Bool, List, [], ◌∷◌, ◌++◌, None, Some, insert, length, min, remove, ◌<◌, drop, take, ap, ◌∙◌, get_or, sym, subst}
+use Rattle.std.specs.{Cmp.IsEquivalence, List.IsDistinct, Map.keys_of, Option.option_and_then, Option.option_map_or}
+use Rattle.std.proofs.Common.{◌≡◌, ℕ, ◌+◌, ◌-◌, Bool, List, [], ◌∷◌, ◌++◌, None, Option, Some, insert, length, min, refl, remove, ◌<◌, drop, take, ap, ◌∙◌, get_or, sym, subst, unwrap_or}
 use Rattle.std.proofs.lemmas.{List.append-nil, List.append_assoc, List.map-append, List.take-append-drop, List.Sums.fold_more, List.Sums.fold-append}
-use Rattle.vecmap_base.specs.Pairs.{index_of, put, put_at, puts, with_value, HasDistinctKeys}
+use Rattle.vecmap_base.specs.Pairs.{HasDistinctKeys, index_of, lookup, put, put_at, puts, value_at, with_value}
 use Rattle.vecmap_base.proofs.DistinctLemmas.Absent.{none_before}
-use Rattle.vecmap_base.proofs.PairsLemmas.Indices.{index_of_none}
+use Rattle.vecmap_base.proofs.PairsLemmas.{Indices.index_of_none, Values.with_own_value}
 
 module _ {K V : Type 0} (eq : K → K → Bool) where
   pub put_absent : (l : List (K × V)) (k : K) (v : V) → index_of eq l k ≡ None → put eq l k v ≡ l ++ (k, v) ∷ []
@@ -12,6 +12,14 @@ module _ {K V : Type 0} (eq : K → K → Bool) where
 
   pub put_present : (l : List (K × V)) (k : K) (v : V) (i : ℕ) → index_of eq l k ≡ Some i → put eq l k v ≡ with_value l i v
   put_present l k v i e = ap (λ o. option_map_or (λ j. with_value l j v) o (l ++ (k, v) ∷ [])) e
+
+  -- The insertion of the stored value, or of `v` if there is none, leaves the list or appends the pair.
+  pub put_stored : (l : List (K × V)) (k : K) (v : V) → put eq l k (unwrap_or (lookup eq l k) v) ≡ option_map_or (λ i. l) (index_of eq l k) (l ++ (k, v) ∷ [])
+  put_stored l k v = by (index_of eq l k)
+    where
+      by : (found : Option ℕ) → option_map_or (λ i. with_value l i (unwrap_or (option_and_then (value_at l) found) v)) found (l ++ (k, unwrap_or (option_and_then (value_at l) found) v) ∷ []) ≡ option_map_or (λ i. l) found (l ++ (k, v) ∷ [])
+      by None = refl
+      by (Some i) = with_own_value l i v
 
   -- If the key is absent, the pair is inserted at `i`.
   pub put_at_absent : (l : List (K × V)) (i : ℕ) (k : K) (v : V) → index_of eq l k ≡ None → put_at eq l i k v ≡ insert l i (k, v)
