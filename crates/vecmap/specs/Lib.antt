@@ -1,6 +1,4 @@
 pub mod MapRun
-pub mod NestedSets
-pub mod Reads
 pub mod SetRun
 pub use Rattle.vecmap_base.specs.Asked
 pub use Rattle.vecmap_base.specs.Bulk
@@ -22,8 +20,6 @@ pub use Rattle.vecmap_map.specs.Entry
 pub use Rattle.vecmap_map.specs.EntryLends
 pub use Rattle.vecmap_map.specs.Lends
 pub use Rattle.vecmap_map.specs.MapBulk
-pub use Rattle.vecmap_map.specs.Nested
-pub use Rattle.vecmap_set.specs.Algebra
 pub use Rattle.vecmap_set.specs.Contents as SetContents
 pub use Rattle.vecmap_set.specs.Drain as SetDrain
 pub use Rattle.vecmap_set.specs.Lazy

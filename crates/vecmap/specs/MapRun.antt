@@ -3,8 +3,7 @@ use Rattle.std.specs.Prelude.{◌≡◌, ◌-◌, ◌<◌, ◌≤◌, ◌++◌, 
 use Rattle.std.specs.Option.{option_map_or}
 use Rattle.std.specs.declared.clone.Clone as clone
 use Rattle.vecmap.specs.declared.map_run.command.MapCommand.{MapCommand}
-use Rattle.vecmap.specs.declared.map_run.command.MapCommand.TheVariants.{ContainsKey, Equals, First, Get, GetIndex, IndexOf, Last, Len, ToVec}
-use Rattle.vecmap.specs.declared.map_run.command.MapCommand.TheVariants.{Append, Clear, Insert, InsertAt, InsertFull, InsertKey, OrInsert, Pop, Remove, RemoveEntry, RemoveIndex, Reverse, SplitOff, SwapIndices, SwapRemove, SwapRemoveEntry, SwapRemoveIndex, Truncate}
+use Rattle.vecmap.specs.declared.map_run.command.MapCommand.TheVariants.{ContainsKey, Equals, First, Get, GetIndex, IndexOf, Last, Len, ToVec, Append, Clear, Insert, InsertAt, InsertFull, InsertKey, OrInsert, Pop, Remove, RemoveEntry, RemoveIndex, Reverse, SplitOff, SwapIndices, SwapRemove, SwapRemoveEntry, SwapRemoveIndex, Truncate}
 use Rattle.vecmap.specs.declared.map_run.reply.MapReply.{MapReply}
 use Rattle.vecmap.specs.declared.map_run.reply.MapReply.TheVariants.{Done, Full, Kept, Moved, NoMemory, Number, OutOfRange, Pair, Pairs, Place, Rest, Truth, Value}
 use Rattle.vecmap_base.specs.Clones.{IsCloneOf, IsPairClone}
@@ -128,14 +127,6 @@ module _ {K V : Type 0} (eq : K → K → Bool) (eq_value : V → V → Bool) (k
   -- One command with this reply takes the map m to the map n, whose pairs fit its capacity.
   abbrev pub Step : Contents K V → MapCommand K V → MapReply K V → Contents K V → Type 0
   Step m command reply n = ListStep m.entries command reply n.entries × RoomStep m command reply n
-
-  -- The commands, in order, take the list l to the list m, and each has one reply.
-  abbrev pub ListRun : List (K × V) → List (MapCommand K V) → List (MapReply K V) → List (K × V) → Type 0
-  ListRun l [] [] m = m ≡ l
-  ListRun l (command ∷ commands) (reply ∷ replies) m =
-      (next : List (K × V)) × ListStep l command reply next × ListRun next commands replies m
-  ListRun l [] (reply ∷ replies) m = ⊥
-  ListRun l (command ∷ commands) [] m = ⊥
 
   -- The same for a map, with its list and its capacity.
   abbrev pub Run : Contents K V → List (MapCommand K V) → List (MapReply K V) → Contents K V → Type 0

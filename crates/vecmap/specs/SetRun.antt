@@ -4,8 +4,7 @@ use Rattle.std.specs.List.{IsDistinct}
 use Rattle.std.specs.Set.{is_member}
 use Rattle.std.specs.declared.clone.Clone as clone
 use Rattle.vecmap.specs.declared.set_run.command.SetCommand.{SetCommand}
-use Rattle.vecmap.specs.declared.set_run.command.SetCommand.TheVariants.{Contains, Equals, Exclusive, First, Get, GetIndex, IndexOf, Intersect, IsDisjoint, IsSubset, IsSuperset, Last, Len, Subtract, ToVec, Unite}
-use Rattle.vecmap.specs.declared.set_run.command.SetCommand.TheVariants.{Append, Clear, Insert, Pop, Remove, RemoveIndex, Replace, Reverse, SplitOff, SwapIndices, SwapRemove, SwapRemoveIndex, SwapTake, Take, Truncate}
+use Rattle.vecmap.specs.declared.set_run.command.SetCommand.TheVariants.{Contains, Equals, Exclusive, First, Get, GetIndex, IndexOf, Intersect, IsDisjoint, IsSubset, IsSuperset, Last, Len, Subtract, ToVec, Unite, Append, Clear, Insert, Pop, Remove, RemoveIndex, Replace, Reverse, SplitOff, SwapIndices, SwapRemove, SwapRemoveIndex, SwapTake, Take, Truncate}
 use Rattle.vecmap.specs.declared.set_run.reply.SetReply.{SetReply}
 use Rattle.vecmap.specs.declared.set_run.reply.SetReply.TheVariants.{Done, Item, Items, Made, NoMemory, Number, OutOfRange, Place, Truth}
 use Rattle.vecmap_base.specs.Clones.{AreClones, IsCloneOf}
@@ -129,14 +128,6 @@ module _ {T : Type 0} (eq : T → T → Bool) (clones : clone.Ghosts T) where
   -- One command with this reply takes the set s to the set t, whose elements fit its capacity.
   abbrev pub Step : Contents T → SetCommand T → SetReply T → Contents T → Type 0
   Step s command reply t = ListStep s.elements command reply t.elements × RoomStep s command reply t
-
-  -- The commands, in order, take the list l to the list m, and each has one reply.
-  abbrev pub ListRun : List T → List (SetCommand T) → List (SetReply T) → List T → Type 0
-  ListRun l [] [] m = m ≡ l
-  ListRun l (command ∷ commands) (reply ∷ replies) m =
-      (next : List T) × ListStep l command reply next × ListRun next commands replies m
-  ListRun l [] (reply ∷ replies) m = ⊥
-  ListRun l (command ∷ commands) [] m = ⊥
 
   -- The same for a set, with its list and its capacity.
   abbrev pub Run : Contents T → List (SetCommand T) → List (SetReply T) → Contents T → Type 0

@@ -1,7 +1,6 @@
 //! Maps and sets that keep insertion order and compare by `==`, each over one vector: all that users name.
 #![tactic(auto)]
 
-pub mod laws;
 pub mod macros;
 pub mod map;
 mod map_run;

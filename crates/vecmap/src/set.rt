@@ -22,7 +22,7 @@
 //! - two sets: `is_disjoint`, `is_subset`, `is_superset`, `==` (`equality.rt`); `difference`, `intersection`,
 //!   `symmetric_difference`, `union` (`lazy.rt`) with their iterators (`lazy/`); `&`, `|`, `^`, `-` (`operators.rt`)
 //! - iteration: `iter`, loops (`iteration.rt`); the iterators themselves (`crates/vecmap_base/src/items.rt`)
-//! - `Debug` (`formatting.rt`), laws for proofs (`laws.rt`, `laws/additions.rt`, `laws/algebra.rt`,
-//!   `laws/collecting.rt`, `laws/finding.rt`, `laws/members.rt`, `laws/queries.rt`, `laws/retaining.rt`)
+//! - `Debug` (`formatting.rt`), the law that a set fits its capacity (`laws.rt`); the other laws are in
+//!   `crates/vecmap_laws`
 pub use vecmap_base::items::{IntoIter, Iter};
 pub use vecmap_set::{Difference, Drain, Intersection, SymmetricDifference, Union, VecSet, laws};

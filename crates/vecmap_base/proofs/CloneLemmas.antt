@@ -1,20 +1,7 @@
 -- Lists of clones, index by index, and one more clone that is inserted.
-use Rattle.std.proofs.Common.{◌≡◌, List, [], ◌∷◌, ◌++◌, fold, map, ◌↔◌, sym, ap, subst, ◌∙◌}
+use Rattle.std.proofs.Common.{◌≡◌, List, [], ◌∷◌, ◌++◌, fold, map, sym, ap, subst, ◌∙◌}
 use Rattle.std.proofs.lemmas.{List.map_push, List.Elements.AllZip-push, List.Sums.fold_push}
 use Rattle.vecmap_base.specs.Clones.{AreClones}
-
-module _ {T : Type 0} (is_clone : T → T → Type 0) where
-  clones-nil : AreClones is_clone [] []
-  clones-nil = tt
-
-  clones-cons : (x y : T) (xs ys : List T) → AreClones is_clone (x ∷ xs) (y ∷ ys) ↔ (is_clone x y × AreClones is_clone xs ys)
-  clones-cons x y xs ys = (λ h. h, λ h. h)
-
-  clones-long : (x : T) (xs : List T) → AreClones is_clone (x ∷ xs) [] → ⊥
-  clones-long x xs h = h
-
-  clones-short : (y : T) (ys : List T) → AreClones is_clone [] (y ∷ ys) → ⊥
-  clones-short y ys h = h
 
 module _ {A S : Type 0} (is_clone : A → A → Type 0) (f : S → A → S) where
   -- Clones of the items, inserted in order, lead from `old` to `new`.

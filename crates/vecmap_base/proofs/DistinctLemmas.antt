@@ -2,8 +2,6 @@
 pub mod Absent
 pub mod Additions
 pub mod Clones
-pub mod Keys
 pub mod Order
-pub mod Parts
 pub mod Removals
 pub mod Walk

@@ -1,10 +1,10 @@
 -- A list from which a closure selects item by item. Its front has the items kept so far, and its rest is unchanged.
-use Rattle.std.specs.Prelude.{◌≡◌, ℕ, ◌+◌, ◌<◌, ◌≤◌, Bool, true, false, List, [], ◌∷◌, ◌++◌, drop, filter, if◌then◌else◌, length, map, refl, take}
+use Rattle.std.specs.Prelude.{◌≡◌, ℕ, ◌+◌, ◌<◌, ◌≤◌, Bool, true, false, List, [], ◌∷◌, ◌++◌, drop, if◌then◌else◌, length, map, refl, take}
 use Rattle.std.specs.List.{FoldsTo, SwappedAt}
 use Rattle.std.proofs.Common.{ap, append_assoc, arith, get_or, set, subst, sym, ◌∙◌}
-use Rattle.std.proofs.lemmas.List.{append-nil, drop-set-lt, drop_all, drop_more, get_or-set_same, length-set, take-append-drop, take-set-le, take_all, take_more, take_more_set}
+use Rattle.std.proofs.lemmas.List.{append-nil, drop-set-lt, drop_all, drop_more, get_or-set_same, length-set, take-append-drop, take-set-le, take_more, take_more_set}
 use Rattle.vecmap_base.specs.Asked.{CallableOnEach, SomeCall}
-use Rattle.vecmap_base.specs.Kept.{Kept, KeptSoFar, TestsItems, WritesItems}
+use Rattle.vecmap_base.specs.Kept.{Kept, KeptSoFar, WritesItems}
 use Rattle.vecmap_base.proofs.RepeatsLemmas.Gather.{front_swapped, rest_more}
 
 module _ {X : Type 0} where
@@ -89,43 +89,14 @@ module _ {F X : Type 0} (R : F → X → Bool → X → F → Type 0) where
         kept = λ m g more. subst (λ t. Kept R f0 xs t g) (sym (ap (λ t. t ++ m) front ∙ append_assoc (take i ys) (y ∷ []) m)) (kept_more f0 f h xs ys i i p y so_far l at true call m g more);
       }
 
-  -- If the closure was called for all items, it was called for the first of any greater number.
-  pub kept_past_end : (f0 f : F) (xs ys : List X) (k i j : ℕ) → length xs ≤ i → i ≤ j → KeptSoFar R f0 f xs ys k i → KeptSoFar R f0 f xs ys k j
-  kept_past_end f0 f xs ys k i j done le so_far =
-      let same : drop j xs ≡ drop i xs = drop_all j xs (omega (arith, done, le)) ∙ sym (drop_all i xs done) in
-      let first : take j xs ≡ take i xs = take_all j xs (omega (arith, done, le)) ∙ sym (take_all i xs done) in
-      record {
-        bound = omega (arith, so_far.bound, le);
-        len = so_far.len;
-        rest = drop_all j ys (omega (arith, done, le, so_far.len)) ∙ sym (drop_all j xs (omega (arith, done, le)));
-        calls = subst (λ t. FoldsTo (SomeCall R) f0 t f) (sym first) so_far.calls;
-        kept = λ m g more. so_far.kept m g (subst (λ t. Kept R f t m g) same more);
-      }
-
   -- Once the closure was called for all items, the kept ones are the front `m`.
   pub kept_all : (f0 f : F) (xs ys : List X) (k i : ℕ) (m : List X) → KeptSoFar R f0 f xs ys k i → length xs ≤ i → m ≡ take k ys → Kept R f0 xs m f
   kept_all f0 f xs ys k i m so_far done e =
       let none_left = subst (λ t. Kept R f t [] f) (sym (drop_all i xs done)) (refl, refl) in
       subst (λ t. Kept R f0 xs t f) (append-nil (take k ys) ∙ sym e) (so_far.kept [] f none_left)
 
-  -- A closure that writes nothing and returns the result of a test keeps the items that pass the test.
-  pub kept_by_test : (test : X → Bool) → ((f : F) (x : X) (b : Bool) (y : X) (g : F) → R f x b y g → (b ≡ test x) × (y ≡ x)) → (f : F) (xs m : List X) (g : F) → Kept R f xs m g → m ≡ filter test xs
-  kept_by_test test told f [] m g k = k.0
-  kept_by_test test told f (x ∷ xs) m g k =
-      let call = told f x k.0 k.1 k.2 k.4 in
-      let rest = kept_by_test test told k.2 xs k.3 g k.5 in
-      k.6 ∙ (λ i. if call.0 i then call.1 i ∷ rest i else rest i)
-
   -- `Holds` is an invariant of the closure's states: a call in a state where it holds leaves a state where it holds.
   module _ (Holds : F → Type 0) where
-    -- If each such call returns the result of a test and writes nothing, the items that pass the test are kept.
-    pub kept_while : (test : X → Bool) → ((f : F) (x : X) (b : Bool) (y : X) (g : F) → Holds f → R f x b y g → (b ≡ test x) × (y ≡ x) × Holds g) → (f : F) (xs m : List X) (g : F) → Holds f → Kept R f xs m g → m ≡ filter test xs
-    kept_while test told f [] m g holds k = k.0
-    kept_while test told f (x ∷ xs) m g holds k =
-        let call = told f x k.0 k.1 k.2 holds k.4 in
-        let rest = kept_while test told k.2 xs k.3 g call.2 k.5 in
-        k.6 ∙ (λ i. if call.0 i then call.1 i ∷ rest i else rest i)
-
     -- If each such call returns `true` and writes `h` of the item, `h` of each item is left.
     pub written_while : (h : X → X) → ((f : F) (x : X) (b : Bool) (y : X) (g : F) → Holds f → R f x b y g → (b ≡ true) × (y ≡ h x) × Holds g) → (f : F) (xs m : List X) (g : F) → Holds f → Kept R f xs m g → m ≡ map h xs
     written_while h told f [] m g holds k = k.0
@@ -134,22 +105,7 @@ module _ {F X : Type 0} (R : F → X → Bool → X → F → Type 0) where
         let rest = written_while h told k.2 xs k.3 g call.2 k.5 in
         k.6 ∙ (λ i. if call.0 i then call.1 i ∷ rest i else rest i)
 
-  -- A closure that stays in its state, with the test of that state.
-  pub kept_in_state : (f g : F) (xs m : List X) (test : X → Bool) → TestsItems R f test → Kept R f xs m g → m ≡ filter test xs
-  kept_in_state f g xs m test told k =
-      kept_while (λ z. z ≡ f) test (λ z x b y w same call. let r = told x b y w (subst (λ v. R v x b y w) same call) in (r.0, r.1, r.2)) f xs m g refl k
-
   -- The same of a closure that writes each item.
   pub written_in_state : (f g : F) (xs m : List X) (h : X → X) → WritesItems R f h → Kept R f xs m g → m ≡ map h xs
   written_in_state f g xs m h told k =
       written_while (λ z. z ≡ f) h (λ z x b y w same call. let r = told x b y w (subst (λ v. R v x b y w) same call) in (r.0, r.1, r.2)) f xs m g refl k
-
-  -- A closure whose state changes, while its test stays the same.
-  pub kept_by_states : (f g : F) (xs m : List X) (test : F → X → Bool) → ((z : F) (x : X) (b : Bool) (y : X) (w : F) → R z x b y w → (b ≡ test z x) × (y ≡ x) × ((u : X) → test w u ≡ test z u)) → Kept R f xs m g → m ≡ filter (test f) xs
-  kept_by_states f g xs m test told k =
-      kept_while (λ z. (u : X) → test z u ≡ test f u) (test f) (λ z x b y w same call. let r = told z x b y w call in (r.0 ∙ same x, r.1, λ u. r.2 u ∙ same u)) f xs m g (λ u. refl) k
-
-  -- A closure whose state changes, while what it writes of an item stays the same.
-  pub written_by_states : (f g : F) (xs m : List X) (h : F → X → X) → ((z : F) (x : X) (b : Bool) (y : X) (w : F) → R z x b y w → (b ≡ true) × (y ≡ h z x) × ((u : X) → h w u ≡ h z u)) → Kept R f xs m g → m ≡ map (h f) xs
-  written_by_states f g xs m h told k =
-      written_while (λ z. (u : X) → h z u ≡ h f u) (h f) (λ z x b y w same call. let r = told z x b y w call in (r.0, r.1 ∙ same x, λ u. r.2 u ∙ same u)) f xs m g (λ u. refl) k

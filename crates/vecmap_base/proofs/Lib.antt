@@ -3,10 +3,8 @@ pub mod DistinctLemmas
 pub mod DrainLemmas
 pub mod DrainRuns
 pub mod EqualityLemmas
-mod Examples
 pub mod ItemsLemmas
 pub mod KeptLemmas
-pub mod LawLemmas
 pub mod LoopLemmas
 pub mod MatchingLemmas
 pub mod MoveLemmas

@@ -1,9 +1,6 @@
 -- Equality of two lists as maps or as sets. `key`, `value` and `eq` are the `==` of keys, values and elements.
 use Rattle.std.specs.Prelude.{◌≡◌, ℕ, ◌<◌, Bool, ◌&&◌, false, true, List, [], ◌∷◌, get_or, length, nat_eq}
 use Rattle.std.specs.List.{count_by, list_all, list_any}
-use Rattle.std.specs.Map.{keys_of}
-use Rattle.std.specs.Option.{option_eq}
-use Rattle.vecmap_base.specs.Pairs.{lookup}
 
 module _ {K V : Type 0} (key : K → K → Bool) (value : V → V → Bool) where
   -- Two pairs have equal keys and equal values.
@@ -25,14 +22,6 @@ module _ {K V : Type 0} (key : K → K → Bool) (value : V → V → Bool) wher
   -- Equality of maps: each pair of either list is equal to itself, and occurs equally often in both.
   abbrev pub has_same_counts : List (K × V) → List (K × V) → Bool
   has_same_counts a b = counts_agree a a b && counts_agree b a b
-
-  -- Each of these keys has equal values in both lists, or none in both.
-  abbrev pub lookups_agree : List K → List (K × V) → List (K × V) → Bool
-  lookups_agree keys a b = list_all (λ k. option_eq value (lookup key a k) (lookup key b k)) keys
-
-  -- The lookups of each key of either list agree.
-  abbrev pub agrees : List (K × V) → List (K × V) → Bool
-  agrees a b = lookups_agree (keys_of a) a b && lookups_agree (keys_of b) a b
 
 module _ {T : Type 0} (eq : T → T → Bool) where
   -- Each element of `a` is in `b`.

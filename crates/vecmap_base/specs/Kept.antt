@@ -10,10 +10,6 @@ Kept R f [] m g = (m ≡ []) × (g ≡ f)
 Kept {F} {X} R f (x ∷ xs) m g = (b : Bool) × (y : X) × (h : F) × (rest : List X) × R f x b y h × Kept R h xs rest g × (m ≡ (if b then y ∷ rest else rest))
 
 module _ {F X : Type 0} (R : F → X → Bool → X → F → Type 0) where
-  -- Each call of the closure in the state `f` returns the result of the test, writes nothing and leaves that state.
-  abbrev pub TestsItems : F → (X → Bool) → Type 0
-  TestsItems f test = (x : X) (b : Bool) (y : X) (g : F) → R f x b y g → (b ≡ test x) × (y ≡ x) × (g ≡ f)
-
   -- Each call of the closure in the state `f` returns `true`, writes `h` of the item and leaves that state.
   abbrev pub WritesItems : F → (X → X) → Type 0
   WritesItems f h = (x : X) (b : Bool) (y : X) (g : F) → R f x b y g → (b ≡ true) × (y ≡ h x) × (g ≡ f)

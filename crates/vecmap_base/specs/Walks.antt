@@ -1,5 +1,5 @@
 -- What iterators lend and give, and pulls from both ends.
-use Rattle.std.specs.Prelude.{◌≡◌, ℕ, ◌-◌, ◌<◌, ◌^◌, IfSome, List, [], ◌∷◌, Option, Some, drop, length, slice_get, take}
+use Rattle.std.specs.Prelude.{◌≡◌, ℕ, ◌<◌, ◌^◌, IfSome, List, Option, Some, length}
 use Rattle.std.specs.Borrow.{MutBor}
 use Rattle.std.specs.Iterator.{UpTo, at_most}
 use Rattle.std.specs.Iterator.SizeHint.{IsWithinCount}
@@ -45,22 +45,3 @@ IsHintFor n hint = IsWithinCount hint.0 (at_most n) × IfSome hint.1 (UpTo (at_m
 pub record HintsExactly (n : ℕ) (hint : ℕ × Option ℕ) : Type 0 where
   pub bounds : IsHintFor n hint
   pub exact : hint ≡ (n, Some n)
-
--- The end at which a pull is made: `next` pulls from the front, `next_back` from the back.
-pub data End : Type 0 where
-  front : End
-  back : End
-
-module _ {T : Type 0} where
-  -- A pull from the front gives the first of `l`, and one from the back the last. Each gives none once `l` is empty.
-  abbrev pub Pulls : List T → List End → List (Option T) → List T → Type 0
-  Pulls l [] items rest = (items ≡ []) × (rest ≡ l)
-  Pulls l (front ∷ ends) items rest = (more : List (Option T)) × (items ≡ slice_get l 0 ∷ more) × Pulls (drop 1 l) ends more rest
-  Pulls l (back ∷ ends) items rest = (more : List (Option T)) × (items ≡ slice_get l (length l - 1) ∷ more) × Pulls (take (length l - 1) l) ends more rest
-
-module _ {S A : Type 0} (next next_back : S → Option A → S → Type 0) where
-  -- Calls of `next` and of `next_back`, at these ends in order, led from `s` to `t` and returned `items`.
-  abbrev pub PullsBy : S → List End → List (Option A) → S → Type 0
-  PullsBy s [] items t = (items ≡ []) × (t ≡ s)
-  PullsBy s (front ∷ ends) items t = (r : Option A) × (u : S) × (more : List (Option A)) × next s r u × (items ≡ r ∷ more) × PullsBy u ends more t
-  PullsBy s (back ∷ ends) items t = (r : Option A) × (u : S) × (more : List (Option A)) × next_back s r u × (items ≡ r ∷ more) × PullsBy u ends more t

@@ -10,7 +10,6 @@ mod equality;
 mod equivalent;
 mod iter;
 mod iter_mut;
-pub mod laws;
 mod lookup;
 mod matching;
 mod moving;

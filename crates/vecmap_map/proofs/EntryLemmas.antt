@@ -1,5 +1,4 @@
 -- What later writes and removals through an entry leave of its map.
 pub mod Inserted
 pub mod Indices
-pub mod Puts
 pub mod Written

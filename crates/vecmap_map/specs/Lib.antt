@@ -5,5 +5,4 @@ pub mod EntryLends
 pub mod EntryWithin
 pub mod Lends
 pub mod MapBulk
-pub mod Nested
 pub mod formers

@@ -1,13 +1,12 @@
 -- What the lazy iterators over two lists of elements have left, and what their pulls give. `eq` is the `==` of the
 -- elements.
-use Rattle.std.specs.Prelude.{◌≡◌, ℕ, ◌<◌, ◌^◌, Bool, List, ◌++◌, ◌⊎◌, MatchOption, None, Option, Some, SomeIff, filter, if◌then◌else◌, length, map, nat_lt, not, option_map}
+use Rattle.std.specs.Prelude.{◌≡◌, ℕ, ◌<◌, ◌^◌, Bool, List, ◌++◌, ◌⊎◌, MatchOption, None, Option, Some, SomeIff, filter, if◌then◌else◌, length, nat_lt, not}
 use Rattle.std.specs.Borrow.{Bor}
 use Rattle.std.specs.Iterator.{YieldsFirstRef, YieldsLastRef}
 use Rattle.std.specs.Iterator.Runs.{YieldsRefsInOrder, YieldsRefsInReverse}
 use Rattle.std.specs.List.{after_first, before_last}
 use Rattle.std.specs.Map.Iter.{TakesFirst, TakesLast, deref}
 use Rattle.std.specs.Set.{is_member}
-use Rattle.vecmap_base.specs.Walks.{End, Pulls, PullsBy}
 
 -- The elements that are not yet visited, and the list in which each of them is looked up.
 pub record Sift (T : Type 0) : Type 0 where
@@ -69,11 +68,6 @@ module _ {S T : Type 0} (rest : S → List T) (next next_back : S → Option (Bo
   -- number of these elements fits a `usize`.
   abbrev pub LendsAll : S → S → Type 0
   LendsAll s r = (r ≡ s) × (length (rest r) < 2 ^ 64) × YieldsRefsInOrder next rest × YieldsRefsInReverse next_back rest
-
-  -- Any mixture of pulls that leads from s to t gives what the same pulls of the list left at s give. It leaves the
-  -- list left at t.
-  abbrev pub PullsAsList : Type 0
-  PullsAsList = (s t : S) (ends : List End) (items : List (Option (Bor T))) → PullsBy next next_back s ends items t → Pulls (rest s) ends (map (option_map deref) items) (rest t)
 
 module _ {T : Type 0} (keeps : List T → T → Bool) where
   -- The elements that are not yet visited and are kept.

@@ -4,11 +4,9 @@ use Rattle.std.specs.Borrow.{Bor}
 use Rattle.std.specs.Iterator.{Drains}
 use Rattle.std.specs.List.{IsDistinct}
 use Rattle.std.specs.Map.Iter.{deref}
-use Rattle.std.specs.Set.{is_member}
 use Rattle.vecmap_base.specs.Clones.{AreClones}
 use Rattle.vecmap_base.specs.Items.{only}
 use Rattle.vecmap_set.specs.Contents.{Contents}
-use Rattle.vecmap_set.specs.Lazy.{longer_first, sift_of_shorter, sift_rest, union_rest}
 
 module _ {T : Type 0} (eq : T → T → Bool) where
   -- All of a, and then the elements of b that are not in a.
@@ -18,14 +16,6 @@ module _ {T : Type 0} (eq : T → T → Bool) where
   -- The elements of a that are not in b, and then those of b that are not in a.
   abbrev pub symmetric_difference_of : List T → List T → List T
   symmetric_difference_of a b = only eq a b ++ only eq b a
-
-  -- What the call `intersection` yields: the elements of the shorter list that are in the other.
-  abbrev pub lazy_intersection : List T → List T → List T
-  lazy_intersection a b = sift_rest (is_member eq) (sift_of_shorter a b)
-
-  -- What the call `union` yields: all of the longer list, and then the elements of the other that are not in it.
-  abbrev pub lazy_union : List T → List T → List T
-  lazy_union a b = union_rest eq (longer_first a b)
 
 -- `list` is one of the lists above, computed with the `==` of the elements from the elements of two sets.
 module _ {T : Type 0} (eq : T → T → Bool) (is_clone : T → T → Type 0) (list : (T → T → Bool) → List T → List T → List T) where

@@ -1,18 +1,13 @@
 -- Insertions that keep a list distinct.
 use Rattle.std.specs.Set.{is_member}
-use Rattle.std.specs.{Cmp.IsEquivalence, List.IsDistinct, List.AllByRecursion, List.list_any, Option.option_map_or}
-use Rattle.std.proofs.Common.{◌≡◌, ℕ, ◌<◌, Bool, true, false, ◌||◌, List, [], ◌∷◌, ◌++◌, Option, None, Some, if◌then◌else◌, insert, is_some, length, slice_set, suc, zero, refl, sym, ap, ◌∙◌, subst, get_or, true≢false, arith}
-use Rattle.std.proofs.lemmas.{Bool.false_from_ne_true, Bool.or_left, Bool.or_right, List.append-nil, List.append_assoc, List.Folds.list_any-append, List.Quantifiers.position-Some}
-use Rattle.std.proofs.lemmas.{List.Sorted.IsPermutation-insert, Map.Keys.IsDistinct-head, Map.Keys.IsDistinct-tail, Map.Keys.IsDistinct-push, Map.Steps.list_any_congr}
-use Rattle.vecmap_base.specs.Items.{add, put_item, adds, item_index}
-use Rattle.vecmap_base.proofs.IndexLemmas.{is_some_position}
-use Rattle.vecmap_base.proofs.DistinctLemmas.{Absent.distinct_if_absent, Absent.none_equal, Order.distinct_rearranged}
+use Rattle.std.specs.{Cmp.IsEquivalence, List.IsDistinct, List.AllByRecursion, List.list_any}
+use Rattle.std.proofs.Common.{◌≡◌, ℕ, ◌<◌, Bool, true, false, ◌||◌, List, [], ◌∷◌, ◌++◌, if◌then◌else◌, length, slice_set, suc, zero, refl, sym, ◌∙◌, subst, get_or, true≢false, arith}
+use Rattle.std.proofs.lemmas.{Bool.false_from_ne_true, Bool.or_left, Bool.or_right, List.append-nil, List.append_assoc, List.Folds.list_any-append}
+use Rattle.std.proofs.lemmas.{Map.Keys.IsDistinct-head, Map.Keys.IsDistinct-tail, Map.Keys.IsDistinct-push, Map.Steps.list_any_congr}
+use Rattle.vecmap_base.specs.Items.{add, adds}
+use Rattle.vecmap_base.proofs.DistinctLemmas.Absent.{none_equal}
 
 module _ {T : Type 0} (eq : T → T → Bool) (o : IsEquivalence eq) where
-  -- A list stays distinct if an element is inserted that is equal to none of it.
-  pub distinct_insert : (xs : List T) (i : ℕ) (y : T) → list_any (eq y) xs ≡ false → IsDistinct eq xs → IsDistinct eq (insert xs i y)
-  distinct_insert xs i y e d = distinct_rearranged eq o (y ∷ xs) (insert xs i y) (IsPermutation-insert xs i y) (distinct_if_absent eq y xs e d)
-
   pub distinct_append : (xs ys : List T) → IsDistinct eq xs → IsDistinct eq ys → ((y : T) → list_any (eq y) ys ≡ true → list_any (eq y) xs ≡ false) → IsDistinct eq (xs ++ ys)
   distinct_append xs [] d e h = subst (IsDistinct eq) (sym (append-nil xs)) d
   distinct_append xs (y ∷ ys) d e h =
@@ -54,12 +49,3 @@ module _ {T : Type 0} (eq : T → T → Bool) (o : IsEquivalence eq) where
   pub distinct_adds : (s xs : List T) → IsDistinct eq s → IsDistinct eq (adds eq s xs)
   distinct_adds s [] d = d
   distinct_adds s (x ∷ xs) d = distinct_adds (add eq s x) xs (distinct_add s x d)
-
-  pub distinct_put_item : (s : List T) (x : T) → IsDistinct eq s → IsDistinct eq (put_item eq s x)
-  distinct_put_item s x d = by (item_index eq s x) refl
-    where
-      by : (place : Option ℕ) → item_index eq s x ≡ place → IsDistinct eq (option_map_or (λ i. slice_set s i x) place (s ++ x ∷ []))
-      by None e = IsDistinct-push o s x d (sym (is_some_position (eq x) s) ∙ ap is_some e)
-      by (Some i) e =
-          let at = position-Some (eq x) s i x e in
-          distinct_replace s i x at.0 at.1 d

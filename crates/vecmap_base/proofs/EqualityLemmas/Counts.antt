@@ -1,15 +1,12 @@
 -- How often elements occur in a list, up to an equivalence.
-use Rattle.std.specs.Prelude.{◌≡◌, ℕ, ◌+◌, ◌<◌, Bool, true, false, ◌&&◌, ◌||◌, nat_eq, List, [], ◌∷◌, length, remove, refl, if◌then◌else◌}
+use Rattle.std.specs.Prelude.{◌≡◌, ℕ, ◌+◌, ◌<◌, Bool, true, false, ◌&&◌, ◌||◌, nat_eq, List, [], ◌∷◌, length, remove, refl}
 use Rattle.std.specs.Cmp.{IsEquivalence, both_ways}
 use Rattle.std.specs.List.{count_by, list_all, list_any}
-use Rattle.std.specs.List.Sorted.{IsPermutation}
 use Rattle.std.proofs.Common.{cond, get_or, sym, ap, ◌∙◌, arith, true≢false, inl, inr}
 use Rattle.std.proofs.lemmas.Bool.{and_from, and_parts, cases_Bool, eq-eqb, eqb-true, false_from_ne_true, or_left, or_parts, or_right}
 use Rattle.std.proofs.lemmas.List.Edits.{length-remove}
 use Rattle.std.proofs.lemmas.List.Folds.{Any-from_list_any}
-use Rattle.std.proofs.lemmas.List.Sorted.{sum_by-IsPermutation}
 use Rattle.std.proofs.lemmas.List.Sums.{sum_by-cons, sum_by-remove}
-use Rattle.vecmap_base.specs.Equality.{count, same_pair}
 
 module _ {X : Type 0} (same : X → X → Bool) (o : IsEquivalence same) where
   abbrev pub many : List X → X → ℕ
@@ -90,10 +87,6 @@ module _ {X : Type 0} (same : X → X → Bool) (o : IsEquivalence same) where
       chain : (a b c : List X) → as_often a b ≡ true → as_often b c ≡ true → as_often a c ≡ true
       chain a b c e f = test_from_counts a c (λ x. counts_from_test a b e x ∙ counts_from_test b c f x)
 
-  -- The order of a list makes no difference.
-  pub rearranged_as_often : (a b : List X) → IsPermutation a b → as_often a b ≡ true
-  rearranged_as_often a b p = test_from_counts a b (λ x. sym (sum_by-IsPermutation (λ z. cond (same x z) 1 0) a b p))
-
   -- A list with an element that is the same as `x`, and the list without one such element.
   record Less (x : X) (l : List X) : Type 0 where
     rest : List X
@@ -151,10 +144,3 @@ module _ {X : Type 0} (same : X → X → Bool) (o : IsEquivalence same) where
   settled_by_half a b n =
       both_ways _ _ (λ e. (and_parts (all_agree a a b) (all_agree b a b) e).0)
       (λ e. test_from_counts a b (settled a b n (λ x h. agreed a a b x e h)))
-
-module _ {K V : Type 0} (key : K → K → Bool) (value : V → V → Bool) where
-  count-nil : (p : K × V) → count key value [] p ≡ 0
-  count-nil p = refl
-
-  pub count_cons : (q : K × V) (qs : List (K × V)) (p : K × V) → count key value (q ∷ qs) p ≡ (if key p.0 q.0 && value p.1 q.1 then 1 else 0) + count key value qs p
-  count_cons q qs p = sum_by-cons (λ r. cond (same_pair key value p r) 1 0) q qs

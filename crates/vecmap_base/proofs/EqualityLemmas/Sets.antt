@@ -1,13 +1,11 @@
 -- The laws of the equality of sets, and of one set within another.
-use Rattle.std.specs.Prelude.{◌≡◌, ◌↔◌, ◌<◌, ◌≤◌, Bool, true, false, ◌||◌, List, [], ◌∷◌, ◌++◌, length, refl}
+use Rattle.std.specs.Prelude.{◌≡◌, ◌<◌, ◌≤◌, Bool, true, false, ◌||◌, List, [], ◌∷◌, ◌++◌, length, refl}
 use Rattle.std.specs.Cmp.{IsEquivalence, both_ways}
 use Rattle.std.specs.List.{IsDistinct}
-use Rattle.std.specs.List.Sorted.{IsPermutation}
 use Rattle.std.specs.Set.{is_member}
 use Rattle.std.proofs.Common.{sym, ap, ◌∙◌, arith, true≢false, length-append, inl, inr}
 use Rattle.std.proofs.lemmas.Bool.{and_from, and_parts, cases_Bool, false_from_ne_true, or_cases, or_left, or_right}
 use Rattle.std.proofs.lemmas.List.Folds.{list_any-append}
-use Rattle.std.proofs.lemmas.List.Sorted.{list_any-IsPermutation}
 use Rattle.std.proofs.lemmas.Map.Keys.{IsDistinct-push}
 use Rattle.std.proofs.lemmas.Map.Made.{length-le_from_is_member}
 use Rattle.std.proofs.lemmas.Map.Steps.{list_any_congr}
@@ -51,17 +49,6 @@ module _ {T : Type 0} (eq : T → T → Bool) (o : IsEquivalence eq) where
           and_from _ _
           (test_from_within a c (λ x h. within_from_test b c q.0 x (within_from_test a b p.0 x h)))
           (test_from_within c a (λ x h. within_from_test b a p.1 x (within_from_test c b q.1 x h)))
-
-  -- The order of the elements makes no difference.
-  pub rearranged_sets_equal : (a b : List T) → IsPermutation a b → has_same_items eq a b ≡ true
-  rearranged_sets_equal a b p =
-      and_from _ _
-      (test_from_within a b (λ x e. sym (list_any-IsPermutation (eq x) a b p) ∙ e))
-      (test_from_within b a (λ x e. list_any-IsPermutation (eq x) a b p ∙ e))
-
-  -- Two lists are equal as sets exactly if each is within the other.
-  pub equal_if_within_each_other : (a b : List T) → has_same_items eq a b ≡ true ↔ ((is_within eq a b ≡ true) × (is_within eq b a ≡ true))
-  equal_if_within_each_other a b = (and_parts (is_within eq a b) (is_within eq b a), λ p. and_from _ _ p.0 p.1)
 
   -- A distinct list within another is no longer than that list.
   pub length_within : (a b : List T) → IsDistinct eq a → is_within eq a b ≡ true → length a ≤ length b

@@ -1,60 +1,22 @@
 -- What the definitions say that are about an index.
-use Rattle.std.specs.{Option.option_and_then, Option.option_map, List.list_any, Map.keys_of}
-use Rattle.std.proofs.Common.{◌≡◌, ℕ, suc, Bool, true, false, List, [], ◌∷◌, Option, None, Some, if◌then◌else◌, length, slice_get, unwrap_or, refl, ◌-◌, drop, is_some, take, ap, ◌∙◌, sym}
-use Rattle.vecmap_base.specs.Pairs.{index_of, index_or_length, lookup_full, lookup_pair, value_at, with_pair, lookup_by}
-use Rattle.vecmap_base.proofs.PairsLemmas.Recursion.{index_of_cons, lookup_by_cons}
+use Rattle.std.specs.{Option.option_map, List.list_any, Map.keys_of}
+use Rattle.std.proofs.Common.{◌≡◌, ℕ, Bool, List, [], ◌∷◌, Some, if◌then◌else◌, length, refl, ◌-◌, drop, is_some, take, ap, ◌∙◌, sym}
+use Rattle.vecmap_base.specs.Pairs.{index_of, lookup_by, map_values}
+use Rattle.vecmap_base.proofs.PairsLemmas.Recursion.{lookup_by_cons}
 use Rattle.std.specs.Map as entries
-use Rattle.std.proofs.lemmas.List.{drop-map, take_rest}
-use Rattle.vecmap_base.proofs.IndexLemmas.{is_some_position, list_any_map, position_none}
-
--- An index and what it holds, counted with one pair more at the front.
-abbrev pub one_on : {V : Type 0} → ℕ × V → ℕ × V
-one_on found = (suc found.0, found.1)
-
-module _ {K V : Type 0} (p : K × V) (ps : List (K × V)) where
-  pub value_at_cons : (i : ℕ) → (value_at (p ∷ ps) 0 ≡ Some p.1) × (value_at (p ∷ ps) (suc i) ≡ value_at ps i)
-  value_at_cons i = (refl, refl)
-
-  pub with_pair_cons : (i : ℕ) (k : K) (v : V) → (with_pair (p ∷ ps) 0 k v ≡ (k, v) ∷ ps) × (with_pair (p ∷ ps) (suc i) k v ≡ p ∷ with_pair ps i k v)
-  with_pair_cons i k v = (refl, refl)
-
-  module _ (eq : K → K → Bool) (k : K) where
-    pub index_or_length_cons : index_or_length eq (p ∷ ps) k ≡ (if eq k p.0 then 0 else suc (index_or_length eq ps k))
-    index_or_length_cons = ap (λ o. unwrap_or o (suc (length ps))) (index_of_cons eq p ps k) ∙ by (eq k p.0) (index_of eq ps k)
-      where
-        by : (b : Bool) (o : Option ℕ) → unwrap_or (if b then Some 0 else option_map suc o) (suc (length ps)) ≡ (if b then 0 else suc (unwrap_or o (length ps)))
-        by true o = refl
-        by false None = refl
-        by false (Some i) = refl
-
-    pub lookup_pair_cons : lookup_pair eq (p ∷ ps) k ≡ (if eq k p.0 then Some p else lookup_pair eq ps k)
-    lookup_pair_cons = ap (option_and_then (slice_get (p ∷ ps))) (index_of_cons eq p ps k) ∙ by (eq k p.0) (index_of eq ps k)
-      where
-        by : (b : Bool) (o : Option ℕ) → option_and_then (slice_get (p ∷ ps)) (if b then Some 0 else option_map suc o) ≡ (if b then Some p else option_and_then (slice_get ps) o)
-        by true o = refl
-        by false None = refl
-        by false (Some i) = refl
-
-    pub lookup_full_cons : lookup_full eq (p ∷ ps) k ≡ (if eq k p.0 then Some (0, p.1) else option_map one_on (lookup_full eq ps k))
-    lookup_full_cons = ap (option_and_then (found (p ∷ ps))) (index_of_cons eq p ps k) ∙ by (eq k p.0) (index_of eq ps k)
-      where
-        found : List (K × V) → ℕ → Option (ℕ × V)
-        found l i = option_map (λ v. (i, v)) (value_at l i)
-
-        at : (i : ℕ) (o : Option V) → option_map {U = ℕ × V} (λ v. (suc i, v)) o ≡ option_map one_on (option_map (λ v. (i, v)) o)
-        at i None = refl
-        at i (Some v) = refl
-
-        by : (b : Bool) (o : Option ℕ) → option_and_then (found (p ∷ ps)) (if b then Some 0 else option_map suc o) ≡ (if b then Some (0, p.1) else option_map one_on (option_and_then (found ps) o))
-        by true o = refl
-        by false None = refl
-        by false (Some i) = at i (value_at ps i)
+use Rattle.std.proofs.lemmas.{List.drop-map, List.take_rest, Map.Made.lookup-map_values}
+use Rattle.vecmap_base.proofs.IndexLemmas.{is_some_position, list_any_map}
 
 module _ {K V : Type 0} (test : K → Bool) where
   -- `lookup_by` is the lookup of std's maps.
   pub lookup_by_is : (l : List (K × V)) → lookup_by test l ≡ entries.lookup test l
   lookup_by_is [] = refl
   lookup_by_is (p ∷ ps) = lookup_by_cons test p ps ∙ ap (λ o. if test p.0 then Some p.1 else o) (lookup_by_is ps)
+
+module _ {K V W : Type 0} (g : V → W) where
+  -- In the list with `g` of each value, a lookup finds `g` of what it found before.
+  pub lookup_by_map_values : (test : K → Bool) (l : List (K × V)) → lookup_by test (map_values g l) ≡ option_map g (lookup_by test l)
+  lookup_by_map_values test l = lookup_by_is test (map_values g l) ∙ lookup-map_values g test l ∙ ap (option_map g) (sym (lookup_by_is test l))
 
 module _ {K V : Type 0} (eq : K → K → Bool) where
   pub is_some_index_of : (l : List (K × V)) (k : K) → is_some (index_of eq l k) ≡ list_any (eq k) (keys_of l)
@@ -63,6 +25,3 @@ module _ {K V : Type 0} (eq : K → K → Bool) where
   -- The rest of the list from `i` on has an index of `k` exactly if it has an equal key.
   pub is_some_index_of_rest : (l : List (K × V)) (i : ℕ) (k : K) → is_some (index_of eq (take (length l - i) (drop i l)) k) ≡ list_any (eq k) (drop i (keys_of l))
   is_some_index_of_rest l i k = ap (λ r. is_some (index_of eq r k)) (take_rest l i) ∙ is_some_index_of (drop i l) k ∙ ap (list_any (eq k)) (sym (drop-map (λ p. p.0) i l))
-
-  pub index_of_none : (l : List (K × V)) (k : K) → list_any (eq k) (keys_of l) ≡ false → index_of eq l k ≡ None
-  index_of_none l k e = position_none (λ p. eq k p.0) l (sym (list_any_map (eq k) (λ p. p.0) l) ∙ e)

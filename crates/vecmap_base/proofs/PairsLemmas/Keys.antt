@@ -1,17 +1,9 @@
 -- The keys of a list of pairs, as a list of elements. What changes the pairs changes the keys in the same way.
 use Rattle.std.specs.{Map.keys_of, Option.option_map}
-use Rattle.std.proofs.Common.{◌≡◌, ℕ, suc, Bool, true, false, List, [], ◌∷◌, ◌++◌, Some, drop, if◌then◌else◌, insert, remove, take, refl, sym, ap, ◌∙◌}
-use Rattle.std.proofs.lemmas.List.{drop-map, map-append, take-map}
-use Rattle.vecmap_base.specs.{Items.add, Items.put_item, Items.adds, Items.item_index, Items.without_item, Pairs.index_of, Pairs.put, Pairs.put_key, Pairs.puts, Pairs.without_key}
-use Rattle.vecmap_base.proofs.ItemsLemmas.Recursion.{add_cons, put_item_cons, item_index_cons, without_item_cons}
-use Rattle.vecmap_base.proofs.PairsLemmas.Recursion.{index_of_cons, put_cons, put_key_cons, without_key_cons}
-
-module _ {K V : Type 0} where
-  pub keys_of_remove : (l : List (K × V)) (i : ℕ) → keys_of (remove l i) ≡ remove (keys_of l) i
-  keys_of_remove l i = map-append (λ p. p.0) (take i l) (drop (suc i) l) ∙ sym (λ t. take-map (λ p. p.0) i l t ++ drop-map (λ p. p.0) (suc i) l t)
-
-  pub keys_of_insert : (l : List (K × V)) (i : ℕ) (k : K) (v : V) → keys_of (insert l i (k, v)) ≡ insert (keys_of l) i k
-  keys_of_insert l i k v = map-append (λ p. p.0) (take i l) ((k, v) ∷ drop i l) ∙ sym (λ t. take-map (λ p. p.0) i l t ++ k ∷ drop-map (λ p. p.0) i l t)
+use Rattle.std.proofs.Common.{◌≡◌, suc, Bool, true, false, List, [], ◌∷◌, Some, if◌then◌else◌, refl, sym, ap, ◌∙◌}
+use Rattle.vecmap_base.specs.{Items.add, Items.adds, Items.item_index, Pairs.index_of, Pairs.put, Pairs.puts}
+use Rattle.vecmap_base.proofs.ItemsLemmas.Recursion.{add_cons, item_index_cons}
+use Rattle.vecmap_base.proofs.PairsLemmas.Recursion.{index_of_cons, put_cons}
 
 module _ {K V : Type 0} (eq : K → K → Bool) where
   pub index_of_is : (l : List (K × V)) (k : K) → index_of eq l k ≡ item_index eq (keys_of l) k
@@ -29,19 +21,3 @@ module _ {K V : Type 0} (eq : K → K → Bool) where
   pub keys_of_puts : (l ps : List (K × V)) → keys_of (puts eq l ps) ≡ adds eq (keys_of l) (keys_of ps)
   keys_of_puts l [] = refl
   keys_of_puts l (p ∷ ps) = keys_of_puts (put eq l p.0 p.1) ps ∙ ap (λ ks. adds eq ks (keys_of ps)) (keys_of_put l p.0 p.1)
-
-  pub keys_of_put_key : (l : List (K × V)) (k : K) (v : V) → keys_of (put_key eq l k v) ≡ put_item eq (keys_of l) k
-  keys_of_put_key [] k v = refl
-  keys_of_put_key (p ∷ ps) k v = ap keys_of (put_key_cons eq p ps k v) ∙ by (eq k p.0) (keys_of_put_key ps k v) ∙ sym (put_item_cons eq p.0 (keys_of ps) k)
-    where
-      by : (b : Bool) → keys_of (put_key eq ps k v) ≡ put_item eq (keys_of ps) k → keys_of (if b then (k, v) ∷ ps else p ∷ put_key eq ps k v) ≡ (if b then k ∷ keys_of ps else p.0 ∷ put_item eq (keys_of ps) k)
-      by true e = refl
-      by false e = ap (λ ks. p.0 ∷ ks) e
-
-  pub keys_of_without_key : (l : List (K × V)) (k : K) → keys_of (without_key eq l k) ≡ without_item eq (keys_of l) k
-  keys_of_without_key [] k = refl
-  keys_of_without_key (p ∷ ps) k = ap keys_of (without_key_cons eq p ps k) ∙ by (eq k p.0) (keys_of_without_key ps k) ∙ sym (without_item_cons eq p.0 (keys_of ps) k)
-    where
-      by : (b : Bool) → keys_of (without_key eq ps k) ≡ without_item eq (keys_of ps) k → keys_of (if b then ps else p ∷ without_key eq ps k) ≡ (if b then keys_of ps else p.0 ∷ without_item eq (keys_of ps) k)
-      by true e = refl
-      by false e = ap (λ ks. p.0 ∷ ks) e

@@ -37,12 +37,6 @@ module _ {K V : Type 0} where
   keys_of_with_value (p ∷ ps) zero v = refl
   keys_of_with_value (p ∷ ps) (suc i) v = ap keys_of (with_value_cons p ps i v) ∙ ap (λ ks. p.0 ∷ ks) (keys_of_with_value ps i v)
 
-  -- A write of a value leaves the number of pairs.
-  pub length_with_value : (l : List (K × V)) (i : ℕ) (v : V) → length (with_value l i v) ≡ length l
-  length_with_value [] i v = refl
-  length_with_value (p ∷ ps) zero v = refl
-  length_with_value (p ∷ ps) (suc i) v = ap length (with_value_cons p ps i v) ∙ ap suc (length_with_value ps i v)
-
   pub values_of_with_value : (l : List (K × V)) (i : ℕ) (v : V) → values_of (with_value l i v) ≡ set (values_of l) i v
   values_of_with_value [] i v = refl
   values_of_with_value (p ∷ ps) zero v = refl

@@ -1,11 +1,10 @@
 -- The number of comparisons that a removal of repeats makes.
 use Rattle.std.specs.Set.{is_member}
-use Rattle.std.specs.{Cmp.IsEquivalence, List.IsDistinct, Map.keys_of, Option.option_map_or}
+use Rattle.std.specs.{Map.keys_of, Option.option_map_or}
 use Rattle.std.proofs.Common.{◌≡◌, ℕ, suc, ◌+◌, ◌<◌, ◌≤◌, Bool, true, false, List, [], ◌∷◌, ◌++◌, Option, None, Some, length, take, refl, sym, ap, ◌∙◌, subst, get_or, arith, inl, inr}
-use Rattle.std.proofs.lemmas.{Bool.cases_Bool, List.append_assoc, List.length-take, List.length_push, List.map-append, List.take_more, List.Quantifiers.position-Some, Map.Entries.length-keys_of}
-use Rattle.vecmap_base.specs.{Items.add, Items.adds, Items.item_index, Pairs.HasDistinctKeys, Pairs.index_of, Pairs.puts}
+use Rattle.std.proofs.lemmas.{Bool.cases_Bool, List.length-take, List.length_push, List.map-append, List.take_more, List.Quantifiers.position-Some, Map.Entries.length-keys_of}
+use Rattle.vecmap_base.specs.{Items.add, Items.adds, Items.item_index, Pairs.index_of, Pairs.puts}
 use Rattle.vecmap_base.specs.Repeats.{adds_cost, comparisons, cost, search_cost}
-use Rattle.vecmap_base.proofs.DistinctLemmas.Absent.{none_before}
 use Rattle.vecmap_base.proofs.ItemsLemmas.Additions.{add_absent, add_present}
 use Rattle.vecmap_base.proofs.PairsLemmas.Keys.{index_of_is, keys_of_puts}
 use Rattle.vecmap_base.proofs.IndexLemmas.{position_at, position_none}
@@ -72,29 +71,6 @@ module _ {T : Type 0} (eq : T → T → Bool) where
       let f = rw long at (comparisons_at_most (take i xs)) in
       omega (arith, f, cost_below i (length xs) l)
 
-  module _ (o : IsEquivalence eq) where
-    adds_cost_distinct : (s xs : List T) → IsDistinct eq (s ++ xs) → adds_cost eq s xs + cost (length s) ≡ cost (length s + length xs)
-    adds_cost_distinct s [] d =
-        let e : length s + 0 ≡ length s = omega arith in
-        rw e (omega arith)
-    adds_cost_distinct s (x ∷ xs) d =
-        let n = length s in
-        let m = length xs in
-        let moved : (s ++ x ∷ []) ++ xs ≡ s ++ x ∷ xs = append_assoc s (x ∷ []) xs in
-        let absent = none_before eq o s x xs d in
-        let one_on : n + suc m ≡ n + m + 1 = omega arith in
-        let two_on : n + 1 + m ≡ n + m + 1 = omega arith in
-        let more : adds_cost eq (s ++ x ∷ []) xs + cost (n + 1) ≡ cost (n + m + 1) =
-        subst (λ k. adds_cost eq (s ++ x ∷ []) xs + cost (n + 1) ≡ cost k) two_on
-        (subst (λ k. adds_cost eq (s ++ x ∷ []) xs + cost k ≡ cost (k + m)) (length_push s x) (adds_cost_distinct (s ++ x ∷ []) xs (subst (IsDistinct eq) (sym moved) d))) in
-        rw (one_on, add_absent eq s x absent) (omega (arith, more, search_cost_absent s x absent, cost_more n))
-
-    pub comparisons_distinct : (xs : List T) → IsDistinct eq xs → comparisons eq xs ≡ cost (length xs)
-    comparisons_distinct xs d =
-        let e : 0 + length xs ≡ length xs = omega arith in
-        let f = rw e at (adds_cost_distinct [] xs d) in
-        omega (arith, f)
-
 -- The same of the keys of pairs.
 module _ {K V : Type 0} (eq : K → K → Bool) where
   pub key_search_found : (l : List (K × V)) (k : K) (i : ℕ) → index_of eq l k ≡ Some i → search_cost eq (keys_of l) k ≡ i + 1
@@ -120,6 +96,3 @@ module _ {K V : Type 0} (eq : K → K → Bool) where
       let long : length (take i l) ≡ i = omega (arith, length-take i l) in
       let f = rw long at (key_comparisons_at_most (take i l)) in
       omega (arith, f, cost_below i (length l) h)
-
-  pub key_comparisons_distinct : IsEquivalence eq → (l : List (K × V)) → HasDistinctKeys eq l → comparisons eq (keys_of l) ≡ cost (length l)
-  key_comparisons_distinct o l d = comparisons_distinct eq o (keys_of l) d ∙ ap cost (length-keys_of l)

@@ -1,7 +1,7 @@
 -- The loop keeps `UpdatedSoFar`: each pair stays where it is, as it was written.
 use Rattle.std.proofs.Common.{ap, arith, ◌∙◌}
 use Rattle.std.specs.Prelude.{◌≤◌, length}
-use Rattle.vecmap_base.proofs.PairsLemmas.EachValue.{lookup_by_map_values}
+use Rattle.vecmap_base.proofs.PairsLemmas.Indices.{lookup_by_map_values}
 use Rattle.vecmap_base.proofs.UpdatedLemmas.{all_updated, callable_next, computed, computed_always, keys_updated, one_updated}
 use Rattle.vecmap_base.proofs.update.update_pairs.Goals as goal
 use Rattle.vecmap_base.specs.Pairs.{lookup_by}

@@ -1,5 +1,5 @@
 use Rattle.std.proofs.Common.{◌∙◌}
-use Rattle.vecmap_base.proofs.PairsLemmas.AfterPuts.{put_stored}
+use Rattle.vecmap_base.proofs.PairsLemmas.Puts.{put_stored}
 use Rattle.vecmap.proofs.map_run.step.put.or_insert.Goals as goal
 
 pub returns-in-Ok : goal.returns-in-Ok

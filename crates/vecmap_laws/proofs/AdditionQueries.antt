@@ -1,0 +1,41 @@
+-- What a query finds after an addition. By induction on the list for an element that does not match. A matching element
+-- is found as an equal one is.
+use Rattle.std.specs.{Cmp.IsEquivalence, List.list_any, Map.IsKeyTest}
+use Rattle.std.proofs.Common.{◌≡◌, Bool, true, false, List, [], ◌∷◌, Some, IsTrue, if◌then◌else◌, is_some, length, option_map, position, suc, unwrap_or, sym, ap, cond, ◌∙◌, inl, inr}
+use Rattle.std.proofs.lemmas.Bool.{cases_Bool}
+use Rattle.vecmap_base.specs.Items.{add, item_index}
+use Rattle.vecmap_base.proofs.ItemsLemmas.Recursion.{add_cons}
+use Rattle.vecmap_base.proofs.IndexLemmas.{is_some_position, list_any_position, position_cons}
+use Rattle.vecmap_laws.proofs.ItemIndices.{item_index_add}
+use Rattle.vecmap_laws.proofs.ItemQueries.{tells_as}
+
+module _ {T : Type 0} (eq : T → T → Bool) (test : T → Bool) where
+  -- After an addition of an element that does not match, it finds what it found before.
+  pub index_after_other : (s : List T) (x : T) → test x ≡ false → position test (add eq s x) ≡ position test s
+  index_after_other [] x n = position_cons test x [] ∙ ap (λ b. cond b (Some 0) (option_map suc (position test []))) n
+  index_after_other (z ∷ zs) x n =
+      ap (position test) (add_cons eq z zs x)
+      ∙ elim (cases_Bool (eq x z)) [
+        | inl e ↦ ap (λ b. position test (if b then z ∷ zs else z ∷ add eq zs x)) e
+        | inr e ↦
+            ap (λ b. position test (if b then z ∷ zs else z ∷ add eq zs x)) e
+            ∙ position_cons test z (add eq zs x)
+            ∙ ap (λ found. cond (test z) (Some 0) (option_map suc found)) (index_after_other zs x n)
+            ∙ sym (position_cons test z zs)
+      ]
+
+  pub found_after_other : (s : List T) (x : T) → test x ≡ false → list_any test (add eq s x) ≡ list_any test s
+  found_after_other s x n = list_any_position test (add eq s x) ∙ ap is_some (index_after_other s x n) ∙ is_some_position test s
+
+  module _ (o : IsEquivalence eq) (respects : IsKeyTest eq test) where
+    -- After an addition of an element that matches, it finds the index of an equal existing element, or the last index.
+    pub index_after_own : (s : List T) (x : T) → IsTrue (test x) → position test (add eq s x) ≡ Some (unwrap_or (position test s) (length s))
+    index_after_own s x h =
+        let same = tells_as eq o test respects x h in
+        ap (λ f. position f (add eq s x)) same
+        ∙ item_index_add eq o s x x
+        ∙ ap (λ b. if b then Some (unwrap_or (item_index eq s x) (length s)) else item_index eq s x) (o.refl x)
+        ∙ sym (ap (λ f. Some (unwrap_or (position f s) (length s))) same)
+
+    pub found_after_own : (s : List T) (x : T) → IsTrue (test x) → list_any test (add eq s x) ≡ true
+    found_after_own s x h = list_any_position test (add eq s x) ∙ ap is_some (index_after_own s x h)

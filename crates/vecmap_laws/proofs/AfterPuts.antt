@@ -1,0 +1,134 @@
+-- What is found, and at which index, after one insertion and after many.
+use Rattle.std.specs.{Cmp.IsEquivalence, List.list_any, Map.keys_of, Option.option_and_then, Option.option_map, Option.option_map_or, Option.option_or}
+use Rattle.std.proofs.Common.{◌≡◌, ◌<◌, ◌+◌, ℕ, Bool, position, true, false, List, [], ◌∷◌, ◌++◌, Option, None, Some, if◌then◌else◌, is_some, length, slice_get, unwrap_or, refl, sym, ap, ◌∙◌, arith, length-append, inl, inr}
+use Rattle.std.proofs.lemmas.{Bool.cases_Bool, List.length-map, Map.Made.is_some-lookup, Option.slice_get-map}
+use Rattle.vecmap_base.specs.Items.{add}
+use Rattle.vecmap_base.specs.Pairs.{HasDistinctKeys, index_of, index_or_length, lookup, put, put_key, puts, value_at, with_value, without_key}
+use Rattle.vecmap_base.proofs.ItemsLemmas.Additions.{add_present}
+use Rattle.vecmap_base.proofs.PairsLemmas.Keys.{index_of_is, keys_of_put}
+use Rattle.vecmap_base.proofs.PairsLemmas.{Indices.is_some_index_of, Indices.lookup_by_is, Recursion.put_cons}
+use Rattle.vecmap_laws.proofs.Indices.{index_of_none}
+use Rattle.vecmap_laws.proofs.ItemIndices.{item_index_add, item_index_congr, item_index_own}
+use Rattle.vecmap_laws.proofs.ItemRemovals.{without_item_absent}
+use Rattle.vecmap_laws.proofs.Keys.{keys_of_without_key}
+use Rattle.vecmap_laws.proofs.Lookups.{look, lookup_congr, lookup_put, lookup_put_other, lookup_without_key, lookup_without_key_other}
+use Rattle.vecmap_laws.proofs.Puts.{puts_distinct}
+use Rattle.vecmap_laws.proofs.Recursion.{lookup_cons, put_key_cons}
+use Rattle.vecmap_laws.proofs.Values.{length_with_value}
+
+pub option_or_none : {X : Type 0} (a : Option X) → option_or a None ≡ a
+option_or_none None = refl
+option_or_none (Some x) = refl
+
+pub option_or_assoc : {X : Type 0} (a b c : Option X) → option_or (option_or a b) c ≡ option_or a (option_or b c)
+option_or_assoc None b c = refl
+option_or_assoc (Some x) b c = refl
+
+module _ {K V : Type 0} (eq : K → K → Bool) where
+  -- A lookup finds a value exactly if the key has an index.
+  pub is_some_lookup : (l : List (K × V)) (k : K) → is_some (lookup eq l k) ≡ is_some (index_of eq l k)
+  is_some_lookup l k = ap is_some (lookup_by_is (eq k) l) ∙ is_some-lookup (eq k) l ∙ sym (is_some_index_of eq l k)
+
+  -- An existing key adds no key.
+  pub add_there : (l : List (K × V)) (k : K) → is_some (index_of eq l k) ≡ true → add eq (keys_of l) k ≡ keys_of l
+  add_there l k h = add_present eq (keys_of l) k (sym (is_some_index_of eq l k) ∙ h)
+
+  -- The insertion of the value that is stored changes nothing.
+  pub put_same : (l : List (K × V)) (k : K) (v : V) → lookup eq l k ≡ Some v → put eq l k v ≡ l
+  put_same [] k v e = absurd (let n : None ≡ Some v = e in cc)
+  put_same (p ∷ ps) k v e =
+      put_cons eq p ps k v
+      ∙ elim (cases_Bool (eq k p.0)) [
+        | inl h ↦ let f : Some p.1 ≡ Some v = sym (look eq p ps k true h) ∙ e in let w : v ≡ p.1 = cc in ap (λ b. if b then (p.0, v) ∷ ps else p ∷ put eq ps k v) h ∙ ap (λ x. (p.0, x) ∷ ps) w
+        | inr h ↦ ap (λ b. if b then (p.0, v) ∷ ps else p ∷ put eq ps k v) h ∙ ap (λ t. p ∷ t) (put_same ps k v (sym (look eq p ps k false h) ∙ e))
+      ]
+
+  -- The insertion of a new key makes the list longer by one. Any other insertion leaves its length.
+  pub length_put : (l : List (K × V)) (k : K) (v : V) → length (put eq l k v) ≡ (if is_some (index_of eq l k) then length l else length l + 1)
+  length_put l k v = by (index_of eq l k)
+    where
+      by : (found : Option ℕ) → length (option_map_or (λ i. with_value l i v) found (l ++ (k, v) ∷ [])) ≡ (if is_some found then length l else length l + 1)
+      by None = length-append l ((k, v) ∷ [])
+      by (Some i) = length_with_value l i v
+
+  -- After an insertion the list has a pair.
+  pub put_some : (l : List (K × V)) (k : K) (v : V) → 0 < length (put eq l k v)
+  put_some [] k v = omega arith
+  put_some (p ∷ ps) k v = by (eq k p.0) (put_cons eq p ps k v)
+    where
+      by : (b : Bool) → put eq (p ∷ ps) k v ≡ (if b then (p.0, v) ∷ ps else p ∷ put eq ps k v) → 0 < length (put eq (p ∷ ps) k v)
+      by true e = rw e (omega arith)
+      by false e = rw e (omega arith)
+
+  -- After insertions the list has a pair, if it had one before or one was inserted.
+  pub puts_some : (l ps : List (K × V)) → 0 < length l + length ps → 0 < length (puts eq l ps)
+  puts_some l [] h = omega (arith, h)
+  puts_some l (p ∷ ps) h = puts_some (put eq l p.0 p.1) ps (omega (arith, put_some l p.0 p.1))
+
+  module _ (o : IsEquivalence eq) where
+    -- If no keys repeat, each pair is found by its key, at its own index.
+    pub index_of_own : (l : List (K × V)) → HasDistinctKeys eq l → (i : ℕ) (k : K) (v : V) → slice_get l i ≡ Some (k, v) → index_of eq l k ≡ Some i
+    index_of_own l d i k v e = index_of_is eq l k ∙ item_index_own eq o (keys_of l) d i k (slice_get-map (λ p. p.0) l i ∙ ap (option_map (λ p. p.0)) e)
+
+    pub lookup_own : (l : List (K × V)) → HasDistinctKeys eq l → (i : ℕ) (k : K) (v : V) → slice_get l i ≡ Some (k, v) → lookup eq l k ≡ Some v
+    lookup_own l d i k v e = ap (option_and_then (value_at l)) (index_of_own l d i k v e) ∙ ap (option_map (λ p. p.1)) e
+
+    -- Equal keys have the same index.
+    pub index_of_congr : (l : List (K × V)) (x y : K) → eq x y ≡ true → index_of eq l x ≡ index_of eq l y
+    index_of_congr l x y e = index_of_is eq l x ∙ item_index_congr eq o (keys_of l) x y e ∙ sym (index_of_is eq l y)
+
+    -- After an insertion, an existing key keeps its index, and a new one is last. Every other key keeps its index.
+    pub index_of_put : (l : List (K × V)) (k : K) (v : V) (q : K) → index_of eq (put eq l k v) q ≡ (if eq k q then Some (index_or_length eq l k) else index_of eq l q)
+    index_of_put l k v q =
+        index_of_is eq (put eq l k v) q
+        ∙ ap (λ s. position (eq q) s) (keys_of_put eq l k v)
+        ∙ item_index_add eq o (keys_of l) k q
+        ∙ (λ t. if eq k q then Some (unwrap_or (sym (index_of_is eq l k) t) (length-map l (λ p. p.0) t)) else sym (index_of_is eq l q) t)
+
+    -- The lookup of any key after an insertion.
+    pub lookup_put_any : (l : List (K × V)) (k : K) (v : V) (q : K) → lookup eq (put eq l k v) q ≡ (if eq k q then Some v else lookup eq l q)
+    lookup_put_any l k v q =
+        elim (cases_Bool (eq k q)) [
+          | inl e ↦ lookup_congr eq o (put eq l k v) q k (o.symm q k ∙ e) ∙ lookup_put eq o l k v ∙ sym (ap (λ b. if b then Some v else lookup eq l q) e)
+          | inr e ↦ lookup_put_other eq o l k v q e ∙ sym (ap (λ b. if b then Some v else lookup eq l q) e)
+        ]
+
+    -- A lookup after an insertion that stores the new key too finds the same value as after one that does not.
+    pub lookup_put_key : (l : List (K × V)) (k : K) (v : V) (q : K) → lookup eq (put_key eq l k v) q ≡ lookup eq (put eq l k v) q
+    lookup_put_key [] k v q = refl
+    lookup_put_key (p ∷ ps) k v q =
+        (λ t. lookup eq (put_key_cons eq p ps k v t) q)
+        ∙ elim (cases_Bool (eq k p.0)) [
+          | inl e ↦ (λ t. lookup eq (if e t then (k, v) ∷ ps else p ∷ put_key eq ps k v) q) ∙ lookup_cons eq (k, v) ps q ∙ ap (λ b. if b then Some v else lookup eq ps q) (o.symm q k ∙ o.congr k p.0 q e ∙ o.symm p.0 q) ∙ sym (lookup_cons eq (p.0, v) ps q) ∙ sym (λ t. lookup eq (if e t then (p.0, v) ∷ ps else p ∷ put eq ps k v) q)
+          | inr e ↦ (λ t. lookup eq (if e t then (k, v) ∷ ps else p ∷ put_key eq ps k v) q) ∙ lookup_cons eq p (put_key eq ps k v) q ∙ ap (λ found. if eq q p.0 then Some p.1 else found) (lookup_put_key ps k v q) ∙ sym (lookup_cons eq p (put eq ps k v) q) ∙ sym (λ t. lookup eq (if e t then (p.0, v) ∷ ps else p ∷ put eq ps k v) q)
+        ]
+        ∙ sym (λ t. lookup eq (put_cons eq p ps k v t) q)
+
+    -- The lookup of any key after a removal from a list of distinct keys.
+    pub lookup_without_any : (l : List (K × V)) (k q : K) → HasDistinctKeys eq l → lookup eq (without_key eq l k) q ≡ (if eq k q then None else lookup eq l q)
+    lookup_without_any l k q d =
+        elim (cases_Bool (eq k q)) [
+          | inl e ↦ lookup_congr eq o (without_key eq l k) q k (o.symm q k ∙ e) ∙ lookup_without_key eq o l k d ∙ sym (ap (λ b. if b then None else lookup eq l q) e)
+          | inr e ↦ lookup_without_key_other eq o l k q e ∙ sym (ap (λ b. if b then None else lookup eq l q) e)
+        ]
+
+    -- After this removal, the key has no index.
+    pub index_of_without_key : (l : List (K × V)) (k : K) → HasDistinctKeys eq l → index_of eq (without_key eq l k) k ≡ None
+    index_of_without_key l k d = index_of_none eq (without_key eq l k) k (ap (λ ks. list_any (eq k) ks) (keys_of_without_key eq l k) ∙ without_item_absent eq o (keys_of l) k d)
+
+    -- The values that the insertions make from the empty list take precedence over the values of `l`.
+    pub lookup_puts : (l ps : List (K × V)) (q : K) → lookup eq (puts eq l ps) q ≡ option_or (lookup eq (puts eq [] ps) q) (lookup eq l q)
+    lookup_puts l [] q = refl
+    lookup_puts l (p ∷ ps) q =
+        lookup_puts (put eq l p.0 p.1) ps q
+        ∙ ap (λ x. option_or (lookup eq (puts eq [] ps) q) x) (lookup_put_any l p.0 p.1 q ∙ by (eq p.0 q) ∙ ap (λ x. option_or x (lookup eq l q)) (sym (lookup_put_any [] p.0 p.1 q)))
+        ∙ sym (option_or_assoc (lookup eq (puts eq [] ps) q) (lookup eq (put eq [] p.0 p.1) q) (lookup eq l q))
+        ∙ ap (λ x. option_or x (lookup eq l q)) (sym (lookup_puts (put eq [] p.0 p.1) ps q))
+      where
+        by : (b : Bool) → (if b then Some p.1 else lookup eq l q) ≡ option_or (if b then Some p.1 else None) (lookup eq l q)
+        by true = refl
+        by false = refl
+
+    -- If the keys of the inserted pairs are distinct, each inserted pair takes precedence over the pairs of `l`.
+    pub lookup_puts_distinct : (l ps : List (K × V)) → HasDistinctKeys eq ps → (q : K) → lookup eq (puts eq l ps) q ≡ option_or (lookup eq ps q) (lookup eq l q)
+    lookup_puts_distinct l ps d q = lookup_puts l ps q ∙ ap (λ m. option_or (lookup eq m q) (lookup eq l q)) (puts_distinct eq o ps d)

@@ -1,0 +1,70 @@
+-- What `intersection` and `union` yield, whichever of two lists is longer. The idea: a fact about two lists in either
+-- order is one about the shorter and the other.
+use Rattle.std.specs.Set.{is_member}
+use Rattle.std.proofs.Common.{◌≡◌, ◌+◌, ◌∙◌, Bool, true, false, ◌&&◌, ◌||◌, List, arith, if◌then◌else◌, length, nat_lt, not}
+use Rattle.std.proofs.lemmas.List.Folds.{list_any-append}
+use Rattle.std.specs.{Cmp.IsEquivalence, List.IsDistinct}
+use Rattle.vecmap_base.specs.{Equality.has_same_items, Items.both, Items.only}
+use Rattle.vecmap_base.proofs.EqualityLemmas.{Sets.set_equality_laws, Relations.is_member_only}
+use Rattle.vecmap_set.specs.{Lazy.longer, Lazy.not_longer, Lazy.not_shorter, Lazy.shorter, Operators.symmetric_difference_of, Operators.union_of}
+use Rattle.vecmap_laws.proofs.SetRelations.{both_turned, length_both_turned, length_union, union_turned}
+use Rattle.vecmap_laws.specs.Algebra.{lazy_intersection, lazy_union}
+
+module _ {T : Type 0} (a b : List T) (P : List T → List T → Type 0) where
+  -- What holds of two lists in either order holds of the shorter and the other.
+  pub on_shorter : P b a → P a b → P (shorter a b) (not_shorter a b)
+  on_shorter x y = by (nat_lt (length b) (length a))
+    where
+      by : (c : Bool) → P (if c then b else a) (if c then a else b)
+      by true = x
+      by false = y
+
+  -- It also holds of the longer and the other.
+  pub on_longer : P b a → P a b → P (longer a b) (not_longer a b)
+  on_longer x y = by (nat_lt (length a) (length b))
+    where
+      by : (c : Bool) → P (if c then b else a) (if c then a else b)
+      by true = x
+      by false = y
+
+module _ {T : Type 0} (eq : T → T → Bool) (o : IsEquivalence eq) (a b : List T) where
+  -- An element is in the symmetric difference if it is in exactly one of the two lists.
+  pub is_member_symmetric_difference : (x : T) → is_member eq (symmetric_difference_of eq a b) x ≡ ((is_member eq a x && not (is_member eq b x)) || (is_member eq b x && not (is_member eq a x)))
+  is_member_symmetric_difference x = list_any-append (eq x) (only eq a b) (only eq b a) ∙ (λ i. is_member_only eq o a b x i || is_member_only eq o b a x i)
+
+  -- The lazy lists are equal, as sets, to those of the operators.
+  pub lazy_intersection_is_both : has_same_items eq (lazy_intersection eq a b) (both eq a b) ≡ true
+  lazy_intersection_is_both = on_shorter a b (λ s t. has_same_items eq (both eq s t) (both eq a b) ≡ true) (both_turned eq o b a) ((set_equality_laws eq o).refl (both eq a b))
+
+  pub lazy_union_is_union : has_same_items eq (lazy_union eq a b) (union_of eq a b) ≡ true
+  lazy_union_is_union = on_longer a b (λ s t. has_same_items eq (union_of eq s t) (union_of eq a b) ≡ true) (union_turned eq o b a) ((set_equality_laws eq o).refl (union_of eq a b))
+
+module _ {T : Type 0} (eq : T → T → Bool) (o : IsEquivalence eq) (a b : List T) where
+  -- If k is equal to l, l to m, and n to m as sets, then k is equal to n.
+  ends_equal : (k l m n : List T) → has_same_items eq k l ≡ true → has_same_items eq l m ≡ true → has_same_items eq n m ≡ true → has_same_items eq k n ≡ true
+  ends_equal k l m n e f g =
+      let laws = set_equality_laws eq o in
+      laws.congr k l n e ∙ laws.congr l m n f ∙ laws.symm m n ∙ g
+
+  pub lazy_intersection_turned : has_same_items eq (lazy_intersection eq a b) (lazy_intersection eq b a) ≡ true
+  lazy_intersection_turned = ends_equal _ (both eq a b) (both eq b a) _ (lazy_intersection_is_both eq o a b) (both_turned eq o a b) (lazy_intersection_is_both eq o b a)
+
+  pub lazy_union_turned : has_same_items eq (lazy_union eq a b) (lazy_union eq b a) ≡ true
+  lazy_union_turned = ends_equal _ (union_of eq a b) (union_of eq b a) _ (lazy_union_is_union eq o a b) (union_turned eq o a b) (lazy_union_is_union eq o b a)
+
+module _ {T : Type 0} (eq : T → T → Bool) (o : IsEquivalence eq) (a b : List T) (d : IsDistinct eq a) (e : IsDistinct eq b) where
+  -- The lengths of intersection and union add up to those of the two sets.
+  pub lengths_add : length (both eq a b) + length (union_of eq a b) ≡ length a + length b
+  lengths_add = omega (arith, length_union eq o a b d e)
+
+  length_lazy_intersection : length (lazy_intersection eq a b) ≡ length (both eq a b)
+  length_lazy_intersection = on_shorter a b (λ s t. length (both eq s t) ≡ length (both eq a b)) (length_both_turned eq o b a e d) (λ i. length (both eq a b))
+
+  length_lazy_union : length (lazy_union eq a b) ≡ length (union_of eq a b)
+  length_lazy_union =
+      on_longer a b (λ s t. length (union_of eq s t) ≡ length (union_of eq a b))
+      (omega (arith, length_union eq o a b d e, length_union eq o b a e d, length_both_turned eq o a b d e))
+      (λ i. length (union_of eq a b))
+
+  pub lazy_lengths_add : length (lazy_intersection eq a b) + length (lazy_union eq a b) ≡ length a + length b
+  lazy_lengths_add = omega (arith, length_lazy_intersection, length_lazy_union, lengths_add)

@@ -1,0 +1,41 @@
+-- A function of each value of a list of pairs, and a fact about each value.
+use Rattle.std.proofs.Common.{◌≡◌, Bool, true, false, List, [], ◌∷◌, None, Some, All, if◌then◌else◌, option_map, refl, sym, ap, ◌∙◌, subst, inl, inr}
+use Rattle.std.proofs.lemmas.{Bool.cases_Bool, List.Elements.All-cons, List.Elements.All-head, List.Elements.All-tail}
+use Rattle.vecmap_base.specs.Pairs.{lookup, map_values, put}
+use Rattle.vecmap_base.proofs.PairsLemmas.{Indices.lookup_by_map_values, Recursion.put_cons}
+use Rattle.vecmap_laws.proofs.Lookups.{look}
+
+module _ {K V W : Type 0} (eq : K → K → Bool) (g : V → W) where
+  -- In the list with `g` of each value, a lookup finds `g` of what it found before.
+  pub lookup_map_values : (l : List (K × V)) (k : K) → lookup eq (map_values g l) k ≡ option_map g (lookup eq l k)
+  lookup_map_values l k = lookup_by_map_values g (eq k) l
+
+  -- An insertion, seen in the list with `g` of each value, inserts `g` of the value.
+  pub map_values_put : (l : List (K × V)) (k : K) (v : V) → map_values g (put eq l k v) ≡ put eq (map_values g l) k (g v)
+  map_values_put [] k v = refl
+  map_values_put (p ∷ ps) k v = ap (map_values g) (put_cons eq p ps k v) ∙ by (eq k p.0) (map_values_put ps k v) ∙ sym (put_cons eq (p.0, g p.1) (map_values g ps) k (g v))
+    where
+      by : (b : Bool) → map_values g (put eq ps k v) ≡ put eq (map_values g ps) k (g v) → map_values g (if b then (p.0, v) ∷ ps else p ∷ put eq ps k v) ≡ (if b then (p.0, g v) ∷ map_values g ps else (p.0, g p.1) ∷ put eq (map_values g ps) k (g v))
+      by true e = refl
+      by false e = ap (λ t. (p.0, g p.1) ∷ t) e
+
+module _ {K V : Type 0} (eq : K → K → Bool) (P : V → Type 0) where
+  -- What holds of each value holds of a value that is found.
+  pub holds_of_found : (l : List (K × V)) → All (λ p. P p.1) l → (k : K) (v : V) → lookup eq l k ≡ Some v → P v
+  holds_of_found [] a k v e = absurd (let n : None ≡ Some v = e in cc)
+  holds_of_found (p ∷ ps) a k v e =
+      elim (cases_Bool (eq k p.0)) [
+        | inl h ↦ let f : Some p.1 ≡ Some v = sym (look eq p ps k true h) ∙ e in let w : p.1 ≡ v = cc in subst P w (All-head (λ q. P q.1) p ps a)
+        | inr h ↦ holds_of_found ps (All-tail (λ q. P q.1) p ps a) k v (sym (look eq p ps k false h) ∙ e)
+      ]
+
+  -- What holds of each value still holds of each, if it holds of the value that is inserted.
+  pub holds_after_put : (l : List (K × V)) → All (λ p. P p.1) l → (k : K) (v : V) → P v → All (λ p. P p.1) (put eq l k v)
+  holds_after_put [] a k v h = All-cons (λ q. P q.1) (k, v) [] h a
+  holds_after_put (p ∷ ps) a k v h =
+      let rest : All (λ q. P q.1) ps = All-tail (λ q. P q.1) p ps a in
+      subst (All (λ q. P q.1)) (sym (put_cons eq p ps k v)) (by (eq k p.0) rest (holds_after_put ps rest k v h))
+    where
+      by : (b : Bool) → All (λ q. P q.1) ps → All (λ q. P q.1) (put eq ps k v) → All (λ q. P q.1) (if b then (p.0, v) ∷ ps else p ∷ put eq ps k v)
+      by true r t = All-cons (λ q. P q.1) (p.0, v) ps h r
+      by false r t = All-cons (λ q. P q.1) p (put eq ps k v) (All-head (λ q. P q.1) p ps a) t

@@ -1,0 +1,56 @@
+-- A list from which a closure selects item by item. Its front has the items kept so far, and its rest is unchanged.
+use Rattle.std.specs.Prelude.{◌≡◌, ℕ, ◌≤◌, Bool, true, List, [], ◌∷◌, drop, filter, if◌then◌else◌, length, map, refl, take}
+use Rattle.std.specs.List.{FoldsTo}
+use Rattle.std.proofs.Common.{arith, subst, sym, ◌∙◌}
+use Rattle.std.proofs.lemmas.List.{drop_all, take_all}
+use Rattle.vecmap_base.specs.Asked.{SomeCall}
+use Rattle.vecmap_base.specs.Kept.{Kept, KeptSoFar}
+use Rattle.vecmap_laws.specs.Retaining.{TestsItems}
+pub use Rattle.vecmap_base.proofs.KeptLemmas.{callable_here, kept_one, kept_not, kept_here, kept_all, written_while, written_in_state}
+
+module _ {F X : Type 0} (R : F → X → Bool → X → F → Type 0) where
+  -- If the closure was called for all items, it was called for the first of any greater number.
+  pub kept_past_end : (f0 f : F) (xs ys : List X) (k i j : ℕ) → length xs ≤ i → i ≤ j → KeptSoFar R f0 f xs ys k i → KeptSoFar R f0 f xs ys k j
+  kept_past_end f0 f xs ys k i j done le so_far =
+      let same : drop j xs ≡ drop i xs = drop_all j xs (omega (arith, done, le)) ∙ sym (drop_all i xs done) in
+      let first : take j xs ≡ take i xs = take_all j xs (omega (arith, done, le)) ∙ sym (take_all i xs done) in
+      record {
+        bound = omega (arith, so_far.bound, le);
+        len = so_far.len;
+        rest = drop_all j ys (omega (arith, done, le, so_far.len)) ∙ sym (drop_all j xs (omega (arith, done, le)));
+        calls = subst (λ t. FoldsTo (SomeCall R) f0 t f) (sym first) so_far.calls;
+        kept = λ m g more. so_far.kept m g (subst (λ t. Kept R f t m g) same more);
+      }
+
+  -- A closure that writes nothing and returns the result of a test keeps the items that pass the test.
+  pub kept_by_test : (test : X → Bool) → ((f : F) (x : X) (b : Bool) (y : X) (g : F) → R f x b y g → (b ≡ test x) × (y ≡ x)) → (f : F) (xs m : List X) (g : F) → Kept R f xs m g → m ≡ filter test xs
+  kept_by_test test told f [] m g k = k.0
+  kept_by_test test told f (x ∷ xs) m g k =
+      let call = told f x k.0 k.1 k.2 k.4 in
+      let rest = kept_by_test test told k.2 xs k.3 g k.5 in
+      k.6 ∙ (λ i. if call.0 i then call.1 i ∷ rest i else rest i)
+
+  -- `Holds` is an invariant of the closure's states: a call in a state where it holds leaves a state where it holds.
+  module _ (Holds : F → Type 0) where
+    -- If each such call returns the result of a test and writes nothing, the items that pass the test are kept.
+    pub kept_while : (test : X → Bool) → ((f : F) (x : X) (b : Bool) (y : X) (g : F) → Holds f → R f x b y g → (b ≡ test x) × (y ≡ x) × Holds g) → (f : F) (xs m : List X) (g : F) → Holds f → Kept R f xs m g → m ≡ filter test xs
+    kept_while test told f [] m g holds k = k.0
+    kept_while test told f (x ∷ xs) m g holds k =
+        let call = told f x k.0 k.1 k.2 holds k.4 in
+        let rest = kept_while test told k.2 xs k.3 g call.2 k.5 in
+        k.6 ∙ (λ i. if call.0 i then call.1 i ∷ rest i else rest i)
+
+  -- A closure that stays in its state, with the test of that state.
+  pub kept_in_state : (f g : F) (xs m : List X) (test : X → Bool) → TestsItems R f test → Kept R f xs m g → m ≡ filter test xs
+  kept_in_state f g xs m test told k =
+      kept_while (λ z. z ≡ f) test (λ z x b y w same call. let r = told x b y w (subst (λ v. R v x b y w) same call) in (r.0, r.1, r.2)) f xs m g refl k
+
+  -- A closure whose state changes, while its test stays the same.
+  pub kept_by_states : (f g : F) (xs m : List X) (test : F → X → Bool) → ((z : F) (x : X) (b : Bool) (y : X) (w : F) → R z x b y w → (b ≡ test z x) × (y ≡ x) × ((u : X) → test w u ≡ test z u)) → Kept R f xs m g → m ≡ filter (test f) xs
+  kept_by_states f g xs m test told k =
+      kept_while (λ z. (u : X) → test z u ≡ test f u) (test f) (λ z x b y w same call. let r = told z x b y w call in (r.0 ∙ same x, r.1, λ u. r.2 u ∙ same u)) f xs m g (λ u. refl) k
+
+  -- A closure whose state changes, while what it writes of an item stays the same.
+  pub written_by_states : (f g : F) (xs m : List X) (h : F → X → X) → ((z : F) (x : X) (b : Bool) (y : X) (w : F) → R z x b y w → (b ≡ true) × (y ≡ h z x) × ((u : X) → h w u ≡ h z u)) → Kept R f xs m g → m ≡ map (h f) xs
+  written_by_states f g xs m h told k =
+      written_while R (λ z. (u : X) → h z u ≡ h f u) (h f) (λ z x b y w same call. let r = told z x b y w call in (r.0, r.1 ∙ same x, λ u. r.2 u ∙ same u)) f xs m g (λ u. refl) k

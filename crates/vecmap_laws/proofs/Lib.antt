@@ -1,0 +1,48 @@
+pub mod AdditionQueries
+pub mod AfterPuts
+pub mod AlgebraLemmas
+pub use Rattle.vecmap_base.proofs.CloneLemmas
+mod ComparisonLemmas
+pub use Rattle.vecmap_map.proofs.ContentsLemmas
+mod DistinctAbsent
+pub mod DistinctAdditions
+pub mod DistinctKeys
+pub use Rattle.vecmap_base.proofs.DistinctLemmas.Order as DistinctOrder
+pub mod DistinctParts
+pub use Rattle.vecmap_base.proofs.DistinctLemmas.Removals as DistinctRemovals
+pub mod DrainRuns
+pub mod EachValue
+mod EntryPuts
+mod Examples
+pub mod Indices
+pub mod Inserted
+pub mod ItemAdditions
+pub mod ItemIndices
+pub mod ItemMembers
+pub mod ItemQueries
+pub mod ItemRecursion
+pub mod ItemRemovals
+pub mod KeptLemmas
+pub mod Keys
+mod LawLemmas
+pub mod LazyLemmas
+pub mod Lookups
+pub use Rattle.vecmap_base.proofs.LoopLemmas
+pub mod MapEquality
+pub mod NestedLemmas
+pub use Rattle.vecmap_set.proofs.OperatorLemmas
+pub mod Order
+pub use Rattle.vecmap_base.proofs.EqualityLemmas.Partial as PartialMapEquality
+pub mod Parts
+pub mod Puts
+pub mod Queries
+pub mod ReadLemmas
+pub mod Recursion
+pub mod Rules
+pub mod RunLemmas
+pub mod SetEquality
+pub mod SetRelations
+pub use Rattle.vecmap_base.proofs.UpdatedLemmas
+pub mod Values
+pub mod WalkLemmas
+pub mod WriteLemmas

@@ -1,0 +1,49 @@
+-- What lookups find in a list of two parts, and the value and the index of a key after many insertions.
+use Rattle.std.specs.{Cmp.IsEquivalence, Option.option_or, Map.keys_of}
+use Rattle.std.proofs.Common.{◌≡◌, ℕ, Bool, true, false, List, [], ◌∷◌, ◌++◌, Some, if◌then◌else◌, position, refl, reverse, sym, ap, ◌∙◌, inl, inr}
+use Rattle.std.proofs.lemmas.{Bool.cases_Bool, List.reverse-append}
+use Rattle.vecmap_base.specs.{Items.adds, Items.item_index, Pairs.index_of, Pairs.lookup, Pairs.put, Pairs.puts}
+use Rattle.vecmap_base.proofs.PairsLemmas.Keys.{index_of_is, keys_of_puts}
+use Rattle.vecmap_laws.proofs.AfterPuts.{lookup_put_any, option_or_assoc, option_or_none}
+use Rattle.vecmap_laws.proofs.ItemMembers.{item_index_adds_kept}
+use Rattle.vecmap_laws.proofs.Lookups.{look}
+
+module _ {K V : Type 0} (eq : K → K → Bool) where
+  -- A lookup in a list of two parts finds what the first part has, or else what the second has.
+  pub lookup_append : (a b : List (K × V)) (q : K) → lookup eq (a ++ b) q ≡ option_or (lookup eq a q) (lookup eq b q)
+  lookup_append [] b q = refl
+  lookup_append (p ∷ ps) b q =
+      elim (cases_Bool (eq q p.0)) [
+        | inl e ↦ look eq p (ps ++ b) q true e ∙ sym (ap (λ found. option_or found (lookup eq b q)) (look eq p ps q true e))
+        | inr e ↦ look eq p (ps ++ b) q false e ∙ lookup_append ps b q ∙ sym (ap (λ found. option_or found (lookup eq b q)) (look eq p ps q false e))
+      ]
+
+  -- After insertions, the index of a key is that of an element after additions.
+  pub index_of_puts : (l pairs : List (K × V)) (q : K) → index_of eq (puts eq l pairs) q ≡ item_index eq (adds eq (keys_of l) (keys_of pairs)) q
+  index_of_puts l pairs q = index_of_is eq (puts eq l pairs) q ∙ ap (position (eq q)) (keys_of_puts eq l pairs)
+
+  -- An existing key keeps its index.
+  pub index_of_puts_kept : (l pairs : List (K × V)) (q : K) (i : ℕ) → index_of eq l q ≡ Some i → index_of eq (puts eq l pairs) q ≡ Some i
+  index_of_puts_kept l pairs q i e = index_of_puts l pairs q ∙ item_index_adds_kept eq (keys_of l) (keys_of pairs) q i (sym (index_of_is eq l q) ∙ e)
+
+  module _ (o : IsEquivalence eq) where
+    one_put : (l : List (K × V)) (p : K × V) (q : K) → lookup eq (put eq l p.0 p.1) q ≡ option_or (lookup eq (p ∷ []) q) (lookup eq l q)
+    one_put l p q = lookup_put_any eq o l p.0 p.1 q ∙ by (eq p.0 q) refl
+      where
+        by : (b : Bool) → eq p.0 q ≡ b → (if b then Some p.1 else lookup eq l q) ≡ option_or (lookup eq (p ∷ []) q) (lookup eq l q)
+        by true e = sym (ap (λ found. option_or found (lookup eq l q)) (look eq p [] q true (o.symm q p.0 ∙ e)))
+        by false e = sym (ap (λ found. option_or found (lookup eq l q)) (look eq p [] q false (o.symm q p.0 ∙ e)))
+
+    -- After insertions, a key has the last value that they give it, or else its old one.
+    pub lookup_puts_last : (l pairs : List (K × V)) (q : K) → lookup eq (puts eq l pairs) q ≡ option_or (lookup eq (reverse pairs) q) (lookup eq l q)
+    lookup_puts_last l [] q = refl
+    lookup_puts_last l (p ∷ ps) q =
+        lookup_puts_last (put eq l p.0 p.1) ps q
+        ∙ ap (λ found. option_or (lookup eq (reverse ps) q) found) (one_put l p q)
+        ∙ sym (option_or_assoc (lookup eq (reverse ps) q) (lookup eq (p ∷ []) q) (lookup eq l q))
+        ∙ ap (λ found. option_or found (lookup eq l q)) (sym (lookup_append (reverse ps) (p ∷ []) q))
+        ∙ ap (λ m. option_or (lookup eq m q) (lookup eq l q)) (sym (reverse-append (p ∷ []) ps))
+
+    -- The same from the empty list.
+    pub lookup_made_last : (pairs : List (K × V)) (q : K) → lookup eq (puts eq [] pairs) q ≡ lookup eq (reverse pairs) q
+    lookup_made_last pairs q = lookup_puts_last [] pairs q ∙ option_or_none (lookup eq (reverse pairs) q)

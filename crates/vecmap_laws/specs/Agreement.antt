@@ -1,0 +1,15 @@
+-- The lookups of two maps agree. `key` and `value` are the `==` of keys and values.
+use Rattle.std.specs.Prelude.{Bool, ◌&&◌, List}
+use Rattle.std.specs.List.{list_all}
+use Rattle.std.specs.Map.{keys_of}
+use Rattle.std.specs.Option.{option_eq}
+use Rattle.vecmap_base.specs.Pairs.{lookup}
+
+module _ {K V : Type 0} (key : K → K → Bool) (value : V → V → Bool) where
+  -- Each of these keys has equal values in both lists, or none in both.
+  abbrev pub lookups_agree : List K → List (K × V) → List (K × V) → Bool
+  lookups_agree keys a b = list_all (λ k. option_eq value (lookup key a k) (lookup key b k)) keys
+
+  -- The lookups of each key of either list agree.
+  abbrev pub agrees : List (K × V) → List (K × V) → Bool
+  agrees a b = lookups_agree (keys_of a) a b && lookups_agree (keys_of b) a b

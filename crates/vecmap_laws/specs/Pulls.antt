@@ -1,0 +1,29 @@
+-- Pulls from both ends of an iterator, in any mixture.
+use Rattle.std.specs.Prelude.{◌≡◌, ◌-◌, List, [], ◌∷◌, Option, drop, length, slice_get, take, map, option_map}
+use Rattle.std.specs.Borrow.{Bor}
+use Rattle.std.specs.Map.Iter.{deref}
+
+-- The end at which a pull is made: `next` pulls from the front, `next_back` from the back.
+pub data End : Type 0 where
+  front : End
+  back : End
+
+module _ {T : Type 0} where
+  -- A pull from the front gives the first of `l`, and one from the back the last. Each gives none once `l` is empty.
+  abbrev pub Pulls : List T → List End → List (Option T) → List T → Type 0
+  Pulls l [] items rest = (items ≡ []) × (rest ≡ l)
+  Pulls l (front ∷ ends) items rest = (more : List (Option T)) × (items ≡ slice_get l 0 ∷ more) × Pulls (drop 1 l) ends more rest
+  Pulls l (back ∷ ends) items rest = (more : List (Option T)) × (items ≡ slice_get l (length l - 1) ∷ more) × Pulls (take (length l - 1) l) ends more rest
+
+module _ {S A : Type 0} (next next_back : S → Option A → S → Type 0) where
+  -- Calls of `next` and of `next_back`, at these ends in order, led from `s` to `t` and returned `items`.
+  abbrev pub PullsBy : S → List End → List (Option A) → S → Type 0
+  PullsBy s [] items t = (items ≡ []) × (t ≡ s)
+  PullsBy s (front ∷ ends) items t = (r : Option A) × (u : S) × (more : List (Option A)) × next s r u × (items ≡ r ∷ more) × PullsBy u ends more t
+  PullsBy s (back ∷ ends) items t = (r : Option A) × (u : S) × (more : List (Option A)) × next_back s r u × (items ≡ r ∷ more) × PullsBy u ends more t
+
+module _ {S T : Type 0} (rest : S → List T) (next next_back : S → Option (Bor T) → S → Type 0) where
+  -- Any mixture of pulls that leads from s to t gives what the same pulls of the list left at s give. It leaves the
+  -- list left at t.
+  abbrev pub PullsAsList : Type 0
+  PullsAsList = (s t : S) (ends : List End) (items : List (Option (Bor T))) → PullsBy next next_back s ends items t → Pulls (rest s) ends (map (option_map deref) items) (rest t)

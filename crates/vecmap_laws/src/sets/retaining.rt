@@ -1,0 +1,20 @@
+//! The law about what a closure keeps of a set. It takes the closure, which need not have a type that can be named.
+ghost use Rattle.std.specs.Prelude.{◌≡◌, Bool, List, filter};
+ghost use Rattle.vecmap_base.specs.Asked.{CallsAtItem};
+ghost use Rattle.vecmap_base.specs.Kept.{Kept};
+ghost use Rattle.vecmap_laws.specs.Retaining.{TestsItems};
+
+/// `retain` leaves the elements that pass a test, if the closure returns the result of the test.
+///
+/// In `filtered` the closure stays in its state, such as the values that it captures. In `filtered_by_states` its state
+/// may change, but not the test.
+#[tactic(auto, using(crate::proofs::LawLemmas::Sets::retain_filters))]
+pub fn retain_filters<T, F: FnMut(&T) -> bool>(_keep: &F)
+    ensures filtered { (f g : F) (l m : List T) (test : T → Bool)
+        → TestsItems (CallsAtItem F.FnMut) f test → Kept (CallsAtItem F.FnMut) f l m g
+        → m ≡ filter test l }
+    ensures filtered_by_states { (f g : F) (l m : List T) (test : F → T → Bool)
+        → ((z : F) (x : T) (b : Bool) (y : T) (w : F) → CallsAtItem F.FnMut z x b y w
+        → (b ≡ test z x) × (y ≡ x) × ((u : T) → test w u ≡ test z u))
+        → Kept (CallsAtItem F.FnMut) f l m g → m ≡ filter (test f) l }
+{}
