@@ -8,7 +8,7 @@ use Rattle.std.proofs.Common.{ap, arith, get_or, set, subst, sym, ◌∙◌}
 use Rattle.std.proofs.lemmas.List.{drop-set-lt, drop_more, length-set, map-append, take-append-drop, take_all, take_more, take_more_set}
 use Rattle.std.proofs.lemmas.List.Elements.{All-head, All-tail}
 use Rattle.vecmap_base.specs.Asked.{CallableOnEach, SomeCall}
-use Rattle.vecmap_base.specs.Updated.{AlwaysComputes, Computes, Keeping, StoppedAt, TriesValueAt, Updated, UpdatedSoFar}
+use Rattle.vecmap_base.specs.Updated.{AlwaysComputes, Computes, Keeping, StoppedAt, Updated, UpdatedSoFar, WritesValueAt}
 use Rattle.vecmap_base.proofs.KeptLemmas.{written_in_state, written_while}
 
 module _ {F X : Type 0} (R : F → X → X → F → Type 0) where
@@ -101,5 +101,5 @@ module _ {F K V E : Type 0} (c : Mut F (Bor K × (MutBor V × Unit {0})) (Result
   -- The keys stay if a call fails.
   pub keys_stopped : (e : E) (f : F) (l m : List (K × V)) → StoppedAt c e f l m → keys_of m ≡ keys_of l
   keys_stopped e f l m s =
-      let front = keys_updated (TriesValueAt c (Ok tt)) (λ f p q g call. call.1) f s.before s.written s.state s.updated in
+      let front = keys_updated (WritesValueAt c (Ok tt)) (λ f p q g call. call.1) f s.before s.written s.state s.updated in
       ap keys_of s.leaves ∙ map-append (λ p. p.0) s.written (s.left ∷ s.after) ∙ (λ i. front i ++ s.failed.1 i ∷ keys_of s.after) ∙ sym (map-append (λ p. p.0) s.before (s.pair ∷ s.after)) ∙ ap keys_of (sym s.all)

@@ -1,4 +1,4 @@
--- What a list of pairs is after a closure was called for each pair, in order, which may write the value.
+-- What a list of pairs is after a closure was called for each pair, in order, and wrote the value.
 use Rattle.std.specs.Prelude.{◌≡◌, ℕ, Bool, true, List, ◌∷◌, ◌++◌, drop, length, take, Result, Ok, Err}
 use Rattle.std.specs.Borrow.{Bor, MutBor}
 use Rattle.std.specs.Fn.{Called, Mut, Takes}
@@ -6,7 +6,7 @@ use Rattle.vecmap_base.specs.Asked.{CallableOnEach}
 use Rattle.vecmap_base.specs.Kept.{Kept}
 
 module _ {F X : Type 0} (R : F → X → X → F → Type 0) where
-  -- A closure that returns nothing, as one that keeps each item.
+  -- Calls that return nothing, as those of a retaining closure that keeps each item.
   abbrev pub Keeping : F → X → Bool → X → F → Type 0
   Keeping f x b y g = R f x y g × (b ≡ true)
 
@@ -30,35 +30,13 @@ module _ {F X : Type 0} (R : F → X → X → F → Type 0) where
   abbrev pub AlwaysComputes : (X → X) → Type 0
   AlwaysComputes h = (f : F) (x y : X) (g : F) → R f x y g → y ≡ h x
 
-module _ {F K V : Type 0} (c : Mut F (Bor K × (MutBor V × Unit {0})) (Unit {0} × (MutBor V × Unit {0}))) where
+module _ {F K V R : Type 0} (c : Mut F (Bor K × (MutBor V × Unit {0})) (R × (MutBor V × Unit {0}))) where
   -- The closure may be called at the pair `p`, with its value to write.
   abbrev pub TakesValueAt : F → K × V → Type 0
   TakesValueAt f p = (k : Bor K) (v : MutBor V) → k.now ≡ p.0 → v.now ≡ p.1 → Takes c f (k, (v, tt))
 
-  -- A call at a `&` to `k` and a `&mut` to `v` may leave `w` there, and the closure `g`.
-  pub record WritesValue (f : F) (k : K) (v w : V) (g : F) : Type 0 where
-    pub key : Bor K
-    pub value : MutBor V
-    pub shows : (key.now ≡ k) × (value.now ≡ v)
-    pub left : MutBor V
-    pub called : Called c f (key, (value, tt)) (tt, (left, tt)) g
-    pub leaves : left.now ≡ w
-
-  -- A call at the pair `p` may leave the pair `q`, with the same key, and the closure `g`.
-  abbrev pub WritesValueAt : F → K × V → K × V → F → Type 0
-  WritesValueAt f p q g = WritesValue f p.0 p.1 q.1 g × (q.0 ≡ p.0)
-
-  -- The closure may be called at each pair of `l`, in the state that the calls before have left.
-  abbrev pub CallableOnValues : F → List (K × V) → Type 0
-  CallableOnValues f l = CallableOnEach (Keeping WritesValueAt) TakesValueAt f l
-
-module _ {F K V E : Type 0} (c : Mut F (Bor K × (MutBor V × Unit {0})) (Result (Unit {0}) E × (MutBor V × Unit {0}))) where
-  -- The closure may be called at the pair `p`, with its value to write.
-  abbrev pub TakesTryAt : F → K × V → Type 0
-  TakesTryAt f p = (k : Bor K) (v : MutBor V) → k.now ≡ p.0 → v.now ≡ p.1 → Takes c f (k, (v, tt))
-
   -- A call at a `&` to `k` and a `&mut` to `v` may return `r`, and leave `w` there and the closure `g`.
-  pub record TriesValue (f : F) (k : K) (v : V) (r : Result (Unit {0}) E) (w : V) (g : F) : Type 0 where
+  pub record WritesValue (r : R) (f : F) (k : K) (v w : V) (g : F) : Type 0 where
     pub key : Bor K
     pub value : MutBor V
     pub shows : (key.now ≡ k) × (value.now ≡ v)
@@ -67,13 +45,14 @@ module _ {F K V E : Type 0} (c : Mut F (Bor K × (MutBor V × Unit {0})) (Result
     pub leaves : left.now ≡ w
 
   -- A call at the pair `p` may return `r`, and leave the pair `q`, with the same key, and the closure `g`.
-  abbrev pub TriesValueAt : Result (Unit {0}) E → F → K × V → K × V → F → Type 0
-  TriesValueAt r f p q g = TriesValue f p.0 p.1 r q.1 g × (q.0 ≡ p.0)
+  abbrev pub WritesValueAt : R → F → K × V → K × V → F → Type 0
+  WritesValueAt r f p q g = WritesValue r f p.0 p.1 q.1 g × (q.0 ≡ p.0)
 
-  -- The closure may be called at each pair of `l`, in the state that the calls before have left, which returned `Ok`.
-  abbrev pub CallableWhileOk : F → List (K × V) → Type 0
-  CallableWhileOk f l = CallableOnEach (Keeping (TriesValueAt (Ok tt))) TakesTryAt f l
+  -- The closure may be called at each pair of `l`, in the state that the calls before have left, which returned `r`.
+  abbrev pub CallableOnValues : R → F → List (K × V) → Type 0
+  CallableOnValues r f l = CallableOnEach (Keeping (WritesValueAt r)) TakesValueAt f l
 
+module _ {F K V E : Type 0} (c : Mut F (Bor K × (MutBor V × Unit {0})) (Result (Unit {0}) E × (MutBor V × Unit {0}))) where
   -- The calls at the first pairs of `l` returned `Ok`, and the next one `e`. The list `m` has these pairs as the calls
   -- left them, and the others as they were.
   pub record StoppedAt (e : E) (f : F) (l m : List (K × V)) : Type 0 where
@@ -85,6 +64,6 @@ module _ {F K V E : Type 0} (c : Mut F (Bor K × (MutBor V × Unit {0})) (Result
     pub state : F
     pub last : F
     pub all : l ≡ before ++ pair ∷ after
-    pub updated : Updated (TriesValueAt (Ok tt)) f before written state
-    pub failed : TriesValueAt (Err e) state pair left last
+    pub updated : Updated (WritesValueAt c (Ok tt)) f before written state
+    pub failed : WritesValueAt c (Err e) state pair left last
     pub leaves : m ≡ written ++ left ∷ after

@@ -1,25 +1,59 @@
-//! A call that writes each value by a closure that may fail.
+//! The function that writes each value of a slice of pairs by a closure that may fail.
 ghost use Rattle.std.specs.Prelude.{◌≡◌, Bool, IfErr, Ok, OnOk, length, map};
 ghost use Rattle.std.specs.Map.{keys_of};
 ghost use Rattle.std.specs.Option.{option_map};
 ghost use Rattle.vecmap_base.specs.Pairs.{lookup_by};
-ghost use Rattle.vecmap_base.specs.Updated.{CallableWhileOk, Computes, StoppedAt, TakesTryAt, TriesValueAt, Updated};
+ghost use Rattle.vecmap_base.specs.Updated.{AlwaysComputes, CallableOnValues, Computes, StoppedAt, TakesValueAt, Updated, WritesValueAt};
 
-/// Calls `f` for each pair of a slice, in order, until a call fails. It may write the value.
+/// Like [`update_pairs`](crate::update_pairs), but stops at the first call of `f` that returns an `Err`.
+///
+/// # Errors
+///
+/// The error that `f` returned. The values before are then written, the value of the failed call is as that call left
+/// it, and the later values are unchanged.
+///
+/// # Conditions
+///
+/// `f` can be called for each pair, in the state that the calls before have left, if all of them returned `Ok`.
+///
+/// # Complexity
+///
+/// For n pairs, at most n calls of `f`. Does not allocate.
+///
+/// # Examples
+///
+/// ```
+/// let mut pairs = [('a', 1u8), ('b', 255), ('c', 3)];
+/// let result = try_update_pairs(&mut pairs, |key, value| match value.checked_add(1) {
+///     Some(more) => {
+///         *value = more;
+///         Ok(())
+///     }
+///     None => Err(*key),
+/// });
+/// result // Err('b')
+/// pairs.as_slice() // [('a', 2), ('b', 255), ('c', 3)]
+/// ```
 pub fn try_update_pairs<K, V, E, F: FnMut(&K, &mut V) -> Result<(), E> + Drop>(
     pairs: &mut [(K, V)],
-    f: F,
+    mut f: F,
 ) -> Result<(), E>
-    requires callable { CallableWhileOk F.FnMut f pairs.old }
+    requires callable { CallableOnValues F.FnMut (Ok tt) f pairs.old }
     ensures keys { keys_of pairs.new ≡ keys_of pairs.old }
     ensures len { length pairs.new ≡ length pairs.old }
-    ensures written { (h : K × V → K × V) → Computes (TriesValueAt F.FnMut (Ok tt)) f h
+    ensures written { (h : K × V → K × V) → Computes (WritesValueAt F.FnMut (Ok tt)) f h
         → OnOk result (pairs.new ≡ map h pairs.old) }
+    ensures written_in_any_state { (h : K × V → K × V)
+        → AlwaysComputes (WritesValueAt F.FnMut (Ok tt)) h
+        → OnOk result (pairs.new ≡ map h pairs.old) }
+    ensures lookups { (h : V → V)
+        → Computes (WritesValueAt F.FnMut (Ok tt)) f (λ pair. (pair.0, h pair.1))
+        → (test : K → Bool)
+        → OnOk result (lookup_by test pairs.new ≡ option_map h (lookup_by test pairs.old)) }
     ensures ok { OnOk result ((g : F) × Updated
-        (TriesValueAt F.FnMut (Ok tt)) f pairs.old pairs.new g) }
+        (WritesValueAt F.FnMut (Ok tt)) f pairs.old pairs.new g) }
     ensures err { IfErr result (λ e. StoppedAt F.FnMut e f pairs.old pairs.new) }
 {
-    let mut f = f;
     for pair in pairs.iter_mut() {
         match try_value(&mut f, pair) {
             Ok(()) => {}
@@ -29,13 +63,13 @@ pub fn try_update_pairs<K, V, E, F: FnMut(&K, &mut V) -> Result<(), E> + Drop>(
     Ok(())
 }
 
-// Calls `f` for a pair. It may write the value.
+// Calls `f` for a pair. `f` may write the value.
 fn try_value<K, V, E, F: FnMut(&K, &mut V) -> Result<(), E>>(
     f: &mut F,
     pair: &mut (K, V),
 ) -> Result<(), E>
-    requires callable { TakesTryAt F.FnMut f.old pair.old }
-    ensures called { TriesValueAt F.FnMut result f.old pair.old pair.new f.new }
+    requires callable { TakesValueAt F.FnMut f.old pair.old }
+    ensures called { WritesValueAt F.FnMut result f.old pair.old pair.new f.new }
 {
     f(&pair.0, &mut pair.1)
 }

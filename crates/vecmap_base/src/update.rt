@@ -1,15 +1,17 @@
-//! A call that writes each value by a closure.
+//! The function that writes each value of a slice of pairs by a closure.
 ghost use Rattle.std.specs.Prelude.{◌≡◌, Bool, length, map};
 ghost use Rattle.std.specs.Map.{keys_of};
 ghost use Rattle.std.specs.Option.{option_map};
 ghost use Rattle.vecmap_base.specs.Pairs.{lookup_by};
 ghost use Rattle.vecmap_base.specs.Updated.{AlwaysComputes, CallableOnValues, Computes, TakesValueAt, Updated, WritesValueAt};
 
-/// Calls `f` for each pair of a slice, in order. It may write the value.
+/// Calls `f` with each key and a mutable reference to its value, in order.
+///
+/// The keys and their order stay.
 ///
 /// # Conditions
 ///
-/// `f` can be called with each pair, in the state that the calls before have left.
+/// `f` can be called for each pair, in the state that the calls before have left.
 ///
 /// # Complexity
 ///
@@ -18,33 +20,32 @@ ghost use Rattle.vecmap_base.specs.Updated.{AlwaysComputes, CallableOnValues, Co
 /// # Examples
 ///
 /// ```
-/// let mut pairs = [('a', 1), ('b', 2)];
-/// update_pairs(&mut pairs, |_key, value| *value = 3);
-/// pairs // [('a', 3), ('b', 3)]
+/// let mut pairs = [('a', 1u32), ('b', 2)];
+/// update_pairs(&mut pairs, |_key, value| *value = value.saturating_add(1));
+/// pairs.as_slice() // [('a', 2), ('b', 3)]
 /// ```
-pub fn update_pairs<K, V, F: FnMut(&K, &mut V) + Drop>(pairs: &mut [(K, V)], f: F)
-    requires callable { CallableOnValues F.FnMut f pairs.old }
+pub fn update_pairs<K, V, F: FnMut(&K, &mut V) + Drop>(pairs: &mut [(K, V)], mut f: F)
+    requires callable { CallableOnValues F.FnMut tt f pairs.old }
     ensures keys { keys_of pairs.new ≡ keys_of pairs.old }
     ensures len { length pairs.new ≡ length pairs.old }
-    ensures written { (h : K × V → K × V) → Computes (WritesValueAt F.FnMut) f h
+    ensures written { (h : K × V → K × V) → Computes (WritesValueAt F.FnMut tt) f h
         → pairs.new ≡ map h pairs.old }
-    ensures written_in_any_state { (h : K × V → K × V) → AlwaysComputes (WritesValueAt F.FnMut) h
+    ensures written_in_any_state { (h : K × V → K × V) → AlwaysComputes (WritesValueAt F.FnMut tt) h
         → pairs.new ≡ map h pairs.old }
     ensures lookups { (h : V → V)
-        → Computes (WritesValueAt F.FnMut) f (λ pair. (pair.0, h pair.1)) → (test : K → Bool)
+        → Computes (WritesValueAt F.FnMut tt) f (λ pair. (pair.0, h pair.1)) → (test : K → Bool)
         → lookup_by test pairs.new ≡ option_map h (lookup_by test pairs.old) }
-    ensures updated { (g : F) × Updated (WritesValueAt F.FnMut) f pairs.old pairs.new g }
+    ensures updated { (g : F) × Updated (WritesValueAt F.FnMut tt) f pairs.old pairs.new g }
 {
-    let mut f = f;
     for pair in pairs.iter_mut() {
         write_value(&mut f, pair);
     }
 }
 
-// Calls `f` for a pair. It may write the value.
+// Calls `f` for a pair. `f` may write the value.
 fn write_value<K, V, F: FnMut(&K, &mut V)>(f: &mut F, pair: &mut (K, V))
     requires callable { TakesValueAt F.FnMut f.old pair.old }
-    ensures called { WritesValueAt F.FnMut f.old pair.old pair.new f.new }
+    ensures called { WritesValueAt F.FnMut tt f.old pair.old pair.new f.new }
 {
     f(&pair.0, &mut pair.1);
 }

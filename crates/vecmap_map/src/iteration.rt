@@ -37,8 +37,7 @@ impl<K, V> VecMap<K, V> {
     /// Returns an iterator over the pairs in order, each as `(&K, &mut V)`.
     ///
     /// Each value comes as it was at this call. Once the iterator is no longer used, the map has its old length and
-    /// capacity. No contract says which values were written. If a proof needs that, write through [`VecMap::get_mut`],
-    /// `map[index]` or [`VecMap::retain`].
+    /// capacity. No contract says which values were written. If a proof needs that, use [`VecMap::update_values`].
     ///
     /// # Complexity
     ///
@@ -99,8 +98,7 @@ impl<K, V> VecMap<K, V> {
     /// Returns an iterator over mutable references to the values, in the order of their keys.
     ///
     /// Each value comes as it was at this call. Once the iterator is no longer used, the map has its old length and
-    /// capacity. No contract says which values were written. If a proof needs that, write through [`VecMap::get_mut`],
-    /// `map[index]` or [`VecMap::retain`].
+    /// capacity. No contract says which values were written. If a proof needs that, use [`VecMap::update_values`].
     ///
     /// # Complexity
     ///

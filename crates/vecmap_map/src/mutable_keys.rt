@@ -24,7 +24,8 @@ impl<K, V> sealed::Sealed for VecMap<K, V> {}
 /// written, and lookups find the first of the two.
 ///
 /// A proof of a caller that the search makes does not learn what the map holds once a key or a value was written
-/// through such a reference. It learns what [`MutableKeys::retain2`] leaves.
+/// through such a reference. It learns what [`MutableKeys::retain2`] leaves, and what is written to the slice of
+/// [`MutableKeys::as_mut_slice`].
 pub trait MutableKeys: sealed::Sealed {
     type Key;
 
@@ -104,7 +105,7 @@ pub trait MutableKeys: sealed::Sealed {
     /// Returns an iterator over the pairs in order, each as `(&mut K, &mut V)`.
     ///
     /// Each pair comes as it was at this call. Once the iterator is no longer used, the map has its old length and
-    /// capacity. No contract says what was written. If a proof needs that, write through [`MutableKeys::retain2`].
+    /// capacity. No contract says what was written. If a proof needs that, write to [`MutableKeys::as_mut_slice`].
     ///
     /// # Complexity
     ///
@@ -124,7 +125,7 @@ pub trait MutableKeys: sealed::Sealed {
     /// Returns an iterator over mutable references to the keys, in order.
     ///
     /// Each key comes as it was at this call. Once the iterator is no longer used, the map has its old length and
-    /// capacity. No contract says what was written. If a proof needs that, write through [`MutableKeys::retain2`].
+    /// capacity. No contract says what was written. If a proof needs that, write to [`MutableKeys::as_mut_slice`].
     ///
     /// # Complexity
     ///
@@ -143,8 +144,8 @@ pub trait MutableKeys: sealed::Sealed {
 
     /// Returns the pairs as a mutable slice.
     ///
-    /// A proof of a loop over it knows each pair that the loop has written, and the map has these pairs once the slice
-    /// is no longer used.
+    /// Once the slice is no longer used, the map has the pairs as they were written, and its old length and capacity.
+    /// In a loop over `as_mut_slice().iter_mut()`, an invariant can say what was written so far.
     ///
     /// # Complexity
     ///
@@ -153,11 +154,12 @@ pub trait MutableKeys: sealed::Sealed {
     /// # Examples
     ///
     /// ```
-    /// let mut map = vecmap!(alloc; 'a' => 1, 'b' => 2);
-    /// for (_key, value) in map.as_mut_slice().iter_mut() {
+    /// let mut map = VecMap::from_array(alloc, [('a', 1), ('b', 2)])?;
+    /// for (key, value) in map.as_mut_slice().iter_mut() {
+    ///     *key = key.to_ascii_uppercase();
     ///     *value = 3;
     /// }
-    /// map.as_slice() // [('a', 3), ('b', 3)]
+    /// map.as_slice() // [('A', 3), ('B', 3)]
     /// ```
     fn as_mut_slice(&mut self) -> &mut [(Self::Key, Self::Value)];
 }

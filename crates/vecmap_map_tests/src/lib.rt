@@ -69,3 +69,5 @@ mod room;
 mod search;
 #[cfg(test)]
 mod sizes;
+#[cfg(test)]
+mod updating;

@@ -161,8 +161,7 @@ impl<T> Model for IntoIter<T> {
     ghost view = { λ a. a.items.items };
 }
 
-/// Drops the values that are left. It is written by hand, so that a loop over the iterator keeps what it has taken
-/// where `?` may drop the rest: a derived one is run field by field where the iterator is dropped.
+// Not derived, so that the proof of a loop that ends early still knows which items were taken.
 impl<T: Drop> Drop for IntoIter<T> {
     fn drop(self) {
         let IntoIter { items } = self;

@@ -166,8 +166,7 @@ impl<K, V> Model for IntoKeys<K, V> {
     ghost view = { λ a. keys_of a.pairs.items };
 }
 
-/// Drops the values that are left. It is written by hand, so that a loop over the iterator keeps what it has taken
-/// where `?` may drop the rest: a derived one is run field by field where the iterator is dropped.
+// Not derived, so that the proof of a loop that ends early still knows which items were taken.
 impl<K: Drop, V: Drop> Drop for IntoKeys<K, V> {
     fn drop(self) {
         let IntoKeys { pairs } = self;

@@ -1,26 +1,27 @@
 -- The loop keeps `UpdatedSoFar`: each pair stays where it is, as it was written.
-use Rattle.std.proofs.Common.{arith}
+use Rattle.std.proofs.Common.{ap, arith, get_or, ◌∙◌}
 use Rattle.std.specs.Prelude.{◌+◌, ◌≤◌, Ok, drop, length, take}
-use Rattle.std.proofs.Common.{get_or}
-use Rattle.vecmap_base.proofs.UpdatedLemmas.{all_updated, callable_next, computed, keys_stopped, keys_updated, one_updated, split, written_split}
+use Rattle.vecmap_base.proofs.PairsLemmas.EachValue.{lookup_by_map_values}
+use Rattle.vecmap_base.proofs.UpdatedLemmas.{all_updated, callable_next, computed, computed_always, keys_stopped, keys_updated, one_updated, split, written_split}
 use Rattle.vecmap_base.proofs.try_update.try_update_pairs.Goals as goal
-use Rattle.vecmap_base.specs.Updated.{TakesTryAt, TriesValueAt}
+use Rattle.vecmap_base.specs.Pairs.{lookup_by}
+use Rattle.vecmap_base.specs.Updated.{TakesValueAt, WritesValueAt}
 
 pub try_value-requires : goal.try_value-requires
 try_value-requires g c =
     let l = c.loop-pair in
-    record { callable = callable_next (TriesValueAt g.F.FnMut (Ok tt)) c.args.f l.f c.args.pairs.now l.pairs l.pair-index c.pair-item.result l.invariant c.loop-pair-test.true (TakesTryAt g.F.FnMut) c.requires.callable }
+    record { callable = callable_next (WritesValueAt g.F.FnMut (Ok tt)) c.args.f l.f c.args.pairs.now l.pairs l.pair-index c.pair-item.result l.invariant c.loop-pair-test.true (TakesValueAt g.F.FnMut) c.requires.callable }
 
 pub loop-pair-preserved : goal.loop-pair-preserved
 loop-pair-preserved g c =
     let l = c.loop-pair in
-    one_updated (TriesValueAt g.F.FnMut (Ok tt)) c.args.f l.f c.args.pairs.now l.pairs l.pair-index c.pair-item.result l.invariant c.loop-pair-test.true c.try_value.new.pair c.try_value.new.f c.in-Ok.ensures.called
+    one_updated (WritesValueAt g.F.FnMut (Ok tt)) c.args.f l.f c.args.pairs.now l.pairs l.pair-index c.pair-item.result l.invariant c.loop-pair-test.true c.try_value.new.pair c.try_value.new.f c.in-Ok.ensures.called
 
 pub returns-in-Err-clause-err : goal.returns-in-Err-clause-err
 returns-in-Err-clause-err g c =
     let l = c.loop-pair in
     let i = l.pair-index in
-    let R = TriesValueAt g.F.FnMut (Ok tt) in
+    let R = WritesValueAt g.F.FnMut (Ok tt) in
     record {
       before = take i c.args.pairs.now;
       after = drop (i + 1) c.args.pairs.now;
@@ -42,10 +43,16 @@ pub returns-clause-ok : goal.returns-clause-ok
 returns-clause-ok g c =
     let l = c.loop-pair in
     let done : length c.args.pairs.now ≤ l.pair-index = omega (arith, c.loop-pair-test.false) in
-    (l.f, all_updated (TriesValueAt g.F.FnMut (Ok tt)) c.args.f l.f c.args.pairs.now l.pairs l.pair-index l.invariant done)
+    (l.f, all_updated (WritesValueAt g.F.FnMut (Ok tt)) c.args.f l.f c.args.pairs.now l.pairs l.pair-index l.invariant done)
 
 pub returns-clause-keys : goal.returns-clause-keys
-returns-clause-keys g c = let u = returns-clause-ok g c in keys_updated (TriesValueAt g.F.FnMut (Ok tt)) (λ f p q g call. call.1) c.args.f c.args.pairs.now c.loop-pair.pairs u.0 u.1
+returns-clause-keys g c = let u = returns-clause-ok g c in keys_updated (WritesValueAt g.F.FnMut (Ok tt)) (λ f p q g call. call.1) c.args.f c.args.pairs.now c.loop-pair.pairs u.0 u.1
 
 pub returns-clause-written : goal.returns-clause-written
-returns-clause-written g c h told = let u = returns-clause-ok g c in computed (TriesValueAt g.F.FnMut (Ok tt)) c.args.f c.args.pairs.now c.loop-pair.pairs u.0 u.1 h told
+returns-clause-written g c h told = let u = returns-clause-ok g c in computed (WritesValueAt g.F.FnMut (Ok tt)) c.args.f c.args.pairs.now c.loop-pair.pairs u.0 u.1 h told
+
+pub returns-clause-written_in_any_state : goal.returns-clause-written_in_any_state
+returns-clause-written_in_any_state g c h told = let u = returns-clause-ok g c in computed_always (WritesValueAt g.F.FnMut (Ok tt)) c.args.f c.args.pairs.now c.loop-pair.pairs u.0 u.1 h told
+
+pub returns-clause-lookups : goal.returns-clause-lookups
+returns-clause-lookups g c h told test = ap (λ l. lookup_by test l) (returns-clause-written g c (λ p. (p.0, h p.1)) told) ∙ lookup_by_map_values h test c.args.pairs.now
