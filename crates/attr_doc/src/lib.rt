@@ -5,14 +5,10 @@
 //! order. This suits the documents that people write: a few sections with a few names, in an order that has a meaning.
 #![tactic(auto)]
 
-#[cfg(test)]
-mod checks;
 mod document;
 mod merge;
 mod name;
 mod set;
-#[cfg(test)]
-mod tests;
 
 pub use document::Document;
 pub use name::Name;

@@ -1,4 +1,5 @@
 //! A key or an element whose `==` compares only a part of it.
+use std::alloc::{AllocError, Global};
 
 /// A key or an element. `==` compares only its number, so its mark shows which of two equal ones was kept.
 #[derive_where(PartialEq, Eq)]
@@ -12,6 +13,27 @@ pub struct Item {
 /// Creates an item with this number and this mark.
 pub fn make_item(number: u32, mark: char) -> Item {
     Item { number, mark }
+}
+
+/// Creates pairs, each of a number, a mark and a value, without spare capacity.
+pub fn item_pairs(
+    alloc: Global,
+    pairs: &[(u32, char, u32)],
+) -> Result<Vec<(Item, u32)>, AllocError> {
+    let mut made = Vec::with_capacity(alloc, pairs.len())?;
+    for pair in pairs {
+        made.push((make_item(pair.0, pair.1), pair.2))?;
+    }
+    Ok(made)
+}
+
+/// Creates elements, each of a number and a mark, without spare capacity.
+pub fn items(alloc: Global, items: &[(u32, char)]) -> Result<Vec<Item>, AllocError> {
+    let mut made = Vec::with_capacity(alloc, items.len())?;
+    for item in items {
+        made.push(make_item(item.0, item.1))?;
+    }
+    Ok(made)
 }
 
 /// Returns whether the pairs have exactly these numbers, marks and values, in this order.

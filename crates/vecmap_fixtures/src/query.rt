@@ -3,7 +3,7 @@ ghost use Rattle.std.specs.Prelude.{nat_eq};
 ghost use Rattle.std.specs.Cmp.{nat_eq_equiv};
 
 use super::item::Item;
-use vecmap::Equivalent;
+use vecmap_base::Equivalent;
 
 /// A query that matches the items of this number.
 #[derive(Clone, Copy, Debug)]

@@ -1,28 +1,26 @@
-//! Maps and sets of texts, which allocate.
+//! Lists of texts, which allocate.
 use std::alloc::{AllocError, Global};
-use vecmap::{VecMap, VecSet};
 
-/// Creates a map by single insertions of these pairs of texts.
-pub fn text_map(
+/// Creates pairs of these texts, without spare capacity.
+pub fn text_pairs(
     alloc: Global,
     pairs: &[(&str, &str)],
-) -> Result<VecMap<String, String>, AllocError> {
-    let mut map = VecMap::with_capacity(alloc, pairs.len())?;
+) -> Result<Vec<(String, String)>, AllocError> {
+    let mut made = Vec::with_capacity(alloc, pairs.len())?;
     for pair in pairs {
         let key = String::from_str(alloc, pair.0)?;
-        let value = String::from_str(alloc, pair.1)?;
-        map.insert(key, value)?;
+        made.push((key, String::from_str(alloc, pair.1)?))?;
     }
-    Ok(map)
+    Ok(made)
 }
 
-/// Creates a set by single insertions of these texts.
-pub fn text_set(alloc: Global, texts: &[&str]) -> Result<VecSet<String>, AllocError> {
-    let mut set = VecSet::with_capacity(alloc, texts.len())?;
+/// Creates a list of these texts, without spare capacity.
+pub fn texts(alloc: Global, texts: &[&str]) -> Result<Vec<String>, AllocError> {
+    let mut made = Vec::with_capacity(alloc, texts.len())?;
     for text in texts {
-        set.insert(String::from_str(alloc, text)?)?;
+        made.push(String::from_str(alloc, text)?)?;
     }
-    Ok(set)
+    Ok(made)
 }
 
 /// Returns whether the pairs are exactly these texts, in this order.

@@ -4,7 +4,6 @@ ghost use Rattle.std.specs.Prelude.{◌≡◌};
 use std::alloc::{AllocError, Global};
 use std::cell::Cell;
 use std::fmt;
-use vecmap::{VecMap, VecSet};
 
 /// What the values of one test have recorded.
 #[derive(Drop)]
@@ -210,24 +209,6 @@ pub fn told_couples<'a>(
         couples.push((make_told(log, *number), value))?;
     }
     Ok(couples)
-}
-
-/// Creates the map of these couples, without spare capacity.
-pub fn told_map<'a>(
-    alloc: Global,
-    log: &'a Log,
-    numbers: &[u32],
-) -> Result<VecMap<Told<'a>, Told<'a>>, AllocError> {
-    Ok(VecMap::from(told_couples(alloc, log, numbers)?))
-}
-
-/// Creates the set of these numbers, all of one log, without spare capacity.
-pub fn told_set<'a>(
-    alloc: Global,
-    log: &'a Log,
-    numbers: &[u32],
-) -> Result<VecSet<Told<'a>>, AllocError> {
-    Ok(VecSet::from(told_items(alloc, log, numbers)?))
 }
 
 /// Returns whether the pairs have exactly these numbers as keys and as values, in this order.

@@ -16,6 +16,8 @@ use std::io::{ErrorKind, Read, Write};
 use vecmap::VecMap;
 
 #[cfg(test)]
+mod refusals;
+#[cfg(test)]
 mod tests;
 
 // The greatest number of bytes that are read at once.

@@ -1,60 +1,20 @@
-//! Tests of sets. Each file is named for a module of `vecmap_set`, and tests each call of that module: its whole
-//! result, and the whole list that it leaves. These files have further tests by topic:
+//! Tests of sets, in three folders:
 //!
-//! - `by_reference`: loops over references to a set.
-//! - `clones`: elements whose clones are refused.
-//! - `drops`: each element that is passed is dropped once, or returned.
-//! - `no_size`: elements of no size.
-//! - `queries`: calls by each kind of query: an element, a text, a slice, and a query that is not an element.
+//! - `tests` has the results of each call, and what it leaves.
+//! - `refusals` has what a call leaves if a request for memory is refused.
+//! - `comments` has the examples of the doc comments of `vecmap_set`.
 //!
-//! `checks` has the functions by which they assert.
+//! `checks` has the functions by which they assert, `made` has sets to start from, and `telling` prints a refusal and
+//! repeats the call.
 #![tactic(auto)]
 
 #[cfg(test)]
-mod bulk;
-#[cfg(test)]
-mod by_reference;
-#[cfg(test)]
 mod checks;
 #[cfg(test)]
-mod clones;
+mod made;
 #[cfg(test)]
-mod cloning;
+mod refusals;
 #[cfg(test)]
-mod conversion;
+mod telling;
 #[cfg(test)]
-mod drain;
-#[cfg(test)]
-mod drops;
-#[cfg(test)]
-mod equality;
-#[cfg(test)]
-mod extending;
-#[cfg(test)]
-mod formatting;
-#[cfg(test)]
-mod indexing;
-#[cfg(test)]
-mod insertion;
-#[cfg(test)]
-mod iteration;
-#[cfg(test)]
-mod lazy;
-#[cfg(test)]
-mod lookup;
-#[cfg(test)]
-mod make;
-#[cfg(test)]
-mod no_size;
-#[cfg(test)]
-mod operators;
-#[cfg(test)]
-mod order;
-#[cfg(test)]
-mod queries;
-#[cfg(test)]
-mod removal;
-#[cfg(test)]
-mod room;
-#[cfg(test)]
-mod search;
+mod tests;

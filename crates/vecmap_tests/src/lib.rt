@@ -1,15 +1,18 @@
-//! Tests of functions over lists, of the macros and of runs of commands, random ones too, and runs of proved callers.
+//! Tests of what only `vecmap` has: its macros, runs of commands, and maps and sets in each other. They are in three
+//! folders:
+//!
+//! - `tests` has the results of each call, and what it leaves, and random commands.
+//! - `refusals` has what a call leaves if a request for memory is refused.
+//! - `comments` has the examples of the doc comments of `vecmap`.
+//!
+//! `checks` has the functions by which they assert, and `telling` prints a refusal and repeats the call.
 #![tactic(auto)]
 
 #[cfg(test)]
-mod base;
-#[cfg(test)]
-mod callers;
-#[cfg(test)]
 mod checks;
 #[cfg(test)]
-mod macros;
+mod refusals;
 #[cfg(test)]
-mod random;
+mod telling;
 #[cfg(test)]
-mod run;
+mod tests;

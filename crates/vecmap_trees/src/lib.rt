@@ -13,8 +13,6 @@ pub mod laws;
 mod merging;
 mod reading;
 mod removal;
-#[cfg(test)]
-mod tests;
 mod text;
 mod writing;
 

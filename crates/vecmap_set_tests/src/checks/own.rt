@@ -1,7 +1,7 @@
 //! Assertions on elements of sets, and on what is refused or dropped.
 use std::process::Abort;
-use vecmap::VecSet;
 use vecmap_fixtures::{Item, Log, Told, has_items, has_texts, has_told};
+use vecmap_set::VecSet;
 
 /// Asserts that a call was refused memory.
 pub(crate) fn assert_refused<T: Drop, E: Drop>(rt: &impl Abort, outcome: Result<T, E>) {
@@ -27,6 +27,18 @@ pub(crate) fn assert_texts(rt: &impl Abort, set: &VecSet<String>, expected: &[&s
 /// Asserts that a list has exactly these numbers as elements, in this order.
 pub(crate) fn assert_told(rt: &impl Abort, items: &[Told<'_>], expected: &[u32]) {
     assert!(*rt; has_told(items, expected), "{items:?} is not {expected:?}");
+}
+
+/// Asserts how many elements are alive, and that a set has exactly these numbers, in this order.
+pub(crate) fn assert_told_items(
+    rt: &impl Abort,
+    log: &Log,
+    set: &VecSet<Told<'_>>,
+    alive: u32,
+    expected: &[u32],
+) {
+    assert_eq!(*rt; log.alive(), alive);
+    assert_told(rt, set.as_slice(), expected);
 }
 
 /// An element that a call returns: it is owned or borrowed.

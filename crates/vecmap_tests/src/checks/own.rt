@@ -1,7 +1,9 @@
-//! Assertions on optional values and on pairs of maps.
+//! Assertions on optional values, on pairs of maps and on elements of sets.
 use std::process::Abort;
-use vecmap::VecMap;
-use vecmap_fixtures::{Item, has_pairs};
+use vecmap::{VecMap, VecSet};
+use vecmap_fixtures::{
+    Item, Log, Told, has_items, has_pairs, has_text_pairs, has_texts, has_told, has_told_pairs,
+};
 
 /// Asserts that a call returned a value, and returns this value.
 pub(crate) fn present<T>(rt: &impl Abort, value: Option<T>) -> T {
@@ -20,5 +22,64 @@ pub(crate) fn assert_pairs(
     assert!(*rt;
         has_pairs(map.as_slice(), expected),
         "{map:?} is not {expected:?}"
+    );
+}
+
+/// Asserts that a set has exactly these elements, each a number and a mark, in this order.
+pub(crate) fn assert_items(rt: &impl Abort, set: &VecSet<Item>, expected: &[(u32, char)]) {
+    assert!(*rt;
+        has_items(set.as_slice(), expected),
+        "{set:?} is not {expected:?}"
+    );
+}
+
+/// Asserts that a map has exactly these texts as keys and as values, in this order.
+pub(crate) fn assert_text_pairs(
+    rt: &impl Abort,
+    map: &VecMap<String, String>,
+    expected: &[(&str, &str)],
+) {
+    assert!(*rt;
+        has_text_pairs(map.as_slice(), expected),
+        "{map:?} is not {expected:?}"
+    );
+}
+
+/// Asserts that a set has exactly these texts, in this order.
+pub(crate) fn assert_texts(rt: &impl Abort, set: &VecSet<String>, expected: &[&str]) {
+    assert!(*rt;
+        has_texts(set.as_slice(), expected),
+        "{set:?} is not {expected:?}"
+    );
+}
+
+/// Asserts how many keys and values are alive, and that a map has exactly these numbers as keys and as values, in this
+/// order.
+pub(crate) fn assert_told_pairs(
+    rt: &impl Abort,
+    log: &Log,
+    map: &VecMap<Told<'_>, Told<'_>>,
+    alive: u32,
+    expected: &[(u32, u32)],
+) {
+    assert_eq!(*rt; log.alive(), alive);
+    assert!(*rt;
+        has_told_pairs(map.as_slice(), expected),
+        "{map:?} is not {expected:?}"
+    );
+}
+
+/// Asserts how many elements are alive, and that a set has exactly these numbers, in this order.
+pub(crate) fn assert_told_items(
+    rt: &impl Abort,
+    log: &Log,
+    set: &VecSet<Told<'_>>,
+    alive: u32,
+    expected: &[u32],
+) {
+    assert_eq!(*rt; log.alive(), alive);
+    assert!(*rt;
+        has_told(set.as_slice(), expected),
+        "{set:?} is not {expected:?}"
     );
 }

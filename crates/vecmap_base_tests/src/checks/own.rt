@@ -1,0 +1,1 @@
+//! This crate needs no assertions beyond those of `checks`.

@@ -1,0 +1,165 @@
+//! Equality of maps.
+use crate::checks::{assert_differ, assert_equal, assert_is, assert_pairs, check, granted};
+use crate::made::repeating_map;
+use std::alloc::{AllocError, Global};
+use std::process::Abort;
+use std::test::Fail;
+use vecmap_fixtures::{Log, Told, told_pairs};
+use vecmap_map::VecMap;
+
+// Creates the map of a vector of these pairs.
+fn map_of(
+    alloc: Global,
+    pairs: &[(&'static str, u32)],
+) -> Result<VecMap<&'static str, u32>, AllocError> {
+    Ok(VecMap::from(pairs.to_vec(alloc)?))
+}
+
+#[test]
+fn equality_ignores_order_and_nothing_else(rt: HostRuntime) {
+    let both = granted(&rt, map_of(rt.alloc(), &[("a", 1), ("b", 2)]));
+    let turned = granted(&rt, map_of(rt.alloc(), &[("b", 2), ("a", 1)]));
+    let one = granted(&rt, map_of(rt.alloc(), &[("a", 1)]));
+    assert_equal(&rt, &both, &turned);
+    assert_equal(
+        &rt,
+        &both,
+        &granted(&rt, map_of(rt.alloc(), &[("a", 1), ("b", 2)])),
+    );
+    assert_equal(&rt, &one, &granted(&rt, map_of(rt.alloc(), &[("a", 1)])));
+    assert_differ(&rt, &one, &both);
+    assert_differ(&rt, &one, &VecMap::new(rt.alloc()));
+    assert_differ(&rt, &one, &granted(&rt, map_of(rt.alloc(), &[("b", 2)])));
+    assert_differ(&rt, &one, &granted(&rt, map_of(rt.alloc(), &[("a", 2)])));
+}
+
+#[test]
+fn equal_keys_and_repeats_are_the_same_if_they_occur_equally_often(rt: HostRuntime) {
+    for (pairs, others, is_equal) in [
+        (
+            [(1, 'a', 5), (1, 'b', 5)].as_slice(),
+            [(1, 'a', 5), (2, 'b', 5)].as_slice(),
+            false,
+        ),
+        (
+            [(1, 'a', 5), (1, 'b', 6)].as_slice(),
+            [(1, 'a', 6), (1, 'b', 5)].as_slice(),
+            true,
+        ),
+        (
+            [(1, 'a', 5), (1, 'b', 5), (1, 'c', 6)].as_slice(),
+            [(1, 'a', 5), (1, 'b', 6), (1, 'c', 6)].as_slice(),
+            false,
+        ),
+        (
+            [(1, 'a', 5), (1, 'b', 6), (1, 'c', 7)].as_slice(),
+            [(1, 'p', 7), (1, 'q', 5), (1, 'r', 6)].as_slice(),
+            true,
+        ),
+        (
+            [(1, 'a', 5), (1, 'b', 6), (1, 'c', 7)].as_slice(),
+            [(1, 'p', 7), (1, 'q', 6), (1, 'r', 6)].as_slice(),
+            false,
+        ),
+        // No key repeats.
+        (
+            [(1, 'x', 10), (2, 'b', 20), (3, 'c', 30)].as_slice(),
+            [(3, 'p', 30), (2, 'q', 20), (1, 'y', 10)].as_slice(),
+            true,
+        ),
+        (
+            [(1, 'x', 10), (2, 'b', 20), (3, 'c', 30)].as_slice(),
+            [(3, 'p', 20), (2, 'q', 30), (1, 'y', 10)].as_slice(),
+            false,
+        ),
+    ] {
+        let one = granted(&rt, repeating_map(rt.alloc(), pairs));
+        let other = granted(&rt, repeating_map(rt.alloc(), others));
+        assert_pairs(&rt, &one, pairs);
+        assert_pairs(&rt, &other, others);
+        assert_is(&rt, (one == other, other == one), (is_equal, is_equal));
+    }
+}
+
+#[test]
+fn equality_compares_no_more_than_it_says(rt: HostRuntime) {
+    for (numbers, others, is_equal, comparisons) in [
+        ([1, 2, 3].as_slice(), [1, 2].as_slice(), false, 0),
+        ([1, 2].as_slice(), [1, 2, 3].as_slice(), false, 0),
+        ([1, 2, 3].as_slice(), [1, 2, 3].as_slice(), true, 3),
+        ([1, 2, 4].as_slice(), [1, 2, 3].as_slice(), false, 3),
+        ([4, 1, 2].as_slice(), [1, 2, 3].as_slice(), false, 3),
+        ([1, 2, 3].as_slice(), [3, 1, 2].as_slice(), true, 6),
+    ] {
+        let log = Log::new();
+        let one = VecMap::from(granted(&rt, told_pairs(rt.alloc(), &log, numbers)));
+        let other = VecMap::from(granted(&rt, told_pairs(rt.alloc(), &log, others)));
+        let made = log.comparisons();
+        assert_is(&rt, one == other, is_equal);
+        let compared = log.comparisons().wrapping_sub(made);
+        assert_is(
+            &rt,
+            (compared, log.compares_after_drop()),
+            (comparisons, false),
+        );
+    }
+}
+
+// Creates a map of one pair, whose value is a map of these numbers.
+fn nested<'a>(
+    alloc: Global,
+    log: &'a Log,
+    numbers: &[u32],
+) -> Result<VecMap<char, VecMap<Told<'a>, u32>>, AllocError> {
+    let inner = VecMap::from(told_pairs(alloc, log, numbers)?);
+    Ok(VecMap::from(vec![in alloc; ('a', inner)]?))
+}
+
+#[test]
+fn maps_in_maps_are_compared_once(rt: HostRuntime) {
+    let log = Log::new();
+    let one = granted(&rt, nested(rt.alloc(), &log, &[1, 2]));
+    let other = granted(&rt, nested(rt.alloc(), &log, &[1, 3]));
+    let made = log.comparisons();
+    check!(rt; one != other);
+    assert_is(&rt, log.comparisons().wrapping_sub(made), 2);
+}
+
+// Creates the map of a vector of these numbers.
+fn numbers(alloc: Global, pairs: &[(u32, f64)]) -> Result<VecMap<u32, f64>, AllocError> {
+    Ok(VecMap::from(pairs.to_vec(alloc)?))
+}
+
+// Whether two maps of these numbers are equal.
+fn are_equal_numbers(rt: &impl Abort, alloc: Global, a: &[(u32, f64)], b: &[(u32, f64)]) -> bool {
+    granted(rt, numbers(alloc, a)) == granted(rt, numbers(alloc, b))
+}
+
+#[test]
+fn a_value_that_differs_from_itself_is_in_no_equal_map(rt: HostRuntime) {
+    let alloc = rt.alloc();
+    check!(rt; are_equal_numbers(&rt, alloc, &[(1, 0.5), (2, 1.5)], &[(2, 1.5), (1, 0.5)]));
+    check!(rt; are_equal_numbers(&rt, alloc, &[(1, 0.0)], &[(1, -0.0)]));
+    check!(rt; !are_equal_numbers(&rt, alloc, &[(1, f64::NAN)], &[(1, f64::NAN)]));
+    check!(rt; !are_equal_numbers(&rt, alloc, &[(1, 0.5), (2, f64::NAN)], &[(2, f64::NAN), (1, 0.5)]));
+    check!(rt; !are_equal_numbers(&rt, alloc, &[(1, 0.5), (1, f64::NAN)], &[(1, 0.5), (1, 0.5)]));
+}
+
+#[test]
+fn a_long_map_with_a_value_that_differs_from_itself_equals_none(
+    rt: HostRuntime,
+) -> Result<(), Fail> {
+    let mut pairs = Vec::new(rt.alloc());
+    for key in 0..1026u32 {
+        pairs.push((key, 0.5))?;
+    }
+    let map = VecMap::from(pairs.clone()?);
+    pairs.reverse();
+    let reversed = VecMap::from(pairs.clone()?);
+    check!(rt; map == reversed);
+    pairs.push((2000, f64::NAN))?;
+    let other = VecMap::from(pairs.clone()?);
+    pairs.reverse();
+    check!(rt; other != VecMap::from(pairs));
+    Ok(())
+}

@@ -1,3 +1,0 @@
-//! Runs of commands: each request for memory is refused once.
-mod map_run;
-mod set_run;

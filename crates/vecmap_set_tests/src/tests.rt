@@ -1,0 +1,33 @@
+//! Tests of sets. Each file is named for a module of `vecmap_set`, and tests each call of that module: its whole
+//! result, and the whole list that it leaves. These files have further tests by topic:
+//!
+//! - `by_reference`: loops over references to a set.
+//! - `clones`: elements whose clones are refused.
+//! - `drops`: each element that is passed is dropped once, or returned.
+//! - `no_size`: elements of no size.
+//! - `queries`: calls by each kind of query: an element, a text, a slice, and a query that is not an element.
+//!
+//! `checks` has the functions by which they assert.
+mod bulk;
+mod by_reference;
+mod clones;
+mod cloning;
+mod conversion;
+mod drain;
+mod drops;
+mod equality;
+mod extending;
+mod formatting;
+mod indexing;
+mod insertion;
+mod iteration;
+mod lazy;
+mod lookup;
+mod make;
+mod no_size;
+mod operators;
+mod order;
+mod queries;
+mod removal;
+mod room;
+mod search;

@@ -1,0 +1,78 @@
+//! Clones of sets, also by the trait `Clone`.
+use crate::checks::{assert_is, assert_items, assert_refused, assert_told, check, granted};
+use crate::made::{item_set, told_set};
+use std::alloc::{AllocError, Global};
+use std::process::Abort;
+use vecmap_fixtures::{Log, has_items};
+use vecmap_set::VecSet;
+
+// Clones by the trait, as generic code and derives do.
+pub(crate) fn copy_of<C: Clone>(original: &C) -> Result<C, AllocError> {
+    original.clone()
+}
+
+#[test]
+fn a_clone_has_the_elements_in_order(rt: HostRuntime) {
+    for items in [[].as_slice(), [(2, 'b'), (1, 'a'), (3, 'c')].as_slice()] {
+        let set = granted(&rt, item_set(rt.alloc(), items));
+        assert_items(&rt, &granted(&rt, copy_of(&set)), items);
+        assert_items(&rt, &granted(&rt, set.clone()), items);
+        check!(rt; has_items(&granted(&rt, set.to_vec()), items));
+        assert_items(&rt, &set, items);
+    }
+}
+
+#[test]
+fn each_element_is_compared_with_its_clone_alone(rt: HostRuntime) {
+    let log = Log::new();
+    let set = granted(&rt, told_set(rt.alloc(), &log, &[1, 2, 3, 4]));
+    let before = log.comparisons();
+    let copy = granted(&rt, copy_of(&set));
+    assert_is(&rt, log.comparisons(), before.wrapping_add(4));
+    assert_is(&rt, log.alive(), 8);
+    assert_told(&rt, copy.as_slice(), &[1, 2, 3, 4]);
+    let inherent = granted(&rt, set.clone());
+    assert_is(&rt, log.comparisons(), before.wrapping_add(4));
+    assert_told(&rt, inherent.as_slice(), &[1, 2, 3, 4]);
+}
+
+/// An element whose clone is greater by `step`, or is 0 if `step` is 9.
+#[derive(Debug, Drop, PartialEq, Eq)]
+struct Restless {
+    number: u32,
+    step: u32,
+}
+
+impl Clone for Restless {
+    fn clone(&self) -> Result<Restless, AllocError> {
+        let number = self.number.wrapping_add(self.step);
+        Ok(Restless {
+            number: if self.step == 9 { 0 } else { number },
+            step: self.step,
+        })
+    }
+}
+
+fn make_restless(alloc: Global, step: u32) -> Result<VecSet<Restless>, AllocError> {
+    VecSet::from_array(alloc, [1, 2].map(|number| Restless { number, step }))
+}
+
+// Asserts that a set has exactly these numbers, in this order.
+fn assert_numbers(rt: &impl Abort, set: &VecSet<Restless>, expected: [u32; 2]) {
+    assert!(*rt;
+        set.iter().map(|item| item.number).eq(expected),
+        "{set:?} is not {expected:?}"
+    );
+}
+
+#[test]
+fn clones_that_differ_stay_if_they_are_distinct(rt: HostRuntime) {
+    for (step, numbers) in [(0, [1, 2]), (1, [2, 3]), (5, [6, 7])] {
+        let set = granted(&rt, make_restless(rt.alloc(), step));
+        let copy = granted(&rt, copy_of(&set));
+        assert_numbers(&rt, &copy, numbers);
+    }
+    let set = granted(&rt, make_restless(rt.alloc(), 9));
+    assert_refused(&rt, copy_of(&set));
+    assert_numbers(&rt, &set, [1, 2]);
+}

@@ -1,0 +1,452 @@
+//! The iterators of `difference`, `intersection`, `symmetric_difference` and `union`.
+ghost use Rattle.std.specs.Iterator.{IsFinite};
+
+use crate::checks::{assert_is, assert_item, assert_text, check, granted};
+use crate::made::{item_set, told_set};
+use crate::tests::cloning::copy_of;
+use std::process::Abort;
+use vecmap_fixtures::{End, Item, Log, all_ends};
+use vecmap_set::VecSet;
+
+// What is left of one list: the range of indices not yet visited, and the indices of the elements that are kept.
+#[derive(Clone, Copy)]
+struct Left<'a> {
+    items: &'a [(u32, char)],
+    kept: &'a [usize],
+    start: usize,
+    end: usize,
+}
+
+// Returns the list before the first call.
+fn all_of<'a>(items: &'a [(u32, char)], kept: &'a [usize]) -> Left<'a> {
+    Left {
+        items,
+        kept,
+        start: 0,
+        end: items.len(),
+    }
+}
+
+impl Left<'_> {
+    // Returns the first kept element that is not yet visited. It and all elements before it are then visited, or all
+    // elements if there is none.
+    fn front(&mut self) -> Option<(u32, char)> {
+        let (start, end) = (self.start, self.end);
+        let place = self
+            .kept
+            .iter()
+            .copied()
+            .find(|place| start <= *place && *place < end);
+        self.start = place.map_or(end, |place| place.wrapping_add(1));
+        self.items.get(place?).copied()
+    }
+
+    // The same from the back.
+    fn back(&mut self) -> Option<(u32, char)> {
+        let (start, end) = (self.start, self.end);
+        let place = self
+            .kept
+            .iter()
+            .rev()
+            .copied()
+            .find(|place| start <= *place && *place < end);
+        self.end = place.unwrap_or(start);
+        self.items.get(place?).copied()
+    }
+
+    fn unwalked(&self) -> usize {
+        self.end.saturating_sub(self.start)
+    }
+}
+
+// What is left of two lists, the second after the first, and whether all of the first is kept.
+#[derive(Clone, Copy)]
+struct Parts<'a> {
+    first: Left<'a>,
+    second: Left<'a>,
+    is_whole: bool,
+}
+
+impl Parts<'_> {
+    fn front(&mut self) -> Option<(u32, char)> {
+        let item = self.first.front();
+        if item.is_some() {
+            return item;
+        }
+        self.second.front()
+    }
+
+    fn back(&mut self) -> Option<(u32, char)> {
+        let item = self.second.back();
+        if item.is_some() {
+            return item;
+        }
+        self.first.back()
+    }
+
+    fn hint(&self) -> (usize, Option<usize>) {
+        let at_least = if self.is_whole {
+            self.first.unwalked()
+        } else {
+            0
+        };
+        let at_most = self.first.unwalked().wrapping_add(self.second.unwalked());
+        (at_least, Some(at_most))
+    }
+}
+
+// Two sets, and for each set the indices of the elements that the other set has, and of those that it has not. The
+// marks tell equal elements apart.
+struct Case {
+    left: &'static [(u32, char)],
+    right: &'static [(u32, char)],
+    left_shared: &'static [usize],
+    left_alone: &'static [usize],
+    right_shared: &'static [usize],
+    right_alone: &'static [usize],
+}
+
+const CASES: &[Case] = &[
+    Case {
+        left: &[(1, 'a'), (2, 'a'), (3, 'a'), (4, 'a')],
+        right: &[(2, 'b'), (4, 'b')],
+        left_shared: &[1, 3],
+        left_alone: &[0, 2],
+        right_shared: &[0, 1],
+        right_alone: &[],
+    },
+    Case {
+        left: &[(2, 'a')],
+        right: &[(1, 'b'), (2, 'b'), (3, 'b')],
+        left_shared: &[0],
+        left_alone: &[],
+        right_shared: &[1],
+        right_alone: &[0, 2],
+    },
+    Case {
+        left: &[(3, 'a'), (1, 'a'), (5, 'a')],
+        right: &[(1, 'b'), (2, 'b'), (3, 'b')],
+        left_shared: &[0, 1],
+        left_alone: &[2],
+        right_shared: &[0, 2],
+        right_alone: &[1],
+    },
+    Case {
+        left: &[],
+        right: &[(2, 'b'), (1, 'b')],
+        left_shared: &[],
+        left_alone: &[],
+        right_shared: &[],
+        right_alone: &[0, 1],
+    },
+    Case {
+        left: &[(1, 'a')],
+        right: &[],
+        left_shared: &[],
+        left_alone: &[0],
+        right_shared: &[],
+        right_alone: &[],
+    },
+    Case {
+        left: &[],
+        right: &[],
+        left_shared: &[],
+        left_alone: &[],
+        right_shared: &[],
+        right_alone: &[],
+    },
+    Case {
+        left: &[(1, 'a'), (2, 'a'), (3, 'a'), (4, 'a')],
+        right: &[(4, 'b'), (5, 'b'), (2, 'b'), (6, 'b')],
+        left_shared: &[1, 3],
+        left_alone: &[0, 2],
+        right_shared: &[0, 2],
+        right_alone: &[1, 3],
+    },
+    Case {
+        left: &[(3, 'a'), (2, 'a'), (1, 'a')],
+        right: &[(1, 'b'), (2, 'b')],
+        left_shared: &[1, 2],
+        left_alone: &[0],
+        right_shared: &[0, 1],
+        right_alone: &[],
+    },
+    Case {
+        left: &[(1, 'a')],
+        right: &[(2, 'b'), (3, 'b')],
+        left_shared: &[],
+        left_alone: &[0],
+        right_shared: &[],
+        right_alone: &[0, 1],
+    },
+];
+
+// Asserts that a call for each of these ends returns what is left, with the hint before each call and after the last.
+fn assert_next<'a, I: DoubleEndedIterator<Item = &'a Item>>(
+    rt: &impl Abort,
+    iter: &mut I,
+    left: &mut Parts<'_>,
+    ends: &[End],
+)
+    requires next { (it : I) → I.can_next it }
+    requires next_back { (it : I) → I.can_next_back it }
+{
+    for end in ends {
+        assert_eq!(*rt; iter.size_hint(), left.hint());
+        let (item, expected) = match end {
+            End::Front => (iter.next(), left.front()),
+            End::Back => (iter.next_back(), left.back()),
+        };
+        assert_eq!(*rt; item.map(|item| (item.number, item.mark)), expected);
+    }
+    assert_eq!(*rt; iter.size_hint(), left.hint());
+}
+
+// Asserts what every mixture of six calls of `next` and `next_back` returns, with the hint at each step. Two clones
+// after the second call, one by the trait `Clone`, continue by themselves.
+macro_rules! assert_pulls {
+    ($rt:ident; $iter:expr, $left:expr) => {
+        for ends in &all_ends() {
+            let mut iter = $iter;
+            let mut left: Parts<'_> = $left;
+            assert_next(&$rt, &mut iter, &mut left, &ends[..2]);
+            let mut copy = iter.clone();
+            let mut copy_left = left;
+            assert_next(&$rt, &mut copy, &mut copy_left, &[End::Front; 6]);
+            let mut copy = granted(&$rt, copy_of(&iter));
+            let mut copy_left = left;
+            assert_next(&$rt, &mut copy, &mut copy_left, &[End::Back; 6]);
+            assert_next(&$rt, &mut iter, &mut left, &ends[2..]);
+        }
+    };
+}
+
+const NONE: Left<'static> = Left {
+    items: &[],
+    kept: &[],
+    start: 0,
+    end: 0,
+};
+
+#[test]
+fn a_difference_is_exact_for_every_mixture_of_next_and_next_back(rt: HostRuntime) {
+    for case in CASES {
+        let a = granted(&rt, item_set(rt.alloc(), case.left));
+        let b = granted(&rt, item_set(rt.alloc(), case.right));
+        let left = Parts {
+            first: all_of(case.left, case.left_alone),
+            second: NONE,
+            is_whole: false,
+        };
+        assert_pulls!(rt; a.difference(&b), left);
+    }
+}
+
+#[test]
+fn an_intersection_is_exact_for_every_mixture_of_next_and_next_back(rt: HostRuntime) {
+    for case in CASES {
+        let a = granted(&rt, item_set(rt.alloc(), case.left));
+        let b = granted(&rt, item_set(rt.alloc(), case.right));
+        let first = if case.right.len() < case.left.len() {
+            all_of(case.right, case.right_shared)
+        } else {
+            all_of(case.left, case.left_shared)
+        };
+        let left = Parts {
+            first,
+            second: NONE,
+            is_whole: false,
+        };
+        assert_pulls!(rt; a.intersection(&b), left);
+    }
+}
+
+#[test]
+fn a_symmetric_difference_is_exact_for_every_mixture_of_next_and_next_back(rt: HostRuntime) {
+    for case in CASES {
+        let a = granted(&rt, item_set(rt.alloc(), case.left));
+        let b = granted(&rt, item_set(rt.alloc(), case.right));
+        let left = Parts {
+            first: all_of(case.left, case.left_alone),
+            second: all_of(case.right, case.right_alone),
+            is_whole: false,
+        };
+        assert_pulls!(rt; a.symmetric_difference(&b), left);
+    }
+}
+
+#[test]
+fn a_union_is_exact_for_every_mixture_of_next_and_next_back(rt: HostRuntime) {
+    for case in CASES {
+        let a = granted(&rt, item_set(rt.alloc(), case.left));
+        let b = granted(&rt, item_set(rt.alloc(), case.right));
+        let (first, second) = if case.left.len() < case.right.len() {
+            (
+                all_of(case.right, &[0, 1, 2, 3]),
+                all_of(case.left, case.left_alone),
+            )
+        } else {
+            (
+                all_of(case.left, &[0, 1, 2, 3]),
+                all_of(case.right, case.right_alone),
+            )
+        };
+        let left = Parts {
+            first,
+            second,
+            is_whole: true,
+        };
+        assert_pulls!(rt; a.union(&b), left);
+    }
+}
+
+#[test]
+fn size_hints_follow_the_calls_of_next(rt: HostRuntime) {
+    let a = granted(&rt, VecSet::from_slice(rt.alloc(), &[1, 2, 3, 4]));
+    let b = granted(&rt, VecSet::from_slice(rt.alloc(), &[2, 4]));
+    let mut lacking = a.difference(&b);
+    assert_is(&rt, lacking.size_hint(), (0, Some(4)));
+    assert_is(&rt, lacking.next_back(), Some(&3));
+    assert_is(&rt, lacking.size_hint(), (0, Some(2)));
+    assert_is(&rt, lacking.next(), Some(&1));
+    assert_is(&rt, lacking.size_hint(), (0, Some(1)));
+    assert_is(&rt, lacking.next_back(), None);
+    assert_is(&rt, lacking.size_hint(), (0, Some(0)));
+    let a = granted(&rt, VecSet::from_slice(rt.alloc(), &[1, 2, 3]));
+    let b = granted(&rt, VecSet::from_slice(rt.alloc(), &[3, 4]));
+    let mut all = a.union(&b);
+    assert_is(&rt, all.size_hint(), (3, Some(5)));
+    assert_is(&rt, all.next_back(), Some(&4));
+    assert_is(&rt, all.next(), Some(&1));
+    assert_is(&rt, all.next_back(), Some(&3));
+    assert_is(&rt, all.next(), Some(&2));
+    assert_is(&rt, (all.next(), all.next_back()), (None, None));
+}
+
+#[test]
+fn a_union_and_its_clone_are_independent(rt: HostRuntime) {
+    let a = granted(&rt, VecSet::from_slice(rt.alloc(), &[1, 2]));
+    let b = granted(&rt, VecSet::from_slice(rt.alloc(), &[2, 3]));
+    let mut all = a.union(&b);
+    assert_is(&rt, (all.next(), all.next_back()), (Some(&1), Some(&3)));
+    let copy = all.clone();
+    for mut left in [all, copy] {
+        assert_is(&rt, left.next_back(), Some(&2));
+        assert_is(&rt, (left.next_back(), left.next()), (None, None));
+    }
+}
+
+// Asserts that an iterator returns exactly these numbers, in this order.
+fn assert_all<'a, I: Iterator<Item = &'a u32> + Drop>(
+    rt: &impl Abort,
+    items: I,
+    expected: &'a [u32],
+)
+    requires next { I.can_next items }
+    requires ends { IsFinite (I.remaining items) }
+{
+    assert!(*rt; items.eq(expected), "not {expected:?}");
+}
+
+#[test]
+fn lazy_iterators_keep_the_order(rt: HostRuntime) {
+    let a = granted(&rt, VecSet::from_slice(rt.alloc(), &[1, 2, 3]));
+    let b = VecSet::from(granted(&rt, [4, 2, 3, 4].to_vec(rt.alloc())));
+    assert_all(&rt, a.difference(&b), &[1]);
+    assert_all(&rt, a.intersection(&b), &[2, 3]);
+    assert_all(&rt, a.symmetric_difference(&b), &[1, 4]);
+    assert_all(&rt, a.union(&b), &[1, 2, 3, 4]);
+    let a = granted(&rt, VecSet::from_slice(rt.alloc(), &[3, 2, 1]));
+    let b = granted(&rt, VecSet::from_slice(rt.alloc(), &[1, 2]));
+    assert_all(&rt, a.intersection(&b), &[1, 2]);
+    let a = granted(&rt, VecSet::from_slice(rt.alloc(), &[1]));
+    let b = granted(&rt, VecSet::from_slice(rt.alloc(), &[2, 3]));
+    assert_all(&rt, a.union(&b), &[2, 3, 1]);
+}
+
+// Asserts how many comparisons each of these calls of `next` makes.
+fn assert_comparisons<I: Iterator + Drop>(
+    rt: &impl Abort,
+    log: &Log,
+    mut items: I,
+    expected: &[u32],
+)
+where
+    I::Item: Drop,
+    requires next { (it : I) → I.can_next it }
+{
+    for wanted in expected {
+        let before = log.comparisons();
+        let _item = items.next();
+        assert_eq!(*rt; log.comparisons().wrapping_sub(before), *wanted);
+    }
+}
+
+// The same for `next_back`.
+fn assert_comparisons_back<I: DoubleEndedIterator + Drop>(
+    rt: &impl Abort,
+    log: &Log,
+    mut items: I,
+    expected: &[u32],
+)
+where
+    I::Item: Drop,
+    requires next_back { (it : I) → I.can_next_back it }
+{
+    for wanted in expected {
+        let before = log.comparisons();
+        let _item = items.next_back();
+        assert_eq!(*rt; log.comparisons().wrapping_sub(before), *wanted);
+    }
+}
+
+#[test]
+fn calls_of_next_compare_no_more_than_they_need(rt: HostRuntime) {
+    let log = Log::new();
+    let a = granted(&rt, told_set(rt.alloc(), &log, &[1, 2, 3, 4]));
+    let b = granted(&rt, told_set(rt.alloc(), &log, &[2, 4]));
+    let made = log.comparisons();
+    let lacking = a.difference(&b);
+    let lacking_back = lacking.clone();
+    let shared = a.intersection(&b);
+    let shared_back = shared.clone();
+    let apart = a.symmetric_difference(&b);
+    let apart_back = apart.clone();
+    let all = a.union(&b);
+    let all_back = all.clone();
+    let _hints = (lacking.size_hint(), all.size_hint());
+    assert_is(&rt, log.comparisons(), made);
+    assert_comparisons(&rt, &log, lacking, &[2, 3, 2, 0]);
+    assert_comparisons_back(&rt, &log, lacking_back, &[4, 3, 0, 0]);
+    assert_comparisons(&rt, &log, shared, &[2, 4, 0]);
+    assert_comparisons_back(&rt, &log, shared_back, &[4, 2, 0]);
+    assert_comparisons(&rt, &log, apart, &[2, 3, 8, 0]);
+    assert_comparisons_back(&rt, &log, apart_back, &[10, 3, 0, 0]);
+    assert_comparisons(&rt, &log, all, &[0, 0, 0, 0, 6, 0]);
+    assert_comparisons_back(&rt, &log, all_back, &[6, 0, 0, 0, 0]);
+}
+
+#[test]
+fn what_is_left_is_printed(rt: HostRuntime) {
+    let a = granted(&rt, VecSet::from_slice(rt.alloc(), &[1, 2, 3]));
+    let b = granted(&rt, VecSet::from_slice(rt.alloc(), &[4, 2, 3]));
+    let mut all = a.union(&b);
+    let _first = all.next();
+    let (lacking, shared) = (a.difference(&b), a.intersection(&b));
+    let apart = a.symmetric_difference(&b);
+    assert_text(
+        &rt,
+        format!(in rt.alloc(); "{lacking:?} {shared:?} {apart:?} {all:?}"),
+        "[1] [2, 3] [1, 4] [2, 3, 4]",
+    );
+}
+
+#[test]
+fn an_intersection_returns_the_element_of_the_shorter_set(rt: HostRuntime) {
+    let a = granted(&rt, item_set(rt.alloc(), &[(1, 'x'), (2, 'y')]));
+    let b = granted(&rt, item_set(rt.alloc(), &[(2, 'z')]));
+    for mut shared in [a.intersection(&b), b.intersection(&a)] {
+        assert_item(&rt, shared.next(), (2, 'z'));
+        check!(rt; shared.next().is_none());
+    }
+}

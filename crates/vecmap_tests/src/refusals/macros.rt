@@ -1,0 +1,3 @@
+//! Macros, and the calls by which they insert.
+mod map;
+mod set;

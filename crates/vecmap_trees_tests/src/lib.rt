@@ -1,0 +1,17 @@
+//! Tests of trees of JSON values, in three folders:
+//!
+//! - `tests` has trees that are built, read, written, merged and compared.
+//! - `refusals` has what a tree is if a request for memory is refused.
+//! - `comments` has the examples of the doc comments of `vecmap_trees`.
+//!
+//! `checks` has the functions by which they assert, and `telling` prints a refusal and repeats the call.
+#![tactic(auto)]
+
+#[cfg(test)]
+mod checks;
+#[cfg(test)]
+mod refusals;
+#[cfg(test)]
+mod telling;
+#[cfg(test)]
+mod tests;
