@@ -39,7 +39,8 @@ impl<K, V> VecMap<K, V> {
         ensures capacity { self.new.capacity ≡ self.old.capacity }
         ensures written { (h : K × V → K × V) → Computes (WritesValueAt F.FnMut) f h
             → self.new.entries ≡ map h self.old.entries }
-        ensures written_in_any_state { (h : K × V → K × V) → AlwaysComputes (WritesValueAt F.FnMut) h
+        ensures written_in_any_state { (h : K × V → K × V)
+            → AlwaysComputes (WritesValueAt F.FnMut) h
             → self.new.entries ≡ map h self.old.entries }
         ensures lookups { (h : V → V)
             → Computes (WritesValueAt F.FnMut) f (λ pair. (pair.0, h pair.1)) → (test : K → Bool)
