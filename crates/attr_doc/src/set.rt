@@ -23,7 +23,8 @@ pub(crate) fn set_text(
         ≡ with_text (sections_of sections.old.entries) section name text) }
     ensures old { IfOk result (λ old. option_map string_bytes old
         ≡ text_of (sections_of sections.old.entries) section name) }
-    ensures succeeds { IsSome (text_of (sections_of sections.old.entries) section name) → IsOk result }
+    ensures succeeds { IsSome (text_of (sections_of sections.old.entries) section name)
+        → IsOk result }
     ensures given { IfErr result (λ refused. refused.given ≡ (section, name, text)) }
     ensures err { OnErr result (sections_of sections.new.entries
         ≡ sections_of sections.old.entries) }

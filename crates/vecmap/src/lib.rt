@@ -1,4 +1,45 @@
 //! Maps and sets that keep insertion order and compare by `==`, each over one vector: all that users name.
+//!
+//! A [`VecMap`] and a [`VecSet`] look their entries up by `==`, so keys need neither `Hash` nor `Ord`. They are meant
+//! for short lists whose order matters, such as headers, options and symbol tables. [`map`] and [`set`] list their
+//! calls.
+//!
+//! Each call is proved to do what its contract says. A call that can run out of memory returns a `Result`, and nothing
+//! panics or aborts. What must hold before a call is written under `# Conditions`. It is a `requires` of the contract:
+//! the proof of each caller shows that it holds, and nothing is checked when the program runs.
+//!
+//! # Examples
+//!
+//! ```rust
+//! use std::alloc::{AllocError, Global};
+//! use std::io;
+//! use vecmap::{VecMap, VecSet, vecset};
+//!
+//! /// A new value replaces the old one, and the key keeps its index.
+//! pub fn headers(alloc: Global) -> Result<VecMap<&'static str, u32>, AllocError> {
+//!     let mut map = VecMap::new(alloc);
+//!     map.insert("age", 10)?;
+//!     map.insert("max", 20)?;
+//!     map.insert("age", 30)?;
+//!     Ok(map)
+//! }
+//!
+//! /// What both sets have, in the order of the first.
+//! pub fn common(alloc: Global) -> Result<VecSet<u32>, AllocError> {
+//!     let a = vecset!(alloc; 3, 1, 2, 3);
+//!     let b = vecset!(alloc; 2, 4, 3);
+//!     &a & &b
+//! }
+//!
+//! pub fn main(rt: HostRuntime) -> io::Result<()> {
+//!     let headers = headers(rt.alloc())?;
+//!     println!(rt; "{headers:?}")?;
+//!     let common = common(rt.alloc())?;
+//!     println!(rt; "{common:?}")
+//! }
+//! ```
+//!
+//! It prints `{"age": 30, "max": 20}` and `{3, 2}`.
 #![tactic(auto)]
 
 pub mod macros;

@@ -1,7 +1,7 @@
 //! The map, with the types that go with it.
 //!
-//! Each call has a comment, a contract and an example where it is defined. These are the calls by topic, in the order
-//! of the Rust crate's documentation, with their files in `crates/vecmap_map/src`:
+//! Each call has a comment, a contract and an example where it is defined. These are the calls by topic, with
+//! their files in `crates/vecmap_map/src`:
 //!
 //! - creation and taking apart: `new`, `with_capacity`, `as_slice`, `into_vec`, `allocator` (`make.rt`); `clone` and
 //!   the trait `Clone` (`cloning.rt`)
@@ -17,6 +17,7 @@
 //!   `has_distinct_keys`, and those by a text, whose names end in `_str` (`lookup.rt`)
 //! - lookups that return a mutable reference to a value: `get_mut`, `first_mut`, `last_mut`, `get_full_mut`,
 //!   `get_index_mut` (`lending.rt`); `map[index]`, `map[&key]`, `map["text"]` (`indexing.rt`)
+//! - calls that write each value: `update_values`, `try_update_values` (`updating.rt`)
 //! - insertion: `insert`, `insert_full`, `insert_key`, `insert_at` (`insertion.rt`)
 //! - many pairs at once: `from_iter`, `from_slice`, `append`, `extend`, `extend_refs`, `extend_pairs`, `collect`
 //!   (`bulk.rt`); the trait `Extend` (`extending.rt`); `From<Vec>`, `from_vec_counted`, `from_array`,
@@ -26,7 +27,7 @@
 //!   the iterators themselves (`iter/pairs.rt`, `iter/keys.rt`, `iter/values.rt` and `iter_mut.rt` of
 //!   `crates/vecmap_base/src`)
 //! - mutable references to keys: `MutableKeys`, with `get_full_mut2`, `get_index_mut2`, `retain2`, `iter_mut2`,
-//!   `keys_mut` (`mutable_keys.rt`)
+//!   `keys_mut`, `as_mut_slice` (`mutable_keys.rt`)
 //! - `==` (`equality.rt`), `Debug` (`formatting.rt`), the law that a map fits its capacity (`laws.rt`); the other laws are
 //!   in `crates/vecmap_laws`
 pub use vecmap_base::{

@@ -40,7 +40,8 @@ pub fn run<K: Eq + Clone, V: Eq + Clone>(
     map: &mut VecMap<K, V>,
     commands: Vec<MapCommand<K, V>>,
 ) -> Result<Vec<MapReply<K, V>>, AllocError>
-    ensures run { IfOk result (λ replies. Run K.eq V.eq K.Clone V.Clone map.old commands.items replies.items map.new) }
+    ensures run { IfOk result
+        (λ replies. Run K.eq V.eq K.Clone V.Clone map.old commands.items replies.items map.new) }
     ensures err { OnErr result (map.new ≡ map.old) }
 {
     let mut replies = Vec::with_capacity(alloc, commands.len())?;

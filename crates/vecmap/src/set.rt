@@ -1,7 +1,7 @@
 //! The set, with the types that go with it.
 //!
-//! Each call has a comment, a contract and an example where it is defined. These are the calls by topic, in the order
-//! of the Rust crate's documentation, with their files in `crates/vecmap_set/src`:
+//! Each call has a comment, a contract and an example where it is defined. These are the calls by topic, with
+//! their files in `crates/vecmap_set/src`:
 //!
 //! - creation and taking apart: `new`, `with_capacity`, `as_slice`, `into_vec`, `allocator` (`make.rt`); `clone` and
 //!   the trait `Clone` (`cloning.rt`)
@@ -21,7 +21,7 @@
 //!   (`conversion.rt`)
 //! - two sets: `is_disjoint`, `is_subset`, `is_superset`, `==` (`equality.rt`); `difference`, `intersection`,
 //!   `symmetric_difference`, `union` (`lazy.rt`) with their iterators (`lazy/`); `&`, `|`, `^`, `-` (`operators.rt`)
-//! - iteration: `iter`, loops (`iteration.rt`); the iterators themselves (`crates/vecmap_base/src/items.rt`)
+//! - iteration: `iter`, loops (`iteration.rt`); the iterators themselves (`crates/vecmap_base/src/iter/elements.rt`)
 //! - `Debug` (`formatting.rt`), the law that a set fits its capacity (`laws.rt`); the other laws are in
 //!   `crates/vecmap_laws`
 pub use vecmap_base::items::{IntoIter, Iter};

@@ -47,7 +47,8 @@ pub fn run_set<T: Eq + Clone>(
     commands: Vec<SetCommand<T>>,
 ) -> Result<Vec<SetReply<T>>, AllocError>
     requires clones_equal { ClonesAreEqual T.eq T.is_clone }
-    ensures run { IfOk result (λ replies. Run T.eq T.Clone set.old commands.items replies.items set.new) }
+    ensures run { IfOk result
+        (λ replies. Run T.eq T.Clone set.old commands.items replies.items set.new) }
     ensures distinct { IsDistinct T.eq set.new.elements }
     ensures err { OnErr result (set.new ≡ set.old) }
 {

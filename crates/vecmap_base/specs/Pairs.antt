@@ -1,6 +1,6 @@
--- Lists of pairs of a key and a value, as an ordered map sees them. `eq` is the `==` of keys. Lookups and removals go by
--- the index of a key, so that an index, its pair and its value come from one definition. The words of std for them are
--- by recursion.
+-- Lists of pairs of a key and a value, as an ordered map sees them. `eq` is the `==` of keys. Lookups and removals go
+-- by the index of a key, so that an index, its pair and its value come from one definition. The words of std for them
+-- are by recursion.
 use Rattle.std.specs.Prelude.{ℕ, ◌-◌, Bool, List, [], ◌∷◌, ◌++◌, Option, String, bytes_eq, fold, insert, length, map, min, position, remove, slice_get, slice_set, string_bytes, unwrap_or}
 use Rattle.std.specs.List.{IsDistinct}
 use Rattle.std.specs.Map.{keys_of}

@@ -6,7 +6,9 @@ use vecmap::VecMap;
 
 /// Inserts three pairs, two of them with the same key. The contract states the pairs of the map.
 pub fn headers(alloc: Global) -> Result<VecMap<&'static str, u32>, AllocError>
-    ensures { IfOk result (λ made. map {B = List ℕ × ℕ} (λ pair. (pair.0.now, pair.1)) made.entries ≡ (codes "age", 30) ∷ (codes "max", 20) ∷ []) }
+    ensures { IfOk result
+        (λ made. map {B = List ℕ × ℕ} (λ pair. (pair.0.now, pair.1)) made.entries
+        ≡ (codes "age", 30) ∷ (codes "max", 20) ∷ []) }
 {
     let mut map = VecMap::new(alloc);
     map.insert("age", 10)?;

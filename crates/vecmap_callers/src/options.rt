@@ -174,7 +174,8 @@ impl<K: Eq + Drop, V: Drop> Options<K, V> {
     /// One lookup for each override.
     #[tactic(auto, using(vecmap::proofs::Rules::distinct_keys))]
     pub fn settle(&mut self) -> Result<(), AllocError>
-        ensures settings { OnOk result ((q : K) → setting K.eq self.new q ≡ setting K.eq self.old q) }
+        ensures settings { OnOk result ((q : K) → setting K.eq self.new q
+            ≡ setting K.eq self.old q) }
         ensures emptied { OnOk result (self.new.overrides ≡ []) }
         ensures err { OnErr result (self.new ≡ self.old) }
     {

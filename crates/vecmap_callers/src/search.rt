@@ -30,8 +30,9 @@ pub fn index_among_keys(map: &mut VecMap<u32, char>, key: u32) -> Result<usize, 
 ///
 /// The numbers below the limit come first.
 pub fn count_below(set: &VecSet<u32>, limit: u32) -> usize
-    requires { IsPartitionedBy (λ x. nat_lt x limit) set.now.elements }
-    ensures { IsPartitionPoint (λ x. nat_lt x limit ≡ true)
+    requires sorted { IsPartitionedBy (λ x. nat_lt x limit) set.now.elements }
+    ensures within { result ≤ length set.now.elements }
+    ensures index { IsPartitionPoint (λ x. nat_lt x limit ≡ true)
         (λ x. nat_lt x limit ≡ false) set.now.elements result }
 {
     set.partition_point(|x| *x < limit)

@@ -96,8 +96,8 @@ impl Settings {
         nested::set(&mut self.overrides, section, name, text)
     }
 
-    /// Removes the override of a setting, if there is one. The setting then has its default, and every other section has
-    /// the settings that it had.
+    /// Removes the override of a setting, if there is one. The setting then has its default, and every other section
+    /// has the settings that it had.
     pub fn reset(&mut self, section: &str, name: &str)
         ensures removed { inner_entries_by (has_text section.now) self.new.overrides.entries
             ≡ without_by (has_text name.now)

@@ -41,7 +41,8 @@ impl<K, V> VecMap<K, V> {
     where
         K: Eq + Drop,
         V: Drop,
-        requires ends { IsFiniteIterable I.into_iter_gives I.IntoIter.can_next I.IntoIter.remaining iter }
+        requires ends { IsFiniteIterable I.into_iter_gives I.IntoIter.can_next I.IntoIter.remaining
+            iter }
         ensures { IfOk result (λ map. (it : I.IntoIter) × (pairs : List (K × V))
             × I.into_iter_gives iter it × Drains I.IntoIter.next_gives it pairs
             × (map.entries ≡ puts K.eq [] pairs)) }
@@ -165,7 +166,8 @@ impl<K, V> VecMap<K, V> {
     where
         K: Eq + Drop,
         V: Drop,
-        requires ends { IsFiniteIterable I.into_iter_gives I.IntoIter.can_next I.IntoIter.remaining iter }
+        requires ends { IsFiniteIterable I.into_iter_gives I.IntoIter.can_next I.IntoIter.remaining
+            iter }
         ensures ran { ExtendsWithItems I.into_iter_gives I.IntoIter.next_gives
             (Puts K.eq) iter self.old self.new result }
         ensures capacity { self.old.capacity ≤ self.new.capacity }
@@ -216,7 +218,8 @@ impl<K, V> VecMap<K, V> {
     where
         K: Eq + Clone + 'a,
         V: Clone + 'a,
-        requires ends { IsFiniteIterable I.into_iter_gives I.IntoIter.can_next I.IntoIter.remaining iter }
+        requires ends { IsFiniteIterable I.into_iter_gives I.IntoIter.can_next I.IntoIter.remaining
+            iter }
         ensures ran { ExtendsWithItems I.into_iter_gives I.IntoIter.next_gives
             (λ old items new. PutsClones K.eq K.is_clone V.is_clone old
             (map deref_pair items) new) iter self.old self.new result }
@@ -269,7 +272,8 @@ impl<K, V> VecMap<K, V> {
     where
         K: Eq + Clone + 'a,
         V: Clone + 'a,
-        requires ends { IsFiniteIterable I.into_iter_gives I.IntoIter.can_next I.IntoIter.remaining iter }
+        requires ends { IsFiniteIterable I.into_iter_gives I.IntoIter.can_next I.IntoIter.remaining
+            iter }
         ensures ran { ExtendsWithItems I.into_iter_gives I.IntoIter.next_gives
             (λ old items new. PutsClones K.eq K.is_clone V.is_clone old
             (map (λ p. p.now) items) new) iter self.old self.new result }

@@ -29,7 +29,8 @@ impl<K, V> VecMap<K, V> {
     where
         K: Clone,
         V: Clone,
-        ensures { IfOk result (λ map. ArePairClones K.is_clone V.is_clone self.now.entries map.entries) }
+        ensures { IfOk result
+            (λ map. ArePairClones K.is_clone V.is_clone self.now.entries map.entries) }
     {
         Ok(VecMap {
             pairs: self.to_vec()?,

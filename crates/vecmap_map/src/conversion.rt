@@ -140,7 +140,8 @@ impl<K, V> VecMap<K, V> {
     where
         K: Clone,
         V: Clone,
-        ensures { IfOk result (λ pairs. ArePairClones K.is_clone V.is_clone self.now.entries pairs.items) }
+        ensures { IfOk result
+            (λ pairs. ArePairClones K.is_clone V.is_clone self.now.entries pairs.items) }
     {
         self.pairs.clone()
     }

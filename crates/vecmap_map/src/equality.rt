@@ -16,7 +16,7 @@ use vecmap_base::pairs_equal;
 /// If more than 1,024 pairs remain, it counts them in both maps instead. For maps of n pairs this takes
 ///
 /// - n comparisons of keys if the maps are equal and in the same order;
-/// - at most n(n + 1)/2 if the maps are equal and no keys repeat;
+/// - at most n(n + 1)/2 if the maps are equal, no keys repeat, and at most 1,024 pairs remain;
 /// - at most n² in any other case, or 2n² + 1 if it counts.
 ///
 /// Does not allocate.

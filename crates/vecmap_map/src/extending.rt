@@ -39,7 +39,8 @@ impl<K: Eq + Drop, V: Drop> Extend<(K, V)> for VecMap<K, V> {
     ghost extend_gives = { λ old pairs new. Puts K.eq old pairs new × (old.capacity ≤ new.capacity) };
 
     fn extend<I: IntoIterator<Item = (K, V)>>(&mut self, iter: I) -> Result<(), AllocError>
-        requires ends { IsFiniteIterable I.into_iter_gives I.IntoIter.can_next I.IntoIter.remaining iter }
+        requires ends { IsFiniteIterable I.into_iter_gives I.IntoIter.can_next I.IntoIter.remaining
+            iter }
         ensures ran { ExtendsWithItems I.into_iter_gives I.IntoIter.next_gives
             (λ old pairs new. Puts K.eq old pairs new × (old.capacity ≤ new.capacity))
             iter self.old self.new result }
@@ -82,7 +83,8 @@ impl<'a, K: Eq + Clone + 'a, V: Clone + 'a> Extend<(&'a K, &'a V)> for VecMap<K,
     ghost extend_gives = { λ old pairs new. PutsClones K.eq K.is_clone V.is_clone old (map deref_pair pairs) new × (old.capacity ≤ new.capacity) };
 
     fn extend<I: IntoIterator<Item = (&'a K, &'a V)>>(&mut self, iter: I) -> Result<(), AllocError>
-        requires ends { IsFiniteIterable I.into_iter_gives I.IntoIter.can_next I.IntoIter.remaining iter }
+        requires ends { IsFiniteIterable I.into_iter_gives I.IntoIter.can_next I.IntoIter.remaining
+            iter }
         ensures ran { ExtendsWithItems I.into_iter_gives I.IntoIter.next_gives
             (λ old pairs new. PutsClones K.eq K.is_clone V.is_clone old (map deref_pair pairs) new
             × (old.capacity ≤ new.capacity)) iter self.old self.new result }
@@ -127,7 +129,8 @@ impl<'a, K: Eq + Clone + 'a, V: Clone + 'a> Extend<&'a (K, V)> for VecMap<K, V> 
     ghost extend_gives = { λ old pairs new. PutsClones K.eq K.is_clone V.is_clone old (map (λ p. p.now) pairs) new × (old.capacity ≤ new.capacity) };
 
     fn extend<I: IntoIterator<Item = &'a (K, V)>>(&mut self, iter: I) -> Result<(), AllocError>
-        requires ends { IsFiniteIterable I.into_iter_gives I.IntoIter.can_next I.IntoIter.remaining iter }
+        requires ends { IsFiniteIterable I.into_iter_gives I.IntoIter.can_next I.IntoIter.remaining
+            iter }
         ensures ran { ExtendsWithItems I.into_iter_gives I.IntoIter.next_gives
             (λ old pairs new. PutsClones K.eq K.is_clone V.is_clone old (map (λ p. p.now) pairs) new
             × (old.capacity ≤ new.capacity)) iter self.old self.new result }

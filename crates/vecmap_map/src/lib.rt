@@ -32,6 +32,18 @@ use std::marker::Model;
 ///
 /// Keys need neither `Hash` nor `Ord`. A lookup compares them by `==`, in order, so it takes at most `len` comparisons.
 /// A contract sees a map as the list of its pairs and its capacity.
+///
+/// No two keys are equal, unless a caller makes them so: by writing a key, by [`VecMap::from_vec_unchecked`], or by
+/// keys whose clones differ from them. A lookup then finds the first pair with an equal key.
+///
+/// # Examples
+///
+/// ```
+/// let mut map = VecMap::from_array(alloc, [('a', 1), ('b', 2)])?;
+/// map.insert('a', 3)? // Some(1)
+/// map.get(&'b') // Some(&2)
+/// map.as_slice() // [('a', 3), ('b', 2)]
+/// ```
 #[derive(Drop)]
 pub struct VecMap<K, V> {
     pairs: Vec<(K, V)>,

@@ -7,7 +7,7 @@ use crate::VecMap;
 use vecmap_base::{Equivalent, find_equivalent, keys_distinct};
 
 impl<K, V> VecMap<K, V> {
-    /// Returns whether a key of the map matches `query`.
+    /// Returns `true` if a key of the map matches `query`.
     ///
     /// # Complexity
     ///
@@ -182,7 +182,7 @@ impl<K, V> VecMap<K, V> {
         find_equivalent(&self.pairs, query)
     }
 
-    /// Returns whether no two keys of the map are equal.
+    /// Returns `true` if no two keys of the map are equal.
     ///
     /// # Complexity
     ///

@@ -100,7 +100,8 @@ pub trait MutableKeys: sealed::Sealed {
         Self::Key: Drop,
         Self::Value: Drop,
         F: Drop,
-        requires callable { CallableOnEach (CallsAtPairMut F.FnMut) (TakesPairMut F.FnMut) f (pairs self.old) };
+        requires callable { CallableOnEach (CallsAtPairMut F.FnMut) (TakesPairMut F.FnMut) f
+            (pairs self.old) };
 
     /// Returns an iterator over the pairs in order, each as `(&mut K, &mut V)`.
     ///

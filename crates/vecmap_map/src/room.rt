@@ -23,7 +23,7 @@ impl<K, V> VecMap<K, V> {
         self.pairs.len()
     }
 
-    /// Returns whether the map has no pairs.
+    /// Returns `true` if the map has no pairs.
     ///
     /// # Examples
     ///
@@ -184,7 +184,7 @@ impl<K, V> VecMap<K, V> {
         self.pairs.shrink_to(min_capacity);
     }
 
-    // Returns whether `additional` more pairs fit into the spare capacity.
+    // Returns `true` if `additional` more pairs fit into the spare capacity.
     fn has_room(&self, additional: usize) -> bool
         ensures room { IsTrue result ↔ HasRoom self.now additional }
         ensures within_capacity { HasRoom self.now 0 }

@@ -42,7 +42,8 @@ impl<T: Eq> VecSet<T> {
     ) -> Result<VecSet<T>, AllocError>
     where
         T: Drop,
-        requires ends { IsFiniteIterable I.into_iter_gives I.IntoIter.can_next I.IntoIter.remaining iter }
+        requires ends { IsFiniteIterable I.into_iter_gives I.IntoIter.can_next I.IntoIter.remaining
+            iter }
         ensures elements { IfOk result (λ set. (it : I.IntoIter) × (items : List T)
             × I.into_iter_gives iter it × Drains I.IntoIter.next_gives it items
             × (set.elements ≡ adds T.eq [] items)) }
@@ -161,7 +162,8 @@ impl<T: Eq> VecSet<T> {
     pub fn extend<I: IntoIterator<Item = T>>(&mut self, iter: I) -> Result<(), AllocError>
     where
         T: Drop,
-        requires ends { IsFiniteIterable I.into_iter_gives I.IntoIter.can_next I.IntoIter.remaining iter }
+        requires ends { IsFiniteIterable I.into_iter_gives I.IntoIter.can_next I.IntoIter.remaining
+            iter }
         ensures ran { ExtendsWithItems I.into_iter_gives I.IntoIter.next_gives
             (Adds T.eq) iter self.old self.new result }
         ensures distinct { IsDistinct T.eq self.new.elements }
@@ -209,7 +211,8 @@ impl<T: Eq> VecSet<T> {
     ) -> Result<(), AllocError>
     where
         T: Copy + 'a,
-        requires ends { IsFiniteIterable I.into_iter_gives I.IntoIter.can_next I.IntoIter.remaining iter }
+        requires ends { IsFiniteIterable I.into_iter_gives I.IntoIter.can_next I.IntoIter.remaining
+            iter }
         ensures ran { ExtendsWithItems I.into_iter_gives I.IntoIter.next_gives
             (λ old items new. Adds T.eq old (map deref items) new) iter self.old self.new result }
         ensures distinct { IsDistinct T.eq self.new.elements }

@@ -36,7 +36,8 @@ impl<T: Eq> VecSet<T> {
         T: Clone,
         requires clones_equal { (x y : T) → Contains self.now.elements x → T.is_clone x y
             → IsTrue (T.eq x y) }
-        ensures elements { IfOk result (λ set. AreClones T.is_clone self.now.elements set.elements) }
+        ensures elements { IfOk result
+            (λ set. AreClones T.is_clone self.now.elements set.elements) }
         ensures distinct { IfOk result (λ set. IsDistinct T.eq set.elements) }
     {
         Ok(VecSet {
@@ -80,7 +81,8 @@ impl<T: Eq + Clone> Clone for VecSet<T> {
     }
 }
 
-// Whether no two clones are equal. If each clone is equal to its original, they need not be compared with each other.
+// Returns `true` if no two clones are equal. If each clone is equal to its original, they need not be compared with
+// each other.
 fn stay_distinct<T: Eq>(items: &[T], clones: &[T]) -> bool
     requires { IsDistinct T.eq items.now }
     ensures { IsTrue result ↔ IsDistinct T.eq clones.now }

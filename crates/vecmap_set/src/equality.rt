@@ -7,7 +7,7 @@ use crate::VecSet;
 use vecmap_base::{are_disjoint, are_within};
 
 impl<T: Eq> VecSet<T> {
-    /// Returns whether the sets have no element in common.
+    /// Returns `true` if the sets have no element in common.
     ///
     /// # Complexity
     ///
@@ -30,7 +30,7 @@ impl<T: Eq> VecSet<T> {
         }
     }
 
-    /// Returns whether each element is in `other`.
+    /// Returns `true` if each element is in `other`.
     ///
     /// # Complexity
     ///
@@ -53,7 +53,7 @@ impl<T: Eq> VecSet<T> {
         are_within(items, others)
     }
 
-    /// Returns whether each element of `other` is in this set.
+    /// Returns `true` if each element of `other` is in this set.
     ///
     /// # Complexity
     ///

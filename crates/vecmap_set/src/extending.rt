@@ -38,7 +38,8 @@ impl<T: Eq + Drop> Extend<T> for VecSet<T> {
     ghost extend_gives = { λ old items new. Adds T.eq old items new × IsDistinct T.eq new.elements × (old.capacity ≤ new.capacity) };
 
     fn extend<I: IntoIterator<Item = T>>(&mut self, iter: I) -> Result<(), AllocError>
-        requires ends { IsFiniteIterable I.into_iter_gives I.IntoIter.can_next I.IntoIter.remaining iter }
+        requires ends { IsFiniteIterable I.into_iter_gives I.IntoIter.can_next I.IntoIter.remaining
+            iter }
         ensures ran { ExtendsWithItems I.into_iter_gives I.IntoIter.next_gives
             (λ old items new. Adds T.eq old items new × IsDistinct T.eq new.elements
             × (old.capacity ≤ new.capacity)) iter self.old self.new result }
@@ -79,7 +80,8 @@ impl<'a, T: Eq + Copy + 'a> Extend<&'a T> for VecSet<T> {
     ghost extend_gives = { λ old items new. Adds T.eq old (map deref items) new × IsDistinct T.eq new.elements × (old.capacity ≤ new.capacity) };
 
     fn extend<I: IntoIterator<Item = &'a T>>(&mut self, iter: I) -> Result<(), AllocError>
-        requires ends { IsFiniteIterable I.into_iter_gives I.IntoIter.can_next I.IntoIter.remaining iter }
+        requires ends { IsFiniteIterable I.into_iter_gives I.IntoIter.can_next I.IntoIter.remaining
+            iter }
         ensures ran { ExtendsWithItems I.into_iter_gives I.IntoIter.next_gives
             (λ old items new. Adds T.eq old (map deref items) new × IsDistinct T.eq new.elements
             × (old.capacity ≤ new.capacity)) iter self.old self.new result }

@@ -11,7 +11,7 @@ use std::mem;
 use vecmap_base::{Refused, find_item, is_present};
 
 impl<T: Eq> VecSet<T> {
-    /// Inserts an element and returns whether it is new.
+    /// Inserts an element and returns `true` if it is new.
     ///
     /// An equal element that is present stays as it is, at its index; `item` is dropped and nothing changes. A new
     /// element is appended.

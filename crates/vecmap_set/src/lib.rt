@@ -29,6 +29,15 @@ use std::marker::Model;
 ///
 /// Elements need neither `Hash` nor `Ord`. A lookup compares the elements in order, by `==`, until one matches, so it
 /// makes at most `len` comparisons. A contract sees a set as the list of its elements and its capacity.
+///
+/// # Examples
+///
+/// ```
+/// let mut set = VecSet::from_array(alloc, [3, 1])?;
+/// set.insert(2)? // true
+/// set.insert(1)? // false
+/// set.as_slice() // [3, 1, 2]
+/// ```
 #[derive(Drop)]
 pub struct VecSet<T: Eq> {
     items: Vec<T>,

@@ -11,7 +11,7 @@ use crate::VecSet;
 use vecmap_base::{Equivalent, contains_equivalent, find_item_equivalent};
 
 impl<T: Eq> VecSet<T> {
-    /// Returns whether an element matches `query`.
+    /// Returns `true` if an element matches `query`.
     ///
     /// # Complexity
     ///

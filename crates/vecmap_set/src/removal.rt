@@ -162,7 +162,7 @@ impl<T: Eq> VecSet<T> {
         self.items.pop()
     }
 
-    /// Removes the element that matches `query`, and returns whether there was one.
+    /// Removes the element that matches `query`, and returns `true` if there was one.
     ///
     /// The element is dropped, and the index of each later element decreases by one. If no element matches, nothing
     /// changes.
@@ -223,7 +223,7 @@ impl<T: Eq> VecSet<T> {
         remove_item(&mut self.items, index)
     }
 
-    /// Removes the element that matches `query`, and returns whether there was one.
+    /// Removes the element that matches `query`, and returns `true` if there was one.
     ///
     /// The element is dropped, and the last element moves to its index. If no element matches, nothing changes.
     ///

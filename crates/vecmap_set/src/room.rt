@@ -24,7 +24,7 @@ impl<T: Eq> VecSet<T> {
         self.items.len()
     }
 
-    /// Returns whether the set has no elements.
+    /// Returns `true` if the set has no elements.
     ///
     /// # Examples
     ///
@@ -191,7 +191,7 @@ impl<T: Eq> VecSet<T> {
         self.items.shrink_to(min_capacity);
     }
 
-    // Whether the spare capacity suffices for `additional` more elements.
+    // Returns `true` if the spare capacity suffices for `additional` more elements.
     fn has_room(&self, additional: usize) -> bool
         ensures room { IsTrue result ↔ HasRoom self.now additional }
         ensures within_capacity { HasRoom self.now 0 }

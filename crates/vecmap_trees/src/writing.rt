@@ -74,8 +74,10 @@ impl Json {
     /// ```
     #[cycle(write_at)]
     pub fn write_at(&mut self, path: &[&str], value: Json) -> bool
-        ensures tree { self.new ≡ changed_at (map (λ name. name.now) path.now) (λ _. value) self.old }
-        ensures present { IsTrue result ↔ IsSome (at_path (map (λ name. name.now) path.now) self.old) }
+        ensures tree { self.new
+            ≡ changed_at (map (λ name. name.now) path.now) (λ _. value) self.old }
+        ensures present { IsTrue result
+            ↔ IsSome (at_path (map (λ name. name.now) path.now) self.old) }
     {
         let Some((name, rest)) = path.split_first() else {
             *self = value;
@@ -109,13 +111,15 @@ impl Json {
     /// page.set_at(alloc, &["font", "size", "unit"], Json::Null).is_err() // true
     /// ```
     pub fn set_at(&mut self, alloc: Global, path: &[&str], value: Json) -> Result<(), Refused<Json>>
-        ensures found { OnOk result (at_path (map (λ name. name.now) path.now) self.new ≡ Some value) }
+        ensures found { OnOk result (at_path (map (λ name. name.now) path.now) self.new
+            ≡ Some value) }
         ensures others { OnOk result ((other : List (List ℕ))
             → ArePartedPaths (map (λ name. name.now) path.now) other
             → at_path other self.new ≡ at_path other self.old) }
         ensures tree { IsSome (at_path (map (λ name. name.now) path.now) self.old)
             → self.new ≡ changed_at (map (λ name. name.now) path.now) (λ _. value) self.old }
-        ensures succeeds { IsSome (at_path (map (λ name. name.now) path.now) self.old) → IsOk result }
+        ensures succeeds { IsSome (at_path (map (λ name. name.now) path.now) self.old)
+            → IsOk result }
         ensures given { IfErr result (λ refused. refused.given ≡ value) }
         ensures err { OnErr result (self.new ≡ self.old) }
     {
@@ -134,7 +138,8 @@ impl Json {
 fn write_below(members: &mut VecMap<String, Json>, name: &str, path: &[&str], value: Json) -> bool
     ensures tree { members.new ≡ with_member name.now
         (changed_at (map (λ name. name.now) path.now) (λ _. value)) members.old }
-    ensures present { IsTrue result ↔ IsSome (option_and_then (at_path (map (λ name. name.now) path.now))
+    ensures present { IsTrue result
+        ↔ IsSome (option_and_then (at_path (map (λ name. name.now) path.now))
         (lookup_by (has_text name.now) members.old.entries)) }
 {
     match members.get_mut(name) {

@@ -79,7 +79,7 @@ pub(crate) fn or_insert<K: Eq + Clone, V: Eq + Clone>(
     }
 }
 
-// Appends the pair if its key is new, and returns the index of the key and whether it was new.
+// Appends the pair if its key is new, and returns the index of the key, and `true` if it was new.
 fn put_if_new<K: Eq + Clone, V: Eq + Clone>(
     map: &mut VecMap<K, V>,
     key: K,

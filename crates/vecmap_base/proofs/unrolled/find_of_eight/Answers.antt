@@ -1,5 +1,5 @@
--- Each call that returns `false` adds one item to the front in which no item passes. If none of the eight returns `true`,
--- each returns `false`.
+-- Each call that returns `false` adds one item to the front in which no item passes. If none of the eight returns
+-- `true`, each returns `false`.
 use Rattle.std.proofs.Common.{◌≡◌, ◌+◌, ◌||◌, Bool, false, true, arith, refl, sym, true≢false, ◌∙◌}
 use Rattle.std.proofs.lemmas.Bool.{or_from, or_parts}
 use Rattle.vecmap_base.proofs.IndexLemmas.{none_before_next, position_at}

@@ -1,5 +1,5 @@
--- The idea: the `&mut` to the pair is split into a `&mut` to each part.
--- The clause `writes_back` is worth a proof by hand: what `get_index_mut2` and `get_full_mut2` write back follows from it.
+-- The idea: the `&mut` to the pair is split into a `&mut` to each part. The clause `writes_back` is worth a proof by
+-- hand: what `get_index_mut2` and `get_full_mut2` write back follows from it.
 use Rattle.vecmap_map.proofs.LentLemmas.Steps
 use Steps.{◌≡◌, refl, [], ◌∷◌, a_type, named, Val, vptr, inst_fn}
 use Steps.{SProp, emp, id⊢, ex, ftrue, flft, fsep, GName, ‵, raw, ◌⊛◌, some, later, ◌$◌, ◌∵◌, !, qed, by, move, keep, split, join, fjoin, pick, await, use0, use1, use2, split3}
