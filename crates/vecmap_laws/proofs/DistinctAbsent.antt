@@ -1,4 +1,4 @@
--- Elements that are equal to no element of a list.
+-- Elements of a distinct list that are equal to none before them.
 use Rattle.std.specs.{Cmp.IsEquivalence, List.IsDistinct, List.AllByRecursion, List.list_any}
 use Rattle.std.proofs.Common.{◌≡◌, Bool, false, ◌||◌, List, [], ◌∷◌, ◌++◌, refl, ap, ◌∙◌}
 
