@@ -8,15 +8,14 @@ use Rattle.std.proofs.Common.{sym, ap, ◌∙◌, arith, true≢false}
 use Rattle.std.proofs.lemmas.Slice.Eq.{bytes_eq-Decides}
 use Rattle.vecmap.specs.Equality.{has_same_counts}
 use Rattle.vecmap.specs.Pairs.{lookup}
-use Rattle.vecmap.proofs.MapEquality.{map_equality_laws}
-use Rattle.vecmap.proofs.Lookups.{look}
+use Rattle.vecmap_laws.proofs.MapEquality.{map_equality_laws, equal_where_lookups_agree}
+use Rattle.vecmap_laws.proofs.Lookups.{look}
 use Rattle.attr_doc.specs.Documents.{IsDocument, IsSection, Section, Stored, sections_of, text_of}
 use Rattle.attr_doc.proofs.DocumentLemmas.{names_apart}
 use Rattle.attr_doc.proofs.NameLaws.{ignoring_case_equiv}
 use Rattle.attr_doc.proofs.TextLemmas.{text_at, text_in, text_of_sections}
-use Rattle.vecmap.proofs.MapEquality.{equal_where_lookups_agree}
-use Rattle.vecmap.proofs.EachValue.{holds_of_found, lookup_map_values}
-use Rattle.vecmap.proofs.Queries.{string_equality}
+use Rattle.vecmap_laws.proofs.EachValue.{holds_of_found, lookup_map_values}
+use Rattle.vecmap_laws.proofs.Queries.{string_equality}
 
 abbrev same_section : Section → Section → Bool
 same_section a b = has_same_counts str_eq_ignore_ascii_case string_eq a b

@@ -4,8 +4,8 @@ use Rattle.std.specs.Str.{str_eq_ignore_ascii_case}
 use Rattle.std.proofs.Common.{sym, ap, ◌∙◌}
 use Rattle.vecmap.specs.Pairs.{index_of, lookup}
 use Rattle.attr_doc.specs.Documents.{Section, Stored, sections_of, text_of}
-use Rattle.vecmap.proofs.AfterPuts.{is_some_lookup}
-use Rattle.vecmap.proofs.EachValue.{lookup_map_values}
+use Rattle.vecmap_laws.proofs.AfterPuts.{is_some_lookup}
+use Rattle.vecmap_laws.proofs.EachValue.{lookup_map_values}
 
 -- The text under a name of a section.
 abbrev pub text_in : Section → List ℕ → Option (List ℕ)

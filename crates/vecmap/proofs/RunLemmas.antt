@@ -1,4 +1,4 @@
--- How a run of commands is extended by one more, and what it does to the list alone. By induction on the commands.
+-- How a run of commands is extended by one more. By induction on the commands.
 use Rattle.std.proofs.Common.{Bool, List, [], ◌∷◌, ◌++◌, refl}
 use Rattle.std.specs.declared.clone.Clone as clone
 use Rattle.vecmap.specs.MapRun as maps

@@ -28,8 +28,8 @@
 //!   `crates/vecmap_base/src`)
 //! - mutable references to keys: `MutableKeys`, with `get_full_mut2`, `get_index_mut2`, `retain2`, `iter_mut2`,
 //!   `keys_mut`, `as_mut_slice` (`mutable_keys.rt`)
-//! - `==` (`equality.rt`), `Debug` (`formatting.rt`), the law that a map fits its capacity (`laws.rt`); the other laws are
-//!   in `crates/vecmap_laws`
+//! - `==` (`equality.rt`), `Debug` (`formatting.rt`), the law that a map fits its capacity (`laws.rt`); the other laws
+//!   are in `crates/vecmap_laws`
 pub use vecmap_base::{
     IntoIter, IntoKeys, IntoValues, Iter, IterMut, IterMut2, Keys, KeysMut, Values, ValuesMut,
 };

@@ -1,4 +1,4 @@
--- Lists of clones, index by index, and one more clone that is inserted.
+-- Clones of items that are inserted in order, and one clone more.
 use Rattle.std.proofs.Common.{◌≡◌, List, [], ◌∷◌, ◌++◌, fold, map, sym, ap, subst, ◌∙◌}
 use Rattle.std.proofs.lemmas.{List.map_push, List.Elements.AllZip-push, List.Sums.fold_push}
 use Rattle.vecmap_base.specs.Clones.{AreClones}

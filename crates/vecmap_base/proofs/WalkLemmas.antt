@@ -1,4 +1,4 @@
--- Iterators that are seen as the list of what they have left: what a run of them, or pulls from them, give.
+-- Iterators that are seen as the list of what they have left: what a run of them gives.
 use Rattle.std.proofs.Common.{List, [], ◌∷◌, ap, ◌∙◌, length, map}
 use Rattle.std.proofs.iter.runs.Sources.{as_is, as_is_back, from_back, from_front}
 use Rattle.std.proofs.lemmas.List.{map_push}

@@ -1,4 +1,4 @@
--- What iterators lend and give, and pulls from both ends.
+-- What iterators lend and give.
 use Rattle.std.specs.Prelude.{◌≡◌, ℕ, ◌<◌, ◌^◌, IfSome, List, Option, Some, length}
 use Rattle.std.specs.Borrow.{MutBor}
 use Rattle.std.specs.Iterator.{UpTo, at_most}

@@ -1,7 +1,7 @@
 //! Removal of repeats in place. Nothing is shifted, and one truncation at the end removes the repeats.
 //!
 //! Each item is compared with those before it that stay, in order, up to the first equal one. So n items take at most
-//! n(n-1)/2 comparisons, and exactly as many if no two are equal (see `laws`).
+//! n(n-1)/2 comparisons, and exactly as many if no two are equal (a law of `vecmap_laws`).
 ghost use Rattle.std.specs.Prelude.{◌≡◌, ◌+◌, ◌<◌, ◌≤◌, [], IfSome, length, swap, take, vec_capacity};
 ghost use Rattle.std.specs.List.Sorted.{IsPermutation};
 ghost use Rattle.std.specs.Map.{keys_of, values_of};

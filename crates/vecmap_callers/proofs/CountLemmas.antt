@@ -8,10 +8,10 @@ use Rattle.std.proofs.lemmas.Bool.{cases_Bool}
 use Rattle.std.proofs.lemmas.List.Sums.{count_by_more_no, count_by_more_yes}
 use Rattle.vecmap.specs.Items.{add, adds}
 use Rattle.vecmap.specs.Pairs.{lookup, put}
-use Rattle.vecmap.proofs.AfterPuts.{lookup_put_any}
-use Rattle.vecmap.proofs.ItemAdditions.{adds_more}
-use Rattle.vecmap.proofs.Keys.{keys_of_put}
-use Rattle.vecmap.proofs.Lookups.{lookup_congr}
+use Rattle.vecmap_laws.proofs.AfterPuts.{lookup_put_any}
+use Rattle.vecmap_laws.proofs.ItemAdditions.{adds_more}
+use Rattle.vecmap_laws.proofs.Keys.{keys_of_put}
+use Rattle.vecmap_laws.proofs.Lookups.{lookup_congr}
 use Rattle.vecmap_callers.specs.Words.{count_of}
 
 module _ {K : Type 0} (eq : K → K → Bool) where

@@ -6,7 +6,7 @@ use Rattle.std.specs.Cmp.{IsEquivalence, on_equiv}
 use Rattle.std.specs.Cmp.Lexicographic.{nat_list_eq_equiv}
 use Rattle.std.specs.Str.{str_eq_ignore_ascii_case, str_to_ascii_lowercase}
 use Rattle.vecmap.specs.Pairs.{HasDistinctKeys, lookup, puts}
-use Rattle.vecmap.proofs.AfterPuts.{lookup_puts_distinct}
+use Rattle.vecmap_laws.proofs.AfterPuts.{lookup_puts_distinct}
 use Rattle.vecmap_callers.specs.Headers.{text_of}
 
 ignoring_case_equiv : IsEquivalence str_eq_ignore_ascii_case

@@ -4,7 +4,7 @@ use Rattle.std.specs.Cmp.{IsEquivalence}
 use Rattle.std.specs.Option.{option_or}
 use Rattle.std.proofs.Common.{ap, ◌∙◌}
 use Rattle.vecmap.specs.Pairs.{HasDistinctKeys, lookup, puts}
-use Rattle.vecmap.proofs.AfterPuts.{lookup_puts_distinct, option_or_assoc}
+use Rattle.vecmap_laws.proofs.AfterPuts.{lookup_puts_distinct, option_or_assoc}
 
 -- Overrides that are laid over others are read first, then the others, then the defaults.
 pub laid_over : {K V : Type 0} (eq : K → K → Bool) → IsEquivalence eq → (defaults overrides upper : List (K × V)) → HasDistinctKeys eq upper → (q : K) → option_or (lookup eq (puts eq overrides upper) q) (lookup eq defaults q) ≡ option_or (lookup eq upper q) (option_or (lookup eq overrides q) (lookup eq defaults q))

@@ -9,7 +9,7 @@ use Rattle.std.proofs.lemmas.List.{length-set, take_more_set}
 use Rattle.std.proofs.lemmas.List.Sums.{fold-append, fold_more}
 use Rattle.vecmap.specs.Contents.{Contents}
 use Rattle.vecmap.specs.Pairs.{lookup, put}
-use Rattle.vecmap.proofs.AfterPuts.{lookup_put_any}
+use Rattle.vecmap_laws.proofs.AfterPuts.{lookup_put_any}
 use Rattle.vecmap_callers.specs.Scopes.{resolved}
 
 module _ {X Y : Type 0} (f : Y → X → Y) (z : Y) (s : List X) (n : ℕ) where

@@ -1,7 +1,7 @@
 -- What settings in sections hold: pairs of a section and the map of its settings.
 use Rattle.std.specs.Prelude.{◌≡◌, ℕ, List, ◌++◌, Option, String, fold, if◌then◌else◌, option_map, string_bytes, string_eq}
 use Rattle.vecmap.specs.Contents.{Contents}
-use Rattle.vecmap.specs.Nested.{inner_entries, inner_entries_by}
+use Rattle.vecmap_laws.specs.Nested.{inner_entries, inner_entries_by}
 use Rattle.vecmap.specs.Pairs.{has_text, lookup_by, puts}
 
 module _ {A V : Type 0} where

@@ -2,9 +2,8 @@
 ghost use Rattle.std.specs.Prelude.{◌≡◌, IsTrue, nat_eq};
 ghost use Rattle.vecmap.specs.Equality.{has_same_counts};
 
-use vecmap::map::laws as map_laws;
-use vecmap::set::laws as set_laws;
 use vecmap::{VecMap, VecSet};
+use vecmap_laws::{maps as map_laws, sets as set_laws};
 
 /// Returns `true` if two maps of maps are equal. The `==` of their values is that of maps.
 pub fn are_equal_tables(

@@ -10,8 +10,8 @@ ghost use Rattle.vecmap.specs.Pairs.{HasDistinctKeys, has_text, index_by, lookup
 use crate::names::{Name, NamedAs};
 use std::alloc::{AllocError, Global};
 use vecmap::macros::put_pair;
-use vecmap::map::laws::texts_find_as_strings;
 use vecmap::{Equivalent, VecMap, VecSet};
+use vecmap_laws::maps::texts_find_as_strings;
 
 /// Returns the value of a key, of any type.
 pub fn value_of_key<K: Eq>(map: &VecMap<K, u32>, key: &K) -> Option<u32>

@@ -13,7 +13,7 @@ use crate::names::{Name, NamedAs};
 use std::alloc::{AllocError, Global};
 use std::marker::Model;
 use vecmap::VecMap;
-use vecmap::map::laws;
+use vecmap_laws::maps as laws;
 
 /// Names with their values. A contract sees the list of the names, each with the vector of its values.
 #[derive(Drop)]
@@ -36,7 +36,7 @@ impl Model for HeaderList {
 
 impl HeaderList {
     /// Creates a list without fields.
-    #[tactic(auto, using(vecmap::proofs::Rules::distinct_keys))]
+    #[tactic(auto, using(vecmap_laws::proofs::Rules::distinct_keys))]
     pub fn new(alloc: Global) -> HeaderList
         ensures { result ≡ [] }
     {

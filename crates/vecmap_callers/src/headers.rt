@@ -13,8 +13,8 @@ ghost use Rattle.vecmap_callers.specs.Headers.{text_of};
 use crate::names::{Name, NamedAs};
 use std::alloc::{AllocError, Global};
 use std::marker::Model;
-use vecmap::map::laws;
 use vecmap::{Refused, VecMap};
+use vecmap_laws::maps as laws;
 
 /// Header fields with distinct names. A contract sees the list of their names and texts.
 #[derive(Drop)]
@@ -37,7 +37,7 @@ impl Model for Headers {
 
 impl Headers {
     /// Creates a list without fields.
-    #[tactic(auto, using(vecmap::proofs::Rules::distinct_keys))]
+    #[tactic(auto, using(vecmap_laws::proofs::Rules::distinct_keys))]
     pub fn new(alloc: Global) -> Headers
         ensures { result ≡ [] }
     {
@@ -131,7 +131,7 @@ impl Headers {
     /// # Complexity
     ///
     /// One lookup for each field of `other`.
-    #[tactic(auto, using(vecmap::proofs::Rules::keys, vecmap::proofs::Rules::distinct_keys))]
+    #[tactic(auto, using(vecmap_laws::proofs::Rules::keys, vecmap_laws::proofs::Rules::distinct_keys))]
     pub fn merge(&mut self, other: &mut Headers) -> Result<(), AllocError>
         ensures texts { OnOk result ((name : List ℕ)
             → text_of self.new name ≡ option_or (text_of other.old name) (text_of self.old name)) }

@@ -9,8 +9,8 @@ ghost use Rattle.vecmap_callers.specs.Interner.{id_of, text_of};
 
 use std::alloc::{AllocError, Global};
 use std::marker::Model;
-use vecmap::set::laws;
 use vecmap::{Equivalent, Refused, VecSet};
+use vecmap_laws::sets as laws;
 
 /// Distinct names of any type with `==`. The id of a name is its index. A contract sees the list of names.
 #[derive(Drop)]

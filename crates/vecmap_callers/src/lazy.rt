@@ -2,11 +2,12 @@
 ghost use Rattle.std.specs.Prelude.{◌≡◌, ◌<◌, ◌^◌, ◌↔◌, IfOk, IsTrue, [], length, nat_eq, reverse, slice_get, sum};
 ghost use Rattle.vecmap.specs.Items.{both, only};
 ghost use Rattle.vecmap.specs.Lazy.{longer};
-ghost use Rattle.vecmap.specs.Operators.{lazy_intersection, lazy_union, symmetric_difference_of};
+ghost use Rattle.vecmap_laws.specs.Algebra.{lazy_intersection, lazy_union};
+ghost use Rattle.vecmap.specs.Operators.{symmetric_difference_of};
 
 use std::alloc::{AllocError, Global};
 use vecmap::VecSet;
-use vecmap::set::laws::disjoint_sets_have_no_intersection;
+use vecmap_laws::sets::disjoint_sets_have_no_intersection;
 
 /// Returns the sum of the elements of `a` that are not in `b`, by a loop.
 pub fn sum_of_difference(a: &VecSet<u32>, b: &VecSet<u32>) -> u32

@@ -2,14 +2,14 @@
 ghost use Rattle.std.specs.Prelude.{◌≡◌, List, OnErr, OnOk, Some, String, ℕ, bytes_eq, false, nat_eq, string_eq, true};
 ghost use Rattle.std.specs.declared.alloc.Global.{Global};
 ghost use Rattle.vecmap.specs.Items.{add};
-ghost use Rattle.vecmap.specs.Nested.{inner_entries};
-ghost use Rattle.vecmap.specs.NestedSets.{inner_elements};
+ghost use Rattle.vecmap_laws.specs.Nested.{inner_entries, inner_elements};
 ghost use Rattle.vecmap.specs.Pairs.{has_text, lookup_by, put};
 
 use std::alloc::AllocError;
-use vecmap::laws::inner_additions_are_found;
-use vecmap::map::laws::{inner_insertions_are_found, writes_by_texts_are_insertions};
 use vecmap::{VecMap, VecSet};
+use vecmap_laws::maps::{
+    inner_additions_are_found, inner_insertions_are_found, writes_by_texts_are_insertions,
+};
 
 /// Sets the value under a section and a name. A new section and a new name are appended.
 ///

@@ -9,8 +9,8 @@ ghost use Rattle.vecmap_callers.specs.Options.{Layers, setting};
 
 use std::alloc::{AllocError, Global};
 use std::marker::Model;
-use vecmap::map::laws;
 use vecmap::{Equivalent, Refused, VecMap};
+use vecmap_laws::maps as laws;
 
 /// Values under names of any type with `==`, in two layers. A contract sees the list of each layer.
 #[derive(Drop)]
@@ -32,7 +32,7 @@ impl<K: Eq, V> Model for Options<K, V> {
 
 impl<K: Eq + Drop, V: Drop> Options<K, V> {
     /// Creates a list without options.
-    #[tactic(auto, using(vecmap::proofs::Rules::distinct_keys))]
+    #[tactic(auto, using(vecmap_laws::proofs::Rules::distinct_keys))]
     pub fn new(alloc: Global) -> Options<K, V>
         ensures { result ≡ record { defaults = []; overrides = [] } }
     {
@@ -149,7 +149,7 @@ impl<K: Eq + Drop, V: Drop> Options<K, V> {
     /// # Complexity
     ///
     /// One lookup for each override of `upper`.
-    #[tactic(auto, using(vecmap::proofs::Rules::distinct_keys))]
+    #[tactic(auto, using(vecmap_laws::proofs::Rules::distinct_keys))]
     pub fn overlay(&mut self, upper: &mut Options<K, V>) -> Result<(), AllocError>
         ensures settings { OnOk result ((q : K)
             → setting K.eq self.new q
@@ -172,7 +172,7 @@ impl<K: Eq + Drop, V: Drop> Options<K, V> {
     /// # Complexity
     ///
     /// One lookup for each override.
-    #[tactic(auto, using(vecmap::proofs::Rules::distinct_keys))]
+    #[tactic(auto, using(vecmap_laws::proofs::Rules::distinct_keys))]
     pub fn settle(&mut self) -> Result<(), AllocError>
         ensures settings { OnOk result ((q : K) → setting K.eq self.new q
             ≡ setting K.eq self.old q) }

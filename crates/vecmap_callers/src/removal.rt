@@ -5,8 +5,8 @@ ghost use Rattle.vecmap.specs.Items.{without_item};
 ghost use Rattle.vecmap.specs.Pairs.{HasDistinctKeys};
 
 use std::alloc::AllocError;
-use vecmap::map::laws;
 use vecmap::{VecMap, VecSet};
+use vecmap_laws::maps as laws;
 
 /// Removes an element. What is left is still a set.
 pub fn without<T: Eq + Drop>(set: &mut VecSet<T>, item: &T)

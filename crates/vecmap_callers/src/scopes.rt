@@ -7,8 +7,8 @@ ghost use Rattle.vecmap_callers.specs.Scopes.{outer, resolved};
 
 use std::alloc::{AllocError, Global};
 use std::marker::Model;
-use vecmap::map::laws;
 use vecmap::{Refused, VecMap};
+use vecmap_laws::maps as laws;
 
 /// Nested scopes of names of any type with `==`. There is always at least one scope. A contract sees the list of their
 /// contents, the innermost last.

@@ -5,14 +5,14 @@
 ghost use Rattle.std.specs.Prelude.{◌≡◌, ℕ, List, OnErr, OnOk, String, [], bytes_eq, false, option_map, string_eq};
 ghost use Rattle.std.specs.Option.{option_or};
 ghost use Rattle.std.specs.declared.alloc.Global.{Global};
-ghost use Rattle.vecmap.specs.Nested.{inner_entries, inner_entries_by};
+ghost use Rattle.vecmap_laws.specs.Nested.{inner_entries, inner_entries_by};
 ghost use Rattle.vecmap.specs.Pairs.{has_text, put, puts, without_by};
 ghost use Rattle.vecmap_callers.specs.Settings.{IsMerged, IsMergedInPart, text_at};
 
 use crate::nested;
 use std::alloc::{AllocError, Global};
 use vecmap::VecMap;
-use vecmap::map::laws;
+use vecmap_laws::maps as laws;
 
 /// Texts under a section and a name.
 pub type Sections = VecMap<String, VecMap<String, String>>;

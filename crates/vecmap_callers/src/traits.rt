@@ -5,9 +5,9 @@ ghost use Rattle.std.specs.List.{AllZip};
 ghost use Rattle.vecmap.specs.Pairs.{puts};
 
 use std::alloc::{AllocError, Global};
-use vecmap::map::laws::collecting_one_more_is_extending;
-use vecmap::set::laws::collecting_one_more_is_extending as collecting_one_more_element;
 use vecmap::{VecMap, VecSet};
+use vecmap_laws::maps::collecting_one_more_is_extending;
+use vecmap_laws::sets::collecting_one_more_is_extending as collecting_one_more_element;
 
 /// Collects the pairs into a map, or returns the first error among them.
 pub fn all_pairs(

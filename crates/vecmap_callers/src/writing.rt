@@ -2,11 +2,12 @@
 //! map, without a proof by hand.
 ghost use Rattle.std.specs.Map.{values_of};
 ghost use Rattle.std.specs.Prelude.{◌≡◌, ◌+◌, ◌<◌, ◌∷◌, ℕ, List, [], count_by, length, nat_lt, option_map};
-ghost use Rattle.vecmap.specs.Walks.{Pulls, back, deref_mut, front};
+ghost use Rattle.vecmap_laws.specs.Pulls.{Pulls, back, front};
+ghost use Rattle.vecmap.specs.Walks.{deref_mut};
 
 use vecmap::VecMap;
-use vecmap::map::laws::mutable_iterators_pull_as_lists;
 use vecmap::map::{MutableKeys, ValuesMut};
+use vecmap_laws::maps::mutable_iterators_pull_as_lists;
 
 /// Writes a value at each key, by a loop over the map.
 pub fn write_all<K, V: Copy>(map: &mut VecMap<K, V>, value: V)

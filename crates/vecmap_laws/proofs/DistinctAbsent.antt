@@ -1,6 +1,7 @@
--- Elements that are equal to no element of a list.
+-- Elements that are equal to no element of a list, or to none before them.
 use Rattle.std.specs.{Cmp.IsEquivalence, List.IsDistinct, List.AllByRecursion, List.list_any}
 use Rattle.std.proofs.Common.{◌≡◌, Bool, false, ◌||◌, List, [], ◌∷◌, ◌++◌, refl, ap, ◌∙◌}
+pub use Rattle.vecmap_base.proofs.DistinctLemmas.Absent.{distinct_if_absent, distinct_none, none_equal}
 
 module _ {T : Type 0} (eq : T → T → Bool) where
   apart_later : (x y : T) (xs ys : List T) → AllByRecursion (λ z. eq x z ≡ false) (xs ++ y ∷ ys) → eq x y ≡ false

@@ -5,9 +5,8 @@ use Rattle.std.specs.Option.{option_map}
 use Rattle.std.proofs.Common.{ap, subst, sym, ◌∙◌}
 use Rattle.std.proofs.lemmas.Iterator.Adapters.{option_map_id}
 use Rattle.vecmap_base.specs.Drain.{DrainsFirst, DrainsLast}
-use Rattle.vecmap_base.specs.Walks.{back, front}
 use Rattle.vecmap_laws.proofs.WalkLemmas.{pulls_by}
-use Rattle.vecmap_laws.specs.Pulls.{End, Pulls, PullsBy}
+use Rattle.vecmap_laws.specs.Pulls.{End, Pulls, PullsBy, back, front}
 pub use Rattle.vecmap_base.proofs.DrainRuns.{drains_in_order, drains_in_reverse, keeps_along, keeps_along_back, drains}
 
 each_as_is : {A : Type 0} (items : List (Option A)) → map (option_map (λ x. x)) items ≡ items

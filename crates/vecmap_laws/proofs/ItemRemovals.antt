@@ -1,4 +1,4 @@
--- What a removal leaves, and whether the rest of a list has an equal element.
+-- What a removal leaves.
 use Rattle.std.specs.Set.{is_member}
 use Rattle.std.specs.{Cmp.IsEquivalence, List.IsDistinct}
 use Rattle.std.proofs.Common.{◌≡◌, Bool, false, ◌||◌, List, [], ◌∷◌, if◌then◌else◌, refl, ap, ◌∙◌, inl, inr}

@@ -1,4 +1,4 @@
--- A list from which a closure selects item by item. Its front has the items kept so far, and its rest is unchanged.
+-- What a closure leaves of a list if each call returns the result of a test, or writes the item in the same way.
 use Rattle.std.specs.Prelude.{◌≡◌, ℕ, ◌≤◌, Bool, true, List, [], ◌∷◌, drop, filter, if◌then◌else◌, length, map, refl, take}
 use Rattle.std.specs.List.{FoldsTo}
 use Rattle.std.proofs.Common.{arith, subst, sym, ◌∙◌}

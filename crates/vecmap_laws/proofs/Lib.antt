@@ -4,7 +4,7 @@ pub mod AlgebraLemmas
 pub use Rattle.vecmap_base.proofs.CloneLemmas
 mod ComparisonLemmas
 pub use Rattle.vecmap_map.proofs.ContentsLemmas
-mod DistinctAbsent
+pub mod DistinctAbsent
 pub mod DistinctAdditions
 pub mod DistinctKeys
 pub use Rattle.vecmap_base.proofs.DistinctLemmas.Order as DistinctOrder

@@ -1,4 +1,4 @@
--- Lemmas for common goals, in lists that a function names by `using(vecmap::proofs::Rules::..)`.
+-- Lemmas for common goals, in lists that a function names by `using(vecmap_laws::proofs::Rules::..)`.
 use Rattle.std.specs.Prelude.{◌≡◌, Bool, Err, List, Ok, OnErr, Result, []}
 use Rattle.std.proofs.Common.{subst, sym}
 use Rattle.std.specs.List.{IsDistinct}

@@ -12,6 +12,7 @@ use Rattle.vecmap.specs.declared.set_run.command.SetCommand.TheVariants as comma
 use Rattle.vecmap.specs.declared.set_run.reply.SetReply.{SetReply}
 use Rattle.vecmap.specs.declared.set_run.reply.SetReply.TheVariants.{Truth}
 use Rattle.vecmap_base.specs.{Items.adds, Pairs.puts}
+use Rattle.vecmap_laws.specs.Runs.{ListRun, SetListRun}
 use Rattle.vecmap_map.specs.Contents.{Contents}
 use Rattle.vecmap_set.specs.Contents as set
 pub use Rattle.vecmap.proofs.RunLemmas.{run_push, run_set_push}

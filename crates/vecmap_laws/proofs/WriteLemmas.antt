@@ -1,5 +1,5 @@
--- What lookups find after a write of the value that a query finds. The idea: the write is `put` of any key that the
--- query matches, so the lemmas on `put` hold.
+-- A write of the value that a key or a query finds, and what lookups find after it. The idea: the write is `put` of any
+-- key that the query matches, so the lemmas on `put` hold.
 use Rattle.std.specs.Option.{option_map_or}
 use Rattle.std.proofs.Common.{◌≡◌, ℕ, Bool, List, [], ◌∷◌, ◌++◌, None, Option, Some, IsSome, ap, refl, sym, true≢false, ◌∙◌, false, IsTrue, bytes_eq, string_bytes, string_eq, String, unwrap_or, subst, get_or}
 use Rattle.vecmap_base.specs.Pairs.{index_of, put, with_value, has_text, index_by, lookup, lookup_by, value_at}

@@ -1,4 +1,4 @@
--- A write of a value leaves what `put` gives, and a loan of the pairs what was last written through it.
+-- A loan of the pairs leaves what was last written through it.
 use Rattle.std.specs.List.{refill}
 use Rattle.std.proofs.Common.{◌≡◌, ℕ, List, ap, length, ◌∙◌}
 use Rattle.vecmap_map.specs.Contents.{Contents, with_entries, with_written}

@@ -38,7 +38,8 @@ impl<K, V> VecMap<K, V> {
     /// # Complexity
     ///
     /// Each key is compared with the keys before it that stay, up to the first equal one. These are at most n(n-1)/2
-    /// comparisons for n pairs, and exactly as many if no two keys are equal (`laws::key_comparisons_are_bounded`).
+    /// comparisons for n pairs, and exactly as many if no two keys are equal (`key_comparisons_are_bounded` of
+    /// `vecmap_laws`).
     ///
     /// # Examples
     ///

@@ -1,5 +1,4 @@
--- Pulls of iterators over the elements that are kept. The idea: a pull at either end keeps or passes one element after
--- the other.
+-- Runs of the lazy iterators, and bounds of the number of elements that they have left.
 use Rattle.std.proofs.Common.{ℕ, ◌≤◌, ◌+◌, length-append, Bool, List, Option, None, Some, ap, length, not, arith, refl}
 use Rattle.std.proofs.lemmas.List.Filters.{length-filter_both}
 use Rattle.std.proofs.iter.runs.Sources.{from_front, from_back}

@@ -38,7 +38,8 @@ impl<T: Eq> VecSet<T> {
     /// # Complexity
     ///
     /// Each element is compared with the elements before it that stay, up to the first equal one. These are at most
-    /// n(n-1)/2 comparisons for n elements, and exactly as many if no two are equal (`laws::comparisons_are_bounded`).
+    /// n(n-1)/2 comparisons for n elements, and exactly as many if no two are equal (`comparisons_are_bounded` of
+    /// `vecmap_laws`).
     ///
     /// # Examples
     ///

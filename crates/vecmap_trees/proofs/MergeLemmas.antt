@@ -10,10 +10,10 @@ use Rattle.std.proofs.lemmas.Map.Keys.{IsDistinct-head, IsDistinct-tail}
 use Rattle.std.proofs.lemmas.Slice.Eq.{bytes_eq-Decides}
 use Rattle.vecmap.specs.Contents.{with_value_by}
 use Rattle.vecmap.specs.Pairs.{has_text, index_by, lookup_by}
-use Rattle.vecmap.proofs.Lookups.{look, lookup_absent}
-use Rattle.vecmap.proofs.Queries.{lookup_by_query, same_text, string_equality, text_respects}
-use Rattle.vecmap.proofs.WriteLemmas.{lookup_written, lookup_written_other_text}
-use Rattle.vecmap_base.proofs.DistinctLemmas.Absent.{none_equal}
+use Rattle.vecmap_laws.proofs.Lookups.{look, lookup_absent}
+use Rattle.vecmap_laws.proofs.Queries.{lookup_by_query, same_text, string_equality, text_respects}
+use Rattle.vecmap_laws.proofs.WriteLemmas.{lookup_written, lookup_written_other_text}
+use Rattle.vecmap_laws.proofs.DistinctAbsent.{none_equal}
 use Rattle.vecmap_trees.specs.Trees.{AreDistinctMembers, HasDistinctNames, IsObject, IsObjectLayer, IsOldOrMerged, Members, at_path, is_object_layer, leaf_at, leaf_of_layer, member, members, members_of_layer, merged_below, merged_leaf}
 use Rattle.vecmap_trees.specs.declared.Json.{Json, out-Json}
 use Rattle.vecmap_trees.specs.declared.Json.TheOpen.{Json-F, Object}

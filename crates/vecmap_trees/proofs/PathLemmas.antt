@@ -6,8 +6,8 @@ use Rattle.std.proofs.Common.{ap, sym, subst, ◌∙◌, inl, inr}
 use Rattle.std.specs.declared.alloc.Global.{Global}
 use Rattle.vecmap.specs.Contents.{with_value_by}
 use Rattle.vecmap.specs.Pairs.{has_text, index_by, lookup_by, value_at}
-use Rattle.vecmap.proofs.Queries.{string_equality, text_respects}
-use Rattle.vecmap.proofs.WriteLemmas.{lookup_written, lookup_written_other_text, written_back}
+use Rattle.vecmap_laws.proofs.Queries.{string_equality, text_respects}
+use Rattle.vecmap_laws.proofs.WriteLemmas.{lookup_written, lookup_written_other_text, written_back}
 use Rattle.vecmap_trees.specs.Trees.{ArePartedPaths, Members, at_path, changed_at, layer_with_members, member, members, members_of_layer, with_member}
 use Rattle.vecmap_trees.specs.declared.Json.{Json, out-Json, roll-Json}
 use Rattle.vecmap_trees.specs.declared.Json.TheOpen.{Json-F, Object}

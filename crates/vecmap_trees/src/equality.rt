@@ -9,7 +9,7 @@ ghost use Rattle.vecmap_trees.specs.Trees.{IsObject, members};
 
 use crate::Json;
 use vecmap::VecMap;
-use vecmap::map::laws::{equality_ignores_order, equality_is_agreement};
+use vecmap_laws::maps::{equality_ignores_order, equality_is_agreement};
 
 /// Returns `true` if two values are equal, as `==` does.
 ///

@@ -7,7 +7,7 @@ ghost use Rattle.vecmap_trees.specs.Trees.{ArePartedPaths, at_path};
 use crate::Json;
 use std::alloc::Global;
 use vecmap::VecMap;
-use vecmap::map::laws::{texts_find_as_strings, writes_by_texts_are_insertions};
+use vecmap_laws::maps::{texts_find_as_strings, writes_by_texts_are_insertions};
 
 // Makes a path lead to a value, and returns `true` if it does. What is missing is created, with `null` at its end.
 #[cycle(make_path)]

@@ -7,7 +7,7 @@ ghost use Rattle.vecmap_trees.specs.Trees.{AreDistinctMembers, HasDistinctNames,
 use crate::Json;
 use std::alloc::AllocError;
 use vecmap::VecMap;
-use vecmap::map::laws::{texts_find_as_strings, writes_by_texts_are_insertions};
+use vecmap_laws::maps::{texts_find_as_strings, writes_by_texts_are_insertions};
 
 impl Json {
     /// Moves the members of another object into this one. If both have a member of a name, it keeps its index, and gets

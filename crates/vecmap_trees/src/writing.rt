@@ -8,8 +8,8 @@ use crate::Json;
 use crate::growing::make_path;
 use crate::laws::{changes_are_found, changes_are_not_seen_elsewhere};
 use std::alloc::Global;
-use vecmap::map::laws::texts_find_as_strings;
 use vecmap::{Refused, VecMap};
+use vecmap_laws::maps::texts_find_as_strings;
 
 impl Json {
     /// Sets a member of an object, and returns its previous value. An existing member keeps its index, and a new one is

@@ -1,4 +1,4 @@
--- The indices of elements, before and after an addition.
+-- The index of an element in the rest of a list.
 use Rattle.std.proofs.Common.{◌≡◌, ℕ, Bool, List, length, ap, ◌∙◌, ◌-◌, drop, is_some, take}
 use Rattle.std.specs.List.{list_any}
 use Rattle.std.proofs.lemmas.List.{take_rest}

@@ -1,4 +1,4 @@
--- The definitions on elements, for an empty list and for a list with one element more.
+-- The definitions on elements, for a list with one element more.
 use Rattle.std.specs.Option.{option_map}
 use Rattle.std.specs.Set.{is_member}
 use Rattle.std.proofs.Common.{◌≡◌, suc, Bool, true, false, ◌||◌, List, [], ◌∷◌, ◌++◌, Some, if◌then◌else◌, refl}

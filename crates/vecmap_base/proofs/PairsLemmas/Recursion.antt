@@ -1,4 +1,4 @@
--- The definitions on pairs, for an empty list and for a list with one pair more.
+-- The definitions on pairs, for a list with one pair more.
 use Rattle.std.specs.Option.{option_map, option_map_or, option_and_then}
 use Rattle.std.proofs.Common.{◌≡◌, ℕ, suc, Bool, true, false, List, [], ◌∷◌, ◌++◌, Option, None, Some, if◌then◌else◌, refl, ap, ◌∙◌}
 use Rattle.vecmap_base.specs.Pairs.{index_of, put, with_value, index_by, lookup_by, value_at}

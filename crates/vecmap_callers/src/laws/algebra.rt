@@ -2,11 +2,12 @@
 ghost use Rattle.std.specs.List.{IsDistinct};
 ghost use Rattle.std.specs.Prelude.{◌≡◌, ◌+◌, IfOk, IsTrue, length, nat_eq};
 ghost use Rattle.vecmap.specs.Equality.{has_same_items};
-ghost use Rattle.vecmap.specs.Operators.{lazy_intersection, union_of};
+ghost use Rattle.vecmap_laws.specs.Algebra.{lazy_intersection};
+ghost use Rattle.vecmap.specs.Operators.{union_of};
 
 use std::alloc::{AllocError, Global};
 use vecmap::VecSet;
-use vecmap::set::laws::{
+use vecmap_laws::sets::{
     algebra_is_symmetric, lazy_iterators_agree_with_operators, lazy_iterators_give_no_repeats,
     lengths_of_intersection_and_union_add_up,
 };

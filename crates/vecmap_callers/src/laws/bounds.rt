@@ -4,9 +4,11 @@ ghost use Rattle.vecmap.specs.Items.{add};
 ghost use Rattle.vecmap.specs.Pairs.{put};
 ghost use Rattle.vecmap.specs.Repeats.{cost};
 
-use vecmap::map::laws::{key_comparisons_are_bounded, pairs_fit_the_capacity};
-use vecmap::set::laws::{comparisons_are_bounded, elements_fit_the_capacity};
+use vecmap::map::laws::pairs_fit_the_capacity;
+use vecmap::set::laws::elements_fit_the_capacity;
 use vecmap::{VecMap, VecSet};
+use vecmap_laws::maps::key_comparisons_are_bounded;
+use vecmap_laws::sets::comparisons_are_bounded;
 
 /// Replaces the last pair. Nothing is refused, since a map has at most as many pairs as its capacity.
 pub fn replace_last(map: &mut VecMap<u32, u32>, key: u32, value: u32)

@@ -6,12 +6,12 @@ ghost use Rattle.vecmap.specs.Items.{adds};
 ghost use Rattle.vecmap.specs.Pairs.{HasDistinctKeys};
 
 use std::alloc::AllocError;
-use vecmap::map::laws::{
+use vecmap::{VecMap, VecSet};
+use vecmap_laws::maps::{
     clones_keep_keys_distinct, order_keeps_keys_distinct, parts_keep_keys_distinct,
     removal_keeps_keys_distinct,
 };
-use vecmap::set::laws as set_laws;
-use vecmap::{VecMap, VecSet};
+use vecmap_laws::sets as set_laws;
 
 /// Splits a map in two. If no keys repeat, none repeat in either part.
 pub fn halves<K: Eq, V>(map: &mut VecMap<K, V>, at: usize) -> Result<VecMap<K, V>, AllocError>

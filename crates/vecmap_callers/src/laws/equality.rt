@@ -6,9 +6,9 @@ ghost use Rattle.vecmap.specs.Items.{both};
 ghost use Rattle.vecmap.specs.Pairs.{HasDistinctKeys, lookup};
 
 use std::alloc::AllocError;
-use vecmap::map::laws::{equality_ignores_order, equality_is_agreement, lengths_tell_of_equality};
-use vecmap::set::laws as set_laws;
 use vecmap::{VecMap, VecSet};
+use vecmap_laws::maps::{equality_ignores_order, equality_is_agreement, lengths_tell_of_equality};
+use vecmap_laws::sets as set_laws;
 
 /// Sorts the keys. The map is equal to what it was.
 pub fn sorted_is_equal(map: &mut VecMap<u32, u32>)

@@ -6,7 +6,7 @@ ghost use Rattle.vecmap.specs.Pairs.{HasDistinctKeys, index_of, lookup};
 use crate::laws::retaining::raise_all;
 use std::alloc::AllocError;
 use vecmap::VecMap;
-use vecmap::map::laws::{
+use vecmap_laws::maps::{
     bulk_insertions_are_single_ones, entries_insert_alike, equal_keys_find_the_same,
     first_parts_are_found_first, functions_of_values_are_found, stored_pairs_are_found,
 };

@@ -5,12 +5,12 @@ ghost use Rattle.std.specs.Set.{is_member};
 ghost use Rattle.vecmap.specs.Items.{item_index};
 
 use std::alloc::AllocError;
-use vecmap::set::laws::{
+use vecmap::{Refused, VecSet};
+use vecmap_laws::sets::{
     added_elements_are_present, bulk_additions_are_single_ones, bulk_additions_move_nothing,
     clones_have_the_same_members, operators_combine_members, removals_are_forgotten,
     retain_filters,
 };
-use vecmap::{Refused, VecSet};
 
 /// Adds an element. What was present is then present, and what is equal to the element.
 pub fn include<T: Eq + Drop>(set: &mut VecSet<T>, item: T) -> Result<(), Refused<T>>

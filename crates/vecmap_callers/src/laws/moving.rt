@@ -2,11 +2,12 @@
 ghost use Rattle.std.specs.Prelude.{◌≡◌, ◌<◌, ℕ, None, OnOk, Some, if◌then◌else◌, length, nat_eq, slice_get};
 ghost use Rattle.vecmap.specs.Pairs.{HasDistinctKeys, index_of, lookup, with_pair};
 
-use vecmap::map::laws::{
-    insertions_at_an_index_are_found, moves_keep_lookups, order_keeps_lookups,
-    pairs_fit_the_capacity, removals_by_index_are_undone,
-};
+use vecmap::map::laws::pairs_fit_the_capacity;
 use vecmap::{Refused, VecMap};
+use vecmap_laws::maps::{
+    insertions_at_an_index_are_found, moves_keep_lookups, order_keeps_lookups,
+    removals_by_index_are_undone,
+};
 
 /// Inserts a pair in front of all others. Its key finds the value, and other keys find what they found before.
 pub fn insert_first(

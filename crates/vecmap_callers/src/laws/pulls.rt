@@ -2,11 +2,11 @@
 ghost use Rattle.std.specs.Map.Iter.{deref, deref_pair};
 ghost use Rattle.std.specs.Prelude.{◌≤◌, ℕ, List, [], ◌∷◌, length, nat_eq, option_map, take};
 ghost use Rattle.vecmap.specs.Items.{only};
-ghost use Rattle.vecmap.specs.Walks.{Pulls, back, front};
+ghost use Rattle.vecmap_laws.specs.Pulls.{Pulls, back, front};
 
-use vecmap::map::laws::{drains_pull_as_lists, iterators_pull_as_lists};
-use vecmap::set::laws as set_laws;
 use vecmap::{VecMap, VecSet};
+use vecmap_laws::maps::{drains_pull_as_lists, iterators_pull_as_lists};
+use vecmap_laws::sets as set_laws;
 
 /// Returns the first and then the last pair, as two pulls from the list of the map.
 pub fn ends(map: &VecMap<u32, u32>) -> (Option<(&u32, &u32)>, Option<(&u32, &u32)>)

@@ -3,9 +3,9 @@ ghost use Rattle.std.specs.Prelude.{◌≡◌, OnOk, Some, false, length, positi
 ghost use Rattle.vecmap.specs.Items.{swap_without_item};
 ghost use Rattle.vecmap.specs.Pairs.{lookup, lookup_by, swap_without_key};
 
-use vecmap::map::laws::{queries_find_as_keys, writes_by_queries_are_insertions};
-use vecmap::set::laws::{queries_find_after_additions, queries_find_as_elements};
 use vecmap::{Equivalent, Refused, VecMap, VecSet};
+use vecmap_laws::maps::{queries_find_as_keys, writes_by_queries_are_insertions};
+use vecmap_laws::sets::{queries_find_after_additions, queries_find_as_elements};
 
 /// Removes the pair of the key that a query matches, as a removal by that key does.
 pub fn forget<K: Eq + Drop, V: Drop, Q: Equivalent<K>>(map: &mut VecMap<K, V>, query: Q)

@@ -5,7 +5,7 @@ ghost use Rattle.vecmap.specs.Pairs.{HasDistinctKeys, map_values};
 use std::alloc::AllocError;
 use vecmap::VecMap;
 use vecmap::map::MutableKeys;
-use vecmap::map::laws::{
+use vecmap_laws::maps::{
     clones_have_the_same_pairs, retain_filters_or_writes, retain2_filters_or_writes,
     retaining_keeps_keys_distinct,
 };

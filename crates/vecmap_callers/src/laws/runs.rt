@@ -1,22 +1,21 @@
 //! Callers of laws about runs of commands.
 ghost use Rattle.std.specs.Prelude.{◌≡◌, ℕ, All, Bool, IfOk, List, Option, map, nat_eq};
 ghost use Rattle.vecmap.specs.Items.{adds};
-ghost use Rattle.vecmap.specs.MapRun as maps;
 ghost use Rattle.vecmap.specs.Pairs.{puts};
-ghost use Rattle.vecmap.specs.Reads.{IsRead, IsSetRead};
-ghost use Rattle.vecmap.specs.SetRun as sets;
 ghost use Rattle.vecmap.specs.declared.map_run.command.MapCommand.TheVariants as map_commands;
 ghost use Rattle.vecmap.specs.declared.map_run.reply.MapReply.TheVariants as map_replies;
 ghost use Rattle.vecmap.specs.declared.set_run.command.SetCommand.TheVariants as set_commands;
 ghost use Rattle.vecmap.specs.declared.set_run.reply.SetReply.TheVariants as set_replies;
+ghost use Rattle.vecmap_laws.specs.Reads.{IsRead, IsSetRead};
+ghost use Rattle.vecmap_laws.specs.Runs.{ListRun, SetListRun};
 
 use std::alloc::{AllocError, Global};
-use vecmap::laws::{
+use vecmap::{MapCommand, MapReply, SetCommand, SetReply, VecMap, VecSet, run, run_set};
+use vecmap_laws::runs::{
     runs_of_additions_are_bulk_additions, runs_of_insertions_are_bulk_insertions,
     runs_of_maps_are_of_lists, runs_of_reads_leave_maps, runs_of_reads_leave_sets,
     runs_of_sets_are_of_lists,
 };
-use vecmap::{MapCommand, MapReply, SetCommand, SetReply, VecMap, VecSet, run, run_set};
 
 /// Runs commands on a map, which stays as it is if all of them only read.
 pub fn ask_map<K: Eq + Clone, V: Eq + Clone>(
@@ -50,7 +49,7 @@ pub fn run_on_list<K: Eq + Clone, V: Eq + Clone>(
     map: &mut VecMap<K, V>,
     commands: Vec<MapCommand<K, V>>,
 ) -> Result<Vec<MapReply<K, V>>, AllocError>
-    ensures { IfOk result (λ replies. maps.ListRun K.eq V.eq K.Clone V.Clone
+    ensures { IfOk result (λ replies. ListRun K.eq V.eq K.Clone V.Clone
         map.old.entries commands.items replies.items map.new.entries) }
 {
     runs_of_maps_are_of_lists::<K, V>();
@@ -64,7 +63,7 @@ pub fn run_on_set_list(
     set: &mut VecSet<u32>,
     commands: Vec<SetCommand<u32>>,
 ) -> Result<Vec<SetReply<u32>>, AllocError>
-    ensures { IfOk result (λ replies. sets.ListRun nat_eq ⟦<u32 as Clone>⟧
+    ensures { IfOk result (λ replies. SetListRun nat_eq ⟦<u32 as Clone>⟧
         set.old.elements commands.items replies.items set.new.elements) }
 {
     runs_of_sets_are_of_lists::<u32>();

@@ -1,7 +1,7 @@
 use Rattle.std.specs.Set.{is_member}
 use Rattle.std.proofs.Common.{◌≡◌, ◌+◌, nat_eq, sum}
 use Rattle.vecmap.specs.Lazy.{sift_rest}
-use Rattle.vecmap.specs.Operators.{lazy_intersection}
+use Rattle.vecmap_laws.specs.Algebra.{lazy_intersection}
 use Rattle.vecmap_callers.proofs.lazy.sum_of_intersection.Given as goal
 
 abbrev pub invariant-loop-item : goal.invariant-loop-item

@@ -1,6 +1,6 @@
 use Rattle.std.proofs.Common.{◌≡◌, ◌+◌, nat_eq, sum}
 use Rattle.vecmap.specs.Lazy.{union_rest}
-use Rattle.vecmap.specs.Operators.{lazy_union}
+use Rattle.vecmap_laws.specs.Algebra.{lazy_union}
 use Rattle.vecmap_callers.proofs.lazy.sum_of_union.Given as goal
 
 abbrev pub invariant-loop-item : goal.invariant-loop-item

@@ -1,5 +1,5 @@
 use Rattle.std.proofs.Common.{rules}
-use Rattle.vecmap.proofs.Rules.{on_err}
+use Rattle.vecmap_laws.proofs.Rules.{on_err}
 use Rattle.vecmap_callers.proofs.nested.join.Goals as goal
 
 pub returns-clause-written : goal.returns-clause-written

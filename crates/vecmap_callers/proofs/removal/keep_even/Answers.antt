@@ -1,5 +1,5 @@
 use Rattle.std.proofs.Common.{rules}
-use Rattle.vecmap.proofs.KeptLemmas.{kept_by_test}
+use Rattle.vecmap_laws.proofs.KeptLemmas.{kept_by_test}
 use Rattle.vecmap_callers.proofs.removal.keep_even.Goals as goal
 
 pub returns-clause-entries : goal.returns-clause-entries

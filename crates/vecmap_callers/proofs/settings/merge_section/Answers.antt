@@ -1,10 +1,10 @@
 use Rattle.std.specs.Prelude.{string_eq}
 use Rattle.std.proofs.Common.{rules}
-use Rattle.vecmap.specs.Nested.{IsMadeEmpty}
+use Rattle.vecmap_laws.specs.Nested.{IsMadeEmpty}
 use Rattle.vecmap.specs.Pairs.{puts}
-use Rattle.vecmap.proofs.NestedLemmas.{inner_entered}
-use Rattle.vecmap.proofs.Queries.{string_equality}
-use Rattle.vecmap.proofs.Rules.{on_err}
+use Rattle.vecmap_laws.proofs.NestedLemmas.{inner_entered}
+use Rattle.vecmap_laws.proofs.Queries.{string_equality}
+use Rattle.vecmap_laws.proofs.Rules.{on_err}
 use Rattle.vecmap_callers.proofs.settings.merge_section.Goals as goal
 
 pub returns-in_err-append-clause-err : goal.returns-in_err-append-clause-err

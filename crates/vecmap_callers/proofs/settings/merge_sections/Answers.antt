@@ -1,8 +1,8 @@
 use Rattle.std.specs.Prelude.{[], ◌∷◌, ◌++◌, string_eq}
 use Rattle.std.proofs.Common.{ap, append_assoc, arith, sym, ◌∙◌}
 use Rattle.std.proofs.lemmas.List.Sums.{fold-append}
-use Rattle.vecmap.proofs.NestedLemmas.{inner_congr}
-use Rattle.vecmap.proofs.Queries.{string_equality}
+use Rattle.vecmap_laws.proofs.NestedLemmas.{inner_congr}
+use Rattle.vecmap_laws.proofs.Queries.{string_equality}
 use Rattle.vecmap_callers.proofs.settings.merge_sections.Goals as goal
 
 pub loop-section-preserved : goal.loop-section-preserved

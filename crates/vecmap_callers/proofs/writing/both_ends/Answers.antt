@@ -1,6 +1,7 @@
 use Rattle.std.proofs.Common.{[], ◌∷◌, refl}
 use Rattle.vecmap.specs.Lending.{values_mut_rest}
-use Rattle.vecmap.specs.Walks.{back, deref_mut, front}
+use Rattle.vecmap_laws.specs.Pulls.{back, front}
+use Rattle.vecmap.specs.Walks.{deref_mut}
 use Rattle.vecmap_callers.proofs.writing.both_ends.Goals as goal
 
 pub returns : goal.returns

@@ -1,11 +1,11 @@
 ghost use Rattle.std.specs.Prelude.{◌≡◌, OnOk, String, false, string_eq};
 ghost use Rattle.std.specs.declared.alloc.Global.{Global};
-ghost use Rattle.vecmap.specs.Nested.{inner_entries};
+ghost use Rattle.vecmap_laws.specs.Nested.{inner_entries};
 ghost use Rattle.vecmap.specs.Pairs.{put};
 
 use std::alloc::AllocError;
 use vecmap::VecMap;
-use vecmap::map::laws::inner_insertions_are_found;
+use vecmap_laws::maps::inner_insertions_are_found;
 
 /// Sets a value under a section and a name. The other sections stay.
 pub fn set_in(

@@ -1,8 +1,8 @@
 ghost use Rattle.std.specs.Prelude.{◌≡◌, ◌<◌, ℕ, IfOk, OnErr, Some, length, slice_get, string_eq};
 ghost use Rattle.vecmap.specs.Items.{item_index};
 
-use vecmap::set::laws::additions_move_nothing;
 use vecmap::{Refused, VecSet};
+use vecmap_laws::sets::additions_move_nothing;
 
 /// Returns the number of a name. A new name gets the next number, and keeps it.
 pub fn intern(names: &mut VecSet<String>, name: String) -> Result<usize, Refused<String>>

@@ -3,10 +3,10 @@ ghost use Rattle.vecmap.specs.Pairs.{lookup, put, without_key};
 
 use std::alloc::Global;
 use std::marker::Model;
-use vecmap::map::laws::{
+use vecmap::{Refused, VecMap};
+use vecmap_laws::maps::{
     insertion_keeps_keys_distinct, removal_keeps_keys_distinct, removals_are_forgotten,
 };
-use vecmap::{Refused, VecMap};
 
 /// What each guest pays. No guest is listed twice.
 #[derive(Drop)]

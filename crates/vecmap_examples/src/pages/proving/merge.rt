@@ -5,7 +5,7 @@ ghost use Rattle.vecmap.specs.Pairs.{HasDistinctKeys, lookup};
 
 use std::alloc::AllocError;
 use vecmap::VecMap;
-use vecmap::map::laws::bulk_insertions_are_single_ones;
+use vecmap_laws::maps::bulk_insertions_are_single_ones;
 
 /// Moves the overrides into the options. Where both have a name, the override wins.
 pub fn merge(

@@ -3,7 +3,7 @@ ghost use Rattle.std.specs.Prelude.{◌≡◌, ◌+◌, ◌<◌, ◌^◌, ℕ, S
 ghost use Rattle.vecmap.specs.Pairs.{lookup, put};
 
 use vecmap::VecMap;
-use vecmap::map::laws::writes_are_insertions;
+use vecmap_laws::maps::writes_are_insertions;
 
 /// Adds one to the score of a player, if the player is present and the sum fits. Returns whether it did.
 pub fn raise(scores: &mut VecMap<u32, u32>, player: u32) -> bool

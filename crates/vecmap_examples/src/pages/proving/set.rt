@@ -1,8 +1,8 @@
 ghost use Rattle.std.specs.Prelude.{◌≡◌, ℕ, OnOk, Some, false, nat_eq};
 ghost use Rattle.vecmap.specs.Pairs.{lookup};
 
-use vecmap::map::laws::insertions_are_found;
 use vecmap::{Refused, VecMap};
+use vecmap_laws::maps::insertions_are_found;
 
 /// Sets the port of a service.
 pub fn set_port(

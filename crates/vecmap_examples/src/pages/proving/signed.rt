@@ -1,8 +1,8 @@
 ghost use Rattle.std.specs.Prelude.{◌≡◌, OnOk, Some, nat_eq};
 ghost use Rattle.vecmap.specs.Pairs.{lookup, put};
 
-use vecmap::map::laws::insertions_are_found;
 use vecmap::{Refused, VecMap};
+use vecmap_laws::maps::insertions_are_found;
 
 /// Sets the level of a sensor.
 pub fn set_level(

@@ -3,7 +3,7 @@ ghost use Rattle.vecmap.specs.Pairs.{has_text, lookup_by};
 
 use std::alloc::AllocError;
 use vecmap::VecMap;
-use vecmap::map::laws::texts_find_as_strings;
+use vecmap_laws::maps::texts_find_as_strings;
 
 /// Sets the number of a name. A lookup of the name by its text finds it.
 pub fn set_number(

@@ -2,7 +2,7 @@
 use Rattle.std.proofs.Common.{◌≡◌, ◌∷◌, IsSome, Some, ap, map, refl, rules, subst, sym, ◌∙◌}
 use Rattle.std.specs.Option.{option_and_then}
 use Rattle.vecmap.specs.Pairs.{has_text}
-use Rattle.vecmap.proofs.WriteLemmas.{written_back}
+use Rattle.vecmap_laws.proofs.WriteLemmas.{written_back}
 use Rattle.vecmap_trees.specs.Trees.{at_path}
 use Rattle.vecmap_trees.specs.declared.Json.TheViews.{the_lemmas}
 use Rattle.vecmap_trees.proofs.PathLemmas.{seen_alike}

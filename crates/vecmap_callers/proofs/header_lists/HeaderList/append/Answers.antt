@@ -1,6 +1,6 @@
 -- Idea: a write through `get_mut` is a `put`, so each clause follows from what a lookup finds after a `put`.
 use Rattle.std.proofs.Common.{arith, rules}
-use Rattle.vecmap.proofs.Rules.{on_err}
+use Rattle.vecmap_laws.proofs.Rules.{on_err}
 use Rattle.vecmap_callers.proofs.header_lists.HeaderList.append.Goals as goal
 
 pub returns-in_err-push-clause-others : goal.returns-in_err-push-clause-others

@@ -3,7 +3,7 @@ use Rattle.std.proofs.Common.{ap, ◌∙◌}
 use Rattle.std.specs.Map.{keys_of}
 use Rattle.std.specs.Str.{str_eq_ignore_ascii_case}
 use Rattle.vecmap.specs.Items.{without_item}
-use Rattle.vecmap.proofs.Keys.{keys_of_without_key}
+use Rattle.vecmap_laws.proofs.Keys.{keys_of_without_key}
 use Rattle.vecmap_callers.specs.Headers.{text_of}
 use Rattle.vecmap_callers.proofs.headers.Headers.remove.Goals as goal
 

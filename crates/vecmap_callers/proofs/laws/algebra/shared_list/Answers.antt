@@ -1,6 +1,6 @@
 use Rattle.std.proofs.Common.{◌≡◌, nat_eq, rules}
 use Rattle.std.proofs.lemmas.Result.{IfOk-weaker}
-use Rattle.vecmap.specs.Operators.{lazy_intersection}
+use Rattle.vecmap_laws.specs.Algebra.{lazy_intersection}
 use Rattle.vecmap_callers.proofs.laws.algebra.shared_list.Goals as goal
 
 pub returns : goal.returns

@@ -1,6 +1,6 @@
 use Rattle.std.proofs.Common.{[], ◌∷◌, option_map, refl, subst}
 use Rattle.std.specs.Map.Iter.{deref_pair}
-use Rattle.vecmap.specs.Walks.{Pulls, back, front}
+use Rattle.vecmap_laws.specs.Pulls.{Pulls, back, front}
 use Rattle.vecmap_callers.proofs.laws.pulls.ends.Goals as goal
 
 pub returns : goal.returns

@@ -1,7 +1,7 @@
 use Rattle.std.proofs.Common.{[], ◌∷◌, nat_eq, option_map, refl, subst}
 use Rattle.std.specs.Map.Iter.{deref}
 use Rattle.vecmap.specs.Lazy.{lacks_item, sift_rest}
-use Rattle.vecmap.specs.Walks.{Pulls, back, front}
+use Rattle.vecmap_laws.specs.Pulls.{Pulls, back, front}
 use Rattle.vecmap_callers.proofs.laws.pulls.lacking_ends.Goals as goal
 
 pub returns : goal.returns

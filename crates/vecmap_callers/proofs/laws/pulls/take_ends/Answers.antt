@@ -1,6 +1,6 @@
 use Rattle.std.proofs.Common.{[], ◌∷◌, refl, subst}
 use Rattle.vecmap.specs.Drain.{drain_rest}
-use Rattle.vecmap.specs.Walks.{Pulls, back, front}
+use Rattle.vecmap_laws.specs.Pulls.{Pulls, back, front}
 use Rattle.vecmap_callers.proofs.laws.pulls.take_ends.Goals as goal
 
 pub returns : goal.returns

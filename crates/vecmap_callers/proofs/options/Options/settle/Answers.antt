@@ -1,7 +1,7 @@
 use Rattle.std.proofs.Common.{ap, ◌∙◌}
 use Rattle.std.specs.Option.{option_or}
 use Rattle.vecmap.specs.Pairs.{lookup}
-use Rattle.vecmap.proofs.AfterPuts.{lookup_puts_distinct}
+use Rattle.vecmap_laws.proofs.AfterPuts.{lookup_puts_distinct}
 use Rattle.vecmap_callers.specs.Options.{setting}
 use Rattle.vecmap_callers.proofs.options.Options.settle.Goals as goal
 

@@ -1,5 +1,5 @@
 use Rattle.std.proofs.Common.{rules}
-use Rattle.vecmap.proofs.KeptLemmas.{kept_by_test}
+use Rattle.vecmap_laws.proofs.KeptLemmas.{kept_by_test}
 use Rattle.vecmap_examples.proofs.pages.proving.filter.remove_sold_out.Goals as goal
 
 pub returns : goal.returns

@@ -2,7 +2,7 @@ use Rattle.std.proofs.Common.{rules, ◌≡◌, ℕ, ◌≤◌, map, nat_eq}
 use Rattle.std.specs.Map.Iter.{deref_pair}
 use Rattle.std.proofs.lemmas.List.Elements.{All-map}
 use Rattle.std.proofs.lemmas.Map.Iter.{iter_end}
-use Rattle.vecmap.proofs.EachValue.{holds_of_found}
+use Rattle.vecmap_laws.proofs.EachValue.{holds_of_found}
 use Rattle.vecmap_examples.proofs.pages.proving.greatest.greatest.Goals as goal
 
 pub returns : goal.returns

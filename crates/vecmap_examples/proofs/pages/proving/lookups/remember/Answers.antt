@@ -1,6 +1,6 @@
 use Rattle.std.specs.Cmp.{nat_eq_equiv}
 use Rattle.std.specs.Prelude.{nat_eq}
-use Rattle.vecmap.proofs.Lookups.{lookup_put}
+use Rattle.vecmap_laws.proofs.Lookups.{lookup_put}
 use Rattle.vecmap_examples.proofs.pages.proving.lookups.remember.Goals as goal
 
 pub returns : goal.returns
