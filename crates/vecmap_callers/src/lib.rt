@@ -28,5 +28,6 @@ pub mod scopes;
 pub mod search;
 pub mod settings;
 pub mod traits;
+pub mod updating;
 pub mod words;
 pub mod writing;

@@ -5,6 +5,7 @@ use Rattle.std.specs.List.{IsDistinct}
 use Rattle.vecmap_base.specs.Pairs.{HasDistinctKeys}
 use Rattle.vecmap_base.proofs.DistinctLemmas.Absent.{distinct_none}
 use Rattle.vecmap_base.proofs.DistinctLemmas.Additions.{distinct_add, distinct_adds}
+use Rattle.vecmap_base.proofs.LoopLemmas.{key_stays, keys_written}
 use Rattle.vecmap_base.proofs.PairsLemmas.Keys.{keys_of_put, keys_of_puts}
 use Rattle.vecmap_laws.proofs.DistinctKeys.{distinct_put, distinct_puts}
 use Rattle.vecmap_laws.proofs.ItemIndices.{item_index_add, slice_get_add}
@@ -15,6 +16,9 @@ distinct_empty eq l e = subst (HasDistinctKeys eq) (sym e) (distinct_none eq)
 
 -- The keys after an insertion and after many.
 pub ruleset keys = (keys_of_put, keys_of_puts)
+
+-- The keys of pairs whose values a loop writes.
+pub ruleset keys_in_loops = (key_stays, keys_written)
 
 -- The keys are distinct in an empty list, after an insertion and after many.
 pub ruleset distinct_keys = (distinct_empty, distinct_put, distinct_puts)

@@ -11,15 +11,27 @@ fn update_values_writes_each_value_in_order(rt: HostRuntime) {
     let mut map = granted(&rt, VecMap::from_array(rt.alloc(), FOUR));
     let room = map.capacity();
     map.update_values(|_key, value| *value = value.wrapping_add(1));
-    assert_list(&rt, map.as_slice(), &[('a', 2), ('b', 3), ('c', 0), ('d', 5)]);
+    assert_list(
+        &rt,
+        map.as_slice(),
+        &[('a', 2), ('b', 3), ('c', 0), ('d', 5)],
+    );
     map.update_values(|key, value| {
         if *key == 'c' {
             *value = 7;
         }
     });
-    assert_list(&rt, map.as_slice(), &[('a', 2), ('b', 3), ('c', 7), ('d', 5)]);
+    assert_list(
+        &rt,
+        map.as_slice(),
+        &[('a', 2), ('b', 3), ('c', 7), ('d', 5)],
+    );
     map.update_values(|_key, _value| {});
-    assert_list(&rt, map.as_slice(), &[('a', 2), ('b', 3), ('c', 7), ('d', 5)]);
+    assert_list(
+        &rt,
+        map.as_slice(),
+        &[('a', 2), ('b', 3), ('c', 7), ('d', 5)],
+    );
     assert_is(&rt, map.capacity(), room);
 }
 
@@ -32,7 +44,11 @@ fn closures_of_update_values_count_their_calls(rt: HostRuntime) {
         *value = count;
     });
     assert_is(&rt, count, 4);
-    assert_list(&rt, map.as_slice(), &[('a', 1), ('b', 2), ('c', 3), ('d', 4)]);
+    assert_list(
+        &rt,
+        map.as_slice(),
+        &[('a', 1), ('b', 2), ('c', 3), ('d', 4)],
+    );
 }
 
 // Adds one to each value, up to the first that is the greatest, which becomes 9. Its key is the error. Returns the
@@ -60,15 +76,31 @@ fn try_update_values_stops_at_the_first_error(rt: HostRuntime) {
     let mut map = granted(&rt, VecMap::from_array(rt.alloc(), FOUR));
     let room = map.capacity();
     assert_is(&rt, raise(&mut map), (Err('c'), 3));
-    assert_list(&rt, map.as_slice(), &[('a', 2), ('b', 3), ('c', 9), ('d', 4)]);
+    assert_list(
+        &rt,
+        map.as_slice(),
+        &[('a', 2), ('b', 3), ('c', 9), ('d', 4)],
+    );
     assert_is(&rt, raise(&mut map), (Ok(()), 4));
-    assert_list(&rt, map.as_slice(), &[('a', 3), ('b', 4), ('c', 10), ('d', 5)]);
+    assert_list(
+        &rt,
+        map.as_slice(),
+        &[('a', 3), ('b', 4), ('c', 10), ('d', 5)],
+    );
     map.update_values(|key, value| *value = if *key == 'a' { 255 } else { 0 });
     assert_is(&rt, raise(&mut map), (Err('a'), 1));
-    assert_list(&rt, map.as_slice(), &[('a', 9), ('b', 0), ('c', 0), ('d', 0)]);
+    assert_list(
+        &rt,
+        map.as_slice(),
+        &[('a', 9), ('b', 0), ('c', 0), ('d', 0)],
+    );
     map.update_values(|key, value| *value = if *key == 'd' { 255 } else { 0 });
     assert_is(&rt, raise(&mut map), (Err('d'), 4));
-    assert_list(&rt, map.as_slice(), &[('a', 1), ('b', 1), ('c', 1), ('d', 9)]);
+    assert_list(
+        &rt,
+        map.as_slice(),
+        &[('a', 1), ('b', 1), ('c', 1), ('d', 9)],
+    );
     assert_is(&rt, map.capacity(), room);
 }
 
@@ -123,7 +155,10 @@ fn update_values_drops_each_value_that_is_written_over(rt: HostRuntime) {
     let log = Log::new();
     let one = make_told(&log, 1);
     let two = make_told(&log, 2);
-    let mut map = granted(&rt, VecMap::from_array(rt.alloc(), [('a', one), ('b', two)]));
+    let mut map = granted(
+        &rt,
+        VecMap::from_array(rt.alloc(), [('a', one), ('b', two)]),
+    );
     map.update_values(|_key, value| *value = make_told(&log, value.number().wrapping_add(10)));
     assert_drops(&rt, &log, map, &[1, 2], &[11, 12]);
     assert_is(&rt, log.alive(), 0);
@@ -155,9 +190,17 @@ fn the_slice_of_a_map_writes_keys_and_values(rt: HostRuntime) {
             *value = 3;
         }
     }
-    assert_list(&rt, map.as_slice(), &[('a', 1), ('b', 2), ('z', 3), ('z', 3)]);
+    assert_list(
+        &rt,
+        map.as_slice(),
+        &[('a', 1), ('b', 2), ('z', 3), ('z', 3)],
+    );
     map.as_mut_slice().reverse();
-    assert_list(&rt, map.as_slice(), &[('z', 3), ('z', 3), ('b', 2), ('a', 1)]);
+    assert_list(
+        &rt,
+        map.as_slice(),
+        &[('z', 3), ('z', 3), ('b', 2), ('a', 1)],
+    );
     assert_is(&rt, map.capacity(), room);
 }
 
@@ -172,8 +215,16 @@ fn repeated_keys_are_written_one_by_one(rt: HostRuntime) {
         count = count.wrapping_add(1);
         *value = count;
     });
-    assert_list(&rt, map.as_slice(), &[('a', 1), ('a', 2), ('a', 3), ('a', 4)]);
+    assert_list(
+        &rt,
+        map.as_slice(),
+        &[('a', 1), ('a', 2), ('a', 3), ('a', 4)],
+    );
     assert_is(&rt, map.get(&'a'), Some(&1));
     assert_is(&rt, raise(&mut map), (Ok(()), 4));
-    assert_list(&rt, map.as_slice(), &[('a', 2), ('a', 3), ('a', 4), ('a', 5)]);
+    assert_list(
+        &rt,
+        map.as_slice(),
+        &[('a', 2), ('a', 3), ('a', 4), ('a', 5)],
+    );
 }
