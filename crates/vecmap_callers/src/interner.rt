@@ -128,8 +128,8 @@ pub fn intern_around<T: Eq + Drop>(
     last: T,
 ) -> Result<(usize, usize), Refused<T>>
     ensures equal_names { IfOk result (λ ids. IsTrue (T.eq first last) → ids.0 ≡ ids.1) }
-    ensures first { IfOk result (λ ids. item_index T.eq registry.new first ≡ Some ids.0) }
-    ensures last { IfOk result (λ ids. item_index T.eq registry.new last ≡ Some ids.1) }
+    ensures found { IfOk result (λ ids. (item_index T.eq registry.new first ≡ Some ids.0)
+        × (item_index T.eq registry.new last ≡ Some ids.1)) }
     ensures names { OnOk result (registry.new
         ≡ adds T.eq registry.old (first ∷ between ∷ last ∷ [])) }
     ensures err { IfErr result (λ refused. (before after : List T)
