@@ -43,6 +43,8 @@ pub fn half_of(map: &mut VecMap<u64, u64>, number: u64) -> Result<u64, Refused<(
     ensures entries { OnOk result (map.new.entries
         ≡ put nat_eq map.old.entries number
         (unwrap_or (lookup nat_eq map.old.entries number) (number / 2))) }
+    ensures capacity { KeepsRoom nat_eq map.old number map.new }
+    ensures err { OnErr result (Refuses nat_eq map.old number map.new) }
     ensures given { IfErr result (λ refused. refused.given ≡ (number, number / 2)) }
 {
     Ok(*map.entry(number).or_insert_with_key(|key| *key / 2)?)
@@ -53,6 +55,8 @@ pub fn or_zero<K: Eq + Drop>(map: &mut VecMap<K, u64>, key: K) -> Result<u64, Re
     ensures value { IfOk result (λ n. n ≡ unwrap_or (lookup K.eq map.old.entries key) 0) }
     ensures entries { OnOk result (map.new.entries
         ≡ put K.eq map.old.entries key (unwrap_or (lookup K.eq map.old.entries key) 0)) }
+    ensures capacity { KeepsRoom K.eq map.old key map.new }
+    ensures err { OnErr result (Refuses K.eq map.old key map.new) }
     ensures given { IfErr result (λ refused. refused.given ≡ (key, 0)) }
 {
     Ok(*map.entry(key).or_default()?)
@@ -68,6 +72,7 @@ pub fn or_empty<K: Eq + Drop>(
     ensures entries { OnOk result (maps.new.entries
         ≡ put K.eq maps.old.entries key
         (unwrap_or (lookup K.eq maps.old.entries key) (record { entries = []; capacity = 0 }))) }
+    ensures capacity { KeepsRoom K.eq maps.old key maps.new }
     ensures err { OnErr result (Refuses K.eq maps.old key maps.new) }
     ensures given { IfErr result (λ refused. (refused.given.0 ≡ key)
         × (refused.given.1.entries ≡ [])) }
@@ -179,13 +184,17 @@ impl From<Refused<(u64, u64)>> for NoQuotient {
     }
 }
 
-/// Inserts a number with its quotient by a divisor, if the number is absent.
+/// Inserts a number with its quotient by a divisor, if the number is absent. An absent number is inserted only if the
+/// divisor is not 0.
 pub fn put_quotient(map: &mut VecMap<u64, u64>, number: u64, divisor: u64) -> Result<(), NoQuotient>
     ensures entries { OnOk result (map.new.entries
         ≡ put nat_eq map.old.entries number
         (unwrap_or (lookup nat_eq map.old.entries number) (number / divisor))) }
+    ensures ok { OnOk result (index_of nat_eq map.old.entries number ≡ None → 0 < divisor) }
+    ensures capacity { KeepsRoom nat_eq map.old number map.new }
     ensures err { OnErr result (map.new ≡ map.old) }
     ensures absent { OnErr result (index_of nat_eq map.old.entries number ≡ None) }
+    ensures full { OnErr result (0 < divisor → length map.old.entries ≡ map.old.capacity) }
 {
     map.entry(number)
         .or_try_insert_with(|| number.checked_div(divisor).ok_or(NoQuotient))?;

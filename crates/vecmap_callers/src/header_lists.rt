@@ -6,7 +6,7 @@ ghost use Rattle.std.specs.Prelude.{◌≡◌, ◌++◌, ◌∷◌, ℕ, IfOk, L
 ghost use Rattle.std.specs.Map.{keys_of};
 ghost use Rattle.std.specs.Str.{str_eq_ignore_ascii_case};
 ghost use Rattle.vecmap.specs.Items.{add, without_item};
-ghost use Rattle.vecmap.specs.Pairs.{HasDistinctKeys};
+ghost use Rattle.vecmap.specs.Pairs.{HasDistinctKeys, lookup, without_key};
 ghost use Rattle.vecmap_callers.specs.HeaderLists.{values_of};
 
 use crate::names::{Name, NamedAs};
@@ -140,12 +140,16 @@ impl HeaderList {
 
     /// Removes a name, and returns its values. The other names keep their order.
     ///
+    /// Returns `None` if the name is absent; the list is then unchanged.
+    ///
     /// # Complexity
     ///
     /// At most one comparison for each name, and one move for each name behind the removed one.
     pub fn remove(&mut self, name: &str) -> Option<Vec<String>>
+        ensures value { result ≡ lookup str_eq_ignore_ascii_case self.old name.now }
         ensures values { unwrap_or (option_map (λ values. values.items) result) []
             ≡ values_of self.old name.now }
+        ensures fields { self.new ≡ without_key str_eq_ignore_ascii_case self.old name.now }
         ensures gone { values_of self.new name.now ≡ [] }
         ensures others { (other : List ℕ) → str_eq_ignore_ascii_case name.now other ≡ false
             → values_of self.new other ≡ values_of self.old other }

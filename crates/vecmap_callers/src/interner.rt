@@ -4,7 +4,7 @@
 //! any type. An [`Interner`] makes its texts, which are looked up by a `&str`.
 ghost use Rattle.std.specs.Prelude.{◌≡◌, ◌++◌, ◌∷◌, ◌<◌, ℕ, IfErr, IfOk, IfSome, IsSome, IsTrue, List, None, OnErr, OnOk, Some, [], length, map, option_copied, option_map, position, slice_get, string_bytes};
 ghost use Rattle.std.specs.List.{IsDistinct};
-ghost use Rattle.vecmap.specs.Items.{item_index};
+ghost use Rattle.vecmap.specs.Items.{add, adds, item_index};
 ghost use Rattle.vecmap_callers.specs.Interner.{id_of, text_of};
 
 use std::alloc::{AllocError, Global};
@@ -102,6 +102,7 @@ impl<T: Eq> Registry<T> {
         ensures unchanged { IsSome (item_index T.eq self.old name) → self.new ≡ self.old }
         ensures appended { OnOk result (item_index T.eq self.old name ≡ None
             → self.new ≡ self.old ++ name ∷ []) }
+        ensures names { OnOk result (self.new ≡ add T.eq self.old name) }
         ensures given { IfErr result (λ refused. refused.given ≡ name) }
         ensures err { OnErr result (self.new ≡ self.old) }
     {
@@ -116,6 +117,10 @@ impl<T: Eq> Registry<T> {
 }
 
 /// Returns the ids of two names, and interns another name between them. Equal names get the same id.
+///
+/// # Errors
+///
+/// [`Refused`] returns the first of the names that is refused. The names before it are then interned.
 pub fn intern_around<T: Eq + Drop>(
     registry: &mut Registry<T>,
     first: T,
@@ -123,6 +128,13 @@ pub fn intern_around<T: Eq + Drop>(
     last: T,
 ) -> Result<(usize, usize), Refused<T>>
     ensures equal_names { IfOk result (λ ids. IsTrue (T.eq first last) → ids.0 ≡ ids.1) }
+    ensures found { IfOk result (λ ids. (item_index T.eq registry.new first ≡ Some ids.0)
+        × (item_index T.eq registry.new last ≡ Some ids.1)) }
+    ensures names { OnOk result (registry.new
+        ≡ adds T.eq registry.old (first ∷ between ∷ last ∷ [])) }
+    ensures err { IfErr result (λ refused. (before after : List T)
+        × (before ++ refused.given ∷ after ≡ first ∷ between ∷ last ∷ [])
+        × (registry.new ≡ adds T.eq registry.old before)) }
 {
     laws::equal_elements_have_one_index::<T>();
     let first_id = registry.intern(first)?;

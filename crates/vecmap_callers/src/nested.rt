@@ -1,6 +1,7 @@
 //! Callers that use maps of maps and maps of sets.
-ghost use Rattle.std.specs.Prelude.{◌≡◌, List, OnErr, OnOk, Some, String, ℕ, bytes_eq, false, nat_eq, string_eq, true};
+ghost use Rattle.std.specs.Prelude.{◌≡◌, List, OnErr, OnOk, Some, String, ℕ, bytes_eq, false, is_some, nat_eq, string_eq, true};
 ghost use Rattle.std.specs.declared.alloc.Global.{Global};
+ghost use Rattle.vecmap.specs.Contents.{with_value_by};
 ghost use Rattle.vecmap.specs.Items.{add};
 ghost use Rattle.vecmap_laws.specs.Nested.{inner_entries, inner_elements};
 ghost use Rattle.vecmap.specs.Pairs.{has_text, lookup_by, put};
@@ -58,7 +59,9 @@ pub fn join(
 
 /// Writes the value of a text if the text is present, and returns whether it is.
 pub fn write_text(map: &mut VecMap<String, u32>, text: &str, value: u32) -> bool
-    ensures written { result ≡ true → lookup_by (has_text text.now) map.new.entries ≡ Some value }
+    ensures present { result ≡ is_some (lookup_by (has_text text.now) map.old.entries) }
+    ensures written { map.new ≡ with_value_by (has_text text.now) map.old value }
+    ensures found { result ≡ true → lookup_by (has_text text.now) map.new.entries ≡ Some value }
     ensures others { (other : List ℕ) → bytes_eq text.now other ≡ false
         → lookup_by (has_text other) map.new.entries ≡ lookup_by (has_text other) map.old.entries }
 {

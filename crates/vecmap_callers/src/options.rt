@@ -4,7 +4,7 @@
 //! `port` is reset, it is 80 again.
 ghost use Rattle.std.specs.Prelude.{◌≡◌, IfErr, None, OnErr, OnOk, Some, [], false, if◌then◌else◌, option_copied};
 ghost use Rattle.std.specs.Option.{option_or};
-ghost use Rattle.vecmap.specs.Pairs.{lookup, lookup_by};
+ghost use Rattle.vecmap.specs.Pairs.{lookup, lookup_by, put, puts, without_key};
 ghost use Rattle.vecmap_callers.specs.Options.{Layers, setting};
 
 use std::alloc::{AllocError, Global};
@@ -74,7 +74,7 @@ impl<K: Eq + Drop, V: Drop> Options<K, V> {
 
     /// Sets the default of an option, which replaces an old default.
     ///
-    /// An option with an override keeps its value.
+    /// An option with an override keeps its value. The defaults keep their order, and a new one is appended.
     ///
     /// # Errors
     ///
@@ -89,6 +89,7 @@ impl<K: Eq + Drop, V: Drop> Options<K, V> {
             → setting K.eq self.new q
             ≡ option_or (lookup K.eq self.old.overrides q)
             (if K.eq name q then Some value else lookup K.eq self.old.defaults q)) }
+        ensures defaults { OnOk result (self.new.defaults ≡ put K.eq self.old.defaults name value) }
         ensures overrides { self.new.overrides ≡ self.old.overrides }
         ensures given { IfErr result (λ refused. refused.given ≡ (name, value)) }
         ensures err { OnErr result (self.new ≡ self.old) }
@@ -99,6 +100,8 @@ impl<K: Eq + Drop, V: Drop> Options<K, V> {
     }
 
     /// Overrides an option. Every other option keeps its value.
+    ///
+    /// The overrides keep their order, and a new one is appended.
     ///
     /// # Errors
     ///
@@ -112,6 +115,8 @@ impl<K: Eq + Drop, V: Drop> Options<K, V> {
         ensures settings { OnOk result ((q : K)
             → setting K.eq self.new q
             ≡ (if K.eq name q then Some value else setting K.eq self.old q)) }
+        ensures overrides { OnOk result (self.new.overrides
+            ≡ put K.eq self.old.overrides name value) }
         ensures defaults { self.new.defaults ≡ self.old.defaults }
         ensures given { IfErr result (λ refused. refused.given ≡ (name, value)) }
         ensures err { OnErr result (self.new ≡ self.old) }
@@ -122,7 +127,8 @@ impl<K: Eq + Drop, V: Drop> Options<K, V> {
         Ok(())
     }
 
-    /// Removes the override of an option, so that it has its default again. Every other option keeps its value.
+    /// Removes the override of an option, so that it has its default again. Every other option keeps its value, and the
+    /// other overrides keep their order.
     ///
     /// # Complexity
     ///
@@ -131,6 +137,7 @@ impl<K: Eq + Drop, V: Drop> Options<K, V> {
         ensures default { setting K.eq self.new name.now ≡ lookup K.eq self.old.defaults name.now }
         ensures others { (other : K) → K.eq name.now other ≡ false
             → setting K.eq self.new other ≡ setting K.eq self.old other }
+        ensures overrides { self.new.overrides ≡ without_key K.eq self.old.overrides name.now }
         ensures defaults { self.new.defaults ≡ self.old.defaults }
     {
         laws::removals_are_forgotten::<K, V>();
@@ -140,7 +147,8 @@ impl<K: Eq + Drop, V: Drop> Options<K, V> {
 
     /// Moves the overrides of `upper` into these options. `upper` keeps its defaults.
     ///
-    /// An option that `upper` overrides then has the value of that override. Every other option keeps its value.
+    /// An option that `upper` overrides then has the value of that override. Every other option keeps its value. The
+    /// overrides keep their order, and new ones are appended in the order that `upper` has.
     ///
     /// # Errors
     ///
@@ -154,6 +162,9 @@ impl<K: Eq + Drop, V: Drop> Options<K, V> {
         ensures settings { OnOk result ((q : K)
             → setting K.eq self.new q
             ≡ option_or (lookup K.eq upper.old.overrides q) (setting K.eq self.old q)) }
+        ensures overrides { OnOk result (self.new.overrides
+            ≡ puts K.eq self.old.overrides upper.old.overrides) }
+        ensures defaults { self.new.defaults ≡ self.old.defaults }
         ensures emptied { OnOk result (upper.new
             ≡ record { defaults = upper.old.defaults; overrides = [] }) }
         ensures err { OnErr result (self.new ≡ self.old) }
@@ -164,6 +175,8 @@ impl<K: Eq + Drop, V: Drop> Options<K, V> {
     }
 
     /// Makes each override the default of its option. Every option keeps its value, and no override is left.
+    ///
+    /// The defaults keep their order, and new ones are appended in the order of the overrides.
     ///
     /// # Errors
     ///
@@ -176,6 +189,8 @@ impl<K: Eq + Drop, V: Drop> Options<K, V> {
     pub fn settle(&mut self) -> Result<(), AllocError>
         ensures settings { OnOk result ((q : K) → setting K.eq self.new q
             ≡ setting K.eq self.old q) }
+        ensures defaults { OnOk result (self.new.defaults
+            ≡ puts K.eq self.old.defaults self.old.overrides) }
         ensures emptied { OnOk result (self.new.overrides ≡ []) }
         ensures err { OnErr result (self.new ≡ self.old) }
     {

@@ -13,21 +13,28 @@ pub fn sort_by_value(map: &mut VecMap<char, u32>) -> Result<(), AllocError>
     ensures stable { IsStableByKey (λ p. p.1) nat_cmp map.old.entries map.new.entries }
     ensures rearranged { IsPermutation map.old.entries map.new.entries }
     ensures err { OnErr result (map.new ≡ map.old) }
+    ensures capacity { map.new.capacity ≡ map.old.capacity }
 {
     map.sort_by(|a, b| a.1.cmp(b.1))
 }
 
-/// Sorts by a sort key that is computed once for each pair.
+/// Sorts by a sort key that is computed once for each pair; pairs with equal sort keys keep their order.
 pub fn sort_by_cached_value(map: &mut VecMap<char, u32>) -> Result<(), AllocError>
     ensures sorted { OnOk result (IsSortedByKey (λ p. p.1) nat_cmp map.new.entries) }
+    ensures stable { IsStableByKey (λ p. p.1) nat_cmp map.old.entries map.new.entries }
+    ensures rearranged { IsPermutation map.old.entries map.new.entries }
+    ensures err { OnErr result (map.new ≡ map.old) }
+    ensures capacity { map.new.capacity ≡ map.old.capacity }
 {
     map.sort_by_cached_key(|_, value| *value)
 }
 
-/// Sorts a set. It then ascends, and is still a set.
+/// Sorts a set. It then ascends, has the same elements, and is still a set.
 pub fn sort_numbers(set: &mut VecSet<u32>)
     ensures sorted { IsNonDecreasing set.new.elements }
+    ensures rearranged { IsPermutation set.old.elements set.new.elements }
     ensures distinct { IsDistinct nat_eq set.new.elements }
+    ensures capacity { set.new.capacity ≡ set.old.capacity }
 {
     set.sort_unstable();
 }

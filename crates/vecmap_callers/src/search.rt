@@ -1,7 +1,7 @@
 //! Callers of binary searches.
 ghost use Rattle.std.specs.Prelude.{◌≡◌, ◌<◌, ◌≤◌, IfErr, false, get_or, length, nat_lt, true};
 ghost use Rattle.std.specs.List.{All};
-ghost use Rattle.std.specs.List.Sorted.{IsBinarySearchResult, IsPartitionPoint, IsPartitionedBy};
+ghost use Rattle.std.specs.List.Sorted.{IsBinarySearchResult, IsPartitionPoint, IsPartitionedBy, IsPermutation, IsSortedByKey};
 ghost use Rattle.std.specs.Ordering.{nat_cmp};
 ghost use Rattle.std.specs.declared.cmp.Ordering.TheVariants.{Greater, Less};
 
@@ -14,11 +14,15 @@ pub fn search_value(map: &VecMap<char, u32>, value: u32) -> Result<usize, usize>
     map.binary_search_by(|_, stored| stored.cmp(&value))
 }
 
-/// Sorts the keys and searches for one. If it is absent, the returned index separates the lesser keys from the greater
-/// ones.
+/// Sorts the pairs by their keys and searches for a key. If it is absent, the returned index separates the lesser keys
+/// from the greater ones.
 pub fn index_among_keys(map: &mut VecMap<u32, char>, key: u32) -> Result<usize, usize>
-    ensures { IfErr result (λ i. IsPartitionPoint (λ p. nat_cmp p.0 key ≡ Less)
+    ensures index { IsBinarySearchResult (λ p. nat_cmp p.0 key) map.new.entries result }
+    ensures absent { IfErr result (λ i. IsPartitionPoint (λ p. nat_cmp p.0 key ≡ Less)
         (λ p. nat_cmp p.0 key ≡ Greater) map.new.entries i) }
+    ensures sorted { IsSortedByKey (λ p. p.0) nat_cmp map.new.entries }
+    ensures rearranged { IsPermutation map.old.entries map.new.entries }
+    ensures capacity { map.new.capacity ≡ map.old.capacity }
 {
     map.sort_unstable_keys();
     map.binary_search_keys(&key)

@@ -77,9 +77,10 @@ pub struct Shelf {
 
 /// Returns a copy of a shelf.
 pub fn copy_of_shelf(shelf: &Shelf) -> Result<Shelf, AllocError>
-    ensures { IfOk result (λ copy. AllZip
+    ensures books { IfOk result (λ copy. AllZip
         (λ p q. (q.0 ≡ p.0)
         × (string_bytes q.1 ≡ string_bytes p.1)) shelf.now.books.entries copy.books.entries) }
+    ensures marks { IfOk result (λ copy. copy.marks.elements ≡ shelf.now.marks.elements) }
 {
     shelf.clone()
 }

@@ -159,7 +159,7 @@ pub fn raise_in_slice(pairs: &mut VecMap<u32, u32>)
 
 /// Adds one to each value, by a loop with a pattern. Its contract says the keys, and leaves the values to
 /// [`raise_in_slice`].
-#[tactic(auto, using(vecmap::proofs::Rules::keys_in_loops))]
+#[tactic(auto, using(vecmap_laws::proofs::Rules::keys_in_loops))]
 pub fn raise_at_keys<K>(pairs: &mut VecMap<K, u32>)
     ensures keys { keys_of pairs.new.entries ≡ keys_of pairs.old.entries }
     ensures capacity { pairs.new.capacity ≡ pairs.old.capacity }
@@ -171,7 +171,7 @@ pub fn raise_at_keys<K>(pairs: &mut VecMap<K, u32>)
 
 /// Adds one to each value, up to the first that is the greatest, by a loop that ends there. Returns `true` if there is
 /// none.
-#[tactic(auto, using(vecmap::proofs::Rules::keys_in_loops))]
+#[tactic(auto, using(vecmap_laws::proofs::Rules::keys_in_loops))]
 pub fn raise_until_greatest<K>(pairs: &mut VecMap<K, u32>) -> bool
     ensures keys { keys_of pairs.new.entries ≡ keys_of pairs.old.entries }
     ensures capacity { pairs.new.capacity ≡ pairs.old.capacity }
@@ -191,7 +191,7 @@ pub fn raise_until_greatest<K>(pairs: &mut VecMap<K, u32>) -> bool
 /// # Errors
 ///
 /// [`AllocError`] if the allocator refuses a request.
-#[tactic(auto, using(vecmap::proofs::Rules::keys_in_loops))]
+#[tactic(auto, using(vecmap_laws::proofs::Rules::keys_in_loops))]
 pub fn push_in_slice<K>(lists: &mut VecMap<K, Vec<u8>>, item: u8) -> Result<(), AllocError>
     ensures keys { keys_of lists.new.entries ≡ keys_of lists.old.entries }
     ensures capacity { lists.new.capacity ≡ lists.old.capacity }

@@ -1,5 +1,5 @@
 //! Merges of trees.
-ghost use Rattle.std.specs.Prelude.{◌≡◌, ℕ, List, None, OnErr, OnOk, Some, bytes_eq, false, string_bytes, string_eq};
+ghost use Rattle.std.specs.Prelude.{◌≡◌, ℕ, IsOk, List, None, OnErr, OnOk, Some, bytes_eq, false, string_bytes, string_eq};
 ghost use Rattle.std.specs.Option.{option_and_then};
 ghost use Rattle.vecmap.specs.Pairs.{has_text, lookup_by, puts};
 ghost use Rattle.vecmap_trees.specs.Trees.{AreDistinctMembers, HasDistinctNames, IsObject, IsOldOrMerged, leaf_at, member, members, merged_below, merged_leaf};
@@ -13,7 +13,7 @@ impl Json {
     /// Moves the members of another object into this one. If both have a member of a name, it keeps its index, and gets
     /// the other's value.
     ///
-    /// If the other value is not an object, it has no members, and this object is unchanged.
+    /// If the other value is not an object, it has no members. The call then succeeds, and this object is unchanged.
     ///
     /// # Errors
     ///
@@ -43,6 +43,9 @@ impl Json {
         requires object { IsObject self.old }
         ensures members { OnOk result (members self.new
             ≡ puts string_eq (members self.old) (members other)) }
+        ensures object { IsObject self.new }
+        ensures unchanged { (IsObject other → ⊥) → self.new ≡ self.old }
+        ensures succeeds { (IsObject other → ⊥) → IsOk result }
         ensures err { OnErr result (self.new ≡ self.old) }
     {
         if let (Json::Object(mine), Json::Object(mut theirs)) = (self, other) {

@@ -10,5 +10,5 @@ placed : (xs : List (ℕ × ℕ)) (key : ℕ) (r : Result ℕ ℕ) → IsSortedB
 placed xs key (Ok i) up found = tt
 placed xs key (Err i) up found = found (searchable_from_sorted nat_cmp_total (λ p. p.0) xs key up)
 
-pub returns : goal.returns
-returns c = placed c.sort_unstable_keys.new.self.entries c.args.key c.binary_search_keys.result c.sort_unstable_keys.ensures.sorted c.binary_search_keys.ensures.index
+pub returns-clause-absent : goal.returns-clause-absent
+returns-clause-absent c = placed c.sort_unstable_keys.new.self.entries c.args.key c.binary_search_keys.result c.sort_unstable_keys.ensures.sorted c.binary_search_keys.ensures.index

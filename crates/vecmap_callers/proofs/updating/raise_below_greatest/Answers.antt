@@ -1,5 +1,5 @@
 use Rattle.std.proofs.Common.{rules, ◌+◌, ◌<◌, ◌^◌}
-use Rattle.vecmap.proofs.UpdatedLemmas.{callable_where}
+use Rattle.vecmap_laws.proofs.UpdatedLemmas.{callable_where}
 use Rattle.vecmap_callers.proofs.updating.raise_below_greatest.Goals as goal
 
 pub update_values-requires : goal.update_values-requires

@@ -1,5 +1,5 @@
 use Rattle.std.proofs.Common.{◌+◌, ◌-◌, ◌^◌, min}
-use Rattle.vecmap.proofs.LoopLemmas.{mapped_more}
+use Rattle.vecmap_laws.proofs.LoopLemmas.{mapped_more}
 use Rattle.vecmap_callers.proofs.updating.raise_in_slice.Goals as goal
 
 pub loop-pair-preserved : goal.loop-pair-preserved
