@@ -10,6 +10,8 @@
 #[cfg(test)]
 mod checks;
 #[cfg(test)]
+mod comments;
+#[cfg(test)]
 mod refusals;
 #[cfg(test)]
 mod telling;

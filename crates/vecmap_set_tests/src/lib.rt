@@ -11,6 +11,8 @@
 #[cfg(test)]
 mod checks;
 #[cfg(test)]
+mod comments;
+#[cfg(test)]
 mod made;
 #[cfg(test)]
 mod refusals;

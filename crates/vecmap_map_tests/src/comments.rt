@@ -1,0 +1,21 @@
+//! Made by `.ci/examples --write`: the modules of examples.
+mod bulk;
+mod cloning;
+mod conversion;
+mod drain;
+mod entry;
+mod equality;
+mod extending;
+mod formatting;
+mod indexing;
+mod insertion;
+mod iteration;
+mod lending;
+mod lookup;
+mod make;
+mod mutable_keys;
+mod of_vecmap_base;
+mod order;
+mod removal;
+mod room;
+mod search;

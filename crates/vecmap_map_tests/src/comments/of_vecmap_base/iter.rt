@@ -1,0 +1,4 @@
+//! Made by `.ci/examples --write`: the modules of examples.
+mod keys;
+mod pairs;
+mod values;

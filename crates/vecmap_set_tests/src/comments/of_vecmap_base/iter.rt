@@ -1,0 +1,2 @@
+//! Made by `.ci/examples --write`: the modules of examples.
+mod elements;
