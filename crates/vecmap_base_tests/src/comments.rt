@@ -11,3 +11,5 @@ mod repeats;
 mod retain;
 mod search;
 mod steps;
+mod try_update;
+mod update;

@@ -9,6 +9,7 @@ mod indexing;
 mod insertion;
 mod iteration;
 mod lazy;
+mod lib;
 mod lookup;
 mod of_vecmap_base;
 mod operators;

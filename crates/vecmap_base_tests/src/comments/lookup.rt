@@ -32,6 +32,10 @@ fn shows_contains_item(rt: &impl Abort) {
     assert_is(rt, contains_item(&['a', 'b'], &'c'), false);
 }
 
+fn shows_is_present(rt: &impl Abort) {
+    assert_is(rt, is_present(&['a', 'b'], &'c'), false);
+}
+
 fn shows_find_equivalent(rt: &impl Abort) {
     assert_is(rt, find_equivalent(&[("a", 1), ("b", 2)], "b"), Some(1));
 }
@@ -52,6 +56,7 @@ fn examples_of_vecmap_base_lookup_hold(rt: HostRuntime) {
     shows_find_str(&rt, alloc);
     shows_find_item_str(&rt, alloc);
     shows_contains_item(&rt);
+    shows_is_present(&rt);
     shows_find_equivalent(&rt);
     shows_find_item_equivalent(&rt);
     shows_contains_equivalent(&rt);

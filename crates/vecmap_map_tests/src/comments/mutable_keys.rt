@@ -46,6 +46,15 @@ fn shows_keys_mut(rt: &impl Abort, alloc: Global) {
     assert_list(rt, map.as_slice(), &[('A', 1), ('B', 2)]);
 }
 
+fn shows_as_mut_slice(rt: &impl Abort, alloc: Global) {
+    let mut map = granted(rt, VecMap::from_array(alloc, [('a', 1), ('b', 2)]));
+    for (key, value) in map.as_mut_slice().iter_mut() {
+        *key = key.to_ascii_uppercase();
+        *value = 3;
+    }
+    assert_list(rt, map.as_slice(), &[('A', 3), ('B', 3)]);
+}
+
 #[test]
 fn examples_of_vecmap_map_mutable_keys_hold(rt: HostRuntime) {
     let alloc = rt.alloc();
@@ -54,4 +63,5 @@ fn examples_of_vecmap_map_mutable_keys_hold(rt: HostRuntime) {
     shows_retain2(&rt, alloc);
     shows_iter_mut2(&rt, alloc);
     shows_keys_mut(&rt, alloc);
+    shows_as_mut_slice(&rt, alloc);
 }
