@@ -185,7 +185,8 @@ impl<K, V> VecMap<K, V> {
             → HasRoomForHalf I.into_iter_gives I.IntoIter.remaining iter
             (length self.old.entries) self.old.capacity
             → OnErr result (StopsAt I.into_iter_gives I.IntoIter.next_gives iter
-            (λ pairs next. RefusesAfter K.eq self.old pairs next self.new)) }
+            (λ pairs next. RefusesAfter
+            K.eq self.old pairs next self.new)) }
     {
         let items = iter.into_iter();
         self.reserve(likely_new(self.is_empty(), items.size_hint().0))?;
@@ -246,8 +247,8 @@ impl<K, V> VecMap<K, V> {
             → HasRoomForHalf I.into_iter_gives I.IntoIter.remaining iter
             (length self.old.entries) self.old.capacity
             → OnErr result (StopsAt I.into_iter_gives I.IntoIter.next_gives iter
-            (λ items next. RefusesClonesAfter K.eq K.Clone V.Clone self.old (map deref_pair items)
-            (deref_pair next) self.new)) }
+            (λ items next. RefusesClonesAfter K.eq K.Clone V.Clone self.old
+            (map deref_pair items) (deref_pair next) self.new)) }
     {
         let items = iter.into_iter();
         self.reserve(likely_new(self.is_empty(), items.size_hint().0))?;
@@ -306,8 +307,8 @@ impl<K, V> VecMap<K, V> {
             → HasRoomForHalf I.into_iter_gives I.IntoIter.remaining iter
             (length self.old.entries) self.old.capacity
             → OnErr result (StopsAt I.into_iter_gives I.IntoIter.next_gives iter
-            (λ items next. RefusesClonesAfter K.eq K.Clone V.Clone self.old
-            (map (λ p. p.now) items) next.now self.new)) }
+            (λ items next. RefusesClonesAfter K.eq K.Clone V.Clone
+            self.old (map (λ p. p.now) items) next.now self.new)) }
     {
         let items = iter.into_iter();
         self.reserve(likely_new(self.is_empty(), items.size_hint().0))?;
