@@ -1,6 +1,6 @@
 -- Calls that insert the items of an iterator: where they stop, what holds of each item, and when there is spare
 -- capacity for all items.
-use Rattle.std.specs.Prelude.{ℕ, ◌+◌, ◌≤◌, List, Option, Some}
+use Rattle.std.specs.Prelude.{ℕ, ◌+◌, ◌/◌, ◌≤◌, List, Option, Some}
 use Rattle.std.specs.Iterator.{Count, YieldsThen, size}
 
 module _ {U T : Type 0} (becomes : U → T → Type 0) where
@@ -17,3 +17,7 @@ module _ {U T : Type 0} (becomes : U → T → Type 0) where
   -- ends. Of an endless iterator it would say no more than `n ≤ c`, as the `size` of no bound is 0.
   abbrev pub HasRoomForAll : (T → Count) → U → ℕ → ℕ → Type 0
   HasRoomForAll left iter n c = (it : T) → becomes iter it → n + size (left it) ≤ c
+
+  -- A capacity of `c` holds `n` items and half as many more as `iter` may give, rounded up.
+  abbrev pub HasRoomForHalf : (T → Count) → U → ℕ → ℕ → Type 0
+  HasRoomForHalf left iter n c = (it : T) → becomes iter it → n + (size (left it) + 1) / 2 ≤ c

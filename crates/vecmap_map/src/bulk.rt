@@ -2,7 +2,7 @@
 ghost use Rattle.std.specs.Prelude.{◌≡◌, ◌<◌, ◌+◌, ◌≤◌, ◌⊎◌, ◌/◌, IfOk, IsOk, List, None, OnErr, OnOk, [], if◌then◌else◌, length, map};
 ghost use Rattle.std.specs.Iterator.{Drains, ExtendsWithItems, IsFiniteIterable};
 ghost use Rattle.std.specs.Map.Iter.{deref_pair};
-ghost use Rattle.vecmap_base.specs.Bulk.{HasRoomForAll, HoldsOfEach, StopsAt};
+ghost use Rattle.vecmap_base.specs.Bulk.{HasRoomForAll, HasRoomForHalf, HoldsOfEach, StopsAt};
 ghost use Rattle.vecmap_base.specs.Pairs.{put, puts};
 ghost use Rattle.vecmap_map.specs.Contents.{HasRoom, KeepsRoomAt, Refuses, with_entries};
 ghost use Rattle.vecmap_map.specs.MapBulk.{ArePairClones, ClonesSucceed, Puts, PutsClones, RefusesAfter, RefusesClonesAfter};
@@ -181,6 +181,12 @@ impl<K, V> VecMap<K, V> {
         ensures err { OnErr result ((self.new ≡ self.old)
             ⊎ StopsAt I.into_iter_gives I.IntoIter.next_gives iter
             (λ pairs next. RefusesAfter K.eq self.old pairs next self.new)) }
+        ensures late_err { 0 < length self.old.entries
+            → HasRoomForHalf I.into_iter_gives I.IntoIter.remaining iter
+            (length self.old.entries) self.old.capacity
+            → OnErr result (StopsAt I.into_iter_gives I.IntoIter.next_gives iter
+            (λ pairs next. RefusesAfter
+            K.eq self.old pairs next self.new)) }
     {
         let items = iter.into_iter();
         self.reserve(likely_new(self.is_empty(), items.size_hint().0))?;
@@ -237,6 +243,12 @@ impl<K, V> VecMap<K, V> {
             ⊎ StopsAt I.into_iter_gives I.IntoIter.next_gives iter
             (λ items next. RefusesClonesAfter K.eq K.Clone V.Clone self.old (map deref_pair items)
             (deref_pair next) self.new)) }
+        ensures late_err { 0 < length self.old.entries
+            → HasRoomForHalf I.into_iter_gives I.IntoIter.remaining iter
+            (length self.old.entries) self.old.capacity
+            → OnErr result (StopsAt I.into_iter_gives I.IntoIter.next_gives iter
+            (λ items next. RefusesClonesAfter K.eq K.Clone V.Clone self.old
+            (map deref_pair items) (deref_pair next) self.new)) }
     {
         let items = iter.into_iter();
         self.reserve(likely_new(self.is_empty(), items.size_hint().0))?;
@@ -291,6 +303,12 @@ impl<K, V> VecMap<K, V> {
             ⊎ StopsAt I.into_iter_gives I.IntoIter.next_gives iter
             (λ items next. RefusesClonesAfter K.eq K.Clone V.Clone self.old
             (map (λ p. p.now) items) next.now self.new)) }
+        ensures late_err { 0 < length self.old.entries
+            → HasRoomForHalf I.into_iter_gives I.IntoIter.remaining iter
+            (length self.old.entries) self.old.capacity
+            → OnErr result (StopsAt I.into_iter_gives I.IntoIter.next_gives iter
+            (λ items next. RefusesClonesAfter K.eq K.Clone V.Clone
+            self.old (map (λ p. p.now) items) next.now self.new)) }
     {
         let items = iter.into_iter();
         self.reserve(likely_new(self.is_empty(), items.size_hint().0))?;

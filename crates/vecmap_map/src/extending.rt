@@ -4,8 +4,8 @@
 //! the trait says: that some first part of the items was inserted.
 ghost use Rattle.std.specs.Iterator.{ExtendsWithItems, IsFiniteIterable};
 ghost use Rattle.std.specs.Map.Iter.{deref_pair};
-ghost use Rattle.std.specs.Prelude.{◌≡◌, ◌≤◌, ◌⊎◌, IsOk, OnErr, length, map};
-ghost use Rattle.vecmap_base.specs.Bulk.{HasRoomForAll, HoldsOfEach, StopsAt};
+ghost use Rattle.std.specs.Prelude.{◌≡◌, ◌<◌, ◌≤◌, ◌⊎◌, IsOk, OnErr, length, map};
+ghost use Rattle.vecmap_base.specs.Bulk.{HasRoomForAll, HasRoomForHalf, HoldsOfEach, StopsAt};
 ghost use Rattle.vecmap_map.specs.MapBulk.{ClonesSucceed, Puts, PutsClones, RefusesAfter, RefusesClonesAfter};
 
 use crate::VecMap;
@@ -50,6 +50,11 @@ impl<K: Eq + Drop, V: Drop> Extend<(K, V)> for VecMap<K, V> {
             (length self.old.entries) self.old.capacity → self.new.capacity ≡ self.old.capacity }
         ensures err { OnErr result ((self.new ≡ self.old)
             ⊎ StopsAt I.into_iter_gives I.IntoIter.next_gives iter
+            (λ pairs next. RefusesAfter K.eq self.old pairs next self.new)) }
+        ensures late_err { 0 < length self.old.entries
+            → HasRoomForHalf I.into_iter_gives I.IntoIter.remaining iter
+            (length self.old.entries) self.old.capacity
+            → OnErr result (StopsAt I.into_iter_gives I.IntoIter.next_gives iter
             (λ pairs next. RefusesAfter K.eq self.old pairs next self.new)) }
     {
         VecMap::extend(self, iter)
@@ -98,6 +103,12 @@ impl<'a, K: Eq + Clone + 'a, V: Clone + 'a> Extend<(&'a K, &'a V)> for VecMap<K,
             ⊎ StopsAt I.into_iter_gives I.IntoIter.next_gives iter
             (λ items next. RefusesClonesAfter K.eq K.Clone V.Clone self.old (map deref_pair items)
             (deref_pair next) self.new)) }
+        ensures late_err { 0 < length self.old.entries
+            → HasRoomForHalf I.into_iter_gives I.IntoIter.remaining iter
+            (length self.old.entries) self.old.capacity
+            → OnErr result (StopsAt I.into_iter_gives I.IntoIter.next_gives iter
+            (λ items next. RefusesClonesAfter K.eq K.Clone V.Clone self.old (map deref_pair items)
+            (deref_pair next) self.new)) }
     {
         self.extend_refs(iter)
     }
@@ -142,6 +153,12 @@ impl<'a, K: Eq + Clone + 'a, V: Clone + 'a> Extend<&'a (K, V)> for VecMap<K, V> 
             (length self.old.entries) self.old.capacity → self.new.capacity ≡ self.old.capacity }
         ensures err { OnErr result ((self.new ≡ self.old)
             ⊎ StopsAt I.into_iter_gives I.IntoIter.next_gives iter
+            (λ items next. RefusesClonesAfter K.eq K.Clone V.Clone self.old
+            (map (λ p. p.now) items) next.now self.new)) }
+        ensures late_err { 0 < length self.old.entries
+            → HasRoomForHalf I.into_iter_gives I.IntoIter.remaining iter
+            (length self.old.entries) self.old.capacity
+            → OnErr result (StopsAt I.into_iter_gives I.IntoIter.next_gives iter
             (λ items next. RefusesClonesAfter K.eq K.Clone V.Clone self.old
             (map (λ p. p.now) items) next.now self.new)) }
     {

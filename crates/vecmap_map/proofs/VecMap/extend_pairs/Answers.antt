@@ -30,6 +30,19 @@ returns-in_err-put_clones-clause-err g c =
       (c.loop-pair.invariant.puts, λ k v. let one = c.in_err-put_clones.ensures.full k v in (one.0, one.1, record { unchanged = refl; absent = one.2.absent; full = one.2.full })),
     ))
 
+pub returns-in_err-put_clones-clause-late_err : goal.returns-in_err-put_clones-clause-late_err
+returns-in_err-put_clones-clause-late_err g c = λ some room.
+    let p = err_from_is_err_and c.from_residual-in_err-put_clones.result c.from_residual-in_err-put_clones.ensures.1 in
+    rw (p.1, c.in_err-put_clones.ensures.err) (
+      c.into_iter-pair-iterator.result,
+      c.loop-pair.yielded,
+      c.in-Some.pair,
+      c.next.new.self,
+      rw c.into_iter-pair-iterator.ensures.into_iter_gives c.into_iter-items.ensures.into_iter_gives,
+      (c.loop-pair.pair-iterator, c.loop-pair.yielded_by, c.in-Some.ensures.steps),
+      (c.loop-pair.invariant.puts, λ k v. let one = c.in_err-put_clones.ensures.full k v in (one.0, one.1, record { unchanged = refl; absent = one.2.absent; full = one.2.full })),
+    )
+
 pub returns-in_err-put_clones-clause-succeeds : goal.returns-in_err-put_clones-clause-succeeds
 returns-in_err-put_clones-clause-succeeds g c = λ room clones.
     let can = clones c.into_iter-pair-iterator.result c.loop-pair.yielded c.in-Some.pair c.next.new.self (rw c.into_iter-pair-iterator.ensures.into_iter_gives c.into_iter-items.ensures.into_iter_gives) (c.loop-pair.pair-iterator, c.loop-pair.yielded_by, c.in-Some.ensures.steps) in
