@@ -3,7 +3,7 @@ use Rattle.std.specs.Fn.{Mut}
 use Rattle.std.specs.Borrow.{Bor, MutBor}
 use Rattle.std.specs.List.{All, FoldsTo}
 use Rattle.std.specs.Map.{keys_of}
-use Rattle.std.specs.Prelude.{◌≡◌, ℕ, ◌+◌, ◌<◌, ◌≤◌, List, [], ◌∷◌, ◌++◌, drop, fold, if◌then◌else◌, length, map, refl, take, true, ⊤, Result, Ok, Err}
+use Rattle.std.specs.Prelude.{◌≡◌, ℕ, ◌+◌, ◌<◌, ◌≤◌, List, [], ◌∷◌, ◌++◌, drop, if◌then◌else◌, length, map, refl, take, true, ⊤, Result, Ok, Err}
 use Rattle.std.proofs.Common.{ap, arith, get_or, set, subst, sym, ◌∙◌}
 use Rattle.std.proofs.lemmas.List.{drop-set-lt, drop_more, length-set, map-append, take-append-drop, take_all, take_more, take_more_set}
 use Rattle.std.proofs.lemmas.List.Elements.{All-head, All-tail}
@@ -97,19 +97,20 @@ module _ {F K V : Type 0} (R : F → K × V → K × V → F → Type 0) (same :
       let rest = keys_updated k.2 ps k.3 g k.5 in
       ap keys_of k.6 ∙ (λ i. keys_of (if k.4.1 i then k.1 ∷ k.3 else k.3)) ∙ (λ i. same f p k.1 k.2 k.4.0 i ∷ rest i)
 
-module _ {F X S : Type 0} (R : F → X → X → F → Type 0) where
-  -- If each call takes what `view` sees of the item to `h` of it, so do all of them: as of a vector its items, whose
-  -- capacity may change too.
-  pub viewed : (view : X → S) (h : S → S) → ((f : F) (x y : X) (g : F) → R f x y g → view y ≡ h (view x)) → (f : F) (l m : List X) (g : F) → Updated R f l m g → map view m ≡ map h (map view l)
-  viewed view h told f [] m g k = ap (map view) k.0
-  viewed view h told f (x ∷ xs) m g k =
-      let rest = viewed view h told k.2 xs k.3 g k.5 in
-      ap (map view) k.6 ∙ (λ i. map view (if k.4.1 i then k.1 ∷ k.3 else k.3)) ∙ (λ i. told f x k.1 k.2 k.4.0 i ∷ rest i)
+-- What `view` sees of each item, as of a vector its items, whose capacity may change too. `Holds` is an invariant of the
+-- closure's states.
+module _ {F X S : Type 0} (R : F → X → X → F → Type 0) (Holds : F → Type 0) (view : X → S) (h : S → S) where
+  -- Each call in a state where `Holds` holds takes what is seen of the item to `h` of it.
+  abbrev pub Views : Type 0
+  Views = (f : F) (x y : X) (g : F) → Holds f → R f x y g → (view y ≡ h (view x)) × Holds g
 
-  -- What the calls leave of the closure's state, if each of them takes one step.
-  pub state_after : (state : F → S) (step : S → X → S) → ((f : F) (x y : X) (g : F) → R f x y g → state g ≡ step (state f) x) → (f : F) (l m : List X) (g : F) → Updated R f l m g → state g ≡ fold step (state f) l
-  state_after state step told f [] m g k = ap state k.1
-  state_after state step told f (x ∷ xs) m g k = state_after state step told k.2 xs k.3 g k.5 ∙ ap (λ s. fold step s xs) (told f x k.1 k.2 k.4.0)
+  -- Then so do all calls.
+  pub viewed_while : Views → (f : F) (l m : List X) (g : F) → Holds f → Updated R f l m g → (map view m ≡ map h (map view l)) × Holds g
+  viewed_while told f [] m g holds k = (ap (map view) k.0, subst Holds (sym k.1) holds)
+  viewed_while told f (x ∷ xs) m g holds k =
+      let one = told f x k.1 k.2 holds k.4.0 in
+      let rest = viewed_while told k.2 xs k.3 g one.1 k.5 in
+      (ap (map view) k.6 ∙ (λ i. map view (if k.4.1 i then k.1 ∷ k.3 else k.3)) ∙ (λ i. one.0 i ∷ rest.0 i), rest.1)
 
 module _ {F K V E : Type 0} (c : Mut F (Bor K × (MutBor V × Unit {0})) (Result (Unit {0}) E × (MutBor V × Unit {0}))) where
   -- The keys stay if a call fails.
@@ -118,14 +119,15 @@ module _ {F K V E : Type 0} (c : Mut F (Bor K × (MutBor V × Unit {0})) (Result
       let front = keys_updated (WritesValueAt c (Ok tt)) (λ f p q g call. call.1) f s.before s.written s.state s.updated in
       ap keys_of s.leaves ∙ map-append (λ p. p.0) s.written (s.left ∷ s.after) ∙ (λ i. front i ++ s.failed.1 i ∷ keys_of s.after) ∙ sym (map-append (λ p. p.0) s.before (s.pair ∷ s.after)) ∙ ap keys_of (sym s.all)
 
-  -- If a call that fails leaves what `view` sees, the first pairs are as `viewed` says, and the others as before.
-  pub stopped_viewed : {S : Type 0} (view : K × V → S) (h : S → S) → ((f : F) (p q : K × V) (g : F) → WritesValueAt c (Ok tt) f p q g → view q ≡ h (view p))
-      → ((e : E) (f : F) (p q : K × V) (g : F) → WritesValueAt c (Err e) f p q g → view q ≡ view p)
-      → (e : E) (f : F) (l m : List (K × V)) → StoppedAt c e f l m → (done rest : List S) × (map view l ≡ done ++ rest) × (map view m ≡ map h done ++ rest)
-  stopped_viewed view h writes fails e f l m s =
-      let front = viewed (WritesValueAt c (Ok tt)) view h writes f s.before s.written s.state s.updated in (
+  -- If also a call that fails leaves what is seen of its item, `h` is there for the first items, and the others are
+  -- as before.
+  pub stopped_while : {S : Type 0} (Holds : F → Type 0) (view : K × V → S) (h : S → S) → Views (WritesValueAt c (Ok tt)) Holds view h
+      → ((e : E) (f : F) (p q : K × V) (g : F) → Holds f → WritesValueAt c (Err e) f p q g → view q ≡ view p)
+      → (e : E) (f : F) (l m : List (K × V)) → Holds f → StoppedAt c e f l m → (done rest : List S) × (map view l ≡ done ++ rest) × (map view m ≡ map h done ++ rest)
+  stopped_while Holds view h writes fails e f l m holds s =
+      let front = viewed_while (WritesValueAt c (Ok tt)) Holds view h writes f s.before s.written s.state holds s.updated in (
         map view s.before,
         map view (s.pair ∷ s.after),
         ap (map view) s.all ∙ map-append view s.before (s.pair ∷ s.after),
-        ap (map view) s.leaves ∙ map-append view s.written (s.left ∷ s.after) ∙ (λ i. front i ++ fails e s.state s.pair s.left s.last s.failed i ∷ map view s.after),
+        ap (map view) s.leaves ∙ map-append view s.written (s.left ∷ s.after) ∙ (λ i. front.0 i ++ fails e s.state s.pair s.left s.last front.1 s.failed i ∷ map view s.after),
       )

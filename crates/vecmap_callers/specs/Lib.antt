@@ -4,4 +4,5 @@ pub mod Interner
 pub mod Options
 pub mod Scopes
 pub mod Settings
+pub mod Updating
 pub mod Words

@@ -3,6 +3,7 @@
 #![tactic(auto)]
 
 pub mod bulk;
+pub mod by_value;
 pub mod entry;
 pub mod equality;
 pub mod equivalent;

@@ -2,6 +2,7 @@
 //! measure: the depth of the value is found, whichever way the values of a map are read.
 pub mod equality;
 pub mod instead;
+pub mod moves;
 pub mod shapes;
 pub mod types;
 pub mod walks;

