@@ -129,7 +129,7 @@ fn clones_of_owning_iterators_return_what_is_left(rt: HostRuntime) {
 }
 
 #[test]
-fn a_clone_of_values_leaves_the_original(rt: HostRuntime) {
+fn into_values_and_its_clone_return_what_is_left(rt: HostRuntime) {
     let map = granted(
         &rt,
         VecMap::from_slice(rt.alloc(), &[('a', 1), ('b', 2), ('c', 3)]),
