@@ -25,7 +25,7 @@ pub use item::{Item, has_items, has_pairs, item_pairs, items, make_item};
 pub use pulls::{End, all_ends, pulls_as_list};
 pub use query::Number;
 pub use same::{Same, are_same};
-pub use texts::{has_text_pairs, has_texts, text_pairs, texts};
+pub use texts::{has_text_pairs, has_texts, text_items, text_pairs};
 pub use told::{
     Drops, Log, Told, has_told, has_told_pairs, make_told, told_couples, told_items, told_pairs,
 };

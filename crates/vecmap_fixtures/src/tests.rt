@@ -2,7 +2,7 @@
 //! this.
 use super::{
     Log, all_ends, are_same, has_items, has_pairs, has_text_pairs, has_texts, has_told,
-    has_told_pairs, make_item, pulls_as_list, text_pairs, texts, told_couples, told_items,
+    has_told_pairs, make_item, pulls_as_list, text_items, text_pairs, told_couples, told_items,
 };
 use std::test::Fail;
 use vecmap_base::items_distinct;
@@ -29,7 +29,7 @@ fn pairs_and_elements_are_told_apart(rt: HostRuntime) {
 #[test]
 fn texts_are_told_apart(rt: HostRuntime) -> Result<(), Fail> {
     let pairs = text_pairs(rt.alloc(), &[("a", "1"), ("b", "2")])?;
-    let texts = texts(rt.alloc(), &["a", "b"])?;
+    let texts = text_items(rt.alloc(), &["a", "b"])?;
     assert!(rt; has_text_pairs(&pairs, &[("a", "1"), ("b", "2")]));
     assert!(rt; has_texts(&texts, &["a", "b"]));
     for pair in [("c", "2"), ("b", "3")] {

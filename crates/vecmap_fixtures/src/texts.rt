@@ -15,7 +15,7 @@ pub fn text_pairs(
 }
 
 /// Creates a list of these texts, without spare capacity.
-pub fn texts(alloc: Global, texts: &[&str]) -> Result<Vec<String>, AllocError> {
+pub fn text_items(alloc: Global, texts: &[&str]) -> Result<Vec<String>, AllocError> {
     let mut made = Vec::with_capacity(alloc, texts.len())?;
     for text in texts {
         made.push(String::from_str(alloc, text)?)?;

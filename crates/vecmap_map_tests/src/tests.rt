@@ -9,8 +9,6 @@
 //! - `queries`: calls by each kind of query: a key, a text, a slice, and a query that is not a key.
 //! - `repeats`: calls by key on a map in which keys repeat.
 //! - `sizes`: sizes of keys, pairs and maps for which a call has a path of its own.
-//!
-//! `checks` has the functions by which they assert.
 mod bulk;
 mod by_reference;
 mod clones;

@@ -6,8 +6,6 @@
 //! - `drops`: each element that is passed is dropped once, or returned.
 //! - `no_size`: elements of no size.
 //! - `queries`: calls by each kind of query: an element, a text, a slice, and a query that is not an element.
-//!
-//! `checks` has the functions by which they assert.
 mod bulk;
 mod by_reference;
 mod clones;

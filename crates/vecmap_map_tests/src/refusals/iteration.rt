@@ -42,7 +42,7 @@ fn a_clone_of_keys_leaves_the_original(rt: HostRuntime) {
 }
 
 #[test]
-fn a_clone_of_values_leaves_the_original(rt: HostRuntime) {
+fn a_clone_of_text_values_leaves_the_original(rt: HostRuntime) {
     let mut values = make!(rt; text_map(rt.alloc(), TEXTS)).into_values();
     check!(rt; values.next_back().is_some());
     let mut copy = make!(rt; values.clone());

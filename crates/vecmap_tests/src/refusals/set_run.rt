@@ -9,7 +9,7 @@ use std::alloc::{AllocError, Global};
 use std::process::Abort;
 use std::slice;
 use vecmap::{SetCommand, SetReply, VecSet, run_set};
-use vecmap_fixtures::{Item, has_items, has_texts, items, make_item, texts};
+use vecmap_fixtures::{Item, has_items, has_texts, items, make_item, text_items};
 
 const FULL: &[(u32, char)] = &[(1, 'a'), (2, 'b')];
 
@@ -159,7 +159,7 @@ where
     F: Fn(Global) -> Result<SetCommand<String>, AllocError> + Drop,
     requires { F.IsAlwaysCallable command }
 {
-    let mut set = VecSet::from(make!(rt; texts(alloc, TEXTS)));
+    let mut set = VecSet::from(make!(rt; text_items(alloc, TEXTS)));
     let reply = retry!(rt; reply_to(rt, alloc, &mut set, command(alloc)), AllocError => {
         assert_texts(rt, &set, TEXTS);
     });
@@ -206,7 +206,7 @@ fn intersect_replies_clones_or_out_of_memory(rt: HostRuntime) {
         &rt,
         rt.alloc(),
         &["a"],
-        |alloc| Ok(SetCommand::Intersect(VecSet::from(texts(alloc, &["a"])?))),
+        |alloc| Ok(SetCommand::Intersect(VecSet::from(text_items(alloc, &["a"])?))),
     );
 }
 
@@ -216,7 +216,7 @@ fn unite_replies_clones_or_out_of_memory(rt: HostRuntime) {
         &rt,
         rt.alloc(),
         &["b", "a", "c"],
-        |alloc| Ok(SetCommand::Unite(VecSet::from(texts(alloc, &["c"])?))),
+        |alloc| Ok(SetCommand::Unite(VecSet::from(text_items(alloc, &["c"])?))),
     );
 }
 
@@ -226,7 +226,7 @@ fn exclusive_replies_clones_or_out_of_memory(rt: HostRuntime) {
         &rt,
         rt.alloc(),
         &["b"],
-        |alloc| Ok(SetCommand::Exclusive(VecSet::from(texts(alloc, &["a"])?))),
+        |alloc| Ok(SetCommand::Exclusive(VecSet::from(text_items(alloc, &["a"])?))),
     );
 }
 
@@ -236,6 +236,6 @@ fn subtract_replies_clones_or_out_of_memory(rt: HostRuntime) {
         &rt,
         rt.alloc(),
         &["a"],
-        |alloc| Ok(SetCommand::Subtract(VecSet::from(texts(alloc, &["b"])?))),
+        |alloc| Ok(SetCommand::Subtract(VecSet::from(text_items(alloc, &["b"])?))),
     );
 }
