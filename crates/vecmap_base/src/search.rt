@@ -11,8 +11,8 @@ use std::cmp::Ordering;
 
 /// Searches `items` with `f`, which compares the item at an index with what is sought.
 ///
-/// `f` returns `Less` for the first items, then `Equal`, then `Greater`. `Ok` holds the index of an equal item. If
-/// there is none, `Err` holds the number of items that are less. If the items are in another order, `Ok` is still the
+/// `f` returns `Less` for the first items, then `Equal`, then `Greater`. `Ok` holds the index of an equal item, any one
+/// of them. If there is none, `Err` holds the number of items that are less. If the items are in another order, `Ok` is still the
 /// index of an equal item, but `Err` says nothing.
 ///
 /// # Conditions
@@ -55,8 +55,8 @@ pub fn search_by_index<T, F: Fn(usize) -> Ordering>(items: &[T], f: F) -> Result
 
 /// Searches for `key` in pairs that ascend by the key that `f` extracts.
 ///
-/// `Ok` holds the index of a pair with an equal key. If there is none, `Err` holds the number of pairs with lesser
-/// keys.
+/// `Ok` holds the index of a pair with an equal key, any one of them. If there is none, `Err` holds the number of pairs
+/// with lesser keys.
 ///
 /// # Conditions
 ///
@@ -97,8 +97,8 @@ pub fn search_pairs_by_key<'a, K, V, B: Ord + Drop, F: Fn(&'a K, &'a V) -> B>(
 
 /// Searches for `key` in items that ascend by the key that `f` extracts.
 ///
-/// `Ok` holds the index of an item with an equal key. If there is none, `Err` holds the number of items with lesser
-/// keys.
+/// `Ok` holds the index of an item with an equal key, any one of them. If there is none, `Err` holds the number of items
+/// with lesser keys.
 ///
 /// # Conditions
 ///

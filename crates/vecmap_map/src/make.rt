@@ -29,7 +29,8 @@ impl<K, V> VecMap<K, V> {
     ///
     /// # Errors
     ///
-    /// [`AllocError`] if the allocator refuses the request; no map is created.
+    /// [`AllocError`] if the allocator refuses the request, or if the pairs would take more than `isize::MAX` bytes; no
+    /// map is created.
     ///
     /// # Examples
     ///

@@ -58,7 +58,12 @@ impl<K, V> VecMap<K, V> {
     ///
     /// # Errors
     ///
-    /// [`AllocError`] if the allocator refuses the request; the map is then unchanged.
+    /// [`AllocError`] if the allocator refuses the request, or if the pairs would take more than `isize::MAX` bytes; the
+    /// map is then unchanged.
+    ///
+    /// # Complexity
+    ///
+    /// At most one request. It may move all pairs.
     ///
     /// # Examples
     ///
@@ -83,7 +88,12 @@ impl<K, V> VecMap<K, V> {
     ///
     /// # Errors
     ///
-    /// [`AllocError`] if the allocator refuses the request; the map is then unchanged.
+    /// [`AllocError`] if the allocator refuses the request, or if the pairs would take more than `isize::MAX` bytes; the
+    /// map is then unchanged.
+    ///
+    /// # Complexity
+    ///
+    /// At most one request. It may move all pairs.
     ///
     /// # Examples
     ///
@@ -101,11 +111,12 @@ impl<K, V> VecMap<K, V> {
         self.pairs.reserve_exact(additional)
     }
 
-    /// Like [`VecMap::reserve`], but with the error type that Rust gives this call.
+    /// Like [`VecMap::reserve`], with the same cost, but with the error type that Rust gives this call.
     ///
     /// # Errors
     ///
-    /// [`TryReserveError`] if the allocator refuses the request; the map is then unchanged.
+    /// [`TryReserveError`] if the allocator refuses the request, or if the pairs would take more than `isize::MAX` bytes;
+    /// the map is then unchanged.
     ///
     /// # Examples
     ///
@@ -120,11 +131,12 @@ impl<K, V> VecMap<K, V> {
         self.reserve(additional)
     }
 
-    /// Like [`VecMap::reserve_exact`], but with the error type that Rust gives this call.
+    /// Like [`VecMap::reserve_exact`], with the same cost, but with the error type that Rust gives this call.
     ///
     /// # Errors
     ///
-    /// [`TryReserveError`] if the allocator refuses the request; the map is then unchanged.
+    /// [`TryReserveError`] if the allocator refuses the request, or if the pairs would take more than `isize::MAX` bytes;
+    /// the map is then unchanged.
     ///
     /// # Examples
     ///
@@ -143,6 +155,10 @@ impl<K, V> VecMap<K, V> {
     ///
     /// All pairs may be moved. The call never fails: if the allocator refuses a smaller block, the capacity stays. If
     /// there are no pairs, nothing is requested, and the capacity is 0 afterwards.
+    ///
+    /// # Complexity
+    ///
+    /// At most one request. It may move all pairs.
     ///
     /// # Examples
     ///
@@ -166,6 +182,10 @@ impl<K, V> VecMap<K, V> {
     ///
     /// A smaller capacity stays as it is. All pairs may be moved. The call never fails: if the allocator refuses a
     /// smaller block, the capacity stays.
+    ///
+    /// # Complexity
+    ///
+    /// At most one request. It may move all pairs.
     ///
     /// # Examples
     ///

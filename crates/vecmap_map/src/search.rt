@@ -121,6 +121,8 @@ impl<K, V> VecMap<K, V> {
 
     /// Returns the number of pairs for which `pred` returns `true`, if these pairs come first.
     ///
+    /// If they do not, the result is only known to be at most `len`.
+    ///
     /// # Conditions
     ///
     /// `pred` can be called with each pair of the map.

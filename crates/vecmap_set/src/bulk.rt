@@ -20,7 +20,7 @@ impl<T: Eq> VecSet<T> {
     ///
     /// # Errors
     ///
-    /// [`AllocError`] if the allocator refuses a request; no set is created.
+    /// [`AllocError`] if the allocator refuses a request; no set is created, and the elements and the iterator are dropped.
     ///
     /// # Conditions
     ///

@@ -59,7 +59,12 @@ impl<T: Eq> VecSet<T> {
     ///
     /// # Errors
     ///
-    /// [`AllocError`] if the allocator refuses the request; the set is then unchanged.
+    /// [`AllocError`] if the allocator refuses the request, or if the elements would take more than `isize::MAX` bytes; the
+    /// set is then unchanged.
+    ///
+    /// # Complexity
+    ///
+    /// At most one request. It may move all elements.
     ///
     /// # Examples
     ///
@@ -85,7 +90,12 @@ impl<T: Eq> VecSet<T> {
     ///
     /// # Errors
     ///
-    /// [`AllocError`] if the allocator refuses the request; the set is then unchanged.
+    /// [`AllocError`] if the allocator refuses the request, or if the elements would take more than `isize::MAX` bytes; the
+    /// set is then unchanged.
+    ///
+    /// # Complexity
+    ///
+    /// At most one request. It may move all elements.
     ///
     /// # Examples
     ///
@@ -104,11 +114,12 @@ impl<T: Eq> VecSet<T> {
         self.items.reserve_exact(additional)
     }
 
-    /// Like [`VecSet::reserve`], but with the error type that Rust gives this call.
+    /// Like [`VecSet::reserve`], with the same cost, but with the error type that Rust gives this call.
     ///
     /// # Errors
     ///
-    /// [`TryReserveError`] if the allocator refuses the request; the set is then unchanged.
+    /// [`TryReserveError`] if the allocator refuses the request, or if the elements would take more than `isize::MAX` bytes;
+    /// the set is then unchanged.
     ///
     /// # Examples
     ///
@@ -124,11 +135,12 @@ impl<T: Eq> VecSet<T> {
         self.reserve(additional)
     }
 
-    /// Like [`VecSet::reserve_exact`], but with the error type that Rust gives this call.
+    /// Like [`VecSet::reserve_exact`], with the same cost, but with the error type that Rust gives this call.
     ///
     /// # Errors
     ///
-    /// [`TryReserveError`] if the allocator refuses the request; the set is then unchanged.
+    /// [`TryReserveError`] if the allocator refuses the request, or if the elements would take more than `isize::MAX` bytes;
+    /// the set is then unchanged.
     ///
     /// # Examples
     ///
@@ -148,6 +160,10 @@ impl<T: Eq> VecSet<T> {
     ///
     /// All elements may be moved. The call never fails: if the allocator refuses a smaller block, the capacity stays.
     /// If there are no elements, nothing is requested, and the capacity is 0 afterwards.
+    ///
+    /// # Complexity
+    ///
+    /// At most one request. It may move all elements.
     ///
     /// # Examples
     ///
@@ -172,6 +188,10 @@ impl<T: Eq> VecSet<T> {
     ///
     /// A smaller capacity stays as it is. All elements may be moved. The call never fails: if the allocator refuses a
     /// smaller block, the capacity stays.
+    ///
+    /// # Complexity
+    ///
+    /// At most one request. It may move all elements.
     ///
     /// # Examples
     ///

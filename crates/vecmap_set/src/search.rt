@@ -116,6 +116,8 @@ impl<T: Eq> VecSet<T> {
 
     /// Returns the number of elements for which `pred` returns `true`, if these elements come first.
     ///
+    /// If they do not, the result is only known to be at most `len`.
+    ///
     /// # Conditions
     ///
     /// `pred` can be called with each element of the set.

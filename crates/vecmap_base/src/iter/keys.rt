@@ -202,7 +202,8 @@ impl<K, V> IntoKeys<K, V> {
     ///
     /// # Errors
     ///
-    /// [`AllocError`] if the allocator refuses the request; this iterator then still has all keys that it had left.
+    /// [`AllocError`] if the allocator refuses a request, or if the clone of a key fails; this iterator then still has
+    /// all keys that it had left.
     ///
     /// # Examples
     ///

@@ -202,7 +202,7 @@ impl<'a, K, V> OccupiedEntry<'a, K, V> {
         self.map.swap_remove_index(index)
     }
 
-    /// Like [`OccupiedEntry::remove_entry`], but returns only the value.
+    /// Like [`OccupiedEntry::remove_entry`], with the same cost, but returns only the value.
     ///
     /// # Examples
     ///
@@ -222,7 +222,7 @@ impl<'a, K, V> OccupiedEntry<'a, K, V> {
         value
     }
 
-    /// Like [`OccupiedEntry::swap_remove_entry`], but returns only the value.
+    /// Like [`OccupiedEntry::swap_remove_entry`], with the same cost, but returns only the value.
     ///
     /// # Examples
     ///
