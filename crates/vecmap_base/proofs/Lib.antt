@@ -15,4 +15,5 @@ pub mod IndexLemmas
 pub mod RepeatsLemmas
 pub mod SearchLemmas
 pub mod UpdatedLemmas
+mod UpdatedSteps
 pub mod WalkLemmas

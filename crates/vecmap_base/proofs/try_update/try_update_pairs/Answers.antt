@@ -2,7 +2,8 @@
 use Rattle.std.proofs.Common.{ap, arith, get_or, ◌∙◌}
 use Rattle.std.specs.Prelude.{◌+◌, ◌≤◌, Ok, drop, length, take}
 use Rattle.vecmap_base.proofs.PairsLemmas.EachValue.{lookup_by_map_values}
-use Rattle.vecmap_base.proofs.UpdatedLemmas.{all_updated, callable_next, computed, computed_always, keys_stopped, keys_updated, one_updated, split, written_split}
+use Rattle.vecmap_base.proofs.UpdatedLemmas.{computed, computed_always, keys_stopped, keys_updated}
+use Rattle.vecmap_base.proofs.UpdatedSteps.{all_updated, callable_next, one_updated, split, written_split}
 use Rattle.vecmap_base.proofs.try_update.try_update_pairs.Goals as goal
 use Rattle.vecmap_base.specs.Pairs.{lookup_by}
 use Rattle.vecmap_base.specs.Updated.{TakesValueAt, WritesValueAt}

@@ -2,7 +2,8 @@
 use Rattle.std.proofs.Common.{ap, arith, ◌∙◌}
 use Rattle.std.specs.Prelude.{◌≤◌, length}
 use Rattle.vecmap_base.proofs.PairsLemmas.EachValue.{lookup_by_map_values}
-use Rattle.vecmap_base.proofs.UpdatedLemmas.{all_updated, callable_next, computed, computed_always, keys_updated, one_updated}
+use Rattle.vecmap_base.proofs.UpdatedLemmas.{computed, computed_always, keys_updated}
+use Rattle.vecmap_base.proofs.UpdatedSteps.{all_updated, callable_next, one_updated}
 use Rattle.vecmap_base.proofs.update.update_pairs.Goals as goal
 use Rattle.vecmap_base.specs.Pairs.{lookup_by}
 use Rattle.vecmap_base.specs.Updated.{TakesValueAt, WritesValueAt}
