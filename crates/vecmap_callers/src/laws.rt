@@ -5,6 +5,7 @@ pub mod distinct;
 pub mod equality;
 pub mod lookups;
 pub mod members;
+pub mod more_insertions;
 pub mod moving;
 pub mod pulls;
 pub mod queries;

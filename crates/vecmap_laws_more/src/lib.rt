@@ -1,0 +1,5 @@
+//! Laws of the definitions that contracts use, for maps and for sets. A call of a law costs nothing at run time, and
+//! gives the law to a proof.
+#![tactic(auto)]
+
+pub mod maps;
