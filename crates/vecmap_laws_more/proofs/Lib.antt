@@ -3,5 +3,9 @@ pub mod EntryLemmas
 pub mod FilterLemmas
 pub mod FirstValue
 pub mod HeadLemmas
+pub mod IndexAfterLemmas
 pub mod LawLemmas
+pub mod MemberLemmas
+pub mod PartLemmas
 pub mod PositionLemmas
+pub mod RemovalLemmas

@@ -3,3 +3,4 @@
 #![tactic(auto)]
 
 pub mod maps;
+pub mod sets;

@@ -1,8 +1,19 @@
 //! Laws of maps.
 mod combining;
 mod entries;
+mod filters;
 mod first_value;
+mod query_removals;
+mod removals;
 
 pub use combining::combining_insertions_are_found;
 pub use entries::modified_values_are_inserted;
+pub use filters::filters_keep_lookups;
 pub use first_value::first_values_win;
+pub use query_removals::{
+    queries_find_alike, removals_by_queries_are_forgotten, removals_by_texts_are_forgotten,
+};
+pub use removals::{
+    moving_removals_are_forgotten, parts_keep_their_lookups, removals_are_filters,
+    removals_change_indices, removals_shorten,
+};
