@@ -6,6 +6,8 @@ pub mod equality;
 pub mod lookups;
 pub mod members;
 pub mod more_insertions;
+pub mod more_removals;
+pub mod more_set_removals;
 pub mod moving;
 pub mod pulls;
 pub mod queries;

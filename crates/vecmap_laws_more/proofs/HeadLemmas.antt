@@ -1,9 +1,9 @@
 -- Lists of distinct keys, and of distinct elements, by the first item and the rest.
-use Rattle.std.proofs.Common.{◌≡◌, Bool, false, List, [], ◌∷◌, None}
+use Rattle.std.proofs.Common.{◌≡◌, Bool, false, List, [], ◌∷◌, None, ap, is_some, sym, ◌∙◌}
 use Rattle.std.proofs.lemmas.Map.Keys.{IsDistinct-head, IsDistinct-tail}
 use Rattle.std.specs.{List.IsDistinct, List.list_any, Map.keys_of}
-use Rattle.vecmap_base.proofs.DistinctLemmas.Absent.{none_equal}
-use Rattle.vecmap_base.proofs.PairsLemmas.{Indices.index_of_none, Lookups.lookup_absent}
+use Rattle.vecmap_base.proofs.DistinctLemmas.Absent.{distinct_if_absent, none_equal}
+use Rattle.vecmap_base.proofs.PairsLemmas.{Indices.index_of_none, Indices.is_some_index_of, Lookups.lookup_absent}
 use Rattle.vecmap_base.specs.Pairs.{HasDistinctKeys, index_of, lookup}
 
 module _ {T : Type 0} (eq : T → T → Bool) where
@@ -23,3 +23,7 @@ module _ {K V : Type 0} (eq : K → K → Bool) where
   -- The keys of the rest are distinct.
   pub rest_is_distinct : (p : K × V) (ps : List (K × V)) → HasDistinctKeys eq (p ∷ ps) → HasDistinctKeys eq ps
   rest_is_distinct p ps d = IsDistinct-tail eq p.0 (keys_of ps) d
+
+  -- An absent key can be the first of a list of distinct keys.
+  pub distinct_if_head_absent : (p : K × V) (ps : List (K × V)) → index_of eq ps p.0 ≡ None → HasDistinctKeys eq ps → HasDistinctKeys eq (p ∷ ps)
+  distinct_if_head_absent p ps none d = distinct_if_absent eq p.0 (keys_of ps) (sym (is_some_index_of eq ps p.0) ∙ ap is_some none) d

@@ -2,10 +2,14 @@ pub mod Combining
 pub mod EntryLemmas
 pub mod FilterLemmas
 pub mod FirstValue
+pub mod FoundLemmas
 pub mod HeadLemmas
 pub mod IndexAfterLemmas
 pub mod LawLemmas
+pub mod MapCongruence
 pub mod MemberLemmas
 pub mod PartLemmas
 pub mod PositionLemmas
 pub mod RemovalLemmas
+pub mod SetCongruence
+pub mod TwoKeys

@@ -48,17 +48,21 @@ module _ {K V : Type 0} (eq : K → K → Bool) (o : IsEquivalence eq) where
       by true e = sym (lookup_congr eq o rest p.0 q e) ∙ head_has_no_value eq p rest (distinct_keys_rearranged eq o l (p ∷ rest) moved d)
       by false e = sym (look eq p rest q false (o.symm q p.0 ∙ e)) ∙ lookup_rearranged eq o l (p ∷ rest) moved d q
 
-  -- A query finds alike in two lists in which each key that it matches finds alike.
-  pub query_finds_alike : (test : K → Bool) → IsKeyTest eq test → (l m : List (K × V)) → ((q : K) → IsTrue (test q) → lookup eq m q ≡ lookup eq l q) → lookup_by test m ≡ lookup_by test l
-  query_finds_alike test respects l m alike = by (index_by test m) (index_by test l) refl refl
+  -- What a query finds has the same `f` in two lists, if what each key that it matches finds has.
+  pub query_finds_same : {X : Type 0} (f : Option V → X) (test : K → Bool) → IsKeyTest eq test → (l m : List (K × V)) → ((q : K) → IsTrue (test q) → f (lookup eq m q) ≡ f (lookup eq l q)) → f (lookup_by test m) ≡ f (lookup_by test l)
+  query_finds_same {X} f test respects l m alike = by (index_by test m) (index_by test l) refl refl
     where
       matched : (n : List (K × V)) (i : ℕ) → index_by test n ≡ Some i → (k : K) × IsTrue (test k) × (lookup_by test n ≡ lookup eq n k)
       matched n i e = let p = passing_at (λ r. test r.0) n i e in (p.0.0, p.2, lookup_by_query eq o test respects n p.0.0 p.2)
 
-      by : (x y : Option ℕ) → index_by test m ≡ x → index_by test l ≡ y → lookup_by test m ≡ lookup_by test l
-      by (Some i) y e f = let r = matched m i e in r.2 ∙ alike r.0 r.1 ∙ sym (lookup_by_query eq o test respects l r.0 r.1)
-      by None (Some j) e f = let r = matched l j f in lookup_by_query eq o test respects m r.0 r.1 ∙ alike r.0 r.1 ∙ sym r.2
-      by None None e f = ap (option_and_then (value_at m)) e ∙ sym (ap (option_and_then (value_at l)) f)
+      by : (x y : Option ℕ) → index_by test m ≡ x → index_by test l ≡ y → f (lookup_by test m) ≡ f (lookup_by test l)
+      by (Some i) y e g = let r = matched m i e in ap f r.2 ∙ alike r.0 r.1 ∙ sym (ap f (lookup_by_query eq o test respects l r.0 r.1))
+      by None (Some j) e g = let r = matched l j g in ap f (lookup_by_query eq o test respects m r.0 r.1) ∙ alike r.0 r.1 ∙ sym (ap f r.2)
+      by None None e g = ap f (ap (option_and_then (value_at m)) e ∙ sym (ap (option_and_then (value_at l)) g))
+
+  -- A query finds alike in two lists in which each key that it matches finds alike.
+  pub query_finds_alike : (test : K → Bool) → IsKeyTest eq test → (l m : List (K × V)) → ((q : K) → IsTrue (test q) → lookup eq m q ≡ lookup eq l q) → lookup_by test m ≡ lookup_by test l
+  query_finds_alike = query_finds_same (λ found. found)
 
 -- A removal by index, which leaves all other items.
 module _ {X : Type 0} (takes : List X → ℕ → List X) (leaves : (xs : List X) (i : ℕ) (x : X) → slice_get xs i ≡ Some x → IsPermutation xs (x ∷ takes xs i)) where
