@@ -11,5 +11,7 @@ pub mod MemberLemmas
 pub mod PartLemmas
 pub mod PositionLemmas
 pub mod RemovalLemmas
+pub mod SearchedMaps
 pub mod SetCongruence
+pub mod SortedLemmas
 pub mod TwoKeys

@@ -7,6 +7,7 @@ mod filters;
 mod first_value;
 mod query_removals;
 mod removals;
+mod sorted;
 mod two_keys;
 mod writes;
 
@@ -22,6 +23,10 @@ pub use query_removals::{
 pub use removals::{
     moving_removals_are_forgotten, parts_keep_their_lookups, removals_are_filters,
     removals_change_indices, removals_shorten,
+};
+pub use sorted::{
+    binary_searches_find_indices, insertions_where_searches_end_keep_the_order,
+    sorts_of_sorted_maps_change_nothing,
 };
 pub use two_keys::{values_are_found_by_two_keys, values_are_found_by_two_texts};
 pub use writes::{writes_leave_other_keys, writes_of_found_values_change_nothing};
