@@ -10,6 +10,7 @@ pub mod more_equality;
 pub mod more_insertions;
 pub mod more_removals;
 pub mod more_set_removals;
+pub mod more_sorted;
 pub mod more_writes;
 pub mod moving;
 pub mod pulls;

@@ -9,8 +9,10 @@ pub mod LawLemmas
 pub mod MapCongruence
 pub mod MemberLemmas
 pub mod PartLemmas
+pub mod PartialEquality
 pub mod PositionLemmas
 pub mod RemovalLemmas
+pub mod RunLemmas
 pub mod SearchedMaps
 pub mod SetCongruence
 pub mod SortedLemmas

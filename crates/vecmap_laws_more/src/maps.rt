@@ -5,6 +5,7 @@ mod distinct;
 mod entries;
 mod filters;
 mod first_value;
+mod partial_equality;
 mod query_removals;
 mod removals;
 mod sorted;
@@ -17,6 +18,7 @@ pub use distinct::{distinct_keys_by_head_and_rest, found_pairs_are_stored};
 pub use entries::modified_values_are_inserted;
 pub use filters::filters_keep_lookups;
 pub use first_value::first_values_win;
+pub use partial_equality::equality_with_partial_values;
 pub use query_removals::{
     queries_find_alike, removals_by_queries_are_forgotten, removals_by_texts_are_forgotten,
 };
