@@ -9,6 +9,7 @@ pub mod more_distinct;
 pub mod more_equality;
 pub mod more_insertions;
 pub mod more_removals;
+pub mod more_runs;
 pub mod more_set_removals;
 pub mod more_sorted;
 pub mod more_writes;

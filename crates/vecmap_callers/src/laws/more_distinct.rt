@@ -1,5 +1,4 @@
 //! Callers of laws about lists of distinct keys and elements, and about what lookups find.
-ghost use Rattle.std.specs.List.{IsDistinct};
 ghost use Rattle.std.specs.Prelude.{◌≡◌, ◌<◌, ◌∷◌, ℕ, None, Some, [], false, length, slice_get, true};
 ghost use Rattle.std.specs.Set.{is_member};
 ghost use Rattle.vecmap.specs.Items.{only};
@@ -33,12 +32,13 @@ pub fn stored_index<K: Eq, V>(map: &VecMap<K, V>, key: &K) -> Option<usize>
 
 /// Takes the first element. It is absent from the rest.
 pub fn take_first_item<T: Eq>(set: &mut VecSet<T>) -> T
-    requires some { 0 < length set.old.elements }
-    requires distinct { IsDistinct T.eq set.old.elements }
+    requires { 0 < length set.old.elements }
     ensures { set.old.elements ≡ result ∷ set.new.elements
         → is_member T.eq set.new.elements result ≡ false }
 {
     distinct_elements_by_head_and_rest::<T>();
+    // The law needs that no two elements are equal, which `as_slice` states.
+    set.as_slice();
     set.remove_index(0)
 }
 

@@ -1,12 +1,12 @@
 //! Callers of laws about equal maps and sets after the same changes.
-ghost use Rattle.std.specs.Prelude.{◌≡◌, IfOk, IsTrue, OnOk, nat_eq};
+ghost use Rattle.std.specs.Prelude.{◌≡◌, All, IfOk, IsTrue, OnOk, nat_eq};
 ghost use Rattle.vecmap.specs.Equality.{has_same_counts, has_same_items};
 ghost use Rattle.vecmap.specs.Pairs.{HasDistinctKeys};
 
 use std::alloc::AllocError;
 use vecmap::set::laws::clones_have_the_same_members;
 use vecmap::{Refused, VecMap, VecSet};
-use vecmap_laws_more::maps::equal_maps_stay_equal;
+use vecmap_laws_more::maps::{equal_maps_stay_equal, equality_with_partial_values};
 use vecmap_laws_more::sets::{equal_sets_stay_equal, operators_of_equal_sets_are_equal};
 
 /// Removes a number from two maps. Equal maps stay equal.
@@ -51,4 +51,13 @@ pub fn shared_by_both(
     let first = (a & c)?;
     let second = (b & c)?;
     Ok((first, second))
+}
+
+/// Sorts the keys of a map whose values are equal to themselves. The map is equal to what it was.
+pub fn sort_partial<K: Ord, V: PartialEq>(map: &mut VecMap<K, V>)
+    requires { All (λ pair. IsTrue (V.eq pair.1 pair.1)) map.old.entries }
+    ensures { IsTrue (has_same_counts K.eq V.eq map.old.entries map.new.entries) }
+{
+    equality_with_partial_values::<K, V>();
+    map.sort_unstable_keys();
 }

@@ -1,5 +1,4 @@
 //! Callers of laws about what removals leave of a set.
-ghost use Rattle.std.specs.List.{IsDistinct};
 ghost use Rattle.std.specs.Option.{option_map_or};
 ghost use Rattle.std.specs.Prelude.{◌&&◌, ◌≡◌, ◌-◌, ◌≤◌, ℕ, IfOk, Some, false, filter, if◌then◌else◌, is_some, length, nat_eq, nat_lt, not};
 ghost use Rattle.std.specs.Set.{is_member};
@@ -17,30 +16,33 @@ use vecmap_laws_more::sets::{
 
 /// Removes an element, and leaves all others in order.
 pub fn drop_item<T: Eq + Drop>(set: &mut VecSet<T>, item: &T)
-    requires { IsDistinct T.eq set.old.elements }
     ensures { set.new.elements ≡ filter (λ other. not (T.eq item.now other)) set.old.elements }
 {
     removals_are_filters::<T>();
+    // The law needs that no two elements are equal, which `as_slice` states.
+    set.as_slice();
     set.remove(item);
 }
 
 /// Takes the last element. All others stay.
 pub fn take_last<T: Eq>(set: &mut VecSet<T>) -> Option<T>
-    requires { IsDistinct T.eq set.old.elements }
     ensures { (last : T) → result ≡ Some last → (other : T) → is_member T.eq set.new.elements other
         ≡ (is_member T.eq set.old.elements other && not (T.eq last other)) }
 {
     removals_keep_other_elements::<T>();
+    // As in `drop_item`.
+    set.as_slice();
     set.pop()
 }
 
 /// Removes the element that a query matches; the last element moves to its index. All others stay.
 pub fn drop_matched<T: Eq + Drop, Q: Equivalent<T>>(set: &mut VecSet<T>, query: Q)
-    requires { IsDistinct T.eq set.old.elements }
     ensures { (other : T) → is_member T.eq set.new.elements other
         ≡ (is_member T.eq set.old.elements other && not (Q.equivalent query other)) }
 {
     removals_by_queries_keep_other_elements::<T, Q>();
+    // As in `drop_item`.
+    set.as_slice();
     set.swap_remove(query);
 }
 
@@ -67,23 +69,25 @@ pub fn count_others(set: &mut VecSet<u32>, number: u32) -> usize
 
 /// Splits a set in two. An element of the set is in the back if its index is not in front of it.
 pub fn split_set<T: Eq>(set: &mut VecSet<T>, at: usize) -> Result<VecSet<T>, AllocError>
-    requires within { at ≤ length set.old.elements }
-    requires distinct { IsDistinct T.eq set.old.elements }
+    requires { at ≤ length set.old.elements }
     ensures { IfOk result (λ back. (x : T) (i : ℕ) → item_index T.eq set.old.elements x ≡ Some i
         → is_member T.eq back.elements x ≡ not (nat_lt i at)) }
 {
     parts_keep_their_members::<T>();
+    // As in `drop_item`.
+    set.as_slice();
     set.split_off(at)
 }
 
 /// Keeps the numbers below a limit. A number is present if the stored one is below the limit.
 pub fn keep_numbers_below(set: &mut VecSet<u32>, limit: u32)
-    requires { IsDistinct nat_eq set.old.elements }
     ensures { (number : ℕ) → is_member nat_eq set.new.elements number
         ≡ option_map_or (λ stored. nat_lt stored limit) (stored_item nat_eq set.old.elements number)
         false }
 {
     filters_keep_members::<u32>();
+    // As in `drop_item`.
+    set.as_slice();
     let is_below = |number: &u32| *number < limit;
     retain_filters(&is_below);
     set.retain(is_below);

@@ -18,7 +18,10 @@ pub fn index_in_sorted(map: &VecMap<u32, u32>, number: u32) -> Option<usize>
     ensures { result ≡ index_of nat_eq map.now.entries number }
 {
     binary_searches_find_indices::<u32, u32>();
-    map.binary_search_keys(&number).ok()
+    match map.binary_search_keys(&number) {
+        Ok(index) => Some(index),
+        Err(_) => None,
+    }
 }
 
 /// Inserts a pair where its key belongs, unless the key is present. The keys still ascend.

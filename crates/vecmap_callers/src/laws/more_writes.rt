@@ -3,6 +3,7 @@ ghost use Rattle.std.specs.Prelude.{◌&&◌, ◌≡◌, ℕ, IsSome, List, OnEr
 ghost use Rattle.vecmap.specs.Nested.{inner_entries, inner_entries_by};
 ghost use Rattle.vecmap.specs.Pairs.{has_text, index_of, lookup, lookup_by};
 
+use crate::nested::set;
 use std::alloc::AllocError;
 use vecmap::VecMap;
 use vecmap::map::laws::inner_insertions_are_found;
@@ -70,7 +71,5 @@ pub fn set_text_value<V: Drop>(
         else lookup_by (has_text b) (inner_entries_by (has_text a) sections.old.entries))) }
 {
     values_are_found_by_two_texts::<V>();
-    inner_insertions_are_found::<String, String, V>();
-    sections.entry(section).or_default()?.insert(name, value)?;
-    Ok(())
+    set(sections, section, name, value)
 }
