@@ -1,5 +1,5 @@
 -- What an entry leaves that modifies the value of its key.
-use Rattle.std.proofs.Common.{◌≡◌, ℕ, Bool, List, [], ◌∷◌, ◌++◌, Option, None, Some, ap, refl, sym, unwrap_or, ◌∙◌}
+use Rattle.std.proofs.Common.{◌≡◌, Bool, List, [], ◌∷◌, ◌++◌, Option, None, Some, ap, sym, unwrap_or, ◌∙◌}
 use Rattle.std.specs.Borrow.{MutBor}
 use Rattle.std.specs.Fn.{FnOnceReturnsAtMut, Once}
 use Rattle.std.specs.Map.Calls.{ModifiesValue}
@@ -18,10 +18,12 @@ modified g f (Some u) (Some w) v e m = (w, record { shown = m.lent; shows = cc; 
 module _ {K V : Type 0} (eq : K → K → Bool) {F : Type 0} (g : Once F (MutBor V × Unit {0}) (Unit {0} × (MutBor V × Unit {0}))) where
   at_entry : (e d : Entry K V) (f : F) (v default : V) → entry_index_of e ≡ index_of eq (entry_map e).entries (entry_key e) → lookup eq (entry_map e).entries (entry_key e) ≡ Some v → ModifiesValue g f (entry_value e) (entry_value d) → LeavesSame e d → (w : V) × FnOnceReturnsAtMut g f v tt w × (entries_with d (unwrap_or (entry_value d) default) ≡ put eq (entry_map e).entries (entry_key e) w)
   at_entry e d f v default at found call later =
-      let m = modified g f (entry_value e) (entry_value d) v (ap (option_and_then (value_at (entry_map e).entries)) at ∙ found) call in
-      (m.0, m.1,
-       ap (λ x. entries_with d (unwrap_or x default)) m.2 ∙ later.write m.0
-       ∙ ap (λ index. option_map_or (λ i. with_value (entry_map e).entries i m.0) index ((entry_map e).entries ++ (entry_key e, m.0) ∷ [])) at)
+      let m = modified g f (entry_value e) (entry_value d) v (ap (option_and_then (value_at (entry_map e).entries)) at ∙ found) call in (
+        m.0,
+        m.1,
+        ap (λ x. entries_with d (unwrap_or x default)) m.2 ∙ later.write m.0
+            ∙ ap (λ index. option_map_or (λ i. with_value (entry_map e).entries i m.0) index ((entry_map e).entries ++ (entry_key e, m.0) ∷ [])) at,
+      )
 
   -- If the key is present, its value is what a call of the closure leaves of it.
   pub modified_inserted : (e d : Entry K V) (m : Contents K V) (k : K) (f : F) (v default : V) (l : List (K × V)) → entry_map e ≡ m → entry_key e ≡ k → entry_index_of e ≡ index_of eq m.entries k → lookup eq m.entries k ≡ Some v → ModifiesValue g f (entry_value e) (entry_value d) → LeavesSame e d → l ≡ entries_with d (unwrap_or (entry_value d) default) → (w : V) × FnOnceReturnsAtMut g f v tt w × (l ≡ put eq m.entries k w)

@@ -1,11 +1,11 @@
 -- A removal from a list of distinct items leaves the items that do not pass its test.
 use Rattle.std.proofs.Common.{◌≡◌, Bool, true, false, ◌||◌, List, [], ◌∷◌, ap, filter, map, if◌then◌else◌, inl, inr, not, refl, subst, sym, ◌∙◌, ◌&&◌}
 use Rattle.std.proofs.lemmas.{Bool.cases_Bool, Map.Keys.IsDistinct-tail}
-use Rattle.std.specs.{Cmp.IsEquivalence, List.IsDistinct, List.list_any, Map.IsKeyTest, Map.keys_of, Set.is_member}
+use Rattle.std.specs.{Cmp.IsEquivalence, List.IsDistinct, List.list_any, Map.IsKeyTest, Set.is_member}
 use Rattle.vecmap_base.proofs.DistinctLemmas.Keys.{distinct_keys_without}
 use Rattle.vecmap_base.proofs.IndexLemmas.{list_any_map}
 use Rattle.vecmap_base.proofs.ItemsLemmas.{Queries.tells_as, Recursion.without_first_cons}
-use Rattle.vecmap_base.specs.{Items.without_first, Items.without_item, Pairs.HasDistinctKeys, Pairs.without_by, Pairs.without_key}
+use Rattle.vecmap_base.specs.{Items.without_first, Pairs.HasDistinctKeys, Pairs.without_key}
 use Rattle.vecmap_laws_more.proofs.HeadLemmas.{head_not_in_rest}
 use Rattle.vecmap_laws_more.specs.Removals.{without_keys}
 

@@ -1,5 +1,5 @@
 -- What lookups find is stored, and elements of subsets.
-use Rattle.std.proofs.Common.{◌≡◌, ◌↔◌, ℕ, Bool, true, false, ◌&&◌, IsTrue, List, [], ◌∷◌, None, Option, Some, ap, filter, if◌then◌else◌, inl, inr, not, refl, slice_get, sym, ◌∙◌}
+use Rattle.std.proofs.Common.{◌≡◌, ◌↔◌, ℕ, Bool, true, false, ◌&&◌, IsTrue, List, [], ◌∷◌, None, Option, Some, ap, if◌then◌else◌, inl, inr, not, refl, slice_get, sym, ◌∙◌}
 use Rattle.std.proofs.lemmas.{Bool.cases_Bool, Option.none-some, Option.same_Some}
 use Rattle.std.specs.{List.list_any, Option.option_and_then, Option.option_map}
 use Rattle.vecmap_base.specs.{Equality.is_within, Items.only, Pairs.index_of, Pairs.lookup, Pairs.value_at}

@@ -1,5 +1,5 @@
 -- Lists of distinct keys, and of distinct elements, by the first item and the rest.
-use Rattle.std.proofs.Common.{◌≡◌, Bool, false, List, [], ◌∷◌, None, ap, is_some, sym, ◌∙◌}
+use Rattle.std.proofs.Common.{◌≡◌, Bool, false, List, ◌∷◌, None, ap, is_some, sym, ◌∙◌}
 use Rattle.std.proofs.lemmas.Map.Keys.{IsDistinct-head, IsDistinct-tail}
 use Rattle.std.specs.{List.IsDistinct, List.list_any, Map.keys_of}
 use Rattle.vecmap_base.proofs.DistinctLemmas.Absent.{distinct_if_absent, none_equal}

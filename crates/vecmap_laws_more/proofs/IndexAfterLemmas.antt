@@ -1,6 +1,6 @@
 -- The indices of distinct items after removals.
-use Rattle.std.proofs.Common.{arith, ◌≡◌, ◌≢◌, ◌+◌, ◌-◌, ◌<◌, ◌≤◌, ℕ, suc, zero, Bool, true, false, ◌||◌, IsTrue, List, [], ◌∷◌, None, Option, Some, ap, cond, drop, get_or, if◌then◌else◌, inl, inr, is_some, length, nat_eq, nat_lt, option_map, position, refl, remove, set, slice_get, slice_set, sym, take, true≢false, ◌∙◌}
-use Rattle.std.proofs.lemmas.{Bool.cases_Bool, Bool.eq-eqb, Bool.eqb-true, Option.get_or_from_slice_get, Option.none-some, Option.same_Some, Option.slice_get-get_or, Option.slice_get_within}
+use Rattle.std.proofs.Common.{arith, ◌≡◌, ◌≢◌, ◌+◌, ◌-◌, ◌<◌, ◌≤◌, ℕ, suc, zero, Bool, true, false, ◌||◌, IsTrue, List, [], ◌∷◌, None, Option, Some, ap, cond, drop, if◌then◌else◌, inl, inr, is_some, length, nat_eq, option_map, position, refl, slice_get, slice_set, sym, take, true≢false, ◌∙◌}
+use Rattle.std.proofs.lemmas.{Bool.cases_Bool, Bool.eq-eqb, Bool.eqb-true, Option.get_or_from_slice_get, Option.none-some, Option.same_Some, Option.slice_get_within}
 use Rattle.std.proofs.lemmas.List.Sorted.{list_any-IsPermutation}
 use Rattle.std.specs.{Cmp.IsEquivalence, List.IsDistinct, List.list_any, List.slice_index_or, List.swap_remove, List.Sorted.IsPermutation, Option.option_map_or}
 use Rattle.vecmap_base.proofs.{IndexLemmas.is_some_position, IndexLemmas.position_cons, IndexLemmas.position_none}
@@ -8,8 +8,8 @@ use Rattle.vecmap_base.proofs.ItemsLemmas.Indices.{found_at, item_index_congr, i
 use Rattle.vecmap_base.proofs.DistinctLemmas.{Order.distinct_rearranged}
 use Rattle.std.proofs.lemmas.Map.Keys.{IsDistinct-tail}
 use Rattle.vecmap_base.specs.Items.{item_index, swap_without}
-use Rattle.vecmap_laws_more.proofs.RemovalLemmas.{passing_at, swap_leaves}
-use Rattle.vecmap_laws_more.specs.Removals.{below, shifted, swapped}
+use Rattle.vecmap_laws_more.proofs.RemovalLemmas.{swap_leaves}
+use Rattle.vecmap_laws_more.specs.Removals.{swapped}
 
 module _ {X : Type 0} where
   pub slice_get_drop : (n : ℕ) (xs : List X) (i : ℕ) → slice_get (drop n xs) i ≡ slice_get xs (n + i)

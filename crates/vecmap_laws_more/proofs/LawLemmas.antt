@@ -1,5 +1,4 @@
 -- The lemmas that prove the clauses of a law, in lists that the laws name by `using(..)`.
-use Rattle.vecmap_base.proofs.DistinctLemmas.Keys.{distinct_put}
 use Rattle.vecmap_base.proofs.PairsLemmas.Keys.{keys_of_put}
 use Rattle.vecmap_laws_more.proofs.HeadLemmas.{distinct_if_head_absent, head_has_no_index, head_has_no_value, head_not_in_rest, rest_is_distinct}
 use Rattle.std.proofs.lemmas.Map.Keys.{IsDistinct-tail}

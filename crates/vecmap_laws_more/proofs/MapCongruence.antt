@@ -1,12 +1,12 @@
 -- Equal maps of distinct keys stay equal. The idea: they are equal exactly if all lookups agree, and a lookup after a
 -- change is a function of the lookup before it.
-use Rattle.std.proofs.Common.{◌≡◌, Bool, true, false, ◌&&◌, IsTrue, List, [], ◌∷◌, None, Option, Some, ap, filter, if◌then◌else◌, refl, sym, true≢false, ◌∙◌, slice_get, ℕ}
+use Rattle.std.proofs.Common.{◌≡◌, Bool, true, false, IsTrue, List, None, Option, Some, ap, filter, if◌then◌else◌, refl, sym, true≢false, ◌∙◌, slice_get, ℕ}
 use Rattle.std.specs.{Cmp.IsEquivalence, Option.option_and_then, Option.option_eq, Option.option_map, Option.option_or}
 use Rattle.vecmap_base.proofs.DistinctLemmas.{Keys.distinct_keys_swap_without_key, Keys.distinct_keys_without, Keys.distinct_put, Keys.distinct_puts, Parts.distinct_keys_filter}
 use Rattle.vecmap_base.proofs.EqualityLemmas.Maps.{equal_where_lookups_agree}
 use Rattle.vecmap_base.proofs.PairsLemmas.AfterPuts.{lookup_put_any, lookup_puts_distinct, lookup_without_any}
 use Rattle.vecmap_base.specs.{Equality.has_same_counts, Items.swap_without}
-use Rattle.vecmap_base.specs.Pairs.{HasDistinctKeys, index_of, lookup, lookup_pair, put, puts, swap_without_key, value_at, without_key}
+use Rattle.vecmap_base.specs.Pairs.{HasDistinctKeys, index_of, lookup, put, puts, swap_without_key, value_at, without_key}
 use Rattle.vecmap_laws_more.proofs.{FoundLemmas.stored_at, PartLemmas.lookup_filter, RemovalLemmas.lookup_by_test, RemovalLemmas.swap_leaves}
 
 module _ {K V : Type 0} (eq : K → K → Bool) (same : V → V → Bool) (o : IsEquivalence eq) (p : IsEquivalence same) where

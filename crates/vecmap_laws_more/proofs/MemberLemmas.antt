@@ -1,5 +1,5 @@
 -- Which elements are in a part of a list of distinct elements, and among those that pass a test.
-use Rattle.std.proofs.Common.{arith, ◌≡◌, ◌-◌, ◌<◌, ◌≤◌, ℕ, Bool, true, false, ◌||◌, IsTrue, List, [], ◌∷◌, ◌++◌, None, Option, Some, ap, drop, filter, if◌then◌else◌, inl, inr, is_some, length, nat_lt, not, option_map, position, refl, remove, slice_get, sym, take, suc, ◌∙◌}
+use Rattle.std.proofs.Common.{arith, ◌≡◌, ◌≤◌, ℕ, Bool, true, false, ◌||◌, IsTrue, List, [], ◌∷◌, None, Option, Some, ap, drop, filter, if◌then◌else◌, inl, inr, is_some, length, nat_lt, not, option_map, position, refl, remove, slice_get, sym, take, suc, ◌∙◌}
 use Rattle.std.proofs.lemmas.{Bool.cases_Bool, Bool.ltb-false, Bool.ltb-true, List.Folds.list_any-append, Map.Keys.IsDistinct-tail, Map.Steps.list_any_congr}
 use Rattle.std.specs.{Cmp.IsEquivalence, List.IsDistinct, List.list_any, List.remove_range, Option.option_and_then, Option.option_map_or, Set.is_member}
 use Rattle.vecmap_base.proofs.IndexLemmas.{list_any_position, position_cons}

@@ -1,10 +1,9 @@
 -- What keys find after removals: their indices, and their values in a part of the list and in what a test keeps.
-use Rattle.std.proofs.Common.{arith, ◌≡◌, ◌+◌, ◌-◌, ◌<◌, ◌≤◌, ℕ, Bool, true, false, ◌||◌, IsTrue, List, [], ◌∷◌, ◌++◌, None, Option, Some, ap, cond, drop, filter, if◌then◌else◌, inl, inr, length, map, nat_lt, not, option_map, position, refl, remove, set, slice_get, slice_index_or, slice_set, sym, take, get_or, ◌∙◌}
-use Rattle.std.proofs.lemmas.{Bool.cases_Bool, Bool.ltb-false, Bool.ltb-true, List.drop-map, List.length-map, List.map-set, List.take-map, Map.Entries.lookup-filter-keys, Map.Keys.IsDistinct-tail, Option.slice_get-map}
+use Rattle.std.proofs.Common.{arith, ◌≡◌, ◌+◌, ◌-◌, ◌<◌, ◌≤◌, ℕ, Bool, true, false, ◌||◌, List, [], ◌∷◌, None, Option, Some, ap, cond, drop, filter, if◌then◌else◌, inl, inr, length, nat_lt, not, option_map, refl, remove, slice_get, slice_index_or, slice_set, sym, take, ◌∙◌}
+use Rattle.std.proofs.lemmas.{Bool.cases_Bool, Bool.ltb-false, Bool.ltb-true, List.drop-map, List.length-map, List.map-set, List.take-map, Map.Entries.lookup-filter-keys, Option.slice_get-map}
 use Rattle.std.proofs.Math.ListN.{get_or-map}
 use Rattle.std.specs.{Cmp.IsEquivalence, List.remove_range, List.swap_remove, Map.IsKeyTest, Map.keys_of, Option.option_and_then, Option.option_map_or, Option.option_or}
-use Rattle.vecmap_base.proofs.PairsLemmas.{AfterPuts.index_of_congr, AfterPuts.option_or_none, Indices.lookup_by_is, Indices.lookup_pair_cons, Keys.index_of_is, Keys.keys_of_remove, Parts.lookup_append, Recursion.lookup_cons}
-use Rattle.vecmap_base.proofs.PairsLemmas.Lookups.{lookup_congr}
+use Rattle.vecmap_base.proofs.PairsLemmas.{AfterPuts.index_of_congr, AfterPuts.option_or_none, Indices.lookup_by_is, Indices.lookup_pair_cons, Keys.index_of_is, Parts.lookup_append, Recursion.lookup_cons}
 use Rattle.vecmap_base.specs.Items.{item_index, swap_without}
 use Rattle.vecmap_base.specs.Pairs.{HasDistinctKeys, index_by, index_of, lookup, lookup_pair, swap_without_by, value_at, without_by}
 use Rattle.vecmap_laws_more.proofs.{HeadLemmas.head_has_no_index, HeadLemmas.rest_is_distinct, IndexAfterLemmas.index_dropped, IndexAfterLemmas.index_swapped, IndexAfterLemmas.position_drop, IndexAfterLemmas.slice_get_drop, IndexAfterLemmas.slice_get_take}

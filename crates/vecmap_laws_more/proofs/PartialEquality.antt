@@ -1,6 +1,6 @@
 -- Equality of maps whose values need not be equal to themselves. The idea: the counts of a pair do not depend on the
 -- order, and a pair is counted if it is equal to itself.
-use Rattle.std.proofs.Common.{◌≡◌, ℕ, Bool, true, ◌&&◌, IsTrue, All, List, [], ◌∷◌, cond, get_or, nat_eq, refl, sym}
+use Rattle.std.proofs.Common.{◌≡◌, Bool, true, ◌&&◌, IsTrue, All, List, [], ◌∷◌, cond, get_or, nat_eq, refl, sym}
 use Rattle.std.proofs.lemmas.Bool.{and_from, eq-eqb}
 use Rattle.std.proofs.lemmas.List.Elements.{All-head, All-tail}
 use Rattle.std.proofs.lemmas.List.Sorted.{All-permutation, IsPermutation-refl, sum_by-IsPermutation}

@@ -1,7 +1,7 @@
 -- The first index of an item that passes a test, after a removal.
-use Rattle.std.proofs.Common.{arith, ◌≡◌, ◌<◌, ◌≤◌, ◌+◌, ◌-◌, ℕ, suc, zero, Bool, true, false, List, [], ◌∷◌, ◌++◌, None, Option, Some, ap, cond, drop, if◌then◌else◌, length, nat_lt, option_map, position, refl, remove, slice_get, sym, take, ◌∙◌}
+use Rattle.std.proofs.Common.{arith, ◌≡◌, ◌+◌, ℕ, suc, zero, Bool, true, false, List, [], ◌∷◌, ◌++◌, None, Option, Some, ap, cond, length, option_map, position, refl, remove, slice_get, sym, take, ◌∙◌}
 use Rattle.std.proofs.lemmas.Option.{none-some}
-use Rattle.std.specs.Option.{option_and_then, option_or}
+use Rattle.std.specs.Option.{option_or}
 use Rattle.vecmap_base.proofs.IndexLemmas.{position_cons}
 use Rattle.vecmap_laws_more.specs.Removals.{below, shifted}
 

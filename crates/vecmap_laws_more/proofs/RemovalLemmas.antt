@@ -1,9 +1,9 @@
 -- What is found after the item at an index has been taken out of a list, whatever the order of the others. A removal
 -- that shifts the later items and one that moves the last item are both of this kind.
-use Rattle.std.proofs.Common.{◌≡◌, ◌+◌, ◌-◌, ◌<◌, ℕ, Bool, true, false, ◌||◌, ◌&&◌, IsTrue, List, [], ◌∷◌, ◌++◌, None, Option, Some, ap, arith, drop, get_or, if◌then◌else◌, inl, inr, is_some, length, not, position, refl, remove, slice_get, subst, suc, sym, take, true≢false, ◌∙◌}
+use Rattle.std.proofs.Common.{◌≡◌, ◌-◌, ℕ, Bool, true, false, ◌||◌, ◌&&◌, IsTrue, List, [], ◌∷◌, ◌++◌, None, Option, Some, ap, arith, drop, get_or, if◌then◌else◌, inl, inr, is_some, length, not, position, refl, remove, slice_get, subst, suc, sym, take, true≢false, ◌∙◌}
 use Rattle.std.proofs.lemmas.{Bool.cases_Bool, List.append-nil, List.drop_all, List.Quantifiers.position-Some, Map.Steps.list_any_congr, Option.get_or_from_slice_get, Option.none-some, Option.slice_get-get_or, Option.slice_get_within}
 use Rattle.std.proofs.lemmas.List.Sorted.{IsPermutation-remove, IsPermutation-swap_remove, length_permutation, list_any-IsPermutation}
-use Rattle.std.specs.{Cmp.IsEquivalence, List.IsDistinct, List.list_any, List.swap_remove, List.Sorted.IsPermutation, Map.IsKeyTest, Map.keys_of, Option.option_and_then, Option.option_map_or, Set.is_member}
+use Rattle.std.specs.{Cmp.IsEquivalence, List.IsDistinct, List.list_any, List.swap_remove, List.Sorted.IsPermutation, Map.IsKeyTest, Option.option_and_then, Option.option_map_or, Set.is_member}
 use Rattle.vecmap_base.proofs.DistinctLemmas.{Keys.distinct_keys_rearranged, Order.distinct_rearranged}
 use Rattle.vecmap_base.proofs.{IndexLemmas.list_any_position, ItemsLemmas.Queries.tells_as}
 use Rattle.vecmap_base.proofs.PairsLemmas.{Lookups.look, Lookups.lookup_congr, Order.lookup_rearranged, Queries.lookup_by_query}

@@ -1,6 +1,6 @@
 -- Equal sets stay equal. The idea: they are equal exactly if they have the same elements, and whether an element is
 -- present after a change is a function of whether it was before.
-use Rattle.std.proofs.Common.{◌≡◌, Bool, true, false, ◌&&◌, ◌||◌, IsTrue, List, ap, filter, not, refl, remove, sym, ◌∙◌}
+use Rattle.std.proofs.Common.{◌≡◌, Bool, true, ◌&&◌, ◌||◌, IsTrue, List, ap, filter, not, remove, sym, ◌∙◌}
 use Rattle.std.proofs.lemmas.Bool.{and_parts}
 use Rattle.std.specs.{Cmp.IsEquivalence, Cmp.both_ways, List.IsDistinct, Set.is_member}
 use Rattle.vecmap_base.proofs.EqualityLemmas.{Relations.is_member_both, Relations.is_member_only, Relations.is_member_union, Relations.same_items, Sets.within_from_test}

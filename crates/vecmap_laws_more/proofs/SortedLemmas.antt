@@ -1,10 +1,10 @@
 -- Lists that ascend by a key: a binary search agrees with a search in order, an insertion where it ends keeps the order,
 -- and a stable sort of such a list changes nothing.
-use Rattle.std.proofs.Common.{arith, ◌≡◌, ◌+◌, ◌-◌, ◌<◌, ◌≤◌, ℕ, suc, zero, Bool, true, false, ◌||◌, ◌&&◌, List, [], ◌∷◌, Some, ap, cond, filter, get_or, if◌then◌else◌, inl, inr, insert, length, nat_lt, not, position, refl, slice_get, subst, sym, true≢false, ◌∙◌}
-use Rattle.std.proofs.lemmas.{Bool.cases_Bool, Bool.false_from_ne_true, Bool.ltb-false, Bool.ltb-true, List.Folds.list_any_none, Option.get_or_from_slice_get, Option.slice_get_within}
+use Rattle.std.proofs.Common.{arith, ◌≡◌, ◌+◌, ◌-◌, ◌<◌, ◌≤◌, ℕ, suc, Bool, true, false, ◌&&◌, List, [], ◌∷◌, Some, ap, filter, get_or, if◌then◌else◌, inl, inr, insert, length, nat_lt, not, refl, slice_get, subst, sym, true≢false, ◌∙◌}
+use Rattle.std.proofs.lemmas.{Bool.cases_Bool, Bool.ltb-false, Bool.ltb-true, List.Folds.list_any_none, Option.get_or_from_slice_get, Option.slice_get_within}
 use Rattle.std.proofs.lemmas.List.Edits.{get_or-insert_above, get_or-insert_at, get_or-insert_below, length-insert}
 use Rattle.std.proofs.lemmas.List.Sorted.{sorted_far}
-use Rattle.std.specs.{Cmp.IsStrictWeakOrder, Cmp.IsTotalOrder, List.AllWithin, List.list_any}
+use Rattle.std.specs.{Cmp.IsStrictWeakOrder, Cmp.IsTotalOrder, List.list_any}
 use Rattle.std.specs.Cmp.{alike_right, upto}
 use Rattle.std.specs.List.Sorted.{IsNonDecreasingBy, IsPartitionPoint, IsSortedBy, IsSortedByKey, IsStableBy, ties}
 use Rattle.std.specs.Ordering.{is_eq, is_gt, is_lt, ordering_index, ordering_reverse}
@@ -145,7 +145,7 @@ module _ {X : Type 0} (lt : X → X → Bool) (w : IsStrictWeakOrder lt) where
       let two = not_less y x ys xs s (sym (same y)) in
       let tie : ties lt x y ≡ true = (λ i. not (one i) && not (two i)) in
       let both : y ∷ filter (ties lt x) ys ≡ x ∷ filter (ties lt x) xs =
-          sym (ap (λ b. if b then y ∷ filter (ties lt x) ys else filter (ties lt x) ys) tie) ∙ same x ∙ ap (λ b. if b then x ∷ filter (ties lt x) xs else filter (ties lt x) xs) (own x) in
+      sym (ap (λ b. if b then y ∷ filter (ties lt x) ys else filter (ties lt x) ys) tie) ∙ same x ∙ ap (λ b. if b then x ∷ filter (ties lt x) xs else filter (ties lt x) xs) (own x) in
       let head : y ≡ x = cc in
       (λ i. head i ∷ stable_sort_keeps xs ys (rest_sorted x xs s) (rest_sorted y ys t) (rest head) i)
     where

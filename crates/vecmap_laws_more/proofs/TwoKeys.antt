@@ -1,10 +1,10 @@
 -- What two keys find in a map of maps after an insertion into the map of a key. The idea: a query that matches the key
 -- finds the changed map, and any other query finds one that has not changed.
-use Rattle.std.proofs.Common.{◌≡◌, Bool, true, false, ◌&&◌, IsTrue, List, [], Option, None, Some, ap, if◌then◌else◌, inl, inr, refl, sym, ◌∙◌}
+use Rattle.std.proofs.Common.{◌≡◌, Bool, true, false, ◌&&◌, IsTrue, List, [], Some, ap, if◌then◌else◌, inl, inr, refl, sym, ◌∙◌}
 use Rattle.std.proofs.lemmas.Bool.{cases_Bool}
 use Rattle.std.specs.{Cmp.IsEquivalence, Map.IsKeyTest, Map.keys_of, Option.option_map_or}
 use Rattle.vecmap_base.proofs.PairsLemmas.{Keys.keys_of_put, Queries.lookup_by_query, Queries.lookup_put_other_query, Queries.lookup_put_query}
-use Rattle.vecmap_base.specs.{Items.add, Pairs.lookup, Pairs.lookup_by, Pairs.put}
+use Rattle.vecmap_base.specs.{Items.add, Pairs.lookup_by, Pairs.put}
 use Rattle.vecmap_laws_more.proofs.RemovalLemmas.{query_finds_same}
 use Rattle.vecmap_map.specs.{Contents.Contents, Nested.inner_entries, Nested.inner_entries_by}
 
@@ -22,7 +22,7 @@ module _ {K N V : Type 0} (eq : K → K → Bool) (o : IsEquivalence eq) (test :
 
   module _ (eq_inner : N → N → Bool) (oi : IsEquivalence eq_inner) (name : N → Bool) (name_respects : IsKeyTest eq_inner name) where
     pub found_by_two : (l m : List (K × Contents N V)) (k : K) (n : N) (v : V) → inner_entries eq m k ≡ put eq_inner (inner_entries eq l k) n v → ((q : K) → eq k q ≡ false → inner_entries eq m q ≡ inner_entries eq l q) → lookup_by name (inner_entries_by test m) ≡ (if test k && name n then Some v else lookup_by name (inner_entries_by test l))
-    found_by_two l m k n v written others = ap (lookup_by name) (inner_changed l m k others) ∙ by (test k) (name n)  refl refl
+    found_by_two l m k n v written others = ap (lookup_by name) (inner_changed l m k others) ∙ by (test k) (name n) refl refl
       where
         by : (b c : Bool) → test k ≡ b → name n ≡ c → lookup_by name (if b then inner_entries eq m k else inner_entries_by test l) ≡ (if b && c then Some v else lookup_by name (inner_entries_by test l))
         by false c e f = refl

@@ -5,7 +5,8 @@ mod removals;
 
 pub use congruence::{equal_sets_stay_equal, operators_of_equal_sets_are_equal};
 pub use members::{
-    distinct_elements_by_head_and_rest, equal_elements_are_present_alike, subsets_have_no_difference,
+    distinct_elements_by_head_and_rest, equal_elements_are_present_alike,
+    subsets_have_no_difference,
 };
 pub use removals::{
     filters_keep_members, parts_keep_their_members, removals_are_filters,

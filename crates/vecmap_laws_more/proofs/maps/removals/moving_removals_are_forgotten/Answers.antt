@@ -1,5 +1,5 @@
 -- The idea: each clause is a lemma of `RemovalLemmas`, for a removal by index that leaves all other pairs.
-use Rattle.std.proofs.Common.{List, remove}
+use Rattle.std.proofs.Common.{remove}
 use Rattle.vecmap_base.specs.Items.{swap_without}
 use Rattle.vecmap_laws_more.proofs.RemovalLemmas.{lookup_by_index, lookup_by_test, lookup_last, remove_leaves, swap_leaves}
 use Rattle.vecmap_laws_more.proofs.maps.removals.moving_removals_are_forgotten.Goals as goal
