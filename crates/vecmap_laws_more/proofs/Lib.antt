@@ -14,6 +14,7 @@ pub mod PositionLemmas
 pub mod RemovalLemmas
 pub mod RunLemmas
 pub mod SearchedMaps
+pub mod SearchedSets
 pub mod SetCongruence
 pub mod SortedLemmas
 pub mod TwoKeys

@@ -2,6 +2,7 @@
 mod congruence;
 mod members;
 mod removals;
+mod sorted;
 
 pub use congruence::{equal_sets_stay_equal, operators_of_equal_sets_are_equal};
 pub use members::{
@@ -13,3 +14,4 @@ pub use removals::{
     removals_by_queries_keep_other_elements, removals_change_indices, removals_keep_other_elements,
     removals_shorten,
 };
+pub use sorted::{binary_searches_find_indices, sorts_of_sorted_sets_change_nothing};

@@ -1,15 +1,17 @@
-//! Callers of laws about maps whose keys ascend.
-ghost use Rattle.std.specs.List.Sorted.{IsSortedByKey};
+//! Callers of laws about maps and sets that ascend.
+ghost use Rattle.std.specs.List.Sorted.{IsSorted, IsSortedByKey};
 ghost use Rattle.std.specs.Ordering.{nat_cmp};
 ghost use Rattle.std.specs.Prelude.{◌≡◌, OnOk, nat_eq};
+ghost use Rattle.vecmap.specs.Items.{item_index};
 ghost use Rattle.vecmap.specs.Pairs.{HasDistinctKeys, index_of};
 
 use std::alloc::AllocError;
-use vecmap::{Refused, VecMap};
+use vecmap::{Refused, VecMap, VecSet};
 use vecmap_laws_more::maps::{
     binary_searches_find_indices, insertions_where_searches_end_keep_the_order,
     sorts_of_sorted_maps_change_nothing,
 };
+use vecmap_laws_more::sets;
 
 /// Returns the index of a number in a map whose keys ascend.
 pub fn index_in_sorted(map: &VecMap<u32, u32>, number: u32) -> Option<usize>
@@ -47,4 +49,27 @@ pub fn sort_again(map: &mut VecMap<u32, u32>) -> Result<(), AllocError>
 {
     sorts_of_sorted_maps_change_nothing::<u32, u32>();
     map.sort_keys()
+}
+
+/// Returns the index of a number in a set whose elements ascend.
+pub fn item_index_in_sorted(set: &VecSet<u32>, number: u32) -> Option<usize>
+    requires { IsSorted nat_cmp set.now.elements }
+    ensures { result ≡ item_index nat_eq set.now.elements number }
+{
+    sets::binary_searches_find_indices::<u32>();
+    // The law needs that no two elements are equal, which `as_slice` states.
+    set.as_slice();
+    match set.binary_search(&number) {
+        Ok(index) => Some(index),
+        Err(_) => None,
+    }
+}
+
+/// Sorts a set. If its elements ascend already, nothing changes.
+pub fn sort_set_again(set: &mut VecSet<u32>) -> Result<(), AllocError>
+    ensures { OnOk result (IsSorted nat_cmp set.old.elements
+        → set.new.elements ≡ set.old.elements) }
+{
+    sets::sorts_of_sorted_sets_change_nothing::<u32>();
+    set.sort()
 }
