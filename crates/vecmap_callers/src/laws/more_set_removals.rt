@@ -1,0 +1,94 @@
+//! Callers of laws about what removals leave of a set.
+ghost use Rattle.std.specs.Option.{option_map_or};
+ghost use Rattle.std.specs.Prelude.{◌&&◌, ◌≡◌, ◌-◌, ◌≤◌, ℕ, IfOk, Some, false, filter, if◌then◌else◌, is_some, length, nat_eq, nat_lt, not};
+ghost use Rattle.std.specs.Set.{is_member};
+ghost use Rattle.vecmap.specs.Items.{item_index, stored_item};
+ghost use Rattle.vecmap_laws_more.specs.Removals.{shifted};
+
+use std::alloc::AllocError;
+use vecmap::set::laws::retain_filters;
+use vecmap::{Equivalent, VecSet};
+use vecmap_laws_more::sets::{
+    filters_keep_members, parts_keep_their_members, removals_are_filters,
+    removals_by_queries_keep_other_elements, removals_change_indices, removals_keep_other_elements,
+    removals_shorten,
+};
+
+/// Removes an element, and leaves all others in order.
+pub fn drop_item<T: Eq + Drop>(set: &mut VecSet<T>, item: &T)
+    ensures { set.new.elements ≡ filter (λ other. not (T.eq item.now other)) set.old.elements }
+{
+    removals_are_filters::<T>();
+    // The law needs that no two elements are equal, which `as_slice` states.
+    set.as_slice();
+    set.remove(item);
+}
+
+/// Takes the last element. All others stay.
+pub fn take_last<T: Eq>(set: &mut VecSet<T>) -> Option<T>
+    ensures { (last : T) → result ≡ Some last → (other : T) → is_member T.eq set.new.elements other
+        ≡ (is_member T.eq set.old.elements other && not (T.eq last other)) }
+{
+    removals_keep_other_elements::<T>();
+    // As in `drop_item`.
+    set.as_slice();
+    set.pop()
+}
+
+/// Removes the element that a query matches; the last element moves to its index. All others stay.
+pub fn drop_matched<T: Eq + Drop, Q: Equivalent<T>>(set: &mut VecSet<T>, query: Q)
+    ensures { (other : T) → is_member T.eq set.new.elements other
+        ≡ (is_member T.eq set.old.elements other && not (Q.equivalent query other)) }
+{
+    removals_by_queries_keep_other_elements::<T, Q>();
+    // As in `drop_item`.
+    set.as_slice();
+    set.swap_remove(query);
+}
+
+/// Removes a number. The index of each later number is one less.
+pub fn drop_number(set: &mut VecSet<u32>, number: u32)
+    ensures { (i : ℕ) → item_index nat_eq set.old.elements number ≡ Some i → (other : ℕ)
+        → nat_eq number other ≡ false → item_index nat_eq set.new.elements other
+        ≡ shifted i (item_index nat_eq set.old.elements other) }
+{
+    removals_change_indices::<u32>();
+    set.remove(&number);
+}
+
+/// Removes a number, and returns how many elements are left.
+pub fn count_others(set: &mut VecSet<u32>, number: u32) -> usize
+    ensures { result
+        ≡ (if is_some (item_index nat_eq set.old.elements number)
+        then length set.old.elements - 1 else length set.old.elements) }
+{
+    removals_shorten::<u32>();
+    set.remove(&number);
+    set.len()
+}
+
+/// Splits a set in two. An element of the set is in the back if its index is not in front of it.
+pub fn split_set<T: Eq>(set: &mut VecSet<T>, at: usize) -> Result<VecSet<T>, AllocError>
+    requires { at ≤ length set.old.elements }
+    ensures { IfOk result (λ back. (x : T) (i : ℕ) → item_index T.eq set.old.elements x ≡ Some i
+        → is_member T.eq back.elements x ≡ not (nat_lt i at)) }
+{
+    parts_keep_their_members::<T>();
+    // As in `drop_item`.
+    set.as_slice();
+    set.split_off(at)
+}
+
+/// Keeps the numbers below a limit. A number is present if the stored one is below the limit.
+pub fn keep_numbers_below(set: &mut VecSet<u32>, limit: u32)
+    ensures { (number : ℕ) → is_member nat_eq set.new.elements number
+        ≡ option_map_or (λ stored. nat_lt stored limit) (stored_item nat_eq set.old.elements number)
+        false }
+{
+    filters_keep_members::<u32>();
+    // As in `drop_item`.
+    set.as_slice();
+    let is_below = |number: &u32| *number < limit;
+    retain_filters(&is_below);
+    set.retain(is_below);
+}
