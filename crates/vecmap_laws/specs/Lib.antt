@@ -1,7 +1,10 @@
 pub mod Agreement
 pub mod Algebra
+pub mod Combining
+pub mod FirstValue
 pub mod Nested
 pub mod Pulls
 pub mod Reads
+pub mod Removals
 pub mod Retaining
 pub mod Runs

@@ -14,31 +14,63 @@ ghost use Rattle.vecmap_map.specs.Drain.{DrainKeeps, DrainNext, DrainNextBack, d
 ghost use Rattle.vecmap_map.specs.declared.drain.Drain.{Drain};
 
 mod collecting;
+mod combining;
+mod congruence;
+mod distinct;
+mod entries;
+mod filters;
+mod first_value;
 mod moving;
 mod nested;
+mod other_writes;
+mod partial_equality;
 mod puts;
 mod queries;
+mod query_removals;
+mod removals;
 mod retaining;
+mod sorted;
+mod two_keys;
 mod writes;
 
 pub use crate::lists::{
     iterators_pull_as_lists, key_comparisons_are_bounded, mutable_iterators_pull_as_lists,
 };
 pub use collecting::collecting_one_more_is_extending;
+pub use combining::combining_insertions_are_found;
+pub use congruence::equal_maps_stay_equal;
+pub use distinct::{distinct_keys_by_head_and_rest, found_pairs_are_stored};
+pub use entries::modified_values_are_inserted;
+pub use filters::filters_keep_lookups;
+pub use first_value::first_values_win;
 pub use moving::{
     insertions_at_an_index_are_found, moves_keep_lookups, order_keeps_lookups,
     removals_by_index_are_undone,
 };
 pub use nested::{inner_additions_are_found, inner_insertions_are_found};
+pub use other_writes::{writes_leave_other_keys, writes_of_found_values_change_nothing};
+pub use partial_equality::equality_with_partial_values;
 pub use puts::{
     bulk_insertions_are_single_ones, entries_insert_alike, equal_keys_find_the_same,
     first_parts_are_found_first, functions_of_values_are_found, insertions_are_found,
     removals_are_forgotten, stored_pairs_are_found, writes_are_insertions,
 };
 pub use queries::{queries_find_as_keys, texts_find_as_strings};
+pub use query_removals::{
+    queries_find_alike, removals_by_queries_are_forgotten, removals_by_texts_are_forgotten,
+};
+pub use removals::{
+    moving_removals_are_forgotten, parts_keep_their_lookups, removals_are_filters,
+    removals_change_indices, removals_shorten,
+};
 pub use retaining::{
     retain_filters_or_writes, retain2_filters_or_writes, retaining_keeps_keys_distinct,
 };
+pub use sorted::{
+    binary_searches_find_indices, insertions_where_searches_end_keep_the_order,
+    sorts_of_sorted_maps_change_nothing,
+};
+pub use two_keys::{values_are_found_by_two_keys, values_are_found_by_two_texts};
 pub use writes::{writes_by_queries_are_insertions, writes_by_texts_are_insertions};
 
 /// Equality of maps is reflexive, symmetric and transitive, even if keys repeat.

@@ -17,6 +17,10 @@ ghost use Rattle.vecmap_base.specs.Pairs.{puts};
 ghost use Rattle.vecmap_map.specs.Contents.{Contents};
 ghost use Rattle.vecmap_set.specs.Contents as set_contents;
 
+mod parts;
+
+pub use parts::{runs_of_maps_have_parts, runs_of_sets_have_parts};
+
 /// What a run does to a map, it does to the list of its pairs, whatever the capacity.
 #[tactic(auto, using(crate::proofs::RunLemmas::run_of_list))]
 pub fn runs_of_maps_are_of_lists<K: Eq + Clone, V: Eq + Clone>()

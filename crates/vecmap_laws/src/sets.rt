@@ -11,10 +11,14 @@ ghost use Rattle.vecmap_set.specs.declared.drain.Drain.{Drain};
 mod additions;
 mod algebra;
 mod collecting;
+mod congruence;
 mod finding;
 mod members;
+mod presence;
 mod queries;
+mod removals;
 mod retaining;
+mod sorted;
 
 pub use crate::lists::{comparisons_are_bounded, iterators_pull_as_lists};
 pub use additions::{
@@ -28,12 +32,23 @@ pub use algebra::{
     lengths_of_intersection_and_union_add_up,
 };
 pub use collecting::collecting_one_more_is_extending;
+pub use congruence::{equal_sets_stay_equal, operators_of_equal_sets_are_equal};
 pub use finding::{queries_find_after_additions, texts_find_as_strings};
 pub use members::{
     added_elements_are_present, clones_have_the_same_members, operators_combine_members,
 };
+pub use presence::{
+    distinct_elements_by_head_and_rest, equal_elements_are_present_alike,
+    subsets_have_no_difference,
+};
 pub use queries::queries_find_as_elements;
+pub use removals::{
+    filters_keep_members, parts_keep_their_members, removals_are_filters,
+    removals_by_queries_keep_other_elements, removals_change_indices, removals_keep_other_elements,
+    removals_shorten,
+};
 pub use retaining::retain_filters;
+pub use sorted::{binary_searches_find_indices, sorts_of_sorted_sets_change_nothing};
 
 /// Equality of sets is reflexive, symmetric and transitive.
 pub fn equality_is_an_equivalence<T: Eq>()

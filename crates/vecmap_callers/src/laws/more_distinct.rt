@@ -5,8 +5,8 @@ ghost use Rattle.vecmap.specs.Items.{only};
 ghost use Rattle.vecmap.specs.Pairs.{HasDistinctKeys, lookup};
 
 use vecmap::{VecMap, VecSet};
-use vecmap_laws_more::maps::{distinct_keys_by_head_and_rest, found_pairs_are_stored};
-use vecmap_laws_more::sets::{
+use vecmap_laws::maps::{distinct_keys_by_head_and_rest, found_pairs_are_stored};
+use vecmap_laws::sets::{
     distinct_elements_by_head_and_rest, equal_elements_are_present_alike, subsets_have_no_difference,
 };
 

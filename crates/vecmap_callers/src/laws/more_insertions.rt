@@ -5,11 +5,11 @@ ghost use Rattle.std.specs.Option.{option_or};
 ghost use Rattle.std.specs.Prelude.{◌≡◌, ◌+◌, ◌-◌, ◌++◌, ◌^◌, ◌∷◌, None, OnOk, Some, [], if◌then◌else◌, min};
 ghost use Rattle.vecmap.specs.Items.{add};
 ghost use Rattle.vecmap.specs.Pairs.{index_of, lookup, put};
-ghost use Rattle.vecmap_laws_more.specs.Combining.{combine};
-ghost use Rattle.vecmap_laws_more.specs.FirstValue.{put_new};
+ghost use Rattle.vecmap_laws.specs.Combining.{combine};
+ghost use Rattle.vecmap_laws.specs.FirstValue.{put_new};
 
 use vecmap::{Refused, VecMap};
-use vecmap_laws_more::maps::{
+use vecmap_laws::maps::{
     combining_insertions_are_found, first_values_win, modified_values_are_inserted,
 };
 

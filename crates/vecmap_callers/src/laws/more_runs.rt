@@ -5,7 +5,7 @@ ghost use Rattle.vecmap.specs.SetRun as sets;
 
 use std::alloc::{AllocError, Global};
 use vecmap::{MapCommand, MapReply, SetCommand, SetReply, VecMap, VecSet, run, run_set};
-use vecmap_laws_more::runs::{runs_of_maps_have_parts, runs_of_sets_have_parts};
+use vecmap_laws::runs::{runs_of_maps_have_parts, runs_of_sets_have_parts};
 
 /// Runs two lists of commands on a map, as one run of both would.
 pub fn run_both<K: Eq + Clone, V: Eq + Clone>(

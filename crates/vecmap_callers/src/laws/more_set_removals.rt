@@ -3,12 +3,12 @@ ghost use Rattle.std.specs.Option.{option_map_or};
 ghost use Rattle.std.specs.Prelude.{◌&&◌, ◌≡◌, ◌-◌, ◌≤◌, ℕ, IfOk, Some, false, filter, if◌then◌else◌, is_some, length, nat_eq, nat_lt, not};
 ghost use Rattle.std.specs.Set.{is_member};
 ghost use Rattle.vecmap.specs.Items.{item_index, stored_item};
-ghost use Rattle.vecmap_laws_more.specs.Removals.{shifted};
+ghost use Rattle.vecmap_laws.specs.Removals.{shifted};
 
 use std::alloc::AllocError;
 use vecmap::set::laws::retain_filters;
 use vecmap::{Equivalent, VecSet};
-use vecmap_laws_more::sets::{
+use vecmap_laws::sets::{
     filters_keep_members, parts_keep_their_members, removals_are_filters,
     removals_by_queries_keep_other_elements, removals_change_indices, removals_keep_other_elements,
     removals_shorten,

@@ -7,11 +7,11 @@ ghost use Rattle.vecmap.specs.Pairs.{HasDistinctKeys, index_of};
 
 use std::alloc::AllocError;
 use vecmap::{Refused, VecMap, VecSet};
-use vecmap_laws_more::maps::{
+use vecmap_laws::maps::{
     binary_searches_find_indices, insertions_where_searches_end_keep_the_order,
     sorts_of_sorted_maps_change_nothing,
 };
-use vecmap_laws_more::sets;
+use vecmap_laws::sets;
 
 /// Returns the index of a number in a map whose keys ascend.
 pub fn index_in_sorted(map: &VecMap<u32, u32>, number: u32) -> Option<usize>

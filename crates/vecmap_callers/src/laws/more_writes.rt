@@ -1,13 +1,13 @@
 //! Callers of laws about writes, and about maps of maps by two keys.
 ghost use Rattle.std.specs.Prelude.{◌&&◌, ◌≡◌, ℕ, IsSome, List, OnErr, OnOk, Some, String, false, if◌then◌else◌, nat_eq};
-ghost use Rattle.vecmap.specs.Nested.{inner_entries, inner_entries_by};
+ghost use Rattle.vecmap_laws.specs.Nested.{inner_entries, inner_entries_by};
 ghost use Rattle.vecmap.specs.Pairs.{has_text, index_of, lookup, lookup_by};
 
 use crate::nested::set;
 use std::alloc::AllocError;
 use vecmap::VecMap;
 use vecmap::map::laws::inner_insertions_are_found;
-use vecmap_laws_more::maps::{
+use vecmap_laws::maps::{
     values_are_found_by_two_keys, values_are_found_by_two_texts, writes_leave_other_keys,
     writes_of_found_values_change_nothing,
 };

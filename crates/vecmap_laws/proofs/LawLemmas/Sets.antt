@@ -1,4 +1,6 @@
 -- The lemmas that prove the clauses of a law, in lists that the laws name by `using(..)`.
+use Rattle.std.proofs.lemmas.Map.Keys.{IsDistinct-tail}
+use Rattle.vecmap_base.proofs.DistinctLemmas.Absent.{distinct_if_absent}
 use Rattle.vecmap_base.proofs.DistinctLemmas.{Absent.distinct_none, Additions.distinct_add, Additions.distinct_adds}
 use Rattle.vecmap_base.proofs.EqualityLemmas.Relations.{both_empty_turned, distinct_only, distinct_symmetric_difference, distinct_union, is_member_both, is_member_only}
 use Rattle.vecmap_base.proofs.EqualityLemmas.Sets.{longer_not_within, set_equal_by_half, set_lengths_differ}
@@ -7,6 +9,7 @@ use Rattle.vecmap_laws.proofs.AdditionQueries.{found_after_other, found_after_ow
 use Rattle.vecmap_laws.proofs.AlgebraLemmas.{is_member_symmetric_difference, lazy_intersection_is_both, lazy_intersection_turned, lazy_lengths_add, lazy_union_is_union, lengths_add, on_longer, on_shorter}
 use Rattle.vecmap_laws.proofs.DistinctAdditions.{distinct_put_item}
 use Rattle.vecmap_laws.proofs.DrainRuns.{drains_pull, keeps_pulled}
+use Rattle.vecmap_laws.proofs.HeadLemmas.{head_not_in_rest}
 use Rattle.vecmap_laws.proofs.ItemAdditions.{adds_append, adds_distinct}
 use Rattle.vecmap_laws.proofs.ItemIndices.{item_index_add, slice_get_add}
 use Rattle.vecmap_laws.proofs.ItemMembers.{adds_as_append, is_member_add, is_member_added, is_member_adds, is_member_kept, item_index_adds, item_index_adds_kept, slice_get_adds}
@@ -48,3 +51,5 @@ pub ruleset operators_combine_members = (is_member_both, is_member_union, is_mem
 pub ruleset queries_find_as_elements = (item_index_query, is_member_query, without_item_query, stored_item_query, without_query_absent)
 
 pub ruleset retain_filters = (kept_in_state, kept_by_states)
+
+pub ruleset distinct_elements_by_head_and_rest = (head_not_in_rest, IsDistinct-tail, distinct_if_absent)

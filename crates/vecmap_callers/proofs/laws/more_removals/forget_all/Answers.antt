@@ -1,6 +1,6 @@
 use Rattle.std.proofs.Common.{arith, ◌≡◌, ◌∙◌}
 use Rattle.std.proofs.lemmas.Grind.{common_steps}
-use Rattle.vecmap_laws_more.specs.Removals.{without_keys}
+use Rattle.vecmap_laws.specs.Removals.{without_keys}
 use Rattle.vecmap_callers.proofs.laws.more_removals.forget_all.Goals as goal
 
 pub returns : goal.returns

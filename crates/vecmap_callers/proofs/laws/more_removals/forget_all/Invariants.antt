@@ -1,5 +1,5 @@
 use Rattle.std.proofs.Common.{◌≡◌, drop}
-use Rattle.vecmap_laws_more.specs.Removals.{without_keys}
+use Rattle.vecmap_laws.specs.Removals.{without_keys}
 use Rattle.vecmap_callers.proofs.laws.more_removals.forget_all.Given as goal
 
 abbrev pub invariant-loop-key : goal.invariant-loop-key

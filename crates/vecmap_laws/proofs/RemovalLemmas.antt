@@ -1,0 +1,145 @@
+-- What is found after the item at an index has been taken out of a list, whatever the order of the others. A removal
+-- that shifts the later items and one that moves the last item are both of this kind.
+use Rattle.std.proofs.Common.{◌≡◌, ◌-◌, ℕ, Bool, true, false, ◌||◌, ◌&&◌, IsTrue, List, [], ◌∷◌, ◌++◌, None, Option, Some, ap, arith, drop, get_or, if◌then◌else◌, inl, inr, is_some, length, not, position, refl, remove, slice_get, subst, suc, sym, take, true≢false, ◌∙◌}
+use Rattle.std.proofs.lemmas.{Bool.cases_Bool, List.append-nil, List.drop_all, List.Quantifiers.position-Some, Map.Steps.list_any_congr, Option.get_or_from_slice_get, Option.none-some, Option.slice_get-get_or, Option.slice_get_within}
+use Rattle.std.proofs.lemmas.List.Sorted.{IsPermutation-remove, IsPermutation-swap_remove, length_permutation, list_any-IsPermutation}
+use Rattle.std.specs.{Cmp.IsEquivalence, List.IsDistinct, List.list_any, List.swap_remove, List.Sorted.IsPermutation, Map.IsKeyTest, Option.option_and_then, Option.option_map_or, Set.is_member}
+use Rattle.vecmap_base.proofs.DistinctLemmas.Order.{distinct_rearranged}
+use Rattle.vecmap_laws.proofs.DistinctKeys.{distinct_keys_rearranged}
+use Rattle.vecmap_base.proofs.IndexLemmas.{list_any_position}
+use Rattle.vecmap_laws.proofs.ItemQueries.{tells_as}
+use Rattle.vecmap_laws.proofs.Lookups.{look, lookup_congr}
+use Rattle.vecmap_laws.proofs.Order.{lookup_rearranged}
+use Rattle.vecmap_laws.proofs.Queries.{lookup_by_query}
+use Rattle.vecmap_base.specs.Items.{swap_without}
+use Rattle.vecmap_base.specs.Pairs.{HasDistinctKeys, index_by, lookup, lookup_by, value_at}
+use Rattle.vecmap_laws.proofs.HeadLemmas.{head_has_no_value, head_not_in_rest}
+
+-- The item at the first index that passes.
+pub passing_at : {X : Type 0} (p : X → Bool) (xs : List X) (i : ℕ) → position p xs ≡ Some i → (x : X) × (slice_get xs i ≡ Some x) × IsTrue (p x)
+passing_at p [] i e = absurd (none-some i e)
+passing_at p (x ∷ xs) i e = let at = position-Some p (x ∷ xs) i x e in (get_or (x ∷ xs) i x, slice_get-get_or (x ∷ xs) i x at.0, at.1)
+
+module _ {X : Type 0} where
+  pub remove_leaves : (xs : List X) (i : ℕ) (x : X) → slice_get xs i ≡ Some x → IsPermutation xs (x ∷ remove xs i)
+  remove_leaves xs i x at = IsPermutation-remove xs i x (slice_get_within xs i x at) (sym (get_or_from_slice_get xs i x x at))
+
+  pub swap_leaves : (xs : List X) (i : ℕ) (x : X) → slice_get xs i ≡ Some x → IsPermutation xs (x ∷ swap_without xs i)
+  swap_leaves xs i x at = subst (λ found. IsPermutation xs (x ∷ option_map_or (λ y. swap_remove xs i y) found xs)) (sym at) (IsPermutation-swap_remove xs i x (slice_get_within xs i x at) (sym (get_or_from_slice_get xs i x x at)))
+
+module _ {T : Type 0} (eq : T → T → Bool) (o : IsEquivalence eq) where
+  -- One of distinct elements is taken out: all others stay.
+  pub is_member_taken : (s rest : List T) (x : T) → IsPermutation s (x ∷ rest) → IsDistinct eq s → (y : T) → is_member eq rest y ≡ (is_member eq s y && not (eq x y))
+  is_member_taken s rest x moved d y = by (eq x y) refl (list_any-IsPermutation (eq y) s (x ∷ rest) moved)
+    where
+      last : (b : Bool) → b ≡ (b && true)
+      last true = refl
+      last false = refl
+
+      none : (b : Bool) → false ≡ (b && false)
+      none true = refl
+      none false = refl
+
+      by : (b : Bool) → eq x y ≡ b → list_any (eq y) s ≡ (eq y x || list_any (eq y) rest) → is_member eq rest y ≡ (is_member eq s y && not b)
+      by true e all = sym (list_any_congr o x y rest e) ∙ head_not_in_rest eq x rest (distinct_rearranged eq o s (x ∷ rest) moved d) ∙ none (is_member eq s y)
+      by false e all = sym (ap (λ b. b || list_any (eq y) rest) (o.symm y x ∙ e)) ∙ sym all ∙ last (is_member eq s y)
+
+module _ {K V : Type 0} (eq : K → K → Bool) (o : IsEquivalence eq) where
+  -- One of the pairs is taken out: its key is absent, and all other keys find what they found before.
+  pub lookup_taken : (l rest : List (K × V)) (p : K × V) → IsPermutation l (p ∷ rest) → HasDistinctKeys eq l → (q : K) → lookup eq rest q ≡ (if eq p.0 q then None else lookup eq l q)
+  lookup_taken l rest p moved d q = by (eq p.0 q) refl
+    where
+      by : (b : Bool) → eq p.0 q ≡ b → lookup eq rest q ≡ (if b then None else lookup eq l q)
+      by true e = sym (lookup_congr eq o rest p.0 q e) ∙ head_has_no_value eq p rest (distinct_keys_rearranged eq o l (p ∷ rest) moved d)
+      by false e = sym (look eq p rest q false (o.symm q p.0 ∙ e)) ∙ lookup_rearranged eq o l (p ∷ rest) moved d q
+
+  -- What a query finds has the same `f` in two lists, if what each key that it matches finds has.
+  pub query_finds_same : {X : Type 0} (f : Option V → X) (test : K → Bool) → IsKeyTest eq test → (l m : List (K × V)) → ((q : K) → IsTrue (test q) → f (lookup eq m q) ≡ f (lookup eq l q)) → f (lookup_by test m) ≡ f (lookup_by test l)
+  query_finds_same {X} f test respects l m alike = by (index_by test m) (index_by test l) refl refl
+    where
+      matched : (n : List (K × V)) (i : ℕ) → index_by test n ≡ Some i → (k : K) × IsTrue (test k) × (lookup_by test n ≡ lookup eq n k)
+      matched n i e = let p = passing_at (λ r. test r.0) n i e in (p.0.0, p.2, lookup_by_query eq o test respects n p.0.0 p.2)
+
+      by : (x y : Option ℕ) → index_by test m ≡ x → index_by test l ≡ y → f (lookup_by test m) ≡ f (lookup_by test l)
+      by (Some i) y e g = let r = matched m i e in ap f r.2 ∙ alike r.0 r.1 ∙ sym (ap f (lookup_by_query eq o test respects l r.0 r.1))
+      by None (Some j) e g = let r = matched l j g in ap f (lookup_by_query eq o test respects m r.0 r.1) ∙ alike r.0 r.1 ∙ sym (ap f r.2)
+      by None None e g = ap f (ap (option_and_then (value_at m)) e ∙ sym (ap (option_and_then (value_at l)) g))
+
+  -- A query finds alike in two lists in which each key that it matches finds alike.
+  pub query_finds_alike : (test : K → Bool) → IsKeyTest eq test → (l m : List (K × V)) → ((q : K) → IsTrue (test q) → lookup eq m q ≡ lookup eq l q) → lookup_by test m ≡ lookup_by test l
+  query_finds_alike = query_finds_same (λ found. found)
+
+-- A removal by index, which leaves all other items.
+module _ {X : Type 0} (takes : List X → ℕ → List X) (leaves : (xs : List X) (i : ℕ) (x : X) → slice_get xs i ≡ Some x → IsPermutation xs (x ∷ takes xs i)) where
+  pub length_by_index : (xs : List X) (i : ℕ) (x : X) → slice_get xs i ≡ Some x → length (takes xs i) ≡ length xs - 1
+  length_by_index xs i x at = let e : length (x ∷ takes xs i) ≡ length xs = length_permutation xs (x ∷ takes xs i) (leaves xs i x at) in omega (arith, e)
+
+  pub length_by_test : (p : X → Bool) (xs : List X) → length (option_map_or (takes xs) (position p xs) xs) ≡ (if is_some (position p xs) then length xs - 1 else length xs)
+  length_by_test p xs = by (position p xs) refl
+    where
+      by : (found : Option ℕ) → position p xs ≡ found → length (option_map_or (takes xs) found xs) ≡ (if is_some found then length xs - 1 else length xs)
+      by None e = refl
+      by (Some i) e = let at = passing_at p xs i e in length_by_index xs i at.0 at.1
+
+  module _ (eq : X → X → Bool) (o : IsEquivalence eq) where
+    pub is_member_by_index : (s : List X) → IsDistinct eq s → (i : ℕ) (x : X) → slice_get s i ≡ Some x → (y : X) → is_member eq (takes s i) y ≡ (is_member eq s y && not (eq x y))
+    is_member_by_index s d i x at = is_member_taken eq o s (takes s i) x (leaves s i x at) d
+
+    pub is_member_by_test : (test : X → Bool) → IsKeyTest eq test → (s : List X) → IsDistinct eq s → (y : X) → is_member eq (option_map_or (takes s) (position test s) s) y ≡ (is_member eq s y && not (test y))
+    is_member_by_test test respects s d y = by (position test s) refl
+      where
+        none : (b c : Bool) → (c ≡ true → b ≡ false) → b ≡ (b && not c)
+        none true true h = h refl
+        none true false h = refl
+        none false c h = refl
+
+        absent : position test s ≡ None → test y ≡ true → list_any (eq y) s ≡ false
+        absent e h = ap (λ f. list_any f s) (sym (tells_as eq o test respects y h)) ∙ list_any_position test s ∙ ap is_some e
+
+        by : (found : Option ℕ) → position test s ≡ found → is_member eq (option_map_or (takes s) found s) y ≡ (is_member eq s y && not (test y))
+        by None e = none (is_member eq s y) (test y) (absent e)
+        by (Some i) e = let at = passing_at test s i e in is_member_by_index s d i at.0 at.1 y ∙ ap (λ b. is_member eq s y && not b) (sym (respects at.0 y at.2))
+
+-- The same of pairs.
+module _ {K V : Type 0} (takes : List (K × V) → ℕ → List (K × V)) (leaves : (l : List (K × V)) (i : ℕ) (p : K × V) → slice_get l i ≡ Some p → IsPermutation l (p ∷ takes l i)) where
+  module _ (eq : K → K → Bool) (o : IsEquivalence eq) where
+    pub lookup_by_index : (l : List (K × V)) → HasDistinctKeys eq l → (i : ℕ) (k : K) (v : V) → slice_get l i ≡ Some (k, v) → (q : K) → lookup eq (takes l i) q ≡ (if eq k q then None else lookup eq l q)
+    lookup_by_index l d i k v at = lookup_taken eq o l (takes l i) (k, v) (leaves l i (k, v) at) d
+
+    pub lookup_by_test : (test : K → Bool) → IsKeyTest eq test → (l : List (K × V)) → HasDistinctKeys eq l → (q : K) → lookup eq (option_map_or (takes l) (index_by test l) l) q ≡ (if test q then None else lookup eq l q)
+    lookup_by_test test respects l d q = by (index_by test l) refl
+      where
+        none : (b : Bool) (found : Option V) → (b ≡ true → found ≡ None) → found ≡ (if b then None else found)
+        none true found h = h refl
+        none false found h = refl
+
+        absent : index_by test l ≡ None → test q ≡ true → lookup eq l q ≡ None
+        absent e h = sym (lookup_by_query eq o test respects l q h) ∙ ap (option_and_then (value_at l)) e
+
+        by : (found : Option ℕ) → index_by test l ≡ found → lookup eq (option_map_or (takes l) found l) q ≡ (if test q then None else lookup eq l q)
+        by None e = none (test q) (lookup eq l q) (absent e)
+        by (Some i) e = let at = passing_at (λ p. test p.0) l i e in lookup_by_index l d i at.0.0 at.0.1 at.1 q ∙ ap (λ b. if b then None else lookup eq l q) (sym (respects at.0.0 q at.2))
+
+    -- Another query, which matches no key that the removal is for, finds what it found before.
+    pub other_query_after : (test : K → Bool) → IsKeyTest eq test → (other : K → Bool) → IsKeyTest eq other → ((k : K) → IsTrue (test k) → other k ≡ false) → (l : List (K × V)) → HasDistinctKeys eq l → lookup_by other (option_map_or (takes l) (index_by test l) l) ≡ lookup_by other l
+    other_query_after test respects other matches apart l d = query_finds_alike eq o other matches l (option_map_or (takes l) (index_by test l) l) (λ q h. lookup_by_test test respects l d q ∙ ap (λ b. if b then None else lookup eq l q) (unmatched q h))
+      where
+        unmatched : (q : K) → IsTrue (other q) → test q ≡ false
+        unmatched q h =
+            elim (cases_Bool (test q)) [
+              | inl e ↦ absurd (true≢false (sym h ∙ apart q e))
+              | inr e ↦ e
+            ]
+
+-- The list without its last item.
+front_is_remove : {X : Type 0} (xs : List X) (x : X) → slice_get xs (length xs - 1) ≡ Some x → take (length xs - 1) xs ≡ remove xs (length xs - 1)
+front_is_remove xs x at =
+    let within = slice_get_within xs (length xs - 1) x at in
+    let none : drop (suc (length xs - 1)) xs ≡ [] = drop_all (suc (length xs - 1)) xs (omega (arith, within)) in
+    sym (append-nil (take (length xs - 1) xs)) ∙ ap (λ ys. take (length xs - 1) xs ++ ys) (sym none)
+
+pub is_member_last : {T : Type 0} (eq : T → T → Bool) (o : IsEquivalence eq) (s : List T) → IsDistinct eq s → (x : T) → slice_get s (length s - 1) ≡ Some x → (y : T) → is_member eq (take (length s - 1) s) y ≡ (is_member eq s y && not (eq x y))
+is_member_last eq o s d x at y = ap (λ m. is_member eq m y) (front_is_remove s x at) ∙ is_member_by_index remove remove_leaves eq o s d (length s - 1) x at y
+
+pub lookup_last : {K V : Type 0} (eq : K → K → Bool) (o : IsEquivalence eq) (l : List (K × V)) → HasDistinctKeys eq l → (k : K) (v : V) → slice_get l (length l - 1) ≡ Some (k, v) → (q : K) → lookup eq (take (length l - 1) l) q ≡ (if eq k q then None else lookup eq l q)
+lookup_last eq o l d k v at q = ap (λ m. lookup eq m q) (front_is_remove l (k, v) at) ∙ lookup_by_index remove remove_leaves eq o l d (length l - 1) k v at q

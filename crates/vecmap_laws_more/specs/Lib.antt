@@ -1,3 +1,0 @@
-pub mod Combining
-pub mod FirstValue
-pub mod Removals
