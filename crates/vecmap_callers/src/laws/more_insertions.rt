@@ -4,8 +4,8 @@ ghost use Rattle.std.specs.Map.{keys_of};
 ghost use Rattle.std.specs.Option.{option_or};
 ghost use Rattle.std.specs.Prelude.{◌≡◌, ◌+◌, ◌-◌, ◌++◌, ◌^◌, ◌∷◌, ℕ, IfOk, None, OnOk, Some, [], if◌then◌else◌, map, min, nat_eq};
 ghost use Rattle.vecmap.specs.Items.{add};
-ghost use Rattle.vecmap.specs.Pairs.{index_of, lookup, put};
-ghost use Rattle.vecmap_laws_more.specs.Combining.{combine};
+ghost use Rattle.vecmap.specs.Pairs.{HasDistinctKeys, index_of, lookup, put};
+ghost use Rattle.vecmap_laws_more.specs.Combining.{combine, put_with};
 ghost use Rattle.vecmap_laws_more.specs.FirstValue.{put_new};
 
 use std::alloc::AllocError;
@@ -38,6 +38,8 @@ pub fn add_amount<K: Eq + Drop>(
     key: K,
     amount: u64,
 ) -> Result<(), Refused<(K, u64)>>
+    ensures entries { OnOk result (map.new.entries
+        ≡ put_with K.eq (λ old new. min (old + new) (2 ^ 64 - 1)) map.old.entries key amount) }
     ensures lookups { OnOk result ((other : K) → lookup K.eq map.new.entries other
         ≡ combine (λ old new. min (old + new) (2 ^ 64 - 1)) (lookup K.eq map.old.entries other)
         (if K.eq key other then Some amount else None)) }
@@ -79,4 +81,21 @@ pub fn invert(numbers: &VecMap<u64, u64>) -> Result<VecMap<u64, u64>, AllocError
         inverse.entry(*value).or_insert(*key)?;
     }
     Ok(inverse)
+}
+
+/// Adds each amount to the value of its key; the greatest value stays. Keys that are absent are inserted.
+pub fn add_amounts<K: Eq + Drop>(
+    map: &mut VecMap<K, u64>,
+    amounts: VecMap<K, u64>,
+) -> Result<(), Refused<(K, u64)>>
+    requires { HasDistinctKeys K.eq amounts.entries }
+    ensures { OnOk result ((key : K) → lookup K.eq map.new.entries key
+        ≡ combine (λ old new. min (old + new) (2 ^ 64 - 1)) (lookup K.eq map.old.entries key)
+        (lookup K.eq amounts.entries key)) }
+{
+    combining_insertions_are_found::<K, u64>();
+    for (key, amount) in amounts {
+        add_amount(map, key, amount)?;
+    }
+    Ok(())
 }
