@@ -7,7 +7,8 @@ ghost use Rattle.vecmap.specs.Pairs.{HasDistinctKeys, lookup};
 use vecmap::{VecMap, VecSet};
 use vecmap_laws::maps::{distinct_keys_by_head_and_rest, found_pairs_are_stored};
 use vecmap_laws::sets::{
-    distinct_elements_by_head_and_rest, equal_elements_are_present_alike, subsets_have_no_difference,
+    distinct_elements_by_head_and_rest, equal_elements_are_present_alike,
+    subsets_have_no_difference,
 };
 
 /// Takes the first pair. Its key is absent from the rest.

@@ -2,12 +2,13 @@
 ghost use Rattle.std.specs.Fn.{FnOnceReturnsAtMut};
 ghost use Rattle.std.specs.Map.{keys_of};
 ghost use Rattle.std.specs.Option.{option_or};
-ghost use Rattle.std.specs.Prelude.{◌≡◌, ◌+◌, ◌-◌, ◌++◌, ◌^◌, ◌∷◌, None, OnOk, Some, [], if◌then◌else◌, min};
+ghost use Rattle.std.specs.Prelude.{◌≡◌, ◌+◌, ◌-◌, ◌++◌, ◌^◌, ◌∷◌, ℕ, IfOk, None, OnOk, Some, [], if◌then◌else◌, map, min, nat_eq};
 ghost use Rattle.vecmap.specs.Items.{add};
-ghost use Rattle.vecmap.specs.Pairs.{index_of, lookup, put};
-ghost use Rattle.vecmap_laws.specs.Combining.{combine};
+ghost use Rattle.vecmap.specs.Pairs.{HasDistinctKeys, index_of, lookup, put};
+ghost use Rattle.vecmap_laws.specs.Combining.{combine, put_with};
 ghost use Rattle.vecmap_laws.specs.FirstValue.{put_new};
 
+use std::alloc::AllocError;
 use vecmap::{Refused, VecMap};
 use vecmap_laws::maps::{
     combining_insertions_are_found, first_values_win, modified_values_are_inserted,
@@ -37,12 +38,16 @@ pub fn add_amount<K: Eq + Drop>(
     key: K,
     amount: u64,
 ) -> Result<(), Refused<(K, u64)>>
+    ensures entries { OnOk result (map.new.entries
+        ≡ put_with K.eq (λ old new. min (old + new) (2 ^ 64 - 1)) map.old.entries key amount) }
     ensures lookups { OnOk result ((other : K) → lookup K.eq map.new.entries other
         ≡ combine (λ old new. min (old + new) (2 ^ 64 - 1)) (lookup K.eq map.old.entries other)
         (if K.eq key other then Some amount else None)) }
 {
     combining_insertions_are_found::<K, u64>();
-    map.entry(key).and_modify(|old| *old = old.saturating_add(amount)).or_insert(amount)?;
+    map.entry(key)
+        .and_modify(|old| *old = old.saturating_add(amount))
+        .or_insert(amount)?;
     Ok(())
 }
 
@@ -62,5 +67,35 @@ pub fn update_or_insert<K: Eq + Drop, V: Drop, F: FnOnce(&mut V) + Drop>(
 {
     modified_values_are_inserted::<K, V, F>(&update);
     map.entry(key).and_modify(update).or_insert(default)?;
+    Ok(())
+}
+
+/// Returns a map from each value to its key. Of the keys of one value, the first wins.
+pub fn invert(numbers: &VecMap<u64, u64>) -> Result<VecMap<u64, u64>, AllocError>
+    ensures { IfOk result (λ inverse. (value : ℕ) → lookup nat_eq inverse.entries value
+        ≡ lookup nat_eq (map (λ pair. (pair.1, pair.0)) numbers.now.entries) value) }
+{
+    first_values_win::<u64, u64>();
+    let mut inverse = VecMap::new(*numbers.allocator());
+    for (key, value) in numbers.iter() {
+        inverse.entry(*value).or_insert(*key)?;
+    }
+    Ok(inverse)
+}
+
+/// Adds each amount to the value of its key; the greatest value stays. Keys that are absent are inserted.
+pub fn add_amounts<K: Eq + Drop>(
+    map: &mut VecMap<K, u64>,
+    amounts: VecMap<K, u64>,
+) -> Result<(), Refused<(K, u64)>>
+    requires { HasDistinctKeys K.eq amounts.entries }
+    ensures { OnOk result ((key : K) → lookup K.eq map.new.entries key
+        ≡ combine (λ old new. min (old + new) (2 ^ 64 - 1)) (lookup K.eq map.old.entries key)
+        (lookup K.eq amounts.entries key)) }
+{
+    combining_insertions_are_found::<K, u64>();
+    for (key, amount) in amounts {
+        add_amount(map, key, amount)?;
+    }
     Ok(())
 }
