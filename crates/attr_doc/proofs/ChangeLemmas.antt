@@ -7,7 +7,7 @@ use Rattle.std.proofs.Common.{sym, ap, ◌∙◌, subst}
 use Rattle.vecmap.specs.Contents.{Contents, with_value_of}
 use Rattle.vecmap_laws.proofs.WriteLemmas.{with_value_of_is_put}
 use Rattle.vecmap.specs.Pairs.{index_of, lookup, put, puts}
-use Rattle.attr_doc.specs.Documents.{Section, Sections, Stored, merged, sections_of, with_section, with_text}
+use Rattle.attr_doc.specs.Documents.{Section, Sections, Stored, merge_of, sections_of, with_section, with_text}
 use Rattle.vecmap_laws.proofs.AfterPuts.{put_same}
 use Rattle.vecmap_laws.proofs.EachValue.{lookup_map_values, map_values_put}
 
@@ -42,7 +42,7 @@ module _ (c : Contents (List ℕ) Stored) (s : List ℕ) (m new : Stored) (e : S
       ap sections_of (with_value_of_is_put str_eq_ignore_ascii_case c s new there) ∙ map_values_put str_eq_ignore_ascii_case (λ x. x.entries) c.entries s new
       ∙ put_same str_eq_ignore_ascii_case (sections_of c.entries) s new.entries (lookup_map_values str_eq_ignore_ascii_case (λ x. x.entries) c.entries s ∙ ap (option_map (λ x. x.entries)) (sym e) ∙ ap (λ x. Some x) (sym f))
 
-pub merged_push : (d : Sections) (ps : List (List ℕ × Stored)) (p : List ℕ × Stored) → merged d (sections_of (ps ++ p ∷ [])) ≡ with_section (merged d (sections_of ps)) p.0 p.1.entries
+pub merged_push : (d : Sections) (ps : List (List ℕ × Stored)) (p : List ℕ × Stored) → merge_of d (sections_of (ps ++ p ∷ [])) ≡ with_section (merge_of d (sections_of ps)) p.0 p.1.entries
 merged_push d [] p = refl
 merged_push d (q ∷ qs) p = merged_push (with_section d q.0 q.1.entries) qs p
 

@@ -9,7 +9,7 @@ use Rattle.std.proofs.lemmas.List.Elements.{All-head, All-nil, All-tail}
 use Rattle.std.proofs.lemmas.Map.Made.{keys_of-map_values}
 use Rattle.vecmap.specs.Pairs.{HasDistinctKeys, lookup, put, puts}
 use Rattle.vecmap_laws.proofs.DistinctKeys.{distinct_put, distinct_puts}
-use Rattle.attr_doc.specs.Documents.{IsDocument, IsSection, Section, Sections, Stored, merged, sections_of, with_section, with_text}
+use Rattle.attr_doc.specs.Documents.{IsDocument, IsSection, Section, Sections, Stored, merge_of, sections_of, with_section, with_text}
 use Rattle.attr_doc.proofs.NameLaws.{ignoring_case_equiv}
 use Rattle.vecmap_laws.proofs.AfterPuts.{put_some, puts_some}
 use Rattle.vecmap_laws.proofs.EachValue.{holds_after_put, holds_of_found}
@@ -53,7 +53,7 @@ document_with_section d i s f j = document_put d i s (λ o. option_map_or (λ ol
     by None h = j
     by (Some g) h = section_puts g f (h g refl)
 
-pub document_merged : (d e : Sections) → IsDocument d → All (λ p. IsSection p.1) e → IsDocument (merged d e)
+pub document_merged : (d e : Sections) → IsDocument d → All (λ p. IsSection p.1) e → IsDocument (merge_of d e)
 document_merged d [] i a = i
 document_merged d (p ∷ ps) i a = document_merged (with_section d p.0 p.1) ps (document_with_section d i p.0 p.1 (All-head (λ q. IsSection q.1) p ps a)) (All-tail (λ q. IsSection q.1) p ps a)
 

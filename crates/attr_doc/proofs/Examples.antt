@@ -2,7 +2,7 @@
 use Rattle.std.specs.Prelude.{◌≡◌, [], ◌∷◌, None, Some, String, false, refl, string_bytes, true}
 use Rattle.std.specs.Str.{str_eq_ignore_ascii_case}
 use Rattle.std.specs.declared.alloc.Global.{Global}
-use Rattle.attr_doc.specs.Documents.{Sections, merged, text_of, with_section, with_text}
+use Rattle.attr_doc.specs.Documents.{Sections, merge_of, text_of, with_section, with_text}
 
 -- `Az[` and `aZ[`
 a_name_in_other_case : str_eq_ignore_ascii_case (65 ∷ 122 ∷ 91 ∷ []) (97 ∷ 90 ∷ 91 ∷ []) ≡ true
@@ -41,5 +41,5 @@ module _ (t u v : String Global) where
   a_section_is_put_text_by_text : with_section small (97 ∷ []) ((98 ∷ [], u) ∷ (99 ∷ [], v) ∷ []) ≡ (65 ∷ [], (66 ∷ [], u) ∷ (99 ∷ [], v) ∷ []) ∷ []
   a_section_is_put_text_by_text = refl
 
-  sections_are_put_in_turn : merged small ((98 ∷ [], (99 ∷ [], u) ∷ []) ∷ (97 ∷ [], (98 ∷ [], v) ∷ []) ∷ []) ≡ (65 ∷ [], (66 ∷ [], v) ∷ []) ∷ (98 ∷ [], (99 ∷ [], u) ∷ []) ∷ []
+  sections_are_put_in_turn : merge_of small ((98 ∷ [], (99 ∷ [], u) ∷ []) ∷ (97 ∷ [], (98 ∷ [], v) ∷ []) ∷ []) ≡ (65 ∷ [], (66 ∷ [], v) ∷ []) ∷ (98 ∷ [], (99 ∷ [], u) ∷ []) ∷ []
   sections_are_put_in_turn = refl

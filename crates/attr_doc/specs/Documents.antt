@@ -46,8 +46,8 @@ abbrev pub with_section : Sections → List ℕ → Section → Sections
 with_section d section texts = put str_eq_ignore_ascii_case d section (option_map_or (λ old. puts str_eq_ignore_ascii_case old texts) (lookup str_eq_ignore_ascii_case d section) texts)
 
 -- The document `d` with each section of `e` inserted, in order.
-abbrev pub merged : Sections → Sections → Sections
-merged d e = fold (λ done p. with_section done p.0 p.1) d e
+abbrev pub merge_of : Sections → Sections → Sections
+merge_of d e = fold (λ done p. with_section done p.0 p.1) d e
 
 -- If the section exists, it has spare capacity for `n` more texts.
 abbrev pub HasRoomAt : List (List ℕ × Stored) → List ℕ → ℕ → Type 0

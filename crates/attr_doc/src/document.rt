@@ -1,5 +1,5 @@
 //! The type of documents.
-ghost use Rattle.attr_doc.specs.Documents.{IsDocument, merged, text_of, with_text};
+ghost use Rattle.attr_doc.specs.Documents.{IsDocument, merge_of, text_of, with_text};
 ghost use Rattle.std.specs.Map.{keys_of};
 ghost use Rattle.std.specs.Map.Iter.{deref};
 ghost use Rattle.std.specs.Prelude.{◌≡◌, ◌<◌, ◌↔◌, ℕ, IfErr, IfOk, IsOk, IsSome, IsTrue, List, OnErr, OnOk, [], length, option_copied, option_map, string_bytes};
@@ -159,7 +159,7 @@ impl Document {
     /// format!(in alloc; "{page:?} {changes:?}")?.as_str() // r#"{"Font": {"Size": "12", "Color": "red"}} {}"#
     /// ```
     pub fn merge(&mut self, other: &mut Document) -> Result<(), AllocError>
-        ensures sections { OnOk result (self.new ≡ merged self.old other.old) }
+        ensures sections { OnOk result (self.new ≡ merge_of self.old other.old) }
         ensures document { IsDocument self.new }
         ensures emptied { OnOk result (other.new ≡ []) }
         ensures not_empty { OnErr result (0 < length other.old) }

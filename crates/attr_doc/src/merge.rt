@@ -1,6 +1,6 @@
 //! The work of `Document::merge`, over the maps of sections alone: to reserve capacity for everything, then to move it.
 //! `merge` forwards to it, because the contract of a map need not say at each step that its sections are a document.
-ghost use Rattle.attr_doc.specs.Documents.{HasRoomAt, IsRoomFor, merged, sections_of, with_section};
+ghost use Rattle.attr_doc.specs.Documents.{HasRoomAt, IsRoomFor, merge_of, sections_of, with_section};
 ghost use Rattle.std.specs.Prelude.{All, ◌≡◌, ◌+◌, ◌<◌, ◌≤◌, ℕ, List, OnErr, OnOk, false, length};
 ghost use Rattle.std.specs.Str.{str_eq_ignore_ascii_case};
 ghost use Rattle.vecmap.specs.Contents.{HasRoom};
@@ -37,7 +37,7 @@ pub(crate) fn move_all(
     requires rooms { All (IsRoomFor sections.old.entries) others.items }
     requires distinct { HasDistinctKeys str_eq_ignore_ascii_case others.items }
     ensures { sections_of sections.new.entries
-        ≡ merged (sections_of sections.old.entries) (sections_of others.items) }
+        ≡ merge_of (sections_of sections.old.entries) (sections_of others.items) }
 {
     for (name, texts) in others {
         move_section(sections, name, texts);

@@ -1,7 +1,7 @@
 //! A buffer in front of a writer, so that a short answer takes one write.
 ghost use Rattle.std.specs.Io.KnownBytes.{Appends};
 ghost use Rattle.std.specs.Prelude.{◌≡◌, ◌∷◌, [], OnOk};
-ghost use Rattle.vecmap_run.specs.Buffer.{held};
+ghost use Rattle.vecmap_run.specs.Buffer.{buffer_bytes};
 
 use crate::bytes::Bytes;
 use std::fmt;
@@ -41,7 +41,8 @@ impl<'w, W: Write> Buffer<'w, W> {
     // Gathers a byte. A full buffer is first written.
     fn push(&mut self, byte: u8) -> fmt::Result
         ensures writer { self.new.writer.ghost_name ≡ self.old.writer.ghost_name }
-        ensures held { OnOk result (Appends (held W.contents self.old) (held W.contents self.new)
+        ensures held { OnOk result (Appends (buffer_bytes W.contents self.old)
+            (buffer_bytes W.contents self.new)
             (byte ∷ [])) }
     {
         if self.gathered.is_full() {
@@ -56,7 +57,7 @@ impl<'w, W: Write> Buffer<'w, W> {
 impl<W: Write> fmt::Write for Buffer<'_, W> {
     // What the buffer and its writer hold grows by the text.
     ghost write_str_gives = { λ s text t. (t.writer.ghost_name ≡ s.writer.ghost_name)
-        × Appends (held W.contents s) (held W.contents t) text };
+        × Appends (buffer_bytes W.contents s) (buffer_bytes W.contents t) text };
 
     fn write_str(&mut self, text: &str) -> fmt::Result {
         for byte in text.as_bytes() {

@@ -4,12 +4,12 @@ use Rattle.std.specs.Vec.Iter.{into_iter_items}
 use Rattle.std.specs.Str.{str_eq_ignore_ascii_case}
 use Rattle.vecmap.specs.Contents.{HasRoom}
 use Rattle.vecmap.specs.Pairs.{HasDistinctKeys}
-use Rattle.attr_doc.specs.Documents.{IsRoomFor, merged, sections_of}
+use Rattle.attr_doc.specs.Documents.{IsRoomFor, merge_of, sections_of}
 use Rattle.attr_doc.proofs.merge.move_all.Given as goal
 
 abbrev pub invariant-loop-name : goal.invariant-loop-name
 invariant-loop-name l = record {
-  moved : sections_of l.sections.entries ≡ merged (sections_of l.fn.sections.entries) (sections_of l.yielded);
+  moved : sections_of l.sections.entries ≡ merge_of (sections_of l.fn.sections.entries) (sections_of l.yielded);
   rest : l.fn.others.items ≡ l.yielded ++ into_iter_items l.name-iterator;
   room : HasRoom l.sections (length (into_iter_items l.name-iterator));
   rooms : All (IsRoomFor l.sections.entries) (into_iter_items l.name-iterator);

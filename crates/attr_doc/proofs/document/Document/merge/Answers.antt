@@ -4,7 +4,7 @@ use Rattle.std.proofs.Common.{◌∙◌, ap, subst, sym}
 use Rattle.std.specs.List.{All}
 use Rattle.std.specs.Str.{str_eq_ignore_ascii_case}
 use Rattle.vecmap.specs.Pairs.{HasDistinctKeys}
-use Rattle.attr_doc.specs.Documents.{IsDocument, IsRoomFor, merged, sections_of}
+use Rattle.attr_doc.specs.Documents.{IsDocument, IsRoomFor, merge_of, sections_of}
 use Rattle.attr_doc.proofs.DocumentLemmas.{document_merged, document_of_none, names_apart}
 use Rattle.attr_doc.proofs.document.Document.merge.Goals as goal
 
@@ -21,7 +21,7 @@ move_all-requires-clause-distinct c =
 pub invariant_of-self-2 : goal.invariant_of-self-2
 invariant_of-self-2 c =
     let items = c.into_vec-others.ensures.entries ∙ ap (λ m. m.entries) c.replace.ensures.value in
-    let moved = c.move_all.ensures ∙ (λ t. merged (c.make_room.ensures.sections t) (sections_of (items t))) in
+    let moved = c.move_all.ensures ∙ (λ t. merge_of (c.make_room.ensures.sections t) (sections_of (items t))) in
     subst IsDocument (sym moved) (document_merged (sections_of c.self.inside.sections.entries) (sections_of c.other.inside.sections.entries) c.self.invariant c.other.invariant.sections)
 
 pub invariant_of-other : goal.invariant_of-other

@@ -1,6 +1,6 @@
 use Rattle.std.proofs.Common.{◌≡◌, take}
 use Rattle.std.specs.Io.KnownBytes.{Appends}
-use Rattle.vecmap_run.specs.Buffer.{held}
+use Rattle.vecmap_run.specs.Buffer.{buffer_bytes}
 use Rattle.vecmap_run.proofs.buffer.BufferWrite.write_str.Given as goal
 
 -- What the buffer and its writer hold has grown by the bytes so far.
@@ -9,5 +9,5 @@ invariant-loop-byte g l =
     let contents = g.W.Write.contents in
     record {
       writer : l.self.writer.ghost_name ≡ l.fn.self.writer.ghost_name;
-      held : Appends (held contents l.fn.self) (held contents l.self) (take l.byte-index l.byte-items);
+      held : Appends (buffer_bytes contents l.fn.self) (buffer_bytes contents l.self) (take l.byte-index l.byte-items);
     }
