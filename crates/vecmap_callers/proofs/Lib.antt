@@ -3,3 +3,4 @@ pub mod HeaderLemmas
 pub mod InternerLemmas
 pub mod OptionLemmas
 pub mod ScopeLemmas
+pub mod StoppedLemmas

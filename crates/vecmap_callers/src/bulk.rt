@@ -1,5 +1,5 @@
 //! Callers that insert, collect or move many pairs or elements at once.
-ghost use Rattle.std.specs.Prelude.{◌≡◌, ◌⊎◌, [], IfOk, OnErr, OnOk, nat_eq};
+ghost use Rattle.std.specs.Prelude.{◌≡◌, ◌⊎◌, ℕ, [], IfOk, OnErr, OnOk, nat_eq, take};
 ghost use Rattle.vecmap.specs.Items.{adds};
 ghost use Rattle.vecmap.specs.Pairs.{puts};
 
@@ -21,15 +21,27 @@ pub fn collected_set(alloc: Global, items: Vec<u32>) -> Result<VecSet<u32>, Allo
 }
 
 /// Inserts these pairs.
+///
+/// # Errors
+///
+/// [`AllocError`] if the allocator refuses a request. The map then has the insertions of the first pairs, or of none.
 pub fn put_all(map: &mut VecMap<u32, u32>, pairs: Vec<(u32, u32)>) -> Result<(), AllocError>
-    ensures { OnOk result (map.new.entries ≡ puts nat_eq map.old.entries pairs.items) }
+    ensures entries { OnOk result (map.new.entries ≡ puts nat_eq map.old.entries pairs.items) }
+    ensures err { OnErr result ((n : ℕ)
+        × (map.new.entries ≡ puts nat_eq map.old.entries (take n pairs.items))) }
 {
     map.extend(pairs.into_iter())
 }
 
 /// Inserts these elements.
+///
+/// # Errors
+///
+/// [`AllocError`] if the allocator refuses a request. The set then has the additions of the first elements, or of none.
 pub fn add_all(set: &mut VecSet<u32>, items: Vec<u32>) -> Result<(), AllocError>
-    ensures { OnOk result (set.new.elements ≡ adds nat_eq set.old.elements items.items) }
+    ensures elements { OnOk result (set.new.elements ≡ adds nat_eq set.old.elements items.items) }
+    ensures err { OnErr result ((n : ℕ)
+        × (set.new.elements ≡ adds nat_eq set.old.elements (take n items.items))) }
 {
     set.extend(items.into_iter())
 }

@@ -1,5 +1,5 @@
 //! Callers of removals.
-ghost use Rattle.std.specs.Prelude.{◌%◌, ◌++◌, ◌-◌, ◌<◌, ◌≡◌, ◌≤◌, OnOk, Some, drop, filter, length, nat_eq, remove, slice_get, take};
+ghost use Rattle.std.specs.Prelude.{◌%◌, ◌++◌, ◌-◌, ◌<◌, ◌≡◌, ◌≤◌, OnErr, OnOk, Some, drop, filter, length, nat_eq, remove, slice_get, take};
 ghost use Rattle.std.specs.List.{IsDistinct};
 ghost use Rattle.vecmap.specs.Items.{without_item};
 ghost use Rattle.vecmap.specs.Pairs.{HasDistinctKeys};
@@ -106,12 +106,18 @@ pub fn pull_from_either_end(map: &mut VecMap<u32, u32>, count: usize, from_back:
     }
 }
 
-/// Splits a map of distinct keys and appends the second part again, which restores the map if no request is refused.
+/// Splits a map of distinct keys and appends the second part again, which restores the map.
+///
+/// # Errors
+///
+/// [`AllocError`] if the allocator refuses to split the map; the map is then unchanged.
 pub fn split_and_append(map: &mut VecMap<u32, u32>, at: usize) -> Result<(), AllocError>
     requires within { at ≤ length map.old.entries }
     requires distinct { HasDistinctKeys ⟦<u32 as PartialEq>⟧.eq map.old.entries }
     ensures entries { OnOk result (map.new.entries ≡ map.old.entries) }
+    ensures err { OnErr result (map.new ≡ map.old) }
 {
+    laws::pairs_fit_the_capacity(map);
     laws::appending_undoes_splitting::<u32, u32>();
     let mut part = map.split_off(at)?;
     map.append(&mut part)

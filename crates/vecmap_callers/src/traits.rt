@@ -1,5 +1,5 @@
 //! Callers that use maps and sets through the traits `Clone` and `Extend`.
-ghost use Rattle.std.specs.Prelude.{◌≡◌, ◌<◌, ℕ, IfOk, List, Ok, OnOk, Some, [], filter, length, nat_eq, nat_lt, not, slice_get, slice_index_or, string_bytes};
+ghost use Rattle.std.specs.Prelude.{◌≡◌, ◌<◌, ℕ, IfOk, List, Ok, OnErr, OnOk, Some, [], filter, length, nat_eq, nat_lt, not, slice_get, slice_index_or, string_bytes, take};
 ghost use Rattle.vecmap.specs.Items.{adds};
 ghost use Rattle.std.specs.List.{AllZip};
 ghost use Rattle.vecmap.specs.Pairs.{puts};
@@ -54,16 +54,27 @@ pub fn parted_set(
 }
 
 /// Extends any collection of pairs by these pairs.
+///
+/// # Errors
+///
+/// [`AllocError`] if a request is refused. The collection is then extended by the first pairs, or by none.
 pub fn put_all<C: Extend<(u32, u32)>>(to: &mut C, pairs: Vec<(u32, u32)>) -> Result<(), AllocError>
     requires { (items : List (ℕ × ℕ)) → C.can_extend to.old items }
-    ensures { OnOk result (C.extend_gives to.old pairs.items to.new) }
+    ensures ran { OnOk result (C.extend_gives to.old pairs.items to.new) }
+    ensures err { OnErr result ((n : ℕ) × C.extend_gives to.old (take n pairs.items) to.new) }
 {
     to.extend(pairs.into_iter())
 }
 
 /// Inserts pairs into a map, by the function for any collection of pairs.
+///
+/// # Errors
+///
+/// [`AllocError`] if the allocator refuses a request. The map then has the insertions of the first pairs, or of none.
 pub fn put_into_map(map: &mut VecMap<u32, u32>, pairs: Vec<(u32, u32)>) -> Result<(), AllocError>
-    ensures { OnOk result (map.new.entries ≡ puts nat_eq map.old.entries pairs.items) }
+    ensures entries { OnOk result (map.new.entries ≡ puts nat_eq map.old.entries pairs.items) }
+    ensures err { OnErr result ((n : ℕ)
+        × (map.new.entries ≡ puts nat_eq map.old.entries (take n pairs.items))) }
 {
     put_all(map, pairs)
 }
