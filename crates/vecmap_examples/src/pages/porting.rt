@@ -8,3 +8,4 @@ pub mod own;
 #[cfg(test)]
 mod tests;
 pub mod traits;
+pub mod writes;

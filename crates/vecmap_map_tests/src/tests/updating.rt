@@ -165,18 +165,28 @@ fn update_values_drops_each_value_that_is_written_over(rt: HostRuntime) {
 }
 
 #[test]
-fn try_update_values_drops_nothing_that_stays_or_is_returned(rt: HostRuntime) {
+fn try_update_values_drops_nothing_that_stays(rt: HostRuntime) {
     let log = Log::new();
     let mut map = VecMap::from(granted(&rt, told_pairs(rt.alloc(), &log, &[1, 2, 3])));
     let result = map.try_update_values(|_key: &Told<'_>, value: &mut u32| {
         if *value == 2 {
-            return Err(make_told(&log, 20));
+            return Err(*value);
         }
         *value = 9;
         Ok(())
     });
-    assert_drops(&rt, &log, result, &[], &[20]);
-    assert_drops(&rt, &log, map, &[], &[1, 2, 3]);
+    assert_is(&rt, (result, log.drops()), (Err(2), 0));
+    assert_list(
+        &rt,
+        map.as_slice(),
+        &[
+            (make_told(&log, 1), 9),
+            (make_told(&log, 2), 2),
+            (make_told(&log, 3), 3),
+        ],
+    );
+    assert_is(&rt, log.drops(), 3);
+    assert_drops(&rt, &log, map, &[1, 2, 3], &[1, 2, 3]);
     assert_is(&rt, log.alive(), 0);
 }
 

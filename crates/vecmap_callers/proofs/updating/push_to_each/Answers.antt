@@ -1,7 +1,7 @@
 use Rattle.std.specs.Prelude.{[], ◌≡◌, ◌∷◌, ◌++◌, refl}
 use Rattle.std.proofs.Common.{rules}
 use Rattle.std.proofs.lemmas.Result.{IfErr-weaker, on_ok_weaker}
-use Rattle.vecmap.proofs.UpdatedLemmas.{stopped_while, viewed_while}
+use Rattle.vecmap_laws.proofs.UpdatedLemmas.{stopped_while, viewed_while}
 use Rattle.vecmap_callers.proofs.updating.push_to_each.Goals as goal
 
 pub returns-clause-ok : goal.returns-clause-ok

@@ -2,7 +2,7 @@ use Rattle.std.specs.Prelude.{◌+◌, ⊤}
 use Rattle.std.proofs.Common.{rules, sym, ◌∙◌}
 use Rattle.std.proofs.lemmas.List.{map-id}
 use Rattle.std.proofs.lemmas.Result.{IfErr-weaker}
-use Rattle.vecmap.proofs.UpdatedLemmas.{stopped_while}
+use Rattle.vecmap_laws.proofs.UpdatedLemmas.{stopped_while}
 use Rattle.vecmap_callers.proofs.updating.raise_up_to_greatest.Goals as goal
 
 pub returns-clause-err : goal.returns-clause-err

@@ -1,6 +1,6 @@
 use Rattle.std.specs.Prelude.{[], string_bytes, ⊤}
 use Rattle.std.proofs.Common.{rules}
-use Rattle.vecmap.proofs.UpdatedLemmas.{viewed_while}
+use Rattle.vecmap_laws.proofs.UpdatedLemmas.{viewed_while}
 use Rattle.vecmap_callers.proofs.writing.clear_texts_by_update.Goals as goal
 
 pub returns-clause-values : goal.returns-clause-values

@@ -9,6 +9,7 @@ use super::traits::{
     Config, LineError, count_one, extend_parsed, forget, lent, make_first, parsed, parted,
     push_or_make, sort_by_text, sort_down, with_port,
 };
+use super::writes::{append_to_all, halve_all, halve_in_loop};
 use std::alloc::Global;
 use std::test::Fail;
 use vecmap::{VecMap, vecmap, vecset};
@@ -178,6 +179,16 @@ fn shows_words_and_names(alloc: Global) -> Result<bool, Fail> {
     Ok(names.len() == 2 && names[0].as_str() == "b" && names[1].as_str() == "a")
 }
 
+fn shows_writes(alloc: Global) -> Result<bool, Fail> {
+    let mut prices = vecmap!(alloc; 'a' => 8, 'b' => 6);
+    halve_in_loop(&mut prices);
+    halve_all(&mut prices);
+    let mut lists = vecmap!(alloc; 'a' => vec![in alloc; 1]?, 'b' => vec![in alloc; 2]?);
+    append_to_all(&mut lists, 3)?;
+    let wanted = vecmap!(alloc; 'a' => vec![in alloc; 1, 3]?, 'b' => vec![in alloc; 2, 3]?);
+    Ok(prices.as_slice() == [('a', 2), ('b', 1)].as_slice() && lists == wanted)
+}
+
 #[test]
 fn a_count_wraps_and_is_printed(rt: HostRuntime) -> Result<(), Fail> {
     let mut counts = VecMap::from_slice(rt.alloc(), &[('a', 255)])?;
@@ -206,5 +217,6 @@ fn examples_hold(rt: HostRuntime) -> Result<(), Fail> {
     assert!(rt; shows_a_type_of_ones_own(alloc)?);
     assert!(rt; shows_loops(alloc)?);
     assert!(rt; shows_words_and_names(alloc)?);
+    assert!(rt; shows_writes(alloc)?);
     Ok(())
 }
