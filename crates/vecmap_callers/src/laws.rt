@@ -1,20 +1,20 @@
-//! A caller of each law: a function of a few lines that is proved by the law, and is not proved without its call.
+//! A caller of each law: a function of a few lines that is proved by the law.
 pub mod algebra;
 pub mod bounds;
+pub mod congruence;
 pub mod distinct;
 pub mod equality;
+pub mod heads;
+pub mod insertions;
 pub mod lookups;
 pub mod members;
-pub mod more_distinct;
-pub mod more_equality;
-pub mod more_insertions;
-pub mod more_removals;
-pub mod more_runs;
-pub mod more_set_removals;
-pub mod more_sorted;
-pub mod more_writes;
 pub mod moving;
 pub mod pulls;
 pub mod queries;
+pub mod removals;
 pub mod retaining;
+pub mod run_parts;
 pub mod runs;
+pub mod set_removals;
+pub mod sorted;
+pub mod writes;

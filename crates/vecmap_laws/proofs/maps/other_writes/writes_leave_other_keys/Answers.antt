@@ -1,6 +1,6 @@
 -- The idea: a write of the value of a key is one by the test of the key.
 use Rattle.vecmap_laws.proofs.WriteLemmas.{keys_of_with_value_by, lookup_written, lookup_written_other}
-use Rattle.vecmap_laws.proofs.maps.writes.writes_leave_other_keys.Goals as goal
+use Rattle.vecmap_laws.proofs.maps.other_writes.writes_leave_other_keys.Goals as goal
 
 pub returns-clause-value : goal.returns-clause-value
 returns-clause-value g c = λ m k. lookup_written g.K.PartialEq.eq g.met.K.Eq.laws (g.K.PartialEq.eq k) (λ x y e. g.met.K.Eq.laws.congr k x y e) m

@@ -1,4 +1,0 @@
-use Rattle.vecmap_callers.proofs.laws.more_writes.write_number.Goals as goal
-
-pub returns : goal.returns
-returns c = c.writes_leave_other_keys.ensures.others c.args.map.now c.args.number c.args.value

@@ -1,5 +1,0 @@
-use Rattle.std.proofs.Common.{rules}
-use Rattle.vecmap_callers.proofs.laws.more_writes.write_small.Goals as goal
-
-pub returns-then-value-gt99 : goal.returns-then-value-gt99
-returns-then-value-gt99 c = c.writes_of_found_values_change_nothing.ensures.by_text c.args.map.now c.args.text.now c.in-Some.stored.now (search rules)
