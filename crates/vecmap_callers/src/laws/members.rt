@@ -1,8 +1,8 @@
 //! Callers of laws about which elements a set has, and at which indices.
 ghost use Rattle.std.specs.List.{IsDistinct};
-ghost use Rattle.std.specs.Prelude.{◌&&◌, ◌||◌, ◌≡◌, ◌<◌, ℕ, Contains, IfOk, IsTrue, OnOk, Some, false, filter, length, nat_eq, nat_lt, slice_get};
+ghost use Rattle.std.specs.Prelude.{◌&&◌, ◌||◌, ◌≡◌, ◌<◌, ℕ, Contains, IfOk, IsTrue, OnErr, OnOk, Some, false, filter, length, nat_eq, nat_lt, slice_get};
 ghost use Rattle.std.specs.Set.{is_member};
-ghost use Rattle.vecmap.specs.Items.{item_index};
+ghost use Rattle.vecmap.specs.Items.{adds, item_index, without_item};
 
 use std::alloc::AllocError;
 use vecmap::{Refused, VecSet};
@@ -39,6 +39,8 @@ pub fn append_behind<T: Eq + Drop>(
     set: &mut VecSet<T>,
     other: &mut VecSet<T>,
 ) -> Result<(), AllocError>
+    ensures elements { OnOk result (set.new.elements ≡ adds T.eq set.old.elements other.old.elements) }
+    ensures err { OnErr result (set.new ≡ set.old) }
     ensures element { OnOk result ((i : ℕ) → i < length set.old.elements
         → slice_get set.new.elements i ≡ slice_get set.old.elements i) }
     ensures index { OnOk result ((x : T) (i : ℕ) → item_index T.eq set.old.elements x ≡ Some i
@@ -50,7 +52,8 @@ pub fn append_behind<T: Eq + Drop>(
 
 /// Removes an element, which is then absent.
 pub fn exclude<T: Eq + Drop>(set: &mut VecSet<T>, item: &T)
-    ensures { is_member T.eq set.new.elements item.now ≡ false }
+    ensures elements { set.new.elements ≡ without_item T.eq set.old.elements item.now }
+    ensures gone { is_member T.eq set.new.elements item.now ≡ false }
 {
     removals_are_forgotten::<T>();
     // The law needs that no two elements are equal, which `as_slice` states.

@@ -1,5 +1,7 @@
 //! Callers of laws about insertions and removals by index, and about other orders.
-ghost use Rattle.std.specs.Prelude.{◌≡◌, ◌<◌, ℕ, None, OnOk, Some, if◌then◌else◌, length, nat_eq, slice_get};
+ghost use Rattle.std.specs.Prelude.{◌≡◌, ◌<◌, ℕ, None, OnOk, Some, if◌then◌else◌, length, nat_eq, reverse, slice_get};
+ghost use Rattle.std.specs.List.Sorted.{IsPermutation, IsSortedByKey};
+ghost use Rattle.std.specs.Ordering.{nat_cmp};
 ghost use Rattle.vecmap.specs.Pairs.{HasDistinctKeys, index_of, lookup, with_pair};
 
 use vecmap::map::laws::pairs_fit_the_capacity;
@@ -52,7 +54,10 @@ pub fn move_to_front<K: Eq + Drop, V: Drop>(map: &mut VecMap<K, V>, index: usize
 /// Sorts the keys. Each key finds what it found before.
 pub fn sort_all(map: &mut VecMap<u32, u32>)
     requires { HasDistinctKeys nat_eq map.old.entries }
-    ensures { (key : ℕ) → lookup nat_eq map.new.entries key ≡ lookup nat_eq map.old.entries key }
+    ensures sorted { IsSortedByKey (λ p. p.0) nat_cmp map.new.entries }
+    ensures rearranged { IsPermutation map.old.entries map.new.entries }
+    ensures lookups { (key : ℕ) → lookup nat_eq map.new.entries key
+        ≡ lookup nat_eq map.old.entries key }
 {
     order_keeps_lookups::<u32, u32>();
     map.sort_unstable_keys();
@@ -61,7 +66,8 @@ pub fn sort_all(map: &mut VecMap<u32, u32>)
 /// Reverses the order. Each key finds what it found before.
 pub fn reverse_all<K: Eq, V>(map: &mut VecMap<K, V>)
     requires { HasDistinctKeys K.eq map.old.entries }
-    ensures { (key : K) → lookup K.eq map.new.entries key ≡ lookup K.eq map.old.entries key }
+    ensures entries { map.new.entries ≡ reverse map.old.entries }
+    ensures lookups { (key : K) → lookup K.eq map.new.entries key ≡ lookup K.eq map.old.entries key }
 {
     order_keeps_lookups::<K, V>();
     map.reverse();
