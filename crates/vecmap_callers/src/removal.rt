@@ -5,6 +5,7 @@ ghost use Rattle.vecmap.specs.Items.{without_item};
 ghost use Rattle.vecmap.specs.Pairs.{HasDistinctKeys};
 
 use std::alloc::AllocError;
+use vecmap::map::laws::pairs_fit_the_capacity;
 use vecmap::{VecMap, VecSet};
 use vecmap_laws::maps as laws;
 
@@ -117,7 +118,7 @@ pub fn split_and_append(map: &mut VecMap<u32, u32>, at: usize) -> Result<(), All
     ensures entries { OnOk result (map.new.entries ≡ map.old.entries) }
     ensures err { OnErr result (map.new ≡ map.old) }
 {
-    laws::pairs_fit_the_capacity(map);
+    pairs_fit_the_capacity(map);
     laws::appending_undoes_splitting::<u32, u32>();
     let mut part = map.split_off(at)?;
     map.append(&mut part)

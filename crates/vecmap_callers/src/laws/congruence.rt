@@ -4,10 +4,11 @@ ghost use Rattle.vecmap.specs.Equality.{has_same_counts, has_same_items};
 ghost use Rattle.vecmap.specs.Pairs.{HasDistinctKeys};
 
 use std::alloc::AllocError;
-use vecmap::set::laws::clones_have_the_same_members;
 use vecmap::{Refused, VecMap, VecSet};
 use vecmap_laws::maps::{equal_maps_stay_equal, equality_with_partial_values};
-use vecmap_laws::sets::{equal_sets_stay_equal, operators_of_equal_sets_are_equal};
+use vecmap_laws::sets::{
+    clones_have_the_same_members, equal_sets_stay_equal, operators_of_equal_sets_are_equal,
+};
 
 /// Removes a number from two maps. Equal maps stay equal.
 pub fn forget_in_both(a: &mut VecMap<u32, u32>, b: &mut VecMap<u32, u32>, number: u32)

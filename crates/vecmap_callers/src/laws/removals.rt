@@ -6,12 +6,12 @@ ghost use Rattle.std.specs.declared.alloc.Global.{Global};
 ghost use Rattle.vecmap.specs.Pairs.{HasDistinctKeys, has_text, index_of, lookup, lookup_by};
 ghost use Rattle.vecmap_laws.specs.Removals.{below, swapped};
 
-use vecmap::map::laws::{order_keeps_lookups, retain_filters_or_writes};
 use vecmap::{Equivalent, VecMap};
 use vecmap_laws::maps::{
-    filters_keep_lookups, moving_removals_are_forgotten, parts_keep_their_lookups,
-    queries_find_alike, removals_are_filters, removals_by_queries_are_forgotten,
-    removals_by_texts_are_forgotten, removals_change_indices, removals_shorten,
+    filters_keep_lookups, moving_removals_are_forgotten, order_keeps_lookups,
+    parts_keep_their_lookups, queries_find_alike, removals_are_filters,
+    removals_by_queries_are_forgotten, removals_by_texts_are_forgotten, removals_change_indices,
+    removals_shorten, retain_filters_or_writes,
 };
 
 /// Removes each of the keys that is present.

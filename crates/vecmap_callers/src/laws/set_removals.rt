@@ -6,12 +6,11 @@ ghost use Rattle.vecmap.specs.Items.{item_index, stored_item};
 ghost use Rattle.vecmap_laws.specs.Removals.{shifted};
 
 use std::alloc::AllocError;
-use vecmap::set::laws::retain_filters;
 use vecmap::{Equivalent, VecSet};
 use vecmap_laws::sets::{
     filters_keep_members, parts_keep_their_members, removals_are_filters,
     removals_by_queries_keep_other_elements, removals_change_indices, removals_keep_other_elements,
-    removals_shorten,
+    removals_shorten, retain_filters,
 };
 
 /// Removes an element, and leaves all others in order.

@@ -6,10 +6,9 @@ ghost use Rattle.vecmap.specs.Pairs.{has_text, index_of, lookup, lookup_by};
 use crate::nested::set;
 use std::alloc::AllocError;
 use vecmap::VecMap;
-use vecmap::map::laws::inner_insertions_are_found;
 use vecmap_laws::maps::{
-    values_are_found_by_two_keys, values_are_found_by_two_texts, writes_leave_other_keys,
-    writes_of_found_values_change_nothing,
+    inner_insertions_are_found, values_are_found_by_two_keys, values_are_found_by_two_texts,
+    writes_leave_other_keys, writes_of_found_values_change_nothing,
 };
 
 /// Writes the value of a number that is present. Every other key finds what it found before.
