@@ -8,12 +8,11 @@ mod settings;
 mod traits;
 mod words;
 
-use crate::checks::{assert_gives, assert_is, assert_list, assert_pairs, check, granted, present};
+use crate::checks::{assert_gives, assert_is, assert_list, check, granted, present};
 use std::alloc::{AllocError, Global};
-use vecmap::{VecMap, VecSet};
+use vecmap::VecMap;
 use vecmap_callers::names::{Name, NamedAs};
-use vecmap_callers::{entry, equivalent, indices, insertion, lending, macros};
-use vecmap_fixtures::{item_pairs, make_item};
+use vecmap_callers::{entry, equivalent, indices, insertion, macros};
 
 #[test]
 fn callers_of_entries_count_write_and_remove(rt: HostRuntime) {
@@ -73,33 +72,6 @@ fn texts_are_put_found_and_forgotten(rt: HostRuntime) {
 }
 
 #[test]
-fn callers_of_lent_values_write_and_read_them(rt: HostRuntime) {
-    let mut map = VecMap::from(granted(&rt, item_pairs(rt.alloc(), &[(1, 'a', 1), (2, 'b', 2)])));
-    let (there, absent) = (make_item(2, 'z'), make_item(3, 'z'));
-    check!(rt; lending::write_if_there(&mut map, &there, 9));
-    assert_pairs(&rt, &map, &[(1, 'a', 1), (2, 'b', 9)]);
-    check!(rt; !lending::write_if_there(&mut map, &absent, 5));
-    assert_pairs(&rt, &map, &[(1, 'a', 1), (2, 'b', 9)]);
-    assert!(rt; map.contains_key(&there));
-    lending::write_there(&mut map, &there, 7);
-    assert_pairs(&rt, &map, &[(1, 'a', 1), (2, 'b', 7)]);
-    assert!(rt; 0 < map.len());
-    lending::write_at(&mut map, 0, 8);
-    assert_pairs(&rt, &map, &[(1, 'a', 8), (2, 'b', 7)]);
-    let mut numbers = VecMap::new(rt.alloc());
-    assert_gives(&rt, numbers.insert(5, 6), None);
-    assert_is(
-        &rt,
-        (
-            lending::read_at(&mut numbers, 0),
-            lending::read_at(&mut numbers, 1),
-        ),
-        (Some(6), None),
-    );
-    assert_list(&rt, numbers.as_slice(), &[(5, 6)]);
-}
-
-#[test]
 fn callers_by_index_move_and_exchange(rt: HostRuntime) {
     let mut map = granted(&rt, VecMap::from_slice(rt.alloc(), &[('a', 1), ('b', 2)]));
     assert_gives(&rt, indices::put_last(&mut map, 'a', 3), Some((0, 1)));
@@ -143,57 +115,5 @@ fn a_query_that_ignores_case_finds_names(rt: HostRuntime) {
         &rt,
         (map.len(), map.get_index_of(NamedAs("accept"))),
         (2, Some(0)),
-    );
-}
-
-#[test]
-fn the_value_of_a_text_is_read_written_and_taken(rt: HostRuntime) {
-    let mut map = VecMap::new(rt.alloc());
-    for (text, value) in [("host", 1), ("port", 2), ("user", 3)] {
-        granted(
-            &rt,
-            map.insert(granted(&rt, String::from_str(rt.alloc(), text)), value),
-        );
-    }
-    assert_is(&rt, equivalent::value_of_text(&map, "user"), Some(3));
-    assert!(rt; map.contains_key("port"));
-    equivalent::write_port(&mut map, 20);
-    assert!(rt; map.contains_key("port"));
-    assert_is(&rt, equivalent::port(&map), 20);
-    let (key, value) = present(&rt, equivalent::take_text(&mut map, "host"));
-    assert_is(&rt, (key.as_str(), value), ("host", 1));
-    equivalent::forget_port(&mut map);
-    equivalent::write_port(&mut map, 30);
-    assert_is(&rt, (map.len(), map.get("user").copied()), (1, Some(3)));
-    let mut set = VecSet::new(rt.alloc());
-    granted(
-        &rt,
-        set.insert(granted(&rt, String::from_str(rt.alloc(), "host"))),
-    );
-    check!(rt; !equivalent::drop_text(&mut set, "hos"));
-    check!(rt; equivalent::drop_text(&mut set, "host"));
-    check!(rt; set.is_empty());
-}
-
-#[test]
-fn read_texts_and_bytes_find_their_values(rt: HostRuntime) {
-    let words = granted(
-        &rt,
-        VecMap::from_slice(rt.alloc(), &[("get", 1), ("put", 2)]),
-    );
-    for (text, value) in [("put", Some(2)), ("pu", None), ("", None)] {
-        let line = granted(&rt, String::from_str(rt.alloc(), text));
-        assert_is(&rt, equivalent::value_of_line(&words, &line), value);
-    }
-    let mut map = VecMap::new(rt.alloc());
-    granted(&rt, map.insert(granted(&rt, vec![in rt.alloc(); 1, 2]), 5));
-    granted(&rt, map.insert(granted(&rt, vec![in rt.alloc(); 1]), 6));
-    assert_is(
-        &rt,
-        (
-            equivalent::value_of_bytes(&map, &[1]),
-            equivalent::value_of_bytes(&map, &[2]),
-        ),
-        (Some(6), None),
     );
 }

@@ -124,7 +124,8 @@ impl<K, V> MadeWith<Global> for VecMap<K, V> {
 /// ```
 /// let mut map = vecmap!(alloc; 'a' => 1, 'b' => 2);
 /// let taken = mem::try_take(&mut map)?;
-/// (taken.len(), map.len()) // (2, 0)
+/// taken.as_slice() // [('a', 1), ('b', 2)]
+/// map.len() // 0
 /// ```
 impl<K, V> Emptied for VecMap<K, V> {
     ghost is_emptied = { λ map. (map.entries ≡ []) × (map.capacity ≡ 0) };

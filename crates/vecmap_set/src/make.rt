@@ -131,7 +131,8 @@ impl<T: Eq> MadeWith<Global> for VecSet<T> {
 /// ```
 /// let mut set = vecset!(alloc; 2, 1);
 /// let taken = mem::try_take(&mut set)?;
-/// (taken.len(), set.len()) // (2, 0)
+/// taken.as_slice() // [2, 1]
+/// set.len() // 0
 /// ```
 impl<T: Eq> Emptied for VecSet<T> {
     ghost is_emptied = { λ set. (set.elements ≡ []) × (set.capacity ≡ 0) };

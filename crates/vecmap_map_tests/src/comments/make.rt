@@ -48,7 +48,8 @@ fn shows_made_with(rt: &impl Abort, alloc: Global) {
 fn shows_emptied(rt: &impl Abort, alloc: Global) {
     let mut map = granted(rt, VecMap::from_array(alloc, [('a', 1), ('b', 2)]));
     let taken = granted(rt, mem::try_take(&mut map));
-    assert_is(rt, (taken.len(), map.len()), (2, 0));
+    assert_list(rt, taken.as_slice(), &[('a', 1), ('b', 2)]);
+    assert_is(rt, map.len(), 0);
 }
 
 #[test]

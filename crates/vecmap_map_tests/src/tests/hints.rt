@@ -113,9 +113,3 @@ fn a_map_with_pairs_reserves_half_of_the_hint_rounded_up(rt: HostRuntime) {
     let both = [(2, 5), (1, 7)];
     assert_extended(&rt, rt.alloc(), &[(2, 5)], (ONE, 21), (&both, 12));
 }
-
-#[test]
-fn from_slice_reserves_capacity_for_all_pairs(rt: HostRuntime) {
-    let map = granted(&rt, VecMap::from_slice(rt.alloc(), &[(1, 7); 9]));
-    assert_room(&rt, &map, ONE, 9);
-}

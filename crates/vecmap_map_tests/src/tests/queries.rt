@@ -1,5 +1,4 @@
-//! Calls on a map by each kind of query: a key, a text, a slice, and a query that is not a key. The file of each call's
-//! module has the call by a key.
+//! Calls on a map by each kind of query: a key, a text, a slice, and a query that is not a key.
 mod matching;
 
 use self::matching::assert_matches;

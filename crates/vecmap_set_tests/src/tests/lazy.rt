@@ -301,7 +301,7 @@ fn a_union_is_exact_for_every_mixture_of_next_and_next_back(rt: HostRuntime) {
 }
 
 #[test]
-fn size_hints_follow_the_calls_of_next(rt: HostRuntime) {
+fn a_difference_and_a_union_return_items_and_hints_from_both_ends(rt: HostRuntime) {
     let a = granted(&rt, VecSet::from_slice(rt.alloc(), &[1, 2, 3, 4]));
     let b = granted(&rt, VecSet::from_slice(rt.alloc(), &[2, 4]));
     let mut lacking = a.difference(&b);

@@ -1,5 +1,4 @@
-//! Calls on a set by each kind of query: an element, a text, a slice, and a query that is not an element. The file of
-//! each call's module has the call by an element.
+//! Calls on a set by each kind of query: an element, a text, a slice, and a query that is not an element.
 use crate::checks::{assert_granted, assert_is, assert_items, assert_texts, check, granted};
 use crate::made::{item_set, text_set};
 use std::alloc::AllocError;

@@ -47,7 +47,8 @@ fn shows_made_with(rt: &impl Abort, alloc: Global) {
 fn shows_emptied(rt: &impl Abort, alloc: Global) -> Result<(), AllocError> {
     let mut set = vecset!(alloc; 2, 1);
     let taken = granted(rt, mem::try_take(&mut set));
-    assert_is(rt, (taken.len(), set.len()), (2, 0));
+    assert_list(rt, taken.as_slice(), &[2, 1]);
+    assert_is(rt, set.len(), 0);
     Ok(())
 }
 
