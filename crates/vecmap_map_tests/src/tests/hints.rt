@@ -106,6 +106,12 @@ fn capacity_for_the_greatest_hint_is_refused(rt: HostRuntime) {
 fn an_empty_map_reserves_the_whole_hint(rt: HostRuntime) {
     assert_extended(&rt, rt.alloc(), &[], (ONE, 0), (ONE, 1));
     assert_extended(&rt, rt.alloc(), &[], (ONE, 20), (ONE, 20));
+    let hinted = Hinted {
+        items: ONE,
+        hint: 0,
+    };
+    let map = granted(&rt, VecMap::from_iter(rt.alloc(), hinted.copied()));
+    assert_room(&rt, &map, ONE, 1);
 }
 
 #[test]
