@@ -5,8 +5,6 @@ use crate::checks::{assert_gives, assert_is, assert_prints, assert_text, granted
 use attr_doc::{Document, Name};
 use std::alloc::{AllocError, Global};
 
-type Rows<'t> = &'t [(&'t str, &'t str, &'t str)];
-
 /// Creates a document by these calls of `set` in order, each with a section, a name and a text.
 fn document(alloc: Global, rows: &[(&str, &str, &str)]) -> Result<Document, AllocError> {
     let mut document = Document::new(alloc);
@@ -78,57 +76,6 @@ fn prints_the_example(rt: HostRuntime) {
 }
 
 #[test]
-fn sets_in_order(rt: HostRuntime) {
-    let runs: [(Rows<'_>, &str); 6] = [
-        (&[], "{}"),
-        (
-            FIRST,
-            r#"{"Font": {"Size": "12"}, "Page": {"Width": "5", "Height": "9"}}"#,
-        ),
-        (
-            &[
-                ("Page", "Width", "5"),
-                ("Font", "Size", "1"),
-                ("PAGE", "wIDTH", "6"),
-                ("page", "x", ""),
-            ],
-            r#"{"Page": {"Width": "6", "x": ""}, "Font": {"Size": "1"}}"#,
-        ),
-        (
-            &[("", "", ""), ("", "a", "1"), ("", "", "2")],
-            r#"{"": {"": "2", "a": "1"}}"#,
-        ),
-        (
-            &[("Ä", "b", "1"), ("ä", "B", "2"), ("Ä", "B", "3")],
-            r#"{"Ä": {"b": "3"}, "ä": {"B": "2"}}"#,
-        ),
-        (
-            &[("a", "b", "1"), (" a", "b", "2"), ("a ", "b", "3")],
-            r#"{"a": {"b": "1"}, " a": {"b": "2"}, "a ": {"b": "3"}}"#,
-        ),
-    ];
-    for (rows, output) in runs {
-        let document = granted(&rt, document(rt.alloc(), rows));
-        assert_prints(&rt, rt.alloc(), &document, output);
-    }
-}
-
-#[test]
-fn set_returns_the_old_text(rt: HostRuntime) {
-    let mut document = Document::new(rt.alloc());
-    for (section, name, new, old) in [
-        ("Page", "Width", "5", None),
-        ("page", "width", "6", Some("5")),
-        ("PAGE", "Height", "7", None),
-        ("Font", "Width", "8", None),
-        ("pAGE", "wIDTH", "9", Some("6")),
-    ] {
-        let previous = granted(&rt, set(rt.alloc(), &mut document, section, name, new));
-        assert_is(&rt, (new, previous.as_deref()), (new, old));
-    }
-}
-
-#[test]
 fn names_stay_as_they_were_first_written(rt: HostRuntime) {
     let mut page = Document::new(rt.alloc());
     assert_gives(&rt, set(rt.alloc(), &mut page, "Font", "Size", "10"), None);
@@ -140,7 +87,7 @@ fn names_stay_as_they_were_first_written(rt: HostRuntime) {
 }
 
 #[test]
-fn merges_sections(rt: HostRuntime) {
+fn a_merge_replaces_texts_and_appends_new_sections(rt: HostRuntime) {
     let mut first = granted(&rt, document(rt.alloc(), FIRST));
     let mut second = granted(&rt, document(rt.alloc(), SECOND));
     granted(&rt, first.merge(&mut second));
@@ -164,45 +111,6 @@ fn merges_sections(rt: HostRuntime) {
         assert_is(&rt, (section, name, found), (section, name, wanted));
     }
     assert_prints(&rt, rt.alloc(), &second, "{}");
-}
-
-/// Returns what a merge leaves of the two documents.
-fn merged(
-    alloc: Global,
-    first: &[(&str, &str, &str)],
-    second: &[(&str, &str, &str)],
-) -> Result<String, AllocError> {
-    let mut first = document(alloc, first)?;
-    let mut second = document(alloc, second)?;
-    first.merge(&mut second)?;
-    format!(in alloc; "{first:?} {second:?}")
-}
-
-#[test]
-fn merges_in_order(rt: HostRuntime) {
-    assert_text(&rt, merged(rt.alloc(), &[], &[]), "{} {}");
-    assert_text(
-        &rt,
-        merged(rt.alloc(), &[], SECOND),
-        r#"{"page": {"WIDTH": "7", "Margin": "1"}, "Link": {"Color": "red"}} {}"#,
-    );
-    assert_text(
-        &rt,
-        merged(rt.alloc(), FIRST, &[]),
-        r#"{"Font": {"Size": "12"}, "Page": {"Width": "5", "Height": "9"}} {}"#,
-    );
-    assert_text(
-        &rt,
-        merged(rt.alloc(), FIRST, SECOND),
-        r#"{"Font": {"Size": "12"}, "Page": {"Width": "7", "Height": "9", "Margin": "1"}, "Link": {"Color": "red"}} {}"#,
-    );
-    let odd = [("É", "a", "1"), ("", "", "2")];
-    let other = [("", "b", ""), ("é", "A", "3"), ("É", "A", "4")];
-    assert_text(
-        &rt,
-        merged(rt.alloc(), &odd, &other),
-        r#"{"É": {"a": "4"}, "": {"": "2", "b": ""}, "é": {"A": "3"}} {}"#,
-    );
 }
 
 /// Returns for either side `true` if the two documents are the same, compared from that side.

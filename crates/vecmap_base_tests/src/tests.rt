@@ -4,6 +4,4 @@ mod distinct;
 mod iter_mut;
 mod lookup;
 mod refused;
-mod relations;
 mod repeats;
-mod retain;

@@ -1,5 +1,5 @@
-//! Tests of maps. Each file is named for a module of `vecmap_map`, and tests each call of that module: its whole
-//! result, and the whole list that it leaves. These files have further tests by topic:
+//! Tests of maps. Each file is named for a module of `vecmap_map`, and shows of its calls what neither a clause nor an
+//! example shows. These files have further tests by topic:
 //!
 //! - `by_reference`: loops over references to a map.
 //! - `clones`: keys and values whose clones are refused.
@@ -8,25 +8,21 @@
 //! - `no_size`: keys and values of no size.
 //! - `queries`: calls by each kind of query: a key, a text, a slice, and a query that is not a key.
 //! - `repeats`: calls by key on a map in which keys repeat.
-//! - `sizes`: sizes of keys, pairs and maps for which a call has a path of its own.
+//! - `sizes`: sizes of pairs and maps for which a call has a path of its own.
 mod bulk;
 mod by_reference;
 mod clones;
-mod cloning;
 mod conversion;
 mod drain;
 mod drops;
 mod entry;
 mod equality;
-mod extending;
 mod formatting;
 mod hints;
-mod indexing;
 mod insertion;
 mod iteration;
 mod lending;
 mod lookup;
-mod make;
 mod mutable_keys;
 mod no_size;
 mod order;

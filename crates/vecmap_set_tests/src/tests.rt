@@ -1,5 +1,5 @@
-//! Tests of sets. Each file is named for a module of `vecmap_set`, and tests each call of that module: its whole
-//! result, and the whole list that it leaves. These files have further tests by topic:
+//! Tests of sets. Each file is named for a module of `vecmap_set`, and shows of its calls what neither a clause nor an
+//! example shows. These files have further tests by topic:
 //!
 //! - `by_reference`: loops over references to a set.
 //! - `clones`: elements whose clones are refused.
@@ -14,14 +14,10 @@ mod conversion;
 mod drain;
 mod drops;
 mod equality;
-mod extending;
 mod formatting;
-mod indexing;
 mod insertion;
 mod iteration;
 mod lazy;
-mod lookup;
-mod make;
 mod no_size;
 mod operators;
 mod order;

@@ -1,5 +1,4 @@
-//! Tests of macros, of runs of commands, also random ones, and of maps and sets in each other.
+//! Tests of macros, and of runs of commands, also random ones.
 mod macros;
-mod nested;
 mod random;
 mod run;

@@ -1,33 +1,7 @@
 //! Lookups in lists, and the number of their comparisons.
 use crate::checks::{assert_is, check, granted};
-use vecmap_base::{contains_item, find, find_item, find_item_str, find_str};
+use vecmap_base::{contains_item, find, find_item};
 use vecmap_fixtures::{Log, told_items, told_pairs};
-
-#[test]
-fn texts_are_found_at_their_first_index(rt: HostRuntime) {
-    let mut pairs = Vec::new(rt.alloc());
-    let mut items = Vec::new(rt.alloc());
-    for text in ["b", "a", "a", "b"] {
-        granted(
-            &rt,
-            pairs.push((granted(&rt, String::from_str(rt.alloc(), text)), 7u32)),
-        );
-        granted(
-            &rt,
-            items.push(granted(&rt, String::from_str(rt.alloc(), text))),
-        );
-    }
-    for (text, place) in [("a", Some(1)), ("b", Some(0)), ("ab", None), ("", None)] {
-        assert_is(&rt, find_str(&pairs, text), place);
-        assert_is(&rt, find_item_str(&items, text), place);
-    }
-    pairs.clear();
-    items.clear();
-    for text in ["a", ""] {
-        assert_is(&rt, find_str(&pairs, text), None);
-        assert_is(&rt, find_item_str(&items, text), None);
-    }
-}
 
 #[test]
 fn a_lookup_compares_each_item_once_at_most(rt: HostRuntime) {
@@ -50,31 +24,6 @@ fn a_lookup_compares_each_item_once_at_most(rt: HostRuntime) {
             assert_is(&rt, find_item(&items, key), place);
             check!(rt; log.comparisons().wrapping_sub(found) as usize <= numbers.len());
         }
-    }
-}
-
-#[test]
-fn many_small_items_are_found_at_their_first_index(rt: HostRuntime) {
-    for length in [7, 8, 31, 32, 33, 39, 40, 47, 64, 71] {
-        let mut items = Vec::new(rt.alloc());
-        let mut pairs = Vec::new(rt.alloc());
-        for number in 0..length {
-            granted(&rt, items.push(number % 47));
-            granted(
-                &rt,
-                pairs.push((char::from_u32(number % 47).unwrap_or('a'), number)),
-            );
-        }
-        for number in 0..length {
-            let place = Some((number % 47) as usize);
-            let letter = char::from_u32(number % 47).unwrap_or('a');
-            assert_is(&rt, find_item(&items, &(number % 47)), place);
-            check!(rt; contains_item(&items, &(number % 47)));
-            assert_is(&rt, find(&pairs, &letter), place);
-        }
-        assert_is(&rt, find_item(&items, &47), None);
-        check!(rt; !contains_item(&items, &47));
-        assert_is(&rt, find(&pairs, &'~'), None);
     }
 }
 

@@ -1,24 +1,15 @@
-//! Assertions on optional values and on pairs of maps.
+//! The texts and the names that callers are given.
+use super::granted;
+use std::alloc::Global;
 use std::process::Abort;
-use vecmap::VecMap;
-use vecmap_fixtures::{Item, has_pairs};
+use vecmap_callers::names::Name;
 
-/// Asserts that a call returned a value, and returns this value.
-pub(crate) fn present<T>(rt: &impl Abort, value: Option<T>) -> T {
-    match value {
-        Some(value) => value,
-        None => panic!(*rt; "absent"),
-    }
+/// Creates a text of its own.
+pub(crate) fn text(rt: &impl Abort, alloc: Global, text: &str) -> String {
+    granted(rt, String::from_str(alloc, text))
 }
 
-/// Asserts that a map has exactly these pairs, each a number, a mark and a value, in this order.
-pub(crate) fn assert_pairs(
-    rt: &impl Abort,
-    map: &VecMap<Item, u32>,
-    expected: &[(u32, char, u32)],
-) {
-    assert!(*rt;
-        has_pairs(map.as_slice(), expected),
-        "{map:?} is not {expected:?}"
-    );
+/// Creates the name of a text.
+pub(crate) fn name(rt: &impl Abort, alloc: Global, of: &str) -> Name {
+    Name::new(text(rt, alloc, of))
 }

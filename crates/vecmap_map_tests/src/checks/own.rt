@@ -173,32 +173,10 @@ where
     assert!(*rt; agrees, "not {list:?}, from the ends {ends:?}");
 }
 
-/// A pair that a call returns: it is owned, or a part of it is borrowed.
-pub(crate) trait Pair {
-    /// Returns the number and the mark of the key, and the value.
-    fn parts(&self) -> (u32, char, u32);
-}
-
-impl Pair for (Item, u32) {
-    fn parts(&self) -> (u32, char, u32) {
-        (self.0.number, self.0.mark, self.1)
-    }
-}
-
-impl Pair for (&Item, &u32) {
-    fn parts(&self) -> (u32, char, u32) {
-        (self.0.number, self.0.mark, *self.1)
-    }
-}
-
 /// Asserts that a call returned a pair of this number, this mark and this value.
-pub(crate) fn assert_pair<P: Pair + Drop>(
-    rt: &impl Abort,
-    pair: Option<P>,
-    expected: (u32, char, u32),
-) {
+pub(crate) fn assert_pair(rt: &impl Abort, pair: Option<(Item, u32)>, expected: (u32, char, u32)) {
     match pair {
-        Some(pair) => assert_eq!(*rt; pair.parts(), expected),
+        Some((key, value)) => assert_eq!(*rt; (key.number, key.mark, value), expected),
         None => panic!(*rt; "no pair, and not {expected:?}"),
     }
 }

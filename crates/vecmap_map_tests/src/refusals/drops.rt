@@ -1,12 +1,12 @@
 //! The keys and values that a refused call of many pairs keeps or drops, each once. `alive` counts those that are not
 //! dropped.
-use crate::checks::{assert_is, assert_told_pairs, check, granted};
+use crate::checks::{assert_is, assert_told_pairs, granted};
 use crate::made::told_map;
 use crate::telling::{make, retry};
 use std::alloc::{AllocError, Global};
 use std::mem::replace;
 use std::process::Abort;
-use vecmap_fixtures::{Log, Told, has_told_pairs, make_told, told_couples};
+use vecmap_fixtures::{Log, Told, told_couples};
 use vecmap_map::VecMap;
 
 type Couple<'a> = (Told<'a>, Told<'a>);

@@ -1,5 +1,5 @@
 //! Calls that insert many pairs at once, and the trait `Extend`, with keys that are equal and not identical.
-use crate::checks::{assert_granted, assert_is, assert_list, assert_pairs, check, granted};
+use crate::checks::{assert_granted, assert_is, assert_list, assert_pairs, granted};
 use crate::made::item_map;
 use std::alloc::{AllocError, Global};
 use std::process::Abort;
@@ -73,37 +73,14 @@ fn insert_by(
     }
 }
 
-#[test]
-fn all_ways_of_many_pairs_agree_with_single_inserts(rt: HostRuntime) {
-    let left = [(1, 'x', 3), (2, 'b', 2)];
-    let pairs = [
-        (make_item(1, 'x'), 1),
-        (make_item(2, 'b'), 2),
-        (make_item(1, 'y'), 3),
-    ];
-    for way in WAYS {
-        let mut map = VecMap::new(rt.alloc());
-        assert_granted(&rt, insert_by(rt.alloc(), &mut map, &pairs, way));
-        assert_pairs(&rt, &map, &left);
-    }
-    let map = VecMap::from(granted(&rt, pairs.to_vec(rt.alloc())));
-    assert_pairs(&rt, &map, &left);
-    let map = granted(&rt, VecMap::from_iter(rt.alloc(), pairs));
-    assert_pairs(&rt, &map, &left);
-    let map = granted(&rt, VecMap::from_slice(rt.alloc(), &pairs));
-    assert_pairs(&rt, &map, &left);
-    let map: VecMap<Item, u32> = granted(&rt, pairs.iter().copied().collect(rt.alloc()));
-    assert_pairs(&rt, &map, &left);
-}
-
-// Asserts the two pairs that `the_last_value_of_a_key_is_found` leaves.
+// Asserts the two pairs that `inserting_extending_and_collecting_keep_the_last_value_of_a_key` leaves.
 fn assert_last(rt: &impl Abort, map: &VecMap<&'static str, u32>) {
     assert_list(rt, map.as_slice(), &[("a", 3), ("b", 2)]);
     assert_is(rt, map.get(&"a").copied(), Some(3));
 }
 
 #[test]
-fn the_last_value_of_a_key_is_found(rt: HostRuntime) {
+fn inserting_extending_and_collecting_keep_the_last_value_of_a_key(rt: HostRuntime) {
     let pairs = [("a", 1), ("b", 2), ("a", 3)];
     let mut map = VecMap::new(rt.alloc());
     assert_granted(&rt, insert_each(&mut map, &pairs));
@@ -128,35 +105,7 @@ fn extending_keeps_stored_keys(rt: HostRuntime) {
 }
 
 #[test]
-fn append_inserts_all_and_leaves_the_capacity_of_the_other(rt: HostRuntime) {
-    let mut map = granted(
-        &rt,
-        item_map(rt.alloc(), &[(3, 'c', 3), (2, 'b', 2), (1, 'a', 1)]),
-    );
-    let mut other = granted(
-        &rt,
-        item_map(rt.alloc(), &[(3, 'd', 30), (4, 'e', 40), (5, 'f', 50)]),
-    );
-    let room = other.capacity();
-    assert_granted(&rt, map.append(&mut other));
-    let left = [
-        (3, 'c', 30),
-        (2, 'b', 2),
-        (1, 'a', 1),
-        (4, 'e', 40),
-        (5, 'f', 50),
-    ];
-    assert_pairs(&rt, &map, &left);
-    check!(rt; 6 <= map.capacity());
-    assert_is(&rt, (other.len(), other.capacity()), (0, room));
-    let granted = map.capacity();
-    assert_granted(&rt, map.append(&mut other));
-    assert_pairs(&rt, &map, &left);
-    assert_is(&rt, (map.capacity(), other.capacity()), (granted, room));
-}
-
-#[test]
-fn append_replaces_texts(rt: HostRuntime) {
+fn append_inserts_all_pairs_and_empties_the_other(rt: HostRuntime) {
     let mut map = granted(
         &rt,
         VecMap::from_slice(rt.alloc(), &[(3, "c"), (2, "b"), (1, "a")]),

@@ -1,8 +1,8 @@
-//! Conversion from vectors and arrays to maps, and from maps to vectors.
+//! Conversion from vectors to maps.
 use crate::checks::{assert_is, assert_pairs, check, granted};
 use std::alloc::{AllocError, Global};
 use vecmap_base::keys_distinct;
-use vecmap_fixtures::{Item, Log, has_pairs, make_item, told_pairs};
+use vecmap_fixtures::{Item, Log, make_item, told_pairs};
 use vecmap_map::VecMap;
 
 // Returns the items of these pairs, in a vector.
@@ -91,31 +91,4 @@ fn distinct_keys_are_distinguished_from_repeats(rt: HostRuntime) {
     assert_is(&rt, keys_distinct::<u32, char>(&[]), true);
     assert_is(&rt, keys_distinct(&[(1, 'a'), (2, 'a')]), true);
     assert_is(&rt, keys_distinct(&[(1, 'a'), (2, 'b'), (1, 'a')]), false);
-}
-
-#[test]
-fn an_array_keeps_first_keys_and_last_values(rt: HostRuntime) {
-    let pairs = [
-        (make_item(2, 'b'), 20),
-        (make_item(1, 'x'), 10),
-        (make_item(2, 'y'), 21),
-        (make_item(1, 'z'), 11),
-    ];
-    let map = granted(&rt, VecMap::from_array(rt.alloc(), pairs));
-    assert_pairs(&rt, &map, &[(2, 'b', 21), (1, 'x', 11)]);
-    check!(rt; 4 <= map.capacity());
-    let map: VecMap<Item, u32> = granted(&rt, VecMap::from_array(rt.alloc(), []));
-    assert_pairs(&rt, &map, &[]);
-}
-
-#[test]
-fn a_vector_without_repeats_is_taken_as_it_is_and_cloned(rt: HostRuntime) {
-    let expected = [(2, 'b', 20), (1, 'a', 10)];
-    let pairs = granted(&rt, item_pairs(rt.alloc(), &expected));
-    let room = pairs.capacity();
-    assert!(rt; keys_distinct(&pairs));
-    let map = VecMap::from_vec_unchecked(pairs);
-    assert_is(&rt, map.capacity(), room);
-    check!(rt; has_pairs(&granted(&rt, map.to_vec()), &expected));
-    assert_pairs(&rt, &map, &expected);
 }

@@ -3,7 +3,6 @@ use crate::checks::{assert_differ, assert_equal, assert_is, assert_pairs, check,
 use crate::made::repeating_map;
 use std::alloc::{AllocError, Global};
 use std::process::Abort;
-use std::test::Fail;
 use vecmap_fixtures::{Log, Told, told_pairs};
 use vecmap_map::VecMap;
 
@@ -143,23 +142,4 @@ fn a_value_that_differs_from_itself_is_in_no_equal_map(rt: HostRuntime) {
     check!(rt; !are_equal_numbers(&rt, alloc, &[(1, f64::NAN)], &[(1, f64::NAN)]));
     check!(rt; !are_equal_numbers(&rt, alloc, &[(1, 0.5), (2, f64::NAN)], &[(2, f64::NAN), (1, 0.5)]));
     check!(rt; !are_equal_numbers(&rt, alloc, &[(1, 0.5), (1, f64::NAN)], &[(1, 0.5), (1, 0.5)]));
-}
-
-#[test]
-fn a_long_map_with_a_value_that_differs_from_itself_equals_none(
-    rt: HostRuntime,
-) -> Result<(), Fail> {
-    let mut pairs = Vec::new(rt.alloc());
-    for key in 0..1026u32 {
-        pairs.push((key, 0.5))?;
-    }
-    let map = VecMap::from(pairs.clone()?);
-    pairs.reverse();
-    let reversed = VecMap::from(pairs.clone()?);
-    check!(rt; map == reversed);
-    pairs.push((2000, f64::NAN))?;
-    let other = VecMap::from(pairs.clone()?);
-    pairs.reverse();
-    check!(rt; other != VecMap::from(pairs));
-    Ok(())
 }

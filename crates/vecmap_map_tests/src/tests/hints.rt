@@ -106,16 +106,16 @@ fn capacity_for_the_greatest_hint_is_refused(rt: HostRuntime) {
 fn an_empty_map_reserves_the_whole_hint(rt: HostRuntime) {
     assert_extended(&rt, rt.alloc(), &[], (ONE, 0), (ONE, 1));
     assert_extended(&rt, rt.alloc(), &[], (ONE, 20), (ONE, 20));
+    let hinted = Hinted {
+        items: ONE,
+        hint: 0,
+    };
+    let map = granted(&rt, VecMap::from_iter(rt.alloc(), hinted.copied()));
+    assert_room(&rt, &map, ONE, 1);
 }
 
 #[test]
 fn a_map_with_pairs_reserves_half_of_the_hint_rounded_up(rt: HostRuntime) {
     let both = [(2, 5), (1, 7)];
     assert_extended(&rt, rt.alloc(), &[(2, 5)], (ONE, 21), (&both, 12));
-}
-
-#[test]
-fn from_slice_reserves_capacity_for_all_pairs(rt: HostRuntime) {
-    let map = granted(&rt, VecMap::from_slice(rt.alloc(), &[(1, 7); 9]));
-    assert_room(&rt, &map, ONE, 9);
 }

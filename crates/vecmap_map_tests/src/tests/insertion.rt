@@ -49,17 +49,6 @@ fn insert_at_moves_a_key_to_the_front(rt: HostRuntime) {
 }
 
 #[test]
-fn insert_at_inserts_a_new_key_before_others(rt: HostRuntime) {
-    let mut map = granted(&rt, VecMap::from_slice(rt.alloc(), &[('a', 1), ('b', 2)]));
-    assert!(rt; 1 <= map.len());
-    assert_gives(&rt, map.insert_at(1, 'c', 3), None);
-    assert_list(&rt, map.as_slice(), &[('a', 1), ('c', 3), ('b', 2)]);
-    assert_gives(&rt, map.insert_at(0, 'd', 4), None);
-    let left = [('d', 4), ('a', 1), ('c', 3), ('b', 2)];
-    assert_list(&rt, map.as_slice(), &left);
-}
-
-#[test]
 fn insert_at_moves_an_existing_key(rt: HostRuntime) {
     let mut map = VecMap::new(rt.alloc());
     assert_gives(&rt, map.insert_at(0, 'a', 1), None);

@@ -3,10 +3,9 @@ use crate::checks::{
     Plain, assert_is, assert_list, assert_prints, assert_pulls, check, granted, present,
 };
 use std::fmt::Debug;
-use std::iter::FusedIterator;
 use std::process::Abort;
 use vecmap_fixtures::{End, Log, all_ends, told_pairs};
-use vecmap_map::{MutableKeys, VecMap};
+use vecmap_map::VecMap;
 
 const PAIRS: [(u32, u32); 4] = [(1, 10), (2, 20), (3, 30), (4, 40)];
 
@@ -95,40 +94,6 @@ fn lending_iterators_write_each_value_at_its_key(rt: HostRuntime) {
 }
 
 #[test]
-fn clones_of_borrowing_iterators_return_what_is_left(rt: HostRuntime) {
-    let map = granted(&rt, VecMap::from_slice(rt.alloc(), &PAIRS));
-    for ends in &all_ends() {
-        let (mut pairs, mut keys, mut values) = (map.iter(), map.keys(), map.values());
-        drop((pairs.next(), keys.next(), values.next()));
-        drop((pairs.next_back(), keys.next_back(), values.next_back()));
-        assert_pulls(&rt, pairs.clone(), MIDDLE, ends);
-        assert_pulls(&rt, pairs, MIDDLE, ends);
-        assert_pulls(&rt, keys.clone(), MIDDLE_KEYS, ends);
-        assert_pulls(&rt, keys, MIDDLE_KEYS, ends);
-        assert_pulls(&rt, values.clone(), MIDDLE_VALUES, ends);
-        assert_pulls(&rt, values, MIDDLE_VALUES, ends);
-    }
-}
-
-#[test]
-fn clones_of_owning_iterators_return_what_is_left(rt: HostRuntime) {
-    let map = granted(&rt, VecMap::from_slice(rt.alloc(), &PAIRS));
-    for ends in &all_ends() {
-        let mut pairs = granted(&rt, map.clone()).into_iter();
-        let mut keys = granted(&rt, map.clone()).into_keys();
-        let mut values = granted(&rt, map.clone()).into_values();
-        drop((pairs.next(), keys.next(), values.next()));
-        drop((pairs.next_back(), keys.next_back(), values.next_back()));
-        assert_pulls(&rt, granted(&rt, pairs.clone()), MIDDLE, ends);
-        assert_pulls(&rt, pairs, MIDDLE, ends);
-        assert_pulls(&rt, granted(&rt, keys.clone()), MIDDLE_KEYS, ends);
-        assert_pulls(&rt, keys, MIDDLE_KEYS, ends);
-        assert_pulls(&rt, granted(&rt, values.clone()), MIDDLE_VALUES, ends);
-        assert_pulls(&rt, values, MIDDLE_VALUES, ends);
-    }
-}
-
-#[test]
 fn into_values_and_its_clone_return_what_is_left(rt: HostRuntime) {
     let map = granted(
         &rt,
@@ -189,34 +154,6 @@ fn iterators_print_what_is_left(rt: HostRuntime) {
     assert_prints(&rt, alloc, &map.into_keys(), "[1, 2]");
     let map = granted(&rt, VecMap::from_slice(alloc, &[(1, 'a'), (2, 'b')]));
     assert_prints(&rt, alloc, &map.into_values(), "['a', 'b']");
-}
-
-// Returns whether an iterator over two items has ended after them for good.
-fn ends_after_two<I: FusedIterator + Drop>(mut iter: I) -> bool
-where
-    I::Item: Drop,
-    requires { (it : I) → I.can_next it }
-{
-    iter.next().is_some() && iter.next().is_some() && iter.next().is_none() && iter.next().is_none()
-}
-
-#[test]
-fn every_iterator_of_a_map_is_fused(rt: HostRuntime) {
-    let mut map = granted(
-        &rt,
-        VecMap::from_array(rt.alloc(), [(1u32, 10u32), (2, 20)]),
-    );
-    check!(rt; ends_after_two(map.iter()));
-    check!(rt; ends_after_two(map.keys()));
-    check!(rt; ends_after_two(map.values()));
-    check!(rt; ends_after_two(map.iter_mut()));
-    check!(rt; ends_after_two(map.iter_mut2()));
-    check!(rt; ends_after_two(map.keys_mut()));
-    check!(rt; ends_after_two(map.values_mut()));
-    check!(rt; ends_after_two(granted(&rt, map.clone()).into_iter()));
-    check!(rt; ends_after_two(granted(&rt, map.clone()).into_keys()));
-    check!(rt; ends_after_two(granted(&rt, map.clone()).into_values()));
-    check!(rt; ends_after_two(map.drain(..)));
 }
 
 // Asserts that an iterator and its clone by the trait `Clone` both have these items left.

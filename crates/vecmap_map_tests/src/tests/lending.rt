@@ -1,7 +1,6 @@
-//! Values of a map that are lent for writing. `queries` and `repeats` have it by each kind of query and for repeats.
-use crate::checks::{assert_and_write, assert_is, assert_pairs, check, granted, present};
+//! Values of a map that are lent for writing by an index, or from an end. `queries` has those of each kind of query.
+use crate::checks::{assert_and_write, assert_pairs, check, granted, present};
 use crate::made::item_map;
-use vecmap_fixtures::make_item;
 use vecmap_map::VecMap;
 
 const TWO: &[(u32, char, u32)] = &[(1, 'a', 1), (2, 'b', 2)];
@@ -28,20 +27,4 @@ fn an_index_and_the_ends_lend_their_values(rt: HostRuntime) {
     check!(rt; empty.first_mut().is_none());
     check!(rt; empty.last_mut().is_none());
     check!(rt; empty.get_index_mut(0).is_none());
-}
-
-#[test]
-fn a_key_lends_its_value(rt: HostRuntime) {
-    let mut map = granted(&rt, item_map(rt.alloc(), TWO));
-    let value = present(&rt, map.get_mut(&make_item(2, 'z')));
-    assert_is(&rt, *value, 2);
-    *value = 9;
-    assert_pairs(&rt, &map, &[(1, 'a', 1), (2, 'b', 9)]);
-    let (index, key, value) = present(&rt, map.get_full_mut(&make_item(2, 'z')));
-    assert_is(&rt, index, 1);
-    assert_and_write(&rt, key, value, (2, 'b', 9), 8);
-    assert_pairs(&rt, &map, &[(1, 'a', 1), (2, 'b', 8)]);
-    check!(rt; map.get_mut(&make_item(3, 'c')).is_none());
-    check!(rt; map.get_full_mut(&make_item(3, 'c')).is_none());
-    assert_pairs(&rt, &map, &[(1, 'a', 1), (2, 'b', 8)]);
 }

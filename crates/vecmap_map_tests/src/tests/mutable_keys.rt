@@ -70,21 +70,6 @@ fn retain2_writes_keys_too(rt: HostRuntime) {
 }
 
 #[test]
-fn closures_of_retain2_count_their_calls(rt: HostRuntime) {
-    let three = [('a', 0), ('b', 0), ('c', 0)];
-    let mut map = granted(&rt, VecMap::from_slice(rt.alloc(), &three));
-    let mut count = 0u32;
-    map.retain2(|key, value| {
-        count = count.wrapping_add(1);
-        *value = count;
-        *key = 'e';
-        count == 2
-    });
-    assert_is(&rt, count, 3);
-    assert_list(&rt, map.as_slice(), &[('e', 2)]);
-}
-
-#[test]
 fn each_key_that_retain2_removes_is_dropped_once(rt: HostRuntime) {
     let log = Log::new();
     let mut map = VecMap::from(granted(&rt, told_pairs(rt.alloc(), &log, &[0, 2, 4])));

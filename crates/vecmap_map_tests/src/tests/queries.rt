@@ -1,5 +1,4 @@
-//! Calls on a map by each kind of query: a key, a text, a slice, and a query that is not a key. The file of each call's
-//! module has the call by a key.
+//! Calls on a map by each kind of query: a key, a text, a slice, and a query that is not a key.
 mod matching;
 
 use self::matching::assert_matches;
@@ -162,80 +161,57 @@ fn brackets_take_a_text_of_the_first_of_equal_keys(rt: HostRuntime) {
     assert_is(&rt, map[key.as_str()], 10);
 }
 
+// Asserts that each query matches the key of its text, in a map with a key made of each of the texts. The last part is
+// the query of a text.
+macro_rules! assert_each_matches {
+    ($rt:ident; $text:ident, $key:expr, $query:expr) => {
+        let mut map = VecMap::new($rt.alloc());
+        for ($text, value) in TEXTS {
+            assert_granted(&$rt, map.insert($key, *value));
+        }
+        for ($text, place) in QUERIES {
+            assert_matches(&$rt, &mut map, $query, *place);
+        }
+    };
+}
+
+// Creates a text that is borrowed, or else owned.
+fn borrowed_or_owned(rt: &impl Abort, alloc: Global, text: &'static str) -> CowStr<'static> {
+    if text.len() == 3 {
+        CowStr::Borrowed(text)
+    } else {
+        CowStr::Owned(granted(rt, String::from_str(alloc, text)))
+    }
+}
+
 #[test]
 fn a_text_matches_the_boxed_text_of_its_bytes_in_a_map(rt: HostRuntime) {
-    let mut map = VecMap::new(rt.alloc());
-    for (text, value) in TEXTS {
-        let key = granted(&rt, BoxedStr::from_str(rt.alloc(), text));
-        assert_granted(&rt, map.insert(key, *value));
-    }
-    for (text, place) in QUERIES {
-        assert_matches(&rt, &mut map, *text, *place);
-    }
+    assert_each_matches!(rt; text, granted(&rt, BoxedStr::from_str(rt.alloc(), text)), *text);
 }
 
 #[test]
 fn a_text_matches_the_shared_text_of_its_bytes_in_a_map(rt: HostRuntime) {
-    let mut map = VecMap::new(rt.alloc());
-    for (text, value) in TEXTS {
-        let key = granted(&rt, RcStr::from_str(rt.alloc(), text));
-        assert_granted(&rt, map.insert(key, *value));
-    }
-    for (text, place) in QUERIES {
-        assert_matches(&rt, &mut map, *text, *place);
-    }
+    assert_each_matches!(rt; text, granted(&rt, RcStr::from_str(rt.alloc(), text)), *text);
 }
 
 #[test]
 fn a_text_matches_the_text_that_threads_share_in_a_map(rt: HostRuntime) {
-    let mut map = VecMap::new(rt.alloc());
-    for (text, value) in TEXTS {
-        let key = granted(&rt, ArcStr::from_str(rt.alloc(), text));
-        assert_granted(&rt, map.insert(key, *value));
-    }
-    for (text, place) in QUERIES {
-        assert_matches(&rt, &mut map, *text, *place);
-    }
+    assert_each_matches!(rt; text, granted(&rt, ArcStr::from_str(rt.alloc(), text)), *text);
 }
 
 #[test]
 fn a_text_matches_a_borrowed_or_an_owned_text_in_a_map(rt: HostRuntime) {
-    let mut map = VecMap::new(rt.alloc());
-    for (text, value) in TEXTS {
-        let key = if *value == 20 {
-            CowStr::Borrowed(*text)
-        } else {
-            CowStr::Owned(granted(&rt, String::from_str(rt.alloc(), text)))
-        };
-        assert_granted(&rt, map.insert(key, *value));
-    }
-    for (text, place) in QUERIES {
-        assert_matches(&rt, &mut map, *text, *place);
-    }
+    assert_each_matches!(rt; text, borrowed_or_owned(&rt, rt.alloc(), text), *text);
 }
 
 #[test]
 fn bytes_match_the_vector_of_them_in_a_map(rt: HostRuntime) {
-    let mut map = VecMap::new(rt.alloc());
-    for (text, value) in TEXTS {
-        let key = granted(&rt, text.as_bytes().to_vec(rt.alloc()));
-        assert_granted(&rt, map.insert(key, *value));
-    }
-    for (text, place) in QUERIES {
-        assert_matches(&rt, &mut map, text.as_bytes(), *place);
-    }
+    assert_each_matches!(rt; text, granted(&rt, text.as_bytes().to_vec(rt.alloc())), text.as_bytes());
 }
 
 #[test]
 fn bytes_match_the_boxed_slice_of_them_in_a_map(rt: HostRuntime) {
-    let mut map = VecMap::new(rt.alloc());
-    for (text, value) in TEXTS {
-        let key = granted(&rt, BoxedSlice::from_slice(rt.alloc(), text.as_bytes()));
-        assert_granted(&rt, map.insert(key, *value));
-    }
-    for (text, place) in QUERIES {
-        assert_matches(&rt, &mut map, text.as_bytes(), *place);
-    }
+    assert_each_matches!(rt; text, granted(&rt, BoxedSlice::from_slice(rt.alloc(), text.as_bytes())), text.as_bytes());
 }
 
 #[test]

@@ -2,8 +2,8 @@
 use super::entry::occupied;
 use super::lookup::numbered_texts;
 use crate::checks::{
-    assert_gives, assert_granted, assert_is, assert_list, assert_pair, assert_pairs, assert_texts,
-    check, granted,
+    assert_gives, assert_granted, assert_is, assert_pair, assert_pairs, assert_texts, check,
+    granted,
 };
 use crate::made::{item_map, repeating_map};
 use std::alloc::{AllocError, Global};
@@ -141,29 +141,6 @@ fn an_entry_lends_the_value_of_the_first_of_equal_keys(rt: HostRuntime) {
 }
 
 #[test]
-fn an_entry_of_a_new_key_is_appended_after_the_repeats(rt: HostRuntime) {
-    let mut map = granted(&rt, repeating_map(rt.alloc(), &[(1, 'a', 1), (1, 'b', 2)]));
-    let value = granted(&rt, map.entry(make_item(2, 'c')).or_insert_with(|| 3));
-    assert_is(&rt, *value, 3);
-    let entry = map.entry(make_item(3, 'd'));
-    let value = granted(
-        &rt,
-        entry.or_insert_with_key(|key| key.number.wrapping_mul(10)),
-    );
-    assert_is(&rt, *value, 30);
-    let value = granted(&rt, map.entry(make_item(4, 'e')).or_default());
-    assert_is(&rt, *value, 0);
-    let all = [
-        (1, 'a', 1),
-        (1, 'b', 2),
-        (2, 'c', 3),
-        (3, 'd', 30),
-        (4, 'e', 0),
-    ];
-    assert_pairs(&rt, &map, &all);
-}
-
-#[test]
 fn removals_of_an_entry_remove_the_first_of_equal_keys(rt: HostRuntime) {
     let mut map = granted(&rt, start(rt.alloc()));
     let entry = occupied(&rt, map.entry(make_item(1, 'z')));
@@ -181,18 +158,6 @@ fn removals_of_an_entry_remove_the_first_of_equal_keys(rt: HostRuntime) {
     let entry = occupied(&rt, map.entry(make_item(1, 'z')));
     assert_pair(&rt, Some(entry.swap_remove_entry()), (1, 'b', 2));
     assert_pairs(&rt, &map, SWAPPED);
-}
-
-#[test]
-fn clones_and_vectors_of_a_map_have_its_repeats(rt: HostRuntime) {
-    let map = granted(&rt, start(rt.alloc()));
-    let copy = granted(&rt, map.clone());
-    assert_first(&rt, &copy, 'b', 2);
-    check!(rt; map == copy);
-    let pairs = granted(&rt, map.to_vec());
-    assert_is(&rt, pairs.len(), 6);
-    assert_list(&rt, &pairs, map.as_slice());
-    assert_list(&rt, &map.into_vec(), &pairs);
 }
 
 // Writes the key at an index.

@@ -1,6 +1,6 @@
 //! The length and the capacity of a map.
 use crate::checks::{
-    assert_gives, assert_granted, assert_is, assert_list, assert_refused, check, granted,
+    assert_gives, assert_granted, assert_is, assert_list, assert_refused, granted,
 };
 use std::alloc::Global;
 use std::process::Abort;
@@ -63,19 +63,4 @@ fn assert_grows_like_a_vector(rt: &impl Abort, alloc: Global, reserves: bool) {
 fn the_capacity_grows_like_that_of_a_vector(rt: HostRuntime) {
     assert_grows_like_a_vector(&rt, rt.alloc(), false);
     assert_grows_like_a_vector(&rt, rt.alloc(), true);
-}
-
-#[test]
-fn reserving_calls_leave_the_pairs(rt: HostRuntime) {
-    let mut map = granted(&rt, VecMap::from_slice(rt.alloc(), &[(2, 'b'), (1, 'a')]));
-    assert_granted(&rt, map.reserve(8));
-    check!(rt; 10 <= map.capacity());
-    assert_granted(&rt, map.reserve_exact(30));
-    check!(rt; 32 <= map.capacity());
-    assert_granted(&rt, map.try_reserve(62));
-    check!(rt; 64 <= map.capacity());
-    assert_granted(&rt, map.try_reserve_exact(126));
-    check!(rt; 128 <= map.capacity());
-    assert_is(&rt, (map.len(), map.is_empty()), (2, false));
-    assert_list(&rt, map.as_slice(), &[(2, 'b'), (1, 'a')]);
 }

@@ -2,7 +2,6 @@
 use crate::checks::{assert_is, check, granted};
 use std::alloc::{AllocError, Global};
 use std::cell::Cell;
-use std::process::Abort;
 use vecmap_map::VecMap;
 
 // Searches a map that is sorted by value for a value.
@@ -20,24 +19,6 @@ fn below<K>(map: &VecMap<K, u32>, limit: u32) -> usize {
     map.partition_point(|_, stored| *stored < limit)
 }
 
-// The result of each search for a key.
-type Found = (
-    Result<usize, usize>,
-    Result<usize, usize>,
-    Result<usize, usize>,
-    usize,
-);
-
-// Searches a map that is sorted by key for a key, by each search.
-fn by_key(map: &VecMap<u32, u32>, key: u32) -> Found {
-    (
-        map.binary_search_keys(&key),
-        map.binary_search_by(|stored, _| stored.cmp(&key)),
-        map.binary_search_by_key(&key, |stored, _| *stored),
-        map.partition_point(|stored, _| *stored < key),
-    )
-}
-
 // Creates a map of the multiples of `step`, each with the value 7.
 fn multiples(alloc: Global, step: u32, count: u32) -> Result<VecMap<u32, u32>, AllocError> {
     let mut map = VecMap::new(alloc);
@@ -45,26 +26,6 @@ fn multiples(alloc: Global, step: u32, count: u32) -> Result<VecMap<u32, u32>, A
         map.insert(key.wrapping_mul(step), 7)?;
     }
     Ok(map)
-}
-
-// Asserts that each even key is found, and no odd one.
-fn assert_evens(rt: &impl Abort, map: &VecMap<u32, u32>, count: u32) {
-    for key in 0..count {
-        let place = key as usize;
-        let next = place.wrapping_add(1);
-        let even = key.wrapping_mul(2);
-        assert_is(
-            rt,
-            by_key(map, even),
-            (Ok(place), Ok(place), Ok(place), place),
-        );
-        let odd = even.wrapping_add(1);
-        assert_is(
-            rt,
-            by_key(map, odd),
-            (Err(next), Err(next), Err(next), next),
-        );
-    }
 }
 
 #[test]
@@ -78,18 +39,6 @@ fn searches_return_an_equal_index_or_where_to_insert(rt: HostRuntime) {
         (Err(4), Err(0)),
     );
     check!(rt; [Ok(1), Ok(2)].contains(&by_sort_key(&map, 2)));
-}
-
-#[test]
-fn searches_of_every_length(rt: HostRuntime) {
-    for count in [0, 1, 2, 100] {
-        let map = granted(&rt, multiples(rt.alloc(), 2, count));
-        assert_evens(&rt, &map, count);
-        // All sort keys are equal: each index is a match, or none is.
-        assert_is(&rt, by_sort_key(&map, 7).is_ok(), 0 < count);
-        let missed = (by_sort_key(&map, 6), by_sort_key(&map, 8));
-        assert_is(&rt, missed, (Err(0), Err(count as usize)));
-    }
 }
 
 // How many pairs a search compares, for a number of pairs: it halves what is left, down to one.
@@ -130,7 +79,7 @@ fn searches_compare_as_often_as_they_halve(rt: HostRuntime) {
 }
 
 #[test]
-fn searches_among_texts(rt: HostRuntime) {
+fn searches_among_texts_return_an_index_or_where_to_insert(rt: HostRuntime) {
     let map = granted(
         &rt,
         VecMap::from_slice(rt.alloc(), &[("a", 1), ("b", 2), ("d", 4)]),

@@ -41,32 +41,10 @@ pub(crate) fn assert_told_items(
     assert_told(rt, set.as_slice(), expected);
 }
 
-/// An element that a call returns: it is owned or borrowed.
-pub(crate) trait Element {
-    /// Returns its number and its mark.
-    fn parts(&self) -> (u32, char);
-}
-
-impl Element for Item {
-    fn parts(&self) -> (u32, char) {
-        (self.number, self.mark)
-    }
-}
-
-impl Element for &Item {
-    fn parts(&self) -> (u32, char) {
-        (self.number, self.mark)
-    }
-}
-
 /// Asserts that a call returned an element of this number and this mark.
-pub(crate) fn assert_item<E: Element + Drop>(
-    rt: &impl Abort,
-    item: Option<E>,
-    expected: (u32, char),
-) {
+pub(crate) fn assert_item(rt: &impl Abort, item: Option<&Item>, expected: (u32, char)) {
     match item {
-        Some(item) => assert_eq!(*rt; item.parts(), expected),
+        Some(item) => assert_eq!(*rt; (item.number, item.mark), expected),
         None => panic!(*rt; "no element, and not {expected:?}"),
     }
 }

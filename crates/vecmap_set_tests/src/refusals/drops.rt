@@ -1,12 +1,12 @@
 //! The elements that a refused call of many elements keeps or drops, each once. `alive` counts those that are not
 //! dropped.
-use crate::checks::{assert_is, assert_told_items, check, granted};
+use crate::checks::{assert_is, assert_told_items, granted};
 use crate::made::told_set;
 use crate::telling::{make, retry};
 use std::alloc::{AllocError, Global};
 use std::mem::replace;
 use std::process::Abort;
-use vecmap_fixtures::{Log, Told, make_told, told_items};
+use vecmap_fixtures::{Log, Told, told_items};
 use vecmap_set::VecSet;
 
 type Set<'a> = VecSet<Told<'a>>;

@@ -1,25 +1,14 @@
 //! Clones of sets, also by the trait `Clone`.
-use crate::checks::{assert_is, assert_items, assert_refused, assert_told, check, granted};
-use crate::made::{item_set, told_set};
+use crate::checks::{assert_is, assert_refused, assert_told, granted};
+use crate::made::told_set;
 use std::alloc::{AllocError, Global};
 use std::process::Abort;
-use vecmap_fixtures::{Log, has_items};
+use vecmap_fixtures::Log;
 use vecmap_set::VecSet;
 
 // Clones by the trait, as generic code and derives do.
 pub(crate) fn copy_of<C: Clone>(original: &C) -> Result<C, AllocError> {
     original.clone()
-}
-
-#[test]
-fn a_clone_has_the_elements_in_order(rt: HostRuntime) {
-    for items in [[].as_slice(), [(2, 'b'), (1, 'a'), (3, 'c')].as_slice()] {
-        let set = granted(&rt, item_set(rt.alloc(), items));
-        assert_items(&rt, &granted(&rt, copy_of(&set)), items);
-        assert_items(&rt, &granted(&rt, set.clone()), items);
-        check!(rt; has_items(&granted(&rt, set.to_vec()), items));
-        assert_items(&rt, &set, items);
-    }
 }
 
 #[test]

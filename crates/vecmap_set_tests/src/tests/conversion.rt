@@ -1,7 +1,6 @@
-//! Conversion from vectors and arrays to sets, and from sets to vectors.
-use crate::checks::{assert_is, assert_items, assert_list, check, granted};
-use vecmap_base::items_distinct;
-use vecmap_fixtures::{Log, has_items, make_item, told_items};
+//! Conversion from vectors to sets.
+use crate::checks::{assert_is, assert_list, check, granted};
+use vecmap_fixtures::{Log, told_items};
 use vecmap_set::VecSet;
 
 #[test]
@@ -48,34 +47,4 @@ fn a_set_of_a_vector_counts_its_comparisons(rt: HostRuntime) {
         assert_is(&rt, u128::from(log.comparisons()), expected);
         check!(rt; !log.compares_after_drop());
     }
-}
-
-#[test]
-fn an_array_loses_its_repeats(rt: HostRuntime) {
-    let items = [
-        make_item(2, 'b'),
-        make_item(1, 'x'),
-        make_item(2, 'y'),
-        make_item(3, 'c'),
-        make_item(1, 'z'),
-    ];
-    let set = granted(&rt, VecSet::from_array(rt.alloc(), items));
-    assert_items(&rt, &set, &[(2, 'b'), (1, 'x'), (3, 'c')]);
-    check!(rt; 5 <= set.capacity());
-    let set: VecSet<u32> = granted(&rt, VecSet::from_array(rt.alloc(), []));
-    assert_list(&rt, set.as_slice(), &[]);
-}
-
-#[test]
-fn a_vector_without_repeats_is_taken_as_it_is_and_cloned(rt: HostRuntime) {
-    let items = granted(
-        &rt,
-        vec![in rt.alloc(); make_item(2, 'b'), make_item(1, 'a')],
-    );
-    let room = items.capacity();
-    assert!(rt; items_distinct(&items));
-    let set = VecSet::from_vec_unchecked(items);
-    assert_is(&rt, set.capacity(), room);
-    check!(rt; has_items(&granted(&rt, set.to_vec()), &[(2, 'b'), (1, 'a')]));
-    assert_items(&rt, &set, &[(2, 'b'), (1, 'a')]);
 }

@@ -1,9 +1,8 @@
 //! Drains of a set.
-use crate::checks::{assert_is, assert_items, assert_list, assert_text, check, granted};
-use crate::made::item_set;
+use crate::checks::{assert_is, assert_list, assert_text, check, granted};
 use std::ops::Bound;
 use vecmap_fixtures::{End, Log, all_ends, pulls_as_list, told_items};
-use vecmap_set::{Drain, VecSet};
+use vecmap_set::VecSet;
 
 const SIX: [u32; 6] = [5, 6, 7, 8, 9, 10];
 
@@ -25,28 +24,7 @@ fn a_drain_is_exact_for_every_mixture_of_next_and_next_back(rt: HostRuntime) {
 }
 
 #[test]
-fn a_dropped_drain_removes_the_whole_range(rt: HostRuntime) {
-    let four = [(0, 'a'), (1, 'b'), (2, 'c'), (3, 'd')];
-    for pulls in 0..4 {
-        let mut set = granted(&rt, item_set(rt.alloc(), &four));
-        let room = set.capacity();
-        assert!(rt; 3 <= set.len());
-        let mut items = set.drain(1..3);
-        for pull in 0..pulls {
-            let _item = if pull % 2 == 0 {
-                items.next_back()
-            } else {
-                items.next()
-            };
-        }
-        drop(items);
-        assert_items(&rt, &set, &[(0, 'a'), (3, 'd')]);
-        assert_is(&rt, set.capacity(), room);
-    }
-}
-
-#[test]
-fn a_range_may_have_any_ends(rt: HostRuntime) {
+fn a_dropped_drain_of_any_range_removes_all_of_it(rt: HostRuntime) {
     let mut set = granted(&rt, VecSet::from_slice(rt.alloc(), &[0, 1, 2, 3]));
     assert!(rt; 2 <= set.len());
     drop(set.drain(2..2));
@@ -68,22 +46,6 @@ fn a_range_may_have_any_ends(rt: HostRuntime) {
     let mut set = granted(&rt, VecSet::from_slice(rt.alloc(), &[0, 1, 2, 3]));
     check!(rt; pulls_as_list(set.drain(..), |item| item, &[0, 1, 2, 3], &[End::Front; 6]));
     assert_list(&rt, set.as_slice(), &[]);
-}
-
-#[test]
-fn over_drains_from_one_index_to_another(rt: HostRuntime) {
-    let ends = [End::Front, End::Back, End::Back, End::Front];
-    for (start, end, taken, left) in [
-        (1, 4, [6, 7, 8].as_slice(), [5, 9, 10].as_slice()),
-        (3, 6, [8, 9, 10].as_slice(), [5, 6, 7].as_slice()),
-    ] {
-        let mut set = granted(&rt, VecSet::from_slice(rt.alloc(), &SIX));
-        let room = set.capacity();
-        assert!(rt; start <= end && end <= set.len());
-        check!(rt; pulls_as_list(Drain::over(&mut set, start, end), |item| item, taken, &ends));
-        assert_list(&rt, set.as_slice(), left);
-        assert_is(&rt, set.capacity(), room);
-    }
 }
 
 #[test]

@@ -1,7 +1,6 @@
 //! The iterators of sets.
 use crate::checks::{assert_is, assert_text, check, granted};
 use crate::tests::cloning::copy_of;
-use std::iter::FusedIterator;
 use vecmap_fixtures::{Log, all_ends, pulls_as_list, told_items};
 use vecmap_set::VecSet;
 
@@ -62,21 +61,4 @@ fn iterators_print_what_is_left(rt: HostRuntime) {
     let mut owned = set.into_iter();
     assert_is(&rt, owned.next(), Some(1));
     assert_text(&rt, format!(in rt.alloc(); "{owned:?}"), "[2, 3, 4]");
-}
-
-// Returns whether an iterator over two elements has ended after them for good.
-fn ends_after_two<I: FusedIterator + Drop>(mut iter: I) -> bool
-where
-    I::Item: Drop,
-    requires { (it : I) → I.can_next it }
-{
-    iter.next().is_some() && iter.next().is_some() && iter.next().is_none() && iter.next().is_none()
-}
-
-#[test]
-fn every_iterator_of_a_set_is_fused(rt: HostRuntime) {
-    let mut set = granted(&rt, VecSet::from_array(rt.alloc(), [1u32, 2]));
-    check!(rt; ends_after_two(set.iter()));
-    check!(rt; ends_after_two(granted(&rt, set.clone()).into_iter()));
-    check!(rt; ends_after_two(set.drain(..)));
 }

@@ -5,240 +5,142 @@ use crate::checks::{assert_is, assert_item, assert_text, check, granted};
 use crate::made::{item_set, told_set};
 use crate::tests::cloning::copy_of;
 use std::process::Abort;
+use std::slice;
 use vecmap_fixtures::{End, Item, Log, all_ends};
 use vecmap_set::VecSet;
 
-// What is left of one list: the range of indices not yet visited, and the indices of the elements that are kept.
-#[derive(Clone, Copy)]
-struct Left<'a> {
-    items: &'a [(u32, char)],
-    kept: &'a [usize],
-    start: usize,
-    end: usize,
-}
+// Elements of a set, each a number and a mark. The marks tell equal elements apart.
+type Elements = &'static [(u32, char)];
 
-// Returns the list before the first call.
-fn all_of<'a>(items: &'a [(u32, char)], kept: &'a [usize]) -> Left<'a> {
-    Left {
-        items,
-        kept,
-        start: 0,
-        end: items.len(),
-    }
-}
-
-impl Left<'_> {
-    // Returns the first kept element that is not yet visited. It and all elements before it are then visited, or all
-    // elements if there is none.
-    fn front(&mut self) -> Option<(u32, char)> {
-        let (start, end) = (self.start, self.end);
-        let place = self
-            .kept
-            .iter()
-            .copied()
-            .find(|place| start <= *place && *place < end);
-        self.start = place.map_or(end, |place| place.wrapping_add(1));
-        self.items.get(place?).copied()
-    }
-
-    // The same from the back.
-    fn back(&mut self) -> Option<(u32, char)> {
-        let (start, end) = (self.start, self.end);
-        let place = self
-            .kept
-            .iter()
-            .rev()
-            .copied()
-            .find(|place| start <= *place && *place < end);
-        self.end = place.unwrap_or(start);
-        self.items.get(place?).copied()
-    }
-
-    fn unwalked(&self) -> usize {
-        self.end.saturating_sub(self.start)
-    }
-}
-
-// What is left of two lists, the second after the first, and whether all of the first is kept.
-#[derive(Clone, Copy)]
-struct Parts<'a> {
-    first: Left<'a>,
-    second: Left<'a>,
-    is_whole: bool,
-}
-
-impl Parts<'_> {
-    fn front(&mut self) -> Option<(u32, char)> {
-        let item = self.first.front();
-        if item.is_some() {
-            return item;
-        }
-        self.second.front()
-    }
-
-    fn back(&mut self) -> Option<(u32, char)> {
-        let item = self.second.back();
-        if item.is_some() {
-            return item;
-        }
-        self.first.back()
-    }
-
-    fn hint(&self) -> (usize, Option<usize>) {
-        let at_least = if self.is_whole {
-            self.first.unwalked()
-        } else {
-            0
-        };
-        let at_most = self.first.unwalked().wrapping_add(self.second.unwalked());
-        (at_least, Some(at_most))
-    }
-}
-
-// Two sets, and for each set the indices of the elements that the other set has, and of those that it has not. The
-// marks tell equal elements apart.
+// Two sets, and what each iterator returns.
 struct Case {
-    left: &'static [(u32, char)],
-    right: &'static [(u32, char)],
-    left_shared: &'static [usize],
-    left_alone: &'static [usize],
-    right_shared: &'static [usize],
-    right_alone: &'static [usize],
+    left: Elements,
+    right: Elements,
+    difference: Elements,
+    intersection: Elements,
+    symmetric_difference: Elements,
+    union: Elements,
 }
 
 const CASES: &[Case] = &[
     Case {
         left: &[(1, 'a'), (2, 'a'), (3, 'a'), (4, 'a')],
         right: &[(2, 'b'), (4, 'b')],
-        left_shared: &[1, 3],
-        left_alone: &[0, 2],
-        right_shared: &[0, 1],
-        right_alone: &[],
+        difference: &[(1, 'a'), (3, 'a')],
+        intersection: &[(2, 'b'), (4, 'b')],
+        symmetric_difference: &[(1, 'a'), (3, 'a')],
+        union: &[(1, 'a'), (2, 'a'), (3, 'a'), (4, 'a')],
     },
     Case {
         left: &[(2, 'a')],
         right: &[(1, 'b'), (2, 'b'), (3, 'b')],
-        left_shared: &[0],
-        left_alone: &[],
-        right_shared: &[1],
-        right_alone: &[0, 2],
+        difference: &[],
+        intersection: &[(2, 'a')],
+        symmetric_difference: &[(1, 'b'), (3, 'b')],
+        union: &[(1, 'b'), (2, 'b'), (3, 'b')],
     },
     Case {
         left: &[(3, 'a'), (1, 'a'), (5, 'a')],
         right: &[(1, 'b'), (2, 'b'), (3, 'b')],
-        left_shared: &[0, 1],
-        left_alone: &[2],
-        right_shared: &[0, 2],
-        right_alone: &[1],
+        difference: &[(5, 'a')],
+        intersection: &[(3, 'a'), (1, 'a')],
+        symmetric_difference: &[(5, 'a'), (2, 'b')],
+        union: &[(3, 'a'), (1, 'a'), (5, 'a'), (2, 'b')],
     },
     Case {
         left: &[],
         right: &[(2, 'b'), (1, 'b')],
-        left_shared: &[],
-        left_alone: &[],
-        right_shared: &[],
-        right_alone: &[0, 1],
+        difference: &[],
+        intersection: &[],
+        symmetric_difference: &[(2, 'b'), (1, 'b')],
+        union: &[(2, 'b'), (1, 'b')],
     },
     Case {
         left: &[(1, 'a')],
         right: &[],
-        left_shared: &[],
-        left_alone: &[0],
-        right_shared: &[],
-        right_alone: &[],
+        difference: &[(1, 'a')],
+        intersection: &[],
+        symmetric_difference: &[(1, 'a')],
+        union: &[(1, 'a')],
     },
     Case {
         left: &[],
         right: &[],
-        left_shared: &[],
-        left_alone: &[],
-        right_shared: &[],
-        right_alone: &[],
+        difference: &[],
+        intersection: &[],
+        symmetric_difference: &[],
+        union: &[],
     },
     Case {
         left: &[(1, 'a'), (2, 'a'), (3, 'a'), (4, 'a')],
         right: &[(4, 'b'), (5, 'b'), (2, 'b'), (6, 'b')],
-        left_shared: &[1, 3],
-        left_alone: &[0, 2],
-        right_shared: &[0, 2],
-        right_alone: &[1, 3],
+        difference: &[(1, 'a'), (3, 'a')],
+        intersection: &[(2, 'a'), (4, 'a')],
+        symmetric_difference: &[(1, 'a'), (3, 'a'), (5, 'b'), (6, 'b')],
+        union: &[(1, 'a'), (2, 'a'), (3, 'a'), (4, 'a'), (5, 'b'), (6, 'b')],
     },
     Case {
         left: &[(3, 'a'), (2, 'a'), (1, 'a')],
         right: &[(1, 'b'), (2, 'b')],
-        left_shared: &[1, 2],
-        left_alone: &[0],
-        right_shared: &[0, 1],
-        right_alone: &[],
+        difference: &[(3, 'a')],
+        intersection: &[(1, 'b'), (2, 'b')],
+        symmetric_difference: &[(3, 'a')],
+        union: &[(3, 'a'), (2, 'a'), (1, 'a')],
     },
     Case {
         left: &[(1, 'a')],
         right: &[(2, 'b'), (3, 'b')],
-        left_shared: &[],
-        left_alone: &[0],
-        right_shared: &[],
-        right_alone: &[0, 1],
+        difference: &[(1, 'a')],
+        intersection: &[],
+        symmetric_difference: &[(1, 'a'), (2, 'b'), (3, 'b')],
+        union: &[(2, 'b'), (3, 'b'), (1, 'a')],
     },
 ];
 
-// Asserts that a call for each of these ends returns what is left, with the hint before each call and after the last.
+// Asserts that a call for each of these ends returns what an iterator over a list returns.
 fn assert_next<'a, I: DoubleEndedIterator<Item = &'a Item>>(
     rt: &impl Abort,
     iter: &mut I,
-    left: &mut Parts<'_>,
+    left: &mut slice::Iter<'_, (u32, char)>,
     ends: &[End],
 )
     requires next { (it : I) → I.can_next it }
     requires next_back { (it : I) → I.can_next_back it }
 {
     for end in ends {
-        assert_eq!(*rt; iter.size_hint(), left.hint());
         let (item, expected) = match end {
-            End::Front => (iter.next(), left.front()),
-            End::Back => (iter.next_back(), left.back()),
+            End::Front => (iter.next(), left.next()),
+            End::Back => (iter.next_back(), left.next_back()),
         };
-        assert_eq!(*rt; item.map(|item| (item.number, item.mark)), expected);
+        assert_eq!(*rt;
+            item.map(|item| (item.number, item.mark)),
+            expected.copied()
+        );
     }
-    assert_eq!(*rt; iter.size_hint(), left.hint());
 }
 
-// Asserts what every mixture of six calls of `next` and `next_back` returns, with the hint at each step. Two clones
-// after the second call, one by the trait `Clone`, continue by themselves.
+// Asserts what every mixture of six calls of `next` and `next_back` returns. Two clones after the second call, one by
+// the trait `Clone`, continue by themselves.
 macro_rules! assert_pulls {
-    ($rt:ident; $iter:expr, $left:expr) => {
+    ($rt:ident; $iter:expr, $list:expr) => {
         for ends in &all_ends() {
             let mut iter = $iter;
-            let mut left: Parts<'_> = $left;
+            let mut left = $list.iter();
             assert_next(&$rt, &mut iter, &mut left, &ends[..2]);
-            let mut copy = iter.clone();
-            let mut copy_left = left;
-            assert_next(&$rt, &mut copy, &mut copy_left, &[End::Front; 6]);
+            assert_next(&$rt, &mut iter.clone(), &mut left.clone(), &[End::Front; 6]);
             let mut copy = granted(&$rt, copy_of(&iter));
-            let mut copy_left = left;
-            assert_next(&$rt, &mut copy, &mut copy_left, &[End::Back; 6]);
+            assert_next(&$rt, &mut copy, &mut left.clone(), &[End::Back; 6]);
             assert_next(&$rt, &mut iter, &mut left, &ends[2..]);
         }
     };
 }
-
-const NONE: Left<'static> = Left {
-    items: &[],
-    kept: &[],
-    start: 0,
-    end: 0,
-};
 
 #[test]
 fn a_difference_is_exact_for_every_mixture_of_next_and_next_back(rt: HostRuntime) {
     for case in CASES {
         let a = granted(&rt, item_set(rt.alloc(), case.left));
         let b = granted(&rt, item_set(rt.alloc(), case.right));
-        let left = Parts {
-            first: all_of(case.left, case.left_alone),
-            second: NONE,
-            is_whole: false,
-        };
-        assert_pulls!(rt; a.difference(&b), left);
+        assert_pulls!(rt; a.difference(&b), case.difference);
     }
 }
 
@@ -247,17 +149,7 @@ fn an_intersection_is_exact_for_every_mixture_of_next_and_next_back(rt: HostRunt
     for case in CASES {
         let a = granted(&rt, item_set(rt.alloc(), case.left));
         let b = granted(&rt, item_set(rt.alloc(), case.right));
-        let first = if case.right.len() < case.left.len() {
-            all_of(case.right, case.right_shared)
-        } else {
-            all_of(case.left, case.left_shared)
-        };
-        let left = Parts {
-            first,
-            second: NONE,
-            is_whole: false,
-        };
-        assert_pulls!(rt; a.intersection(&b), left);
+        assert_pulls!(rt; a.intersection(&b), case.intersection);
     }
 }
 
@@ -266,12 +158,7 @@ fn a_symmetric_difference_is_exact_for_every_mixture_of_next_and_next_back(rt: H
     for case in CASES {
         let a = granted(&rt, item_set(rt.alloc(), case.left));
         let b = granted(&rt, item_set(rt.alloc(), case.right));
-        let left = Parts {
-            first: all_of(case.left, case.left_alone),
-            second: all_of(case.right, case.right_alone),
-            is_whole: false,
-        };
-        assert_pulls!(rt; a.symmetric_difference(&b), left);
+        assert_pulls!(rt; a.symmetric_difference(&b), case.symmetric_difference);
     }
 }
 
@@ -280,28 +167,12 @@ fn a_union_is_exact_for_every_mixture_of_next_and_next_back(rt: HostRuntime) {
     for case in CASES {
         let a = granted(&rt, item_set(rt.alloc(), case.left));
         let b = granted(&rt, item_set(rt.alloc(), case.right));
-        let (first, second) = if case.left.len() < case.right.len() {
-            (
-                all_of(case.right, &[0, 1, 2, 3]),
-                all_of(case.left, case.left_alone),
-            )
-        } else {
-            (
-                all_of(case.left, &[0, 1, 2, 3]),
-                all_of(case.right, case.right_alone),
-            )
-        };
-        let left = Parts {
-            first,
-            second,
-            is_whole: true,
-        };
-        assert_pulls!(rt; a.union(&b), left);
+        assert_pulls!(rt; a.union(&b), case.union);
     }
 }
 
 #[test]
-fn size_hints_follow_the_calls_of_next(rt: HostRuntime) {
+fn a_difference_and_a_union_return_items_and_hints_from_both_ends(rt: HostRuntime) {
     let a = granted(&rt, VecSet::from_slice(rt.alloc(), &[1, 2, 3, 4]));
     let b = granted(&rt, VecSet::from_slice(rt.alloc(), &[2, 4]));
     let mut lacking = a.difference(&b);

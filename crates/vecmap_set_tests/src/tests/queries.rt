@@ -1,8 +1,7 @@
-//! Calls on a set by each kind of query: an element, a text, a slice, and a query that is not an element. The file of
-//! each call's module has the call by an element.
+//! Calls on a set by each kind of query: an element, a text, a slice, and a query that is not an element.
 use crate::checks::{assert_granted, assert_is, assert_items, assert_texts, check, granted};
 use crate::made::{item_set, text_set};
-use std::alloc::AllocError;
+use std::alloc::{AllocError, Global};
 use std::borrow::CowStr;
 use std::boxed::{BoxedSlice, BoxedStr};
 use std::fmt::Debug;
@@ -187,80 +186,57 @@ fn a_text_made_at_run_time_matches_a_static_element(rt: HostRuntime) {
     }
 }
 
+// Asserts that each query matches the element of its text, in a set with an element made of each of the texts. The last part is
+// the query of a text.
+macro_rules! assert_each_matches {
+    ($rt:ident; $text:ident, $item:expr, $query:expr) => {
+        let mut set = VecSet::new($rt.alloc());
+        for $text in TEXTS {
+            assert_granted(&$rt, set.insert($item));
+        }
+        for ($text, place) in QUERIES {
+            assert_matches(&$rt, &set, $query, *place);
+        }
+    };
+}
+
+// Creates a text that is borrowed, or else owned.
+fn borrowed_or_owned(rt: &impl Abort, alloc: Global, text: &'static str) -> CowStr<'static> {
+    if text.len() == 3 {
+        CowStr::Borrowed(text)
+    } else {
+        CowStr::Owned(granted(rt, String::from_str(alloc, text)))
+    }
+}
+
 #[test]
 fn a_text_matches_the_boxed_text_of_its_bytes_in_a_set(rt: HostRuntime) {
-    let mut set = VecSet::new(rt.alloc());
-    for text in TEXTS {
-        let item = granted(&rt, BoxedStr::from_str(rt.alloc(), text));
-        assert_granted(&rt, set.insert(item));
-    }
-    for (text, place) in QUERIES {
-        assert_matches(&rt, &set, *text, *place);
-    }
+    assert_each_matches!(rt; text, granted(&rt, BoxedStr::from_str(rt.alloc(), text)), *text);
 }
 
 #[test]
 fn a_text_matches_the_shared_text_of_its_bytes_in_a_set(rt: HostRuntime) {
-    let mut set = VecSet::new(rt.alloc());
-    for text in TEXTS {
-        let item = granted(&rt, RcStr::from_str(rt.alloc(), text));
-        assert_granted(&rt, set.insert(item));
-    }
-    for (text, place) in QUERIES {
-        assert_matches(&rt, &set, *text, *place);
-    }
+    assert_each_matches!(rt; text, granted(&rt, RcStr::from_str(rt.alloc(), text)), *text);
 }
 
 #[test]
 fn a_text_matches_the_text_that_threads_share_in_a_set(rt: HostRuntime) {
-    let mut set = VecSet::new(rt.alloc());
-    for text in TEXTS {
-        let item = granted(&rt, ArcStr::from_str(rt.alloc(), text));
-        assert_granted(&rt, set.insert(item));
-    }
-    for (text, place) in QUERIES {
-        assert_matches(&rt, &set, *text, *place);
-    }
+    assert_each_matches!(rt; text, granted(&rt, ArcStr::from_str(rt.alloc(), text)), *text);
 }
 
 #[test]
 fn a_text_matches_a_borrowed_or_an_owned_text_in_a_set(rt: HostRuntime) {
-    let mut set = VecSet::new(rt.alloc());
-    for text in TEXTS {
-        let item = if text.len() == 3 {
-            CowStr::Borrowed(*text)
-        } else {
-            CowStr::Owned(granted(&rt, String::from_str(rt.alloc(), text)))
-        };
-        assert_granted(&rt, set.insert(item));
-    }
-    for (text, place) in QUERIES {
-        assert_matches(&rt, &set, *text, *place);
-    }
+    assert_each_matches!(rt; text, borrowed_or_owned(&rt, rt.alloc(), text), *text);
 }
 
 #[test]
 fn bytes_match_the_vector_of_them_in_a_set(rt: HostRuntime) {
-    let mut set = VecSet::new(rt.alloc());
-    for text in TEXTS {
-        let item = granted(&rt, text.as_bytes().to_vec(rt.alloc()));
-        assert_granted(&rt, set.insert(item));
-    }
-    for (text, place) in QUERIES {
-        assert_matches(&rt, &set, text.as_bytes(), *place);
-    }
+    assert_each_matches!(rt; text, granted(&rt, text.as_bytes().to_vec(rt.alloc())), text.as_bytes());
 }
 
 #[test]
 fn bytes_match_the_boxed_slice_of_them_in_a_set(rt: HostRuntime) {
-    let mut set = VecSet::new(rt.alloc());
-    for text in TEXTS {
-        let item = granted(&rt, BoxedSlice::from_slice(rt.alloc(), text.as_bytes()));
-        assert_granted(&rt, set.insert(item));
-    }
-    for (text, place) in QUERIES {
-        assert_matches(&rt, &set, text.as_bytes(), *place);
-    }
+    assert_each_matches!(rt; text, granted(&rt, BoxedSlice::from_slice(rt.alloc(), text.as_bytes())), text.as_bytes());
 }
 
 #[test]

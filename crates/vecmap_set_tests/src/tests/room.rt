@@ -74,18 +74,3 @@ fn the_capacity_grows_like_that_of_a_vector(rt: HostRuntime) {
     assert_grows_like_a_vector(&rt, rt.alloc(), false);
     assert_grows_like_a_vector(&rt, rt.alloc(), true);
 }
-
-#[test]
-fn reserving_calls_leave_the_elements(rt: HostRuntime) {
-    let mut set = granted(&rt, VecSet::from_slice(rt.alloc(), &[2, 1]));
-    assert_granted(&rt, set.reserve(8));
-    check!(rt; 10 <= set.capacity());
-    assert_granted(&rt, set.reserve_exact(30));
-    check!(rt; 32 <= set.capacity());
-    assert_granted(&rt, set.try_reserve(62));
-    check!(rt; 64 <= set.capacity());
-    assert_granted(&rt, set.try_reserve_exact(126));
-    check!(rt; 128 <= set.capacity());
-    assert_is(&rt, (set.len(), set.is_empty()), (2, false));
-    assert_list(&rt, set.as_slice(), &[2, 1]);
-}

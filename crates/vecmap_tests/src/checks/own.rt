@@ -5,14 +5,6 @@ use vecmap_fixtures::{
     Item, Log, Told, has_items, has_pairs, has_text_pairs, has_texts, has_told, has_told_pairs,
 };
 
-/// Asserts that a call returned a value, and returns this value.
-pub(crate) fn present<T>(rt: &impl Abort, value: Option<T>) -> T {
-    match value {
-        Some(value) => value,
-        None => panic!(*rt; "absent"),
-    }
-}
-
 /// Asserts that a map has exactly these pairs, each a number, a mark and a value, in this order.
 pub(crate) fn assert_pairs(
     rt: &impl Abort,

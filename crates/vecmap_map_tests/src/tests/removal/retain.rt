@@ -1,25 +1,7 @@
 //! The pairs of a map that closures keep.
-use crate::checks::{assert_is, assert_list, assert_pairs, check, granted};
-use crate::made::repeating_map;
+use crate::checks::{assert_is, assert_list, granted};
 use vecmap_fixtures::{Log, told_pairs};
 use vecmap_map::VecMap;
-
-const FOUR: &[(u32, char, u32)] = &[(1, 'a', 1), (2, 'b', 2), (1, 'c', 3), (4, 'd', 4)];
-
-#[test]
-fn retain_keeps_the_capacity(rt: HostRuntime) {
-    let mut map = granted(&rt, repeating_map(rt.alloc(), FOUR));
-    let room = map.capacity();
-    map.retain(|key, _value| key.number == 1);
-    assert_pairs(&rt, &map, &[(1, 'a', 1), (1, 'c', 3)]);
-    map.retain(|_key, _value| true);
-    assert_pairs(&rt, &map, &[(1, 'a', 1), (1, 'c', 3)]);
-    map.retain(|_key, _value| false);
-    check!(rt; map.is_empty());
-    assert_is(&rt, map.capacity(), room);
-    map.retain(|_key, _value| true);
-    check!(rt; map.is_empty());
-}
 
 #[test]
 fn closures_of_retain_count_their_calls(rt: HostRuntime) {

@@ -5,7 +5,7 @@ use crate::checks::{assert_is, assert_list, assert_text, check, granted};
 use std::alloc::{AllocError, Global};
 use std::fmt::Debug;
 use std::process::Abort;
-use vecmap::{SetCommand, SetReply, VecSet, run_set};
+use vecmap::{SetCommand, VecSet, run_set};
 use vecmap_fixtures::{Log, Told, has_items, has_told, items, make_item, make_told, told_items};
 
 // Asserts how the replies of a run of commands print, in order.
@@ -66,7 +66,7 @@ fn a_set_run_goes_on_after_an_index_out_of_range(rt: HostRuntime) {
 }
 
 #[test]
-fn a_set_run_inserts_elements(rt: HostRuntime) {
+fn a_set_run_replaces_an_equal_element_and_inserts_none(rt: HostRuntime) {
     let mut set = VecSet::from(granted(&rt, items(rt.alloc(), &[(1, 'x'), (2, 'b')])));
     let commands = vec![in rt.alloc();
         SetCommand::Replace(make_item(1, 'y')),
@@ -85,32 +85,6 @@ fn a_set_run_inserts_elements(rt: HostRuntime) {
     ];
     assert_replies(&rt, &mut set, commands, "[Item(None), Truth(true)]");
     check!(rt; has_items(set.as_slice(), &[(1, 'y'), (2, 'b'), (3, 'd'), (4, 'e')]));
-}
-
-#[test]
-fn a_set_run_finds_nothing_at_the_greatest_index(rt: HostRuntime) {
-    let mut set = granted(&rt, made(rt.alloc(), &[1]));
-    let room = set.capacity();
-    let commands = vec![in rt.alloc();
-        SetCommand::SplitOff(usize::MAX),
-        SetCommand::GetIndex(usize::MAX),
-        SetCommand::RemoveIndex(usize::MAX),
-        SetCommand::SwapRemoveIndex(usize::MAX),
-        SetCommand::SwapIndices(0, usize::MAX),
-        SetCommand::SwapIndices(usize::MAX, usize::MAX),
-        SetCommand::Truncate(usize::MAX),
-    ];
-    assert_replies(
-        &rt,
-        &mut set,
-        commands,
-        "[OutOfRange, Item(None), OutOfRange, OutOfRange, OutOfRange, OutOfRange, Done]",
-    );
-    assert_is(
-        &rt,
-        (set.as_slice(), set.capacity()),
-        ([1].as_slice(), room),
-    );
 }
 
 #[test]
@@ -165,14 +139,4 @@ fn an_operator_whose_clone_is_refused_replies_out_of_memory(rt: HostRuntime) {
         assert_is(&rt, log.alive(), 2);
         check!(rt; has_told(set.as_slice(), &[1, 2]));
     }
-}
-
-#[test]
-fn set_commands_and_replies_can_be_compared(rt: HostRuntime) {
-    let rest = SetReply::Made(granted(&rt, made(rt.alloc(), &[1, 2])));
-    let same = SetReply::Made(granted(&rt, made(rt.alloc(), &[2, 1])));
-    check!(rt; rest == same);
-    check!(rt; rest != SetReply::Item(None));
-    assert_is(&rt, SetCommand::Insert(1), SetCommand::Insert(1));
-    check!(rt; SetCommand::Insert(1) != SetCommand::Replace(1));
 }
