@@ -127,9 +127,11 @@ macro_rules! assert_pulls {
             let mut iter = $iter;
             let mut left = $list.iter();
             assert_next(&$rt, &mut iter, &mut left, &ends[..2]);
-            assert_next(&$rt, &mut iter.clone(), &mut left.clone(), &[End::Front; 6]);
+            let mut rest = granted(&$rt, left.clone());
+            assert_next(&$rt, &mut iter.clone(), &mut rest, &[End::Front; 6]);
+            let mut rest = granted(&$rt, left.clone());
             let mut copy = granted(&$rt, copy_of(&iter));
-            assert_next(&$rt, &mut copy, &mut left.clone(), &[End::Back; 6]);
+            assert_next(&$rt, &mut copy, &mut rest, &[End::Back; 6]);
             assert_next(&$rt, &mut iter, &mut left, &ends[2..]);
         }
     };
