@@ -5,7 +5,6 @@ use crate::checks::{assert_is, assert_item, assert_text, check, granted};
 use crate::made::{item_set, told_set};
 use crate::tests::cloning::copy_of;
 use std::process::Abort;
-use std::slice;
 use vecmap_fixtures::{End, Item, Log, all_ends};
 use vecmap_set::VecSet;
 
@@ -97,26 +96,55 @@ const CASES: &[Case] = &[
     },
 ];
 
-// Asserts that a call for each of these ends returns what an iterator over a list returns.
-fn assert_next<'a, I: DoubleEndedIterator<Item = &'a Item>>(
+// Removes and returns the first item of the list.
+fn take_first<'a, T>(list: &mut &'a [T]) -> Option<&'a T> {
+    let (first, rest) = list.split_first()?;
+    *list = rest;
+    Some(first)
+}
+
+// Removes and returns the last item of the list.
+fn take_last<'a, T>(list: &mut &'a [T]) -> Option<&'a T> {
+    let (last, rest) = list.split_last()?;
+    *list = rest;
+    Some(last)
+}
+
+// Asserts that a call for this end returns the item at the same end of a list, and takes it from the list.
+fn assert_pull<'a, I: DoubleEndedIterator<Item = &'a Item>>(
     rt: &impl Abort,
     iter: &mut I,
-    left: &mut slice::Iter<'_, (u32, char)>,
-    ends: &[End],
+    list: &mut &[(u32, char)],
+    end: &End,
 )
     requires next { (it : I) → I.can_next it }
     requires next_back { (it : I) → I.can_next_back it }
 {
+    let (item, expected) = match end {
+        End::Front => (iter.next(), take_first(list)),
+        End::Back => (iter.next_back(), take_last(list)),
+    };
+    assert_eq!(*rt;
+        item.map(|item| (item.number, item.mark)),
+        expected.copied()
+    );
+}
+
+// Asserts that a call for each of these ends returns the items of a list, and then none. Returns the rest of the list.
+fn assert_next<'a, 'l, I: DoubleEndedIterator<Item = &'a Item>>(
+    rt: &impl Abort,
+    iter: &mut I,
+    list: &'l [(u32, char)],
+    ends: &[End],
+) -> &'l [(u32, char)]
+    requires next { (it : I) → I.can_next it }
+    requires next_back { (it : I) → I.can_next_back it }
+{
+    let mut rest = list;
     for end in ends {
-        let (item, expected) = match end {
-            End::Front => (iter.next(), left.next()),
-            End::Back => (iter.next_back(), left.next_back()),
-        };
-        assert_eq!(*rt;
-            item.map(|item| (item.number, item.mark)),
-            expected.copied()
-        );
+        assert_pull(rt, iter, &mut rest, end);
     }
+    rest
 }
 
 // Asserts what every mixture of six calls of `next` and `next_back` returns. Two clones after the second call, one by
@@ -125,14 +153,11 @@ macro_rules! assert_pulls {
     ($rt:ident; $iter:expr, $list:expr) => {
         for ends in &all_ends() {
             let mut iter = $iter;
-            let mut left = $list.iter();
-            assert_next(&$rt, &mut iter, &mut left, &ends[..2]);
-            let mut rest = granted(&$rt, left.clone());
-            assert_next(&$rt, &mut iter.clone(), &mut rest, &[End::Front; 6]);
-            let mut rest = granted(&$rt, left.clone());
+            let left = assert_next(&$rt, &mut iter, $list, &ends[..2]);
+            assert_next(&$rt, &mut iter.clone(), left, &[End::Front; 6]);
             let mut copy = granted(&$rt, copy_of(&iter));
-            assert_next(&$rt, &mut copy, &mut rest, &[End::Back; 6]);
-            assert_next(&$rt, &mut iter, &mut left, &ends[2..]);
+            assert_next(&$rt, &mut copy, left, &[End::Back; 6]);
+            assert_next(&$rt, &mut iter, left, &ends[2..]);
         }
     };
 }
