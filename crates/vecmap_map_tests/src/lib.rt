@@ -1,11 +1,10 @@
-//! Tests of maps, in three folders:
+//! Tests of maps, in two folders:
 //!
 //! - `tests` has the results of each call, and what it leaves.
-//! - `refusals` has what a call leaves if a request for memory is refused.
 //! - `comments` has the examples of the doc comments of `vecmap_map`.
 //!
-//! `checks` has the functions by which they assert, `made` has maps to start from, and `telling` prints a refusal and
-//! repeats the call.
+//! `vecmap_map_refusals` has what a call leaves if a request for memory is refused. `checks` has the functions by which
+//! they assert, and `made` has maps to start from.
 #![tactic(auto)]
 
 #[cfg(test)]
@@ -14,9 +13,5 @@ mod checks;
 mod comments;
 #[cfg(test)]
 mod made;
-#[cfg(test)]
-mod refusals;
-#[cfg(test)]
-mod telling;
 #[cfg(test)]
 mod tests;
