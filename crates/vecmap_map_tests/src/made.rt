@@ -1,6 +1,6 @@
 //! Maps to start from.
 use std::alloc::{AllocError, Global};
-use vecmap_fixtures::{Item, Log, Told, item_pairs, make_item, text_pairs, told_couples};
+use vecmap_fixtures::{Item, Log, Told, item_pairs, make_item, told_couples};
 use vecmap_map::{MutableKeys, VecMap};
 
 /// Creates a map of these pairs, each a number, a mark and a value, without spare capacity.
@@ -25,14 +25,6 @@ pub(crate) fn repeating_map(
         }
     }
     Ok(map)
-}
-
-/// Creates a map of these pairs of texts, without spare capacity.
-pub(crate) fn text_map(
-    alloc: Global,
-    pairs: &[(&str, &str)],
-) -> Result<VecMap<String, String>, AllocError> {
-    Ok(VecMap::from(text_pairs(alloc, pairs)?))
 }
 
 /// Creates a map with these numbers as keys, and these numbers plus ten as values, without spare capacity.

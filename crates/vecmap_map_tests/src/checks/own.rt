@@ -3,9 +3,7 @@ use super::assert_text;
 use std::alloc::Global;
 use std::fmt::Debug;
 use std::process::Abort;
-use vecmap_fixtures::{
-    End, Item, Log, Told, has_pairs, has_text_pairs, has_told_pairs, pulls_as_list,
-};
+use vecmap_fixtures::{End, Item, Log, Told, has_pairs, has_told_pairs, pulls_as_list};
 use vecmap_map::VecMap;
 
 /// Asserts that a call returned a value, and returns it.
@@ -86,31 +84,6 @@ pub(crate) fn assert_told(
         has_told_pairs(map.as_slice(), expected),
         "{map:?} is not {expected:?}"
     );
-}
-
-/// Asserts that a map has exactly these texts as keys and as values, in this order.
-pub(crate) fn assert_text_pairs(
-    rt: &impl Abort,
-    map: &VecMap<String, String>,
-    expected: &[(&str, &str)],
-) {
-    assert!(*rt;
-        has_text_pairs(map.as_slice(), expected),
-        "{map:?} is not {expected:?}"
-    );
-}
-
-/// Asserts how many keys and values are alive, and that a map has exactly these numbers as keys and as values, in this
-/// order.
-pub(crate) fn assert_told_pairs(
-    rt: &impl Abort,
-    log: &Log,
-    map: &VecMap<Told<'_>, Told<'_>>,
-    alive: u32,
-    expected: &[(u32, u32)],
-) {
-    assert_eq!(*rt; log.alive(), alive);
-    assert_told(rt, map, expected);
 }
 
 /// Asserts what a value prints by `Debug`.
