@@ -6,7 +6,6 @@ use Rattle.vecmap.specs.declared.map_run.command.MapCommand.{MapCommand}
 use Rattle.vecmap.specs.declared.map_run.reply.MapReply.{MapReply}
 use Rattle.vecmap.specs.SetRun as sets
 use Rattle.vecmap.specs.declared.set_run.command.SetCommand.{SetCommand}
-use Rattle.vecmap.specs.declared.set_run.command.SetCommand.TheVariants as commands
 use Rattle.vecmap.specs.declared.set_run.reply.SetReply.{SetReply}
 use Rattle.vecmap_map.specs.Contents.{Contents}
 use Rattle.vecmap_set.specs.Contents as set

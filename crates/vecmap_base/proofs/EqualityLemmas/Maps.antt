@@ -1,5 +1,5 @@
 -- The laws of the equality of maps. They hold of all lists of pairs, also if keys repeat.
-use Rattle.std.specs.Prelude.{◌≡◌, Bool, ◌&&◌, List, refl}
+use Rattle.std.specs.Prelude.{◌≡◌, Bool, ◌&&◌, List}
 use Rattle.std.specs.Cmp.{IsEquivalence, equiv, partial_equiv_from_equiv}
 use Rattle.std.proofs.Common.{◌∙◌}
 use Rattle.std.proofs.lemmas.Bool.{and_from, and_parts}
