@@ -1,103 +1,169 @@
-"""Draws `docs/speed.svg` from runs of the benchmark, the files `run-N.tsv` that `RESULTS=<folder> bench/run` keeps.
+"""Draws `docs/speed.svg` from the figures of the machine of SPEED in `bench/RESULTS.md`, which `FULL=<file> bench/run`
+writes. It needs nothing besides Python.
 
-Above: the nanoseconds of a `get` and of an `insert`, by the number of entries. Below: the geometric mean over all rows of
-the ratios to the times of vecmap-rs. A point is the median over the runs.
+Above: the nanoseconds of a `get`, and the mean nanoseconds of an `insert` while a map is filled. Below: the geometric
+mean over all rows of the ratios to the times of vecmap-rs, and those of the least and of the greatest ratios.
 
-    python3 bench/plot.py docs/speed.svg <folder>/run-*.tsv
+    python3 bench/plot.py docs/speed.svg bench/RESULTS.md
 """
 import math
+import re
 import statistics
 import sys
 
-import matplotlib
-
-matplotlib.use("Agg")
-import matplotlib.pyplot as plt
-from matplotlib.ticker import FuncFormatter, LogLocator, NullFormatter, NullLocator
-
-# The name of each contender in a run, with its label, colour and marker.
+# The name of each contender, with its colour.
 CONTENDERS = {
-    "vecmap": ("this library", "#0072b2", "o"),
-    "vecmap-rs": ("vecmap-rs 0.3.1", "#d55e00", "s"),
-    "linear-map": ("linear-map 1.2", "#009e73", "^"),
-    "indexmap": ("indexmap 1.9", "#cc79a7", "D"),
+    "this library": "#0072b2",
+    "vecmap-rs 0.3.1": "#d55e00",
+    "linear-map 1.2": "#009e73",
+    "indexmap 1.9": "#cc79a7",
 }
-ROWS = {"get hit": "get of a present u64 key", "insert new": "insert of a new u64 key"}
+OURS, ORIGINAL = list(CONTENDERS)[:2]
+# The rows whose times are drawn, with their titles.
+ROWS = {
+    "get hit": "get of a present u64 key",
+    "insert new": "insert of a new u64 key: mean of filling a map to n",
+}
+GREY, FAINT = "#444444", "#dddddd"
+WIDTH, HEIGHT = 900, 700
+CELL = re.compile(r"([\d.]+) \[([\d.]+)\.\.([\d.]+)\] ([\d.]+):([\d.]+)")
 
 
-def read(names):
-    """Returns the lines of all runs: for (contender, row, size) the nanoseconds, and for (row, size) the ratios."""
-    times, ratios = {}, {}
-    for name in names:
-        with open(name, encoding="utf-8") as file:
-            for line in file:
-                row, size, who, theirs, ours, ratio = line.rstrip("\n").split("\t")
-                times.setdefault((who, row, int(size)), []).append(float(ours))
-                if who == "vecmap":
-                    times.setdefault(("vecmap-rs", row, int(size)), []).append(float(theirs))
-                    ratios.setdefault((row, int(size)), []).append(float(ratio))
-    return times, ratios
+def read(name):
+    """Returns the rows of the first table of each kind: of the ratios, and of the nanoseconds of other crates."""
+    tables = {}
+    with open(name, encoding="utf-8") as file:
+        blocks = re.findall(r"(?:^\|.*\n)+", file.read(), re.MULTILINE)
+    for block in blocks:
+        head, _, *lines = ([cell.strip() for cell in re.split(r"(?<!\\)\|", line)[1:-1]] for line in block.splitlines())
+        sizes = [int(size) for size in head[1:]]
+        tables.setdefault(head[0], {row: dict(zip(sizes, cells)) for row, *cells in lines})
+    ratios = {
+        row: {size: [float(x) for x in CELL.fullmatch(cell).groups()] for size, cell in cells.items() if cell}
+        for row, cells in tables["vecmap : vecmap-rs"].items()
+    }
+    return ratios, {row: {n: float(x) for n, x in cells.items()} for row, cells in tables["nanoseconds"].items()}
 
 
-def axis(at, title, unit, sizes):
-    """Labels an axis of both kinds of pictures."""
-    at.set_title(title, fontsize=11)
-    at.set_xscale("log", base=2)
-    at.set_xticks(sizes)
-    at.xaxis.set_major_formatter(FuncFormatter(lambda size, _: f"{size:.0f}"))
-    at.xaxis.set_minor_locator(NullLocator())
-    at.set_xlabel("entries")
-    at.set_ylabel(unit)
-    at.grid(True, which="major", color="#dddddd", linewidth=0.6)
-    at.set_axisbelow(True)
+def times(ratios, others, row):
+    """Returns the nanoseconds of a row by size, for each contender."""
+    found = {OURS: {n: cell[3] for n, cell in ratios[row].items()}}
+    found[ORIGINAL] = {n: cell[4] for n, cell in ratios[row].items()}
+    return found | {who: others[f"{row}, {who}"] for who in CONTENDERS if f"{row}, {who}" in others}
 
 
-def draw_times(at, times, row, title, sizes):
+def text(x, y, words, anchor="middle", size=12, colour=GREY):
+    """Returns a text."""
+    return f'<text x="{x:.1f}" y="{y:.1f}" text-anchor="{anchor}" font-size="{size}" fill="{colour}">{words}</text>'
+
+
+def line(points, colour, width=2.0):
+    """Returns a line through points."""
+    path = " ".join(f"{x:.1f},{y:.1f}" for x, y in points)
+    return f'<polyline points="{path}" fill="none" stroke="{colour}" stroke-width="{width}"/>'
+
+
+def dots(points, colour):
+    """Returns a dot at each point."""
+    return [f'<circle cx="{x:.1f}" cy="{y:.1f}" r="3" fill="{colour}"/>' for x, y in points]
+
+
+class Axes:
+    """A rectangle with a logarithmic axis of sizes, and an axis of values."""
+
+    def __init__(self, box, sizes, values, scale):
+        """Takes the rectangle, the sizes, the least and the greatest value, and the scale of the values."""
+        self.left, self.top, self.right, self.bottom = box
+        self.sizes, self.values, self.scale = sizes, values, scale
+
+    def x(self, size):
+        """Returns where a size is."""
+        least, most = math.log2(self.sizes[0]) - 0.4, math.log2(self.sizes[-1]) + 0.4
+        return self.left + (math.log2(size) - least) / (most - least) * (self.right - self.left)
+
+    def y(self, value):
+        """Returns where a value is."""
+        low, at, high = (self.scale(it) for it in (self.values[0], value, self.values[1]))
+        return self.bottom - (at - low) / (high - low) * (self.bottom - self.top)
+
+    def points(self, found):
+        """Returns where the values by size are."""
+        return [(self.x(size), self.y(value)) for size, value in found.items()]
+
+    def frame(self, title, unit, ticks):
+        """Returns the axes with their names."""
+        made = [text((self.left + self.right) / 2, self.top - 12, title, size=14)]
+        for tick in ticks:
+            made.append(line([(self.left, self.y(tick)), (self.right, self.y(tick))], FAINT, 0.8))
+            made.append(text(self.left - 6, self.y(tick) + 4, f"{tick:g}", "end"))
+        made += [text(self.x(size), self.bottom + 17, size) for size in self.sizes]
+        made.append(line([(self.left, self.top), (self.left, self.bottom), (self.right, self.bottom)], GREY, 1))
+        made.append(text((self.left + self.right) / 2, self.bottom + 34, "entries (n)"))
+        x, y = self.left - 36, (self.top + self.bottom) / 2
+        return [*made, f'<g transform="rotate(-90 {x} {y})">{text(x, y, unit)}</g>']
+
+
+def draw_times(box, found, title):
     """Draws the nanoseconds of one row, a line for each contender."""
-    for who, (label, colour, marker) in CONTENDERS.items():
-        points = [(size, statistics.median(times[who, row, size])) for size in sizes if (who, row, size) in times]
-        if points:
-            at.plot(*zip(*points), label=label, color=colour, marker=marker, markersize=4.5, linewidth=1.6)
-    axis(at, title, "nanoseconds per call", sizes)
-    at.set_yscale("log")
-    at.yaxis.set_major_locator(LogLocator(subs=(1, 2, 5)))
-    at.yaxis.set_major_formatter(FuncFormatter(lambda y, _: f"{y:g}"))
-    at.yaxis.set_minor_formatter(NullFormatter())
+    values = [value for row in found.values() for value in row.values()]
+    sizes, least, most = sorted(found[OURS]), min(values) * 0.85, max(values) * 1.4
+    ticks = [n * 10**e for e in range(4) for n in (1, 2, 5) if least <= n * 10**e <= most]
+    axes = Axes(box, sizes, (least, most), math.log)
+    made = axes.frame(title, "nanoseconds per call", ticks)
+    for who, row in reversed(found.items()):
+        points = axes.points(row)
+        made += [line(points, CONTENDERS[who]), *dots(points, CONTENDERS[who])]
+    return made
 
 
-def draw_means(at, ratios, sizes):
-    """Draws the geometric mean of the ratios of all rows."""
-    rows = sorted({row for row, _ in ratios})
-    means = []
-    for size in sizes:
-        logs = [math.log(statistics.median(ratios[row, size])) for row in rows if (row, size) in ratios]
-        means.append(math.exp(statistics.fmean(logs)))
-    _, colour, marker = CONTENDERS["vecmap"]
-    at.axhline(1, color=CONTENDERS["vecmap-rs"][1], linewidth=1.6)
-    at.plot(sizes, means, color=colour, marker=marker, markersize=4.5, linewidth=1.6)
-    for size, mean in zip(sizes, means):
-        at.annotate(f"{mean:.2f}", (size, mean), textcoords="offset points", xytext=(0, 7), ha="center", fontsize=8)
-    axis(at, f"geometric mean of all {len(rows)} rows", "time compared with vecmap-rs", sizes)
-    at.set_ylim(0, max(1.2, *means) * 1.1)
+def draw_means(box, ratios):
+    """Draws the geometric means of the medians, and between those of the least and of the greatest ratios."""
+    sizes = sorted({size for row in ratios.values() for size in row})
+    columns = {size: [row[size] for row in ratios.values() if size in row] for size in sizes}
+    mean, least, most = (
+        {size: statistics.geometric_mean(cell[at] for cell in column) for size, column in columns.items()}
+        for at in range(3)
+    )
+    few = ", ".join(str(size) for size in sizes if len(columns[size]) < len(ratios))
+    count = min(len(column) for column in columns.values())
+    title = f"geometric mean of the ratios of all rows: {len(ratios)}, and {count} with {few} entries"
+    axes = Axes(box, sizes, (0, max(most.values()) * 1.1), lambda it: it)
+    band = axes.points(least) + axes.points(most)[::-1]
+    path = " ".join(f"{x:.1f},{y:.1f}" for x, y in band)
+    made = [f'<polygon points="{path}" fill="{CONTENDERS[OURS]}" fill-opacity="0.15"/>']
+    made += axes.frame(title, "time compared with vecmap-rs", [0, 0.2, 0.4, 0.6, 0.8, 1.0, 1.2])
+    made.append(line([(axes.left, axes.y(1)), (axes.right, axes.y(1))], CONTENDERS[ORIGINAL]))
+    made.append(text(axes.right - 4, axes.y(1) - 6, f"{ORIGINAL} = 1", "end", colour=CONTENDERS[ORIGINAL]))
+    points = axes.points(mean)
+    made += [line(points, CONTENDERS[OURS]), *dots(points, CONTENDERS[OURS])]
+    made += [text(x, y + (17 if value < 1 else -8), f"{value:.2f}") for (x, y), value in zip(points, mean.values())]
+    words = "this library; shaded: between the least and the greatest ratio over 4 orders of the functions"
+    return [*made, text(axes.left + 8, axes.bottom - 10, words, "start", colour=CONTENDERS[OURS])]
+
+
+def legend(y):
+    """Returns the names of the contenders in one line."""
+    made, x = [], 140
+    for who, colour in CONTENDERS.items():
+        made += [line([(x, y - 4), (x + 24, y - 4)], colour), *dots([(x + 12, y - 4)], colour)]
+        made.append(text(x + 30, y, who, "start", 13))
+        x += 60 + 8 * len(who)
+    return made
 
 
 def main():
-    """Draws the picture into the file that the first argument names."""
-    times, ratios = read(sys.argv[2:])
-    sizes = sorted({size for _, size in ratios})
-    plt.rcParams.update({"font.size": 9, "svg.hashsalt": "vecmap", "svg.fonttype": "none"})
-    plt.rcParams.update({"axes.spines.top": False, "axes.spines.right": False})
-    figure = plt.figure(figsize=(9, 7.2))
-    places = figure.add_gridspec(
-        2, 2, height_ratios=[3, 2], left=0.07, right=0.98, top=0.9, bottom=0.07, wspace=0.16, hspace=0.28
-    )
-    for column, (row, title) in enumerate(ROWS.items()):
-        at = figure.add_subplot(places[0, column])
-        draw_times(at, times, row, title, sizes)
-    figure.legend(*at.get_legend_handles_labels(), loc="upper center", ncol=len(CONTENDERS), fontsize=10, frameon=False)
-    draw_means(figure.add_subplot(places[1, :]), ratios, sizes)
-    kind = {"metadata": {"Date": None}} if sys.argv[1].endswith(".svg") else {"dpi": 110}
-    figure.savefig(sys.argv[1], facecolor="white", **kind)
+    """Draws the picture into the file that the first argument names, from the figures in the second."""
+    ratios, others = read(sys.argv[2])
+    made = legend(26)
+    for left, (row, title) in zip((60, 510), ROWS.items()):
+        made += draw_times((left, 75, left + 375, 345), times(ratios, others, row), title)
+    made += draw_means((60, 430, 885, 620), ratios)
+    words = "Intel Xeon 2.50GHz, family 6, model 85. Nanoseconds: the least of seven samples, median over 4 orders."
+    made.append(text(60, HEIGHT - 14, words, "start"))
+    head = f'<svg xmlns="http://www.w3.org/2000/svg" viewBox="0 0 {WIDTH} {HEIGHT}" font-family="sans-serif">'
+    ground = f'<rect width="{WIDTH}" height="{HEIGHT}" fill="white"/>'
+    with open(sys.argv[1], "w", encoding="utf-8") as file:
+        file.write("\n".join([head, ground, *made, "</svg>"]) + "\n")
 
 
 main()
