@@ -22,6 +22,7 @@ pub mod FoundLemmas
 pub mod HeadLemmas
 pub mod IndexAfterLemmas
 pub mod Indices
+pub mod IndicesKept
 pub mod Inserted
 pub mod ItemAdditions
 pub mod ItemIndices
