@@ -60,8 +60,8 @@ pub use query_removals::{
     queries_find_alike, removals_by_queries_are_forgotten, removals_by_texts_are_forgotten,
 };
 pub use removals::{
-    drains_change_indices, moving_removals_are_forgotten, parts_keep_their_lookups, removals_are_filters,
-    removals_change_indices, removals_shorten,
+    drains_change_indices, moving_removals_are_forgotten, parts_keep_their_lookups,
+    removals_are_filters, removals_change_indices, removals_shorten,
 };
 pub use retaining::{
     retain_filters_or_writes, retain2_filters_or_writes, retaining_keeps_keys_distinct,
