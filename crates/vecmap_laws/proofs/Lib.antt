@@ -58,6 +58,7 @@ pub mod RemovalLemmas
 pub mod Rules
 pub mod RunLemmas
 pub mod RunParts
+pub mod RunSteps
 pub mod SameClones
 pub mod SearchedMaps
 pub mod SearchedSets

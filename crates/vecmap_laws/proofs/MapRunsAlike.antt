@@ -1,8 +1,8 @@
 -- Two runs of the same commands on one list. A step is a function of the list, the command, and whether memory was
 -- refused, but for the clones and the capacities in its reply.
-use Rattle.std.proofs.Common.{arith, ◌≡◌, ◌↔◌, ◌-◌, ◌++◌, ◌&&◌, ℕ, Any, Bool, true, false, List, [], ◌∷◌, Option, Some, ap, cond, is_some, length, nat_lt, not, refl, remove, reverse, slice_get, subst, suc, swap, sym, take, true≢false, ◌∙◌}
+use Rattle.std.proofs.Common.{arith, ◌≡◌, ◌-◌, ◌++◌, ◌&&◌, ℕ, Any, Bool, true, false, List, [], ◌∷◌, Option, ap, cond, is_some, length, nat_lt, not, refl, remove, reverse, slice_get, subst, suc, swap, sym, take, true≢false, ◌∙◌}
 use Rattle.std.proofs.lemmas.Bool.{and_from, and_parts, cond_above, cond_below, cond-false, cond-true, false_from_ne_true, lt-ltb, ltb-true}
-use Rattle.std.specs.{Cmp.both_ways, List.AllZip, Option.option_map_or}
+use Rattle.std.specs.{List.AllZip, Option.option_map_or}
 use Rattle.std.specs.declared.clone.Clone as clone
 use Rattle.vecmap.specs.MapRun.{ClonesPair, ClonesPairs, ClonesValue, ListStep}
 use Rattle.vecmap.specs.declared.map_run.command.MapCommand.{MapCommand}
@@ -13,31 +13,19 @@ use Rattle.vecmap_base.specs.Clones.{IsPairClone}
 use Rattle.vecmap_base.specs.Equality.{has_same_counts}
 use Rattle.vecmap_base.specs.Items.{swap_without}
 use Rattle.vecmap_base.specs.Pairs.{index_of, index_or_length, lookup, lookup_full, lookup_pair, put, put_at, put_key, puts, swap_without_key, without_key}
+use Rattle.vecmap_laws.proofs.RunSteps.{any_later, refused_together, unless_refused}
 use Rattle.vecmap_laws.proofs.SameClones.{same_clone_of, same_clones}
 use Rattle.vecmap_laws.specs.MapReplies.{HoldsClones, RefusedAlike, RepliesAlike}
 use Rattle.vecmap_laws.specs.Runs.{ClonesAreSame, ListRun}
-
-pub any_later : {X : Type 0} (P : X → Type 0) (x : X) (xs : List X) → Any P xs → Any P (x ∷ xs)
-any_later P x xs any = (suc any.0, any.1, omega (arith, any.2), any.3, any.4)
 
 module _ {K V : Type 0} where
   abbrev pub is_refused : MapReply K V → Bool
   is_refused NoMemory = true
   is_refused _ = false
 
-  -- What is left and replied unless memory was refused, and unless an index was out of range.
-  abbrev pub unless_refused : Bool → List (K × V) → List (K × V) × MapReply K V → List (K × V) × MapReply K V
-  unless_refused refused l done = cond refused (l, NoMemory) done
-
   refused_is : (reply : MapReply K V) → is_refused reply ≡ true → reply ≡ NoMemory
   refused_is NoMemory e = refl
   refused_is _ e = absurd (true≢false (sym e))
-
-  refused_together : (reply other : MapReply K V) → (Some reply ≡ Some NoMemory) ↔ (Some other ≡ Some NoMemory) → is_refused reply ≡ is_refused other
-  refused_together reply other both =
-      both_ways (is_refused reply) (is_refused other)
-      (λ e. let f : other ≡ NoMemory = (let g : Some other ≡ Some NoMemory = both.0 (ap Some (refused_is reply e)) in cc) in ap is_refused f)
-      (λ e. let f : reply ≡ NoMemory = (let g : Some reply ≡ Some NoMemory = both.1 (ap Some (refused_is other e)) in cc) in ap is_refused f)
 
   alike_itself : (reply : MapReply K V) → RepliesAlike reply reply
   alike_itself (Rest rest) = refl
@@ -50,11 +38,11 @@ module _ {K V : Type 0} where
 module _ {K V : Type 0} (eq : K → K → Bool) (eq_value : V → V → Bool) (keys : clone.Ghosts K) (values : clone.Ghosts V) where
   -- What a command leaves and replies, unless the reply has clones or a new map.
   abbrev pub outcome : Bool → List (K × V) → MapCommand K V → List (K × V) × MapReply K V
-  outcome refused l (Insert k v) = unless_refused refused l (put eq l k v, Value (lookup eq l k))
-  outcome refused l (InsertFull k v) = unless_refused refused l (put eq l k v, Full (index_or_length eq l k) (lookup eq l k))
-  outcome refused l (InsertAt i k v) = unless_refused refused l (cond (nat_lt (length l) i) (l, OutOfRange) (put_at eq l i k v, Moved (lookup_full eq l k)))
-  outcome refused l (InsertKey k v) = unless_refused refused l (put_key eq l k v, Pair (lookup_pair eq l k))
-  outcome refused l (OrInsert k v) = unless_refused refused l (option_map_or (λ i. l) (index_of eq l k) (l ++ (k, v) ∷ []), Kept (index_or_length eq l k) (not (is_some (index_of eq l k))))
+  outcome refused l (Insert k v) = unless_refused NoMemory refused l (put eq l k v, Value (lookup eq l k))
+  outcome refused l (InsertFull k v) = unless_refused NoMemory refused l (put eq l k v, Full (index_or_length eq l k) (lookup eq l k))
+  outcome refused l (InsertAt i k v) = unless_refused NoMemory refused l (cond (nat_lt (length l) i) (l, OutOfRange) (put_at eq l i k v, Moved (lookup_full eq l k)))
+  outcome refused l (InsertKey k v) = unless_refused NoMemory refused l (put_key eq l k v, Pair (lookup_pair eq l k))
+  outcome refused l (OrInsert k v) = unless_refused NoMemory refused l (option_map_or (λ i. l) (index_of eq l k) (l ++ (k, v) ∷ []), Kept (index_or_length eq l k) (not (is_some (index_of eq l k))))
   outcome refused l (IndexOf k) = (l, Place (index_of eq l k))
   outcome refused l (ContainsKey k) = (l, Truth (is_some (index_of eq l k)))
   outcome refused l Len = (l, Number (length l))
@@ -69,7 +57,7 @@ module _ {K V : Type 0} (eq : K → K → Bool) (eq_value : V → V → Bool) (k
   outcome refused l (Truncate len) = (take len l, Done)
   outcome refused l Clear = ([], Done)
   outcome refused l Reverse = (reverse l, Done)
-  outcome refused l (Append other) = unless_refused refused l (puts eq l other.entries, Done)
+  outcome refused l (Append other) = unless_refused NoMemory refused l (puts eq l other.entries, Done)
   outcome refused l (Equals other) = (l, Truth (has_same_counts eq eq_value l other.entries))
   outcome refused l _ = (l, NoMemory)
 
@@ -202,7 +190,7 @@ module _ {K V : Type 0} (eq : K → K → Bool) (eq_value : V → V → Bool) (k
   pub runs_alike : (l : List (K × V)) (commands : List (MapCommand K V)) (replies others : List (MapReply K V)) (m n : List (K × V)) → ListRun eq eq_value keys values l commands replies m → ListRun eq eq_value keys values l commands others n → RefusedAlike replies others → (n ≡ m) × ((Any HoldsClones commands → ClonesAreSame keys.is_clone × ClonesAreSame values.is_clone) → AllZip RepliesAlike replies others)
   runs_alike l [] [] [] m n run again refused = (again ∙ sym run, λ one. tt)
   runs_alike l (c ∷ cs) (r ∷ rs) (s ∷ ss) m n run again refused =
-      let step = steps_alike l c r s run.0 again.0 run.1 again.1 (refused_together r s (refused 0)) in
+      let step = steps_alike l c r s run.0 again.0 run.1 again.1 (refused_together NoMemory is_refused refl refused_is r s (refused 0)) in
       let rest = runs_alike run.0 cs rs ss m n run.2 (subst (λ mid. ListRun eq eq_value keys values mid cs ss n) step.0 again.2) (λ i. refused (suc i)) in
       (rest.0, λ one. (step.1 (λ clones. one (0, c, omega arith, refl, clones)), rest.1 (λ any. one (any_later HoldsClones c cs any))))
   runs_alike l [] (r ∷ rs) others m n run again refused = absurd run

@@ -1,6 +1,6 @@
 -- Runs on a map with spare capacity for all keys that they insert. Each step leaves the capacity and enough of it.
-use Rattle.std.proofs.Common.{arith, ◌≡◌, ◌≢◌, ◌+◌, ◌-◌, ◌≤◌, ◌&&◌, ℕ, All, Any, Bool, true, false, IsSomeAnd, List, [], ◌∷◌, None, Option, Some, ap, length, nat_lt, refl, subst, suc, sum_by, sym, zero, ◌∙◌}
-use Rattle.std.proofs.lemmas.{Bool.cond_both, List.Edits.length-swap, List.Elements.All-head, List.Elements.All-tail, List.Sums.sum_by-cons, List.length-reverse, Option.none-some, Option.same_Some}
+use Rattle.std.proofs.Common.{arith, ◌≡◌, ◌+◌, ◌-◌, ◌≤◌, ◌&&◌, All, Any, Bool, List, [], ◌∷◌, ap, length, nat_lt, refl, subst, sum_by, sym, ◌∙◌}
+use Rattle.std.proofs.lemmas.{Bool.cond_both, List.Edits.length-swap, List.Elements.All-head, List.Elements.All-tail, List.Sums.sum_by-cons, List.length-reverse, Option.none-some}
 use Rattle.std.specs.declared.clone.Clone as clone
 use Rattle.vecmap.specs.MapRun.{CapacityStep, ListStep, PutsInRoom, Run, Step}
 use Rattle.vecmap.specs.declared.map_run.command.MapCommand.{MapCommand}
@@ -9,28 +9,17 @@ use Rattle.vecmap.specs.declared.map_run.reply.MapReply.{MapReply}
 use Rattle.vecmap.specs.declared.map_run.reply.MapReply.TheVariants.{NoMemory, OutOfRange}
 use Rattle.vecmap_map.specs.Contents.{Contents, HasRoom}
 use Rattle.vecmap_laws.proofs.LengthBounds.{length_put, length_put_at, length_put_key, length_put_new, length_puts, length_remove, length_swap_without, length_swap_without_first, length_take_at_most, length_without}
-use Rattle.vecmap_laws.proofs.MapRunsAlike.{any_later, has_outcome, is_refused, outcome, unless_refused}
+use Rattle.vecmap_laws.proofs.MapRunsAlike.{has_outcome, is_refused, outcome}
+use Rattle.vecmap_laws.proofs.RunSteps.{any_later, clone_succeeds, kept_at_most, none_added, none_refused_cons, unless_refused_at_most}
 use Rattle.vecmap_laws.specs.MapReplies.{HoldsClones, MakesNothing, NoneRefused, keys_inserted}
-
--- If no clone fails, that of an item does not.
-pub clone_succeeds : {T : Type 0} (P : T → Type 0) (item : Option T) → ((x : T) → P x) → IsSomeAnd item (λ x. ¬ (P x)) → ⊥
-clone_succeeds P None all h = h
-clone_succeeds P (Some x) all h = h (all x)
-
-pub none_added : {a b : ℕ} → a ≤ b → a ≤ b + 0
-none_added {a} {b} h = omega (arith, h)
-
-unless_refused_at_most : {K V : Type 0} (refused : Bool) (l : List (K × V)) (done : List (K × V) × MapReply K V) (n : ℕ) → length done.0 ≤ length l + n → length (unless_refused refused l done).0 ≤ length l + n
-unless_refused_at_most true l done n h = omega arith
-unless_refused_at_most false l done n h = h
 
 module _ {K V : Type 0} (eq : K → K → Bool) (eq_value : V → V → Bool) (keys : clone.Ghosts K) (values : clone.Ghosts V) where
   outcome_at_most : (refused : Bool) (l : List (K × V)) (command : MapCommand K V) → length (outcome eq eq_value keys values refused l command).0 ≤ length l + keys_inserted command
-  outcome_at_most refused l (Insert k v) = unless_refused_at_most refused l _ 1 (length_put eq l k v)
-  outcome_at_most refused l (InsertFull k v) = unless_refused_at_most refused l _ 1 (length_put eq l k v)
-  outcome_at_most refused l (InsertAt i k v) = unless_refused_at_most refused l _ 1 (cond_both {A = List (K × V) × MapReply K V} (nat_lt (length l) i) _ _ (λ p. length p.0 ≤ length l + 1) (λ e. omega arith) (λ e. length_put_at eq l i k v))
-  outcome_at_most refused l (InsertKey k v) = unless_refused_at_most refused l _ 1 (length_put_key eq l k v)
-  outcome_at_most refused l (OrInsert k v) = unless_refused_at_most refused l _ 1 (length_put_new eq l k v)
+  outcome_at_most refused l (Insert k v) = unless_refused_at_most NoMemory refused l _ 1 (length_put eq l k v)
+  outcome_at_most refused l (InsertFull k v) = unless_refused_at_most NoMemory refused l _ 1 (length_put eq l k v)
+  outcome_at_most refused l (InsertAt i k v) = unless_refused_at_most NoMemory refused l _ 1 (cond_both {A = List (K × V) × MapReply K V} (nat_lt (length l) i) _ _ (λ p. length p.0 ≤ length l + 1) (λ e. omega arith) (λ e. length_put_at eq l i k v))
+  outcome_at_most refused l (InsertKey k v) = unless_refused_at_most NoMemory refused l _ 1 (length_put_key eq l k v)
+  outcome_at_most refused l (OrInsert k v) = unless_refused_at_most NoMemory refused l _ 1 (length_put_new eq l k v)
   outcome_at_most refused l (Remove k) = none_added (length_without (λ p. eq k p.0) l)
   outcome_at_most refused l (RemoveEntry k) = none_added (length_without (λ p. eq k p.0) l)
   outcome_at_most refused l (SwapRemove k) = none_added (length_swap_without_first (λ p. eq k p.0) l)
@@ -42,11 +31,8 @@ module _ {K V : Type 0} (eq : K → K → Bool) (eq_value : V → V → Bool) (k
   outcome_at_most refused l (Truncate len) = none_added (length_take_at_most len l)
   outcome_at_most refused l Clear = omega arith
   outcome_at_most refused l Reverse = let e = length-reverse l in omega (arith, e)
-  outcome_at_most refused l (Append other) = unless_refused_at_most refused l _ (length other.entries) (length_puts eq l other.entries)
+  outcome_at_most refused l (Append other) = unless_refused_at_most NoMemory refused l _ (length other.entries) (length_puts eq l other.entries)
   outcome_at_most refused l _ = omega arith
-
-  kept_at_most : (l m : List (K × V)) → m ≡ l → length m ≤ length l + 0
-  kept_at_most l m e = let f : length m ≡ length l = ap length e in omega (arith, f)
 
   grows_at_most : (l : List (K × V)) (command : MapCommand K V) (reply : MapReply K V) (m : List (K × V)) → MakesNothing command → ListStep eq eq_value keys values l command reply m → length m ≤ length l + keys_inserted command
   grows_at_most l (Get k) reply m fits h = kept_at_most l m h.1
@@ -90,10 +76,6 @@ module _ {K V : Type 0} (eq : K → K → Bool) (eq_value : V → V → Bool) (k
   step_is_not_refused m (SplitOff i) n fits clones room s = fits
   step_is_not_refused m command n fits clones room s = s.0
 
-  none_refused_cons : (reply : MapReply K V) (replies : List (MapReply K V)) → reply ≢ NoMemory → NoneRefused replies → NoneRefused (reply ∷ replies)
-  none_refused_cons reply replies first rest zero e = first (same_Some reply NoMemory e)
-  none_refused_cons reply replies first rest (suc i) e = rest i e
-
   pub runs_in_room : (m : Contents K V) (commands : List (MapCommand K V)) (replies : List (MapReply K V)) (n : Contents K V) → All MakesNothing commands → HasRoom m (sum_by keys_inserted commands) → Run eq eq_value keys values m commands replies n → ((Any HoldsClones commands → NoCloneFails) → NoneRefused replies) × (n.capacity ≡ m.capacity)
   runs_in_room m [] [] n fits room run = (λ clones i e. none-some NoMemory e, ap (λ (x : Contents K V). x.capacity) run)
   runs_in_room m (c ∷ cs) (r ∷ rs) n fits room run =
@@ -104,6 +86,6 @@ module _ {K V : Type 0} (eq : K → K → Bool) (eq_value : V → V → Bool) (k
       let longer = grows_at_most m.entries c r run.0.entries first run.1.0 in
       let later : HasRoom run.0 (sum_by keys_inserted cs) = omega (arith, room, more, same, longer) in
       let rest = runs_in_room run.0 cs rs n (All-tail MakesNothing c cs fits) later run.2 in
-      (λ clones. none_refused_cons r rs (λ e. step_is_not_refused m c run.0 first (λ holds. clones (0, c, omega arith, refl, holds)) here (subst (λ reply. Step eq eq_value keys values m c reply run.0) e run.1)) (rest.0 (λ any. clones (any_later HoldsClones c cs any))), rest.1 ∙ same)
+      (λ clones. none_refused_cons NoMemory r rs (λ e. step_is_not_refused m c run.0 first (λ holds. clones (0, c, omega arith, refl, holds)) here (subst (λ reply. Step eq eq_value keys values m c reply run.0) e run.1)) (rest.0 (λ any. clones (any_later HoldsClones c cs any))), rest.1 ∙ same)
   runs_in_room m [] (r ∷ rs) n fits room run = absurd run
   runs_in_room m (c ∷ cs) [] n fits room run = absurd run

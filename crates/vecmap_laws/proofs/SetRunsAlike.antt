@@ -1,6 +1,6 @@
 -- Two runs of the same commands on the list of one set. A step is a function of the list, the command, and whether memory
 -- was refused, but for the clones and the capacities in its reply.
-use Rattle.std.proofs.Common.{arith, ◌≡◌, ◌↔◌, ◌-◌, ◌&&◌, ℕ, Any, Bool, true, false, List, [], ◌∷◌, Option, Some, ap, cond, length, nat_lt, not, refl, remove, reverse, slice_get, subst, suc, swap, sym, take, true≢false, ◌∙◌}
+use Rattle.std.proofs.Common.{arith, ◌≡◌, ◌-◌, ◌&&◌, ℕ, Any, Bool, true, false, List, [], ◌∷◌, Option, ap, cond, length, nat_lt, not, refl, remove, reverse, slice_get, subst, suc, swap, sym, take, true≢false, ◌∙◌}
 use Rattle.std.proofs.lemmas.Bool.{and_from, and_parts, cond_above, cond_below, cond-false, cond-true, false_from_ne_true, lt-ltb, ltb-true}
 use Rattle.std.specs.{Cmp.both_ways, List.AllZip, Set.is_member}
 use Rattle.std.specs.declared.clone.Clone as clone
@@ -12,7 +12,7 @@ use Rattle.vecmap.specs.declared.set_run.reply.SetReply.TheVariants.{Done, Item,
 use Rattle.vecmap_base.specs.Equality.{has_same_items, is_within}
 use Rattle.vecmap_base.specs.Items.{add, adds, both, item_index, only, put_item, stored_item, swap_without, swap_without_item, without_item}
 use Rattle.vecmap_set.specs.Operators.{symmetric_difference_of, union_of}
-use Rattle.vecmap_laws.proofs.MapRunsAlike.{any_later}
+use Rattle.vecmap_laws.proofs.RunSteps.{any_later, refused_together, unless_refused}
 use Rattle.vecmap_laws.proofs.SameClones.{same_clone_of, same_clones}
 use Rattle.vecmap_laws.specs.Runs.{ClonesAreSame, SetListRun}
 use Rattle.vecmap_laws.specs.SetReplies.{HoldsClones, RefusedAlike, RepliesAlike}
@@ -22,19 +22,9 @@ module _ {T : Type 0} where
   is_refused NoMemory = true
   is_refused _ = false
 
-  -- What is left and replied unless memory was refused.
-  abbrev pub unless_refused : Bool → List T → List T × SetReply T → List T × SetReply T
-  unless_refused refused s done = cond refused (s, NoMemory) done
-
   refused_is : (reply : SetReply T) → is_refused reply ≡ true → reply ≡ NoMemory
   refused_is NoMemory e = refl
   refused_is _ e = absurd (true≢false (sym e))
-
-  refused_together : (reply other : SetReply T) → (Some reply ≡ Some NoMemory) ↔ (Some other ≡ Some NoMemory) → is_refused reply ≡ is_refused other
-  refused_together reply other both =
-      both_ways (is_refused reply) (is_refused other)
-      (λ e. let f : other ≡ NoMemory = (let g : Some other ≡ Some NoMemory = both.0 (ap Some (refused_is reply e)) in cc) in ap is_refused f)
-      (λ e. let f : reply ≡ NoMemory = (let g : Some reply ≡ Some NoMemory = both.1 (ap Some (refused_is other e)) in cc) in ap is_refused f)
 
   alike_itself : (reply : SetReply T) → RepliesAlike reply reply
   alike_itself (Made set) = refl
@@ -47,8 +37,8 @@ module _ {T : Type 0} where
 module _ {T : Type 0} (eq : T → T → Bool) (clones : clone.Ghosts T) where
   -- What a command leaves and replies, unless the reply has clones or a new set, or is that of `IsDisjoint`.
   abbrev pub outcome : Bool → List T → SetCommand T → List T × SetReply T
-  outcome refused s (Insert x) = unless_refused refused s (add eq s x, Truth (not (is_member eq s x)))
-  outcome refused s (Replace x) = unless_refused refused s (put_item eq s x, Item (stored_item eq s x))
+  outcome refused s (Insert x) = unless_refused NoMemory refused s (add eq s x, Truth (not (is_member eq s x)))
+  outcome refused s (Replace x) = unless_refused NoMemory refused s (put_item eq s x, Item (stored_item eq s x))
   outcome refused s (IndexOf x) = (s, Place (item_index eq s x))
   outcome refused s (Contains x) = (s, Truth (is_member eq s x))
   outcome refused s Len = (s, Number (length s))
@@ -63,7 +53,7 @@ module _ {T : Type 0} (eq : T → T → Bool) (clones : clone.Ghosts T) where
   outcome refused s (Truncate len) = (take len s, Done)
   outcome refused s Clear = ([], Done)
   outcome refused s Reverse = (reverse s, Done)
-  outcome refused s (Append other) = unless_refused refused s (adds eq s other.elements, Done)
+  outcome refused s (Append other) = unless_refused NoMemory refused s (adds eq s other.elements, Done)
   outcome refused s (Equals other) = (s, Truth (has_same_items eq s other.elements))
   outcome refused s (IsSubset other) = (s, Truth (is_within eq s other.elements))
   outcome refused s (IsSuperset other) = (s, Truth (is_within eq other.elements s))
@@ -201,7 +191,7 @@ module _ {T : Type 0} (eq : T → T → Bool) (clones : clone.Ghosts T) where
   pub set_runs_alike : (s : List T) (commands : List (SetCommand T)) (replies others : List (SetReply T)) (t u : List T) → SetListRun eq clones s commands replies t → SetListRun eq clones s commands others u → RefusedAlike replies others → (u ≡ t) × ((Any HoldsClones commands → ClonesAreSame clones.is_clone) → AllZip RepliesAlike replies others)
   set_runs_alike s [] [] [] t u run again refused = (again ∙ sym run, λ one. tt)
   set_runs_alike s (c ∷ cs) (r ∷ rs) (q ∷ qs) t u run again refused =
-      let step = steps_alike s c r q run.0 again.0 run.1 again.1 (refused_together r q (refused 0)) in
+      let step = steps_alike s c r q run.0 again.0 run.1 again.1 (refused_together NoMemory is_refused refl refused_is r q (refused 0)) in
       let rest = set_runs_alike run.0 cs rs qs t u run.2 (subst (λ mid. SetListRun eq clones mid cs qs u) step.0 again.2) (λ i. refused (suc i)) in
       (rest.0, λ one. (step.1 (λ holds. one (0, c, omega arith, refl, holds)), rest.1 (λ any. one (any_later HoldsClones c cs any))))
   set_runs_alike s [] (r ∷ rs) others t u run again refused = absurd run

@@ -1,6 +1,6 @@
 -- Runs on a set with spare capacity for all elements that they add. Each step leaves the capacity and enough of it.
-use Rattle.std.proofs.Common.{arith, ◌≡◌, ◌≢◌, ◌+◌, ◌-◌, ◌≤◌, ◌&&◌, ℕ, All, Any, Bool, true, false, List, [], ◌∷◌, ap, length, nat_lt, refl, subst, suc, sum_by, sym, zero, ◌∙◌}
-use Rattle.std.proofs.lemmas.{Bool.cond_both, List.Edits.length-swap, List.Elements.All-head, List.Elements.All-tail, List.Sums.sum_by-cons, List.length-reverse, Option.none-some, Option.same_Some}
+use Rattle.std.proofs.Common.{arith, ◌≡◌, ◌+◌, ◌-◌, ◌≤◌, ◌&&◌, All, Any, Bool, List, [], ◌∷◌, ap, length, nat_lt, refl, subst, sum_by, sym, ◌∙◌}
+use Rattle.std.proofs.lemmas.{Bool.cond_both, List.Edits.length-swap, List.Elements.All-head, List.Elements.All-tail, List.Sums.sum_by-cons, List.length-reverse, Option.none-some}
 use Rattle.std.specs.declared.clone.Clone as clone
 use Rattle.vecmap.specs.SetRun.{AddsInRoom, CapacityStep, ListStep, Run, Step}
 use Rattle.vecmap.specs.declared.set_run.command.SetCommand.{SetCommand}
@@ -9,19 +9,14 @@ use Rattle.vecmap.specs.declared.set_run.reply.SetReply.{SetReply}
 use Rattle.vecmap.specs.declared.set_run.reply.SetReply.TheVariants.{NoMemory, Truth}
 use Rattle.vecmap_set.specs.Contents.{Contents, HasRoom}
 use Rattle.vecmap_laws.proofs.LengthBounds.{length_add, length_adds, length_put_item, length_remove, length_swap_without, length_swap_without_first, length_take_at_most, length_without}
-use Rattle.vecmap_laws.proofs.MapRunsAlike.{any_later}
-use Rattle.vecmap_laws.proofs.MapRunsInRoom.{clone_succeeds, none_added}
-use Rattle.vecmap_laws.proofs.SetRunsAlike.{has_outcome, is_refused, outcome, unless_refused}
+use Rattle.vecmap_laws.proofs.RunSteps.{any_later, clone_succeeds, kept_at_most, none_added, none_refused_cons, unless_refused_at_most}
+use Rattle.vecmap_laws.proofs.SetRunsAlike.{has_outcome, is_refused, outcome}
 use Rattle.vecmap_laws.specs.SetReplies.{HoldsClones, MakesNothing, NoneRefused, elements_added}
-
-unless_refused_at_most : {T : Type 0} (refused : Bool) (s : List T) (done : List T × SetReply T) (n : ℕ) → length done.0 ≤ length s + n → length (unless_refused refused s done).0 ≤ length s + n
-unless_refused_at_most true s done n h = omega arith
-unless_refused_at_most false s done n h = h
 
 module _ {T : Type 0} (eq : T → T → Bool) (clones : clone.Ghosts T) where
   outcome_at_most : (refused : Bool) (s : List T) (command : SetCommand T) → length (outcome eq clones refused s command).0 ≤ length s + elements_added command
-  outcome_at_most refused s (Insert x) = unless_refused_at_most refused s _ 1 (length_add eq s x)
-  outcome_at_most refused s (Replace x) = unless_refused_at_most refused s _ 1 (length_put_item eq s x)
+  outcome_at_most refused s (Insert x) = unless_refused_at_most NoMemory refused s _ 1 (length_add eq s x)
+  outcome_at_most refused s (Replace x) = unless_refused_at_most NoMemory refused s _ 1 (length_put_item eq s x)
   outcome_at_most refused s (Remove x) = none_added (length_without (eq x) s)
   outcome_at_most refused s (Take x) = none_added (length_without (eq x) s)
   outcome_at_most refused s (SwapRemove x) = none_added (length_swap_without_first (eq x) s)
@@ -33,11 +28,8 @@ module _ {T : Type 0} (eq : T → T → Bool) (clones : clone.Ghosts T) where
   outcome_at_most refused s (Truncate len) = none_added (length_take_at_most len s)
   outcome_at_most refused s Clear = omega arith
   outcome_at_most refused s Reverse = let e = length-reverse s in omega (arith, e)
-  outcome_at_most refused s (Append other) = unless_refused_at_most refused s _ (length other.elements) (length_adds eq s other.elements)
+  outcome_at_most refused s (Append other) = unless_refused_at_most NoMemory refused s _ (length other.elements) (length_adds eq s other.elements)
   outcome_at_most refused s _ = omega arith
-
-  kept_at_most : (s t : List T) → t ≡ s → length t ≤ length s + 0
-  kept_at_most s t e = let f : length t ≡ length s = ap length e in omega (arith, f)
 
   grows_at_most : (s : List T) (command : SetCommand T) (reply : SetReply T) (t : List T) → MakesNothing command → ListStep eq clones s command reply t → length t ≤ length s + elements_added command
   grows_at_most s (Get x) reply t fits h = kept_at_most s t h.1
@@ -81,10 +73,6 @@ module _ {T : Type 0} (eq : T → T → Bool) (clones : clone.Ghosts T) where
   step_is_not_refused s (Subtract other) t fits succeed room h = fits
   step_is_not_refused s command t fits succeed room h = h.0
 
-  none_refused_cons : (reply : SetReply T) (replies : List (SetReply T)) → reply ≢ NoMemory → NoneRefused replies → NoneRefused (reply ∷ replies)
-  none_refused_cons reply replies first rest zero e = first (same_Some reply NoMemory e)
-  none_refused_cons reply replies first rest (suc i) e = rest i e
-
   pub set_runs_in_room : (s : Contents T) (commands : List (SetCommand T)) (replies : List (SetReply T)) (t : Contents T) → All MakesNothing commands → HasRoom s (sum_by elements_added commands) → Run eq clones s commands replies t → ((Any HoldsClones commands → (x : T) → clones.is_infallible x) → NoneRefused replies) × (t.capacity ≡ s.capacity)
   set_runs_in_room s [] [] t fits room run = (λ succeed i e. none-some NoMemory e, ap (λ (x : Contents T). x.capacity) run)
   set_runs_in_room s (c ∷ cs) (r ∷ rs) t fits room run =
@@ -95,6 +83,6 @@ module _ {T : Type 0} (eq : T → T → Bool) (clones : clone.Ghosts T) where
       let longer = grows_at_most s.elements c r run.0.elements first run.1.0 in
       let later : HasRoom run.0 (sum_by elements_added cs) = omega (arith, room, more, same, longer) in
       let rest = set_runs_in_room run.0 cs rs t (All-tail MakesNothing c cs fits) later run.2 in
-      (λ succeed. none_refused_cons r rs (λ e. step_is_not_refused s c run.0 first (λ holds. succeed (0, c, omega arith, refl, holds)) here (subst (λ reply. Step eq clones s c reply run.0) e run.1)) (rest.0 (λ any. succeed (any_later HoldsClones c cs any))), rest.1 ∙ same)
+      (λ succeed. none_refused_cons NoMemory r rs (λ e. step_is_not_refused s c run.0 first (λ holds. succeed (0, c, omega arith, refl, holds)) here (subst (λ reply. Step eq clones s c reply run.0) e run.1)) (rest.0 (λ any. succeed (any_later HoldsClones c cs any))), rest.1 ∙ same)
   set_runs_in_room s [] (r ∷ rs) t fits room run = absurd run
   set_runs_in_room s (c ∷ cs) [] t fits room run = absurd run
