@@ -14,6 +14,7 @@ pub mod queries;
 pub mod removals;
 pub mod retaining;
 pub mod run_parts;
+pub mod run_replies;
 pub mod runs;
 pub mod set_removals;
 pub mod sorted;

@@ -63,7 +63,7 @@ module _ {K V : Type 0} (eq : K → K → Bool) (o : IsEquivalence eq) where
       ∙ filter_twice (λ p. not (eq p.0 k)) (λ p. not (is_member eq ks p.0)) l
       ∙ (λ t. filter (λ p. neither (eq p.0 k) (is_member eq ks p.0) t) l)
 
-map_id : {X : Type 0} (xs : List X) → map (λ x. x) xs ≡ xs
+pub map_id : {X : Type 0} (xs : List X) → map (λ x. x) xs ≡ xs
 map_id [] = refl
 map_id (x ∷ xs) = ap (λ ys. x ∷ ys) (map_id xs)
 

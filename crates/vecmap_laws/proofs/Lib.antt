@@ -22,6 +22,7 @@ pub mod FoundLemmas
 pub mod HeadLemmas
 pub mod IndexAfterLemmas
 pub mod Indices
+pub mod IndicesKept
 pub mod Inserted
 pub mod ItemAdditions
 pub mod ItemIndices
@@ -33,10 +34,13 @@ pub mod KeptLemmas
 pub mod Keys
 mod LawLemmas
 pub mod LazyLemmas
+pub mod LengthBounds
 pub mod Lookups
 pub use Rattle.vecmap_base.proofs.LoopLemmas
 pub mod MapCongruence
 pub mod MapEquality
+pub mod MapRunsAlike
+pub mod MapRunsInRoom
 pub mod MemberLemmas
 pub mod NestedLemmas
 pub use Rattle.vecmap_set.proofs.OperatorLemmas
@@ -54,11 +58,15 @@ pub mod RemovalLemmas
 pub mod Rules
 pub mod RunLemmas
 pub mod RunParts
+pub mod RunSteps
+pub mod SameClones
 pub mod SearchedMaps
 pub mod SearchedSets
 pub mod SetCongruence
 pub mod SetEquality
 pub mod SetRelations
+pub mod SetRunsAlike
+pub mod SetRunsInRoom
 pub mod SortedLemmas
 pub mod TwoKeys
 pub use Rattle.vecmap_base.proofs.UpdatedLemmas

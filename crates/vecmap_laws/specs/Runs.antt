@@ -1,4 +1,4 @@
--- Runs of commands on the list of a map or a set alone, whatever the capacity.
+-- Runs of commands on the list of a map or a set alone, whatever the capacity, and clones that are determined.
 use Rattle.std.specs.Prelude.{◌≡◌, Bool, List, [], ◌∷◌}
 use Rattle.std.specs.declared.clone.Clone as clone
 use Rattle.vecmap.specs.MapRun as maps
@@ -7,6 +7,10 @@ use Rattle.vecmap.specs.declared.map_run.command.MapCommand.{MapCommand}
 use Rattle.vecmap.specs.declared.map_run.reply.MapReply.{MapReply}
 use Rattle.vecmap.specs.declared.set_run.command.SetCommand.{SetCommand}
 use Rattle.vecmap.specs.declared.set_run.reply.SetReply.{SetReply}
+
+-- Two clones of a value are the same, as those of a number are.
+abbrev pub ClonesAreSame : {T : Type 0} → (T → T → Type 0) → Type 0
+ClonesAreSame {T} is_clone = (x y z : T) → is_clone x y → is_clone x z → z ≡ y
 
 module _ {K V : Type 0} (eq : K → K → Bool) (eq_value : V → V → Bool) (keys : clone.Ghosts K) (values : clone.Ghosts V) where
   -- The commands, in order, take the list l to the list m, and each has one reply.

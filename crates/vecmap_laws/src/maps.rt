@@ -41,7 +41,7 @@ pub use combining::combining_insertions_are_found;
 pub use congruence::equal_maps_stay_equal;
 pub use distinct::{distinct_keys_by_head_and_rest, found_pairs_are_stored};
 pub use entries::modified_values_are_inserted;
-pub use filters::filters_keep_lookups;
+pub use filters::{filters_change_indices, filters_keep_lookups};
 pub use first_value::first_values_win;
 pub use moving::{
     insertions_at_an_index_are_found, moves_keep_lookups, order_keeps_lookups,
@@ -60,8 +60,8 @@ pub use query_removals::{
     queries_find_alike, removals_by_queries_are_forgotten, removals_by_texts_are_forgotten,
 };
 pub use removals::{
-    moving_removals_are_forgotten, parts_keep_their_lookups, removals_are_filters,
-    removals_change_indices, removals_shorten,
+    drains_change_indices, moving_removals_are_forgotten, parts_keep_their_lookups,
+    removals_are_filters, removals_change_indices, removals_shorten,
 };
 pub use retaining::{
     retain_filters_or_writes, retain2_filters_or_writes, retaining_keeps_keys_distinct,

@@ -17,9 +17,13 @@ ghost use Rattle.vecmap_base.specs.Pairs.{puts};
 ghost use Rattle.vecmap_map.specs.Contents.{Contents};
 ghost use Rattle.vecmap_set.specs.Contents as set_contents;
 
+mod alike;
 mod parts;
+mod room;
 
+pub use alike::{runs_of_maps_reply_alike, runs_of_sets_reply_alike};
 pub use parts::{runs_of_maps_have_parts, runs_of_sets_have_parts};
+pub use room::{runs_of_maps_with_room_succeed, runs_of_sets_with_room_succeed};
 
 /// What a run does to a map, it does to the list of its pairs, whatever the capacity.
 #[tactic(auto, using(crate::proofs::RunLemmas::run_of_list))]

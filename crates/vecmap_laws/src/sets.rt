@@ -43,9 +43,9 @@ pub use presence::{
 };
 pub use queries::queries_find_as_elements;
 pub use removals::{
-    filters_keep_members, parts_keep_their_members, removals_are_filters,
-    removals_by_queries_keep_other_elements, removals_change_indices, removals_keep_other_elements,
-    removals_shorten,
+    drains_change_indices, filters_change_indices, filters_keep_members, parts_keep_their_members,
+    removals_are_filters, removals_by_queries_keep_other_elements, removals_change_indices,
+    removals_keep_other_elements, removals_shorten,
 };
 pub use retaining::retain_filters;
 pub use sorted::{binary_searches_find_indices, sorts_of_sorted_sets_change_nothing};

@@ -4,14 +4,16 @@ ghost use Rattle.std.specs.Prelude.{◌≡◌, ◌-◌, ◌<◌, ℕ, List, None
 ghost use Rattle.std.specs.Set.{is_member};
 ghost use Rattle.std.specs.declared.alloc.Global.{Global};
 ghost use Rattle.vecmap.specs.Pairs.{HasDistinctKeys, has_text, index_of, lookup, lookup_by};
-ghost use Rattle.vecmap_laws.specs.Removals.{below, swapped};
+ghost use Rattle.vecmap.specs.Ranges.{IsRangeWithin};
+ghost use Rattle.vecmap_laws.specs.Removals.{below, drained, filtered, swapped};
 
 use vecmap::{Equivalent, VecMap};
 use vecmap_laws::maps::{
-    filters_keep_lookups, moving_removals_are_forgotten, order_keeps_lookups,
-    parts_keep_their_lookups, queries_find_alike, removals_are_filters,
-    removals_by_queries_are_forgotten, removals_by_texts_are_forgotten, removals_change_indices,
-    removals_shorten, retain_filters_or_writes,
+    drains_change_indices, filters_change_indices, filters_keep_lookups,
+    moving_removals_are_forgotten, order_keeps_lookups, parts_keep_their_lookups,
+    queries_find_alike, removals_are_filters, removals_by_queries_are_forgotten,
+    removals_by_texts_are_forgotten, removals_change_indices, removals_shorten,
+    retain_filters_or_writes,
 };
 
 /// Removes each of the keys that is present.
@@ -71,14 +73,31 @@ pub fn keep_first<K: Eq + Drop, V: Drop>(map: &mut VecMap<K, V>, len: usize)
     map.truncate(len);
 }
 
-/// Keeps the pairs whose values are below a limit. A key finds its value if that is below the limit.
+/// Removes the pairs from an index up to, but not including, another. The index of each later key is less by their
+/// number.
+pub fn cut_out<K: Eq + Drop, V: Drop>(map: &mut VecMap<K, V>, from: usize, to: usize)
+    requires within { IsRangeWithin from to (length map.old.entries) }
+    requires distinct { HasDistinctKeys K.eq map.old.entries }
+    ensures { (key : K) → index_of K.eq map.new.entries key
+        ≡ drained from to (index_of K.eq map.old.entries key) }
+{
+    drains_change_indices::<K, V>();
+    map.drain(from..to);
+}
+
+/// Keeps the pairs whose values are below a limit. A key finds its value if that is below the limit. Its index is then
+/// the number of earlier pairs that are kept.
 pub fn keep_small(map: &mut VecMap<u32, u32>, limit: u32)
     requires { HasDistinctKeys nat_eq map.old.entries }
-    ensures { (key : ℕ) → lookup nat_eq map.new.entries key
+    ensures values { (key : ℕ) → lookup nat_eq map.new.entries key
         ≡ option_and_then (λ value. if nat_lt value limit then Some value else None)
         (lookup nat_eq map.old.entries key) }
+    ensures indices { (key : ℕ) → index_of nat_eq map.new.entries key
+        ≡ filtered (λ pair. nat_lt pair.1 limit) map.old.entries
+        (index_of nat_eq map.old.entries key) }
 {
     filters_keep_lookups::<u32, u32>();
+    filters_change_indices::<u32, u32>();
     let is_below = |_key: &u32, value: &mut u32| *value < limit;
     retain_filters_or_writes(&is_below);
     map.retain(is_below);

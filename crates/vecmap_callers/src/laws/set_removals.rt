@@ -3,14 +3,15 @@ ghost use Rattle.std.specs.Option.{option_map_or};
 ghost use Rattle.std.specs.Prelude.{◌&&◌, ◌≡◌, ◌-◌, ◌≤◌, ℕ, IfOk, Some, false, filter, if◌then◌else◌, is_some, length, nat_eq, nat_lt, not};
 ghost use Rattle.std.specs.Set.{is_member};
 ghost use Rattle.vecmap.specs.Items.{item_index, stored_item};
-ghost use Rattle.vecmap_laws.specs.Removals.{shifted};
+ghost use Rattle.vecmap.specs.Ranges.{IsRangeWithin};
+ghost use Rattle.vecmap_laws.specs.Removals.{drained, filtered, shifted};
 
 use std::alloc::AllocError;
 use vecmap::{Equivalent, VecSet};
 use vecmap_laws::sets::{
-    filters_keep_members, parts_keep_their_members, removals_are_filters,
-    removals_by_queries_keep_other_elements, removals_change_indices, removals_keep_other_elements,
-    removals_shorten, retain_filters,
+    drains_change_indices, filters_change_indices, filters_keep_members, parts_keep_their_members,
+    removals_are_filters, removals_by_queries_keep_other_elements, removals_change_indices,
+    removals_keep_other_elements, removals_shorten, retain_filters,
 };
 
 /// Removes an element, and leaves all others in order.
@@ -78,13 +79,31 @@ pub fn split_set<T: Eq>(set: &mut VecSet<T>, at: usize) -> Result<VecSet<T>, All
     set.split_off(at)
 }
 
-/// Keeps the numbers below a limit. A number is present if the stored one is below the limit.
+/// Removes the elements from an index up to, but not including, another. The index of each later element is less by
+/// their number.
+pub fn cut_out_of_set<T: Eq + Drop>(set: &mut VecSet<T>, from: usize, to: usize)
+    requires { IsRangeWithin from to (length set.old.elements) }
+    ensures { (item : T) → item_index T.eq set.new.elements item
+        ≡ drained from to (item_index T.eq set.old.elements item) }
+{
+    drains_change_indices::<T>();
+    // As in `drop_item`.
+    set.as_slice();
+    set.drain(from..to);
+}
+
+/// Keeps the numbers below a limit. A number is present if the stored one is below the limit. Its index is then the
+/// number of earlier numbers that are kept.
 pub fn keep_numbers_below(set: &mut VecSet<u32>, limit: u32)
-    ensures { (number : ℕ) → is_member nat_eq set.new.elements number
+    ensures found { (number : ℕ) → is_member nat_eq set.new.elements number
         ≡ option_map_or (λ stored. nat_lt stored limit) (stored_item nat_eq set.old.elements number)
         false }
+    ensures indices { (number : ℕ) → item_index nat_eq set.new.elements number
+        ≡ filtered (λ stored. nat_lt stored limit) set.old.elements
+        (item_index nat_eq set.old.elements number) }
 {
     filters_keep_members::<u32>();
+    filters_change_indices::<u32>();
     // As in `drop_item`.
     set.as_slice();
     let is_below = |number: &u32| *number < limit;

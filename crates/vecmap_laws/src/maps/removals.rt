@@ -4,7 +4,7 @@ ghost use Rattle.std.specs.Prelude.{◌≡◌, ◌-◌, ◌≤◌, ◌||◌, ℕ
 ghost use Rattle.std.specs.Set.{is_member};
 ghost use Rattle.vecmap_base.specs.Items.{swap_without};
 ghost use Rattle.vecmap_base.specs.Pairs.{HasDistinctKeys, index_of, lookup, swap_without_key, without_key};
-ghost use Rattle.vecmap_laws.specs.Removals.{below, shifted, swapped, without_keys};
+ghost use Rattle.vecmap_laws.specs.Removals.{below, drained, shifted, swapped, without_keys};
 
 /// If no keys repeat, a removal leaves the pairs of the other keys, in order. Many removals leave the pairs whose keys
 /// are none of the removed ones.
@@ -80,4 +80,13 @@ pub fn parts_keep_their_lookups<K: Eq, V>()
         → index_of K.eq (take n l) q ≡ below n (index_of K.eq l q) }
     ensures back_index { (l : List (K × V)) (n i : ℕ) (q : K) → index_of K.eq l q ≡ Some i → n ≤ i
         → index_of K.eq (drop n l) q ≡ Some (i - n) }
+{}
+
+/// If no keys repeat, a key in front of a drained range keeps its index. One behind it loses the length of the range.
+///
+/// A key of the range is absent, and so is one that was absent before.
+#[tactic(auto, using(crate::proofs::IndicesKept::index_of_remove_range))]
+pub fn drains_change_indices<K: Eq, V>()
+    ensures { (l : List (K × V)) → HasDistinctKeys K.eq l → (i j : ℕ) → i ≤ j → (q : K)
+        → index_of K.eq (remove_range l i j) q ≡ drained i j (index_of K.eq l q) }
 {}

@@ -4,7 +4,7 @@ ghost use Rattle.std.specs.Option.{option_map_or};
 ghost use Rattle.std.specs.Prelude.{◌&&◌, ◌≡◌, ◌-◌, ◌≤◌, ◌||◌, ℕ, Bool, List, Some, drop, false, filter, if◌then◌else◌, is_some, length, nat_lt, not, remove, slice_get, take};
 ghost use Rattle.std.specs.Set.{is_member};
 ghost use Rattle.vecmap_base.specs.Items.{item_index, stored_item, swap_without, swap_without_first, swap_without_item, without_first, without_item};
-ghost use Rattle.vecmap_laws.specs.Removals.{below, shifted, swapped};
+ghost use Rattle.vecmap_laws.specs.Removals.{below, drained, filtered, shifted, swapped};
 
 use vecmap_base::Equivalent;
 
@@ -93,4 +93,22 @@ pub fn parts_keep_their_members<T: Eq>()
 pub fn filters_keep_members<T: Eq>()
     ensures { (test : T → Bool) (s : List T) → IsDistinct T.eq s → (y : T)
         → is_member T.eq (filter test s) y ≡ option_map_or test (stored_item T.eq s y) false }
+{}
+
+/// An element in front of a drained range keeps its index. One behind it loses the length of the range.
+///
+/// An element of the range is absent, and so is one that was absent before.
+#[tactic(auto, using(crate::proofs::IndicesKept::item_index_remove_range))]
+pub fn drains_change_indices<T: Eq>()
+    ensures { (s : List T) → IsDistinct T.eq s → (i j : ℕ) → i ≤ j → (y : T)
+        → item_index T.eq (remove_range s i j) y ≡ drained i j (item_index T.eq s y) }
+{}
+
+/// The index of an element among those that pass a test, as after `retain`, is the number of earlier ones that pass.
+///
+/// An element that does not pass is absent, and so is one that was absent before.
+#[tactic(auto, using(crate::proofs::IndicesKept::item_index_filter))]
+pub fn filters_change_indices<T: Eq>()
+    ensures { (test : T → Bool) (s : List T) → IsDistinct T.eq s → (y : T)
+        → item_index T.eq (filter test s) y ≡ filtered test s (item_index T.eq s y) }
 {}
