@@ -1,8 +1,10 @@
 -- Paths in two parts: reads, changes and removals along the first part and then the second.
-use Rattle.std.specs.Prelude.{◌≡◌, ◌++◌, ℕ, IsTrue, List, [], ◌∷◌, None, Option, Some, String, bytes_eq, false, remove, string_eq, refl}
+use Rattle.std.specs.Prelude.{◌≡◌, ◌⊎◌, ◌++◌, ℕ, IsTrue, List, [], ◌∷◌, None, Option, Some, String, bytes_eq, false, remove, string_eq, true, refl}
 use Rattle.std.specs.Cmp.Lexicographic.{nat_list_eq_equiv}
 use Rattle.std.specs.Option.{option_and_then, option_map, option_map_or}
 use Rattle.std.proofs.Common.{ap, sym, ◌∙◌, inl, inr}
+use Rattle.std.proofs.lemmas.Bool.{cases_Bool}
+use Rattle.std.proofs.lemmas.Slice.Eq.{bytes_eq-Decides}
 use Rattle.std.specs.declared.alloc.Global.{Global}
 use Rattle.vecmap.specs.Contents.{with_entries}
 use Rattle.vecmap.specs.Pairs.{HasDistinctKeys, has_text, index_by, lookup, lookup_by, without_by}
@@ -52,6 +54,19 @@ parted_further [] other below under h = absurd h
 parted_further (name ∷ names) [] below under h = absurd h
 parted_further (name ∷ names) (next ∷ others) below under (inl apart) = inl apart
 parted_further (name ∷ names) (next ∷ others) below under (inr h) = inr (h.0, parted_further names others below under h.1)
+
+-- Two paths part, unless one of them is the beginning of the other.
+pub parted_unless_continued : (path other : List (List ℕ)) → ((below : List (List ℕ)) → other ≡ path ++ below → ⊥) → ((below : List (List ℕ)) → path ≡ other ++ below → ⊥) → ArePartedPaths path other
+parted_unless_continued [] other g h = absurd (g other refl)
+parted_unless_continued (name ∷ names) [] g h = absurd (h (name ∷ names) refl)
+parted_unless_continued (name ∷ names) (next ∷ others) g h = by (parted_unless_continued names others) (cases_Bool (bytes_eq name next))
+  where
+    by : (((below : List (List ℕ)) → others ≡ names ++ below → ⊥) → ((below : List (List ℕ)) → names ≡ others ++ below → ⊥) → ArePartedPaths names others)
+        → (bytes_eq name next ≡ true) ⊎ (bytes_eq name next ≡ false) → ArePartedPaths (name ∷ names) (next ∷ others)
+    by rest (inr e) = inl e
+    by rest (inl e) =
+        let same : name ≡ next = (bytes_eq-Decides name next).0 e in
+        inr (same, rest (λ below is. g below (λ i. sym same i ∷ is i)) (λ below is. h below (λ i. same i ∷ is i)))
 
 -- The removal of the members of a text leaves what another text finds, even if names repeat.
 other_text_after : (l : List (String Global × Json)) (name other : List ℕ) → bytes_eq name other ≡ false → lookup_by (has_text other) (without_by (has_text name) l) ≡ lookup_by (has_text other) l

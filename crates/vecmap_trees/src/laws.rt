@@ -20,8 +20,7 @@ pub fn paths_are_followed_in_parts()
 
 /// A change at a path is seen below the path, and above it.
 ///
-/// Below, it is seen in the changed value. Above, the value is the old one with the change at the rest of the path. With
-/// `changes_are_not_seen_elsewhere`, this is what each path finds after a change.
+/// Below, it is seen in the changed value. Above, the value is the old one with the change at the rest of the path.
 pub fn changes_are_seen_below_and_above()
     ensures below_path { (path below : List (List ℕ)) (f : Json → Json) (tree : Json)
         → at_path (path ++ below) (changed_at path f tree)
@@ -41,16 +40,23 @@ pub fn changes_are_not_seen_elsewhere()
 
 /// Two paths part as seen from either of them, and still part with more names after each.
 pub fn parted_paths_stay_parted()
-    ensures swapped { (path other : List (List ℕ)) → ArePartedPaths path other
+    ensures either_way { (path other : List (List ℕ)) → ArePartedPaths path other
         → ArePartedPaths other path }
     ensures continued { (path other below under : List (List ℕ)) → ArePartedPaths path other
         → ArePartedPaths (path ++ below) (other ++ under) }
 {}
 
+/// Two paths part, unless one of them is the beginning of the other.
+pub fn paths_part_unless_one_continues_the_other()
+    ensures { (path other : List (List ℕ))
+        → ((below : List (List ℕ)) → other ≡ path ++ below → ⊥)
+        → ((below : List (List ℕ)) → path ≡ other ++ below → ⊥) → ArePartedPaths path other }
+{}
+
 /// If no names repeat, a member that was removed from the object at a path is not found. The values of its other members,
 /// and what stands below them, are as before.
 pub fn removed_members_are_not_found()
-    ensures none { (path : List (List ℕ)) (name : List ℕ) (tree : Json) → HasDistinctNames tree
+    ensures absent { (path : List (List ℕ)) (name : List ℕ) (tree : Json) → HasDistinctNames tree
         → at_path (path ++ name ∷ []) (changed_at path (without_member name) tree) ≡ None }
     ensures others { (path : List (List ℕ)) (name other : List ℕ) (below : List (List ℕ))
         (tree : Json) → bytes_eq name other ≡ false

@@ -8,7 +8,8 @@ use vecmap::Refused;
 use vecmap_trees::Json;
 use vecmap_trees::laws::{
     changes_are_found, changes_are_not_seen_elsewhere, changes_are_seen_below_and_above,
-    parted_paths_stay_parted, paths_are_followed_in_parts, removed_members_are_not_found,
+    parted_paths_stay_parted, paths_are_followed_in_parts,
+    paths_part_unless_one_continues_the_other, removed_members_are_not_found,
 };
 
 /// Returns the value at a path below the value at another path.
@@ -50,6 +51,19 @@ pub fn replace_here(tree: &mut Json, path: &[&str], value: Json) -> bool
     tree.write_at(path, value)
 }
 
+/// Replaces the value at a path, if there is one. What stands at a path is as before, unless one of the two paths is the
+/// beginning of the other.
+pub fn replace_only(tree: &mut Json, path: &[&str], value: Json) -> bool
+    ensures { (other : List (List ℕ))
+        → ((below : List (List ℕ)) → other ≡ map (λ name. name.now) path.now ++ below → ⊥)
+        → ((below : List (List ℕ)) → map (λ name. name.now) path.now ≡ other ++ below → ⊥)
+        → at_path other tree.new ≡ at_path other tree.old }
+{
+    changes_are_not_seen_elsewhere();
+    paths_part_unless_one_continues_the_other();
+    tree.write_at(path, value)
+}
+
 /// Sets values at two paths that part. Both are found.
 pub fn set_both(
     tree: &mut Json,
@@ -61,7 +75,7 @@ pub fn set_both(
 ) -> Result<(), Refused<Json>>
     requires { ArePartedPaths (map (λ name. name.now) path.now)
         (map (λ name. name.now) other.now) }
-    ensures first { OnOk result (at_path (map (λ name. name.now) path.now) tree.new ≡ Some value) }
+    ensures found { OnOk result (at_path (map (λ name. name.now) path.now) tree.new ≡ Some value) }
     ensures second { OnOk result (at_path (map (λ name. name.now) other.now) tree.new
         ≡ Some other_value) }
 {
@@ -73,7 +87,7 @@ pub fn set_both(
 /// Removes a member of the object at a path. It is then not found, and each other member is as before.
 pub fn forget(tree: &mut Json, path: &[&str], name: &str)
     requires { HasDistinctNames tree.old }
-    ensures none { at_path (map (λ name. name.now) path.now ++ name.now ∷ []) tree.new ≡ None }
+    ensures absent { at_path (map (λ name. name.now) path.now ++ name.now ∷ []) tree.new ≡ None }
     ensures others { (other : List ℕ) (below : List (List ℕ)) → bytes_eq name.now other ≡ false
         → at_path (map (λ name. name.now) path.now ++ other ∷ below) tree.new
         ≡ at_path (map (λ name. name.now) path.now ++ other ∷ below) tree.old }
