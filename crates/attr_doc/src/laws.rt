@@ -83,10 +83,10 @@ pub fn same_documents_stay_same()
     ensures found { (d e : Sections) → AreSame d e → (s r n q : List ℕ)
         → str_eq_ignore_ascii_case s r ≡ true → str_eq_ignore_ascii_case n q ≡ true
         → text_of d s n ≡ text_of e r q }
-    ensures put { (d e : Sections) → AreSame d e → (s r n q : List ℕ)
+    ensures after_set { (d e : Sections) → AreSame d e → (s r n q : List ℕ)
         → str_eq_ignore_ascii_case s r ≡ true → str_eq_ignore_ascii_case n q ≡ true
         → (t u : String Global) → string_bytes t ≡ string_bytes u
         → AreSame (with_text d s n t) (with_text e r q u) }
-    ensures append { (a b c d : Sections) → IsDocument c → IsDocument d → AreSame a b
+    ensures after_merge { (a b c d : Sections) → IsDocument c → IsDocument d → AreSame a b
         → AreSame c d → AreSame (merge_of a c) (merge_of b d) }
 {}

@@ -4,8 +4,8 @@ use Rattle.attr_doc.proofs.laws.same_documents_stay_same.Goals as goal
 pub returns-clause-found : goal.returns-clause-found
 returns-clause-found c = same_texts
 
-pub returns-clause-put : goal.returns-clause-put
-returns-clause-put c = same_after_set
+pub returns-clause-after_set : goal.returns-clause-after_set
+returns-clause-after_set c = same_after_set
 
-pub returns-clause-append : goal.returns-clause-append
-returns-clause-append c = same_after_merge
+pub returns-clause-after_merge : goal.returns-clause-after_merge
+returns-clause-after_merge c = same_after_merge
