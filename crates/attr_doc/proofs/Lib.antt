@@ -1,3 +1,4 @@
+mod AfterChanges
 mod ChangeLemmas
 mod DocumentLemmas
 mod EqualityLemmas

@@ -26,6 +26,14 @@ sections_of l = map_values (λ m. m.entries) l
 abbrev pub text_of : Sections → List ℕ → List ℕ → Option (List ℕ)
 text_of d section name = option_and_then (λ texts. option_map string_bytes (lookup str_eq_ignore_ascii_case texts name)) (lookup str_eq_ignore_ascii_case d section)
 
+-- The texts of a section, or none if it does not exist.
+abbrev pub section_of : Sections → List ℕ → Section
+section_of d section = unwrap_or (lookup str_eq_ignore_ascii_case d section) []
+
+-- Two documents have the same texts under the same names. Order makes no difference.
+abbrev pub AreSame : Sections → Sections → Type 0
+AreSame d e = (section name : List ℕ) → text_of d section name ≡ text_of e section name
+
 -- No name of the section repeats, and it has at least one.
 pub record IsSection (texts : Section) : Type 0 where
   pub distinct : HasDistinctKeys str_eq_ignore_ascii_case texts
@@ -38,7 +46,7 @@ pub record IsDocument (d : Sections) : Type 0 where
 
 -- The document `d` with a text stored in its section, or in a new last section.
 abbrev pub with_text : Sections → List ℕ → List ℕ → String Global → Sections
-with_text d section name text = put str_eq_ignore_ascii_case d section (put str_eq_ignore_ascii_case (unwrap_or (lookup str_eq_ignore_ascii_case d section) []) name text)
+with_text d section name text = put str_eq_ignore_ascii_case d section (put str_eq_ignore_ascii_case (section_of d section) name text)
 
 -- The document `d` with a section: its texts are inserted into an existing section of its name, and a new section is
 -- appended.

@@ -1,8 +1,8 @@
 //! The type of documents.
-ghost use Rattle.attr_doc.specs.Documents.{IsDocument, merge_of, text_of, with_text};
+ghost use Rattle.attr_doc.specs.Documents.{AreSame, IsDocument, merge_of, text_of, with_text};
 ghost use Rattle.std.specs.Map.{keys_of};
 ghost use Rattle.std.specs.Map.Iter.{deref};
-ghost use Rattle.std.specs.Prelude.{◌≡◌, ◌<◌, ◌↔◌, ℕ, IfErr, IfOk, IsOk, IsSome, IsTrue, List, OnErr, OnOk, [], length, option_copied, option_map, string_bytes};
+ghost use Rattle.std.specs.Prelude.{◌≡◌, ◌<◌, ◌↔◌, IfErr, IfOk, IsOk, IsSome, IsTrue, OnErr, OnOk, [], length, option_copied, option_map, string_bytes};
 ghost use Rattle.vecmap.specs.Walks.{ShowsAll};
 
 use crate::Name;
@@ -192,9 +192,7 @@ impl Document {
     /// page.same(&other) // true
     /// ```
     pub fn same(&self, other: &Document) -> bool
-        ensures { IsTrue result
-            ↔ ((section name : List ℕ)
-            → text_of self.now section name ≡ text_of other.now section name) }
+        ensures { IsTrue result ↔ AreSame self.now other.now }
     {
         self.sections == other.sections
     }
@@ -216,6 +214,13 @@ impl Document {
         ensures { ShowsAll deref (keys_of self.now) result }
     {
         self.sections.keys()
+    }
+
+    // Does nothing. Its clause is the invariant of documents, which only code that reads the field knows.
+    pub(crate) fn open(&self)
+        ensures { IsDocument self.now }
+    {
+        let _sections = &self.sections;
     }
 }
 

@@ -6,6 +6,7 @@
 #![tactic(auto)]
 
 mod document;
+pub mod laws;
 mod merge;
 mod name;
 mod set;

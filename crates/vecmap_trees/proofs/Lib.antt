@@ -1,2 +1,3 @@
 pub mod MergeLemmas
 pub mod PathLemmas
+pub mod PathParts

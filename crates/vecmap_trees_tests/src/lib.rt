@@ -5,12 +5,15 @@
 //! - `comments` has the examples of the doc comments of `vecmap_trees`.
 //!
 //! `checks` has the functions by which they assert, and `telling` prints a refusal and repeats the call.
+//!
+//! `laws` has a caller of each law of trees.
 #![tactic(auto)]
 
 #[cfg(test)]
 mod checks;
 #[cfg(test)]
 mod comments;
+pub mod laws;
 #[cfg(test)]
 mod refusals;
 #[cfg(test)]
