@@ -7,4 +7,5 @@ pub mod program;
 pub mod refused;
 #[cfg(test)]
 mod tests;
+pub mod trees;
 pub mod values;

@@ -1,8 +1,9 @@
 //! Tests of the functions of the page.
-use super::{errors, keys, parts, program, refused};
+use super::{errors, keys, parts, program, refused, trees};
 use keys::{Place, Ticket};
 use std::string::String;
 use std::test::Fail;
+use trees::Node;
 use vecmap::{VecMap, VecSet, vecmap};
 
 #[test]
@@ -70,5 +71,24 @@ fn a_line_is_inserted(rt: HostRuntime) -> Result<(), Fail> {
     let mut lines = VecMap::new(alloc);
     assert!(rt; refused::put_line(&mut lines, 3, String::from_str(alloc, "three")?).is_none());
     assert!(rt; lines.get(&3).is_some_and(|line| line.as_str() == "three"));
+    Ok(())
+}
+
+#[test]
+fn merged_trees_have_the_children_of_both(rt: HostRuntime) -> Result<(), Fail> {
+    let alloc = rt.alloc();
+    let mut tree = Node::new(alloc, 0);
+    trees::set_at(&mut tree, alloc, "font.size", 12)?;
+    trees::set_at(&mut tree, alloc, "title", 1)?;
+    let mut other = Node::new(alloc, 9);
+    trees::set_at(&mut other, alloc, "font.bold", 7)?;
+    tree.merge(other)?;
+    assert!(rt; tree.number == 9 && tree.children.len() == 2);
+    assert!(rt;
+        tree.children.get("font").is_some_and(|font| {
+            let number_of = |name: &str| font.children.get(name).map(|node| node.number);
+            number_of("size") == Some(12) && number_of("bold") == Some(7)
+        })
+    );
     Ok(())
 }
