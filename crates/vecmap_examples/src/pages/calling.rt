@@ -2,6 +2,7 @@
 pub mod errors;
 pub mod imports;
 pub mod keys;
+pub mod measure;
 pub mod parts;
 pub mod program;
 pub mod refused;

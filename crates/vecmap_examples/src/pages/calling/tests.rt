@@ -1,5 +1,5 @@
 //! Tests of the functions of the page.
-use super::{errors, keys, parts, program, refused, trees};
+use super::{errors, keys, measure, parts, program, refused, trees};
 use keys::{Place, Ticket};
 use std::string::String;
 use std::test::Fail;
@@ -90,5 +90,27 @@ fn merged_trees_have_the_children_of_both(rt: HostRuntime) -> Result<(), Fail> {
             number_of("size") == Some(12) && number_of("bold") == Some(7)
         })
     );
+    Ok(())
+}
+
+#[test]
+fn a_method_that_calls_itself_merges_too(rt: HostRuntime) -> Result<(), Fail> {
+    let alloc = rt.alloc();
+    let leaf = |number: u32| measure::Node {
+        number,
+        children: VecMap::new(alloc),
+    };
+    let mut tree = leaf(1);
+    let mut other = leaf(2);
+    tree.children
+        .insert(String::from_str(alloc, "a")?, leaf(3))?;
+    for (name, number) in [("a", 4), ("b", 5)] {
+        other
+            .children
+            .insert(String::from_str(alloc, name)?, leaf(number))?;
+    }
+    tree.merge(other)?;
+    assert!(rt; tree.number == 2 && tree.children.len() == 2);
+    assert!(rt; tree.children.get("a").is_some_and(|node| node.number == 4));
     Ok(())
 }

@@ -24,7 +24,7 @@ impl Node {
     }
 }
 
-// The tree that is taken apart is the first parameter.
+// The tree that is moved is the first parameter.
 fn merge_into(other: Node, node: &mut Node) -> Result<(), AllocError> {
     node.number = other.number;
     for (name, child) in other.children {
