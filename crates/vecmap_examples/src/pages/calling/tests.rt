@@ -1,5 +1,5 @@
 //! Tests of the functions of the page.
-use super::{errors, keys, measure, parts, program, refused, trees};
+use super::{errors, keys, measure, parts, program, recursions, refused, trees};
 use keys::{Place, Ticket};
 use std::string::String;
 use std::test::Fail;
@@ -112,5 +112,25 @@ fn a_method_that_calls_itself_merges_too(rt: HostRuntime) -> Result<(), Fail> {
     tree.merge(other)?;
     assert!(rt; tree.number == 2 && tree.children.len() == 2);
     assert!(rt; tree.children.get("a").is_some_and(|node| node.number == 4));
+    Ok(())
+}
+
+#[test]
+fn recursions_write_at_each_depth(rt: HostRuntime) -> Result<(), Fail> {
+    let alloc = rt.alloc();
+    let mut tree = Node::new(alloc, 0);
+    trees::set_at(&mut tree, alloc, "font.size", 12)?;
+    trees::set_at(&mut tree, alloc, "title", 8)?;
+    assert!(rt; recursions::write_at(&mut tree, ["font", "size"].as_slice(), 48));
+    assert!(rt; !recursions::write_at(&mut tree, ["font", "bold"].as_slice(), 1));
+    recursions::halve(&mut tree);
+    recursions::halve_by_closure(&mut tree);
+    assert!(rt;
+        tree.children
+            .get("title")
+            .is_some_and(|node| node.number == 2)
+    );
+    assert!(rt; recursions::prune(&mut tree, 12) && tree.children.len() == 1);
+    assert!(rt; !recursions::prune(&mut tree, 13) && tree.children.is_empty());
     Ok(())
 }
