@@ -1,4 +1,5 @@
-//! Recursions over a tree that is written: over `get_mut` and `iter_mut`, and in closures of `update_values` and `retain`.
+//! Recursions over a tree that is written: over `get_mut` and `iter_mut`, and in closures of `update_values` and
+//! `retain`.
 use crate::pages::calling::trees::Node;
 
 /// Writes the number at a path of names, and returns `true` if the path leads to a node.
