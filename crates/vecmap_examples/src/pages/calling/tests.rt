@@ -1,8 +1,9 @@
 //! Tests of the functions of the page.
-use super::{errors, keys, parts, program, refused};
+use super::{errors, keys, measure, parts, program, recursions, refused, trees};
 use keys::{Place, Ticket};
 use std::string::String;
 use std::test::Fail;
+use trees::Node;
 use vecmap::{VecMap, VecSet, vecmap};
 
 #[test]
@@ -70,5 +71,66 @@ fn a_line_is_inserted(rt: HostRuntime) -> Result<(), Fail> {
     let mut lines = VecMap::new(alloc);
     assert!(rt; refused::put_line(&mut lines, 3, String::from_str(alloc, "three")?).is_none());
     assert!(rt; lines.get(&3).is_some_and(|line| line.as_str() == "three"));
+    Ok(())
+}
+
+#[test]
+fn merged_trees_have_the_children_of_both(rt: HostRuntime) -> Result<(), Fail> {
+    let alloc = rt.alloc();
+    let mut tree = Node::new(alloc, 0);
+    trees::set_at(&mut tree, alloc, "font.size", 12)?;
+    trees::set_at(&mut tree, alloc, "title", 1)?;
+    let mut other = Node::new(alloc, 9);
+    trees::set_at(&mut other, alloc, "font.bold", 7)?;
+    tree.merge(other)?;
+    assert!(rt; tree.number == 9 && tree.children.len() == 2);
+    assert!(rt;
+        tree.children.get("font").is_some_and(|font| {
+            let number_of = |name: &str| font.children.get(name).map(|node| node.number);
+            number_of("size") == Some(12) && number_of("bold") == Some(7)
+        })
+    );
+    Ok(())
+}
+
+#[test]
+fn a_method_that_calls_itself_merges_too(rt: HostRuntime) -> Result<(), Fail> {
+    let alloc = rt.alloc();
+    let leaf = |number: u32| measure::Node {
+        number,
+        children: VecMap::new(alloc),
+    };
+    let mut tree = leaf(1);
+    let mut other = leaf(2);
+    tree.children
+        .insert(String::from_str(alloc, "a")?, leaf(3))?;
+    for (name, number) in [("a", 4), ("b", 5)] {
+        other
+            .children
+            .insert(String::from_str(alloc, name)?, leaf(number))?;
+    }
+    tree.merge(other)?;
+    assert!(rt; tree.number == 2 && tree.children.len() == 2);
+    assert!(rt; tree.children.get("a").is_some_and(|node| node.number == 4));
+    Ok(())
+}
+
+#[test]
+fn recursions_write_at_each_depth(rt: HostRuntime) -> Result<(), Fail> {
+    let alloc = rt.alloc();
+    let mut tree = Node::new(alloc, 0);
+    trees::set_at(&mut tree, alloc, "font.size", 12)?;
+    trees::set_at(&mut tree, alloc, "title", 8)?;
+    assert!(rt; recursions::write_at(&mut tree, ["font", "size"].as_slice(), 48));
+    assert!(rt; !recursions::write_at(&mut tree, ["font", "bold"].as_slice(), 1));
+    recursions::halve(&mut tree);
+    recursions::halve_by_closure(&mut tree);
+    assert!(rt;
+        tree.children
+            .get("title")
+            .is_some_and(|node| node.number == 2)
+    );
+    assert!(rt; recursions::prune(&mut tree, 12) && tree.children.len() == 1);
+    assert!(rt; !recursions::prune(&mut tree, 13) && tree.children.is_empty());
     Ok(())
 }
