@@ -1,4 +1,4 @@
-//! The examples of `crates/vecmap/PROVING.md`, one file for each block of the page.
+//! The examples of `crates/vecmap/PROVING.md`: the blocks of the page, and what it names.
 pub mod count;
 pub mod fill;
 pub mod filter;

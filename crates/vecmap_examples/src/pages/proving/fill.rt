@@ -1,8 +1,6 @@
 //! Defaults for the keys that are absent.
-ghost use Rattle.std.specs.Map.{keys_of};
 ghost use Rattle.std.specs.Option.{option_or};
 ghost use Rattle.std.specs.Prelude.{◌≡◌, ◌≤◌, OnOk};
-ghost use Rattle.vecmap.specs.Items.{adds};
 ghost use Rattle.vecmap.specs.Pairs.{lookup};
 
 use vecmap::{Refused, VecMap};

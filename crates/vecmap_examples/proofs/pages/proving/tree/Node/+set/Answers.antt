@@ -1,7 +1,4 @@
-use Rattle.std.proofs.Common.{◌≡◌, ◌∷◌, Some, ap, nat_eq, rules, ◌∙◌}
-use Rattle.std.specs.Option.{option_and_then}
-use Rattle.vecmap.specs.Pairs.{lookup}
-use Rattle.vecmap_examples.specs.Paths.{value_at}
+use Rattle.std.proofs.Common.{rules}
 use Rattle.vecmap_examples.specs.declared.pages.proving.tree.Node.{out-Node}
 use Rattle.vecmap_examples.specs.declared.pages.proving.tree.Node.TheViews.{the_lemmas}
 use Rattle.vecmap_examples.proofs.pages.proving.tree.Node.+set.Goals as goal
