@@ -1,5 +1,6 @@
-//! The examples of `crates/vecmap/PROVING.md`, one file for each block of the page.
+//! The examples of `crates/vecmap/PROVING.md`: the blocks of the page, and what it names.
 pub mod count;
+pub mod fill;
 pub mod filter;
 pub mod greatest;
 pub mod inner;
@@ -10,9 +11,12 @@ pub mod merge;
 pub mod moved;
 pub mod pair;
 pub mod raise;
+pub mod rank;
+pub mod sections;
 pub mod set;
 pub mod signed;
 #[cfg(test)]
 mod tests;
 pub mod texts;
 pub mod total;
+pub mod tree;

@@ -1,7 +1,8 @@
 //! Tests of the functions of the page.
+use super::tree::Node;
 use super::{
-    count, filter, greatest, inner, intern, lookups, merge, moved, pair, raise, set, signed, texts,
-    total,
+    count, fill, filter, greatest, inner, intern, lookups, merge, moved, pair, raise, rank,
+    sections, set, signed, texts, total,
 };
 use std::alloc::{AllocError, Global};
 use std::string::String;
@@ -121,5 +122,56 @@ fn ports_and_levels_are_set(rt: HostRuntime) -> Result<(), Fail> {
     let mut levels = VecMap::new(alloc);
     signed::set_level(&mut levels, 1, -3)?;
     assert!(rt; levels.as_slice() == [(1, -3)].as_slice());
+    Ok(())
+}
+
+#[test]
+fn defaults_fill_in_and_players_are_ranked(rt: HostRuntime) -> Result<(), Fail> {
+    let alloc = rt.alloc();
+    let mut options = vecmap!(alloc; 1 => 10, 2 => 20);
+    fill::fill_in(&mut options, vecmap!(alloc; 2 => 0, 3 => 30))?;
+    assert!(rt; options.as_slice() == [(1, 10), (2, 20), (3, 30)].as_slice());
+    let mut scores = vecmap!(alloc; 1 => 5, 2 => 9, 3 => 5, 4 => 7);
+    rank::rank(&mut scores)?;
+    assert!(rt; scores.as_slice() == [(2, 9), (4, 7), (1, 5), (3, 5)].as_slice());
+    Ok(())
+}
+
+#[test]
+fn values_are_found_by_two_texts(rt: HostRuntime) -> Result<(), Fail> {
+    let alloc = rt.alloc();
+    let mut sections = VecMap::new(alloc);
+    sections::set_texts(&mut sections, "a", "x", 1)?;
+    sections::set_texts(&mut sections, "b", "x", 2)?;
+    sections::set_texts(&mut sections, "a", "x", 3)?;
+    assert!(rt; sections::get_texts(&sections, "a", "x") == Some(3));
+    assert!(rt; sections::get_texts(&sections, "b", "x") == Some(2));
+    assert!(rt; sections::get_texts(&sections, "b", "y").is_none());
+    let (section, name) = (String::from_str(alloc, "c")?, String::from_str(alloc, "y")?);
+    assert!(rt; sections::set_and_get(&mut sections, &section, &name, 4)? == Some(4));
+    assert!(rt; sections.len() == 3);
+    Ok(())
+}
+
+#[test]
+fn values_stand_at_paths(rt: HostRuntime) -> Result<(), Fail> {
+    let alloc = rt.alloc();
+    let leaf = |value| Node {
+        value,
+        below: VecMap::new(alloc),
+    };
+    let mut tree = Node {
+        value: 1,
+        below: vecmap!(alloc; 7 => leaf(2), 8 => leaf(3)),
+    };
+    assert!(rt; tree.set(&[7], 20) && !tree.set(&[9], 0) && !tree.set(&[7, 7], 0));
+    assert!(rt; (tree.get(&[]), tree.get(&[7]), tree.get(&[9])) == (Some(1), Some(20), None));
+    let other = Node {
+        value: u64::MAX,
+        below: vecmap!(alloc; 8 => leaf(30), 9 => leaf(40)),
+    };
+    tree.add(&other);
+    assert!(rt; (tree.get(&[]), tree.get(&[7]), tree.get(&[8])) == (Some(0), Some(20), Some(33)));
+    assert!(rt; tree.get(&[9]).is_none());
     Ok(())
 }
