@@ -131,10 +131,10 @@ pub fn removals_are_forgotten<K: Eq, V>()
 {}
 
 /// A lookup in a list of two parts finds what the first part has, or else what the second has.
-#[tactic(auto, using(crate::proofs::Parts::lookup_append))]
+#[tactic(auto, using(crate::proofs::Parts::lookup_by_append))]
 pub fn first_parts_are_found_first<K: Eq, V>()
-    ensures { (a b : List (K × V)) (q : K)
-        → lookup K.eq (a ++ b) q ≡ option_or (lookup K.eq a q) (lookup K.eq b q) }
+    ensures { (a b : List (K × V)) (test : K → Bool)
+        → lookup_by test (a ++ b) ≡ option_or (lookup_by test a) (lookup_by test b) }
 {}
 
 /// If a function is applied to each value, a lookup finds the function of the value that it found before.
