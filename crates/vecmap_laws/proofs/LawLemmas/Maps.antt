@@ -8,7 +8,8 @@ use Rattle.vecmap_laws.proofs.Combining.{keys_of_puts_with, lookup_put_with, loo
 use Rattle.vecmap_laws.proofs.DistinctKeys.{distinct_keys_clones, distinct_keys_remove, distinct_keys_reverse, distinct_keys_stored, distinct_keys_swap, distinct_keys_swap_without, distinct_keys_swap_without_by, distinct_keys_swap_without_key, distinct_keys_take, distinct_keys_with_value, distinct_keys_without, distinct_put, distinct_put_at, distinct_put_key, distinct_puts}
 use Rattle.vecmap_laws.proofs.DistinctParts.{distinct_keys_drop, distinct_keys_filter, distinct_keys_remove_range, distinct_keys_slice_range}
 use Rattle.vecmap_laws.proofs.DrainRuns.{drains_pull, keeps_pulled}
-use Rattle.vecmap_laws.proofs.EachValue.{lookup_map_values, map_values_put}
+use Rattle.vecmap_base.proofs.PairsLemmas.Indices.{lookup_by_map_values}
+use Rattle.vecmap_laws.proofs.EachValue.{map_values_put}
 use Rattle.vecmap_laws.proofs.EntryPuts.{entries_with_is_put, new_entries_with}
 use Rattle.vecmap_laws.proofs.FirstValue.{first_wins, keys_of_puts_new, lookup_made_first, lookup_put_new, lookup_puts_new, put_new_absent, put_new_present}
 use Rattle.vecmap_laws.proofs.HeadLemmas.{distinct_if_head_absent, head_has_no_index, head_has_no_value, rest_is_distinct}
@@ -47,7 +48,7 @@ pub ruleset entries_insert_alike = (entries_with_is_put, new_entries_with, put_s
 
 pub ruleset equal_keys_find_the_same = (lookup_congr, index_of_congr, is_some_lookup)
 
-pub ruleset functions_of_values_are_found = (lookup_map_values, map_values_put)
+pub ruleset functions_of_values_are_found = (lookup_by_map_values, map_values_put)
 
 pub ruleset insertions_are_found = (index_of_put, keys_of_put, put_absent, length_put)
 

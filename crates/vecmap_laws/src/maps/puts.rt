@@ -1,9 +1,9 @@
 //! Laws of lookups, indices and lengths after insertions and removals.
-ghost use Rattle.std.specs.Prelude.{◌≡◌, ◌+◌, ◌++◌, ◌∷◌, ℕ, IsSome, List, None, Some, [], drop, false, if◌then◌else◌, is_some, length, option_map, reverse, slice_get, take, true, unwrap_or};
+ghost use Rattle.std.specs.Prelude.{◌≡◌, ◌+◌, ◌++◌, ◌∷◌, ℕ, Bool, IsSome, List, None, Some, [], drop, false, if◌then◌else◌, is_some, length, option_map, reverse, slice_get, take, true, unwrap_or};
 ghost use Rattle.std.specs.Map.{keys_of};
 ghost use Rattle.std.specs.Option.{option_map_or, option_or};
 ghost use Rattle.vecmap_base.specs.Items.{add, adds, item_index, without_item};
-ghost use Rattle.vecmap_base.specs.Pairs.{HasDistinctKeys, index_of, index_or_length, lookup, map_values, put, put_key, puts, without_key};
+ghost use Rattle.vecmap_base.specs.Pairs.{HasDistinctKeys, index_of, index_or_length, lookup, lookup_by, map_values, put, put_key, puts, without_key};
 ghost use Rattle.vecmap_map.specs.Contents.{Contents, with_value_of};
 ghost use Rattle.vecmap_map.specs.Entry.{AreEntriesWith, entry_key, entry_map, entry_index_of};
 ghost use Rattle.vecmap_map.specs.declared.entry.Entry.{Entry};
@@ -131,10 +131,10 @@ pub fn removals_are_forgotten<K: Eq, V>()
 {}
 
 /// A lookup in a list of two parts finds what the first part has, or else what the second has.
-#[tactic(auto, using(crate::proofs::Parts::lookup_append))]
+#[tactic(auto, using(crate::proofs::Parts::lookup_by_append))]
 pub fn first_parts_are_found_first<K: Eq, V>()
-    ensures { (a b : List (K × V)) (q : K)
-        → lookup K.eq (a ++ b) q ≡ option_or (lookup K.eq a q) (lookup K.eq b q) }
+    ensures { (a b : List (K × V)) (test : K → Bool)
+        → lookup_by test (a ++ b) ≡ option_or (lookup_by test a) (lookup_by test b) }
 {}
 
 /// If a function is applied to each value, a lookup finds the function of the value that it found before.
@@ -142,8 +142,8 @@ pub fn first_parts_are_found_first<K: Eq, V>()
 /// An insertion then inserts the function of its value.
 #[tactic(auto, using(crate::proofs::LawLemmas::Maps::functions_of_values_are_found))]
 pub fn functions_of_values_are_found<K: Eq, V, W>()
-    ensures value { (g : V → W) (l : List (K × V)) (k : K)
-        → lookup K.eq (map_values g l) k ≡ option_map g (lookup K.eq l k) }
+    ensures value { (g : V → W) (l : List (K × V)) (test : K → Bool)
+        → lookup_by test (map_values g l) ≡ option_map g (lookup_by test l) }
     ensures insertion { (g : V → W) (l : List (K × V)) (k : K) (v : V)
         → map_values g (put K.eq l k v) ≡ put K.eq (map_values g l) k (g v) }
 {}
