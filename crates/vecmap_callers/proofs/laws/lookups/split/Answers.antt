@@ -4,8 +4,8 @@ use Rattle.std.specs.Option.{option_or}
 use Rattle.vecmap.specs.Pairs.{lookup}
 use Rattle.vecmap_callers.proofs.laws.lookups.split.Goals as goal
 
-pub returns : goal.returns
-returns g c key =
+pub returns-clause-lookups : goal.returns-clause-lookups
+returns-clause-lookups g c key =
     let eq = g.K.PartialEq.eq in
     let l = c.args.map.now.entries in
     let front = c.in_ok-back.ensures.entries in
