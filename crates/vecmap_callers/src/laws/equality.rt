@@ -2,12 +2,13 @@
 ghost use Rattle.std.specs.List.Sorted.{IsPermutation, IsSorted, IsSortedByKey};
 ghost use Rattle.std.specs.Option.{option_eq};
 ghost use Rattle.std.specs.Ordering.{nat_cmp};
-ghost use Rattle.std.specs.Prelude.{◌≡◌, ◌≤◌, ◌↔◌, IsTrue, OnOk, [], length, nat_eq};
+ghost use Rattle.std.specs.Prelude.{◌≡◌, ◌≤◌, ◌↔◌, IsTrue, OnErr, OnOk, [], length, nat_eq};
 ghost use Rattle.vecmap.specs.Equality.{has_same_counts, has_same_items, is_within};
 ghost use Rattle.vecmap.specs.Items.{both};
 ghost use Rattle.vecmap.specs.Pairs.{HasDistinctKeys, lookup};
 
 use std::alloc::AllocError;
+use vecmap::set::laws::elements_fit_the_capacity;
 use vecmap::{VecMap, VecSet};
 use vecmap_laws::maps::{equality_ignores_order, equality_is_agreement, lengths_tell_of_equality};
 use vecmap_laws::sets as set_laws;
@@ -89,8 +90,10 @@ pub fn are_disjoint<T: Eq>(a: &VecSet<T>, b: &VecSet<T>) -> bool
 /// Splits a set and appends the second part again, which restores the set if no request is refused.
 pub fn split_and_restore(set: &mut VecSet<u32>, at: usize) -> Result<(), AllocError>
     requires within { at ≤ length set.old.elements }
-    ensures { OnOk result (set.new.elements ≡ set.old.elements) }
+    ensures elements { OnOk result (set.new.elements ≡ set.old.elements) }
+    ensures err { OnErr result (set.new ≡ set.old) }
 {
+    elements_fit_the_capacity(set);
     set_laws::appending_undoes_splitting::<u32>();
     // As in `is_part`.
     set.as_slice();
