@@ -108,7 +108,8 @@ pub fn toggle<K: Eq + Drop>(map: &mut VecMap<K, u64>, key: K) -> Result<(), Refu
         → map.new.entries ≡ without_key K.eq map.old.entries key }
     ensures absent { index_of K.eq map.old.entries key ≡ None
         → OnOk result (map.new.entries ≡ put K.eq map.old.entries key 3) }
-    ensures err { OnErr result (map.new ≡ map.old) }
+    ensures capacity { map.old.capacity ≤ map.new.capacity }
+    ensures err { OnErr result (Refuses K.eq map.old key map.new) }
 {
     match map.entry(key) {
         Entry::Occupied(entry) => {
@@ -149,7 +150,7 @@ pub fn put_and_remove(map: &mut VecMap<u64, u64>, key: u64) -> Result<u64, Refus
     ensures value { IfOk result (λ value. value ≡ 9) }
     ensures entries { OnOk result (map.new.entries ≡ without_key nat_eq map.old.entries key) }
     ensures capacity { map.old.capacity ≤ map.new.capacity }
-    ensures err { OnErr result (map.new ≡ map.old) }
+    ensures err { OnErr result (Refuses nat_eq map.old key map.new) }
 {
     Ok(map.entry(key).insert_entry(9)?.remove())
 }

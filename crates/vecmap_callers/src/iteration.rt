@@ -124,7 +124,8 @@ pub fn pull_keys(map: &VecMap<u64, u32>)
 /// Adds one to each value. The value that the loop lends is the one that the map held when the loop began.
 pub fn add_one(map: &mut VecMap<u64, u32>)
     requires { All (λ v. v < 100) (values_of map.old.entries) }
-    ensures { length map.new.entries ≡ length map.old.entries }
+    ensures len { length map.new.entries ≡ length map.old.entries }
+    ensures capacity { map.new.capacity ≡ map.old.capacity }
 {
     for (_, value) in map.iter_mut() {
         *value += 1;
@@ -133,7 +134,9 @@ pub fn add_one(map: &mut VecMap<u64, u32>)
 
 /// Writes each value twice, and returns the length of the map.
 pub fn write_values(map: &mut VecMap<u64, u32>, value: u32) -> usize
-    ensures { result ≡ length map.old.entries }
+    ensures count { result ≡ length map.old.entries }
+    ensures len { length map.new.entries ≡ length map.old.entries }
+    ensures capacity { map.new.capacity ≡ map.old.capacity }
 {
     for (_, stored) in map.iter_mut() {
         *stored = 0;
@@ -148,6 +151,7 @@ pub fn write_values(map: &mut VecMap<u64, u32>, value: u32) -> usize
 pub fn first_value(map: &mut VecMap<u64, u32>) -> Option<u32>
     ensures value { result ≡ slice_get (values_of map.old.entries) 0 }
     ensures len { length map.new.entries ≡ length map.old.entries }
+    ensures capacity { map.new.capacity ≡ map.old.capacity }
 {
     let (_, value) = map.iter_mut().next()?;
     Some(*value)

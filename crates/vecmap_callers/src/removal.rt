@@ -68,6 +68,7 @@ pub fn first_of_three(map: &mut VecMap<u32, u32>) -> Option<(u32, u32)>
     requires within { 3 ≤ length map.old.entries }
     ensures first { result ≡ slice_get map.old.entries 0 }
     ensures entries { map.new.entries ≡ drop 3 map.old.entries }
+    ensures capacity { map.new.capacity ≡ map.old.capacity }
 {
     map.drain(..3).next()
 }

@@ -88,6 +88,7 @@ pub fn write_first_two(map: &mut VecMap<u32, u8>)
 pub fn write_ends(map: &mut VecMap<u32, u8>) -> usize
     ensures count { result ≡ length map.old.entries }
     ensures len { length map.new.entries ≡ length map.old.entries }
+    ensures capacity { map.new.capacity ≡ map.old.capacity }
 {
     let mut values = map.values_mut();
     let count = values.len();
@@ -102,7 +103,8 @@ pub fn write_ends(map: &mut VecMap<u32, u8>) -> usize
 
 /// Subtracts one from each value, up to the first that is zero.
 pub fn lower_until_zero(map: &mut VecMap<u32, u8>)
-    ensures { length map.new.entries ≡ length map.old.entries }
+    ensures len { length map.new.entries ≡ length map.old.entries }
+    ensures capacity { map.new.capacity ≡ map.old.capacity }
 {
     for (_key, value) in map.iter_mut() {
         if *value == 0 {
@@ -114,7 +116,8 @@ pub fn lower_until_zero(map: &mut VecMap<u32, u8>)
 
 /// Writes each value by a closure, from the back.
 pub fn write_by_closure(map: &mut VecMap<u32, u8>)
-    ensures { length map.new.entries ≡ length map.old.entries }
+    ensures len { length map.new.entries ≡ length map.old.entries }
+    ensures capacity { map.new.capacity ≡ map.old.capacity }
 {
     map.values_mut().rev().for_each(|value| *value = 1);
 }
@@ -161,6 +164,7 @@ impl Rounds {
     pub fn next_round(&mut self)
         requires { self.old.count < 9 }
         ensures len { length self.new.scores.entries ≡ length self.old.scores.entries }
+        ensures capacity { self.new.scores.capacity ≡ self.old.scores.capacity }
         ensures count { self.new.count ≡ self.old.count + 1 }
     {
         for (_key, score) in self.scores.iter_mut() {
@@ -182,8 +186,10 @@ fn read(value: Option<&mut u8>) -> Option<u8>
 
 /// Returns the first value, and the last of the others, by one call of `next` and one of `next_back`.
 pub fn both_ends(map: &mut VecMap<u32, u8>) -> (Option<u8>, Option<u8>)
-    ensures { (rest : List ℕ) × Pulls (values_of map.old.entries)
+    ensures pulls { (rest : List ℕ) × Pulls (values_of map.old.entries)
         (front ∷ back ∷ []) (result.0 ∷ result.1 ∷ []) rest }
+    ensures len { length map.new.entries ≡ length map.old.entries }
+    ensures capacity { map.new.capacity ≡ map.old.capacity }
 {
     mutable_iterators_pull_as_lists::<ValuesMut<'_, u32, u8>, &mut u8, u8>();
     let mut values = map.values_mut();

@@ -1,8 +1,9 @@
 //! Callers of laws that bound lengths and counts of comparisons.
-ghost use Rattle.std.specs.Prelude.{◌≡◌, ◌-◌, ◌<◌, ◌≤◌, length, nat_eq, take};
-ghost use Rattle.vecmap.specs.Items.{add};
-ghost use Rattle.vecmap.specs.Pairs.{put};
-ghost use Rattle.vecmap.specs.Repeats.{cost};
+ghost use Rattle.std.specs.Map.{keys_of};
+ghost use Rattle.std.specs.Prelude.{◌≡◌, ◌-◌, ◌<◌, ◌≤◌, [], length, nat_eq, take};
+ghost use Rattle.vecmap.specs.Items.{add, adds};
+ghost use Rattle.vecmap.specs.Pairs.{put, puts};
+ghost use Rattle.vecmap.specs.Repeats.{comparisons, cost};
 
 use vecmap::map::laws::pairs_fit_the_capacity;
 use vecmap::set::laws::elements_fit_the_capacity;
@@ -34,7 +35,9 @@ pub fn replace_last_item(set: &mut VecSet<u32>, item: u32)
 
 /// Creates a map of these pairs, and returns the number of comparisons that this took.
 pub fn map_at_a_cost(pairs: Vec<(u32, u32)>) -> (VecMap<u32, u32>, u128)
-    ensures { result.1 ≤ cost (length pairs.items) }
+    ensures entries { result.0.entries ≡ puts nat_eq [] pairs.items }
+    ensures counted { result.1 ≡ comparisons nat_eq (keys_of pairs.items) }
+    ensures at_most { result.1 ≤ cost (length pairs.items) }
 {
     key_comparisons_are_bounded::<u32, u32>();
     VecMap::from_vec_counted(pairs)
@@ -42,7 +45,9 @@ pub fn map_at_a_cost(pairs: Vec<(u32, u32)>) -> (VecMap<u32, u32>, u128)
 
 /// Creates a set of these elements, and returns the number of comparisons that this took.
 pub fn set_at_a_cost(items: Vec<u32>) -> (VecSet<u32>, u128)
-    ensures { result.1 ≤ cost (length items.items) }
+    ensures elements { result.0.elements ≡ adds nat_eq [] items.items }
+    ensures counted { result.1 ≡ comparisons nat_eq items.items }
+    ensures at_most { result.1 ≤ cost (length items.items) }
 {
     comparisons_are_bounded::<u32>();
     VecSet::from_vec_counted(items)

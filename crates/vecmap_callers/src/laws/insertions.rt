@@ -2,11 +2,12 @@
 ghost use Rattle.std.specs.Fn.{FnOnceReturnsAtMut};
 ghost use Rattle.std.specs.Map.{keys_of};
 ghost use Rattle.std.specs.Option.{option_or};
-ghost use Rattle.std.specs.Prelude.{◌≡◌, ◌+◌, ◌-◌, ◌++◌, ◌^◌, ◌∷◌, ℕ, IfOk, None, OnOk, Some, [], if◌then◌else◌, map, min, nat_eq};
+ghost use Rattle.std.specs.Prelude.{◌≡◌, ◌+◌, ◌-◌, ◌++◌, ◌^◌, ◌∷◌, ℕ, IfErr, IfOk, None, OnErr, OnOk, Some, [], if◌then◌else◌, map, min, nat_eq};
+ghost use Rattle.vecmap.specs.Contents.{Refuses};
 ghost use Rattle.vecmap.specs.Items.{add};
 ghost use Rattle.vecmap.specs.Pairs.{HasDistinctKeys, index_of, lookup, put};
-ghost use Rattle.vecmap_laws.specs.Combining.{combine, put_with};
-ghost use Rattle.vecmap_laws.specs.FirstValue.{put_new};
+ghost use Rattle.vecmap_laws.specs.Combining.{combine, put_with, puts_with};
+ghost use Rattle.vecmap_laws.specs.FirstValue.{put_new, puts_new};
 
 use std::alloc::AllocError;
 use vecmap::{Refused, VecMap};
@@ -26,6 +27,8 @@ pub fn keep_or_insert<K: Eq + Drop, V: Drop>(
         (if K.eq key other then Some value else None)) }
     ensures keys { OnOk result (keys_of map.new.entries
         ≡ add K.eq (keys_of map.old.entries) key) }
+    ensures given { IfErr result (λ refused. refused.given ≡ (key, value)) }
+    ensures err { OnErr result (Refuses K.eq map.old key map.new) }
 {
     first_values_win::<K, V>();
     map.entry(key).or_insert(value)?;
@@ -43,6 +46,8 @@ pub fn add_amount<K: Eq + Drop>(
     ensures lookups { OnOk result ((other : K) → lookup K.eq map.new.entries other
         ≡ combine (λ old new. min (old + new) (2 ^ 64 - 1)) (lookup K.eq map.old.entries other)
         (if K.eq key other then Some amount else None)) }
+    ensures given { IfErr result (λ refused. refused.given ≡ (key, amount)) }
+    ensures err { OnErr result (Refuses K.eq map.old key map.new) }
 {
     combining_insertions_are_found::<K, u64>();
     map.entry(key)
@@ -64,6 +69,8 @@ pub fn update_or_insert<K: Eq + Drop, V: Drop, F: FnOnce(&mut V) + Drop>(
         × (map.new.entries ≡ put K.eq map.old.entries key new)) }
     ensures inserted { OnOk result (index_of K.eq map.old.entries key ≡ None
         → map.new.entries ≡ map.old.entries ++ (key, default) ∷ []) }
+    ensures given { IfErr result (λ refused. refused.given ≡ (key, default)) }
+    ensures err { OnErr result (Refuses K.eq map.old key map.new) }
 {
     modified_values_are_inserted::<K, V, F>(&update);
     map.entry(key).and_modify(update).or_insert(default)?;
@@ -72,7 +79,9 @@ pub fn update_or_insert<K: Eq + Drop, V: Drop, F: FnOnce(&mut V) + Drop>(
 
 /// Returns a map from each value to its key. Of the keys of one value, the first wins.
 pub fn invert(numbers: &VecMap<u64, u64>) -> Result<VecMap<u64, u64>, AllocError>
-    ensures { IfOk result (λ inverse. (value : ℕ) → lookup nat_eq inverse.entries value
+    ensures entries { IfOk result (λ inverse. inverse.entries
+        ≡ puts_new nat_eq [] (map (λ pair. (pair.1, pair.0)) numbers.now.entries)) }
+    ensures lookups { IfOk result (λ inverse. (value : ℕ) → lookup nat_eq inverse.entries value
         ≡ lookup nat_eq (map (λ pair. (pair.1, pair.0)) numbers.now.entries) value) }
 {
     first_values_win::<u64, u64>();
@@ -89,7 +98,10 @@ pub fn add_amounts<K: Eq + Drop>(
     amounts: VecMap<K, u64>,
 ) -> Result<(), Refused<(K, u64)>>
     requires { HasDistinctKeys K.eq amounts.entries }
-    ensures { OnOk result ((key : K) → lookup K.eq map.new.entries key
+    ensures entries { OnOk result (map.new.entries
+        ≡ puts_with K.eq (λ old new. min (old + new) (2 ^ 64 - 1))
+        map.old.entries amounts.entries) }
+    ensures lookups { OnOk result ((key : K) → lookup K.eq map.new.entries key
         ≡ combine (λ old new. min (old + new) (2 ^ 64 - 1)) (lookup K.eq map.old.entries key)
         (lookup K.eq amounts.entries key)) }
 {

@@ -1,8 +1,10 @@
 //! Callers of laws about which elements a set has, and at which indices.
 ghost use Rattle.std.specs.List.{IsDistinct};
-ghost use Rattle.std.specs.Prelude.{◌&&◌, ◌||◌, ◌≡◌, ◌<◌, ℕ, Contains, IfOk, IsTrue, OnErr, OnOk, Some, false, filter, length, nat_eq, nat_lt, slice_get};
+ghost use Rattle.std.specs.Prelude.{◌&&◌, ◌||◌, ◌≡◌, ◌<◌, ℕ, Contains, IfErr, IfOk, IsTrue, OnErr, OnOk, Some, [], false, filter, length, nat_eq, nat_lt, slice_get};
 ghost use Rattle.std.specs.Set.{is_member};
-ghost use Rattle.vecmap.specs.Items.{adds, item_index, without_item};
+ghost use Rattle.vecmap.specs.Clones.{AreClones};
+ghost use Rattle.vecmap.specs.Items.{add, adds, both, item_index, without_item};
+ghost use Rattle.vecmap.specs.SetContents.{Refuses};
 
 use std::alloc::AllocError;
 use vecmap::{Refused, VecSet};
@@ -14,8 +16,11 @@ use vecmap_laws::sets::{
 
 /// Adds an element. What was present is then present, and what is equal to the element.
 pub fn include<T: Eq + Drop>(set: &mut VecSet<T>, item: T) -> Result<(), Refused<T>>
-    ensures { OnOk result ((other : T) → is_member T.eq set.new.elements other
+    ensures elements { OnOk result (set.new.elements ≡ add T.eq set.old.elements item) }
+    ensures found { OnOk result ((other : T) → is_member T.eq set.new.elements other
         ≡ (is_member T.eq set.old.elements other || T.eq item other)) }
+    ensures given { IfErr result (λ refused. refused.given ≡ item) }
+    ensures err { OnErr result (Refuses T.eq set.old item set.new) }
 {
     added_elements_are_present::<T>();
     set.insert(item)?;
@@ -27,8 +32,12 @@ pub fn unite_into<T: Eq + Drop>(
     set: &mut VecSet<T>,
     other: &mut VecSet<T>,
 ) -> Result<(), AllocError>
-    ensures { OnOk result ((x : T) → is_member T.eq set.new.elements x
+    ensures elements { OnOk result (set.new.elements ≡ adds T.eq set.old.elements other.old.elements) }
+    ensures emptied { OnOk result (other.new.elements ≡ []) }
+    ensures found { OnOk result ((x : T) → is_member T.eq set.new.elements x
         ≡ (is_member T.eq set.old.elements x || is_member T.eq other.old.elements x)) }
+    ensures err { OnErr result (set.new ≡ set.old) }
+    ensures other_err { OnErr result (other.new ≡ other.old) }
 {
     added_elements_are_present::<T>();
     set.append(other)
@@ -40,7 +49,9 @@ pub fn append_behind<T: Eq + Drop>(
     other: &mut VecSet<T>,
 ) -> Result<(), AllocError>
     ensures elements { OnOk result (set.new.elements ≡ adds T.eq set.old.elements other.old.elements) }
+    ensures emptied { OnOk result (other.new.elements ≡ []) }
     ensures err { OnErr result (set.new ≡ set.old) }
+    ensures other_err { OnErr result (other.new ≡ other.old) }
     ensures element { OnOk result ((i : ℕ) → i < length set.old.elements
         → slice_get set.new.elements i ≡ slice_get set.old.elements i) }
     ensures index { OnOk result ((x : T) (i : ℕ) → item_index T.eq set.old.elements x ≡ Some i
@@ -54,6 +65,7 @@ pub fn append_behind<T: Eq + Drop>(
 pub fn exclude<T: Eq + Drop>(set: &mut VecSet<T>, item: &T)
     ensures elements { set.new.elements ≡ without_item T.eq set.old.elements item.now }
     ensures gone { is_member T.eq set.new.elements item.now ≡ false }
+    ensures capacity { set.new.capacity ≡ set.old.capacity }
 {
     removals_are_forgotten::<T>();
     // The law needs that no two elements are equal, which `as_slice` states.
@@ -63,7 +75,9 @@ pub fn exclude<T: Eq + Drop>(set: &mut VecSet<T>, item: &T)
 
 /// Returns what two sets share. It has an element if both sets have it.
 pub fn shared(a: &VecSet<u32>, b: &VecSet<u32>) -> Result<VecSet<u32>, AllocError>
-    ensures { IfOk result (λ set. (x : ℕ) → is_member nat_eq set.elements x
+    ensures elements { IfOk result (λ set. set.elements
+        ≡ both nat_eq a.now.elements b.now.elements) }
+    ensures found { IfOk result (λ set. (x : ℕ) → is_member nat_eq set.elements x
         ≡ (is_member nat_eq a.now.elements x && is_member nat_eq b.now.elements x)) }
 {
     operators_combine_members::<u32>();
@@ -75,7 +89,9 @@ pub fn shared(a: &VecSet<u32>, b: &VecSet<u32>) -> Result<VecSet<u32>, AllocErro
 pub fn copy_of_set<T: Eq + Clone>(set: &VecSet<T>) -> Result<VecSet<T>, AllocError>
     requires clones_equal { (x y : T) → Contains set.now.elements x → T.is_clone x y
         → IsTrue (T.eq x y) }
-    ensures { IfOk result (λ copy. (x : T) → is_member T.eq copy.elements x
+    ensures elements { IfOk result
+        (λ copy. AreClones T.is_clone set.now.elements copy.elements) }
+    ensures found { IfOk result (λ copy. (x : T) → is_member T.eq copy.elements x
         ≡ is_member T.eq set.now.elements x) }
 {
     clones_have_the_same_members::<T>();

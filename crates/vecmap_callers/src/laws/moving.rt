@@ -1,8 +1,9 @@
 //! Callers of laws about insertions and removals by index, and about other orders.
-ghost use Rattle.std.specs.Prelude.{◌≡◌, ◌<◌, ℕ, None, OnOk, Some, if◌then◌else◌, length, nat_eq, reverse, slice_get};
+ghost use Rattle.std.specs.Prelude.{◌≡◌, ◌<◌, ◌∷◌, ℕ, IfErr, None, OnErr, OnOk, Some, if◌then◌else◌, length, nat_eq, remove, reverse, slice_get};
 ghost use Rattle.std.specs.List.Sorted.{IsPermutation, IsSortedByKey};
 ghost use Rattle.std.specs.Ordering.{nat_cmp};
-ghost use Rattle.vecmap.specs.Pairs.{HasDistinctKeys, index_of, lookup, with_pair};
+ghost use Rattle.vecmap.specs.Contents.{Refuses};
+ghost use Rattle.vecmap.specs.Pairs.{HasDistinctKeys, index_of, lookup, put_at, with_pair};
 
 use vecmap::map::laws::pairs_fit_the_capacity;
 use vecmap::{Refused, VecMap};
@@ -18,8 +19,11 @@ pub fn insert_first(
     value: u32,
 ) -> Result<(), Refused<(u32, u32)>>
     requires { HasDistinctKeys nat_eq map.old.entries }
-    ensures { OnOk result ((other : ℕ) → lookup nat_eq map.new.entries other
+    ensures entries { OnOk result (map.new.entries ≡ put_at nat_eq map.old.entries 0 key value) }
+    ensures lookups { OnOk result ((other : ℕ) → lookup nat_eq map.new.entries other
         ≡ (if nat_eq key other then Some value else lookup nat_eq map.old.entries other)) }
+    ensures given { IfErr result (λ refused. refused.given ≡ (key, value)) }
+    ensures err { OnErr result (Refuses nat_eq map.old key map.new) }
 {
     insertions_at_an_index_are_found::<u32, u32>();
     map.insert_at(0, key, value)?;
@@ -43,7 +47,10 @@ pub fn rename_at(map: &mut VecMap<u32, u32>, index: usize, key: u32)
 pub fn move_to_front<K: Eq + Drop, V: Drop>(map: &mut VecMap<K, V>, index: usize)
     requires within { index < length map.old.entries }
     requires distinct { HasDistinctKeys K.eq map.old.entries }
-    ensures { (key : K) → lookup K.eq map.new.entries key ≡ lookup K.eq map.old.entries key }
+    ensures entries { (pair : K × V) → slice_get map.old.entries index ≡ Some pair
+        → map.new.entries ≡ pair ∷ remove map.old.entries index }
+    ensures lookups { (key : K) → lookup K.eq map.new.entries key ≡ lookup K.eq map.old.entries key }
+    ensures capacity { map.new.capacity ≡ map.old.capacity }
 {
     moves_keep_lookups::<K, V>();
     pairs_fit_the_capacity(map);
@@ -58,6 +65,7 @@ pub fn sort_all(map: &mut VecMap<u32, u32>)
     ensures rearranged { IsPermutation map.old.entries map.new.entries }
     ensures lookups { (key : ℕ) → lookup nat_eq map.new.entries key
         ≡ lookup nat_eq map.old.entries key }
+    ensures capacity { map.new.capacity ≡ map.old.capacity }
 {
     order_keeps_lookups::<u32, u32>();
     map.sort_unstable_keys();
@@ -68,6 +76,7 @@ pub fn reverse_all<K: Eq, V>(map: &mut VecMap<K, V>)
     requires { HasDistinctKeys K.eq map.old.entries }
     ensures entries { map.new.entries ≡ reverse map.old.entries }
     ensures lookups { (key : K) → lookup K.eq map.new.entries key ≡ lookup K.eq map.old.entries key }
+    ensures capacity { map.new.capacity ≡ map.old.capacity }
 {
     order_keeps_lookups::<K, V>();
     map.reverse();

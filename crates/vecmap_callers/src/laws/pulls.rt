@@ -1,6 +1,6 @@
 //! Callers of laws about pulls from both ends of an iterator.
 ghost use Rattle.std.specs.Map.Iter.{deref, deref_pair};
-ghost use Rattle.std.specs.Prelude.{◌≤◌, ℕ, List, [], ◌∷◌, length, nat_eq, option_map, take};
+ghost use Rattle.std.specs.Prelude.{◌≡◌, ◌≤◌, ℕ, List, [], ◌∷◌, drop, length, nat_eq, option_map, take};
 ghost use Rattle.vecmap.specs.Items.{only};
 ghost use Rattle.vecmap_laws.specs.Pulls.{Pulls, back, front};
 
@@ -23,8 +23,9 @@ pub fn ends(map: &VecMap<u32, u32>) -> (Option<(&u32, &u32)>, Option<(&u32, &u32
 /// Removes the first three pairs, and returns the first and then the last of them, as two pulls from a list.
 pub fn take_ends(map: &mut VecMap<u32, u32>) -> (Option<(u32, u32)>, Option<(u32, u32)>)
     requires within { 3 ≤ length map.old.entries }
-    ensures { (rest : List (ℕ × ℕ)) × Pulls (take 3 map.old.entries) (front ∷ back ∷ [])
+    ensures pulls { (rest : List (ℕ × ℕ)) × Pulls (take 3 map.old.entries) (front ∷ back ∷ [])
         (result.0 ∷ result.1 ∷ []) rest }
+    ensures entries { map.new.entries ≡ drop 3 map.old.entries }
 {
     drains_pull_as_lists::<u32, u32>();
     let mut pairs = map.drain(..3);
@@ -36,8 +37,9 @@ pub fn take_ends(map: &mut VecMap<u32, u32>) -> (Option<(u32, u32)>, Option<(u32
 /// Removes the first three elements, and returns the first and then the last of them, as two pulls from a list.
 pub fn take_item_ends(set: &mut VecSet<u32>) -> (Option<u32>, Option<u32>)
     requires within { 3 ≤ length set.old.elements }
-    ensures { (rest : List ℕ) × Pulls (take 3 set.old.elements) (front ∷ back ∷ [])
+    ensures pulls { (rest : List ℕ) × Pulls (take 3 set.old.elements) (front ∷ back ∷ [])
         (result.0 ∷ result.1 ∷ []) rest }
+    ensures elements { set.new.elements ≡ drop 3 set.old.elements }
 {
     set_laws::drains_pull_as_lists::<u32>();
     let mut items = set.drain(..3);

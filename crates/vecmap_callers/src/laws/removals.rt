@@ -1,9 +1,10 @@
 //! Callers of laws about what removals leave of a map.
 ghost use Rattle.std.specs.Option.{option_and_then};
-ghost use Rattle.std.specs.Prelude.{◌≡◌, ◌-◌, ◌<◌, ℕ, List, None, Some, String, bytes_eq, false, filter, if◌then◌else◌, is_some, length, nat_eq, nat_lt, not, string_eq};
+ghost use Rattle.std.specs.Prelude.{◌≡◌, ◌-◌, ◌<◌, ℕ, List, None, Some, String, bytes_eq, false, filter, if◌then◌else◌, is_some, length, nat_eq, nat_lt, not, reverse, slice_get, string_eq, take};
 ghost use Rattle.std.specs.Set.{is_member};
 ghost use Rattle.std.specs.declared.alloc.Global.{Global};
-ghost use Rattle.vecmap.specs.Pairs.{HasDistinctKeys, has_text, index_of, lookup, lookup_by};
+ghost use Rattle.vecmap.specs.Items.{swap_without};
+ghost use Rattle.vecmap.specs.Pairs.{HasDistinctKeys, has_text, index_of, lookup, lookup_by, swap_without_by, swap_without_key, without_by, without_key};
 ghost use Rattle.vecmap.specs.Ranges.{IsRangeWithin};
 ghost use Rattle.vecmap_laws.specs.Removals.{below, drained, filtered, swapped};
 
@@ -32,7 +33,9 @@ pub fn forget_all<K: Eq + Drop, V: Drop>(map: &mut VecMap<K, V>, keys: &[K])
 pub fn take_at<K: Eq, V>(map: &mut VecMap<K, V>, index: usize) -> (K, V)
     requires within { index < length map.old.entries }
     requires distinct { HasDistinctKeys K.eq map.old.entries }
-    ensures { (other : K) → lookup K.eq map.new.entries other
+    ensures pair { slice_get map.old.entries index ≡ Some result }
+    ensures entries { map.new.entries ≡ swap_without map.old.entries index }
+    ensures lookups { (other : K) → lookup K.eq map.new.entries other
         ≡ (if K.eq result.0 other then None else lookup K.eq map.old.entries other) }
 {
     moving_removals_are_forgotten::<K, V>();
@@ -42,7 +45,8 @@ pub fn take_at<K: Eq, V>(map: &mut VecMap<K, V>, index: usize) -> (K, V)
 /// Removes a number; the last pair moves to its index. Only the last key gets a new index.
 pub fn forget_moving(map: &mut VecMap<u32, u32>, number: u32)
     requires { HasDistinctKeys nat_eq map.old.entries }
-    ensures { (i : ℕ) → index_of nat_eq map.old.entries number ≡ Some i → (other : ℕ)
+    ensures entries { map.new.entries ≡ swap_without_key nat_eq map.old.entries number }
+    ensures indices { (i : ℕ) → index_of nat_eq map.old.entries number ≡ Some i → (other : ℕ)
         → nat_eq number other ≡ false → index_of nat_eq map.new.entries other
         ≡ swapped (length map.old.entries) i (index_of nat_eq map.old.entries other) }
 {
@@ -52,7 +56,8 @@ pub fn forget_moving(map: &mut VecMap<u32, u32>, number: u32)
 
 /// Removes a number, and returns how many pairs are left.
 pub fn count_without(map: &mut VecMap<u32, u32>, number: u32) -> usize
-    ensures { result
+    ensures entries { map.new.entries ≡ without_key nat_eq map.old.entries number }
+    ensures count { result
         ≡ (if is_some (index_of nat_eq map.old.entries number)
         then length map.old.entries - 1 else length map.old.entries) }
 {
@@ -63,6 +68,7 @@ pub fn count_without(map: &mut VecMap<u32, u32>, number: u32) -> usize
 
 /// Keeps the first pairs. A key finds its value if its index is among them.
 pub fn keep_first<K: Eq + Drop, V: Drop>(map: &mut VecMap<K, V>, len: usize)
+    ensures entries { map.new.entries ≡ take len map.old.entries }
     ensures values { (key : K) (i : ℕ) → index_of K.eq map.old.entries key ≡ Some i
         → lookup K.eq map.new.entries key
         ≡ (if nat_lt i len then lookup K.eq map.old.entries key else None) }
@@ -89,7 +95,8 @@ pub fn cut_out<K: Eq + Drop, V: Drop>(map: &mut VecMap<K, V>, from: usize, to: u
 /// the number of earlier pairs that are kept.
 pub fn keep_small(map: &mut VecMap<u32, u32>, limit: u32)
     requires { HasDistinctKeys nat_eq map.old.entries }
-    ensures values { (key : ℕ) → lookup nat_eq map.new.entries key
+    ensures entries { map.new.entries ≡ filter (λ pair. nat_lt pair.1 limit) map.old.entries }
+    ensures lookups { (key : ℕ) → lookup nat_eq map.new.entries key
         ≡ option_and_then (λ value. if nat_lt value limit then Some value else None)
         (lookup nat_eq map.old.entries key) }
     ensures indices { (key : ℕ) → index_of nat_eq map.new.entries key
@@ -106,7 +113,8 @@ pub fn keep_small(map: &mut VecMap<u32, u32>, limit: u32)
 /// Removes the pair of the key that a query matches. Every other key finds what it found before.
 pub fn forget_matched<K: Eq + Drop, V: Drop, Q: Equivalent<K>>(map: &mut VecMap<K, V>, query: Q)
     requires { HasDistinctKeys K.eq map.old.entries }
-    ensures { (key : K) → lookup K.eq map.new.entries key
+    ensures entries { map.new.entries ≡ swap_without_by (Q.equivalent query) map.old.entries }
+    ensures lookups { (key : K) → lookup K.eq map.new.entries key
         ≡ (if Q.equivalent query key then None else lookup K.eq map.old.entries key) }
 {
     removals_by_queries_are_forgotten::<K, V, Q>();
@@ -116,7 +124,8 @@ pub fn forget_matched<K: Eq + Drop, V: Drop, Q: Equivalent<K>>(map: &mut VecMap<
 /// Removes the pair of a text. Every other text finds what it found before.
 pub fn forget_text<V: Drop>(map: &mut VecMap<String, V>, text: &str)
     requires { HasDistinctKeys string_eq map.old.entries }
-    ensures { (other : List ℕ) → bytes_eq text.now other ≡ false
+    ensures entries { map.new.entries ≡ without_by (has_text text.now) map.old.entries }
+    ensures others { (other : List ℕ) → bytes_eq text.now other ≡ false
         → lookup_by (has_text other) map.new.entries ≡ lookup_by (has_text other) map.old.entries }
 {
     removals_by_texts_are_forgotten::<V>();
@@ -126,7 +135,8 @@ pub fn forget_text<V: Drop>(map: &mut VecMap<String, V>, text: &str)
 /// Reverses the order. Each text finds what it found before.
 pub fn reverse_texts<V>(map: &mut VecMap<String, V>)
     requires { HasDistinctKeys string_eq map.old.entries }
-    ensures { (text : List ℕ) → lookup_by (has_text text) map.new.entries
+    ensures entries { map.new.entries ≡ reverse map.old.entries }
+    ensures lookups { (text : List ℕ) → lookup_by (has_text text) map.new.entries
         ≡ lookup_by (has_text text) map.old.entries }
 {
     order_keeps_lookups::<String, V>();

@@ -1,7 +1,9 @@
 //! Callers of laws about runs of two lists of commands.
-ghost use Rattle.std.specs.Prelude.{◌++◌, IfOk, nat_eq};
+ghost use Rattle.std.specs.Prelude.{◌≡◌, ◌⊎◌, ◌++◌, ℕ, IfOk, List, OnErr, nat_eq};
 ghost use Rattle.vecmap.specs.MapRun as maps;
 ghost use Rattle.vecmap.specs.SetRun as sets;
+ghost use Rattle.vecmap.specs.declared.map_run.reply.MapReply.{MapReply};
+ghost use Rattle.vecmap.specs.declared.set_run.reply.SetReply.{SetReply};
 
 use std::alloc::{AllocError, Global};
 use vecmap::{MapCommand, MapReply, SetCommand, SetReply, VecMap, VecSet, run, run_set};
@@ -14,8 +16,10 @@ pub fn run_both<K: Eq + Clone, V: Eq + Clone>(
     commands: Vec<MapCommand<K, V>>,
     more: Vec<MapCommand<K, V>>,
 ) -> Result<(Vec<MapReply<K, V>>, Vec<MapReply<K, V>>), AllocError>
-    ensures { IfOk result (λ replies. maps.Run K.eq V.eq K.Clone V.Clone
+    ensures run { IfOk result (λ replies. maps.Run K.eq V.eq K.Clone V.Clone
         map.old (commands.items ++ more.items) (replies.0.items ++ replies.1.items) map.new) }
+    ensures err { OnErr result ((map.new ≡ map.old) ⊎ ((replies : List (MapReply K V))
+        × maps.Run K.eq V.eq K.Clone V.Clone map.old commands.items replies map.new)) }
 {
     runs_of_maps_have_parts::<K, V>();
     let first = run(alloc, map, commands)?;
@@ -30,8 +34,10 @@ pub fn run_set_both(
     commands: Vec<SetCommand<u32>>,
     more: Vec<SetCommand<u32>>,
 ) -> Result<(Vec<SetReply<u32>>, Vec<SetReply<u32>>), AllocError>
-    ensures { IfOk result (λ replies. sets.Run nat_eq ⟦<u32 as Clone>⟧
+    ensures run { IfOk result (λ replies. sets.Run nat_eq ⟦<u32 as Clone>⟧
         set.old (commands.items ++ more.items) (replies.0.items ++ replies.1.items) set.new) }
+    ensures err { OnErr result ((set.new ≡ set.old) ⊎ ((replies : List (SetReply ℕ))
+        × sets.Run nat_eq ⟦<u32 as Clone>⟧ set.old commands.items replies set.new)) }
 {
     runs_of_sets_have_parts::<u32>();
     let first = run_set(alloc, set, commands)?;

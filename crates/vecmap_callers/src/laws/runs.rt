@@ -1,7 +1,9 @@
 //! Callers of laws about runs of commands.
-ghost use Rattle.std.specs.Prelude.{◌≡◌, ℕ, All, Bool, IfOk, List, Option, map, nat_eq};
+ghost use Rattle.std.specs.Prelude.{◌≡◌, ℕ, All, Bool, IfOk, List, OnErr, Option, map, nat_eq};
 ghost use Rattle.vecmap.specs.Items.{adds};
+ghost use Rattle.vecmap.specs.MapRun as maps;
 ghost use Rattle.vecmap.specs.Pairs.{puts};
+ghost use Rattle.vecmap.specs.SetRun as sets;
 ghost use Rattle.vecmap.specs.declared.map_run.command.MapCommand.TheVariants as map_commands;
 ghost use Rattle.vecmap.specs.declared.map_run.reply.MapReply.TheVariants as map_replies;
 ghost use Rattle.vecmap.specs.declared.set_run.command.SetCommand.TheVariants as set_commands;
@@ -23,7 +25,10 @@ pub fn ask_map<K: Eq + Clone, V: Eq + Clone>(
     map: &mut VecMap<K, V>,
     commands: Vec<MapCommand<K, V>>,
 ) -> Result<Vec<MapReply<K, V>>, AllocError>
-    ensures { All IsRead commands.items → map.new ≡ map.old }
+    ensures run { IfOk result (λ replies. maps.Run K.eq V.eq K.Clone V.Clone
+        map.old commands.items replies.items map.new) }
+    ensures unchanged { All IsRead commands.items → map.new ≡ map.old }
+    ensures err { OnErr result (map.new ≡ map.old) }
 {
     runs_of_reads_leave_maps::<K, V>();
     let replies = run(alloc, map, commands)?;
@@ -36,7 +41,10 @@ pub fn ask_set(
     set: &mut VecSet<u32>,
     commands: Vec<SetCommand<u32>>,
 ) -> Result<Vec<SetReply<u32>>, AllocError>
-    ensures { All IsSetRead commands.items → set.new ≡ set.old }
+    ensures run { IfOk result (λ replies. sets.Run nat_eq ⟦<u32 as Clone>⟧
+        set.old commands.items replies.items set.new) }
+    ensures unchanged { All IsSetRead commands.items → set.new ≡ set.old }
+    ensures err { OnErr result (set.new ≡ set.old) }
 {
     runs_of_reads_leave_sets::<u32>();
     let replies = run_set(alloc, set, commands)?;
@@ -49,8 +57,9 @@ pub fn run_on_list<K: Eq + Clone, V: Eq + Clone>(
     map: &mut VecMap<K, V>,
     commands: Vec<MapCommand<K, V>>,
 ) -> Result<Vec<MapReply<K, V>>, AllocError>
-    ensures { IfOk result (λ replies. ListRun K.eq V.eq K.Clone V.Clone
+    ensures run { IfOk result (λ replies. ListRun K.eq V.eq K.Clone V.Clone
         map.old.entries commands.items replies.items map.new.entries) }
+    ensures err { OnErr result (map.new ≡ map.old) }
 {
     runs_of_maps_are_of_lists::<K, V>();
     let replies = run(alloc, map, commands)?;
@@ -63,8 +72,9 @@ pub fn run_on_set_list(
     set: &mut VecSet<u32>,
     commands: Vec<SetCommand<u32>>,
 ) -> Result<Vec<SetReply<u32>>, AllocError>
-    ensures { IfOk result (λ replies. SetListRun nat_eq ⟦<u32 as Clone>⟧
+    ensures run { IfOk result (λ replies. SetListRun nat_eq ⟦<u32 as Clone>⟧
         set.old.elements commands.items replies.items set.new.elements) }
+    ensures err { OnErr result (set.new ≡ set.old) }
 {
     runs_of_sets_are_of_lists::<u32>();
     let replies = run_set(alloc, set, commands)?;
@@ -77,10 +87,13 @@ pub fn run_insertions<K: Eq + Clone, V: Eq + Clone>(
     table: &mut VecMap<K, V>,
     commands: Vec<MapCommand<K, V>>,
 ) -> Result<Vec<MapReply<K, V>>, AllocError>
-    ensures { IfOk result (λ replies. (pairs : List (K × V)) (olds : List (Option V))
+    ensures run { IfOk result (λ replies. ListRun K.eq V.eq K.Clone V.Clone
+        table.old.entries commands.items replies.items table.new.entries) }
+    ensures entries { IfOk result (λ replies. (pairs : List (K × V)) (olds : List (Option V))
         → commands.items ≡ map (λ p. map_commands.Insert p.0 p.1) pairs
         → replies.items ≡ map map_replies.Value olds
         → table.new.entries ≡ puts K.eq table.old.entries pairs) }
+    ensures err { OnErr result (table.new ≡ table.old) }
 {
     runs_of_insertions_are_bulk_insertions::<K, V>();
     let replies = run_on_list(alloc, table, commands)?;
@@ -93,10 +106,13 @@ pub fn run_additions(
     set: &mut VecSet<u32>,
     commands: Vec<SetCommand<u32>>,
 ) -> Result<Vec<SetReply<u32>>, AllocError>
-    ensures { IfOk result (λ replies. (items : List ℕ) (added : List Bool)
+    ensures run { IfOk result (λ replies. SetListRun nat_eq ⟦<u32 as Clone>⟧
+        set.old.elements commands.items replies.items set.new.elements) }
+    ensures elements { IfOk result (λ replies. (items : List ℕ) (added : List Bool)
         → commands.items ≡ map set_commands.Insert items
         → replies.items ≡ map set_replies.Truth added
         → set.new.elements ≡ adds nat_eq set.old.elements items) }
+    ensures err { OnErr result (set.new ≡ set.old) }
 {
     runs_of_additions_are_bulk_additions::<u32>();
     let replies = run_on_set_list(alloc, set, commands)?;

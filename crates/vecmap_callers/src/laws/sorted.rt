@@ -1,7 +1,8 @@
 //! Callers of laws about maps and sets that ascend.
-ghost use Rattle.std.specs.List.Sorted.{IsSorted, IsSortedByKey};
+ghost use Rattle.std.specs.List.Sorted.{IsPermutation, IsSorted, IsSortedByKey, IsStable, IsStableByKey};
 ghost use Rattle.std.specs.Ordering.{nat_cmp};
-ghost use Rattle.std.specs.Prelude.{◌≡◌, OnOk, nat_eq};
+ghost use Rattle.std.specs.Prelude.{◌≡◌, ◌∷◌, IfErr, IsSome, None, OnErr, OnOk, nat_eq};
+ghost use Rattle.vecmap.specs.Contents.{Refuses};
 ghost use Rattle.vecmap.specs.Items.{item_index};
 ghost use Rattle.vecmap.specs.Pairs.{HasDistinctKeys, index_of};
 
@@ -33,8 +34,14 @@ pub fn insert_in_order(
     value: u32,
 ) -> Result<(), Refused<(u32, u32)>>
     requires { IsSortedByKey (λ pair. pair.0) nat_cmp map.old.entries }
-    ensures { OnOk result (IsSortedByKey (λ pair. pair.0) nat_cmp map.new.entries) }
+    ensures sorted { OnOk result (IsSortedByKey (λ pair. pair.0) nat_cmp map.new.entries) }
+    ensures present { IsSome (index_of nat_eq map.old.entries number) → map.new ≡ map.old }
+    ensures absent { OnOk result (index_of nat_eq map.old.entries number ≡ None
+        → IsPermutation ((number, value) ∷ map.old.entries) map.new.entries) }
+    ensures given { IfErr result (λ refused. refused.given ≡ (number, value)) }
+    ensures err { OnErr result (Refuses nat_eq map.old number map.new) }
 {
+    binary_searches_find_indices::<u32, u32>();
     insertions_where_searches_end_keep_the_order::<u32, u32>();
     if let Err(index) = map.binary_search_keys(&number) {
         map.insert_at(index, number, value)?;
@@ -44,8 +51,12 @@ pub fn insert_in_order(
 
 /// Sorts a map. If its keys ascend already, nothing changes.
 pub fn sort_again(map: &mut VecMap<u32, u32>) -> Result<(), AllocError>
-    ensures { OnOk result (IsSortedByKey (λ pair. pair.0) nat_cmp map.old.entries
+    ensures sorted { OnOk result (IsSortedByKey (λ pair. pair.0) nat_cmp map.new.entries) }
+    ensures stable { IsStableByKey (λ pair. pair.0) nat_cmp map.old.entries map.new.entries }
+    ensures rearranged { IsPermutation map.old.entries map.new.entries }
+    ensures entries { OnOk result (IsSortedByKey (λ pair. pair.0) nat_cmp map.old.entries
         → map.new.entries ≡ map.old.entries) }
+    ensures err { OnErr result (map.new ≡ map.old) }
 {
     sorts_of_sorted_maps_change_nothing::<u32, u32>();
     map.sort_keys()
@@ -67,8 +78,12 @@ pub fn item_index_in_sorted(set: &VecSet<u32>, number: u32) -> Option<usize>
 
 /// Sorts a set. If its elements ascend already, nothing changes.
 pub fn sort_set_again(set: &mut VecSet<u32>) -> Result<(), AllocError>
-    ensures { OnOk result (IsSorted nat_cmp set.old.elements
+    ensures sorted { OnOk result (IsSorted nat_cmp set.new.elements) }
+    ensures stable { IsStable nat_cmp set.old.elements set.new.elements }
+    ensures rearranged { IsPermutation set.old.elements set.new.elements }
+    ensures elements { OnOk result (IsSorted nat_cmp set.old.elements
         → set.new.elements ≡ set.old.elements) }
+    ensures err { OnErr result (set.new ≡ set.old) }
 {
     sets::sorts_of_sorted_sets_change_nothing::<u32>();
     set.sort()

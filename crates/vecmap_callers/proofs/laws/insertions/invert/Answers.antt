@@ -10,4 +10,10 @@ pub loop-key-preserved : goal.loop-key-preserved
 loop-key-preserved c = one_more _ _ _ _ _ _ _ c.loop-key.invariant c.in-Some.ensures.steps (search rules)
 
 pub returns : goal.returns
-returns c value = ap (λ l. lookup nat_eq l value) (rw c.in-None.ensures.steps.0 at c.loop-key.invariant) ∙ c.first_values_win.ensures.made (map (λ p. (p.1, p.0)) c.args.numbers.now.entries) value
+returns c =
+    let inserted = rw c.in-None.ensures.steps.0 at c.loop-key.invariant in
+    record {
+      entries = inserted;
+      lookups = λ value.
+          ap (λ l. lookup nat_eq l value) inserted ∙ c.first_values_win.ensures.made (map (λ p. (p.1, p.0)) c.args.numbers.now.entries) value;
+    }

@@ -3,8 +3,8 @@ use Rattle.vecmap.specs.Drain.{drain_rest}
 use Rattle.vecmap_laws.specs.Pulls.{Pulls, back, front}
 use Rattle.vecmap_callers.proofs.laws.pulls.take_ends.Goals as goal
 
-pub returns : goal.returns
-returns c =
+pub returns-clause-pulls : goal.returns-clause-pulls
+returns-clause-pulls c =
     let a = c.next-first.result in
     let b = c.next_back-last.result in
     let last = c.next_back-last.new.self in (
