@@ -26,7 +26,6 @@
 //! - iteration: `iter`, `iter_mut`, `keys`, `values`, `values_mut`, `into_keys`, `into_values`, loops (`iteration.rt`);
 //!   the iterators themselves (`iter/pairs.rt`, `iter/keys.rt`, `iter/values.rt` and `iter_mut.rt` of
 //!   `crates/vecmap_base/src`)
-//! - writes to each value by a closure: `update_values`, `try_update_values` (`updating.rt`)
 //! - mutable references to keys: `MutableKeys`, with `get_full_mut2`, `get_index_mut2`, `retain2`, `iter_mut2`,
 //!   `keys_mut`, `as_mut_slice` (`mutable_keys.rt`)
 //! - `==` (`equality.rt`), `Debug` (`formatting.rt`), the law that a map fits its capacity (`laws.rt`); the other laws
