@@ -2,7 +2,8 @@
 -- the part by the one next to it does the same.
 use Rattle.std.proofs.Common.{◌≡◌, ℕ, zero, suc, ◌+◌, ◌<◌, ◌≤◌, List, [], ◌∷◌, ◌++◌, ap, arith, append_assoc, drop, drop_at, get_or, insert, length, length-take-le, refl, remove, set, slice_get, Some, sym, take, take_at, ◌∙◌}
 use Rattle.std.proofs.lemmas.List.{drop-set-lt, get_or-set_same, take-set-le, take_more}
-use Rattle.std.proofs.lemmas.List.Edits.{insert_end}
+use Rattle.std.proofs.lemmas.List.Edits.{insert_end, length-remove}
+use Rattle.std.proofs.lemmas.Option.{slice_get-get_or}
 use Rattle.std.proofs.Math.Seq.{take-length}
 
 module _ {X : Type 0} where
@@ -82,6 +83,15 @@ module _ {X : Type 0} where
   inserted_found [] (suc i) x within = absurd (omega arith)
   inserted_found (y ∷ ys) zero x within = refl
   inserted_found (y ∷ ys) (suc i) x within = inserted_found ys i x (omega arith)
+
+  -- An item that has moved is removed from its new index, and found there.
+  pub moved_removed : (xs ys : List X) (from to : ℕ) (x : X) → from < length xs → to < length xs → ys ≡ insert (remove xs from) to x → remove ys to ≡ remove xs from
+  moved_removed xs ys from to x before after e =
+      ap (λ l. remove l to) e ∙ inserted_removed (remove xs from) to x (omega (arith, length-remove xs from before, after))
+
+  pub moved_found : (xs ys : List X) (from to : ℕ) (d : X) → from < length xs → to < length xs → ys ≡ insert (remove xs from) to (get_or xs from d) → slice_get ys to ≡ slice_get xs from
+  moved_found xs ys from to d before after e =
+      ap (λ l. slice_get l to) e ∙ inserted_found (remove xs from) to (get_or xs from d) (omega (arith, length-remove xs from before, after)) ∙ sym (slice_get-get_or xs from d before)
 
   -- The items between `from` and `to` shift to the left, and `item` goes to `to`.
   remove_before : (xs : List X) (from to : ℕ) (item : X) → from ≤ to → to < length xs → remove (insert xs (suc to) item) from ≡ insert (remove xs from) to item

@@ -3,11 +3,9 @@ ghost use Rattle.std.specs.Prelude.{◌≡◌, ◌<◌, ◌≤◌, ◌&&◌, dro
 ghost use Rattle.std.specs.List.{AllZip};
 ghost use Rattle.vecmap_base.specs.Equality.{FirstDiffer, count, counts_agree, has_same_counts, same_pair};
 
-use crate::matching::{is_same, pairs_match_by_marks, pairs_match_crosswise};
+use crate::matching::{MARKS_SMALL, is_same, pairs_match_by_marks, pairs_match_crosswise};
 
-// The largest numbers of pairs for which marks are made.
-const MARKS_SMALL: usize = 8;
-
+// The larger numbers of pairs for which marks are made.
 const MARKS_MEDIUM: usize = 128;
 
 const MARKS_LARGE: usize = 1024;
@@ -31,6 +29,7 @@ const MARKS_LARGE: usize = 1024;
 /// ```
 /// pairs_equal(&[('a', 1), ('b', 2)], &[('b', 2), ('a', 1)]) // true
 /// ```
+#[inline]
 pub fn pairs_equal<K: Eq, V: PartialEq>(a: &[(K, V)], b: &[(K, V)]) -> bool
     ensures { result ≡ has_same_counts K.eq V.eq a.now b.now }
 {
@@ -45,7 +44,8 @@ pub fn pairs_equal<K: Eq, V: PartialEq>(a: &[(K, V)], b: &[(K, V)]) -> bool
 }
 
 // Returns `true` if each pair of `a` occurs equally often in both lists. The first pairs differ. Up to two pairs need
-// no marks, and marks for a few pairs cost less to make than marks for many.
+// no marks, and are compared in the caller's code.
+#[inline(always)]
 fn rests_equal<K: Eq, V: PartialEq>(a: &[(K, V)], b: &[(K, V)]) -> bool
     requires as_long { length a.now ≡ length b.now }
     requires not_empty { 0 < length a.now }
@@ -55,6 +55,17 @@ fn rests_equal<K: Eq, V: PartialEq>(a: &[(K, V)], b: &[(K, V)]) -> bool
     if b.len() <= 2 {
         return pairs_match_crosswise(a, b);
     }
+    long_rests_equal(a, b)
+}
+
+// Like `rests_equal`, for more pairs. Marks for a few pairs cost less to make than marks for many.
+#[inline(never)]
+fn long_rests_equal<K: Eq, V: PartialEq>(a: &[(K, V)], b: &[(K, V)]) -> bool
+    requires as_long { length a.now ≡ length b.now }
+    requires not_empty { 0 < length a.now }
+    requires first_differ { FirstDiffer K.eq V.eq a.now b.now }
+    ensures { result ≡ counts_agree K.eq V.eq a.now a.now b.now }
+{
     if b.len() <= MARKS_SMALL {
         return pairs_match_by_marks::<MARKS_SMALL, K, V>(a, b);
     }

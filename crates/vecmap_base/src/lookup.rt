@@ -11,7 +11,7 @@ use crate::unrolled::{
 };
 
 // The least length of a list of small items for which `is_any_in_blocks` is faster than a plain loop.
-const MIN_LENGTH_FOR_BLOCKS: usize = 4;
+pub(crate) const MIN_LENGTH_FOR_BLOCKS: usize = 4;
 
 // The least length of a list of small items for which `find_item_unrolled` is faster.
 const MIN_LENGTH_FOR_FOURS: usize = 8;
@@ -140,6 +140,25 @@ pub(crate) fn is_in_few<T: Eq>(items: &[T], item: &T) -> bool
     ensures { result ≡ is_member T.eq items.now item.now }
 {
     items.iter().any(|other| *item == *other)
+}
+
+// The same as `contains_item`, for small items. The loop over the blocks becomes part of the caller.
+#[inline(always)]
+pub(crate) fn is_in_blocks<T: Eq>(items: &[T], item: &T) -> bool
+    ensures { result ≡ is_member T.eq items.now item.now }
+{
+    is_any_in_blocks(
+        items,
+        |other: &T| -> bool
+            ensures { result ≡ T.eq item.entry.now other.now }
+        { *item == *other },
+    )
+}
+
+// Returns `true` if `items` has at least `length` items, and these are small.
+#[inline(always)]
+pub(crate) fn are_small<T>(items: &[T], length: usize) -> bool {
+    items.len() >= length && items.first().is_some_and(is_small)
 }
 
 /// Returns the index of the first pair whose key matches `query`.

@@ -14,6 +14,14 @@ const MAX_CARRIED_RIGHT: usize = 32;
 // The largest size, in bytes, of an item that `remove_item` moves by a rotation.
 const MAX_BYTES_FOR_ROTATION: usize = 64;
 
+// The least and the largest size, in bytes, of an item that `remove_item` moves by one rotation for each part of the
+// list, and the size of a part.
+const MIN_BYTES_FOR_PARTS: usize = 48;
+
+const MAX_BYTES_FOR_PARTS: usize = 160;
+
+const BYTES_OF_PART: usize = 2048;
+
 /// Replaces the item at `from`, moves the new item to `to`, and returns the old one.
 ///
 /// The items between the two indices shift by one index.
@@ -81,7 +89,8 @@ pub fn remove_item<T>(items: &mut Vec<T>, index: usize) -> T
     if items.len() - index <= 2 {
         return items.swap_remove(index);
     }
-    remove_and_shift(items, index)
+    let at = move_by_parts(items, index);
+    remove_and_shift(items, at)
 }
 
 /// Inserts an item at `index` into a vector that has spare capacity.
@@ -134,6 +143,28 @@ fn remove_and_shift<T>(items: &mut Vec<T>, index: usize) -> T
     let last = items.len() - 1;
     move_item(items, index, last);
     items.pop().unwrap()
+}
+
+// Moves the item at `from` towards the end, by one rotation for each part of the list, and returns its new index. Then
+// fewer items follow it than a part has. The kit moves all of them in such parts, too, but as it knows the length of a
+// part, LLVM copies each item by itself.
+fn move_by_parts<T>(items: &mut [T], from: usize) -> usize
+    requires { from < length items.old }
+    ensures within { result < length items.new }
+    ensures item { slice_get items.new result ≡ slice_get items.old from }
+    ensures items { remove items.new result ≡ remove items.old from }
+{
+    let size = size_of_val(&items[from]);
+    if size < MIN_BYTES_FOR_PARTS || MAX_BYTES_FOR_PARTS < size {
+        return from;
+    }
+    let part = (BYTES_OF_PART / size).max(1);
+    let mut at = from;
+    while part < items.len() - at {
+        move_part(items, at, at + part);
+        at += part;
+    }
+    at
 }
 
 // Puts `item` at the index before `end`, each item from there down to `from` at the index before its own, and returns
@@ -191,4 +222,15 @@ fn move_item<T>(items: &mut [T], from: usize, to: usize)
     } else if to < from {
         items[to..from + 1].rotate_right(1);
     }
+}
+
+// The same as `move_item`. It is not inlined: where LLVM knows the number of items, it copies them one by one.
+#[inline(never)]
+fn move_part<T>(items: &mut [T], from: usize, to: usize)
+    requires from_within { from < length items.old }
+    requires to_within { to < length items.old }
+    ensures { (d : T) → items.new
+        ≡ insert (remove items.old from) to (slice_index_or items.old from d) }
+{
+    move_item(items, from, to);
 }

@@ -5,7 +5,9 @@ ghost use Rattle.std.specs.Set.{is_member};
 ghost use Rattle.vecmap_base.specs.Equality.{is_within};
 ghost use Rattle.vecmap_base.specs.Items.{both};
 
-use crate::lookup::{MIN_LENGTH_FOR_CALL, contains_item, is_in_few};
+use crate::lookup::{
+    MIN_LENGTH_FOR_BLOCKS, MIN_LENGTH_FOR_CALL, are_small, is_in_blocks, is_in_few,
+};
 
 /// Returns `true` if each of `items` is equal to one of `others`.
 ///
@@ -20,13 +22,14 @@ use crate::lookup::{MIN_LENGTH_FOR_CALL, contains_item, is_in_few};
 /// ```
 /// are_within(&[2, 1], &[1, 2, 3]) // true
 /// ```
+#[inline(always)]
 pub fn are_within<T: Eq>(items: &[T], others: &[T]) -> bool
     ensures { result ≡ is_within T.eq items.now others.now }
 {
-    if others.len() < MIN_LENGTH_FOR_CALL {
-        return are_within_few(items, others);
+    if are_small(others, MIN_LENGTH_FOR_CALL) {
+        return are_within_blocks(items, others);
     }
-    items.iter().all(|item| contains_item(others, item))
+    items.iter().all(|item| is_in_few(others, item))
 }
 
 /// Returns `true` if none of `items` is equal to one of `others`.
@@ -50,28 +53,29 @@ pub fn are_disjoint<T: Eq>(items: &[T], others: &[T]) -> bool
 }
 
 // Returns `true` if one of `items` is equal to one of `others`.
+#[inline(always)]
 fn overlap<T: Eq>(items: &[T], others: &[T]) -> bool
     ensures { result ≡ list_any (is_member T.eq others.now) items.now }
 {
-    if others.len() < MIN_LENGTH_FOR_CALL {
-        return overlap_few(items, others);
+    if are_small(others, MIN_LENGTH_FOR_BLOCKS) {
+        return overlap_blocks(items, others);
     }
-    items.iter().any(|item| contains_item(others, item))
+    items.iter().any(|item| is_in_few(others, item))
 }
 
-// The same as `are_within`, for few others. It is not inlined, so that neither loop depends on the code around the
-// other.
+// The same as `are_within`, for small others. It is not inlined, so that its loop does not depend on the code around
+// it.
 #[inline(never)]
-fn are_within_few<T: Eq>(items: &[T], others: &[T]) -> bool
+fn are_within_blocks<T: Eq>(items: &[T], others: &[T]) -> bool
     ensures { result ≡ is_within T.eq items.now others.now }
 {
-    items.iter().all(|item| is_in_few(others, item))
+    items.iter().all(|item| is_in_blocks(others, item))
 }
 
-// The same as `overlap`, for few others. It is not inlined, either.
+// The same as `overlap`, for small others. It is not inlined, either.
 #[inline(never)]
-fn overlap_few<T: Eq>(items: &[T], others: &[T]) -> bool
+fn overlap_blocks<T: Eq>(items: &[T], others: &[T]) -> bool
     ensures { result ≡ list_any (is_member T.eq others.now) items.now }
 {
-    items.iter().any(|item| is_in_few(others, item))
+    items.iter().any(|item| is_in_blocks(others, item))
 }
