@@ -40,8 +40,8 @@ module _ {F K V : Type 0} (R : F → K × V → K × V → F → Type 0) (same :
       ap keys_of k.6 ∙ (λ i. keys_of (if k.4.1 i then k.1 ∷ k.3 else k.3)) ∙ (λ i. same f p k.1 k.2 k.4.0 i ∷ rest i)
 
 module _ {F X S : Type 0} (R : F → X → X → F → Type 0) (Holds : F → Type 0) (view : X → S) (h : S → S) where
-  -- If each call takes what `view` sees of the item to `h` of it, so do all calls. A view of a vector is the list of its
-  -- items, since its capacity may change too. `Holds` is an invariant of the closure's states.
+  -- If each call takes what `view` sees of the item to `h` of it, so do all calls. A view of a vector is the list of
+  -- its items, since its capacity may change too. `Holds` is an invariant of the closure's states.
   pub viewed_while : ((f : F) (x y : X) (g : F) → Holds f → R f x y g → (view y ≡ h (view x)) × Holds g) → (f : F) (l m : List X) (g : F) → Holds f → Updated R f l m g → (map view m ≡ map h (map view l)) × Holds g
   viewed_while told f [] m g holds k = (ap (map view) k.0, subst Holds (sym k.1) holds)
   viewed_while told f (x ∷ xs) m g holds k =

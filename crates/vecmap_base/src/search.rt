@@ -12,8 +12,8 @@ use std::cmp::Ordering;
 /// Searches `items` with `f`, which compares the item at an index with what is sought.
 ///
 /// `f` returns `Less` for the first items, then `Equal`, then `Greater`. `Ok` holds the index of an equal item, any one
-/// of them. If there is none, `Err` holds the number of items that are less. If the items are in another order, `Ok` is still the
-/// index of an equal item, but `Err` says nothing.
+/// of them. If there is none, `Err` holds the number of items that are less. If the items are in another order, `Ok` is
+/// still the index of an equal item, but `Err` says nothing.
 ///
 /// # Conditions
 ///
@@ -97,8 +97,8 @@ pub fn search_pairs_by_key<'a, K, V, B: Ord + Drop, F: Fn(&'a K, &'a V) -> B>(
 
 /// Searches for `key` in items that ascend by the key that `f` extracts.
 ///
-/// `Ok` holds the index of an item with an equal key, any one of them. If there is none, `Err` holds the number of items
-/// with lesser keys.
+/// `Ok` holds the index of an item with an equal key, any one of them. If there is none, `Err` holds the number of
+/// items with lesser keys.
 ///
 /// # Conditions
 ///

@@ -26,8 +26,8 @@ module _ {K V : Type 0} (eq : K → K → Bool) where
   keys_of_puts_new l (p ∷ ps) = keys_of_puts_new (put_new eq l p.0 p.1) ps ∙ ap (λ ks. adds eq ks (keys_of ps)) (keys_of_put eq l p.0 (unwrap_or (lookup eq l p.0) p.1))
 
   module _ (o : IsEquivalence eq) where
-    -- After the insertion of a pair whose key keeps the value that it has, a list that is looked up afterwards needs the
-    -- pair no more.
+    -- After the insertion of a pair whose key keeps the value that it has, a list that is looked up afterwards needs
+    -- the pair no more.
     pub first_wins : (l m : List (K × V)) (k : K) (v : V) (q : K) → option_or (lookup eq (put_new eq l k v) q) (lookup eq m q) ≡ option_or (lookup eq l q) (lookup eq ((k, v) ∷ m) q)
     first_wins l m k v q = grind (arith, lookup_put_any eq o l k (unwrap_or (lookup eq l k) v) q, lookup_cons eq (k, v) m q, lookup_congr eq o l k q, o.symm k q)
 

@@ -1,5 +1,5 @@
--- Two runs of the same commands on the list of one set. A step is a function of the list, the command, and whether memory
--- was refused, but for the clones and the capacities in its reply.
+-- Two runs of the same commands on the list of one set. A step is a function of the list, the command, and whether
+-- memory was refused, but for the clones and the capacities in its reply.
 use Rattle.std.proofs.Common.{arith, ◌≡◌, ◌-◌, ◌&&◌, ℕ, Any, Bool, true, false, List, [], ◌∷◌, Option, ap, cond, length, nat_lt, not, refl, remove, reverse, slice_get, subst, suc, swap, sym, take, true≢false, ◌∙◌}
 use Rattle.std.proofs.lemmas.Bool.{and_from, and_parts, cond_above, cond_below, cond-false, cond-true, false_from_ne_true, lt-ltb, ltb-true}
 use Rattle.std.specs.{Cmp.both_ways, List.AllZip, Set.is_member}

@@ -1,5 +1,5 @@
--- Lists that ascend by a key: a binary search agrees with a search in order, an insertion where it ends keeps the order,
--- and a stable sort of such a list changes nothing.
+-- Lists that ascend by a key: a binary search agrees with a search in order, an insertion where it ends keeps the
+-- order, and a stable sort of such a list changes nothing.
 use Rattle.std.proofs.Common.{arith, ◌≡◌, ◌+◌, ◌-◌, ◌<◌, ◌≤◌, ℕ, suc, Bool, true, false, ◌&&◌, List, [], ◌∷◌, Some, ap, filter, get_or, if◌then◌else◌, inl, inr, insert, length, nat_lt, not, refl, slice_get, subst, sym, true≢false, ◌∙◌}
 use Rattle.std.proofs.lemmas.{Bool.cases_Bool, Bool.ltb-false, Bool.ltb-true, List.Folds.list_any_none, Option.get_or_from_slice_get, Option.slice_get_within}
 use Rattle.std.proofs.lemmas.List.Edits.{get_or-insert_above, get_or-insert_at, get_or-insert_below, length-insert}
@@ -98,8 +98,8 @@ module _ {X K : Type 0} (key : X → K) (cmp : K → K → Ordering) (o : IsTota
             ]
       ]
 
--- A stable sort of a sorted list. The idea: the first items of two sorted lists tie if the lists agree on what ties with
--- either, so they are the same, and the lists agree on the rest.
+-- A stable sort of a sorted list. The idea: the first items of two sorted lists tie if the lists agree on what ties
+-- with either, so they are the same, and the lists agree on the rest.
 module _ {X : Type 0} (lt : X → X → Bool) (w : IsStrictWeakOrder lt) where
   filter_nothing : (p : X → Bool) (xs : List X) → ((x : X) (j : ℕ) → slice_get xs j ≡ Some x → p x ≡ false) → filter p xs ≡ []
   filter_nothing p [] h = refl

@@ -1,4 +1,5 @@
-//! Laws of maps, and of the definitions that their contracts use. A call of a law costs nothing at run time, and gives the law to a proof.
+//! Laws of maps, and of the definitions that their contracts use. A call of a law costs nothing at run time, and gives
+//! the law to a proof.
 ghost use Rattle.std.specs.Prelude.{◌≡◌, ◌≢◌, ◌↔◌, ◌<◌, ◌≤◌, ◌++◌, ◌∷◌, ℕ, Bool, IsTrue, List, None, Option, [], drop, false, filter, length, remove, reverse, slice_range, swap, take};
 ghost use Rattle.std.specs.List.{remove_range};
 ghost use Rattle.std.specs.List.Sorted.{IsPermutation};

@@ -1,4 +1,5 @@
-//! Laws of sets, and of the definitions that their contracts use. A call of a law costs nothing at run time, and gives the law to a proof.
+//! Laws of sets, and of the definitions that their contracts use. A call of a law costs nothing at run time, and gives
+//! the law to a proof.
 ghost use Rattle.std.specs.Prelude.{◌≡◌, ◌≢◌, ◌↔◌, ◌<◌, IsTrue, List, Option, ℕ, [], drop, false, length, take};
 ghost use Rattle.std.specs.List.{IsDistinct};
 ghost use Rattle.std.specs.List.Sorted.{IsPermutation};

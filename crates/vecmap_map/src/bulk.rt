@@ -18,7 +18,8 @@ impl<K, V> VecMap<K, V> {
     ///
     /// # Errors
     ///
-    /// [`AllocError`] if the allocator refuses a request; no map is created, and the pairs and the iterator are dropped.
+    /// [`AllocError`] if the allocator refuses a request; no map is created, and the pairs and the iterator are
+    /// dropped.
     ///
     /// # Conditions
     ///

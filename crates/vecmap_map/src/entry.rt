@@ -132,8 +132,8 @@ impl<'a, K, V> Entry<'a, K, V> {
         }
     }
 
-    /// Like [`Entry::or_insert`], with the same cost, but with the value that `f` returns. `f` is called only if the key
-    /// has no value.
+    /// Like [`Entry::or_insert`], with the same cost, but with the value that `f` returns. `f` is called only if the
+    /// key has no value.
     ///
     /// # Conditions
     ///
@@ -246,15 +246,15 @@ impl<'a, K, V> Entry<'a, K, V> {
         }
     }
 
-    /// Like [`Entry::or_insert_with`], with the same cost, but with the default of the type, or with an empty collection
-    /// on the allocator of the map.
+    /// Like [`Entry::or_insert_with`], with the same cost, but with the default of the type, or with an empty
+    /// collection on the allocator of the map.
     ///
     /// A `Vec`, a `String`, a collection of std, a `VecMap` or a `VecSet` is created empty.
     ///
     /// # Errors
     ///
-    /// [`Refused`] returns the passed key and the new value if the map is full and the allocator refuses to grow it; the
-    /// map is then unchanged.
+    /// [`Refused`] returns the passed key and the new value if the map is full and the allocator refuses to grow it;
+    /// the map is then unchanged.
     ///
     /// # Examples
     ///

@@ -58,8 +58,8 @@ impl<K, V> VecMap<K, V> {
     ///
     /// # Errors
     ///
-    /// [`AllocError`] if the allocator refuses the request, or if the pairs would take more than `isize::MAX` bytes; the
-    /// map is then unchanged.
+    /// [`AllocError`] if the allocator refuses the request, or if the pairs would take more than `isize::MAX` bytes;
+    /// the map is then unchanged.
     ///
     /// # Complexity
     ///
@@ -88,8 +88,8 @@ impl<K, V> VecMap<K, V> {
     ///
     /// # Errors
     ///
-    /// [`AllocError`] if the allocator refuses the request, or if the pairs would take more than `isize::MAX` bytes; the
-    /// map is then unchanged.
+    /// [`AllocError`] if the allocator refuses the request, or if the pairs would take more than `isize::MAX` bytes;
+    /// the map is then unchanged.
     ///
     /// # Complexity
     ///
@@ -115,8 +115,8 @@ impl<K, V> VecMap<K, V> {
     ///
     /// # Errors
     ///
-    /// [`TryReserveError`] if the allocator refuses the request, or if the pairs would take more than `isize::MAX` bytes;
-    /// the map is then unchanged.
+    /// [`TryReserveError`] if the allocator refuses the request, or if the pairs would take more than `isize::MAX`
+    /// bytes; the map is then unchanged.
     ///
     /// # Examples
     ///
@@ -135,8 +135,8 @@ impl<K, V> VecMap<K, V> {
     ///
     /// # Errors
     ///
-    /// [`TryReserveError`] if the allocator refuses the request, or if the pairs would take more than `isize::MAX` bytes;
-    /// the map is then unchanged.
+    /// [`TryReserveError`] if the allocator refuses the request, or if the pairs would take more than `isize::MAX`
+    /// bytes; the map is then unchanged.
     ///
     /// # Examples
     ///

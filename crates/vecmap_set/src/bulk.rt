@@ -20,7 +20,8 @@ impl<T: Eq> VecSet<T> {
     ///
     /// # Errors
     ///
-    /// [`AllocError`] if the allocator refuses a request; no set is created, and the elements and the iterator are dropped.
+    /// [`AllocError`] if the allocator refuses a request; no set is created, and the elements and the iterator are
+    /// dropped.
     ///
     /// # Conditions
     ///

@@ -32,8 +32,8 @@ impl<T: Eq> VecSet<T> {
     ///
     /// # Errors
     ///
-    /// [`AllocError`] if the allocator refuses the request, or if the elements would take more than `isize::MAX` bytes; no
-    /// set is created.
+    /// [`AllocError`] if the allocator refuses the request, or if the elements would take more than `isize::MAX` bytes;
+    /// no set is created.
     ///
     /// # Examples
     ///

@@ -59,8 +59,8 @@ impl<T: Eq> VecSet<T> {
     ///
     /// # Errors
     ///
-    /// [`AllocError`] if the allocator refuses the request, or if the elements would take more than `isize::MAX` bytes; the
-    /// set is then unchanged.
+    /// [`AllocError`] if the allocator refuses the request, or if the elements would take more than `isize::MAX` bytes;
+    /// the set is then unchanged.
     ///
     /// # Complexity
     ///
@@ -90,8 +90,8 @@ impl<T: Eq> VecSet<T> {
     ///
     /// # Errors
     ///
-    /// [`AllocError`] if the allocator refuses the request, or if the elements would take more than `isize::MAX` bytes; the
-    /// set is then unchanged.
+    /// [`AllocError`] if the allocator refuses the request, or if the elements would take more than `isize::MAX` bytes;
+    /// the set is then unchanged.
     ///
     /// # Complexity
     ///
@@ -118,8 +118,8 @@ impl<T: Eq> VecSet<T> {
     ///
     /// # Errors
     ///
-    /// [`TryReserveError`] if the allocator refuses the request, or if the elements would take more than `isize::MAX` bytes;
-    /// the set is then unchanged.
+    /// [`TryReserveError`] if the allocator refuses the request, or if the elements would take more than `isize::MAX`
+    /// bytes; the set is then unchanged.
     ///
     /// # Examples
     ///
@@ -139,8 +139,8 @@ impl<T: Eq> VecSet<T> {
     ///
     /// # Errors
     ///
-    /// [`TryReserveError`] if the allocator refuses the request, or if the elements would take more than `isize::MAX` bytes;
-    /// the set is then unchanged.
+    /// [`TryReserveError`] if the allocator refuses the request, or if the elements would take more than `isize::MAX`
+    /// bytes; the set is then unchanged.
     ///
     /// # Examples
     ///

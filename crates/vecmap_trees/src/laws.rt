@@ -53,8 +53,8 @@ pub fn paths_part_unless_one_continues_the_other()
         → ((below : List (List ℕ)) → path ≡ other ++ below → ⊥) → ArePartedPaths path other }
 {}
 
-/// If no names repeat, a member that was removed from the object at a path is not found. The values of its other members,
-/// and what stands below them, are as before.
+/// If no names repeat, a member that was removed from the object at a path is not found. The values of its other
+/// members, and what stands below them, are as before.
 pub fn removed_members_are_not_found()
     ensures absent { (path : List (List ℕ)) (name : List ℕ) (tree : Json) → HasDistinctNames tree
         → at_path (path ++ name ∷ []) (changed_at path (without_member name) tree) ≡ None }

@@ -51,8 +51,8 @@ pub fn replace_here(tree: &mut Json, path: &[&str], value: Json) -> bool
     tree.write_at(path, value)
 }
 
-/// Replaces the value at a path, if there is one. What stands at a path is as before, unless one of the two paths is the
-/// beginning of the other.
+/// Replaces the value at a path, if there is one. What stands at a path is as before, unless one of the two paths is
+/// the beginning of the other.
 pub fn replace_only(tree: &mut Json, path: &[&str], value: Json) -> bool
     ensures { (other : List (List ℕ))
         → ((below : List (List ℕ)) → other ≡ map (λ name. name.now) path.now ++ below → ⊥)

@@ -195,8 +195,8 @@ impl<T> IntoIter<T> {
     ///
     /// # Errors
     ///
-    /// [`AllocError`] if the allocator refuses a request, or if the clone of an item fails; this iterator then still has
-    /// all elements that it had left.
+    /// [`AllocError`] if the allocator refuses a request, or if the clone of an item fails; this iterator then still
+    /// has all elements that it had left.
     ///
     /// # Examples
     ///

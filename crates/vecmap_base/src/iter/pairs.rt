@@ -201,8 +201,8 @@ impl<K, V> IntoIter<K, V> {
     ///
     /// # Errors
     ///
-    /// [`AllocError`] if the allocator refuses a request, or if the clone of a key or a value fails; this iterator then still has
-    /// all pairs that it had left.
+    /// [`AllocError`] if the allocator refuses a request, or if the clone of a key or a value fails; this iterator then
+    /// still has all pairs that it had left.
     ///
     /// # Examples
     ///

@@ -202,8 +202,8 @@ impl<K, V> IntoValues<K, V> {
     ///
     /// # Errors
     ///
-    /// [`AllocError`] if the allocator refuses a request, or if the clone of a value fails; this iterator then still has
-    /// all values that it had left.
+    /// [`AllocError`] if the allocator refuses a request, or if the clone of a value fails; this iterator then still
+    /// has all values that it had left.
     ///
     /// # Examples
     ///

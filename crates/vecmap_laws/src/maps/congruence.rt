@@ -5,8 +5,8 @@ ghost use Rattle.vecmap_base.specs.Pairs.{HasDistinctKeys, put, puts, swap_witho
 
 /// Equal maps stay equal after the same insertion, removal, filter and append.
 ///
-/// A filter is by a test that tells no equal pairs apart. What is appended are equal maps. A removal that moves the last
-/// pair leaves a map that is equal to what one that shifts leaves.
+/// A filter is by a test that tells no equal pairs apart. What is appended are equal maps. A removal that moves the
+/// last pair leaves a map that is equal to what one that shifts leaves.
 pub fn equal_maps_stay_equal<K: Eq, V: Eq>()
     ensures put { (a b : List (K × V)) → HasDistinctKeys K.eq a → HasDistinctKeys K.eq b
         → IsTrue (has_same_counts K.eq V.eq a b) → (k : K) (v : V)

@@ -7,10 +7,11 @@ ghost use Rattle.vecmap_base.specs.Pairs.{has_text, lookup, lookup_by, put};
 ghost use Rattle.vecmap_map.specs.Contents.{Contents};
 ghost use Rattle.vecmap_laws.specs.Nested.{inner_entries, inner_entries_by};
 
-/// After an insertion into the map of a key, the two keys find the value, and any other two find what they found before.
+/// After an insertion into the map of a key, the two keys find the value, and any other two find what they found
+/// before.
 ///
-/// `l` is the map of maps before the insertion, and `m` the one after it. The law `inner_insertions_are_found` gives both
-/// premises, also if the map of the key was created just before.
+/// `l` is the map of maps before the insertion, and `m` the one after it. The law `inner_insertions_are_found` gives
+/// both premises, also if the map of the key was created just before.
 #[tactic(auto, using(crate::proofs::TwoKeys::keys_of_inner))]
 pub fn values_are_found_by_two_keys<K: Eq, N: Eq, V>()
     ensures found { (l m : List (K × Contents N V)) (k : K) (n : N) (v : V)

@@ -186,8 +186,8 @@ fn a_text_made_at_run_time_matches_a_static_element(rt: HostRuntime) {
     }
 }
 
-// Asserts that each query matches the element of its text, in a set with an element made of each of the texts. The last part is
-// the query of a text.
+// Asserts that each query matches the element of its text, in a set with an element made of each of the texts. The last
+// part is the query of a text.
 macro_rules! assert_each_matches {
     ($rt:ident; $text:ident, $item:expr, $query:expr) => {
         let mut set = VecSet::new($rt.alloc());
