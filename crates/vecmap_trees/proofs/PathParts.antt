@@ -1,4 +1,5 @@
--- Paths in two parts: reads, changes and removals along the first part and then the second.
+-- Paths in two parts: reads, changes and removals along the first part and then the second. The idea: induction on the
+-- first part.
 use Rattle.std.specs.Prelude.{◌≡◌, ◌⊎◌, ◌++◌, ℕ, IsTrue, List, [], ◌∷◌, None, Option, Some, String, bytes_eq, false, remove, string_eq, true, refl}
 use Rattle.std.specs.Cmp.Lexicographic.{nat_list_eq_equiv}
 use Rattle.std.specs.Option.{option_and_then, option_map, option_map_or}
@@ -68,7 +69,7 @@ parted_unless_continued (name ∷ names) (next ∷ others) g h = by (parted_unle
         let same : name ≡ next = (bytes_eq-Decides name next).0 e in
         inr (same, rest (λ below is. g below (λ i. sym same i ∷ is i)) (λ below is. h below (λ i. same i ∷ is i)))
 
--- The removal of the members of a text leaves what another text finds, even if names repeat.
+-- The removal of the member of a text leaves what another text finds, even if names repeat.
 other_text_after : (l : List (String Global × Json)) (name other : List ℕ) → bytes_eq name other ≡ false → lookup_by (has_text other) (without_by (has_text name) l) ≡ lookup_by (has_text other) l
 other_text_after l name other apart = query_finds_alike string_eq string_equality (has_text other) (text_respects other) l (without_by (has_text name) l) (λ q h. by q h (index_by (has_text name) l) refl)
   where
