@@ -58,8 +58,8 @@ pub mod RemovalLemmas
 pub mod Rules
 pub mod RunLemmas
 pub mod RunParts
-pub mod RunSteps
-pub mod SameClones
+mod RunSteps
+mod SameClones
 pub mod SearchedMaps
 pub mod SearchedSets
 pub mod SetCongruence

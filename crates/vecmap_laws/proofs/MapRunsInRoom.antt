@@ -8,30 +8,30 @@ use Rattle.vecmap.specs.declared.map_run.command.MapCommand.TheVariants.{First, 
 use Rattle.vecmap.specs.declared.map_run.reply.MapReply.{MapReply}
 use Rattle.vecmap.specs.declared.map_run.reply.MapReply.TheVariants.{NoMemory, OutOfRange}
 use Rattle.vecmap_map.specs.Contents.{Contents, HasRoom}
-use Rattle.vecmap_laws.proofs.LengthBounds.{length_put, length_put_at, length_put_key, length_put_new, length_puts, length_remove, length_swap_without, length_swap_without_first, length_take_at_most, length_without}
+use Rattle.vecmap_laws.proofs.LengthBounds.{put_bound, put_at_bound, put_key_bound, put_new_bound, puts_bound, remove_bound, swap_without_bound, swap_without_first_bound, take_bound, without_bound}
 use Rattle.vecmap_laws.proofs.MapRunsAlike.{has_outcome, is_refused, outcome}
 use Rattle.vecmap_laws.proofs.RunSteps.{any_later, clone_succeeds, kept_at_most, none_added, none_refused_cons, unless_refused_at_most}
 use Rattle.vecmap_laws.specs.MapReplies.{HoldsClones, MakesNothing, NoneRefused, keys_inserted}
 
 module _ {K V : Type 0} (eq : K → K → Bool) (eq_value : V → V → Bool) (keys : clone.Ghosts K) (values : clone.Ghosts V) where
   outcome_at_most : (refused : Bool) (l : List (K × V)) (command : MapCommand K V) → length (outcome eq eq_value keys values refused l command).0 ≤ length l + keys_inserted command
-  outcome_at_most refused l (Insert k v) = unless_refused_at_most NoMemory refused l _ 1 (length_put eq l k v)
-  outcome_at_most refused l (InsertFull k v) = unless_refused_at_most NoMemory refused l _ 1 (length_put eq l k v)
-  outcome_at_most refused l (InsertAt i k v) = unless_refused_at_most NoMemory refused l _ 1 (cond_both {A = List (K × V) × MapReply K V} (nat_lt (length l) i) _ _ (λ p. length p.0 ≤ length l + 1) (λ e. omega arith) (λ e. length_put_at eq l i k v))
-  outcome_at_most refused l (InsertKey k v) = unless_refused_at_most NoMemory refused l _ 1 (length_put_key eq l k v)
-  outcome_at_most refused l (OrInsert k v) = unless_refused_at_most NoMemory refused l _ 1 (length_put_new eq l k v)
-  outcome_at_most refused l (Remove k) = none_added (length_without (λ p. eq k p.0) l)
-  outcome_at_most refused l (RemoveEntry k) = none_added (length_without (λ p. eq k p.0) l)
-  outcome_at_most refused l (SwapRemove k) = none_added (length_swap_without_first (λ p. eq k p.0) l)
-  outcome_at_most refused l (SwapRemoveEntry k) = none_added (length_swap_without_first (λ p. eq k p.0) l)
-  outcome_at_most refused l (RemoveIndex i) = cond_both {A = List (K × V) × MapReply K V} (nat_lt i (length l)) _ _ (λ p. length p.0 ≤ length l + 0) (λ e. none_added (length_remove l i)) (λ e. omega arith)
-  outcome_at_most refused l (SwapRemoveIndex i) = cond_both {A = List (K × V) × MapReply K V} (nat_lt i (length l)) _ _ (λ p. length p.0 ≤ length l + 0) (λ e. none_added (length_swap_without l i)) (λ e. omega arith)
-  outcome_at_most refused l Pop = none_added (length_take_at_most (length l - 1) l)
+  outcome_at_most refused l (Insert k v) = unless_refused_at_most NoMemory refused l _ 1 (put_bound eq l k v)
+  outcome_at_most refused l (InsertFull k v) = unless_refused_at_most NoMemory refused l _ 1 (put_bound eq l k v)
+  outcome_at_most refused l (InsertAt i k v) = unless_refused_at_most NoMemory refused l _ 1 (cond_both {A = List (K × V) × MapReply K V} (nat_lt (length l) i) _ _ (λ p. length p.0 ≤ length l + 1) (λ e. omega arith) (λ e. put_at_bound eq l i k v))
+  outcome_at_most refused l (InsertKey k v) = unless_refused_at_most NoMemory refused l _ 1 (put_key_bound eq l k v)
+  outcome_at_most refused l (OrInsert k v) = unless_refused_at_most NoMemory refused l _ 1 (put_new_bound eq l k v)
+  outcome_at_most refused l (Remove k) = none_added (without_bound (λ p. eq k p.0) l)
+  outcome_at_most refused l (RemoveEntry k) = none_added (without_bound (λ p. eq k p.0) l)
+  outcome_at_most refused l (SwapRemove k) = none_added (swap_without_first_bound (λ p. eq k p.0) l)
+  outcome_at_most refused l (SwapRemoveEntry k) = none_added (swap_without_first_bound (λ p. eq k p.0) l)
+  outcome_at_most refused l (RemoveIndex i) = cond_both {A = List (K × V) × MapReply K V} (nat_lt i (length l)) _ _ (λ p. length p.0 ≤ length l + 0) (λ e. none_added (remove_bound l i)) (λ e. omega arith)
+  outcome_at_most refused l (SwapRemoveIndex i) = cond_both {A = List (K × V) × MapReply K V} (nat_lt i (length l)) _ _ (λ p. length p.0 ≤ length l + 0) (λ e. none_added (swap_without_bound l i)) (λ e. omega arith)
+  outcome_at_most refused l Pop = none_added (take_bound (length l - 1) l)
   outcome_at_most refused l (SwapIndices i j) = cond_both {A = List (K × V) × MapReply K V} (nat_lt i (length l) && nat_lt j (length l)) _ _ (λ p. length p.0 ≤ length l + 0) (λ e. let f = length-swap l i j in omega (arith, f)) (λ e. omega arith)
-  outcome_at_most refused l (Truncate len) = none_added (length_take_at_most len l)
+  outcome_at_most refused l (Truncate len) = none_added (take_bound len l)
   outcome_at_most refused l Clear = omega arith
   outcome_at_most refused l Reverse = let e = length-reverse l in omega (arith, e)
-  outcome_at_most refused l (Append other) = unless_refused_at_most NoMemory refused l _ (length other.entries) (length_puts eq l other.entries)
+  outcome_at_most refused l (Append other) = unless_refused_at_most NoMemory refused l _ (length other.entries) (puts_bound eq l other.entries)
   outcome_at_most refused l _ = omega arith
 
   grows_at_most : (l : List (K × V)) (command : MapCommand K V) (reply : MapReply K V) (m : List (K × V)) → MakesNothing command → ListStep eq eq_value keys values l command reply m → length m ≤ length l + keys_inserted command

@@ -8,27 +8,27 @@ use Rattle.vecmap.specs.declared.set_run.command.SetCommand.TheVariants.{Exclusi
 use Rattle.vecmap.specs.declared.set_run.reply.SetReply.{SetReply}
 use Rattle.vecmap.specs.declared.set_run.reply.SetReply.TheVariants.{NoMemory, Truth}
 use Rattle.vecmap_set.specs.Contents.{Contents, HasRoom}
-use Rattle.vecmap_laws.proofs.LengthBounds.{length_add, length_adds, length_put_item, length_remove, length_swap_without, length_swap_without_first, length_take_at_most, length_without}
+use Rattle.vecmap_laws.proofs.LengthBounds.{add_bound, adds_bound, put_item_bound, remove_bound, swap_without_bound, swap_without_first_bound, take_bound, without_bound}
 use Rattle.vecmap_laws.proofs.RunSteps.{any_later, clone_succeeds, kept_at_most, none_added, none_refused_cons, unless_refused_at_most}
 use Rattle.vecmap_laws.proofs.SetRunsAlike.{has_outcome, is_refused, outcome}
 use Rattle.vecmap_laws.specs.SetReplies.{HoldsClones, MakesNothing, NoneRefused, elements_added}
 
 module _ {T : Type 0} (eq : T → T → Bool) (clones : clone.Ghosts T) where
   outcome_at_most : (refused : Bool) (s : List T) (command : SetCommand T) → length (outcome eq clones refused s command).0 ≤ length s + elements_added command
-  outcome_at_most refused s (Insert x) = unless_refused_at_most NoMemory refused s _ 1 (length_add eq s x)
-  outcome_at_most refused s (Replace x) = unless_refused_at_most NoMemory refused s _ 1 (length_put_item eq s x)
-  outcome_at_most refused s (Remove x) = none_added (length_without (eq x) s)
-  outcome_at_most refused s (Take x) = none_added (length_without (eq x) s)
-  outcome_at_most refused s (SwapRemove x) = none_added (length_swap_without_first (eq x) s)
-  outcome_at_most refused s (SwapTake x) = none_added (length_swap_without_first (eq x) s)
-  outcome_at_most refused s (RemoveIndex i) = cond_both {A = List T × SetReply T} (nat_lt i (length s)) _ _ (λ p. length p.0 ≤ length s + 0) (λ e. none_added (length_remove s i)) (λ e. omega arith)
-  outcome_at_most refused s (SwapRemoveIndex i) = cond_both {A = List T × SetReply T} (nat_lt i (length s)) _ _ (λ p. length p.0 ≤ length s + 0) (λ e. none_added (length_swap_without s i)) (λ e. omega arith)
-  outcome_at_most refused s Pop = none_added (length_take_at_most (length s - 1) s)
+  outcome_at_most refused s (Insert x) = unless_refused_at_most NoMemory refused s _ 1 (add_bound eq s x)
+  outcome_at_most refused s (Replace x) = unless_refused_at_most NoMemory refused s _ 1 (put_item_bound eq s x)
+  outcome_at_most refused s (Remove x) = none_added (without_bound (eq x) s)
+  outcome_at_most refused s (Take x) = none_added (without_bound (eq x) s)
+  outcome_at_most refused s (SwapRemove x) = none_added (swap_without_first_bound (eq x) s)
+  outcome_at_most refused s (SwapTake x) = none_added (swap_without_first_bound (eq x) s)
+  outcome_at_most refused s (RemoveIndex i) = cond_both {A = List T × SetReply T} (nat_lt i (length s)) _ _ (λ p. length p.0 ≤ length s + 0) (λ e. none_added (remove_bound s i)) (λ e. omega arith)
+  outcome_at_most refused s (SwapRemoveIndex i) = cond_both {A = List T × SetReply T} (nat_lt i (length s)) _ _ (λ p. length p.0 ≤ length s + 0) (λ e. none_added (swap_without_bound s i)) (λ e. omega arith)
+  outcome_at_most refused s Pop = none_added (take_bound (length s - 1) s)
   outcome_at_most refused s (SwapIndices i j) = cond_both {A = List T × SetReply T} (nat_lt i (length s) && nat_lt j (length s)) _ _ (λ p. length p.0 ≤ length s + 0) (λ e. let f = length-swap s i j in omega (arith, f)) (λ e. omega arith)
-  outcome_at_most refused s (Truncate len) = none_added (length_take_at_most len s)
+  outcome_at_most refused s (Truncate len) = none_added (take_bound len s)
   outcome_at_most refused s Clear = omega arith
   outcome_at_most refused s Reverse = let e = length-reverse s in omega (arith, e)
-  outcome_at_most refused s (Append other) = unless_refused_at_most NoMemory refused s _ (length other.elements) (length_adds eq s other.elements)
+  outcome_at_most refused s (Append other) = unless_refused_at_most NoMemory refused s _ (length other.elements) (adds_bound eq s other.elements)
   outcome_at_most refused s _ = omega arith
 
   grows_at_most : (s : List T) (command : SetCommand T) (reply : SetReply T) (t : List T) → MakesNothing command → ListStep eq clones s command reply t → length t ≤ length s + elements_added command

@@ -131,6 +131,8 @@ pub fn removals_are_forgotten<K: Eq, V>()
 {}
 
 /// A lookup in a list of two parts finds what the first part has, or else what the second has.
+///
+/// It is by a test of the keys: the `==` of a key, that of a text, or that of a query type of your own.
 #[tactic(auto, using(crate::proofs::Parts::lookup_by_append))]
 pub fn first_parts_are_found_first<K: Eq, V>()
     ensures { (a b : List (K × V)) (test : K → Bool)
@@ -139,7 +141,7 @@ pub fn first_parts_are_found_first<K: Eq, V>()
 
 /// If a function is applied to each value, a lookup finds the function of the value that it found before.
 ///
-/// An insertion then inserts the function of its value.
+/// It is by a test of the keys, as in [`first_parts_are_found_first`]. An insertion inserts the function of its value.
 #[tactic(auto, using(crate::proofs::LawLemmas::Maps::functions_of_values_are_found))]
 pub fn functions_of_values_are_found<K: Eq, V, W>()
     ensures value { (g : V → W) (l : List (K × V)) (test : K → Bool)
