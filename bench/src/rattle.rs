@@ -50,6 +50,7 @@ calls! { u64:
     large_insert_present = vecmap_bench_large_insert_present,
     large_remove = vecmap_bench_large_remove,
     large_swap_remove = vecmap_bench_large_swap_remove,
+    medium_remove = vecmap_bench_medium_remove,
     large_from_vec = vecmap_bench_large_from_vec,
     large_entry = vecmap_bench_large_entry,
     get = vecmap_bench_get,
@@ -107,6 +108,7 @@ calls! { u64:
     vec_push = vecmap_bench_vec_push,
     vec_remove = vecmap_bench_vec_remove,
     vec_insert = vecmap_bench_vec_insert,
+    vec_remove_large = vecmap_bench_vec_remove_large,
 }
 
 calls! { u8:

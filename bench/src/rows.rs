@@ -194,6 +194,7 @@ fn large(it: &Numbers) -> Vec<Row<'_, u64>> {
         row!("large insert present", n, &it.keys, &it.hits, large_insert_present, linear, index),
         row!("large remove+insert", 8 * n, &it.keys, &it.orders, large_remove, linear, index),
         row!("large swap_rm+insert", 8 * n, &it.keys, &it.orders, large_swap_remove, index),
+        row!("64-byte remove+insert", 8 * n, &it.keys, &it.orders, medium_remove, linear, index),
         row!("large From<Vec>", n, &it.keys, &[], large_from_vec, linear, index),
         row!("large entry absent", n, &it.keys, &[], large_entry, linear, index),
     ]
@@ -222,6 +223,7 @@ fn vectors(it: &Numbers) -> Vec<Row<'_, u64>> {
         row!("Vec push", n, &it.keys, &[], vec_push),
         row!("Vec remove(0)", n, &it.keys, &[], vec_remove),
         row!("Vec insert(0)", n, &it.keys, &[], vec_insert),
+        row!("Vec remove, large", 8 * n, &it.keys, &it.orders, vec_remove_large),
     ];
     for row in &mut rows {
         row.loops[1].0 = VECTOR;

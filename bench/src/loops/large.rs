@@ -1,4 +1,4 @@
-//! Loops over maps whose values have 128 bytes.
+//! Loops over maps whose values have 128 bytes, and one over pairs of 64 bytes.
 
 /// Loops over any map. `$remove` keeps the order, `$last` returns the last pair, and `$from` takes a vector.
 macro_rules! large_loops {
@@ -50,6 +50,25 @@ macro_rules! large_loops {
         #[inline(never)]
         pub fn large_remove(keys: &[u64], probes: &[u64], rounds: u64) -> u64 {
             let mut map = large_filled(keys);
+            let mut sum = 0u64;
+            for round in 0..rounds {
+                for probe in probes {
+                    if let Some(value) = map.$remove(probe) {
+                        sum = sum.wrapping_add(value[3] ^ round);
+                        map.insert(*probe, value);
+                    }
+                }
+            }
+            sum
+        }
+
+        // The pairs have 64 bytes.
+        #[inline(never)]
+        pub fn medium_remove(keys: &[u64], probes: &[u64], rounds: u64) -> u64 {
+            let mut map: $map<u64, [u64; 7]> = $map::with_capacity(keys.len());
+            for key in keys {
+                map.insert(*key, [*key; 7]);
+            }
             let mut sum = 0u64;
             for round in 0..rounds {
                 for probe in probes {

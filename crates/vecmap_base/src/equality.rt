@@ -44,7 +44,7 @@ pub fn pairs_equal<K: Eq, V: PartialEq>(a: &[(K, V)], b: &[(K, V)]) -> bool
 }
 
 // Returns `true` if each pair of `a` occurs equally often in both lists. The first pairs differ. Up to two pairs need
-// no marks, and are compared in the caller's code.
+// no marks, and are compared in the caller's code. Marks for a few pairs cost less to make than marks for many.
 #[inline(always)]
 fn rests_equal<K: Eq, V: PartialEq>(a: &[(K, V)], b: &[(K, V)]) -> bool
     requires as_long { length a.now ≡ length b.now }
@@ -55,10 +55,13 @@ fn rests_equal<K: Eq, V: PartialEq>(a: &[(K, V)], b: &[(K, V)]) -> bool
     if b.len() <= 2 {
         return pairs_match_crosswise(a, b);
     }
+    if b.len() <= MARKS_SMALL {
+        return pairs_match_by_marks::<MARKS_SMALL, K, V>(a, b);
+    }
     long_rests_equal(a, b)
 }
 
-// Like `rests_equal`, for more pairs. Marks for a few pairs cost less to make than marks for many.
+// Like `rests_equal`, for more pairs.
 #[inline(never)]
 fn long_rests_equal<K: Eq, V: PartialEq>(a: &[(K, V)], b: &[(K, V)]) -> bool
     requires as_long { length a.now ≡ length b.now }
@@ -66,9 +69,6 @@ fn long_rests_equal<K: Eq, V: PartialEq>(a: &[(K, V)], b: &[(K, V)]) -> bool
     requires first_differ { FirstDiffer K.eq V.eq a.now b.now }
     ensures { result ≡ counts_agree K.eq V.eq a.now a.now b.now }
 {
-    if b.len() <= MARKS_SMALL {
-        return pairs_match_by_marks::<MARKS_SMALL, K, V>(a, b);
-    }
     if b.len() <= MARKS_MEDIUM {
         return pairs_match_by_marks::<MARKS_MEDIUM, K, V>(a, b);
     }

@@ -142,19 +142,6 @@ pub(crate) fn is_in_few<T: Eq>(items: &[T], item: &T) -> bool
     items.iter().any(|other| *item == *other)
 }
 
-// The same as `contains_item`, for small items. The loop over the blocks becomes part of the caller.
-#[inline(always)]
-pub(crate) fn is_in_blocks<T: Eq>(items: &[T], item: &T) -> bool
-    ensures { result ≡ is_member T.eq items.now item.now }
-{
-    is_any_in_blocks(
-        items,
-        |other: &T| -> bool
-            ensures { result ≡ T.eq item.entry.now other.now }
-        { *item == *other },
-    )
-}
-
 // Returns `true` if `items` has at least `length` items, and these are small.
 #[inline(always)]
 pub(crate) fn are_small<T>(items: &[T], length: usize) -> bool {

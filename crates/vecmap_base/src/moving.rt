@@ -14,10 +14,8 @@ const MAX_CARRIED_RIGHT: usize = 32;
 // The largest size, in bytes, of an item that `remove_item` moves by a rotation.
 const MAX_BYTES_FOR_ROTATION: usize = 64;
 
-// The least and the largest size, in bytes, of an item that `remove_item` moves by one rotation for each part of the
-// list, and the size of a part.
-const MIN_BYTES_FOR_PARTS: usize = 48;
-
+// The largest size, in bytes, of a larger item that `remove_item` moves by one rotation for each part of the list, and
+// the size of a part.
 const MAX_BYTES_FOR_PARTS: usize = 160;
 
 const BYTES_OF_PART: usize = 2048;
@@ -145,9 +143,9 @@ fn remove_and_shift<T>(items: &mut Vec<T>, index: usize) -> T
     items.pop().unwrap()
 }
 
-// Moves the item at `from` towards the end, by one rotation for each part of the list, and returns its new index. Then
-// fewer items follow it than a part has. The kit moves all of them in such parts, too, but as it knows the length of a
-// part, LLVM copies each item by itself.
+// Moves the item at `from` towards the end, by one rotation for each part of the list, and returns its new index. At
+// most a part follows it then. The kit moves all items in such parts, too, but as it knows the length of a part, LLVM
+// copies each item by itself.
 fn move_by_parts<T>(items: &mut [T], from: usize) -> usize
     requires { from < length items.old }
     ensures within { result < length items.new }
@@ -155,12 +153,12 @@ fn move_by_parts<T>(items: &mut [T], from: usize) -> usize
     ensures items { remove items.new result ≡ remove items.old from }
 {
     let size = size_of_val(&items[from]);
-    if size < MIN_BYTES_FOR_PARTS || MAX_BYTES_FOR_PARTS < size {
+    if size <= MAX_BYTES_FOR_ROTATION || MAX_BYTES_FOR_PARTS < size {
         return from;
     }
     let part = (BYTES_OF_PART / size).max(1);
     let mut at = from;
-    while part < items.len() - at {
+    while part < items.len() - 1 - at {
         move_part(items, at, at + part);
         at += part;
     }

@@ -5,9 +5,8 @@ ghost use Rattle.std.specs.Set.{is_member};
 ghost use Rattle.vecmap_base.specs.Equality.{is_within};
 ghost use Rattle.vecmap_base.specs.Items.{both};
 
-use crate::lookup::{
-    MIN_LENGTH_FOR_BLOCKS, MIN_LENGTH_FOR_CALL, are_small, is_in_blocks, is_in_few,
-};
+use crate::lookup::{MIN_LENGTH_FOR_BLOCKS, MIN_LENGTH_FOR_CALL, are_small, is_in_few};
+use crate::unrolled::is_any_in_blocks;
 
 /// Returns `true` if each of `items` is equal to one of `others`.
 ///
@@ -64,12 +63,19 @@ fn overlap<T: Eq>(items: &[T], others: &[T]) -> bool
 }
 
 // The same as `are_within`, for small others. It is not inlined, so that its loop does not depend on the code around
-// it.
+// it. The inner loop is, as no other function has this closure.
 #[inline(never)]
 fn are_within_blocks<T: Eq>(items: &[T], others: &[T]) -> bool
     ensures { result ≡ is_within T.eq items.now others.now }
 {
-    items.iter().all(|item| is_in_blocks(others, item))
+    items.iter().all(|item| {
+        is_any_in_blocks(
+            others,
+            |other: &T| -> bool
+                ensures { result ≡ T.eq item.entry.now other.now }
+            { *item == *other },
+        )
+    })
 }
 
 // The same as `overlap`, for small others. It is not inlined, either.
@@ -77,5 +83,12 @@ fn are_within_blocks<T: Eq>(items: &[T], others: &[T]) -> bool
 fn overlap_blocks<T: Eq>(items: &[T], others: &[T]) -> bool
     ensures { result ≡ list_any (is_member T.eq others.now) items.now }
 {
-    items.iter().any(|item| is_in_blocks(others, item))
+    items.iter().any(|item| {
+        is_any_in_blocks(
+            others,
+            |other: &T| -> bool
+                ensures { result ≡ T.eq item.entry.now other.now }
+            { *item == *other },
+        )
+    })
 }

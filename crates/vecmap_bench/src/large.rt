@@ -1,4 +1,4 @@
-//! Values of 128 bytes.
+//! Values of 128 bytes, and pairs of 64 bytes.
 use crate::REFUSED;
 use std::alloc::{AllocError, Global};
 use vecmap::VecMap;
@@ -159,4 +159,37 @@ pub extern "C" fn vecmap_bench_large_insert_present(
     rounds: u64,
 ) -> u64 {
     replacements(alloc, keys, probes, rounds).unwrap_or(REFUSED)
+}
+
+// The pairs have 64 bytes.
+#[unsafe(no_mangle)]
+pub extern "C" fn vecmap_bench_medium_remove(
+    alloc: Global,
+    keys: &[u64],
+    probes: &[u64],
+    rounds: u64,
+) -> u64 {
+    let Ok(mut map) = medium_filled(alloc, keys) else {
+        return REFUSED;
+    };
+    let mut sum: u64 = 0;
+    for round in 0..rounds {
+        for probe in probes {
+            if let Some(value) = map.remove(probe) {
+                sum = sum.wrapping_add(value[3] ^ round);
+                if map.insert(*probe, value).is_err() {
+                    return REFUSED;
+                }
+            }
+        }
+    }
+    sum
+}
+
+fn medium_filled(alloc: Global, keys: &[u64]) -> Result<VecMap<u64, [u64; 7]>, AllocError> {
+    let mut map = VecMap::with_capacity(alloc, keys.len())?;
+    for key in keys {
+        map.insert(*key, [*key; 7])?;
+    }
+    Ok(map)
 }
