@@ -16,7 +16,7 @@ use vecmap_laws::sets::{
 pub fn shared_list(alloc: Global, a: &VecSet<u32>, b: &VecSet<u32>) -> Result<Vec<u32>, AllocError>
     ensures items { IfOk result (λ items. items.items
         ≡ lazy_intersection nat_eq a.now.elements b.now.elements) }
-    ensures symmetric { IfOk result (λ items. IsTrue (has_same_items nat_eq items.items
+    ensures intersection { IfOk result (λ items. IsTrue (has_same_items nat_eq items.items
         (lazy_intersection nat_eq b.now.elements a.now.elements))) }
 {
     algebra_is_symmetric::<u32>();
@@ -56,7 +56,7 @@ pub fn counts(a: &VecSet<u32>, b: &VecSet<u32>) -> (usize, usize)
     ensures intersection { result.0
         ≡ length (lazy_intersection nat_eq a.now.elements b.now.elements) }
     ensures union { result.1 ≡ length (lazy_union nat_eq a.now.elements b.now.elements) }
-    ensures both { result.0 + result.1 ≡ length a.now.elements + length b.now.elements }
+    ensures count { result.0 + result.1 ≡ length a.now.elements + length b.now.elements }
 {
     lengths_of_intersection_and_union_add_up::<u32>();
     // As in `united_without_repeats`.

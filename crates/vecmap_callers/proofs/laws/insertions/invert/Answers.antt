@@ -1,4 +1,4 @@
-use Rattle.std.proofs.Common.{◌≡◌, ℕ, List, [], ◌∷◌, ap, map, nat_eq, rules, ◌∙◌}
+use Rattle.std.proofs.Common.{◌≡◌, ℕ, List, ◌∷◌, ap, map, nat_eq, rules, ◌∙◌}
 use Rattle.vecmap.specs.Pairs.{lookup}
 use Rattle.vecmap_laws.specs.FirstValue.{put_new, puts_new}
 use Rattle.vecmap_callers.proofs.laws.insertions.invert.Goals as goal
