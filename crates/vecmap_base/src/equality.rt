@@ -29,7 +29,6 @@ const MARKS_LARGE: usize = 1024;
 /// ```
 /// pairs_equal(&[('a', 1), ('b', 2)], &[('b', 2), ('a', 1)]) // true
 /// ```
-#[inline]
 pub fn pairs_equal<K: Eq, V: PartialEq>(a: &[(K, V)], b: &[(K, V)]) -> bool
     ensures { result ≡ has_same_counts K.eq V.eq a.now b.now }
 {
@@ -44,8 +43,7 @@ pub fn pairs_equal<K: Eq, V: PartialEq>(a: &[(K, V)], b: &[(K, V)]) -> bool
 }
 
 // Returns `true` if each pair of `a` occurs equally often in both lists. The first pairs differ. Up to two pairs need
-// no marks, and are compared in the caller's code. Marks for a few pairs cost less to make than marks for many.
-#[inline(always)]
+// no marks, and marks for a few pairs cost less to make than marks for many.
 fn rests_equal<K: Eq, V: PartialEq>(a: &[(K, V)], b: &[(K, V)]) -> bool
     requires as_long { length a.now ≡ length b.now }
     requires not_empty { 0 < length a.now }
@@ -58,17 +56,6 @@ fn rests_equal<K: Eq, V: PartialEq>(a: &[(K, V)], b: &[(K, V)]) -> bool
     if b.len() <= MARKS_SMALL {
         return pairs_match_by_marks::<MARKS_SMALL, K, V>(a, b);
     }
-    long_rests_equal(a, b)
-}
-
-// Like `rests_equal`, for more pairs.
-#[inline(never)]
-fn long_rests_equal<K: Eq, V: PartialEq>(a: &[(K, V)], b: &[(K, V)]) -> bool
-    requires as_long { length a.now ≡ length b.now }
-    requires not_empty { 0 < length a.now }
-    requires first_differ { FirstDiffer K.eq V.eq a.now b.now }
-    ensures { result ≡ counts_agree K.eq V.eq a.now a.now b.now }
-{
     if b.len() <= MARKS_MEDIUM {
         return pairs_match_by_marks::<MARKS_MEDIUM, K, V>(a, b);
     }

@@ -88,8 +88,8 @@ fn find_free<K: Eq, V: PartialEq>(pairs: &[(K, V)], taken: &[bool], pair: &(K, V
     None
 }
 
-// Returns the index of the first pair whose key is equal to `key`. With few marks there are few pairs, and a plain loop
-// is faster than one that compares two of them in each iteration.
+// Returns the index of the first pair whose key is equal to `key`. With few marks there are few pairs, so that LLVM
+// unrolls a plain loop.
 #[inline(always)]
 fn find_key<K: Eq, V>(pairs: &[(K, V)], marks: usize, key: &K) -> Option<usize>
     ensures index { result ≡ index_of K.eq pairs.now key.now }
