@@ -3,9 +3,11 @@ ghost use Rattle.std.specs.Prelude.{◌≡◌, ◌<◌, ◌≤◌, ◌&&◌, dro
 ghost use Rattle.std.specs.List.{AllZip};
 ghost use Rattle.vecmap_base.specs.Equality.{FirstDiffer, count, counts_agree, has_same_counts, same_pair};
 
-use crate::matching::{MARKS_SMALL, is_same, pairs_match_by_marks, pairs_match_crosswise};
+use crate::matching::{is_same, pairs_match_by_marks, pairs_match_crosswise};
 
-// The larger numbers of pairs for which marks are made.
+// The largest numbers of pairs for which marks are made.
+const MARKS_SMALL: usize = 8;
+
 const MARKS_MEDIUM: usize = 128;
 
 const MARKS_LARGE: usize = 1024;

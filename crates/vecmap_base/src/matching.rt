@@ -2,12 +2,8 @@
 ghost use Rattle.std.specs.Prelude.{◌≡◌, ◌<◌, ◌≤◌, ◌^◌, IfSome, None, false, length, replicate, slice_index_or, true};
 ghost use Rattle.std.specs.List.{list_any};
 ghost use Rattle.vecmap_base.specs.Equality.{FirstDiffer, counts_agree, free, same_pair};
-ghost use Rattle.vecmap_base.specs.Pairs.{index_of};
 
 use crate::lookup::find;
-
-// The smallest number of pairs for which marks are made.
-pub(crate) const MARKS_SMALL: usize = 8;
 
 // Like `pairs_match`, with `N` marks. It is a call of its own: a function makes all its arrays when it begins, also
 // those of branches that it does not take.
@@ -28,7 +24,6 @@ pub(crate) fn pairs_match_by_marks<const N: usize, K: Eq, V: PartialEq>(
 
 // Returns `true` if each pair of `a` is matched with a pair of `b` that has an equal key and an equal value. `taken`
 // has no marks yet. The first pairs are known to differ, and are not compared with each other again.
-#[inline(always)]
 fn pairs_match<K: Eq, V: PartialEq>(a: &[(K, V)], b: &[(K, V)], taken: &mut [bool]) -> bool
     requires as_long { length a.now ≡ length b.now }
     requires enough { length b.now ≤ length taken.old }
@@ -66,7 +61,6 @@ pub(crate) fn pairs_match_crosswise<K: Eq, V: PartialEq>(a: &[(K, V)], b: &[(K, 
 }
 
 // Returns the index of the first pair without a mark that has the same key and the same value as `pair`.
-#[inline(always)]
 fn find_free<K: Eq, V: PartialEq>(pairs: &[(K, V)], taken: &[bool], pair: &(K, V)) -> Option<usize>
     requires enough { length pairs.now ≤ length taken.now }
     ensures within { IfSome result (λ i. i < length pairs.now) }
@@ -76,7 +70,7 @@ fn find_free<K: Eq, V: PartialEq>(pairs: &[(K, V)], taken: &[bool], pair: &(K, V
     ensures none { result ≡ None
         → list_any (same_pair K.eq V.eq pair.now) (free pairs.now taken.now) ≡ false }
 {
-    let first = find_key(pairs, taken.len(), &pair.0)?;
+    let first = find(pairs, &pair.0)?;
     if !taken[first] && pair.1 == pairs[first].1 {
         return Some(first);
     }
@@ -86,19 +80,6 @@ fn find_free<K: Eq, V: PartialEq>(pairs: &[(K, V)], taken: &[bool], pair: &(K, V
         }
     }
     None
-}
-
-// Returns the index of the first pair whose key is equal to `key`. With few marks there are few pairs, so that LLVM
-// unrolls a plain loop.
-#[inline(always)]
-fn find_key<K: Eq, V>(pairs: &[(K, V)], marks: usize, key: &K) -> Option<usize>
-    ensures index { result ≡ index_of K.eq pairs.now key.now }
-    ensures within { IfSome result (λ i. i < length pairs.now) }
-{
-    if marks <= MARKS_SMALL {
-        return pairs.iter().position(|pair| *key == pair.0);
-    }
-    find(pairs, key)
 }
 
 // Returns `true` if the keys of two pairs are equal, and their values too.
