@@ -1,4 +1,5 @@
 //! Callers of laws about what removals leave of a map.
+ghost use Rattle.std.specs.List.{remove_range};
 ghost use Rattle.std.specs.Option.{option_and_then};
 ghost use Rattle.std.specs.Prelude.{◌≡◌, ◌-◌, ◌<◌, ℕ, List, None, Some, String, bytes_eq, false, filter, if◌then◌else◌, is_some, length, nat_eq, nat_lt, not, reverse, slice_get, string_eq, take};
 ghost use Rattle.std.specs.Set.{is_member};
@@ -84,7 +85,8 @@ pub fn keep_first<K: Eq + Drop, V: Drop>(map: &mut VecMap<K, V>, len: usize)
 pub fn cut_out<K: Eq + Drop, V: Drop>(map: &mut VecMap<K, V>, from: usize, to: usize)
     requires within { IsRangeWithin from to (length map.old.entries) }
     requires distinct { HasDistinctKeys K.eq map.old.entries }
-    ensures { (key : K) → index_of K.eq map.new.entries key
+    ensures entries { map.new.entries ≡ remove_range map.old.entries from to }
+    ensures indices { (key : K) → index_of K.eq map.new.entries key
         ≡ drained from to (index_of K.eq map.old.entries key) }
 {
     drains_change_indices::<K, V>();

@@ -1,4 +1,5 @@
 //! Callers of laws about what removals leave of a set.
+ghost use Rattle.std.specs.List.{remove_range};
 ghost use Rattle.std.specs.Option.{option_map_or};
 ghost use Rattle.std.specs.Prelude.{◌&&◌, ◌≡◌, ◌-◌, ◌≤◌, ℕ, IfOk, OnErr, OnOk, Some, drop, false, filter, if◌then◌else◌, is_some, length, nat_eq, nat_lt, not, slice_get, take};
 ghost use Rattle.std.specs.Set.{is_member};
@@ -92,7 +93,8 @@ pub fn split_set<T: Eq>(set: &mut VecSet<T>, at: usize) -> Result<VecSet<T>, All
 /// their number.
 pub fn cut_out_of_set<T: Eq + Drop>(set: &mut VecSet<T>, from: usize, to: usize)
     requires { IsRangeWithin from to (length set.old.elements) }
-    ensures { (item : T) → item_index T.eq set.new.elements item
+    ensures elements { set.new.elements ≡ remove_range set.old.elements from to }
+    ensures indices { (item : T) → item_index T.eq set.new.elements item
         ≡ drained from to (item_index T.eq set.old.elements item) }
 {
     drains_change_indices::<T>();
