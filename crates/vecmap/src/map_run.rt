@@ -24,7 +24,8 @@ use vecmap_map::VecMap;
 ///
 /// # Complexity
 ///
-/// One allocation for the replies. Each command costs what its call does, and a clone of what the call lends.
+/// One allocation for the replies. Each command costs what its call does, and a clone of what the call returns a
+/// reference to.
 ///
 /// # Examples
 ///

@@ -30,7 +30,8 @@ use vecmap_set::VecSet;
 ///
 /// # Complexity
 ///
-/// One allocation for the replies. Each command costs what its call does, and a clone of what the call lends.
+/// One allocation for the replies. Each command costs what its call does, and a clone of what the call returns a
+/// reference to.
 ///
 /// # Examples
 ///

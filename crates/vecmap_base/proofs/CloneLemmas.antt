@@ -16,7 +16,7 @@ module _ {A S : Type 0} (is_clone : A → A → Type 0) (f : S → A → S) wher
         e ∙ ap (λ s. f s y) h.2 ∙ sym (fold_push f old clones y),
       )
 
-  -- The same for items that lend what is cloned.
+  -- The same for items that are references to what is cloned.
   pub lent_clone_taken : {L : Type 0} (deref : L → A) (old : S) (items : List L) (mid new : S) (item : L) (y : A) → TakesClones old (map deref items) mid → is_clone (deref item) y → new ≡ f mid y → TakesClones old (map deref (items ++ item ∷ [])) new
   lent_clone_taken deref old items mid new item y h c e =
       subst (λ (l : List A). TakesClones old l new) (sym (map_push deref items item)) (clone_taken old (map deref items) mid new (deref item) y h c e)

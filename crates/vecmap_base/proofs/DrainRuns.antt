@@ -1,4 +1,4 @@
--- What a drain returns, and what it leaves, over any sequence of pulls.
+-- What a drain returns, and what it leaves, over any sequence of calls of `next` and `next_back`.
 use Rattle.std.specs.Prelude.{List, [], ◌∷◌, length}
 use Rattle.std.specs.Iterator.Runs.{YieldsInOrder, YieldsInReverse}
 use Rattle.std.proofs.Common.{ap, subst}
@@ -17,12 +17,12 @@ module _ {D A : Type 0} (rest : D → List A) (Keeps : D → D → Type 0) where
   drains_in_reverse p s = as_is_back p (rest p.from) (from_back (DrainsLast rest Keeps) (λ y. y) rest (λ s t h. ap length h.0) (λ s x t h. h.0) p s)
 
   module _ (same : (s : D) → Keeps s s) (on : (s t u : D) → Keeps s t → Keeps t u → Keeps s u) where
-    -- What one pull from the front keeps, a sequence of them keeps.
+    -- What one call of `next` keeps, a sequence of them keeps.
     pub keeps_along : (s : D) → KeepsAlong (DrainsFirst rest Keeps) Keeps s
     keeps_along s [] t y = subst (Keeps s) y (same s)
     keeps_along s (x ∷ xs) t y = on s y.0 t y.1.1 (keeps_along y.0 xs t y.2)
 
-    -- What one pull from the back keeps, a sequence of them keeps.
+    -- What one call of `next_back` keeps, a sequence of them keeps.
     pub keeps_along_back : (s : D) → KeepsAlong (DrainsLast rest Keeps) Keeps s
     keeps_along_back s [] t y = subst (Keeps s) y (same s)
     keeps_along_back s (x ∷ xs) t y = on s y.0 t y.1.1 (keeps_along_back y.0 xs t y.2)

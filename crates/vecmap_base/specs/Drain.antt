@@ -1,19 +1,19 @@
 -- What contracts say of drains, which remove a range from a collection. `rest` is the list of the items that a drain
--- has still to return. `Keeps` says that a pull changes nothing of what the collection holds once the drain is dropped.
+-- has still to return. `Keeps` says that a call changes nothing of what the collection holds once the drain is dropped.
 use Rattle.std.specs.Prelude.{◌≡◌, List, [], ◌∷◌, ◌++◌, MatchOption, Option}
 use Rattle.std.specs.Iterator.{Yields}
 
 module _ {D A : Type 0} (rest : D → List A) (Keeps : D → D → Type 0) where
-  -- A pull from `s` returned the first item of the rest and left `t`. If nothing was left, it returned `None` and
-  -- changed nothing.
+  -- A call of `next` in `s` returned the first item of the rest and left `t`. If nothing was left, it returned `None`
+  -- and changed nothing.
   abbrev pub DrainsFirst : D → Option A → D → Type 0
   DrainsFirst s r t = MatchOption r ((rest s ≡ []) × (t ≡ s)) (λ x. (rest s ≡ x ∷ rest t) × Keeps s t)
 
-  -- The same of a pull from the back.
+  -- The same of `next_back`.
   abbrev pub DrainsLast : D → Option A → D → Type 0
   DrainsLast s r t = MatchOption r ((rest s ≡ []) × (t ≡ s)) (λ x. (rest s ≡ rest t ++ x ∷ []) × Keeps s t)
 
 module _ {D A : Type 0} (pull : D → Option A → D → Type 0) (Keeps : D → D → Type 0) where
-  -- Each state that these pulls lead to, from the front or from the back, keeps what `s` keeps.
+  -- Each state that these calls lead to, from the front or from the back, keeps what `s` keeps.
   abbrev pub KeepsAlong : D → Type 0
   KeepsAlong s = (xs : List A) (t : D) → Yields pull s xs t → Keeps s t

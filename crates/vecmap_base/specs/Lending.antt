@@ -1,4 +1,4 @@
--- What the iterators that lend keys or values by `&mut` have left, and the names of their loans.
+-- What the iterators that yield `&mut` references to keys or values have left, and the names of their borrows.
 use Rattle.std.specs.Prelude.{List}
 use Rattle.std.specs.Borrow.{GName}
 use Rattle.std.specs.Map.{keys_of, values_of}
@@ -9,7 +9,7 @@ use Rattle.vecmap_base.specs.declared.iter_mut.KeysMut.{KeysMut}
 use Rattle.vecmap_base.specs.declared.iter_mut.ValuesMut.{ValuesMut}
 
 module _ {K V : Type 0} where
-  -- The pairs that an `IterMut` has left, and the name of its loan.
+  -- The pairs that an `IterMut` has left, and the name of its borrow.
   abbrev pub iter_mut_rest : IterMut K V → List (K × V)
   iter_mut_rest s = slice.iter_mut_rest s.pairs
 
@@ -23,14 +23,14 @@ module _ {K V : Type 0} where
   abbrev pub iter_mut2_name : IterMut2 K V → GName
   iter_mut2_name s = slice.iter_mut_name s.pairs
 
-  -- The keys that a `KeysMut` has left, and the name of its loan.
+  -- The keys that a `KeysMut` has left, and the name of its borrow.
   abbrev pub keys_mut_rest : KeysMut K V → List K
   keys_mut_rest s = keys_of (slice.iter_mut_rest s.pairs)
 
   abbrev pub keys_mut_name : KeysMut K V → GName
   keys_mut_name s = slice.iter_mut_name s.pairs
 
-  -- The values that a `ValuesMut` has left, and the name of its loan.
+  -- The values that a `ValuesMut` has left, and the name of its borrow.
   abbrev pub values_mut_rest : ValuesMut K V → List V
   values_mut_rest s = values_of (slice.iter_mut_rest s.pairs)
 

@@ -1,4 +1,4 @@
--- What iterators lend and give.
+-- What iterators have left and return.
 use Rattle.std.specs.Prelude.{◌≡◌, ℕ, ◌<◌, ◌^◌, IfSome, List, Option, Some, length}
 use Rattle.std.specs.Borrow.{MutBor}
 use Rattle.std.specs.Iterator.{UpTo, at_most}
@@ -23,7 +23,7 @@ ShowsAll shows l r = (r ≡ l) × (length r < 2 ^ 64) × ShowsInOrder shows × S
 abbrev pub GivesAll : {X : Type 0} → List X → List X → Type 0
 GivesAll {X} l r = (r ≡ l) × (length r < 2 ^ 64) × GivesInOrder X × GivesInReverse X
 
--- An iterator that is not seen as a list, as its loan is followed: in the state `s` it has the list `rest s` left.
+-- An iterator that is not seen as a list, as its borrow is followed: in the state `s` it has the list `rest s` left.
 module _ {S A X : Type 0} (shows : A → X) (rest : S → List X) where
   -- A call of `next` at `s` returned `r`, which shows the first item that was left, and led to `t`.
   abbrev pub TakesFirstOf : S → Option A → S → Type 0

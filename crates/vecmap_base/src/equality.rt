@@ -18,13 +18,14 @@ const MARKS_LARGE: usize = 1024;
 /// list.
 ///
 /// If the lengths differ, nothing is compared. Otherwise, the call skips the equal pairs at the front of both lists. It
-/// then matches the rests one to one, each pair with the first one that has the same key and value and is still free.
+/// then matches the remaining pairs one to one, each pair with the first one that has the same key and value and is
+/// still free.
 ///
 /// # Complexity
 ///
-/// For two lists of n pairs that are equal in the same order, n comparisons of keys. If the rests have at most 1,024
-/// pairs, at most n² comparisons, and at most n(n + 1)/2 if the lists are equal and no keys repeat. If they have more,
-/// the call counts each pair in both lists, with at most 2n² + 1 comparisons. Does not allocate.
+/// For two lists of n pairs that are equal in the same order, n comparisons of keys. If at most 1,024 pairs remain, at
+/// most n² comparisons, and at most n(n + 1)/2 if the lists are equal and no keys repeat. If more remain, the call
+/// counts each pair in both lists, with at most 2n² + 1 comparisons. Does not allocate.
 ///
 /// # Examples
 ///

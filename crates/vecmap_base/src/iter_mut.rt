@@ -1,10 +1,11 @@
-//! The iterators that lend keys or values by `&mut`.
+//! The iterators that yield `&mut` references to keys or values.
 //!
 //! In contracts an iterator has a list of what it has left, as it was when the iterator was created. `next` removes the
 //! first item of this list and returns it, and `next_back` the last. Once the list is empty, both return `None`. Each
 //! call takes constant time and does not allocate.
 //!
-//! An iterator also has the name of its loan, by which a contract says what the lender holds once the loan ends.
+//! An iterator also has the name of its borrow, by which a contract says what the collection holds once the borrow
+//! ends.
 ghost use Rattle.std.specs.Prelude.{◌≡◌, length};
 ghost use Rattle.std.specs.Iterator.{at_most};
 ghost use Rattle.std.specs.Map.{keys_of, values_of};

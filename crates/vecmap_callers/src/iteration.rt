@@ -121,7 +121,7 @@ pub fn pull_keys(map: &VecMap<u64, u32>)
     prove!(back.is_none());
 }
 
-/// Adds one to each value. The value that the loop lends is the one that the map held when the loop began.
+/// Adds one to each value. The value that the loop yields is the one that the map held when the loop began.
 pub fn add_one(map: &mut VecMap<u64, u32>)
     requires { All (λ v. v < 100) (values_of map.old.entries) }
     ensures len { length map.new.entries ≡ length map.old.entries }

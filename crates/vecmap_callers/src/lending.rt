@@ -1,4 +1,4 @@
-//! Callers of the calls that lend a value for writing, proved from the contracts of these calls alone.
+//! Callers of the calls that return a `&mut` reference to a value, proved from the contracts of these calls alone.
 ghost use Rattle.std.specs.Prelude.{◌≡◌, ◌<◌, IsSome, is_some, length};
 ghost use Rattle.vecmap.specs.Contents.{with_value_at, with_value_of};
 ghost use Rattle.vecmap.specs.Pairs.{index_of, value_at};

@@ -1,5 +1,5 @@
-//! Callers of the iterators that lend keys or values by `&mut`. Afterwards they know the length and the capacity of the
-//! map, without a proof by hand.
+//! Callers of the iterators that yield `&mut` references to keys or values. Afterwards they know the length and the
+//! capacity of the map, without a proof by hand.
 //!
 //! A call of `update_values` in place of the loop knows what was written, as in the functions whose names end in
 //! `_by_update`.

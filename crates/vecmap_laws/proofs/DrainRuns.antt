@@ -1,4 +1,4 @@
--- What a drain returns, and what it leaves, over any sequence of pulls.
+-- What a drain returns, and what it leaves, over any sequence of calls of `next` and `next_back`.
 use Rattle.std.specs.Prelude.{◌≡◌, List, [], ◌∷◌, None, Option, Some, map, refl}
 use Rattle.std.specs.Iterator.{YieldsFirstBy, YieldsLastBy}
 use Rattle.std.specs.Option.{option_map}
@@ -22,7 +22,7 @@ module _ {D A : Type 0} (rest : D → List A) (Keeps : D → D → Type 0) where
   gives_last s None t h = (h.0, ap rest h.1 ∙ h.0)
   gives_last s (Some x) t h = h.0
 
-  -- Any mixture of pulls returns what the list of the rest gives.
+  -- Any mixture of calls returns what the list of the rest has.
   pub drains_pull : (s : D) (ends : List End) (items : List (Option A)) (t : D) → PullsBy (DrainsFirst rest Keeps) (DrainsLast rest Keeps) s ends items t → Pulls (rest s) ends items (rest t)
   drains_pull s ends items t h =
       subst (λ l. Pulls (rest s) ends l (rest t)) (each_as_is items) (pulls_by (λ x. x) rest (DrainsFirst rest Keeps) (DrainsLast rest Keeps) gives_first gives_last s ends items t h)
@@ -36,7 +36,7 @@ module _ {D A : Type 0} (rest : D → List A) (Keeps : D → D → Type 0) where
     last_keeps s None t h = subst (Keeps s) (sym h.1) (same s)
     last_keeps s (Some x) t h = h.1
 
-    -- What each pull keeps, any mixture of pulls keeps.
+    -- What each call keeps, any mixture of calls keeps.
     pub keeps_pulled : (s : D) (ends : List End) (items : List (Option A)) (t : D) → PullsBy (DrainsFirst rest Keeps) (DrainsLast rest Keeps) s ends items t → Keeps s t
     keeps_pulled s [] items t h = subst (Keeps s) (sym h.1) (same s)
     keeps_pulled s (front ∷ ends) items t h = on s h.1 t (first_keeps s h.0 h.1 h.3) (keeps_pulled h.1 ends h.2 t h.5)

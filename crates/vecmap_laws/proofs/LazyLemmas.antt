@@ -1,5 +1,5 @@
--- Pulls of iterators over the elements that are kept. The idea: a pull at either end keeps or passes one element after
--- the other.
+-- Calls of `next` and `next_back` of iterators over the elements that are kept. The idea: a call at either end keeps or
+-- passes one element after the other.
 use Rattle.std.proofs.Common.{◌≡◌, ◌+◌, ◌-◌, length-append, Bool, true, false, List, [], ◌∷◌, ◌++◌, if◌then◌else◌, cond, ap, ◌∙◌, length, not, arith, suc, take, drop}
 use Rattle.std.proofs.lemmas.List.{append-nil, reverse-append, take-append-le}
 use Rattle.std.proofs.Math.Seq.{take-append_seam}

@@ -1,4 +1,4 @@
--- Iterators that are seen as the list of what they have left: what a run of them, or pulls from them, give.
+-- Iterators that are seen as the list of what they have left: what calls of `next` and `next_back` return.
 use Rattle.std.proofs.Common.{◌≡◌, ◌-◌, List, [], ◌∷◌, ◌++◌, Option, None, Some, ap, sym, subst, ◌∙◌, drop, take, length, length-append, map, arith, refl}
 use Rattle.std.specs.{Iterator.YieldsFirstBy, Iterator.YieldsLastBy, List.slice_get}
 use Rattle.std.specs.Option.{option_map}
@@ -28,17 +28,17 @@ module _ {T : Type 0} where
 module _ {S A T : Type 0} (shows : A → T) (rest : S → List T) (next next_back : S → Option A → S → Type 0)
     (first : (s : S) (r : Option A) (t : S) → next s r t → YieldsFirstBy shows rest s r t)
     (last : (s : S) (r : Option A) (t : S) → next_back s r t → YieldsLastBy shows rest s r t) where
-  -- One pull from the front.
+  -- One call of `next`.
   front_pull : (s t : S) (r : Option A) → YieldsFirstBy shows rest s r t → (option_map shows r ≡ slice_get (rest s) 0) × (rest t ≡ drop 1 (rest s))
   front_pull s t None h = rw (h.0, h.1) (refl, refl)
   front_pull s t (Some x) h = let e = first_of (rest s) (rest t) (shows x) h in (sym e.0, sym e.1)
 
-  -- One pull from the back.
+  -- One call of `next_back`.
   back_pull : (s t : S) (r : Option A) → YieldsLastBy shows rest s r t → (option_map shows r ≡ slice_get (rest s) (length (rest s) - 1)) × (rest t ≡ take (length (rest s) - 1) (rest s))
   back_pull s t None h = rw (h.0, h.1) (refl, refl)
   back_pull s t (Some x) h = let e = last_of (rest s) (rest t) (shows x) h in (sym e.0, sym e.1)
 
-  -- Any mixture of pulls returns what the list gives.
+  -- Any mixture of calls returns what the list has.
   pub pulls_by : (s : S) (ends : List End) (items : List (Option A)) (t : S) → PullsBy next next_back s ends items t → Pulls (rest s) ends (map (option_map shows) items) (rest t)
   pulls_by s [] items t h = (ap (map (option_map shows)) h.0, ap rest h.1)
   pulls_by s (front ∷ ends) items t h =

@@ -3,7 +3,8 @@ use Rattle.std.specs.Prelude.{◌≡◌, ◌-◌, List, [], ◌∷◌, Option, d
 use Rattle.std.specs.Borrow.{Bor}
 use Rattle.std.specs.Map.Iter.{deref}
 
--- The end at which a pull is made: `next` pulls from the front, `next_back` from the back.
+-- A pull is a call of `next`, which takes from the front, or of `next_back`, which takes from the back. This is its
+-- end.
 pub data End : Type 0 where
   front : End
   back : End

@@ -26,7 +26,7 @@ pub fn key_comparisons_are_bounded<K: Eq, V>()
         → comparisons K.eq (keys_of l) ≡ cost (length l) }
 {}
 
-/// Says what pulls from both ends of an exact iterator return, in any mixture.
+/// Says what calls of `next` and `next_back` of an exact iterator return, in any mixture.
 ///
 /// They return what its list gives: each item once, from the front in order, from the back in reverse. Once all are
 /// given, they return `None`. `A` is the type of what the iterator returns, such as `&K`. `X` is the type of what its
@@ -37,7 +37,7 @@ pub fn iterators_pull_as_lists<A, X>()
         → Pulls s ends (map (option_map shows) items) t }
 {}
 
-/// Like [`iterators_pull_as_lists`], for the iterators that lend keys or values by `&mut`.
+/// Like [`iterators_pull_as_lists`], for the iterators that yield `&mut` references to keys or values.
 ///
 /// Such an iterator is not itself a list in contracts, but has one left in each state `S`: `rest` is a definition such
 /// as `iter_mut_rest`.

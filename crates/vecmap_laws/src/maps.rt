@@ -201,9 +201,9 @@ pub fn clones_have_the_same_pairs<K: Clone, V: Clone>()
         → AreClones (IsPairClone K.is_clone V.is_clone) l m → m ≡ l }
 {}
 
-/// Any mixture of pulls from both ends of a drain returns the same as pulls from the list of its range.
+/// Calls of `next` and `next_back` of a drain, in any mixture, return what the list of its range has.
 ///
-/// Each pair comes once: in order from the front, in reverse order from the back. Then each pull returns `None`. What
+/// Each pair comes once: in order from the front, in reverse order from the back. Then each call returns `None`. What
 /// the map has once the drain is dropped stays: the pairs outside of the range, and the capacity.
 #[tactic(auto, using(crate::proofs::LawLemmas::Maps::drains_pull_as_lists))]
 pub fn drains_pull_as_lists<K, V>()

@@ -95,9 +95,9 @@ pub fn appending_undoes_splitting<T: Eq>()
     ensures { (l : List T) → IsDistinct T.eq l → (at : ℕ) → adds T.eq (take at l) (drop at l) ≡ l }
 {}
 
-/// Any mixture of pulls from both ends of a drain returns the same as pulls from the list of its range.
+/// Calls of `next` and `next_back` of a drain, in any mixture, return what the list of its range has.
 ///
-/// Each element comes once: in order from the front, in reverse order from the back. Then each pull returns `None`.
+/// Each element comes once: in order from the front, in reverse order from the back. Then each call returns `None`.
 /// What the set has once the drain is dropped stays: the elements outside of the range, and the capacity.
 #[tactic(auto, using(crate::proofs::LawLemmas::Sets::drains_pull_as_lists))]
 pub fn drains_pull_as_lists<T: Eq>()

@@ -26,10 +26,10 @@ module _ {K V : Type 0} where
   abbrev pub DrainKeeps : Drain K V → Drain K V → Type 0
   DrainKeeps old new = (drain_lender new ≡ drain_lender old) × (drain_kept new ≡ drain_kept old) × (drain_capacity new ≡ drain_capacity old)
 
-  -- A pull from the front.
+  -- A call of `next`.
   abbrev pub DrainNext : Drain K V → Option (K × V) → Drain K V → Type 0
   DrainNext = DrainsFirst drain_rest DrainKeeps
 
-  -- A pull from the back.
+  -- A call of `next_back`.
   abbrev pub DrainNextBack : Drain K V → Option (K × V) → Drain K V → Type 0
   DrainNextBack = DrainsLast drain_rest DrainKeeps

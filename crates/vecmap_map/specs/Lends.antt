@@ -83,8 +83,8 @@ module _ (K V : RattleType) (m : MutBor (Contents K.Denot V.Denot)) where
   abbrev pub lends_both_beside_index : (K.Denot → Bool) → Option (ℕ × MutBor K.Denot × MutBor V.Denot) → Fml
   lends_both_beside_index test r = follows_both_if (the_row K V) K V m.ghost_name (both_names_at r) (λ key v. with_pair_by test m.now (key, v)) m.now
 
-  -- Once the loan with this name ends, the map has the pairs that were last written through it, as many as before, and
-  -- its capacity.
+  -- Once the borrow with this name ends, the map has the pairs that were last written through it, as many as before,
+  -- and its capacity.
   abbrev pub lends_pairs : GName → Fml
   lends_pairs r = follows (the_row K V) (Array (Tuple (K ∷ V ∷ [])) 0) m.ghost_name r (with_written m.now)
 

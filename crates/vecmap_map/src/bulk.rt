@@ -197,7 +197,8 @@ impl<K, V> VecMap<K, V> {
         Ok(())
     }
 
-    /// Like [`VecMap::extend`], with the same cost, but inserts clones of the keys and values that the iterator lends.
+    /// Like [`VecMap::extend`], with the same cost, but inserts clones of the keys and values of an iterator of
+    /// references.
     ///
     /// This is Rust's `Extend<(&K, &V)>`. An existing key stays as it is, and the clone of the equal key is dropped.
     ///

@@ -56,7 +56,7 @@ impl<K, V> VecMap<K, V> {
         ensures runs { YieldsInOrder (DrainNext {K = K} {V = V}) drain_rest }
         ensures runs_back { YieldsInReverse (DrainNextBack {K = K} {V = V}) drain_rest }
 
-        // Once the drain is dropped, after any number of pulls, the map has the other pairs and its old capacity.
+        // Once the drain is dropped, after any number of calls, the map has the other pairs and its old capacity.
         ensures kept { drain_kept result
             ≡ without_between self.old.entries (R.start_bound range) (R.end_bound range) }
         ensures capacity { drain_capacity result ≡ self.old.capacity }
@@ -93,7 +93,7 @@ impl<K, V> VecMap<K, V> {
 /// ```
 pub struct Drain<'a, K, V> {
     // The first `keep` pairs of the map stay. The remaining pairs of the drain follow them, in reverse order if
-    // `reversed`. So each pull takes the last pair of the map.
+    // `reversed`. So each call takes the last pair of the map.
     map: &'a mut VecMap<K, V>,
     keep: usize,
     reversed: bool,
@@ -128,7 +128,7 @@ impl<'a, K: Drop, V: Drop> Drain<'a, K, V> {
         ensures runs { YieldsInOrder (DrainNext {K = K} {V = V}) drain_rest }
         ensures runs_back { YieldsInReverse (DrainNextBack {K = K} {V = V}) drain_rest }
 
-        // Once the drain is dropped, after any number of pulls, the map has the other pairs and its old capacity.
+        // Once the drain is dropped, after any number of calls, the map has the other pairs and its old capacity.
         ensures kept { drain_kept result ≡ remove_range map.old.entries start end }
         ensures capacity { drain_capacity result ≡ map.old.capacity }
         ensures same_map { drain_lender result ≡ map.entry.ghost_name }

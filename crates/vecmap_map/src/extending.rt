@@ -61,7 +61,8 @@ impl<K: Eq + Drop, V: Drop> Extend<(K, V)> for VecMap<K, V> {
     }
 }
 
-/// Inserts clones of the keys and values that an iterator lends, in order, like the inherent [`VecMap::extend_refs`].
+/// Inserts clones of the keys and values of an iterator of references, in order, like the inherent
+/// [`VecMap::extend_refs`].
 ///
 /// # Errors
 ///
@@ -114,7 +115,7 @@ impl<'a, K: Eq + Clone + 'a, V: Clone + 'a> Extend<(&'a K, &'a V)> for VecMap<K,
     }
 }
 
-/// Inserts clones of the pairs that an iterator lends, in order, like the inherent [`VecMap::extend_pairs`].
+/// Inserts clones of the pairs of an iterator of references, in order, like the inherent [`VecMap::extend_pairs`].
 ///
 /// # Errors
 ///

@@ -9,7 +9,7 @@ use Rattle.std.specs.Option.{IfSome, SomeIff}
 use Rattle.vecmap_set.specs.Lazy.{ExcludesFirst, ExcludesLast, JoinsFirst, JoinsLast, Parts, Sift, SiftsFirst, SiftsLast, lacks_item, sift_rest, symmetric_rest, union_rest}
 
 module _ {T : Type 0} (keeps : List T → T → Bool) where
-  -- Each run of pulls gives what is left, in order or in reverse.
+  -- Repeated calls return what is left, in order or in reverse.
   pub sifts_in_order : YieldsRefsInOrder (SiftsFirst keeps) (sift_rest keeps)
   sifts_in_order = from_front (SiftsFirst keeps) (λ y. y.now) (sift_rest keeps) (λ s t h. ap length h.0.0) (λ s x t h. h.0)
 

@@ -1,4 +1,4 @@
--- What the lazy iterators over two lists of elements have left, and what their pulls give. `eq` is the `==` of the
+-- What the lazy iterators over two lists of elements have left, and what their calls return. `eq` is the `==` of the
 -- elements.
 use Rattle.std.specs.Prelude.{◌≡◌, ℕ, ◌<◌, ◌^◌, Bool, List, ◌++◌, ◌⊎◌, MatchOption, None, Option, Some, SomeIff, filter, if◌then◌else◌, length, nat_lt, not}
 use Rattle.std.specs.Borrow.{Bor}
@@ -59,12 +59,12 @@ module _ {T : Type 0} where
 abbrev pub IsBound : Option ℕ → ℕ → Type 0
 IsBound r n = SomeIff r (n < 2 ^ 64) n
 
--- A pull asks one part, and then the other if the first one finds nothing.
+-- A call asks one part, and then the other if the first one finds nothing.
 abbrev pub AsksThen : {A B R : Type 0} → (A → Option R → A → Type 0) → (B → Option R → B → Type 0) → A → B → Option R → A → B → Type 0
 AsksThen one two a b r c d = MatchOption r (one a None c × two b None d) (λ x. (one a (Some x) c × (d ≡ b)) ⊎ (one a None c × two b (Some x) d))
 
 module _ {S T : Type 0} (rest : S → List T) (next next_back : S → Option (Bor T) → S → Type 0) where
-  -- The iterator `r` is in the state `s`. It lends what is left there in order, and in reverse from the back. The
+  -- The iterator `r` is in the state `s`. It returns what is left there in order, and in reverse from the back. The
   -- number of these elements fits a `usize`.
   abbrev pub LendsAll : S → S → Type 0
   LendsAll s r = (r ≡ s) × (length (rest r) < 2 ^ 64) × YieldsRefsInOrder next rest × YieldsRefsInReverse next_back rest
@@ -82,7 +82,7 @@ module _ {T : Type 0} (keeps : List T → T → Bool) where
   abbrev pub SiftsLast : Sift T → Option (Bor T) → Sift T → Type 0
   SiftsLast s r t = YieldsLastRef sift_rest s r t × (t ≡ record s { unwalked = before_last (keeps s.other) s.unwalked })
 
-  -- The iterator `r` is in the state `s`, and lends the elements that are left there and kept.
+  -- The iterator `r` is in the state `s`, and returns the elements that are left there and kept.
   abbrev pub SiftsAll : Sift T → Sift T → Type 0
   SiftsAll = LendsAll sift_rest SiftsFirst SiftsLast
 
@@ -103,7 +103,7 @@ module _ {T : Type 0} (eq : T → T → Bool) where
   abbrev pub JoinsLast : Parts (List T) (Sift T) → Option (Bor T) → Parts (List T) (Sift T) → Type 0
   JoinsLast s r t = YieldsLastRef union_rest s r t × AsksThen (SiftsLast lacks_item) (TakesLast deref) s.second s.first r t.second t.first
 
-  -- The iterator `r` is in the state `s`, and lends the union that is left there.
+  -- The iterator `r` is in the state `s`, and returns the union that is left there.
   abbrev pub JoinsAll : Parts (List T) (Sift T) → Parts (List T) (Sift T) → Type 0
   JoinsAll = LendsAll union_rest JoinsFirst JoinsLast
 
@@ -119,7 +119,7 @@ module _ {T : Type 0} (eq : T → T → Bool) where
   abbrev pub ExcludesLast : Parts (Sift T) (Sift T) → Option (Bor T) → Parts (Sift T) (Sift T) → Type 0
   ExcludesLast s r t = YieldsLastRef symmetric_rest s r t × AsksThen (SiftsLast lacks_item) (SiftsLast lacks_item) s.second s.first r t.second t.first
 
-  -- The iterator `r` is in the state `s`, and lends the elements that are left there and in one list only.
+  -- The iterator `r` is in the state `s`, and returns the elements that are left there and in one list only.
   abbrev pub ExcludesAll : Parts (Sift T) (Sift T) → Parts (Sift T) (Sift T) → Type 0
   ExcludesAll = LendsAll symmetric_rest ExcludesFirst ExcludesLast
 

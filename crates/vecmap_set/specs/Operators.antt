@@ -27,6 +27,6 @@ module _ {T : Type 0} (eq : T → T → Bool) (is_clone : T → T → Type 0) (l
   abbrev pub MakesClones : {E : Type 0} → Contents T → Contents T → Result (Contents T) E → Type 0
   MakesClones a b r = IfOk r (λ set. AreClones is_clone (list eq a.elements b.elements) set.elements × IsDistinct eq set.elements)
 
--- The list made has clones of all the items that an iterator in the state s lends.
+-- The list made has clones of all the items that an iterator in the state s returns.
 abbrev pub DrainsIntoClones : {S T : Type 0} → (S → Option (Bor T) → S → Type 0) → (T → T → Type 0) → S → List T → Type 0
 DrainsIntoClones {T = T} steps is_clone s made = (items : List (Bor T)) × Drains steps s items × AreClones is_clone (map deref items) made

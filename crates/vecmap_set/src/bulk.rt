@@ -186,7 +186,7 @@ impl<T: Eq> VecSet<T> {
         Ok(())
     }
 
-    /// Like [`VecSet::extend`], with the same cost, but adds copies of the elements that the iterator lends.
+    /// Like [`VecSet::extend`], with the same cost, but adds copies of the elements of an iterator of references.
     ///
     /// This is Rust's `Extend<&T>`.
     ///

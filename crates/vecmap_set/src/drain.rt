@@ -54,7 +54,7 @@ impl<T: Eq> VecSet<T> {
         ensures runs { YieldsInOrder (DrainNext {T = T}) drain_rest }
         ensures runs_back { YieldsInReverse (DrainNextBack {T = T}) drain_rest }
 
-        // Once the drain is dropped, after any number of pulls, the set has the other elements and its old capacity.
+        // Once the drain is dropped, after any number of calls, the set has the other elements and its old capacity.
         ensures kept { drain_kept result
             ≡ without_between self.old.elements (R.start_bound range) (R.end_bound range) }
         ensures capacity { drain_capacity result ≡ self.old.capacity }
@@ -92,7 +92,7 @@ impl<T: Eq> VecSet<T> {
 /// ```
 pub struct Drain<'a, T: Eq> {
     // The first `keep` elements of the set stay. The remaining elements of the drain follow them, in reverse order if
-    // `reversed`. So each pull takes the last element of the set.
+    // `reversed`. So each call takes the last element of the set.
     set: &'a mut VecSet<T>,
     keep: usize,
     reversed: bool,
@@ -128,7 +128,7 @@ impl<'a, T: Eq + Drop> Drain<'a, T> {
         ensures runs { YieldsInOrder (DrainNext {T = T}) drain_rest }
         ensures runs_back { YieldsInReverse (DrainNextBack {T = T}) drain_rest }
 
-        // Once the drain is dropped, after any number of pulls, the set has the other elements and its old capacity.
+        // Once the drain is dropped, after any number of calls, the set has the other elements and its old capacity.
         ensures kept { drain_kept result ≡ remove_range set.old.elements start end }
         ensures capacity { drain_capacity result ≡ set.old.capacity }
         ensures same_set { drain_lender result ≡ set.entry.ghost_name }

@@ -54,7 +54,7 @@ impl<T: Eq + Drop> Extend<T> for VecSet<T> {
     }
 }
 
-/// Adds copies of the elements that an iterator lends, in order, like the inherent [`VecSet::extend_copied`].
+/// Adds copies of the elements of an iterator of references, in order, like the inherent [`VecSet::extend_copied`].
 ///
 /// # Errors
 ///

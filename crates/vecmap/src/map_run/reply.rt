@@ -3,8 +3,8 @@ use vecmap_map::VecMap;
 
 /// The reply to a command on a map.
 ///
-/// It holds clones if the call lends. After `OutOfRange` and `NoMemory` nothing has changed, and what the command
-/// carried is dropped.
+/// It holds clones if the call returns references. After `OutOfRange` and `NoMemory` nothing has changed, and what the
+/// command carried is dropped.
 #[derive(Debug, Drop)]
 #[derive_where(PartialEq, Eq; K: Eq, V: Eq)]
 pub enum MapReply<K, V> {

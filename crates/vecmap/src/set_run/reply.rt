@@ -3,8 +3,8 @@ use vecmap_set::VecSet;
 
 /// The reply to a command on a set.
 ///
-/// It holds clones if the call lends. After `OutOfRange` and `NoMemory` nothing has changed, and what the command
-/// carried is dropped.
+/// It holds clones if the call returns references. After `OutOfRange` and `NoMemory` nothing has changed, and what the
+/// command carried is dropped.
 #[derive(Debug, Drop)]
 #[derive_where(PartialEq, Eq; T: Eq)]
 pub enum SetReply<T: Eq> {

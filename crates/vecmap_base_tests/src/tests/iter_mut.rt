@@ -1,4 +1,4 @@
-//! The iterators that lend keys for writing.
+//! The iterators that yield `&mut` references to keys.
 use crate::checks::{assert_list, assert_text, check, granted};
 use vecmap_base::{IterMut2, KeysMut};
 use vecmap_fixtures::{all_ends, pulls_as_list};

@@ -1,4 +1,4 @@
-//! Callers of laws about pulls from both ends of an iterator.
+//! Callers of laws about calls of `next` and `next_back` in any order.
 ghost use Rattle.std.specs.Map.Iter.{deref, deref_pair};
 ghost use Rattle.std.specs.Prelude.{◌≡◌, ◌≤◌, ℕ, List, [], ◌∷◌, drop, length, nat_eq, option_map, take};
 ghost use Rattle.vecmap.specs.Items.{only};
@@ -8,7 +8,7 @@ use vecmap::{VecMap, VecSet};
 use vecmap_laws::maps::{drains_pull_as_lists, iterators_pull_as_lists};
 use vecmap_laws::sets as set_laws;
 
-/// Returns the first and then the last pair, as two pulls from the list of the map.
+/// Returns the first and then the last pair, as the list of the map says.
 pub fn ends(map: &VecMap<u32, u32>) -> (Option<(&u32, &u32)>, Option<(&u32, &u32)>)
     ensures { (rest : List (ℕ × ℕ)) × Pulls map.now.entries (front ∷ back ∷ [])
         (option_map deref_pair result.0 ∷ option_map deref_pair result.1 ∷ []) rest }
@@ -20,7 +20,7 @@ pub fn ends(map: &VecMap<u32, u32>) -> (Option<(&u32, &u32)>, Option<(&u32, &u32
     (first, last)
 }
 
-/// Removes the first three pairs, and returns the first and then the last of them, as two pulls from a list.
+/// Removes the first three pairs, and returns the first and then the last of them, as a list says.
 pub fn take_ends(map: &mut VecMap<u32, u32>) -> (Option<(u32, u32)>, Option<(u32, u32)>)
     requires within { 3 ≤ length map.old.entries }
     ensures pulls { (rest : List (ℕ × ℕ)) × Pulls (take 3 map.old.entries) (front ∷ back ∷ [])
@@ -34,7 +34,7 @@ pub fn take_ends(map: &mut VecMap<u32, u32>) -> (Option<(u32, u32)>, Option<(u32
     (first, last)
 }
 
-/// Removes the first three elements, and returns the first and then the last of them, as two pulls from a list.
+/// Removes the first three elements, and returns the first and then the last of them, as a list says.
 pub fn take_item_ends(set: &mut VecSet<u32>) -> (Option<u32>, Option<u32>)
     requires within { 3 ≤ length set.old.elements }
     ensures pulls { (rest : List ℕ) × Pulls (take 3 set.old.elements) (front ∷ back ∷ [])
@@ -48,7 +48,7 @@ pub fn take_item_ends(set: &mut VecSet<u32>) -> (Option<u32>, Option<u32>)
     (first, last)
 }
 
-/// Returns the first and then the last element that only the first of two sets has, as two pulls from a list.
+/// Returns the first and then the last element that only the first of two sets has, as a list says.
 pub fn lacking_ends<'a>(
     a: &'a VecSet<u32>,
     b: &'a VecSet<u32>,

@@ -7,9 +7,9 @@ ghost use Rattle.vecmap_set.specs.Lazy.{ExcludesFirst, ExcludesLast, JoinsFirst,
 ghost use Rattle.vecmap_laws.specs.Pulls.{PullsAsList};
 ghost use Rattle.vecmap_set.specs.Operators.{symmetric_difference_of, union_of};
 
-/// Any mixture of pulls from both ends of a lazy iterator returns the same as pulls from its list.
+/// Calls of `next` and `next_back` of a lazy iterator, in any mixture, return what its list has.
 ///
-/// Each element comes once: in order from the front, in reverse order from the back. Then each pull returns `None`.
+/// Each element comes once: in order from the front, in reverse order from the back. Then each call returns `None`.
 pub fn lazy_iterators_pull_as_lists<T: Eq>()
     ensures difference { PullsAsList (sift_rest (lacks_item T.eq)) (SiftsFirst (lacks_item T.eq))
         (SiftsLast (lacks_item T.eq)) }

@@ -154,7 +154,7 @@ pub(crate) fn assert_pair(rt: &impl Abort, pair: Option<(Item, u32)>, expected: 
     }
 }
 
-/// Asserts that a lent pair has this number, this mark and this value, and writes another value.
+/// Asserts that a borrowed pair has this number, this mark and this value, and writes another value.
 pub(crate) fn assert_and_write(
     rt: &impl Abort,
     key: &Item,

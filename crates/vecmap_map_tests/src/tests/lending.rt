@@ -1,4 +1,4 @@
-//! Values of a map that are lent for writing by an index, or from an end. `queries` has those of each kind of query.
+//! Values of a map that are borrowed mutably by an index, or from an end. `queries` has those of each kind of query.
 use crate::checks::{assert_and_write, assert_pairs, check, granted, present};
 use crate::made::item_map;
 use vecmap_map::VecMap;

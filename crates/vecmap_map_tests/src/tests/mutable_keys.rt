@@ -1,4 +1,4 @@
-//! Keys of a map that are lent for writing.
+//! Keys of a map that are borrowed mutably.
 use crate::checks::{assert_gives, assert_is, assert_list, check, granted};
 use std::alloc::{AllocError, Global};
 use std::mem;

@@ -16,8 +16,8 @@ use std::{fmt, slice};
 ///
 /// # Complexity
 ///
-/// Each pull looks up elements of the first set in the other, up to the next one that is not found. It makes no other
-/// comparisons.
+/// Each call of `next` or `next_back` looks up elements of the first set in the other, up to the next one that is not
+/// found. It makes no other comparisons.
 ///
 /// # Examples
 ///

@@ -18,8 +18,8 @@ use std::{fmt, slice};
 ///
 /// # Complexity
 ///
-/// Each pull looks up elements of the shorter set in the other, up to the next one that is found. It makes no other
-/// comparisons.
+/// Each call of `next` or `next_back` looks up elements of the shorter set in the other, up to the next one that is
+/// found. It makes no other comparisons.
 ///
 /// # Examples
 ///

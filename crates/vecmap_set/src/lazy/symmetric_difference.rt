@@ -18,8 +18,8 @@ use std::marker::Model;
 ///
 /// # Complexity
 ///
-/// Each pull looks up elements of one set in the other, up to the next one that is not found. It makes no other
-/// comparisons.
+/// Each call of `next` or `next_back` looks up elements of one set in the other, up to the next one that is not found.
+/// It makes no other comparisons.
 ///
 /// # Examples
 ///

@@ -18,8 +18,8 @@ use std::{fmt, slice};
 ///
 /// # Complexity
 ///
-/// The elements of the longer set are yielded without comparisons. Each further pull looks up elements of the other set
-/// in the longer one, up to the next one that is not found.
+/// The elements of the longer set are yielded without comparisons. Each further call of `next` or `next_back` looks up
+/// elements of the other set in the longer one, up to the next one that is not found.
 ///
 /// # Examples
 ///

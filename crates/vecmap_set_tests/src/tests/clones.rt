@@ -6,7 +6,7 @@ use std::process::Abort;
 use vecmap_fixtures::{Log, Told};
 use vecmap_set::VecSet;
 
-// Asserts whether a call was granted while the clones of this number fail, and drops what it returned.
+// Asserts whether a call succeeds while the clones of this number fail, and drops what it returned.
 fn assert_outcome<T: Drop, E: Drop>(
     rt: &impl Abort,
     number: u32,

@@ -1,5 +1,5 @@
--- Equal pairs at the front do not matter, so the rests decide. They have one length, so the counts of one side are
--- enough.
+-- Equal pairs at the front do not matter, so the remaining pairs decide. They have one length, so the counts of one
+-- side are enough.
 use Rattle.std.proofs.Common.{◌≡◌, [], arith, drop, length, sym, ◌∙◌}
 use Rattle.std.proofs.lemmas.List.{drop_all, length-drop, take_rest}
 use Rattle.vecmap_base.specs.Equality.{counts_agree, has_same_counts}

@@ -1,4 +1,4 @@
-//! Loops that Rust writes with `while let`, and closures that lend or allocate.
+//! Loops that Rust writes with `while let`, and closures that return references or allocate.
 use std::alloc::{AllocError, Global};
 use vecmap::{VecMap, VecSet};
 

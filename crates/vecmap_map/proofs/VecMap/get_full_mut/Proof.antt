@@ -1,5 +1,5 @@
 -- The idea: `with_index_by` returns the map with the index of the key, and `full_mut` the references at that index.
--- The clause `writes_back` is worth a proof by hand: the others say nothing of the map after the loan, so a body that
+-- The clause `writes_back` is worth a proof by hand: the others say nothing of the map after the borrow, so a body that
 -- changes another pair meets them.
 use Rattle.vecmap_map.proofs.LentLemmas.Steps
 use Steps.{◌≡◌, ℕ, ◌<◌, refl, sym, ap, ◌∙◌, subst, lit<, w64, List, [], ◌∷◌, ◌++◌, Option, Some, None, length, option_map, slice_get, IfSome, Bool, a_type, named, dcons, dnil, Val, vptr, vstruct, vcons, vnil, of_list, vint, inst_fn, option_and_then}

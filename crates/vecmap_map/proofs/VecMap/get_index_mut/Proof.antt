@@ -1,5 +1,5 @@
 -- The idea: `pair_at_mut` returns a reference to the pair at the index, and `key_and_value` splits it.
--- The clause `writes_back` is worth a proof by hand: the others say nothing of the map after the loan, so a body that
+-- The clause `writes_back` is worth a proof by hand: the others say nothing of the map after the borrow, so a body that
 -- changes another pair meets them.
 use Rattle.vecmap_map.proofs.LentLemmas.Steps
 use Steps.{◌≡◌, ℕ, ◌↔◌, ◌<◌, refl, sym, ap, ◌∙◌, subst, lit<, w64, List, [], ◌∷◌, ◌++◌, Option, Some, None, IsSome, length, option_map, slice_get, a_type, named, Val, vptr, vstruct, vcons, vnil, of_list, inst_fn, option_copied_mut}

@@ -61,7 +61,7 @@ fn write_at<K>(pairs: &mut [(K, u32)], place: Option<usize>, value: u32) {
     }
 }
 
-// Returns whether `get_mut` lends the value at this index, or none, and whether writing it changes this value alone.
+// Returns whether `get_mut` returns the value at this index, or none, and whether writing it changes this value alone.
 fn lends_value<K: Eq + Clone + Drop + Same, Q: Equivalent<K>>(
     map: &mut VecMap<K, u32>,
     query: Q,
@@ -121,7 +121,7 @@ fn lends_both<K: Eq + Clone + Drop + Same, Q: Equivalent<K>>(
     Ok(is_lent && are_same(map.as_slice(), &wanted))
 }
 
-// Returns whether all three lend as they should.
+// Returns whether all three return what they should.
 fn lends<K: Eq + Clone + Drop + Same, Q: Equivalent<K>>(
     map: &mut VecMap<K, u32>,
     query: Q,

@@ -1,4 +1,4 @@
--- The idea: each pull gives the first or the last of the list that is left, so `pulls_by` gives each clause.
+-- The idea: each call returns the first or the last of the list that is left, so `pulls_by` gives each clause.
 use Rattle.std.specs.Map.Iter.{deref}
 use Rattle.std.specs.Set.{is_member}
 use Rattle.vecmap_laws.proofs.WalkLemmas.{pulls_by}
