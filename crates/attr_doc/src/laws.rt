@@ -7,7 +7,7 @@ ghost use Rattle.std.specs.Option.{option_or};
 ghost use Rattle.std.specs.Str.{str_eq_ignore_ascii_case};
 ghost use Rattle.std.specs.declared.alloc.Global.{Global};
 ghost use Rattle.vecmap.specs.Items.{add, adds};
-ghost use Rattle.vecmap.specs.Pairs.{lookup, put, puts};
+ghost use Rattle.vecmap.specs.Pairs.{lookup, puts};
 
 use crate::Document;
 

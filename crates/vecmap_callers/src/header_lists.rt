@@ -2,7 +2,7 @@
 //!
 //! After `Accept: a`, `Host: b` and `ACCEPT: c` are appended, `accept` has the values `a` and `c`, and `Host` has `b`.
 //! After `host` is set to `d`, it has this value alone.
-ghost use Rattle.std.specs.Prelude.{◌≡◌, ◌++◌, ◌∷◌, ℕ, IfOk, List, None, OnErr, OnOk, [], false, option_map, slice_get, string_bytes, unwrap_or};
+ghost use Rattle.std.specs.Prelude.{◌≡◌, ◌++◌, ◌∷◌, ℕ, List, None, OnErr, OnOk, [], false, option_map, slice_get, string_bytes, unwrap_or};
 ghost use Rattle.std.specs.Map.{keys_of};
 ghost use Rattle.std.specs.Str.{str_eq_ignore_ascii_case};
 ghost use Rattle.vecmap.specs.Items.{add, without_item};

@@ -9,7 +9,7 @@ mod settings;
 mod traits;
 mod words;
 
-use crate::checks::{assert_gives, assert_is, granted, name, text};
+use crate::checks::{assert_gives, assert_is, granted, name};
 use vecmap::VecMap;
 use vecmap_callers::names::NamedAs;
 use vecmap_callers::{entry, equivalent, indices, insertion, macros};

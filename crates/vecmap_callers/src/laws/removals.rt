@@ -3,7 +3,6 @@ ghost use Rattle.std.specs.List.{remove_range};
 ghost use Rattle.std.specs.Option.{option_and_then};
 ghost use Rattle.std.specs.Prelude.{◌≡◌, ◌-◌, ◌<◌, ℕ, List, None, Some, String, bytes_eq, false, filter, if◌then◌else◌, is_some, length, nat_eq, nat_lt, not, reverse, slice_get, string_eq, take};
 ghost use Rattle.std.specs.Set.{is_member};
-ghost use Rattle.std.specs.declared.alloc.Global.{Global};
 ghost use Rattle.vecmap.specs.Items.{swap_without};
 ghost use Rattle.vecmap.specs.Pairs.{HasDistinctKeys, has_text, index_of, lookup, lookup_by, swap_without_by, swap_without_key, without_by, without_key};
 ghost use Rattle.vecmap.specs.Ranges.{IsRangeWithin};

@@ -1,5 +1,5 @@
 //! Laws of what removals leave of a set: which elements, their indices and the length.
-ghost use Rattle.std.specs.List.{IsDistinct, list_any, remove_range};
+ghost use Rattle.std.specs.List.{IsDistinct, remove_range};
 ghost use Rattle.std.specs.Option.{option_map_or};
 ghost use Rattle.std.specs.Prelude.{◌&&◌, ◌≡◌, ◌-◌, ◌≤◌, ◌||◌, ℕ, Bool, List, Some, drop, false, filter, if◌then◌else◌, is_some, length, nat_lt, not, remove, slice_get, take};
 ghost use Rattle.std.specs.Set.{is_member};
