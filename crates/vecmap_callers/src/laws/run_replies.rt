@@ -1,9 +1,12 @@
 //! Callers of laws about the replies of runs.
-ghost use Rattle.std.specs.Prelude.{◌≡◌, All, IfOk, sum_by};
+ghost use Rattle.std.specs.Prelude.{◌≡◌, All, IfOk, OnErr, nat_eq, sum_by};
 ghost use Rattle.std.specs.List.{AllZip};
 ghost use Rattle.vecmap.specs.Contents.{HasRoom};
 ghost use Rattle.vecmap.specs.SetContents as set_contents;
+ghost use Rattle.vecmap.specs.MapRun as map_runs;
+ghost use Rattle.vecmap.specs.SetRun as set_runs;
 ghost use Rattle.vecmap_laws.specs.MapReplies as maps;
+ghost use Rattle.vecmap_laws.specs.Runs.{ListRun, SetListRun};
 ghost use Rattle.vecmap_laws.specs.SetReplies as sets;
 
 use crate::laws::runs::{run_on_list, run_on_set_list};
@@ -24,11 +27,17 @@ pub fn run_on_both(
     again: Vec<MapCommand<u32, u32>>,
 ) -> Result<(Vec<MapReply<u32, u32>>, Vec<MapReply<u32, u32>>), AllocError>
     requires { (other.old.entries ≡ map.old.entries) × (again.items ≡ commands.items) }
+    ensures run { IfOk result (λ replies.
+        ListRun nat_eq nat_eq ⟦<u32 as Clone>⟧ ⟦<u32 as Clone>⟧
+        map.old.entries commands.items replies.0.items map.new.entries
+        × ListRun nat_eq nat_eq ⟦<u32 as Clone>⟧ ⟦<u32 as Clone>⟧
+        other.old.entries again.items replies.1.items other.new.entries) }
     ensures entries { IfOk result (λ replies. maps.NoneRefused replies.0.items
         → maps.NoneRefused replies.1.items → other.new.entries ≡ map.new.entries) }
     ensures ran { IfOk result (λ replies. maps.NoneRefused replies.0.items
         → maps.NoneRefused replies.1.items
         → AllZip maps.RepliesAlike replies.0.items replies.1.items) }
+    ensures other_err { OnErr result (other.new ≡ other.old) }
 {
     runs_of_maps_reply_alike::<u32, u32>();
     let replies = run_on_list(alloc, map, commands)?;
@@ -46,11 +55,17 @@ pub fn run_on_both_sets(
     again: Vec<SetCommand<u32>>,
 ) -> Result<(Vec<SetReply<u32>>, Vec<SetReply<u32>>), AllocError>
     requires { (other.old.elements ≡ set.old.elements) × (again.items ≡ commands.items) }
+    ensures run { IfOk result (λ replies.
+        SetListRun nat_eq ⟦<u32 as Clone>⟧
+        set.old.elements commands.items replies.0.items set.new.elements
+        × SetListRun nat_eq ⟦<u32 as Clone>⟧
+        other.old.elements again.items replies.1.items other.new.elements) }
     ensures elements { IfOk result (λ replies. sets.NoneRefused replies.0.items
         → sets.NoneRefused replies.1.items → other.new.elements ≡ set.new.elements) }
     ensures ran { IfOk result (λ replies. sets.NoneRefused replies.0.items
         → sets.NoneRefused replies.1.items
         → AllZip sets.RepliesAlike replies.0.items replies.1.items) }
+    ensures other_err { OnErr result (other.new ≡ other.old) }
 {
     runs_of_sets_reply_alike::<u32>();
     let replies = run_on_set_list(alloc, set, commands)?;
@@ -66,8 +81,12 @@ pub fn run_in_room(
 ) -> Result<Vec<MapReply<u32, u32>>, AllocError>
     requires { All maps.MakesNothing commands.items
         × HasRoom map.old (sum_by maps.keys_inserted commands.items) }
+    ensures run { IfOk result (λ replies.
+        map_runs.Run nat_eq nat_eq ⟦<u32 as Clone>⟧ ⟦<u32 as Clone>⟧
+        map.old commands.items replies.items map.new) }
     ensures succeeds { IfOk result (λ replies. maps.NoneRefused replies.items) }
-    ensures capacity_stays { IfOk result (λ replies. map.new.capacity ≡ map.old.capacity) }
+    ensures capacity_stays { map.new.capacity ≡ map.old.capacity }
+    ensures err { OnErr result (map.new ≡ map.old) }
 {
     runs_of_maps_with_room_succeed::<u32, u32>();
     let replies = run(alloc, map, commands)?;
@@ -82,8 +101,11 @@ pub fn run_set_in_room(
 ) -> Result<Vec<SetReply<u32>>, AllocError>
     requires { All sets.MakesNothing commands.items
         × set_contents.HasRoom set.old (sum_by sets.elements_added commands.items) }
+    ensures run { IfOk result (λ replies.
+        set_runs.Run nat_eq ⟦<u32 as Clone>⟧ set.old commands.items replies.items set.new) }
     ensures succeeds { IfOk result (λ replies. sets.NoneRefused replies.items) }
-    ensures capacity_stays { IfOk result (λ replies. set.new.capacity ≡ set.old.capacity) }
+    ensures capacity_stays { set.new.capacity ≡ set.old.capacity }
+    ensures err { OnErr result (set.new ≡ set.old) }
 {
     runs_of_sets_with_room_succeed::<u32>();
     let replies = run_set(alloc, set, commands)?;
