@@ -14,10 +14,10 @@ const MAX_CARRIED_RIGHT: usize = 32;
 // The largest size, in bytes, of an item that `remove_item` moves by a rotation.
 const MAX_BYTES_FOR_ROTATION: usize = 64;
 
-// The largest size, in bytes, of a larger item that `remove_item` moves by one rotation for each part of the list, and
-// the size of a part.
+// The largest size, in bytes, of an item that `remove_item` moves by one rotation for each part of the list.
 const MAX_BYTES_FOR_PARTS: usize = 160;
 
+// The size of such a part.
 const BYTES_OF_PART: usize = 2048;
 
 /// Replaces the item at `from`, moves the new item to `to`, and returns the old one.

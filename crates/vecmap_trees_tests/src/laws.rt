@@ -1,7 +1,7 @@
 //! A caller of each law of trees: a function of a few lines that is proved by the law.
-ghost use Rattle.std.specs.Prelude.{◌≡◌, ◌++◌, ◌∷◌, ℕ, IsTrue, List, None, OnOk, Some, [], bytes_eq, false, map, option_copied};
+ghost use Rattle.std.specs.Prelude.{◌≡◌, ◌++◌, ◌∷◌, ◌↔◌, ◌⊎◌, ℕ, IfErr, IsSome, IsTrue, List, None, OnErr, OnOk, Some, [], bytes_eq, false, map, option_copied};
 ghost use Rattle.std.specs.Option.{option_and_then};
-ghost use Rattle.vecmap_trees.specs.Trees.{ArePartedPaths, HasDistinctNames, at_path};
+ghost use Rattle.vecmap_trees.specs.Trees.{ArePartedPaths, HasDistinctNames, at_path, changed_at, without_member};
 
 use std::alloc::Global;
 use vecmap::Refused;
@@ -23,6 +23,10 @@ pub fn get_below<'t>(tree: &'t Json, path: &[&str], below: &[&str]) -> Option<&'
 
 /// Replaces the value at a path, if there is one. It is then found there, and else nothing changes.
 pub fn replace(tree: &mut Json, path: &[&str], value: Json) -> bool
+    ensures tree { tree.new
+        ≡ changed_at (map (λ name. name.now) path.now) (λ _. value) tree.old }
+    ensures present { IsTrue result
+        ↔ IsSome (at_path (map (λ name. name.now) path.now) tree.old) }
     ensures found { IsTrue result → at_path (map (λ name. name.now) path.now) tree.new
         ≡ Some value }
     ensures refused { result ≡ false → tree.new ≡ tree.old }
@@ -33,7 +37,11 @@ pub fn replace(tree: &mut Json, path: &[&str], value: Json) -> bool
 
 /// Replaces the value at a path, if there is one. What stands below it is what stands in the new value.
 pub fn replace_all_below(tree: &mut Json, path: &[&str], value: Json) -> bool
-    ensures { (below : List (List ℕ))
+    ensures tree { tree.new
+        ≡ changed_at (map (λ name. name.now) path.now) (λ _. value) tree.old }
+    ensures present { IsTrue result
+        ↔ IsSome (at_path (map (λ name. name.now) path.now) tree.old) }
+    ensures below_path { (below : List (List ℕ))
         → at_path (map (λ name. name.now) path.now ++ below) tree.new
         ≡ option_and_then (λ _. at_path below value)
         (at_path (map (λ name. name.now) path.now) tree.old) }
@@ -44,7 +52,11 @@ pub fn replace_all_below(tree: &mut Json, path: &[&str], value: Json) -> bool
 
 /// Replaces the value at a path, if there is one. What stands at a path that parts from it is as before.
 pub fn replace_here(tree: &mut Json, path: &[&str], value: Json) -> bool
-    ensures { (other : List (List ℕ)) → ArePartedPaths (map (λ name. name.now) path.now) other
+    ensures tree { tree.new
+        ≡ changed_at (map (λ name. name.now) path.now) (λ _. value) tree.old }
+    ensures present { IsTrue result
+        ↔ IsSome (at_path (map (λ name. name.now) path.now) tree.old) }
+    ensures others { (other : List (List ℕ)) → ArePartedPaths (map (λ name. name.now) path.now) other
         → at_path other tree.new ≡ at_path other tree.old }
 {
     changes_are_not_seen_elsewhere();
@@ -54,7 +66,11 @@ pub fn replace_here(tree: &mut Json, path: &[&str], value: Json) -> bool
 /// Replaces the value at a path, if there is one. What stands at a path is as before, unless one of the two paths is
 /// the beginning of the other.
 pub fn replace_only(tree: &mut Json, path: &[&str], value: Json) -> bool
-    ensures { (other : List (List ℕ))
+    ensures tree { tree.new
+        ≡ changed_at (map (λ name. name.now) path.now) (λ _. value) tree.old }
+    ensures present { IsTrue result
+        ↔ IsSome (at_path (map (λ name. name.now) path.now) tree.old) }
+    ensures others { (other : List (List ℕ))
         → ((below : List (List ℕ)) → other ≡ map (λ name. name.now) path.now ++ below → ⊥)
         → ((below : List (List ℕ)) → map (λ name. name.now) path.now ≡ other ++ below → ⊥)
         → at_path other tree.new ≡ at_path other tree.old }
@@ -78,6 +94,14 @@ pub fn set_both(
     ensures found { OnOk result (at_path (map (λ name. name.now) path.now) tree.new ≡ Some value) }
     ensures second { OnOk result (at_path (map (λ name. name.now) other.now) tree.new
         ≡ Some other_value) }
+    ensures others { (path_elsewhere : List (List ℕ))
+        → ArePartedPaths (map (λ name. name.now) path.now) path_elsewhere
+        → ArePartedPaths (map (λ name. name.now) other.now) path_elsewhere
+        → at_path path_elsewhere tree.new ≡ at_path path_elsewhere tree.old }
+    ensures given { IfErr result
+        (λ refused. (refused.given ≡ value) ⊎ (refused.given ≡ other_value)) }
+    ensures err { OnErr result ((tree.new ≡ tree.old)
+        ⊎ (at_path (map (λ name. name.now) path.now) tree.new ≡ Some value)) }
 {
     parted_paths_stay_parted();
     tree.set_at(alloc, path, value)?;
@@ -87,6 +111,8 @@ pub fn set_both(
 /// Removes a member of the object at a path. It is then not found, and each other member is as before.
 pub fn forget(tree: &mut Json, path: &[&str], name: &str)
     requires { HasDistinctNames tree.old }
+    ensures tree { tree.new
+        ≡ changed_at (map (λ name. name.now) path.now) (without_member name.now) tree.old }
     ensures absent { at_path (map (λ name. name.now) path.now ++ name.now ∷ []) tree.new ≡ None }
     ensures others { (other : List ℕ) (below : List (List ℕ)) → bytes_eq name.now other ≡ false
         → at_path (map (λ name. name.now) path.now ++ other ∷ below) tree.new
