@@ -28,11 +28,25 @@ fn assert_moved<V: Eq + Copy + Drop + Debug>(rt: &impl Abort, alloc: Global, val
     }
 }
 
+// Creates a list of values of 128 bytes, each with another number.
+fn large_values(alloc: Global, count: u64) -> Result<Vec<[u64; 16]>, AllocError> {
+    let mut values = Vec::new(alloc);
+    for number in 0..count {
+        values.push([number; 16])?;
+    }
+    Ok(values)
+}
+
 #[test]
 fn pairs_of_any_size_are_removed_and_inserted_at_each_index(rt: HostRuntime) {
     assert_moved(&rt, rt.alloc(), &[7_u8; 40]);
     assert_moved(&rt, rt.alloc(), &[[7_u64; 7], [8; 7], [9; 7]]);
     assert_moved(&rt, rt.alloc(), &[[7_u64; 40], [8; 40], [9; 40]]);
+    assert_moved(
+        &rt,
+        rt.alloc(),
+        granted(&rt, large_values(rt.alloc(), 40)).as_slice(),
+    );
 }
 
 // Creates a map of the numbers below a count, each as a key and as its value.
