@@ -97,6 +97,7 @@ impl Numbers {
 pub struct Texts {
     pub keys: Vec<u8>,
     pub hits: Vec<u8>,
+    pub orders: Vec<u8>,
     pub misses: Vec<u8>,
     pub words: Vec<u8>,
     /// Keys of 188 bytes, of which the first 168 are equal.
@@ -124,6 +125,7 @@ impl Texts {
         Texts {
             keys: lines(&numbers.keys, short),
             hits: lines(&numbers.hits, short),
+            orders: lines(&numbers.orders, short),
             misses: lines(&numbers.misses, short),
             words: lines(&numbers.words, short),
             long_keys: lines(&numbers.keys, long),

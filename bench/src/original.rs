@@ -34,6 +34,7 @@ set_loops!(VecSet, VecSet::from);
 placed_set_loops!(VecSet);
 text_loops!(VecMap);
 placed_text_loops!(VecMap);
+removed_text_loops!(VecMap);
 
 // Returns the last element and the number of elements, combined in one number.
 fn set_mark(set: &VecSet<u64>) -> u64 {

@@ -120,5 +120,6 @@ calls! { u8:
     text_get = vecmap_bench_text_get,
     string_get = vecmap_bench_string_get,
     string_insert = vecmap_bench_string_insert,
+    string_remove = vecmap_bench_string_remove,
     count_lines = vecmap_bench_count_lines,
 }

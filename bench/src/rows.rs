@@ -241,6 +241,7 @@ pub fn texts(it: &Texts, n: usize) -> Vec<Row<'_, u8>> {
     ];
     rows.extend([
         row!("String insert new", n, &it.keys, &[], string_insert, linear, index),
+        row!("String remove+insert", 8 * n, &it.keys, &it.orders, string_remove),
         row!("count lines", 4 * n, &[], &it.words, count_lines, index),
     ]);
     if SIZES_OF_PROGRAMS.contains(&n) {

@@ -97,3 +97,27 @@ macro_rules! placed_text_loops {
         }
     };
 }
+
+/// Loops over maps whose removals keep the order.
+macro_rules! removed_text_loops {
+    ($map:ident) => {
+        #[inline(never)]
+        pub fn string_remove(keys: &[u8], probes: &[u8], rounds: u64) -> u64 {
+            let (Ok(keys), Ok(probes)) = (str::from_utf8(keys), str::from_utf8(probes)) else {
+                return u64::MAX;
+            };
+            let mut map = numbered(keys);
+            let probes = lines(probes);
+            let mut sum = 0u64;
+            for round in 0..rounds {
+                for probe in probes.iter() {
+                    if let Some((key, value)) = map.remove_entry(probe.as_str()) {
+                        sum = sum.wrapping_add(value);
+                        map.insert(key, value ^ round);
+                    }
+                }
+            }
+            sum
+        }
+    };
+}

@@ -122,9 +122,10 @@ pub fn merge_into_both(
         × (other.new ≡ merge_of other.old other_changes.old)) }
     ensures equal { OnOk result (AreSame page.old other.old
         → AreSame changes.old other_changes.old → AreSame page.new other.new) }
-    ensures err { OnErr result ((page.new ≡ page.old)
-        ⊎ (page.new ≡ merge_of page.old changes.old)) }
-    ensures other_err { OnErr result (other.new ≡ other.old) }
+    ensures emptied { OnOk result ((changes.new ≡ []) × (other_changes.new ≡ [])) }
+    ensures err { OnErr result (((page.new ≡ page.old) × (changes.new ≡ changes.old))
+        ⊎ ((page.new ≡ merge_of page.old changes.old) × (changes.new ≡ []))) }
+    ensures other_err { OnErr result ((other.new ≡ other.old) × (other_changes.new ≡ other_changes.old)) }
 {
     same_documents_stay_same();
     names_are_distinct(changes);

@@ -7,7 +7,7 @@ use std::mem::size_of_val;
 
 // The largest size, in bytes, of a range and the items behind it that is moved by two reversals. A larger one is moved
 // by a rotation and a reversal.
-const MAX_BYTES_FOR_REVERSALS: usize = 1024;
+const MAX_BYTES_FOR_REVERSALS: usize = 2048;
 
 /// Moves the items of `start..end` behind the others, in reverse order, and returns the number of the others.
 ///

@@ -4,7 +4,7 @@ ghost use Rattle.std.specs.Prelude.{◌≡◌, ◌<◌, ◌≤◌, Some, insert,
 use std::mem::{replace, size_of_val};
 
 // The largest size, in bytes, of items that are carried one by one, and not by a rotation.
-const MAX_BYTES_FOR_CARRYING: usize = 64;
+const MAX_BYTES_FOR_CARRYING: usize = 24;
 
 // The largest lengths of a part of a list whose items are carried one by one, to the left and to the right.
 const MAX_CARRIED_LEFT: usize = 8;
@@ -12,7 +12,7 @@ const MAX_CARRIED_LEFT: usize = 8;
 const MAX_CARRIED_RIGHT: usize = 32;
 
 // The largest size, in bytes, of an item that `remove_item` moves by a rotation.
-const MAX_BYTES_FOR_ROTATION: usize = 64;
+const MAX_BYTES_FOR_ROTATION: usize = 16;
 
 // The largest size, in bytes, of an item that `remove_item` moves by one rotation for each part of the list.
 const MAX_BYTES_FOR_PARTS: usize = 160;

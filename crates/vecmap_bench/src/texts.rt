@@ -60,6 +60,22 @@ fn insertions(alloc: Global, keys: &str, rounds: u64) -> Result<u64, AllocError>
     Ok(sum)
 }
 
+// Removes each line and inserts it again at the end.
+fn removals(alloc: Global, keys: &str, probes: &str, rounds: u64) -> Result<u64, AllocError> {
+    let mut map = numbered(alloc, keys)?;
+    let probes = lines(alloc, probes)?;
+    let mut sum: u64 = 0;
+    for round in 0..rounds {
+        for probe in probes.iter() {
+            if let Some((key, value)) = map.remove_entry(probe.as_str()) {
+                sum = sum.wrapping_add(value);
+                map.insert(key, value ^ round)?;
+            }
+        }
+    }
+    Ok(sum)
+}
+
 // Counts how often each line occurs in the text.
 fn counts(alloc: Global, text: &str, rounds: u64) -> Result<u64, AllocError> {
     let mut sum: u64 = 0;
@@ -115,6 +131,19 @@ pub extern "C" fn vecmap_bench_string_insert(
         return REFUSED;
     };
     insertions(alloc, keys, rounds).unwrap_or(REFUSED)
+}
+
+#[unsafe(no_mangle)]
+pub extern "C" fn vecmap_bench_string_remove(
+    alloc: Global,
+    keys: &[u8],
+    probes: &[u8],
+    rounds: u64,
+) -> u64 {
+    let (Ok(keys), Ok(probes)) = (str::from_utf8(keys), str::from_utf8(probes)) else {
+        return REFUSED;
+    };
+    removals(alloc, keys, probes, rounds).unwrap_or(REFUSED)
 }
 
 #[unsafe(no_mangle)]

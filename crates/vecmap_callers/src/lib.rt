@@ -23,6 +23,7 @@ pub mod nested;
 pub mod operators;
 pub mod options;
 pub mod order;
+pub mod paths;
 pub mod recursive;
 pub mod removal;
 pub mod scopes;

@@ -4,6 +4,7 @@ mod header_lists;
 mod headers;
 mod interner;
 mod options;
+mod paths;
 mod scopes;
 mod settings;
 mod traits;

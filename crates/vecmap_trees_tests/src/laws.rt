@@ -98,6 +98,10 @@ pub fn set_both(
         → ArePartedPaths (map (λ name. name.now) path.now) path_elsewhere
         → ArePartedPaths (map (λ name. name.now) other.now) path_elsewhere
         → at_path path_elsewhere tree.new ≡ at_path path_elsewhere tree.old }
+    ensures tree { IsSome (at_path (map (λ name. name.now) path.now) tree.old)
+        → IsSome (at_path (map (λ name. name.now) other.now) tree.old)
+        → tree.new ≡ changed_at (map (λ name. name.now) other.now) (λ _. other_value)
+        (changed_at (map (λ name. name.now) path.now) (λ _. value) tree.old) }
     ensures given { IfErr result
         (λ refused. (refused.given ≡ value) ⊎ (refused.given ≡ other_value)) }
     ensures err { OnErr result ((tree.new ≡ tree.old)
