@@ -137,7 +137,7 @@ def draw_means(box, ratios):
     points = axes.points(mean)
     made += [line(points, CONTENDERS[OURS]), *dots(points, CONTENDERS[OURS])]
     made += [text(x, y + (17 if value < 1 else -8), f"{value:.2f}") for (x, y), value in zip(points, mean.values())]
-    words = "this library; shaded: between the least and the greatest ratio over 8 orders of the functions"
+    words = "this library; shaded: between the least and the greatest ratio over the orders of the functions"
     return [*made, text(axes.left + 8, axes.bottom - 10, words, "start", colour=CONTENDERS[OURS])]
 
 
@@ -158,7 +158,7 @@ def main():
     for left, (row, title) in zip((60, 510), ROWS.items()):
         made += draw_times((left, 75, left + 375, 345), times(ratios, others, row), title)
     made += draw_means((60, 430, 885, 620), ratios)
-    words = "Intel Xeon 2.50GHz, family 6, model 85. Nanoseconds: the least of seven samples, median over 8 orders."
+    words = "Intel Xeon 2.50GHz, family 6, model 85. Nanoseconds: the least of the samples, median over the orders."
     made.append(text(60, HEIGHT - 14, words, "start"))
     head = f'<svg xmlns="http://www.w3.org/2000/svg" viewBox="0 0 {WIDTH} {HEIGHT}" font-family="sans-serif">'
     ground = f'<rect width="{WIDTH}" height="{HEIGHT}" fill="white"/>'
