@@ -1,10 +1,10 @@
-"""Draws `docs/speed.svg` from the figures of the machine of SPEED in `bench/RESULTS.md`, which `FULL=<file> bench/run`
-writes. It needs nothing besides Python.
+"""Draws `docs/speed.svg` from the figures of the machine of SPEED, `bench/figures/first.tsv`. It needs nothing besides
+Python.
 
 Above: the nanoseconds of a `get`, and the mean nanoseconds of an `insert` while a map is filled. Below: the geometric
 mean over all rows of the ratios to the times of vecmap-rs, and those of the least and of the greatest ratios.
 
-    python3 bench/plot.py docs/speed.svg bench/RESULTS.md
+    python3 bench/plot.py docs/speed.svg bench/figures/first.tsv
 """
 import math
 import re
@@ -30,16 +30,14 @@ CELL = re.compile(r"([\d.]+) \[([\d.]+)\.\.([\d.]+)\] ([\d.]+):([\d.]+)")
 
 
 def read(name):
-    """Returns the rows of the first table of each kind: of the ratios, and of the nanoseconds of other crates."""
+    """Returns the rows of the ratios, and those of the nanoseconds of other crates."""
     tables = {}
     with open(name, encoding="utf-8") as file:
-        blocks = re.findall(r"(?:^\|.*\n)+", file.read(), re.MULTILINE)
-    for block in blocks:
-        head, _, *lines = ([cell.strip() for cell in re.split(r"(?<!\\)\|", line)[1:-1]] for line in block.splitlines())
-        sizes = [int(size) for size in head[1:]]
-        tables.setdefault(head[0], {row: dict(zip(sizes, cells)) for row, *cells in lines})
+        for line in file:
+            head, row, size, cell = line.rstrip("\n").split("\t")
+            tables.setdefault(head, {}).setdefault(row, {})[int(size)] = cell
     ratios = {
-        row: {size: [float(x) for x in CELL.fullmatch(cell).groups()] for size, cell in cells.items() if cell}
+        row: {size: [float(x) for x in CELL.fullmatch(cell).groups()] for size, cell in cells.items()}
         for row, cells in tables["vecmap : vecmap-rs"].items()
     }
     return ratios, {row: {n: float(x) for n, x in cells.items()} for row, cells in tables["nanoseconds"].items()}
