@@ -90,7 +90,7 @@ pub fn retain_items<T: Drop, F: FnMut(&T) -> bool + Drop>(items: &mut Vec<T>, f:
     retain::<_, Item, _>(items, f);
 }
 
-// A closure that is asked whether an item stays. The form is how the closure takes the item.
+// A closure that is asked whether an item stays. `Form` says how it takes the item.
 trait Predicate<X, Form>: Drop {
     // It may be asked about this item.
     ghost accepts: { Self → X → Type 0 };
@@ -103,13 +103,13 @@ trait Predicate<X, Form>: Drop {
         ensures { step self.old item.old result item.new self.new };
 }
 
-// A pair is taken by its key and its value, which can be written.
+// It takes a key and its value, and can write the value.
 struct Pair;
 
-// A pair is taken by its key and its value, which can both be written.
+// It takes a key and its value, and can write both.
 struct PairMut;
 
-// An item is taken to be read.
+// It takes an item, and writes nothing.
 struct Item;
 
 impl<K, V, F: FnMut(&K, &mut V) -> bool + Drop> Predicate<(K, V), Pair> for F {
