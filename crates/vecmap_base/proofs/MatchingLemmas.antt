@@ -95,7 +95,9 @@ module _ {X : Type 0} (same : X → X → Bool) (o : IsEquivalence same) where
   no_marks b marks none = ap (free b) none ∙ free_unmarked b (length marks)
 
   -- The first item of `a` is matched with one behind the first of `b`.
-  first_matched : (a b : List X) (j : ℕ) (x : X) (marks : List Bool) → 0 < length a → length a ≡ length b → marks ≡ replicate (length marks) false → x ≡ get_or a 0 x → j < length (drop 1 b) → get_or (drop 1 marks) j true ≡ false → same x (get_or (drop 1 b) j x) ≡ true → Matched a b (drop 1 a) (set marks (1 + j) true)
+  first_matched : (a b : List X) (j : ℕ) (x : X) (marks : List Bool)
+      → 0 < length a → length a ≡ length b → marks ≡ replicate (length marks) false → x ≡ get_or a 0 x → j < length (drop 1 b) → get_or (drop 1 marks) j true ≡ false → same x (get_or (drop 1 b) j x) ≡ true
+      → Matched a b (drop 1 a) (set marks (1 + j) true)
   first_matched a b j x marks some as_long none at within unmarked like =
       one_matched a b 0 (1 + j) x marks some at (omega (arith, within, length-drop 1 b)) (sym (get_or_after_one marks j true) ∙ unmarked) (ap (same x) (sym (get_or_after_one b j x)) ∙ like) (none_matched a b marks as_long (no_marks b marks none))
 
@@ -135,7 +137,9 @@ module _ {X : Type 0} (same : X → X → Bool) (o : IsPartialEquivalence same) 
         | inr e ↦ disagree_at same o a b i x within at e
       ]
 
-  pub first_matched_partial : (a b : List X) (j : ℕ) (x : X) (marks : List Bool) → 0 < length a → length a ≡ length b → marks ≡ replicate (length marks) false → x ≡ get_or a 0 x → j < length (drop 1 b) → get_or (drop 1 marks) j true ≡ false → same x (get_or (drop 1 b) j x) ≡ true → MatchedPartial a b (drop 1 a) (set marks (1 + j) true)
+  pub first_matched_partial : (a b : List X) (j : ℕ) (x : X) (marks : List Bool)
+      → 0 < length a → length a ≡ length b → marks ≡ replicate (length marks) false → x ≡ get_or a 0 x → j < length (drop 1 b) → get_or (drop 1 marks) j true ≡ false → same x (get_or (drop 1 b) j x) ≡ true
+      → MatchedPartial a b (drop 1 a) (set marks (1 + j) true)
   first_matched_partial a b j x marks some as_long none at within unmarked like = (
     first_matched (lumped same o) (lumped_laws same o) a b j x marks some as_long none at within unmarked (lumped_if_same same o x (get_or (drop 1 b) j x) like),
     one_reflexive a 0 x some at (self_left same o x (get_or (drop 1 b) j x) like),

@@ -66,7 +66,9 @@ impl Equivalent<String> for &str {
     }
 
     // Equality of bytes is symmetric, and does not distinguish equal texts.
-    ghost respects_eq = { λ query x y h. nat_list_eq_equiv.symm (string_bytes y) query.now ∙ sym (nat_list_eq_equiv.congr (string_bytes x) query.now (string_bytes y) h) };
+    ghost respects_eq = { λ query x y h.
+        nat_list_eq_equiv.symm (string_bytes y) query.now
+        ∙ sym (nat_list_eq_equiv.congr (string_bytes x) query.now (string_bytes y) h) };
 }
 
 /// Matches each borrowed text with the same bytes.
@@ -90,7 +92,8 @@ impl Equivalent<BoxedStr> for &str {
         **self == *key.as_str()
     }
 
-    ghost respects_eq = { λ query x y. nat_list_eq_equiv.congr query.now (boxed_str_bytes x) (boxed_str_bytes y) };
+    ghost respects_eq = { λ query x y.
+        nat_list_eq_equiv.congr query.now (boxed_str_bytes x) (boxed_str_bytes y) };
 }
 
 /// Matches each `RcStr` with the same bytes.
@@ -102,7 +105,8 @@ impl Equivalent<RcStr> for &str {
         **self == *key.as_str()
     }
 
-    ghost respects_eq = { λ query x y. nat_list_eq_equiv.congr query.now (rc_str_bytes x) (rc_str_bytes y) };
+    ghost respects_eq = { λ query x y.
+        nat_list_eq_equiv.congr query.now (rc_str_bytes x) (rc_str_bytes y) };
 }
 
 /// Matches each `ArcStr`, which threads may share, with the same bytes.
@@ -114,7 +118,8 @@ impl Equivalent<ArcStr> for &str {
         **self == *key.as_str()
     }
 
-    ghost respects_eq = { λ query x y. nat_list_eq_equiv.congr query.now (arc_str_bytes x) (arc_str_bytes y) };
+    ghost respects_eq = { λ query x y.
+        nat_list_eq_equiv.congr query.now (arc_str_bytes x) (arc_str_bytes y) };
 }
 
 /// Matches each `CowStr` with the same bytes, borrowed or owned.
@@ -126,7 +131,8 @@ impl<'b> Equivalent<CowStr<'b>> for &str {
         **self == *key.as_str()
     }
 
-    ghost respects_eq = { λ query x y. nat_list_eq_equiv.congr query.now (cow_str_bytes x) (cow_str_bytes y) };
+    ghost respects_eq = { λ query x y.
+        nat_list_eq_equiv.congr query.now (cow_str_bytes x) (cow_str_bytes y) };
 }
 
 /// Matches each vector whose items are equal to those of the query, index by index.
@@ -150,7 +156,8 @@ impl<T: Eq> Equivalent<BoxedSlice<T>> for &[T] {
         **self == *key.as_slice()
     }
 
-    ghost respects_eq = { λ query x y. (lists_equiv T.Eq.laws).congr query.now (boxed_slice_items x) (boxed_slice_items y) };
+    ghost respects_eq = { λ query x y.
+        (lists_equiv T.Eq.laws).congr query.now (boxed_slice_items x) (boxed_slice_items y) };
 }
 
 /// Matches each `RcSlice` whose items are equal to those of the query, index by index.
@@ -162,7 +169,8 @@ impl<T: Eq> Equivalent<RcSlice<T>> for &[T] {
         **self == *key.as_slice()
     }
 
-    ghost respects_eq = { λ query x y. (lists_equiv T.Eq.laws).congr query.now (rc_slice_items x) (rc_slice_items y) };
+    ghost respects_eq = { λ query x y.
+        (lists_equiv T.Eq.laws).congr query.now (rc_slice_items x) (rc_slice_items y) };
 }
 
 /// Matches each `ArcSlice`, which threads may share, whose items are equal to those of the query, index by index.
@@ -174,7 +182,8 @@ impl<T: Eq> Equivalent<ArcSlice<T>> for &[T] {
         **self == *key.as_slice()
     }
 
-    ghost respects_eq = { λ query x y. (lists_equiv T.Eq.laws).congr query.now (arc_slice_items x) (arc_slice_items y) };
+    ghost respects_eq = { λ query x y.
+        (lists_equiv T.Eq.laws).congr query.now (arc_slice_items x) (arc_slice_items y) };
 }
 
 /// Matches each `Box` whose value is equal to that of the query.
@@ -233,5 +242,8 @@ impl<A: Eq, B: Eq, P: Equivalent<A>, Q: Equivalent<B>> Equivalent<(A, B)> for (P
     }
 
     // Each of the two queries respects the equality of its own keys.
-    ghost respects_eq = { λ query x y h. let both = and_parts (P.equivalent query.0 x.0) (Q.equivalent query.1 x.1) h in λ j. P.respects_eq query.0 x.0 y.0 both.0 j && Q.respects_eq query.1 x.1 y.1 both.1 j };
+    ghost respects_eq = { λ query x y h.
+        let both = and_parts (P.equivalent query.0 x.0) (Q.equivalent query.1 x.1) h
+        in λ j. P.respects_eq query.0 x.0 y.0 both.0 j
+        && Q.respects_eq query.1 x.1 y.1 both.1 j };
 }

@@ -30,8 +30,8 @@ pub use equivalent::Equivalent;
 pub use iter::{IntoIter, IntoKeys, IntoValues, Iter, Keys, Values};
 pub use iter_mut::{IterMut, IterMut2, KeysMut, ValuesMut};
 pub use lookup::{
-    contains_equivalent, contains_item, find, find_equivalent, find_item, find_item_equivalent,
-    find_item_str, find_str, is_present,
+    contains_equivalent, contains_item, contains_item_inline, find, find_equivalent, find_item,
+    find_item_equivalent, find_item_str, find_str,
 };
 pub use moving::{insert_reserved, remove_item, replace_and_move};
 pub use refused::Refused;

@@ -1,4 +1,11 @@
 //! Searches of a slice for the first key or item that is equal to one, has the bytes of a text, or matches a query.
+//!
+//! Four functions return whether an item is present. They differ in speed alone:
+//!
+//! - `contains_equivalent` takes a query, and chooses between a plain loop and `is_any_in_blocks`.
+//! - `contains_item` is the same for an item. It is not inlined.
+//! - `contains_item_inline` inlines a plain loop over few items, and calls `contains_item` for more.
+//! - `contains_by_loop` is that plain loop.
 ghost use Rattle.std.specs.Prelude.{◌≡◌, ◌<◌, IfSome, length, position};
 ghost use Rattle.std.specs.List.{list_any};
 ghost use Rattle.std.specs.Set.{is_member};
@@ -113,7 +120,7 @@ pub fn contains_item<T: Eq>(items: &[T], item: &T) -> bool
     contains_equivalent(items, item)
 }
 
-/// Like [`contains_item`], but the loop over few items becomes part of the caller.
+/// Like [`contains_item`], but the loop over few items is inlined.
 ///
 /// # Complexity
 ///
@@ -122,21 +129,21 @@ pub fn contains_item<T: Eq>(items: &[T], item: &T) -> bool
 /// # Examples
 ///
 /// ```
-/// is_present(&['a', 'b'], &'c') // false
+/// contains_item_inline(&['a', 'b'], &'c') // false
 /// ```
 #[inline(always)]
-pub fn is_present<T: Eq>(items: &[T], item: &T) -> bool
+pub fn contains_item_inline<T: Eq>(items: &[T], item: &T) -> bool
     ensures { result ≡ is_member T.eq items.now item.now }
 {
     if items.len() < MIN_LENGTH_FOR_CALL {
-        return is_in_few(items, item);
+        return contains_by_loop(items, item);
     }
     contains_item(items, item)
 }
 
-// The same as `contains_item`, for few items.
+// Like [`contains_item`], by a plain loop, which is inlined. It is the fastest for few items.
 #[inline(always)]
-pub(crate) fn is_in_few<T: Eq>(items: &[T], item: &T) -> bool
+pub(crate) fn contains_by_loop<T: Eq>(items: &[T], item: &T) -> bool
     ensures { result ≡ is_member T.eq items.now item.now }
 {
     items.iter().any(|other| *item == *other)

@@ -159,7 +159,7 @@ fn move_by_parts<T>(items: &mut [T], from: usize) -> usize
     let part = (BYTES_OF_PART / size).max(1);
     let mut at = from;
     while part < items.len() - 1 - at {
-        move_part(items, at, at + part);
+        move_item_not_inlined(items, at, at + part);
         at += part;
     }
     at
@@ -224,7 +224,7 @@ fn move_item<T>(items: &mut [T], from: usize, to: usize)
 
 // The same as `move_item`. It is not inlined: where LLVM knows the number of items, it copies them one by one.
 #[inline(never)]
-fn move_part<T>(items: &mut [T], from: usize, to: usize)
+fn move_item_not_inlined<T>(items: &mut [T], from: usize, to: usize)
     requires from_within { from < length items.old }
     requires to_within { to < length items.old }
     ensures { (d : T) → items.new

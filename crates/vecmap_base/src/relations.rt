@@ -5,7 +5,7 @@ ghost use Rattle.std.specs.Set.{is_member};
 ghost use Rattle.vecmap_base.specs.Equality.{is_within};
 ghost use Rattle.vecmap_base.specs.Items.{both};
 
-use crate::lookup::{MIN_LENGTH_FOR_BLOCKS, MIN_LENGTH_FOR_CALL, are_small, is_in_few};
+use crate::lookup::{MIN_LENGTH_FOR_BLOCKS, MIN_LENGTH_FOR_CALL, are_small, contains_by_loop};
 use crate::unrolled::is_any_in_blocks;
 
 /// Returns `true` if each of `items` is equal to one of `others`.
@@ -28,7 +28,7 @@ pub fn are_within<T: Eq>(items: &[T], others: &[T]) -> bool
     if are_small(others, MIN_LENGTH_FOR_CALL) {
         return are_within_blocks(items, others);
     }
-    items.iter().all(|item| is_in_few(others, item))
+    items.iter().all(|item| contains_by_loop(others, item))
 }
 
 /// Returns `true` if none of `items` is equal to one of `others`.
@@ -59,7 +59,7 @@ fn overlap<T: Eq>(items: &[T], others: &[T]) -> bool
     if are_small(others, MIN_LENGTH_FOR_BLOCKS) {
         return overlap_blocks(items, others);
     }
-    items.iter().any(|item| is_in_few(others, item))
+    items.iter().any(|item| contains_by_loop(others, item))
 }
 
 // The same as `are_within`, for small others. It is not inlined, so that its loop does not depend on the code around

@@ -13,8 +13,9 @@ ghost use Rattle.vecmap_base.specs.Repeats.{comparisons, cost, search_cost};
 use crate::steps::Steps;
 use std::mem;
 
-// Returns `true` if an element of `front` is equal to `item`. Stops at the first equal element.
-fn is_repeat<T: Eq>(front: &[T], item: &T, steps: &mut Steps) -> bool
+// Returns `true` if an element of `front` is equal to `item`. Counts each comparison, and stops at the first equal
+// element.
+fn contains_counted<T: Eq>(front: &[T], item: &T, steps: &mut Steps) -> bool
     requires bounded { steps.old + length front.now ≤ u128.MAX }
     ensures repeat { result ≡ is_member T.eq front.now item.now }
     ensures counted { steps.new ≡ steps.old + search_cost T.eq front.now item.now }
@@ -27,8 +28,9 @@ fn is_repeat<T: Eq>(front: &[T], item: &T, steps: &mut Steps) -> bool
     false
 }
 
-// Returns the index of the first pair of `front` whose key is equal to `key`. Stops at this pair.
-fn find_repeat<K: Eq, V>(front: &[(K, V)], key: &K, steps: &mut Steps) -> Option<usize>
+// Returns the index of the first pair of `front` whose key is equal to `key`. Counts each comparison, and stops at this
+// pair.
+fn find_counted<K: Eq, V>(front: &[(K, V)], key: &K, steps: &mut Steps) -> Option<usize>
     requires bounded { steps.old + length front.now ≤ u128.MAX }
     ensures index { result ≡ index_of K.eq front.now key.now }
     ensures within { IfSome result (λ i. i < length front.now) }
@@ -85,7 +87,7 @@ pub fn gather_pairs<K: Eq, V>(pairs: &mut [(K, V)], steps: &mut Steps) -> usize
     let mut kept = 0;
     for i in 0..pairs.len() {
         let shared = &pairs[..];
-        match find_repeat(&shared[..kept], &shared[i].0, steps) {
+        match find_counted(&shared[..kept], &shared[i].0, steps) {
             Some(place) => swap_values(pairs, place, i),
             None => {
                 pairs.swap(kept, i);
@@ -126,7 +128,7 @@ pub fn gather_items<T: Eq>(items: &mut [T], steps: &mut Steps) -> usize
     let mut kept = 0;
     for i in 0..items.len() {
         let shared = &items[..];
-        if !is_repeat(&shared[..kept], &shared[i], steps) {
+        if !contains_counted(&shared[..kept], &shared[i], steps) {
             items.swap(kept, i);
             kept += 1;
         }

@@ -5,8 +5,6 @@ ghost use Rattle.std.specs.Fn.{TakesAt};
 ghost use Rattle.vecmap_base.specs.Asked.{CallableOnEach, CallsAtItem, CallsAtPair, CallsAtPairMut, TakesPairAt, TakesPairMut};
 ghost use Rattle.vecmap_base.specs.Kept.{Kept, KeptSoFar};
 
-use std::marker::Model;
-
 /// Retains only the pairs for which `f` returns `true`, each with the value as `f` left it.
 ///
 /// Calls `f` once for each pair, in order, in the state that the calls before have left. The capacity does not change.
@@ -36,7 +34,7 @@ pub fn retain_pairs<K: Drop, V: Drop, F: FnMut(&K, &mut V) -> bool + Drop>(
     ensures retained { (g : F) × Kept (CallsAtPair F.FnMut) f pairs.old.items pairs.new.items g }
     ensures capacity { vec_capacity pairs.new ≡ vec_capacity pairs.old }
 {
-    retain(pairs, OnPair { keep: f });
+    retain::<_, Pair, _>(pairs, f);
 }
 
 /// Like [`retain_pairs`], but `f` can also write the key.
@@ -61,7 +59,7 @@ pub fn retain_pairs_mut<K: Drop, V: Drop, F: FnMut(&mut K, &mut V) -> bool + Dro
     ensures retained { (g : F) × Kept (CallsAtPairMut F.FnMut) f pairs.old.items pairs.new.items g }
     ensures capacity { vec_capacity pairs.new ≡ vec_capacity pairs.old }
 {
-    retain(pairs, OnPairMut { keep: f });
+    retain::<_, PairMut, _>(pairs, f);
 }
 
 /// Retains only the items for which `f` returns `true`.
@@ -89,11 +87,11 @@ pub fn retain_items<T: Drop, F: FnMut(&T) -> bool + Drop>(items: &mut Vec<T>, f:
     ensures retained { (g : F) × Kept (CallsAtItem F.FnMut) f items.old.items items.new.items g }
     ensures capacity { vec_capacity items.new ≡ vec_capacity items.old }
 {
-    retain(items, OnItem { keep: f });
+    retain::<_, Item, _>(items, f);
 }
 
-// A closure that is asked whether an item stays.
-trait Predicate<X>: Drop {
+// A closure that is asked whether an item stays. `Form` says how it takes the item.
+trait Predicate<X, Form>: Drop {
     // It may be asked about this item.
     ghost accepts: { Self → X → Type 0 };
 
@@ -105,77 +103,50 @@ trait Predicate<X>: Drop {
         ensures { step self.old item.old result item.new self.new };
 }
 
-// A closure over a key and its value.
-#[derive(Drop)]
-struct OnPair<F> {
-    keep: F,
-}
+// It takes a key and its value, and can write the value.
+struct Pair;
 
-impl<F> Model for OnPair<F> {
-    ghost Value = { F };
+// It takes a key and its value, and can write both.
+struct PairMut;
 
-    ghost view = { λ a. a.keep };
-}
+// It takes an item, and writes nothing.
+struct Item;
 
-impl<K, V, F: FnMut(&K, &mut V) -> bool> Predicate<(K, V)> for OnPair<F> {
+impl<K, V, F: FnMut(&K, &mut V) -> bool + Drop> Predicate<(K, V), Pair> for F {
     ghost accepts = { TakesPairAt F.FnMut };
 
     ghost step = { CallsAtPair F.FnMut };
 
     #[inline]
     fn keeps(&mut self, pair: &mut (K, V)) -> bool {
-        ask_pair(&mut self.keep, pair)
+        self(&pair.0, &mut pair.1)
     }
 }
 
-// The same of a closure that may write the key.
-#[derive(Drop)]
-struct OnPairMut<F> {
-    keep: F,
-}
-
-impl<F> Model for OnPairMut<F> {
-    ghost Value = { F };
-
-    ghost view = { λ a. a.keep };
-}
-
-impl<K, V, F: FnMut(&mut K, &mut V) -> bool> Predicate<(K, V)> for OnPairMut<F> {
+impl<K, V, F: FnMut(&mut K, &mut V) -> bool + Drop> Predicate<(K, V), PairMut> for F {
     ghost accepts = { TakesPairMut F.FnMut };
 
     ghost step = { CallsAtPairMut F.FnMut };
 
     #[inline]
     fn keeps(&mut self, pair: &mut (K, V)) -> bool {
-        ask_pair_mut(&mut self.keep, pair)
+        self(&mut pair.0, &mut pair.1)
     }
 }
 
-// A closure over an item, which it only reads.
-#[derive(Drop)]
-struct OnItem<F> {
-    keep: F,
-}
-
-impl<F> Model for OnItem<F> {
-    ghost Value = { F };
-
-    ghost view = { λ a. a.keep };
-}
-
-impl<T, F: FnMut(&T) -> bool> Predicate<T> for OnItem<F> {
+impl<T, F: FnMut(&T) -> bool + Drop> Predicate<T, Item> for F {
     ghost accepts = { TakesAt F.FnMut };
 
     ghost step = { CallsAtItem F.FnMut };
 
     #[inline]
     fn keeps(&mut self, item: &mut T) -> bool {
-        ask_item(&mut self.keep, item)
+        self(item)
     }
 }
 
 // Retains the items that `asked` keeps. No item moves before the first that it refuses.
-fn retain<X: Drop, A: Predicate<X>>(items: &mut Vec<X>, mut asked: A)
+fn retain<X: Drop, Form, A: Predicate<X, Form>>(items: &mut Vec<X>, mut asked: A)
     requires callable { CallableOnEach A.step A.accepts asked items.old.items }
     ensures retained { (g : A) × Kept A.step asked items.old.items items.new.items g }
     ensures capacity { vec_capacity items.new ≡ vec_capacity items.old }
@@ -193,7 +164,7 @@ fn retain<X: Drop, A: Predicate<X>>(items: &mut Vec<X>, mut asked: A)
 
 // Asks about the items in order, up to the first that is refused, and returns its index. If there is none, returns the
 // number of items.
-fn find_rejected<X, A: Predicate<X>>(items: &mut Vec<X>, asked: &mut A) -> usize
+fn find_rejected<X, Form, A: Predicate<X, Form>>(items: &mut Vec<X>, asked: &mut A) -> usize
     requires callable { CallableOnEach A.step A.accepts asked.old items.old.items }
     ensures retained { KeptSoFar A.step asked.old asked.new items.old.items items.new.items
         result (result + 1) }
@@ -206,28 +177,4 @@ fn find_rejected<X, A: Predicate<X>>(items: &mut Vec<X>, asked: &mut A) -> usize
         }
     }
     items.len()
-}
-
-// Returns what `f` returns for a pair. `f` may write the value.
-fn ask_pair<K, V, F: FnMut(&K, &mut V) -> bool>(f: &mut F, pair: &mut (K, V)) -> bool
-    requires callable { TakesPairAt F.FnMut f.old pair.old }
-    ensures called { CallsAtPair F.FnMut f.old pair.old result pair.new f.new }
-{
-    f(&pair.0, &mut pair.1)
-}
-
-// Returns what `f` returns for a pair. `f` may write the key and the value.
-fn ask_pair_mut<K, V, F: FnMut(&mut K, &mut V) -> bool>(f: &mut F, pair: &mut (K, V)) -> bool
-    requires callable { TakesPairMut F.FnMut f.old pair.old }
-    ensures called { CallsAtPairMut F.FnMut f.old pair.old result pair.new f.new }
-{
-    f(&mut pair.0, &mut pair.1)
-}
-
-// Returns what `f` returns for an item.
-fn ask_item<T, F: FnMut(&T) -> bool>(f: &mut F, item: &T) -> bool
-    requires callable { TakesAt F.FnMut f.old item.now }
-    ensures called { CallsAtItem F.FnMut f.old item.now result item.now f.new }
-{
-    f(item)
 }

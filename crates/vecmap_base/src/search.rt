@@ -44,7 +44,7 @@ pub fn search_by_index<T, F: Fn(usize) -> Ordering>(items: &[T], f: F) -> Result
     while size > 1 {
         let half = size / 2;
         size -= half;
-        base += only_if(f(base + half).is_le(), half);
+        base += zero_unless(f(base + half).is_le(), half);
     }
     match f(base) {
         Ordering::Less => Err(base + 1),
@@ -182,7 +182,7 @@ pub fn partition_point<T, P: Fn(&T) -> bool>(items: &[T], pred: P) -> usize
 // Returns `n` if `condition` holds, and 0 otherwise. The minimum of two numbers compiles to no branch. A branch would
 // be predicted wrongly in every second iteration of a search.
 #[inline]
-fn only_if(condition: bool, n: usize) -> usize
+fn zero_unless(condition: bool, n: usize) -> usize
     ensures { result ≡ (if condition then n else 0) }
 {
     n.min(0usize.wrapping_sub(usize::from(condition)))

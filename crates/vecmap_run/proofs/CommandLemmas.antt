@@ -1,6 +1,8 @@
 -- How std's methods of text read the words of a line. Idea: no word of a command has a space, so `split_once` cuts a
 -- line exactly where the grammar does.
-use Rattle.std.proofs.Common.{ℤ, ◌∙◌, ◌≡◌, ◌==◌, not, ◌≢◌, ◌^◌, ◌<◌, ◌≤◌, ℕ, Bool, Bor, IfNone, IfSome, List, [], ◌∷◌, ◌++◌, None, Ok, Option, Result, ap, arith, false, get_or, length, length-append, lit<, neg_ℤ, pos, refl, rules, Some, subst, suc, sym, true, zero}
+use Rattle.std.proofs.Common.{ℤ, ◌≡◌, ◌==◌, ◌≢◌, ◌^◌, ◌<◌, ◌≤◌, ℕ, Bool, Bor, IfNone, IfSome, List, [], ◌∷◌, ◌++◌}
+use Rattle.std.proofs.Common.{None, Ok, Option, Result, Some, false, get_or, length, neg_ℤ, not, pos, suc, true, zero}
+use Rattle.std.proofs.Common.{◌∙◌, ap, arith, length-append, lit<, refl, rules, subst, sym}
 use Rattle.std.proofs.Math.Seq.{get_or-append_seam}
 use Rattle.std.proofs.lemmas.Bool.{and_parts}
 use Rattle.std.proofs.lemmas.Bool.Decides.{nat_tests}

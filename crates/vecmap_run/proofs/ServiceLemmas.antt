@@ -57,14 +57,17 @@ Splits-ended_lines input lines rest splits = rw (Splits-pieces input lines rest 
 last_piece : (lines : List (List ℕ)) (rest : List ℕ) → without_empty_last (lines ++ rest ∷ []) ≡ (if length rest == 0 then lines else lines ++ rest ∷ [])
 last_piece [] rest = refl
 last_piece (line ∷ []) rest = elim (length rest == 0) as (λ b. ◌≡◌ {A = List (List ℕ)} (line ∷ (if b then [] else rest ∷ [])) (if b then line ∷ [] else line ∷ rest ∷ [])) [ true ↦ refl | false ↦ refl ]
-last_piece (line ∷ next ∷ lines) rest = ap (λ l. line ∷ l) (last_piece (next ∷ lines) rest) ∙ elim (length rest == 0) as (λ b. ◌≡◌ {A = List (List ℕ)} (line ∷ (if b then next ∷ lines else next ∷ lines ++ rest ∷ [])) (if b then line ∷ next ∷ lines else line ∷ next ∷ lines ++ rest ∷ [])) [ true ↦ refl | false ↦ refl ]
+last_piece (line ∷ next ∷ lines) rest =
+    ap (λ l. line ∷ l) (last_piece (next ∷ lines) rest)
+    ∙ elim (length rest == 0) as (λ b. ◌≡◌ {A = List (List ℕ)} (line ∷ (if b then next ∷ lines else next ∷ lines ++ rest ∷ [])) (if b then line ∷ next ∷ lines else line ∷ next ∷ lines ++ rest ∷ [])) [ true ↦ refl | false ↦ refl ]
 
 -- A service proceeds over no bytes.
 pub GoesOn-nil : (line : Option (List ℕ)) (entries : Entries) (written : Option (List ℕ)) → GoesOn line entries [] written written line entries
 GoesOn-nil line entries written input text served = ([], Appends-nil written, rw (append-nil, append-nil) served)
 
 -- A service that proceeds over some bytes and then over others proceeds over both.
-pub GoesOn-trans : (line mid new : Option (List ℕ)) (entries next last : Entries) (bytes others : List ℕ) (written now later : Option (List ℕ)) → GoesOn line entries bytes written now mid next → GoesOn mid next others now later new last → GoesOn line entries (bytes ++ others) written later new last
+pub GoesOn-trans : (line mid new : Option (List ℕ)) (entries next last : Entries) (bytes others : List ℕ) (written now later : Option (List ℕ))
+    → GoesOn line entries bytes written now mid next → GoesOn mid next others now later new last → GoesOn line entries (bytes ++ others) written later new last
 GoesOn-trans line mid new entries next last bytes others written now later first second input text served =
     let (more, wrote, after) = first input text served in
     let (rest, wrote_rest, done) = second (input ++ bytes) (text ++ more) after in
@@ -85,7 +88,9 @@ GoesOn-pushed line new entries written byte unbroken pushed input text served = 
 )
 
 -- A service proceeds over a line break if it writes the answer to the line and clears it.
-pub GoesOn-answered : (line new : Option (List ℕ)) (entries last : Entries) (written now : Option (List ℕ)) → ((whole : List ℕ) → line ≡ within_limit whole → (answer : List ℕ) × Appends written now answer × AnswersLine entries whole answer last) → new ≡ within_limit [] → GoesOn line entries (10 ∷ []) written now new last
+pub GoesOn-answered : (line new : Option (List ℕ)) (entries last : Entries) (written now : Option (List ℕ))
+    → ((whole : List ℕ) → line ≡ within_limit whole → (answer : List ℕ) × Appends written now answer × AnswersLine entries whole answer last)
+    → new ≡ within_limit [] → GoesOn line entries (10 ∷ []) written now new last
 GoesOn-answered line new entries last written now answers cleared input text served =
     let (answer, wrote, step) = answers served.rest served.gathered in (
       answer,
@@ -138,7 +143,9 @@ module _ (unread left rest written now : Option (List ℕ)) (line : Option (List
       (input, text, entries, read, answered_ended line entries input text served, wrote)
 
   -- The input ends.
-  pub Serves-all : Consumes left rest [] → (later : Option (List ℕ)) (last : Entries) → ((input text : List ℕ) → HasServed line entries input text → (more : List ℕ) × Appends now later more × Answers [] (all_lines input) (text ++ more) last) → Serves all_lines unread rest written later
+  pub Serves-all : Consumes left rest [] → (later : Option (List ℕ)) (last : Entries)
+      → ((input text : List ℕ) → HasServed line entries input text → (more : List ℕ) × Appends now later more × Answers [] (all_lines input) (text ++ more) last)
+      → Serves all_lines unread rest written later
   Serves-all ends later last finish =
       let (input, text, read, wrote, served) = since in
       let (more, wrote_more, answers) = finish input text served in

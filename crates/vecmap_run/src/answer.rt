@@ -31,7 +31,7 @@ pub enum Answer {
 }
 
 /// Executes the command of a line. The line is `None` if it is too long.
-pub fn answer_line(alloc: Global, map: &mut VecMap<String, i64>, line: Option<&[u8]>) -> Answer
+pub fn execute_line(alloc: Global, map: &mut VecMap<String, i64>, line: Option<&[u8]>) -> Answer
     ensures { (whole : List ℕ) → option_copied line.entry ≡ within_limit whole
         → MayAnswer map.old.entries whole result map.new.entries }
 {

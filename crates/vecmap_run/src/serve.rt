@@ -5,7 +5,7 @@ ghost use Rattle.vecmap_run.specs.Lines.{all_lines, ended_lines, within_limit};
 ghost use Rattle.vecmap_run.specs.Print.{printed};
 ghost use Rattle.vecmap_run.specs.Service.{Answers, AnswersLine, GoesOn, HasServed, Serves};
 
-use crate::answer::answer_line;
+use crate::answer::execute_line;
 use crate::buffer::Buffer;
 use crate::line::Line;
 use crate::print::Printed;
@@ -131,7 +131,7 @@ impl Service {
         ensures line { self.new.line ≡ within_limit [] }
         ensures err { IfErr result (λ error. error ≡ Fault.Writing) }
     {
-        let answer = answer_line(self.alloc, &mut self.map, self.line.bytes());
+        let answer = execute_line(self.alloc, &mut self.map, self.line.bytes());
         self.line.clear();
         let printed = Printed {
             answer,

@@ -8,7 +8,7 @@ ghost use Rattle.vecmap_set.specs.Contents.{HasRoom, IsFull, KeepsRoom, Refuses}
 use crate::VecSet;
 use std::alloc::AllocError;
 use std::mem;
-use vecmap_base::{Refused, find_item, is_present};
+use vecmap_base::{Refused, contains_item_inline, find_item};
 
 impl<T: Eq> VecSet<T> {
     /// Inserts an element and returns `true` if it is new.
@@ -48,7 +48,7 @@ impl<T: Eq> VecSet<T> {
         ensures given { IfErr result (λ refused. refused.given ≡ item) }
         ensures err { OnErr result (Refuses T.eq self.old item self.new) }
     {
-        if is_present(&self.items, &item) {
+        if contains_item_inline(&self.items, &item) {
             return Ok(false);
         }
         self.push(item)?;

@@ -32,8 +32,8 @@ fn shows_contains_item(rt: &impl Abort) {
     assert_is(rt, contains_item(&['a', 'b'], &'c'), false);
 }
 
-fn shows_is_present(rt: &impl Abort) {
-    assert_is(rt, is_present(&['a', 'b'], &'c'), false);
+fn shows_contains_item_inline(rt: &impl Abort) {
+    assert_is(rt, contains_item_inline(&['a', 'b'], &'c'), false);
 }
 
 fn shows_find_equivalent(rt: &impl Abort) {
@@ -56,7 +56,7 @@ fn examples_of_vecmap_base_lookup_hold(rt: HostRuntime) {
     shows_find_str(&rt, alloc);
     shows_find_item_str(&rt, alloc);
     shows_contains_item(&rt);
-    shows_is_present(&rt);
+    shows_contains_item_inline(&rt);
     shows_find_equivalent(&rt);
     shows_find_item_equivalent(&rt);
     shows_contains_equivalent(&rt);

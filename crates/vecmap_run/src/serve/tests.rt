@@ -1,6 +1,7 @@
 //! Whole runs, over readers and writers in memory.
 use super::{Fault, serve};
 use std::alloc::Global;
+use std::cell::Cell;
 use std::io;
 use std::io::{Error, ErrorKind, Read, Write};
 use std::test::Fail;
@@ -337,4 +338,59 @@ fn stops_if_a_write_fails(rt: HostRuntime) -> Result<(), Fail> {
         assert!(rt; reader.reads == 1, "at {room}");
     }
     Ok(())
+}
+
+/// Supplies one line a read, and keeps how many bytes were written before each read.
+#[derive(Drop)]
+struct LineReader<'a> {
+    lines: [&'a str; 3],
+    written: &'a Cell<usize>,
+    written_before: [usize; 4],
+    reads: usize,
+}
+
+impl Read for LineReader<'_> {
+    fn read(&mut self, buf: &mut [u8]) -> io::Result<usize> {
+        if let Some(count) = self.written_before.get_mut(self.reads) {
+            *count = self.written.get();
+        }
+        let mut line = match self.lines.get(self.reads) {
+            Some(line) => line.as_bytes(),
+            None => b"",
+        };
+        self.reads = self.reads.saturating_add(1);
+        line.read(buf)
+    }
+}
+
+/// Counts the bytes that it takes.
+#[derive(Drop)]
+struct CountingWriter<'a> {
+    written: &'a Cell<usize>,
+}
+
+impl Write for CountingWriter<'_> {
+    fn write(&mut self, buf: &[u8]) -> io::Result<usize> {
+        self.written
+            .set(self.written.get().saturating_add(buf.len()));
+        Ok(buf.len())
+    }
+
+    fn flush(&mut self) -> io::Result<()> {
+        Ok(())
+    }
+}
+
+#[test]
+fn writes_each_answer_before_the_next_read(rt: HostRuntime) {
+    let written = Cell::new(0usize);
+    let mut reader = LineReader {
+        lines: ["insert a 1\n", "get a\n", "len\n"],
+        written: &written,
+        written_before: [0; 4],
+        reads: 0,
+    };
+    let mut writer = CountingWriter { written: &written };
+    assert!(rt; serve(rt.alloc(), &mut reader, &mut writer) == Ok(()));
+    assert!(rt; reader.written_before == [0, 5, 12, 14]);
 }

@@ -35,7 +35,10 @@ loop-at-init g c =
     let before = none_free_before g.K.PartialEq.eq g.V.PartialEq.eq pairs c.args.taken.now pair first c.in_ok-first.ensures.index in
     let here : (not (get_or c.args.taken.now first true) && same_pair g.K.PartialEq.eq g.V.PartialEq.eq pair (get_or pairs first pair)) ≡ false =
     elim c.else-not-taken-first.branch [
-      | else-not-taken-first-via-then-not-taken-first+else-eq w ↦ other_value g.K.PartialEq.eq g.V.PartialEq.eq (get_or c.args.taken.now first true) pair (get_or pairs first pair) (sym (ap (λ (p : g.row.K.Denot × g.row.V.Denot). g.V.PartialEq.eq pair.1 p.1) (get_or_default pairs first w.index-pairs-first.result pair within)) ∙ sym w.eq.ensures ∙ w.if-eq.false)
+      | else-not-taken-first-via-then-not-taken-first+else-eq w ↦
+          let stored = get_or_default pairs first w.index-pairs-first.result pair within in
+          let differ = sym (ap (λ (p : g.row.K.Denot × g.row.V.Denot). g.V.PartialEq.eq pair.1 p.1) stored) ∙ sym w.eq.ensures ∙ w.if-eq.false in
+          other_value g.K.PartialEq.eq g.V.PartialEq.eq (get_or c.args.taken.now first true) pair (get_or pairs first pair) differ
       | else-not-taken-first-via-else-not-taken-first w ↦ ap (λ (m : Bool). not m && same_pair g.K.PartialEq.eq g.V.PartialEq.eq pair (get_or pairs first pair)) (sym mark ∙ w.if-not-taken-first.false)
     ] in
     none_free_next g.K.PartialEq.eq g.V.PartialEq.eq pairs c.args.taken.now pair first before here

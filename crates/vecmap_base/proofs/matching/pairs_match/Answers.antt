@@ -43,7 +43,10 @@ loop-i-preserved g c =
     let same = same_pair g.K.PartialEq.eq g.V.PartialEq.eq in
     let laws = same_pair_partial g.K.PartialEq.eq g.V.PartialEq.eq g.met.K.Eq.laws g.met.V.PartialEq.laws in
     let place = c.in-Some-find_free.place in
-    (one_matched_partial same laws c.args.a.now c.args.b.now c.loop-i.i place c.index-a-i.result c.loop-i.taken c.loop-i-test.true c.index-a-i.is c.in-Some-find_free.ensures.within c.in-Some-find_free.ensures.unmarked c.in-Some-find_free.ensures.equal c.loop-i.invariant.0, omega (arith, c.loop-i.invariant.1, length-set c.loop-i.taken place true))
+    let found = c.in-Some-find_free.ensures in (
+      one_matched_partial same laws c.args.a.now c.args.b.now c.loop-i.i place c.index-a-i.result c.loop-i.taken c.loop-i-test.true c.index-a-i.is found.within found.unmarked found.equal c.loop-i.invariant.0,
+      omega (arith, c.loop-i.invariant.1, length-set c.loop-i.taken place true),
+    )
 
 pub returns : goal.returns
 returns g c =

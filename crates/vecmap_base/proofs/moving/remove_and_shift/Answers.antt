@@ -9,4 +9,7 @@ returns-clause-items g c =
     let i = c.args.index in
     let long : length c.move_item.new.items ≡ c.args.items.now.len = omega (arith, c.move_item.auto.items, c.deref_mut.ensures.len, c.args.items.now.ok) in
     let fewer : length (remove xs i) + 1 ≡ length xs = length-remove xs i c.requires.within in
-    c.pop.ensures.rest ∙ ap (take (c.args.items.now.len - 1)) (take_at c.move_item.new.items _ _ long ∙ c.move_item.ensures c.unwrap.result ∙ ap (λ ys. insert (remove ys i) (c.len-last.result - 1) (get_or ys i c.unwrap.result)) c.deref_mut.ensures.value) ∙ taken_last (remove xs i) (c.args.items.now.len - 1) (c.len-last.result - 1) (get_or xs i c.unwrap.result) (omega (arith, fewer, c.args.items.now.ok)) (omega (arith, fewer, c.args.items.now.ok, c.len-last.ensures))
+    let seen = ap (λ ys. insert (remove ys i) (c.len-last.result - 1) (get_or ys i c.unwrap.result)) c.deref_mut.ensures.value in
+    c.pop.ensures.rest
+    ∙ ap (take (c.args.items.now.len - 1)) (take_at c.move_item.new.items _ _ long ∙ c.move_item.ensures c.unwrap.result ∙ seen)
+    ∙ taken_last (remove xs i) (c.args.items.now.len - 1) (c.len-last.result - 1) (get_or xs i c.unwrap.result) (omega (arith, fewer, c.args.items.now.ok)) (omega (arith, fewer, c.args.items.now.ok, c.len-last.ensures))

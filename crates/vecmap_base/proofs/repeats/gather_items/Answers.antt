@@ -7,10 +7,10 @@ use Rattle.vecmap_base.specs.{Items.adds, Repeats.comparisons, Repeats.search_co
 use Rattle.vecmap_base.proofs.RepeatsLemmas.{Comparisons.comparisons_below, Comparisons.comparisons_more, Gather.front_swapped, Gather.rest_more}
 use Rattle.vecmap_base.proofs.ItemsLemmas.Additions.{adds_more, add_absent, add_present}
 use Rattle.vecmap_base.proofs.repeats.gather_items.Goals as goal
-use Rattle.vecmap_base.proofs.repeats.gather_items.Goals.{then-not-is_repeat, else-not-is_repeat}
+use Rattle.vecmap_base.proofs.repeats.gather_items.Goals.{then-not-contains_counted, else-not-contains_counted}
 
-pub is_repeat-requires : goal.is_repeat-requires
-is_repeat-requires g c = record {
+pub contains_counted-requires : goal.contains_counted-requires
+contains_counted-requires g c = record {
   bounded = omega (arith, length-take c.loop-i.kept c.loop-i.items, comparisons_below g.T.PartialEq.eq c.args.items.now c.loop-i.i c.loop-i-test.true);
 }
 
@@ -29,13 +29,13 @@ loop-i-preserved g c =
     let s = adds eq [] (take i xs) in
     let more = adds_more eq xs i x l in
     let next : x ≡ get_or xs i x = c.index-shared-i.is ∙ rest.0 in
-    let next_steps : c.is_repeat.new.steps ≡ c.loop-i.steps + search_cost eq s (get_or xs i x) = c.is_repeat.ensures.counted ∙ (λ t. c.loop-i.steps + search_cost eq (was.front t) (next t)) in
-    let counted : c.is_repeat.new.steps ≡ c.args.steps.now + comparisons eq (take (i + 1) xs) = omega (arith, next_steps, was.counted, comparisons_more eq xs i x l) in
-    let answer : c.is_repeat.result ≡ is_member eq s (get_or xs i x) = c.is_repeat.ensures.repeat ∙ (λ t. is_member eq (was.front t) (next t)) in
-    elim c.if-not-is_repeat.branch [
-      | then-not-is_repeat w ↦
+    let next_steps : c.contains_counted.new.steps ≡ c.loop-i.steps + search_cost eq s (get_or xs i x) = c.contains_counted.ensures.counted ∙ (λ t. c.loop-i.steps + search_cost eq (was.front t) (next t)) in
+    let counted : c.contains_counted.new.steps ≡ c.args.steps.now + comparisons eq (take (i + 1) xs) = omega (arith, next_steps, was.counted, comparisons_more eq xs i x l) in
+    let answer : c.contains_counted.result ≡ is_member eq s (get_or xs i x) = c.contains_counted.ensures.repeat ∙ (λ t. is_member eq (was.front t) (next t)) in
+    elim c.if-not-contains_counted.branch [
+      | then-not-contains_counted w ↦
           rw (w.items-is, w.kept-is) (
-          let new : adds eq [] (take (i + 1) xs) ≡ s ++ get_or xs i x ∷ [] = more ∙ add_absent eq s (get_or xs i x) (sym answer ∙ w.if-not-is_repeat.true) in
+          let new : adds eq [] (take (i + 1) xs) ≡ s ++ get_or xs i x ∷ [] = more ∙ add_absent eq s (get_or xs i x) (sym answer ∙ w.if-not-contains_counted.true) in
           let moved = front_swapped ys w.swap.new.self k i x was.bound m w.swap.ensures.len w.swap.ensures.by_index in
           record {
             bound = omega arith;
@@ -45,9 +45,9 @@ loop-i-preserved g c =
             items = IsPermutation-trans _ _ _ was.items w.swap.ensures.permutation;
             counted = counted;
           })
-      | else-not-is_repeat w ↦
+      | else-not-contains_counted w ↦
           rw (w.items-is, w.kept-is) (
-          let old : adds eq [] (take (i + 1) xs) ≡ s = more ∙ add_present eq s (get_or xs i x) (sym answer ∙ w.if-not-is_repeat.false) in
+          let old : adds eq [] (take (i + 1) xs) ≡ s = more ∙ add_present eq s (get_or xs i x) (sym answer ∙ w.if-not-contains_counted.false) in
           record {
             bound = omega arith;
             count = was.count ∙ sym (ap length old);

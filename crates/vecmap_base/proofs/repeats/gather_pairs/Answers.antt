@@ -10,8 +10,8 @@ use Rattle.vecmap_base.proofs.PairsLemmas.Puts.{puts_more, put_absent}
 use Rattle.vecmap_base.proofs.repeats.gather_pairs.Goals as goal
 use Rattle.vecmap_base.proofs.repeats.gather_pairs.Goals.{in-Some, in-None}
 
-pub find_repeat-requires : goal.find_repeat-requires
-find_repeat-requires g c = record {
+pub find_counted-requires : goal.find_counted-requires
+find_counted-requires g c = record {
   bounded = omega (arith, length-take c.loop-i.kept c.loop-i.pairs, key_comparisons_below g.K.PartialEq.eq c.args.pairs.now c.loop-i.i c.loop-i-test.true);
 }
 
@@ -30,9 +30,9 @@ loop-i-preserved g c =
     let s = puts eq [] (take i xs) in
     let q = get_or xs i p in
     let more = puts_more eq xs i p l in
-    let next_steps : c.find_repeat.new.steps ≡ c.loop-i.steps + search_cost eq (keys_of s) q.0 = c.find_repeat.ensures.counted ∙ (λ t. c.loop-i.steps + search_cost eq (keys_of (was.front t)) (rest.0 t).0) in
-    let counted : c.find_repeat.new.steps ≡ c.args.steps.now + comparisons eq (keys_of (take (i + 1) xs)) = omega (arith, next_steps, was.counted, key_comparisons_more eq xs i p l) in
-    elim c.match-find_repeat.branch [
+    let next_steps : c.find_counted.new.steps ≡ c.loop-i.steps + search_cost eq (keys_of s) q.0 = c.find_counted.ensures.counted ∙ (λ t. c.loop-i.steps + search_cost eq (keys_of (was.front t)) (rest.0 t).0) in
+    let counted : c.find_counted.new.steps ≡ c.args.steps.now + comparisons eq (keys_of (take (i + 1) xs)) = omega (arith, next_steps, was.counted, key_comparisons_more eq xs i p l) in
+    elim c.match-find_counted.branch [
       | in-Some w ↦
           rw (w.pairs-is, w.kept-is) (
           let zs = w.swap_values.new.pairs in

@@ -8,11 +8,11 @@ use Rattle.vecmap_base.proofs.search.search_by_index.Goals as goal
 pub loop-size-preserved : goal.loop-size-preserved
 loop-size-preserved g c =
     let base = c.loop-size.base in let size = c.loop-size.size in let half = size / 2 in
-    let within = no_step_past half c.only_if-base.result c.is_le.result c.only_if-base.ensures in (
+    let within = no_step_past half c.zero_unless-base.result c.is_le.result c.zero_unless-base.ensures in (
       omega arith,
       omega (arith, within),
       λ ord by.
-          narrowed_on ord c.args.items.now base size half c.only_if-base.result c.is_le.result (omega arith) c.only_if-base.ensures
+          narrowed_on ord c.args.items.now base size half c.zero_unless-base.result c.is_le.result (omega arith) c.zero_unless-base.ensures
           (λ d. subst (λ (o : Ordering). is_le o ≡ c.is_le.result) (by (base + half) _ (omega arith) c.f.ensures d) (sym c.is_le.ensures))
           (c.loop-size.invariant.2 ord by),
     )

@@ -3,7 +3,7 @@ use Rattle.std.proofs.lemmas.List.{take_all}
 use Rattle.vecmap_base.specs.Pairs.{index_of}
 use Rattle.vecmap_base.proofs.IndexLemmas.{position_at}
 use Rattle.vecmap_base.proofs.RepeatsLemmas.Comparisons.{key_search_absent, key_search_found}
-use Rattle.vecmap_base.proofs.repeats.find_repeat.Goals as goal
+use Rattle.vecmap_base.proofs.repeats.find_counted.Goals as goal
 
 pub returns-then-same-clause-index : goal.returns-then-same-clause-index
 returns-then-same-clause-index g c =

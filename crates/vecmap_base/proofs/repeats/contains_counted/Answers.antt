@@ -2,7 +2,7 @@ use Rattle.std.specs.Set.{is_member}
 use Rattle.std.proofs.Common.{◌≡◌, ◌∙◌, ap, arith, false, sym}
 use Rattle.std.proofs.lemmas.List.{take_all}
 use Rattle.vecmap_base.proofs.RepeatsLemmas.Comparisons.{search_cost_absent, search_cost_at}
-use Rattle.vecmap_base.proofs.repeats.is_repeat.Goals as goal
+use Rattle.vecmap_base.proofs.repeats.contains_counted.Goals as goal
 
 pub returns-then-same-clause-counted : goal.returns-then-same-clause-counted
 returns-then-same-clause-counted g c =
