@@ -33,6 +33,8 @@ sets. Those of `lists` are in both `maps` and `sets`. Those of `vecmap_map::laws
 LIBRARIES = ["vecmap_base", "vecmap_map", "vecmap_set", "vecmap"]
 # The crates whose definitions users can meet, in the order of the page.
 DEFINED = [*LIBRARIES, "vecmap_laws", "attr_doc", "vecmap_trees", "vecmap_callers", "vecmap_run"]
+# The crates whose functions call laws.
+USERS = ["vecmap_examples", "vecmap_callers", "attr_doc", "vecmap_trees"]
 ITEM = re.compile(
     r"^(?P<indent> *)(?:pub (?P<fn>fn \w+.*)|(?P<impl>impl\b.*)|macro_rules! (?P<macro>\w+).*"
     r"|pub (?P<type>(?:struct|enum|trait) \w+).*|(?P<method>fn \w+.*))$"
@@ -205,9 +207,8 @@ def definitions(path):
         if found := re.match(r" *(?:abbrev pub|pub record|pub data) (\S+)", line):
             next_line = lines[at + 1].strip() if at + 1 < len(lines) else ""
             form = re.match(rf"{re.escape(found[1])}((?: [\w']+)*) =", next_line)
-            examples = [it.removeprefix("Example: ") for it in comment if it.startswith("Example: ")]
-            words = " ".join(it for it in comment if not it.startswith("Example: "))
-            yield found[1] + (form[1] if form else ""), words, " ".join(examples)
+            words, _, example = " ".join(comment).partition("Example: ")
+            yield found[1] + (form[1] if form else ""), words.strip(), example
         comment = []
 
 
@@ -249,6 +250,66 @@ def law_page():
             crate, _, *parts = path.removeprefix("crates/").removesuffix(".rt").split("/")
             made.append(f"## `{'::'.join([crate, *parts])}`\n\n{opening(path)}\n\n```text\n{statements}```\n")
     return "\n".join(made)
+
+
+# Goals
+
+
+def functions(path):
+    """Returns the functions of a source: for each its path within the crate, and its text."""
+    crate, _, *parts = path.removeprefix("crates/").removesuffix(".rt").split("/")
+    module = "/".join(part for part in parts if part != "lib")
+    owner, found, text = "", [], read(path).split("#[cfg(test)]\nmod tests {")[0]
+    for line in text.splitlines():
+        if head := re.match(r"impl\b.*?(\w+)(?:<[^{]*)? (?:where.*)?\{$", line):
+            owner = f"{head[1]}/"
+        if name := re.match(r"( *)(?:pub )?fn (\w+)", line):
+            found.append((f"{module}/{owner if name[1] else ''}{name[2]}", name[2], []))
+        if found:
+            found[-1][2].append(line)
+    for folder, name, lines in found:
+        yield crate, folder, name, "\n".join(lines)
+
+
+def callers_of(name):
+    """Returns the functions that call a law: for each its name with a link, and a star if its proof is by hand."""
+    for crate in USERS:
+        for path in sources(f"crates/{crate}/src"):
+            if path.endswith(".rt") and re.search(rf"\b{name}\b", read(path)):
+                for home, folder, function, text in functions(path):
+                    if re.search(rf"\b{name}(?:::<[^;]*?>)?\(", text.split("\n{\n")[-1]):
+                        folders = [folder, re.sub(r"(\w+)$", r"+\1", folder)]
+                        is_by_hand = any(os.path.exists(f"crates/{home}/proofs/{it}") for it in folders)
+                        star = " \\*" if is_by_hand else ""
+                        yield f"[`{function}`](../../{path}){star}"
+
+
+def goal_table():
+    """Makes the table of goals: the first sentence of each law's comment, its name with its clauses, and its callers."""
+    rows = []
+    for path in law_files():
+        if not path.startswith("crates/vecmap_laws/"):
+            continue
+        sets = " (set)" if "/sets" in path else " (map and set)" if path.endswith("lists.rt") else ""
+        for name, statement in laws(path).items():
+            comment = [re.sub(r"^/// ?", "", line) for line in statement.splitlines() if line.startswith("///")]
+            labels = re.findall(r"^    ensures (\w+) \{", statement, re.MULTILINE)
+            clauses = f" ({', '.join(f'`{it}`' for it in labels)})" if labels else ""
+            users = ", ".join(list(dict.fromkeys(callers_of(name)))[:3])
+            rows.append(f"| {said(comment).replace('|', '&#124;')} | `{name}`{clauses}{sets} | {users} |\n")
+    return "| Goal | Law | Called by |\n|---|---|---|\n" + "".join(rows)
+
+
+def lemma_table():
+    """Makes the table of the modules of lemmas that callers can import, by the comments at their heads."""
+    rows = []
+    for line in read("crates/vecmap_laws/proofs/Lib.antt").splitlines():
+        word, path, alias = re.fullmatch(r"(?:pub )?(use|mod) ([\w.]+)(?: as (\w+))?", line).groups()
+        if line.startswith("pub "):
+            home, parts = (path.split(".")[1], path.split(".")[3:]) if word == "use" else ("vecmap_laws", [path])
+            about = said([re.sub("^-- ?", "", it) for it in read(f"crates/{home}/proofs/{'/'.join(parts)}.antt").splitlines() if it.startswith("--")])
+            rows.append(f"| `{alias or parts[-1]}` | {about.replace('|', '&#124;')} |\n")
+    return "| Module | Its lemmas |\n|---|---|\n" + "".join(rows)
 
 
 # Words
