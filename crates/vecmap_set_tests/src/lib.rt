@@ -1,11 +1,9 @@
-//! Tests of sets, in three folders:
+//! Tests of sets, in two folders:
 //!
-//! - `tests` has the results of each call, and what it leaves.
-//! - `refusals` has what a call leaves if a request for memory is refused.
+//! - `tests` has those that rows of `vecmap_script` cannot show.
 //! - `comments` has the examples of the doc comments of `vecmap_set`.
 //!
-//! `checks` has the functions by which they assert, `made` has sets to start from, and `telling` prints a refusal and
-//! repeats the call.
+//! `checks` has the functions by which they assert, and `made` has sets to start from.
 #![tactic(auto)]
 
 #[cfg(test)]
@@ -14,9 +12,5 @@ mod checks;
 mod comments;
 #[cfg(test)]
 mod made;
-#[cfg(test)]
-mod refusals;
-#[cfg(test)]
-mod telling;
 #[cfg(test)]
 mod tests;

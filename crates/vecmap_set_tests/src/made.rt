@@ -1,6 +1,6 @@
 //! Sets to start from.
 use std::alloc::{AllocError, Global};
-use vecmap_fixtures::{Item, Log, Told, items, text_items, told_items};
+use vecmap_fixtures::{Item, items, text_items};
 use vecmap_set::VecSet;
 
 /// Creates a set of these elements, each a number and a mark, without spare capacity.
@@ -11,13 +11,4 @@ pub(crate) fn item_set(alloc: Global, list: &[(u32, char)]) -> Result<VecSet<Ite
 /// Creates a set of these texts, without spare capacity.
 pub(crate) fn text_set(alloc: Global, list: &[&str]) -> Result<VecSet<String>, AllocError> {
     Ok(VecSet::from(text_items(alloc, list)?))
-}
-
-/// Creates a set of these numbers, without spare capacity.
-pub(crate) fn told_set<'a>(
-    alloc: Global,
-    log: &'a Log,
-    numbers: &[u32],
-) -> Result<VecSet<Told<'a>>, AllocError> {
-    Ok(VecSet::from(told_items(alloc, log, numbers)?))
 }

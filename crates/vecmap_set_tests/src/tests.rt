@@ -1,27 +1,4 @@
-//! Tests of sets. Each file is named for a module of `vecmap_set`, and shows of its calls what neither a clause nor an
-//! example shows. These files have further tests by topic:
-//!
-//! - `by_reference`: loops over references to a set.
-//! - `clones`: elements whose clones are refused.
-//! - `drops`: each element that is passed is dropped once, or returned.
-//! - `no_size`: elements of no size.
-//! - `queries`: calls by each kind of query: an element, a text, a slice, and a query that is not an element.
-mod bulk;
-mod by_reference;
-mod clones;
+//! Tests of sets that rows of a script cannot show, as they need types of their own.
 mod cloning;
-mod conversion;
-mod drain;
-mod drops;
-mod equality;
-mod formatting;
-mod insertion;
-mod iteration;
-mod lazy;
 mod no_size;
-mod operators;
-mod order;
 mod queries;
-mod removal;
-mod room;
-mod search;

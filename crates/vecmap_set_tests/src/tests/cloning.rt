@@ -1,28 +1,12 @@
 //! Clones of sets, also by the trait `Clone`.
-use crate::checks::{assert_is, assert_refused, assert_told, granted};
-use crate::made::told_set;
+use crate::checks::{assert_refused, granted};
 use std::alloc::{AllocError, Global};
 use std::process::Abort;
-use vecmap_fixtures::Log;
 use vecmap_set::VecSet;
 
 // Clones by the trait, as generic code and derives do.
-pub(crate) fn copy_of<C: Clone>(original: &C) -> Result<C, AllocError> {
+fn copy_of<C: Clone>(original: &C) -> Result<C, AllocError> {
     original.clone()
-}
-
-#[test]
-fn each_element_is_compared_with_its_clone_alone(rt: HostRuntime) {
-    let log = Log::new();
-    let set = granted(&rt, told_set(rt.alloc(), &log, &[1, 2, 3, 4]));
-    let before = log.comparisons();
-    let copy = granted(&rt, copy_of(&set));
-    assert_is(&rt, log.comparisons(), before.wrapping_add(4));
-    assert_is(&rt, log.alive(), 8);
-    assert_told(&rt, copy.as_slice(), &[1, 2, 3, 4]);
-    let inherent = granted(&rt, set.clone());
-    assert_is(&rt, log.comparisons(), before.wrapping_add(4));
-    assert_told(&rt, inherent.as_slice(), &[1, 2, 3, 4]);
 }
 
 /// An element whose clone is greater by `step`, or is 0 if `step` is 9.
