@@ -1,7 +1,4 @@
-//! Tests of maps, in two folders:
-//!
-//! - `tests` has the results of each call, and what it leaves.
-//! - `comments` has the examples of the doc comments of `vecmap_map`.
+//! Tests of maps: the results of each call, and what it leaves.
 //!
 //! `vecmap_map_refusals` has what a call leaves if a request for memory is refused. `checks` has the functions by which
 //! they assert, and `made` has maps to start from.
@@ -9,8 +6,6 @@
 
 #[cfg(test)]
 mod checks;
-#[cfg(test)]
-mod comments;
 #[cfg(test)]
 mod made;
 #[cfg(test)]

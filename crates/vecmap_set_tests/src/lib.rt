@@ -1,8 +1,7 @@
-//! Tests of sets, in three folders:
+//! Tests of sets, in two folders:
 //!
 //! - `tests` has the results of each call, and what it leaves.
 //! - `refusals` has what a call leaves if a request for memory is refused.
-//! - `comments` has the examples of the doc comments of `vecmap_set`.
 //!
 //! `checks` has the functions by which they assert, `made` has sets to start from, and `telling` prints a refusal and
 //! repeats the call.
@@ -10,8 +9,6 @@
 
 #[cfg(test)]
 mod checks;
-#[cfg(test)]
-mod comments;
 #[cfg(test)]
 mod made;
 #[cfg(test)]

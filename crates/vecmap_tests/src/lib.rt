@@ -1,17 +1,14 @@
-//! Tests of what only `vecmap` has: its macros, runs of commands, and maps and sets in each other. They are in three
+//! Tests of what only `vecmap` has: its macros, runs of commands, and maps and sets in each other. They are in two
 //! folders:
 //!
 //! - `tests` has the results of each call, and what it leaves, and random commands.
 //! - `refusals` has what a call leaves if a request for memory is refused.
-//! - `comments` has the examples of the doc comments of `vecmap`.
 //!
 //! `checks` has the functions by which they assert, and `telling` prints a refusal and repeats the call.
 #![tactic(auto)]
 
 #[cfg(test)]
 mod checks;
-#[cfg(test)]
-mod comments;
 #[cfg(test)]
 mod refusals;
 #[cfg(test)]
