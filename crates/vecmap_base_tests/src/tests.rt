@@ -3,5 +3,4 @@
 mod distinct;
 mod iter_mut;
 mod lookup;
-mod refused;
 mod repeats;

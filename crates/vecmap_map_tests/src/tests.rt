@@ -5,8 +5,6 @@
 //! - `clones`: keys and values whose clones are refused.
 //! - `drops`: each key and value that is passed is dropped once, or returned.
 //! - `hints`: the capacity that a map reserves for the size hint of an iterator.
-//! - `no_size`: keys and values of no size.
-//! - `queries`: calls by each kind of query: a key, a text, a slice, and a query that is not a key.
 //! - `repeats`: calls by key on a map in which keys repeat.
 //! - `sizes`: sizes of pairs and maps for which a call has a path of its own.
 mod bulk;
@@ -24,9 +22,7 @@ mod iteration;
 mod lending;
 mod lookup;
 mod mutable_keys;
-mod no_size;
 mod order;
-mod queries;
 mod removal;
 mod repeats;
 mod room;

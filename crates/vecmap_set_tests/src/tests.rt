@@ -4,12 +4,9 @@
 //! - `by_reference`: loops over references to a set.
 //! - `clones`: elements whose clones are refused.
 //! - `drops`: each element that is passed is dropped once, or returned.
-//! - `no_size`: elements of no size.
-//! - `queries`: calls by each kind of query: an element, a text, a slice, and a query that is not an element.
 mod bulk;
 mod by_reference;
 mod clones;
-mod cloning;
 mod conversion;
 mod drain;
 mod drops;
@@ -18,10 +15,8 @@ mod formatting;
 mod insertion;
 mod iteration;
 mod lazy;
-mod no_size;
 mod operators;
 mod order;
-mod queries;
 mod removal;
 mod room;
 mod search;

@@ -119,27 +119,3 @@ fn append_inserts_all_pairs_and_empties_the_other(rt: HostRuntime) {
     assert_list(&rt, map.as_slice(), &left);
     assert_list(&rt, other.as_slice(), &[]);
 }
-
-#[test]
-fn from_slice_keeps_distinct_pairs_of_every_kind(rt: HostRuntime) {
-    let foo = granted(&rt, String::from_str(rt.alloc(), "foo"));
-    let bar = granted(&rt, String::from_str(rt.alloc(), "bar"));
-    let pairs = [(1i64, foo), (2, bar)];
-    let numbered = granted(&rt, VecMap::from_slice(rt.alloc(), &pairs));
-    assert_list(&rt, numbered.as_slice(), &pairs);
-    let foo = granted(&rt, String::from_str(rt.alloc(), "foo"));
-    let bar = granted(&rt, String::from_str(rt.alloc(), "bar"));
-    let pairs = [(foo, 1i64), (bar, 2)];
-    let named = granted(&rt, VecMap::from_slice(rt.alloc(), &pairs));
-    assert_list(&rt, named.as_slice(), &pairs);
-    let told = granted(
-        &rt,
-        VecMap::from_slice(rt.alloc(), &[(true, 1i64), (false, 2)]),
-    );
-    assert_list(&rt, told.as_slice(), &[(true, 1), (false, 2)]);
-    let flags = granted(
-        &rt,
-        VecMap::from_slice(rt.alloc(), &[(1i64, true), (2, false)]),
-    );
-    assert_list(&rt, flags.as_slice(), &[(1, true), (2, false)]);
-}

@@ -1,9 +1,8 @@
 //! Equality of maps.
-use crate::checks::{assert_differ, assert_equal, assert_is, assert_pairs, check, granted};
+use crate::checks::{assert_differ, assert_equal, assert_is, assert_pairs, granted};
 use crate::made::repeating_map;
 use std::alloc::{AllocError, Global};
-use std::process::Abort;
-use vecmap_fixtures::{Log, Told, told_pairs};
+use vecmap_fixtures::{Log, told_pairs};
 use vecmap_map::VecMap;
 
 // Creates the map of a vector of these pairs.
@@ -102,44 +101,4 @@ fn equality_compares_no_more_than_it_says(rt: HostRuntime) {
             (comparisons, false),
         );
     }
-}
-
-// Creates a map of one pair, whose value is a map of these numbers.
-fn nested<'a>(
-    alloc: Global,
-    log: &'a Log,
-    numbers: &[u32],
-) -> Result<VecMap<char, VecMap<Told<'a>, u32>>, AllocError> {
-    let inner = VecMap::from(told_pairs(alloc, log, numbers)?);
-    Ok(VecMap::from(vec![in alloc; ('a', inner)]?))
-}
-
-#[test]
-fn maps_in_maps_are_compared_once(rt: HostRuntime) {
-    let log = Log::new();
-    let one = granted(&rt, nested(rt.alloc(), &log, &[1, 2]));
-    let other = granted(&rt, nested(rt.alloc(), &log, &[1, 3]));
-    let made = log.comparisons();
-    check!(rt; one != other);
-    assert_is(&rt, log.comparisons().wrapping_sub(made), 2);
-}
-
-// Creates the map of a vector of these numbers.
-fn numbers(alloc: Global, pairs: &[(u32, f64)]) -> Result<VecMap<u32, f64>, AllocError> {
-    Ok(VecMap::from(pairs.to_vec(alloc)?))
-}
-
-// Whether two maps of these numbers are equal.
-fn are_equal_numbers(rt: &impl Abort, alloc: Global, a: &[(u32, f64)], b: &[(u32, f64)]) -> bool {
-    granted(rt, numbers(alloc, a)) == granted(rt, numbers(alloc, b))
-}
-
-#[test]
-fn a_value_that_differs_from_itself_is_in_no_equal_map(rt: HostRuntime) {
-    let alloc = rt.alloc();
-    check!(rt; are_equal_numbers(&rt, alloc, &[(1, 0.5), (2, 1.5)], &[(2, 1.5), (1, 0.5)]));
-    check!(rt; are_equal_numbers(&rt, alloc, &[(1, 0.0)], &[(1, -0.0)]));
-    check!(rt; !are_equal_numbers(&rt, alloc, &[(1, f64::NAN)], &[(1, f64::NAN)]));
-    check!(rt; !are_equal_numbers(&rt, alloc, &[(1, 0.5), (2, f64::NAN)], &[(2, f64::NAN), (1, 0.5)]));
-    check!(rt; !are_equal_numbers(&rt, alloc, &[(1, 0.5), (1, f64::NAN)], &[(1, 0.5), (1, 0.5)]));
 }

@@ -3,7 +3,6 @@ use crate::checks::{
     assert_gives, assert_is, assert_list, assert_pair, assert_pairs, check, granted,
 };
 use crate::made::item_map;
-use std::test::Fail;
 use vecmap_fixtures::make_item;
 use vecmap_map::VecMap;
 
@@ -74,18 +73,4 @@ fn insert_at_stores_the_new_key(rt: HostRuntime) {
     let mut map = granted(&rt, item_map(rt.alloc(), &[(1, 'x', 10)]));
     assert_gives(&rt, map.insert_at(0, make_item(1, 'y'), 20), Some((0, 10)));
     assert_pairs(&rt, &map, &[(1, 'y', 20)]);
-}
-
-// A value that does not print.
-#[derive(Drop)]
-struct Silent {
-    number: u32,
-}
-
-#[test]
-fn a_value_that_does_not_print_is_inserted_by_a_question_mark(rt: HostRuntime) -> Result<(), Fail> {
-    let mut map = VecMap::new(rt.alloc());
-    map.insert(1, Silent { number: 7 })?;
-    assert_is(&rt, map.get(&1).map(|value| value.number), Some(7));
-    Ok(())
 }

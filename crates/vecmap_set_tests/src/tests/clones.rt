@@ -1,10 +1,15 @@
 //! Clones that fail at an element of a chosen number: the sources are unchanged, and the clones so far are dropped.
-use super::cloning::copy_of;
 use crate::checks::{assert_is, assert_told, granted};
 use crate::made::told_set;
+use std::alloc::AllocError;
 use std::process::Abort;
 use vecmap_fixtures::{Log, Told};
 use vecmap_set::VecSet;
+
+// Clones by the trait, as generic code and derives do.
+pub(crate) fn copy_of<C: Clone>(original: &C) -> Result<C, AllocError> {
+    original.clone()
+}
 
 // Asserts whether a call succeeds while the clones of this number fail, and drops what it returned.
 fn assert_outcome<T: Drop, E: Drop>(

@@ -1,6 +1,6 @@
 //! The iterators of sets.
 use crate::checks::{assert_is, assert_text, check, granted};
-use crate::tests::cloning::copy_of;
+use crate::tests::clones::copy_of;
 use vecmap_fixtures::{Log, all_ends, pulls_as_list, told_items};
 use vecmap_set::VecSet;
 

@@ -3,7 +3,7 @@ ghost use Rattle.std.specs.Iterator.{IsFinite};
 
 use crate::checks::{assert_is, assert_item, assert_text, check, granted};
 use crate::made::{item_set, told_set};
-use crate::tests::cloning::copy_of;
+use crate::tests::clones::copy_of;
 use std::process::Abort;
 use vecmap_fixtures::{End, Item, Log, all_ends};
 use vecmap_set::VecSet;
