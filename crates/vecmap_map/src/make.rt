@@ -94,7 +94,7 @@ impl<K, V> VecMap<K, V> {
     ///
     /// ```
     /// let names: VecMap<String, u32> = VecMap::new(alloc);
-    /// String::from_str(*names.allocator(), "a")? // "a"
+    /// String::from_str(*names.allocator(), "a")?.as_str() // "a"
     /// ```
     pub fn allocator(&self) -> &Global {
         self.pairs.allocator()

@@ -101,7 +101,7 @@ impl<T: Eq> VecSet<T> {
     ///
     /// ```
     /// let names: VecSet<String> = VecSet::new(alloc);
-    /// String::from_str(*names.allocator(), "a")? // "a"
+    /// String::from_str(*names.allocator(), "a")?.as_str() // "a"
     /// ```
     pub fn allocator(&self) -> &Global {
         self.items.allocator()

@@ -1,20 +1,18 @@
-//! Tests of what only `vecmap` has: its macros, runs of commands, and maps and sets in each other. They are in three
-//! folders:
-//!
-//! - `tests` has the results of each call, and what it leaves, and random commands.
-//! - `refusals` has what a call leaves if a request for memory is refused.
-//! - `comments` has the examples of the doc comments of `vecmap`.
-//!
-//! `checks` has the functions by which they assert, and `telling` prints a refusal and repeats the call.
+//! Tests of what the rows of `vecmap_script` cannot show, since they have keys, values and elements of one type: other
+//! types, macros, and queries of each kind.
 #![tactic(auto)]
 
 #[cfg(test)]
 mod checks;
 #[cfg(test)]
-mod comments;
+mod clones;
 #[cfg(test)]
-mod refusals;
+mod equality;
 #[cfg(test)]
-mod telling;
+mod equivalent;
 #[cfg(test)]
-mod tests;
+mod macros;
+#[cfg(test)]
+mod no_size;
+#[cfg(test)]
+mod types;

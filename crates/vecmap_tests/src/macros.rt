@@ -1,0 +1,38 @@
+//! `vecmap!` and `vecset!`. Each stands in a function of its own, as it returns an error by `?`.
+use crate::checks::{assert_is, assert_list, granted};
+use std::alloc::{AllocError, Global};
+use vecmap::{VecMap, VecSet, vecmap, vecset};
+
+fn repeated_words(alloc: Global) -> Result<VecMap<&'static str, u32>, AllocError> {
+    Ok(vecmap!(alloc; "a" => 1, "b" => 2, "a" => 3,))
+}
+
+fn repeated_numbers(alloc: Global) -> Result<VecSet<u32>, AllocError> {
+    Ok(vecset!(alloc; 2, 1, 2,))
+}
+
+fn no_pairs(alloc: Global) -> Result<VecMap<u32, char>, AllocError> {
+    Ok(vecmap!(alloc;))
+}
+
+fn no_items(alloc: Global) -> Result<VecSet<char>, AllocError> {
+    Ok(vecset!(alloc;))
+}
+
+#[test]
+fn macros_insert_in_order(rt: HostRuntime) {
+    let map = granted(&rt, repeated_words(rt.alloc()));
+    assert_list(&rt, map.as_slice(), &[("a", 3), ("b", 2)]);
+    assert_is(&rt, 3 <= map.capacity(), true);
+    let set = granted(&rt, repeated_numbers(rt.alloc()));
+    assert_list(&rt, set.as_slice(), &[2, 1]);
+    assert_is(&rt, 3 <= set.capacity(), true);
+}
+
+#[test]
+fn macros_of_nothing_do_not_allocate(rt: HostRuntime) {
+    let map = granted(&rt, no_pairs(rt.alloc()));
+    assert_is(&rt, (map.len(), map.capacity()), (0, 0));
+    let set = granted(&rt, no_items(rt.alloc()));
+    assert_is(&rt, (set.len(), set.capacity()), (0, 0));
+}

@@ -1,3 +1,0 @@
-//! Macros, and the calls by which they insert.
-mod map;
-mod set;

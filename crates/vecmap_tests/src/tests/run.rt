@@ -1,3 +1,0 @@
-//! Tests of runs of commands.
-mod map_run;
-mod set_run;

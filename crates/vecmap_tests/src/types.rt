@@ -1,0 +1,58 @@
+//! Keys and values of other types: four kinds of pairs, and a value that does not print.
+use crate::checks::{assert_is, assert_list, granted};
+use std::alloc::Global;
+use std::fmt::Debug;
+use std::process::Abort;
+use std::test::Fail;
+use vecmap::{Refused, VecMap};
+
+// Asserts that a map of distinct pairs has them as they are.
+fn assert_kept<K: Eq + Clone + Debug + Drop, V: PartialEq + Clone + Debug + Drop>(
+    rt: &impl Abort,
+    alloc: Global,
+    pairs: &[(K, V)],
+) {
+    let map = granted(rt, VecMap::from_slice(alloc, pairs));
+    assert_list(rt, map.as_slice(), pairs);
+}
+
+#[test]
+fn from_slice_keeps_distinct_pairs_of_every_kind(rt: HostRuntime) {
+    let alloc = rt.alloc();
+    let foo = granted(&rt, String::from_str(alloc, "foo"));
+    let bar = granted(&rt, String::from_str(alloc, "bar"));
+    assert_kept(&rt, alloc, &[(1i64, foo), (2, bar)]);
+    let foo = granted(&rt, String::from_str(alloc, "foo"));
+    let bar = granted(&rt, String::from_str(alloc, "bar"));
+    assert_kept(&rt, alloc, &[(foo, 1i64), (bar, 2)]);
+    assert_kept(&rt, alloc, &[(true, 1i64), (false, 2)]);
+    assert_kept(&rt, alloc, &[(1i64, true), (2, false)]);
+}
+
+// A value that does not print.
+#[derive(Drop)]
+struct Silent {
+    number: u32,
+}
+
+#[test]
+fn a_value_that_does_not_print_is_inserted_by_a_question_mark(rt: HostRuntime) -> Result<(), Fail> {
+    let mut map = VecMap::new(rt.alloc());
+    map.insert(1, Silent { number: 7 })?;
+    assert_is(&rt, map.get(&1).map(|value| value.number), Some(7));
+    Ok(())
+}
+
+#[test]
+fn a_refusal_prints_the_same_whatever_was_refused(rt: HostRuntime) {
+    let refused = Refused {
+        given: Silent { number: 7 },
+    };
+    let printed = granted(&rt, format!(in rt.alloc(); "{refused}, {refused:?}"));
+    assert_is(
+        &rt,
+        printed.as_str(),
+        "memory allocation failed, Refused { .. }",
+    );
+    assert_is(&rt, refused.given.number, 7);
+}
