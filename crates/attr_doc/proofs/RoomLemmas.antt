@@ -10,9 +10,8 @@ use Rattle.std.proofs.lemmas.List.Elements.{All-cons, All-head, All-nil, All-tai
 use Rattle.vecmap.specs.Contents.{Contents, HasRoom, with_value_of}
 use Rattle.vecmap.specs.Pairs.{index_of, lookup, put}
 use Rattle.vecmap_laws.proofs.Lookups.{lookup_put, lookup_put_other, lookup_congr}
-use Rattle.attr_doc.specs.Documents.{HasRoomAt, IsRoomFor, Stored, sections_of}
+use Rattle.attr_doc.specs.Documents.{HasRoomAt, IsRoomFor, Stored, ignoring_case_equiv, sections_of}
 use Rattle.vecmap_laws.proofs.WriteLemmas.{with_value_of_is_put}
-use Rattle.attr_doc.proofs.NameLaws.{ignoring_case_equiv}
 
 pub same_length : (l k : List (List ℕ × Stored)) → sections_of l ≡ sections_of k → length l ≡ length k
 same_length l k e = sym (length-map l (λ p. (p.0, p.1.entries))) ∙ ap length e ∙ length-map k (λ p. (p.0, p.1.entries))
