@@ -1,6 +1,6 @@
 -- What stands in a tree after a merge. The idea: as long as no names repeat, a merge of one member after the other
 -- leaves at each name what `merged_below` says, since each name comes once.
-use Rattle.std.specs.Prelude.{◌≡◌, ℕ, Bool, Err, List, [], ◌∷◌, ◌⊎◌, None, Ok, OnErr, OnOk, Option, Result, Some, String, bytes_eq, cond, false, if◌then◌else◌, refl, string_bytes, string_eq, true}
+use Rattle.std.specs.Prelude.{◌≡◌, ℕ, Bool, List, [], ◌∷◌, ◌⊎◌, None, Option, Some, String, bytes_eq, cond, false, if◌then◌else◌, refl, string_bytes, string_eq, true}
 use Rattle.std.specs.Option.{option_and_then}
 use Rattle.std.specs.Map.{keys_of}
 use Rattle.std.specs.declared.alloc.Global.{Global}
@@ -91,11 +91,6 @@ absent_below k v rest name e =
 pub distinct_members : (j : Json) (l : Pairs) → members j ≡ l → HasDistinctNames j → AreDistinctMembers l
 distinct_members j l e d = subst AreDistinctMembers e (d [] j refl, λ name w found path x at. d (name ∷ path) x (ap (option_and_then (at_path path)) found ∙ at))
 
--- What holds where a call succeeds, and what follows from it.
-pub weaker : {A E P Q : Type 0} (outcome : Result A E) → (P → Q) → OnOk outcome P → OnOk outcome Q
-weaker (Ok a) f h = f h
-weaker (Err e) f h = tt
-
 -- Two objects that were merged member by member.
 pub merged_at : (path : List (List ℕ)) (t old other : Json) (m n : Members) (mine : Pairs)
     → ((name : List ℕ) (names : List (List ℕ)) → option_and_then (leaf_at names) (lookup_by (has_text name) m.entries) ≡ merged_below (merged_leaf names) names (lookup_by (has_text name) n.entries) (lookup_by (has_text name) mine))
@@ -105,16 +100,6 @@ merged_at (name ∷ names) t old other m n mine below g e f =
     ap (λ z. option_and_then (leaf_at names) (lookup_by (has_text name) (members_of_layer z))) e ∙ below name names
     ∙ ap (λ l. merged_below (merged_leaf names) names (lookup_by (has_text name) n.entries) (lookup_by (has_text name) l)) (sym g)
     ∙ sym (ap (λ z. cond (is_object_layer z) (merged_below (merged_leaf names) names (lookup_by (has_text name) (members_of_layer z)) (member name old)) None) f)
-
--- What holds where a call fails, and what follows from it.
-pub weaker_err : {A E P Q : Type 0} (outcome : Result A E) → (P → Q) → OnErr outcome P → OnErr outcome Q
-weaker_err (Ok a) f h = tt
-weaker_err (Err e) f h = f h
-
--- What holds at all holds where the call fails.
-pub on_err : {A E P : Type 0} (outcome : Result A E) → P → OnErr outcome P
-on_err (Ok a) p = tt
-on_err (Err e) p = p
 
 -- Two objects whose merge failed at some member.
 pub failed_at : (path : List (List ℕ)) (t old other : Json) (m n : Members) (mine : Pairs)

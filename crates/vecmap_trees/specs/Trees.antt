@@ -1,13 +1,11 @@
 -- What contracts say of a tree of values. A name is the list of its bytes, and a path is a list of names.
-use Rattle.std.specs.Prelude.{◌≡◌, ℕ, ◌⊎◌, Bool, true, false, cond, bytes_eq, List, [], ◌∷◌, None, Option, Some, String, map, string_bytes, string_eq, sum}
-use Rattle.std.specs.Map.{values_of}
+use Rattle.std.specs.Prelude.{◌≡◌, ℕ, ◌⊎◌, Bool, true, false, cond, bytes_eq, List, [], ◌∷◌, None, Option, Some, String, string_bytes, string_eq}
 use Rattle.std.specs.Option.{option_and_then, option_map_or}
 use Rattle.std.specs.declared.alloc.Global.{Global}
-use Rattle.vecmap.specs.Contents.{Contents, with_entries, with_value_by}
-use Rattle.vecmap.specs.Pairs.{HasDistinctKeys, has_text, lookup_by, without_by}
+use Rattle.vecmap.specs.Contents.{Contents, with_value_by}
+use Rattle.vecmap.specs.Pairs.{HasDistinctKeys, has_text, lookup_by}
 use Rattle.vecmap_trees.specs.declared.Json.{Json, out-Json, roll-Json}
-use Rattle.vecmap_trees.specs.declared.Json.TheOpen.{Json-F, Array, Object, Text}
-use Rattle.vecmap_trees.specs.declared.Json.TheFolds.{fold-Json}
+use Rattle.vecmap_trees.specs.declared.Json.TheOpen.{Json-F, Object, Text}
 
 -- What a contract sees of the members of an object.
 abbrev pub Members : Type 0
@@ -63,10 +61,6 @@ abbrev pub changed_at : List (List ℕ) → (Json → Json) → Json → Json
 changed_at [] f j = f j
 changed_at (name ∷ names) f j = with_members (with_member name (changed_at names f)) j
 
--- The object without the first member with this name.
-abbrev pub without_member : List ℕ → Json → Json
-without_member name j = with_members (λ m. with_entries m (without_by (has_text name) m.entries)) j
-
 -- Neither path leads through the other: they part at some name.
 abbrev pub ArePartedPaths : List (List ℕ) → List (List ℕ) → Type 0
 ArePartedPaths [] path = ⊥
@@ -114,17 +108,3 @@ HasDistinctNames j = (path : List (List ℕ)) (w : Json) → at_path path j ≡ 
 -- The same of members and of all that they hold.
 abbrev pub AreDistinctMembers : List (String Global × Json) → Type 0
 AreDistinctMembers l = HasDistinctKeys string_eq l × ((name : List ℕ) (w : Json) → lookup_by (has_text name) l ≡ Some w → HasDistinctNames w)
-
--- The leaves of one layer, with those of each value in it in its place.
-abbrev pub leaves_step : Json-F ℕ → ℕ
-leaves_step (Array items) = sum items.items
-leaves_step (Object m) = sum (values_of m.entries)
-leaves_step _ = 1
-
--- How many values of the tree are neither an array nor an object.
-abbrev pub leaves : Json → ℕ
-leaves = fold-Json ℕ leaves_step
-
--- The leaves of all members.
-abbrev pub leaves_of_members : List (String Global × Json) → ℕ
-leaves_of_members ps = sum (values_of (map (λ p. (p.0, leaves p.1)) ps))

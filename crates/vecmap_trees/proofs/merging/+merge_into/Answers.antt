@@ -2,18 +2,20 @@
 -- have no name of the other object are never written.
 use Rattle.std.proofs.Common.{◌≡◌, ◌≤◌, ◌⊎◌, None, Some, [], ap, arith, inr, refl, rules, string_bytes, subst, sym, ◌∙◌}
 use Rattle.std.specs.Option.{option_and_then}
+use Rattle.std.proofs.lemmas.Result.{on_err_weaker, on_ok_weaker}
 use Rattle.vecmap.specs.Pairs.{has_text, lookup_by}
+use Rattle.vecmap_laws.proofs.Rules.{on_err}
 use Rattle.vecmap_trees.specs.Trees.{AreDistinctMembers, IsObject, leaf_at, members, merged_below, merged_leaf}
 use Rattle.vecmap_trees.specs.declared.Json.TheViews.{size-Json, the_lemmas}
 use denote.Param.Weighed.{most}
-use Rattle.vecmap_trees.proofs.MergeLemmas.{absent_below, distinct_first, distinct_members, distinct_rest, failed_at, kept_at, member_failed, member_merged, merged_at, on_err, one_failed, one_merged, other_member_kept, replaced_at, still_untouched, weaker, weaker_err}
+use Rattle.vecmap_trees.proofs.MergeLemmas.{absent_below, distinct_first, distinct_members, distinct_rest, failed_at, kept_at, member_failed, member_merged, merged_at, one_failed, one_merged, other_member_kept, replaced_at, still_untouched}
 use Rattle.vecmap_trees.proofs.merging.+merge_into.Goals as goal
 
 pub merge_into-returns-in-Object-tree-clause-merged :
     goal.merge_into-returns-in-Object-tree-clause-merged
 merge_into-returns-in-Object-tree-clause-merged t c =
     let theirs : members c.args.other ≡ c.in-Object.theirs.entries = search (rules, the_lemmas) in
-    weaker c.merge_members.result
+    on_ok_weaker c.merge_members.result
     (λ below d path. merged_at path _ _ _ c.merge_members.new.mine c.in-Object.theirs _ (below (distinct_members c.args.other c.in-Object.theirs.entries theirs d)) (search (rules, the_lemmas)) (search (rules, the_lemmas)) (search (rules, the_lemmas)))
     c.merge_members.ensures.merged
 
@@ -25,7 +27,7 @@ merge_into-returns-in-Object-tree-clause-other_names t c =
 pub merge_into-returns-in-Object-tree-clause-err : goal.merge_into-returns-in-Object-tree-clause-err
 merge_into-returns-in-Object-tree-clause-err t c =
     let theirs : members c.args.other ≡ c.in-Object.theirs.entries = search (rules, the_lemmas) in
-    weaker_err c.merge_members.result
+    on_err_weaker c.merge_members.result
     (λ below d path. failed_at path _ _ _ c.merge_members.new.mine c.in-Object.theirs _ (below (distinct_members c.args.other c.in-Object.theirs.entries theirs d)) (search (rules, the_lemmas)) (search (rules, the_lemmas)) (search (rules, the_lemmas)))
     c.merge_members.ensures.err
 
@@ -49,11 +51,11 @@ merge_into-returns-in_default t c =
 
 pub merge_member-returns-in-Some-clause-merged : goal.merge_member-returns-in-Some-clause-merged
 merge_member-returns-in-Some-clause-merged t c =
-    weaker c.merge_into.result (λ h d names. member_merged c.args.mine.now c.as_str.result.now _ c.as_str.ensures.value c.in-Some.old.now c.merge_into.new.tree c.args.value c.in-Some.ensures.value names (h d names)) c.merge_into.ensures.merged
+    on_ok_weaker c.merge_into.result (λ h d names. member_merged c.args.mine.now c.as_str.result.now _ c.as_str.ensures.value c.in-Some.old.now c.merge_into.new.tree c.args.value c.in-Some.ensures.value names (h d names)) c.merge_into.ensures.merged
 
 pub merge_member-returns-in-Some-clause-err : goal.merge_member-returns-in-Some-clause-err
 merge_member-returns-in-Some-clause-err t c =
-    weaker_err c.merge_into.result (λ h d names. member_failed c.args.mine.now c.as_str.result.now _ c.as_str.ensures.value c.in-Some.old.now c.merge_into.new.tree c.args.value c.in-Some.ensures.value names (h d names)) c.merge_into.ensures.err
+    on_err_weaker c.merge_into.result (λ h d names. member_failed c.args.mine.now c.as_str.result.now _ c.as_str.ensures.value c.in-Some.old.now c.merge_into.new.tree c.args.value c.in-Some.ensures.value names (h d names)) c.merge_into.ensures.err
 
 pub merge_member-returns-in-Some-clause-other_names :
     goal.merge_member-returns-in-Some-clause-other_names
