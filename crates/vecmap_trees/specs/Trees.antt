@@ -44,6 +44,10 @@ abbrev pub at_path : List (List ℕ) → Json → Option Json
 at_path [] j = Some j
 at_path (name ∷ names) j = option_and_then (at_path names) (member name j)
 
+-- The value at the path of a name and further names, in the members of an object.
+abbrev pub at_path_below : List ℕ → List (List ℕ) → List (String Global × Json) → Option Json
+at_path_below name names l = option_and_then (at_path names) (lookup_by (has_text name) l)
+
 abbrev pub layer_with_members : (Members → Members) → Json → Json-F Json → Json
 layer_with_members f j (Object m) = roll-Json (Object (f m))
 layer_with_members f j _ = j
@@ -80,6 +84,10 @@ abbrev pub leaf_at : List (List ℕ) → Json → Option Json
 leaf_at [] j = leaf_of j
 leaf_at (name ∷ names) j = option_and_then (leaf_at names) (member name j)
 
+-- The same at the path of a name and further names, in the members of an object.
+abbrev pub leaf_below : List ℕ → List (List ℕ) → List (String Global × Json) → Option Json
+leaf_below name names l = option_and_then (leaf_at names) (lookup_by (has_text name) l)
+
 abbrev pub is_object_layer : Json-F Json → Bool
 is_object_layer (Object m) = true
 is_object_layer _ = false
@@ -96,6 +104,10 @@ merged_below merged names (Some w) (Some v) = merged v w
 abbrev pub merged_leaf : List (List ℕ) → Json → Json → Option Json
 merged_leaf [] old other = leaf_of other
 merged_leaf (name ∷ names) old other = cond (is_object_layer (out-Json other)) (merged_below (merged_leaf names) names (member name other) (member name old)) None
+
+-- What stands at the path of a name and further names in a merge of the members `theirs` into those of `mine`.
+abbrev pub merged_member : List ℕ → List (List ℕ) → List (String Global × Json) → List (String Global × Json) → Option Json
+merged_member name names theirs mine = merged_below (merged_leaf names) names (lookup_by (has_text name) theirs) (lookup_by (has_text name) mine)
 
 -- What stands at a path is what stood there before, or what the whole merge puts there.
 abbrev pub IsOldOrMerged : Option Json → Option Json → Option Json → Type 0

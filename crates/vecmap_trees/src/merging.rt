@@ -2,7 +2,7 @@
 ghost use Rattle.std.specs.Prelude.{◌≡◌, ℕ, List, None, OnErr, OnOk, Some, bytes_eq, false, string_bytes};
 ghost use Rattle.std.specs.Option.{option_and_then};
 ghost use Rattle.vecmap.specs.Pairs.{has_text, lookup_by};
-ghost use Rattle.vecmap_trees.specs.Trees.{AreDistinctMembers, HasDistinctNames, IsObject, IsOldOrMerged, leaf_at, member, merged_below, merged_leaf};
+ghost use Rattle.vecmap_trees.specs.Trees.{AreDistinctMembers, HasDistinctNames, IsObject, IsOldOrMerged, leaf_at, leaf_below, member, merged_below, merged_leaf, merged_member};
 
 use crate::Json;
 use std::alloc::AllocError;
@@ -84,19 +84,17 @@ fn merge_members(
 ) -> Result<(), AllocError>
     ensures merged { OnOk result (AreDistinctMembers theirs.entries → (name : List ℕ)
         (names : List (List ℕ))
-        → option_and_then (leaf_at names) (lookup_by (has_text name) mine.new.entries)
-        ≡ merged_below (merged_leaf names) names (lookup_by (has_text name) theirs.entries)
-        (lookup_by (has_text name) mine.old.entries)) }
+        → leaf_below name names mine.new.entries
+        ≡ merged_member name names theirs.entries mine.old.entries) }
     ensures other_names { (name : List ℕ) → lookup_by (has_text name) theirs.entries ≡ None
         → lookup_by (has_text name) mine.new.entries
         ≡ lookup_by (has_text name) mine.old.entries }
     ensures err { OnErr result (AreDistinctMembers theirs.entries → (name : List ℕ)
         (names : List (List ℕ))
         → IsOldOrMerged
-        (option_and_then (leaf_at names) (lookup_by (has_text name) mine.new.entries))
-        (option_and_then (leaf_at names) (lookup_by (has_text name) mine.old.entries))
-        (merged_below (merged_leaf names) names (lookup_by (has_text name) theirs.entries)
-        (lookup_by (has_text name) mine.old.entries))) }
+        (leaf_below name names mine.new.entries)
+        (leaf_below name names mine.old.entries)
+        (merged_member name names theirs.entries mine.old.entries)) }
 {
     for (name, value) in theirs {
         merge_member(value, name, mine)?;
@@ -112,18 +110,15 @@ fn merge_member(
     mine: &mut VecMap<String, Json>,
 ) -> Result<(), AllocError>
     ensures merged { OnOk result (HasDistinctNames value → (names : List (List ℕ))
-        → option_and_then (leaf_at names)
-        (lookup_by (has_text (string_bytes name)) mine.new.entries)
+        → leaf_below (string_bytes name) names mine.new.entries
         ≡ merged_below (merged_leaf names) names (Some value)
         (lookup_by (has_text (string_bytes name)) mine.old.entries)) }
     ensures other_names { (other : List ℕ) → bytes_eq (string_bytes name) other ≡ false
         → lookup_by (has_text other) mine.new.entries
         ≡ lookup_by (has_text other) mine.old.entries }
     ensures err { OnErr result (HasDistinctNames value → (names : List (List ℕ))
-        → IsOldOrMerged (option_and_then (leaf_at names)
-        (lookup_by (has_text (string_bytes name)) mine.new.entries))
-        (option_and_then (leaf_at names)
-        (lookup_by (has_text (string_bytes name)) mine.old.entries))
+        → IsOldOrMerged (leaf_below (string_bytes name) names mine.new.entries)
+        (leaf_below (string_bytes name) names mine.old.entries)
         (merged_below (merged_leaf names) names (Some value)
         (lookup_by (has_text (string_bytes name)) mine.old.entries))) }
 {

@@ -1,9 +1,9 @@
-//! Trees, as they print and as `==` compares them.
+//! Trees that are made and merged, as they print and as `==` compares them.
 use crate::{Json, equal};
 use std::alloc::{AllocError, Global};
 use std::test::Fail;
 
-/// Creates `{"b":{"y":1,"x":2},"a":3}`, with the three numbers set in this order.
+/// Creates a tree by setting these numbers at their paths, in order.
 fn tree(alloc: Global, order: &[(&[&str], i64)]) -> Result<Json, AllocError> {
     let mut tree = Json::object(alloc);
     for (path, number) in order {
@@ -23,6 +23,7 @@ fn array(alloc: Global, text: &str) -> Result<Json, AllocError> {
     Ok(Json::Array(items))
 }
 
+// body: `Json::text`
 #[test]
 fn trees_are_printed_in_order_with_the_escapes_of_json(rt: HostRuntime) -> Result<(), Fail> {
     let alloc = rt.alloc();
@@ -37,6 +38,18 @@ fn trees_are_printed_in_order_with_the_escapes_of_json(rt: HostRuntime) -> Resul
     ] {
         assert_eq!(rt; format!(in alloc; "{value}")?.as_str(), expected);
     }
+    Ok(())
+}
+
+// body: `Json::set_at`
+// body: `Json::merge_deep`
+#[test]
+fn missing_objects_are_made_and_trees_merged(rt: HostRuntime) -> Result<(), Fail> {
+    let alloc = rt.alloc();
+    let mut first = tree(alloc, TREE)?;
+    first.merge_deep(tree(alloc, &[(&["a"], 4), (&["b", "x"], 5), (&["c", "d"], 6)])?)?;
+    let expected = r#"{"b":{"y":1,"x":5},"a":4,"c":{"d":6}}"#;
+    assert_eq!(rt; format!(in alloc; "{first}")?.as_str(), expected);
     Ok(())
 }
 

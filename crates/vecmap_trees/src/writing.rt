@@ -2,7 +2,7 @@
 ghost use Rattle.std.specs.Prelude.{◌≡◌, ◌↔◌, map, List, ℕ, IsOk, IsSome, IsTrue, OnOk, OnErr, IfErr, Some};
 ghost use Rattle.std.specs.Option.{option_and_then};
 ghost use Rattle.vecmap.specs.Pairs.{has_text, lookup_by};
-ghost use Rattle.vecmap_trees.specs.Trees.{ArePartedPaths, at_path, changed_at, with_member};
+ghost use Rattle.vecmap_trees.specs.Trees.{ArePartedPaths, at_path, at_path_below, changed_at, with_member};
 
 use crate::Json;
 use crate::growing::make_path;
@@ -91,8 +91,7 @@ fn write_below(members: &mut VecMap<String, Json>, name: &str, path: &[&str], va
     ensures tree { members.new ≡ with_member name.now
         (changed_at (map (λ name. name.now) path.now) (λ _. value)) members.old }
     ensures present { IsTrue result
-        ↔ IsSome (option_and_then (at_path (map (λ name. name.now) path.now))
-        (lookup_by (has_text name.now) members.old.entries)) }
+        ↔ IsSome (at_path_below name.now (map (λ name. name.now) path.now) members.old.entries) }
 {
     match members.get_mut(name) {
         Some(inner) => inner.write_at(path, value),

@@ -22,13 +22,6 @@ macro_rules! retry {
     };
 }
 
-/// Returns the whole document as text, by one request.
-fn printed(alloc: Global, page: &Document) -> Result<String, AllocError> {
-    let mut text = String::with_capacity(alloc, 128)?;
-    write!(text, "{page:?}")?;
-    Ok(text)
-}
-
 /// Asserts that a document prints as this text.
 fn assert_printed(
     rt: &(impl Abort + Print),
@@ -36,7 +29,7 @@ fn assert_printed(
     page: &Document,
     expected: &str,
 ) -> Result<(), Fail> {
-    let text = retry!(rt; printed(alloc, page), _refused => {});
+    let text = retry!(rt; format!(in alloc; "{page:?}"), _refused => {});
     assert_eq!(*rt; text.as_str(), expected);
     Ok(())
 }
@@ -69,6 +62,7 @@ fn set_given(
 }
 
 /// A document has capacity for four sections before its map grows.
+// body: `Document::set` of a new section
 #[test]
 fn set_of_a_new_section_keeps_its_texts_or_returns_them(rt: HostRuntime) -> Result<(), Fail> {
     let rows = [("", "", ""), ("q", "", ""), ("r", "", ""), ("s", "", "")];
@@ -78,6 +72,7 @@ fn set_of_a_new_section_keeps_its_texts_or_returns_them(rt: HostRuntime) -> Resu
 }
 
 /// A section has capacity for four names before its map grows.
+// body: `Document::set` of a new name
 #[test]
 fn set_of_a_new_name_keeps_its_texts_or_returns_them(rt: HostRuntime) -> Result<(), Fail> {
     let rows = [
@@ -102,6 +97,7 @@ const INTO: &[(&str, &str, &str)] = &[
 
 const FROM: &[(&str, &str, &str)] = &[("t", "", ""), ("", "A", "2"), ("", "d", "")];
 
+// body: `Document::merge`
 #[test]
 fn merge_moves_all_or_nothing(rt: HostRuntime) -> Result<(), Fail> {
     let (rt, alloc) = (&rt, rt.alloc());
