@@ -19,7 +19,8 @@ sections_put make l s o m e f =
     ∙ ap (put str_eq_ignore_ascii_case (sections_of l) s) (f ∙ ap (λ p. make (option_map (λ x. x.entries) p)) e ∙ ap make (sym (lookup_map_values str_eq_ignore_ascii_case (λ x. x.entries) l s)))
 
 -- A new section is inserted with its first text.
-pub set_new : (l new : List (List ℕ × Stored)) (s n : List ℕ) (t : String Global) (m : Stored) → None ≡ lookup str_eq_ignore_ascii_case l s → m.entries ≡ put str_eq_ignore_ascii_case [] n t → new ≡ put str_eq_ignore_ascii_case l s m → sections_of new ≡ with_text (sections_of l) s n t
+pub set_new : (l new : List (List ℕ × Stored)) (s n : List ℕ) (t : String Global) (m : Stored) → None ≡ lookup str_eq_ignore_ascii_case l s → m.entries ≡ put str_eq_ignore_ascii_case [] n t
+    → new ≡ put str_eq_ignore_ascii_case l s m → sections_of new ≡ with_text (sections_of l) s n t
 set_new l new s n t m e f g = ap sections_of g ∙ sections_put (λ o. put str_eq_ignore_ascii_case (unwrap_or o []) n t) l s None m e f
 
 -- A new section is inserted.

@@ -9,8 +9,7 @@ use Rattle.std.proofs.lemmas.List.Elements.{All-head, All-nil, All-tail}
 use Rattle.std.proofs.lemmas.Map.Made.{keys_of-map_values}
 use Rattle.vecmap.specs.Pairs.{HasDistinctKeys, lookup, put, puts}
 use Rattle.vecmap_laws.proofs.DistinctKeys.{distinct_put, distinct_puts}
-use Rattle.attr_doc.specs.Documents.{IsDocument, IsSection, Section, Sections, Stored, merge_of, sections_of, with_section, with_text}
-use Rattle.attr_doc.proofs.NameLaws.{ignoring_case_equiv}
+use Rattle.attr_doc.specs.Documents.{IsDocument, IsSection, Section, Sections, Stored, ignoring_case_equiv, merge_of, sections_of, with_section, with_text}
 use Rattle.vecmap_laws.proofs.AfterPuts.{put_some, puts_some}
 use Rattle.vecmap_laws.proofs.EachValue.{holds_after_put, holds_of_found}
 

@@ -10,9 +10,8 @@ use Rattle.vecmap.specs.Equality.{has_same_counts}
 use Rattle.vecmap.specs.Pairs.{lookup}
 use Rattle.vecmap_laws.proofs.MapEquality.{map_equality_laws, equal_where_lookups_agree}
 use Rattle.vecmap_laws.proofs.Lookups.{look}
-use Rattle.attr_doc.specs.Documents.{IsDocument, IsSection, Section, Stored, sections_of, text_of}
+use Rattle.attr_doc.specs.Documents.{IsDocument, IsSection, Section, Stored, ignoring_case_equiv, sections_of, text_of}
 use Rattle.attr_doc.proofs.DocumentLemmas.{names_apart}
-use Rattle.attr_doc.proofs.NameLaws.{ignoring_case_equiv}
 use Rattle.attr_doc.proofs.TextLemmas.{text_at, text_in, text_of_sections}
 use Rattle.vecmap_laws.proofs.EachValue.{holds_of_found, lookup_map_values}
 use Rattle.vecmap_laws.proofs.Queries.{string_equality}

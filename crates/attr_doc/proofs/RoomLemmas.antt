@@ -10,9 +10,8 @@ use Rattle.std.proofs.lemmas.List.Elements.{All-cons, All-head, All-nil, All-tai
 use Rattle.vecmap.specs.Contents.{Contents, HasRoom, with_value_of}
 use Rattle.vecmap.specs.Pairs.{index_of, lookup, put}
 use Rattle.vecmap_laws.proofs.Lookups.{lookup_put, lookup_put_other, lookup_congr}
-use Rattle.attr_doc.specs.Documents.{HasRoomAt, IsRoomFor, Stored, sections_of}
+use Rattle.attr_doc.specs.Documents.{HasRoomAt, IsRoomFor, Stored, ignoring_case_equiv, sections_of}
 use Rattle.vecmap_laws.proofs.WriteLemmas.{with_value_of_is_put}
-use Rattle.attr_doc.proofs.NameLaws.{ignoring_case_equiv}
 
 pub same_length : (l k : List (List ℕ × Stored)) → sections_of l ≡ sections_of k → length l ≡ length k
 same_length l k e = sym (length-map l (λ p. (p.0, p.1.entries))) ∙ ap length e ∙ length-map k (λ p. (p.0, p.1.entries))
@@ -29,7 +28,10 @@ module _ (c : Contents (List ℕ) Stored) (s : List ℕ) (new : Stored) (there :
   found_new : (q : List ℕ) → str_eq_ignore_ascii_case s q ≡ true → (o : Stored) → lookup str_eq_ignore_ascii_case (with_value_of str_eq_ignore_ascii_case c s new).entries q ≡ Some o → new ≡ o
   found_new q y o w =
       let l = (with_value_of str_eq_ignore_ascii_case c s new).entries in
-      let e : Some new ≡ Some o = sym (lookup_put str_eq_ignore_ascii_case ignoring_case_equiv c.entries s new) ∙ ap (λ k. lookup str_eq_ignore_ascii_case k s) (sym (with_value_of_is_put str_eq_ignore_ascii_case c s new there)) ∙ lookup_congr str_eq_ignore_ascii_case ignoring_case_equiv l s q y ∙ w in
+      let e : Some new ≡ Some o =
+      sym (lookup_put str_eq_ignore_ascii_case ignoring_case_equiv c.entries s new)
+      ∙ ap (λ k. lookup str_eq_ignore_ascii_case k s) (sym (with_value_of_is_put str_eq_ignore_ascii_case c s new there))
+      ∙ lookup_congr str_eq_ignore_ascii_case ignoring_case_equiv l s q y ∙ w in
       ap (λ p. unwrap_or p new) e
 
   -- The section has spare capacity for `n` more texts if its map has.
@@ -49,6 +51,8 @@ module _ (c : Contents (List ℕ) Stored) (s : List ℕ) (new : Stored) (there :
       ]
 
 -- If a section of another name is inserted, the others keep their spare capacity.
-pub room_after : (l k : List (List ℕ × Stored)) (s : List ℕ) (ps : List (List ℕ × Stored)) → AllByRecursion (λ y. str_eq_ignore_ascii_case s y ≡ false) (keys_of ps) → ((q : List ℕ) → str_eq_ignore_ascii_case s q ≡ false → lookup str_eq_ignore_ascii_case k q ≡ lookup str_eq_ignore_ascii_case l q) → All (IsRoomFor l) ps → All (IsRoomFor k) ps
+pub room_after : (l k : List (List ℕ × Stored)) (s : List ℕ) (ps : List (List ℕ × Stored)) → AllByRecursion (λ y. str_eq_ignore_ascii_case s y ≡ false) (keys_of ps)
+    → ((q : List ℕ) → str_eq_ignore_ascii_case s q ≡ false → lookup str_eq_ignore_ascii_case k q ≡ lookup str_eq_ignore_ascii_case l q)
+    → All (IsRoomFor l) ps → All (IsRoomFor k) ps
 room_after l k s [] h o a = All-nil (IsRoomFor k)
 room_after l k s (q ∷ qs) h o a = All-cons (IsRoomFor k) q qs (λ m e. All-head (IsRoomFor l) q qs a m (sym (o q.0 h.0) ∙ e)) (room_after l k s qs h.1 o (All-tail (IsRoomFor l) q qs a))

@@ -1,10 +1,16 @@
 -- The definitions of documents, which are sections of texts under names.
 use Rattle.std.specs.Prelude.{ℕ, ◌≡◌, ◌<◌, Some, List, [], Option, String, All, fold, length, option_and_then, option_map, string_bytes, unwrap_or}
+use Rattle.std.specs.Cmp.{IsEquivalence, on_equiv}
+use Rattle.std.specs.Cmp.Lexicographic.{nat_list_eq_equiv}
 use Rattle.std.specs.Option.{option_map_or}
-use Rattle.std.specs.Str.{str_eq_ignore_ascii_case}
+use Rattle.std.specs.Str.{str_eq_ignore_ascii_case, str_to_ascii_lowercase}
 use Rattle.std.specs.declared.alloc.Global.{Global}
 use Rattle.vecmap.specs.Contents.{Contents, HasRoom}
 use Rattle.vecmap.specs.Pairs.{HasDistinctKeys, lookup, map_values, put, puts}
+
+-- The `==` of names is an equivalence.
+pub ignoring_case_equiv : IsEquivalence str_eq_ignore_ascii_case
+ignoring_case_equiv = on_equiv str_to_ascii_lowercase nat_list_eq_equiv
 
 -- A section: its names with their texts, in their order.
 abbrev pub Section : Type 0

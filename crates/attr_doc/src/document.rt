@@ -5,6 +5,9 @@ ghost use Rattle.std.specs.Map.Iter.{deref};
 ghost use Rattle.std.specs.Prelude.{◌≡◌, ◌<◌, ◌↔◌, IfErr, IfOk, IsOk, IsSome, IsTrue, OnErr, OnOk, [], length, option_copied, option_map, string_bytes};
 ghost use Rattle.vecmap.specs.Walks.{ShowsAll};
 
+#[cfg(test)]
+mod tests;
+
 use crate::Name;
 use crate::merge::{make_room, move_all};
 use crate::set::set_text;
@@ -211,16 +214,10 @@ impl Document {
     /// page.sections().next().map(Name::text) // Some("Font")
     /// ```
     pub fn sections(&self) -> Keys<'_, Name, VecMap<Name, String>>
-        ensures { ShowsAll deref (keys_of self.now) result }
+        ensures names { ShowsAll deref (keys_of self.now) result }
+        ensures document { IsDocument self.now }
     {
         self.sections.keys()
-    }
-
-    // Does nothing. Its clause is the invariant of documents, which only code that reads the field knows.
-    pub(crate) fn open(&self)
-        ensures { IsDocument self.now }
-    {
-        let _sections = &self.sections;
     }
 }
 

@@ -6,7 +6,6 @@
 #![tactic(auto)]
 
 mod document;
-pub mod laws;
 mod merge;
 mod name;
 mod set;

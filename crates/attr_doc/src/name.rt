@@ -1,8 +1,8 @@
 //! Names that ignore the case of ASCII letters.
-ghost use Rattle.std.specs.Cmp.{on_equiv, partial_equiv_from_equiv};
-ghost use Rattle.std.specs.Cmp.Lexicographic.{nat_list_eq_equiv};
+ghost use Rattle.attr_doc.specs.Documents.{ignoring_case_equiv};
+ghost use Rattle.std.specs.Cmp.{partial_equiv_from_equiv};
 ghost use Rattle.std.specs.Prelude.{◌≡◌, string_bytes};
-ghost use Rattle.std.specs.Str.{str_eq_ignore_ascii_case, str_to_ascii_lowercase};
+ghost use Rattle.std.specs.Str.{str_eq_ignore_ascii_case};
 
 use std::fmt;
 use std::marker::Model;
@@ -65,7 +65,7 @@ impl Name {
 impl PartialEq for Name {
     ghost eq = { str_eq_ignore_ascii_case };
 
-    ghost laws = { partial_equiv_from_equiv (on_equiv str_to_ascii_lowercase nat_list_eq_equiv) };
+    ghost laws = { partial_equiv_from_equiv ignoring_case_equiv };
 
     fn eq(&self, other: &Name) -> bool {
         self.text().eq_ignore_ascii_case(other.text())
@@ -73,7 +73,7 @@ impl PartialEq for Name {
 }
 
 impl Eq for Name {
-    ghost laws = { on_equiv str_to_ascii_lowercase nat_list_eq_equiv };
+    ghost laws = { ignoring_case_equiv };
 }
 
 /// Prints the text of the name as it was written, in quotes, as std prints a text.

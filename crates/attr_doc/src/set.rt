@@ -5,9 +5,6 @@ ghost use Rattle.std.specs.Prelude.{◌≡◌, IfErr, IfOk, IsOk, IsSome, OnErr,
 ghost use Rattle.std.specs.Str.{str_eq_ignore_ascii_case};
 ghost use Rattle.vecmap.specs.Pairs.{index_of, lookup, put};
 
-#[cfg(test)]
-mod tests;
-
 use crate::Name;
 use vecmap::{Refused, VecMap};
 

@@ -1,4 +1,4 @@
-//! The examples of the pages for users. Each is compiled, and its result is compared.
+//! The examples of the pages for users, each proved. Tests compare what no contract says.
 #![tactic(auto)]
 
 pub mod pages;

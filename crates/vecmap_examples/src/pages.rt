@@ -3,3 +3,5 @@ pub mod calling;
 pub mod porting;
 pub mod proving;
 pub mod readme;
+#[cfg(test)]
+mod tests;

@@ -1,3 +1,2 @@
 pub mod MergeLemmas
 pub mod PathLemmas
-pub mod PathParts

@@ -1,6 +1,6 @@
 -- What stands in a tree after a merge. The idea: as long as no names repeat, a merge of one member after the other
 -- leaves at each name what `merged_below` says, since each name comes once.
-use Rattle.std.specs.Prelude.{◌≡◌, ℕ, Bool, Err, List, [], ◌∷◌, ◌⊎◌, None, Ok, OnErr, OnOk, Option, Result, Some, String, bytes_eq, cond, false, if◌then◌else◌, refl, string_bytes, string_eq, true}
+use Rattle.std.specs.Prelude.{◌≡◌, ℕ, Bool, List, [], ◌∷◌, ◌⊎◌, None, Option, Some, String, bytes_eq, cond, false, if◌then◌else◌, refl, string_bytes, string_eq, true}
 use Rattle.std.specs.Option.{option_and_then}
 use Rattle.std.specs.Map.{keys_of}
 use Rattle.std.specs.declared.alloc.Global.{Global}
@@ -14,7 +14,7 @@ use Rattle.vecmap_laws.proofs.Lookups.{look, lookup_absent}
 use Rattle.vecmap_laws.proofs.Queries.{lookup_by_query, same_text, string_equality, text_respects}
 use Rattle.vecmap_laws.proofs.WriteLemmas.{lookup_written, lookup_written_other_text}
 use Rattle.vecmap_laws.proofs.DistinctAbsent.{none_equal}
-use Rattle.vecmap_trees.specs.Trees.{AreDistinctMembers, HasDistinctNames, IsObject, IsObjectLayer, IsOldOrMerged, Members, at_path, is_object_layer, leaf_at, leaf_of_layer, member, members, members_of_layer, merged_below, merged_leaf}
+use Rattle.vecmap_trees.specs.Trees.{AreDistinctMembers, HasDistinctNames, IsObject, IsObjectLayer, IsOldOrMerged, Members, at_path, is_object_layer, leaf_at, leaf_below, leaf_of_layer, member, members, members_of_layer, merged_below, merged_leaf, merged_member}
 use Rattle.vecmap_trees.specs.declared.Json.{Json, out-Json}
 use Rattle.vecmap_trees.specs.declared.Json.TheOpen.{Json-F, Object}
 use Rattle.vecmap_trees.proofs.PathLemmas.{index_from_value}
@@ -50,14 +50,14 @@ module _ (k : String Global) (v : Json) (rest : Pairs) (d : AreDistinctMembers (
 
   -- One member more is merged.
   pub one_merged : (mine new : Pairs)
-      → ((names : List (List ℕ)) → option_and_then (leaf_at names) (lookup_by (has_text (string_bytes k)) new) ≡ merged_below (merged_leaf names) names (Some v) (lookup_by (has_text (string_bytes k)) mine))
+      → ((names : List (List ℕ)) → leaf_below (string_bytes k) names new ≡ merged_below (merged_leaf names) names (Some v) (lookup_by (has_text (string_bytes k)) mine))
       → ((other : List ℕ) → bytes_eq (string_bytes k) other ≡ false → lookup_by (has_text other) new ≡ lookup_by (has_text other) mine)
-      → (name : List ℕ) (names : List (List ℕ)) → merged_below (merged_leaf names) names (lookup_by (has_text name) rest) (lookup_by (has_text name) new) ≡ merged_below (merged_leaf names) names (lookup_by (has_text name) ((k, v) ∷ rest)) (lookup_by (has_text name) mine)
+      → (name : List ℕ) (names : List (List ℕ)) → merged_member name names rest new ≡ merged_member name names ((k, v) ∷ rest) mine
   one_merged mine new here others name names =
       elim (cases_Bool (has_text name k)) [
         | inl h ↦
             let same : string_bytes k ≡ name = (bytes_eq-Decides (string_bytes k) name).0 h in
-            subst (λ n. merged_below (merged_leaf names) names (lookup_by (has_text n) rest) (lookup_by (has_text n) new) ≡ merged_below (merged_leaf names) names (lookup_by (has_text n) ((k, v) ∷ rest)) (lookup_by (has_text n) mine)) same
+            subst (λ n. merged_member n names rest new ≡ merged_member n names ((k, v) ∷ rest) mine) same
             (ap (λ o. merged_below (merged_leaf names) names o (lookup_by (has_text (string_bytes k)) new)) absent_in_rest ∙ here names
             ∙ ap (λ o. merged_below (merged_leaf names) names o (lookup_by (has_text (string_bytes k)) mine)) (sym (look_text (string_bytes k) k v rest true (same_text (string_bytes k) k refl))))
         | inr h ↦
@@ -91,77 +91,62 @@ absent_below k v rest name e =
 pub distinct_members : (j : Json) (l : Pairs) → members j ≡ l → HasDistinctNames j → AreDistinctMembers l
 distinct_members j l e d = subst AreDistinctMembers e (d [] j refl, λ name w found path x at. d (name ∷ path) x (ap (option_and_then (at_path path)) found ∙ at))
 
--- What holds where a call succeeds, and what follows from it.
-pub weaker : {A E P Q : Type 0} (outcome : Result A E) → (P → Q) → OnOk outcome P → OnOk outcome Q
-weaker (Ok a) f h = f h
-weaker (Err e) f h = tt
-
 -- Two objects that were merged member by member.
 pub merged_at : (path : List (List ℕ)) (t old other : Json) (m n : Members) (mine : Pairs)
-    → ((name : List ℕ) (names : List (List ℕ)) → option_and_then (leaf_at names) (lookup_by (has_text name) m.entries) ≡ merged_below (merged_leaf names) names (lookup_by (has_text name) n.entries) (lookup_by (has_text name) mine))
+    → ((name : List ℕ) (names : List (List ℕ)) → leaf_below name names m.entries ≡ merged_member name names n.entries mine)
     → members old ≡ mine → out-Json t ≡ Object m → out-Json other ≡ Object n → leaf_at path t ≡ merged_leaf path old other
 merged_at [] t old other m n mine below g e f = ap (leaf_of_layer t) e ∙ sym (ap (leaf_of_layer other) f)
 merged_at (name ∷ names) t old other m n mine below g e f =
-    ap (λ z. option_and_then (leaf_at names) (lookup_by (has_text name) (members_of_layer z))) e ∙ below name names
-    ∙ ap (λ l. merged_below (merged_leaf names) names (lookup_by (has_text name) n.entries) (lookup_by (has_text name) l)) (sym g)
+    ap (λ z. leaf_below name names (members_of_layer z)) e ∙ below name names
+    ∙ ap (merged_member name names n.entries) (sym g)
     ∙ sym (ap (λ z. cond (is_object_layer z) (merged_below (merged_leaf names) names (lookup_by (has_text name) (members_of_layer z)) (member name old)) None) f)
-
--- What holds where a call fails, and what follows from it.
-pub weaker_err : {A E P Q : Type 0} (outcome : Result A E) → (P → Q) → OnErr outcome P → OnErr outcome Q
-weaker_err (Ok a) f h = tt
-weaker_err (Err e) f h = f h
-
--- What holds at all holds where the call fails.
-pub on_err : {A E P : Type 0} (outcome : Result A E) → P → OnErr outcome P
-on_err (Ok a) p = tt
-on_err (Err e) p = p
 
 -- Two objects whose merge failed at some member.
 pub failed_at : (path : List (List ℕ)) (t old other : Json) (m n : Members) (mine : Pairs)
-    → ((name : List ℕ) (names : List (List ℕ)) → IsOldOrMerged (option_and_then (leaf_at names) (lookup_by (has_text name) m.entries)) (option_and_then (leaf_at names) (lookup_by (has_text name) mine)) (merged_below (merged_leaf names) names (lookup_by (has_text name) n.entries) (lookup_by (has_text name) mine)))
+    → ((name : List ℕ) (names : List (List ℕ)) → IsOldOrMerged (leaf_below name names m.entries) (leaf_below name names mine) (merged_member name names n.entries mine))
     → members old ≡ mine → out-Json t ≡ Object m → out-Json other ≡ Object n → IsOldOrMerged (leaf_at path t) (leaf_at path old) (merged_leaf path old other)
 failed_at [] t old other m n mine below g e f = inr (ap (leaf_of_layer t) e ∙ sym (ap (leaf_of_layer other) f))
 failed_at (name ∷ names) t old other m n mine below g e f = by (below name names)
   where
-    new : leaf_at (name ∷ names) t ≡ option_and_then (leaf_at names) (lookup_by (has_text name) m.entries)
-    new = ap (λ z. option_and_then (leaf_at names) (lookup_by (has_text name) (members_of_layer z))) e
+    new : leaf_at (name ∷ names) t ≡ leaf_below name names m.entries
+    new = ap (λ z. leaf_below name names (members_of_layer z)) e
 
-    by : IsOldOrMerged (option_and_then (leaf_at names) (lookup_by (has_text name) m.entries)) (option_and_then (leaf_at names) (lookup_by (has_text name) mine)) (merged_below (merged_leaf names) names (lookup_by (has_text name) n.entries) (lookup_by (has_text name) mine))
+    by : IsOldOrMerged (leaf_below name names m.entries) (leaf_below name names mine) (merged_member name names n.entries mine)
         → IsOldOrMerged (leaf_at (name ∷ names) t) (leaf_at (name ∷ names) old) (merged_leaf (name ∷ names) old other)
-    by (inl h) = inl (new ∙ h ∙ ap (λ l. option_and_then (leaf_at names) (lookup_by (has_text name) l)) (sym g))
+    by (inl h) = inl (new ∙ h ∙ ap (leaf_below name names) (sym g))
     by (inr h) =
-        inr (new ∙ h ∙ ap (λ l. merged_below (merged_leaf names) names (lookup_by (has_text name) n.entries) (lookup_by (has_text name) l)) (sym g)
+        inr (new ∙ h ∙ ap (merged_member name names n.entries) (sym g)
         ∙ sym (ap (λ z. cond (is_object_layer z) (merged_below (merged_leaf names) names (lookup_by (has_text name) (members_of_layer z)) (member name old)) None) f))
 
 -- What stands below a name once the merge of the first member to come failed. `goes` says what the merge of all that
 -- are to come would lead to.
 pub one_failed : (k : String Global) (v : Json) (rest theirs mine new old : Pairs)
-    → ((names : List (List ℕ)) → IsOldOrMerged (option_and_then (leaf_at names) (lookup_by (has_text (string_bytes k)) new)) (option_and_then (leaf_at names) (lookup_by (has_text (string_bytes k)) mine)) (merged_below (merged_leaf names) names (Some v) (lookup_by (has_text (string_bytes k)) mine)))
+    → ((names : List (List ℕ)) → IsOldOrMerged (leaf_below (string_bytes k) names new) (leaf_below (string_bytes k) names mine) (merged_below (merged_leaf names) names (Some v) (lookup_by (has_text (string_bytes k)) mine)))
     → ((other : List ℕ) → bytes_eq (string_bytes k) other ≡ false → lookup_by (has_text other) new ≡ lookup_by (has_text other) mine)
     → (name : List ℕ) (names : List (List ℕ))
-    → merged_below (merged_leaf names) names (lookup_by (has_text name) ((k, v) ∷ rest)) (lookup_by (has_text name) mine) ≡ merged_below (merged_leaf names) names (lookup_by (has_text name) theirs) (lookup_by (has_text name) old)
+    → merged_member name names ((k, v) ∷ rest) mine ≡ merged_member name names theirs old
     → (lookup_by (has_text name) ((k, v) ∷ rest) ≡ None) ⊎ (lookup_by (has_text name) mine ≡ lookup_by (has_text name) old)
-    → IsOldOrMerged (option_and_then (leaf_at names) (lookup_by (has_text name) new)) (option_and_then (leaf_at names) (lookup_by (has_text name) old)) (merged_below (merged_leaf names) names (lookup_by (has_text name) theirs) (lookup_by (has_text name) old))
+    → IsOldOrMerged (leaf_below name names new) (leaf_below name names old) (merged_member name names theirs old)
 one_failed k v rest theirs mine new old here others name names goes before =
     elim (cases_Bool (has_text name k)) [
       | inl h ↦
           let found : lookup_by (has_text name) ((k, v) ∷ rest) ≡ Some v = look_text name k v rest true h in
-          let at = subst (λ n. IsOldOrMerged (option_and_then (leaf_at names) (lookup_by (has_text n) new)) (option_and_then (leaf_at names) (lookup_by (has_text n) mine)) (merged_below (merged_leaf names) names (Some v) (lookup_by (has_text n) mine))) ((bytes_eq-Decides (string_bytes k) name).0 h) (here names) in
+          let at = subst (λ n. IsOldOrMerged (leaf_below n names new) (leaf_below n names mine) (merged_below (merged_leaf names) names (Some v) (lookup_by (has_text n) mine))) ((bytes_eq-Decides (string_bytes k) name).0 h) (here names) in
           same_name found at before
       | inr h ↦ other_name (others name h) before
     ]
   where
     same_name : lookup_by (has_text name) ((k, v) ∷ rest) ≡ Some v
-        → IsOldOrMerged (option_and_then (leaf_at names) (lookup_by (has_text name) new)) (option_and_then (leaf_at names) (lookup_by (has_text name) mine)) (merged_below (merged_leaf names) names (Some v) (lookup_by (has_text name) mine))
+        → IsOldOrMerged (leaf_below name names new) (leaf_below name names mine) (merged_below (merged_leaf names) names (Some v) (lookup_by (has_text name) mine))
         → (lookup_by (has_text name) ((k, v) ∷ rest) ≡ None) ⊎ (lookup_by (has_text name) mine ≡ lookup_by (has_text name) old)
-        → IsOldOrMerged (option_and_then (leaf_at names) (lookup_by (has_text name) new)) (option_and_then (leaf_at names) (lookup_by (has_text name) old)) (merged_below (merged_leaf names) names (lookup_by (has_text name) theirs) (lookup_by (has_text name) old))
+        → IsOldOrMerged (leaf_below name names new) (leaf_below name names old) (merged_member name names theirs old)
     same_name found at (inl none) = absurd (let f : None ≡ Some v = sym none ∙ found in cc)
     same_name found (inl as_before) (inr same) = inl (as_before ∙ ap (option_and_then (leaf_at names)) same)
     same_name found (inr merged) (inr same) = inr (merged ∙ ap (λ o. merged_below (merged_leaf names) names o (lookup_by (has_text name) mine)) (sym found) ∙ goes)
 
     other_name : lookup_by (has_text name) new ≡ lookup_by (has_text name) mine
         → (lookup_by (has_text name) ((k, v) ∷ rest) ≡ None) ⊎ (lookup_by (has_text name) mine ≡ lookup_by (has_text name) old)
-        → IsOldOrMerged (option_and_then (leaf_at names) (lookup_by (has_text name) new)) (option_and_then (leaf_at names) (lookup_by (has_text name) old)) (merged_below (merged_leaf names) names (lookup_by (has_text name) theirs) (lookup_by (has_text name) old))
+        → IsOldOrMerged (leaf_below name names new) (leaf_below name names old) (merged_member name names theirs old)
     other_name is (inl none) = inr (ap (option_and_then (leaf_at names)) is ∙ ap (λ o. merged_below (merged_leaf names) names o (lookup_by (has_text name) mine)) (sym none) ∙ goes)
     other_name is (inr same) = inl (ap (option_and_then (leaf_at names)) (is ∙ same))
 
@@ -173,18 +158,18 @@ kept_at t old other new mine theirs kept g e f name none =
 
 -- The member of a text, after its value was merged.
 pub member_merged : (m : Members) (text name : List ℕ) → text ≡ name → (old new value : Json) → Some old ≡ lookup_by (has_text text) m.entries → (names : List (List ℕ)) → leaf_at names new ≡ merged_leaf names old value
-    → option_and_then (leaf_at names) (lookup_by (has_text name) (with_value_by (has_text text) m new).entries) ≡ merged_below (merged_leaf names) names (Some value) (lookup_by (has_text name) m.entries)
+    → leaf_below name names (with_value_by (has_text text) m new).entries ≡ merged_below (merged_leaf names) names (Some value) (lookup_by (has_text name) m.entries)
 member_merged m text name same old new value at names h =
-    subst (λ n. option_and_then (leaf_at names) (lookup_by (has_text n) (with_value_by (has_text text) m new).entries) ≡ merged_below (merged_leaf names) names (Some value) (lookup_by (has_text n) m.entries)) same
+    subst (λ n. leaf_below n names (with_value_by (has_text text) m new).entries ≡ merged_below (merged_leaf names) names (Some value) (lookup_by (has_text n) m.entries)) same
     (ap (option_and_then (leaf_at names)) (lookup_written string_eq string_equality (has_text text) (text_respects text) m new (index_from_value m.entries (index_by (has_text text) m.entries) old (sym at)))
     ∙ h ∙ ap (merged_below (merged_leaf names) names (Some value)) at)
 
 -- The member of a text, after the merge of its value failed.
 pub member_failed : (m : Members) (text name : List ℕ) → text ≡ name → (old new value : Json) → Some old ≡ lookup_by (has_text text) m.entries → (names : List (List ℕ)) → IsOldOrMerged (leaf_at names new) (leaf_at names old) (merged_leaf names old value)
-    → IsOldOrMerged (option_and_then (leaf_at names) (lookup_by (has_text name) (with_value_by (has_text text) m new).entries)) (option_and_then (leaf_at names) (lookup_by (has_text name) m.entries)) (merged_below (merged_leaf names) names (Some value) (lookup_by (has_text name) m.entries))
+    → IsOldOrMerged (leaf_below name names (with_value_by (has_text text) m new).entries) (leaf_below name names m.entries) (merged_below (merged_leaf names) names (Some value) (lookup_by (has_text name) m.entries))
 member_failed m text name same old new value at names (inr h) = inr (member_merged m text name same old new value at names h)
 member_failed m text name same old new value at names (inl h) =
-    inl (subst (λ n. option_and_then (leaf_at names) (lookup_by (has_text n) (with_value_by (has_text text) m new).entries) ≡ option_and_then (leaf_at names) (lookup_by (has_text n) m.entries)) same
+    inl (subst (λ n. leaf_below n names (with_value_by (has_text text) m new).entries ≡ leaf_below n names m.entries) same
     (ap (option_and_then (leaf_at names)) (lookup_written string_eq string_equality (has_text text) (text_respects text) m new (index_from_value m.entries (index_by (has_text text) m.entries) old (sym at)))
     ∙ h ∙ ap (option_and_then (leaf_at names)) at))
 
@@ -200,7 +185,7 @@ replaced_at (name ∷ names) old other apart = at (out-Json old) (out-Json other
     none None = refl
     none (Some w) = refl
 
-    at : (x y : Json-F Json) → (IsObjectLayer x → IsObjectLayer y → ⊥) → option_and_then (leaf_at names) (lookup_by (has_text name) (members_of_layer y)) ≡ cond (is_object_layer y) (merged_below (merged_leaf names) names (lookup_by (has_text name) (members_of_layer y)) (lookup_by (has_text name) (members_of_layer x))) None
+    at : (x y : Json-F Json) → (IsObjectLayer x → IsObjectLayer y → ⊥) → leaf_below name names (members_of_layer y) ≡ cond (is_object_layer y) (merged_member name names (members_of_layer y) (members_of_layer x)) None
     at (Object m) (Object n) apart = absurd (apart tt tt)
     at x (Object n) apart = none (lookup_by (has_text name) n.entries)
     at x y apart = refl

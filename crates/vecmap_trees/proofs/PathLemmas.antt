@@ -8,7 +8,7 @@ use Rattle.vecmap.specs.Contents.{with_value_by}
 use Rattle.vecmap.specs.Pairs.{has_text, index_by, lookup_by, value_at}
 use Rattle.vecmap_laws.proofs.Queries.{string_equality, text_respects}
 use Rattle.vecmap_laws.proofs.WriteLemmas.{lookup_written, lookup_written_other_text, written_back}
-use Rattle.vecmap_trees.specs.Trees.{ArePartedPaths, Members, at_path, changed_at, layer_with_members, member, members, members_of_layer, with_member}
+use Rattle.vecmap_trees.specs.Trees.{ArePartedPaths, Members, at_path, at_path_below, changed_at, layer_with_members, member, members, members_of_layer, with_member}
 use Rattle.vecmap_trees.specs.declared.Json.{Json, out-Json, roll-Json}
 use Rattle.vecmap_trees.specs.declared.Json.TheOpen.{Json-F, Object}
 use Rattle.vecmap_trees.specs.declared.Json.TheViews.{out-roll-Json, roll-out-Json}
@@ -47,16 +47,16 @@ pub members_of_roll : (m : Members) → members (roll-Json (Object m)) ≡ m.ent
 members_of_roll m = ap members_of_layer (out-roll-Json (Object m))
 
 at_changed : (name : List ℕ) (names : List (List ℕ)) (f : Json → Json) → ((w : Json) → at_path names (changed_at names f w) ≡ option_map f (at_path names w)) → (j : Json) (x : Json-F Json) → out-Json j ≡ x
-    → option_and_then (at_path names) (lookup_by (has_text name) (members (layer_with_members (with_member name (changed_at names f)) j x))) ≡ option_map f (option_and_then (at_path names) (lookup_by (has_text name) (members_of_layer x)))
+    → at_path_below name names (members (layer_with_members (with_member name (changed_at names f)) j x)) ≡ option_map f (at_path_below name names (members_of_layer x))
 at_changed name names f below j (Object m) e =
-    ap (λ l. option_and_then (at_path names) (lookup_by (has_text name) l)) (members_of_roll (with_member name (changed_at names f) m))
+    ap (at_path_below name names) (members_of_roll (with_member name (changed_at names f) m))
     ∙ ap (option_and_then (at_path names)) (changed_member_found name (changed_at names f) m)
     ∙ by (lookup_by (has_text name) m.entries)
   where
     by : (found : Option Json) → option_and_then (at_path names) (option_map (changed_at names f) found) ≡ option_map f (option_and_then (at_path names) found)
     by None = refl
     by (Some w) = below w
-at_changed name names f below j x e = ap (λ y. option_and_then (at_path names) (lookup_by (has_text name) (members_of_layer y))) e
+at_changed name names f below j x e = ap (λ y. at_path_below name names (members_of_layer y)) e
 
 pub found_changed : (path : List (List ℕ)) (f : Json → Json) (j : Json) → at_path path (changed_at path f j) ≡ option_map f (at_path path j)
 found_changed [] f j = refl
@@ -75,16 +75,16 @@ module _ (name other : List ℕ) (names others : List (List ℕ)) (f : Json → 
   at_other_name apart j (Object m) e = ap (lookup_by (has_text other)) (members_of_roll (with_member name f m)) ∙ other_member_found name other f m apart
   at_other_name apart j x e = ap (λ y. lookup_by (has_text other) (members_of_layer y)) e
 
-  at_same_name : ((w : Json) → at_path others (f w) ≡ at_path others w) → (j : Json) (x : Json-F Json) → out-Json j ≡ x → option_and_then (at_path others) (lookup_by (has_text name) (members (layer_with_members (with_member name f) j x))) ≡ option_and_then (at_path others) (lookup_by (has_text name) (members_of_layer x))
+  at_same_name : ((w : Json) → at_path others (f w) ≡ at_path others w) → (j : Json) (x : Json-F Json) → out-Json j ≡ x → at_path_below name others (members (layer_with_members (with_member name f) j x)) ≡ at_path_below name others (members_of_layer x)
   at_same_name below j (Object m) e =
-      ap (λ l. option_and_then (at_path others) (lookup_by (has_text name) l)) (members_of_roll (with_member name f m))
+      ap (at_path_below name others) (members_of_roll (with_member name f m))
       ∙ ap (option_and_then (at_path others)) (changed_member_found name f m)
       ∙ by (lookup_by (has_text name) m.entries)
     where
       by : (found : Option Json) → option_and_then (at_path others) (option_map f found) ≡ option_and_then (at_path others) found
       by None = refl
       by (Some w) = below w
-  at_same_name below j x e = ap (λ y. option_and_then (at_path others) (lookup_by (has_text name) (members_of_layer y))) e
+  at_same_name below j x e = ap (λ y. at_path_below name others (members_of_layer y)) e
 
 pub unseen_elsewhere : (path other : List (List ℕ)) (f : Json → Json) (j : Json) → ArePartedPaths path other → at_path other (changed_at path f j) ≡ at_path other j
 unseen_elsewhere [] other f j h = absurd h
@@ -97,12 +97,12 @@ unseen_elsewhere (name ∷ names) (next ∷ others) f j (inr h) =
 -- Two trees with the same values at all paths that part from a path: at all other names, and below the name.
 pub seen_alike : (path : List (List ℕ)) (name : List ℕ) (names : List (List ℕ)) (t u : Json) (old new : List (String Global × Json)) → path ≡ name ∷ names
     → ((other : List ℕ) → bytes_eq name other ≡ false → lookup_by (has_text other) new ≡ lookup_by (has_text other) old)
-    → ((other : List (List ℕ)) → ArePartedPaths names other → option_and_then (at_path other) (lookup_by (has_text name) new) ≡ option_and_then (at_path other) (lookup_by (has_text name) old))
+    → ((other : List (List ℕ)) → ArePartedPaths names other → at_path_below name other new ≡ at_path_below name other old)
     → members t ≡ old → members u ≡ new → (other : List (List ℕ)) → ArePartedPaths path other → at_path other u ≡ at_path other t
 seen_alike path name names t u old new is apart below before after other h = by other (subst (λ p. ArePartedPaths p other) is h)
   where
-    at : (next : List ℕ) (rest : List (List ℕ)) → option_and_then (at_path rest) (lookup_by (has_text next) new) ≡ option_and_then (at_path rest) (lookup_by (has_text next) old) → at_path (next ∷ rest) u ≡ at_path (next ∷ rest) t
-    at next rest e = ap (λ l. option_and_then (at_path rest) (lookup_by (has_text next) l)) after ∙ e ∙ ap (λ l. option_and_then (at_path rest) (lookup_by (has_text next) l)) (sym before)
+    at : (next : List ℕ) (rest : List (List ℕ)) → at_path_below next rest new ≡ at_path_below next rest old → at_path (next ∷ rest) u ≡ at_path (next ∷ rest) t
+    at next rest e = ap (at_path_below next rest) after ∙ e ∙ ap (at_path_below next rest) (sym before)
 
     by : (other : List (List ℕ)) → ArePartedPaths (name ∷ names) other → at_path other u ≡ at_path other t
     by [] h = absurd h
@@ -112,12 +112,12 @@ seen_alike path name names t u old new is apart below before after other h = by 
 -- A tree with nothing at any path that parts from a path.
 pub nothing_seen : (path : List (List ℕ)) (name : List ℕ) (names : List (List ℕ)) (u : Json) (new : List (String Global × Json)) → path ≡ name ∷ names → members u ≡ new
     → ((other : List ℕ) → bytes_eq name other ≡ false → lookup_by (has_text other) new ≡ None)
-    → ((other : List (List ℕ)) → ArePartedPaths names other → option_and_then (at_path other) (lookup_by (has_text name) new) ≡ None)
+    → ((other : List (List ℕ)) → ArePartedPaths names other → at_path_below name other new ≡ None)
     → (other : List (List ℕ)) → ArePartedPaths path other → at_path other u ≡ None
 nothing_seen path name names u new is after apart below other h = by other (subst (λ p. ArePartedPaths p other) is h)
   where
-    at : (next : List ℕ) (rest : List (List ℕ)) → option_and_then (at_path rest) (lookup_by (has_text next) new) ≡ None → at_path (next ∷ rest) u ≡ None
-    at next rest e = ap (λ l. option_and_then (at_path rest) (lookup_by (has_text next) l)) after ∙ e
+    at : (next : List ℕ) (rest : List (List ℕ)) → at_path_below next rest new ≡ None → at_path (next ∷ rest) u ≡ None
+    at next rest e = ap (at_path_below next rest) after ∙ e
 
     by : (other : List (List ℕ)) → ArePartedPaths (name ∷ names) other → at_path other u ≡ None
     by [] h = absurd h

@@ -1,13 +1,11 @@
 -- What contracts say of a tree of values. A name is the list of its bytes, and a path is a list of names.
-use Rattle.std.specs.Prelude.{◌≡◌, ℕ, ◌⊎◌, Bool, true, false, cond, bytes_eq, List, [], ◌∷◌, None, Option, Some, String, map, string_bytes, string_eq, sum}
-use Rattle.std.specs.Map.{values_of}
+use Rattle.std.specs.Prelude.{◌≡◌, ℕ, ◌⊎◌, Bool, true, false, cond, bytes_eq, List, [], ◌∷◌, None, Option, Some, String, string_bytes, string_eq}
 use Rattle.std.specs.Option.{option_and_then, option_map_or}
 use Rattle.std.specs.declared.alloc.Global.{Global}
-use Rattle.vecmap.specs.Contents.{Contents, with_entries, with_value_by}
-use Rattle.vecmap.specs.Pairs.{HasDistinctKeys, has_text, lookup_by, without_by}
+use Rattle.vecmap.specs.Contents.{Contents, with_value_by}
+use Rattle.vecmap.specs.Pairs.{HasDistinctKeys, has_text, lookup_by}
 use Rattle.vecmap_trees.specs.declared.Json.{Json, out-Json, roll-Json}
-use Rattle.vecmap_trees.specs.declared.Json.TheOpen.{Json-F, Array, Object, Text}
-use Rattle.vecmap_trees.specs.declared.Json.TheFolds.{fold-Json}
+use Rattle.vecmap_trees.specs.declared.Json.TheOpen.{Json-F, Object, Text}
 
 -- What a contract sees of the members of an object.
 abbrev pub Members : Type 0
@@ -46,6 +44,10 @@ abbrev pub at_path : List (List ℕ) → Json → Option Json
 at_path [] j = Some j
 at_path (name ∷ names) j = option_and_then (at_path names) (member name j)
 
+-- The value at the path of a name and further names, in the members of an object.
+abbrev pub at_path_below : List ℕ → List (List ℕ) → List (String Global × Json) → Option Json
+at_path_below name names l = option_and_then (at_path names) (lookup_by (has_text name) l)
+
 abbrev pub layer_with_members : (Members → Members) → Json → Json-F Json → Json
 layer_with_members f j (Object m) = roll-Json (Object (f m))
 layer_with_members f j _ = j
@@ -62,10 +64,6 @@ with_member name f m = option_map_or (λ w. with_value_by (has_text name) m (f w
 abbrev pub changed_at : List (List ℕ) → (Json → Json) → Json → Json
 changed_at [] f j = f j
 changed_at (name ∷ names) f j = with_members (with_member name (changed_at names f)) j
-
--- The object without the first member with this name.
-abbrev pub without_member : List ℕ → Json → Json
-without_member name j = with_members (λ m. with_entries m (without_by (has_text name) m.entries)) j
 
 -- Neither path leads through the other: they part at some name.
 abbrev pub ArePartedPaths : List (List ℕ) → List (List ℕ) → Type 0
@@ -86,6 +84,10 @@ abbrev pub leaf_at : List (List ℕ) → Json → Option Json
 leaf_at [] j = leaf_of j
 leaf_at (name ∷ names) j = option_and_then (leaf_at names) (member name j)
 
+-- The same at the path of a name and further names, in the members of an object.
+abbrev pub leaf_below : List ℕ → List (List ℕ) → List (String Global × Json) → Option Json
+leaf_below name names l = option_and_then (leaf_at names) (lookup_by (has_text name) l)
+
 abbrev pub is_object_layer : Json-F Json → Bool
 is_object_layer (Object m) = true
 is_object_layer _ = false
@@ -103,6 +105,10 @@ abbrev pub merged_leaf : List (List ℕ) → Json → Json → Option Json
 merged_leaf [] old other = leaf_of other
 merged_leaf (name ∷ names) old other = cond (is_object_layer (out-Json other)) (merged_below (merged_leaf names) names (member name other) (member name old)) None
 
+-- What stands at the path of a name and further names in a merge of the members `theirs` into those of `mine`.
+abbrev pub merged_member : List ℕ → List (List ℕ) → List (String Global × Json) → List (String Global × Json) → Option Json
+merged_member name names theirs mine = merged_below (merged_leaf names) names (lookup_by (has_text name) theirs) (lookup_by (has_text name) mine)
+
 -- What stands at a path is what stood there before, or what the whole merge puts there.
 abbrev pub IsOldOrMerged : Option Json → Option Json → Option Json → Type 0
 IsOldOrMerged new old merged = (new ≡ old) ⊎ (new ≡ merged)
@@ -114,17 +120,3 @@ HasDistinctNames j = (path : List (List ℕ)) (w : Json) → at_path path j ≡ 
 -- The same of members and of all that they hold.
 abbrev pub AreDistinctMembers : List (String Global × Json) → Type 0
 AreDistinctMembers l = HasDistinctKeys string_eq l × ((name : List ℕ) (w : Json) → lookup_by (has_text name) l ≡ Some w → HasDistinctNames w)
-
--- The leaves of one layer, with those of each value in it in its place.
-abbrev pub leaves_step : Json-F ℕ → ℕ
-leaves_step (Array items) = sum items.items
-leaves_step (Object m) = sum (values_of m.entries)
-leaves_step _ = 1
-
--- How many values of the tree are neither an array nor an object.
-abbrev pub leaves : Json → ℕ
-leaves = fold-Json ℕ leaves_step
-
--- The leaves of all members.
-abbrev pub leaves_of_members : List (String Global × Json) → ℕ
-leaves_of_members ps = sum (values_of (map (λ p. (p.0, leaves p.1)) ps))

@@ -2,7 +2,7 @@
 ghost use Rattle.std.specs.Prelude.{◌≡◌, map, List, ℕ, IfSome, IsSome, IsTrue, None, Some, bytes_eq, false};
 ghost use Rattle.std.specs.Option.{option_and_then};
 ghost use Rattle.vecmap.specs.Pairs.{has_text, lookup_by};
-ghost use Rattle.vecmap_trees.specs.Trees.{ArePartedPaths, at_path};
+ghost use Rattle.vecmap_trees.specs.Trees.{ArePartedPaths, at_path, at_path_below};
 
 use crate::Json;
 use std::alloc::Global;
@@ -34,17 +34,15 @@ pub(crate) fn make_path(tree: &mut Json, alloc: Global, path: &[&str]) -> bool
 #[cycle(make_path)]
 fn make_below(members: &mut VecMap<String, Json>, alloc: Global, name: &str, path: &[&str]) -> bool
     ensures found { IsTrue result
-        → IsSome (option_and_then (at_path (map (λ name. name.now) path.now))
-        (lookup_by (has_text name.now) members.new.entries)) }
+        → IsSome (at_path_below name.now (map (λ name. name.now) path.now) members.new.entries) }
     ensures others { (other : List (List ℕ))
         → ArePartedPaths (map (λ name. name.now) path.now) other
-        → option_and_then (at_path other) (lookup_by (has_text name.now) members.new.entries)
-        ≡ option_and_then (at_path other) (lookup_by (has_text name.now) members.old.entries) }
+        → at_path_below name.now other members.new.entries
+        ≡ at_path_below name.now other members.old.entries }
     ensures other_names { (other : List ℕ) → bytes_eq name.now other ≡ false
         → lookup_by (has_text other) members.new.entries
         ≡ lookup_by (has_text other) members.old.entries }
-    ensures present { IsSome (option_and_then (at_path (map (λ name. name.now) path.now))
-        (lookup_by (has_text name.now) members.old.entries))
+    ensures present { IsSome (at_path_below name.now (map (λ name. name.now) path.now) members.old.entries)
         → IsTrue result × (members.new ≡ members.old) }
     ensures refused { result ≡ false → members.new ≡ members.old }
 {

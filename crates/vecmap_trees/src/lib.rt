@@ -1,7 +1,7 @@
 //! A tree of JSON values, whose objects keep the order of their members.
 //!
-//! A [`Json`] is built, read, written and removed at a path of names of any depth, merged with another one, counted,
-//! compared and printed. An object is a `VecMap<String, Json>`, so a value holds maps of values of its own type.
+//! A [`Json`] is read and written at a path of names of any depth, merged with another one, compared and printed. An
+//! object is a `VecMap<String, Json>`, so a value holds maps of values of its own type.
 //!
 //! Contracts speak of what stands at a path: `at_path` is the value that a path of names leads to.
 #![tactic(auto)]
@@ -9,10 +9,10 @@
 mod building;
 mod equality;
 mod growing;
-pub mod laws;
 mod merging;
 mod reading;
-mod removal;
+#[cfg(test)]
+mod tests;
 mod text;
 mod writing;
 

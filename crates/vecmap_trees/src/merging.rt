@@ -1,8 +1,8 @@
 //! Merges of trees.
-ghost use Rattle.std.specs.Prelude.{◌≡◌, ℕ, IsOk, List, None, OnErr, OnOk, Some, bytes_eq, false, string_bytes, string_eq};
+ghost use Rattle.std.specs.Prelude.{◌≡◌, ℕ, List, None, OnErr, OnOk, Some, bytes_eq, false, string_bytes};
 ghost use Rattle.std.specs.Option.{option_and_then};
-ghost use Rattle.vecmap.specs.Pairs.{has_text, lookup_by, puts};
-ghost use Rattle.vecmap_trees.specs.Trees.{AreDistinctMembers, HasDistinctNames, IsObject, IsOldOrMerged, leaf_at, member, members, merged_below, merged_leaf};
+ghost use Rattle.vecmap.specs.Pairs.{has_text, lookup_by};
+ghost use Rattle.vecmap_trees.specs.Trees.{AreDistinctMembers, HasDistinctNames, IsObject, IsOldOrMerged, leaf_at, leaf_below, member, merged_below, merged_leaf, merged_member};
 
 use crate::Json;
 use std::alloc::AllocError;
@@ -10,50 +10,6 @@ use vecmap::VecMap;
 use vecmap_laws::maps::{texts_find_as_strings, writes_by_texts_are_insertions};
 
 impl Json {
-    /// Moves the members of another object into this one. If both have a member of a name, it keeps its index, and gets
-    /// the other's value.
-    ///
-    /// If the other value is not an object, it has no members. The call then succeeds, and this object is unchanged.
-    ///
-    /// # Errors
-    ///
-    /// [`AllocError`] if memory runs out; this object is then unchanged.
-    ///
-    /// # Conditions
-    ///
-    /// This value is an object.
-    ///
-    /// # Complexity
-    ///
-    /// For n members of this object and m of the other, at most m(n + m) comparisons.
-    ///
-    /// # Examples
-    ///
-    /// ```
-    /// # let mut page = Json::object(alloc);
-    /// # page.set_at(alloc, &["font", "size"], Json::Number(12))?;
-    /// # page.set_at(alloc, &["title"], Json::text(alloc, "Map")?)?;
-    /// # let mut other = Json::object(alloc);
-    /// # other.set_at(alloc, &["font", "bold"], Json::Bool(true))?;
-    /// # assert!(*rt; page.is_object());
-    /// page.merge(other)?;
-    /// format!(in alloc; "{page}")?.as_str() // r#"{"font":{"bold":true},"title":"Map"}"#
-    /// ```
-    pub fn merge(&mut self, other: Json) -> Result<(), AllocError>
-        requires object { IsObject self.old }
-        ensures members { OnOk result (members self.new
-            ≡ puts string_eq (members self.old) (members other)) }
-        ensures object { IsObject self.new }
-        ensures unchanged { (IsObject other → ⊥) → self.new ≡ self.old }
-        ensures succeeds { (IsObject other → ⊥) → IsOk result }
-        ensures err { OnErr result (self.new ≡ self.old) }
-    {
-        if let (Json::Object(mine), Json::Object(mut theirs)) = (self, other) {
-            mine.append(&mut theirs)?;
-        }
-        Ok(())
-    }
-
     /// Merges another value into this one, at every depth.
     ///
     /// Two objects are merged member by member: if both have a member of a name, these two are merged in the same way,
@@ -128,19 +84,17 @@ fn merge_members(
 ) -> Result<(), AllocError>
     ensures merged { OnOk result (AreDistinctMembers theirs.entries → (name : List ℕ)
         (names : List (List ℕ))
-        → option_and_then (leaf_at names) (lookup_by (has_text name) mine.new.entries)
-        ≡ merged_below (merged_leaf names) names (lookup_by (has_text name) theirs.entries)
-        (lookup_by (has_text name) mine.old.entries)) }
+        → leaf_below name names mine.new.entries
+        ≡ merged_member name names theirs.entries mine.old.entries) }
     ensures other_names { (name : List ℕ) → lookup_by (has_text name) theirs.entries ≡ None
         → lookup_by (has_text name) mine.new.entries
         ≡ lookup_by (has_text name) mine.old.entries }
     ensures err { OnErr result (AreDistinctMembers theirs.entries → (name : List ℕ)
         (names : List (List ℕ))
         → IsOldOrMerged
-        (option_and_then (leaf_at names) (lookup_by (has_text name) mine.new.entries))
-        (option_and_then (leaf_at names) (lookup_by (has_text name) mine.old.entries))
-        (merged_below (merged_leaf names) names (lookup_by (has_text name) theirs.entries)
-        (lookup_by (has_text name) mine.old.entries))) }
+        (leaf_below name names mine.new.entries)
+        (leaf_below name names mine.old.entries)
+        (merged_member name names theirs.entries mine.old.entries)) }
 {
     for (name, value) in theirs {
         merge_member(value, name, mine)?;
@@ -156,18 +110,15 @@ fn merge_member(
     mine: &mut VecMap<String, Json>,
 ) -> Result<(), AllocError>
     ensures merged { OnOk result (HasDistinctNames value → (names : List (List ℕ))
-        → option_and_then (leaf_at names)
-        (lookup_by (has_text (string_bytes name)) mine.new.entries)
+        → leaf_below (string_bytes name) names mine.new.entries
         ≡ merged_below (merged_leaf names) names (Some value)
         (lookup_by (has_text (string_bytes name)) mine.old.entries)) }
     ensures other_names { (other : List ℕ) → bytes_eq (string_bytes name) other ≡ false
         → lookup_by (has_text other) mine.new.entries
         ≡ lookup_by (has_text other) mine.old.entries }
     ensures err { OnErr result (HasDistinctNames value → (names : List (List ℕ))
-        → IsOldOrMerged (option_and_then (leaf_at names)
-        (lookup_by (has_text (string_bytes name)) mine.new.entries))
-        (option_and_then (leaf_at names)
-        (lookup_by (has_text (string_bytes name)) mine.old.entries))
+        → IsOldOrMerged (leaf_below (string_bytes name) names mine.new.entries)
+        (leaf_below (string_bytes name) names mine.old.entries)
         (merged_below (merged_leaf names) names (Some value)
         (lookup_by (has_text (string_bytes name)) mine.old.entries))) }
 {

@@ -1,17 +1,10 @@
 //! Reads of a tree.
-ghost use Rattle.std.specs.Prelude.{◌≡◌, ◌↔◌, ◌^◌, ◌<◌, IsTrue, map, option_copied};
-ghost use Rattle.vecmap_trees.specs.Trees.{IsObject, at_path, leaves, member};
+ghost use Rattle.std.specs.Prelude.{◌≡◌, map, option_copied};
+ghost use Rattle.vecmap_trees.specs.Trees.{at_path, member};
 
 use crate::Json;
 
 impl Json {
-    /// Returns `true` if the value is an object.
-    pub fn is_object(&self) -> bool
-        ensures { IsTrue result ↔ IsObject self.now }
-    {
-        matches!(self, Json::Object(_))
-    }
-
     /// Returns the value of a member, or `None` if there is none.
     ///
     /// # Complexity
@@ -57,40 +50,5 @@ impl Json {
             at = at.member(name)?;
         }
         Some(at)
-    }
-
-    /// Returns the number of values in the tree that are neither arrays nor objects.
-    ///
-    /// # Conditions
-    ///
-    /// The number is below 2^64.
-    ///
-    /// # Examples
-    ///
-    /// ```
-    /// Json::Bool(true).leaves() // 1
-    /// Json::object(alloc).leaves() // 0
-    /// ```
-    pub fn leaves(&self) -> u64
-        requires fits { leaves self.now < 2 ^ 64 }
-        ensures { result ≡ leaves self.now }
-    {
-        match self {
-            Json::Array(items) => {
-                let mut sum = 0u64;
-                for item in items {
-                    sum += item.leaves();
-                }
-                sum
-            },
-            Json::Object(members) => {
-                let mut sum = 0u64;
-                for (_name, value) in members.as_slice() {
-                    sum += value.leaves();
-                }
-                sum
-            },
-            _ => 1,
-        }
     }
 }

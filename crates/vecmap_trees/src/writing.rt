@@ -1,62 +1,15 @@
 //! Writes into a tree.
-ghost use Rattle.std.specs.Prelude.{◌≡◌, ◌↔◌, ◌∷◌, [], map, List, ℕ, IsOk, IsSome, IsTrue, OnOk, OnErr, IfErr, IfOk, Some, bytes_eq, false, string_bytes, string_eq};
+ghost use Rattle.std.specs.Prelude.{◌≡◌, ◌↔◌, map, List, ℕ, IsOk, IsSome, IsTrue, OnOk, OnErr, IfErr, Some};
 ghost use Rattle.std.specs.Option.{option_and_then};
-ghost use Rattle.vecmap.specs.Pairs.{has_text, lookup, lookup_by, put};
-ghost use Rattle.vecmap_trees.specs.Trees.{ArePartedPaths, IsObject, at_path, changed_at, member, members, with_member};
+ghost use Rattle.vecmap.specs.Pairs.{has_text, lookup_by};
+ghost use Rattle.vecmap_trees.specs.Trees.{ArePartedPaths, at_path, at_path_below, changed_at, with_member};
 
 use crate::Json;
 use crate::growing::make_path;
-use crate::laws::{changes_are_found, changes_are_not_seen_elsewhere};
 use std::alloc::Global;
 use vecmap::{Refused, VecMap};
-use vecmap_laws::maps::texts_find_as_strings;
 
 impl Json {
-    /// Sets a member of an object, and returns its previous value. An existing member keeps its index, and a new one is
-    /// appended.
-    ///
-    /// # Errors
-    ///
-    /// [`Refused`] returns the name and the value if this value is not an object, or if memory runs out; this value is
-    /// then unchanged.
-    ///
-    /// # Complexity
-    ///
-    /// At most one comparison for each member.
-    ///
-    /// # Examples
-    ///
-    /// ```
-    /// # let mut font = Json::object(alloc);
-    /// # font.set("size".to_string(alloc)?, Json::Number(12))?;
-    /// # font.set("bold".to_string(alloc)?, Json::Bool(true))?;
-    /// font.set("size".to_string(alloc)?, Json::Number(14))? == Some(Json::Number(12)) // true
-    /// format!(in alloc; "{font}")?.as_str() // r#"{"size":14,"bold":true}"#
-    /// ```
-    pub fn set(
-        &mut self,
-        name: String,
-        value: Json,
-    ) -> Result<Option<Json>, Refused<(String, Json)>>
-        ensures members { OnOk result (members self.new
-            ≡ put string_eq (members self.old) name value) }
-        ensures old { IfOk result (λ old. old ≡ lookup string_eq (members self.old) name) }
-        ensures object { OnOk result (IsObject self.old) }
-        ensures found { OnOk result (at_path (string_bytes name ∷ []) self.new ≡ Some value) }
-        ensures others { OnOk result ((other : List ℕ) → bytes_eq (string_bytes name) other ≡ false
-            → member other self.new ≡ member other self.old) }
-        ensures given { IfErr result (λ refused. refused.given ≡ (name, value)) }
-        ensures err { OnErr result (self.new ≡ self.old) }
-    {
-        texts_find_as_strings::<Json>();
-        match self {
-            Json::Object(members) => members.insert(name, value),
-            _ => Err(Refused {
-                given: (name, value),
-            }),
-        }
-    }
-
     /// Replaces the value at a path, if there is one. Returns `true` if there is one.
     ///
     /// # Complexity
@@ -110,6 +63,7 @@ impl Json {
     /// format!(in alloc; "{page}")?.as_str() // r#"{"font":{"size":12,"bold":true}}"#
     /// page.set_at(alloc, &["font", "size", "unit"], Json::Null).is_err() // true
     /// ```
+    #[tactic(auto, using(crate::proofs::PathLemmas::found_changed, crate::proofs::PathLemmas::unseen_elsewhere))]
     pub fn set_at(&mut self, alloc: Global, path: &[&str], value: Json) -> Result<(), Refused<Json>>
         ensures found { OnOk result (at_path (map (λ name. name.now) path.now) self.new
             ≡ Some value) }
@@ -123,8 +77,6 @@ impl Json {
         ensures given { IfErr result (λ refused. refused.given ≡ value) }
         ensures err { OnErr result (self.new ≡ self.old) }
     {
-        changes_are_found();
-        changes_are_not_seen_elsewhere();
         if !make_path(self, alloc, path) {
             return Err(Refused { given: value });
         }
@@ -139,8 +91,7 @@ fn write_below(members: &mut VecMap<String, Json>, name: &str, path: &[&str], va
     ensures tree { members.new ≡ with_member name.now
         (changed_at (map (λ name. name.now) path.now) (λ _. value)) members.old }
     ensures present { IsTrue result
-        ↔ IsSome (option_and_then (at_path (map (λ name. name.now) path.now))
-        (lookup_by (has_text name.now) members.old.entries)) }
+        ↔ IsSome (at_path_below name.now (map (λ name. name.now) path.now) members.old.entries) }
 {
     match members.get_mut(name) {
         Some(inner) => inner.write_at(path, value),

@@ -5,7 +5,5 @@ pub mod closures;
 pub mod loops;
 pub mod order;
 pub mod own;
-#[cfg(test)]
-mod tests;
 pub mod traits;
 pub mod writes;

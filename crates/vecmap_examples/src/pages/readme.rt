@@ -25,28 +25,3 @@ pub fn main(rt: HostRuntime) -> io::Result<()> {
     let common = common(rt.alloc())?;
     println!(rt; "{common:?}")
 }
-
-#[cfg(test)]
-mod tests {
-    use super::*;
-    use std::test::Fail;
-
-    #[test]
-    fn the_map_is_as_the_page_says(rt: HostRuntime) -> Result<(), Fail> {
-        let alloc = rt.alloc();
-        let map = headers(alloc)?;
-        assert!(rt; map.as_slice() == [("age", 30), ("max", 20)].as_slice());
-        assert!(rt; format!(in alloc; "{map:?}")?.as_str() == r#"{"age": 30, "max": 20}"#);
-        Ok(())
-    }
-
-    #[test]
-    fn the_set_is_as_the_page_says(rt: HostRuntime) -> Result<(), Fail> {
-        let alloc = rt.alloc();
-        let set = common(alloc)?;
-        assert!(rt; set.as_slice() == [3, 2].as_slice());
-        assert!(rt; format!(in alloc; "{set:?}")?.as_str() == "{3, 2}");
-        main(rt)?;
-        Ok(())
-    }
-}

@@ -54,22 +54,3 @@ impl Bill {
         self.guests.remove(&guest);
     }
 }
-
-#[cfg(test)]
-mod tests {
-    use super::*;
-    use std::test::Fail;
-
-    #[test]
-    fn a_bill_lists_each_guest_once(rt: HostRuntime) -> Result<(), Fail> {
-        let mut bill = Bill::new(rt.alloc());
-        bill.set(4, 20)?;
-        bill.set(5, 30)?;
-        bill.set(4, 25)?;
-        assert!(rt; bill.guests.as_slice() == [(4, 25), (5, 30)].as_slice());
-        bill.leave(4);
-        bill.leave(4);
-        assert!(rt; bill.guests.as_slice() == [(5, 30)].as_slice());
-        Ok(())
-    }
-}

@@ -1,5 +1,5 @@
 //! Maps of maps, by texts.
-ghost use Rattle.std.specs.Prelude.{◌≡◌, IfOk, OnOk, Some};
+ghost use Rattle.std.specs.Prelude.{◌≡◌, OnOk, Some};
 ghost use Rattle.vecmap.specs.Pairs.{has_text, lookup_by};
 ghost use Rattle.vecmap_laws.specs.Nested.{inner_entries_by};
 
@@ -36,18 +36,4 @@ pub fn get_texts(
         (inner_entries_by (has_text section.now) sections.now.entries) }
 {
     sections.get(section)?.get(name).copied()
-}
-
-/// Sets a value, and returns it as both texts find it.
-pub fn set_and_get(
-    sections: &mut VecMap<String, VecMap<String, u32>>,
-    section: &String,
-    name: &String,
-    value: u32,
-) -> Result<Option<u32>, AllocError>
-    ensures { IfOk result (λ found. found ≡ Some value) }
-{
-    let (section, name) = (section.as_str(), name.as_str());
-    set_texts(sections, section, name, value)?;
-    Ok(get_texts(sections, section, name))
 }

@@ -2,18 +2,20 @@
 -- have no name of the other object are never written.
 use Rattle.std.proofs.Common.{◌≡◌, ◌≤◌, ◌⊎◌, None, Some, [], ap, arith, inr, refl, rules, string_bytes, subst, sym, ◌∙◌}
 use Rattle.std.specs.Option.{option_and_then}
+use Rattle.std.proofs.lemmas.Result.{on_err_weaker, on_ok_weaker}
 use Rattle.vecmap.specs.Pairs.{has_text, lookup_by}
-use Rattle.vecmap_trees.specs.Trees.{AreDistinctMembers, IsObject, leaf_at, members, merged_below, merged_leaf}
+use Rattle.vecmap_laws.proofs.Rules.{on_err}
+use Rattle.vecmap_trees.specs.Trees.{AreDistinctMembers, IsObject, leaf_at, leaf_below, members, merged_below, merged_leaf, merged_member}
 use Rattle.vecmap_trees.specs.declared.Json.TheViews.{size-Json, the_lemmas}
 use denote.Param.Weighed.{most}
-use Rattle.vecmap_trees.proofs.MergeLemmas.{absent_below, distinct_first, distinct_members, distinct_rest, failed_at, kept_at, member_failed, member_merged, merged_at, on_err, one_failed, one_merged, other_member_kept, replaced_at, still_untouched, weaker, weaker_err}
+use Rattle.vecmap_trees.proofs.MergeLemmas.{absent_below, distinct_first, distinct_members, distinct_rest, failed_at, kept_at, member_failed, member_merged, merged_at, one_failed, one_merged, other_member_kept, replaced_at, still_untouched}
 use Rattle.vecmap_trees.proofs.merging.+merge_into.Goals as goal
 
 pub merge_into-returns-in-Object-tree-clause-merged :
     goal.merge_into-returns-in-Object-tree-clause-merged
 merge_into-returns-in-Object-tree-clause-merged t c =
     let theirs : members c.args.other ≡ c.in-Object.theirs.entries = search (rules, the_lemmas) in
-    weaker c.merge_members.result
+    on_ok_weaker c.merge_members.result
     (λ below d path. merged_at path _ _ _ c.merge_members.new.mine c.in-Object.theirs _ (below (distinct_members c.args.other c.in-Object.theirs.entries theirs d)) (search (rules, the_lemmas)) (search (rules, the_lemmas)) (search (rules, the_lemmas)))
     c.merge_members.ensures.merged
 
@@ -25,7 +27,7 @@ merge_into-returns-in-Object-tree-clause-other_names t c =
 pub merge_into-returns-in-Object-tree-clause-err : goal.merge_into-returns-in-Object-tree-clause-err
 merge_into-returns-in-Object-tree-clause-err t c =
     let theirs : members c.args.other ≡ c.in-Object.theirs.entries = search (rules, the_lemmas) in
-    weaker_err c.merge_members.result
+    on_err_weaker c.merge_members.result
     (λ below d path. failed_at path _ _ _ c.merge_members.new.mine c.in-Object.theirs _ (below (distinct_members c.args.other c.in-Object.theirs.entries theirs d)) (search (rules, the_lemmas)) (search (rules, the_lemmas)) (search (rules, the_lemmas)))
     c.merge_members.ensures.err
 
@@ -49,11 +51,11 @@ merge_into-returns-in_default t c =
 
 pub merge_member-returns-in-Some-clause-merged : goal.merge_member-returns-in-Some-clause-merged
 merge_member-returns-in-Some-clause-merged t c =
-    weaker c.merge_into.result (λ h d names. member_merged c.args.mine.now c.as_str.result.now _ c.as_str.ensures.value c.in-Some.old.now c.merge_into.new.tree c.args.value c.in-Some.ensures.value names (h d names)) c.merge_into.ensures.merged
+    on_ok_weaker c.merge_into.result (λ h d names. member_merged c.args.mine.now c.as_str.result.now _ c.as_str.ensures.value c.in-Some.old.now c.merge_into.new.tree c.args.value c.in-Some.ensures.value names (h d names)) c.merge_into.ensures.merged
 
 pub merge_member-returns-in-Some-clause-err : goal.merge_member-returns-in-Some-clause-err
 merge_member-returns-in-Some-clause-err t c =
-    weaker_err c.merge_into.result (λ h d names. member_failed c.args.mine.now c.as_str.result.now _ c.as_str.ensures.value c.in-Some.old.now c.merge_into.new.tree c.args.value c.in-Some.ensures.value names (h d names)) c.merge_into.ensures.err
+    on_err_weaker c.merge_into.result (λ h d names. member_failed c.args.mine.now c.as_str.result.now _ c.as_str.ensures.value c.in-Some.old.now c.merge_into.new.tree c.args.value c.in-Some.ensures.value names (h d names)) c.merge_into.ensures.err
 
 pub merge_member-returns-in-Some-clause-other_names :
     goal.merge_member-returns-in-Some-clause-other_names
@@ -67,7 +69,7 @@ merge_member-returns-in_ok-insert-in-None-clause-merged t c =
     let none = subst (λ n. None ≡ lookup_by (has_text n) c.args.mine.now.entries) text c.in-None.ensures.value in
     let found = c.texts_find_as_strings.ensures.inserted c.args.mine.now.entries c.args.name c.args.value _ refl in
     λ d names.
-    ap (λ l. option_and_then (leaf_at names) (lookup_by (has_text (string_bytes c.args.name)) l)) c.in_ok-insert-in-None.ensures.entries
+    ap (leaf_below (string_bytes c.args.name) names) c.in_ok-insert-in-None.ensures.entries
     ∙ ap (option_and_then (leaf_at names)) found ∙ ap (merged_below (merged_leaf names) names (Some c.args.value)) none
 
 pub merge_members-loop-name-init : goal.merge_members-loop-name-init
@@ -75,7 +77,7 @@ merge_members-loop-name-init t c =
     let items : c.into_iter-name-iterator.result ≡ c.args.theirs.entries = search rules in
     record {
       distinct = subst AreDistinctMembers (sym items);
-      merged = λ d name names. ap (λ l. merged_below (merged_leaf names) names (lookup_by (has_text name) l) (lookup_by (has_text name) c.args.mine.now.entries)) items;
+      merged = λ d name names. ap (λ l. merged_member name names l c.args.mine.now.entries) items;
       kept = λ name none. (ap (lookup_by (has_text name)) items ∙ none, refl);
       untouched = λ d name. inr refl;
       lighter = let same = ap (most (λ p. size-Json p.1)) items in omega (arith, same);
@@ -102,7 +104,7 @@ merge_members-loop-name-preserved t c =
       merged = λ d n names.
           let e = subst AreDistinctMembers steps (inv.distinct d) in
           one_merged name value rest e mine new (c.in_ok-merge_member.ensures.merged (distinct_first name value rest e)) c.merge_member.ensures.other_names n names
-          ∙ ap (λ l. merged_below (merged_leaf names) names (lookup_by (has_text n) l) (lookup_by (has_text n) mine)) (sym steps) ∙ inv.merged d n names;
+          ∙ ap (λ l. merged_member n names l mine) (sym steps) ∙ inv.merged d n names;
       kept = λ n none.
           let before = inv.kept n none in
           let absent = absent_below name value rest n (ap (lookup_by (has_text n)) (sym steps) ∙ before.0) in
@@ -135,13 +137,13 @@ merge_members-returns-in_err-merge_member-clause-err t c =
     (λ d n names.
     let e = subst AreDistinctMembers steps (inv.distinct d) in
     one_failed name value rest c.args.theirs.entries mine c.merge_member.new.mine.entries old (c.in_err-merge_member.ensures.err (distinct_first name value rest e)) c.merge_member.ensures.other_names n names
-    (ap (λ l. merged_below (merged_leaf names) names (lookup_by (has_text n) l) (lookup_by (has_text n) mine)) (sym steps) ∙ inv.merged d n names)
+    (ap (λ l. merged_member n names l mine) (sym steps) ∙ inv.merged d n names)
     (subst (λ l. (lookup_by (has_text n) l ≡ None) ⊎ (lookup_by (has_text n) mine ≡ lookup_by (has_text n) old)) steps (inv.untouched d n)))
 
 pub merge_members-returns-clause-merged : goal.merge_members-returns-clause-merged
 merge_members-returns-clause-merged t c =
     let none : c.loop-name.name-iterator ≡ [] = search rules in
-    λ d n names. sym (ap (λ l. merged_below (merged_leaf names) names (lookup_by (has_text n) l) (lookup_by (has_text n) c.loop-name.mine.entries)) none) ∙ c.loop-name.invariant.merged d n names
+    λ d n names. sym (ap (λ l. merged_member n names l c.loop-name.mine.entries) none) ∙ c.loop-name.invariant.merged d n names
 
 pub merge_members-returns-clause-other_names : goal.merge_members-returns-clause-other_names
 merge_members-returns-clause-other_names t c = λ n none. (c.loop-name.invariant.kept n none).1

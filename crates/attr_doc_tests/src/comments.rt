@@ -1,3 +1,0 @@
-//! Made by `.ci/examples --write`: the modules of examples.
-mod document;
-mod name;
