@@ -8,14 +8,17 @@ use Rattle.std.specs.Map.Calls.{CalledAtPair, TakesPair}
 
 module _ {F X : Type 0} (R : F → X → Bool → X → F → Type 0) where
   -- Some call of `f` at `x` leaves `g`.
+  -- Example: of a closure that counts its calls: from 2 to 3.
   abbrev pub SomeCall : F → X → F → Type 0
   SomeCall f x g = (b : Bool) × (y : X) × R f x b y g
 
   -- The closure may be called at each item, in the state that the calls before have left.
+  -- Example: a closure that counts its calls may be called at each of a list that is short enough.
   pub record CallableOnEach (Q : F → X → Type 0) (f : F) (l : List X) : Type 0 where
     pub at : (before after : List X) (g : F) (x : X) → l ≡ before ++ x ∷ after → FoldsTo SomeCall f before g → Q g x
 
 -- A call of a closure over `&T` at the item `x` may return `b` and leave `g`. It writes nothing.
+-- Example: a closure that adds 1 to the value: from `(1,5)` to `(1,6)`.
 abbrev pub CallsAtItem : {F T : Type 0} → Mut F (Bor T × Unit {0}) Bool → F → T → Bool → T → F → Type 0
 CallsAtItem c f x b y g = CalledAt c f x b g × (y ≡ x)
 

@@ -6,6 +6,7 @@ use Rattle.std.specs.Iterator.{Yields}
 module _ {D A : Type 0} (rest : D → List A) (Keeps : D → D → Type 0) where
   -- A call of `next` in `s` returned the first item of the rest and left `t`. If nothing was left, it returned `None`
   -- and changed nothing.
+  -- Example: from `[1,2,3]` the front is 1 and leaves `[2,3]`.
   abbrev pub DrainsFirst : D → Option A → D → Type 0
   DrainsFirst s r t = MatchOption r ((rest s ≡ []) × (t ≡ s)) (λ x. (rest s ≡ x ∷ rest t) × Keeps s t)
 

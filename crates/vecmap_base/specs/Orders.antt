@@ -11,6 +11,7 @@ use Rattle.std.specs.declared.cmp.Ordering.{Ordering}
 use Rattle.std.specs.declared.cmp.Ordering.TheVariants.{Greater, Less}
 
 -- The closure `f` may be called at the item `x`.
+-- Example: a closure that indexes a table of 3 items may be called at 2, and not at 3.
 abbrev pub CallableOnItem : {F T R : Type 0} → Shared F (Bor T × Unit {0}) R → F → T → Type 0
 CallableOnItem {F} {T} g f x = (a : Bor T) → a.now ≡ x → g.pre f (a, tt)
 
@@ -19,14 +20,17 @@ abbrev pub CallableOnPair : {F K V R : Type 0} → Shared F (Bor K × (Bor V × 
 CallableOnPair {F} {K} {V} g f p = (k : Bor K) (v : Bor V) → k.now ≡ p.0 → v.now ≡ p.1 → g.pre f (k, (v, tt))
 
 -- The closure `f` may be called at each index of a list of `n` items.
+-- Example: a closure that indexes a table of 3 items, and 2 items.
 abbrev pub CallableBelow : {F R : Type 0} → Shared F (ℕ × Unit {0}) R → F → ℕ → Type 0
 CallableBelow g f n = (i : ℕ) → i < n → g.pre f (i, tt)
 
 -- Each call of `f`, at an item, returns what `h` gives of it.
+-- Example: a closure that returns the value.
 abbrev pub AnswersOnItem : {F T R : Type 0} → Shared F (Bor T × Unit {0}) R → (T → R) → F → Type 0
 AnswersOnItem {F} {T} {R} g h f = (x : Bor T) (r : R) → g.post f (x, tt) r → r ≡ h x.now
 
 -- Each call of `f`, at an item of `xs`, returns what `h` gives of it.
+-- Example: a closure that indexes a table by each item, of items in its range.
 abbrev pub AnswersOnItems : {F T R : Type 0} → Shared F (Bor T × Unit {0}) R → (T → R) → F → List T → Type 0
 AnswersOnItems {F} {T} {R} g h f xs = (x : Bor T) (r : R) → Contains xs x.now → g.post f (x, tt) r → r ≡ h x.now
 
@@ -43,15 +47,18 @@ abbrev pub side : Bool → Ordering
 side passes = cond passes Less Greater
 
 -- Each call of `f`, at the index of an item of `xs`, returns what `h` gives of the item.
+-- Example: a closure that compares the item at its index with 3.
 abbrev pub AnswersAtIndex : {F T R : Type 0} → Shared F (ℕ × Unit {0}) R → (T → R) → F → List T → Type 0
 AnswersAtIndex {F} {T} {R} g h f xs = (i : ℕ) (r : R) → i < length xs → g.post f (i, tt) r → HoldsAt (λ x. r ≡ h x) xs i
 
 module _ {F K V : Type 0} (g : Shared F ((Bor K × Bor V) × ((Bor K × Bor V) × Unit {0})) Ordering) where
   -- Each call of `f`, at two pairs, returns `Less` exactly if `lt` holds of them.
+  -- Example: a closure that compares the values.
   abbrev pub ComparesPairsAs : (K × V → K × V → Bool) → F → Type 0
   ComparesPairsAs lt f = (a b : Bor K × Bor V) (r : Ordering) → g.post f (a, (b, tt)) r → is_lt r ≡ lt (a.0.now, a.1.now) (b.0.now, b.1.now)
 
   -- The pairs ascend by the order that `f` returns, if it is an order.
+  -- Example: by value `[(b,1), (c,1), (a,2)]` of `[(b,1), (a,2), (c,1)]`.
   abbrev pub IsSortedByPairClosure : F → List (K × V) → Type 0
   IsSortedByPairClosure f l = (lt : K × V → K × V → Bool) → IsStrictWeakOrder lt → ComparesPairsAs lt f → IsSortedBy lt l
 
@@ -61,6 +68,7 @@ module _ {F K V : Type 0} (g : Shared F ((Bor K × Bor V) × ((Bor K × Bor V) �
 
 module _ {F K V T : Type 0} (g : Shared F (Bor K × (Bor V × Unit {0})) T) (cmp : T → T → Ordering) where
   -- The pairs ascend by the sort keys that `f` returns, if these are the values of a function.
+  -- Example: by the key `value`: `[(b,1), (c,1), (a,2)]` of `[(b,1), (a,2), (c,1)]`.
   abbrev pub IsSortedByPairKey : F → List (K × V) → Type 0
   IsSortedByPairKey f l = (key : K × V → T) → AnswersOnPair g key f → IsSortedByKey key cmp l
 

@@ -12,6 +12,7 @@ module _ {F X : Type 0} (R : F → X → X → F → Type 0) where
 
   -- The calls at the items of `l`, in order, took the closure from `f` to `g`. The list `m` has the items as they left
   -- them.
+  -- Example: a closure that adds 1 to each value, of `[(1,5), (2,6)]`: `[(1,6), (2,7)]`.
   abbrev pub Updated : F → List X → List X → F → Type 0
   Updated = Kept Keeping
 
@@ -23,6 +24,7 @@ module _ {F X : Type 0} (R : F → X → X → F → Type 0) where
     pub run : Updated f0 (take i xs) (take i ys) f
 
   -- Each call of the closure in the state `f` writes `h` of the item, and leaves that state.
+  -- Example: of a closure that adds 1 to the value, and of one that also counts its calls: `h` of `(1,5)` is `(1,6)`.
   abbrev pub Computes : F → (X → X) → Type 0
   Computes f h = (x y : X) (g : F) → R f x y g → (y ≡ h x) × (g ≡ f)
 
@@ -45,16 +47,19 @@ module _ {F K V R : Type 0} (c : Mut F (Bor K × (MutBor V × Unit {0})) (R × (
     pub leaves : left.now ≡ w
 
   -- A call at the pair `p` may return `r`, and leave the pair `q`, with the same key, and the closure `g`.
+  -- Example: a closure that adds 1 to the value: from `(1,5)` to `(1,6)`.
   abbrev pub WritesValueAt : R → F → K × V → K × V → F → Type 0
   WritesValueAt r f p q g = WritesValue r f p.0 p.1 q.1 g × (q.0 ≡ p.0)
 
   -- The closure may be called at each pair of `l`, in the state that the calls before have left, which returned `r`.
+  -- Example: a closure that adds 1 may be called at pairs whose values are below the greatest.
   abbrev pub CallableOnValues : R → F → List (K × V) → Type 0
   CallableOnValues r f l = CallableOnEach (Keeping (WritesValueAt r)) TakesValueAt f l
 
 module _ {F K V E : Type 0} (c : Mut F (Bor K × (MutBor V × Unit {0})) (Result (Unit {0}) E × (MutBor V × Unit {0}))) where
   -- The calls at the first pairs of `l` returned `Ok`, and the next one `e`. The list `m` has these pairs as the calls
   -- left them, and the others as they were.
+  -- Example: a closure that adds 1 below 9, of `[(1,5), (2,9), (3,5)]`: `[(1,6), (2,9), (3,5)]`.
   pub record StoppedAt (e : E) (f : F) (l m : List (K × V)) : Type 0 where
     pub before : List (K × V)
     pub after : List (K × V)
