@@ -12,10 +12,7 @@ use Rattle.vecmap_set.specs.Contents as set
 
 module _ {K V : Type 0} (eq : K → K → Bool) (eq_value : V → V → Bool) (keys : clone.Ghosts K) (values : clone.Ghosts V) where
   -- A run, and then one more step.
-  pub run_push : (m : Contents K V) (commands : List (MapCommand K V)) (replies : List (MapReply K V)) (mid : Contents K V)
-      (command : MapCommand K V) (reply : MapReply K V) (n : Contents K V)
-      → maps.Run eq eq_value keys values m commands replies mid → maps.Step eq eq_value keys values mid command reply n
-      → maps.Run eq eq_value keys values m (commands ++ command ∷ []) (replies ++ reply ∷ []) n
+  pub run_push : (m : Contents K V) (commands : List (MapCommand K V)) (replies : List (MapReply K V)) (mid : Contents K V) (command : MapCommand K V) (reply : MapReply K V) (n : Contents K V) → maps.Run eq eq_value keys values m commands replies mid → maps.Step eq eq_value keys values mid command reply n → maps.Run eq eq_value keys values m (commands ++ command ∷ []) (replies ++ reply ∷ []) n
   run_push m [] [] mid command reply n run step = (n, rw (← run) step, refl)
   run_push m (c ∷ cs) (r ∷ rs) mid command reply n run step =
       (run.0, run.1, run_push run.0 cs rs mid command reply n run.2 step)
@@ -24,10 +21,7 @@ module _ {K V : Type 0} (eq : K → K → Bool) (eq_value : V → V → Bool) (k
 
 module _ {T : Type 0} (eq : T → T → Bool) (clones : clone.Ghosts T) where
   -- The same for a set.
-  pub run_set_push : (s : set.Contents T) (commands : List (SetCommand T)) (replies : List (SetReply T)) (mid : set.Contents T)
-      (command : SetCommand T) (reply : SetReply T) (t : set.Contents T)
-      → sets.Run eq clones s commands replies mid → sets.Step eq clones mid command reply t
-      → sets.Run eq clones s (commands ++ command ∷ []) (replies ++ reply ∷ []) t
+  pub run_set_push : (s : set.Contents T) (commands : List (SetCommand T)) (replies : List (SetReply T)) (mid : set.Contents T) (command : SetCommand T) (reply : SetReply T) (t : set.Contents T) → sets.Run eq clones s commands replies mid → sets.Step eq clones mid command reply t → sets.Run eq clones s (commands ++ command ∷ []) (replies ++ reply ∷ []) t
   run_set_push s [] [] mid command reply t run step = (t, rw (← run) step, refl)
   run_set_push s (c ∷ cs) (r ∷ rs) mid command reply t run step =
       (run.0, run.1, run_set_push run.0 cs rs mid command reply t run.2 step)

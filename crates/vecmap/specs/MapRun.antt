@@ -3,11 +3,7 @@ use Rattle.std.specs.Prelude.{◌≡◌, ◌-◌, ◌<◌, ◌≤◌, ◌++◌, 
 use Rattle.std.specs.Option.{option_map_or}
 use Rattle.std.specs.declared.clone.Clone as clone
 use Rattle.vecmap.specs.declared.map_run.command.MapCommand.{MapCommand}
-use Rattle.vecmap.specs.declared.map_run.command.MapCommand.TheVariants.{Append, Clear, ContainsKey, Equals, First, Get, GetIndex}
-use Rattle.vecmap.specs.declared.map_run.command.MapCommand.TheVariants.{IndexOf, Insert, InsertAt, InsertFull, InsertKey, Last, Len}
-use Rattle.vecmap.specs.declared.map_run.command.MapCommand.TheVariants.{OrInsert, Pop, Remove, RemoveEntry, RemoveIndex, Reverse}
-use Rattle.vecmap.specs.declared.map_run.command.MapCommand.TheVariants.{SplitOff, SwapIndices, SwapRemove, SwapRemoveEntry}
-use Rattle.vecmap.specs.declared.map_run.command.MapCommand.TheVariants.{SwapRemoveIndex, ToVec, Truncate}
+use Rattle.vecmap.specs.declared.map_run.command.MapCommand.TheVariants.{ContainsKey, Equals, First, Get, GetIndex, IndexOf, Last, Len, ToVec, Append, Clear, Insert, InsertAt, InsertFull, InsertKey, OrInsert, Pop, Remove, RemoveEntry, RemoveIndex, Reverse, SplitOff, SwapIndices, SwapRemove, SwapRemoveEntry, SwapRemoveIndex, Truncate}
 use Rattle.vecmap.specs.declared.map_run.reply.MapReply.{MapReply}
 use Rattle.vecmap.specs.declared.map_run.reply.MapReply.TheVariants.{Done, Full, Kept, Moved, NoMemory, Number, OutOfRange, Pair, Pairs, Place, Rest, Truth, Value}
 use Rattle.vecmap_base.specs.Clones.{IsCloneOf, IsPairClone}

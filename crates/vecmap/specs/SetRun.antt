@@ -4,11 +4,7 @@ use Rattle.std.specs.List.{IsDistinct}
 use Rattle.std.specs.Set.{is_member}
 use Rattle.std.specs.declared.clone.Clone as clone
 use Rattle.vecmap.specs.declared.set_run.command.SetCommand.{SetCommand}
-use Rattle.vecmap.specs.declared.set_run.command.SetCommand.TheVariants.{Append, Clear, Contains, Equals, Exclusive, First, Get}
-use Rattle.vecmap.specs.declared.set_run.command.SetCommand.TheVariants.{GetIndex, IndexOf, Insert, Intersect, IsDisjoint, IsSubset}
-use Rattle.vecmap.specs.declared.set_run.command.SetCommand.TheVariants.{IsSuperset, Last, Len, Pop, Remove, RemoveIndex, Replace}
-use Rattle.vecmap.specs.declared.set_run.command.SetCommand.TheVariants.{Reverse, SplitOff, Subtract, SwapIndices, SwapRemove}
-use Rattle.vecmap.specs.declared.set_run.command.SetCommand.TheVariants.{SwapRemoveIndex, SwapTake, Take, ToVec, Truncate, Unite}
+use Rattle.vecmap.specs.declared.set_run.command.SetCommand.TheVariants.{Contains, Equals, Exclusive, First, Get, GetIndex, IndexOf, Intersect, IsDisjoint, IsSubset, IsSuperset, Last, Len, Subtract, ToVec, Unite, Append, Clear, Insert, Pop, Remove, RemoveIndex, Replace, Reverse, SplitOff, SwapIndices, SwapRemove, SwapRemoveIndex, SwapTake, Take, Truncate}
 use Rattle.vecmap.specs.declared.set_run.reply.SetReply.{SetReply}
 use Rattle.vecmap.specs.declared.set_run.reply.SetReply.TheVariants.{Done, Item, Items, Made, NoMemory, Number, OutOfRange, Place, Truth}
 use Rattle.vecmap_base.specs.Clones.{AreClones, IsCloneOf}
