@@ -1,12 +1,12 @@
 -- Runs of the lazy iterators, and bounds of the number of elements that they have left.
-use Rattle.std.proofs.Common.{ℕ, ◌≤◌, ◌+◌, length-append, Bool, List, Option, None, Some, ap, length, not, arith, refl}
+use Rattle.std.proofs.Common.{◌≡◌, ℕ, ◌<◌, ◌≤◌, ◌+◌, ◌^◌, length-append, Bool, List, Option, None, Some, ap, length, not, arith, refl}
 use Rattle.std.proofs.lemmas.List.Filters.{length-filter_both}
 use Rattle.std.proofs.iter.runs.Sources.{from_front, from_back}
 use Rattle.std.specs.Iterator.{UpTo, at_most}
 use Rattle.std.specs.Iterator.Runs.{YieldsRefsInOrder, YieldsRefsInReverse}
 use Rattle.std.specs.List.{filter}
 use Rattle.std.specs.Option.{IfSome, SomeIff}
-use Rattle.vecmap_set.specs.Lazy.{ExcludesFirst, ExcludesLast, JoinsFirst, JoinsLast, Parts, Sift, SiftsFirst, SiftsLast, lacks_item, sift_rest, symmetric_rest, union_rest}
+use Rattle.vecmap_set.specs.Lazy.{ExcludesFirst, ExcludesLast, JoinsFirst, JoinsLast, Parts, Sift, SiftsFirst, SiftsLast, lacks_item, sift_rest, symmetric_parts, symmetric_rest, union_parts, union_rest}
 
 module _ {T : Type 0} (keeps : List T → T → Bool) where
   -- Repeated calls return what is left, in order or in reverse.
@@ -44,6 +44,17 @@ length_symmetric_rest eq s =
     let one = lacks_item eq s.first.other in
     let two = lacks_item eq s.second.other in
     omega (arith, length-append (filter one s.first.unwalked) (filter two s.second.unwalked), length_filter one s.first.unwalked, length_filter two s.second.unwalked)
+
+-- Both parts fit a `usize` together if each has fewer items than half of its values.
+pub union_fits : {T : Type 0} (eq : T → T → Bool) (s : Parts (List T) (Sift T)) (a b : List T)
+    → s ≡ union_parts a b → length a < 2 ^ 63 → length b < 2 ^ 63 → length (union_rest eq s) < 2 ^ 64
+union_fits eq s a b made small others =
+    omega (arith, length_union_rest eq s, ap (λ p. length p.first) made, ap (λ p. length p.second.unwalked) made)
+
+pub symmetric_fits : {T : Type 0} (eq : T → T → Bool) (s : Parts (Sift T) (Sift T)) (a b : List T)
+    → s ≡ symmetric_parts a b → length a < 2 ^ 63 → length b < 2 ^ 63 → length (symmetric_rest eq s) < 2 ^ 64
+symmetric_fits eq s a b made small others =
+    omega (arith, length_symmetric_rest eq s, ap (λ p. length p.first.unwalked) made, ap (λ p. length p.second.unwalked) made)
 
 -- A number that is at most the sum of two bounds is within that sum, if the sum fits a `usize`.
 pub within_sum : (r : Option ℕ) (P : Type 0) (sum n : ℕ) → SomeIff r P sum → n ≤ sum → IfSome r (UpTo (at_most n))

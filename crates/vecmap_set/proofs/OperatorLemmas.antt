@@ -20,13 +20,17 @@ module _ {S T : Type 0} (steps : S → Option (Bor T) → S → Type 0) (rest : 
   pub clones_drained : (C : T → T → Type 0) (s : S) (l made : List T) → rest s ≡ l → DrainsIntoClones steps C s made → AreClones C l made
   clones_drained C s l made e h = subst (λ m. AreClones C m made) (drained s h.0 h.1 ∙ e) h.2
 
-  -- Of an iterator that is made over the lists of two sets. If each clone of an item that it yields is equal to it, no
-  -- two of the clones are equal.
-  pub operator_clones : {eq : T → T → Bool} (o : IsEquivalence eq) (C : T → T → Type 0) (over : List T → List T → S) (apart : (a b : List T) → IsDistinct eq a → IsDistinct eq b → IsDistinct eq (rest (over a b))) (made : List T) {s : S} {x y : List T} {p q a b : Contents T} → s ≡ over x y → x ≡ p.elements → y ≡ q.elements → p ≡ a → q ≡ b → IsDistinct eq p.elements → IsDistinct eq q.elements
-      → ClonesStaySame eq C (λ _ a b. rest (over a b)) a b → DrainsIntoClones steps C s made → AreClones C (rest (over a.elements b.elements)) made × IsDistinct eq made
-  operator_clones {eq} o C over apart made {s} {x} {y} {p} {q} {a} {b} e f h left right left_apart right_apart same d =
+  -- Of an iterator over the elements of two sets. If each clone of an item that it yields is equal to it, no two of the
+  -- clones are equal.
+  pub operator_clones : {eq : T → T → Bool} (o : IsEquivalence eq) (C : T → T → Type 0) (over : List T → List T → S)
+      (apart : (a b : List T) → IsDistinct eq a → IsDistinct eq b → IsDistinct eq (rest (over a b)))
+      (a b : Contents T) (made : List T) {s : S} {x y : List T}
+      → s ≡ over x y → x ≡ a.elements → y ≡ b.elements → IsDistinct eq x → IsDistinct eq y
+      → ClonesStaySame eq C (λ _ a b. rest (over a b)) a b → DrainsIntoClones steps C s made
+      → AreClones C (rest (over a.elements b.elements)) made × IsDistinct eq made
+  operator_clones {eq} o C over apart a b made {s} {x} {y} e left right left_apart right_apart same d =
       let list = rest (over a.elements b.elements) in
-      let same_list : rest s ≡ list = ap rest e ∙ (λ j. rest (over ((f ∙ ap (λ m. m.elements) left) j) ((h ∙ ap (λ m. m.elements) right) j))) in
+      let same_list : rest s ≡ list = ap rest e ∙ (λ j. rest (over (left j) (right j))) in
       let clones = clones_drained C s list made same_list d in
-      let list_apart = apart a.elements b.elements (subst (λ m. IsDistinct eq m.elements) left left_apart) (subst (λ m. IsDistinct eq m.elements) right right_apart) in
+      let list_apart = apart a.elements b.elements (subst (IsDistinct eq) left left_apart) (subst (IsDistinct eq) right right_apart) in
       (clones, distinct_clones_of eq o C list made same clones list_apart)

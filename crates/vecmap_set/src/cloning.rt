@@ -70,7 +70,8 @@ impl<T: Eq> VecSet<T> {
 /// (groups.get(&'a').map(VecSet::len), copy.get(&'a').map(VecSet::len)) // (Some(2), Some(3))
 /// ```
 impl<T: Eq + Clone> Clone for VecSet<T> {
-    ghost is_clone = { λ set copy. AreClones T.is_clone set.elements copy.elements × IsDistinct T.eq copy.elements };
+    ghost is_clone = { λ set copy. AreClones T.is_clone set.elements copy.elements
+        × IsDistinct T.eq copy.elements };
 
     fn clone(&self) -> Result<VecSet<T>, AllocError> {
         let items = self.items.clone()?;

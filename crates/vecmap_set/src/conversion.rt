@@ -24,7 +24,8 @@ use vecmap_base::{Steps, dedup_keep_first};
 /// set.as_slice() // [2, 1]
 /// ```
 impl<T: Eq + Drop> From<Vec<T>> for VecSet<T> {
-    ghost from_gives = { λ items set. (set.elements ≡ adds T.eq [] items.items) × IsDistinct T.eq set.elements × (set.capacity ≡ vec_capacity items) };
+    ghost from_gives = { λ items set. (set.elements ≡ adds T.eq [] items.items)
+        × IsDistinct T.eq set.elements × (set.capacity ≡ vec_capacity items) };
 
     fn from(items: Vec<T>) -> VecSet<T> {
         let (set, _count) = VecSet::from_vec_counted(items);

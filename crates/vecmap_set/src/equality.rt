@@ -93,7 +93,8 @@ impl<T: Eq> PartialEq for VecSet<T> {
 
     ghost eq = { λ a b. has_same_items T.eq a.elements b.elements };
 
-    ghost laws = { partial_equiv_from_equiv (on_equiv (λ set. set.elements) (set_equality_laws T.eq T.Eq.laws)) };
+    ghost laws = { partial_equiv_from_equiv
+        (on_equiv (λ set. set.elements) (set_equality_laws T.eq T.Eq.laws)) };
 
     fn eq(&self, other: &VecSet<T>) -> bool {
         let (items, others) = (self.as_slice(), other.as_slice());

@@ -39,9 +39,11 @@ impl<T: Eq> VecSet<T> {
     where
         T: Drop,
         ensures elements { OnOk result (self.new.elements ≡ add T.eq self.old.elements item) }
-        ensures added { IfOk result (λ added. added ≡ not (is_member T.eq self.old.elements item)) }
+        ensures added { IfOk result
+            (λ added. added ≡ not (is_member T.eq self.old.elements item)) }
         ensures distinct { IsDistinct T.eq self.new.elements }
-        ensures unchanged { IsTrue (is_member T.eq self.old.elements item) → self.new ≡ self.old }
+        ensures unchanged { IsTrue (is_member T.eq self.old.elements item)
+            → self.new ≡ self.old }
         ensures capacity { KeepsRoom T.eq self.old item self.new }
 
         // On `Err` the element is returned. Only a new element can be refused, and only if the set is full.
@@ -80,7 +82,8 @@ impl<T: Eq> VecSet<T> {
     /// ```
     #[tactic(auto, using(vecmap_base::proofs::IndexLemmas::list_any_position))]
     pub fn replace(&mut self, item: T) -> Result<Option<T>, Refused<T>>
-        ensures elements { OnOk result (self.new.elements ≡ put_item T.eq self.old.elements item) }
+        ensures elements { OnOk result
+            (self.new.elements ≡ put_item T.eq self.old.elements item) }
         ensures old { IfOk result (λ old. old ≡ stored_item T.eq self.old.elements item) }
         ensures distinct { IsDistinct T.eq self.new.elements }
         ensures capacity { KeepsRoom T.eq self.old item self.new }

@@ -48,7 +48,8 @@ impl<'a, T: Eq> IntoIterator for &'a VecSet<T> {
 
     type IntoIter = Iter<'a, T>;
 
-    ghost into_iter_gives = { λ set iter. ShowsAll deref set.now.elements iter × IsDistinct T.eq iter };
+    ghost into_iter_gives = { λ set iter. ShowsAll deref set.now.elements iter
+        × IsDistinct T.eq iter };
 
     fn into_iter(self) -> Iter<'a, T> {
         self.iter()

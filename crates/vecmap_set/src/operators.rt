@@ -44,10 +44,9 @@ impl<'a, 'b, T: Eq + Clone> BitAnd<&'b VecSet<T>> for &'a VecSet<T> {
     ghost bitand_gives = { λ a b r. MakesClones T.eq T.is_clone both a.now b.now r };
 
     fn bitand(self, other: &'b VecSet<T>) -> Result<VecSet<T>, AllocError> {
-        let shared = Intersection::over(&self.items, &other.items);
-        Ok(VecSet {
-            items: clones_of(*self.items.allocator(), shared)?,
-        })
+        let shared = Intersection::over(self.as_slice(), other.as_slice());
+        let items = clones_of(*self.allocator(), shared)?;
+        Ok(VecSet { items })
     }
 }
 
@@ -84,10 +83,9 @@ impl<'a, 'b, T: Eq + Clone> BitOr<&'b VecSet<T>> for &'a VecSet<T> {
     ghost bitor_gives = { λ a b r. MakesClones T.eq T.is_clone union_of a.now b.now r };
 
     fn bitor(self, other: &'b VecSet<T>) -> Result<VecSet<T>, AllocError> {
-        let all = Union::over(&self.items, &other.items);
-        Ok(VecSet {
-            items: clones_of(*self.items.allocator(), all)?,
-        })
+        let all = Union::over(self.as_slice(), other.as_slice());
+        let items = clones_of(*self.allocator(), all)?;
+        Ok(VecSet { items })
     }
 }
 
@@ -119,15 +117,16 @@ impl<'a, 'b, T: Eq + Clone> BitOr<&'b VecSet<T>> for &'a VecSet<T> {
 impl<'a, 'b, T: Eq + Clone> BitXor<&'b VecSet<T>> for &'a VecSet<T> {
     type Output = Result<VecSet<T>, AllocError>;
 
-    ghost can_bitxor = { λ a b. ClonesStaySame T.eq T.is_clone symmetric_difference_of a.now b.now };
+    ghost can_bitxor = { λ a b. ClonesStaySame T.eq T.is_clone
+        symmetric_difference_of a.now b.now };
 
-    ghost bitxor_gives = { λ a b r. MakesClones T.eq T.is_clone symmetric_difference_of a.now b.now r };
+    ghost bitxor_gives = { λ a b r. MakesClones T.eq T.is_clone
+        symmetric_difference_of a.now b.now r };
 
     fn bitxor(self, other: &'b VecSet<T>) -> Result<VecSet<T>, AllocError> {
-        let apart = SymmetricDifference::over(&self.items, &other.items);
-        Ok(VecSet {
-            items: clones_of(*self.items.allocator(), apart)?,
-        })
+        let apart = SymmetricDifference::over(self.as_slice(), other.as_slice());
+        let items = clones_of(*self.allocator(), apart)?;
+        Ok(VecSet { items })
     }
 }
 
@@ -163,10 +162,9 @@ impl<'a, 'b, T: Eq + Clone> Sub<&'b VecSet<T>> for &'a VecSet<T> {
     ghost sub_gives = { λ a b r. MakesClones T.eq T.is_clone only a.now b.now r };
 
     fn sub(self, other: &'b VecSet<T>) -> Result<VecSet<T>, AllocError> {
-        let left = Difference::over(&self.items, &other.items);
-        Ok(VecSet {
-            items: clones_of(*self.items.allocator(), left)?,
-        })
+        let left = Difference::over(self.as_slice(), other.as_slice());
+        let items = clones_of(*self.allocator(), left)?;
+        Ok(VecSet { items })
     }
 }
 

@@ -338,7 +338,8 @@ impl VecSet<String> {
     /// ```
     pub fn remove_str(&mut self, text: &str) -> bool
         ensures found { result ≡ list_any (has_text text.now) self.old.elements }
-        ensures elements { self.new.elements ≡ without_first (has_text text.now) self.old.elements }
+        ensures elements { self.new.elements
+            ≡ without_first (has_text text.now) self.old.elements }
         ensures distinct { IsDistinct ⟦<String as PartialEq>⟧.eq self.new.elements }
         ensures capacity { self.new.capacity ≡ self.old.capacity }
     {

@@ -137,7 +137,8 @@ impl<T: Eq> VecSet<T> {
         ensures within { result ≤ length self.now.elements }
         ensures index { (p : T → Bool) → AnswersOnItems P.Fn p pred self.now.elements
             → IsPartitionedBy p self.now.elements
-            → IsPartitionPoint (λ x. p x ≡ true) (λ x. p x ≡ false) self.now.elements result }
+            → IsPartitionPoint (λ x. p x ≡ true) (λ x. p x ≡ false)
+            self.now.elements result }
     {
         partition_point(&self.items, pred)
     }

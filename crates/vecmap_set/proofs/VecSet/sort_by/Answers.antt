@@ -1,8 +1,9 @@
+use Rattle.std.proofs.Common.{rules}
 use Rattle.vecmap_base.proofs.DistinctLemmas.Order.{distinct_rearranged}
 use Rattle.vecmap_set.proofs.VecSet.sort_by.Goals as goal
 
 pub invariant_of-self : goal.invariant_of-self
-invariant_of-self g c = distinct_rearranged _ g.met.T.Eq.laws _ _ c.sort_by.ensures.permutation c.self.invariant
+invariant_of-self g c = distinct_rearranged _ g.met.T.Eq.laws c.self.inside.items.items _ (search rules) c.self.invariant
 
 pub returns-clause-distinct : goal.returns-clause-distinct
 returns-clause-distinct g c = invariant_of-self g c

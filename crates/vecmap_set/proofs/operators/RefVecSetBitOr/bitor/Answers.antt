@@ -1,5 +1,3 @@
--- The idea: the clones are those of the list that the iterator yields, and clones of its distinct elements are
--- distinct.
 use Rattle.vecmap_base.proofs.EqualityLemmas.Relations.{distinct_union}
 use Rattle.vecmap_set.specs.Lazy.{JoinsFirst, union_parts, union_rest}
 use Rattle.vecmap_set.proofs.OperatorLemmas.{operator_clones}
@@ -9,8 +7,9 @@ pub returns : goal.returns
 returns g c =
     let eq = g.T.PartialEq.eq in
     let laws = g.met.T.Eq.laws in
-    operator_clones (JoinsFirst eq) (union_rest eq) (λ s r t h. h.0) laws _ union_parts (distinct_union eq laws) _
-    c.over-all.ensures.rest c.deref.ensures.value c.deref-2.ensures.value c.self.view_is c.other.view_is c.self.invariant c.other.invariant c.requires c.in_ok-clones_of.ensures
+    operator_clones (JoinsFirst eq) (union_rest eq) (λ s r t h. h.0) laws _ union_parts (distinct_union eq laws) c.args.self.now c.args.other.now _
+    c.over-all.ensures.rest c.as_slice.ensures.elements c.as_slice-2.ensures.elements c.as_slice.ensures.distinct c.as_slice-2.ensures.distinct
+    c.requires c.in_ok-items.ensures
 
 pub invariant_of-result : goal.invariant_of-result
 invariant_of-result g c = (returns g c).1
