@@ -190,7 +190,7 @@ impl<K, V> VecMap<K, V> {
             K.eq self.old pairs next self.new)) }
     {
         let items = iter.into_iter();
-        self.reserve(likely_new(self.is_empty(), items.size_hint().0))?;
+        self.reserve(capacity_to_reserve(self.is_empty(), items.size_hint().0))?;
         for (key, value) in items {
             self.insert(key, value)?;
         }
@@ -253,7 +253,7 @@ impl<K, V> VecMap<K, V> {
             (map deref_pair items) (deref_pair next) self.new)) }
     {
         let items = iter.into_iter();
-        self.reserve(likely_new(self.is_empty(), items.size_hint().0))?;
+        self.reserve(capacity_to_reserve(self.is_empty(), items.size_hint().0))?;
         for (key, value) in items {
             self.put_clones(key, value)?;
         }
@@ -313,7 +313,7 @@ impl<K, V> VecMap<K, V> {
             self.old (map (λ p. p.now) items) next.now self.new)) }
     {
         let items = iter.into_iter();
-        self.reserve(likely_new(self.is_empty(), items.size_hint().0))?;
+        self.reserve(capacity_to_reserve(self.is_empty(), items.size_hint().0))?;
         for pair in items {
             self.put_clones(&pair.0, &pair.1)?;
         }
@@ -362,7 +362,7 @@ impl<K: Eq + Drop, V: Drop> FromIterator<(K, V)> for VecMap<K, V> {
 
 // Returns for how many new keys to reserve capacity if `hint` pairs are to come. A map that is not empty may have some
 // of the keys.
-fn likely_new(is_empty: bool, hint: usize) -> usize
+fn capacity_to_reserve(is_empty: bool, hint: usize) -> usize
     ensures amount { result ≡ (if is_empty then hint else (hint + 1) / 2) }
     ensures at_most { result ≤ hint }
 {

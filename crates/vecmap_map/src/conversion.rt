@@ -24,7 +24,8 @@ use vecmap_base::{Steps, dedup_keep_last_value};
 /// map.as_slice() // [('a', 3), ('b', 2)]
 /// ```
 impl<K: Eq + Drop, V: Drop> From<Vec<(K, V)>> for VecMap<K, V> {
-    ghost from_gives = { λ pairs map. (map.entries ≡ puts K.eq [] pairs.items) × (map.capacity ≡ vec_capacity pairs) };
+    ghost from_gives = { λ pairs map. (map.entries ≡ puts K.eq [] pairs.items)
+        × (map.capacity ≡ vec_capacity pairs) };
 
     fn from(pairs: Vec<(K, V)>) -> VecMap<K, V> {
         let (map, _count) = VecMap::from_vec_counted(pairs);

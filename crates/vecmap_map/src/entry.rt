@@ -120,6 +120,9 @@ impl<'a, K, V> Entry<'a, K, V> {
     where
         K: Drop,
         V: Drop,
+
+        // `sem 𝓛 (..)` says what a caller knows once the returned reference has ended: here, that the map has the key
+        // with the value that was last written, and is otherwise unchanged. On `Err` the whole map is unchanged.
         ensures* writes_back { sem 𝓛 (entry_lends K.row V.row self.entry result) }
         ensures value { IfOk result (λ x. x.now ≡ unwrap_or (entry_value self.entry) value) }
 

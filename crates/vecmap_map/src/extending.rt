@@ -86,7 +86,9 @@ impl<K: Eq + Drop, V: Drop> Extend<(K, V)> for VecMap<K, V> {
 /// map.as_slice() // [('a', 2), ('b', 1)]
 /// ```
 impl<'a, K: Eq + Clone + 'a, V: Clone + 'a> Extend<(&'a K, &'a V)> for VecMap<K, V> {
-    ghost extend_gives = { λ old pairs new. PutsClones K.eq K.is_clone V.is_clone old (map deref_pair pairs) new × (old.capacity ≤ new.capacity) };
+    ghost extend_gives = { λ old pairs new.
+        PutsClones K.eq K.is_clone V.is_clone old (map deref_pair pairs) new
+        × (old.capacity ≤ new.capacity) };
 
     fn extend<I: IntoIterator<Item = (&'a K, &'a V)>>(&mut self, iter: I) -> Result<(), AllocError>
         requires ends { IsFiniteIterable I.into_iter_gives I.IntoIter.can_next I.IntoIter.remaining
@@ -138,7 +140,9 @@ impl<'a, K: Eq + Clone + 'a, V: Clone + 'a> Extend<(&'a K, &'a V)> for VecMap<K,
 /// map.as_slice() // [('a', 1), ('b', 3), ('c', 4)]
 /// ```
 impl<'a, K: Eq + Clone + 'a, V: Clone + 'a> Extend<&'a (K, V)> for VecMap<K, V> {
-    ghost extend_gives = { λ old pairs new. PutsClones K.eq K.is_clone V.is_clone old (map (λ p. p.now) pairs) new × (old.capacity ≤ new.capacity) };
+    ghost extend_gives = { λ old pairs new.
+        PutsClones K.eq K.is_clone V.is_clone old (map (λ p. p.now) pairs) new
+        × (old.capacity ≤ new.capacity) };
 
     fn extend<I: IntoIterator<Item = &'a (K, V)>>(&mut self, iter: I) -> Result<(), AllocError>
         requires ends { IsFiniteIterable I.into_iter_gives I.IntoIter.can_next I.IntoIter.remaining

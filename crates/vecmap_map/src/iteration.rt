@@ -176,7 +176,9 @@ impl<'a, K, V> IntoIterator for &'a VecMap<K, V> {
 
     type IntoIter = Iter<'a, K, V>;
 
-    ghost into_iter_gives = { λ map iter. ShowsAll deref_pair map.now.entries iter × ShowsValuesInOrder (deref_pair {K = K} {X = V}) × ShowsValuesInReverse (deref_pair {K = K} {X = V}) };
+    ghost into_iter_gives = { λ map iter. ShowsAll deref_pair map.now.entries iter
+        × ShowsValuesInOrder (deref_pair {K = K} {X = V})
+        × ShowsValuesInReverse (deref_pair {K = K} {X = V}) };
 
     fn into_iter(self) -> Iter<'a, K, V> {
         self.iter()
@@ -222,7 +224,9 @@ impl<K: Drop, V: Drop> IntoIterator for VecMap<K, V> {
 
     type IntoIter = IntoIter<K, V>;
 
-    ghost into_iter_gives = { λ map iter. GivesAll map.entries iter × ShowsValuesInOrder (λ (p : K × V). p) × ShowsValuesInReverse (λ (p : K × V). p) };
+    ghost into_iter_gives = { λ map iter. GivesAll map.entries iter
+        × ShowsValuesInOrder (λ (p : K × V). p)
+        × ShowsValuesInReverse (λ (p : K × V). p) };
 
     fn into_iter(self) -> IntoIter<K, V> {
         IntoIter::over(self.into_vec())

@@ -31,6 +31,9 @@ impl<K, V> VecMap<K, V> {
     pub fn get_mut<Q: Equivalent<K>>(&mut self, query: Q) -> Option<&mut V>
     where
         K: Eq,
+
+        // `sem 𝓛 (..)` says what a caller knows once the returned reference has ended: here, that the value of the
+        // found pair is what was last written, and that nothing else has changed. At `None` the map is unchanged.
         ensures* writes_back { sem 𝓛 (lends_value_if_by K.row V.row self.entry
             (Q.equivalent query) result) }
         ensures value { option_copied_mut result ≡ lookup_by (Q.equivalent query) self.old.entries }

@@ -177,6 +177,9 @@ impl<K, V> MutableKeys for VecMap<K, V> {
     fn get_full_mut2<Q: Equivalent<K>>(&mut self, query: Q) -> Option<(usize, &mut K, &mut V)>
     where
         K: Eq,
+
+        // `sem 𝓛 (..)` says what a caller knows once both references have ended: here, that the found pair is what was
+        // last written, and that nothing else has changed. At `None` the map is unchanged.
         ensures* writes_back { sem 𝓛 (lends_both_beside_index K.row V.row self.entry
             (Q.equivalent query) result) }
         ensures index { option_map (λ found. found.0) result

@@ -11,7 +11,9 @@ loop-pair-preserved g c =
     let one = c.in_ok-put_clones.ensures.entries in record {
       can = c.in-Some.ensures.goes.keeps;
       finite = (c.in-Some.ensures.goes.on c.loop-pair.invariant.finite).1;
-      puts = lent_clone_taken (IsPairClone g.K.Clone.is_clone g.V.Clone.is_clone) (λ done r. put g.K.PartialEq.eq done r.0 r.1) (λ p. p.now) c.args.self.now.entries c.loop-pair.yielded c.loop-pair.self.entries c.put_clones.new.self.entries c.in-Some.pair (one.0, one.1) c.loop-pair.invariant.puts (one.2, one.3) one.4;
+      puts = lent_clone_taken (IsPairClone g.K.Clone.is_clone g.V.Clone.is_clone) (λ done r. put g.K.PartialEq.eq done r.0 r.1) (λ p. p.now)
+          c.args.self.now.entries c.loop-pair.yielded c.loop-pair.self.entries c.put_clones.new.self.entries c.in-Some.pair
+          (one.0, one.1) c.loop-pair.invariant.puts (one.2, one.3) one.4;
       capacity = search rules;
       room = grind (arith, common_steps);
       stays = grind (arith, common_steps);

@@ -26,7 +26,8 @@ use Rattle.vecmap_map.proofs.VecMap.get_full_mut.Code as code
 pub get_full_mut_spec : {M : Type 1} → statement M
 get_full_mut_spec 𝓤 𝓛 𝓜 𝓡 wired KT VT QT KL VL QL CQ E E-dict C C-dict O O-dict P P-dict E-met C-met O-met P-met =
     let H = 𝓛.H in let 𝓣 = tables 𝓤 H 𝓜 𝓡 𝓡.env in let K : RattleType = param 0 KT in let V : RattleType = param 1 VT in let Q : RattleType = copied 2 QT in let En = ended KT VT QT E E-dict C C-dict O O-dict P P-dict in
-    let inst = bounded (a_type ∷ a_type ∷ a_type ∷ []) (KT, (VT, (QT, tt))) (dcons E-dict (dcons C-dict (dcons O-dict (dcons P-dict dnil)))) in let fn = inst_fn inst code.function in let Row : RattleType = the_row K V in let c = clauses KT VT QT E E-dict C C-dict O O-dict P P-dict 𝓛 𝓜.mem 𝓡.returns in
+    let inst = bounded (a_type ∷ a_type ∷ a_type ∷ []) (KT, (VT, (QT, tt))) (dcons E-dict (dcons C-dict (dcons O-dict (dcons P-dict dnil)))) in let fn = inst_fn inst code.function in
+    let Row : RattleType = the_row K V in let c = clauses KT VT QT E E-dict C C-dict O O-dict P P-dict 𝓛 𝓜.mem 𝓡.returns in
     let self = RefMutOf (0 ∷ []) tt (plain (λ _. Row)) (λ _. tt) in let sought = plain (λ _. Q) in
     let hs : Stays En.signature.params En.kept = (stay_dropped self no, (stay_dropped sought no, tt)) in
     proved 𝓛 En hs c 𝓜 𝓡 (Goes-dropped 𝓛 4 self no (λ κs x f. refl), (Goes-dropped 𝓛 4 sought no (λ κs x f. refl), tt)) (#self inst) fn (code.unfolded 𝓤 H 𝓜 𝓡 wired (KT, (VT, (QT, tt))) E-dict C-dict O-dict P-dict)
@@ -50,7 +51,9 @@ get_full_mut_spec 𝓤 𝓛 𝓜 𝓡 wired KT VT QT KL VL QL CQ E E-dict C C-di
     sets ! (addr ! (through ! refl (stop !))) refl (tt, tt) $
     use1 𝓛 (raw (kA.pre yA)) (beside 𝓤 𝓛 (on_entry 𝓛 S κs qs a vs) _ F G inK inV (qed 𝓛 (raw (emp 𝓤) ∷ []) ∵ use0 𝓛 (raw (fact 𝓤 J)) (fact_i 𝓤 J (emp 𝓤) inQ) $ join ! $ done !)) $
     calls_at ! (framed 𝓤 H 𝓜 𝓣) kA (A-thm.met 𝓤 𝓛 𝓜 𝓡 (code.calls-vecmap_map::VecMap::with_index_by 𝓡.env wired) KT VT QT KL VL QL CQ E E-dict C C-dict O O-dict P P-dict E-met C-met O-met P-met) yA (and_then ! (get ! refl) (and_then ! (get ! refl) (no_more !))) (λ v.
-    use1 𝓛 (later (some (λ (x : Both.Denot). (raw toks ⊛ ‵ (Both.own_val x (v ∷ []))) ⊛ some (λ (ls : Lasts (A.ended KT VT QT E E-dict C C-dict O O-dict P P-dict) κs a). ‵ (lasts (A.ended KT VT QT E E-dict C C-dict O O-dict P P-dict) κs a ls) ⊛ (raw (fact 𝓤 (x.0 ≡ found)) ⊛ (raw (fact 𝓤 (IfSome x.0 (λ i. i < length m.now.entries))) ⊛ (raw (fact 𝓤 (x.1.ghost_name ≡ m.ghost_name)) ⊛ raw (fact 𝓤 (x.1.now ≡ m.now)))))))))
+    use1 𝓛 (later (some (λ (x : Both.Denot). (raw toks ⊛ ‵ (Both.own_val x (v ∷ [])))
+    ⊛ some (λ (ls : Lasts (A.ended KT VT QT E E-dict C C-dict O O-dict P P-dict) κs a). ‵ (lasts (A.ended KT VT QT E E-dict C C-dict O O-dict P P-dict) κs a ls)
+    ⊛ (raw (fact 𝓤 (x.0 ≡ found)) ⊛ (raw (fact 𝓤 (IfSome x.0 (λ i. i < length m.now.entries))) ⊛ (raw (fact 𝓤 (x.1.ghost_name ≡ m.ghost_name)) ⊛ raw (fact 𝓤 (x.1.now ≡ m.now)))))))))
     (id⊢ 𝓤 (kA.post yA v)) $
     await ! tt $ pick ! (λ x. split ! $ move ! (1 ∷ []) $ pick ! (λ _. split ! $ drop ! $ split ! $ heard ! _ (λ place. split ! $ heard ! _ (λ within. split ! $ heard ! _ (λ name. heard ! _ (λ same. split ! $ move ! (1 ∷ []) $
     -- [the index and the map; the tokens]
@@ -72,7 +75,9 @@ get_full_mut_spec 𝓤 𝓛 𝓜 𝓡 wired KT VT QT KL VL QL CQ E E-dict C C-di
     nothing ! $ move ! (1 ∷ 0 ∷ []) $ join ! $ move ! (3 ∷ 0 ∷ []) $ join ! $ move ! (2 ∷ 0 ∷ []) $ join ! $ move ! (0 ∷ 2 ∷ []) $ join ! $
     use1 𝓛 (raw (kB.pre yB)) (beside 𝓤 𝓛 (on_entry 𝓛 (B.signature KT VT) κs' qs' (map, (i, tt)) (mut_vals map, (uint_vals w64 i, tt))) _ F G inK inV (fact_i 𝓤 (i < length m.now.entries) (emp 𝓤) here)) $
     calls_at ! (framed 𝓤 H 𝓜 𝓣) kB (B-thm.met 𝓤 𝓛 𝓜 𝓡 (code.calls-vecmap_map::VecMap::full_mut 𝓡.env wired) KT VT KL VL) yB (and_then ! (get ! refl) (and_then ! (get ! refl) (no_more !))) (λ u.
-    use1 𝓛 (later (some (λ (r : Parts.Denot). ((‵ (flft κs.0 qs.0) ⊛ ‵ (flft κs.1.0 qs.1.0) ⊛ ‵ (flft κs.1.1.0 qs.1.1.0) ⊛ ‵ ftrue) ⊛ ‵ (Parts.own_val r (u ∷ []))) ⊛ some (λ (ls : Lasts (B.ended KT VT) κs' (map, (i, tt))). ‵ (lasts (B.ended KT VT) κs' (map, (i, tt)) ls) ⊛ (‵ (lends_value_at K V m i r.2) ⊛ (raw (fact 𝓤 (r.0 ≡ i)) ⊛ raw (fact 𝓤 (slice_get m.now.entries i ≡ Some (r.1.now, r.2.now)))))))))
+    use1 𝓛 (later (some (λ (r : Parts.Denot). ((‵ (flft κs.0 qs.0) ⊛ ‵ (flft κs.1.0 qs.1.0) ⊛ ‵ (flft κs.1.1.0 qs.1.1.0) ⊛ ‵ ftrue) ⊛ ‵ (Parts.own_val r (u ∷ [])))
+    ⊛ some (λ (ls : Lasts (B.ended KT VT) κs' (map, (i, tt))). ‵ (lasts (B.ended KT VT) κs' (map, (i, tt)) ls)
+    ⊛ (‵ (lends_value_at K V m i r.2) ⊛ (raw (fact 𝓤 (r.0 ≡ i)) ⊛ raw (fact 𝓤 (slice_get m.now.entries i ≡ Some (r.1.now, r.2.now)))))))))
     (id⊢ 𝓤 (kB.post yB u)) $
     await ! tt $ pick ! (λ r. split ! $ move ! (1 ∷ []) $ pick ! (λ _. split ! $ drop ! $ split ! $ move ! (1 ∷ []) $ split ! $ heard ! _ (λ same_index. heard ! _ (λ shown.
     use1 𝓛 (‵ (lends_beside_index K V m test (Some r))) (index_then 𝓛 K V m test i r at) $

@@ -44,7 +44,9 @@ get_index_mut_spec 𝓤 𝓛 𝓜 𝓡 wired KT VT KL VL =
     sets ! (addr ! (through ! refl (stop !))) refl (tt, tt) $
     use1 𝓛 (raw (kA.pre yA)) (beside_facts 𝓤 𝓛 (on_entry 𝓛 S κs qs a vs) F G inK inV) $
     calls_at ! (framed 𝓤 H 𝓜 𝓣) kA (A-thm.met 𝓤 𝓛 𝓜 𝓡 (code.calls-vecmap_map::VecMap::pair_at_mut 𝓡.env wired) KT VT KL VL) yA (and_then ! (get ! refl) (and_then ! (get ! refl) (no_more !))) (λ v.
-    use1 𝓛 (later (some (λ (x : OptP.Denot). (raw toks ⊛ ‵ (OptP.own_val x (v ∷ []))) ⊛ some (λ (ls : Lasts (A.ended KT VT) κs a). ‵ (lasts (A.ended KT VT) κs a ls) ⊛ (‵ (lends_pair_if_at K V m i x) ⊛ (raw (fact 𝓤 (option_copied_mut x ≡ slice_get m.now.entries i)) ⊛ raw (fact 𝓤 (IsSome x ↔ i < length m.now.entries))))))))
+    use1 𝓛 (later (some (λ (x : OptP.Denot). (raw toks ⊛ ‵ (OptP.own_val x (v ∷ [])))
+    ⊛ some (λ (ls : Lasts (A.ended KT VT) κs a). ‵ (lasts (A.ended KT VT) κs a ls)
+    ⊛ (‵ (lends_pair_if_at K V m i x) ⊛ (raw (fact 𝓤 (option_copied_mut x ≡ slice_get m.now.entries i)) ⊛ raw (fact 𝓤 (IsSome x ↔ i < length m.now.entries))))))))
     (id⊢ 𝓤 (kA.post yA v)) $
     await ! tt $ pick ! (λ x. split ! $ move ! (1 ∷ []) $ pick ! (λ _. split ! $ drop ! $ split ! $ move ! (1 ∷ []) $ split ! $ heard ! _ (λ there. heard ! _ (λ found. move ! (1 ∷ []) $ split ! $ move ! (1 ∷ 2 ∷ []) $
     -- [the pair's reference, if any; what the map then is; the tokens]

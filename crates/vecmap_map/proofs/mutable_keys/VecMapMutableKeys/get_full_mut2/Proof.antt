@@ -30,7 +30,8 @@ use Rattle.vecmap_map.proofs.mutable_keys.VecMapMutableKeys.get_full_mut2.Code a
 pub get_full_mut2_spec : {M : Type 1} → statement M
 get_full_mut2_spec 𝓤 𝓛 𝓜 𝓡 wired KT VT QT KL VL QL CQ E E-dict C C-dict O O-dict P P-dict E-met C-met O-met P-met =
     let H = 𝓛.H in let 𝓣 = tables 𝓤 H 𝓜 𝓡 𝓡.env in let K : RattleType = param 0 KT in let V : RattleType = param 1 VT in let Q : RattleType = copied 2 QT in let En = ended KT VT QT E E-dict C C-dict O O-dict P P-dict in
-    let inst = bounded (a_type ∷ a_type ∷ a_type ∷ []) (KT, (VT, (QT, tt))) (dcons E-dict (dcons C-dict (dcons O-dict (dcons P-dict dnil)))) in let fn = inst_fn inst code.function in let Row : RattleType = the_row K V in let c = clauses KT VT QT E E-dict C C-dict O O-dict P P-dict 𝓛 𝓜.mem 𝓡.returns in
+    let inst = bounded (a_type ∷ a_type ∷ a_type ∷ []) (KT, (VT, (QT, tt))) (dcons E-dict (dcons C-dict (dcons O-dict (dcons P-dict dnil)))) in let fn = inst_fn inst code.function in
+    let Row : RattleType = the_row K V in let c = clauses KT VT QT E E-dict C C-dict O O-dict P P-dict 𝓛 𝓜.mem 𝓡.returns in
     let self = RefMutOf (0 ∷ []) tt (plain (λ _. Row)) (λ _. tt) in let sought = plain (λ _. Q) in
     let hs : Stays En.signature.params En.kept = (stay_dropped self no, (stay_dropped sought no, tt)) in
     proved 𝓛 En hs c 𝓜 𝓡 (Goes-dropped 𝓛 4 self no (λ κs x f. refl), (Goes-dropped 𝓛 4 sought no (λ κs x f. refl), tt)) (#self inst) fn (code.unfolded 𝓤 H 𝓜 𝓡 wired (KT, (VT, (QT, tt))) E-dict C-dict O-dict P-dict)
@@ -44,7 +45,8 @@ get_full_mut2_spec 𝓤 𝓛 𝓜 𝓡 wired KT VT QT KL VL QL CQ E E-dict C C-d
     let kB = triple_of 𝓛 (B.signature KT VT) (B.spec KT VT 𝓛 𝓜.mem 𝓡.returns) in let kD = triple_of 𝓛 (D.signature KT VT) (D.spec KT VT 𝓛 𝓜.mem 𝓡.returns) in
     let yA : kA.Ghost = ((κs, qs, bounds, a, vs), tt) in let toks : SProp 𝓤 = alive 𝓛 S κs qs in
     let rest : SProp 𝓤 = sep 𝓤 (sem 𝓛 (flft κs.1.1.1.0 qs.1.1.1.0)) (emp 𝓤) in
-    let Found : RattleType = type_at (A.signature KT VT QT).result κs in let Whole : RattleType = MutRef (named 0) κs.0 (Tuple (K ∷ V ∷ [])) in let Both : RattleType = Tuple (MutRef (named 0) κs.0 K ∷ MutRef (named 0) κs.0 V ∷ []) in let Parts : RattleType = Tuple (usize ∷ MutRef (named 0) κs.0 K ∷ MutRef (named 0) κs.0 V ∷ []) in
+    let Found : RattleType = type_at (A.signature KT VT QT).result κs in let Whole : RattleType = MutRef (named 0) κs.0 (Tuple (K ∷ V ∷ [])) in
+    let Both : RattleType = Tuple (MutRef (named 0) κs.0 K ∷ MutRef (named 0) κs.0 V ∷ []) in let Parts : RattleType = Tuple (usize ∷ MutRef (named 0) κs.0 K ∷ MutRef (named 0) κs.0 V ∷ []) in
     let Place : Option (ℕ × MutBor K.Denot × MutBor V.Denot) → Type 0 = λ x. option_map (λ u. u.0) x ≡ found in
     let Within : Option (ℕ × MutBor K.Denot × MutBor V.Denot) → Type 0 = λ x. IfSome x (λ u. u.0 < length m.now.entries) in
     let Shown : Option (ℕ × MutBor K.Denot × MutBor V.Denot) → Type 0 = λ x. option_map (λ u. (u.1.now, u.2.now)) x ≡ lookup_pair_by test m.now.entries in
@@ -54,7 +56,9 @@ get_full_mut2_spec 𝓤 𝓛 𝓜 𝓡 wired KT VT QT KL VL QL CQ E E-dict C C-d
     sets ! (addr ! (through ! refl (stop !))) refl (tt, tt) $
     use1 𝓛 (raw (kA.pre yA)) (beside 𝓤 𝓛 (on_entry 𝓛 S κs qs a vs) _ F G inK inV (qed 𝓛 (raw (emp 𝓤) ∷ []) ∵ use0 𝓛 (raw (fact 𝓤 J)) (fact_i 𝓤 J (emp 𝓤) inQ) $ join ! $ done !)) $
     calls_at ! (framed 𝓤 H 𝓜 𝓣) kA (A-thm.met 𝓤 𝓛 𝓜 𝓡 (code.calls-vecmap_map::VecMap::with_index_by 𝓡.env wired) KT VT QT KL VL QL CQ E E-dict C C-dict O O-dict P P-dict E-met C-met O-met P-met) yA (and_then ! (get ! refl) (and_then ! (get ! refl) (no_more !))) (λ v.
-    use1 𝓛 (later (some (λ (x : Found.Denot). (raw toks ⊛ ‵ (Found.own_val x (v ∷ []))) ⊛ some (λ (ls : Lasts (A.ended KT VT QT E E-dict C C-dict O O-dict P P-dict) κs a). ‵ (lasts (A.ended KT VT QT E E-dict C C-dict O O-dict P P-dict) κs a ls) ⊛ (raw (fact 𝓤 (x.0 ≡ found)) ⊛ (raw (fact 𝓤 (IfSome x.0 (λ i. i < length m.now.entries))) ⊛ (raw (fact 𝓤 (x.1.ghost_name ≡ m.ghost_name)) ⊛ raw (fact 𝓤 (x.1.now ≡ m.now)))))))))
+    use1 𝓛 (later (some (λ (x : Found.Denot). (raw toks ⊛ ‵ (Found.own_val x (v ∷ [])))
+    ⊛ some (λ (ls : Lasts (A.ended KT VT QT E E-dict C C-dict O O-dict P P-dict) κs a). ‵ (lasts (A.ended KT VT QT E E-dict C C-dict O O-dict P P-dict) κs a ls)
+    ⊛ (raw (fact 𝓤 (x.0 ≡ found)) ⊛ (raw (fact 𝓤 (IfSome x.0 (λ i. i < length m.now.entries))) ⊛ (raw (fact 𝓤 (x.1.ghost_name ≡ m.ghost_name)) ⊛ raw (fact 𝓤 (x.1.now ≡ m.now)))))))))
     (id⊢ 𝓤 (kA.post yA v)) $
     await ! tt $ pick ! (λ x. split ! $ move ! (1 ∷ []) $ pick ! (λ _. split ! $ drop ! $ split ! $ heard ! _ (λ place. split ! $ heard ! _ (λ within. split ! $ heard ! _ (λ name. heard ! _ (λ same. split ! $ move ! (1 ∷ []) $
     -- [the index and the map; the tokens]
@@ -76,7 +80,9 @@ get_full_mut2_spec 𝓤 𝓛 𝓜 𝓡 wired KT VT QT KL VL QL CQ E E-dict C C-d
     nothing ! $ move ! (1 ∷ 0 ∷ []) $ join ! $ move ! (3 ∷ 0 ∷ []) $ join ! $ move ! (2 ∷ 0 ∷ []) $ join ! $ move ! (0 ∷ 2 ∷ []) $ join ! $
     use1 𝓛 (raw (kB.pre yB)) (beside 𝓤 𝓛 (on_entry 𝓛 (B.signature KT VT) κs' qs' (map, (i, tt)) (mut_vals map, (uint_vals w64 i, tt))) _ F G inK inV (fact_i 𝓤 (i < length m.now.entries) (emp 𝓤) here)) $
     calls_at ! (framed 𝓤 H 𝓜 𝓣) kB (B-thm.met 𝓤 𝓛 𝓜 𝓡 (code.calls-vecmap_map::VecMap::pair_mut 𝓡.env wired) KT VT KL VL) yB (and_then ! (get ! refl) (and_then ! (get ! refl) (no_more !))) (λ u.
-    use1 𝓛 (later (some (λ (pair : Whole.Denot). ((‵ (flft κs.0 qs.0) ⊛ ‵ (flft κs.1.0 qs.1.0) ⊛ ‵ (flft κs.1.1.0 qs.1.1.0) ⊛ ‵ ftrue) ⊛ ‵ (Whole.own_val pair (u ∷ []))) ⊛ some (λ (ls : Lasts (B.ended KT VT) κs' (map, (i, tt))). ‵ (lasts (B.ended KT VT) κs' (map, (i, tt)) ls) ⊛ (‵ (lends_pair_at K V m i pair) ⊛ raw (fact 𝓤 (slice_get m.now.entries i ≡ Some pair.now)))))))
+    use1 𝓛 (later (some (λ (pair : Whole.Denot). ((‵ (flft κs.0 qs.0) ⊛ ‵ (flft κs.1.0 qs.1.0) ⊛ ‵ (flft κs.1.1.0 qs.1.1.0) ⊛ ‵ ftrue) ⊛ ‵ (Whole.own_val pair (u ∷ [])))
+    ⊛ some (λ (ls : Lasts (B.ended KT VT) κs' (map, (i, tt))). ‵ (lasts (B.ended KT VT) κs' (map, (i, tt)) ls)
+    ⊛ (‵ (lends_pair_at K V m i pair) ⊛ raw (fact 𝓤 (slice_get m.now.entries i ≡ Some pair.now)))))))
     (id⊢ 𝓤 (kB.post yB u)) $
     await ! tt $ pick ! (λ pair. split ! $ move ! (1 ∷ []) $ pick ! (λ _. split ! $ drop ! $ split ! $ move ! (1 ∷ []) $ heard ! _ (λ shown. move ! (1 ∷ []) $ split ! $ move ! (1 ∷ []) $ fsplit3 ! $ feq_l ! (λ e'.
     let yD : kD.Ghost = ((κs', qs', (bounds.0, (bounds.1.0, tt)), (pair, tt), (mut_vals pair, tt)), tt) in
@@ -84,7 +90,9 @@ get_full_mut2_spec 𝓤 𝓛 𝓜 𝓡 wired KT VT QT KL VL QL CQ E E-dict C C-d
     nothing ! $ move ! (1 ∷ 0 ∷ []) $ join ! $ move ! (1 ∷ 0 ∷ []) $ join ! $
     use1 𝓛 (raw (kD.pre yD)) (beside_facts 𝓤 𝓛 (on_entry 𝓛 (D.signature KT VT) κs' qs' (pair, tt) (mut_vals pair, tt)) F G inK inV) $
     calls_at ! (framed 𝓤 H 𝓜 𝓣) kD (D-thm.met 𝓤 𝓛 𝓜 𝓡 (code.calls-vecmap_map::mutable_keys::parts_mut 𝓡.env wired) KT VT KL VL) yD (and_then ! (get ! refl) (no_more !)) (λ t.
-    use1 𝓛 (later (some (λ (r : Both.Denot). ((‵ (flft κs.0 qs.0) ⊛ ‵ (flft κs.1.0 qs.1.0) ⊛ ‵ (flft κs.1.1.0 qs.1.1.0) ⊛ ‵ ftrue) ⊛ ‵ (Both.own_val r (t ∷ []))) ⊛ some (λ (ls : Lasts (D.ended KT VT) κs' (pair, tt)). ‵ (lasts (D.ended KT VT) κs' (pair, tt) ls) ⊛ (‵ (lends_parts K V pair r) ⊛ raw (fact 𝓤 (pair.now ≡ (r.0.now, r.1.now))))))))
+    use1 𝓛 (later (some (λ (r : Both.Denot). ((‵ (flft κs.0 qs.0) ⊛ ‵ (flft κs.1.0 qs.1.0) ⊛ ‵ (flft κs.1.1.0 qs.1.1.0) ⊛ ‵ ftrue) ⊛ ‵ (Both.own_val r (t ∷ [])))
+    ⊛ some (λ (ls : Lasts (D.ended KT VT) κs' (pair, tt)). ‵ (lasts (D.ended KT VT) κs' (pair, tt) ls)
+    ⊛ (‵ (lends_parts K V pair r) ⊛ raw (fact 𝓤 (pair.now ≡ (r.0.now, r.1.now))))))))
     (id⊢ 𝓤 (kD.post yD t)) $
     await ! tt $ pick ! (λ r. split ! $ move ! (1 ∷ []) $ pick ! (λ _. split ! $ drop ! $ split ! $ move ! (1 ∷ []) $ heard ! _ (λ parts.
     move ! (2 ∷ 0 ∷ []) $ use2 𝓛 (‵ (lends_both_beside_index K V m test (Some (i, r.0, r.1)))) (both_index_then 𝓛 K V m test i pair r at) $
