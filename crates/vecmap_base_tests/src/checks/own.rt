@@ -1,1 +1,0 @@
-//! This crate needs no assertions beyond those of `checks`.

@@ -1,7 +1,0 @@
-//! Tests of functions over lists. `checks` has the functions by which they assert.
-#![tactic(auto)]
-
-#[cfg(test)]
-mod checks;
-#[cfg(test)]
-mod tests;

@@ -1,0 +1,108 @@
+//! Runs of commands, as in `run Insert 1a:1; Get 1 -> Value(None); Value(Some(1))`.
+use crate::item::Item;
+use crate::out::{Out, Outcome, again};
+use crate::row::first_word;
+use crate::stage::{Map, Set};
+use std::alloc::AllocError;
+use std::fmt::{Debug, Write};
+use vecmap::{MapCommand, SetCommand, VecMap, VecSet, run, run_set};
+
+/// Runs the commands on a map.
+pub fn on_map(map: &mut Map, out: &mut Out<'_>, words: &str) -> Option<Outcome> {
+    let mut commands = again!(Vec::with_capacity(out.alloc, words.split(';').count()));
+    for words in words.split(';') {
+        commands.push(map_command(out, words)?).ok()?;
+    }
+    out.begin();
+    let replies = run(out.alloc, map, commands);
+    Some(show_replies(out, replies))
+}
+
+/// Runs the commands on a set.
+pub fn on_set(set: &mut Set, out: &mut Out<'_>, words: &str) -> Option<Outcome> {
+    let mut commands = again!(Vec::with_capacity(out.alloc, words.split(';').count()));
+    for words in words.split(';') {
+        commands.push(set_command(out, words)?).ok()?;
+    }
+    out.begin();
+    let replies = run_set(out.alloc, set, commands);
+    Some(show_replies(out, replies))
+}
+
+fn show_replies<R: Debug + Drop>(
+    out: &mut Out<'_>,
+    replies: Result<Vec<R>, AllocError>,
+) -> Outcome {
+    out.log.end();
+    match replies {
+        Ok(replies) => {
+            let mut separator = "";
+            for reply in replies {
+                let _ = write!(out.answer, "{separator}{reply:?}");
+                separator = "; ";
+            }
+            Outcome::Granted
+        }
+        Err(error) => out.refuse(error),
+    }
+}
+
+// Returns the command, if it has the name of one of these variants.
+macro_rules! return_command {
+    ($name:ident, $Command:ident { $($Variant:ident)+ }) => {
+        $(if $name == stringify!($Variant) {
+            return Some($Command::$Variant);
+        })+
+    };
+    ($name:ident, $Command:ident { $($Variant:ident)+ } $args:tt) => {
+        $(if $name == stringify!($Variant) {
+            return Some($Command::$Variant $args);
+        })+
+    };
+}
+
+// Reads a command, as `Insert 1a:1`, `GetIndex 0` or `Append 1a:1 2b:2`.
+fn map_command(out: &mut Out<'_>, words: &str) -> Option<MapCommand<Item, Item>> {
+    let (name, args) = first_word(words);
+    return_command!(name, MapCommand { First Last Len Pop Clear Reverse ToVec });
+    if name == "Append" || name == "Equals" {
+        let other = VecMap::from(out.pairs(args)?);
+        return_command!(name, MapCommand { Append Equals } (other));
+    }
+    if let Ok(index) = args.parse() {
+        return_command!(name, MapCommand { GetIndex RemoveIndex SwapRemoveIndex Truncate SplitOff } (index));
+    }
+    if let Some(key) = Item::read(out.log, args) {
+        return_command!(name, MapCommand { Get IndexOf ContainsKey Remove RemoveEntry SwapRemove SwapRemoveEntry } (key));
+    }
+    if let Some((key, value)) = out.pair(args) {
+        return_command!(name, MapCommand { Insert InsertFull InsertKey OrInsert } (key, value));
+    }
+    let (index, rest) = first_word(args);
+    let index = index.parse().ok()?;
+    if let Some((key, value)) = out.pair(rest) {
+        return_command!(name, MapCommand { InsertAt }(index, key, value));
+    }
+    let other = rest.parse().ok()?;
+    return_command!(name, MapCommand { SwapIndices }(index, other));
+    None
+}
+
+// Reads a command, as `Insert 1a`, `GetIndex 0` or `Append 1a 2b`.
+fn set_command(out: &mut Out<'_>, words: &str) -> Option<SetCommand<Item>> {
+    let (name, args) = first_word(words);
+    return_command!(name, SetCommand { First Last Len Pop Clear Reverse ToVec });
+    if let Ok(index) = args.parse() {
+        return_command!(name, SetCommand { GetIndex RemoveIndex SwapRemoveIndex Truncate SplitOff } (index));
+    }
+    if let Some(item) = Item::read(out.log, args) {
+        return_command!(name, SetCommand { Insert Replace Get IndexOf Contains Remove Take SwapRemove SwapTake } (item));
+    }
+    if name == "SwapIndices" {
+        let (index, other) = first_word(args);
+        return Some(SetCommand::SwapIndices(index.parse().ok()?, other.parse().ok()?));
+    }
+    let other = VecSet::from(out.items(args)?);
+    return_command!(name, SetCommand { Append Equals IsSubset IsSuperset IsDisjoint Intersect Unite Exclusive Subtract } (other));
+    None
+}

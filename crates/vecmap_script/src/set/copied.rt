@@ -1,0 +1,73 @@
+//! Calls that copy elements. They are made of a set of elements that can be copied, which has the script's elements and
+//! its capacity before the call, and gives both back after it.
+ghost use Rattle.std.specs.Prelude.{nat_eq};
+ghost use Rattle.std.specs.Cmp.{nat_eq_equiv, partial_equiv_from_equiv};
+
+use crate::item::Item;
+use crate::out::{Out, Outcome, again};
+use crate::pulls::Lent;
+use crate::stage::Set;
+use std::alloc::AllocError;
+use vecmap::VecSet;
+
+/// An element without a log.
+#[derive(Clone, Copy)]
+struct Plain {
+    number: u32,
+    mark: Option<char>,
+}
+
+impl PartialEq for Plain {
+    ghost eq = { λ a b. nat_eq a.number b.number };
+
+    ghost laws = { partial_equiv_from_equiv (record { refl = λ a. nat_eq_equiv.refl a.number; symm = λ a b. nat_eq_equiv.symm a.number b.number; congr = λ a b c. nat_eq_equiv.congr a.number b.number c.number }) };
+
+    fn eq(&self, other: &Plain) -> bool {
+        self.number == other.number
+    }
+}
+
+impl Eq for Plain {
+    ghost laws = { record { refl = λ a. nat_eq_equiv.refl a.number; symm = λ a b. nat_eq_equiv.symm a.number b.number; congr = λ a b c. nat_eq_equiv.congr a.number b.number c.number } };
+}
+
+/// `extend_copied`, also by the trait: `Extend_copied`. Their iterator has this lower size hint, or else the number of
+/// items.
+pub fn extend(
+    set: &mut Set,
+    out: &mut Out<'_>,
+    name: &str,
+    items: &[Item],
+    hint: Option<usize>,
+) -> Option<Outcome> {
+    let items = again!(plain_items(out, items));
+    let mut plain = VecSet::from(again!(plain_items(out, set.as_slice())));
+    again!(plain.reserve_exact(set.capacity().saturating_sub(set.len())));
+    let lent = Lent {
+        items: &items,
+        hint: hint.unwrap_or(items.len()),
+        log: out.log,
+    };
+    let extended = match name {
+        "extend_copied" => plain.extend_copied(lent),
+        _ => Extend::extend(&mut plain, lent),
+    };
+    *set = again!(VecSet::with_capacity(out.alloc, plain.capacity()));
+    for item in &plain {
+        set.insert(Item::logged(out.log, item.number, item.mark)?)
+            .ok()?;
+    }
+    Some(out.settle(extended))
+}
+
+// Returns copies without spare capacity.
+fn plain_items(out: &Out<'_>, items: &[Item]) -> Result<Vec<Plain>, AllocError> {
+    let mut copies = Vec::with_capacity(out.alloc, items.len())?;
+    for item in items {
+        copies.push(Plain {
+            number: item.number(),
+            mark: item.mark(),
+        })?;
+    }
+    Ok(copies)
+}
