@@ -15,6 +15,7 @@ use Rattle.vecmap_map.specs.Contents.{Contents, HasRoom, IsFull, KeepsRoom}
 
 module _ {K V : Type 0} (values : clone.Ghosts V) where
   -- The reply is a clone of the value, if there is one. It is `NoMemory` only if the clone can fail.
+  -- Example: of no value: `Value` none, and never `NoMemory`.
   abbrev pub ClonesValue : Option V → MapReply K V → Type 0
   ClonesValue value (Value copy) = IsCloneOf values.is_clone value copy
   ClonesValue value NoMemory = IsSomeAnd value (λ v. ¬ (values.is_infallible v))
@@ -36,6 +37,7 @@ module _ {K V : Type 0} (keys : clone.Ghosts K) (values : clone.Ghosts V) where
 module _ {K V : Type 0} (eq : K → K → Bool) (eq_value : V → V → Bool) (keys : clone.Ghosts K) (values : clone.Ghosts V) where
   -- One command with this reply takes the list l to the list m. A command that reads, is out of range or is refused
   -- leaves the list.
+  -- Example: `Insert 1 30` on `[(1,10)]`: `Value 10`, and `[(1,30)]`.
   abbrev pub ListStep : List (K × V) → MapCommand K V → MapReply K V → List (K × V) → Type 0
   ListStep l (Insert k v) (Value old) m = (old ≡ lookup eq l k) × (m ≡ put eq l k v)
   ListStep l (Insert k v) NoMemory m = (index_of eq l k ≡ None) × (m ≡ l)
@@ -100,12 +102,14 @@ module _ {K V : Type 0} (eq : K → K → Bool) (eq_value : V → V → Bool) (k
   ListStep l (Equals other) _ m = ⊥
 
   -- The capacity after a pair is inserted: only a new key in a full map needs memory.
+  -- Example: of an existing key: the same capacity.
   abbrev pub PutsInRoom : K → Contents K V → MapReply K V → Contents K V → Type 0
   PutsInRoom k m OutOfRange n = n.capacity ≡ m.capacity
   PutsInRoom k m NoMemory n = IsFull m × (n.capacity ≡ m.capacity)
   PutsInRoom k m reply n = KeepsRoom eq m k n
 
   -- What becomes of the capacity: all commands but those that insert keep it, and so does a refused command.
+  -- Example: after `Insert 1 30` on `[(1,10)]`: the same capacity.
   abbrev pub CapacityStep : Contents K V → MapCommand K V → MapReply K V → Contents K V → Type 0
   CapacityStep m (Insert k v) reply n = PutsInRoom k m reply n
   CapacityStep m (InsertFull k v) reply n = PutsInRoom k m reply n
@@ -121,6 +125,7 @@ module _ {K V : Type 0} (eq : K → K → Bool) (eq_value : V → V → Bool) (k
   Effect m command reply n = ListStep m.entries command reply n.entries × CapacityStep m command reply n
 
   -- What becomes of the capacity, which is at least the number of pairs.
+  -- Example: after `Insert 2 20` on a full map of one pair: a capacity of at least 2.
   abbrev pub RoomStep : Contents K V → MapCommand K V → MapReply K V → Contents K V → Type 0
   RoomStep m command reply n = CapacityStep m command reply n × (length n.entries ≤ n.capacity)
 
@@ -129,6 +134,7 @@ module _ {K V : Type 0} (eq : K → K → Bool) (eq_value : V → V → Bool) (k
   Step m command reply n = ListStep m.entries command reply n.entries × RoomStep m command reply n
 
   -- The same for a map, with its list and its capacity.
+  -- Example: `Insert 2 20`, `Remove 1` on `[(1,10)]`: `Value` none, `Value 10`, and `[(2,20)]`.
   abbrev pub Run : Contents K V → List (MapCommand K V) → List (MapReply K V) → Contents K V → Type 0
   Run m [] [] n = n ≡ m
   Run m (command ∷ commands) (reply ∷ replies) n =

@@ -21,6 +21,7 @@ module _ {T : Type 0} where
 
 module _ {T : Type 0} (clones : clone.Ghosts T) where
   -- The reply is a clone of the element, if there is one. It is `NoMemory` only if the clone can fail.
+  -- Example: `Intersect [1,2]` on `[3,2,1]`: `Made [2,1]`.
   abbrev pub ClonesItem : Option T → SetReply T → Type 0
   ClonesItem item (Item copy) = IsCloneOf clones.is_clone item copy
   ClonesItem item NoMemory = IsSomeAnd item (λ x. ¬ (clones.is_infallible x))
@@ -41,6 +42,7 @@ module _ {T : Type 0} (eq : T → T → Bool) (clones : clone.Ghosts T) where
 
   -- One command with this reply takes the list l to the list m. A command that reads, is out of range or is refused
   -- leaves the list.
+  -- Example: `Replace 1y` on `[1x]`: `Item 1x`, and `[1y]`.
   abbrev pub ListStep : List T → SetCommand T → SetReply T → List T → Type 0
   ListStep l (Insert x) (Truth added) m = (added ≡ not (is_member eq l x)) × (m ≡ add eq l x)
   ListStep l (Insert x) NoMemory m = (is_member eq l x ≡ false) × (m ≡ l)

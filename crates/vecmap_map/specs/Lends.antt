@@ -42,6 +42,7 @@ module _ (K V : RattleType) where
 
 module _ (K V : RattleType) (m : MutBor (Contents K.Denot V.Denot)) where
   -- Once r ends, its last value is the value at the index i, and nothing else has changed.
+  -- Example: `map[0]` of `[(1,a)]`, written b: `[(1,b)]`.
   abbrev pub lends_value_at : ℕ → MutBor V.Denot → Fml
   lends_value_at i r = Lends (the_row K V) V m r (with_value_at m.now i)
 
@@ -54,6 +55,7 @@ module _ (K V : RattleType) (m : MutBor (Contents K.Denot V.Denot)) where
   lends_value_by test r = Lends (the_row K V) V m r (with_value_by test m.now)
 
   -- The same if there is a reference. At `None` the map stays.
+  -- Example: `get_mut(1y)` on `[(1x,7)]`, written 9: `[(1x,9)]`; `get_mut(2)`: `[(1x,7)]`.
   abbrev pub lends_value_if_by : (K.Denot → Bool) → Option (MutBor V.Denot) → Fml
   lends_value_if_by test r = LendsIf (the_row K V) V m r (with_value_by test m.now) m.now
 
@@ -67,6 +69,7 @@ module _ (K V : RattleType) (m : MutBor (Contents K.Denot V.Denot)) where
 
   -- Once the mutable reference ends, its last value is the value at the index i, and nothing else has changed. At
   -- `None` the map stays.
+  -- Example: `get_index_mut(0)`, `get_full_mut(1y)` on `[(1x,7)]`, written 9: `[(1x,9)]`.
   abbrev pub lends_beside_key : ℕ → Option (Bor K.Denot × MutBor V.Denot) → Fml
   lends_beside_key i r = follows_if (the_row K V) V m.ghost_name (value_name r) (with_value_at m.now i) m.now
 
@@ -76,6 +79,7 @@ module _ (K V : RattleType) (m : MutBor (Contents K.Denot V.Denot)) where
 
   -- Once both references end, their last key and value are the pair at the index i, and nothing else has changed. At
   -- `None` the map stays.
+  -- Example: `get_index_mut2(0)` on `[(1,7)]`, written `(2,9)`: `[(2,9)]`.
   abbrev pub lends_both_at : ℕ → Option (MutBor K.Denot × MutBor V.Denot) → Fml
   lends_both_at i r = LendsBothIf (the_row K V) K V m r (λ k v. with_pair_at m.now i (k, v)) m.now
 
@@ -85,6 +89,7 @@ module _ (K V : RattleType) (m : MutBor (Contents K.Denot V.Denot)) where
 
   -- Once the borrow with this name ends, the map has the pairs that were last written through it, as many as before,
   -- and its capacity.
+  -- Example: `as_mut_slice` of `[(1,a), (2,b)]`, the first written: `[(1,c), (2,b)]`.
   abbrev pub lends_pairs : GName → Fml
   lends_pairs r = follows (the_row K V) (Array (Tuple (K ∷ V ∷ [])) 0) m.ghost_name r (with_written m.now)
 

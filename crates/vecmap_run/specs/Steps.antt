@@ -12,6 +12,7 @@ abbrev pub Entries : Type 0
 Entries = List (String Global × ℤ)
 
 -- This answer is allowed for the insertion of this text and value, and it changes `old` to `new`.
+-- Example: `insert a 3` on `a=1`: `some 1`, and `a=3`; or `memory`, if memory runs out for the key's text, and `a=1`.
 abbrev pub Inserts : Entries → List ℕ → ℤ → Answer → Entries → Type 0
 Inserts old text value (Value was) new = (key : String Global) × (string_bytes key ≡ text) × (was ≡ lookup string_eq old key) × (new ≡ put string_eq old key value)
 Inserts old text value NoMemory new = new ≡ old

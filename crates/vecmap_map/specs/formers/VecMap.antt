@@ -53,6 +53,7 @@ pub entries_puts : {g : Former {0}} (w : Weighed g) (K X : Type 0) (μ : X → �
     → deepest μ (list_count (entry g K) (map ((entry g K).shape X) es) n) (list_put (entry g K) X es n t) ≡ max (heaviest (w.weight X μ) es) (deepest μ n t)
 entries_puts w K X μ es n t = List-puts (w_pair (w_const K) w) X μ es n t ∙ ap (λ a. max a (deepest μ n t)) (heaviest_is (w.weight X μ) es)
 
+-- How a map of weighed values is weighed: by its heaviest value.
 abbrev pub the_weighed : {g : Former {0}} → Weighed g → (K : Type 0) → Weighed (the_former g K)
 the_weighed w K = record { weight = λ X μ m. heaviest (w.weight X μ) m.entries; puts = λ X μ m. entries_puts w K X μ m.entries }
 
@@ -60,6 +61,7 @@ the_weighed w K = record { weight = λ X μ m. heaviest (w.weight X μ) m.entrie
 pub the_empty : (K : Type 0) → K → Contents K ⊥
 the_empty K k = record { entries = []; capacity = 0 }
 
+-- The values of a map, in order.
 abbrev pub the_items : (K X : Type 0) → Contents K X → List X
 the_items K X m = values_of m.entries
 
