@@ -43,7 +43,7 @@ impl<K, V> VecMap<K, V> {
         ensures err { OnErr result (Refuses K.eq self.old key self.new) }
     {
         if let Some(index) = find(&self.pairs, &key) {
-            let _ = self.reserve(1); return Ok(Some(replace(&mut self.pairs[index].1, value)));
+            return Ok(Some(replace(&mut self.pairs[index].1, value)));
         }
         self.push(key, value)?;
         Ok(None)
