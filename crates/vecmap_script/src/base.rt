@@ -41,7 +41,7 @@ fn of_items(out: &mut Out<'_>, name: &str, words: &str) -> Option<Outcome> {
     Some(out.show(items.as_slice()))
 }
 
-// Searches a list for the first word. A reference is as short as a number, and is searched for in another way.
+// Searches a list for the first word.
 fn search(out: &mut Out<'_>, name: &str, args: &str) -> Option<Outcome> {
     let (first, words) = first_word(args);
     let query = Item::query(first)?;
@@ -50,16 +50,36 @@ fn search(out: &mut Out<'_>, name: &str, args: &str) -> Option<Outcome> {
         return Some(out.show(find(&pairs, &query)));
     }
     let items = out.items(words)?;
-    let mut references = again!(Vec::with_capacity(out.alloc, items.len()));
-    let mut pairs = again!(Vec::with_capacity(out.alloc, items.len()));
-    for item in &items {
+    match name {
+        "find_item" => Some(out.show(find_item(&items, &query))),
+        "find_by_reference" => among_pairs(out, &query, &items),
+        _ => among_references(out, name, &query, &items),
+    }
+}
+
+// A reference is as short as a number, and is searched for in another way.
+fn among_references(
+    out: &mut Out<'_>,
+    name: &str,
+    query: &Item,
+    items: &[Item],
+) -> Option<Outcome> {
+    let mut references = Vec::new(out.alloc);
+    again!(references.reserve_exact(items.len()));
+    for item in items {
         references.push(item).ok()?;
-        pairs.push((item, ())).ok()?;
     }
     Some(match name {
-        "find_item" => out.show(find_item(&items, &query)),
-        "find_by_reference" => out.show(find(&pairs, &&query)),
-        "find_item_by_reference" => out.show(find_item(&references, &&query)),
-        _ => out.show(contains_item(&references, &&query)),
+        "find_item_by_reference" => out.show(find_item(&references, &query)),
+        _ => out.show(contains_item(&references, &query)),
     })
+}
+
+fn among_pairs(out: &mut Out<'_>, query: &Item, items: &[Item]) -> Option<Outcome> {
+    let mut pairs = Vec::new(out.alloc);
+    again!(pairs.reserve_exact(items.len()));
+    for item in items {
+        pairs.push((item, ())).ok()?;
+    }
+    Some(out.show(find(&pairs, &query)))
 }
