@@ -1,4 +1,7 @@
-//! The examples of `README.md`.
+//! The examples of `README.md`. Two edits in `must-fail` make the two bugs of that page.
+ghost use Rattle.std.specs.Prelude.{◌≡◌, nat_eq};
+ghost use Rattle.vecmap.specs.Pairs.{without_key};
+
 use std::alloc::{AllocError, Global};
 use std::io;
 use vecmap::{VecMap, VecSet, vecset};
@@ -24,4 +27,19 @@ pub fn main(rt: HostRuntime) -> io::Result<()> {
     println!(rt; "{headers:?}")?;
     let common = common(rt.alloc())?;
     println!(rt; "{common:?}")
+}
+
+/// Removes the oldest job, if there is one, and returns it.
+pub fn take_oldest(jobs: &mut VecMap<u32, u64>) -> Option<(u32, u64)> {
+    if jobs.is_empty() {
+        return None;
+    }
+    Some(jobs.remove_index(0))
+}
+
+/// Removes a job. The others keep their order.
+pub fn cancel(jobs: &mut VecMap<u32, u64>, id: u32)
+    ensures { jobs.new.entries ≡ without_key nat_eq jobs.old.entries id }
+{
+    jobs.remove(&id);
 }
