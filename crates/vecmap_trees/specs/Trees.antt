@@ -11,6 +11,7 @@ use Rattle.vecmap_trees.specs.declared.Json.TheOpen.{Json-F, Object, Text}
 abbrev pub Members : Type 0
 Members = Contents (String Global) Json
 
+-- What `members` is of a value that was opened.
 abbrev pub members_of_layer : Json-F Json → List (String Global × Json)
 members_of_layer (Object m) = m.entries
 members_of_layer _ = []
@@ -19,6 +20,7 @@ members_of_layer _ = []
 abbrev pub members : Json → List (String Global × Json)
 members j = members_of_layer (out-Json j)
 
+-- What `IsText` is of a value that was opened.
 abbrev pub IsTextLayer : List ℕ → Json-F Json → Type 0
 IsTextLayer text (Text s) = string_bytes s ≡ text
 IsTextLayer text _ = ⊥
@@ -27,6 +29,7 @@ IsTextLayer text _ = ⊥
 abbrev pub IsText : List ℕ → Json → Type 0
 IsText text j = IsTextLayer text (out-Json j)
 
+-- What `IsObject` is of a value that was opened.
 abbrev pub IsObjectLayer : Json-F Json → Type 0
 IsObjectLayer (Object m) = Unit {0}
 IsObjectLayer _ = ⊥
@@ -48,6 +51,7 @@ at_path (name ∷ names) j = option_and_then (at_path names) (member name j)
 abbrev pub at_path_below : List ℕ → List (List ℕ) → List (String Global × Json) → Option Json
 at_path_below name names l = option_and_then (at_path names) (lookup_by (has_text name) l)
 
+-- What `with_members` is of a value that was opened.
 abbrev pub layer_with_members : (Members → Members) → Json → Json-F Json → Json
 layer_with_members f j (Object m) = roll-Json (Object (f m))
 layer_with_members f j _ = j
@@ -71,6 +75,7 @@ ArePartedPaths [] path = ⊥
 ArePartedPaths (name ∷ names) [] = ⊥
 ArePartedPaths (name ∷ names) (other ∷ others) = (bytes_eq name other ≡ false) ⊎ ((name ≡ other) × ArePartedPaths names others)
 
+-- What `leaf_of` is of a value that was opened.
 abbrev pub leaf_of_layer : Json → Json-F Json → Option Json
 leaf_of_layer j (Object m) = None
 leaf_of_layer j _ = Some j
@@ -88,6 +93,7 @@ leaf_at (name ∷ names) j = option_and_then (leaf_at names) (member name j)
 abbrev pub leaf_below : List ℕ → List (List ℕ) → List (String Global × Json) → Option Json
 leaf_below name names l = option_and_then (leaf_at names) (lookup_by (has_text name) l)
 
+-- Whether a value that was opened is an object.
 abbrev pub is_object_layer : Json-F Json → Bool
 is_object_layer (Object m) = true
 is_object_layer _ = false
