@@ -1,0 +1,13 @@
+use Rattle.std.specs.Prelude.{◌≡◌, ◌/◌, [], filter, nat_eq, nat_lt}
+use Rattle.std.proofs.Common.{rules, tests}
+use Rattle.std.proofs.lemmas.Iterator.{YieldsList-from_map}
+use Rattle.std.proofs.lemmas.Iterator.Adapters.{fact_from_collect}
+use Rattle.std.proofs.lemmas.Iterator.Consumers.{YieldsList-at, YieldsList-from_filter, YieldsList-from_rest}
+use Rattle.vecmap.specs.Pairs.{puts}
+use Rattle.vecmap_examples.proofs.pages.proving.collecting.small.Goals as goal
+
+pub returns : goal.returns
+returns c =
+    let passed = YieldsList-from_filter _ (λ pair. nat_lt pair.1 c.args.limit) (YieldsList-at c.filter.ensures.source (YieldsList-from_rest c.args.stock.now.entries c.iter.ensures.rest)) c.filter.ensures.closure (λ x b q k. search (rules, tests)) in
+    fact_from_collect (λ pairs made. made.entries ≡ puts nat_eq [] pairs) c.collect.result c.collect.ensures.ran
+    (YieldsList-from_map _ (λ pair. (pair.0, pair.1 / 3)) (YieldsList-at c.map.ensures.source passed) c.map.ensures.closure (λ x r q k. search (rules, tests)))

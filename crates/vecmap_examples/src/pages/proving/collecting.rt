@@ -1,0 +1,60 @@
+//! Maps that are collected and extended, and a closure that is handed on to `retain`.
+ghost use Rattle.std.specs.Prelude.{◌≡◌, ◌/◌, ◌≤◌, ℕ, Bool, IfOk, OnErr, OnOk, [], filter, map, nat_eq, nat_lt};
+ghost use Rattle.vecmap.specs.Asked.{CallsAtPair};
+ghost use Rattle.vecmap.specs.Kept.{Kept};
+ghost use Rattle.vecmap.specs.Pairs.{puts};
+
+use std::alloc::{AllocError, Global};
+use vecmap::VecMap;
+
+/// Returns the map with a third of each value.
+pub fn thirds(alloc: Global, stock: VecMap<u32, u32>) -> Result<VecMap<u32, u32>, AllocError>
+    ensures { IfOk result (λ made. made.entries
+        ≡ puts nat_eq [] (map (λ pair. (pair.0, pair.1 / 3)) stock.entries)) }
+{
+    stock
+        .into_iter()
+        .map(|pair| (pair.0, pair.1 / 3))
+        .collect(alloc)
+}
+
+/// Returns a third of each value that is below a limit.
+pub fn small(
+    alloc: Global,
+    stock: &VecMap<u32, u32>,
+    limit: u32,
+) -> Result<VecMap<u32, u32>, AllocError>
+    ensures { IfOk result (λ made. made.entries
+        ≡ puts nat_eq [] (map (λ pair. (pair.0, pair.1 / 3)) (filter (λ pair. nat_lt pair.1 limit) stock.now.entries))) }
+{
+    stock
+        .iter()
+        .filter(|pair| *pair.1 < limit)
+        .map(|pair| (*pair.0, *pair.1 / 3))
+        .collect(alloc)
+}
+
+/// Inserts the pairs of another map.
+pub fn put_map(stock: &mut VecMap<u32, u32>, more: VecMap<u32, u32>) -> Result<(), AllocError>
+    ensures { OnOk result (stock.new.entries ≡ puts nat_eq stock.old.entries more.entries) }
+{
+    stock.extend(more)
+}
+
+/// Inserts the pairs of a vector.
+pub fn put_vec(stock: &mut VecMap<u32, u32>, more: Vec<(u32, u32)>) -> Result<(), AllocError>
+    ensures { OnOk result (stock.new.entries ≡ puts nat_eq stock.old.entries more.items) }
+{
+    stock.extend(more.into_iter())
+}
+
+/// Keeps the pairs for which a closure of the caller's returns `true`.
+pub fn keep_where<F: FnMut(&u32, &mut u32) -> bool>(stock: &mut VecMap<u32, u32>, keep: F)
+where
+    F: Drop,
+    requires { (f : _) (x : _) → F.pre f x }
+    ensures kept { (g : F) × Kept (CallsAtPair F.FnMut) keep stock.old.entries stock.new.entries g }
+    ensures capacity { stock.new.capacity ≡ stock.old.capacity }
+{
+    stock.retain(keep)
+}
