@@ -16,7 +16,8 @@ fn set(
 ) -> Result<Option<String>, AllocError> {
     let section = Name::new(section.to_string(alloc)?);
     let name = Name::new(name.to_string(alloc)?);
-    Ok(page.set(section, name, text.to_string(alloc)?)?)
+    let text = text.to_string(alloc)?;
+    page.set(section, name, text).map_err(|_refused| AllocError)
 }
 
 /// Returns the text under a section and a name.

@@ -16,7 +16,10 @@ macro_rules! retry {
             Err($refused) => {
                 println!(*$rt; "refused")?;
                 $($left)*
-                $call?
+                match $call {
+                    Ok(value) => value,
+                    Err(_) => panic!(*$rt; "refused twice"),
+                }
             }
         }
     };
