@@ -1,9 +1,5 @@
 pub mod HeaderLists
-pub mod Headers
 pub mod Interner
 pub mod Options
-pub mod Paths
 pub mod Scopes
-pub mod Settings
 pub mod Updating
-pub mod Words

@@ -14,6 +14,7 @@ pub fn count_word<K: Eq + Drop>(map: &mut VecMap<K, u64>, word: K) -> Result<(),
     ensures entries { OnOk result (map.new.entries
         ≡ put K.eq map.old.entries word (unwrap_or (lookup K.eq map.old.entries word) 0 + 1)) }
     ensures capacity { KeepsRoom K.eq map.old word map.new }
+    ensures given { IfErr result (λ refused. refused.given ≡ (word, 0)) }
     ensures err { OnErr result (Refuses K.eq map.old word map.new) }
 {
     *map.entry(word).or_insert(0)? += 1;
@@ -30,6 +31,7 @@ pub fn modify_or_insert<K: Eq + Drop>(
         ≡ put K.eq map.old.entries key
         (option_map_or (λ n. n + 1) (lookup K.eq map.old.entries key) 42)) }
     ensures capacity { KeepsRoom K.eq map.old key map.new }
+    ensures given { IfErr result (λ refused. refused.given ≡ (key, 42)) }
     ensures err { OnErr result (Refuses K.eq map.old key map.new) }
 {
     map.entry(key).and_modify(|n| *n += 1).or_insert(42)?;
@@ -48,18 +50,6 @@ pub fn half_of(map: &mut VecMap<u64, u64>, number: u64) -> Result<u64, Refused<(
     ensures given { IfErr result (λ refused. refused.given ≡ (number, number / 2)) }
 {
     Ok(*map.entry(number).or_insert_with_key(|key| *key / 2)?)
-}
-
-/// Returns the value of a key. A key that is absent is first inserted with 0.
-pub fn or_zero<K: Eq + Drop>(map: &mut VecMap<K, u64>, key: K) -> Result<u64, Refused<(K, u64)>>
-    ensures value { IfOk result (λ n. n ≡ unwrap_or (lookup K.eq map.old.entries key) 0) }
-    ensures entries { OnOk result (map.new.entries
-        ≡ put K.eq map.old.entries key (unwrap_or (lookup K.eq map.old.entries key) 0)) }
-    ensures capacity { KeepsRoom K.eq map.old key map.new }
-    ensures err { OnErr result (Refuses K.eq map.old key map.new) }
-    ensures given { IfErr result (λ refused. refused.given ≡ (key, 0)) }
-{
-    Ok(*map.entry(key).or_default()?)
 }
 
 /// Returns the length of the map under a key. A key that is absent is first inserted with an empty map.
@@ -109,6 +99,7 @@ pub fn toggle<K: Eq + Drop>(map: &mut VecMap<K, u64>, key: K) -> Result<(), Refu
     ensures absent { index_of K.eq map.old.entries key ≡ None
         → OnOk result (map.new.entries ≡ put K.eq map.old.entries key 3) }
     ensures capacity { map.old.capacity ≤ map.new.capacity }
+    ensures given { IfErr result (λ refused. refused.given ≡ (key, 0)) }
     ensures err { OnErr result (Refuses K.eq map.old key map.new) }
 {
     match map.entry(key) {
@@ -135,21 +126,12 @@ pub fn take<K: Eq + Drop>(map: &mut VecMap<K, u64>, key: K) -> Option<(K, u64)>
     }
 }
 
-/// Gives a key the value 9, and then 8 through its entry.
-pub fn put_and_write(map: &mut VecMap<u64, u64>, key: u64) -> Result<(), Refused<(u64, u64)>>
-    ensures entries { OnOk result (map.new.entries ≡ put nat_eq map.old.entries key 8) }
-    ensures capacity { map.old.capacity ≤ map.new.capacity }
-    ensures err { OnErr result (Refuses nat_eq map.old key map.new) }
-{
-    *map.entry(key).insert_entry(9)?.into_mut() = 8;
-    Ok(())
-}
-
 /// Gives a key the value 9, and removes its pair again.
 pub fn put_and_remove(map: &mut VecMap<u64, u64>, key: u64) -> Result<u64, Refused<(u64, u64)>>
     ensures value { IfOk result (λ value. value ≡ 9) }
     ensures entries { OnOk result (map.new.entries ≡ without_key nat_eq map.old.entries key) }
     ensures capacity { map.old.capacity ≤ map.new.capacity }
+    ensures given { IfErr result (λ refused. refused.given ≡ (key, 9)) }
     ensures err { OnErr result (Refuses nat_eq map.old key map.new) }
 {
     Ok(map.entry(key).insert_entry(9)?.remove())
@@ -168,6 +150,7 @@ pub fn put_entry<K: Eq + Clone>(
         → OnOk result
         ((stored : K) × K.is_clone key stored
         × (map.new.entries ≡ map.old.entries ++ (stored, 9) ∷ [])) }
+    ensures given { IfErr result (λ refused. refused.given ≡ (key, 9)) }
     ensures err { OnErr result (map.new ≡ map.old) }
 {
     let entry = map.entry(key).insert_entry(9)?;

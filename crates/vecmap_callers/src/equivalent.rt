@@ -1,17 +1,15 @@
 //! Callers of lookups and removals by a query: by keys, texts, slices, and a query type of their own.
 ghost use Rattle.std.specs.Prelude.{◌≡◌, ℕ, IsSome, List, None, OnErr, OnOk, Some, bytes_eq, codes, false, nat_eq, string_bytes, string_eq};
-ghost use Rattle.std.specs.Cmp.Lexicographic.{pointwise};
-ghost use Rattle.std.specs.List.{list_any};
-ghost use Rattle.std.specs.Str.{str_eq_ignore_ascii_case};
-ghost use Rattle.vecmap.specs.Contents.{with_value_by};
-ghost use Rattle.vecmap.specs.Items.{without_first};
-ghost use Rattle.vecmap.specs.Pairs.{HasDistinctKeys, has_text, index_by, lookup, lookup_by, lookup_pair_by, swap_without_by, without_by};
+ghost use Rattle.std.specs.Cmp.{on_equiv, partial_equiv_from_equiv};
+ghost use Rattle.std.specs.Cmp.Lexicographic.{nat_list_eq_equiv, pointwise};
+ghost use Rattle.std.specs.Str.{str_eq_ignore_ascii_case, str_to_ascii_lowercase};
+ghost use Rattle.vecmap.specs.Pairs.{HasDistinctKeys, has_text, index_by, lookup, lookup_by, without_by};
 
-use crate::names::{Name, NamedAs};
 use std::alloc::{AllocError, Global};
+use std::marker::Model;
 use vecmap::macros::put_pair;
-use vecmap::{Equivalent, VecMap, VecSet};
-use vecmap_laws::maps::texts_find_as_strings;
+use vecmap::{Equivalent, VecMap};
+use vecmap_laws::maps::{queries_find_as_keys, texts_are_queries};
 
 /// Returns the value of a key, of any type.
 pub fn value_of_key<K: Eq>(map: &VecMap<K, u32>, key: &K) -> Option<u32>
@@ -25,20 +23,6 @@ pub fn value_by<K: Eq, Q: Equivalent<K>>(map: &VecMap<K, u32>, query: Q) -> Opti
     ensures { result ≡ lookup_by (Q.equivalent query) map.now.entries }
 {
     map.get(query).copied()
-}
-
-/// Returns the value of a text.
-pub fn value_of_text(map: &VecMap<String, u32>, text: &str) -> Option<u32>
-    ensures { result ≡ lookup_by (has_text text.now) map.now.entries }
-{
-    map.get(text).copied()
-}
-
-/// Returns the value of a text that was read at run time, in a map whose keys are literals of the program.
-pub fn value_of_line(map: &VecMap<&'static str, u32>, line: &String) -> Option<u32>
-    ensures { result ≡ lookup_by (λ key. bytes_eq (string_bytes line.now) key.now) map.now.entries }
-{
-    map.get(line.as_str()).copied()
 }
 
 /// Returns the value of some bytes.
@@ -60,7 +44,8 @@ pub fn put_text(
         → lookup_by (has_text other) map.new.entries ≡ lookup_by (has_text other) map.old.entries) }
     ensures err { OnErr result (map.new ≡ map.old) }
 {
-    texts_find_as_strings::<u32>();
+    queries_find_as_keys::<String, u32>();
+    texts_are_queries();
     let key = String::from_str(alloc, text)?;
     put_pair(map, key, value)?;
     Ok(())
@@ -72,24 +57,9 @@ pub fn forget_text(map: &mut VecMap<String, u32>, text: &str)
     ensures entries { map.new.entries ≡ without_by (has_text text.now) map.old.entries }
     ensures gone { lookup_by (has_text text.now) map.new.entries ≡ None }
 {
-    texts_find_as_strings::<u32>();
+    queries_find_as_keys::<String, u32>();
+    texts_are_queries();
     map.remove(text);
-}
-
-/// Removes and returns the pair of a text.
-pub fn take_text(map: &mut VecMap<String, u32>, text: &str) -> Option<(String, u32)>
-    ensures pair { result ≡ lookup_pair_by (has_text text.now) map.old.entries }
-    ensures entries { map.new.entries ≡ without_by (has_text text.now) map.old.entries }
-    ensures capacity { map.new.capacity ≡ map.old.capacity }
-{
-    map.remove_entry(text)
-}
-
-/// Removes the pair of the text `port`, and moves the last pair into the gap.
-pub fn forget_port(map: &mut VecMap<String, u32>)
-    ensures { map.new.entries ≡ swap_without_by (has_text (codes "port")) map.old.entries }
-{
-    map.swap_remove("port");
 }
 
 /// Returns the value of the text `port`.
@@ -104,21 +74,63 @@ pub fn port(map: &VecMap<String, u32>) -> u32
     map["port"]
 }
 
-/// Writes the value of the text `port`, if it is present.
-pub fn write_port(map: &mut VecMap<String, u32>, value: u32)
-    ensures { map.new ≡ with_value_by (has_text (codes "port")) map.old value }
-{
-    if map.contains_key("port") {
-        map["port"] = value;
+/// A name. Two names are equal if they differ only in the case of ASCII letters. A contract sees the bytes of the name
+/// as they were written.
+#[derive(Debug, Drop)]
+pub struct Name {
+    text: String,
+}
+
+impl Model for Name {
+    ghost use Rattle.std.specs.Prelude.{ℕ, List, string_bytes};
+
+    ghost Value = { List ℕ };
+
+    ghost view = { λ name. string_bytes name.text };
+}
+
+impl Name {
+    /// Creates a name from its text.
+    pub fn new(text: String) -> Name
+        ensures { result ≡ string_bytes text }
+    {
+        Name { text }
+    }
+
+    /// Returns the text as it was written.
+    pub fn as_str(&self) -> &str
+        ensures { result.now ≡ self.now }
+    {
+        self.text.as_str()
     }
 }
 
-/// Removes a text from a set, and returns whether it was present.
-pub fn drop_text(set: &mut VecSet<String>, text: &str) -> bool
-    ensures present { result ≡ list_any (has_text text.now) set.old.elements }
-    ensures elements { set.new.elements ≡ without_first (has_text text.now) set.old.elements }
-{
-    set.remove(text)
+impl PartialEq for Name {
+    ghost eq = { str_eq_ignore_ascii_case };
+
+    ghost laws = { partial_equiv_from_equiv (on_equiv str_to_ascii_lowercase nat_list_eq_equiv) };
+
+    fn eq(&self, other: &Name) -> bool {
+        self.text.as_str().eq_ignore_ascii_case(other.text.as_str())
+    }
+}
+
+impl Eq for Name {
+    ghost laws = { on_equiv str_to_ascii_lowercase nat_list_eq_equiv };
+}
+
+/// A query that matches the names that are this text, in any case.
+#[derive(Clone, Copy, Debug)]
+pub struct NamedAs<'a>(pub &'a str);
+
+impl Equivalent<Name> for NamedAs<'_> {
+    ghost equivalent = { λ query. str_eq_ignore_ascii_case query.0.now };
+
+    fn equivalent(&self, name: &Name) -> bool {
+        self.0.eq_ignore_ascii_case(name.as_str())
+    }
+
+    ghost respects_eq = { λ query x y. nat_list_eq_equiv.congr (str_to_ascii_lowercase query.0.now) (str_to_ascii_lowercase x) (str_to_ascii_lowercase y) };
 }
 
 /// Returns the value of the first name that is this text, in any case. No `Name` is created.
@@ -126,11 +138,4 @@ pub fn value_of_name(map: &VecMap<Name, u32>, text: &str) -> Option<u32>
     ensures { result ≡ lookup str_eq_ignore_ascii_case map.now.entries text.now }
 {
     map.get(NamedAs(text)).copied()
-}
-
-/// Returns the value of a name, found by its text. It is the value that a lookup by the name itself finds.
-pub fn value_by_text_of(map: &VecMap<Name, u32>, name: &Name) -> Option<u32>
-    ensures { result ≡ lookup str_eq_ignore_ascii_case map.now.entries name.now }
-{
-    map.get(NamedAs(name.as_str())).copied()
 }

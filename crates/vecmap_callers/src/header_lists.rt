@@ -9,7 +9,7 @@ ghost use Rattle.vecmap.specs.Items.{add, without_item};
 ghost use Rattle.vecmap.specs.Pairs.{HasDistinctKeys, lookup, without_key};
 ghost use Rattle.vecmap_callers.specs.HeaderLists.{values_of};
 
-use crate::names::{Name, NamedAs};
+use crate::equivalent::{Name, NamedAs};
 use std::alloc::{AllocError, Global};
 use std::marker::Model;
 use vecmap::VecMap;

@@ -234,7 +234,8 @@ impl Interner {
         ensures err { OnErr result (self.new ≡ self.old) }
     {
         laws::additions_move_nothing::<String>();
-        laws::texts_find_as_strings();
+        laws::queries_find_as_elements::<String>();
+        laws::texts_are_queries();
         if let Some(index) = self.texts.get_index_of(text) {
             return Ok(TextId(index));
         }

@@ -1,22 +1,10 @@
 //! Callers of iterators: loops, chains, and calls of `next` and `next_back`.
 ghost use Rattle.std.specs.Prelude.{◌≡◌, ◌/◌, ◌<◌, ◌^◌, ◌∷◌, ℕ, IfOk, [], count_by, length, map, nat_eq, reverse, slice_get, sum};
-ghost use Rattle.std.specs.List.{All, list_any};
+ghost use Rattle.std.specs.List.{All};
 ghost use Rattle.std.specs.Map.{keys_of, values_of};
 
 use std::alloc::{AllocError, Global};
 use vecmap::{VecMap, VecSet};
-
-/// Returns the sum of the values, by a loop over `iter`.
-pub fn total(map: &VecMap<u64, u32>) -> u32
-    requires { sum (values_of map.now.entries) < 2 ^ 32 }
-    ensures { result ≡ sum (values_of map.now.entries) }
-{
-    let mut all = 0;
-    for (_, value) in map.iter() {
-        all += *value;
-    }
-    all
-}
 
 /// Returns the sum of the values, by a loop over the map by value.
 pub fn total_by_value(map: VecMap<u64, u32>) -> u32
@@ -28,28 +16,6 @@ pub fn total_by_value(map: VecMap<u64, u32>) -> u32
         all += value;
     }
     all
-}
-
-/// Returns the sum of the values, by a chain.
-pub fn total_by_sum(map: &VecMap<u64, u32>) -> u32
-    requires { sum (values_of map.now.entries) < 2 ^ 32 }
-    ensures { result ≡ sum (values_of map.now.entries) }
-{
-    map.values().sum()
-}
-
-/// Returns `true` if the map holds `value`.
-pub fn has_value(map: &VecMap<u64, u32>, value: u32) -> bool
-    ensures { result ≡ list_any (λ v. nat_eq v value) (values_of map.now.entries) }
-{
-    map.values().any(|stored| *stored == value)
-}
-
-/// Returns the number of pairs.
-pub fn pair_count(map: &VecMap<u64, u32>) -> usize
-    ensures { result ≡ length map.now.entries }
-{
-    map.iter().count()
 }
 
 /// Returns the number of pairs that have this value.
@@ -66,13 +32,6 @@ pub fn keys_reversed(alloc: Global, map: &VecMap<u64, u32>) -> Result<Vec<u64>, 
     map.keys().rev().copied().collect(alloc)
 }
 
-/// Returns the values in reverse order, by an iteration over the pairs.
-pub fn values_reversed(alloc: Global, map: &VecMap<u64, u32>) -> Result<Vec<u32>, AllocError>
-    ensures { IfOk result (λ values. values.items ≡ reverse (values_of map.now.entries)) }
-{
-    map.iter().rev().map(|pair| *pair.1).collect(alloc)
-}
-
 /// Returns a third of each value.
 pub fn thirds(alloc: Global, table: &VecMap<u64, u32>) -> Result<Vec<u32>, AllocError>
     ensures { IfOk result (λ thirds. thirds.items
@@ -86,13 +45,6 @@ pub fn pairs_taken(alloc: Global, map: VecMap<u64, u32>) -> Result<Vec<(u64, u32
     ensures { IfOk result (λ pairs. pairs.items ≡ map.entries) }
 {
     map.into_iter().collect(alloc)
-}
-
-/// Returns the keys, by value.
-pub fn keys_taken(alloc: Global, map: VecMap<u64, u32>) -> Result<Vec<u64>, AllocError>
-    ensures { IfOk result (λ keys. keys.items ≡ keys_of map.entries) }
-{
-    map.into_keys().collect(alloc)
 }
 
 /// Returns the values, by value, in reverse order.
@@ -132,21 +84,6 @@ pub fn add_one(map: &mut VecMap<u64, u32>)
     }
 }
 
-/// Writes each value twice, and returns the length of the map.
-pub fn write_values(map: &mut VecMap<u64, u32>, value: u32) -> usize
-    ensures count { result ≡ length map.old.entries }
-    ensures len { length map.new.entries ≡ length map.old.entries }
-    ensures capacity { map.new.capacity ≡ map.old.capacity }
-{
-    for (_, stored) in map.iter_mut() {
-        *stored = 0;
-    }
-    for stored in map.values_mut() {
-        *stored = value;
-    }
-    map.len()
-}
-
 /// Returns the first value, read through a mutable reference.
 pub fn first_value(map: &mut VecMap<u64, u32>) -> Option<u32>
     ensures value { result ≡ slice_get (values_of map.old.entries) 0 }
@@ -155,18 +92,6 @@ pub fn first_value(map: &mut VecMap<u64, u32>) -> Option<u32>
 {
     let (_, value) = map.iter_mut().next()?;
     Some(*value)
-}
-
-/// Returns the sum of the elements, by a loop over `iter`.
-pub fn set_total(set: &VecSet<u32>) -> u32
-    requires { sum set.now.elements < 2 ^ 32 }
-    ensures { result ≡ sum set.now.elements }
-{
-    let mut all = 0;
-    for element in set.iter() {
-        all += *element;
-    }
-    all
 }
 
 /// Returns the sum of the elements, by a loop over the set by value.
@@ -181,38 +106,9 @@ pub fn set_total_by_value(set: VecSet<u32>) -> u32
     all
 }
 
-/// Returns the sum of the elements, by a chain.
-pub fn set_total_by_sum(set: &VecSet<u32>) -> u32
-    requires { sum set.now.elements < 2 ^ 32 }
-    ensures { result ≡ sum set.now.elements }
-{
-    set.iter().sum()
-}
-
-/// Returns `true` if the set holds `element`.
-pub fn has_element(set: &VecSet<u32>, element: u32) -> bool
-    ensures { result ≡ list_any (λ x. nat_eq x element) set.now.elements }
-{
-    set.iter().any(|stored| *stored == element)
-}
-
-/// Returns the number of elements.
-pub fn element_count(set: &VecSet<u32>) -> usize
-    ensures { result ≡ length set.now.elements }
-{
-    set.iter().count()
-}
-
 /// Returns the elements, in reverse order.
 pub fn elements_reversed(alloc: Global, set: &VecSet<u32>) -> Result<Vec<u32>, AllocError>
     ensures { IfOk result (λ elements. elements.items ≡ reverse set.now.elements) }
 {
     set.iter().rev().copied().collect(alloc)
-}
-
-/// Returns the elements, by value, in reverse order.
-pub fn elements_taken(alloc: Global, set: VecSet<u32>) -> Result<Vec<u32>, AllocError>
-    ensures { IfOk result (λ elements. elements.items ≡ reverse set.elements) }
-{
-    set.into_iter().rev().collect(alloc)
 }

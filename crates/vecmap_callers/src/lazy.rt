@@ -2,8 +2,7 @@
 ghost use Rattle.std.specs.Prelude.{◌≡◌, ◌<◌, ◌^◌, ◌↔◌, IfOk, IsTrue, [], length, nat_eq, reverse, slice_get, sum};
 ghost use Rattle.vecmap.specs.Items.{both, only};
 ghost use Rattle.vecmap.specs.Lazy.{longer};
-ghost use Rattle.vecmap_laws.specs.Algebra.{lazy_intersection, lazy_union};
-ghost use Rattle.vecmap.specs.Operators.{symmetric_difference_of};
+ghost use Rattle.vecmap_laws.specs.Algebra.{lazy_union};
 
 use std::alloc::{AllocError, Global};
 use vecmap::VecSet;
@@ -21,30 +20,6 @@ pub fn sum_of_difference(a: &VecSet<u32>, b: &VecSet<u32>) -> u32
     total
 }
 
-/// Returns the sum of the elements that are in both sets, by a loop.
-pub fn sum_of_intersection(a: &VecSet<u32>, b: &VecSet<u32>) -> u32
-    requires { sum (lazy_intersection nat_eq a.now.elements b.now.elements) < 2 ^ 32 }
-    ensures { result ≡ sum (lazy_intersection nat_eq a.now.elements b.now.elements) }
-{
-    let mut total = 0;
-    for item in a.intersection(b) {
-        total += *item;
-    }
-    total
-}
-
-/// Returns the sum of the elements that are in exactly one set, by a loop.
-pub fn sum_of_symmetric_difference(a: &VecSet<u32>, b: &VecSet<u32>) -> u32
-    requires { sum (symmetric_difference_of nat_eq a.now.elements b.now.elements) < 2 ^ 32 }
-    ensures { result ≡ sum (symmetric_difference_of nat_eq a.now.elements b.now.elements) }
-{
-    let mut total = 0;
-    for item in a.symmetric_difference(b) {
-        total += *item;
-    }
-    total
-}
-
 /// Returns the sum of the elements of the union, by a loop.
 pub fn sum_of_union(a: &VecSet<u32>, b: &VecSet<u32>) -> u32
     requires { sum (lazy_union nat_eq a.now.elements b.now.elements) < 2 ^ 32 }
@@ -55,27 +30,6 @@ pub fn sum_of_union(a: &VecSet<u32>, b: &VecSet<u32>) -> u32
         total += *item;
     }
     total
-}
-
-/// Returns the number of elements of `a` that are not in `b`.
-pub fn count_lacking<T: Eq>(a: &VecSet<T>, b: &VecSet<T>) -> usize
-    ensures { result ≡ length (only T.eq a.now.elements b.now.elements) }
-{
-    a.difference(b).count()
-}
-
-/// Returns the number of elements that are in both sets.
-pub fn count_shared<T: Eq>(a: &VecSet<T>, b: &VecSet<T>) -> usize
-    ensures { result ≡ length (lazy_intersection T.eq a.now.elements b.now.elements) }
-{
-    a.intersection(b).count()
-}
-
-/// Returns the number of elements that are in exactly one set.
-pub fn count_alone<T: Eq>(a: &VecSet<T>, b: &VecSet<T>) -> usize
-    ensures { result ≡ length (symmetric_difference_of T.eq a.now.elements b.now.elements) }
-{
-    a.symmetric_difference(b).count()
 }
 
 /// Returns the number of elements of the union.
@@ -94,30 +48,6 @@ pub fn difference_of<T: Eq + Copy>(
     ensures { IfOk result (λ items. items.items ≡ only T.eq a.now.elements b.now.elements) }
 {
     a.difference(b).copied().collect(alloc)
-}
-
-/// Returns the elements that are in both sets, as a vector.
-pub fn intersection_of<T: Eq + Copy>(
-    alloc: Global,
-    a: &VecSet<T>,
-    b: &VecSet<T>,
-) -> Result<Vec<T>, AllocError>
-    ensures { IfOk result (λ items. items.items
-        ≡ lazy_intersection T.eq a.now.elements b.now.elements) }
-{
-    a.intersection(b).copied().collect(alloc)
-}
-
-/// Returns the elements that are in exactly one set, as a vector.
-pub fn symmetric_difference_in_order<T: Eq + Copy>(
-    alloc: Global,
-    a: &VecSet<T>,
-    b: &VecSet<T>,
-) -> Result<Vec<T>, AllocError>
-    ensures { IfOk result (λ items. items.items
-        ≡ symmetric_difference_of T.eq a.now.elements b.now.elements) }
-{
-    a.symmetric_difference(b).copied().collect(alloc)
 }
 
 /// Returns the elements of the union in reverse order, as a vector.

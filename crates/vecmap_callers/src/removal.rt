@@ -1,5 +1,5 @@
 //! Callers of removals.
-ghost use Rattle.std.specs.Prelude.{◌%◌, ◌++◌, ◌-◌, ◌<◌, ◌≡◌, ◌≤◌, OnErr, OnOk, Some, drop, filter, length, nat_eq, remove, slice_get, take};
+ghost use Rattle.std.specs.Prelude.{◌%◌, ◌++◌, ◌-◌, ◌<◌, ◌≡◌, ◌≤◌, OnErr, OnOk, drop, filter, length, nat_eq, nat_lt, remove, slice_get, take};
 ghost use Rattle.std.specs.List.{IsDistinct};
 ghost use Rattle.vecmap.specs.Items.{without_item};
 ghost use Rattle.vecmap.specs.Pairs.{HasDistinctKeys};
@@ -17,26 +17,20 @@ pub fn without<T: Eq + Drop>(set: &mut VecSet<T>, item: &T)
     set.remove(item);
 }
 
-/// Removes and returns the last pair of a map.
-///
-/// # Conditions
-///
-/// The map is not empty.
-pub fn take_last<K>(map: &mut VecMap<K, u32>) -> (K, u32)
-    requires { 0 < length map.old.entries }
-    ensures pair { slice_get map.old.entries (length map.old.entries - 1) ≡ Some result }
-    ensures entries { map.new.entries ≡ remove map.old.entries (length map.old.entries - 1) }
-{
-    let last = map.len() - 1;
-    map.remove_index(last)
-}
-
 /// Keeps the pairs with an even value.
 pub fn keep_even(map: &mut VecMap<u32, u32>)
     ensures entries { map.new.entries ≡ filter (λ p. nat_eq (p.1 % 2) 0) map.old.entries }
     ensures capacity { map.new.capacity ≡ map.old.capacity }
 {
     map.retain(|_key, value| *value % 2 == 0);
+}
+
+/// Keeps the pairs whose values are below a limit, which the closure captures.
+pub fn keep_below(map: &mut VecMap<u32, u32>, limit: u32)
+    ensures entries { map.new.entries ≡ filter (λ p. nat_lt p.1 limit) map.old.entries }
+    ensures capacity { map.new.capacity ≡ map.old.capacity }
+{
+    map.retain(|_key, value| *value < limit);
 }
 
 /// Keeps the first `count` pairs, by a closure that counts down.
@@ -82,30 +76,6 @@ pub fn without_second_and_third<T: Eq + Drop>(set: &mut VecSet<T>)
 {
     let mut items = set.drain(1..=2);
     let _last = items.next_back();
-}
-
-/// Removes the elements from an index on, by a loop.
-pub fn take_out_from(set: &mut VecSet<u32>, at: usize)
-    requires within { at ≤ length set.old.elements }
-    ensures elements { set.new.elements ≡ take at set.old.elements }
-{
-    for _item in set.drain(at..) {}
-}
-
-/// Removes the first `count` pairs, whichever of them are taken from the front or the back of the drain.
-pub fn pull_from_either_end(map: &mut VecMap<u32, u32>, count: usize, from_back: &[bool])
-    requires within { count ≤ length map.old.entries }
-    ensures entries { map.new.entries ≡ drop count map.old.entries }
-    ensures capacity { map.new.capacity ≡ map.old.capacity }
-{
-    let mut pairs = map.drain(..count);
-    for back in from_back {
-        if *back {
-            pairs.next_back();
-        } else {
-            pairs.next();
-        }
-    }
 }
 
 /// Splits a map of distinct keys and appends the second part again, which restores the map.

@@ -42,16 +42,7 @@ pub fn count_below(set: &VecSet<u32>, limit: u32) -> usize
     set.partition_point(|x| *x < limit)
 }
 
-/// Searches by the rank that a table holds for each value. Each value is an index of the table.
-pub fn search_ranks(map: &VecMap<char, usize>, ranks: &[u32], rank: u32) -> Result<usize, usize>
-    requires within { All (λ p. p.1 < length ranks.now) map.now.entries }
-    ensures { IsBinarySearchResult
-        (λ p. nat_cmp (get_or ranks.now p.1 0) rank) map.now.entries result }
-{
-    map.binary_search_by(|_, place| ranks[*place].cmp(&rank))
-}
-
-/// Like [`search_ranks`], by a sort key.
+/// Searches by the rank that a table holds for each value, as a sort key. Each value is an index of the table.
 pub fn search_by_rank(map: &VecMap<char, usize>, ranks: &[u32], rank: u32) -> Result<usize, usize>
     requires within { All (λ p. p.1 < length ranks.now) map.now.entries }
     ensures { IsBinarySearchResult
@@ -73,24 +64,6 @@ pub fn count_ranks_below(map: &VecMap<char, usize>, ranks: &[u32], limit: u32) -
         (λ p. nat_lt (get_or ranks.now p.1 0) limit ≡ false) map.now.entries result }
 {
     map.partition_point(|_, place| ranks[*place] < limit)
-}
-
-/// Searches by the rank that a table holds for each element. Each element is an index of the table.
-pub fn search_item_ranks(set: &VecSet<usize>, ranks: &[u32], rank: u32) -> Result<usize, usize>
-    requires within { All (λ x. x < length ranks.now) set.now.elements }
-    ensures { IsBinarySearchResult
-        (λ x. nat_cmp (get_or ranks.now x 0) rank) set.now.elements result }
-{
-    set.binary_search_by(|place| ranks[*place].cmp(&rank))
-}
-
-/// Like [`search_item_ranks`], by a sort key.
-pub fn search_item_by_rank(set: &VecSet<usize>, ranks: &[u32], rank: u32) -> Result<usize, usize>
-    requires within { All (λ x. x < length ranks.now) set.now.elements }
-    ensures { IsBinarySearchResult
-        (λ x. nat_cmp (get_or ranks.now x 0) rank) set.now.elements result }
-{
-    set.binary_search_by_key(&rank, |place| ranks[*place])
 }
 
 /// Returns how many elements have a rank below a limit.

@@ -11,15 +11,6 @@ use std::alloc::AllocError;
 use vecmap::VecMap;
 use vecmap::map::MutableKeys;
 
-/// Adds one to each value; the greatest value stays.
-pub fn raise_each(map: &mut VecMap<u32, u32>)
-    ensures entries { map.new.entries
-        ≡ map_values (λ value. min (value + 1) (2 ^ 32 - 1)) map.old.entries }
-    ensures capacity { map.new.capacity ≡ map.old.capacity }
-{
-    map.update_values(|_key, value| *value = value.saturating_add(1));
-}
-
 /// Adds one to each value; the greatest value stays. Each lookup then finds one more than it found before.
 pub fn raise_what_is_found(map: &mut VecMap<u32, u32>)
     ensures keys { keys_of map.new.entries ≡ keys_of map.old.entries }
@@ -29,17 +20,6 @@ pub fn raise_what_is_found(map: &mut VecMap<u32, u32>)
     ensures capacity { map.new.capacity ≡ map.old.capacity }
 {
     map.update_values(|_key, value| *value = value.saturating_add(1));
-}
-
-/// Adds one to each value, and wraps around.
-pub fn raise_wrapping(map: &mut VecMap<u32, u32>)
-    ensures entries { map.new.entries
-        ≡ map_values (λ value. (value + 1) % 2 ^ 32) map.old.entries }
-    ensures lookups { (key : ℕ) → lookup nat_eq map.new.entries key
-        ≡ option_map (λ value. (value + 1) % 2 ^ 32) (lookup nat_eq map.old.entries key) }
-    ensures capacity { map.new.capacity ≡ map.old.capacity }
-{
-    map.update_values(|_key, value| *value = value.wrapping_add(1));
 }
 
 /// Adds one to each value.
@@ -53,15 +33,6 @@ pub fn raise_below_greatest(map: &mut VecMap<u32, u32>)
     ensures capacity { map.new.capacity ≡ map.old.capacity }
 {
     map.update_values(|_key, value| *value += 1);
-}
-
-/// Adds a number to each value, and wraps around.
-pub fn add_to_each<K>(map: &mut VecMap<K, u32>, by: u32)
-    ensures entries { map.new.entries
-        ≡ map_values (λ value. (value + by) % 2 ^ 32) map.old.entries }
-    ensures capacity { map.new.capacity ≡ map.old.capacity }
-{
-    map.update_values(|_key, value| *value = value.wrapping_add(by));
 }
 
 /// Stores each key as its value.
@@ -84,22 +55,6 @@ pub fn number_each<K>(pairs: &mut VecMap<K, u32>)
         *value = next;
         next = next.wrapping_add(1);
     });
-}
-
-/// Adds one to each value, and returns how many there are, modulo 2^32. The greatest value stays.
-///
-/// The count is in no clause: as after std's `for_each`, no proof knows what the closure wrote to a captured variable.
-pub fn raise_and_count<K>(map: &mut VecMap<K, u32>) -> u32
-    ensures entries { map.new.entries
-        ≡ map_values (λ value. min (value + 1) (2 ^ 32 - 1)) map.old.entries }
-    ensures capacity { map.new.capacity ≡ map.old.capacity }
-{
-    let mut count = 0u32;
-    map.update_values(|_key, value| {
-        *value = value.saturating_add(1);
-        count = count.wrapping_add(1);
-    });
-    count
 }
 
 /// Appends an item to each list.
@@ -167,22 +122,6 @@ pub fn raise_at_keys<K>(pairs: &mut VecMap<K, u32>)
     for (_key, value) in pairs.as_mut_slice().iter_mut() {
         *value = value.saturating_add(1);
     }
-}
-
-/// Adds one to each value, up to the first that is the greatest, by a loop that ends there. Returns `true` if there is
-/// none.
-#[tactic(auto, using(vecmap_laws::proofs::Rules::keys_in_loops))]
-pub fn raise_until_greatest<K>(pairs: &mut VecMap<K, u32>) -> bool
-    ensures keys { keys_of pairs.new.entries ≡ keys_of pairs.old.entries }
-    ensures capacity { pairs.new.capacity ≡ pairs.old.capacity }
-{
-    for (_key, value) in pairs.as_mut_slice().iter_mut() {
-        let Some(more) = value.checked_add(1) else {
-            return false;
-        };
-        *value = more;
-    }
-    true
 }
 
 /// Appends an item to each list, by a loop with `?`. Its contract says the keys, and leaves the lists to

@@ -5,14 +5,11 @@
 //! `_by_update`.
 ghost use Rattle.std.specs.Map.{keys_of, values_of};
 ghost use Rattle.std.specs.Prelude.{◌≡◌, ◌+◌, ◌<◌, ◌∷◌, ℕ, List, [], count_by, length, map, nat_lt, option_map};
-ghost use Rattle.vecmap.specs.Pairs.{map_values};
 ghost use Rattle.vecmap.specs.Walks.{deref_mut};
 ghost use Rattle.vecmap_laws.specs.Pulls.{Pulls, back, front};
 ghost use Rattle.vecmap_callers.specs.Updating.{texts_of};
 
 use vecmap::VecMap;
-use vecmap::map::{MutableKeys, ValuesMut};
-use vecmap_laws::maps::mutable_iterators_pull_as_lists;
 
 /// Writes a value at each key, by a loop over the map.
 pub fn write_all<K, V: Copy>(map: &mut VecMap<K, V>, value: V)
@@ -24,24 +21,6 @@ pub fn write_all<K, V: Copy>(map: &mut VecMap<K, V>, value: V)
     }
 }
 
-/// Writes a value at each key.
-pub fn write_all_by_update<K, V: Copy>(map: &mut VecMap<K, V>, value: V)
-    ensures entries { map.new.entries ≡ map_values (λ stored. value) map.old.entries }
-    ensures capacity { map.new.capacity ≡ map.old.capacity }
-{
-    map.update_values(|_key, stored| *stored = value);
-}
-
-/// Clears each text.
-pub fn clear_texts<K>(map: &mut VecMap<K, String>)
-    ensures len { length map.new.entries ≡ length map.old.entries }
-    ensures capacity { map.new.capacity ≡ map.old.capacity }
-{
-    for text in map.values_mut() {
-        text.clear();
-    }
-}
-
 /// Clears each text.
 pub fn clear_texts_by_update<K>(texts: &mut VecMap<K, String>)
     ensures keys { keys_of texts.new.entries ≡ keys_of texts.old.entries }
@@ -49,16 +28,6 @@ pub fn clear_texts_by_update<K>(texts: &mut VecMap<K, String>)
     ensures capacity { texts.new.capacity ≡ texts.old.capacity }
 {
     texts.update_values(|_key, text| text.clear());
-}
-
-/// Writes the length of each key.
-pub fn write_lengths<'s>(map: &mut VecMap<&'s str, usize>)
-    ensures len { length map.new.entries ≡ length map.old.entries }
-    ensures capacity { map.new.capacity ≡ map.old.capacity }
-{
-    for (key, value) in map.iter_mut() {
-        *value = key.len();
-    }
 }
 
 /// Writes the length of each key.
@@ -84,44 +53,6 @@ pub fn write_first_two(map: &mut VecMap<u32, u8>)
     }
 }
 
-/// Writes the values at both ends, and returns the number of pairs, asked of the iterator.
-pub fn write_ends(map: &mut VecMap<u32, u8>) -> usize
-    ensures count { result ≡ length map.old.entries }
-    ensures len { length map.new.entries ≡ length map.old.entries }
-    ensures capacity { map.new.capacity ≡ map.old.capacity }
-{
-    let mut values = map.values_mut();
-    let count = values.len();
-    if let Some(value) = values.next_back() {
-        *value = 1;
-    }
-    if let Some(value) = values.next() {
-        *value = 2;
-    }
-    count
-}
-
-/// Subtracts one from each value, up to the first that is zero.
-pub fn lower_until_zero(map: &mut VecMap<u32, u8>)
-    ensures len { length map.new.entries ≡ length map.old.entries }
-    ensures capacity { map.new.capacity ≡ map.old.capacity }
-{
-    for (_key, value) in map.iter_mut() {
-        if *value == 0 {
-            break;
-        }
-        *value -= 1;
-    }
-}
-
-/// Writes each value by a closure, from the back.
-pub fn write_by_closure(map: &mut VecMap<u32, u8>)
-    ensures len { length map.new.entries ≡ length map.old.entries }
-    ensures capacity { map.new.capacity ≡ map.old.capacity }
-{
-    map.values_mut().rev().for_each(|value| *value = 1);
-}
-
 /// Returns the number of values above three, by a chain over mutable references.
 pub fn count_above_three(map: &mut VecMap<u32, u8>) -> usize
     ensures count { result ≡ count_by (λ p. nat_lt 3 p.1) map.old.entries }
@@ -129,27 +60,6 @@ pub fn count_above_three(map: &mut VecMap<u32, u8>) -> usize
     ensures capacity { map.new.capacity ≡ map.old.capacity }
 {
     map.iter_mut().filter(|pair| *pair.1 > 3).count()
-}
-
-/// Writes each key and each value.
-pub fn write_pairs(map: &mut VecMap<u32, u8>)
-    ensures len { length map.new.entries ≡ length map.old.entries }
-    ensures capacity { map.new.capacity ≡ map.old.capacity }
-{
-    for (key, value) in map.iter_mut2() {
-        *key = 0;
-        *value = 0;
-    }
-}
-
-/// Writes the first key.
-pub fn write_first_key(map: &mut VecMap<u32, u8>)
-    ensures len { length map.new.entries ≡ length map.old.entries }
-    ensures capacity { map.new.capacity ≡ map.old.capacity }
-{
-    if let Some(key) = map.keys_mut().next() {
-        *key = 0;
-    }
 }
 
 /// A map next to a count of its rounds.
@@ -191,7 +101,6 @@ pub fn both_ends(map: &mut VecMap<u32, u8>) -> (Option<u8>, Option<u8>)
     ensures len { length map.new.entries ≡ length map.old.entries }
     ensures capacity { map.new.capacity ≡ map.old.capacity }
 {
-    mutable_iterators_pull_as_lists::<ValuesMut<'_, u32, u8>, &mut u8, u8>();
     let mut values = map.values_mut();
     let first = read(values.next());
     let last = read(values.next_back());

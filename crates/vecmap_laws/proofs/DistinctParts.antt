@@ -3,8 +3,12 @@ use Rattle.std.specs.{List.IsDistinct, List.remove_range, Map.keys_of}
 use Rattle.std.proofs.Common.{◌≡◌, ℕ, ◌≤◌, ◌-◌, Bool, true, false, List, [], ◌∷◌, ◌++◌, drop, filter, if◌then◌else◌, refl, slice_range, take, ap, subst, sym, ◌∙◌}
 use Rattle.std.proofs.lemmas.{List.drop-map, List.map-append, List.take-map, Map.Made.IsDistinct-keys_filter}
 use Rattle.vecmap_base.specs.{Kept.Kept, Pairs.HasDistinctKeys}
-use Rattle.vecmap_base.proofs.DistinctLemmas.Removals.{distinct_drop, distinct_kept, distinct_remove_range}
+use Rattle.vecmap_base.proofs.DistinctLemmas.Removals.{distinct_drop, distinct_kept, distinct_remove_range, distinct_take}
 use Rattle.vecmap_laws.proofs.DistinctKeys.{distinct_keys_take}
+
+module _ {T : Type 0} (eq : T → T → Bool) where
+  pub distinct_slice_range : (s : List T) (i j : ℕ) → IsDistinct eq s → IsDistinct eq (slice_range s i j)
+  distinct_slice_range s i j d = distinct_take eq (j - i) (drop i s) (distinct_drop eq i s d)
 
 module _ {K V : Type 0} (eq : K → K → Bool) where
   pub distinct_keys_drop : (l : List (K × V)) (n : ℕ) → HasDistinctKeys eq l → HasDistinctKeys eq (drop n l)

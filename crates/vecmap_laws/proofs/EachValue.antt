@@ -1,9 +1,26 @@
--- A function of each value of a list of pairs, and a fact about each value.
-use Rattle.std.proofs.Common.{◌≡◌, Bool, true, false, List, [], ◌∷◌, None, Some, All, if◌then◌else◌, option_map, refl, sym, ap, ◌∙◌, subst, inl, inr}
+-- A function of each key and each value of a list of pairs, and a fact about each value.
+use Rattle.std.proofs.Common.{◌≡◌, Bool, true, false, List, [], ◌∷◌, None, Some, All, if◌then◌else◌, map, option_map, refl, sym, ap, ◌∙◌, subst, inl, inr}
 use Rattle.std.proofs.lemmas.{Bool.cases_Bool, List.Elements.All-cons, List.Elements.All-head, List.Elements.All-tail}
 use Rattle.vecmap_base.specs.Pairs.{lookup, map_values, put}
 use Rattle.vecmap_base.proofs.PairsLemmas.{Indices.lookup_by_map_values, Recursion.put_cons}
 use Rattle.vecmap_laws.proofs.Lookups.{look}
+
+-- `f` of a key has the `==` of the key, as the bytes of a text have.
+module _ {K L V W : Type 0} (eq : K → K → Bool) (eq_image : L → L → Bool) (f : K → L) (same : (x y : K) → eq_image (f x) (f y) ≡ eq x y) (g : V → W) where
+  -- An insertion, seen in the list with `f` of each key and `g` of each value, inserts `f` of the key and `g` of the
+  -- value.
+  pub map_pairs_put : (l : List (K × V)) (k : K) (v : V) → map (λ p. (f p.0, g p.1)) (put eq l k v) ≡ put eq_image (map (λ p. (f p.0, g p.1)) l) (f k) (g v)
+  map_pairs_put [] k v = refl
+  map_pairs_put (p ∷ ps) k v =
+      let h : K × V → L × W = λ q. (f q.0, g q.1) in
+      ap (map h) (put_cons eq p ps k v)
+      ∙ by (eq k p.0) (map_pairs_put ps k v)
+      ∙ ap (λ b. if b then (f p.0, g v) ∷ map h ps else h p ∷ put eq_image (map h ps) (f k) (g v)) (sym (same k p.0))
+      ∙ sym (put_cons eq_image (h p) (map h ps) (f k) (g v))
+    where
+      by : (b : Bool) → map (λ q. (f q.0, g q.1)) (put eq ps k v) ≡ put eq_image (map (λ q. (f q.0, g q.1)) ps) (f k) (g v) → map (λ q. (f q.0, g q.1)) (if b then (p.0, v) ∷ ps else p ∷ put eq ps k v) ≡ (if b then (f p.0, g v) ∷ map (λ q. (f q.0, g q.1)) ps else (f p.0, g p.1) ∷ put eq_image (map (λ q. (f q.0, g q.1)) ps) (f k) (g v))
+      by true e = refl
+      by false e = ap (λ t. (f p.0, g p.1) ∷ t) e
 
 module _ {K V W : Type 0} (eq : K → K → Bool) (g : V → W) where
   -- In the list with `g` of each value, a lookup finds `g` of what it found before.
@@ -12,12 +29,7 @@ module _ {K V W : Type 0} (eq : K → K → Bool) (g : V → W) where
 
   -- An insertion, seen in the list with `g` of each value, inserts `g` of the value.
   pub map_values_put : (l : List (K × V)) (k : K) (v : V) → map_values g (put eq l k v) ≡ put eq (map_values g l) k (g v)
-  map_values_put [] k v = refl
-  map_values_put (p ∷ ps) k v = ap (map_values g) (put_cons eq p ps k v) ∙ by (eq k p.0) (map_values_put ps k v) ∙ sym (put_cons eq (p.0, g p.1) (map_values g ps) k (g v))
-    where
-      by : (b : Bool) → map_values g (put eq ps k v) ≡ put eq (map_values g ps) k (g v) → map_values g (if b then (p.0, v) ∷ ps else p ∷ put eq ps k v) ≡ (if b then (p.0, g v) ∷ map_values g ps else (p.0, g p.1) ∷ put eq (map_values g ps) k (g v))
-      by true e = refl
-      by false e = ap (λ t. (p.0, g p.1) ∷ t) e
+  map_values_put = map_pairs_put eq eq (λ k. k) (λ x y. refl) g
 
 module _ {K V : Type 0} (eq : K → K → Bool) (P : V → Type 0) where
   -- What holds of each value holds of a value that is found.

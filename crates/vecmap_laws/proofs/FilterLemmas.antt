@@ -7,7 +7,7 @@ use Rattle.vecmap_base.proofs.IndexLemmas.{list_any_map}
 use Rattle.vecmap_laws.proofs.ItemQueries.{tells_as}
 use Rattle.vecmap_laws.proofs.ItemRecursion.{without_first_cons}
 use Rattle.vecmap_base.specs.Items.{without_first}
-use Rattle.vecmap_base.specs.Pairs.{HasDistinctKeys, without_key}
+use Rattle.vecmap_base.specs.Pairs.{HasDistinctKeys, without_by, without_key}
 use Rattle.vecmap_laws.proofs.HeadLemmas.{head_not_in_rest}
 use Rattle.vecmap_laws.specs.Removals.{without_keys}
 
@@ -52,14 +52,19 @@ neither true c = refl
 neither false c = refl
 
 module _ {K V : Type 0} (eq : K → K → Bool) (o : IsEquivalence eq) where
-  pub without_key_is_filter : (l : List (K × V)) → HasDistinctKeys eq l → (k : K) → without_key eq l k ≡ filter (λ p. not (eq p.0 k)) l
-  without_key_is_filter l d k = without_is_filter (λ p. p.0) eq o (eq k) (λ x y e. o.congr k x y e) l d ∙ (λ t. filter (λ p. not (o.symm k p.0 t)) l)
+  -- A removal by a query leaves the pairs of the keys that it does not match.
+  pub without_by_is_filter : (test : K → Bool) → IsKeyTest eq test → (l : List (K × V)) → HasDistinctKeys eq l → without_by test l ≡ filter (λ p. not (test p.0)) l
+  without_by_is_filter test respects l d = without_is_filter (λ p. p.0) eq o test respects l d
 
+  pub without_key_is_filter : (l : List (K × V)) → HasDistinctKeys eq l → (k : K) → without_key eq l k ≡ filter (λ p. not (eq k p.0)) l
+  without_key_is_filter l d k = without_by_is_filter (eq k) (λ x y e. o.congr k x y e) l d
+
+  -- Removals of many keys leave the pairs of all other keys.
   pub without_keys_is_filter : (l : List (K × V)) → HasDistinctKeys eq l → (keys : List K) → without_keys eq l keys ≡ filter (λ p. not (is_member eq keys p.0)) l
   without_keys_is_filter l d [] = sym (filter_none (λ p. false) l (list_any_false l))
   without_keys_is_filter l d (k ∷ ks) =
       without_keys_is_filter (without_key eq l k) (distinct_keys_without eq (eq k) l d) ks
-      ∙ ap (filter (λ p. not (is_member eq ks p.0))) (without_key_is_filter l d k)
+      ∙ ap (filter (λ p. not (is_member eq ks p.0))) (without_key_is_filter l d k ∙ (λ t. filter (λ p. not (o.symm k p.0 t)) l))
       ∙ filter_twice (λ p. not (eq p.0 k)) (λ p. not (is_member eq ks p.0)) l
       ∙ (λ t. filter (λ p. neither (eq p.0 k) (is_member eq ks p.0) t) l)
 

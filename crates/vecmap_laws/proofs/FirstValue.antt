@@ -39,7 +39,3 @@ module _ {K V : Type 0} (eq : K → K → Bool) where
     pub lookup_puts_new : (l ps : List (K × V)) (q : K) → lookup eq (puts_new eq l ps) q ≡ option_or (lookup eq l q) (lookup eq ps q)
     lookup_puts_new l [] q = sym (option_or_none (lookup eq l q))
     lookup_puts_new l (p ∷ ps) q = lookup_puts_new (put_new eq l p.0 p.1) ps q ∙ first_wins l ps p.0 p.1 q
-
-    -- The same from the empty list.
-    pub lookup_made_first : (ps : List (K × V)) (q : K) → lookup eq (puts_new eq [] ps) q ≡ lookup eq ps q
-    lookup_made_first ps q = lookup_puts_new [] ps q

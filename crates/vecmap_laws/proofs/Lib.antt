@@ -15,7 +15,6 @@ pub mod DrainRuns
 pub mod EachValue
 pub mod EntryLemmas
 mod EntryPuts
-mod Examples
 pub mod FilterLemmas
 pub mod FirstValue
 pub mod FoundLemmas
@@ -32,15 +31,11 @@ pub mod ItemRecursion
 pub mod ItemRemovals
 pub mod KeptLemmas
 pub mod Keys
-mod LawLemmas
-pub mod LazyLemmas
-pub mod LengthBounds
+pub use Rattle.vecmap_set.proofs.LazyLemmas
 pub mod Lookups
 pub use Rattle.vecmap_base.proofs.LoopLemmas
 pub mod MapCongruence
 pub mod MapEquality
-pub mod MapRunsAlike
-pub mod MapRunsInRoom
 pub mod MemberLemmas
 pub mod NestedLemmas
 pub use Rattle.vecmap_set.proofs.OperatorLemmas
@@ -52,21 +47,14 @@ pub mod Parts
 pub mod PositionLemmas
 pub mod Puts
 pub mod Queries
-pub mod ReadLemmas
 pub mod Recursion
 pub mod RemovalLemmas
 pub mod Rules
-pub mod RunLemmas
-pub mod RunParts
-mod RunSteps
-mod SameClones
 pub mod SearchedMaps
 pub mod SearchedSets
 pub mod SetCongruence
 pub mod SetEquality
 pub mod SetRelations
-pub mod SetRunsAlike
-pub mod SetRunsInRoom
 pub mod SortedLemmas
 pub mod TwoKeys
 pub use Rattle.vecmap_base.proofs.UpdatedLemmas

@@ -2,11 +2,7 @@ pub mod Agreement
 pub mod Algebra
 pub mod Combining
 pub mod FirstValue
-pub mod MapReplies
 pub mod Nested
 pub mod Pulls
-pub mod Reads
 pub mod Removals
 pub mod Retaining
-pub mod Runs
-pub mod SetReplies

@@ -1,9 +1,8 @@
--- Maps whose values are maps or sets.
+-- Maps whose values are maps.
 use Rattle.std.specs.Prelude.{◌≡◌, Bool, List, []}
 use Rattle.std.specs.Option.{option_map_or}
 use Rattle.vecmap_base.specs.Pairs.{lookup_by}
 use Rattle.vecmap_map.specs.Contents.{Contents}
-use Rattle.vecmap_set.specs.Contents as set
 
 -- The map is as `new` or `or_default` creates it: empty, with the capacity 0.
 abbrev pub IsMadeEmpty : {K V : Type 0} → Contents K V → Type 0
@@ -17,16 +16,3 @@ module _ {K N V : Type 0} where
   -- The same for the first key that is equal to k.
   abbrev pub inner_entries : (K → K → Bool) → List (K × Contents N V) → K → List (N × V)
   inner_entries eq l k = inner_entries_by (eq k) l
-
--- A set as `new` or `or_default` creates it, empty.
-abbrev pub IsMadeEmptySet : {T : Type 0} → set.Contents T → Type 0
-IsMadeEmptySet s = (s.elements ≡ []) × (s.capacity ≡ 0)
-
-module _ {K T : Type 0} where
-  -- The elements of the set of the first key that passes the test, or none if there is no such key.
-  abbrev pub inner_elements_by : (K → Bool) → List (K × set.Contents T) → List T
-  inner_elements_by test l = option_map_or (λ s. s.elements) (lookup_by test l) []
-
-  -- The same for the first key that is equal to k.
-  abbrev pub inner_elements : (K → K → Bool) → List (K × set.Contents T) → K → List T
-  inner_elements eq l k = inner_elements_by (eq k) l

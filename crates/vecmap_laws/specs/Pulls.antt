@@ -1,7 +1,5 @@
 -- Pulls from both ends of an iterator, in any mixture.
-use Rattle.std.specs.Prelude.{◌≡◌, ◌-◌, List, [], ◌∷◌, Option, drop, length, slice_get, take, map, option_map}
-use Rattle.std.specs.Borrow.{Bor}
-use Rattle.std.specs.Map.Iter.{deref}
+use Rattle.std.specs.Prelude.{◌≡◌, ◌-◌, List, [], ◌∷◌, Option, drop, length, slice_get, take}
 
 -- A pull is a call of `next`, which takes from the front, or of `next_back`, which takes from the back. This is its
 -- end.
@@ -22,9 +20,3 @@ module _ {S A : Type 0} (next next_back : S → Option A → S → Type 0) where
   PullsBy s [] items t = (items ≡ []) × (t ≡ s)
   PullsBy s (front ∷ ends) items t = (r : Option A) × (u : S) × (more : List (Option A)) × next s r u × (items ≡ r ∷ more) × PullsBy u ends more t
   PullsBy s (back ∷ ends) items t = (r : Option A) × (u : S) × (more : List (Option A)) × next_back s r u × (items ≡ r ∷ more) × PullsBy u ends more t
-
-module _ {S T : Type 0} (rest : S → List T) (next next_back : S → Option (Bor T) → S → Type 0) where
-  -- Any mixture of pulls that leads from s to t gives what the same pulls of the list left at s give. It leaves the
-  -- list left at t.
-  abbrev pub PullsAsList : Type 0
-  PullsAsList = (s t : S) (ends : List End) (items : List (Option (Bor T))) → PullsBy next next_back s ends items t → Pulls (rest s) ends (map (option_map deref) items) (rest t)

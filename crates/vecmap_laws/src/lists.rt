@@ -1,17 +1,15 @@
 //! Laws of lists, which are laws of maps and of sets.
-ghost use Rattle.std.specs.Prelude.{◌≡◌, ◌≤◌, List, Option, length, map, option_map};
+ghost use Rattle.std.specs.Prelude.{◌≡◌, ◌≤◌, ℕ, List, String, bytes_eq, false, length, string_bytes, string_eq, true};
 ghost use Rattle.std.specs.List.{IsDistinct};
-ghost use Rattle.std.specs.Map.{keys_of};
-ghost use Rattle.std.specs.Map.Iter.{TakesFirst, TakesLast};
-ghost use Rattle.vecmap_base.specs.Pairs.{HasDistinctKeys};
+ghost use Rattle.std.specs.Map.{IsKeyTest, keys_of};
+ghost use Rattle.vecmap_base.specs.Pairs.{HasDistinctKeys, has_text};
 ghost use Rattle.vecmap_base.specs.Repeats.{comparisons, cost};
-ghost use Rattle.vecmap_laws.specs.Pulls.{End, Pulls, PullsBy};
-ghost use Rattle.vecmap_base.specs.Walks.{TakesFirstOf, TakesLastOf};
+ghost use Rattle.std.specs.declared.alloc.Global.{Global};
 
 /// Bounds the number of comparisons that a removal of repeats makes.
 ///
 /// It is at most one comparison for each two elements, and exactly as many if no two elements are equal.
-#[tactic(auto, using(crate::proofs::LawLemmas::Lists::comparisons_are_bounded))]
+#[tactic(auto, using(vecmap_base::proofs::RepeatsLemmas::Comparisons::comparisons_at_most, crate::proofs::ComparisonLemmas::comparisons_distinct))]
 pub fn comparisons_are_bounded<T: Eq>()
     ensures at_most { (xs : List T) → comparisons T.eq xs ≤ cost (length xs) }
     ensures exact_if_distinct { (xs : List T) → IsDistinct T.eq xs
@@ -19,30 +17,20 @@ pub fn comparisons_are_bounded<T: Eq>()
 {}
 
 /// Like [`comparisons_are_bounded`], for pairs, whose keys are compared.
-#[tactic(auto, using(crate::proofs::LawLemmas::Lists::key_comparisons_are_bounded))]
+#[tactic(auto, using(vecmap_base::proofs::RepeatsLemmas::Comparisons::key_comparisons_at_most, crate::proofs::ComparisonLemmas::key_comparisons_distinct))]
 pub fn key_comparisons_are_bounded<K: Eq, V>()
     ensures at_most { (l : List (K × V)) → comparisons K.eq (keys_of l) ≤ cost (length l) }
     ensures exact_if_distinct { (l : List (K × V)) → HasDistinctKeys K.eq l
         → comparisons K.eq (keys_of l) ≡ cost (length l) }
 {}
 
-/// Says what calls of `next` and `next_back` of an exact iterator return, in any mixture.
+/// A text matches the `String` of its bytes as a query, and two texts of different bytes match no string in common.
 ///
-/// They return what its list gives: each item once, from the front in order, from the back in reverse. Once all are
-/// given, they return `None`. `A` is the type of what the iterator returns, such as `&K`. `X` is the type of what its
-/// list holds, such as `K`.
-pub fn iterators_pull_as_lists<A, X>()
-    ensures { (shows : A → X) (s t : List X) (ends : List End) (items : List (Option A))
-        → PullsBy (TakesFirst shows) (TakesLast shows) s ends items t
-        → Pulls s ends (map (option_map shows) items) t }
-{}
-
-/// Like [`iterators_pull_as_lists`], for the iterators that yield `&mut` references to keys or values.
-///
-/// Such an iterator is not itself a list in contracts, but has one left in each state `S`: `rest` is a definition such
-/// as `iter_mut_rest`.
-pub fn mutable_iterators_pull_as_lists<S, A, X>()
-    ensures { (shows : A → X) (rest : S → List X) (s t : S) (ends : List End) (items : List (Option A))
-        → PullsBy (TakesFirstOf shows rest) (TakesLastOf shows rest) s ends items t
-        → Pulls (rest s) ends (map (option_map shows) items) (rest t) }
+/// With it, [`queries_find_as_keys`](crate::maps::queries_find_as_keys) and its kin are laws of texts.
+pub fn texts_are_queries()
+    ensures respects { (text : List ℕ) → IsKeyTest {K = String Global} string_eq (has_text text) }
+    ensures own { (text : List ℕ) (k : String Global) → string_bytes k ≡ text
+        → has_text text k ≡ true }
+    ensures apart { (text other : List ℕ) → bytes_eq text other ≡ false → (k : String Global)
+        → has_text text k ≡ true → has_text other k ≡ false }
 {}

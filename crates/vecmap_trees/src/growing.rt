@@ -7,7 +7,9 @@ ghost use Rattle.vecmap_trees.specs.Trees.{ArePartedPaths, at_path};
 use crate::Json;
 use std::alloc::Global;
 use vecmap::VecMap;
-use vecmap_laws::maps::{texts_find_as_strings, writes_by_texts_are_insertions};
+use vecmap_laws::maps::{
+    queries_find_as_keys, texts_are_queries, writes_by_queries_are_insertions,
+};
 
 // Makes a path lead to a value, and returns `true` if it does. What is missing is created, with `null` at its end.
 #[cycle(make_path)]
@@ -48,7 +50,8 @@ fn make_below(members: &mut VecMap<String, Json>, alloc: Global, name: &str, pat
         → IsTrue result × (members.new ≡ members.old) }
     ensures refused { result ≡ false → members.new ≡ members.old }
 {
-    writes_by_texts_are_insertions::<Json>();
+    writes_by_queries_are_insertions::<String, Json>();
+    texts_are_queries();
     match members.get_mut(name) {
         Some(inner) => make_path(inner, alloc, path),
         None => match branch(alloc, path) {
@@ -85,7 +88,8 @@ fn add_member(members: &mut VecMap<String, Json>, alloc: Global, name: &str, val
         ≡ lookup_by (has_text other) members.old.entries }
     ensures refused { result ≡ false → members.new ≡ members.old }
 {
-    texts_find_as_strings::<Json>();
+    queries_find_as_keys::<String, Json>();
+    texts_are_queries();
     let Ok(key) = String::from_str(alloc, name) else {
         return false;
     };

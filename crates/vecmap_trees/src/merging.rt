@@ -7,7 +7,9 @@ ghost use Rattle.vecmap_trees.specs.Trees.{AreDistinctMembers, HasDistinctNames,
 use crate::Json;
 use std::alloc::AllocError;
 use vecmap::VecMap;
-use vecmap_laws::maps::{texts_find_as_strings, writes_by_texts_are_insertions};
+use vecmap_laws::maps::{
+    queries_find_as_keys, texts_are_queries, writes_by_queries_are_insertions,
+};
 
 impl Json {
     /// Moves the members of another object into this one. If both have a member of a name, it keeps its index, and gets
@@ -171,8 +173,9 @@ fn merge_member(
         (merged_below (merged_leaf names) names (Some value)
         (lookup_by (has_text (string_bytes name)) mine.old.entries))) }
 {
-    texts_find_as_strings::<Json>();
-    writes_by_texts_are_insertions::<Json>();
+    queries_find_as_keys::<String, Json>();
+    texts_are_queries();
+    writes_by_queries_are_insertions::<String, Json>();
     match mine.get_mut(name.as_str()) {
         Some(old) => merge_into(value, old),
         None => {

@@ -9,7 +9,7 @@ use crate::growing::make_path;
 use crate::laws::{changes_are_found, changes_are_not_seen_elsewhere};
 use std::alloc::Global;
 use vecmap::{Refused, VecMap};
-use vecmap_laws::maps::texts_find_as_strings;
+use vecmap_laws::maps::{queries_find_as_keys, texts_are_queries};
 
 impl Json {
     /// Sets a member of an object, and returns its previous value. An existing member keeps its index, and a new one is
@@ -48,7 +48,8 @@ impl Json {
         ensures given { IfErr result (λ refused. refused.given ≡ (name, value)) }
         ensures err { OnErr result (self.new ≡ self.old) }
     {
-        texts_find_as_strings::<Json>();
+        queries_find_as_keys::<String, Json>();
+        texts_are_queries();
         match self {
             Json::Object(members) => members.insert(name, value),
             _ => Err(Refused {

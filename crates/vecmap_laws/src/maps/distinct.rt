@@ -1,26 +1,57 @@
-//! Laws of lists of distinct keys, and of the pairs that lookups find.
-ghost use Rattle.std.specs.Prelude.{◌≡◌, ◌∷◌, ℕ, List, None, Some, slice_get, true};
-ghost use Rattle.vecmap_base.specs.Pairs.{HasDistinctKeys, index_of, lookup};
+//! Laws of keys that do not repeat.
+ghost use Rattle.std.specs.List.{remove_range};
+ghost use Rattle.std.specs.Prelude.{Bool, List, [], drop, filter, remove, slice_range, take, ℕ, ◌≤◌};
+ghost use Rattle.vecmap_base.specs.Items.{swap_without};
+ghost use Rattle.vecmap_base.specs.Pairs.{HasDistinctKeys, put, put_at, put_key, puts, swap_without_by, swap_without_key, with_value, without_by};
 
-/// No keys repeat in a list exactly if the first key is absent from the rest, and no keys repeat in the rest.
-#[tactic(auto, using(crate::proofs::LawLemmas::Maps::distinct_keys_by_head_and_rest))]
-pub fn distinct_keys_by_head_and_rest<K: Eq, V>()
-    ensures value { (p : K × V) (ps : List (K × V)) → HasDistinctKeys K.eq (p ∷ ps)
-        → lookup K.eq ps p.0 ≡ None }
-    ensures index { (p : K × V) (ps : List (K × V)) → HasDistinctKeys K.eq (p ∷ ps)
-        → index_of K.eq ps p.0 ≡ None }
-    ensures rest { (p : K × V) (ps : List (K × V)) → HasDistinctKeys K.eq (p ∷ ps)
-        → HasDistinctKeys K.eq ps }
-    ensures one_more { (p : K × V) (ps : List (K × V)) → index_of K.eq ps p.0 ≡ None
-        → HasDistinctKeys K.eq ps → HasDistinctKeys K.eq (p ∷ ps) }
+/// If no keys repeat, none repeat after an insertion, after many insertions, or after a write of a value.
+///
+/// No keys repeat in the empty list, nor in what insertions make of it.
+#[tactic(auto, using(vecmap_base::proofs::DistinctLemmas::Absent::distinct_none, crate::proofs::DistinctKeys::distinct_put, crate::proofs::DistinctKeys::distinct_puts, crate::proofs::DistinctKeys::distinct_put_at, crate::proofs::DistinctKeys::distinct_keys_with_value, crate::proofs::DistinctKeys::distinct_put_key))]
+pub fn insertion_keeps_keys_distinct<K: Eq, V>()
+    ensures empty { HasDistinctKeys {V = V} K.eq [] }
+    ensures put { (l : List (K × V)) → HasDistinctKeys K.eq l → (k : K) (v : V)
+        → HasDistinctKeys K.eq (put K.eq l k v) }
+    ensures puts { (l : List (K × V)) → HasDistinctKeys K.eq l → (pairs : List (K × V))
+        → HasDistinctKeys K.eq (puts K.eq l pairs) }
+    ensures made { (pairs : List (K × V)) → HasDistinctKeys K.eq (puts K.eq [] pairs) }
+    ensures put_key { (l : List (K × V)) → HasDistinctKeys K.eq l → (k : K) (v : V)
+        → HasDistinctKeys K.eq (put_key K.eq l k v) }
+    ensures put_at { (l : List (K × V)) → HasDistinctKeys K.eq l → (i : ℕ) (k : K) (v : V)
+        → HasDistinctKeys K.eq (put_at K.eq l i k v) }
+    ensures with_value { (l : List (K × V)) → HasDistinctKeys K.eq l → (i : ℕ) (v : V)
+        → HasDistinctKeys K.eq (with_value l i v) }
 {}
 
-/// A lookup that finds a value finds it at the index of its key, in a pair with an equal key.
-pub fn found_pairs_are_stored<K: Eq, V>()
-    ensures value { (l : List (K × V)) (q : K) (v : V) → lookup K.eq l q ≡ Some v
-        → (i : ℕ) × (k : K) × (index_of K.eq l q ≡ Some i) × (slice_get l i ≡ Some (k, v))
-        × (K.eq q k ≡ true) }
-    ensures index { (l : List (K × V)) (q : K) (i : ℕ) → index_of K.eq l q ≡ Some i
-        → (k : K) × (v : V) × (slice_get l i ≡ Some (k, v)) × (K.eq q k ≡ true)
-        × (lookup K.eq l q ≡ Some v) }
+/// If no keys repeat, none repeat after a removal, nor in the front of the list.
+///
+/// The removal is by a test of the keys or by index. It shifts the later pairs or swaps in the last one. The test is
+/// the `==` of a key, that of a text, or that of a query type of your own.
+#[tactic(auto, using(crate::proofs::DistinctKeys::distinct_keys_without, crate::proofs::DistinctKeys::distinct_keys_remove, crate::proofs::DistinctKeys::distinct_keys_swap_without_by, crate::proofs::DistinctKeys::distinct_keys_swap_without_key, crate::proofs::DistinctKeys::distinct_keys_swap_without, crate::proofs::DistinctKeys::distinct_keys_take))]
+pub fn removal_keeps_keys_distinct<K: Eq, V>()
+    ensures by_test { (l : List (K × V)) → HasDistinctKeys K.eq l → (test : K → Bool)
+        → HasDistinctKeys K.eq (without_by test l) }
+    ensures by_index { (l : List (K × V)) → HasDistinctKeys K.eq l → (i : ℕ)
+        → HasDistinctKeys K.eq (remove l i) }
+    ensures swap_by_test { (l : List (K × V)) → HasDistinctKeys K.eq l → (test : K → Bool)
+        → HasDistinctKeys K.eq (swap_without_by test l) }
+    ensures swap_by_key { (l : List (K × V)) → HasDistinctKeys K.eq l → (k : K)
+        → HasDistinctKeys K.eq (swap_without_key K.eq l k) }
+    ensures swap_by_index { (l : List (K × V)) → HasDistinctKeys K.eq l → (i : ℕ)
+        → HasDistinctKeys K.eq (swap_without l i) }
+    ensures front { (l : List (K × V)) → HasDistinctKeys K.eq l → (n : ℕ)
+        → HasDistinctKeys K.eq (take n l) }
+{}
+
+/// If no keys repeat, none repeat in a part of the list, once a part is left out, nor in the pairs that pass a test.
+#[tactic(auto, using(crate::proofs::DistinctParts::distinct_keys_drop, crate::proofs::DistinctParts::distinct_keys_slice_range, crate::proofs::DistinctParts::distinct_keys_remove_range, crate::proofs::DistinctParts::distinct_keys_filter))]
+pub fn parts_keep_keys_distinct<K: Eq, V>()
+    ensures back { (l : List (K × V)) → HasDistinctKeys K.eq l → (n : ℕ)
+        → HasDistinctKeys K.eq (drop n l) }
+    ensures part { (l : List (K × V)) → HasDistinctKeys K.eq l → (i j : ℕ)
+        → HasDistinctKeys K.eq (slice_range l i j) }
+    ensures without_part { (l : List (K × V)) → HasDistinctKeys K.eq l → (i j : ℕ) → i ≤ j
+        → HasDistinctKeys K.eq (remove_range l i j) }
+    ensures passing { (l : List (K × V)) → HasDistinctKeys K.eq l → (test : K × V → Bool)
+        → HasDistinctKeys K.eq (filter test l) }
 {}

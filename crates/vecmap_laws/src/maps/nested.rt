@@ -1,13 +1,12 @@
-//! Laws of maps whose values are maps or sets.
-ghost use Rattle.std.specs.Prelude.{◌≡◌, List, false};
+//! Laws of maps whose values are maps.
+ghost use Rattle.std.specs.Map.{IsKeyTest};
 ghost use Rattle.std.specs.Option.{UnwrapsOrElse};
-ghost use Rattle.vecmap_base.specs.Items.{add};
-ghost use Rattle.vecmap_base.specs.Pairs.{index_of, lookup, put};
+ghost use Rattle.std.specs.Prelude.{Bool, List, Some, false, if◌then◌else◌, ◌&&◌, ◌≡◌};
+ghost use Rattle.vecmap_base.specs.Pairs.{index_of, lookup, lookup_by, put};
+ghost use Rattle.vecmap_laws.specs.Nested.{IsMadeEmpty, inner_entries, inner_entries_by};
 ghost use Rattle.vecmap_map.specs.Contents.{Contents};
-ghost use Rattle.vecmap_map.specs.Entry.{entries_with, entry_key, entry_map, entry_index_of, entry_value};
-ghost use Rattle.vecmap_laws.specs.Nested.{IsMadeEmpty, IsMadeEmptySet, inner_elements, inner_entries};
+ghost use Rattle.vecmap_map.specs.Entry.{entries_with, entry_index_of, entry_key, entry_map, entry_value};
 ghost use Rattle.vecmap_map.specs.declared.entry.Entry.{Entry};
-ghost use Rattle.vecmap_set.specs.Contents as set_contents;
 
 /// In a map of maps, an insertion into the map of a key inserts into the inner pairs of that key.
 ///
@@ -47,44 +46,17 @@ pub fn inner_insertions_are_found<K: Eq, N: Eq, V>()
         → inner_entries K.eq (put K.eq l k m) q ≡ inner_entries K.eq l q }
 {}
 
-/// In a map of sets, an addition to the set of a key adds to the inner elements of that key.
+/// After an insertion into the map of a key, two queries find the value if they match the two keys. Otherwise they find
+/// what they found before.
 ///
-/// This also holds if the set was just created empty, as by `or_default`. The inner elements of other keys stay, and a
-/// set that is only created empty changes none. The clauses that begin with `entry` say this of the map that the call
-/// of an entry leaves, in the words of these calls. [`inner_insertions_are_found`] is the law for a map of
-/// maps.
-pub fn inner_additions_are_found<K: Eq, T: Eq>()
-    ensures made { (l : List (K × set_contents.Contents T)) (k : K) (s : set_contents.Contents T)
-        → UnwrapsOrElse (lookup K.eq l k) IsMadeEmptySet s → s.elements ≡ inner_elements K.eq l k }
-    ensures elements { (l : List (K × set_contents.Contents T)) (k : K)
-        (s : set_contents.Contents T) → inner_elements K.eq (put K.eq l k s) k ≡ s.elements }
-    ensures written { (l : List (K × set_contents.Contents T)) (k : K)
-        (before after : set_contents.Contents T) (x : T)
-        → UnwrapsOrElse (lookup K.eq l k) IsMadeEmptySet before
-        → after.elements ≡ add T.eq before.elements x
-        → inner_elements K.eq (put K.eq l k after) k ≡ add T.eq (inner_elements K.eq l k) x }
-    ensures others { (l : List (K × set_contents.Contents T)) (k : K) (s : set_contents.Contents T)
-        (q : K) → K.eq k q ≡ false
-        → inner_elements K.eq (put K.eq l k s) q ≡ inner_elements K.eq l q }
-    ensures entry { (l : List (K × set_contents.Contents T))
-        (m : Contents K (set_contents.Contents T)) (k : K) (e : Entry K (set_contents.Contents T))
-        (before after : set_contents.Contents T) (x : T) → l ≡ entries_with e after
-        → after.elements ≡ add T.eq before.elements x
-        → UnwrapsOrElse (entry_value e) IsMadeEmptySet before → entry_map e ≡ m → entry_key e ≡ k
-        → entry_index_of e ≡ index_of K.eq m.entries k
-        → inner_elements K.eq l k ≡ add T.eq (inner_elements K.eq m.entries k) x }
-    ensures entry_others { (l : List (K × set_contents.Contents T))
-        (m : Contents K (set_contents.Contents T)) (k : K) (e : Entry K (set_contents.Contents T))
-        (s : set_contents.Contents T) → l ≡ entries_with e s → entry_map e ≡ m → entry_key e ≡ k
-        → entry_index_of e ≡ index_of K.eq m.entries k → (q : K) → K.eq k q ≡ false
-        → inner_elements K.eq l q ≡ inner_elements K.eq m.entries q }
-    ensures entry_unchanged { (l : List (K × set_contents.Contents T))
-        (m : Contents K (set_contents.Contents T)) (k : K) (e : Entry K (set_contents.Contents T))
-        (before after : set_contents.Contents T) → l ≡ entries_with e after → after ≡ before
-        → UnwrapsOrElse (entry_value e) IsMadeEmptySet before → entry_map e ≡ m → entry_key e ≡ k
-        → entry_index_of e ≡ index_of K.eq m.entries k → (q : K)
-        → inner_elements K.eq l q ≡ inner_elements K.eq m.entries q }
-    ensures unchanged { (l : List (K × set_contents.Contents T)) (k : K)
-        (s : set_contents.Contents T) → UnwrapsOrElse (lookup K.eq l k) IsMadeEmptySet s → (q : K)
-        → inner_elements K.eq (put K.eq l k s) q ≡ inner_elements K.eq l q }
+/// `l` is the map of maps before the insertion, and `m` the one after it. The law [`inner_insertions_are_found`] gives
+/// both premises, also if the map of the key was created just before. `test` and `name` are the tests of the queries, as
+/// in [`queries_find_as_keys`](crate::maps::queries_find_as_keys).
+pub fn values_are_found_by_two_keys<K: Eq, N: Eq, V>()
+    ensures { (l m : List (K × Contents N V)) (k : K) (n : N) (v : V)
+        → inner_entries K.eq m k ≡ put N.eq (inner_entries K.eq l k) n v
+        → ((q : K) → K.eq k q ≡ false → inner_entries K.eq m q ≡ inner_entries K.eq l q)
+        → (test : K → Bool) → IsKeyTest K.eq test → (name : N → Bool) → IsKeyTest N.eq name
+        → lookup_by name (inner_entries_by test m)
+        ≡ (if test k && name n then Some v else lookup_by name (inner_entries_by test l)) }
 {}

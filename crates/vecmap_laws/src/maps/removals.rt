@@ -1,54 +1,29 @@
-//! Laws of what removals leave: which pairs, what lookups find, and the indices and the length.
-ghost use Rattle.std.specs.List.{remove_range};
-ghost use Rattle.std.specs.Prelude.{◌≡◌, ◌-◌, ◌≤◌, ◌||◌, ℕ, List, None, Some, drop, false, filter, if◌then◌else◌, is_some, length, nat_lt, not, remove, slice_get, take};
-ghost use Rattle.std.specs.Set.{is_member};
-ghost use Rattle.vecmap_base.specs.Items.{swap_without};
-ghost use Rattle.vecmap_base.specs.Pairs.{HasDistinctKeys, index_of, lookup, swap_without_key, without_key};
-ghost use Rattle.vecmap_laws.specs.Removals.{below, drained, shifted, swapped, without_keys};
+//! Laws of what removals leave: what lookups find, at which indices, and the length.
+ghost use Rattle.std.specs.Map.{keys_of};
+ghost use Rattle.std.specs.Prelude.{List, None, Some, drop, false, if◌then◌else◌, insert, is_some, length, remove, slice_get, take, ℕ, ◌++◌, ◌+◌, ◌-◌, ◌<◌, ◌≡◌};
+ghost use Rattle.vecmap_base.specs.Items.{swap_without, without_item};
+ghost use Rattle.vecmap_base.specs.Pairs.{HasDistinctKeys, index_of, lookup, put_at, puts, swap_without_key, with_pair, without_key};
 
-/// If no keys repeat, a removal leaves the pairs of the other keys, in order. Many removals leave the pairs whose keys
-/// are none of the removed ones.
-pub fn removals_are_filters<K: Eq, V>()
-    ensures one { (l : List (K × V)) → HasDistinctKeys K.eq l → (k : K)
-        → without_key K.eq l k ≡ filter (λ p. not (K.eq p.0 k)) l }
-    ensures many { (l : List (K × V)) → HasDistinctKeys K.eq l → (keys : List K)
-        → without_keys K.eq l keys ≡ filter (λ p. not (is_member K.eq keys p.0)) l }
-{}
-
-/// If no keys repeat, a removal that moves the last pair, or one by index, is forgotten like one that shifts.
+/// If no keys repeat, a key is absent after its removal, and every other key finds what it found before.
 ///
-/// The removed key is absent, and every other key finds what it found before.
-pub fn moving_removals_are_forgotten<K: Eq, V>()
+/// The remaining pairs keep their order, unless the last pair is swapped in.
+#[tactic(auto, using(crate::proofs::AfterPuts::index_of_without_key, crate::proofs::Keys::keys_of_without_key))]
+pub fn removals_are_forgotten<K: Eq, V>()
+    ensures value { (l : List (K × V)) → HasDistinctKeys K.eq l → (k : K)
+        → lookup K.eq (without_key K.eq l k) k ≡ None }
+    ensures others { (l : List (K × V)) (k q : K) → K.eq k q ≡ false
+        → lookup K.eq (without_key K.eq l k) q ≡ lookup K.eq l q }
+    ensures lookups { (l : List (K × V)) → HasDistinctKeys K.eq l → (k q : K)
+        → lookup K.eq (without_key K.eq l k) q ≡ (if K.eq k q then None else lookup K.eq l q) }
     ensures swap { (l : List (K × V)) → HasDistinctKeys K.eq l → (k q : K)
         → lookup K.eq (swap_without_key K.eq l k) q
         ≡ (if K.eq k q then None else lookup K.eq l q) }
-    ensures by_index { (l : List (K × V)) → HasDistinctKeys K.eq l → (i : ℕ) (k : K) (v : V)
-        → slice_get l i ≡ Some (k, v) → (q : K)
-        → lookup K.eq (remove l i) q ≡ (if K.eq k q then None else lookup K.eq l q) }
-    ensures swap_by_index { (l : List (K × V)) → HasDistinctKeys K.eq l → (i : ℕ) (k : K) (v : V)
-        → slice_get l i ≡ Some (k, v) → (q : K)
-        → lookup K.eq (swap_without l i) q ≡ (if K.eq k q then None else lookup K.eq l q) }
-    ensures last { (l : List (K × V)) → HasDistinctKeys K.eq l → (k : K) (v : V)
-        → slice_get l (length l - 1) ≡ Some (k, v) → (q : K)
-        → lookup K.eq (take (length l - 1) l) q ≡ (if K.eq k q then None else lookup K.eq l q) }
-{}
-
-/// After a removal that shifts, the index of each later key is one less. After one that moves the last pair, only the
-/// last key has a new index, which is that of the removed one.
-///
-/// Removals that move the last pair need a list of which no keys repeat.
-pub fn removals_change_indices<K: Eq, V>()
-    ensures shift { (l : List (K × V)) (k : K) (i : ℕ) → index_of K.eq l k ≡ Some i → (q : K)
-        → K.eq k q ≡ false → index_of K.eq (without_key K.eq l k) q ≡ shifted i (index_of K.eq l q) }
-    ensures swap { (l : List (K × V)) → HasDistinctKeys K.eq l → (k : K) (i : ℕ)
-        → index_of K.eq l k ≡ Some i → (q : K) → K.eq k q ≡ false
-        → index_of K.eq (swap_without_key K.eq l k) q ≡ swapped (length l) i (index_of K.eq l q) }
-    ensures by_index { (l : List (K × V)) (i : ℕ) (k : K) (v : V) → slice_get l i ≡ Some (k, v)
-        → (q : K) → K.eq k q ≡ false
-        → index_of K.eq (remove l i) q ≡ shifted i (index_of K.eq l q) }
-    ensures swap_by_index { (l : List (K × V)) → HasDistinctKeys K.eq l → (i : ℕ) (k : K) (v : V)
-        → slice_get l i ≡ Some (k, v) → (q : K) → K.eq k q ≡ false
-        → index_of K.eq (swap_without l i) q ≡ swapped (length l) i (index_of K.eq l q) }
+    ensures absent { (l : List (K × V)) → HasDistinctKeys K.eq l → (k : K)
+        → index_of K.eq (without_key K.eq l k) k ≡ None }
+    ensures keys { (l : List (K × V)) (k : K)
+        → keys_of (without_key K.eq l k) ≡ without_item K.eq (keys_of l) k }
+    ensures shifted { (l : List (K × V)) (k : K) (i : ℕ) → index_of K.eq l k ≡ Some i
+        → without_key K.eq l k ≡ take i l ++ drop (i + 1) l }
 {}
 
 /// A removal of a pair that is present makes the list shorter by one. The removal of an absent key leaves its length.
@@ -63,30 +38,35 @@ pub fn removals_shorten<K: Eq, V>()
         → length (swap_without l i) ≡ length l - 1 }
 {}
 
-/// In a part of the list, a key finds its value if its index is within the part.
+/// A pair that is inserted where one was removed replaces it. An absent key stays absent after a removal.
 ///
-/// The part is the front, the back, or what is left after a range has been removed. In the front, the index stays. In
-/// the back, it is counted from the first pair of the part.
-pub fn parts_keep_their_lookups<K: Eq, V>()
-    ensures front { (l : List (K × V)) (n i : ℕ) (q : K) → index_of K.eq l q ≡ Some i
-        → lookup K.eq (take n l) q ≡ (if nat_lt i n then lookup K.eq l q else None) }
-    ensures back { (l : List (K × V)) → HasDistinctKeys K.eq l → (n i : ℕ) (q : K)
-        → index_of K.eq l q ≡ Some i
-        → lookup K.eq (drop n l) q ≡ (if nat_lt i n then None else lookup K.eq l q) }
-    ensures without_part { (l : List (K × V)) → HasDistinctKeys K.eq l → (i j : ℕ) → i ≤ j → (m : ℕ)
-        (q : K) → index_of K.eq l q ≡ Some m → lookup K.eq (remove_range l i j) q
-        ≡ (if nat_lt m i || not (nat_lt m j) then lookup K.eq l q else None) }
-    ensures front_index { (l : List (K × V)) (n : ℕ) (q : K)
-        → index_of K.eq (take n l) q ≡ below n (index_of K.eq l q) }
-    ensures back_index { (l : List (K × V)) (n i : ℕ) (q : K) → index_of K.eq l q ≡ Some i → n ≤ i
-        → index_of K.eq (drop n l) q ≡ Some (i - n) }
+/// The removal of a key is the removal of the pair at its index.
+#[tactic(auto, using(crate::proofs::Inserted::insert_where_removed, crate::proofs::Inserted::put_at_where_removed, crate::proofs::Inserted::index_of_removed_absent, crate::proofs::Inserted::without_key_at))]
+pub fn removals_by_index_are_undone<K: Eq, V>()
+    ensures replaced { (l : List (K × V)) (i : ℕ) (k : K) (v : V) → i < length l
+        → insert (remove l i) i (k, v) ≡ with_pair l i k v }
+    ensures renamed { (l : List (K × V)) (i : ℕ) (k : K) (v : V) → i < length l
+        → index_of K.eq l k ≡ None → put_at K.eq (remove l i) i k v ≡ with_pair l i k v }
+    ensures absent { (l : List (K × V)) (i : ℕ) (q : K) → index_of K.eq l q ≡ None
+        → index_of K.eq (remove l i) q ≡ None }
+    ensures own_key { (l : List (K × V)) → HasDistinctKeys K.eq l → (i : ℕ) (k : K) (v : V)
+        → slice_get l i ≡ Some (k, v) → index_of K.eq (remove l i) k ≡ None }
+    ensures by_key { (l : List (K × V)) (k : K) (i : ℕ) → index_of K.eq l k ≡ Some i
+        → without_key K.eq l k ≡ remove l i }
 {}
 
-/// If no keys repeat, a key in front of a drained range keeps its index. One behind it loses the length of the range.
-///
-/// A key of the range is absent, and so is one that was absent before.
-#[tactic(auto, using(crate::proofs::IndicesKept::index_of_remove_range))]
-pub fn drains_change_indices<K: Eq, V>()
-    ensures { (l : List (K × V)) → HasDistinctKeys K.eq l → (i j : ℕ) → i ≤ j → (q : K)
-        → index_of K.eq (remove_range l i j) q ≡ drained i j (index_of K.eq l q) }
+/// If no keys repeat, a pair that is removed and inserted at another index is moved there, and lookups stay the same.
+pub fn moves_keep_lookups<K: Eq, V>()
+    ensures moved { (l : List (K × V)) → HasDistinctKeys K.eq l → (i j : ℕ) (k : K) (v : V)
+        → slice_get l i ≡ Some (k, v) → put_at K.eq (remove l i) j k v ≡ insert (remove l i) j (k, v) }
+    ensures lookups { (l : List (K × V)) → HasDistinctKeys K.eq l → (i j : ℕ) (k : K) (v : V)
+        → slice_get l i ≡ Some (k, v) → (q : K)
+        → lookup K.eq (put_at K.eq (remove l i) j k v) q ≡ lookup K.eq l q }
+{}
+
+/// If no keys repeat, a list that is split is whole again once the second part is appended to the first.
+#[tactic(auto, using(crate::proofs::Puts::puts_restore))]
+pub fn appending_undoes_splitting<K: Eq, V>()
+    ensures { (l : List (K × V)) → HasDistinctKeys K.eq l → (at : ℕ)
+        → puts K.eq (take at l) (drop at l) ≡ l }
 {}

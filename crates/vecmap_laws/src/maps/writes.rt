@@ -1,56 +1,46 @@
-//! Laws of writes through a reference, such as the one that `get_mut` returns for a query.
-ghost use Rattle.std.specs.Prelude.{◌≡◌, ℕ, IsSome, List, None, Some, String, bytes_eq, false, string_bytes, string_eq, true};
-ghost use Rattle.std.specs.Map.{keys_of};
-ghost use Rattle.std.specs.declared.alloc.Global.{Global};
-ghost use Rattle.vecmap_base.specs.Pairs.{has_text, index_by, lookup, lookup_by, put};
-ghost use Rattle.vecmap_map.specs.Contents.{Contents, with_value_by};
+//! Laws of writes of a value that is found, as through `get_mut`.
+ghost use Rattle.std.specs.Map.{IsKeyTest, keys_of};
+ghost use Rattle.std.specs.Prelude.{Bool, IsSome, List, None, Some, false, true, ◌≡◌};
+ghost use Rattle.vecmap_base.specs.Pairs.{index_by, index_of, lookup, lookup_by, put};
+ghost use Rattle.vecmap_map.specs.Contents.{Contents, with_value_by, with_value_of};
 
-use vecmap_base::Equivalent;
+/// An insertion of the value that its key already has changes nothing.
+///
+/// A write of the value of a key that is present, as through `get_mut`, is an insertion.
+#[tactic(auto, using(crate::proofs::AfterPuts::put_same, crate::proofs::WriteLemmas::with_value_of_is_put))]
+pub fn writes_are_insertions<K: Eq, V>()
+    ensures unchanged { (l : List (K × V)) (k : K) (v : V) → lookup K.eq l k ≡ Some v
+        → put K.eq l k v ≡ l }
+    ensures write { (m : Contents K V) (k : K) (v : V) → IsSome (index_of K.eq m.entries k)
+        → (with_value_of K.eq m k v).entries ≡ put K.eq m.entries k v }
+{}
+
+/// A write of the value of a key leaves all other keys and values.
+///
+/// The key finds the written value. If it is absent, nothing changes.
+#[tactic(auto, using(crate::proofs::WriteLemmas::lookup_written, crate::proofs::WriteLemmas::lookup_written_other, crate::proofs::WriteLemmas::keys_of_with_value_by))]
+pub fn writes_leave_other_keys<K: Eq, V>()
+    ensures value { (m : Contents K V) (k : K) (v : V) → IsSome (index_of K.eq m.entries k)
+        → lookup K.eq (with_value_of K.eq m k v).entries k ≡ Some v }
+    ensures others { (m : Contents K V) (k : K) (v : V) (q : K) → K.eq k q ≡ false
+        → lookup K.eq (with_value_of K.eq m k v).entries q ≡ lookup K.eq m.entries q }
+    ensures keys { (m : Contents K V) (k : K) (v : V)
+        → keys_of (with_value_of K.eq m k v).entries ≡ keys_of m.entries }
+    ensures absent { (m : Contents K V) (k : K) (v : V) → index_of K.eq m.entries k ≡ None
+        → with_value_of K.eq m k v ≡ m }
+{}
 
 /// A write of the value that a query finds is an insertion of each key that the query matches.
 ///
-/// The query then finds the written value. Every other key and query finds what it found before, and the keys stay. If
-/// the query finds nothing, nothing changes.
-#[tactic(auto, using(crate::proofs::LawLemmas::Maps::writes_by_queries_are_insertions))]
-pub fn writes_by_queries_are_insertions<K: Eq, V, Q: Equivalent<K>>()
-    ensures write { (m : Contents K V) (query : Q) (k : K) (v : V) → Q.equivalent query k ≡ true
-        → IsSome (index_by (Q.equivalent query) m.entries)
-        → (with_value_by (Q.equivalent query) m v).entries ≡ put K.eq m.entries k v }
-    ensures value { (m : Contents K V) (query : Q) (v : V)
-        → IsSome (index_by (Q.equivalent query) m.entries)
-        → lookup_by (Q.equivalent query) (with_value_by (Q.equivalent query) m v).entries ≡ Some v }
-    ensures others { (m : Contents K V) (query : Q) (v : V) (k : K) → Q.equivalent query k ≡ false
-        → lookup K.eq (with_value_by (Q.equivalent query) m v).entries k ≡ lookup K.eq m.entries k }
-    ensures other_queries { (m : Contents K V) (query other : Q) (v : V)
-        → ((k : K) → Q.equivalent query k ≡ true → Q.equivalent other k ≡ false)
-        → lookup_by (Q.equivalent other) (with_value_by (Q.equivalent query) m v).entries
-        ≡ lookup_by (Q.equivalent other) m.entries }
-    ensures keys { (m : Contents K V) (query : Q) (v : V)
-        → keys_of (with_value_by (Q.equivalent query) m v).entries ≡ keys_of m.entries }
-    ensures absent { (m : Contents K V) (query : Q) (v : V)
-        → index_by (Q.equivalent query) m.entries ≡ None
-        → with_value_by (Q.equivalent query) m v ≡ m }
-{}
-
-/// The same laws for a text and `String` keys: a text matches the `String` of its bytes.
-#[tactic(auto, using(crate::proofs::LawLemmas::Maps::writes_by_texts_are_insertions))]
-pub fn writes_by_texts_are_insertions<V>()
-    ensures write { (m : Contents (String Global) V) (text : List ℕ) (k : String Global) (v : V)
-        → string_bytes k ≡ text → IsSome (index_by (has_text text) m.entries)
-        → (with_value_by (has_text text) m v).entries ≡ put string_eq m.entries k v }
-    ensures value { (m : Contents (String Global) V) (text : List ℕ) (v : V)
-        → IsSome (index_by (has_text text) m.entries)
-        → lookup_by (has_text text) (with_value_by (has_text text) m v).entries ≡ Some v }
-    ensures others { (m : Contents (String Global) V) (text : List ℕ) (v : V) (k : String Global)
-        → bytes_eq (string_bytes k) text ≡ false
-        → lookup string_eq (with_value_by (has_text text) m v).entries k
-        ≡ lookup string_eq m.entries k }
-    ensures other_texts { (m : Contents (String Global) V) (text other : List ℕ) (v : V)
-        → bytes_eq text other ≡ false
-        → lookup_by (has_text other) (with_value_by (has_text text) m v).entries
-        ≡ lookup_by (has_text other) m.entries }
-    ensures keys { (m : Contents (String Global) V) (text : List ℕ) (v : V)
-        → keys_of (with_value_by (has_text text) m v).entries ≡ keys_of m.entries }
-    ensures absent { (m : Contents (String Global) V) (text : List ℕ) (v : V)
-        → index_by (has_text text) m.entries ≡ None → with_value_by (has_text text) m v ≡ m }
+/// The query then finds the written value. Every query that matches none of these keys finds what it found before.
+/// `test` is the test of the query, as in [`queries_find_as_keys`](crate::maps::queries_find_as_keys).
+pub fn writes_by_queries_are_insertions<K: Eq, V>()
+    ensures write { (test : K → Bool) → IsKeyTest K.eq test → (m : Contents K V) (k : K) (v : V)
+        → test k ≡ true → IsSome (index_by test m.entries)
+        → (with_value_by test m v).entries ≡ put K.eq m.entries k v }
+    ensures value { (test : K → Bool) → IsKeyTest K.eq test → (m : Contents K V) (v : V)
+        → IsSome (index_by test m.entries) → lookup_by test (with_value_by test m v).entries ≡ Some v }
+    ensures others { (test other : K → Bool) → IsKeyTest K.eq test → IsKeyTest K.eq other
+        → ((k : K) → test k ≡ true → other k ≡ false) → (m : Contents K V) (v : V)
+        → lookup_by other (with_value_by test m v).entries ≡ lookup_by other m.entries }
 {}

@@ -6,7 +6,7 @@ ghost use Rattle.vecmap_laws.specs.Nested.{inner_entries_by};
 use super::inner::set_in;
 use std::alloc::AllocError;
 use vecmap::VecMap;
-use vecmap_laws::maps::values_are_found_by_two_texts;
+use vecmap_laws::maps::{texts_are_queries, values_are_found_by_two_keys};
 
 /// Sets a value under the texts of a section and of a name. A lookup by both texts finds it.
 pub fn set_texts(
@@ -18,7 +18,8 @@ pub fn set_texts(
     ensures { OnOk result (lookup_by (has_text name.now)
         (inner_entries_by (has_text section.now) sections.new.entries) ≡ Some value) }
 {
-    values_are_found_by_two_texts::<u32>();
+    values_are_found_by_two_keys::<String, String, u32>();
+    texts_are_queries();
     let alloc = *sections.allocator();
     let section = String::from_str(alloc, section)?;
     let name = String::from_str(alloc, name)?;

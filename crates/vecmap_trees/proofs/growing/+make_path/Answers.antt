@@ -10,18 +10,18 @@ use Rattle.vecmap_trees.proofs.growing.+make_path.Goals as goal
 
 pub make_below-returns-in-Some-clause-found : goal.make_below-returns-in-Some-clause-found
 make_below-returns-in-Some-clause-found t c =
-    let value = c.writes_by_texts_are_insertions.ensures.value c.args.members.now c.args.name.now c.make_path.new.tree (c.in-Some.ensures.found.0 refl) in
+    let value = c.writes_by_queries_are_insertions.ensures.value (has_text c.args.name.now) (c.texts_are_queries.ensures.respects c.args.name.now) c.args.members.now c.make_path.new.tree (c.in-Some.ensures.found.0 refl) in
     λ done. subst (λ o. IsSome (option_and_then (at_path (map (λ name. name.now) c.args.path.now)) o)) (sym value) (c.make_path.ensures.found done)
 
 pub make_below-returns-in-Some-clause-others : goal.make_below-returns-in-Some-clause-others
 make_below-returns-in-Some-clause-others t c =
-    let value = c.writes_by_texts_are_insertions.ensures.value c.args.members.now c.args.name.now c.make_path.new.tree (c.in-Some.ensures.found.0 refl) in
+    let value = c.writes_by_queries_are_insertions.ensures.value (has_text c.args.name.now) (c.texts_are_queries.ensures.respects c.args.name.now) c.args.members.now c.make_path.new.tree (c.in-Some.ensures.found.0 refl) in
     λ other h. ap (option_and_then (at_path other)) value ∙ c.make_path.ensures.others other h ∙ ap (option_and_then (at_path other)) c.in-Some.ensures.value
 
 pub make_below-returns-in-Some-clause-other_names :
     goal.make_below-returns-in-Some-clause-other_names
 make_below-returns-in-Some-clause-other_names t c =
-    λ other e. c.writes_by_texts_are_insertions.ensures.other_texts c.args.members.now c.args.name.now other c.make_path.new.tree e
+    λ other e. c.writes_by_queries_are_insertions.ensures.others (has_text c.args.name.now) (has_text other) (c.texts_are_queries.ensures.respects c.args.name.now) (c.texts_are_queries.ensures.respects other) (c.texts_are_queries.ensures.apart c.args.name.now other e) c.args.members.now c.make_path.new.tree
 
 pub make_below-returns-in-Some-clause-present : goal.make_below-returns-in-Some-clause-present
 make_below-returns-in-Some-clause-present t c =

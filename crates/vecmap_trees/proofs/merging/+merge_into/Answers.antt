@@ -65,7 +65,7 @@ pub merge_member-returns-in_ok-insert-in-None-clause-merged :
 merge_member-returns-in_ok-insert-in-None-clause-merged t c =
     let text = c.as_str.ensures.value in
     let none = subst (λ n. None ≡ lookup_by (has_text n) c.args.mine.now.entries) text c.in-None.ensures.value in
-    let found = c.texts_find_as_strings.ensures.inserted c.args.mine.now.entries c.args.name c.args.value _ refl in
+    let found = c.queries_find_as_keys.ensures.inserted (has_text (string_bytes c.args.name)) (c.texts_are_queries.ensures.respects (string_bytes c.args.name)) c.args.mine.now.entries c.args.name c.args.value (c.texts_are_queries.ensures.own (string_bytes c.args.name) c.args.name refl) in
     λ d names.
     ap (λ l. option_and_then (leaf_at names) (lookup_by (has_text (string_bytes c.args.name)) l)) c.in_ok-insert-in-None.ensures.entries
     ∙ ap (option_and_then (leaf_at names)) found ∙ ap (merged_below (merged_leaf names) names (Some c.args.value)) none

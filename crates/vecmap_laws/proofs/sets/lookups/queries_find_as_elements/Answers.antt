@@ -1,0 +1,12 @@
+use Rattle.vecmap_laws.proofs.AdditionQueries.{index_after_other, index_after_own}
+use Rattle.vecmap_laws.proofs.ItemQueries.{tells_as, without_query_absent}
+use Rattle.vecmap_laws.proofs.sets.lookups.queries_find_as_elements.Goals as goal
+
+pub returns : goal.returns
+returns g c =
+    let eq = g.T.PartialEq.eq in let laws = g.met.T.Eq.laws in record {
+      same = tells_as eq laws;
+      inserted = λ test respects. index_after_own eq test laws respects;
+      others = index_after_other eq;
+      removed = without_query_absent eq laws;
+    }

@@ -1,0 +1,11 @@
+-- The idea: each clause is a lemma of `RemovalLemmas`, for a removal by index that leaves all other elements.
+use Rattle.std.proofs.Common.{remove}
+use Rattle.vecmap_base.specs.Items.{swap_without}
+use Rattle.vecmap_laws.proofs.RemovalLemmas.{is_member_by_test, remove_leaves, swap_leaves}
+use Rattle.vecmap_laws.proofs.sets.removals.removals_are_forgotten.Goals as goal
+
+pub returns-clause-shift : goal.returns-clause-shift
+returns-clause-shift g c = λ s d x. is_member_by_test remove remove_leaves g.T.PartialEq.eq g.met.T.Eq.laws (g.T.PartialEq.eq x) (λ y z e. g.met.T.Eq.laws.congr x y z e) s d
+
+pub returns-clause-swap : goal.returns-clause-swap
+returns-clause-swap g c = λ s d x. is_member_by_test swap_without swap_leaves g.T.PartialEq.eq g.met.T.Eq.laws (g.T.PartialEq.eq x) (λ y z e. g.met.T.Eq.laws.congr x y z e) s d

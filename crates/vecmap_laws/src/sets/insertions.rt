@@ -1,0 +1,77 @@
+//! Laws of what additions leave: which elements, at which indices.
+ghost use Rattle.std.specs.Iterator.Runs.{CollectsByExtend};
+ghost use Rattle.std.specs.List.{IsDistinct};
+ghost use Rattle.std.specs.Option.{option_or};
+ghost use Rattle.std.specs.Prelude.{List, Some, [], false, if◌then◌else◌, length, option_map, slice_get, true, unwrap_or, ℕ, ◌++◌, ◌+◌, ◌<◌, ◌||◌, ◌∷◌, ◌≡◌, ◌≤◌};
+ghost use Rattle.std.specs.Set.{is_member};
+ghost use Rattle.vecmap_base.specs.Items.{add, adds, item_index, only};
+ghost use Rattle.vecmap_set.specs.Contents.{Contents};
+ghost use Rattle.vecmap_set.specs.SetBulk.{Adds};
+
+/// An addition moves no element.
+///
+/// An added element has the index of the existing element that is equal to it, or the last index. All other elements
+/// keep their indices. If an equal element is present, the addition changes nothing; otherwise the new element is
+/// appended.
+#[tactic(auto, using(crate::proofs::ItemIndices::item_index_add, crate::proofs::ItemIndices::slice_get_add, vecmap_base::proofs::ItemsLemmas::Additions::add_present, vecmap_base::proofs::ItemsLemmas::Additions::add_absent))]
+pub fn additions_move_nothing<T: Eq>()
+    ensures index { (s : List T) (x y : T)
+        → item_index T.eq (add T.eq s x) y
+        ≡ (if T.eq x y then Some
+        (unwrap_or (item_index T.eq s x) (length s)) else item_index T.eq s y) }
+    ensures element { (s : List T) (x : T) (i : ℕ) → i < length s
+        → slice_get (add T.eq s x) i ≡ slice_get s i }
+    ensures present { (s : List T) (x : T) → is_member T.eq s x ≡ true → add T.eq s x ≡ s }
+    ensures appended { (s : List T) (x : T) → is_member T.eq s x ≡ false → add T.eq s x ≡ s ++ x ∷ [] }
+{}
+
+/// Adding many elements is the same as adding each of them in order. Distinct elements that are added to an empty set
+/// are its list.
+#[tactic(auto, using(crate::proofs::ItemAdditions::adds_append, crate::proofs::ItemAdditions::adds_distinct))]
+pub fn bulk_additions_are_single_ones<T: Eq>()
+    ensures one { (s : List T) (x : T) (xs : List T)
+        → adds T.eq s (x ∷ xs) ≡ adds T.eq (add T.eq s x) xs }
+    ensures more { (s xs ys : List T) → adds T.eq s (xs ++ ys) ≡ adds T.eq (adds T.eq s xs) ys }
+    ensures distinct { (xs : List T) → IsDistinct T.eq xs → adds T.eq [] xs ≡ xs }
+{}
+
+/// Many additions move no element.
+///
+/// An element that is present keeps its index. The new elements that are absent are appended, each once and in order.
+#[tactic(auto, using(crate::proofs::ItemMembers::adds_as_append, crate::proofs::ItemMembers::slice_get_adds, crate::proofs::ItemMembers::item_index_adds_kept, crate::proofs::ItemMembers::item_index_adds))]
+pub fn bulk_additions_move_nothing<T: Eq>()
+    ensures appended { (s xs : List T) → adds T.eq s xs ≡ s ++ adds T.eq [] (only T.eq xs s) }
+    ensures element { (s xs : List T) (i : ℕ) → i < length s
+        → slice_get (adds T.eq s xs) i ≡ slice_get s i }
+    ensures index { (s xs : List T) (x : T) (i : ℕ) → item_index T.eq s x ≡ Some i
+        → item_index T.eq (adds T.eq s xs) x ≡ Some i }
+    ensures indices { (s xs : List T) (x : T)
+        → item_index T.eq (adds T.eq s xs) x
+        ≡ option_or (item_index T.eq s x) (option_map (λ i. length s + i)
+        (item_index T.eq (adds T.eq [] (only T.eq xs s)) x)) }
+{}
+
+/// After an addition, an element is present if it was, or if it is equal to the added one.
+///
+/// After many additions, an element is present if it was, or if it is equal to one of the added elements.
+#[tactic(auto, using(crate::proofs::ItemMembers::is_member_added, crate::proofs::ItemMembers::is_member_kept, crate::proofs::ItemMembers::is_member_add, crate::proofs::ItemMembers::is_member_adds))]
+pub fn added_elements_are_present<T: Eq>()
+    ensures added { (s : List T) (x : T) → is_member T.eq (add T.eq s x) x ≡ true }
+    ensures present { (s : List T) (x y : T) → is_member T.eq s y ≡ true
+        → is_member T.eq (add T.eq s x) y ≡ true }
+    ensures members { (s : List T) (x y : T)
+        → is_member T.eq (add T.eq s x) y ≡ (is_member T.eq s y || T.eq x y) }
+    ensures many { (s xs : List T) (y : T)
+        → is_member T.eq (adds T.eq s xs) y ≡ (is_member T.eq s y || is_member T.eq xs y) }
+{}
+
+/// A collected set, extended by one more element, is the set that is collected from the longer list.
+///
+/// The clauses of `try_collect`, `partition` and `unzip` require this of the collection.
+#[tactic(auto, using(crate::proofs::ItemAdditions::adds_append))]
+pub fn collecting_one_more_is_extending<T: Eq>()
+    ensures { CollectsByExtend {A = T} {B = Contents T}
+        (λ items set. (set.elements ≡ adds T.eq [] items) × IsDistinct T.eq set.elements)
+        (λ old items new. Adds T.eq old items new × IsDistinct T.eq new.elements
+        × (old.capacity ≤ new.capacity)) }
+{}
