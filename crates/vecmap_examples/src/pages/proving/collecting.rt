@@ -1,5 +1,5 @@
 //! Maps that are collected and extended, and a closure that is handed on to `retain`.
-ghost use Rattle.std.specs.Prelude.{◌≡◌, ◌/◌, ◌≤◌, ℕ, Bool, IfOk, OnErr, OnOk, [], filter, map, nat_eq, nat_lt};
+ghost use Rattle.std.specs.Prelude.{◌≡◌, ◌/◌, IfOk, OnOk, [], map, nat_eq};
 ghost use Rattle.vecmap.specs.Asked.{CallsAtPair};
 ghost use Rattle.vecmap.specs.Kept.{Kept};
 ghost use Rattle.vecmap.specs.Pairs.{puts};
@@ -15,22 +15,6 @@ pub fn thirds(alloc: Global, stock: VecMap<u32, u32>) -> Result<VecMap<u32, u32>
     stock
         .into_iter()
         .map(|pair| (pair.0, pair.1 / 3))
-        .collect(alloc)
-}
-
-/// Returns a third of each value that is below a limit.
-pub fn small(
-    alloc: Global,
-    stock: &VecMap<u32, u32>,
-    limit: u32,
-) -> Result<VecMap<u32, u32>, AllocError>
-    ensures { IfOk result (λ made. made.entries
-        ≡ puts nat_eq [] (map (λ pair. (pair.0, pair.1 / 3)) (filter (λ pair. nat_lt pair.1 limit) stock.now.entries))) }
-{
-    stock
-        .iter()
-        .filter(|pair| *pair.1 < limit)
-        .map(|pair| (*pair.0, *pair.1 / 3))
         .collect(alloc)
 }
 
@@ -52,7 +36,7 @@ pub fn put_vec(stock: &mut VecMap<u32, u32>, more: Vec<(u32, u32)>) -> Result<()
 pub fn keep_where<F: FnMut(&u32, &mut u32) -> bool>(stock: &mut VecMap<u32, u32>, keep: F)
 where
     F: Drop,
-    requires { (f : _) (x : _) → F.pre f x }
+    requires { (f : _) (x : _) (y : _) → F.pre f x y }
     ensures kept { (g : F) × Kept (CallsAtPair F.FnMut) keep stock.old.entries stock.new.entries g }
     ensures capacity { stock.new.capacity ≡ stock.old.capacity }
 {

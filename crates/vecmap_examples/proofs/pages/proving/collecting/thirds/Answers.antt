@@ -9,4 +9,4 @@ use Rattle.vecmap_examples.proofs.pages.proving.collecting.thirds.Goals as goal
 pub returns : goal.returns
 returns c =
     fact_from_collect (λ pairs made. made.entries ≡ puts nat_eq [] pairs) c.collect.result c.collect.ensures.ran
-    (YieldsList-from_map _ (λ pair. (pair.0, pair.1 / 3)) (YieldsList-at c.map.ensures.source (YieldsList-from_rest c.args.stock.entries c.into_iter.ensures.rest)) c.map.ensures.closure (λ x r q k. search (rules, tests)))
+    (YieldsList-from_map _ (λ pair. (pair.0, pair.1 / 3)) (YieldsList-at c.map.ensures.source (YieldsList-from_rest c.args.stock.entries (search rules))) c.map.ensures.closure (λ x r q k. search (rules, tests)))
