@@ -351,14 +351,16 @@ struct LineReader<'a> {
 
 impl Read for LineReader<'_> {
     fn read(&mut self, buf: &mut [u8]) -> io::Result<usize> {
-        if let Some(count) = self.written_before.get_mut(self.reads) {
-            *count = self.written.get();
+        let reads = self.reads;
+        let written = self.written.get();
+        if let Some(count) = self.written_before.get_mut(reads) {
+            *count = written;
         }
-        let mut line = match self.lines.get(self.reads) {
+        let mut line = match self.lines.get(reads) {
             Some(line) => line.as_bytes(),
             None => b"",
         };
-        self.reads = self.reads.saturating_add(1);
+        self.reads = reads.saturating_add(1);
         line.read(buf)
     }
 }
