@@ -36,10 +36,11 @@ fn show_replies<R: Debug + Drop>(
     out.log.end();
     match replies {
         Ok(replies) => {
-            let mut separator = "";
             for reply in replies {
-                let _ = write!(out.answer, "{separator}{reply:?}");
-                separator = "; ";
+                if !out.answer.is_empty() {
+                    let _ = write!(out.answer, "; ");
+                }
+                let _ = write!(out.answer, "{reply:?}");
             }
             Outcome::Granted
         }
