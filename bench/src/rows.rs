@@ -1,4 +1,34 @@
 //! The rows: each loop that is timed or counted, with its input.
+//!
+//! - Lookups: as many probes as keys, all present (`hit`), none present (`miss`), or half of them. `char keys` has
+//!   characters as keys and values of 32 bits, and `u32` elements of 32 bits.
+//! - Insertions: `insert new` starts with `new()`, `reserved` with `with_capacity`. `insert_at present` moves a key
+//!   to a random index, `insert_at absent` inserts each new key in the middle. `count words` and `count lines` count
+//!   by `entry`.
+//! - Removals: `remove_index` removes all pairs of a clone. `retain`, `drain` and `split_off` remove half of a clone.
+//!   `retain all` removes nothing of it, and `drain all` removes all of it from the back. The times include the
+//!   clone.
+//! - Bulk: `From<Vec>` and `from_iter` take a vector of pairs that is created in the loop, with distinct keys or with
+//!   about four pairs for each key. `From<Vec> counted` compares `from_vec_counted` with the original's `From`.
+//!   `extend` and `append` insert as many pairs as a clone has, half of them with existing keys, into that clone.
+//! - Equality: before each comparison, one value of each map is written, or two elements of a set are swapped, so
+//!   that the compiler cannot compare once for all rounds.
+//! - Iteration: a checksum of all pairs, from the front, the back, or both ends alternately.
+//! - Orders: sorts of a clone that is in random order, and searches of a sorted map.
+//! - Sets: the same rows, and set operations on two sets of which one has half of the other's elements, as lazy
+//!   iterators and as new sets.
+//! - Large: values of 128 bytes; `64-byte remove+insert` has pairs of 64 bytes.
+//! - Texts: keys of 13 bytes, in pairs of 32 bytes, and keys of 188 bytes with a long common prefix.
+//! - Documents: those of `attr_doc`, with eight names in a section, compared with the same documents over the
+//!   original's maps.
+//! - Vectors: a clone, pushes, removals and insertions at the front of a plain vector of pairs, of the kit and of
+//!   Rust, in a table of their own. `Vec remove, large` removes pairs of 136 bytes at random indices. Rows that
+//!   create, clone or shift a list contain this work.
+//! - Commands: `1000 commands` is a mix of calls, on about as many keys as the size says. `run of 1000` and `run_set
+//!   of 1000` are the same commands as values, by `run` and `run_set`. The original has no such call, so its side has
+//!   the same enums of commands and replies, and the same loop over its own calls. Both times include the creation of
+//!   the commands and the reading of the replies. The table `vecmap run` compares `run` and `run_set` with direct
+//!   calls of the original, which create neither commands nor replies.
 use crate::inputs::{Numbers, Texts};
 #[cfg(peers)]
 use crate::peers::{index, linear};
