@@ -11,7 +11,12 @@ use std::sync::{Arc, ArcSlice, ArcStr};
 use vecmap::{Equivalent, VecMap, VecSet};
 
 // Asserts that a key matches a query, and none of the others.
-fn assert_matches<K: Eq + Drop, Q: Equivalent<K>>(rt: &impl Abort, key: K, query: Q, others: &[Q]) {
+fn assert_matches<K: Eq + Drop, Q: Equivalent<K>, R: Equivalent<K>>(
+    rt: &impl Abort,
+    key: K,
+    query: Q,
+    others: &[R],
+) {
     assert!(*rt; query.equivalent(&key));
     assert!(*rt; others.iter().all(|other| !other.equivalent(&key)));
 }
