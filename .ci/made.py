@@ -271,13 +271,29 @@ def functions(path):
         yield crate, folder, name, "\n".join(lines)
 
 
-def callers_of(name):
+def modules_of(path):
+    """Returns the modules of `vecmap_laws` that export the laws of a file."""
+    return ["maps", "sets"] if path.endswith("/lists.rt") else ["sets"] if "/sets" in path else ["maps"]
+
+
+def names_of_law(text, name, modules):
+    """Returns the names that a source has for a law of one of these modules, by its lines `use`."""
+    for used in re.findall(r"^use vecmap_laws::([^;]*);", text, re.MULTILINE):
+        path, _, group = used.rpartition("::") if "{" not in used else used.partition("{")
+        for item in group.rstrip("} \n,").split(","):
+            full, _, alias = f"{path.removesuffix('::')}::{item.strip()}".removeprefix("::").partition(" as ")
+            yield from (alias or name for module in modules if full == f"{module}::{name}")
+            yield from (f"{alias or module}::{name}" for module in modules if full == module)
+
+
+def callers_of(name, modules):
     """Returns the functions that call a law: for each its name with a link, and a star if its proof is by hand."""
     for crate in USERS:
         for path in sources(f"crates/{crate}/src"):
-            if path.endswith(".rt") and re.search(rf"\b{name}\b", read(path)):
+            names = "|".join(names_of_law(read(path), name, modules)) if path.endswith(".rt") else ""
+            if names:
                 for home, folder, function, text in functions(path):
-                    if re.search(rf"\b{name}(?:::<[^;]*?>)?\(", text.split("\n{\n")[-1]):
+                    if re.search(rf"(?<![\w:])(?:{names})(?:::<[^;]*?>)?\(", text.split("\n{\n")[-1]):
                         folders = [folder, re.sub(r"(\w+)$", r"+\1", folder)]
                         is_by_hand = any(os.path.exists(f"crates/{home}/proofs/{it}") for it in folders)
                         star = " \\*" if is_by_hand else ""
@@ -295,7 +311,7 @@ def goal_table():
             comment = [re.sub(r"^/// ?", "", line) for line in statement.splitlines() if line.startswith("///")]
             labels = re.findall(r"^    ensures (\w+) \{", statement, re.MULTILINE)
             clauses = f" ({', '.join(f'`{it}`' for it in labels)})" if labels else ""
-            users = ", ".join(list(dict.fromkeys(callers_of(name)))[:3])
+            users = ", ".join(list(dict.fromkeys(callers_of(name, modules_of(path))))[:3])
             rows.append(f"| {said(comment).replace('|', '&#124;')} | `{name}`{clauses}{sets} | {users} |\n")
     return "| Goal | Law | Called by |\n|---|---|---|\n" + "".join(rows)
 
