@@ -1,12 +1,11 @@
 -- The indices of distinct items after a range was removed, and among the items that pass a test.
-use Rattle.std.proofs.Common.{arith, ◌≡◌, ◌+◌, ◌-◌, ◌<◌, ◌≤◌, ℕ, suc, zero, Bool, true, false, ◌||◌, List, [], ◌∷◌, None, Option, Some, ap, cond, count_by, drop, filter, if◌then◌else◌, inl, inr, is_some, length, map, nat_lt, option_map, position, refl, slice_get, subst, sym, take, true≢false, ◌∙◌}
+use Rattle.std.proofs.Common.{arith, ◌≡◌, ◌+◌, ◌-◌, ◌<◌, ◌≤◌, ℕ, suc, zero, Bool, true, false, ◌||◌, List, [], ◌∷◌, None, Option, Some, ap, cond, count_by, drop, filter, if◌then◌else◌, inl, inr, is_some, length, map, map-id, nat_lt, option_map, position, refl, slice_get, subst, sym, take, true≢false, ◌∙◌}
 use Rattle.std.proofs.lemmas.{Bool.cases_Bool, Bool.ltb-false, Bool.ltb-true, List.drop-map, List.length-take-le, List.Sums.sum_by-cons, Map.Keys.IsDistinct-tail, Option.slice_get_within}
 use Rattle.std.specs.{Cmp.IsEquivalence, List.IsDistinct, List.list_any, List.remove_range, Map.keys_of, Option.option_map_or, Option.option_or}
 use Rattle.vecmap_base.proofs.IndexLemmas.{list_any_map, list_any_position, position_cons, position_none}
 use Rattle.vecmap_base.proofs.PairsLemmas.Keys.{index_of_is}
 use Rattle.vecmap_base.specs.Items.{item_index}
 use Rattle.vecmap_base.specs.Pairs.{HasDistinctKeys, index_of}
-use Rattle.vecmap_laws.proofs.FilterLemmas.{map_id}
 use Rattle.vecmap_laws.proofs.HeadLemmas.{head_not_in_rest}
 use Rattle.vecmap_laws.proofs.IndexAfterLemmas.{index_dropped, position_drop}
 use Rattle.vecmap_laws.proofs.PositionLemmas.{position_append, position_take}
@@ -131,7 +130,7 @@ module _ {K V : Type 0} (eq : K → K → Bool) (o : IsEquivalence eq) where
 -- The same of elements, which are their own keys.
 module _ {T : Type 0} (eq : T → T → Bool) (o : IsEquivalence eq) where
   pub item_index_filter : (test : T → Bool) (s : List T) → IsDistinct eq s → (y : T) → item_index eq (filter test s) y ≡ filtered test s (item_index eq s y)
-  item_index_filter test s d = position_filter (λ x. x) eq o test s (subst (IsDistinct eq) (sym (map_id s)) d)
+  item_index_filter test s d = position_filter (λ x. x) eq o test s (subst (IsDistinct eq) (sym (map-id s)) d)
 
   pub item_index_remove_range : (s : List T) → IsDistinct eq s → (i j : ℕ) → i ≤ j → (y : T) → item_index eq (remove_range s i j) y ≡ drained i j (item_index eq s y)
   item_index_remove_range s d i j ordered y = position_remove_range (eq y) s i j ordered (λ m e h. index_dropped eq o j s d y m e h)

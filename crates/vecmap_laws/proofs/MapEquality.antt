@@ -26,9 +26,6 @@ module _ {X : Type 0} (same : X → X → Bool) (o : IsEquivalence same) where
   rearranged_as_often a b p = test_from_counts same o a b (λ x. sym (sum_by-IsPermutation (λ z. cond (same x z) 1 0) a b p))
 
 module _ {K V : Type 0} (key : K → K → Bool) (value : V → V → Bool) where
-  count-nil : (p : K × V) → count key value [] p ≡ 0
-  count-nil p = refl
-
   pub count_cons : (q : K × V) (qs : List (K × V)) (p : K × V) → count key value (q ∷ qs) p ≡ (if key p.0 q.0 && value p.1 q.1 then 1 else 0) + count key value qs p
   count_cons q qs p = sum_by-cons (λ r. cond (same_pair key value p r) 1 0) q qs
 

@@ -1,11 +1,12 @@
 -- Which elements are in a part of a list of distinct elements, and among those that pass a test.
-use Rattle.std.proofs.Common.{arith, ◌≡◌, ◌≤◌, ℕ, Bool, true, false, ◌||◌, IsTrue, List, [], ◌∷◌, None, Option, Some, ap, drop, filter, if◌then◌else◌, inl, inr, is_some, length, nat_lt, not, option_map, position, refl, remove, slice_get, sym, take, suc, ◌∙◌}
+use Rattle.std.proofs.Common.{arith, ◌≡◌, ◌≤◌, ℕ, Bool, true, false, ◌||◌, IsTrue, List, [], ◌∷◌, None, Some, ap, drop, filter, if◌then◌else◌, inl, inr, is_some, length, nat_lt, not, refl, remove, slice_get, sym, take, ◌∙◌}
 use Rattle.std.proofs.lemmas.{Bool.cases_Bool, Bool.ltb-false, Bool.ltb-true, List.Folds.list_any-append, Map.Keys.IsDistinct-tail, Map.Steps.list_any_congr}
-use Rattle.std.specs.{Cmp.IsEquivalence, List.IsDistinct, List.list_any, List.remove_range, Option.option_and_then, Option.option_map_or, Set.is_member}
-use Rattle.vecmap_base.proofs.IndexLemmas.{list_any_position, position_cons}
+use Rattle.std.specs.{Cmp.IsEquivalence, List.IsDistinct, List.list_any, List.remove_range, Option.option_map_or, Set.is_member}
+use Rattle.vecmap_base.proofs.IndexLemmas.{list_any_position}
 use Rattle.vecmap_base.specs.Items.{item_index, stored_item, swap_without, swap_without_item, without_item}
 use Rattle.vecmap_laws.proofs.HeadLemmas.{head_not_in_rest}
 use Rattle.vecmap_laws.proofs.IndexAfterLemmas.{index_dropped, index_swapped, position_drop}
+use Rattle.vecmap_laws.proofs.ItemRecursion.{stored_item_cons}
 use Rattle.vecmap_laws.proofs.PositionLemmas.{position_remove, position_take}
 use Rattle.vecmap_laws.proofs.RemovalLemmas.{passing_at}
 use Rattle.vecmap_laws.specs.Removals.{below, shifted, swapped}
@@ -46,14 +47,6 @@ module _ {T : Type 0} (eq : T → T → Bool) (o : IsEquivalence eq) where
       let at = passing_at (eq x) s i e in
       ap (λ found. item_index eq (option_map_or (λ j. swap_without s j) found s) y) e ∙ index_swapped eq o s d i at.0 at.1 y (apart_at x at.0 y at.2 apart)
 
-  stored_cons : (x : T) (xs : List T) (y : T) → stored_item eq (x ∷ xs) y ≡ (if eq y x then Some x else stored_item eq xs y)
-  stored_cons x xs y = ap (option_and_then (slice_get (x ∷ xs))) (position_cons (eq y) x xs) ∙ by (eq y x) (position (eq y) xs)
-    where
-      by : (b : Bool) (found : Option ℕ) → option_and_then (slice_get (x ∷ xs)) (if b then Some 0 else option_map suc found) ≡ (if b then Some x else option_and_then (slice_get xs) found)
-      by true found = refl
-      by false None = refl
-      by false (Some i) = refl
-
   pub is_member_filter : (test : T → Bool) (s : List T) → IsDistinct eq s → (y : T) → is_member eq (filter test s) y ≡ option_map_or test (stored_item eq s y) false
   is_member_filter test [] d y = refl
   is_member_filter test (x ∷ xs) d y =
@@ -62,8 +55,8 @@ module _ {T : Type 0} (eq : T → T → Bool) (o : IsEquivalence eq) where
         | inl e ↦
             let none : list_any (eq y) xs ≡ false = list_any_congr o y x xs e ∙ head_not_in_rest eq x xs d in
             let absent : is_member eq (filter test xs) y ≡ false = list_any_filter_none none in
-            grind (arith, stored_cons x xs y, absent, e)
-        | inr e ↦ grind (arith, stored_cons x xs y, rest, e)
+            grind (arith, stored_item_cons eq x xs y, absent, e)
+        | inr e ↦ grind (arith, stored_item_cons eq x xs y, rest, e)
       ]
     where
       list_any_filter_none : list_any (eq y) xs ≡ false → list_any (eq y) (filter test xs) ≡ false

@@ -1,35 +1,13 @@
--- The definitions on pairs, for an empty list and for a list with one pair more.
+-- The definitions on pairs, for a list with one pair more.
 use Rattle.std.specs.Option.{option_map, option_map_or}
 use Rattle.std.proofs.Common.{◌≡◌, ℕ, suc, Bool, true, false, List, [], ◌∷◌, ◌++◌, Option, None, Some, if◌then◌else◌, refl, ap, ◌∙◌}
-use Rattle.vecmap_base.specs.Pairs.{index_of, lookup, put, put_key, puts, with_pair, without_key}
+use Rattle.vecmap_base.specs.Pairs.{index_of, lookup, put_key, with_pair, without_key}
 use Rattle.vecmap_laws.proofs.ItemRecursion.{without_first_cons}
 pub use Rattle.vecmap_base.proofs.PairsLemmas.Recursion.{lookup_by_cons, index_of_cons, put_cons}
-
-module _ {K : Type 0} (V : Type 0) (eq : K → K → Bool) where
-  index_of-nil : (k : K) → index_of {V = V} eq [] k ≡ None
-  index_of-nil k = refl
-
-  lookup-nil : (k : K) → lookup {V = V} eq [] k ≡ None
-  lookup-nil k = refl
-
-  without_key-nil : (k : K) → without_key {V = V} eq [] k ≡ []
-  without_key-nil k = refl
 
 module _ {K V : Type 0} (eq : K → K → Bool) where
   pub lookup_cons : (p : K × V) (ps : List (K × V)) (k : K) → lookup eq (p ∷ ps) k ≡ (if eq k p.0 then Some p.1 else lookup eq ps k)
   lookup_cons p ps k = lookup_by_cons (eq k) p ps
-
-  put-nil : (k : K) (v : V) → put eq [] k v ≡ (k, v) ∷ []
-  put-nil k v = refl
-
-  puts-nil : (l : List (K × V)) → puts eq l [] ≡ l
-  puts-nil l = refl
-
-  puts-cons : (l : List (K × V)) (p : K × V) (ps : List (K × V)) → puts eq l (p ∷ ps) ≡ puts eq (put eq l p.0 p.1) ps
-  puts-cons l p ps = refl
-
-  put_key-nil : (k : K) (v : V) → put_key eq [] k v ≡ (k, v) ∷ []
-  put_key-nil k v = refl
 
   pub put_key_cons : (p : K × V) (ps : List (K × V)) (k : K) (v : V) → put_key eq (p ∷ ps) k v ≡ (if eq k p.0 then (k, v) ∷ ps else p ∷ put_key eq ps k v)
   put_key_cons p ps k v = ap (λ o. option_map_or (λ i. with_pair (p ∷ ps) i k v) o (p ∷ ps ++ (k, v) ∷ [])) (index_of_cons eq p ps k) ∙ by (eq k p.0) (index_of eq ps k)

@@ -65,9 +65,6 @@ number_no_space word is = no_space is_ascii_digit refl word (number_parts word i
 
 -- Where `split_once` cuts a text: at its first space, if it has one.
 module _ (text : List ℕ) (r : Option (Bor (List ℕ) × Bor (List ℕ))) (split : IsSplitOnceResult 32 text r) where
-  pub uncut : r ≡ None → HasNoSpace text
-  uncut none = rw none at (split_parts 32 text r split (lit< tt))
-
   pub parts : (x : Bor (List ℕ) × Bor (List ℕ)) → r ≡ Some x → (text ≡ x.0.now ++ 32 ∷ x.1.now) × HasNoSpace x.0.now
   parts x some = rw some at (split_parts 32 text r split (lit< tt))
 

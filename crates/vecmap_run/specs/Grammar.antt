@@ -22,7 +22,7 @@ abbrev pub is_key : List ℕ → Bool
 is_key word = has_length_up_to 64 word && list_all is_key_byte word
 
 -- Whether the word has 1 to 18 digits.
--- Example: `-007`.
+-- Example: `007`.
 abbrev pub is_number : List ℕ → Bool
 is_number word = has_length_up_to 18 word && list_all is_ascii_digit word
 

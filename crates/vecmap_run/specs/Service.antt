@@ -12,13 +12,13 @@ use Rattle.vecmap_run.specs.declared.command.Command.{Command}
 
 -- This answer is allowed for the line, and it changes `old` to `new`: an answer to the command that the line says, or
 -- `Fault` if it does not say one.
--- Example: `len⏎` on the empty map has the reply `0⏎`.
 abbrev pub MayAnswer : Entries → List ℕ → Answer → Entries → Type 0
 MayAnswer old line answer new =
     ((said : Command) × Says said line × Step old said answer new)
     ⊎ (((said : Command) → Says said line → ⊥) × (answer ≡ Fault) × (new ≡ old))
 
 -- The text is an allowed answer for the line, and a line break (10).
+-- Example: of `len⏎` on the empty map: `0⏎`.
 abbrev pub AnswersLine : Entries → List ℕ → List ℕ → Entries → Type 0
 AnswersLine old line text new = (answer : Answer) × MayAnswer old line answer new × (text ≡ printed answer new ++ 10 ∷ [])
 

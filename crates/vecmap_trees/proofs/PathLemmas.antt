@@ -7,11 +7,11 @@ use Rattle.std.specs.declared.alloc.Global.{Global}
 use Rattle.vecmap.specs.Contents.{with_value_by}
 use Rattle.vecmap.specs.Pairs.{has_text, index_by, lookup_by, value_at}
 use Rattle.vecmap_laws.proofs.Queries.{string_equality, text_respects}
-use Rattle.vecmap_laws.proofs.WriteLemmas.{lookup_written, lookup_written_other_text, written_back}
+use Rattle.vecmap_laws.proofs.WriteLemmas.{lookup_written, lookup_written_other_text}
 use Rattle.vecmap_trees.specs.Trees.{ArePartedPaths, Members, at_path, at_path_below, changed_at, layer_with_members, member, members, members_of_layer, with_member}
 use Rattle.vecmap_trees.specs.declared.Json.{Json, out-Json, roll-Json}
 use Rattle.vecmap_trees.specs.declared.Json.TheOpen.{Json-F, Object}
-use Rattle.vecmap_trees.specs.declared.Json.TheViews.{out-roll-Json, roll-out-Json}
+use Rattle.vecmap_trees.specs.declared.Json.TheViews.{out-roll-Json}
 
 -- A value that is found has an index.
 pub index_from_value : {K V : Type 0} (l : List (K × V)) (found : Option ℕ) (v : V) → option_and_then (value_at l) found ≡ Some v → IsSome found
@@ -34,14 +34,6 @@ other_member_found name other f m apart = by (lookup_by (has_text name) m.entrie
     by None = refl
     by (Some w) = lookup_written_other_text m name other (f w) apart
 
--- A change that leaves the member as it is leaves all members as they are.
-pub unchanged_member : (name : List ℕ) (f : Json → Json) (m : Members) → ((w : Json) → lookup_by (has_text name) m.entries ≡ Some w → f w ≡ w) → with_member name f m ≡ m
-unchanged_member name f m same = by (lookup_by (has_text name) m.entries) refl
-  where
-    by : (found : Option Json) → lookup_by (has_text name) m.entries ≡ found → option_map_or (λ w. with_value_by (has_text name) m (f w)) found m ≡ m
-    by None e = refl
-    by (Some w) e = ap (with_value_by (has_text name) m) (same w e) ∙ written_back (has_text name) m w e
-
 -- The members of an object are those that it was made of.
 pub members_of_roll : (m : Members) → members (roll-Json (Object m)) ≡ m.entries
 members_of_roll m = ap members_of_layer (out-roll-Json (Object m))
@@ -61,14 +53,6 @@ at_changed name names f below j x e = ap (λ y. at_path_below name names (member
 pub found_changed : (path : List (List ℕ)) (f : Json → Json) (j : Json) → at_path path (changed_at path f j) ≡ option_map f (at_path path j)
 found_changed [] f j = refl
 found_changed (name ∷ names) f j = at_changed name names f (found_changed names f) j (out-Json j) refl
-
-at_absent : (name : List ℕ) (f : Json → Json) (j : Json) (x : Json-F Json) → out-Json j ≡ x → ((w : Json) → lookup_by (has_text name) (members_of_layer x) ≡ Some w → f w ≡ w) → layer_with_members (with_member name f) j x ≡ j
-at_absent name f j (Object m) e same = ap (λ n. roll-Json (Object n)) (unchanged_member name f m same) ∙ ap roll-Json (sym e) ∙ roll-out-Json j
-at_absent name f j x e same = refl
-
-pub unchanged_where_absent : (path : List (List ℕ)) (f : Json → Json) (j : Json) → at_path path j ≡ None → changed_at path f j ≡ j
-unchanged_where_absent [] f j e = absurd (let g : Some j ≡ None = e in cc)
-unchanged_where_absent (name ∷ names) f j e = at_absent name (changed_at names f) j (out-Json j) refl (λ w at. unchanged_where_absent names f w (ap (option_and_then (at_path names)) (sym at) ∙ e))
 
 module _ (name other : List ℕ) (names others : List (List ℕ)) (f : Json → Json) where
   at_other_name : bytes_eq name other ≡ false → (j : Json) (x : Json-F Json) → out-Json j ≡ x → lookup_by (has_text other) (members (layer_with_members (with_member name f) j x)) ≡ lookup_by (has_text other) (members_of_layer x)

@@ -1,6 +1,5 @@
 //! Paths that are made as far as they are missing.
 ghost use Rattle.std.specs.Prelude.{◌≡◌, map, List, ℕ, IfSome, IsSome, IsTrue, None, Some, bytes_eq, false};
-ghost use Rattle.std.specs.Option.{option_and_then};
 ghost use Rattle.vecmap.specs.Pairs.{has_text, lookup_by};
 ghost use Rattle.vecmap_trees.specs.Trees.{ArePartedPaths, at_path, at_path_below};
 

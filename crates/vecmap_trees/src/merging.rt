@@ -1,6 +1,5 @@
 //! Merges of trees.
 ghost use Rattle.std.specs.Prelude.{◌≡◌, ℕ, List, None, OnErr, OnOk, Some, bytes_eq, false, string_bytes};
-ghost use Rattle.std.specs.Option.{option_and_then};
 ghost use Rattle.vecmap.specs.Pairs.{has_text, lookup_by};
 ghost use Rattle.vecmap_trees.specs.Trees.{AreDistinctMembers, HasDistinctNames, IsObject, IsOldOrMerged, leaf_at, leaf_below, member, merged_below, merged_leaf, merged_member};
 

@@ -47,8 +47,11 @@ fn trees_are_printed_in_order_with_the_escapes_of_json(rt: HostRuntime) -> Resul
 fn missing_objects_are_made_and_trees_merged(rt: HostRuntime) -> Result<(), Fail> {
     let alloc = rt.alloc();
     let mut first = tree(alloc, TREE)?;
-    first.merge_deep(tree(alloc, &[(&["a"], 4), (&["b", "x"], 5), (&["c", "d"], 6)])?)?;
-    let expected = r#"{"b":{"y":1,"x":5},"a":4,"c":{"d":6}}"#;
+    let mut second = tree(alloc, &[(&["a"], 4), (&["b", "x"], 5), (&["c", "d"], 6)])?;
+    second.set_at(alloc, &["e"], Json::object(alloc))?;
+    first.merge_deep(second)?;
+    assert!(rt; first.set_at(alloc, &["a", "x"], Json::Null).is_err());
+    let expected = r#"{"b":{"y":1,"x":5},"a":4,"c":{"d":6},"e":{}}"#;
     assert_eq!(rt; format!(in alloc; "{first}")?.as_str(), expected);
     Ok(())
 }

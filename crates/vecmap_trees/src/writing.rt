@@ -1,7 +1,5 @@
 //! Writes into a tree.
 ghost use Rattle.std.specs.Prelude.{◌≡◌, ◌↔◌, map, List, ℕ, IsOk, IsSome, IsTrue, OnOk, OnErr, IfErr, Some};
-ghost use Rattle.std.specs.Option.{option_and_then};
-ghost use Rattle.vecmap.specs.Pairs.{has_text, lookup_by};
 ghost use Rattle.vecmap_trees.specs.Trees.{ArePartedPaths, at_path, at_path_below, changed_at, with_member};
 
 use crate::Json;

@@ -41,7 +41,7 @@ fn document(alloc: Global, rows: &[(&str, &str, &str)]) -> Result<Document, Allo
     Ok(page)
 }
 
-/// The example of docs/PROVED.md.
+/// Creates a document, merges another one into it, and prints it.
 fn example(alloc: Global) -> Result<String, AllocError> {
     let mut page = Document::new(alloc);
     set(alloc, &mut page, "Font", "Size", "12")?;

@@ -87,7 +87,7 @@ pub fn entries_insert_alike<K: Eq + Clone, V>()
 ///
 /// `entry(k).or_insert(v)` is such an insertion: a key that is present keeps its value, and a new pair is appended. New
 /// keys are appended in order, each once.
-#[tactic(auto, using(crate::proofs::FirstValue::put_new_present, crate::proofs::FirstValue::put_new_absent, crate::proofs::FirstValue::lookup_put_new, crate::proofs::FirstValue::first_wins, vecmap_base::proofs::PairsLemmas::Keys::keys_of_put, crate::proofs::FirstValue::lookup_puts_new, crate::proofs::FirstValue::keys_of_puts_new))]
+#[tactic(auto, using(crate::proofs::FirstValue::put_new_absent, vecmap_base::proofs::PairsLemmas::Keys::keys_of_put, crate::proofs::FirstValue::keys_of_puts_new))]
 pub fn first_values_win<K: Eq, V>()
     ensures present { (l : List (K × V)) (k : K) (v w : V) → lookup K.eq l k ≡ Some w
         → put_new K.eq l k v ≡ l }

@@ -18,7 +18,6 @@ pub fn writes_are_insertions<K: Eq, V>()
 /// A write of the value of a key leaves all other keys and values.
 ///
 /// The key finds the written value. If it is absent, nothing changes.
-#[tactic(auto, using(crate::proofs::WriteLemmas::lookup_written, crate::proofs::WriteLemmas::lookup_written_other, crate::proofs::WriteLemmas::keys_of_with_value_by))]
 pub fn writes_leave_other_keys<K: Eq, V>()
     ensures value { (m : Contents K V) (k : K) (v : V) → IsSome (index_of K.eq m.entries k)
         → lookup K.eq (with_value_of K.eq m k v).entries k ≡ Some v }

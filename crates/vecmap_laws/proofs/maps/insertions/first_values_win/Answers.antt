@@ -1,4 +1,4 @@
--- The idea: each clause is a lemma of `FirstValue`.
+-- The idea: each clause is a lemma of `FirstValue`. Those of the law's line `using` need no answer.
 use Rattle.vecmap_laws.proofs.FirstValue.{first_wins, lookup_put_new, lookup_puts_new, put_new_present}
 use Rattle.vecmap_laws.proofs.maps.insertions.first_values_win.Goals as goal
 
