@@ -1,5 +1,6 @@
 -- What an interner holds: texts, each at the index that is its id.
-use Rattle.std.specs.Prelude.{ℕ, List, Option, String, option_map, position, slice_get, string_bytes}
+use Rattle.std.specs.Option.{option_map_or}
+use Rattle.std.specs.Prelude.{ℕ, ◌++◌, ◌∷◌, [], List, Option, String, map, option_map, position, slice_get, string_bytes}
 use Rattle.vecmap.specs.Pairs.{has_text}
 
 module _ {A : Type 0} where
@@ -10,3 +11,8 @@ module _ {A : Type 0} where
   -- The id of a text, or `None` if it was not interned.
   abbrev pub id_of : List (String A) → List ℕ → Option ℕ
   id_of texts text = position (has_text text) texts
+
+  -- The texts, as bytes, once another text is interned: it is appended, unless it has an id.
+  -- Example: `to` and `be`, and then `to`: `to` and `be`.
+  abbrev pub with_text : List (String A) → List ℕ → List (List ℕ)
+  with_text texts text = option_map_or (λ id. map string_bytes texts) (id_of texts text) (map string_bytes texts ++ text ∷ [])

@@ -2,10 +2,11 @@
 //!
 //! If `to`, `be`, `to` and `or` are interned in this order, their ids are 0, 1, 0 and 2. A [`Registry`] owns names of
 //! any type. An [`Interner`] makes its texts, which are looked up by a `&str`.
-ghost use Rattle.std.specs.Prelude.{◌≡◌, ◌++◌, ◌∷◌, ◌<◌, ℕ, IfErr, IfOk, IfSome, IsSome, IsTrue, List, None, OnErr, OnOk, Some, [], length, map, option_copied, option_map, position, slice_get, string_bytes};
+ghost use Rattle.std.specs.Prelude.{◌≡◌, ◌++◌, ◌∷◌, ◌<◌, ◌⊎◌, ℕ, IfErr, IfOk, IfSome, IsSome, IsTrue, List, None, OnErr, OnOk, Some, String, [], length, map, option_copied, option_map, position, slice_get, string_bytes};
 ghost use Rattle.std.specs.List.{IsDistinct};
 ghost use Rattle.vecmap.specs.Items.{add, adds, item_index};
-ghost use Rattle.vecmap_callers.specs.Interner.{id_of, text_of};
+ghost use Rattle.std.specs.declared.alloc.Global.{Global};
+ghost use Rattle.vecmap_callers.specs.Interner.{id_of, text_of, with_text};
 
 use std::alloc::{AllocError, Global};
 use std::marker::Model;
@@ -229,8 +230,7 @@ impl Interner {
         ensures ids { (other : List ℕ) (known : ℕ) → id_of self.old other ≡ Some known
             → id_of self.new other ≡ Some known }
         ensures unchanged { IsSome (id_of self.old text.now) → self.new ≡ self.old }
-        ensures appended { OnOk result (id_of self.old text.now ≡ None
-            → map string_bytes self.new ≡ map string_bytes self.old ++ text.now ∷ []) }
+        ensures texts { OnOk result (map string_bytes self.new ≡ with_text self.old text.now) }
         ensures err { OnErr result (self.new ≡ self.old) }
     {
         laws::additions_move_nothing::<String>();
@@ -247,6 +247,10 @@ impl Interner {
 }
 
 /// Interns two texts. Equal texts get the same id, and the first id still gives the first text afterwards.
+///
+/// # Errors
+///
+/// [`AllocError`] if the allocator refuses a request. If it refuses the second text, the first one is interned.
 pub fn intern_both(
     interner: &mut Interner,
     first: &str,
@@ -257,6 +261,11 @@ pub fn intern_both(
     ensures equal_texts { IfOk result (λ ids. first.now ≡ second.now → ids.0.0 ≡ ids.1.0) }
     ensures earlier { (id : ℕ) → id < length interner.old
         → text_of interner.new id ≡ text_of interner.old id }
+    ensures texts { OnOk result ((between : List (String Global))
+        × (map string_bytes between ≡ with_text interner.old first.now)
+        × (map string_bytes interner.new ≡ with_text between second.now)) }
+    ensures err { OnErr result ((interner.new ≡ interner.old)
+        ⊎ (map string_bytes interner.new ≡ with_text interner.old first.now)) }
 {
     let first_id = interner.intern(first)?;
     let second_id = interner.intern(second)?;

@@ -4,7 +4,8 @@ ghost use Rattle.std.specs.List.Sorted.{IsPermutation, IsSorted};
 ghost use Rattle.std.specs.Map.{keys_of};
 ghost use Rattle.std.specs.Option.{option_map_or};
 ghost use Rattle.std.specs.Ordering.{nat_cmp};
-ghost use Rattle.std.specs.Prelude.{◌≡◌, ◌+◌, ◌++◌, ◌≤◌, ◌↔◌, ◌∷◌, IfErr, IfOk, IsTrue, OnErr, OnOk, [], length, nat_eq};
+ghost use Rattle.std.specs.Prelude.{◌≡◌, ◌+◌, ◌++◌, ◌≤◌, ◌↔◌, ◌∷◌, ◌&&◌, IfErr, IfOk, IsTrue, OnErr, OnOk, [], length, nat_eq, not, ℕ};
+ghost use Rattle.std.specs.Set.{is_member};
 ghost use Rattle.vecmap.specs.Contents.{Refuses};
 ghost use Rattle.vecmap.specs.Equality.{has_same_counts, has_same_items, is_within};
 ghost use Rattle.vecmap.specs.Items.{adds, both};
@@ -115,6 +116,18 @@ pub fn are_disjoint<T: Eq>(a: &VecSet<T>, b: &VecSet<T>) -> bool
 {
     sets::disjointness_is_symmetric::<T>();
     b.is_disjoint(a)
+}
+
+/// Removes an element. It is then absent, and every other element is present if it was.
+pub fn forget(set: &mut VecSet<u32>, element: u32) -> bool
+    ensures found { result ≡ is_member nat_eq set.old.elements element }
+    ensures present { (other : ℕ) → is_member nat_eq set.new.elements other
+        ≡ (is_member nat_eq set.old.elements other && not (nat_eq element other)) }
+{
+    sets::removals_are_forgotten::<u32>();
+    // As in `is_part`.
+    set.as_slice();
+    set.swap_remove(&element)
 }
 
 /// Splits a set and appends the second part again, which restores the set if no request is refused.

@@ -1,5 +1,6 @@
 //! A type that holds maps of itself, and functions that go down such a value. No function needs a measure: the depth of
-//! the value is found, whichever way the values of a map are read. Each shows another kind of call.
+//! the value is found, whichever way the values of a map are read. Each shows another kind of call. What is proved of them
+//! is that each ends and does not panic.
 use std::alloc::AllocError;
 use vecmap::VecMap;
 use vecmap_base::find;

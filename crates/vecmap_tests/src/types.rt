@@ -1,10 +1,10 @@
-//! Keys and values of other types: four kinds of pairs, and a value that does not print.
+//! Keys and values of other types: four kinds of pairs, and a value that does not print. Types that threads may share.
 use crate::checks::{assert_is, assert_list, granted};
 use std::alloc::Global;
 use std::fmt::Debug;
 use std::process::Abort;
 use std::test::Fail;
-use vecmap::{Refused, VecMap};
+use vecmap::{Refused, VecMap, VecSet};
 
 // Asserts that a map of distinct pairs has them as they are.
 fn assert_kept<K: Eq + Clone + Debug + Drop, V: PartialEq + Clone + Debug + Drop>(
@@ -41,6 +41,15 @@ fn a_value_that_does_not_print_is_inserted_by_a_question_mark(rt: HostRuntime) -
     map.insert(1, Silent { number: 7 })?;
     assert_is(&rt, map.get(&1).map(|value| value.number), Some(7));
     Ok(())
+}
+
+// Compiles only if threads may share the value, and take it over.
+fn is_send_and_sync<T: Send + Sync + Drop>(_value: T) {}
+
+#[test]
+fn threads_may_share_maps_and_sets(rt: HostRuntime) {
+    is_send_and_sync(VecMap::<String, u32>::new(rt.alloc()));
+    is_send_and_sync(VecSet::<String>::new(rt.alloc()));
 }
 
 #[test]

@@ -1,4 +1,4 @@
-ghost use Rattle.std.specs.Prelude.{◌≡◌, None, OnErr, OnOk, nat_eq};
+ghost use Rattle.std.specs.Prelude.{◌≡◌, None, OnErr, OnOk, [], nat_eq};
 ghost use Rattle.vecmap.specs.Pairs.{lookup, put, without_key};
 
 use std::alloc::Global;
@@ -27,7 +27,9 @@ impl Model for Bill {
 
 impl Bill {
     /// Creates a bill without guests.
-    pub fn new(alloc: Global) -> Bill {
+    pub fn new(alloc: Global) -> Bill
+        ensures { result ≡ [] }
+    {
         insertion_keeps_keys_distinct::<u32, u32>();
         Bill {
             guests: VecMap::new(alloc),

@@ -24,7 +24,7 @@ impl Node {
         }
     }
 
-    /// Sets the value at a path, if the path leads to a node. Returns whether it does.
+    /// Sets the value at a path, if the path leads to a node. Returns whether it does. The contract is about `true` alone.
     pub fn set(&mut self, path: &[u32], value: u64) -> bool
         ensures { result ≡ true → value_at path.now self.new ≡ Some value }
     {

@@ -1,4 +1,4 @@
-use Rattle.std.specs.Prelude.{◌≡◌, nat_eq}
+use Rattle.std.specs.Prelude.{nat_eq}
 use Rattle.std.proofs.Common.{ap, map-id, rules, sym, ◌∙◌}
 use Rattle.std.proofs.lemmas.Iterator.Adapters.{fact_from_extend}
 use Rattle.std.proofs.lemmas.Iterator.Consumers.{YieldsList-from_rest}
