@@ -1,19 +1,31 @@
-//! The loops over this library, in Rattle. A slice is passed as a pointer and a length, and `alloc: Global` is not
-//! passed.
+//! The loops over this library, in Rattle.
+
+/// The `Input` and the `TextInput` of `crates/vecmap_bench`. A slice is a pointer and a length there, and the field
+/// `alloc` has no bytes.
+#[repr(C)]
+struct Input<T> {
+    keys: *const T,
+    key_count: usize,
+    probes: *const T,
+    probe_count: usize,
+    rounds: u64,
+}
+
 macro_rules! calls {
     ($t:ty: $($name:ident = $export:ident),* $(,)?) => {$(
         pub fn $name(keys: &[$t], probes: &[$t], rounds: u64) -> u64 {
             unsafe extern "C" {
-                fn $export(
-                    keys: *const $t,
-                    n: usize,
-                    probes: *const $t,
-                    m: usize,
-                    rounds: u64,
-                ) -> u64;
+                fn $export(input: Input<$t>) -> u64;
             }
-            // Safety: the Rattle function reads its two slices and has no condition.
-            unsafe { $export(keys.as_ptr(), keys.len(), probes.as_ptr(), probes.len(), rounds) }
+            let input = Input {
+                keys: keys.as_ptr(),
+                key_count: keys.len(),
+                probes: probes.as_ptr(),
+                probe_count: probes.len(),
+                rounds,
+            };
+            // Safety: the Rattle function reads the two slices of its input and has no condition.
+            unsafe { $export(input) }
         }
     )*};
 }

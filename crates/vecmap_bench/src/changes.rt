@@ -1,66 +1,43 @@
 //! Insertions of numbers, new and present.
-use crate::{REFUSED, filled, mark};
-use std::alloc::{AllocError, Global};
+use crate::{Input, filled, mark, ok};
 use vecmap::VecMap;
 
+/// Inserts each key into an empty map without capacity.
 #[unsafe(no_mangle)]
-pub extern "C" fn vecmap_bench_insert(
-    alloc: Global,
-    keys: &[u64],
-    _probes: &[u64],
-    rounds: u64,
-) -> u64 {
+pub extern "C" fn vecmap_bench_insert(input: Input) -> u64 {
     let mut sum: u64 = 0;
-    for round in 0..rounds {
-        let mut map = VecMap::new(alloc);
-        for key in keys {
-            if map.insert(*key, *key ^ round).is_err() {
-                return REFUSED;
-            }
+    for round in 0..input.rounds {
+        let mut map = VecMap::new(input.alloc);
+        for key in input.keys {
+            ok!(map.insert(*key, *key ^ round));
         }
         sum = sum.wrapping_add(mark(&map));
     }
     sum
 }
 
+/// Inserts each key into a map with capacity for all of them.
 #[unsafe(no_mangle)]
-pub extern "C" fn vecmap_bench_insert_reserved(
-    alloc: Global,
-    keys: &[u64],
-    _probes: &[u64],
-    rounds: u64,
-) -> u64 {
+pub extern "C" fn vecmap_bench_insert_reserved(input: Input) -> u64 {
     let mut sum: u64 = 0;
-    for round in 0..rounds {
-        let Ok(mut map) = VecMap::with_capacity(alloc, keys.len()) else {
-            return REFUSED;
-        };
-        for key in keys {
-            if map.insert(*key, *key ^ round).is_err() {
-                return REFUSED;
-            }
+    for round in 0..input.rounds {
+        let mut map = ok!(VecMap::with_capacity(input.alloc, input.keys.len()));
+        for key in input.keys {
+            ok!(map.insert(*key, *key ^ round));
         }
         sum = sum.wrapping_add(mark(&map));
     }
     sum
 }
 
+/// Inserts each key by `insert_full` into a map with capacity for all of them.
 #[unsafe(no_mangle)]
-pub extern "C" fn vecmap_bench_insert_full(
-    alloc: Global,
-    keys: &[u64],
-    _probes: &[u64],
-    rounds: u64,
-) -> u64 {
+pub extern "C" fn vecmap_bench_insert_full(input: Input) -> u64 {
     let mut sum: u64 = 0;
-    for round in 0..rounds {
-        let Ok(mut map) = VecMap::with_capacity(alloc, keys.len()) else {
-            return REFUSED;
-        };
-        for key in keys {
-            let Ok((place, _old)) = map.insert_full(*key, *key ^ round) else {
-                return REFUSED;
-            };
+    for round in 0..input.rounds {
+        let mut map = ok!(VecMap::with_capacity(input.alloc, input.keys.len()));
+        for key in input.keys {
+            let (place, _old) = ok!(map.insert_full(*key, *key ^ round));
             sum = sum.wrapping_add(place as u64);
         }
         sum = sum.wrapping_add(mark(&map));
@@ -68,112 +45,68 @@ pub extern "C" fn vecmap_bench_insert_full(
     sum
 }
 
-fn replacements(
-    alloc: Global,
-    keys: &[u64],
-    probes: &[u64],
-    rounds: u64,
-) -> Result<u64, AllocError> {
-    let mut map = filled(alloc, keys)?;
-    let mut sum: u64 = 0;
-    for round in 0..rounds {
-        for probe in probes {
-            if let Some(old) = map.insert(*probe, *probe ^ round)? {
-                sum = sum.wrapping_add(old);
-            }
-        }
-    }
-    Ok(sum)
-}
-
-fn full_replacements(
-    alloc: Global,
-    keys: &[u64],
-    probes: &[u64],
-    rounds: u64,
-) -> Result<u64, AllocError> {
-    let mut map = filled(alloc, keys)?;
-    let mut sum: u64 = 0;
-    for round in 0..rounds {
-        for probe in probes {
-            if let (place, Some(old)) = map.insert_full(*probe, *probe ^ round)? {
-                sum = sum.wrapping_add(old ^ place as u64);
-            }
-        }
-    }
-    Ok(sum)
-}
-
-// Each key moves to the index that its number gives.
-fn moves(alloc: Global, keys: &[u64], probes: &[u64], rounds: u64) -> Result<u64, AllocError> {
-    let mut map = filled(alloc, keys)?;
-    let mut sum: u64 = 0;
-    if keys.is_empty() {
-        return Ok(sum);
-    }
-    for round in 0..rounds {
-        for probe in probes {
-            let to = ((*probe ^ round) % keys.len() as u64) as usize;
-            if to <= map.len() {
-                if let Some((from, old)) = map.insert_at(to, *probe, *probe ^ round)? {
-                    sum = sum.wrapping_add(old ^ from as u64);
-                }
-            }
-        }
-    }
-    Ok(sum)
-}
-
-// Each key is new and is inserted in the middle.
+/// Inserts each new key in the middle.
 #[unsafe(no_mangle)]
-pub extern "C" fn vecmap_bench_insert_at_absent(
-    alloc: Global,
-    keys: &[u64],
-    _probes: &[u64],
-    rounds: u64,
-) -> u64 {
+pub extern "C" fn vecmap_bench_insert_at_absent(input: Input) -> u64 {
     let mut sum: u64 = 0;
-    for round in 0..rounds {
-        let Ok(mut map) = VecMap::with_capacity(alloc, keys.len()) else {
-            return REFUSED;
-        };
-        for key in keys {
+    for round in 0..input.rounds {
+        let mut map = ok!(VecMap::with_capacity(input.alloc, input.keys.len()));
+        for key in input.keys {
             let middle = map.len() / 2;
-            if map.insert_at(middle, *key, *key ^ round).is_err() {
-                return REFUSED;
-            }
+            ok!(map.insert_at(middle, *key, *key ^ round));
         }
         sum = sum.wrapping_add(mark(&map));
     }
     sum
 }
 
+/// Inserts existing keys again, with another value.
 #[unsafe(no_mangle)]
-pub extern "C" fn vecmap_bench_insert_present(
-    alloc: Global,
-    keys: &[u64],
-    probes: &[u64],
-    rounds: u64,
-) -> u64 {
-    replacements(alloc, keys, probes, rounds).unwrap_or(REFUSED)
+pub extern "C" fn vecmap_bench_insert_present(input: Input) -> u64 {
+    let mut map = ok!(filled(input.alloc, input.keys));
+    let mut sum: u64 = 0;
+    for round in 0..input.rounds {
+        for probe in input.probes {
+            if let Some(old) = ok!(map.insert(*probe, *probe ^ round)) {
+                sum = sum.wrapping_add(old);
+            }
+        }
+    }
+    sum
 }
 
+/// Inserts existing keys again by `insert_full`.
 #[unsafe(no_mangle)]
-pub extern "C" fn vecmap_bench_insert_full_present(
-    alloc: Global,
-    keys: &[u64],
-    probes: &[u64],
-    rounds: u64,
-) -> u64 {
-    full_replacements(alloc, keys, probes, rounds).unwrap_or(REFUSED)
+pub extern "C" fn vecmap_bench_insert_full_present(input: Input) -> u64 {
+    let mut map = ok!(filled(input.alloc, input.keys));
+    let mut sum: u64 = 0;
+    for round in 0..input.rounds {
+        for probe in input.probes {
+            if let (place, Some(old)) = ok!(map.insert_full(*probe, *probe ^ round)) {
+                sum = sum.wrapping_add(old ^ place as u64);
+            }
+        }
+    }
+    sum
 }
 
+/// Moves each key to the index that its number gives.
 #[unsafe(no_mangle)]
-pub extern "C" fn vecmap_bench_insert_at_present(
-    alloc: Global,
-    keys: &[u64],
-    probes: &[u64],
-    rounds: u64,
-) -> u64 {
-    moves(alloc, keys, probes, rounds).unwrap_or(REFUSED)
+pub extern "C" fn vecmap_bench_insert_at_present(input: Input) -> u64 {
+    let mut map = ok!(filled(input.alloc, input.keys));
+    let mut sum: u64 = 0;
+    if input.keys.is_empty() {
+        return sum;
+    }
+    for round in 0..input.rounds {
+        for probe in input.probes {
+            let to = ((*probe ^ round) % input.keys.len() as u64) as usize;
+            if to <= map.len() {
+                if let Some((from, old)) = ok!(map.insert_at(to, *probe, *probe ^ round)) {
+                    sum = sum.wrapping_add(old ^ from as u64);
+                }
+            }
+        }
+    }
+    sum
 }

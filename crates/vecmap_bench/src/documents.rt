@@ -1,5 +1,5 @@
 //! Attribute documents. A line of the text is a section and a name, with a space between them.
-use crate::REFUSED;
+use crate::{TextInput, ok};
 use attr_doc::{Document, Name};
 use std::alloc::{AllocError, Global};
 use std::str;
@@ -38,128 +38,85 @@ fn filled(alloc: Global, lines: &str) -> Result<Document, AllocError> {
     Ok(document)
 }
 
-fn new_names(alloc: Global, lines: &str, rounds: u64) -> Result<u64, AllocError> {
+/// Sets each name of a new document.
+#[unsafe(no_mangle)]
+pub extern "C" fn vecmap_bench_document_new(input: TextInput) -> u64 {
+    let lines = ok!(str::from_utf8(input.keys));
     let mut sum: u64 = 0;
-    for round in 0..rounds {
-        let document = filled(alloc, lines)?;
+    for round in 0..input.rounds {
+        let document = ok!(filled(input.alloc, lines));
         sum = sum.wrapping_add(document.sections().len() as u64 ^ round);
     }
-    Ok(sum)
+    sum
 }
 
-fn present_names(alloc: Global, lines: &str, rounds: u64) -> Result<u64, AllocError> {
-    let mut document = filled(alloc, lines)?;
+/// Sets each name of a document again.
+#[unsafe(no_mangle)]
+pub extern "C" fn vecmap_bench_document_present(input: TextInput) -> u64 {
+    let lines = ok!(str::from_utf8(input.keys));
+    let mut document = ok!(filled(input.alloc, lines));
     let mut sum: u64 = 0;
-    for round in 0..rounds {
-        sum = sum.wrapping_add(set_all(alloc, &mut document, lines)? ^ round);
+    for round in 0..input.rounds {
+        sum = sum.wrapping_add(ok!(set_all(input.alloc, &mut document, lines)) ^ round);
     }
-    Ok(sum)
+    sum
 }
 
-fn gets(alloc: Global, lines: &str, probes: &str, rounds: u64) -> Result<u64, AllocError> {
-    let document = filled(alloc, lines)?;
-    let probes = names(alloc, probes)?;
+/// Looks up the text of each name.
+#[unsafe(no_mangle)]
+pub extern "C" fn vecmap_bench_document_get(input: TextInput) -> u64 {
+    let lines = ok!(str::from_utf8(input.keys));
+    let probes = ok!(str::from_utf8(input.probes));
+    let document = ok!(filled(input.alloc, lines));
+    let probes = ok!(names(input.alloc, probes));
     let mut sum: u64 = 0;
-    for round in 0..rounds {
+    for round in 0..input.rounds {
         for probe in probes.iter() {
             if let Some(text) = document.get(&probe.0, &probe.1) {
                 sum = sum.wrapping_add(text.len() as u64 ^ round);
             }
         }
     }
-    Ok(sum)
+    sum
 }
 
-fn merges(alloc: Global, lines: &str, others: &str, rounds: u64) -> Result<u64, AllocError> {
+/// Merges a second document into a new one.
+#[unsafe(no_mangle)]
+pub extern "C" fn vecmap_bench_document_merge(input: TextInput) -> u64 {
+    let lines = ok!(str::from_utf8(input.keys));
+    let others = ok!(str::from_utf8(input.probes));
     let mut sum: u64 = 0;
-    for round in 0..rounds {
-        let mut document = filled(alloc, lines)?;
-        let mut other = filled(alloc, others)?;
-        document.merge(&mut other)?;
+    for round in 0..input.rounds {
+        let mut document = ok!(filled(input.alloc, lines));
+        let mut other = ok!(filled(input.alloc, others));
+        ok!(document.merge(&mut other));
         sum = sum.wrapping_add(document.sections().len() as u64 ^ round);
     }
-    Ok(sum)
+    sum
 }
 
-// A text is written in each round, so that the compiler cannot compare once for all rounds.
-fn comparisons(alloc: Global, lines: &str, others: &str, rounds: u64) -> Result<u64, AllocError> {
-    let mut document = filled(alloc, lines)?;
-    let mut other = filled(alloc, others)?;
+// Sets the text of the name `turn`.
+fn set_turn(alloc: Global, document: &mut Document, text: &str) -> Result<(), AllocError> {
+    let text = String::from_str(alloc, text)?;
+    document.set(name(alloc, "turn")?, name(alloc, "turn")?, text)?;
+    Ok(())
+}
+
+/// Compares two documents. Each round writes a text of each, so that the compiler cannot compare once for all rounds.
+#[unsafe(no_mangle)]
+pub extern "C" fn vecmap_bench_document_same(input: TextInput) -> u64 {
+    let lines = ok!(str::from_utf8(input.keys));
+    let others = ok!(str::from_utf8(input.probes));
+    let mut document = ok!(filled(input.alloc, lines));
+    let mut other = ok!(filled(input.alloc, others));
     let mut sum: u64 = 0;
-    for round in 0..rounds {
+    for round in 0..input.rounds {
         let text = if round & 1 == 0 { "even" } else { "odd" };
-        let first = String::from_str(alloc, text)?;
-        document.set(name(alloc, "turn")?, name(alloc, "turn")?, first)?;
-        let second = String::from_str(alloc, text)?;
-        other.set(name(alloc, "turn")?, name(alloc, "turn")?, second)?;
+        ok!(set_turn(input.alloc, &mut document, text));
+        ok!(set_turn(input.alloc, &mut other, text));
         if document.same(&other) {
             sum = sum.wrapping_add(round);
         }
     }
-    Ok(sum)
-}
-
-#[unsafe(no_mangle)]
-pub extern "C" fn vecmap_bench_document_new(
-    alloc: Global,
-    lines: &[u8],
-    _others: &[u8],
-    rounds: u64,
-) -> u64 {
-    let Ok(lines) = str::from_utf8(lines) else {
-        return REFUSED;
-    };
-    new_names(alloc, lines, rounds).unwrap_or(REFUSED)
-}
-
-#[unsafe(no_mangle)]
-pub extern "C" fn vecmap_bench_document_present(
-    alloc: Global,
-    lines: &[u8],
-    _others: &[u8],
-    rounds: u64,
-) -> u64 {
-    let Ok(lines) = str::from_utf8(lines) else {
-        return REFUSED;
-    };
-    present_names(alloc, lines, rounds).unwrap_or(REFUSED)
-}
-
-#[unsafe(no_mangle)]
-pub extern "C" fn vecmap_bench_document_get(
-    alloc: Global,
-    lines: &[u8],
-    probes: &[u8],
-    rounds: u64,
-) -> u64 {
-    let (Ok(lines), Ok(probes)) = (str::from_utf8(lines), str::from_utf8(probes)) else {
-        return REFUSED;
-    };
-    gets(alloc, lines, probes, rounds).unwrap_or(REFUSED)
-}
-
-#[unsafe(no_mangle)]
-pub extern "C" fn vecmap_bench_document_merge(
-    alloc: Global,
-    lines: &[u8],
-    others: &[u8],
-    rounds: u64,
-) -> u64 {
-    let (Ok(lines), Ok(others)) = (str::from_utf8(lines), str::from_utf8(others)) else {
-        return REFUSED;
-    };
-    merges(alloc, lines, others, rounds).unwrap_or(REFUSED)
-}
-
-#[unsafe(no_mangle)]
-pub extern "C" fn vecmap_bench_document_same(
-    alloc: Global,
-    lines: &[u8],
-    others: &[u8],
-    rounds: u64,
-) -> u64 {
-    let (Ok(lines), Ok(others)) = (str::from_utf8(lines), str::from_utf8(others)) else {
-        return REFUSED;
-    };
-    comparisons(alloc, lines, others, rounds).unwrap_or(REFUSED)
+    sum
 }

@@ -1,24 +1,15 @@
-//! Entries.
-use crate::{REFUSED, filled, mark};
-use std::alloc::Global;
+//! Entries of maps.
+use crate::{Input, filled, mark, ok};
 use vecmap::VecMap;
 
+/// Takes the entries of existing keys, and writes their values.
 #[unsafe(no_mangle)]
-pub extern "C" fn vecmap_bench_entry_present(
-    alloc: Global,
-    keys: &[u64],
-    probes: &[u64],
-    rounds: u64,
-) -> u64 {
-    let Ok(mut map) = filled(alloc, keys) else {
-        return REFUSED;
-    };
+pub extern "C" fn vecmap_bench_entry_present(input: Input) -> u64 {
+    let mut map = ok!(filled(input.alloc, input.keys));
     let mut sum: u64 = 0;
-    for round in 0..rounds {
-        for probe in probes {
-            let Ok(value) = map.entry(*probe).or_insert(round) else {
-                return REFUSED;
-            };
+    for round in 0..input.rounds {
+        for probe in input.probes {
+            let value = ok!(map.entry(*probe).or_insert(round));
             sum = sum.wrapping_add(*value);
             *value = *value ^ round;
         }
@@ -26,22 +17,14 @@ pub extern "C" fn vecmap_bench_entry_present(
     sum
 }
 
+/// Takes the entries of new keys, and writes their values.
 #[unsafe(no_mangle)]
-pub extern "C" fn vecmap_bench_entry_absent(
-    alloc: Global,
-    keys: &[u64],
-    _probes: &[u64],
-    rounds: u64,
-) -> u64 {
+pub extern "C" fn vecmap_bench_entry_absent(input: Input) -> u64 {
     let mut sum: u64 = 0;
-    for round in 0..rounds {
-        let Ok(mut map) = VecMap::with_capacity(alloc, keys.len()) else {
-            return REFUSED;
-        };
-        for key in keys {
-            let Ok(value) = map.entry(*key).or_insert(round) else {
-                return REFUSED;
-            };
+    for round in 0..input.rounds {
+        let mut map = ok!(VecMap::with_capacity(input.alloc, input.keys.len()));
+        for key in input.keys {
+            let value = ok!(map.entry(*key).or_insert(round));
             *value = *value ^ *key;
         }
         sum = sum.wrapping_add(mark(&map));
@@ -49,25 +32,18 @@ pub extern "C" fn vecmap_bench_entry_absent(
     sum
 }
 
-// Counts how often each word occurs among the words.
+/// Counts how often each word occurs among the words.
 #[unsafe(no_mangle)]
-pub extern "C" fn vecmap_bench_count_words(
-    alloc: Global,
-    _keys: &[u64],
-    words: &[u64],
-    rounds: u64,
-) -> u64 {
+pub extern "C" fn vecmap_bench_count_words(input: Input) -> u64 {
     let mut sum: u64 = 0;
-    for round in 0..rounds {
-        let mut map = VecMap::new(alloc);
-        for word in words {
+    for round in 0..input.rounds {
+        let mut map = VecMap::new(input.alloc);
+        for word in input.probes {
             let counted = map
                 .entry(*word)
                 .and_modify(|n: &mut u64| *n = n.wrapping_add(1))
                 .or_insert(round);
-            if counted.is_err() {
-                return REFUSED;
-            }
+            ok!(counted);
         }
         sum = sum.wrapping_add(mark(&map));
     }

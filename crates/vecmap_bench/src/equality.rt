@@ -1,23 +1,14 @@
 //! Equality of maps. A value of each map is written in each round, so that the compiler cannot compare once for all
 //! rounds.
-use crate::{REFUSED, filled};
-use std::alloc::Global;
+use crate::{Input, filled, ok};
 
+/// Compares equal maps in the same order.
 #[unsafe(no_mangle)]
-pub extern "C" fn vecmap_bench_eq(
-    alloc: Global,
-    keys: &[u64],
-    _probes: &[u64],
-    rounds: u64,
-) -> u64 {
-    let Ok(mut map) = filled(alloc, keys) else {
-        return REFUSED;
-    };
-    let Ok(mut other) = filled(alloc, keys) else {
-        return REFUSED;
-    };
+pub extern "C" fn vecmap_bench_eq(input: Input) -> u64 {
+    let mut map = ok!(filled(input.alloc, input.keys));
+    let mut other = ok!(filled(input.alloc, input.keys));
     let mut sum: u64 = 0;
-    for round in 0..rounds {
+    for round in 0..input.rounds {
         if let Some((_key, value)) = map.last_mut() {
             *value = round;
         }
@@ -31,22 +22,14 @@ pub extern "C" fn vecmap_bench_eq(
     sum
 }
 
+/// Compares equal maps in opposite orders.
 #[unsafe(no_mangle)]
-pub extern "C" fn vecmap_bench_eq_reversed(
-    alloc: Global,
-    keys: &[u64],
-    _probes: &[u64],
-    rounds: u64,
-) -> u64 {
-    let Ok(mut map) = filled(alloc, keys) else {
-        return REFUSED;
-    };
-    let Ok(mut other) = filled(alloc, keys) else {
-        return REFUSED;
-    };
+pub extern "C" fn vecmap_bench_eq_reversed(input: Input) -> u64 {
+    let mut map = ok!(filled(input.alloc, input.keys));
+    let mut other = ok!(filled(input.alloc, input.keys));
     other.reverse();
     let mut sum: u64 = 0;
-    for round in 0..rounds {
+    for round in 0..input.rounds {
         if let Some((_key, value)) = map.last_mut() {
             *value = round;
         }
@@ -60,21 +43,13 @@ pub extern "C" fn vecmap_bench_eq_reversed(
     sum
 }
 
+/// Compares maps that differ in the last value only.
 #[unsafe(no_mangle)]
-pub extern "C" fn vecmap_bench_eq_not(
-    alloc: Global,
-    keys: &[u64],
-    _probes: &[u64],
-    rounds: u64,
-) -> u64 {
-    let Ok(mut map) = filled(alloc, keys) else {
-        return REFUSED;
-    };
-    let Ok(mut other) = filled(alloc, keys) else {
-        return REFUSED;
-    };
+pub extern "C" fn vecmap_bench_eq_not(input: Input) -> u64 {
+    let mut map = ok!(filled(input.alloc, input.keys));
+    let mut other = ok!(filled(input.alloc, input.keys));
     let mut sum: u64 = 0;
-    for round in 0..rounds {
+    for round in 0..input.rounds {
         if let Some((_key, value)) = map.last_mut() {
             *value = round;
         }

@@ -1,19 +1,12 @@
 //! Iterators over maps, from both ends.
-use crate::{REFUSED, filled, mark};
-use std::alloc::{AllocError, Global};
+use crate::{Input, filled, mark, ok};
 
+/// Reads all pairs from the front.
 #[unsafe(no_mangle)]
-pub extern "C" fn vecmap_bench_iter(
-    alloc: Global,
-    keys: &[u64],
-    _probes: &[u64],
-    rounds: u64,
-) -> u64 {
-    let Ok(map) = filled(alloc, keys) else {
-        return REFUSED;
-    };
+pub extern "C" fn vecmap_bench_iter(input: Input) -> u64 {
+    let map = ok!(filled(input.alloc, input.keys));
     let mut sum: u64 = 0;
-    for round in 0..rounds {
+    for round in 0..input.rounds {
         for (key, value) in map.iter() {
             sum = sum.wrapping_add(*key ^ *value ^ round);
         }
@@ -21,18 +14,12 @@ pub extern "C" fn vecmap_bench_iter(
     sum
 }
 
+/// Reads all pairs from the back.
 #[unsafe(no_mangle)]
-pub extern "C" fn vecmap_bench_iter_back(
-    alloc: Global,
-    keys: &[u64],
-    _probes: &[u64],
-    rounds: u64,
-) -> u64 {
-    let Ok(map) = filled(alloc, keys) else {
-        return REFUSED;
-    };
+pub extern "C" fn vecmap_bench_iter_back(input: Input) -> u64 {
+    let map = ok!(filled(input.alloc, input.keys));
     let mut sum: u64 = 0;
-    for round in 0..rounds {
+    for round in 0..input.rounds {
         for (key, value) in map.iter().rev() {
             sum = sum.wrapping_add(*key ^ *value ^ round);
         }
@@ -40,21 +27,14 @@ pub extern "C" fn vecmap_bench_iter_back(
     sum
 }
 
-// Half of the calls are of `next`, and half of `next_back`.
+/// Reads all pairs, alternately by `next` and by `next_back`.
 #[unsafe(no_mangle)]
-pub extern "C" fn vecmap_bench_iter_both(
-    alloc: Global,
-    keys: &[u64],
-    _probes: &[u64],
-    rounds: u64,
-) -> u64 {
-    let Ok(map) = filled(alloc, keys) else {
-        return REFUSED;
-    };
+pub extern "C" fn vecmap_bench_iter_both(input: Input) -> u64 {
+    let map = ok!(filled(input.alloc, input.keys));
     let mut sum: u64 = 0;
-    for round in 0..rounds {
+    for round in 0..input.rounds {
         let mut pairs = map.iter();
-        for _ in 0..keys.len() / 2 {
+        for _ in 0..input.keys.len() / 2 {
             if let Some((key, value)) = pairs.next() {
                 sum = sum.wrapping_add(*key ^ *value ^ round);
             }
@@ -66,18 +46,12 @@ pub extern "C" fn vecmap_bench_iter_both(
     sum
 }
 
+/// Reads all keys.
 #[unsafe(no_mangle)]
-pub extern "C" fn vecmap_bench_keys(
-    alloc: Global,
-    keys: &[u64],
-    _probes: &[u64],
-    rounds: u64,
-) -> u64 {
-    let Ok(map) = filled(alloc, keys) else {
-        return REFUSED;
-    };
+pub extern "C" fn vecmap_bench_keys(input: Input) -> u64 {
+    let map = ok!(filled(input.alloc, input.keys));
     let mut sum: u64 = 0;
-    for round in 0..rounds {
+    for round in 0..input.rounds {
         for key in map.keys() {
             sum = sum.wrapping_add(*key ^ round);
         }
@@ -85,18 +59,12 @@ pub extern "C" fn vecmap_bench_keys(
     sum
 }
 
+/// Reads all values.
 #[unsafe(no_mangle)]
-pub extern "C" fn vecmap_bench_values(
-    alloc: Global,
-    keys: &[u64],
-    _probes: &[u64],
-    rounds: u64,
-) -> u64 {
-    let Ok(map) = filled(alloc, keys) else {
-        return REFUSED;
-    };
+pub extern "C" fn vecmap_bench_values(input: Input) -> u64 {
+    let map = ok!(filled(input.alloc, input.keys));
     let mut sum: u64 = 0;
-    for round in 0..rounds {
+    for round in 0..input.rounds {
         for value in map.values() {
             sum = sum.wrapping_add(*value ^ round);
         }
@@ -104,18 +72,12 @@ pub extern "C" fn vecmap_bench_values(
     sum
 }
 
+/// Combines each value with its key, and writes it.
 #[unsafe(no_mangle)]
-pub extern "C" fn vecmap_bench_iter_mut(
-    alloc: Global,
-    keys: &[u64],
-    _probes: &[u64],
-    rounds: u64,
-) -> u64 {
-    let Ok(mut map) = filled(alloc, keys) else {
-        return REFUSED;
-    };
+pub extern "C" fn vecmap_bench_iter_mut(input: Input) -> u64 {
+    let mut map = ok!(filled(input.alloc, input.keys));
     let mut sum: u64 = 0;
-    for round in 0..rounds {
+    for round in 0..input.rounds {
         for (key, value) in map.iter_mut() {
             *value = *value ^ *key ^ round;
         }
@@ -124,18 +86,12 @@ pub extern "C" fn vecmap_bench_iter_mut(
     sum
 }
 
+/// Writes each value.
 #[unsafe(no_mangle)]
-pub extern "C" fn vecmap_bench_values_mut(
-    alloc: Global,
-    keys: &[u64],
-    _probes: &[u64],
-    rounds: u64,
-) -> u64 {
-    let Ok(mut map) = filled(alloc, keys) else {
-        return REFUSED;
-    };
+pub extern "C" fn vecmap_bench_values_mut(input: Input) -> u64 {
+    let mut map = ok!(filled(input.alloc, input.keys));
     let mut sum: u64 = 0;
-    for round in 0..rounds {
+    for round in 0..input.rounds {
         for value in map.values_mut() {
             *value = *value ^ round;
         }
@@ -144,23 +100,15 @@ pub extern "C" fn vecmap_bench_values_mut(
     sum
 }
 
-fn owned(alloc: Global, keys: &[u64], rounds: u64) -> Result<u64, AllocError> {
-    let full = filled(alloc, keys)?;
+/// Reads all pairs of a clone by value.
+#[unsafe(no_mangle)]
+pub extern "C" fn vecmap_bench_into_iter(input: Input) -> u64 {
+    let full = ok!(filled(input.alloc, input.keys));
     let mut sum: u64 = 0;
-    for round in 0..rounds {
-        for (key, value) in full.clone()? {
+    for round in 0..input.rounds {
+        for (key, value) in ok!(full.clone()) {
             sum = sum.wrapping_add(key ^ value ^ round);
         }
     }
-    Ok(sum)
-}
-
-#[unsafe(no_mangle)]
-pub extern "C" fn vecmap_bench_into_iter(
-    alloc: Global,
-    keys: &[u64],
-    _probes: &[u64],
-    rounds: u64,
-) -> u64 {
-    owned(alloc, keys, rounds).unwrap_or(REFUSED)
+    sum
 }

@@ -1,5 +1,5 @@
 //! Values of 128 bytes, and pairs of 64 bytes.
-use crate::REFUSED;
+use crate::{Input, ok};
 use std::alloc::{AllocError, Global};
 use vecmap::VecMap;
 
@@ -20,130 +20,74 @@ fn mark(map: &VecMap<u64, Large>) -> u64 {
     }
 }
 
+/// Inserts each key into an empty map without capacity.
 #[unsafe(no_mangle)]
-pub extern "C" fn vecmap_bench_large_insert(
-    alloc: Global,
-    keys: &[u64],
-    _probes: &[u64],
-    rounds: u64,
-) -> u64 {
+pub extern "C" fn vecmap_bench_large_insert(input: Input) -> u64 {
     let mut sum: u64 = 0;
-    for round in 0..rounds {
-        let mut map = VecMap::new(alloc);
-        for key in keys {
-            if map.insert(*key, [*key ^ round; 16]).is_err() {
-                return REFUSED;
-            }
+    for round in 0..input.rounds {
+        let mut map = VecMap::new(input.alloc);
+        for key in input.keys {
+            ok!(map.insert(*key, [*key ^ round; 16]));
         }
         sum = sum.wrapping_add(mark(&map));
     }
     sum
 }
 
-fn replacements(
-    alloc: Global,
-    keys: &[u64],
-    probes: &[u64],
-    rounds: u64,
-) -> Result<u64, AllocError> {
-    let mut map = filled(alloc, keys)?;
-    let mut sum: u64 = 0;
-    for round in 0..rounds {
-        for probe in probes {
-            if let Some(old) = map.insert(*probe, [*probe ^ round; 16])? {
-                sum = sum.wrapping_add(old[7]);
-            }
-        }
-    }
-    Ok(sum)
-}
-
+/// Removes each key and inserts it again at the end.
 #[unsafe(no_mangle)]
-pub extern "C" fn vecmap_bench_large_remove(
-    alloc: Global,
-    keys: &[u64],
-    probes: &[u64],
-    rounds: u64,
-) -> u64 {
-    let Ok(mut map) = filled(alloc, keys) else {
-        return REFUSED;
-    };
+pub extern "C" fn vecmap_bench_large_remove(input: Input) -> u64 {
+    let mut map = ok!(filled(input.alloc, input.keys));
     let mut sum: u64 = 0;
-    for round in 0..rounds {
-        for probe in probes {
+    for round in 0..input.rounds {
+        for probe in input.probes {
             if let Some(value) = map.remove(probe) {
                 sum = sum.wrapping_add(value[3] ^ round);
-                if map.insert(*probe, value).is_err() {
-                    return REFUSED;
-                }
+                ok!(map.insert(*probe, value));
             }
         }
     }
     sum
 }
 
+/// Removes each key by `swap_remove`, and inserts it again.
 #[unsafe(no_mangle)]
-pub extern "C" fn vecmap_bench_large_swap_remove(
-    alloc: Global,
-    keys: &[u64],
-    probes: &[u64],
-    rounds: u64,
-) -> u64 {
-    let Ok(mut map) = filled(alloc, keys) else {
-        return REFUSED;
-    };
+pub extern "C" fn vecmap_bench_large_swap_remove(input: Input) -> u64 {
+    let mut map = ok!(filled(input.alloc, input.keys));
     let mut sum: u64 = 0;
-    for round in 0..rounds {
-        for probe in probes {
+    for round in 0..input.rounds {
+        for probe in input.probes {
             if let Some(value) = map.swap_remove(probe) {
                 sum = sum.wrapping_add(value[3] ^ round);
-                if map.insert(*probe, value).is_err() {
-                    return REFUSED;
-                }
+                ok!(map.insert(*probe, value));
             }
         }
     }
     sum
 }
 
+/// Pushes the pairs to a vector, and converts it into a map.
 #[unsafe(no_mangle)]
-pub extern "C" fn vecmap_bench_large_from_vec(
-    alloc: Global,
-    keys: &[u64],
-    _probes: &[u64],
-    rounds: u64,
-) -> u64 {
+pub extern "C" fn vecmap_bench_large_from_vec(input: Input) -> u64 {
     let mut sum: u64 = 0;
-    for round in 0..rounds {
-        let Ok(mut pairs) = Vec::with_capacity(alloc, keys.len()) else {
-            return REFUSED;
-        };
-        for key in keys {
-            if pairs.push((*key, [*key ^ round; 16])).is_err() {
-                return REFUSED;
-            }
+    for round in 0..input.rounds {
+        let mut pairs = ok!(Vec::with_capacity(input.alloc, input.keys.len()));
+        for key in input.keys {
+            ok!(pairs.push((*key, [*key ^ round; 16])));
         }
         sum = sum.wrapping_add(mark(&VecMap::from(pairs)));
     }
     sum
 }
 
+/// Takes the entries of new keys.
 #[unsafe(no_mangle)]
-pub extern "C" fn vecmap_bench_large_entry(
-    alloc: Global,
-    keys: &[u64],
-    _probes: &[u64],
-    rounds: u64,
-) -> u64 {
+pub extern "C" fn vecmap_bench_large_entry(input: Input) -> u64 {
     let mut sum: u64 = 0;
-    for round in 0..rounds {
-        let Ok(mut map) = VecMap::with_capacity(alloc, keys.len()) else {
-            return REFUSED;
-        };
-        for key in keys {
-            let Ok(value) = map.entry(*key).or_insert([*key ^ round; 16]) else {
-                return REFUSED;
-            };
+    for round in 0..input.rounds {
+        let mut map = ok!(VecMap::with_capacity(input.alloc, input.keys.len()));
+        for key in input.keys {
+            let value = ok!(map.entry(*key).or_insert([*key ^ round; 16]));
             sum = sum.wrapping_add(value[0]);
         }
         sum = sum.wrapping_add(mark(&map));
@@ -151,35 +95,31 @@ pub extern "C" fn vecmap_bench_large_entry(
     sum
 }
 
+/// Inserts existing keys again, with another value.
 #[unsafe(no_mangle)]
-pub extern "C" fn vecmap_bench_large_insert_present(
-    alloc: Global,
-    keys: &[u64],
-    probes: &[u64],
-    rounds: u64,
-) -> u64 {
-    replacements(alloc, keys, probes, rounds).unwrap_or(REFUSED)
+pub extern "C" fn vecmap_bench_large_insert_present(input: Input) -> u64 {
+    let mut map = ok!(filled(input.alloc, input.keys));
+    let mut sum: u64 = 0;
+    for round in 0..input.rounds {
+        for probe in input.probes {
+            if let Some(old) = ok!(map.insert(*probe, [*probe ^ round; 16])) {
+                sum = sum.wrapping_add(old[7]);
+            }
+        }
+    }
+    sum
 }
 
-// The pairs have 64 bytes.
+/// Removes each key of a map of 64-byte pairs, and inserts it again at the end.
 #[unsafe(no_mangle)]
-pub extern "C" fn vecmap_bench_medium_remove(
-    alloc: Global,
-    keys: &[u64],
-    probes: &[u64],
-    rounds: u64,
-) -> u64 {
-    let Ok(mut map) = medium_filled(alloc, keys) else {
-        return REFUSED;
-    };
+pub extern "C" fn vecmap_bench_medium_remove(input: Input) -> u64 {
+    let mut map = ok!(medium_filled(input.alloc, input.keys));
     let mut sum: u64 = 0;
-    for round in 0..rounds {
-        for probe in probes {
+    for round in 0..input.rounds {
+        for probe in input.probes {
             if let Some(value) = map.remove(probe) {
                 sum = sum.wrapping_add(value[3] ^ round);
-                if map.insert(*probe, value).is_err() {
-                    return REFUSED;
-                }
+                ok!(map.insert(*probe, value));
             }
         }
     }

@@ -1,7 +1,7 @@
-//! One call for each loop that the benchmark times. It runs the whole loop over a map or a set and returns a checksum.
+//! One export for each loop that the benchmark times. It runs the whole loop over a map or a set and returns a checksum.
 //!
-//! An export takes its keys and its probes, and the number of rounds over them. The folder `bench` has the same loops
-//! in Rust, for vecmap-rs and other crates. The checksums must agree.
+//! An export takes an [`Input`] or a [`TextInput`]. The folder `bench` has the same loops in Rust, for vecmap-rs and
+//! other crates. The checksums must agree.
 #![tactic(auto)]
 
 mod bulk;
@@ -23,8 +23,42 @@ mod vectors;
 use std::alloc::{AllocError, Global};
 use vecmap::VecMap;
 
-/// The checksum that a call returns if a request for memory is refused.
+/// The checksum that a loop returns if a request for memory is refused.
 const REFUSED: u64 = u64::MAX;
+
+/// What a loop over numbers takes. It is passed by value, so that no round reads it from memory again.
+#[derive(Clone, Copy)]
+#[repr(C)]
+pub struct Input<'a> {
+    alloc: Global,
+    /// The keys of the map, or the elements of the set.
+    keys: &'a [u64],
+    /// What each round looks up, removes or inserts. Some loops read none.
+    probes: &'a [u64],
+    rounds: u64,
+}
+
+/// What a loop over texts takes. Each line of a text is a key or a probe.
+#[derive(Clone, Copy)]
+#[repr(C)]
+pub struct TextInput<'a> {
+    alloc: Global,
+    keys: &'a [u8],
+    probes: &'a [u8],
+    rounds: u64,
+}
+
+/// The value of an `Ok`. On an `Err`, the loop ends and returns `REFUSED`.
+macro_rules! ok {
+    ($result:expr) => {
+        match $result {
+            Ok(value) => value,
+            Err(_) => return $crate::REFUSED,
+        }
+    };
+}
+
+pub(crate) use ok;
 
 /// Returns the pairs of these keys, in a vector without spare capacity.
 fn pairs(alloc: Global, keys: &[u64]) -> Result<Vec<(u64, u64)>, AllocError> {

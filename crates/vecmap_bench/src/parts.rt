@@ -1,67 +1,39 @@
 //! Parts of maps: what a closure keeps, what a drain returns, what is split off.
-use crate::{REFUSED, filled, mark};
-use std::alloc::Global;
+use crate::{Input, filled, mark, ok};
 
-// About half of the pairs are kept.
+/// Keeps about half of the pairs of a clone.
 #[unsafe(no_mangle)]
-pub extern "C" fn vecmap_bench_retain(
-    alloc: Global,
-    keys: &[u64],
-    _probes: &[u64],
-    rounds: u64,
-) -> u64 {
-    let Ok(full) = filled(alloc, keys) else {
-        return REFUSED;
-    };
+pub extern "C" fn vecmap_bench_retain(input: Input) -> u64 {
+    let full = ok!(filled(input.alloc, input.keys));
     let mut sum: u64 = 0;
-    for round in 0..rounds {
-        let Ok(mut map) = full.clone() else {
-            return REFUSED;
-        };
+    for round in 0..input.rounds {
+        let mut map = ok!(full.clone());
         map.retain(|key, _value| *key & 2 == 0);
         sum = sum.wrapping_add(mark(&map) ^ round);
     }
     sum
 }
 
-// All pairs are kept.
+/// Keeps all pairs of a clone.
 #[unsafe(no_mangle)]
-pub extern "C" fn vecmap_bench_retain_all(
-    alloc: Global,
-    keys: &[u64],
-    _probes: &[u64],
-    rounds: u64,
-) -> u64 {
-    let Ok(full) = filled(alloc, keys) else {
-        return REFUSED;
-    };
+pub extern "C" fn vecmap_bench_retain_all(input: Input) -> u64 {
+    let full = ok!(filled(input.alloc, input.keys));
     let mut sum: u64 = 0;
-    for round in 0..rounds {
-        let Ok(mut map) = full.clone() else {
-            return REFUSED;
-        };
+    for round in 0..input.rounds {
+        let mut map = ok!(full.clone());
         map.retain(|key, _value| *key != round);
         sum = sum.wrapping_add(mark(&map) ^ round);
     }
     sum
 }
 
-// The front half is removed.
+/// Drains the front half of a clone.
 #[unsafe(no_mangle)]
-pub extern "C" fn vecmap_bench_drain(
-    alloc: Global,
-    keys: &[u64],
-    _probes: &[u64],
-    rounds: u64,
-) -> u64 {
-    let Ok(full) = filled(alloc, keys) else {
-        return REFUSED;
-    };
+pub extern "C" fn vecmap_bench_drain(input: Input) -> u64 {
+    let full = ok!(filled(input.alloc, input.keys));
     let mut sum: u64 = 0;
-    for round in 0..rounds {
-        let Ok(mut map) = full.clone() else {
-            return REFUSED;
-        };
+    for round in 0..input.rounds {
+        let mut map = ok!(full.clone());
         let half = map.len() / 2;
         for (key, value) in map.drain(..half) {
             sum = sum.wrapping_add(key ^ value ^ round);
@@ -71,22 +43,13 @@ pub extern "C" fn vecmap_bench_drain(
     sum
 }
 
-// All pairs are removed, from the back.
+/// Drains all pairs of a clone from the back.
 #[unsafe(no_mangle)]
-pub extern "C" fn vecmap_bench_drain_back(
-    alloc: Global,
-    keys: &[u64],
-    _probes: &[u64],
-    rounds: u64,
-) -> u64 {
-    let Ok(full) = filled(alloc, keys) else {
-        return REFUSED;
-    };
+pub extern "C" fn vecmap_bench_drain_back(input: Input) -> u64 {
+    let full = ok!(filled(input.alloc, input.keys));
     let mut sum: u64 = 0;
-    for round in 0..rounds {
-        let Ok(mut map) = full.clone() else {
-            return REFUSED;
-        };
+    for round in 0..input.rounds {
+        let mut map = ok!(full.clone());
         for (key, value) in map.drain(..).rev() {
             sum = sum.wrapping_mul(3).wrapping_add(key ^ value ^ round);
         }
@@ -95,25 +58,15 @@ pub extern "C" fn vecmap_bench_drain_back(
     sum
 }
 
+/// Splits the back half off a clone.
 #[unsafe(no_mangle)]
-pub extern "C" fn vecmap_bench_split_off(
-    alloc: Global,
-    keys: &[u64],
-    _probes: &[u64],
-    rounds: u64,
-) -> u64 {
-    let Ok(full) = filled(alloc, keys) else {
-        return REFUSED;
-    };
+pub extern "C" fn vecmap_bench_split_off(input: Input) -> u64 {
+    let full = ok!(filled(input.alloc, input.keys));
     let mut sum: u64 = 0;
-    for round in 0..rounds {
-        let Ok(mut map) = full.clone() else {
-            return REFUSED;
-        };
+    for round in 0..input.rounds {
+        let mut map = ok!(full.clone());
         let half = map.len() / 2;
-        let Ok(part) = map.split_off(half) else {
-            return REFUSED;
-        };
+        let part = ok!(map.split_off(half));
         sum = sum.wrapping_add(mark(&map) ^ mark(&part) ^ round);
     }
     sum

@@ -1,72 +1,46 @@
 //! Removals, by key and by index.
-use crate::{REFUSED, filled};
-use std::alloc::Global;
+use crate::{Input, filled, ok};
 
+/// Removes each key and inserts it again at the end.
 #[unsafe(no_mangle)]
-pub extern "C" fn vecmap_bench_remove(
-    alloc: Global,
-    keys: &[u64],
-    probes: &[u64],
-    rounds: u64,
-) -> u64 {
-    let Ok(mut map) = filled(alloc, keys) else {
-        return REFUSED;
-    };
+pub extern "C" fn vecmap_bench_remove(input: Input) -> u64 {
+    let mut map = ok!(filled(input.alloc, input.keys));
     let mut sum: u64 = 0;
-    for round in 0..rounds {
-        for probe in probes {
+    for round in 0..input.rounds {
+        for probe in input.probes {
             if let Some(value) = map.remove(probe) {
                 sum = sum.wrapping_add(value);
-                if map.insert(*probe, value ^ round).is_err() {
-                    return REFUSED;
-                }
+                ok!(map.insert(*probe, value ^ round));
             }
         }
     }
     sum
 }
 
+/// Removes each key by `swap_remove`, and inserts it again.
 #[unsafe(no_mangle)]
-pub extern "C" fn vecmap_bench_swap_remove(
-    alloc: Global,
-    keys: &[u64],
-    probes: &[u64],
-    rounds: u64,
-) -> u64 {
-    let Ok(mut map) = filled(alloc, keys) else {
-        return REFUSED;
-    };
+pub extern "C" fn vecmap_bench_swap_remove(input: Input) -> u64 {
+    let mut map = ok!(filled(input.alloc, input.keys));
     let mut sum: u64 = 0;
-    for round in 0..rounds {
-        for probe in probes {
+    for round in 0..input.rounds {
+        for probe in input.probes {
             if let Some(value) = map.swap_remove(probe) {
                 sum = sum.wrapping_add(value);
-                if map.insert(*probe, value ^ round).is_err() {
-                    return REFUSED;
-                }
+                ok!(map.insert(*probe, value ^ round));
             }
         }
     }
     sum
 }
 
-// Removes all pairs of a clone from the front.
+/// Removes all pairs of a clone from the front.
 #[unsafe(no_mangle)]
-pub extern "C" fn vecmap_bench_remove_front(
-    alloc: Global,
-    keys: &[u64],
-    _probes: &[u64],
-    rounds: u64,
-) -> u64 {
-    let Ok(full) = filled(alloc, keys) else {
-        return REFUSED;
-    };
+pub extern "C" fn vecmap_bench_remove_front(input: Input) -> u64 {
+    let full = ok!(filled(input.alloc, input.keys));
     let mut sum: u64 = 0;
-    for round in 0..rounds {
-        let Ok(mut map) = full.clone() else {
-            return REFUSED;
-        };
-        for _ in keys {
+    for round in 0..input.rounds {
+        let mut map = ok!(full.clone());
+        for _ in input.keys {
             if !map.is_empty() {
                 let (key, value) = map.remove_index(0);
                 sum = sum.wrapping_mul(31).wrapping_add(key ^ value ^ round);
@@ -76,23 +50,14 @@ pub extern "C" fn vecmap_bench_remove_front(
     sum
 }
 
-// Removes all pairs of a clone from the middle.
+/// Removes all pairs of a clone from the middle.
 #[unsafe(no_mangle)]
-pub extern "C" fn vecmap_bench_remove_middle(
-    alloc: Global,
-    keys: &[u64],
-    _probes: &[u64],
-    rounds: u64,
-) -> u64 {
-    let Ok(full) = filled(alloc, keys) else {
-        return REFUSED;
-    };
+pub extern "C" fn vecmap_bench_remove_middle(input: Input) -> u64 {
+    let full = ok!(filled(input.alloc, input.keys));
     let mut sum: u64 = 0;
-    for round in 0..rounds {
-        let Ok(mut map) = full.clone() else {
-            return REFUSED;
-        };
-        for _ in keys {
+    for round in 0..input.rounds {
+        let mut map = ok!(full.clone());
+        for _ in input.keys {
             let middle = map.len() / 2;
             if middle < map.len() {
                 let (key, value) = map.remove_index(middle);

@@ -1,5 +1,5 @@
 //! Mixed commands, as values and as calls. A word holds a command in its low byte and a key above it.
-use crate::REFUSED;
+use crate::{Input, REFUSED, ok};
 use std::alloc::{AllocError, Global};
 use vecmap::{MapCommand, MapReply, VecMap, run};
 
@@ -24,13 +24,10 @@ fn commands(alloc: Global, words: &[u64]) -> Result<Vec<MapCommand<u64, u64>>, A
 }
 
 fn of_value(value: Option<u64>) -> u64 {
-    match value {
-        Some(value) => value,
-        None => 1,
-    }
+    value.unwrap_or(1)
 }
 
-fn of_index(place: Option<usize>) -> u64 {
+pub(crate) fn of_index(place: Option<usize>) -> u64 {
     match place {
         Some(place) => place as u64,
         None => 2,
@@ -47,55 +44,40 @@ fn of_reply(reply: &MapReply<u64, u64>) -> u64 {
     }
 }
 
-fn command_runs(alloc: Global, words: &[u64], rounds: u64) -> Result<u64, AllocError> {
+/// Runs the commands as values, by `run`.
+#[unsafe(no_mangle)]
+pub extern "C" fn vecmap_bench_run(input: Input) -> u64 {
     let mut sum: u64 = 0;
-    for round in 0..rounds {
-        let mut map = VecMap::new(alloc);
-        let replies = run(alloc, &mut map, commands(alloc, words)?)?;
+    for round in 0..input.rounds {
+        let mut map = VecMap::new(input.alloc);
+        let list = ok!(commands(input.alloc, input.probes));
+        let replies = ok!(run(input.alloc, &mut map, list));
         for reply in replies.iter() {
             sum = sum.wrapping_mul(31).wrapping_add(of_reply(reply) ^ round);
         }
     }
-    Ok(sum)
+    sum
 }
 
-fn call_runs(alloc: Global, words: &[u64], rounds: u64) -> Result<u64, AllocError> {
+/// Runs the commands as calls.
+#[unsafe(no_mangle)]
+pub extern "C" fn vecmap_bench_calls(input: Input) -> u64 {
     let mut sum: u64 = 0;
-    for round in 0..rounds {
-        let mut map: VecMap<u64, u64> = VecMap::new(alloc);
-        for word in words {
+    for round in 0..input.rounds {
+        let mut map: VecMap<u64, u64> = VecMap::new(input.alloc);
+        for word in input.probes {
             let word = *word;
             let key = word >> 8;
             let answer = match word & 255 {
-                0..=29 => of_value(map.insert(key, word)?),
+                0..=29 => of_value(ok!(map.insert(key, word))),
                 30..=69 => of_value(map.get(&key).copied()),
                 70..=84 => of_index(map.get_index_of(&key)),
                 85..=88 => map.len() as u64,
                 89..=98 => of_value(map.remove(&key)),
-                _ => map.to_vec()?.len() as u64,
+                _ => ok!(map.to_vec()).len() as u64,
             };
             sum = sum.wrapping_mul(31).wrapping_add(answer ^ round);
         }
     }
-    Ok(sum)
-}
-
-#[unsafe(no_mangle)]
-pub extern "C" fn vecmap_bench_run(
-    alloc: Global,
-    _keys: &[u64],
-    words: &[u64],
-    rounds: u64,
-) -> u64 {
-    command_runs(alloc, words, rounds).unwrap_or(REFUSED)
-}
-
-#[unsafe(no_mangle)]
-pub extern "C" fn vecmap_bench_calls(
-    alloc: Global,
-    _keys: &[u64],
-    words: &[u64],
-    rounds: u64,
-) -> u64 {
-    call_runs(alloc, words, rounds).unwrap_or(REFUSED)
+    sum
 }

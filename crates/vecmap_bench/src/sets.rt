@@ -1,9 +1,10 @@
-//! Sets of numbers. Two elements are exchanged in each round, so that the compiler cannot compare once for all rounds.
+//! Sets of numbers. Each round swaps two elements before a comparison, so that the compiler cannot compare once for all
+//! rounds.
 mod algebra;
 mod parts;
 mod runs;
 
-use crate::REFUSED;
+use crate::{Input, ok};
 use std::alloc::{AllocError, Global};
 use vecmap::VecSet;
 
@@ -24,38 +25,20 @@ fn mark(set: &VecSet<u64>) -> u64 {
     }
 }
 
-fn turn(set: &mut VecSet<u64>) {
+// Swaps the first two elements.
+fn swap_first_two(set: &mut VecSet<u64>) {
     if set.len() > 1 {
         set.swap_indices(0, 1);
     }
 }
 
-fn insertions(alloc: Global, items: &[u64], rounds: u64) -> Result<u64, AllocError> {
-    let mut sum: u64 = 0;
-    for round in 0..rounds {
-        let mut set = VecSet::new(alloc);
-        for item in items {
-            if set.insert(*item ^ round)? {
-                sum = sum.wrapping_add(1);
-            }
-        }
-    }
-    Ok(sum)
-}
-
+/// Looks up each probe.
 #[unsafe(no_mangle)]
-pub extern "C" fn vecmap_bench_set_contains(
-    alloc: Global,
-    items: &[u64],
-    probes: &[u64],
-    rounds: u64,
-) -> u64 {
-    let Ok(set) = filled(alloc, items) else {
-        return REFUSED;
-    };
+pub extern "C" fn vecmap_bench_set_contains(input: Input) -> u64 {
+    let set = ok!(filled(input.alloc, input.keys));
     let mut sum: u64 = 0;
-    for round in 0..rounds {
-        for probe in probes {
+    for round in 0..input.rounds {
+        for probe in input.probes {
             if set.contains(probe) {
                 sum = sum.wrapping_add(*probe ^ round);
             }
@@ -64,22 +47,14 @@ pub extern "C" fn vecmap_bench_set_contains(
     sum
 }
 
+/// Tests whether a set is a subset of another.
 #[unsafe(no_mangle)]
-pub extern "C" fn vecmap_bench_set_subset(
-    alloc: Global,
-    items: &[u64],
-    others: &[u64],
-    rounds: u64,
-) -> u64 {
-    let Ok(mut set) = filled(alloc, items) else {
-        return REFUSED;
-    };
-    let Ok(other) = filled(alloc, others) else {
-        return REFUSED;
-    };
+pub extern "C" fn vecmap_bench_set_subset(input: Input) -> u64 {
+    let mut set = ok!(filled(input.alloc, input.keys));
+    let other = ok!(filled(input.alloc, input.probes));
     let mut sum: u64 = 0;
-    for round in 0..rounds {
-        turn(&mut set);
+    for round in 0..input.rounds {
+        swap_first_two(&mut set);
         if set.is_subset(&other) {
             sum = sum.wrapping_add(round);
         }
@@ -87,22 +62,14 @@ pub extern "C" fn vecmap_bench_set_subset(
     sum
 }
 
+/// Tests whether two sets have no element in common.
 #[unsafe(no_mangle)]
-pub extern "C" fn vecmap_bench_set_disjoint(
-    alloc: Global,
-    items: &[u64],
-    others: &[u64],
-    rounds: u64,
-) -> u64 {
-    let Ok(mut set) = filled(alloc, items) else {
-        return REFUSED;
-    };
-    let Ok(other) = filled(alloc, others) else {
-        return REFUSED;
-    };
+pub extern "C" fn vecmap_bench_set_disjoint(input: Input) -> u64 {
+    let mut set = ok!(filled(input.alloc, input.keys));
+    let other = ok!(filled(input.alloc, input.probes));
     let mut sum: u64 = 0;
-    for round in 0..rounds {
-        turn(&mut set);
+    for round in 0..input.rounds {
+        swap_first_two(&mut set);
         if set.is_disjoint(&other) {
             sum = sum.wrapping_add(round);
         }
@@ -110,22 +77,14 @@ pub extern "C" fn vecmap_bench_set_disjoint(
     sum
 }
 
+/// Compares two sets.
 #[unsafe(no_mangle)]
-pub extern "C" fn vecmap_bench_set_eq(
-    alloc: Global,
-    items: &[u64],
-    others: &[u64],
-    rounds: u64,
-) -> u64 {
-    let Ok(mut set) = filled(alloc, items) else {
-        return REFUSED;
-    };
-    let Ok(other) = filled(alloc, others) else {
-        return REFUSED;
-    };
+pub extern "C" fn vecmap_bench_set_eq(input: Input) -> u64 {
+    let mut set = ok!(filled(input.alloc, input.keys));
+    let other = ok!(filled(input.alloc, input.probes));
     let mut sum: u64 = 0;
-    for round in 0..rounds {
-        turn(&mut set);
+    for round in 0..input.rounds {
+        swap_first_two(&mut set);
         if set == other {
             sum = sum.wrapping_add(round);
         }
@@ -133,22 +92,14 @@ pub extern "C" fn vecmap_bench_set_eq(
     sum
 }
 
+/// Pushes the elements to a vector, and converts it into a set.
 #[unsafe(no_mangle)]
-pub extern "C" fn vecmap_bench_set_from_vec(
-    alloc: Global,
-    items: &[u64],
-    _probes: &[u64],
-    rounds: u64,
-) -> u64 {
+pub extern "C" fn vecmap_bench_set_from_vec(input: Input) -> u64 {
     let mut sum: u64 = 0;
-    for round in 0..rounds {
-        let Ok(mut vec) = Vec::with_capacity(alloc, items.len()) else {
-            return REFUSED;
-        };
-        for item in items {
-            if vec.push(*item).is_err() {
-                return REFUSED;
-            }
+    for round in 0..input.rounds {
+        let mut vec = ok!(Vec::with_capacity(input.alloc, input.keys.len()));
+        for item in input.keys {
+            ok!(vec.push(*item));
         }
         let set = VecSet::from(vec);
         sum = sum.wrapping_add(set.len() as u64 ^ round);
@@ -156,12 +107,17 @@ pub extern "C" fn vecmap_bench_set_from_vec(
     sum
 }
 
+/// Inserts each element into an empty set without capacity.
 #[unsafe(no_mangle)]
-pub extern "C" fn vecmap_bench_set_insert(
-    alloc: Global,
-    keys: &[u64],
-    _probes: &[u64],
-    rounds: u64,
-) -> u64 {
-    insertions(alloc, keys, rounds).unwrap_or(REFUSED)
+pub extern "C" fn vecmap_bench_set_insert(input: Input) -> u64 {
+    let mut sum: u64 = 0;
+    for round in 0..input.rounds {
+        let mut set = VecSet::new(input.alloc);
+        for item in input.keys {
+            if ok!(set.insert(*item ^ round)) {
+                sum = sum.wrapping_add(1);
+            }
+        }
+    }
+    sum
 }

@@ -1,5 +1,5 @@
 //! Texts as keys. The lines of one text are the keys, and those of another are the probes.
-use crate::REFUSED;
+use crate::{TextInput, ok};
 use std::alloc::{AllocError, Global};
 use std::str;
 use vecmap::VecMap;
@@ -23,138 +23,91 @@ fn numbered(alloc: Global, text: &str) -> Result<VecMap<String, u64>, AllocError
     Ok(map)
 }
 
-fn text_gets(alloc: Global, keys: &str, probes: &str, rounds: u64) -> Result<u64, AllocError> {
-    let map = numbered(alloc, keys)?;
-    let probes = lines(alloc, probes)?;
+/// Looks up each line by `get_str`.
+#[unsafe(no_mangle)]
+pub extern "C" fn vecmap_bench_text_get(input: TextInput) -> u64 {
+    let keys = ok!(str::from_utf8(input.keys));
+    let probes = ok!(str::from_utf8(input.probes));
+    let map = ok!(numbered(input.alloc, keys));
+    let probes = ok!(lines(input.alloc, probes));
     let mut sum: u64 = 0;
-    for round in 0..rounds {
+    for round in 0..input.rounds {
         for probe in probes.iter() {
             if let Some(value) = map.get_str(probe.as_str()) {
                 sum = sum.wrapping_add(*value ^ round);
             }
         }
     }
-    Ok(sum)
+    sum
 }
 
-fn string_gets(alloc: Global, keys: &str, probes: &str, rounds: u64) -> Result<u64, AllocError> {
-    let map = numbered(alloc, keys)?;
-    let probes = lines(alloc, probes)?;
+/// Looks up each line by `get`, with a `String` as the query.
+#[unsafe(no_mangle)]
+pub extern "C" fn vecmap_bench_string_get(input: TextInput) -> u64 {
+    let keys = ok!(str::from_utf8(input.keys));
+    let probes = ok!(str::from_utf8(input.probes));
+    let map = ok!(numbered(input.alloc, keys));
+    let probes = ok!(lines(input.alloc, probes));
     let mut sum: u64 = 0;
-    for round in 0..rounds {
+    for round in 0..input.rounds {
         for probe in probes.iter() {
             if let Some(value) = map.get(probe) {
                 sum = sum.wrapping_add(*value ^ round);
             }
         }
     }
-    Ok(sum)
+    sum
 }
 
-fn insertions(alloc: Global, keys: &str, rounds: u64) -> Result<u64, AllocError> {
+/// Inserts each line into an empty map without capacity.
+#[unsafe(no_mangle)]
+pub extern "C" fn vecmap_bench_string_insert(input: TextInput) -> u64 {
+    let keys = ok!(str::from_utf8(input.keys));
     let mut sum: u64 = 0;
-    for round in 0..rounds {
-        let map = numbered(alloc, keys)?;
+    for round in 0..input.rounds {
+        let map = ok!(numbered(input.alloc, keys));
         sum = sum.wrapping_add(map.len() as u64 ^ round);
     }
-    Ok(sum)
+    sum
 }
 
-// Removes each line and inserts it again at the end.
-fn removals(alloc: Global, keys: &str, probes: &str, rounds: u64) -> Result<u64, AllocError> {
-    let mut map = numbered(alloc, keys)?;
-    let probes = lines(alloc, probes)?;
+/// Removes each line and inserts it again at the end.
+#[unsafe(no_mangle)]
+pub extern "C" fn vecmap_bench_string_remove(input: TextInput) -> u64 {
+    let keys = ok!(str::from_utf8(input.keys));
+    let probes = ok!(str::from_utf8(input.probes));
+    let mut map = ok!(numbered(input.alloc, keys));
+    let probes = ok!(lines(input.alloc, probes));
     let mut sum: u64 = 0;
-    for round in 0..rounds {
+    for round in 0..input.rounds {
         for probe in probes.iter() {
             if let Some((key, value)) = map.remove_entry(probe.as_str()) {
                 sum = sum.wrapping_add(value);
-                map.insert(key, value ^ round)?;
+                ok!(map.insert(key, value ^ round));
             }
         }
     }
-    Ok(sum)
+    sum
 }
 
-// Counts how often each line occurs in the text.
-fn counts(alloc: Global, text: &str, rounds: u64) -> Result<u64, AllocError> {
+/// Counts how often each line occurs in the text.
+#[unsafe(no_mangle)]
+pub extern "C" fn vecmap_bench_count_lines(input: TextInput) -> u64 {
+    let text = ok!(str::from_utf8(input.probes));
     let mut sum: u64 = 0;
-    for round in 0..rounds {
-        let mut map = VecMap::new(alloc);
+    for round in 0..input.rounds {
+        let mut map = VecMap::new(input.alloc);
         for line in text.lines() {
-            map.entry(line)
+            let counted = map
+                .entry(line)
                 .and_modify(|n: &mut u64| *n = n.wrapping_add(1))
-                .or_insert(round)?;
+                .or_insert(round);
+            ok!(counted);
         }
         if let Some((_line, n)) = map.last() {
             sum = sum.wrapping_add(*n);
         }
         sum = sum.wrapping_add(map.len() as u64);
     }
-    Ok(sum)
-}
-
-#[unsafe(no_mangle)]
-pub extern "C" fn vecmap_bench_text_get(
-    alloc: Global,
-    keys: &[u8],
-    probes: &[u8],
-    rounds: u64,
-) -> u64 {
-    let (Ok(keys), Ok(probes)) = (str::from_utf8(keys), str::from_utf8(probes)) else {
-        return REFUSED;
-    };
-    text_gets(alloc, keys, probes, rounds).unwrap_or(REFUSED)
-}
-
-#[unsafe(no_mangle)]
-pub extern "C" fn vecmap_bench_string_get(
-    alloc: Global,
-    keys: &[u8],
-    probes: &[u8],
-    rounds: u64,
-) -> u64 {
-    let (Ok(keys), Ok(probes)) = (str::from_utf8(keys), str::from_utf8(probes)) else {
-        return REFUSED;
-    };
-    string_gets(alloc, keys, probes, rounds).unwrap_or(REFUSED)
-}
-
-#[unsafe(no_mangle)]
-pub extern "C" fn vecmap_bench_string_insert(
-    alloc: Global,
-    keys: &[u8],
-    _probes: &[u8],
-    rounds: u64,
-) -> u64 {
-    let Ok(keys) = str::from_utf8(keys) else {
-        return REFUSED;
-    };
-    insertions(alloc, keys, rounds).unwrap_or(REFUSED)
-}
-
-#[unsafe(no_mangle)]
-pub extern "C" fn vecmap_bench_string_remove(
-    alloc: Global,
-    keys: &[u8],
-    probes: &[u8],
-    rounds: u64,
-) -> u64 {
-    let (Ok(keys), Ok(probes)) = (str::from_utf8(keys), str::from_utf8(probes)) else {
-        return REFUSED;
-    };
-    removals(alloc, keys, probes, rounds).unwrap_or(REFUSED)
-}
-
-#[unsafe(no_mangle)]
-pub extern "C" fn vecmap_bench_count_lines(
-    alloc: Global,
-    _keys: &[u8],
-    text: &[u8],
-    rounds: u64,
-) -> u64 {
-    let Ok(text) = str::from_utf8(text) else {
-        return REFUSED;
-    };
-    counts(alloc, text, rounds).unwrap_or(REFUSED)
+    sum
 }

@@ -1,65 +1,41 @@
 //! The same work on a plain vector of pairs, without a map: the least that a row with such work can take.
-use crate::{REFUSED, pairs};
+use crate::{Input, ok, pairs};
 use std::alloc::{AllocError, Global};
 
+/// Clones a vector of pairs.
 #[unsafe(no_mangle)]
-pub extern "C" fn vecmap_bench_vec_clone(
-    alloc: Global,
-    keys: &[u64],
-    _probes: &[u64],
-    rounds: u64,
-) -> u64 {
-    let Ok(full) = pairs(alloc, keys) else {
-        return REFUSED;
-    };
+pub extern "C" fn vecmap_bench_vec_clone(input: Input) -> u64 {
+    let full = ok!(pairs(input.alloc, input.keys));
     let mut sum: u64 = 0;
-    for round in 0..rounds {
-        let Ok(copy) = full.clone() else {
-            return REFUSED;
-        };
+    for round in 0..input.rounds {
+        let copy = ok!(full.clone());
         sum = sum.wrapping_add(last_key(&copy) ^ round);
     }
     sum
 }
 
-// The pairs are appended to an empty vector.
+/// Appends the pairs to an empty vector.
 #[unsafe(no_mangle)]
-pub extern "C" fn vecmap_bench_vec_push(
-    alloc: Global,
-    keys: &[u64],
-    _probes: &[u64],
-    rounds: u64,
-) -> u64 {
+pub extern "C" fn vecmap_bench_vec_push(input: Input) -> u64 {
     let mut sum: u64 = 0;
-    for round in 0..rounds {
-        let mut list: Vec<(u64, u64)> = Vec::new(alloc);
-        for key in keys {
-            if list.push((*key, *key ^ round)).is_err() {
-                return REFUSED;
-            }
+    for round in 0..input.rounds {
+        let mut list: Vec<(u64, u64)> = Vec::new(input.alloc);
+        for key in input.keys {
+            ok!(list.push((*key, *key ^ round)));
         }
         sum = sum.wrapping_add(last_key(&list) ^ round);
     }
     sum
 }
 
-// All pairs of a clone are removed, from the front.
+/// Removes all pairs of a clone from the front.
 #[unsafe(no_mangle)]
-pub extern "C" fn vecmap_bench_vec_remove(
-    alloc: Global,
-    keys: &[u64],
-    _probes: &[u64],
-    rounds: u64,
-) -> u64 {
-    let Ok(full) = pairs(alloc, keys) else {
-        return REFUSED;
-    };
+pub extern "C" fn vecmap_bench_vec_remove(input: Input) -> u64 {
+    let full = ok!(pairs(input.alloc, input.keys));
     let mut sum: u64 = 0;
-    for round in 0..rounds {
-        let Ok(mut list) = full.clone() else {
-            return REFUSED;
-        };
-        for _ in 0..keys.len() {
+    for round in 0..input.rounds {
+        let mut list = ok!(full.clone());
+        for _ in 0..input.keys.len() {
             if !list.is_empty() {
                 let (key, value) = list.remove(0);
                 sum = sum.wrapping_mul(3).wrapping_add(key ^ value ^ round);
@@ -69,46 +45,30 @@ pub extern "C" fn vecmap_bench_vec_remove(
     sum
 }
 
-// The pairs are inserted at the front of an empty vector.
+/// Inserts the pairs at the front of an empty vector.
 #[unsafe(no_mangle)]
-pub extern "C" fn vecmap_bench_vec_insert(
-    alloc: Global,
-    keys: &[u64],
-    _probes: &[u64],
-    rounds: u64,
-) -> u64 {
+pub extern "C" fn vecmap_bench_vec_insert(input: Input) -> u64 {
     let mut sum: u64 = 0;
-    for round in 0..rounds {
-        let mut list: Vec<(u64, u64)> = Vec::new(alloc);
-        for key in keys {
-            if list.insert(0, (*key, *key ^ round)).is_err() {
-                return REFUSED;
-            }
+    for round in 0..input.rounds {
+        let mut list: Vec<(u64, u64)> = Vec::new(input.alloc);
+        for key in input.keys {
+            ok!(list.insert(0, (*key, *key ^ round)));
         }
         sum = sum.wrapping_add(last_key(&list) ^ round);
     }
     sum
 }
 
-// Pairs of 136 bytes are removed and appended again.
+/// Removes pairs of 136 bytes, and appends them again.
 #[unsafe(no_mangle)]
-pub extern "C" fn vecmap_bench_vec_remove_large(
-    alloc: Global,
-    keys: &[u64],
-    probes: &[u64],
-    rounds: u64,
-) -> u64 {
-    let Ok(mut list) = large_pairs(alloc, keys) else {
-        return REFUSED;
-    };
+pub extern "C" fn vecmap_bench_vec_remove_large(input: Input) -> u64 {
+    let mut list = ok!(large_pairs(input.alloc, input.keys));
     let mut sum: u64 = 0;
-    for round in 0..rounds {
-        for probe in probes {
+    for round in 0..input.rounds {
+        for probe in input.probes {
             if let Some(pair) = taken(&mut list, *probe) {
                 sum = sum.wrapping_add(pair.1[3] ^ round);
-                if list.push(pair).is_err() {
-                    return REFUSED;
-                }
+                ok!(list.push(pair));
             }
         }
     }

@@ -1,21 +1,14 @@
 //! Sets: iteration, removals, parts, sorts and searches.
 use super::{filled, mark};
-use crate::REFUSED;
 use crate::order::either;
-use std::alloc::Global;
+use crate::{Input, ok};
 
+/// Reads all elements.
 #[unsafe(no_mangle)]
-pub extern "C" fn vecmap_bench_set_iter(
-    alloc: Global,
-    keys: &[u64],
-    _probes: &[u64],
-    rounds: u64,
-) -> u64 {
-    let Ok(set) = filled(alloc, keys) else {
-        return REFUSED;
-    };
+pub extern "C" fn vecmap_bench_set_iter(input: Input) -> u64 {
+    let set = ok!(filled(input.alloc, input.keys));
     let mut sum: u64 = 0;
-    for round in 0..rounds {
+    for round in 0..input.rounds {
         for item in set.iter() {
             sum = sum.wrapping_add(*item ^ round);
         }
@@ -23,23 +16,15 @@ pub extern "C" fn vecmap_bench_set_iter(
     sum
 }
 
+/// Removes each element and inserts it again at the end.
 #[unsafe(no_mangle)]
-pub extern "C" fn vecmap_bench_set_remove(
-    alloc: Global,
-    keys: &[u64],
-    probes: &[u64],
-    rounds: u64,
-) -> u64 {
-    let Ok(mut set) = filled(alloc, keys) else {
-        return REFUSED;
-    };
+pub extern "C" fn vecmap_bench_set_remove(input: Input) -> u64 {
+    let mut set = ok!(filled(input.alloc, input.keys));
     let mut sum: u64 = 0;
-    for round in 0..rounds {
-        for probe in probes {
+    for round in 0..input.rounds {
+        for probe in input.probes {
             if set.remove(probe) {
-                if set.insert(*probe).is_err() {
-                    return REFUSED;
-                }
+                ok!(set.insert(*probe));
                 sum = sum.wrapping_add(round);
             }
         }
@@ -47,23 +32,15 @@ pub extern "C" fn vecmap_bench_set_remove(
     sum
 }
 
+/// Takes each element by `swap_take`, and inserts it again.
 #[unsafe(no_mangle)]
-pub extern "C" fn vecmap_bench_set_swap_take(
-    alloc: Global,
-    keys: &[u64],
-    probes: &[u64],
-    rounds: u64,
-) -> u64 {
-    let Ok(mut set) = filled(alloc, keys) else {
-        return REFUSED;
-    };
+pub extern "C" fn vecmap_bench_set_swap_take(input: Input) -> u64 {
+    let mut set = ok!(filled(input.alloc, input.keys));
     let mut sum: u64 = 0;
-    for round in 0..rounds {
-        for probe in probes {
+    for round in 0..input.rounds {
+        for probe in input.probes {
             if let Some(item) = set.swap_take(probe) {
-                if set.insert(item).is_err() {
-                    return REFUSED;
-                }
+                ok!(set.insert(item));
                 sum = sum.wrapping_add(round);
             }
         }
@@ -71,66 +48,39 @@ pub extern "C" fn vecmap_bench_set_swap_take(
     sum
 }
 
-// About half of the elements are kept.
+/// Keeps about half of the elements of a clone.
 #[unsafe(no_mangle)]
-pub extern "C" fn vecmap_bench_set_retain(
-    alloc: Global,
-    keys: &[u64],
-    _probes: &[u64],
-    rounds: u64,
-) -> u64 {
-    let Ok(full) = filled(alloc, keys) else {
-        return REFUSED;
-    };
+pub extern "C" fn vecmap_bench_set_retain(input: Input) -> u64 {
+    let full = ok!(filled(input.alloc, input.keys));
     let mut sum: u64 = 0;
-    for round in 0..rounds {
-        let Ok(mut set) = full.clone() else {
-            return REFUSED;
-        };
+    for round in 0..input.rounds {
+        let mut set = ok!(full.clone());
         set.retain(|item| *item & 2 == 0);
         sum = sum.wrapping_add(mark(&set) ^ round);
     }
     sum
 }
 
-// All elements are kept.
+/// Keeps all elements of a clone.
 #[unsafe(no_mangle)]
-pub extern "C" fn vecmap_bench_set_retain_all(
-    alloc: Global,
-    keys: &[u64],
-    _probes: &[u64],
-    rounds: u64,
-) -> u64 {
-    let Ok(full) = filled(alloc, keys) else {
-        return REFUSED;
-    };
+pub extern "C" fn vecmap_bench_set_retain_all(input: Input) -> u64 {
+    let full = ok!(filled(input.alloc, input.keys));
     let mut sum: u64 = 0;
-    for round in 0..rounds {
-        let Ok(mut set) = full.clone() else {
-            return REFUSED;
-        };
+    for round in 0..input.rounds {
+        let mut set = ok!(full.clone());
         set.retain(|item| *item != round);
         sum = sum.wrapping_add(mark(&set) ^ round);
     }
     sum
 }
 
-// The front half is removed.
+/// Drains the front half of a clone.
 #[unsafe(no_mangle)]
-pub extern "C" fn vecmap_bench_set_drain(
-    alloc: Global,
-    keys: &[u64],
-    _probes: &[u64],
-    rounds: u64,
-) -> u64 {
-    let Ok(full) = filled(alloc, keys) else {
-        return REFUSED;
-    };
+pub extern "C" fn vecmap_bench_set_drain(input: Input) -> u64 {
+    let full = ok!(filled(input.alloc, input.keys));
     let mut sum: u64 = 0;
-    for round in 0..rounds {
-        let Ok(mut set) = full.clone() else {
-            return REFUSED;
-        };
+    for round in 0..input.rounds {
+        let mut set = ok!(full.clone());
         let half = set.len() / 2;
         for item in set.drain(..half) {
             sum = sum.wrapping_add(item ^ round);
@@ -140,88 +90,54 @@ pub extern "C" fn vecmap_bench_set_drain(
     sum
 }
 
+/// Splits the back half off a clone.
 #[unsafe(no_mangle)]
-pub extern "C" fn vecmap_bench_set_split_off(
-    alloc: Global,
-    keys: &[u64],
-    _probes: &[u64],
-    rounds: u64,
-) -> u64 {
-    let Ok(full) = filled(alloc, keys) else {
-        return REFUSED;
-    };
+pub extern "C" fn vecmap_bench_set_split_off(input: Input) -> u64 {
+    let full = ok!(filled(input.alloc, input.keys));
     let mut sum: u64 = 0;
-    for round in 0..rounds {
-        let Ok(mut set) = full.clone() else {
-            return REFUSED;
-        };
+    for round in 0..input.rounds {
+        let mut set = ok!(full.clone());
         let half = set.len() / 2;
-        let Ok(part) = set.split_off(half) else {
-            return REFUSED;
-        };
+        let part = ok!(set.split_off(half));
         sum = sum.wrapping_add(mark(&set) ^ mark(&part) ^ round);
     }
     sum
 }
 
+/// Sorts a clone.
 #[unsafe(no_mangle)]
-pub extern "C" fn vecmap_bench_set_sort(
-    alloc: Global,
-    keys: &[u64],
-    _probes: &[u64],
-    rounds: u64,
-) -> u64 {
-    let Ok(full) = filled(alloc, keys) else {
-        return REFUSED;
-    };
+pub extern "C" fn vecmap_bench_set_sort(input: Input) -> u64 {
+    let full = ok!(filled(input.alloc, input.keys));
     let mut sum: u64 = 0;
-    for round in 0..rounds {
-        let Ok(mut set) = full.clone() else {
-            return REFUSED;
-        };
-        if set.sort().is_err() {
-            return REFUSED;
-        }
+    for round in 0..input.rounds {
+        let mut set = ok!(full.clone());
+        ok!(set.sort());
         sum = sum.wrapping_add(mark(&set) ^ round);
     }
     sum
 }
 
+/// Sorts a clone, with an unstable sort.
 #[unsafe(no_mangle)]
-pub extern "C" fn vecmap_bench_set_sort_unstable(
-    alloc: Global,
-    keys: &[u64],
-    _probes: &[u64],
-    rounds: u64,
-) -> u64 {
-    let Ok(full) = filled(alloc, keys) else {
-        return REFUSED;
-    };
+pub extern "C" fn vecmap_bench_set_sort_unstable(input: Input) -> u64 {
+    let full = ok!(filled(input.alloc, input.keys));
     let mut sum: u64 = 0;
-    for round in 0..rounds {
-        let Ok(mut set) = full.clone() else {
-            return REFUSED;
-        };
+    for round in 0..input.rounds {
+        let mut set = ok!(full.clone());
         set.sort_unstable();
         sum = sum.wrapping_add(mark(&set) ^ round);
     }
     sum
 }
 
+/// Searches a sorted set for each probe.
 #[unsafe(no_mangle)]
-pub extern "C" fn vecmap_bench_set_binary_search(
-    alloc: Global,
-    keys: &[u64],
-    probes: &[u64],
-    rounds: u64,
-) -> u64 {
-    let Ok(mut set) = filled(alloc, keys) else {
-        return REFUSED;
-    };
+pub extern "C" fn vecmap_bench_set_binary_search(input: Input) -> u64 {
+    let mut set = ok!(filled(input.alloc, input.keys));
     set.sort_unstable();
     let mut sum: u64 = 0;
-    for round in 0..rounds {
-        for probe in probes {
+    for round in 0..input.rounds {
+        for probe in input.probes {
             let place = either(set.binary_search(probe));
             sum = sum.wrapping_add(place as u64 ^ round);
         }

@@ -1,5 +1,6 @@
 //! Mixed commands on sets, as values and as calls. A word holds a command in its low byte and an element above it.
-use crate::REFUSED;
+use crate::runs::of_index;
+use crate::{Input, REFUSED, ok};
 use std::alloc::{AllocError, Global};
 use vecmap::{SetCommand, SetReply, VecSet, run_set};
 
@@ -23,13 +24,6 @@ fn commands(alloc: Global, words: &[u64]) -> Result<Vec<SetCommand<u64>>, AllocE
     Ok(commands)
 }
 
-fn of_index(place: Option<usize>) -> u64 {
-    match place {
-        Some(place) => place as u64,
-        None => 2,
-    }
-}
-
 fn of_reply(reply: &SetReply<u64>) -> u64 {
     match reply {
         SetReply::Truth(truth) => u64::from(*truth),
@@ -40,55 +34,40 @@ fn of_reply(reply: &SetReply<u64>) -> u64 {
     }
 }
 
-fn command_runs(alloc: Global, words: &[u64], rounds: u64) -> Result<u64, AllocError> {
+/// Runs the commands as values, by `run_set`.
+#[unsafe(no_mangle)]
+pub extern "C" fn vecmap_bench_set_run(input: Input) -> u64 {
     let mut sum: u64 = 0;
-    for round in 0..rounds {
-        let mut set = VecSet::new(alloc);
-        let replies = run_set(alloc, &mut set, commands(alloc, words)?)?;
+    for round in 0..input.rounds {
+        let mut set = VecSet::new(input.alloc);
+        let list = ok!(commands(input.alloc, input.probes));
+        let replies = ok!(run_set(input.alloc, &mut set, list));
         for reply in replies.iter() {
             sum = sum.wrapping_mul(31).wrapping_add(of_reply(reply) ^ round);
         }
     }
-    Ok(sum)
+    sum
 }
 
-fn call_runs(alloc: Global, words: &[u64], rounds: u64) -> Result<u64, AllocError> {
+/// Runs the commands as calls.
+#[unsafe(no_mangle)]
+pub extern "C" fn vecmap_bench_set_calls(input: Input) -> u64 {
     let mut sum: u64 = 0;
-    for round in 0..rounds {
-        let mut set: VecSet<u64> = VecSet::new(alloc);
-        for word in words {
+    for round in 0..input.rounds {
+        let mut set: VecSet<u64> = VecSet::new(input.alloc);
+        for word in input.probes {
             let word = *word;
             let item = word >> 8;
             let answer = match word & 255 {
-                0..=29 => u64::from(set.insert(item)?),
+                0..=29 => u64::from(ok!(set.insert(item))),
                 30..=69 => u64::from(set.contains(&item)),
                 70..=84 => of_index(set.get_index_of(&item)),
                 85..=88 => set.len() as u64,
                 89..=98 => u64::from(set.remove(&item)),
-                _ => set.to_vec()?.len() as u64,
+                _ => ok!(set.to_vec()).len() as u64,
             };
             sum = sum.wrapping_mul(31).wrapping_add(answer ^ round);
         }
     }
-    Ok(sum)
-}
-
-#[unsafe(no_mangle)]
-pub extern "C" fn vecmap_bench_set_run(
-    alloc: Global,
-    _keys: &[u64],
-    words: &[u64],
-    rounds: u64,
-) -> u64 {
-    command_runs(alloc, words, rounds).unwrap_or(REFUSED)
-}
-
-#[unsafe(no_mangle)]
-pub extern "C" fn vecmap_bench_set_calls(
-    alloc: Global,
-    _keys: &[u64],
-    words: &[u64],
-    rounds: u64,
-) -> u64 {
-    call_runs(alloc, words, rounds).unwrap_or(REFUSED)
+    sum
 }
