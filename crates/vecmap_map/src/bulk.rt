@@ -1,11 +1,11 @@
 //! Creation of a map from many pairs, and insertion of many pairs.
-ghost use Rattle.std.specs.Prelude.{◌≡◌, ◌<◌, ◌+◌, ◌≤◌, ◌⊎◌, ◌/◌, IfOk, IsOk, List, None, OnErr, OnOk, [], if◌then◌else◌, length, map};
+ghost use Rattle.std.specs.Prelude.{◌≡◌, ◌<◌, ◌+◌, ◌≤◌, ◌/◌, IfOk, IsOk, List, None, OnErr, OnOk, [], if◌then◌else◌, length};
 ghost use Rattle.std.specs.Iterator.{Drains, ExtendsWithItems, IsFiniteIterable};
-ghost use Rattle.std.specs.Map.Iter.{deref_pair};
+ghost use Rattle.std.specs.Map.Iter.{deref, deref_pair};
 ghost use Rattle.vecmap_base.specs.Bulk.{HasRoomForAll, HasRoomForHalf, HoldsOfEach, StopsAt};
 ghost use Rattle.vecmap_base.specs.Pairs.{put, puts};
 ghost use Rattle.vecmap_map.specs.Contents.{HasRoom, KeepsRoomAt, Refuses, with_entries};
-ghost use Rattle.vecmap_map.specs.MapBulk.{ArePairClones, ClonesSucceed, Puts, PutsClones, RefusesAfter, RefusesClonesAfter};
+ghost use Rattle.vecmap_map.specs.MapBulk.{ArePairClones, ClonesSucceed, Puts, PutsClones, RefusesAfter, RefusesClonesAfter, StaysOrStopsAt};
 
 use crate::VecMap;
 use std::alloc::{AllocError, Global};
@@ -173,21 +173,18 @@ impl<K, V> VecMap<K, V> {
             (Puts K.eq) iter self.old self.new result }
         ensures capacity { self.old.capacity ≤ self.new.capacity }
         ensures succeeds { HasRoomForAll I.into_iter_gives I.IntoIter.remaining iter
-            (length self.old.entries) self.old.capacity → IsOk result }
+            (HasRoom self.old) → IsOk result }
         ensures capacity_stays { HasRoomForAll I.into_iter_gives I.IntoIter.remaining iter
-            (length self.old.entries) self.old.capacity → self.new.capacity ≡ self.old.capacity }
+            (HasRoom self.old) → self.new.capacity ≡ self.old.capacity }
 
         // On `Err` either the first request was refused and the map is unchanged, or a new key was refused in a full
         // map.
-        ensures err { OnErr result ((self.new ≡ self.old)
-            ⊎ StopsAt I.into_iter_gives I.IntoIter.next_gives iter
-            (λ pairs next. RefusesAfter K.eq self.old pairs next self.new)) }
+        ensures err { OnErr result (StaysOrStopsAt I.into_iter_gives I.IntoIter.next_gives iter
+            (RefusesAfter K.eq) self.old self.new) }
         ensures late_err { 0 < length self.old.entries
-            → HasRoomForHalf I.into_iter_gives I.IntoIter.remaining iter
-            (length self.old.entries) self.old.capacity
+            → HasRoomForHalf I.into_iter_gives I.IntoIter.remaining iter (HasRoom self.old)
             → OnErr result (StopsAt I.into_iter_gives I.IntoIter.next_gives iter
-            (λ pairs next. RefusesAfter
-            K.eq self.old pairs next self.new)) }
+            (RefusesAfter K.eq self.old self.new)) }
     {
         let items = iter.into_iter();
         self.reserve(capacity_to_reserve(self.is_empty(), items.size_hint().0))?;
@@ -229,28 +226,22 @@ impl<K, V> VecMap<K, V> {
         requires ends { IsFiniteIterable I.into_iter_gives I.IntoIter.can_next I.IntoIter.remaining
             iter }
         ensures ran { ExtendsWithItems I.into_iter_gives I.IntoIter.next_gives
-            (λ old items new. PutsClones K.eq K.is_clone V.is_clone old
-            (map deref_pair items) new) iter self.old self.new result }
+            (PutsClones K.eq K.is_clone V.is_clone deref_pair) iter self.old self.new result }
         ensures capacity { self.old.capacity ≤ self.new.capacity }
         ensures succeeds { HasRoomForAll I.into_iter_gives I.IntoIter.remaining iter
-            (length self.old.entries) self.old.capacity
-            → HoldsOfEach I.into_iter_gives I.IntoIter.next_gives iter
-            (λ item. ClonesSucceed K.Clone V.Clone (deref_pair item)) → IsOk result }
+            (HasRoom self.old) → HoldsOfEach I.into_iter_gives I.IntoIter.next_gives iter
+            (ClonesSucceed K.Clone V.Clone deref_pair) → IsOk result }
         ensures capacity_stays { HasRoomForAll I.into_iter_gives I.IntoIter.remaining iter
-            (length self.old.entries) self.old.capacity → self.new.capacity ≡ self.old.capacity }
+            (HasRoom self.old) → self.new.capacity ≡ self.old.capacity }
 
         // On `Err` either the first request was refused and the map is unchanged, or the next item was refused. If its
         // clones cannot fail, a clone of its key is then new and the map is full.
-        ensures err { OnErr result ((self.new ≡ self.old)
-            ⊎ StopsAt I.into_iter_gives I.IntoIter.next_gives iter
-            (λ items next. RefusesClonesAfter K.eq K.Clone V.Clone self.old (map deref_pair items)
-            (deref_pair next) self.new)) }
+        ensures err { OnErr result (StaysOrStopsAt I.into_iter_gives I.IntoIter.next_gives iter
+            (RefusesClonesAfter K.eq K.Clone V.Clone deref_pair) self.old self.new) }
         ensures late_err { 0 < length self.old.entries
-            → HasRoomForHalf I.into_iter_gives I.IntoIter.remaining iter
-            (length self.old.entries) self.old.capacity
+            → HasRoomForHalf I.into_iter_gives I.IntoIter.remaining iter (HasRoom self.old)
             → OnErr result (StopsAt I.into_iter_gives I.IntoIter.next_gives iter
-            (λ items next. RefusesClonesAfter K.eq K.Clone V.Clone self.old
-            (map deref_pair items) (deref_pair next) self.new)) }
+            (RefusesClonesAfter K.eq K.Clone V.Clone deref_pair self.old self.new)) }
     {
         let items = iter.into_iter();
         self.reserve(capacity_to_reserve(self.is_empty(), items.size_hint().0))?;
@@ -289,28 +280,22 @@ impl<K, V> VecMap<K, V> {
         requires ends { IsFiniteIterable I.into_iter_gives I.IntoIter.can_next I.IntoIter.remaining
             iter }
         ensures ran { ExtendsWithItems I.into_iter_gives I.IntoIter.next_gives
-            (λ old items new. PutsClones K.eq K.is_clone V.is_clone old
-            (map (λ p. p.now) items) new) iter self.old self.new result }
+            (PutsClones K.eq K.is_clone V.is_clone deref) iter self.old self.new result }
         ensures capacity { self.old.capacity ≤ self.new.capacity }
         ensures succeeds { HasRoomForAll I.into_iter_gives I.IntoIter.remaining iter
-            (length self.old.entries) self.old.capacity
-            → HoldsOfEach I.into_iter_gives I.IntoIter.next_gives iter
-            (λ item. ClonesSucceed K.Clone V.Clone item.now) → IsOk result }
+            (HasRoom self.old) → HoldsOfEach I.into_iter_gives I.IntoIter.next_gives iter
+            (ClonesSucceed K.Clone V.Clone deref) → IsOk result }
         ensures capacity_stays { HasRoomForAll I.into_iter_gives I.IntoIter.remaining iter
-            (length self.old.entries) self.old.capacity → self.new.capacity ≡ self.old.capacity }
+            (HasRoom self.old) → self.new.capacity ≡ self.old.capacity }
 
         // On `Err` either the first request was refused and the map is unchanged, or the next item was refused. If its
         // clones cannot fail, a clone of its key is then new and the map is full.
-        ensures err { OnErr result ((self.new ≡ self.old)
-            ⊎ StopsAt I.into_iter_gives I.IntoIter.next_gives iter
-            (λ items next. RefusesClonesAfter K.eq K.Clone V.Clone self.old
-            (map (λ p. p.now) items) next.now self.new)) }
+        ensures err { OnErr result (StaysOrStopsAt I.into_iter_gives I.IntoIter.next_gives iter
+            (RefusesClonesAfter K.eq K.Clone V.Clone deref) self.old self.new) }
         ensures late_err { 0 < length self.old.entries
-            → HasRoomForHalf I.into_iter_gives I.IntoIter.remaining iter
-            (length self.old.entries) self.old.capacity
+            → HasRoomForHalf I.into_iter_gives I.IntoIter.remaining iter (HasRoom self.old)
             → OnErr result (StopsAt I.into_iter_gives I.IntoIter.next_gives iter
-            (λ items next. RefusesClonesAfter K.eq K.Clone V.Clone
-            self.old (map (λ p. p.now) items) next.now self.new)) }
+            (RefusesClonesAfter K.eq K.Clone V.Clone deref self.old self.new)) }
     {
         let items = iter.into_iter();
         self.reserve(capacity_to_reserve(self.is_empty(), items.size_hint().0))?;

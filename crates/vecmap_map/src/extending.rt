@@ -3,10 +3,11 @@
 //! Each impl calls the inherent function that it names, and says the same of a refusal. Generic code knows only what
 //! the trait says: that some first part of the items was inserted.
 ghost use Rattle.std.specs.Iterator.{ExtendsWithItems, IsFiniteIterable};
-ghost use Rattle.std.specs.Map.Iter.{deref_pair};
-ghost use Rattle.std.specs.Prelude.{◌≡◌, ◌<◌, ◌≤◌, ◌⊎◌, IsOk, OnErr, length, map};
+ghost use Rattle.std.specs.Map.Iter.{deref, deref_pair};
+ghost use Rattle.std.specs.Prelude.{◌≡◌, ◌<◌, IsOk, OnErr, length};
 ghost use Rattle.vecmap_base.specs.Bulk.{HasRoomForAll, HasRoomForHalf, HoldsOfEach, StopsAt};
-ghost use Rattle.vecmap_map.specs.MapBulk.{ClonesSucceed, Puts, PutsClones, RefusesAfter, RefusesClonesAfter};
+ghost use Rattle.vecmap_map.specs.Contents.{HasRoom};
+ghost use Rattle.vecmap_map.specs.MapBulk.{ClonesSucceed, Grows, Puts, PutsClones, RefusesAfter, RefusesClonesAfter, StaysOrStopsAt};
 
 use crate::VecMap;
 use std::alloc::AllocError;
@@ -36,26 +37,23 @@ use std::alloc::AllocError;
 /// even.as_slice() // [('b', 2)]
 /// ```
 impl<K: Eq + Drop, V: Drop> Extend<(K, V)> for VecMap<K, V> {
-    ghost extend_gives = { λ old pairs new. Puts K.eq old pairs new × (old.capacity ≤ new.capacity) };
+    ghost extend_gives = { Grows (Puts K.eq) };
 
     fn extend<I: IntoIterator<Item = (K, V)>>(&mut self, iter: I) -> Result<(), AllocError>
         requires ends { IsFiniteIterable I.into_iter_gives I.IntoIter.can_next I.IntoIter.remaining
             iter }
         ensures ran { ExtendsWithItems I.into_iter_gives I.IntoIter.next_gives
-            (λ old pairs new. Puts K.eq old pairs new × (old.capacity ≤ new.capacity))
-            iter self.old self.new result }
+            (Grows (Puts K.eq)) iter self.old self.new result }
         ensures succeeds { HasRoomForAll I.into_iter_gives I.IntoIter.remaining iter
-            (length self.old.entries) self.old.capacity → IsOk result }
+            (HasRoom self.old) → IsOk result }
         ensures capacity_stays { HasRoomForAll I.into_iter_gives I.IntoIter.remaining iter
-            (length self.old.entries) self.old.capacity → self.new.capacity ≡ self.old.capacity }
-        ensures err { OnErr result ((self.new ≡ self.old)
-            ⊎ StopsAt I.into_iter_gives I.IntoIter.next_gives iter
-            (λ pairs next. RefusesAfter K.eq self.old pairs next self.new)) }
+            (HasRoom self.old) → self.new.capacity ≡ self.old.capacity }
+        ensures err { OnErr result (StaysOrStopsAt I.into_iter_gives I.IntoIter.next_gives iter
+            (RefusesAfter K.eq) self.old self.new) }
         ensures late_err { 0 < length self.old.entries
-            → HasRoomForHalf I.into_iter_gives I.IntoIter.remaining iter
-            (length self.old.entries) self.old.capacity
+            → HasRoomForHalf I.into_iter_gives I.IntoIter.remaining iter (HasRoom self.old)
             → OnErr result (StopsAt I.into_iter_gives I.IntoIter.next_gives iter
-            (λ pairs next. RefusesAfter K.eq self.old pairs next self.new)) }
+            (RefusesAfter K.eq self.old self.new)) }
     {
         VecMap::extend(self, iter)
     }
@@ -86,32 +84,24 @@ impl<K: Eq + Drop, V: Drop> Extend<(K, V)> for VecMap<K, V> {
 /// map.as_slice() // [('a', 2), ('b', 1)]
 /// ```
 impl<'a, K: Eq + Clone + 'a, V: Clone + 'a> Extend<(&'a K, &'a V)> for VecMap<K, V> {
-    ghost extend_gives = { λ old pairs new.
-        PutsClones K.eq K.is_clone V.is_clone old (map deref_pair pairs) new
-        × (old.capacity ≤ new.capacity) };
+    ghost extend_gives = { Grows (PutsClones K.eq K.is_clone V.is_clone deref_pair) };
 
     fn extend<I: IntoIterator<Item = (&'a K, &'a V)>>(&mut self, iter: I) -> Result<(), AllocError>
         requires ends { IsFiniteIterable I.into_iter_gives I.IntoIter.can_next I.IntoIter.remaining
             iter }
-        ensures ran { ExtendsWithItems I.into_iter_gives I.IntoIter.next_gives
-            (λ old pairs new. PutsClones K.eq K.is_clone V.is_clone old (map deref_pair pairs) new
-            × (old.capacity ≤ new.capacity)) iter self.old self.new result }
+        ensures ran { ExtendsWithItems I.into_iter_gives I.IntoIter.next_gives (Grows
+            (PutsClones K.eq K.is_clone V.is_clone deref_pair)) iter self.old self.new result }
         ensures succeeds { HasRoomForAll I.into_iter_gives I.IntoIter.remaining iter
-            (length self.old.entries) self.old.capacity
-            → HoldsOfEach I.into_iter_gives I.IntoIter.next_gives iter
-            (λ item. ClonesSucceed K.Clone V.Clone (deref_pair item)) → IsOk result }
+            (HasRoom self.old) → HoldsOfEach I.into_iter_gives I.IntoIter.next_gives iter
+            (ClonesSucceed K.Clone V.Clone deref_pair) → IsOk result }
         ensures capacity_stays { HasRoomForAll I.into_iter_gives I.IntoIter.remaining iter
-            (length self.old.entries) self.old.capacity → self.new.capacity ≡ self.old.capacity }
-        ensures err { OnErr result ((self.new ≡ self.old)
-            ⊎ StopsAt I.into_iter_gives I.IntoIter.next_gives iter
-            (λ items next. RefusesClonesAfter K.eq K.Clone V.Clone self.old (map deref_pair items)
-            (deref_pair next) self.new)) }
+            (HasRoom self.old) → self.new.capacity ≡ self.old.capacity }
+        ensures err { OnErr result (StaysOrStopsAt I.into_iter_gives I.IntoIter.next_gives iter
+            (RefusesClonesAfter K.eq K.Clone V.Clone deref_pair) self.old self.new) }
         ensures late_err { 0 < length self.old.entries
-            → HasRoomForHalf I.into_iter_gives I.IntoIter.remaining iter
-            (length self.old.entries) self.old.capacity
+            → HasRoomForHalf I.into_iter_gives I.IntoIter.remaining iter (HasRoom self.old)
             → OnErr result (StopsAt I.into_iter_gives I.IntoIter.next_gives iter
-            (λ items next. RefusesClonesAfter K.eq K.Clone V.Clone self.old (map deref_pair items)
-            (deref_pair next) self.new)) }
+            (RefusesClonesAfter K.eq K.Clone V.Clone deref_pair self.old self.new)) }
     {
         self.extend_refs(iter)
     }
@@ -140,32 +130,24 @@ impl<'a, K: Eq + Clone + 'a, V: Clone + 'a> Extend<(&'a K, &'a V)> for VecMap<K,
 /// map.as_slice() // [('a', 1), ('b', 3), ('c', 4)]
 /// ```
 impl<'a, K: Eq + Clone + 'a, V: Clone + 'a> Extend<&'a (K, V)> for VecMap<K, V> {
-    ghost extend_gives = { λ old pairs new.
-        PutsClones K.eq K.is_clone V.is_clone old (map (λ p. p.now) pairs) new
-        × (old.capacity ≤ new.capacity) };
+    ghost extend_gives = { Grows (PutsClones K.eq K.is_clone V.is_clone deref) };
 
     fn extend<I: IntoIterator<Item = &'a (K, V)>>(&mut self, iter: I) -> Result<(), AllocError>
         requires ends { IsFiniteIterable I.into_iter_gives I.IntoIter.can_next I.IntoIter.remaining
             iter }
         ensures ran { ExtendsWithItems I.into_iter_gives I.IntoIter.next_gives
-            (λ old pairs new. PutsClones K.eq K.is_clone V.is_clone old (map (λ p. p.now) pairs) new
-            × (old.capacity ≤ new.capacity)) iter self.old self.new result }
+            (Grows (PutsClones K.eq K.is_clone V.is_clone deref)) iter self.old self.new result }
         ensures succeeds { HasRoomForAll I.into_iter_gives I.IntoIter.remaining iter
-            (length self.old.entries) self.old.capacity
-            → HoldsOfEach I.into_iter_gives I.IntoIter.next_gives iter
-            (λ item. ClonesSucceed K.Clone V.Clone item.now) → IsOk result }
+            (HasRoom self.old) → HoldsOfEach I.into_iter_gives I.IntoIter.next_gives iter
+            (ClonesSucceed K.Clone V.Clone deref) → IsOk result }
         ensures capacity_stays { HasRoomForAll I.into_iter_gives I.IntoIter.remaining iter
-            (length self.old.entries) self.old.capacity → self.new.capacity ≡ self.old.capacity }
-        ensures err { OnErr result ((self.new ≡ self.old)
-            ⊎ StopsAt I.into_iter_gives I.IntoIter.next_gives iter
-            (λ items next. RefusesClonesAfter K.eq K.Clone V.Clone self.old
-            (map (λ p. p.now) items) next.now self.new)) }
+            (HasRoom self.old) → self.new.capacity ≡ self.old.capacity }
+        ensures err { OnErr result (StaysOrStopsAt I.into_iter_gives I.IntoIter.next_gives iter
+            (RefusesClonesAfter K.eq K.Clone V.Clone deref) self.old self.new) }
         ensures late_err { 0 < length self.old.entries
-            → HasRoomForHalf I.into_iter_gives I.IntoIter.remaining iter
-            (length self.old.entries) self.old.capacity
+            → HasRoomForHalf I.into_iter_gives I.IntoIter.remaining iter (HasRoom self.old)
             → OnErr result (StopsAt I.into_iter_gives I.IntoIter.next_gives iter
-            (λ items next. RefusesClonesAfter K.eq K.Clone V.Clone self.old
-            (map (λ p. p.now) items) next.now self.new)) }
+            (RefusesClonesAfter K.eq K.Clone V.Clone deref self.old self.new)) }
     {
         self.extend_pairs(iter)
     }

@@ -1,5 +1,6 @@
 -- What the calls that take many elements at once leave.
-use Rattle.std.specs.Prelude.{◌≡◌, Bool, List}
+use Rattle.std.specs.Prelude.{◌≡◌, ◌≤◌, Bool, List}
+use Rattle.std.specs.List.{IsDistinct}
 use Rattle.vecmap_base.specs.Items.{adds}
 use Rattle.vecmap_set.specs.Contents.{Contents, Refuses}
 
@@ -8,6 +9,10 @@ module _ {T : Type 0} (eq : T → T → Bool) where
   abbrev pub Adds : Contents T → List T → Contents T → Type 0
   Adds old items new = new.elements ≡ adds eq old.elements items
 
+  -- Items turn the old set into the new one, as `gives` says. No elements are equal, and the capacity is not lower.
+  abbrev pub Grows : {A : Type 0} → (Contents T → List A → Contents T → Type 0) → Contents T → List A → Contents T → Type 0
+  Grows gives old items new = gives old items new × IsDistinct eq new.elements × (old.capacity ≤ new.capacity)
+
   -- The items were added, and then `next` was refused.
-  abbrev pub RefusesAfter : Contents T → List T → T → Contents T → Type 0
-  RefusesAfter old items next new = Adds old items new × Refuses eq new next new
+  abbrev pub RefusesAfter : Contents T → Contents T → List T → T → Type 0
+  RefusesAfter old new items next = Adds old items new × Refuses eq new next new

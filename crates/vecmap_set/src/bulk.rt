@@ -170,13 +170,13 @@ impl<T: Eq> VecSet<T> {
         ensures distinct { IsDistinct T.eq self.new.elements }
         ensures capacity { self.old.capacity ≤ self.new.capacity }
         ensures succeeds { HasRoomForAll I.into_iter_gives I.IntoIter.remaining iter
-            (length self.old.elements) self.old.capacity → IsOk result }
+            (HasRoom self.old) → IsOk result }
         ensures capacity_stays { HasRoomForAll I.into_iter_gives I.IntoIter.remaining iter
-            (length self.old.elements) self.old.capacity → self.new.capacity ≡ self.old.capacity }
+            (HasRoom self.old) → self.new.capacity ≡ self.old.capacity }
 
         // On `Err` a new element was refused, in a full set.
         ensures err { OnErr result (StopsAt I.into_iter_gives I.IntoIter.next_gives iter
-            (λ items next. RefusesAfter T.eq self.old items next self.new)) }
+            (RefusesAfter T.eq self.old self.new)) }
     {
         // A proof knows the invariant only once a field is used, and the loop needs it at its start.
         let _ = &self.items;
@@ -219,13 +219,13 @@ impl<T: Eq> VecSet<T> {
         ensures distinct { IsDistinct T.eq self.new.elements }
         ensures capacity { self.old.capacity ≤ self.new.capacity }
         ensures succeeds { HasRoomForAll I.into_iter_gives I.IntoIter.remaining iter
-            (length self.old.elements) self.old.capacity → IsOk result }
+            (HasRoom self.old) → IsOk result }
         ensures capacity_stays { HasRoomForAll I.into_iter_gives I.IntoIter.remaining iter
-            (length self.old.elements) self.old.capacity → self.new.capacity ≡ self.old.capacity }
+            (HasRoom self.old) → self.new.capacity ≡ self.old.capacity }
 
         // On `Err` a new element was refused, in a full set.
         ensures err { OnErr result (StopsAt I.into_iter_gives I.IntoIter.next_gives iter
-            (λ items next. RefusesAfter T.eq self.old (map deref items) (deref next) self.new)) }
+            (λ items next. RefusesAfter T.eq self.old self.new (map deref items) (deref next))) }
     {
         // As in `extend`.
         let _ = &self.items;

@@ -3,11 +3,11 @@
 //! Each impl calls the inherent function that it names, and says the same of a refusal. Generic code knows only what
 //! the trait says: that some first part of the items was added.
 ghost use Rattle.std.specs.Iterator.{ExtendsWithItems, IsFiniteIterable};
-ghost use Rattle.std.specs.List.{IsDistinct};
 ghost use Rattle.std.specs.Map.Iter.{deref};
-ghost use Rattle.std.specs.Prelude.{◌≡◌, ◌≤◌, IsOk, OnErr, length, map};
+ghost use Rattle.std.specs.Prelude.{◌≡◌, IsOk, OnErr, map};
 ghost use Rattle.vecmap_base.specs.Bulk.{HasRoomForAll, StopsAt};
-ghost use Rattle.vecmap_set.specs.SetBulk.{Adds, RefusesAfter};
+ghost use Rattle.vecmap_set.specs.Contents.{HasRoom};
+ghost use Rattle.vecmap_set.specs.SetBulk.{Adds, Grows, RefusesAfter};
 
 use crate::VecSet;
 use std::alloc::AllocError;
@@ -35,20 +35,19 @@ use std::alloc::AllocError;
 /// even.as_slice() // [2]
 /// ```
 impl<T: Eq + Drop> Extend<T> for VecSet<T> {
-    ghost extend_gives = { λ old items new. Adds T.eq old items new × IsDistinct T.eq new.elements × (old.capacity ≤ new.capacity) };
+    ghost extend_gives = { Grows T.eq (Adds T.eq) };
 
     fn extend<I: IntoIterator<Item = T>>(&mut self, iter: I) -> Result<(), AllocError>
         requires ends { IsFiniteIterable I.into_iter_gives I.IntoIter.can_next I.IntoIter.remaining
             iter }
         ensures ran { ExtendsWithItems I.into_iter_gives I.IntoIter.next_gives
-            (λ old items new. Adds T.eq old items new × IsDistinct T.eq new.elements
-            × (old.capacity ≤ new.capacity)) iter self.old self.new result }
+            (Grows T.eq (Adds T.eq)) iter self.old self.new result }
         ensures succeeds { HasRoomForAll I.into_iter_gives I.IntoIter.remaining iter
-            (length self.old.elements) self.old.capacity → IsOk result }
+            (HasRoom self.old) → IsOk result }
         ensures capacity_stays { HasRoomForAll I.into_iter_gives I.IntoIter.remaining iter
-            (length self.old.elements) self.old.capacity → self.new.capacity ≡ self.old.capacity }
+            (HasRoom self.old) → self.new.capacity ≡ self.old.capacity }
         ensures err { OnErr result (StopsAt I.into_iter_gives I.IntoIter.next_gives iter
-            (λ items next. RefusesAfter T.eq self.old items next self.new)) }
+            (RefusesAfter T.eq self.old self.new)) }
     {
         VecSet::extend(self, iter)
     }
@@ -77,20 +76,19 @@ impl<T: Eq + Drop> Extend<T> for VecSet<T> {
 /// set.as_slice() // [1, 2, 3]
 /// ```
 impl<'a, T: Eq + Copy + 'a> Extend<&'a T> for VecSet<T> {
-    ghost extend_gives = { λ old items new. Adds T.eq old (map deref items) new × IsDistinct T.eq new.elements × (old.capacity ≤ new.capacity) };
+    ghost extend_gives = { Grows T.eq (λ old items new. Adds T.eq old (map deref items) new) };
 
     fn extend<I: IntoIterator<Item = &'a T>>(&mut self, iter: I) -> Result<(), AllocError>
         requires ends { IsFiniteIterable I.into_iter_gives I.IntoIter.can_next I.IntoIter.remaining
             iter }
-        ensures ran { ExtendsWithItems I.into_iter_gives I.IntoIter.next_gives
-            (λ old items new. Adds T.eq old (map deref items) new × IsDistinct T.eq new.elements
-            × (old.capacity ≤ new.capacity)) iter self.old self.new result }
+        ensures ran { ExtendsWithItems I.into_iter_gives I.IntoIter.next_gives (Grows T.eq
+            (λ old items new. Adds T.eq old (map deref items) new)) iter self.old self.new result }
         ensures succeeds { HasRoomForAll I.into_iter_gives I.IntoIter.remaining iter
-            (length self.old.elements) self.old.capacity → IsOk result }
+            (HasRoom self.old) → IsOk result }
         ensures capacity_stays { HasRoomForAll I.into_iter_gives I.IntoIter.remaining iter
-            (length self.old.elements) self.old.capacity → self.new.capacity ≡ self.old.capacity }
+            (HasRoom self.old) → self.new.capacity ≡ self.old.capacity }
         ensures err { OnErr result (StopsAt I.into_iter_gives I.IntoIter.next_gives iter
-            (λ items next. RefusesAfter T.eq self.old (map deref items) (deref next) self.new)) }
+            (λ items next. RefusesAfter T.eq self.old self.new (map deref items) (deref next))) }
     {
         self.extend_copied(iter)
     }

@@ -1,53 +1,32 @@
 -- The idea: each round appends a clone to the list of clones that the invariant names, and a refused round is where the
 -- call stops.
-use Rattle.std.proofs.Common.{◌+◌, ◌≤◌, arith, inr, length, refl, rules, sym, true≢false}
+use Rattle.std.proofs.Common.{arith, inr, rules, sym, true≢false}
 use Rattle.std.proofs.lemmas.{Grind.common_steps, Result.err_from_is_err_and}
+use Rattle.std.specs.Map.Iter.{deref}
 use Rattle.vecmap_base.specs.{Clones.IsPairClone, Pairs.put}
 use Rattle.vecmap_base.proofs.CloneLemmas.{lent_clone_taken}
 use Rattle.vecmap_map.proofs.VecMap.extend_pairs.Goals as goal
 
 pub loop-pair-preserved : goal.loop-pair-preserved
 loop-pair-preserved g c =
-    let one = c.in_ok-put_clones.ensures.entries in record {
-      can = c.in-Some.ensures.goes.keeps;
-      finite = (c.in-Some.ensures.goes.on c.loop-pair.invariant.finite).1;
-      puts = lent_clone_taken (IsPairClone g.K.Clone.is_clone g.V.Clone.is_clone) (λ done r. put g.K.PartialEq.eq done r.0 r.1) (λ p. p.now)
-          c.args.self.now.entries c.loop-pair.yielded c.loop-pair.self.entries c.put_clones.new.self.entries c.in-Some.pair
-          (one.0, one.1) c.loop-pair.invariant.puts (one.2, one.3) one.4;
-      capacity = search rules;
-      room = grind (arith, common_steps);
-      stays = grind (arith, common_steps);
-    }
+    let one = c.in_ok-put_clones.ensures.entries in
+    let puts = lent_clone_taken (IsPairClone g.K.Clone.is_clone g.V.Clone.is_clone) (λ done r. put g.K.PartialEq.eq done r.0 r.1) deref
+    c.args.self.now.entries c.loop-pair.yielded c.loop-pair.self.entries c.put_clones.new.self.entries c.in-Some.pair
+    (one.0, one.1) c.loop-pair.invariant.puts (one.2, one.3) one.4 in
+    grind (arith, common_steps, puts)
 
 pub returns-in_err-put_clones-clause-err : goal.returns-in_err-put_clones-clause-err
 returns-in_err-put_clones-clause-err g c =
-    let p = err_from_is_err_and c.from_residual-in_err-put_clones.result c.from_residual-in_err-put_clones.ensures.1 in
-    rw (p.1, c.in_err-put_clones.ensures.err) (inr (
-      c.into_iter-pair-iterator.result,
-      c.loop-pair.yielded,
-      c.in-Some.pair,
-      c.next.new.self,
-      rw c.into_iter-pair-iterator.ensures.into_iter_gives c.into_iter-items.ensures.into_iter_gives,
-      (c.loop-pair.pair-iterator, c.loop-pair.yielded_by, c.in-Some.ensures.steps),
-      (c.loop-pair.invariant.puts, λ k v. let one = c.in_err-put_clones.ensures.full k v in (one.0, one.1, record { unchanged = refl; absent = one.2.absent; full = one.2.full })),
-    ))
+    rw (err_from_is_err_and c.from_residual-in_err-put_clones.result c.from_residual-in_err-put_clones.ensures.1).1
+    (inr (c.into_iter-pair-iterator.result, c.loop-pair.yielded, c.in-Some.pair, c.next.new.self, search rules, search rules, search rules))
 
 pub returns-in_err-put_clones-clause-late_err : goal.returns-in_err-put_clones-clause-late_err
 returns-in_err-put_clones-clause-late_err g c = λ some room.
-    let p = err_from_is_err_and c.from_residual-in_err-put_clones.result c.from_residual-in_err-put_clones.ensures.1 in
-    rw (p.1, c.in_err-put_clones.ensures.err) (
-      c.into_iter-pair-iterator.result,
-      c.loop-pair.yielded,
-      c.in-Some.pair,
-      c.next.new.self,
-      rw c.into_iter-pair-iterator.ensures.into_iter_gives c.into_iter-items.ensures.into_iter_gives,
-      (c.loop-pair.pair-iterator, c.loop-pair.yielded_by, c.in-Some.ensures.steps),
-      (c.loop-pair.invariant.puts, λ k v. let one = c.in_err-put_clones.ensures.full k v in (one.0, one.1, record { unchanged = refl; absent = one.2.absent; full = one.2.full })),
-    )
+    rw (err_from_is_err_and c.from_residual-in_err-put_clones.result c.from_residual-in_err-put_clones.ensures.1).1
+    (c.into_iter-pair-iterator.result, c.loop-pair.yielded, c.in-Some.pair, c.next.new.self, search rules, search rules, search rules)
 
 pub returns-in_err-put_clones-clause-succeeds : goal.returns-in_err-put_clones-clause-succeeds
 returns-in_err-put_clones-clause-succeeds g c = λ room clones.
-    let can = clones c.into_iter-pair-iterator.result c.loop-pair.yielded c.in-Some.pair c.next.new.self (rw c.into_iter-pair-iterator.ensures.into_iter_gives c.into_iter-items.ensures.into_iter_gives) (c.loop-pair.pair-iterator, c.loop-pair.yielded_by, c.in-Some.ensures.steps) in
-    let all = room c.into_iter-pair-iterator.result (rw c.into_iter-pair-iterator.ensures.into_iter_gives c.into_iter-items.ensures.into_iter_gives) in
-    let spare : length c.loop-pair.self.entries + 1 ≤ c.loop-pair.self.capacity = grind (arith, common_steps) in
-    absurd (true≢false (sym (c.in_err-put_clones.ensures.succeeds spare can.0 can.1)))
+    let can = clones c.into_iter-pair-iterator.result c.loop-pair.yielded c.in-Some.pair c.next.new.self (search rules) (search rules) in
+    let all = room c.into_iter-pair-iterator.result (search rules) in
+    absurd (true≢false (sym (c.in_err-put_clones.ensures.succeeds (grind (arith, common_steps)) can.0 can.1)))
