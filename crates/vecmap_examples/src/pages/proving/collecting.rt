@@ -1,5 +1,5 @@
 //! Maps that are collected and extended, and a closure that is handed on to `retain`.
-ghost use Rattle.std.specs.Prelude.{◌≡◌, ◌/◌, IfOk, OnOk, [], map, nat_eq};
+ghost use Rattle.std.specs.Prelude.{◌≡◌, ◌/◌, IfOk, OnOk, [], filter, map, nat_eq, nat_lt};
 ghost use Rattle.vecmap.specs.Asked.{CallsAtPair};
 ghost use Rattle.vecmap.specs.Kept.{Kept};
 ghost use Rattle.vecmap.specs.Pairs.{puts};
@@ -7,14 +7,15 @@ ghost use Rattle.vecmap.specs.Pairs.{puts};
 use std::alloc::{AllocError, Global};
 use vecmap::VecMap;
 
-/// Returns the map with a third of each value.
-pub fn thirds(alloc: Global, stock: VecMap<u32, u32>) -> Result<VecMap<u32, u32>, AllocError>
-    ensures { IfOk result (λ made. made.entries
-        ≡ puts nat_eq [] (map (λ pair. (pair.0, pair.1 / 3)) stock.entries)) }
+/// Returns a map with a third of each value above 9.
+pub fn thirds(alloc: Global, stock: &VecMap<u32, u32>) -> Result<VecMap<u32, u32>, AllocError>
+    ensures { IfOk result (λ made. made.entries ≡ puts nat_eq [] (map (λ pair. (pair.0, pair.1 / 3))
+        (filter (λ pair. nat_lt 9 pair.1) stock.now.entries))) }
 {
     stock
-        .into_iter()
-        .map(|pair| (pair.0, pair.1 / 3))
+        .iter()
+        .filter(|pair| 9 < *pair.1)
+        .map(|pair| (*pair.0, *pair.1 / 3))
         .collect(alloc)
 }
 
