@@ -11,13 +11,6 @@ use vecmap::macros::put_pair;
 use vecmap::{Equivalent, VecMap};
 use vecmap_laws::maps::{queries_find_as_keys, texts_are_queries};
 
-/// Returns the value of a key, of any type.
-pub fn value_of_key<K: Eq>(map: &VecMap<K, u32>, key: &K) -> Option<u32>
-    ensures { result ≡ lookup K.eq map.now.entries key.now }
-{
-    map.get(key).copied()
-}
-
 /// Returns the value of the first key that matches a query, of any type.
 pub fn value_by<K: Eq, Q: Equivalent<K>>(map: &VecMap<K, u32>, query: Q) -> Option<u32>
     ensures { result ≡ lookup_by (Q.equivalent query) map.now.entries }

@@ -8,7 +8,7 @@ ghost use Rattle.std.specs.Prelude.{◌≡◌, ◌+◌, ◌++◌, ◌≤◌, ◌
 ghost use Rattle.std.specs.Set.{is_member};
 ghost use Rattle.vecmap.specs.Contents.{Refuses};
 ghost use Rattle.vecmap.specs.Equality.{has_same_counts, has_same_items, is_within};
-ghost use Rattle.vecmap.specs.Items.{adds, both};
+ghost use Rattle.vecmap.specs.Items.{adds, both, swap_without_item};
 ghost use Rattle.vecmap.specs.Operators.{union_of};
 ghost use Rattle.vecmap.specs.Pairs.{index_of, puts};
 ghost use Rattle.vecmap.specs.Repeats.{comparisons, cost};
@@ -118,9 +118,11 @@ pub fn are_disjoint<T: Eq>(a: &VecSet<T>, b: &VecSet<T>) -> bool
     b.is_disjoint(a)
 }
 
-/// Removes an element. It is then absent, and every other element is present if it was.
+/// Removes an element, and puts the last one in its place. It is then absent, and every other element is present if it
+/// was.
 pub fn forget(set: &mut VecSet<u32>, element: u32) -> bool
     ensures found { result ≡ is_member nat_eq set.old.elements element }
+    ensures elements { set.new.elements ≡ swap_without_item nat_eq set.old.elements element }
     ensures present { (other : ℕ) → is_member nat_eq set.new.elements other
         ≡ (is_member nat_eq set.old.elements other && not (nat_eq element other)) }
 {

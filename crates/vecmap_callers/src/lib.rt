@@ -8,7 +8,6 @@ pub mod entry;
 pub mod equality;
 pub mod equivalent;
 pub mod header_lists;
-pub mod indices;
 pub mod insertion;
 pub mod interner;
 pub mod iteration;

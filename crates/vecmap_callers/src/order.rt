@@ -1,5 +1,5 @@
-//! Callers of sorts.
-ghost use Rattle.std.specs.Prelude.{◌≡◌, OnErr, OnOk, nat_eq};
+//! Callers of sorts, and of an exchange.
+ghost use Rattle.std.specs.Prelude.{◌-◌, ◌<◌, ◌≡◌, OnErr, OnOk, length, nat_eq, swap};
 ghost use Rattle.std.specs.List.{IsDistinct};
 ghost use Rattle.std.specs.List.Sorted.{IsNonDecreasing, IsPermutation, IsSortedByKey, IsStableByKey};
 ghost use Rattle.std.specs.Ordering.{nat_cmp};
@@ -37,4 +37,18 @@ pub fn sort_numbers(set: &mut VecSet<u32>)
     ensures capacity { set.new.capacity ≡ set.old.capacity }
 {
     set.sort_unstable();
+}
+
+/// Exchanges the first and the last pair of a map.
+///
+/// # Conditions
+///
+/// The map is not empty.
+pub fn exchange_ends<K>(map: &mut VecMap<K, u32>)
+    requires { 0 < length map.old.entries }
+    ensures entries { map.new.entries ≡ swap map.old.entries 0 (length map.old.entries - 1) }
+    ensures capacity { map.new.capacity ≡ map.old.capacity }
+{
+    let last = map.len() - 1;
+    map.swap_indices(0, last);
 }

@@ -1,5 +1,5 @@
 //! Callers of removals.
-ghost use Rattle.std.specs.Prelude.{◌%◌, ◌++◌, ◌-◌, ◌<◌, ◌≡◌, ◌≤◌, OnErr, OnOk, drop, filter, length, nat_eq, nat_lt, remove, slice_get, take};
+ghost use Rattle.std.specs.Prelude.{◌%◌, ◌≡◌, ◌≤◌, OnErr, OnOk, drop, filter, length, nat_eq, nat_lt, take};
 ghost use Rattle.std.specs.List.{IsDistinct};
 ghost use Rattle.vecmap.specs.Items.{without_item};
 ghost use Rattle.vecmap.specs.Pairs.{HasDistinctKeys};
@@ -55,27 +55,6 @@ pub fn drop_front(map: &mut VecMap<u32, u32>, count: usize)
     let mut pairs = map.drain(..count);
     let _first = pairs.next();
     let _last = pairs.next_back();
-}
-
-/// Returns the first pair, and removes the first three.
-pub fn first_of_three(map: &mut VecMap<u32, u32>) -> Option<(u32, u32)>
-    requires within { 3 ≤ length map.old.entries }
-    ensures first { result ≡ slice_get map.old.entries 0 }
-    ensures entries { map.new.entries ≡ drop 3 map.old.entries }
-    ensures capacity { map.new.capacity ≡ map.old.capacity }
-{
-    map.drain(..3).next()
-}
-
-/// Removes the second and the third element, by a drain of which only the last element is read. What is left is still a
-/// set.
-pub fn without_second_and_third<T: Eq + Drop>(set: &mut VecSet<T>)
-    requires within { 3 ≤ length set.old.elements }
-    ensures elements { set.new.elements ≡ take 1 set.old.elements ++ drop 3 set.old.elements }
-    ensures distinct { IsDistinct T.eq set.new.elements }
-{
-    let mut items = set.drain(1..=2);
-    let _last = items.next_back();
 }
 
 /// Splits a map of distinct keys and appends the second part again, which restores the map.

@@ -1,4 +1,5 @@
-//! The examples of the pages for users, each proved. Tests compare what no contract says.
+//! The examples of the pages for users, each proved. Tests of `vecmap_tests` compare what no
+//! contract says.
 #![tactic(auto)]
 
 pub mod pages;

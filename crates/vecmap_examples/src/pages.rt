@@ -2,6 +2,3 @@
 pub mod calling;
 pub mod porting;
 pub mod proving;
-pub mod readme;
-#[cfg(test)]
-mod tests;

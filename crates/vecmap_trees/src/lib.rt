@@ -11,8 +11,6 @@ mod equality;
 mod growing;
 mod merging;
 mod reading;
-#[cfg(test)]
-mod tests;
 mod text;
 mod writing;
 

@@ -4,7 +4,6 @@ pub mod imports;
 pub mod keys;
 pub mod measure;
 pub mod parts;
-pub mod program;
 pub mod refused;
 pub mod trees;
 pub mod values;

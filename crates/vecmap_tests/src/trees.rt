@@ -1,7 +1,7 @@
 //! Trees that are made and merged, as they print and as `==` compares them.
-use crate::{Json, equal};
 use std::alloc::{AllocError, Global};
 use std::test::Fail;
+use vecmap_trees::{Json, equal};
 
 /// Creates a tree by setting these numbers at their paths, in order.
 fn tree(alloc: Global, order: &[(&[&str], i64)]) -> Result<Json, AllocError> {

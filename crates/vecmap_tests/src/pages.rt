@@ -1,13 +1,11 @@
 //! What the functions of CALLING and of the README return and print.
-mod porting;
-
-use super::calling::errors;
-use super::calling::keys::{Place, Ticket, file, is_free};
-use super::calling::trees::{Node, set_at};
-use super::readme;
+use crate::readme;
 use std::alloc::Global;
 use std::test::Fail;
 use vecmap::{VecMap, VecSet, vecmap};
+use vecmap_examples::pages::calling::errors;
+use vecmap_examples::pages::calling::keys::{Place, Ticket, file, is_free};
+use vecmap_examples::pages::calling::trees::{Node, set_at};
 
 #[test]
 fn the_map_and_the_set_are_as_the_readme_says(rt: HostRuntime) -> Result<(), Fail> {

@@ -1,8 +1,8 @@
 //! What the functions of PORTING return and leave, as it prints.
-use crate::pages::porting::{bulk, calls, closures, loops, order, own, traits, writes};
 use std::alloc::Global;
 use std::test::Fail;
 use vecmap::{VecMap, vecmap, vecset};
+use vecmap_examples::pages::porting::{bulk, calls, closures, loops, order, own, traits, writes};
 
 fn orders(alloc: Global) -> Result<String, Fail> {
     let mut order = order::Order::from_slice(alloc, &[("tea", 2), ("milk", 1)])?;
