@@ -18,8 +18,7 @@ const MIN_CAPACITY: usize = 4;
 ///
 /// # Errors
 ///
-/// [`AllocError`] if the allocator refuses a request, for the set or for a clone. No set is then created, and both sets
-/// are unchanged.
+/// [`AllocError`] if the allocator refuses a request, for the set or for a clone; no set is created.
 ///
 /// # Conditions
 ///
@@ -57,8 +56,7 @@ impl<'a, 'b, T: Eq + Clone> BitAnd<&'b VecSet<T>> for &'a VecSet<T> {
 ///
 /// # Errors
 ///
-/// [`AllocError`] if the allocator refuses a request, for the set or for a clone. No set is then created, and both sets
-/// are unchanged.
+/// [`AllocError`] if the allocator refuses a request, for the set or for a clone; no set is created.
 ///
 /// # Conditions
 ///
@@ -96,8 +94,7 @@ impl<'a, 'b, T: Eq + Clone> BitOr<&'b VecSet<T>> for &'a VecSet<T> {
 ///
 /// # Errors
 ///
-/// [`AllocError`] if the allocator refuses a request, for the set or for a clone. No set is then created, and both sets
-/// are unchanged.
+/// [`AllocError`] if the allocator refuses a request, for the set or for a clone; no set is created.
 ///
 /// # Conditions
 ///
@@ -136,8 +133,7 @@ impl<'a, 'b, T: Eq + Clone> BitXor<&'b VecSet<T>> for &'a VecSet<T> {
 ///
 /// # Errors
 ///
-/// [`AllocError`] if the allocator refuses a request, for the set or for a clone. No set is then created, and both sets
-/// are unchanged.
+/// [`AllocError`] if the allocator refuses a request, for the set or for a clone; no set is created.
 ///
 /// # Conditions
 ///
