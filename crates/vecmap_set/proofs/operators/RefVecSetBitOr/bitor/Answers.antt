@@ -7,7 +7,7 @@ use Rattle.vecmap_set.proofs.operators.RefVecSetBitOr.bitor.Goals as goal
 pub returns : goal.returns
 returns g c =
     let laws = g.met.T.Eq.laws in
-    operator_clones (JoinsFirst _) (union_rest _) laws _ (distinct_union _ laws) (ap (union_rest _) c.over-all.ensures.rest)
+    operator_clones (JoinsFirst _) (union_rest _) laws _ (distinct_union _ laws) (ap (union_rest _) c.over-all.ensures)
     c.as_slice.ensures.elements c.as_slice-2.ensures.elements c.as_slice.ensures.distinct c.as_slice-2.ensures.distinct c.requires c.in_ok-items.ensures (λ s r t h. h.0)
 
 pub invariant_of-result : goal.invariant_of-result

@@ -7,7 +7,7 @@ use Rattle.vecmap_set.proofs.operators.RefVecSetBitXor.bitxor.Goals as goal
 pub returns : goal.returns
 returns g c =
     let laws = g.met.T.Eq.laws in
-    operator_clones (ExcludesFirst _) (symmetric_rest _) laws _ (distinct_symmetric_difference _ laws) (ap (symmetric_rest _) c.over-apart.ensures.rest)
+    operator_clones (ExcludesFirst _) (symmetric_rest _) laws _ (distinct_symmetric_difference _ laws) (ap (symmetric_rest _) c.over-apart.ensures)
     c.as_slice.ensures.elements c.as_slice-2.ensures.elements c.as_slice.ensures.distinct c.as_slice-2.ensures.distinct c.requires c.in_ok-items.ensures (λ s r t h. h.0)
 
 pub invariant_of-result : goal.invariant_of-result
