@@ -12,7 +12,7 @@ ghost use Rattle.vecmap_set.specs.SetBulk.{Adds, AddsCopies, GrowsDistinct, Refu
 use crate::VecSet;
 use std::alloc::AllocError;
 
-/// Adds the elements of an iterator in order, like the inherent [`VecSet::extend`].
+/// Adds the elements of an iterator in order, like the inherent [`VecSet::extend`], with the same cost.
 ///
 /// # Errors
 ///
@@ -21,10 +21,6 @@ use std::alloc::AllocError;
 /// # Conditions
 ///
 /// The iterator ends.
-///
-/// # Complexity
-///
-/// One lookup for each element, with at most as many comparisons as the set then has elements.
 ///
 /// # Examples
 ///
@@ -53,20 +49,16 @@ impl<T: Eq + Drop> Extend<T> for VecSet<T> {
     }
 }
 
-/// Adds copies of the elements of an iterator of references, in order, like the inherent [`VecSet::extend_copied`].
+/// Adds copies of the elements of an iterator of references, in order, like the inherent [`VecSet::extend_copied`],
+/// with the same cost.
 ///
 /// # Errors
 ///
-/// [`AllocError`] if the allocator refuses a request; copies of the elements before the refused one are then in the
-/// set.
+/// [`AllocError`] if the allocator refuses a request; copies of the elements before the refused one are in the set.
 ///
 /// # Conditions
 ///
 /// The iterator ends.
-///
-/// # Complexity
-///
-/// One lookup for each element, with at most as many comparisons as the set then has elements.
 ///
 /// # Examples
 ///

@@ -324,11 +324,8 @@ impl<T: Eq> VecSet<T> {
 }
 
 impl VecSet<String> {
-    /// Like [`VecSet::remove`], with the same cost, but an element matches if it has the bytes of `text`.
-    ///
-    /// # Complexity
-    ///
-    /// At most `len` comparisons, and one move for each element that changes its index. Does not allocate.
+    /// Like [`VecSet::remove`], with the same cost, but an element matches if it has the bytes of `text`. Does not
+    /// allocate.
     ///
     /// # Examples
     ///
