@@ -161,18 +161,17 @@ impl<T: Eq> VecSet<T> {
         ensures elements { self.new.elements
             ≡ remove_range self.old.elements start end
             ++ reverse (slice_range self.old.elements start end) }
-        ensures distinct { IsDistinct T.eq self.new.elements }
         ensures capacity { self.new.capacity ≡ self.old.capacity }
     {
         move_range_last(&mut self.items, start, end)
     }
 
     // Like the function of this name in `vecmap_base`, which it calls.
+    #[tactic(auto, using(crate::proofs::SetLemmas::distinct_changes))]
     fn reverse_from(&mut self, start: usize)
         requires within { start ≤ length self.old.elements }
         ensures elements { self.new.elements
             ≡ take start self.old.elements ++ reverse (drop start self.old.elements) }
-        ensures distinct { IsDistinct T.eq self.new.elements }
         ensures capacity { self.new.capacity ≡ self.old.capacity }
     {
         reverse_from(&mut self.items, start);
@@ -182,7 +181,6 @@ impl<T: Eq> VecSet<T> {
     fn take_last(&mut self) -> T
         requires within { 0 < length self.old.elements }
         ensures elements { self.old.elements ≡ self.new.elements ++ result ∷ [] }
-        ensures distinct { IsDistinct T.eq self.new.elements }
         ensures capacity { self.new.capacity ≡ self.old.capacity }
     {
         self.items.take_last()

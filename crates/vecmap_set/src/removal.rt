@@ -88,6 +88,7 @@ impl<T: Eq> VecSet<T> {
     /// set.as_slice() // [1]
     /// part.as_slice() // [2, 3]
     /// ```
+    #[tactic(auto, using(crate::proofs::SetLemmas::distinct_changes))]
     pub fn split_off(&mut self, at: usize) -> Result<VecSet<T>, AllocError>
         requires within { at ≤ length self.old.elements }
         ensures elements { OnOk result (self.new.elements ≡ take at self.old.elements) }

@@ -6,6 +6,3 @@ pub invariant_of-self : goal.invariant_of-self
 invariant_of-self g c =
     let moved = moved_rearranged c.self.inside.items.items c.args.start c.args.end c.requires.within.0 in
     rw c.move_range_last.ensures.items (distinct_rearranged _ g.met.T.Eq.laws _ _ moved c.self.invariant)
-
-pub returns-clause-distinct : goal.returns-clause-distinct
-returns-clause-distinct g c = invariant_of-self g c

@@ -7,6 +7,3 @@ use Rattle.vecmap_set.proofs.VecSet.take_last.Goals as goal
 pub invariant_of-self : goal.invariant_of-self
 invariant_of-self g c =
     distinct_front _ _ (c.take_last.result ∷ []) (subst (IsDistinct g.T.PartialEq.eq) c.take_last.ensures.items c.self.invariant)
-
-pub returns-clause-distinct : goal.returns-clause-distinct
-returns-clause-distinct g c = invariant_of-self g c
