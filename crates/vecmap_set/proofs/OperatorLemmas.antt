@@ -1,6 +1,6 @@
 -- What is taken from an iterator until nothing is left is the list that it had. By induction on the taken items.
 use Rattle.std.proofs.Common.{◌≡◌, Bool, Contains, IsTrue, List, [], ◌∷◌, ◌++◌, Option, None, Some, ap, sym, subst, ◌∙◌, map}
-use Rattle.std.proofs.lemmas.List.{append-nil}
+use Rattle.std.proofs.lemmas.{List.append-nil, List.map_push, List.Elements.AllZip-push}
 use Rattle.std.specs.{Borrow.Bor, Cmp.IsEquivalence, Iterator.Yields, Iterator.YieldsFirstRef, List.IsDistinct, Map.Iter.deref}
 use Rattle.vecmap_base.specs.Clones.{AreClones}
 use Rattle.vecmap_set.specs.Operators.{DrainsIntoClones}
@@ -23,3 +23,6 @@ module _ {S T : Type 0} (steps : S → Option (Bor T) → S → Type 0) (rest : 
       let all = sym (taken gives _ d.1.1.0 d.0 d.1.1.1 ∙ ap (λ l. map deref d.0 ++ l) (gives _ None d.1.0 d.1.1.2).0 ∙ append-nil _) ∙ e ∙ (λ j. list (left j) (right j)) in
       let clones = subst (λ m. AreClones C m made) all d.2 in
       (clones, distinct_clones_of _ o C _ made same clones (subst (IsDistinct _) (λ j. list (left j) (right j)) (apart _ _ left_apart right_apart)))
+
+-- The lemmas for the loop that takes clones.
+pub ruleset pushes = (map_push, AllZip-push)

@@ -6,7 +6,7 @@ use Rattle.std.proofs.lemmas.List.Elements.{Contains-append_left, Contains-appen
 use Rattle.std.proofs.lemmas.{List.Sorted.IsPermutation-reverse, Map.Keys.IsDistinct-push}
 use Rattle.vecmap_base.specs.Clones.{AreClones}
 use Rattle.vecmap_base.proofs.EqualityLemmas.Sets.{set_equal_by_half, set_lengths_differ}
-use Rattle.vecmap_base.proofs.DistinctLemmas.{Absent.distinct_none, Additions.distinct_adds, Clones.distinct_clones, Order.distinct_tail, Removals.distinct_drop, Removals.distinct_take}
+use Rattle.vecmap_base.proofs.DistinctLemmas.{Absent.distinct_none, Additions.distinct_adds, Clones.distinct_clones, Order.distinct_tail, Removals.distinct_drop, Removals.distinct_front, Removals.distinct_take}
 
 module _ {T : Type 0} (eq : T → T → Bool) where
   -- Clones of some elements of l, with the fact that their originals are in l.
@@ -26,8 +26,12 @@ module _ {T : Type 0} (eq : T → T → Bool) where
   pub distinct_turned : (o : IsEquivalence eq) (xs : List T) (n : ℕ) → IsDistinct eq xs → IsDistinct eq (take n xs ++ reverse (drop n xs))
   distinct_turned o xs n = distinct_tail eq o n xs (reverse (drop n xs)) (IsPermutation-reverse (drop n xs))
 
+  -- The last element is removed. The premise stands again in the result, for `grind`, which finds the lemma by it.
+  pub distinct_first : (xs ys : List T) → IsDistinct eq (xs ++ ys) → IsDistinct eq (xs ++ ys) × IsDistinct eq xs
+  distinct_first xs ys d = (d, distinct_front eq xs ys d)
+
 -- The lemmas for the goals of calls that change a set.
-pub ruleset distinct_changes = (distinct_adds, distinct_drop, distinct_none, IsDistinct-push, distinct_take, distinct_turned)
+pub ruleset distinct_changes = (distinct_adds, distinct_drop, distinct_first, distinct_none, IsDistinct-push, distinct_take, distinct_turned)
 
 -- The lemmas for the goals of `==`.
 pub ruleset set_equality = (set_equal_by_half, set_lengths_differ)

@@ -111,6 +111,7 @@ impl<T: Eq> VecSet<T> {
     /// set.as_slice() // [1, 2, 3]
     /// other.is_empty() // true
     /// ```
+    #[tactic(auto, using(crate::proofs::SetLemmas::distinct_changes, std::proofs::lemmas::Grind::common_steps))]
     pub fn append(&mut self, other: &mut VecSet<T>) -> Result<(), AllocError>
     where
         T: Drop,

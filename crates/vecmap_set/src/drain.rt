@@ -178,6 +178,7 @@ impl<T: Eq> VecSet<T> {
     }
 
     // Removes the last element of a set that is not empty, and returns it.
+    #[tactic(auto, using(crate::proofs::SetLemmas::distinct_changes))]
     fn take_last(&mut self) -> T
         requires within { 0 < length self.old.elements }
         ensures elements { self.old.elements ≡ self.new.elements ++ result ∷ [] }

@@ -166,6 +166,7 @@ impl<'a, 'b, T: Eq + Clone> Sub<&'b VecSet<T>> for &'a VecSet<T> {
 
 // Returns clones of what an iterator yields, in order. Capacity is reserved first, for the items that it yields at
 // least.
+#[tactic(auto, using(crate::proofs::OperatorLemmas::pushes))]
 fn clones_of<'a, T: Clone + 'a, I: Iterator<Item = &'a T>>(
     alloc: Global,
     iter: I,
