@@ -1,9 +1,12 @@
--- Clones of the elements of a set. The idea: each clone is equal to its original, and the originals are distinct.
-use Rattle.std.proofs.Common.{Bool, Contains, IsTrue, List, [], ◌∷◌}
+-- What calls leave in a set is distinct. Of clones the idea is: each is equal to its original, and the originals are
+-- distinct.
+use Rattle.std.proofs.Common.{ℕ, Bool, Contains, IsTrue, List, [], ◌∷◌, ◌++◌, drop, reverse, take}
 use Rattle.std.specs.{Cmp.IsEquivalence, List.IsDistinct}
 use Rattle.std.proofs.lemmas.List.Elements.{Contains-append_left, Contains-append_right, Contains-push}
+use Rattle.std.proofs.lemmas.{List.Sorted.IsPermutation-reverse, Map.Keys.IsDistinct-push}
 use Rattle.vecmap_base.specs.Clones.{AreClones}
-use Rattle.vecmap_base.proofs.DistinctLemmas.Clones.{distinct_clones}
+use Rattle.vecmap_base.proofs.EqualityLemmas.Sets.{set_equal_by_half, set_lengths_differ}
+use Rattle.vecmap_base.proofs.DistinctLemmas.{Absent.distinct_none, Additions.distinct_adds, Clones.distinct_clones, Order.distinct_tail, Removals.distinct_drop, Removals.distinct_front, Removals.distinct_take}
 
 module _ {T : Type 0} (eq : T → T → Bool) where
   -- Clones of some elements of l, with the fact that their originals are in l.
@@ -18,3 +21,17 @@ module _ {T : Type 0} (eq : T → T → Bool) where
   pub distinct_clones_of : (o : IsEquivalence eq) (C : T → T → Type 0) (xs ys : List T) → ((x y : T) → Contains xs x → C x y → IsTrue (eq x y)) → AreClones C xs ys → IsDistinct eq xs → IsDistinct eq ys
   distinct_clones_of o C xs ys same k d =
       distinct_clones eq o (λ x y. Contains xs x × C x y) (λ x y w. same x y w.0 w.1) xs ys (clones_within C xs xs ys (λ x c. c) k) d
+
+  -- The elements from an index on are reversed.
+  pub distinct_turned : (o : IsEquivalence eq) (xs : List T) (n : ℕ) → IsDistinct eq xs → IsDistinct eq (take n xs ++ reverse (drop n xs))
+  distinct_turned o xs n = distinct_tail eq o n xs (reverse (drop n xs)) (IsPermutation-reverse (drop n xs))
+
+  -- The last element is removed. The premise stands again in the result, for `grind`, which finds the lemma by it.
+  pub distinct_first : (xs ys : List T) → IsDistinct eq (xs ++ ys) → IsDistinct eq (xs ++ ys) × IsDistinct eq xs
+  distinct_first xs ys d = (d, distinct_front eq xs ys d)
+
+-- The lemmas for the goals of calls that change a set.
+pub ruleset distinct_changes = (distinct_adds, distinct_drop, distinct_first, distinct_none, IsDistinct-push, distinct_take, distinct_turned)
+
+-- The lemmas for the goals of `==`.
+pub ruleset set_equality = (set_equal_by_half, set_lengths_differ)

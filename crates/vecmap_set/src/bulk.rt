@@ -1,5 +1,5 @@
 //! Creation of a set from many elements, and addition of many elements.
-ghost use Rattle.std.specs.Prelude.{◌≡◌, ◌<◌, ◌≤◌, IfOk, IsOk, List, OnErr, OnOk, [], length, map};
+ghost use Rattle.std.specs.Prelude.{◌≡◌, ◌<◌, ◌≤◌, IfOk, IsOk, List, OnErr, OnOk, [], length};
 ghost use Rattle.std.specs.Iterator.{Drains, ExtendsWithItems, IsFiniteIterable};
 ghost use Rattle.std.specs.List.{IsDistinct};
 ghost use Rattle.std.specs.Map.Iter.{deref};
@@ -7,7 +7,7 @@ ghost use Rattle.vecmap_base.specs.Bulk.{HasRoomForAll, StopsAt};
 ghost use Rattle.vecmap_base.specs.Clones.{AreClones};
 ghost use Rattle.vecmap_base.specs.Items.{adds};
 ghost use Rattle.vecmap_set.specs.Contents.{HasRoom, with_elements};
-ghost use Rattle.vecmap_set.specs.SetBulk.{Adds, RefusesAfter};
+ghost use Rattle.vecmap_set.specs.SetBulk.{Adds, AddsCopies, RefusesAfter, RefusesCopiesAfter};
 
 use crate::VecSet;
 use std::alloc::{AllocError, Global};
@@ -111,6 +111,7 @@ impl<T: Eq> VecSet<T> {
     /// set.as_slice() // [1, 2, 3]
     /// other.is_empty() // true
     /// ```
+    #[tactic(auto, using(crate::proofs::SetLemmas::distinct_changes, std::proofs::lemmas::Grind::common_steps))]
     pub fn append(&mut self, other: &mut VecSet<T>) -> Result<(), AllocError>
     where
         T: Drop,
@@ -215,7 +216,7 @@ impl<T: Eq> VecSet<T> {
         requires ends { IsFiniteIterable I.into_iter_gives I.IntoIter.can_next I.IntoIter.remaining
             iter }
         ensures ran { ExtendsWithItems I.into_iter_gives I.IntoIter.next_gives
-            (λ old items new. Adds T.eq old (map deref items) new) iter self.old self.new result }
+            (AddsCopies T.eq deref) iter self.old self.new result }
         ensures distinct { IsDistinct T.eq self.new.elements }
         ensures capacity { self.old.capacity ≤ self.new.capacity }
         ensures succeeds { HasRoomForAll I.into_iter_gives I.IntoIter.remaining iter
@@ -225,7 +226,7 @@ impl<T: Eq> VecSet<T> {
 
         // On `Err` a new element was refused, in a full set.
         ensures err { OnErr result (StopsAt I.into_iter_gives I.IntoIter.next_gives iter
-            (λ items next. RefusesAfter T.eq self.old self.new (map deref items) (deref next))) }
+            (RefusesCopiesAfter T.eq deref self.old self.new)) }
     {
         // As in `extend`.
         let _ = &self.items;

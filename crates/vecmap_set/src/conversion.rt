@@ -49,6 +49,7 @@ impl<T: Eq> VecSet<T> {
     /// comparisons // 2
     /// set.as_slice() // [2, 1]
     /// ```
+    #[tactic(auto, using(crate::proofs::SetLemmas::distinct_changes))]
     pub fn from_vec_counted(mut items: Vec<T>) -> (VecSet<T>, u128)
     where
         T: Drop,

@@ -1,7 +1,7 @@
 //! The call `drain`, and its iterator, which removes a range of elements from a set.
 //!
 //! The iterator holds a reference to the set and no vector, so no two elements of the set are equal at any moment.
-ghost use Rattle.std.specs.Prelude.{◌≡◌, ◌++◌, ◌-◌, ◌<◌, ◌≤◌, ◌^◌, [], ◌∷◌, drop, length, reverse, slice_range, take};
+ghost use Rattle.std.specs.Prelude.{◌≡◌, ◌<◌, ◌≤◌, ◌^◌, length, slice_range};
 ghost use Rattle.std.specs.Iterator.{at_most};
 ghost use Rattle.std.specs.Iterator.Runs.{YieldsInOrder, YieldsInReverse};
 ghost use Rattle.std.specs.List.{IsDistinct, remove_range};
@@ -142,7 +142,7 @@ impl<'a, T: Eq + Drop> Drain<'a, T> {
                 reversed: false,
             };
         }
-        let keep = set.move_range_last(start, end);
+        let keep = move_range_last(&mut set.items, start, end);
         Drain {
             set,
             keep,
@@ -151,47 +151,9 @@ impl<'a, T: Eq + Drop> Drain<'a, T> {
     }
 }
 
-// The steps of a drain. After each of them no two elements are equal.
-impl<T: Eq> VecSet<T> {
-    // Like the function of this name in `vecmap_base`, which it calls.
-    fn move_range_last(&mut self, start: usize, end: usize) -> usize
-        requires within { IsRangeWithin start end (length self.old.elements) }
-        ensures count { result ≡ length self.old.elements - (end - start) }
-        ensures countable { length self.new.elements < 2 ^ 63 }
-        ensures elements { self.new.elements
-            ≡ remove_range self.old.elements start end
-            ++ reverse (slice_range self.old.elements start end) }
-        ensures distinct { IsDistinct T.eq self.new.elements }
-        ensures capacity { self.new.capacity ≡ self.old.capacity }
-    {
-        move_range_last(&mut self.items, start, end)
-    }
-
-    // Like the function of this name in `vecmap_base`, which it calls.
-    fn reverse_from(&mut self, start: usize)
-        requires within { start ≤ length self.old.elements }
-        ensures elements { self.new.elements
-            ≡ take start self.old.elements ++ reverse (drop start self.old.elements) }
-        ensures distinct { IsDistinct T.eq self.new.elements }
-        ensures capacity { self.new.capacity ≡ self.old.capacity }
-    {
-        reverse_from(&mut self.items, start);
-    }
-
-    // Removes the last element of a set that is not empty, and returns it.
-    fn take_last(&mut self) -> T
-        requires within { 0 < length self.old.elements }
-        ensures elements { self.old.elements ≡ self.new.elements ++ result ∷ [] }
-        ensures distinct { IsDistinct T.eq self.new.elements }
-        ensures capacity { self.new.capacity ≡ self.old.capacity }
-    {
-        self.items.take_last()
-    }
-}
-
 impl<'a, T: Eq> Drain<'a, T> {
     // Reverses the remaining elements if their order is not the wanted one.
-    #[tactic(auto, using(vecmap_base::proofs::DrainRuns::drains))]
+    #[tactic(auto, using(vecmap_base::proofs::DrainRuns::drains, crate::proofs::SetLemmas::distinct_changes))]
     fn put_in_order(&mut self, reversed: bool)
         requires { self.old.keep ≤ length self.old.set.now.elements }
         ensures ordered { self.new.reversed ≡ reversed }
@@ -201,7 +163,9 @@ impl<'a, T: Eq> Drain<'a, T> {
         ensures keeps { DrainKeeps self.old self.new }
     {
         if self.reversed != reversed {
-            self.set.reverse_from(self.keep);
+            // The check reaches the vector of a set only through a variable.
+            let set = &mut *self.set;
+            reverse_from(&mut set.items, self.keep);
             self.reversed = reversed;
         }
     }
@@ -229,13 +193,14 @@ impl<'a, T: Eq + Drop> Iterator for Drain<'a, T> {
 
     ghost remaining = { λ s. at_most (length (drain_rest s)) };
 
-    #[tactic(auto, using(vecmap_base::proofs::DrainRuns::drains))]
+    #[tactic(auto, using(vecmap_base::proofs::DrainRuns::drains, crate::proofs::SetLemmas::distinct_changes))]
     fn next(&mut self) -> Option<T> {
         if self.set.len() <= self.keep {
             return None;
         }
         self.put_in_order(true);
-        Some(self.set.take_last())
+        let set = &mut *self.set;
+        Some(set.items.take_last())
     }
 
     /// Returns the number of remaining elements, as both bounds.
@@ -250,13 +215,14 @@ impl<'a, T: Eq + Drop> Iterator for Drain<'a, T> {
 impl<'a, T: Eq + Drop> DoubleEndedIterator for Drain<'a, T> {
     ghost next_back_gives = { DrainNextBack };
 
-    #[tactic(auto, using(vecmap_base::proofs::DrainRuns::drains))]
+    #[tactic(auto, using(vecmap_base::proofs::DrainRuns::drains, crate::proofs::SetLemmas::distinct_changes))]
     fn next_back(&mut self) -> Option<T> {
         if self.set.len() <= self.keep {
             return None;
         }
         self.put_in_order(false);
-        Some(self.set.take_last())
+        let set = &mut *self.set;
+        Some(set.items.take_last())
     }
 }
 

@@ -43,6 +43,7 @@ impl<T: Eq> VecSet<T> {
     /// let set = vecset!(alloc; 1, 2);
     /// set.is_subset(&vecset!(alloc; 2, 3, 1)) // true
     /// ```
+    #[tactic(auto, using(vecmap_base::proofs::EqualityLemmas::Sets::longer_not_within))]
     pub fn is_subset(&self, other: &VecSet<T>) -> bool
         ensures { result ≡ is_within T.eq self.now.elements other.now.elements }
     {
@@ -96,6 +97,7 @@ impl<T: Eq> PartialEq for VecSet<T> {
     ghost laws = { partial_equiv_from_equiv
         (on_equiv (λ set. set.elements) (set_equality_laws T.eq T.Eq.laws)) };
 
+    #[tactic(auto, using(crate::proofs::SetLemmas::set_equality))]
     fn eq(&self, other: &VecSet<T>) -> bool {
         let (items, others) = (self.as_slice(), other.as_slice());
         if items.len() != others.len() {

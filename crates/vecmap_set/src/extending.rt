@@ -4,15 +4,15 @@
 //! the trait says: that some first part of the items was added.
 ghost use Rattle.std.specs.Iterator.{ExtendsWithItems, IsFiniteIterable};
 ghost use Rattle.std.specs.Map.Iter.{deref};
-ghost use Rattle.std.specs.Prelude.{◌≡◌, IsOk, OnErr, map};
+ghost use Rattle.std.specs.Prelude.{◌≡◌, IsOk, OnErr};
 ghost use Rattle.vecmap_base.specs.Bulk.{HasRoomForAll, StopsAt};
 ghost use Rattle.vecmap_set.specs.Contents.{HasRoom};
-ghost use Rattle.vecmap_set.specs.SetBulk.{Adds, Grows, RefusesAfter};
+ghost use Rattle.vecmap_set.specs.SetBulk.{Adds, AddsCopies, GrowsDistinct, RefusesAfter, RefusesCopiesAfter};
 
 use crate::VecSet;
 use std::alloc::AllocError;
 
-/// Adds the elements of an iterator in order, like the inherent [`VecSet::extend`].
+/// Adds the elements of an iterator in order, like the inherent [`VecSet::extend`], with the same cost.
 ///
 /// # Errors
 ///
@@ -21,10 +21,6 @@ use std::alloc::AllocError;
 /// # Conditions
 ///
 /// The iterator ends.
-///
-/// # Complexity
-///
-/// One lookup for each element, with at most as many comparisons as the set then has elements.
 ///
 /// # Examples
 ///
@@ -35,13 +31,13 @@ use std::alloc::AllocError;
 /// even.as_slice() // [2]
 /// ```
 impl<T: Eq + Drop> Extend<T> for VecSet<T> {
-    ghost extend_gives = { Grows T.eq (Adds T.eq) };
+    ghost extend_gives = { GrowsDistinct T.eq (Adds T.eq) };
 
     fn extend<I: IntoIterator<Item = T>>(&mut self, iter: I) -> Result<(), AllocError>
         requires ends { IsFiniteIterable I.into_iter_gives I.IntoIter.can_next I.IntoIter.remaining
             iter }
         ensures ran { ExtendsWithItems I.into_iter_gives I.IntoIter.next_gives
-            (Grows T.eq (Adds T.eq)) iter self.old self.new result }
+            (GrowsDistinct T.eq (Adds T.eq)) iter self.old self.new result }
         ensures succeeds { HasRoomForAll I.into_iter_gives I.IntoIter.remaining iter
             (HasRoom self.old) → IsOk result }
         ensures capacity_stays { HasRoomForAll I.into_iter_gives I.IntoIter.remaining iter
@@ -53,20 +49,16 @@ impl<T: Eq + Drop> Extend<T> for VecSet<T> {
     }
 }
 
-/// Adds copies of the elements of an iterator of references, in order, like the inherent [`VecSet::extend_copied`].
+/// Adds copies of the elements of an iterator of references, in order, like the inherent [`VecSet::extend_copied`],
+/// with the same cost.
 ///
 /// # Errors
 ///
-/// [`AllocError`] if the allocator refuses a request; copies of the elements before the refused one are then in the
-/// set.
+/// [`AllocError`] if the allocator refuses a request; copies of the elements before the refused one are in the set.
 ///
 /// # Conditions
 ///
 /// The iterator ends.
-///
-/// # Complexity
-///
-/// One lookup for each element, with at most as many comparisons as the set then has elements.
 ///
 /// # Examples
 ///
@@ -76,19 +68,19 @@ impl<T: Eq + Drop> Extend<T> for VecSet<T> {
 /// set.as_slice() // [1, 2, 3]
 /// ```
 impl<'a, T: Eq + Copy + 'a> Extend<&'a T> for VecSet<T> {
-    ghost extend_gives = { Grows T.eq (λ old items new. Adds T.eq old (map deref items) new) };
+    ghost extend_gives = { GrowsDistinct T.eq (AddsCopies T.eq deref) };
 
     fn extend<I: IntoIterator<Item = &'a T>>(&mut self, iter: I) -> Result<(), AllocError>
         requires ends { IsFiniteIterable I.into_iter_gives I.IntoIter.can_next I.IntoIter.remaining
             iter }
-        ensures ran { ExtendsWithItems I.into_iter_gives I.IntoIter.next_gives (Grows T.eq
-            (λ old items new. Adds T.eq old (map deref items) new)) iter self.old self.new result }
+        ensures ran { ExtendsWithItems I.into_iter_gives I.IntoIter.next_gives
+            (GrowsDistinct T.eq (AddsCopies T.eq deref)) iter self.old self.new result }
         ensures succeeds { HasRoomForAll I.into_iter_gives I.IntoIter.remaining iter
             (HasRoom self.old) → IsOk result }
         ensures capacity_stays { HasRoomForAll I.into_iter_gives I.IntoIter.remaining iter
             (HasRoom self.old) → self.new.capacity ≡ self.old.capacity }
         ensures err { OnErr result (StopsAt I.into_iter_gives I.IntoIter.next_gives iter
-            (λ items next. RefusesAfter T.eq self.old self.new (map deref items) (deref next))) }
+            (RefusesCopiesAfter T.eq deref self.old self.new)) }
     {
         self.extend_copied(iter)
     }

@@ -80,7 +80,7 @@ impl<T: Eq> VecSet<T> {
     /// set.replace(3)? // None
     /// set.as_slice() // [1, 2, 3]
     /// ```
-    #[tactic(auto, using(vecmap_base::proofs::IndexLemmas::list_any_position))]
+    #[tactic(auto, using(vecmap_base::proofs::IndexLemmas::list_any_position, std::proofs::lemmas::Option::gets))]
     pub fn replace(&mut self, item: T) -> Result<Option<T>, Refused<T>>
         ensures elements { OnOk result
             (self.new.elements ≡ put_item T.eq self.old.elements item) }
@@ -100,6 +100,7 @@ impl<T: Eq> VecSet<T> {
     }
 
     // Appends a new element.
+    #[tactic(auto, using(crate::proofs::SetLemmas::distinct_changes))]
     fn push(&mut self, item: T) -> Result<(), Refused<T>>
         requires absent { is_member T.eq self.old.elements item ≡ false }
         ensures elements { OnOk result (self.new.elements ≡ self.old.elements ++ item ∷ []) }

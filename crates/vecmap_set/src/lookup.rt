@@ -151,11 +151,8 @@ impl<T: Eq> VecSet<T> {
 }
 
 impl VecSet<String> {
-    /// Like [`VecSet::contains`], with the same cost, but an element matches if it has the bytes of `text`.
-    ///
-    /// # Complexity
-    ///
-    /// At most `len` comparisons. Does not allocate.
+    /// Like [`VecSet::contains`], with the same cost, but an element matches if it has the bytes of `text`. Does not
+    /// allocate.
     ///
     /// # Examples
     ///

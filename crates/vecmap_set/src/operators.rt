@@ -18,8 +18,7 @@ const MIN_CAPACITY: usize = 4;
 ///
 /// # Errors
 ///
-/// [`AllocError`] if the allocator refuses a request, for the set or for a clone. No set is then created, and both sets
-/// are unchanged.
+/// [`AllocError`] if the allocator refuses a request, for the set or for a clone; no set is created.
 ///
 /// # Conditions
 ///
@@ -57,8 +56,7 @@ impl<'a, 'b, T: Eq + Clone> BitAnd<&'b VecSet<T>> for &'a VecSet<T> {
 ///
 /// # Errors
 ///
-/// [`AllocError`] if the allocator refuses a request, for the set or for a clone. No set is then created, and both sets
-/// are unchanged.
+/// [`AllocError`] if the allocator refuses a request, for the set or for a clone; no set is created.
 ///
 /// # Conditions
 ///
@@ -96,8 +94,7 @@ impl<'a, 'b, T: Eq + Clone> BitOr<&'b VecSet<T>> for &'a VecSet<T> {
 ///
 /// # Errors
 ///
-/// [`AllocError`] if the allocator refuses a request, for the set or for a clone. No set is then created, and both sets
-/// are unchanged.
+/// [`AllocError`] if the allocator refuses a request, for the set or for a clone; no set is created.
 ///
 /// # Conditions
 ///
@@ -136,8 +133,7 @@ impl<'a, 'b, T: Eq + Clone> BitXor<&'b VecSet<T>> for &'a VecSet<T> {
 ///
 /// # Errors
 ///
-/// [`AllocError`] if the allocator refuses a request, for the set or for a clone. No set is then created, and both sets
-/// are unchanged.
+/// [`AllocError`] if the allocator refuses a request, for the set or for a clone; no set is created.
 ///
 /// # Conditions
 ///
@@ -170,6 +166,7 @@ impl<'a, 'b, T: Eq + Clone> Sub<&'b VecSet<T>> for &'a VecSet<T> {
 
 // Returns clones of what an iterator yields, in order. Capacity is reserved first, for the items that it yields at
 // least.
+#[tactic(auto, using(crate::proofs::OperatorLemmas::pushes))]
 fn clones_of<'a, T: Clone + 'a, I: Iterator<Item = &'a T>>(
     alloc: Global,
     iter: I,

@@ -88,6 +88,7 @@ impl<T: Eq> VecSet<T> {
     /// set.as_slice() // [1]
     /// part.as_slice() // [2, 3]
     /// ```
+    #[tactic(auto, using(crate::proofs::SetLemmas::distinct_changes))]
     pub fn split_off(&mut self, at: usize) -> Result<VecSet<T>, AllocError>
         requires within { at ≤ length self.old.elements }
         ensures elements { OnOk result (self.new.elements ≡ take at self.old.elements) }
@@ -324,11 +325,8 @@ impl<T: Eq> VecSet<T> {
 }
 
 impl VecSet<String> {
-    /// Like [`VecSet::remove`], with the same cost, but an element matches if it has the bytes of `text`.
-    ///
-    /// # Complexity
-    ///
-    /// At most `len` comparisons, and one move for each element that changes its index. Does not allocate.
+    /// Like [`VecSet::remove`], with the same cost, but an element matches if it has the bytes of `text`. Does not
+    /// allocate.
     ///
     /// # Examples
     ///

@@ -1,7 +1,6 @@
 //! An iterator over the elements that only one of two sets has.
 ghost use Rattle.std.specs.Prelude.{◌≡◌, ⊤, ◌+◌, length};
 ghost use Rattle.std.specs.Iterator.{at_most};
-ghost use Rattle.std.specs.Iterator.Runs.{YieldsRefsInOrder, YieldsRefsInReverse};
 ghost use Rattle.vecmap_base.specs.Walks.{IsHintFor};
 ghost use Rattle.vecmap_set.specs.Lazy.{ExcludesFirst, ExcludesLast, IsBound, symmetric_parts, symmetric_rest};
 
@@ -47,9 +46,7 @@ impl<'a, T: Eq> SymmetricDifference<'a, T> {
     // Creates an iterator over the elements of `items` that `other` lacks, and then those of `other` that `items`
     // lacks.
     pub(crate) fn over(items: &'a [T], other: &'a [T]) -> SymmetricDifference<'a, T>
-        ensures rest { result ≡ symmetric_parts items.now other.now }
-        ensures runs { YieldsRefsInOrder (ExcludesFirst T.eq) (symmetric_rest T.eq) }
-        ensures runs_back { YieldsRefsInReverse (ExcludesLast T.eq) (symmetric_rest T.eq) }
+        ensures { result ≡ symmetric_parts items.now other.now }
     {
         SymmetricDifference {
             first: Difference::over(items, other),

@@ -1,7 +1,6 @@
 //! An iterator over the elements of one set, and then those of another that it lacks.
 ghost use Rattle.std.specs.Prelude.{◌≡◌, ⊤, ◌+◌, length};
 ghost use Rattle.std.specs.Iterator.{at_most};
-ghost use Rattle.std.specs.Iterator.Runs.{YieldsRefsInOrder, YieldsRefsInReverse};
 ghost use Rattle.vecmap_base.specs.Walks.{IsHintFor};
 ghost use Rattle.vecmap_set.specs.Lazy.{IsBound, JoinsFirst, JoinsLast, union_parts, union_rest};
 
@@ -47,9 +46,7 @@ impl<'a, T: Eq> Model for Union<'a, T> {
 impl<'a, T: Eq> Union<'a, T> {
     // Creates an iterator over all of `items`, and then the elements of `other` that `items` lacks.
     pub(crate) fn over(items: &'a [T], other: &'a [T]) -> Union<'a, T>
-        ensures rest { result ≡ union_parts items.now other.now }
-        ensures runs { YieldsRefsInOrder (JoinsFirst T.eq) (union_rest T.eq) }
-        ensures runs_back { YieldsRefsInReverse (JoinsLast T.eq) (union_rest T.eq) }
+        ensures { result ≡ union_parts items.now other.now }
     {
         Union {
             first: items.iter(),

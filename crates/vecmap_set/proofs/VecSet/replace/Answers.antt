@@ -1,8 +1,6 @@
 -- The idea: the index that was found has an equal element, and a replacement by an equal element keeps the set
 -- distinct.
-use Rattle.std.proofs.Common.{◌≡◌, ◌∙◌, sym, ap, arith, Some}
-use Rattle.std.proofs.lemmas.Grind.{common_steps}
-use Rattle.std.proofs.lemmas.Option.{gets}
+use Rattle.std.proofs.Common.{◌≡◌, ◌∙◌, sym, ap, Some}
 use Rattle.std.proofs.lemmas.List.Quantifiers.{position-Some}
 use Rattle.vecmap_base.specs.Items.{item_index}
 use Rattle.vecmap_base.proofs.DistinctLemmas.Additions.{distinct_replace}
@@ -16,8 +14,3 @@ invariant_of-self g c =
 
 pub returns-in-Some-clause-distinct : goal.returns-in-Some-clause-distinct
 returns-in-Some-clause-distinct g c = invariant_of-self g c
-
-pub returns-in-Some-clause-old : goal.returns-in-Some-clause-old
-returns-in-Some-clause-old g c =
-    let place : item_index g.T.PartialEq.eq c.self.inside.items.items c.args.item ≡ Some c.in-Some.index = ap (λ s. item_index g.T.PartialEq.eq s c.args.item) (sym c.deref.ensures.value) ∙ sym c.find_item.ensures.index ∙ c.in-Some.is in
-    grind (arith, common_steps, gets, place)

@@ -1,5 +1,5 @@
 -- The idea: once the remaining elements are reversed, the last element of the vector is the first of the drain.
-use Rattle.std.proofs.Common.{◌<◌, sym, ◌∙◌, arith, length}
+use Rattle.std.proofs.Common.{ap, sym, ◌∙◌, arith}
 use Rattle.vecmap_base.proofs.DrainLemmas.{first_pulled}
 use Rattle.vecmap_set.proofs.drain.DrainIterator.next.Goals as goal
 
@@ -7,8 +7,8 @@ pub returns-clause-steps : goal.returns-clause-steps
 returns-clause-steps g c =
     let d = c.put_in_order.new.self in
     let ordered = c.put_in_order.ensures in
+    let seen = c.set.view_is in
     let took = c.take_last.ensures in
-    let left : d.keep < length d.set.now.elements = omega (arith, ordered.count, ordered.keep, c.len.ensures.count, c.if-len-self.false) in
-    let pulled = first_pulled d.reversed d.set.now.elements c.take_last.new.self.elements c.take_last.result d.keep
-    ordered.ordered left took.elements in
-    (sym ordered.rest ∙ pulled.0, (ordered.keeps.0, pulled.1 ∙ ordered.keeps.1, took.capacity ∙ ordered.keeps.2))
+    let pulled = first_pulled d.reversed d.set.now.elements c.take_last.new.self.items c.take_last.result d.keep
+    ordered.ordered (omega (arith, ordered.count, ordered.keep, c.len.ensures.count, c.if-len-self.false)) (ap (λ s. s.elements) (sym seen) ∙ took.items) in
+    (sym ordered.rest ∙ pulled.0, (ordered.keeps.0, pulled.1 ∙ ordered.keeps.1, took.capacity ∙ ap (λ s. s.capacity) seen ∙ ordered.keeps.2))

@@ -1,6 +1,7 @@
+use Rattle.std.proofs.Common.{ap}
 use Rattle.std.specs.Set.{is_member}
 use Rattle.vecmap_base.proofs.EqualityLemmas.Relations.{distinct_both}
-use Rattle.vecmap_set.specs.Lazy.{SiftsFirst, sift_of, sift_rest}
+use Rattle.vecmap_set.specs.Lazy.{SiftsFirst, sift_rest}
 use Rattle.vecmap_set.proofs.OperatorLemmas.{operator_clones}
 use Rattle.vecmap_set.proofs.operators.RefVecSetBitAnd.bitand.Goals as goal
 
@@ -8,9 +9,8 @@ pub returns : goal.returns
 returns g c =
     let eq = g.T.PartialEq.eq in
     let laws = g.met.T.Eq.laws in
-    operator_clones (SiftsFirst (is_member eq)) (sift_rest (is_member eq)) (λ s r t h. h.0) laws _ sift_of (λ a b apart _. distinct_both eq laws a b apart) c.args.self.now c.args.other.now _
-    c.over-shared.ensures.0 c.as_slice.ensures.elements c.as_slice-2.ensures.elements c.as_slice.ensures.distinct c.as_slice-2.ensures.distinct
-    c.requires c.in_ok-items.ensures
+    operator_clones (SiftsFirst _) (sift_rest (is_member eq)) laws _ (λ a b apart _. distinct_both _ laws a b apart) (ap (sift_rest (is_member eq)) c.over-shared.ensures.0)
+    c.as_slice.ensures.elements c.as_slice-2.ensures.elements c.as_slice.ensures.distinct c.as_slice-2.ensures.distinct c.requires c.in_ok-items.ensures (λ s r t h. h.0)
 
 pub invariant_of-result : goal.invariant_of-result
 invariant_of-result g c = (returns g c).1

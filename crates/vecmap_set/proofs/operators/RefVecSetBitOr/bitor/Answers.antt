@@ -1,15 +1,14 @@
+use Rattle.std.proofs.Common.{ap}
 use Rattle.vecmap_base.proofs.EqualityLemmas.Relations.{distinct_union}
-use Rattle.vecmap_set.specs.Lazy.{JoinsFirst, union_parts, union_rest}
+use Rattle.vecmap_set.specs.Lazy.{JoinsFirst, union_rest}
 use Rattle.vecmap_set.proofs.OperatorLemmas.{operator_clones}
 use Rattle.vecmap_set.proofs.operators.RefVecSetBitOr.bitor.Goals as goal
 
 pub returns : goal.returns
 returns g c =
-    let eq = g.T.PartialEq.eq in
     let laws = g.met.T.Eq.laws in
-    operator_clones (JoinsFirst eq) (union_rest eq) (λ s r t h. h.0) laws _ union_parts (distinct_union eq laws) c.args.self.now c.args.other.now _
-    c.over-all.ensures.rest c.as_slice.ensures.elements c.as_slice-2.ensures.elements c.as_slice.ensures.distinct c.as_slice-2.ensures.distinct
-    c.requires c.in_ok-items.ensures
+    operator_clones (JoinsFirst _) (union_rest _) laws _ (distinct_union _ laws) (ap (union_rest _) c.over-all.ensures)
+    c.as_slice.ensures.elements c.as_slice-2.ensures.elements c.as_slice.ensures.distinct c.as_slice-2.ensures.distinct c.requires c.in_ok-items.ensures (λ s r t h. h.0)
 
 pub invariant_of-result : goal.invariant_of-result
 invariant_of-result g c = (returns g c).1

@@ -1,5 +1,6 @@
+use Rattle.std.proofs.Common.{ap}
 use Rattle.vecmap_base.proofs.EqualityLemmas.Relations.{distinct_only}
-use Rattle.vecmap_set.specs.Lazy.{SiftsFirst, lacks_item, sift_of, sift_rest}
+use Rattle.vecmap_set.specs.Lazy.{SiftsFirst, lacks_item, sift_rest}
 use Rattle.vecmap_set.proofs.OperatorLemmas.{operator_clones}
 use Rattle.vecmap_set.proofs.operators.RefVecSetSub.sub.Goals as goal
 
@@ -7,9 +8,8 @@ pub returns : goal.returns
 returns g c =
     let eq = g.T.PartialEq.eq in
     let laws = g.met.T.Eq.laws in
-    operator_clones (SiftsFirst (lacks_item eq)) (sift_rest (lacks_item eq)) (λ s r t h. h.0) laws _ sift_of (λ a b apart _. distinct_only eq laws a b apart) c.args.self.now c.args.other.now _
-    c.over-left.ensures.0 c.as_slice.ensures.elements c.as_slice-2.ensures.elements c.as_slice.ensures.distinct c.as_slice-2.ensures.distinct
-    c.requires c.in_ok-items.ensures
+    operator_clones (SiftsFirst _) (sift_rest (lacks_item eq)) laws _ (λ a b apart _. distinct_only _ laws a b apart) (ap (sift_rest (lacks_item eq)) c.over-left.ensures.0)
+    c.as_slice.ensures.elements c.as_slice-2.ensures.elements c.as_slice.ensures.distinct c.as_slice-2.ensures.distinct c.requires c.in_ok-items.ensures (λ s r t h. h.0)
 
 pub invariant_of-result : goal.invariant_of-result
 invariant_of-result g c = (returns g c).1

@@ -1,10 +1,11 @@
 use Rattle.std.proofs.Common.{arith}
 use Rattle.std.proofs.lemmas.Grind.{common_steps}
-use Rattle.vecmap_set.specs.Lazy.{lacks_item}
-use Rattle.vecmap_set.proofs.LazyLemmas.{length_filter, sifts_in_order, sifts_in_reverse}
+use Rattle.vecmap_set.specs.Lazy.{SiftsFirst, SiftsLast, lacks_item, sift_rest}
+use Rattle.vecmap_set.proofs.LazyLemmas.{length_filter, refs_run}
 use Rattle.vecmap_set.proofs.lazy.difference.Difference.over.Goals as goal
 
 pub returns : goal.returns
 returns g c =
     let keeps = lacks_item g.T.PartialEq.eq in
-    (grind (arith, common_steps), grind (arith, common_steps, length_filter), sifts_in_order keeps, sifts_in_reverse keeps)
+    let runs = refs_run (SiftsFirst keeps) (SiftsLast keeps) (sift_rest keeps) (λ s r t h. h.0) (λ s r t h. h.0) in
+    (grind (arith, common_steps), grind (arith, common_steps, length_filter), runs.0, runs.1)
