@@ -36,70 +36,49 @@ module _ {K V : Type 0} (keys : clone.Ghosts K) (values : clone.Ghosts V) where
 
 module _ {K V : Type 0} (eq : K → K → Bool) (eq_value : V → V → Bool) (keys : clone.Ghosts K) (values : clone.Ghosts V) where
   -- One command with this reply takes the list l to the list m. A command that reads, is out of range or is refused
-  -- leaves the list.
+  -- leaves the list. Any other reply is impossible.
   -- Example: `Insert 1 30` on `[(1,10)]`: `Value 10`, and `[(1,30)]`.
   abbrev pub ListStep : List (K × V) → MapCommand K V → MapReply K V → List (K × V) → Type 0
   ListStep l (Insert k v) (Value old) m = (old ≡ lookup eq l k) × (m ≡ put eq l k v)
   ListStep l (Insert k v) NoMemory m = (index_of eq l k ≡ None) × (m ≡ l)
-  ListStep l (Insert k v) _ m = ⊥
   ListStep l (InsertFull k v) (Full place old) m = (place ≡ index_or_length eq l k) × (old ≡ lookup eq l k) × (m ≡ put eq l k v)
   ListStep l (InsertFull k v) NoMemory m = (index_of eq l k ≡ None) × (m ≡ l)
-  ListStep l (InsertFull k v) _ m = ⊥
   ListStep l (InsertAt i k v) (Moved old) m = (i ≤ length l) × (old ≡ lookup_full eq l k) × (m ≡ put_at eq l i k v)
   ListStep l (InsertAt i k v) OutOfRange m = (length l < i) × (m ≡ l)
   ListStep l (InsertAt i k v) NoMemory m = (i ≤ length l) × (index_of eq l k ≡ None) × (m ≡ l)
-  ListStep l (InsertAt i k v) _ m = ⊥
   ListStep l (InsertKey k v) (Pair old) m = (old ≡ lookup_pair eq l k) × (m ≡ put_key eq l k v)
   ListStep l (InsertKey k v) NoMemory m = (index_of eq l k ≡ None) × (m ≡ l)
-  ListStep l (InsertKey k v) _ m = ⊥
   ListStep l (OrInsert k v) (Kept place added) m = (place ≡ index_or_length eq l k) × (added ≡ not (is_some (index_of eq l k))) × (m ≡ option_map_or (λ i. l) (index_of eq l k) (l ++ (k, v) ∷ []))
   ListStep l (OrInsert k v) NoMemory m = (index_of eq l k ≡ None) × (m ≡ l)
-  ListStep l (OrInsert k v) _ m = ⊥
   ListStep l (Get k) reply m = ClonesValue values (lookup eq l k) reply × (m ≡ l)
   ListStep l (GetIndex i) reply m = ClonesPair keys values (slice_get l i) reply × (m ≡ l)
   ListStep l (IndexOf k) (Place place) m = (place ≡ index_of eq l k) × (m ≡ l)
-  ListStep l (IndexOf k) _ m = ⊥
   ListStep l (ContainsKey k) (Truth there) m = (there ≡ is_some (index_of eq l k)) × (m ≡ l)
-  ListStep l (ContainsKey k) _ m = ⊥
   ListStep l First reply m = ClonesPair keys values (slice_get l 0) reply × (m ≡ l)
   ListStep l Last reply m = ClonesPair keys values (slice_get l (length l - 1)) reply × (m ≡ l)
   ListStep l Len (Number count) m = (count ≡ length l) × (m ≡ l)
-  ListStep l Len _ m = ⊥
   ListStep l (Remove k) (Value old) m = (old ≡ lookup eq l k) × (m ≡ without_key eq l k)
-  ListStep l (Remove k) _ m = ⊥
   ListStep l (RemoveEntry k) (Pair old) m = (old ≡ lookup_pair eq l k) × (m ≡ without_key eq l k)
-  ListStep l (RemoveEntry k) _ m = ⊥
   ListStep l (SwapRemove k) (Value old) m = (old ≡ lookup eq l k) × (m ≡ swap_without_key eq l k)
-  ListStep l (SwapRemove k) _ m = ⊥
   ListStep l (SwapRemoveEntry k) (Pair old) m = (old ≡ lookup_pair eq l k) × (m ≡ swap_without_key eq l k)
-  ListStep l (SwapRemoveEntry k) _ m = ⊥
   ListStep l (RemoveIndex i) (Pair old) m = (i < length l) × (old ≡ slice_get l i) × (m ≡ remove l i)
   ListStep l (RemoveIndex i) OutOfRange m = (length l ≤ i) × (m ≡ l)
-  ListStep l (RemoveIndex i) _ m = ⊥
   ListStep l (SwapRemoveIndex i) (Pair old) m = (i < length l) × (old ≡ slice_get l i) × (m ≡ swap_without l i)
   ListStep l (SwapRemoveIndex i) OutOfRange m = (length l ≤ i) × (m ≡ l)
-  ListStep l (SwapRemoveIndex i) _ m = ⊥
   ListStep l Pop (Pair old) m = (old ≡ slice_get l (length l - 1)) × (m ≡ take (length l - 1) l)
-  ListStep l Pop _ m = ⊥
   ListStep l (SwapIndices i j) Done m = (i < length l) × (j < length l) × (m ≡ swap l i j)
   ListStep l (SwapIndices i j) OutOfRange m = ¬ ((i < length l) × (j < length l)) × (m ≡ l)
-  ListStep l (SwapIndices i j) _ m = ⊥
   ListStep l (Truncate len) Done m = m ≡ take len l
-  ListStep l (Truncate len) _ m = ⊥
   ListStep l Clear Done m = m ≡ []
-  ListStep l Clear _ m = ⊥
   ListStep l Reverse Done m = m ≡ reverse l
-  ListStep l Reverse _ m = ⊥
   ListStep l (Append other) Done m = m ≡ puts eq l other.entries
   ListStep l (Append other) NoMemory m = (0 < length other.entries) × (m ≡ l)
-  ListStep l (Append other) _ m = ⊥
   ListStep l (SplitOff i) (Rest rest) m = (i ≤ length l) × (rest.entries ≡ drop i l) × (m ≡ take i l)
   ListStep l (SplitOff i) OutOfRange m = (length l < i) × (m ≡ l)
   ListStep l (SplitOff i) NoMemory m = (i < length l) × (m ≡ l)
-  ListStep l (SplitOff i) _ m = ⊥
   ListStep l ToVec reply m = ClonesPairs keys values l reply × (m ≡ l)
   ListStep l (Equals other) (Truth same) m = (same ≡ has_same_counts eq eq_value l other.entries) × (m ≡ l)
-  ListStep l (Equals other) _ m = ⊥
+  ListStep l command reply m = ⊥
 
   -- The capacity after a pair is inserted: only a new key in a full map needs memory.
   -- Example: of an existing key: the same capacity.

@@ -41,70 +41,49 @@ module _ {T : Type 0} (eq : T → T → Bool) (clones : clone.Ghosts T) where
   MakesSet l _ = ⊥
 
   -- One command with this reply takes the list l to the list m. A command that reads, is out of range or is refused
-  -- leaves the list.
+  -- leaves the list. Any other reply is impossible.
   -- Example: `Replace 1y` on `[1x]`: `Item 1x`, and `[1y]`.
   abbrev pub ListStep : List T → SetCommand T → SetReply T → List T → Type 0
   ListStep l (Insert x) (Truth added) m = (added ≡ not (is_member eq l x)) × (m ≡ add eq l x)
   ListStep l (Insert x) NoMemory m = (is_member eq l x ≡ false) × (m ≡ l)
-  ListStep l (Insert x) _ m = ⊥
   ListStep l (Replace x) (Item old) m = (old ≡ stored_item eq l x) × (m ≡ put_item eq l x)
   ListStep l (Replace x) NoMemory m = (is_member eq l x ≡ false) × (m ≡ l)
-  ListStep l (Replace x) _ m = ⊥
   ListStep l (Get x) reply m = ClonesItem clones (stored_item eq l x) reply × (m ≡ l)
   ListStep l (GetIndex i) reply m = ClonesItem clones (slice_get l i) reply × (m ≡ l)
   ListStep l (IndexOf x) (Place place) m = (place ≡ item_index eq l x) × (m ≡ l)
-  ListStep l (IndexOf x) _ m = ⊥
   ListStep l (Contains x) (Truth there) m = (there ≡ is_member eq l x) × (m ≡ l)
-  ListStep l (Contains x) _ m = ⊥
   ListStep l First reply m = ClonesItem clones (slice_get l 0) reply × (m ≡ l)
   ListStep l Last reply m = ClonesItem clones (slice_get l (length l - 1)) reply × (m ≡ l)
   ListStep l Len (Number count) m = (count ≡ length l) × (m ≡ l)
-  ListStep l Len _ m = ⊥
   ListStep l (Remove x) (Truth found) m = (found ≡ is_member eq l x) × (m ≡ without_item eq l x)
-  ListStep l (Remove x) _ m = ⊥
   ListStep l (Take x) (Item old) m = (old ≡ stored_item eq l x) × (m ≡ without_item eq l x)
-  ListStep l (Take x) _ m = ⊥
   ListStep l (SwapRemove x) (Truth found) m = (found ≡ is_member eq l x) × (m ≡ swap_without_item eq l x)
-  ListStep l (SwapRemove x) _ m = ⊥
   ListStep l (SwapTake x) (Item old) m = (old ≡ stored_item eq l x) × (m ≡ swap_without_item eq l x)
-  ListStep l (SwapTake x) _ m = ⊥
   ListStep l (RemoveIndex i) (Item old) m = (i < length l) × (old ≡ slice_get l i) × (m ≡ remove l i)
   ListStep l (RemoveIndex i) OutOfRange m = (length l ≤ i) × (m ≡ l)
-  ListStep l (RemoveIndex i) _ m = ⊥
   ListStep l (SwapRemoveIndex i) (Item old) m = (i < length l) × (old ≡ slice_get l i) × (m ≡ swap_without l i)
   ListStep l (SwapRemoveIndex i) OutOfRange m = (length l ≤ i) × (m ≡ l)
-  ListStep l (SwapRemoveIndex i) _ m = ⊥
   ListStep l Pop (Item old) m = (old ≡ slice_get l (length l - 1)) × (m ≡ take (length l - 1) l)
-  ListStep l Pop _ m = ⊥
   ListStep l (SwapIndices i j) Done m = (i < length l) × (j < length l) × (m ≡ swap l i j)
   ListStep l (SwapIndices i j) OutOfRange m = ¬ ((i < length l) × (j < length l)) × (m ≡ l)
-  ListStep l (SwapIndices i j) _ m = ⊥
   ListStep l (Truncate len) Done m = m ≡ take len l
-  ListStep l (Truncate len) _ m = ⊥
   ListStep l Clear Done m = m ≡ []
-  ListStep l Clear _ m = ⊥
   ListStep l Reverse Done m = m ≡ reverse l
-  ListStep l Reverse _ m = ⊥
   ListStep l (Append other) Done m = m ≡ adds eq l other.elements
   ListStep l (Append other) NoMemory m = (0 < length other.elements) × (m ≡ l)
-  ListStep l (Append other) _ m = ⊥
   ListStep l (SplitOff i) (Made rest) m = (i ≤ length l) × (rest.elements ≡ drop i l) × IsDistinct eq rest.elements × (m ≡ take i l)
   ListStep l (SplitOff i) OutOfRange m = (length l < i) × (m ≡ l)
   ListStep l (SplitOff i) NoMemory m = (i < length l) × (m ≡ l)
-  ListStep l (SplitOff i) _ m = ⊥
   ListStep l ToVec reply m = ClonesItems clones l reply × (m ≡ l)
   ListStep l (Equals other) (Truth same) m = (same ≡ has_same_items eq l other.elements) × (m ≡ l)
-  ListStep l (Equals other) _ m = ⊥
   ListStep l (IsSubset other) (Truth within) m = (within ≡ is_within eq l other.elements) × (m ≡ l)
-  ListStep l (IsSubset other) _ m = ⊥
   ListStep l (IsSuperset other) (Truth within) m = (within ≡ is_within eq other.elements l) × (m ≡ l)
-  ListStep l (IsSuperset other) _ m = ⊥
   ListStep l (IsDisjoint other) (Truth apart) m = (IsTrue apart ↔ (both eq l other.elements ≡ [])) × (m ≡ l)
-  ListStep l (IsDisjoint other) _ m = ⊥
   ListStep l (Intersect other) reply m = MakesSet (both eq l other.elements) reply × (m ≡ l)
   ListStep l (Unite other) reply m = MakesSet (union_of eq l other.elements) reply × (m ≡ l)
   ListStep l (Exclusive other) reply m = MakesSet (symmetric_difference_of eq l other.elements) reply × (m ≡ l)
   ListStep l (Subtract other) reply m = MakesSet (only eq l other.elements) reply × (m ≡ l)
+  ListStep l command reply m = ⊥
 
   -- The capacity after an element is added: only a new element in a full set needs memory.
   abbrev pub AddsInRoom : T → Contents T → SetReply T → Contents T → Type 0

@@ -3,11 +3,9 @@ ghost use Rattle.vecmap.specs.MapRun.{Effect, Step};
 
 mod put;
 mod read;
-mod take;
 
-use self::put::{append, insert, insert_at, insert_full, insert_key, or_insert};
+use self::put::put_if_new;
 use self::read::{clone_all, clone_pair, clone_value};
-use self::take::{remove_index, split_off, swap_indices, swap_remove_index};
 use super::{MapCommand, MapReply};
 use vecmap_map::VecMap;
 use vecmap_map::laws::pairs_fit_the_capacity;
@@ -32,11 +30,27 @@ fn execute<K: Eq + Clone, V: Eq + Clone>(
     ensures { Effect K.eq V.eq K.Clone V.Clone map.old command result map.new }
 {
     match command {
-        MapCommand::Insert(key, value) => insert(map, key, value),
-        MapCommand::InsertFull(key, value) => insert_full(map, key, value),
-        MapCommand::InsertAt(index, key, value) => insert_at(map, index, key, value),
-        MapCommand::InsertKey(key, value) => insert_key(map, key, value),
-        MapCommand::OrInsert(key, value) => or_insert(map, key, value),
+        MapCommand::Insert(key, value) => match map.insert(key, value) {
+            Ok(old) => MapReply::Value(old),
+            Err(_refused) => MapReply::NoMemory,
+        },
+        MapCommand::InsertFull(key, value) => match map.insert_full(key, value) {
+            Ok((index, old)) => MapReply::Full(index, old),
+            Err(_refused) => MapReply::NoMemory,
+        },
+        MapCommand::InsertAt(index, ..) if map.len() < index => MapReply::OutOfRange,
+        MapCommand::InsertAt(index, key, value) => match map.insert_at(index, key, value) {
+            Ok(old) => MapReply::Moved(old),
+            Err(_refused) => MapReply::NoMemory,
+        },
+        MapCommand::InsertKey(key, value) => match map.insert_key(key, value) {
+            Ok(old) => MapReply::Pair(old),
+            Err(_refused) => MapReply::NoMemory,
+        },
+        MapCommand::OrInsert(key, value) => match put_if_new(map, key, value) {
+            Ok((index, added)) => MapReply::Kept(index, added),
+            Err(_refused) => MapReply::NoMemory,
+        },
         MapCommand::Get(key) => clone_value(map.get(&key)),
         MapCommand::GetIndex(index) => clone_pair(map.get_index(index)),
         MapCommand::IndexOf(key) => MapReply::Place(map.get_index_of(&key)),
@@ -48,10 +62,16 @@ fn execute<K: Eq + Clone, V: Eq + Clone>(
         MapCommand::RemoveEntry(key) => MapReply::Pair(map.remove_entry(&key)),
         MapCommand::SwapRemove(key) => MapReply::Value(map.swap_remove(&key)),
         MapCommand::SwapRemoveEntry(key) => MapReply::Pair(map.swap_remove_entry(&key)),
-        MapCommand::RemoveIndex(index) => remove_index(map, index),
-        MapCommand::SwapRemoveIndex(index) => swap_remove_index(map, index),
+        MapCommand::RemoveIndex(index) if map.len() <= index => MapReply::OutOfRange,
+        MapCommand::RemoveIndex(index) => MapReply::Pair(Some(map.remove_index(index))),
+        MapCommand::SwapRemoveIndex(index) if map.len() <= index => MapReply::OutOfRange,
+        MapCommand::SwapRemoveIndex(index) => MapReply::Pair(Some(map.swap_remove_index(index))),
         MapCommand::Pop => MapReply::Pair(map.pop()),
-        MapCommand::SwapIndices(a, b) => swap_indices(map, a, b),
+        MapCommand::SwapIndices(a, b) if map.len() <= a || map.len() <= b => MapReply::OutOfRange,
+        MapCommand::SwapIndices(a, b) => {
+            map.swap_indices(a, b);
+            MapReply::Done
+        },
         MapCommand::Truncate(len) => {
             map.truncate(len);
             MapReply::Done
@@ -64,8 +84,15 @@ fn execute<K: Eq + Clone, V: Eq + Clone>(
             map.reverse();
             MapReply::Done
         },
-        MapCommand::Append(other) => append(map, other),
-        MapCommand::SplitOff(index) => split_off(map, index),
+        MapCommand::Append(mut other) => match map.append(&mut other) {
+            Ok(()) => MapReply::Done,
+            Err(_refused) => MapReply::NoMemory,
+        },
+        MapCommand::SplitOff(index) if map.len() < index => MapReply::OutOfRange,
+        MapCommand::SplitOff(index) => match map.split_off(index) {
+            Ok(rest) => MapReply::Rest(rest),
+            Err(_refused) => MapReply::NoMemory,
+        },
         MapCommand::ToVec => clone_all(map),
         MapCommand::Equals(other) => MapReply::Truth(*map == other),
     }

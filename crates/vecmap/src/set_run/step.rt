@@ -3,14 +3,10 @@ ghost use Rattle.std.specs.Set.{ClonesAreEqual};
 ghost use Rattle.vecmap.specs.SetRun.{Effect, Step};
 
 mod make;
-mod put;
 mod read;
-mod take;
 
 use self::make::made;
-use self::put::{append, insert, replace};
 use self::read::{clone_all, clone_item};
-use self::take::{remove_index, split_off, swap_indices, swap_remove_index};
 use super::{SetCommand, SetReply};
 use vecmap_set::VecSet;
 use vecmap_set::laws::elements_fit_the_capacity;
@@ -31,8 +27,14 @@ fn execute<T: Eq + Clone>(set: &mut VecSet<T>, command: SetCommand<T>) -> SetRep
     ensures { Effect T.eq T.Clone set.old command result set.new }
 {
     match command {
-        SetCommand::Insert(item) => insert(set, item),
-        SetCommand::Replace(item) => replace(set, item),
+        SetCommand::Insert(item) => match set.insert(item) {
+            Ok(added) => SetReply::Truth(added),
+            Err(_refused) => SetReply::NoMemory,
+        },
+        SetCommand::Replace(item) => match set.replace(item) {
+            Ok(old) => SetReply::Item(old),
+            Err(_refused) => SetReply::NoMemory,
+        },
         SetCommand::Get(item) => clone_item(set.get(&item)),
         SetCommand::GetIndex(index) => clone_item(set.get_index(index)),
         SetCommand::IndexOf(item) => SetReply::Place(set.get_index_of(&item)),
@@ -44,10 +46,16 @@ fn execute<T: Eq + Clone>(set: &mut VecSet<T>, command: SetCommand<T>) -> SetRep
         SetCommand::Take(item) => SetReply::Item(set.take(&item)),
         SetCommand::SwapRemove(item) => SetReply::Truth(set.swap_remove(&item)),
         SetCommand::SwapTake(item) => SetReply::Item(set.swap_take(&item)),
-        SetCommand::RemoveIndex(index) => remove_index(set, index),
-        SetCommand::SwapRemoveIndex(index) => swap_remove_index(set, index),
+        SetCommand::RemoveIndex(index) if set.len() <= index => SetReply::OutOfRange,
+        SetCommand::RemoveIndex(index) => SetReply::Item(Some(set.remove_index(index))),
+        SetCommand::SwapRemoveIndex(index) if set.len() <= index => SetReply::OutOfRange,
+        SetCommand::SwapRemoveIndex(index) => SetReply::Item(Some(set.swap_remove_index(index))),
         SetCommand::Pop => SetReply::Item(set.pop()),
-        SetCommand::SwapIndices(a, b) => swap_indices(set, a, b),
+        SetCommand::SwapIndices(a, b) if set.len() <= a || set.len() <= b => SetReply::OutOfRange,
+        SetCommand::SwapIndices(a, b) => {
+            set.swap_indices(a, b);
+            SetReply::Done
+        }
         SetCommand::Truncate(len) => {
             set.truncate(len);
             SetReply::Done
@@ -60,8 +68,15 @@ fn execute<T: Eq + Clone>(set: &mut VecSet<T>, command: SetCommand<T>) -> SetRep
             set.reverse();
             SetReply::Done
         }
-        SetCommand::Append(other) => append(set, other),
-        SetCommand::SplitOff(index) => split_off(set, index),
+        SetCommand::Append(mut other) => match set.append(&mut other) {
+            Ok(()) => SetReply::Done,
+            Err(_refused) => SetReply::NoMemory,
+        },
+        SetCommand::SplitOff(index) if set.len() < index => SetReply::OutOfRange,
+        SetCommand::SplitOff(index) => match set.split_off(index) {
+            Ok(rest) => SetReply::Made(rest),
+            Err(_refused) => SetReply::NoMemory,
+        },
         SetCommand::ToVec => clone_all(set),
         SetCommand::Equals(other) => SetReply::Truth(*set == other),
         SetCommand::IsSubset(other) => SetReply::Truth(set.is_subset(&other)),
