@@ -2,7 +2,7 @@
 //!
 //! The iterator holds a reference to the map and no vector. So the proof of a caller knows what the map has once the
 //! drain is dropped.
-ghost use Rattle.std.specs.Prelude.{◌≡◌, ◌++◌, ◌-◌, ◌<◌, ◌≤◌, ◌^◌, [], ◌∷◌, drop, length, reverse, slice_range, take};
+ghost use Rattle.std.specs.Prelude.{◌≡◌, ◌<◌, ◌≤◌, ◌^◌, length, slice_range};
 ghost use Rattle.std.specs.Iterator.{at_most};
 ghost use Rattle.std.specs.Iterator.Runs.{YieldsInOrder, YieldsInReverse};
 ghost use Rattle.std.specs.List.{remove_range};
@@ -142,47 +142,12 @@ impl<'a, K: Drop, V: Drop> Drain<'a, K, V> {
                 reversed: false,
             };
         }
-        let keep = map.move_range_last(start, end);
+        let keep = move_range_last(&mut map.pairs, start, end);
         Drain {
             map,
             keep,
             reversed: true,
         }
-    }
-}
-
-// The steps of a drain.
-impl<K, V> VecMap<K, V> {
-    // Moves the pairs of a range to the end, in reverse order, and returns the number of the other pairs.
-    fn move_range_last(&mut self, start: usize, end: usize) -> usize
-        requires within { IsRangeWithin start end (length self.old.entries) }
-        ensures count { result ≡ length self.old.entries - (end - start) }
-        ensures countable { length self.new.entries < 2 ^ 63 }
-        ensures entries { self.new.entries
-            ≡ remove_range self.old.entries start end
-            ++ reverse (slice_range self.old.entries start end) }
-        ensures capacity { self.new.capacity ≡ self.old.capacity }
-    {
-        move_range_last(&mut self.pairs, start, end)
-    }
-
-    // Reverses the order of the pairs from index `start` on.
-    fn reverse_from(&mut self, start: usize)
-        requires within { start ≤ length self.old.entries }
-        ensures entries { self.new.entries
-            ≡ take start self.old.entries ++ reverse (drop start self.old.entries) }
-        ensures capacity { self.new.capacity ≡ self.old.capacity }
-    {
-        reverse_from(&mut self.pairs, start);
-    }
-
-    // Removes the last pair and returns it. The map must not be empty.
-    fn take_last(&mut self) -> (K, V)
-        requires within { 0 < length self.old.entries }
-        ensures entries { self.old.entries ≡ self.new.entries ++ result ∷ [] }
-        ensures capacity { self.new.capacity ≡ self.old.capacity }
-    {
-        self.pairs.take_last()
     }
 }
 
@@ -198,7 +163,9 @@ impl<'a, K, V> Drain<'a, K, V> {
         ensures keeps { DrainKeeps self.old self.new }
     {
         if self.reversed != reversed {
-            self.map.reverse_from(self.keep);
+            // The check reaches the vector of a map only through a variable.
+            let map = &mut *self.map;
+            reverse_from(&mut map.pairs, self.keep);
             self.reversed = reversed;
         }
     }
@@ -231,7 +198,8 @@ impl<'a, K: Drop, V: Drop> Iterator for Drain<'a, K, V> {
             return None;
         }
         self.put_in_order(true);
-        Some(self.map.take_last())
+        let map = &mut *self.map;
+        Some(map.pairs.take_last())
     }
 
     /// Returns the number of remaining pairs, as both bounds.
@@ -252,7 +220,8 @@ impl<'a, K: Drop, V: Drop> DoubleEndedIterator for Drain<'a, K, V> {
             return None;
         }
         self.put_in_order(false);
-        Some(self.map.take_last())
+        let map = &mut *self.map;
+        Some(map.pairs.take_last())
     }
 }
 

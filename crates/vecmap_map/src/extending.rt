@@ -12,7 +12,7 @@ ghost use Rattle.vecmap_map.specs.MapBulk.{ClonesSucceed, Grows, Puts, PutsClone
 use crate::VecMap;
 use std::alloc::AllocError;
 
-/// Inserts the pairs of an iterator in order, like the inherent [`VecMap::extend`].
+/// Inserts the pairs of an iterator in order, like the inherent [`VecMap::extend`], with the same cost.
 ///
 /// # Errors
 ///
@@ -22,10 +22,6 @@ use std::alloc::AllocError;
 /// # Conditions
 ///
 /// The iterator ends.
-///
-/// # Complexity
-///
-/// One lookup for each pair, with at most as many comparisons as the map then has pairs.
 ///
 /// # Examples
 ///
@@ -60,7 +56,7 @@ impl<K: Eq + Drop, V: Drop> Extend<(K, V)> for VecMap<K, V> {
 }
 
 /// Inserts clones of the keys and values of an iterator of references, in order, like the inherent
-/// [`VecMap::extend_refs`].
+/// [`VecMap::extend_refs`], with the same cost.
 ///
 /// # Errors
 ///
@@ -70,10 +66,6 @@ impl<K: Eq + Drop, V: Drop> Extend<(K, V)> for VecMap<K, V> {
 /// # Conditions
 ///
 /// The iterator ends.
-///
-/// # Complexity
-///
-/// One lookup for each pair, with at most as many comparisons as the map then has pairs.
 ///
 /// # Examples
 ///
@@ -107,7 +99,8 @@ impl<'a, K: Eq + Clone + 'a, V: Clone + 'a> Extend<(&'a K, &'a V)> for VecMap<K,
     }
 }
 
-/// Inserts clones of the pairs of an iterator of references, in order, like the inherent [`VecMap::extend_pairs`].
+/// Inserts clones of the pairs of an iterator of references, in order, like the inherent [`VecMap::extend_pairs`], with
+/// the same cost.
 ///
 /// # Errors
 ///
@@ -117,10 +110,6 @@ impl<'a, K: Eq + Clone + 'a, V: Clone + 'a> Extend<(&'a K, &'a V)> for VecMap<K,
 /// # Conditions
 ///
 /// The iterator ends.
-///
-/// # Complexity
-///
-/// One lookup for each pair, with at most as many comparisons as the map then has pairs.
 ///
 /// # Examples
 ///

@@ -204,11 +204,8 @@ impl<K, V> VecMap<K, V> {
 }
 
 impl<V> VecMap<String, V> {
-    /// Like [`VecMap::contains_key`], with the same cost, but a key matches if it has the bytes of `text`.
-    ///
-    /// # Complexity
-    ///
-    /// At most `len` comparisons. Does not allocate.
+    /// Like [`VecMap::contains_key`], with the same cost, but a key matches if it has the bytes of `text`. Does not
+    /// allocate.
     ///
     /// # Examples
     ///
@@ -222,11 +219,8 @@ impl<V> VecMap<String, V> {
         self.contains_key(text)
     }
 
-    /// Like [`VecMap::get`], with the same cost, but a key matches if it has the bytes of `text`.
-    ///
-    /// # Complexity
-    ///
-    /// At most `len` comparisons. Does not allocate.
+    /// Like [`VecMap::get`], with the same cost, but a key matches if it has the bytes of `text`. Does not
+    /// allocate.
     ///
     /// # Examples
     ///
@@ -240,11 +234,8 @@ impl<V> VecMap<String, V> {
         self.get(text)
     }
 
-    /// Like [`VecMap::get_index_of`], with the same cost, but a key matches if it has the bytes of `text`.
-    ///
-    /// # Complexity
-    ///
-    /// At most `len` comparisons. Does not allocate.
+    /// Like [`VecMap::get_index_of`], with the same cost, but a key matches if it has the bytes of `text`. Does not
+    /// allocate.
     ///
     /// # Examples
     ///

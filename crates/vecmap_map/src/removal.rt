@@ -306,11 +306,8 @@ impl<K, V> VecMap<K, V> {
 }
 
 impl<V> VecMap<String, V> {
-    /// Like [`VecMap::remove`], with the same cost, but a key matches if it has the bytes of `text`.
-    ///
-    /// # Complexity
-    ///
-    /// At most `len` comparisons, and one move for each pair that changes its index. Does not allocate.
+    /// Like [`VecMap::remove`], with the same cost, but a key matches if it has the bytes of `text`. Does not
+    /// allocate.
     ///
     /// # Examples
     ///
