@@ -3,10 +3,8 @@
 ghost use Rattle.std.specs.Prelude.{nat_eq};
 ghost use Rattle.std.specs.Cmp.{nat_eq_equiv, partial_equiv_from_equiv};
 
-use crate::item::Item;
-use crate::out::{Out, Outcome, again};
 use crate::pulls::Lent;
-use crate::stage::Set;
+use crate::{Item, Out, Outcome, Set, again};
 use std::alloc::AllocError;
 use vecmap::VecSet;
 
@@ -35,7 +33,7 @@ impl Eq for Plain {
 /// items.
 pub fn extend(
     set: &mut Set,
-    out: &mut Out<'_>,
+    out: &mut Out,
     name: &str,
     items: &[Item],
     hint: Option<usize>,
@@ -43,11 +41,7 @@ pub fn extend(
     let items = again!(plain_items(out, items));
     let mut plain = VecSet::from(again!(plain_items(out, set.as_slice())));
     again!(plain.reserve_exact(set.capacity().saturating_sub(set.len())));
-    let lent = Lent {
-        items: &items,
-        hint: hint.unwrap_or(items.len()),
-        log: out.log,
-    };
+    let lent = Lent::new(out.log, &items, hint);
     let extended = match name {
         "extend_copied" => plain.extend_copied(lent),
         _ => Extend::extend(&mut plain, lent),
@@ -61,12 +55,12 @@ pub fn extend(
 }
 
 // Returns copies without spare capacity.
-fn plain_items(out: &Out<'_>, items: &[Item]) -> Result<Vec<Plain>, AllocError> {
+fn plain_items(out: &Out, items: &[Item]) -> Result<Vec<Plain>, AllocError> {
     let mut copies = Vec::with_capacity(out.alloc, items.len())?;
     for item in items {
         copies.push(Plain {
-            number: item.number(),
-            mark: item.mark(),
+            number: item.number,
+            mark: item.mark,
         })?;
     }
     Ok(copies)
