@@ -1,4 +1,4 @@
-//! Commands that insert pairs.
+//! The insertion that `OrInsert` makes: of a pair whose key is new.
 ghost use Rattle.std.specs.Prelude.{◌≡◌, IfOk, OnErr, OnOk, is_some, not, unwrap_or};
 ghost use Rattle.vecmap_base.specs.Pairs.{index_of, index_or_length, lookup, put};
 ghost use Rattle.vecmap_map.specs.Contents.{KeepsRoom, Refuses};
