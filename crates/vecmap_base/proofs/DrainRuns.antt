@@ -8,11 +8,11 @@ use Rattle.vecmap_base.specs.Drain.{DrainsFirst, DrainsLast, KeepsAlong}
 use Rattle.vecmap_base.proofs.DrainLemmas.{end_turned, first_pulled, last_pulled, length_rest, none_left, part_at_end, parts_of_moved}
 
 module _ {D A : Type 0} (rest : D → List A) (Keeps : D → D → Type 0) where
-  -- Pulls from the front return the rest in order.
+  -- Calls of `next` return the rest in order.
   pub drains_in_order : YieldsInOrder (DrainsFirst rest Keeps) rest
   drains_in_order p s = as_is p (rest p.from) (from_front (DrainsFirst rest Keeps) (λ y. y) rest (λ s t h. ap length h.0) (λ s x t h. h.0) p s)
 
-  -- Pulls from the back return the rest in reverse.
+  -- Calls of `next_back` return the rest in reverse.
   pub drains_in_reverse : YieldsInReverse (DrainsLast rest Keeps) rest
   drains_in_reverse p s = as_is_back p (rest p.from) (from_back (DrainsLast rest Keeps) (λ y. y) rest (λ s t h. ap length h.0) (λ s x t h. h.0) p s)
 

@@ -59,7 +59,7 @@ module _ {X : Type 0} (same : X → X → Bool) (o : IsEquivalence same) where
   abbrev Matched : List X → List X → List X → List Bool → Type 0
   Matched a b rest marks = (length rest ≡ length (free b marks)) × ((z : X) → many same o a z + many same o (free b marks) z ≡ many same o b z + many same o rest z)
 
-  -- The item of `a` at `i` is matched with that of `b` at `j`.
+  -- The item of `a` at `i` is matched with the item of `b` at `j`.
   one_matched : (a b : List X) (i j : ℕ) (x : X) (marks : List Bool) → i < length a → x ≡ get_or a i x → j < length b → get_or marks j true ≡ false → same x (get_or b j x) ≡ true → Matched a b (drop i a) marks → Matched a b (drop (i + 1) a) (set marks j true)
   one_matched a b i j x marks within at j_within unmarked like m =
       let fewer = length_free b marks j j_within unmarked in (
@@ -101,7 +101,7 @@ module _ {X : Type 0} (same : X → X → Bool) (o : IsEquivalence same) where
   first_matched a b j x marks some as_long none at within unmarked like =
       one_matched a b 0 (1 + j) x marks some at (omega (arith, within, length-drop 1 b)) (sym (get_or_after_one marks j true) ∙ unmarked) (ap (same x) (sym (get_or_after_one b j x)) ∙ like) (none_matched a b marks as_long (no_marks b marks none))
 
-  -- The first item of `a` cannot be matched: it differs from the first of `b`, and from those behind that one.
+  -- The first item of `a` cannot be matched: it differs from the first of `b`, and from the items behind it.
   first_unmatched : (a b : List X) (x : X) (marks : List Bool) → 0 < length a → length a ≡ length b → marks ≡ replicate (length marks) false → x ≡ get_or a 0 x → same x (get_or b 0 x) ≡ false → list_any (same x) (free (drop 1 b) (drop 1 marks)) ≡ false → all_agree same o a a b ≡ false
   first_unmatched a b x marks some as_long none at differs absent =
       let behind : free (drop 1 b) (drop 1 marks) ≡ drop 1 b = ap (λ l. free (drop 1 b) (drop 1 l)) none ∙ ap (free (drop 1 b)) (drop-replicate 1 (length marks) false) ∙ free_unmarked (drop 1 b) (length marks - 1) in
@@ -109,8 +109,8 @@ module _ {X : Type 0} (same : X → X → Bool) (o : IsEquivalence same) where
       let all : list_any (same x) b ≡ false = at_drop_more (list_any (same x)) b 0 x (omega (arith, some, as_long)) ∙ ap (λ c. c || list_any (same x) (drop 1 b)) differs ∙ rest in
       unmatched a b 0 x marks some at (ap (list_any (same x)) (no_marks b marks none) ∙ all) (none_matched a b marks as_long (no_marks b marks none))
 
--- The same, where an item may differ from itself. Items are compared by `lumped`; those that are matched are equal to
--- themselves.
+-- The same, where an item may differ from itself. Items are compared by `lumped`; the items that are matched are equal
+-- to themselves.
 module _ {X : Type 0} (same : X → X → Bool) (o : IsPartialEquivalence same) where
   abbrev pub MatchedPartial : List X → List X → List X → List Bool → Type 0
   MatchedPartial a b rest marks = Matched (lumped same o) (lumped_laws same o) a b rest marks × (all_reflexive same o a ≡ all_reflexive same o rest)

@@ -2,7 +2,7 @@
 -- the part by the one next to it does the same.
 use Rattle.std.proofs.Common.{◌≡◌, ℕ, zero, suc, ◌+◌, ◌<◌, ◌≤◌, List, [], ◌∷◌, ◌++◌, ap, arith, append_assoc, drop, drop_at, get_or, insert, length, length-take-le, refl, remove, set, slice_get, Some, sym, take, take_at, ◌∙◌}
 use Rattle.std.proofs.lemmas.List.{drop-set-lt, get_or-set_same, take-set-le, take_more}
-use Rattle.std.proofs.lemmas.List.Edits.{insert_end, length-remove}
+use Rattle.std.proofs.lemmas.List.Edits.{length-remove}
 use Rattle.std.proofs.lemmas.Option.{slice_get-get_or}
 use Rattle.std.proofs.Math.Seq.{take-length}
 
@@ -44,8 +44,8 @@ module _ {X : Type 0} where
   not_moved (x ∷ xs) (suc from) zero d e within = absurd (omega arith)
   not_moved (x ∷ xs) (suc from) (suc to) d e within = ap (λ l. x ∷ l) (not_moved xs from to d (omega arith) (omega arith))
 
-  -- If at most one item follows the item at `i`, it makes no difference whether the others shift or the last takes its
-  -- place.
+  -- If at most one item follows the item at `i`, it makes no difference whether the others shift or the last moves to
+  -- its place.
   pub swap_removed_near_end : (xs : List X) (i last : ℕ) (d : X) → last + 1 ≡ length xs → i ≤ last → last ≤ i + 1 → take last (set xs i (get_or xs last d)) ≡ remove xs i
   swap_removed_near_end [] i last d e within near = absurd (omega arith)
   swap_removed_near_end (x ∷ []) zero zero d e within near = refl
@@ -134,15 +134,3 @@ module _ {X : Type 0} where
         sym (inserted_removed ys (suc from) x long) ∙ ap (λ l. remove l (suc from)) moved ∙ remove_after xs from to item order within,
         sym (found_after xs from to item order within) ∙ ap (λ l. slice_get l (suc from)) (sym moved) ∙ inserted_found ys (suc from) x long,
       )
-
-  -- The list without its last item, which was carried down to `i`.
-  pub carried_from_end : (xs ys zs : List X) (i end : ℕ) (last x : X) → xs ≡ ys ++ last ∷ [] → end ≡ length ys → i ≤ length zs → insert zs i x ≡ insert ys end last → (zs ≡ remove xs i) × (slice_get xs i ≡ Some x)
-  carried_from_end xs ys zs i end last x parts at_end long e =
-      let whole : insert zs i x ≡ xs = e ∙ ap (λ m. insert ys m last) at_end ∙ insert_end ys last ∙ sym parts in (
-        sym (inserted_removed zs i x long) ∙ ap (λ l. remove l i) whole,
-        ap (λ l. slice_get l i) (sym whole) ∙ inserted_found zs i x long,
-      )
-
-  -- The list with the item that was carried up to its end.
-  pub carried_to_end : (xs ys : List X) (i end : ℕ) (item x : X) → end ≡ length ys → insert ys end x ≡ insert xs i item → ys ++ x ∷ [] ≡ insert xs i item
-  carried_to_end xs ys i end item x at_end e = sym (insert_end ys x) ∙ sym (ap (λ m. insert ys m x) at_end) ∙ e

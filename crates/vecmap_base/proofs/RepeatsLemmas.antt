@@ -1,4 +1,4 @@
--- Lemmas about the removal of repeats in place, and about the number of its comparisons.
+-- Lemmas about the removal of duplicates in place, and about the number of its comparisons.
 pub mod Comparisons
 pub mod Cost
 pub mod Gather

@@ -20,10 +20,6 @@ module _ {F X : Type 0} (R : F → X → X → F → Type 0) where
   folds_updated f [] ys g k = sym k.1
   folds_updated f (x ∷ xs) ys g k = (k.2, (k.0, k.1, k.4), folds_updated k.2 xs k.3 g k.5)
 
-  -- No call yet.
-  pub none_updated : (f : F) (xs : List X) → UpdatedSoFar R f f xs xs 0
-  none_updated f xs = record { len = refl; rest = refl; run = (refl, refl) }
-
   module _ (f0 f : F) (xs ys : List X) (i : ℕ) (d : X) (so_far : UpdatedSoFar R f0 f xs ys i) (l : i < length xs) where
     within : i < length ys
     within = omega (arith, l, so_far.len)

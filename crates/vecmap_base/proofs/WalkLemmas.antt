@@ -5,7 +5,7 @@ use Rattle.std.proofs.lemmas.List.{map_push}
 use Rattle.std.specs.{List.AllZip, Map.values_of}
 use Rattle.std.specs.Map.Iter.{GivesInOrder, GivesInReverse, ShowsInOrder, ShowsInReverse, ShowsValuesInOrder, ShowsValuesInReverse, TakesFirst, TakesLast}
 use Rattle.std.specs.Iterator.Runs.{EveryRun, ItemsMapTo, ItemsMapToReversed}
-use Rattle.vecmap_base.specs.Walks.{TakesFirstOf, TakesLastOf}
+use Rattle.vecmap_base.specs.Iterators.{TakesFirstOf, TakesLastOf}
 
 -- Each run shows the list that was left.
 module _ {A X : Type 0} (shows : A → X) where

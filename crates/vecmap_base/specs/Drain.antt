@@ -4,13 +4,15 @@ use Rattle.std.specs.Prelude.{◌≡◌, List, [], ◌∷◌, ◌++◌, MatchOpt
 use Rattle.std.specs.Iterator.{Yields}
 
 module _ {D A : Type 0} (rest : D → List A) (Keeps : D → D → Type 0) where
-  -- A call of `next` in `s` returned the first item of the rest and left `t`. If nothing was left, it returned `None`
-  -- and changed nothing.
-  -- Example: from `[1,2,3]` the front is 1 and leaves `[2,3]`.
+  -- If nothing was left, it returned `None` and changed nothing.
+  -- Example: from `[1,2,3]`: 1, and `[2,3]` is left.
+  -- A call of `next` in `s` returned the first item of the rest and left `t`.
   abbrev pub DrainsFirst : D → Option A → D → Type 0
   DrainsFirst s r t = MatchOption r ((rest s ≡ []) × (t ≡ s)) (λ x. (rest s ≡ x ∷ rest t) × Keeps s t)
 
-  -- The same of `next_back`.
+  -- If nothing was left, it returned `None` and changed nothing.
+  -- Example: from `[1,2,3]`: 3, and `[1,2]` is left.
+  -- A call of `next_back` in `s` returned the last item of the rest and left `t`.
   abbrev pub DrainsLast : D → Option A → D → Type 0
   DrainsLast s r t = MatchOption r ((rest s ≡ []) × (t ≡ s)) (λ x. (rest s ≡ rest t ++ x ∷ []) × Keeps s t)
 

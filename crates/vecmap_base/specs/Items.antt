@@ -4,70 +4,69 @@ use Rattle.std.specs.List.{swap_remove}
 use Rattle.std.specs.Option.{option_and_then, option_map_or}
 use Rattle.std.specs.Set.{is_member}
 
--- The list `s` without the element at the index `i`; the last element takes its index.
 -- Example: at 0 of `[1,2,3]`: `[3,2]`.
+-- The list `s` without the element at the index `i`; the last element moves to its index.
 abbrev pub swap_without : {T : Type 0} → List T → ℕ → List T
 swap_without s i = option_map_or (λ x. swap_remove s i x) (slice_get s i) s
 
 module _ {T : Type 0} (test : T → Bool) where
-  -- The first element that passes the test.
   -- Example: an even one of `[1,2,4]`: 2.
+  -- The first element that passes the test.
   abbrev pub stored_first : List T → Option T
   stored_first s = option_and_then (slice_get s) (position test s)
 
-  -- The list `s` without the first element that passes the test.
   -- Example: an even one of `[1,2,3,4]`: `[1,3,4]`.
+  -- The list `s` without the first element that passes the test.
   abbrev pub without_first : List T → List T
   without_first s = option_map_or (λ i. remove s i) (position test s) s
 
-  -- The list `s` without the first element that passes the test; the last element takes its index.
   -- Example: an even one of `[1,2,3,4]`: `[1,4,3]`.
+  -- The list `s` without the first element that passes the test; the last element moves to its index.
   abbrev pub swap_without_first : List T → List T
   swap_without_first s = option_map_or (λ i. swap_without s i) (position test s) s
 
 module _ {T : Type 0} (eq : T → T → Bool) where
-  -- The index of the first element that is equal to `x`.
   -- Example: of `2` in `[1,2]`: 1.
+  -- The index of the first element that is equal to `x`.
   abbrev pub item_index : List T → T → Option ℕ
   item_index s x = position (eq x) s
 
-  -- The stored element that is equal to `x`.
   -- Example: of `1y` in `[1x]`: `1x`.
+  -- The stored element that is equal to `x`.
   abbrev pub stored_item : List T → T → Option T
   stored_item s x = stored_first (eq x) s
 
-  -- The list `s` with `x` added: nothing changes if an equal element is present, and a new element is appended.
   -- Example: `1y` to `[1x]`: `[1x]`.
+  -- The list `s` with `x` added: nothing changes if an equal element is present, and a new element is appended.
   abbrev pub add : List T → T → List T
   add s x = if is_member eq s x then s else s ++ x ∷ []
 
-  -- The list `s` with each of `xs` added, in order.
   -- Example: `[1x, 1y, 2]` to `[]`: `[1x, 2]`.
+  -- The list `s` with each of `xs` added, in order.
   abbrev pub adds : List T → List T → List T
   adds s xs = fold add s xs
 
-  -- The list `s` with `x` added as the new element: it replaces an equal element at its index, and is appended if there
-  -- is none.
   -- Example: `1y` to `[1x]`: `[1y]`.
+  -- The list `s` with `x` added as the new element: it replaces an equal one at its index, or is appended.
   abbrev pub put_item : List T → T → List T
   put_item s x = option_map_or (λ i. slice_set s i x) (item_index s x) (s ++ x ∷ [])
 
-  -- The list `s` without the element that is equal to `x`.
   -- Example: `1` of `[1,2,3]`: `[2,3]`.
+  -- The list `s` without the element that is equal to `x`.
   abbrev pub without_item : List T → T → List T
   without_item s x = without_first (eq x) s
 
-  -- The list `s` without the element that is equal to `x`; the last element takes its index.
   -- Example: `1` of `[1,2,3]`: `[3,2]`.
+  -- The list `s` without the element that is equal to `x`; the last element moves to its index.
   abbrev pub swap_without_item : List T → T → List T
   swap_without_item s x = swap_without_first (eq x) s
 
-  -- The elements of `a` that are in `b`, in the order of `a`.
   -- Example: of `[3,2,1]` and `[1,2]`: `[2,1]`.
+  -- The elements of `a` that are in `b`, in the order of `a`.
   abbrev pub both : List T → List T → List T
   both a b = filter (λ x. is_member eq b x) a
 
-  -- The elements of `a` that are not in `b`, in the order of `a`.
   -- Example: of `[3,2,1]` and `[1,2]`: `[3]`.
+  -- The elements of `a` that are not in `b`, in the order of `a`.
   abbrev pub only : List T → List T → List T
   only a b = filter (λ x. not (is_member eq b x)) a

@@ -3,21 +3,21 @@ use Rattle.std.specs.Prelude.{◌≡◌, ℕ, ◌≤◌, Bool, true, List, [], �
 use Rattle.std.specs.List.{FoldsTo}
 use Rattle.vecmap_base.specs.Asked.{SomeCall}
 
--- The calls at the items of `l`, in order, took the closure from `f` to `g`. The list `m` has the items for which it
--- returned `true`, as it left them.
+-- An item stays if the call at it returns `true`, as the call leaves it.
 -- Example: every second of `[1,2,3,4]`: `[2,4]`.
+-- The calls at the items of `l`, in order, took the closure from `f` to `g`, and kept the items `m`.
 abbrev pub Kept : {F X : Type 0} → (F → X → Bool → X → F → Type 0) → F → List X → List X → F → Type 0
 Kept R f [] m g = (m ≡ []) × (g ≡ f)
 Kept {F} {X} R f (x ∷ xs) m g = (b : Bool) × (y : X) × (h : F) × (rest : List X) × R f x b y h × Kept R h xs rest g × (m ≡ (if b then y ∷ rest else rest))
 
 module _ {F X : Type 0} (R : F → X → Bool → X → F → Type 0) where
-  -- Each call of the closure in the state `f` returns `true`, writes `h` of the item and leaves that state.
   -- Example: of a closure that sets each value to 0: `h` of `(1,5)` is `(1,0)`.
+  -- Each call of the closure in the state `f` returns `true`, writes `h` of the item and leaves that state.
   abbrev pub WritesItems : F → (X → X) → Type 0
   WritesItems f h = (x : X) (b : Bool) (y : X) (g : F) → R f x b y g → (b ≡ true) × (y ≡ h x) × (g ≡ f)
 
-  -- The closure was called for the first `i` items of `xs`, in order, which took it from `f0` to `f`. The first `k`
-  -- items of `ys` are those that were kept, as they were written. From `i` on, `ys` is `xs`.
+  -- The first `k` items of `ys` are the kept items, as they were written. From `i` on, `ys` is `xs`.
+  -- The closure was called for the first `i` items of `xs`, in order, which took it from `f0` to `f`.
   pub record KeptSoFar (f0 f : F) (xs ys : List X) (k i : ℕ) : Type 0 where
     pub bound : k ≤ i
     pub len : length ys ≡ length xs

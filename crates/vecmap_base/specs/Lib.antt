@@ -4,11 +4,10 @@ pub mod Clones
 pub mod Drain
 pub mod Equality
 pub mod Items
+pub mod Iterators
 pub mod Kept
-pub mod Lending
 pub mod Orders
 pub mod Pairs
 pub mod Ranges
 pub mod Repeats
 pub mod Updated
-pub mod Walks

@@ -8,8 +8,8 @@ use Rattle.std.specs.Option.{option_and_then, option_map, option_map_or}
 use Rattle.vecmap_base.specs.Items.{swap_without}
 
 module _ {K V : Type 0} where
-  -- The list `l` with `v` as the value at the index `i`.
   -- Example: `[(1,a)]` with b at 0: `[(1,b)]`.
+  -- The list `l` with `v` as the value at the index `i`.
   abbrev pub with_value : List (K × V) → ℕ → V → List (K × V)
   with_value l i v = option_map_or (λ p. slice_set l i (p.0, v)) (slice_get l i) l
 
@@ -17,106 +17,105 @@ module _ {K V : Type 0} where
   abbrev pub with_pair : List (K × V) → ℕ → K → V → List (K × V)
   with_pair l i k v = slice_set l i (k, v)
 
-  -- The value at the index `i`, if there is one.
   -- Example: at 1 in `[(1,a), (2,b)]`: b.
+  -- The value at the index `i`, if there is one.
   abbrev pub value_at : List (K × V) → ℕ → Option V
   value_at l i = option_map (λ p. p.1) (slice_get l i)
 
--- The list `l` with `g` of each value.
 -- Example: length of `[(1,[a]), (2,[])]`: `[(1,1), (2,0)]`.
+-- The list `l` with `g` of each value.
 abbrev pub map_values : {K V W : Type 0} → (V → W) → List (K × V) → List (K × W)
 map_values g l = map (λ p. (p.0, g p.1)) l
 
 module _ {K V : Type 0} (test : K → Bool) where
-  -- The index of the first pair whose key passes the test.
   -- Example: by a test for even keys in `[(1,a), (2,b)]`: 1.
+  -- The index of the first pair whose key passes the test.
   abbrev pub index_by : List (K × V) → Option ℕ
   index_by l = position (λ p. test p.0) l
 
-  -- The value of the first pair whose key passes the test.
   -- Example: of `1` in `[(1,a), (2,b), (3,c)]`: a.
+  -- The value of the first pair whose key passes the test.
   abbrev pub lookup_by : List (K × V) → Option V
   lookup_by l = option_and_then (value_at l) (index_by l)
 
-  -- The first pair whose key passes the test.
   -- Example: of `1` in `[(1,a), (2,b), (3,c)]`: `(1,a)`.
+  -- The first pair whose key passes the test.
   abbrev pub lookup_pair_by : List (K × V) → Option (K × V)
   lookup_pair_by l = option_and_then (slice_get l) (index_by l)
 
-  -- The list `l` without the first pair whose key passes the test.
   -- Example: of `1` in `[(1,a), (2,b), (3,c)]`: `[(2,b), (3,c)]`.
+  -- The list `l` without the first pair whose key passes the test.
   abbrev pub without_by : List (K × V) → List (K × V)
   without_by l = option_map_or (λ i. remove l i) (index_by l) l
 
-  -- The list `l` without the first pair whose key passes the test; the last pair takes its index.
   -- Example: of `1` in `[(1,a), (2,b), (3,c)]`: `[(3,c), (2,b)]`.
+  -- The list `l` without the first pair whose key passes the test; the last pair moves to its index.
   abbrev pub swap_without_by : List (K × V) → List (K × V)
   swap_without_by l = option_map_or (λ i. swap_without l i) (index_by l) l
 
 module _ {K V : Type 0} (eq : K → K → Bool) where
-  -- The index of the first pair whose key is equal to `k`.
   -- Example: of `2` in `[(1,a), (2,b), (2,c)]`: 1.
+  -- The index of the first pair whose key is equal to `k`.
   abbrev pub index_of : List (K × V) → K → Option ℕ
   index_of l k = index_by (eq k) l
 
-  -- The index of the first pair whose key is equal to `k`, or the length if there is none.
   -- Example: of `3` in `[(1,a), (2,b)]`: 2.
+  -- The index of the first pair whose key is equal to `k`, or the length if there is none.
   abbrev pub index_or_length : List (K × V) → K → ℕ
   index_or_length l k = unwrap_or (index_of l k) (length l)
 
-  -- The value of the first pair whose key is equal to `k`.
   -- Example: of `2` in `[(1,a), (2,b), (2,c)]`: b.
+  -- The value of the first pair whose key is equal to `k`.
   abbrev pub lookup : List (K × V) → K → Option V
   lookup l k = lookup_by (eq k) l
 
-  -- The first pair whose key is equal to `k`.
   -- Example: of `1y` in `[(1x,a)]`: `(1x,a)`.
+  -- The first pair whose key is equal to `k`.
   abbrev pub lookup_pair : List (K × V) → K → Option (K × V)
   lookup_pair l k = lookup_pair_by (eq k) l
 
-  -- The index and the value of the first pair whose key is equal to `k`.
   -- Example: of `1y` in `[(1x,a)]`: `(0,a)`.
+  -- The index and the value of the first pair whose key is equal to `k`.
   abbrev pub lookup_full : List (K × V) → K → Option (ℕ × V)
   lookup_full l k = option_and_then (λ i. option_map (λ v. (i, v)) (value_at l i)) (index_of l k)
 
-  -- The list `l` after an insertion: an existing key keeps its index and gets the value, and a new pair is appended.
   -- Example: `1y, b` into `[(1x,a)]`: `[(1x,b)]`.
+  -- The list `l` after an insertion: an existing key keeps its index and gets the value, and a new pair is appended.
   abbrev pub put : List (K × V) → K → V → List (K × V)
   put l k v = option_map_or (λ i. with_value l i v) (index_of l k) (l ++ (k, v) ∷ [])
 
-  -- The list `l` after the insertion of each of the pairs, in order.
   -- Example: `[(1x,a), (2,b), (1y,c)]` into `[]`: `[(1x,c), (2,b)]`.
+  -- The list `l` after the insertion of each of the pairs, in order.
   abbrev pub puts : List (K × V) → List (K × V) → List (K × V)
   puts l pairs = fold (λ done p. put done p.0 p.1) l pairs
 
-  -- The list `l` after an insertion that stores the new key too: `(k, v)` replaces the pair of an equal key at its
-  -- index, and a new pair is appended.
   -- Example: `1y, b` into `[(1x,a)]`: `[(1y,b)]`.
+  -- The list `l` after `(k, v)` has replaced the pair of an equal key, at its index, or was appended.
   abbrev pub put_key : List (K × V) → K → V → List (K × V)
   put_key l k v = option_map_or (λ i. with_pair l i k v) (index_of l k) (l ++ (k, v) ∷ [])
 
-  -- The list `l` after an insertion of `(k, v)` at the index `i`: the pair of an equal key is removed first, and then
-  -- the new pair is inserted at `i`, or at the end if `i` is past it.
+  -- The pair of an equal key is removed first. If `i` is past the end of what is left, the new pair is appended.
   -- Example: `1y, d` at 3 into `[(1x,a), (2,b), (3,c)]`: `[(2,b), (3,c), (1y,d)]`.
+  -- The list `l` after an insertion of `(k, v)` at the index `i`.
   abbrev pub put_at : List (K × V) → ℕ → K → V → List (K × V)
   put_at l i k v = option_map_or (λ j. insert (remove l j) (min i (length l - 1)) (k, v)) (index_of l k) (insert l i (k, v))
 
-  -- The list `l` without the first pair whose key is equal to `k`.
   -- Example: `1` of `[(1,a), (2,b)]`: `[(2,b)]`.
+  -- The list `l` without the first pair whose key is equal to `k`.
   abbrev pub without_key : List (K × V) → K → List (K × V)
   without_key l k = without_by (eq k) l
 
-  -- The list `l` without the first pair whose key is equal to `k`; the last pair takes its index.
   -- Example: `1` of `[(1,a), (2,b), (3,c)]`: `[(3,c), (2,b)]`.
+  -- The list `l` without the first pair whose key is equal to `k`; the last pair moves to its index.
   abbrev pub swap_without_key : List (K × V) → K → List (K × V)
   swap_without_key l k = swap_without_by (eq k) l
 
-  -- No two indices hold equal keys.
   -- Example: false of `[(1x,a), (1y,b)]`.
+  -- No two indices hold equal keys.
   abbrev pub HasDistinctKeys : List (K × V) → Type 0
   HasDistinctKeys l = IsDistinct eq (keys_of l)
 
+-- Example: true of the text `b` and the key `"b"`.
 -- The key has these bytes.
--- Example: by the text `b` in `[("a",1), ("b",2)]`: 1.
 abbrev pub has_text : {A : Type 0} → List ℕ → String A → Bool
 has_text text key = bytes_eq (string_bytes key) text

@@ -6,25 +6,24 @@ use Rattle.vecmap_base.specs.Asked.{CallableOnEach}
 use Rattle.vecmap_base.specs.Kept.{Kept}
 
 module _ {F X : Type 0} (R : F → X → X → F → Type 0) where
-  -- Calls that return nothing, as those of a retaining closure that keeps each item.
+  -- Calls that return nothing, seen as the calls of a retaining closure that keeps each item.
   abbrev pub Keeping : F → X → Bool → X → F → Type 0
   Keeping f x b y g = R f x y g × (b ≡ true)
 
-  -- The calls at the items of `l`, in order, took the closure from `f` to `g`. The list `m` has the items as they left
-  -- them.
   -- Example: a closure that adds 1 to each value, of `[(1,5), (2,6)]`: `[(1,6), (2,7)]`.
+  -- The calls at the items of `l`, in order, took the closure from `f` to `g`, and left the items as in the list `m`.
   abbrev pub Updated : F → List X → List X → F → Type 0
   Updated = Kept Keeping
 
-  -- The closure was called for the first `i` items of `xs`, in order, which took it from `f0` to `f`. The list `ys` has
-  -- these items as the calls left them, and the others as they were.
+  -- The list `ys` has the items that were passed as the calls left them, and the others as they were.
+  -- The closure was called for the first `i` items of `xs`, in order, which took it from `f0` to `f`.
   pub record UpdatedSoFar (f0 f : F) (xs ys : List X) (i : ℕ) : Type 0 where
     pub len : length ys ≡ length xs
     pub rest : drop i ys ≡ drop i xs
     pub run : Updated f0 (take i xs) (take i ys) f
 
-  -- Each call of the closure in the state `f` writes `h` of the item, and leaves that state.
   -- Example: of a closure that adds 1 to the value, and of one that also counts its calls: `h` of `(1,5)` is `(1,6)`.
+  -- Each call of the closure in the state `f` writes `h` of the item, and leaves that state.
   abbrev pub Computes : F → (X → X) → Type 0
   Computes f h = (x y : X) (g : F) → R f x y g → (y ≡ h x) × (g ≡ f)
 
@@ -46,20 +45,20 @@ module _ {F K V R : Type 0} (c : Mut F (Bor K × (MutBor V × Unit {0})) (R × (
     pub called : Called c f (key, (value, tt)) (r, (left, tt)) g
     pub leaves : left.now ≡ w
 
-  -- A call at the pair `p` may return `r`, and leave the pair `q`, with the same key, and the closure `g`.
   -- Example: a closure that adds 1 to the value: from `(1,5)` to `(1,6)`.
+  -- A call at the pair `p` may return `r`, and leave the pair `q`, with the same key, and the closure `g`.
   abbrev pub WritesValueAt : R → F → K × V → K × V → F → Type 0
   WritesValueAt r f p q g = WritesValue r f p.0 p.1 q.1 g × (q.0 ≡ p.0)
 
-  -- The closure may be called at each pair of `l`, in the state that the calls before have left, which returned `r`.
   -- Example: a closure that adds 1 may be called at pairs whose values are below the greatest.
+  -- The closure may be called at each pair of `l`, in the state that the calls before have left, which returned `r`.
   abbrev pub CallableOnValues : R → F → List (K × V) → Type 0
   CallableOnValues r f l = CallableOnEach (Keeping (WritesValueAt r)) TakesValueAt f l
 
 module _ {F K V E : Type 0} (c : Mut F (Bor K × (MutBor V × Unit {0})) (Result (Unit {0}) E × (MutBor V × Unit {0}))) where
-  -- The calls at the first pairs of `l` returned `Ok`, and the next one `e`. The list `m` has these pairs as the calls
-  -- left them, and the others as they were.
+  -- The list `m` has the pairs that were passed as the calls left them, and the others as they were.
   -- Example: a closure that adds 1 below 9, of `[(1,5), (2,9), (3,5)]`: `[(1,6), (2,9), (3,5)]`.
+  -- The calls at the first pairs of `l` returned `Ok`, and the next one `e`.
   pub record StoppedAt (e : E) (f : F) (l m : List (K × V)) : Type 0 where
     pub before : List (K × V)
     pub after : List (K × V)

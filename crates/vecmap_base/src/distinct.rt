@@ -1,13 +1,13 @@
-//! Tests whether a list has repeats.
+//! Tests whether a list has duplicates.
 ghost use Rattle.std.specs.Prelude.{◌↔◌, IsTrue};
 ghost use Rattle.std.specs.List.{IsDistinct};
 ghost use Rattle.vecmap_base.specs.Pairs.{HasDistinctKeys};
 
 use crate::lookup::{find, find_item};
 
-/// Returns `true` if no two pairs have equal keys.
+/// Returns `true` if all keys are distinct: there is no duplicate key.
 ///
-/// Compares each key with those after it, and stops at the first that is equal to one of them.
+/// Compares each key with the keys after it, and stops at the first duplicate.
 ///
 /// # Complexity
 ///
@@ -30,9 +30,9 @@ pub fn keys_distinct<K: Eq, V>(pairs: &[(K, V)]) -> bool
     true
 }
 
-/// Returns `true` if no two items are equal.
+/// Returns `true` if all items are distinct: there is no duplicate.
 ///
-/// Compares each item with those after it, and stops at the first that is equal to one of them.
+/// Compares each item with the items after it, and stops at the first duplicate.
 ///
 /// # Complexity
 ///

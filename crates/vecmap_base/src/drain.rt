@@ -13,7 +13,7 @@ const MAX_BYTES_FOR_REVERSALS: usize = 2048;
 ///
 /// The others keep their order.
 ///
-/// # Conditions
+/// # Preconditions
 ///
 /// `start` is at most `end`, and `end` is at most `items.len()`.
 ///
@@ -52,7 +52,7 @@ pub fn move_range_last<T>(items: &mut Vec<T>, start: usize, end: usize) -> usize
 
 /// Reverses the items from `start` on.
 ///
-/// # Conditions
+/// # Preconditions
 ///
 /// `start` is at most `items.len()`.
 ///

@@ -14,18 +14,18 @@ const MARKS_LARGE: usize = 1024;
 
 /// Returns `true` if each pair of either list, by its key and its value, occurs equally often in both.
 ///
-/// A pair whose value differs from itself, as a NaN does, is equal to no pair. A list with such a pair is equal to no
+/// A pair whose value differs from itself, such as a NaN, is equal to no pair. A list with such a pair is equal to no
 /// list.
 ///
 /// If the lengths differ, nothing is compared. Otherwise, the call skips the equal pairs at the front of both lists. It
-/// then matches the remaining pairs one to one, each pair with the first one that has the same key and value and is
+/// then matches the remaining pairs one to one, each pair with the first pair that has the same key and value and is
 /// still free.
 ///
 /// # Complexity
 ///
 /// For two lists of n pairs that are equal in the same order, n comparisons of keys. If at most 1,024 pairs remain, at
-/// most n² comparisons, and at most n(n + 1)/2 if the lists are equal and no keys repeat. If more remain, the call
-/// counts each pair in both lists, with at most 2n² + 1 comparisons. Does not allocate.
+/// most n² comparisons, and at most n(n + 1)/2 if the lists are equal and their keys are distinct. If more remain, the
+/// call counts each pair in both lists, with at most 2n² + 1 comparisons. Does not allocate.
 ///
 /// # Examples
 ///

@@ -135,7 +135,7 @@ impl<'b> Equivalent<CowStr<'b>> for &str {
         nat_list_eq_equiv.congr query.now (cow_str_bytes x) (cow_str_bytes y) };
 }
 
-/// Matches each vector whose items are equal to those of the query, index by index.
+/// Matches each vector whose items are equal to the items of the query, index by index.
 impl<T: Eq> Equivalent<Vec<T>> for &[T] {
     ghost equivalent = { λ query key. pointwise T.eq query.now key.items };
 
@@ -147,7 +147,7 @@ impl<T: Eq> Equivalent<Vec<T>> for &[T] {
     ghost respects_eq = { λ query x y. (lists_equiv T.Eq.laws).congr query.now x.items y.items };
 }
 
-/// Matches each boxed slice whose items are equal to those of the query, index by index.
+/// Matches each boxed slice whose items are equal to the items of the query, index by index.
 impl<T: Eq> Equivalent<BoxedSlice<T>> for &[T] {
     ghost equivalent = { λ query key. pointwise T.eq query.now (boxed_slice_items key) };
 
@@ -160,7 +160,7 @@ impl<T: Eq> Equivalent<BoxedSlice<T>> for &[T] {
         (lists_equiv T.Eq.laws).congr query.now (boxed_slice_items x) (boxed_slice_items y) };
 }
 
-/// Matches each `RcSlice` whose items are equal to those of the query, index by index.
+/// Matches each `RcSlice` whose items are equal to the items of the query, index by index.
 impl<T: Eq> Equivalent<RcSlice<T>> for &[T] {
     ghost equivalent = { λ query key. pointwise T.eq query.now (rc_slice_items key) };
 
@@ -173,7 +173,7 @@ impl<T: Eq> Equivalent<RcSlice<T>> for &[T] {
         (lists_equiv T.Eq.laws).congr query.now (rc_slice_items x) (rc_slice_items y) };
 }
 
-/// Matches each `ArcSlice`, which threads may share, whose items are equal to those of the query, index by index.
+/// Matches each `ArcSlice`, which threads may share, whose items are equal to the items of the query, index by index.
 impl<T: Eq> Equivalent<ArcSlice<T>> for &[T] {
     ghost equivalent = { λ query key. pointwise T.eq query.now (arc_slice_items key) };
 
@@ -186,7 +186,7 @@ impl<T: Eq> Equivalent<ArcSlice<T>> for &[T] {
         (lists_equiv T.Eq.laws).congr query.now (arc_slice_items x) (arc_slice_items y) };
 }
 
-/// Matches each `Box` whose value is equal to that of the query.
+/// Matches each `Box` whose value is equal to the value of the query.
 impl<T: Eq> Equivalent<Box<T>> for &T {
     ghost equivalent = { λ query key. T.eq query.now key.value };
 
@@ -198,7 +198,7 @@ impl<T: Eq> Equivalent<Box<T>> for &T {
     ghost respects_eq = { λ query x y. T.Eq.laws.congr query.now x.value y.value };
 }
 
-/// Matches each `Rc` whose value is equal to that of the query.
+/// Matches each `Rc` whose value is equal to the value of the query.
 impl<T: Eq> Equivalent<Rc<T>> for &T {
     ghost equivalent = { λ query key. T.eq query.now key.value };
 
@@ -210,7 +210,7 @@ impl<T: Eq> Equivalent<Rc<T>> for &T {
     ghost respects_eq = { λ query x y. T.Eq.laws.congr query.now x.value y.value };
 }
 
-/// Matches each `Arc`, which threads may share, whose value is equal to that of the query.
+/// Matches each `Arc`, which threads may share, whose value is equal to the value of the query.
 impl<T: Eq> Equivalent<Arc<T>> for &T {
     ghost equivalent = { λ query key. T.eq query.now key.value };
 
@@ -222,7 +222,7 @@ impl<T: Eq> Equivalent<Arc<T>> for &T {
     ghost respects_eq = { λ query x y. T.Eq.laws.congr query.now x.value y.value };
 }
 
-/// Matches each pair of keys that its two queries match, the first one the first key and the second one the second.
+/// Matches each pair of keys whose first key matches the first query, and whose second key matches the second query.
 ///
 /// So two texts find a key `(String, String)`.
 ///

@@ -1,9 +1,10 @@
 //! Searches of a slice for the first key or item that is equal to one, has the bytes of a text, or matches a query.
 //!
-//! Four functions return whether an item is present. They differ in speed alone:
+//! Four functions return whether an item is present. The first takes a query. The others take an item, and differ in
+//! speed alone:
 //!
-//! - `contains_equivalent` takes a query, and chooses between a plain loop and `is_any_in_blocks`.
-//! - `contains_item` is the same for an item. It is not inlined.
+//! - `contains_equivalent` chooses between a plain loop and `is_any_in_blocks`.
+//! - `contains_item` calls it with the item as the query.
 //! - `contains_item_inline` inlines a plain loop over few items, and calls `contains_item` for more.
 //! - `contains_by_loop` is that plain loop.
 ghost use Rattle.std.specs.Prelude.{◌≡◌, ◌<◌, IfSome, length, position};
@@ -186,7 +187,7 @@ pub fn find_equivalent<K: Eq, V, Q: Equivalent<K>>(pairs: &[(K, V)], query: Q) -
 /// # Complexity
 ///
 /// At most `items.len()` comparisons. Among 32 items or more, of at most 8 bytes each, up to seven of them come after
-/// the one that matches.
+/// the match.
 ///
 /// # Examples
 ///
@@ -198,7 +199,7 @@ pub fn find_item_equivalent<T: Eq, Q: Equivalent<T>>(items: &[T], query: Q) -> O
     ensures index { result ≡ position (Q.equivalent query) items.now }
     ensures within { IfSome result (λ i. i < length items.now) }
 {
-    if items.len() >= MIN_LENGTH_FOR_FOURS && items.first().is_some_and(is_small) {
+    if are_small(items, MIN_LENGTH_FOR_FOURS) {
         if items.len() >= MIN_LENGTH_FOR_EIGHTS {
             return find_item_of_many(items, query);
         }
@@ -243,7 +244,7 @@ fn find_item_of_many<T: Eq, Q: Equivalent<T>>(items: &[T], query: Q) -> Option<u
 pub fn contains_equivalent<T: Eq, Q: Equivalent<T>>(items: &[T], query: Q) -> bool
     ensures { result ≡ list_any (Q.equivalent query) items.now }
 {
-    if items.len() >= MIN_LENGTH_FOR_BLOCKS && items.first().is_some_and(is_small) {
+    if are_small(items, MIN_LENGTH_FOR_BLOCKS) {
         return is_any_in_blocks(
             items,
             |item: &T| -> bool

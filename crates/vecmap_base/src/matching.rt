@@ -5,8 +5,8 @@ ghost use Rattle.vecmap_base.specs.Equality.{FirstDiffer, counts_agree, free, sa
 
 use crate::lookup::find;
 
-// Like `pairs_match`, with `N` marks. It is a call of its own: a function makes all its arrays when it begins, also
-// those of branches that it does not take.
+// Like `pairs_match`, with `N` marks. It is a separate function, because a function creates all its arrays when it
+// begins, also the arrays of branches that are not executed.
 #[inline(never)]
 pub(crate) fn pairs_match_by_marks<const N: usize, K: Eq, V: PartialEq>(
     a: &[(K, V)],

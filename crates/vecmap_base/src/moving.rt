@@ -24,7 +24,7 @@ const BYTES_OF_PART: usize = 2048;
 ///
 /// The items between the two indices shift by one index.
 ///
-/// # Conditions
+/// # Preconditions
 ///
 /// Both `from` and `to` are less than `items.len()`.
 ///
@@ -61,7 +61,7 @@ pub fn replace_and_move<T>(items: &mut Vec<T>, from: usize, to: usize, item: T) 
 ///
 /// The items after it shift by one index to the left.
 ///
-/// # Conditions
+/// # Preconditions
 ///
 /// `index` is less than `items.len()`.
 ///
@@ -77,13 +77,14 @@ pub fn replace_and_move<T>(items: &mut Vec<T>, from: usize, to: usize, item: T) 
 /// remove_item(&mut items, 0) // 'a'
 /// items.as_slice() // ['b', 'c']
 /// ```
+#[inline(always)]
 pub fn remove_item<T>(items: &mut Vec<T>, index: usize) -> T
     requires within { index < length items.old.items }
     ensures item { slice_get items.old.items index ≡ Some result }
     ensures items { items.new.items ≡ remove items.old.items index }
     ensures capacity { vec_capacity items.new ≡ vec_capacity items.old }
 {
-    // If one item follows, it takes the index of the removed one. If none follows, nothing moves.
+    // If one item follows, it moves to the index of the removed item. If none follows, nothing moves.
     if items.len() - index <= 2 {
         return items.swap_remove(index);
     }
@@ -95,7 +96,7 @@ pub fn remove_item<T>(items: &mut Vec<T>, index: usize) -> T
 ///
 /// The items from `index` on shift by one index to the right.
 ///
-/// # Conditions
+/// # Preconditions
 ///
 /// `index` is at most `items.len()`. The vector has spare capacity for one more item.
 ///
@@ -128,7 +129,8 @@ pub fn insert_reserved<T>(items: &mut Vec<T>, index: usize, item: T)
     items[index..].rotate_right(1);
 }
 
-// Like `remove_item`, by one rotation of the item and those after it. Large items move by `Vec::remove`.
+// Like `remove_item`, by one rotation of the item and the items after it. Large items move by `Vec::remove`.
+#[inline]
 fn remove_and_shift<T>(items: &mut Vec<T>, index: usize) -> T
     requires within { index < length items.old.items }
     ensures item { slice_get items.old.items index ≡ Some result }
@@ -144,7 +146,7 @@ fn remove_and_shift<T>(items: &mut Vec<T>, index: usize) -> T
 }
 
 // Moves the item at `from` towards the end, by one rotation for each part of the list, and returns its new index. At
-// most a part follows it then. The kit moves all items in such parts, too, but as it knows the length of a part, LLVM
+// most one part then follows it. The kit moves all items in such parts, too, but as it knows the length of a part, LLVM
 // copies each item by itself.
 fn move_by_parts<T>(items: &mut [T], from: usize) -> usize
     requires { from < length items.old }
@@ -165,8 +167,8 @@ fn move_by_parts<T>(items: &mut [T], from: usize) -> usize
     at
 }
 
-// Puts `item` at the index before `end`, each item from there down to `from` at the index before its own, and returns
-// the item at `from`. If `from` is `end`, `item` is returned.
+// Shifts the items of `from..end` by one index to the left, appends `item` to them, and returns the item that was at
+// `from`. If `from` is `end`, returns `item`.
 fn carry_left<T>(items: &mut [T], from: usize, end: usize, item: T) -> T
     requires order { from ≤ end }
     requires within { end ≤ length items.old }
@@ -180,8 +182,8 @@ fn carry_left<T>(items: &mut [T], from: usize, end: usize, item: T) -> T
     carried
 }
 
-// Puts `item` at `from`, each item from there up to `end` at the index after its own, and returns the one before `end`.
-// If `from` is `end`, `item` is returned.
+// Shifts the items of `from..end` by one index to the right, stores `item` at `from`, and returns the item that was
+// last. If `from` is `end`, returns `item`.
 fn carry_right<T>(items: &mut [T], from: usize, end: usize, item: T) -> T
     requires order { from ≤ end }
     requires within { end ≤ length items.old }

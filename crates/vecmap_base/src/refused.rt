@@ -1,4 +1,4 @@
-//! The error of a refused insertion, with what was passed to the call.
+//! The error of an insertion that ran out of memory, with what was passed to the call.
 use std::alloc::AllocError;
 use std::error::Error;
 use std::{fmt, io};
@@ -32,7 +32,7 @@ impl<T: Drop> From<Refused<T>> for AllocError {
 
 /// Converts the error into an `io::Error`, and drops the value in it.
 ///
-/// The new error is of the kind `OutOfMemory`, as that of an `AllocError` is.
+/// The new error has the kind `OutOfMemory`, like the conversion of an `AllocError`.
 ///
 /// # Examples
 ///

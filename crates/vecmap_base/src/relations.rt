@@ -19,14 +19,14 @@ use crate::unrolled::is_any_in_blocks;
 /// # Examples
 ///
 /// ```
-/// are_within(&[2, 1], &[1, 2, 3]) // true
+/// is_subset_of(&[2, 1], &[1, 2, 3]) // true
 /// ```
 #[inline(always)]
-pub fn are_within<T: Eq>(items: &[T], others: &[T]) -> bool
+pub fn is_subset_of<T: Eq>(items: &[T], others: &[T]) -> bool
     ensures { result ≡ is_within T.eq items.now others.now }
 {
     if are_small(others, MIN_LENGTH_FOR_CALL) {
-        return are_within_blocks(items, others);
+        return is_subset_in_blocks(items, others);
     }
     items.iter().all(|item| contains_by_loop(others, item))
 }
@@ -62,10 +62,10 @@ fn overlap<T: Eq>(items: &[T], others: &[T]) -> bool
     items.iter().any(|item| contains_by_loop(others, item))
 }
 
-// The same as `are_within`, for small others. It is not inlined, so that its loop does not depend on the code around
+// The same as `is_subset_of`, for small others. It is not inlined, so that its loop does not depend on the code around
 // it. The inner loop is, as no other function has this closure.
 #[inline(never)]
-fn are_within_blocks<T: Eq>(items: &[T], others: &[T]) -> bool
+fn is_subset_in_blocks<T: Eq>(items: &[T], others: &[T]) -> bool
     ensures { result ≡ is_within T.eq items.now others.now }
 {
     items.iter().all(|item| {

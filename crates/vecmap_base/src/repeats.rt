@@ -1,7 +1,7 @@
-//! Removal of repeats in place. Nothing is shifted, and one truncation at the end removes the repeats.
+//! Removal of duplicates in place. Nothing is shifted, and one truncation at the end removes the duplicates.
 //!
-//! Each item is compared with those before it that stay, in order, up to the first equal one. So n items take at most
-//! n(n-1)/2 comparisons, and exactly as many if no two are equal (a law of `vecmap_laws`).
+//! Each item is compared with the kept items before it, in order, up to the first equal one. So n items need at most
+//! n(n-1)/2 comparisons, and exactly as many if all are distinct (a law of `vecmap_laws`).
 ghost use Rattle.std.specs.Prelude.{◌≡◌, ◌+◌, ◌<◌, ◌≤◌, [], IfSome, length, swap, take, vec_capacity};
 ghost use Rattle.std.specs.List.Sorted.{IsPermutation};
 ghost use Rattle.std.specs.Map.{keys_of, values_of};
@@ -57,17 +57,17 @@ fn swap_values<K, V>(pairs: &mut [(K, V)], i: usize, j: usize)
 
 /// Moves the first pair of each key to the front, with the last value of that key, and returns their number.
 ///
-/// The pairs at the front keep their order. They are what the insertion of all pairs, in order, leaves. All keys and
-/// all values stay in the slice, rearranged.
+/// The pairs at the front keep their order. They are the pairs that a map has after the insertion of all pairs, in
+/// order. All keys and all values stay in the slice, rearranged.
 ///
-/// # Conditions
+/// # Preconditions
 ///
 /// The count of `steps`, plus n(n-1)/2 for n pairs, is at most `u128::MAX`. This always holds for a new [`Steps`].
 ///
 /// # Complexity
 ///
-/// Compares each key with those before it that stay, up to the first equal one. For n pairs, at most n(n-1)/2
-/// comparisons, and exactly as many if no two keys are equal. Does not allocate.
+/// Compares each key with the kept keys before it, up to the first equal one: at most n(n-1)/2 comparisons for n pairs,
+/// and exactly as many if all keys are distinct. Does not allocate.
 ///
 /// # Examples
 ///
@@ -98,18 +98,18 @@ pub fn gather_pairs<K: Eq, V>(pairs: &mut [(K, V)], steps: &mut Steps) -> usize
     kept
 }
 
-/// Moves each item that is equal to no earlier one to the front, and returns their number.
+/// Moves each item that is equal to no earlier item to the front, and returns their number.
 ///
 /// The items at the front keep their order. All items stay in the slice, rearranged.
 ///
-/// # Conditions
+/// # Preconditions
 ///
 /// The count of `steps`, plus n(n-1)/2 for n items, is at most `u128::MAX`. This always holds for a new [`Steps`].
 ///
 /// # Complexity
 ///
-/// Compares each item with those before it that stay, up to the first equal one. For n items, at most n(n-1)/2
-/// comparisons, and exactly as many if no two are equal. Does not allocate.
+/// Compares each item with the kept items before it, up to the first equal one: at most n(n-1)/2 comparisons for n
+/// items, and exactly as many if all are distinct. Does not allocate.
 ///
 /// # Examples
 ///
@@ -136,19 +136,19 @@ pub fn gather_items<T: Eq>(items: &mut [T], steps: &mut Steps) -> usize
     kept
 }
 
-/// Keeps only the first pair of each key, with the last value of that key.
+/// Removes pairs with duplicate keys: keeps the first pair of each key, with the last value of that key.
 ///
-/// The kept pairs keep their order. They are what the insertion of all pairs, in order, leaves. The other keys and
-/// values are dropped, none of them before the last comparison.
+/// The kept pairs keep their order. They are the pairs that a map has after the insertion of all pairs, in order. The
+/// other keys and values are dropped, none of them before the last comparison.
 ///
-/// # Conditions
+/// # Preconditions
 ///
 /// The count of `steps`, plus n(n-1)/2 for n pairs, is at most `u128::MAX`. This always holds for a new [`Steps`].
 ///
 /// # Complexity
 ///
-/// Compares each key with those before it that stay, up to the first equal one. For n pairs, at most n(n-1)/2
-/// comparisons, and exactly as many if no two keys are equal. Does not allocate.
+/// Compares each key with the kept keys before it, up to the first equal one: at most n(n-1)/2 comparisons for n pairs,
+/// and exactly as many if all keys are distinct. Does not allocate.
 ///
 /// # Examples
 ///
@@ -167,18 +167,18 @@ pub fn dedup_keep_last_value<K: Eq + Drop, V: Drop>(pairs: &mut Vec<(K, V)>, ste
     pairs.truncate(kept);
 }
 
-/// Keeps only the items that are equal to no earlier one.
+/// Removes duplicates: keeps the items that are equal to no earlier item.
 ///
 /// The kept items keep their order. The other items are dropped, none of them before the last comparison.
 ///
-/// # Conditions
+/// # Preconditions
 ///
 /// The count of `steps`, plus n(n-1)/2 for n items, is at most `u128::MAX`. This always holds for a new [`Steps`].
 ///
 /// # Complexity
 ///
-/// Compares each item with those before it that stay, up to the first equal one. For n items, at most n(n-1)/2
-/// comparisons, and exactly as many if no two are equal. Does not allocate.
+/// Compares each item with the kept items before it, up to the first equal one: at most n(n-1)/2 comparisons for n
+/// items, and exactly as many if all are distinct. Does not allocate.
 ///
 /// # Examples
 ///

@@ -10,7 +10,7 @@ ghost use Rattle.vecmap_base.specs.Kept.{Kept, KeptSoFar};
 /// Calls `f` once for each pair, in order, in the state that the calls before have left. The capacity does not change.
 /// The other pairs are dropped at the end.
 ///
-/// # Conditions
+/// # Preconditions
 ///
 /// `f` can be called for each pair, in the state that the calls before have left.
 ///
@@ -39,7 +39,7 @@ pub fn retain_pairs<K: Drop, V: Drop, F: FnMut(&K, &mut V) -> bool + Drop>(
 
 /// Like [`retain_pairs`], but `f` can also write the key.
 ///
-/// # Conditions
+/// # Preconditions
 ///
 /// `f` can be called for each pair, in the state that the calls before have left.
 ///
@@ -67,7 +67,7 @@ pub fn retain_pairs_mut<K: Drop, V: Drop, F: FnMut(&mut K, &mut V) -> bool + Dro
 /// Calls `f` once for each item, in order, in the state that the calls before have left. The capacity does not change.
 /// The other items are dropped at the end.
 ///
-/// # Conditions
+/// # Preconditions
 ///
 /// `f` can be called for each item, in the state that the calls before have left.
 ///
@@ -90,9 +90,9 @@ pub fn retain_items<T: Drop, F: FnMut(&T) -> bool + Drop>(items: &mut Vec<T>, f:
     retain::<_, Item, _>(items, f);
 }
 
-// A closure that is asked whether an item stays. `Form` says how it takes the item.
+// A closure that decides whether an item stays. `Form` says how the item is passed to it.
 trait Predicate<X, Form>: Drop {
-    // It may be asked about this item.
+    // It can be called with this item.
     ghost accepts: { Self → X → Type 0 };
 
     // A call at this item may return this, and leave this item and this closure.
@@ -103,13 +103,13 @@ trait Predicate<X, Form>: Drop {
         ensures { step self.old item.old result item.new self.new };
 }
 
-// It takes a key and its value, and can write the value.
+// A key and its value are passed, and the closure can write the value.
 struct Pair;
 
-// It takes a key and its value, and can write both.
+// A key and its value are passed, and the closure can write both.
 struct PairMut;
 
-// It takes an item, and writes nothing.
+// An item is passed, and the closure writes nothing.
 struct Item;
 
 impl<K, V, F: FnMut(&K, &mut V) -> bool + Drop> Predicate<(K, V), Pair> for F {
@@ -145,7 +145,7 @@ impl<T, F: FnMut(&T) -> bool + Drop> Predicate<T, Item> for F {
     }
 }
 
-// Retains the items that `asked` keeps. No item moves before the first that it refuses.
+// Retains the items that `asked` keeps. No item moves before the first that is rejected.
 fn retain<X: Drop, Form, A: Predicate<X, Form>>(items: &mut Vec<X>, mut asked: A)
     requires callable { CallableOnEach A.step A.accepts asked items.old.items }
     ensures retained { (g : A) × Kept A.step asked items.old.items items.new.items g }
@@ -162,8 +162,8 @@ fn retain<X: Drop, Form, A: Predicate<X, Form>>(items: &mut Vec<X>, mut asked: A
     items.truncate(kept);
 }
 
-// Asks about the items in order, up to the first that is refused, and returns its index. If there is none, returns the
-// number of items.
+// Calls the closure with the items in order, up to the first that it rejects, and returns the index of that item. If it
+// keeps all items, returns their number.
 fn find_rejected<X, Form, A: Predicate<X, Form>>(items: &mut Vec<X>, asked: &mut A) -> usize
     requires callable { CallableOnEach A.step A.accepts asked.old items.old.items }
     ensures retained { KeptSoFar A.step asked.old asked.new items.old.items items.new.items

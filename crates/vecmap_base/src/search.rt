@@ -1,12 +1,17 @@
-//! Binary searches of a sorted slice, by what a closure returns for its items. Each call of the closure halves the
-//! items that are left to search, whatever it returns. No search allocates.
-ghost use Rattle.std.specs.Prelude.{◌≡◌, ◌<◌, ◌≤◌, Bool, false, if◌then◌else◌, length, true};
+//! Binary searches of a sorted slice, by what a closure returns for its items. No search allocates.
+//!
+//! The first call of the closure leaves a part whose length is a power of two, so that its halves are equal. The last
+//! call is for the one item that is left. In between, a call halves the part, or three calls quarter it. Quarters take
+//! less time if an item, or the key of a pair, has at most 8 bytes: the three calls do not depend on each other. How
+//! often the closure is called depends on the number of items and on this size, and not on what it returns.
+ghost use Rattle.std.specs.Prelude.{◌≡◌, ℕ, ◌+◌, ◌^◌, ◌<◌, ◌≤◌, Bool, Contains, List, false, if◌then◌else◌, length, true};
 ghost use Rattle.std.specs.List.{All, HoldsAt};
 ghost use Rattle.std.specs.List.Sorted.{IsBinarySearchResult, IsPartitionPoint, IsPartitionedBy, IsSearchInRange};
 ghost use Rattle.std.specs.declared.cmp.Ordering.{Ordering};
 ghost use Rattle.vecmap_base.specs.Orders.{AnswersAtIndex, AnswersOnItems, AnswersOnPairs};
 ghost use Rattle.vecmap_base.specs.Orders.{CallableBelow, CallableOnItem, CallableOnPair, side};
 
+use crate::unrolled::is_small;
 use std::cmp::Ordering;
 
 /// Searches `items` with `f`, which compares the item at an index with what is sought.
@@ -15,13 +20,14 @@ use std::cmp::Ordering;
 /// of them. If there is none, `Err` holds the number of items that are less. If the items are in another order, `Ok` is
 /// still the index of an equal item, but `Err` says nothing.
 ///
-/// # Conditions
+/// # Preconditions
 ///
 /// `f` can be called for each index of `items`.
 ///
 /// # Complexity
 ///
-/// O(log n) calls of `f` for n items. Does not allocate.
+/// For n items, log2(n) + 1 calls of `f`, rounded up, and half as many again at most if an item has at most 8 bytes:
+/// for 512 items 10 calls, or 14. An empty list takes no call. Does not allocate.
 ///
 /// # Examples
 ///
@@ -36,21 +42,41 @@ pub fn search_by_index<T, F: Fn(usize) -> Ordering>(items: &[T], f: F) -> Result
     ensures index { (ord : T → Ordering) → AnswersAtIndex F.Fn ord f items.now
         → IsBinarySearchResult ord items.now result }
 {
-    let mut size = items.len();
-    if size == 0 {
-        return Err(0);
-    }
-    let mut base = 0;
-    while size > 1 {
-        let half = size / 2;
-        size -= half;
-        base += zero_unless(f(base + half).is_le(), half);
-    }
-    match f(base) {
-        Ordering::Less => Err(base + 1),
-        Ordering::Equal => Ok(base),
-        Ordering::Greater => Err(base),
-    }
+    search_in_parts(items, items.first().is_some_and(is_small), f)
+}
+
+/// Like [`search_by_index`], but for pairs.
+///
+/// # Preconditions
+///
+/// `f` can be called for each index of `pairs`.
+///
+/// # Complexity
+///
+/// As many calls of `f` as [`search_by_index`], but the size of a key decides, and not that of a pair. Does not
+/// allocate.
+///
+/// # Examples
+///
+/// ```
+/// let pairs = [('a', 1), ('b', 2)];
+/// search_pairs_by_index(&pairs, |index| pairs[index].0.cmp(&'b')) // Ok(1)
+/// ```
+#[inline]
+pub fn search_pairs_by_index<K, V, F: Fn(usize) -> Ordering>(
+    pairs: &[(K, V)],
+    f: F,
+) -> Result<usize, usize>
+    requires callable { CallableBelow F.Fn f (length pairs.now) }
+    ensures within { IsSearchInRange result (length pairs.now) }
+    ensures index { (ord : K × V → Ordering) → AnswersAtIndex F.Fn ord f pairs.now
+        → IsBinarySearchResult ord pairs.now result }
+{
+    search_in_parts(
+        pairs,
+        pairs.first().is_some_and(|pair| is_small(&pair.0)),
+        f,
+    )
 }
 
 /// Searches for `key` in pairs that ascend by the key that `f` extracts.
@@ -58,13 +84,13 @@ pub fn search_by_index<T, F: Fn(usize) -> Ordering>(items: &[T], f: F) -> Result
 /// `Ok` holds the index of a pair with an equal key, any one of them. If there is none, `Err` holds the number of pairs
 /// with lesser keys.
 ///
-/// # Conditions
+/// # Preconditions
 ///
 /// `f` can be called for each pair.
 ///
 /// # Complexity
 ///
-/// O(log n) calls of `f` and comparisons for n pairs. Does not allocate.
+/// As many calls of `f`, and comparisons, as calls in [`search_pairs_by_index`]. Does not allocate.
 ///
 /// # Examples
 ///
@@ -81,7 +107,7 @@ pub fn search_pairs_by_key<'a, K, V, B: Ord + Drop, F: Fn(&'a K, &'a V) -> B>(
     ensures index { (key_of : K × V → B) → AnswersOnPairs F.Fn key_of f pairs.now
         → IsBinarySearchResult (λ p. B.cmp (key_of p) key.now) pairs.now result }
 {
-    search_by_index(
+    search_pairs_by_index(
         pairs,
         |index: usize| -> Ordering
             requires callable { All (CallableOnPair F.Fn f) pairs.now }
@@ -100,13 +126,13 @@ pub fn search_pairs_by_key<'a, K, V, B: Ord + Drop, F: Fn(&'a K, &'a V) -> B>(
 /// `Ok` holds the index of an item with an equal key, any one of them. If there is none, `Err` holds the number of
 /// items with lesser keys.
 ///
-/// # Conditions
+/// # Preconditions
 ///
 /// `f` can be called for each item.
 ///
 /// # Complexity
 ///
-/// O(log n) calls of `f` and comparisons for n items. Does not allocate.
+/// As many calls of `f`, and comparisons, as calls in [`search_by_index`]. Does not allocate.
 ///
 /// # Examples
 ///
@@ -138,13 +164,13 @@ pub fn search_items_by_key<'a, T, B: Ord + Drop, F: Fn(&'a T) -> B>(
 ///
 /// If these items do not come before all others, the result is only known to be at most `items.len()`.
 ///
-/// # Conditions
+/// # Preconditions
 ///
 /// `pred` can be called for each item.
 ///
 /// # Complexity
 ///
-/// O(log n) calls of `pred` for n items. Does not allocate.
+/// As many calls of `pred` as [`search_by_index`] makes of `f`. Does not allocate.
 ///
 /// # Examples
 ///
@@ -158,8 +184,93 @@ pub fn partition_point<T, P: Fn(&T) -> bool>(items: &[T], pred: P) -> usize
         → IsPartitionedBy p items.now
         → IsPartitionPoint (λ x. p x ≡ true) (λ x. p x ≡ false) items.now result }
 {
-    let found = search_by_index(
+    partition_in_parts(items, items.first().is_some_and(is_small), pred)
+}
+
+/// Like [`partition_point`], but for pairs.
+///
+/// # Preconditions
+///
+/// `pred` can be called for each pair.
+///
+/// # Complexity
+///
+/// As many calls of `pred` as [`search_pairs_by_index`] makes of `f`. Does not allocate.
+///
+/// # Examples
+///
+/// ```
+/// partition_point_of_pairs(&[('a', 1), ('b', 2)], |_key, value| *value < 2) // 1
+/// ```
+pub fn partition_point_of_pairs<K, V, P: Fn(&K, &V) -> bool>(pairs: &[(K, V)], pred: P) -> usize
+    requires callable { All (CallableOnPair P.Fn pred) pairs.now }
+    ensures within { result ≤ length pairs.now }
+    ensures index { (p : K × V → Bool) → AnswersOnPairs P.Fn p pred pairs.now
+        → IsPartitionedBy p pairs.now
+        → IsPartitionPoint (λ x. p x ≡ true) (λ x. p x ≡ false) pairs.now result }
+{
+    partition_in_parts(
+        pairs,
+        pairs.first().is_some_and(|pair| is_small(&pair.0)),
+        |pair: &(K, V)| -> bool
+            requires { CallableOnPair P.Fn pred pair.now }
+            ensures { (p : K × V → Bool) (l : List (K × V)) → AnswersOnPairs P.Fn p pred l
+                → Contains l pair.now → result ≡ p pair.now }
+        { pred(&pair.0, &pair.1) },
+    )
+}
+
+// Like `search_by_index`, by halves or by quarters.
+#[inline]
+fn search_in_parts<T, F: Fn(usize) -> Ordering>(
+    items: &[T],
+    by_quarters: bool,
+    f: F,
+) -> Result<usize, usize>
+    requires callable { CallableBelow F.Fn f (length items.now) }
+    ensures within { IsSearchInRange result (length items.now) }
+    ensures index { (ord : T → Ordering) → AnswersAtIndex F.Fn ord f items.now
+        → IsBinarySearchResult ord items.now result }
+{
+    let len = items.len();
+    if len == 0 {
+        return Err(0);
+    }
+    let mut size = power_within(len);
+    let start = len - size;
+    let mut base = zero_unless(start > 0 && f(start).is_le(), start);
+    while by_quarters && size >= 4 {
+        let quarter = size / 4;
+        let first = f(base + quarter).is_le();
+        let second = f(base + 2 * quarter).is_le();
+        let third = f(base + 3 * quarter).is_le();
+        base += times(quarter, first, second, third);
+        size = quarter;
+    }
+    while size > 1 {
+        let half = size / 2;
+        base += zero_unless(f(base + half).is_le(), half);
+        size = half;
+    }
+    match f(base) {
+        Ordering::Less => Err(base + 1),
+        Ordering::Equal => Ok(base),
+        Ordering::Greater => Err(base),
+    }
+}
+
+// Like `partition_point`, by halves or by quarters.
+#[inline]
+fn partition_in_parts<T, P: Fn(&T) -> bool>(items: &[T], by_quarters: bool, pred: P) -> usize
+    requires callable { All (CallableOnItem P.Fn pred) items.now }
+    ensures within { result ≤ length items.now }
+    ensures index { (p : T → Bool) → AnswersOnItems P.Fn p pred items.now
+        → IsPartitionedBy p items.now
+        → IsPartitionPoint (λ x. p x ≡ true) (λ x. p x ≡ false) items.now result }
+{
+    let found = search_in_parts(
         items,
+        by_quarters,
         |index: usize| -> Ordering
             requires callable { All (CallableOnItem P.Fn pred) items.now }
             requires within { index < length items.now }
@@ -177,6 +288,26 @@ pub fn partition_point<T, P: Fn(&T) -> bool>(items: &[T], pred: P) -> usize
         Ok(index) => index,
         Err(index) => index,
     }
+}
+
+// Returns `n` times the number of conditions that hold.
+#[inline]
+fn times(n: usize, first: bool, second: bool, third: bool) -> usize
+    requires { n + n + n < 2 ^ 64 }
+    ensures { result ≡ (if first then n else 0) + (if second then n else 0) + (if third then n else 0) }
+{
+    n * (usize::from(first) + usize::from(second) + usize::from(third))
+}
+
+// Returns a power of two that is at most `len`, and at least half of it.
+#[inline]
+fn power_within(len: usize) -> usize
+    requires { 0 < len }
+    ensures power { (k : ℕ) × (result ≡ 2 ^ k) }
+    ensures within { result ≤ len }
+    ensures half { len ≤ result + result }
+{
+    1 << (len - 1).max(1).ilog2()
 }
 
 // Returns `n` if `condition` holds, and 0 otherwise. The minimum of two numbers compiles to no branch. A branch would

@@ -1,4 +1,4 @@
-//! A counter of the comparisons that a removal of repeats makes.
+//! A counter of the comparisons that a removal of duplicates makes.
 use std::marker::Model;
 
 /// A counter of comparisons.
@@ -28,7 +28,7 @@ impl Model for Steps {
 impl Steps {
     ghost use Rattle.std.specs.Prelude.{◌≡◌, ◌+◌, ◌<◌};
 
-    /// Creates a counter of no comparisons.
+    /// Creates a counter that starts at 0.
     ///
     /// # Examples
     ///
@@ -60,7 +60,7 @@ impl Steps {
 
     /// Returns `true` if `a == b`, and counts one more comparison.
     ///
-    /// # Conditions
+    /// # Preconditions
     ///
     /// The count is less than `u128::MAX`. [`Steps::count`] returns it.
     ///

@@ -5,14 +5,15 @@ ghost use Rattle.std.specs.Option.{option_map};
 ghost use Rattle.vecmap_base.specs.Pairs.{lookup_by};
 ghost use Rattle.vecmap_base.specs.Updated.{AlwaysComputes, CallableOnValues, Computes, StoppedAt, TakesValueAt, Updated, WritesValueAt};
 
-/// Like [`update_pairs`](crate::update_pairs), but stops at the first call of `f` that returns an `Err`.
+/// Like [`update_pairs`](crate::update_pairs), but stops at the first `Err` that `f` returns, and leaves the values
+/// written so far.
 ///
 /// # Errors
 ///
 /// The error that `f` returned. The values before are then written, the value of the failed call is as that call left
 /// it, and the later values are unchanged.
 ///
-/// # Conditions
+/// # Preconditions
 ///
 /// `f` can be called for each pair, in the state that the calls before have left, if all of them returned `Ok`.
 ///

@@ -1,9 +1,9 @@
-//! Searches that ask about several items in a turn of the loop. They ask in order, of each item at most once.
+//! Searches that test several items in each round of the loop, in order, and each item at most once.
 //!
-//! They are faster if a comparison takes no longer than one turn of a loop. With up to four items in a turn, a search
-//! for an index stops at the first that passes. With eight, and in a test for an item, it asks about a whole block of
-//! eight or four and then branches once, so that the compiler compares vectors; so it asks about at most seven items
-//! after the first that passes.
+//! They are faster if a comparison costs no more than a round of a loop. With up to four items in a round, a search for
+//! an index stops at the first item that passes. With eight, and in a test for an item, it tests a whole block of eight
+//! or four items and then branches once, so that the compiler compares vectors. So it tests at most seven items after
+//! the first that passes.
 ghost use Rattle.std.specs.Prelude.{◌≡◌, ◌+◌, ◌<◌, ◌≤◌, ◌||◌, Bool, IfSome, None, false, length, position, take};
 ghost use Rattle.std.specs.List.{list_any};
 ghost use Rattle.vecmap_base.specs.Orders.{AnswersOnItem};

@@ -9,7 +9,7 @@ ghost use Rattle.vecmap_base.specs.Updated.{AlwaysComputes, CallableOnValues, Co
 ///
 /// The keys and their order stay.
 ///
-/// # Conditions
+/// # Preconditions
 ///
 /// `f` can be called for each pair, in the state that the calls before have left.
 ///

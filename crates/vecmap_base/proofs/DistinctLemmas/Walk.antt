@@ -1,4 +1,4 @@
--- The steps of a loop that tests a list for repeats.
+-- The steps of a loop that tests a list for duplicates.
 use Rattle.std.specs.List.{IsDistinct, list_any}
 use Rattle.std.proofs.Common.{◌≡◌, ◌↔◌, ℕ, ◌+◌, ◌<◌, ◌≤◌, Bool, true, false, List, ◌∷◌, drop, length, sym, ap, ◌∙◌, subst, get_or, true≢false}
 use Rattle.std.proofs.lemmas.{List.drop_more, List.drop_all, Map.Keys.IsDistinct-head, Map.Keys.IsDistinct-tail}

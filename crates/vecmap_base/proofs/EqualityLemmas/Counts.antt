@@ -73,7 +73,7 @@ module _ {X : Type 0} (same : X → X → Bool) (o : IsEquivalence same) where
   pub test_from_counts : (a b : List X) → SameCounts a b → as_often a b ≡ true
   test_from_counts a b h = and_from _ _ (agree_everywhere a a b h) (agree_everywhere b a b h)
 
-  -- Equality of counts is an equivalence on all lists, also on lists with repeats.
+  -- Equality of counts is an equivalence on all lists, also on lists with duplicates.
   pub as_often_laws : IsEquivalence as_often
   as_often_laws = record {
     refl = λ a. test_from_counts a a (λ x. refl);

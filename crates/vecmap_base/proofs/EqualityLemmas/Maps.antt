@@ -1,4 +1,4 @@
--- The laws of the equality of maps. They hold of all lists of pairs, also if keys repeat.
+-- The laws of the equality of maps. They hold of all lists of pairs, also with duplicate keys.
 use Rattle.std.specs.Prelude.{◌≡◌, Bool, ◌&&◌, List}
 use Rattle.std.specs.Cmp.{IsEquivalence, equiv, partial_equiv_from_equiv}
 use Rattle.std.proofs.Common.{◌∙◌}

@@ -12,7 +12,7 @@ use Rattle.vecmap_base.specs.Items.{both, only}
 use Rattle.vecmap_base.proofs.DistinctLemmas.Additions.{distinct_append}
 use Rattle.vecmap_base.proofs.DistinctLemmas.Removals.{distinct_filter}
 
--- No element passes a test exactly if the list of those that pass is empty.
+-- No element passes a test exactly if the list of the elements that pass is empty.
 none_passes : {T : Type 0} (test : T → Bool) (xs : List T) → (list_any test xs ≡ false) ↔ (filter test xs ≡ [])
 none_passes test [] = (λ e. refl, λ e. refl)
 none_passes test (x ∷ xs) = by (test x) (none_passes test xs)
@@ -49,7 +49,7 @@ module _ {T : Type 0} (eq : T → T → Bool) (o : IsEquivalence eq) where
       let apart = apart_by_walk a b found e in
       (λ t. both_empty_turned a b (apart.0 t), λ f. apart.1 (both_empty_turned b a f))
 
-  -- The elements in both lists are distinct if those of `a` are.
+  -- The elements in both lists are distinct if the elements of `a` are.
   pub distinct_both : (a b : List T) → IsDistinct eq a → IsDistinct eq (both eq a b)
   distinct_both a b = distinct_filter eq (λ x. is_member eq b x) a
 

@@ -11,6 +11,6 @@ module _ {T : Type 0} (eq : T → T → Bool) where
   pub add_present : (s : List T) (x : T) → is_member eq s x ≡ true → add eq s x ≡ s
   add_present s x e = ap (λ b. if b then s else s ++ x ∷ []) e
 
-  -- The additions of the first `i + 1` elements are those of the first `i` and one more.
+  -- The additions of the first `i + 1` elements are the additions of the first `i` and one more.
   pub adds_more : (xs : List T) (i : ℕ) (d : T) → i < length xs → adds eq [] (take (i + 1) xs) ≡ add eq (adds eq [] (take i xs)) (get_or xs i d)
   adds_more xs i d l = fold_more (add eq) [] xs i d l

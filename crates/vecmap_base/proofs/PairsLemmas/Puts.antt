@@ -20,6 +20,6 @@ module _ {K V : Type 0} (eq : K → K → Bool) where
       by None = refl
       by (Some i) = with_own_value l i v
 
-  -- The insertions of the first `i + 1` pairs are those of the first `i` and one more.
+  -- The insertions of the first `i + 1` pairs are the insertions of the first `i` and one more.
   pub puts_more : (l : List (K × V)) (i : ℕ) (d : K × V) → i < length l → puts eq [] (take (i + 1) l) ≡ put eq (puts eq [] (take i l)) (get_or l i d).0 (get_or l i d).1
   puts_more l i d h = fold_more (λ done p. put eq done p.0 p.1) [] l i d h

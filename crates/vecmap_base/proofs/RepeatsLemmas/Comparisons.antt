@@ -1,4 +1,4 @@
--- The number of comparisons that a removal of repeats makes.
+-- The number of comparisons that a removal of duplicates makes.
 use Rattle.std.specs.Set.{is_member}
 use Rattle.std.specs.{Map.keys_of, Option.option_map_or}
 use Rattle.std.proofs.Common.{◌≡◌, ℕ, suc, ◌+◌, ◌<◌, ◌≤◌, Bool, true, false, List, [], ◌∷◌, ◌++◌, Option, None, Some, length, take, refl, sym, ap, ◌∙◌, subst, get_or, arith, inl, inr}

@@ -1,4 +1,4 @@
--- The most comparisons that a number of items may take.
+-- The most comparisons that a number of items may need.
 use Rattle.std.proofs.Common.{◌≡◌, ℕ, zero, suc, ◌+◌, ◌-◌, ◌*◌, ◌<◌, ◌≤◌, refl, arith}
 use Rattle.vecmap_base.specs.Repeats.{cost}
 

@@ -1,19 +1,10 @@
-//! The iterators over a map's pairs, by reference and by value.
-//!
-//! In contracts an iterator is the list of the pairs that it has left. `next` removes the first of them and returns it,
-//! and `next_back` the last, in constant time. Once the list is empty, both return `None`. Only the `clone` of
-//! `IntoIter` allocates, and its time is linear in the length of the list.
-ghost use Rattle.std.specs.Prelude.{◌≡◌, ⊤, IfOk, length};
-ghost use Rattle.std.specs.Iterator.{at_most};
-ghost use Rattle.std.specs.Map.Iter.{ShowsValuesInOrder, ShowsValuesInReverse, TakesFirst, TakesLast, deref_pair};
-ghost use Rattle.vecmap_base.specs.Clones.{AreClones, IsPairClone};
-ghost use Rattle.vecmap_base.specs.Walks.{GivesAll, HintsExactly, ShowsAll};
+//! The iterators over a map's pairs: by reference, by mutable reference and by value.
+ghost use Rattle.std.specs.Prelude.{◌≡◌};
+ghost use Rattle.std.specs.Map.Iter.{ShowsValuesInOrder, ShowsValuesInReverse, deref_pair, deref_pair_mut};
+ghost use Rattle.vecmap_base.specs.Iterators.{GivesAll, ShowsAll, ShowsAllOf, deref_both_mut, iter_mut2_name, iter_mut2_rest, iter_mut_name, iter_mut_rest};
 
-use std::alloc::AllocError;
-use std::collections::VecDeque;
-use std::iter::FusedIterator;
-use std::marker::Model;
-use std::{fmt, slice};
+use crate::iter::{IntoIterOf, IterMutOf, IterOf};
+use crate::projection::{Pair, PairMut};
 
 /// An iterator over the pairs of a map, each as `(&K, &V)`, in their order.
 ///
@@ -27,19 +18,7 @@ use std::{fmt, slice};
 /// pairs.next() // Some((&'a', &1))
 /// pairs.len() // 1
 /// ```
-#[derive(Drop)]
-pub struct Iter<'a, K, V> {
-    pairs: slice::Iter<'a, (K, V)>,
-}
-
-impl<'a, K, V> Model for Iter<'a, K, V> {
-    ghost use Rattle.std.specs.Prelude.{List};
-    ghost use Rattle.std.specs.Slice.Iter.{iter_rest};
-
-    ghost Value = { List (K × V) };
-
-    ghost view = { λ a. iter_rest a.pairs };
-}
+pub type Iter<'a, K, V> = IterOf<'a, (K, V), Pair>;
 
 impl<'a, K, V> Iter<'a, K, V> {
     /// Creates an iterator over the pairs of a slice, from the first to the last.
@@ -55,89 +34,79 @@ impl<'a, K, V> Iter<'a, K, V> {
         ensures values_run { ShowsValuesInOrder (deref_pair {K = K} {X = V}) }
         ensures values_run_back { ShowsValuesInReverse (deref_pair {K = K} {X = V}) }
     {
-        Iter {
-            pairs: pairs.iter(),
-        }
+        Iter::over_items(pairs)
     }
+}
 
-    /// Returns another iterator over the pairs that are left.
-    ///
-    /// # Complexity
-    ///
-    /// Does not allocate.
+/// An iterator over the pairs of a map, each as `(&K, &mut V)`, in their order.
+///
+/// `VecMap::iter_mut` and `(&mut map).into_iter()` create it.
+///
+/// # Examples
+///
+/// ```
+/// let mut map = vecmap!(alloc; 'a' => 1, 'b' => 2);
+/// let mut pairs = map.iter_mut();
+/// if let Some((_key, value)) = pairs.next_back() {
+///     *value = 3;
+/// }
+/// map.as_slice() // [('a', 1), ('b', 3)]
+/// ```
+pub type IterMut<'a, K, V> = IterMutOf<'a, (K, V), Pair>;
+
+impl<'a, K, V> IterMut<'a, K, V> {
+    /// Creates an iterator over the pairs of a slice, from the first to the last, with mutable values.
     ///
     /// # Examples
     ///
     /// ```
-    /// let map = vecmap!(alloc; 'a' => 1, 'b' => 2);
-    /// let mut pairs = map.iter();
-    /// pairs.next() // Some((&'a', &1))
-    /// pairs.clone().next() // Some((&'b', &2))
-    /// pairs.len() // 1
+    /// let mut pairs = [('a', 1), ('b', 2)];
+    /// if let Some((_key, value)) = IterMut::over(&mut pairs).next() {
+    ///     *value = 3;
+    /// }
+    /// pairs[0] // ('a', 3)
     /// ```
-    pub fn clone(&self) -> Iter<'a, K, V>
-        ensures { result ≡ self.now }
+    pub fn over(pairs: &'a mut [(K, V)]) -> IterMut<'a, K, V>
+        ensures same_slice { iter_mut_name result ≡ pairs.entry.ghost_name }
+        ensures rest { ShowsAllOf deref_pair_mut iter_mut_rest pairs.old result }
     {
-        Iter {
-            pairs: self.pairs.as_slice().iter(),
-        }
+        IterMut::over_items(pairs)
     }
 }
 
-impl<'a, K, V> Iterator for Iter<'a, K, V> {
-    type Item = (&'a K, &'a V);
+/// An iterator over the pairs of a map, each as `(&mut K, &mut V)`, in their order.
+///
+/// A key that is written may become equal to another.
+///
+/// # Examples
+///
+/// ```
+/// let mut map = vecmap!(alloc; 'a' => 1, 'b' => 2);
+/// let mut pairs = map.iter_mut2();
+/// if let Some((key, _value)) = pairs.next() {
+///     *key = 'c';
+/// }
+/// map.as_slice() // [('c', 1), ('b', 2)]
+/// ```
+pub type IterMut2<'a, K, V> = IterMutOf<'a, (K, V), PairMut>;
 
-    ghost next_gives = { TakesFirst deref_pair };
-
-    ghost remaining = { λ s. at_most (length s) };
-
-    fn next(&mut self) -> Option<(&'a K, &'a V)> {
-        let pair = self.pairs.next()?;
-        Some((&pair.0, &pair.1))
-    }
-
-    /// Returns the number of pairs left, as both bounds.
-    fn size_hint(&self) -> (usize, Option<usize>)
-        ensures exact { HintsExactly (length self.now) result }
+impl<'a, K, V> IterMut2<'a, K, V> {
+    /// Creates an iterator over the pairs of a slice, from the first to the last, with mutable keys and values.
+    ///
+    /// # Examples
+    ///
+    /// ```
+    /// let mut pairs = [('a', 1), ('b', 2)];
+    /// if let Some((key, _value)) = IterMut2::over(&mut pairs).next() {
+    ///     *key = 'c';
+    /// }
+    /// pairs[0] // ('c', 1)
+    /// ```
+    pub fn over(pairs: &'a mut [(K, V)]) -> IterMut2<'a, K, V>
+        ensures same_slice { iter_mut2_name result ≡ pairs.entry.ghost_name }
+        ensures rest { ShowsAllOf deref_both_mut iter_mut2_rest pairs.old result }
     {
-        let len = self.len();
-        (len, Some(len))
-    }
-}
-
-impl<'a, K, V> DoubleEndedIterator for Iter<'a, K, V> {
-    ghost next_back_gives = { TakesLast deref_pair };
-
-    fn next_back(&mut self) -> Option<(&'a K, &'a V)> {
-        let pair = self.pairs.next_back()?;
-        Some((&pair.0, &pair.1))
-    }
-}
-
-impl<'a, K, V> ExactSizeIterator for Iter<'a, K, V> {
-    /// Returns the number of pairs left.
-    fn len(&self) -> usize {
-        self.pairs.len()
-    }
-}
-
-impl<'a, K, V> FusedIterator for Iter<'a, K, V> {}
-
-/// Returns another iterator over the pairs that are left, like the inherent [`Iter::clone`]. It never fails.
-impl<'a, K, V> Clone for Iter<'a, K, V> {
-    ghost is_clone = { λ iter copy. copy ≡ iter };
-
-    ghost is_infallible = { λ _. ⊤ };
-
-    fn clone(&self) -> Result<Iter<'a, K, V>, AllocError> {
-        Ok(self.clone())
-    }
-}
-
-/// Prints the pairs that are left, as std prints a list.
-impl<'a, K: fmt::Debug, V: fmt::Debug> fmt::Debug for Iter<'a, K, V> {
-    fn fmt<W: fmt::Write>(&self, f: &mut fmt::Formatter<W>) -> fmt::Result {
-        f.debug_list().entries(self.clone()).finish()
+        IterMut2::over_items(pairs)
     }
 }
 
@@ -153,32 +122,10 @@ impl<'a, K: fmt::Debug, V: fmt::Debug> fmt::Debug for Iter<'a, K, V> {
 /// pairs.next_back() // Some(('b', 2))
 /// pairs.len() // 1
 /// ```
-pub struct IntoIter<K, V> {
-    pairs: VecDeque<(K, V)>,
-}
-
-impl<K, V> Model for IntoIter<K, V> {
-    ghost use Rattle.std.specs.Prelude.{List};
-
-    ghost Value = { List (K × V) };
-
-    ghost view = { λ a. a.pairs.items };
-}
-
-// Not derived, so that the proof of a loop that ends early still knows which items were taken.
-impl<K: Drop, V: Drop> Drop for IntoIter<K, V> {
-    fn drop(self) {
-        let IntoIter { pairs } = self;
-        drop(pairs);
-    }
-}
+pub type IntoIter<K, V> = IntoIterOf<(K, V), Pair>;
 
 impl<K, V> IntoIter<K, V> {
-    /// Creates an iterator over the pairs of a vector, from the first to the last.
-    ///
-    /// # Complexity
-    ///
-    /// Does not allocate.
+    /// Creates an iterator over the pairs of a vector, from the first to the last. Does not allocate.
     ///
     /// # Examples
     ///
@@ -192,80 +139,6 @@ impl<K, V> IntoIter<K, V> {
         ensures values_run { ShowsValuesInOrder (λ (p : K × V). p) }
         ensures values_run_back { ShowsValuesInReverse (λ (p : K × V). p) }
     {
-        IntoIter {
-            pairs: VecDeque::from_vec(pairs),
-        }
-    }
-
-    /// Returns an iterator over clones of the pairs that are left, in the same order.
-    ///
-    /// # Errors
-    ///
-    /// [`AllocError`] if the allocator refuses a request, or if the clone of a key or a value fails; this iterator then
-    /// still has all pairs that it had left.
-    ///
-    /// # Examples
-    ///
-    /// ```
-    /// let map = vecmap!(alloc; 'a' => 1, 'b' => 2);
-    /// let mut pairs = map.into_iter();
-    /// pairs.next() // Some(('a', 1))
-    /// pairs.clone()?.next() // Some(('b', 2))
-    /// pairs.len() // 1
-    /// ```
-    pub fn clone(&self) -> Result<IntoIter<K, V>, AllocError>
-    where
-        K: Clone,
-        V: Clone,
-        ensures { IfOk result (λ copy. AreClones
-            (IsPairClone K.is_clone V.is_clone) self.now copy) }
-    {
-        Ok(IntoIter {
-            pairs: self.pairs.clone()?,
-        })
-    }
-}
-
-impl<K: Drop, V: Drop> Iterator for IntoIter<K, V> {
-    type Item = (K, V);
-
-    ghost next_gives = { TakesFirst (λ pair. pair) };
-
-    ghost remaining = { λ s. at_most (length s) };
-
-    fn next(&mut self) -> Option<(K, V)> {
-        self.pairs.pop_front()
-    }
-
-    /// Returns the number of pairs left, as both bounds.
-    fn size_hint(&self) -> (usize, Option<usize>)
-        ensures exact { HintsExactly (length self.now) result }
-    {
-        let len = self.len();
-        (len, Some(len))
-    }
-}
-
-impl<K: Drop, V: Drop> DoubleEndedIterator for IntoIter<K, V> {
-    ghost next_back_gives = { TakesLast (λ pair. pair) };
-
-    fn next_back(&mut self) -> Option<(K, V)> {
-        self.pairs.pop_back()
-    }
-}
-
-impl<K: Drop, V: Drop> ExactSizeIterator for IntoIter<K, V> {
-    /// Returns the number of pairs left.
-    fn len(&self) -> usize {
-        self.pairs.len()
-    }
-}
-
-impl<K: Drop, V: Drop> FusedIterator for IntoIter<K, V> {}
-
-/// Prints the pairs that are left, as std prints a list.
-impl<K: fmt::Debug, V: fmt::Debug> fmt::Debug for IntoIter<K, V> {
-    fn fmt<W: fmt::Write>(&self, f: &mut fmt::Formatter<W>) -> fmt::Result {
-        f.debug_list().entries(self.pairs.iter()).finish()
+        IntoIter::over_items(pairs)
     }
 }

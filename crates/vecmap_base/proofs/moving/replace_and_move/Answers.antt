@@ -1,4 +1,4 @@
--- The vector's items are those of the slice that was borrowed.
+-- The vector's items are the items of the slice that was borrowed.
 use Rattle.std.proofs.Common.{◌≡◌, ◌+◌, ap, arith, insert, length, take_at, ◌∙◌}
 use Rattle.vecmap_base.proofs.MoveLemmas.{carried_back_to, carried_to}
 use Rattle.vecmap_base.proofs.moving.replace_and_move.Goals as goal

@@ -1,7 +1,0 @@
-use Rattle.std.proofs.Common.{arith}
-use Rattle.std.proofs.lemmas.Grind.{common_steps}
-use Rattle.vecmap_base.proofs.WalkLemmas.{gives_in_order, gives_in_reverse}
-use Rattle.vecmap_base.proofs.iter.keys.IntoKeys.over.Goals as goal
-
-pub returns : goal.returns
-returns g c = (grind (arith, common_steps), grind (arith, common_steps), gives_in_order, gives_in_reverse)

@@ -1,0 +1,274 @@
+//! Projections: which part of each item an iterator yields.
+//!
+//! The iterators with an exact length, but for drains, are one of three types: [`IterOf`](crate::IterOf) yields
+//! references, [`IterMutOf`](crate::IterMutOf) mutable references, and [`IntoIterOf`](crate::IntoIterOf) values. The last
+//! type parameter of each is a projection, as `Key` in `Keys<'a, K, V>`, which is `IterOf<'a, (K, V), Key>`.
+ghost use Rattle.std.specs.Prelude.{◌≡◌};
+ghost use Rattle.std.specs.Map.Iter.{deref, deref_pair, deref_pair_mut};
+ghost use Rattle.vecmap_base.specs.Iterators.{deref_both_mut, deref_mut};
+
+/// A part of each item of type `X`.
+pub trait Projection<X> {
+    type Part;
+
+    ghost part: { X → Self.Part };
+
+    /// Returns a reference to the part of an item.
+    ///
+    /// # Examples
+    ///
+    /// ```
+    /// Key::of(&('a', 1)) // &'a'
+    /// ```
+    fn of(item: &X) -> &Self::Part
+        ensures { result.now ≡ part item.now };
+}
+
+/// A part that an iterator over references can yield.
+pub trait PartRef<'a, X>: Projection<X> {
+    type Ref;
+
+    ghost shows: { Self.Ref → Self.Part };
+
+    /// Returns what the iterator yields of an item.
+    ///
+    /// # Examples
+    ///
+    /// ```
+    /// Pair::of_ref(&('a', 1)) // (&'a', &1)
+    /// ```
+    fn of_ref(item: &'a X) -> Self::Ref
+        ensures { shows result ≡ Self.part item.now };
+}
+
+/// A part that an iterator over mutable references can yield.
+pub trait PartMut<'a, X>: Projection<X> {
+    type RefMut;
+
+    ghost shows: { Self.RefMut → Self.Part };
+
+    /// Returns what the iterator yields of an item.
+    ///
+    /// # Examples
+    ///
+    /// ```
+    /// let mut pair = ('a', 1);
+    /// *Value::of_mut(&mut pair) = 2;
+    /// pair // ('a', 2)
+    /// ```
+    fn of_mut(item: &'a mut X) -> Self::RefMut
+        ensures { shows result ≡ Self.part item.old };
+}
+
+/// A part that can be moved out of its item.
+pub trait IntoPart<X>: Projection<X> {
+    /// Returns the part of an item, and drops the rest of the item.
+    ///
+    /// # Examples
+    ///
+    /// ```
+    /// Value::into_part(('a', 1)) // 1
+    /// ```
+    fn into_part(item: X) -> Self::Part
+        ensures { result ≡ Self.part item };
+}
+
+/// A part that is cloned if its item is cloned.
+pub trait ClonePart<X: Clone>: Projection<X>
+where
+    Self::Part: Clone,
+{
+    ghost clones: { (x y : X) → X.is_clone x y → Self.Part.is_clone (Self.part x) (Self.part y) };
+}
+
+/// The key of a pair.
+#[derive(Drop)]
+pub struct Key;
+
+/// The value of a pair.
+#[derive(Drop)]
+pub struct Value;
+
+/// The whole pair. Mutable references lead to its value alone.
+#[derive(Drop)]
+pub struct Pair;
+
+/// The whole pair, with a mutable key.
+#[derive(Drop)]
+pub struct PairMut;
+
+/// The whole element of a set.
+#[derive(Drop)]
+pub struct Element;
+
+impl<K, V> Projection<(K, V)> for Key {
+    type Part = K;
+
+    ghost part = { λ pair. pair.0 };
+
+    fn of(pair: &(K, V)) -> &K {
+        &pair.0
+    }
+}
+
+impl<K, V> Projection<(K, V)> for Value {
+    type Part = V;
+
+    ghost part = { λ pair. pair.1 };
+
+    fn of(pair: &(K, V)) -> &V {
+        &pair.1
+    }
+}
+
+impl<K, V> Projection<(K, V)> for Pair {
+    type Part = (K, V);
+
+    ghost part = { λ pair. pair };
+
+    fn of(pair: &(K, V)) -> &(K, V) {
+        pair
+    }
+}
+
+impl<K, V> Projection<(K, V)> for PairMut {
+    type Part = (K, V);
+
+    ghost part = { λ pair. pair };
+
+    fn of(pair: &(K, V)) -> &(K, V) {
+        pair
+    }
+}
+
+impl<T> Projection<T> for Element {
+    type Part = T;
+
+    ghost part = { λ element. element };
+
+    fn of(element: &T) -> &T {
+        element
+    }
+}
+
+impl<'a, K: 'a, V> PartRef<'a, (K, V)> for Key {
+    type Ref = &'a K;
+
+    ghost shows = { deref };
+
+    fn of_ref(pair: &'a (K, V)) -> &'a K {
+        &pair.0
+    }
+}
+
+impl<'a, K, V: 'a> PartRef<'a, (K, V)> for Value {
+    type Ref = &'a V;
+
+    ghost shows = { deref };
+
+    fn of_ref(pair: &'a (K, V)) -> &'a V {
+        &pair.1
+    }
+}
+
+impl<'a, K: 'a, V: 'a> PartRef<'a, (K, V)> for Pair {
+    type Ref = (&'a K, &'a V);
+
+    ghost shows = { deref_pair };
+
+    fn of_ref(pair: &'a (K, V)) -> (&'a K, &'a V) {
+        (&pair.0, &pair.1)
+    }
+}
+
+impl<'a, T: 'a> PartRef<'a, T> for Element {
+    type Ref = &'a T;
+
+    ghost shows = { deref };
+
+    fn of_ref(element: &'a T) -> &'a T {
+        element
+    }
+}
+
+impl<'a, K: 'a, V> PartMut<'a, (K, V)> for Key {
+    type RefMut = &'a mut K;
+
+    ghost shows = { deref_mut };
+
+    fn of_mut(pair: &'a mut (K, V)) -> &'a mut K {
+        &mut pair.0
+    }
+}
+
+impl<'a, K, V: 'a> PartMut<'a, (K, V)> for Value {
+    type RefMut = &'a mut V;
+
+    ghost shows = { deref_mut };
+
+    fn of_mut(pair: &'a mut (K, V)) -> &'a mut V {
+        &mut pair.1
+    }
+}
+
+impl<'a, K: 'a, V: 'a> PartMut<'a, (K, V)> for Pair {
+    type RefMut = (&'a K, &'a mut V);
+
+    ghost shows = { deref_pair_mut };
+
+    fn of_mut(pair: &'a mut (K, V)) -> (&'a K, &'a mut V) {
+        (&pair.0, &mut pair.1)
+    }
+}
+
+impl<'a, K: 'a, V: 'a> PartMut<'a, (K, V)> for PairMut {
+    type RefMut = (&'a mut K, &'a mut V);
+
+    ghost shows = { deref_both_mut };
+
+    fn of_mut(pair: &'a mut (K, V)) -> (&'a mut K, &'a mut V) {
+        (&mut pair.0, &mut pair.1)
+    }
+}
+
+impl<K, V: Drop> IntoPart<(K, V)> for Key {
+    fn into_part(pair: (K, V)) -> K {
+        let (key, _) = pair;
+        key
+    }
+}
+
+impl<K: Drop, V> IntoPart<(K, V)> for Value {
+    fn into_part(pair: (K, V)) -> V {
+        let (_, value) = pair;
+        value
+    }
+}
+
+impl<K, V> IntoPart<(K, V)> for Pair {
+    fn into_part(pair: (K, V)) -> (K, V) {
+        pair
+    }
+}
+
+impl<T> IntoPart<T> for Element {
+    fn into_part(element: T) -> T {
+        element
+    }
+}
+
+impl<K: Clone, V: Clone> ClonePart<(K, V)> for Key {
+    ghost clones = { λ x y is. is.0 };
+}
+
+impl<K: Clone, V: Clone> ClonePart<(K, V)> for Value {
+    ghost clones = { λ x y is. is.1 };
+}
+
+impl<K: Clone, V: Clone> ClonePart<(K, V)> for Pair {
+    ghost clones = { λ x y is. is };
+}
+
+impl<T: Clone> ClonePart<T> for Element {
+    ghost clones = { λ x y is. is };
+}
