@@ -4,25 +4,25 @@ use Rattle.std.specs.List.{refill}
 use Rattle.std.specs.Option.{option_map_or}
 use Rattle.vecmap_base.specs.Pairs.{index_by, index_of, with_pair, with_value}
 
--- The pairs from the first to the last, and how many of them fit before the vector grows.
 -- Example: `[(1,a)]` with capacity 4.
+-- The pairs from the first to the last, and how many of them fit before the vector grows.
 pub record Contents (K V : Type 0) : Type 0 where
   pub entries : List (K × V)
   pub capacity : ℕ
 
 module _ {K V : Type 0} where
-  -- The map m with other pairs.
   -- Example: `[]` and `[(1,a)]` with capacity 4: `[]` with capacity 4.
+  -- The map m with other pairs.
   abbrev pub with_entries : Contents K V → List (K × V) → Contents K V
   with_entries m l = record { entries = l; capacity = m.capacity }
 
-  -- The map m with the pairs l over its own, as many as it has.
   -- Example: `[(1,c)]` over `[(1,a), (2,b)]`: `[(1,c), (2,b)]`.
+  -- The map m with the pairs l over its own, as many as it has.
   abbrev pub with_written : Contents K V → List (K × V) → Contents K V
   with_written m l = with_entries m (refill (length m.entries) m.entries l)
 
-  -- The map m with v as the value at the index i.
   -- Example: b at 0 of `[(1,a)]`: `[(1,b)]`, with the same capacity.
+  -- The map m with v as the value at the index i.
   abbrev pub with_value_at : Contents K V → ℕ → V → Contents K V
   with_value_at m i v = with_entries m (with_value m.entries i v)
 
@@ -38,23 +38,23 @@ module _ {K V : Type 0} where
   abbrev pub with_value_by : (K → Bool) → Contents K V → V → Contents K V
   with_value_by test m v = option_map_or (λ i. with_value_at m i v) (index_by test m.entries) m
 
-  -- The map m with v as the value of the first key that is equal to k, if there is one.
   -- Example: b for `1y` in `[(1x,a)]`: `[(1x,b)]`.
+  -- The map m with v as the value of the first key that is equal to k, if there is one.
   abbrev pub with_value_of : (K → K → Bool) → Contents K V → K → V → Contents K V
   with_value_of eq m k v = with_value_by (eq k) m v
 
-  -- Another n pairs fit before the vector grows.
   -- Example: `[(1,a)]` with capacity 2: one more fits, two do not.
+  -- Another n pairs fit before the vector grows.
   abbrev pub HasRoom : Contents K V → ℕ → Type 0
   HasRoom m n = length m.entries + n ≤ m.capacity
 
-  -- The map is full: no more pairs fit before the vector grows.
   -- Example: `[(1,a)]` with capacity 1.
+  -- The map is full: no more pairs fit before the vector grows.
   abbrev pub IsFull : Contents K V → Type 0
   IsFull m = length m.entries ≡ m.capacity
 
-  -- What a call that reserves capacity for `additional` more pairs returns and leaves.
   -- Example: of 1 on `[(1,a)]` with capacity 1: the same list, with capacity 2 or more.
+  -- What a call that reserves capacity for `additional` more pairs returns and leaves.
   pub record Reserves {A E : Type 0} (additional : ℕ) (old : Contents K V) (result : Result A E) (new : Contents K V) : Type 0 where
     pub entries : new.entries ≡ old.entries
     pub room : OnOk result (HasRoom new additional)
@@ -64,26 +64,25 @@ module _ {K V : Type 0} where
     pub unchanged : HasRoom old additional → new ≡ old
     pub err : OnErr result (new ≡ old)
 
-  -- The capacity does not shrink. It stays if the key has an index. It also stays if there is spare capacity for one
-  -- more pair.
+  -- The capacity does not shrink, and stays if the key has an index or if there is spare capacity for one more pair.
   pub record KeepsRoomAt (index : Option ℕ) (old new : Contents K V) : Type 0 where
     pub capacity : old.capacity ≤ new.capacity
     pub present : IsSome index → new.capacity ≡ old.capacity
     pub spare : HasRoom old 1 → new.capacity ≡ old.capacity
 
-  -- A key was refused: the map is unchanged, the key has no index, and the map is full.
+  -- Memory ran out for a key: the map is unchanged, the key has no index, and the map is full.
   pub record RefusesAt (index : Option ℕ) (old new : Contents K V) : Type 0 where
     pub unchanged : new ≡ old
     pub absent : index ≡ None
     pub full : IsFull old
 
 module _ {K V : Type 0} (eq : K → K → Bool) where
-  -- The same for the index of the first key that is equal to k.
   -- Example: a new key with capacity 4 and 3 pairs: capacity 4.
+  -- The capacity does not shrink, and stays if the key is present or if there is spare capacity for one more pair.
   abbrev pub KeepsRoom : Contents K V → K → Contents K V → Type 0
   KeepsRoom old k new = KeepsRoomAt (index_of eq old.entries k) old new
 
-  -- The insertion of `k` was refused: nothing has changed, the key is new, and the map is full.
   -- Example: of `2` on `[(1,a)]` with capacity 1: the same map.
+  -- Memory ran out for the insertion of `k`: nothing has changed, the key is new, and the map is full.
   abbrev pub Refuses : Contents K V → K → Contents K V → Type 0
   Refuses old k new = RefusesAt (index_of eq old.entries k) old new

@@ -6,8 +6,8 @@ use Rattle.vecmap_base.specs.Drain.{DrainsFirst, DrainsLast}
 use Rattle.vecmap_map.specs.declared.drain.Drain.{Drain}
 
 module _ {K V : Type 0} where
-  -- The remaining pairs of the drain.
   -- Example: of `1..4` of `[0,1,2,3,4]`, after one `next`: `[2,3]`.
+  -- The remaining pairs of the drain.
   abbrev pub drain_rest : Drain K V → List (K × V)
   drain_rest d = reverse_if d.reversed (drop d.keep d.map.now.entries)
 
@@ -23,8 +23,8 @@ module _ {K V : Type 0} where
   abbrev pub drain_lender : Drain K V → GName
   drain_lender d = d.map.ghost_name
 
-  -- Both drains borrow the same map, and leave it the same pairs and the same capacity.
   -- Example: of `1..4` of `[0,1,2,3,4]`: `[0,4]` is left, also after `next`.
+  -- Both drains borrow the same map, and leave it the same pairs and the same capacity.
   abbrev pub DrainKeeps : Drain K V → Drain K V → Type 0
   DrainKeeps old new = (drain_lender new ≡ drain_lender old) × (drain_kept new ≡ drain_kept old) × (drain_capacity new ≡ drain_capacity old)
 

@@ -17,8 +17,8 @@ module _ {K V : Type 0} where
   entry_ref (Occupied o) = o.map
   entry_ref (Vacant e) = e.map
 
-  -- The map, as the entry holds it.
   -- Example: of `1y` on `[(1x,7)]`: that map.
+  -- The map, as the entry holds it.
   abbrev pub entry_map : Entry K V → Contents K V
   entry_map e = (entry_ref e).now
 
@@ -27,34 +27,34 @@ module _ {K V : Type 0} where
   entry_key (Occupied o) = o.key
   entry_key (Vacant e) = e.key
 
-  -- The index of the key, if it has one.
   -- Example: of `1y` on `[(1x,7)]`: 0; on `[]`: none.
+  -- The index of the key, if it has one.
   abbrev pub entry_index_of : Entry K V → Option ℕ
   entry_index_of (Occupied o) = Some o.index
   entry_index_of (Vacant e) = None
 
-  -- The index of the key, or the one that it will get.
   -- Example: of `1y` on `[(1x,7)]`: 0; on `[]`: 0.
+  -- The index of the key, or the index that it will get.
   abbrev pub entry_index : Entry K V → ℕ
   entry_index e = unwrap_or (entry_index_of e) (length (entry_map e).entries)
 
-  -- The value of the key, if it has one.
   -- Example: of `1y` on `[(1x,7)]`: 7; on `[]`: none.
+  -- The value of the key, if it has one.
   abbrev pub entry_value : Entry K V → Option V
   entry_value e = option_and_then (value_at (entry_map e).entries) (entry_index_of e)
 
-  -- The stored pair of the key, if it has one.
   -- Example: of `1y` on `[(1x,7)]`: `(1x,7)`.
+  -- The stored pair of the key, if it has one.
   abbrev pub entry_pair : Entry K V → Option (K × V)
   entry_pair e = option_and_then (slice_get (entry_map e).entries) (entry_index_of e)
 
-  -- The pairs after v is set as the value of the key. It replaces an existing value, and a new pair is appended.
   -- Example: of `1y` on `[(1x,7)]` and 9: `[(1x,9)]`; on `[]`: `[(1y,9)]`.
+  -- The pairs after v is set as the value of the key. It replaces an existing value, and a new pair is appended.
   abbrev pub entries_with : Entry K V → V → List (K × V)
   entries_with e v = option_map_or (λ i. with_value (entry_map e).entries i v) (entry_index_of e) ((entry_map e).entries ++ (entry_key e, v) ∷ [])
 
-  -- The pairs without the pair of the key, if it has one. The index of each later pair decreases by one.
   -- Example: of `1y` on `[(1x,7)]`: `[]`.
+  -- The pairs without the pair of the key, if it has one. The index of each later pair decreases by one.
   abbrev pub entries_without : Entry K V → List (K × V)
   entries_without e = option_map_or (remove (entry_map e).entries) (entry_index_of e) (entry_map e).entries
 
@@ -62,25 +62,25 @@ module _ {K V : Type 0} where
   abbrev pub entries_swap_without : Entry K V → List (K × V)
   entries_swap_without e = option_map_or (swap_without (entry_map e).entries) (entry_index_of e) (entry_map e).entries
 
-  -- A later write or removal through d leaves the same pairs as one through e.
   -- Example: before and after `and_modify`: a write of 9 leaves `[(1x,9)]` through either.
+  -- A later write or removal through d leaves the same pairs as one through e.
   pub record LeavesSame (e d : Entry K V) : Type 0 where
     pub write : (v : V) → entries_with d v ≡ entries_with e v
     pub removal : entries_without d ≡ entries_without e
     pub swap_removal : entries_swap_without d ≡ entries_swap_without e
 
-  -- The entry o with v as its value.
   -- Example: that of `1y` on `[(1x,7)]` and 9: that of `1y` on `[(1x,9)]`.
+  -- The entry o with v as its value.
   abbrev pub occupied_with : OccupiedEntry K V → V → OccupiedEntry K V
   occupied_with o v = record o { map = record o.map { now = with_value_at o.map.now o.index v }; within = still_within o v }
 
-  -- The map is full, and the refusal of the key of e with a made value became the error.
   -- Example: `or_try_insert_with` of `1y` on a full `[]` for `AllocError`: that error.
+  -- The map is full, and a `Refused` with the key of e and a made value became the error.
   abbrev pub RefusesMade : {E : Type 0} → (Refused (K × V) → E → Type 0) → (V → Type 0) → Entry K V → E → Type 0
   RefusesMade becomes made e error = (v : V) × made v × IsFull (entry_map e) × becomes (record { given = (entry_key e, v) }) error
 
-  -- The list l has the pairs after v is set as the value of the key of e. A vacant entry stores a clone of the key.
   -- Example: of `1y` on `[]` and 9: `[(c,9)]` for a clone `c` of `1y`.
+  -- The list l has the pairs after v is set as the value of the key of e. A vacant entry stores a clone of the key.
   abbrev pub AreEntriesWith : (K → K → Type 0) → Entry K V → V → List (K × V) → Type 0
   AreEntriesWith is_clone (Occupied o) v l = l ≡ entries_with (Occupied o) v
   AreEntriesWith is_clone (Vacant e) v l = (k : K) × is_clone e.key k × (l ≡ e.map.now.entries ++ (k, v) ∷ [])

@@ -2,10 +2,11 @@
 ghost use Rattle.std.specs.Prelude.{◌≡◌, ◌<◌, ◌+◌, ◌≤◌, ◌/◌, IfOk, IsOk, List, None, OnErr, OnOk, [], if◌then◌else◌, length};
 ghost use Rattle.std.specs.Iterator.{Drains, ExtendsWithItems, IsFiniteIterable};
 ghost use Rattle.std.specs.Map.Iter.{deref, deref_pair};
-ghost use Rattle.vecmap_base.specs.Bulk.{HasRoomForAll, HasRoomForHalf, HoldsOfEach, StopsAt};
+ghost use Rattle.vecmap_base.specs.Bulk.{HasRoomForAll, HoldsOfEach};
+ghost use Rattle.vecmap_base.specs.Clones.{ArePairClones, ClonesSucceed};
 ghost use Rattle.vecmap_base.specs.Pairs.{put, puts};
 ghost use Rattle.vecmap_map.specs.Contents.{HasRoom, KeepsRoomAt, Refuses, with_entries};
-ghost use Rattle.vecmap_map.specs.MapBulk.{ArePairClones, ClonesSucceed, Puts, PutsClones, RefusesAfter, RefusesClonesAfter, StaysOrStopsAt};
+ghost use Rattle.vecmap_map.specs.MapBulk.{Extends, Puts, PutsClones, RefusesAfter, RefusesClonesAfter};
 
 use crate::VecMap;
 use std::alloc::{AllocError, Global};
@@ -13,15 +14,14 @@ use std::alloc::{AllocError, Global};
 impl<K, V> VecMap<K, V> {
     /// Creates a map and inserts the pairs of an iterator, in order.
     ///
-    /// Of equal keys, the first one is kept, at its index, with the last of their values. The call first reserves
+    /// Among duplicate keys the first is kept, at its index, with the last of their values. The call first reserves
     /// capacity for as many pairs as the lower size hint of the iterator says.
     ///
     /// # Errors
     ///
-    /// [`AllocError`] if the allocator refuses a request; no map is created, and the pairs and the iterator are
-    /// dropped.
+    /// [`AllocError`] if an allocation fails; no map is created, and the pairs and the iterator are dropped.
     ///
-    /// # Conditions
+    /// # Preconditions
     ///
     /// The iterator ends.
     ///
@@ -53,15 +53,14 @@ impl<K, V> VecMap<K, V> {
         Ok(map)
     }
 
-    /// Creates a map and inserts clones of the pairs, in order.
+    /// Creates a map and inserts clones of the pairs of a slice, in order.
     ///
-    /// This is Rust's `From<&[(K, V)]>`. Of equal keys, the clone of the first one is kept, at its index, with a clone
-    /// of the last of their values. The call first reserves capacity for as many pairs as the slice has.
+    /// This is Rust's `From<&[(K, V)]>`. Among duplicate keys the clone of the first is kept, at its index, with a
+    /// clone of the last of their values. The call first reserves capacity for as many pairs as the slice has.
     ///
     /// # Errors
     ///
-    /// [`AllocError`] if the allocator refuses a request, or if the clone of a key or of a value is refused; no map is
-    /// created.
+    /// [`AllocError`] if an allocation fails, or if the clone of a key or a value fails; no map is created.
     ///
     /// # Complexity
     ///
@@ -96,8 +95,8 @@ impl<K, V> VecMap<K, V> {
     ///
     /// # Errors
     ///
-    /// [`AllocError`] if the allocator refuses the request; both maps are then unchanged. With spare capacity for all
-    /// pairs of `other`, the call makes no request and always succeeds.
+    /// [`AllocError`] if allocation fails; both maps are then unchanged. With spare capacity for all pairs of `other`,
+    /// the call does not allocate and always succeeds.
     ///
     /// # Complexity
     ///
@@ -144,11 +143,11 @@ impl<K, V> VecMap<K, V> {
     ///
     /// # Errors
     ///
-    /// [`AllocError`] if the allocator refuses a request. If it refuses the first one, the map is unchanged. If it
-    /// refuses to grow the map for a pair, the pairs before it stay, and that pair is dropped with the iterator. With
-    /// spare capacity for all pairs, the call makes no request and always succeeds.
+    /// [`AllocError`] if an allocation fails. If the capacity that is reserved first cannot be allocated, the map is
+    /// unchanged. If the map cannot grow for a pair, the pairs before it stay, and that pair is dropped with the
+    /// iterator. With spare capacity for all pairs, the call does not allocate and always succeeds.
     ///
-    /// # Conditions
+    /// # Preconditions
     ///
     /// The iterator ends.
     ///
@@ -171,20 +170,10 @@ impl<K, V> VecMap<K, V> {
             iter }
         ensures ran { ExtendsWithItems I.into_iter_gives I.IntoIter.next_gives
             (Puts K.eq) iter self.old self.new result }
-        ensures capacity { self.old.capacity ≤ self.new.capacity }
         ensures succeeds { HasRoomForAll I.into_iter_gives I.IntoIter.remaining iter
             (HasRoom self.old) → IsOk result }
-        ensures capacity_stays { HasRoomForAll I.into_iter_gives I.IntoIter.remaining iter
-            (HasRoom self.old) → self.new.capacity ≡ self.old.capacity }
-
-        // On `Err` either the first request was refused and the map is unchanged, or a new key was refused in a full
-        // map.
-        ensures err { OnErr result (StaysOrStopsAt I.into_iter_gives I.IntoIter.next_gives iter
-            (RefusesAfter K.eq) self.old self.new) }
-        ensures late_err { 0 < length self.old.entries
-            → HasRoomForHalf I.into_iter_gives I.IntoIter.remaining iter (HasRoom self.old)
-            → OnErr result (StopsAt I.into_iter_gives I.IntoIter.next_gives iter
-            (RefusesAfter K.eq self.old self.new)) }
+        ensures extended { Extends I.into_iter_gives I.IntoIter.next_gives I.IntoIter.remaining
+            (RefusesAfter K.eq) iter self.old result self.new }
     {
         let items = iter.into_iter();
         self.reserve(capacity_to_reserve(self.is_empty(), items.size_hint().0))?;
@@ -194,17 +183,16 @@ impl<K, V> VecMap<K, V> {
         Ok(())
     }
 
-    /// Like [`VecMap::extend`], with the same cost, but inserts clones of the keys and values of an iterator of
-    /// references.
+    /// Like [`VecMap::extend`], but inserts clones of the keys and values of an iterator of references.
     ///
     /// This is Rust's `Extend<(&K, &V)>`. An existing key stays as it is, and the clone of the equal key is dropped.
     ///
     /// # Errors
     ///
-    /// [`AllocError`] if the allocator refuses a request, or if a clone is refused. If the first request is refused,
-    /// the map is unchanged. If a pair or one of its clones is refused, the clones of the pairs before it stay.
+    /// [`AllocError`] if an allocation fails, or if a clone fails. If the capacity that is reserved first cannot be
+    /// allocated, the map is unchanged. If a pair cannot be cloned or stored, the clones of the pairs before it stay.
     ///
-    /// # Conditions
+    /// # Preconditions
     ///
     /// The iterator ends.
     ///
@@ -227,21 +215,11 @@ impl<K, V> VecMap<K, V> {
             iter }
         ensures ran { ExtendsWithItems I.into_iter_gives I.IntoIter.next_gives
             (PutsClones K.eq K.is_clone V.is_clone deref_pair) iter self.old self.new result }
-        ensures capacity { self.old.capacity ≤ self.new.capacity }
         ensures succeeds { HasRoomForAll I.into_iter_gives I.IntoIter.remaining iter
             (HasRoom self.old) → HoldsOfEach I.into_iter_gives I.IntoIter.next_gives iter
             (ClonesSucceed K.Clone V.Clone deref_pair) → IsOk result }
-        ensures capacity_stays { HasRoomForAll I.into_iter_gives I.IntoIter.remaining iter
-            (HasRoom self.old) → self.new.capacity ≡ self.old.capacity }
-
-        // On `Err` either the first request was refused and the map is unchanged, or the next item was refused. If its
-        // clones cannot fail, a clone of its key is then new and the map is full.
-        ensures err { OnErr result (StaysOrStopsAt I.into_iter_gives I.IntoIter.next_gives iter
-            (RefusesClonesAfter K.eq K.Clone V.Clone deref_pair) self.old self.new) }
-        ensures late_err { 0 < length self.old.entries
-            → HasRoomForHalf I.into_iter_gives I.IntoIter.remaining iter (HasRoom self.old)
-            → OnErr result (StopsAt I.into_iter_gives I.IntoIter.next_gives iter
-            (RefusesClonesAfter K.eq K.Clone V.Clone deref_pair self.old self.new)) }
+        ensures extended { Extends I.into_iter_gives I.IntoIter.next_gives I.IntoIter.remaining
+            (RefusesClonesAfter K.eq K.Clone V.Clone deref_pair) iter self.old result self.new }
     {
         let items = iter.into_iter();
         self.reserve(capacity_to_reserve(self.is_empty(), items.size_hint().0))?;
@@ -251,7 +229,7 @@ impl<K, V> VecMap<K, V> {
         Ok(())
     }
 
-    /// Like [`VecMap::extend_refs`], with the same cost, but for an iterator over references to pairs.
+    /// Like [`VecMap::extend_refs`], but for an iterator over references to pairs.
     ///
     /// This is Rust's `Extend<&(K, V)>`. An existing key stays as it is, and the clone of the equal key is dropped.
     ///
@@ -259,7 +237,7 @@ impl<K, V> VecMap<K, V> {
     ///
     /// As for [`VecMap::extend_refs`].
     ///
-    /// # Conditions
+    /// # Preconditions
     ///
     /// The iterator ends.
     ///
@@ -281,21 +259,11 @@ impl<K, V> VecMap<K, V> {
             iter }
         ensures ran { ExtendsWithItems I.into_iter_gives I.IntoIter.next_gives
             (PutsClones K.eq K.is_clone V.is_clone deref) iter self.old self.new result }
-        ensures capacity { self.old.capacity ≤ self.new.capacity }
         ensures succeeds { HasRoomForAll I.into_iter_gives I.IntoIter.remaining iter
             (HasRoom self.old) → HoldsOfEach I.into_iter_gives I.IntoIter.next_gives iter
             (ClonesSucceed K.Clone V.Clone deref) → IsOk result }
-        ensures capacity_stays { HasRoomForAll I.into_iter_gives I.IntoIter.remaining iter
-            (HasRoom self.old) → self.new.capacity ≡ self.old.capacity }
-
-        // On `Err` either the first request was refused and the map is unchanged, or the next item was refused. If its
-        // clones cannot fail, a clone of its key is then new and the map is full.
-        ensures err { OnErr result (StaysOrStopsAt I.into_iter_gives I.IntoIter.next_gives iter
-            (RefusesClonesAfter K.eq K.Clone V.Clone deref) self.old self.new) }
-        ensures late_err { 0 < length self.old.entries
-            → HasRoomForHalf I.into_iter_gives I.IntoIter.remaining iter (HasRoom self.old)
-            → OnErr result (StopsAt I.into_iter_gives I.IntoIter.next_gives iter
-            (RefusesClonesAfter K.eq K.Clone V.Clone deref self.old self.new)) }
+        ensures extended { Extends I.into_iter_gives I.IntoIter.next_gives I.IntoIter.remaining
+            (RefusesClonesAfter K.eq K.Clone V.Clone deref) iter self.old result self.new }
     {
         let items = iter.into_iter();
         self.reserve(capacity_to_reserve(self.is_empty(), items.size_hint().0))?;

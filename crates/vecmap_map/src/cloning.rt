@@ -1,6 +1,6 @@
 //! Clones of a map, by a call and by the trait `Clone`, for generic code, derives and maps in maps.
 ghost use Rattle.std.specs.Prelude.{IfOk};
-ghost use Rattle.vecmap_map.specs.MapBulk.{ArePairClones};
+ghost use Rattle.vecmap_base.specs.Clones.{ArePairClones};
 
 use crate::VecMap;
 use std::alloc::AllocError;
@@ -10,8 +10,7 @@ impl<K, V> VecMap<K, V> {
     ///
     /// # Errors
     ///
-    /// [`AllocError`] if the allocator refuses the request, or if the clone of a key or of a value is refused; no map
-    /// is created.
+    /// [`AllocError`] if allocation fails, or if the clone of a key or a value fails; no map is created.
     ///
     /// # Complexity
     ///
@@ -44,8 +43,7 @@ impl<K, V> VecMap<K, V> {
 ///
 /// # Errors
 ///
-/// [`AllocError`] if the allocator refuses the request, or if the clone of a key or of a value is refused; the map is
-/// then unchanged.
+/// [`AllocError`] if allocation fails, or if the clone of a key or a value fails; the map is then unchanged.
 ///
 /// # Complexity
 ///

@@ -1,17 +1,17 @@
 //! Conversions of a vector into a map, which keep the vector, and of an array; clones of the pairs in a new vector.
 ghost use Rattle.std.specs.Prelude.{◌≡◌, ◌≤◌, IfOk, [], vec_capacity};
 ghost use Rattle.std.specs.Map.{keys_of};
+ghost use Rattle.vecmap_base.specs.Clones.{ArePairClones};
 ghost use Rattle.vecmap_base.specs.Pairs.{HasDistinctKeys, puts};
 ghost use Rattle.vecmap_base.specs.Repeats.{comparisons};
-ghost use Rattle.vecmap_map.specs.MapBulk.{ArePairClones};
 
 use crate::VecMap;
 use std::alloc::{AllocError, Global};
 use vecmap_base::{Steps, dedup_keep_last_value};
 
-/// Inserts the pairs of a vector in order, and keeps them in that vector.
+/// Converts a vector into a map, in the same memory, and removes pairs with duplicate keys.
 ///
-/// Of equal keys the first one stays, with the last of their values. The capacity stays.
+/// Among duplicate keys the first is kept, with the last of their values. The capacity stays.
 ///
 /// # Complexity
 ///
@@ -34,12 +34,12 @@ impl<K: Eq + Drop, V: Drop> From<Vec<(K, V)>> for VecMap<K, V> {
 }
 
 impl<K, V> VecMap<K, V> {
-    /// Like `From<Vec<(K, V)>>`, with the same cost, but also returns the number of comparisons.
+    /// Like `From<Vec<(K, V)>>`, but also returns the number of comparisons.
     ///
     /// # Complexity
     ///
     /// Each key is compared with the keys before it that stay, up to the first equal one. These are at most n(n-1)/2
-    /// comparisons for n pairs, and exactly as many if no two keys are equal (`key_comparisons_are_bounded` of
+    /// comparisons for n pairs, and exactly as many if all keys are distinct (`key_comparisons_are_bounded` of
     /// `vecmap_laws`).
     ///
     /// # Examples
@@ -64,11 +64,11 @@ impl<K, V> VecMap<K, V> {
 
     /// Creates a map and inserts the pairs of an array, in order.
     ///
-    /// This is Rust's `From<[(K, V); N]>`. Of equal keys the first one stays, with the last of their values.
+    /// This is Rust's `From<[(K, V); N]>`. Among duplicate keys the first is kept, with the last of their values.
     ///
     /// # Errors
     ///
-    /// [`AllocError`] if the allocator refuses the request; the pairs are then dropped, and no map is created.
+    /// [`AllocError`] if allocation fails; the pairs are then dropped, and no map is created.
     ///
     /// # Complexity
     ///
@@ -93,11 +93,11 @@ impl<K, V> VecMap<K, V> {
         Ok(VecMap::from(Vec::from_array(alloc, pairs)?))
     }
 
-    /// Creates a map of the pairs as they are, in the vector that holds them.
+    /// Converts a vector into a map, in the same memory, without a search for duplicate keys.
     ///
-    /// # Conditions
+    /// # Preconditions
     ///
-    /// No two keys are equal: `keys_distinct` returns `true`.
+    /// All keys are distinct: `keys_distinct` returns `true`.
     ///
     /// # Complexity
     ///
@@ -125,8 +125,7 @@ impl<K, V> VecMap<K, V> {
     ///
     /// # Errors
     ///
-    /// [`AllocError`] if the allocator refuses the request, or if the clone of a key or of a value is refused; no
-    /// vector is created.
+    /// [`AllocError`] if allocation fails, or if the clone of a key or a value fails; no vector is created.
     ///
     /// # Complexity
     ///

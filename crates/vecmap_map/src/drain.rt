@@ -7,8 +7,8 @@ ghost use Rattle.std.specs.Iterator.{at_most};
 ghost use Rattle.std.specs.Iterator.Runs.{YieldsInOrder, YieldsInReverse};
 ghost use Rattle.std.specs.List.{remove_range};
 ghost use Rattle.vecmap_base.specs.Drain.{KeepsAlong};
+ghost use Rattle.vecmap_base.specs.Iterators.{HintsExactly};
 ghost use Rattle.vecmap_base.specs.Ranges.{AreEndsWithin, IsRangeWithin, items_between, without_between};
-ghost use Rattle.vecmap_base.specs.Walks.{HintsExactly};
 ghost use Rattle.vecmap_map.specs.Drain.{DrainKeeps, DrainNext, DrainNextBack, drain_capacity, drain_kept, drain_lender, drain_rest};
 
 use crate::VecMap;
@@ -20,11 +20,11 @@ use vecmap_base::{move_range_last, reverse_from};
 impl<K, V> VecMap<K, V> {
     /// Removes the pairs of a range of indices, and returns an iterator over them.
     ///
-    /// The iterator gives the pairs in order, from either end. `range` is any range of std, with included, excluded or
-    /// open ends. Once the iterator is dropped, after any number of calls of `next`, the whole range is gone. The other
-    /// pairs keep their order, and the capacity stays.
+    /// The iterator yields the pairs in order, from either end. `range` is any range of std, with inclusive, exclusive
+    /// or open ends. Once the iterator is dropped, after any number of calls of `next`, the whole range is gone. The
+    /// other pairs keep their order, and the capacity stays.
     ///
-    /// # Conditions
+    /// # Preconditions
     ///
     /// The start of the range is at most its end, and its end is at most [`VecMap::len`]. Both are computed without
     /// overflow, so a range whose start is `Excluded(usize::MAX)` is in no map. A `RangeInclusive` that was iterated to
@@ -32,8 +32,8 @@ impl<K, V> VecMap<K, V> {
     ///
     /// # Complexity
     ///
-    /// A number of moves that is linear in the number of pairs from the start of the range on. If the range reaches to
-    /// the end, none. Does not allocate.
+    /// A number of moves that is linear in the number of pairs from the start of the range on. No moves if the range
+    /// ends at `len`. Does not allocate.
     ///
     /// # Examples
     ///
@@ -71,14 +71,14 @@ impl<K, V> VecMap<K, V> {
 
 /// An iterator over the pairs of a range of a map, which it removes. [`VecMap::drain`] creates it.
 ///
-/// When it is dropped, at any point, it leaves the map without the whole range. The pairs that were not taken are
+/// When it is dropped, at any point, it leaves the map without the whole range. The pairs that were not yielded are
 /// dropped, and the other pairs of the map keep their order. After the last pair, each call of `next` returns `None`.
 ///
 /// # Complexity
 ///
-/// Constant time for each pair that is taken from the same end as the one before. The first pair, and one from the
-/// other end, can take a number of moves that is linear in the number of remaining pairs, as they are first reversed.
-/// No call allocates.
+/// Constant time for each pair from the same end as the pair before. The first pair, and the first from the other end,
+/// can cost a number of moves that is linear in the number of remaining pairs, as they are first reversed. No call
+/// allocates.
 ///
 /// # Examples
 ///
@@ -102,15 +102,16 @@ pub struct Drain<'a, K, V> {
 impl<'a, K: Drop, V: Drop> Drain<'a, K, V> {
     /// Creates the drain of the pairs from the index `start` up to, but not including, `end`.
     ///
-    /// [`VecMap::drain`] is the usual call, and calls it. This one is for callers that have two indices, and no range.
+    /// This is [`VecMap::drain`] for callers that have two indices and no range.
     ///
-    /// # Conditions
+    /// # Preconditions
     ///
     /// `start` is at most `end`, and `end` is at most the number of pairs.
     ///
     /// # Complexity
     ///
-    /// A number of moves that is linear in the number of pairs from `start` on. If `end` is the number of pairs, none.
+    /// A number of moves that is linear in the number of pairs from `start` on. No moves if `end` is the number of
+    /// pairs.
     ///
     /// # Examples
     ///
@@ -152,7 +153,7 @@ impl<'a, K: Drop, V: Drop> Drain<'a, K, V> {
 }
 
 impl<'a, K, V> Drain<'a, K, V> {
-    // Reverses the remaining pairs if their order is not the wanted one.
+    // Reverses the remaining pairs unless they are in the wanted order.
     #[tactic(auto, using(vecmap_base::proofs::DrainRuns::drains))]
     fn put_in_order(&mut self, reversed: bool)
         requires { self.old.keep ≤ length self.old.map.now.entries }
@@ -163,7 +164,7 @@ impl<'a, K, V> Drain<'a, K, V> {
         ensures keeps { DrainKeeps self.old self.new }
     {
         if self.reversed != reversed {
-            // The check reaches the vector of a map only through a variable.
+            // `rt check` reaches the vector of a map only through a variable.
             let map = &mut *self.map;
             reverse_from(&mut map.pairs, self.keep);
             self.reversed = reversed;

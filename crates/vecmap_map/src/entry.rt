@@ -73,8 +73,12 @@ impl<'a, K, V> Entry<'a, K, V> {
 
     /// Creates the entry of `key` in `map`.
     ///
-    /// [`VecMap::entry`] is the usual call, and calls it. This one is for callers that create entries by their type, as
-    /// iterators by their `over`.
+    /// [`VecMap::entry`] is the usual call, and calls it. This one is for callers that create an entry by its type, as
+    /// they create iterators by `over`.
+    ///
+    /// # Complexity
+    ///
+    /// At most `len` comparisons; the calls of the entry make none. Does not allocate.
     ///
     /// # Examples
     ///
@@ -103,7 +107,7 @@ impl<'a, K, V> Entry<'a, K, V> {
     ///
     /// # Errors
     ///
-    /// [`Refused`] returns the pair if the map is full and the allocator refuses to grow it; the map is then unchanged.
+    /// [`Refused`] returns the pair if the map is full and allocation fails; the map is then unchanged.
     ///
     /// # Complexity
     ///
@@ -135,10 +139,9 @@ impl<'a, K, V> Entry<'a, K, V> {
         }
     }
 
-    /// Like [`Entry::or_insert`], with the same cost, but with the value that `f` returns. `f` is called only if the
-    /// key has no value.
+    /// Like [`Entry::or_insert`], but with the value that `f` returns. `f` is called only if the key has no value.
     ///
-    /// # Conditions
+    /// # Preconditions
     ///
     /// If the key has no value, `f` can be called.
     ///
@@ -166,9 +169,9 @@ impl<'a, K, V> Entry<'a, K, V> {
         }
     }
 
-    /// Like [`Entry::or_insert_with`], with the same cost, but `f` is called with a reference to the passed key.
+    /// Like [`Entry::or_insert_with`], but `f` is called with a reference to the passed key.
     ///
-    /// # Conditions
+    /// # Preconditions
     ///
     /// If the key has no value, `f` can be called with the passed key.
     ///
@@ -201,15 +204,15 @@ impl<'a, K, V> Entry<'a, K, V> {
         }
     }
 
-    /// Like [`Entry::or_insert_with`], with the same cost, but `f` may fail, for instance because it allocates.
+    /// Like [`Entry::or_insert_with`], but `f` may fail, for instance because it allocates.
     ///
     /// # Errors
     ///
-    /// If `f` returns an error, the call returns that error. If the map is full and the allocator refuses to grow it,
-    /// the [`Refused`] with the passed key and the value that `f` returned is converted to `E`. The map is unchanged in
-    /// both cases. Without a new key nothing fails.
+    /// If `f` returns an error, the call returns that error. If the map is full and allocation fails, the [`Refused`]
+    /// with the passed key and the value that `f` returned is converted to `E`. The map is unchanged in both cases.
+    /// Without a new key nothing fails.
     ///
-    /// # Conditions
+    /// # Preconditions
     ///
     /// If the key has no value, `f` can be called.
     ///
@@ -231,7 +234,7 @@ impl<'a, K, V> Entry<'a, K, V> {
         ensures value { IfOk result (λ x. UnwrapsOrElse (entry_value self.entry)
             (λ v. F.post f (Ok v)) x.now) }
 
-        // On `Err` the key is new. Either `f` failed, or the map is full and the pair was refused.
+        // On `Err` the key is new. Either `f` failed, or the map is full and memory ran out.
         ensures absent { OnErr result (entry_index_of self.entry ≡ None) }
         ensures err { IfErr result (λ error. F.post f (Err error) ⊎ RefusesMade
             E.from_gives (λ v. F.post f (Ok v)) self.entry error) }
@@ -241,7 +244,7 @@ impl<'a, K, V> Entry<'a, K, V> {
             Entry::Vacant(entry) => match f() {
                 Ok(value) => entry.insert_or_convert(value),
                 Err(error) => {
-                    // Gives the map back, for the proof.
+                    // Returns the map, for the proof.
                     let _map = entry.map;
                     Err(error)
                 }
@@ -249,15 +252,15 @@ impl<'a, K, V> Entry<'a, K, V> {
         }
     }
 
-    /// Like [`Entry::or_insert_with`], with the same cost, but with the default of the type, or with an empty
-    /// collection on the allocator of the map.
+    /// Like [`Entry::or_insert`], but with the default of the type, or with an empty collection on the allocator of the
+    /// map.
     ///
     /// A `Vec`, a `String`, a collection of std, a `VecMap` or a `VecSet` is created empty.
     ///
     /// # Errors
     ///
-    /// [`Refused`] returns the passed key and the new value if the map is full and the allocator refuses to grow it;
-    /// the map is then unchanged.
+    /// [`Refused`] returns the passed key and the new value if the map is full and allocation fails; the map is then
+    /// unchanged.
     ///
     /// # Examples
     ///
@@ -326,7 +329,7 @@ impl<'a, K, V> Entry<'a, K, V> {
 
     /// Calls `f` with a mutable reference to the value of the key, if it has one, and returns the entry.
     ///
-    /// # Conditions
+    /// # Preconditions
     ///
     /// If the key has a value, `f` can be called with it.
     ///
@@ -367,8 +370,12 @@ impl<'a, K, V> Entry<'a, K, V> {
     ///
     /// # Errors
     ///
-    /// [`Refused`] returns the passed key and `value` if the clone is refused, or if the map is full and the allocator
-    /// refuses to grow it; the map is then unchanged.
+    /// [`Refused`] returns the passed key and `value` if the clone fails, or if the map is full and allocation fails;
+    /// the map is then unchanged.
+    ///
+    /// # Complexity
+    ///
+    /// One clone of a new key. Allocates for the pair only if the key is new and the map is full.
     ///
     /// # Examples
     ///
@@ -383,7 +390,7 @@ impl<'a, K, V> Entry<'a, K, V> {
         V: Drop,
         ensures inserted { IfOk result (IsInserted K.is_clone self.entry value) }
 
-        // On `Err` the pair is returned. Only a new key is refused, and if its clone cannot fail, only in a full map.
+        // On `Err` the pair is returned, and its key is new. If its clone cannot fail, the map is full.
         ensures* err { sem 𝓛 (entry_passes K.row V.row self.entry result) }
         ensures given { IfErr result (λ refused. refused.given ≡ (entry_key self.entry, value)) }
         ensures absent { OnErr result (entry_index_of self.entry ≡ None) }

@@ -6,17 +6,17 @@ use vecmap_base::pairs_equal;
 
 /// Two maps are equal if each pair, by its key and its value, occurs equally often in both.
 ///
-/// If no keys repeat, this means that each key of either map has an equal value in both. A map with a value that
-/// differs from itself, as a NaN does, is not equal to any map, not even to itself.
+/// If all keys of a map are distinct, this means that each key of either map has an equal value in both. A map with a
+/// value that differs from itself, such as a NaN, is not equal to any map, not even to itself.
 ///
 /// # Complexity
 ///
 /// No comparisons if the lengths differ. Otherwise the call skips the indices at the front at which both maps hold
 /// equal pairs. It then matches the remaining pairs one to one: each pair with the first equal pair that is still free.
-/// If more than 1,024 pairs remain, it counts them in both maps instead. For maps of n pairs this takes
+/// If more than 1,024 pairs remain, it counts them in both maps instead. For maps of n pairs this needs
 ///
 /// - n comparisons of keys if the maps are equal and in the same order;
-/// - at most n(n + 1)/2 if the maps are equal, no keys repeat, and at most 1,024 pairs remain;
+/// - at most n(n + 1)/2 if the maps are equal, their keys are distinct, and at most 1,024 pairs remain;
 /// - at most n² in any other case, or 2n² + 1 if it counts.
 ///
 /// Does not allocate.

@@ -1,25 +1,26 @@
 //! The trait `Extend` of a map, for generic code, `try_collect` and `partition`.
 //!
-//! Each impl calls the inherent function that it names, and says the same of a refusal. Generic code knows only what
-//! the trait says: that some first part of the items was inserted.
+//! Each impl calls the inherent function that it names, and promises the same if an allocation fails. Generic code
+//! knows only what the trait promises: that some of the first items were inserted.
 ghost use Rattle.std.specs.Iterator.{ExtendsWithItems, IsFiniteIterable};
 ghost use Rattle.std.specs.Map.Iter.{deref, deref_pair};
-ghost use Rattle.std.specs.Prelude.{◌≡◌, ◌<◌, IsOk, OnErr, length};
-ghost use Rattle.vecmap_base.specs.Bulk.{HasRoomForAll, HasRoomForHalf, HoldsOfEach, StopsAt};
+ghost use Rattle.std.specs.Prelude.{IsOk};
+ghost use Rattle.vecmap_base.specs.Bulk.{HasRoomForAll, HoldsOfEach};
+ghost use Rattle.vecmap_base.specs.Clones.{ClonesSucceed};
 ghost use Rattle.vecmap_map.specs.Contents.{HasRoom};
-ghost use Rattle.vecmap_map.specs.MapBulk.{ClonesSucceed, Grows, Puts, PutsClones, RefusesAfter, RefusesClonesAfter, StaysOrStopsAt};
+ghost use Rattle.vecmap_map.specs.MapBulk.{Extends, Grows, Puts, PutsClones, RefusesAfter, RefusesClonesAfter};
 
 use crate::VecMap;
 use std::alloc::AllocError;
 
-/// Inserts the pairs of an iterator in order, like the inherent [`VecMap::extend`], with the same cost.
+/// Inserts the pairs of an iterator in order, like the inherent [`VecMap::extend`].
 ///
 /// # Errors
 ///
-/// [`AllocError`] if the allocator refuses a request. If it refuses the reservation, the map is unchanged. If it
-/// refuses to grow the map for a pair, the pairs before it are in the map.
+/// [`AllocError`] if an allocation fails. If the capacity that is reserved first cannot be allocated, the map is
+/// unchanged. If the map cannot grow for a pair, the pairs before it are in the map.
 ///
-/// # Conditions
+/// # Preconditions
 ///
 /// The iterator ends.
 ///
@@ -42,28 +43,22 @@ impl<K: Eq + Drop, V: Drop> Extend<(K, V)> for VecMap<K, V> {
             (Grows (Puts K.eq)) iter self.old self.new result }
         ensures succeeds { HasRoomForAll I.into_iter_gives I.IntoIter.remaining iter
             (HasRoom self.old) → IsOk result }
-        ensures capacity_stays { HasRoomForAll I.into_iter_gives I.IntoIter.remaining iter
-            (HasRoom self.old) → self.new.capacity ≡ self.old.capacity }
-        ensures err { OnErr result (StaysOrStopsAt I.into_iter_gives I.IntoIter.next_gives iter
-            (RefusesAfter K.eq) self.old self.new) }
-        ensures late_err { 0 < length self.old.entries
-            → HasRoomForHalf I.into_iter_gives I.IntoIter.remaining iter (HasRoom self.old)
-            → OnErr result (StopsAt I.into_iter_gives I.IntoIter.next_gives iter
-            (RefusesAfter K.eq self.old self.new)) }
+        ensures extended { Extends I.into_iter_gives I.IntoIter.next_gives I.IntoIter.remaining
+            (RefusesAfter K.eq) iter self.old result self.new }
     {
         VecMap::extend(self, iter)
     }
 }
 
 /// Inserts clones of the keys and values of an iterator of references, in order, like the inherent
-/// [`VecMap::extend_refs`], with the same cost.
+/// [`VecMap::extend_refs`].
 ///
 /// # Errors
 ///
-/// [`AllocError`] if the allocator refuses a request, or if a clone is refused. If the reservation is refused, the map
-/// is unchanged. If a pair or one of its clones is refused, clones of the pairs before it are in the map.
+/// [`AllocError`] if an allocation fails, or if a clone fails. If the capacity that is reserved first cannot be
+/// allocated, the map is unchanged. If a pair cannot be cloned or stored, clones of the pairs before it are in the map.
 ///
-/// # Conditions
+/// # Preconditions
 ///
 /// The iterator ends.
 ///
@@ -86,28 +81,21 @@ impl<'a, K: Eq + Clone + 'a, V: Clone + 'a> Extend<(&'a K, &'a V)> for VecMap<K,
         ensures succeeds { HasRoomForAll I.into_iter_gives I.IntoIter.remaining iter
             (HasRoom self.old) → HoldsOfEach I.into_iter_gives I.IntoIter.next_gives iter
             (ClonesSucceed K.Clone V.Clone deref_pair) → IsOk result }
-        ensures capacity_stays { HasRoomForAll I.into_iter_gives I.IntoIter.remaining iter
-            (HasRoom self.old) → self.new.capacity ≡ self.old.capacity }
-        ensures err { OnErr result (StaysOrStopsAt I.into_iter_gives I.IntoIter.next_gives iter
-            (RefusesClonesAfter K.eq K.Clone V.Clone deref_pair) self.old self.new) }
-        ensures late_err { 0 < length self.old.entries
-            → HasRoomForHalf I.into_iter_gives I.IntoIter.remaining iter (HasRoom self.old)
-            → OnErr result (StopsAt I.into_iter_gives I.IntoIter.next_gives iter
-            (RefusesClonesAfter K.eq K.Clone V.Clone deref_pair self.old self.new)) }
+        ensures extended { Extends I.into_iter_gives I.IntoIter.next_gives I.IntoIter.remaining
+            (RefusesClonesAfter K.eq K.Clone V.Clone deref_pair) iter self.old result self.new }
     {
         self.extend_refs(iter)
     }
 }
 
-/// Inserts clones of the pairs of an iterator of references, in order, like the inherent [`VecMap::extend_pairs`], with
-/// the same cost.
+/// Inserts clones of the pairs of an iterator of references, in order, like the inherent [`VecMap::extend_pairs`].
 ///
 /// # Errors
 ///
-/// [`AllocError`] if the allocator refuses a request, or if a clone is refused. If the reservation is refused, the map
-/// is unchanged. If a pair or one of its clones is refused, clones of the pairs before it are in the map.
+/// [`AllocError`] if an allocation fails, or if a clone fails. If the capacity that is reserved first cannot be
+/// allocated, the map is unchanged. If a pair cannot be cloned or stored, clones of the pairs before it are in the map.
 ///
-/// # Conditions
+/// # Preconditions
 ///
 /// The iterator ends.
 ///
@@ -129,14 +117,8 @@ impl<'a, K: Eq + Clone + 'a, V: Clone + 'a> Extend<&'a (K, V)> for VecMap<K, V> 
         ensures succeeds { HasRoomForAll I.into_iter_gives I.IntoIter.remaining iter
             (HasRoom self.old) → HoldsOfEach I.into_iter_gives I.IntoIter.next_gives iter
             (ClonesSucceed K.Clone V.Clone deref) → IsOk result }
-        ensures capacity_stays { HasRoomForAll I.into_iter_gives I.IntoIter.remaining iter
-            (HasRoom self.old) → self.new.capacity ≡ self.old.capacity }
-        ensures err { OnErr result (StaysOrStopsAt I.into_iter_gives I.IntoIter.next_gives iter
-            (RefusesClonesAfter K.eq K.Clone V.Clone deref) self.old self.new) }
-        ensures late_err { 0 < length self.old.entries
-            → HasRoomForHalf I.into_iter_gives I.IntoIter.remaining iter (HasRoom self.old)
-            → OnErr result (StopsAt I.into_iter_gives I.IntoIter.next_gives iter
-            (RefusesClonesAfter K.eq K.Clone V.Clone deref self.old self.new)) }
+        ensures extended { Extends I.into_iter_gives I.IntoIter.next_gives I.IntoIter.remaining
+            (RefusesClonesAfter K.eq K.Clone V.Clone deref) iter self.old result self.new }
     {
         self.extend_pairs(iter)
     }

@@ -22,7 +22,7 @@ impl<K, V> VecMap<K, V> {
 
 /// Returns the value at `index`. This is `map[index]`.
 ///
-/// # Conditions
+/// # Preconditions
 ///
 /// The index is less than [`VecMap::len`].
 ///
@@ -47,7 +47,7 @@ impl<K, V> Index<usize> for VecMap<K, V> {
 
 /// Returns a mutable reference to the value at `index`. This is `map[index] = value`.
 ///
-/// # Conditions
+/// # Preconditions
 ///
 /// The index is less than [`VecMap::len`].
 ///
@@ -73,7 +73,7 @@ impl<K, V> IndexMut<usize> for VecMap<K, V> {
 
 /// Returns the value of the first pair whose key is equal to `key`. This is `map[key]`.
 ///
-/// # Conditions
+/// # Preconditions
 ///
 /// Such a pair is present: [`VecMap::contains_key`] returns `true`.
 ///
@@ -102,7 +102,7 @@ impl<'q, K: Eq, V> Index<&'q K> for VecMap<K, V> {
 
 /// Returns a mutable reference to the value of the first pair whose key is equal to `key`. This is `map[key] = value`.
 ///
-/// # Conditions
+/// # Preconditions
 ///
 /// Such a pair is present: [`VecMap::contains_key`] returns `true`.
 ///
@@ -133,7 +133,7 @@ impl<'q, K: Eq, V> IndexMut<&'q K> for VecMap<K, V> {
 
 /// Returns the value of the first pair whose key has the bytes of `text`. This is `map[text]`.
 ///
-/// # Conditions
+/// # Preconditions
 ///
 /// Such a pair is present: [`VecMap::contains_key`] returns `true`.
 ///
@@ -163,7 +163,7 @@ impl<'q, V> Index<&'q str> for VecMap<String, V> {
 /// Returns a mutable reference to the value of the first pair whose key has the bytes of `text`. This is
 /// `map[text] = value`.
 ///
-/// # Conditions
+/// # Preconditions
 ///
 /// Such a pair is present: [`VecMap::contains_key`] returns `true`.
 ///
@@ -195,7 +195,7 @@ impl<'q, V> IndexMut<&'q str> for VecMap<String, V> {
 
 /// Returns the value of the first pair whose key, a borrowed text, has the bytes of `query`. This is `map[query]`.
 ///
-/// # Conditions
+/// # Preconditions
 ///
 /// Such a pair is present: [`VecMap::contains_key`] returns `true`.
 ///

@@ -16,7 +16,7 @@ impl<K, V> VecMap<K, V> {
     ///
     /// # Errors
     ///
-    /// [`Refused`] returns the pair if the map is full and the allocator refuses to grow it; the map is then unchanged.
+    /// [`Refused`] returns the pair if the map is full and allocation fails; the map is then unchanged.
     ///
     /// # Complexity
     ///
@@ -38,7 +38,7 @@ impl<K, V> VecMap<K, V> {
         ensures old { IfOk result (λ old. old ≡ lookup K.eq self.old.entries key) }
         ensures capacity { KeepsRoom K.eq self.old key self.new }
 
-        // On `Err` the pair is returned. Only a new key is refused, and only if the map is full.
+        // On `Err` the pair is returned, its key is new, and the map is full.
         ensures given { IfErr result (λ refused. refused.given ≡ (key, value)) }
         ensures err { OnErr result (Refuses K.eq self.old key self.new) }
     {
@@ -49,7 +49,7 @@ impl<K, V> VecMap<K, V> {
         Ok(None)
     }
 
-    /// Like [`VecMap::insert`], with the same cost, but also returns the index of the key.
+    /// Like [`VecMap::insert`], but also returns the index of the key.
     ///
     /// # Examples
     ///
@@ -67,7 +67,7 @@ impl<K, V> VecMap<K, V> {
         ensures old { IfOk result (λ done. done.1 ≡ lookup K.eq self.old.entries key) }
         ensures capacity { KeepsRoom K.eq self.old key self.new }
 
-        // On `Err` the pair is returned. Only a new key is refused, and only if the map is full.
+        // On `Err` the pair is returned, its key is new, and the map is full.
         ensures given { IfErr result (λ refused. refused.given ≡ (key, value)) }
         ensures err { OnErr result (Refuses K.eq self.old key self.new) }
     {
@@ -79,14 +79,14 @@ impl<K, V> VecMap<K, V> {
         Ok((index, None))
     }
 
-    /// Inserts a pair with its key, and returns the previous pair of the key.
+    /// Inserts a pair, replacing an equal key, and returns the previous pair of the key.
     ///
     /// If an equal key is present, the new pair replaces the old one at its index, key and value; [`VecMap::insert`]
     /// would keep the old key. A new pair is appended.
     ///
     /// # Errors
     ///
-    /// [`Refused`] returns the pair if the map is full and the allocator refuses to grow it; the map is then unchanged.
+    /// [`Refused`] returns the pair if the map is full and allocation fails; the map is then unchanged.
     ///
     /// # Complexity
     ///
@@ -106,7 +106,7 @@ impl<K, V> VecMap<K, V> {
         ensures old { IfOk result (λ old. old ≡ lookup_pair K.eq self.old.entries key) }
         ensures capacity { KeepsRoom K.eq self.old key self.new }
 
-        // On `Err` the pair is returned. Only a new key is refused, and only if the map is full.
+        // On `Err` the pair is returned, its key is new, and the map is full.
         ensures given { IfErr result (λ refused. refused.given ≡ (key, value)) }
         ensures err { OnErr result (Refuses K.eq self.old key self.new) }
     {
@@ -117,18 +117,17 @@ impl<K, V> VecMap<K, V> {
         Ok(None)
     }
 
-    /// Inserts a pair at `index`, and returns the previous index and value of its key.
+    /// Inserts a pair at `index`, or moves it there, and returns the previous index and value of its key.
     ///
     /// If the key is new, the index of each pair from `index` on increases by one. If an equal key is present, its pair
-    /// is removed: the old key is dropped, and the old index and value are returned. The new pair then stands at
-    /// `index`, or at the end if `index` is the number of pairs. The pairs between the old and the new index move by
-    /// one.
+    /// is removed: the old key is dropped, and the old index and value are returned. The new pair is then at `index`,
+    /// or at the end if `index` is the number of pairs. The pairs between the old and the new index move by one.
     ///
     /// # Errors
     ///
-    /// [`Refused`] returns the pair if the map is full and the allocator refuses to grow it; the map is then unchanged.
+    /// [`Refused`] returns the pair if the map is full and allocation fails; the map is then unchanged.
     ///
-    /// # Conditions
+    /// # Preconditions
     ///
     /// `index` is at most [`VecMap::len`].
     ///
@@ -145,6 +144,7 @@ impl<K, V> VecMap<K, V> {
     /// map.insert_at(0, 'b', 4)? // Some((2, 2))
     /// map.as_slice() // [('b', 4), ('c', 3), ('a', 1)]
     /// ```
+    #[inline(always)]
     pub fn insert_at(
         &mut self,
         index: usize,
@@ -159,7 +159,7 @@ impl<K, V> VecMap<K, V> {
         ensures old { IfOk result (λ old. old ≡ lookup_full K.eq self.old.entries key) }
         ensures capacity { KeepsRoom K.eq self.old key self.new }
 
-        // On `Err` the pair is returned. Only a new key is refused, and only if the map is full.
+        // On `Err` the pair is returned, its key is new, and the map is full.
         ensures given { IfErr result (λ refused. refused.given ≡ (key, value)) }
         ensures err { OnErr result (Refuses K.eq self.old key self.new) }
     {
@@ -205,6 +205,6 @@ impl<K, V> VecMap<K, V> {
         if self.pairs.len() < self.pairs.capacity() {
             return Ok(());
         }
-        self.reserve(1)
+        self.pairs.reserve(1)
     }
 }

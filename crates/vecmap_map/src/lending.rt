@@ -47,8 +47,8 @@ impl<K, V> VecMap<K, V> {
 
     /// Returns the first pair, with a mutable reference to its value, or `None` if the map is empty.
     ///
-    /// A proof of a caller that the search makes learns which pair the reference leads to, but not what the map holds
-    /// once it was written. [`VecMap::get_mut`] and `map[index] = value` say both.
+    /// A caller that the search proves knows which pair the reference points to, but not what the map holds after a
+    /// write through it. [`VecMap::get_mut`] and `map[index] = value` say both.
     ///
     /// # Complexity
     ///
@@ -73,8 +73,8 @@ impl<K, V> VecMap<K, V> {
 
     /// Returns the last pair, with a mutable reference to its value, or `None` if the map is empty.
     ///
-    /// A proof of a caller that the search makes learns which pair the reference leads to, but not what the map holds
-    /// once it was written. [`VecMap::get_mut`] and `map[index] = value` say both.
+    /// A caller that the search proves knows which pair the reference points to, but not what the map holds after a
+    /// write through it. [`VecMap::get_mut`] and `map[index] = value` say both.
     ///
     /// # Complexity
     ///
@@ -103,8 +103,8 @@ impl<K, V> VecMap<K, V> {
     /// Returns the index and the stored key of the first pair whose key matches `query`, with a mutable reference to
     /// its value, or `None` if no key matches.
     ///
-    /// A proof of a caller that the search makes learns which pair the reference leads to, but not what the map holds
-    /// once it was written. [`VecMap::get_mut`] and `map[index] = value` say both.
+    /// A caller that the search proves knows which pair the reference points to, but not what the map holds after a
+    /// write through it. [`VecMap::get_mut`] and `map[index] = value` say both.
     ///
     /// # Complexity
     ///
@@ -139,8 +139,8 @@ impl<K, V> VecMap<K, V> {
 
     /// Returns the pair at `index`, with a mutable reference to its value, or `None` if `index` is out of range.
     ///
-    /// A proof of a caller that the search makes learns which pair the reference leads to, but not what the map holds
-    /// once it was written. [`VecMap::get_mut`] and `map[index] = value` say both.
+    /// A caller that the search proves knows which pair the reference points to, but not what the map holds after a
+    /// write through it. [`VecMap::get_mut`] and `map[index] = value` say both.
     ///
     /// # Complexity
     ///

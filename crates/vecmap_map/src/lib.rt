@@ -30,11 +30,14 @@ use std::marker::Model;
 
 /// A map that keeps its pairs in insertion order.
 ///
-/// Keys need neither `Hash` nor `Ord`. A lookup compares them by `==`, in order, so it takes at most `len` comparisons.
+/// Keys need neither `Hash` nor `Ord`. A lookup compares them by `==`, in order, so it makes at most `len` comparisons.
 /// A contract sees a map as the list of its pairs and its capacity.
 ///
-/// No two keys are equal, unless a caller makes them so: by writing a key, by [`VecMap::from_vec_unchecked`], or by
-/// keys whose clones differ from them. A lookup then finds the first pair with an equal key.
+/// All pairs are in one allocation, and nothing else is: a pair needs `size_of::<(K, V)>()` bytes. A map is `Eq` if its
+/// values are, so it can itself be a key. It is neither `Hash` nor `Ord`.
+///
+/// All keys are distinct, unless a caller makes duplicates: by writing a key, or by keys whose clones differ from them.
+/// A lookup then finds the first pair with an equal key.
 ///
 /// # Examples
 ///

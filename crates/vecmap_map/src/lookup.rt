@@ -85,10 +85,10 @@ impl<K, V> VecMap<K, V> {
     pub fn get<Q: Equivalent<K>>(&self, query: Q) -> Option<&V>
     where
         K: Eq,
-        ensures { option_copied result ≡ lookup_by (Q.equivalent query) self.now.entries }
+        ensures value { option_copied result ≡ lookup_by (Q.equivalent query) self.now.entries }
     {
-        let (_index, _key, value) = self.get_full(query)?;
-        Some(value)
+        let index = self.get_index_of(query)?;
+        Some(&self.pairs[index].1)
     }
 
     /// Returns the pair at `index`, or `None` if `index` is out of range.
@@ -138,7 +138,7 @@ impl<K, V> VecMap<K, V> {
         Some((index, &pair.0, &pair.1))
     }
 
-    /// Returns the first pair whose key matches `query`, with the stored key.
+    /// Returns the first pair whose key matches `query`, with the stored key, or `None` if no key matches.
     ///
     /// # Complexity
     ///
@@ -182,7 +182,7 @@ impl<K, V> VecMap<K, V> {
         find_equivalent(&self.pairs, query)
     }
 
-    /// Returns `true` if no two keys of the map are equal.
+    /// Returns `true` if all keys of the map are distinct: it has no duplicate key.
     ///
     /// # Complexity
     ///
@@ -204,8 +204,7 @@ impl<K, V> VecMap<K, V> {
 }
 
 impl<V> VecMap<String, V> {
-    /// Like [`VecMap::contains_key`], with the same cost, but a key matches if it has the bytes of `text`. Does not
-    /// allocate.
+    /// Like [`VecMap::contains_key`], but a key matches if it has the bytes of `text`. Does not allocate.
     ///
     /// # Examples
     ///
@@ -219,8 +218,7 @@ impl<V> VecMap<String, V> {
         self.contains_key(text)
     }
 
-    /// Like [`VecMap::get`], with the same cost, but a key matches if it has the bytes of `text`. Does not
-    /// allocate.
+    /// Like [`VecMap::get`], but a key matches if it has the bytes of `text`. Does not allocate.
     ///
     /// # Examples
     ///
@@ -229,13 +227,12 @@ impl<V> VecMap<String, V> {
     /// map.get_str("a") // Some(&1)
     /// ```
     pub fn get_str(&self, text: &str) -> Option<&V>
-        ensures { option_copied result ≡ lookup_by (has_text text.now) self.now.entries }
+        ensures value { option_copied result ≡ lookup_by (has_text text.now) self.now.entries }
     {
         self.get(text)
     }
 
-    /// Like [`VecMap::get_index_of`], with the same cost, but a key matches if it has the bytes of `text`. Does not
-    /// allocate.
+    /// Like [`VecMap::get_index_of`], but a key matches if it has the bytes of `text`. Does not allocate.
     ///
     /// # Examples
     ///

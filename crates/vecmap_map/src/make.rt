@@ -29,8 +29,11 @@ impl<K, V> VecMap<K, V> {
     ///
     /// # Errors
     ///
-    /// [`AllocError`] if the allocator refuses the request, or if the pairs would take more than `isize::MAX` bytes; no
-    /// map is created.
+    /// [`AllocError`] if allocation fails, or if the pairs would take more than `isize::MAX` bytes; no map is created.
+    ///
+    /// # Complexity
+    ///
+    /// At most one allocation.
     ///
     /// # Examples
     ///

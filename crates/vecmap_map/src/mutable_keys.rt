@@ -3,10 +3,9 @@ ghost use Rattle.std.specs.Prelude.{◌≡◌, ◌<◌, ◌↔◌, IfSome, IsSom
 ghost use Rattle.std.specs.Borrow.{sem};
 ghost use Rattle.std.specs.Map.{keys_of};
 ghost use Rattle.vecmap_base.specs.Asked.{CallableOnEach, CallsAtPairMut, TakesPairMut};
+ghost use Rattle.vecmap_base.specs.Iterators.{ShowsAllOf, deref_both_mut, deref_mut, iter_mut2_name, iter_mut2_rest, keys_mut_name, keys_mut_rest};
 ghost use Rattle.vecmap_base.specs.Kept.{Kept};
 ghost use Rattle.vecmap_base.specs.Pairs.{index_by, lookup_pair_by};
-ghost use Rattle.vecmap_base.specs.Lending.{iter_mut2_name, iter_mut2_rest, keys_mut_name, keys_mut_rest};
-ghost use Rattle.vecmap_base.specs.Walks.{ShowsAllOf, deref_both_mut, deref_mut};
 ghost use Rattle.vecmap_map.specs.Lends.{lends_pairs, lends_parts, lends_slice};
 
 use crate::VecMap;
@@ -20,12 +19,11 @@ impl<K, V> sealed::Sealed for VecMap<K, V> {}
 
 /// Calls that return mutable references to keys.
 ///
-/// No other type can implement this trait. A key may be written so that it equals another one. It then stays as it was
-/// written, and lookups find the first of the two.
+/// No other type can implement this trait. A write may make a key equal to another: the map then has duplicate keys,
+/// and lookups find the first of them. The contracts are at the `impl` for `VecMap`, below the trait.
 ///
-/// A proof of a caller that the search makes does not learn what the map holds once a key or a value was written
-/// through such a reference. It learns what [`MutableKeys::retain2`] leaves, and what is written to the slice of
-/// [`MutableKeys::as_mut_slice`].
+/// A caller that the search proves does not know what the map holds after a write through such a reference. It knows
+/// what [`MutableKeys::retain2`] leaves, and what is written to the slice of [`MutableKeys::as_mut_slice`].
 pub trait MutableKeys: sealed::Sealed {
     type Key;
 
@@ -35,7 +33,7 @@ pub trait MutableKeys: sealed::Sealed {
     ghost pairs: { Self → List (Self.Key × Self.Value) };
 
     /// Returns the index of the first pair whose key matches `query`, with mutable references to the stored key and the
-    /// value, or `None` if no key matches.
+    /// value, or `None` if no key matches; a write may create duplicate keys.
     ///
     /// # Complexity
     ///
@@ -57,7 +55,8 @@ pub trait MutableKeys: sealed::Sealed {
     where
         Self::Key: Eq;
 
-    /// Returns mutable references to the key and the value at `index`, or `None` if `index` is out of range.
+    /// Returns mutable references to the key and the value at `index`, or `None` if `index` is out of range; a write
+    /// may create duplicate keys.
     ///
     /// # Complexity
     ///
@@ -74,12 +73,13 @@ pub trait MutableKeys: sealed::Sealed {
     /// ```
     fn get_index_mut2(&mut self, index: usize) -> Option<(&mut Self::Key, &mut Self::Value)>;
 
-    /// Keeps the pairs for which `f` returns `true`, each with the key and the value that `f` left in it.
+    /// Keeps the pairs for which `f` returns `true`, in their order, each with the key and the value that `f` left in
+    /// it; `f` may create duplicate keys.
     ///
     /// `f` is called once for each pair, in order, in the state that the calls before have left. The other pairs are
     /// dropped at the end. The capacity stays.
     ///
-    /// # Conditions
+    /// # Preconditions
     ///
     /// `f` can be called with each pair of the map, in the state that the calls before have left.
     ///
@@ -103,7 +103,7 @@ pub trait MutableKeys: sealed::Sealed {
         requires callable { CallableOnEach (CallsAtPairMut F.FnMut) (TakesPairMut F.FnMut) f
             (pairs self.old) };
 
-    /// Returns an iterator over the pairs in order, each as `(&mut K, &mut V)`.
+    /// Returns an iterator over the pairs in order, each as `(&mut K, &mut V)`; a write may create duplicate keys.
     ///
     /// Each pair comes as it was at this call. Once the iterator is no longer used, the map has its old length and
     /// capacity. No contract says what was written. If a proof needs that, write to [`MutableKeys::as_mut_slice`].
@@ -123,7 +123,7 @@ pub trait MutableKeys: sealed::Sealed {
     /// ```
     fn iter_mut2(&mut self) -> IterMut2<'_, Self::Key, Self::Value>;
 
-    /// Returns an iterator over mutable references to the keys, in order.
+    /// Returns an iterator over mutable references to the keys, in order; a write may create duplicate keys.
     ///
     /// Each key comes as it was at this call. Once the iterator is no longer used, the map has its old length and
     /// capacity. No contract says what was written. If a proof needs that, write to [`MutableKeys::as_mut_slice`].
@@ -143,7 +143,7 @@ pub trait MutableKeys: sealed::Sealed {
     /// ```
     fn keys_mut(&mut self) -> KeysMut<'_, Self::Key, Self::Value>;
 
-    /// Returns the pairs as a mutable slice.
+    /// Returns the pairs as a mutable slice; a write may create duplicate keys.
     ///
     /// Once the slice is no longer used, the map has the pairs as they were written, and its old length and capacity.
     /// In a loop over `as_mut_slice().iter_mut()`, an invariant can say what was written so far.

@@ -31,7 +31,7 @@ impl<K, V> VecMap<K, V> {
 
     /// Swaps the pairs at the indices `a` and `b`.
     ///
-    /// # Conditions
+    /// # Preconditions
     ///
     /// `a` and `b` are less than [`VecMap::len`].
     ///
@@ -56,11 +56,11 @@ impl<K, V> VecMap<K, V> {
         self.pairs.swap(a, b);
     }
 
-    /// Sorts the pairs by their keys. Pairs whose keys compare as equal keep their order.
+    /// Sorts the pairs by their keys; pairs whose keys compare as equal keep their order.
     ///
     /// # Errors
     ///
-    /// [`AllocError`] if the allocator refuses the request; the map is then unchanged.
+    /// [`AllocError`] if allocation fails; the map is then unchanged.
     ///
     /// # Complexity
     ///
@@ -86,15 +86,15 @@ impl<K, V> VecMap<K, V> {
         self.sort_by(|a, b| a.0.cmp(b.0))
     }
 
-    /// Sorts the pairs by `f`, which compares two pairs. Pairs that compare as equal keep their order.
+    /// Sorts the pairs by `f`, which compares two pairs; pairs that compare as equal keep their order.
     ///
-    /// If `f` is not a consistent order, the pairs may end in any order, but none is lost.
+    /// If `f` is not a consistent order, the pairs end in some order, and none is lost.
     ///
     /// # Errors
     ///
-    /// [`AllocError`] if the allocator refuses the request; the map is then unchanged.
+    /// [`AllocError`] if allocation fails; the map is then unchanged.
     ///
-    /// # Conditions
+    /// # Preconditions
     ///
     /// `f` can be called with any two pairs.
     ///
@@ -127,14 +127,14 @@ impl<K, V> VecMap<K, V> {
         )
     }
 
-    /// Sorts the pairs by the sort keys that `f` returns for them. Pairs whose sort keys compare as equal keep their
+    /// Sorts the pairs by the sort keys that `f` returns for them; pairs whose sort keys compare as equal keep their
     /// order.
     ///
     /// # Errors
     ///
-    /// [`AllocError`] if the allocator refuses the request; the map is then unchanged.
+    /// [`AllocError`] if allocation fails; the map is then unchanged.
     ///
-    /// # Conditions
+    /// # Preconditions
     ///
     /// `f` can be called with any pair.
     ///
@@ -170,7 +170,7 @@ impl<K, V> VecMap<K, V> {
         )
     }
 
-    /// Sorts the pairs by their keys. Pairs whose keys compare as equal may change their order.
+    /// Sorts the pairs by their keys; pairs whose keys compare as equal may change their order.
     ///
     /// # Complexity
     ///
@@ -193,11 +193,11 @@ impl<K, V> VecMap<K, V> {
         self.sort_unstable_by(|a, b| a.0.cmp(b.0));
     }
 
-    /// Sorts the pairs by `f`, which compares two pairs. Pairs that compare as equal may change their order.
+    /// Sorts the pairs by `f`, which compares two pairs; pairs that compare as equal may change their order.
     ///
-    /// If `f` is not a consistent order, the pairs may end in any order, but none is lost.
+    /// If `f` is not a consistent order, the pairs end in some order, and none is lost.
     ///
-    /// # Conditions
+    /// # Preconditions
     ///
     /// `f` can be called with any two pairs.
     ///

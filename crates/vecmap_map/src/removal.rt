@@ -65,9 +65,9 @@ impl<K, V> VecMap<K, V> {
     ///
     /// # Errors
     ///
-    /// [`AllocError`] if the allocator refuses the request; the map is then unchanged.
+    /// [`AllocError`] if allocation fails; the map is then unchanged.
     ///
-    /// # Conditions
+    /// # Preconditions
     ///
     /// `at` is at most [`VecMap::len`].
     ///
@@ -97,12 +97,12 @@ impl<K, V> VecMap<K, V> {
         })
     }
 
-    /// Keeps the pairs for which `f` returns `true`, each with the value that `f` left in it.
+    /// Keeps the pairs for which `f` returns `true`, in their order, each with the value that `f` left in it.
     ///
     /// `f` is called once for each pair, in order, in the state that the calls before have left. The other pairs are
     /// dropped at the end. The capacity stays.
     ///
-    /// # Conditions
+    /// # Preconditions
     ///
     /// `f` can be called with each pair of the map, in the state that the calls before have left.
     ///
@@ -153,7 +153,7 @@ impl<K, V> VecMap<K, V> {
         self.pairs.pop()
     }
 
-    /// Removes the first pair whose key matches `query`, and returns its value.
+    /// Removes the first pair whose key matches `query` and returns its value; the other pairs keep their order.
     ///
     /// The index of each later pair decreases by one. If no key matches, nothing changes.
     ///
@@ -180,7 +180,7 @@ impl<K, V> VecMap<K, V> {
         Some(value)
     }
 
-    /// Like [`VecMap::remove`], with the same cost, but also returns the stored key.
+    /// Like [`VecMap::remove`], but also returns the stored key.
     ///
     /// # Examples
     ///
@@ -200,11 +200,11 @@ impl<K, V> VecMap<K, V> {
         Some(remove_item(&mut self.pairs, index))
     }
 
-    /// Removes the pair at `index`, and returns it.
+    /// Removes the pair at `index` and returns it; the other pairs keep their order.
     ///
     /// The index of each later pair decreases by one.
     ///
-    /// # Conditions
+    /// # Preconditions
     ///
     /// `index` is less than [`VecMap::len`].
     ///
@@ -229,9 +229,9 @@ impl<K, V> VecMap<K, V> {
         remove_item(&mut self.pairs, index)
     }
 
-    /// Removes the first pair whose key matches `query`, and returns its value.
+    /// Removes the first pair whose key matches `query` and returns its value; the last pair moves to its index.
     ///
-    /// The last pair moves to the index of the removed one. If no key matches, nothing changes.
+    /// If no key matches, nothing changes.
     ///
     /// # Complexity
     ///
@@ -255,7 +255,7 @@ impl<K, V> VecMap<K, V> {
         Some(value)
     }
 
-    /// Like [`VecMap::swap_remove`], with the same cost, but also returns the stored key.
+    /// Like [`VecMap::swap_remove`], but also returns the stored key.
     ///
     /// # Examples
     ///
@@ -275,11 +275,9 @@ impl<K, V> VecMap<K, V> {
         Some(self.pairs.swap_remove(index))
     }
 
-    /// Removes the pair at `index`, and returns it.
+    /// Removes the pair at `index` and returns it; the last pair moves to `index`.
     ///
-    /// The last pair moves to `index`.
-    ///
-    /// # Conditions
+    /// # Preconditions
     ///
     /// `index` is less than [`VecMap::len`].
     ///
@@ -306,8 +304,7 @@ impl<K, V> VecMap<K, V> {
 }
 
 impl<V> VecMap<String, V> {
-    /// Like [`VecMap::remove`], with the same cost, but a key matches if it has the bytes of `text`. Does not
-    /// allocate.
+    /// Like [`VecMap::remove`], but a key matches if it has the bytes of `text`. Does not allocate.
     ///
     /// # Examples
     ///

@@ -53,17 +53,17 @@ impl<K, V> VecMap<K, V> {
 
     /// Reserves capacity for at least `additional` more pairs.
     ///
-    /// The call reserves some more than that, so that repeated insertions seldom allocate. If the spare capacity is
-    /// already enough, it succeeds and the capacity stays. Otherwise all pairs may be moved.
+    /// The call reserves a surplus, so that a series of insertions seldom allocates. If the spare capacity is already
+    /// enough, it succeeds and the capacity stays. Otherwise all pairs may be moved.
     ///
     /// # Errors
     ///
-    /// [`AllocError`] if the allocator refuses the request, or if the pairs would take more than `isize::MAX` bytes;
-    /// the map is then unchanged.
+    /// [`AllocError`] if allocation fails, or if the pairs would take more than `isize::MAX` bytes; the map is then
+    /// unchanged.
     ///
     /// # Complexity
     ///
-    /// At most one request. It may move all pairs.
+    /// At most one allocation, which may move all pairs.
     ///
     /// # Examples
     ///
@@ -83,17 +83,17 @@ impl<K, V> VecMap<K, V> {
 
     /// Reserves capacity for `additional` more pairs, without the surplus that [`VecMap::reserve`] adds.
     ///
-    /// The allocator may still give more. If the spare capacity is already enough, the call succeeds and the capacity
-    /// stays. Otherwise all pairs may be moved.
+    /// The allocator may still provide more. If the spare capacity is already enough, the call succeeds and the
+    /// capacity stays. Otherwise all pairs may be moved.
     ///
     /// # Errors
     ///
-    /// [`AllocError`] if the allocator refuses the request, or if the pairs would take more than `isize::MAX` bytes;
-    /// the map is then unchanged.
+    /// [`AllocError`] if allocation fails, or if the pairs would take more than `isize::MAX` bytes; the map is then
+    /// unchanged.
     ///
     /// # Complexity
     ///
-    /// At most one request. It may move all pairs.
+    /// At most one allocation, which may move all pairs.
     ///
     /// # Examples
     ///
@@ -111,12 +111,12 @@ impl<K, V> VecMap<K, V> {
         self.pairs.reserve_exact(additional)
     }
 
-    /// Like [`VecMap::reserve`], with the same cost, but with the error type that Rust gives this call.
+    /// Like [`VecMap::reserve`], but returns a [`TryReserveError`], as the call of Rust does.
     ///
     /// # Errors
     ///
-    /// [`TryReserveError`] if the allocator refuses the request, or if the pairs would take more than `isize::MAX`
-    /// bytes; the map is then unchanged.
+    /// [`TryReserveError`] if allocation fails, or if the pairs would take more than `isize::MAX` bytes; the map is
+    /// then unchanged.
     ///
     /// # Examples
     ///
@@ -131,12 +131,12 @@ impl<K, V> VecMap<K, V> {
         self.reserve(additional)
     }
 
-    /// Like [`VecMap::reserve_exact`], with the same cost, but with the error type that Rust gives this call.
+    /// Like [`VecMap::reserve_exact`], but returns a [`TryReserveError`], as the call of Rust does.
     ///
     /// # Errors
     ///
-    /// [`TryReserveError`] if the allocator refuses the request, or if the pairs would take more than `isize::MAX`
-    /// bytes; the map is then unchanged.
+    /// [`TryReserveError`] if allocation fails, or if the pairs would take more than `isize::MAX` bytes; the map is
+    /// then unchanged.
     ///
     /// # Examples
     ///
@@ -153,12 +153,12 @@ impl<K, V> VecMap<K, V> {
 
     /// Reduces the capacity as much as possible.
     ///
-    /// All pairs may be moved. The call never fails: if the allocator refuses a smaller block, the capacity stays. If
-    /// there are no pairs, nothing is requested, and the capacity is 0 afterwards.
+    /// All pairs may be moved. The call never fails: if a smaller block cannot be allocated, the capacity stays. If
+    /// there are no pairs, nothing is allocated, and the capacity is 0 afterwards.
     ///
     /// # Complexity
     ///
-    /// At most one request. It may move all pairs.
+    /// At most one allocation, which may move all pairs.
     ///
     /// # Examples
     ///
@@ -180,12 +180,12 @@ impl<K, V> VecMap<K, V> {
 
     /// Reduces the capacity to `min_capacity` or the number of pairs, whichever is greater.
     ///
-    /// A smaller capacity stays as it is. All pairs may be moved. The call never fails: if the allocator refuses a
-    /// smaller block, the capacity stays.
+    /// A smaller capacity stays as it is. All pairs may be moved. The call never fails: if a smaller block cannot be
+    /// allocated, the capacity stays.
     ///
     /// # Complexity
     ///
-    /// At most one request. It may move all pairs.
+    /// At most one allocation, which may move all pairs.
     ///
     /// # Examples
     ///

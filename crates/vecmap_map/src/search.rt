@@ -1,5 +1,5 @@
-//! Binary searches in sorted pairs. None allocates, and each looks at about log2(n) of n pairs.
-ghost use Rattle.std.specs.Prelude.{◌≡◌, ◌<◌, ◌≤◌, Bool, Contains, List, false, length, true};
+//! Binary searches in sorted pairs. None allocates.
+ghost use Rattle.std.specs.Prelude.{◌≡◌, ◌<◌, ◌≤◌, Bool, false, length, true};
 ghost use Rattle.std.specs.List.{All, HoldsAt};
 ghost use Rattle.std.specs.List.Sorted.{IsBinarySearchResult, IsPartitionPoint, IsPartitionedBy, IsSearchInRange};
 ghost use Rattle.std.specs.declared.cmp.Ordering.{Ordering};
@@ -7,17 +7,18 @@ ghost use Rattle.vecmap_base.specs.Orders.{AnswersOnPairs, CallableOnPair};
 
 use crate::VecMap;
 use std::cmp::Ordering;
-use vecmap_base::{partition_point, search_by_index, search_pairs_by_key};
+use vecmap_base::{partition_point_of_pairs, search_pairs_by_index, search_pairs_by_key};
 
 impl<K, V> VecMap<K, V> {
     /// Searches for a key by binary search, in a map whose keys are in ascending order.
     ///
     /// `Ok` is the index of a pair whose key compares as equal to `key`, any one of them. If there is no such pair,
-    /// `Err` is the number of pairs with lesser keys, which is the index to insert one at.
+    /// `Err` is the number of pairs with lesser keys, which is the index at which such a pair can be inserted.
     ///
     /// # Complexity
     ///
-    /// O(log n) comparisons of keys for n pairs.
+    /// For n pairs, log2(n) + 1 comparisons of keys, rounded up, and half as many again at most if a key has at most
+    /// 8 bytes: for 512 pairs 10 comparisons, or 14.
     ///
     /// # Examples
     ///
@@ -33,7 +34,7 @@ impl<K, V> VecMap<K, V> {
         ensures index { IsBinarySearchResult (λ p. K.cmp p.0 key.now) self.now.entries result }
     {
         let pairs = self.pairs.as_slice();
-        search_by_index(
+        search_pairs_by_index(
             pairs,
             |index: usize| -> Ordering
                 requires { index < length pairs.now }
@@ -48,14 +49,14 @@ impl<K, V> VecMap<K, V> {
     /// `Ok` is the index of an equal pair, any one of them. If there is no such pair, `Err` is the number of pairs that
     /// are less. If the pairs are in another order, `Ok` is still the index of an equal pair, but `Err` says nothing.
     ///
-    /// # Conditions
+    /// # Preconditions
     ///
     /// `f` can be called with each pair of the map. It is called with no others, so it may index a table by a stored
     /// value.
     ///
     /// # Complexity
     ///
-    /// O(log n) calls of `f` for n pairs.
+    /// As many calls of `f` as [`VecMap::binary_search_keys`] makes comparisons.
     ///
     /// # Examples
     ///
@@ -73,7 +74,7 @@ impl<K, V> VecMap<K, V> {
             → IsBinarySearchResult ord self.now.entries result }
     {
         let pairs = self.pairs.as_slice();
-        search_by_index(
+        search_pairs_by_index(
             pairs,
             |index: usize| -> Ordering
                 requires callable { All (CallableOnPair F.Fn f) pairs.now }
@@ -89,15 +90,15 @@ impl<K, V> VecMap<K, V> {
 
     /// Searches the pairs by binary search for the sort key `key`, where `f` returns the sort key of a pair.
     ///
-    /// The sort keys are in ascending order. The result is like that of [`VecMap::binary_search_by`].
+    /// The sort keys are in ascending order. `Ok` and `Err` are as for [`VecMap::binary_search_by`].
     ///
-    /// # Conditions
+    /// # Preconditions
     ///
     /// `f` can be called with each pair of the map.
     ///
     /// # Complexity
     ///
-    /// O(log n) calls of `f` and comparisons for n pairs.
+    /// As many calls of `f`, and comparisons, as [`VecMap::binary_search_keys`] makes comparisons.
     ///
     /// # Examples
     ///
@@ -123,13 +124,13 @@ impl<K, V> VecMap<K, V> {
     ///
     /// If they do not, the result is only known to be at most `len`.
     ///
-    /// # Conditions
+    /// # Preconditions
     ///
     /// `pred` can be called with each pair of the map.
     ///
     /// # Complexity
     ///
-    /// O(log n) calls of `pred` for n pairs.
+    /// As many calls of `pred` as [`VecMap::binary_search_keys`] makes comparisons.
     ///
     /// # Examples
     ///
@@ -144,13 +145,6 @@ impl<K, V> VecMap<K, V> {
             → IsPartitionedBy p self.now.entries
             → IsPartitionPoint (λ x. p x ≡ true) (λ x. p x ≡ false) self.now.entries result }
     {
-        partition_point(
-            &self.pairs,
-            |pair: &(K, V)| -> bool
-                requires { CallableOnPair P.Fn pred pair.now }
-                ensures { (p : K × V → Bool) (l : List (K × V)) → AnswersOnPairs P.Fn p pred l
-                    → Contains l pair.now → result ≡ p pair.now }
-            { pred(&pair.0, &pair.1) },
-        )
+        partition_point_of_pairs(&self.pairs, pred)
     }
 }

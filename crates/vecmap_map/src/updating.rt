@@ -15,13 +15,13 @@ impl<K, V> VecMap<K, V> {
     /// was written:
     ///
     /// - If `f` writes the same function of each pair, the new pairs are that function of the old ones. Such an `f` may
-    ///   only read what it captures (`written`), or also write it, as one that counts its calls
+    ///   only read what it captures (`written`), or also write it, such as a closure that counts its calls
     ///   (`written_in_any_state`).
-    /// - If that is a function of the value, and `f` only reads what it captures, each lookup finds it of what it found
-    ///   before (`lookups`).
+    /// - If that function depends on the value alone, and `f` only reads what it captures, each lookup returns the
+    ///   function of what it returned before (`lookups`).
     /// - For every `f`, each pair is as its call left it, in the state that the calls before have left (`updated`).
     ///
-    /// # Conditions
+    /// # Preconditions
     ///
     /// `f` can be called for each pair of the map, in the state that the calls before have left.
     ///
@@ -58,7 +58,8 @@ impl<K, V> VecMap<K, V> {
         update_pairs(&mut self.pairs, f);
     }
 
-    /// Like [`VecMap::update_values`], but stops at the first call of `f` that returns an `Err`.
+    /// Like [`VecMap::update_values`], but stops at the first `Err` that `f` returns, and leaves the values written so
+    /// far.
     ///
     /// The keys, their order and the capacity stay, on `Err` too. On `Ok` a proof knows what was written, as after
     /// `update_values`.
@@ -68,7 +69,7 @@ impl<K, V> VecMap<K, V> {
     /// The error that `f` returned. The values before are then written, the value of the failed call is as that call
     /// left it, and the later values are unchanged.
     ///
-    /// # Conditions
+    /// # Preconditions
     ///
     /// `f` can be called for each pair of the map, in the state that the calls before have left, if all of them
     /// returned `Ok`.

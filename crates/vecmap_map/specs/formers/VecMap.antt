@@ -39,9 +39,9 @@ on_value h p = (p.0, h p.1)
 abbrev pub the_former : Former {0} → Type 0 → Former {0}
 the_former g K = via (pair (list (entry g K)) (const ℕ)) (λ X. Contents K (g.Of X)) (λ X m. (m.entries, m.capacity)) (λ X v. record { entries = v.0; capacity = v.1 }) (λ X m. refl) (λ X v. refl)
 
--- The largest measure of a value, in two forms that are equal. A recursion that takes a value from the pairs decreases
--- by the first form, as by `iter`. One that takes it from the list of the values decreases by the second, as by
--- `values`.
+-- A recursion that takes a value from the pairs, as by `iter`, decreases by the first form. One that takes it from the
+-- list of the values, as by `values`, decreases by the second.
+-- The largest measure of a value, in two forms that are equal.
 abbrev pub heaviest : {K Y : Type 0} → (Y → ℕ) → List (K × Y) → ℕ
 heaviest f es = max (most (λ p. f p.1) es) (most f (values_of es))
 

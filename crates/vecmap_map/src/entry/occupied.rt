@@ -148,7 +148,7 @@ impl<'a, K, V> OccupiedEntry<'a, K, V> {
         replace(self.get_mut(), value)
     }
 
-    /// Removes the pair of the key, and returns it with the stored key.
+    /// Removes the pair of the key and returns it with the stored key; the other pairs keep their order.
     ///
     /// The index of each later pair decreases by one.
     ///
@@ -202,7 +202,7 @@ impl<'a, K, V> OccupiedEntry<'a, K, V> {
         self.map.swap_remove_index(index)
     }
 
-    /// Like [`OccupiedEntry::remove_entry`], with the same cost, but returns only the value.
+    /// Like [`OccupiedEntry::remove_entry`], but returns only the value.
     ///
     /// # Examples
     ///
@@ -222,7 +222,7 @@ impl<'a, K, V> OccupiedEntry<'a, K, V> {
         value
     }
 
-    /// Like [`OccupiedEntry::swap_remove_entry`], with the same cost, but returns only the value.
+    /// Like [`OccupiedEntry::swap_remove_entry`], but returns only the value.
     ///
     /// # Examples
     ///

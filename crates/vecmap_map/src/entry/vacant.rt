@@ -70,7 +70,7 @@ impl<'a, K, V> VacantEntry<'a, K, V> {
     ///
     /// # Errors
     ///
-    /// [`Refused`] returns the pair if the map is full and the allocator refuses to grow it; the map is then unchanged.
+    /// [`Refused`] returns the pair if the map is full and allocation fails; the map is then unchanged.
     ///
     /// # Complexity
     ///
@@ -124,8 +124,12 @@ impl<'a, K, V> VacantEntry<'a, K, V> {
     ///
     /// # Errors
     ///
-    /// [`Refused`] returns the passed key and `value` if the clone is refused, or if the map is full and the allocator
-    /// refuses to grow it; the map is then unchanged.
+    /// [`Refused`] returns the passed key and `value` if the clone fails, or if the map is full and allocation fails;
+    /// the map is then unchanged.
+    ///
+    /// # Complexity
+    ///
+    /// One clone of the key. Allocates for the pair only if the map is full.
     ///
     /// # Examples
     ///
@@ -141,7 +145,7 @@ impl<'a, K, V> VacantEntry<'a, K, V> {
         K: Clone,
         ensures inserted { IfOk result (IsInserted K.is_clone (Vacant self.entry) value) }
 
-        // On `Err` the pair is returned. If the clone of the key cannot fail, this happens only in a full map.
+        // On `Err` the pair is returned. If the clone of the key cannot fail, the map is full.
         ensures* err { sem 𝓛 (entry_passes K.row V.row (Vacant self.entry) result) }
         ensures given { IfErr result (λ refused. refused.given ≡ (self.entry.key, value)) }
         ensures full { K.is_infallible self.entry.key → OnErr result (IsFull self.entry.map.now) }

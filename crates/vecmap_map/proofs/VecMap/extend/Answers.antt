@@ -1,13 +1,15 @@
-use Rattle.std.proofs.Common.{inr, rules}
-use Rattle.std.proofs.lemmas.Result.{err_from_is_err_and}
+-- A refused insertion is where the call stops.
+use Rattle.std.proofs.Common.{arith, inr, rules}
+use Rattle.std.proofs.lemmas.{Grind.common_steps, Result.err_from_is_err_and}
 use Rattle.vecmap_map.proofs.VecMap.extend.Goals as goal
 
-pub returns-in_err-insert-clause-err : goal.returns-in_err-insert-clause-err
-returns-in_err-insert-clause-err g c =
-    rw (err_from_is_err_and c.from_residual-in_err-insert.result c.from_residual-in_err-insert.ensures.1).1
-    (inr (c.into_iter-key-iterator.result, c.loop-key.yielded, (c.in-Some.key, c.in-Some.value), c.next.new.self, search rules, search rules, search rules))
-
-pub returns-in_err-insert-clause-late_err : goal.returns-in_err-insert-clause-late_err
-returns-in_err-insert-clause-late_err g c = λ some room.
-    rw (err_from_is_err_and c.from_residual-in_err-insert.result c.from_residual-in_err-insert.ensures.1).1
-    (c.into_iter-key-iterator.result, c.loop-key.yielded, (c.in-Some.key, c.in-Some.value), c.next.new.self, search rules, search rules, search rules)
+pub returns-in_err-insert-clause-extended : goal.returns-in_err-insert-clause-extended
+returns-in_err-insert-clause-extended g c =
+    let failed = err_from_is_err_and c.from_residual-in_err-insert.result c.from_residual-in_err-insert.ensures.1 in
+    let it = c.into_iter-key-iterator.result in
+    record {
+      capacity = grind (arith, common_steps);
+      capacity_stays = λ room. let all = room it (search rules) in grind (arith, common_steps);
+      err = rw failed.1 (inr (it, c.loop-key.yielded, (c.in-Some.key, c.in-Some.value), c.next.new.self, search rules, search rules, search rules));
+      late_err = λ some room. rw failed.1 (it, c.loop-key.yielded, (c.in-Some.key, c.in-Some.value), c.next.new.self, search rules, search rules, search rules);
+    }

@@ -1,5 +1,5 @@
--- The idea: each round appends a clone to the list of clones that the invariant names, and a refused round is where the
--- call stops.
+-- The idea: each round appends a clone to the list of clones that the invariant names, and the call stops in the round
+-- in which memory runs out.
 use Rattle.std.proofs.Common.{arith, inr, rules, sym, true≢false}
 use Rattle.std.proofs.lemmas.{Grind.common_steps, Result.err_from_is_err_and}
 use Rattle.std.specs.Map.Iter.{deref_pair}
@@ -15,15 +15,16 @@ loop-key-preserved g c =
     (one.0, one.1) c.loop-key.invariant.puts (one.2, one.3) one.4 in
     grind (arith, common_steps, puts)
 
-pub returns-in_err-put_clones-clause-err : goal.returns-in_err-put_clones-clause-err
-returns-in_err-put_clones-clause-err g c =
-    rw (err_from_is_err_and c.from_residual-in_err-put_clones.result c.from_residual-in_err-put_clones.ensures.1).1
-    (inr (c.into_iter-key-iterator.result, c.loop-key.yielded, (c.in-Some.key, c.in-Some.value), c.next.new.self, search rules, search rules, search rules))
-
-pub returns-in_err-put_clones-clause-late_err : goal.returns-in_err-put_clones-clause-late_err
-returns-in_err-put_clones-clause-late_err g c = λ some room.
-    rw (err_from_is_err_and c.from_residual-in_err-put_clones.result c.from_residual-in_err-put_clones.ensures.1).1
-    (c.into_iter-key-iterator.result, c.loop-key.yielded, (c.in-Some.key, c.in-Some.value), c.next.new.self, search rules, search rules, search rules)
+pub returns-in_err-put_clones-clause-extended : goal.returns-in_err-put_clones-clause-extended
+returns-in_err-put_clones-clause-extended g c =
+    let failed = err_from_is_err_and c.from_residual-in_err-put_clones.result c.from_residual-in_err-put_clones.ensures.1 in
+    let it = c.into_iter-key-iterator.result in
+    record {
+      capacity = grind (arith, common_steps);
+      capacity_stays = λ room. let all = room it (search rules) in grind (arith, common_steps);
+      err = rw failed.1 (inr (it, c.loop-key.yielded, (c.in-Some.key, c.in-Some.value), c.next.new.self, search rules, search rules, search rules));
+      late_err = λ some room. rw failed.1 (it, c.loop-key.yielded, (c.in-Some.key, c.in-Some.value), c.next.new.self, search rules, search rules, search rules);
+    }
 
 pub returns-in_err-put_clones-clause-succeeds : goal.returns-in_err-put_clones-clause-succeeds
 returns-in_err-put_clones-clause-succeeds g c = λ room clones.

@@ -1,4 +1,4 @@
--- The idea: the write through `get_mut` leaves the value that `f` left, so the lemma on written values gives each
+-- The idea: the write through `get_mut` leaves the value that `f` left, so the lemma on written values proves each
 -- clause.
 use Rattle.std.proofs.Common.{ap, refl, subst, sym, ◌∙◌}
 use Rattle.std.specs.{Map.Calls.MayWrite, Map.Calls.ModifiesValue, Option.option_map_or}

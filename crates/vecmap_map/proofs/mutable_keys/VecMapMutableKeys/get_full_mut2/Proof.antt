@@ -2,6 +2,8 @@
 -- index, and `parts_mut` splits it.
 -- The clause `writes_back` is worth a proof by hand: the others say nothing of the map after the borrow, so a body that
 -- changes another pair meets them.
+-- The term follows the code of the body, a call at each `calls_at`. The lists of numbers after `move` say only in which
+-- order the known facts are used next, so read the calls and the clauses, and not these lists.
 use Rattle.vecmap_map.proofs.LentLemmas.Steps
 use Steps.{◌≡◌, ℕ, ◌<◌, refl, sym, ap, ◌∙◌, subst, lit<, w64, List, [], ◌∷◌, ◌++◌, Option, Some, None, length, option_map, slice_get, IfSome, Bool, a_type, named, dcons, dnil, Val, vptr, vstruct, vcons, vnil, of_list, vint, inst_fn, option_and_then}
 use Steps.{SProp, emp, id⊢, sep, ftrue, flft, ‵, raw, ◌⊛◌, some, later, at_ret, ◌$◌, ◌∵◌, !, qed, by, move, keep, drop, split, join, fjoin, pick, await, use0, use1, use2, split3, fsplit3, done, feq_i, feq_l, fjoin3, sem, name_done}
