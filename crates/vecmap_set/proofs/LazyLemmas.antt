@@ -32,8 +32,8 @@ length_symmetric_rest eq s =
     let two = lacks_item eq s.second.other in
     omega (arith, length-append (filter one s.first.unwalked) (filter two s.second.unwalked), length_filter one s.first.unwalked, length_filter two s.second.unwalked)
 
--- What `union` and `symmetric_difference` lend. Both parts fit a `usize` together if each has fewer items than half of its
--- values.
+-- What `union` and `symmetric_difference` borrow. Both parts fit a `usize` together if each has fewer items than half
+-- of its values.
 pub joins_all : {T : Type 0} (eq : T → T → Bool) (s : Parts (List T) (Sift T)) (a b : List T) → s ≡ union_parts a b → length a < 2 ^ 63 → length b < 2 ^ 63 → JoinsAll eq (union_parts a b) s
 joins_all eq s a b made small others =
     let runs = refs_run (JoinsFirst eq) (JoinsLast eq) (union_rest eq) (λ s r t h. h.0) (λ s r t h. h.0) in

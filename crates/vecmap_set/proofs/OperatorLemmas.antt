@@ -24,5 +24,5 @@ module _ {S T : Type 0} (steps : S → Option (Bor T) → S → Type 0) (rest : 
       let clones = subst (λ m. AreClones C m made) all d.2 in
       (clones, distinct_clones_of _ o C _ made same clones (subst (IsDistinct _) (λ j. list (left j) (right j)) (apart _ _ left_apart right_apart)))
 
--- The lemmas for the loop that takes clones.
+-- The lemmas for the loop that makes clones.
 pub ruleset pushes = (map_push, AllZip-push)

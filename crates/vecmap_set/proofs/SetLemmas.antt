@@ -26,7 +26,7 @@ module _ {T : Type 0} (eq : T → T → Bool) where
   pub distinct_turned : (o : IsEquivalence eq) (xs : List T) (n : ℕ) → IsDistinct eq xs → IsDistinct eq (take n xs ++ reverse (drop n xs))
   distinct_turned o xs n = distinct_tail eq o n xs (reverse (drop n xs)) (IsPermutation-reverse (drop n xs))
 
-  -- The last element is removed. The premise stands again in the result, for `grind`, which finds the lemma by it.
+  -- The last element is removed. The premise is repeated in the result, for `grind`, which finds the lemma by it.
   pub distinct_first : (xs ys : List T) → IsDistinct eq (xs ++ ys) → IsDistinct eq (xs ++ ys) × IsDistinct eq xs
   distinct_first xs ys d = (d, distinct_front eq xs ys d)
 

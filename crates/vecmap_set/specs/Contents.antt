@@ -31,14 +31,13 @@ module _ {T : Type 0} where
     pub err : OnErr result (new ≡ old)
 
 module _ {T : Type 0} (eq : T → T → Bool) where
-  -- The capacity does not shrink. It stays if an element equal to x is present. It also stays if there is spare
-  -- capacity for one more element.
+  -- The capacity does not shrink, and stays if an equal element is present or if one more element fits.
   pub record KeepsRoom (old : Contents T) (x : T) (new : Contents T) : Type 0 where
     pub capacity : old.capacity ≤ new.capacity
     pub present : IsTrue (is_member eq old.elements x) → new.capacity ≡ old.capacity
     pub spare : HasRoom old 1 → new.capacity ≡ old.capacity
 
-  -- The element x was refused: the set is unchanged, no equal element is present, and the set is full.
+  -- Memory ran out for the element x: the set is unchanged, no equal element is present, and the set is full.
   pub record Refuses (old : Contents T) (x : T) (new : Contents T) : Type 0 where
     pub unchanged : new ≡ old
     pub absent : is_member eq old.elements x ≡ false

@@ -6,8 +6,8 @@ use Rattle.vecmap_base.specs.Drain.{DrainsFirst, DrainsLast}
 use Rattle.vecmap_set.specs.declared.drain.Drain.{Drain}
 
 module _ {T : Type 0} where
-  -- The remaining elements of the drain.
   -- Example: of `1..4` of `[0,1,2,3,4]`, after one `next`: `[2,3]`.
+  -- The remaining elements of the drain.
   abbrev pub drain_rest : Drain T → List T
   drain_rest d = reverse_if d.reversed (drop d.keep d.set.now.elements)
 
@@ -23,8 +23,8 @@ module _ {T : Type 0} where
   abbrev pub drain_lender : Drain T → GName
   drain_lender d = d.set.ghost_name
 
-  -- Both drains borrow the same set, and leave it the same elements and the same capacity.
   -- Example: of `1..4` of `[0,1,2,3,4]`: `[0,4]` is left, also after `next`.
+  -- Both drains borrow the same set, and leave it the same elements and the same capacity.
   abbrev pub DrainKeeps : Drain T → Drain T → Type 0
   DrainKeeps old new = (drain_lender new ≡ drain_lender old) × (drain_kept new ≡ drain_kept old) × (drain_capacity new ≡ drain_capacity old)
 

@@ -8,21 +8,21 @@ use Rattle.std.specs.List.{after_first, before_last}
 use Rattle.std.specs.Map.Iter.{TakesFirst, TakesLast, deref}
 use Rattle.std.specs.Set.{is_member}
 
--- The elements that are not yet visited, and the list in which each of them is looked up.
 -- Example: `difference` of `[1,2]` and `[2]`: `[1,2]`, looked up in `[2]`.
+-- The elements that are not yet visited, and the list in which each of them is looked up.
 pub record Sift (T : Type 0) : Type 0 where
   pub unwalked : List T
   pub other : List T
 
--- Two parts in order.
 -- Example: `symmetric_difference` of `[1,2]` and `[2,3]`: a sift of each in the other.
+-- Two parts in order.
 pub record Parts (A B : Type 0) : Type 0 where
   pub first : A
   pub second : B
 
 module _ {T : Type 0} where
-  -- The shorter of two lists, or the first if neither is shorter.
   -- Example: of `[1]` and `[2,3]`: `[1]`.
+  -- The shorter of two lists, or the first if neither is shorter.
   abbrev pub shorter : List T → List T → List T
   shorter a b = if nat_lt (length b) (length a) then b else a
 
@@ -46,49 +46,50 @@ module _ {T : Type 0} where
   abbrev pub union_parts : List T → List T → Parts (List T) (Sift T)
   union_parts a b = record { first = a; second = sift_of b a }
 
-  -- The elements of the shorter list, each to be looked up in the other.
   -- Example: `intersection` of `[1,2,3]` and `[3,4]`: `[3,4]`, looked up in `[1,2,3]`.
+  -- The elements of the shorter list, each to be looked up in the other.
   abbrev pub sift_of_shorter : List T → List T → Sift T
   sift_of_shorter a b = sift_of (shorter a b) (not_shorter a b)
 
-  -- All of the longer list, and then the elements of the other, each to be looked up in the longer.
   -- Example: `union` of `[1]` and `[2,3]`: `[2,3]`, then `[1]`, looked up in `[2,3]`.
+  -- All of the longer list, and then the elements of the other, each to be looked up in the longer.
   abbrev pub longer_first : List T → List T → Parts (List T) (Sift T)
   longer_first a b = union_parts (longer a b) (not_longer a b)
 
-  -- The elements of a, each to be looked up in b, and then those of b, each to be looked up in a.
+  -- The elements of a, each to be looked up in b, and then the elements of b, each to be looked up in a.
   abbrev pub symmetric_parts : List T → List T → Parts (Sift T) (Sift T)
   symmetric_parts a b = record { first = sift_of a b; second = sift_of b a }
 
--- The bound r is n, or none if n is greater than `usize::MAX`.
 -- Example: 5 of 5.
+-- The bound r is n, or none if n is greater than `usize::MAX`.
 abbrev pub IsBound : Option ℕ → ℕ → Type 0
 IsBound r n = SomeIff r (n < 2 ^ 64) n
 
--- A call asks one part, and then the other if the first one finds nothing.
 -- Example: of a union: at the front the longer list, then the other.
-abbrev pub AsksThen : {A B R : Type 0} → (A → Option R → A → Type 0) → (B → Option R → B → Type 0) → A → B → Option R → A → B → Type 0
-AsksThen one two a b r c d = MatchOption r (one a None c × two b None d) (λ x. (one a (Some x) c × (d ≡ b)) ⊎ (one a None c × two b (Some x) d))
+-- A call asks one part, and then the other if the first one finds nothing.
+abbrev pub TakesFromParts : {A B R : Type 0} → (A → Option R → A → Type 0) → (B → Option R → B → Type 0) → A → B → Option R → A → B → Type 0
+TakesFromParts one two a b r c d = MatchOption r (one a None c × two b None d) (λ x. (one a (Some x) c × (d ≡ b)) ⊎ (one a None c × two b (Some x) d))
 
 module _ {S T : Type 0} (rest : S → List T) (next next_back : S → Option (Bor T) → S → Type 0) where
-  -- The iterator `r` is in the state `s`. It returns what is left there in order, and in reverse from the back. The
-  -- number of these elements fits a `usize`.
+  -- The number of these elements fits a `usize`.
   -- Example: `difference` of `[1,2,3]` and `[2]`: 1, 3, or 3, 1.
+  -- The iterator `r` is in the state `s`, and returns what is left there in order, and in reverse from the back.
   abbrev pub LendsAll : S → S → Type 0
   LendsAll s r = (r ≡ s) × (length (rest r) < 2 ^ 64) × YieldsRefsInOrder next rest × YieldsRefsInReverse next_back rest
 
 module _ {T : Type 0} (keeps : List T → T → Bool) where
-  -- The elements that are not yet visited and are kept.
   -- Example: of `[1,2]`, kept by what `[2]` lacks: `[1]`.
+  -- The elements that are not yet visited and are kept.
   abbrev pub sift_rest : Sift T → List T
   sift_rest s = filter (keeps s.other) s.unwalked
 
-  -- `next` at s gave r, the first element that is kept. It left t, without this element and those before it.
-  -- Example: from the back of `[1,3,4]` by what `[2,4]` lacks: 3, and `[1]` is left.
+  -- Example: from `[2,3,4]` by what `[2,4]` lacks: 3, and `[4]` is left.
+  -- `next` at s returned r, the first element that is kept. It left t, without r and the elements before r.
   abbrev pub SiftsFirst : Sift T → Option (Bor T) → Sift T → Type 0
   SiftsFirst s r t = YieldsFirstRef sift_rest s r t × (t ≡ record s { unwalked = after_first (keeps s.other) s.unwalked })
 
-  -- `next_back` at s gave r, the last element that is kept. It left t, without this element and those after it.
+  -- Example: from `[1,3,4]` by what `[2,4]` lacks: 3, and `[1]` is left.
+  -- `next_back` at s returned r, the last element that is kept. It left t, without r and the elements after r.
   abbrev pub SiftsLast : Sift T → Option (Bor T) → Sift T → Type 0
   SiftsLast s r t = YieldsLastRef sift_rest s r t × (t ≡ record s { unwalked = before_last (keeps s.other) s.unwalked })
 
@@ -97,22 +98,22 @@ module _ {T : Type 0} (keeps : List T → T → Bool) where
   SiftsAll = LendsAll sift_rest SiftsFirst SiftsLast
 
 module _ {T : Type 0} (eq : T → T → Bool) where
-  -- Whether no element of s is equal to x.
   -- Example: `3` of `[1,2]`: true.
+  -- Whether no element of s is equal to x.
   abbrev pub lacks_item : List T → T → Bool
   lacks_item s x = not (is_member eq s x)
 
-  -- The elements of one list, and then those of another that are not among them, as far as they are left.
+  -- The elements of one list, and then the elements of another that are not among them, as far as they are left.
   abbrev pub union_rest : Parts (List T) (Sift T) → List T
   union_rest s = s.first ++ sift_rest lacks_item s.second
 
   -- `next` at s gave r, and left t. It asks the first part, and then the second.
   abbrev pub JoinsFirst : Parts (List T) (Sift T) → Option (Bor T) → Parts (List T) (Sift T) → Type 0
-  JoinsFirst s r t = YieldsFirstRef union_rest s r t × AsksThen (TakesFirst deref) (SiftsFirst lacks_item) s.first s.second r t.first t.second
+  JoinsFirst s r t = YieldsFirstRef union_rest s r t × TakesFromParts (TakesFirst deref) (SiftsFirst lacks_item) s.first s.second r t.first t.second
 
   -- `next_back` at s gave r, and left t. It asks the second part, and then the first.
   abbrev pub JoinsLast : Parts (List T) (Sift T) → Option (Bor T) → Parts (List T) (Sift T) → Type 0
-  JoinsLast s r t = YieldsLastRef union_rest s r t × AsksThen (SiftsLast lacks_item) (TakesLast deref) s.second s.first r t.second t.first
+  JoinsLast s r t = YieldsLastRef union_rest s r t × TakesFromParts (SiftsLast lacks_item) (TakesLast deref) s.second s.first r t.second t.first
 
   -- The iterator `r` is in the state `s`, and returns the union that is left there.
   abbrev pub JoinsAll : Parts (List T) (Sift T) → Parts (List T) (Sift T) → Type 0
@@ -124,11 +125,11 @@ module _ {T : Type 0} (eq : T → T → Bool) where
 
   -- `next` at s gave r, and left t. It asks the first part, and then the second.
   abbrev pub ExcludesFirst : Parts (Sift T) (Sift T) → Option (Bor T) → Parts (Sift T) (Sift T) → Type 0
-  ExcludesFirst s r t = YieldsFirstRef symmetric_rest s r t × AsksThen (SiftsFirst lacks_item) (SiftsFirst lacks_item) s.first s.second r t.first t.second
+  ExcludesFirst s r t = YieldsFirstRef symmetric_rest s r t × TakesFromParts (SiftsFirst lacks_item) (SiftsFirst lacks_item) s.first s.second r t.first t.second
 
   -- `next_back` at s gave r, and left t. It asks the second part, and then the first.
   abbrev pub ExcludesLast : Parts (Sift T) (Sift T) → Option (Bor T) → Parts (Sift T) (Sift T) → Type 0
-  ExcludesLast s r t = YieldsLastRef symmetric_rest s r t × AsksThen (SiftsLast lacks_item) (SiftsLast lacks_item) s.second s.first r t.second t.first
+  ExcludesLast s r t = YieldsLastRef symmetric_rest s r t × TakesFromParts (SiftsLast lacks_item) (SiftsLast lacks_item) s.second s.first r t.second t.first
 
   -- The iterator `r` is in the state `s`, and returns the elements that are left there and in one list only.
   abbrev pub ExcludesAll : Parts (Sift T) (Sift T) → Parts (Sift T) (Sift T) → Type 0

@@ -9,23 +9,24 @@ use Rattle.vecmap_base.specs.Items.{only}
 use Rattle.vecmap_set.specs.Contents.{Contents}
 
 module _ {T : Type 0} (eq : T → T → Bool) where
-  -- All of a, and then the elements of b that are not in a.
   -- Example: of `[1,2]` and `[3,2]`: `[1,2,3]`.
+  -- All of a, and then the elements of b that are not in a.
   abbrev pub union_of : List T → List T → List T
   union_of a b = a ++ only eq b a
 
-  -- The elements of a that are not in b, and then those of b that are not in a.
   -- Example: of `[1,2]` and `[3,2]`: `[1,3]`.
+  -- The elements of a that are not in b, and then the elements of b that are not in a.
   abbrev pub symmetric_difference_of : List T → List T → List T
   symmetric_difference_of a b = only eq a b ++ only eq b a
 
 -- `list` is one of the lists above, computed with the `==` of the elements from the elements of two sets.
 module _ {T : Type 0} (eq : T → T → Bool) (is_clone : T → T → Type 0) (list : (T → T → Bool) → List T → List T → List T) where
+  -- Example: true of a list of numbers, whose clones are the numbers themselves.
   -- A clone of an element of that list is equal to it.
-  -- Example: `[3,2,1] & [1,2]`: `[2,1]`.
   abbrev pub ClonesStaySame : Contents T → Contents T → Type 0
   ClonesStaySame a b = (x y : T) → Contains (list eq a.elements b.elements) x → is_clone x y → IsTrue (eq x y)
 
+  -- Example: of `both` and `[3,2,1] & [1,2]`: clones of `[2,1]`.
   -- On `Ok`, the set has clones of that list, in its order, and no two of them are equal.
   abbrev pub MakesClones : {E : Type 0} → Contents T → Contents T → Result (Contents T) E → Type 0
   MakesClones a b r = IfOk r (λ set. AreClones is_clone (list eq a.elements b.elements) set.elements × IsDistinct eq set.elements)

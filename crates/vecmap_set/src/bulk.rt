@@ -3,11 +3,11 @@ ghost use Rattle.std.specs.Prelude.{◌≡◌, ◌<◌, ◌≤◌, IfOk, IsOk, L
 ghost use Rattle.std.specs.Iterator.{Drains, ExtendsWithItems, IsFiniteIterable};
 ghost use Rattle.std.specs.List.{IsDistinct};
 ghost use Rattle.std.specs.Map.Iter.{deref};
-ghost use Rattle.vecmap_base.specs.Bulk.{HasRoomForAll, StopsAt};
+ghost use Rattle.vecmap_base.specs.Bulk.{HasRoomForAll};
 ghost use Rattle.vecmap_base.specs.Clones.{AreClones};
 ghost use Rattle.vecmap_base.specs.Items.{adds};
 ghost use Rattle.vecmap_set.specs.Contents.{HasRoom, with_elements};
-ghost use Rattle.vecmap_set.specs.SetBulk.{Adds, AddsCopies, RefusesAfter, RefusesCopiesAfter};
+ghost use Rattle.vecmap_set.specs.SetBulk.{Adds, AddsCopies, Extends, RefusesAfter, RefusesCopiesAfter};
 
 use crate::VecSet;
 use std::alloc::{AllocError, Global};
@@ -15,15 +15,14 @@ use std::alloc::{AllocError, Global};
 impl<T: Eq> VecSet<T> {
     /// Creates a set and adds the elements of an iterator, in order.
     ///
-    /// Of equal elements the first one stays, and the others are dropped. The call reserves no capacity in advance, as
-    /// elements may be equal.
+    /// Among duplicates the first is kept, and the others are dropped. The call reserves no capacity in advance, as
+    /// there may be duplicates.
     ///
     /// # Errors
     ///
-    /// [`AllocError`] if the allocator refuses a request; no set is created, and the elements and the iterator are
-    /// dropped.
+    /// [`AllocError`] if an allocation fails; no set is created, and the elements and the iterator are dropped.
     ///
-    /// # Conditions
+    /// # Preconditions
     ///
     /// The iterator ends.
     ///
@@ -55,14 +54,14 @@ impl<T: Eq> VecSet<T> {
         Ok(set)
     }
 
-    /// Creates a set and adds clones of the elements, in order.
+    /// Creates a set and adds clones of the elements of a slice, in order.
     ///
-    /// This is Rust's `From<&[T]>`. Of equal clones the first one stays. The call reserves no capacity in advance, like
-    /// [`VecSet::from_iter`].
+    /// This is Rust's `From<&[T]>`. Among equal clones the first is kept. The call reserves no capacity in advance,
+    /// like [`VecSet::from_iter`].
     ///
     /// # Errors
     ///
-    /// [`AllocError`] if the allocator refuses a request, or if the clone of an element is refused; no set is created.
+    /// [`AllocError`] if an allocation fails, or if the clone of an element fails; no set is created.
     ///
     /// # Complexity
     ///
@@ -90,13 +89,13 @@ impl<T: Eq> VecSet<T> {
 
     /// Adds the elements of `other`, in order, and leaves `other` empty.
     ///
-    /// An existing element stays as it is, and an equal one of `other` is dropped. The call first reserves capacity for
-    /// all elements of `other`. The capacity of `other` stays.
+    /// An existing element stays as it is, and an equal element of `other` is dropped. The call first reserves capacity
+    /// for all elements of `other`. The capacity of `other` stays.
     ///
     /// # Errors
     ///
-    /// [`AllocError`] if the allocator refuses the request; both sets are then unchanged. With spare capacity for all
-    /// elements of `other`, the call makes no request and always succeeds.
+    /// [`AllocError`] if allocation fails; both sets are then unchanged. With spare capacity for all elements of
+    /// `other`, the call does not allocate and always succeeds.
     ///
     /// # Complexity
     ///
@@ -137,16 +136,16 @@ impl<T: Eq> VecSet<T> {
 
     /// Adds the elements of an iterator, in order.
     ///
-    /// This is Rust's `Extend<T>`. An existing element stays as it is, and an equal one of the iterator is dropped. The
-    /// call reserves no capacity in advance, as some elements may be present already.
+    /// This is Rust's `Extend<T>`. An existing element stays as it is, and an equal element of the iterator is dropped.
+    /// The call reserves no capacity in advance, as some elements may be present already.
     ///
     /// # Errors
     ///
-    /// [`AllocError`] if the allocator refuses a request. If it refuses to grow the set for an element, the elements
-    /// before it stay, and that element is dropped with the iterator. With spare capacity for all elements, the call
-    /// makes no request and always succeeds.
+    /// [`AllocError`] if an allocation fails. If the set cannot grow for an element, the elements before it stay, and
+    /// that element is dropped with the iterator. With spare capacity for all elements, the call does not allocate and
+    /// always succeeds.
     ///
-    /// # Conditions
+    /// # Preconditions
     ///
     /// The iterator ends.
     ///
@@ -169,15 +168,10 @@ impl<T: Eq> VecSet<T> {
         ensures ran { ExtendsWithItems I.into_iter_gives I.IntoIter.next_gives
             (Adds T.eq) iter self.old self.new result }
         ensures distinct { IsDistinct T.eq self.new.elements }
-        ensures capacity { self.old.capacity ≤ self.new.capacity }
         ensures succeeds { HasRoomForAll I.into_iter_gives I.IntoIter.remaining iter
             (HasRoom self.old) → IsOk result }
-        ensures capacity_stays { HasRoomForAll I.into_iter_gives I.IntoIter.remaining iter
-            (HasRoom self.old) → self.new.capacity ≡ self.old.capacity }
-
-        // On `Err` a new element was refused, in a full set.
-        ensures err { OnErr result (StopsAt I.into_iter_gives I.IntoIter.next_gives iter
-            (RefusesAfter T.eq self.old self.new)) }
+        ensures extended { Extends I.into_iter_gives I.IntoIter.next_gives I.IntoIter.remaining
+            (RefusesAfter T.eq) iter self.old result self.new }
     {
         // A proof knows the invariant only once a field is used, and the loop needs it at its start.
         let _ = &self.items;
@@ -187,16 +181,16 @@ impl<T: Eq> VecSet<T> {
         Ok(())
     }
 
-    /// Like [`VecSet::extend`], with the same cost, but adds copies of the elements of an iterator of references.
+    /// Like [`VecSet::extend`], but adds copies of the elements of an iterator of references.
     ///
     /// This is Rust's `Extend<&T>`.
     ///
     /// # Errors
     ///
-    /// [`AllocError`] if the allocator refuses a request. If it refuses to grow the set for an element, the copies of
-    /// the elements before it stay.
+    /// [`AllocError`] if an allocation fails. If the set cannot grow for an element, the copies of the elements before
+    /// it stay.
     ///
-    /// # Conditions
+    /// # Preconditions
     ///
     /// The iterator ends.
     ///
@@ -218,15 +212,10 @@ impl<T: Eq> VecSet<T> {
         ensures ran { ExtendsWithItems I.into_iter_gives I.IntoIter.next_gives
             (AddsCopies T.eq deref) iter self.old self.new result }
         ensures distinct { IsDistinct T.eq self.new.elements }
-        ensures capacity { self.old.capacity ≤ self.new.capacity }
         ensures succeeds { HasRoomForAll I.into_iter_gives I.IntoIter.remaining iter
             (HasRoom self.old) → IsOk result }
-        ensures capacity_stays { HasRoomForAll I.into_iter_gives I.IntoIter.remaining iter
-            (HasRoom self.old) → self.new.capacity ≡ self.old.capacity }
-
-        // On `Err` a new element was refused, in a full set.
-        ensures err { OnErr result (StopsAt I.into_iter_gives I.IntoIter.next_gives iter
-            (RefusesCopiesAfter T.eq deref self.old self.new)) }
+        ensures extended { Extends I.into_iter_gives I.IntoIter.next_gives I.IntoIter.remaining
+            (RefusesCopiesAfter T.eq deref) iter self.old result self.new }
     {
         // As in `extend`.
         let _ = &self.items;

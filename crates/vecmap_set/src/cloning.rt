@@ -12,12 +12,11 @@ impl<T: Eq> VecSet<T> {
     ///
     /// # Errors
     ///
-    /// [`AllocError`] if the allocator refuses the request, or if the clone of an element is refused; no set is
-    /// created.
+    /// [`AllocError`] if allocation fails, or if the clone of an element fails; no set is created.
     ///
-    /// # Conditions
+    /// # Preconditions
     ///
-    /// A clone of each element is equal to it, so no two clones are equal.
+    /// A clone of each element is equal to it, so all clones are distinct.
     ///
     /// # Complexity
     ///
@@ -46,20 +45,20 @@ impl<T: Eq> VecSet<T> {
     }
 }
 
-/// Clones a set element by element, in order, and checks that no two clones are equal.
+/// Clones a set element by element, in order, and checks that all clones are distinct.
 ///
 /// The trait `Clone` of the elements does not say that a clone is equal to its original, so this call checks it. The
-/// inherent [`VecSet::clone`] has it as a condition, and compares nothing.
+/// inherent [`VecSet::clone`] has it as a precondition, and compares nothing.
 ///
 /// # Errors
 ///
-/// [`AllocError`] if the allocator refuses the request, if the clone of an element is refused, or if two clones are
-/// equal; the set is then unchanged.
+/// [`AllocError`] if allocation fails, if the clone of an element fails, or if two clones are equal; the set is then
+/// unchanged.
 ///
 /// # Complexity
 ///
-/// One clone of each element, one allocation for the elements, and one comparison of each element with its clone. If
-/// one differs, the clones are compared with each other: at most n(n-1)/2 comparisons more.
+/// One clone of each element, one allocation for the elements, and one comparison of each element with its clone. If a
+/// clone differs, the clones are compared with each other: at most n(n-1)/2 comparisons more.
 ///
 /// # Examples
 ///
@@ -82,7 +81,7 @@ impl<T: Eq + Clone> Clone for VecSet<T> {
     }
 }
 
-// Returns `true` if no two clones are equal. If each clone is equal to its original, they need not be compared with
+// Returns `true` if all clones are distinct. If each clone is equal to its original, they need not be compared with
 // each other.
 fn stay_distinct<T: Eq>(items: &[T], clones: &[T]) -> bool
     requires { IsDistinct T.eq items.now }

@@ -9,9 +9,9 @@ use crate::VecSet;
 use std::alloc::{AllocError, Global};
 use vecmap_base::{Steps, dedup_keep_first};
 
-/// Adds the elements of a vector in order, and keeps them in that vector.
+/// Converts a vector into a set, in the same memory, and removes duplicates.
 ///
-/// Of equal elements the first one stays, and the others are dropped. The capacity stays.
+/// Among duplicates the first is kept, and the others are dropped. The capacity stays.
 ///
 /// # Complexity
 ///
@@ -34,12 +34,12 @@ impl<T: Eq + Drop> From<Vec<T>> for VecSet<T> {
 }
 
 impl<T: Eq> VecSet<T> {
-    /// Like `From<Vec<T>>`, with the same cost, but also returns the number of comparisons.
+    /// Like `From<Vec<T>>`, but also returns the number of comparisons.
     ///
     /// # Complexity
     ///
     /// Each element is compared with the elements before it that stay, up to the first equal one. These are at most
-    /// n(n-1)/2 comparisons for n elements, and exactly as many if no two are equal (`comparisons_are_bounded` of
+    /// n(n-1)/2 comparisons for n elements, and exactly as many if all are distinct (`comparisons_are_bounded` of
     /// `vecmap_laws`).
     ///
     /// # Examples
@@ -65,11 +65,11 @@ impl<T: Eq> VecSet<T> {
 
     /// Creates a set and adds the elements of an array, in order.
     ///
-    /// This is Rust's `From<[T; N]>`. Of equal elements the first one stays, and the others are dropped.
+    /// This is Rust's `From<[T; N]>`. Among duplicates the first is kept, and the others are dropped.
     ///
     /// # Errors
     ///
-    /// [`AllocError`] if the allocator refuses the request; the elements are then dropped, and no set is created.
+    /// [`AllocError`] if allocation fails; the elements are then dropped, and no set is created.
     ///
     /// # Complexity
     ///
@@ -91,11 +91,11 @@ impl<T: Eq> VecSet<T> {
         Ok(VecSet::from(Vec::from_array(alloc, items)?))
     }
 
-    /// Creates a set of the elements as they are, in the vector that holds them.
+    /// Converts a vector into a set, in the same memory, without a search for duplicates.
     ///
-    /// # Conditions
+    /// # Preconditions
     ///
-    /// No two elements are equal: `items_distinct` returns `true`.
+    /// All elements are distinct: `items_distinct` returns `true`.
     ///
     /// # Complexity
     ///
@@ -122,8 +122,7 @@ impl<T: Eq> VecSet<T> {
     ///
     /// # Errors
     ///
-    /// [`AllocError`] if the allocator refuses the request, or if the clone of an element is refused; no vector is
-    /// created.
+    /// [`AllocError`] if allocation fails, or if the clone of an element fails; no vector is created.
     ///
     /// # Complexity
     ///

@@ -1,13 +1,13 @@
 //! The call `drain`, and its iterator, which removes a range of elements from a set.
 //!
-//! The iterator holds a reference to the set and no vector, so no two elements of the set are equal at any moment.
+//! The iterator holds a reference to the set and no vector, so the elements of the set are distinct at any moment.
 ghost use Rattle.std.specs.Prelude.{◌≡◌, ◌<◌, ◌≤◌, ◌^◌, length, slice_range};
 ghost use Rattle.std.specs.Iterator.{at_most};
 ghost use Rattle.std.specs.Iterator.Runs.{YieldsInOrder, YieldsInReverse};
 ghost use Rattle.std.specs.List.{IsDistinct, remove_range};
 ghost use Rattle.vecmap_base.specs.Drain.{KeepsAlong};
+ghost use Rattle.vecmap_base.specs.Iterators.{HintsExactly};
 ghost use Rattle.vecmap_base.specs.Ranges.{AreEndsWithin, IsRangeWithin, items_between, without_between};
-ghost use Rattle.vecmap_base.specs.Walks.{HintsExactly};
 ghost use Rattle.vecmap_set.specs.Drain.{DrainKeeps, DrainNext, DrainNextBack, drain_capacity, drain_kept, drain_lender, drain_rest};
 
 use crate::VecSet;
@@ -19,11 +19,11 @@ use vecmap_base::{move_range_last, reverse_from};
 impl<T: Eq> VecSet<T> {
     /// Removes the elements of a range of indices, and returns an iterator over them.
     ///
-    /// The iterator gives the elements in order, from either end. `range` is any range of std, with included, excluded
-    /// or open ends. Once the iterator is dropped, after any number of calls of `next`, the whole range is gone. The
-    /// other elements keep their order, and the capacity stays.
+    /// The iterator yields the elements in order, from either end. `range` is any range of std, with inclusive,
+    /// exclusive or open ends. Once the iterator is dropped, after any number of calls of `next`, the whole range is
+    /// gone. The other elements keep their order, and the capacity stays.
     ///
-    /// # Conditions
+    /// # Preconditions
     ///
     /// The start of the range is at most its end, and its end is at most [`VecSet::len`]. Both are computed without
     /// overflow, so a range whose start is `Excluded(usize::MAX)` is in no set. A `RangeInclusive` that was iterated to
@@ -31,8 +31,8 @@ impl<T: Eq> VecSet<T> {
     ///
     /// # Complexity
     ///
-    /// A number of moves that is linear in the number of elements from the start of the range on. If the range reaches
-    /// to the end, none. Does not allocate.
+    /// A number of moves that is linear in the number of elements from the start of the range on. No moves if the range
+    /// ends at `len`. Does not allocate.
     ///
     /// # Examples
     ///
@@ -69,14 +69,14 @@ impl<T: Eq> VecSet<T> {
 
 /// An iterator over the elements of a range of a set, which it removes. [`VecSet::drain`] creates it.
 ///
-/// When it is dropped, at any point, it leaves the set without the whole range. The elements that were not taken are
+/// When it is dropped, at any point, it leaves the set without the whole range. The elements that were not yielded are
 /// dropped, and the other elements of the set keep their order. After the last element, each call of `next` returns
-/// `None`. No two elements of the set are equal at any moment, so even a drain that is forgotten leaves a set.
+/// `None`. The elements of the set are distinct at any moment, so even a drain that is forgotten leaves a set.
 ///
 /// # Complexity
 ///
-/// Constant time for each element that is taken from the same end as the one before. The first element, and one from
-/// the other end, can take a number of moves that is linear in the number of remaining elements, as they are first
+/// Constant time for each element from the same end as the element before. The first element, and the first from the
+/// other end, can cost a number of moves that is linear in the number of remaining elements, as they are first
 /// reversed. No call allocates.
 ///
 /// # Examples
@@ -101,16 +101,16 @@ pub struct Drain<'a, T: Eq> {
 impl<'a, T: Eq + Drop> Drain<'a, T> {
     /// Creates the drain of the elements from the index `start` up to, but not including, `end`.
     ///
-    /// [`VecSet::drain`] is the usual call, and calls it. This one is for callers that have two indices, and no range.
+    /// This is [`VecSet::drain`] for callers that have two indices and no range.
     ///
-    /// # Conditions
+    /// # Preconditions
     ///
     /// `start` is at most `end`, and `end` is at most the number of elements.
     ///
     /// # Complexity
     ///
-    /// A number of moves that is linear in the number of elements from `start` on. If `end` is the number of elements,
-    /// none.
+    /// A number of moves that is linear in the number of elements from `start` on. No moves if `end` is the number of
+    /// elements.
     ///
     /// # Examples
     ///
@@ -152,7 +152,7 @@ impl<'a, T: Eq + Drop> Drain<'a, T> {
 }
 
 impl<'a, T: Eq> Drain<'a, T> {
-    // Reverses the remaining elements if their order is not the wanted one.
+    // Reverses the remaining elements unless they are in the wanted order.
     #[tactic(auto, using(vecmap_base::proofs::DrainRuns::drains, crate::proofs::SetLemmas::distinct_changes))]
     fn put_in_order(&mut self, reversed: bool)
         requires { self.old.keep ≤ length self.old.set.now.elements }
@@ -163,7 +163,7 @@ impl<'a, T: Eq> Drain<'a, T> {
         ensures keeps { DrainKeeps self.old self.new }
     {
         if self.reversed != reversed {
-            // The check reaches the vector of a set only through a variable.
+            // `rt check` reaches the vector of a set only through a variable.
             let set = &mut *self.set;
             reverse_from(&mut set.items, self.keep);
             self.reversed = reversed;

@@ -4,7 +4,7 @@ ghost use Rattle.vecmap_base.specs.Equality.{is_within};
 ghost use Rattle.vecmap_base.specs.Items.{both};
 
 use crate::VecSet;
-use vecmap_base::{are_disjoint, are_within};
+use vecmap_base::{are_disjoint, is_subset_of};
 
 impl<T: Eq> VecSet<T> {
     /// Returns `true` if the sets have no element in common.
@@ -12,7 +12,7 @@ impl<T: Eq> VecSet<T> {
     /// # Complexity
     ///
     /// At most as many comparisons as the product of the lengths. The elements of the shorter set are looked up in the
-    /// other, up to the first one that is found.
+    /// other, up to the first that is found.
     ///
     /// # Examples
     ///
@@ -30,12 +30,12 @@ impl<T: Eq> VecSet<T> {
         }
     }
 
-    /// Returns `true` if each element is in `other`.
+    /// Returns `true` if each element of this set is in `other`.
     ///
     /// # Complexity
     ///
     /// No comparisons if this set is longer. Otherwise at most as many as the product of the lengths: each element is
-    /// looked up in `other`, up to the first one that is not found.
+    /// looked up in `other`, up to the first that is not found.
     ///
     /// # Examples
     ///
@@ -51,7 +51,7 @@ impl<T: Eq> VecSet<T> {
         if items.len() > others.len() {
             return false;
         }
-        are_within(items, others)
+        is_subset_of(items, others)
     }
 
     /// Returns `true` if each element of `other` is in this set.
@@ -78,7 +78,7 @@ impl<T: Eq> VecSet<T> {
 /// # Complexity
 ///
 /// No comparisons if the lengths differ. Otherwise at most as many as the product of the lengths: the elements of the
-/// first set are looked up in the other, up to the first one that is not found.
+/// first set are looked up in the other, up to the first that is not found.
 ///
 /// # Examples
 ///
@@ -103,7 +103,7 @@ impl<T: Eq> PartialEq for VecSet<T> {
         if items.len() != others.len() {
             return false;
         }
-        are_within(items, others)
+        is_subset_of(items, others)
     }
 }
 

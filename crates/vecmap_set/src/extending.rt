@@ -1,24 +1,24 @@
 //! The trait `Extend` of a set, for generic code, `try_collect` and `partition`.
 //!
-//! Each impl calls the inherent function that it names, and says the same of a refusal. Generic code knows only what
-//! the trait says: that some first part of the items was added.
+//! Each impl calls the inherent function that it names, and promises the same if an allocation fails. Generic code
+//! knows only what the trait promises: that some of the first items were added.
 ghost use Rattle.std.specs.Iterator.{ExtendsWithItems, IsFiniteIterable};
 ghost use Rattle.std.specs.Map.Iter.{deref};
-ghost use Rattle.std.specs.Prelude.{◌≡◌, IsOk, OnErr};
-ghost use Rattle.vecmap_base.specs.Bulk.{HasRoomForAll, StopsAt};
+ghost use Rattle.std.specs.Prelude.{IsOk};
+ghost use Rattle.vecmap_base.specs.Bulk.{HasRoomForAll};
 ghost use Rattle.vecmap_set.specs.Contents.{HasRoom};
-ghost use Rattle.vecmap_set.specs.SetBulk.{Adds, AddsCopies, GrowsDistinct, RefusesAfter, RefusesCopiesAfter};
+ghost use Rattle.vecmap_set.specs.SetBulk.{Adds, AddsCopies, Extends, GrowsDistinct, RefusesAfter, RefusesCopiesAfter};
 
 use crate::VecSet;
 use std::alloc::AllocError;
 
-/// Adds the elements of an iterator in order, like the inherent [`VecSet::extend`], with the same cost.
+/// Adds the elements of an iterator in order, like the inherent [`VecSet::extend`].
 ///
 /// # Errors
 ///
-/// [`AllocError`] if the allocator refuses a request; the elements before the refused one are then in the set.
+/// [`AllocError`] if an allocation fails; the elements added until then stay in the set.
 ///
-/// # Conditions
+/// # Preconditions
 ///
 /// The iterator ends.
 ///
@@ -40,23 +40,20 @@ impl<T: Eq + Drop> Extend<T> for VecSet<T> {
             (GrowsDistinct T.eq (Adds T.eq)) iter self.old self.new result }
         ensures succeeds { HasRoomForAll I.into_iter_gives I.IntoIter.remaining iter
             (HasRoom self.old) → IsOk result }
-        ensures capacity_stays { HasRoomForAll I.into_iter_gives I.IntoIter.remaining iter
-            (HasRoom self.old) → self.new.capacity ≡ self.old.capacity }
-        ensures err { OnErr result (StopsAt I.into_iter_gives I.IntoIter.next_gives iter
-            (RefusesAfter T.eq self.old self.new)) }
+        ensures extended { Extends I.into_iter_gives I.IntoIter.next_gives I.IntoIter.remaining
+            (RefusesAfter T.eq) iter self.old result self.new }
     {
         VecSet::extend(self, iter)
     }
 }
 
-/// Adds copies of the elements of an iterator of references, in order, like the inherent [`VecSet::extend_copied`],
-/// with the same cost.
+/// Adds copies of the elements of an iterator of references, in order, like the inherent [`VecSet::extend_copied`].
 ///
 /// # Errors
 ///
-/// [`AllocError`] if the allocator refuses a request; copies of the elements before the refused one are in the set.
+/// [`AllocError`] if an allocation fails; copies of the elements added until then stay in the set.
 ///
-/// # Conditions
+/// # Preconditions
 ///
 /// The iterator ends.
 ///
@@ -77,10 +74,8 @@ impl<'a, T: Eq + Copy + 'a> Extend<&'a T> for VecSet<T> {
             (GrowsDistinct T.eq (AddsCopies T.eq deref)) iter self.old self.new result }
         ensures succeeds { HasRoomForAll I.into_iter_gives I.IntoIter.remaining iter
             (HasRoom self.old) → IsOk result }
-        ensures capacity_stays { HasRoomForAll I.into_iter_gives I.IntoIter.remaining iter
-            (HasRoom self.old) → self.new.capacity ≡ self.old.capacity }
-        ensures err { OnErr result (StopsAt I.into_iter_gives I.IntoIter.next_gives iter
-            (RefusesCopiesAfter T.eq deref self.old self.new)) }
+        ensures extended { Extends I.into_iter_gives I.IntoIter.next_gives I.IntoIter.remaining
+            (RefusesCopiesAfter T.eq deref) iter self.old result self.new }
     {
         self.extend_copied(iter)
     }

@@ -6,7 +6,7 @@ use std::ops::Index;
 
 /// Returns the element at `index`. This is `set[index]`.
 ///
-/// # Conditions
+/// # Preconditions
 ///
 /// The index is less than [`VecSet::len`].
 ///

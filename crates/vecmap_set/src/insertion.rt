@@ -18,8 +18,7 @@ impl<T: Eq> VecSet<T> {
     ///
     /// # Errors
     ///
-    /// [`Refused`] returns the element if the set is full and the allocator refuses to grow it; the set is then
-    /// unchanged.
+    /// [`Refused`] returns the element if the set is full and allocation fails; the set is then unchanged.
     ///
     /// # Complexity
     ///
@@ -46,7 +45,7 @@ impl<T: Eq> VecSet<T> {
             → self.new ≡ self.old }
         ensures capacity { KeepsRoom T.eq self.old item self.new }
 
-        // On `Err` the element is returned. Only a new element can be refused, and only if the set is full.
+        // On `Err` the element is returned, it is new, and the set is full.
         ensures given { IfErr result (λ refused. refused.given ≡ item) }
         ensures err { OnErr result (Refuses T.eq self.old item self.new) }
     {
@@ -57,15 +56,14 @@ impl<T: Eq> VecSet<T> {
         Ok(true)
     }
 
-    /// Inserts an element, and returns the equal element that it replaces, if there is one.
+    /// Inserts an element, replacing an equal one, and returns the element that it replaces.
     ///
     /// If an equal element is present, `item` replaces it at its index; [`VecSet::insert`] would keep the old one. A
     /// new element is appended.
     ///
     /// # Errors
     ///
-    /// [`Refused`] returns the element if the set is full and the allocator refuses to grow it; the set is then
-    /// unchanged.
+    /// [`Refused`] returns the element if the set is full and allocation fails; the set is then unchanged.
     ///
     /// # Complexity
     ///
@@ -88,7 +86,7 @@ impl<T: Eq> VecSet<T> {
         ensures distinct { IsDistinct T.eq self.new.elements }
         ensures capacity { KeepsRoom T.eq self.old item self.new }
 
-        // On `Err` the element is returned. Only a new element can be refused, and only if the set is full.
+        // On `Err` the element is returned, it is new, and the set is full.
         ensures given { IfErr result (λ refused. refused.given ≡ item) }
         ensures err { OnErr result (Refuses T.eq self.old item self.new) }
     {
@@ -129,6 +127,6 @@ impl<T: Eq> VecSet<T> {
         if self.items.len() < self.items.capacity() {
             return Ok(());
         }
-        self.reserve(1)
+        self.items.reserve(1)
     }
 }

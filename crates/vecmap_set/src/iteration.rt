@@ -1,16 +1,17 @@
 //! Iterators over the elements.
 //!
-//! A contract sees an iterator as the list of its remaining items. Each iterator knows its exact length and gives items
-//! from both ends. After its last item it returns only `None`. Creating one takes constant time and does not allocate.
+//! A contract sees an iterator as the list of its remaining items. Each iterator knows its exact length and yields
+//! items from both ends. After its last item it returns only `None`. Creating one takes constant time and does not
+//! allocate.
 ghost use Rattle.std.specs.List.{IsDistinct};
 ghost use Rattle.std.specs.Map.Iter.{deref};
-ghost use Rattle.vecmap_base.specs.Walks.{GivesAll, ShowsAll};
+ghost use Rattle.vecmap_base.specs.Iterators.{GivesAll, ShowsAll};
 
 use crate::VecSet;
 use vecmap_base::items::{IntoIter, Iter};
 
 impl<T: Eq> VecSet<T> {
-    /// Returns an iterator over the elements, in order. No two of them are equal.
+    /// Returns an iterator over the elements, in order. They are distinct.
     ///
     /// # Complexity
     ///

@@ -1,4 +1,5 @@
-//! A law about each set. A call of a law costs nothing at run time, and gives the law to a proof.
+//! A law about each set: a function without effect whose contract is a theorem. A call costs nothing at run time, and
+//! adds the theorem to what the proof of the caller knows.
 ghost use Rattle.std.specs.Prelude.{◌≤◌, length};
 
 use crate::VecSet;

@@ -1,6 +1,6 @@
 //! Iterators over differences, intersections and unions of two sets, and the calls that create them.
 //!
-//! None of them allocates, and each yields from both ends. Elements are looked up when they are pulled.
+//! None of them allocates, and each yields from both ends. The lookups happen in the calls of `next`.
 ghost use Rattle.std.specs.Prelude.{◌≡◌, ℕ, ◌+◌};
 ghost use Rattle.std.specs.Set.{is_member};
 ghost use Rattle.std.specs.Slice.Iter.{iter_rest};
@@ -46,9 +46,9 @@ impl<T: Eq> VecSet<T> {
 
     /// Returns an iterator over the elements that both sets have.
     ///
-    /// They are the elements of the shorter set that the other one has, in the order of the shorter. If the lengths are
-    /// equal, they are elements of this set. For 3, 2, 1 and 1, 2 it yields 1, 2. `self & other` has the same elements,
-    /// but always those of this set, in its order.
+    /// These are the elements of the shorter set that the other set has, in the order of the shorter. If the lengths
+    /// are equal, they are elements of this set. For 3, 2, 1 and 1, 2 it yields 1, 2. `self & other` has the same
+    /// elements, but always takes them from this set, in its order.
     ///
     /// # Complexity
     ///
@@ -77,8 +77,8 @@ impl<T: Eq> VecSet<T> {
 
     /// Returns an iterator over the elements that only one of the sets has.
     ///
-    /// They are the elements of this set that `other` lacks, and then those of `other` that this set lacks, each in
-    /// order. It yields what `self ^ other` clones. For 1, 2, 3 and 4, 2, 3 it yields 1, 4.
+    /// These are the elements of this set that `other` lacks, and then the elements of `other` that this set lacks,
+    /// each part in order. It yields what `self ^ other` clones. For 1, 2, 3 and 4, 2, 3 it yields 1, 4.
     ///
     /// # Complexity
     ///
@@ -101,9 +101,9 @@ impl<T: Eq> VecSet<T> {
 
     /// Returns an iterator over the elements that at least one of the sets has.
     ///
-    /// They are all elements of the longer set, and then those of the other one that it lacks, each in order. If the
-    /// lengths are equal, this set comes first. For 1 and 2, 3 it yields 2, 3, 1. `self | other` has the same elements,
-    /// but always all of this set first.
+    /// These are all elements of the longer set, and then the elements of the other set that it lacks, each part in
+    /// order. If the lengths are equal, this set comes first. For 1 and 2, 3 it yields 2, 3, 1. `self | other` has the
+    /// same elements, but always the elements of this set first.
     ///
     /// # Complexity
     ///
@@ -130,7 +130,7 @@ impl<T: Eq> VecSet<T> {
     }
 }
 
-// Returns the first of `items` whose presence in `other` is `within`, and removes it and those before it.
+// Returns the first of `items` whose presence in `other` is `within`, and removes it and the items before it.
 fn sift_front<'a, T: Eq>(items: &mut slice::Iter<'a, T>, other: &[T], within: bool) -> Option<&'a T>
     ensures { SiftsFirst (presence T.eq within) (sift_of (iter_rest items.old) other.now) result
         (sift_of (iter_rest items.new) other.now) }
@@ -143,7 +143,7 @@ fn sift_front<'a, T: Eq>(items: &mut slice::Iter<'a, T>, other: &[T], within: bo
     None
 }
 
-// Returns the last of `items` whose presence in `other` is `within`, and removes it and those after it.
+// Returns the last of `items` whose presence in `other` is `within`, and removes it and the items after it.
 fn sift_back<'a, T: Eq>(items: &mut slice::Iter<'a, T>, other: &[T], within: bool) -> Option<&'a T>
     ensures { SiftsLast (presence T.eq within) (sift_of (iter_rest items.old) other.now) result
         (sift_of (iter_rest items.new) other.now) }

@@ -25,10 +25,13 @@ pub use drain::Drain;
 pub use lazy::{Difference, Intersection, SymmetricDifference, Union};
 use std::marker::Model;
 
-/// A set that keeps its elements in insertion order, no two of them equal.
+/// A set that keeps its elements in insertion order, without duplicates.
 ///
-/// Elements need neither `Hash` nor `Ord`. A lookup compares the elements in order, by `==`, until one matches, so it
-/// makes at most `len` comparisons. A contract sees a set as the list of its elements and its capacity.
+/// Elements need neither `Hash` nor `Ord`. A lookup compares the elements in order, by `==`, small ones in blocks of
+/// four or eight, so it makes at most `len` comparisons. A contract sees a set as the list of its elements and its capacity.
+///
+/// All elements are in one allocation, and nothing else is: an element needs `size_of::<T>()` bytes. A set is `Eq`, so
+/// it can itself be a key or an element. It is neither `Hash` nor `Ord`.
 ///
 /// # Examples
 ///

@@ -1,7 +1,7 @@
 //! Lookups by query and by index.
 //!
-//! A lookup by a query compares it with the elements in order, up to the first one that matches, and of small elements
-//! with at most seven more: at most `len` comparisons in all. A lookup by index makes none.
+//! A lookup by a query compares it with the elements in order, up to the first that matches, and of small elements with
+//! at most seven more: at most `len` comparisons in all. A lookup by index makes none.
 ghost use Rattle.std.specs.Prelude.{◌≡◌, ◌-◌, ◌<◌, IfSome, length, option_copied, option_map, position, slice_get};
 ghost use Rattle.std.specs.List.{list_any};
 ghost use Rattle.vecmap_base.specs.Items.{stored_first};
@@ -151,8 +151,7 @@ impl<T: Eq> VecSet<T> {
 }
 
 impl VecSet<String> {
-    /// Like [`VecSet::contains`], with the same cost, but an element matches if it has the bytes of `text`. Does not
-    /// allocate.
+    /// Like [`VecSet::contains`], but an element matches if it has the bytes of `text`. Does not allocate.
     ///
     /// # Examples
     ///

@@ -32,8 +32,12 @@ impl<T: Eq> VecSet<T> {
     ///
     /// # Errors
     ///
-    /// [`AllocError`] if the allocator refuses the request, or if the elements would take more than `isize::MAX` bytes;
-    /// no set is created.
+    /// [`AllocError`] if allocation fails, or if the elements would take more than `isize::MAX` bytes; no set is
+    /// created.
+    ///
+    /// # Complexity
+    ///
+    /// At most one allocation.
     ///
     /// # Examples
     ///
@@ -55,7 +59,7 @@ impl<T: Eq> VecSet<T> {
         })
     }
 
-    /// Returns the elements in order, as a slice. No two of them are equal.
+    /// Returns the elements in order, as a slice. They are distinct.
     ///
     /// # Complexity
     ///

@@ -13,20 +13,20 @@ const MIN_CAPACITY: usize = 4;
 
 /// Creates a set of clones of the elements that both sets have.
 ///
-/// They are the elements of the left set that the right one has, in the order of the left. For 3, 2, 1 and 1, 2 it has
-/// 2, 1, while [`VecSet::intersection`] yields 1, 2. The new set has the allocator of the left one.
+/// These are the elements of the left set that the right set has, in the order of the left. For 3, 2, 1 and 1, 2 it has
+/// 2, 1, while [`VecSet::intersection`] yields 1, 2. The new set has the allocator of the left set.
 ///
 /// # Errors
 ///
-/// [`AllocError`] if the allocator refuses a request, for the set or for a clone; no set is created.
+/// [`AllocError`] if an allocation fails, for the set or for a clone of an element; no set is created.
 ///
-/// # Conditions
+/// # Preconditions
 ///
 /// A clone of each of these elements is equal to it.
 ///
 /// # Complexity
 ///
-/// One lookup in the right set for each element of the left one.
+/// One lookup in the right set for each element of the left set.
 ///
 /// # Examples
 ///
@@ -51,20 +51,21 @@ impl<'a, 'b, T: Eq + Clone> BitAnd<&'b VecSet<T>> for &'a VecSet<T> {
 
 /// Creates a set of clones of the elements that at least one of the sets has.
 ///
-/// They are all elements of the left set, and then those of the right one that the left one lacks, each in order. For 1
-/// and 2, 3 it has 1, 2, 3, while [`VecSet::union`] yields 2, 3, 1. The new set has the allocator of the left one.
+/// These are all elements of the left set, and then the elements of the right set that the left set lacks, each part in
+/// order. For 1 and 2, 3 it has 1, 2, 3, while [`VecSet::union`] yields 2, 3, 1. The new set has the allocator of the
+/// left set.
 ///
 /// # Errors
 ///
-/// [`AllocError`] if the allocator refuses a request, for the set or for a clone; no set is created.
+/// [`AllocError`] if an allocation fails, for the set or for a clone of an element; no set is created.
 ///
-/// # Conditions
+/// # Preconditions
 ///
 /// A clone of each of these elements is equal to it.
 ///
 /// # Complexity
 ///
-/// One lookup in the left set for each element of the right one.
+/// One lookup in the left set for each element of the right set.
 ///
 /// # Examples
 ///
@@ -89,14 +90,15 @@ impl<'a, 'b, T: Eq + Clone> BitOr<&'b VecSet<T>> for &'a VecSet<T> {
 
 /// Creates a set of clones of the elements that only one of the sets has.
 ///
-/// They are the elements of the left set that the right one lacks, and then those of the right one that the left one
-/// lacks, each in order. For 1, 2, 3 and 4, 2, 3 it has 1, 4. The new set has the allocator of the left one.
+/// These are the elements of the left set that the right set lacks, and then the elements of the right set that the
+/// left set lacks, each part in order. For 1, 2, 3 and 4, 2, 3 it has 1, 4. The new set has the allocator of the left
+/// set.
 ///
 /// # Errors
 ///
-/// [`AllocError`] if the allocator refuses a request, for the set or for a clone; no set is created.
+/// [`AllocError`] if an allocation fails, for the set or for a clone of an element; no set is created.
 ///
-/// # Conditions
+/// # Preconditions
 ///
 /// A clone of each of these elements is equal to it.
 ///
@@ -127,21 +129,21 @@ impl<'a, 'b, T: Eq + Clone> BitXor<&'b VecSet<T>> for &'a VecSet<T> {
     }
 }
 
-/// Creates a set of clones of the elements of the left set that the right one lacks, in order.
+/// Creates a set of clones of the elements of the left set that the right set lacks, in order.
 ///
-/// For 1, 2, 3 and 4, 2, 3 it has 1. The new set has the allocator of the left one.
+/// For 1, 2, 3 and 4, 2, 3 it has 1. The new set has the allocator of the left set.
 ///
 /// # Errors
 ///
-/// [`AllocError`] if the allocator refuses a request, for the set or for a clone; no set is created.
+/// [`AllocError`] if an allocation fails, for the set or for a clone of an element; no set is created.
 ///
-/// # Conditions
+/// # Preconditions
 ///
 /// A clone of each of these elements is equal to it.
 ///
 /// # Complexity
 ///
-/// One lookup in the right set for each element of the left one.
+/// One lookup in the right set for each element of the left set.
 ///
 /// # Examples
 ///
@@ -183,8 +185,9 @@ fn clones_of<'a, T: Clone + 'a, I: Iterator<Item = &'a T>>(
     Ok(made)
 }
 
-// Returns the capacity to reserve for an iterator with these bounds. If it yields an item, and may yield several, that
-// is at least what a vector first grows to, so that the vector does not grow for the second item.
+// Returns the capacity to reserve for an iterator with these bounds. If the iterator yields an item, and may yield
+// several, this is at least the capacity to which a vector first grows, so that the vector does not grow for the second
+// item.
 fn first_capacity(at_least: usize, at_most: Option<usize>) -> usize
     ensures { at_least ≤ result }
 {

@@ -32,7 +32,7 @@ impl<T: Eq> VecSet<T> {
 
     /// Swaps the elements at the indices `a` and `b`.
     ///
-    /// # Conditions
+    /// # Preconditions
     ///
     /// `a` and `b` are less than [`VecSet::len`].
     ///
@@ -58,11 +58,11 @@ impl<T: Eq> VecSet<T> {
         self.items.swap(a, b);
     }
 
-    /// Sorts the elements. Elements that compare as equal keep their order.
+    /// Sorts the elements; elements that compare as equal keep their order.
     ///
     /// # Errors
     ///
-    /// [`AllocError`] if the allocator refuses the request; the set is then unchanged.
+    /// [`AllocError`] if allocation fails; the set is then unchanged.
     ///
     /// # Complexity
     ///
@@ -89,15 +89,15 @@ impl<T: Eq> VecSet<T> {
         self.items.sort()
     }
 
-    /// Sorts the elements by `f`, which compares two elements. Elements that compare as equal keep their order.
+    /// Sorts the elements by `f`, which compares two elements; elements that compare as equal keep their order.
     ///
-    /// If `f` is not a consistent order, the elements may end in any order, but none is lost.
+    /// If `f` is not a consistent order, the elements end in some order, and none is lost.
     ///
     /// # Errors
     ///
-    /// [`AllocError`] if the allocator refuses the request; the set is then unchanged.
+    /// [`AllocError`] if allocation fails; the set is then unchanged.
     ///
-    /// # Conditions
+    /// # Preconditions
     ///
     /// `f` can be called with any two elements.
     ///
@@ -125,14 +125,14 @@ impl<T: Eq> VecSet<T> {
         self.items.sort_by(f)
     }
 
-    /// Sorts the elements by the sort keys that `f` returns for them. Elements whose sort keys compare as equal keep
+    /// Sorts the elements by the sort keys that `f` returns for them; elements whose sort keys compare as equal keep
     /// their order.
     ///
     /// # Errors
     ///
-    /// [`AllocError`] if the allocator refuses the request; the set is then unchanged.
+    /// [`AllocError`] if allocation fails; the set is then unchanged.
     ///
-    /// # Conditions
+    /// # Preconditions
     ///
     /// `f` can be called with any element.
     ///
@@ -164,7 +164,7 @@ impl<T: Eq> VecSet<T> {
         self.items.sort_by_cached_key(f)
     }
 
-    /// Sorts the elements. Elements that compare as equal may change their order.
+    /// Sorts the elements; elements that compare as equal may change their order.
     ///
     /// # Complexity
     ///
@@ -188,11 +188,11 @@ impl<T: Eq> VecSet<T> {
         self.items.sort_unstable();
     }
 
-    /// Sorts the elements by `f`, which compares two elements. Elements that compare as equal may change their order.
+    /// Sorts the elements by `f`, which compares two elements; elements that compare as equal may change their order.
     ///
-    /// If `f` is not a consistent order, the elements may end in any order, but none is lost.
+    /// If `f` is not a consistent order, the elements end in some order, and none is lost.
     ///
-    /// # Conditions
+    /// # Preconditions
     ///
     /// `f` can be called with any two elements.
     ///

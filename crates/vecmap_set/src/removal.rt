@@ -69,9 +69,9 @@ impl<T: Eq> VecSet<T> {
     ///
     /// # Errors
     ///
-    /// [`AllocError`] if the allocator refuses the request; the set is then unchanged.
+    /// [`AllocError`] if allocation fails; the set is then unchanged.
     ///
-    /// # Conditions
+    /// # Preconditions
     ///
     /// `at` is at most [`VecSet::len`].
     ///
@@ -104,12 +104,12 @@ impl<T: Eq> VecSet<T> {
         })
     }
 
-    /// Keeps the elements for which `f` returns `true`.
+    /// Keeps the elements for which `f` returns `true`, in their order.
     ///
     /// `f` is called once for each element, in order, in the state that the calls before have left. The other elements
     /// are dropped at the end. The capacity stays.
     ///
-    /// # Conditions
+    /// # Preconditions
     ///
     /// `f` can be called with each element of the set, in the state that the calls before have left.
     ///
@@ -163,7 +163,8 @@ impl<T: Eq> VecSet<T> {
         self.items.pop()
     }
 
-    /// Removes the element that matches `query`, and returns `true` if there was one.
+    /// Removes the element that matches `query` and returns `true` if there was one; the other elements keep their
+    /// order.
     ///
     /// The element is dropped, and the index of each later element decreases by one. If no element matches, nothing
     /// changes.
@@ -193,11 +194,11 @@ impl<T: Eq> VecSet<T> {
         self.take(query).is_some()
     }
 
-    /// Removes the element at `index`, and returns it.
+    /// Removes the element at `index` and returns it; the other elements keep their order.
     ///
     /// The index of each later element decreases by one.
     ///
-    /// # Conditions
+    /// # Preconditions
     ///
     /// `index` is less than [`VecSet::len`].
     ///
@@ -224,9 +225,10 @@ impl<T: Eq> VecSet<T> {
         remove_item(&mut self.items, index)
     }
 
-    /// Removes the element that matches `query`, and returns `true` if there was one.
+    /// Removes the element that matches `query` and returns `true` if there was one; the last element moves to its
+    /// index.
     ///
-    /// The element is dropped, and the last element moves to its index. If no element matches, nothing changes.
+    /// The element is dropped. If no element matches, nothing changes.
     ///
     /// # Complexity
     ///
@@ -252,11 +254,9 @@ impl<T: Eq> VecSet<T> {
         self.swap_take(query).is_some()
     }
 
-    /// Removes the element at `index`, and returns it.
+    /// Removes the element at `index` and returns it; the last element moves to `index`.
     ///
-    /// The last element moves to `index`.
-    ///
-    /// # Conditions
+    /// # Preconditions
     ///
     /// `index` is less than [`VecSet::len`].
     ///
@@ -283,7 +283,7 @@ impl<T: Eq> VecSet<T> {
         self.items.swap_remove(index)
     }
 
-    /// Like [`VecSet::remove`], with the same cost, but returns the stored element.
+    /// Like [`VecSet::remove`], but returns the stored element.
     ///
     /// # Examples
     ///
@@ -303,7 +303,7 @@ impl<T: Eq> VecSet<T> {
         Some(self.remove_index(index))
     }
 
-    /// Like [`VecSet::swap_remove`], with the same cost, but returns the stored element.
+    /// Like [`VecSet::swap_remove`], but returns the stored element.
     ///
     /// # Examples
     ///
@@ -325,8 +325,7 @@ impl<T: Eq> VecSet<T> {
 }
 
 impl VecSet<String> {
-    /// Like [`VecSet::remove`], with the same cost, but an element matches if it has the bytes of `text`. Does not
-    /// allocate.
+    /// Like [`VecSet::remove`], but an element matches if it has the bytes of `text`. Does not allocate.
     ///
     /// # Examples
     ///

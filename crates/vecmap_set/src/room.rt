@@ -54,17 +54,17 @@ impl<T: Eq> VecSet<T> {
 
     /// Reserves capacity for at least `additional` more elements.
     ///
-    /// The call reserves some more than that, so that repeated insertions seldom allocate. If the spare capacity is
-    /// already enough, it succeeds and the capacity stays. Otherwise all elements may be moved.
+    /// The call reserves a surplus, so that a series of insertions seldom allocates. If the spare capacity is already
+    /// enough, it succeeds and the capacity stays. Otherwise all elements may be moved.
     ///
     /// # Errors
     ///
-    /// [`AllocError`] if the allocator refuses the request, or if the elements would take more than `isize::MAX` bytes;
-    /// the set is then unchanged.
+    /// [`AllocError`] if allocation fails, or if the elements would take more than `isize::MAX` bytes; the set is then
+    /// unchanged.
     ///
     /// # Complexity
     ///
-    /// At most one request. It may move all elements.
+    /// At most one allocation, which may move all elements.
     ///
     /// # Examples
     ///
@@ -85,17 +85,17 @@ impl<T: Eq> VecSet<T> {
 
     /// Reserves capacity for `additional` more elements, without the surplus that [`VecSet::reserve`] adds.
     ///
-    /// The allocator may still give more. If the spare capacity is already enough, the call succeeds and the capacity
-    /// stays. Otherwise all elements may be moved.
+    /// The allocator may still provide more. If the spare capacity is already enough, the call succeeds and the
+    /// capacity stays. Otherwise all elements may be moved.
     ///
     /// # Errors
     ///
-    /// [`AllocError`] if the allocator refuses the request, or if the elements would take more than `isize::MAX` bytes;
-    /// the set is then unchanged.
+    /// [`AllocError`] if allocation fails, or if the elements would take more than `isize::MAX` bytes; the set is then
+    /// unchanged.
     ///
     /// # Complexity
     ///
-    /// At most one request. It may move all elements.
+    /// At most one allocation, which may move all elements.
     ///
     /// # Examples
     ///
@@ -114,12 +114,12 @@ impl<T: Eq> VecSet<T> {
         self.items.reserve_exact(additional)
     }
 
-    /// Like [`VecSet::reserve`], with the same cost, but with the error type that Rust gives this call.
+    /// Like [`VecSet::reserve`], but returns a [`TryReserveError`], as the call of Rust does.
     ///
     /// # Errors
     ///
-    /// [`TryReserveError`] if the allocator refuses the request, or if the elements would take more than `isize::MAX`
-    /// bytes; the set is then unchanged.
+    /// [`TryReserveError`] if allocation fails, or if the elements would take more than `isize::MAX` bytes; the set is
+    /// then unchanged.
     ///
     /// # Examples
     ///
@@ -135,12 +135,12 @@ impl<T: Eq> VecSet<T> {
         self.reserve(additional)
     }
 
-    /// Like [`VecSet::reserve_exact`], with the same cost, but with the error type that Rust gives this call.
+    /// Like [`VecSet::reserve_exact`], but returns a [`TryReserveError`], as the call of Rust does.
     ///
     /// # Errors
     ///
-    /// [`TryReserveError`] if the allocator refuses the request, or if the elements would take more than `isize::MAX`
-    /// bytes; the set is then unchanged.
+    /// [`TryReserveError`] if allocation fails, or if the elements would take more than `isize::MAX` bytes; the set is
+    /// then unchanged.
     ///
     /// # Examples
     ///
@@ -158,12 +158,12 @@ impl<T: Eq> VecSet<T> {
 
     /// Reduces the capacity as much as possible.
     ///
-    /// All elements may be moved. The call never fails: if the allocator refuses a smaller block, the capacity stays.
-    /// If there are no elements, nothing is requested, and the capacity is 0 afterwards.
+    /// All elements may be moved. The call never fails: if a smaller block cannot be allocated, the capacity stays. If
+    /// there are no elements, nothing is allocated, and the capacity is 0 afterwards.
     ///
     /// # Complexity
     ///
-    /// At most one request. It may move all elements.
+    /// At most one allocation, which may move all elements.
     ///
     /// # Examples
     ///
@@ -186,12 +186,12 @@ impl<T: Eq> VecSet<T> {
 
     /// Reduces the capacity to `min_capacity` or the number of elements, whichever is greater.
     ///
-    /// A smaller capacity stays as it is. All elements may be moved. The call never fails: if the allocator refuses a
-    /// smaller block, the capacity stays.
+    /// A smaller capacity stays as it is. All elements may be moved. The call never fails: if a smaller block cannot be
+    /// allocated, the capacity stays.
     ///
     /// # Complexity
     ///
-    /// At most one request. It may move all elements.
+    /// At most one allocation, which may move all elements.
     ///
     /// # Examples
     ///

@@ -13,11 +13,12 @@ impl<T: Eq> VecSet<T> {
     /// Searches for an element by binary search, in a set whose elements are in ascending order.
     ///
     /// `Ok` is the index of an element that compares as equal to `item`, any one of them. If there is no such element,
-    /// `Err` is the number of lesser elements, which is the index at which `item` belongs.
+    /// `Err` is the number of lesser elements, which is the index at which `item` can be inserted.
     ///
     /// # Complexity
     ///
-    /// O(log n) comparisons for n elements.
+    /// For n elements, log2(n) + 1 comparisons, rounded up, and half as many again at most if an element has at most
+    /// 8 bytes: for 512 elements 10 comparisons, or 14.
     ///
     /// # Examples
     ///
@@ -49,14 +50,14 @@ impl<T: Eq> VecSet<T> {
     /// number of elements that are less. If the elements are in another order, `Ok` is still the index of an equal
     /// element, but `Err` says nothing.
     ///
-    /// # Conditions
+    /// # Preconditions
     ///
     /// `f` can be called with each element of the set. It is called with no others, so it may index a table by an
     /// element.
     ///
     /// # Complexity
     ///
-    /// O(log n) calls of `f` for n elements.
+    /// As many calls of `f` as [`VecSet::binary_search`] makes comparisons.
     ///
     /// # Examples
     ///
@@ -84,15 +85,15 @@ impl<T: Eq> VecSet<T> {
 
     /// Searches the elements by binary search for the sort key `key`, where `f` returns the sort key of an element.
     ///
-    /// The sort keys are in ascending order. The result is like that of [`VecSet::binary_search_by`].
+    /// The sort keys are in ascending order. `Ok` and `Err` are as for [`VecSet::binary_search_by`].
     ///
-    /// # Conditions
+    /// # Preconditions
     ///
     /// `f` can be called with each element of the set.
     ///
     /// # Complexity
     ///
-    /// O(log n) calls of `f` and comparisons for n elements.
+    /// As many calls of `f`, and comparisons, as [`VecSet::binary_search`] makes comparisons.
     ///
     /// # Examples
     ///
@@ -118,13 +119,13 @@ impl<T: Eq> VecSet<T> {
     ///
     /// If they do not, the result is only known to be at most `len`.
     ///
-    /// # Conditions
+    /// # Preconditions
     ///
     /// `pred` can be called with each element of the set.
     ///
     /// # Complexity
     ///
-    /// O(log n) calls of `pred` for n elements.
+    /// As many calls of `pred` as [`VecSet::binary_search`] makes comparisons.
     ///
     /// # Examples
     ///

@@ -1,7 +1,7 @@
 //! An iterator over the elements of one set that another lacks.
 ghost use Rattle.std.specs.Prelude.{◌≡◌, ⊤, length};
 ghost use Rattle.std.specs.Iterator.{at_most};
-ghost use Rattle.vecmap_base.specs.Walks.{IsHintFor};
+ghost use Rattle.vecmap_base.specs.Iterators.{IsHintFor};
 ghost use Rattle.vecmap_set.specs.Lazy.{SiftsAll, SiftsFirst, SiftsLast, lacks_item, sift_of, sift_rest};
 
 use super::{sift_back, sift_front};
@@ -16,7 +16,7 @@ use std::{fmt, slice};
 ///
 /// # Complexity
 ///
-/// Each call of `next` or `next_back` looks up elements of the first set in the other, up to the next one that is not
+/// Each call of `next` or `next_back` looks up elements of the first set in the other, up to the next that is not
 /// found. It makes no other comparisons.
 ///
 /// # Examples

@@ -2,7 +2,7 @@
 ghost use Rattle.std.specs.Prelude.{◌≡◌, ⊤, length};
 ghost use Rattle.std.specs.Iterator.{at_most};
 ghost use Rattle.std.specs.Set.{is_member};
-ghost use Rattle.vecmap_base.specs.Walks.{IsHintFor};
+ghost use Rattle.vecmap_base.specs.Iterators.{IsHintFor};
 ghost use Rattle.vecmap_set.specs.Lazy.{SiftsAll, SiftsFirst, SiftsLast, sift_of, sift_rest};
 
 use super::{sift_back, sift_front};
@@ -18,8 +18,8 @@ use std::{fmt, slice};
 ///
 /// # Complexity
 ///
-/// Each call of `next` or `next_back` looks up elements of the shorter set in the other, up to the next one that is
-/// found. It makes no other comparisons.
+/// Each call of `next` or `next_back` looks up elements of the shorter set in the other, up to the next that is found.
+/// It makes no other comparisons.
 ///
 /// # Examples
 ///

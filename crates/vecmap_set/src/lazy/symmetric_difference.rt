@@ -1,7 +1,7 @@
 //! An iterator over the elements that only one of two sets has.
 ghost use Rattle.std.specs.Prelude.{◌≡◌, ⊤, ◌+◌, length};
 ghost use Rattle.std.specs.Iterator.{at_most};
-ghost use Rattle.vecmap_base.specs.Walks.{IsHintFor};
+ghost use Rattle.vecmap_base.specs.Iterators.{IsHintFor};
 ghost use Rattle.vecmap_set.specs.Lazy.{ExcludesFirst, ExcludesLast, IsBound, symmetric_parts, symmetric_rest};
 
 use super::{Difference, add_bounds};
@@ -12,13 +12,13 @@ use std::marker::Model;
 
 /// An iterator over the elements that only one of two sets has. [`VecSet::symmetric_difference`] creates one.
 ///
-/// It yields the elements of the first set that the second lacks, and then those of the second that the first lacks,
-/// each in order. A contract sees what is left of both parts.
+/// It yields the elements of the first set that the second lacks, and then the elements of the second that the first
+/// lacks, each part in order. A contract sees what is left of both parts.
 ///
 /// # Complexity
 ///
-/// Each call of `next` or `next_back` looks up elements of one set in the other, up to the next one that is not found.
-/// It makes no other comparisons.
+/// Each call of `next` or `next_back` looks up elements of one set in the other, up to the next that is not found. It
+/// makes no other comparisons.
 ///
 /// # Examples
 ///
@@ -43,8 +43,8 @@ impl<'a, T: Eq> Model for SymmetricDifference<'a, T> {
 }
 
 impl<'a, T: Eq> SymmetricDifference<'a, T> {
-    // Creates an iterator over the elements of `items` that `other` lacks, and then those of `other` that `items`
-    // lacks.
+    // Creates an iterator over the elements of `items` that `other` lacks, and then the elements of `other` that
+    // `items` lacks.
     pub(crate) fn over(items: &'a [T], other: &'a [T]) -> SymmetricDifference<'a, T>
         ensures { result ≡ symmetric_parts items.now other.now }
     {

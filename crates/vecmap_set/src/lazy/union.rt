@@ -1,7 +1,7 @@
-//! An iterator over the elements of one set, and then those of another that it lacks.
+//! An iterator over the elements of one set, and then the elements of another that it lacks.
 ghost use Rattle.std.specs.Prelude.{◌≡◌, ⊤, ◌+◌, length};
 ghost use Rattle.std.specs.Iterator.{at_most};
-ghost use Rattle.vecmap_base.specs.Walks.{IsHintFor};
+ghost use Rattle.vecmap_base.specs.Iterators.{IsHintFor};
 ghost use Rattle.vecmap_set.specs.Lazy.{IsBound, JoinsFirst, JoinsLast, union_parts, union_rest};
 
 use super::{Difference, add_bounds};
@@ -12,13 +12,13 @@ use std::{fmt, slice};
 
 /// An iterator over the elements that at least one of two sets has. [`VecSet::union`] creates one.
 ///
-/// It yields the elements of the longer set, and then those of the other one that it lacks, each in order. A contract
-/// sees what is left of both parts.
+/// It yields the elements of the longer set, and then the elements of the other set that it lacks, each part in order.
+/// A contract sees what is left of both parts.
 ///
 /// # Complexity
 ///
 /// The elements of the longer set are yielded without comparisons. Each further call of `next` or `next_back` looks up
-/// elements of the other set in the longer one, up to the next one that is not found.
+/// elements of the other set in the longer one, up to the next that is not found.
 ///
 /// # Examples
 ///

@@ -1,8 +1,12 @@
-use Rattle.std.proofs.Common.{rules}
-use Rattle.std.proofs.lemmas.Result.{err_from_is_err_and}
+use Rattle.std.proofs.Common.{arith, rules}
+use Rattle.std.proofs.lemmas.{Grind.common_steps, Result.err_from_is_err_and}
 use Rattle.vecmap_set.proofs.VecSet.extend_copied.Goals as goal
 
-pub returns-in_err-insert-clause-err : goal.returns-in_err-insert-clause-err
-returns-in_err-insert-clause-err g c =
-    rw (err_from_is_err_and c.from_residual.result c.from_residual.ensures.1).1
-    (c.into_iter-item-iterator.result, c.loop-item.yielded, c.in-Some.item, c.next.new.self, search rules, search rules, search rules)
+pub returns-in_err-insert-clause-extended : goal.returns-in_err-insert-clause-extended
+returns-in_err-insert-clause-extended g c =
+    let it = c.into_iter-item-iterator.result in
+    record {
+      capacity = grind (arith, common_steps);
+      capacity_stays = λ room. let all = room it (search rules) in grind (arith, common_steps);
+      err = rw (err_from_is_err_and c.from_residual.result c.from_residual.ensures.1).1 (it, c.loop-item.yielded, c.in-Some.item, c.next.new.self, search rules, search rules, search rules);
+    }
