@@ -1,11 +1,11 @@
 -- What a query finds after an addition. By induction on the list for an element that does not match. A matching element
 -- is found as an equal one is.
-use Rattle.std.specs.{Cmp.IsEquivalence, List.list_any, Map.IsKeyTest}
-use Rattle.std.proofs.Common.{◌≡◌, Bool, true, false, List, [], ◌∷◌, Some, IsTrue, if◌then◌else◌, is_some, length, option_map, position, suc, unwrap_or, sym, ap, cond, ◌∙◌, inl, inr}
+use Rattle.std.specs.{Cmp.IsEquivalence, Map.IsKeyTest}
+use Rattle.std.proofs.Common.{◌≡◌, Bool, false, List, [], ◌∷◌, Some, IsTrue, if◌then◌else◌, length, option_map, position, suc, unwrap_or, sym, ap, cond, ◌∙◌, inl, inr}
 use Rattle.std.proofs.lemmas.Bool.{cases_Bool}
 use Rattle.vecmap_base.specs.Items.{add, item_index}
 use Rattle.vecmap_base.proofs.ItemsLemmas.Recursion.{add_cons}
-use Rattle.vecmap_base.proofs.IndexLemmas.{is_some_position, list_any_position, position_cons}
+use Rattle.vecmap_base.proofs.IndexLemmas.{position_cons}
 use Rattle.vecmap_laws.proofs.ItemIndices.{item_index_add}
 use Rattle.vecmap_laws.proofs.ItemQueries.{tells_as}
 
@@ -24,9 +24,6 @@ module _ {T : Type 0} (eq : T → T → Bool) (test : T → Bool) where
             ∙ sym (position_cons test z zs)
       ]
 
-  pub found_after_other : (s : List T) (x : T) → test x ≡ false → list_any test (add eq s x) ≡ list_any test s
-  found_after_other s x n = list_any_position test (add eq s x) ∙ ap is_some (index_after_other s x n) ∙ is_some_position test s
-
   module _ (o : IsEquivalence eq) (respects : IsKeyTest eq test) where
     -- After an addition of an element that matches, it finds the index of an equal existing element, or the last index.
     pub index_after_own : (s : List T) (x : T) → IsTrue (test x) → position test (add eq s x) ≡ Some (unwrap_or (position test s) (length s))
@@ -37,5 +34,10 @@ module _ {T : Type 0} (eq : T → T → Bool) (test : T → Bool) where
         ∙ ap (λ b. if b then Some (unwrap_or (item_index eq s x) (length s)) else item_index eq s x) (o.refl x)
         ∙ sym (ap (λ f. Some (unwrap_or (position f s) (length s))) same)
 
-    pub found_after_own : (s : List T) (x : T) → IsTrue (test x) → list_any test (add eq s x) ≡ true
-    found_after_own s x h = list_any_position test (add eq s x) ∙ ap is_some (index_after_own s x h)
+    -- Both cases in one.
+    pub index_after_any : (s : List T) (x : T) → position test (add eq s x) ≡ (if test x then Some (unwrap_or (position test s) (length s)) else position test s)
+    index_after_any s x =
+        elim (cases_Bool (test x)) [
+          | inl h ↦ index_after_own s x h ∙ sym (ap (λ b. if b then Some (unwrap_or (position test s) (length s)) else position test s) h)
+          | inr n ↦ index_after_other s x n ∙ sym (ap (λ b. if b then Some (unwrap_or (position test s) (length s)) else position test s) n)
+        ]

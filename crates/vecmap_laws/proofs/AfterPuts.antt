@@ -2,9 +2,7 @@
 use Rattle.std.specs.{Cmp.IsEquivalence, List.list_any, Map.keys_of, Option.option_and_then, Option.option_map, Option.option_map_or, Option.option_or}
 use Rattle.std.proofs.Common.{◌≡◌, ◌<◌, ◌+◌, ℕ, Bool, position, true, false, List, [], ◌∷◌, ◌++◌, Option, None, Some, if◌then◌else◌, is_some, length, slice_get, unwrap_or, refl, sym, ap, ◌∙◌, arith, length-append, inl, inr}
 use Rattle.std.proofs.lemmas.{Bool.cases_Bool, List.length-map, Map.Made.is_some-lookup, Option.slice_get-map}
-use Rattle.vecmap_base.specs.Items.{add}
 use Rattle.vecmap_base.specs.Pairs.{HasDistinctKeys, index_of, index_or_length, lookup, put, put_key, puts, value_at, with_value, without_key}
-use Rattle.vecmap_base.proofs.ItemsLemmas.Additions.{add_present}
 use Rattle.vecmap_base.proofs.PairsLemmas.Keys.{index_of_is, keys_of_put}
 use Rattle.vecmap_base.proofs.PairsLemmas.{Indices.is_some_index_of, Indices.lookup_by_is, Recursion.put_cons}
 use Rattle.vecmap_laws.proofs.Indices.{index_of_none}
@@ -29,9 +27,9 @@ module _ {K V : Type 0} (eq : K → K → Bool) where
   pub is_some_lookup : (l : List (K × V)) (k : K) → is_some (lookup eq l k) ≡ is_some (index_of eq l k)
   is_some_lookup l k = ap is_some (lookup_by_is (eq k) l) ∙ is_some-lookup (eq k) l ∙ sym (is_some_index_of eq l k)
 
-  -- An existing key adds no key.
-  pub add_there : (l : List (K × V)) (k : K) → is_some (index_of eq l k) ≡ true → add eq (keys_of l) k ≡ keys_of l
-  add_there l k h = add_present eq (keys_of l) k (sym (is_some_index_of eq l k) ∙ h)
+  -- A lookup finds the value at the index of its key.
+  pub lookup_at : (l : List (K × V)) (k : K) (i : ℕ) (q : K) (v : V) → index_of eq l k ≡ Some i → slice_get l i ≡ Some (q, v) → lookup eq l k ≡ Some v
+  lookup_at l k i q v at stored = ap (option_and_then (value_at l)) at ∙ ap (option_map (λ p. p.1)) stored
 
   -- The insertion of the value that is stored changes nothing.
   pub put_same : (l : List (K × V)) (k : K) (v : V) → lookup eq l k ≡ Some v → put eq l k v ≡ l
@@ -66,12 +64,12 @@ module _ {K V : Type 0} (eq : K → K → Bool) where
   puts_some l (p ∷ ps) h = puts_some (put eq l p.0 p.1) ps (omega (arith, put_some l p.0 p.1))
 
   module _ (o : IsEquivalence eq) where
-    -- If no keys repeat, each pair is found by its key, at its own index.
+    -- If all keys are distinct, each pair is found by its key, at its own index.
     pub index_of_own : (l : List (K × V)) → HasDistinctKeys eq l → (i : ℕ) (k : K) (v : V) → slice_get l i ≡ Some (k, v) → index_of eq l k ≡ Some i
     index_of_own l d i k v e = index_of_is eq l k ∙ item_index_own eq o (keys_of l) d i k (slice_get-map (λ p. p.0) l i ∙ ap (option_map (λ p. p.0)) e)
 
     pub lookup_own : (l : List (K × V)) → HasDistinctKeys eq l → (i : ℕ) (k : K) (v : V) → slice_get l i ≡ Some (k, v) → lookup eq l k ≡ Some v
-    lookup_own l d i k v e = ap (option_and_then (value_at l)) (index_of_own l d i k v e) ∙ ap (option_map (λ p. p.1)) e
+    lookup_own l d i k v e = lookup_at l k i k v (index_of_own l d i k v e) e
 
     -- Equal keys have the same index.
     pub index_of_congr : (l : List (K × V)) (x y : K) → eq x y ≡ true → index_of eq l x ≡ index_of eq l y

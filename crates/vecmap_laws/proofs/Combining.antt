@@ -24,7 +24,7 @@ module _ {K V : Type 0} (eq : K → K → Bool) where
     step : (h : V → V → V) (l : List (K × V)) (p : K × V) (ps : List (K × V)) (q : K) → lookup eq ps p.0 ≡ None → combine h (lookup eq (put_with eq h l p.0 p.1) q) (lookup eq ps q) ≡ combine h (lookup eq l q) (lookup eq (p ∷ ps) q)
     step h l p ps q a = grind (arith, lookup_put_any eq o l p.0 (option_map_or (λ m. h m p.1) (lookup eq l p.0) p.1) q, lookup_cons eq p ps q, lookup_congr eq o l p.0 q, lookup_congr eq o ps p.0 q, o.symm p.0 q)
 
-    -- If no keys of the inserted pairs repeat, a lookup combines the old value of its key with the inserted one.
+    -- If the inserted keys are distinct, a lookup combines the old value of its key with the inserted one.
     pub lookup_puts_with : (h : V → V → V) (l ps : List (K × V)) → HasDistinctKeys eq ps → (q : K) → lookup eq (puts_with eq h l ps) q ≡ combine h (lookup eq l q) (lookup eq ps q)
     lookup_puts_with h l [] d q = refl
     lookup_puts_with h l (p ∷ ps) d q = lookup_puts_with h (put_with eq h l p.0 p.1) ps (rest_is_distinct eq p ps d) q ∙ step h l p ps q (head_has_no_value eq p ps d)

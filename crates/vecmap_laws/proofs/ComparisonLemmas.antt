@@ -1,4 +1,4 @@
--- The number of comparisons that a removal of repeats makes if no two elements are equal.
+-- The number of comparisons that a removal of duplicates makes if no two elements are equal.
 use Rattle.std.specs.{Cmp.IsEquivalence, List.IsDistinct, Map.keys_of}
 use Rattle.std.proofs.Common.{◌≡◌, suc, ◌+◌, Bool, List, [], ◌∷◌, ◌++◌, length, sym, ap, ◌∙◌, subst, arith}
 use Rattle.std.proofs.lemmas.{List.append_assoc, List.length_push, Map.Entries.length-keys_of}

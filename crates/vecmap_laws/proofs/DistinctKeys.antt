@@ -1,28 +1,20 @@
 -- Keys that are distinct stay distinct in the lists that calls leave.
-use Rattle.std.specs.Set.{ClonesAreEqual, is_member}
-use Rattle.std.specs.{Cmp.IsEquivalence, List.IsDistinct, List.list_any, List.swap_remove, List.Sorted.IsPermutation, Map.keys_of, Option.option_map_or}
-use Rattle.std.proofs.Common.{◌≡◌, ℕ, ◌-◌, ◌<◌, Bool, false, List, [], ◌∷◌, ◌++◌, Option, None, Some, IsTrue, insert, is_some, length, min, remove, reverse, slice_get, swap, take, refl, sym, ap, subst, get_or, ◌∙◌}
-use Rattle.std.proofs.lemmas.{List.take-map, List.Sorted.IsPermutation-map, List.Sorted.IsPermutation-reverse, List.Sorted.IsPermutation-swap, List.Sorted.IsPermutation-swap_remove}
-use Rattle.std.proofs.lemmas.{Map.Keys.IsDistinct-tail, Map.Steps.list_any_congr, Option.get_or_from_slice_get, Option.slice_get_within}
-use Rattle.vecmap_base.specs.{Clones.AreClones, Clones.IsPairClone, Items.swap_without, Items.without_item}
+use Rattle.std.specs.Set.{is_member}
+use Rattle.std.specs.{Cmp.IsEquivalence, List.IsDistinct, List.swap_remove, List.Sorted.IsPermutation, Map.keys_of, Option.option_map_or}
+use Rattle.std.proofs.Common.{◌≡◌, ℕ, ◌-◌, Bool, false, List, ◌∷◌, Option, None, Some, insert, is_some, length, min, remove, slice_get, take, refl, sym, ap, subst, get_or, ◌∙◌}
+use Rattle.std.proofs.lemmas.{List.take-map, List.Sorted.IsPermutation-map, List.Sorted.IsPermutation-swap_remove}
+use Rattle.std.proofs.lemmas.{Map.Keys.IsDistinct-tail, Option.get_or_from_slice_get, Option.slice_get_within}
+use Rattle.vecmap_base.specs.{Items.swap_without, Items.without_item}
 use Rattle.vecmap_base.specs.Pairs.{HasDistinctKeys, index_by, index_of, put, put_at, put_key, puts, swap_without_by, swap_without_key, with_value, without_by}
 use Rattle.vecmap_base.proofs.PairsLemmas.Keys.{index_of_is, keys_of_put, keys_of_puts}
-use Rattle.vecmap_base.proofs.PairsLemmas.{Indices.is_some_index_of, Puts.put_absent, Values.keys_of_with_value}
+use Rattle.vecmap_base.proofs.PairsLemmas.{Values.keys_of_with_value}
 use Rattle.vecmap_base.proofs.IndexLemmas.{is_some_position}
-use Rattle.vecmap_base.proofs.DistinctLemmas.{Additions.distinct_add, Additions.distinct_adds, Clones.distinct_clones, Order.distinct_rearranged}
+use Rattle.vecmap_base.proofs.DistinctLemmas.{Additions.distinct_add, Additions.distinct_adds, Order.distinct_rearranged}
 use Rattle.vecmap_base.proofs.DistinctLemmas.Removals.{distinct_remove, distinct_take}
 use Rattle.vecmap_laws.proofs.DistinctAdditions.{distinct_insert, distinct_put_item}
-use Rattle.vecmap_laws.proofs.Indices.{index_of_none}
 use Rattle.vecmap_laws.proofs.ItemRemovals.{without_item_absent}
 use Rattle.vecmap_laws.proofs.Keys.{keys_of_insert, keys_of_put_key, keys_of_remove}
 use Rattle.vecmap_laws.proofs.Puts.{put_at_absent, put_at_present}
-
--- Clones of pairs have clones of their keys.
-keys_of-clones : {K V : Type 0} (key_clone : K → K → Type 0) (value_clone : V → V → Type 0) (l m : List (K × V)) → AreClones (IsPairClone key_clone value_clone) l m → AreClones key_clone (keys_of l) (keys_of m)
-keys_of-clones C D [] [] c = tt
-keys_of-clones C D [] (q ∷ qs) c = absurd c
-keys_of-clones C D (p ∷ ps) [] c = absurd c
-keys_of-clones C D (p ∷ ps) (q ∷ qs) c = (c.0.0, keys_of-clones C D ps qs c.1)
 
 module _ {K V : Type 0} (eq : K → K → Bool) where
   pub distinct_keys_with_value : (l : List (K × V)) (i : ℕ) (v : V) → HasDistinctKeys eq l → HasDistinctKeys eq (with_value l i v)
@@ -45,12 +37,6 @@ module _ {K V : Type 0} (eq : K → K → Bool) where
     pub distinct_keys_rearranged : (l m : List (K × V)) → IsPermutation l m → HasDistinctKeys eq l → HasDistinctKeys eq m
     distinct_keys_rearranged l m p = distinct_rearranged eq o (keys_of l) (keys_of m) (IsPermutation-map (λ q. q.0) l m p)
 
-    pub distinct_keys_reverse : (l : List (K × V)) → HasDistinctKeys eq l → HasDistinctKeys eq (reverse l)
-    distinct_keys_reverse l = distinct_keys_rearranged l (reverse l) (IsPermutation-reverse l)
-
-    pub distinct_keys_swap : (l : List (K × V)) (i j : ℕ) → i < length l → j < length l → HasDistinctKeys eq l → HasDistinctKeys eq (swap l i j)
-    distinct_keys_swap l i j m n = distinct_keys_rearranged l (swap l i j) (IsPermutation-swap l (swap l i j) i j m n refl)
-
     pub distinct_keys_swap_without : (l : List (K × V)) (i : ℕ) → HasDistinctKeys eq l → HasDistinctKeys eq (swap_without l i)
     distinct_keys_swap_without l i d = by (slice_get l i) refl
       where
@@ -70,15 +56,6 @@ module _ {K V : Type 0} (eq : K → K → Bool) where
 
     pub distinct_keys_swap_without_key : (l : List (K × V)) (k : K) → HasDistinctKeys eq l → HasDistinctKeys eq (swap_without_key eq l k)
     distinct_keys_swap_without_key l k = distinct_keys_swap_without_by (eq k) l
-
-    -- The keys stay distinct if an absent key is stored as a clone.
-    pub distinct_keys_stored : (l : List (K × V)) (k stored : K) (v : V) → IsTrue (eq k stored) → index_of eq l k ≡ None → HasDistinctKeys eq l → HasDistinctKeys eq (l ++ (stored, v) ∷ [])
-    distinct_keys_stored l k stored v same e d =
-        let absent : list_any (eq stored) (keys_of l) ≡ false = sym (list_any_congr o k stored (keys_of l) same) ∙ sym (is_some_index_of eq l k) ∙ ap is_some e in
-        subst (HasDistinctKeys eq) (put_absent eq l stored v (index_of_none eq l stored absent)) (subst (IsDistinct eq) (sym (keys_of_put eq l stored v)) (distinct_add eq o (keys_of l) stored d))
-
-    pub distinct_keys_clones : (key_clone : K → K → Type 0) (value_clone : V → V → Type 0) → ClonesAreEqual eq key_clone → (l m : List (K × V)) → AreClones (IsPairClone key_clone value_clone) l m → HasDistinctKeys eq l → HasDistinctKeys eq m
-    distinct_keys_clones C D same l m c = distinct_clones eq o C same (keys_of l) (keys_of m) (keys_of-clones C D l m c)
 
     pub distinct_put : (l : List (K × V)) (k : K) (v : V) → HasDistinctKeys eq l → HasDistinctKeys eq (put eq l k v)
     distinct_put l k v d = subst (IsDistinct eq) (sym (keys_of_put eq l k v)) (distinct_add eq o (keys_of l) k d)

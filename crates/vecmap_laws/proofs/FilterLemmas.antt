@@ -1,5 +1,5 @@
 -- A removal from a list of distinct items leaves the items that do not pass its test.
-use Rattle.std.proofs.Common.{◌≡◌, Bool, true, false, ◌||◌, List, [], ◌∷◌, ap, filter, map, map-id, if◌then◌else◌, inl, inr, not, refl, subst, sym, ◌∙◌, ◌&&◌}
+use Rattle.std.proofs.Common.{◌≡◌, Bool, true, false, ◌||◌, List, [], ◌∷◌, ap, filter, map, if◌then◌else◌, inl, inr, not, refl, sym, ◌∙◌, ◌&&◌}
 use Rattle.std.proofs.lemmas.{Bool.cases_Bool, Map.Keys.IsDistinct-tail}
 use Rattle.std.specs.{Cmp.IsEquivalence, List.IsDistinct, List.list_any, Map.IsKeyTest, Set.is_member}
 use Rattle.vecmap_laws.proofs.DistinctKeys.{distinct_keys_without}
@@ -67,7 +67,3 @@ module _ {K V : Type 0} (eq : K → K → Bool) (o : IsEquivalence eq) where
       ∙ ap (filter (λ p. not (is_member eq ks p.0))) (without_key_is_filter l d k ∙ (λ t. filter (λ p. not (o.symm k p.0 t)) l))
       ∙ filter_twice (λ p. not (eq p.0 k)) (λ p. not (is_member eq ks p.0)) l
       ∙ (λ t. filter (λ p. neither (eq p.0 k) (is_member eq ks p.0) t) l)
-
--- The same of elements, which are their own keys.
-pub without_items_is_filter : {T : Type 0} (eq : T → T → Bool) (o : IsEquivalence eq) (test : T → Bool) → IsKeyTest eq test → (s : List T) → IsDistinct eq s → without_first test s ≡ filter (λ x. not (test x)) s
-without_items_is_filter eq o test respects s d = without_is_filter (λ x. x) eq o test respects s (subst (IsDistinct eq) (sym (map-id s)) d)

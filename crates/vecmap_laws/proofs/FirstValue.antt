@@ -1,15 +1,17 @@
 -- What is found after insertions of which the first value wins.
-use Rattle.std.proofs.Common.{arith, ◌≡◌, Bool, List, [], ◌∷◌, ◌++◌, None, Some, if◌then◌else◌, ap, refl, sym, unwrap_or, ◌∙◌}
+use Rattle.std.proofs.Common.{arith, ◌≡◌, Bool, true, false, List, [], ◌∷◌, ◌++◌, None, Some, if◌then◌else◌, ap, refl, sym, unwrap_or, ◌∙◌}
 use Rattle.std.specs.Cmp.{IsEquivalence}
-use Rattle.std.specs.Map.{keys_of}
+use Rattle.std.specs.Map.{IsKeyTest, keys_of}
 use Rattle.std.specs.Option.{option_and_then, option_or}
 use Rattle.vecmap_base.proofs.PairsLemmas.Keys.{keys_of_put}
 use Rattle.vecmap_base.proofs.PairsLemmas.Puts.{put_absent}
 use Rattle.vecmap_laws.proofs.AfterPuts.{lookup_put_any, option_or_none, put_same}
 use Rattle.vecmap_laws.proofs.Lookups.{lookup_congr}
+use Rattle.vecmap_laws.proofs.ItemQueries.{tells_as}
+use Rattle.vecmap_laws.proofs.Queries.{lookup_put_other_query}
 use Rattle.vecmap_laws.proofs.Recursion.{lookup_cons}
 use Rattle.vecmap_base.specs.Items.{adds}
-use Rattle.vecmap_base.specs.Pairs.{index_of, lookup, put, value_at}
+use Rattle.vecmap_base.specs.Pairs.{index_of, lookup, lookup_by, put, value_at}
 use Rattle.vecmap_laws.specs.FirstValue.{put_new, puts_new}
 
 module _ {K V : Type 0} (eq : K → K → Bool) where
@@ -20,6 +22,9 @@ module _ {K V : Type 0} (eq : K → K → Bool) where
   -- A new pair is appended.
   pub put_new_absent : (l : List (K × V)) (k : K) (v : V) → index_of eq l k ≡ None → put_new eq l k v ≡ l ++ (k, v) ∷ []
   put_new_absent l k v e = ap (λ found. put eq l k (unwrap_or (option_and_then (value_at l) found) v)) e ∙ put_absent eq l k v e
+
+  pub put_new_not_found : (l : List (K × V)) (k : K) (v : V) → lookup eq l k ≡ None → put_new eq l k v ≡ put eq l k v
+  put_new_not_found l k v e = ap (λ found. put eq l k (unwrap_or found v)) e
 
   pub keys_of_puts_new : (l ps : List (K × V)) → keys_of (puts_new eq l ps) ≡ adds eq (keys_of l) (keys_of ps)
   keys_of_puts_new l [] = refl
@@ -34,6 +39,16 @@ module _ {K V : Type 0} (eq : K → K → Bool) where
     -- A lookup finds the old value of its key, or else the inserted one.
     pub lookup_put_new : (l : List (K × V)) (k : K) (v : V) (q : K) → lookup eq (put_new eq l k v) q ≡ option_or (lookup eq l q) (if eq k q then Some v else None)
     lookup_put_new l k v q = grind (arith, lookup_put_any eq o l k (unwrap_or (lookup eq l k) v) q, lookup_congr eq o l k q)
+
+    -- The same of a query.
+    pub lookup_put_new_query : (test : K → Bool) → IsKeyTest eq test → (l : List (K × V)) (k : K) (v : V) → lookup_by test (put_new eq l k v) ≡ option_or (lookup_by test l) (if test k then Some v else None)
+    lookup_put_new_query test respects l k v = by (test k) refl
+      where
+        by : (b : Bool) → test k ≡ b → lookup_by test (put_new eq l k v) ≡ option_or (lookup_by test l) (if b then Some v else None)
+        by true h =
+            let same = tells_as eq o test respects k h in
+            ap (λ f. lookup_by f (put_new eq l k v)) same ∙ lookup_put_new l k v k ∙ ap (λ b. option_or (lookup eq l k) (if b then Some v else None)) (o.refl k) ∙ sym (ap (λ f. option_or (lookup_by f l) (Some v)) same)
+        by false h = lookup_put_other_query eq o test respects l k (unwrap_or (lookup eq l k) v) h ∙ sym (option_or_none (lookup_by test l))
 
     -- A lookup finds the old value of its key, or else the first one that the pairs give it.
     pub lookup_puts_new : (l ps : List (K × V)) (q : K) → lookup eq (puts_new eq l ps) q ≡ option_or (lookup eq l q) (lookup eq ps q)

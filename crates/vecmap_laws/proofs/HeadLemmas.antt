@@ -1,12 +1,10 @@
 -- Lists of distinct keys, and of distinct elements, by the first item and the rest.
-use Rattle.std.proofs.Common.{◌≡◌, Bool, false, List, ◌∷◌, None, ap, is_some, sym, ◌∙◌}
+use Rattle.std.proofs.Common.{◌≡◌, Bool, false, List, ◌∷◌, None}
 use Rattle.std.proofs.lemmas.Map.Keys.{IsDistinct-head, IsDistinct-tail}
 use Rattle.std.specs.{List.IsDistinct, List.list_any, Map.keys_of}
-use Rattle.vecmap_base.proofs.DistinctLemmas.Absent.{distinct_if_absent, none_equal}
-use Rattle.vecmap_base.proofs.PairsLemmas.Indices.{is_some_index_of}
-use Rattle.vecmap_laws.proofs.Indices.{index_of_none}
+use Rattle.vecmap_base.proofs.DistinctLemmas.Absent.{none_equal}
 use Rattle.vecmap_laws.proofs.Lookups.{lookup_absent}
-use Rattle.vecmap_base.specs.Pairs.{HasDistinctKeys, index_of, lookup}
+use Rattle.vecmap_base.specs.Pairs.{HasDistinctKeys, lookup}
 
 module _ {T : Type 0} (eq : T → T → Bool) where
   -- The first of distinct elements is equal to none of the rest.
@@ -18,14 +16,6 @@ module _ {K V : Type 0} (eq : K → K → Bool) where
   pub head_has_no_value : (p : K × V) (ps : List (K × V)) → HasDistinctKeys eq (p ∷ ps) → lookup eq ps p.0 ≡ None
   head_has_no_value p ps d = lookup_absent eq ps p.0 (head_not_in_rest eq p.0 (keys_of ps) d)
 
-  -- The first of distinct keys has no index in the rest.
-  pub head_has_no_index : (p : K × V) (ps : List (K × V)) → HasDistinctKeys eq (p ∷ ps) → index_of eq ps p.0 ≡ None
-  head_has_no_index p ps d = index_of_none eq ps p.0 (head_not_in_rest eq p.0 (keys_of ps) d)
-
   -- The keys of the rest are distinct.
   pub rest_is_distinct : (p : K × V) (ps : List (K × V)) → HasDistinctKeys eq (p ∷ ps) → HasDistinctKeys eq ps
   rest_is_distinct p ps d = IsDistinct-tail eq p.0 (keys_of ps) d
-
-  -- An absent key can be the first of a list of distinct keys.
-  pub distinct_if_head_absent : (p : K × V) (ps : List (K × V)) → index_of eq ps p.0 ≡ None → HasDistinctKeys eq ps → HasDistinctKeys eq (p ∷ ps)
-  distinct_if_head_absent p ps none d = distinct_if_absent eq p.0 (keys_of ps) (sym (is_some_index_of eq ps p.0) ∙ ap is_some none) d

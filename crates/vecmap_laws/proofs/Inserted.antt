@@ -25,7 +25,7 @@ module _ {K V : Type 0} (eq : K → K → Bool) where
   lookup_none : (l : List (K × V)) (k : K) → index_of eq l k ≡ None → lookup eq l k ≡ None
   lookup_none l k none = ap (option_and_then (value_at l)) none
 
-  index_none : (l : List (K × V)) (k : K) → lookup eq l k ≡ None → index_of eq l k ≡ None
+  pub index_none : (l : List (K × V)) (k : K) → lookup eq l k ≡ None → index_of eq l k ≡ None
   index_none l k none = none_if_not_some (index_of eq l k) (sym (is_some_lookup eq l k) ∙ ap is_some none)
 
   passed : (b : Bool) (found : Option V) (v : V) → (if b then Some v else found) ≡ None → b ≡ false
@@ -33,7 +33,7 @@ module _ {K V : Type 0} (eq : K → K → Bool) where
   passed false found v e = refl
 
   -- An absent key is not that of the first pair, and is absent behind it.
-  absent_first : (p : K × V) (ps : List (K × V)) (q : K) → index_of eq (p ∷ ps) q ≡ None → (eq q p.0 ≡ false) × (index_of eq ps q ≡ None)
+  pub absent_first : (p : K × V) (ps : List (K × V)) (q : K) → index_of eq (p ∷ ps) q ≡ None → (eq q p.0 ≡ false) × (index_of eq ps q ≡ None)
   absent_first p ps q none =
       let lost = lookup_none (p ∷ ps) q none in
       let apart : eq q p.0 ≡ false = passed (eq q p.0) (lookup eq ps q) p.1 (sym (look eq p ps q (eq q p.0) refl) ∙ lost) in
@@ -80,7 +80,7 @@ module _ {K V : Type 0} (eq : K → K → Bool) where
     pub lookup_put_at_absent : (l : List (K × V)) (i : ℕ) (k : K) (v : V) → index_of eq l k ≡ None → (q : K) → lookup eq (put_at eq l i k v) q ≡ (if eq k q then Some v else lookup eq l q)
     lookup_put_at_absent l i k v none q = ap (λ m. lookup eq m q) (put_at_absent eq l i k v none) ∙ lookup_insert l i k v none q
 
-    -- The same of any key, if no keys repeat.
+    -- The same of any key, if all keys are distinct.
     pub lookup_put_at : (l : List (K × V)) (i : ℕ) (k : K) (v : V) → HasDistinctKeys eq l → (q : K) → lookup eq (put_at eq l i k v) q ≡ (if eq k q then Some v else lookup eq l q)
     lookup_put_at l i k v d q = by (index_of eq l k) refl
       where
@@ -100,7 +100,7 @@ module _ {K V : Type 0} (eq : K → K → Bool) where
             ∙ twice (eq k q)
 
     module _ (l : List (K × V)) (d : HasDistinctKeys eq l) (i : ℕ) (k : K) (v : V) (stored : slice_get l i ≡ Some (k, v)) where
-      -- If no keys repeat, the key of a pair is absent once the pair is removed.
+      -- If all keys are distinct, the key of a pair is absent once the pair is removed.
       pub removed_is_absent : index_of eq (remove l i) k ≡ None
       removed_is_absent =
           let gone = without_key_at l k i (index_of_own eq o l d i k v stored) in

@@ -18,6 +18,6 @@ module _ {T : Type 0} (eq : T → T → Bool) where
         let moved : (s ++ x ∷ []) ++ xs ≡ s ++ x ∷ xs = append_assoc s (x ∷ []) xs in
         ap (λ l. adds eq l xs) (add_absent eq s x (none_before eq o s x xs d)) ∙ adds_apart (s ++ x ∷ []) xs (subst (IsDistinct eq) (sym moved) d) ∙ moved
 
-    -- A distinct list has no repeats, so its additions to the empty list make the list itself.
+    -- A distinct list has no duplicates, so its additions to the empty list make the list itself.
     pub adds_distinct : (xs : List T) → IsDistinct eq xs → adds eq [] xs ≡ xs
     adds_distinct xs d = adds_apart [] xs d

@@ -1,7 +1,7 @@
 -- The indices of elements, before and after an addition.
 use Rattle.std.specs.{Cmp.IsEquivalence, List.AllByRecursion, List.IsDistinct}
-use Rattle.std.proofs.Common.{◌≡◌, ◌<◌, ℕ, zero, suc, Bool, true, false, List, [], ◌∷◌, None, Option, Some, IsTrue, if◌then◌else◌, length, option_map, slice_get, unwrap_or, refl, sym, ap, ◌∙◌, arith, get_or, inl, inr, subst}
-use Rattle.std.proofs.lemmas.{Bool.cases_Bool, List.Quantifiers.position-Some, Map.Keys.IsDistinct-head, Map.Keys.IsDistinct-tail, Option.slice_get-get_or}
+use Rattle.std.proofs.Common.{◌≡◌, ◌<◌, ℕ, zero, suc, Bool, true, false, List, [], ◌∷◌, None, Option, Some, if◌then◌else◌, length, option_map, slice_get, unwrap_or, refl, sym, ap, ◌∙◌, arith, inl, inr, subst}
+use Rattle.std.proofs.lemmas.{Bool.cases_Bool, Map.Keys.IsDistinct-head, Map.Keys.IsDistinct-tail}
 use Rattle.vecmap_base.specs.Items.{add, item_index}
 use Rattle.vecmap_base.proofs.ItemsLemmas.Recursion.{add_cons, item_index_cons}
 pub use Rattle.vecmap_base.proofs.ItemsLemmas.Indices.{is_some_item_index_rest}
@@ -30,10 +30,6 @@ module _ {T : Type 0} (eq : T → T → Bool) where
       by : (b : Bool) → slice_get (add eq ys x) i ≡ slice_get ys i → slice_get (if b then y ∷ ys else y ∷ add eq ys x) (suc i) ≡ slice_get ys i
       by true e = refl
       by false e = e
-
-  -- An index that is found has an equal element.
-  pub found_at : (s : List T) (x : T) (i : ℕ) → item_index eq s x ≡ Some i → (y : T) × (slice_get s i ≡ Some y) × IsTrue (eq x y)
-  found_at s x i e = let at = position-Some (eq x) s i x e in (get_or s i x, slice_get-get_or s i x at.0, at.1)
 
   module _ (o : IsEquivalence eq) where
     -- Equal elements have the same index.

@@ -1,9 +1,8 @@
 -- What a query finds that matches exactly the elements that are equal to one of its matches.
-use Rattle.std.specs.Set.{is_member}
 use Rattle.std.specs.{Cmp.IsEquivalence, List.IsDistinct, List.list_any, Map.IsKeyTest, Option.option_map_or}
 use Rattle.std.proofs.Common.{◌≡◌, ℕ, Bool, true, false, List, [], ◌∷◌, Option, None, Some, IsTrue, is_some, position, remove, refl, sym, ap, ◌∙◌, get_or, inl, inr, true≢false}
 use Rattle.std.proofs.lemmas.{Bool.cases_Bool, List.Quantifiers.position-Some}
-use Rattle.vecmap_base.specs.Items.{item_index, stored_first, stored_item, swap_without_first, swap_without_item, without_first, without_item}
+use Rattle.vecmap_base.specs.Items.{without_first}
 use Rattle.vecmap_base.proofs.IndexLemmas.{is_some_position}
 use Rattle.vecmap_laws.proofs.ItemRemovals.{without_item_absent}
 
@@ -19,21 +18,6 @@ module _ {T : Type 0} (eq : T → T → Bool) (o : IsEquivalence eq) (test : T �
         | inl h ↦ absurd (true≢false (sym (respects y x h ∙ o.symm y x ∙ e) ∙ n))
         | inr h ↦ h
       ]
-
-  pub item_index_query : (s : List T) (x : T) → IsTrue (test x) → position test s ≡ item_index eq s x
-  item_index_query s x h = ap (λ f. position f s) (tells_as x h)
-
-  pub is_member_query : (s : List T) (x : T) → IsTrue (test x) → list_any test s ≡ is_member eq s x
-  is_member_query s x h = ap (λ f. list_any f s) (tells_as x h)
-
-  pub without_item_query : (s : List T) (x : T) → IsTrue (test x) → without_first test s ≡ without_item eq s x
-  without_item_query s x h = ap (λ f. without_first f s) (tells_as x h)
-
-  pub stored_item_query : (s : List T) (x : T) → IsTrue (test x) → stored_first test s ≡ stored_item eq s x
-  stored_item_query s x h = ap (λ f. stored_first f s) (tells_as x h)
-
-  pub swap_without_item_query : (s : List T) (x : T) → IsTrue (test x) → swap_without_first test s ≡ swap_without_item eq s x
-  swap_without_item_query s x h = ap (λ f. swap_without_first f s) (tells_as x h)
 
   -- After the removal of its match from a distinct list, a query matches nothing.
   pub without_query_absent : (s : List T) → IsDistinct eq s → list_any test (without_first test s) ≡ false

@@ -1,27 +1,11 @@
 -- What a closure leaves of a list if each call returns the result of a test, or writes the item in the same way.
-use Rattle.std.specs.Prelude.{◌≡◌, ℕ, ◌≤◌, Bool, true, List, [], ◌∷◌, drop, filter, if◌then◌else◌, length, map, refl, take}
-use Rattle.std.specs.List.{FoldsTo}
-use Rattle.std.proofs.Common.{arith, subst, sym, ◌∙◌}
-use Rattle.std.proofs.lemmas.List.{drop_all, take_all}
-use Rattle.vecmap_base.specs.Asked.{SomeCall}
-use Rattle.vecmap_base.specs.Kept.{Kept, KeptSoFar}
+use Rattle.std.specs.Prelude.{◌≡◌, Bool, List, [], ◌∷◌, filter, if◌then◌else◌, refl}
+use Rattle.std.proofs.Common.{subst, ◌∙◌}
+use Rattle.vecmap_base.specs.Kept.{Kept}
 use Rattle.vecmap_laws.specs.Retaining.{TestsItems}
 pub use Rattle.vecmap_base.proofs.KeptLemmas.{callable_here, kept_one, kept_not, kept_here, kept_all, written_while, written_in_state}
 
 module _ {F X : Type 0} (R : F → X → Bool → X → F → Type 0) where
-  -- If the closure was called for all items, it was called for the first of any greater number.
-  pub kept_past_end : (f0 f : F) (xs ys : List X) (k i j : ℕ) → length xs ≤ i → i ≤ j → KeptSoFar R f0 f xs ys k i → KeptSoFar R f0 f xs ys k j
-  kept_past_end f0 f xs ys k i j done le so_far =
-      let same : drop j xs ≡ drop i xs = drop_all j xs (omega (arith, done, le)) ∙ sym (drop_all i xs done) in
-      let first : take j xs ≡ take i xs = take_all j xs (omega (arith, done, le)) ∙ sym (take_all i xs done) in
-      record {
-        bound = omega (arith, so_far.bound, le);
-        len = so_far.len;
-        rest = drop_all j ys (omega (arith, done, le, so_far.len)) ∙ sym (drop_all j xs (omega (arith, done, le)));
-        calls = subst (λ t. FoldsTo (SomeCall R) f0 t f) (sym first) so_far.calls;
-        kept = λ m g more. so_far.kept m g (subst (λ t. Kept R f t m g) same more);
-      }
-
   -- A closure that writes nothing and returns the result of a test keeps the items that pass the test.
   pub kept_by_test : (test : X → Bool) → ((f : F) (x : X) (b : Bool) (y : X) (g : F) → R f x b y g → (b ≡ test x) × (y ≡ x)) → (f : F) (xs m : List X) (g : F) → Kept R f xs m g → m ≡ filter test xs
   kept_by_test test told f [] m g k = k.0
@@ -49,8 +33,3 @@ module _ {F X : Type 0} (R : F → X → Bool → X → F → Type 0) where
   pub kept_by_states : (f g : F) (xs m : List X) (test : F → X → Bool) → ((z : F) (x : X) (b : Bool) (y : X) (w : F) → R z x b y w → (b ≡ test z x) × (y ≡ x) × ((u : X) → test w u ≡ test z u)) → Kept R f xs m g → m ≡ filter (test f) xs
   kept_by_states f g xs m test told k =
       kept_while (λ z. (u : X) → test z u ≡ test f u) (test f) (λ z x b y w same call. let r = told z x b y w call in (r.0 ∙ same x, r.1, λ u. r.2 u ∙ same u)) f xs m g (λ u. refl) k
-
-  -- A closure whose state changes, while what it writes of an item stays the same.
-  pub written_by_states : (f g : F) (xs m : List X) (h : F → X → X) → ((z : F) (x : X) (b : Bool) (y : X) (w : F) → R z x b y w → (b ≡ true) × (y ≡ h z x) × ((u : X) → h w u ≡ h z u)) → Kept R f xs m g → m ≡ map (h f) xs
-  written_by_states f g xs m h told k =
-      written_while R (λ z. (u : X) → h z u ≡ h f u) (h f) (λ z x b y w same call. let r = told z x b y w call in (r.0, r.1 ∙ same x, λ u. r.2 u ∙ same u)) f xs m g (λ u. refl) k

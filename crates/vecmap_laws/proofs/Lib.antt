@@ -11,7 +11,6 @@ pub mod DistinctKeys
 pub use Rattle.vecmap_base.proofs.DistinctLemmas.Order as DistinctOrder
 pub mod DistinctParts
 pub use Rattle.vecmap_base.proofs.DistinctLemmas.Removals as DistinctRemovals
-pub mod DrainRuns
 pub mod EachValue
 pub mod EntryLemmas
 mod EntryPuts
@@ -19,10 +18,9 @@ pub mod FilterLemmas
 pub mod FirstValue
 pub mod FoundLemmas
 pub mod HeadLemmas
-pub mod IndexAfterLemmas
 pub mod Indices
-pub mod IndicesKept
 pub mod Inserted
+pub mod InverseLemmas
 pub mod ItemAdditions
 pub mod ItemIndices
 pub mod ItemMembers
@@ -34,14 +32,11 @@ pub mod Keys
 pub use Rattle.vecmap_set.proofs.LazyLemmas
 pub mod Lookups
 pub use Rattle.vecmap_base.proofs.LoopLemmas
-pub mod MapCongruence
 pub mod MapEquality
-pub mod MemberLemmas
 pub mod NestedLemmas
 pub use Rattle.vecmap_set.proofs.OperatorLemmas
 pub mod Order
-pub mod PartLemmas
-pub mod PartialEquality
+pub mod OtherPairs
 pub use Rattle.vecmap_base.proofs.EqualityLemmas.Partial as PartialMapEquality
 pub mod Parts
 pub mod PositionLemmas
@@ -50,14 +45,12 @@ pub mod Queries
 pub mod Recursion
 pub mod RemovalLemmas
 pub mod Rules
-pub mod SearchedMaps
-pub mod SearchedSets
-pub mod SetCongruence
 pub mod SetEquality
 pub mod SetRelations
-pub mod SortedLemmas
+pub mod TextQueries
 pub mod TwoKeys
 pub use Rattle.vecmap_base.proofs.UpdatedLemmas
 pub mod Values
 pub mod WalkLemmas
+pub mod WholeLemmas
 pub mod WriteLemmas

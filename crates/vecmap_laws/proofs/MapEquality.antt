@@ -1,12 +1,11 @@
--- The laws of the equality of maps. They hold of all lists of pairs, also if keys repeat.
-use Rattle.std.specs.Prelude.{◌≡◌, ℕ, ◌+◌, Bool, true, false, ◌&&◌, ◌||◌, List, [], ◌∷◌, length, refl, if◌then◌else◌, ◌↔◌, IsTrue, Option, None, Some}
+-- The laws of the equality of maps. They hold of all lists of pairs, also with duplicate keys.
+use Rattle.std.specs.Prelude.{◌≡◌, ℕ, ◌+◌, Bool, true, false, ◌&&◌, ◌||◌, List, [], ◌∷◌, length, refl, ◌↔◌, IsTrue, Option, None, Some}
 use Rattle.std.specs.Cmp.{IsEquivalence, both_ways, partial_equiv_from_equiv}
 use Rattle.std.specs.List.{list_any}
 use Rattle.std.specs.List.Sorted.{IsPermutation}
 use Rattle.std.proofs.Common.{cond, sym, ap, ◌∙◌, arith, true≢false, inl, inr}
 use Rattle.std.proofs.lemmas.Bool.{and_from, and_parts, cases_Bool, or_parts}
 use Rattle.std.proofs.lemmas.List.Sorted.{sum_by-IsPermutation}
-use Rattle.std.proofs.lemmas.List.Sums.{sum_by-cons}
 use Rattle.vecmap_base.specs.Equality.{count, same_pair, counts_agree, has_same_counts}
 use Rattle.std.specs.Map.{keys_of}
 use Rattle.std.specs.Option.{option_eq}
@@ -24,10 +23,6 @@ module _ {X : Type 0} (same : X → X → Bool) (o : IsEquivalence same) where
   -- The order of a list makes no difference.
   pub rearranged_as_often : (a b : List X) → IsPermutation a b → as_often same o a b ≡ true
   rearranged_as_often a b p = test_from_counts same o a b (λ x. sym (sum_by-IsPermutation (λ z. cond (same x z) 1 0) a b p))
-
-module _ {K V : Type 0} (key : K → K → Bool) (value : V → V → Bool) where
-  pub count_cons : (q : K × V) (qs : List (K × V)) (p : K × V) → count key value (q ∷ qs) p ≡ (if key p.0 q.0 && value p.1 q.1 then 1 else 0) + count key value qs p
-  count_cons q qs p = sum_by-cons (λ r. cond (same_pair key value p r) 1 0) q qs
 
 module _ {K V : Type 0} (key : K → K → Bool) (value : V → V → Bool) (k : IsEquivalence key) (v : IsEquivalence value) where
   -- The order of the pairs makes no difference.
@@ -122,7 +117,7 @@ module _ {K V : Type 0} (key : K → K → Bool) (value : V → V → Bool) (k :
   pub test_from_lookups : (a b : List (K × V)) → SameLookups a b → agrees key value a b ≡ true
   test_from_lookups a b h = and_from _ _ (each_agrees (keys_of a) a b h) (each_agrees (keys_of b) a b h)
 
-  -- If no keys repeat, maps are equal exactly if all lookups agree.
+  -- If all keys are distinct, maps are equal exactly if all lookups agree.
   pub equality_is_agreement : (a b : List (K × V)) → HasDistinctKeys key a → HasDistinctKeys key b → has_same_counts key value a b ≡ agrees key value a b
   equality_is_agreement a b d e =
       both_ways _ _

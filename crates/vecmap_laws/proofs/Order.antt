@@ -1,7 +1,7 @@
--- What lookups find in another order. A lookup finds the value of a pair with an equal key, and if no keys repeat there
+-- What lookups find in another order. A lookup finds the value of a pair with an equal key, and if all keys are distinct there
 -- is one such pair in any order.
-use Rattle.std.proofs.Common.{◌≡◌, ◌<◌, ℕ, Bool, true, false, Contains, IsTrue, List, [], ◌∷◌, None, Option, Some, ap, arith, inl, inr, length, refl, reverse, suc, swap, sym, ◌∙◌}
-use Rattle.std.proofs.lemmas.{Bool.cases_Bool, List.Sorted.Contains-permutation, List.Sorted.IsPermutation-reverse, List.Sorted.IsPermutation-swap, List.Sorted.IsPermutation-sym}
+use Rattle.std.proofs.Common.{◌≡◌, Bool, true, false, Contains, IsTrue, List, [], ◌∷◌, None, Option, Some, ap, arith, inl, inr, refl, suc, sym, ◌∙◌}
+use Rattle.std.proofs.lemmas.{Bool.cases_Bool, List.Sorted.Contains-permutation, List.Sorted.IsPermutation-sym}
 use Rattle.std.proofs.lemmas.Option.{none-some, same_Some, slice_get-get_or}
 use Rattle.std.specs.{Cmp.IsEquivalence, List.Sorted.IsPermutation}
 use Rattle.vecmap_base.specs.Pairs.{HasDistinctKeys, lookup}
@@ -28,7 +28,7 @@ module _ {K V : Type 0} (eq : K → K → Bool) where
         let c = Contains-permutation l m r.0 moved r.1 in
         lookup_congr eq o m q r.0.0 r.2 ∙ lookup_own eq o m d c.0 r.0.0 r.0.1 (slice_get-get_or m c.0 r.0 c.1 ∙ ap Some c.2) ∙ ap Some r.3
 
-    -- If no keys repeat, lookups do not depend on the order.
+    -- If all keys are distinct, lookups do not depend on the order.
     pub lookup_rearranged : (l m : List (K × V)) → IsPermutation l m → HasDistinctKeys eq l → (q : K) → lookup eq m q ≡ lookup eq l q
     lookup_rearranged l m moved d q = by (lookup eq l q) (lookup eq m q) refl refl
       where
@@ -36,9 +36,3 @@ module _ {K V : Type 0} (eq : K → K → Bool) where
         by (Some v) y e f = found_there l m (distinct_keys_rearranged eq o l m moved d) moved q v e ∙ sym e
         by None (Some w) e f = f ∙ sym (found_there m l d (IsPermutation-sym l m moved) q w f)
         by None None e f = f ∙ sym e
-
-    pub lookup_reverse : (l : List (K × V)) → HasDistinctKeys eq l → (q : K) → lookup eq (reverse l) q ≡ lookup eq l q
-    lookup_reverse l = lookup_rearranged l (reverse l) (IsPermutation-reverse l)
-
-    pub lookup_swap : (l : List (K × V)) (i j : ℕ) → i < length l → j < length l → HasDistinctKeys eq l → (q : K) → lookup eq (swap l i j) q ≡ lookup eq l q
-    lookup_swap l i j m n = lookup_rearranged l (swap l i j) (IsPermutation-swap l (swap l i j) i j m n refl)

@@ -1,41 +1,10 @@
--- The first index of an item that passes a test, after a removal.
-use Rattle.std.proofs.Common.{arith, ◌≡◌, ◌+◌, ℕ, suc, zero, Bool, true, false, List, [], ◌∷◌, ◌++◌, None, Option, Some, ap, cond, length, option_map, position, refl, remove, slice_get, sym, take, ◌∙◌}
-use Rattle.std.proofs.lemmas.Option.{none-some}
+-- The first index of an item that passes a test, in a list of two parts, and in one item more.
+use Rattle.std.proofs.Common.{arith, ◌≡◌, ◌<◌, ◌+◌, ℕ, suc, Bool, true, false, List, [], ◌∷◌, ◌++◌, None, Option, Some, ap, cond, get_or, if◌then◌else◌, length, option_map, position, refl, sym, take, ◌∙◌}
+use Rattle.std.proofs.lemmas.{List.length-take-le, List.take_more}
 use Rattle.std.specs.Option.{option_or}
 use Rattle.vecmap_base.proofs.IndexLemmas.{position_cons}
-use Rattle.vecmap_laws.specs.Removals.{below, shifted}
 
 module _ {X : Type 0} (p : X → Bool) where
-  -- In the first `n` items, the index stays if it is below `n`.
-  pub position_take : (n : ℕ) (xs : List X) → position p (take n xs) ≡ below n (position p xs)
-  position_take zero xs = by (position p xs)
-    where
-      by : (found : Option ℕ) → None ≡ below 0 found
-      by None = refl
-      by (Some i) = grind arith
-  position_take (suc n) [] = refl
-  position_take (suc n) (x ∷ xs) = position_cons p x (take n xs) ∙ ap (λ found. cond (p x) (Some 0) (option_map suc found)) (position_take n xs) ∙ by (p x) (position p xs) ∙ ap (below (suc n)) (sym (position_cons p x xs))
-    where
-      by : (b : Bool) (found : Option ℕ) → cond b (Some 0) (option_map suc (below n found)) ≡ below (suc n) (cond b (Some 0) (option_map suc found))
-      by true found = grind arith
-      by false None = refl
-      by false (Some i) = grind arith
-
-  -- The index after the removal of an item that does not pass.
-  pub position_remove : (xs : List X) (i : ℕ) (x : X) → slice_get xs i ≡ Some x → p x ≡ false → position p (remove xs i) ≡ shifted i (position p xs)
-  position_remove [] i x at fails = absurd (none-some x at)
-  position_remove (y ∷ ys) zero x at fails = by (position p ys) ∙ ap (shifted 0) (sym (position_cons p y ys ∙ ap (λ b. cond b (Some 0) (option_map suc (position p ys))) (let e : y ≡ x = (let f : Some y ≡ Some x = at in cc) in ap p e ∙ fails)))
-    where
-      by : (found : Option ℕ) → found ≡ shifted 0 (option_map suc found)
-      by None = refl
-      by (Some j) = grind arith
-  position_remove (y ∷ ys) (suc i) x at fails = position_cons p y (remove ys i) ∙ ap (λ found. cond (p y) (Some 0) (option_map suc found)) (position_remove ys i x at fails) ∙ by (p y) (position p ys) ∙ ap (shifted (suc i)) (sym (position_cons p y ys))
-    where
-      by : (b : Bool) (found : Option ℕ) → cond b (Some 0) (option_map suc (shifted i found)) ≡ shifted (suc i) (cond b (Some 0) (option_map suc found))
-      by true found = grind arith
-      by false None = refl
-      by false (Some j) = grind arith
-
   -- In a list of two parts, an item passes in the first part, or else in the second.
   pub position_append : (xs ys : List X) → position p (xs ++ ys) ≡ option_or (position p xs) (option_map (λ i. length xs + i) (position p ys))
   position_append [] ys = by (position p ys)
@@ -50,3 +19,11 @@ module _ {X : Type 0} (p : X → Bool) where
       by false (Some i) there = refl
       by false None None = refl
       by false None (Some i) = ap Some (let e : suc (length xs + i) ≡ suc (length xs) + i = omega arith in e)
+
+  -- The first of `i` items and one more that passes.
+  pub position_more : (xs : List X) (i : ℕ) (d : X) → i < length xs → position p (take (i + 1) xs) ≡ option_or (position p (take i xs)) (if p (get_or xs i d) then Some i else None)
+  position_more xs i d h = ap (position p) (take_more xs i d h) ∙ position_append (take i xs) (get_or xs i d ∷ []) ∙ ap (option_or (position p (take i xs))) (by (p (get_or xs i d)) refl)
+    where
+      by : (b : Bool) → p (get_or xs i d) ≡ b → option_map (λ k. length (take i xs) + k) (position p (get_or xs i d ∷ [])) ≡ (if b then Some i else None)
+      by true e = rw e (ap Some (let n = length-take-le i xs (omega arith) in omega arith))
+      by false e = rw e refl

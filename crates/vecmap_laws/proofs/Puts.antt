@@ -28,7 +28,7 @@ module _ {K V : Type 0} (eq : K → K → Bool) where
         let none = none_before eq o (keys_of l) p.0 (keys_of ps) (subst (IsDistinct eq) (map-append (λ q. q.0) l (p ∷ ps)) d) in
         ap (λ m. puts eq m ps) (put_absent eq l p.0 p.1 (index_of_none eq l p.0 none)) ∙ puts_apart (l ++ p ∷ []) ps (subst (HasDistinctKeys eq) (sym moved) d) ∙ moved
 
-    -- A list of distinct keys has no repeats, so its insertions into the empty list make the list itself.
+    -- A list of distinct keys has no duplicates, so its insertions into the empty list make the list itself.
     pub puts_distinct : (l : List (K × V)) → HasDistinctKeys eq l → puts eq [] l ≡ l
     puts_distinct l d = puts_apart [] l d
 

@@ -3,7 +3,7 @@ use Rattle.std.specs.declared.alloc.Global.{Global}
 use Rattle.std.specs.{Cmp.IsEquivalence, Cmp.on_equiv, Cmp.Lexicographic.nat_list_eq_equiv, Map.IsKeyTest, Option.option_and_then, Option.option_map_or}
 use Rattle.std.proofs.Common.{◌≡◌, ℕ, Bool, false, List, [], ◌∷◌, Option, None, Some, String, IsTrue, bytes_eq, if◌then◌else◌, remove, string_bytes, string_eq, refl, sym, ap, ◌∙◌, get_or, inl, inr}
 use Rattle.std.proofs.lemmas.{Bool.cases_Bool, List.Quantifiers.position-Some}
-use Rattle.vecmap_base.specs.Pairs.{HasDistinctKeys, has_text, index_by, index_of, lookup, lookup_by, lookup_pair, lookup_pair_by, put, swap_without_by, swap_without_key, value_at, without_by, without_key}
+use Rattle.vecmap_base.specs.Pairs.{HasDistinctKeys, has_text, index_by, lookup, lookup_by, put, value_at, without_by}
 use Rattle.vecmap_base.proofs.PairsLemmas.Recursion.{lookup_by_cons, put_cons}
 use Rattle.vecmap_laws.proofs.ItemQueries.{stands_apart, tells_as}
 use Rattle.vecmap_laws.proofs.Lookups.{lookup_put, lookup_without_key}
@@ -11,18 +11,6 @@ use Rattle.vecmap_laws.proofs.Lookups.{lookup_put, lookup_without_key}
 module _ {K V : Type 0} (eq : K → K → Bool) (o : IsEquivalence eq) (test : K → Bool) (respects : IsKeyTest eq test) where
   pub lookup_by_query : (l : List (K × V)) (k : K) → IsTrue (test k) → lookup_by test l ≡ lookup eq l k
   lookup_by_query l k h = ap (λ f. lookup_by f l) (tells_as eq o test respects k h)
-
-  pub index_by_query : (l : List (K × V)) (k : K) → IsTrue (test k) → index_by test l ≡ index_of eq l k
-  index_by_query l k h = ap (λ f. index_by f l) (tells_as eq o test respects k h)
-
-  pub without_by_query : (l : List (K × V)) (k : K) → IsTrue (test k) → without_by test l ≡ without_key eq l k
-  without_by_query l k h = ap (λ f. without_by f l) (tells_as eq o test respects k h)
-
-  pub lookup_pair_by_query : (l : List (K × V)) (k : K) → IsTrue (test k) → lookup_pair_by test l ≡ lookup_pair eq l k
-  lookup_pair_by_query l k h = ap (λ f. lookup_pair_by f l) (tells_as eq o test respects k h)
-
-  pub swap_without_by_query : (l : List (K × V)) (k : K) → IsTrue (test k) → swap_without_by test l ≡ swap_without_key eq l k
-  swap_without_by_query l k h = ap (λ f. swap_without_by f l) (tells_as eq o test respects k h)
 
   -- After the insertion of a key that matches, the query finds the value.
   pub lookup_put_query : (l : List (K × V)) (k : K) (v : V) → IsTrue (test k) → lookup_by test (put eq l k v) ≡ Some v
@@ -44,6 +32,14 @@ module _ {K V : Type 0} (eq : K → K → Bool) (o : IsEquivalence eq) (test : K
             ∙ lookup_by_cons test p (put eq ps k v)
             ∙ ap (λ w. if test p.0 then Some p.1 else w) (lookup_put_other_query ps k v n)
             ∙ sym (lookup_by_cons test p ps)
+      ]
+
+  -- Both cases in one.
+  pub lookup_put_any_query : (l : List (K × V)) (k : K) (v : V) → lookup_by test (put eq l k v) ≡ (if test k then Some v else lookup_by test l)
+  lookup_put_any_query l k v =
+      elim (cases_Bool (test k)) [
+        | inl h ↦ lookup_put_query l k v h ∙ sym (ap (λ b. if b then Some v else lookup_by test l) h)
+        | inr n ↦ lookup_put_other_query l k v n ∙ sym (ap (λ b. if b then Some v else lookup_by test l) n)
       ]
 
   -- After the removal of its match from a list of distinct keys, a query matches nothing.

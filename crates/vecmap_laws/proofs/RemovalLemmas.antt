@@ -1,7 +1,7 @@
 -- What is found after the item at an index has been taken out of a list, whatever the order of the others. A removal
 -- that shifts the later items and one that moves the last item are both of this kind.
-use Rattle.std.proofs.Common.{◌≡◌, ◌-◌, ℕ, Bool, true, false, ◌||◌, ◌&&◌, IsTrue, List, [], ◌∷◌, ◌++◌, None, Option, Some, ap, arith, drop, get_or, if◌then◌else◌, inl, inr, is_some, length, not, position, refl, remove, slice_get, subst, suc, sym, take, true≢false, ◌∙◌}
-use Rattle.std.proofs.lemmas.{Bool.cases_Bool, List.append-nil, List.drop_all, List.Quantifiers.position-Some, Map.Steps.list_any_congr, Option.get_or_from_slice_get, Option.none-some, Option.slice_get-get_or, Option.slice_get_within}
+use Rattle.std.proofs.Common.{◌≡◌, ◌-◌, ℕ, Bool, true, false, ◌||◌, ◌&&◌, IsTrue, List, [], ◌∷◌, None, Option, Some, ap, arith, get_or, if◌then◌else◌, is_some, length, not, position, refl, remove, slice_get, subst, sym, ◌∙◌}
+use Rattle.std.proofs.lemmas.{List.Quantifiers.position-Some, Map.Steps.list_any_congr, Option.get_or_from_slice_get, Option.none-some, Option.slice_get-get_or, Option.slice_get_within}
 use Rattle.std.proofs.lemmas.List.Sorted.{IsPermutation-remove, IsPermutation-swap_remove, length_permutation, list_any-IsPermutation}
 use Rattle.std.specs.{Cmp.IsEquivalence, List.IsDistinct, List.list_any, List.swap_remove, List.Sorted.IsPermutation, Map.IsKeyTest, Option.option_and_then, Option.option_map_or, Set.is_member}
 use Rattle.vecmap_base.proofs.DistinctLemmas.Order.{distinct_rearranged}
@@ -65,10 +65,6 @@ module _ {K V : Type 0} (eq : K → K → Bool) (o : IsEquivalence eq) where
       by None (Some j) e g = let r = matched l j g in ap f (lookup_by_query eq o test respects m r.0 r.1) ∙ alike r.0 r.1 ∙ sym (ap f r.2)
       by None None e g = ap f (ap (option_and_then (value_at m)) e ∙ sym (ap (option_and_then (value_at l)) g))
 
-  -- A query finds alike in two lists in which each key that it matches finds alike.
-  pub query_finds_alike : (test : K → Bool) → IsKeyTest eq test → (l m : List (K × V)) → ((q : K) → IsTrue (test q) → lookup eq m q ≡ lookup eq l q) → lookup_by test m ≡ lookup_by test l
-  query_finds_alike = query_finds_same (λ found. found)
-
 -- A removal by index, which leaves all other items.
 module _ {X : Type 0} (takes : List X → ℕ → List X) (leaves : (xs : List X) (i : ℕ) (x : X) → slice_get xs i ≡ Some x → IsPermutation xs (x ∷ takes xs i)) where
   pub length_by_index : (xs : List X) (i : ℕ) (x : X) → slice_get xs i ≡ Some x → length (takes xs i) ≡ length xs - 1
@@ -119,27 +115,3 @@ module _ {K V : Type 0} (takes : List (K × V) → ℕ → List (K × V)) (leave
         by : (found : Option ℕ) → index_by test l ≡ found → lookup eq (option_map_or (takes l) found l) q ≡ (if test q then None else lookup eq l q)
         by None e = none (test q) (lookup eq l q) (absent e)
         by (Some i) e = let at = passing_at (λ p. test p.0) l i e in lookup_by_index l d i at.0.0 at.0.1 at.1 q ∙ ap (λ b. if b then None else lookup eq l q) (sym (respects at.0.0 q at.2))
-
-    -- Another query, which matches no key that the removal is for, finds what it found before.
-    pub other_query_after : (test : K → Bool) → IsKeyTest eq test → (other : K → Bool) → IsKeyTest eq other → ((k : K) → IsTrue (test k) → other k ≡ false) → (l : List (K × V)) → HasDistinctKeys eq l → lookup_by other (option_map_or (takes l) (index_by test l) l) ≡ lookup_by other l
-    other_query_after test respects other matches apart l d = query_finds_alike eq o other matches l (option_map_or (takes l) (index_by test l) l) (λ q h. lookup_by_test test respects l d q ∙ ap (λ b. if b then None else lookup eq l q) (unmatched q h))
-      where
-        unmatched : (q : K) → IsTrue (other q) → test q ≡ false
-        unmatched q h =
-            elim (cases_Bool (test q)) [
-              | inl e ↦ absurd (true≢false (sym h ∙ apart q e))
-              | inr e ↦ e
-            ]
-
--- The list without its last item.
-front_is_remove : {X : Type 0} (xs : List X) (x : X) → slice_get xs (length xs - 1) ≡ Some x → take (length xs - 1) xs ≡ remove xs (length xs - 1)
-front_is_remove xs x at =
-    let within = slice_get_within xs (length xs - 1) x at in
-    let none : drop (suc (length xs - 1)) xs ≡ [] = drop_all (suc (length xs - 1)) xs (omega (arith, within)) in
-    sym (append-nil (take (length xs - 1) xs)) ∙ ap (λ ys. take (length xs - 1) xs ++ ys) (sym none)
-
-pub is_member_last : {T : Type 0} (eq : T → T → Bool) (o : IsEquivalence eq) (s : List T) → IsDistinct eq s → (x : T) → slice_get s (length s - 1) ≡ Some x → (y : T) → is_member eq (take (length s - 1) s) y ≡ (is_member eq s y && not (eq x y))
-is_member_last eq o s d x at y = ap (λ m. is_member eq m y) (front_is_remove s x at) ∙ is_member_by_index remove remove_leaves eq o s d (length s - 1) x at y
-
-pub lookup_last : {K V : Type 0} (eq : K → K → Bool) (o : IsEquivalence eq) (l : List (K × V)) → HasDistinctKeys eq l → (k : K) (v : V) → slice_get l (length l - 1) ≡ Some (k, v) → (q : K) → lookup eq (take (length l - 1) l) q ≡ (if eq k q then None else lookup eq l q)
-lookup_last eq o l d k v at q = ap (λ m. lookup eq m q) (front_is_remove l (k, v) at) ∙ lookup_by_index remove remove_leaves eq o l d (length l - 1) k v at q

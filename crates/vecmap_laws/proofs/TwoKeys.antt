@@ -2,10 +2,8 @@
 -- finds the changed map, and any other query finds one that has not changed.
 use Rattle.std.proofs.Common.{◌≡◌, Bool, true, false, ◌&&◌, IsTrue, List, [], Some, ap, if◌then◌else◌, inl, inr, refl, sym, ◌∙◌}
 use Rattle.std.proofs.lemmas.Bool.{cases_Bool}
-use Rattle.std.specs.{Cmp.IsEquivalence, Map.IsKeyTest, Map.keys_of, Option.option_map_or}
-use Rattle.vecmap_base.proofs.PairsLemmas.Keys.{keys_of_put}
+use Rattle.std.specs.{Cmp.IsEquivalence, Map.IsKeyTest, Option.option_map_or}
 use Rattle.vecmap_laws.proofs.Queries.{lookup_by_query, lookup_put_other_query, lookup_put_query}
-use Rattle.vecmap_base.specs.Items.{add}
 use Rattle.vecmap_base.specs.Pairs.{lookup_by, put}
 use Rattle.vecmap_laws.proofs.RemovalLemmas.{query_finds_same}
 use Rattle.vecmap_laws.specs.Nested.{inner_entries, inner_entries_by}
@@ -31,7 +29,3 @@ module _ {K N V : Type 0} (eq : K → K → Bool) (o : IsEquivalence eq) (test :
         by false c e f = refl
         by true true e f = ap (lookup_by name) written ∙ lookup_put_query eq_inner oi name name_respects (inner_entries eq l k) n v f
         by true false e f = ap (lookup_by name) written ∙ lookup_put_other_query eq_inner oi name name_respects (inner_entries eq l k) n v f ∙ ap (λ found. lookup_by name (option_map_or (λ c. c.entries) found [])) (sym (lookup_by_query eq o test respects l k e))
-
--- The keys of the changed map.
-pub keys_of_inner : {K N V : Type 0} (eq : K → K → Bool) (eq_inner : N → N → Bool) (l m : List (K × Contents N V)) (k : K) (n : N) (v : V) → inner_entries eq m k ≡ put eq_inner (inner_entries eq l k) n v → keys_of (inner_entries eq m k) ≡ add eq_inner (keys_of (inner_entries eq l k)) n
-keys_of_inner eq eq_inner l m k n v written = ap keys_of written ∙ keys_of_put eq_inner (inner_entries eq l k) n v

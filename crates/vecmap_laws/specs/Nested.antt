@@ -13,6 +13,6 @@ module _ {K N V : Type 0} where
   abbrev pub inner_entries_by : (K → Bool) → List (K × Contents N V) → List (N × V)
   inner_entries_by test l = option_map_or (λ m. m.entries) (lookup_by test l) []
 
-  -- The same for the first key that is equal to k.
+  -- The pairs of the map that is the value of the first key that is equal to k, or none if there is no such key.
   abbrev pub inner_entries : (K → K → Bool) → List (K × Contents N V) → K → List (N × V)
   inner_entries eq l k = inner_entries_by (eq k) l

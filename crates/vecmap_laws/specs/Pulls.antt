@@ -1,8 +1,7 @@
 -- Pulls from both ends of an iterator, in any mixture.
 use Rattle.std.specs.Prelude.{◌≡◌, ◌-◌, List, [], ◌∷◌, Option, drop, length, slice_get, take}
 
--- A pull is a call of `next`, which takes from the front, or of `next_back`, which takes from the back. This is its
--- end.
+-- The end at which a pull takes an item: a call of `next` from the front, one of `next_back` from the back.
 pub data End : Type 0 where
   front : End
   back : End

@@ -1,7 +1,8 @@
 //! The laws of maps and of sets, with their lemmas: for those who prove code over `vecmap`.
 //!
-//! A law is a function with no body whose contract is the law. A call of it costs nothing at run time, and gives the
-//! law to a proof. The lemmas are below `Rattle.vecmap_laws.proofs`, those of the crates below too.
+//! A law is a function without effect whose contract is a theorem. A call costs nothing at run time, and adds the
+//! theorem to what the proof of the caller knows. The lemmas are below `Rattle.vecmap_laws.proofs`, also the lemmas of
+//! the crates below.
 #![tactic(auto)]
 
 mod lists;

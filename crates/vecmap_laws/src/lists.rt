@@ -6,9 +6,9 @@ ghost use Rattle.vecmap_base.specs.Pairs.{HasDistinctKeys, has_text};
 ghost use Rattle.vecmap_base.specs.Repeats.{comparisons, cost};
 ghost use Rattle.std.specs.declared.alloc.Global.{Global};
 
-/// Bounds the number of comparisons that a removal of repeats makes.
+/// Bounds the number of comparisons that a removal of duplicates makes.
 ///
-/// It is at most one comparison for each two elements, and exactly as many if no two elements are equal.
+/// It is at most one comparison for each two elements, and exactly as many if all elements are distinct.
 #[tactic(auto, using(vecmap_base::proofs::RepeatsLemmas::Comparisons::comparisons_at_most, crate::proofs::ComparisonLemmas::comparisons_distinct))]
 pub fn comparisons_are_bounded<T: Eq>()
     ensures at_most { (xs : List T) → comparisons T.eq xs ≤ cost (length xs) }
@@ -26,11 +26,14 @@ pub fn key_comparisons_are_bounded<K: Eq, V>()
 
 /// A text matches the `String` of its bytes as a query, and two texts of different bytes match no string in common.
 ///
+/// Two texts whose bytes are equal are the same query.
+///
 /// With it, [`queries_find_as_keys`](crate::maps::queries_find_as_keys) and its kin are laws of texts.
 pub fn texts_are_queries()
     ensures respects { (text : List ℕ) → IsKeyTest {K = String Global} string_eq (has_text text) }
     ensures own { (text : List ℕ) (k : String Global) → string_bytes k ≡ text
         → has_text text k ≡ true }
+    ensures same { (text other : List ℕ) → bytes_eq text other ≡ true → text ≡ other }
     ensures apart { (text other : List ℕ) → bytes_eq text other ≡ false → (k : String Global)
         → has_text text k ≡ true → has_text other k ≡ false }
 {}

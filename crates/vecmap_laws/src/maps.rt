@@ -1,5 +1,5 @@
-//! Laws of maps, and of the definitions that their contracts use. A call of a law costs nothing at run time, and gives
-//! the law to a proof.
+//! Laws of maps, and of the definitions that their contracts use. A call of a law costs nothing at run time, and adds
+//! the law to what the proof of the caller knows.
 mod distinct;
 mod equality;
 mod insertions;

@@ -1,5 +1,5 @@
-//! Laws of sets, and of the definitions that their contracts use. A call of a law costs nothing at run time, and gives
-//! the law to a proof.
+//! Laws of sets, and of the definitions that their contracts use. A call of a law costs nothing at run time, and adds
+//! the law to what the proof of the caller knows.
 mod algebra;
 mod distinct;
 mod equality;
@@ -22,10 +22,7 @@ pub use insertions::{
     added_elements_are_present, additions_move_nothing, bulk_additions_are_single_ones,
     bulk_additions_move_nothing, collecting_one_more_is_extending,
 };
-pub use lookups::{
-    clones_have_the_same_members, equal_elements_have_one_index, queries_find_as_elements,
-    stored_elements_are_found,
-};
+pub use lookups::{clones_have_the_same_members, queries_find_as_elements};
 pub use removals::{
     appending_undoes_splitting, removals_are_forgotten, removals_shorten, retain_filters,
 };

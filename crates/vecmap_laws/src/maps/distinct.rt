@@ -1,12 +1,12 @@
-//! Laws of keys that do not repeat.
+//! Laws of distinct keys.
 ghost use Rattle.std.specs.List.{remove_range};
 ghost use Rattle.std.specs.Prelude.{Bool, List, [], drop, filter, remove, slice_range, take, ℕ, ◌≤◌};
 ghost use Rattle.vecmap_base.specs.Items.{swap_without};
 ghost use Rattle.vecmap_base.specs.Pairs.{HasDistinctKeys, put, put_at, put_key, puts, swap_without_by, swap_without_key, with_value, without_by};
 
-/// If no keys repeat, none repeat after an insertion, after many insertions, or after a write of a value.
+/// Distinct keys stay distinct after an insertion, after many insertions, and after a write of a value.
 ///
-/// No keys repeat in the empty list, nor in what insertions make of it.
+/// The keys of the empty list are distinct, and so are the keys of what insertions make of it.
 #[tactic(auto, using(vecmap_base::proofs::DistinctLemmas::Absent::distinct_none, crate::proofs::DistinctKeys::distinct_put, crate::proofs::DistinctKeys::distinct_puts, crate::proofs::DistinctKeys::distinct_put_at, crate::proofs::DistinctKeys::distinct_keys_with_value, crate::proofs::DistinctKeys::distinct_put_key))]
 pub fn insertion_keeps_keys_distinct<K: Eq, V>()
     ensures empty { HasDistinctKeys {V = V} K.eq [] }
@@ -23,10 +23,10 @@ pub fn insertion_keeps_keys_distinct<K: Eq, V>()
         → HasDistinctKeys K.eq (with_value l i v) }
 {}
 
-/// If no keys repeat, none repeat after a removal, nor in the front of the list.
+/// Distinct keys stay distinct after a removal, and in the front of the list.
 ///
 /// The removal is by a test of the keys or by index. It shifts the later pairs or swaps in the last one. The test is
-/// the `==` of a key, that of a text, or that of a query type of your own.
+/// the `==` of a key, of a text, or of a query type of your own.
 #[tactic(auto, using(crate::proofs::DistinctKeys::distinct_keys_without, crate::proofs::DistinctKeys::distinct_keys_remove, crate::proofs::DistinctKeys::distinct_keys_swap_without_by, crate::proofs::DistinctKeys::distinct_keys_swap_without_key, crate::proofs::DistinctKeys::distinct_keys_swap_without, crate::proofs::DistinctKeys::distinct_keys_take))]
 pub fn removal_keeps_keys_distinct<K: Eq, V>()
     ensures by_test { (l : List (K × V)) → HasDistinctKeys K.eq l → (test : K → Bool)
@@ -43,7 +43,7 @@ pub fn removal_keeps_keys_distinct<K: Eq, V>()
         → HasDistinctKeys K.eq (take n l) }
 {}
 
-/// If no keys repeat, none repeat in a part of the list, once a part is left out, nor in the pairs that pass a test.
+/// Distinct keys stay distinct in a part of the list, without a part of it, and in the pairs that pass a test.
 #[tactic(auto, using(crate::proofs::DistinctParts::distinct_keys_drop, crate::proofs::DistinctParts::distinct_keys_slice_range, crate::proofs::DistinctParts::distinct_keys_remove_range, crate::proofs::DistinctParts::distinct_keys_filter))]
 pub fn parts_keep_keys_distinct<K: Eq, V>()
     ensures back { (l : List (K × V)) → HasDistinctKeys K.eq l → (n : ℕ)

@@ -6,7 +6,7 @@ ghost use Rattle.vecmap_base.specs.Equality.{counts_agree, has_same_counts};
 ghost use Rattle.vecmap_base.specs.Pairs.{HasDistinctKeys, lookup};
 ghost use Rattle.vecmap_laws.specs.Agreement.{agrees};
 
-/// Equality of maps is reflexive, symmetric and transitive, even if keys repeat.
+/// Equality of maps is reflexive, symmetric and transitive, even with duplicate keys.
 pub fn equality_is_an_equivalence<K: Eq, V: Eq>()
     ensures reflexive { (a : List (K × V)) → IsTrue (has_same_counts K.eq V.eq a a) }
     ensures symmetric { (a b : List (K × V))
@@ -15,13 +15,13 @@ pub fn equality_is_an_equivalence<K: Eq, V: Eq>()
         → IsTrue (has_same_counts K.eq V.eq b c) → IsTrue (has_same_counts K.eq V.eq a c) }
 {}
 
-/// Maps of the same pairs in different orders are equal, even if keys repeat.
+/// Maps of the same pairs in different orders are equal, even with duplicate keys.
 #[tactic(auto, using(crate::proofs::MapEquality::rearranged_maps_equal))]
 pub fn equality_ignores_order<K: Eq, V: Eq>()
     ensures { (a b : List (K × V)) → IsPermutation a b → IsTrue (has_same_counts K.eq V.eq a b) }
 {}
 
-/// If no keys repeat, two maps are equal exactly when every lookup finds nothing in both, or equal values in both.
+/// If all keys are distinct, two maps are equal exactly if each lookup finds nothing in both, or equal values in both.
 ///
 /// It is enough to look up the keys of both maps.
 pub fn equality_is_agreement<K: Eq, V: Eq>()

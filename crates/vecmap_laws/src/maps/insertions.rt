@@ -2,9 +2,9 @@
 ghost use Rattle.std.specs.Iterator.Runs.{CollectsByExtend};
 ghost use Rattle.std.specs.Map.{keys_of};
 ghost use Rattle.std.specs.Option.{option_map_or, option_or};
-ghost use Rattle.std.specs.Prelude.{IsSome, List, None, Some, [], false, if◌then◌else◌, insert, is_some, length, reverse, unwrap_or, ℕ, ◌++◌, ◌+◌, ◌∷◌, ◌≡◌, ◌≤◌};
+ghost use Rattle.std.specs.Prelude.{IsSome, List, None, Some, [], false, if◌then◌else◌, insert, is_some, length, min, reverse, slice_get, unwrap_or, ℕ, ◌++◌, ◌+◌, ◌∷◌, ◌≡◌, ◌≤◌};
 ghost use Rattle.vecmap_base.specs.Items.{add, adds, item_index};
-ghost use Rattle.vecmap_base.specs.Pairs.{HasDistinctKeys, index_of, index_or_length, lookup, put, put_at, put_key, puts};
+ghost use Rattle.vecmap_base.specs.Pairs.{HasDistinctKeys, index_of, index_or_length, lookup, put, put_at, put_key, puts, without_key};
 ghost use Rattle.vecmap_laws.specs.FirstValue.{put_new, puts_new};
 ghost use Rattle.vecmap_map.specs.Contents.{Contents};
 ghost use Rattle.vecmap_map.specs.Entry.{AreEntriesWith, entry_index_of, entry_key, entry_map};
@@ -39,7 +39,7 @@ pub fn insertions_are_found<K: Eq, V>()
 /// Many insertions at once are the same as single insertions, in order.
 ///
 /// A lookup finds the last value that the pairs give its key, or else the old one. No key moves, and new keys are
-/// appended in order. Pairs whose keys do not repeat become the list of a map if they are inserted into an empty one.
+/// appended in order. Pairs of distinct keys become the list of a map if they are inserted into an empty one.
 #[tactic(auto, using(crate::proofs::Puts::puts_append, vecmap_base::proofs::PairsLemmas::Keys::keys_of_puts, crate::proofs::Puts::puts_distinct, crate::proofs::Parts::lookup_made_last, crate::proofs::Parts::index_of_puts_kept, crate::proofs::Parts::index_of_puts))]
 pub fn bulk_insertions_are_single_ones<K: Eq, V>()
     ensures one { (l : List (K × V)) (p : K × V) (pairs : List (K × V))
@@ -110,8 +110,9 @@ pub fn first_values_win<K: Eq, V>()
 
 /// After an insertion at an index, its key finds the new value, and every other key finds what it found before.
 ///
-/// This holds of a new key, and of every key if no keys repeat.
-#[tactic(auto, using(crate::proofs::Inserted::lookup_put_at_absent, crate::proofs::Inserted::lookup_put_at, crate::proofs::Puts::put_at_absent))]
+/// This holds of a new key, and of every key if all keys are distinct. The pairs of the other keys keep their order. An
+/// index past the end is the end.
+#[tactic(auto, using(crate::proofs::OtherPairs::put_at_is_insert, crate::proofs::OtherPairs::put_at_past, crate::proofs::OtherPairs::put_back, crate::proofs::Puts::put_at_absent))]
 pub fn insertions_at_an_index_are_found<K: Eq, V>()
     ensures new_key { (l : List (K × V)) (i : ℕ) (k : K) (v : V) → index_of K.eq l k ≡ None → (q : K)
         → lookup K.eq (put_at K.eq l i k v) q ≡ (if K.eq k q then Some v else lookup K.eq l q) }
@@ -119,6 +120,15 @@ pub fn insertions_at_an_index_are_found<K: Eq, V>()
         → lookup K.eq (put_at K.eq l i k v) q ≡ (if K.eq k q then Some v else lookup K.eq l q) }
     ensures as_insert { (l : List (K × V)) (i : ℕ) (k : K) (v : V) → index_of K.eq l k ≡ None
         → put_at K.eq l i k v ≡ insert l i (k, v) }
+    ensures placed { (l : List (K × V)) (i : ℕ) (k : K) (v : V)
+        → put_at K.eq l i k v ≡ insert (without_key K.eq l k) i (k, v) }
+    ensures past_end { (l : List (K × V)) (i : ℕ) (k : K) (v : V)
+        → put_at K.eq l (min i (length l)) k v ≡ put_at K.eq l i k v }
+    ensures rest { (l : List (K × V)) → HasDistinctKeys K.eq l → (i : ℕ) (k : K) (v : V)
+        → without_key K.eq (put_at K.eq l i k v) k ≡ without_key K.eq l k }
+    ensures restored { (l m : List (K × V)) (i : ℕ) (k : K) (v : V) → index_of K.eq l k ≡ Some i
+        → slice_get l i ≡ Some (k, v) → without_key K.eq m k ≡ without_key K.eq l k
+        → put_at K.eq m i k v ≡ l }
 {}
 
 /// Collecting some pairs and extending the map by one more is the same as collecting the longer list.

@@ -49,9 +49,9 @@ pub fn inner_insertions_are_found<K: Eq, N: Eq, V>()
 /// After an insertion into the map of a key, two queries find the value if they match the two keys. Otherwise they find
 /// what they found before.
 ///
-/// `l` is the map of maps before the insertion, and `m` the one after it. The law [`inner_insertions_are_found`] gives
-/// both premises, also if the map of the key was created just before. `test` and `name` are the tests of the queries, as
-/// in [`queries_find_as_keys`](crate::maps::queries_find_as_keys).
+/// `l` is the map of maps before the insertion, and `m` the map of maps after it. The law
+/// [`inner_insertions_are_found`] gives both premises, also if the map of the key was created just before. `test` and
+/// `name` are the tests of the queries, as in [`queries_find_as_keys`](crate::maps::queries_find_as_keys).
 pub fn values_are_found_by_two_keys<K: Eq, N: Eq, V>()
     ensures { (l m : List (K × Contents N V)) (k : K) (n : N) (v : V)
         → inner_entries K.eq m k ≡ put N.eq (inner_entries K.eq l k) n v

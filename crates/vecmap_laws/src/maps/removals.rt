@@ -1,13 +1,14 @@
 //! Laws of what removals leave: what lookups find, at which indices, and the length.
 ghost use Rattle.std.specs.Map.{keys_of};
-ghost use Rattle.std.specs.Prelude.{List, None, Some, drop, false, if◌then◌else◌, insert, is_some, length, remove, slice_get, take, ℕ, ◌++◌, ◌+◌, ◌-◌, ◌<◌, ◌≡◌};
+ghost use Rattle.std.specs.Prelude.{List, None, Some, drop, false, if◌then◌else◌, insert, is_some, length, remove, slice_get, take, ℕ, [], ◌++◌, ◌+◌, ◌-◌, ◌<◌, ◌∷◌, ◌≡◌};
 ghost use Rattle.vecmap_base.specs.Items.{swap_without, without_item};
-ghost use Rattle.vecmap_base.specs.Pairs.{HasDistinctKeys, index_of, lookup, put_at, puts, swap_without_key, with_pair, without_key};
+ghost use Rattle.vecmap_base.specs.Pairs.{HasDistinctKeys, index_of, lookup, put, put_at, puts, swap_without_key, with_pair, without_key};
 
-/// If no keys repeat, a key is absent after its removal, and every other key finds what it found before.
+/// If all keys are distinct, a key is absent after its removal, and every other key finds what it found before.
 ///
-/// The remaining pairs keep their order, unless the last pair is swapped in.
-#[tactic(auto, using(crate::proofs::AfterPuts::index_of_without_key, crate::proofs::Keys::keys_of_without_key))]
+/// The remaining pairs keep their order, unless the last pair is swapped in. The removal of an absent key changes
+/// nothing.
+#[tactic(auto, using(crate::proofs::OtherPairs::without_absent, crate::proofs::OtherPairs::without_not_found, crate::proofs::OtherPairs::swap_without_absent, crate::proofs::AfterPuts::index_of_without_key, crate::proofs::Keys::keys_of_without_key))]
 pub fn removals_are_forgotten<K: Eq, V>()
     ensures value { (l : List (K × V)) → HasDistinctKeys K.eq l → (k : K)
         → lookup K.eq (without_key K.eq l k) k ≡ None }
@@ -24,6 +25,12 @@ pub fn removals_are_forgotten<K: Eq, V>()
         → keys_of (without_key K.eq l k) ≡ without_item K.eq (keys_of l) k }
     ensures shifted { (l : List (K × V)) (k : K) (i : ℕ) → index_of K.eq l k ≡ Some i
         → without_key K.eq l k ≡ take i l ++ drop (i + 1) l }
+    ensures unchanged { (l : List (K × V)) (k : K) → index_of K.eq l k ≡ None
+        → without_key K.eq l k ≡ l }
+    ensures not_found { (l : List (K × V)) (k : K) → lookup K.eq l k ≡ None
+        → without_key K.eq l k ≡ l }
+    ensures swap_unchanged { (l : List (K × V)) (k : K) → index_of K.eq l k ≡ None
+        → swap_without_key K.eq l k ≡ l }
 {}
 
 /// A removal of a pair that is present makes the list shorter by one. The removal of an absent key leaves its length.
@@ -55,16 +62,21 @@ pub fn removals_by_index_are_undone<K: Eq, V>()
         → without_key K.eq l k ≡ remove l i }
 {}
 
-/// If no keys repeat, a pair that is removed and inserted at another index is moved there, and lookups stay the same.
+/// If all keys are distinct, a pair that is removed and inserted at another index is moved there. Lookups stay the same.
+///
+/// A pair that is removed and inserted without an index is last.
 pub fn moves_keep_lookups<K: Eq, V>()
     ensures moved { (l : List (K × V)) → HasDistinctKeys K.eq l → (i j : ℕ) (k : K) (v : V)
         → slice_get l i ≡ Some (k, v) → put_at K.eq (remove l i) j k v ≡ insert (remove l i) j (k, v) }
     ensures lookups { (l : List (K × V)) → HasDistinctKeys K.eq l → (i j : ℕ) (k : K) (v : V)
         → slice_get l i ≡ Some (k, v) → (q : K)
         → lookup K.eq (put_at K.eq (remove l i) j k v) q ≡ lookup K.eq l q }
+    ensures last { (l : List (K × V)) → HasDistinctKeys K.eq l → (i : ℕ) (k : K) (v : V)
+        → index_of K.eq l k ≡ Some i
+        → put K.eq (remove l i) k v ≡ without_key K.eq l k ++ (k, v) ∷ [] }
 {}
 
-/// If no keys repeat, a list that is split is whole again once the second part is appended to the first.
+/// If all keys are distinct, a list that is split is whole again once the second part is appended to the first.
 #[tactic(auto, using(crate::proofs::Puts::puts_restore))]
 pub fn appending_undoes_splitting<K: Eq, V>()
     ensures { (l : List (K × V)) → HasDistinctKeys K.eq l → (at : ℕ)

@@ -1,7 +1,7 @@
 //! Laws of writes of a value that is found, as through `get_mut`.
 ghost use Rattle.std.specs.Map.{IsKeyTest, keys_of};
 ghost use Rattle.std.specs.Prelude.{Bool, IsSome, List, None, Some, false, true, ◌≡◌};
-ghost use Rattle.vecmap_base.specs.Pairs.{index_by, index_of, lookup, lookup_by, put};
+ghost use Rattle.vecmap_base.specs.Pairs.{index_by, index_of, lookup, lookup_by, put, without_key};
 ghost use Rattle.vecmap_map.specs.Contents.{Contents, with_value_by, with_value_of};
 
 /// An insertion of the value that its key already has changes nothing.
@@ -27,6 +27,8 @@ pub fn writes_leave_other_keys<K: Eq, V>()
         → keys_of (with_value_of K.eq m k v).entries ≡ keys_of m.entries }
     ensures absent { (m : Contents K V) (k : K) (v : V) → index_of K.eq m.entries k ≡ None
         → with_value_of K.eq m k v ≡ m }
+    ensures rest { (m : Contents K V) (k : K) (v : V)
+        → without_key K.eq (with_value_of K.eq m k v).entries k ≡ without_key K.eq m.entries k }
 {}
 
 /// A write of the value that a query finds is an insertion of each key that the query matches.

@@ -24,8 +24,7 @@ pub fn disjoint_sets_have_no_intersection<T: Eq>()
 
 /// `intersection` and `union` yield sets that are equal to what `&` and `|` create.
 ///
-/// The list that `difference` yields is the one that `-` clones, and the list that `symmetric_difference` yields is the
-/// one that `^` clones.
+/// `difference` yields the list that `-` clones, and `symmetric_difference` yields the list that `^` clones.
 #[tactic(auto, using(crate::proofs::AlgebraLemmas::lazy_intersection_is_both, crate::proofs::AlgebraLemmas::lazy_union_is_union))]
 pub fn lazy_iterators_agree_with_operators<T: Eq>()
     ensures intersection { AgreeAsSets T.eq lazy_intersection both }
@@ -41,7 +40,7 @@ pub fn lazy_iterators_give_no_repeats<T: Eq>()
     ensures union { MakesSets T.eq lazy_union }
 {}
 
-/// The lengths of the intersection and the union add up to those of the two sets.
+/// The lengths of the intersection and the union add up to the lengths of the two sets.
 #[tactic(auto, using(crate::proofs::AlgebraLemmas::lazy_lengths_add, crate::proofs::AlgebraLemmas::lengths_add))]
 pub fn lengths_of_intersection_and_union_add_up<T: Eq>()
     ensures lazily { LengthsAddUp T.eq lazy_intersection lazy_union }

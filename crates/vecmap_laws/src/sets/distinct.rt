@@ -1,8 +1,8 @@
-//! The law of elements that do not repeat.
+//! The law of distinct elements.
 ghost use Rattle.std.specs.List.{IsDistinct, remove_range};
 ghost use Rattle.std.specs.Prelude.{Bool, List, drop, filter, slice_range, take, ℕ, ◌≤◌};
 
-/// If no elements repeat, none repeat in a part of the list, once a part is left out, nor among those that pass a test.
+/// Distinct elements stay distinct in a part of the list, without a part of it, and among those that pass a test.
 pub fn parts_keep_elements_distinct<T: Eq>()
     ensures front { (s : List T) → IsDistinct T.eq s → (n : ℕ) → IsDistinct T.eq (take n s) }
     ensures back { (s : List T) → IsDistinct T.eq s → (n : ℕ) → IsDistinct T.eq (drop n s) }

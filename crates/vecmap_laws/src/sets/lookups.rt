@@ -1,27 +1,14 @@
 //! Laws of what elements and queries find.
 ghost use Rattle.std.specs.List.{IsDistinct, list_any};
 ghost use Rattle.std.specs.Map.{IsKeyTest};
-ghost use Rattle.std.specs.Prelude.{Bool, Contains, IsTrue, List, Some, false, length, position, slice_get, true, unwrap_or, ℕ, ◌≡◌};
+ghost use Rattle.std.specs.Prelude.{Bool, Contains, IsTrue, List, Some, false, if◌then◌else◌, length, position, true, unwrap_or, ◌≡◌};
 ghost use Rattle.std.specs.Set.{is_member};
 ghost use Rattle.vecmap_base.specs.Clones.{AreClones};
-ghost use Rattle.vecmap_base.specs.Items.{add, item_index, without_first};
-
-/// Elements that are equal have the same index.
-#[tactic(auto, using(crate::proofs::ItemIndices::item_index_congr))]
-pub fn equal_elements_have_one_index<T: Eq>()
-    ensures { (s : List T) (x y : T) → T.eq x y ≡ true → item_index T.eq s x ≡ item_index T.eq s y }
-{}
-
-/// If no two elements are equal, each is found at its own index.
-#[tactic(auto, using(crate::proofs::ItemIndices::item_index_own))]
-pub fn stored_elements_are_found<T: Eq>()
-    ensures { (s : List T) → IsDistinct T.eq s → (i : ℕ) (x : T) → slice_get s i ≡ Some x
-        → item_index T.eq s x ≡ Some i }
-{}
+ghost use Rattle.vecmap_base.specs.Items.{add, without_first};
 
 /// If each clone of an element is equal to it, the same elements are present in clones of a list.
 ///
-/// Clones that are the same as their originals, as those of numbers are, make the same list.
+/// Clones that are the same as their originals, such as clones of numbers, make the same list.
 #[tactic(auto, using(crate::proofs::ItemMembers::is_member_clones))]
 pub fn clones_have_the_same_members<T: Eq + Clone>()
     ensures members { (l m : List T)
@@ -42,6 +29,9 @@ pub fn queries_find_as_elements<T: Eq>()
         ≡ Some (unwrap_or (position test s) (length s)) }
     ensures others { (test : T → Bool) (s : List T) (x : T) → test x ≡ false
         → position test (add T.eq s x) ≡ position test s }
+    ensures indices { (test : T → Bool) → IsKeyTest T.eq test → (s : List T) (x : T)
+        → position test (add T.eq s x)
+        ≡ (if test x then Some (unwrap_or (position test s) (length s)) else position test s) }
     ensures removed { (test : T → Bool) → IsKeyTest T.eq test → (s : List T) → IsDistinct T.eq s
         → list_any test (without_first test s) ≡ false }
 {}

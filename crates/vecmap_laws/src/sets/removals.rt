@@ -1,6 +1,6 @@
 //! Laws of what removals leave: which elements, and the length.
 ghost use Rattle.std.specs.List.{IsDistinct};
-ghost use Rattle.std.specs.Prelude.{Bool, List, Some, drop, filter, if◌then◌else◌, is_some, length, not, remove, slice_get, take, ℕ, ◌&&◌, ◌-◌, ◌≡◌};
+ghost use Rattle.std.specs.Prelude.{Bool, List, None, Some, drop, false, filter, if◌then◌else◌, is_some, length, not, remove, slice_get, take, ℕ, ◌&&◌, ◌-◌, ◌≡◌};
 ghost use Rattle.std.specs.Set.{is_member};
 ghost use Rattle.vecmap_base.specs.Asked.{CallsAtItem};
 ghost use Rattle.vecmap_base.specs.Items.{adds, item_index, swap_without, swap_without_item, without_item};
@@ -8,11 +8,18 @@ ghost use Rattle.vecmap_base.specs.Kept.{Kept};
 ghost use Rattle.vecmap_laws.specs.Retaining.{TestsItems};
 
 /// After a removal, an element is present if it was, and if it is not equal to the removed one.
+///
+/// The removal of an absent element changes nothing.
 pub fn removals_are_forgotten<T: Eq>()
     ensures shift { (s : List T) → IsDistinct T.eq s → (x y : T)
         → is_member T.eq (without_item T.eq s x) y ≡ (is_member T.eq s y && not (T.eq x y)) }
     ensures swap { (s : List T) → IsDistinct T.eq s → (x y : T)
         → is_member T.eq (swap_without_item T.eq s x) y ≡ (is_member T.eq s y && not (T.eq x y)) }
+    ensures unchanged { (s : List T) (x : T) → item_index T.eq s x ≡ None → without_item T.eq s x ≡ s }
+    ensures not_found { (s : List T) (x : T) → is_member T.eq s x ≡ false
+        → without_item T.eq s x ≡ s }
+    ensures swap_unchanged { (s : List T) (x : T) → item_index T.eq s x ≡ None
+        → swap_without_item T.eq s x ≡ s }
 {}
 
 /// A removal of an element that is present makes the list shorter by one. Any other removal leaves its length.

@@ -1,6 +1,7 @@
 use Rattle.vecmap_laws.proofs.Queries.{same_text, text_respects}
+use Rattle.vecmap_laws.proofs.TextQueries.{same_texts}
 use Rattle.vecmap_laws.proofs.WriteLemmas.{texts_apart}
 use Rattle.vecmap_laws.proofs.lists.texts_are_queries.Goals as goal
 
 pub returns : goal.returns
-returns c = record { respects = text_respects; own = same_text; apart = texts_apart }
+returns c = record { respects = text_respects; own = same_text; apart = texts_apart; same = same_texts }

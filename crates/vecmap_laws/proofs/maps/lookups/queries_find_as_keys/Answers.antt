@@ -1,5 +1,5 @@
 use Rattle.vecmap_laws.proofs.ItemQueries.{tells_as}
-use Rattle.vecmap_laws.proofs.Queries.{lookup_put_other_query, lookup_put_query, lookup_without_query}
+use Rattle.vecmap_laws.proofs.Queries.{lookup_put_any_query, lookup_put_other_query, lookup_put_query, lookup_without_query}
 use Rattle.vecmap_laws.proofs.maps.lookups.queries_find_as_keys.Goals as goal
 
 pub returns : goal.returns
@@ -8,5 +8,6 @@ returns g c =
       same = tells_as eq laws;
       inserted = lookup_put_query eq laws;
       others = lookup_put_other_query eq laws;
+      lookups = lookup_put_any_query eq laws;
       removed = lookup_without_query eq laws;
     }

@@ -1,4 +1,4 @@
-use Rattle.vecmap_laws.proofs.AdditionQueries.{index_after_other, index_after_own}
+use Rattle.vecmap_laws.proofs.AdditionQueries.{index_after_any, index_after_other, index_after_own}
 use Rattle.vecmap_laws.proofs.ItemQueries.{tells_as, without_query_absent}
 use Rattle.vecmap_laws.proofs.sets.lookups.queries_find_as_elements.Goals as goal
 
@@ -8,5 +8,6 @@ returns g c =
       same = tells_as eq laws;
       inserted = λ test respects. index_after_own eq test laws respects;
       others = index_after_other eq;
+      indices = λ test respects. index_after_any eq test laws respects;
       removed = without_query_absent eq laws;
     }
