@@ -6,14 +6,13 @@ pub use Rattle.vecmap_base.specs.Clones
 pub use Rattle.vecmap_base.specs.Drain as Drains
 pub use Rattle.vecmap_base.specs.Equality
 pub use Rattle.vecmap_base.specs.Items
+pub use Rattle.vecmap_base.specs.Iterators
 pub use Rattle.vecmap_base.specs.Kept
-pub use Rattle.vecmap_base.specs.Lending
 pub use Rattle.vecmap_base.specs.Orders
 pub use Rattle.vecmap_base.specs.Pairs
 pub use Rattle.vecmap_base.specs.Ranges
 pub use Rattle.vecmap_base.specs.Repeats
 pub use Rattle.vecmap_base.specs.Updated
-pub use Rattle.vecmap_base.specs.Walks
 pub use Rattle.vecmap_map.specs.Contents
 pub use Rattle.vecmap_map.specs.Drain
 pub use Rattle.vecmap_map.specs.Entry

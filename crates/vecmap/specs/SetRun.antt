@@ -20,40 +20,41 @@ module _ {T : Type 0} where
   Makes (Err e) reply = reply ≡ NoMemory
 
 module _ {T : Type 0} (clones : clone.Ghosts T) where
+  -- Example: of no element: `Item` none, and never `NoMemory`.
   -- The reply is a clone of the element, if there is one. It is `NoMemory` only if the clone can fail.
-  -- Example: `Intersect [1,2]` on `[3,2,1]`: `Made [2,1]`.
-  abbrev pub ClonesItem : Option T → SetReply T → Type 0
-  ClonesItem item (Item copy) = IsCloneOf clones.is_clone item copy
-  ClonesItem item NoMemory = IsSomeAnd item (λ x. ¬ (clones.is_infallible x))
-  ClonesItem item _ = ⊥
+  abbrev pub RepliesItem : Option T → SetReply T → Type 0
+  RepliesItem item (Item copy) = IsCloneOf clones.is_clone item copy
+  RepliesItem item NoMemory = IsSomeAnd item (λ x. ¬ (clones.is_infallible x))
+  RepliesItem item _ = ⊥
 
   -- The reply is clones of all elements, or `NoMemory`.
-  abbrev pub ClonesItems : List T → SetReply T → Type 0
-  ClonesItems l (Items copies) = AreClones clones.is_clone l copies.items
-  ClonesItems l NoMemory = ⊤
-  ClonesItems l _ = ⊥
+  abbrev pub RepliesItems : List T → SetReply T → Type 0
+  RepliesItems l (Items copies) = AreClones clones.is_clone l copies.items
+  RepliesItems l NoMemory = ⊤
+  RepliesItems l _ = ⊥
 
 module _ {T : Type 0} (eq : T → T → Bool) (clones : clone.Ghosts T) where
+  -- Example: `Intersect [1,2]` on `[3,2,1]`: `Made [2,1]`.
   -- The reply is a set of clones of the list, or `NoMemory`.
   abbrev pub MakesSet : List T → SetReply T → Type 0
   MakesSet l (Made set) = AreClones clones.is_clone l set.elements × IsDistinct eq set.elements
   MakesSet l NoMemory = ⊤
   MakesSet l _ = ⊥
 
-  -- One command with this reply takes the list l to the list m. A command that reads, is out of range or is refused
-  -- leaves the list. Any other reply is impossible.
+  -- A command that reads, is out of range or runs out of memory leaves the list. Any other reply is impossible.
   -- Example: `Replace 1y` on `[1x]`: `Item 1x`, and `[1y]`.
+  -- One command with this reply turns the list l into the list m.
   abbrev pub ListStep : List T → SetCommand T → SetReply T → List T → Type 0
   ListStep l (Insert x) (Truth added) m = (added ≡ not (is_member eq l x)) × (m ≡ add eq l x)
   ListStep l (Insert x) NoMemory m = (is_member eq l x ≡ false) × (m ≡ l)
   ListStep l (Replace x) (Item old) m = (old ≡ stored_item eq l x) × (m ≡ put_item eq l x)
   ListStep l (Replace x) NoMemory m = (is_member eq l x ≡ false) × (m ≡ l)
-  ListStep l (Get x) reply m = ClonesItem clones (stored_item eq l x) reply × (m ≡ l)
-  ListStep l (GetIndex i) reply m = ClonesItem clones (slice_get l i) reply × (m ≡ l)
+  ListStep l (Get x) reply m = RepliesItem clones (stored_item eq l x) reply × (m ≡ l)
+  ListStep l (GetIndex i) reply m = RepliesItem clones (slice_get l i) reply × (m ≡ l)
   ListStep l (IndexOf x) (Place place) m = (place ≡ item_index eq l x) × (m ≡ l)
   ListStep l (Contains x) (Truth there) m = (there ≡ is_member eq l x) × (m ≡ l)
-  ListStep l First reply m = ClonesItem clones (slice_get l 0) reply × (m ≡ l)
-  ListStep l Last reply m = ClonesItem clones (slice_get l (length l - 1)) reply × (m ≡ l)
+  ListStep l First reply m = RepliesItem clones (slice_get l 0) reply × (m ≡ l)
+  ListStep l Last reply m = RepliesItem clones (slice_get l (length l - 1)) reply × (m ≡ l)
   ListStep l Len (Number count) m = (count ≡ length l) × (m ≡ l)
   ListStep l (Remove x) (Truth found) m = (found ≡ is_member eq l x) × (m ≡ without_item eq l x)
   ListStep l (Take x) (Item old) m = (old ≡ stored_item eq l x) × (m ≡ without_item eq l x)
@@ -74,7 +75,7 @@ module _ {T : Type 0} (eq : T → T → Bool) (clones : clone.Ghosts T) where
   ListStep l (SplitOff i) (Made rest) m = (i ≤ length l) × (rest.elements ≡ drop i l) × IsDistinct eq rest.elements × (m ≡ take i l)
   ListStep l (SplitOff i) OutOfRange m = (length l < i) × (m ≡ l)
   ListStep l (SplitOff i) NoMemory m = (i < length l) × (m ≡ l)
-  ListStep l ToVec reply m = ClonesItems clones l reply × (m ≡ l)
+  ListStep l ToVec reply m = RepliesItems clones l reply × (m ≡ l)
   ListStep l (Equals other) (Truth same) m = (same ≡ has_same_items eq l other.elements) × (m ≡ l)
   ListStep l (IsSubset other) (Truth within) m = (within ≡ is_within eq l other.elements) × (m ≡ l)
   ListStep l (IsSuperset other) (Truth within) m = (within ≡ is_within eq other.elements l) × (m ≡ l)
@@ -90,7 +91,7 @@ module _ {T : Type 0} (eq : T → T → Bool) (clones : clone.Ghosts T) where
   AddsInRoom x s NoMemory t = IsFull s × (t.capacity ≡ s.capacity)
   AddsInRoom x s reply t = KeepsRoom eq s x t
 
-  -- What becomes of the capacity: all commands but those that add keep it, and so does a refused command.
+  -- The capacity afterwards: only a command that adds can change it, and only if memory suffices.
   abbrev pub CapacityStep : Contents T → SetCommand T → SetReply T → Contents T → Type 0
   CapacityStep s (Insert x) reply t = AddsInRoom x s reply t
   CapacityStep s (Replace x) reply t = AddsInRoom x s reply t
@@ -98,19 +99,15 @@ module _ {T : Type 0} (eq : T → T → Bool) (clones : clone.Ghosts T) where
   CapacityStep s (Append other) reply t = (s.capacity ≤ t.capacity) × (HasRoom s (length other.elements) → t.capacity ≡ s.capacity)
   CapacityStep s command reply t = t.capacity ≡ s.capacity
 
-  -- One command with this reply takes the set s to the set t: the list and what becomes of the capacity.
+  -- One command with this reply turns the set s into the set t: the list and what becomes of the capacity.
   abbrev pub Effect : Contents T → SetCommand T → SetReply T → Contents T → Type 0
   Effect s command reply t = ListStep s.elements command reply t.elements × CapacityStep s command reply t
 
-  -- What becomes of the capacity, which is at least the number of elements.
-  abbrev pub RoomStep : Contents T → SetCommand T → SetReply T → Contents T → Type 0
-  RoomStep s command reply t = CapacityStep s command reply t × (length t.elements ≤ t.capacity)
-
-  -- One command with this reply takes the set s to the set t, whose elements fit its capacity.
+  -- One command with this reply turns the set s into the set t, whose elements fit its capacity.
   abbrev pub Step : Contents T → SetCommand T → SetReply T → Contents T → Type 0
-  Step s command reply t = ListStep s.elements command reply t.elements × RoomStep s command reply t
+  Step s command reply t = Effect s command reply t × (length t.elements ≤ t.capacity)
 
-  -- The same for a set, with its list and its capacity.
+  -- The commands, in order, turn the set s into the set t with these replies.
   abbrev pub Run : Contents T → List (SetCommand T) → List (SetReply T) → Contents T → Type 0
   Run s [] [] t = t ≡ s
   Run s (command ∷ commands) (reply ∷ replies) t =

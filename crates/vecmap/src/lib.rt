@@ -1,12 +1,11 @@
 //! Maps and sets that keep insertion order and compare by `==`, each over one vector: all that users name.
 //!
-//! A [`VecMap`] and a [`VecSet`] look their entries up by `==`, so keys need neither `Hash` nor `Ord`. They are meant
-//! for short lists whose order matters, such as headers, options and symbol tables. [`map`] and [`set`] list their
-//! calls.
+//! A [`VecMap`] and a [`VecSet`] find their entries by `==`, so keys need neither `Hash` nor `Ord`. They are meant for
+//! short lists whose order matters, such as headers, options and symbol tables. [`map`] and [`set`] list their calls.
 //!
 //! Each call is proved to do what its contract says. A call that can run out of memory returns a `Result`, and nothing
-//! panics or aborts. What must hold before a call is written under `# Conditions`. It is a `requires` of the contract:
-//! the proof of each caller shows that it holds, and nothing is checked when the program runs.
+//! panics or aborts. What must hold before a call is written under `# Preconditions`, and is a `requires` of the
+//! contract. The proof of each caller shows that it holds, so nothing is checked at run time.
 //!
 //! # Examples
 //!

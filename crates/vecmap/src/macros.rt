@@ -13,12 +13,16 @@ use std::alloc::AllocError;
 /// Creates a map of the given pairs, in order.
 ///
 /// The macro reserves capacity for all pairs, and then inserts each of them. `vecmap!(alloc; "a" => 1, "b" => 2)`
-/// creates a map of two pairs, and `vecmap!(alloc;)` an empty one. It is used in the body of a function, because it
-/// returns an error by `?`.
+/// creates a map of two pairs, and `vecmap!(alloc;)` an empty one. Use it in the body of a function that returns a
+/// `Result`: an error is returned by `?`.
 ///
 /// # Errors
 ///
-/// [`AllocError`] if the allocator refuses a request.
+/// [`AllocError`] if an allocation fails.
+///
+/// # Complexity
+///
+/// One lookup for each pair, so at most n(n-1)/2 comparisons for n pairs, and at most one allocation for the map.
 ///
 /// # Examples
 ///
@@ -39,12 +43,16 @@ macro_rules! vecmap {
 /// Creates a set of the given elements, in order.
 ///
 /// The macro reserves capacity for all elements, and then inserts each of them. `vecset!(alloc; 2, 1)` creates a set of
-/// two elements, and `vecset!(alloc;)` an empty one. It is used in the body of a function, because it returns an error
-/// by `?`.
+/// two elements, and `vecset!(alloc;)` an empty one. Use it in the body of a function that returns a `Result`: an error
+/// is returned by `?`.
 ///
 /// # Errors
 ///
-/// [`AllocError`] if the allocator refuses a request.
+/// [`AllocError`] if an allocation fails.
+///
+/// # Complexity
+///
+/// One lookup for each element, so at most n(n-1)/2 comparisons for n elements, and at most one allocation for the set.
 ///
 /// # Examples
 ///
@@ -62,12 +70,11 @@ macro_rules! vecset {
     }};
 }
 
-/// Like [`VecMap::insert`], with the same cost, but drops the previous value.
+/// Like [`VecMap::insert`], but drops the previous value.
 ///
 /// # Errors
 ///
-/// [`AllocError`] if the map is full and the allocator refuses to grow it. The pair is then dropped, and the map is
-/// unchanged.
+/// [`AllocError`] if the map is full and allocation fails. The pair is then dropped, and the map is unchanged.
 ///
 /// # Examples
 ///
@@ -89,12 +96,11 @@ pub fn put_pair<K: Eq + Drop, V: Drop>(
     Ok(())
 }
 
-/// Like [`VecSet::insert`], with the same cost, but does not return whether the element is new.
+/// Like [`VecSet::insert`], but does not return whether the element is new.
 ///
 /// # Errors
 ///
-/// [`AllocError`] if the set is full and the allocator refuses to grow it. The element is then dropped, and the set is
-/// unchanged.
+/// [`AllocError`] if the set is full and allocation fails. The element is then dropped, and the set is unchanged.
 ///
 /// # Examples
 ///

@@ -1,4 +1,4 @@
-//! The map, with the types that go with it.
+//! The map and its types.
 //!
 //! Each call has a comment, a contract and an example where it is defined. These are the calls by topic, with
 //! their files in `crates/vecmap_map/src`:
@@ -14,7 +14,7 @@
 //!   `sort_unstable_by` (`order.rt`)
 //! - binary searches: `binary_search_keys`, `binary_search_by`, `binary_search_by_key`, `partition_point` (`search.rt`)
 //! - lookups: `contains_key`, `first`, `last`, `get`, `get_index`, `get_full`, `get_key_value`, `get_index_of`,
-//!   `has_distinct_keys`, and those by a text, whose names end in `_str` (`lookup.rt`)
+//!   `has_distinct_keys`, and lookups by a text, whose names end in `_str` (`lookup.rt`)
 //! - lookups that return a mutable reference to a value: `get_mut`, `first_mut`, `last_mut`, `get_full_mut`,
 //!   `get_index_mut` (`lending.rt`); `map[index]`, `map[&key]`, `map["text"]` (`indexing.rt`)
 //! - calls that write each value: `update_values`, `try_update_values` (`updating.rt`)
@@ -24,8 +24,8 @@
 //!   `from_vec_unchecked`, `to_vec` (`conversion.rt`)
 //! - entries: `entry`, `Entry` (`entry.rt`), `OccupiedEntry` (`entry/occupied.rt`), `VacantEntry` (`entry/vacant.rt`)
 //! - iteration: `iter`, `iter_mut`, `keys`, `values`, `values_mut`, `into_keys`, `into_values`, loops (`iteration.rt`);
-//!   the iterators themselves (`iter/pairs.rt`, `iter/keys.rt`, `iter/values.rt` and `iter_mut.rt` of
-//!   `crates/vecmap_base/src`)
+//!   the iterators themselves (`iter/pairs.rt`, `iter/keys.rt`, `iter/values.rt` of `crates/vecmap_base/src`), and the
+//!   three types that they are (`iter/by_reference.rt`, `iter/by_mut.rt`, `iter/by_value.rt`)
 //! - mutable references to keys: `MutableKeys`, with `get_full_mut2`, `get_index_mut2`, `retain2`, `iter_mut2`,
 //!   `keys_mut`, `as_mut_slice` (`mutable_keys.rt`)
 //! - `==` (`equality.rt`), `Debug` (`formatting.rt`), the law that a map fits its capacity (`laws.rt`); the other laws

@@ -1,4 +1,4 @@
-//! The set, with the types that go with it.
+//! The set and its types.
 //!
 //! Each call has a comment, a contract and an example where it is defined. These are the calls by topic, with
 //! their files in `crates/vecmap_set/src`:
@@ -21,7 +21,8 @@
 //!   (`conversion.rt`)
 //! - two sets: `is_disjoint`, `is_subset`, `is_superset`, `==` (`equality.rt`); `difference`, `intersection`,
 //!   `symmetric_difference`, `union` (`lazy.rt`) with their iterators (`lazy/`); `&`, `|`, `^`, `-` (`operators.rt`)
-//! - iteration: `iter`, loops (`iteration.rt`); the iterators themselves (`crates/vecmap_base/src/iter/elements.rt`)
+//! - iteration: `iter`, loops (`iteration.rt`); the iterators themselves (`iter/elements.rt` of
+//!   `crates/vecmap_base/src`), and the two types that they are (`iter/by_reference.rt`, `iter/by_value.rt`)
 //! - `Debug` (`formatting.rt`), the law that a set fits its capacity (`laws.rt`); the other laws are in
 //!   `crates/vecmap_laws`
 pub use vecmap_base::items::{IntoIter, Iter};

@@ -16,15 +16,15 @@ use vecmap_set::VecSet;
 
 /// Runs the commands in order, and returns one reply for each.
 ///
-/// Capacity for the replies is reserved first. A command that is out of range, or for which the allocator refuses a
-/// request, changes nothing. What it carried is dropped, and the run continues.
+/// Capacity for the replies is reserved first. A command that is out of range, or for which memory runs out, changes
+/// nothing. What it carried is dropped, and the run continues.
 ///
 /// # Errors
 ///
-/// [`AllocError`] if the allocator refuses the capacity for the replies; no command has then run, and the set is
+/// [`AllocError`] if the capacity for the replies cannot be allocated; no command has then run, and the set is
 /// unchanged.
 ///
-/// # Conditions
+/// # Preconditions
 ///
 /// A clone of an element is equal to it.
 ///

@@ -4,7 +4,7 @@ use vecmap_map::VecMap;
 /// A command for [`run`](crate::run): one call on a map.
 ///
 /// Each command names its call and its reply. Instead, the reply is `OutOfRange` if an index is out of range, or
-/// `NoMemory` if the allocator refuses a request.
+/// `NoMemory` if memory runs out.
 #[derive(Debug, Drop)]
 #[derive_where(PartialEq, Eq; K: Eq, V: Eq)]
 pub enum MapCommand<K, V> {

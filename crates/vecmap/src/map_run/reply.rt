@@ -20,7 +20,7 @@ pub enum MapReply<K, V> {
     Pair(Option<(K, V)>),
     /// The index of a key, if it is present.
     Place(Option<usize>),
-    /// Whether the answer is yes.
+    /// The `bool` that the call returns.
     Truth(bool),
     /// The number of pairs.
     Number(usize),
@@ -32,6 +32,6 @@ pub enum MapReply<K, V> {
     Pairs(Vec<(K, V)>),
     /// An index is out of range, and nothing has changed.
     OutOfRange,
-    /// The allocator refused a request, and nothing has changed.
+    /// Memory ran out, and nothing has changed.
     NoMemory,
 }

@@ -22,7 +22,7 @@ pub(crate) fn step<K: Eq + Clone, V: Eq + Clone>(
     reply
 }
 
-// Runs one command; the contract says what becomes of the list and of the capacity.
+// Runs one command. The contract says how the list and the capacity change.
 fn execute<K: Eq + Clone, V: Eq + Clone>(
     map: &mut VecMap<K, V>,
     command: MapCommand<K, V>,

@@ -4,7 +4,7 @@ use vecmap_set::VecSet;
 /// A command for [`run_set`](crate::run_set): one call on a set.
 ///
 /// Each command names its call and its reply. Instead, the reply is `OutOfRange` if an index is out of range, or
-/// `NoMemory` if the allocator refuses a request.
+/// `NoMemory` if memory runs out.
 #[derive(Debug, Drop)]
 #[derive_where(PartialEq, Eq; T: Eq)]
 pub enum SetCommand<T: Eq> {

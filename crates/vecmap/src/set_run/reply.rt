@@ -8,7 +8,7 @@ use vecmap_set::VecSet;
 #[derive(Debug, Drop)]
 #[derive_where(PartialEq, Eq; T: Eq)]
 pub enum SetReply<T: Eq> {
-    /// Whether the answer is yes.
+    /// The `bool` that the call returns.
     Truth(bool),
     /// An element, if there is one.
     Item(Option<T>),
@@ -24,6 +24,6 @@ pub enum SetReply<T: Eq> {
     Items(Vec<T>),
     /// An index is out of range, and nothing has changed.
     OutOfRange,
-    /// The allocator refused a request, and nothing has changed.
+    /// Memory ran out, and nothing has changed.
     NoMemory,
 }

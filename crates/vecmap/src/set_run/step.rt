@@ -21,7 +21,7 @@ pub(crate) fn step<T: Eq + Clone>(set: &mut VecSet<T>, command: SetCommand<T>) -
     reply
 }
 
-// Runs one command; the contract says what becomes of the list and of the capacity.
+// Runs one command. The contract says how the list and the capacity change.
 fn execute<T: Eq + Clone>(set: &mut VecSet<T>, command: SetCommand<T>) -> SetReply<T>
     requires clones_equal { ClonesAreEqual T.eq T.is_clone }
     ensures { Effect T.eq T.Clone set.old command result set.new }

@@ -1,14 +1,14 @@
 //! Commands that read, whose replies are clones.
 ghost use Rattle.std.specs.Prelude.{IfOk, OnErr, option_copied, option_map};
 ghost use Rattle.std.specs.Map.Iter.{deref_pair};
-ghost use Rattle.vecmap.specs.MapRun.{ClonesPair, ClonesPairs, ClonesValue};
+ghost use Rattle.vecmap.specs.MapRun.{RepliesPair, RepliesPairs, RepliesValue};
 
 use super::MapReply;
 use std::alloc::AllocError;
 use vecmap_map::VecMap;
 
 pub(crate) fn clone_value<K, V: Clone>(value: Option<&V>) -> MapReply<K, V>
-    ensures { ClonesValue V.Clone (option_copied value.entry) result }
+    ensures { RepliesValue V.Clone (option_copied value.entry) result }
 {
     match value {
         None => MapReply::Value(None),
@@ -20,7 +20,7 @@ pub(crate) fn clone_value<K, V: Clone>(value: Option<&V>) -> MapReply<K, V>
 }
 
 pub(crate) fn clone_pair<K: Clone, V: Clone>(pair: Option<(&K, &V)>) -> MapReply<K, V>
-    ensures { ClonesPair K.Clone V.Clone (option_map deref_pair pair.entry) result }
+    ensures { RepliesPair K.Clone V.Clone (option_map deref_pair pair.entry) result }
 {
     match pair {
         None => MapReply::Pair(None),
@@ -40,7 +40,7 @@ fn pair_clone<K: Clone, V: Clone>(key: &K, value: &V) -> Result<(K, V), AllocErr
 }
 
 pub(crate) fn clone_all<K: Clone, V: Clone>(map: &VecMap<K, V>) -> MapReply<K, V>
-    ensures { ClonesPairs K.Clone V.Clone map.now.entries result }
+    ensures { RepliesPairs K.Clone V.Clone map.now.entries result }
 {
     match map.to_vec() {
         Ok(copies) => MapReply::Pairs(copies),

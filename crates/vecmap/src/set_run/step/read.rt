@@ -1,12 +1,12 @@
 //! Commands that read, whose replies are clones.
 ghost use Rattle.std.specs.Prelude.{option_copied};
-ghost use Rattle.vecmap.specs.SetRun.{ClonesItem, ClonesItems};
+ghost use Rattle.vecmap.specs.SetRun.{RepliesItem, RepliesItems};
 
 use super::SetReply;
 use vecmap_set::VecSet;
 
 pub(crate) fn clone_item<T: Eq + Clone>(item: Option<&T>) -> SetReply<T>
-    ensures { ClonesItem T.Clone (option_copied item.entry) result }
+    ensures { RepliesItem T.Clone (option_copied item.entry) result }
 {
     match item {
         None => SetReply::Item(None),
@@ -18,7 +18,7 @@ pub(crate) fn clone_item<T: Eq + Clone>(item: Option<&T>) -> SetReply<T>
 }
 
 pub(crate) fn clone_all<T: Eq + Clone>(set: &VecSet<T>) -> SetReply<T>
-    ensures { ClonesItems T.Clone set.now.elements result }
+    ensures { RepliesItems T.Clone set.now.elements result }
 {
     match set.to_vec() {
         Ok(copies) => SetReply::Items(copies),
