@@ -12,7 +12,7 @@ module _ {A : Type 0} where
   abbrev pub id_of : List (String A) → List ℕ → Option ℕ
   id_of texts text = position (has_text text) texts
 
-  -- The texts, as bytes, once another text is interned: it is appended, unless it has an id.
   -- Example: `to` and `be`, and then `to`: `to` and `be`.
+  -- The texts, as bytes, once another text is interned: it is appended, unless it has an id.
   abbrev pub with_text : List (String A) → List ℕ → List (List ℕ)
   with_text texts text = option_map_or (λ id. map string_bytes texts) (id_of texts text) (map string_bytes texts ++ text ∷ [])

@@ -1,4 +1,16 @@
 //! Callers that insert, collect or move many pairs or elements at once.
+//!
+//! ```
+//! let mut map = collected_map(alloc, vec![in alloc; (1, 2), (3, 4), (1, 5)]?)?;
+//! put_all(&mut map, vec![in alloc; (3, 6), (7, 8)]?)?;
+//! map.as_slice() // [(1, 5), (3, 6), (7, 8)]
+//! let mut set = collected_set(alloc, vec![in alloc; 1, 2, 1]?)?;
+//! add_all(&mut set, vec![in alloc; 3, 2]?)?;
+//! let (mut next, mut last) = (vecset!(alloc; 3, 4), vecset!(alloc; 5));
+//! join(&mut set, &mut next, &mut last)?;
+//! set.as_slice() // [1, 2, 3, 4, 5]
+//! next.len() + last.len() // 0
+//! ```
 ghost use Rattle.std.specs.Prelude.{◌≡◌, ◌⊎◌, ℕ, [], IfOk, OnErr, OnOk, nat_eq, take};
 ghost use Rattle.vecmap.specs.Items.{adds};
 ghost use Rattle.vecmap.specs.Pairs.{puts};
@@ -24,7 +36,7 @@ pub fn collected_set(alloc: Global, items: Vec<u32>) -> Result<VecSet<u32>, Allo
 ///
 /// # Errors
 ///
-/// [`AllocError`] if the allocator refuses a request. The map then has the insertions of the first pairs, or of none.
+/// [`AllocError`] if allocation fails. The map then has the insertions of the first pairs, or of none.
 pub fn put_all(map: &mut VecMap<u32, u32>, pairs: Vec<(u32, u32)>) -> Result<(), AllocError>
     ensures entries { OnOk result (map.new.entries ≡ puts nat_eq map.old.entries pairs.items) }
     ensures err { OnErr result ((n : ℕ)
@@ -37,7 +49,7 @@ pub fn put_all(map: &mut VecMap<u32, u32>, pairs: Vec<(u32, u32)>) -> Result<(),
 ///
 /// # Errors
 ///
-/// [`AllocError`] if the allocator refuses a request. The set then has the additions of the first elements, or of none.
+/// [`AllocError`] if allocation fails. The set then has the additions of the first elements, or of none.
 pub fn add_all(set: &mut VecSet<u32>, items: Vec<u32>) -> Result<(), AllocError>
     ensures elements { OnOk result (set.new.elements ≡ adds nat_eq set.old.elements items.items) }
     ensures err { OnErr result ((n : ℕ)
@@ -50,8 +62,8 @@ pub fn add_all(set: &mut VecSet<u32>, items: Vec<u32>) -> Result<(), AllocError>
 ///
 /// # Errors
 ///
-/// [`AllocError`] if the allocator refuses a request. If that for `next` is refused, all three sets are unchanged. If
-/// that for `last` is refused, `last` is unchanged, and the elements of `next` are in `set`.
+/// [`AllocError`] if allocation fails. If that for `next` fails, all three sets are unchanged. If
+/// that for `last` fails, `last` is unchanged, and the elements of `next` are in `set`.
 pub fn join(
     set: &mut VecSet<u32>,
     next: &mut VecSet<u32>,

@@ -1,5 +1,11 @@
 //! Callers of loops over a map or a set that is moved, which `?`, `return` or `break` may end early. What is left of it
 //! is then dropped.
+//!
+//! ```
+//! sum_of_values(vecmap!(alloc; String::from_str(alloc, "a")? => 1, String::from_str(alloc, "b")? => 2)) // Some(3)
+//! sum_of_elements(vecset!(alloc; 1, u32::MAX)) // None
+//! first_key(vecmap!(alloc; 7 => String::from_str(alloc, "a")?)) // Some(7)
+//! ```
 ghost use Rattle.std.specs.Prelude.{◌≡◌, ◌≤◌, ◌^◌, IfSome, None, slice_get, sum};
 ghost use Rattle.std.specs.Map.{keys_of, values_of};
 

@@ -1,5 +1,22 @@
 //! Callers of the entries of a map, proved from the contracts of these calls alone. Each contract says what the map
 //! holds afterwards.
+//!
+//! ```
+//! let mut map = vecmap!(alloc; 'a' => 1u64);
+//! count_word(&mut map, 'a')?;
+//! count_word(&mut map, 'b')?;
+//! modify_or_insert(&mut map, 'c')?;
+//! toggle(&mut map, 'd')?;
+//! write_if_there(&mut map, 'b', 5);
+//! put_entry(&mut map, 'e')? // (4, 'e')
+//! take(&mut map, 'a') // Some(('a', 2))
+//! map.as_slice() // [('e', 9), ('b', 5), ('c', 42), ('d', 3)]
+//! let mut numbers = vecmap!(alloc; 6 => 1);
+//! (half_of(&mut numbers, 8)?, put_and_remove(&mut numbers, 8)?) // (4, 9)
+//! put_quotient(&mut numbers, 9, 3).is_ok() // true
+//! numbers.as_slice() // [(6, 1), (9, 3)]
+//! or_empty(&mut VecMap::new(alloc), 'a')? // 0
+//! ```
 ghost use Rattle.std.specs.Prelude.{◌≡◌, ◌+◌, ◌++◌, ◌<◌, ◌≤◌, ◌/◌, ◌^◌, ◌∷◌, IfErr, IfOk, IfSome, IsSome, None, OnErr, OnOk, Some, [], length, nat_eq, unwrap_or};
 ghost use Rattle.std.specs.Option.{option_map_or};
 ghost use Rattle.vecmap.specs.Contents.{KeepsRoom, Refuses, with_value_of};

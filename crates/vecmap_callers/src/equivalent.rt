@@ -1,4 +1,15 @@
 //! Callers of lookups and removals by a query: by keys, texts, slices, and a query type of their own.
+//!
+//! ```
+//! let mut map = VecMap::new(alloc);
+//! put_text(alloc, &mut map, "port", 80)?;
+//! put_text(alloc, &mut map, "host", 1)?;
+//! port(&map) // 80
+//! forget_text(&mut map, "host");
+//! value_by(&map, "host") // None
+//! let named = vecmap!(alloc; Name::new(String::from_str(alloc, "Accept")?) => 3);
+//! value_of_name(&named, "ACCEPT") // Some(3)
+//! ```
 ghost use Rattle.std.specs.Prelude.{◌≡◌, ℕ, IsSome, List, None, OnErr, OnOk, Some, bytes_eq, codes, false, nat_eq, string_bytes, string_eq};
 ghost use Rattle.std.specs.Cmp.{on_equiv, partial_equiv_from_equiv};
 ghost use Rattle.std.specs.Cmp.Lexicographic.{nat_list_eq_equiv, pointwise};
@@ -57,7 +68,7 @@ pub fn forget_text(map: &mut VecMap<String, u32>, text: &str)
 
 /// Returns the value of the text `port`.
 ///
-/// # Conditions
+/// # Preconditions
 ///
 /// The text `port` is present.
 pub fn port(map: &VecMap<String, u32>) -> u32

@@ -2,6 +2,16 @@
 //!
 //! After `Accept: a`, `Host: b` and `ACCEPT: c` are appended, `accept` has the values `a` and `c`, and `Host` has `b`.
 //! After `host` is set to `d`, it has this value alone.
+//!
+//! ```
+//! # use vecmap_callers::equivalent::Name;
+//! let mut headers = HeaderList::new(alloc);
+//! headers.append(Name::new(String::from_str(alloc, "Accept")?), String::from_str(alloc, "a")?)?;
+//! headers.set(Name::new(String::from_str(alloc, "Host")?), String::from_str(alloc, "b")?)?;
+//! headers.append(Name::new(String::from_str(alloc, "ACCEPT")?), String::from_str(alloc, "c")?)?;
+//! (headers.get("accept"), headers.get_all("accept").len()) // (Some("a"), 2)
+//! headers.remove("host").is_some() // true
+//! ```
 ghost use Rattle.std.specs.Prelude.{◌≡◌, ◌++◌, ◌∷◌, ℕ, List, None, OnErr, OnOk, [], false, option_map, slice_get, string_bytes, unwrap_or};
 ghost use Rattle.std.specs.Map.{keys_of};
 ghost use Rattle.std.specs.Str.{str_eq_ignore_ascii_case};
@@ -82,11 +92,11 @@ impl HeaderList {
         }
     }
 
-    /// Appends a value to those of a name. A new name is appended, with this value.
+    /// Appends a value to the values of a name. A new name is appended, with this value.
     ///
     /// # Errors
     ///
-    /// [`AllocError`] if the allocator refuses the request. Each name then has the values that it had.
+    /// [`AllocError`] if allocation fails. Each name then has the values that it had.
     ///
     /// # Complexity
     ///
@@ -117,7 +127,7 @@ impl HeaderList {
     ///
     /// # Errors
     ///
-    /// [`AllocError`] if the allocator refuses the request; the list is then unchanged.
+    /// [`AllocError`] if allocation fails; the list is then unchanged.
     ///
     /// # Complexity
     ///

@@ -1,5 +1,15 @@
 //! Callers of iterators: loops, chains, and calls of `next` and `next_back`.
-ghost use Rattle.std.specs.Prelude.{◌≡◌, ◌/◌, ◌<◌, ◌^◌, ◌∷◌, ℕ, IfOk, [], count_by, length, map, nat_eq, reverse, slice_get, sum};
+//!
+//! ```
+//! let map = vecmap!(alloc; 1u64 => 3u32, 2 => 6, 4 => 6);
+//! keys_reversed(alloc, &map)?.as_slice() // [4, 2, 1]
+//! pull_keys(&map);
+//! pairs_taken(alloc, map.clone()?)?.as_slice() // [(1, 3), (2, 6), (4, 6)]
+//! values_taken(alloc, map.clone()?)?.as_slice() // [6, 6, 3]
+//! elements_reversed(alloc, &vecset!(alloc; 1, 2))?.as_slice() // [2, 1]
+//! (count_of_value(&map, 6), total_by_value(map)) // (2, 15)
+//! ```
+ghost use Rattle.std.specs.Prelude.{◌≡◌, ◌<◌, ◌^◌, ◌∷◌, ℕ, IfOk, [], count_by, length, nat_eq, reverse, slice_get, sum};
 ghost use Rattle.std.specs.List.{All};
 ghost use Rattle.std.specs.Map.{keys_of, values_of};
 
@@ -30,14 +40,6 @@ pub fn keys_reversed(alloc: Global, map: &VecMap<u64, u32>) -> Result<Vec<u64>, 
     ensures { IfOk result (λ keys. keys.items ≡ reverse (keys_of map.now.entries)) }
 {
     map.keys().rev().copied().collect(alloc)
-}
-
-/// Returns a third of each value.
-pub fn thirds(alloc: Global, table: &VecMap<u64, u32>) -> Result<Vec<u32>, AllocError>
-    ensures { IfOk result (λ thirds. thirds.items
-        ≡ map (λ v. v / 3) (values_of table.now.entries)) }
-{
-    table.values().map(|value| *value / 3).collect(alloc)
 }
 
 /// Returns the pairs, by value.
@@ -73,7 +75,7 @@ pub fn pull_keys(map: &VecMap<u64, u32>)
     prove!(back.is_none());
 }
 
-/// Adds one to each value. The value that the loop yields is the one that the map held when the loop began.
+/// Adds one to each value. The loop yields the value that the map held when the loop began.
 pub fn add_one(map: &mut VecMap<u64, u32>)
     requires { All (λ v. v < 100) (values_of map.old.entries) }
     ensures len { length map.new.entries ≡ length map.old.entries }

@@ -1,4 +1,12 @@
 //! Callers of the lazy set iterators.
+//!
+//! ```
+//! let (a, b) = (vecset!(alloc; 1u32, 2, 3), vecset!(alloc; 3u32, 4));
+//! difference_of(alloc, &a, &b)?.as_slice() // [1, 2]
+//! union_in_reverse(alloc, &a, &b)?.as_slice() // [4, 3, 2, 1]
+//! (sum_of_difference(&a, &b), sum_of_union(&a, &b), count_all(&a, &b)) // (3, 10, 4)
+//! (first_lacking(&a, &b), share_nothing(&a, &b), count_at_least(&a, &b)) // (Some(1), false, 3)
+//! ```
 ghost use Rattle.std.specs.Prelude.{◌≡◌, ◌<◌, ◌^◌, ◌↔◌, IfOk, IsTrue, [], length, nat_eq, reverse, slice_get, sum};
 ghost use Rattle.vecmap.specs.Items.{both, only};
 ghost use Rattle.vecmap.specs.Lazy.{longer};

@@ -1,4 +1,13 @@
 //! Callers of the calls that return a `&mut` reference to a value, proved from the contracts of these calls alone.
+//!
+//! ```
+//! let mut map = vecmap!(alloc; 1 => 10, 2 => 20);
+//! write_if_there(&mut map, &1, 11) // true
+//! write_there(&mut map, &2, 22);
+//! write_at(&mut map, 0, 12);
+//! read_at(&mut map, 1) // Some(22)
+//! map.as_slice() // [(1, 12), (2, 22)]
+//! ```
 ghost use Rattle.std.specs.Prelude.{◌≡◌, ◌<◌, IsSome, is_some, length};
 ghost use Rattle.vecmap.specs.Contents.{with_value_at, with_value_of};
 ghost use Rattle.vecmap.specs.Pairs.{index_of, value_at};
@@ -21,7 +30,7 @@ pub fn write_if_there<K: Eq>(map: &mut VecMap<K, u32>, key: &K, value: u32) -> b
 
 /// Writes the value of a key.
 ///
-/// # Conditions
+/// # Preconditions
 ///
 /// The key is present.
 pub fn write_there<K: Eq>(map: &mut VecMap<K, u32>, key: &K, value: u32)
@@ -33,7 +42,7 @@ pub fn write_there<K: Eq>(map: &mut VecMap<K, u32>, key: &K, value: u32)
 
 /// Writes the value at an index.
 ///
-/// # Conditions
+/// # Preconditions
 ///
 /// The index is less than the length.
 pub fn write_at<K>(map: &mut VecMap<K, u32>, index: usize, value: u32)

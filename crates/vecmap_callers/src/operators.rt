@@ -1,4 +1,11 @@
 //! Callers of the operators on sets.
+//!
+//! ```
+//! let (a, b, c) = (vecset!(alloc; 1u32, 2, 3), vecset!(alloc; 2u32), vecset!(alloc; 3u32, 2));
+//! shared(&a, &c)?.as_slice() // [2, 3]
+//! without_both(&a, &b, &c)?.as_slice() // [1]
+//! apart_within(&a, &b, &c)?.as_slice() // [3]
+//! ```
 ghost use Rattle.std.specs.Prelude.{◌≡◌, IfOk, nat_eq};
 ghost use Rattle.vecmap.specs.Items.{both, only};
 ghost use Rattle.vecmap.specs.Operators.{ClonesStaySame, MakesClones, symmetric_difference_of, union_of};

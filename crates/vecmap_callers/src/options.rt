@@ -2,6 +2,19 @@
 //!
 //! With the defaults `port = 80` and `depth = 3` and the override `port = 8080`, `port` is 8080 and `depth` is 3. After
 //! `port` is reset, it is 80 again.
+//!
+//! ```
+//! let mut options = Options::new(alloc);
+//! options.set_default("port", 80)?;
+//! options.set("port", 8080)?;
+//! let mut more = Options::new(alloc);
+//! more.set("depth", 4)?;
+//! options.overlay(&mut more)?;
+//! (options.get("port"), options.get("depth")) // (Some(&8080), Some(&4))
+//! options.reset(&"port");
+//! options.settle()?;
+//! options.defaults() // [("port", 80), ("depth", 4)]
+//! ```
 ghost use Rattle.std.specs.Prelude.{◌≡◌, IfErr, None, OnErr, OnOk, Some, [], false, if◌then◌else◌, option_copied};
 ghost use Rattle.std.specs.Option.{option_or};
 ghost use Rattle.vecmap.specs.Pairs.{lookup, lookup_by, put, puts, without_key};
@@ -78,7 +91,7 @@ impl<K: Eq + Drop, V: Drop> Options<K, V> {
     ///
     /// # Errors
     ///
-    /// [`Refused`] returns the name and the value if the defaults are full and the allocator refuses to grow them; the
+    /// [`Refused`] returns the name and the value if the defaults are full and their allocation fails; the
     /// options are then unchanged.
     ///
     /// # Complexity
@@ -105,7 +118,7 @@ impl<K: Eq + Drop, V: Drop> Options<K, V> {
     ///
     /// # Errors
     ///
-    /// [`Refused`] returns the name and the value if the overrides are full and the allocator refuses to grow them; the
+    /// [`Refused`] returns the name and the value if the overrides are full and their allocation fails; the
     /// options are then unchanged.
     ///
     /// # Complexity
@@ -152,7 +165,7 @@ impl<K: Eq + Drop, V: Drop> Options<K, V> {
     ///
     /// # Errors
     ///
-    /// [`AllocError`] if the allocator refuses the request; both are then unchanged.
+    /// [`AllocError`] if allocation fails; both are then unchanged.
     ///
     /// # Complexity
     ///
@@ -180,7 +193,7 @@ impl<K: Eq + Drop, V: Drop> Options<K, V> {
     ///
     /// # Errors
     ///
-    /// [`AllocError`] if the allocator refuses the request; the options are then unchanged.
+    /// [`AllocError`] if allocation fails; the options are then unchanged.
     ///
     /// # Complexity
     ///

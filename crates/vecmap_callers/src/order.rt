@@ -1,4 +1,12 @@
 //! Callers of sorts, and of an exchange.
+//!
+//! ```
+//! let mut map = vecmap!(alloc; 'a' => 2, 'b' => 1, 'c' => 2);
+//! sort_by_value(&mut map)?;
+//! exchange_ends(&mut map);
+//! sort_by_cached_value(&mut map)?;
+//! map.as_slice() // [('b', 1), ('c', 2), ('a', 2)]
+//! ```
 ghost use Rattle.std.specs.Prelude.{◌-◌, ◌<◌, ◌≡◌, OnErr, OnOk, length, nat_eq, swap};
 ghost use Rattle.std.specs.List.{IsDistinct};
 ghost use Rattle.std.specs.List.Sorted.{IsNonDecreasing, IsPermutation, IsSortedByKey, IsStableByKey};
@@ -41,7 +49,7 @@ pub fn sort_numbers(set: &mut VecSet<u32>)
 
 /// Exchanges the first and the last pair of a map.
 ///
-/// # Conditions
+/// # Preconditions
 ///
 /// The map is not empty.
 pub fn exchange_ends<K>(map: &mut VecMap<K, u32>)

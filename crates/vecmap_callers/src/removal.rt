@@ -1,5 +1,15 @@
 //! Callers of removals.
-ghost use Rattle.std.specs.Prelude.{◌%◌, ◌≡◌, ◌≤◌, OnErr, OnOk, drop, filter, length, nat_eq, nat_lt, take};
+//!
+//! ```
+//! let mut map = vecmap!(alloc; 1 => 1, 2 => 9, 3 => 4, 4 => 6);
+//! keep_below(&mut map, 8);
+//! split_and_append(&mut map, 1)?;
+//! map.as_slice() // [(1, 1), (3, 4), (4, 6)]
+//! keep_first(&mut map, 2);
+//! drop_front(&mut map, 1);
+//! map.as_slice() // [(3, 4)]
+//! ```
+ghost use Rattle.std.specs.Prelude.{◌≡◌, ◌≤◌, OnErr, OnOk, drop, filter, length, nat_lt, take};
 ghost use Rattle.std.specs.List.{IsDistinct};
 ghost use Rattle.vecmap.specs.Items.{without_item};
 ghost use Rattle.vecmap.specs.Pairs.{HasDistinctKeys};
@@ -15,14 +25,6 @@ pub fn without<T: Eq + Drop>(set: &mut VecSet<T>, item: &T)
     ensures distinct { IsDistinct T.eq set.new.elements }
 {
     set.remove(item);
-}
-
-/// Keeps the pairs with an even value.
-pub fn keep_even(map: &mut VecMap<u32, u32>)
-    ensures entries { map.new.entries ≡ filter (λ p. nat_eq (p.1 % 2) 0) map.old.entries }
-    ensures capacity { map.new.capacity ≡ map.old.capacity }
-{
-    map.retain(|_key, value| *value % 2 == 0);
 }
 
 /// Keeps the pairs whose values are below a limit, which the closure captures.
@@ -61,7 +63,7 @@ pub fn drop_front(map: &mut VecMap<u32, u32>, count: usize)
 ///
 /// # Errors
 ///
-/// [`AllocError`] if the allocator refuses to split the map; the map is then unchanged.
+/// [`AllocError`] if the allocation of the split fails; the map is then unchanged.
 pub fn split_and_append(map: &mut VecMap<u32, u32>, at: usize) -> Result<(), AllocError>
     requires within { at ≤ length map.old.entries }
     requires distinct { HasDistinctKeys ⟦<u32 as PartialEq>⟧.eq map.old.entries }

@@ -1,6 +1,17 @@
 //! A symbol table: names that are defined in nested scopes, where an inner scope may hide the names of the outer ones.
 //!
 //! If `x` is 1, and 3 in a scope that is then entered, it means 3 until that scope is left, and then 1 again.
+//!
+//! ```
+//! let mut table = Scopes::new(alloc)?;
+//! table.define('x', 1)?;
+//! resolved_within(&mut table, alloc, 'x', 2, &'x')? // Some(2)
+//! table.enter(alloc)?;
+//! table.define('x', 3)?;
+//! table.resolve(&'x') // Some(&3)
+//! table.leave() // true
+//! table.resolve(&'x') // Some(&1)
+//! ```
 ghost use Rattle.std.specs.Prelude.{◌≡◌, ◌+◌, ◌<◌, IfErr, IfOk, IsTrue, List, None, OnErr, OnOk, Some, false, if◌then◌else◌, length, option_copied};
 ghost use Rattle.vecmap.specs.Contents.{Contents};
 ghost use Rattle.vecmap_callers.specs.Scopes.{outer, resolved};
@@ -33,7 +44,7 @@ impl<K: Eq + Drop, V: Drop> Scopes<K, V> {
     ///
     /// # Errors
     ///
-    /// [`AllocError`] if the allocator refuses the request.
+    /// [`AllocError`] if allocation fails.
     pub fn new(alloc: Global) -> Result<Scopes<K, V>, AllocError>
         ensures undefined { IfOk result (λ table. (name : K) → resolved K.eq table name ≡ None) }
         ensures depth { IfOk result (λ table. length table ≡ 1) }
@@ -47,7 +58,7 @@ impl<K: Eq + Drop, V: Drop> Scopes<K, V> {
     ///
     /// # Errors
     ///
-    /// [`AllocError`] if the allocator refuses the request; the table is then unchanged.
+    /// [`AllocError`] if allocation fails; the table is then unchanged.
     pub fn enter(&mut self, alloc: Global) -> Result<(), AllocError>
         ensures outer_scopes { OnOk result (outer self.new ≡ self.old) }
         ensures depth { OnOk result (length self.new ≡ length self.old + 1) }
@@ -81,7 +92,7 @@ impl<K: Eq + Drop, V: Drop> Scopes<K, V> {
     ///
     /// # Errors
     ///
-    /// [`Refused`] returns the name and the value if the scope is full and the allocator refuses to grow it; the table
+    /// [`Refused`] returns the name and the value if the scope is full and its allocation fails; the table
     /// is then unchanged.
     ///
     /// # Complexity

@@ -1,4 +1,12 @@
 //! Callers of binary searches.
+//!
+//! ```
+//! index_among_keys(&mut vecmap!(alloc; 3 => 'a', 1 => 'b'), 2) // Err(1)
+//! let places = vecmap!(alloc; 'a' => 0usize, 'b' => 2);
+//! search_by_rank(&places, &[5, 6, 7], 7) // Ok(1)
+//! count_ranks_below(&places, &[5, 6, 7], 7) // 1
+//! count_below(&vecset!(alloc; 1, 2, 5), 3) // 2
+//! ```
 ghost use Rattle.std.specs.Prelude.{◌≡◌, ◌<◌, ◌≤◌, IfErr, false, get_or, length, nat_lt, true};
 ghost use Rattle.std.specs.List.{All};
 ghost use Rattle.std.specs.List.Sorted.{IsBinarySearchResult, IsPartitionPoint, IsPartitionedBy, IsPermutation, IsSortedByKey};
@@ -30,7 +38,7 @@ pub fn index_among_keys(map: &mut VecMap<u32, char>, key: u32) -> Result<usize, 
 
 /// Returns how many numbers are below a limit.
 ///
-/// # Conditions
+/// # Preconditions
 ///
 /// The numbers below the limit come first.
 pub fn count_below(set: &VecSet<u32>, limit: u32) -> usize
@@ -53,7 +61,7 @@ pub fn search_by_rank(map: &VecMap<char, usize>, ranks: &[u32], rank: u32) -> Re
 
 /// Returns how many values have a rank below a limit.
 ///
-/// # Conditions
+/// # Preconditions
 ///
 /// The values whose rank is below the limit come first.
 pub fn count_ranks_below(map: &VecMap<char, usize>, ranks: &[u32], limit: u32) -> usize
@@ -64,19 +72,4 @@ pub fn count_ranks_below(map: &VecMap<char, usize>, ranks: &[u32], limit: u32) -
         (λ p. nat_lt (get_or ranks.now p.1 0) limit ≡ false) map.now.entries result }
 {
     map.partition_point(|_, place| ranks[*place] < limit)
-}
-
-/// Returns how many elements have a rank below a limit.
-///
-/// # Conditions
-///
-/// The elements whose rank is below the limit come first.
-pub fn count_item_ranks_below(set: &VecSet<usize>, ranks: &[u32], limit: u32) -> usize
-    requires within { All (λ x. x < length ranks.now) set.now.elements }
-    requires sorted { IsPartitionedBy (λ x. nat_lt (get_or ranks.now x 0) limit) set.now.elements }
-    ensures within { result ≤ length set.now.elements }
-    ensures index { IsPartitionPoint (λ x. nat_lt (get_or ranks.now x 0) limit ≡ true)
-        (λ x. nat_lt (get_or ranks.now x 0) limit ≡ false) set.now.elements result }
-{
-    set.partition_point(|place| ranks[*place] < limit)
 }

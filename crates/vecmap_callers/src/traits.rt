@@ -1,4 +1,17 @@
 //! Callers that use maps and sets through the traits `Clone` and `Extend`.
+//!
+//! ```
+//! let map = all_pairs(alloc, vec![in alloc; Ok((1, 2)), Ok((1, 3))]?)?;
+//! map.as_slice() // [(1, 3)]
+//! let (mut below, rest) = parted(alloc, vec![in alloc; (1, 2), (5, 6)]?, 4)?;
+//! put_into_map(&mut below, vec![in alloc; (3, 4)]?)?;
+//! (below.as_slice(), rest.as_slice()) // ([(1, 2), (3, 4)], [(5, 6)])
+//! parted_set(alloc, vec![in alloc; 5, 1, 5]?, 4)?.1.as_slice() // [5]
+//! let shelf = Shelf { books: vecmap!(alloc; 1 => String::from_str(alloc, "a")?), marks: vecset!(alloc; 1) };
+//! copy_of_shelf(&shelf)? == shelf // true
+//! let rooms = vecmap!(alloc; 1 => vecmap!(alloc; 2 => 3));
+//! copy_of_rooms(&rooms)? == rooms // true
+//! ```
 ghost use Rattle.std.specs.Prelude.{◌≡◌, ◌<◌, ℕ, IfOk, List, Ok, OnErr, OnOk, Some, [], filter, length, nat_eq, nat_lt, not, slice_get, slice_index_or, string_bytes, take};
 ghost use Rattle.vecmap.specs.Items.{adds};
 ghost use Rattle.std.specs.List.{AllZip};
@@ -57,7 +70,7 @@ pub fn parted_set(
 ///
 /// # Errors
 ///
-/// [`AllocError`] if a request is refused. The collection is then extended by the first pairs, or by none.
+/// [`AllocError`] if allocation fails. The collection is then extended by the first pairs, or by none.
 pub fn put_all<C: Extend<(u32, u32)>>(to: &mut C, pairs: Vec<(u32, u32)>) -> Result<(), AllocError>
     requires { (items : List (ℕ × ℕ)) → C.can_extend to.old items }
     ensures ran { OnOk result (C.extend_gives to.old pairs.items to.new) }
@@ -70,7 +83,7 @@ pub fn put_all<C: Extend<(u32, u32)>>(to: &mut C, pairs: Vec<(u32, u32)>) -> Res
 ///
 /// # Errors
 ///
-/// [`AllocError`] if the allocator refuses a request. The map then has the insertions of the first pairs, or of none.
+/// [`AllocError`] if allocation fails. The map then has the insertions of the first pairs, or of none.
 pub fn put_into_map(map: &mut VecMap<u32, u32>, pairs: Vec<(u32, u32)>) -> Result<(), AllocError>
     ensures entries { OnOk result (map.new.entries ≡ puts nat_eq map.old.entries pairs.items) }
     ensures err { OnErr result ((n : ℕ)

@@ -1,5 +1,19 @@
 //! Callers that write each value of a map, and prove what they wrote: by `update_values` and `try_update_values`, or by
 //! a loop over the slice of `as_mut_slice`.
+//!
+//! ```
+//! let mut map = vecmap!(alloc; 1 => 5, 2 => 7);
+//! raise_what_is_found(&mut map);
+//! raise_below_greatest(&mut map);
+//! raise_up_to_greatest(&mut map).is_ok() // true
+//! raise_in_slice(&mut map);
+//! raise_at_keys(&mut map);
+//! map.as_slice() // [(1, 10), (2, 12)]
+//! let mut lists = vecmap!(alloc; 'a' => Vec::new(alloc));
+//! push_to_each(&mut lists, 1)?;
+//! push_in_slice(&mut lists, 2)?;
+//! lists[0].as_slice() // [1, 2]
+//! ```
 ghost use Rattle.std.specs.Prelude.{◌≡◌, ◌+◌, ◌++◌, ◌∷◌, ◌%◌, ◌-◌, ◌<◌, ◌^◌, ℕ, OnErr, OnOk, [], length, map, min, nat_eq};
 ghost use Rattle.std.specs.List.{All, range_with_len};
 ghost use Rattle.std.specs.Map.{keys_of, values_of};
@@ -24,7 +38,7 @@ pub fn raise_what_is_found(map: &mut VecMap<u32, u32>)
 
 /// Adds one to each value.
 ///
-/// # Conditions
+/// # Preconditions
 ///
 /// No value is the greatest.
 pub fn raise_below_greatest(map: &mut VecMap<u32, u32>)
@@ -61,7 +75,7 @@ pub fn number_each<K>(pairs: &mut VecMap<K, u32>)
 ///
 /// # Errors
 ///
-/// [`AllocError`] if the allocator refuses a request. The first lists then have the item, and the others are unchanged.
+/// [`AllocError`] if allocation fails. The first lists then have the item, and the others are unchanged.
 pub fn push_to_each<K>(lists: &mut VecMap<K, Vec<u8>>, item: u8) -> Result<(), AllocError>
     ensures keys { keys_of lists.new.entries ≡ keys_of lists.old.entries }
     ensures ok { OnOk result (lists_of lists.new.entries
@@ -129,7 +143,7 @@ pub fn raise_at_keys<K>(pairs: &mut VecMap<K, u32>)
 ///
 /// # Errors
 ///
-/// [`AllocError`] if the allocator refuses a request.
+/// [`AllocError`] if allocation fails.
 #[tactic(auto, using(vecmap_laws::proofs::Rules::keys_in_loops))]
 pub fn push_in_slice<K>(lists: &mut VecMap<K, Vec<u8>>, item: u8) -> Result<(), AllocError>
     ensures keys { keys_of lists.new.entries ≡ keys_of lists.old.entries }

@@ -3,9 +3,19 @@
 //!
 //! A call of `update_values` in place of the loop knows what was written, as in the functions whose names end in
 //! `_by_update`.
+//!
+//! ```
+//! let mut map = vecmap!(alloc; 1 => 5u8, 2 => 6, 3 => 7);
+//! count_above_three(&mut map) // 3
+//! write_first_two(&mut map);
+//! both_ends(&mut map) // (Some(1), Some(7))
+//! let mut rounds = Rounds { scores: map, count: 1 };
+//! rounds.next_round();
+//! rounds.scores.as_slice() // [(1, 0), (2, 0), (3, 0)]
+//! ```
 ghost use Rattle.std.specs.Map.{keys_of, values_of};
 ghost use Rattle.std.specs.Prelude.{◌≡◌, ◌+◌, ◌<◌, ◌∷◌, ℕ, List, [], count_by, length, map, nat_lt, option_map};
-ghost use Rattle.vecmap.specs.Walks.{deref_mut};
+ghost use Rattle.vecmap.specs.Iterators.{deref_mut};
 ghost use Rattle.vecmap_laws.specs.Pulls.{Pulls, back, front};
 ghost use Rattle.vecmap_callers.specs.Updating.{texts_of};
 

@@ -1,5 +1,4 @@
-//! The examples of the pages for users, each proved. Tests of `vecmap_tests` compare what no
-//! contract says.
+//! The examples of the pages for users, each proved. Tests of `vecmap_tests` show what no contract says.
 #![tactic(auto)]
 
 pub mod pages;

@@ -2,8 +2,8 @@
 pub mod errors;
 pub mod imports;
 pub mod keys;
-pub mod measure;
 pub mod parts;
+pub mod queries;
 pub mod refused;
 pub mod trees;
 pub mod values;

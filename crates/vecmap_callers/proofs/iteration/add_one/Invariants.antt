@@ -1,7 +1,7 @@
 use Rattle.std.proofs.Common.{◌<◌}
 use Rattle.std.specs.List.{All}
 use Rattle.std.specs.Map.{values_of}
-use Rattle.vecmap.specs.Lending.{iter_mut_rest}
+use Rattle.vecmap.specs.Iterators.{iter_mut_rest}
 use Rattle.vecmap_callers.proofs.iteration.add_one.Given as goal
 
 abbrev pub invariant-loop-value : goal.invariant-loop-value

@@ -1,6 +1,5 @@
 use Rattle.std.proofs.Common.{[], ◌∷◌, refl}
-use Rattle.vecmap.specs.Lending.{values_mut_rest}
-use Rattle.vecmap.specs.Walks.{TakesFirstOf, TakesLastOf, deref_mut}
+use Rattle.vecmap.specs.Iterators.{TakesFirstOf, TakesLastOf, deref_mut, values_mut_rest}
 use Rattle.vecmap_laws.specs.Pulls.{back, front}
 use Rattle.vecmap_laws.proofs.WalkLemmas.{pulls_by}
 use Rattle.vecmap_callers.proofs.writing.both_ends.Goals as goal

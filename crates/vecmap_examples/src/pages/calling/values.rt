@@ -1,4 +1,4 @@
-//! A type that holds maps of itself.
+//! A recursive type: a value holds maps of values.
 use vecmap::VecMap;
 
 /// A text, or values under names, at any depth.

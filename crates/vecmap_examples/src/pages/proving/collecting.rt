@@ -1,4 +1,4 @@
-//! Maps that are collected and extended, and a closure that is handed on to `retain`.
+//! Maps that are collected and extended, and a closure that is passed on to `retain`.
 ghost use Rattle.std.specs.Prelude.{◌≡◌, ◌/◌, IfOk, OnOk, [], filter, map, nat_eq, nat_lt};
 ghost use Rattle.vecmap.specs.Asked.{CallsAtPair};
 ghost use Rattle.vecmap.specs.Kept.{Kept};

@@ -7,6 +7,7 @@ use vecmap::{Refused, VecMap};
 use vecmap_laws::maps::first_values_win;
 
 /// Inserts each default whose key is absent.
+#[tactic(auto, using(vecmap_laws::proofs::FirstValue::put_new_present, vecmap_laws::proofs::FirstValue::put_new_absent))]
 pub fn fill_in<K: Eq + Drop, V: Drop>(
     map: &mut VecMap<K, V>,
     defaults: VecMap<K, V>,
@@ -15,9 +16,9 @@ pub fn fill_in<K: Eq + Drop, V: Drop>(
         ≡ option_or (lookup K.eq map.old.entries key) (lookup K.eq defaults.entries key)) }
     ensures capacity { map.old.capacity ≤ map.new.capacity }
 {
-    first_values_win::<K, V>();
     for (key, value) in defaults {
         map.entry(key).or_insert(value)?;
     }
+    first_values_win::<K, V>();
     Ok(())
 }
