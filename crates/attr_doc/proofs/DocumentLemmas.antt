@@ -56,7 +56,7 @@ pub document_merged : (d e : Sections) → IsDocument d → All (λ p. IsSection
 document_merged d [] i a = i
 document_merged d (p ∷ ps) i a = document_merged (with_section d p.0 p.1) ps (document_with_section d i p.0 p.1 (All-head (λ q. IsSection q.1) p ps a)) (All-tail (λ q. IsSection q.1) p ps a)
 
--- The result is a document, whether the text was stored or refused.
+-- The result is a document, whether the text was stored or memory ran out.
 pub document_set : {X E : Type 0} (r : Result X E) (d new : Sections) (s n : List ℕ) (t : String Global) → IsDocument d → OnOk r (new ≡ with_text d s n t) → OnErr r (new ≡ d) → IsDocument new
 document_set (Ok x) d new s n t i ok err = subst IsDocument (sym ok) (document_with_text d i s n t)
 document_set (Err e) d new s n t i ok err = subst IsDocument (sym err) i

@@ -16,8 +16,8 @@ ignoring_case_equiv = on_equiv str_to_ascii_lowercase nat_list_eq_equiv
 abbrev pub Section : Type 0
 Section = List (List ℕ × String Global)
 
--- A document, as a contract sees it: each section under its name, in their order.
 -- Example: `[(Font, [(Size, 12)])]`.
+-- A document, as a contract sees it: each section under its name, in their order.
 abbrev pub Sections : Type 0
 Sections = List (List ℕ × Section)
 
@@ -33,35 +33,35 @@ sections_of l = map_values (λ m. m.entries) l
 abbrev pub text_of : Sections → List ℕ → List ℕ → Option (List ℕ)
 text_of d section name = option_and_then (λ texts. option_map string_bytes (lookup str_eq_ignore_ascii_case texts name)) (lookup str_eq_ignore_ascii_case d section)
 
--- The texts of a section, or none if it does not exist.
 -- Example: of `font` in `[(Font, [(Size, 12)])]`: `[(Size, 12)]`.
+-- The texts of a section, or none if it does not exist.
 abbrev pub section_of : Sections → List ℕ → Section
 section_of d section = unwrap_or (lookup str_eq_ignore_ascii_case d section) []
 
--- Two documents have the same texts under the same names. Order makes no difference.
 -- Example: `[(Font, [(Size, 12)])]` and `[(font, [(SIZE, 12)])]`.
+-- Two documents have the same texts under the same names. Order makes no difference.
 abbrev pub AreSame : Sections → Sections → Type 0
 AreSame d e = (section name : List ℕ) → text_of d section name ≡ text_of e section name
 
--- No name of the section repeats, and it has at least one.
+-- The names of the section are distinct, and there is at least one.
 pub record IsSection (texts : Section) : Type 0 where
   pub distinct : HasDistinctKeys str_eq_ignore_ascii_case texts
   pub not_empty : 0 < length texts
 
--- No name of a section repeats, and no section is empty or repeats a name.
 -- Example: false of `[(Font, [])]`.
+-- The names of the sections are distinct; no section is empty, and the names in each are distinct.
 pub record IsDocument (d : Sections) : Type 0 where
   pub distinct : HasDistinctKeys str_eq_ignore_ascii_case d
   pub sections : All (λ p. IsSection p.1) d
 
--- The document `d` with a text stored in its section, or in a new last section.
 -- Example: `Page`, `Width`, `5` into `[]`: `[(Page, [(Width, 5)])]`.
+-- The document `d` with a text stored in its section, or in a new last section.
 abbrev pub with_text : Sections → List ℕ → List ℕ → String Global → Sections
 with_text d section name text = put str_eq_ignore_ascii_case d section (put str_eq_ignore_ascii_case (section_of d section) name text)
 
--- The document `d` with a section: its texts are inserted into an existing section of its name, and a new section is
--- appended.
+-- A new section is appended.
 -- Example: `[(font, [(SIZE, 9)])]` into `[(Font, [(Size, 12)])]`: `[(Font, [(Size, 9)])]`.
+-- The document `d` with the texts of a section inserted into the existing section of its name.
 abbrev pub with_section : Sections → List ℕ → Section → Sections
 with_section d section texts = put str_eq_ignore_ascii_case d section (option_map_or (λ old. puts str_eq_ignore_ascii_case old texts) (lookup str_eq_ignore_ascii_case d section) texts)
 
@@ -69,8 +69,8 @@ with_section d section texts = put str_eq_ignore_ascii_case d section (option_ma
 abbrev pub merge_of : Sections → Sections → Sections
 merge_of d e = fold (λ done p. with_section done p.0 p.1) d e
 
--- If the section exists, it has spare capacity for `n` more texts.
 -- Example: any absent section has it.
+-- If the section exists, it has spare capacity for `n` more texts.
 abbrev pub HasRoomAt : List (List ℕ × Stored) → List ℕ → ℕ → Type 0
 HasRoomAt l section n = (m : Stored) → lookup str_eq_ignore_ascii_case l section ≡ Some m → HasRoom m n
 

@@ -3,7 +3,7 @@ ghost use Rattle.attr_doc.specs.Documents.{AreSame, IsDocument, merge_of, text_o
 ghost use Rattle.std.specs.Map.{keys_of};
 ghost use Rattle.std.specs.Map.Iter.{deref};
 ghost use Rattle.std.specs.Prelude.{◌≡◌, ◌<◌, ◌↔◌, IfErr, IfOk, IsOk, IsSome, IsTrue, OnErr, OnOk, [], length, option_copied, option_map, string_bytes};
-ghost use Rattle.vecmap.specs.Walks.{ShowsAll};
+ghost use Rattle.vecmap.specs.Iterators.{ShowsAll};
 
 #[cfg(test)]
 mod tests;
@@ -20,12 +20,12 @@ use vecmap::{Refused, VecMap};
 
 /// A document: sections of texts, each under a name.
 ///
-/// Sections keep the order in which they were first set, and so do the names in each section. On both levels no two
-/// names are the same, and no section is empty. In contracts a document is the list of its sections. Each section is a
-/// name with its list of names and texts.
+/// Sections keep the order in which they were first set, and so do the names in each section. On both levels all names
+/// are distinct, and no section is empty. In contracts a document is the list of its sections. Each section is a name
+/// with its list of names and texts.
 ///
 /// In the examples `name(alloc, "Font")?` is `Name::new("Font".to_string(alloc)?)`, and `page` begins as the document
-/// of the first one.
+/// of the first example.
 ///
 /// # Examples
 ///
@@ -78,8 +78,8 @@ impl Document {
     ///
     /// # Errors
     ///
-    /// [`Refused`] returns the section's name, the name and the text if the allocator refuses a request; the document
-    /// is then unchanged.
+    /// [`Refused`] returns the section's name, the name and the text if an allocation fails; the document is then
+    /// unchanged.
     ///
     /// # Complexity
     ///
@@ -143,13 +143,13 @@ impl Document {
     ///
     /// # Errors
     ///
-    /// [`AllocError`] if the allocator refuses the request; both documents are then unchanged. If `other` has no
-    /// sections, the call is never refused.
+    /// [`AllocError`] if an allocation fails; both documents are then unchanged. If `other` has no sections, the call
+    /// always succeeds.
     ///
     /// # Complexity
     ///
-    /// Each section of `other` takes two lookups among the sections, or three if it is new. Each text takes one lookup
-    /// in its section if the section exists. A new section moves as a whole.
+    /// Two lookups among the sections for each section of `other`, or three if it is new. One lookup in its section for
+    /// each text whose section exists. A new section moves as a whole.
     ///
     /// # Examples
     ///

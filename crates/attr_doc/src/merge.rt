@@ -1,5 +1,6 @@
-//! The work of `Document::merge`, over the maps of sections alone: to reserve capacity for everything, then to move it.
-//! `merge` forwards to it, because the contract of a map need not say at each step that its sections are a document.
+//! The work of `Document::merge` on the maps of sections: it reserves capacity for everything, and then moves
+//! everything. `merge` calls it, because the contract of a map need not say at each step that its sections are a
+//! document.
 ghost use Rattle.attr_doc.specs.Documents.{HasRoomAt, IsRoomFor, merge_of, sections_of, with_section};
 ghost use Rattle.std.specs.Prelude.{All, ◌≡◌, ◌+◌, ◌<◌, ◌≤◌, ℕ, List, OnErr, OnOk, false, length};
 ghost use Rattle.std.specs.Str.{str_eq_ignore_ascii_case};
@@ -10,8 +11,7 @@ use crate::Name;
 use std::alloc::AllocError;
 use vecmap::VecMap;
 
-// Reserves capacity for all sections of another map. The sections stay the same, also if the allocator refuses a
-// request.
+// Reserves capacity for all sections of another map. The sections stay the same, also if an allocation fails.
 pub(crate) fn make_room(
     sections: &mut VecMap<Name, VecMap<Name, String>>,
     others: &VecMap<Name, VecMap<Name, String>>,
@@ -45,7 +45,7 @@ pub(crate) fn move_all(
 }
 
 // Reserves capacity for `additional` texts in a section, if it exists. The sections stay the same, also if the
-// allocator refuses the request.
+// allocation fails.
 fn reserve_in(
     sections: &mut VecMap<Name, VecMap<Name, String>>,
     name: &Name,

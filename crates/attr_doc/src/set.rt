@@ -1,5 +1,5 @@
-//! The work of `Document::set`, over the map of sections alone. `set` forwards to it, because the contract of a map
-//! need not say at each step that its sections are a document.
+//! The work of `Document::set` on the map of sections. `set` calls it, because the contract of a map need not say at
+//! each step that its sections are a document.
 ghost use Rattle.attr_doc.specs.Documents.{sections_of, text_of, with_text};
 ghost use Rattle.std.specs.Prelude.{◌≡◌, IfErr, IfOk, IsOk, IsSome, OnErr, OnOk, option_map, string_bytes};
 ghost use Rattle.std.specs.Str.{str_eq_ignore_ascii_case};

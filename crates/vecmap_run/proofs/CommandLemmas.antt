@@ -75,7 +75,7 @@ module _ (text : List ℕ) (r : Option (Bor (List ℕ) × Bor (List ℕ))) (spli
     pub cuts : (x : Bor (List ℕ) × Bor (List ℕ)) → r ≡ Some x → (x.0.now ≡ front) × (x.1.now ≡ back)
     cuts x some = rw some at (split_after 32 text front back r split (lit< tt) whole first)
 
--- A word that writes a number consists of digits, so it has no space.
+-- A word that is a number consists of digits, so it has no space.
 pub number_first : (word : List ℕ) (n : ℕ) → number_of word ≡ Some n → HasNoSpace word
 number_first word n says = number_no_space word (cond_some (is_number word) _ n says).0
 
@@ -138,7 +138,7 @@ key_ascii key is = ascii_all is_key_byte (λ b passes. grind (arith, nat_tests))
 number_ascii : (word : List ℕ) (n : ℕ) → number_of word ≡ Some n → IsAscii word
 number_ascii word n says = ascii_all is_ascii_digit (λ b passes. grind (arith, nat_tests)) word (number_parts word (cond_some (is_number word) _ n says).0).2
 
--- An ASCII byte before an ASCII text gives an ASCII text.
+-- An ASCII byte before an ASCII text makes an ASCII text.
 ascii_after : (b : ℕ) (bs : List ℕ) → b < 128 → IsAscii bs → IsAscii (b ∷ bs)
 ascii_after b bs small rest zero = small
 ascii_after b bs small rest (suc i) = rest i
@@ -183,7 +183,7 @@ says_ascii command.Len line says = rw says (name_ascii command.Len)
 says_ascii command.List line says = rw says (name_ascii command.List)
 says_ascii other line (text, whole, arguments) = rw whole (spaced_ascii (name_of other) text (name_ascii other) (arguments_ascii other text arguments))
 
--- The contract of `parse_text` for a line with a space follows from that of `with_arguments` for its two parts.
+-- The contract of `parse_text` for a line with a space follows from the contract of `with_arguments` for its two parts.
 module _ (line name text : List ℕ) (o : Option Command) where
   pub said_whole : line ≡ name ++ 32 ∷ text → IfSome o (λ said. (name ≡ name_of said) × HasArguments said text) → IfSome o (λ said. Says said line)
   said_whole whole = elim o as (λ o. IfSome o (λ said. (name ≡ name_of said) × HasArguments said text) → IfSome o (λ said. Says said line)) [

@@ -11,18 +11,18 @@ use Rattle.vecmap_run.specs.declared.command.Command.TheVariants as command
 abbrev pub has_length_up_to : ℕ → List ℕ → Bool
 has_length_up_to most word = nat_lt 0 (length word) && nat_le (length word) most
 
--- Whether the byte is an ASCII letter or digit, `_`, `-` or `.`.
 -- Example: not the space, nor a byte of `ö`.
+-- Whether the byte is an ASCII letter or digit, `_`, `-` or `.`.
 abbrev pub is_key_byte : ℕ → Bool
 is_key_byte byte = is_ascii_alphanumeric byte || (byte == 95 || (byte == 45 || byte == 46))
 
--- Whether the word has 1 to 64 such bytes.
 -- Example: `max-age`.
+-- Whether the word has 1 to 64 such bytes.
 abbrev pub is_key : List ℕ → Bool
 is_key word = has_length_up_to 64 word && list_all is_key_byte word
 
--- Whether the word has 1 to 18 digits.
 -- Example: `007`.
+-- Whether the word has 1 to 18 digits.
 abbrev pub is_number : List ℕ → Bool
 is_number word = has_length_up_to 18 word && list_all is_ascii_digit word
 
@@ -68,8 +68,8 @@ HasArguments (command.SwapRemove key) text = IsTrue (is_key key.now) × (text �
 HasArguments command.Len text = ⊥
 HasArguments command.List text = ⊥
 
--- The line says the command: its name, and its arguments after a space each.
 -- Example: `insert a -007` says to insert -7 at `a`.
+-- The line says the command: its name, and its arguments after a space each.
 abbrev pub Says : Command → List ℕ → Type 0
 Says command.Len line = line ≡ name_of command.Len
 Says command.List line = line ≡ name_of command.List

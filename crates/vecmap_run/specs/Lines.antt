@@ -16,8 +16,8 @@ without_empty_last [] = []
 without_empty_last (piece ∷ []) = if length piece == 0 then [] else piece ∷ []
 without_empty_last (piece ∷ next ∷ pieces) = piece ∷ without_empty_last (next ∷ pieces)
 
--- The lines that end with a line break.
 -- Example: of `get a⏎len`: `get a`.
+-- The lines that end with a line break.
 abbrev pub ended_lines : List ℕ → List (List ℕ)
 ended_lines input = all_but_last (pieces_of input)
 

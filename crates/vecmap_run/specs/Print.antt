@@ -16,8 +16,8 @@ abbrev pub printed_pairs : Entries → List ℕ
 printed_pairs [] = codes "empty"
 printed_pairs (pair ∷ pairs) = printed_pair pair ++ flat_map (λ next. 32 ∷ printed_pair next) pairs
 
--- The text of an answer, where the map has these pairs.
 -- Example: of no value: `none`; of `a=1` and `b=2`: `a=1 b=2`.
+-- The text of an answer, where the map has these pairs.
 abbrev pub printed : Answer → Entries → List ℕ
 printed (Value None) pairs = codes "none"
 printed (Value (Some value)) pairs = codes "some " ++ signed_decimal value

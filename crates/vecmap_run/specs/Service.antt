@@ -10,15 +10,15 @@ use Rattle.vecmap_run.specs.declared.answer.Answer.{Answer}
 use Rattle.vecmap_run.specs.declared.answer.Answer.TheVariants.{Fault}
 use Rattle.vecmap_run.specs.declared.command.Command.{Command}
 
--- This answer is allowed for the line, and it changes `old` to `new`: an answer to the command that the line says, or
--- `Fault` if it does not say one.
+-- It answers the command of the line, or is `Fault` if the line is no command.
+-- This answer is allowed for the line, and it changes `old` to `new`.
 abbrev pub MayAnswer : Entries → List ℕ → Answer → Entries → Type 0
 MayAnswer old line answer new =
     ((said : Command) × Says said line × Step old said answer new)
     ⊎ (((said : Command) → Says said line → ⊥) × (answer ≡ Fault) × (new ≡ old))
 
--- The text is an allowed answer for the line, and a line break (10).
 -- Example: of `len⏎` on the empty map: `0⏎`.
+-- The text is an allowed answer for the line, and a line break (10).
 abbrev pub AnswersLine : Entries → List ℕ → List ℕ → Entries → Type 0
 AnswersLine old line text new = (answer : Answer) × MayAnswer old line answer new × (text ≡ printed answer new ++ 10 ∷ [])
 
@@ -44,8 +44,8 @@ pub record Splits (input : List ℕ) (lines : List (List ℕ)) (rest : List ℕ)
   pub unbroken : All HasNoBreak lines
   pub unended : HasNoBreak rest
 
--- A service that has read this input and written this text. It keeps the unended line, and the text answers the lines
--- before it.
+-- It keeps the unended line, and the text answers the lines before it.
+-- A service that has read this input and written this text.
 pub record HasServed (line : Option (List ℕ)) (entries : Entries) (input text : List ℕ) : Type 0 where
   pub lines : List (List ℕ)
   pub rest : List ℕ
@@ -53,8 +53,7 @@ pub record HasServed (line : Option (List ℕ)) (entries : Entries) (input text 
   pub gathered : line ≡ within_limit rest
   pub answered : Answers [] lines text entries
 
--- If a service reads these bytes, its line and entries become the new ones, and it appends the answers to what was
--- written.
+-- A service that reads these bytes gets the new line and entries, and appends its answers to what was written.
 abbrev pub GoesOn : Option (List ℕ) → Entries → List ℕ → Option (List ℕ) → Option (List ℕ) → Option (List ℕ) → Entries → Type 0
 GoesOn line entries bytes written now new_line new_entries =
     (input text : List ℕ) → HasServed line entries input text

@@ -11,28 +11,28 @@ use Rattle.vecmap_run.specs.declared.command.Command.TheVariants as command
 abbrev pub Entries : Type 0
 Entries = List (String Global × ℤ)
 
--- This answer is allowed for the insertion of this text and value, and it changes `old` to `new`.
 -- Example: `insert a 3` on `a=1`: `some 1`, and `a=3`; or `memory`, if memory runs out for the key's text, and `a=1`.
+-- This answer is allowed for the insertion of this text and value, and it changes `old` to `new`.
 abbrev pub Inserts : Entries → List ℕ → ℤ → Answer → Entries → Type 0
 Inserts old text value (Value was) new = (key : String Global) × (string_bytes key ≡ text) × (was ≡ lookup string_eq old key) × (new ≡ put string_eq old key value)
 Inserts old text value NoMemory new = new ≡ old
 Inserts old text value _ new = ⊥
 
--- The same for an insertion at an index.
+-- This answer is allowed for the insertion of this text and value at an index, and it changes `old` to `new`.
 abbrev pub InsertsAt : Entries → ℕ → List ℕ → ℤ → Answer → Entries → Type 0
 InsertsAt old index text value (Moved was) new = (index ≤ length old) × (key : String Global) × (string_bytes key ≡ text) × (was ≡ lookup_full string_eq old key) × (new ≡ put_at string_eq old index key value)
 InsertsAt old index text value NoMemory new = (index ≤ length old) × (new ≡ old)
 InsertsAt old index text value OutOfRange new = (length old < index) × (new ≡ old)
 InsertsAt old index text value _ new = ⊥
 
--- The same for an insertion that keeps an existing value.
+-- This answer is allowed for an insertion that keeps an existing value, and it changes `old` to `new`.
 abbrev pub OrInserts : Entries → List ℕ → ℤ → Answer → Entries → Type 0
 OrInserts old text value (Value found) new = (key : String Global) × (string_bytes key ≡ text) × (found ≡ Some (unwrap_or (lookup string_eq old key) value)) × (new ≡ put string_eq old key (unwrap_or (lookup string_eq old key) value))
 OrInserts old text value NoMemory new = new ≡ old
 OrInserts old text value _ new = ⊥
 
--- This answer is allowed for the command, and it changes `old` to `new`. Only an insertion has more than one allowed
--- answer, as memory may run out.
+-- Only an insertion has more than one allowed answer, as memory may run out.
+-- This answer is allowed for the command, and it changes `old` to `new`.
 abbrev pub Step : Entries → Command → Answer → Entries → Type 0
 Step old (command.Insert text value) answer new = Inserts old text.now value answer new
 Step old (command.InsertAt index text value) answer new = InsertsAt old index text.now value answer new

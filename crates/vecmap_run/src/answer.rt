@@ -22,7 +22,7 @@ pub enum Answer {
     Number(usize),
     /// All pairs.
     Pairs,
-    /// The line does not say a command.
+    /// The line is not a command.
     Fault,
     /// The index is greater than the number of pairs.
     OutOfRange,

@@ -1,4 +1,4 @@
-//! A buffer in front of a writer, so that a short answer takes one write.
+//! A buffer in front of a writer, so that a short answer needs one write.
 ghost use Rattle.std.specs.Io.KnownBytes.{Appends};
 ghost use Rattle.std.specs.Prelude.{◌≡◌, ◌∷◌, [], OnOk};
 ghost use Rattle.vecmap_run.specs.Buffer.{buffer_bytes};

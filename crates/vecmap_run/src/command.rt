@@ -34,7 +34,7 @@ pub enum Command<'a> {
     List,
 }
 
-/// Returns the command that a line says, if it says one.
+/// Returns the command of a line, if the line is a command.
 pub fn parse(line: &[u8]) -> Option<Command<'_>>
     ensures said { IfSome result (λ command. Says command line.now) }
     ensures unsaid { IfNone result ((command : Command) → Says command line.now → ⊥) }
@@ -96,7 +96,7 @@ fn with_arguments<'a>(name: &str, text: &'a str) -> Option<Command<'a>>
     }
 }
 
-// Returns the key and the value that a text writes.
+// Parses a key and a value.
 fn parse_pair(text: &str) -> Option<(&str, i64)>
     ensures said { IfSome result (λ pair. IsPair pair.0.now pair.1 text.now) }
     ensures unsaid { IfNone result ((key : List ℕ) (value : ℤ) → IsPair key value text.now → ⊥) }
@@ -105,7 +105,7 @@ fn parse_pair(text: &str) -> Option<(&str, i64)>
     Some((parse_key(word)?, parse_value(value_word)?))
 }
 
-// Returns the index, the key and the value that a text writes.
+// Parses an index, a key and a value.
 fn parse_pair_at(text: &str) -> Option<(usize, &str, i64)>
     ensures said { IfSome result (λ found. IsPairAt found.0 found.1.now found.2 text.now) }
     ensures unsaid { IfNone result
@@ -141,7 +141,7 @@ fn is_key_byte(byte: u8) -> bool
     byte.is_ascii_alphanumeric() || matches!(byte, b'_' | b'-' | b'.')
 }
 
-// Returns the number that digits with an optional `-` write.
+// Parses a number: digits, with an optional `-` before them.
 fn parse_value(word: &str) -> Option<i64>
     ensures { result ≡ value_of word.now }
 {
@@ -151,7 +151,7 @@ fn parse_value(word: &str) -> Option<i64>
     }
 }
 
-// Returns the number that digits write.
+// Parses a number of digits alone.
 fn parse_number(word: &str) -> Option<usize>
     ensures value { result ≡ number_of word.now }
     ensures small { IfSome result (λ number. number < 10 ^ 18) }

@@ -8,8 +8,8 @@ use std::marker::Model;
 // The greatest number of bytes of a line.
 const MAX_LINE_BYTES: usize = 4096;
 
-/// The bytes of a line so far. Of a line past the limit, only the fact is kept that it is too long. A contract sees
-/// them as `within_limit` of the whole line.
+/// The bytes of a line so far. If a line exceeds the limit, only this fact is kept. A contract sees them as
+/// `within_limit` of the whole line.
 #[derive(Drop)]
 pub struct Line {
     bytes: Bytes<MAX_LINE_BYTES>,
@@ -44,7 +44,7 @@ impl Line {
         }
     }
 
-    /// Returns `true` if the line is empty. A line that is too long is not.
+    /// Returns `true` if the line is empty. A line that is too long is not empty.
     pub fn is_empty(&self) -> bool
         ensures { (line : List ℕ) → self.now ≡ within_limit line → result ≡ (length line == 0) }
     {

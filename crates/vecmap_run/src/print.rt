@@ -6,6 +6,9 @@ use crate::answer::Answer;
 use std::fmt;
 
 /// An answer with the pairs of the map, as it is printed.
+///
+/// An answer that held the pairs would be borrowed from a map that the command may change. Each function that returns
+/// one would then need a clause about the borrow, proved by hand.
 #[derive(Clone, Copy)]
 pub struct Printed<'m> {
     pub answer: Answer,

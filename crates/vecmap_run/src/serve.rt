@@ -34,8 +34,8 @@ pub enum Fault {
 
 /// Reads lines from `reader` and writes the answer to each on `writer`. The map is empty at first.
 ///
-/// A line ends with a line break or with the input. Each answer is written before the next line is executed. A read
-/// that is interrupted is repeated.
+/// A line ends with a line break or with the input. Each answer is written before the next line is executed. An
+/// interrupted read is tried again.
 ///
 /// # Errors
 ///

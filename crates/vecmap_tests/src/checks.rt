@@ -12,7 +12,7 @@ pub(crate) fn assert_list<T: PartialEq + Debug>(rt: &impl Abort, list: &[T], exp
     assert_eq!(*rt; list, expected);
 }
 
-/// Asserts that a call was not refused memory, and returns its value.
+/// Asserts that memory sufficed for a call, and returns its value.
 pub(crate) fn granted<T, E: Drop>(rt: &impl Abort, outcome: Result<T, E>) -> T {
     match outcome {
         Ok(value) => value,
@@ -20,7 +20,7 @@ pub(crate) fn granted<T, E: Drop>(rt: &impl Abort, outcome: Result<T, E>) -> T {
     }
 }
 
-/// Asserts that a call was not refused memory, and that it returned the expected value.
+/// Asserts that memory sufficed for a call, and that it returned the expected value.
 pub(crate) fn assert_gives<T: PartialEq + Debug + Drop, E: Drop>(
     rt: &impl Abort,
     outcome: Result<T, E>,
@@ -29,7 +29,7 @@ pub(crate) fn assert_gives<T: PartialEq + Debug + Drop, E: Drop>(
     assert_is(rt, granted(rt, outcome), expected)
 }
 
-/// Asserts that a call was refused memory.
+/// Asserts that a call ran out of memory.
 pub(crate) fn assert_refused<T: Drop, E: Drop>(rt: &impl Abort, outcome: Result<T, E>) {
     assert!(*rt; outcome.is_err());
 }

@@ -1,4 +1,4 @@
-//! Callers of calls with a condition. Edits in `must-fail` make a bug in each: the condition is then not met.
+//! Callers of calls with a precondition. Mutants in `must-fail` make a bug in each: the precondition is then not met.
 ghost use Rattle.std.specs.Prelude.{◌++◌, ◌≡◌, ◌≤◌, IfErr, IfOk, OnErr, OnOk, drop, length, slice_get, take};
 ghost use Rattle.std.specs.List.{IsDistinct};
 ghost use Rattle.vecmap.specs.Contents.{Refuses};

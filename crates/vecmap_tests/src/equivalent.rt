@@ -1,4 +1,4 @@
-//! Queries of each kind, also one that is not a key.
+//! Queries of each kind, also a query that is not a key.
 ghost use Rattle.std.specs.Cmp.{nat_eq_equiv};
 ghost use Rattle.std.specs.Prelude.{nat_eq};
 
@@ -10,7 +10,7 @@ use std::rc::{Rc, RcSlice, RcStr};
 use std::sync::{Arc, ArcSlice, ArcStr};
 use vecmap::{Equivalent, VecMap, VecSet};
 
-// Asserts that a key matches a query, and none of the others.
+// Asserts that a key matches this query, and no other query.
 fn assert_matches<K: Eq + Drop, Q: Equivalent<K>, R: Equivalent<K>>(
     rt: &impl Abort,
     key: K,

@@ -1,6 +1,6 @@
-//! Tests of what the rows of `vecmap_script` cannot show, since they have keys, values and elements of one type: other
-//! types, macros, and queries of each kind. Tests of the functions that the pages and `vecmap_trees` have, whose contracts
-//! do not say all. And small callers, whose bugs the edits in `must-fail` make.
+//! Tests of what the test cases of `vecmap_script` cannot show, since their keys, values and elements have one type:
+//! other types, macros, and queries of each kind. Tests of functions of the pages and of `vecmap_trees` whose contracts
+//! do not say everything. And small callers, in which the mutants in `must-fail` make bugs.
 #![tactic(auto)]
 
 #[cfg(test)]
@@ -22,6 +22,12 @@ mod pages;
 mod porting;
 pub mod program;
 pub mod readme;
+#[cfg(test)]
+mod refusals;
+#[cfg(test)]
+mod sizes;
+#[cfg(test)]
+mod texts;
 #[cfg(test)]
 mod trees;
 #[cfg(test)]

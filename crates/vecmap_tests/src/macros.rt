@@ -1,4 +1,4 @@
-//! `vecmap!` and `vecset!`. Each stands in a function of its own, as it returns an error by `?`.
+//! `vecmap!` and `vecset!`. Each is in a function of its own, as it returns an error by `?`.
 use crate::checks::{assert_is, assert_list, granted};
 use std::alloc::{AllocError, Global};
 use vecmap::{VecMap, VecSet, vecmap, vecset};

@@ -1,5 +1,6 @@
 //! What the functions of PORTING return and leave, as it prints.
 use std::alloc::Global;
+use std::process::Abort;
 use std::test::Fail;
 use vecmap::{VecMap, vecmap, vecset};
 use vecmap_examples::pages::porting::{bulk, calls, closures, loops, order, own, traits, writes};
@@ -15,11 +16,19 @@ fn orders(alloc: Global) -> Result<String, Fail> {
 fn made_at_once(alloc: Global) -> Result<String, Fail> {
     let words = bulk::lengths(alloc, &["a", "to", "a"])?;
     let map = bulk::letters(alloc, &vecmap!(alloc; 2 => 'x', 3 => 'c'))?;
+    Ok(format!(in alloc; "{words:?} {map:?}")?)
+}
+
+fn added_and_sorted(alloc: Global) -> Result<String, Fail> {
     let set = bulk::added(&vecset!(alloc; 1, 2), &vecset!(alloc; 2, 3))?;
+    let sorted = bulk::sorted(alloc)?;
+    Ok(format!(in alloc; "{set:?} {sorted:?}")?)
+}
+
+fn first_out_of_one(alloc: Global) -> Result<String, Fail> {
     let mut one = vecmap!(alloc; 4 => 'd');
     let first = (bulk::first_out(&mut one), bulk::first_out(&mut one));
-    let sorted = bulk::sorted(alloc)?;
-    Ok(format!(in alloc; "{words:?} {map:?} {set:?} {first:?} {sorted:?}")?)
+    Ok(format!(in alloc; "{first:?}")?)
 }
 
 fn a_derived_clone(alloc: Global) -> Result<String, Fail> {
@@ -55,17 +64,25 @@ fn entries(alloc: Global) -> Result<String, Fail> {
     Ok(format!(in alloc; "{lists:?} {words:?} {letters:?}")?)
 }
 
-fn orders_and_closures(alloc: Global) -> Result<String, Fail> {
+fn sorted_down(alloc: Global) -> Result<String, Fail> {
     let mut map = vecmap!(alloc; 1 => 9, 3 => 10, 2 => 8);
     traits::sort_down(&mut map)?;
-    let down = map.clone()?;
+    Ok(format!(in alloc; "{map:?}")?)
+}
+
+fn sorted_by_text(alloc: Global) -> Result<String, Fail> {
+    let mut map = vecmap!(alloc; 1 => 9, 3 => 10, 2 => 8);
     traits::sort_by_text(alloc, &mut map)?;
     traits::forget(&mut map, 2);
+    Ok(format!(in alloc; "{map:?}")?)
+}
+
+fn parted_and_halved(alloc: Global) -> Result<String, Fail> {
     let parts = traits::parted(alloc, vecmap!(alloc; 1 => 10, 2 => 30, 3 => 20), 25)?;
     let mut prices = vecmap!(alloc; 'a' => 8, 'b' => 6);
     writes::halve_in_loop(&mut prices);
     writes::halve_all(&mut prices);
-    Ok(format!(in alloc; "{down:?} {map:?} {parts:?} {prices:?}")?)
+    Ok(format!(in alloc; "{parts:?} {prices:?}")?)
 }
 
 fn closures_that_count(alloc: Global) -> Result<String, Fail> {
@@ -87,58 +104,88 @@ fn a_type_of_ones_own(alloc: Global) -> Result<String, Fail> {
     Ok(format!(in alloc; "{count} {map:?}")?)
 }
 
-fn written_loops(alloc: Global) -> Result<String, Fail> {
+fn moved(alloc: Global) -> Result<String, Fail> {
     let mut from = vecmap!(alloc; 1 => 10, 2 => 20);
     let mut to = VecMap::new(alloc);
     loops::move_reversed(&mut from, &mut to)?;
+    Ok(format!(in alloc; "{to:?} {from:?}")?)
+}
+
+fn inserted_in_order(alloc: Global) -> Result<String, Fail> {
+    let mut map = VecMap::new(alloc);
     for (key, value) in [(5, 50), (4, 40), (5, 51)] {
-        loops::insert_sorted(&mut from, key, value)?;
+        loops::insert_sorted(&mut map, key, value)?;
     }
+    Ok(format!(in alloc; "{map:?}")?)
+}
+
+fn reached_from_one(alloc: Global) -> Result<String, Fail> {
     let graph = vecmap!(alloc; 1 => vec![in alloc; 2, 3, 4]?, 4 => vec![in alloc; 1, 5]?);
     let reached = loops::reached(alloc, &graph, 1)?;
+    Ok(format!(in alloc; "{reached:?}")?)
+}
+
+fn named_words(alloc: Global) -> Result<String, Fail> {
     let mut words = VecMap::new(alloc);
     loops::add_words(&mut words, &["b", "a", "b"])?;
     let names = loops::names(alloc, &words)?;
-    Ok(format!(in alloc; "{to:?} {from:?} {reached:?} {names:?}")?)
+    Ok(format!(in alloc; "{names:?}")?)
+}
+
+/// Asserts that a function returned this text.
+fn assert_prints(
+    rt: &impl Abort,
+    printed: Result<String, Fail>,
+    expected: &str,
+) -> Result<(), Fail> {
+    let printed = printed?;
+    assert_eq!(*rt; printed.as_str(), expected);
+    Ok(())
 }
 
 #[test]
 fn the_functions_of_porting_return_what_they_should(rt: HostRuntime) -> Result<(), Fail> {
-    let alloc = rt.alloc();
-    for (printed, expected) in [
-        (orders(alloc)?, "5 6 3"),
-        (
-            made_at_once(alloc)?,
-            r#"{"a": 1, "to": 2} {1: 'a', 2: 'x', 3: 'c'} {3} (Some((4, 'd')), None) {1, 2, 3}"#,
-        ),
-        (
-            a_derived_clone(alloc)?,
-            r#"Config { sections: {}, flags: {'x'} } Config { sections: {"server": {"port": 80}}, flags: {'x'} }"#,
-        ),
-        (
-            what_may_fail(alloc)?,
-            r#"Ok({"7": 7, "10": 10}) Err(NoNumber) Ok(()) Err(NoNumber) {"7": 7, "10": 10, "8": 8}"#,
-        ),
-        (
-            entries(alloc)?,
-            r#"{1: [10, 20, 3], 2: [40, 50, 3]} {"a": 2} {'a': 1}"#,
-        ),
-        (
-            orders_and_closures(alloc)?,
-            "{3: 10, 2: 8, 1: 9} {3: 10, 1: 9} ({1: 10, 3: 20}, {2: 30}) {'a': 2, 'b': 1}",
-        ),
-        (
-            closures_that_count(alloc)?,
-            "true {2: 10, 3: 20, 1: 30} 2 {2: 10}",
-        ),
-        (a_type_of_ones_own(alloc)?, "3 {1: 10, 2: 20, 3: 30}"),
-        (
-            written_loops(alloc)?,
-            r#"{2: 20, 1: 10} {4: 40, 5: 51} {1, 2, 3, 4, 5} ["b", "a"]"#,
-        ),
-    ] {
-        assert_eq!(rt; printed.as_str(), expected);
-    }
-    calls::print_counts(&rt, &vecmap!(alloc; 'a' => 0))?;
+    let (rt, alloc) = (&rt, rt.alloc());
+    assert_prints(rt, orders(alloc), "5 6 3")?;
+    let maps = r#"{"a": 1, "to": 2} {1: 'a', 2: 'x', 3: 'c'}"#;
+    assert_prints(rt, made_at_once(alloc), maps)?;
+    assert_prints(rt, added_and_sorted(alloc), "{3} {1, 2, 3}")?;
+    assert_prints(rt, first_out_of_one(alloc), "(Some((4, 'd')), None)")?;
+    let configs =
+        r#"Config { sections: {}, flags: {'x'} } Config { sections: {"server": {"port": 80}}, flags: {'x'} }"#;
+    assert_prints(rt, a_derived_clone(alloc), configs)
+}
+
+#[test]
+fn the_traits_of_porting_do_what_they_should(rt: HostRuntime) -> Result<(), Fail> {
+    let (rt, alloc) = (&rt, rt.alloc());
+    let parsed =
+        r#"Ok({"7": 7, "10": 10}) Err(NoNumber) Ok(()) Err(NoNumber) {"7": 7, "10": 10, "8": 8}"#;
+    assert_prints(rt, what_may_fail(alloc), parsed)?;
+    let lists = r#"{1: [10, 20, 3], 2: [40, 50, 3]} {"a": 2} {'a': 1}"#;
+    assert_prints(rt, entries(alloc), lists)?;
+    assert_prints(rt, sorted_down(alloc), "{3: 10, 2: 8, 1: 9}")?;
+    assert_prints(rt, sorted_by_text(alloc), "{3: 10, 1: 9}")?;
+    assert_prints(
+        rt,
+        parted_and_halved(alloc),
+        "({1: 10, 3: 20}, {2: 30}) {'a': 2, 'b': 1}",
+    )?;
+    assert_prints(
+        rt,
+        closures_that_count(alloc),
+        "true {2: 10, 3: 20, 1: 30} 2 {2: 10}",
+    )?;
+    assert_prints(rt, a_type_of_ones_own(alloc), "3 {1: 10, 2: 20, 3: 30}")
+}
+
+#[test]
+fn the_loops_of_porting_do_what_they_should(rt: HostRuntime) -> Result<(), Fail> {
+    let (rt, alloc) = (&rt, rt.alloc());
+    assert_prints(rt, moved(alloc), "{2: 20, 1: 10} {}")?;
+    assert_prints(rt, inserted_in_order(alloc), "{4: 40, 5: 51}")?;
+    assert_prints(rt, reached_from_one(alloc), "{1, 2, 3, 4, 5}")?;
+    assert_prints(rt, named_words(alloc), r#"["b", "a"]"#)?;
+    calls::print_counts(rt, &vecmap!(alloc; 'a' => 0))?;
     Ok(())
 }

@@ -1,4 +1,4 @@
-//! The examples of `README.md`. Two edits in `must-fail` make the two bugs of that page.
+//! The examples of `README.md`. Two mutants in `must-fail` make the two bugs of that page.
 ghost use Rattle.std.specs.Prelude.{◌≡◌, nat_eq};
 ghost use Rattle.vecmap.specs.Pairs.{without_key};
 

@@ -42,7 +42,6 @@ fn trees_are_printed_in_order_with_the_escapes_of_json(rt: HostRuntime) -> Resul
 }
 
 // body: `Json::set_at`
-// body: `Json::merge_deep`
 #[test]
 fn missing_objects_are_made_and_trees_merged(rt: HostRuntime) -> Result<(), Fail> {
     let alloc = rt.alloc();
@@ -53,6 +52,20 @@ fn missing_objects_are_made_and_trees_merged(rt: HostRuntime) -> Result<(), Fail
     assert!(rt; first.set_at(alloc, &["a", "x"], Json::Null).is_err());
     let expected = r#"{"b":{"y":1,"x":5},"a":4,"c":{"d":6},"e":{}}"#;
     assert_eq!(rt; format!(in alloc; "{first}")?.as_str(), expected);
+    Ok(())
+}
+
+#[test]
+fn values_of_any_depth_are_set_and_read(rt: HostRuntime) -> Result<(), Fail> {
+    let alloc = rt.alloc();
+    let path = ["a", "b", "c", "d"].as_slice();
+    let mut tree = tree(alloc, &[(path, 1)])?;
+    assert_eq!(rt; tree.get(path), Some(&Json::Number(1)));
+    tree.set_at(alloc, path, Json::Number(2))?;
+    assert_eq!(rt;
+        format!(in alloc; "{tree}")?.as_str(),
+        r#"{"a":{"b":{"c":{"d":2}}}}"#
+    );
     Ok(())
 }
 

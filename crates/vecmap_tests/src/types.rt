@@ -6,7 +6,7 @@ use std::process::Abort;
 use std::test::Fail;
 use vecmap::{Refused, VecMap, VecSet};
 
-// Asserts that a map of distinct pairs has them as they are.
+// Asserts that a map of pairs with distinct keys has them as they are.
 fn assert_kept<K: Eq + Clone + Debug + Drop, V: PartialEq + Clone + Debug + Drop>(
     rt: &impl Abort,
     alloc: Global,
@@ -43,7 +43,7 @@ fn a_value_that_does_not_print_is_inserted_by_a_question_mark(rt: HostRuntime) -
     Ok(())
 }
 
-// Compiles only if threads may share the value, and take it over.
+// Compiles only if threads may share the value, and if it may be moved to another thread.
 fn is_send_and_sync<T: Send + Sync + Drop>(_value: T) {}
 
 #[test]

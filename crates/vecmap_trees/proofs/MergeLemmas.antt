@@ -1,5 +1,5 @@
--- What stands in a tree after a merge. The idea: as long as no names repeat, a merge of one member after the other
--- leaves at each name what `merged_below` says, since each name comes once.
+-- The values in a tree after a merge. The idea: as long as all names are distinct, a merge of one member after the
+-- other leaves at each name what `merged_below` says, since each name comes once.
 use Rattle.std.specs.Prelude.{◌≡◌, ℕ, Bool, List, [], ◌∷◌, ◌⊎◌, None, Option, Some, String, bytes_eq, cond, false, if◌then◌else◌, refl, string_bytes, string_eq, true}
 use Rattle.std.specs.Option.{option_and_then}
 use Rattle.std.specs.Map.{keys_of}
@@ -80,7 +80,7 @@ module _ (k : String Global) (v : Json) (rest : Pairs) (d : AreDistinctMembers (
       by h (inl none) = inl (sym (look_text name k v rest false h) ∙ none)
       by h (inr same) = inr (others name h ∙ same)
 
--- A name that none of the members has is not that of the first, and none of the others has it.
+-- A name that none of the members has is not the name of the first, and none of the others has it.
 pub absent_below : (k : String Global) (v : Json) (rest : Pairs) (name : List ℕ) → lookup_by (has_text name) ((k, v) ∷ rest) ≡ None → (bytes_eq (string_bytes k) name ≡ false) × (lookup_by (has_text name) rest ≡ None)
 absent_below k v rest name e =
     elim (cases_Bool (has_text name k)) [
@@ -118,8 +118,8 @@ failed_at (name ∷ names) t old other m n mine below g e f = by (below name nam
         inr (new ∙ h ∙ ap (merged_member name names n.entries) (sym g)
         ∙ sym (ap (λ z. cond (is_object_layer z) (merged_below (merged_leaf names) names (lookup_by (has_text name) (members_of_layer z)) (member name old)) None) f))
 
--- What stands below a name once the merge of the first member to come failed. `goes` says what the merge of all that
--- are to come would lead to.
+-- The value below a name once the merge of the first member to come failed. `goes` says what the merge of all that are
+-- to come would lead to.
 pub one_failed : (k : String Global) (v : Json) (rest theirs mine new old : Pairs)
     → ((names : List (List ℕ)) → IsOldOrMerged (leaf_below (string_bytes k) names new) (leaf_below (string_bytes k) names mine) (merged_below (merged_leaf names) names (Some v) (lookup_by (has_text (string_bytes k)) mine)))
     → ((other : List ℕ) → bytes_eq (string_bytes k) other ≡ false → lookup_by (has_text other) new ≡ lookup_by (has_text other) mine)

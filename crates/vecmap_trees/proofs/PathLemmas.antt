@@ -1,4 +1,4 @@
--- What stands at a path after a change at a path. The idea: induction on the path, and at each name the laws of a write
+-- The value at a path after a change at a path. The idea: induction on the path, and at each name the laws of a write
 -- of a value in a map.
 use Rattle.std.specs.Prelude.{◌≡◌, ℕ, IsSome, List, [], ◌∷◌, None, Option, Some, String, bytes_eq, false, string_eq, refl}
 use Rattle.std.specs.Option.{option_and_then, option_map, option_map_or}
@@ -34,7 +34,7 @@ other_member_found name other f m apart = by (lookup_by (has_text name) m.entrie
     by None = refl
     by (Some w) = lookup_written_other_text m name other (f w) apart
 
--- The members of an object are those that it was made of.
+-- The members of an object are the members that it was made of.
 pub members_of_roll : (m : Members) → members (roll-Json (Object m)) ≡ m.entries
 members_of_roll m = ap members_of_layer (out-roll-Json (Object m))
 

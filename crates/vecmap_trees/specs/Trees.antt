@@ -89,7 +89,7 @@ abbrev pub leaf_at : List (List ℕ) → Json → Option Json
 leaf_at [] j = leaf_of j
 leaf_at (name ∷ names) j = option_and_then (leaf_at names) (member name j)
 
--- The same at the path of a name and further names, in the members of an object.
+-- The value at the path of a name and further names, in the members of an object, if it is not an object.
 abbrev pub leaf_below : List ℕ → List (List ℕ) → List (String Global × Json) → Option Json
 leaf_below name names l = option_and_then (leaf_at names) (lookup_by (has_text name) l)
 
@@ -98,24 +98,24 @@ abbrev pub is_object_layer : Json-F Json → Bool
 is_object_layer (Object m) = true
 is_object_layer _ = false
 
--- What stands at a path below a name in a merge of two objects, by the members of this name in the other object and in
--- this one. `merged` says what stands there if both have one.
+-- `merged` is the value there if both objects have a member of this name.
+-- The value at a path below a name in a merge of two objects, by the members of this name in both.
 abbrev pub merged_below : (Json → Json → Option Json) → List (List ℕ) → Option Json → Option Json → Option Json
 merged_below merged names None ours = option_and_then (leaf_at names) ours
 merged_below merged names (Some w) None = leaf_at names w
 merged_below merged names (Some w) (Some v) = merged v w
 
--- What stands at a path in a merge of `other` into `old`, if it is not an object. Two objects are merged member by
--- member, and in any other case `other` replaces `old`.
+-- Two objects are merged member by member, and in any other case `other` replaces `old`.
+-- The value at a path in a merge of `other` into `old`, if it is not an object.
 abbrev pub merged_leaf : List (List ℕ) → Json → Json → Option Json
 merged_leaf [] old other = leaf_of other
 merged_leaf (name ∷ names) old other = cond (is_object_layer (out-Json other)) (merged_below (merged_leaf names) names (member name other) (member name old)) None
 
--- What stands at the path of a name and further names in a merge of the members `theirs` into those of `mine`.
+-- The value at the path of a name and further names in a merge of the members `theirs` into the members `mine`.
 abbrev pub merged_member : List ℕ → List (List ℕ) → List (String Global × Json) → List (String Global × Json) → Option Json
 merged_member name names theirs mine = merged_below (merged_leaf names) names (lookup_by (has_text name) theirs) (lookup_by (has_text name) mine)
 
--- What stands at a path is what stood there before, or what the whole merge puts there.
+-- The value at a path is the value before, or the value that the whole merge leaves.
 abbrev pub IsOldOrMerged : Option Json → Option Json → Option Json → Type 0
 IsOldOrMerged new old merged = (new ≡ old) ⊎ (new ≡ merged)
 
@@ -123,6 +123,6 @@ IsOldOrMerged new old merged = (new ≡ old) ⊎ (new ≡ merged)
 abbrev pub HasDistinctNames : Json → Type 0
 HasDistinctNames j = (path : List (List ℕ)) (w : Json) → at_path path j ≡ Some w → HasDistinctKeys string_eq (members w)
 
--- The same of members and of all that they hold.
+-- No two of these members have one name, and no object in their values has two members of one name.
 abbrev pub AreDistinctMembers : List (String Global × Json) → Type 0
 AreDistinctMembers l = HasDistinctKeys string_eq l × ((name : List ℕ) (w : Json) → lookup_by (has_text name) l ≡ Some w → HasDistinctNames w)

@@ -14,7 +14,8 @@ use vecmap_laws::maps::{equality_ignores_order, equality_is_agreement};
 /// Returns `true` if two values are equal, as `==` does.
 ///
 /// A value is equal to itself. Two objects are equal if each member, by its name and its value, occurs equally often in
-/// both, in any order. If no names repeat, this means that each name has equal values in both objects, or none in both.
+/// both, in any order. If all names of an object are distinct, this means that each name has equal values in both
+/// objects, or none in both.
 ///
 /// # Examples
 ///

@@ -1,4 +1,4 @@
-//! Paths that are made as far as they are missing.
+//! Creation of what is missing on a path.
 ghost use Rattle.std.specs.Prelude.{◌≡◌, map, List, ℕ, IfSome, IsSome, IsTrue, None, Some, bytes_eq, false};
 ghost use Rattle.vecmap.specs.Pairs.{has_text, lookup_by};
 ghost use Rattle.vecmap_trees.specs.Trees.{ArePartedPaths, at_path, at_path_below};
@@ -10,7 +10,7 @@ use vecmap_laws::maps::{
     queries_find_as_keys, texts_are_queries, writes_by_queries_are_insertions,
 };
 
-// Makes a path lead to a value, and returns `true` if it does. What is missing is created, with `null` at its end.
+// Creates what is missing on a path, with `null` at its end. Returns `true` if the path then leads to a value.
 #[cycle(make_path)]
 pub(crate) fn make_path(tree: &mut Json, alloc: Global, path: &[&str]) -> bool
     ensures found { IsTrue result
@@ -31,7 +31,7 @@ pub(crate) fn make_path(tree: &mut Json, alloc: Global, path: &[&str]) -> bool
     }
 }
 
-// Makes a path below the member of a name lead to a value, and returns `true` if it does.
+// Creates what is missing on a path below the member of a name. Returns `true` if the path then leads to a value.
 #[cycle(make_path)]
 fn make_below(members: &mut VecMap<String, Json>, alloc: Global, name: &str, path: &[&str]) -> bool
     ensures found { IsTrue result

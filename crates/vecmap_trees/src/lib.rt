@@ -1,9 +1,9 @@
 //! A tree of JSON values, whose objects keep the order of their members.
 //!
 //! A [`Json`] is read and written at a path of names of any depth, merged with another one, compared and printed. An
-//! object is a `VecMap<String, Json>`, so a value holds maps of values of its own type.
+//! object is a `VecMap<String, Json>`, so `Json` is a recursive type.
 //!
-//! Contracts speak of what stands at a path: `at_path` is the value that a path of names leads to.
+//! In contracts, `at_path` is the value that a path of names leads to.
 #![tactic(auto)]
 
 mod building;

@@ -19,8 +19,8 @@ impl Json {
     /// # Errors
     ///
     /// [`AllocError`] if memory runs out. Members whose names the other object does not have are then as before. If no
-    /// names repeat in the other value, the value at each path, unless it is an object, is as before or as the whole
-    /// merge would leave it.
+    /// object of the other value has duplicate names, the value at each path, unless it is an object, is as before or
+    /// as the whole merge would leave it.
     ///
     /// # Complexity
     ///
@@ -50,8 +50,8 @@ impl Json {
     }
 }
 
-// Merges a value into another one, at every depth. What goes down, the value, is the first parameter of each function
-// of this cycle: by it the recursion ends.
+// Merges a value into another one, at every depth. The value is the first parameter of each function of this cycle: it
+// gets smaller, so the recursion ends.
 #[cycle(merge_into)]
 fn merge_into(other: Json, tree: &mut Json) -> Result<(), AllocError>
     ensures merged { OnOk result (HasDistinctNames other → (path : List (List ℕ))
@@ -77,7 +77,7 @@ fn merge_into(other: Json, tree: &mut Json) -> Result<(), AllocError>
     }
 }
 
-// Merges members into those of an object.
+// Merges members into the members of an object.
 #[cycle(merge_into)]
 fn merge_members(
     theirs: VecMap<String, Json>,

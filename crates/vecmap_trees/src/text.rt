@@ -3,7 +3,7 @@ use crate::Json;
 use std::fmt;
 use std::fmt::Write;
 
-/// Writes the value as JSON without spaces. The escapes in names and texts are those of JSON.
+/// Writes the value as JSON without spaces. Names and texts are escaped as in JSON.
 impl fmt::Display for Json {
     fn fmt<W: fmt::Write>(&self, f: &mut fmt::Formatter<W>) -> fmt::Result {
         match self {

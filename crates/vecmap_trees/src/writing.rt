@@ -8,7 +8,7 @@ use std::alloc::Global;
 use vecmap::{Refused, VecMap};
 
 impl Json {
-    /// Replaces the value at a path, if there is one. Returns `true` if there is one.
+    /// Replaces the value at a path, if the path leads to one. Returns `true` if it does.
     ///
     /// # Complexity
     ///

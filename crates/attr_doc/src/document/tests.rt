@@ -4,6 +4,7 @@ mod refusals;
 use super::Document;
 use crate::Name;
 use std::alloc::{AllocError, Global};
+use std::process::Abort;
 use std::test::Fail;
 
 /// Sets a text, and returns the previous one.
@@ -41,36 +42,46 @@ fn document(alloc: Global, rows: &[(&str, &str, &str)]) -> Result<Document, Allo
     Ok(page)
 }
 
-/// Creates a document, merges another one into it, and prints it.
-fn example(alloc: Global) -> Result<String, AllocError> {
-    let mut page = Document::new(alloc);
-    set(alloc, &mut page, "Font", "Size", "12")?;
-    set(alloc, &mut page, "Page", "Width", "5")?;
-    let mut changes = Document::new(alloc);
-    set(alloc, &mut changes, "page", "WIDTH", "7")?;
-    set(alloc, &mut changes, "Link", "Color", "red")?;
+/// Returns what two documents print after the second is merged into the first, and the names of the first's sections.
+fn merged(
+    alloc: Global,
+    first: &[(&str, &str, &str)],
+    second: &[(&str, &str, &str)],
+) -> Result<String, AllocError> {
+    let mut page = document(alloc, first)?;
+    let mut changes = document(alloc, second)?;
     page.merge(&mut changes)?;
-    format!(in alloc; "{page:?}")
+    format!(in alloc; "{page:?} {:?} {changes:?}", page.sections())
 }
 
 #[test]
 fn prints_the_example(rt: HostRuntime) -> Result<(), Fail> {
-    let printed = example(rt.alloc())?;
-    let expected = r#"{"Font": {"Size": "12"}, "Page": {"Width": "7"}, "Link": {"Color": "red"}}"#;
+    let page = [("Font", "Size", "12"), ("Page", "Width", "5")];
+    let changes = [("page", "WIDTH", "7"), ("Link", "Color", "red")];
+    let printed = merged(rt.alloc(), &page, &changes)?;
+    let expected =
+        r#"{"Font": {"Size": "12"}, "Page": {"Width": "7"}, "Link": {"Color": "red"}} ["Font", "Page", "Link"] {}"#;
     assert_eq!(rt; printed.as_str(), expected);
     Ok(())
 }
 
+/// Returns what two calls of `set` and one of `get` return, the document, and its sections, as they print.
+fn written_twice(alloc: Global) -> Result<String, AllocError> {
+    let mut page = Document::new(alloc);
+    let first = set(alloc, &mut page, "Font", "Size", "10")?;
+    let second = set(alloc, &mut page, "FONT", "size", "12")?;
+    let found = get(alloc, &page, "font", "SIZE")?;
+    format!(in alloc;
+        "{first:?} {second:?} {found:?} {page:?} {:?}",
+        page.sections()
+    )
+}
+
 #[test]
 fn names_stay_as_they_were_first_written(rt: HostRuntime) -> Result<(), Fail> {
-    let alloc = rt.alloc();
-    let mut page = Document::new(alloc);
-    assert_eq!(rt; set(alloc, &mut page, "Font", "Size", "10")?, None);
-    let old = set(alloc, &mut page, "FONT", "size", "12")?;
-    assert_eq!(rt; old.as_deref(), Some("10"));
-    assert_eq!(rt; get(alloc, &page, "font", "SIZE")?, Some("12"));
-    let printed = format!(in alloc; "{page:?} {:?}", page.sections())?;
-    assert_eq!(rt; printed.as_str(), r#"{"Font": {"Size": "12"}} ["Font"]"#);
+    let printed = written_twice(rt.alloc())?;
+    let expected = r#"None Some("10") Some("12") {"Font": {"Size": "12"}} ["Font"]"#;
+    assert_eq!(rt; printed.as_str(), expected);
     Ok(())
 }
 
@@ -97,28 +108,40 @@ const SECOND: &[(&str, &str, &str)] = &[
 
 #[test]
 fn a_merge_replaces_texts_and_appends_new_sections(rt: HostRuntime) -> Result<(), Fail> {
-    let alloc = rt.alloc();
-    let mut first = document(alloc, FIRST)?;
-    let mut second = document(alloc, SECOND)?;
-    first.merge(&mut second)?;
-    for (section, name, expected) in [
-        ("page", "width", Some("7")),
-        ("Page", "Height", Some("9")),
-        ("Page", "Margin", Some("1")),
-        ("link", "color", Some("red")),
-        ("FONT", "size", Some("12")),
-        ("Link", "Size", None),
-        ("Pag", "Width", None),
-        ("", "", None),
-    ] {
-        assert_eq!(rt;
-            get(alloc, &first, section, name)?,
-            expected,
-            "{section} {name}"
-        );
+    let printed = merged(rt.alloc(), FIRST, SECOND)?;
+    let expected =
+        r#"{"Font": {"Size": "12"}, "Page": {"Width": "7", "Height": "9", "Margin": "1"}, "Link": {"Color": "red"}} ["Font", "Page", "Link"] {}"#;
+    assert_eq!(rt; printed.as_str(), expected);
+    Ok(())
+}
+
+/// Returns what a document of these rows returns for each section and name, as it prints.
+fn found_texts(
+    alloc: Global,
+    rows: &[(&str, &str, &str)],
+    asked: &[(&str, &str)],
+) -> Result<String, AllocError> {
+    let page = document(alloc, rows)?;
+    let mut texts = Vec::new(alloc);
+    for (section, name) in asked {
+        texts.push(get(alloc, &page, section, name)?)?;
     }
-    let printed = format!(in alloc; "{:?} {second:?}", first.sections())?;
-    assert_eq!(rt; printed.as_str(), r#"["Font", "Page", "Link"] {}"#);
+    format!(in alloc; "{texts:?}")
+}
+
+#[test]
+fn get_ignores_case_and_finds_no_absent_name(rt: HostRuntime) -> Result<(), Fail> {
+    let asked = [
+        ("page", "width"),
+        ("Page", "Height"),
+        ("FONT", "size"),
+        ("Font", "Width"),
+        ("Pag", "Width"),
+        ("", ""),
+    ];
+    let printed = found_texts(rt.alloc(), FIRST, &asked)?;
+    let expected = r#"[Some("5"), Some("9"), Some("12"), None, None, None]"#;
+    assert_eq!(rt; printed.as_str(), expected);
     Ok(())
 }
 
@@ -133,6 +156,19 @@ fn are_same(
     Ok((first.same(&second), second.same(&first)))
 }
 
+/// Asserts that documents of these rows are the same, or that they are not, compared from both sides.
+fn assert_same(
+    rt: &impl Abort,
+    alloc: Global,
+    first: &[(&str, &str, &str)],
+    second: &[(&str, &str, &str)],
+    expected: bool,
+) -> Result<(), AllocError> {
+    let found = are_same(alloc, first, second)?;
+    assert_eq!(*rt; found, (expected, expected), "{second:?}");
+    Ok(())
+}
+
 #[test]
 fn same_ignores_order_and_case(rt: HostRuntime) -> Result<(), Fail> {
     let reversed = [
@@ -141,9 +177,9 @@ fn same_ignores_order_and_case(rt: HostRuntime) -> Result<(), Fail> {
         ("font", "size", "12"),
     ];
     let empty = [("", "", "")];
-    assert_eq!(rt; are_same(rt.alloc(), FIRST, &reversed)?, (true, true));
-    assert_eq!(rt; are_same(rt.alloc(), &empty, &empty)?, (true, true));
-    assert_eq!(rt; are_same(rt.alloc(), &[], &[])?, (true, true));
+    assert_same(&rt, rt.alloc(), FIRST, &reversed, true)?;
+    assert_same(&rt, rt.alloc(), &empty, &empty, true)?;
+    assert_same(&rt, rt.alloc(), &[], &[], true)?;
     Ok(())
 }
 
@@ -160,21 +196,21 @@ fn same_compares_each_text(rt: HostRuntime) -> Result<(), Fail> {
         ("Font", "Width", "5"),
         ("Font", "Height", "9"),
     ];
-    for rows in [&changed[..], &shorter[..], &moved[..]] {
-        assert_eq!(rt;
-            are_same(rt.alloc(), FIRST, rows)?,
-            (false, false),
-            "{rows:?}"
-        );
-    }
-    let none_and_one = are_same(rt.alloc(), &[], &[("", "", "")])?;
-    assert_eq!(rt; none_and_one, (false, false));
-    let upper_and_lower = are_same(rt.alloc(), &[("ß", "É", "a")], &[("ß", "é", "a")])?;
-    assert_eq!(rt; upper_and_lower, (false, false));
+    assert_same(&rt, rt.alloc(), FIRST, &changed, false)?;
+    assert_same(&rt, rt.alloc(), FIRST, &shorter, false)?;
+    assert_same(&rt, rt.alloc(), FIRST, &moved, false)?;
+    assert_same(&rt, rt.alloc(), &[], &[("", "", "")], false)?;
+    assert_same(
+        &rt,
+        rt.alloc(),
+        &[("ß", "É", "a")],
+        &[("ß", "é", "a")],
+        false,
+    )?;
     Ok(())
 }
 
-/// Returns the capacity of the document, and then those of its sections.
+/// Returns the capacity of the document, and then the capacities of its sections.
 fn capacities(alloc: Global, page: &Document) -> Result<Vec<usize>, AllocError> {
     let mut capacities = Vec::new(alloc);
     capacities.push(page.sections.capacity())?;
@@ -213,21 +249,41 @@ fn a_merge_of_nothing_reserves_nothing(rt: HostRuntime) -> Result<(), Fail> {
     Ok(())
 }
 
-#[test]
-fn sections_and_texts_grow_like_vectors(rt: HostRuntime) -> Result<(), Fail> {
-    let alloc = rt.alloc();
+/// Returns the capacity of a document after each of 20 new sections, and then the capacities of these sections.
+fn capacities_of_sections(alloc: Global) -> Result<Vec<usize>, AllocError> {
     let mut page = Document::new(alloc);
-    let mut numbers = Vec::new(alloc);
-    let mut one = Vec::new(alloc);
-    one.push(0)?;
+    let mut capacities = Vec::new(alloc);
     for number in 0..20u32 {
         let section = format!(in alloc; "{number}")?;
         set(alloc, &mut page, section.as_str(), "", "")?;
-        numbers.push(number)?;
-        assert_eq!(rt; page.sections.capacity(), numbers.capacity());
+        capacities.push(page.sections.capacity())?;
     }
     for section in page.sections.values() {
-        assert_eq!(rt; section.capacity(), one.capacity());
+        capacities.push(section.capacity())?;
     }
+    Ok(capacities)
+}
+
+/// Returns the capacity of a vector after each of 20 numbers, and then 20 times the capacity of a vector of one number.
+fn capacities_of_vectors(alloc: Global) -> Result<Vec<usize>, AllocError> {
+    let mut numbers = Vec::new(alloc);
+    let mut capacities = Vec::new(alloc);
+    for number in 0..20u32 {
+        numbers.push(number)?;
+        capacities.push(numbers.capacity())?;
+    }
+    let mut one = Vec::new(alloc);
+    one.push(0u32)?;
+    for _ in 0..20 {
+        capacities.push(one.capacity())?;
+    }
+    Ok(capacities)
+}
+
+#[test]
+fn sections_and_texts_grow_like_vectors(rt: HostRuntime) -> Result<(), Fail> {
+    let found = capacities_of_sections(rt.alloc())?;
+    assert_eq!(rt; found.len(), 40);
+    assert_eq!(rt; found, capacities_of_vectors(rt.alloc())?);
     Ok(())
 }

@@ -1,9 +1,9 @@
-//! Whole runs in which each request for memory is refused once.
+//! Whole runs in which each allocation fails once.
 use super::serve;
 use std::test::Fail;
 
-// `rt try --test --fail-alloc N` refuses one request of this test: for the text of a key, or for the capacity for the
-// first or the fifth pair. The test prints that it was refused. No second request is refused, so the next run has all
+// `rt try --test --fail-alloc N` lets one allocation of this test fail: for the text of a key, or for the capacity for
+// the first or the fifth pair. The test then prints `refused`. No second allocation fails, so the next run has all
 // answers.
 #[test]
 fn answers_each_line_or_memory_where_one_is_refused(rt: HostRuntime) -> Result<(), Fail> {
@@ -35,8 +35,8 @@ fn answers_each_line_or_memory_where_one_is_refused(rt: HostRuntime) -> Result<(
     Ok(())
 }
 
-// The writer is an array, so there are two requests: for the text of the key, and for the capacity of the map. The
-// program prints the same text, whichever of them is refused.
+// The writer is an array, so there are two allocations: for the text of the key, and for the capacity of the map. The
+// program prints the same text, whichever of them fails.
 #[test]
 fn answers_an_insertion_or_memory_if_it_is_refused(rt: HostRuntime) -> Result<(), Fail> {
     for is_first in [true, false] {

@@ -14,7 +14,7 @@ fn served(alloc: Global, input: &[u8]) -> Result<String, Fail> {
     Ok(String::from_utf8(written)?)
 }
 
-/// Supplies its bytes, at most so many at a time, and then ends or fails.
+/// Supplies its bytes, at most `most` at a time, and then ends or fails.
 #[derive(Drop)]
 struct FakeReader<'a> {
     rest: &'a [u8],
@@ -57,7 +57,7 @@ impl Read for FakeReader<'_> {
     }
 }
 
-/// Takes so many bytes, and then fails.
+/// Accepts `room` bytes, and then fails.
 #[derive(Drop)]
 struct FakeWriter {
     written: Vec<u8>,
@@ -154,69 +154,71 @@ fn reads_numbers(rt: HostRuntime) -> Result<(), Fail> {
     Ok(())
 }
 
+/// Lines that are no command.
+const INVALID_LINES: &[&str] = &[
+    "",
+    " ",
+    "a",
+    "insert",
+    "insert a",
+    "insert a ",
+    "insert a 1 ",
+    "insert  a 1",
+    "insert a  1",
+    " insert a 1",
+    "insert a 1 2",
+    "insert a 1\r",
+    "insert a\t1",
+    "Insert a 1",
+    "insert a b",
+    "insert a -",
+    "insert a +1",
+    "insert a --1",
+    "insert a 1-",
+    "insert a 1.5",
+    "insert a 0x1",
+    "insert a 1234567890123456789",
+    "insert a 0000000000000000001",
+    "insert a -1234567890123456789",
+    "insert a= 1",
+    "insert a/b 1",
+    "insert a:b 1",
+    "insert a,b 1",
+    "insert a@b 1",
+    "insert a[b 1",
+    "insert a`b 1",
+    "insert a{b 1",
+    "insert a\u{0}b 1",
+    "insert a\u{7f}b 1",
+    "insert é 1",
+    "insert_at a 1",
+    "insert_at 0 a",
+    "insert_at -1 a 1",
+    "insert_at +0 a 1",
+    "insert_at  0 a 1",
+    "insert_at 0  a 1",
+    "insert_at 1234567890123456789 a 1",
+    "get",
+    "get ",
+    "get a b",
+    "get  a",
+    "remove",
+    "remove a 1",
+    "index",
+    "index 0 a",
+    "swap_remove",
+    "swap_remove a b",
+    "len ",
+    "len a",
+    "LEN",
+    "list ",
+    "list a",
+    "lists",
+];
+
 #[test]
 fn reports_a_line_that_is_no_command(rt: HostRuntime) -> Result<(), Fail> {
-    let lines = [
-        "",
-        " ",
-        "a",
-        "insert",
-        "insert a",
-        "insert a ",
-        "insert a 1 ",
-        "insert  a 1",
-        "insert a  1",
-        " insert a 1",
-        "insert a 1 2",
-        "insert a 1\r",
-        "insert a\t1",
-        "Insert a 1",
-        "insert a b",
-        "insert a -",
-        "insert a +1",
-        "insert a --1",
-        "insert a 1-",
-        "insert a 1.5",
-        "insert a 0x1",
-        "insert a 1234567890123456789",
-        "insert a 0000000000000000001",
-        "insert a -1234567890123456789",
-        "insert a= 1",
-        "insert a/b 1",
-        "insert a:b 1",
-        "insert a,b 1",
-        "insert a@b 1",
-        "insert a[b 1",
-        "insert a`b 1",
-        "insert a{b 1",
-        "insert a\u{0}b 1",
-        "insert a\u{7f}b 1",
-        "insert é 1",
-        "insert_at a 1",
-        "insert_at 0 a",
-        "insert_at -1 a 1",
-        "insert_at +0 a 1",
-        "insert_at  0 a 1",
-        "insert_at 0  a 1",
-        "insert_at 1234567890123456789 a 1",
-        "get",
-        "get ",
-        "get a b",
-        "get  a",
-        "remove",
-        "remove a 1",
-        "index",
-        "index 0 a",
-        "swap_remove",
-        "swap_remove a b",
-        "len ",
-        "len a",
-        "LEN",
-        "list ",
-        "list a",
-        "lists",
-    ];
-    for line in lines {
+    for line in INVALID_LINES {
         let input = format!(in rt.alloc(); "{line}\nlen\n")?;
         assert!(rt;
             served(rt.alloc(), input.as_bytes())?.as_str() == "fault\n0\n",
@@ -365,7 +367,7 @@ impl Read for LineReader<'_> {
     }
 }
 
-/// Counts the bytes that it takes.
+/// Counts the bytes that it accepts.
 #[derive(Drop)]
 struct CountingWriter<'a> {
     written: &'a Cell<usize>,

@@ -1,4 +1,4 @@
--- The loop keeps that the sections so far are merged, and that there is spare capacity for those still to come.
+-- The loop keeps that the sections so far are merged, and that there is spare capacity for the sections still to come.
 use Rattle.std.proofs.Common.{List, ℕ, ◌∙◌, ◌++◌, ap, append_assoc, arith, length, refl, subst, sym}
 use Rattle.std.specs.List.{All}
 use Rattle.std.specs.Map.{keys_of}

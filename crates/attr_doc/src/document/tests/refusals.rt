@@ -1,5 +1,5 @@
-//! Documents whose requests for memory are refused. `.ci/refuse` refuses the first request of each test, then the
-//! second, and so on, as long as a test prints `refused`.
+//! Documents whose allocations fail. `.ci/refuse` lets the first allocation of each test fail, then the second, and so
+//! on, as long as a test prints `refused`.
 use super::document;
 use crate::{Document, Name};
 use std::alloc::{AllocError, Global};
@@ -7,8 +7,9 @@ use std::process::Abort;
 use std::test::Fail;
 use vecmap::Refused;
 
-/// The value that a call returns. If the call is refused, this prints that, executes the statements after `=>`, which
-/// compare what the call left, and makes the call again. The statements may bind the names that the call uses anew.
+/// The value that a call returns. If memory runs out in the call, this prints `refused`, executes the statements after
+/// `=>`, which compare what the call left, and makes the call again. The statements may bind the names that the call
+/// uses anew.
 macro_rules! retry {
     ($rt:ident; $call:expr, $refused:pat => { $($left:tt)* }) => {
         match $call {
@@ -23,6 +24,15 @@ macro_rules! retry {
             }
         }
     };
+}
+
+/// Creates a document of these rows, also if an allocation fails.
+fn retried_document(
+    rt: &(impl Abort + Print),
+    alloc: Global,
+    rows: &[(&str, &str, &str)],
+) -> Result<Document, Fail> {
+    Ok(retry!(rt; document(alloc, rows), _refused => {}))
 }
 
 /// Asserts that a document prints as this text.
@@ -44,7 +54,12 @@ fn given(alloc: Global) -> Result<(Name, Name, String), AllocError> {
     Ok((section, name, "2".to_string(alloc)?))
 }
 
-/// Sets the text that `given` returns, in a document of these rows. If that is refused, the document still prints as
+/// Returns what `given` returns, also if an allocation fails.
+fn retried_given(rt: &(impl Abort + Print), alloc: Global) -> Result<(Name, Name, String), Fail> {
+    Ok(retry!(rt; given(alloc), _refused => {}))
+}
+
+/// Sets the text that `given` returns, in a document of these rows. If memory runs out, the document still prints as
 /// `before`, and what was passed is returned and set again. Then the document prints as `after`.
 fn set_given(
     rt: &(impl Abort + Print),
@@ -53,8 +68,8 @@ fn set_given(
     before: &str,
     after: &str,
 ) -> Result<(), Fail> {
-    let mut page = retry!(rt; document(alloc, rows), _refused => {});
-    let (section, name, text) = retry!(rt; given(alloc), _refused => {});
+    let mut page = retried_document(rt, alloc, rows)?;
+    let (section, name, text) = retried_given(rt, alloc)?;
     let old =
         retry!(rt; page.set(section, name, text), Refused { given: (section, name, text) } => {
         assert_printed(rt, alloc, &page, before)?;
@@ -89,7 +104,7 @@ fn set_of_a_new_name_keeps_its_texts_or_returns_them(rt: HostRuntime) -> Result<
     set_given(&rt, rt.alloc(), &rows, before, after)
 }
 
-/// Three sections, one of which has three names. Capacity for the two more of `FROM` needs a fifth slot in both maps.
+/// Three sections, one of which has three names. With the sections and names of `FROM`, both maps need a fifth slot.
 const INTO: &[(&str, &str, &str)] = &[
     ("", "a", "1"),
     ("", "b", ""),
@@ -100,19 +115,29 @@ const INTO: &[(&str, &str, &str)] = &[
 
 const FROM: &[(&str, &str, &str)] = &[("t", "", ""), ("", "A", "2"), ("", "d", "")];
 
+/// Asserts that two documents print as these two texts.
+fn assert_both_printed(
+    rt: &(impl Abort + Print),
+    alloc: Global,
+    first: (&Document, &str),
+    second: (&Document, &str),
+) -> Result<(), Fail> {
+    assert_printed(rt, alloc, first.0, first.1)?;
+    assert_printed(rt, alloc, second.0, second.1)
+}
+
 // body: `Document::merge`
 #[test]
 fn merge_moves_all_or_nothing(rt: HostRuntime) -> Result<(), Fail> {
     let (rt, alloc) = (&rt, rt.alloc());
-    let mut into = retry!(rt; document(alloc, INTO), _refused => {});
-    let mut from = retry!(rt; document(alloc, FROM), _refused => {});
+    let mut into = retried_document(rt, alloc, INTO)?;
+    let mut from = retried_document(rt, alloc, FROM)?;
+    let before = r#"{"": {"a": "1", "b": "", "": ""}, "q": {"": ""}, "r": {"": ""}}"#;
+    let other = r#"{"t": {"": ""}, "": {"A": "2", "d": ""}}"#;
     retry!(rt; into.merge(&mut from), AllocError => {
-        let before = r#"{"": {"a": "1", "b": "", "": ""}, "q": {"": ""}, "r": {"": ""}}"#;
-        assert_printed(rt, alloc, &into, before)?;
-        assert_printed(rt, alloc, &from, r#"{"t": {"": ""}, "": {"A": "2", "d": ""}}"#)?;
+        assert_both_printed(rt, alloc, (&into, before), (&from, other))?;
     });
     let after =
         r#"{"": {"a": "2", "b": "", "": "", "d": ""}, "q": {"": ""}, "r": {"": ""}, "t": {"": ""}}"#;
-    assert_printed(rt, alloc, &into, after)?;
-    assert_printed(rt, alloc, &from, "{}")
+    assert_both_printed(rt, alloc, (&into, after), (&from, "{}"))
 }

@@ -1,4 +1,4 @@
--- Two objects have what `equal_members` says of their members. Any other values have what `==` says.
+-- For two objects, `equal_members` returns the result. For any other values, `==` does.
 use Rattle.std.proofs.Common.{◌≡◌, ◌↔◌, IsTrue, String, rules, string_eq, subst, subst₂, sym, true, ◌∙◌}
 use Rattle.std.specs.Option.{option_eq}
 use Rattle.std.specs.declared.alloc.Global.{Global}

@@ -1,5 +1,5 @@
--- The moved sections are those of `other`, for which `make_room` reserved capacity. A merge of two documents is a
--- document.
+-- The moved sections are the sections of `other`, for which `make_room` reserved capacity. A merge of two documents is
+-- a document.
 use Rattle.std.proofs.Common.{◌∙◌, ap, subst, sym}
 use Rattle.std.specs.List.{All}
 use Rattle.std.specs.Str.{str_eq_ignore_ascii_case}

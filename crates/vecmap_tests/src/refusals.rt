@@ -1,0 +1,92 @@
+//! Calls whose allocations fail. `.ci/refuse` lets the first allocation of each test fail, then the second, and so on,
+//! as long as a test prints `refused`.
+use std::alloc::{AllocError, Global};
+use std::process::Abort;
+use std::test::Fail;
+use vecmap::VecMap;
+use vecmap_trees::Json;
+
+/// Runs what prints a text. It prints `expected`, or, if an allocation fails, `left` or nothing. Then it is run again.
+fn assert_printed<F: Fn(Global) -> Result<String, AllocError>>(
+    rt: &(impl AllocGlobal + Abort + Print),
+    print: F,
+    expected: &str,
+    left: &str,
+) -> Result<(), Fail>
+    requires { F.IsAlwaysCallable print }
+{
+    for is_first in [true, false] {
+        if let Ok(printed) = print(rt.alloc()) {
+            if printed.as_str() == expected {
+                return Ok(());
+            }
+            assert_eq!(*rt; printed.as_str(), left);
+        }
+        assert!(*rt; is_first);
+        println!(*rt; "refused")?;
+    }
+    Ok(())
+}
+
+/// Creates a tree of these members, each with the same number.
+fn tree(alloc: Global, names: &[&str], number: i64) -> Result<Json, AllocError> {
+    let mut tree = Json::object(alloc);
+    for name in names {
+        tree.set_at(alloc, &[*name], Json::Number(number))?;
+    }
+    Ok(tree)
+}
+
+/// Prints what a merge into four members leaves: of a member that is present, and of two new ones.
+fn print_merged(alloc: Global) -> Result<String, AllocError> {
+    let mut first = tree(alloc, &["a", "b", "c", "d"], 0)?;
+    let is_merged = first.merge_deep(tree(alloc, &["b", "e", "f"], 1)?).is_ok();
+    format!(in alloc; "{is_merged} {first}")
+}
+
+// body: `Json::merge_deep`
+#[test]
+fn a_refused_merge_leaves_what_was_merged_before(rt: HostRuntime) -> Result<(), Fail> {
+    let expected = r#"true {"a":0,"b":1,"c":0,"d":0,"e":1,"f":1}"#;
+    let left = r#"false {"a":0,"b":1,"c":0,"d":0}"#;
+    assert_printed(&rt, print_merged, expected, left)
+}
+
+/// A key whose clone is greater by one.
+#[derive(Debug, Drop, PartialEq, Eq)]
+struct Counted(u32);
+
+impl Clone for Counted {
+    fn clone(&self) -> Result<Counted, AllocError> {
+        Ok(Counted(self.0.wrapping_add(1)))
+    }
+}
+
+/// Prints what an insertion by an entry stores, or returns.
+fn print_entry(alloc: Global, map: &mut VecMap<Counted, u32>) -> Result<String, AllocError> {
+    match map.entry(Counted(7)).insert_entry(70) {
+        Ok(entry) => {
+            let (key, value) = (entry.key().0, *entry.get());
+            format!(in alloc; "{key} {value}")
+        }
+        Err(refused) => {
+            let given = refused.given;
+            format!(in alloc; "refused {given:?}")
+        }
+    }
+}
+
+/// Prints this of a full map, and the map.
+fn print_inserted(alloc: Global) -> Result<String, AllocError> {
+    let mut map = VecMap::with_capacity(alloc, 1)?;
+    map.insert(Counted(1), 10)?;
+    let printed = print_entry(alloc, &mut map)?;
+    format!(in alloc; "{printed} {map:?}")
+}
+
+#[test]
+fn a_refused_entry_returns_the_key_and_not_its_clone(rt: HostRuntime) -> Result<(), Fail> {
+    let expected = "7 70 {Counted(1): 10, Counted(8): 70}";
+    let left = "refused (Counted(7), 70) {Counted(1): 10}";
+    assert_printed(&rt, print_inserted, expected, left)
+}

@@ -1,0 +1,167 @@
+//! Branches by size and length that rows do not take, since their keys and elements are larger than a word: relations of
+//! small elements, moves of small pairs, and equality of more than 1,024 pairs whose values may differ from themselves.
+use crate::checks::{assert_gives, assert_is, granted};
+use std::alloc::{AllocError, Global};
+use std::default::MadeWith;
+use vecmap::{VecMap, VecSet};
+
+/// Returns the numbers from a first to before a last, and one more.
+fn numbers(alloc: Global, first: u32, end: u32, last: u32) -> Result<Vec<u32>, AllocError> {
+    let mut numbers = Vec::new(alloc);
+    for number in first..end {
+        numbers.push(number)?;
+    }
+    numbers.push(last)?;
+    Ok(numbers)
+}
+
+// The relations of a set with another one: whether it is a subset, a superset, disjoint, and equal.
+fn relations(set: &VecSet<u32>, other: &VecSet<u32>) -> [bool; 4] {
+    [
+        set.is_subset(other),
+        set.is_superset(other),
+        set.is_disjoint(other),
+        *set == *other,
+    ]
+}
+
+// Of three, four, eight and 20 elements.
+#[test]
+fn sets_of_small_elements_are_related_by_each_of_them(rt: HostRuntime) {
+    let alloc = rt.alloc();
+    for end in [3, 4, 8, 20] {
+        let set = VecSet::from(granted(&rt, numbers(alloc, 1, end, 0)));
+        for (first, end, last, expected) in [
+            (0, end, 0, [true, true, false, true]),
+            (1, end, 50, [false, false, false, false]),
+            (0, end, 50, [true, false, false, false]),
+            (2, end, 0, [false, true, false, false]),
+            (30, 60, 50, [false, false, true, false]),
+            (30, 60, 0, [false, false, false, false]),
+            (30, 60, 1, [false, false, false, false]),
+        ] {
+            let other = VecSet::from(granted(&rt, numbers(alloc, first, end, last)));
+            assert_is(&rt, relations(&set, &other), expected);
+        }
+    }
+}
+
+/// Moves a number in a list and in a map of the same keys, and inserts 50 before it. Returns whether both are the same.
+fn moves_alike(alloc: Global, from: usize, to: usize) -> Result<bool, AllocError> {
+    let mut list = numbers(alloc, 0, 39, 39)?;
+    let mut map = VecMap::new(alloc);
+    for number in &list {
+        map.insert(*number, 0)?;
+    }
+    if list.len() <= from {
+        return Ok(false);
+    }
+    let key = list.remove(from);
+    if list.len() < to || map.len() < to {
+        return Ok(false);
+    }
+    list.insert(to, key)?;
+    list.insert(to, 50)?;
+    let old = map.insert_at(to, key, 0)?;
+    if map.len() < to {
+        return Ok(false);
+    }
+    map.insert_at(to, 50, 0)?;
+    Ok(old == Some((from, 0)) && map.keys().eq(&list))
+}
+
+// A pair of 8 bytes is carried over up to eight pairs to the left and 32 to the right, and else moves by a rotation.
+#[test]
+fn small_pairs_move_by_any_number_of_indices(rt: HostRuntime) {
+    for from in [0, 1, 20, 39] {
+        for to in [0, 2, 9, 33, 39] {
+            assert_gives(&rt, moves_alike(rt.alloc(), from, to), true);
+        }
+    }
+}
+
+/// Searches a set and a map of the first odd numbers for each number up to them. Returns the number of wrong results.
+fn wrong_searches(alloc: Global, count: usize) -> Result<usize, AllocError> {
+    let (mut set, mut map) = (VecSet::new(alloc), VecMap::new(alloc));
+    for index in 0..count {
+        set.insert(index.wrapping_mul(2).wrapping_add(1))?;
+        map.insert(index.wrapping_mul(2).wrapping_add(1), index)?;
+    }
+    let mut wrong = 0usize;
+    for number in 0..=count.wrapping_mul(2) {
+        let index = number / 2;
+        let expected = if number % 2 == 1 {
+            Ok(index)
+        } else {
+            Err(index)
+        };
+        let is_right = set.binary_search(&number) == expected
+            && map.binary_search_keys(&number) == expected
+            && set.partition_point(|other| *other < number) == index
+            && map.partition_point(|other, _value| *other < number) == index;
+        wrong = wrong.wrapping_add(usize::from(!is_right));
+    }
+    Ok(wrong)
+}
+
+// Small keys are searched by quarters, as long as at least four are left.
+#[test]
+fn small_numbers_are_searched_by_quarters(rt: HostRuntime) {
+    for count in [0, 1, 3, 4, 5, 16, 21, 64, 100] {
+        assert_gives(&rt, wrong_searches(rt.alloc(), count), 0);
+    }
+}
+
+/// Creates a map of pairs with these keys, in ascending or descending order, and one value.
+fn map_of(
+    alloc: Global,
+    count: u32,
+    is_reversed: bool,
+    value: f64,
+) -> Result<VecMap<u32, f64>, AllocError> {
+    let mut pairs = Vec::new(alloc);
+    for number in 0..count {
+        pairs.push((number, value))?;
+    }
+    if is_reversed {
+        pairs.reverse();
+    }
+    Ok(VecMap::from(pairs))
+}
+
+#[test]
+fn many_values_that_differ_from_themselves_are_in_no_equal_map(rt: HostRuntime) {
+    let alloc = rt.alloc();
+    for (count, value, is_equal) in [
+        (20, 0.5, true),
+        (20, f64::NAN, false),
+        (1030, 0.5, true),
+        (1030, f64::NAN, false),
+    ] {
+        let map = granted(&rt, map_of(alloc, count, false, value));
+        let other = granted(&rt, map_of(alloc, count, true, value));
+        assert_is(&rt, map == other, is_equal);
+    }
+}
+
+#[test]
+fn a_default_collection_has_no_capacity(rt: HostRuntime) {
+    let map: VecMap<u32, u32> = VecMap::made_with(rt.alloc());
+    let set: VecSet<u32> = VecSet::made_with(rt.alloc());
+    assert_is(&rt, (map.capacity(), set.capacity()), (0, 0));
+}
+
+/// Appends numbers with values of 32 bytes to a map, and the values to a set. Returns whether all are in order.
+fn appends_in_order(alloc: Global) -> Result<bool, AllocError> {
+    let (mut map, mut set) = (VecMap::new(alloc), VecSet::new(alloc));
+    for number in 0..20u64 {
+        map.insert(number, [number; 4])?;
+        set.insert([number; 4])?;
+    }
+    Ok(map.keys().copied().eq(0..20) && map.values().eq(&set))
+}
+
+#[test]
+fn large_values_are_appended_in_order(rt: HostRuntime) {
+    assert_gives(&rt, appends_in_order(rt.alloc()), true);
+}
