@@ -54,89 +54,95 @@ fn show_replies<R: Debug + Drop>(out: &mut Out, replies: Result<Vec<R>, AllocErr
     }
 }
 
-// Returns the command, if it has the name of one of these variants.
-macro_rules! return_command {
-    ($name:ident, $Command:ident { $($Variant:ident)+ }) => {
-        $(if $name == stringify!($Variant) {
-            return Some($Command::$Variant);
-        })+
+// Returns the command that has the name of one of these variants, if there is one.
+macro_rules! command {
+    ($name:ident, $Command:ident: $($Variant:ident)+) => {
+        match $name {
+            $(name if name == stringify!($Variant) => Some($Command::$Variant),)+
+            _ => None,
+        }
     };
-    ($name:ident, $Command:ident { $($Variant:ident)+ } $args:tt) => {
-        $(if $name == stringify!($Variant) {
-            return Some($Command::$Variant $args);
-        })+
+    ($name:ident, $Command:ident: $($Variant:ident)+; $args:tt) => {
+        match $name {
+            $(name if name == stringify!($Variant) => Some($Command::$Variant $args),)+
+            _ => None,
+        }
     };
 }
 
 // Reads a command, as `Insert 1a:1`, `GetIndex 0` or `Append 1a:1 2b:2`.
 fn map_command(out: &mut Out, words: &str) -> Option<MapCommand<Item, Item>> {
     let (name, args) = first_word(words);
-    return_command!(name, MapCommand { First Last Len Pop Clear Reverse ToVec });
-    if name == "Append" || name == "Equals" {
-        return command_of_map(name, VecMap::from(out.pairs(args)?));
+    match name {
+        "Append" => Some(MapCommand::Append(VecMap::from(out.pairs(args)?))),
+        "Equals" => Some(MapCommand::Equals(VecMap::from(out.pairs(args)?))),
+        "InsertAt" | "SwapIndices" => map_command_of_two(out, name, args),
+        _ if args.is_empty() => {
+            command!(name, MapCommand: First Last Len Pop Clear Reverse ToVec)
+        }
+        _ if args.contains(':') => map_command_of_pair(name, out.pair(args)?),
+        _ => match map_command_of_index(name, args.parse().ok()) {
+            None => map_command_of_key(name, Item::read(out.log, args)?),
+            command => command,
+        },
     }
-    if let Ok(index) = args.parse() {
-        return_command!(name, MapCommand { GetIndex RemoveIndex SwapRemoveIndex Truncate SplitOff } (index));
-    }
-    if let Some(key) = Item::read(out.log, args) {
-        return command_of_key(name, key);
-    }
-    if let Some((key, value)) = out.pair(args) {
-        return command_of_pair(name, key, value);
-    }
+}
+
+fn map_command_of_index(name: &str, index: Option<usize>) -> Option<MapCommand<Item, Item>> {
+    let index = index?;
+    command!(name, MapCommand: GetIndex RemoveIndex SwapRemoveIndex Truncate SplitOff; (index))
+}
+
+// An index, and another one or a pair.
+fn map_command_of_two(out: &Out, name: &str, args: &str) -> Option<MapCommand<Item, Item>> {
     let (index, rest) = first_word(args);
     let index = index.parse().ok()?;
-    match name {
-        "SwapIndices" => Some(MapCommand::SwapIndices(index, rest.parse().ok()?)),
-        "InsertAt" => {
-            let (key, value) = out.pair(rest)?;
-            Some(MapCommand::InsertAt(index, key, value))
-        }
-        _ => None,
+    if name == "SwapIndices" {
+        return Some(MapCommand::SwapIndices(index, rest.parse().ok()?));
     }
+    let (key, value) = out.pair(rest)?;
+    Some(MapCommand::InsertAt(index, key, value))
 }
 
-fn command_of_map(name: &str, other: Map) -> Option<MapCommand<Item, Item>> {
-    return_command!(name, MapCommand { Append Equals } (other));
-    None
+fn map_command_of_key(name: &str, key: Item) -> Option<MapCommand<Item, Item>> {
+    command!(name, MapCommand: Get IndexOf ContainsKey Remove RemoveEntry SwapRemove SwapRemoveEntry; (key))
 }
 
-fn command_of_key(name: &str, key: Item) -> Option<MapCommand<Item, Item>> {
-    return_command!(name, MapCommand { Get IndexOf ContainsKey Remove RemoveEntry SwapRemove SwapRemoveEntry } (key));
-    None
-}
-
-fn command_of_pair(name: &str, key: Item, value: Item) -> Option<MapCommand<Item, Item>> {
-    return_command!(name, MapCommand { Insert InsertFull InsertKey OrInsert } (key, value));
-    None
+fn map_command_of_pair(name: &str, (key, value): (Item, Item)) -> Option<MapCommand<Item, Item>> {
+    command!(name, MapCommand: Insert InsertFull InsertKey OrInsert; (key, value))
 }
 
 // Reads a command, as `Insert 1a`, `GetIndex 0` or `Append 1a 2b`.
 fn set_command(out: &mut Out, words: &str) -> Option<SetCommand<Item>> {
     let (name, args) = first_word(words);
-    return_command!(name, SetCommand { First Last Len Pop Clear Reverse ToVec });
-    if let Ok(index) = args.parse() {
-        return_command!(name, SetCommand { GetIndex RemoveIndex SwapRemoveIndex Truncate SplitOff } (index));
-    }
-    if name == "SwapIndices" {
-        let (index, other) = first_word(args);
-        return Some(SetCommand::SwapIndices(index.parse().ok()?, other.parse().ok()?));
-    }
-    if let Some(item) = Item::read(out.log, args) {
-        let command = command_of_element(name, item);
-        if command.is_some() {
-            return command;
+    match name {
+        "Append" | "Equals" | "Intersect" | "Unite" | "Exclusive" | "Subtract" => {
+            set_command_of_set(name, VecSet::from(out.items(args)?))
         }
+        _ if name.starts_with("Is") => set_command_of_set(name, VecSet::from(out.items(args)?)),
+        "SwapIndices" => {
+            let (a, b) = first_word(args);
+            Some(SetCommand::SwapIndices(a.parse().ok()?, b.parse().ok()?))
+        }
+        _ if args.is_empty() => {
+            command!(name, SetCommand: First Last Len Pop Clear Reverse ToVec)
+        }
+        _ => match set_command_of_index(name, args.parse().ok()) {
+            None => set_command_of_element(name, Item::read(out.log, args)?),
+            command => command,
+        },
     }
-    command_of_set(name, VecSet::from(out.items(args)?))
 }
 
-fn command_of_element(name: &str, item: Item) -> Option<SetCommand<Item>> {
-    return_command!(name, SetCommand { Insert Replace Get IndexOf Contains Remove Take SwapRemove SwapTake } (item));
-    None
+fn set_command_of_index(name: &str, index: Option<usize>) -> Option<SetCommand<Item>> {
+    let index = index?;
+    command!(name, SetCommand: GetIndex RemoveIndex SwapRemoveIndex Truncate SplitOff; (index))
 }
 
-fn command_of_set(name: &str, other: Set) -> Option<SetCommand<Item>> {
-    return_command!(name, SetCommand { Append Equals IsSubset IsSuperset IsDisjoint Intersect Unite Exclusive Subtract } (other));
-    None
+fn set_command_of_element(name: &str, item: Item) -> Option<SetCommand<Item>> {
+    command!(name, SetCommand: Insert Replace Get IndexOf Contains Remove Take SwapRemove SwapTake; (item))
+}
+
+fn set_command_of_set(name: &str, other: Set) -> Option<SetCommand<Item>> {
+    command!(name, SetCommand: Append Equals IsSubset IsSuperset IsDisjoint Intersect Unite Exclusive Subtract; (other))
 }
