@@ -1,10 +1,9 @@
-"""Draws `docs/speed.svg` from the figures of the machine of SPEED, `bench/figures/first.tsv`. It needs nothing besides
-Python.
+"""Draws `docs/speed.svg` from the figures of SPEED, `bench/figures.tsv`. It needs nothing besides Python.
 
 Above: the nanoseconds of a `get`, and the mean nanoseconds of an `insert` while a map is filled. Below: the geometric
 mean over all rows of the ratios to the times of vecmap-rs, and those of the least and of the greatest ratios.
 
-    python3 bench/plot.py docs/speed.svg bench/figures/first.tsv
+    python3 bench/plot.py docs/speed.svg bench/figures.tsv
 """
 import math
 import re

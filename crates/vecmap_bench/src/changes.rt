@@ -90,7 +90,7 @@ pub extern "C" fn vecmap_bench_insert_full_present(input: Input) -> u64 {
     sum
 }
 
-/// Moves each key to the index that its number gives.
+/// Moves each key to the index that its number determines.
 #[unsafe(no_mangle)]
 pub extern "C" fn vecmap_bench_insert_at_present(input: Input) -> u64 {
     let mut map = ok!(filled(input.alloc, input.keys));

@@ -2,7 +2,7 @@
 use crate::{Input, filled, mark, ok};
 use vecmap::VecMap;
 
-/// Takes the entries of existing keys, and writes their values.
+/// Gets the entries of existing keys, and writes their values.
 #[unsafe(no_mangle)]
 pub extern "C" fn vecmap_bench_entry_present(input: Input) -> u64 {
     let mut map = ok!(filled(input.alloc, input.keys));
@@ -17,7 +17,7 @@ pub extern "C" fn vecmap_bench_entry_present(input: Input) -> u64 {
     sum
 }
 
-/// Takes the entries of new keys, and writes their values.
+/// Gets the entries of new keys, and writes their values.
 #[unsafe(no_mangle)]
 pub extern "C" fn vecmap_bench_entry_absent(input: Input) -> u64 {
     let mut sum: u64 = 0;

@@ -80,7 +80,7 @@ pub extern "C" fn vecmap_bench_large_from_vec(input: Input) -> u64 {
     sum
 }
 
-/// Takes the entries of new keys.
+/// Gets the entries of new keys.
 #[unsafe(no_mangle)]
 pub extern "C" fn vecmap_bench_large_entry(input: Input) -> u64 {
     let mut sum: u64 = 0;

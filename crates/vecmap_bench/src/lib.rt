@@ -1,7 +1,7 @@
 //! One export for each loop that the benchmark times. It runs the whole loop over a map or a set and returns a checksum.
 //!
-//! An export takes an [`Input`] or a [`TextInput`]. The folder `bench` has the same loops in Rust, for vecmap-rs and
-//! other crates. The checksums must agree.
+//! The input of an export is an [`Input`] or a [`TextInput`]. The folder `bench` has the same loops in Rust, for
+//! vecmap-rs and other crates. The checksums must agree.
 #![tactic(auto)]
 
 mod bulk;
@@ -23,10 +23,10 @@ mod vectors;
 use std::alloc::{AllocError, Global};
 use vecmap::VecMap;
 
-/// The checksum that a loop returns if a request for memory is refused.
+/// The checksum that a loop returns if an allocation fails.
 const REFUSED: u64 = u64::MAX;
 
-/// What a loop over numbers takes. It is passed by value, so that no round reads it from memory again.
+/// The input of a loop over numbers. It is passed by value, so that no round reads it from memory again.
 #[derive(Clone, Copy)]
 #[repr(C)]
 pub struct Input<'a> {
@@ -38,7 +38,7 @@ pub struct Input<'a> {
     rounds: u64,
 }
 
-/// What a loop over texts takes. Each line of a text is a key or a probe.
+/// The input of a loop over texts. Each line of a text is a key or a probe.
 #[derive(Clone, Copy)]
 #[repr(C)]
 pub struct TextInput<'a> {

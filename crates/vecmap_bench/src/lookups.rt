@@ -2,7 +2,7 @@
 use crate::{Input, filled, ok};
 use vecmap::{VecMap, VecSet};
 
-// Returns the character that the first 19 bits of a number name, or `a` if they name none.
+// Returns the character whose code the first 19 bits of a number are, or `a` if there is none.
 fn letter(number: u64) -> char {
     char::from_u32(u32::try_from(number >> 45).unwrap_or(0)).unwrap_or('a')
 }

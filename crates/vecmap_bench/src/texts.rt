@@ -1,4 +1,4 @@
-//! Texts as keys. The lines of one text are the keys, and those of another are the probes.
+//! Texts as keys. The lines of one text are the keys, and the lines of another are the probes.
 use crate::{TextInput, ok};
 use std::alloc::{AllocError, Global};
 use std::str;

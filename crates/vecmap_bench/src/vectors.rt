@@ -1,4 +1,4 @@
-//! The same work on a plain vector of pairs, without a map: the least that a row with such work can take.
+//! The same work on a plain vector of pairs, without a map: the least that a row with such work can cost.
 use crate::{Input, ok, pairs};
 use std::alloc::{AllocError, Global};
 
