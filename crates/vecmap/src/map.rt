@@ -25,7 +25,7 @@
 //! - entries: `entry`, `Entry` (`entry.rt`), `OccupiedEntry` (`entry/occupied.rt`), `VacantEntry` (`entry/vacant.rt`)
 //! - iteration: `iter`, `iter_mut`, `keys`, `values`, `values_mut`, `into_keys`, `into_values`, loops (`iteration.rt`);
 //!   the iterators themselves (`iter/pairs.rt`, `iter/keys.rt`, `iter/values.rt` of `crates/vecmap_base/src`), and the
-//!   three types that they are (`iter/by_reference.rt`, `iter/by_mut.rt`, `iter/by_value.rt`)
+//!   three generic types of which they are aliases (`iter/by_reference.rt`, `iter/by_mut.rt`, `iter/by_value.rt`)
 //! - mutable references to keys: `MutableKeys`, with `get_full_mut2`, `get_index_mut2`, `retain2`, `iter_mut2`,
 //!   `keys_mut`, `as_mut_slice` (`mutable_keys.rt`)
 //! - `==` (`equality.rt`), `Debug` (`formatting.rt`), the law that a map fits its capacity (`laws.rt`); the other laws

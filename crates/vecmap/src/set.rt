@@ -22,7 +22,8 @@
 //! - two sets: `is_disjoint`, `is_subset`, `is_superset`, `==` (`equality.rt`); `difference`, `intersection`,
 //!   `symmetric_difference`, `union` (`lazy.rt`) with their iterators (`lazy/`); `&`, `|`, `^`, `-` (`operators.rt`)
 //! - iteration: `iter`, loops (`iteration.rt`); the iterators themselves (`iter/elements.rt` of
-//!   `crates/vecmap_base/src`), and the two types that they are (`iter/by_reference.rt`, `iter/by_value.rt`)
+//!   `crates/vecmap_base/src`), and the two generic types of which they are aliases (`iter/by_reference.rt`,
+//!   `iter/by_value.rt`)
 //! - `Debug` (`formatting.rt`), the law that a set fits its capacity (`laws.rt`); the other laws are in
 //!   `crates/vecmap_laws`
 pub use vecmap_base::items::{IntoIter, Iter};

@@ -1,4 +1,4 @@
-//! The iterators with an exact length, but for drains: over a map's pairs, keys and values and over a set's elements.
+//! The iterators with an exact length, except drains: over a map's pairs, keys and values and over a set's elements.
 mod by_mut;
 mod by_reference;
 mod by_value;

@@ -186,8 +186,8 @@ pub fn find_equivalent<K: Eq, V, Q: Equivalent<K>>(pairs: &[(K, V)], query: Q) -
 ///
 /// # Complexity
 ///
-/// At most `items.len()` comparisons. Among 32 items or more, of at most 8 bytes each, up to seven of them come after
-/// the match.
+/// At most `items.len()` comparisons. Among 32 items or more, of at most 8 bytes each, up to seven comparisons
+/// come after the match.
 ///
 /// # Examples
 ///

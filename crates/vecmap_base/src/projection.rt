@@ -1,8 +1,8 @@
 //! Projections: which part of each item an iterator yields.
 //!
-//! The iterators with an exact length, but for drains, are one of three types: [`IterOf`](crate::IterOf) yields
-//! references, [`IterMutOf`](crate::IterMutOf) mutable references, and [`IntoIterOf`](crate::IntoIterOf) values. The last
-//! type parameter of each is a projection, as `Key` in `Keys<'a, K, V>`, which is `IterOf<'a, (K, V), Key>`.
+//! Each iterator with an exact length, except drains, is one of three types: [`IterOf`](crate::IterOf) yields
+//! references, [`IterMutOf`](crate::IterMutOf) mutable references, and [`IntoIterOf`](crate::IntoIterOf) values. The
+//! last type parameter of each is a projection, as `Key` in `Keys<'a, K, V>`, which is `IterOf<'a, (K, V), Key>`.
 ghost use Rattle.std.specs.Prelude.{◌≡◌};
 ghost use Rattle.std.specs.Map.Iter.{deref, deref_pair, deref_pair_mut};
 ghost use Rattle.vecmap_base.specs.Iterators.{deref_both_mut, deref_mut};
@@ -28,9 +28,11 @@ pub trait Projection<X> {
 pub trait PartRef<'a, X>: Projection<X> {
     type Ref;
 
+    // The part to which a reference points.
     ghost shows: { Self.Ref → Self.Part };
 
-    /// Returns what the iterator yields of an item.
+    /// Returns the part of an item by reference, in the form that [`IterOf`](crate::IterOf) yields: of a pair
+    /// `(&K, &V)`, where `of` returns `&(K, V)`.
     ///
     /// # Examples
     ///
@@ -45,9 +47,10 @@ pub trait PartRef<'a, X>: Projection<X> {
 pub trait PartMut<'a, X>: Projection<X> {
     type RefMut;
 
+    // The part to which a reference pointed at first.
     ghost shows: { Self.RefMut → Self.Part };
 
-    /// Returns what the iterator yields of an item.
+    /// Returns the part of an item by mutable reference, in the form that [`IterMutOf`](crate::IterMutOf) yields.
     ///
     /// # Examples
     ///
@@ -78,6 +81,7 @@ pub trait ClonePart<X: Clone>: Projection<X>
 where
     Self::Part: Clone,
 {
+    // A clone of an item has a clone of the part.
     ghost clones: { (x y : X) → X.is_clone x y → Self.Part.is_clone (Self.part x) (Self.part y) };
 }
 

@@ -32,7 +32,7 @@ impl<T: Drop> From<Refused<T>> for AllocError {
 
 /// Converts the error into an `io::Error`, and drops the value in it.
 ///
-/// The new error has the kind `OutOfMemory`, like the conversion of an `AllocError`.
+/// The new error has the kind `OutOfMemory`, as if an `AllocError` were converted.
 ///
 /// # Examples
 ///

@@ -34,7 +34,7 @@ pub fn retain_pairs<K: Drop, V: Drop, F: FnMut(&K, &mut V) -> bool + Drop>(
     ensures retained { (g : F) × Kept (CallsAtPair F.FnMut) f pairs.old.items pairs.new.items g }
     ensures capacity { vec_capacity pairs.new ≡ vec_capacity pairs.old }
 {
-    retain::<_, Pair, _>(pairs, f);
+    retain::<_, PairForm, _>(pairs, f);
 }
 
 /// Like [`retain_pairs`], but `f` can also write the key.
@@ -59,7 +59,7 @@ pub fn retain_pairs_mut<K: Drop, V: Drop, F: FnMut(&mut K, &mut V) -> bool + Dro
     ensures retained { (g : F) × Kept (CallsAtPairMut F.FnMut) f pairs.old.items pairs.new.items g }
     ensures capacity { vec_capacity pairs.new ≡ vec_capacity pairs.old }
 {
-    retain::<_, PairMut, _>(pairs, f);
+    retain::<_, PairMutForm, _>(pairs, f);
 }
 
 /// Retains only the items for which `f` returns `true`.
@@ -87,7 +87,7 @@ pub fn retain_items<T: Drop, F: FnMut(&T) -> bool + Drop>(items: &mut Vec<T>, f:
     ensures retained { (g : F) × Kept (CallsAtItem F.FnMut) f items.old.items items.new.items g }
     ensures capacity { vec_capacity items.new ≡ vec_capacity items.old }
 {
-    retain::<_, Item, _>(items, f);
+    retain::<_, ItemForm, _>(items, f);
 }
 
 // A closure that decides whether an item stays. `Form` says how the item is passed to it.
@@ -104,15 +104,15 @@ trait Predicate<X, Form>: Drop {
 }
 
 // A key and its value are passed, and the closure can write the value.
-struct Pair;
+struct PairForm;
 
 // A key and its value are passed, and the closure can write both.
-struct PairMut;
+struct PairMutForm;
 
 // An item is passed, and the closure writes nothing.
-struct Item;
+struct ItemForm;
 
-impl<K, V, F: FnMut(&K, &mut V) -> bool + Drop> Predicate<(K, V), Pair> for F {
+impl<K, V, F: FnMut(&K, &mut V) -> bool + Drop> Predicate<(K, V), PairForm> for F {
     ghost accepts = { TakesPairAt F.FnMut };
 
     ghost step = { CallsAtPair F.FnMut };
@@ -123,7 +123,7 @@ impl<K, V, F: FnMut(&K, &mut V) -> bool + Drop> Predicate<(K, V), Pair> for F {
     }
 }
 
-impl<K, V, F: FnMut(&mut K, &mut V) -> bool + Drop> Predicate<(K, V), PairMut> for F {
+impl<K, V, F: FnMut(&mut K, &mut V) -> bool + Drop> Predicate<(K, V), PairMutForm> for F {
     ghost accepts = { TakesPairMut F.FnMut };
 
     ghost step = { CallsAtPairMut F.FnMut };
@@ -134,7 +134,7 @@ impl<K, V, F: FnMut(&mut K, &mut V) -> bool + Drop> Predicate<(K, V), PairMut> f
     }
 }
 
-impl<T, F: FnMut(&T) -> bool + Drop> Predicate<T, Item> for F {
+impl<T, F: FnMut(&T) -> bool + Drop> Predicate<T, ItemForm> for F {
     ghost accepts = { TakesAt F.FnMut };
 
     ghost step = { CallsAtItem F.FnMut };
@@ -151,9 +151,9 @@ fn retain<X: Drop, Form, A: Predicate<X, Form>>(items: &mut Vec<X>, mut asked: A
     ensures retained { (g : A) × Kept A.step asked items.old.items items.new.items g }
     ensures capacity { vec_capacity items.new ≡ vec_capacity items.old }
 {
-    let refused = find_rejected(items, &mut asked);
-    let mut kept = refused;
-    for i in refused + 1..items.len() {
+    let rejected = find_rejected(items, &mut asked);
+    let mut kept = rejected;
+    for i in rejected + 1..items.len() {
         if asked.keeps(&mut items[i]) {
             items.swap(kept, i);
             kept += 1;

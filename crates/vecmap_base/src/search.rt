@@ -1,9 +1,10 @@
 //! Binary searches of a sorted slice, by what a closure returns for its items. No search allocates.
 //!
-//! The first call of the closure leaves a part whose length is a power of two, so that its halves are equal. The last
-//! call is for the one item that is left. In between, a call halves the part, or three calls quarter it. Quarters take
-//! less time if an item, or the key of a pair, has at most 8 bytes: the three calls do not depend on each other. How
-//! often the closure is called depends on the number of items and on this size, and not on what it returns.
+//! Among several items, the first call of the closure leaves a part whose length is a power of two, so that its halves
+//! are equal. The last call is for the one item that is left. In between, a call halves the part, or three calls
+//! quarter it. Quarters are faster if an item, or the key of a pair, has at most 8 bytes: the three calls do not depend
+//! on each other. How often the closure is called depends on the number of items and on this size, and not on what it
+//! returns.
 ghost use Rattle.std.specs.Prelude.{◌≡◌, ℕ, ◌+◌, ◌^◌, ◌<◌, ◌≤◌, Bool, Contains, List, false, if◌then◌else◌, length, true};
 ghost use Rattle.std.specs.List.{All, HoldsAt};
 ghost use Rattle.std.specs.List.Sorted.{IsBinarySearchResult, IsPartitionPoint, IsPartitionedBy, IsSearchInRange};
@@ -26,8 +27,8 @@ use std::cmp::Ordering;
 ///
 /// # Complexity
 ///
-/// For n items, log2(n) + 1 calls of `f`, rounded up, and half as many again at most if an item has at most 8 bytes:
-/// for 512 items 10 calls, or 14. An empty list takes no call. Does not allocate.
+/// For n items, log2(n) + 1 calls of `f`, rounded up: 10 for 512 items. If an item has at most 8 bytes, up to half as
+/// many more: 14 for 512 items. No call for an empty slice. Does not allocate.
 ///
 /// # Examples
 ///
@@ -53,7 +54,7 @@ pub fn search_by_index<T, F: Fn(usize) -> Ordering>(items: &[T], f: F) -> Result
 ///
 /// # Complexity
 ///
-/// As many calls of `f` as [`search_by_index`], but the size of a key decides, and not that of a pair. Does not
+/// As many calls of `f` as [`search_by_index`], but the size of a key decides, not the size of a pair. Does not
 /// allocate.
 ///
 /// # Examples

@@ -1,5 +1,5 @@
--- What lookups find in another order. A lookup finds the value of a pair with an equal key, and if all keys are distinct there
--- is one such pair in any order.
+-- What lookups find in another order. A lookup finds the value of a pair with an equal key, and if all keys are distinct
+-- there is one such pair in any order.
 use Rattle.std.proofs.Common.{◌≡◌, Bool, true, false, Contains, IsTrue, List, [], ◌∷◌, None, Option, Some, ap, arith, inl, inr, refl, suc, sym, ◌∙◌}
 use Rattle.std.proofs.lemmas.{Bool.cases_Bool, List.Sorted.Contains-permutation, List.Sorted.IsPermutation-sym}
 use Rattle.std.proofs.lemmas.Option.{none-some, same_Some, slice_get-get_or}

@@ -1,13 +1,13 @@
--- Pulls from both ends of an iterator, in any mixture.
+-- Calls of `next` and `next_back`, in any mixture.
 use Rattle.std.specs.Prelude.{◌≡◌, ◌-◌, List, [], ◌∷◌, Option, drop, length, slice_get, take}
 
--- The end at which a pull takes an item: a call of `next` from the front, one of `next_back` from the back.
+-- The end of a call: `front` is `next`, `back` is `next_back`.
 pub data End : Type 0 where
   front : End
   back : End
 
 module _ {T : Type 0} where
-  -- A pull from the front gives the first of `l`, and one from the back the last. Each gives none once `l` is empty.
+  -- `next` returns the first of `l` and `next_back` the last, and both return none once `l` is empty.
   abbrev pub Pulls : List T → List End → List (Option T) → List T → Type 0
   Pulls l [] items rest = (items ≡ []) × (rest ≡ l)
   Pulls l (front ∷ ends) items rest = (more : List (Option T)) × (items ≡ slice_get l 0 ∷ more) × Pulls (drop 1 l) ends more rest

@@ -69,7 +69,7 @@ module _ {K V : Type 0} where
     pub removal : entries_without d ≡ entries_without e
     pub swap_removal : entries_swap_without d ≡ entries_swap_without e
 
-  -- Example: that of `1y` on `[(1x,7)]` and 9: that of `1y` on `[(1x,9)]`.
+  -- Example: the entry of `1y` on `[(1x,7)]` and 9: the entry of `1y` on `[(1x,9)]`.
   -- The entry o with v as its value.
   abbrev pub occupied_with : OccupiedEntry K V → V → OccupiedEntry K V
   occupied_with o v = record o { map = record o.map { now = with_value_at o.map.now o.index v }; within = still_within o v }

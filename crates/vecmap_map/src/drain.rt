@@ -76,9 +76,9 @@ impl<K, V> VecMap<K, V> {
 ///
 /// # Complexity
 ///
-/// Constant time for each pair from the same end as the pair before. The first pair, and the first from the other end,
-/// can cost a number of moves that is linear in the number of remaining pairs, as they are first reversed. No call
-/// allocates.
+/// Constant time for each pair from the same end as the pair before. The first pair, and each pair after a change of
+/// ends, can cost a number of moves that is linear in the number of remaining pairs, as these are first reversed. No
+/// call allocates.
 ///
 /// # Examples
 ///

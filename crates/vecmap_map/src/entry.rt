@@ -244,7 +244,7 @@ impl<'a, K, V> Entry<'a, K, V> {
             Entry::Vacant(entry) => match f() {
                 Ok(value) => entry.insert_or_convert(value),
                 Err(error) => {
-                    // Returns the map, for the proof.
+                    // Ends the borrow of the map, for the proof.
                     let _map = entry.map;
                     Err(error)
                 }

@@ -1,7 +1,7 @@
 //! The trait `Extend` of a map, for generic code, `try_collect` and `partition`.
 //!
 //! Each impl calls the inherent function that it names, and promises the same if an allocation fails. Generic code
-//! knows only what the trait promises: that some of the first items were inserted.
+//! knows only what the trait promises: that the items up to some point were inserted.
 ghost use Rattle.std.specs.Iterator.{ExtendsWithItems, IsFiniteIterable};
 ghost use Rattle.std.specs.Map.Iter.{deref, deref_pair};
 ghost use Rattle.std.specs.Prelude.{IsOk};

@@ -1,8 +1,8 @@
 //! Iterators over the pairs, the keys and the values.
 //!
 //! A contract sees an iterator as the list of its remaining items, and a mutable one by definitions such as
-//! `iter_mut_rest`. Each iterator knows its exact length and yields items from both ends. After its last item it returns
-//! only `None`. Creating one takes constant time and does not allocate.
+//! `iter_mut_rest`. Each iterator knows its exact length and yields items from both ends. After its last item it
+//! returns only `None`. Creating one takes constant time and does not allocate.
 ghost use Rattle.std.specs.Borrow.{sem};
 ghost use Rattle.std.specs.Map.{keys_of, values_of};
 ghost use Rattle.std.specs.Map.Iter.{ShowsValuesInOrder, ShowsValuesInReverse, deref, deref_pair, deref_pair_mut};

@@ -47,7 +47,7 @@ impl<K, V> VecMap<K, V> {
 
     /// Returns the first pair, with a mutable reference to its value, or `None` if the map is empty.
     ///
-    /// A caller that the search proves knows which pair the reference points to, but not what the map holds after a
+    /// A caller without a proof file knows which pair the reference points to, but not what the map holds after a
     /// write through it. [`VecMap::get_mut`] and `map[index] = value` say both.
     ///
     /// # Complexity
@@ -73,7 +73,7 @@ impl<K, V> VecMap<K, V> {
 
     /// Returns the last pair, with a mutable reference to its value, or `None` if the map is empty.
     ///
-    /// A caller that the search proves knows which pair the reference points to, but not what the map holds after a
+    /// A caller without a proof file knows which pair the reference points to, but not what the map holds after a
     /// write through it. [`VecMap::get_mut`] and `map[index] = value` say both.
     ///
     /// # Complexity
@@ -103,7 +103,7 @@ impl<K, V> VecMap<K, V> {
     /// Returns the index and the stored key of the first pair whose key matches `query`, with a mutable reference to
     /// its value, or `None` if no key matches.
     ///
-    /// A caller that the search proves knows which pair the reference points to, but not what the map holds after a
+    /// A caller without a proof file knows which pair the reference points to, but not what the map holds after a
     /// write through it. [`VecMap::get_mut`] and `map[index] = value` say both.
     ///
     /// # Complexity
@@ -139,7 +139,7 @@ impl<K, V> VecMap<K, V> {
 
     /// Returns the pair at `index`, with a mutable reference to its value, or `None` if `index` is out of range.
     ///
-    /// A caller that the search proves knows which pair the reference points to, but not what the map holds after a
+    /// A caller without a proof file knows which pair the reference points to, but not what the map holds after a
     /// write through it. [`VecMap::get_mut`] and `map[index] = value` say both.
     ///
     /// # Complexity

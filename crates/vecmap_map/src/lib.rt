@@ -33,7 +33,7 @@ use std::marker::Model;
 /// Keys need neither `Hash` nor `Ord`. A lookup compares them by `==`, in order, so it makes at most `len` comparisons.
 /// A contract sees a map as the list of its pairs and its capacity.
 ///
-/// All pairs are in one allocation, and nothing else is: a pair needs `size_of::<(K, V)>()` bytes. A map is `Eq` if its
+/// One allocation holds all pairs and nothing else: a pair needs `size_of::<(K, V)>()` bytes. A map is `Eq` if its
 /// values are, so it can itself be a key. It is neither `Hash` nor `Ord`.
 ///
 /// All keys are distinct, unless a caller makes duplicates: by writing a key, or by keys whose clones differ from them.

@@ -22,7 +22,7 @@ impl<K, V> sealed::Sealed for VecMap<K, V> {}
 /// No other type can implement this trait. A write may make a key equal to another: the map then has duplicate keys,
 /// and lookups find the first of them. The contracts are at the `impl` for `VecMap`, below the trait.
 ///
-/// A caller that the search proves does not know what the map holds after a write through such a reference. It knows
+/// A caller without a proof file does not know what the map holds after a write through such a reference. It knows
 /// what [`MutableKeys::retain2`] leaves, and what is written to the slice of [`MutableKeys::as_mut_slice`].
 pub trait MutableKeys: sealed::Sealed {
     type Key;

@@ -111,7 +111,7 @@ impl<K, V> VecMap<K, V> {
         self.pairs.reserve_exact(additional)
     }
 
-    /// Like [`VecMap::reserve`], but returns a [`TryReserveError`], as the call of Rust does.
+    /// Like [`VecMap::reserve`], but its error is a [`TryReserveError`], as in Rust.
     ///
     /// # Errors
     ///
@@ -131,7 +131,7 @@ impl<K, V> VecMap<K, V> {
         self.reserve(additional)
     }
 
-    /// Like [`VecMap::reserve_exact`], but returns a [`TryReserveError`], as the call of Rust does.
+    /// Like [`VecMap::reserve_exact`], but its error is a [`TryReserveError`], as in Rust.
     ///
     /// # Errors
     ///

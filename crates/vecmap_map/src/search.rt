@@ -17,8 +17,8 @@ impl<K, V> VecMap<K, V> {
     ///
     /// # Complexity
     ///
-    /// For n pairs, log2(n) + 1 comparisons of keys, rounded up, and half as many again at most if a key has at most
-    /// 8 bytes: for 512 pairs 10 comparisons, or 14.
+    /// For n pairs, log2(n) + 1 comparisons of keys, rounded up: 10 for 512 pairs. If a key has at most 8 bytes, up to
+    /// half as many more: 14 for 512 pairs.
     ///
     /// # Examples
     ///

@@ -11,8 +11,7 @@ module _ {S T : Type 0} (steps : S → Option (Bor T) → S → Type 0) (rest : 
   taken gives s t [] y = ap rest y
   taken gives s t (x ∷ xs) y = gives s (Some x) y.0 y.1 ∙ ap (λ l. x.now ∷ l) (taken gives y.0 t xs y.2)
 
-  -- The clones of what an operator takes: `list` of the elements of two sets. If each clone of an element of that list is
-  -- equal to it, no two of the clones are equal.
+  -- An operator takes `list` of the elements of two sets. The clones are distinct if each is equal to its original.
   pub operator_clones : {eq : T → T → Bool} (o : IsEquivalence eq) {C : T → T → Type 0} (list : List T → List T → List T)
       → ((a b : List T) → IsDistinct eq a → IsDistinct eq b → IsDistinct eq (list a b))
       → {made : List T} {s : S} {x y u v : List T} → rest s ≡ list x y → x ≡ u → y ≡ v → IsDistinct eq x → IsDistinct eq y

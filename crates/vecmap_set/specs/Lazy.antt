@@ -14,7 +14,7 @@ pub record Sift (T : Type 0) : Type 0 where
   pub unwalked : List T
   pub other : List T
 
--- Example: `symmetric_difference` of `[1,2]` and `[2,3]`: a sift of each in the other.
+-- Example: `symmetric_difference` of `[1,2]` and `[2,3]`: the elements of each, looked up in the other.
 -- Two parts in order.
 pub record Parts (A B : Type 0) : Type 0 where
   pub first : A
@@ -107,11 +107,11 @@ module _ {T : Type 0} (eq : T → T → Bool) where
   abbrev pub union_rest : Parts (List T) (Sift T) → List T
   union_rest s = s.first ++ sift_rest lacks_item s.second
 
-  -- `next` at s gave r, and left t. It asks the first part, and then the second.
+  -- `next` at s returned r, and left t. It calls the first part, and then the second.
   abbrev pub JoinsFirst : Parts (List T) (Sift T) → Option (Bor T) → Parts (List T) (Sift T) → Type 0
   JoinsFirst s r t = YieldsFirstRef union_rest s r t × TakesFromParts (TakesFirst deref) (SiftsFirst lacks_item) s.first s.second r t.first t.second
 
-  -- `next_back` at s gave r, and left t. It asks the second part, and then the first.
+  -- `next_back` at s returned r, and left t. It calls the second part, and then the first.
   abbrev pub JoinsLast : Parts (List T) (Sift T) → Option (Bor T) → Parts (List T) (Sift T) → Type 0
   JoinsLast s r t = YieldsLastRef union_rest s r t × TakesFromParts (SiftsLast lacks_item) (TakesLast deref) s.second s.first r t.second t.first
 
@@ -123,11 +123,11 @@ module _ {T : Type 0} (eq : T → T → Bool) where
   abbrev pub symmetric_rest : Parts (Sift T) (Sift T) → List T
   symmetric_rest s = sift_rest lacks_item s.first ++ sift_rest lacks_item s.second
 
-  -- `next` at s gave r, and left t. It asks the first part, and then the second.
+  -- `next` at s returned r, and left t. It calls the first part, and then the second.
   abbrev pub ExcludesFirst : Parts (Sift T) (Sift T) → Option (Bor T) → Parts (Sift T) (Sift T) → Type 0
   ExcludesFirst s r t = YieldsFirstRef symmetric_rest s r t × TakesFromParts (SiftsFirst lacks_item) (SiftsFirst lacks_item) s.first s.second r t.first t.second
 
-  -- `next_back` at s gave r, and left t. It asks the second part, and then the first.
+  -- `next_back` at s returned r, and left t. It calls the second part, and then the first.
   abbrev pub ExcludesLast : Parts (Sift T) (Sift T) → Option (Bor T) → Parts (Sift T) (Sift T) → Type 0
   ExcludesLast s r t = YieldsLastRef symmetric_rest s r t × TakesFromParts (SiftsLast lacks_item) (SiftsLast lacks_item) s.second s.first r t.second t.first
 

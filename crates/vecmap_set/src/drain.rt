@@ -75,8 +75,8 @@ impl<T: Eq> VecSet<T> {
 ///
 /// # Complexity
 ///
-/// Constant time for each element from the same end as the element before. The first element, and the first from the
-/// other end, can cost a number of moves that is linear in the number of remaining elements, as they are first
+/// Constant time for each element from the same end as the element before. The first element, and each element after a
+/// change of ends, can cost a number of moves that is linear in the number of remaining elements, as these are first
 /// reversed. No call allocates.
 ///
 /// # Examples

@@ -1,7 +1,7 @@
 //! The trait `Extend` of a set, for generic code, `try_collect` and `partition`.
 //!
 //! Each impl calls the inherent function that it names, and promises the same if an allocation fails. Generic code
-//! knows only what the trait promises: that some of the first items were added.
+//! knows only what the trait promises: that the items up to some point were added.
 ghost use Rattle.std.specs.Iterator.{ExtendsWithItems, IsFiniteIterable};
 ghost use Rattle.std.specs.Map.Iter.{deref};
 ghost use Rattle.std.specs.Prelude.{IsOk};

@@ -56,7 +56,7 @@ impl<T: Eq> VecSet<T> {
         Ok(true)
     }
 
-    /// Inserts an element, replacing an equal one, and returns the element that it replaces.
+    /// Inserts an element, replacing an equal one, and returns the element that it replaces, if there is one.
     ///
     /// If an equal element is present, `item` replaces it at its index; [`VecSet::insert`] would keep the old one. A
     /// new element is appended.

@@ -27,11 +27,12 @@ use std::marker::Model;
 
 /// A set that keeps its elements in insertion order, without duplicates.
 ///
-/// Elements need neither `Hash` nor `Ord`. A lookup compares the elements in order, by `==`, small ones in blocks of
-/// four or eight, so it makes at most `len` comparisons. A contract sees a set as the list of its elements and its capacity.
+/// Elements need neither `Hash` nor `Ord`. A lookup compares the elements by `==`, in order, up to the first that
+/// matches, and of small elements up to seven more. So it makes at most `len` comparisons. A contract sees a set as the
+/// list of its elements and its capacity.
 ///
-/// All elements are in one allocation, and nothing else is: an element needs `size_of::<T>()` bytes. A set is `Eq`, so
-/// it can itself be a key or an element. It is neither `Hash` nor `Ord`.
+/// One allocation holds all elements and nothing else: an element needs `size_of::<T>()` bytes. A set is `Eq`, so it
+/// can itself be a key or an element. It is neither `Hash` nor `Ord`.
 ///
 /// # Examples
 ///

@@ -114,7 +114,7 @@ impl<T: Eq> VecSet<T> {
         self.items.reserve_exact(additional)
     }
 
-    /// Like [`VecSet::reserve`], but returns a [`TryReserveError`], as the call of Rust does.
+    /// Like [`VecSet::reserve`], but its error is a [`TryReserveError`], as in Rust.
     ///
     /// # Errors
     ///
@@ -135,7 +135,7 @@ impl<T: Eq> VecSet<T> {
         self.reserve(additional)
     }
 
-    /// Like [`VecSet::reserve_exact`], but returns a [`TryReserveError`], as the call of Rust does.
+    /// Like [`VecSet::reserve_exact`], but its error is a [`TryReserveError`], as in Rust.
     ///
     /// # Errors
     ///

@@ -17,8 +17,8 @@ impl<T: Eq> VecSet<T> {
     ///
     /// # Complexity
     ///
-    /// For n elements, log2(n) + 1 comparisons, rounded up, and half as many again at most if an element has at most
-    /// 8 bytes: for 512 elements 10 comparisons, or 14.
+    /// For n elements, log2(n) + 1 comparisons, rounded up: 10 for 512 elements. If an element has at most 8 bytes, up
+    /// to half as many more: 14 for 512 elements.
     ///
     /// # Examples
     ///

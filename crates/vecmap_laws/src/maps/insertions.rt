@@ -110,8 +110,8 @@ pub fn first_values_win<K: Eq, V>()
 
 /// After an insertion at an index, its key finds the new value, and every other key finds what it found before.
 ///
-/// This holds of a new key, and of every key if all keys are distinct. The pairs of the other keys keep their order. An
-/// index past the end is the end.
+/// This holds for a new key, and for every key if all keys are distinct. The pairs of the other keys keep their order.
+/// An index past the end counts as the end.
 #[tactic(auto, using(crate::proofs::OtherPairs::put_at_is_insert, crate::proofs::OtherPairs::put_at_past, crate::proofs::OtherPairs::put_back, crate::proofs::Puts::put_at_absent))]
 pub fn insertions_at_an_index_are_found<K: Eq, V>()
     ensures new_key { (l : List (K × V)) (i : ℕ) (k : K) (v : V) → index_of K.eq l k ≡ None → (q : K)

@@ -62,7 +62,7 @@ pub fn removals_by_index_are_undone<K: Eq, V>()
         → without_key K.eq l k ≡ remove l i }
 {}
 
-/// If all keys are distinct, a pair that is removed and inserted at another index is moved there. Lookups stay the same.
+/// If all keys are distinct, removing a pair and inserting it at another index moves it there. Lookups do not change.
 ///
 /// A pair that is removed and inserted without an index is last.
 pub fn moves_keep_lookups<K: Eq, V>()

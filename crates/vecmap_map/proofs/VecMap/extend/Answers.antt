@@ -1,4 +1,4 @@
--- A refused insertion is where the call stops.
+-- The call stops at the insertion that runs out of memory.
 use Rattle.std.proofs.Common.{arith, inr, rules}
 use Rattle.std.proofs.lemmas.{Grind.common_steps, Result.err_from_is_err_and}
 use Rattle.vecmap_map.proofs.VecMap.extend.Goals as goal
