@@ -4,13 +4,11 @@ A source is read by the form that `rt fmt` gives to it: an item ends at the firs
 line.
 """
 
-import collections
 import difflib
 import glob
 import itertools
 import os
 import re
-import subprocess
 import sys
 import typing
 
@@ -68,13 +66,6 @@ def owed(name):
             section = line.removeprefix("## ")
         elif line and not line.startswith("# "):
             yield section, line
-
-
-def refusing_library(folder):
-    """Builds the library that refuses a request for memory. Returns its path."""
-    flags = "-O2 -Wall -Wextra -Werror -shared -fPIC -o".split()
-    subprocess.run(["cc", *flags, f"{folder}/refuse.so", ".ci/refuse.c"], check=True)
-    return f"{folder}/refuse.so"
 
 
 # Files
@@ -262,8 +253,9 @@ class Heading(typing.NamedTuple):
     rows: list
 
 
-# The lines of a script that set the collections up.
-SET_UP = ("map", "repeats", "set", "spare", "other", "swap", "again", "clones_fail")
+def is_set_up(line):
+    """Whether a line of a script is no row, but sets the collections up."""
+    return line.split(" ")[0] in ("map", "repeats", "set", "spare", "other", "swap", "again", "clones_fail")
 
 
 def headings(path):
@@ -280,6 +272,6 @@ def headings(path):
             heading.bodies.append(line.removeprefix("# body: "))
         elif not line:
             heading = None
-        elif heading and line.split()[0] not in SET_UP:
+        elif heading and not is_set_up(line):
             heading.rows.append(line)
     return found
