@@ -1,5 +1,7 @@
-"""Makes pages from the sources: the calls, the definitions, the laws with their statements, and the tables of PROVING. The
-texts at the heads of whole pages are in `.ci/heads`."""
+"""Makes pages from the sources: the calls, the definitions, the laws with their statements, and the tables of PROVING.
+
+The texts at the heads of whole pages are in `.ci/heads`.
+"""
 
 import itertools
 import os
@@ -9,6 +11,7 @@ import textwrap
 from rattle import DEFINITION, LIBRARIES, calls, crate_of, depths, files, functions, imports, items, laws, read, sources
 
 WIDTH = 120
+BAR = "\\|"
 # The crates whose definitions users can meet, in the order of the page.
 DEFINED = [*LIBRARIES, "vecmap_laws"]
 # The crates whose functions call laws.
@@ -19,8 +22,12 @@ FILLERS = {it.rstrip("s") for it in """
     reference remaining set that the then this to was what whether which with
 """.split()}
 # Sentences on a cost that is constant.
-CONSTANT = re.compile(
-    r"(?:Constant time|No comparisons|No moves|No comparisons and no moves|Does not allocate)\.(?= |$)"
+CONSTANT = re.compile(r"(?:Constant time|No comparisons(?: and no moves)?|No moves|Does not allocate)\.(?= |$)")
+# The first sentence of a text. A `..` ends none, nor does a stop within backticks.
+SENTENCE = re.compile(r"(?:`[^`]*`|[^`])*?(?<!\.)\.(?=\s|$)|.*", re.DOTALL)
+# What a sentence says that a call is like: a call with its type, or one of the same type.
+LIKE = re.compile(
+    r"(?:^Like|, like) \[?`(?:(?:Self|crate|vecmap_base)::)?([^`]+)`|like the inherent \[?`(?:[^`]*::)?([^`:]+)`"
 )
 
 
@@ -35,11 +42,6 @@ def opening(path):
     return " ".join(re.sub(r"^(?://!|--) ?", "", line) for line in found[1].splitlines())
 
 
-def in_cell(text, bar="\\|"):
-    """Returns a text as it stands in a cell of a table."""
-    return text.replace("|", bar)
-
-
 # Comments
 
 
@@ -49,11 +51,6 @@ def without_links(text):
     return re.sub(r"`(?:VecMap|VecSet|Self|crate|vecmap_base)::(\w+)`", r"`\1`", text)
 
 
-def first_sentence(text):
-    """Returns the first sentence of a text. A `..` ends none, nor does a stop within backticks."""
-    return re.match(r"(?:`[^`]*`|[^`])*?(?<!\.)\.(?=\s|$)|.*", text, re.DOTALL)[0]
-
-
 def below(comment, heading):
     """Returns what a comment says below a heading."""
     found = re.search(rf"^# {heading}\n\n(.*?)(?=^# |\Z)", "\n".join(comment), re.MULTILINE | re.DOTALL)
@@ -61,21 +58,16 @@ def below(comment, heading):
 
 
 def parts_of(comment):
-    """Returns the first sentence of a comment, its preconditions, its errors, and its cost where that is not constant."""
-    first = " ".join(first_sentence("\n".join(comment).split("\n\n")[0]).split())
-    cost = re.sub(CONSTANT, "", below(comment, "Complexity")).strip()
-    return [first, below(comment, "Preconditions"), below(comment, "Errors"), cost]
-
-
-def model_of(text, owner):
-    """Returns the name of the call that a sentence says a call is like, or nothing."""
-    found = re.search(r"(?:^Like|, like) \[?`(?:(?:Self|crate|vecmap_base)::)?([^`]+)`|like the inherent \[?`([^`]+)`", text)
-    return found and (found[1] or f"{owner}::{found[2].split('::')[-1]}")
+    """Returns the first sentence of a comment, its preconditions, its errors, and its cost if that is not constant."""
+    first = SENTENCE.match("\n".join(comment).split("\n\n")[0])[0]
+    cost = CONSTANT.sub("", below(comment, "Complexity")).strip()
+    return [" ".join(first.split()), below(comment, "Preconditions"), below(comment, "Errors"), cost]
 
 
 def completed(parts, owner, known):
     """Returns the parts of a comment, with those of the call that it is like where it has none itself."""
-    model = known.get(model_of(parts[0], owner))
+    like = LIKE.search(parts[0])
+    model = known.get(like[1] or f"{owner}::{like[2]}") if like else None
     if not model:
         return parts
     first, preconditions, errors, cost = parts
@@ -129,21 +121,17 @@ def owner_of(item):
     return re.sub(r"<.*", "", trait_and_type(head)[1]) if head else ""
 
 
-def is_listed(item):
-    """Whether the page lists an item: a call, a method of a trait, a macro, a type, or what a type implements."""
-    if item.kind == "impl":
-        return trait_and_type(item.text)[0] not in ("", "Model", "Sealed")
-    is_method = item.impl.startswith("pub trait") and bool(item.doc())
-    return item.is_public or is_method or item.kind == "macro_rules!"
-
-
 def listed(path):
-    """Returns the items of a source that the page lists."""
-    return [it for it in items(path) if is_listed(it)]
+    """Returns the items that the page lists: calls, methods of traits, macros, types, and what a type implements."""
+    return [
+        it for it in items(path)
+        if it.is_public or it.kind == "macro_rules!" or it.impl.startswith("pub trait") and it.doc()
+        or it.kind == "impl" and trait_and_type(it.text)[0] not in ("", "Model", "Sealed")
+    ]
 
 
 def known_calls():
-    """Returns the parts of the comment of each call and each `impl`, by its name, and by that with the name of its type."""
+    """Returns the parts of the comment of each call and `impl`, by its name, and by that with the name of its type."""
     made = {}
     for item in (it for path in sources(*LIBRARIES) for it in listed(path)):
         owner, parts = owner_of(item), parts_of(item.doc())
@@ -154,17 +142,17 @@ def known_calls():
     return made
 
 
-def link(title, item, line=None):
+def link(title, item):
     """Returns a link to an item."""
-    return f"[`{title}`](../{item.path}#L{line or item.line})"
+    return f"[`{title}`](../{item.path}#L{item.line})"
 
 
-def line_of(item):
-    """Returns the line to which the entry of a call leads: of a trait with one `impl` in the file, that in the `impl`."""
-    found = list(items(item.path))
-    impls = [it for it in found if it.kind == "impl" and re.match(rf"impl\b.*\b{owner_of(item) or '-'} for ", it.text)]
-    methods = (it.line for it in found if it.name == item.name and len(impls) == 1 and it.line > impls[0].line)
-    return next(methods, item.line)
+def shown(item):
+    """Returns the item to which the entry of a call leads. In a file with one `impl` of its trait, it is in that."""
+    found, head = list(items(item.path)), rf"impl\b.*\b{owner_of(item) or '-'} for "
+    impls = [it for it in found if it.kind == "impl" and re.match(head, it.text)]
+    methods = (it for it in found if it.name == item.name and len(impls) == 1 and it.line > impls[0].line)
+    return next(methods, item)
 
 
 def call_entry(item, of, known):
@@ -172,41 +160,40 @@ def call_entry(item, of, known):
     name, rest = re.match(r"([\w!]+)(.*)", title_of(item)).groups()
     owner = owner_of(item)
     name = name if owner in ("", of) else f"{owner}::{name}"
-    return f"- {link(name, item, line_of(item))}`{rest}`\n  {said(item.doc(), owner, known)}".replace("``", "")
+    return f"- {link(name, shown(item))}`{rest}`\n  {said(item.doc(), owner, known)}".replace("``", "")
 
 
 def trait_entries(impls, known):
     """Returns an entry for each `impl` with a comment, and a line with the others."""
-    made = [f"- {link(title_of(it), it)}\n  {said(it.doc(), owner_of(it), known)}" for it in impls if it.doc()]
-    rest = ", ".join(link(title_of(it), it) for it in impls if not it.doc())
-    return [*made, f"- Traits: {rest}"] if rest else made
+    links = [(link(title_of(it), it), it) for it in impls]
+    rest = ", ".join(title for title, it in links if not it.doc())
+    made = [f"- {title}\n  {said(it.doc(), owner_of(it), known)}" for title, it in links if it.doc()]
+    return made + [f"- Traits: {rest}"] * bool(rest)
 
 
 def members(item):
     """Yields the variants of an enum, or the public fields of a struct, each with its comment."""
-    for comment, field, variant in re.findall(r"((?:    ///.*\n)*)    (?:pub (\w+: .*)|([A-Z].*)),$", item.text, re.MULTILINE):
+    form = r"((?:    ///.*\n)*)    (?:pub (\w+: .*)|([A-Z].*)),$"
+    for comment, field, variant in re.findall(form, item.text, re.MULTILINE):
         about = " ".join(line.strip().removeprefix("///").strip() for line in comment.splitlines())
         yield f"`{field or variant}`", without_links(about)
 
 
-def enum_entry(item, rows):
+def enum_entry(item):
     """Returns the entry of an enum: what its comment says, and a table of its variants."""
-    title, columns = "| Variant | |", 2
+    title, rows = "| Variant | |\n|---|---|", list(members(item))
     if all(re.match(r"`[^`]*`[^:]*: ", about) for _, about in rows):
-        title, columns = "| Command | Call | Reply |", 3
-        rows = [(name, *about.split(": ", 1)) for name, about in rows]
+        title, rows = "| Command | Call | Reply |\n|---|---|---|", [(it, *about.split(": ", 1)) for it, about in rows]
     words = without_links(" ".join(" ".join(item.doc()).split(" # ")[0].split()))
-    table = "".join(f"| {' | '.join(map(in_cell, row))} |\n" for row in rows)
-    return f"\n{link(title_of(item), item)}: {words}\n\n{title}\n{'|---' * columns}|\n{table}"
+    table = "".join(f"| {' | '.join(it.replace('|', BAR) for it in row)} |\n" for row in rows)
+    return f"\n{link(title_of(item), item)}: {words}\n\n{title}\n{table}"
 
 
 def type_entry(item):
-    """Returns the entry of an enum, of a struct with public fields, or of another name for a type, or nothing."""
-    rows = list(members(item)) if item.kind != "trait" else []
-    if item.kind == "enum":
-        return enum_entry(item, rows)
-    fields = f", with the field {' and the field '.join(name for name, _ in rows)}" if rows else ""
-    return f"- {link(title_of(item), item)}{fields}\n  {said(item.doc())}" if rows or item.kind == "type" else ""
+    """Returns the entry of a struct with public fields, or of another name for a type, or nothing."""
+    names = [name for name, _ in members(item)] if item.kind == "struct" else []
+    fields = f", with the field {' and the field '.join(names)}" if names else ""
+    return f"- {link(title_of(item), item)}{fields}\n  {said(item.doc())}" if names or item.kind == "type" else ""
 
 
 def entries(path, of, known):
@@ -214,7 +201,8 @@ def entries(path, of, known):
     found = listed(path)
     made = [call_entry(it, of, known) for it in found if it.kind in ("fn", "macro_rules!")]
     made += trait_entries([it for it in found if it.kind == "impl"], known)
-    return made + [type_entry(it) for it in found if it.kind not in ("fn", "macro_rules!", "impl")]
+    types = (it for it in found if it.kind in ("enum", "struct", "type"))
+    return made + [enum_entry(it) if it.kind == "enum" else type_entry(it) for it in types]
 
 
 def topics(page, home):
@@ -236,15 +224,15 @@ def section(title, paths, of, known):
 
 def call_page():
     """Makes the list of calls: maps and sets by topic, and the other files in the order of their names."""
-    made, shown, known = [], set(), known_calls()
+    made, known, seen = [], known_calls(), set()
     for kind, of in (("map", "VecMap"), ("set", "VecSet")):
         made.append(f"## {kind.title()}s\n")
         for title, paths in topics(f"crates/vecmap/src/{kind}.rt", f"crates/vecmap_{kind}/src"):
-            shown |= set(paths)
+            seen |= set(paths)
             made.append(section(title, paths, of, known))
     made.append("## Runs, macros, and functions over slices and vectors\n")
     for crate in ("vecmap", "vecmap_map", "vecmap_set", "vecmap_base"):
-        paths = [path for path in sources(crate) if path not in shown and "/laws" not in path]
+        paths = [path for path in sources(crate) if path not in seen and "/laws" not in path]
         made.append(section(f"`{crate}`", paths, "", known))
     return page_of("CALLS", made)
 
@@ -254,12 +242,12 @@ def call_page():
 
 def groups(text):
     """Returns the words of a text, of which one may be in brackets and hold others."""
-    letters = ("\n" if letter == " " and not depth else letter for letter, depth in zip(text, depths(text, "([{", ")]}")))
-    return "".join(letters).split("\n")
+    pairs = zip(text, depths(text, "([{", ")]}"))
+    return "".join("\n" if pair == (" ", 0) else pair[0] for pair in pairs).split("\n")
 
 
 def arguments(name, lines):
-    """Returns the arguments of a definition that begins at the first of some lines, or `_` for one that is taken apart."""
+    """Returns the arguments of a definition that begins at the first of some lines, `_` for one that is taken apart."""
     if re.match(r" *pub (?:record|data)", lines[0]):
         binders = itertools.takewhile(lambda it: it != ":", groups(lines[0].split(name, 1)[1].split(" where")[0]))
         return [word for it in binders if it.startswith("(") for word in it[1:].split(" :")[0].split()]
@@ -267,13 +255,15 @@ def arguments(name, lines):
     first, last = (starts + [len(lines)])[:2] if starts else (0, 0)
     left, _, right = " ".join(lines[first:last]).strip().partition(" = ")
     words = [it for it in groups(left.removeprefix(name)) if it and not it.startswith("{")]
-    return [it if re.fullmatch(r"[a-z][\w']*", it) or re.search(rf"\b{re.escape(it)}\b", right) else "_" for it in words]
+    return [
+        it if re.fullmatch(r"[a-z][\w']*", it) or re.search(rf"\b{re.escape(it)}\b", right) else "_" for it in words
+    ]
 
 
 def definitions(path):
     """Yields the public definitions of a file: for each its form, what its comment says, and its example.
 
-    The last line of the comment is the sentence that says what is defined. Details and a line with the example are above it.
+    The last line of the comment is the sentence that says what is defined. Details and the example are above it.
     """
     text = read(path)
     for found in re.finditer(rf"((?:^ *-- .*\n)*){DEFINITION.pattern}", text, re.MULTILINE):
@@ -295,18 +285,16 @@ def is_told(form, words):
     return bool(name & said_words) and not said_words - name - FILLERS
 
 
-def definition_table(path):
-    """Makes the table of a file of `specs/` below a heading, without the definitions whose name tells all."""
-    found = [it for it in definitions(path) if it[2] or not is_told(*it[:2])]
-    rows = (map(in_cell, it) for it in found)
-    table = "".join(f"| `{form}` | {words} | {example} |\n" for form, words, example in rows)
-    title = f"## [{path.split('/specs/')[1].removesuffix('.antt')}](../{path}) of `{crate_of(path)}`\n\n"
-    return f"{title}| Name | Meaning | Example |\n|---|---|---|\n{table}" if found else ""
-
-
 def definition_page():
-    """Makes the page of definitions."""
-    return page_of("DEFINITIONS", (definition_table(path) for crate in DEFINED for path in files(f"crates/{crate}/specs/**/*.antt")))
+    """Makes the page of definitions: a table for each file of `specs/`, without those whose name tells all."""
+    made = []
+    for crate in DEFINED:
+        for path in files(f"crates/{crate}/specs/**/*.antt"):
+            found = [it for it in definitions(path) if it[2] or not is_told(*it[:2])]
+            rows = "".join("| `{}` | {} | {} |\n".format(*(it.replace("|", BAR) for it in row)) for row in found)
+            title = f"## [{path.split('/specs/')[1].removesuffix('.antt')}](../{path}) of `{crate}`\n"
+            made += [title, f"| Name | Meaning | Example |\n|---|---|---|\n{rows}"] if found else []
+    return page_of("DEFINITIONS", made)
 
 
 # Laws
@@ -338,8 +326,7 @@ def is_by_hand(function):
 
 
 def calls_of_users():
-    """Yields the calls in functions that may call laws: the path of what is called, and a link to the function, with a star
-    if its proof is by hand."""
+    """Yields what functions that may call laws call: a path, and a link to the function, starred if proved by hand."""
     for path in sources(*USERS):
         names = imports(read(path))
         for it in functions(path):
@@ -348,7 +335,7 @@ def calls_of_users():
 
 
 def goal_table():
-    """Makes the table of goals: the first sentence of each law's comment, its name with its clauses, and its callers."""
+    """Makes the table of goals: the first sentence of a law's comment, its name with its clauses, and its callers."""
     rows, made = list(calls_of_users()), "| Goal | Law | Called by |\n|---|---|---|\n"
     for law, paths in laws():
         if not law.path.startswith("crates/vecmap_laws/"):
@@ -357,7 +344,7 @@ def goal_table():
         labels = ", ".join(f"`{it.label}`" for it in law.clauses() if it.kind == "ensures" and it.label)
         users = ", ".join(list(dict.fromkeys(caller for called, caller in rows if called in paths))[:3])
         name = f"`{law.name}`" + (f" ({labels})" if labels else "")
-        made += f"| {in_cell(said(law.doc()), '&#124;')} | {name}{sets} | {users} |\n"
+        made += f"| {said(law.doc()).replace('|', '&#124;')} | {name}{sets} | {users} |\n"
     return made
 
 
@@ -371,8 +358,10 @@ def exported(crate, folder):
 
 def lemma_table():
     """Makes the table of the modules of lemmas that callers can import, by the comments at their heads."""
-    rows = (f"| `{name}` | {in_cell(said([opening(path)]), '&#124;')} |\n" for path, name in exported("vecmap_laws", "proofs"))
-    return "| Module | Its lemmas |\n|---|---|\n" + "".join(rows)
+    made = "| Module | Its lemmas |\n|---|---|\n"
+    for path, name in exported("vecmap_laws", "proofs"):
+        made += f"| `{name}` | {said([opening(path)]).replace('|', '&#124;')} |\n"
+    return made
 
 
 def words_of_contracts():
@@ -381,8 +370,8 @@ def words_of_contracts():
     for crate in ("vecmap", "vecmap_laws"):
         for path, name in exported(crate, "specs"):
             line = f"Rattle.{crate}.specs.{name}: {', '.join(DEFINITION.findall(read(path)))}"
-            made.append(textwrap.fill(line, WIDTH, subsequent_indent="    "))
-    return "\n".join(sorted(made)) + "\n"
+            made.append(textwrap.fill(line, WIDTH, subsequent_indent="    ") + "\n")
+    return "".join(sorted(made))
 
 
 def proving_page():

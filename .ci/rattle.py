@@ -1,9 +1,10 @@
 """What the scripts of this folder share: they read the sources, compare what they make with a file, and print faults.
 
-A source is read by the form that `rt fmt` gives to it: an item ends at the first brace with the indentation of its first
-line.
+A source is read by the form that `rt fmt` gives to it: an item ends at the first brace with the indentation of its
+first line.
 """
 
+import collections
 import difflib
 import glob
 import itertools
@@ -14,7 +15,8 @@ import typing
 
 LIBRARIES = ["vecmap_base", "vecmap_map", "vecmap_set", "vecmap"]
 WRITES = sys.argv[1:2] == ["--write"]
-ITEM = re.compile(r"( *)(pub(?:\(\w+\))? )?(?:const |unsafe )*(fn|impl|struct|enum|trait|type|macro_rules!)(?=[ <]) ?(\w*)")
+KINDS = "fn|impl|struct|enum|trait|type|macro_rules!"
+ITEM = re.compile(rf"( *)(pub(?:\(\w+\))? )?(?:const |unsafe )*({KINDS})(?=[ <]) ?(\w*)")
 CLAUSE = re.compile(r"(requires|ensures)\*? (?:(\w+) )?\{")
 MEMBER = re.compile(r"^    ghost (\w+) = \{", re.MULTILINE)
 USE = re.compile(r"^(?:pub )?use ([^;]+);", re.MULTILINE)
@@ -34,7 +36,7 @@ PATHS_OF_LAWS = {
 
 
 def end(check):
-    """Ends a script: runs its check at the top of the repository, which returns the faults and a last line, and prints them."""
+    """Ends a script: runs its check at the top of the repository, and prints the faults and the last line of it."""
     os.chdir(os.path.join(os.path.dirname(os.path.abspath(__file__)), ".."))
     faults, last = check()
     print(*faults, last, sep="\n")
@@ -42,14 +44,14 @@ def end(check):
 
 
 def compared(path, made, shown=2):
-    """Says where a file differs from what the sources make of it, in some lines, or writes it if the script is to write."""
+    """Says in some lines where a file differs from what the sources make of it, or writes it."""
     if WRITES:
         write(path, made)
+    if WRITES or read(path) == made:
         return []
     changes = list(difflib.unified_diff(read(path).splitlines(), made.splitlines(), lineterm="", n=0))
-    lines = [f"{path}: {line}" for line in changes if re.match(r"[-+](?![-+])", line)]
-    last = f"{path}: differs from the sources (.ci/{os.path.basename(sys.argv[0])} --write)"
-    return [*lines[:shown], last] if read(path) != made else []
+    lines = [f"{path}: {line}" for line in changes[2:] if not line.startswith("@@")]
+    return [*lines[:shown], f"{path}: differs from the sources (.ci/{os.path.basename(sys.argv[0])} --write)"]
 
 
 def kept(name, head, lines):
@@ -110,12 +112,8 @@ def crate_of(path):
 # Items of a source
 
 
-class Clause(typing.NamedTuple):
-    """A clause of a contract. A ghost member of an impl is one, too."""
-
-    kind: str
-    label: str
-    formula: str
+# A clause of a contract. A ghost member of an impl is one, too.
+Clause = collections.namedtuple("Clause", "kind label formula")
 
 
 class Item(typing.NamedTuple):
@@ -126,8 +124,7 @@ class Item(typing.NamedTuple):
     kind: str
     name: str
     is_public: bool
-    # The head of the impl or trait of a function, and what stands between them.
-    impl: str
+    impl: str  # The head of the impl or trait around a function, and then what stands between them.
     members: str
     comment: str
     text: str
@@ -171,10 +168,10 @@ def braced(text):
 def end_of(lines, at, indent):
     """Returns the last line of the item that begins at a line."""
     is_open = False
-    for end_line in range(at, len(lines)):
-        if lines[end_line] in (f"{indent}}}", f"{indent}{{}}") or (not is_open and lines[end_line].endswith(("{}", ";"))):
-            return end_line
-        is_open = is_open or lines[end_line].endswith("{")
+    for number, line in enumerate(lines[at:], at):
+        if line in (f"{indent}}}", f"{indent}{{}}") or (not is_open and line.endswith(("{}", ";"))):
+            return number
+        is_open = is_open or line.endswith("{")
     return at
 
 
@@ -212,12 +209,10 @@ def tests():
 
 
 def laws():
-    """Yields the laws: the public functions of `vecmap_laws` and of the modules `laws` of maps and of sets. For each, the
-    paths by which callers may name it."""
+    """Yields the laws of `vecmap_laws`, of maps and of sets, each with the paths by which callers may name it."""
     for module, paths in PATHS_OF_LAWS.items():
-        for law in (it for path in files(f"crates/{module}.rt", f"crates/{module}/**/*.rt") for it in functions(path)):
-            if law.is_public and not law.impl:
-                yield law, [f"{path}::{law.name}" for path in paths]
+        found = (it for path in files(f"crates/{module}.rt", f"crates/{module}/**/*.rt") for it in functions(path))
+        yield from ((it, [f"{path}::{it.name}" for path in paths]) for it in found if it.is_public and not it.impl)
 
 
 def imports(text):
@@ -244,13 +239,8 @@ def calls(text, names):
 # The script of test cases
 
 
-class Heading(typing.NamedTuple):
-    """A heading of a script: its part, its text, and below it the mutants that the rows reject, and the rows."""
-
-    part: str
-    text: str
-    bodies: list
-    rows: list
+# A heading of a script: its part, its text, and below it the mutants that the rows reject, and the rows.
+Heading = collections.namedtuple("Heading", "part text bodies rows")
 
 
 def is_set_up(line):
