@@ -1,6 +1,6 @@
 """Makes pages from the sources: the calls, the definitions, the laws with their statements, and the tables of PROVING.
 
-The texts at the heads of whole pages are in `.ci/heads`.
+The functions stand in this order, after those that read comments. The texts at the heads of pages are in `.ci/heads`.
 """
 
 import itertools
@@ -42,9 +42,6 @@ def opening(path):
     return " ".join(re.sub(r"^(?://!|--) ?", "", line) for line in found[1].splitlines())
 
 
-# Comments
-
-
 def without_links(text):
     """Returns a comment without the brackets and paths of its links."""
     text = re.sub(r"\[(`[^`\]]+`)\](?:\([^)]*\))?", r"\1", text)
@@ -80,9 +77,6 @@ def said(comment, owner="", known=None):
     first, *rest = completed(parts_of(comment), owner, known or {})
     made = [f"*{name}:* {text}" for name, text in zip(("Preconditions", "Errors", "Cost"), rest) if text]
     return without_links(" ".join([first, *made]))
-
-
-# Calls
 
 
 def plain_type(text):
@@ -237,9 +231,6 @@ def call_page():
     return page_of("CALLS", made)
 
 
-# Definitions
-
-
 def groups(text):
     """Returns the words of a text, of which one may be in brackets and hold others."""
     pairs = zip(text, depths(text, "([{", ")]}"))
@@ -297,9 +288,6 @@ def definition_page():
     return page_of("DEFINITIONS", made)
 
 
-# Laws
-
-
 def law_page():
     """Makes the page of laws: a heading for each module."""
     modules = {}
@@ -312,9 +300,6 @@ def law_page():
         text = "\n".join(statements)
         made.append(f"## `{title}`\n\n{textwrap.fill(opening(path), WIDTH)}\n\n```text\n{text}```\n")
     return page_of("LAWS", made)
-
-
-# The tables of PROVING
 
 
 def is_by_hand(function):

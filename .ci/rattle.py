@@ -1,4 +1,4 @@
-"""What the scripts of this folder share: they read the sources, compare what they make with a file, and print faults.
+"""What the scripts of this folder share: the frame, files, the items of a source, laws and calls, and headings of rows.
 
 A source is read by the form that `rt fmt` gives to it: an item ends at the first brace with the indentation of its
 first line.
@@ -11,8 +11,9 @@ import itertools
 import os
 import re
 import sys
-import typing
 
+# The sources, and the files of definitions and of proofs.
+TEXTS = ("crates/**/*.rt", "crates/**/*.antt")
 LIBRARIES = ["vecmap_base", "vecmap_map", "vecmap_set", "vecmap"]
 WRITES = sys.argv[1:2] == ["--write"]
 KINDS = "fn|impl|struct|enum|trait|type|macro_rules!"
@@ -30,9 +31,10 @@ PATHS_OF_LAWS = {
     "vecmap_laws/src/maps": ["vecmap_laws::maps"],
     "vecmap_laws/src/sets": ["vecmap_laws::sets"],
 }
-
-
-# The frame of a script
+# A clause of a contract. A ghost member of an impl is one, too.
+Clause = collections.namedtuple("Clause", "kind label formula")
+# A heading of a script: its part, its text, and below it the mutants that the rows reject, and the rows.
+Heading = collections.namedtuple("Heading", "part text bodies rows")
 
 
 def end(check):
@@ -70,12 +72,9 @@ def owed(name):
             yield section, line
 
 
-# Files
-
-
 def read(path):
     """Returns the text of a file. A file that is not there has none."""
-    if not os.path.exists(path):
+    if not os.path.isfile(path):
         return ""
     with open(path, encoding="utf-8") as file:
         return file.read()
@@ -99,35 +98,16 @@ def sources(*crates):
     return files(*(f"crates/{crate}/src/**/*.rt" for crate in crates or ["*"]))
 
 
-def texts_in(*folders):
-    """Returns the sources and the files of definitions and proofs in some folders."""
-    return files(*(f"{folder}/**/*.{kind}" for folder in folders for kind in ("rt", "antt")))
-
-
 def crate_of(path):
     """Returns the crate of a file."""
     return path.split("/")[1]
 
 
-# Items of a source
+class Item(collections.namedtuple("Item", "path line kind name is_public impl members comment text")):
+    """A function, an impl, a type or a macro of a source.
 
-
-# A clause of a contract. A ghost member of an impl is one, too.
-Clause = collections.namedtuple("Clause", "kind label formula")
-
-
-class Item(typing.NamedTuple):
-    """An item of a source: a function, an impl, a type or a macro."""
-
-    path: str
-    line: int
-    kind: str
-    name: str
-    is_public: bool
-    impl: str  # The head of the impl or trait around a function, and then what stands between them.
-    members: str
-    comment: str
-    text: str
+    Its `impl` is the head of the impl or trait that it is in, and its `members` are the lines from there to the item.
+    """
 
     def head(self):
         """Returns the signature with its clauses."""
@@ -205,9 +185,6 @@ def tests():
     return [it for path in sources() for it in functions(path) if it.is_test()]
 
 
-# Laws
-
-
 def laws():
     """Yields the laws of `vecmap_laws`, of maps and of sets, each with the paths by which callers may name it."""
     for module, paths in PATHS_OF_LAWS.items():
@@ -234,13 +211,6 @@ def calls(text, names):
             yield f"{names[module]}::{name}"
         elif not module and name in names:
             yield names[name]
-
-
-# The script of test cases
-
-
-# A heading of a script: its part, its text, and below it the mutants that the rows reject, and the rows.
-Heading = collections.namedtuple("Heading", "part text bodies rows")
 
 
 def is_set_up(line):
