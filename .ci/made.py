@@ -8,7 +8,7 @@ import os
 import re
 import textwrap
 
-from rattle import DEFINITION, LIBRARIES, calls, crate_of, depths, files, functions, imports, items, laws, read, sources
+from rattle import DEFINITION, LIBRARIES, calls, depths, files, functions, imports, items, laws, read, sources
 
 WIDTH = 120
 BAR = "\\|"
