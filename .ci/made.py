@@ -3,6 +3,7 @@
 The functions stand in this order, after those that read comments. The texts at the heads of pages are in `.ci/heads`.
 """
 
+import functools
 import itertools
 import os
 import re
@@ -61,20 +62,20 @@ def parts_of(comment):
     return [" ".join(first.split()), below(comment, "Preconditions"), below(comment, "Errors"), cost]
 
 
-def completed(parts, owner, known):
+def completed(parts, owner):
     """Returns the parts of a comment, with those of the call that it is like where it has none itself."""
     like = LIKE.search(parts[0])
-    model = known.get(like[1] or f"{owner}::{like[2]}") if like else None
+    model = known_calls().get(like[1] or f"{owner}::{like[2]}") if like else None
     if not model:
         return parts
     first, preconditions, errors, cost = parts
     mine = [preconditions, model[2] if errors.startswith("As for") else errors, cost]
-    return [first, *(it or theirs for it, theirs in zip(mine, completed(model, owner, known)[1:]))]
+    return [first, *(it or theirs for it, theirs in zip(mine, completed(model, owner)[1:]))]
 
 
-def said(comment, owner="", known=None):
+def said(comment, owner=""):
     """Returns the first sentence of a comment, with its preconditions, its errors and its cost."""
-    first, *rest = completed(parts_of(comment), owner, known or {})
+    first, *rest = completed(parts_of(comment), owner)
     made = [f"*{name}:* {text}" for name, text in zip(("Preconditions", "Errors", "Cost"), rest) if text]
     return without_links(" ".join([first, *made]))
 
@@ -124,6 +125,7 @@ def listed(path):
     ]
 
 
+@functools.cache
 def known_calls():
     """Returns the parts of the comment of each call and `impl`, by its name, and by that with the name of its type."""
     made = {}
@@ -149,19 +151,19 @@ def shown(item):
     return next(methods, item)
 
 
-def call_entry(item, of, known):
+def call_entry(item, of):
     """Returns the entry of a call: its name with a link, its signature, and what its comment says."""
     name, rest = re.match(r"([\w!]+)(.*)", title_of(item)).groups()
     owner = owner_of(item)
     name = name if owner in ("", of) else f"{owner}::{name}"
-    return f"- {link(name, shown(item))}`{rest}`\n  {said(item.doc(), owner, known)}".replace("``", "")
+    return f"- {link(name, shown(item))}`{rest}`\n  {said(item.doc(), owner)}".replace("``", "")
 
 
-def trait_entries(impls, known):
+def trait_entries(impls):
     """Returns an entry for each `impl` with a comment, and a line with the others."""
     links = [(link(title_of(it), it), it) for it in impls]
     rest = ", ".join(title for title, it in links if not it.doc())
-    made = [f"- {title}\n  {said(it.doc(), owner_of(it), known)}" for title, it in links if it.doc()]
+    made = [f"- {title}\n  {said(it.doc(), owner_of(it))}" for title, it in links if it.doc()]
     return made + [f"- Traits: {rest}"] * bool(rest)
 
 
@@ -190,11 +192,11 @@ def type_entry(item):
     return f"- {link(title_of(item), item)}{fields}\n  {said(item.doc())}" if names or item.kind == "type" else ""
 
 
-def entries(path, of, known):
+def entries(path, of):
     """Returns the entries of a file: its calls, the traits that its types implement, and its types."""
     found = listed(path)
-    made = [call_entry(it, of, known) for it in found if it.kind in ("fn", "macro_rules!")]
-    made += trait_entries([it for it in found if it.kind == "impl"], known)
+    made = [call_entry(it, of) for it in found if it.kind in ("fn", "macro_rules!")]
+    made += trait_entries([it for it in found if it.kind == "impl"])
     types = (it for it in found if it.kind in ("enum", "struct", "type"))
     return made + [enum_entry(it) if it.kind == "enum" else type_entry(it) for it in types]
 
@@ -210,24 +212,24 @@ def topics(page, home):
         yield title[0].upper() + title[1:], [path for path in paths if not path.endswith("/laws.rt")]
 
 
-def section(title, paths, of, known):
+def section(title, paths, of=""):
     """Returns a heading, and the entries of some files below it."""
-    found = [it for path in paths for it in entries(path, of, known) if it]
+    found = [it for path in paths for it in entries(path, of) if it]
     return "\n".join([f"### {title}\n", *found, ""]) if found else ""
 
 
 def call_page():
     """Makes the list of calls: maps and sets by topic, and the other files in the order of their names."""
-    made, known, seen = [], known_calls(), set()
+    made, seen = [], set()
     for kind, of in (("map", "VecMap"), ("set", "VecSet")):
         made.append(f"## {kind.title()}s\n")
         for title, paths in topics(f"crates/vecmap/src/{kind}.rt", f"crates/vecmap_{kind}/src"):
             seen |= set(paths)
-            made.append(section(title, paths, of, known))
+            made.append(section(title, paths, of))
     made.append("## Runs, macros, and functions over slices and vectors\n")
     for crate in ("vecmap", "vecmap_map", "vecmap_set", "vecmap_base"):
         paths = [path for path in sources(crate) if path not in seen and "/laws" not in path]
-        made.append(section(f"`{crate}`", paths, "", known))
+        made.append(section(f"`{crate}`", paths))
     return page_of("CALLS", made)
 
 
