@@ -1,67 +1,80 @@
-"""Reads the sources of this repository for the other scripts: files, functions, contracts, imports and definitions.
+"""What the scripts of this folder share: the frame, files, the items of a source, laws and calls, and headings of rows.
 
-It relies on the form that `rt fmt` gives to a source: a function ends at the first brace with the indentation of its first
-line.
+A source is read by the form that `rt fmt` gives to it: an item ends at the first brace with the indentation of its
+first line.
 """
 
+import collections
 import difflib
 import glob
+import itertools
 import os
 import re
 import sys
-import typing
 
+# The sources, and the files of definitions and of proofs.
+TEXTS = ("crates/**/*.rt", "crates/**/*.antt")
 LIBRARIES = ["vecmap_base", "vecmap_map", "vecmap_set", "vecmap"]
-FUNCTION = re.compile(r"( *)(pub(?:\(\w+\))? )?(?:const |unsafe )*fn (\w+)")
-IMPL = re.compile(r"(impl|pub trait)\b")
+WRITES = sys.argv[1:2] == ["--write"]
+KINDS = "fn|impl|struct|enum|trait|type|macro_rules!"
+ITEM = re.compile(rf"( *)(pub(?:\(\w+\))? )?(?:const |unsafe )*({KINDS})(?=[ <]) ?(\w*)")
 CLAUSE = re.compile(r"(requires|ensures)\*? (?:(\w+) )?\{")
 MEMBER = re.compile(r"^    ghost (\w+) = \{", re.MULTILINE)
 USE = re.compile(r"^(?:pub )?use ([^;]+);", re.MULTILINE)
-DEFINITION = re.compile(r"^ *(?:abbrev pub|pub record|pub data) (\S+)(.*)", re.MULTILINE)
+DEFINITION = re.compile(r"^ *(?:abbrev pub|pub record|pub data) (\S+)", re.MULTILINE)
 NAME = re.compile(r"[A-Za-z_][\w']*")
+# The paths by which callers may name the laws of a module.
+PATHS_OF_LAWS = {
+    "vecmap_map/src/laws": ["vecmap::map::laws", "vecmap_map::laws"],
+    "vecmap_set/src/laws": ["vecmap::set::laws", "vecmap_set::laws"],
+    "vecmap_laws/src/lists": ["vecmap_laws::maps", "vecmap_laws::sets"],
+    "vecmap_laws/src/maps": ["vecmap_laws::maps"],
+    "vecmap_laws/src/sets": ["vecmap_laws::sets"],
+}
+# A clause of a contract. A ghost member of an impl is one, too.
+Clause = collections.namedtuple("Clause", "kind label formula")
+# A heading of a script: its part, its text, and below it the mutants that the rows reject, and the rows.
+Heading = collections.namedtuple("Heading", "part text bodies rows")
 
 
-class Function(typing.NamedTuple):
-    """A function of a source: the head of its impl, what stands before it, and its text."""
-
-    path: str
-    line: int
-    impl: str
-    members: str
-    comment: str
-    is_public: bool
-    name: str
-    text: str
-
-    def head(self):
-        """Returns the signature with its clauses."""
-        return re.split(r"\n *\{\n|\n\{\}|\{\n", self.text, maxsplit=1)[0]
-
-    def body(self):
-        """Returns what stands between the braces."""
-        return self.text[len(self.head()) :]
-
-    def is_test(self):
-        """Returns whether the function is a test."""
-        return "#[test]" in self.comment
-
-
-class Clause(typing.NamedTuple):
-    """A clause of a contract. A ghost member of an impl is one, too."""
-
-    kind: str
-    label: str
-    formula: str
-
-
-def at_top():
-    """Goes to the top of the repository."""
+def end(check):
+    """Ends a script: runs its check at the top of the repository, and prints the faults and the last line of it."""
     os.chdir(os.path.join(os.path.dirname(os.path.abspath(__file__)), ".."))
+    faults, last = check()
+    print(*faults, last, sep="\n")
+    sys.exit(1 if faults else 0)
+
+
+def compared(path, made, shown=2):
+    """Says in some lines where a file differs from what the sources make of it, or writes it."""
+    if WRITES:
+        write(path, made)
+    if WRITES or read(path) == made:
+        return []
+    changes = list(difflib.unified_diff(read(path).splitlines(), made.splitlines(), lineterm="", n=0))
+    lines = [f"{path}: {line}" for line in changes[2:] if not line.startswith("@@")]
+    return [*lines[:shown], f"{path}: differs from the sources (.ci/{os.path.basename(sys.argv[0])} --write)"]
+
+
+def kept(name, head, lines):
+    """Compares a list in `.ci/owed` with the lines that the sources make of it."""
+    head = f"# {head} `.ci/{os.path.basename(sys.argv[0])} --write` makes this list."
+    return compared(f".ci/owed/{name}.txt", "".join(f"{line}\n" for line in [head, *lines]), shown=None)
+
+
+def owed(name):
+    """Yields the lines of a list in `.ci/owed`, without its comments: for each the heading above it, and the line."""
+    section = ""
+    for line in read(f".ci/owed/{name}.txt").splitlines():
+        if line.startswith("## "):
+            section = line.removeprefix("## ")
+        elif line and not line.startswith("# "):
+            yield section, line
 
 
 def read(path):
     """Returns the text of a file. A file that is not there has none."""
-    if not os.path.exists(path):
+    if not os.path.isfile(path):
         return ""
     with open(path, encoding="utf-8") as file:
         return file.read()
@@ -85,88 +98,98 @@ def sources(*crates):
     return files(*(f"crates/{crate}/src/**/*.rt" for crate in crates or ["*"]))
 
 
-def texts_in(*folders):
-    """Returns the sources and the files of definitions and proofs in some folders."""
-    return files(*(f"{folder}/**/*.{kind}" for folder in folders for kind in ("rt", "antt")))
-
-
 def crate_of(path):
     """Returns the crate of a file."""
     return path.split("/")[1]
 
 
-def owed(name):
-    """Returns the lines of a list in `.ci/owed`, without its comments: for each the heading above it, and the line."""
-    section = ""
-    for line in read(f".ci/owed/{name}.txt").splitlines():
-        if line.startswith("## "):
-            section = line.removeprefix("## ")
-        elif line and not line.startswith("# "):
-            yield section, line
+class Item(collections.namedtuple("Item", "path line kind name is_public impl members comment text")):
+    """A function, an impl, a type or a macro of a source.
+
+    Its `impl` is the head of the impl or trait that it is in, and its `members` are the lines from there to the item.
+    """
+
+    def head(self):
+        """Returns the signature with its clauses."""
+        return re.split(r"\n *\{\n|\n\{\}|\{\n", self.text, maxsplit=1)[0]
+
+    def body(self):
+        """Returns what stands between the braces."""
+        return self.text[len(self.head()) :]
+
+    def doc(self):
+        """Returns the lines of the doc comment."""
+        lines = map(str.strip, self.comment.splitlines())
+        return [line.removeprefix("///").removeprefix(" ") for line in lines if line.startswith("///")]
+
+    def is_test(self):
+        """Returns whether the item is a test."""
+        return "#[test]" in self.comment
+
+    def clauses(self):
+        """Returns the clauses of a function's contract, and the ghost members of its impl that stand before it."""
+        head = re.sub(r"//.*", "", self.head())
+        made = [Clause(found[1], found[2] or "", braced(head[found.end() :])) for found in CLAUSE.finditer(head)]
+        ghosts = MEMBER.finditer(self.members)
+        return made + [Clause("ghost", found[1], braced(self.members[found.end() :])) for found in ghosts]
 
 
-def kept(name, head, lines):
-    """Compares a list in `.ci/owed` with the lines that the sources make of it, or writes it if the script has the argument
-    `--write`. Returns what differs."""
-    path, script = f".ci/owed/{name}.txt", os.path.basename(sys.argv[0])
-    made = "".join(f"{line}\n" for line in [f"# {head} `.ci/{script} --write` makes this list.", *lines])
-    if sys.argv[1:] == ["--write"]:
-        write(path, made)
-        return []
-    changes = difflib.unified_diff(read(path).splitlines(), made.splitlines(), lineterm="", n=0)
-    changed = [f"{path}: {line}" for line in changes if re.match(r"[-+](?![-+])", line)]
-    return [*changed, f"{path}: differs from the sources (.ci/{script} --write)"] if changed else []
+def depths(text, opening, closing):
+    """Returns for each letter of a text how many brackets are open after it."""
+    return itertools.accumulate((letter in opening) - (letter in closing) for letter in text)
 
 
-# Functions
+def braced(text):
+    """Returns a text up to the brace that closes the one before it."""
+    length = next((at for at, depth in enumerate(depths(text, "{", "}")) if depth < 0), None)
+    return " ".join(text[:length].split())
 
 
 def end_of(lines, at, indent):
-    """Returns the last line of the function that begins at a line."""
+    """Returns the last line of the item that begins at a line."""
     is_open = False
-    for end in range(at, len(lines)):
-        if lines[end] in (f"{indent}}}", f"{indent}{{}}") or (not is_open and lines[end].endswith(("{}", ";"))):
-            return end
-        is_open = is_open or lines[end].endswith("{")
+    for number, line in enumerate(lines[at:], at):
+        if line in (f"{indent}}}", f"{indent}{{}}") or (not is_open and line.endswith(("{}", ";"))):
+            return number
+        is_open = is_open or line.endswith("{")
     return at
 
 
-def functions(path):
-    """Yields the functions of a source, in order, those of impls and of traits too."""
-    impl, start, above, lines, end = "", 0, 0, read(path).splitlines(), -1
+def items(path):
+    """Yields the items of a source, in order, and those of impls and of traits."""
+    lines, impl, start, above, last = read(path).splitlines(), "", 0, 0, -1
     for at, line in enumerate(lines):
-        if at <= end:
+        if at <= last:
             continue
-        if found := FUNCTION.match(line):
-            end = end_of(lines, at, found[1])
-            owner, members = (impl, "\n".join(lines[start:at])) if found[1] else ("", "")
-            comment, text = ("\n".join(lines[it[0] : it[1]]) for it in ((above, at), (at, end + 1)))
-            yield Function(path, at + 1, owner, members, comment, found[2] == "pub ", found[3], text)
-        elif IMPL.match(line):
-            impl, start = " ".join(lines[at : at + 3]).split("{")[0].strip(), at
+        if (found := ITEM.match(line)) and (found[3] == "fn" or not found[1]):
+            indent, scope, kind, name = found.groups()
+            end_line = end_of(lines, at, indent)
+            text = "\n".join(lines[at : end_line + 1])
+            if kind in ("impl", "trait"):
+                text = impl = " ".join(lines[at : at + 3]).split("{")[0].strip()
+                start = at
+            owner, members = (impl, "\n".join(lines[start:at])) if indent else ("", "")
+            yield Item(path, at + 1, kind, name, scope == "pub ", owner, members, "\n".join(lines[above:at]), text)
+            last = end_line if kind == "fn" else last
         if not re.match(r" *(//|#\[)", line):
-            above = max(at, end) + 1
+            above = max(at, last) + 1
 
 
-def braced(text, at):
-    """Returns the text from a position to the brace that closes the one before it."""
-    depth = 1
-    for end in range(at, len(text)):
-        depth += (text[end] == "{") - (text[end] == "}")
-        if depth == 0:
-            return " ".join(text[at:end].split())
-    return " ".join(text[at:].split())
+def functions(path):
+    """Returns the functions of a source."""
+    return [it for it in items(path) if it.kind == "fn"]
 
 
-def clauses(function):
-    """Returns the clauses of a function's contract, and the ghost members of its impl that stand before it."""
-    head = re.sub(r"//.*", "", function.head())
-    made = [Clause(found[1], found[2] or "", braced(head, found.end())) for found in CLAUSE.finditer(head)]
-    members = [Clause("ghost", found[1], braced(function.members, found.end())) for found in MEMBER.finditer(function.members)]
-    return made + members
+def tests():
+    """Returns all tests."""
+    return [it for path in sources() for it in functions(path) if it.is_test()]
 
 
-# Imports and calls
+def laws():
+    """Yields the laws of `vecmap_laws`, of maps and of sets, each with the paths by which callers may name it."""
+    for module, paths in PATHS_OF_LAWS.items():
+        found = (it for path in files(f"crates/{module}.rt", f"crates/{module}/**/*.rt") for it in functions(path))
+        yield from ((it, [f"{path}::{it.name}" for path in paths]) for it in found if it.is_public and not it.impl)
 
 
 def imports(text):
@@ -181,21 +204,34 @@ def imports(text):
     return names
 
 
-def calls(path):
-    """Yields the paths of the functions that a source calls by an imported name: `NAME(..)` or `MODULE::NAME(..)`."""
-    text = re.sub(r"//.*", "", read(path))
-    names = imports(text)
-    for module, name in re.findall(r"(?:\b(\w+)::)?\b(\w+)(?:::<[^;]*?>)?\(", USE.sub("", text)):
+def calls(text, names):
+    """Yields the paths of the functions that a text calls by an imported name: `NAME(..)` or `MODULE::NAME(..)`."""
+    for module, name in re.findall(r"(?:\b(\w+)::)?\b(\w+)(?:::<[^;]*?>)?\(", USE.sub("", re.sub(r"//.*", "", text))):
         if module in names:
             yield f"{names[module]}::{name}"
         elif not module and name in names:
             yield names[name]
 
 
-# Definitions
+def is_set_up(line):
+    """Whether a line of a script is no row, but sets the collections up."""
+    return line.split(" ")[0] in ("map", "repeats", "set", "spare", "other", "swap", "again", "clones_fail")
 
 
-def definitions(*crates):
-    """Returns the names of the definitions of some crates, or of all, with the rest of the line that begins each."""
-    texts = map(read, files(*(f"crates/{crate}/specs/**/*.antt" for crate in crates or ["*"])))
-    return {name: rest for text in texts for name, rest in DEFINITION.findall(text)}
+def headings(path):
+    """Returns the headings of a script, in order. A line `# body:` without a heading makes one without rows."""
+    part, heading, found = "", None, []
+    for line in read(path).splitlines():
+        is_body = line.startswith("# body: ")
+        if section := re.match(r"# =+ (\w+)", line):
+            part = section[1]
+        elif line.startswith("# ") and not (heading and is_body):
+            heading = Heading(part, f'no heading above "{line}"' if is_body else line[2:], [], [])
+            found.append(heading)
+        elif is_body:
+            heading.bodies.append(line.removeprefix("# body: "))
+        elif not line:
+            heading = None
+        elif heading and not is_set_up(line):
+            heading.rows.append(line)
+    return found
