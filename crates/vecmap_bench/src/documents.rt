@@ -1,5 +1,5 @@
 //! Attribute documents. A line of the text is a section and a name, with a space between them.
-use crate::{TextInput, ok};
+use crate::{TextInput, ok, rounds};
 use attr_doc::{Document, Name};
 use std::alloc::{AllocError, Global};
 use std::str;
@@ -42,12 +42,10 @@ fn filled(alloc: Global, lines: &str) -> Result<Document, AllocError> {
 #[unsafe(no_mangle)]
 pub extern "C" fn vecmap_bench_document_new(input: TextInput) -> u64 {
     let lines = ok!(str::from_utf8(input.keys));
-    let mut sum: u64 = 0;
-    for round in 0..input.rounds {
+    rounds!(input, |sum, round| {
         let document = ok!(filled(input.alloc, lines));
         sum = sum.wrapping_add(document.sections().len() as u64 ^ round);
-    }
-    sum
+    })
 }
 
 /// Sets each name of a document again.
@@ -55,11 +53,9 @@ pub extern "C" fn vecmap_bench_document_new(input: TextInput) -> u64 {
 pub extern "C" fn vecmap_bench_document_present(input: TextInput) -> u64 {
     let lines = ok!(str::from_utf8(input.keys));
     let mut document = ok!(filled(input.alloc, lines));
-    let mut sum: u64 = 0;
-    for round in 0..input.rounds {
+    rounds!(input, |sum, round| {
         sum = sum.wrapping_add(ok!(set_all(input.alloc, &mut document, lines)) ^ round);
-    }
-    sum
+    })
 }
 
 /// Looks up the text of each name.
@@ -69,15 +65,11 @@ pub extern "C" fn vecmap_bench_document_get(input: TextInput) -> u64 {
     let probes = ok!(str::from_utf8(input.probes));
     let document = ok!(filled(input.alloc, lines));
     let probes = ok!(names(input.alloc, probes));
-    let mut sum: u64 = 0;
-    for round in 0..input.rounds {
-        for probe in probes.iter() {
-            if let Some(text) = document.get(&probe.0, &probe.1) {
-                sum = sum.wrapping_add(text.len() as u64 ^ round);
-            }
+    rounds!(input, probes.iter(), |sum, round, probe| {
+        if let Some(text) = document.get(&probe.0, &probe.1) {
+            sum = sum.wrapping_add(text.len() as u64 ^ round);
         }
-    }
-    sum
+    })
 }
 
 /// Merges a second document into a new one.
@@ -85,14 +77,12 @@ pub extern "C" fn vecmap_bench_document_get(input: TextInput) -> u64 {
 pub extern "C" fn vecmap_bench_document_merge(input: TextInput) -> u64 {
     let lines = ok!(str::from_utf8(input.keys));
     let others = ok!(str::from_utf8(input.probes));
-    let mut sum: u64 = 0;
-    for round in 0..input.rounds {
+    rounds!(input, |sum, round| {
         let mut document = ok!(filled(input.alloc, lines));
         let mut other = ok!(filled(input.alloc, others));
         ok!(document.merge(&mut other));
         sum = sum.wrapping_add(document.sections().len() as u64 ^ round);
-    }
-    sum
+    })
 }
 
 // Sets the text of the name `turn`.
@@ -109,14 +99,12 @@ pub extern "C" fn vecmap_bench_document_same(input: TextInput) -> u64 {
     let others = ok!(str::from_utf8(input.probes));
     let mut document = ok!(filled(input.alloc, lines));
     let mut other = ok!(filled(input.alloc, others));
-    let mut sum: u64 = 0;
-    for round in 0..input.rounds {
+    rounds!(input, |sum, round| {
         let text = if round & 1 == 0 { "even" } else { "odd" };
         ok!(set_turn(input.alloc, &mut document, text));
         ok!(set_turn(input.alloc, &mut other, text));
         if document.same(&other) {
             sum = sum.wrapping_add(round);
         }
-    }
-    sum
+    })
 }

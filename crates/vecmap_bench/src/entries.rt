@@ -1,42 +1,35 @@
 //! Entries of maps.
-use crate::{Input, filled, mark, ok};
+use crate::{Input, filled, mark, ok, rounds};
 use vecmap::VecMap;
 
 /// Gets the entries of existing keys, and writes their values.
 #[unsafe(no_mangle)]
 pub extern "C" fn vecmap_bench_entry_present(input: Input) -> u64 {
     let mut map = ok!(filled(input.alloc, input.keys));
-    let mut sum: u64 = 0;
-    for round in 0..input.rounds {
-        for probe in input.probes {
-            let value = ok!(map.entry(*probe).or_insert(round));
-            sum = sum.wrapping_add(*value);
-            *value = *value ^ round;
-        }
-    }
-    sum
+    rounds!(input, input.probes, |sum, round, probe| {
+        let value = ok!(map.entry(*probe).or_insert(round));
+        sum = sum.wrapping_add(*value);
+        *value = *value ^ round;
+    })
 }
 
 /// Gets the entries of new keys, and writes their values.
 #[unsafe(no_mangle)]
 pub extern "C" fn vecmap_bench_entry_absent(input: Input) -> u64 {
-    let mut sum: u64 = 0;
-    for round in 0..input.rounds {
+    rounds!(input, |sum, round| {
         let mut map = ok!(VecMap::with_capacity(input.alloc, input.keys.len()));
         for key in input.keys {
             let value = ok!(map.entry(*key).or_insert(round));
             *value = *value ^ *key;
         }
         sum = sum.wrapping_add(mark(&map));
-    }
-    sum
+    })
 }
 
 /// Counts how often each word occurs among the words.
 #[unsafe(no_mangle)]
 pub extern "C" fn vecmap_bench_count_words(input: Input) -> u64 {
-    let mut sum: u64 = 0;
-    for round in 0..input.rounds {
+    rounds!(input, |sum, round| {
         let mut map = VecMap::new(input.alloc);
         for word in input.probes {
             let counted = map
@@ -46,6 +39,5 @@ pub extern "C" fn vecmap_bench_count_words(input: Input) -> u64 {
             ok!(counted);
         }
         sum = sum.wrapping_add(mark(&map));
-    }
-    sum
+    })
 }

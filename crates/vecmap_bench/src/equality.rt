@@ -1,14 +1,13 @@
 //! Equality of maps. A value of each map is written in each round, so that the compiler cannot compare once for all
 //! rounds.
-use crate::{Input, filled, ok};
+use crate::{Input, filled, ok, rounds};
 
 /// Compares equal maps in the same order.
 #[unsafe(no_mangle)]
 pub extern "C" fn vecmap_bench_eq(input: Input) -> u64 {
     let mut map = ok!(filled(input.alloc, input.keys));
     let mut other = ok!(filled(input.alloc, input.keys));
-    let mut sum: u64 = 0;
-    for round in 0..input.rounds {
+    rounds!(input, |sum, round| {
         if let Some((_key, value)) = map.last_mut() {
             *value = round;
         }
@@ -18,8 +17,7 @@ pub extern "C" fn vecmap_bench_eq(input: Input) -> u64 {
         if map == other {
             sum = sum.wrapping_add(round);
         }
-    }
-    sum
+    })
 }
 
 /// Compares equal maps in opposite orders.
@@ -28,8 +26,7 @@ pub extern "C" fn vecmap_bench_eq_reversed(input: Input) -> u64 {
     let mut map = ok!(filled(input.alloc, input.keys));
     let mut other = ok!(filled(input.alloc, input.keys));
     other.reverse();
-    let mut sum: u64 = 0;
-    for round in 0..input.rounds {
+    rounds!(input, |sum, round| {
         if let Some((_key, value)) = map.last_mut() {
             *value = round;
         }
@@ -39,8 +36,7 @@ pub extern "C" fn vecmap_bench_eq_reversed(input: Input) -> u64 {
         if map == other {
             sum = sum.wrapping_add(round);
         }
-    }
-    sum
+    })
 }
 
 /// Compares maps that differ in the last value only.
@@ -48,8 +44,7 @@ pub extern "C" fn vecmap_bench_eq_reversed(input: Input) -> u64 {
 pub extern "C" fn vecmap_bench_eq_not(input: Input) -> u64 {
     let mut map = ok!(filled(input.alloc, input.keys));
     let mut other = ok!(filled(input.alloc, input.keys));
-    let mut sum: u64 = 0;
-    for round in 0..input.rounds {
+    rounds!(input, |sum, round| {
         if let Some((_key, value)) = map.last_mut() {
             *value = round;
         }
@@ -59,6 +54,5 @@ pub extern "C" fn vecmap_bench_eq_not(input: Input) -> u64 {
         if map != other {
             sum = sum.wrapping_add(round);
         }
-    }
-    sum
+    })
 }

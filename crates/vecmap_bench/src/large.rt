@@ -1,19 +1,21 @@
 //! Values of 128 bytes, and pairs of 64 bytes.
-use crate::{Input, ok};
+use crate::{Input, ok, rounds};
 use std::alloc::{AllocError, Global};
 use vecmap::VecMap;
 
-type Large = [u64; 16];
-
-fn filled(alloc: Global, keys: &[u64]) -> Result<VecMap<u64, Large>, AllocError> {
+// Creates the map of these keys, with values of this many numbers.
+fn filled<const N: usize>(
+    alloc: Global,
+    keys: &[u64],
+) -> Result<VecMap<u64, [u64; N]>, AllocError> {
     let mut map = VecMap::with_capacity(alloc, keys.len())?;
     for key in keys {
-        map.insert(*key, [*key; 16])?;
+        map.insert(*key, [*key; N])?;
     }
     Ok(map)
 }
 
-fn mark(map: &VecMap<u64, Large>) -> u64 {
+fn mark(map: &VecMap<u64, [u64; 16]>) -> u64 {
     match map.last() {
         Some((key, value)) => (*key ^ value[15]).wrapping_add(map.len() as u64),
         None => 0,
@@ -23,113 +25,83 @@ fn mark(map: &VecMap<u64, Large>) -> u64 {
 /// Inserts each key into an empty map without capacity.
 #[unsafe(no_mangle)]
 pub extern "C" fn vecmap_bench_large_insert(input: Input) -> u64 {
-    let mut sum: u64 = 0;
-    for round in 0..input.rounds {
+    rounds!(input, |sum, round| {
         let mut map = VecMap::new(input.alloc);
         for key in input.keys {
             ok!(map.insert(*key, [*key ^ round; 16]));
         }
         sum = sum.wrapping_add(mark(&map));
-    }
-    sum
+    })
 }
 
 /// Removes each key and inserts it again at the end.
 #[unsafe(no_mangle)]
 pub extern "C" fn vecmap_bench_large_remove(input: Input) -> u64 {
-    let mut map = ok!(filled(input.alloc, input.keys));
-    let mut sum: u64 = 0;
-    for round in 0..input.rounds {
-        for probe in input.probes {
-            if let Some(value) = map.remove(probe) {
-                sum = sum.wrapping_add(value[3] ^ round);
-                ok!(map.insert(*probe, value));
-            }
+    let mut map = ok!(filled::<16>(input.alloc, input.keys));
+    rounds!(input, input.probes, |sum, round, probe| {
+        if let Some(value) = map.remove(probe) {
+            sum = sum.wrapping_add(value[3] ^ round);
+            ok!(map.insert(*probe, value));
         }
-    }
-    sum
+    })
 }
 
 /// Removes each key by `swap_remove`, and inserts it again.
 #[unsafe(no_mangle)]
 pub extern "C" fn vecmap_bench_large_swap_remove(input: Input) -> u64 {
-    let mut map = ok!(filled(input.alloc, input.keys));
-    let mut sum: u64 = 0;
-    for round in 0..input.rounds {
-        for probe in input.probes {
-            if let Some(value) = map.swap_remove(probe) {
-                sum = sum.wrapping_add(value[3] ^ round);
-                ok!(map.insert(*probe, value));
-            }
+    let mut map = ok!(filled::<16>(input.alloc, input.keys));
+    rounds!(input, input.probes, |sum, round, probe| {
+        if let Some(value) = map.swap_remove(probe) {
+            sum = sum.wrapping_add(value[3] ^ round);
+            ok!(map.insert(*probe, value));
         }
-    }
-    sum
+    })
 }
 
 /// Pushes the pairs to a vector, and converts it into a map.
 #[unsafe(no_mangle)]
 pub extern "C" fn vecmap_bench_large_from_vec(input: Input) -> u64 {
-    let mut sum: u64 = 0;
-    for round in 0..input.rounds {
+    rounds!(input, |sum, round| {
         let mut pairs = ok!(Vec::with_capacity(input.alloc, input.keys.len()));
         for key in input.keys {
             ok!(pairs.push((*key, [*key ^ round; 16])));
         }
         sum = sum.wrapping_add(mark(&VecMap::from(pairs)));
-    }
-    sum
+    })
 }
 
 /// Gets the entries of new keys.
 #[unsafe(no_mangle)]
 pub extern "C" fn vecmap_bench_large_entry(input: Input) -> u64 {
-    let mut sum: u64 = 0;
-    for round in 0..input.rounds {
+    rounds!(input, |sum, round| {
         let mut map = ok!(VecMap::with_capacity(input.alloc, input.keys.len()));
         for key in input.keys {
             let value = ok!(map.entry(*key).or_insert([*key ^ round; 16]));
             sum = sum.wrapping_add(value[0]);
         }
         sum = sum.wrapping_add(mark(&map));
-    }
-    sum
+    })
 }
 
 /// Inserts existing keys again, with another value.
 #[unsafe(no_mangle)]
 pub extern "C" fn vecmap_bench_large_insert_present(input: Input) -> u64 {
-    let mut map = ok!(filled(input.alloc, input.keys));
-    let mut sum: u64 = 0;
-    for round in 0..input.rounds {
-        for probe in input.probes {
-            if let Some(old) = ok!(map.insert(*probe, [*probe ^ round; 16])) {
-                sum = sum.wrapping_add(old[7]);
-            }
+    let mut map = ok!(filled::<16>(input.alloc, input.keys));
+    rounds!(input, input.probes, |sum, round, probe| {
+        if let Some(old) = ok!(map.insert(*probe, [*probe ^ round; 16])) {
+            sum = sum.wrapping_add(old[7]);
         }
-    }
-    sum
+    })
 }
 
 /// Removes each key of a map of 64-byte pairs, and inserts it again at the end.
 #[unsafe(no_mangle)]
 pub extern "C" fn vecmap_bench_medium_remove(input: Input) -> u64 {
-    let mut map = ok!(medium_filled(input.alloc, input.keys));
-    let mut sum: u64 = 0;
-    for round in 0..input.rounds {
-        for probe in input.probes {
-            if let Some(value) = map.remove(probe) {
-                sum = sum.wrapping_add(value[3] ^ round);
-                ok!(map.insert(*probe, value));
-            }
+    let mut map = ok!(filled::<7>(input.alloc, input.keys));
+    rounds!(input, input.probes, |sum, round, probe| {
+        if let Some(value) = map.remove(probe) {
+            sum = sum.wrapping_add(value[3] ^ round);
+            ok!(map.insert(*probe, value));
         }
-    }
-    sum
-}
-
-fn medium_filled(alloc: Global, keys: &[u64]) -> Result<VecMap<u64, [u64; 7]>, AllocError> {
-    let mut map = VecMap::with_capacity(alloc, keys.len())?;
-    for key in keys {
-        map.insert(*key, [*key; 7])?;
-    }
-    Ok(map)
+    })
 }

@@ -58,7 +58,40 @@ macro_rules! ok {
     };
 }
 
+/// Returns the checksum of all rounds, to which the body of a round adds. With items, the body is executed for each of
+/// them.
+macro_rules! rounds {
+    ($input:ident, |$sum:ident, $round:ident| { $($body:tt)* }) => {{
+        let mut $sum: u64 = 0;
+        for $round in 0..$input.rounds {
+            $($body)*
+        }
+        $sum
+    }};
+    ($input:ident, $items:expr, |$sum:ident, $round:ident, $item:tt| { $($body:tt)* }) => {
+        rounds!($input, |$sum, $round| {
+            for $item in $items {
+                $($body)*
+            }
+        })
+    };
+}
+
+/// Returns the checksum of all rounds, each of which changes a clone. The module of the call has `filled` and `mark`.
+macro_rules! rounds_of_clones {
+    ($input:ident, |$clone:ident, $round:ident| $change:expr) => {{
+        let full = ok!(filled($input.alloc, $input.keys));
+        rounds!($input, |sum, $round| {
+            let mut $clone = ok!(full.clone());
+            $change;
+            sum = sum.wrapping_add(mark(&$clone) ^ $round);
+        })
+    }};
+}
+
 pub(crate) use ok;
+pub(crate) use rounds;
+pub(crate) use rounds_of_clones;
 
 /// Returns the pairs of these keys, in a vector without spare capacity.
 fn pairs(alloc: Global, keys: &[u64]) -> Result<Vec<(u64, u64)>, AllocError> {

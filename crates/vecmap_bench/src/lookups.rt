@@ -1,5 +1,5 @@
 //! Lookups of numbers, characters and numbers of 32 bits.
-use crate::{Input, filled, ok};
+use crate::{Input, filled, ok, rounds};
 use vecmap::{VecMap, VecSet};
 
 // Returns the character whose code the first 19 bits of a number are, or `a` if there is none.
@@ -16,30 +16,22 @@ fn half(number: u64) -> u32 {
 #[unsafe(no_mangle)]
 pub extern "C" fn vecmap_bench_get(input: Input) -> u64 {
     let map = ok!(filled(input.alloc, input.keys));
-    let mut sum: u64 = 0;
-    for round in 0..input.rounds {
-        for probe in input.probes {
-            if let Some(value) = map.get(probe) {
-                sum = sum.wrapping_add(*value ^ round);
-            }
+    rounds!(input, input.probes, |sum, round, probe| {
+        if let Some(value) = map.get(probe) {
+            sum = sum.wrapping_add(*value ^ round);
         }
-    }
-    sum
+    })
 }
 
 /// Looks up the index of each probe.
 #[unsafe(no_mangle)]
 pub extern "C" fn vecmap_bench_get_index_of(input: Input) -> u64 {
     let map = ok!(filled(input.alloc, input.keys));
-    let mut sum: u64 = 0;
-    for round in 0..input.rounds {
-        for probe in input.probes {
-            if let Some(place) = map.get_index_of(probe) {
-                sum = sum.wrapping_add(place as u64 ^ round);
-            }
+    rounds!(input, input.probes, |sum, round, probe| {
+        if let Some(place) = map.get_index_of(probe) {
+            sum = sum.wrapping_add(place as u64 ^ round);
         }
-    }
-    sum
+    })
 }
 
 /// Looks up the value of each probe in a map whose keys are characters.
@@ -53,15 +45,11 @@ pub extern "C" fn vecmap_bench_get_char(input: Input) -> u64 {
     for probe in input.probes {
         ok!(wanted.push(letter(*probe)));
     }
-    let mut sum: u64 = 0;
-    for round in 0..input.rounds {
-        for probe in wanted.iter() {
-            if let Some(value) = map.get(probe) {
-                sum = sum.wrapping_add(u64::from(*value) ^ round);
-            }
+    rounds!(input, wanted.iter(), |sum, round, probe| {
+        if let Some(value) = map.get(probe) {
+            sum = sum.wrapping_add(u64::from(*value) ^ round);
         }
-    }
-    sum
+    })
 }
 
 /// Looks up each probe in a set of numbers of 32 bits.
@@ -75,13 +63,9 @@ pub extern "C" fn vecmap_bench_set_contains_u32(input: Input) -> u64 {
     for probe in input.probes {
         ok!(wanted.push(half(*probe)));
     }
-    let mut sum: u64 = 0;
-    for round in 0..input.rounds {
-        for probe in wanted.iter() {
-            if set.contains(probe) {
-                sum = sum.wrapping_add(u64::from(*probe) ^ round);
-            }
+    rounds!(input, wanted.iter(), |sum, round, probe| {
+        if set.contains(probe) {
+            sum = sum.wrapping_add(u64::from(*probe) ^ round);
         }
-    }
-    sum
+    })
 }

@@ -1,44 +1,35 @@
 //! Removals, by key and by index.
-use crate::{Input, filled, ok};
+use crate::{Input, filled, ok, rounds};
 
 /// Removes each key and inserts it again at the end.
 #[unsafe(no_mangle)]
 pub extern "C" fn vecmap_bench_remove(input: Input) -> u64 {
     let mut map = ok!(filled(input.alloc, input.keys));
-    let mut sum: u64 = 0;
-    for round in 0..input.rounds {
-        for probe in input.probes {
-            if let Some(value) = map.remove(probe) {
-                sum = sum.wrapping_add(value);
-                ok!(map.insert(*probe, value ^ round));
-            }
+    rounds!(input, input.probes, |sum, round, probe| {
+        if let Some(value) = map.remove(probe) {
+            sum = sum.wrapping_add(value);
+            ok!(map.insert(*probe, value ^ round));
         }
-    }
-    sum
+    })
 }
 
 /// Removes each key by `swap_remove`, and inserts it again.
 #[unsafe(no_mangle)]
 pub extern "C" fn vecmap_bench_swap_remove(input: Input) -> u64 {
     let mut map = ok!(filled(input.alloc, input.keys));
-    let mut sum: u64 = 0;
-    for round in 0..input.rounds {
-        for probe in input.probes {
-            if let Some(value) = map.swap_remove(probe) {
-                sum = sum.wrapping_add(value);
-                ok!(map.insert(*probe, value ^ round));
-            }
+    rounds!(input, input.probes, |sum, round, probe| {
+        if let Some(value) = map.swap_remove(probe) {
+            sum = sum.wrapping_add(value);
+            ok!(map.insert(*probe, value ^ round));
         }
-    }
-    sum
+    })
 }
 
 /// Removes all pairs of a clone from the front.
 #[unsafe(no_mangle)]
 pub extern "C" fn vecmap_bench_remove_front(input: Input) -> u64 {
     let full = ok!(filled(input.alloc, input.keys));
-    let mut sum: u64 = 0;
-    for round in 0..input.rounds {
+    rounds!(input, |sum, round| {
         let mut map = ok!(full.clone());
         for _ in input.keys {
             if !map.is_empty() {
@@ -46,16 +37,14 @@ pub extern "C" fn vecmap_bench_remove_front(input: Input) -> u64 {
                 sum = sum.wrapping_mul(31).wrapping_add(key ^ value ^ round);
             }
         }
-    }
-    sum
+    })
 }
 
 /// Removes all pairs of a clone from the middle.
 #[unsafe(no_mangle)]
 pub extern "C" fn vecmap_bench_remove_middle(input: Input) -> u64 {
     let full = ok!(filled(input.alloc, input.keys));
-    let mut sum: u64 = 0;
-    for round in 0..input.rounds {
+    rounds!(input, |sum, round| {
         let mut map = ok!(full.clone());
         for _ in input.keys {
             let middle = map.len() / 2;
@@ -64,6 +53,5 @@ pub extern "C" fn vecmap_bench_remove_middle(input: Input) -> u64 {
                 sum = sum.wrapping_mul(31).wrapping_add(key ^ value ^ round);
             }
         }
-    }
-    sum
+    })
 }

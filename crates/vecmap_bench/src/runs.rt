@@ -1,5 +1,5 @@
 //! Mixed commands, as values and as calls. A word holds a command in its low byte and a key above it.
-use crate::{Input, REFUSED, ok};
+use crate::{Input, REFUSED, ok, rounds};
 use std::alloc::{AllocError, Global};
 use vecmap::{MapCommand, MapReply, VecMap, run};
 
@@ -47,23 +47,20 @@ fn of_reply(reply: &MapReply<u64, u64>) -> u64 {
 /// Runs the commands as values, by `run`.
 #[unsafe(no_mangle)]
 pub extern "C" fn vecmap_bench_run(input: Input) -> u64 {
-    let mut sum: u64 = 0;
-    for round in 0..input.rounds {
+    rounds!(input, |sum, round| {
         let mut map = VecMap::new(input.alloc);
         let list = ok!(commands(input.alloc, input.probes));
         let replies = ok!(run(input.alloc, &mut map, list));
         for reply in replies.iter() {
             sum = sum.wrapping_mul(31).wrapping_add(of_reply(reply) ^ round);
         }
-    }
-    sum
+    })
 }
 
 /// Runs the commands as calls.
 #[unsafe(no_mangle)]
 pub extern "C" fn vecmap_bench_calls(input: Input) -> u64 {
-    let mut sum: u64 = 0;
-    for round in 0..input.rounds {
+    rounds!(input, |sum, round| {
         let mut map: VecMap<u64, u64> = VecMap::new(input.alloc);
         for word in input.probes {
             let word = *word;
@@ -78,6 +75,5 @@ pub extern "C" fn vecmap_bench_calls(input: Input) -> u64 {
             };
             sum = sum.wrapping_mul(31).wrapping_add(answer ^ round);
         }
-    }
-    sum
+    })
 }

@@ -4,7 +4,7 @@ mod algebra;
 mod parts;
 mod runs;
 
-use crate::{Input, ok};
+use crate::{Input, ok, rounds};
 use std::alloc::{AllocError, Global};
 use vecmap::VecSet;
 
@@ -36,15 +36,11 @@ fn swap_first_two(set: &mut VecSet<u64>) {
 #[unsafe(no_mangle)]
 pub extern "C" fn vecmap_bench_set_contains(input: Input) -> u64 {
     let set = ok!(filled(input.alloc, input.keys));
-    let mut sum: u64 = 0;
-    for round in 0..input.rounds {
-        for probe in input.probes {
-            if set.contains(probe) {
-                sum = sum.wrapping_add(*probe ^ round);
-            }
+    rounds!(input, input.probes, |sum, round, probe| {
+        if set.contains(probe) {
+            sum = sum.wrapping_add(*probe ^ round);
         }
-    }
-    sum
+    })
 }
 
 /// Tests whether a set is a subset of another.
@@ -52,14 +48,12 @@ pub extern "C" fn vecmap_bench_set_contains(input: Input) -> u64 {
 pub extern "C" fn vecmap_bench_set_subset(input: Input) -> u64 {
     let mut set = ok!(filled(input.alloc, input.keys));
     let other = ok!(filled(input.alloc, input.probes));
-    let mut sum: u64 = 0;
-    for round in 0..input.rounds {
+    rounds!(input, |sum, round| {
         swap_first_two(&mut set);
         if set.is_subset(&other) {
             sum = sum.wrapping_add(round);
         }
-    }
-    sum
+    })
 }
 
 /// Tests whether two sets have no element in common.
@@ -67,14 +61,12 @@ pub extern "C" fn vecmap_bench_set_subset(input: Input) -> u64 {
 pub extern "C" fn vecmap_bench_set_disjoint(input: Input) -> u64 {
     let mut set = ok!(filled(input.alloc, input.keys));
     let other = ok!(filled(input.alloc, input.probes));
-    let mut sum: u64 = 0;
-    for round in 0..input.rounds {
+    rounds!(input, |sum, round| {
         swap_first_two(&mut set);
         if set.is_disjoint(&other) {
             sum = sum.wrapping_add(round);
         }
-    }
-    sum
+    })
 }
 
 /// Compares two sets.
@@ -82,42 +74,36 @@ pub extern "C" fn vecmap_bench_set_disjoint(input: Input) -> u64 {
 pub extern "C" fn vecmap_bench_set_eq(input: Input) -> u64 {
     let mut set = ok!(filled(input.alloc, input.keys));
     let other = ok!(filled(input.alloc, input.probes));
-    let mut sum: u64 = 0;
-    for round in 0..input.rounds {
+    rounds!(input, |sum, round| {
         swap_first_two(&mut set);
         if set == other {
             sum = sum.wrapping_add(round);
         }
-    }
-    sum
+    })
 }
 
 /// Pushes the elements to a vector, and converts it into a set.
 #[unsafe(no_mangle)]
 pub extern "C" fn vecmap_bench_set_from_vec(input: Input) -> u64 {
-    let mut sum: u64 = 0;
-    for round in 0..input.rounds {
+    rounds!(input, |sum, round| {
         let mut vec = ok!(Vec::with_capacity(input.alloc, input.keys.len()));
         for item in input.keys {
             ok!(vec.push(*item));
         }
         let set = VecSet::from(vec);
         sum = sum.wrapping_add(set.len() as u64 ^ round);
-    }
-    sum
+    })
 }
 
 /// Inserts each element into an empty set without capacity.
 #[unsafe(no_mangle)]
 pub extern "C" fn vecmap_bench_set_insert(input: Input) -> u64 {
-    let mut sum: u64 = 0;
-    for round in 0..input.rounds {
+    rounds!(input, |sum, round| {
         let mut set = VecSet::new(input.alloc);
         for item in input.keys {
             if ok!(set.insert(*item ^ round)) {
                 sum = sum.wrapping_add(1);
             }
         }
-    }
-    sum
+    })
 }

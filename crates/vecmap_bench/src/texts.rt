@@ -1,5 +1,5 @@
 //! Texts as keys. The lines of one text are the keys, and the lines of another are the probes.
-use crate::{TextInput, ok};
+use crate::{TextInput, ok, rounds};
 use std::alloc::{AllocError, Global};
 use std::str;
 use vecmap::VecMap;
@@ -30,15 +30,11 @@ pub extern "C" fn vecmap_bench_text_get(input: TextInput) -> u64 {
     let probes = ok!(str::from_utf8(input.probes));
     let map = ok!(numbered(input.alloc, keys));
     let probes = ok!(lines(input.alloc, probes));
-    let mut sum: u64 = 0;
-    for round in 0..input.rounds {
-        for probe in probes.iter() {
-            if let Some(value) = map.get_str(probe.as_str()) {
-                sum = sum.wrapping_add(*value ^ round);
-            }
+    rounds!(input, probes.iter(), |sum, round, probe| {
+        if let Some(value) = map.get_str(probe.as_str()) {
+            sum = sum.wrapping_add(*value ^ round);
         }
-    }
-    sum
+    })
 }
 
 /// Looks up each line by `get`, with a `String` as the query.
@@ -48,27 +44,21 @@ pub extern "C" fn vecmap_bench_string_get(input: TextInput) -> u64 {
     let probes = ok!(str::from_utf8(input.probes));
     let map = ok!(numbered(input.alloc, keys));
     let probes = ok!(lines(input.alloc, probes));
-    let mut sum: u64 = 0;
-    for round in 0..input.rounds {
-        for probe in probes.iter() {
-            if let Some(value) = map.get(probe) {
-                sum = sum.wrapping_add(*value ^ round);
-            }
+    rounds!(input, probes.iter(), |sum, round, probe| {
+        if let Some(value) = map.get(probe) {
+            sum = sum.wrapping_add(*value ^ round);
         }
-    }
-    sum
+    })
 }
 
 /// Inserts each line into an empty map without capacity.
 #[unsafe(no_mangle)]
 pub extern "C" fn vecmap_bench_string_insert(input: TextInput) -> u64 {
     let keys = ok!(str::from_utf8(input.keys));
-    let mut sum: u64 = 0;
-    for round in 0..input.rounds {
+    rounds!(input, |sum, round| {
         let map = ok!(numbered(input.alloc, keys));
         sum = sum.wrapping_add(map.len() as u64 ^ round);
-    }
-    sum
+    })
 }
 
 /// Removes each line and inserts it again at the end.
@@ -78,24 +68,19 @@ pub extern "C" fn vecmap_bench_string_remove(input: TextInput) -> u64 {
     let probes = ok!(str::from_utf8(input.probes));
     let mut map = ok!(numbered(input.alloc, keys));
     let probes = ok!(lines(input.alloc, probes));
-    let mut sum: u64 = 0;
-    for round in 0..input.rounds {
-        for probe in probes.iter() {
-            if let Some((key, value)) = map.remove_entry(probe.as_str()) {
-                sum = sum.wrapping_add(value);
-                ok!(map.insert(key, value ^ round));
-            }
+    rounds!(input, probes.iter(), |sum, round, probe| {
+        if let Some((key, value)) = map.remove_entry(probe.as_str()) {
+            sum = sum.wrapping_add(value);
+            ok!(map.insert(key, value ^ round));
         }
-    }
-    sum
+    })
 }
 
 /// Counts how often each line occurs in the text.
 #[unsafe(no_mangle)]
 pub extern "C" fn vecmap_bench_count_lines(input: TextInput) -> u64 {
     let text = ok!(str::from_utf8(input.probes));
-    let mut sum: u64 = 0;
-    for round in 0..input.rounds {
+    rounds!(input, |sum, round| {
         let mut map = VecMap::new(input.alloc);
         for line in text.lines() {
             let counted = map
@@ -108,6 +93,5 @@ pub extern "C" fn vecmap_bench_count_lines(input: TextInput) -> u64 {
             sum = sum.wrapping_add(*n);
         }
         sum = sum.wrapping_add(map.len() as u64);
-    }
-    sum
+    })
 }

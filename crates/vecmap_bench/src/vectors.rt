@@ -1,39 +1,34 @@
 //! The same work on a plain vector of pairs, without a map: the least that a row with such work can cost.
-use crate::{Input, ok, pairs};
+use crate::{Input, ok, pairs, rounds};
 use std::alloc::{AllocError, Global};
 
 /// Clones a vector of pairs.
 #[unsafe(no_mangle)]
 pub extern "C" fn vecmap_bench_vec_clone(input: Input) -> u64 {
     let full = ok!(pairs(input.alloc, input.keys));
-    let mut sum: u64 = 0;
-    for round in 0..input.rounds {
+    rounds!(input, |sum, round| {
         let copy = ok!(full.clone());
         sum = sum.wrapping_add(last_key(&copy) ^ round);
-    }
-    sum
+    })
 }
 
 /// Appends the pairs to an empty vector.
 #[unsafe(no_mangle)]
 pub extern "C" fn vecmap_bench_vec_push(input: Input) -> u64 {
-    let mut sum: u64 = 0;
-    for round in 0..input.rounds {
+    rounds!(input, |sum, round| {
         let mut list: Vec<(u64, u64)> = Vec::new(input.alloc);
         for key in input.keys {
             ok!(list.push((*key, *key ^ round)));
         }
         sum = sum.wrapping_add(last_key(&list) ^ round);
-    }
-    sum
+    })
 }
 
 /// Removes all pairs of a clone from the front.
 #[unsafe(no_mangle)]
 pub extern "C" fn vecmap_bench_vec_remove(input: Input) -> u64 {
     let full = ok!(pairs(input.alloc, input.keys));
-    let mut sum: u64 = 0;
-    for round in 0..input.rounds {
+    rounds!(input, |sum, round| {
         let mut list = ok!(full.clone());
         for _ in 0..input.keys.len() {
             if !list.is_empty() {
@@ -41,38 +36,31 @@ pub extern "C" fn vecmap_bench_vec_remove(input: Input) -> u64 {
                 sum = sum.wrapping_mul(3).wrapping_add(key ^ value ^ round);
             }
         }
-    }
-    sum
+    })
 }
 
 /// Inserts the pairs at the front of an empty vector.
 #[unsafe(no_mangle)]
 pub extern "C" fn vecmap_bench_vec_insert(input: Input) -> u64 {
-    let mut sum: u64 = 0;
-    for round in 0..input.rounds {
+    rounds!(input, |sum, round| {
         let mut list: Vec<(u64, u64)> = Vec::new(input.alloc);
         for key in input.keys {
             ok!(list.insert(0, (*key, *key ^ round)));
         }
         sum = sum.wrapping_add(last_key(&list) ^ round);
-    }
-    sum
+    })
 }
 
 /// Removes pairs of 136 bytes, and appends them again.
 #[unsafe(no_mangle)]
 pub extern "C" fn vecmap_bench_vec_remove_large(input: Input) -> u64 {
     let mut list = ok!(large_pairs(input.alloc, input.keys));
-    let mut sum: u64 = 0;
-    for round in 0..input.rounds {
-        for probe in input.probes {
-            if let Some(pair) = taken(&mut list, *probe) {
-                sum = sum.wrapping_add(pair.1[3] ^ round);
-                ok!(list.push(pair));
-            }
+    rounds!(input, input.probes, |sum, round, probe| {
+        if let Some(pair) = taken(&mut list, *probe) {
+            sum = sum.wrapping_add(pair.1[3] ^ round);
+            ok!(list.push(pair));
         }
-    }
-    sum
+    })
 }
 
 fn large_pairs(alloc: Global, keys: &[u64]) -> Result<Vec<(u64, [u64; 16])>, AllocError> {

@@ -10,14 +10,13 @@
 //! let named = vecmap!(alloc; Name::new(String::from_str(alloc, "Accept")?) => 3);
 //! value_of_name(&named, "ACCEPT") // Some(3)
 //! ```
-ghost use Rattle.std.specs.Prelude.{◌≡◌, ℕ, IsSome, List, None, OnErr, OnOk, Some, bytes_eq, codes, false, nat_eq, string_bytes, string_eq};
-ghost use Rattle.std.specs.Cmp.{on_equiv, partial_equiv_from_equiv};
+ghost use Rattle.std.specs.Prelude.{◌≡◌, ℕ, IsSome, List, None, OnErr, OnOk, Some, bytes_eq, codes, false, nat_eq, string_eq};
 ghost use Rattle.std.specs.Cmp.Lexicographic.{nat_list_eq_equiv, pointwise};
 ghost use Rattle.std.specs.Str.{str_eq_ignore_ascii_case, str_to_ascii_lowercase};
 ghost use Rattle.vecmap.specs.Pairs.{HasDistinctKeys, has_text, index_by, lookup, lookup_by, without_by};
 
+pub use attr_doc::Name;
 use std::alloc::{AllocError, Global};
-use std::marker::Model;
 use vecmap::macros::put_pair;
 use vecmap::{Equivalent, VecMap};
 use vecmap_laws::maps::{queries_find_as_keys, texts_are_queries};
@@ -78,51 +77,6 @@ pub fn port(map: &VecMap<String, u32>) -> u32
     map["port"]
 }
 
-/// A name. Two names are equal if they differ only in the case of ASCII letters. A contract sees the bytes of the name
-/// as they were written.
-#[derive(Debug, Drop)]
-pub struct Name {
-    text: String,
-}
-
-impl Model for Name {
-    ghost use Rattle.std.specs.Prelude.{ℕ, List, string_bytes};
-
-    ghost Value = { List ℕ };
-
-    ghost view = { λ name. string_bytes name.text };
-}
-
-impl Name {
-    /// Creates a name from its text.
-    pub fn new(text: String) -> Name
-        ensures { result ≡ string_bytes text }
-    {
-        Name { text }
-    }
-
-    /// Returns the text as it was written.
-    pub fn as_str(&self) -> &str
-        ensures { result.now ≡ self.now }
-    {
-        self.text.as_str()
-    }
-}
-
-impl PartialEq for Name {
-    ghost eq = { str_eq_ignore_ascii_case };
-
-    ghost laws = { partial_equiv_from_equiv (on_equiv str_to_ascii_lowercase nat_list_eq_equiv) };
-
-    fn eq(&self, other: &Name) -> bool {
-        self.text.as_str().eq_ignore_ascii_case(other.text.as_str())
-    }
-}
-
-impl Eq for Name {
-    ghost laws = { on_equiv str_to_ascii_lowercase nat_list_eq_equiv };
-}
-
 /// A query that matches the names that are this text, in any case.
 #[derive(Clone, Copy, Debug)]
 pub struct NamedAs<'a>(pub &'a str);
@@ -131,7 +85,7 @@ impl Equivalent<Name> for NamedAs<'_> {
     ghost equivalent = { λ query. str_eq_ignore_ascii_case query.0.now };
 
     fn equivalent(&self, name: &Name) -> bool {
-        self.0.eq_ignore_ascii_case(name.as_str())
+        self.0.eq_ignore_ascii_case(name.text())
     }
 
     ghost respects_eq = { λ query x y. nat_list_eq_equiv.congr (str_to_ascii_lowercase query.0.now) (str_to_ascii_lowercase x) (str_to_ascii_lowercase y) };

@@ -7,26 +7,14 @@
 //! pairs_taken(alloc, map.clone()?)?.as_slice() // [(1, 3), (2, 6), (4, 6)]
 //! values_taken(alloc, map.clone()?)?.as_slice() // [6, 6, 3]
 //! elements_reversed(alloc, &vecset!(alloc; 1, 2))?.as_slice() // [2, 1]
-//! (count_of_value(&map, 6), total_by_value(map)) // (2, 15)
+//! count_of_value(&map, 6) // 2
 //! ```
-ghost use Rattle.std.specs.Prelude.{◌≡◌, ◌<◌, ◌^◌, ◌∷◌, ℕ, IfOk, [], count_by, length, nat_eq, reverse, slice_get, sum};
+ghost use Rattle.std.specs.Prelude.{◌≡◌, ◌<◌, ◌∷◌, ℕ, IfOk, [], count_by, length, nat_eq, reverse, slice_get};
 ghost use Rattle.std.specs.List.{All};
 ghost use Rattle.std.specs.Map.{keys_of, values_of};
 
 use std::alloc::{AllocError, Global};
 use vecmap::{VecMap, VecSet};
-
-/// Returns the sum of the values, by a loop over the map by value.
-pub fn total_by_value(map: VecMap<u64, u32>) -> u32
-    requires { sum (values_of map.entries) < 2 ^ 32 }
-    ensures { result ≡ sum (values_of map.entries) }
-{
-    let mut all = 0;
-    for (_, value) in map {
-        all += value;
-    }
-    all
-}
 
 /// Returns the number of pairs that have this value.
 pub fn count_of_value(map: &VecMap<u64, u32>, value: u32) -> usize
@@ -94,18 +82,6 @@ pub fn first_value(map: &mut VecMap<u64, u32>) -> Option<u32>
 {
     let (_, value) = map.iter_mut().next()?;
     Some(*value)
-}
-
-/// Returns the sum of the elements, by a loop over the set by value.
-pub fn set_total_by_value(set: VecSet<u32>) -> u32
-    requires { sum set.elements < 2 ^ 32 }
-    ensures { result ≡ sum set.elements }
-{
-    let mut all = 0;
-    for element in set {
-        all += element;
-    }
-    all
 }
 
 /// Returns the elements, in reverse order.

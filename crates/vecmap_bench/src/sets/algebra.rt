@@ -1,19 +1,15 @@
 //! Sets that are computed from two sets, by iterators and by operators.
 use super::{filled, mark};
-use crate::{Input, ok};
+use crate::{Input, ok, rounds};
 
 /// Reads the elements of the first set that are not in the second.
 #[unsafe(no_mangle)]
 pub extern "C" fn vecmap_bench_set_difference(input: Input) -> u64 {
     let set = ok!(filled(input.alloc, input.keys));
     let other = ok!(filled(input.alloc, input.probes));
-    let mut sum: u64 = 0;
-    for round in 0..input.rounds {
-        for item in set.difference(&other) {
-            sum = sum.wrapping_add(*item ^ round);
-        }
-    }
-    sum
+    rounds!(input, set.difference(&other), |sum, round, item| {
+        sum = sum.wrapping_add(*item ^ round);
+    })
 }
 
 /// Reads the elements that are in both sets.
@@ -21,13 +17,9 @@ pub extern "C" fn vecmap_bench_set_difference(input: Input) -> u64 {
 pub extern "C" fn vecmap_bench_set_intersection(input: Input) -> u64 {
     let set = ok!(filled(input.alloc, input.keys));
     let other = ok!(filled(input.alloc, input.probes));
-    let mut sum: u64 = 0;
-    for round in 0..input.rounds {
-        for item in set.intersection(&other) {
-            sum = sum.wrapping_add(*item ^ round);
-        }
-    }
-    sum
+    rounds!(input, set.intersection(&other), |sum, round, item| {
+        sum = sum.wrapping_add(*item ^ round);
+    })
 }
 
 /// Reads the elements that are in either set.
@@ -35,13 +27,9 @@ pub extern "C" fn vecmap_bench_set_intersection(input: Input) -> u64 {
 pub extern "C" fn vecmap_bench_set_union(input: Input) -> u64 {
     let set = ok!(filled(input.alloc, input.keys));
     let other = ok!(filled(input.alloc, input.probes));
-    let mut sum: u64 = 0;
-    for round in 0..input.rounds {
-        for item in set.union(&other) {
-            sum = sum.wrapping_add(*item ^ round);
-        }
-    }
-    sum
+    rounds!(input, set.union(&other), |sum, round, item| {
+        sum = sum.wrapping_add(*item ^ round);
+    })
 }
 
 /// Reads the elements that are in one set only.
@@ -49,13 +37,13 @@ pub extern "C" fn vecmap_bench_set_union(input: Input) -> u64 {
 pub extern "C" fn vecmap_bench_set_symmetric_difference(input: Input) -> u64 {
     let set = ok!(filled(input.alloc, input.keys));
     let other = ok!(filled(input.alloc, input.probes));
-    let mut sum: u64 = 0;
-    for round in 0..input.rounds {
-        for item in set.symmetric_difference(&other) {
+    rounds!(
+        input,
+        set.symmetric_difference(&other),
+        |sum, round, item| {
             sum = sum.wrapping_add(*item ^ round);
         }
-    }
-    sum
+    )
 }
 
 /// Reads the elements of the first set that are not in the second, from the back.
@@ -63,13 +51,9 @@ pub extern "C" fn vecmap_bench_set_symmetric_difference(input: Input) -> u64 {
 pub extern "C" fn vecmap_bench_set_difference_back(input: Input) -> u64 {
     let set = ok!(filled(input.alloc, input.keys));
     let other = ok!(filled(input.alloc, input.probes));
-    let mut sum: u64 = 0;
-    for round in 0..input.rounds {
-        for item in set.difference(&other).rev() {
-            sum = sum.wrapping_add(*item ^ round);
-        }
-    }
-    sum
+    rounds!(input, set.difference(&other).rev(), |sum, round, item| {
+        sum = sum.wrapping_add(*item ^ round);
+    })
 }
 
 /// Creates the set of the elements that are in both sets.
@@ -77,12 +61,10 @@ pub extern "C" fn vecmap_bench_set_difference_back(input: Input) -> u64 {
 pub extern "C" fn vecmap_bench_set_and(input: Input) -> u64 {
     let set = ok!(filled(input.alloc, input.keys));
     let other = ok!(filled(input.alloc, input.probes));
-    let mut sum: u64 = 0;
-    for round in 0..input.rounds {
+    rounds!(input, |sum, round| {
         let made = ok!(&set & &other);
         sum = sum.wrapping_add(mark(&made) ^ round);
-    }
-    sum
+    })
 }
 
 /// Creates the set of the elements that are in either set.
@@ -90,12 +72,10 @@ pub extern "C" fn vecmap_bench_set_and(input: Input) -> u64 {
 pub extern "C" fn vecmap_bench_set_or(input: Input) -> u64 {
     let set = ok!(filled(input.alloc, input.keys));
     let other = ok!(filled(input.alloc, input.probes));
-    let mut sum: u64 = 0;
-    for round in 0..input.rounds {
+    rounds!(input, |sum, round| {
         let made = ok!(&set | &other);
         sum = sum.wrapping_add(mark(&made) ^ round);
-    }
-    sum
+    })
 }
 
 /// Creates the set of the elements of the first set that are not in the second.
@@ -103,12 +83,10 @@ pub extern "C" fn vecmap_bench_set_or(input: Input) -> u64 {
 pub extern "C" fn vecmap_bench_set_sub(input: Input) -> u64 {
     let set = ok!(filled(input.alloc, input.keys));
     let other = ok!(filled(input.alloc, input.probes));
-    let mut sum: u64 = 0;
-    for round in 0..input.rounds {
+    rounds!(input, |sum, round| {
         let made = ok!(&set - &other);
         sum = sum.wrapping_add(mark(&made) ^ round);
-    }
-    sum
+    })
 }
 
 /// Creates the set of the elements that are in one set only.
@@ -116,10 +94,8 @@ pub extern "C" fn vecmap_bench_set_sub(input: Input) -> u64 {
 pub extern "C" fn vecmap_bench_set_xor(input: Input) -> u64 {
     let set = ok!(filled(input.alloc, input.keys));
     let other = ok!(filled(input.alloc, input.probes));
-    let mut sum: u64 = 0;
-    for round in 0..input.rounds {
+    rounds!(input, |sum, round| {
         let made = ok!(&set ^ &other);
         sum = sum.wrapping_add(mark(&made) ^ round);
-    }
-    sum
+    })
 }

@@ -1,6 +1,6 @@
 //! Mixed commands on sets, as values and as calls. A word holds a command in its low byte and an element above it.
 use crate::runs::of_index;
-use crate::{Input, REFUSED, ok};
+use crate::{Input, REFUSED, ok, rounds};
 use std::alloc::{AllocError, Global};
 use vecmap::{SetCommand, SetReply, VecSet, run_set};
 
@@ -37,23 +37,20 @@ fn of_reply(reply: &SetReply<u64>) -> u64 {
 /// Runs the commands as values, by `run_set`.
 #[unsafe(no_mangle)]
 pub extern "C" fn vecmap_bench_set_run(input: Input) -> u64 {
-    let mut sum: u64 = 0;
-    for round in 0..input.rounds {
+    rounds!(input, |sum, round| {
         let mut set = VecSet::new(input.alloc);
         let list = ok!(commands(input.alloc, input.probes));
         let replies = ok!(run_set(input.alloc, &mut set, list));
         for reply in replies.iter() {
             sum = sum.wrapping_mul(31).wrapping_add(of_reply(reply) ^ round);
         }
-    }
-    sum
+    })
 }
 
 /// Runs the commands as calls.
 #[unsafe(no_mangle)]
 pub extern "C" fn vecmap_bench_set_calls(input: Input) -> u64 {
-    let mut sum: u64 = 0;
-    for round in 0..input.rounds {
+    rounds!(input, |sum, round| {
         let mut set: VecSet<u64> = VecSet::new(input.alloc);
         for word in input.probes {
             let word = *word;
@@ -68,6 +65,5 @@ pub extern "C" fn vecmap_bench_set_calls(input: Input) -> u64 {
             };
             sum = sum.wrapping_mul(31).wrapping_add(answer ^ round);
         }
-    }
-    sum
+    })
 }

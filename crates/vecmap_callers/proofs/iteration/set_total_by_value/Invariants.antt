@@ -1,5 +1,0 @@
-use Rattle.std.proofs.Common.{◌≡◌, ◌+◌, sum}
-use Rattle.vecmap_callers.proofs.iteration.set_total_by_value.Given as goal
-
-abbrev pub invariant-loop-element : goal.invariant-loop-element
-invariant-loop-element l = l.all + sum l.element-iterator ≡ sum l.fn.set.elements
