@@ -1,4 +1,5 @@
-//! One export for each loop that the benchmark times. It runs the whole loop over a map or a set and returns a checksum.
+//! One export for each loop that the benchmark times: it runs the whole loop over a map or a set, and returns a
+//! checksum.
 //!
 //! The input of an export is an [`Input`] or a [`TextInput`]. The folder `bench` has the same loops in Rust, for
 //! vecmap-rs and other crates. The checksums must agree.

@@ -1,4 +1,4 @@
--- What an `extend` that was refused has taken of a list.
+-- What an `extend` that ran out of memory has taken of a list.
 use Rattle.std.specs.Prelude.{◌≡◌, ℕ, List, Option, Result, Ok, Err, OnErr, MatchResult, length, take}
 use Rattle.std.specs.Iterator.{Drains, Yields}
 use Rattle.std.proofs.Common.{subst, sym, ◌∙◌}

@@ -62,8 +62,8 @@ pub fn add_all(set: &mut VecSet<u32>, items: Vec<u32>) -> Result<(), AllocError>
 ///
 /// # Errors
 ///
-/// [`AllocError`] if allocation fails. If that for `next` fails, all three sets are unchanged. If
-/// that for `last` fails, `last` is unchanged, and the elements of `next` are in `set`.
+/// [`AllocError`] if allocation fails. If it fails for `next`, all three sets are unchanged. If it fails for `last`,
+/// `last` is unchanged, and the elements of `next` are in `set`.
 pub fn join(
     set: &mut VecSet<u32>,
     next: &mut VecSet<u32>,

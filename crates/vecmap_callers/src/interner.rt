@@ -125,7 +125,7 @@ impl Interner {
 ///
 /// # Errors
 ///
-/// [`AllocError`] if allocation fails. If that for the second text fails, the first one is interned.
+/// [`AllocError`] if allocation fails. If it fails for the second text, the first text is interned.
 pub fn intern_both(
     interner: &mut Interner,
     first: &str,

@@ -54,17 +54,17 @@ fn a_refused_merge_leaves_what_was_merged_before(rt: HostRuntime) -> Result<(), 
 
 /// A key whose clone is greater by one.
 #[derive(Debug, Drop, PartialEq, Eq)]
-struct Counted(u32);
+struct CloneCounted(u32);
 
-impl Clone for Counted {
-    fn clone(&self) -> Result<Counted, AllocError> {
-        Ok(Counted(self.0.wrapping_add(1)))
+impl Clone for CloneCounted {
+    fn clone(&self) -> Result<CloneCounted, AllocError> {
+        Ok(CloneCounted(self.0.wrapping_add(1)))
     }
 }
 
 /// Prints what an insertion by an entry stores, or returns.
-fn print_entry(alloc: Global, map: &mut VecMap<Counted, u32>) -> Result<String, AllocError> {
-    match map.entry(Counted(7)).insert_entry(70) {
+fn print_entry(alloc: Global, map: &mut VecMap<CloneCounted, u32>) -> Result<String, AllocError> {
+    match map.entry(CloneCounted(7)).insert_entry(70) {
         Ok(entry) => {
             let (key, value) = (entry.key().0, *entry.get());
             format!(in alloc; "{key} {value}")
@@ -76,17 +76,17 @@ fn print_entry(alloc: Global, map: &mut VecMap<Counted, u32>) -> Result<String, 
     }
 }
 
-/// Prints this of a full map, and the map.
+/// Prints what `print_entry` returns for a full map, and the map.
 fn print_inserted(alloc: Global) -> Result<String, AllocError> {
     let mut map = VecMap::with_capacity(alloc, 1)?;
-    map.insert(Counted(1), 10)?;
+    map.insert(CloneCounted(1), 10)?;
     let printed = print_entry(alloc, &mut map)?;
     format!(in alloc; "{printed} {map:?}")
 }
 
 #[test]
 fn a_refused_entry_returns_the_key_and_not_its_clone(rt: HostRuntime) -> Result<(), Fail> {
-    let expected = "7 70 {Counted(1): 10, Counted(8): 70}";
-    let left = "refused (Counted(7), 70) {Counted(1): 10}";
+    let expected = "7 70 {CloneCounted(1): 10, CloneCounted(8): 70}";
+    let left = "refused (CloneCounted(7), 70) {CloneCounted(1): 10}";
     assert_printed(&rt, print_inserted, expected, left)
 }

@@ -1,5 +1,6 @@
-//! Branches by size and length that rows do not take, since their keys and elements are larger than a word: relations of
-//! small elements, moves of small pairs, and equality of more than 1,024 pairs whose values may differ from themselves.
+//! Branches by size and length that the test cases of `vecmap_script` do not take, since their keys and elements are
+//! larger than a word: relations of small elements, moves of small pairs, and equality of more than 1,024 pairs whose
+//! values may differ from themselves.
 use crate::checks::{assert_gives, assert_is, granted};
 use std::alloc::{AllocError, Global};
 use std::default::MadeWith;
@@ -25,7 +26,7 @@ fn relations(set: &VecSet<u32>, other: &VecSet<u32>) -> [bool; 4] {
     ]
 }
 
-// Of three, four, eight and 20 elements.
+// The sets have three, four, eight and 20 elements.
 #[test]
 fn sets_of_small_elements_are_related_by_each_of_them(rt: HostRuntime) {
     let alloc = rt.alloc();
@@ -70,7 +71,7 @@ fn moves_alike(alloc: Global, from: usize, to: usize) -> Result<bool, AllocError
     Ok(old == Some((from, 0)) && map.keys().eq(&list))
 }
 
-// A pair of 8 bytes is carried over up to eight pairs to the left and 32 to the right, and else moves by a rotation.
+// Up to seven pairs of 8 bytes shift to the left one by one, and up to 31 to the right. More shift by a rotation.
 #[test]
 fn small_pairs_move_by_any_number_of_indices(rt: HostRuntime) {
     for from in [0, 1, 20, 39] {

@@ -1,5 +1,5 @@
-//! A tree of maps: merges, writes at a path, and functions that go down it in other ways. No function needs a measure but
-//! [`Node::absorb`]: the depth of the value is found, whichever way the values of a map are read.
+//! A tree of maps: merges, writes at a path, and recursion over drains, over `&mut` and by index. Only [`Node::absorb`]
+//! needs a measure.
 use std::alloc::{AllocError, Global};
 use vecmap::VecMap;
 
@@ -78,7 +78,7 @@ pub fn sum(mut node: Node) -> Option<u32> {
     Some(number)
 }
 
-/// Adds one to each number, up to the first that is the greatest.
+/// Adds one to each number, and returns `None` at the first that is `u32::MAX`.
 pub fn raise(node: &mut Node) -> Option<()> {
     node.number = node.number.checked_add(1)?;
     for (_name, child) in &mut node.children {
@@ -133,7 +133,7 @@ fn count_in_row(row: &VecMap<String, Table>) -> u64 {
     all
 }
 
-/// A type whose keys are of the type itself. It holds no map, which could not be, but a vector of pairs.
+/// A type whose keys are of the type itself. The prover rejects a `VecMap<Rule, u32>` here, so it has a vector of pairs.
 #[derive(PartialEq, Eq, Drop)]
 pub struct Rule {
     pub name: String,

@@ -24,7 +24,8 @@ impl Node {
         }
     }
 
-    /// Sets the value at a path, if the path leads to a node. Returns whether it does. The contract is about `true` alone.
+    /// Sets the value at a path, if the path leads to a node, and returns whether it does. The contract is about `true`
+    /// alone.
     pub fn set(&mut self, path: &[u32], value: u64) -> bool
         ensures { result ≡ true → value_at path.now self.new ≡ Some value }
     {
