@@ -4,6 +4,7 @@ use std::alloc::Global;
 use std::cell::Cell;
 use std::io;
 use std::io::{Error, ErrorKind, Read, Write};
+use std::process::Abort;
 use std::test::Fail;
 
 /// Returns the text that is written if the whole input is available at once.
@@ -14,7 +15,16 @@ fn served(alloc: Global, input: &[u8]) -> Result<String, Fail> {
     Ok(String::from_utf8(written)?)
 }
 
-/// Supplies its bytes, at most `most` at a time, and then ends or fails.
+/// Asserts that this text is written for an input.
+fn assert_served(rt: &(impl AllocGlobal + Abort), input: &[u8], output: &str) -> Result<(), Fail> {
+    let found = served(rt.alloc(), input)?;
+    let input = str::from_utf8(input).unwrap_or("not text");
+    assert_eq!(*rt; found.as_str(), output, "at {input:?}");
+    Ok(())
+}
+
+/// Supplies its bytes, at most `most` at a time, and then ends or fails. It keeps how many bytes were written before each
+/// of the first reads.
 #[derive(Drop)]
 struct FakeReader<'a> {
     rest: &'a [u8],
@@ -22,23 +32,31 @@ struct FakeReader<'a> {
     is_interrupted: bool,
     failure: Option<ErrorKind>,
     reads: usize,
+    written: &'a Cell<usize>,
+    written_before: [usize; 4],
 }
 
 impl<'a> FakeReader<'a> {
-    fn new(bytes: &'a [u8]) -> FakeReader<'a> {
+    fn new(bytes: &'a [u8], written: &'a Cell<usize>) -> FakeReader<'a> {
         FakeReader {
             rest: bytes,
             most: usize::MAX,
             is_interrupted: false,
             failure: None,
             reads: 0,
+            written,
+            written_before: [0; 4],
         }
     }
 }
 
 impl Read for FakeReader<'_> {
     fn read(&mut self, buf: &mut [u8]) -> io::Result<usize> {
-        self.reads = self.reads.saturating_add(1);
+        let (reads, written) = (self.reads, self.written.get());
+        if let Some(count) = self.written_before.get_mut(reads) {
+            *count = written;
+        }
+        self.reads = reads.saturating_add(1);
         if self.is_interrupted {
             self.is_interrupted = false;
             return Err(Error::from(ErrorKind::Interrupted));
@@ -57,36 +75,39 @@ impl Read for FakeReader<'_> {
     }
 }
 
-/// Accepts `room` bytes, and then fails.
+/// Accepts `room` bytes, and then fails. It counts the bytes that it accepts.
 #[derive(Drop)]
-struct FakeWriter {
-    written: Vec<u8>,
+struct FakeWriter<'a> {
+    bytes: Vec<u8>,
     room: usize,
     writes: usize,
+    written: &'a Cell<usize>,
 }
 
-impl FakeWriter {
-    fn new(alloc: Global, room: usize) -> FakeWriter {
+impl<'a> FakeWriter<'a> {
+    fn new(alloc: Global, room: usize, written: &'a Cell<usize>) -> FakeWriter<'a> {
         FakeWriter {
-            written: Vec::new(alloc),
+            bytes: Vec::new(alloc),
             room,
             writes: 0,
+            written,
         }
     }
 
     fn text(&self) -> &str {
-        str::from_utf8(&self.written).unwrap_or("not text")
+        str::from_utf8(&self.bytes).unwrap_or("not text")
     }
 }
 
-impl Write for FakeWriter {
+impl Write for FakeWriter<'_> {
     fn write(&mut self, buf: &[u8]) -> io::Result<usize> {
         self.writes = self.writes.saturating_add(1);
         let count = buf.len().min(self.room);
         if count == 0 {
             return Err(Error::from(ErrorKind::BrokenPipe));
         }
-        self.written.extend_from_slice(&buf[..count])?;
+        self.bytes.extend_from_slice(&buf[..count])?;
+        self.written.set(self.bytes.len());
         self.room -= count;
         Ok(count)
     }
@@ -125,10 +146,7 @@ fn answers_each_command(rt: HostRuntime) -> Result<(), Fail> {
         ),
     ];
     for (input, output) in runs {
-        assert!(rt;
-            served(rt.alloc(), input.as_bytes())?.as_str() == output,
-            "at {input}"
-        );
+        assert_served(&rt, input.as_bytes(), output)?;
     }
     Ok(())
 }
@@ -136,97 +154,46 @@ fn answers_each_command(rt: HostRuntime) -> Result<(), Fail> {
 #[test]
 fn reads_numbers(rt: HostRuntime) -> Result<(), Fail> {
     let words = [
-        ("-007", "some -7\n"),
-        ("0", "some 0\n"),
-        ("-0", "some 0\n"),
-        ("999999999999999999", "some 999999999999999999\n"),
-        ("-999999999999999999", "some -999999999999999999\n"),
-        ("000000000000000001", "some 1\n"),
+        ("-007", "none\nsome -7\n"),
+        ("0", "none\nsome 0\n"),
+        ("-0", "none\nsome 0\n"),
+        ("999999999999999999", "none\nsome 999999999999999999\n"),
+        ("-999999999999999999", "none\nsome -999999999999999999\n"),
+        ("000000000000000001", "none\nsome 1\n"),
     ];
     for (word, output) in words {
         let input = format!(in rt.alloc(); "insert a {word}\nget a\n")?;
-        let output = format!(in rt.alloc(); "none\n{output}")?;
-        assert!(rt;
-            served(rt.alloc(), input.as_bytes())?.as_str() == output.as_str(),
-            "at {word}"
-        );
+        assert_served(&rt, input.as_bytes(), output)?;
     }
     Ok(())
 }
 
-/// Lines that are no command.
+/// Lines that are no command, with `;` between them.
 const INVALID_LINES: &[&str] = &[
-    "",
-    " ",
-    "a",
-    "insert",
-    "insert a",
-    "insert a ",
-    "insert a 1 ",
-    "insert  a 1",
-    "insert a  1",
-    " insert a 1",
-    "insert a 1 2",
-    "insert a 1\r",
-    "insert a\t1",
-    "Insert a 1",
-    "insert a b",
-    "insert a -",
-    "insert a +1",
-    "insert a --1",
-    "insert a 1-",
-    "insert a 1.5",
-    "insert a 0x1",
-    "insert a 1234567890123456789",
-    "insert a 0000000000000000001",
-    "insert a -1234567890123456789",
-    "insert a= 1",
-    "insert a/b 1",
-    "insert a:b 1",
-    "insert a,b 1",
-    "insert a@b 1",
-    "insert a[b 1",
-    "insert a`b 1",
-    "insert a{b 1",
-    "insert a\u{0}b 1",
-    "insert a\u{7f}b 1",
-    "insert é 1",
-    "insert_at a 1",
-    "insert_at 0 a",
-    "insert_at -1 a 1",
-    "insert_at +0 a 1",
-    "insert_at  0 a 1",
-    "insert_at 0  a 1",
-    "insert_at 1234567890123456789 a 1",
-    "get",
-    "get ",
-    "get a b",
-    "get  a",
-    "remove",
-    "remove a 1",
-    "index",
-    "index 0 a",
-    "swap_remove",
-    "swap_remove a b",
-    "len ",
-    "len a",
-    "LEN",
-    "list ",
-    "list a",
-    "lists",
+    // Another name, or another number of words.
+    ";a;insert;insert a;insert a 1 2;Insert a 1;insert_at a 1;insert_at 0 a;get;get a b;remove;remove a 1",
+    "index;index 0 a;swap_remove;swap_remove a b;LEN;len a;list a;lists",
+    // Spaces.
+    " ; insert a 1;insert  a 1;insert a  1;insert a 1 ;insert a ;insert a 1\r;insert a\t1;get ;get  a",
+    "insert_at  0 a 1;insert_at 0  a 1;len ;list ",
+    // Numbers.
+    "insert a b;insert a -;insert a +1;insert a --1;insert a 1-;insert a 1.5;insert a 0x1",
+    "insert a 1234567890123456789;insert a 0000000000000000001;insert a -1234567890123456789",
+    "insert_at -1 a 1;insert_at +0 a 1;insert_at 1234567890123456789 a 1",
+    // Keys.
+    "insert a= 1;insert a/b 1;insert a:b 1;insert a,b 1;insert a@b 1;insert a[b 1;insert a`b 1;insert a{b 1",
+    "insert a\u{0}b 1;insert a\u{7f}b 1;insert é 1",
 ];
 
 #[test]
 fn reports_a_line_that_is_no_command(rt: HostRuntime) -> Result<(), Fail> {
-    for line in INVALID_LINES {
-        let input = format!(in rt.alloc(); "{line}\nlen\n")?;
-        assert!(rt;
-            served(rt.alloc(), input.as_bytes())?.as_str() == "fault\n0\n",
-            "at {line:?}"
-        );
+    for lines in INVALID_LINES {
+        for line in lines.split(';') {
+            let input = format!(in rt.alloc(); "{line}\nlen\n")?;
+            assert_served(&rt, input.as_bytes(), "fault\n0\n")?;
+        }
     }
-    assert!(rt; served(rt.alloc(), b"get \xff\nlen\n")?.as_str() == "fault\n0\n");
-    Ok(())
+    assert_served(&rt, b"get \xff\nlen\n", "fault\n0\n")
 }
 
 #[test]
@@ -237,23 +204,16 @@ fn takes_keys_of_64_bytes(rt: HostRuntime) -> Result<(), Fail> {
         "insert {longest} 1\ninsert {longest}. 2\ninsert . 3\nlist\n"
     )?;
     let output = format!(in rt.alloc(); "none\nfault\nnone\n{longest}=1 .=3\n")?;
-    assert!(rt; served(rt.alloc(), input.as_bytes())?.as_str() == output.as_str());
-    Ok(())
+    assert_served(&rt, input.as_bytes(), output.as_str())
 }
 
 #[test]
 fn takes_a_long_line_as_one(rt: HostRuntime) -> Result<(), Fail> {
     for length in [4095, 4096, 4097, 4098, 8192, 8193, 20000] {
         let mut input = vec![in rt.alloc(); b'a'; length]?;
-        assert!(rt;
-            served(rt.alloc(), &input)?.as_str() == "fault\n",
-            "at {length}"
-        );
+        assert_served(&rt, &input, "fault\n")?;
         input.extend_from_slice(b"\nlen")?;
-        assert!(rt;
-            served(rt.alloc(), &input)?.as_str() == "fault\n0\n",
-            "at {length}"
-        );
+        assert_served(&rt, &input, "fault\n0\n")?;
     }
     Ok(())
 }
@@ -270,10 +230,7 @@ fn takes_the_last_line_without_its_end(rt: HostRuntime) -> Result<(), Fail> {
         ("a", "fault\n"),
     ];
     for (input, output) in runs {
-        assert!(rt;
-            served(rt.alloc(), input.as_bytes())?.as_str() == output,
-            "at {input:?}"
-        );
+        assert_served(&rt, input.as_bytes(), output)?;
     }
     Ok(())
 }
@@ -292,17 +249,17 @@ fn prints_a_list_longer_than_its_buffer(rt: HostRuntime) -> Result<(), Fail> {
     input.push_str("list")?;
     output.push_str(list.as_str())?;
     output.push_str("\n")?;
-    assert!(rt; served(rt.alloc(), input.as_bytes())?.as_str() == output.as_str());
-    Ok(())
+    assert_served(&rt, input.as_bytes(), output.as_str())
 }
 
 #[test]
 fn reads_in_any_pieces(rt: HostRuntime) -> Result<(), Fail> {
     for most in [1, 2, 3, 7] {
-        let mut reader = FakeReader::new(b"insert a 1\ninsert a 2\nlist");
+        let written = Cell::new(0);
+        let mut reader = FakeReader::new(b"insert a 1\ninsert a 2\nlist", &written);
         reader.most = most;
         reader.is_interrupted = true;
-        let mut writer = FakeWriter::new(rt.alloc(), usize::MAX);
+        let mut writer = FakeWriter::new(rt.alloc(), usize::MAX, &written);
         assert!(rt; serve(rt.alloc(), &mut reader, &mut writer) == Ok(()));
         assert!(rt; writer.text() == "none\nsome 1\na=2\n");
         assert!(rt; writer.writes == 3);
@@ -314,9 +271,10 @@ fn reads_in_any_pieces(rt: HostRuntime) -> Result<(), Fail> {
 fn stops_if_a_read_fails(rt: HostRuntime) -> Result<(), Fail> {
     let runs = [("", ""), ("len", ""), ("insert a 1\nget", "none\n")];
     for (input, output) in runs {
-        let mut reader = FakeReader::new(input.as_bytes());
+        let written = Cell::new(0);
+        let mut reader = FakeReader::new(input.as_bytes(), &written);
         reader.failure = Some(ErrorKind::Other);
-        let mut writer = FakeWriter::new(rt.alloc(), usize::MAX);
+        let mut writer = FakeWriter::new(rt.alloc(), usize::MAX, &written);
         assert!(rt; serve(rt.alloc(), &mut reader, &mut writer) == Err(Fault::Reading));
         assert!(rt; writer.text() == output, "at {input:?}");
     }
@@ -333,8 +291,9 @@ fn stops_if_a_write_fails(rt: HostRuntime) -> Result<(), Fail> {
         (12, "none\nsome 1\n"),
     ];
     for (room, output) in runs {
-        let mut reader = FakeReader::new(b"insert a 1\ninsert a 2\nlist\n");
-        let mut writer = FakeWriter::new(rt.alloc(), room);
+        let written = Cell::new(0);
+        let mut reader = FakeReader::new(b"insert a 1\ninsert a 2\nlist\n", &written);
+        let mut writer = FakeWriter::new(rt.alloc(), room, &written);
         assert!(rt; serve(rt.alloc(), &mut reader, &mut writer) == Err(Fault::Writing));
         assert!(rt; writer.text() == output, "at {room}");
         assert!(rt; reader.reads == 1, "at {room}");
@@ -342,59 +301,13 @@ fn stops_if_a_write_fails(rt: HostRuntime) -> Result<(), Fail> {
     Ok(())
 }
 
-/// Supplies one line a read, and keeps how many bytes were written before each read.
-#[derive(Drop)]
-struct LineReader<'a> {
-    lines: [&'a str; 3],
-    written: &'a Cell<usize>,
-    written_before: [usize; 4],
-    reads: usize,
-}
-
-impl Read for LineReader<'_> {
-    fn read(&mut self, buf: &mut [u8]) -> io::Result<usize> {
-        let reads = self.reads;
-        let written = self.written.get();
-        if let Some(count) = self.written_before.get_mut(reads) {
-            *count = written;
-        }
-        let mut line = match self.lines.get(reads) {
-            Some(line) => line.as_bytes(),
-            None => b"",
-        };
-        self.reads = reads.saturating_add(1);
-        line.read(buf)
-    }
-}
-
-/// Counts the bytes that it accepts.
-#[derive(Drop)]
-struct CountingWriter<'a> {
-    written: &'a Cell<usize>,
-}
-
-impl Write for CountingWriter<'_> {
-    fn write(&mut self, buf: &[u8]) -> io::Result<usize> {
-        self.written
-            .set(self.written.get().saturating_add(buf.len()));
-        Ok(buf.len())
-    }
-
-    fn flush(&mut self) -> io::Result<()> {
-        Ok(())
-    }
-}
-
+/// Each line is one read of 11 bytes. The answers are `none`, `some 1` and `some 2`.
 #[test]
 fn writes_each_answer_before_the_next_read(rt: HostRuntime) {
-    let written = Cell::new(0usize);
-    let mut reader = LineReader {
-        lines: ["insert a 1\n", "get a\n", "len\n"],
-        written: &written,
-        written_before: [0; 4],
-        reads: 0,
-    };
-    let mut writer = CountingWriter { written: &written };
+    let written = Cell::new(0);
+    let mut reader = FakeReader::new(b"insert a 1\ninsert a 2\ninsert a 3\n", &written);
+    reader.most = 11;
+    let mut writer = FakeWriter::new(rt.alloc(), usize::MAX, &written);
     assert!(rt; serve(rt.alloc(), &mut reader, &mut writer) == Ok(()));
-    assert!(rt; reader.written_before == [0, 5, 12, 14]);
+    assert!(rt; reader.written_before == [0, 5, 12, 19]);
 }
