@@ -3,6 +3,7 @@
 //! values may differ from themselves.
 use crate::checks::{assert_gives, assert_is, granted};
 use std::alloc::{AllocError, Global};
+use std::cell::Cell;
 use std::default::MadeWith;
 use vecmap::{VecMap, VecSet};
 
@@ -81,6 +82,30 @@ fn small_pairs_move_by_any_number_of_indices(rt: HostRuntime) {
     }
 }
 
+/// Removes a number from a list, and from a map and a set of the same numbers. Returns whether the rests are the same.
+fn removes_alike(alloc: Global, at: usize) -> Result<bool, AllocError> {
+    let mut list = numbers(alloc, 0, 39, 39)?;
+    let (mut map, mut set) = (VecMap::new(alloc), VecSet::new(alloc));
+    for number in &list {
+        map.insert(*number, 0)?;
+        set.insert(*number)?;
+    }
+    if list.len() <= at || map.len() <= at || set.len() <= at {
+        return Ok(false);
+    }
+    let removed = list.remove(at);
+    let is_removed = map.remove_index(at) == (removed, 0) && set.remove_index(at) == removed;
+    Ok(is_removed && map.keys().eq(&list) && set.iter().eq(&list))
+}
+
+// The pairs and elements behind a removed one of at most 16 bytes shift by one rotation.
+#[test]
+fn small_items_are_removed_from_any_index(rt: HostRuntime) {
+    for at in [0, 20, 37, 39] {
+        assert_gives(&rt, removes_alike(rt.alloc(), at), true);
+    }
+}
+
 /// Searches a set and a map of the first odd numbers for each number up to them. Returns the number of wrong results.
 fn wrong_searches(alloc: Global, count: usize) -> Result<usize, AllocError> {
     let (mut set, mut map) = (VecSet::new(alloc), VecMap::new(alloc));
@@ -111,6 +136,42 @@ fn small_numbers_are_searched_by_quarters(rt: HostRuntime) {
     for count in [0, 1, 3, 4, 5, 16, 21, 64, 100] {
         assert_gives(&rt, wrong_searches(rt.alloc(), count), 0);
     }
+}
+
+/// Returns how often searches of a set and of a map with these many numbers call their closures.
+fn calls_of_searches(alloc: Global, count: u64) -> Result<[u32; 4], AllocError> {
+    let (mut set, mut map) = (VecSet::new(alloc), VecMap::new(alloc));
+    for number in 0..count {
+        set.insert(number)?;
+        map.insert(number, [number; 4])?;
+    }
+    let calls = Cell::new(0u32);
+    let _at = set.partition_point(|other| {
+        calls.set(calls.get().wrapping_add(1));
+        *other < 50
+    });
+    let first = calls.replace(0);
+    let _at = map.partition_point(|other, _value| {
+        calls.set(calls.get().wrapping_add(1));
+        *other < 50
+    });
+    let second = calls.replace(0);
+    let _at = set.binary_search_by(|other| {
+        calls.set(calls.get().wrapping_add(1));
+        other.cmp(&50)
+    });
+    let third = calls.replace(0);
+    let _at = map.binary_search_by(|other, _value| {
+        calls.set(calls.get().wrapping_add(1));
+        other.cmp(&50)
+    });
+    Ok([first, second, third, calls.get()])
+}
+
+// The size of a key decides, not the size of a pair: 11 calls by quarters, and 8 by halves.
+#[test]
+fn searches_of_small_keys_call_their_closures_by_quarters(rt: HostRuntime) {
+    assert_gives(&rt, calls_of_searches(rt.alloc(), 100), [11; 4]);
 }
 
 /// Creates a map of pairs with these keys, in ascending or descending order, and one value.
