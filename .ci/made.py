@@ -118,10 +118,12 @@ def owner_of(item):
 
 def listed(path):
     """Returns the items that the page lists: calls, methods of traits, macros, types, and what a type implements."""
+    found = list(items(path))
+    hidden = {"", "Model", "Sealed", *(it.name for it in found if it.kind == "trait" and not it.is_public)}
     return [
-        it for it in items(path)
+        it for it in found
         if it.is_public or it.kind == "macro_rules!" or it.impl.startswith("pub trait") and it.doc()
-        or it.kind == "impl" and trait_and_type(it.text)[0] not in ("", "Model", "Sealed")
+        or it.kind == "impl" and trait_and_type(it.text)[0].split("<")[0] not in hidden
     ]
 
 
