@@ -34,7 +34,7 @@ LIKE = re.compile(
 
 def page_of(name, sections):
     """Returns a made page: its head, and its sections."""
-    return "\n".join([read(f".ci/heads/{name}.md"), *filter(None, sections)])
+    return "\n".join([read(f".ci/heads/{name}.txt"), *filter(None, sections)])
 
 
 def opening(path):
