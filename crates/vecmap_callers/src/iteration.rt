@@ -1,13 +1,16 @@
 //! Callers of iterators: loops, chains, and calls of `next` and `next_back`.
 //!
 //! ```
-//! let map = vecmap!(alloc; 1u64 => 3u32, 2 => 6, 4 => 6);
+//! let mut map = vecmap!(alloc; 1u64 => 3u32, 2 => 6, 4 => 6);
 //! keys_reversed(alloc, &map)?.as_slice() // [4, 2, 1]
 //! pull_keys(&map);
 //! pairs_taken(alloc, map.clone()?)?.as_slice() // [(1, 3), (2, 6), (4, 6)]
 //! values_taken(alloc, map.clone()?)?.as_slice() // [6, 6, 3]
 //! elements_reversed(alloc, &vecset!(alloc; 1, 2))?.as_slice() // [2, 1]
 //! count_of_value(&map, 6) // 2
+//! add_one(&mut map);
+//! first_value(&mut map) // Some(4)
+//! map.as_slice() // [(1, 4), (2, 7), (4, 7)]
 //! ```
 ghost use Rattle.std.specs.Prelude.{◌≡◌, ◌<◌, ◌∷◌, ℕ, IfOk, [], count_by, length, nat_eq, reverse, slice_get};
 ghost use Rattle.std.specs.List.{All};
