@@ -1,6 +1,7 @@
 //! Assertions. Each is a function: a call is cheaper to prove in a test than an `assert!` or a `?`.
 use std::fmt::Debug;
 use std::process::Abort;
+use std::test::Fail;
 
 /// Asserts that a value is the expected one.
 pub(crate) fn assert_is<T: PartialEq + Debug + Drop>(rt: &impl Abort, value: T, expected: T) {
@@ -32,4 +33,15 @@ pub(crate) fn assert_gives<T: PartialEq + Debug + Drop, E: Drop>(
 /// Asserts that a call ran out of memory.
 pub(crate) fn assert_refused<T: Drop, E: Drop>(rt: &impl Abort, outcome: Result<T, E>) {
     assert!(*rt; outcome.is_err());
+}
+
+/// Asserts that a function returned this text.
+pub(crate) fn assert_prints(
+    rt: &impl Abort,
+    printed: Result<String, Fail>,
+    expected: &str,
+) -> Result<(), Fail> {
+    let printed = printed?;
+    assert_eq!(*rt; printed.as_str(), expected);
+    Ok(())
 }

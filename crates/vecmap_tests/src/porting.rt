@@ -1,6 +1,6 @@
 //! What the functions of PORTING return and leave, as it prints.
+use crate::checks::assert_prints;
 use std::alloc::Global;
-use std::process::Abort;
 use std::test::Fail;
 use vecmap::{VecMap, vecmap, vecset};
 use vecmap_examples::pages::porting::{bulk, calls, closures, loops, order, own, traits, writes};
@@ -23,6 +23,29 @@ fn added_and_sorted(alloc: Global) -> Result<String, Fail> {
     let set = bulk::added(&vecset!(alloc; 1, 2), &vecset!(alloc; 2, 3))?;
     let sorted = bulk::sorted(alloc)?;
     Ok(format!(in alloc; "{set:?} {sorted:?}")?)
+}
+
+fn references(alloc: Global) -> Result<String, Fail> {
+    let numbers = [2, 1, 2];
+    let (set, lent) = (
+        calls::references(alloc, &numbers)?,
+        traits::lent(alloc, &[4, 3, 4])?,
+    );
+    Ok(format!(in alloc; "{set:?} {lent:?}")?)
+}
+
+fn sorted_by_digits(alloc: Global) -> Result<String, Fail> {
+    let mut map = vecmap!(alloc; 'a' => 9, 'b' => 10, 'c' => 8);
+    calls::sort_by_digits(alloc, &mut map)?;
+    Ok(format!(in alloc; "{map:?}")?)
+}
+
+fn found_by_an_owned_name(alloc: Global) -> Result<String, Fail> {
+    let mut map = VecMap::new(alloc);
+    map.insert("a".to_string(alloc)?, 7)?;
+    let found = closures::number_of(&map, "a".to_string(alloc)?);
+    let missing = closures::number_of(&map, "b".to_string(alloc)?);
+    Ok(format!(in alloc; "{found:?} {missing:?}")?)
 }
 
 fn first_out_of_one(alloc: Global) -> Result<String, Fail> {
@@ -132,17 +155,6 @@ fn named_words(alloc: Global) -> Result<String, Fail> {
     Ok(format!(in alloc; "{names:?}")?)
 }
 
-/// Asserts that a function returned this text.
-fn assert_prints(
-    rt: &impl Abort,
-    printed: Result<String, Fail>,
-    expected: &str,
-) -> Result<(), Fail> {
-    let printed = printed?;
-    assert_eq!(*rt; printed.as_str(), expected);
-    Ok(())
-}
-
 #[test]
 fn the_functions_of_porting_return_what_they_should(rt: HostRuntime) -> Result<(), Fail> {
     let (rt, alloc) = (&rt, rt.alloc());
@@ -151,6 +163,9 @@ fn the_functions_of_porting_return_what_they_should(rt: HostRuntime) -> Result<(
     assert_prints(rt, made_at_once(alloc), maps)?;
     assert_prints(rt, added_and_sorted(alloc), "{3} {1, 2, 3}")?;
     assert_prints(rt, first_out_of_one(alloc), "(Some((4, 'd')), None)")?;
+    assert_prints(rt, references(alloc), "{2, 1} {4, 3}")?;
+    assert_prints(rt, sorted_by_digits(alloc), "{'b': 10, 'c': 8, 'a': 9}")?;
+    assert_prints(rt, found_by_an_owned_name(alloc), "Some(7) None")?;
     let configs =
         r#"Config { sections: {}, flags: {'x'} } Config { sections: {"server": {"port": 80}}, flags: {'x'} }"#;
     assert_prints(rt, a_derived_clone(alloc), configs)
