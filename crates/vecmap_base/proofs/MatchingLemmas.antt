@@ -14,6 +14,7 @@ use Rattle.vecmap_base.specs.Pairs.{index_of}
 use Rattle.vecmap_base.proofs.EqualityLemmas.Counts.{agree_everywhere, agreed, all_agree, many, many_absent}
 use Rattle.vecmap_base.proofs.EqualityLemmas.Partial.{agree, all_reflexive, at_self, disagree, disagree_at, from_lumps, lumped, lumped_if_same, lumped_laws, self_left}
 use Rattle.vecmap_base.proofs.IndexLemmas.{fails_everywhere}
+use Rattle.vecmap_base.proofs.PairsLemmas.ByIndex.{index_by_is}
 
 module _ {X : Type 0} where
   pub free_unmarked : (xs : List X) (n : ℕ) → free xs (replicate n false) ≡ xs
@@ -213,11 +214,11 @@ module _ {K V : Type 0} (key : K → K → Bool) (value : V → V → Bool) wher
 
   -- This holds before the first index of its key.
   pub none_free_before : (pairs : List (K × V)) (marks : List Bool) (p : K × V) (i : ℕ) → Some i ≡ index_of key pairs p.0 → NoneFree pairs marks p i
-  none_free_before pairs marks p i e k lt = other_key (get_or marks k true) p (get_or pairs k p) ((position-Some (λ q. key p.0 q.0) pairs i p (sym e)).2 k lt)
+  none_free_before pairs marks p i e k lt = other_key (get_or marks k true) p (get_or pairs k p) ((position-Some (λ q. key p.0 q.0) pairs i p (sym (index_by_is (key p.0) pairs) ∙ sym e)).2 k lt)
 
   -- If the key of `p` is absent, no pair without a mark is the same as `p`.
   pub none_free_absent : (pairs : List (K × V)) (marks : List Bool) (p : K × V) → length pairs ≤ length marks → None ≡ index_of key pairs p.0 → list_any (same_pair key value p) (free pairs marks) ≡ false
-  none_free_absent pairs marks p long e = none_free (same_pair key value p) pairs marks p long (λ k lt. other_key (get_or marks k true) p (get_or pairs k p) (fails_everywhere (λ q. key p.0 q.0) pairs p (sym e) k lt))
+  none_free_absent pairs marks p long e = none_free (same_pair key value p) pairs marks p long (λ k lt. other_key (get_or marks k true) p (get_or pairs k p) (fails_everywhere (λ q. key p.0 q.0) pairs p (sym (index_by_is (key p.0) pairs) ∙ sym e) k lt))
 
   -- The same for one index more.
   pub none_free_next : (pairs : List (K × V)) (marks : List Bool) (p : K × V) (n : ℕ) → NoneFree pairs marks p n → (not (get_or marks n true) && same_pair key value p (get_or pairs n p)) ≡ false → NoneFree pairs marks p (n + 1)

@@ -1,5 +1,7 @@
 -- Lemmas about lists of pairs.
+pub mod ByIndex
 pub mod Keys
+pub mod Lookups
 pub mod Indices
 pub mod Puts
 pub mod Recursion

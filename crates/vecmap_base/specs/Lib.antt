@@ -6,6 +6,7 @@ pub mod Equality
 pub mod Items
 pub mod Iterators
 pub mod Kept
+pub mod Lookups
 pub mod Orders
 pub mod Pairs
 pub mod Ranges

@@ -1,8 +1,9 @@
 -- Lists of pairs of a key and a value, as an ordered map sees them. `eq` is the `==` of keys. Lookups and removals go
 -- by the index of a key, so that an index, its pair and its value come from one definition. The words of std for them
 -- are by recursion.
-use Rattle.std.specs.Prelude.{ℕ, ◌-◌, Bool, List, [], ◌∷◌, ◌++◌, Option, String, bytes_eq, fold, insert, length, map, min, position, remove, slice_get, slice_set, string_bytes, unwrap_or}
+use Rattle.std.specs.Prelude.{ℕ, suc, ◌-◌, Bool, List, [], ◌∷◌, ◌++◌, None, Option, Some, String, bytes_eq, if◌then◌else◌, fold, insert, length, map, min, position, remove, slice_get, slice_set, string_bytes, unwrap_or}
 use Rattle.std.specs.List.{IsDistinct}
+use Rattle.std.specs.Map as entries
 use Rattle.std.specs.Map.{keys_of}
 use Rattle.std.specs.Option.{option_and_then, option_map, option_map_or}
 use Rattle.vecmap_base.specs.Items.{swap_without}
@@ -31,22 +32,23 @@ module _ {K V : Type 0} (test : K → Bool) where
   -- Example: by a test for even keys in `[(1,a), (2,b)]`: 1.
   -- The index of the first pair whose key passes the test.
   abbrev pub index_by : List (K × V) → Option ℕ
-  index_by l = position (λ p. test p.0) l
+  index_by [] = None
+  index_by (p ∷ ps) = if test p.0 then Some 0 else option_map suc (index_by ps)
 
   -- Example: of `1` in `[(1,a), (2,b), (3,c)]`: a.
   -- The value of the first pair whose key passes the test.
   abbrev pub lookup_by : List (K × V) → Option V
-  lookup_by l = option_and_then (value_at l) (index_by l)
+  lookup_by l = entries.lookup test l
 
   -- Example: of `1` in `[(1,a), (2,b), (3,c)]`: `(1,a)`.
   -- The first pair whose key passes the test.
   abbrev pub lookup_pair_by : List (K × V) → Option (K × V)
-  lookup_pair_by l = option_and_then (slice_get l) (index_by l)
+  lookup_pair_by l = entries.lookup_entry test l
 
   -- Example: of `1` in `[(1,a), (2,b), (3,c)]`: `[(2,b), (3,c)]`.
   -- The list `l` without the first pair whose key passes the test.
   abbrev pub without_by : List (K × V) → List (K × V)
-  without_by l = option_map_or (λ i. remove l i) (index_by l) l
+  without_by l = entries.remove_entry test l
 
   -- Example: of `1` in `[(1,a), (2,b), (3,c)]`: `[(3,c), (2,b)]`.
   -- The list `l` without the first pair whose key passes the test; the last pair moves to its index.
@@ -82,7 +84,8 @@ module _ {K V : Type 0} (eq : K → K → Bool) where
   -- Example: `1y, b` into `[(1x,a)]`: `[(1x,b)]`.
   -- The list `l` after an insertion: an existing key keeps its index and gets the value, and a new pair is appended.
   abbrev pub put : List (K × V) → K → V → List (K × V)
-  put l k v = option_map_or (λ i. with_value l i v) (index_of l k) (l ++ (k, v) ∷ [])
+  put [] k v = (k, v) ∷ []
+  put (p ∷ ps) k v = if eq k p.0 then (p.0, v) ∷ ps else p ∷ put ps k v
 
   -- Example: `[(1x,a), (2,b), (1y,c)]` into `[]`: `[(1x,c), (2,b)]`.
   -- The list `l` after the insertion of each of the pairs, in order.
@@ -92,7 +95,8 @@ module _ {K V : Type 0} (eq : K → K → Bool) where
   -- Example: `1y, b` into `[(1x,a)]`: `[(1y,b)]`.
   -- The list `l` after `(k, v)` has replaced the pair of an equal key, at its index, or was appended.
   abbrev pub put_key : List (K × V) → K → V → List (K × V)
-  put_key l k v = option_map_or (λ i. with_pair l i k v) (index_of l k) (l ++ (k, v) ∷ [])
+  put_key [] k v = (k, v) ∷ []
+  put_key (p ∷ ps) k v = if eq k p.0 then (k, v) ∷ ps else p ∷ put_key ps k v
 
   -- The pair of an equal key is removed first. If `i` is past the end of what is left, the new pair is appended.
   -- Example: `1y, d` at 3 into `[(1x,a), (2,b), (3,c)]`: `[(2,b), (3,c), (1y,d)]`.
@@ -118,4 +122,4 @@ module _ {K V : Type 0} (eq : K → K → Bool) where
 -- Example: true of the text `b` and the key `"b"`.
 -- The key has these bytes.
 abbrev pub has_text : {A : Type 0} → List ℕ → String A → Bool
-has_text text key = bytes_eq (string_bytes key) text
+has_text text key = bytes_eq text (string_bytes key)

@@ -1,5 +1,4 @@
 //! Queries that match keys or elements.
-ghost use Rattle.std.proofs.Common.{sym, ◌∙◌};
 ghost use Rattle.std.proofs.lemmas.Bool.{and_parts};
 ghost use Rattle.std.specs.Prelude.{◌≡◌, ◌&&◌, Bool, bytes_eq, string_bytes};
 ghost use Rattle.std.specs.Arc.{arc_slice_items, arc_str_bytes};
@@ -62,13 +61,11 @@ impl Equivalent<String> for &str {
 
     #[inline]
     fn equivalent(&self, key: &String) -> bool {
-        *key.as_str() == **self
+        **self == *key.as_str()
     }
 
-    // Equality of bytes is symmetric, and does not distinguish equal texts.
-    ghost respects_eq = { λ query x y h.
-        nat_list_eq_equiv.symm (string_bytes y) query.now
-        ∙ sym (nat_list_eq_equiv.congr (string_bytes x) query.now (string_bytes y) h) };
+    ghost respects_eq = { λ query x y.
+        nat_list_eq_equiv.congr query.now (string_bytes x) (string_bytes y) };
 }
 
 /// Matches each borrowed text with the same bytes.

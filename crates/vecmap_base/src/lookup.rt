@@ -167,6 +167,7 @@ pub(crate) fn are_small<T>(items: &[T], length: usize) -> bool {
 /// ```
 /// find_equivalent(&[("a", 1), ("b", 2)], "b") // Some(1)
 /// ```
+#[tactic(auto, using(crate::proofs::PairsLemmas::ByIndex::index_by_is))]
 pub fn find_equivalent<K: Eq, V, Q: Equivalent<K>>(pairs: &[(K, V)], query: Q) -> Option<usize>
     ensures index { result ≡ index_by (Q.equivalent query) pairs.now }
     ensures within { IfSome result (λ i. i < length pairs.now) }
@@ -179,6 +180,15 @@ pub fn find_equivalent<K: Eq, V, Q: Equivalent<K>>(pairs: &[(K, V)], query: Q) -
             { query.equivalent(key) },
         );
     }
+    find_by_loop(pairs, query)
+}
+
+// Like `find_equivalent`, by a plain loop.
+#[inline(always)]
+fn find_by_loop<K: Eq, V, Q: Equivalent<K>>(pairs: &[(K, V)], query: Q) -> Option<usize>
+    ensures index { result ≡ position (λ pair. Q.equivalent query pair.0) pairs.now }
+    ensures within { IfSome result (λ i. i < length pairs.now) }
+{
     pairs.iter().position(|pair| query.equivalent(&pair.0))
 }
 

@@ -7,7 +7,6 @@
 ghost use Rattle.std.specs.Prelude.{◌≡◌, ◌+◌, ◌<◌, ◌≤◌, ◌||◌, Bool, IfSome, None, false, length, position, take};
 ghost use Rattle.std.specs.List.{list_any};
 ghost use Rattle.vecmap_base.specs.Orders.{AnswersOnItem};
-ghost use Rattle.vecmap_base.specs.Pairs.{index_by};
 
 use std::mem::size_of_val;
 
@@ -25,7 +24,8 @@ pub(crate) fn find_pair_unrolled<'a, K, V, F: Fn(&'a K) -> bool>(
     asks: F,
 ) -> Option<usize>
     requires { F.IsAlwaysCallable asks }
-    ensures index { (p : K → Bool) → AnswersOnItem F.Fn p asks → result ≡ index_by p pairs.now }
+    ensures index { (p : K → Bool) → AnswersOnItem F.Fn p asks
+        → result ≡ position (λ pair. p pair.0) pairs.now }
     ensures within { IfSome result (λ i. i < length pairs.now) }
 {
     let twos = pairs.len() / 2;

@@ -1,6 +1,7 @@
 -- What a contract sees of a `VecMap`, and what calls say of its capacity.
 use Rattle.std.specs.Prelude.{◌≡◌, ◌+◌, ◌<◌, ◌≤◌, ℕ, Bool, IsOk, IsSome, List, None, OnErr, OnOk, Option, Result, length}
 use Rattle.std.specs.List.{refill}
+use Rattle.std.specs.Map.{set_value}
 use Rattle.std.specs.Option.{option_map_or}
 use Rattle.vecmap_base.specs.Pairs.{index_by, index_of, with_pair, with_value}
 
@@ -36,7 +37,7 @@ module _ {K V : Type 0} where
 
   -- The map m with v as the value of the first key that passes the test, if there is one.
   abbrev pub with_value_by : (K → Bool) → Contents K V → V → Contents K V
-  with_value_by test m v = option_map_or (λ i. with_value_at m i v) (index_by test m.entries) m
+  with_value_by test m v = with_entries m (set_value test m.entries v)
 
   -- Example: b for `1y` in `[(1x,a)]`: `[(1x,b)]`.
   -- The map m with v as the value of the first key that is equal to k, if there is one.

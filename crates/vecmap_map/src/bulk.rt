@@ -111,6 +111,7 @@ impl<K, V> VecMap<K, V> {
     /// map.as_slice() // [('a', 2), ('b', 1)]
     /// other.is_empty() // true
     /// ```
+    #[tactic(auto, using(vecmap_base::proofs::PairsLemmas::Puts::length_put_at_most, std::proofs::lemmas::Grind::common_steps))]
     pub fn append(&mut self, other: &mut VecMap<K, V>) -> Result<(), AllocError>
     where
         K: Eq + Drop,
@@ -162,6 +163,7 @@ impl<K, V> VecMap<K, V> {
     /// map.extend([('b', 3), ('c', 4)])?;
     /// map.as_slice() // [('a', 1), ('b', 3), ('c', 4)]
     /// ```
+    #[tactic(auto, using(vecmap_base::proofs::PairsLemmas::Puts::length_put_at_most, std::proofs::lemmas::Grind::common_steps))]
     pub fn extend<I: IntoIterator<Item = (K, V)>>(&mut self, iter: I) -> Result<(), AllocError>
     where
         K: Eq + Drop,

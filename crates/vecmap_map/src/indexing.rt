@@ -95,6 +95,7 @@ impl<'q, K: Eq, V> Index<&'q K> for VecMap<K, V> {
 
     ghost index_gives = { λ m k v. lookup K.eq m.entries k.now ≡ Some v };
 
+    #[tactic(auto, using(vecmap_base::proofs::PairsLemmas::ByIndex::by_index))]
     fn index(&self, key: &'q K) -> &V {
         &self.pairs[self.present_index(key)].1
     }
@@ -121,6 +122,7 @@ impl<'q, K: Eq, V> Index<&'q K> for VecMap<K, V> {
 impl<'q, K: Eq, V> IndexMut<&'q K> for VecMap<K, V> {
     ghost use Rattle.vecmap_map.specs.Lends.{lends_value_of};
 
+    #[tactic(auto, using(vecmap_base::proofs::PairsLemmas::ByIndex::by_index))]
     fn index_mut(&mut self, key: &'q K) -> &mut V
         requires present { IsSome (index_of K.eq self.old.entries key.now) }
         ensures* writes_back { sem 𝓛 (lends_value_of K.row V.row self.entry K.eq key.now result) }
@@ -155,6 +157,7 @@ impl<'q, V> Index<&'q str> for VecMap<String, V> {
 
     ghost index_gives = { λ m text v. lookup_by (has_text text.now) m.entries ≡ Some v };
 
+    #[tactic(auto, using(vecmap_base::proofs::PairsLemmas::ByIndex::by_index))]
     fn index(&self, text: &'q str) -> &V {
         &self.pairs[self.present_index(text)].1
     }
@@ -182,6 +185,7 @@ impl<'q, V> Index<&'q str> for VecMap<String, V> {
 impl<'q, V> IndexMut<&'q str> for VecMap<String, V> {
     ghost use Rattle.vecmap_map.specs.Lends.{lends_value_by, text_row};
 
+    #[tactic(auto, using(vecmap_base::proofs::PairsLemmas::ByIndex::by_index))]
     fn index_mut(&mut self, text: &'q str) -> &mut V
         requires present { IsSome (index_by (has_text text.now) self.old.entries) }
         ensures* writes_back { sem 𝓛 (lends_value_by text_row V.row self.entry
@@ -217,6 +221,7 @@ impl<'q, 'k, V> Index<&'q str> for VecMap<&'k str, V> {
 
     ghost index_gives = { λ m query v. lookup_by (λ k. bytes_eq query.now k.now) m.entries ≡ Some v };
 
+    #[tactic(auto, using(vecmap_base::proofs::PairsLemmas::ByIndex::by_index))]
     fn index(&self, query: &'q str) -> &V {
         &self.pairs[self.present_index(query)].1
     }

@@ -1,5 +1,6 @@
 //! Insertion of one pair.
-ghost use Rattle.std.specs.Prelude.{◌≡◌, ◌++◌, ◌∷◌, ◌≤◌, IfErr, IfOk, None, OnErr, OnOk, [], length};
+ghost use Rattle.std.specs.Prelude.{◌≡◌, ◌++◌, ◌∷◌, ◌≤◌, IfErr, IfOk, None, OnErr, OnOk, Some, [], length};
+ghost use Rattle.vecmap_base.specs.Lookups.{Updates};
 ghost use Rattle.vecmap_base.specs.Pairs.{index_or_length, lookup, lookup_full, lookup_pair, put, put_at, put_key};
 ghost use Rattle.vecmap_map.specs.Contents.{HasRoom, KeepsRoom, KeepsRoomAt, Refuses, RefusesAt};
 
@@ -30,12 +31,15 @@ impl<K, V> VecMap<K, V> {
     /// map.insert('c', 4)? // None
     /// map.as_slice() // [('a', 3), ('b', 2), ('c', 4)]
     /// ```
+    #[tactic(auto, using(vecmap_base::proofs::PairsLemmas::ByIndex::by_index))]
     #[inline]
     pub fn insert(&mut self, key: K, value: V) -> Result<Option<V>, Refused<(K, V)>>
     where
         K: Eq + Drop,
         ensures entries { OnOk result (self.new.entries ≡ put K.eq self.old.entries key value) }
         ensures old { IfOk result (λ old. old ≡ lookup K.eq self.old.entries key) }
+        ensures updates { OnOk result (Updates K.eq self.old.entries key self.new.entries
+            (Some value)) }
         ensures capacity { KeepsRoom K.eq self.old key self.new }
 
         // On `Err` the pair is returned, its key is new, and the map is full.
@@ -58,6 +62,7 @@ impl<K, V> VecMap<K, V> {
     /// map.insert_full('b', 3)? // (1, Some(2))
     /// map.insert_full('c', 4)? // (2, None)
     /// ```
+    #[tactic(auto, using(vecmap_base::proofs::PairsLemmas::ByIndex::by_index))]
     #[inline]
     pub fn insert_full(&mut self, key: K, value: V) -> Result<(usize, Option<V>), Refused<(K, V)>>
     where
@@ -65,6 +70,8 @@ impl<K, V> VecMap<K, V> {
         ensures entries { OnOk result (self.new.entries ≡ put K.eq self.old.entries key value) }
         ensures index { IfOk result (λ done. done.0 ≡ index_or_length K.eq self.old.entries key) }
         ensures old { IfOk result (λ done. done.1 ≡ lookup K.eq self.old.entries key) }
+        ensures updates { OnOk result (Updates K.eq self.old.entries key self.new.entries
+            (Some value)) }
         ensures capacity { KeepsRoom K.eq self.old key self.new }
 
         // On `Err` the pair is returned, its key is new, and the map is full.
@@ -99,6 +106,7 @@ impl<K, V> VecMap<K, V> {
     /// map.insert_key('a', 3)? // Some(('a', 1))
     /// map.as_slice() // [('a', 3), ('b', 2)]
     /// ```
+    #[tactic(auto, using(vecmap_base::proofs::PairsLemmas::ByIndex::by_index))]
     pub fn insert_key(&mut self, key: K, value: V) -> Result<Option<(K, V)>, Refused<(K, V)>>
     where
         K: Eq,

@@ -28,6 +28,7 @@ impl<K, V> VecMap<K, V> {
     /// }
     /// map.as_slice() // [('a', 1), ('b', 3)]
     /// ```
+    #[tactic(auto, using(vecmap_base::proofs::PairsLemmas::ByIndex::by_index))]
     pub fn get_mut<Q: Equivalent<K>>(&mut self, query: Q) -> Option<&mut V>
     where
         K: Eq,

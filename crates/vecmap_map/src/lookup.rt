@@ -82,6 +82,7 @@ impl<K, V> VecMap<K, V> {
     /// map.get(&'b') // Some(&2)
     /// map.get(&'c') // None
     /// ```
+    #[tactic(auto, using(vecmap_base::proofs::PairsLemmas::ByIndex::by_index))]
     pub fn get<Q: Equivalent<K>>(&self, query: Q) -> Option<&V>
     where
         K: Eq,
@@ -124,6 +125,7 @@ impl<K, V> VecMap<K, V> {
     /// let map = vecmap!(alloc; 'a' => 1, 'b' => 2);
     /// map.get_full(&'b') // Some((1, &'b', &2))
     /// ```
+    #[tactic(auto, using(vecmap_base::proofs::PairsLemmas::ByIndex::by_index))]
     pub fn get_full<Q: Equivalent<K>>(&self, query: Q) -> Option<(usize, &K, &V)>
     where
         K: Eq,

@@ -169,6 +169,7 @@ impl<K, V> VecMap<K, V> {
     /// map.remove(&'a') // None
     /// map.as_slice() // [('b', 2), ('c', 3)]
     /// ```
+    #[tactic(auto, using(vecmap_base::proofs::PairsLemmas::ByIndex::by_index))]
     pub fn remove<Q: Equivalent<K>>(&mut self, query: Q) -> Option<V>
     where
         K: Eq + Drop,
@@ -189,6 +190,7 @@ impl<K, V> VecMap<K, V> {
     /// map.remove_entry(&'a') // Some(('a', 1))
     /// map.as_slice() // [('b', 2), ('c', 3)]
     /// ```
+    #[tactic(auto, using(vecmap_base::proofs::PairsLemmas::ByIndex::by_index))]
     pub fn remove_entry<Q: Equivalent<K>>(&mut self, query: Q) -> Option<(K, V)>
     where
         K: Eq,
@@ -244,6 +246,7 @@ impl<K, V> VecMap<K, V> {
     /// map.swap_remove(&'a') // Some(1)
     /// map.as_slice() // [('c', 3), ('b', 2)]
     /// ```
+    #[tactic(auto, using(vecmap_base::proofs::PairsLemmas::ByIndex::by_index))]
     pub fn swap_remove<Q: Equivalent<K>>(&mut self, query: Q) -> Option<V>
     where
         K: Eq + Drop,
@@ -264,6 +267,7 @@ impl<K, V> VecMap<K, V> {
     /// map.swap_remove_entry(&'a') // Some(('a', 1))
     /// map.as_slice() // [('c', 3), ('b', 2)]
     /// ```
+    #[tactic(auto, using(vecmap_base::proofs::PairsLemmas::ByIndex::by_index))]
     pub fn swap_remove_entry<Q: Equivalent<K>>(&mut self, query: Q) -> Option<(K, V)>
     where
         K: Eq,

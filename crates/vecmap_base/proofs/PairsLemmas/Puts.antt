@@ -1,20 +1,32 @@
 -- What insertions make of a list, one at a time and many in order.
 use Rattle.std.specs.Option.{option_and_then, option_map_or}
-use Rattle.std.proofs.Common.{◌≡◌, ℕ, ◌+◌, Bool, List, [], ◌∷◌, ◌++◌, None, Option, Some, length, refl, ◌<◌, take, ap, get_or, unwrap_or}
+use Rattle.std.proofs.Common.{◌≡◌, ℕ, ◌+◌, Bool, List, [], ◌∷◌, ◌++◌, None, Option, Some, true, false, arith, if◌then◌else◌, length, refl, ◌<◌, ◌≤◌, take, ap, ◌∙◌, get_or, unwrap_or}
 use Rattle.std.proofs.lemmas.List.Sums.{fold_more}
 use Rattle.vecmap_base.specs.Pairs.{index_of, lookup, put, puts, value_at, with_value}
+use Rattle.vecmap_base.proofs.PairsLemmas.ByIndex.{lookup_by_index, put_by_index}
 use Rattle.vecmap_base.proofs.PairsLemmas.Values.{with_own_value}
 
 module _ {K V : Type 0} (eq : K → K → Bool) where
   pub put_absent : (l : List (K × V)) (k : K) (v : V) → index_of eq l k ≡ None → put eq l k v ≡ l ++ (k, v) ∷ []
-  put_absent l k v e = ap (λ o. option_map_or (λ i. with_value l i v) o (l ++ (k, v) ∷ [])) e
+  put_absent l k v e = put_by_index eq l k v ∙ ap (λ o. option_map_or (λ i. with_value l i v) o (l ++ (k, v) ∷ [])) e
 
   pub put_present : (l : List (K × V)) (k : K) (v : V) (i : ℕ) → index_of eq l k ≡ Some i → put eq l k v ≡ with_value l i v
-  put_present l k v i e = ap (λ o. option_map_or (λ j. with_value l j v) o (l ++ (k, v) ∷ [])) e
+  put_present l k v i e = put_by_index eq l k v ∙ ap (λ o. option_map_or (λ j. with_value l j v) o (l ++ (k, v) ∷ [])) e
+
+  -- An insertion adds at most one pair.
+  pub length_put_at_most : (l : List (K × V)) (k : K) (v : V) → length (put eq l k v) ≤ length l + 1
+  length_put_at_most [] k v = omega arith
+  length_put_at_most (p ∷ ps) k v = by (eq k p.0) (length_put_at_most ps k v)
+    where
+      by : (b : Bool) → length (put eq ps k v) ≤ length ps + 1 → length (if b then (p.0, v) ∷ ps else p ∷ put eq ps k v) ≤ length (p ∷ ps) + 1
+      by true h = omega arith
+      by false h = omega (arith, h)
 
   -- The insertion of the stored value, or of `v` if there is none, leaves the list or appends the pair.
   pub put_stored : (l : List (K × V)) (k : K) (v : V) → put eq l k (unwrap_or (lookup eq l k) v) ≡ option_map_or (λ i. l) (index_of eq l k) (l ++ (k, v) ∷ [])
-  put_stored l k v = by (index_of eq l k)
+  put_stored l k v =
+      put_by_index eq l k (unwrap_or (lookup eq l k) v)
+      ∙ ap (λ found. option_map_or (λ i. with_value l i (unwrap_or found v)) (index_of eq l k) (l ++ (k, unwrap_or found v) ∷ [])) (lookup_by_index (eq k) l) ∙ by (index_of eq l k)
     where
       by : (found : Option ℕ) → option_map_or (λ i. with_value l i (unwrap_or (option_and_then (value_at l) found) v)) found (l ++ (k, unwrap_or (option_and_then (value_at l) found) v) ∷ []) ≡ option_map_or (λ i. l) found (l ++ (k, v) ∷ [])
       by None = refl

@@ -1,6 +1,6 @@
 -- Shared steps of the calls that return a mutable reference to a value, in a tuple in an `Option`. The idea: what is
 -- owned of a tuple or an `Option` is split into what is owned of its parts.
-use Rattle.std.proofs.Common.{◌≡◌, refl, ap, ◌∙◌, ℕ, List, [], ◌∷◌, ◌++◌, Option, None, Some, slice_get, slice_set, Bool, w64, ◌<◌, ◌^◌}
+use Rattle.std.proofs.Common.{◌≡◌, refl, ap, sym, ◌∙◌, ℕ, List, [], ◌∷◌, ◌++◌, Option, None, Some, slice_get, slice_set, Bool, w64, ◌<◌, ◌^◌}
 use seplogic.Ra.Ura.{Ura}
 use mir.Syntax.{Body, Lifetime}
 use mir.Val.{Val, vint, vptr, vstruct, vcons, vnil, of_list}
@@ -28,6 +28,7 @@ use Rattle.std.specs.Borrow.{Bor}
 use Rattle.std.specs.contracts.option.Option as OP
 use Rattle.std.specs.Option.{option_map_or}
 use Rattle.vecmap_base.specs.Pairs.{index_by, with_value}
+use Rattle.vecmap_base.proofs.PairsLemmas.ByIndex.{set_value_by_index}
 use Rattle.vecmap_map.specs.Contents.{Contents, with_entries, with_value_at, with_value_by}
 use Rattle.vecmap_map.specs.Lends.{lends_beside_key, lends_beside_index, lends_value, lends_value_at, lends_pair_if_at}
 use Rattle.vecmap_map.specs.contracts.VecMap.{the_row}
@@ -155,7 +156,8 @@ module _ {M : Type 1} {𝓤 : Ura M} (𝓛 : Logic 𝓤) (K V : RattleType) (m :
       → ent 𝓤 (sem 𝓛 (lends_value_at K V m i r.2)) (sem 𝓛 (lends_beside_index K V m test (Some r)))
   unfolding follows_by
   index_then i r at =
-      let same : with_value_at m.now i ≡ with_value_by test m.now = λ j v. option_map_or (λ n. with_value_at m.now n v) (at j) m.now in
+      let same : with_value_at m.now i ≡ with_value_by test m.now =
+      λ j v. with_entries m.now ((ap (λ o. option_map_or (λ n. with_value m.now.entries n v) o m.now.entries) at ∙ sym (set_value_by_index test m.now.entries v)) j) in
       qed 𝓛 (‵ (lends_value_at K V m i r.2) ∷ []) ∵ rewrite ! 0 (λ (f : V.Denot → Contents K.Denot V.Denot). ‵ (follows (the_row K V) V m.ghost_name r.2.ghost_name f)) same refl $ done !
 
   -- Without a reference the map stays.

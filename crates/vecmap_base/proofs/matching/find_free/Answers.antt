@@ -4,6 +4,7 @@ use Rattle.std.proofs.lemmas.Bool.{and_from}
 use Rattle.std.proofs.lemmas.List.{get_or_default}
 use Rattle.std.proofs.lemmas.List.Quantifiers.{position-Some}
 use Rattle.vecmap_base.specs.Equality.{same_pair}
+use Rattle.vecmap_base.proofs.PairsLemmas.ByIndex.{index_by_is}
 use Rattle.vecmap_base.proofs.MatchingLemmas.{none_free, none_free_absent, none_free_before, none_free_next, other_value}
 use Rattle.vecmap_base.proofs.matching.find_free.Goals as goal
 use Rattle.vecmap_base.proofs.matching.find_free.Goals.{else-not-taken-first-via-then-not-taken-first+else-eq, else-not-taken-first-via-else-not-taken-first}
@@ -22,7 +23,7 @@ returns-then-eq-clause-equal g c =
     let pair = c.args.pair.now in
     let first = c.in_ok-first.first in
     let stored = get_or_default pairs first c.index-pairs-first.result pair c.in_ok-first.ensures.within in
-    let key = (position-Some (λ (p : g.row.K.Denot × g.row.V.Denot). g.K.PartialEq.eq pair.0 p.0) pairs first pair (sym c.in_ok-first.ensures.index)).1 in
+    let key = (position-Some (λ (p : g.row.K.Denot × g.row.V.Denot). g.K.PartialEq.eq pair.0 p.0) pairs first pair (sym (index_by_is (g.K.PartialEq.eq pair.0) pairs) ∙ sym c.in_ok-first.ensures.index)).1 in
     and_from _ _ key (sym (ap (λ (p : g.row.K.Denot × g.row.V.Denot). g.V.PartialEq.eq pair.1 p.1) stored) ∙ sym c.eq.ensures ∙ c.if-eq.true)
 
 pub loop-at-init : goal.loop-at-init

@@ -1,20 +1,29 @@
-use Rattle.std.proofs.Common.{◌≡◌, ◌∙◌, None, ap, arith, sym}
+use Rattle.std.proofs.Common.{◌∙◌, ap, arith, position, refl, rules, sym, ◌+◌}
 use Rattle.std.proofs.lemmas.List.{take_all}
-use Rattle.vecmap_base.specs.Pairs.{index_of}
-use Rattle.vecmap_base.proofs.IndexLemmas.{position_at}
+use Rattle.vecmap_base.proofs.IndexLemmas.{none_before_next, position_at}
+use Rattle.vecmap_base.proofs.PairsLemmas.ByIndex.{index_by_is}
 use Rattle.vecmap_base.proofs.RepeatsLemmas.Comparisons.{key_search_absent, key_search_found}
 use Rattle.vecmap_base.proofs.repeats.find_counted.Goals as goal
 
+pub loop-place-preserved : goal.loop-place-preserved
+loop-place-preserved g c = (
+  search rules,
+  none_before_next (λ p. g.K.PartialEq.eq c.args.key.now p.0) c.args.front.now c.loop-place.place (c.loop-place.place + 1) c.index-front-place.result c.loop-place-test.true refl c.index-front-place.is (sym c.same.ensures.equal ∙ c.if-same.false) c.loop-place.invariant.1,
+)
+
 pub returns-then-same-clause-index : goal.returns-then-same-clause-index
 returns-then-same-clause-index g c =
-    sym (position_at (λ p. g.K.PartialEq.eq c.args.key.now p.0) c.args.front.now c.loop-place.place c.index-front-place.result c.loop-place-test.true c.index-front-place.is (sym c.same.ensures.equal ∙ c.if-same.true) c.loop-place.invariant.1)
+    sym (index_by_is (g.K.PartialEq.eq c.args.key.now) c.args.front.now ∙ position_at (λ p. g.K.PartialEq.eq c.args.key.now p.0) c.args.front.now c.loop-place.place c.index-front-place.result c.loop-place-test.true c.index-front-place.is (sym c.same.ensures.equal ∙ c.if-same.true) c.loop-place.invariant.1)
 
 pub returns-then-same-clause-counted : goal.returns-then-same-clause-counted
 returns-then-same-clause-counted g c =
     omega (arith, key_search_found g.K.PartialEq.eq c.args.front.now c.args.key.now c.loop-place.place (sym (returns-then-same-clause-index g c)))
 
+pub returns-clause-index : goal.returns-clause-index
+returns-clause-index g c =
+    let all = take_all c.loop-place.place c.args.front.now c.loop-place-test.false in
+    sym (index_by_is (g.K.PartialEq.eq c.args.key.now) c.args.front.now ∙ sym (ap (position (λ p. g.K.PartialEq.eq c.args.key.now p.0)) all) ∙ c.loop-place.invariant.1)
+
 pub returns-clause-counted : goal.returns-clause-counted
 returns-clause-counted g c =
-    let all = take_all c.loop-place.place c.args.front.now c.loop-place-test.false in
-    let none : index_of g.K.PartialEq.eq c.args.front.now c.args.key.now ≡ None = sym (ap (λ l. index_of g.K.PartialEq.eq l c.args.key.now) all) ∙ c.loop-place.invariant.1 in
-    omega (arith, key_search_absent g.K.PartialEq.eq c.args.front.now c.args.key.now none)
+    omega (arith, key_search_absent g.K.PartialEq.eq c.args.front.now c.args.key.now (sym (returns-clause-index g c)))

@@ -5,6 +5,7 @@ use Rattle.std.proofs.lemmas.{Grind.common_steps, Result.err_from_is_err_and}
 use Rattle.std.specs.Map.Iter.{deref}
 use Rattle.vecmap_base.specs.{Clones.IsPairClone, Pairs.put}
 use Rattle.vecmap_base.proofs.CloneLemmas.{lent_clone_taken}
+use Rattle.vecmap_base.proofs.PairsLemmas.Puts.{length_put_at_most}
 use Rattle.vecmap_map.proofs.VecMap.extend_pairs.Goals as goal
 
 pub loop-pair-preserved : goal.loop-pair-preserved
@@ -13,7 +14,7 @@ loop-pair-preserved g c =
     let puts = lent_clone_taken (IsPairClone g.K.Clone.is_clone g.V.Clone.is_clone) (λ done r. put g.K.PartialEq.eq done r.0 r.1) deref
     c.args.self.now.entries c.loop-pair.yielded c.loop-pair.self.entries c.put_clones.new.self.entries c.in-Some.pair
     (one.0, one.1) c.loop-pair.invariant.puts (one.2, one.3) one.4 in
-    grind (arith, common_steps, puts)
+    grind (arith, common_steps, puts, length_put_at_most)
 
 pub returns-in_err-put_clones-clause-extended : goal.returns-in_err-put_clones-clause-extended
 returns-in_err-put_clones-clause-extended g c =

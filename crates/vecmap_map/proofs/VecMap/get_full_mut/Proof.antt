@@ -10,6 +10,7 @@ use Steps.{fact, fact_i, ◌⊑◌, tables, calls_at, Lasts, lasts, on_entry, al
 use denote.Param.{copied}
 use denote.Param.Laws.{copied_laws}
 use Rattle.vecmap_base.specs.Pairs.{index_by, lookup_pair_by}
+use Rattle.vecmap_base.proofs.PairsLemmas.ByIndex.{lookup_pair_by_index}
 use Rattle.std.specs.contracts.option.Option as OP
 use Rattle.vecmap_map.proofs.LentLemmas.Parts.{then_runs, beside, by_parts, by_index, some_of, none_of, index_then, stays_at_none}
 use Rattle.vecmap_map.specs.Lends.{lends_value_at, lends_beside_index}
@@ -90,7 +91,7 @@ get_full_mut_spec 𝓤 𝓛 𝓜 𝓡 wired KT VT QT KL VL QL CQ E E-dict C C-di
     exec ! 𝓣.C 𝓣.Λ Ev (after 5 fn.body) (at_ret Ev Post) $ sets ! (of_opd ! (get ! refl)) refl (tt, (record { fits = lit< tt }, ((record { fits = told.1.1.0.1 }, (tt, (tt, tt))), tt))) $
     use1 𝓛 (‵ (Out.own_val (Some r) (live 1 (vcons w vnil) ∷ []))) (some_of 𝓛 Parts r w) $ returns ! (look_at ! 0 refl) $ free_all ! refl $
     nothing ! $ nothing ! $ fjoin ! $ nothing ! $ fjoin ! $
-    use0 𝓛 (raw (fact 𝓤 (Shown (Some r)))) (fact_i 𝓤 (Shown (Some r)) (emp 𝓤) (sym shown ∙ ap (option_and_then (slice_get m.now.entries)) at)) $
+    use0 𝓛 (raw (fact 𝓤 (Shown (Some r)))) (fact_i 𝓤 (Shown (Some r)) (emp 𝓤) (sym shown ∙ ap (option_and_then (slice_get m.now.entries)) at ∙ sym (lookup_pair_by_index test m.now.entries))) $
     use0 𝓛 (raw (fact 𝓤 (Within (Some r)))) (fact_i 𝓤 (Within (Some r)) (emp 𝓤) (subst (λ (j : ℕ). j < length m.now.entries) (sym same_index) here)) $ join ! $
     use0 𝓛 (raw (fact 𝓤 (Place (Some r)))) (fact_i 𝓤 (Place (Some r)) (emp 𝓤) (ap Some same_index ∙ at)) $ join ! $
     move ! (4 ∷ 0 ∷ []) $ join ! $ move ! (3 ∷ 1 ∷ 2 ∷ 0 ∷ []) $ by ! (leaves 𝓛 En hs c y (live 1 (vcons w vnil)) (Some r) (tt, (tt, tt)) (tt, (tt, tt))))))))))
@@ -105,7 +106,7 @@ get_full_mut_spec 𝓤 𝓛 𝓜 𝓡 wired KT VT QT KL VL QL CQ E E-dict C C-di
     fsplit3 ! $ drop ! $ name_done ! tt $ move ! (1 ∷ []) $ drop ! $
     use1 𝓛 (‵ (lends_beside_index K V m test None)) (stays_at_none 𝓛 K V m test) $ use0 𝓛 (‵ (Out.own_val None (live 0 vnil ∷ []))) (none_of 𝓛 Parts) $ returns ! (look_at ! 0 refl) $ free_all ! refl $
     nothing ! $ nothing ! $ fjoin ! $ nothing ! $ fjoin ! $
-    use0 𝓛 (raw (fact 𝓤 (Shown None))) (fact_i 𝓤 (Shown None) (emp 𝓤) (ap (option_and_then (slice_get m.now.entries)) at)) $
+    use0 𝓛 (raw (fact 𝓤 (Shown None))) (fact_i 𝓤 (Shown None) (emp 𝓤) (ap (option_and_then (slice_get m.now.entries)) at ∙ sym (lookup_pair_by_index test m.now.entries))) $
     use0 𝓛 (raw (fact 𝓤 (Within None))) (fact_i 𝓤 (Within None) (emp 𝓤) tt) $ join ! $
     use0 𝓛 (raw (fact 𝓤 (Place None))) (fact_i 𝓤 (Place None) (emp 𝓤) at) $ join ! $
     move ! (3 ∷ 0 ∷ []) $ join ! $ move ! (3 ∷ 1 ∷ 2 ∷ 0 ∷ []) $ by ! (leaves 𝓛 En hs c y (live 0 vnil) None (tt, (tt, tt)) (tt, (tt, tt)))))))))))))))))

@@ -13,6 +13,7 @@ use Steps.{fact, fact_i, ◌⊑◌, tables, calls_at, Lasts, lasts, on_entry, al
 use denote.Param.{copied}
 use denote.Param.Laws.{copied_laws}
 use Rattle.vecmap_base.specs.Pairs.{index_by, lookup_pair_by}
+use Rattle.vecmap_base.proofs.PairsLemmas.ByIndex.{lookup_pair_by_index}
 use Rattle.std.specs.contracts.option.Option as OP
 use Rattle.vecmap_map.proofs.LentLemmas.Both.{beside_index, both_index_then, by_both, stays_unlent}
 use Rattle.vecmap_map.proofs.LentLemmas.Parts.{then_runs, beside, beside_facts, by_parts, by_index, some_of, none_of}
@@ -110,7 +111,7 @@ get_full_mut2_spec 𝓤 𝓛 𝓜 𝓡 wired KT VT QT KL VL QL CQ E E-dict C C-d
     use2 𝓛 (‵ (Parts.own_val (i, r.0, r.1) (w ∷ []))) (beside_index (named 0) κs.0 K V 𝓛 i fits r) $
     use1 𝓛 (‵ (Out.own_val (Some (i, r.0, r.1)) (live 1 (vcons w vnil) ∷ []))) (some_of 𝓛 Parts (i, r.0, r.1) w) $ returns ! (look_at ! 0 refl) $ free_all ! refl $
     nothing ! $ nothing ! $ fjoin ! $ nothing ! $ fjoin ! $
-    use0 𝓛 (raw (fact 𝓤 (Shown (Some (i, r.0, r.1))))) (fact_i 𝓤 (Shown (Some (i, r.0, r.1))) (emp 𝓤) (sym (shown ∙ ap Some parts) ∙ ap (option_and_then (slice_get m.now.entries)) at)) $
+    use0 𝓛 (raw (fact 𝓤 (Shown (Some (i, r.0, r.1))))) (fact_i 𝓤 (Shown (Some (i, r.0, r.1))) (emp 𝓤) (sym (shown ∙ ap Some parts) ∙ ap (option_and_then (slice_get m.now.entries)) at ∙ sym (lookup_pair_by_index test m.now.entries))) $
     use0 𝓛 (raw (fact 𝓤 (Within (Some (i, r.0, r.1))))) (fact_i 𝓤 (Within (Some (i, r.0, r.1))) (emp 𝓤) here) $ join ! $
     use0 𝓛 (raw (fact 𝓤 (Place (Some (i, r.0, r.1))))) (fact_i 𝓤 (Place (Some (i, r.0, r.1))) (emp 𝓤) at) $ join ! $
     move ! (4 ∷ 0 ∷ []) $ join ! $ move ! (3 ∷ 1 ∷ 2 ∷ 0 ∷ []) $ by ! (leaves 𝓛 En hs c y (live 1 (vcons w vnil)) (Some (i, r.0, r.1)) (tt, (tt, tt)) (tt, (tt, tt))))))))))))))
@@ -125,7 +126,7 @@ get_full_mut2_spec 𝓤 𝓛 𝓜 𝓡 wired KT VT QT KL VL QL CQ E E-dict C C-d
     fsplit3 ! $ drop ! $ name_done ! tt $ move ! (1 ∷ []) $ drop ! $
     use1 𝓛 (‵ (lends_both_beside_index K V m test None)) (stays_unlent 𝓛 K V m test) $ use0 𝓛 (‵ (Out.own_val None (live 0 vnil ∷ []))) (none_of 𝓛 Parts) $ returns ! (look_at ! 0 refl) $ free_all ! refl $
     nothing ! $ nothing ! $ fjoin ! $ nothing ! $ fjoin ! $
-    use0 𝓛 (raw (fact 𝓤 (Shown None))) (fact_i 𝓤 (Shown None) (emp 𝓤) (ap (option_and_then (slice_get m.now.entries)) at)) $
+    use0 𝓛 (raw (fact 𝓤 (Shown None))) (fact_i 𝓤 (Shown None) (emp 𝓤) (ap (option_and_then (slice_get m.now.entries)) at ∙ sym (lookup_pair_by_index test m.now.entries))) $
     use0 𝓛 (raw (fact 𝓤 (Within None))) (fact_i 𝓤 (Within None) (emp 𝓤) tt) $ join ! $
     use0 𝓛 (raw (fact 𝓤 (Place None))) (fact_i 𝓤 (Place None) (emp 𝓤) at) $ join ! $
     move ! (3 ∷ 0 ∷ []) $ join ! $ move ! (3 ∷ 1 ∷ 2 ∷ 0 ∷ []) $ by ! (leaves 𝓛 En hs c y (live 0 vnil) None (tt, (tt, tt)) (tt, (tt, tt)))))))))))))))))

@@ -1,0 +1,101 @@
+-- The definitions on pairs that are by recursion, by the index of the first key that passes a test.
+use Rattle.std.specs.Map.{set_value}
+use Rattle.std.specs.Option.{option_map, option_map_or, option_and_then}
+use Rattle.std.proofs.Common.{◌≡◌, ℕ, suc, Bool, true, false, List, [], ◌∷◌, ◌++◌, Option, None, Some, if◌then◌else◌, refl, ap, ◌∙◌, sym, get_or, length, position, remove, set, slice_get, slice_set, swap_remove, ◌<◌}
+use Rattle.std.proofs.lemmas.Option.{slice_get-get_or}
+use Rattle.vecmap_base.specs.Items.{swap_without}
+use Rattle.vecmap_base.specs.Pairs.{index_by, index_of, lookup_by, lookup_pair_by, put, put_key, swap_without_by, value_at, with_pair, with_value, without_by}
+use Rattle.vecmap_base.proofs.IndexLemmas.{position_cons}
+use Rattle.vecmap_base.proofs.PairsLemmas.Values.{with_value_cons}
+
+module _ {K V : Type 0} (test : K → Bool) where
+  -- The index is the one of std's lists.
+  pub index_by_is : (l : List (K × V)) → index_by test l ≡ position (λ p. test p.0) l
+  index_by_is [] = refl
+  index_by_is (p ∷ ps) = ap (λ o. if test p.0 then Some 0 else option_map suc o) (index_by_is ps) ∙ sym (position_cons (λ q. test q.0) p ps)
+
+  -- A lookup finds the value at the index.
+  pub lookup_by_index : (l : List (K × V)) → lookup_by test l ≡ option_and_then (value_at l) (index_by test l)
+  lookup_by_index [] = refl
+  lookup_by_index (p ∷ ps) = ap (λ o. if test p.0 then Some p.1 else o) (lookup_by_index ps) ∙ sym (by (test p.0) (index_by test ps))
+    where
+      by : (b : Bool) (o : Option ℕ) → option_and_then (value_at (p ∷ ps)) (if b then Some 0 else option_map suc o) ≡ (if b then Some p.1 else option_and_then (value_at ps) o)
+      by true o = refl
+      by false None = refl
+      by false (Some i) = refl
+
+  -- A lookup of a pair finds the pair at the index.
+  pub lookup_pair_by_index : (l : List (K × V)) → lookup_pair_by test l ≡ option_and_then (slice_get l) (index_by test l)
+  lookup_pair_by_index [] = refl
+  lookup_pair_by_index (p ∷ ps) = ap (λ o. if test p.0 then Some p else o) (lookup_pair_by_index ps) ∙ sym (by (test p.0) (index_by test ps))
+    where
+      by : (b : Bool) (o : Option ℕ) → option_and_then (slice_get (p ∷ ps)) (if b then Some 0 else option_map suc o) ≡ (if b then Some p else option_and_then (slice_get ps) o)
+      by true o = refl
+      by false None = refl
+      by false (Some i) = refl
+
+  -- A removal is one at the index.
+  pub without_by_index : (l : List (K × V)) → without_by test l ≡ option_map_or (λ i. remove l i) (index_by test l) l
+  without_by_index [] = refl
+  without_by_index (p ∷ ps) = ap (λ r. if test p.0 then ps else p ∷ r) (without_by_index ps) ∙ sym (by (test p.0) (index_by test ps))
+    where
+      by : (b : Bool) (o : Option ℕ) → option_map_or (λ i. remove (p ∷ ps) i) (if b then Some 0 else option_map suc o) (p ∷ ps) ≡ (if b then ps else p ∷ option_map_or (λ i. remove ps i) o ps)
+      by true o = refl
+      by false None = refl
+      by false (Some i) = refl
+
+  -- A write by std's word is one at the index.
+  pub set_value_by_index : (l : List (K × V)) (v : V) → set_value test l v ≡ option_map_or (λ i. with_value l i v) (index_by test l) l
+  set_value_by_index [] v = refl
+  set_value_by_index (p ∷ ps) v = ap (λ r. if test p.0 then (p.0, v) ∷ ps else p ∷ r) (set_value_by_index ps v) ∙ sym (by (test p.0) (index_by test ps))
+    where
+      by : (b : Bool) (o : Option ℕ) → option_map_or (λ i. with_value (p ∷ ps) i v) (if b then Some 0 else option_map suc o) (p ∷ ps)
+          ≡ (if b then (p.0, v) ∷ ps else p ∷ option_map_or (λ i. with_value ps i v) o ps)
+      by true o = refl
+      by false None = refl
+      by false (Some i) = with_value_cons p ps i v
+
+module _ {K V : Type 0} (eq : K → K → Bool) where
+  -- An insertion writes the value at the index, or appends the pair.
+  pub put_by_index : (l : List (K × V)) (k : K) (v : V) → put eq l k v ≡ option_map_or (λ i. with_value l i v) (index_of eq l k) (l ++ (k, v) ∷ [])
+  put_by_index [] k v = refl
+  put_by_index (p ∷ ps) k v = ap (λ r. if eq k p.0 then (p.0, v) ∷ ps else p ∷ r) (put_by_index ps k v) ∙ sym (by (eq k p.0) (index_of eq ps k))
+    where
+      by : (b : Bool) (o : Option ℕ) → option_map_or (λ i. with_value (p ∷ ps) i v) (if b then Some 0 else option_map suc o) (p ∷ ps ++ (k, v) ∷ [])
+          ≡ (if b then (p.0, v) ∷ ps else p ∷ option_map_or (λ i. with_value ps i v) o (ps ++ (k, v) ∷ []))
+      by true o = refl
+      by false None = refl
+      by false (Some i) = with_value_cons p ps i v
+
+  -- An insertion with the new key writes the pair at the index, or appends it.
+  pub put_key_by_index : (l : List (K × V)) (k : K) (v : V) → put_key eq l k v ≡ option_map_or (λ i. with_pair l i k v) (index_of eq l k) (l ++ (k, v) ∷ [])
+  put_key_by_index [] k v = refl
+  put_key_by_index (p ∷ ps) k v = ap (λ r. if eq k p.0 then (k, v) ∷ ps else p ∷ r) (put_key_by_index ps k v) ∙ sym (by (eq k p.0) (index_of eq ps k))
+    where
+      by : (b : Bool) (o : Option ℕ) → option_map_or (λ i. with_pair (p ∷ ps) i k v) (if b then Some 0 else option_map suc o) (p ∷ ps ++ (k, v) ∷ [])
+          ≡ (if b then (k, v) ∷ ps else p ∷ option_map_or (λ i. with_pair ps i k v) o (ps ++ (k, v) ∷ []))
+      by true o = refl
+      by false None = refl
+      by false (Some i) = refl
+
+-- The same for a function that has found the index `i` and has read the pair `p` there.
+module _ {K V : Type 0} (test : K → Bool) (l : List (K × V)) (i : ℕ) (p : K × V) (found : Some i ≡ index_by test l) (within : i < length l) (is : p ≡ get_or l i p) where
+  read : slice_get l i ≡ Some p
+  read = slice_get-get_or l i p within ∙ ap Some (sym is)
+
+  pub pair_found : Some p ≡ lookup_pair_by test l
+  pair_found = sym (lookup_pair_by_index test l ∙ ap (option_and_then (slice_get l)) (sym found) ∙ read)
+
+  pub value_found : Some p.1 ≡ lookup_by test l
+  value_found = sym (lookup_by_index test l ∙ ap (option_and_then (value_at l)) (sym found) ∙ ap (option_map (λ q. q.1)) read)
+
+  pub swapped_out : swap_remove l i p ≡ swap_without_by test l
+  swapped_out = sym (ap (λ o. option_map_or (λ j. swap_without l j) o l) (sym found) ∙ ap (λ o. option_map_or (λ q. swap_remove l i q) o l) read)
+
+module _ {K V : Type 0} (eq : K → K → Bool) (l : List (K × V)) (k : K) (v : V) (i : ℕ) (p : K × V) (found : Some i ≡ index_of eq l k) (within : i < length l) (is : p ≡ get_or l i p) where
+  pub value_written : set l i (p.0, v) ≡ put eq l k v
+  value_written =
+      sym (put_by_index eq l k v ∙ ap (λ o. option_map_or (λ j. with_value l j v) o (l ++ (k, v) ∷ [])) (sym found) ∙ ap (λ o. option_map_or (λ q. slice_set l i (q.0, v)) o l) (read (eq k) l i p found within is))
+
+-- The definitions by the index, for proofs of functions that find the index first.
+pub ruleset by_index = (lookup_by_index, lookup_pair_by_index, without_by_index, set_value_by_index, put_by_index, put_key_by_index)

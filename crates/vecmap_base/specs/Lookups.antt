@@ -1,0 +1,18 @@
+-- What lookups find after a change of a list of pairs. `eq` is the `==` of keys.
+use Rattle.std.specs.Prelude.{◌≡◌, Bool, List, Option, cond, false}
+use Rattle.std.specs.Map.{KeepsOthers}
+use Rattle.vecmap_base.specs.Pairs.{HasDistinctKeys, lookup, lookup_by}
+
+module _ {K V : Type 0} (eq : K → K → Bool) where
+  -- Example: from `[(1,a)]` to `[(1,a), (2,b)]` for the key 2: b.
+  -- The list `m` has `w` at the key that passes the test (`None`: it is absent), and at each other key what `l` has.
+  pub record UpdatesBy (test : K → Bool) (l m : List (K × V)) (w : Option V) : Type 0 where
+    pub lookups : (q : K) → lookup eq m q ≡ cond (test q) w (lookup eq l q)
+    pub own : lookup_by test m ≡ w
+    pub others : (q : K) → test q ≡ false → lookup eq m q ≡ lookup eq l q
+    pub queries : KeepsOthers eq test l m
+    pub distinct : HasDistinctKeys eq l → HasDistinctKeys eq m
+
+  -- The list `m` has `w` at the key `k`, and at each other key what `l` has.
+  abbrev pub Updates : List (K × V) → K → List (K × V) → Option V → Type 0
+  Updates l k m w = UpdatesBy (eq k) l m w

@@ -1,0 +1,6 @@
+use Rattle.std.proofs.Common.{arith}
+use Rattle.vecmap_base.proofs.PairsLemmas.ByIndex.{value_found}
+use Rattle.vecmap_map.proofs.VecMap.get.Goals as goal
+
+pub returns : goal.returns
+returns g c = record { value = grind (arith, value_found (g.Q.Equivalent.equivalent c.args.query) c.args.self.now.entries c.in_ok-index.index c.index.result.now) }

@@ -1,0 +1,9 @@
+use Rattle.std.proofs.Common.{arith}
+use Rattle.vecmap_base.proofs.PairsLemmas.ByIndex.{pair_found, swapped_out}
+use Rattle.vecmap_map.proofs.VecMap.swap_remove_entry.Goals as goal
+
+pub returns-clause-pair : goal.returns-clause-pair
+returns-clause-pair g c = grind (arith, pair_found (g.Q.Equivalent.equivalent c.args.query) c.args.self.now.entries c.in_ok-index.index c.swap_remove.result)
+
+pub returns-clause-entries : goal.returns-clause-entries
+returns-clause-entries g c = grind (arith, swapped_out (g.Q.Equivalent.equivalent c.args.query) c.args.self.now.entries c.in_ok-index.index c.swap_remove.result)

@@ -1,0 +1,6 @@
+use Rattle.std.proofs.Common.{arith}
+use Rattle.vecmap_base.proofs.PairsLemmas.ByIndex.{value_found}
+use Rattle.vecmap_map.proofs.indexing.VecMapIndexRef.index.Goals as goal
+
+pub returns : goal.returns
+returns g c = grind (arith, value_found (g.K.PartialEq.eq c.args.key.now) c.args.self.now.entries c.present_index.result c.index.result.now)
