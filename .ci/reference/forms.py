@@ -199,8 +199,10 @@ def topic_links(text, kind):
     """Returns the page of the topics of a map or set in which the name of each call and type is a link."""
     home = "".join(map(read, sources(f"vecmap_{kind}")))
     calls = set(re.findall(r"^    pub fn (\w+)", home, re.MULTILINE))
+    traits = re.findall(r"^pub trait (\w+)(.*?)^\}", home, re.MULTILINE | re.DOTALL)
     types = set(re.findall(r"\w+", "".join(group for _, group in PASSED_ON.findall(text))))
     made = {it: f"[`{it}`]" for it in types} | {it: f"[`{it}`](Vec{kind.title()}::{it})" for it in calls}
+    made |= {it: f"[`{it}`]({trait}::{it})" for trait, body in traits for it in re.findall(r"^    fn (\w+)", body, re.M)}
     return re.sub(r"`(\w+)`", lambda it: made.get(it[1], it[0]), text)
 
 
