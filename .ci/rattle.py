@@ -6,12 +6,15 @@ first line.
 
 import collections
 import difflib
-import functools
 import glob
 import itertools
 import os
 import re
 import sys
+
+sys.path.append(os.path.join(os.path.dirname(os.path.abspath(__file__)), "../crates/vecmap"))
+
+from laws_for import public_paths  # noqa: E402
 
 # The sources, and the files of definitions and of proofs.
 TEXTS = ("crates/**/*.rt", "crates/**/*.antt")
@@ -177,30 +180,6 @@ def functions(path):
 def tests():
     """Returns all tests."""
     return [it for path in sources() for it in functions(path) if it.is_test()]
-
-
-@functools.cache
-def modules():
-    """Returns the modules of the libraries and of the laws, each by its path with its source."""
-    paths = {path: re.sub(r"^crates/|src/|lib\.rt$|\.rt$", "", path) for path in sources(*LIBRARIES, LAWS)}
-    return {name.strip("/").replace("/", "::"): read(path) for path, name in paths.items()}
-
-
-@functools.cache
-def public_paths(item):
-    """Returns the paths by which callers may name a module or an item that is public in its module."""
-    module, _, name = item.rpartition("::")
-    if not module:
-        return [item]
-    is_private = item in modules() and not re.search(rf"^pub mod {name};", modules()[module], re.MULTILINE)
-    found = [] if is_private else [f"{path}::{name}" for path in public_paths(module)]
-    for home, text in modules().items():
-        crate = home.split("::")[0]
-        for alias, path in imports("\n".join(re.findall(r"^pub use [^;]*;", text, re.MULTILINE))).items():
-            whole = f"{home}::{path}" if path.split("::")[0] not in (*modules(), "crate") else path
-            whole = re.sub("^crate::", f"{crate}::", whole)
-            found += [f"{it}::{alias}" for it in public_paths(home)] if whole == item else []
-    return sorted(set(found))
 
 
 def laws():

@@ -13,7 +13,8 @@ import shutil
 import subprocess
 
 from made import DEFINED
-from rattle import LAWS, files, modules, public_paths, read, sources
+from rattle import LAWS, files, read, sources
+from laws_for import modules, public_paths  # on the path by `rattle`
 
 # The crate that stands for std.
 STD = "rattle_std"
@@ -78,7 +79,7 @@ def named(text, own=()):
 def members_of_traits():
     """Returns the trait of each member of a public trait, by each name for it in a clause, such as `Q.equivalent`."""
     found = {"eq": "std::cmp::PartialEq::eq"}
-    for module, text in modules().items():
+    for module, text in ((it, text) for it, text in modules().items() if it.split("::")[0] in crates()):
         for trait in re.finditer(r"^pub trait (\w+)", text, re.MULTILINE):
             body = text[trait.end() : text.index("\n}", trait.start())]
             path = next(iter(public_paths(f"{module}::{trait[1]}")), "")
