@@ -85,6 +85,8 @@ def main(words):
             if all(any(map(test.fullmatch, names)) for test in tests):
                 found.append((len(text), f"{path}  {label}\n    {text}"))
     print(*(text for _, text in sorted(found)), f"{len(found)} clauses", sep="\n")
+    if "vecmap_laws" not in modules():
+        print("vecmap_laws, which has most laws, is not here: `./add-to FOLDER vecmap_laws` copies it")
 
 
 if __name__ == "__main__":
