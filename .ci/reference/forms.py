@@ -7,6 +7,7 @@ becomes a constant with its comment and its text.
 
 import collections
 import functools
+import itertools
 import os
 import re
 import shutil
@@ -203,7 +204,8 @@ def topic_links(text, kind):
     traits = re.findall(r"^pub trait (\w+)(.*?)^\}", home, re.MULTILINE | re.DOTALL)
     types = set(re.findall(r"\w+", "".join(group for _, group in PASSED_ON.findall(text))))
     made = {it: f"[`{it}`]" for it in types} | {it: f"[`{it}`](Vec{kind.title()}::{it})" for it in calls}
-    made |= {it: f"[`{it}`]({trait}::{it})" for trait, body in traits for it in re.findall(r"^    fn (\w+)", body, re.M)}
+    methods = ((trait, it) for trait, body in traits for it in re.findall(r"^    fn (\w+)", body, re.MULTILINE))
+    made |= {it: f"[`{it}`]({trait}::{it})" for trait, it in methods}
     return re.sub(r"`(\w+)`", lambda it: made.get(it[1], it[0]), text)
 
 
@@ -249,36 +251,37 @@ def constant(name, comment, text, path, names, crate):
     return doc("\n\n".join(parts)) + f"pub const r#{name}: () = ();"
 
 
+def specs(crate):
+    """Returns the files of the definitions of a crate. Those in `formers/` are for the kit, which looks for them."""
+    return [it for it in files(f"crates/{crate}/specs/**/*.antt") if "/formers" not in it]
+
+
+def module_of(path):
+    """Returns the module of a file of definitions, by the path that Rust has for it."""
+    return re.sub(r"^crates/|\.antt$|/Lib\.antt$", "", path).replace("/", "::")
+
+
 def passed_on(crate):
     """Yields the modules of definitions that a crate passes on, each by its path there and by its own."""
     for home, name, alias in PASSED_DEFINITIONS.findall(read(f"crates/{crate}/specs/Lib.antt")):
         yield f"{crate}::specs::{alias or name}", f"{home}::specs::{name}"
 
 
-def root_of_definitions(crate):
-    """Returns the Rust form of the `Lib.antt` of a crate's definitions, line by line."""
-    own = {os.path.basename(path)[:-5] for path in specs(crate)}
-    text = PASSED_DEFINITIONS.sub(
-        lambda it: f"pub use {it[1]}::specs::{it[2]}" + (f" as {it[3]};" if it[3] else ";"),
-        read(f"crates/{crate}/specs/Lib.antt"),
-    )
-    text = re.sub(r"^--.*", "", text, flags=re.MULTILINE)
-    text = re.sub(
-        r"^pub mod (\w+)$", lambda it: f'#[path = "{it[1]}.antt"] {it[0]};' * (it[1] in own), text, flags=re.MULTILINE
-    )
-    return "#![doc = \"The definitions that contracts name.\"] " + text
-
-
-def definition_form(path, crate, module):
+def definition_form(path, crate):
     """Returns the Rust form of a file of definitions, line by line."""
-    text, found = read(path), definitions(path)
-    names = named(text, {it[1]: f"{module}::{it[1]}" for it in found})
-    lines, head = [""] * (text.count("\n") + 1), re.match(r"(?:-- .*\n)*", text)[0]
-    lines[0] = "#!" + doc(re.sub(r"^-- ", "", head, flags=re.MULTILINE))[1:] if head else ""
-    path = next((public for public, it in passed_on("vecmap") if it == module), module)
+    module, found, below = module_of(path), definitions(path), specs(crate)
+    pass_on = lambda it: f"@use {it[1]}::specs::{it[2]} as {it[3] or it[2]};"
+    lines, folder = PASSED_DEFINITIONS.sub(pass_on, read(path)).split("\n"), re.sub(r"(?:/Lib)?\.antt$", "", path)
+    about = [it[3:] for it in itertools.takewhile(lambda it: it.startswith("-- "), lines)]
+    for number, line in enumerate(lines):
+        name = line.removeprefix("pub mod ") if line.startswith("pub mod ") else ""
+        made = f'#[path = "{os.path.relpath(f"{folder}/{name}.antt", os.path.dirname(path))}"] {line};'
+        lines[number] = f"pub {line[1:]}" if line[:1] == "@" else made if f"{folder}/{name}.antt" in below else ""
+    names = named(read(path), {it[1]: f"{module}::{it[1]}" for it in found})
+    public = next((public for public, it in passed_on("vecmap") if it == module), module)
     for number, name, comment, block in found:
-        lines[number] += constant(name, comment, block, path, names, crate)
-    return "\n".join(lines)
+        lines[number] += constant(name, comment, block, public, names, crate)
+    return "#!" + doc("\n".join(about or ["The definitions that contracts name."]))[1:] + "\n".join(lines)
 
 
 @functools.cache
@@ -311,11 +314,6 @@ def words_of_std():
                 if found:
                     made[place.removeprefix("Rattle.std.specs.").replace(".", "::")][name] = found
     return made
-
-
-def specs(crate):
-    """Returns the files of the definitions of a crate. Those in `formers/` are for the kit, which looks for them."""
-    return [it for it in files(f"crates/{crate}/specs/*.antt") if not it.endswith("/Lib.antt") and definitions(it)]
 
 
 def module_tree(words, within=""):

@@ -13,8 +13,8 @@ import urllib.parse
 from made import SENTENCE, listed, opening
 from rattle import NAME, functions, laws, read, sources, write
 from reference.forms import (
-    FILES, KNOWN, PASSED_ON, STD, crates, definition_form, definitions, imported, module_tree, passed_on, passing_on,
-    root_of_definitions, rust_of, specs, words_of_std,
+    FILES, KNOWN, PASSED_ON, STD, crates, definition_form, definitions, imported, module_of, module_tree, passed_on,
+    passing_on, rust_of, specs, words_of_std,
 )  # fmt: skip
 
 HERE = os.path.dirname(os.path.abspath(__file__))
@@ -83,11 +83,8 @@ def write_forms(crate, work):
     for made, text in texts.items():
         write(f"{work}/{made}", PASSED_ON.sub(passing_on(crate, named_so[made]), text))
     for path in specs(crate):
-        FILES[made := f"{crate}/specs/{os.path.basename(path)}"] = path
-        module = made.removesuffix(".antt").replace("/", "::")
-        write(f"{work}/{made}", definition_form(path, crate, module))
-    FILES[made := f"{crate}/specs/Lib.antt"] = f"crates/{made}"
-    write(f"{work}/{made}", root_of_definitions(crate))
+        FILES[path.removeprefix("crates/")] = path
+        write(f"{work}/{path.removeprefix('crates/')}", definition_form(path, crate))
     with open(f"{work}/{crate}/lib.rt", "a", encoding="utf-8") as file:
         file.write('#[path = "specs/Lib.antt"] pub mod specs;\n')
 
@@ -184,7 +181,7 @@ def lost_faults(out, found):
         for path in specs(crate):
             for _, name, *_ in definitions(path):
                 found["definitions"] += 1
-                if f"{out}/{crate}/specs/{os.path.basename(path)[:-5]}/constant.{name}.html" not in pages:
+                if f"{out}/{module_of(path).replace('::', '/')}/constant.{name}.html" not in pages:
                     yield f"{path}: {name} is not on the site"
 
 
@@ -200,8 +197,7 @@ def make(work):
         KNOWN.update((f"std::specs::{module}::{name}", "".join(it[0][-1:])) for name, it in found.items())
     for crate in crates():
         for path in specs(crate):
-            module = f"{crate}::specs::{os.path.basename(path)[:-5]}"
-            KNOWN.update((f"{module}::{it[1]}", "".join(it[2][-1:])) for it in definitions(path))
+            KNOWN.update((f"{module_of(path)}::{it[1]}", "".join(it[2][-1:])) for it in definitions(path))
         KNOWN.update((f"{public}::{name.split('::')[-1]}", KNOWN[name])
                      for public, own in passed_on(crate) for name in list(KNOWN) if name.startswith(f"{own}::"))
     if faults := list(name_faults()):
