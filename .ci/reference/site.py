@@ -11,7 +11,7 @@ import tempfile
 import urllib.parse
 
 from made import SENTENCE, listed, opening
-from rattle import NAME, functions, laws, read, sources, write
+from rattle import LAWS, LIBRARIES, NAME, functions, laws, read, sources, write
 from reference.forms import (
     FILES, KNOWN, PASSED_ON, STD, crates, definition_form, definitions, imported, module_of, module_tree, passed_on,
     passing_on, rust_of, specs, words_of_std,
@@ -89,17 +89,25 @@ def write_forms(crate, work):
         file.write('#[path = "specs/Lib.antt"] pub mod specs;\n')
 
 
+def replaced(page, start, end, text):
+    """Writes a text to a page in place of what is between two others, with these."""
+    head, found, rest = read(page).partition(start)
+    if not found or end not in rest:
+        raise SystemExit(f"reference: this rustdoc writes other HTML than 1.95 to 1.97 do: no {start} in {page}")
+    write(page, head + text + rest.partition(end)[2])
+
+
 def true_sources(out):
     """Writes the true text of each source to its page."""
     for made, path in FILES.items():
-        page, lines = f"{out}/src/{made}.html", []
+        lines = []
         for number, line in enumerate(read(path).splitlines(), 1):
             kind = re.match(r" *(///|//!|//|--)", line)
             text = html.escape(line, quote=False)
             text = f'<span class="{"doccomment" if len(kind[1]) > 2 else "comment"}">{text}</span>' if kind else text
             lines.append(f"<a href=#{number} id={number} data-nosnippet>{number}</a>{text}\n")
-        head, _, rest = read(page).partition('<pre class="rust"><code>')
-        write(page, f'{head}<pre class="rust"><code>{"".join(lines)}</code></pre>{rest.partition("</code></pre>")[2]}')
+        start, end = '<pre class="rust"><code>', "</code></pre>"
+        replaced(f"{out}/src/{made}.html", start, end, start + "".join(lines) + end)
 
 
 def named_in(out):
@@ -130,13 +138,12 @@ def named_in(out):
 
 def write_front(out):
     """Writes what the site has, and how to search it, to the front page, and what each crate is."""
-    about = {it: SENTENCE.match(opening(f"crates/{it}/src/lib.rt"))[0] for it in reversed(crates())}
+    about = {it: SENTENCE.match(opening(f"crates/{it}/src/lib.rt"))[0] for it in [*reversed(LIBRARIES), LAWS]}
     about[STD] = "What Rattle's std has in another form than Rust's, and the definitions of std that contracts name."
     rows = "".join(f'<li><a href="{it}/index.html">{it}</a>: {html.escape(text)}</li>' for it, text in about.items())
-    text = re.sub("<h1>.*?</h1>", "<h1>Reference of vecmap</h1>", read(f"{out}/index.html"), count=1)
-    head, rest = text.split('<ul class="all-items">')
     front = re.sub(r"`([^`]+)`", r"<code>\1</code>", f'{read(f"{HERE}/front.html")}<ul>{rows}</ul>')
-    write(f"{out}/index.html", head + front + rest.partition("</ul>")[2])
+    replaced(f"{out}/index.html", "<h1>", "</h1>", "<h1>Reference of vecmap</h1>")
+    replaced(f"{out}/index.html", '<ul class="all-items">', "</ul>", front)
 
 
 def plain(text):
