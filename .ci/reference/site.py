@@ -197,9 +197,9 @@ def pages_of(pattern):
     return sorted(glob.glob(pattern, recursive=True))
 
 
-def make(work):
-    """Makes the site in a folder `doc`. Returns the faults, and the numbers of what is on it."""
-    out, words = f"{work}/doc", words_of_std()
+def make(work, out):
+    """Makes the forms in one folder and the site in another. Returns the faults, and the numbers of what is on it."""
+    words = words_of_std()
     for module, found in words.items():
         KNOWN.update((f"std::specs::{module}::{name}", "".join(it[0][-1:])) for name, it in found.items())
     for crate in crates():
@@ -223,18 +223,20 @@ def make(work):
 
 def main(folder):
     """Makes the site in a folder that is empty, or has an older one. Returns the status."""
-    if why := missing_tool():
+    why, made = missing_tool(), f"{folder}.made"
+    if os.path.isdir(folder) and os.listdir(folder) and not os.path.isdir(f"{folder}/static.files"):
+        why = f"{folder} has something else than a reference"
+    if why:
         print(f"reference: {why}")
         return 1
-    if os.path.isdir(folder) and os.listdir(folder) and not os.path.isdir(f"{folder}/static.files"):
-        print(f"reference: {folder} has something else than a reference")
-        return 1
-    os.makedirs(os.path.dirname(folder), exist_ok=True)
-    with tempfile.TemporaryDirectory(dir=os.path.dirname(folder)) as work:
-        faults, found = make(work)
+    try:
+        with tempfile.TemporaryDirectory() as work:
+            faults, found = make(work, made)
         if not faults:
             shutil.rmtree(folder, ignore_errors=True)
-            os.rename(f"{work}/doc", folder)
+            os.rename(made, folder)
+    finally:
+        shutil.rmtree(made, ignore_errors=True)
     numbers = ", ".join(f"{number} {it}" for it, number in found.items())
     print(*faults or [f"reference: {numbers}", f"Open {folder}/index.html"], sep="\n")
     return 1 if faults else 0
