@@ -128,11 +128,12 @@ def named_in(out):
                 words, place = urllib.parse.unquote(found[2]), f"#{found[1]}{found[2]}"
                 name = words.replace("-for-", " for ") if found[1] == "impl-" else f"{item}::{words}"
                 name = re.sub(r"-\d+$", "", name).replace("+", " ")
-    for path in [*pages_of(f"{out}/*/specs/**/*.html"), *pages_of(f"{out}/static.files/main-*.js")]:
+    for path in [*pages_of(f"{out}/*/specs/**/*.html"), *pages_of(f"{out}/static.files/[ms]*.js")]:
         links = [(name, os.path.relpath(it, os.path.dirname(path))) for name, it in users[key(path)].items()]
         links = "".join(f'<li><a href="{it}"><code>{html.escape(name)}</code></a></li>' for name, it in links)
         section = f'<h2 class="section-header">Named in</h2><ul class="named-in">{links}</ul>' if links else ""
-        text = re.sub(r'((?<=<h1>)|(?<=[>"]))Constant(?=[ s])', "Definition", read(path))
+        text = re.sub(r'(?:(?<=<h1>)|(?<=[>"]))Constant(?=[ s])', "Definition", read(path))
+        text = text.replace('"assoc type","constant"', '"assoc type","definition"')
         write(path, text.replace("</section></div></main>", f"{section}</section></div></main>"))
 
 
