@@ -26,7 +26,7 @@ ITEM = re.compile(rf"( *)(pub(?:\(\w+\))? )?(?:const |unsafe )*({KINDS})(?=[ <])
 CLAUSE = re.compile(r"(requires|ensures)\*? (?:(\w+) )?\{")
 MEMBER = re.compile(r"^    ghost (\w+) = \{", re.MULTILINE)
 USE = re.compile(r"^(?:pub )?use ([^;]+);", re.MULTILINE)
-DEFINITION = re.compile(r"^ *(?:abbrev pub|pub record|pub data) (\S+)", re.MULTILINE)
+DEFINITION = re.compile(r"^ *(?:abbrev pub|unfoldable pub|pub record|pub data) (\S+)", re.MULTILINE)
 NAME = re.compile(r"[A-Za-z_][\w']*")
 # A clause of a contract. A ghost member of an impl is one, too.
 Clause = collections.namedtuple("Clause", "kind label formula")
