@@ -71,35 +71,6 @@ impl<'a, K, V> Entry<'a, K, V> {
     ghost use Rattle.vecmap_map.specs.Entry.{IsInserted, LeavesSame, RefusesMade, entries_with, entry_index, entry_key, entry_map, entry_index_of, entry_ref, entry_value};
     ghost use Rattle.vecmap_map.specs.EntryLends.{entry_lends, entry_lends_or_stays, entry_passes};
 
-    /// Creates the entry of `key` in `map`.
-    ///
-    /// [`VecMap::entry`] is the usual call, and calls it. This one is for callers that create an entry by its type, as
-    /// they create iterators by `over`.
-    ///
-    /// # Complexity
-    ///
-    /// At most `len` comparisons; the calls of the entry make none. Does not allocate.
-    ///
-    /// # Examples
-    ///
-    /// ```
-    /// let mut map = vecmap!(alloc; 'a' => 1, 'b' => 2);
-    /// Entry::over(&mut map, 'b').index() // 1
-    /// ```
-    pub fn over(map: &'a mut VecMap<K, V>, key: K) -> Entry<'a, K, V>
-    where
-        K: Eq,
-        ensures same_map { (entry_ref result).ghost_name ≡ map.entry.ghost_name }
-        ensures unchanged { entry_map result ≡ map.old }
-        ensures key { entry_key result ≡ key }
-        ensures index { entry_index_of result ≡ index_of K.eq map.old.entries key }
-    {
-        match map.get_index_of(&key) {
-            Some(index) => Entry::Occupied(OccupiedEntry { map, key, index }),
-            None => Entry::Vacant(VacantEntry { map, key }),
-        }
-    }
-
     /// Inserts `value` if the key has no value, and returns a mutable reference to the value of the key.
     ///
     /// An existing value stays, and `value` and the passed key are dropped. Otherwise the passed key and `value` are
@@ -400,6 +371,35 @@ impl<'a, K, V> Entry<'a, K, V> {
         match self {
             Entry::Occupied(entry) => entry.into_inserted(value),
             Entry::Vacant(entry) => entry.insert_entry(value),
+        }
+    }
+
+    /// Creates the entry of `key` in `map`.
+    ///
+    /// [`VecMap::entry`] is the usual call, and calls it. This one is for callers that create an entry by its type, as
+    /// they create iterators by `over`.
+    ///
+    /// # Complexity
+    ///
+    /// At most `len` comparisons; the calls of the entry make none. Does not allocate.
+    ///
+    /// # Examples
+    ///
+    /// ```
+    /// let mut map = vecmap!(alloc; 'a' => 1, 'b' => 2);
+    /// Entry::over(&mut map, 'b').index() // 1
+    /// ```
+    pub fn over(map: &'a mut VecMap<K, V>, key: K) -> Entry<'a, K, V>
+    where
+        K: Eq,
+        ensures same_map { (entry_ref result).ghost_name ≡ map.entry.ghost_name }
+        ensures unchanged { entry_map result ≡ map.old }
+        ensures key { entry_key result ≡ key }
+        ensures index { entry_index_of result ≡ index_of K.eq map.old.entries key }
+    {
+        match map.get_index_of(&key) {
+            Some(index) => Entry::Occupied(OccupiedEntry { map, key, index }),
+            None => Entry::Vacant(VacantEntry { map, key }),
         }
     }
 }
