@@ -6,3 +6,6 @@ pub mod Indices
 pub mod Puts
 pub mod Recursion
 pub mod Values
+pub mod Distinct
+pub mod Order
+pub mod Updates

@@ -1,6 +1,6 @@
 -- What lookups find after a change of a list of pairs. `eq` is the `==` of keys.
 use Rattle.std.specs.Prelude.{◌≡◌, Bool, List, Option, cond, false}
-use Rattle.std.specs.Map.{KeepsOthers}
+use Rattle.std.specs.Map.{IsKeyTest, KeepsOthers}
 use Rattle.vecmap_base.specs.Pairs.{HasDistinctKeys, lookup, lookup_by}
 
 module _ {K V : Type 0} (eq : K → K → Bool) where
@@ -16,3 +16,10 @@ module _ {K V : Type 0} (eq : K → K → Bool) where
   -- The list `m` has `w` at the key `k`, and at each other key what `l` has.
   abbrev pub Updates : List (K × V) → K → List (K × V) → Option V → Type 0
   Updates l k m w = UpdatesBy (eq k) l m w
+
+  -- Example: from `[(1,a), (2,b)]` to `[(2,b), (1,a)]`.
+  -- Each key, and each query that matches a key and its equals alone, finds in the list `m` what it finds in `l`.
+  pub record KeepsLookups (l m : List (K × V)) : Type 0 where
+    pub lookups : (q : K) → lookup eq m q ≡ lookup eq l q
+    pub queries : (test : K → Bool) → IsKeyTest eq test → lookup_by test m ≡ lookup_by test l
+    pub distinct : HasDistinctKeys eq m

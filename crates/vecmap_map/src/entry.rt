@@ -7,7 +7,8 @@ ghost use Rattle.std.specs.Borrow.{Bor, MutBor, sem};
 ghost use Rattle.std.specs.Fn.{FnOnceReturnsAt};
 ghost use Rattle.std.specs.Map.Calls.{ModifiesValue};
 ghost use Rattle.std.specs.Option.{UnwrapsOrElse, option_map_or};
-ghost use Rattle.vecmap_base.specs.Pairs.{index_of};
+ghost use Rattle.vecmap_base.specs.Lookups.{Updates};
+ghost use Rattle.vecmap_base.specs.Pairs.{index_of, put};
 ghost use Rattle.vecmap_map.specs.Contents.{IsFull};
 
 mod occupied;
@@ -38,7 +39,7 @@ pub enum Entry<'a, K, V> {
 }
 
 impl<K, V> VecMap<K, V> {
-    ghost use Rattle.vecmap_map.specs.Entry.{entry_key, entry_map, entry_index_of, entry_ref};
+    ghost use Rattle.vecmap_map.specs.Entry.{entries_with, entry_key, entry_map, entry_index_of, entry_ref};
 
     /// Returns the entry of `key`: occupied if an equal key is present, and vacant otherwise.
     ///
@@ -62,6 +63,8 @@ impl<K, V> VecMap<K, V> {
         ensures unchanged { entry_map result ≡ self.old }
         ensures key { entry_key result ≡ key }
         ensures index { entry_index_of result ≡ index_of K.eq self.old.entries key }
+        ensures put { (v : V) → entries_with result v ≡ put K.eq self.old.entries key v }
+        ensures updates { (v : V) → Updates K.eq self.old.entries key (entries_with result v) (Some v) }
     {
         Entry::over(self, key)
     }

@@ -3,7 +3,9 @@ ghost use Rattle.std.specs.Prelude.{◌≡◌, ◌-◌, ◌<◌, ◌≤◌, IfOk
 ghost use Rattle.vecmap_base.specs.Items.{swap_without};
 ghost use Rattle.vecmap_base.specs.Asked.{CallableOnEach, CallsAtPair, TakesPairAt};
 ghost use Rattle.vecmap_base.specs.Kept.{Kept};
-ghost use Rattle.vecmap_base.specs.Pairs.{has_text, lookup_by, lookup_pair_by, swap_without_by, without_by};
+ghost use Rattle.std.specs.Prelude.{None, string_eq};
+ghost use Rattle.vecmap_base.specs.Lookups.{UpdatesBy};
+ghost use Rattle.vecmap_base.specs.Pairs.{HasDistinctKeys, has_text, lookup_by, lookup_pair_by, swap_without_by, without_by};
 
 use crate::VecMap;
 use std::alloc::AllocError;
@@ -175,6 +177,8 @@ impl<K, V> VecMap<K, V> {
         K: Eq + Drop,
         ensures value { result ≡ lookup_by (Q.equivalent query) self.old.entries }
         ensures entries { self.new.entries ≡ without_by (Q.equivalent query) self.old.entries }
+        ensures updates { HasDistinctKeys K.eq self.old.entries → UpdatesBy K.eq
+            (Q.equivalent query) self.old.entries self.new.entries None }
         ensures capacity { self.new.capacity ≡ self.old.capacity }
     {
         let (_key, value) = self.remove_entry(query)?;
@@ -196,6 +200,8 @@ impl<K, V> VecMap<K, V> {
         K: Eq,
         ensures pair { result ≡ lookup_pair_by (Q.equivalent query) self.old.entries }
         ensures entries { self.new.entries ≡ without_by (Q.equivalent query) self.old.entries }
+        ensures updates { HasDistinctKeys K.eq self.old.entries → UpdatesBy K.eq
+            (Q.equivalent query) self.old.entries self.new.entries None }
         ensures capacity { self.new.capacity ≡ self.old.capacity }
     {
         let index = find_equivalent(&self.pairs, query)?;
@@ -252,6 +258,8 @@ impl<K, V> VecMap<K, V> {
         K: Eq + Drop,
         ensures value { result ≡ lookup_by (Q.equivalent query) self.old.entries }
         ensures entries { self.new.entries ≡ swap_without_by (Q.equivalent query) self.old.entries }
+        ensures updates { HasDistinctKeys K.eq self.old.entries → UpdatesBy K.eq
+            (Q.equivalent query) self.old.entries self.new.entries None }
         ensures capacity { self.new.capacity ≡ self.old.capacity }
     {
         let (_key, value) = self.swap_remove_entry(query)?;
@@ -273,6 +281,8 @@ impl<K, V> VecMap<K, V> {
         K: Eq,
         ensures pair { result ≡ lookup_pair_by (Q.equivalent query) self.old.entries }
         ensures entries { self.new.entries ≡ swap_without_by (Q.equivalent query) self.old.entries }
+        ensures updates { HasDistinctKeys K.eq self.old.entries → UpdatesBy K.eq
+            (Q.equivalent query) self.old.entries self.new.entries None }
         ensures capacity { self.new.capacity ≡ self.old.capacity }
     {
         let index = find_equivalent(&self.pairs, query)?;
@@ -319,6 +329,8 @@ impl<V> VecMap<String, V> {
     pub fn remove_str(&mut self, text: &str) -> Option<V>
         ensures value { result ≡ lookup_by (has_text text.now) self.old.entries }
         ensures entries { self.new.entries ≡ without_by (has_text text.now) self.old.entries }
+        ensures updates { HasDistinctKeys string_eq self.old.entries → UpdatesBy string_eq
+            (has_text text.now) self.old.entries self.new.entries None }
         ensures capacity { self.new.capacity ≡ self.old.capacity }
     {
         self.remove(text)
