@@ -9,3 +9,4 @@ pub mod Values
 pub mod Distinct
 pub mod Order
 pub mod Updates
+pub mod Parts

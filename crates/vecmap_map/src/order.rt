@@ -1,10 +1,10 @@
 //! Reversing, swapping and sorting the pairs.
-ghost use Rattle.std.specs.Prelude.{◌≡◌, ◌<◌, ◌≤◌, Bool, IsOk, OnErr, OnOk, length, reverse, swap};
+ghost use Rattle.std.specs.Prelude.{◌≡◌, ◌<◌, ◌≤◌, Bool, IsOk, OnErr, OnOk, is_some, length, reverse, swap};
 ghost use Rattle.std.specs.List.Sorted.{IsPermutation, IsSortedByKey, IsStableByKey};
 ghost use Rattle.std.specs.Cmp.{IsEquivalence};
 ghost use Rattle.std.specs.Ordering.{is_lt};
 ghost use Rattle.vecmap_base.specs.Lookups.{KeepsLookups};
-ghost use Rattle.vecmap_base.specs.Pairs.{HasDistinctKeys};
+ghost use Rattle.vecmap_base.specs.Pairs.{HasDistinctKeys, index_by};
 ghost use Rattle.vecmap_base.specs.Orders.{AnswersOnPair, ComparesPairsAs, IsSortedByPairClosure, IsSortedByPairKey, IsStableByPairClosure, IsStableByPairKey};
 
 use crate::VecMap;
@@ -27,6 +27,8 @@ impl<K, V> VecMap<K, V> {
     /// ```
     pub fn reverse(&mut self)
         ensures entries { self.new.entries ≡ reverse self.old.entries }
+        ensures present { (test : K → Bool) → is_some (index_by test self.new.entries)
+            ≡ is_some (index_by test self.old.entries) }
         ensures lookups { (eq : K → K → Bool) → IsEquivalence eq → HasDistinctKeys eq self.old.entries
             → KeepsLookups eq self.old.entries self.new.entries }
         ensures capacity { self.new.capacity ≡ self.old.capacity }
@@ -56,6 +58,8 @@ impl<K, V> VecMap<K, V> {
         requires a_within { a < length self.old.entries }
         requires b_within { b < length self.old.entries }
         ensures entries { self.new.entries ≡ swap self.old.entries a b }
+        ensures present { (test : K → Bool) → is_some (index_by test self.new.entries)
+            ≡ is_some (index_by test self.old.entries) }
         ensures lookups { (eq : K → K → Bool) → IsEquivalence eq → HasDistinctKeys eq self.old.entries
             → KeepsLookups eq self.old.entries self.new.entries }
         ensures capacity { self.new.capacity ≡ self.old.capacity }
@@ -88,6 +92,8 @@ impl<K, V> VecMap<K, V> {
         ensures rearranged { IsPermutation self.old.entries self.new.entries }
         ensures err { OnErr result (self.new ≡ self.old) }
         ensures succeeds { length self.old.entries ≤ 20 → IsOk result }
+        ensures present { (test : K → Bool) → is_some (index_by test self.new.entries)
+            ≡ is_some (index_by test self.old.entries) }
         ensures lookups { HasDistinctKeys K.eq self.old.entries
             → KeepsLookups K.eq self.old.entries self.new.entries }
         ensures capacity { self.new.capacity ≡ self.old.capacity }
@@ -125,6 +131,8 @@ impl<K, V> VecMap<K, V> {
         ensures rearranged { IsPermutation self.old.entries self.new.entries }
         ensures err { OnErr result (self.new ≡ self.old) }
         ensures succeeds { length self.old.entries ≤ 20 → IsOk result }
+        ensures present { (test : K → Bool) → is_some (index_by test self.new.entries)
+            ≡ is_some (index_by test self.old.entries) }
         ensures lookups { (eq : K → K → Bool) → IsEquivalence eq → HasDistinctKeys eq self.old.entries
             → KeepsLookups eq self.old.entries self.new.entries }
         ensures capacity { self.new.capacity ≡ self.old.capacity }
@@ -171,6 +179,8 @@ impl<K, V> VecMap<K, V> {
         ensures rearranged { IsPermutation self.old.entries self.new.entries }
         ensures err { OnErr result (self.new ≡ self.old) }
         ensures succeeds { length self.old.entries ≤ 1 → IsOk result }
+        ensures present { (test : K → Bool) → is_some (index_by test self.new.entries)
+            ≡ is_some (index_by test self.old.entries) }
         ensures lookups { (eq : K → K → Bool) → IsEquivalence eq → HasDistinctKeys eq self.old.entries
             → KeepsLookups eq self.old.entries self.new.entries }
         ensures capacity { self.new.capacity ≡ self.old.capacity }
@@ -201,6 +211,8 @@ impl<K, V> VecMap<K, V> {
         K: Ord,
         ensures sorted { IsSortedByKey (λ p. p.0) K.cmp self.new.entries }
         ensures rearranged { IsPermutation self.old.entries self.new.entries }
+        ensures present { (test : K → Bool) → is_some (index_by test self.new.entries)
+            ≡ is_some (index_by test self.old.entries) }
         ensures lookups { HasDistinctKeys K.eq self.old.entries
             → KeepsLookups K.eq self.old.entries self.new.entries }
         ensures capacity { self.new.capacity ≡ self.old.capacity }
@@ -231,6 +243,8 @@ impl<K, V> VecMap<K, V> {
         requires { F.IsAlwaysCallable f }
         ensures sorted { IsSortedByPairClosure F.Fn f self.new.entries }
         ensures rearranged { IsPermutation self.old.entries self.new.entries }
+        ensures present { (test : K → Bool) → is_some (index_by test self.new.entries)
+            ≡ is_some (index_by test self.old.entries) }
         ensures lookups { (eq : K → K → Bool) → IsEquivalence eq → HasDistinctKeys eq self.old.entries
             → KeepsLookups eq self.old.entries self.new.entries }
         ensures capacity { self.new.capacity ≡ self.old.capacity }

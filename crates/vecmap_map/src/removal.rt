@@ -4,7 +4,7 @@ ghost use Rattle.vecmap_base.specs.Items.{swap_without};
 ghost use Rattle.vecmap_base.specs.Asked.{CallableOnEach, CallsAtPair, TakesPairAt};
 ghost use Rattle.vecmap_base.specs.Kept.{Kept};
 ghost use Rattle.std.specs.Prelude.{None, string_eq};
-ghost use Rattle.vecmap_base.specs.Lookups.{UpdatesBy};
+ghost use Rattle.vecmap_base.specs.Lookups.{KeepsFront, UpdatesBy};
 ghost use Rattle.vecmap_base.specs.Pairs.{HasDistinctKeys, has_text, lookup_by, lookup_pair_by, swap_without_by, without_by};
 
 use crate::VecMap;
@@ -55,6 +55,7 @@ impl<K, V> VecMap<K, V> {
         K: Drop,
         V: Drop,
         ensures entries { self.new.entries ≡ take len self.old.entries }
+        ensures lookups { KeepsFront len self.old.entries self.new.entries }
         ensures capacity { self.new.capacity ≡ self.old.capacity }
     {
         self.pairs.truncate(len);
@@ -90,6 +91,7 @@ impl<K, V> VecMap<K, V> {
         requires within { at ≤ length self.old.entries }
         ensures entries { OnOk result (self.new.entries ≡ take at self.old.entries) }
         ensures part { IfOk result (λ part. part.entries ≡ drop at self.old.entries) }
+        ensures lookups { OnOk result (KeepsFront at self.old.entries self.new.entries) }
         ensures capacity { self.new.capacity ≡ self.old.capacity }
         ensures succeeds { at ≡ length self.old.entries → IsOk result }
         ensures err { OnErr result (self.new ≡ self.old) }
@@ -150,6 +152,8 @@ impl<K, V> VecMap<K, V> {
     pub fn pop(&mut self) -> Option<(K, V)>
         ensures pair { result ≡ slice_get self.old.entries (length self.old.entries - 1) }
         ensures entries { self.new.entries ≡ take (length self.old.entries - 1) self.old.entries }
+        ensures lookups { KeepsFront (length self.old.entries - 1) self.old.entries
+            self.new.entries }
         ensures capacity { self.new.capacity ≡ self.old.capacity }
     {
         self.pairs.pop()

@@ -1,6 +1,7 @@
 use Rattle.std.proofs.lemmas.{Fn.always_returns_same, Result.on_ok_weaker}
 use Rattle.std.proofs.Common.{rules}
 use Rattle.vecmap_base.proofs.PairsLemmas.Updates.{lookups_rearranged}
+use Rattle.vecmap_base.proofs.PairsLemmas.Parts.{matches_rearranged}
 use Rattle.vecmap_map.proofs.VecMap.sort_by.Goals as goal
 
 pub returns-clause-sorted : goal.returns-clause-sorted
@@ -13,3 +14,6 @@ returns-clause-stable g c = λ lt order by.
 
 pub returns-clause-lookups : goal.returns-clause-lookups
 returns-clause-lookups g c = λ eq o d. lookups_rearranged eq o _ _ (search rules) d
+
+pub returns-clause-present : goal.returns-clause-present
+returns-clause-present g c = λ test. matches_rearranged test _ _ (search rules)

@@ -2,6 +2,7 @@ use Rattle.std.proofs.Common.{ap, refl, rules, subst, sym, ◌∙◌, ◌≡◌}
 use Rattle.std.proofs.lemmas.{Fn.answers_by, Result.on_ok_weaker}
 use Rattle.vecmap_base.specs.Orders.{AnswersOnPair}
 use Rattle.vecmap_base.proofs.PairsLemmas.Updates.{lookups_rearranged}
+use Rattle.vecmap_base.proofs.PairsLemmas.Parts.{matches_rearranged}
 use Rattle.vecmap_map.proofs.VecMap.sort_by_cached_key.Goals as goal
 
 pub returns-clause-sorted : goal.returns-clause-sorted
@@ -17,3 +18,6 @@ returns-clause-stable g c = λ key by.
 
 pub returns-clause-lookups : goal.returns-clause-lookups
 returns-clause-lookups g c = λ eq o d. lookups_rearranged eq o _ _ (search rules) d
+
+pub returns-clause-present : goal.returns-clause-present
+returns-clause-present g c = λ test. matches_rearranged test _ _ (search rules)

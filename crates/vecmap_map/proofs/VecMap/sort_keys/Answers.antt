@@ -1,6 +1,7 @@
 use Rattle.std.proofs.Common.{rules}
 use Rattle.std.proofs.lemmas.{List.Sorted.ranks_by, Result.on_ok_weaker}
 use Rattle.vecmap_base.proofs.PairsLemmas.Updates.{lookups_rearranged}
+use Rattle.vecmap_base.proofs.PairsLemmas.Parts.{matches_rearranged}
 use Rattle.vecmap_map.proofs.VecMap.sort_keys.Goals as goal
 
 pub returns-clause-sorted : goal.returns-clause-sorted
@@ -11,3 +12,6 @@ returns-clause-stable g c = c.sort_by.ensures.stable _ (ranks_by g.met.K.Ord.tot
 
 pub returns-clause-lookups : goal.returns-clause-lookups
 returns-clause-lookups g c = λ d. lookups_rearranged g.K.PartialEq.eq g.met.K.Eq.laws _ _ (search rules) d
+
+pub returns-clause-present : goal.returns-clause-present
+returns-clause-present g c = λ test. matches_rearranged test _ _ (search rules)

@@ -1,6 +1,7 @@
 use Rattle.std.proofs.Common.{rules}
 use Rattle.std.proofs.lemmas.List.Sorted.{ranks_by}
 use Rattle.vecmap_base.proofs.PairsLemmas.Updates.{lookups_rearranged}
+use Rattle.vecmap_base.proofs.PairsLemmas.Parts.{matches_rearranged}
 use Rattle.vecmap_map.proofs.VecMap.sort_unstable_keys.Goals as goal
 
 pub returns-clause-sorted : goal.returns-clause-sorted
@@ -8,3 +9,6 @@ returns-clause-sorted g c = c.sort_unstable_by.ensures.sorted _ (ranks_by g.met.
 
 pub returns-clause-lookups : goal.returns-clause-lookups
 returns-clause-lookups g c = λ d. lookups_rearranged g.K.PartialEq.eq g.met.K.Eq.laws _ _ (search rules) d
+
+pub returns-clause-present : goal.returns-clause-present
+returns-clause-present g c = λ test. matches_rearranged test _ _ (search rules)
