@@ -1,11 +1,12 @@
 """Reads runs of the benchmark, one for each order of the functions, and prints a table for each contender.
 
 A cell has the median of the ratios to the original over the runs. It is bold if it is above 1.05, and the ratio of the
-least times is, too: the least time of the contender in all runs, divided by the least of the original. With `--full` as
-the first argument, a cell has the median, the ratio of the least times, the least and the greatest ratio of a run, and
-the medians of the least nanoseconds of an operation, of the contender and of the original. Above a short table stands how
-many of its cells are at most 1.05 by either ratio, and how many medians are at most 0.9. Its last line has the geometric
-mean of each size. A row of tight loops is marked with a star: at some size, one run's ratio is at least twice another's.
+least times is, too: the least time of the contender in all runs, divided by the least of the original. With `--full`
+as the first argument, a cell has the median, the ratio of the least times, the least and the greatest ratio of a run,
+and the medians of the least nanoseconds of an operation, of the contender and of the original. Above a short table
+stands how many of its cells are at most 1.05 by either ratio, and how many medians are at most 0.9. Its last line has
+the geometric mean of each size. A row of tight loops is marked with a star: at some size, one run's ratio is at least
+twice another's.
 
 If the runs have an earlier state of the library, a last table compares both states: a cell has the median ratio of this
 library divided by that of the earlier one, and the same of the least times. It is bold if both are above 1.05.
@@ -38,6 +39,11 @@ def least(found):
     return min(times[1] for times in found) / min(times[0] for times in found)
 
 
+def shown(ratio):
+    """Returns a ratio as a text."""
+    return f"{ratio:.2f}" if ratio >= 0.01 else f"{ratio:.4f}"
+
+
 def is_above(*ratios):
     """Returns whether all ratios are above MOST."""
     return all(round(ratio, 2) > MOST for ratio in ratios)
@@ -49,8 +55,8 @@ def bold(text, is_bold):
 
 
 def short(found):
-    """Returns the cell of one row at one size: its median ratio."""
-    return bold(f"{median(found):.2f}", is_above(median(found), least(found))) if found else ""
+    """Returns the cell of one row at one size: its median ratio, in bold letters if it is above MOST."""
+    return bold(shown(median(found)), is_above(median(found), least(found))) if found else ""
 
 
 def full(found):
@@ -60,8 +66,8 @@ def full(found):
     theirs, ours = (statistics.median(times[i] for times in found) for i in (0, 1))
     ratios = [times[2] for times in found]
     digits = 1 if theirs < 1000 else 0
-    spread = f"[{min(ratios):.2f}..{max(ratios):.2f}]"
-    return f"{median(found):.2f} {least(found):.2f} {spread} {ours:.{digits}f}:{theirs:.{digits}f}"
+    middle, leasts, first, last = map(shown, (median(found), least(found), min(ratios), max(ratios)))
+    return f"{middle} {leasts} [{first}..{last}] {ours:.{digits}f}:{theirs:.{digits}f}"
 
 
 def is_tight(cells):
@@ -110,7 +116,7 @@ def comparison(runs):
         disjoint += min(times[2] for times in now) > max(times[2] for times in before)
     found = [it for line in cells.values() for it in line.values()]
     faster, slower = sum(max(it) < 1 / MOST for it in found), sum(is_above(*it) for it in found)
-    print(f"\nOf {len(found)} cells, {faster} take less than before by both ratios, and {slower} more: less or more by 5 %.")
+    print(f"\nOf {len(found)} cells, {faster} take at least 5 % less than before by both ratios, and {slower} more.")
     print(f"In {disjoint} cells, the least ratio is above the greatest before.")
     lines = [
         (row, [bold("{:.2f} {:.2f}".format(*it[n]), is_above(*it[n])) if n in it else "" for n in sizes])
