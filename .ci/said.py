@@ -147,7 +147,7 @@ def exports():
 
 
 def rows():
-    """Yields the rows below each heading of the script, each call of a row with the lines that set it up."""
+    """Yields the calls of the rows below each heading of the script, with the lines that set them up, and their notes."""
     path, part = "crates/vecmap_script/stdin", ""
     lines, heading, begun = read(path).splitlines(), "", []
     for line in lines:
@@ -162,10 +162,13 @@ def rows():
         elif is_set_up(line):
             begun = [line] if line.split(" ")[0] in ("map", "repeats", "set") else [*begun, line]
         elif line:
-            call, _, rest = line.partition(" ")
-            for name in [call] if call == "entry" else call.split("/"):
-                text = " ".join(f"{name} {rest}".split())
-                yield Statement("rows", f"{part}: {heading}", "; ".join(begun), text)
+            call, *notes = (" ".join(part.split()) for part in line.split("|"))
+            names, _, rest = call.partition(" ")
+            listed = " ".join(f"| {it}" for it in notes if it[:1].isdigit() or it == "empty")
+            for name in [names] if names == "entry" else names.split("/"):
+                thing = "rows", f"{part}: {heading}", "; ".join(begun)
+                yield Statement(*thing, f"{name} {rest} {listed}".rstrip())
+                yield from (Statement(*thing, f"{name} {rest} | {it}") for it in notes if f"| {it}" not in listed)
 
 
 def chunks(text):
