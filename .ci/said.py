@@ -22,7 +22,7 @@ NAMED = re.compile(r"^(pub(?:\(\w+\))? )?(?:struct|enum|trait|type) (\w+)", re.M
 PUBLIC_USE = re.compile(r"^pub (?:use ([^;{\n]+?)(?:\{([^}]*)\})?|mod (\w+));?$", re.MULTILINE)
 LEVEL = re.compile(r"( *)module \S+")
 DECLARATION = re.compile(r"( *)(?:pub )?(?:abbrev |record |data |ruleset )?(?:pub )?([\w'-]+) *(?::|=|\()")
-CHUNK = re.compile(r"(?: {4})?(?:pub(?:\(\w+\))? )?(?:const fn|fn|const|static|macro_rules!|impl|struct|enum|trait) ?(.*)")
+CONSTANT = re.compile(r"^ *(?:pub(?:\(\w+\))? )?(?:const|static) (\w+)\b.*?;$", re.MULTILINE | re.DOTALL)
 
 
 def flat(text):
@@ -67,6 +67,11 @@ def private_names(crate):
     return {name for public, name in found if public != "pub "} - {name for public, name in found if public == "pub "}
 
 
+def visible():
+    """Returns the sources of which users see something."""
+    return [path for path in sources() if crate_of(path) not in HIDDEN]
+
+
 def title_of(item):
     """Returns the name of a function with its type or trait, and that of a law with its module."""
     if item.path.startswith("crates/vecmap_laws/"):
@@ -78,9 +83,9 @@ def title_of(item):
 
 def calls():
     """Yields the signature and the clauses of each public call, and of each method of a trait."""
-    for path in sources():
+    for path in visible():
         names = private_names(crate_of(path))
-        for it in functions(path) if crate_of(path) not in HIDDEN else ():
+        for it in functions(path):
             public = it.is_public or " for " in it.impl or it.impl.startswith("pub trait")
             if public and not it.is_test() and not is_private(it.impl, names):
                 thing = "call", f"{crate_of(path)}: {title_of(it)}"
@@ -92,24 +97,22 @@ def calls():
 
 def types():
     """Yields each public type with its public fields or variants, and what it derives."""
-    for path in sources():
-        for it in items(path) if crate_of(path) not in HIDDEN else ():
-            if it.is_public and it.kind in ("struct", "enum", "type", "trait"):
-                thing = "type", f"{crate_of(path)}: {it.name}"
-                head = it.text if it.kind in ("enum", "type") else re.split(r"[{(;]", it.text)[0]
-                yield Statement(*thing, "form", flat(head))
-                if it.kind == "struct":
-                    fields = re.findall(r"^ *pub (\w+: .*),$", it.text, re.MULTILINE)
-                    yield from (Statement(*thing, "field", field) for field in fields)
-                derived = re.findall(r"#\[derive\w*\((.*?)\)\]", it.comment)
-                yield from (Statement(*thing, "derives", word.strip()) for line in derived for word in line.split(","))
+    for it in (it for path in visible() for it in items(path)):
+        if it.is_public and it.kind in ("struct", "enum", "type", "trait"):
+            thing = "type", f"{crate_of(it.path)}: {it.name}"
+            head = it.text if it.kind in ("enum", "type") else re.split(r"[{(;]", it.text)[0]
+            fields = re.findall(r"^ *pub (\w+: .*),$", it.text, re.MULTILINE) if it.kind == "struct" else []
+            derived = ", ".join(re.findall(r"#\[derive\w*\((.*?)\)\]", it.comment))
+            yield Statement(*thing, "form", flat(head))
+            yield from (Statement(*thing, "field", field) for field in fields)
+            yield from (Statement(*thing, "derives", word) for word in re.findall(r"\w+", derived))
 
 
 def impls():
     """Yields the head of each `impl` of a public type and of each public trait, and their ghost members."""
-    for path in sources():
+    for path in visible():
         names = private_names(crate_of(path))
-        for head, body in BLOCK.findall(read(path)) if crate_of(path) not in HIDDEN else ():
+        for head, body in BLOCK.findall(read(path)):
             if not is_private(flat(head), names) and (" for " in head or head.startswith("pub trait")):
                 thing = "impl", f"{crate_of(path)}: {flat(head)}"
                 yield Statement(*thing, "head", "")
@@ -171,46 +174,28 @@ def rows():
                 yield from (Statement(*thing, f"{name} {rest} | {it}") for it in notes if f"| {it}" not in listed)
 
 
-def chunks(text):
-    """Yields the functions, macros, constants and types of a text, each with its name."""
-    name, lines, attributes = "", [], []
-    for line in text.splitlines():
-        if found := CHUNK.fullmatch(line):
-            yield name, "\n".join(lines)
-            name, lines = re.split(r"[<(:!;]| \{", found[1])[0].strip() or found[1], []
-            line = re.sub(r"\bpub(\(\w+\))? ", "", line)
-        elif line.lstrip().startswith("#["):
-            attributes.append(line)
-            continue
-        lines += [*attributes, line]
-        attributes = []
-    yield name, "\n".join(lines)
-
-
 def statements(text):
     """Yields the statements of a text: the lines up to one that ends a statement or begins or ends a block."""
     lines = []
     for line in text.splitlines():
         lines.append(line)
         if line.endswith((";", "{", "}")):
-            yield flat("\n".join(lines))
+            yield flat(re.sub(r"^ *pub(\(\w+\))? ", "", "\n".join(lines)))
             lines = []
     yield flat("\n".join(lines))
 
 
 def tests():
-    """Yields the statements of each test, and of the functions, macros and constants beside it."""
+    """Yields the statements of each test, of the functions, macros and constants beside it, and the modules of tests."""
     for path in sources():
-        text = read(path)
-        inner = text.partition("\nmod tests {")[2]
-        is_of_tests = crate_of(path) == "vecmap_tests" or "/tests" in path or "#[test]" in text
-        for name, chunk in chunks(inner or text) if is_of_tests else ():
-            thing = "test", f"{crate_of(path)}: {name}"
-            yield from (Statement(*thing, "", it) for it in statements(chunk) if name and it.strip("}"))
-    for path in sources():
-        for attribute, module in re.findall(r"^(#\[cfg\(test\)\]\n)?(?:pub )?mod (\w+);", read(path), re.MULTILINE):
-            if attribute or crate_of(path) == "vecmap_tests":
-                yield Statement("test", f"{crate_of(path)}: {module}", "", f"mod {module};")
+        text, crate = read(path), crate_of(path)
+        lines = re.findall(r"^#\[cfg\(test\)\]\nmod (\w+);", text, re.MULTILINE)
+        yield from (Statement("test", f"{crate}: {module}", "", f"mod {module};") for module in lines)
+        if crate == "vecmap_tests" or "/tests" in path or "#[test]" in text:
+            first = text.partition("\nmod tests {")[0].count("\n") if "\nmod tests {" in text else 0
+            found = [(it.name or it.text, "#[test] " * it.is_test() + it.text) for it in items(path) if it.line > first]
+            for name, whole in [*found, *((it[1], it[0]) for it in CONSTANT.finditer(text))]:
+                yield from (Statement("test", f"{crate}: {name}", "", it) for it in statements(whole) if it.strip("}"))
 
 
 def examples():
