@@ -76,9 +76,8 @@ def title_of(item):
     """Returns the name of a function with its type or trait, and that of a law with its module."""
     if item.path.startswith("crates/vecmap_laws/"):
         return f"{item.path.split('/')[3].removesuffix('.rt')}::{item.name}"
-    head = re.split(r" where\b", item.impl)[0]
-    owner = re.findall(r"([A-Z]\w*)(?=<|$| |:)", re.sub(r"<.*?>(?= |$)", "", head.rpartition(" for ")[2])) if head else []
-    return "::".join([*owner[:1], item.name])
+    head = re.sub(r"<.*?>(?= |$)", "", re.split(r" where\b", item.impl)[0].rpartition(" for ")[2])
+    return "::".join([*re.findall(r"([A-Z]\w*)(?=<|$| |:)", head)[:1], item.name])
 
 
 def calls():
@@ -135,8 +134,8 @@ def lemmas():
     for path in files("crates/vecmap_laws/proofs/*.antt"):
         for name, text in declarations(path).items():
             if re.search(rf"^ *pub (?:ruleset )?{re.escape(name)}\b", text, re.MULTILINE):
-                statement = re.split(rf"\n *{re.escape(name)}(?= .*=| *=)", text)[0]
-                yield Statement("lemma", f"vecmap_laws: {module_of(path)}.{name}", "statement", " ".join(statement.split()))
+                statement = " ".join(re.split(rf"\n *{re.escape(name)}(?= .*=| *=)", text)[0].split())
+                yield Statement("lemma", f"vecmap_laws: {module_of(path)}.{name}", "statement", statement)
 
 
 def exports():
