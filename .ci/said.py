@@ -126,7 +126,7 @@ def definitions():
         for name in public:
             lines = texts.get(name, "").splitlines()
             thing = "definition", f"{crate_of(path)}: {module_of(path)}.{name}"
-            yield from (Statement(*thing, "line", " ".join(line.split())) for line in lines)
+            yield from (Statement(*thing, "", " ".join(line.split())) for line in lines)
 
 
 def lemmas():
