@@ -16,6 +16,8 @@ Statement = collections.namedtuple("Statement", "kind name label text")
 CONTRACTS = ("call", "type", "impl", "definition", "lemma", "export")
 # The crates of which a user sees nothing.
 HIDDEN = ("vecmap_bench", "vecmap_script", "vecmap_tests")
+# The ghost members that are proofs: what they prove is said by their trait.
+PROOFS = ("laws", "respects_eq", "clones")
 BLOCK = re.compile(r"^(?:unsafe )?((?:impl|pub trait)\b[^{]*?)\s*\{(?:\}$|\n(.*?)^\}$)", re.MULTILINE | re.DOTALL)
 GHOST = re.compile(r"^    ghost (?!use\b)(\w+)\b(.*?);$", re.MULTILINE | re.DOTALL)
 NAMED = re.compile(r"^(pub(?:\(\w+\))? )?(?:struct|enum|trait|type) (\w+)", re.MULTILINE)
@@ -115,7 +117,8 @@ def impls():
             if not is_private(flat(head), names) and (" for " in head or head.startswith("pub trait")):
                 thing = "impl", f"{crate_of(path)}: {flat(head)}"
                 yield Statement(*thing, "head", "")
-                yield from (Statement(*thing, f"ghost {name}", flat(text)) for name, text in GHOST.findall(body))
+                members = ((it[0], "" if it[0] in PROOFS and " for " in head else flat(it[1])) for it in GHOST.findall(body))
+                yield from (Statement(*thing, f"ghost {name}", text) for name, text in members)
 
 
 def definitions():
