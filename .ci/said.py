@@ -117,8 +117,9 @@ def impls():
             if not is_private(flat(head), names) and (" for " in head or head.startswith("pub trait")):
                 thing = "impl", f"{crate_of(path)}: {flat(head)}"
                 yield Statement(*thing, "head", "")
-                members = ((it[0], "" if it[0] in PROOFS and " for " in head else flat(it[1])) for it in GHOST.findall(body))
-                yield from (Statement(*thing, f"ghost {name}", text) for name, text in members)
+                for name, text in GHOST.findall(body):
+                    is_proof = name in PROOFS and " for " in head
+                    yield Statement(*thing, f"ghost {name}", "" if is_proof else flat(text))
 
 
 def definitions():
