@@ -4,7 +4,7 @@
 use crate::checks::{assert_gives, assert_is, granted};
 use std::alloc::{AllocError, Global};
 use std::cell::Cell;
-use std::default::MadeWith;
+use std::default::{Emptied, MadeWith};
 use vecmap::{VecMap, VecSet};
 use vecmap_base::pairs_equal;
 
@@ -215,6 +215,25 @@ fn a_default_collection_has_no_capacity(rt: HostRuntime) {
     let map: VecMap<u32, u32> = VecMap::made_with(rt.alloc());
     let set: VecSet<u32> = VecSet::made_with(rt.alloc());
     assert_is(&rt, (map.capacity(), set.capacity()), (0, 0));
+}
+
+#[test]
+fn an_emptied_collection_has_no_capacity(rt: HostRuntime) {
+    let alloc = rt.alloc();
+    let map = granted(&rt, map_of(alloc, 2, false, 0.5));
+    let emptied = granted(&rt, VecMap::emptied(&map));
+    assert_is(
+        &rt,
+        (map.len(), emptied.len(), emptied.capacity()),
+        (2, 0, 0),
+    );
+    let set = VecSet::from(granted(&rt, numbers(alloc, 1, 3, 0)));
+    let emptied = granted(&rt, VecSet::emptied(&set));
+    assert_is(
+        &rt,
+        (set.len(), emptied.len(), emptied.capacity()),
+        (3, 0, 0),
+    );
 }
 
 /// Appends numbers with values of 32 bytes to a map, and the values to a set. Returns whether all are in order.
