@@ -4,14 +4,16 @@ use Rattle.std.proofs.Common.{◌≡◌, ◌<◌, ◌+◌, ℕ, Bool, position, 
 use Rattle.std.proofs.lemmas.{Bool.cases_Bool, List.length-map, Map.Made.is_some-lookup, Option.slice_get-map}
 use Rattle.vecmap_base.specs.Pairs.{HasDistinctKeys, index_of, index_or_length, lookup, put, put_key, puts, value_at, with_value, without_key}
 use Rattle.vecmap_base.proofs.PairsLemmas.Keys.{index_of_is, keys_of_put}
-use Rattle.vecmap_base.proofs.PairsLemmas.{Indices.is_some_index_of, Indices.lookup_by_is, Recursion.put_cons}
+use Rattle.vecmap_base.proofs.PairsLemmas.{ByIndex.lookup_by_index, ByIndex.put_by_index, Indices.is_some_index_of, Recursion.put_cons}
+use Rattle.std.proofs.lemmas.Map.{lookup-remove_entry}
+use Rattle.vecmap_base.proofs.PairsLemmas.Lookups.{updates_put}
 use Rattle.vecmap_laws.proofs.Indices.{index_of_none}
 use Rattle.vecmap_laws.proofs.ItemIndices.{item_index_add, item_index_congr, item_index_own}
 use Rattle.vecmap_laws.proofs.ItemRemovals.{without_item_absent}
 use Rattle.vecmap_laws.proofs.Keys.{keys_of_without_key}
-use Rattle.vecmap_laws.proofs.Lookups.{look, lookup_congr, lookup_put, lookup_put_other, lookup_without_key, lookup_without_key_other}
+use Rattle.vecmap_laws.proofs.Lookups.{look}
 use Rattle.vecmap_laws.proofs.Puts.{puts_distinct}
-use Rattle.vecmap_laws.proofs.Recursion.{lookup_cons, put_key_cons}
+use Rattle.vecmap_laws.proofs.Recursion.{lookup_cons}
 use Rattle.vecmap_laws.proofs.Values.{length_with_value}
 
 pub option_or_none : {X : Type 0} (a : Option X) → option_or a None ≡ a
@@ -25,11 +27,11 @@ option_or_assoc (Some x) b c = refl
 module _ {K V : Type 0} (eq : K → K → Bool) where
   -- A lookup finds a value exactly if the key has an index.
   pub is_some_lookup : (l : List (K × V)) (k : K) → is_some (lookup eq l k) ≡ is_some (index_of eq l k)
-  is_some_lookup l k = ap is_some (lookup_by_is (eq k) l) ∙ is_some-lookup (eq k) l ∙ sym (is_some_index_of eq l k)
+  is_some_lookup l k = is_some-lookup (eq k) l ∙ sym (is_some_index_of eq l k)
 
   -- A lookup finds the value at the index of its key.
   pub lookup_at : (l : List (K × V)) (k : K) (i : ℕ) (q : K) (v : V) → index_of eq l k ≡ Some i → slice_get l i ≡ Some (q, v) → lookup eq l k ≡ Some v
-  lookup_at l k i q v at stored = ap (option_and_then (value_at l)) at ∙ ap (option_map (λ p. p.1)) stored
+  lookup_at l k i q v at stored = lookup_by_index (eq k) l ∙ ap (option_and_then (value_at l)) at ∙ ap (option_map (λ p. p.1)) stored
 
   -- The insertion of the value that is stored changes nothing.
   pub put_same : (l : List (K × V)) (k : K) (v : V) → lookup eq l k ≡ Some v → put eq l k v ≡ l
@@ -43,7 +45,7 @@ module _ {K V : Type 0} (eq : K → K → Bool) where
 
   -- The insertion of a new key makes the list longer by one. Any other insertion leaves its length.
   pub length_put : (l : List (K × V)) (k : K) (v : V) → length (put eq l k v) ≡ (if is_some (index_of eq l k) then length l else length l + 1)
-  length_put l k v = by (index_of eq l k)
+  length_put l k v = ap length (put_by_index eq l k v) ∙ by (index_of eq l k)
     where
       by : (found : Option ℕ) → length (option_map_or (λ i. with_value l i v) found (l ++ (k, v) ∷ [])) ≡ (if is_some found then length l else length l + 1)
       by None = length-append l ((k, v) ∷ [])
@@ -85,30 +87,20 @@ module _ {K V : Type 0} (eq : K → K → Bool) where
 
     -- The lookup of any key after an insertion.
     pub lookup_put_any : (l : List (K × V)) (k : K) (v : V) (q : K) → lookup eq (put eq l k v) q ≡ (if eq k q then Some v else lookup eq l q)
-    lookup_put_any l k v q =
-        elim (cases_Bool (eq k q)) [
-          | inl e ↦ lookup_congr eq o (put eq l k v) q k (o.symm q k ∙ e) ∙ lookup_put eq o l k v ∙ sym (ap (λ b. if b then Some v else lookup eq l q) e)
-          | inr e ↦ lookup_put_other eq o l k v q e ∙ sym (ap (λ b. if b then Some v else lookup eq l q) e)
-        ]
+    lookup_put_any l k v q = (updates_put eq o l k v).lookups q
 
     -- A lookup after an insertion that stores the new key too finds the same value as after one that does not.
     pub lookup_put_key : (l : List (K × V)) (k : K) (v : V) (q : K) → lookup eq (put_key eq l k v) q ≡ lookup eq (put eq l k v) q
     lookup_put_key [] k v q = refl
     lookup_put_key (p ∷ ps) k v q =
-        (λ t. lookup eq (put_key_cons eq p ps k v t) q)
-        ∙ elim (cases_Bool (eq k p.0)) [
+        elim (cases_Bool (eq k p.0)) [
           | inl e ↦ (λ t. lookup eq (if e t then (k, v) ∷ ps else p ∷ put_key eq ps k v) q) ∙ lookup_cons eq (k, v) ps q ∙ ap (λ b. if b then Some v else lookup eq ps q) (o.symm q k ∙ o.congr k p.0 q e ∙ o.symm p.0 q) ∙ sym (lookup_cons eq (p.0, v) ps q) ∙ sym (λ t. lookup eq (if e t then (p.0, v) ∷ ps else p ∷ put eq ps k v) q)
           | inr e ↦ (λ t. lookup eq (if e t then (k, v) ∷ ps else p ∷ put_key eq ps k v) q) ∙ lookup_cons eq p (put_key eq ps k v) q ∙ ap (λ found. if eq q p.0 then Some p.1 else found) (lookup_put_key ps k v q) ∙ sym (lookup_cons eq p (put eq ps k v) q) ∙ sym (λ t. lookup eq (if e t then (p.0, v) ∷ ps else p ∷ put eq ps k v) q)
         ]
-        ∙ sym (λ t. lookup eq (put_cons eq p ps k v t) q)
 
     -- The lookup of any key after a removal from a list of distinct keys.
     pub lookup_without_any : (l : List (K × V)) (k q : K) → HasDistinctKeys eq l → lookup eq (without_key eq l k) q ≡ (if eq k q then None else lookup eq l q)
-    lookup_without_any l k q d =
-        elim (cases_Bool (eq k q)) [
-          | inl e ↦ lookup_congr eq o (without_key eq l k) q k (o.symm q k ∙ e) ∙ lookup_without_key eq o l k d ∙ sym (ap (λ b. if b then None else lookup eq l q) e)
-          | inr e ↦ lookup_without_key_other eq o l k q e ∙ sym (ap (λ b. if b then None else lookup eq l q) e)
-        ]
+    lookup_without_any l k q d = lookup-remove_entry o (eq k) (o.congr k) q l d
 
     -- After this removal, the key has no index.
     pub index_of_without_key : (l : List (K × V)) (k : K) → HasDistinctKeys eq l → index_of eq (without_key eq l k) k ≡ None

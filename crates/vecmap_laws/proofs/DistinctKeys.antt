@@ -7,7 +7,7 @@ use Rattle.std.proofs.lemmas.{Map.Keys.IsDistinct-tail, Option.get_or_from_slice
 use Rattle.vecmap_base.specs.{Items.swap_without, Items.without_item}
 use Rattle.vecmap_base.specs.Pairs.{HasDistinctKeys, index_by, index_of, put, put_at, put_key, puts, swap_without_by, swap_without_key, with_value, without_by}
 use Rattle.vecmap_base.proofs.PairsLemmas.Keys.{index_of_is, keys_of_put, keys_of_puts}
-use Rattle.vecmap_base.proofs.PairsLemmas.{Values.keys_of_with_value}
+use Rattle.vecmap_base.proofs.PairsLemmas.{ByIndex.without_by_index, Values.keys_of_with_value}
 use Rattle.vecmap_base.proofs.IndexLemmas.{is_some_position}
 use Rattle.vecmap_base.proofs.DistinctLemmas.{Additions.distinct_add, Additions.distinct_adds, Order.distinct_rearranged}
 use Rattle.vecmap_base.proofs.DistinctLemmas.Removals.{distinct_remove, distinct_take}
@@ -27,7 +27,7 @@ module _ {K V : Type 0} (eq : K → K → Bool) where
   distinct_keys_remove l i d = subst (IsDistinct eq) (sym (keys_of_remove l i)) (distinct_remove eq (keys_of l) i d)
 
   pub distinct_keys_without : (test : K → Bool) (l : List (K × V)) → HasDistinctKeys eq l → HasDistinctKeys eq (without_by test l)
-  distinct_keys_without test l d = by (index_by test l)
+  distinct_keys_without test l d = subst (HasDistinctKeys eq) (sym (without_by_index test l)) (by (index_by test l))
     where
       by : (found : Option ℕ) → HasDistinctKeys eq (option_map_or (λ i. remove l i) found l)
       by None = d

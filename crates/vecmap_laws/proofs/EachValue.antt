@@ -2,7 +2,7 @@
 use Rattle.std.proofs.Common.{◌≡◌, Bool, true, false, List, [], ◌∷◌, None, Some, All, if◌then◌else◌, map, option_map, refl, sym, ap, ◌∙◌, subst, inl, inr}
 use Rattle.std.proofs.lemmas.{Bool.cases_Bool, List.Elements.All-cons, List.Elements.All-head, List.Elements.All-tail}
 use Rattle.vecmap_base.specs.Pairs.{lookup, map_values, put}
-use Rattle.vecmap_base.proofs.PairsLemmas.{Indices.lookup_by_map_values, Recursion.put_cons}
+use Rattle.vecmap_base.proofs.PairsLemmas.Indices.{lookup_by_map_values}
 use Rattle.vecmap_laws.proofs.Lookups.{look}
 
 -- `f` of a key has the `==` of the key, as the bytes of a text have.
@@ -13,10 +13,8 @@ module _ {K L V W : Type 0} (eq : K → K → Bool) (eq_image : L → L → Bool
   map_pairs_put [] k v = refl
   map_pairs_put (p ∷ ps) k v =
       let h : K × V → L × W = λ q. (f q.0, g q.1) in
-      ap (map h) (put_cons eq p ps k v)
-      ∙ by (eq k p.0) (map_pairs_put ps k v)
+      by (eq k p.0) (map_pairs_put ps k v)
       ∙ ap (λ b. if b then (f p.0, g v) ∷ map h ps else h p ∷ put eq_image (map h ps) (f k) (g v)) (sym (same k p.0))
-      ∙ sym (put_cons eq_image (h p) (map h ps) (f k) (g v))
     where
       by : (b : Bool) → map (λ q. (f q.0, g q.1)) (put eq ps k v) ≡ put eq_image (map (λ q. (f q.0, g q.1)) ps) (f k) (g v) → map (λ q. (f q.0, g q.1)) (if b then (p.0, v) ∷ ps else p ∷ put eq ps k v) ≡ (if b then (f p.0, g v) ∷ map (λ q. (f q.0, g q.1)) ps else (f p.0, g p.1) ∷ put eq_image (map (λ q. (f q.0, g q.1)) ps) (f k) (g v))
       by true e = refl
@@ -46,7 +44,7 @@ module _ {K V : Type 0} (eq : K → K → Bool) (P : V → Type 0) where
   holds_after_put [] a k v h = All-cons (λ q. P q.1) (k, v) [] h a
   holds_after_put (p ∷ ps) a k v h =
       let rest : All (λ q. P q.1) ps = All-tail (λ q. P q.1) p ps a in
-      subst (All (λ q. P q.1)) (sym (put_cons eq p ps k v)) (by (eq k p.0) rest (holds_after_put ps rest k v h))
+      by (eq k p.0) rest (holds_after_put ps rest k v h)
     where
       by : (b : Bool) → All (λ q. P q.1) ps → All (λ q. P q.1) (put eq ps k v) → All (λ q. P q.1) (if b then (p.0, v) ∷ ps else p ∷ put eq ps k v)
       by true r t = All-cons (λ q. P q.1) (p.0, v) ps h r

@@ -4,6 +4,7 @@ use Rattle.std.specs.Borrow.{MutBor}
 use Rattle.std.specs.Fn.{FnOnceReturnsAtMut, Once}
 use Rattle.std.specs.Map.Calls.{ModifiesValue}
 use Rattle.std.specs.Option.{option_and_then, option_map_or}
+use Rattle.vecmap_base.proofs.PairsLemmas.ByIndex.{lookup_by_index, put_by_index}
 use Rattle.vecmap_base.specs.Pairs.{index_of, lookup, put, value_at, with_value}
 use Rattle.vecmap_map.specs.Contents.{Contents}
 use Rattle.vecmap_map.specs.Entry.{LeavesSame, entries_with, entry_index_of, entry_key, entry_map, entry_value}
@@ -18,11 +19,12 @@ modified g f (Some u) (Some w) v e m = (w, record { shown = m.lent; shows = cc; 
 module _ {K V : Type 0} (eq : K → K → Bool) {F : Type 0} (g : Once F (MutBor V × Unit {0}) (Unit {0} × (MutBor V × Unit {0}))) where
   at_entry : (e d : Entry K V) (f : F) (v default : V) → entry_index_of e ≡ index_of eq (entry_map e).entries (entry_key e) → lookup eq (entry_map e).entries (entry_key e) ≡ Some v → ModifiesValue g f (entry_value e) (entry_value d) → LeavesSame e d → (w : V) × FnOnceReturnsAtMut g f v tt w × (entries_with d (unwrap_or (entry_value d) default) ≡ put eq (entry_map e).entries (entry_key e) w)
   at_entry e d f v default at found call later =
-      let m = modified g f (entry_value e) (entry_value d) v (ap (option_and_then (value_at (entry_map e).entries)) at ∙ found) call in (
+      let m = modified g f (entry_value e) (entry_value d) v (ap (option_and_then (value_at (entry_map e).entries)) at ∙ sym (lookup_by_index (eq (entry_key e)) (entry_map e).entries) ∙ found) call in (
         m.0,
         m.1,
         ap (λ x. entries_with d (unwrap_or x default)) m.2 ∙ later.write m.0
-            ∙ ap (λ index. option_map_or (λ i. with_value (entry_map e).entries i m.0) index ((entry_map e).entries ++ (entry_key e, m.0) ∷ [])) at,
+            ∙ ap (λ index. option_map_or (λ i. with_value (entry_map e).entries i m.0) index ((entry_map e).entries ++ (entry_key e, m.0) ∷ [])) at
+            ∙ sym (put_by_index eq (entry_map e).entries (entry_key e) m.0),
       )
 
   -- If the key is present, its value is what a call of the closure leaves of it.

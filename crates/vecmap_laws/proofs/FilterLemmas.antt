@@ -2,6 +2,7 @@
 use Rattle.std.proofs.Common.{◌≡◌, Bool, true, false, ◌||◌, List, [], ◌∷◌, ap, filter, map, if◌then◌else◌, inl, inr, not, refl, sym, ◌∙◌, ◌&&◌}
 use Rattle.std.proofs.lemmas.{Bool.cases_Bool, Map.Keys.IsDistinct-tail}
 use Rattle.std.specs.{Cmp.IsEquivalence, List.IsDistinct, List.list_any, Map.IsKeyTest, Set.is_member}
+use Rattle.vecmap_laws.proofs.Recursion.{without_by_is}
 use Rattle.vecmap_laws.proofs.DistinctKeys.{distinct_keys_without}
 use Rattle.vecmap_base.proofs.IndexLemmas.{list_any_map}
 use Rattle.vecmap_laws.proofs.ItemQueries.{tells_as}
@@ -54,7 +55,7 @@ neither false c = refl
 module _ {K V : Type 0} (eq : K → K → Bool) (o : IsEquivalence eq) where
   -- A removal by a query leaves the pairs of the keys that it does not match.
   pub without_by_is_filter : (test : K → Bool) → IsKeyTest eq test → (l : List (K × V)) → HasDistinctKeys eq l → without_by test l ≡ filter (λ p. not (test p.0)) l
-  without_by_is_filter test respects l d = without_is_filter (λ p. p.0) eq o test respects l d
+  without_by_is_filter test respects l d = without_by_is test l ∙ without_is_filter (λ p. p.0) eq o test respects l d
 
   pub without_key_is_filter : (l : List (K × V)) → HasDistinctKeys eq l → (k : K) → without_key eq l k ≡ filter (λ p. not (eq k p.0)) l
   without_key_is_filter l d k = without_by_is_filter (eq k) (λ x y e. o.congr k x y e) l d

@@ -4,6 +4,7 @@ use Rattle.std.specs.Cmp.{IsEquivalence}
 use Rattle.std.specs.Map.{IsKeyTest, keys_of}
 use Rattle.std.specs.Option.{option_and_then, option_or}
 use Rattle.vecmap_base.proofs.PairsLemmas.Keys.{keys_of_put}
+use Rattle.vecmap_base.proofs.PairsLemmas.ByIndex.{lookup_by_index}
 use Rattle.vecmap_base.proofs.PairsLemmas.Puts.{put_absent}
 use Rattle.vecmap_laws.proofs.AfterPuts.{lookup_put_any, option_or_none, put_same}
 use Rattle.vecmap_laws.proofs.Lookups.{lookup_congr}
@@ -21,7 +22,7 @@ module _ {K V : Type 0} (eq : K → K → Bool) where
 
   -- A new pair is appended.
   pub put_new_absent : (l : List (K × V)) (k : K) (v : V) → index_of eq l k ≡ None → put_new eq l k v ≡ l ++ (k, v) ∷ []
-  put_new_absent l k v e = ap (λ found. put eq l k (unwrap_or (option_and_then (value_at l) found) v)) e ∙ put_absent eq l k v e
+  put_new_absent l k v e = ap (λ found. put eq l k (unwrap_or found v)) (lookup_by_index (eq k) l ∙ ap (option_and_then (value_at l)) e) ∙ put_absent eq l k v e
 
   pub put_new_not_found : (l : List (K × V)) (k : K) (v : V) → lookup eq l k ≡ None → put_new eq l k v ≡ put eq l k v
   put_new_not_found l k v e = ap (λ found. put eq l k (unwrap_or found v)) e

@@ -1,10 +1,11 @@
 -- What the definitions say that are about an index.
 use Rattle.std.specs.{Option.option_and_then, Option.option_map, List.list_any, Map.keys_of}
-use Rattle.std.proofs.Common.{◌≡◌, ℕ, suc, Bool, true, false, List, ◌∷◌, Option, None, Some, if◌then◌else◌, length, slice_get, unwrap_or, refl, ap, ◌∙◌, sym}
+use Rattle.std.proofs.Common.{◌≡◌, ℕ, suc, Bool, true, false, List, ◌∷◌, Option, None, Some, if◌then◌else◌, length, unwrap_or, refl, ap, ◌∙◌, sym}
 use Rattle.vecmap_base.specs.Pairs.{index_of, index_or_length, lookup_full, lookup_pair, value_at, with_pair}
 use Rattle.vecmap_base.proofs.PairsLemmas.Recursion.{index_of_cons}
+use Rattle.vecmap_base.proofs.PairsLemmas.ByIndex.{index_by_is}
 use Rattle.vecmap_base.proofs.IndexLemmas.{list_any_map, position_none}
-pub use Rattle.vecmap_base.proofs.PairsLemmas.Indices.{lookup_by_is, lookup_by_map_values, is_some_index_of, is_some_index_of_rest}
+pub use Rattle.vecmap_base.proofs.PairsLemmas.Indices.{lookup_by_map_values, is_some_index_of, is_some_index_of_rest}
 
 -- An index and what it holds, counted with one pair more at the front.
 abbrev pub one_on : {V : Type 0} → ℕ × V → ℕ × V
@@ -27,12 +28,7 @@ module _ {K V : Type 0} (p : K × V) (ps : List (K × V)) where
         by false (Some i) = refl
 
     pub lookup_pair_cons : lookup_pair eq (p ∷ ps) k ≡ (if eq k p.0 then Some p else lookup_pair eq ps k)
-    lookup_pair_cons = ap (option_and_then (slice_get (p ∷ ps))) (index_of_cons eq p ps k) ∙ by (eq k p.0) (index_of eq ps k)
-      where
-        by : (b : Bool) (o : Option ℕ) → option_and_then (slice_get (p ∷ ps)) (if b then Some 0 else option_map suc o) ≡ (if b then Some p else option_and_then (slice_get ps) o)
-        by true o = refl
-        by false None = refl
-        by false (Some i) = refl
+    lookup_pair_cons = refl
 
     pub lookup_full_cons : lookup_full eq (p ∷ ps) k ≡ (if eq k p.0 then Some (0, p.1) else option_map one_on (lookup_full eq ps k))
     lookup_full_cons = ap (option_and_then (found (p ∷ ps))) (index_of_cons eq p ps k) ∙ by (eq k p.0) (index_of eq ps k)
@@ -51,4 +47,4 @@ module _ {K V : Type 0} (p : K × V) (ps : List (K × V)) where
 
 module _ {K V : Type 0} (eq : K → K → Bool) where
   pub index_of_none : (l : List (K × V)) (k : K) → list_any (eq k) (keys_of l) ≡ false → index_of eq l k ≡ None
-  index_of_none l k e = position_none (λ p. eq k p.0) l (sym (list_any_map (eq k) (λ p. p.0) l) ∙ e)
+  index_of_none l k e = index_by_is (eq k) l ∙ position_none (λ p. eq k p.0) l (sym (list_any_map (eq k) (λ p. p.0) l) ∙ e)

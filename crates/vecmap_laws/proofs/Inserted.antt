@@ -2,6 +2,7 @@
 use Rattle.std.proofs.Common.{◌-◌, insert, min, remove, slice_get, slice_set, ◌≡◌, ◌<◌, ℕ, Bool, true, false, List, [], ◌∷◌, None, Option, Some, ap, arith, if◌then◌else◌, is_some, length, refl, suc, sym, true≢false, zero, ◌∙◌}
 use Rattle.std.proofs.lemmas.Option.{none-some}
 use Rattle.std.specs.{Cmp.IsEquivalence, Option.option_and_then, Option.option_map_or}
+use Rattle.vecmap_base.proofs.PairsLemmas.ByIndex.{lookup_by_index, without_by_index}
 use Rattle.vecmap_base.specs.Pairs.{HasDistinctKeys, index_of, lookup, put_at, value_at, with_pair, without_key}
 use Rattle.vecmap_laws.proofs.AfterPuts.{index_of_own, index_of_without_key, is_some_lookup, lookup_own, lookup_without_any}
 use Rattle.vecmap_laws.proofs.Lookups.{look, lookup_congr}
@@ -20,10 +21,10 @@ insert_where_removed (x ∷ xs) (suc i) y h = ap (λ t. x ∷ t) (insert_where_r
 module _ {K V : Type 0} (eq : K → K → Bool) where
   -- The removal of a key is that of its index.
   pub without_key_at : (l : List (K × V)) (k : K) (i : ℕ) → index_of eq l k ≡ Some i → without_key eq l k ≡ remove l i
-  without_key_at l k i at = ap (λ found. option_map_or (λ j. remove l j) found l) at
+  without_key_at l k i at = without_by_index (eq k) l ∙ ap (λ found. option_map_or (λ j. remove l j) found l) at
 
   lookup_none : (l : List (K × V)) (k : K) → index_of eq l k ≡ None → lookup eq l k ≡ None
-  lookup_none l k none = ap (option_and_then (value_at l)) none
+  lookup_none l k none = lookup_by_index (eq k) l ∙ ap (option_and_then (value_at l)) none
 
   pub index_none : (l : List (K × V)) (k : K) → lookup eq l k ≡ None → index_of eq l k ≡ None
   index_none l k none = none_if_not_some (index_of eq l k) (sym (is_some_lookup eq l k) ∙ ap is_some none)

@@ -15,10 +15,14 @@ pub mod EachValue
 pub mod EntryLemmas
 mod EntryPuts
 pub mod FilterLemmas
+pub mod Equations
+pub mod Filters
+pub mod Finds
 pub mod FirstValue
 pub mod FoundLemmas
 pub mod HeadLemmas
 pub mod Indices
+pub mod IndicesAfter
 pub mod Inserted
 pub mod InverseLemmas
 pub mod ItemAdditions
@@ -32,6 +36,7 @@ pub mod Keys
 pub use Rattle.vecmap_set.proofs.LazyLemmas
 pub mod Lookups
 pub use Rattle.vecmap_base.proofs.LoopLemmas
+pub mod MapCongruence
 pub mod MapEquality
 pub mod NestedLemmas
 pub use Rattle.vecmap_set.proofs.OperatorLemmas
@@ -42,10 +47,13 @@ pub mod Parts
 pub mod PositionLemmas
 pub mod Puts
 pub mod Queries
+pub mod Rearranged
 pub mod Recursion
 pub mod RemovalLemmas
 pub mod Rules
+pub mod SetCongruence
 pub mod SetEquality
+pub mod SetFilters
 pub mod SetRelations
 pub mod TextQueries
 pub mod TwoKeys

@@ -4,6 +4,7 @@
 use Rattle.std.specs.{Cmp.IsEquivalence, Option.UnwrapsOrElse, Option.option_and_then, Option.option_map_or}
 use Rattle.std.proofs.Common.{◌≡◌, Bool, true, false, List, [], ◌∷◌, ◌++◌, None, Option, Some, sym, ap, subst, ◌∙◌, inl, inr}
 use Rattle.std.proofs.lemmas.Bool.{cases_Bool}
+use Rattle.vecmap_base.proofs.PairsLemmas.ByIndex.{lookup_by_index, put_by_index}
 use Rattle.vecmap_base.specs.Pairs.{index_of, lookup, put, value_at, with_value}
 use Rattle.vecmap_map.specs.{Contents.Contents, Entry.entries_with, Entry.entry_key, Entry.entry_map, Entry.entry_index_of, Entry.entry_value}
 use Rattle.vecmap_map.specs.declared.entry.Entry.{Entry}
@@ -12,11 +13,11 @@ use Rattle.vecmap_laws.proofs.Lookups.{lookup_congr, lookup_put, lookup_put_othe
 module _ {K W : Type 0} (eq : K → K → Bool) where
   -- An entry with a new value leaves the same list as `put`.
   entry_puts : (m : Contents K W) (k : K) (e : Entry K W) (w : W) → entry_map e ≡ m → entry_key e ≡ k → entry_index_of e ≡ index_of eq m.entries k → entries_with e w ≡ put eq m.entries k w
-  entry_puts m k e w same key place = λ t. option_map_or (λ i. with_value (same t).entries i w) (place t) ((same t).entries ++ (key t, w) ∷ [])
+  entry_puts m k e w same key place = (λ t. option_map_or (λ i. with_value (same t).entries i w) (place t) ((same t).entries ++ (key t, w) ∷ [])) ∙ sym (put_by_index eq m.entries k w)
 
   -- The value of an entry is what a lookup finds.
   entry_finds : (m : Contents K W) (k : K) (e : Entry K W) → entry_map e ≡ m → entry_index_of e ≡ index_of eq m.entries k → entry_value e ≡ lookup eq m.entries k
-  entry_finds m k e same place = λ t. option_and_then (value_at (same t).entries) (place t)
+  entry_finds m k e same place = (λ t. option_and_then (value_at (same t).entries) (place t)) ∙ sym (lookup_by_index (eq k) m.entries)
 
 module _ {K W A : Type 0} (eq : K → K → Bool) (inside : W → List A) where
   -- The list of the collection of a key, or the empty list.

@@ -2,18 +2,16 @@
 -- the same before and after, and a placement is an insertion into that list.
 use Rattle.std.proofs.Common.{◌≡◌, ◌<◌, ◌≤◌, ℕ, Bool, true, false, List, [], ◌∷◌, ◌++◌, None, Option, Some, ap, arith, if◌then◌else◌, insert, length, min, position, refl, remove, set, slice_get, suc, sym, zero, ◌∙◌, ◌-◌}
 use Rattle.std.proofs.lemmas.{List.drop_min, List.set-get_or, List.take_min, List.Edits.length-remove, List.Quantifiers.position-Some, Option.get_or_from_slice_get, Option.slice_get_within}
-use Rattle.std.specs.{Cmp.IsEquivalence, List.list_any, Option.option_map_or}
+use Rattle.std.specs.{Cmp.IsEquivalence, List.list_any, Map.set_value, Option.option_map_or}
 use Rattle.vecmap_base.proofs.IndexLemmas.{position_none}
-use Rattle.vecmap_base.proofs.PairsLemmas.{Puts.put_absent, Recursion.put_cons}
+use Rattle.vecmap_base.proofs.PairsLemmas.{ByIndex.index_by_is, ByIndex.without_by_index, Puts.put_absent}
 use Rattle.vecmap_base.specs.Items.{swap_without, swap_without_first, without_first}
 use Rattle.vecmap_base.specs.Pairs.{HasDistinctKeys, index_of, lookup, put, put_at, swap_without_key, without_key}
-use Rattle.vecmap_map.specs.Contents.{Contents, with_value_at, with_value_of}
+use Rattle.vecmap_map.specs.Contents.{Contents, with_value_of}
 use Rattle.vecmap_laws.proofs.AfterPuts.{index_of_without_key}
 use Rattle.vecmap_laws.proofs.Inserted.{absent_first, index_none, insert_where_removed, without_key_at}
 use Rattle.vecmap_laws.proofs.Puts.{put_at_absent, put_at_present}
-use Rattle.vecmap_laws.proofs.Recursion.{without_key_cons}
 use Rattle.vecmap_laws.proofs.RemovalLemmas.{passing_at}
-use Rattle.vecmap_laws.proofs.WriteLemmas.{with_value_of_is_put}
 
 -- A removal by a test that no item passes changes nothing.
 pub without_first_absent : {X : Type 0} (test : X → Bool) (xs : List X) → position test xs ≡ None → without_first test xs ≡ xs
@@ -37,10 +35,10 @@ insert_past xs i n x h =
 module _ {K V : Type 0} (eq : K → K → Bool) where
   -- The removal of an absent key changes nothing.
   pub without_absent : (l : List (K × V)) (k : K) → index_of eq l k ≡ None → without_key eq l k ≡ l
-  without_absent l k none = without_first_absent (λ p. eq k p.0) l none
+  without_absent l k none = without_by_index (eq k) l ∙ ap (λ found. option_map_or (λ i. remove l i) found l) none
 
   pub swap_without_absent : (l : List (K × V)) (k : K) → index_of eq l k ≡ None → swap_without_key eq l k ≡ l
-  swap_without_absent l k none = swap_without_first_absent (λ p. eq k p.0) l none
+  swap_without_absent l k none = ap (λ found. option_map_or (λ i. swap_without l i) found l) none
 
   pub without_not_found : (l : List (K × V)) (k : K) → lookup eq l k ≡ None → without_key eq l k ≡ l
   without_not_found l k none = without_absent l k (index_none eq l k none)
@@ -52,7 +50,7 @@ module _ {K V : Type 0} (eq : K → K → Bool) where
       by : (found : Option ℕ) → index_of eq l k ≡ found → put_at eq l i k v ≡ insert (without_key eq l k) i (k, v)
       by None e = put_at_absent eq l i k v e ∙ ap (λ m. insert m i (k, v)) (sym (without_absent l k e))
       by (Some j) e =
-          let within : j < length l = (position-Some (λ p. eq k p.0) l j (k, v) e).0 in
+          let within : j < length l = (position-Some (λ p. eq k p.0) l j (k, v) (sym (index_by_is (eq k) l) ∙ e)).0 in
           let shorter : length l - 1 ≡ length (remove l j) = omega (arith, length-remove l j within) in
           put_at_present eq l i k v j e ∙ ap (λ n. insert (remove l j) (min i n) (k, v)) shorter ∙ insert_min (remove l j) i (k, v) ∙ ap (λ m. insert m i (k, v)) (sym (without_key_at eq l k j e))
 
@@ -61,7 +59,7 @@ module _ {K V : Type 0} (eq : K → K → Bool) where
     where
       by : (found : Option ℕ) → index_of eq l k ≡ found → length (without_key eq l k) ≤ length l
       by None e = rw (without_absent l k e) (omega arith)
-      by (Some j) e = let at = passing_at (λ p. eq k p.0) l j e in rw (without_key_at eq l k j e) (omega (arith, length-remove l j (slice_get_within l j at.0 at.1)))
+      by (Some j) e = let at = passing_at (λ p. eq k p.0) l j (sym (index_by_is (eq k) l) ∙ e) in rw (without_key_at eq l k j e) (omega (arith, length-remove l j (slice_get_within l j at.0 at.1)))
 
   -- A placement at an index past the end is one at the end.
   pub put_at_past : (l : List (K × V)) (i : ℕ) (k : K) (v : V) → put_at eq l (min i (length l)) k v ≡ put_at eq l i k v
@@ -78,24 +76,28 @@ module _ {K V : Type 0} (eq : K → K → Bool) where
 
   module _ (o : IsEquivalence eq) where
     own_first : (l : List (K × V)) (k : K) (v : V) → without_key eq ((k, v) ∷ l) k ≡ l
-    own_first l k v = without_key_cons eq (k, v) l k ∙ ap (λ b. if b then l else (k, v) ∷ without_key eq l k) (o.refl k)
+    own_first l k v = ap (λ b. if b then l else (k, v) ∷ without_key eq l k) (o.refl k)
 
     -- An insertion leaves the pairs of the other keys.
     pub without_put : (l : List (K × V)) (k : K) (v : V) → without_key eq (put eq l k v) k ≡ without_key eq l k
     without_put [] k v = own_first [] k v
-    without_put (p ∷ ps) k v = ap (λ m. without_key eq m k) (put_cons eq p ps k v) ∙ by (eq k p.0) refl (without_put ps k v) ∙ sym (without_key_cons eq p ps k)
+    without_put (p ∷ ps) k v = by (eq k p.0) refl (without_put ps k v)
       where
         by : (b : Bool) → eq k p.0 ≡ b → without_key eq (put eq ps k v) k ≡ without_key eq ps k → without_key eq (if b then (p.0, v) ∷ ps else p ∷ put eq ps k v) k ≡ (if b then ps else p ∷ without_key eq ps k)
-        by true e more = without_key_cons eq (p.0, v) ps k ∙ ap (λ b. if b then ps else (p.0, v) ∷ without_key eq ps k) e
-        by false e more = without_key_cons eq p (put eq ps k v) k ∙ ap (λ b. if b then put eq ps k v else p ∷ without_key eq (put eq ps k v) k) e ∙ ap (λ m. p ∷ m) more
+        by true e more = ap (λ b. if b then ps else (p.0, v) ∷ without_key eq ps k) e
+        by false e more = ap (λ b. if b then put eq ps k v else p ∷ without_key eq (put eq ps k v) k) e ∙ ap (λ m. p ∷ m) more
 
     -- So does a write of the value of the key.
     pub without_written : (m : Contents K V) (k : K) (v : V) → without_key eq (with_value_of eq m k v).entries k ≡ without_key eq m.entries k
-    without_written m k v = by (index_of eq m.entries k) refl
+    without_written m k v = removed m.entries
       where
-        by : (found : Option ℕ) → index_of eq m.entries k ≡ found → without_key eq (with_value_of eq m k v).entries k ≡ without_key eq m.entries k
-        by None e = ap (λ f. without_key eq (option_map_or (λ i. with_value_at m i v) f m).entries k) e
-        by (Some i) e = ap (λ l. without_key eq l k) (with_value_of_is_put eq m k v (rw e refl)) ∙ without_put m.entries k v
+        removed : (l : List (K × V)) → without_key eq (set_value (eq k) l v) k ≡ without_key eq l k
+        removed [] = refl
+        removed (p ∷ ps) = by (eq k p.0) refl (removed ps)
+          where
+            by : (b : Bool) → eq k p.0 ≡ b → without_key eq (set_value (eq k) ps v) k ≡ without_key eq ps k → without_key eq (if b then (p.0, v) ∷ ps else p ∷ set_value (eq k) ps v) k ≡ (if b then ps else p ∷ without_key eq ps k)
+            by true e more = ap (λ b. if b then ps else (p.0, v) ∷ without_key eq ps k) e
+            by false e more = ap (λ b. if b then set_value (eq k) ps v else p ∷ without_key eq (set_value (eq k) ps v) k) e ∙ ap (λ m. p ∷ m) more
 
     without_inserted : (l : List (K × V)) (i : ℕ) (k : K) (v : V) → index_of eq l k ≡ None → without_key eq (insert l i (k, v)) k ≡ l
     without_inserted [] zero k v none = own_first [] k v
@@ -104,7 +106,7 @@ module _ {K V : Type 0} (eq : K → K → Bool) where
     without_inserted (p ∷ ps) (suc i) k v none =
         let first = absent_first eq p ps k none in
         let more = insert ps i (k, v) in
-        without_key_cons eq p more k ∙ ap (λ b. if b then more else p ∷ without_key eq more k) first.0 ∙ ap (λ m. p ∷ m) (without_inserted ps i k v first.1)
+        ap (λ b. if b then more else p ∷ without_key eq more k) first.0 ∙ ap (λ m. p ∷ m) (without_inserted ps i k v first.1)
 
     module _ (l : List (K × V)) (d : HasDistinctKeys eq l) (k : K) where
       -- If all keys are distinct, so do a removal of the key and a placement.

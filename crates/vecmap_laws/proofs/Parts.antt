@@ -4,7 +4,6 @@ use Rattle.std.specs.Map as maps
 use Rattle.std.proofs.Common.{◌≡◌, ℕ, Bool, true, false, List, [], ◌∷◌, ◌++◌, Some, if◌then◌else◌, position, refl, reverse, sym, ap, ◌∙◌}
 use Rattle.std.proofs.lemmas.{List.reverse-append}
 use Rattle.vecmap_base.specs.{Items.adds, Items.item_index, Pairs.index_of, Pairs.lookup, Pairs.lookup_by, Pairs.put, Pairs.puts}
-use Rattle.vecmap_base.proofs.PairsLemmas.Indices.{lookup_by_is}
 use Rattle.vecmap_base.proofs.PairsLemmas.Keys.{index_of_is, keys_of_puts}
 use Rattle.vecmap_laws.proofs.AfterPuts.{lookup_put_any, option_or_assoc, option_or_none}
 use Rattle.vecmap_laws.proofs.ItemMembers.{item_index_adds_kept}
@@ -21,7 +20,7 @@ module _ {K V : Type 0} (test : K → Bool) where
 
   -- A lookup in a list of two parts finds what the first part has, or else what the second has.
   pub lookup_by_append : (a b : List (K × V)) → lookup_by test (a ++ b) ≡ option_or (lookup_by test a) (lookup_by test b)
-  lookup_by_append a b = lookup_by_is test (a ++ b) ∙ found_in_parts a b ∙ sym (λ t. option_or (lookup_by_is test a t) (lookup_by_is test b t))
+  lookup_by_append a b = found_in_parts a b
 
 module _ {K V : Type 0} (eq : K → K → Bool) where
   pub lookup_append : (a b : List (K × V)) (q : K) → lookup eq (a ++ b) q ≡ option_or (lookup eq a q) (lookup eq b q)

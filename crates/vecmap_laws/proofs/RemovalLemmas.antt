@@ -7,6 +7,7 @@ use Rattle.std.specs.{Cmp.IsEquivalence, List.IsDistinct, List.list_any, List.sw
 use Rattle.vecmap_base.proofs.DistinctLemmas.Order.{distinct_rearranged}
 use Rattle.vecmap_laws.proofs.DistinctKeys.{distinct_keys_rearranged}
 use Rattle.vecmap_base.proofs.IndexLemmas.{list_any_position}
+use Rattle.vecmap_base.proofs.PairsLemmas.ByIndex.{index_by_is, lookup_by_index as value_by_index}
 use Rattle.vecmap_laws.proofs.ItemQueries.{tells_as}
 use Rattle.vecmap_laws.proofs.Lookups.{look, lookup_congr}
 use Rattle.vecmap_laws.proofs.Order.{lookup_rearranged}
@@ -58,12 +59,15 @@ module _ {K V : Type 0} (eq : K → K → Bool) (o : IsEquivalence eq) where
   query_finds_same {X} f test respects l m alike = by (index_by test m) (index_by test l) refl refl
     where
       matched : (n : List (K × V)) (i : ℕ) → index_by test n ≡ Some i → (k : K) × IsTrue (test k) × (lookup_by test n ≡ lookup eq n k)
-      matched n i e = let p = passing_at (λ r. test r.0) n i e in (p.0.0, p.2, lookup_by_query eq o test respects n p.0.0 p.2)
+      matched n i e = let p = passing_at (λ r. test r.0) n i (sym (index_by_is test n) ∙ e) in (p.0.0, p.2, lookup_by_query eq o test respects n p.0.0 p.2)
+
+      not_found : (n : List (K × V)) → index_by test n ≡ None → lookup_by test n ≡ None
+      not_found n e = value_by_index test n ∙ ap (option_and_then (value_at n)) e
 
       by : (x y : Option ℕ) → index_by test m ≡ x → index_by test l ≡ y → f (lookup_by test m) ≡ f (lookup_by test l)
       by (Some i) y e g = let r = matched m i e in ap f r.2 ∙ alike r.0 r.1 ∙ sym (ap f (lookup_by_query eq o test respects l r.0 r.1))
       by None (Some j) e g = let r = matched l j g in ap f (lookup_by_query eq o test respects m r.0 r.1) ∙ alike r.0 r.1 ∙ sym (ap f r.2)
-      by None None e g = ap f (ap (option_and_then (value_at m)) e ∙ sym (ap (option_and_then (value_at l)) g))
+      by None None e g = ap f (not_found m e ∙ sym (not_found l g))
 
 -- A removal by index, which leaves all other items.
 module _ {X : Type 0} (takes : List X → ℕ → List X) (leaves : (xs : List X) (i : ℕ) (x : X) → slice_get xs i ≡ Some x → IsPermutation xs (x ∷ takes xs i)) where
@@ -110,8 +114,8 @@ module _ {K V : Type 0} (takes : List (K × V) → ℕ → List (K × V)) (leave
         none false found h = refl
 
         absent : index_by test l ≡ None → test q ≡ true → lookup eq l q ≡ None
-        absent e h = sym (lookup_by_query eq o test respects l q h) ∙ ap (option_and_then (value_at l)) e
+        absent e h = sym (lookup_by_query eq o test respects l q h) ∙ value_by_index test l ∙ ap (option_and_then (value_at l)) e
 
         by : (found : Option ℕ) → index_by test l ≡ found → lookup eq (option_map_or (takes l) found l) q ≡ (if test q then None else lookup eq l q)
         by None e = none (test q) (lookup eq l q) (absent e)
-        by (Some i) e = let at = passing_at (λ p. test p.0) l i e in lookup_by_index l d i at.0.0 at.0.1 at.1 q ∙ ap (λ b. if b then None else lookup eq l q) (sym (respects at.0.0 q at.2))
+        by (Some i) e = let at = passing_at (λ p. test p.0) l i (sym (index_by_is test l) ∙ e) in lookup_by_index l d i at.0.0 at.0.1 at.1 q ∙ ap (λ b. if b then None else lookup eq l q) (sym (respects at.0.0 q at.2))

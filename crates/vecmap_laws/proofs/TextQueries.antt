@@ -1,7 +1,7 @@
 -- What texts find after an insertion of a text of which the first value wins.
 use Rattle.std.proofs.Common.{◌≡◌, ℕ, Bool, true, false, List, None, Some, String, ap, bytes_eq, if◌then◌else◌, refl, string_bytes, string_eq, sym, ◌∙◌}
 use Rattle.std.proofs.lemmas.Slice.Eq.{bytes_eq-Decides}
-use Rattle.std.specs.Option.{option_or}
+use Rattle.std.specs.{Cmp.Lexicographic.nat_list_eq_equiv, Option.option_or}
 use Rattle.std.specs.declared.alloc.Global.{Global}
 use Rattle.vecmap_base.specs.Pairs.{has_text, lookup_by, put}
 use Rattle.vecmap_laws.proofs.AfterPuts.{option_or_none}
@@ -27,4 +27,5 @@ module _ {V : Type 0} (l : List (String Global × V)) (name text : List ℕ) (v 
       let absent = sym (lookup_by_query string_eq string_equality (has_text name) (text_respects name) l key (same_text name key own)) ∙ none in
       ap (lookup_by (has_text text)) (sym (put_new_not_found string_eq l key v absent))
       ∙ lookup_put_new_query string_eq string_equality (has_text text) (text_respects text) l key v
-      ∙ ap (λ n. option_or (lookup_by (has_text text) l) (if bytes_eq n text then Some v else None)) own
+      ∙ ap (λ n. option_or (lookup_by (has_text text) l) (if bytes_eq text n then Some v else None)) own
+      ∙ ap (λ b. option_or (lookup_by (has_text text) l) (if b then Some v else None)) (nat_list_eq_equiv.symm text name)

@@ -1,48 +1,65 @@
 -- A write of the value that a key or a query finds, and what lookups find after it. The idea: the write is `put` of any
 -- key that the query matches, so the lemmas on `put` hold.
 use Rattle.std.specs.Option.{option_map_or}
-use Rattle.std.proofs.Common.{◌≡◌, ℕ, Bool, List, [], ◌∷◌, ◌++◌, None, Option, Some, IsSome, ap, refl, sym, true≢false, ◌∙◌, false, IsTrue, bytes_eq, string_bytes, string_eq, String, unwrap_or, subst, get_or}
-use Rattle.vecmap_base.specs.Pairs.{index_of, put, with_value, has_text, index_by, lookup, lookup_by, value_at}
-use Rattle.vecmap_map.specs.Contents.{Contents, with_entries, with_value_at, with_value_of, with_value_by}
-use Rattle.std.specs.{Cmp.IsEquivalence, Cmp.Lexicographic.nat_list_eq_equiv, declared.alloc.Global.Global, Map.IsKeyTest, Map.keys_of, Option.option_and_then, Option.option_map_or}
-use Rattle.std.proofs.lemmas.List.Quantifiers.{position-Some}
-use Rattle.vecmap_base.proofs.PairsLemmas.Values.{keys_of_with_value, with_own_value}
+use Rattle.std.proofs.Common.{◌≡◌, ℕ, Bool, List, [], ◌∷◌, ◌++◌, None, Option, Some, IsSome, true, ap, refl, sym, true≢false, ◌∙◌, false, IsTrue, bytes_eq, string_bytes, string_eq, String, subst, if◌then◌else◌, inl, inr, is_some, suc}
+use Rattle.vecmap_base.specs.Pairs.{index_of, put, with_value, has_text, index_by, lookup, lookup_by}
+use Rattle.vecmap_map.specs.Contents.{Contents, with_entries, with_value_of, with_value_by}
+use Rattle.std.specs.{Cmp.IsEquivalence, Cmp.Lexicographic.nat_list_eq_equiv, declared.alloc.Global.Global, Map.IsKeyTest, Map.keys_of, Map.set_value, Option.option_map, Option.option_map_or}
+use Rattle.std.proofs.lemmas.{Bool.cases_Bool, Map.keys-set_value, Option.same_Some}
+use Rattle.vecmap_base.proofs.PairsLemmas.ByIndex.{put_by_index, set_value_by_index}
 use Rattle.vecmap_laws.proofs.ItemQueries.{tells_as}
-use Rattle.vecmap_laws.proofs.Queries.{lookup_put_other_query, lookup_put_query, string_equality, text_respects}
+use Rattle.vecmap_laws.proofs.Queries.{lookup_put_query, string_equality, text_respects}
 
 module _ {K V : Type 0} (eq : K → K → Bool) where
   -- A write of the value of a key that is present is `put`.
   pub with_value_of_is_put : (m : Contents K V) (k : K) (v : V) → IsSome (index_of eq m.entries k) → (with_value_of eq m k v).entries ≡ put eq m.entries k v
-  with_value_of_is_put m k v h = by (index_of eq m.entries k) h
+  with_value_of_is_put m k v h = set_value_by_index (eq k) m.entries v ∙ by (index_of eq m.entries k) h ∙ sym (put_by_index eq m.entries k v)
     where
-      by : (found : Option ℕ) → IsSome found → (option_map_or (λ i. with_value_at m i v) found m).entries ≡ option_map_or (λ i. with_value m.entries i v) found (m.entries ++ (k, v) ∷ [])
+      by : (found : Option ℕ) → IsSome found → option_map_or (λ i. with_value m.entries i v) found m.entries ≡ option_map_or (λ i. with_value m.entries i v) found (m.entries ++ (k, v) ∷ [])
       by None h = absurd (true≢false (sym h))
       by (Some i) h = refl
 
 -- A key that passes the test, if there is an index of one.
 found_key : {K V : Type 0} (test : K → Bool) (l : List (K × V)) → IsSome (index_by test l) → (k : K) × IsTrue (test k)
 found_key test [] h = absurd (true≢false (sym h))
-found_key {K} test (p ∷ ps) h = by (index_by test (p ∷ ps)) refl h
+found_key {K} test (p ∷ ps) h =
+    elim (cases_Bool (test p.0)) [
+      | inl e ↦ (p.0, e)
+      | inr n ↦ found_key test ps (sym (is_some_suc (index_by test ps)) ∙ sym (ap (λ b. is_some (if b then Some 0 else option_map suc (index_by test ps))) n) ∙ h)
+    ]
   where
-    by : (found : Option ℕ) → index_by test (p ∷ ps) ≡ found → IsSome found → (k : K) × IsTrue (test k)
-    by None e s = absurd (true≢false (sym s))
-    by (Some i) e s = ((get_or (p ∷ ps) i p).0, (position-Some (λ q. test q.0) (p ∷ ps) i p e).1)
+    is_some_suc : (found : Option ℕ) → is_some (option_map suc found) ≡ is_some found
+    is_some_suc None = refl
+    is_some_suc (Some i) = refl
 
 -- A write does not change the keys.
 pub keys_of_with_value_by : {K V : Type 0} (test : K → Bool) (m : Contents K V) (v : V) → keys_of (with_value_by test m v).entries ≡ keys_of m.entries
-keys_of_with_value_by test m v = by (index_by test m.entries)
+keys_of_with_value_by test m v = keys-set_value test m.entries v
+
+-- A query that matches none of the keys that a write matches finds what it found before.
+lookup_set_value_apart : {K V : Type 0} (test other : K → Bool) → ((k : K) → IsTrue (test k) → other k ≡ false) → (l : List (K × V)) (v : V) → lookup_by other (set_value test l v) ≡ lookup_by other l
+lookup_set_value_apart test other apart [] v = refl
+lookup_set_value_apart {K} {V} test other apart (p ∷ ps) v = by (test p.0) refl (lookup_set_value_apart test other apart ps v)
   where
-    by : (found : Option ℕ) → keys_of (option_map_or (λ i. with_value_at m i v) found m).entries ≡ keys_of m.entries
-    by None = refl
-    by (Some i) = keys_of_with_value m.entries i v
+    by : (b : Bool) → test p.0 ≡ b → lookup_by other (set_value test ps v) ≡ lookup_by other ps → lookup_by other (if b then (p.0, v) ∷ ps else p ∷ set_value test ps v) ≡ lookup_by other (p ∷ ps)
+    by true e more = (λ t. if apart p.0 e t then Some v else lookup_by other ps) ∙ sym (λ t. if apart p.0 e t then Some p.1 else lookup_by other ps)
+    by false e more = ap (λ found. if other p.0 then Some p.1 else found) more
+
+-- A write of a value that is absent changes nothing.
+pub written_absent : {K V : Type 0} (test : K → Bool) (m : Contents K V) (v : V) → index_by test m.entries ≡ None → with_value_by test m v ≡ m
+written_absent test m v none = ap (with_entries m) (set_value_by_index test m.entries v ∙ ap (λ found. option_map_or (λ i. with_value m.entries i v) found m.entries) none)
 
 -- A write of the value that a test finds changes nothing.
 pub written_back : {K V : Type 0} (test : K → Bool) (m : Contents K V) (v : V) → lookup_by test m.entries ≡ Some v → with_value_by test m v ≡ m
-written_back test m v = by (index_by test m.entries)
+written_back {K} {V} test m v e = ap (with_entries m) (same m.entries e)
   where
-    by : (found : Option ℕ) → option_and_then (value_at m.entries) found ≡ Some v → option_map_or (λ i. with_value_at m i v) found m ≡ m
-    by None e = refl
-    by (Some i) e = ap (with_entries m) (ap (with_value m.entries i) (sym (ap (λ o. unwrap_or o v) e)) ∙ with_own_value m.entries i v)
+    same : (l : List (K × V)) → lookup_by test l ≡ Some v → set_value test l v ≡ l
+    same [] e = refl
+    same (p ∷ ps) e = by (test p.0) e (same ps)
+      where
+        by : (b : Bool) → (if b then Some p.1 else lookup_by test ps) ≡ Some v → (lookup_by test ps ≡ Some v → set_value test ps v ≡ ps) → (if b then (p.0, v) ∷ ps else p ∷ set_value test ps v) ≡ p ∷ ps
+        by true e more = ap (λ x. (p.0, x) ∷ ps) (sym (same_Some p.1 v e))
+        by false e more = ap (λ t. p ∷ t) (more e)
 
 module _ {K V : Type 0} (eq : K → K → Bool) (o : IsEquivalence eq) (test : K → Bool) (respects : IsKeyTest eq test) where
   -- A write of the value that a query finds is `put` of each key that the query matches.
@@ -59,14 +76,7 @@ module _ {K V : Type 0} (eq : K → K → Bool) (o : IsEquivalence eq) (test : K
 
   -- A query that matches no such key finds what it found before.
   pub lookup_written_other_query : (other : K → Bool) → IsKeyTest eq other → ((k : K) → IsTrue (test k) → other k ≡ false) → (m : Contents K V) (v : V) → lookup_by other (with_value_by test m v).entries ≡ lookup_by other m.entries
-  lookup_written_other_query other respects_other apart m v = by (index_by test m.entries) refl
-    where
-      by : (found : Option ℕ) → index_by test m.entries ≡ found → lookup_by other (with_value_by test m v).entries ≡ lookup_by other m.entries
-      by None e = ap (λ f. lookup_by other (option_map_or (λ i. with_value_at m i v) f m).entries) e
-      by (Some i) e =
-          let there : IsSome (index_by test m.entries) = subst IsSome (sym e) refl in
-          let w = found_key test m.entries there in
-          ap (lookup_by other) (with_value_by_is_put m w.0 v w.1 there) ∙ lookup_put_other_query eq o other respects_other m.entries w.0 v (apart w.0 w.1)
+  lookup_written_other_query other respects_other apart m v = lookup_set_value_apart test other apart m.entries v
 
   -- A key that the query does not match finds what it found before.
   pub lookup_written_other : (m : Contents K V) (v : V) (q : K) → test q ≡ false → lookup eq (with_value_by test m v).entries q ≡ lookup eq m.entries q
@@ -74,7 +84,7 @@ module _ {K V : Type 0} (eq : K → K → Bool) (o : IsEquivalence eq) (test : K
 
 -- Two texts of different bytes match no string in common.
 pub texts_apart : (text other : List ℕ) → bytes_eq text other ≡ false → (k : String Global) → IsTrue (has_text text k) → has_text other k ≡ false
-texts_apart text other n k h = nat_list_eq_equiv.congr (string_bytes k) text other h ∙ n
+texts_apart text other n k h = nat_list_eq_equiv.symm other (string_bytes k) ∙ sym (nat_list_eq_equiv.congr text (string_bytes k) other h) ∙ n
 
 module _ {V : Type 0} where
   -- After a write by a text, other texts find what they found before.

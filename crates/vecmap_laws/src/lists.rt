@@ -1,4 +1,5 @@
 //! Laws of lists, which are laws of maps and of sets.
+ghost use Rattle.std.specs.Cmp.{IsEquivalence};
 ghost use Rattle.std.specs.Prelude.{◌≡◌, ◌≤◌, ℕ, List, String, bytes_eq, false, length, string_bytes, string_eq, true};
 ghost use Rattle.std.specs.List.{IsDistinct};
 ghost use Rattle.std.specs.Map.{IsKeyTest, keys_of};
@@ -36,4 +37,11 @@ pub fn texts_are_queries()
     ensures same { (text other : List ℕ) → bytes_eq text other ≡ true → text ≡ other }
     ensures apart { (text other : List ℕ) → bytes_eq text other ≡ false → (k : String Global)
         → has_text text k ≡ true → has_text other k ≡ false }
+{}
+
+/// The `==` of a type is reflexive, symmetric and transitive, as [`Eq`] says.
+///
+/// The rulesets of lookups need it at a type parameter.
+pub fn eq_is_an_equivalence<T: Eq>()
+    ensures { IsEquivalence T.eq }
 {}

@@ -1,14 +1,23 @@
 //! Laws of maps, and of the definitions that their contracts use. A call of a law costs nothing at run time, and adds
 //! the law to what the proof of the caller knows.
+mod algebra;
+mod congruence;
 mod distinct;
 mod equality;
 mod insertions;
 mod lookups;
 mod nested;
+mod order;
+mod parts;
 mod removals;
 mod writes;
 
-pub use crate::lists::{key_comparisons_are_bounded, texts_are_queries};
+pub use crate::lists::{eq_is_an_equivalence, key_comparisons_are_bounded, texts_are_queries};
+pub use algebra::{
+    bulk_insertions_bound_the_length, insertions_commute, removals_commute, sums_follow_changes,
+    unions_of_disjoint_maps_commute,
+};
+pub use congruence::equal_maps_stay_equal;
 pub use distinct::{
     insertion_keeps_keys_distinct, parts_keep_keys_distinct, removal_keeps_keys_distinct,
 };
@@ -22,6 +31,8 @@ pub use insertions::{
 };
 pub use lookups::{equal_keys_find_the_same, queries_find_as_keys};
 pub use nested::{inner_insertions_are_found, values_are_found_by_two_keys};
+pub use order::{clones_keep_lookups, equal_maps_are_rearranged, order_keeps_lookups};
+pub use parts::{filters_keep_lookups, parts_keep_lookups, removals_shift_indices};
 pub use removals::{
     appending_undoes_splitting, moves_keep_lookups, removals_are_forgotten,
     removals_by_index_are_undone, removals_shorten,

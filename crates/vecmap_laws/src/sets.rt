@@ -1,18 +1,20 @@
 //! Laws of sets, and of the definitions that their contracts use. A call of a law costs nothing at run time, and adds
 //! the law to what the proof of the caller knows.
 mod algebra;
+mod congruence;
 mod distinct;
 mod equality;
 mod insertions;
 mod lookups;
 mod removals;
 
-pub use crate::lists::{comparisons_are_bounded, texts_are_queries};
+pub use crate::lists::{comparisons_are_bounded, eq_is_an_equivalence, texts_are_queries};
 pub use algebra::{
     algebra_is_symmetric, disjoint_sets_have_no_intersection, lazy_iterators_agree_with_operators,
     lazy_iterators_give_no_repeats, lengths_of_intersection_and_union_add_up,
     operators_combine_members,
 };
+pub use congruence::{equal_sets_stay_equal, filters_keep_members};
 pub use distinct::parts_keep_elements_distinct;
 pub use equality::{
     disjointness_is_symmetric, equality_ignores_order, equality_is_an_equivalence,

@@ -1,0 +1,31 @@
+//! Laws of lists in another order, as after a sort, and of clones.
+ghost use Rattle.std.specs.List.{AllZip};
+ghost use Rattle.std.specs.List.Sorted.{IsPermutation};
+ghost use Rattle.std.specs.Prelude.{◌≡◌, ◌<◌, ℕ, IsTrue, List, length, reverse, swap, true};
+ghost use Rattle.vecmap_base.specs.Clones.{ArePairClones};
+ghost use Rattle.vecmap_base.specs.Equality.{has_same_counts, same_pair};
+ghost use Rattle.vecmap_base.specs.Pairs.{HasDistinctKeys, lookup};
+
+/// If all keys are distinct, each key finds the same value in another order.
+pub fn order_keeps_lookups<K: Eq, V>()
+    ensures rearranged { (l m : List (K × V)) → HasDistinctKeys K.eq l → IsPermutation l m → (q : K)
+        → lookup K.eq m q ≡ lookup K.eq l q }
+    ensures reversed { (l : List (K × V)) → HasDistinctKeys K.eq l → (q : K)
+        → lookup K.eq (reverse l) q ≡ lookup K.eq l q }
+    ensures swapped { (l : List (K × V)) → HasDistinctKeys K.eq l → (i j : ℕ) → i < length l
+        → j < length l → (q : K) → lookup K.eq (swap l i j) q ≡ lookup K.eq l q }
+{}
+
+/// Equal maps of distinct keys have the same pairs in some order, up to `==` of keys and values.
+pub fn equal_maps_are_rearranged<K: Eq, V: Eq>()
+    ensures { (a b : List (K × V)) → HasDistinctKeys K.eq a → HasDistinctKeys K.eq b
+        → IsTrue (has_same_counts K.eq V.eq a b) → (c : List (K × V)) × IsPermutation b c
+        × AllZip (λ p r. IsTrue (same_pair K.eq V.eq p r)) a c }
+{}
+
+/// A key finds the same value in clones, if clones of keys are equal and clones of values are the same.
+pub fn clones_keep_lookups<K: Eq + Clone, V: Clone>()
+    ensures { ((x y : K) → K.is_clone x y → K.eq x y ≡ true) → ((v w : V) → V.is_clone v w → w ≡ v)
+        → (l m : List (K × V)) → ArePairClones K.is_clone V.is_clone l m → (q : K)
+        → lookup K.eq m q ≡ lookup K.eq l q }
+{}
