@@ -1,6 +1,8 @@
 -- What lookups find after a change of a list of pairs. `eq` is the `==` of keys.
 use Rattle.std.specs.Prelude.{◌≡◌, ◌<◌, ◌≤◌, ℕ, Bool, List, None, Option, Some, cond, false}
+use Rattle.std.specs.List.{list_any}
 use Rattle.std.specs.Option.{option_or}
+use Rattle.std.specs.Set.{is_member, KeepsOthers as KeepsOtherItems}
 use Rattle.std.specs.Map.{IsKeyTest, KeepsOthers}
 use Rattle.vecmap_base.specs.Pairs.{HasDistinctKeys, index_by, lookup, lookup_by}
 
@@ -39,3 +41,11 @@ module _ {K V : Type 0} where
   pub record Joins (eq : K → K → Bool) (l pairs m : List (K × V)) : Type 0 where
     pub lookups : HasDistinctKeys eq pairs → (q : K) → lookup eq m q ≡ option_or (lookup eq pairs q) (lookup eq l q)
     pub distinct : HasDistinctKeys eq l → HasDistinctKeys eq m
+
+-- Example: from `[1]` to `[1, 2]` for 2: true.
+-- The list `r` has elements that pass the test exactly if `b` is true, and each other element exactly if `s` has it.
+pub record UpdatesMember {T : Type 0} (eq : T → T → Bool) (test : T → Bool) (s r : List T) (b : Bool) : Type 0 where
+  pub members : (q : T) → is_member eq r q ≡ cond (test q) b (is_member eq s q)
+  pub own : list_any test r ≡ b
+  pub others : (q : T) → test q ≡ false → is_member eq r q ≡ is_member eq s q
+  pub queries : KeepsOtherItems eq test s r
