@@ -73,7 +73,7 @@ module _ {K V : Type 0} where
   keeps_front_of n l m e = subst (KeepsFront n l) (sym e) (keeps_front n l)
 
 module _ {K V : Type 0} (eq : K → K → Bool) (o : IsEquivalence eq) where
-  found_in_either : (l pairs : List (K × V)) → HasDistinctKeys eq pairs → (q : K) → lookup eq (puts eq l pairs) q ≡ option_or (lookup eq pairs q) (lookup eq l q)
+  pub found_in_either : (l pairs : List (K × V)) → HasDistinctKeys eq pairs → (q : K) → lookup eq (puts eq l pairs) q ≡ option_or (lookup eq pairs q) (lookup eq l q)
   found_in_either l [] d q = refl
   found_in_either l (p ∷ ps) d q =
       found_in_either (put eq l p.0 p.1) ps (IsDistinct-tail eq p.0 _ d) q

@@ -1,7 +1,8 @@
 -- What lookups find after a removal and after a write of a value, in the words of contracts.
-use Rattle.std.specs.{Cmp.IsEquivalence, List.Sorted.IsPermutation, List.swap_remove, Map.AreApart, Map.IsKeyTest, Map.KeepsOthers, Map.set_value, Option.option_and_then, Option.option_map_or}
-use Rattle.std.proofs.Common.{◌≡◌, ◌∙◌, ℕ, Bool, true, false, List, [], ◌∷◌, None, Option, Some, IsSome, ap, cond, get_or, inl, inr, refl, remove, slice_get, subst, sym, true≢false}
+use Rattle.std.specs.{Cmp.IsEquivalence, List.IsDistinct, List.Sorted.IsPermutation, List.swap_remove, Map.AreApart, Map.IsKeyTest, Map.KeepsOthers, Map.keys_of, Map.set_value, Option.option_and_then, Option.option_map_or}
+use Rattle.std.proofs.Common.{◌≡◌, ◌∙◌, ◌++◌, ℕ, Bool, true, false, List, [], ◌∷◌, None, Option, Some, IsSome, ap, cond, get_or, inl, inr, refl, remove, slice_get, subst, sym, true≢false}
 use Rattle.std.proofs.lemmas.Bool.{cases_Bool}
+use Rattle.std.proofs.lemmas.List.{map-set}
 use Rattle.std.proofs.lemmas.List.Quantifiers.{position-Some}
 use Rattle.std.proofs.lemmas.List.Sorted.{IsPermutation-remove, IsPermutation-swap_remove}
 use Rattle.std.proofs.lemmas.Map.{lookup-none, lookup-set_value}
@@ -9,10 +10,13 @@ use Rattle.std.proofs.lemmas.Map.Entries.{none_past_head}
 use Rattle.std.proofs.lemmas.Map.Keys.{IsDistinct-tail}
 use Rattle.std.proofs.lemmas.Option.{get_or_from_slice_get, none-some, slice_get-get_or, slice_get_within}
 use Rattle.vecmap_base.specs.{Items.swap_without, Lookups.KeepsLookups, Lookups.UpdatesBy}
-use Rattle.vecmap_base.specs.Pairs.{HasDistinctKeys, index_by, lookup, lookup_by, swap_without_by, value_at, without_by}
-use Rattle.vecmap_base.proofs.PairsLemmas.ByIndex.{index_by_is, lookup_by_index, without_by_index}
-use Rattle.vecmap_base.proofs.PairsLemmas.Distinct.{distinct_keys_rearranged, distinct_keys_set_value}
-use Rattle.vecmap_base.proofs.PairsLemmas.Lookups.{compares_with, same_answer}
+use Rattle.vecmap_base.specs.Pairs.{HasDistinctKeys, index_by, index_of, lookup, lookup_by, put, put_key, swap_without_by, value_at, with_pair, without_by}
+use Rattle.vecmap_base.proofs.PairsLemmas.ByIndex.{index_by_is, lookup_by_index, put_key_by_index, without_by_index}
+use Rattle.vecmap_base.proofs.PairsLemmas.Distinct.{distinct_keys_rearranged, distinct_keys_set_value, distinct_put}
+use Rattle.vecmap_base.proofs.PairsLemmas.Keys.{index_of_is}
+use Rattle.vecmap_base.proofs.PairsLemmas.Lookups.{compares_with, same_answer, updates_put}
+use Rattle.vecmap_base.proofs.DistinctLemmas.Additions.{distinct_replace}
+use Rattle.vecmap_base.proofs.PairsLemmas.Puts.{put_absent}
 use Rattle.vecmap_base.proofs.PairsLemmas.Order.{lookup_by_rearranged, pair_of_value}
 
 module _ {K V : Type 0} (eq : K → K → Bool) (o : IsEquivalence eq) (test : K → Bool) (respects : IsKeyTest eq test) where
@@ -119,3 +123,35 @@ module _ {K V : Type 0} (eq : K → K → Bool) (o : IsEquivalence eq) where
     queries = λ test respects. lookup_by_rearranged eq o test respects l m moved d;
     distinct = distinct_keys_rearranged eq o l m moved d;
   }
+
+  -- An insertion that takes the new key finds the same as one that keeps the old key.
+  lookup_by_put_key : (test : K → Bool) → IsKeyTest eq test → (l : List (K × V)) (k : K) (v : V) → lookup_by test (put_key eq l k v) ≡ lookup_by test (put eq l k v)
+  lookup_by_put_key test respects [] k v = refl
+  lookup_by_put_key test respects (p ∷ ps) k v =
+      elim (cases_Bool (eq k p.0)) [
+        | inl e ↦
+            ap (λ b. lookup_by test (cond b ((k, v) ∷ ps) (p ∷ put_key eq ps k v))) e
+            ∙ ap (λ b. cond b (Some v) (lookup_by test ps)) (same_answer eq o test respects k p.0 e)
+            ∙ sym (ap (λ b. lookup_by test (cond b ((p.0, v) ∷ ps) (p ∷ put eq ps k v))) e)
+        | inr e ↦
+            ap (λ b. lookup_by test (cond b ((k, v) ∷ ps) (p ∷ put_key eq ps k v))) e
+            ∙ ap (λ r. cond (test p.0) (Some p.1) r) (lookup_by_put_key test respects ps k v)
+            ∙ sym (ap (λ b. lookup_by test (cond b ((p.0, v) ∷ ps) (p ∷ put eq ps k v))) e)
+      ]
+
+  distinct_put_key : (l : List (K × V)) (k : K) (v : V) → HasDistinctKeys eq l → HasDistinctKeys eq (put_key eq l k v)
+  distinct_put_key l k v d = subst (HasDistinctKeys eq) (sym (put_key_by_index eq l k v)) (by (index_of eq l k) refl)
+    where
+      by : (found : Option ℕ) → index_of eq l k ≡ found → HasDistinctKeys eq (option_map_or (λ i. with_pair l i k v) found (l ++ (k, v) ∷ []))
+      by None e = subst (HasDistinctKeys eq) (put_absent eq l k v e) (distinct_put eq o l k v d)
+      by (Some i) e =
+          let at = position-Some (eq k) (keys_of l) i k (sym (index_of_is eq l k) ∙ e) in
+          subst (IsDistinct eq) (sym (map-set (λ p. p.0) l i (k, v))) (distinct_replace eq o (keys_of l) i k at.0 at.1 d)
+
+  pub updates_put_key : (l m : List (K × V)) (k : K) (v : V) → m ≡ put_key eq l k v → UpdatesBy eq (eq k) l m (Some v)
+  unfolding KeepsOthers
+  updates_put_key l m k v e =
+      let u = updates_put eq o l k v in
+      subst (λ n. UpdatesBy eq (eq k) l n (Some v)) (sym e)
+      (updates_from eq o (eq k) (o.congr k) l (put_key eq l k v) (Some v) (lookup_by_put_key (eq k) (o.congr k) l k v ∙ u.own)
+      (λ other tells apart. lookup_by_put_key other tells l k v ∙ u.queries other tells apart) (distinct_put_key l k v))
