@@ -1,10 +1,13 @@
 pub mod AdditionQueries
 pub mod AfterPuts
 pub mod AlgebraLemmas
+pub mod AtNumbers
+pub mod AtTexts
 pub mod CloneEquality
 pub use Rattle.vecmap_base.proofs.CloneLemmas
 pub mod Combining
 mod ComparisonLemmas
+pub mod CountingLemmas
 pub use Rattle.vecmap_map.proofs.ContentsLemmas
 pub mod DistinctAbsent
 pub mod DistinctAdditions
@@ -61,6 +64,7 @@ pub mod SetRelations
 pub mod SortedLemmas
 pub mod TextQueries
 pub mod TwoKeys
+pub mod Undone
 pub use Rattle.vecmap_base.proofs.UpdatedLemmas
 pub mod Values
 pub mod WalkLemmas

@@ -9,6 +9,8 @@ use Rattle.vecmap_base.proofs.LoopLemmas.{key_stays, keys_written}
 use Rattle.vecmap_base.proofs.PairsLemmas.Keys.{keys_of_put, keys_of_puts}
 use Rattle.std.specs.{Cmp.nat_eq_equiv, String.string_eq_equiv}
 use Rattle.vecmap_laws.proofs.AfterPuts.{index_of_congr, index_of_put, lookup_put_any, lookup_puts_distinct, lookup_without_any}
+pub use Rattle.vecmap_laws.proofs.AtNumbers.{lookups_at_numbers, members_at_numbers}
+pub use Rattle.vecmap_laws.proofs.AtTexts.{lookups_at_texts, members_at_texts, texts}
 use Rattle.vecmap_laws.proofs.CloneEquality.{clones_equal, equal_to_itself, equal_to_itself_at_numbers, same_clones}
 use Rattle.vecmap_laws.proofs.SearchedMaps.{inserted_new, search_finds, search_finds_at_numbers, sorted_after, sorted_after_at_numbers}
 use Rattle.vecmap_laws.proofs.DistinctKeys.{distinct_keys_remove, distinct_keys_swap_without_key, distinct_keys_take, distinct_put, distinct_put_at, distinct_put_key, distinct_puts}

@@ -11,6 +11,7 @@ mod order;
 mod parts;
 mod removals;
 mod sorted;
+mod words;
 mod writes;
 
 pub use crate::lists::{eq_is_an_equivalence, key_comparisons_are_bounded, texts_are_queries};
@@ -44,6 +45,7 @@ pub use sorted::{
     binary_searches_find_indices, insertions_where_searches_end_keep_the_order,
     sorts_of_sorted_maps_change_nothing,
 };
+pub use words::{counted, lists_are_found, put, puts, without_key};
 pub use writes::{
     writes_are_insertions, writes_by_queries_are_insertions, writes_leave_other_keys,
 };
