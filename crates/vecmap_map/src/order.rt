@@ -27,7 +27,7 @@ impl<K, V> VecMap<K, V> {
     /// ```
     pub fn reverse(&mut self)
         ensures entries { self.new.entries ≡ reverse self.old.entries }
-        ensures present { (test : K → Bool) → is_some (index_by test self.new.entries)
+        ensures matches { (test : K → Bool) → is_some (index_by test self.new.entries)
             ≡ is_some (index_by test self.old.entries) }
         ensures lookups { (eq : K → K → Bool) → IsEquivalence eq → HasDistinctKeys eq self.old.entries
             → KeepsLookups eq self.old.entries self.new.entries }
@@ -58,7 +58,7 @@ impl<K, V> VecMap<K, V> {
         requires a_within { a < length self.old.entries }
         requires b_within { b < length self.old.entries }
         ensures entries { self.new.entries ≡ swap self.old.entries a b }
-        ensures present { (test : K → Bool) → is_some (index_by test self.new.entries)
+        ensures matches { (test : K → Bool) → is_some (index_by test self.new.entries)
             ≡ is_some (index_by test self.old.entries) }
         ensures lookups { (eq : K → K → Bool) → IsEquivalence eq → HasDistinctKeys eq self.old.entries
             → KeepsLookups eq self.old.entries self.new.entries }
@@ -92,7 +92,7 @@ impl<K, V> VecMap<K, V> {
         ensures rearranged { IsPermutation self.old.entries self.new.entries }
         ensures err { OnErr result (self.new ≡ self.old) }
         ensures succeeds { length self.old.entries ≤ 20 → IsOk result }
-        ensures present { (test : K → Bool) → is_some (index_by test self.new.entries)
+        ensures matches { (test : K → Bool) → is_some (index_by test self.new.entries)
             ≡ is_some (index_by test self.old.entries) }
         ensures lookups { HasDistinctKeys K.eq self.old.entries
             → KeepsLookups K.eq self.old.entries self.new.entries }
@@ -131,7 +131,7 @@ impl<K, V> VecMap<K, V> {
         ensures rearranged { IsPermutation self.old.entries self.new.entries }
         ensures err { OnErr result (self.new ≡ self.old) }
         ensures succeeds { length self.old.entries ≤ 20 → IsOk result }
-        ensures present { (test : K → Bool) → is_some (index_by test self.new.entries)
+        ensures matches { (test : K → Bool) → is_some (index_by test self.new.entries)
             ≡ is_some (index_by test self.old.entries) }
         ensures lookups { (eq : K → K → Bool) → IsEquivalence eq → HasDistinctKeys eq self.old.entries
             → KeepsLookups eq self.old.entries self.new.entries }
@@ -179,7 +179,7 @@ impl<K, V> VecMap<K, V> {
         ensures rearranged { IsPermutation self.old.entries self.new.entries }
         ensures err { OnErr result (self.new ≡ self.old) }
         ensures succeeds { length self.old.entries ≤ 1 → IsOk result }
-        ensures present { (test : K → Bool) → is_some (index_by test self.new.entries)
+        ensures matches { (test : K → Bool) → is_some (index_by test self.new.entries)
             ≡ is_some (index_by test self.old.entries) }
         ensures lookups { (eq : K → K → Bool) → IsEquivalence eq → HasDistinctKeys eq self.old.entries
             → KeepsLookups eq self.old.entries self.new.entries }
@@ -211,7 +211,7 @@ impl<K, V> VecMap<K, V> {
         K: Ord,
         ensures sorted { IsSortedByKey (λ p. p.0) K.cmp self.new.entries }
         ensures rearranged { IsPermutation self.old.entries self.new.entries }
-        ensures present { (test : K → Bool) → is_some (index_by test self.new.entries)
+        ensures matches { (test : K → Bool) → is_some (index_by test self.new.entries)
             ≡ is_some (index_by test self.old.entries) }
         ensures lookups { HasDistinctKeys K.eq self.old.entries
             → KeepsLookups K.eq self.old.entries self.new.entries }
@@ -243,7 +243,7 @@ impl<K, V> VecMap<K, V> {
         requires { F.IsAlwaysCallable f }
         ensures sorted { IsSortedByPairClosure F.Fn f self.new.entries }
         ensures rearranged { IsPermutation self.old.entries self.new.entries }
-        ensures present { (test : K → Bool) → is_some (index_by test self.new.entries)
+        ensures matches { (test : K → Bool) → is_some (index_by test self.new.entries)
             ≡ is_some (index_by test self.old.entries) }
         ensures lookups { (eq : K → K → Bool) → IsEquivalence eq → HasDistinctKeys eq self.old.entries
             → KeepsLookups eq self.old.entries self.new.entries }

@@ -25,7 +25,7 @@ impl<T: Eq> VecSet<T> {
     pub fn reverse(&mut self)
         ensures elements { self.new.elements ≡ reverse self.old.elements }
         ensures distinct { IsDistinct T.eq self.new.elements }
-        ensures present { (test : T → Bool) → list_any test self.new.elements
+        ensures matches { (test : T → Bool) → list_any test self.new.elements
             ≡ list_any test self.old.elements }
         ensures capacity { self.new.capacity ≡ self.old.capacity }
     {
@@ -55,7 +55,7 @@ impl<T: Eq> VecSet<T> {
         requires b_within { b < length self.old.elements }
         ensures elements { self.new.elements ≡ swap self.old.elements a b }
         ensures distinct { IsDistinct T.eq self.new.elements }
-        ensures present { (test : T → Bool) → list_any test self.new.elements
+        ensures matches { (test : T → Bool) → list_any test self.new.elements
             ≡ list_any test self.old.elements }
         ensures capacity { self.new.capacity ≡ self.old.capacity }
     {
@@ -88,7 +88,7 @@ impl<T: Eq> VecSet<T> {
         ensures err { OnErr result (self.new ≡ self.old) }
         ensures succeeds { length self.old.elements ≤ 20 → IsOk result }
         ensures distinct { IsDistinct T.eq self.new.elements }
-        ensures present { (test : T → Bool) → list_any test self.new.elements
+        ensures matches { (test : T → Bool) → list_any test self.new.elements
             ≡ list_any test self.old.elements }
         ensures capacity { self.new.capacity ≡ self.old.capacity }
     {
@@ -126,7 +126,7 @@ impl<T: Eq> VecSet<T> {
         ensures err { OnErr result (self.new ≡ self.old) }
         ensures succeeds { length self.old.elements ≤ 20 → IsOk result }
         ensures distinct { IsDistinct T.eq self.new.elements }
-        ensures present { (test : T → Bool) → list_any test self.new.elements
+        ensures matches { (test : T → Bool) → list_any test self.new.elements
             ≡ list_any test self.old.elements }
         ensures capacity { self.new.capacity ≡ self.old.capacity }
     {
@@ -167,7 +167,7 @@ impl<T: Eq> VecSet<T> {
         ensures err { OnErr result (self.new ≡ self.old) }
         ensures succeeds { length self.old.elements ≤ 1 → IsOk result }
         ensures distinct { IsDistinct T.eq self.new.elements }
-        ensures present { (test : T → Bool) → list_any test self.new.elements
+        ensures matches { (test : T → Bool) → list_any test self.new.elements
             ≡ list_any test self.old.elements }
         ensures capacity { self.new.capacity ≡ self.old.capacity }
     {
@@ -193,7 +193,7 @@ impl<T: Eq> VecSet<T> {
         ensures sorted { IsSorted T.cmp self.new.elements }
         ensures rearranged { IsPermutation self.old.elements self.new.elements }
         ensures distinct { IsDistinct T.eq self.new.elements }
-        ensures present { (test : T → Bool) → list_any test self.new.elements
+        ensures matches { (test : T → Bool) → list_any test self.new.elements
             ≡ list_any test self.old.elements }
         ensures capacity { self.new.capacity ≡ self.old.capacity }
     {
@@ -224,7 +224,7 @@ impl<T: Eq> VecSet<T> {
         ensures sorted { IsSortedByClosure F.FnMut f self.new.elements }
         ensures rearranged { IsPermutation self.old.elements self.new.elements }
         ensures distinct { IsDistinct T.eq self.new.elements }
-        ensures present { (test : T → Bool) → list_any test self.new.elements
+        ensures matches { (test : T → Bool) → list_any test self.new.elements
             ≡ list_any test self.old.elements }
         ensures capacity { self.new.capacity ≡ self.old.capacity }
     {

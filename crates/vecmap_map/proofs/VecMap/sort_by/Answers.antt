@@ -15,5 +15,5 @@ returns-clause-stable g c = λ lt order by.
 pub returns-clause-lookups : goal.returns-clause-lookups
 returns-clause-lookups g c = λ eq o d. lookups_rearranged eq o _ _ (search rules) d
 
-pub returns-clause-present : goal.returns-clause-present
-returns-clause-present g c = λ test. matches_rearranged test _ _ (search rules)
+pub returns-clause-matches : goal.returns-clause-matches
+returns-clause-matches g c = λ test. matches_rearranged test _ _ (search rules)

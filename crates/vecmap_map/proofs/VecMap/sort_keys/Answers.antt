@@ -13,5 +13,5 @@ returns-clause-stable g c = c.sort_by.ensures.stable _ (ranks_by g.met.K.Ord.tot
 pub returns-clause-lookups : goal.returns-clause-lookups
 returns-clause-lookups g c = λ d. lookups_rearranged g.K.PartialEq.eq g.met.K.Eq.laws _ _ (search rules) d
 
-pub returns-clause-present : goal.returns-clause-present
-returns-clause-present g c = λ test. matches_rearranged test _ _ (search rules)
+pub returns-clause-matches : goal.returns-clause-matches
+returns-clause-matches g c = λ test. matches_rearranged test _ _ (search rules)

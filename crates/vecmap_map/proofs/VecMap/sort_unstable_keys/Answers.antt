@@ -10,5 +10,5 @@ returns-clause-sorted g c = c.sort_unstable_by.ensures.sorted _ (ranks_by g.met.
 pub returns-clause-lookups : goal.returns-clause-lookups
 returns-clause-lookups g c = λ d. lookups_rearranged g.K.PartialEq.eq g.met.K.Eq.laws _ _ (search rules) d
 
-pub returns-clause-present : goal.returns-clause-present
-returns-clause-present g c = λ test. matches_rearranged test _ _ (search rules)
+pub returns-clause-matches : goal.returns-clause-matches
+returns-clause-matches g c = λ test. matches_rearranged test _ _ (search rules)

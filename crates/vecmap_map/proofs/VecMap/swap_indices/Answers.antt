@@ -8,5 +8,5 @@ pub returns-clause-lookups : goal.returns-clause-lookups
 returns-clause-lookups g c = λ eq o d.
     lookups_rearranged eq o _ _ (IsPermutation-swap c.args.self.now.entries _ c.args.a c.args.b c.requires.a_within c.requires.b_within (search rules)) d
 
-pub returns-clause-present : goal.returns-clause-present
-returns-clause-present g c = λ test. matches_rearranged test c.args.self.now.entries _ (IsPermutation-swap c.args.self.now.entries _ c.args.a c.args.b c.requires.a_within c.requires.b_within (search rules))
+pub returns-clause-matches : goal.returns-clause-matches
+returns-clause-matches g c = λ test. matches_rearranged test c.args.self.now.entries _ (IsPermutation-swap c.args.self.now.entries _ c.args.a c.args.b c.requires.a_within c.requires.b_within (search rules))

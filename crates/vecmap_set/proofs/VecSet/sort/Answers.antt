@@ -9,5 +9,5 @@ invariant_of-self g c = distinct_rearranged _ g.met.T.Eq.laws _ _ c.sort.ensures
 pub returns-clause-distinct : goal.returns-clause-distinct
 returns-clause-distinct g c = invariant_of-self g c
 
-pub returns-clause-present : goal.returns-clause-present
-returns-clause-present g c = λ test. sym (list_any-IsPermutation test c.args.self.now.elements _ (search rules))
+pub returns-clause-matches : goal.returns-clause-matches
+returns-clause-matches g c = λ test. sym (list_any-IsPermutation test c.args.self.now.elements _ (search rules))

@@ -11,5 +11,5 @@ invariant_of-self g c =
 pub returns-clause-distinct : goal.returns-clause-distinct
 returns-clause-distinct g c = invariant_of-self g c
 
-pub returns-clause-present : goal.returns-clause-present
-returns-clause-present g c = λ test. sym (list_any-IsPermutation test c.args.self.now.elements _ (IsPermutation-swap c.args.self.now.elements _ c.args.a c.args.b c.requires.a_within c.requires.b_within (search rules)))
+pub returns-clause-matches : goal.returns-clause-matches
+returns-clause-matches g c = λ test. sym (list_any-IsPermutation test c.args.self.now.elements _ (IsPermutation-swap c.args.self.now.elements _ c.args.a c.args.b c.requires.a_within c.requires.b_within (search rules)))
