@@ -12,25 +12,22 @@ import os
 import re
 import sys
 
+sys.path.append(os.path.join(os.path.dirname(os.path.abspath(__file__)), "../crates/vecmap"))
+
+from laws_for import public_paths  # noqa: E402
+
 # The sources, and the files of definitions and of proofs.
 TEXTS = ("crates/**/*.rt", "crates/**/*.antt")
 LIBRARIES = ["vecmap_base", "vecmap_map", "vecmap_set", "vecmap"]
+LAWS = "vecmap_laws"
 WRITES = sys.argv[1:2] == ["--write"]
 KINDS = "fn|impl|struct|enum|trait|type|macro_rules!"
 ITEM = re.compile(rf"( *)(pub(?:\(\w+\))? )?(?:const |unsafe )*({KINDS})(?=[ <]) ?(\w*)")
 CLAUSE = re.compile(r"(requires|ensures)\*? (?:(\w+) )?\{")
 MEMBER = re.compile(r"^    ghost (\w+) = \{", re.MULTILINE)
 USE = re.compile(r"^(?:pub )?use ([^;]+);", re.MULTILINE)
-DEFINITION = re.compile(r"^ *(?:abbrev pub|pub record|pub data) (\S+)", re.MULTILINE)
+DEFINITION = re.compile(r"^ *(?:abbrev pub|unfoldable pub|pub record|pub data) (\S+)", re.MULTILINE)
 NAME = re.compile(r"[A-Za-z_][\w']*")
-# The paths by which callers may name the laws of a module.
-PATHS_OF_LAWS = {
-    "vecmap_map/src/laws": ["vecmap::map::laws", "vecmap_map::laws"],
-    "vecmap_set/src/laws": ["vecmap::set::laws", "vecmap_set::laws"],
-    "vecmap_laws/src/lists": ["vecmap_laws::maps", "vecmap_laws::sets"],
-    "vecmap_laws/src/maps": ["vecmap_laws::maps"],
-    "vecmap_laws/src/sets": ["vecmap_laws::sets"],
-}
 # A clause of a contract. A ghost member of an impl is one, too.
 Clause = collections.namedtuple("Clause", "kind label formula")
 # A heading of a script: its part, its text, and below it the mutants that the rows reject, and the rows.
@@ -90,7 +87,7 @@ def write(path, text):
 def files(*patterns):
     """Returns the files that some patterns name, in order, without what a check has made."""
     found = (path for pattern in patterns for path in sorted(glob.glob(pattern, recursive=True)))
-    return [path for path in found if "/out/" not in path]
+    return [path for path in found if "/out/" not in f"/{path}"]
 
 
 def sources(*crates):
@@ -186,10 +183,15 @@ def tests():
 
 
 def laws():
-    """Yields the laws of `vecmap_laws`, of maps and of sets, each with the paths by which callers may name it."""
-    for module, paths in PATHS_OF_LAWS.items():
-        found = (it for path in files(f"crates/{module}.rt", f"crates/{module}/**/*.rt") for it in functions(path))
-        yield from ((it, [f"{path}::{it.name}" for path in paths]) for it in found if it.is_public and not it.impl)
+    """Yields the laws of `vecmap_laws`, of maps and of sets, each with the paths by which callers may name it.
+
+    A law is a public function of `vecmap_laws`, or of a module `laws` of a library.
+    """
+    for path in sources(*LIBRARIES, LAWS):
+        module = re.sub(r"^crates/|src/|\.rt$", "", path).replace("/", "::")
+        if crate_of(path) == LAWS or "laws" in module.split("::"):
+            found = ((it, public_paths(f"{module}::{it.name}")) for it in functions(path) if not it.impl)
+            yield from ((it, paths) for it, paths in found if it.is_public and paths)
 
 
 def imports(text):

@@ -25,7 +25,7 @@ ROWS = {
 }
 GREY, FAINT = "#444444", "#dddddd"
 WIDTH, HEIGHT = 900, 700
-CELL = re.compile(r"([\d.]+) \[([\d.]+)\.\.([\d.]+)\] ([\d.]+):([\d.]+)")
+CELL = re.compile(r"([\d.]+)(?: [\d.]+)? \[([\d.]+)\.\.([\d.]+)\] ([\d.]+):([\d.]+)")
 
 
 def read(name):

@@ -5,6 +5,7 @@
 #[macro_use]
 mod loops;
 mod inputs;
+mod keys;
 mod original;
 #[cfg(peers)]
 mod peers;

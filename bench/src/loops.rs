@@ -7,6 +7,8 @@ mod large;
 #[macro_use]
 mod maps;
 #[macro_use]
+mod own_keys;
+#[macro_use]
 mod sets;
 #[macro_use]
 mod texts;

@@ -23,6 +23,7 @@ pub use set_runs::*;
 pub use vectors::*;
 
 use crate::inputs::{half, letter};
+use crate::keys::{Header, Symbol};
 use vecmap::{VecMap, VecSet};
 
 map_loops!(VecMap, remove, VecMap::last, VecMap::from);
@@ -35,6 +36,8 @@ placed_set_loops!(VecSet);
 text_loops!(VecMap);
 placed_text_loops!(VecMap);
 removed_text_loops!(VecMap);
+own_key_loops!(VecMap, remove);
+own_key_removals!(VecMap, remove_entry);
 
 // Returns the last element and the number of elements, combined in one number.
 fn set_mark(set: &VecSet<u64>) -> u64 {

@@ -3,6 +3,7 @@
 /// indexmap, with its own hasher.
 pub mod index {
     use crate::inputs::{half, letter};
+    use crate::keys::{Header, Symbol};
     use indexmap::{IndexMap, IndexSet};
 
     pub const NAME: &str = "indexmap";
@@ -20,11 +21,14 @@ pub mod index {
     placed_set_loops!(IndexSet);
     text_loops!(IndexMap);
     placed_text_loops!(IndexMap);
+    own_key_loops!(IndexMap, shift_remove);
+    own_key_removals!(IndexMap, shift_remove_entry);
 }
 
 /// linear-map.
 pub mod linear {
     use crate::inputs::{half, letter};
+    use crate::keys::{Header, Symbol};
     use linear_map::LinearMap;
     use linear_map::set::LinearSet;
 
@@ -44,4 +48,5 @@ pub mod linear {
     );
     set_loops!(LinearSet, |items: Vec<_>| LinearSet::from_iter(items));
     text_loops!(LinearMap);
+    own_key_loops!(LinearMap, remove);
 }

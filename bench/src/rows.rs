@@ -19,11 +19,15 @@
 //!   iterators and as new sets.
 //! - Large: values of 128 bytes; `64-byte remove+insert` has pairs of 64 bytes.
 //! - Texts: keys of 13 bytes, in pairs of 32 bytes, and keys of 188 bytes with a long common prefix.
+//! - Keys with an `==` of their own: a symbol is a struct of two numbers of 32 bits, and a header is a number or a
+//!   text of 13 bytes.
 //! - Documents: those of `attr_doc`, with eight names in a section, compared with the same documents over the
 //!   original's maps.
 //! - Vectors: a clone, pushes, removals and insertions at the front of a plain vector of pairs, of the kit and of
 //!   Rust, in a table of their own. `Vec remove, large` removes pairs of 136 bytes at random indices. Rows that
 //!   create, clone or shift a list contain this work.
+//! - Many entries: with 1,000 entries or more, only lookups, insertions, `From<Vec>` and equality are timed, in a table
+//!   of their own.
 //! - Commands: `1000 commands` is a mix of calls, on about as many keys as the size says. `run of 1000` and `run_set
 //!   of 1000` are the same commands as values, by `run` and `run_set`. The original has no such call, so its side has
 //!   the same enums of commands and replies, and the same loop over its own calls. Both times include the creation of
@@ -50,6 +54,20 @@ pub struct Row<'a, T> {
 /// The name of the kit's vector, in rows that compare it with Rust's.
 const VECTOR: &str = "the kit's Vec";
 
+/// The name of an earlier state of this library.
+#[cfg(before)]
+const BEFORE: &str = "before";
+
+/// The name of this library in rows of many entries.
+const LONG: &str = "vecmap, many entries";
+
+/// The name of the kit's indexmap.
+#[cfg(kit)]
+const KIT: &str = "the kit's indexmap";
+
+/// The greatest size at which all rows are timed.
+const MOST: usize = 512;
+
 /// The sizes of the rows of commands and of documents.
 pub const SIZES_OF_PROGRAMS: [usize; 4] = [8, 32, 128, 512];
 
@@ -59,6 +77,8 @@ macro_rules! row {
         #[allow(unused_mut)]
         let mut loops: Vec<(&'static str, Loop<_>)> =
             vec![("vecmap-rs", original::$loop), ("vecmap", rattle::$loop)];
+        #[cfg(before)]
+        loops.push((BEFORE, rattle::before::$loop));
         $(
             #[cfg(peers)]
             loops.push(($peer::NAME, $peer::$loop));
@@ -73,8 +93,22 @@ macro_rules! row {
     }};
 }
 
+// The same row with its loop over the kit's indexmap.
+macro_rules! with_kit {
+    ($row:expr, $loop:ident) => {{
+        #[allow(unused_mut)]
+        let mut row = $row;
+        #[cfg(kit)]
+        row.loops.push((KIT, rattle::kit::$loop));
+        row
+    }};
+}
+
 /// Returns all rows over numbers.
 pub fn numbers(it: &Numbers) -> Vec<Row<'_, u64>> {
+    if it.keys.len() > MOST {
+        return long(it);
+    }
     let mut rows = lookups(it);
     rows.extend(insertions(it));
     rows.extend(removals(it));
@@ -84,6 +118,7 @@ pub fn numbers(it: &Numbers) -> Vec<Row<'_, u64>> {
     rows.extend(sets(it));
     rows.extend(set_pairs(it));
     rows.extend(large(it));
+    rows.extend(symbols(it));
     if SIZES_OF_PROGRAMS.contains(&it.keys.len()) {
         rows.extend(runs(it));
     }
@@ -230,6 +265,15 @@ fn large(it: &Numbers) -> Vec<Row<'_, u64>> {
     ]
 }
 
+fn symbols(it: &Numbers) -> Vec<Row<'_, u64>> {
+    let n = it.keys.len();
+    vec![
+        with_kit!(row!("symbol insert new", n, &it.keys, &[], symbol_insert, linear, index), symbol_insert),
+        with_kit!(row!("symbol get", n, &it.keys, &it.mixed, symbol_get, linear, index), symbol_get),
+        with_kit!(row!("symbol remove+insert", 8 * n, &it.keys, &it.orders, symbol_remove, linear, index), symbol_remove),
+    ]
+}
+
 // The same commands as calls of the original, as calls of this library and by its `run`. In the rows of runs, the side
 // of the original has the same commands and replies as values, too.
 fn runs(it: &Numbers) -> Vec<Row<'_, u64>> {
@@ -261,8 +305,27 @@ fn vectors(it: &Numbers) -> Vec<Row<'_, u64>> {
     rows
 }
 
+// The rows of many entries.
+fn long(it: &Numbers) -> Vec<Row<'_, u64>> {
+    let n = it.keys.len();
+    let mut rows = vec![
+        row!("get hit", n, &it.keys, &it.hits, get, linear, index),
+        row!("insert new", n, &it.keys, &[], insert, linear, index),
+        row!("From<Vec> distinct", n, &it.keys, &[], from_vec, linear, index),
+        row!("== same order", n, &it.keys, &[], eq, index),
+        row!("== reversed", n, &it.keys, &[], eq_reversed, index),
+    ];
+    for row in &mut rows {
+        row.loops[1].0 = LONG;
+    }
+    rows
+}
+
 /// Returns all rows over texts, of which there are `n`.
 pub fn texts(it: &Texts, n: usize) -> Vec<Row<'_, u8>> {
+    if n > MOST {
+        return Vec::new();
+    }
     let mut rows = vec![
         row!("String get_str hit", n, &it.keys, &it.hits, text_get, linear, index),
         row!("String get_str miss", n, &it.keys, &it.misses, text_get, linear, index),
@@ -273,6 +336,9 @@ pub fn texts(it: &Texts, n: usize) -> Vec<Row<'_, u8>> {
         row!("String insert new", n, &it.keys, &[], string_insert, linear, index),
         row!("String remove+insert", 8 * n, &it.keys, &it.orders, string_remove),
         row!("count lines", 4 * n, &[], &it.words, count_lines, index),
+        with_kit!(row!("header insert new", n, &it.keys, &[], header_insert, linear, index), header_insert),
+        with_kit!(row!("header get hit", n, &it.keys, &it.hits, header_get, linear, index), header_get),
+        with_kit!(row!("header remove+insert", 8 * n, &it.keys, &it.orders, header_remove, index), header_remove),
     ]);
     if SIZES_OF_PROGRAMS.contains(&n) {
         rows.extend(documents(it, n));

@@ -6,6 +6,7 @@
 #[macro_use]
 mod loops;
 mod inputs;
+mod keys;
 mod original;
 #[cfg(peers)]
 mod peers;
@@ -55,10 +56,17 @@ fn timed<T>(row: &Row<T>, run: Loop<T>, rounds: u64) -> (f64, u64) {
     (processor_seconds() - start, black_box(sum))
 }
 
-/// Returns the number of rounds that the original needs for a sample.
+/// Returns the seconds that the rounds of a loop take, without what it creates before the first round.
+fn rounds_timed<T>(row: &Row<T>, run: Loop<T>, rounds: u64) -> f64 {
+    let setup = timed(row, run, 0).0;
+    timed(row, run, rounds).0 - setup
+}
+
+/// Returns the number of rounds that the original needs for a sample: they take longer than the setup.
 fn rounds_of<T>(row: &Row<T>, seconds: f64) -> u64 {
+    let setup = timed(row, row.loops[0].1, 0).0;
     let mut rounds = 1;
-    while timed(row, row.loops[0].1, rounds).0 < seconds {
+    while rounds_timed(row, row.loops[0].1, rounds) < f64::max(seconds, 2.0 * setup) {
         rounds *= 2;
     }
     rounds
@@ -91,7 +99,7 @@ fn time<T>(settings: &Settings, row: &Row<T>, n: usize) {
     for s in 0..settings.samples {
         for at in 0..count {
             let i = (at + s) % count;
-            samples[i].push(timed(row, row.loops[i].1, rounds).0);
+            samples[i].push(rounds_timed(row, row.loops[i].1, rounds));
         }
     }
     let least = |i: usize| samples[i].iter().copied().fold(f64::MAX, f64::min);
@@ -117,10 +125,10 @@ fn number<N: std::str::FromStr>(name: &str, default: N) -> N {
 fn main() {
     let settings = Settings {
         only: env::args().skip(1).collect(),
-        samples: number("SAMPLES", 15),
+        samples: number("SAMPLES", 5),
         seconds: number("SECONDS", 0.003),
     };
-    let sizes = env::var("SIZES").unwrap_or_else(|_| "2 4 8 16 32 128 512".to_string());
+    let sizes = env::var("SIZES").unwrap_or_else(|_| "2 4 8 16 32 128 512 1000 10000".to_string());
     for n in sizes.split_whitespace().filter_map(|it| it.parse().ok()) {
         let inputs = Numbers::of(n);
         for row in rows::numbers(&inputs) {

@@ -7,6 +7,15 @@
 //! panics or aborts. What must hold before a call is written under `# Preconditions`, and is a `requires` of the
 //! contract. The proof of each caller shows that it holds, so nothing is checked at run time.
 //!
+//! A call that is like another one has its preconditions, its errors and its cost, unless its own comment says
+//! something else. Any other call without `# Errors` cannot fail; the `Err` of a search is an index. `# Complexity`
+//! counts comparisons, moves and allocations, but not what it costs to drop something.
+//!
+//! A contract sees a map as its list of pairs and its capacity, and a set as its list of elements and its capacity. A
+//! list holds the values themselves, so a definition says which of two equal keys is kept. In the examples of
+//! definitions, `1x` is a key that is equal to `1y` and not identical to it. In definitions on closures, `g` and `c`
+//! stand for what a closure may do, as `F.Fn`, and `h` for a function of the logic.
+//!
 //! # Examples
 //!
 //! ```rust

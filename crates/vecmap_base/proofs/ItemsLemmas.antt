@@ -2,3 +2,4 @@
 pub mod Additions
 pub mod Indices
 pub mod Recursion
+pub mod Members

@@ -6,3 +6,7 @@ pub mod Indices
 pub mod Puts
 pub mod Recursion
 pub mod Values
+pub mod Distinct
+pub mod Order
+pub mod Updates
+pub mod Parts

@@ -1,7 +1,10 @@
 -- What lookups find after a change of a list of pairs. `eq` is the `==` of keys.
-use Rattle.std.specs.Prelude.{◌≡◌, Bool, List, Option, cond, false}
-use Rattle.std.specs.Map.{KeepsOthers}
-use Rattle.vecmap_base.specs.Pairs.{HasDistinctKeys, lookup, lookup_by}
+use Rattle.std.specs.Prelude.{◌≡◌, ◌<◌, ◌≤◌, ℕ, Bool, List, None, Option, Some, cond, false}
+use Rattle.std.specs.List.{list_any}
+use Rattle.std.specs.Option.{option_or}
+use Rattle.std.specs.Set.{is_member, KeepsOthers as KeepsOtherItems}
+use Rattle.std.specs.Map.{IsKeyTest, KeepsOthers}
+use Rattle.vecmap_base.specs.Pairs.{HasDistinctKeys, index_by, lookup, lookup_by}
 
 module _ {K V : Type 0} (eq : K → K → Bool) where
   -- Example: from `[(1,a)]` to `[(1,a), (2,b)]` for the key 2: b.
@@ -16,3 +19,33 @@ module _ {K V : Type 0} (eq : K → K → Bool) where
   -- The list `m` has `w` at the key `k`, and at each other key what `l` has.
   abbrev pub Updates : List (K × V) → K → List (K × V) → Option V → Type 0
   Updates l k m w = UpdatesBy (eq k) l m w
+
+  -- Example: from `[(1,a), (2,b)]` to `[(2,b), (1,a)]`.
+  -- Each key, and each query that matches a key and its equals alone, finds in the list `m` what it finds in `l`.
+  pub record KeepsLookups (l m : List (K × V)) : Type 0 where
+    pub lookups : (q : K) → lookup eq m q ≡ lookup eq l q
+    pub queries : (test : K → Bool) → IsKeyTest eq test → lookup_by test m ≡ lookup_by test l
+    pub distinct : HasDistinctKeys eq m
+
+module _ {K V : Type 0} where
+  -- Example: `[(1,a)]`, the first pair of `[(1,a), (2,b)]`.
+  -- Each query whose match is among the first `n` pairs of `l` finds in the list `m` what it found, and any other nothing.
+  pub record KeepsFront (n : ℕ) (l m : List (K × V)) : Type 0 where
+    pub found : (test : K → Bool) (i : ℕ) → index_by test l ≡ Some i → i < n → lookup_by test m ≡ lookup_by test l
+    pub gone : (test : K → Bool) (i : ℕ) → index_by test l ≡ Some i → n ≤ i → lookup_by test m ≡ None
+    pub absent : (test : K → Bool) → lookup_by test l ≡ None → lookup_by test m ≡ None
+    pub distinct : (eq : K → K → Bool) → HasDistinctKeys eq l → HasDistinctKeys eq m
+
+  -- Example: from `[(1,a)]`, with `[(1,b), (2,c)]`, to `[(1,b), (2,c)]`.
+  -- Each key has in the list `m` its value in `pairs`, or else its value in `l`.
+  pub record Joins (eq : K → K → Bool) (l pairs m : List (K × V)) : Type 0 where
+    pub lookups : HasDistinctKeys eq pairs → (q : K) → lookup eq m q ≡ option_or (lookup eq pairs q) (lookup eq l q)
+    pub distinct : HasDistinctKeys eq l → HasDistinctKeys eq m
+
+-- Example: from `[1]` to `[1, 2]` for 2: true.
+-- The list `r` has elements that pass the test exactly if `b` is true, and each other element exactly if `s` has it.
+pub record UpdatesMember {T : Type 0} (eq : T → T → Bool) (test : T → Bool) (s r : List T) (b : Bool) : Type 0 where
+  pub members : (q : T) → is_member eq r q ≡ cond (test q) b (is_member eq s q)
+  pub own : list_any test r ≡ b
+  pub others : (q : T) → test q ≡ false → is_member eq r q ≡ is_member eq s q
+  pub queries : KeepsOtherItems eq test s r

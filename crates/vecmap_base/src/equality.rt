@@ -12,6 +12,8 @@ const MARKS_MEDIUM: usize = 128;
 
 const MARKS_LARGE: usize = 1024;
 
+const MARKS_HUGE: usize = 16384;
+
 /// Returns `true` if each pair of either list, by its key and its value, occurs equally often in both.
 ///
 /// A pair whose value differs from itself, such as a NaN, is equal to no pair. A list with such a pair is equal to no
@@ -23,9 +25,10 @@ const MARKS_LARGE: usize = 1024;
 ///
 /// # Complexity
 ///
-/// For two lists of n pairs that are equal in the same order, n comparisons of keys. If at most 1,024 pairs remain, at
+/// For two lists of n pairs that are equal in the same order, n comparisons of keys. If at most 16,384 pairs remain, at
 /// most n² comparisons, and at most n(n + 1)/2 if the lists are equal and their keys are distinct. If more remain, the
-/// call counts each pair in both lists, with at most 2n² + 1 comparisons. Does not allocate.
+/// call counts each pair in both lists, with at most 2n² + 1 comparisons. Does not allocate. For more than 1,024 pairs in
+/// another order, it needs 16 KiB of the stack.
 ///
 /// # Examples
 ///
@@ -64,6 +67,9 @@ fn rests_equal<K: Eq, V: PartialEq>(a: &[(K, V)], b: &[(K, V)]) -> bool
     }
     if b.len() <= MARKS_LARGE {
         return pairs_match_by_marks::<MARKS_LARGE, K, V>(a, b);
+    }
+    if b.len() <= MARKS_HUGE {
+        return pairs_match_by_marks::<MARKS_HUGE, K, V>(a, b);
     }
     counts_equal(a, b)
 }

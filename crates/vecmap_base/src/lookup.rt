@@ -153,7 +153,7 @@ pub(crate) fn contains_by_loop<T: Eq>(items: &[T], item: &T) -> bool
 // Returns `true` if `items` has at least `length` items, and these are small.
 #[inline(always)]
 pub(crate) fn are_small<T>(items: &[T], length: usize) -> bool {
-    items.len() >= length && items.first().is_some_and(is_small)
+    is_small::<T>() && items.len() >= length
 }
 
 /// Returns the index of the first pair whose key matches `query`.
@@ -172,7 +172,7 @@ pub fn find_equivalent<K: Eq, V, Q: Equivalent<K>>(pairs: &[(K, V)], query: Q) -
     ensures index { result ≡ index_by (Q.equivalent query) pairs.now }
     ensures within { IfSome result (λ i. i < length pairs.now) }
 {
-    if pairs.first().is_some_and(|pair| is_small(&pair.0)) {
+    if is_small::<K>() {
         return find_pair_unrolled(
             pairs,
             |key: &K| -> bool
@@ -209,18 +209,23 @@ pub fn find_item_equivalent<T: Eq, Q: Equivalent<T>>(items: &[T], query: Q) -> O
     ensures index { result ≡ position (Q.equivalent query) items.now }
     ensures within { IfSome result (λ i. i < length items.now) }
 {
-    if are_small(items, MIN_LENGTH_FOR_FOURS) {
-        if items.len() >= MIN_LENGTH_FOR_EIGHTS {
-            return find_item_of_many(items, query);
-        }
-        return find_item_unrolled(
+    if !are_small(items, MIN_LENGTH_FOR_FOURS) {
+        return items.iter().position(|item| query.equivalent(item));
+    }
+
+    // The `?` takes each result apart, and `Some` makes a new one. If the result of either call were returned as it is,
+    // LLVM would keep it as one value, and each caller would test again whether an item was found.
+    let index = if items.len() >= MIN_LENGTH_FOR_EIGHTS {
+        find_item_of_many(items, query)?
+    } else {
+        find_item_unrolled(
             items,
             |item: &T| -> bool
                 ensures { result ≡ Q.equivalent query item.now }
             { query.equivalent(item) },
-        );
-    }
-    items.iter().position(|item| query.equivalent(item))
+        )?
+    };
+    Some(index)
 }
 
 // Returns the index of the first of many small items that matches `query`. It is not inlined, so that the search of a

@@ -9,6 +9,7 @@ ghost use Rattle.vecmap_base.specs.Iterators.{deref_both_mut, deref_mut};
 
 /// A part of each item of type `X`.
 pub trait Projection<X> {
+    /// The type of the part.
     type Part;
 
     ghost part: { X → Self.Part };
@@ -26,6 +27,7 @@ pub trait Projection<X> {
 
 /// A part that an iterator over references can yield.
 pub trait PartRef<'a, X>: Projection<X> {
+    /// The type of a reference to the part.
     type Ref;
 
     // The part to which a reference points.
@@ -45,6 +47,7 @@ pub trait PartRef<'a, X>: Projection<X> {
 
 /// A part that an iterator over mutable references can yield.
 pub trait PartMut<'a, X>: Projection<X> {
+    /// The type of a mutable reference to the part.
     type RefMut;
 
     // The part to which a reference pointed at first.

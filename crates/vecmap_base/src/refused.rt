@@ -13,6 +13,7 @@ use std::{fmt, io};
 /// ```
 #[derive(Clone, Copy, Drop, PartialEq, Eq)]
 pub struct Refused<T> {
+    /// What was passed to the call.
     pub given: T,
 }
 

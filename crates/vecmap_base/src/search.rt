@@ -43,7 +43,7 @@ pub fn search_by_index<T, F: Fn(usize) -> Ordering>(items: &[T], f: F) -> Result
     ensures index { (ord : T → Ordering) → AnswersAtIndex F.Fn ord f items.now
         → IsBinarySearchResult ord items.now result }
 {
-    search_in_parts(items, items.first().is_some_and(is_small), f)
+    search_in_parts(items, is_small::<T>(), f)
 }
 
 /// Like [`search_by_index`], but for pairs.
@@ -73,11 +73,7 @@ pub fn search_pairs_by_index<K, V, F: Fn(usize) -> Ordering>(
     ensures index { (ord : K × V → Ordering) → AnswersAtIndex F.Fn ord f pairs.now
         → IsBinarySearchResult ord pairs.now result }
 {
-    search_in_parts(
-        pairs,
-        pairs.first().is_some_and(|pair| is_small(&pair.0)),
-        f,
-    )
+    search_in_parts(pairs, is_small::<K>(), f)
 }
 
 /// Searches for `key` in pairs that ascend by the key that `f` extracts.
@@ -185,7 +181,7 @@ pub fn partition_point<T, P: Fn(&T) -> bool>(items: &[T], pred: P) -> usize
         → IsPartitionedBy p items.now
         → IsPartitionPoint (λ x. p x ≡ true) (λ x. p x ≡ false) items.now result }
 {
-    partition_in_parts(items, items.first().is_some_and(is_small), pred)
+    partition_in_parts(items, is_small::<T>(), pred)
 }
 
 /// Like [`partition_point`], but for pairs.
@@ -212,7 +208,7 @@ pub fn partition_point_of_pairs<K, V, P: Fn(&K, &V) -> bool>(pairs: &[(K, V)], p
 {
     partition_in_parts(
         pairs,
-        pairs.first().is_some_and(|pair| is_small(&pair.0)),
+        is_small::<K>(),
         |pair: &(K, V)| -> bool
             requires { CallableOnPair P.Fn pred pair.now }
             ensures { (p : K × V → Bool) (l : List (K × V)) → AnswersOnPairs P.Fn p pred l

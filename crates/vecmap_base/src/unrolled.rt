@@ -8,14 +8,18 @@ ghost use Rattle.std.specs.Prelude.{◌≡◌, ◌+◌, ◌<◌, ◌≤◌, ◌|
 ghost use Rattle.std.specs.List.{list_any};
 ghost use Rattle.vecmap_base.specs.Orders.{AnswersOnItem};
 
-use std::mem::size_of_val;
+use std::mem::{ManuallyDrop, align_of_val, size_of_val};
 
 // The size of a word in bytes.
 const WORD: usize = 8;
 
-// Returns `true` if an item is no larger than a word, as a `u64` is and a text is not.
-pub(crate) fn is_small<T>(item: &T) -> bool {
-    size_of_val(item) <= WORD
+// Returns `true` if an item of this type is no larger than a word, as a `u64` is and a text is not. It takes no item, so
+// the compiler knows the result, and removes the branch that is not taken. The tag of an option takes as many bytes as
+// the alignment of its item.
+#[inline(always)]
+pub(crate) fn is_small<T>() -> bool {
+    let absent: Option<ManuallyDrop<T>> = None;
+    size_of_val(&absent) <= align_of_val(&absent).saturating_add(WORD)
 }
 
 // Returns the index of the first pair for whose key `asks` returns `true`.

@@ -14,6 +14,7 @@ mod iteration;
 mod large;
 mod lookups;
 mod order;
+mod own_keys;
 mod parts;
 mod removals;
 mod runs;

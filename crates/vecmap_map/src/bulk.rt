@@ -4,6 +4,7 @@ ghost use Rattle.std.specs.Iterator.{Drains, ExtendsWithItems, IsFiniteIterable}
 ghost use Rattle.std.specs.Map.Iter.{deref, deref_pair};
 ghost use Rattle.vecmap_base.specs.Bulk.{HasRoomForAll, HoldsOfEach};
 ghost use Rattle.vecmap_base.specs.Clones.{ArePairClones, ClonesSucceed};
+ghost use Rattle.vecmap_base.specs.Lookups.{Joins};
 ghost use Rattle.vecmap_base.specs.Pairs.{put, puts};
 ghost use Rattle.vecmap_map.specs.Contents.{HasRoom, KeepsRoomAt, Refuses, with_entries};
 ghost use Rattle.vecmap_map.specs.MapBulk.{Extends, Puts, PutsClones, RefusesAfter, RefusesClonesAfter};
@@ -118,6 +119,8 @@ impl<K, V> VecMap<K, V> {
         V: Drop,
         ensures entries { OnOk result (self.new.entries
             ≡ puts K.eq self.old.entries other.old.entries) }
+        ensures lookups { OnOk result (Joins K.eq self.old.entries other.old.entries
+            self.new.entries) }
         ensures emptied { OnOk result (other.new ≡ with_entries other.old []) }
         ensures capacity { self.old.capacity ≤ self.new.capacity }
         ensures succeeds { HasRoom self.old (length other.old.entries) → IsOk result }

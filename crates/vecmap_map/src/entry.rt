@@ -7,7 +7,8 @@ ghost use Rattle.std.specs.Borrow.{Bor, MutBor, sem};
 ghost use Rattle.std.specs.Fn.{FnOnceReturnsAt};
 ghost use Rattle.std.specs.Map.Calls.{ModifiesValue};
 ghost use Rattle.std.specs.Option.{UnwrapsOrElse, option_map_or};
-ghost use Rattle.vecmap_base.specs.Pairs.{index_of};
+ghost use Rattle.vecmap_base.specs.Lookups.{Updates};
+ghost use Rattle.vecmap_base.specs.Pairs.{index_of, lookup, put};
 ghost use Rattle.vecmap_map.specs.Contents.{IsFull};
 
 mod occupied;
@@ -38,7 +39,7 @@ pub enum Entry<'a, K, V> {
 }
 
 impl<K, V> VecMap<K, V> {
-    ghost use Rattle.vecmap_map.specs.Entry.{entry_key, entry_map, entry_index_of, entry_ref};
+    ghost use Rattle.vecmap_map.specs.Entry.{entries_with, entry_key, entry_map, entry_index_of, entry_ref, entry_value};
 
     /// Returns the entry of `key`: occupied if an equal key is present, and vacant otherwise.
     ///
@@ -62,6 +63,9 @@ impl<K, V> VecMap<K, V> {
         ensures unchanged { entry_map result ≡ self.old }
         ensures key { entry_key result ≡ key }
         ensures index { entry_index_of result ≡ index_of K.eq self.old.entries key }
+        ensures value { entry_value result ≡ lookup K.eq self.old.entries key }
+        ensures put { (v : V) → entries_with result v ≡ put K.eq self.old.entries key v }
+        ensures updates { (v : V) → Updates K.eq self.old.entries key (entries_with result v) (Some v) }
     {
         Entry::over(self, key)
     }
@@ -70,35 +74,6 @@ impl<K, V> VecMap<K, V> {
 impl<'a, K, V> Entry<'a, K, V> {
     ghost use Rattle.vecmap_map.specs.Entry.{IsInserted, LeavesSame, RefusesMade, entries_with, entry_index, entry_key, entry_map, entry_index_of, entry_ref, entry_value};
     ghost use Rattle.vecmap_map.specs.EntryLends.{entry_lends, entry_lends_or_stays, entry_passes};
-
-    /// Creates the entry of `key` in `map`.
-    ///
-    /// [`VecMap::entry`] is the usual call, and calls it. This one is for callers that create an entry by its type, as
-    /// they create iterators by `over`.
-    ///
-    /// # Complexity
-    ///
-    /// At most `len` comparisons; the calls of the entry make none. Does not allocate.
-    ///
-    /// # Examples
-    ///
-    /// ```
-    /// let mut map = vecmap!(alloc; 'a' => 1, 'b' => 2);
-    /// Entry::over(&mut map, 'b').index() // 1
-    /// ```
-    pub fn over(map: &'a mut VecMap<K, V>, key: K) -> Entry<'a, K, V>
-    where
-        K: Eq,
-        ensures same_map { (entry_ref result).ghost_name ≡ map.entry.ghost_name }
-        ensures unchanged { entry_map result ≡ map.old }
-        ensures key { entry_key result ≡ key }
-        ensures index { entry_index_of result ≡ index_of K.eq map.old.entries key }
-    {
-        match map.get_index_of(&key) {
-            Some(index) => Entry::Occupied(OccupiedEntry { map, key, index }),
-            None => Entry::Vacant(VacantEntry { map, key }),
-        }
-    }
 
     /// Inserts `value` if the key has no value, and returns a mutable reference to the value of the key.
     ///
@@ -400,6 +375,35 @@ impl<'a, K, V> Entry<'a, K, V> {
         match self {
             Entry::Occupied(entry) => entry.into_inserted(value),
             Entry::Vacant(entry) => entry.insert_entry(value),
+        }
+    }
+
+    /// Creates the entry of `key` in `map`.
+    ///
+    /// [`VecMap::entry`] is the usual call, and calls it. This one is for callers that create an entry by its type, as
+    /// they create iterators by `over`.
+    ///
+    /// # Complexity
+    ///
+    /// At most `len` comparisons; the calls of the entry make none. Does not allocate.
+    ///
+    /// # Examples
+    ///
+    /// ```
+    /// let mut map = vecmap!(alloc; 'a' => 1, 'b' => 2);
+    /// Entry::over(&mut map, 'b').index() // 1
+    /// ```
+    pub fn over(map: &'a mut VecMap<K, V>, key: K) -> Entry<'a, K, V>
+    where
+        K: Eq,
+        ensures same_map { (entry_ref result).ghost_name ≡ map.entry.ghost_name }
+        ensures unchanged { entry_map result ≡ map.old }
+        ensures key { entry_key result ≡ key }
+        ensures index { entry_index_of result ≡ index_of K.eq map.old.entries key }
+    {
+        match map.get_index_of(&key) {
+            Some(index) => Entry::Occupied(OccupiedEntry { map, key, index }),
+            None => Entry::Vacant(VacantEntry { map, key }),
         }
     }
 }

@@ -13,13 +13,13 @@ use vecmap_base::pairs_equal;
 ///
 /// No comparisons if the lengths differ. Otherwise the call skips the indices at the front at which both maps hold
 /// equal pairs. It then matches the remaining pairs one to one: each pair with the first equal pair that is still free.
-/// If more than 1,024 pairs remain, it counts them in both maps instead. For maps of n pairs this needs
+/// If more than 16,384 pairs remain, it counts them in both maps instead. For maps of n pairs this needs
 ///
 /// - n comparisons of keys if the maps are equal and in the same order;
-/// - at most n(n + 1)/2 if the maps are equal, their keys are distinct, and at most 1,024 pairs remain;
+/// - at most n(n + 1)/2 if the maps are equal, their keys are distinct, and at most 16,384 pairs remain;
 /// - at most n² in any other case, or 2n² + 1 if it counts.
 ///
-/// Does not allocate.
+/// Does not allocate. For more than 1,024 pairs in another order, it needs 16 KiB of the stack.
 ///
 /// # Examples
 ///

@@ -112,6 +112,8 @@ impl<K, V> VecMap<K, V> {
         K: Eq,
         ensures entries { OnOk result (self.new.entries ≡ put_key K.eq self.old.entries key value) }
         ensures old { IfOk result (λ old. old ≡ lookup_pair K.eq self.old.entries key) }
+        ensures updates { OnOk result (Updates K.eq self.old.entries key self.new.entries
+            (Some value)) }
         ensures capacity { KeepsRoom K.eq self.old key self.new }
 
         // On `Err` the pair is returned, its key is new, and the map is full.

@@ -3,6 +3,8 @@ ghost use Rattle.std.specs.Prelude.{◌≡◌, ◌-◌, ◌<◌, ◌↔◌, IfSo
 ghost use Rattle.std.specs.Borrow.{sem};
 ghost use Rattle.std.specs.Map.Iter.{deref_pair_mut};
 ghost use Rattle.std.specs.Option.{option_copied_mut};
+ghost use Rattle.std.specs.Map.{set_value};
+ghost use Rattle.vecmap_base.specs.Lookups.{UpdatesBy};
 ghost use Rattle.vecmap_base.specs.Pairs.{index_by, lookup_by, lookup_pair_by, value_at};
 ghost use Rattle.vecmap_map.specs.Lends.{lends_value};
 
@@ -38,6 +40,9 @@ impl<K, V> VecMap<K, V> {
         ensures* writes_back { sem 𝓛 (lends_value_if_by K.row V.row self.entry
             (Q.equivalent query) result) }
         ensures value { option_copied_mut result ≡ lookup_by (Q.equivalent query) self.old.entries }
+        ensures updates { (v : V) → IsSome (lookup_by (Q.equivalent query) self.old.entries)
+            → UpdatesBy K.eq (Q.equivalent query) self.old.entries
+            (set_value (Q.equivalent query) self.old.entries v) (Some v) }
         ensures found { IsSome result ↔ IsSome (index_by (Q.equivalent query) self.old.entries) }
     {
         match self.get_index_of(query) {

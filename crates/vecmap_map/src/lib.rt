@@ -41,6 +41,21 @@ use std::marker::Model;
 ///
 /// # Examples
 ///
+/// ```rust
+/// use std::alloc::{AllocError, Global};
+/// use vecmap::{VecMap, vecmap};
+///
+/// /// The port of each service, in the order in which they came first.
+/// pub fn ports(alloc: Global) -> Result<VecMap<&'static str, u16>, AllocError> {
+///     let mut ports = vecmap!(alloc; "http" => 80, "ssh" => 22);
+///     ports.insert("http", 8080)?;
+///     Ok(ports)
+/// }
+/// ```
+///
+/// It returns `{"http": 8080, "ssh": 22}`. The examples of calls are parts of such a function: `alloc` is its argument,
+/// and what a line returns is behind it.
+///
 /// ```
 /// let mut map = VecMap::from_array(alloc, [('a', 1), ('b', 2)])?;
 /// map.insert('a', 3)? // Some(1)

@@ -20,10 +20,12 @@ impl<K, V> VecMap<K, V> {
     /// map.contains_key(&'a') // true
     /// map.contains_key(&'c') // false
     /// ```
+    #[tactic(auto, using(vecmap_base::proofs::PairsLemmas::ByIndex::is_some_lookup_by))]
     pub fn contains_key<Q: Equivalent<K>>(&self, query: Q) -> bool
     where
         K: Eq,
-        ensures { result ≡ is_some (index_by (Q.equivalent query) self.now.entries) }
+        ensures found { result ≡ is_some (index_by (Q.equivalent query) self.now.entries) }
+        ensures value { result ≡ is_some (lookup_by (Q.equivalent query) self.now.entries) }
     {
         self.get_index_of(query).is_some()
     }
@@ -215,7 +217,8 @@ impl<V> VecMap<String, V> {
     /// map.contains_key_str("a") // true
     /// ```
     pub fn contains_key_str(&self, text: &str) -> bool
-        ensures { result ≡ is_some (index_by (has_text text.now) self.now.entries) }
+        ensures found { result ≡ is_some (index_by (has_text text.now) self.now.entries) }
+        ensures value { result ≡ is_some (lookup_by (has_text text.now) self.now.entries) }
     {
         self.contains_key(text)
     }

@@ -25,8 +25,10 @@ impl<K, V> sealed::Sealed for VecMap<K, V> {}
 /// A caller without a proof file does not know what the map holds after a write through such a reference. It knows
 /// what [`MutableKeys::retain2`] leaves, and what is written to the slice of [`MutableKeys::as_mut_slice`].
 pub trait MutableKeys: sealed::Sealed {
+    /// The type of the keys.
     type Key;
 
+    /// The type of the values.
     type Value;
 
     // The pairs of a value, from the first to the last.

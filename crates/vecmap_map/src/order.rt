@@ -1,7 +1,10 @@
 //! Reversing, swapping and sorting the pairs.
-ghost use Rattle.std.specs.Prelude.{◌≡◌, ◌<◌, ◌≤◌, Bool, IsOk, OnErr, OnOk, length, reverse, swap};
+ghost use Rattle.std.specs.Prelude.{◌≡◌, ◌<◌, ◌≤◌, Bool, IsOk, OnErr, OnOk, is_some, length, reverse, swap};
 ghost use Rattle.std.specs.List.Sorted.{IsPermutation, IsSortedByKey, IsStableByKey};
+ghost use Rattle.std.specs.Cmp.{IsEquivalence};
 ghost use Rattle.std.specs.Ordering.{is_lt};
+ghost use Rattle.vecmap_base.specs.Lookups.{KeepsLookups};
+ghost use Rattle.vecmap_base.specs.Pairs.{HasDistinctKeys, index_by};
 ghost use Rattle.vecmap_base.specs.Orders.{AnswersOnPair, ComparesPairsAs, IsSortedByPairClosure, IsSortedByPairKey, IsStableByPairClosure, IsStableByPairKey};
 
 use crate::VecMap;
@@ -24,6 +27,10 @@ impl<K, V> VecMap<K, V> {
     /// ```
     pub fn reverse(&mut self)
         ensures entries { self.new.entries ≡ reverse self.old.entries }
+        ensures matches { (test : K → Bool) → is_some (index_by test self.new.entries)
+            ≡ is_some (index_by test self.old.entries) }
+        ensures lookups { (eq : K → K → Bool) → IsEquivalence eq → HasDistinctKeys eq self.old.entries
+            → KeepsLookups eq self.old.entries self.new.entries }
         ensures capacity { self.new.capacity ≡ self.old.capacity }
     {
         self.pairs.reverse();
@@ -51,6 +58,10 @@ impl<K, V> VecMap<K, V> {
         requires a_within { a < length self.old.entries }
         requires b_within { b < length self.old.entries }
         ensures entries { self.new.entries ≡ swap self.old.entries a b }
+        ensures matches { (test : K → Bool) → is_some (index_by test self.new.entries)
+            ≡ is_some (index_by test self.old.entries) }
+        ensures lookups { (eq : K → K → Bool) → IsEquivalence eq → HasDistinctKeys eq self.old.entries
+            → KeepsLookups eq self.old.entries self.new.entries }
         ensures capacity { self.new.capacity ≡ self.old.capacity }
     {
         self.pairs.swap(a, b);
@@ -81,6 +92,10 @@ impl<K, V> VecMap<K, V> {
         ensures rearranged { IsPermutation self.old.entries self.new.entries }
         ensures err { OnErr result (self.new ≡ self.old) }
         ensures succeeds { length self.old.entries ≤ 20 → IsOk result }
+        ensures matches { (test : K → Bool) → is_some (index_by test self.new.entries)
+            ≡ is_some (index_by test self.old.entries) }
+        ensures lookups { HasDistinctKeys K.eq self.old.entries
+            → KeepsLookups K.eq self.old.entries self.new.entries }
         ensures capacity { self.new.capacity ≡ self.old.capacity }
     {
         self.sort_by(|a, b| a.0.cmp(b.0))
@@ -116,6 +131,10 @@ impl<K, V> VecMap<K, V> {
         ensures rearranged { IsPermutation self.old.entries self.new.entries }
         ensures err { OnErr result (self.new ≡ self.old) }
         ensures succeeds { length self.old.entries ≤ 20 → IsOk result }
+        ensures matches { (test : K → Bool) → is_some (index_by test self.new.entries)
+            ≡ is_some (index_by test self.old.entries) }
+        ensures lookups { (eq : K → K → Bool) → IsEquivalence eq → HasDistinctKeys eq self.old.entries
+            → KeepsLookups eq self.old.entries self.new.entries }
         ensures capacity { self.new.capacity ≡ self.old.capacity }
     {
         self.pairs.sort_by(
@@ -160,6 +179,10 @@ impl<K, V> VecMap<K, V> {
         ensures rearranged { IsPermutation self.old.entries self.new.entries }
         ensures err { OnErr result (self.new ≡ self.old) }
         ensures succeeds { length self.old.entries ≤ 1 → IsOk result }
+        ensures matches { (test : K → Bool) → is_some (index_by test self.new.entries)
+            ≡ is_some (index_by test self.old.entries) }
+        ensures lookups { (eq : K → K → Bool) → IsEquivalence eq → HasDistinctKeys eq self.old.entries
+            → KeepsLookups eq self.old.entries self.new.entries }
         ensures capacity { self.new.capacity ≡ self.old.capacity }
     {
         self.pairs.sort_by_cached_key(
@@ -188,6 +211,10 @@ impl<K, V> VecMap<K, V> {
         K: Ord,
         ensures sorted { IsSortedByKey (λ p. p.0) K.cmp self.new.entries }
         ensures rearranged { IsPermutation self.old.entries self.new.entries }
+        ensures matches { (test : K → Bool) → is_some (index_by test self.new.entries)
+            ≡ is_some (index_by test self.old.entries) }
+        ensures lookups { HasDistinctKeys K.eq self.old.entries
+            → KeepsLookups K.eq self.old.entries self.new.entries }
         ensures capacity { self.new.capacity ≡ self.old.capacity }
     {
         self.sort_unstable_by(|a, b| a.0.cmp(b.0));
@@ -216,6 +243,10 @@ impl<K, V> VecMap<K, V> {
         requires { F.IsAlwaysCallable f }
         ensures sorted { IsSortedByPairClosure F.Fn f self.new.entries }
         ensures rearranged { IsPermutation self.old.entries self.new.entries }
+        ensures matches { (test : K → Bool) → is_some (index_by test self.new.entries)
+            ≡ is_some (index_by test self.old.entries) }
+        ensures lookups { (eq : K → K → Bool) → IsEquivalence eq → HasDistinctKeys eq self.old.entries
+            → KeepsLookups eq self.old.entries self.new.entries }
         ensures capacity { self.new.capacity ≡ self.old.capacity }
     {
         self.pairs.sort_unstable_by(

@@ -3,7 +3,9 @@ ghost use Rattle.std.specs.Prelude.{◌≡◌, ◌-◌, ◌<◌, ◌≤◌, IfOk
 ghost use Rattle.vecmap_base.specs.Items.{swap_without};
 ghost use Rattle.vecmap_base.specs.Asked.{CallableOnEach, CallsAtPair, TakesPairAt};
 ghost use Rattle.vecmap_base.specs.Kept.{Kept};
-ghost use Rattle.vecmap_base.specs.Pairs.{has_text, lookup_by, lookup_pair_by, swap_without_by, without_by};
+ghost use Rattle.std.specs.Prelude.{None, string_eq};
+ghost use Rattle.vecmap_base.specs.Lookups.{KeepsFront, UpdatesBy};
+ghost use Rattle.vecmap_base.specs.Pairs.{HasDistinctKeys, has_text, lookup_by, lookup_pair_by, swap_without_by, without_by};
 
 use crate::VecMap;
 use std::alloc::AllocError;
@@ -53,6 +55,7 @@ impl<K, V> VecMap<K, V> {
         K: Drop,
         V: Drop,
         ensures entries { self.new.entries ≡ take len self.old.entries }
+        ensures lookups { KeepsFront len self.old.entries self.new.entries }
         ensures capacity { self.new.capacity ≡ self.old.capacity }
     {
         self.pairs.truncate(len);
@@ -88,6 +91,7 @@ impl<K, V> VecMap<K, V> {
         requires within { at ≤ length self.old.entries }
         ensures entries { OnOk result (self.new.entries ≡ take at self.old.entries) }
         ensures part { IfOk result (λ part. part.entries ≡ drop at self.old.entries) }
+        ensures lookups { OnOk result (KeepsFront at self.old.entries self.new.entries) }
         ensures capacity { self.new.capacity ≡ self.old.capacity }
         ensures succeeds { at ≡ length self.old.entries → IsOk result }
         ensures err { OnErr result (self.new ≡ self.old) }
@@ -148,6 +152,8 @@ impl<K, V> VecMap<K, V> {
     pub fn pop(&mut self) -> Option<(K, V)>
         ensures pair { result ≡ slice_get self.old.entries (length self.old.entries - 1) }
         ensures entries { self.new.entries ≡ take (length self.old.entries - 1) self.old.entries }
+        ensures lookups { KeepsFront (length self.old.entries - 1) self.old.entries
+            self.new.entries }
         ensures capacity { self.new.capacity ≡ self.old.capacity }
     {
         self.pairs.pop()
@@ -175,6 +181,8 @@ impl<K, V> VecMap<K, V> {
         K: Eq + Drop,
         ensures value { result ≡ lookup_by (Q.equivalent query) self.old.entries }
         ensures entries { self.new.entries ≡ without_by (Q.equivalent query) self.old.entries }
+        ensures updates { HasDistinctKeys K.eq self.old.entries → UpdatesBy K.eq
+            (Q.equivalent query) self.old.entries self.new.entries None }
         ensures capacity { self.new.capacity ≡ self.old.capacity }
     {
         let (_key, value) = self.remove_entry(query)?;
@@ -196,6 +204,8 @@ impl<K, V> VecMap<K, V> {
         K: Eq,
         ensures pair { result ≡ lookup_pair_by (Q.equivalent query) self.old.entries }
         ensures entries { self.new.entries ≡ without_by (Q.equivalent query) self.old.entries }
+        ensures updates { HasDistinctKeys K.eq self.old.entries → UpdatesBy K.eq
+            (Q.equivalent query) self.old.entries self.new.entries None }
         ensures capacity { self.new.capacity ≡ self.old.capacity }
     {
         let index = find_equivalent(&self.pairs, query)?;
@@ -252,6 +262,8 @@ impl<K, V> VecMap<K, V> {
         K: Eq + Drop,
         ensures value { result ≡ lookup_by (Q.equivalent query) self.old.entries }
         ensures entries { self.new.entries ≡ swap_without_by (Q.equivalent query) self.old.entries }
+        ensures updates { HasDistinctKeys K.eq self.old.entries → UpdatesBy K.eq
+            (Q.equivalent query) self.old.entries self.new.entries None }
         ensures capacity { self.new.capacity ≡ self.old.capacity }
     {
         let (_key, value) = self.swap_remove_entry(query)?;
@@ -273,6 +285,8 @@ impl<K, V> VecMap<K, V> {
         K: Eq,
         ensures pair { result ≡ lookup_pair_by (Q.equivalent query) self.old.entries }
         ensures entries { self.new.entries ≡ swap_without_by (Q.equivalent query) self.old.entries }
+        ensures updates { HasDistinctKeys K.eq self.old.entries → UpdatesBy K.eq
+            (Q.equivalent query) self.old.entries self.new.entries None }
         ensures capacity { self.new.capacity ≡ self.old.capacity }
     {
         let index = find_equivalent(&self.pairs, query)?;
@@ -319,6 +333,8 @@ impl<V> VecMap<String, V> {
     pub fn remove_str(&mut self, text: &str) -> Option<V>
         ensures value { result ≡ lookup_by (has_text text.now) self.old.entries }
         ensures entries { self.new.entries ≡ without_by (has_text text.now) self.old.entries }
+        ensures updates { HasDistinctKeys string_eq self.old.entries → UpdatesBy string_eq
+            (has_text text.now) self.old.entries self.new.entries None }
         ensures capacity { self.new.capacity ≡ self.old.capacity }
     {
         self.remove(text)

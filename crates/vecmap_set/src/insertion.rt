@@ -1,8 +1,9 @@
 //! Insertion of one element.
-ghost use Rattle.std.specs.Prelude.{◌≡◌, ◌++◌, ◌∷◌, ◌≤◌, IfErr, IfOk, IsTrue, OnErr, OnOk, [], false, not};
+ghost use Rattle.std.specs.Prelude.{◌≡◌, ◌++◌, ◌∷◌, ◌≤◌, IfErr, IfOk, IsTrue, OnErr, OnOk, [], false, not, true};
 ghost use Rattle.std.specs.List.{IsDistinct};
 ghost use Rattle.std.specs.Set.{is_member};
 ghost use Rattle.vecmap_base.specs.Items.{add, put_item, stored_item};
+ghost use Rattle.vecmap_base.specs.Lookups.{UpdatesMember};
 ghost use Rattle.vecmap_set.specs.Contents.{HasRoom, IsFull, KeepsRoom, Refuses};
 
 use crate::VecSet;
@@ -43,6 +44,8 @@ impl<T: Eq> VecSet<T> {
         ensures distinct { IsDistinct T.eq self.new.elements }
         ensures unchanged { IsTrue (is_member T.eq self.old.elements item)
             → self.new ≡ self.old }
+        ensures updates { OnOk result (UpdatesMember T.eq (T.eq item) self.old.elements
+            self.new.elements true) }
         ensures capacity { KeepsRoom T.eq self.old item self.new }
 
         // On `Err` the element is returned, it is new, and the set is full.

@@ -36,6 +36,21 @@ use std::marker::Model;
 ///
 /// # Examples
 ///
+/// ```rust
+/// use std::alloc::{AllocError, Global};
+/// use vecmap::{VecSet, vecset};
+///
+/// /// What both sets have, in the order of the first.
+/// pub fn common(alloc: Global) -> Result<VecSet<u32>, AllocError> {
+///     let a = vecset!(alloc; 3, 1, 2, 3);
+///     let b = vecset!(alloc; 2, 4, 3);
+///     &a & &b
+/// }
+/// ```
+///
+/// It returns `{3, 2}`. The examples of calls are parts of such a function: `alloc` is its argument, and what a line
+/// returns is behind it.
+///
 /// ```
 /// let mut set = VecSet::from_array(alloc, [3, 1])?;
 /// set.insert(2)? // true

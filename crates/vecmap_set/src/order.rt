@@ -1,6 +1,6 @@
 //! Reversing, swapping and sorting the elements.
-ghost use Rattle.std.specs.Prelude.{◌≡◌, ◌<◌, ◌≤◌, IsOk, OnErr, OnOk, length, reverse, swap};
-ghost use Rattle.std.specs.List.{IsDistinct};
+ghost use Rattle.std.specs.Prelude.{◌≡◌, ◌<◌, ◌≤◌, Bool, IsOk, OnErr, OnOk, length, reverse, swap};
+ghost use Rattle.std.specs.List.{IsDistinct, list_any};
 ghost use Rattle.std.specs.List.Sorted.{IsPermutation, IsSorted, IsSortedByClosure, IsSortedByKeyClosure, IsStable, IsStableByClosure, IsStableByKeyClosure};
 
 use crate::VecSet;
@@ -25,6 +25,8 @@ impl<T: Eq> VecSet<T> {
     pub fn reverse(&mut self)
         ensures elements { self.new.elements ≡ reverse self.old.elements }
         ensures distinct { IsDistinct T.eq self.new.elements }
+        ensures matches { (test : T → Bool) → list_any test self.new.elements
+            ≡ list_any test self.old.elements }
         ensures capacity { self.new.capacity ≡ self.old.capacity }
     {
         self.items.reverse();
@@ -53,6 +55,8 @@ impl<T: Eq> VecSet<T> {
         requires b_within { b < length self.old.elements }
         ensures elements { self.new.elements ≡ swap self.old.elements a b }
         ensures distinct { IsDistinct T.eq self.new.elements }
+        ensures matches { (test : T → Bool) → list_any test self.new.elements
+            ≡ list_any test self.old.elements }
         ensures capacity { self.new.capacity ≡ self.old.capacity }
     {
         self.items.swap(a, b);
@@ -84,6 +88,8 @@ impl<T: Eq> VecSet<T> {
         ensures err { OnErr result (self.new ≡ self.old) }
         ensures succeeds { length self.old.elements ≤ 20 → IsOk result }
         ensures distinct { IsDistinct T.eq self.new.elements }
+        ensures matches { (test : T → Bool) → list_any test self.new.elements
+            ≡ list_any test self.old.elements }
         ensures capacity { self.new.capacity ≡ self.old.capacity }
     {
         self.items.sort()
@@ -120,6 +126,8 @@ impl<T: Eq> VecSet<T> {
         ensures err { OnErr result (self.new ≡ self.old) }
         ensures succeeds { length self.old.elements ≤ 20 → IsOk result }
         ensures distinct { IsDistinct T.eq self.new.elements }
+        ensures matches { (test : T → Bool) → list_any test self.new.elements
+            ≡ list_any test self.old.elements }
         ensures capacity { self.new.capacity ≡ self.old.capacity }
     {
         self.items.sort_by(f)
@@ -159,6 +167,8 @@ impl<T: Eq> VecSet<T> {
         ensures err { OnErr result (self.new ≡ self.old) }
         ensures succeeds { length self.old.elements ≤ 1 → IsOk result }
         ensures distinct { IsDistinct T.eq self.new.elements }
+        ensures matches { (test : T → Bool) → list_any test self.new.elements
+            ≡ list_any test self.old.elements }
         ensures capacity { self.new.capacity ≡ self.old.capacity }
     {
         self.items.sort_by_cached_key(f)
@@ -183,6 +193,8 @@ impl<T: Eq> VecSet<T> {
         ensures sorted { IsSorted T.cmp self.new.elements }
         ensures rearranged { IsPermutation self.old.elements self.new.elements }
         ensures distinct { IsDistinct T.eq self.new.elements }
+        ensures matches { (test : T → Bool) → list_any test self.new.elements
+            ≡ list_any test self.old.elements }
         ensures capacity { self.new.capacity ≡ self.old.capacity }
     {
         self.items.sort_unstable();
@@ -212,6 +224,8 @@ impl<T: Eq> VecSet<T> {
         ensures sorted { IsSortedByClosure F.FnMut f self.new.elements }
         ensures rearranged { IsPermutation self.old.elements self.new.elements }
         ensures distinct { IsDistinct T.eq self.new.elements }
+        ensures matches { (test : T → Bool) → list_any test self.new.elements
+            ≡ list_any test self.old.elements }
         ensures capacity { self.new.capacity ≡ self.old.capacity }
     {
         self.items.sort_unstable_by(f);

@@ -1,10 +1,11 @@
 //! Removal of elements.
-ghost use Rattle.std.specs.Prelude.{◌≡◌, ◌-◌, ◌<◌, ◌≤◌, IfOk, IsOk, OnErr, OnOk, Some, [], drop, length, remove, slice_get, take};
+ghost use Rattle.std.specs.Prelude.{◌≡◌, ◌-◌, ◌<◌, ◌≤◌, IfOk, IsOk, OnErr, OnOk, Some, [], drop, false, length, remove, slice_get, take};
 ghost use Rattle.std.specs.Fn.{TakesAt};
 ghost use Rattle.std.specs.List.{IsDistinct, list_any};
 ghost use Rattle.vecmap_base.specs.Items.{stored_first, swap_without, swap_without_first, without_first};
 ghost use Rattle.vecmap_base.specs.Asked.{CallableOnEach, CallsAtItem};
 ghost use Rattle.vecmap_base.specs.Kept.{Kept};
+ghost use Rattle.vecmap_base.specs.Lookups.{UpdatesMember};
 ghost use Rattle.vecmap_base.specs.Pairs.{has_text};
 
 use crate::VecSet;
@@ -189,6 +190,8 @@ impl<T: Eq> VecSet<T> {
         ensures elements { self.new.elements
             ≡ without_first (Q.equivalent query) self.old.elements }
         ensures distinct { IsDistinct T.eq self.new.elements }
+        ensures updates { UpdatesMember T.eq (Q.equivalent query) self.old.elements
+            self.new.elements false }
         ensures capacity { self.new.capacity ≡ self.old.capacity }
     {
         self.take(query).is_some()
@@ -249,6 +252,8 @@ impl<T: Eq> VecSet<T> {
         ensures elements { self.new.elements
             ≡ swap_without_first (Q.equivalent query) self.old.elements }
         ensures distinct { IsDistinct T.eq self.new.elements }
+        ensures updates { UpdatesMember T.eq (Q.equivalent query) self.old.elements
+            self.new.elements false }
         ensures capacity { self.new.capacity ≡ self.old.capacity }
     {
         self.swap_take(query).is_some()
@@ -297,6 +302,8 @@ impl<T: Eq> VecSet<T> {
         ensures elements { self.new.elements
             ≡ without_first (Q.equivalent query) self.old.elements }
         ensures distinct { IsDistinct T.eq self.new.elements }
+        ensures updates { UpdatesMember T.eq (Q.equivalent query) self.old.elements
+            self.new.elements false }
         ensures capacity { self.new.capacity ≡ self.old.capacity }
     {
         let index = find_item_equivalent(&self.items, query)?;
@@ -317,6 +324,8 @@ impl<T: Eq> VecSet<T> {
         ensures elements { self.new.elements
             ≡ swap_without_first (Q.equivalent query) self.old.elements }
         ensures distinct { IsDistinct T.eq self.new.elements }
+        ensures updates { UpdatesMember T.eq (Q.equivalent query) self.old.elements
+            self.new.elements false }
         ensures capacity { self.new.capacity ≡ self.old.capacity }
     {
         let index = find_item_equivalent(&self.items, query)?;
@@ -338,6 +347,8 @@ impl VecSet<String> {
         ensures elements { self.new.elements
             ≡ without_first (has_text text.now) self.old.elements }
         ensures distinct { IsDistinct ⟦<String as PartialEq>⟧.eq self.new.elements }
+        ensures updates { UpdatesMember ⟦<String as PartialEq>⟧.eq (has_text text.now) self.old.elements
+            self.new.elements false }
         ensures capacity { self.new.capacity ≡ self.old.capacity }
     {
         self.remove(text)

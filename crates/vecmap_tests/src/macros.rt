@@ -1,6 +1,7 @@
 //! `vecmap!` and `vecset!`. Each is in a function of its own, as it returns an error by `?`.
 use crate::checks::{assert_is, assert_list, granted};
 use std::alloc::{AllocError, Global};
+use std::cell::Cell;
 use vecmap::{VecMap, VecSet, vecmap, vecset};
 
 fn repeated_words(alloc: Global) -> Result<VecMap<&'static str, u32>, AllocError> {
@@ -35,4 +36,20 @@ fn macros_of_nothing_do_not_allocate(rt: HostRuntime) {
     assert_is(&rt, (map.len(), map.capacity()), (0, 0));
     let set = granted(&rt, no_items(rt.alloc()));
     assert_is(&rt, (set.len(), set.capacity()), (0, 0));
+}
+
+// Each key and each value is the number of calls so far.
+fn numbered_calls(alloc: Global) -> Result<VecMap<u32, u32>, AllocError> {
+    let calls = Cell::new(0u32);
+    let next = || {
+        calls.set(calls.get().wrapping_add(1));
+        calls.get()
+    };
+    Ok(vecmap!(alloc; next() => next(), next() => next()))
+}
+
+#[test]
+fn a_key_is_evaluated_before_its_value(rt: HostRuntime) {
+    let map = granted(&rt, numbered_calls(rt.alloc()));
+    assert_list(&rt, map.as_slice(), &[(1, 2), (3, 4)]);
 }

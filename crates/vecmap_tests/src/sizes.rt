@@ -1,11 +1,12 @@
 //! Branches by size and length that the test cases of `vecmap_script` do not take, since their keys and elements are
-//! larger than a word: relations of small elements, moves of small pairs, and equality of more than 1,024 pairs whose
+//! larger than a word: relations of small elements, moves of small pairs, and equality of more than 16,384 pairs, whose
 //! values may differ from themselves.
 use crate::checks::{assert_gives, assert_is, granted};
 use std::alloc::{AllocError, Global};
 use std::cell::Cell;
-use std::default::MadeWith;
+use std::default::{Emptied, MadeWith};
 use vecmap::{VecMap, VecSet};
+use vecmap_base::pairs_equal;
 
 /// Returns the numbers from a first to before a last, and one more.
 fn numbers(alloc: Global, first: u32, end: u32, last: u32) -> Result<Vec<u32>, AllocError> {
@@ -174,13 +175,13 @@ fn searches_of_small_keys_call_their_closures_by_quarters(rt: HostRuntime) {
     assert_gives(&rt, calls_of_searches(rt.alloc(), 100), [11; 4]);
 }
 
-/// Creates a map of pairs with these keys, in ascending or descending order, and one value.
-fn map_of(
+/// Creates pairs of the first numbers, in ascending or descending order, with one value.
+fn pairs_of(
     alloc: Global,
     count: u32,
     is_reversed: bool,
     value: f64,
-) -> Result<VecMap<u32, f64>, AllocError> {
+) -> Result<Vec<(u32, f64)>, AllocError> {
     let mut pairs = Vec::new(alloc);
     for number in 0..count {
         pairs.push((number, value))?;
@@ -188,21 +189,24 @@ fn map_of(
     if is_reversed {
         pairs.reverse();
     }
-    Ok(VecMap::from(pairs))
+    Ok(pairs)
 }
 
+// Up to 16,384 pairs are marked, and more are counted. As many equal pairs would take too long.
 #[test]
-fn many_values_that_differ_from_themselves_are_in_no_equal_map(rt: HostRuntime) {
+fn many_pairs_are_equal_if_their_values_are(rt: HostRuntime) {
     let alloc = rt.alloc();
-    for (count, value, is_equal) in [
-        (20, 0.5, true),
-        (20, f64::NAN, false),
-        (1030, 0.5, true),
-        (1030, f64::NAN, false),
+    for (count, value, other_value, is_equal) in [
+        (20, 0.5, 0.5, true),
+        (20, f64::NAN, f64::NAN, false),
+        (1030, 0.5, 0.5, true),
+        (1030, f64::NAN, f64::NAN, false),
+        (16390, 0.5, 0.25, false),
+        (16390, f64::NAN, f64::NAN, false),
     ] {
-        let map = granted(&rt, map_of(alloc, count, false, value));
-        let other = granted(&rt, map_of(alloc, count, true, value));
-        assert_is(&rt, map == other, is_equal);
+        let pairs = granted(&rt, pairs_of(alloc, count, false, value));
+        let others = granted(&rt, pairs_of(alloc, count, true, other_value));
+        assert_is(&rt, pairs_equal(&pairs, &others), is_equal);
     }
 }
 
@@ -211,6 +215,25 @@ fn a_default_collection_has_no_capacity(rt: HostRuntime) {
     let map: VecMap<u32, u32> = VecMap::made_with(rt.alloc());
     let set: VecSet<u32> = VecSet::made_with(rt.alloc());
     assert_is(&rt, (map.capacity(), set.capacity()), (0, 0));
+}
+
+#[test]
+fn an_emptied_collection_has_no_capacity(rt: HostRuntime) {
+    let alloc = rt.alloc();
+    let map = granted(&rt, map_of(alloc, 2, false, 0.5));
+    let emptied = granted(&rt, VecMap::emptied(&map));
+    assert_is(
+        &rt,
+        (map.len(), emptied.len(), emptied.capacity()),
+        (2, 0, 0),
+    );
+    let set = VecSet::from(granted(&rt, numbers(alloc, 1, 3, 0)));
+    let emptied = granted(&rt, VecSet::emptied(&set));
+    assert_is(
+        &rt,
+        (set.len(), emptied.len(), emptied.capacity()),
+        (3, 0, 0),
+    );
 }
 
 /// Appends numbers with values of 32 bytes to a map, and the values to a set. Returns whether all are in order.

@@ -1,7 +1,7 @@
 -- The definitions on pairs that are by recursion, by the index of the first key that passes a test.
 use Rattle.std.specs.Map.{set_value}
 use Rattle.std.specs.Option.{option_map, option_map_or, option_and_then}
-use Rattle.std.proofs.Common.{◌≡◌, ℕ, suc, Bool, true, false, List, [], ◌∷◌, ◌++◌, Option, None, Some, if◌then◌else◌, refl, ap, ◌∙◌, sym, get_or, length, position, remove, set, slice_get, slice_set, swap_remove, ◌<◌}
+use Rattle.std.proofs.Common.{◌≡◌, ℕ, suc, Bool, true, false, List, [], ◌∷◌, ◌++◌, Option, None, Some, if◌then◌else◌, refl, ap, ◌∙◌, sym, get_or, is_some, length, position, remove, set, slice_get, slice_set, swap_remove, ◌<◌}
 use Rattle.std.proofs.lemmas.Option.{slice_get-get_or}
 use Rattle.vecmap_base.specs.Items.{swap_without}
 use Rattle.vecmap_base.specs.Pairs.{index_by, index_of, lookup_by, lookup_pair_by, put, put_key, swap_without_by, value_at, with_pair, with_value, without_by}
@@ -23,6 +23,16 @@ module _ {K V : Type 0} (test : K → Bool) where
       by true o = refl
       by false None = refl
       by false (Some i) = refl
+
+  -- A lookup finds a value exactly if a key has an index.
+  pub is_some_lookup_by : (l : List (K × V)) → is_some (lookup_by test l) ≡ is_some (index_by test l)
+  is_some_lookup_by [] = refl
+  is_some_lookup_by (p ∷ ps) = by (test p.0) (index_by test ps) (is_some_lookup_by ps)
+    where
+      by : (b : Bool) (o : Option ℕ) → is_some (lookup_by test ps) ≡ is_some o → is_some (if b then Some p.1 else lookup_by test ps) ≡ is_some (if b then Some 0 else option_map suc o)
+      by true o e = refl
+      by false None e = e
+      by false (Some i) e = e
 
   -- A lookup of a pair finds the pair at the index.
   pub lookup_pair_by_index : (l : List (K × V)) → lookup_pair_by test l ≡ option_and_then (slice_get l) (index_by test l)

@@ -1,5 +1,5 @@
 -- What lookups find after an insertion and after a removal, by keys and by queries.
-use Rattle.std.specs.{Cmp.IsEquivalence, List.IsDistinct, Map.AreApart, Map.IsKeyTest, Map.KeepsOthers, Map.remove_entry}
+use Rattle.std.specs.{Cmp.IsEquivalence, Map.AreApart, Map.IsKeyTest, Map.KeepsOthers, Map.remove_entry}
 use Rattle.std.proofs.Common.{◌≡◌, Bool, true, false, List, [], ◌∷◌, None, Option, Some, ap, cond, inl, inr, refl, subst, sym, ◌∙◌, true≢false}
 use Rattle.std.proofs.lemmas.Bool.{cases_Bool}
 use Rattle.std.proofs.lemmas.Map.{lookup-none, lookup-remove_entry}
@@ -7,8 +7,7 @@ use Rattle.std.proofs.lemmas.Map.Entries.{none_past_head}
 use Rattle.std.proofs.lemmas.Map.Keys.{IsDistinct-tail}
 use Rattle.vecmap_base.specs.Lookups.{UpdatesBy}
 use Rattle.vecmap_base.specs.Pairs.{HasDistinctKeys, lookup, lookup_by, put, without_by}
-use Rattle.vecmap_base.proofs.DistinctLemmas.Additions.{distinct_add}
-use Rattle.vecmap_base.proofs.PairsLemmas.Keys.{keys_of_put}
+use Rattle.vecmap_base.proofs.PairsLemmas.Distinct.{distinct_put}
 
 module _ {K : Type 0} (eq : K → K → Bool) (o : IsEquivalence eq) (test : K → Bool) (respects : IsKeyTest eq test) where
   -- A query matches both of two equal keys, or neither.
@@ -28,9 +27,6 @@ module _ {K : Type 0} (eq : K → K → Bool) (o : IsEquivalence eq) (test : K �
   compares_with k h = λ i x. respects k x h i
 
 module _ {K V : Type 0} (eq : K → K → Bool) (o : IsEquivalence eq) where
-  pub distinct_put : (l : List (K × V)) (k : K) (v : V) → HasDistinctKeys eq l → HasDistinctKeys eq (put eq l k v)
-  distinct_put l k v d = subst (IsDistinct eq) (sym (keys_of_put eq l k v)) (distinct_add eq o _ k d)
-
   module _ (test : K → Bool) (respects : IsKeyTest eq test) where
     -- After an insertion, a query finds the value if it matches the key, and otherwise what it found before.
     pub lookup_by_put : (l : List (K × V)) (k : K) (v : V) → lookup_by test (put eq l k v) ≡ cond (test k) (Some v) (lookup_by test l)
@@ -73,7 +69,7 @@ module _ {K V : Type 0} (eq : K → K → Bool) (o : IsEquivalence eq) where
         own = lookup_by_put (eq k) (o.congr k) l k v ∙ ap (λ b. cond b (Some v) (lookup eq l k)) (o.refl k);
         others = λ q n. each q ∙ ap (λ b. cond b (Some v) (lookup eq l q)) n;
         queries = λ other respects apart. lookup_by_put other respects l k v ∙ ap (λ b. cond b (Some v) (lookup_by other l)) (apart k (o.refl k));
-        distinct = distinct_put l k v;
+        distinct = distinct_put eq o l k v;
       }
 
   -- The same of a list that is known to be the one after the insertion.

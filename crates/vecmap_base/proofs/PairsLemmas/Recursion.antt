@@ -1,12 +1,7 @@
 -- The definitions on pairs, for a list with one pair more.
 use Rattle.std.specs.Option.{option_map}
 use Rattle.std.proofs.Common.{◌≡◌, suc, Bool, List, ◌∷◌, Some, if◌then◌else◌, refl}
-use Rattle.vecmap_base.specs.Pairs.{index_of, put, lookup_by}
-
-module _ {K V : Type 0} (test : K → Bool) where
-  -- A lookup in a list with one pair more.
-  pub lookup_by_cons : (p : K × V) (ps : List (K × V)) → lookup_by test (p ∷ ps) ≡ (if test p.0 then Some p.1 else lookup_by test ps)
-  lookup_by_cons p ps = refl
+use Rattle.vecmap_base.specs.Pairs.{index_of, put}
 
 module _ {K V : Type 0} (eq : K → K → Bool) where
   pub index_of_cons : (p : K × V) (ps : List (K × V)) (k : K) → index_of eq (p ∷ ps) k ≡ (if eq k p.0 then Some 0 else option_map suc (index_of eq ps k))

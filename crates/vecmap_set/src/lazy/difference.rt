@@ -10,7 +10,8 @@ use std::iter::FusedIterator;
 use std::marker::Model;
 use std::{fmt, slice};
 
-/// An iterator over the elements of one set that another lacks, in order. [`VecSet::difference`] creates one.
+/// An iterator over the elements of one set that another lacks, in order.
+/// [`VecSet::difference`](crate::VecSet::difference) creates one.
 ///
 /// A contract sees the elements of the first set that are not yet visited, and the elements of the other set.
 ///

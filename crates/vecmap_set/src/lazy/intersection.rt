@@ -11,8 +11,8 @@ use std::iter::FusedIterator;
 use std::marker::Model;
 use std::{fmt, slice};
 
-/// An iterator over the elements of the shorter of two sets that the other has, in order. [`VecSet::intersection`]
-/// creates one.
+/// An iterator over the elements of the shorter of two sets that the other has, in order.
+/// [`VecSet::intersection`](crate::VecSet::intersection) creates one.
 ///
 /// A contract sees the elements of the shorter set that are not yet visited, and the elements of the other set.
 ///

@@ -10,7 +10,8 @@ use std::fmt;
 use std::iter::FusedIterator;
 use std::marker::Model;
 
-/// An iterator over the elements that only one of two sets has. [`VecSet::symmetric_difference`] creates one.
+/// An iterator over the elements that only one of two sets has.
+/// [`VecSet::symmetric_difference`](crate::VecSet::symmetric_difference) creates one.
 ///
 /// It yields the elements of the first set that the second lacks, and then the elements of the second that the first
 /// lacks, each part in order. A contract sees what is left of both parts.

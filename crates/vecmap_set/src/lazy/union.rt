@@ -10,7 +10,8 @@ use std::iter::FusedIterator;
 use std::marker::Model;
 use std::{fmt, slice};
 
-/// An iterator over the elements that at least one of two sets has. [`VecSet::union`] creates one.
+/// An iterator over the elements that at least one of two sets has. [`VecSet::union`](crate::VecSet::union) creates
+/// one.
 ///
 /// It yields the elements of the longer set, and then the elements of the other set that it lacks, each part in order.
 /// A contract sees what is left of both parts.

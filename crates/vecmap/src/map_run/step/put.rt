@@ -8,7 +8,6 @@ use vecmap_base::Refused;
 use vecmap_map::{Entry, VecMap};
 
 // Appends the pair if its key is new, and returns the index of the key, and `true` if it was new.
-#[tactic(auto, using(vecmap_base::proofs::PairsLemmas::Puts::put_stored))]
 pub(crate) fn put_if_new<K: Eq + Clone, V: Eq + Clone>(
     map: &mut VecMap<K, V>,
     key: K,

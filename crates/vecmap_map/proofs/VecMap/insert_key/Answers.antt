@@ -1,6 +1,13 @@
 use Rattle.std.proofs.Common.{arith}
-use Rattle.vecmap_base.proofs.PairsLemmas.ByIndex.{pair_found}
+use Rattle.vecmap_base.proofs.PairsLemmas.ByIndex.{pair_found, put_key_by_index}
+use Rattle.vecmap_base.proofs.PairsLemmas.Updates.{updates_put_key}
 use Rattle.vecmap_map.proofs.VecMap.insert_key.Goals as goal
 
 pub returns-in-Some-clause-old : goal.returns-in-Some-clause-old
 returns-in-Some-clause-old g c = grind (arith, pair_found (g.K.PartialEq.eq c.args.key) c.args.self.now.entries c.in-Some.index c.index_mut.result.now)
+
+pub returns-in-Some-clause-updates : goal.returns-in-Some-clause-updates
+returns-in-Some-clause-updates g c = updates_put_key g.K.PartialEq.eq g.met.K.Eq.laws c.args.self.now.entries _ c.args.key c.args.value (grind (arith, put_key_by_index))
+
+pub returns-clause-updates : goal.returns-clause-updates
+returns-clause-updates g c = updates_put_key g.K.PartialEq.eq g.met.K.Eq.laws c.args.self.now.entries _ c.args.key c.args.value (grind (arith, put_key_by_index))

@@ -1,5 +1,6 @@
-use Rattle.std.proofs.Common.{ap, arith, length}
+use Rattle.std.proofs.Common.{ap, arith, length, rules, sym}
 use Rattle.vecmap_base.proofs.DistinctLemmas.Order.{distinct_swap}
+use Rattle.std.proofs.lemmas.List.Sorted.{IsPermutation-swap, list_any-IsPermutation}
 use Rattle.vecmap_set.proofs.VecSet.swap_indices.Goals as goal
 
 pub invariant_of-self : goal.invariant_of-self
@@ -9,3 +10,6 @@ invariant_of-self g c =
 
 pub returns-clause-distinct : goal.returns-clause-distinct
 returns-clause-distinct g c = invariant_of-self g c
+
+pub returns-clause-matches : goal.returns-clause-matches
+returns-clause-matches g c = λ test. sym (list_any-IsPermutation test c.args.self.now.elements _ (IsPermutation-swap c.args.self.now.elements _ c.args.a c.args.b c.requires.a_within c.requires.b_within (search rules)))

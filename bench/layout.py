@@ -1,0 +1,47 @@
+"""Writes a linker script for each order of the functions.
+
+    python3 bench/layout.py MAP FOLDER ORDER..
+
+A processor fetches code in blocks of 32 bytes, and a tight loop may take half as long again if it begins in the
+middle of one. A linker puts functions at multiples of 16. Here, in half of the orders the functions in Rattle begin at
+multiples of 32, and in the others 16 bytes later. So do the functions in Rust: any four orders in a row have each of
+the four pairs once. The functions are shuffled, too.
+
+MAP is the linker's map of the program, and `FOLDER/ORDER.ld` becomes the script of an order, a number.
+"""
+import random
+import re
+import sys
+
+# A section of a map: its file, with the archive that the file is in, and its name.
+SECTION = re.compile(r"(\S+):\((\.text\..+)\)$")
+
+
+def sections_of(name):
+    """Returns the sections with functions: whether each is in Rattle, the archive that it is in, and its name."""
+    with open(name, encoding="utf-8") as file:
+        found = dict.fromkeys(match.groups() for match in map(SECTION.search, map(str.rstrip, file)) if match)
+    for path, section in found:
+        archive = re.search(r"([^/]+\.a)\(", path)
+        yield archive is not None, archive[1] if archive else None, section
+
+
+def script(sections, order):
+    """Returns the linker script of an order."""
+    starts = {True: 16 * (order % 2), False: 16 * (order // 2 % 2)}
+    lines = []
+    for is_rattle, archive, section in random.Random(order).sample(sections, len(sections)):
+        name = re.sub(r"[][*]", "?", section)
+        lines.append(f'. = ALIGN(32) + {starts[is_rattle]}; *{archive + ":*" if archive else ""}("{name}")')
+    return "SECTIONS {\n.text.shuffled : ALIGN(32) {\n" + "\n".join(lines) + "\n}\n} INSERT BEFORE .text;\n"
+
+
+def main():
+    name, folder, *orders = sys.argv[1:]
+    sections = list(sections_of(name))
+    for order in orders:
+        with open(f"{folder}/{order}.ld", "w", encoding="utf-8") as file:
+            file.write(script(sections, int(order)))
+
+
+main()

@@ -1,0 +1,137 @@
+//! Loops over maps whose keys have an `==` of their own.
+
+/// Loops over any map. `$remove` and `$remove_entry` keep the order.
+macro_rules! own_key_loops {
+    ($map:ident, $remove:ident) => {
+        fn symbols(numbers: &[u64]) -> Vec<Symbol> {
+            let mut symbols = Vec::with_capacity(numbers.len());
+            for number in numbers {
+                symbols.push(Symbol::of(*number));
+            }
+            symbols
+        }
+
+        fn symbol_filled(keys: &[Symbol]) -> $map<Symbol, u64> {
+            let mut map = $map::new();
+            for key in keys {
+                map.insert(*key, u64::from(key.number));
+            }
+            map
+        }
+
+        #[inline(never)]
+        pub fn symbol_insert(keys: &[u64], _: &[u64], rounds: u64) -> u64 {
+            let keys = symbols(keys);
+            let mut sum = 0u64;
+            for round in 0..rounds {
+                let map = symbol_filled(&keys);
+                sum = sum.wrapping_add(map.len() as u64 ^ round);
+            }
+            sum
+        }
+
+        #[inline(never)]
+        pub fn symbol_get(keys: &[u64], probes: &[u64], rounds: u64) -> u64 {
+            let map = symbol_filled(&symbols(keys));
+            let probes = symbols(probes);
+            let mut sum = 0u64;
+            for round in 0..rounds {
+                for probe in probes.iter() {
+                    if let Some(value) = map.get(probe) {
+                        sum = sum.wrapping_add(*value ^ round);
+                    }
+                }
+            }
+            sum
+        }
+
+        #[inline(never)]
+        pub fn symbol_remove(keys: &[u64], probes: &[u64], rounds: u64) -> u64 {
+            let mut map = symbol_filled(&symbols(keys));
+            let probes = symbols(probes);
+            let mut sum = 0u64;
+            for round in 0..rounds {
+                for probe in probes.iter() {
+                    if let Some(value) = map.$remove(probe) {
+                        sum = sum.wrapping_add(value);
+                        map.insert(*probe, value ^ round);
+                    }
+                }
+            }
+            sum
+        }
+
+        fn headers(text: &str) -> Vec<Header> {
+            let mut headers = Vec::new();
+            for line in text.lines() {
+                headers.push(Header::of(line));
+            }
+            headers
+        }
+
+        fn header_numbered(text: &str) -> $map<Header, u64> {
+            let mut map = $map::new();
+            let mut number = 0u64;
+            for line in text.lines() {
+                map.insert(Header::of(line), number);
+                number = number.wrapping_add(1);
+            }
+            map
+        }
+
+        #[inline(never)]
+        pub fn header_insert(keys: &[u8], _: &[u8], rounds: u64) -> u64 {
+            let Ok(keys) = str::from_utf8(keys) else {
+                return u64::MAX;
+            };
+            let mut sum = 0u64;
+            for round in 0..rounds {
+                let map = header_numbered(keys);
+                sum = sum.wrapping_add(map.len() as u64 ^ round);
+            }
+            sum
+        }
+
+        #[inline(never)]
+        pub fn header_get(keys: &[u8], probes: &[u8], rounds: u64) -> u64 {
+            let (Ok(keys), Ok(probes)) = (str::from_utf8(keys), str::from_utf8(probes)) else {
+                return u64::MAX;
+            };
+            let map = header_numbered(keys);
+            let probes = headers(probes);
+            let mut sum = 0u64;
+            for round in 0..rounds {
+                for probe in probes.iter() {
+                    if let Some(value) = map.get(probe) {
+                        sum = sum.wrapping_add(*value ^ round);
+                    }
+                }
+            }
+            sum
+        }
+    };
+}
+
+/// Loops over maps that remove a pair. `$remove_entry` keeps the order.
+macro_rules! own_key_removals {
+    ($map:ident, $remove_entry:ident) => {
+        #[inline(never)]
+        pub fn header_remove(keys: &[u8], probes: &[u8], rounds: u64) -> u64 {
+            let (Ok(keys), Ok(probes)) = (str::from_utf8(keys), str::from_utf8(probes)) else {
+                return u64::MAX;
+            };
+            let mut map = header_numbered(keys);
+            let probes = headers(probes);
+            let mut sum = 0u64;
+            for round in 0..rounds {
+                for probe in probes.iter() {
+                    if let Some((key, value)) = map.$remove_entry(probe) {
+                        sum = sum.wrapping_add(value);
+                        map.insert(key, value ^ round);
+                    }
+                }
+            }
+            sum
+        }
+    };
+}

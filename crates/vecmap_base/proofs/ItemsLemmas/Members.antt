@@ -1,0 +1,104 @@
+-- Which elements are present after an addition and after a removal, in the words of contracts.
+use Rattle.std.specs.{Cmp.IsEquivalence, List.IsDistinct, List.list_any, List.Sorted.IsPermutation, List.swap_remove, Map.AreApart, Map.IsKeyTest, Option.option_map_or}
+use Rattle.std.specs.Set.{is_member, KeepsOthers}
+use Rattle.std.proofs.Common.{◌≡◌, ◌∙◌, ◌||◌, ◌++◌, ℕ, Bool, true, false, List, [], ◌∷◌, None, Option, Some, ap, cond, get_or, inl, inr, is_some, position, refl, remove, slice_get, subst, sym}
+use Rattle.std.proofs.lemmas.Bool.{cases_Bool}
+use Rattle.std.proofs.lemmas.List.Folds.{list_any-append}
+use Rattle.std.proofs.lemmas.List.Quantifiers.{position-Some}
+use Rattle.std.proofs.lemmas.List.Sorted.{IsPermutation-remove, IsPermutation-swap_remove, list_any-IsPermutation}
+use Rattle.std.proofs.lemmas.Map.Keys.{IsDistinct-head}
+use Rattle.std.proofs.lemmas.Option.{get_or_from_slice_get, none-some, slice_get-get_or, slice_get_within}
+use Rattle.vecmap_base.specs.Items.{add, swap_without, swap_without_first, without_first}
+use Rattle.vecmap_base.specs.Lookups.{UpdatesMember}
+use Rattle.vecmap_base.proofs.DistinctLemmas.{Absent.none_equal, Order.distinct_rearranged}
+use Rattle.vecmap_base.proofs.IndexLemmas.{list_any_position}
+use Rattle.vecmap_base.proofs.ItemsLemmas.Additions.{add_absent, add_present}
+use Rattle.vecmap_base.proofs.PairsLemmas.Lookups.{compares_with}
+
+or_false : (b : Bool) → (b || false) ≡ b
+or_false true = refl
+or_false false = refl
+
+or_true : (b : Bool) → (b || true) ≡ true
+or_true true = refl
+or_true false = refl
+
+module _ {T : Type 0} (eq : T → T → Bool) (o : IsEquivalence eq) where
+  module _ (test : T → Bool) (respects : IsKeyTest eq test) where
+    -- The four facts on members from two: whether anything matches, and that other queries match the same.
+    members_from : (s r : List T) (b : Bool) → list_any test r ≡ b → ((other : T → Bool) → IsKeyTest eq other → AreApart test other → list_any other r ≡ list_any other s) → UpdatesMember eq test s r b
+    unfolding KeepsOthers
+    members_from s r b here apart =
+        let away : (q : T) → test q ≡ false → is_member eq r q ≡ is_member eq s q =
+              λ q n. apart (eq q) (o.congr q) (λ k h. o.symm q k ∙ sym (respects k q h) ∙ n) in
+        record {
+          members = λ q. elim (cases_Bool (test q)) [
+            | inl h ↦ ap (λ f. list_any f r) (sym (compares_with eq o test respects q h)) ∙ here ∙ sym (ap (λ c. cond c b (is_member eq s q)) h)
+            | inr n ↦ away q n ∙ sym (ap (λ c. cond c b (is_member eq s q)) n)
+          ];
+          own = here;
+          others = away;
+          queries = apart;
+        }
+
+    -- The removal of an element that passes, wherever the other elements go.
+    members_taken : (s r : List T) (x : T) → IsDistinct eq s → test x ≡ true → IsPermutation s (x ∷ r) → UpdatesMember eq test s r false
+    members_taken s r x d h moved =
+        members_from s r false
+        (ap (λ f. list_any f r) (compares_with eq o test respects x h) ∙ none_equal eq x r (IsDistinct-head eq x r (distinct_rearranged eq o s (x ∷ r) moved d)))
+        (λ other tells apart. sym (ap (λ b. b || list_any other r) (apart x h)) ∙ sym (list_any-IsPermutation other s (x ∷ r) moved))
+
+    -- If nothing passes, nothing is removed.
+    members_stay : (s : List T) → position test s ≡ None → UpdatesMember eq test s s false
+    members_stay s e = members_from s s false (list_any_position test s ∙ ap is_some e) (λ other tells apart. refl)
+
+    none_within : (s : List T) (i : ℕ) → position test s ≡ Some i → slice_get s i ≡ None → ⊥
+    none_within [] i e f = none-some i e
+    none_within (x ∷ xs) i e f = none-some (get_or (x ∷ xs) i x) (sym f ∙ slice_get-get_or (x ∷ xs) i x (position-Some test (x ∷ xs) i x e).0)
+
+    passes : (s : List T) (i : ℕ) (x : T) → position test s ≡ Some i → slice_get s i ≡ Some x → test x ≡ true
+    passes s i x e at = ap test (sym (get_or_from_slice_get s i x x at)) ∙ (position-Some test s i x e).1
+
+    -- After the removal of its match, a query matches nothing, and each other element is present exactly if it was.
+    pub members_of_without : (s r : List T) → r ≡ without_first test s → IsDistinct eq s → UpdatesMember eq test s r false
+    members_of_without s r e d = subst (λ l. UpdatesMember eq test s l false) (sym e) (by (position test s) refl)
+      where
+        at : (i : ℕ) (found : Option T) → position test s ≡ Some i → slice_get s i ≡ found → UpdatesMember eq test s (remove s i) false
+        at i None p f = absurd (none_within s i p f)
+        at i (Some x) p f = members_taken s (remove s i) x d (passes s i x p f) (IsPermutation-remove s i x (slice_get_within s i x f) (sym (get_or_from_slice_get s i x x f)))
+
+        by : (found : Option ℕ) → position test s ≡ found → UpdatesMember eq test s (option_map_or (λ i. remove s i) found s) false
+        by None p = members_stay s p
+        by (Some i) p = at i (slice_get s i) p refl
+
+    -- The same, if the last element moves to the index of the removed one.
+    pub members_of_swap_without : (s r : List T) → r ≡ swap_without_first test s → IsDistinct eq s → UpdatesMember eq test s r false
+    members_of_swap_without s r e d = subst (λ l. UpdatesMember eq test s l false) (sym e) (by (position test s) refl)
+      where
+        at : (i : ℕ) (found : Option T) → position test s ≡ Some i → slice_get s i ≡ found → UpdatesMember eq test s (option_map_or (λ x. swap_remove s i x) found s) false
+        at i None p f = absurd (none_within s i p f)
+        at i (Some x) p f = members_taken s (swap_remove s i x) x d (passes s i x p f) (IsPermutation-swap_remove s i x (slice_get_within s i x f) (sym (get_or_from_slice_get s i x x f)))
+
+        by : (found : Option ℕ) → position test s ≡ found → UpdatesMember eq test s (option_map_or (λ i. swap_without s i) found s) false
+        by None p = members_stay s p
+        by (Some i) p = at i (slice_get s i) p refl
+
+  -- After an addition, the element is present, and each other element exactly if it was.
+  pub members_of_add : (s r : List T) (x : T) → r ≡ add eq s x → UpdatesMember eq (eq x) s r true
+  members_of_add s r x e = subst (λ l. UpdatesMember eq (eq x) s l true) (sym e) (members_from (eq x) (o.congr x) s (add eq s x) true here away)
+    where
+      here : list_any (eq x) (add eq s x) ≡ true
+      here =
+          elim (cases_Bool (is_member eq s x)) [
+            | inl h ↦ ap (list_any (eq x)) (add_present eq s x h) ∙ h
+            | inr n ↦ ap (list_any (eq x)) (add_absent eq s x n) ∙ list_any-append (eq x) s (x ∷ []) ∙ ap (λ b. list_any (eq x) s || (b || false)) (o.refl x) ∙ or_true (list_any (eq x) s)
+          ]
+
+      away : (other : T → Bool) → IsKeyTest eq other → AreApart (eq x) other → list_any other (add eq s x) ≡ list_any other s
+      away other tells apart =
+          elim (cases_Bool (is_member eq s x)) [
+            | inl h ↦ ap (list_any other) (add_present eq s x h)
+            | inr n ↦
+                ap (list_any other) (add_absent eq s x n)
+                ∙ list_any-append other s (x ∷ []) ∙ ap (λ b. list_any other s || (b || false)) (apart x (o.refl x)) ∙ or_false (list_any other s)
+          ]

@@ -1,0 +1,97 @@
+-- What lookups find in the front of a list, after the insertions of many pairs, and whether anything matches in another order.
+use Rattle.std.specs.{Cmp.IsEquivalence, List.IsDistinct, List.Sorted.IsPermutation, List.list_any, Map.keys_of, Option.option_map, Option.option_or}
+use Rattle.std.proofs.Common.{◌≡◌, ◌∙◌, ◌<◌, ◌≤◌, ℕ, zero, suc, Bool, true, false, List, [], ◌∷◌, None, Option, Some, ap, arith, cond, if◌then◌else◌, inl, inr, is_some, refl, subst, sym, take}
+use Rattle.std.proofs.lemmas.Bool.{cases_Bool}
+use Rattle.std.proofs.lemmas.List.{take-map}
+use Rattle.std.proofs.lemmas.List.Sorted.{list_any-IsPermutation}
+use Rattle.std.proofs.lemmas.Map.{lookup-none}
+use Rattle.std.proofs.lemmas.Map.Entries.{none_past_head}
+use Rattle.std.proofs.lemmas.Map.Keys.{IsDistinct-tail}
+use Rattle.std.proofs.lemmas.Option.{none-some, same_Some}
+use Rattle.vecmap_base.specs.{Lookups.Joins, Lookups.KeepsFront}
+use Rattle.vecmap_base.specs.Pairs.{HasDistinctKeys, index_by, lookup, lookup_by, put, puts}
+use Rattle.vecmap_base.proofs.DistinctLemmas.Removals.{distinct_take}
+use Rattle.vecmap_base.proofs.IndexLemmas.{is_some_position}
+use Rattle.vecmap_base.proofs.PairsLemmas.{ByIndex.index_by_is, Distinct.distinct_put, Lookups.updates_put}
+
+module _ {K V : Type 0} (test : K → Bool) where
+  found_in_front : (n : ℕ) (l : List (K × V)) (i : ℕ) → index_by test l ≡ Some i → i < n → lookup_by test (take n l) ≡ lookup_by test l
+  found_in_front n [] i e h = absurd (none-some i e)
+  found_in_front zero (p ∷ ps) i e h = absurd (omega arith)
+  found_in_front (suc n) (p ∷ ps) i e h =
+      elim (cases_Bool (test p.0)) [
+        | inl t ↦ ap (λ b. cond b (Some p.1) (lookup_by test (take n ps))) t ∙ sym (ap (λ b. cond b (Some p.1) (lookup_by test ps)) t)
+        | inr f ↦ ap (λ r. cond (test p.0) (Some p.1) r) (later (λ j at less. found_in_front n ps j at less) (index_by test ps) refl (sym (ap (λ b. if b then Some 0 else option_map suc (index_by test ps)) f) ∙ e))
+      ]
+    where
+      later : ((j : ℕ) → index_by test ps ≡ Some j → j < n → lookup_by test (take n ps) ≡ lookup_by test ps) → (o : Option ℕ) → index_by test ps ≡ o → option_map suc o ≡ Some i → lookup_by test (take n ps) ≡ lookup_by test ps
+      later rest None at next = absurd (none-some i next)
+      later rest (Some j) at next = let less : suc j ≡ i = same_Some (suc j) i next in rest j at (omega arith)
+
+  gone_from_front : (n : ℕ) (l : List (K × V)) (i : ℕ) → index_by test l ≡ Some i → n ≤ i → lookup_by test (take n l) ≡ None
+  gone_from_front zero l i e h = refl
+  gone_from_front (suc n) [] i e h = absurd (none-some i e)
+  gone_from_front (suc n) (p ∷ ps) i e h =
+      elim (cases_Bool (test p.0)) [
+        | inl t ↦ let first : 0 ≡ i = same_Some 0 i (sym (ap (λ b. if b then Some 0 else option_map suc (index_by test ps)) t) ∙ e) in absurd (omega arith)
+        | inr f ↦ ap (λ b. cond b (Some p.1) (lookup_by test (take n ps))) f ∙ later (λ j at more. gone_from_front n ps j at more) (index_by test ps) refl (sym (ap (λ b. if b then Some 0 else option_map suc (index_by test ps)) f) ∙ e)
+      ]
+    where
+      later : ((j : ℕ) → index_by test ps ≡ Some j → n ≤ j → lookup_by test (take n ps) ≡ None) → (o : Option ℕ) → index_by test ps ≡ o → option_map suc o ≡ Some i → lookup_by test (take n ps) ≡ None
+      later rest None at next = absurd (none-some i next)
+      later rest (Some j) at next = let less : suc j ≡ i = same_Some (suc j) i next in rest j at (omega arith)
+
+  absent_in_front : (n : ℕ) (l : List (K × V)) → lookup_by test l ≡ None → lookup_by test (take n l) ≡ None
+  absent_in_front zero l e = refl
+  absent_in_front (suc n) [] e = refl
+  absent_in_front (suc n) (p ∷ ps) e =
+      elim (cases_Bool (test p.0)) [
+        | inl t ↦ absurd (none-some p.1 (sym e ∙ ap (λ b. cond b (Some p.1) (lookup_by test ps)) t))
+        | inr f ↦
+            ap (λ b. cond b (Some p.1) (lookup_by test (take n ps))) f
+            ∙ absent_in_front n ps (sym (ap (λ b. cond b (Some p.1) (lookup_by test ps)) f) ∙ e)
+      ]
+
+  -- In another order, a query matches a key exactly if it did.
+  pub matches_rearranged : (l m : List (K × V)) → IsPermutation l m → is_some (index_by test m) ≡ is_some (index_by test l)
+  matches_rearranged l m moved = by m ∙ sym (list_any-IsPermutation (λ p. test p.0) l m moved) ∙ sym (by l)
+    where
+      by : (xs : List (K × V)) → is_some (index_by test xs) ≡ list_any (λ p. test p.0) xs
+      by xs = ap is_some (index_by_is test xs) ∙ is_some_position (λ p. test p.0) xs
+
+module _ {K V : Type 0} where
+  pub keeps_front : (n : ℕ) (l : List (K × V)) → KeepsFront n l (take n l)
+  keeps_front n l = record {
+    found = λ test. found_in_front test n l;
+    gone = λ test. gone_from_front test n l;
+    absent = λ test. absent_in_front test n l;
+    distinct = λ eq d. subst (IsDistinct eq) (take-map (λ p. p.0) n l) (distinct_take eq n (keys_of l) d);
+  }
+
+  -- The same of a list that is known to be the front.
+  pub keeps_front_of : (n : ℕ) (l m : List (K × V)) → m ≡ take n l → KeepsFront n l m
+  keeps_front_of n l m e = subst (KeepsFront n l) (sym e) (keeps_front n l)
+
+module _ {K V : Type 0} (eq : K → K → Bool) (o : IsEquivalence eq) where
+  pub found_in_either : (l pairs : List (K × V)) → HasDistinctKeys eq pairs → (q : K) → lookup eq (puts eq l pairs) q ≡ option_or (lookup eq pairs q) (lookup eq l q)
+  found_in_either l [] d q = refl
+  found_in_either l (p ∷ ps) d q =
+      found_in_either (put eq l p.0 p.1) ps (IsDistinct-tail eq p.0 _ d) q
+      ∙ ap (option_or (lookup eq ps q)) ((updates_put eq o l p.0 p.1).lookups q) ∙ by (eq p.0 q) refl
+    where
+      by : (b : Bool) → eq p.0 q ≡ b → option_or (lookup eq ps q) (cond b (Some p.1) (lookup eq l q)) ≡ option_or (cond (eq q p.0) (Some p.1) (lookup eq ps q)) (lookup eq l q)
+      by true e =
+          ap (λ found. option_or found (Some p.1)) (lookup-none (eq q) ps (none_past_head o q p ps d (o.symm q p.0 ∙ e)))
+          ∙ sym (ap (λ b. option_or (cond b (Some p.1) (lookup eq ps q)) (lookup eq l q)) (o.symm q p.0 ∙ e))
+      by false e = sym (ap (λ b. option_or (cond b (Some p.1) (lookup eq ps q)) (lookup eq l q)) (o.symm q p.0 ∙ e))
+
+  distinct_after : (l pairs : List (K × V)) → HasDistinctKeys eq l → HasDistinctKeys eq (puts eq l pairs)
+  distinct_after l [] d = d
+  distinct_after l (p ∷ ps) d = distinct_after (put eq l p.0 p.1) ps (distinct_put eq o l p.0 p.1 d)
+
+  pub joins_puts : (l pairs : List (K × V)) → Joins eq l pairs (puts eq l pairs)
+  joins_puts l pairs = record { lookups = found_in_either l pairs; distinct = distinct_after l pairs }
+
+  -- The same of a list that is known to be the one after the insertions.
+  pub joins_of_puts : (l pairs m : List (K × V)) → m ≡ puts eq l pairs → Joins eq l pairs m
+  joins_of_puts l pairs m e = subst (Joins eq l pairs) (sym e) (joins_puts l pairs)

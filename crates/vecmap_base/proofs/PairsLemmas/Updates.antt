@@ -1,0 +1,157 @@
+-- What lookups find after a removal and after a write of a value, in the words of contracts.
+use Rattle.std.specs.{Cmp.IsEquivalence, List.IsDistinct, List.Sorted.IsPermutation, List.swap_remove, Map.AreApart, Map.IsKeyTest, Map.KeepsOthers, Map.keys_of, Map.set_value, Option.option_and_then, Option.option_map_or}
+use Rattle.std.proofs.Common.{◌≡◌, ◌∙◌, ◌++◌, ℕ, Bool, true, false, List, [], ◌∷◌, None, Option, Some, IsSome, ap, cond, get_or, inl, inr, refl, remove, slice_get, subst, sym, true≢false}
+use Rattle.std.proofs.lemmas.Bool.{cases_Bool}
+use Rattle.std.proofs.lemmas.List.{map-set}
+use Rattle.std.proofs.lemmas.List.Quantifiers.{position-Some}
+use Rattle.std.proofs.lemmas.List.Sorted.{IsPermutation-remove, IsPermutation-swap_remove}
+use Rattle.std.proofs.lemmas.Map.{lookup-none, lookup-set_value}
+use Rattle.std.proofs.lemmas.Map.Entries.{none_past_head}
+use Rattle.std.proofs.lemmas.Map.Keys.{IsDistinct-tail}
+use Rattle.std.proofs.lemmas.Option.{get_or_from_slice_get, none-some, slice_get-get_or, slice_get_within}
+use Rattle.vecmap_base.specs.{Items.swap_without, Lookups.KeepsLookups, Lookups.UpdatesBy}
+use Rattle.vecmap_base.specs.Pairs.{HasDistinctKeys, index_by, index_of, lookup, lookup_by, put, put_key, swap_without_by, value_at, with_pair, without_by}
+use Rattle.vecmap_base.proofs.PairsLemmas.ByIndex.{index_by_is, lookup_by_index, put_key_by_index, without_by_index}
+use Rattle.vecmap_base.proofs.PairsLemmas.Distinct.{distinct_keys_rearranged, distinct_keys_set_value, distinct_put}
+use Rattle.vecmap_base.proofs.PairsLemmas.Keys.{index_of_is}
+use Rattle.vecmap_base.proofs.PairsLemmas.Lookups.{compares_with, same_answer, updates_put}
+use Rattle.vecmap_base.proofs.DistinctLemmas.Additions.{distinct_replace}
+use Rattle.vecmap_base.proofs.PairsLemmas.Puts.{put_absent}
+use Rattle.vecmap_base.proofs.PairsLemmas.Order.{lookup_by_rearranged, pair_of_value}
+
+module _ {K V : Type 0} (eq : K → K → Bool) (o : IsEquivalence eq) (test : K → Bool) (respects : IsKeyTest eq test) where
+  -- The four facts on lookups from two: what the query finds, and that other queries find the same.
+  updates_from : (l m : List (K × V)) (w : Option V) → lookup_by test m ≡ w → ((other : K → Bool) → IsKeyTest eq other → AreApart test other → lookup_by other m ≡ lookup_by other l)
+      → (HasDistinctKeys eq l → HasDistinctKeys eq m) → UpdatesBy eq test l m w
+  unfolding KeepsOthers
+  updates_from l m w here apart distinct =
+      let away : (q : K) → test q ≡ false → lookup eq m q ≡ lookup eq l q =
+            λ q n. apart (eq q) (o.congr q) (λ k h. o.symm q k ∙ sym (respects k q h) ∙ n) in
+      record {
+        lookups = λ q. elim (cases_Bool (test q)) [
+          | inl h ↦ ap (λ f. lookup_by f m) (sym (compares_with eq o test respects q h)) ∙ here ∙ sym (ap (λ b. cond b w (lookup eq l q)) h)
+          | inr n ↦ away q n ∙ sym (ap (λ b. cond b w (lookup eq l q)) n)
+        ];
+        own = here;
+        others = away;
+        queries = apart;
+        distinct = distinct;
+      }
+
+  -- The removal of a pair whose key passes, wherever the other pairs go.
+  updates_taken : (l s : List (K × V)) (p : K × V) → HasDistinctKeys eq l → test p.0 ≡ true → IsPermutation l (p ∷ s) → UpdatesBy eq test l s None
+  updates_taken l s p d h moved =
+      let all = distinct_keys_rearranged eq o l (p ∷ s) moved d in
+      updates_from l s None
+      (ap (λ f. lookup_by f s) (compares_with eq o test respects p.0 h) ∙ lookup-none (eq p.0) s (none_past_head o p.0 p s all (o.refl p.0)))
+      (λ other tells apart. sym (ap (λ b. cond b (Some p.1) (lookup_by other s)) (apart p.0 h)) ∙ lookup_by_rearranged eq o other tells l (p ∷ s) moved d)
+      (λ e. IsDistinct-tail eq p.0 _ all)
+
+  -- If nothing passes, nothing is removed.
+  updates_nothing : (l : List (K × V)) → index_by test l ≡ None → UpdatesBy eq test l l None
+  updates_nothing l e = updates_from l l None (lookup_by_index test l ∙ ap (option_and_then (value_at l)) e) (λ other tells apart. refl) (λ d. d)
+
+  -- The index of a match is in range.
+  none_within : (l : List (K × V)) (i : ℕ) → index_by test l ≡ Some i → slice_get l i ≡ None → ⊥
+  none_within [] i e f = none-some i e
+  none_within (p ∷ ps) i e f =
+      let within = (position-Some (λ q. test q.0) (p ∷ ps) i p (sym (index_by_is test (p ∷ ps)) ∙ e)).0 in
+      none-some (get_or (p ∷ ps) i p) (sym f ∙ slice_get-get_or (p ∷ ps) i p within)
+
+  passes : (l : List (K × V)) (i : ℕ) (p : K × V) → index_by test l ≡ Some i → slice_get l i ≡ Some p → test p.0 ≡ true
+  passes l i p e at = ap (λ q. test q.0) (sym (get_or_from_slice_get l i p p at)) ∙ (position-Some (λ q. test q.0) l i p (sym (index_by_is test l) ∙ e)).1
+
+  -- After the removal of its match from a list of distinct keys, a query matches nothing, and each other key has what it had.
+  pub updates_without : (l : List (K × V)) → HasDistinctKeys eq l → UpdatesBy eq test l (without_by test l) None
+  updates_without l d = subst (λ m. UpdatesBy eq test l m None) (sym (without_by_index test l)) (by (index_by test l) refl)
+    where
+      at : (i : ℕ) (found : Option (K × V)) → index_by test l ≡ Some i → slice_get l i ≡ found → UpdatesBy eq test l (remove l i) None
+      at i None e f = absurd (none_within l i e f)
+      at i (Some p) e f = updates_taken l (remove l i) p d (passes l i p e f) (IsPermutation-remove l i p (slice_get_within l i p f) (sym (get_or_from_slice_get l i p p f)))
+
+      by : (found : Option ℕ) → index_by test l ≡ found → UpdatesBy eq test l (option_map_or (λ i. remove l i) found l) None
+      by None e = updates_nothing l e
+      by (Some i) e = at i (slice_get l i) e refl
+
+  -- The same, if the last pair moves to the index of the removed one.
+  pub updates_swap_without : (l : List (K × V)) → HasDistinctKeys eq l → UpdatesBy eq test l (swap_without_by test l) None
+  updates_swap_without l d = by (index_by test l) refl
+    where
+      at : (i : ℕ) (found : Option (K × V)) → index_by test l ≡ Some i → slice_get l i ≡ found → UpdatesBy eq test l (option_map_or (λ p. swap_remove l i p) found l) None
+      at i None e f = absurd (none_within l i e f)
+      at i (Some p) e f = updates_taken l (swap_remove l i p) p d (passes l i p e f) (IsPermutation-swap_remove l i p (slice_get_within l i p f) (sym (get_or_from_slice_get l i p p f)))
+
+      by : (found : Option ℕ) → index_by test l ≡ found → UpdatesBy eq test l (option_map_or (λ i. swap_without l i) found l) None
+      by None e = updates_nothing l e
+      by (Some i) e = at i (slice_get l i) e refl
+
+  -- After a write of the value of a present key, the key has the value, and each other key has what it had.
+  pub updates_write : (l : List (K × V)) (v : V) → IsSome (lookup_by test l) → UpdatesBy eq test l (set_value test l v) (Some v)
+  updates_write l v some = updates_from l (set_value test l v) (Some v) (by (lookup_by test l) refl some) (λ other tells apart. away other apart l) (distinct_keys_set_value eq test l v)
+    where
+      by : (found : Option V) → lookup_by test l ≡ found → IsSome found → lookup_by test (set_value test l v) ≡ Some v
+      by None e h = absurd (true≢false (sym h))
+      by (Some w) e h =
+          let r = pair_of_value test l w e in
+          ap (λ f. lookup_by f (set_value test l v)) (compares_with eq o test respects r.0.0 r.2)
+          ∙ lookup-set_value o test respects r.0.0 v l some ∙ ap (λ b. cond b (Some v) (lookup eq l r.0.0)) r.2
+
+      away : (other : K → Bool) → AreApart test other → (ps : List (K × V)) → lookup_by other (set_value test ps v) ≡ lookup_by other ps
+      away other apart [] = refl
+      away other apart (p ∷ ps) =
+          elim (cases_Bool (test p.0)) [
+            | inl h ↦
+                ap (λ b. lookup_by other (cond b ((p.0, v) ∷ ps) (p ∷ set_value test ps v))) h
+                ∙ ap (λ b. cond b (Some v) (lookup_by other ps)) (apart p.0 h) ∙ sym (ap (λ b. cond b (Some p.1) (lookup_by other ps)) (apart p.0 h))
+            | inr n ↦
+                ap (λ b. lookup_by other (cond b ((p.0, v) ∷ ps) (p ∷ set_value test ps v))) n
+                ∙ ap (λ r. cond (other p.0) (Some p.1) r) (away other apart ps)
+          ]
+
+  -- The same of lists that are known to be what the removals leave.
+  pub updates_of_without : (l m : List (K × V)) → m ≡ without_by test l → HasDistinctKeys eq l → UpdatesBy eq test l m None
+  updates_of_without l m e d = subst (λ n. UpdatesBy eq test l n None) (sym e) (updates_without l d)
+
+  pub updates_of_swap_without : (l m : List (K × V)) → m ≡ swap_without_by test l → HasDistinctKeys eq l → UpdatesBy eq test l m None
+  updates_of_swap_without l m e d = subst (λ n. UpdatesBy eq test l n None) (sym e) (updates_swap_without l d)
+
+module _ {K V : Type 0} (eq : K → K → Bool) (o : IsEquivalence eq) where
+  -- A list of distinct keys in another order finds the same.
+  pub lookups_rearranged : (l m : List (K × V)) → IsPermutation l m → HasDistinctKeys eq l → KeepsLookups eq l m
+  lookups_rearranged l m moved d = record {
+    lookups = λ q. lookup_by_rearranged eq o (eq q) (o.congr q) l m moved d;
+    queries = λ test respects. lookup_by_rearranged eq o test respects l m moved d;
+    distinct = distinct_keys_rearranged eq o l m moved d;
+  }
+
+  -- An insertion that takes the new key finds the same as one that keeps the old key.
+  lookup_by_put_key : (test : K → Bool) → IsKeyTest eq test → (l : List (K × V)) (k : K) (v : V) → lookup_by test (put_key eq l k v) ≡ lookup_by test (put eq l k v)
+  lookup_by_put_key test respects [] k v = refl
+  lookup_by_put_key test respects (p ∷ ps) k v =
+      elim (cases_Bool (eq k p.0)) [
+        | inl e ↦
+            ap (λ b. lookup_by test (cond b ((k, v) ∷ ps) (p ∷ put_key eq ps k v))) e
+            ∙ ap (λ b. cond b (Some v) (lookup_by test ps)) (same_answer eq o test respects k p.0 e)
+            ∙ sym (ap (λ b. lookup_by test (cond b ((p.0, v) ∷ ps) (p ∷ put eq ps k v))) e)
+        | inr e ↦
+            ap (λ b. lookup_by test (cond b ((k, v) ∷ ps) (p ∷ put_key eq ps k v))) e
+            ∙ ap (λ r. cond (test p.0) (Some p.1) r) (lookup_by_put_key test respects ps k v)
+            ∙ sym (ap (λ b. lookup_by test (cond b ((p.0, v) ∷ ps) (p ∷ put eq ps k v))) e)
+      ]
+
+  distinct_put_key : (l : List (K × V)) (k : K) (v : V) → HasDistinctKeys eq l → HasDistinctKeys eq (put_key eq l k v)
+  distinct_put_key l k v d = subst (HasDistinctKeys eq) (sym (put_key_by_index eq l k v)) (by (index_of eq l k) refl)
+    where
+      by : (found : Option ℕ) → index_of eq l k ≡ found → HasDistinctKeys eq (option_map_or (λ i. with_pair l i k v) found (l ++ (k, v) ∷ []))
+      by None e = subst (HasDistinctKeys eq) (put_absent eq l k v e) (distinct_put eq o l k v d)
+      by (Some i) e =
+          let at = position-Some (eq k) (keys_of l) i k (sym (index_of_is eq l k) ∙ e) in
+          subst (IsDistinct eq) (sym (map-set (λ p. p.0) l i (k, v))) (distinct_replace eq o (keys_of l) i k at.0 at.1 d)
+
+  pub updates_put_key : (l m : List (K × V)) (k : K) (v : V) → m ≡ put_key eq l k v → UpdatesBy eq (eq k) l m (Some v)
+  unfolding KeepsOthers
+  updates_put_key l m k v e =
+      let u = updates_put eq o l k v in
+      subst (λ n. UpdatesBy eq (eq k) l n (Some v)) (sym e)
+      (updates_from eq o (eq k) (o.congr k) l (put_key eq l k v) (Some v) (lookup_by_put_key (eq k) (o.congr k) l k v ∙ u.own)
+      (λ other tells apart. lookup_by_put_key other tells l k v ∙ u.queries other tells apart) (distinct_put_key l k v))

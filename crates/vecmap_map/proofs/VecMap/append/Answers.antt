@@ -1,0 +1,7 @@
+use Rattle.std.proofs.lemmas.Grind.{common_steps}
+use Rattle.std.proofs.Common.{arith}
+use Rattle.vecmap_base.proofs.PairsLemmas.Parts.{joins_of_puts}
+use Rattle.vecmap_map.proofs.VecMap.append.Goals as goal
+
+pub returns-clause-lookups : goal.returns-clause-lookups
+returns-clause-lookups g c = joins_of_puts g.K.PartialEq.eq g.met.K.Eq.laws c.args.self.now.entries c.args.other.now.entries _ (grind (arith, common_steps))

@@ -1,0 +1,10 @@
+use Rattle.std.proofs.Common.{arith, rules}
+use Rattle.vecmap_base.proofs.ItemsLemmas.Additions.{add_present}
+use Rattle.vecmap_base.proofs.ItemsLemmas.Members.{members_of_add}
+use Rattle.vecmap_set.proofs.VecSet.insert.Goals as goal
+
+pub returns-clause-updates : goal.returns-clause-updates
+returns-clause-updates g c = members_of_add g.T.PartialEq.eq g.met.T.Eq.laws c.args.self.now.elements _ c.args.item (search rules)
+
+pub returns-then-contains_item_inline-clause-updates : goal.returns-then-contains_item_inline-clause-updates
+returns-then-contains_item_inline-clause-updates g c = members_of_add g.T.PartialEq.eq g.met.T.Eq.laws c.args.self.now.elements _ c.args.item (grind (arith, add_present))
