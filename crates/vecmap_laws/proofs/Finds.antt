@@ -1,10 +1,10 @@
 -- What lookups find after each call, as equations that `grind` applies from left to right. `Rules` has lists of them.
 use Rattle.std.specs.{Cmp.IsEquivalence, List.IsDistinct, List.Sorted.SwapsInRange, List.Sorted.apply_swaps, Set.is_member}
-use Rattle.std.proofs.Common.{◌≡◌, ◌<◌, ◌&&◌, not, ℕ, suc, zero, Bool, true, false, List, [], ◌∷◌, Option, None, Some, if◌then◌else◌, length, refl, sym, ap, ◌∙◌, arith, is_some, take, drop, remove, reverse, swap}
+use Rattle.std.proofs.Common.{◌≡◌, ◌<◌, ◌&&◌, not, ℕ, suc, zero, Bool, true, false, List, [], ◌∷◌, Option, None, Some, if◌then◌else◌, length, refl, sym, ap, ◌∙◌, arith, is_some, take, drop, remove, reverse, swap, unwrap_or}
 use Rattle.std.specs.Prelude.{nat_lt}
 use Rattle.std.proofs.lemmas.{Bool.Decides.nat_tests, List.Sorted.IsPermutation-reverse}
 use Rattle.vecmap_base.specs.Items.{swap_without, swap_without_item, without_item}
-use Rattle.vecmap_base.specs.Pairs.{HasDistinctKeys, index_of, index_or_length, lookup, put_at, put_key, swap_without_key, without_key}
+use Rattle.vecmap_base.specs.Pairs.{HasDistinctKeys, index_by, index_of, index_or_length, lookup, lookup_by, put_at, put_key, swap_without_key, without_key}
 use Rattle.vecmap_laws.proofs.AfterPuts.{is_some_lookup, lookup_put_any, lookup_put_key}
 use Rattle.vecmap_laws.proofs.DistinctKeys.{distinct_keys_rearranged, distinct_keys_without}
 use Rattle.vecmap_laws.proofs.HeadLemmas.{head_has_no_value, rest_is_distinct}
@@ -28,6 +28,9 @@ module _ {K V : Type 0} (eq : K → K → Bool) (o : IsEquivalence eq) where
 
   pub lookup_swap : (l : List (K × V)) (i j : ℕ) (q : K) → i < length l → j < length l → HasDistinctKeys eq l → lookup eq (swap l i j) q ≡ lookup eq l q
   lookup_swap l i j q h k d = lookup_swapped l ((i, j) ∷ []) q (h, k, tt) d
+
+  pub distinct_swap : (l : List (K × V)) (i j : ℕ) → i < length l → j < length l → HasDistinctKeys eq l → HasDistinctKeys eq (swap l i j)
+  distinct_swap l i j h k d = distinct_swapped l ((i, j) ∷ []) (h, k, tt) d
 
   pub lookup_reverse : (l : List (K × V)) (q : K) → HasDistinctKeys eq l → lookup eq (reverse l) q ≡ lookup eq l q
   lookup_reverse l q d = lookup_rearranged eq o l (reverse l) (IsPermutation-reverse l) d q
@@ -58,14 +61,16 @@ none_below i f = grind (arith, nat_tests)
 all_past : {V : Type 0} (i : ℕ) (f : Option V) → f ≡ (if nat_lt i 0 then None else f)
 all_past i f = grind (arith, nat_tests)
 
--- In the first `n` pairs a key finds its value if its index is below `n`.
+-- In the first `n` pairs a query finds its value if its index is below `n`.
+pub lookup_by_take : {K V : Type 0} (test : K → Bool) (l : List (K × V)) (n : ℕ) → lookup_by test (take n l) ≡ (if nat_lt (unwrap_or (index_by test l) (length l)) n then lookup_by test l else None)
+lookup_by_take test l zero = none_below (unwrap_or (index_by test l) (length l)) (lookup_by test l)
+lookup_by_take test [] (suc n) = same (nat_lt 0 (suc n)) None
+lookup_by_take test (p ∷ ps) (suc n) =
+    within (test p.0) (Some p.1) (unwrap_or (index_by test ps) (length ps)) n (lookup_by test ps) (lookup_by test (take n ps)) (lookup_by_take test ps n)
+    ∙ ap (λ i. if nat_lt i (suc n) then (if test p.0 then Some p.1 else lookup_by test ps) else None) (sym (index_or_length_cons p ps (λ k q. test q) p.0))
+
 pub lookup_take : {K V : Type 0} (eq : K → K → Bool) (l : List (K × V)) (n : ℕ) (q : K) → lookup eq (take n l) q ≡ (if nat_lt (index_or_length eq l q) n then lookup eq l q else None)
-lookup_take eq l zero q = none_below (index_or_length eq l q) (lookup eq l q)
-lookup_take eq [] (suc n) q = same (nat_lt 0 (suc n)) None
-lookup_take eq (p ∷ ps) (suc n) q =
-    lookup_cons eq p (take n ps) q
-    ∙ within (eq q p.0) (Some p.1) (index_or_length eq ps q) n (lookup eq ps q) (lookup eq (take n ps) q) (lookup_take eq ps n q)
-    ∙ sym (λ t. if nat_lt (index_or_length_cons p ps eq q t) (suc n) then lookup_cons eq p ps q t else None)
+lookup_take eq l n q = lookup_by_take (eq q) l n
 
 module _ {K V : Type 0} (eq : K → K → Bool) (o : IsEquivalence eq) where
   -- Behind the first `n` pairs a key finds its value if its index is not below `n`.

@@ -51,6 +51,7 @@ pub mod Parts
 pub mod PositionLemmas
 pub mod Puts
 pub mod Queries
+pub mod QueriesAfter
 pub mod Rearranged
 pub mod Recursion
 pub mod RemovalLemmas

@@ -35,8 +35,11 @@ pub use lookups::{equal_keys_find_the_same, queries_find_as_keys};
 pub use nested::{inner_insertions_are_found, values_are_found_by_two_keys};
 pub use order::{
     clones_are_equal, clones_keep_lookups, equal_maps_are_rearranged, order_keeps_lookups,
+    permutation, reverse, swap,
 };
-pub use parts::{filters_keep_lookups, parts_keep_lookups, removals_shift_indices};
+pub use parts::{
+    drop, filter, filters_keep_lookups, parts_keep_lookups, removals_shift_indices, take,
+};
 pub use removals::{
     appending_undoes_splitting, moves_keep_lookups, removals_are_forgotten,
     removals_by_index_are_undone, removals_shorten,
@@ -45,7 +48,9 @@ pub use sorted::{
     binary_searches_find_indices, insertions_where_searches_end_keep_the_order,
     sorts_of_sorted_maps_change_nothing,
 };
-pub use words::{counted, lists_are_found, put, puts, without_key};
+pub use words::{
+    counted, lists_are_found, put, put_at, put_key, puts, swap_without_key, without_key,
+};
 pub use writes::{
     writes_are_insertions, writes_by_queries_are_insertions, writes_leave_other_keys,
 };

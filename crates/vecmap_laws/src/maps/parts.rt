@@ -1,8 +1,8 @@
 //! Laws of what lookups find in a part of the list, and in the pairs that pass a test, as after `retain`.
-ghost use Rattle.std.specs.List.{remove_range};
+ghost use Rattle.std.specs.List.{count_by, remove_range};
 ghost use Rattle.std.specs.Option.{option_and_then};
-ghost use Rattle.std.specs.Prelude.{◌≡◌, ◌≤◌, ℕ, Bool, List, None, Some, drop, false, filter, if◌then◌else◌, nat_lt, remove, slice_get, take, true};
-ghost use Rattle.vecmap_base.specs.Pairs.{HasDistinctKeys, index_of, index_or_length, lookup, lookup_pair, without_key};
+ghost use Rattle.std.specs.Prelude.{◌≡◌, ◌≤◌, ℕ, Bool, List, None, Some, drop, false, filter, if◌then◌else◌, length, nat_lt, unwrap_or, remove, slice_get, take, true};
+ghost use Rattle.vecmap_base.specs.Pairs.{HasDistinctKeys, index_by, index_of, index_or_length, lookup, lookup_by, lookup_pair, without_key};
 ghost use Rattle.vecmap_laws.specs.Removals.{below, shifted};
 
 /// In the front or the back of the list, a key finds its value if its index is within that part.
@@ -42,4 +42,39 @@ pub fn removals_shift_indices<K: Eq, V>()
         → index_of K.eq (remove l i) q ≡ shifted i (index_of K.eq l q) }
     ensures front { (l : List (K × V)) (n : ℕ) (q : K)
         → index_of K.eq (take n l) q ≡ below n (index_of K.eq l q) }
+{}
+
+/// What is found in the first `n` pairs, as after `truncate`, `pop` and `split_off`.
+#[tactic(auto, using(crate::proofs::Finds::lookup_take, crate::proofs::Finds::lookup_by_take, crate::proofs::IndicesAfter::index_by_take, crate::proofs::DistinctKeys::distinct_keys_take))]
+pub fn take<K: Eq, V>()
+    ensures lookup { (l : List (K × V)) (n : ℕ) (q : K) → lookup K.eq (take n l) q
+        ≡ (if nat_lt (index_or_length K.eq l q) n then lookup K.eq l q else None) }
+    ensures lookup_by { (test : K → Bool) (l : List (K × V)) (n : ℕ) → lookup_by test (take n l)
+        ≡ (if nat_lt (unwrap_or (index_by test l) (length l)) n then lookup_by test l else None) }
+    ensures index_of { (l : List (K × V)) (n : ℕ) (q : K)
+        → index_of K.eq (take n l) q ≡ below n (index_of K.eq l q) }
+    ensures distinct { (l : List (K × V)) (n : ℕ) → HasDistinctKeys K.eq l
+        → HasDistinctKeys K.eq (take n l) }
+{}
+
+/// What is found behind the first `n` pairs, as in the part that `split_off` returns.
+#[tactic(auto, using(crate::proofs::Finds::lookup_drop, crate::proofs::DistinctParts::distinct_keys_drop))]
+pub fn drop<K: Eq, V>()
+    ensures lookup { (l : List (K × V)) (n : ℕ) (q : K) → HasDistinctKeys K.eq l
+        → lookup K.eq (drop n l) q
+        ≡ (if nat_lt (index_or_length K.eq l q) n then None else lookup K.eq l q) }
+    ensures distinct { (l : List (K × V)) (n : ℕ) → HasDistinctKeys K.eq l
+        → HasDistinctKeys K.eq (drop n l) }
+{}
+
+/// What is found in the pairs that pass a test, as after `retain`.
+#[tactic(auto, using(crate::proofs::Filters::lookup_filter, crate::proofs::DistinctParts::distinct_keys_filter))]
+pub fn filter<K: Eq, V>()
+    ensures lookup { (test : K × V → Bool) (l : List (K × V)) → HasDistinctKeys K.eq l → (q : K)
+        → lookup K.eq (filter test l) q
+        ≡ option_and_then (λ p. if test p then Some p.1 else None) (lookup_pair K.eq l q) }
+    ensures length { (test : K × V → Bool) (l : List (K × V))
+        → length (filter test l) ≡ count_by test l }
+    ensures distinct { (test : K × V → Bool) (l : List (K × V)) → HasDistinctKeys K.eq l
+        → HasDistinctKeys K.eq (filter test l) }
 {}

@@ -3,8 +3,8 @@ ghost use Rattle.std.specs.List.{count_by, remove_range};
 ghost use Rattle.std.specs.Map.{IsKeyTest, keys_of};
 ghost use Rattle.std.specs.Option.{option_map_or, option_or};
 ghost use Rattle.std.specs.Prelude.{Bool, List, None, Some, [], if◌then◌else◌, insert, is_some, length, slice_get, slice_range, ℕ, ◌++◌, ◌+◌, ◌-◌, ◌≡◌, ◌≤◌, true};
-ghost use Rattle.vecmap_base.specs.Items.{add, adds, item_index, without_item};
-ghost use Rattle.vecmap_base.specs.Pairs.{HasDistinctKeys, index_of, index_or_length, lookup, lookup_by, put, puts, without_key};
+ghost use Rattle.vecmap_base.specs.Items.{add, adds, item_index, put_item, without_item};
+ghost use Rattle.vecmap_base.specs.Pairs.{HasDistinctKeys, index_of, index_or_length, lookup, lookup_by, put, put_at, put_key, puts, swap_without_key, without_key};
 ghost use Rattle.vecmap_laws.specs.Counting.{count_of, counted, counted_all};
 
 /// What is found in the list after an insertion, by `insert` and its kin.
@@ -84,6 +84,48 @@ pub fn puts<K: Eq, V>()
     ensures moved { (l : List (K × V)) (i j : ℕ) → i ≤ j → HasDistinctKeys K.eq l
         → puts K.eq (remove_range l i j) (slice_range l i j) ≡ remove_range l i j ++ slice_range l i j }
 {}
+
+/// What is found in the list after an insertion that stores the new key, by `insert_key`.
+#[tactic(auto, using(crate::proofs::Finds::lookup_put_key_any, crate::proofs::QueriesAfter::lookup_by_put_key, crate::proofs::AfterPuts::index_of_put_key, crate::proofs::AfterPuts::length_put_key, crate::proofs::Keys::keys_of_put_key, crate::proofs::DistinctKeys::distinct_put_key))]
+pub fn put_key<K: Eq, V>()
+    ensures lookup { (l : List (K × V)) (k : K) (v : V) (q : K)
+        → lookup K.eq (put_key K.eq l k v) q ≡ (if K.eq k q then Some v else lookup K.eq l q) }
+    ensures lookup_by { (test : K → Bool) → IsKeyTest K.eq test → (l : List (K × V)) (k : K) (v : V)
+        → lookup_by test (put_key K.eq l k v) ≡ (if test k then Some v else lookup_by test l) }
+    ensures index_of { (l : List (K × V)) (k : K) (v : V) (q : K)
+        → index_of K.eq (put_key K.eq l k v) q ≡ index_of K.eq (put K.eq l k v) q }
+    ensures length { (l : List (K × V)) (k : K) (v : V)
+        → length (put_key K.eq l k v) ≡ length (put K.eq l k v) }
+    ensures keys_of { (l : List (K × V)) (k : K) (v : V)
+        → keys_of (put_key K.eq l k v) ≡ put_item K.eq (keys_of l) k }
+    ensures distinct { (l : List (K × V)) (k : K) (v : V) → HasDistinctKeys K.eq l
+        → HasDistinctKeys K.eq (put_key K.eq l k v) }
+{}
+
+/// What is found in the list after an insertion at an index, by `insert_at`, if all keys are distinct.
+#[tactic(auto, using(crate::proofs::Finds::lookup_put_at_any, crate::proofs::QueriesAfter::lookup_by_put_at, crate::proofs::DistinctKeys::distinct_put_at))]
+pub fn put_at<K: Eq, V>()
+    ensures lookup { (l : List (K × V)) (i : ℕ) (k : K) (v : V) (q : K) → HasDistinctKeys K.eq l
+        → lookup K.eq (put_at K.eq l i k v) q ≡ (if K.eq k q then Some v else lookup K.eq l q) }
+    ensures lookup_by { (test : K → Bool) → IsKeyTest K.eq test → (l : List (K × V))
+        → HasDistinctKeys K.eq l → (i : ℕ) (k : K) (v : V)
+        → lookup_by test (put_at K.eq l i k v) ≡ (if test k then Some v else lookup_by test l) }
+    ensures distinct { (l : List (K × V)) (i : ℕ) (k : K) (v : V) → HasDistinctKeys K.eq l
+        → HasDistinctKeys K.eq (put_at K.eq l i k v) }
+{}
+
+/// What is found in the list after the removal of a key to whose index the last pair moves, by `swap_remove` and its kin.
+#[tactic(auto, using(crate::proofs::Finds::lookup_swap_without_key, crate::proofs::DistinctKeys::distinct_keys_swap_without_key))]
+pub fn swap_without_key<K: Eq, V>()
+    ensures lookup { (l : List (K × V)) (k q : K) → HasDistinctKeys K.eq l
+        → lookup K.eq (swap_without_key K.eq l k) q ≡ (if K.eq k q then None else lookup K.eq l q) }
+    ensures length { (l : List (K × V)) (k : K) → length (swap_without_key K.eq l k)
+        ≡ (if is_some (index_of K.eq l k) then length l - 1 else length l) }
+    ensures distinct { (l : List (K × V)) (k : K) → HasDistinctKeys K.eq l
+        → HasDistinctKeys K.eq (swap_without_key K.eq l k) }
+{
+    crate::maps::removals_shorten::<K, V>();
+}
 
 /// How often each key was counted, by `*map.entry(key).or_insert(0) += 1`.
 #[tactic(auto, using(crate::proofs::CountingLemmas::count_of_counted, crate::proofs::CountingLemmas::count_of_counted_all))]

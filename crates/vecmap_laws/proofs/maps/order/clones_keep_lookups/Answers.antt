@@ -1,3 +1,4 @@
+use Rattle.vecmap_laws.proofs.QueriesAfter.{lookup_by_clones}
 use Rattle.vecmap_laws.proofs.Rearranged.{lookup_clones}
 use Rattle.vecmap_laws.proofs.CloneEquality.{same_clones}
 use Rattle.vecmap_laws.proofs.maps.order.clones_keep_lookups.Goals as goal
@@ -7,3 +8,6 @@ returns-clause-lookup g c = λ same still l m c q. lookup_clones g.K.PartialEq.e
 
 pub returns-clause-same : goal.returns-clause-same
 returns-clause-same g c = same_clones g.K.Clone.is_clone g.V.Clone.is_clone
+
+pub returns-clause-lookup_by : goal.returns-clause-lookup_by
+returns-clause-lookup_by g c = λ same still test respects l m. lookup_by_clones g.K.PartialEq.eq g.met.K.Eq.laws test respects _ _ same still l m
