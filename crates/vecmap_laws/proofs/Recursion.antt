@@ -2,9 +2,9 @@
 use Rattle.std.specs.Option.{option_map_or}
 use Rattle.std.proofs.Common.{◌≡◌, ◌∙◌, ap, Bool, List, ◌∷◌, Some, if◌then◌else◌, refl, remove}
 use Rattle.vecmap_base.specs.Items.{swap_without, swap_without_first, without_first}
-use Rattle.vecmap_base.specs.Pairs.{lookup, put_key, swap_without_by, without_by, without_key}
+use Rattle.vecmap_base.specs.Pairs.{lookup, lookup_by, put_key, swap_without_by, without_by, without_key}
 use Rattle.vecmap_base.proofs.PairsLemmas.ByIndex.{index_by_is, without_by_index}
-pub use Rattle.vecmap_base.proofs.PairsLemmas.Recursion.{lookup_by_cons, index_of_cons, put_cons}
+pub use Rattle.vecmap_base.proofs.PairsLemmas.Recursion.{index_of_cons, put_cons}
 
 module _ {K V : Type 0} (eq : K → K → Bool) where
   pub lookup_cons : (p : K × V) (ps : List (K × V)) (k : K) → lookup eq (p ∷ ps) k ≡ (if eq k p.0 then Some p.1 else lookup eq ps k)
@@ -17,6 +17,9 @@ module _ {K V : Type 0} (eq : K → K → Bool) where
   without_key_cons p ps k = refl
 
 module _ {K V : Type 0} (test : K → Bool) where
+  pub lookup_by_cons : (p : K × V) (ps : List (K × V)) → lookup_by test (p ∷ ps) ≡ (if test p.0 then Some p.1 else lookup_by test ps)
+  lookup_by_cons p ps = refl
+
   -- A removal of a pair is that of the first item whose key passes the test.
   pub without_by_is : (l : List (K × V)) → without_by test l ≡ without_first (λ p. test p.0) l
   without_by_is l = without_by_index test l ∙ ap (λ found. option_map_or (λ i. remove l i) found l) (index_by_is test l)
