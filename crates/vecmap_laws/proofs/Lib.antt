@@ -35,6 +35,7 @@ pub mod ItemMembers
 pub mod ItemQueries
 pub mod ItemRecursion
 pub mod ItemRemovals
+pub mod ItemsAfter
 pub mod KeptLemmas
 pub mod Keys
 pub use Rattle.vecmap_set.proofs.LazyLemmas

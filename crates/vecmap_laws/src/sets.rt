@@ -8,6 +8,7 @@ mod insertions;
 mod lookups;
 mod removals;
 mod sorted;
+mod words;
 
 pub use crate::lists::{comparisons_are_bounded, eq_is_an_equivalence, texts_are_queries};
 pub use algebra::{
@@ -30,3 +31,4 @@ pub use removals::{
     appending_undoes_splitting, removals_are_forgotten, removals_shorten, retain_filters,
 };
 pub use sorted::{binary_searches_find_indices, sorts_of_sorted_sets_change_nothing};
+pub use words::{add, permutation, put_item, remove, take, without_item};

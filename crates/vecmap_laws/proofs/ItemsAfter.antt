@@ -1,0 +1,92 @@
+-- Which elements a set has after a removal, in its front and in another order, and at which indices.
+use Rattle.std.proofs.Common.{arith, ◌≡◌, ◌+◌, ◌<◌, ◌||◌, ◌∙◌, ℕ, suc, zero, Bool, true, false, List, [], ◌∷◌, ◌++◌, None, Option, Some, ap, cond, if◌then◌else◌, is_some, length, length-append, option_map, position, refl, remove, reverse, slice_get, swap, sym, take}
+use Rattle.std.proofs.lemmas.Option.{none-some}
+use Rattle.std.proofs.lemmas.List.Sorted.{IsPermutation-reverse, list_any-IsPermutation}
+use Rattle.std.specs.{Cmp.IsEquivalence, List.Sorted.IsPermutation, Set.is_member}
+use Rattle.vecmap_base.proofs.IndexLemmas.{list_any_position, position_cons}
+use Rattle.vecmap_base.specs.Items.{add, item_index, put_item}
+use Rattle.vecmap_laws.proofs.ItemRecursion.{put_item_cons}
+use Rattle.vecmap_laws.specs.Removals.{below, shifted}
+
+module _ {X : Type 0} (p : X → Bool) where
+  -- In the first `n` items, the index stays if it is below `n`.
+  pub position_take : (n : ℕ) (xs : List X) → position p (take n xs) ≡ below n (position p xs)
+  position_take zero xs = by (position p xs)
+    where
+      by : (found : Option ℕ) → None ≡ below 0 found
+      by None = refl
+      by (Some i) = grind arith
+  position_take (suc n) [] = refl
+  position_take (suc n) (x ∷ xs) = position_cons p x (take n xs) ∙ ap (λ found. cond (p x) (Some 0) (option_map suc found)) (position_take n xs) ∙ by (p x) (position p xs) ∙ ap (below (suc n)) (sym (position_cons p x xs))
+    where
+      by : (b : Bool) (found : Option ℕ) → cond b (Some 0) (option_map suc (below n found)) ≡ below (suc n) (cond b (Some 0) (option_map suc found))
+      by true found = grind arith
+      by false None = refl
+      by false (Some i) = grind arith
+
+  -- The index after the removal of an item that does not pass.
+  pub position_remove : (xs : List X) (i : ℕ) (x : X) → slice_get xs i ≡ Some x → p x ≡ false → position p (remove xs i) ≡ shifted i (position p xs)
+  position_remove [] i x at fails = absurd (none-some x at)
+  position_remove (y ∷ ys) zero x at fails = by (position p ys) ∙ ap (shifted 0) (sym (position_cons p y ys ∙ ap (λ b. cond b (Some 0) (option_map suc (position p ys))) (let e : y ≡ x = (let f : Some y ≡ Some x = at in cc) in ap p e ∙ fails)))
+    where
+      by : (found : Option ℕ) → found ≡ shifted 0 (option_map suc found)
+      by None = refl
+      by (Some j) = grind arith
+  position_remove (y ∷ ys) (suc i) x at fails = position_cons p y (remove ys i) ∙ ap (λ found. cond (p y) (Some 0) (option_map suc found)) (position_remove ys i x at fails) ∙ by (p y) (position p ys) ∙ ap (shifted (suc i)) (sym (position_cons p y ys))
+    where
+      by : (b : Bool) (found : Option ℕ) → cond b (Some 0) (option_map suc (shifted i found)) ≡ shifted (suc i) (cond b (Some 0) (option_map suc found))
+      by true found = grind arith
+      by false None = refl
+      by false (Some j) = grind arith
+
+module _ {T : Type 0} (eq : T → T → Bool) where
+  -- An addition of a new element makes the list longer by one.
+  pub length_add : (s : List T) (x : T) → length (add eq s x) ≡ (if is_member eq s x then length s else length s + 1)
+  length_add s x = by (is_member eq s x)
+    where
+      by : (b : Bool) → length (if b then s else s ++ x ∷ []) ≡ (if b then length s else length s + 1)
+      by true = refl
+      by false = length-append s (x ∷ [])
+
+  -- In the first `n` elements, one is present if its index is below `n`.
+  pub is_member_take : (s : List T) (n : ℕ) (x : T) → is_member eq (take n s) x ≡ is_some (below n (item_index eq s x))
+  is_member_take s n x = list_any_position (eq x) (take n s) ∙ ap is_some (position_take (eq x) n s)
+
+  -- The same elements are present in another order.
+  pub is_member_rearranged : (s t : List T) → IsPermutation s t → (x : T) → is_member eq t x ≡ is_member eq s x
+  is_member_rearranged s t moved x = sym (list_any-IsPermutation (eq x) s t moved)
+
+  pub is_member_reversed : (s : List T) (x : T) → is_member eq (reverse s) x ≡ is_member eq s x
+  is_member_reversed s x = is_member_rearranged s (reverse s) (IsPermutation-reverse s) x
+
+  pub is_member_swapped : (s : List T) (i j : ℕ) (x : T) → i < length s → j < length s → is_member eq (swap s i j) x ≡ is_member eq s x
+  is_member_swapped s i j x h k = is_member_rearranged s (swap s i j) record { moves = (i, j) ∷ []; below = (h, k, tt); is = refl } x
+
+  module _ (o : IsEquivalence eq) where
+    -- After an addition that stores the new element, its equals are present.
+    pub is_member_put_item : (s : List T) (x y : T) → is_member eq (put_item eq s x) y ≡ (is_member eq s y || eq x y)
+    is_member_put_item [] x y = or_none (eq y x) ∙ o.symm y x
+      where
+        or_none : (b : Bool) → (b || false) ≡ b
+        or_none true = refl
+        or_none false = refl
+    is_member_put_item (z ∷ zs) x y = ap (λ l. is_member eq l y) (put_item_cons eq z zs x) ∙ by (eq x z) refl (is_member_put_item zs x y)
+      where
+        here : (a b : Bool) → (a || b) ≡ ((a || b) || a)
+        here true b = refl
+        here false true = refl
+        here false false = refl
+
+        further : (a b c : Bool) → (a || (b || c)) ≡ ((a || b) || c)
+        further true b c = refl
+        further false b c = refl
+
+        by : (b : Bool) → eq x z ≡ b → is_member eq (put_item eq zs x) y ≡ (is_member eq zs y || eq x y) → is_member eq (if b then x ∷ zs else z ∷ put_item eq zs x) y ≡ ((eq y z || is_member eq zs y) || eq x y)
+        by true e more =
+            let same : eq y x ≡ eq y z = o.symm y x ∙ o.congr x z y e ∙ o.symm z y in
+            ap (λ b. b || is_member eq zs y) same ∙ here (eq y z) (is_member eq zs y) ∙ ap (λ b. (eq y z || is_member eq zs y) || b) (sym same ∙ o.symm y x)
+        by false e more = ap (λ b. eq y z || b) more ∙ further (eq y z) (is_member eq zs y) (eq x y)
+
+    -- After the removal of the element at an index, the index of each other element.
+    pub item_index_removed : (s : List T) (i : ℕ) (x : T) → slice_get s i ≡ Some x → (y : T) → eq x y ≡ false → item_index eq (remove s i) y ≡ shifted i (item_index eq s y)
+    item_index_removed s i x at y apart = position_remove (eq y) s i x at (o.symm y x ∙ apart)
