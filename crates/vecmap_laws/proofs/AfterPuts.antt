@@ -1,6 +1,6 @@
 -- What is found, and at which index, after one insertion and after many.
 use Rattle.std.specs.{Cmp.IsEquivalence, List.list_any, Map.keys_of, Option.option_and_then, Option.option_map, Option.option_map_or, Option.option_or}
-use Rattle.std.proofs.Common.{◌≡◌, ◌<◌, ◌+◌, ℕ, Bool, position, true, false, List, [], ◌∷◌, ◌++◌, Option, None, Some, if◌then◌else◌, is_some, length, slice_get, suc, unwrap_or, refl, sym, ap, ◌∙◌, arith, length-append, inl, inr}
+use Rattle.std.proofs.Common.{◌≡◌, ◌<◌, ◌+◌, ℕ, zero, Bool, position, true, false, List, [], ◌∷◌, ◌++◌, Option, None, Some, if◌then◌else◌, is_some, length, slice_get, suc, unwrap_or, refl, sym, ap, ◌∙◌, arith, length-append, inl, inr}
 use Rattle.std.proofs.lemmas.{Bool.cases_Bool, List.length-map, Map.Made.is_some-lookup, Option.slice_get-map}
 use Rattle.vecmap_base.specs.Pairs.{HasDistinctKeys, index_of, index_or_length, lookup, put, put_key, puts, value_at, with_value, without_key}
 use Rattle.vecmap_base.proofs.PairsLemmas.Keys.{index_of_is, keys_of_put}
@@ -58,6 +58,21 @@ module _ {K V : Type 0} (eq : K → K → Bool) where
       by : (b : Bool) → length (put_key eq ps k v) ≡ length (put eq ps k v) → length (if b then (k, v) ∷ ps else p ∷ put_key eq ps k v) ≡ length (if b then (p.0, v) ∷ ps else p ∷ put eq ps k v)
       by true e = refl
       by false e = ap suc e
+
+  -- An insertion leaves each pair but that of its key at its index.
+  pub slice_get_put_other : (l : List (K × V)) (k : K) (v : V) (i : ℕ) → (index_of eq l k ≡ Some i → ⊥) → i < length l → slice_get (put eq l k v) i ≡ slice_get l i
+  slice_get_put_other [] k v i other h = absurd (omega (arith, h))
+  slice_get_put_other (p ∷ ps) k v zero other h = by (eq k p.0) refl
+    where
+      by : (b : Bool) → eq k p.0 ≡ b → slice_get (if b then (p.0, v) ∷ ps else p ∷ put eq ps k v) 0 ≡ Some p
+      by true e = absurd (other (ap (λ b. if b then Some 0 else option_map suc (index_of eq ps k)) e))
+      by false e = refl
+  slice_get_put_other (p ∷ ps) k v (suc i) other h =
+      by (eq k p.0) refl (λ apart. slice_get_put_other ps k v i apart (omega (arith, h)))
+    where
+      by : (b : Bool) → eq k p.0 ≡ b → ((index_of eq ps k ≡ Some i → ⊥) → slice_get (put eq ps k v) i ≡ slice_get ps i) → slice_get (if b then (p.0, v) ∷ ps else p ∷ put eq ps k v) (suc i) ≡ slice_get ps i
+      by true e more = refl
+      by false e more = more (λ f. other (ap (λ b. if b then Some 0 else option_map suc (index_of eq ps k)) e ∙ ap (option_map suc) f))
 
   -- After an insertion the list has a pair.
   pub put_some : (l : List (K × V)) (k : K) (v : V) → 0 < length (put eq l k v)

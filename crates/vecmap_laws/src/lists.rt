@@ -1,5 +1,6 @@
 //! Laws of lists, which are laws of maps and of sets.
-ghost use Rattle.std.specs.Cmp.{IsEquivalence};
+ghost use Rattle.std.specs.Cmp.{IsEquivalence, IsTotalOrder};
+ghost use Rattle.std.specs.Ordering.{is_eq};
 ghost use Rattle.std.specs.Prelude.{◌≡◌, ◌≤◌, ℕ, List, String, bytes_eq, false, length, string_bytes, string_eq, true};
 ghost use Rattle.std.specs.List.{IsDistinct};
 ghost use Rattle.std.specs.Map.{IsKeyTest, keys_of};
@@ -37,6 +38,14 @@ pub fn texts_are_queries()
     ensures same { (text other : List ℕ) → bytes_eq text other ≡ true → text ≡ other }
     ensures apart { (text other : List ℕ) → bytes_eq text other ≡ false → (k : String Global)
         → has_text text k ≡ true → has_text other k ≡ false }
+{}
+
+/// The order of a type is total, and says `Equal` exactly where `==` is true, as [`Ord`] says.
+///
+/// The ruleset of sorted maps needs it at a type parameter.
+pub fn ord_is_a_total_order<T: Ord>()
+    ensures total { IsTotalOrder T.cmp }
+    ensures matches { (x y : T) → T.eq x y ≡ is_eq (T.cmp x y) }
 {}
 
 /// The `==` of a type is reflexive, symmetric and transitive, as [`Eq`] says.

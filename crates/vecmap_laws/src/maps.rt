@@ -14,7 +14,9 @@ mod sorted;
 mod words;
 mod writes;
 
-pub use crate::lists::{eq_is_an_equivalence, key_comparisons_are_bounded, texts_are_queries};
+pub use crate::lists::{
+    eq_is_an_equivalence, key_comparisons_are_bounded, ord_is_a_total_order, texts_are_queries,
+};
 pub use algebra::{
     bulk_insertions_bound_the_length, insertions_commute, removals_commute, sums_follow_changes,
     unions_of_disjoint_maps_commute,

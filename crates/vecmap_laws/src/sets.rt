@@ -10,7 +10,9 @@ mod removals;
 mod sorted;
 mod words;
 
-pub use crate::lists::{comparisons_are_bounded, eq_is_an_equivalence, texts_are_queries};
+pub use crate::lists::{
+    comparisons_are_bounded, eq_is_an_equivalence, ord_is_a_total_order, texts_are_queries,
+};
 pub use algebra::{
     algebra_is_symmetric, disjoint_sets_have_no_intersection, lazy_iterators_agree_with_operators,
     lazy_iterators_give_no_repeats, lengths_of_intersection_and_union_add_up,

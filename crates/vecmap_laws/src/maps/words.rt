@@ -2,7 +2,7 @@
 ghost use Rattle.std.specs.List.{count_by, remove_range};
 ghost use Rattle.std.specs.Map.{IsKeyTest, keys_of};
 ghost use Rattle.std.specs.Option.{option_map_or, option_or};
-ghost use Rattle.std.specs.Prelude.{Bool, List, None, Some, [], if◌then◌else◌, insert, is_some, length, slice_get, slice_range, ℕ, ◌++◌, ◌+◌, ◌-◌, ◌≡◌, ◌≤◌, true};
+ghost use Rattle.std.specs.Prelude.{Bool, List, None, Some, [], if◌then◌else◌, insert, is_some, length, slice_get, slice_range, ℕ, ◌++◌, ◌+◌, ◌-◌, ◌<◌, ◌≡◌, ◌≤◌, true};
 ghost use Rattle.vecmap_base.specs.Items.{add, adds, item_index, put_item, without_item};
 ghost use Rattle.vecmap_base.specs.Pairs.{HasDistinctKeys, index_of, index_or_length, lookup, lookup_by, put, put_at, put_key, puts, swap_without_key, without_key};
 ghost use Rattle.vecmap_laws.specs.Counting.{count_of, counted, counted_all};
@@ -11,7 +11,7 @@ ghost use Rattle.vecmap_laws.specs.Counting.{count_of, counted, counted_all};
 ///
 /// A second insertion of the key replaces the first. The pairs of the other keys stay, so the old value, inserted again,
 /// and the removal of a key that was new restore the list.
-#[tactic(auto, using(crate::proofs::AfterPuts::lookup_put_any, crate::proofs::Queries::lookup_put_any_query, crate::proofs::AfterPuts::index_of_put, crate::proofs::AfterPuts::length_put, vecmap_base::proofs::PairsLemmas::Keys::keys_of_put, crate::proofs::DistinctKeys::distinct_put, crate::proofs::Equations::put_put, crate::proofs::OtherPairs::without_put, crate::proofs::Undone::put_old_back, crate::proofs::Undone::without_new))]
+#[tactic(auto, using(crate::proofs::AfterPuts::lookup_put_any, crate::proofs::Queries::lookup_put_any_query, crate::proofs::AfterPuts::index_of_put, crate::proofs::AfterPuts::length_put, vecmap_base::proofs::PairsLemmas::Keys::keys_of_put, crate::proofs::DistinctKeys::distinct_put, crate::proofs::Equations::put_put, crate::proofs::OtherPairs::without_put, crate::proofs::Undone::put_old_back, crate::proofs::Undone::without_new, crate::proofs::AfterPuts::slice_get_put_other))]
 pub fn put<K: Eq, V>()
     ensures lookup { (l : List (K × V)) (k : K) (v : V) (q : K)
         → lookup K.eq (put K.eq l k v) q ≡ (if K.eq k q then Some v else lookup K.eq l q) }
@@ -20,6 +20,8 @@ pub fn put<K: Eq, V>()
     ensures index_of { (l : List (K × V)) (k : K) (v : V) (q : K)
         → index_of K.eq (put K.eq l k v) q
         ≡ (if K.eq k q then Some (index_or_length K.eq l k) else index_of K.eq l q) }
+    ensures slice_get { (l : List (K × V)) (k : K) (v : V) (i : ℕ) → (index_of K.eq l k ≡ Some i → ⊥)
+        → i < length l → slice_get (put K.eq l k v) i ≡ slice_get l i }
     ensures length { (l : List (K × V)) (k : K) (v : V) → length (put K.eq l k v)
         ≡ (if is_some (index_of K.eq l k) then length l else length l + 1) }
     ensures keys_of { (l : List (K × V)) (k : K) (v : V)
@@ -68,10 +70,13 @@ pub fn without_key<K: Eq, V>()
 /// What is found in the list after many insertions, by `append`, `extend` and their kin.
 ///
 /// Pairs whose keys are new and distinct are appended, so a block that is removed and inserted again moves to the end.
-#[tactic(auto, using(crate::proofs::AfterPuts::lookup_puts_distinct, crate::proofs::Parts::index_of_puts, vecmap_base::proofs::PairsLemmas::Keys::keys_of_puts, crate::proofs::DistinctKeys::distinct_puts, crate::proofs::Puts::puts_apart, crate::proofs::Puts::puts_moved, crate::proofs::Equations::length_puts_least, crate::proofs::Equations::length_puts_most))]
+#[tactic(auto, using(crate::proofs::AfterPuts::lookup_puts_distinct, crate::proofs::QueriesAfter::lookup_by_puts, crate::proofs::Parts::index_of_puts, vecmap_base::proofs::PairsLemmas::Keys::keys_of_puts, crate::proofs::DistinctKeys::distinct_puts, crate::proofs::Puts::puts_apart, crate::proofs::Puts::puts_moved, crate::proofs::Equations::length_puts_least, crate::proofs::Equations::length_puts_most))]
 pub fn puts<K: Eq, V>()
     ensures lookup { (l m : List (K × V)) → HasDistinctKeys K.eq m → (q : K)
         → lookup K.eq (puts K.eq l m) q ≡ option_or (lookup K.eq m q) (lookup K.eq l q) }
+    ensures lookup_by { (test : K → Bool) → IsKeyTest K.eq test → (l m : List (K × V))
+        → HasDistinctKeys K.eq m
+        → lookup_by test (puts K.eq l m) ≡ option_or (lookup_by test m) (lookup_by test l) }
     ensures index_of { (l m : List (K × V)) (q : K) → index_of K.eq (puts K.eq l m) q
         ≡ item_index K.eq (adds K.eq (keys_of l) (keys_of m)) q }
     ensures length { (l m : List (K × V)) → (length l ≤ length (puts K.eq l m))
