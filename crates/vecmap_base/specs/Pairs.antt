@@ -1,7 +1,7 @@
 -- Lists of pairs of a key and a value, as an ordered map sees them. `eq` is the `==` of keys. Lookups and removals go
 -- by the index of a key, so that an index, its pair and its value come from one definition. The words of std for them
 -- are by recursion.
-use Rattle.std.specs.Prelude.{ℕ, suc, ◌-◌, Bool, List, [], ◌∷◌, ◌++◌, None, Option, Some, String, bytes_eq, if◌then◌else◌, fold, insert, length, map, min, position, remove, slice_get, slice_set, string_bytes, unwrap_or}
+use Rattle.std.specs.Prelude.{ℕ, suc, ◌-◌, Bool, List, [], ◌∷◌, None, Option, Some, String, bytes_eq, if◌then◌else◌, fold, insert, length, map, min, remove, slice_get, slice_set, string_bytes, unwrap_or}
 use Rattle.std.specs.List.{IsDistinct}
 use Rattle.std.specs.Map as entries
 use Rattle.std.specs.Map.{keys_of}

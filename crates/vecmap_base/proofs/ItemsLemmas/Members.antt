@@ -1,7 +1,7 @@
 -- Which elements are present after an addition and after a removal, in the words of contracts.
 use Rattle.std.specs.{Cmp.IsEquivalence, List.IsDistinct, List.list_any, List.Sorted.IsPermutation, List.swap_remove, Map.AreApart, Map.IsKeyTest, Option.option_map_or}
 use Rattle.std.specs.Set.{is_member, KeepsOthers}
-use Rattle.std.proofs.Common.{◌≡◌, ◌∙◌, ◌||◌, ◌++◌, ℕ, Bool, true, false, List, [], ◌∷◌, None, Option, Some, ap, cond, get_or, inl, inr, is_some, position, refl, remove, slice_get, subst, sym}
+use Rattle.std.proofs.Common.{◌≡◌, ◌∙◌, ◌||◌, ℕ, Bool, true, false, List, [], ◌∷◌, None, Option, Some, ap, cond, get_or, inl, inr, is_some, position, refl, remove, slice_get, subst, sym}
 use Rattle.std.proofs.lemmas.Bool.{cases_Bool}
 use Rattle.std.proofs.lemmas.List.Folds.{list_any-append}
 use Rattle.std.proofs.lemmas.List.Quantifiers.{position-Some}
@@ -30,7 +30,7 @@ module _ {T : Type 0} (eq : T → T → Bool) (o : IsEquivalence eq) where
     unfolding KeepsOthers
     members_from s r b here apart =
         let away : (q : T) → test q ≡ false → is_member eq r q ≡ is_member eq s q =
-              λ q n. apart (eq q) (o.congr q) (λ k h. o.symm q k ∙ sym (respects k q h) ∙ n) in
+        λ q n. apart (eq q) (o.congr q) (λ k h. o.symm q k ∙ sym (respects k q h) ∙ n) in
         record {
           members = λ q. elim (cases_Bool (test q)) [
             | inl h ↦ ap (λ f. list_any f r) (sym (compares_with eq o test respects q h)) ∙ here ∙ sym (ap (λ c. cond c b (is_member eq s q)) h)

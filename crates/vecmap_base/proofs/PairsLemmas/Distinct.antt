@@ -1,6 +1,6 @@
 -- Keys that are distinct stay distinct in the lists that single changes leave.
 use Rattle.std.specs.{Cmp.IsEquivalence, List.IsDistinct, List.Sorted.IsPermutation, List.swap_remove, Map.keys_of, Map.set_value, Option.option_map_or}
-use Rattle.std.proofs.Common.{◌≡◌, ◌∙◌, ℕ, suc, Bool, List, ◌∷◌, None, Option, Some, ap, drop, get_or, refl, remove, slice_get, subst, sym, take, ◌++◌}
+use Rattle.std.proofs.Common.{◌≡◌, ◌∙◌, ℕ, suc, Bool, List, ◌∷◌, None, Option, Some, drop, get_or, refl, remove, slice_get, subst, sym, take, ◌++◌}
 use Rattle.std.proofs.lemmas.List.{drop-map, map-append, take-map}
 use Rattle.std.proofs.lemmas.List.Sorted.{IsPermutation-map, IsPermutation-swap_remove}
 use Rattle.std.proofs.lemmas.Map.{keys-set_value}

@@ -1,8 +1,8 @@
 -- What lookups find after an insertion and after a removal, by keys and by queries.
-use Rattle.std.specs.{Cmp.IsEquivalence, Map.AreApart, Map.IsKeyTest, Map.KeepsOthers, Map.remove_entry}
-use Rattle.std.proofs.Common.{◌≡◌, Bool, true, false, List, [], ◌∷◌, None, Option, Some, ap, cond, inl, inr, refl, subst, sym, ◌∙◌, true≢false}
+use Rattle.std.specs.{Cmp.IsEquivalence, Map.IsKeyTest, Map.KeepsOthers}
+use Rattle.std.proofs.Common.{◌≡◌, Bool, true, false, List, [], ◌∷◌, None, Some, ap, cond, inl, inr, refl, subst, sym, ◌∙◌, true≢false}
 use Rattle.std.proofs.lemmas.Bool.{cases_Bool}
-use Rattle.std.proofs.lemmas.Map.{lookup-none, lookup-remove_entry}
+use Rattle.std.proofs.lemmas.Map.{lookup-none}
 use Rattle.std.proofs.lemmas.Map.Entries.{none_past_head}
 use Rattle.std.proofs.lemmas.Map.Keys.{IsDistinct-tail}
 use Rattle.vecmap_base.specs.Lookups.{UpdatesBy}

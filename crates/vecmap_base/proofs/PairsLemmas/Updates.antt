@@ -26,7 +26,7 @@ module _ {K V : Type 0} (eq : K → K → Bool) (o : IsEquivalence eq) (test : K
   unfolding KeepsOthers
   updates_from l m w here apart distinct =
       let away : (q : K) → test q ≡ false → lookup eq m q ≡ lookup eq l q =
-            λ q n. apart (eq q) (o.congr q) (λ k h. o.symm q k ∙ sym (respects k q h) ∙ n) in
+      λ q n. apart (eq q) (o.congr q) (λ k h. o.symm q k ∙ sym (respects k q h) ∙ n) in
       record {
         lookups = λ q. elim (cases_Bool (test q)) [
           | inl h ↦ ap (λ f. lookup_by f m) (sym (compares_with eq o test respects q h)) ∙ here ∙ sym (ap (λ b. cond b w (lookup eq l q)) h)

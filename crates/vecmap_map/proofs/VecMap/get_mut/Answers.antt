@@ -1,5 +1,4 @@
 use Rattle.std.proofs.Common.{arith}
-use Rattle.std.proofs.lemmas.Grind.{common_steps}
 use Rattle.vecmap_base.proofs.PairsLemmas.ByIndex.{by_index}
 use Rattle.vecmap_base.proofs.PairsLemmas.Updates.{updates_write}
 use Rattle.vecmap_map.proofs.VecMap.get_mut.Goals as goal
