@@ -220,7 +220,7 @@ fn a_default_collection_has_no_capacity(rt: HostRuntime) {
 #[test]
 fn an_emptied_collection_has_no_capacity(rt: HostRuntime) {
     let alloc = rt.alloc();
-    let map = granted(&rt, map_of(alloc, 2, false, 0.5));
+    let map = VecMap::from(granted(&rt, pairs_of(alloc, 2, false, 0.5)));
     let emptied = granted(&rt, VecMap::emptied(&map));
     assert_is(
         &rt,
