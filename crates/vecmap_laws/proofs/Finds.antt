@@ -1,20 +1,17 @@
--- What lookups find after each call, as equations that `grind` applies from left to right, and lists of them for `using(..)`.
+-- What lookups find after each call, as equations that `grind` applies from left to right. `Rules` has lists of them.
 use Rattle.std.specs.{Cmp.IsEquivalence, List.IsDistinct, List.Sorted.SwapsInRange, List.Sorted.apply_swaps, Set.is_member}
 use Rattle.std.proofs.Common.{◌≡◌, ◌<◌, ◌&&◌, not, ℕ, suc, zero, Bool, true, false, List, [], ◌∷◌, Option, None, Some, if◌then◌else◌, length, refl, sym, ap, ◌∙◌, arith, is_some, take, drop, remove, reverse, swap}
 use Rattle.std.specs.Prelude.{nat_lt}
 use Rattle.std.proofs.lemmas.{Bool.Decides.nat_tests, List.Sorted.IsPermutation-reverse}
 use Rattle.vecmap_base.specs.Items.{swap_without, swap_without_item, without_item}
 use Rattle.vecmap_base.specs.Pairs.{HasDistinctKeys, index_of, index_or_length, lookup, put_at, put_key, swap_without_key, without_key}
-use Rattle.vecmap_laws.proofs.AfterPuts.{is_some_lookup, lookup_put_any, lookup_put_key, lookup_puts_distinct, lookup_without_any}
-use Rattle.vecmap_laws.proofs.DistinctKeys.{distinct_keys_rearranged, distinct_keys_swap_without_key, distinct_keys_take, distinct_keys_without, distinct_put, distinct_put_at, distinct_put_key, distinct_puts}
-use Rattle.vecmap_laws.proofs.DistinctParts.{distinct_keys_drop}
+use Rattle.vecmap_laws.proofs.AfterPuts.{is_some_lookup, lookup_put_any, lookup_put_key}
+use Rattle.vecmap_laws.proofs.DistinctKeys.{distinct_keys_rearranged, distinct_keys_without}
 use Rattle.vecmap_laws.proofs.HeadLemmas.{head_has_no_value, rest_is_distinct}
 use Rattle.vecmap_laws.proofs.Indices.{index_or_length_cons}
 use Rattle.vecmap_laws.proofs.Inserted.{lookup_put_at}
-use Rattle.vecmap_laws.proofs.ItemMembers.{is_member_add, is_member_adds}
-use Rattle.vecmap_laws.proofs.Lookups.{lookup_congr, lookup_without_key_other}
+use Rattle.vecmap_laws.proofs.Lookups.{lookup_congr}
 use Rattle.vecmap_laws.proofs.Order.{lookup_rearranged}
-use Rattle.vecmap_laws.proofs.Puts.{puts_restore}
 use Rattle.vecmap_laws.proofs.Recursion.{lookup_cons}
 use Rattle.vecmap_laws.proofs.RemovalLemmas.{is_member_by_test, lookup_by_test, remove_leaves, swap_leaves}
 
@@ -102,24 +99,3 @@ module _ {T : Type 0} (eq : T → T → Bool) (o : IsEquivalence eq) where
 
   pub is_member_swap_without : (s : List T) (x y : T) → IsDistinct eq s → is_member eq (swap_without_item eq s x) y ≡ (is_member eq s y && not (eq x y))
   is_member_swap_without s x y d = is_member_by_test swap_without swap_leaves eq o (eq x) (λ a b e. o.congr x a b e) s d y
-
--- After calls that change one key.
-pub ruleset of_one_key = (lookup_put_any, lookup_without_any, lookup_without_key_other, lookup_swap_without_key, present, distinct_put, distinct_without_key, distinct_keys_swap_without_key)
-
--- After sorts, and after swaps of two pairs.
-pub ruleset of_orders = (lookup_swapped, lookup_swap, lookup_reverse, distinct_swapped, distinct_keys_reverse)
-
--- After many insertions.
-pub ruleset of_many = (lookup_puts_distinct, puts_restore, distinct_puts)
-
--- In parts of the list.
-pub ruleset of_parts = (lookup_take, lookup_drop, distinct_keys_take, distinct_keys_drop)
-
--- After insertions that store the key or choose the index.
-pub ruleset of_places = (lookup_put_key_any, lookup_put_at_any, distinct_put_key, distinct_put_at)
-
--- All of these.
-pub ruleset lookups = (of_one_key, of_orders, of_many, of_parts, of_places)
-
--- Which elements are present in a set.
-pub ruleset members = (is_member_add, is_member_adds, is_member_without, is_member_swap_without)

@@ -1,9 +1,13 @@
 pub mod AdditionQueries
 pub mod AfterPuts
 pub mod AlgebraLemmas
+pub mod AtNumbers
+pub mod AtTexts
+pub mod CloneEquality
 pub use Rattle.vecmap_base.proofs.CloneLemmas
 pub mod Combining
 mod ComparisonLemmas
+pub mod CountingLemmas
 pub use Rattle.vecmap_map.proofs.ContentsLemmas
 pub mod DistinctAbsent
 pub mod DistinctAdditions
@@ -14,8 +18,8 @@ pub use Rattle.vecmap_base.proofs.DistinctLemmas.Removals as DistinctRemovals
 pub mod EachValue
 pub mod EntryLemmas
 mod EntryPuts
-pub mod FilterLemmas
 pub mod Equations
+pub mod FilterLemmas
 pub mod Filters
 pub mod Finds
 pub mod FirstValue
@@ -51,12 +55,16 @@ pub mod Rearranged
 pub mod Recursion
 pub mod RemovalLemmas
 pub mod Rules
+pub mod SearchedMaps
+pub mod SearchedSets
 pub mod SetCongruence
 pub mod SetEquality
 pub mod SetFilters
 pub mod SetRelations
+pub mod SortedLemmas
 pub mod TextQueries
 pub mod TwoKeys
+pub mod Undone
 pub use Rattle.vecmap_base.proofs.UpdatedLemmas
 pub mod Values
 pub mod WalkLemmas

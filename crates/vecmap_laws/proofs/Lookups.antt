@@ -2,8 +2,18 @@
 use Rattle.std.specs.{Cmp.IsEquivalence, List.list_any, Map.keys_of}
 use Rattle.std.proofs.Common.{◌≡◌, Bool, true, false, ◌||◌, List, [], ◌∷◌, None, Some, if◌then◌else◌, refl, sym, ap, ◌∙◌, true≢false, inl, inr}
 use Rattle.std.proofs.lemmas.Bool.{cases_Bool}
-use Rattle.vecmap_base.specs.{Pairs.HasDistinctKeys, Pairs.lookup, Pairs.put, Pairs.without_key}
+use Rattle.vecmap_base.specs.{Pairs.HasDistinctKeys, Pairs.lookup, Pairs.lookup_by, Pairs.put, Pairs.without_by, Pairs.without_key}
 use Rattle.vecmap_base.proofs.PairsLemmas.Lookups.{lookup_by_without, updates_put}
+
+module _ {K V : Type 0} (test other : K → Bool) (apart : (k : K) → test k ≡ true → other k ≡ false) where
+  -- A query that matches no key of a removal's finds what it found before.
+  pub lookup_without_apart : (l : List (K × V)) → lookup_by other (without_by test l) ≡ lookup_by other l
+  lookup_without_apart [] = refl
+  lookup_without_apart (p ∷ ps) = by (test p.0) refl (lookup_without_apart ps)
+    where
+      by : (b : Bool) → test p.0 ≡ b → lookup_by other (without_by test ps) ≡ lookup_by other ps → lookup_by other (if b then ps else p ∷ without_by test ps) ≡ lookup_by other (p ∷ ps)
+      by true e h = sym (ap (λ b. if b then Some p.1 else lookup_by other ps) (apart p.0 e))
+      by false e h = ap (λ found. if other p.0 then Some p.1 else found) h
 
 module _ {K V : Type 0} (eq : K → K → Bool) where
   -- A lookup in a list with one pair more.
@@ -39,9 +49,4 @@ module _ {K V : Type 0} (eq : K → K → Bool) where
 
     -- After a removal, each other key has its old value.
     pub lookup_without_key_other : (l : List (K × V)) (k q : K) → eq k q ≡ false → lookup eq (without_key eq l k) q ≡ lookup eq l q
-    lookup_without_key_other [] k q n = refl
-    lookup_without_key_other (p ∷ ps) k q n = by (eq k p.0) refl (lookup_without_key_other ps k q n)
-      where
-        by : (b : Bool) → eq k p.0 ≡ b → lookup eq (without_key eq ps k) q ≡ lookup eq ps q → lookup eq (if b then ps else p ∷ without_key eq ps k) q ≡ lookup eq (p ∷ ps) q
-        by true e h = sym (look p ps q false (o.symm q p.0 ∙ sym (o.congr k p.0 q e) ∙ n))
-        by false e h = ap (λ found. if eq q p.0 then Some p.1 else found) h
+    lookup_without_key_other l k q n = lookup_without_apart (eq k) (eq q) (λ x e. o.symm q x ∙ sym (o.congr k x q e) ∙ n) l

@@ -7,7 +7,20 @@ use Rattle.vecmap_base.proofs.DistinctLemmas.Absent.{distinct_none}
 use Rattle.vecmap_base.proofs.DistinctLemmas.Additions.{distinct_add, distinct_adds}
 use Rattle.vecmap_base.proofs.LoopLemmas.{key_stays, keys_written}
 use Rattle.vecmap_base.proofs.PairsLemmas.Keys.{keys_of_put, keys_of_puts}
-use Rattle.vecmap_laws.proofs.DistinctKeys.{distinct_put, distinct_puts}
+use Rattle.std.specs.{Cmp.nat_eq_equiv, String.string_eq_equiv}
+use Rattle.vecmap_laws.proofs.AfterPuts.{index_of_congr, index_of_put, lookup_put_any, lookup_puts_distinct, lookup_without_any}
+pub use Rattle.vecmap_laws.proofs.AtNumbers.{lookups_at_numbers, members_at_numbers}
+pub use Rattle.vecmap_laws.proofs.AtTexts.{lookups_at_texts, members_at_texts, texts}
+use Rattle.vecmap_laws.proofs.CloneEquality.{clones_equal, equal_to_itself, equal_to_itself_at_numbers, same_clones}
+use Rattle.vecmap_laws.proofs.SearchedMaps.{inserted_new, search_finds, search_finds_at_numbers, sorted_after, sorted_after_at_numbers}
+use Rattle.vecmap_laws.proofs.DistinctKeys.{distinct_keys_remove, distinct_keys_swap_without_key, distinct_keys_take, distinct_put, distinct_put_at, distinct_put_key, distinct_puts}
+use Rattle.vecmap_laws.proofs.DistinctParts.{distinct_keys_drop, distinct_keys_filter}
+use Rattle.vecmap_laws.proofs.Equations.{put_put}
+use Rattle.vecmap_laws.proofs.Finds.{distinct_keys_reverse, distinct_swapped, distinct_without_key, is_member_swap_without, is_member_without, lookup_drop, lookup_put_at_any, lookup_put_key_any, lookup_reverse, lookup_swap, lookup_swap_without_key, lookup_swapped, lookup_take, present}
+use Rattle.vecmap_laws.proofs.ItemMembers.{is_member_add, is_member_adds}
+use Rattle.vecmap_laws.proofs.Lookups.{lookup_without_key_other}
+use Rattle.vecmap_laws.proofs.Puts.{puts_restore}
+use Rattle.vecmap_laws.proofs.IndicesAfter.{index_by_take}
 use Rattle.vecmap_laws.proofs.ItemIndices.{item_index_add, slice_get_add}
 
 -- An empty list has no two equal keys.
@@ -37,3 +50,47 @@ pub ruleset distinct_elements = (distinct_no_elements, distinct_add, distinct_ad
 pub on_err : {T E P : Type 0} (r : Result T E) → P → OnErr r P
 on_err (Ok x) p = tt
 on_err (Err e) p = p
+
+-- After calls that change one key.
+pub ruleset of_one_key = (lookup_put_any, lookup_without_any, lookup_without_key_other, lookup_swap_without_key, present, distinct_put, distinct_without_key, distinct_keys_swap_without_key)
+
+-- After sorts, and after swaps of two pairs.
+pub ruleset of_orders = (lookup_swapped, lookup_swap, lookup_reverse, distinct_swapped, distinct_keys_reverse)
+
+-- After many insertions.
+pub ruleset of_many = (lookup_puts_distinct, puts_restore, distinct_puts)
+
+-- In parts of the list.
+pub ruleset of_parts = (lookup_take, lookup_drop, distinct_keys_take, distinct_keys_drop)
+
+-- After insertions that store the key or choose the index.
+pub ruleset of_places = (lookup_put_key_any, lookup_put_at_any, distinct_put_key, distinct_put_at)
+
+-- All of these: what lookups find after calls.
+pub ruleset lookups = (of_one_key, of_orders, of_many, of_parts, of_places)
+
+-- Which elements are present in a set.
+pub ruleset members = (is_member_add, is_member_adds, is_member_without, is_member_swap_without)
+
+-- Insertions of one key, one after the other.
+pub ruleset puts = (put_put)
+
+pub ruleset puts_at_numbers = (puts, nat_eq_equiv)
+
+pub ruleset puts_at_texts = (puts, string_eq_equiv)
+
+-- At which indices keys are found after an insertion and in the front of the list.
+pub ruleset indices = (index_of_put, index_by_take, index_of_congr)
+
+-- The keys stay distinct after each of these calls.
+pub ruleset distinct = (distinct_keys, distinct_put_key, distinct_put_at, distinct_without_key, distinct_keys_swap_without_key, distinct_keys_take, distinct_keys_drop, distinct_keys_reverse, distinct_swapped, distinct_keys_remove, distinct_keys_filter)
+
+-- Binary searches of maps whose keys ascend, and insertions where they end.
+pub ruleset sorted = (search_finds, sorted_after, inserted_new)
+
+pub ruleset sorted_at_numbers = (search_finds_at_numbers, sorted_after_at_numbers)
+
+-- Equality of clones.
+pub ruleset clones = (clones_equal, same_clones, equal_to_itself)
+
+pub ruleset clones_at_numbers = (same_clones, equal_to_itself_at_numbers)

@@ -1,6 +1,7 @@
 pub mod Agreement
 pub mod Algebra
 pub mod Combining
+pub mod Counting
 pub mod FirstValue
 pub mod Inverse
 pub mod Nested

@@ -10,6 +10,8 @@ mod nested;
 mod order;
 mod parts;
 mod removals;
+mod sorted;
+mod words;
 mod writes;
 
 pub use crate::lists::{eq_is_an_equivalence, key_comparisons_are_bounded, texts_are_queries};
@@ -31,12 +33,19 @@ pub use insertions::{
 };
 pub use lookups::{equal_keys_find_the_same, queries_find_as_keys};
 pub use nested::{inner_insertions_are_found, values_are_found_by_two_keys};
-pub use order::{clones_keep_lookups, equal_maps_are_rearranged, order_keeps_lookups};
+pub use order::{
+    clones_are_equal, clones_keep_lookups, equal_maps_are_rearranged, order_keeps_lookups,
+};
 pub use parts::{filters_keep_lookups, parts_keep_lookups, removals_shift_indices};
 pub use removals::{
     appending_undoes_splitting, moves_keep_lookups, removals_are_forgotten,
     removals_by_index_are_undone, removals_shorten,
 };
+pub use sorted::{
+    binary_searches_find_indices, insertions_where_searches_end_keep_the_order,
+    sorts_of_sorted_maps_change_nothing,
+};
+pub use words::{counted, lists_are_found, put, puts, without_key};
 pub use writes::{
     writes_are_insertions, writes_by_queries_are_insertions, writes_leave_other_keys,
 };

@@ -7,6 +7,7 @@ mod equality;
 mod insertions;
 mod lookups;
 mod removals;
+mod sorted;
 
 pub use crate::lists::{comparisons_are_bounded, eq_is_an_equivalence, texts_are_queries};
 pub use algebra::{
@@ -28,3 +29,4 @@ pub use lookups::{clones_have_the_same_members, queries_find_as_elements};
 pub use removals::{
     appending_undoes_splitting, removals_are_forgotten, removals_shorten, retain_filters,
 };
+pub use sorted::{binary_searches_find_indices, sorts_of_sorted_sets_change_nothing};

@@ -24,8 +24,19 @@ pub fn equal_maps_are_rearranged<K: Eq, V: Eq>()
 {}
 
 /// A key finds the same value in clones, if clones of keys are equal and clones of values are the same.
+///
+/// Clones of equal keys and equal values make an equal map. Clones that are the same as their originals, such as clones
+/// of numbers, make the same list.
 pub fn clones_keep_lookups<K: Eq + Clone, V: Clone>()
-    ensures { ((x y : K) → K.is_clone x y → K.eq x y ≡ true) → ((v w : V) → V.is_clone v w → w ≡ v)
+    ensures lookup { ((x y : K) → K.is_clone x y → K.eq x y ≡ true) → ((v w : V) → V.is_clone v w → w ≡ v)
         → (l m : List (K × V)) → ArePairClones K.is_clone V.is_clone l m → (q : K)
         → lookup K.eq m q ≡ lookup K.eq l q }
+    ensures same { ((x y : K) → K.is_clone x y → y ≡ x) → ((v w : V) → V.is_clone v w → w ≡ v)
+        → (l m : List (K × V)) → ArePairClones K.is_clone V.is_clone l m → m ≡ l }
+{}
+
+/// A map is equal to its clone, if clones of keys and of values are equal to their originals.
+pub fn clones_are_equal<K: Eq + Clone, V: Eq + Clone>()
+    ensures { ((x y : K) → K.is_clone x y → K.eq x y ≡ true) → ((v w : V) → V.is_clone v w → V.eq v w ≡ true)
+        → (l m : List (K × V)) → ArePairClones K.is_clone V.is_clone l m → has_same_counts K.eq V.eq l m ≡ true }
 {}

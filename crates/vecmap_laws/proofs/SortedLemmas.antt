@@ -1,0 +1,157 @@
+-- Lists that ascend by a key: a binary search agrees with a search in order, an insertion where it ends keeps the
+-- order, and a stable sort of such a list changes nothing.
+use Rattle.std.proofs.Common.{arith, ◌≡◌, ◌+◌, ◌-◌, ◌<◌, ◌≤◌, ℕ, suc, Bool, true, false, ◌&&◌, List, [], ◌∷◌, Some, ap, filter, get_or, if◌then◌else◌, inl, inr, insert, length, nat_lt, not, refl, slice_get, subst, sym, true≢false, ◌∙◌}
+use Rattle.std.proofs.lemmas.{Bool.cases_Bool, Bool.ltb-false, Bool.ltb-true, List.Folds.list_any_none, Option.get_or_from_slice_get, Option.slice_get_within}
+use Rattle.std.proofs.lemmas.List.Edits.{get_or-insert_above, get_or-insert_at, get_or-insert_below, length-insert}
+use Rattle.std.proofs.lemmas.List.Sorted.{sorted_far}
+use Rattle.std.specs.{Cmp.IsStrictWeakOrder, Cmp.IsTotalOrder, List.list_any}
+use Rattle.std.specs.Cmp.{alike_right, upto}
+use Rattle.std.specs.List.Sorted.{IsNonDecreasingBy, IsPartitionPoint, IsSortedBy, IsSortedByKey, IsStableBy, ties}
+use Rattle.std.specs.Ordering.{is_eq, is_gt, is_lt, ordering_index, ordering_reverse}
+use Rattle.std.specs.declared.cmp.Ordering.{Ordering}
+use Rattle.std.specs.declared.cmp.Ordering.TheVariants.{Equal, Greater, Less}
+
+module _ {X K : Type 0} (key : X → K) (cmp : K → K → Ordering) (o : IsTotalOrder cmp) where
+  abbrev less : X → X → Bool
+  less x y = is_lt (cmp (key x) (key y))
+
+  turned : (r : Ordering) → is_lt (ordering_reverse r) ≡ is_gt r
+  turned Less = refl
+  turned Equal = refl
+  turned Greater = refl
+
+  less_turned : (x y : X) → less x y ≡ is_gt (cmp (key y) (key x))
+  less_turned x y = ap is_lt (o.antisymm (key x) (key y)) ∙ turned (cmp (key y) (key x))
+
+  one_way : (r : Ordering) → is_lt r ≡ true → is_gt r ≡ false
+  one_way Less e = refl
+  one_way Equal e = refl
+  one_way Greater e = absurd (true≢false (sym e))
+
+  pub weak : IsStrictWeakOrder less
+  weak = record {
+    one_way = λ x y e. less_turned y x ∙ one_way (cmp (key x) (key y)) e;
+    chain = λ x y z e f. less_turned x z ∙ upto o (key z) (key y) (key x) (sym (less_turned y z) ∙ f) (sym (less_turned x y) ∙ e);
+  }
+
+  -- How an item compares with `k` rises with the items.
+  rises : (k : K) (y z : X) → less z y ≡ false → (r s : Ordering) → cmp (key y) k ≡ r → cmp (key z) k ≡ s → ordering_index r ≤ ordering_index s
+  rises k y z h Less s e f = omega arith
+  rises k y z h Equal Less e f = absurd (true≢false (sym (ap is_lt (alike_right o (key y) k (key z) e ∙ f)) ∙ h))
+  rises k y z h Equal Equal e f = omega arith
+  rises k y z h Equal Greater e f = omega arith
+  rises k y z h Greater Less e f = absurd (true≢false (sym (ap is_lt (o.trans (key z) k (key y) f (o.antisymm k (key y) ∙ ap ordering_reverse e))) ∙ h))
+  rises k y z h Greater Equal e f = absurd (true≢false (sym (ap is_lt (o.congr (key z) k (key y) f ∙ o.antisymm k (key y) ∙ ap ordering_reverse e)) ∙ h))
+  rises k y z h Greater Greater e f = omega arith
+
+  pub comparisons_rise : (k : K) (xs : List X) → IsSortedByKey key cmp xs → IsNonDecreasingBy (λ y. ordering_index (cmp (key y) k)) xs
+  comparisons_rise k xs sorted i j d below within =
+      elim (cases_Bool (nat_lt i j)) [
+        | inl e ↦ rises k (get_or xs i d) (get_or xs j d) (sorted_far less weak xs sorted i j d (let l = ltb-true i j e in omega (arith, l)) within) (cmp (key (get_or xs i d)) k) (cmp (key (get_or xs j d)) k) refl refl
+        | inr e ↦ let same : i ≡ j = (let l = ltb-false i j e in omega (arith, l, below)) in subst (λ n. ordering_index (cmp (key (get_or xs i d)) k) ≤ ordering_index (cmp (key (get_or xs n d)) k)) same (omega arith)
+      ]
+
+  -- An item that is not equal to `k` is found nowhere.
+  pub none_at_partition : (eq : K → K → Bool) → ((x y : K) → eq x y ≡ is_eq (cmp x y)) → (k : K) (xs : List X) (i : ℕ) → IsPartitionPoint (λ y. cmp (key y) k ≡ Less) (λ y. cmp (key y) k ≡ Greater) xs i → list_any (λ y. eq k (key y)) xs ≡ false
+  none_at_partition eq matches k xs i split =
+      list_any_none (λ y. eq k (key y)) xs (λ j d within.
+      elim (cases_Bool (nat_lt j i)) [
+        | inl e ↦ matches k (key (get_or xs j d)) ∙ ap is_eq (o.antisymm k (key (get_or xs j d)) ∙ ap ordering_reverse (split.0 j d (omega arith) (ltb-true j i e)))
+        | inr e ↦ matches k (key (get_or xs j d)) ∙ ap is_eq (o.antisymm k (key (get_or xs j d)) ∙ ap ordering_reverse (split.1 j d (ltb-false j i e) within))
+      ])
+
+  -- An insertion between the smaller and the greater items keeps the order.
+  pub sorted_insert : (xs : List X) (i : ℕ) (x : X) → i ≤ length xs → IsSortedByKey key cmp xs → IsPartitionPoint (λ y. cmp (key y) (key x) ≡ Less) (λ y. cmp (key y) (key x) ≡ Greater) xs i → IsSortedByKey key cmp (insert xs i x)
+  sorted_insert xs i x fits sorted split k d from within =
+      let long = length-insert xs i x fits in
+      elim (cases_Bool (nat_lt (k + 1) i)) [
+        | inl e ↦
+            let l : k + 1 < i = ltb-true (k + 1) i e in
+            (λ t. less (get_or-insert_below xs i x d (k + 1) l fits t) (get_or-insert_below xs i x d k (omega (arith, l)) fits t)) ∙ sorted k d (omega arith) (omega (arith, l, fits))
+        | inr e ↦
+            let l : i ≤ k + 1 = ltb-false (k + 1) i e in
+            elim (cases_Bool (nat_lt k i)) [
+              | inl f ↦
+                  let m : k < i = ltb-true k i f in
+                  let z : k + 1 ≡ i = omega (arith, l, m) in
+                  ap (λ n. less (get_or (insert xs i x) n d) (get_or (insert xs i x) k d)) z
+                  ∙ (λ t. less (get_or-insert_at xs i x d fits t) (get_or-insert_below xs i x d k m fits t))
+                  ∙ less_turned x (get_or xs k d)
+                  ∙ ap is_gt (split.0 k d (omega arith) m)
+              | inr f ↦
+                  let m : i ≤ k = ltb-false k i f in
+                  ap (λ y. less y (get_or (insert xs i x) k d)) (get_or-insert_above xs i x d k m fits)
+                  ∙ elim (cases_Bool (nat_lt i k)) [
+                    | inl g ↦
+                        let n : i < k = ltb-true i k g in
+                        let z : k ≡ (k - 1) + 1 = omega (arith, n) in
+                        ap (λ j. less (get_or xs k d) (get_or (insert xs i x) j d)) z
+                        ∙ ap (λ y. less (get_or xs k d) y) (get_or-insert_above xs i x d (k - 1) (omega (arith, n)) fits)
+                        ∙ ap (λ j. less (get_or xs j d) (get_or xs (k - 1) d)) z
+                        ∙ sorted (k - 1) d (omega arith) (omega (arith, n, within, long))
+                    | inr g ↦
+                        let n : k ≡ i = (let h = ltb-false i k g in omega (arith, m, h)) in
+                        ap (λ j. less (get_or xs k d) (get_or (insert xs i x) j d)) n
+                        ∙ ap (λ y. less (get_or xs k d) y) (get_or-insert_at xs i x d fits)
+                        ∙ ap is_lt (split.1 k d m (omega (arith, within, long)))
+                  ]
+            ]
+      ]
+
+-- A stable sort of a sorted list. The idea: the first items of two sorted lists tie if the lists agree on what ties
+-- with either, so they are the same, and the lists agree on the rest.
+module _ {X : Type 0} (lt : X → X → Bool) (w : IsStrictWeakOrder lt) where
+  filter_nothing : (p : X → Bool) (xs : List X) → ((x : X) (j : ℕ) → slice_get xs j ≡ Some x → p x ≡ false) → filter p xs ≡ []
+  filter_nothing p [] h = refl
+  filter_nothing p (x ∷ xs) h = ap (λ b. if b then x ∷ filter p xs else filter p xs) (h x 0 refl) ∙ filter_nothing p xs (λ y j e. h y (suc j) e)
+
+  own : (x : X) → ties lt x x ≡ true
+  own x = by (lt x x) refl
+    where
+      by : (b : Bool) → lt x x ≡ b → (not b && not b) ≡ true
+      by true e = absurd (true≢false (sym e ∙ w.one_way x x e))
+      by false e = refl
+
+  -- No item of a sorted list is less than the first.
+  first_least : (x : X) (xs : List X) → IsSortedBy lt (x ∷ xs) → (y : X) (j : ℕ) → slice_get (x ∷ xs) j ≡ Some y → lt y x ≡ false
+  first_least x xs sorted y j e =
+      let within = slice_get_within (x ∷ xs) j y e in
+      ap (λ z. lt z x) (sym (get_or_from_slice_get (x ∷ xs) j y x e)) ∙ sorted_far lt w (x ∷ xs) sorted 0 j x (omega arith) within
+
+  no_tie : (x y z : X) → lt x y ≡ true → lt z y ≡ false → ties lt x z ≡ false
+  no_tie x y z e f = by (lt x z) refl
+    where
+      by : (b : Bool) → lt x z ≡ b → (not b && not (lt z x)) ≡ false
+      by true g = refl
+      by false g = absurd (true≢false (sym e ∙ w.chain x z y g f))
+
+  -- If a sorted list that begins with `y` has an item that ties with `x`, then `x` is not less than `y`.
+  not_less : (x y : X) (xs ys : List X) → IsSortedBy lt (y ∷ ys) → filter (ties lt x) (y ∷ ys) ≡ filter (ties lt x) (x ∷ xs) → lt x y ≡ false
+  not_less x y xs ys sorted same =
+      elim (cases_Bool (lt x y)) [
+        | inl e ↦ absurd (let f : [] ≡ x ∷ filter (ties lt x) xs = sym (filter_nothing (ties lt x) (y ∷ ys) (λ z j g. no_tie x y z e (first_least y ys sorted z j g))) ∙ same ∙ ap (λ b. if b then x ∷ filter (ties lt x) xs else filter (ties lt x) xs) (own x) in cc)
+        | inr e ↦ e
+      ]
+
+  rest_sorted : (x : X) (xs : List X) → IsSortedBy lt (x ∷ xs) → IsSortedBy lt xs
+  rest_sorted x xs sorted k d from within = ap (λ n. lt (get_or (x ∷ xs) n d) (get_or xs k d)) (let e : suc (k + 1) ≡ suc k + 1 = omega arith in e) ∙ sorted (suc k) d (omega arith) (omega (arith, within))
+
+  pub stable_sort_keeps : (xs ys : List X) → IsSortedBy lt xs → IsSortedBy lt ys → IsStableBy lt xs ys → ys ≡ xs
+  stable_sort_keeps [] [] s t same = refl
+  stable_sort_keeps [] (y ∷ ys) s t same = absurd (let f : y ∷ filter (ties lt y) ys ≡ [] = sym (ap (λ b. if b then y ∷ filter (ties lt y) ys else filter (ties lt y) ys) (own y)) ∙ same y in cc)
+  stable_sort_keeps (x ∷ xs) [] s t same = absurd (let f : [] ≡ x ∷ filter (ties lt x) xs = same x ∙ ap (λ b. if b then x ∷ filter (ties lt x) xs else filter (ties lt x) xs) (own x) in cc)
+  stable_sort_keeps (x ∷ xs) (y ∷ ys) s t same =
+      let one = not_less x y xs ys t (same x) in
+      let two = not_less y x ys xs s (sym (same y)) in
+      let tie : ties lt x y ≡ true = (λ i. not (one i) && not (two i)) in
+      let both : y ∷ filter (ties lt x) ys ≡ x ∷ filter (ties lt x) xs =
+      sym (ap (λ b. if b then y ∷ filter (ties lt x) ys else filter (ties lt x) ys) tie) ∙ same x ∙ ap (λ b. if b then x ∷ filter (ties lt x) xs else filter (ties lt x) xs) (own x) in
+      let head : y ≡ x = cc in
+      (λ i. head i ∷ stable_sort_keeps xs ys (rest_sorted x xs s) (rest_sorted y ys t) (rest head) i)
+    where
+      tails : (b : Bool) (vs ws : List X) → (if b then x ∷ vs else vs) ≡ (if b then x ∷ ws else ws) → vs ≡ ws
+      tails true vs ws e = cc
+      tails false vs ws e = e
+
+      rest : y ≡ x → IsStableBy lt xs ys
+      rest head z = tails (ties lt z x) (filter (ties lt z) ys) (filter (ties lt z) xs) (sym (ap (λ u. if ties lt z u then u ∷ filter (ties lt z) ys else filter (ties lt z) ys) head) ∙ same z)
