@@ -2,6 +2,7 @@
 -- other leaves at each name what `merged_below` says, since each name comes once.
 use Rattle.std.specs.Prelude.{◌≡◌, ℕ, Bool, List, [], ◌∷◌, ◌⊎◌, None, Option, Some, String, bytes_eq, cond, false, if◌then◌else◌, refl, string_bytes, string_eq, true}
 use Rattle.std.specs.Option.{option_and_then}
+use Rattle.std.specs.Cmp.Lexicographic.{nat_list_eq_equiv}
 use Rattle.std.specs.Map.{keys_of}
 use Rattle.std.specs.declared.alloc.Global.{Global}
 use Rattle.std.proofs.Common.{ap, inl, inr, subst, sym, ◌∙◌}
@@ -9,7 +10,7 @@ use Rattle.std.proofs.lemmas.Bool.{cases_Bool}
 use Rattle.std.proofs.lemmas.Map.Keys.{IsDistinct-head, IsDistinct-tail}
 use Rattle.std.proofs.lemmas.Slice.Eq.{bytes_eq-Decides}
 use Rattle.vecmap.specs.Contents.{with_value_by}
-use Rattle.vecmap.specs.Pairs.{has_text, index_by, lookup_by}
+use Rattle.vecmap.specs.Pairs.{has_text, lookup_by}
 use Rattle.vecmap_laws.proofs.Lookups.{look, lookup_absent}
 use Rattle.vecmap_laws.proofs.Queries.{lookup_by_query, same_text, string_equality, text_respects}
 use Rattle.vecmap_laws.proofs.WriteLemmas.{lookup_written, lookup_written_other_text}
@@ -22,8 +23,8 @@ use Rattle.vecmap_trees.proofs.PathLemmas.{index_from_value}
 abbrev Pairs : Type 0
 Pairs = List (String Global × Json)
 
-look_text : (name : List ℕ) (k : String Global) (v : Json) (rest : Pairs) (b : Bool) → has_text name k ≡ b → lookup_by (has_text name) ((k, v) ∷ rest) ≡ (if b then Some v else lookup_by (has_text name) rest)
-look_text name k v rest b e = look (λ (x y : String Global). has_text name y) (k, v) rest k b e
+look_text : (name : List ℕ) (k : String Global) (v : Json) (rest : Pairs) (b : Bool) → bytes_eq (string_bytes k) name ≡ b → lookup_by (has_text name) ((k, v) ∷ rest) ≡ (if b then Some v else lookup_by (has_text name) rest)
+look_text name k v rest b e = look (λ (x y : String Global). has_text name y) (k, v) rest k b (nat_list_eq_equiv.symm name (string_bytes k) ∙ e)
 
 module _ (k : String Global) (v : Json) (rest : Pairs) (d : AreDistinctMembers ((k, v) ∷ rest)) where
   -- The first name does not come again.
@@ -40,7 +41,7 @@ module _ (k : String Global) (v : Json) (rest : Pairs) (d : AreDistinctMembers (
     where
       below : (name : List ℕ) (w : Json) → lookup_by (has_text name) rest ≡ Some w → HasDistinctNames w
       below name w e =
-          elim (cases_Bool (has_text name k)) [
+          elim (cases_Bool (bytes_eq (string_bytes k) name)) [
             | inl h ↦
                 let same : string_bytes k ≡ name = (bytes_eq-Decides (string_bytes k) name).0 h in
                 let none : lookup_by (has_text name) rest ≡ None = subst (λ n. lookup_by (has_text n) rest ≡ None) same absent_in_rest in
@@ -54,7 +55,7 @@ module _ (k : String Global) (v : Json) (rest : Pairs) (d : AreDistinctMembers (
       → ((other : List ℕ) → bytes_eq (string_bytes k) other ≡ false → lookup_by (has_text other) new ≡ lookup_by (has_text other) mine)
       → (name : List ℕ) (names : List (List ℕ)) → merged_member name names rest new ≡ merged_member name names ((k, v) ∷ rest) mine
   one_merged mine new here others name names =
-      elim (cases_Bool (has_text name k)) [
+      elim (cases_Bool (bytes_eq (string_bytes k) name)) [
         | inl h ↦
             let same : string_bytes k ≡ name = (bytes_eq-Decides (string_bytes k) name).0 h in
             subst (λ n. merged_member n names rest new ≡ merged_member n names ((k, v) ∷ rest) mine) same
@@ -70,12 +71,12 @@ module _ (k : String Global) (v : Json) (rest : Pairs) (d : AreDistinctMembers (
       → (name : List ℕ) → (lookup_by (has_text name) ((k, v) ∷ rest) ≡ None) ⊎ (lookup_by (has_text name) mine ≡ lookup_by (has_text name) old)
       → (lookup_by (has_text name) rest ≡ None) ⊎ (lookup_by (has_text name) new ≡ lookup_by (has_text name) old)
   still_untouched mine new old others name before =
-      elim (cases_Bool (has_text name k)) [
+      elim (cases_Bool (bytes_eq (string_bytes k) name)) [
         | inl h ↦ inl (subst (λ n. lookup_by (has_text n) rest ≡ None) ((bytes_eq-Decides (string_bytes k) name).0 h) absent_in_rest)
         | inr h ↦ by h before
       ]
     where
-      by : has_text name k ≡ false → (lookup_by (has_text name) ((k, v) ∷ rest) ≡ None) ⊎ (lookup_by (has_text name) mine ≡ lookup_by (has_text name) old)
+      by : bytes_eq (string_bytes k) name ≡ false → (lookup_by (has_text name) ((k, v) ∷ rest) ≡ None) ⊎ (lookup_by (has_text name) mine ≡ lookup_by (has_text name) old)
           → (lookup_by (has_text name) rest ≡ None) ⊎ (lookup_by (has_text name) new ≡ lookup_by (has_text name) old)
       by h (inl none) = inl (sym (look_text name k v rest false h) ∙ none)
       by h (inr same) = inr (others name h ∙ same)
@@ -83,7 +84,7 @@ module _ (k : String Global) (v : Json) (rest : Pairs) (d : AreDistinctMembers (
 -- A name that none of the members has is not the name of the first, and none of the others has it.
 pub absent_below : (k : String Global) (v : Json) (rest : Pairs) (name : List ℕ) → lookup_by (has_text name) ((k, v) ∷ rest) ≡ None → (bytes_eq (string_bytes k) name ≡ false) × (lookup_by (has_text name) rest ≡ None)
 absent_below k v rest name e =
-    elim (cases_Bool (has_text name k)) [
+    elim (cases_Bool (bytes_eq (string_bytes k) name)) [
       | inl h ↦ absurd (let f : Some v ≡ None = sym (look_text name k v rest true h) ∙ e in cc)
       | inr h ↦ (h, sym (look_text name k v rest false h) ∙ e)
     ]
@@ -128,7 +129,7 @@ pub one_failed : (k : String Global) (v : Json) (rest theirs mine new old : Pair
     → (lookup_by (has_text name) ((k, v) ∷ rest) ≡ None) ⊎ (lookup_by (has_text name) mine ≡ lookup_by (has_text name) old)
     → IsOldOrMerged (leaf_below name names new) (leaf_below name names old) (merged_member name names theirs old)
 one_failed k v rest theirs mine new old here others name names goes before =
-    elim (cases_Bool (has_text name k)) [
+    elim (cases_Bool (bytes_eq (string_bytes k) name)) [
       | inl h ↦
           let found : lookup_by (has_text name) ((k, v) ∷ rest) ≡ Some v = look_text name k v rest true h in
           let at = subst (λ n. IsOldOrMerged (leaf_below n names new) (leaf_below n names mine) (merged_below (merged_leaf names) names (Some v) (lookup_by (has_text n) mine))) ((bytes_eq-Decides (string_bytes k) name).0 h) (here names) in
@@ -161,7 +162,7 @@ pub member_merged : (m : Members) (text name : List ℕ) → text ≡ name → (
     → leaf_below name names (with_value_by (has_text text) m new).entries ≡ merged_below (merged_leaf names) names (Some value) (lookup_by (has_text name) m.entries)
 member_merged m text name same old new value at names h =
     subst (λ n. leaf_below n names (with_value_by (has_text text) m new).entries ≡ merged_below (merged_leaf names) names (Some value) (lookup_by (has_text n) m.entries)) same
-    (ap (option_and_then (leaf_at names)) (lookup_written string_eq string_equality (has_text text) (text_respects text) m new (index_from_value m.entries (index_by (has_text text) m.entries) old (sym at)))
+    (ap (option_and_then (leaf_at names)) (lookup_written string_eq string_equality (has_text text) (text_respects text) m new (index_from_value (has_text text) m.entries old (sym at)))
     ∙ h ∙ ap (merged_below (merged_leaf names) names (Some value)) at)
 
 -- The member of a text, after the merge of its value failed.
@@ -170,7 +171,7 @@ pub member_failed : (m : Members) (text name : List ℕ) → text ≡ name → (
 member_failed m text name same old new value at names (inr h) = inr (member_merged m text name same old new value at names h)
 member_failed m text name same old new value at names (inl h) =
     inl (subst (λ n. leaf_below n names (with_value_by (has_text text) m new).entries ≡ leaf_below n names m.entries) same
-    (ap (option_and_then (leaf_at names)) (lookup_written string_eq string_equality (has_text text) (text_respects text) m new (index_from_value m.entries (index_by (has_text text) m.entries) old (sym at)))
+    (ap (option_and_then (leaf_at names)) (lookup_written string_eq string_equality (has_text text) (text_respects text) m new (index_from_value (has_text text) m.entries old (sym at)))
     ∙ h ∙ ap (option_and_then (leaf_at names)) at))
 
 pub other_member_kept : (m : Members) (text name other : List ℕ) → text ≡ name → (new : Json) → bytes_eq name other ≡ false → lookup_by (has_text other) (with_value_by (has_text text) m new).entries ≡ lookup_by (has_text other) m.entries

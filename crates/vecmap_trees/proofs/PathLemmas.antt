@@ -1,11 +1,12 @@
 -- The value at a path after a change at a path. The idea: induction on the path, and at each name the laws of a write
 -- of a value in a map.
-use Rattle.std.specs.Prelude.{◌≡◌, ℕ, IsSome, List, [], ◌∷◌, None, Option, Some, String, bytes_eq, false, string_eq, refl}
+use Rattle.std.specs.Prelude.{◌≡◌, ℕ, Bool, IsSome, is_some, List, [], ◌∷◌, None, Option, Some, String, bytes_eq, false, string_eq, refl}
 use Rattle.std.specs.Option.{option_and_then, option_map, option_map_or}
 use Rattle.std.proofs.Common.{ap, sym, subst, ◌∙◌, inl, inr}
 use Rattle.std.specs.declared.alloc.Global.{Global}
 use Rattle.vecmap.specs.Contents.{with_value_by}
-use Rattle.vecmap.specs.Pairs.{has_text, index_by, lookup_by, value_at}
+use Rattle.vecmap.specs.Pairs.{has_text, index_by, lookup_by}
+use Rattle.vecmap_base.proofs.PairsLemmas.ByIndex.{is_some_lookup_by}
 use Rattle.vecmap_laws.proofs.Queries.{string_equality, text_respects}
 use Rattle.vecmap_laws.proofs.WriteLemmas.{lookup_written, lookup_written_other_text}
 use Rattle.vecmap_trees.specs.Trees.{ArePartedPaths, Members, at_path, at_path_below, changed_at, layer_with_members, member, members, members_of_layer, with_member}
@@ -14,9 +15,8 @@ use Rattle.vecmap_trees.specs.declared.Json.TheOpen.{Json-F, Object}
 use Rattle.vecmap_trees.specs.declared.Json.TheViews.{out-roll-Json}
 
 -- A value that is found has an index.
-pub index_from_value : {K V : Type 0} (l : List (K × V)) (found : Option ℕ) (v : V) → option_and_then (value_at l) found ≡ Some v → IsSome found
-index_from_value l None v e = absurd (let f : None ≡ Some v = e in cc)
-index_from_value l (Some i) v e = refl
+pub index_from_value : {K V : Type 0} (test : K → Bool) (l : List (K × V)) (v : V) → lookup_by test l ≡ Some v → IsSome (index_by test l)
+index_from_value test l v e = sym (is_some_lookup_by test l) ∙ ap is_some e
 
 -- After a change of a member, its name finds the changed value.
 pub changed_member_found : (name : List ℕ) (f : Json → Json) (m : Members) → lookup_by (has_text name) (with_member name f m).entries ≡ option_map f (lookup_by (has_text name) m.entries)
@@ -24,7 +24,7 @@ changed_member_found name f m = by (lookup_by (has_text name) m.entries) refl
   where
     by : (found : Option Json) → lookup_by (has_text name) m.entries ≡ found → lookup_by (has_text name) (option_map_or (λ w. with_value_by (has_text name) m (f w)) found m).entries ≡ option_map f found
     by None e = e
-    by (Some w) e = lookup_written string_eq string_equality (has_text name) (text_respects name) m (f w) (index_from_value m.entries (index_by (has_text name) m.entries) w e)
+    by (Some w) e = lookup_written string_eq string_equality (has_text name) (text_respects name) m (f w) (index_from_value (has_text name) m.entries w e)
 
 -- Another name finds what it found before.
 pub other_member_found : (name other : List ℕ) (f : Json → Json) (m : Members) → bytes_eq name other ≡ false → lookup_by (has_text other) (with_member name f m).entries ≡ lookup_by (has_text other) m.entries
