@@ -1,6 +1,6 @@
 -- What an interner holds under the id that it finds.
 use Rattle.std.specs.Prelude.{◌≡◌, ℕ, List, [], ◌∷◌, None, Some, String, option_map, string_bytes}
-use Rattle.std.proofs.Common.{ap, ◌∙◌}
+use Rattle.std.proofs.Common.{ap, sym, ◌∙◌}
 use Rattle.std.proofs.lemmas.List.Quantifiers.{position-Some}
 use Rattle.std.proofs.lemmas.Option.{slice_get-get_or}
 use Rattle.std.proofs.lemmas.Slice.Eq.{bytes_eq-Decides}
@@ -12,4 +12,4 @@ pub found_text : {A : Type 0} (texts : List (String A)) (text : List ℕ) (id : 
 found_text [] text id e = absurd (let n : None ≡ Some id = e in cc)
 found_text (x ∷ xs) text id e =
     let at = position-Some (has_text text) (x ∷ xs) id x e in
-    ap (option_map string_bytes) (slice_get-get_or (x ∷ xs) id x at.0) ∙ ap Some ((bytes_eq-Decides _ text).0 at.1)
+    ap (option_map string_bytes) (slice_get-get_or (x ∷ xs) id x at.0) ∙ ap Some (sym ((bytes_eq-Decides text _).0 at.1))

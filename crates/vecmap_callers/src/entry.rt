@@ -1,5 +1,5 @@
-//! Callers of the entries of a map, proved from the contracts of these calls alone. Each contract says what the map
-//! holds afterwards.
+//! Callers of the entries of a map. Each contract says what the map holds afterwards. An entry has an index, so some
+//! proofs use the definitions by the index.
 //!
 //! ```
 //! let mut map = vecmap!(alloc; 'a' => 1u64);
@@ -88,6 +88,7 @@ pub fn or_empty<K: Eq + Drop>(
 }
 
 /// Writes the value of a key, if the key is present.
+#[tactic(auto, using(vecmap_base::proofs::PairsLemmas::ByIndex::by_index))]
 pub fn write_if_there<K: Eq + Drop>(map: &mut VecMap<K, u64>, key: K, value: u64)
     ensures { map.new ≡ with_value_of K.eq map.old key value }
 {
@@ -100,6 +101,7 @@ pub fn write_if_there<K: Eq + Drop>(map: &mut VecMap<K, u64>, key: K, value: u64
 }
 
 /// Writes the value of a key twice, if the key is present: first through a reference, then as a whole.
+#[tactic(auto, using(vecmap_base::proofs::PairsLemmas::ByIndex::by_index))]
 pub fn write_twice(map: &mut VecMap<u64, u64>, key: u64)
     ensures { map.new ≡ with_value_of nat_eq map.old key 9 }
 {
@@ -110,6 +112,7 @@ pub fn write_twice(map: &mut VecMap<u64, u64>, key: u64)
 }
 
 /// Removes the pair of a key, or inserts one if the key is absent.
+#[tactic(auto, using(vecmap_base::proofs::PairsLemmas::ByIndex::by_index))]
 pub fn toggle<K: Eq + Drop>(map: &mut VecMap<K, u64>, key: K) -> Result<(), Refused<(K, u64)>>
     ensures present { IsSome (index_of K.eq map.old.entries key)
         → map.new.entries ≡ without_key K.eq map.old.entries key }
@@ -129,6 +132,7 @@ pub fn toggle<K: Eq + Drop>(map: &mut VecMap<K, u64>, key: K) -> Result<(), Refu
 }
 
 /// Removes the pair of a key, and moves the last pair into the gap.
+#[tactic(auto, using(vecmap_base::proofs::PairsLemmas::ByIndex::by_index))]
 pub fn take<K: Eq + Drop>(map: &mut VecMap<K, u64>, key: K) -> Option<(K, u64)>
     ensures pair { result ≡ lookup_pair K.eq map.old.entries key }
     ensures entries { map.new.entries ≡ swap_without_key K.eq map.old.entries key }
@@ -144,6 +148,7 @@ pub fn take<K: Eq + Drop>(map: &mut VecMap<K, u64>, key: K) -> Option<(K, u64)>
 }
 
 /// Gives a key the value 9, and removes its pair again.
+#[tactic(auto, using(vecmap_base::proofs::PairsLemmas::ByIndex::by_index))]
 pub fn put_and_remove(map: &mut VecMap<u64, u64>, key: u64) -> Result<u64, Refused<(u64, u64)>>
     ensures value { IfOk result (λ value. value ≡ 9) }
     ensures entries { OnOk result (map.new.entries ≡ without_key nat_eq map.old.entries key) }

@@ -1,4 +1,4 @@
-//! Callers of the calls that return a `&mut` reference to a value, proved from the contracts of these calls alone.
+//! Callers of the calls that return a `&mut` reference to a value.
 //!
 //! ```
 //! let mut map = vecmap!(alloc; 1 => 10, 2 => 20);
@@ -15,6 +15,7 @@ ghost use Rattle.vecmap.specs.Pairs.{index_of, value_at};
 use vecmap::VecMap;
 
 /// Writes the value of a key if the key is present, and returns whether it is.
+#[tactic(auto, using(vecmap_base::proofs::PairsLemmas::ByIndex::by_index))]
 pub fn write_if_there<K: Eq>(map: &mut VecMap<K, u32>, key: &K, value: u32) -> bool
     ensures written { map.new ≡ with_value_of K.eq map.old key.now value }
     ensures present { result ≡ is_some (index_of K.eq map.old.entries key.now) }
