@@ -28,7 +28,11 @@ pub fn option_or_default(options: &VecMap<String, u32>, name: &str, default: u32
 }
 
 /// Sets a header. It is found by its text.
-pub fn set_header(headers: &mut VecMap<String, String>, name: &str, value: String) -> Result<(), AllocError>
+pub fn set_header(
+    headers: &mut VecMap<String, String>,
+    name: &str,
+    value: String,
+) -> Result<(), AllocError>
     ensures found { OnOk result (lookup_by (has_text name.now) headers.new.entries ≡ Some value) }
     ensures err { OnErr result (headers.new ≡ headers.old) }
 {
