@@ -2,7 +2,7 @@
 ghost use Rattle.std.specs.Prelude.{◌≡◌, ◌-◌, ◌<◌, ◌↔◌, IfSome, IsSome, Some, length, option_map, slice_get};
 ghost use Rattle.std.specs.Borrow.{sem};
 ghost use Rattle.std.specs.Map.Iter.{deref_pair_mut};
-ghost use Rattle.std.specs.Option.{option_copied_mut};
+ghost use Rattle.std.specs.Option.{option_and_then, option_copied_mut};
 ghost use Rattle.std.specs.Map.{set_value};
 ghost use Rattle.vecmap_base.specs.Lookups.{UpdatesBy};
 ghost use Rattle.vecmap_base.specs.Pairs.{index_by, lookup_by, lookup_pair_by, value_at};
@@ -40,6 +40,8 @@ impl<K, V> VecMap<K, V> {
         ensures* writes_back { sem 𝓛 (lends_value_if_by K.row V.row self.entry
             (Q.equivalent query) result) }
         ensures value { option_copied_mut result ≡ lookup_by (Q.equivalent query) self.old.entries }
+        ensures stored { option_copied_mut result ≡ option_and_then (value_at self.old.entries)
+            (index_by (Q.equivalent query) self.old.entries) }
         ensures updates { (v : V) → IsSome (lookup_by (Q.equivalent query) self.old.entries)
             → UpdatesBy K.eq (Q.equivalent query) self.old.entries
             (set_value (Q.equivalent query) self.old.entries v) (Some v) }

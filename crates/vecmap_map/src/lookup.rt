@@ -1,7 +1,8 @@
 //! Lookups by query and by index.
 ghost use Rattle.std.specs.Prelude.{◌≡◌, ◌-◌, ◌<◌, ◌↔◌, IfSome, IsTrue, is_some, length, option_copied, option_map, slice_get};
 ghost use Rattle.std.specs.Map.Iter.{deref_pair};
-ghost use Rattle.vecmap_base.specs.Pairs.{HasDistinctKeys, has_text, index_by, lookup_by, lookup_pair_by};
+ghost use Rattle.std.specs.Option.{option_and_then};
+ghost use Rattle.vecmap_base.specs.Pairs.{HasDistinctKeys, has_text, index_by, lookup_by, lookup_pair_by, value_at};
 
 use crate::VecMap;
 use vecmap_base::{Equivalent, find_equivalent, keys_distinct};
@@ -89,6 +90,8 @@ impl<K, V> VecMap<K, V> {
     where
         K: Eq,
         ensures value { option_copied result ≡ lookup_by (Q.equivalent query) self.now.entries }
+        ensures stored { option_copied result ≡ option_and_then (value_at self.now.entries)
+            (index_by (Q.equivalent query) self.now.entries) }
     {
         let index = self.get_index_of(query)?;
         Some(&self.pairs[index].1)

@@ -9,6 +9,7 @@ returns-in-Some g c = (
   record {
     writes_back = tt;
     value = grind (arith, by_index);
+    stored = grind (arith, by_index);
     updates = λ v some. updates_write g.K.PartialEq.eq g.met.K.Eq.laws (g.Q.Equivalent.equivalent c.args.query) (g.met.Q.Equivalent.respects_eq c.args.query) c.args.self.now.entries v some;
     found = grind (arith, by_index);
   },
