@@ -62,6 +62,13 @@ def name_faults():
                 yield from (f"{path}:{item.line}: a clause names {it}, which no definition has" for it in rest)
 
 
+def comment_faults():
+    """Says which public functions have no comment. rustdoc takes a contract for one."""
+    for path in sources(*crates()):
+        bare = (it for it in functions(path) if it.is_public and not it.doc())
+        yield from (f"{path}:{it.line}: {it.name} has no comment" for it in bare)
+
+
 def build(crate, root, needs, work, out):
     """Makes the metadata of a crate, and its pages."""
     externs = [f"--extern={'std' if it == STD else it}={work}/lib{it}.rmeta" for it in needs]
@@ -208,7 +215,7 @@ def make(work, out):
             KNOWN.update((f"{module_of(path)}::{it[1]}", "".join(it[2][-1:])) for it in definitions(path))
         KNOWN.update((f"{public}::{name.split('::')[-1]}", KNOWN[name])
                      for public, own in passed_on(crate) for name in list(KNOWN) if name.startswith(f"{own}::"))
-    if faults := list(name_faults()):
+    if faults := [*name_faults(), *comment_faults()]:
         return faults, {}
     write(f"{work}/{STD}/lib.rs", read(f"{HERE}/std.rs") + f"pub mod specs {{\n{module_tree(words)}}}\n")
     build(STD, f"{STD}/lib.rs", [], work, out)
