@@ -215,6 +215,13 @@ def examples():
                     yield Statement("example", f"{crate_of(path)}: {name or os.path.basename(path)}", "", line)
 
 
+def stated():
+    """Yields the lemmas on examples of definitions."""
+    for path in files("crates/vecmap_examples/proofs/Definitions/*.antt"):
+        for name, text in declarations(path).items():
+            yield Statement("example", f"vecmap_examples: {module_of(path)}.{name}", "", " ".join(text.split()))
+
+
 def runs():
     """Yields the lines that programs read and print."""
     for path in files("crates/*/stdin", "crates/*/stdout"):
@@ -238,7 +245,7 @@ def lists():
     yield from (Statement("list", "steps of .ci/run", "", name) for step in steps for it in step for name in it.split())
 
 
-READERS = (calls, types, impls, definitions, lemmas, exports, rows, tests, examples, runs, edits, lists)
+READERS = (calls, types, impls, definitions, lemmas, exports, rows, tests, examples, stated, runs, edits, lists)
 
 
 def state():

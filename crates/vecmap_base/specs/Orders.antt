@@ -42,6 +42,7 @@ AnswersOnPair {F} {K} {V} {R} g h f = (k : Bor K) (v : Bor V) (r : R) → g.post
 abbrev pub AnswersOnPairs : {F K V R : Type 0} → Shared F (Bor K × (Bor V × Unit {0})) R → (K × V → R) → F → List (K × V) → Type 0
 AnswersOnPairs {F} {K} {V} {R} g h f l = (k : Bor K) (v : Bor V) (r : R) → Contains l (k.now, v.now) → g.post f (k, (v, tt)) r → r ≡ h (k.now, v.now)
 
+-- Example: `side true ≡ Less`.
 -- How an item compares with a partition point: an item that passes is less, and an item that fails is greater.
 abbrev pub side : Bool → Ordering
 side passes = cond passes Less Greater

@@ -3,23 +3,24 @@ use Rattle.std.specs.Prelude.{ℕ, ◌+◌, ◌-◌, ◌*◌, ◌/◌, Bool, Lis
 use Rattle.std.specs.Option.{option_map_or}
 use Rattle.vecmap_base.specs.Items.{add, item_index}
 
--- Example: `cost 5` is 10.
+-- Example: `cost 5 ≡ 10`.
 -- The most comparisons that `n` items may need: one for each two of them.
 abbrev pub cost : ℕ → ℕ
 cost n = n * (n - 1) / 2
 
 module _ {T : Type 0} (eq : T → T → Bool) where
-  -- Example: of `2` in `[1,2,3]`: 2; of `4`: 3.
+  -- Example: `search_cost nat_eq [1, 2, 3] 2 ≡ 2`; `search_cost nat_eq [1, 2, 3] 4 ≡ 3`.
   -- The comparisons of a search for `x`: with each element of `s` up to the first equal one, or with all of `s`.
   abbrev pub search_cost : List T → T → ℕ
   search_cost s x = option_map_or (λ i. i + 1) (item_index eq s x) (length s)
 
-  -- Example: `comparisons` of `[1,2,1]`: 0, 1 and 1, so 2.
+  -- Example: `adds_cost nat_eq [1] [2, 1] ≡ 2`.
   -- The comparisons of additions in order: each of `xs` is searched for in what `s` has become by then.
   abbrev pub adds_cost : List T → List T → ℕ
   adds_cost s [] = 0
   adds_cost s (x ∷ xs) = search_cost s x + adds_cost (add eq s x) xs
 
+  -- Example: `comparisons nat_eq [1, 2, 1] ≡ 2`.
   -- The comparisons of a removal of duplicates: each of `xs` is searched for among the kept ones before it.
   abbrev pub comparisons : List T → ℕ
   comparisons xs = adds_cost [] xs

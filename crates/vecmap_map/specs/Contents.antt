@@ -1,4 +1,5 @@
--- What a contract sees of a `VecMap`, and what calls say of its capacity.
+-- What a contract sees of a `VecMap`, and what calls say of its capacity. In the examples, `map_of l n` is the map with the
+-- pairs `l` and the capacity `n`.
 use Rattle.std.specs.Prelude.{◌≡◌, ◌+◌, ◌<◌, ◌≤◌, ℕ, Bool, IsOk, IsSome, List, None, OnErr, OnOk, Option, Result, length}
 use Rattle.std.specs.List.{refill}
 use Rattle.std.specs.Map.{set_value}
@@ -12,44 +13,47 @@ pub record Contents (K V : Type 0) : Type 0 where
   pub capacity : ℕ
 
 module _ {K V : Type 0} where
-  -- Example: `[]` and `[(1,a)]` with capacity 4: `[]` with capacity 4.
+  -- Example: `with_entries (map_of [] 4) [(k, a)] ≡ map_of [(k, a)] 4`.
   -- The map m with other pairs.
   abbrev pub with_entries : Contents K V → List (K × V) → Contents K V
   with_entries m l = record { entries = l; capacity = m.capacity }
 
-  -- Example: `[(1,c)]` over `[(1,a), (2,b)]`: `[(1,c), (2,b)]`.
+  -- Example: `with_written (map_of [(j, a), (k, b)] 4) [(j, c)] ≡ map_of [(j, c), (k, b)] 4`.
   -- The map m with the pairs l over its own, as many as it has.
   abbrev pub with_written : Contents K V → List (K × V) → Contents K V
   with_written m l = with_entries m (refill (length m.entries) m.entries l)
 
-  -- Example: b at 0 of `[(1,a)]`: `[(1,b)]`, with the same capacity.
+  -- Example: `with_value_at (map_of [(k, a)] 4) 0 b ≡ map_of [(k, b)] 4`.
   -- The map m with v as the value at the index i.
   abbrev pub with_value_at : Contents K V → ℕ → V → Contents K V
   with_value_at m i v = with_entries m (with_value m.entries i v)
 
+  -- Example: `with_pair_at (map_of [(j, a)] 4) 0 (k, b) ≡ map_of [(k, b)] 4`.
   -- The map m with the pair p at the index i.
   abbrev pub with_pair_at : Contents K V → ℕ → K × V → Contents K V
   with_pair_at m i p = with_entries m (with_pair m.entries i p.0 p.1)
 
+  -- Example: `with_pair_by (nat_eq 1) (map_of [(1, a)] 4) (2, b) ≡ map_of [(2, b)] 4`.
   -- The map m with the pair p instead of the first pair whose key passes the test, if there is one.
   abbrev pub with_pair_by : (K → Bool) → Contents K V → K × V → Contents K V
   with_pair_by test m p = option_map_or (λ i. with_pair_at m i p) (index_by test m.entries) m
 
+  -- Example: `with_value_by (nat_eq 1) (map_of [(1, a)] 4) b ≡ map_of [(1, b)] 4`.
   -- The map m with v as the value of the first key that passes the test, if there is one.
   abbrev pub with_value_by : (K → Bool) → Contents K V → V → Contents K V
   with_value_by test m v = with_entries m (set_value test m.entries v)
 
-  -- Example: b for `1y` in `[(1x,a)]`: `[(1x,b)]`.
+  -- Example: `with_value_of eq (map_of [(1x, a)] 4) 1y b ≡ map_of [(1x, b)] 4`.
   -- The map m with v as the value of the first key that is equal to k, if there is one.
   abbrev pub with_value_of : (K → K → Bool) → Contents K V → K → V → Contents K V
   with_value_of eq m k v = with_value_by (eq k) m v
 
-  -- Example: `[(1,a)]` with capacity 2: one more fits, two do not.
+  -- Example: `HasRoom (map_of [(k, a)] 2) 1`; `¬ (HasRoom (map_of [(k, a)] 2) 2)`.
   -- Another n pairs fit before the vector grows.
   abbrev pub HasRoom : Contents K V → ℕ → Type 0
   HasRoom m n = length m.entries + n ≤ m.capacity
 
-  -- Example: `[(1,a)]` with capacity 1.
+  -- Example: `IsFull (map_of [(k, a)] 1)`; `¬ (IsFull (map_of [(k, a)] 2))`.
   -- The map is full: no more pairs fit before the vector grows.
   abbrev pub IsFull : Contents K V → Type 0
   IsFull m = length m.entries ≡ m.capacity
@@ -65,12 +69,14 @@ module _ {K V : Type 0} where
     pub unchanged : HasRoom old additional → new ≡ old
     pub err : OnErr result (new ≡ old)
 
+  -- Example: `KeepsRoomAt None (map_of [(j, a)] 1) (map_of [(j, a), (k, b)] 4)`.
   -- The capacity does not shrink, and stays if the key has an index or if there is spare capacity for one more pair.
   pub record KeepsRoomAt (index : Option ℕ) (old new : Contents K V) : Type 0 where
     pub capacity : old.capacity ≤ new.capacity
     pub present : IsSome index → new.capacity ≡ old.capacity
     pub spare : HasRoom old 1 → new.capacity ≡ old.capacity
 
+  -- Example: `RefusesAt None (map_of [(k, a)] 1) (map_of [(k, a)] 1)`.
   -- Memory ran out for a key: the map is unchanged, the key has no index, and the map is full.
   pub record RefusesAt (index : Option ℕ) (old new : Contents K V) : Type 0 where
     pub unchanged : new ≡ old
@@ -78,12 +84,12 @@ module _ {K V : Type 0} where
     pub full : IsFull old
 
 module _ {K V : Type 0} (eq : K → K → Bool) where
-  -- Example: a new key with capacity 4 and 3 pairs: capacity 4.
+  -- Example: `KeepsRoom nat_eq (map_of [(1, a)] 2) 2 (map_of [(1, a), (2, b)] 2)`.
   -- The capacity does not shrink, and stays if the key is present or if there is spare capacity for one more pair.
   abbrev pub KeepsRoom : Contents K V → K → Contents K V → Type 0
   KeepsRoom old k new = KeepsRoomAt (index_of eq old.entries k) old new
 
-  -- Example: of `2` on `[(1,a)]` with capacity 1: the same map.
+  -- Example: `Refuses nat_eq (map_of [(1, a)] 1) 2 (map_of [(1, a)] 1)`.
   -- Memory ran out for the insertion of `k`: nothing has changed, the key is new, and the map is full.
   abbrev pub Refuses : Contents K V → K → Contents K V → Type 0
   Refuses old k new = RefusesAt (index_of eq old.entries k) old new

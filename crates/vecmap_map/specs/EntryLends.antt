@@ -21,7 +21,7 @@ module _ (K V : RattleType) where
   abbrev pub entry_lends_or_stays : {E : Type 0} → Entry K.Denot V.Denot → Result (MutBor V.Denot) E → Fml
   entry_lends_or_stays e r = LendsSoOk (the_row K V) V (entry_ref e) r (λ n v. (n.entries ≡ entries_with e v) × KeepsRoomAt (entry_index_of e) (entry_map e) n) (λ n. n ≡ entry_map e)
 
-  -- Example: `insert_entry`.
+  -- Example: a call of `insert_entry`.
   -- On `Ok` the returned entry holds the map of e. On `Err` the map stays.
   abbrev pub entry_passes : {E : Type 0} → Entry K.Denot V.Denot → Result (OccupiedEntry K.Denot V.Denot) E → Fml
   entry_passes e r = RestsIfErr (the_row K V) (entry_ref e) (λ o. o.map.ghost_name) r (λ n. n ≡ entry_map e)

@@ -8,7 +8,7 @@ use Rattle.vecmap_base.specs.Pairs.{puts}
 use Rattle.vecmap_map.specs.Contents.{Contents, HasRoom, Refuses}
 
 module _ {K V : Type 0} where
-  -- Example: by `Puts eq`, `[]` with capacity 2, `[(1,a)]`, `[(1,a)]` with capacity 2 or more.
+  -- Example: `Grows (Puts nat_eq) (map_of [] 2) [(1, a)] (map_of [(1, a)] 2)`.
   -- Insertions of items turn old into new, as `gives` says, and the capacity is not lower.
   abbrev pub Grows : {A : Type 0} → (Contents K V → List A → Contents K V → Type 0) → Contents K V → List A → Contents K V → Type 0
   Grows gives old items new = gives old items new × (old.capacity ≤ new.capacity)
@@ -25,7 +25,7 @@ module _ {K V U T A E : Type 0} (becomes : U → T → Type 0) (steps : T → Op
     pub late_err : 0 < length old.entries → HasRoomForHalf becomes left iter (HasRoom old) → OnErr result (StopsAt becomes steps iter (refuses old new))
 
 module _ {K V : Type 0} (eq : K → K → Bool) where
-  -- Example: `[(1x,a)]`, `[(1y,b), (2,c)]`, `[(1x,b), (2,c)]`.
+  -- Example: `Puts eq (map_of [(1x, a)] 4) [(1y, b), (2x, c)] (map_of [(1x, b), (2x, c)] 4)`.
   -- Insertions of the pairs, in order, turn old into new.
   abbrev pub Puts : Contents K V → List (K × V) → Contents K V → Type 0
   Puts old pairs new = new.entries ≡ puts eq old.entries pairs
@@ -35,7 +35,7 @@ module _ {K V : Type 0} (eq : K → K → Bool) where
   abbrev pub PutsClones : {A : Type 0} → (K → K → Type 0) → (V → V → Type 0) → (A → K × V) → Contents K V → List A → Contents K V → Type 0
   PutsClones key_clone value_clone view old items new = (clones : List (K × V)) × ArePairClones key_clone value_clone (map view items) clones × Puts old clones new
 
-  -- Example: from `[(1,a)]` with capacity 2, of `(2,b)` and then `(3,c)`: `[(1,a), (2,b)]`.
+  -- Example: `RefusesAfter nat_eq (map_of [(1, a)] 2) (map_of [(1, a), (2, b)] 2) [(2, b)] (3, c)`.
   -- The pairs were inserted, and then memory ran out for `next`.
   abbrev pub RefusesAfter : Contents K V → Contents K V → List (K × V) → K × V → Type 0
   RefusesAfter old new pairs next = Puts old pairs new × Refuses eq new next.0 new

@@ -1,4 +1,5 @@
--- What a contract sees of a `VecSet`, and what calls say of its capacity.
+-- What a contract sees of a `VecSet`, and what calls say of its capacity. In the examples, `set_of l n` is the set with the
+-- elements `l` and the capacity `n`.
 use Rattle.std.specs.Prelude.{◌≡◌, ◌+◌, ◌<◌, ◌≤◌, ℕ, Bool, IsOk, IsTrue, List, OnErr, OnOk, Result, false, length}
 use Rattle.std.specs.Set.{is_member}
 
@@ -8,14 +9,17 @@ pub record Contents (T : Type 0) : Type 0 where
   pub capacity : ℕ
 
 module _ {T : Type 0} where
+  -- Example: `with_elements (set_of [] 4) [a] ≡ set_of [a] 4`.
   -- The set s with other elements.
   abbrev pub with_elements : Contents T → List T → Contents T
   with_elements s l = record { elements = l; capacity = s.capacity }
 
+  -- Example: `HasRoom (set_of [a] 2) 1`; `¬ (HasRoom (set_of [a] 2) 2)`.
   -- Another n elements fit before the vector grows.
   abbrev pub HasRoom : Contents T → ℕ → Type 0
   HasRoom s n = length s.elements + n ≤ s.capacity
 
+  -- Example: `IsFull (set_of [a] 1)`; `¬ (IsFull (set_of [a] 2))`.
   -- The set is full: no more elements fit before the vector grows.
   abbrev pub IsFull : Contents T → Type 0
   IsFull s = length s.elements ≡ s.capacity
@@ -31,12 +35,14 @@ module _ {T : Type 0} where
     pub err : OnErr result (new ≡ old)
 
 module _ {T : Type 0} (eq : T → T → Bool) where
+  -- Example: `KeepsRoom nat_eq (set_of [1] 2) 2 (set_of [1, 2] 2)`.
   -- The capacity does not shrink, and stays if an equal element is present or if one more element fits.
   pub record KeepsRoom (old : Contents T) (x : T) (new : Contents T) : Type 0 where
     pub capacity : old.capacity ≤ new.capacity
     pub present : IsTrue (is_member eq old.elements x) → new.capacity ≡ old.capacity
     pub spare : HasRoom old 1 → new.capacity ≡ old.capacity
 
+  -- Example: `Refuses nat_eq (set_of [1] 1) 2 (set_of [1] 1)`.
   -- Memory ran out for the element x: the set is unchanged, no equal element is present, and the set is full.
   pub record Refuses (old : Contents T) (x : T) (new : Contents T) : Type 0 where
     pub unchanged : new ≡ old

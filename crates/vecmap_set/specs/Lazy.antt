@@ -21,19 +21,22 @@ pub record Parts (A B : Type 0) : Type 0 where
   pub second : B
 
 module _ {T : Type 0} where
-  -- Example: of `[1]` and `[2,3]`: `[1]`.
+  -- Example: `shorter [a] [b, c] ≡ [a]`; `shorter [a] [b] ≡ [a]`.
   -- The shorter of two lists, or the first if neither is shorter.
   abbrev pub shorter : List T → List T → List T
   shorter a b = if nat_lt (length b) (length a) then b else a
 
+  -- Example: `not_shorter [a] [b, c] ≡ [b, c]`.
   -- The one that is not `shorter`.
   abbrev pub not_shorter : List T → List T → List T
   not_shorter a b = if nat_lt (length b) (length a) then a else b
 
+  -- Example: `longer [a] [b, c] ≡ [b, c]`; `longer [a] [b] ≡ [a]`.
   -- The longer of two lists, or the first if neither is longer.
   abbrev pub longer : List T → List T → List T
   longer a b = if nat_lt (length a) (length b) then b else a
 
+  -- Example: `not_longer [a] [b, c] ≡ [a]`.
   -- The one that is not `longer`.
   abbrev pub not_longer : List T → List T → List T
   not_longer a b = if nat_lt (length a) (length b) then a else b
@@ -46,12 +49,12 @@ module _ {T : Type 0} where
   abbrev pub union_parts : List T → List T → Parts (List T) (Sift T)
   union_parts a b = record { first = a; second = sift_of b a }
 
-  -- Example: `intersection` of `[1,2,3]` and `[3,4]`: `[3,4]`, looked up in `[1,2,3]`.
+  -- Example: `sift_of_shorter [a, b, c] [c, d] ≡ sift_of [c, d] [a, b, c]`.
   -- The elements of the shorter list, each to be looked up in the other.
   abbrev pub sift_of_shorter : List T → List T → Sift T
   sift_of_shorter a b = sift_of (shorter a b) (not_shorter a b)
 
-  -- Example: `union` of `[1]` and `[2,3]`: `[2,3]`, then `[1]`, looked up in `[2,3]`.
+  -- Example: `longer_first [a] [b, c] ≡ union_parts [b, c] [a]`.
   -- All of the longer list, and then the elements of the other, each to be looked up in the longer.
   abbrev pub longer_first : List T → List T → Parts (List T) (Sift T)
   longer_first a b = union_parts (longer a b) (not_longer a b)
@@ -60,7 +63,7 @@ module _ {T : Type 0} where
   abbrev pub symmetric_parts : List T → List T → Parts (Sift T) (Sift T)
   symmetric_parts a b = record { first = sift_of a b; second = sift_of b a }
 
--- Example: 5 of 5.
+-- Example: `IsBound (Some 5) 5`.
 -- The bound r is n, or none if n is greater than `usize::MAX`.
 abbrev pub IsBound : Option ℕ → ℕ → Type 0
 IsBound r n = SomeIff r (n < 2 ^ 64) n
@@ -78,7 +81,7 @@ module _ {S T : Type 0} (rest : S → List T) (next next_back : S → Option (Bo
   LendsAll s r = (r ≡ s) × (length (rest r) < 2 ^ 64) × YieldsRefsInOrder next rest × YieldsRefsInReverse next_back rest
 
 module _ {T : Type 0} (keeps : List T → T → Bool) where
-  -- Example: of `[1,2]`, kept by what `[2]` lacks: `[1]`.
+  -- Example: `sift_rest (lacks_item nat_eq) (sift_of [1, 2] [2]) ≡ [1]`.
   -- The elements that are not yet visited and are kept.
   abbrev pub sift_rest : Sift T → List T
   sift_rest s = filter (keeps s.other) s.unwalked
@@ -98,11 +101,12 @@ module _ {T : Type 0} (keeps : List T → T → Bool) where
   SiftsAll = LendsAll sift_rest SiftsFirst SiftsLast
 
 module _ {T : Type 0} (eq : T → T → Bool) where
-  -- Example: `3` of `[1,2]`: true.
+  -- Example: `lacks_item nat_eq [1, 2] 3 ≡ true`.
   -- Whether no element of s is equal to x.
   abbrev pub lacks_item : List T → T → Bool
   lacks_item s x = not (is_member eq s x)
 
+  -- Example: `union_rest nat_eq (union_parts [1, 2] [2, 3]) ≡ [1, 2, 3]`.
   -- The elements of one list, and then the elements of another that are not among them, as far as they are left.
   abbrev pub union_rest : Parts (List T) (Sift T) → List T
   union_rest s = s.first ++ sift_rest lacks_item s.second
@@ -119,6 +123,7 @@ module _ {T : Type 0} (eq : T → T → Bool) where
   abbrev pub JoinsAll : Parts (List T) (Sift T) → Parts (List T) (Sift T) → Type 0
   JoinsAll = LendsAll union_rest JoinsFirst JoinsLast
 
+  -- Example: `symmetric_rest nat_eq (symmetric_parts [1, 2] [2, 3]) ≡ [1, 3]`.
   -- The elements of either list that are not in the other, as far as they are left.
   abbrev pub symmetric_rest : Parts (Sift T) (Sift T) → List T
   symmetric_rest s = sift_rest lacks_item s.first ++ sift_rest lacks_item s.second
@@ -135,6 +140,7 @@ module _ {T : Type 0} (eq : T → T → Bool) where
   abbrev pub ExcludesAll : Parts (Sift T) (Sift T) → Parts (Sift T) (Sift T) → Type 0
   ExcludesAll = LendsAll symmetric_rest ExcludesFirst ExcludesLast
 
+  -- Example: `presence nat_eq true [1, 2] 2 ≡ true`; `presence nat_eq false [1, 2] 2 ≡ false`.
   -- The test of an element against the other list: whether it is present in it, or whether it is not.
   abbrev pub presence : Bool → List T → T → Bool
   presence within = if within then is_member eq else lacks_item

@@ -9,12 +9,12 @@ use Rattle.vecmap_base.specs.Items.{only}
 use Rattle.vecmap_set.specs.Contents.{Contents}
 
 module _ {T : Type 0} (eq : T → T → Bool) where
-  -- Example: of `[1,2]` and `[3,2]`: `[1,2,3]`.
+  -- Example: `union_of nat_eq [1, 2] [3, 2] ≡ [1, 2, 3]`.
   -- All of a, and then the elements of b that are not in a.
   abbrev pub union_of : List T → List T → List T
   union_of a b = a ++ only eq b a
 
-  -- Example: of `[1,2]` and `[3,2]`: `[1,3]`.
+  -- Example: `symmetric_difference_of nat_eq [1, 2] [3, 2] ≡ [1, 3]`.
   -- The elements of a that are not in b, and then the elements of b that are not in a.
   abbrev pub symmetric_difference_of : List T → List T → List T
   symmetric_difference_of a b = only eq a b ++ only eq b a

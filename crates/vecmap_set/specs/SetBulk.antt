@@ -15,19 +15,22 @@ module _ {T U S A E : Type 0} (becomes : U → S → Type 0) (steps : S → Opti
     pub err : OnErr result (StopsAt becomes steps iter (refuses old new))
 
 module _ {T : Type 0} (eq : T → T → Bool) where
+  -- Example: `Adds nat_eq (set_of [1] 4) [2, 1, 3] (set_of [1, 2, 3] 4)`.
   -- The new set has the elements of the old one, to which the items were added in order.
   abbrev pub Adds : Contents T → List T → Contents T → Type 0
   Adds old items new = new.elements ≡ adds eq old.elements items
 
-  -- Example: to `[1]`, then references to `[2, 1, 3]`: `[1,2,3]`.
+  -- Example: `AddsCopies nat_eq suc (set_of [1] 4) [1, 0] (set_of [1, 2] 4)`.
   -- Copies of the elements that `view` sees in the items were added, in order.
   abbrev pub AddsCopies : {A : Type 0} → (A → T) → Contents T → List A → Contents T → Type 0
   AddsCopies view old items new = Adds old (map view items) new
 
+  -- Example: `GrowsDistinct nat_eq (Adds nat_eq) (set_of [1] 2) [2] (set_of [1, 2] 2)`.
   -- Items turn the old set into the new one, as `gives` says. No elements are equal, and the capacity is not lower.
   abbrev pub GrowsDistinct : {A : Type 0} → (Contents T → List A → Contents T → Type 0) → Contents T → List A → Contents T → Type 0
   GrowsDistinct gives old items new = gives old items new × IsDistinct eq new.elements × (old.capacity ≤ new.capacity)
 
+  -- Example: `RefusesAfter nat_eq (set_of [1] 2) (set_of [1, 2] 2) [2] 3`.
   -- The items were added, and then memory ran out for `next`.
   abbrev pub RefusesAfter : Contents T → Contents T → List T → T → Type 0
   RefusesAfter old new items next = Adds old items new × Refuses eq new next new
