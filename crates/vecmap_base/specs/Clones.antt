@@ -3,22 +3,22 @@ use Rattle.std.specs.Prelude.{List, None, Option, Some, ⊤}
 use Rattle.std.specs.List.{AllZip}
 use Rattle.std.specs.declared.clone.Clone as clone
 
--- Example: of texts: `("a","x")` and a pair of copies of both.
+-- Example: `IsPairClone copy copy (j, a) (j, a)`; `¬ (IsPairClone copy copy (Some j, a) (None, a))`.
 -- The second pair has a clone of the key and a clone of the value of the first.
 abbrev pub IsPairClone : {K V : Type 0} → (K → K → Type 0) → (V → V → Type 0) → K × V → K × V → Type 0
 IsPairClone key_clone value_clone p q = key_clone p.0 q.0 × value_clone p.1 q.1
 
--- Example: of texts: `["a","b"]` and copies of both, in that order.
+-- Example: `AreClones copy [a, b] [a, b]`; `¬ (AreClones copy [a] [])`.
 -- At each index, the second list holds a clone of what the first list holds.
 abbrev pub AreClones : {T : Type 0} → (T → T → Type 0) → List T → List T → Type 0
 AreClones is_clone l m = AllZip is_clone l m
 
--- Example: of numbers: `[(1,2)]` and `[(1,2)]`.
+-- Example: `ArePairClones copy copy [(j, a), (k, b)] [(j, a), (k, b)]`.
 -- At each index, the second list has clones of the key and of the value of the pair of the first list.
 abbrev pub ArePairClones : {K V : Type 0} → (K → K → Type 0) → (V → V → Type 0) → List (K × V) → List (K × V) → Type 0
 ArePairClones key_clone value_clone l m = AreClones (IsPairClone key_clone value_clone) l m
 
--- Example: none and none; `"a"` and a copy of it; never `"a"` and none.
+-- Example: `IsCloneOf copy (Some a) (Some a)`; `¬ (IsCloneOf copy (Some a) None)`.
 -- Both options are none, or the second holds a clone of what the first holds.
 abbrev pub IsCloneOf : {T : Type 0} → (T → T → Type 0) → Option T → Option T → Type 0
 IsCloneOf is_clone None None = ⊤

@@ -50,12 +50,12 @@ module _ {S A X : Type 0} (shows : A → X) (rest : S → List X) where
   abbrev pub ShowsAllOf : List X → S → Type 0
   ShowsAllOf l s = (rest s ≡ l) × (length l < 2 ^ 64) × EveryRun TakesFirstOf (λ p. ItemsMapTo p shows (rest p.from)) × EveryRun TakesLastOf (λ p. ItemsMapToReversed p shows (rest p.from))
 
--- Example: `IsHintFor 2 (0, Some 3)`.
+-- Example: `IsHintFor 2 (0, Some 3)`; `¬ (IsHintFor 2 (3, None))`; `¬ (IsHintFor 2 (0, Some 1))`.
 -- Both bounds of a `size_hint` allow for `n` items, as the trait `Iterator` requires.
 abbrev pub IsHintFor : ℕ → ℕ × Option ℕ → Type 0
 IsHintFor n hint = IsWithinCount hint.0 (at_most n) × IfSome hint.1 (UpTo (at_most n))
 
--- Example: `HintsExactly 2 (2, Some 2)`.
+-- Example: `HintsExactly 2 (2, Some 2)`; `¬ (HintsExactly 2 (0, Some 3))`.
 -- `hint` is the exact `size_hint` of an iterator that has `n` items left: both bounds are `n`.
 pub record HintsExactly (n : ℕ) (hint : ℕ × Option ℕ) : Type 0 where
   pub bounds : IsHintFor n hint

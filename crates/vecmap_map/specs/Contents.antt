@@ -70,6 +70,8 @@ module _ {K V : Type 0} where
     pub err : OnErr result (new ≡ old)
 
   -- Example: `KeepsRoomAt None (map_of [(j, a)] 1) (map_of [(j, a), (k, b)] 4)`.
+  -- Example: `¬ (KeepsRoomAt None (map_of [(j, a)] 2) (map_of [(j, a), (k, b)] 4))`.
+  -- Example: `¬ (KeepsRoomAt (Some 0) (map_of [(k, a)] 1) (map_of [(k, b)] 2))`.
   -- The capacity does not shrink, and stays if the key has an index or if there is spare capacity for one more pair.
   pub record KeepsRoomAt (index : Option ℕ) (old new : Contents K V) : Type 0 where
     pub capacity : old.capacity ≤ new.capacity
@@ -77,6 +79,9 @@ module _ {K V : Type 0} where
     pub spare : HasRoom old 1 → new.capacity ≡ old.capacity
 
   -- Example: `RefusesAt None (map_of [(k, a)] 1) (map_of [(k, a)] 1)`.
+  -- Example: `¬ (RefusesAt None (map_of [(k, a)] 2) (map_of [(k, a)] 2))`.
+  -- Example: `¬ (RefusesAt (Some 0) (map_of [(k, a)] 1) (map_of [(k, a)] 1))`.
+  -- Example: `¬ (RefusesAt None (map_of [(k, a)] 1) (map_of [] 1))`.
   -- Memory ran out for a key: the map is unchanged, the key has no index, and the map is full.
   pub record RefusesAt (index : Option ℕ) (old new : Contents K V) : Type 0 where
     pub unchanged : new ≡ old
@@ -85,11 +90,13 @@ module _ {K V : Type 0} where
 
 module _ {K V : Type 0} (eq : K → K → Bool) where
   -- Example: `KeepsRoom nat_eq (map_of [(1, a)] 2) 2 (map_of [(1, a), (2, b)] 2)`.
+  -- Example: `¬ (KeepsRoom nat_eq (map_of [(1, a)] 1) 1 (map_of [(1, b)] 2))`.
   -- The capacity does not shrink, and stays if the key is present or if there is spare capacity for one more pair.
   abbrev pub KeepsRoom : Contents K V → K → Contents K V → Type 0
   KeepsRoom old k new = KeepsRoomAt (index_of eq old.entries k) old new
 
   -- Example: `Refuses nat_eq (map_of [(1, a)] 1) 2 (map_of [(1, a)] 1)`.
+  -- Example: `¬ (Refuses nat_eq (map_of [(1, a)] 1) 1 (map_of [(1, a)] 1))`.
   -- Memory ran out for the insertion of `k`: nothing has changed, the key is new, and the map is full.
   abbrev pub Refuses : Contents K V → K → Contents K V → Type 0
   Refuses old k new = RefusesAt (index_of eq old.entries k) old new

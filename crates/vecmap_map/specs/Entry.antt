@@ -1,4 +1,6 @@
--- What contracts see of an entry: the map, the key that was passed to `entry`, and the index of that key.
+-- What contracts see of an entry: the map, the key that was passed to `entry`, and the index of that key. In the examples,
+-- `r` is a reference to a map. `occupied r k p` is the entry of the key `k` in a map of the pair `p`, and `vacant r k l` in a
+-- map of the pairs `l`.
 use Rattle.std.specs.Prelude.{◌≡◌, ℕ, List, [], ◌∷◌, ◌++◌, Option, None, Some, length, remove, slice_get, unwrap_or}
 use Rattle.std.specs.Borrow.{MutBor}
 use Rattle.std.specs.Option.{option_and_then, option_map_or}
@@ -17,47 +19,49 @@ module _ {K V : Type 0} where
   entry_ref (Occupied o) = o.map
   entry_ref (Vacant e) = e.map
 
-  -- Example: of `1y` on `[(1x,7)]`: that map.
+  -- Example: `entry_map (occupied r 1y (1x, a)) ≡ map_of [(1x, a)] 1`.
   -- The map, as the entry holds it.
   abbrev pub entry_map : Entry K V → Contents K V
   entry_map e = (entry_ref e).now
 
+  -- Example: `entry_key (occupied r 1y (1x, a)) ≡ 1y`; `entry_key (vacant r 1y []) ≡ 1y`.
   -- The key that was passed to `entry`.
   abbrev pub entry_key : Entry K V → K
   entry_key (Occupied o) = o.key
   entry_key (Vacant e) = e.key
 
-  -- Example: of `1y` on `[(1x,7)]`: 0; on `[]`: none.
+  -- Example: `entry_index_of (occupied r 1y (1x, a)) ≡ Some 0`; `entry_index_of (vacant r 1y []) ≡ None`.
   -- The index of the key, if it has one.
   abbrev pub entry_index_of : Entry K V → Option ℕ
   entry_index_of (Occupied o) = Some o.index
   entry_index_of (Vacant e) = None
 
-  -- Example: of `1y` on `[(1x,7)]`: 0; on `[]`: 0.
+  -- Example: `entry_index (occupied r 1y (1x, a)) ≡ 0`; `entry_index (vacant r 1y [(2x, a)]) ≡ 1`.
   -- The index of the key, or the index that it will get.
   abbrev pub entry_index : Entry K V → ℕ
   entry_index e = unwrap_or (entry_index_of e) (length (entry_map e).entries)
 
-  -- Example: of `1y` on `[(1x,7)]`: 7; on `[]`: none.
+  -- Example: `entry_value (occupied r 1y (1x, a)) ≡ Some a`; `entry_value (vacant r 1y []) ≡ None`.
   -- The value of the key, if it has one.
   abbrev pub entry_value : Entry K V → Option V
   entry_value e = option_and_then (value_at (entry_map e).entries) (entry_index_of e)
 
-  -- Example: of `1y` on `[(1x,7)]`: `(1x,7)`.
+  -- Example: `entry_pair (occupied r 1y (1x, a)) ≡ Some (1x, a)`.
   -- The stored pair of the key, if it has one.
   abbrev pub entry_pair : Entry K V → Option (K × V)
   entry_pair e = option_and_then (slice_get (entry_map e).entries) (entry_index_of e)
 
-  -- Example: of `1y` on `[(1x,7)]` and 9: `[(1x,9)]`; on `[]`: `[(1y,9)]`.
+  -- Example: `entries_with (occupied r 1y (1x, a)) b ≡ [(1x, b)]`; `entries_with (vacant r 1y []) b ≡ [(1y, b)]`.
   -- The pairs after v is set as the value of the key. It replaces an existing value, and a new pair is appended.
   abbrev pub entries_with : Entry K V → V → List (K × V)
   entries_with e v = option_map_or (λ i. with_value (entry_map e).entries i v) (entry_index_of e) ((entry_map e).entries ++ (entry_key e, v) ∷ [])
 
-  -- Example: of `1y` on `[(1x,7)]`: `[]`.
+  -- Example: `entries_without (occupied r 1y (1x, a)) ≡ []`; `entries_without (vacant r 1y [(2x, a)]) ≡ [(2x, a)]`.
   -- The pairs without the pair of the key, if it has one. The index of each later pair decreases by one.
   abbrev pub entries_without : Entry K V → List (K × V)
   entries_without e = option_map_or (remove (entry_map e).entries) (entry_index_of e) (entry_map e).entries
 
+  -- Example: `entries_swap_without (occupied r 1y (1x, a)) ≡ []`.
   -- The pairs without the pair of the key, if it has one. The last pair moves to its index.
   abbrev pub entries_swap_without : Entry K V → List (K × V)
   entries_swap_without e = option_map_or (swap_without (entry_map e).entries) (entry_index_of e) (entry_map e).entries
@@ -79,6 +83,8 @@ module _ {K V : Type 0} where
   abbrev pub RefusesMade : {E : Type 0} → (Refused (K × V) → E → Type 0) → (V → Type 0) → Entry K V → E → Type 0
   RefusesMade becomes made e error = (v : V) × made v × IsFull (entry_map e) × becomes (record { given = (entry_key e, v) }) error
 
+  -- Example: `AreEntriesWith copy (occupied r 1y (1x, a)) b [(1x, b)]`.
+  -- Example: `¬ (AreEntriesWith copy (vacant r 1y []) b [])`.
   -- Example: of `1y` on `[]` and 9: `[(c,9)]` for a clone `c` of `1y`.
   -- The list l has the pairs after v is set as the value of the key of e. A vacant entry stores a clone of the key.
   abbrev pub AreEntriesWith : (K → K → Type 0) → Entry K V → V → List (K × V) → Type 0

@@ -9,6 +9,7 @@ use Rattle.vecmap_map.specs.Contents.{Contents, HasRoom, Refuses}
 
 module _ {K V : Type 0} where
   -- Example: `Grows (Puts nat_eq) (map_of [] 2) [(1, a)] (map_of [(1, a)] 2)`.
+  -- Example: `¬ (Grows (Puts nat_eq) (map_of [] 2) [(1, a)] (map_of [(1, a)] 1))`.
   -- Insertions of items turn old into new, as `gives` says, and the capacity is not lower.
   abbrev pub Grows : {A : Type 0} → (Contents K V → List A → Contents K V → Type 0) → Contents K V → List A → Contents K V → Type 0
   Grows gives old items new = gives old items new × (old.capacity ≤ new.capacity)
@@ -26,6 +27,7 @@ module _ {K V U T A E : Type 0} (becomes : U → T → Type 0) (steps : T → Op
 
 module _ {K V : Type 0} (eq : K → K → Bool) where
   -- Example: `Puts eq (map_of [(1x, a)] 4) [(1y, b), (2x, c)] (map_of [(1x, b), (2x, c)] 4)`.
+  -- Example: `¬ (Puts eq (map_of [(1x, a)] 4) [(2x, b)] (map_of [(1x, a)] 4))`.
   -- Insertions of the pairs, in order, turn old into new.
   abbrev pub Puts : Contents K V → List (K × V) → Contents K V → Type 0
   Puts old pairs new = new.entries ≡ puts eq old.entries pairs
@@ -36,6 +38,7 @@ module _ {K V : Type 0} (eq : K → K → Bool) where
   PutsClones key_clone value_clone view old items new = (clones : List (K × V)) × ArePairClones key_clone value_clone (map view items) clones × Puts old clones new
 
   -- Example: `RefusesAfter nat_eq (map_of [(1, a)] 2) (map_of [(1, a), (2, b)] 2) [(2, b)] (3, c)`.
+  -- Example: `¬ (RefusesAfter nat_eq (map_of [(1, a)] 2) (map_of [(1, a), (2, b)] 2) [(2, b)] (1, c))`.
   -- The pairs were inserted, and then memory ran out for `next`.
   abbrev pub RefusesAfter : Contents K V → Contents K V → List (K × V) → K × V → Type 0
   RefusesAfter old new pairs next = Puts old pairs new × Refuses eq new next.0 new

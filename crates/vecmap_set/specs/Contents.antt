@@ -36,13 +36,17 @@ module _ {T : Type 0} where
 
 module _ {T : Type 0} (eq : T → T → Bool) where
   -- Example: `KeepsRoom nat_eq (set_of [1] 2) 2 (set_of [1, 2] 2)`.
+  -- Example: `¬ (KeepsRoom nat_eq (set_of [1] 2) 2 (set_of [1, 2] 4))`.
+  -- Example: `¬ (KeepsRoom nat_eq (set_of [1] 1) 1 (set_of [1] 2))`.
+  -- Example: `¬ (KeepsRoom nat_eq (set_of [1] 1) 2 (set_of [1] 0))`.
   -- The capacity does not shrink, and stays if an equal element is present or if one more element fits.
   pub record KeepsRoom (old : Contents T) (x : T) (new : Contents T) : Type 0 where
     pub capacity : old.capacity ≤ new.capacity
     pub present : IsTrue (is_member eq old.elements x) → new.capacity ≡ old.capacity
     pub spare : HasRoom old 1 → new.capacity ≡ old.capacity
 
-  -- Example: `Refuses nat_eq (set_of [1] 1) 2 (set_of [1] 1)`.
+  -- Example: `Refuses nat_eq (set_of [1] 1) 2 (set_of [1] 1)`; `¬ (Refuses nat_eq (set_of [1] 1) 1 (set_of [1] 1))`.
+  -- Example: `¬ (Refuses nat_eq (set_of [1] 2) 2 (set_of [1] 2))`; `¬ (Refuses nat_eq (set_of [1] 1) 2 (set_of [] 1))`.
   -- Memory ran out for the element x: the set is unchanged, no equal element is present, and the set is full.
   pub record Refuses (old : Contents T) (x : T) (new : Contents T) : Type 0 where
     pub unchanged : new ≡ old

@@ -63,7 +63,7 @@ module _ {T : Type 0} where
   abbrev pub symmetric_parts : List T → List T → Parts (Sift T) (Sift T)
   symmetric_parts a b = record { first = sift_of a b; second = sift_of b a }
 
--- Example: `IsBound (Some 5) 5`.
+-- Example: `IsBound (Some 5) 5`; `¬ (IsBound None 5)`.
 -- The bound r is n, or none if n is greater than `usize::MAX`.
 abbrev pub IsBound : Option ℕ → ℕ → Type 0
 IsBound r n = SomeIff r (n < 2 ^ 64) n

@@ -1,9 +1,10 @@
 -- The examples in the comments of the definitions: `.ci/definitions` makes this file.
 use Rattle.std.proofs.Common.{rules}
 use Rattle.std.specs.List.{IsDistinct}
-use Rattle.std.specs.Prelude.{Some, [], false, nat_eq, nat_lt, refl, suc, true, ◌∷◌, ◌≡◌}
+use Rattle.std.specs.Prelude.{None, Some, [], false, nat_eq, nat_lt, refl, suc, true, ◌∷◌, ◌≡◌}
 use Rattle.std.specs.declared.cmp.Ordering.TheVariants.{Less}
 use Rattle.std.specs.declared.ops.Bound.TheVariants.{Excluded, Included}
+use Rattle.vecmap_base.specs.Clones.{AreClones, ArePairClones, IsCloneOf, IsPairClone}
 use Rattle.vecmap_base.specs.Equality.{FirstDiffer, count, counts_agree, free, has_same_counts, has_same_items, is_within, same_pair}
 use Rattle.vecmap_base.specs.Items.{add, adds, both, item_index, only, put_item, stored_first, stored_item, swap_without, swap_without_first, swap_without_item, without_first, without_item}
 use Rattle.vecmap_base.specs.Iterators.{HintsExactly, IsHintFor}
@@ -11,9 +12,30 @@ use Rattle.vecmap_base.specs.Orders.{side}
 use Rattle.vecmap_base.specs.Pairs.{HasDistinctKeys, index_by, index_of, index_or_length, lookup, lookup_by, lookup_full, lookup_pair, lookup_pair_by, map_values, put, put_at, put_key, puts, swap_without_by, swap_without_key, value_at, with_pair, with_value, without_by, without_key}
 use Rattle.vecmap_base.specs.Ranges.{AreEndsWithin, IsRangeWithin, items_between, without_between}
 use Rattle.vecmap_base.specs.Repeats.{adds_cost, comparisons, cost, search_cost}
-use Rattle.vecmap_examples.proofs.Definitions.Notation.{eq}
+use Rattle.vecmap_examples.proofs.Definitions.Notation.{MapRef, copy, eq}
 
-module _ {A K T : Type 0} (x y : T) (j k : K) (a b c d : A) where
+module _ {A K T : Type 0} (x y : T) (j k : K) (a b c d : A) (r : MapRef T A) where
+  IsPairClone-1 : IsPairClone copy copy (j, a) (j, a)
+  IsPairClone-1 = search rules
+
+  IsPairClone-2 : ¬ (IsPairClone copy copy (Some j, a) (None, a))
+  IsPairClone-2 = search rules
+
+  AreClones-1 : AreClones copy (a ∷ b ∷ []) (a ∷ b ∷ [])
+  AreClones-1 = search rules
+
+  AreClones-2 : ¬ (AreClones copy (a ∷ []) [])
+  AreClones-2 = search rules
+
+  ArePairClones-1 : ArePairClones copy copy ((j, a) ∷ (k, b) ∷ []) ((j, a) ∷ (k, b) ∷ [])
+  ArePairClones-1 = search rules
+
+  IsCloneOf-1 : IsCloneOf copy (Some a) (Some a)
+  IsCloneOf-1 = search rules
+
+  IsCloneOf-2 : ¬ (IsCloneOf copy (Some a) None)
+  IsCloneOf-2 = search rules
+
   same_pair-1 : same_pair eq nat_eq ((1, x), 5) ((1, y), 5) ≡ true
   same_pair-1 = refl
 
@@ -84,8 +106,17 @@ module _ {A K T : Type 0} (x y : T) (j k : K) (a b c d : A) where
   IsHintFor-1 : IsHintFor 2 (0, Some 3)
   IsHintFor-1 = search rules
 
+  IsHintFor-2 : ¬ (IsHintFor 2 (3, None))
+  IsHintFor-2 = search rules
+
+  IsHintFor-3 : ¬ (IsHintFor 2 (0, Some 1))
+  IsHintFor-3 = search rules
+
   HintsExactly-1 : HintsExactly 2 (2, Some 2)
   HintsExactly-1 = search rules
+
+  HintsExactly-2 : ¬ (HintsExactly 2 (0, Some 3))
+  HintsExactly-2 = search rules
 
   side-1 : side true ≡ Less
   side-1 = refl

@@ -1,14 +1,14 @@
 -- The examples in the comments of the definitions: `.ci/definitions` makes this file.
 use Rattle.std.proofs.Common.{rules}
 use Rattle.std.specs.List.{IsDistinct}
-use Rattle.std.specs.Prelude.{Some, [], false, nat_eq, refl, suc, true, ◌∷◌, ◌≡◌}
-use Rattle.vecmap_examples.proofs.Definitions.Notation.{set_of}
+use Rattle.std.specs.Prelude.{None, Some, [], false, nat_eq, refl, suc, true, ◌∷◌, ◌≡◌}
+use Rattle.vecmap_examples.proofs.Definitions.Notation.{MapRef, set_of}
 use Rattle.vecmap_set.specs.Contents.{HasRoom, IsFull, KeepsRoom, Refuses, with_elements}
 use Rattle.vecmap_set.specs.Lazy.{IsBound, lacks_item, longer, longer_first, not_longer, not_shorter, presence, shorter, sift_of, sift_of_shorter, sift_rest, symmetric_parts, symmetric_rest, union_parts, union_rest}
 use Rattle.vecmap_set.specs.Operators.{symmetric_difference_of, union_of}
-use Rattle.vecmap_set.specs.SetBulk.{Adds, AddsCopies, GrowsDistinct, RefusesAfter}
+use Rattle.vecmap_set.specs.SetBulk.{Adds, AddsCopies, GrowsDistinct, RefusesAfter, RefusesCopiesAfter}
 
-module _ {A K T : Type 0} (x y : T) (j k : K) (a b c d : A) where
+module _ {A K T : Type 0} (x y : T) (j k : K) (a b c d : A) (r : MapRef T A) where
   with_elements-1 : with_elements (set_of [] 4) (a ∷ []) ≡ set_of (a ∷ []) 4
   with_elements-1 = refl
 
@@ -27,8 +27,26 @@ module _ {A K T : Type 0} (x y : T) (j k : K) (a b c d : A) where
   KeepsRoom-1 : KeepsRoom nat_eq (set_of (1 ∷ []) 2) 2 (set_of (1 ∷ 2 ∷ []) 2)
   KeepsRoom-1 = search rules
 
+  KeepsRoom-2 : ¬ (KeepsRoom nat_eq (set_of (1 ∷ []) 2) 2 (set_of (1 ∷ 2 ∷ []) 4))
+  KeepsRoom-2 = search rules
+
+  KeepsRoom-3 : ¬ (KeepsRoom nat_eq (set_of (1 ∷ []) 1) 1 (set_of (1 ∷ []) 2))
+  KeepsRoom-3 = search rules
+
+  KeepsRoom-4 : ¬ (KeepsRoom nat_eq (set_of (1 ∷ []) 1) 2 (set_of (1 ∷ []) 0))
+  KeepsRoom-4 = search rules
+
   Refuses-1 : Refuses nat_eq (set_of (1 ∷ []) 1) 2 (set_of (1 ∷ []) 1)
   Refuses-1 = search rules
+
+  Refuses-2 : ¬ (Refuses nat_eq (set_of (1 ∷ []) 1) 1 (set_of (1 ∷ []) 1))
+  Refuses-2 = search rules
+
+  Refuses-3 : ¬ (Refuses nat_eq (set_of (1 ∷ []) 2) 2 (set_of (1 ∷ []) 2))
+  Refuses-3 = search rules
+
+  Refuses-4 : ¬ (Refuses nat_eq (set_of (1 ∷ []) 1) 2 (set_of [] 1))
+  Refuses-4 = search rules
 
   shorter-1 : shorter (a ∷ []) (b ∷ c ∷ []) ≡ (a ∷ [])
   shorter-1 = refl
@@ -57,6 +75,9 @@ module _ {A K T : Type 0} (x y : T) (j k : K) (a b c d : A) where
   IsBound-1 : IsBound (Some 5) 5
   IsBound-1 = search rules
 
+  IsBound-2 : ¬ (IsBound None 5)
+  IsBound-2 = search rules
+
   sift_rest-1 : sift_rest (lacks_item nat_eq) (sift_of (1 ∷ 2 ∷ []) (2 ∷ [])) ≡ (1 ∷ [])
   sift_rest-1 = refl
 
@@ -84,6 +105,9 @@ module _ {A K T : Type 0} (x y : T) (j k : K) (a b c d : A) where
   Adds-1 : Adds nat_eq (set_of (1 ∷ []) 4) (2 ∷ 1 ∷ 3 ∷ []) (set_of (1 ∷ 2 ∷ 3 ∷ []) 4)
   Adds-1 = search rules
 
+  Adds-2 : ¬ (Adds nat_eq (set_of (1 ∷ []) 4) (2 ∷ []) (set_of (1 ∷ []) 4))
+  Adds-2 = search rules
+
   AddsCopies-1 : AddsCopies nat_eq suc (set_of (1 ∷ []) 4) (1 ∷ 0 ∷ []) (set_of (1 ∷ 2 ∷ []) 4)
   AddsCopies-1 = search rules
 
@@ -91,5 +115,15 @@ module _ {A K T : Type 0} (x y : T) (j k : K) (a b c d : A) where
   unfolding IsDistinct
   GrowsDistinct-1 = search rules
 
+  GrowsDistinct-2 : ¬ (GrowsDistinct nat_eq (Adds nat_eq) (set_of (1 ∷ []) 2) (2 ∷ []) (set_of (1 ∷ 2 ∷ []) 1))
+  unfolding IsDistinct
+  GrowsDistinct-2 = search rules
+
   RefusesAfter-1 : RefusesAfter nat_eq (set_of (1 ∷ []) 2) (set_of (1 ∷ 2 ∷ []) 2) (2 ∷ []) 3
   RefusesAfter-1 = search rules
+
+  RefusesAfter-2 : ¬ (RefusesAfter nat_eq (set_of (1 ∷ []) 2) (set_of (1 ∷ 2 ∷ []) 2) (2 ∷ []) 1)
+  RefusesAfter-2 = search rules
+
+  RefusesCopiesAfter-1 : RefusesCopiesAfter nat_eq suc (set_of (1 ∷ []) 2) (set_of (1 ∷ 2 ∷ []) 2) (1 ∷ []) 2
+  RefusesCopiesAfter-1 = search rules
