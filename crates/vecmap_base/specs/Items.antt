@@ -1,5 +1,5 @@
--- Lists of elements, as an ordered set sees them. `eq` is the `==` of elements. In the examples, `1x` and `1y` are elements
--- that `eq` calls equal, and are not the same.
+-- Lists of elements, as an ordered set sees them. `eq` is the `==` of elements. In the examples, `1x` and `1y` are
+-- elements that `eq` calls equal, and are not the same.
 use Rattle.std.specs.Prelude.{ℕ, Bool, List, [], ◌∷◌, ◌++◌, Option, if◌then◌else◌, filter, fold, not, position, remove, slice_get, slice_set}
 use Rattle.std.specs.List.{swap_remove}
 use Rattle.std.specs.Option.{option_and_then, option_map_or}

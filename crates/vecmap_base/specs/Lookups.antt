@@ -1,4 +1,5 @@
--- What lookups find after a change of a list of pairs. `eq` is the `==` of keys.
+-- What lookups find after a change of a list of pairs. `eq` is the `==` of keys. `proofs/Definitions/Lookups.antt` of
+-- `vecmap_examples` has examples of what each field says.
 use Rattle.std.specs.Prelude.{◌≡◌, ◌<◌, ◌≤◌, ℕ, Bool, List, None, Option, Some, cond, false}
 use Rattle.std.specs.List.{list_any}
 use Rattle.std.specs.Option.{option_or}

@@ -1,4 +1,5 @@
 -- What definitions say, at examples.
+mod Lookups
 mod MapRun
 mod Notation
 mod SetRun

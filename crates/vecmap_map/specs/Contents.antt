@@ -1,5 +1,5 @@
--- What a contract sees of a `VecMap`, and what calls say of its capacity. In the examples, `map_of l n` is the map with the
--- pairs `l` and the capacity `n`.
+-- What a contract sees of a `VecMap`, and what calls say of its capacity. In the examples, `map_of l n` is the map
+-- with the pairs `l` and the capacity `n`, and `done` and `failed` are results of calls.
 use Rattle.std.specs.Prelude.{◌≡◌, ◌+◌, ◌<◌, ◌≤◌, ℕ, Bool, IsOk, IsSome, List, None, OnErr, OnOk, Option, Result, length}
 use Rattle.std.specs.List.{refill}
 use Rattle.std.specs.Map.{set_value}
@@ -58,7 +58,13 @@ module _ {K V : Type 0} where
   abbrev pub IsFull : Contents K V → Type 0
   IsFull m = length m.entries ≡ m.capacity
 
-  -- Example: of 1 on `[(1,a)]` with capacity 1: the same list, with capacity 2 or more.
+  -- Example: `Reserves 1 (map_of [(k, a)] 1) done (map_of [(k, a)] 2)`.
+  -- Example: `¬ (Reserves 1 (map_of [(k, a)] 1) done (map_of [] 2))`.
+  -- Example: `¬ (Reserves 1 (map_of [(k, a)] 1) done (map_of [(k, a)] 1))`.
+  -- Example: `¬ (Reserves 0 (map_of [(k, a)] 0) failed (map_of [(k, a)] 0))`.
+  -- Example: `¬ (Reserves 1 (map_of [(k, a)] 2) failed (map_of [(k, a)] 2))`.
+  -- Example: `¬ (Reserves 1 (map_of [(k, a)] 2) done (map_of [(k, a)] 4))`.
+  -- Example: `¬ (Reserves 1 (map_of [(k, a)] 1) failed (map_of [(k, a)] 2))`.
   -- What a call that reserves capacity for `additional` more pairs returns and leaves.
   pub record Reserves {A E : Type 0} (additional : ℕ) (old : Contents K V) (result : Result A E) (new : Contents K V) : Type 0 where
     pub entries : new.entries ≡ old.entries
@@ -72,6 +78,7 @@ module _ {K V : Type 0} where
   -- Example: `KeepsRoomAt None (map_of [(j, a)] 1) (map_of [(j, a), (k, b)] 4)`.
   -- Example: `¬ (KeepsRoomAt None (map_of [(j, a)] 2) (map_of [(j, a), (k, b)] 4))`.
   -- Example: `¬ (KeepsRoomAt (Some 0) (map_of [(k, a)] 1) (map_of [(k, b)] 2))`.
+  -- Example: `¬ (KeepsRoomAt None (map_of [(k, a)] 1) (map_of [(k, a)] 0))`.
   -- The capacity does not shrink, and stays if the key has an index or if there is spare capacity for one more pair.
   pub record KeepsRoomAt (index : Option ℕ) (old new : Contents K V) : Type 0 where
     pub capacity : old.capacity ≤ new.capacity

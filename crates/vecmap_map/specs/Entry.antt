@@ -1,6 +1,6 @@
--- What contracts see of an entry: the map, the key that was passed to `entry`, and the index of that key. In the examples,
--- `r` is a reference to a map. `occupied r k p` is the entry of the key `k` in a map of the pair `p`, and `vacant r k l` in a
--- map of the pairs `l`.
+-- What contracts see of an entry: the map, the key that was passed to `entry`, and the index of that key. In the
+-- examples, `r` is a reference to a map. `occupied r k p` is the entry of the key `k` in a map of the pair `p`, and
+-- `vacant r k l` in a map of the pairs `l`.
 use Rattle.std.specs.Prelude.{◌≡◌, ℕ, List, [], ◌∷◌, ◌++◌, Option, None, Some, length, remove, slice_get, unwrap_or}
 use Rattle.std.specs.Borrow.{MutBor}
 use Rattle.std.specs.Option.{option_and_then, option_map_or}

@@ -1,5 +1,5 @@
--- What a contract sees of a `VecSet`, and what calls say of its capacity. In the examples, `set_of l n` is the set with the
--- elements `l` and the capacity `n`.
+-- What a contract sees of a `VecSet`, and what calls say of its capacity. In the examples, `set_of l n` is the set
+-- with the elements `l` and the capacity `n`, and `done` and `failed` are results of calls.
 use Rattle.std.specs.Prelude.{◌≡◌, ◌+◌, ◌<◌, ◌≤◌, ℕ, Bool, IsOk, IsTrue, List, OnErr, OnOk, Result, false, length}
 use Rattle.std.specs.Set.{is_member}
 
@@ -24,6 +24,12 @@ module _ {T : Type 0} where
   abbrev pub IsFull : Contents T → Type 0
   IsFull s = length s.elements ≡ s.capacity
 
+  -- Example: `Reserves 1 (set_of [a] 1) done (set_of [a] 2)`; `¬ (Reserves 1 (set_of [a] 1) done (set_of [] 2))`.
+  -- Example: `¬ (Reserves 1 (set_of [a] 1) done (set_of [a] 1))`.
+  -- Example: `¬ (Reserves 0 (set_of [a] 0) failed (set_of [a] 0))`.
+  -- Example: `¬ (Reserves 1 (set_of [a] 2) failed (set_of [a] 2))`.
+  -- Example: `¬ (Reserves 1 (set_of [a] 2) done (set_of [a] 4))`.
+  -- Example: `¬ (Reserves 1 (set_of [a] 1) failed (set_of [a] 2))`.
   -- What a call that reserves capacity for `additional` more elements returns and leaves.
   pub record Reserves {A E : Type 0} (additional : ℕ) (old : Contents T) (result : Result A E) (new : Contents T) : Type 0 where
     pub elements : new.elements ≡ old.elements

@@ -1,5 +1,5 @@
 -- What the examples of definitions are about: keys with a mark, collections, entries, and indices.
-use Rattle.std.specs.Prelude.{◌≡◌, ◌<◌, ℕ, Bool, List, [], ◌∷◌, None, Option, Some, nat_eq}
+use Rattle.std.specs.Prelude.{◌≡◌, ◌<◌, ℕ, Bool, Err, List, Ok, Result, [], ◌∷◌, None, Option, Some, nat_eq}
 use Rattle.std.specs.Borrow.{MutBor}
 use Rattle.std.proofs.Common.{rules}
 use Rattle.vecmap_map.specs.declared.entry.Entry.{Entry}
@@ -39,6 +39,13 @@ module _ {T V : Type 0} (r : MapRef T V) (k : ℕ × T) where
   -- The entry of `k` in a map of the pairs `l`, which do not have it.
   abbrev pub vacant : List ((ℕ × T) × V) → Entry (ℕ × T) V
   vacant l = Vacant (record { map = record r { now = map_of l 1 }; key = k })
+
+-- The results of a call that returns nothing.
+abbrev pub done : Result (Unit {0}) (Unit {0})
+done = Ok tt
+
+abbrev pub failed : Result (Unit {0}) (Unit {0})
+failed = Err tt
 
 -- The index `i`, if there is one.
 abbrev pub at : ℕ → Option ℕ

@@ -1,8 +1,8 @@
 -- The examples in the comments of the definitions: `.ci/definitions` makes this file.
 use Rattle.std.proofs.Common.{rules}
 use Rattle.std.specs.Prelude.{None, Some, [], nat_eq, refl, ◌∷◌, ◌≡◌}
-use Rattle.vecmap_examples.proofs.Definitions.Notation.{MapRef, copy, eq, map_of, occupied, vacant}
-use Rattle.vecmap_map.specs.Contents.{HasRoom, IsFull, KeepsRoom, KeepsRoomAt, Refuses, RefusesAt, with_entries, with_pair_at, with_pair_by, with_value_at, with_value_by, with_value_of, with_written}
+use Rattle.vecmap_examples.proofs.Definitions.Notation.{MapRef, copy, done, eq, failed, map_of, occupied, vacant}
+use Rattle.vecmap_map.specs.Contents.{HasRoom, IsFull, KeepsRoom, KeepsRoomAt, Refuses, RefusesAt, Reserves, with_entries, with_pair_at, with_pair_by, with_value_at, with_value_by, with_value_of, with_written}
 use Rattle.vecmap_map.specs.Entry.{AreEntriesWith, entries_swap_without, entries_with, entries_without, entry_index, entry_index_of, entry_key, entry_map, entry_pair, entry_value}
 use Rattle.vecmap_map.specs.MapBulk.{Grows, Puts, RefusesAfter}
 
@@ -40,6 +40,27 @@ module _ {A K T : Type 0} (x y : T) (j k : K) (a b c d : A) (r : MapRef T A) whe
   IsFull-2 : ¬ (IsFull (map_of ((k, a) ∷ []) 2))
   IsFull-2 = search rules
 
+  Reserves-1 : Reserves 1 (map_of ((k, a) ∷ []) 1) done (map_of ((k, a) ∷ []) 2)
+  Reserves-1 = search rules
+
+  Reserves-2 : ¬ (Reserves 1 (map_of ((k, a) ∷ []) 1) done (map_of [] 2))
+  Reserves-2 = search rules
+
+  Reserves-3 : ¬ (Reserves 1 (map_of ((k, a) ∷ []) 1) done (map_of ((k, a) ∷ []) 1))
+  Reserves-3 = search rules
+
+  Reserves-4 : ¬ (Reserves 0 (map_of ((k, a) ∷ []) 0) failed (map_of ((k, a) ∷ []) 0))
+  Reserves-4 = search rules
+
+  Reserves-5 : ¬ (Reserves 1 (map_of ((k, a) ∷ []) 2) failed (map_of ((k, a) ∷ []) 2))
+  Reserves-5 = search rules
+
+  Reserves-6 : ¬ (Reserves 1 (map_of ((k, a) ∷ []) 2) done (map_of ((k, a) ∷ []) 4))
+  Reserves-6 = search rules
+
+  Reserves-7 : ¬ (Reserves 1 (map_of ((k, a) ∷ []) 1) failed (map_of ((k, a) ∷ []) 2))
+  Reserves-7 = search rules
+
   KeepsRoomAt-1 : KeepsRoomAt None (map_of ((j, a) ∷ []) 1) (map_of ((j, a) ∷ (k, b) ∷ []) 4)
   KeepsRoomAt-1 = search rules
 
@@ -48,6 +69,9 @@ module _ {A K T : Type 0} (x y : T) (j k : K) (a b c d : A) (r : MapRef T A) whe
 
   KeepsRoomAt-3 : ¬ (KeepsRoomAt (Some 0) (map_of ((k, a) ∷ []) 1) (map_of ((k, b) ∷ []) 2))
   KeepsRoomAt-3 = search rules
+
+  KeepsRoomAt-4 : ¬ (KeepsRoomAt None (map_of ((k, a) ∷ []) 1) (map_of ((k, a) ∷ []) 0))
+  KeepsRoomAt-4 = search rules
 
   RefusesAt-1 : RefusesAt None (map_of ((k, a) ∷ []) 1) (map_of ((k, a) ∷ []) 1)
   RefusesAt-1 = search rules

@@ -2,8 +2,8 @@
 use Rattle.std.proofs.Common.{rules}
 use Rattle.std.specs.List.{IsDistinct}
 use Rattle.std.specs.Prelude.{None, Some, [], false, nat_eq, refl, suc, true, ◌∷◌, ◌≡◌}
-use Rattle.vecmap_examples.proofs.Definitions.Notation.{MapRef, set_of}
-use Rattle.vecmap_set.specs.Contents.{HasRoom, IsFull, KeepsRoom, Refuses, with_elements}
+use Rattle.vecmap_examples.proofs.Definitions.Notation.{MapRef, done, failed, set_of}
+use Rattle.vecmap_set.specs.Contents.{HasRoom, IsFull, KeepsRoom, Refuses, Reserves, with_elements}
 use Rattle.vecmap_set.specs.Lazy.{IsBound, lacks_item, longer, longer_first, not_longer, not_shorter, presence, shorter, sift_of, sift_of_shorter, sift_rest, symmetric_parts, symmetric_rest, union_parts, union_rest}
 use Rattle.vecmap_set.specs.Operators.{symmetric_difference_of, union_of}
 use Rattle.vecmap_set.specs.SetBulk.{Adds, AddsCopies, GrowsDistinct, RefusesAfter, RefusesCopiesAfter}
@@ -23,6 +23,27 @@ module _ {A K T : Type 0} (x y : T) (j k : K) (a b c d : A) (r : MapRef T A) whe
 
   IsFull-2 : ¬ (IsFull (set_of (a ∷ []) 2))
   IsFull-2 = search rules
+
+  Reserves-1 : Reserves 1 (set_of (a ∷ []) 1) done (set_of (a ∷ []) 2)
+  Reserves-1 = search rules
+
+  Reserves-2 : ¬ (Reserves 1 (set_of (a ∷ []) 1) done (set_of [] 2))
+  Reserves-2 = search rules
+
+  Reserves-3 : ¬ (Reserves 1 (set_of (a ∷ []) 1) done (set_of (a ∷ []) 1))
+  Reserves-3 = search rules
+
+  Reserves-4 : ¬ (Reserves 0 (set_of (a ∷ []) 0) failed (set_of (a ∷ []) 0))
+  Reserves-4 = search rules
+
+  Reserves-5 : ¬ (Reserves 1 (set_of (a ∷ []) 2) failed (set_of (a ∷ []) 2))
+  Reserves-5 = search rules
+
+  Reserves-6 : ¬ (Reserves 1 (set_of (a ∷ []) 2) done (set_of (a ∷ []) 4))
+  Reserves-6 = search rules
+
+  Reserves-7 : ¬ (Reserves 1 (set_of (a ∷ []) 1) failed (set_of (a ∷ []) 2))
+  Reserves-7 = search rules
 
   KeepsRoom-1 : KeepsRoom nat_eq (set_of (1 ∷ []) 2) 2 (set_of (1 ∷ 2 ∷ []) 2)
   KeepsRoom-1 = search rules
