@@ -4,5 +4,6 @@ mod MapRun
 mod Notation
 mod SetRun
 mod vecmap_base
+mod vecmap_laws
 mod vecmap_map
 mod vecmap_set

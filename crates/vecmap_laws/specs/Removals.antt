@@ -3,16 +3,17 @@ use Rattle.std.specs.Prelude.{ℕ, ◌-◌, Bool, List, None, Option, Some, fold
 use Rattle.std.specs.Option.{option_and_then}
 use Rattle.vecmap_base.specs.Pairs.{without_key}
 
+-- Example: `without_keys nat_eq [(1, a), (2, b)] [1] ≡ [(2, b)]`.
 -- The list `l` after the removal of each of the keys, in order.
 abbrev pub without_keys : {K V : Type 0} → (K → K → Bool) → List (K × V) → List K → List (K × V)
 without_keys eq l keys = fold (λ rest k. without_key eq rest k) l keys
 
--- Example: below 2: of 1: 1; of 3: none.
+-- Example: `below 2 (Some 1) ≡ Some 1`; `below 2 (Some 3) ≡ None`.
 -- The index `found`, if it is below `n`.
 abbrev pub below : ℕ → Option ℕ → Option ℕ
 below n found = option_and_then (λ i. if nat_lt i n then Some i else None) found
 
--- Example: after a removal at 1: of 0: 0; of 3: 2.
+-- Example: `shifted 1 (Some 0) ≡ Some 0`; `shifted 1 (Some 3) ≡ Some 2`.
 -- The index of an item, found before, after another item was removed from the index `i`.
 abbrev pub shifted : ℕ → Option ℕ → Option ℕ
 shifted i found = option_map (λ j. if nat_lt i j then j - 1 else j) found
