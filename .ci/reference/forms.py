@@ -125,7 +125,8 @@ def contract(text, names, crate):
 def derived(found):
     """Returns a type without its derives, and an impl for each of them on its last line."""
     head = re.search(r"(?:struct|enum) (\w+)(?:<([^{;(]*?)>)?(?= \{|;|\()", found[0])
-    generics = [it.strip() for it in (head[2] or "").split(",") if it.strip()]
+    # Not split within a bound, such as `Projection<X, T>`.
+    generics = [it.strip() for it in re.split(r",(?![^<]*>)", head[2] or "") if it.strip()]
     names, made = ", ".join(it.split(":")[0] for it in generics), ""
     for traits, bounds in DERIVE.findall(found[0]):
         given = dict(it.split(": ") for it in bounds.split(", ") if it)

@@ -23,7 +23,7 @@ OLDEST = 1, 95
 DENIED = ["missing_docs", *(f"rustdoc::{it}" for it in ("broken_intra_doc_links", "invalid_html_tags", "bare_urls"))]
 UNSTABLE = ["-Zunstable-options", "-Zcrate-attr=feature(allocator_api, lazy_type_alias)", "-Aincomplete_features"]
 # Names of the logic that no file imports.
-LOGIC = set("case else if in let of record result self then tt None Some Ok Err usize isize".split())
+LOGIC = set("case else if in let of record result self Self then tt None Some Ok Err usize isize".split())
 LOGIC |= {f"{sign}{bits}" for sign in "ui" for bits in (8, 16, 32, 64, 128)}
 # A name in a clause, and those that the clause binds.
 WORD = re.compile(r"(?<![\w.'◌])[A-Za-z][\w']*")

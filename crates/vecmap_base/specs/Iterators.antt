@@ -62,43 +62,43 @@ pub record HintsExactly (n : ℕ) (hint : ℕ × Option ℕ) : Type 0 where
   pub exact : hint ≡ (n, Some n)
 
 -- The parts that an `IterMutOf` has left, as they were when it was created.
-abbrev pub rest_of : {X P A : Type 0} → (X → A) → IterMutOf X P → List A
+abbrev pub rest_of : {X T P : Type 0} → (X → T) → IterMutOf X T P → List T
 rest_of part s = map part (slice.iter_mut_rest s.items)
 
 -- The ghost name of the borrow of an `IterMutOf`.
-abbrev pub name_of : {X P : Type 0} → IterMutOf X P → GName
+abbrev pub name_of : {X T P : Type 0} → IterMutOf X T P → GName
 name_of s = slice.iter_mut_name s.items
 
 module _ {K V : Type 0} where
   -- Example: of `iter_mut` of `[(1,a), (2,b)]`, after one call of `next`: `[(2,b)]`.
   -- The pairs that an `IterMut` has left.
-  abbrev pub iter_mut_rest : IterMutOf (K × V) Pair → List (K × V)
+  abbrev pub iter_mut_rest : IterMutOf (K × V) (K × V) Pair → List (K × V)
   iter_mut_rest s = rest_of (λ p. p) s
 
   -- The ghost name of the borrow of an `IterMut`.
-  abbrev pub iter_mut_name : IterMutOf (K × V) Pair → GName
+  abbrev pub iter_mut_name : IterMutOf (K × V) (K × V) Pair → GName
   iter_mut_name s = name_of s
 
   -- The pairs that an `IterMut2` has left.
-  abbrev pub iter_mut2_rest : IterMutOf (K × V) PairMut → List (K × V)
+  abbrev pub iter_mut2_rest : IterMutOf (K × V) (K × V) PairMut → List (K × V)
   iter_mut2_rest s = rest_of (λ p. p) s
 
   -- The ghost name of the borrow of an `IterMut2`.
-  abbrev pub iter_mut2_name : IterMutOf (K × V) PairMut → GName
+  abbrev pub iter_mut2_name : IterMutOf (K × V) (K × V) PairMut → GName
   iter_mut2_name s = name_of s
 
   -- The keys that a `KeysMut` has left.
-  abbrev pub keys_mut_rest : IterMutOf (K × V) Key → List K
+  abbrev pub keys_mut_rest : IterMutOf (K × V) K Key → List K
   keys_mut_rest s = rest_of (λ p. p.0) s
 
   -- The ghost name of the borrow of a `KeysMut`.
-  abbrev pub keys_mut_name : IterMutOf (K × V) Key → GName
+  abbrev pub keys_mut_name : IterMutOf (K × V) K Key → GName
   keys_mut_name s = name_of s
 
   -- The values that a `ValuesMut` has left.
-  abbrev pub values_mut_rest : IterMutOf (K × V) Value → List V
+  abbrev pub values_mut_rest : IterMutOf (K × V) V Value → List V
   values_mut_rest s = rest_of (λ p. p.1) s
 
   -- The ghost name of the borrow of a `ValuesMut`.
-  abbrev pub values_mut_name : IterMutOf (K × V) Value → GName
+  abbrev pub values_mut_name : IterMutOf (K × V) V Value → GName
   values_mut_name s = name_of s

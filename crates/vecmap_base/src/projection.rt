@@ -2,17 +2,15 @@
 //!
 //! Each iterator with an exact length, except drains, is one of three types: [`IterOf`](crate::IterOf) yields
 //! references, [`IterMutOf`](crate::IterMutOf) mutable references, and [`IntoIterOf`](crate::IntoIterOf) values. The
-//! last type parameter of each is a projection, as `Key` in `Keys<'a, K, V>`, which is `IterOf<'a, (K, V), Key>`.
+//! last type parameters of each are the type of the part and a projection, as `K` and `Key` in `Keys<'a, K, V>`, which
+//! is `IterOf<'a, (K, V), K, Key>`.
 ghost use Rattle.std.specs.Prelude.{◌≡◌};
 ghost use Rattle.std.specs.Map.Iter.{deref, deref_pair, deref_pair_mut};
 ghost use Rattle.vecmap_base.specs.Iterators.{deref_both_mut, deref_mut};
 
-/// A part of each item of type `X`.
-pub trait Projection<X> {
-    /// The type of the part.
-    type Part;
-
-    ghost part: { X → Self.Part };
+/// A part, of type `T`, of each item of type `X`.
+pub trait Projection<X, T> {
+    ghost part: { X → T };
 
     /// Returns a reference to the part of an item.
     ///
@@ -21,17 +19,17 @@ pub trait Projection<X> {
     /// ```
     /// Key::of(&('a', 1)) // &'a'
     /// ```
-    fn of(item: &X) -> &Self::Part
+    fn of(item: &X) -> &T
         ensures { result.now ≡ part item.now };
 }
 
 /// A part that an iterator over references can yield.
-pub trait PartRef<'a, X>: Projection<X> {
+pub trait PartRef<'a, X, T>: Projection<X, T> {
     /// The type of a reference to the part.
     type Ref;
 
     // The part to which a reference points.
-    ghost shows: { Self.Ref → Self.Part };
+    ghost shows: { Self.Ref → T };
 
     /// Returns the part of an item by reference, in the form that [`IterOf`](crate::IterOf) yields: of a pair
     /// `(&K, &V)`, where `of` returns `&(K, V)`.
@@ -46,12 +44,12 @@ pub trait PartRef<'a, X>: Projection<X> {
 }
 
 /// A part that an iterator over mutable references can yield.
-pub trait PartMut<'a, X>: Projection<X> {
+pub trait PartMut<'a, X, T>: Projection<X, T> {
     /// The type of a mutable reference to the part.
     type RefMut;
 
     // The part to which a reference pointed at first.
-    ghost shows: { Self.RefMut → Self.Part };
+    ghost shows: { Self.RefMut → T };
 
     /// Returns the part of an item by mutable reference, in the form that [`IterMutOf`](crate::IterMutOf) yields.
     ///
@@ -67,7 +65,7 @@ pub trait PartMut<'a, X>: Projection<X> {
 }
 
 /// A part that can be moved out of its item.
-pub trait IntoPart<X>: Projection<X> {
+pub trait IntoPart<X, T>: Projection<X, T> {
     /// Returns the part of an item, and drops the rest of the item.
     ///
     /// # Examples
@@ -75,17 +73,14 @@ pub trait IntoPart<X>: Projection<X> {
     /// ```
     /// Value::into_part(('a', 1)) // 1
     /// ```
-    fn into_part(item: X) -> Self::Part
+    fn into_part(item: X) -> T
         ensures { result ≡ Self.part item };
 }
 
 /// A part that is cloned if its item is cloned.
-pub trait ClonePart<X: Clone>: Projection<X>
-where
-    Self::Part: Clone,
-{
+pub trait ClonePart<X: Clone, T: Clone>: Projection<X, T> {
     // A clone of an item has a clone of the part.
-    ghost clones: { (x y : X) → X.is_clone x y → Self.Part.is_clone (Self.part x) (Self.part y) };
+    ghost clones: { (x y : X) → X.is_clone x y → T.is_clone (Self.part x) (Self.part y) };
 }
 
 /// The key of a pair.
@@ -108,9 +103,7 @@ pub struct PairMut;
 #[derive(Drop)]
 pub struct Element;
 
-impl<K, V> Projection<(K, V)> for Key {
-    type Part = K;
-
+impl<K, V> Projection<(K, V), K> for Key {
     ghost part = { λ pair. pair.0 };
 
     fn of(pair: &(K, V)) -> &K {
@@ -118,9 +111,7 @@ impl<K, V> Projection<(K, V)> for Key {
     }
 }
 
-impl<K, V> Projection<(K, V)> for Value {
-    type Part = V;
-
+impl<K, V> Projection<(K, V), V> for Value {
     ghost part = { λ pair. pair.1 };
 
     fn of(pair: &(K, V)) -> &V {
@@ -128,9 +119,7 @@ impl<K, V> Projection<(K, V)> for Value {
     }
 }
 
-impl<K, V> Projection<(K, V)> for Pair {
-    type Part = (K, V);
-
+impl<K, V> Projection<(K, V), (K, V)> for Pair {
     ghost part = { λ pair. pair };
 
     fn of(pair: &(K, V)) -> &(K, V) {
@@ -138,9 +127,7 @@ impl<K, V> Projection<(K, V)> for Pair {
     }
 }
 
-impl<K, V> Projection<(K, V)> for PairMut {
-    type Part = (K, V);
-
+impl<K, V> Projection<(K, V), (K, V)> for PairMut {
     ghost part = { λ pair. pair };
 
     fn of(pair: &(K, V)) -> &(K, V) {
@@ -148,9 +135,7 @@ impl<K, V> Projection<(K, V)> for PairMut {
     }
 }
 
-impl<T> Projection<T> for Element {
-    type Part = T;
-
+impl<T> Projection<T, T> for Element {
     ghost part = { λ element. element };
 
     fn of(element: &T) -> &T {
@@ -158,7 +143,7 @@ impl<T> Projection<T> for Element {
     }
 }
 
-impl<'a, K: 'a, V> PartRef<'a, (K, V)> for Key {
+impl<'a, K: 'a, V> PartRef<'a, (K, V), K> for Key {
     type Ref = &'a K;
 
     ghost shows = { deref };
@@ -168,7 +153,7 @@ impl<'a, K: 'a, V> PartRef<'a, (K, V)> for Key {
     }
 }
 
-impl<'a, K, V: 'a> PartRef<'a, (K, V)> for Value {
+impl<'a, K, V: 'a> PartRef<'a, (K, V), V> for Value {
     type Ref = &'a V;
 
     ghost shows = { deref };
@@ -178,7 +163,7 @@ impl<'a, K, V: 'a> PartRef<'a, (K, V)> for Value {
     }
 }
 
-impl<'a, K: 'a, V: 'a> PartRef<'a, (K, V)> for Pair {
+impl<'a, K: 'a, V: 'a> PartRef<'a, (K, V), (K, V)> for Pair {
     type Ref = (&'a K, &'a V);
 
     ghost shows = { deref_pair };
@@ -188,7 +173,7 @@ impl<'a, K: 'a, V: 'a> PartRef<'a, (K, V)> for Pair {
     }
 }
 
-impl<'a, T: 'a> PartRef<'a, T> for Element {
+impl<'a, T: 'a> PartRef<'a, T, T> for Element {
     type Ref = &'a T;
 
     ghost shows = { deref };
@@ -198,7 +183,7 @@ impl<'a, T: 'a> PartRef<'a, T> for Element {
     }
 }
 
-impl<'a, K: 'a, V> PartMut<'a, (K, V)> for Key {
+impl<'a, K: 'a, V> PartMut<'a, (K, V), K> for Key {
     type RefMut = &'a mut K;
 
     ghost shows = { deref_mut };
@@ -208,7 +193,7 @@ impl<'a, K: 'a, V> PartMut<'a, (K, V)> for Key {
     }
 }
 
-impl<'a, K, V: 'a> PartMut<'a, (K, V)> for Value {
+impl<'a, K, V: 'a> PartMut<'a, (K, V), V> for Value {
     type RefMut = &'a mut V;
 
     ghost shows = { deref_mut };
@@ -218,7 +203,7 @@ impl<'a, K, V: 'a> PartMut<'a, (K, V)> for Value {
     }
 }
 
-impl<'a, K: 'a, V: 'a> PartMut<'a, (K, V)> for Pair {
+impl<'a, K: 'a, V: 'a> PartMut<'a, (K, V), (K, V)> for Pair {
     type RefMut = (&'a K, &'a mut V);
 
     ghost shows = { deref_pair_mut };
@@ -228,7 +213,7 @@ impl<'a, K: 'a, V: 'a> PartMut<'a, (K, V)> for Pair {
     }
 }
 
-impl<'a, K: 'a, V: 'a> PartMut<'a, (K, V)> for PairMut {
+impl<'a, K: 'a, V: 'a> PartMut<'a, (K, V), (K, V)> for PairMut {
     type RefMut = (&'a mut K, &'a mut V);
 
     ghost shows = { deref_both_mut };
@@ -238,44 +223,44 @@ impl<'a, K: 'a, V: 'a> PartMut<'a, (K, V)> for PairMut {
     }
 }
 
-impl<K, V: Drop> IntoPart<(K, V)> for Key {
+impl<K, V: Drop> IntoPart<(K, V), K> for Key {
     fn into_part(pair: (K, V)) -> K {
         let (key, _) = pair;
         key
     }
 }
 
-impl<K: Drop, V> IntoPart<(K, V)> for Value {
+impl<K: Drop, V> IntoPart<(K, V), V> for Value {
     fn into_part(pair: (K, V)) -> V {
         let (_, value) = pair;
         value
     }
 }
 
-impl<K, V> IntoPart<(K, V)> for Pair {
+impl<K, V> IntoPart<(K, V), (K, V)> for Pair {
     fn into_part(pair: (K, V)) -> (K, V) {
         pair
     }
 }
 
-impl<T> IntoPart<T> for Element {
+impl<T> IntoPart<T, T> for Element {
     fn into_part(element: T) -> T {
         element
     }
 }
 
-impl<K: Clone, V: Clone> ClonePart<(K, V)> for Key {
+impl<K: Clone, V: Clone> ClonePart<(K, V), K> for Key {
     ghost clones = { λ x y is. is.0 };
 }
 
-impl<K: Clone, V: Clone> ClonePart<(K, V)> for Value {
+impl<K: Clone, V: Clone> ClonePart<(K, V), V> for Value {
     ghost clones = { λ x y is. is.1 };
 }
 
-impl<K: Clone, V: Clone> ClonePart<(K, V)> for Pair {
+impl<K: Clone, V: Clone> ClonePart<(K, V), (K, V)> for Pair {
     ghost clones = { λ x y is. is };
 }
 
-impl<T: Clone> ClonePart<T> for Element {
+impl<T: Clone> ClonePart<T, T> for Element {
     ghost clones = { λ x y is. is };
 }

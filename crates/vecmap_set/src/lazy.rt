@@ -10,13 +10,11 @@ use crate::VecSet;
 use std::slice;
 use vecmap_base::contains_item;
 
-mod difference;
-mod intersection;
+mod filtered;
 mod symmetric_difference;
 mod union;
 
-pub use difference::Difference;
-pub use intersection::Intersection;
+pub use filtered::{Absent, Difference, FilteredOf, Intersection, Presence, Present};
 pub use symmetric_difference::SymmetricDifference;
 pub use union::Union;
 

@@ -22,7 +22,9 @@ mod room;
 mod search;
 
 pub use drain::Drain;
-pub use lazy::{Difference, Intersection, SymmetricDifference, Union};
+pub use lazy::{
+    Absent, Difference, FilteredOf, Intersection, Presence, Present, SymmetricDifference, Union,
+};
 use std::marker::Model;
 
 /// A set that keeps its elements in insertion order, without duplicates.

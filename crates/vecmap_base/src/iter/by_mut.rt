@@ -19,13 +19,13 @@ use std::{fmt, slice};
 ///
 /// `IterMut`, `IterMut2`, `KeysMut` and `ValuesMut` of a map are this type.
 #[derive(Drop)]
-pub struct IterMutOf<'a, X, P> {
+pub struct IterMutOf<'a, X, T, P> {
     items: slice::IterMut<'a, X>,
-    part: PhantomData<P>,
+    part: PhantomData<(T, P)>,
 }
 
-impl<'a, X, P: PartMut<'a, X>> IterMutOf<'a, X, P> {
-    pub(super) fn over_items(items: &'a mut [X]) -> IterMutOf<'a, X, P>
+impl<'a, X, T, P: PartMut<'a, X, T>> IterMutOf<'a, X, T, P> {
+    pub(super) fn over_items(items: &'a mut [X]) -> IterMutOf<'a, X, T, P>
         ensures same_slice { name_of result ≡ items.entry.ghost_name }
         ensures rest { ShowsAllOf P.shows (rest_of P.part) (map P.part items.old) result }
     {
@@ -36,7 +36,7 @@ impl<'a, X, P: PartMut<'a, X>> IterMutOf<'a, X, P> {
     }
 }
 
-impl<'a, X, P: PartMut<'a, X>> Iterator for IterMutOf<'a, X, P> {
+impl<'a, X, T, P: PartMut<'a, X, T>> Iterator for IterMutOf<'a, X, T, P> {
     type Item = P::RefMut;
 
     ghost next_gives = { TakesFirstOf P.shows (rest_of P.part) };
@@ -57,7 +57,7 @@ impl<'a, X, P: PartMut<'a, X>> Iterator for IterMutOf<'a, X, P> {
     }
 }
 
-impl<'a, X, P: PartMut<'a, X>> DoubleEndedIterator for IterMutOf<'a, X, P> {
+impl<'a, X, T, P: PartMut<'a, X, T>> DoubleEndedIterator for IterMutOf<'a, X, T, P> {
     ghost next_back_gives = { TakesLastOf P.shows (rest_of P.part) };
 
     fn next_back(&mut self) -> Option<P::RefMut> {
@@ -66,17 +66,17 @@ impl<'a, X, P: PartMut<'a, X>> DoubleEndedIterator for IterMutOf<'a, X, P> {
     }
 }
 
-impl<'a, X, P: PartMut<'a, X>> ExactSizeIterator for IterMutOf<'a, X, P> {
+impl<'a, X, T, P: PartMut<'a, X, T>> ExactSizeIterator for IterMutOf<'a, X, T, P> {
     /// Returns the number of items left.
     fn len(&self) -> usize {
         self.items.len()
     }
 }
 
-impl<'a, X, P: PartMut<'a, X>> FusedIterator for IterMutOf<'a, X, P> {}
+impl<'a, X, T, P: PartMut<'a, X, T>> FusedIterator for IterMutOf<'a, X, T, P> {}
 
 /// Prints what is left, as std prints a list.
-impl<'a, X, T: fmt::Debug, P: Projection<X, Part = T>> fmt::Debug for IterMutOf<'a, X, P> {
+impl<'a, X, T: fmt::Debug, P: Projection<X, T>> fmt::Debug for IterMutOf<'a, X, T, P> {
     fn fmt<W: fmt::Write>(&self, f: &mut fmt::Formatter<W>) -> fmt::Result {
         let mut list = f.debug_list();
         for item in self.items.as_slice() {

@@ -17,21 +17,23 @@ use std::{fmt, slice};
 ///
 /// `Iter`, `Keys` and `Values` of a map and `Iter` of a set are this type.
 #[derive(Drop)]
-pub struct IterOf<'a, X, P: Projection<X>> {
+pub struct IterOf<'a, X, T, P: Projection<X, T>> {
     items: slice::Iter<'a, X>,
     part: PhantomData<P>,
+    // Holds nothing, and names `T`. With a `PhantomData<T>` in its place, a proof takes the struct as invariant in `T`.
+    none: [&'a T; 0],
 }
 
-impl<'a, X, P: Projection<X>> Model for IterOf<'a, X, P> {
+impl<'a, X, T, P: Projection<X, T>> Model for IterOf<'a, X, T, P> {
     ghost use Rattle.std.specs.Prelude.{List, map};
     ghost use Rattle.std.specs.Slice.Iter.{iter_rest};
 
-    ghost Value = { List P.Part };
+    ghost Value = { List T };
 
     ghost view = { λ a. map P.part (iter_rest a.items) };
 }
 
-impl<'a, X, P: Projection<X>> IterOf<'a, X, P> {
+impl<'a, X, T, P: Projection<X, T>> IterOf<'a, X, T, P> {
     /// Returns another iterator over what is left.
     ///
     /// # Complexity
@@ -47,28 +49,30 @@ impl<'a, X, P: Projection<X>> IterOf<'a, X, P> {
     /// keys.clone().next() // Some(&'b')
     /// keys.len() // 1
     /// ```
-    pub fn clone(&self) -> IterOf<'a, X, P>
+    pub fn clone(&self) -> IterOf<'a, X, T, P>
         ensures { result ≡ self.now }
     {
         IterOf {
             items: self.items.as_slice().iter(),
             part: PhantomData,
+            none: [],
         }
     }
 }
 
-impl<'a, X, P: PartRef<'a, X>> IterOf<'a, X, P> {
-    pub(super) fn over_items(items: &'a [X]) -> IterOf<'a, X, P>
+impl<'a, X, T, P: PartRef<'a, X, T>> IterOf<'a, X, T, P> {
+    pub(super) fn over_items(items: &'a [X]) -> IterOf<'a, X, T, P>
         ensures { ShowsAll P.shows (map P.part items.now) result }
     {
         IterOf {
             items: items.iter(),
             part: PhantomData,
+            none: [],
         }
     }
 }
 
-impl<'a, X, P: PartRef<'a, X>> Iterator for IterOf<'a, X, P> {
+impl<'a, X, T, P: PartRef<'a, X, T>> Iterator for IterOf<'a, X, T, P> {
     type Item = P::Ref;
 
     ghost next_gives = { TakesFirst P.shows };
@@ -89,7 +93,7 @@ impl<'a, X, P: PartRef<'a, X>> Iterator for IterOf<'a, X, P> {
     }
 }
 
-impl<'a, X, P: PartRef<'a, X>> DoubleEndedIterator for IterOf<'a, X, P> {
+impl<'a, X, T, P: PartRef<'a, X, T>> DoubleEndedIterator for IterOf<'a, X, T, P> {
     ghost next_back_gives = { TakesLast P.shows };
 
     fn next_back(&mut self) -> Option<P::Ref> {
@@ -98,28 +102,28 @@ impl<'a, X, P: PartRef<'a, X>> DoubleEndedIterator for IterOf<'a, X, P> {
     }
 }
 
-impl<'a, X, P: PartRef<'a, X>> ExactSizeIterator for IterOf<'a, X, P> {
+impl<'a, X, T, P: PartRef<'a, X, T>> ExactSizeIterator for IterOf<'a, X, T, P> {
     /// Returns the number of items left.
     fn len(&self) -> usize {
         self.items.len()
     }
 }
 
-impl<'a, X, P: PartRef<'a, X>> FusedIterator for IterOf<'a, X, P> {}
+impl<'a, X, T, P: PartRef<'a, X, T>> FusedIterator for IterOf<'a, X, T, P> {}
 
 /// Returns another iterator over what is left, like the inherent [`IterOf::clone`]. It never fails.
-impl<'a, X, P: Projection<X>> Clone for IterOf<'a, X, P> {
+impl<'a, X, T, P: Projection<X, T>> Clone for IterOf<'a, X, T, P> {
     ghost is_clone = { λ iter copy. copy ≡ iter };
 
     ghost is_infallible = { λ _. ⊤ };
 
-    fn clone(&self) -> Result<IterOf<'a, X, P>, AllocError> {
+    fn clone(&self) -> Result<IterOf<'a, X, T, P>, AllocError> {
         Ok(self.clone())
     }
 }
 
 /// Prints what is left, as std prints a list.
-impl<'a, X, T: fmt::Debug, P: Projection<X, Part = T>> fmt::Debug for IterOf<'a, X, P> {
+impl<'a, X, T: fmt::Debug, P: Projection<X, T>> fmt::Debug for IterOf<'a, X, T, P> {
     fn fmt<W: fmt::Write>(&self, f: &mut fmt::Formatter<W>) -> fmt::Result {
         let mut list = f.debug_list();
         for item in self.items.as_slice() {

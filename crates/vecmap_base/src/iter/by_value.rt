@@ -20,29 +20,29 @@ use std::marker::{Model, PhantomData};
 ///
 /// `IntoIter`, `IntoKeys` and `IntoValues` of a map and `IntoIter` of a set are this type. If the iterator is dropped,
 /// the items that are left are dropped too.
-pub struct IntoIterOf<X, P: Projection<X>> {
+pub struct IntoIterOf<X, T, P: Projection<X, T>> {
     items: VecDeque<X>,
-    part: PhantomData<P>,
+    part: PhantomData<(T, P)>,
 }
 
-impl<X, P: Projection<X>> Model for IntoIterOf<X, P> {
+impl<X, T, P: Projection<X, T>> Model for IntoIterOf<X, T, P> {
     ghost use Rattle.std.specs.Prelude.{List, map};
 
-    ghost Value = { List P.Part };
+    ghost Value = { List T };
 
     ghost view = { λ a. map P.part a.items.items };
 }
 
 // Not derived, so that the proof of a loop that ends early still knows which items were taken.
-impl<X: Drop, P: Projection<X>> Drop for IntoIterOf<X, P> {
+impl<X: Drop, T, P: Projection<X, T>> Drop for IntoIterOf<X, T, P> {
     fn drop(self) {
         let IntoIterOf { items, part: _ } = self;
         drop(items);
     }
 }
 
-impl<X, P: Projection<X>> IntoIterOf<X, P> {
-    pub(super) fn over_items(items: Vec<X>) -> IntoIterOf<X, P>
+impl<X, T, P: Projection<X, T>> IntoIterOf<X, T, P> {
+    pub(super) fn over_items(items: Vec<X>) -> IntoIterOf<X, T, P>
         ensures { GivesAll (map P.part items.items) result }
     {
         IntoIterOf {
@@ -52,7 +52,7 @@ impl<X, P: Projection<X>> IntoIterOf<X, P> {
     }
 }
 
-impl<X, T, P: Projection<X, Part = T>> IntoIterOf<X, P> {
+impl<X, T, P: Projection<X, T>> IntoIterOf<X, T, P> {
     /// Returns an iterator over clones of what is left, in the same order.
     ///
     /// Whole items are cloned: a clone of `IntoKeys` clones the values too.
@@ -75,11 +75,11 @@ impl<X, T, P: Projection<X, Part = T>> IntoIterOf<X, P> {
     /// values.clone()?.next() // Some(2)
     /// values.len() // 1
     /// ```
-    pub fn clone(&self) -> Result<IntoIterOf<X, P>, AllocError>
+    pub fn clone(&self) -> Result<IntoIterOf<X, T, P>, AllocError>
     where
         X: Clone,
         T: Clone,
-        P: ClonePart<X>,
+        P: ClonePart<X, T>,
         ensures { IfOk result (λ copy. AreClones T.is_clone self.now copy) }
     {
         Ok(IntoIterOf {
@@ -89,14 +89,14 @@ impl<X, T, P: Projection<X, Part = T>> IntoIterOf<X, P> {
     }
 }
 
-impl<X: Drop, P: IntoPart<X>> Iterator for IntoIterOf<X, P> {
-    type Item = P::Part;
+impl<X: Drop, T, P: IntoPart<X, T>> Iterator for IntoIterOf<X, T, P> {
+    type Item = T;
 
     ghost next_gives = { TakesFirst (λ part. part) };
 
     ghost remaining = { λ s. at_most (length s) };
 
-    fn next(&mut self) -> Option<P::Part> {
+    fn next(&mut self) -> Option<T> {
         let item = self.items.pop_front()?;
         Some(P::into_part(item))
     }
@@ -110,26 +110,26 @@ impl<X: Drop, P: IntoPart<X>> Iterator for IntoIterOf<X, P> {
     }
 }
 
-impl<X: Drop, P: IntoPart<X>> DoubleEndedIterator for IntoIterOf<X, P> {
+impl<X: Drop, T, P: IntoPart<X, T>> DoubleEndedIterator for IntoIterOf<X, T, P> {
     ghost next_back_gives = { TakesLast (λ part. part) };
 
-    fn next_back(&mut self) -> Option<P::Part> {
+    fn next_back(&mut self) -> Option<T> {
         let item = self.items.pop_back()?;
         Some(P::into_part(item))
     }
 }
 
-impl<X: Drop, P: IntoPart<X>> ExactSizeIterator for IntoIterOf<X, P> {
+impl<X: Drop, T, P: IntoPart<X, T>> ExactSizeIterator for IntoIterOf<X, T, P> {
     /// Returns the number of items left.
     fn len(&self) -> usize {
         self.items.len()
     }
 }
 
-impl<X: Drop, P: IntoPart<X>> FusedIterator for IntoIterOf<X, P> {}
+impl<X: Drop, T, P: IntoPart<X, T>> FusedIterator for IntoIterOf<X, T, P> {}
 
 /// Prints what is left, as std prints a list.
-impl<X, T: fmt::Debug, P: Projection<X, Part = T>> fmt::Debug for IntoIterOf<X, P> {
+impl<X, T: fmt::Debug, P: Projection<X, T>> fmt::Debug for IntoIterOf<X, T, P> {
     fn fmt<W: fmt::Write>(&self, f: &mut fmt::Formatter<W>) -> fmt::Result {
         let mut list = f.debug_list();
         for item in &self.items {

@@ -17,7 +17,7 @@ use crate::projection::Element;
 /// items.next() // Some(&1)
 /// items.len() // 1
 /// ```
-pub type Iter<'a, T> = IterOf<'a, T, Element>;
+pub type Iter<'a, T> = IterOf<'a, T, T, Element>;
 
 impl<'a, T> Iter<'a, T> {
     /// Creates an iterator over the items of a slice, from the first to the last.
@@ -47,7 +47,7 @@ impl<'a, T> Iter<'a, T> {
 /// items.next_back() // Some(2)
 /// items.len() // 1
 /// ```
-pub type IntoIter<T> = IntoIterOf<T, Element>;
+pub type IntoIter<T> = IntoIterOf<T, T, Element>;
 
 impl<T> IntoIter<T> {
     /// Creates an iterator over the items of a vector, from the first to the last. Does not allocate.

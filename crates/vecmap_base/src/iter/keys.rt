@@ -19,7 +19,7 @@ use crate::projection::Key;
 /// keys.next() // Some(&'a')
 /// keys.len() // 1
 /// ```
-pub type Keys<'a, K, V> = IterOf<'a, (K, V), Key>;
+pub type Keys<'a, K, V> = IterOf<'a, (K, V), K, Key>;
 
 impl<'a, K, V> Keys<'a, K, V> {
     /// Creates an iterator over the keys of a slice of pairs, from the first to the last.
@@ -51,7 +51,7 @@ impl<'a, K, V> Keys<'a, K, V> {
 /// }
 /// map.as_slice() // [('c', 1), ('b', 2)]
 /// ```
-pub type KeysMut<'a, K, V> = IterMutOf<'a, (K, V), Key>;
+pub type KeysMut<'a, K, V> = IterMutOf<'a, (K, V), K, Key>;
 
 impl<'a, K, V> KeysMut<'a, K, V> {
     /// Creates an iterator over the keys of a slice of pairs, from the first to the last, each of them mutable.
@@ -85,7 +85,7 @@ impl<'a, K, V> KeysMut<'a, K, V> {
 /// keys.next_back() // Some('b')
 /// keys.len() // 1
 /// ```
-pub type IntoKeys<K, V> = IntoIterOf<(K, V), Key>;
+pub type IntoKeys<K, V> = IntoIterOf<(K, V), K, Key>;
 
 impl<K, V> IntoKeys<K, V> {
     /// Creates an iterator over the keys of a vector of pairs, from the first to the last. Does not allocate.

@@ -18,7 +18,7 @@ use crate::projection::{Pair, PairMut};
 /// pairs.next() // Some((&'a', &1))
 /// pairs.len() // 1
 /// ```
-pub type Iter<'a, K, V> = IterOf<'a, (K, V), Pair>;
+pub type Iter<'a, K, V> = IterOf<'a, (K, V), (K, V), Pair>;
 
 impl<'a, K, V> Iter<'a, K, V> {
     /// Creates an iterator over the pairs of a slice, from the first to the last.
@@ -52,7 +52,7 @@ impl<'a, K, V> Iter<'a, K, V> {
 /// }
 /// map.as_slice() // [('a', 1), ('b', 3)]
 /// ```
-pub type IterMut<'a, K, V> = IterMutOf<'a, (K, V), Pair>;
+pub type IterMut<'a, K, V> = IterMutOf<'a, (K, V), (K, V), Pair>;
 
 impl<'a, K, V> IterMut<'a, K, V> {
     /// Creates an iterator over the pairs of a slice, from the first to the last, with mutable values.
@@ -88,7 +88,7 @@ impl<'a, K, V> IterMut<'a, K, V> {
 /// }
 /// map.as_slice() // [('c', 1), ('b', 2)]
 /// ```
-pub type IterMut2<'a, K, V> = IterMutOf<'a, (K, V), PairMut>;
+pub type IterMut2<'a, K, V> = IterMutOf<'a, (K, V), (K, V), PairMut>;
 
 impl<'a, K, V> IterMut2<'a, K, V> {
     /// Creates an iterator over the pairs of a slice, from the first to the last, with mutable keys and values.
@@ -122,7 +122,7 @@ impl<'a, K, V> IterMut2<'a, K, V> {
 /// pairs.next_back() // Some(('b', 2))
 /// pairs.len() // 1
 /// ```
-pub type IntoIter<K, V> = IntoIterOf<(K, V), Pair>;
+pub type IntoIter<K, V> = IntoIterOf<(K, V), (K, V), Pair>;
 
 impl<K, V> IntoIter<K, V> {
     /// Creates an iterator over the pairs of a vector, from the first to the last. Does not allocate.

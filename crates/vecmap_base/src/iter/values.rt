@@ -19,7 +19,7 @@ use crate::projection::Value;
 /// values.next() // Some(&1)
 /// values.len() // 1
 /// ```
-pub type Values<'a, K, V> = IterOf<'a, (K, V), Value>;
+pub type Values<'a, K, V> = IterOf<'a, (K, V), V, Value>;
 
 impl<'a, K, V> Values<'a, K, V> {
     /// Creates an iterator over the values of a slice of pairs, from the first to the last.
@@ -51,7 +51,7 @@ impl<'a, K, V> Values<'a, K, V> {
 /// }
 /// map.as_slice() // [('a', 3), ('b', 2)]
 /// ```
-pub type ValuesMut<'a, K, V> = IterMutOf<'a, (K, V), Value>;
+pub type ValuesMut<'a, K, V> = IterMutOf<'a, (K, V), V, Value>;
 
 impl<'a, K, V> ValuesMut<'a, K, V> {
     /// Creates an iterator over the values of a slice of pairs, from the first to the last, each of them mutable.
@@ -85,7 +85,7 @@ impl<'a, K, V> ValuesMut<'a, K, V> {
 /// values.next_back() // Some(2)
 /// values.len() // 1
 /// ```
-pub type IntoValues<K, V> = IntoIterOf<(K, V), Value>;
+pub type IntoValues<K, V> = IntoIterOf<(K, V), V, Value>;
 
 impl<K, V> IntoValues<K, V> {
     /// Creates an iterator over the values of a vector of pairs, from the first to the last. Does not allocate.
