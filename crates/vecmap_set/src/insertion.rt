@@ -196,11 +196,11 @@ impl<T: Eq> VecSet<T> {
         ensures err { IfErr result (λ error. F.post make (Err error) ⊎ FailsToAppend
             E.from_gives (λ item. F.post make (Ok item)) self.old error) }
     {
-        if let Some(index) = find_item_equivalent(&self.items, query) {
+        if let Some(index) = self.get_index_of(query) {
             return Ok(index);
         }
         let item = make()?;
-        let index = self.items.len();
+        let index = self.len();
         match self.push(item) {
             Ok(()) => Ok(index),
             Err(refused) => Err(E::from(refused)),
