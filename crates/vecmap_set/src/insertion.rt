@@ -196,7 +196,7 @@ impl<T: Eq> VecSet<T> {
         ensures err { IfErr result (λ error. F.post make (Err error) ⊎ FailsToAppend
             E.from_gives (λ item. F.post make (Ok item)) self.old error) }
     {
-        if let Some(index) = self.get_index_of(query) {
+        if let Some(index) = find_item_equivalent(&self.items, query) {
             return Ok(index);
         }
         let item = make()?;
