@@ -1,6 +1,6 @@
 -- What lookups find after a removal and after a write of a value, in the words of contracts.
 use Rattle.std.specs.{Cmp.IsEquivalence, List.IsDistinct, List.Sorted.IsPermutation, List.swap_remove, Map.AreApart, Map.IsKeyTest, Map.KeepsOthers, Map.keys_of, Map.set_value, Option.option_and_then, Option.option_map_or}
-use Rattle.std.proofs.Common.{◌≡◌, ◌∙◌, ◌++◌, ℕ, Bool, true, false, List, [], ◌∷◌, None, Option, Some, IsSome, ap, cond, get_or, inl, inr, refl, remove, slice_get, subst, sym, true≢false}
+use Rattle.std.proofs.Common.{◌≡◌, ◌∙◌, ◌++◌, ℕ, Bool, true, false, List, [], ◌∷◌, None, Option, Some, IsSome, ap, cond, get_or, inl, inr, is_some, refl, remove, slice_get, subst, sym, true≢false}
 use Rattle.std.proofs.lemmas.Bool.{cases_Bool}
 use Rattle.std.proofs.lemmas.List.{map-set}
 use Rattle.std.proofs.lemmas.List.Quantifiers.{position-Some}
@@ -10,11 +10,11 @@ use Rattle.std.proofs.lemmas.Map.Entries.{none_past_head}
 use Rattle.std.proofs.lemmas.Map.Keys.{IsDistinct-tail}
 use Rattle.std.proofs.lemmas.Option.{get_or_from_slice_get, none-some, slice_get-get_or, slice_get_within}
 use Rattle.vecmap_base.specs.{Items.swap_without, Lookups.KeepsLookups, Lookups.UpdatesBy}
-use Rattle.vecmap_base.specs.Pairs.{HasDistinctKeys, index_by, index_of, lookup, lookup_by, put, put_key, swap_without_by, value_at, with_pair, without_by}
-use Rattle.vecmap_base.proofs.PairsLemmas.ByIndex.{index_by_is, lookup_by_index, put_key_by_index, without_by_index}
+use Rattle.vecmap_base.specs.Pairs.{HasDistinctKeys, index_by, index_of, lookup, lookup_by, put, put_key, swap_without_by, value_at, with_pair, with_value, without_by}
+use Rattle.vecmap_base.proofs.PairsLemmas.ByIndex.{index_by_is, is_some_lookup_by, lookup_by_index, put_key_by_index, set_value_by_index, without_by_index}
 use Rattle.vecmap_base.proofs.PairsLemmas.Distinct.{distinct_keys_rearranged, distinct_keys_set_value, distinct_put}
 use Rattle.vecmap_base.proofs.PairsLemmas.Keys.{index_of_is}
-use Rattle.vecmap_base.proofs.PairsLemmas.Lookups.{compares_with, same_answer, updates_put}
+use Rattle.vecmap_base.proofs.PairsLemmas.Lookups.{compares_with, same_answer, updates_of_put, updates_put}
 use Rattle.vecmap_base.proofs.DistinctLemmas.Additions.{distinct_replace}
 use Rattle.vecmap_base.proofs.PairsLemmas.Puts.{put_absent}
 use Rattle.vecmap_base.proofs.PairsLemmas.Order.{lookup_by_rearranged, pair_of_value}
@@ -108,12 +108,38 @@ module _ {K V : Type 0} (eq : K → K → Bool) (o : IsEquivalence eq) (test : K
                 ∙ ap (λ r. cond (other p.0) (Some p.1) r) (away other apart ps)
           ]
 
+  -- The same, if the list before had another value at that key alone, and the write goes to the index of the key.
+  pub updates_written_at : (l m : List (K × V)) (w : Option V) (i : ℕ) (v : V) → UpdatesBy eq test l m w → index_by test m ≡ Some i → UpdatesBy eq test l (with_value m i v) (Some v)
+  unfolding KeepsOthers
+  updates_written_at l m w i v u at =
+      let some : IsSome (lookup_by test m) = is_some_lookup_by test m ∙ ap is_some at in
+      let here : set_value test m v ≡ with_value m i v = set_value_by_index test m v ∙ ap (λ o. option_map_or (λ j. with_value m j v) o m) at in
+      let next = subst (λ n. UpdatesBy eq test m n (Some v)) here (updates_write m v some) in
+      updates_from l (with_value m i v) (Some v) next.own (λ other tells apart. next.queries other tells apart ∙ u.queries other tells apart) (λ d. next.distinct (u.distinct d))
+
   -- The same of lists that are known to be what the removals leave.
   pub updates_of_without : (l m : List (K × V)) → m ≡ without_by test l → HasDistinctKeys eq l → UpdatesBy eq test l m None
   updates_of_without l m e d = subst (λ n. UpdatesBy eq test l n None) (sym e) (updates_without l d)
 
   pub updates_of_swap_without : (l m : List (K × V)) → m ≡ swap_without_by test l → HasDistinctKeys eq l → UpdatesBy eq test l m None
   updates_of_swap_without l m e d = subst (λ n. UpdatesBy eq test l n None) (sym e) (updates_swap_without l d)
+
+  -- If nothing changes, a query has the value that it finds.
+  pub updates_matched : (l : List (K × V)) → UpdatesBy eq test l l (lookup_by test l)
+  updates_matched l = updates_from l l (lookup_by test l) refl (λ other tells apart. refl) (λ d. d)
+
+  -- After a pair is appended whose key alone a query matches, the query has its value.
+  pub updates_appended : (l m : List (K × V)) (p : K × V) → m ≡ l ++ p ∷ [] → index_by test l ≡ None → test p.0 ≡ true → UpdatesBy eq test l m (Some p.1)
+  updates_appended l m p e miss hit =
+      let same : test ≡ eq p.0 = compares_with eq o test respects p.0 hit in
+      let absent : index_of eq l p.0 ≡ None = ap (λ f. index_by f l) (sym same) ∙ miss in
+      subst (λ f. UpdatesBy eq f l m (Some p.1)) (sym same) (updates_of_put eq o l m p.0 p.1 (e ∙ sym (put_absent eq l p.0 p.1 absent)))
+
+  -- The same, if the value is the one that the query finds.
+  pub updates_appended_found : (l m : List (K × V)) (p : K × V) → m ≡ l ++ p ∷ [] → index_by test l ≡ None → test p.0 ≡ true → UpdatesBy eq test l m (lookup_by test m)
+  updates_appended_found l m p e miss hit =
+      let u = updates_appended l m p e miss hit in
+      subst (UpdatesBy eq test l m) (sym u.own) u
 
 module _ {K V : Type 0} (eq : K → K → Bool) (o : IsEquivalence eq) where
   -- A list of distinct keys in another order finds the same.

@@ -6,7 +6,7 @@ use Rattle.std.specs.declared.cmp.Ordering.TheVariants.{Less}
 use Rattle.std.specs.declared.ops.Bound.TheVariants.{Excluded, Included}
 use Rattle.vecmap_base.specs.Clones.{AreClones, ArePairClones, IsCloneOf, IsPairClone}
 use Rattle.vecmap_base.specs.Equality.{FirstDiffer, count, counts_agree, free, has_same_counts, has_same_items, is_within, same_pair}
-use Rattle.vecmap_base.specs.Items.{add, adds, both, item_index, only, put_item, stored_first, stored_item, swap_without, swap_without_first, swap_without_item, without_first, without_item}
+use Rattle.vecmap_base.specs.Items.{add, adds, both, item_index, moved, only, put_item, stored_first, stored_item, swap_without, swap_without_first, swap_without_item, without_first, without_item}
 use Rattle.vecmap_base.specs.Iterators.{HintsExactly, IsHintFor}
 use Rattle.vecmap_base.specs.Orders.{side}
 use Rattle.vecmap_base.specs.Pairs.{HasDistinctKeys, index_by, index_of, index_or_length, lookup, lookup_by, lookup_full, lookup_pair, lookup_pair_by, map_values, put, put_at, put_key, puts, swap_without_by, swap_without_key, value_at, with_pair, with_value, without_by, without_key}
@@ -63,6 +63,12 @@ module _ {A K T : Type 0} (x y : T) (j k : K) (a b c d : A) (r : MapRef T A) whe
 
   swap_without-1 : swap_without (a ∷ b ∷ c ∷ []) 0 ≡ (c ∷ b ∷ [])
   swap_without-1 = refl
+
+  moved-1 : moved (a ∷ b ∷ c ∷ []) 0 2 ≡ (b ∷ c ∷ a ∷ [])
+  moved-1 = refl
+
+  moved-2 : moved (a ∷ b ∷ c ∷ []) 2 0 ≡ (c ∷ a ∷ b ∷ [])
+  moved-2 = refl
 
   stored_first-1 : stored_first (nat_lt 1) (1 ∷ 2 ∷ 4 ∷ []) ≡ Some 2
   stored_first-1 = refl
