@@ -4,7 +4,8 @@
 //!   characters as keys and values of 32 bits, and `u32` elements of 32 bits.
 //! - Insertions: `insert new` starts with `new()`, `reserved` with `with_capacity`. `insert_at present` moves a key
 //!   to a random index, `insert_at absent` inserts each new key in the middle. `count words` and `count lines` count
-//!   by `entry`.
+//!   by `entry`. In the rows of `insert_unique`, the numbers from 0 on are the keys, so that each is known to be new.
+//!   The original has no such call, so its side has `insert` of the same keys.
 //! - Removals: `remove_index` removes all pairs of a clone. `retain`, `drain` and `split_off` remove half of a clone.
 //!   `retain all` removes nothing of it, and `drain all` removes all of it from the back. The times include the
 //!   clone.
@@ -51,6 +52,9 @@ pub struct Row<'a, T> {
     pub loops: Vec<(&'static str, Loop<T>)>,
 }
 
+/// The name of this library.
+const OURS: &str = "vecmap";
+
 /// The name of the kit's vector, in rows that compare it with Rust's.
 const VECTOR: &str = "the kit's Vec";
 
@@ -65,24 +69,21 @@ const LONG: &str = "vecmap, many entries";
 #[cfg(kit)]
 const KIT: &str = "the kit's indexmap";
 
+/// The name of this library in rows that are timed only to compare it with the kit's indexmap.
+#[cfg(kit)]
+const BESIDE_KIT: &str = "vecmap, other sizes";
+
 /// The greatest size at which all rows are timed.
 const MOST: usize = 512;
 
 /// The sizes of the rows of commands and of documents.
 pub const SIZES_OF_PROGRAMS: [usize; 4] = [8, 32, 128, 512];
 
-// A row with its name, its operations, its two inputs, the name of its loop, and the peers that have it.
-macro_rules! row {
-    ($name:literal, $steps:expr, $keys:expr, $probes:expr, $loop:ident $(, $peer:ident)*) => {{
-        #[allow(unused_mut)]
-        let mut loops: Vec<(&'static str, Loop<_>)> =
-            vec![("vecmap-rs", original::$loop), ("vecmap", rattle::$loop)];
-        #[cfg(before)]
-        loops.push((BEFORE, rattle::before::$loop));
-        $(
-            #[cfg(peers)]
-            loops.push(($peer::NAME, $peer::$loop));
-        )*
+// A row with its name, its operations, its two inputs, and the name of its loop. An earlier state need not have it.
+macro_rules! new_row {
+    ($name:literal, $steps:expr, $keys:expr, $probes:expr, $loop:ident) => {{
+        let loops: Vec<(&'static str, Loop<_>)> =
+            vec![("vecmap-rs", original::$loop), (OURS, rattle::$loop)];
         Row {
             name: $name,
             steps: $steps,
@@ -90,6 +91,21 @@ macro_rules! row {
             probes: $probes,
             loops,
         }
+    }};
+}
+
+// A row that an earlier state has, too, with the peers that have it.
+macro_rules! row {
+    ($name:literal, $steps:expr, $keys:expr, $probes:expr, $loop:ident $(, $peer:ident)*) => {{
+        #[allow(unused_mut)]
+        let mut row = new_row!($name, $steps, $keys, $probes, $loop);
+        #[cfg(before)]
+        row.loops.push((BEFORE, rattle::before::$loop));
+        $(
+            #[cfg(peers)]
+            row.loops.push(($peer::NAME, $peer::$loop));
+        )*
+        row
     }};
 }
 
@@ -102,6 +118,17 @@ macro_rules! with_kit {
         row.loops.push((KIT, rattle::kit::$loop));
         row
     }};
+}
+
+/// Returns the rows that have a loop over the kit's indexmap, to compare this library with it at other sizes.
+#[cfg(kit)]
+pub fn beside_kit<T>(mut rows: Vec<Row<'_, T>>) -> Vec<Row<'_, T>> {
+    rows.retain(|row| row.loops.iter().any(|(who, _)| *who == KIT));
+    for row in &mut rows {
+        row.loops.retain(|(who, _)| ["vecmap-rs", OURS, KIT].contains(who));
+        row.loops[1].0 = BESIDE_KIT;
+    }
+    rows
 }
 
 /// Returns all rows over numbers.
@@ -129,8 +156,8 @@ pub fn numbers(it: &Numbers) -> Vec<Row<'_, u64>> {
 fn lookups(it: &Numbers) -> Vec<Row<'_, u64>> {
     let n = it.keys.len();
     vec![
-        row!("get hit", n, &it.keys, &it.hits, get, linear, index),
-        row!("get miss", n, &it.keys, &it.misses, get, linear, index),
+        with_kit!(row!("get hit", n, &it.keys, &it.hits, get, linear, index), get),
+        with_kit!(row!("get miss", n, &it.keys, &it.misses, get, linear, index), get),
         row!("get_index_of", n, &it.keys, &it.mixed, place, index),
         row!("get, char keys", n, &it.keys, &it.mixed, get_char, linear, index),
     ]
@@ -139,8 +166,10 @@ fn lookups(it: &Numbers) -> Vec<Row<'_, u64>> {
 fn insertions(it: &Numbers) -> Vec<Row<'_, u64>> {
     let n = it.keys.len();
     vec![
-        row!("insert new", n, &it.keys, &[], insert, linear, index),
-        row!("insert reserved", n, &it.keys, &[], insert_reserved, linear, index),
+        with_kit!(row!("insert new", n, &it.keys, &[], insert, linear, index), insert),
+        with_kit!(row!("insert reserved", n, &it.keys, &[], insert_reserved, linear, index), insert_reserved),
+        new_row!("insert_unique new", n, &it.keys, &[], insert_unique),
+        new_row!("insert_unique reserved", n, &it.keys, &[], insert_unique_reserved),
         row!("insert present", n, &it.keys, &it.hits, insert_present, linear, index),
         row!("insert_full reserved", n, &it.keys, &[], insert_full, index),
         row!("insert_full present", n, &it.keys, &it.hits, insert_full_present, index),
@@ -327,13 +356,13 @@ pub fn texts(it: &Texts, n: usize) -> Vec<Row<'_, u8>> {
         return Vec::new();
     }
     let mut rows = vec![
-        row!("String get_str hit", n, &it.keys, &it.hits, text_get, linear, index),
-        row!("String get_str miss", n, &it.keys, &it.misses, text_get, linear, index),
+        with_kit!(row!("String get_str hit", n, &it.keys, &it.hits, text_get, linear, index), text_get),
+        with_kit!(row!("String get_str miss", n, &it.keys, &it.misses, text_get, linear, index), text_get),
         row!("String get hit", n, &it.keys, &it.hits, string_get, linear, index),
         row!("188-byte get_str hit", n, &it.long_keys, &it.long_hits, text_get, linear, index),
     ];
     rows.extend([
-        row!("String insert new", n, &it.keys, &[], string_insert, linear, index),
+        with_kit!(row!("String insert new", n, &it.keys, &[], string_insert, linear, index), string_insert),
         row!("String remove+insert", 8 * n, &it.keys, &it.orders, string_remove),
         row!("count lines", 4 * n, &[], &it.words, count_lines, index),
         with_kit!(row!("header insert new", n, &it.keys, &[], header_insert, linear, index), header_insert),
