@@ -4,8 +4,10 @@
 //!   characters as keys and values of 32 bits, and `u32` elements of 32 bits.
 //! - Insertions: `insert new` starts with `new()`, `reserved` with `with_capacity`. `insert_at present` moves a key
 //!   to a random index, `insert_at absent` inserts each new key in the middle. `count words` and `count lines` count
-//!   by `entry`. In the rows of `insert_unique`, the numbers from 0 on are the keys, so that each is known to be new.
-//!   The original has no such call, so its side has `insert` of the same keys.
+//!   by `entry`.
+//! - New keys: `insert_unique` requires that the key is absent, and compares nothing. The keys are the numbers from 0
+//!   on, as many as in the other rows, so each is known to be new. The original has no such call, so its side has
+//!   `insert` of the same keys, and the rows have a table of their own.
 //! - Removals: `remove_index` removes all pairs of a clone. `retain`, `drain` and `split_off` remove half of a clone.
 //!   `retain all` removes nothing of it, and `drain all` removes all of it from the back. The times include the
 //!   clone.
@@ -64,6 +66,9 @@ const BEFORE: &str = "before";
 
 /// The name of this library in rows of many entries.
 const LONG: &str = "vecmap, many entries";
+
+/// The name of this library in rows of keys that are known to be new.
+const UNIQUE: &str = "vecmap, new keys";
 
 /// The name of the kit's indexmap.
 #[cfg(kit)]
@@ -138,6 +143,7 @@ pub fn numbers(it: &Numbers) -> Vec<Row<'_, u64>> {
     }
     let mut rows = lookups(it);
     rows.extend(insertions(it));
+    rows.extend(unique(it));
     rows.extend(removals(it));
     rows.extend(bulk(it));
     rows.extend(iteration(it));
@@ -168,8 +174,6 @@ fn insertions(it: &Numbers) -> Vec<Row<'_, u64>> {
     vec![
         with_kit!(row!("insert new", n, &it.keys, &[], insert, linear, index), insert),
         with_kit!(row!("insert reserved", n, &it.keys, &[], insert_reserved, linear, index), insert_reserved),
-        new_row!("insert_unique new", n, &it.keys, &[], insert_unique),
-        new_row!("insert_unique reserved", n, &it.keys, &[], insert_unique_reserved),
         row!("insert present", n, &it.keys, &it.hits, insert_present, linear, index),
         row!("insert_full reserved", n, &it.keys, &[], insert_full, index),
         row!("insert_full present", n, &it.keys, &it.hits, insert_full_present, index),
@@ -179,6 +183,19 @@ fn insertions(it: &Numbers) -> Vec<Row<'_, u64>> {
         row!("entry absent", n, &it.keys, &[], entry_absent, linear, index),
         row!("entry count words", 4 * n, &it.keys, &it.words, count_words, index),
     ]
+}
+
+// Insertions of keys that are known to be new, in a table of their own.
+fn unique(it: &Numbers) -> Vec<Row<'_, u64>> {
+    let n = it.keys.len();
+    let mut rows = vec![
+        new_row!("insert_unique new", n, &it.keys, &[], insert_unique),
+        new_row!("insert_unique reserved", n, &it.keys, &[], insert_unique_reserved),
+    ];
+    for row in &mut rows {
+        row.loops[1].0 = UNIQUE;
+    }
+    rows
 }
 
 fn removals(it: &Numbers) -> Vec<Row<'_, u64>> {
