@@ -25,7 +25,8 @@
 //! - Keys with an `==` of their own: a symbol is a struct of two numbers of 32 bits, and a header is a number or a
 //!   text of 13 bytes.
 //! - Documents: those of `attr_doc`, with eight names in a section, compared with the same documents over the
-//!   original's maps.
+//!   original's maps. `attr_doc` compares eight bytes of two names at once, and the other side calls Rust's
+//!   `eq_ignore_ascii_case`, which compares sixteen at once, and shorter names byte by byte.
 //! - Vectors: a clone, pushes, removals and insertions at the front of a plain vector of pairs, of the kit and of
 //!   Rust, in a table of their own. `Vec remove, large` removes pairs of 136 bytes at random indices. Rows that
 //!   create, clone or shift a list contain this work.
