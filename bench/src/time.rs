@@ -56,10 +56,11 @@ fn timed<T>(row: &Row<T>, run: Loop<T>, rounds: u64) -> (f64, u64) {
     (processor_seconds() - start, black_box(sum))
 }
 
-/// Returns the seconds that the rounds of a loop take, without what it creates before the first round.
+/// Returns the seconds that the rounds of a loop take, without what it creates before the first round. If the rounds take
+/// less than the clock can tell, it returns a nanosecond.
 fn rounds_timed<T>(row: &Row<T>, run: Loop<T>, rounds: u64) -> f64 {
     let setup = timed(row, run, 0).0;
-    timed(row, run, rounds).0 - setup
+    f64::max(timed(row, run, rounds).0 - setup, 1e-9)
 }
 
 /// Returns the number of rounds that the original needs for a sample: they take longer than the setup.
