@@ -8,17 +8,20 @@ stands how many of its cells are at most 1.05 by either ratio, and how many medi
 the geometric mean of each size. A row of tight loops is marked with a star: at some size, one run's ratio is at least
 twice another's.
 
-If the runs have an earlier state of the library, a last table compares both states: a cell has the median ratio of this
-library divided by that of the earlier one, and the same of the least times. It is bold if both are above 1.05.
+If the runs have an earlier state of the library, or the kit's indexmap, a last table compares this library with it, in
+the rows that both have: a cell has the median ratio of this library divided by that of the other, and the same of the
+least times. It is bold if both are above 1.05.
 """
 import statistics
 import sys
 
 # What each contender is compared with, if it is not the original.
 COMPARED_WITH = {"the kit's Vec": "Rust's Vec"}
-BEFORE = "before"
-# The contenders that an earlier state is compared with.
-OURS = ("vecmap", "vecmap, many entries")
+# What this library is compared with besides the original, with the names of this library in these rows.
+OTHERS = {
+    "before": ("vecmap", "vecmap, many entries"),
+    "the kit's indexmap": ("vecmap", "vecmap, other sizes"),
+}
 MOST = 1.05
 
 
@@ -105,19 +108,20 @@ def table(runs, who, cell):
     print_table(f"{who} : {COMPARED_WITH.get(who, 'vecmap-rs')}", sizes, lines)
 
 
-def comparison(runs):
-    """Prints the table that compares this library with an earlier state of it."""
-    keys = [key for key in dict.fromkeys(key for run in runs for key in run) if key[0] in OURS]
+def comparison(runs, other):
+    """Prints the table that compares this library with another contender, in the rows that both have."""
+    found = [key for key in dict.fromkeys(key for run in runs for key in run) if key[0] in OTHERS[other]]
+    keys = [key for key in found if all((other, *key[1:]) in run for run in runs)]
     sizes = sorted({size for _, _, size in keys})
     cells, disjoint = {}, 0
     for who, row, n in keys:
-        now, before = ([run[it, row, n] for run in runs] for it in (who, BEFORE))
-        cells.setdefault(row, {})[n] = median(now) / median(before), least(now) / least(before)
-        disjoint += min(times[2] for times in now) > max(times[2] for times in before)
+        ours, others = ([run[it, row, n] for run in runs] for it in (who, other))
+        cells.setdefault(row, {})[n] = median(ours) / median(others), least(ours) / least(others)
+        disjoint += min(times[2] for times in ours) > max(times[2] for times in others)
     found = [it for line in cells.values() for it in line.values()]
     faster, slower = sum(max(it) < 1 / MOST for it in found), sum(is_above(*it) for it in found)
-    print(f"\nOf {len(found)} cells, {faster} take at least 5 % less than before by both ratios, and {slower} more.")
-    print(f"In {disjoint} cells, the least ratio is above the greatest before.")
+    print(f"\nOf {len(found)} cells, {faster} take at least 5 % less than {other} by both ratios, and {slower} more.")
+    print(f"In {disjoint} cells, the least ratio is above the greatest of {other}.")
     lines = [
         (row, [bold("{:.2f} {:.2f}".format(*it[n]), is_above(*it[n])) if n in it else "" for n in sizes])
         for row, it in cells.items()
@@ -125,7 +129,7 @@ def comparison(runs):
     columns = ([it[n][i] for it in cells.values() if n in it] for n in sizes for i in (0, 1))
     means = list(map(mean, columns))
     lines.append(("geometric mean", [f"{a} {b}" for a, b in zip(means[::2], means[1::2])]))
-    print_table("vecmap : before", sizes, lines)
+    print_table(f"vecmap : {other}", sizes, lines)
 
 
 def main():
@@ -138,8 +142,9 @@ def main():
     contenders = dict.fromkeys(key[0] for run in runs for key in run)
     for who in contenders:
         table(runs, who, cell)
-    if cell is short and BEFORE in contenders:
-        comparison(runs)
+    if cell is short:
+        for other in filter(contenders.__contains__, OTHERS):
+            comparison(runs, other)
 
 
 main()

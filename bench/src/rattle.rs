@@ -46,6 +46,8 @@ macro_rules! library {
             clone = vecmap_bench_clone,
             insert = vecmap_bench_insert,
             insert_reserved = vecmap_bench_insert_reserved,
+            insert_unique = vecmap_bench_insert_unique,
+            insert_unique_reserved = vecmap_bench_insert_unique_reserved,
             insert_full = vecmap_bench_insert_full,
             insert_present = vecmap_bench_insert_present,
             insert_full_present = vecmap_bench_insert_full_present,
@@ -158,6 +160,7 @@ mod now {
 pub use now::*;
 
 #[cfg(before)]
+#[allow(dead_code)]
 pub mod before {
     library!("before_");
 }

@@ -5,6 +5,9 @@
 //! - Insertions: `insert new` starts with `new()`, `reserved` with `with_capacity`. `insert_at present` moves a key
 //!   to a random index, `insert_at absent` inserts each new key in the middle. `count words` and `count lines` count
 //!   by `entry`.
+//! - New keys: `insert_unique` requires that the key is absent, and compares nothing. The keys are the numbers from 0
+//!   on, as many as in the other rows, so each is known to be new. The original has no such call, so its side has
+//!   `insert` of the same keys, and the rows have a table of their own.
 //! - Removals: `remove_index` removes all pairs of a clone. `retain`, `drain` and `split_off` remove half of a clone.
 //!   `retain all` removes nothing of it, and `drain all` removes all of it from the back. The times include the
 //!   clone.
@@ -22,7 +25,8 @@
 //! - Keys with an `==` of their own: a symbol is a struct of two numbers of 32 bits, and a header is a number or a
 //!   text of 13 bytes.
 //! - Documents: those of `attr_doc`, with eight names in a section, compared with the same documents over the
-//!   original's maps.
+//!   original's maps. `attr_doc` compares eight bytes of two names at once, and the other side calls Rust's
+//!   `eq_ignore_ascii_case`, which compares sixteen at once, and shorter names byte by byte.
 //! - Vectors: a clone, pushes, removals and insertions at the front of a plain vector of pairs, of the kit and of
 //!   Rust, in a table of their own. `Vec remove, large` removes pairs of 136 bytes at random indices. Rows that
 //!   create, clone or shift a list contain this work.
@@ -51,6 +55,9 @@ pub struct Row<'a, T> {
     pub loops: Vec<(&'static str, Loop<T>)>,
 }
 
+/// The name of this library.
+const OURS: &str = "vecmap";
+
 /// The name of the kit's vector, in rows that compare it with Rust's.
 const VECTOR: &str = "the kit's Vec";
 
@@ -61,9 +68,16 @@ const BEFORE: &str = "before";
 /// The name of this library in rows of many entries.
 const LONG: &str = "vecmap, many entries";
 
+/// The name of this library in rows of keys that are known to be new.
+const UNIQUE: &str = "vecmap, new keys";
+
 /// The name of the kit's indexmap.
 #[cfg(kit)]
 const KIT: &str = "the kit's indexmap";
+
+/// The name of this library in rows that are timed only to compare it with the kit's indexmap.
+#[cfg(kit)]
+const BESIDE_KIT: &str = "vecmap, other sizes";
 
 /// The greatest size at which all rows are timed.
 const MOST: usize = 512;
@@ -71,18 +85,11 @@ const MOST: usize = 512;
 /// The sizes of the rows of commands and of documents.
 pub const SIZES_OF_PROGRAMS: [usize; 4] = [8, 32, 128, 512];
 
-// A row with its name, its operations, its two inputs, the name of its loop, and the peers that have it.
-macro_rules! row {
-    ($name:literal, $steps:expr, $keys:expr, $probes:expr, $loop:ident $(, $peer:ident)*) => {{
-        #[allow(unused_mut)]
-        let mut loops: Vec<(&'static str, Loop<_>)> =
-            vec![("vecmap-rs", original::$loop), ("vecmap", rattle::$loop)];
-        #[cfg(before)]
-        loops.push((BEFORE, rattle::before::$loop));
-        $(
-            #[cfg(peers)]
-            loops.push(($peer::NAME, $peer::$loop));
-        )*
+// A row with its name, its operations, its two inputs, and the name of its loop. An earlier state need not have it.
+macro_rules! new_row {
+    ($name:literal, $steps:expr, $keys:expr, $probes:expr, $loop:ident) => {{
+        let loops: Vec<(&'static str, Loop<_>)> =
+            vec![("vecmap-rs", original::$loop), (OURS, rattle::$loop)];
         Row {
             name: $name,
             steps: $steps,
@@ -90,6 +97,21 @@ macro_rules! row {
             probes: $probes,
             loops,
         }
+    }};
+}
+
+// A row that an earlier state has, too, with the peers that have it.
+macro_rules! row {
+    ($name:literal, $steps:expr, $keys:expr, $probes:expr, $loop:ident $(, $peer:ident)*) => {{
+        #[allow(unused_mut)]
+        let mut row = new_row!($name, $steps, $keys, $probes, $loop);
+        #[cfg(before)]
+        row.loops.push((BEFORE, rattle::before::$loop));
+        $(
+            #[cfg(peers)]
+            row.loops.push(($peer::NAME, $peer::$loop));
+        )*
+        row
     }};
 }
 
@@ -104,6 +126,17 @@ macro_rules! with_kit {
     }};
 }
 
+/// Returns the rows that have a loop over the kit's indexmap, to compare this library with it at other sizes.
+#[cfg(kit)]
+pub fn beside_kit<T>(mut rows: Vec<Row<'_, T>>) -> Vec<Row<'_, T>> {
+    rows.retain(|row| row.loops.iter().any(|(who, _)| *who == KIT));
+    for row in &mut rows {
+        row.loops.retain(|(who, _)| ["vecmap-rs", OURS, KIT].contains(who));
+        row.loops[1].0 = BESIDE_KIT;
+    }
+    rows
+}
+
 /// Returns all rows over numbers.
 pub fn numbers(it: &Numbers) -> Vec<Row<'_, u64>> {
     if it.keys.len() > MOST {
@@ -111,6 +144,7 @@ pub fn numbers(it: &Numbers) -> Vec<Row<'_, u64>> {
     }
     let mut rows = lookups(it);
     rows.extend(insertions(it));
+    rows.extend(unique(it));
     rows.extend(removals(it));
     rows.extend(bulk(it));
     rows.extend(iteration(it));
@@ -129,8 +163,8 @@ pub fn numbers(it: &Numbers) -> Vec<Row<'_, u64>> {
 fn lookups(it: &Numbers) -> Vec<Row<'_, u64>> {
     let n = it.keys.len();
     vec![
-        row!("get hit", n, &it.keys, &it.hits, get, linear, index),
-        row!("get miss", n, &it.keys, &it.misses, get, linear, index),
+        with_kit!(row!("get hit", n, &it.keys, &it.hits, get, linear, index), get),
+        with_kit!(row!("get miss", n, &it.keys, &it.misses, get, linear, index), get),
         row!("get_index_of", n, &it.keys, &it.mixed, place, index),
         row!("get, char keys", n, &it.keys, &it.mixed, get_char, linear, index),
     ]
@@ -139,8 +173,8 @@ fn lookups(it: &Numbers) -> Vec<Row<'_, u64>> {
 fn insertions(it: &Numbers) -> Vec<Row<'_, u64>> {
     let n = it.keys.len();
     vec![
-        row!("insert new", n, &it.keys, &[], insert, linear, index),
-        row!("insert reserved", n, &it.keys, &[], insert_reserved, linear, index),
+        with_kit!(row!("insert new", n, &it.keys, &[], insert, linear, index), insert),
+        with_kit!(row!("insert reserved", n, &it.keys, &[], insert_reserved, linear, index), insert_reserved),
         row!("insert present", n, &it.keys, &it.hits, insert_present, linear, index),
         row!("insert_full reserved", n, &it.keys, &[], insert_full, index),
         row!("insert_full present", n, &it.keys, &it.hits, insert_full_present, index),
@@ -150,6 +184,19 @@ fn insertions(it: &Numbers) -> Vec<Row<'_, u64>> {
         row!("entry absent", n, &it.keys, &[], entry_absent, linear, index),
         row!("entry count words", 4 * n, &it.keys, &it.words, count_words, index),
     ]
+}
+
+// Insertions of keys that are known to be new, in a table of their own.
+fn unique(it: &Numbers) -> Vec<Row<'_, u64>> {
+    let n = it.keys.len();
+    let mut rows = vec![
+        new_row!("insert_unique new", n, &it.keys, &[], insert_unique),
+        new_row!("insert_unique reserved", n, &it.keys, &[], insert_unique_reserved),
+    ];
+    for row in &mut rows {
+        row.loops[1].0 = UNIQUE;
+    }
+    rows
 }
 
 fn removals(it: &Numbers) -> Vec<Row<'_, u64>> {
@@ -327,13 +374,13 @@ pub fn texts(it: &Texts, n: usize) -> Vec<Row<'_, u8>> {
         return Vec::new();
     }
     let mut rows = vec![
-        row!("String get_str hit", n, &it.keys, &it.hits, text_get, linear, index),
-        row!("String get_str miss", n, &it.keys, &it.misses, text_get, linear, index),
+        with_kit!(row!("String get_str hit", n, &it.keys, &it.hits, text_get, linear, index), text_get),
+        with_kit!(row!("String get_str miss", n, &it.keys, &it.misses, text_get, linear, index), text_get),
         row!("String get hit", n, &it.keys, &it.hits, string_get, linear, index),
         row!("188-byte get_str hit", n, &it.long_keys, &it.long_hits, text_get, linear, index),
     ];
     rows.extend([
-        row!("String insert new", n, &it.keys, &[], string_insert, linear, index),
+        with_kit!(row!("String insert new", n, &it.keys, &[], string_insert, linear, index), string_insert),
         row!("String remove+insert", 8 * n, &it.keys, &it.orders, string_remove),
         row!("count lines", 4 * n, &[], &it.words, count_lines, index),
         with_kit!(row!("header insert new", n, &it.keys, &[], header_insert, linear, index), header_insert),

@@ -56,10 +56,11 @@ fn timed<T>(row: &Row<T>, run: Loop<T>, rounds: u64) -> (f64, u64) {
     (processor_seconds() - start, black_box(sum))
 }
 
-/// Returns the seconds that the rounds of a loop take, without what it creates before the first round.
+/// Returns the seconds that the rounds of a loop take, without what it creates before the first round. If the rounds take
+/// less than the clock can tell, it returns a nanosecond.
 fn rounds_timed<T>(row: &Row<T>, run: Loop<T>, rounds: u64) -> f64 {
     let setup = timed(row, run, 0).0;
-    timed(row, run, rounds).0 - setup
+    f64::max(timed(row, run, rounds).0 - setup, 1e-9)
 }
 
 /// Returns the number of rounds that the original needs for a sample: they take longer than the setup.
@@ -122,19 +123,33 @@ fn number<N: std::str::FromStr>(name: &str, default: N) -> N {
     text.and_then(|it| it.parse().ok()).unwrap_or(default)
 }
 
+fn sizes(name: &str, default: &str) -> Vec<usize> {
+    let text = env::var(name).unwrap_or_else(|_| default.to_string());
+    text.split_whitespace().filter_map(|it| it.parse().ok()).collect()
+}
+
 fn main() {
     let settings = Settings {
         only: env::args().skip(1).collect(),
         samples: number("SAMPLES", 5),
         seconds: number("SECONDS", 0.003),
     };
-    let sizes = env::var("SIZES").unwrap_or_else(|_| "2 4 8 16 32 128 512 1000 10000".to_string());
-    for n in sizes.split_whitespace().filter_map(|it| it.parse().ok()) {
+    for n in sizes("SIZES", "2 4 8 16 32 128 512 1000 10000") {
         let inputs = Numbers::of(n);
         for row in rows::numbers(&inputs) {
             time(&settings, &row, n);
         }
         for row in rows::texts(&Texts::of(&inputs), n) {
+            time(&settings, &row, n);
+        }
+    }
+    #[cfg(kit)]
+    for n in sizes("KIT_SIZES", "24 48 64 96") {
+        let inputs = Numbers::of(n);
+        for row in rows::beside_kit(rows::numbers(&inputs)) {
+            time(&settings, &row, n);
+        }
+        for row in rows::beside_kit(rows::texts(&Texts::of(&inputs), n)) {
             time(&settings, &row, n);
         }
     }

@@ -1,5 +1,5 @@
-//! Calls that the peers do not have: insertions at an index, a map that is appended to another, and counted
-//! comparisons.
+//! Calls that the peers do not have: insertions at an index, insertions of keys that are known to be new, a map that is
+//! appended to another, and counted comparisons.
 use super::{filled, mark, pairs};
 use vecmap::VecMap;
 
@@ -63,6 +63,33 @@ pub fn append(keys: &[u64], probes: &[u64], rounds: u64) -> u64 {
         let mut other = others.clone();
         map.append(&mut other);
         sum = sum.wrapping_add(mark(&map) ^ round);
+    }
+    sum
+}
+
+// The original has no call for a key that is known to be new.
+#[inline(never)]
+pub fn insert_unique(keys: &[u64], _: &[u64], rounds: u64) -> u64 {
+    let mut sum = 0u64;
+    for round in 0..rounds {
+        let mut map = VecMap::new();
+        for key in 0..keys.len() as u64 {
+            map.insert(key, key ^ round);
+        }
+        sum = sum.wrapping_add(mark(&map));
+    }
+    sum
+}
+
+#[inline(never)]
+pub fn insert_unique_reserved(keys: &[u64], _: &[u64], rounds: u64) -> u64 {
+    let mut sum = 0u64;
+    for round in 0..rounds {
+        let mut map = VecMap::with_capacity(keys.len());
+        for key in 0..keys.len() as u64 {
+            map.insert(key, key ^ round);
+        }
+        sum = sum.wrapping_add(mark(&map));
     }
     sum
 }

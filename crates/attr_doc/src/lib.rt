@@ -6,6 +6,7 @@
 #![tactic(auto)]
 
 mod document;
+mod ignoring_case;
 mod merge;
 mod name;
 mod set;

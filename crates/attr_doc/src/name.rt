@@ -4,6 +4,7 @@ ghost use Rattle.std.specs.Cmp.{partial_equiv_from_equiv};
 ghost use Rattle.std.specs.Prelude.{◌≡◌, string_bytes};
 ghost use Rattle.std.specs.Str.{str_eq_ignore_ascii_case};
 
+use crate::ignoring_case::are_equal;
 use std::fmt;
 use std::marker::Model;
 
@@ -68,7 +69,7 @@ impl PartialEq for Name {
     ghost laws = { partial_equiv_from_equiv ignoring_case_equiv };
 
     fn eq(&self, other: &Name) -> bool {
-        self.text().eq_ignore_ascii_case(other.text())
+        are_equal(self.text().as_bytes(), other.text().as_bytes())
     }
 }
 

@@ -20,6 +20,7 @@ mod removals;
 mod runs;
 mod sets;
 mod texts;
+mod unique;
 mod vectors;
 
 use std::alloc::{AllocError, Global};
