@@ -1,10 +1,13 @@
 -- A rotation by one of the part between two indices moves one item from one index to the other. Replacing each item of
 -- the part by the one next to it does the same.
-use Rattle.std.proofs.Common.{◌≡◌, ℕ, zero, suc, ◌+◌, ◌<◌, ◌≤◌, List, [], ◌∷◌, ◌++◌, ap, arith, append_assoc, drop, drop_at, get_or, insert, length, length-take-le, refl, remove, set, slice_get, Some, sym, take, take_at, ◌∙◌}
+use Rattle.std.specs.{List.Sorted.IsPermutation, Option.option_map_or}
+use Rattle.std.proofs.Common.{◌≡◌, ℕ, zero, suc, ◌+◌, ◌<◌, ◌≤◌, List, [], ◌∷◌, ◌++◌, ap, arith, append_assoc, drop, drop_at, get_or, insert, length, length-take-le, refl, remove, set, slice_get, Some, subst, sym, take, take_at, ◌∙◌}
 use Rattle.std.proofs.lemmas.List.{drop-set-lt, get_or-set_same, take-set-le, take_more}
 use Rattle.std.proofs.lemmas.List.Edits.{length-remove}
-use Rattle.std.proofs.lemmas.Option.{slice_get-get_or}
+use Rattle.std.proofs.lemmas.List.Sorted.{IsPermutation-insert, IsPermutation-remove, IsPermutation-trans}
+use Rattle.std.proofs.lemmas.Option.{get_or_from_slice_get, slice_get-get_or}
 use Rattle.std.proofs.Math.Seq.{take-length}
+use Rattle.vecmap_base.specs.Items.{moved}
 
 module _ {X : Type 0} where
   -- The list `xs` with its part of length `k` from the index `a` on rotated by `n` to the left.
@@ -83,6 +86,25 @@ module _ {X : Type 0} where
   inserted_found [] (suc i) x within = absurd (omega arith)
   inserted_found (y ∷ ys) zero x within = refl
   inserted_found (y ∷ ys) (suc i) x within = inserted_found ys i x (omega arith)
+
+  -- The list after the move of the item at `from`, in the word of contracts.
+  pub moved_is : (xs ys : List X) (from to : ℕ) → from < length xs → ((d : X) → ys ≡ insert (remove xs from) to (get_or xs from d)) → ys ≡ moved xs from to
+  moved_is [] ys from to within f = absurd (omega arith)
+  moved_is (x ∷ xs) ys from to within f =
+      f x ∙ sym (ap (λ o. option_map_or (λ y. insert (remove (x ∷ xs) from) to y) o (x ∷ xs)) (slice_get-get_or (x ∷ xs) from x within))
+
+  -- It has the same items.
+  pub moved_rearranged : (xs ys : List X) (from to : ℕ) → from < length xs → ((d : X) → ys ≡ insert (remove xs from) to (get_or xs from d)) → IsPermutation xs ys
+  moved_rearranged [] ys from to within f = absurd (omega arith)
+  moved_rearranged (x ∷ xs) ys from to within f =
+      let item = get_or (x ∷ xs) from x in
+      let rest = remove (x ∷ xs) from in
+      let same : item ≡ get_or (x ∷ xs) from item = get_or_default (x ∷ xs) from within in
+      subst (IsPermutation (x ∷ xs)) (sym (f x))
+      (IsPermutation-trans (x ∷ xs) (item ∷ rest) (insert rest to item) (IsPermutation-remove (x ∷ xs) from item within same) (IsPermutation-insert rest to item))
+    where
+      get_or_default : (l : List X) (i : ℕ) → i < length l → get_or l i x ≡ get_or l i (get_or l i x)
+      get_or_default l i within = sym (get_or_from_slice_get l i (get_or l i x) (get_or l i x) (slice_get-get_or l i x within))
 
   -- An item that has moved is removed from its new index, and found there.
   pub moved_removed : (xs ys : List X) (from to : ℕ) (x : X) → from < length xs → to < length xs → ys ≡ insert (remove xs from) to x → remove ys to ≡ remove xs from

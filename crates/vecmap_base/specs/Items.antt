@@ -1,5 +1,5 @@
 -- Lists of elements, as an ordered set sees them. `eq` is the `==` of elements.
-use Rattle.std.specs.Prelude.{ℕ, Bool, List, [], ◌∷◌, ◌++◌, Option, if◌then◌else◌, filter, fold, not, position, remove, slice_get, slice_set}
+use Rattle.std.specs.Prelude.{ℕ, Bool, List, [], ◌∷◌, ◌++◌, Option, if◌then◌else◌, filter, fold, insert, not, position, remove, slice_get, slice_set}
 use Rattle.std.specs.List.{swap_remove}
 use Rattle.std.specs.Option.{option_and_then, option_map_or}
 use Rattle.std.specs.Set.{is_member}
@@ -8,6 +8,11 @@ use Rattle.std.specs.Set.{is_member}
 -- The list `s` without the element at the index `i`; the last element moves to its index.
 abbrev pub swap_without : {T : Type 0} → List T → ℕ → List T
 swap_without s i = option_map_or (λ x. swap_remove s i x) (slice_get s i) s
+
+-- Example: from 0 to 2 in `[1,2,3]`: `[2,3,1]`.
+-- The list `s` after the item at the index `from` has moved to the index `to`; the items between them shift by one index.
+abbrev pub moved : {T : Type 0} → List T → ℕ → ℕ → List T
+moved s from to = option_map_or (λ x. insert (remove s from) to x) (slice_get s from) s
 
 module _ {T : Type 0} (test : T → Bool) where
   -- Example: an even one of `[1,2,4]`: 2.

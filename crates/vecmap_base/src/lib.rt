@@ -35,7 +35,7 @@ pub use lookup::{
     contains_equivalent, contains_item, contains_item_inline, find, find_equivalent, find_item,
     find_item_equivalent, find_item_str, find_str,
 };
-pub use moving::{insert_reserved, remove_item, replace_and_move};
+pub use moving::{insert_reserved, move_to, remove_item, replace_and_move};
 pub use refused::Refused;
 pub use relations::{are_disjoint, is_subset_of};
 pub use repeats::{dedup_keep_first, dedup_keep_last_value, gather_items, gather_pairs};

@@ -1,5 +1,7 @@
 //! Moves of items within a slice or a vector.
 ghost use Rattle.std.specs.Prelude.{◌≡◌, ◌<◌, ◌≤◌, Some, insert, length, remove, slice_get, slice_index_or, vec_capacity};
+ghost use Rattle.std.specs.List.Sorted.{IsPermutation};
+ghost use Rattle.vecmap_base.specs.Items.{moved};
 
 use std::mem::{replace, size_of_val};
 
@@ -55,6 +57,36 @@ pub fn replace_and_move<T>(items: &mut Vec<T>, from: usize, to: usize, item: T) 
         return carry_right(items, to, from + 1, item);
     }
     replace_and_rotate(items, from, to, item)
+}
+
+/// Moves the item at `from` to `to`.
+///
+/// The items between the two indices shift by one index.
+///
+/// # Preconditions
+///
+/// Both `from` and `to` are less than `items.len()`.
+///
+/// # Complexity
+///
+/// Linear in the distance between the two indices. Does not allocate.
+///
+/// # Examples
+///
+/// ```
+/// let mut items = vec![in alloc; 'a', 'b', 'c']?;
+/// # assert!(*rt; 2 < items.len());
+/// move_to(&mut items, 0, 2);
+/// items.as_slice() // ['b', 'c', 'a']
+/// ```
+pub fn move_to<T>(items: &mut Vec<T>, from: usize, to: usize)
+    requires from_within { from < length items.old.items }
+    requires to_within { to < length items.old.items }
+    ensures items { items.new.items ≡ moved items.old.items from to }
+    ensures rearranged { IsPermutation items.old.items items.new.items }
+    ensures capacity { vec_capacity items.new ≡ vec_capacity items.old }
+{
+    move_item(items, from, to);
 }
 
 /// Removes and returns the item at `index`.

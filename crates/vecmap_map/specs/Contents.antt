@@ -1,8 +1,9 @@
 -- What a contract sees of a `VecMap`, and what calls say of its capacity.
-use Rattle.std.specs.Prelude.{◌≡◌, ◌+◌, ◌<◌, ◌≤◌, ℕ, Bool, IsOk, IsSome, List, None, OnErr, OnOk, Option, Result, length}
+use Rattle.std.specs.Prelude.{◌≡◌, ◌++◌, ◌∷◌, [], ◌+◌, ◌<◌, ◌≤◌, ℕ, Bool, IsOk, IsSome, List, None, OnErr, OnOk, Option, Result, length}
 use Rattle.std.specs.List.{refill}
 use Rattle.std.specs.Map.{set_value}
 use Rattle.std.specs.Option.{option_map_or}
+use Rattle.vecmap_base.specs.declared.refused.Refused.{Refused}
 use Rattle.vecmap_base.specs.Pairs.{index_by, index_of, with_pair, with_value}
 
 -- Example: `[(1,a)]` with capacity 4.
@@ -76,6 +77,16 @@ module _ {K V : Type 0} where
     pub unchanged : new ≡ old
     pub absent : index ≡ None
     pub full : IsFull old
+
+  -- Example: of a pair `(2,b)` on `[(1,a)]`: `[(1,a), (2,b)]`.
+  -- A pair that was made was appended.
+  abbrev pub Appends : (K × V → Type 0) → Contents K V → Contents K V → Type 0
+  Appends made old new = (pair : K × V) × made pair × (new.entries ≡ old.entries ++ pair ∷ [])
+
+  -- Example: of a made pair on a full `[]` for `AllocError`: that error.
+  -- The map is full, and a `Refused` with a pair that was made became the error.
+  abbrev pub FailsToAppend : {E : Type 0} → (Refused (K × V) → E → Type 0) → (K × V → Type 0) → Contents K V → E → Type 0
+  FailsToAppend becomes made old error = (pair : K × V) × made pair × IsFull old × becomes (record { given = pair }) error
 
 module _ {K V : Type 0} (eq : K → K → Bool) where
   -- Example: a new key with capacity 4 and 3 pairs: capacity 4.

@@ -60,6 +60,12 @@ module _ (K V : RattleType) (m : MutBor (Contents K.Denot V.Denot)) where
   abbrev pub lends_value_if_by : (K.Denot → Bool) → Option (MutBor V.Denot) → Fml
   lends_value_if_by test r = LendsIf (the_row K V) V m r (with_value_by test m.now) m.now
 
+  -- At `None` the map stays.
+  -- Example: `get_value_at_mut(0)` of `[(1,a)]`, written b: `[(1,b)]`.
+  -- Once r ends, its last value is the value at the index i, and nothing else has changed.
+  abbrev pub lends_value_if_at : ℕ → Option (MutBor V.Denot) → Fml
+  lends_value_if_at i r = LendsIf (the_row K V) V m r (with_value_at m.now i) m.now
+
   -- Once r ends, its last pair is the pair at the index i, and nothing else has changed.
   abbrev pub lends_pair_at : ℕ → MutBor (K.Denot × V.Denot) → Fml
   lends_pair_at i r = Lends (the_row K V) (Tuple (K ∷ V ∷ [])) m r (with_pair_at m.now i)

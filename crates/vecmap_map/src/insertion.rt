@@ -1,13 +1,13 @@
 //! Insertion of one pair.
-ghost use Rattle.std.specs.Prelude.{◌≡◌, ◌++◌, ◌∷◌, ◌≤◌, IfErr, IfOk, None, OnErr, OnOk, Some, [], length};
-ghost use Rattle.vecmap_base.specs.Lookups.{Updates};
-ghost use Rattle.vecmap_base.specs.Pairs.{index_or_length, lookup, lookup_full, lookup_pair, put, put_at, put_key};
-ghost use Rattle.vecmap_map.specs.Contents.{HasRoom, KeepsRoom, KeepsRoomAt, Refuses, RefusesAt};
+ghost use Rattle.std.specs.Prelude.{◌≡◌, ◌++◌, ◌∷◌, ◌<◌, ◌≤◌, ◌⊎◌, Err, IfErr, IfOk, IfSome, IsTrue, None, Ok, OnErr, OnOk, Some, [], length};
+ghost use Rattle.vecmap_base.specs.Lookups.{Updates, UpdatesBy};
+ghost use Rattle.vecmap_base.specs.Pairs.{index_by, index_of, index_or_length, lookup, lookup_full, lookup_pair, put, put_at, put_key};
+ghost use Rattle.vecmap_map.specs.Contents.{Appends, FailsToAppend, HasRoom, KeepsRoom, KeepsRoomAt, Refuses, RefusesAt};
 
 use crate::VecMap;
 use std::alloc::AllocError;
 use std::mem::replace;
-use vecmap_base::{Refused, find, insert_reserved, replace_and_move};
+use vecmap_base::{Equivalent, Refused, find, insert_reserved, replace_and_move};
 
 impl<K, V> VecMap<K, V> {
     /// Inserts a pair and returns the previous value of its key.
@@ -186,6 +186,116 @@ impl<K, V> VecMap<K, V> {
         }
         insert_reserved(&mut self.pairs, index, (key, value));
         Ok(None)
+    }
+
+    /// Appends a pair whose key is absent. Does not search.
+    ///
+    /// # Errors
+    ///
+    /// [`Refused`] returns the pair if the map is full and allocation fails; the map is then unchanged.
+    ///
+    /// # Preconditions
+    ///
+    /// No key of the map is equal to `key`.
+    ///
+    /// # Complexity
+    ///
+    /// No comparisons. Allocates only if the map is full, and moves pairs only if the vector grows.
+    ///
+    /// # Examples
+    ///
+    /// ```
+    /// let mut map: VecMap<char, u32> = VecMap::with_capacity(alloc, 2)?;
+    /// map.insert_unique('a', 1)?;
+    /// # assert!(*rt; !map.contains_key(&'b'));
+    /// map.insert_unique('b', 2)?;
+    /// map.as_slice() // [('a', 1), ('b', 2)]
+    /// ```
+    #[inline]
+    pub fn insert_unique(&mut self, key: K, value: V) -> Result<(), Refused<(K, V)>>
+    where
+        K: Eq,
+        requires absent { index_of K.eq self.old.entries key ≡ None }
+        ensures entries { OnOk result (self.new.entries ≡ self.old.entries ++ (key, value) ∷ []) }
+        ensures updates { OnOk result (Updates K.eq self.old.entries key self.new.entries
+            (Some value)) }
+        ensures capacity { KeepsRoomAt None self.old self.new }
+
+        // On `Err` the pair is returned, and the map is full.
+        ensures given { IfErr result (λ refused. refused.given ≡ (key, value)) }
+        ensures err { OnErr result (RefusesAt None self.old self.new) }
+    {
+        self.push(key, value)
+    }
+
+    /// Returns the index of the first key that matches `query`. If no key matches, appends the pair that `make`
+    /// returns, and returns its index.
+    ///
+    /// The key that `make` returns should match `query`. Then all keys stay distinct, if they were.
+    ///
+    /// # Errors
+    ///
+    /// If `make` returns an error, the call returns that error. If the map is full and allocation fails, the
+    /// [`Refused`] with the pair that `make` returned is converted to `E`. The map is unchanged in both cases. If a key
+    /// matches, nothing fails.
+    ///
+    /// # Preconditions
+    ///
+    /// If no key matches `query`, `make` can be called.
+    ///
+    /// # Complexity
+    ///
+    /// At most `len` comparisons, and one call of `make` if no key matches. Allocates only for a new key in a full map,
+    /// and moves pairs only if the vector grows.
+    ///
+    /// # Examples
+    ///
+    /// ```
+    /// let mut counts: VecMap<String, u32> = VecMap::new(alloc);
+    /// let make = || -> Result<_, AllocError> { Ok((String::from_str(alloc, "a")?, 1)) };
+    /// counts.index_or_try_insert_with("a", make)? // 0
+    /// counts.index_or_try_insert_with("a", || Err(AllocError))? // 0
+    /// counts.index_or_try_insert_with("b", || Err(AllocError)).is_err() // true
+    /// counts.len() // 1
+    /// ```
+    pub fn index_or_try_insert_with<Q: Equivalent<K>, E, F: FnOnce() -> Result<(K, V), E>>(
+        &mut self,
+        query: Q,
+        make: F,
+    ) -> Result<usize, E>
+    where
+        K: Eq,
+        E: From<Refused<(K, V)>>,
+        F: Drop,
+        requires callable { index_by (Q.equivalent query) self.old.entries ≡ None → F.pre make }
+        ensures present { IfSome (index_by (Q.equivalent query) self.old.entries)
+            (λ i. (result ≡ Ok i) × (self.new ≡ self.old)) }
+        ensures appended { index_by (Q.equivalent query) self.old.entries ≡ None
+            → IfOk result (λ i. (i ≡ length self.old.entries)
+            × Appends (λ pair. F.post make (Ok pair)) self.old self.new) }
+        ensures within { IfOk result (λ i. i < length self.new.entries) }
+        ensures updates { index_by (Q.equivalent query) self.old.entries ≡ None
+            → ((pair : K × V) → F.post make (Ok pair) → IsTrue (Q.equivalent query pair.0))
+            → OnOk result ((value : V) × UpdatesBy K.eq (Q.equivalent query) self.old.entries
+            self.new.entries (Some value)) }
+        ensures capacity { KeepsRoomAt (index_by (Q.equivalent query) self.old.entries)
+            self.old self.new }
+
+        // On `Err` no key matches. Either `make` failed, or the map is full and memory ran out.
+        ensures absent { OnErr result (index_by (Q.equivalent query) self.old.entries ≡ None) }
+        ensures unchanged { OnErr result (self.new ≡ self.old) }
+        ensures err { IfErr result (λ error. F.post make (Err error) ⊎ FailsToAppend
+            E.from_gives (λ pair. F.post make (Ok pair)) self.old error) }
+    {
+        if let Some(index) = self.get_index_of(query) {
+            return Ok(index);
+        }
+        let (key, value) = make()?;
+        let index = self.len();
+        match self.push(key, value) {
+            Ok(()) => Ok(index),
+            Err(refused) => Err(E::from(refused)),
+        }
     }
 
     // Appends a pair.

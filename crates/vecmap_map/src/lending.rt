@@ -12,7 +12,7 @@ use crate::VecMap;
 use vecmap_base::Equivalent;
 
 impl<K, V> VecMap<K, V> {
-    ghost use Rattle.vecmap_map.specs.Lends.{lends_beside_key, lends_beside_index, lends_value_at, lends_value_if_by, lends_pair_at, lends_pair_if_at};
+    ghost use Rattle.vecmap_map.specs.Lends.{lends_beside_key, lends_beside_index, lends_value_at, lends_value_if_at, lends_value_if_by, lends_pair_at, lends_pair_if_at};
 
     /// Returns a mutable reference to the value of the first pair whose key matches `query`, or `None` if no key
     /// matches.
@@ -172,6 +172,91 @@ impl<K, V> VecMap<K, V> {
             Some(pair) => Some(key_and_value(pair)),
             None => None,
         }
+    }
+
+    /// Returns a mutable reference to the value at `index`, or `None` if `index` is out of range.
+    ///
+    /// Unlike [`VecMap::get_index_mut`], it says what the map holds after a write through the reference to a caller
+    /// without a proof file.
+    ///
+    /// # Complexity
+    ///
+    /// No comparisons.
+    ///
+    /// # Examples
+    ///
+    /// ```
+    /// let mut map = vecmap!(alloc; 'a' => 1, 'b' => 2);
+    /// if let Some(value) = map.get_value_at_mut(1) {
+    ///     *value = 3;
+    /// }
+    /// map.get(&'b') // Some(&3)
+    /// ```
+    pub fn get_value_at_mut(&mut self, index: usize) -> Option<&mut V>
+        ensures* writes_back { sem 𝓛 (lends_value_if_at K.row V.row self.entry index result) }
+        ensures value { option_copied_mut result ≡ value_at self.old.entries index }
+        ensures found { IsSome result ↔ (index < length self.old.entries) }
+    {
+        if index < self.len() {
+            Some(self.value_mut(index))
+        } else {
+            None
+        }
+    }
+
+    /// Returns a mutable reference to the value of the first pair, or `None` if the map is empty.
+    ///
+    /// Unlike [`VecMap::first_mut`], it says what the map holds after a write through the reference to a caller
+    /// without a proof file.
+    ///
+    /// # Complexity
+    ///
+    /// No comparisons.
+    ///
+    /// # Examples
+    ///
+    /// ```
+    /// let mut map = vecmap!(alloc; 'a' => 1, 'b' => 2);
+    /// if let Some(value) = map.first_value_mut() {
+    ///     *value = 3;
+    /// }
+    /// map.get(&'a') // Some(&3)
+    /// ```
+    pub fn first_value_mut(&mut self) -> Option<&mut V>
+        ensures* writes_back { sem 𝓛 (lends_value_if_at K.row V.row self.entry 0 result) }
+        ensures value { option_copied_mut result ≡ value_at self.old.entries 0 }
+        ensures found { IsSome result ↔ (0 < length self.old.entries) }
+    {
+        self.get_value_at_mut(0)
+    }
+
+    /// Returns a mutable reference to the value of the last pair, or `None` if the map is empty.
+    ///
+    /// Unlike [`VecMap::last_mut`], it says what the map holds after a write through the reference to a caller
+    /// without a proof file.
+    ///
+    /// # Complexity
+    ///
+    /// No comparisons.
+    ///
+    /// # Examples
+    ///
+    /// ```
+    /// let mut map = vecmap!(alloc; 'a' => 1, 'b' => 2);
+    /// if let Some(value) = map.last_value_mut() {
+    ///     *value = 3;
+    /// }
+    /// map.get(&'b') // Some(&3)
+    /// ```
+    pub fn last_value_mut(&mut self) -> Option<&mut V>
+        ensures* writes_back { sem 𝓛 (lends_value_if_at K.row V.row self.entry
+            (length self.old.entries - 1) result) }
+        ensures value { option_copied_mut result
+            ≡ value_at self.old.entries (length self.old.entries - 1) }
+        ensures found { IsSome result ↔ (0 < length self.old.entries) }
+    {
+        let last = self.len().saturating_sub(1);
+        self.get_value_at_mut(last)
     }
 
     // Returns a mutable reference to the value at `index`.

@@ -1,8 +1,9 @@
-//! Reversing, swapping and sorting the pairs.
+//! Reversing, moving, swapping and sorting the pairs.
 ghost use Rattle.std.specs.Prelude.{◌≡◌, ◌<◌, ◌≤◌, Bool, IsOk, OnErr, OnOk, is_some, length, reverse, swap};
 ghost use Rattle.std.specs.List.Sorted.{IsPermutation, IsSortedByKey, IsStableByKey};
 ghost use Rattle.std.specs.Cmp.{IsEquivalence};
 ghost use Rattle.std.specs.Ordering.{is_lt};
+ghost use Rattle.vecmap_base.specs.Items.{moved};
 ghost use Rattle.vecmap_base.specs.Lookups.{KeepsLookups};
 ghost use Rattle.vecmap_base.specs.Pairs.{HasDistinctKeys, index_by};
 ghost use Rattle.vecmap_base.specs.Orders.{AnswersOnPair, ComparesPairsAs, IsSortedByPairClosure, IsSortedByPairKey, IsStableByPairClosure, IsStableByPairKey};
@@ -10,6 +11,7 @@ ghost use Rattle.vecmap_base.specs.Orders.{AnswersOnPair, ComparesPairsAs, IsSor
 use crate::VecMap;
 use std::alloc::AllocError;
 use std::cmp::Ordering;
+use vecmap_base::move_to;
 
 impl<K, V> VecMap<K, V> {
     /// Reverses the order of the pairs.
@@ -65,6 +67,37 @@ impl<K, V> VecMap<K, V> {
         ensures capacity { self.new.capacity ≡ self.old.capacity }
     {
         self.pairs.swap(a, b);
+    }
+
+    /// Moves the pair at `from` to `to`. The pairs between the two indices shift by one index.
+    ///
+    /// # Preconditions
+    ///
+    /// `from` and `to` are less than [`VecMap::len`].
+    ///
+    /// # Complexity
+    ///
+    /// No comparisons, and one move for each pair that changes its index.
+    ///
+    /// # Examples
+    ///
+    /// ```
+    /// let mut map = vecmap!(alloc; 'a' => 1, 'b' => 2, 'c' => 3);
+    /// # assert!(*rt; 2 < map.len());
+    /// map.move_index(0, 2);
+    /// map.as_slice() // [('b', 2), ('c', 3), ('a', 1)]
+    /// ```
+    pub fn move_index(&mut self, from: usize, to: usize)
+        requires from_within { from < length self.old.entries }
+        requires to_within { to < length self.old.entries }
+        ensures entries { self.new.entries ≡ moved self.old.entries from to }
+        ensures matches { (test : K → Bool) → is_some (index_by test self.new.entries)
+            ≡ is_some (index_by test self.old.entries) }
+        ensures lookups { (eq : K → K → Bool) → IsEquivalence eq → HasDistinctKeys eq self.old.entries
+            → KeepsLookups eq self.old.entries self.new.entries }
+        ensures capacity { self.new.capacity ≡ self.old.capacity }
+    {
+        move_to(&mut self.pairs, from, to);
     }
 
     /// Sorts the pairs by their keys; pairs whose keys compare as equal keep their order.

@@ -1,6 +1,7 @@
 -- What a contract sees of a `VecSet`, and what calls say of its capacity.
-use Rattle.std.specs.Prelude.{◌≡◌, ◌+◌, ◌<◌, ◌≤◌, ℕ, Bool, IsOk, IsTrue, List, OnErr, OnOk, Result, false, length}
+use Rattle.std.specs.Prelude.{◌≡◌, ◌++◌, ◌∷◌, [], ◌+◌, ◌<◌, ◌≤◌, ℕ, Bool, IsOk, IsTrue, List, OnErr, OnOk, Result, false, length}
 use Rattle.std.specs.Set.{is_member}
+use Rattle.vecmap_base.specs.declared.refused.Refused.{Refused}
 
 -- The elements from the first to the last, and how many of them fit before the vector grows.
 pub record Contents (T : Type 0) : Type 0 where
@@ -29,6 +30,14 @@ module _ {T : Type 0} where
     pub succeeds : HasRoom old additional → IsOk result
     pub unchanged : HasRoom old additional → new ≡ old
     pub err : OnErr result (new ≡ old)
+
+  -- An element that was made was appended.
+  abbrev pub Appends : (T → Type 0) → Contents T → Contents T → Type 0
+  Appends made old new = (item : T) × made item × (new.elements ≡ old.elements ++ item ∷ [])
+
+  -- The set is full, and a `Refused` with an element that was made became the error.
+  abbrev pub FailsToAppend : {E : Type 0} → (Refused T → E → Type 0) → (T → Type 0) → Contents T → E → Type 0
+  FailsToAppend becomes made old error = (item : T) × made item × IsFull old × becomes (record { given = item }) error
 
 module _ {T : Type 0} (eq : T → T → Bool) where
   -- The capacity does not shrink, and stays if an equal element is present or if one more element fits.

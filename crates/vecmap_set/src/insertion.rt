@@ -1,15 +1,15 @@
 //! Insertion of one element.
-ghost use Rattle.std.specs.Prelude.{◌≡◌, ◌++◌, ◌∷◌, ◌≤◌, IfErr, IfOk, IsTrue, OnErr, OnOk, [], false, not, true};
+ghost use Rattle.std.specs.Prelude.{◌≡◌, ◌++◌, ◌∷◌, ◌<◌, ◌≤◌, ◌⊎◌, Err, IfErr, IfOk, IfSome, IsTrue, None, Ok, OnErr, OnOk, [], false, length, not, position, true};
 ghost use Rattle.std.specs.List.{IsDistinct};
 ghost use Rattle.std.specs.Set.{is_member};
 ghost use Rattle.vecmap_base.specs.Items.{add, put_item, stored_item};
 ghost use Rattle.vecmap_base.specs.Lookups.{UpdatesMember};
-ghost use Rattle.vecmap_set.specs.Contents.{HasRoom, IsFull, KeepsRoom, Refuses};
+ghost use Rattle.vecmap_set.specs.Contents.{Appends, FailsToAppend, HasRoom, IsFull, KeepsRoom, Refuses};
 
 use crate::VecSet;
 use std::alloc::AllocError;
 use std::mem;
-use vecmap_base::{Refused, contains_item_inline, find_item};
+use vecmap_base::{Equivalent, Refused, contains_item_inline, find_item, find_item_equivalent};
 
 impl<T: Eq> VecSet<T> {
     /// Inserts an element and returns `true` if it is new.
@@ -98,6 +98,111 @@ impl<T: Eq> VecSet<T> {
         }
         self.push(item)?;
         Ok(None)
+    }
+
+    /// Appends an element that is absent. Does not search.
+    ///
+    /// # Errors
+    ///
+    /// [`Refused`] returns the element if the set is full and allocation fails; the set is then unchanged.
+    ///
+    /// # Preconditions
+    ///
+    /// No element of the set is equal to `item`.
+    ///
+    /// # Complexity
+    ///
+    /// No comparisons. Allocates only if the set is full, and moves elements only if the vector grows.
+    ///
+    /// # Examples
+    ///
+    /// ```
+    /// let mut set: VecSet<u32> = VecSet::with_capacity(alloc, 2)?;
+    /// set.insert_unique(1)?;
+    /// # assert!(*rt; !set.contains(&2));
+    /// set.insert_unique(2)?;
+    /// set.as_slice() // [1, 2]
+    /// ```
+    #[inline]
+    pub fn insert_unique(&mut self, item: T) -> Result<(), Refused<T>>
+        requires absent { is_member T.eq self.old.elements item ≡ false }
+        ensures elements { OnOk result (self.new.elements ≡ self.old.elements ++ item ∷ []) }
+        ensures distinct { IsDistinct T.eq self.new.elements }
+        ensures updates { OnOk result (UpdatesMember T.eq (T.eq item) self.old.elements
+            self.new.elements true) }
+        ensures capacity { KeepsRoom T.eq self.old item self.new }
+
+        // On `Err` the element is returned, and the set is full.
+        ensures given { IfErr result (λ refused. refused.given ≡ item) }
+        ensures err { OnErr result (Refuses T.eq self.old item self.new) }
+    {
+        self.push(item)
+    }
+
+    /// Returns the index of the element that matches `query`. If no element matches, appends the element that `make`
+    /// returns, and returns its index.
+    ///
+    /// # Errors
+    ///
+    /// If `make` returns an error, the call returns that error. If the set is full and allocation fails, the
+    /// [`Refused`] with the element that `make` returned is converted to `E`. The set is unchanged in both cases. If an
+    /// element matches, nothing fails.
+    ///
+    /// # Preconditions
+    ///
+    /// If no element matches `query`, `make` can be called, and `query` matches the element that it returns.
+    ///
+    /// # Complexity
+    ///
+    /// At most `len` comparisons, and one call of `make` if no element matches. Allocates only for a new element in a
+    /// full set, and moves elements only if the vector grows.
+    ///
+    /// # Examples
+    ///
+    /// ```
+    /// let mut names: VecSet<String> = VecSet::new(alloc);
+    /// names.index_or_try_insert_with("a", || String::from_str(alloc, "a"))? // 0
+    /// names.index_or_try_insert_with("a", || Err(AllocError))? // 0
+    /// names.index_or_try_insert_with("b", || Err(AllocError)).is_err() // true
+    /// names.len() // 1
+    /// ```
+    pub fn index_or_try_insert_with<Q: Equivalent<T>, E, F: FnOnce() -> Result<T, E>>(
+        &mut self,
+        query: Q,
+        make: F,
+    ) -> Result<usize, E>
+    where
+        E: From<Refused<T>>,
+        F: Drop,
+        requires callable { position (Q.equivalent query) self.old.elements ≡ None → F.pre make }
+        requires made { (item : T) → F.post make (Ok item) → IsTrue (Q.equivalent query item) }
+        ensures present { IfSome (position (Q.equivalent query) self.old.elements)
+            (λ i. (result ≡ Ok i) × (self.new ≡ self.old)) }
+        ensures appended { position (Q.equivalent query) self.old.elements ≡ None
+            → IfOk result (λ i. (i ≡ length self.old.elements)
+            × Appends (λ item. F.post make (Ok item)) self.old self.new) }
+        ensures within { IfOk result (λ i. i < length self.new.elements) }
+        ensures distinct { IsDistinct T.eq self.new.elements }
+        ensures updates { OnOk result (UpdatesMember T.eq (Q.equivalent query) self.old.elements
+            self.new.elements true) }
+        ensures capacity { self.old.capacity ≤ self.new.capacity }
+        ensures capacity_stays { HasRoom self.old 1 → self.new.capacity ≡ self.old.capacity }
+
+        // On `Err` no element matches. Either `make` failed, or the set is full and memory ran out.
+        ensures absent { OnErr result (position (Q.equivalent query) self.old.elements ≡ None) }
+        ensures unchanged { OnErr result (self.new ≡ self.old) }
+        ensures err { IfErr result (λ error. F.post make (Err error) ⊎ FailsToAppend
+            E.from_gives (λ item. F.post make (Ok item)) self.old error) }
+    {
+        if let Some(index) = find_item_equivalent(&self.items, query) {
+            return Ok(index);
+        }
+        let item = make()?;
+        let index = self.items.len();
+        match self.push(item) {
+            Ok(()) => Ok(index),
+            Err(refused) => Err(E::from(refused)),
+        }
     }
 
     // Appends a new element.

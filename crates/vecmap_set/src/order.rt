@@ -1,11 +1,13 @@
-//! Reversing, swapping and sorting the elements.
+//! Reversing, moving, swapping and sorting the elements.
 ghost use Rattle.std.specs.Prelude.{◌≡◌, ◌<◌, ◌≤◌, Bool, IsOk, OnErr, OnOk, length, reverse, swap};
 ghost use Rattle.std.specs.List.{IsDistinct, list_any};
 ghost use Rattle.std.specs.List.Sorted.{IsPermutation, IsSorted, IsSortedByClosure, IsSortedByKeyClosure, IsStable, IsStableByClosure, IsStableByKeyClosure};
+ghost use Rattle.vecmap_base.specs.Items.{moved};
 
 use crate::VecSet;
 use std::alloc::AllocError;
 use std::cmp::Ordering;
+use vecmap_base::move_to;
 
 impl<T: Eq> VecSet<T> {
     /// Reverses the order of the elements.
@@ -60,6 +62,36 @@ impl<T: Eq> VecSet<T> {
         ensures capacity { self.new.capacity ≡ self.old.capacity }
     {
         self.items.swap(a, b);
+    }
+
+    /// Moves the element at `from` to `to`. The elements between the two indices shift by one index.
+    ///
+    /// # Preconditions
+    ///
+    /// `from` and `to` are less than [`VecSet::len`].
+    ///
+    /// # Complexity
+    ///
+    /// No comparisons, and one move for each element that changes its index.
+    ///
+    /// # Examples
+    ///
+    /// ```
+    /// let mut set = vecset!(alloc; 1, 2, 3);
+    /// # assert!(*rt; 2 < set.len());
+    /// set.move_index(0, 2);
+    /// set.as_slice() // [2, 3, 1]
+    /// ```
+    pub fn move_index(&mut self, from: usize, to: usize)
+        requires from_within { from < length self.old.elements }
+        requires to_within { to < length self.old.elements }
+        ensures elements { self.new.elements ≡ moved self.old.elements from to }
+        ensures distinct { IsDistinct T.eq self.new.elements }
+        ensures matches { (test : T → Bool) → list_any test self.new.elements
+            ≡ list_any test self.old.elements }
+        ensures capacity { self.new.capacity ≡ self.old.capacity }
+    {
+        move_to(&mut self.items, from, to);
     }
 
     /// Sorts the elements; elements that compare as equal keep their order.
