@@ -1,10 +1,12 @@
 -- The index of the first element of a list that passes a test.
-use Rattle.std.specs.Prelude.{◌≡◌, ℕ, zero, suc, ◌+◌, ◌<◌, Bool, true, false, ◌||◌, not, nat_lt, List, [], ◌∷◌, Option, None, Some, is_some, length, map, position, slice_get, take, refl}
+use Rattle.std.specs.Prelude.{◌≡◌, ℕ, zero, suc, ◌+◌, ◌<◌, Bool, true, false, ◌||◌, not, nat_lt, List, [], ◌∷◌, ◌++◌, Option, None, Some, is_some, length, map, position, slice_get, take, refl}
 use Rattle.std.specs.List.{list_any, position_or_len}
 use Rattle.std.specs.Cmp.{both_ways}
 use Rattle.std.specs.Option.{option_and_then, option_map}
-use Rattle.std.proofs.Common.{cond, sym, ap, ◌∙◌, arith, get_or, true≢false, inl, inr}
+use Rattle.std.proofs.Common.{cond, sym, ap, ◌∙◌, arith, get_or, take_at, true≢false, inl, inr}
+use Rattle.std.proofs.Math.Seq.{get_or-append_seam}
 use Rattle.std.proofs.lemmas.Bool.{cases_Bool, false_from_ne_true, lt-ltb, ltb-true}
+use Rattle.std.proofs.lemmas.List.{length-append}
 use Rattle.std.proofs.lemmas.List.Folds.{list_any_at, list_any_more}
 
 is_some-map : {X Y : Type 0} (f : X → Y) (o : Option X) → is_some (option_map f o) ≡ is_some o
@@ -77,6 +79,12 @@ module _ {X : Type 0} (p : X → Bool) where
             | inl e ↦ absurd (true≢false (sym (ap (λ b. b || list_any p (take i ys)) e) ∙ m))
             | inr e ↦ position-miss y ys e ∙ ap (option_map suc) (first ys i (omega arith) h (sym (ap (λ b. b || list_any p (take i ys)) e) ∙ m))
           ]
+
+  -- An appended element that passes is the first if no other passes.
+  pub position_appended : (xs : List X) (x : X) → position p xs ≡ None → p x ≡ true → position p (xs ++ x ∷ []) ≡ Some (length xs)
+  position_appended xs x miss hit =
+      position_at (xs ++ x ∷ []) (length xs) x (omega (arith, length-append xs (x ∷ []))) (sym (get_or-append_seam xs x [] x)) hit
+      (ap (position p) (take_at xs (x ∷ []) (length xs) refl) ∙ miss)
 
   pub fails_everywhere : (xs : List X) (d : X) → position p xs ≡ None → (k : ℕ) → k < length xs → p (get_or xs k d) ≡ false
   fails_everywhere xs d e k lt = false_from_ne_true (p (get_or xs k d)) (λ h. true≢false (sym (list_any_at p xs k d lt h) ∙ list_any_position xs ∙ ap is_some e))

@@ -1,7 +1,7 @@
 //! Insertion of one pair.
 ghost use Rattle.std.specs.Prelude.{◌≡◌, ◌++◌, ◌∷◌, ◌<◌, ◌≤◌, ◌⊎◌, Err, IfErr, IfOk, IfSome, IsTrue, None, Ok, OnErr, OnOk, Some, [], length};
 ghost use Rattle.vecmap_base.specs.Lookups.{Updates, UpdatesBy};
-ghost use Rattle.vecmap_base.specs.Pairs.{index_by, index_of, index_or_length, lookup, lookup_full, lookup_pair, put, put_at, put_key};
+ghost use Rattle.vecmap_base.specs.Pairs.{index_by, index_of, index_or_length, lookup, lookup_by, lookup_full, lookup_pair, put, put_at, put_key};
 ghost use Rattle.vecmap_map.specs.Contents.{Appends, FailsToAppend, HasRoom, KeepsRoom, KeepsRoomAt, Refuses, RefusesAt};
 
 use crate::VecMap;
@@ -225,13 +225,12 @@ impl<K, V> VecMap<K, V> {
         ensures given { IfErr result (λ refused. refused.given ≡ (key, value)) }
         ensures err { OnErr result (RefusesAt None self.old self.new) }
     {
-        self.push(key, value)
+        self.push(key, value)?;
+        Ok(())
     }
 
     /// Returns the index of the first key that matches `query`. If no key matches, appends the pair that `make`
     /// returns, and returns its index.
-    ///
-    /// The key that `make` returns should match `query`. Then all keys stay distinct, if they were.
     ///
     /// # Errors
     ///
@@ -241,7 +240,7 @@ impl<K, V> VecMap<K, V> {
     ///
     /// # Preconditions
     ///
-    /// If no key matches `query`, `make` can be called.
+    /// If no key matches `query`, `make` can be called. `query` matches the key that `make` returns.
     ///
     /// # Complexity
     ///
@@ -268,16 +267,17 @@ impl<K, V> VecMap<K, V> {
         E: From<Refused<(K, V)>>,
         F: Drop,
         requires callable { index_by (Q.equivalent query) self.old.entries ≡ None → F.pre make }
+        requires made { (pair : K × V) → F.post make (Ok pair)
+            → IsTrue (Q.equivalent query pair.0) }
+        ensures index { IfOk result
+            (λ i. index_by (Q.equivalent query) self.new.entries ≡ Some i) }
+        ensures within { IfOk result (λ i. i < length self.new.entries) }
         ensures present { IfSome (index_by (Q.equivalent query) self.old.entries)
             (λ i. (result ≡ Ok i) × (self.new ≡ self.old)) }
-        ensures appended { index_by (Q.equivalent query) self.old.entries ≡ None
-            → IfOk result (λ i. (i ≡ length self.old.entries)
-            × Appends (λ pair. F.post make (Ok pair)) self.old self.new) }
-        ensures within { IfOk result (λ i. i < length self.new.entries) }
-        ensures updates { index_by (Q.equivalent query) self.old.entries ≡ None
-            → ((pair : K × V) → F.post make (Ok pair) → IsTrue (Q.equivalent query pair.0))
-            → OnOk result ((value : V) × UpdatesBy K.eq (Q.equivalent query) self.old.entries
-            self.new.entries (Some value)) }
+        ensures appended { OnOk result (index_by (Q.equivalent query) self.old.entries ≡ None
+            → Appends (λ pair. F.post make (Ok pair)) self.old self.new) }
+        ensures updates { OnOk result (UpdatesBy K.eq (Q.equivalent query) self.old.entries
+            self.new.entries (lookup_by (Q.equivalent query) self.new.entries)) }
         ensures capacity { KeepsRoomAt (index_by (Q.equivalent query) self.old.entries)
             self.old self.new }
 

@@ -1,5 +1,5 @@
 //! Insertion of one element.
-ghost use Rattle.std.specs.Prelude.{◌≡◌, ◌++◌, ◌∷◌, ◌<◌, ◌≤◌, ◌⊎◌, Err, IfErr, IfOk, IfSome, IsTrue, None, Ok, OnErr, OnOk, [], false, length, not, position, true};
+ghost use Rattle.std.specs.Prelude.{◌≡◌, ◌++◌, ◌∷◌, ◌<◌, ◌≤◌, ◌⊎◌, Err, IfErr, IfOk, IfSome, IsTrue, None, Ok, OnErr, OnOk, Some, [], false, length, not, position, true};
 ghost use Rattle.std.specs.List.{IsDistinct};
 ghost use Rattle.std.specs.Set.{is_member};
 ghost use Rattle.vecmap_base.specs.Items.{add, put_item, stored_item};
@@ -136,7 +136,8 @@ impl<T: Eq> VecSet<T> {
         ensures given { IfErr result (λ refused. refused.given ≡ item) }
         ensures err { OnErr result (Refuses T.eq self.old item self.new) }
     {
-        self.push(item)
+        self.push(item)?;
+        Ok(())
     }
 
     /// Returns the index of the element that matches `query`. If no element matches, appends the element that `make`
@@ -150,7 +151,7 @@ impl<T: Eq> VecSet<T> {
     ///
     /// # Preconditions
     ///
-    /// If no element matches `query`, `make` can be called, and `query` matches the element that it returns.
+    /// If no element matches `query`, `make` can be called. `query` matches the element that `make` returns.
     ///
     /// # Complexity
     ///
@@ -176,12 +177,13 @@ impl<T: Eq> VecSet<T> {
         F: Drop,
         requires callable { position (Q.equivalent query) self.old.elements ≡ None → F.pre make }
         requires made { (item : T) → F.post make (Ok item) → IsTrue (Q.equivalent query item) }
+        ensures index { IfOk result
+            (λ i. position (Q.equivalent query) self.new.elements ≡ Some i) }
+        ensures within { IfOk result (λ i. i < length self.new.elements) }
         ensures present { IfSome (position (Q.equivalent query) self.old.elements)
             (λ i. (result ≡ Ok i) × (self.new ≡ self.old)) }
-        ensures appended { position (Q.equivalent query) self.old.elements ≡ None
-            → IfOk result (λ i. (i ≡ length self.old.elements)
-            × Appends (λ item. F.post make (Ok item)) self.old self.new) }
-        ensures within { IfOk result (λ i. i < length self.new.elements) }
+        ensures appended { OnOk result (position (Q.equivalent query) self.old.elements ≡ None
+            → Appends (λ item. F.post make (Ok item)) self.old self.new) }
         ensures distinct { IsDistinct T.eq self.new.elements }
         ensures updates { OnOk result (UpdatesMember T.eq (Q.equivalent query) self.old.elements
             self.new.elements true) }

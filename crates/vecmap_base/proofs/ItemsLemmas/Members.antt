@@ -1,7 +1,7 @@
 -- Which elements are present after an addition and after a removal, in the words of contracts.
 use Rattle.std.specs.{Cmp.IsEquivalence, List.IsDistinct, List.list_any, List.Sorted.IsPermutation, List.swap_remove, Map.AreApart, Map.IsKeyTest, Option.option_map_or}
 use Rattle.std.specs.Set.{is_member, KeepsOthers}
-use Rattle.std.proofs.Common.{◌≡◌, ◌∙◌, ◌||◌, ℕ, Bool, true, false, List, [], ◌∷◌, None, Option, Some, ap, cond, get_or, inl, inr, is_some, position, refl, remove, slice_get, subst, sym}
+use Rattle.std.proofs.Common.{◌≡◌, ◌∙◌, ◌||◌, ◌++◌, ℕ, Bool, true, false, List, [], ◌∷◌, None, Option, Some, ap, cond, get_or, inl, inr, is_some, position, refl, remove, slice_get, subst, sym}
 use Rattle.std.proofs.lemmas.Bool.{cases_Bool}
 use Rattle.std.proofs.lemmas.List.Folds.{list_any-append}
 use Rattle.std.proofs.lemmas.List.Quantifiers.{position-Some}
@@ -83,6 +83,14 @@ module _ {T : Type 0} (eq : T → T → Bool) (o : IsEquivalence eq) where
         by None p = members_stay s p
         by (Some i) p = at i (slice_get s i) p refl
 
+    -- If nothing changes, a query that matches an element still does.
+    pub members_matched : (s : List T) → list_any test s ≡ true → UpdatesMember eq test s s true
+    members_matched s h = members_from s s true h (λ other tells apart. refl)
+
+    -- If a query matches an element and nothing in the list, the element is not in the list.
+    pub absent_by : (s : List T) (x : T) → position test s ≡ None → test x ≡ true → is_member eq s x ≡ false
+    absent_by s x miss hit = ap (λ f. list_any f s) (sym (compares_with eq o test respects x hit)) ∙ list_any_position test s ∙ ap is_some miss
+
   -- After an addition, the element is present, and each other element exactly if it was.
   pub members_of_add : (s r : List T) (x : T) → r ≡ add eq s x → UpdatesMember eq (eq x) s r true
   members_of_add s r x e = subst (λ l. UpdatesMember eq (eq x) s l true) (sym e) (members_from (eq x) (o.congr x) s (add eq s x) true here away)
@@ -102,3 +110,12 @@ module _ {T : Type 0} (eq : T → T → Bool) (o : IsEquivalence eq) where
                 ap (list_any other) (add_absent eq s x n)
                 ∙ list_any-append other s (x ∷ []) ∙ ap (λ b. list_any other s || (b || false)) (apart x (o.refl x)) ∙ or_false (list_any other s)
           ]
+
+  -- The same of an element that was not present and is appended.
+  pub members_appended : (s r : List T) (x : T) → r ≡ s ++ x ∷ [] → is_member eq s x ≡ false → UpdatesMember eq (eq x) s r true
+  members_appended s r x e n = members_of_add s r x (e ∙ sym (add_absent eq s x n))
+
+  -- And for a query that matches the appended element alone.
+  pub members_appended_by : (test : T → Bool) → IsKeyTest eq test → (s r : List T) (x : T) → r ≡ s ++ x ∷ [] → position test s ≡ None → test x ≡ true → UpdatesMember eq test s r true
+  members_appended_by test respects s r x e miss hit =
+      subst (λ f. UpdatesMember eq f s r true) (sym (compares_with eq o test respects x hit)) (members_appended s r x e (absent_by test respects s x miss hit))

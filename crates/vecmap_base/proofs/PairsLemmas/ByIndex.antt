@@ -5,7 +5,7 @@ use Rattle.std.proofs.Common.{◌≡◌, ℕ, suc, Bool, true, false, List, [], 
 use Rattle.std.proofs.lemmas.Option.{slice_get-get_or}
 use Rattle.vecmap_base.specs.Items.{swap_without}
 use Rattle.vecmap_base.specs.Pairs.{index_by, index_of, lookup_by, lookup_pair_by, put, put_key, swap_without_by, value_at, with_pair, with_value, without_by}
-use Rattle.vecmap_base.proofs.IndexLemmas.{position_cons}
+use Rattle.vecmap_base.proofs.IndexLemmas.{position_appended, position_cons}
 use Rattle.vecmap_base.proofs.PairsLemmas.Values.{with_value_cons}
 
 module _ {K V : Type 0} (test : K → Bool) where
@@ -13,6 +13,11 @@ module _ {K V : Type 0} (test : K → Bool) where
   pub index_by_is : (l : List (K × V)) → index_by test l ≡ position (λ p. test p.0) l
   index_by_is [] = refl
   index_by_is (p ∷ ps) = ap (λ o. if test p.0 then Some 0 else option_map suc o) (index_by_is ps) ∙ sym (position_cons (λ q. test q.0) p ps)
+
+  -- The key of an appended pair is at the index after the others, if no other passes.
+  pub index_by_appended : (l m : List (K × V)) (p : K × V) → m ≡ l ++ p ∷ [] → index_by test l ≡ None → test p.0 ≡ true → index_by test m ≡ Some (length l)
+  index_by_appended l m p e miss hit =
+      ap (index_by test) e ∙ index_by_is (l ++ p ∷ []) ∙ position_appended (λ q. test q.0) l p (sym (index_by_is l) ∙ miss) hit
 
   -- A lookup finds the value at the index.
   pub lookup_by_index : (l : List (K × V)) → lookup_by test l ≡ option_and_then (value_at l) (index_by test l)

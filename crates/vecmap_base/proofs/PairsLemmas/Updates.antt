@@ -14,7 +14,7 @@ use Rattle.vecmap_base.specs.Pairs.{HasDistinctKeys, index_by, index_of, lookup,
 use Rattle.vecmap_base.proofs.PairsLemmas.ByIndex.{index_by_is, lookup_by_index, put_key_by_index, without_by_index}
 use Rattle.vecmap_base.proofs.PairsLemmas.Distinct.{distinct_keys_rearranged, distinct_keys_set_value, distinct_put}
 use Rattle.vecmap_base.proofs.PairsLemmas.Keys.{index_of_is}
-use Rattle.vecmap_base.proofs.PairsLemmas.Lookups.{compares_with, same_answer, updates_put}
+use Rattle.vecmap_base.proofs.PairsLemmas.Lookups.{compares_with, same_answer, updates_of_put, updates_put}
 use Rattle.vecmap_base.proofs.DistinctLemmas.Additions.{distinct_replace}
 use Rattle.vecmap_base.proofs.PairsLemmas.Puts.{put_absent}
 use Rattle.vecmap_base.proofs.PairsLemmas.Order.{lookup_by_rearranged, pair_of_value}
@@ -114,6 +114,23 @@ module _ {K V : Type 0} (eq : K → K → Bool) (o : IsEquivalence eq) (test : K
 
   pub updates_of_swap_without : (l m : List (K × V)) → m ≡ swap_without_by test l → HasDistinctKeys eq l → UpdatesBy eq test l m None
   updates_of_swap_without l m e d = subst (λ n. UpdatesBy eq test l n None) (sym e) (updates_swap_without l d)
+
+  -- If nothing changes, a query has the value that it finds.
+  pub updates_matched : (l : List (K × V)) → UpdatesBy eq test l l (lookup_by test l)
+  updates_matched l = updates_from l l (lookup_by test l) refl (λ other tells apart. refl) (λ d. d)
+
+  -- After a pair is appended whose key alone a query matches, the query has its value.
+  pub updates_appended : (l m : List (K × V)) (p : K × V) → m ≡ l ++ p ∷ [] → index_by test l ≡ None → test p.0 ≡ true → UpdatesBy eq test l m (Some p.1)
+  updates_appended l m p e miss hit =
+      let same : test ≡ eq p.0 = compares_with eq o test respects p.0 hit in
+      let absent : index_of eq l p.0 ≡ None = ap (λ f. index_by f l) (sym same) ∙ miss in
+      subst (λ f. UpdatesBy eq f l m (Some p.1)) (sym same) (updates_of_put eq o l m p.0 p.1 (e ∙ sym (put_absent eq l p.0 p.1 absent)))
+
+  -- The same, if the value is the one that the query finds.
+  pub updates_appended_found : (l m : List (K × V)) (p : K × V) → m ≡ l ++ p ∷ [] → index_by test l ≡ None → test p.0 ≡ true → UpdatesBy eq test l m (lookup_by test m)
+  updates_appended_found l m p e miss hit =
+      let u = updates_appended l m p e miss hit in
+      subst (UpdatesBy eq test l m) (sym u.own) u
 
 module _ {K V : Type 0} (eq : K → K → Bool) (o : IsEquivalence eq) where
   -- A list of distinct keys in another order finds the same.

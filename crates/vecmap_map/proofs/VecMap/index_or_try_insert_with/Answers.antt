@@ -1,0 +1,28 @@
+use Rattle.std.proofs.Common.{◌≡◌, ◌∙◌, None, Some, ap, inr, subst, sym}
+use Rattle.vecmap_base.specs.Pairs.{index_by}
+use Rattle.vecmap_base.proofs.PairsLemmas.ByIndex.{index_by_appended}
+use Rattle.vecmap_base.proofs.PairsLemmas.Updates.{updates_appended_found, updates_matched}
+use Rattle.vecmap_map.proofs.VecMap.index_or_try_insert_with.Goals as goal
+
+pub returns-in-Some-clause-updates : goal.returns-in-Some-clause-updates
+returns-in-Some-clause-updates g c =
+    updates_matched g.K.PartialEq.eq g.met.K.Eq.laws (g.Q.Equivalent.equivalent c.args.query) (g.met.Q.Equivalent.respects_eq c.args.query) c.args.self.now.entries
+
+pub returns-in-Ok-clause-index : goal.returns-in-Ok-clause-index
+returns-in-Ok-clause-index g c =
+    let test = g.Q.Equivalent.equivalent c.args.query in
+    let l = c.args.self.now.entries in
+    let none : index_by test l ≡ None = sym c.get_index_of.ensures.index ∙ c.in_default.is in
+    index_by_appended test l c.push.new.self.entries (c.in_ok-key.key, c.in_ok-key.value) c.in-Ok.ensures.entries none (c.requires.made _ c.in_ok-key.ensures)
+    ∙ ap (λ n. Some n) (sym c.len-index.ensures.count)
+
+pub returns-in-Ok-clause-updates : goal.returns-in-Ok-clause-updates
+returns-in-Ok-clause-updates g c =
+    let test = g.Q.Equivalent.equivalent c.args.query in
+    let l = c.args.self.now.entries in
+    let none : index_by test l ≡ None = sym c.get_index_of.ensures.index ∙ c.in_default.is in
+    updates_appended_found g.K.PartialEq.eq g.met.K.Eq.laws test (g.met.Q.Equivalent.respects_eq c.args.query) l c.push.new.self.entries (c.in_ok-key.key, c.in_ok-key.value) c.in-Ok.ensures.entries none (c.requires.made _ c.in_ok-key.ensures)
+
+pub returns-in-Err-clause-err : goal.returns-in-Err-clause-err
+returns-in-Err-clause-err g c =
+    inr ((c.in_ok-key.key, c.in_ok-key.value), c.in_ok-key.ensures, c.in-Err.ensures.err.full, subst (λ pair. g.E.From.from_gives (record { given = pair }) c.from.result) c.in-Err.ensures.given c.from.ensures)
