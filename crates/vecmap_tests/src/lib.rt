@@ -15,6 +15,8 @@ mod equivalent;
 #[cfg(test)]
 mod macros;
 #[cfg(test)]
+mod new_keys;
+#[cfg(test)]
 mod no_size;
 #[cfg(test)]
 mod pages;
