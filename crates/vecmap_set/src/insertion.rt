@@ -200,7 +200,7 @@ impl<T: Eq> VecSet<T> {
             return Ok(index);
         }
         let item = make()?;
-        let index = self.items.len();
+        let index = self.len();
         match self.push(item) {
             Ok(()) => Ok(index),
             Err(refused) => Err(E::from(refused)),

@@ -1,0 +1,37 @@
+use Rattle.std.specs.List.{list_any}
+use Rattle.std.proofs.Common.{◌≡◌, ◌∙◌, None, Some, ap, is_some, position, sym, true}
+use Rattle.vecmap_base.proofs.IndexLemmas.{list_any_position, position_appended}
+use Rattle.vecmap_base.proofs.ItemsLemmas.Members.{absent_by, members_appended_by, members_matched}
+use Rattle.vecmap_set.proofs.VecSet.index_or_try_insert_with.Goals as goal
+
+pub returns-in-Some-clause-updates : goal.returns-in-Some-clause-updates
+returns-in-Some-clause-updates g c =
+    let test = g.Q.Equivalent.equivalent c.args.query in
+    let s = c.args.self.now.elements in
+    let found : position test s ≡ Some c.in-Some.index = ap (λ v. position test v.elements) (sym c.self.view_is) ∙ ap (position test) (sym c.deref.ensures.value) ∙ sym c.find_item_equivalent.ensures.index ∙ c.in-Some.is in
+    let some : list_any test s ≡ true = list_any_position test s ∙ ap is_some found in
+    members_matched g.T.PartialEq.eq g.met.T.Eq.laws test (g.met.Q.Equivalent.respects_eq c.args.query) s some
+
+pub push-requires : goal.push-requires
+push-requires g c =
+    let test = g.Q.Equivalent.equivalent c.args.query in
+    let s = c.args.self.now.elements in
+    let none : position test s ≡ None = ap (λ v. position test v.elements) (sym c.self.view_is) ∙ ap (position test) (sym c.deref.ensures.value) ∙ sym c.find_item_equivalent.ensures.index ∙ c.in_default.is in
+    record {
+      absent = absent_by g.T.PartialEq.eq g.met.T.Eq.laws test (g.met.Q.Equivalent.respects_eq c.args.query) s c.in_ok-item.item none (c.requires.made _ c.in_ok-item.ensures);
+    }
+
+pub returns-in-Ok-clause-index : goal.returns-in-Ok-clause-index
+returns-in-Ok-clause-index g c =
+    let test = g.Q.Equivalent.equivalent c.args.query in
+    let s = c.args.self.now.elements in
+    let none : position test s ≡ None = ap (λ v. position test v.elements) (sym c.self.view_is) ∙ ap (position test) (sym c.deref.ensures.value) ∙ sym c.find_item_equivalent.ensures.index ∙ c.in_default.is in
+    ap (position test) c.in-Ok.ensures.elements
+    ∙ position_appended test s c.in_ok-item.item none (c.requires.made _ c.in_ok-item.ensures) ∙ ap (λ n. Some n) (sym c.len-index.ensures.count)
+
+pub returns-in-Ok-clause-updates : goal.returns-in-Ok-clause-updates
+returns-in-Ok-clause-updates g c =
+    let test = g.Q.Equivalent.equivalent c.args.query in
+    let s = c.args.self.now.elements in
+    let none : position test s ≡ None = ap (λ v. position test v.elements) (sym c.self.view_is) ∙ ap (position test) (sym c.deref.ensures.value) ∙ sym c.find_item_equivalent.ensures.index ∙ c.in_default.is in
+    members_appended_by g.T.PartialEq.eq g.met.T.Eq.laws test (g.met.Q.Equivalent.respects_eq c.args.query) s c.push.new.self.elements c.in_ok-item.item c.in-Ok.ensures.elements none (c.requires.made _ c.in_ok-item.ensures)
