@@ -225,7 +225,11 @@ impl<K, V> VecMap<K, V> {
         ensures given { IfErr result (λ refused. refused.given ≡ (key, value)) }
         ensures err { OnErr result (RefusesAt None self.old self.new) }
     {
-        self.push(key, value)?;
+        let pair = (key, value);
+        if self.reserve_one().is_err() {
+            return Err(Refused { given: pair });
+        }
+        self.pairs.push_reserved(pair);
         Ok(())
     }
 

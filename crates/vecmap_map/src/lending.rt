@@ -197,11 +197,10 @@ impl<K, V> VecMap<K, V> {
         ensures value { option_copied_mut result ≡ value_at self.old.entries index }
         ensures found { IsSome result ↔ (index < length self.old.entries) }
     {
-        if index < self.len() {
-            Some(self.value_mut(index))
-        } else {
-            None
+        if self.len() <= index {
+            return None;
         }
+        Some(self.value_mut(index))
     }
 
     /// Returns a mutable reference to the value of the first pair, or `None` if the map is empty.

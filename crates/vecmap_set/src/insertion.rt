@@ -55,7 +55,7 @@ impl<T: Eq> VecSet<T> {
         if contains_item_inline(&self.items, &item) {
             return Ok(false);
         }
-        self.push(item)?;
+        self.insert_unique(item)?;
         Ok(true)
     }
 
@@ -96,7 +96,7 @@ impl<T: Eq> VecSet<T> {
         if let Some(index) = find_item(&self.items, &item) {
             return Ok(Some(mem::replace(&mut self.items[index], item)));
         }
-        self.push(item)?;
+        self.insert_unique(item)?;
         Ok(None)
     }
 
@@ -123,7 +123,7 @@ impl<T: Eq> VecSet<T> {
     /// set.insert_unique(2)?;
     /// set.as_slice() // [1, 2]
     /// ```
-    #[inline]
+    #[tactic(auto, using(crate::proofs::SetLemmas::distinct_changes))]
     pub fn insert_unique(&mut self, item: T) -> Result<(), Refused<T>>
         requires absent { is_member T.eq self.old.elements item ≡ false }
         ensures elements { OnOk result (self.new.elements ≡ self.old.elements ++ item ∷ []) }
@@ -136,7 +136,10 @@ impl<T: Eq> VecSet<T> {
         ensures given { IfErr result (λ refused. refused.given ≡ item) }
         ensures err { OnErr result (Refuses T.eq self.old item self.new) }
     {
-        self.push(item)?;
+        if self.reserve_one().is_err() {
+            return Err(Refused { given: item });
+        }
+        self.items.push_reserved(item);
         Ok(())
     }
 
@@ -201,27 +204,10 @@ impl<T: Eq> VecSet<T> {
         }
         let item = make()?;
         let index = self.len();
-        match self.push(item) {
+        match self.insert_unique(item) {
             Ok(()) => Ok(index),
             Err(refused) => Err(E::from(refused)),
         }
-    }
-
-    // Appends a new element.
-    #[tactic(auto, using(crate::proofs::SetLemmas::distinct_changes))]
-    fn push(&mut self, item: T) -> Result<(), Refused<T>>
-        requires absent { is_member T.eq self.old.elements item ≡ false }
-        ensures elements { OnOk result (self.new.elements ≡ self.old.elements ++ item ∷ []) }
-        ensures distinct { IsDistinct T.eq self.new.elements }
-        ensures capacity { KeepsRoom T.eq self.old item self.new }
-        ensures given { IfErr result (λ refused. refused.given ≡ item) }
-        ensures err { OnErr result (Refuses T.eq self.old item self.new) }
-    {
-        if self.reserve_one().is_err() {
-            return Err(Refused { given: item });
-        }
-        self.items.push_reserved(item);
-        Ok(())
     }
 
     // Reserves capacity for one more element.

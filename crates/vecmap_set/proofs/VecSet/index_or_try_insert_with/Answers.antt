@@ -12,8 +12,8 @@ returns-in-Some-clause-updates g c =
     let some : list_any test s ≡ true = list_any_position test s ∙ ap is_some found in
     members_matched g.T.PartialEq.eq g.met.T.Eq.laws test (g.met.Q.Equivalent.respects_eq c.args.query) s some
 
-pub push-requires : goal.push-requires
-push-requires g c =
+pub insert_unique-requires : goal.insert_unique-requires
+insert_unique-requires g c =
     let test = g.Q.Equivalent.equivalent c.args.query in
     let s = c.args.self.now.elements in
     let none : position test s ≡ None = ap (λ v. position test v.elements) (sym c.self.view_is) ∙ ap (position test) (sym c.deref.ensures.value) ∙ sym c.find_item_equivalent.ensures.index ∙ c.in_default.is in
@@ -34,4 +34,4 @@ returns-in-Ok-clause-updates g c =
     let test = g.Q.Equivalent.equivalent c.args.query in
     let s = c.args.self.now.elements in
     let none : position test s ≡ None = ap (λ v. position test v.elements) (sym c.self.view_is) ∙ ap (position test) (sym c.deref.ensures.value) ∙ sym c.find_item_equivalent.ensures.index ∙ c.in_default.is in
-    members_appended_by g.T.PartialEq.eq g.met.T.Eq.laws test (g.met.Q.Equivalent.respects_eq c.args.query) s c.push.new.self.elements c.in_ok-item.item c.in-Ok.ensures.elements none (c.requires.made _ c.in_ok-item.ensures)
+    members_appended_by g.T.PartialEq.eq g.met.T.Eq.laws test (g.met.Q.Equivalent.respects_eq c.args.query) s c.insert_unique.new.self.elements c.in_ok-item.item c.in-Ok.ensures.elements none (c.requires.made _ c.in_ok-item.ensures)

@@ -1,5 +1,6 @@
+use Rattle.std.proofs.Common.{rules}
 use Rattle.vecmap_base.proofs.ItemsLemmas.Members.{members_appended}
 use Rattle.vecmap_set.proofs.VecSet.insert_unique.Goals as goal
 
 pub returns-clause-updates : goal.returns-clause-updates
-returns-clause-updates g c = members_appended g.T.PartialEq.eq g.met.T.Eq.laws c.args.self.now.elements c.push.new.self.elements c.args.item c.in_ok-push.ensures.elements c.requires.absent
+returns-clause-updates g c = members_appended g.T.PartialEq.eq g.met.T.Eq.laws c.args.self.now.elements _ c.args.item (search rules) c.requires.absent
