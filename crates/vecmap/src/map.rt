@@ -10,15 +10,17 @@
 //! - removal: `clear`, `truncate`, `split_off`, `retain`, `pop`, `remove`, `remove_entry`, `remove_index`,
 //!   `swap_remove`, `swap_remove_entry`, `swap_remove_index`, `remove_str` (`removal.rt`); `drain` and its iterator
 //!   `Drain` (`drain.rt`)
-//! - order: `reverse`, `swap_indices`, `sort_keys`, `sort_by`, `sort_by_cached_key`, `sort_unstable_keys`,
-//!   `sort_unstable_by` (`order.rt`)
+//! - order: `reverse`, `swap_indices`, `move_index`, `sort_keys`, `sort_by`, `sort_by_cached_key`,
+//!   `sort_unstable_keys`, `sort_unstable_by` (`order.rt`)
 //! - binary searches: `binary_search_keys`, `binary_search_by`, `binary_search_by_key`, `partition_point` (`search.rt`)
 //! - lookups: `contains_key`, `first`, `last`, `get`, `get_index`, `get_full`, `get_key_value`, `get_index_of`,
 //!   `has_distinct_keys`, and lookups by a text, whose names end in `_str` (`lookup.rt`)
-//! - lookups that return a mutable reference to a value: `get_mut`, `first_mut`, `last_mut`, `get_full_mut`,
-//!   `get_index_mut` (`lending.rt`); `map[index]`, `map[&key]`, `map["text"]` (`indexing.rt`)
+//! - lookups that return a mutable reference to a value: `get_mut`, `get_value_at_mut`, `first_value_mut`,
+//!   `last_value_mut`; with its key `first_mut`, `last_mut`, `get_full_mut`, `get_index_mut` (`lending.rt`);
+//!   `map[index]`, `map[&key]`, `map["text"]` (`indexing.rt`)
 //! - calls that write each value: `update_values`, `try_update_values` (`updating.rt`)
-//! - insertion: `insert`, `insert_full`, `insert_key`, `insert_at` (`insertion.rt`)
+//! - insertion: `insert`, `insert_full`, `insert_key`, `insert_at`, `insert_unique`, `index_or_try_insert_with`
+//!   (`insertion.rt`)
 //! - many pairs at once: `from_iter`, `from_slice`, `append`, `extend`, `extend_refs`, `extend_pairs`, `collect`
 //!   (`bulk.rt`); the trait `Extend` (`extending.rt`); `From<Vec>`, `from_vec_counted`, `from_array`,
 //!   `from_vec_unchecked`, `to_vec` (`conversion.rt`)

@@ -10,12 +10,12 @@
 //! - removal: `clear`, `truncate`, `split_off`, `retain`, `pop`, `remove`, `remove_index`, `swap_remove`,
 //!   `swap_remove_index`, `take`, `swap_take`, `remove_str` (`removal.rt`); `drain` and its iterator `Drain`
 //!   (`drain.rt`)
-//! - order: `reverse`, `swap_indices`, `sort`, `sort_by`, `sort_by_cached_key`, `sort_unstable`, `sort_unstable_by`
-//!   (`order.rt`)
+//! - order: `reverse`, `swap_indices`, `move_index`, `sort`, `sort_by`, `sort_by_cached_key`, `sort_unstable`,
+//!   `sort_unstable_by` (`order.rt`)
 //! - binary searches: `binary_search`, `binary_search_by`, `binary_search_by_key`, `partition_point` (`search.rt`)
 //! - lookups: `contains`, `first`, `last`, `get`, `get_index`, `get_full`, `get_index_of`, `contains_str`
 //!   (`lookup.rt`); `set[index]` (`indexing.rt`)
-//! - insertion: `insert`, `replace` (`insertion.rt`)
+//! - insertion: `insert`, `replace`, `insert_unique`, `index_or_try_insert_with` (`insertion.rt`)
 //! - many elements at once: `from_iter`, `from_slice`, `append`, `extend`, `extend_copied`, `collect` (`bulk.rt`); the
 //!   trait `Extend` (`extending.rt`); `From<Vec>`, `from_vec_counted`, `from_array`, `from_vec_unchecked`, `to_vec`
 //!   (`conversion.rt`)
