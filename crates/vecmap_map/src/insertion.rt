@@ -1,7 +1,7 @@
 //! Insertion of one pair.
 ghost use Rattle.std.specs.Prelude.{◌≡◌, ◌++◌, ◌∷◌, ◌<◌, ◌≤◌, ◌⊎◌, Err, IfErr, IfOk, IfSome, IsTrue, None, Ok, OnErr, OnOk, Some, [], length};
 ghost use Rattle.vecmap_base.specs.Lookups.{Updates, UpdatesBy};
-ghost use Rattle.vecmap_base.specs.Pairs.{index_by, index_of, index_or_length, lookup, lookup_by, lookup_full, lookup_pair, put, put_at, put_key};
+ghost use Rattle.vecmap_base.specs.Pairs.{index_by, index_or_length, lookup, lookup_by, lookup_full, lookup_pair, put, put_at, put_key};
 ghost use Rattle.vecmap_map.specs.Contents.{Appends, FailsToAppend, HasRoom, KeepsRoom, KeepsRoomAt, Refuses, RefusesAt};
 
 use crate::VecMap;
@@ -215,7 +215,7 @@ impl<K, V> VecMap<K, V> {
     pub fn insert_unique(&mut self, key: K, value: V) -> Result<(), Refused<(K, V)>>
     where
         K: Eq,
-        requires absent { index_of K.eq self.old.entries key ≡ None }
+        requires absent { lookup K.eq self.old.entries key ≡ None }
         ensures entries { OnOk result (self.new.entries ≡ self.old.entries ++ (key, value) ∷ []) }
         ensures updates { OnOk result (Updates K.eq self.old.entries key self.new.entries
             (Some value)) }

@@ -1,7 +1,7 @@
 -- The definitions on pairs that are by recursion, by the index of the first key that passes a test.
 use Rattle.std.specs.Map.{set_value}
 use Rattle.std.specs.Option.{option_map, option_map_or, option_and_then}
-use Rattle.std.proofs.Common.{◌≡◌, ℕ, suc, Bool, true, false, List, [], ◌∷◌, ◌++◌, Option, None, Some, if◌then◌else◌, refl, ap, ◌∙◌, sym, get_or, is_some, length, position, remove, set, slice_get, slice_set, swap_remove, ◌<◌}
+use Rattle.std.proofs.Common.{◌≡◌, ℕ, suc, Bool, true, false, List, [], ◌∷◌, ◌++◌, Option, None, Some, if◌then◌else◌, refl, ap, ◌∙◌, sym, get_or, is_some, length, position, remove, set, slice_get, slice_set, swap_remove, true≢false, ◌<◌}
 use Rattle.std.proofs.lemmas.Option.{slice_get-get_or}
 use Rattle.vecmap_base.specs.Items.{swap_without}
 use Rattle.vecmap_base.specs.Pairs.{index_by, index_of, lookup_by, lookup_pair_by, put, put_key, swap_without_by, value_at, with_pair, with_value, without_by}
@@ -38,6 +38,14 @@ module _ {K V : Type 0} (test : K → Bool) where
       by true o e = refl
       by false None e = e
       by false (Some i) e = e
+
+  -- If a lookup finds nothing, no key has an index.
+  pub index_by_none : (l : List (K × V)) → lookup_by test l ≡ None → index_by test l ≡ None
+  index_by_none l e = by (index_by test l) (sym (is_some_lookup_by l) ∙ ap is_some e)
+    where
+      by : (o : Option ℕ) → is_some o ≡ false → o ≡ None
+      by None f = refl
+      by (Some i) f = absurd (true≢false f)
 
   -- A lookup of a pair finds the pair at the index.
   pub lookup_pair_by_index : (l : List (K × V)) → lookup_pair_by test l ≡ option_and_then (slice_get l) (index_by test l)
