@@ -1,7 +1,7 @@
 //! Insertion of one pair.
 ghost use Rattle.std.specs.Prelude.{◌≡◌, ◌++◌, ◌∷◌, ◌<◌, ◌≤◌, ◌⊎◌, Err, IfErr, IfOk, IfSome, IsTrue, None, Ok, OnErr, OnOk, Some, [], length};
 ghost use Rattle.vecmap_base.specs.Lookups.{Updates, UpdatesBy};
-ghost use Rattle.vecmap_base.specs.Pairs.{index_by, index_or_length, lookup, lookup_by, lookup_full, lookup_pair, put, put_at, put_key};
+ghost use Rattle.vecmap_base.specs.Pairs.{index_by, index_or_length, lookup, lookup_by, lookup_full, lookup_pair, put, put_at, put_key, with_value};
 ghost use Rattle.vecmap_map.specs.Contents.{Appends, FailsToAppend, HasRoom, KeepsRoom, KeepsRoomAt, Refuses, RefusesAt};
 
 use crate::VecMap;
@@ -282,6 +282,10 @@ impl<K, V> VecMap<K, V> {
             → Appends (λ pair. F.post make (Ok pair)) self.old self.new) }
         ensures updates { OnOk result (UpdatesBy K.eq (Q.equivalent query) self.old.entries
             self.new.entries (lookup_by (Q.equivalent query) self.new.entries)) }
+
+        // What lookups find once a value is written at the index.
+        ensures written { IfOk result (λ i. (value : V) → UpdatesBy K.eq (Q.equivalent query)
+            self.old.entries (with_value self.new.entries i value) (Some value)) }
         ensures capacity { KeepsRoomAt (index_by (Q.equivalent query) self.old.entries)
             self.old self.new }
 

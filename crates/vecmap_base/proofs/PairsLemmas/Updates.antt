@@ -1,6 +1,6 @@
 -- What lookups find after a removal and after a write of a value, in the words of contracts.
 use Rattle.std.specs.{Cmp.IsEquivalence, List.IsDistinct, List.Sorted.IsPermutation, List.swap_remove, Map.AreApart, Map.IsKeyTest, Map.KeepsOthers, Map.keys_of, Map.set_value, Option.option_and_then, Option.option_map_or}
-use Rattle.std.proofs.Common.{◌≡◌, ◌∙◌, ◌++◌, ℕ, Bool, true, false, List, [], ◌∷◌, None, Option, Some, IsSome, ap, cond, get_or, inl, inr, refl, remove, slice_get, subst, sym, true≢false}
+use Rattle.std.proofs.Common.{◌≡◌, ◌∙◌, ◌++◌, ℕ, Bool, true, false, List, [], ◌∷◌, None, Option, Some, IsSome, ap, cond, get_or, inl, inr, is_some, refl, remove, slice_get, subst, sym, true≢false}
 use Rattle.std.proofs.lemmas.Bool.{cases_Bool}
 use Rattle.std.proofs.lemmas.List.{map-set}
 use Rattle.std.proofs.lemmas.List.Quantifiers.{position-Some}
@@ -10,8 +10,8 @@ use Rattle.std.proofs.lemmas.Map.Entries.{none_past_head}
 use Rattle.std.proofs.lemmas.Map.Keys.{IsDistinct-tail}
 use Rattle.std.proofs.lemmas.Option.{get_or_from_slice_get, none-some, slice_get-get_or, slice_get_within}
 use Rattle.vecmap_base.specs.{Items.swap_without, Lookups.KeepsLookups, Lookups.UpdatesBy}
-use Rattle.vecmap_base.specs.Pairs.{HasDistinctKeys, index_by, index_of, lookup, lookup_by, put, put_key, swap_without_by, value_at, with_pair, without_by}
-use Rattle.vecmap_base.proofs.PairsLemmas.ByIndex.{index_by_is, lookup_by_index, put_key_by_index, without_by_index}
+use Rattle.vecmap_base.specs.Pairs.{HasDistinctKeys, index_by, index_of, lookup, lookup_by, put, put_key, swap_without_by, value_at, with_pair, with_value, without_by}
+use Rattle.vecmap_base.proofs.PairsLemmas.ByIndex.{index_by_is, is_some_lookup_by, lookup_by_index, put_key_by_index, set_value_by_index, without_by_index}
 use Rattle.vecmap_base.proofs.PairsLemmas.Distinct.{distinct_keys_rearranged, distinct_keys_set_value, distinct_put}
 use Rattle.vecmap_base.proofs.PairsLemmas.Keys.{index_of_is}
 use Rattle.vecmap_base.proofs.PairsLemmas.Lookups.{compares_with, same_answer, updates_of_put, updates_put}
@@ -107,6 +107,15 @@ module _ {K V : Type 0} (eq : K → K → Bool) (o : IsEquivalence eq) (test : K
                 ap (λ b. lookup_by other (cond b ((p.0, v) ∷ ps) (p ∷ set_value test ps v))) n
                 ∙ ap (λ r. cond (other p.0) (Some p.1) r) (away other apart ps)
           ]
+
+  -- The same, if the list before had another value at that key alone, and the write goes to the index of the key.
+  pub updates_written_at : (l m : List (K × V)) (w : Option V) (i : ℕ) (v : V) → UpdatesBy eq test l m w → index_by test m ≡ Some i → UpdatesBy eq test l (with_value m i v) (Some v)
+  unfolding KeepsOthers
+  updates_written_at l m w i v u at =
+      let some : IsSome (lookup_by test m) = is_some_lookup_by test m ∙ ap is_some at in
+      let here : set_value test m v ≡ with_value m i v = set_value_by_index test m v ∙ ap (λ o. option_map_or (λ j. with_value m j v) o m) at in
+      let next = subst (λ n. UpdatesBy eq test m n (Some v)) here (updates_write m v some) in
+      updates_from l (with_value m i v) (Some v) next.own (λ other tells apart. next.queries other tells apart ∙ u.queries other tells apart) (λ d. next.distinct (u.distinct d))
 
   -- The same of lists that are known to be what the removals leave.
   pub updates_of_without : (l m : List (K × V)) → m ≡ without_by test l → HasDistinctKeys eq l → UpdatesBy eq test l m None

@@ -1,12 +1,19 @@
+-- The idea: the made pair is at the index after the others, as no key before it matches the query.
 use Rattle.std.proofs.Common.{◌≡◌, ◌∙◌, None, Some, ap, inr, subst, sym}
-use Rattle.vecmap_base.specs.Pairs.{index_by}
+use Rattle.vecmap_base.specs.Pairs.{index_by, lookup_by}
 use Rattle.vecmap_base.proofs.PairsLemmas.ByIndex.{index_by_appended}
-use Rattle.vecmap_base.proofs.PairsLemmas.Updates.{updates_appended_found, updates_matched}
+use Rattle.vecmap_base.proofs.PairsLemmas.Updates.{updates_appended_found, updates_matched, updates_written_at}
 use Rattle.vecmap_map.proofs.VecMap.index_or_try_insert_with.Goals as goal
 
 pub returns-in-Some-clause-updates : goal.returns-in-Some-clause-updates
 returns-in-Some-clause-updates g c =
     updates_matched g.K.PartialEq.eq g.met.K.Eq.laws (g.Q.Equivalent.equivalent c.args.query) (g.met.Q.Equivalent.respects_eq c.args.query) c.args.self.now.entries
+
+pub returns-in-Some-clause-written : goal.returns-in-Some-clause-written
+returns-in-Some-clause-written g c = λ value.
+    let test = g.Q.Equivalent.equivalent c.args.query in
+    let l = c.args.self.now.entries in
+    updates_written_at g.K.PartialEq.eq g.met.K.Eq.laws test (g.met.Q.Equivalent.respects_eq c.args.query) l l (lookup_by test l) c.in-Some.index value (returns-in-Some-clause-updates g c) (sym c.get_index_of.ensures.index ∙ c.in-Some.is)
 
 pub returns-in-Ok-clause-index : goal.returns-in-Ok-clause-index
 returns-in-Ok-clause-index g c =
@@ -22,6 +29,12 @@ returns-in-Ok-clause-updates g c =
     let l = c.args.self.now.entries in
     let none : index_by test l ≡ None = sym c.get_index_of.ensures.index ∙ c.in_default.is in
     updates_appended_found g.K.PartialEq.eq g.met.K.Eq.laws test (g.met.Q.Equivalent.respects_eq c.args.query) l c.push.new.self.entries (c.in_ok-key.key, c.in_ok-key.value) c.in-Ok.ensures.entries none (c.requires.made _ c.in_ok-key.ensures)
+
+pub returns-in-Ok-clause-written : goal.returns-in-Ok-clause-written
+returns-in-Ok-clause-written g c = λ value.
+    let test = g.Q.Equivalent.equivalent c.args.query in
+    let m = c.push.new.self.entries in
+    updates_written_at g.K.PartialEq.eq g.met.K.Eq.laws test (g.met.Q.Equivalent.respects_eq c.args.query) c.args.self.now.entries m (lookup_by test m) c.len-index.result value (returns-in-Ok-clause-updates g c) (returns-in-Ok-clause-index g c)
 
 pub returns-in-Err-clause-err : goal.returns-in-Err-clause-err
 returns-in-Err-clause-err g c =
