@@ -17,6 +17,8 @@ mod macros;
 #[cfg(test)]
 mod markers;
 #[cfg(test)]
+mod new_keys;
+#[cfg(test)]
 mod no_size;
 #[cfg(test)]
 mod pages;

@@ -3,6 +3,7 @@ pub mod bulk;
 pub mod calls;
 pub mod closures;
 pub mod loops;
+pub mod new_keys;
 pub mod order;
 pub mod own;
 pub mod traits;
