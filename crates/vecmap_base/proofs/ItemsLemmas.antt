@@ -3,3 +3,4 @@ pub mod Additions
 pub mod Indices
 pub mod Recursion
 pub mod Members
+pub mod Filtered

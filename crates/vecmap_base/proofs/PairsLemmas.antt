@@ -10,3 +10,4 @@ pub mod Distinct
 pub mod Order
 pub mod Updates
 pub mod Parts
+pub mod Filtered

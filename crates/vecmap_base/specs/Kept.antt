@@ -1,5 +1,5 @@
 -- What is left of a list if a closure is called for each item, in order, and decides which items stay.
-use Rattle.std.specs.Prelude.{◌≡◌, ℕ, ◌≤◌, Bool, true, List, [], ◌∷◌, ◌++◌, drop, if◌then◌else◌, length, take}
+use Rattle.std.specs.Prelude.{◌≡◌, ℕ, ◌≤◌, Bool, true, List, [], ◌∷◌, ◌++◌, None, Option, Some, drop, if◌then◌else◌, length, take}
 use Rattle.std.specs.List.{FoldsTo}
 use Rattle.vecmap_base.specs.Asked.{SomeCall}
 
@@ -10,11 +10,22 @@ abbrev pub Kept : {F X : Type 0} → (F → X → Bool → X → F → Type 0) �
 Kept R f [] m g = (m ≡ []) × (g ≡ f)
 Kept {F} {X} R f (x ∷ xs) m g = (b : Bool) × (y : X) × (h : F) × (rest : List X) × R f x b y h × Kept R h xs rest g × (m ≡ (if b then y ∷ rest else rest))
 
+module _ {F K V : Type 0} (R : F → K × V → Bool → K × V → F → Type 0) where
+  -- Example: of a closure that keeps the values above 5: `h` of 7 is `Some 7`, and of 5 `None`.
+  -- Each call of the closure in the state `f` leaves that state. It keeps what `h` makes of the value, and `None` is not kept.
+  abbrev pub FiltersValues : F → (V → Option V) → Type 0
+  FiltersValues f h = (p : K × V) (b : Bool) (q : K × V) (g : F) → R f p b q g → (h p.1 ≡ (if b then Some q.1 else None)) × (g ≡ f)
+
 module _ {F X : Type 0} (R : F → X → Bool → X → F → Type 0) where
   -- Example: of a closure that sets each value to 0: `h` of `(1,5)` is `(1,0)`.
   -- Each call of the closure in the state `f` returns `true`, writes `h` of the item and leaves that state.
   abbrev pub WritesItems : F → (X → X) → Type 0
   WritesItems f h = (x : X) (b : Bool) (y : X) (g : F) → R f x b y g → (b ≡ true) × (y ≡ h x) × (g ≡ f)
+
+  -- Example: of a closure that keeps what is below 5, at items that are equal to 7: `false`.
+  -- Each call of the closure in the state `f` leaves that state, and returns `kept` at an item that passes the test.
+  abbrev pub ReturnsAt : F → (X → Bool) → Bool → Type 0
+  ReturnsAt f test kept = (x : X) (b : Bool) (y : X) (g : F) → R f x b y g → (test x ≡ true → b ≡ kept) × (g ≡ f)
 
   -- The first `k` items of `ys` are the kept items, as they were written. From `i` on, `ys` is `xs`.
   -- The closure was called for the first `i` items of `xs`, in order, which took it from `f0` to `f`.

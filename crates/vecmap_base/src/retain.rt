@@ -1,9 +1,13 @@
 //! Functions that retain the items for which a closure returns `true`. Nothing is shifted, and one truncation at the
 //! end removes the others.
-ghost use Rattle.std.specs.Prelude.{◌≡◌, ◌+◌, ◌≤◌, Bool, length, vec_capacity};
+ghost use Rattle.std.specs.Prelude.{◌≡◌, ◌+◌, ◌≤◌, ◌&&◌, Bool, Option, length, vec_capacity};
 ghost use Rattle.std.specs.Fn.{TakesAt};
+ghost use Rattle.std.specs.List.{list_any};
+ghost use Rattle.std.specs.Map.{IsKeyTest};
+ghost use Rattle.std.specs.Option.{option_and_then};
 ghost use Rattle.vecmap_base.specs.Asked.{CallableOnEach, CallsAtItem, CallsAtPair, CallsAtPairMut, TakesPairAt, TakesPairMut};
-ghost use Rattle.vecmap_base.specs.Kept.{Kept, KeptSoFar};
+ghost use Rattle.vecmap_base.specs.Kept.{FiltersValues, Kept, KeptSoFar, ReturnsAt};
+ghost use Rattle.vecmap_base.specs.Pairs.{HasDistinctKeys, lookup_by};
 
 /// Retains only the pairs for which `f` returns `true`, each with the value as `f` left it.
 ///
@@ -31,6 +35,12 @@ pub fn retain_pairs<K: Drop, V: Drop, F: FnMut(&K, &mut V) -> bool + Drop>(
 )
     requires callable { CallableOnEach (CallsAtPair F.FnMut)
         (TakesPairAt F.FnMut) f pairs.old.items }
+    ensures lookups { (h : V → Option V) → FiltersValues (CallsAtPair F.FnMut) f h
+        → (test : K → Bool) (eq : K → K → Bool) → HasDistinctKeys eq pairs.old.items
+        → IsKeyTest eq test
+        → lookup_by test pairs.new.items ≡ option_and_then h (lookup_by test pairs.old.items) }
+    ensures distinct { (eq : K → K → Bool) → HasDistinctKeys eq pairs.old.items
+        → HasDistinctKeys eq pairs.new.items }
     ensures retained { (g : F) × Kept (CallsAtPair F.FnMut) f pairs.old.items pairs.new.items g }
     ensures capacity { vec_capacity pairs.new ≡ vec_capacity pairs.old }
 {
@@ -84,6 +94,8 @@ pub fn retain_pairs_mut<K: Drop, V: Drop, F: FnMut(&mut K, &mut V) -> bool + Dro
 /// ```
 pub fn retain_items<T: Drop, F: FnMut(&T) -> bool + Drop>(items: &mut Vec<T>, f: F)
     requires callable { CallableOnEach (CallsAtItem F.FnMut) (TakesAt F.FnMut) f items.old.items }
+    ensures matches { (query : T → Bool) (kept : Bool) → ReturnsAt (CallsAtItem F.FnMut) f query kept
+        → list_any query items.new.items ≡ (list_any query items.old.items && kept) }
     ensures retained { (g : F) × Kept (CallsAtItem F.FnMut) f items.old.items items.new.items g }
     ensures capacity { vec_capacity items.new ≡ vec_capacity items.old }
 {

@@ -1,4 +1,4 @@
-//! Functions that users of a map write first. Their contracts say what lookups find, and none has a proof file.
+//! Functions that users of a map or a set write first. Their contracts say what lookups find, and none has a proof file.
 //!
 //! ```
 //! let mut map = VecMap::with_capacity(alloc, 2)?;
@@ -12,13 +12,22 @@
 //! map.as_slice() // [(2, 2)]
 //! truncate_and_get(&mut map, 2, 1) // Some(2)
 //! defaults(alloc)?.as_slice() // [(1, 10), (2, 20)]
+//! let over = vecmap!(alloc; 2 => 0, 3 => 4);
+//! overlay(&mut map, over)?;
+//! map.as_slice() // [(2, 0), (3, 4)]
+//! retain_and_get(&mut map, 3) // Some(4)
+//! map.as_slice() // [(3, 4)]
+//! let mut set = vecset!(alloc; 8, 9);
+//! retain_then_contains(&mut set, &9) // false
+//! set.as_slice() // [8]
 //! ```
-ghost use Rattle.std.specs.Option.{option_map};
-ghost use Rattle.std.specs.Prelude.{◌≡◌, ◌<◌, ◌+◌, ◌%◌, ℕ, IfOk, IsTrue, None, OnErr, OnOk, Some, false, nat_eq, unwrap_or};
+ghost use Rattle.std.specs.Option.{option_and_then, option_map, option_or};
+ghost use Rattle.std.specs.Prelude.{◌≡◌, ◌&&◌, ◌<◌, ◌+◌, ◌%◌, ℕ, IfOk, IsTrue, None, OnErr, OnOk, Some, false, if◌then◌else◌, nat_eq, nat_lt, unwrap_or};
+ghost use Rattle.std.specs.Set.{is_member};
 ghost use Rattle.vecmap.specs.Pairs.{HasDistinctKeys, index_of, lookup, put};
 
 use std::alloc::{AllocError, Global};
-use vecmap::{Refused, VecMap};
+use vecmap::{Refused, VecMap, VecSet};
 use vecmap_laws::maps;
 
 /// Inserts a pair. Its key finds the value, and each other key finds what it found.
@@ -109,4 +118,48 @@ pub fn truncate_and_get(map: &mut VecMap<u32, u32>, key: u32, len: usize) -> Opt
 {
     map.truncate(len);
     map.get(&key).copied()
+}
+
+/// Keeps the pairs whose value is not zero. A key that is left finds its value.
+pub fn retain_and_get(map: &mut VecMap<u32, u32>, key: u32) -> Option<u32>
+    requires { HasDistinctKeys nat_eq map.old.entries }
+    ensures { result ≡ option_and_then (λ v. if nat_lt 0 v then Some v else None)
+        (lookup nat_eq map.old.entries key) }
+{
+    map.retain(|_key, value| *value > 0);
+    map.get(&key).copied()
+}
+
+/// The same of keys of any type, and what is written to the values that are kept.
+pub fn retain_and_write<K: Eq + Drop>(map: &mut VecMap<K, u32>, key: &K) -> bool
+    requires { HasDistinctKeys K.eq map.old.entries }
+    ensures lookup { lookup K.eq map.new.entries key.now
+        ≡ option_and_then (λ v. if nat_lt 9 v then Some 9 else None)
+        (lookup K.eq map.old.entries key.now) }
+    ensures distinct { HasDistinctKeys K.eq map.new.entries }
+{
+    map.retain(|_key, value| {
+        let is_large = *value > 9;
+        *value = 9;
+        is_large
+    });
+    map.contains_key(key)
+}
+
+/// Inserts the pairs of another map, whose values win.
+#[tactic(auto, using(vecmap_laws::proofs::Rules::extended))]
+pub fn overlay(base: &mut VecMap<u32, u32>, over: VecMap<u32, u32>) -> Result<(), AllocError>
+    requires { HasDistinctKeys nat_eq over.entries }
+    ensures { OnOk result ((q : ℕ) → lookup nat_eq base.new.entries q
+        ≡ option_or (lookup nat_eq over.entries q) (lookup nat_eq base.old.entries q)) }
+{
+    base.extend(over)
+}
+
+/// Keeps the elements below 9, and returns whether an element is left.
+pub fn retain_then_contains(set: &mut VecSet<u32>, query: &u32) -> bool
+    ensures { result ≡ (is_member nat_eq set.old.elements query.now && nat_lt query.now 9) }
+{
+    set.retain(|item| *item < 9);
+    set.contains(query)
 }

@@ -1,5 +1,5 @@
 -- What is found, and at which index, after one insertion and after many.
-use Rattle.std.specs.{Cmp.IsEquivalence, List.list_any, Map.keys_of, Option.option_and_then, Option.option_map, Option.option_map_or, Option.option_or}
+use Rattle.std.specs.{Cmp.IsEquivalence, List.list_any, Map.keys_of, Map.values_of, Option.option_and_then, Option.option_map, Option.option_map_or, Option.option_or}
 use Rattle.std.proofs.Common.{◌≡◌, ◌<◌, ◌+◌, ℕ, zero, Bool, position, true, false, List, [], ◌∷◌, ◌++◌, Option, None, Some, if◌then◌else◌, is_some, length, slice_get, suc, unwrap_or, refl, sym, ap, ◌∙◌, arith, length-append, inl, inr}
 use Rattle.std.proofs.lemmas.{Bool.cases_Bool, List.length-map, Map.Made.is_some-lookup, Option.slice_get-map}
 use Rattle.vecmap_base.specs.Pairs.{HasDistinctKeys, index_of, index_or_length, lookup, put, put_key, puts, value_at, with_value, without_key}
@@ -58,6 +58,15 @@ module _ {K V : Type 0} (eq : K → K → Bool) where
       by : (b : Bool) → length (put_key eq ps k v) ≡ length (put eq ps k v) → length (if b then (k, v) ∷ ps else p ∷ put_key eq ps k v) ≡ length (if b then (p.0, v) ∷ ps else p ∷ put eq ps k v)
       by true e = refl
       by false e = ap suc e
+
+  -- An insertion that stores the new key leaves the values that one leaves that keeps the old key.
+  pub values_of_put_key : (l : List (K × V)) (k : K) (v : V) → values_of (put_key eq l k v) ≡ values_of (put eq l k v)
+  values_of_put_key [] k v = refl
+  values_of_put_key (p ∷ ps) k v = by (eq k p.0) (values_of_put_key ps k v)
+    where
+      by : (b : Bool) → values_of (put_key eq ps k v) ≡ values_of (put eq ps k v) → values_of (if b then (k, v) ∷ ps else p ∷ put_key eq ps k v) ≡ values_of (if b then (p.0, v) ∷ ps else p ∷ put eq ps k v)
+      by true e = refl
+      by false e = ap (λ vs. p.1 ∷ vs) e
 
   -- An insertion leaves each pair but that of its key at its index.
   pub slice_get_put_other : (l : List (K × V)) (k : K) (v : V) (i : ℕ) → (index_of eq l k ≡ Some i → ⊥) → i < length l → slice_get (put eq l k v) i ≡ slice_get l i

@@ -1,8 +1,9 @@
 -- A function of each key and each value of a list of pairs, and a fact about each value.
-use Rattle.std.proofs.Common.{◌≡◌, Bool, true, false, List, [], ◌∷◌, None, Some, All, if◌then◌else◌, map, option_map, refl, sym, ap, ◌∙◌, subst, inl, inr}
+use Rattle.std.proofs.Common.{◌≡◌, Bool, true, false, List, [], ◌∷◌, None, Some, All, if◌then◌else◌, map, option_map, refl, suc, sym, ap, ◌∙◌, subst, inl, inr}
 use Rattle.std.proofs.lemmas.{Bool.cases_Bool, List.Elements.All-cons, List.Elements.All-head, List.Elements.All-tail}
-use Rattle.vecmap_base.specs.Pairs.{lookup, map_values, put}
+use Rattle.vecmap_base.specs.Pairs.{index_of, lookup, map_values, put}
 use Rattle.vecmap_base.proofs.PairsLemmas.Indices.{lookup_by_map_values}
+use Rattle.vecmap_base.proofs.PairsLemmas.Recursion.{index_of_cons}
 use Rattle.vecmap_laws.proofs.Lookups.{look}
 
 -- `f` of a key has the `==` of the key, as the bytes of a text have.
@@ -24,6 +25,14 @@ module _ {K V W : Type 0} (eq : K → K → Bool) (g : V → W) where
   -- In the list with `g` of each value, a lookup finds `g` of what it found before.
   pub lookup_map_values : (l : List (K × V)) (k : K) → lookup eq (map_values g l) k ≡ option_map g (lookup eq l k)
   lookup_map_values l k = lookup_by_map_values g (eq k) l
+
+  -- The keys stay at their indices.
+  pub index_of_map_values : (l : List (K × V)) (k : K) → index_of eq (map_values g l) k ≡ index_of eq l k
+  index_of_map_values [] k = refl
+  index_of_map_values (p ∷ ps) k =
+      index_of_cons eq (p.0, g p.1) (map_values g ps) k
+      ∙ ap (λ found. if eq k p.0 then Some 0 else option_map suc found) (index_of_map_values ps k)
+      ∙ sym (index_of_cons eq p ps k)
 
   -- An insertion, seen in the list with `g` of each value, inserts `g` of the value.
   pub map_values_put : (l : List (K × V)) (k : K) (v : V) → map_values g (put eq l k v) ≡ put eq (map_values g l) k (g v)

@@ -1,10 +1,10 @@
 -- Which elements a set has after a removal, in its front and in another order, and at which indices.
-use Rattle.std.proofs.Common.{arith, ◌≡◌, ◌+◌, ◌<◌, ◌||◌, ◌∙◌, ℕ, suc, zero, Bool, true, false, List, [], ◌∷◌, ◌++◌, None, Option, Some, ap, cond, if◌then◌else◌, is_some, length, length-append, option_map, position, refl, remove, reverse, slice_get, swap, sym, take}
+use Rattle.std.proofs.Common.{arith, ◌≡◌, ◌+◌, ◌<◌, ◌≤◌, ◌||◌, ◌∙◌, ℕ, suc, zero, Bool, true, false, List, [], ◌∷◌, ◌++◌, None, Option, Some, ap, cond, if◌then◌else◌, is_some, length, length-append, option_map, position, refl, remove, reverse, slice_get, swap, sym, take}
 use Rattle.std.proofs.lemmas.Option.{none-some}
 use Rattle.std.proofs.lemmas.List.Sorted.{IsPermutation-reverse, list_any-IsPermutation}
 use Rattle.std.specs.{Cmp.IsEquivalence, List.Sorted.IsPermutation, Set.is_member}
 use Rattle.vecmap_base.proofs.IndexLemmas.{list_any_position, position_cons}
-use Rattle.vecmap_base.specs.Items.{add, item_index, put_item}
+use Rattle.vecmap_base.specs.Items.{add, adds, item_index, put_item}
 use Rattle.vecmap_laws.proofs.ItemRecursion.{put_item_cons}
 use Rattle.vecmap_laws.specs.Removals.{below, shifted}
 
@@ -47,6 +47,25 @@ module _ {T : Type 0} (eq : T → T → Bool) where
       by : (b : Bool) → length (if b then s else s ++ x ∷ []) ≡ (if b then length s else length s + 1)
       by true = refl
       by false = length-append s (x ∷ [])
+
+  -- An addition that stores the new element leaves as many elements as one that keeps the old one.
+  pub length_put_item : (s : List T) (x : T) → length (put_item eq s x) ≡ length (add eq s x)
+  length_put_item [] x = refl
+  length_put_item (z ∷ zs) x = ap length (put_item_cons eq z zs x) ∙ by (eq x z) (is_member eq zs x) (length_put_item zs x)
+    where
+      by : (b c : Bool) → length (put_item eq zs x) ≡ length (if c then zs else zs ++ x ∷ []) → length (if b then x ∷ zs else z ∷ put_item eq zs x) ≡ length (if b || c then z ∷ zs else z ∷ zs ++ x ∷ [])
+      by true c e = refl
+      by false true e = ap suc e
+      by false false e = ap suc e
+
+  -- Many additions leave no fewer elements, and no more than the two lists have.
+  pub length_adds_least : (s xs : List T) → length s ≤ length (adds eq s xs)
+  length_adds_least s [] = omega arith
+  length_adds_least s (x ∷ xs) = grind (arith, length_adds_least (add eq s x) xs, length_add s x)
+
+  pub length_adds_most : (s xs : List T) → length (adds eq s xs) ≤ length s + length xs
+  length_adds_most s [] = omega arith
+  length_adds_most s (x ∷ xs) = grind (arith, length_adds_most (add eq s x) xs, length_add s x)
 
   -- In the first `n` elements, one is present if its index is below `n`.
   pub is_member_take : (s : List T) (n : ℕ) (x : T) → is_member eq (take n s) x ≡ is_some (below n (item_index eq s x))

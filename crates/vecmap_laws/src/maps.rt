@@ -40,7 +40,8 @@ pub use order::{
     permutation, reverse, swap,
 };
 pub use parts::{
-    drop, filter, filters_keep_lookups, parts_keep_lookups, removals_shift_indices, take,
+    drop, filter, filters_keep_lookups, parts_keep_lookups, removals_shift_indices, remove_range,
+    take,
 };
 pub use removals::{
     appending_undoes_splitting, moves_keep_lookups, removals_are_forgotten,

@@ -33,4 +33,4 @@ pub use removals::{
     appending_undoes_splitting, removals_are_forgotten, removals_shorten, retain_filters,
 };
 pub use sorted::{binary_searches_find_indices, sorts_of_sorted_sets_change_nothing};
-pub use words::{add, permutation, put_item, remove, take, without_item};
+pub use words::{add, adds, permutation, put_item, remove, take, without_item};

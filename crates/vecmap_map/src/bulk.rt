@@ -1,11 +1,12 @@
 //! Creation of a map from many pairs, and insertion of many pairs.
 ghost use Rattle.std.specs.Prelude.{◌≡◌, ◌<◌, ◌+◌, ◌≤◌, ◌/◌, IfOk, IsOk, List, None, OnErr, OnOk, [], if◌then◌else◌, length};
 ghost use Rattle.std.specs.Iterator.{Drains, ExtendsWithItems, IsFiniteIterable};
+ghost use Rattle.std.specs.Option.{option_or};
 ghost use Rattle.std.specs.Map.Iter.{deref, deref_pair};
-ghost use Rattle.vecmap_base.specs.Bulk.{HasRoomForAll, HoldsOfEach};
+ghost use Rattle.vecmap_base.specs.Bulk.{HasRoomForAll, HoldsOfEach, YieldsAll};
 ghost use Rattle.vecmap_base.specs.Clones.{ArePairClones, ClonesSucceed};
 ghost use Rattle.vecmap_base.specs.Lookups.{Joins};
-ghost use Rattle.vecmap_base.specs.Pairs.{put, puts};
+ghost use Rattle.vecmap_base.specs.Pairs.{HasDistinctKeys, lookup, put, puts};
 ghost use Rattle.vecmap_map.specs.Contents.{HasRoom, KeepsRoomAt, Refuses, with_entries};
 ghost use Rattle.vecmap_map.specs.MapBulk.{Extends, Puts, PutsClones, RefusesAfter, RefusesClonesAfter};
 
@@ -141,6 +142,9 @@ impl<K, V> VecMap<K, V> {
     ///
     /// An existing key stays as it is, at its index, and only its value changes. A new pair is appended.
     ///
+    /// If a proof knows which pairs the iterator yields, and their keys are distinct, it knows what lookups find
+    /// afterwards (`lookups`).
+    ///
     /// This is Rust's `Extend<(K, V)>`. The call first reserves capacity. If the map is empty, it reserves as much as
     /// the lower size hint of the iterator says. Otherwise it reserves half of that, rounded up, as some keys may be
     /// present already. The hint decides nothing else.
@@ -173,6 +177,10 @@ impl<K, V> VecMap<K, V> {
         V: Drop,
         requires ends { IsFiniteIterable I.into_iter_gives I.IntoIter.can_next I.IntoIter.remaining
             iter }
+        ensures lookups { (pairs : List (K × V))
+            → YieldsAll I.into_iter_gives I.IntoIter.next_gives iter pairs
+            → HasDistinctKeys K.eq pairs → OnOk result ((q : K) → lookup K.eq self.new.entries q
+            ≡ option_or (lookup K.eq pairs q) (lookup K.eq self.old.entries q)) }
         ensures ran { ExtendsWithItems I.into_iter_gives I.IntoIter.next_gives
             (Puts K.eq) iter self.old self.new result }
         ensures succeeds { HasRoomForAll I.into_iter_gives I.IntoIter.remaining iter

@@ -2,8 +2,10 @@
 ghost use Rattle.std.specs.Prelude.{◌≡◌, ◌-◌, ◌<◌, ◌≤◌, IfOk, IsOk, OnErr, OnOk, Some, String, [], drop, length, remove, slice_get, take};
 ghost use Rattle.vecmap_base.specs.Items.{swap_without};
 ghost use Rattle.vecmap_base.specs.Asked.{CallableOnEach, CallsAtPair, TakesPairAt};
-ghost use Rattle.vecmap_base.specs.Kept.{Kept};
-ghost use Rattle.std.specs.Prelude.{None, string_eq};
+ghost use Rattle.vecmap_base.specs.Kept.{FiltersValues, Kept};
+ghost use Rattle.std.specs.Map.{IsKeyTest};
+ghost use Rattle.std.specs.Option.{option_and_then};
+ghost use Rattle.std.specs.Prelude.{Bool, None, Option, string_eq};
 ghost use Rattle.vecmap_base.specs.Lookups.{KeepsFront, UpdatesBy};
 ghost use Rattle.vecmap_base.specs.Pairs.{HasDistinctKeys, has_text, lookup_by, lookup_pair_by, swap_without_by, without_by};
 
@@ -106,6 +108,9 @@ impl<K, V> VecMap<K, V> {
     /// `f` is called once for each pair, in order, in the state that the calls before have left. The other pairs are
     /// dropped at the end. The capacity stays.
     ///
+    /// If what `f` does depends on the value alone, and `f` only reads what it captures, a proof knows what lookups find
+    /// afterwards (`lookups`). Distinct keys stay distinct.
+    ///
     /// # Preconditions
     ///
     /// `f` can be called with each pair of the map, in the state that the calls before have left.
@@ -129,6 +134,12 @@ impl<K, V> VecMap<K, V> {
         F: Drop,
         requires callable { CallableOnEach (CallsAtPair F.FnMut)
             (TakesPairAt F.FnMut) f self.old.entries }
+        ensures lookups { (h : V → Option V) → FiltersValues (CallsAtPair F.FnMut) f h
+            → (test : K → Bool) (eq : K → K → Bool) → HasDistinctKeys eq self.old.entries
+            → IsKeyTest eq test → lookup_by test self.new.entries
+            ≡ option_and_then h (lookup_by test self.old.entries) }
+        ensures distinct { (eq : K → K → Bool) → HasDistinctKeys eq self.old.entries
+            → HasDistinctKeys eq self.new.entries }
         ensures retained { (g : F) × Kept
             (CallsAtPair F.FnMut) f self.old.entries self.new.entries g }
         ensures capacity { self.new.capacity ≡ self.old.capacity }

@@ -1,10 +1,10 @@
 //! Removal of elements.
-ghost use Rattle.std.specs.Prelude.{◌≡◌, ◌-◌, ◌<◌, ◌≤◌, IfOk, IsOk, OnErr, OnOk, Some, [], drop, false, length, remove, slice_get, take};
+ghost use Rattle.std.specs.Prelude.{◌≡◌, ◌-◌, ◌<◌, ◌≤◌, ◌&&◌, Bool, IfOk, IsOk, OnErr, OnOk, Some, [], drop, false, length, remove, slice_get, take};
 ghost use Rattle.std.specs.Fn.{TakesAt};
 ghost use Rattle.std.specs.List.{IsDistinct, list_any};
 ghost use Rattle.vecmap_base.specs.Items.{stored_first, swap_without, swap_without_first, without_first};
 ghost use Rattle.vecmap_base.specs.Asked.{CallableOnEach, CallsAtItem};
-ghost use Rattle.vecmap_base.specs.Kept.{Kept};
+ghost use Rattle.vecmap_base.specs.Kept.{Kept, ReturnsAt};
 ghost use Rattle.vecmap_base.specs.Lookups.{UpdatesMember};
 ghost use Rattle.vecmap_base.specs.Pairs.{has_text};
 
@@ -110,6 +110,9 @@ impl<T: Eq> VecSet<T> {
     /// `f` is called once for each element, in order, in the state that the calls before have left. The other elements
     /// are dropped at the end. The capacity stays.
     ///
+    /// If `f` only reads what it captures, and does not tell equal elements apart, a proof knows which elements are left
+    /// (`matches`).
+    ///
     /// # Preconditions
     ///
     /// `f` can be called with each element of the set, in the state that the calls before have left.
@@ -132,6 +135,9 @@ impl<T: Eq> VecSet<T> {
         F: Drop,
         requires callable { CallableOnEach (CallsAtItem F.FnMut)
             (TakesAt F.FnMut) f self.old.elements }
+        ensures matches { (query : T → Bool) (kept : Bool)
+            → ReturnsAt (CallsAtItem F.FnMut) f query kept → list_any query self.new.elements
+            ≡ (list_any query self.old.elements && kept) }
         ensures retained { (g : F) × Kept
             (CallsAtItem F.FnMut) f self.old.elements self.new.elements g }
         ensures distinct { IsDistinct T.eq self.new.elements }

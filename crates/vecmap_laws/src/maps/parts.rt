@@ -1,5 +1,6 @@
 //! Laws of what lookups find in a part of the list, and in the pairs that pass a test, as after `retain`.
 ghost use Rattle.std.specs.List.{count_by, remove_range};
+ghost use Rattle.std.specs.Map.{keys_of, values_of};
 ghost use Rattle.std.specs.Option.{option_and_then};
 ghost use Rattle.std.specs.Prelude.{◌≡◌, ◌≤◌, ℕ, Bool, List, None, Some, drop, false, filter, if◌then◌else◌, length, nat_lt, unwrap_or, remove, slice_get, take, true};
 ghost use Rattle.vecmap_base.specs.Pairs.{HasDistinctKeys, index_by, index_of, index_or_length, lookup, lookup_by, lookup_pair, without_key};
@@ -65,6 +66,15 @@ pub fn drop<K: Eq, V>()
         ≡ (if nat_lt (index_or_length K.eq l q) n then None else lookup K.eq l q) }
     ensures distinct { (l : List (K × V)) (n : ℕ) → HasDistinctKeys K.eq l
         → HasDistinctKeys K.eq (drop n l) }
+{}
+
+/// Which keys and values are left without a part of the list, as after `drain`.
+#[tactic(auto, using(crate::proofs::DistinctParts::keys_of_remove_range, crate::proofs::DistinctParts::values_of_remove_range))]
+pub fn remove_range<K: Eq, V>()
+    ensures keys_of { (l : List (K × V)) (i j : ℕ)
+        → keys_of (remove_range l i j) ≡ remove_range (keys_of l) i j }
+    ensures values_of { (l : List (K × V)) (i j : ℕ)
+        → values_of (remove_range l i j) ≡ remove_range (values_of l) i j }
 {}
 
 /// What is found in the pairs that pass a test, as after `retain`.

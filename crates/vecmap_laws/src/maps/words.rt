@@ -1,6 +1,6 @@
 //! Laws that are named by the word of a contract, with a clause for each question that is asked of the list.
 ghost use Rattle.std.specs.List.{count_by, remove_range};
-ghost use Rattle.std.specs.Map.{IsKeyTest, keys_of};
+ghost use Rattle.std.specs.Map.{IsKeyTest, keys_of, values_of};
 ghost use Rattle.std.specs.Option.{option_map_or, option_or};
 ghost use Rattle.std.specs.Prelude.{Bool, List, None, Some, [], if◌then◌else◌, insert, is_some, length, slice_get, slice_range, ℕ, ◌++◌, ◌+◌, ◌-◌, ◌<◌, ◌≡◌, ◌≤◌, true};
 ghost use Rattle.vecmap_base.specs.Items.{add, adds, item_index, put_item, without_item};
@@ -91,7 +91,7 @@ pub fn puts<K: Eq, V>()
 {}
 
 /// What is found in the list after an insertion that stores the new key, by `insert_key`.
-#[tactic(auto, using(crate::proofs::Finds::lookup_put_key_any, crate::proofs::QueriesAfter::lookup_by_put_key, crate::proofs::AfterPuts::index_of_put_key, crate::proofs::AfterPuts::length_put_key, crate::proofs::Keys::keys_of_put_key, crate::proofs::DistinctKeys::distinct_put_key))]
+#[tactic(auto, using(crate::proofs::Finds::lookup_put_key_any, crate::proofs::QueriesAfter::lookup_by_put_key, crate::proofs::AfterPuts::index_of_put_key, crate::proofs::AfterPuts::length_put_key, crate::proofs::AfterPuts::values_of_put_key, crate::proofs::Keys::keys_of_put_key, crate::proofs::DistinctKeys::distinct_put_key))]
 pub fn put_key<K: Eq, V>()
     ensures lookup { (l : List (K × V)) (k : K) (v : V) (q : K)
         → lookup K.eq (put_key K.eq l k v) q ≡ (if K.eq k q then Some v else lookup K.eq l q) }
@@ -103,6 +103,8 @@ pub fn put_key<K: Eq, V>()
         → length (put_key K.eq l k v) ≡ length (put K.eq l k v) }
     ensures keys_of { (l : List (K × V)) (k : K) (v : V)
         → keys_of (put_key K.eq l k v) ≡ put_item K.eq (keys_of l) k }
+    ensures values_of { (l : List (K × V)) (k : K) (v : V)
+        → values_of (put_key K.eq l k v) ≡ values_of (put K.eq l k v) }
     ensures distinct { (l : List (K × V)) (k : K) (v : V) → HasDistinctKeys K.eq l
         → HasDistinctKeys K.eq (put_key K.eq l k v) }
 {}

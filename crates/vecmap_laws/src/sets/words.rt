@@ -2,8 +2,8 @@
 ghost use Rattle.std.specs.List.{IsDistinct};
 ghost use Rattle.std.specs.List.Sorted.{IsPermutation};
 ghost use Rattle.std.specs.Set.{is_member};
-ghost use Rattle.std.specs.Prelude.{List, Some, false, if◌then◌else◌, is_some, length, not, remove, reverse, slice_get, swap, take, ℕ, ◌&&◌, ◌+◌, ◌<◌, ◌≡◌, ◌||◌};
-ghost use Rattle.vecmap_base.specs.Items.{add, item_index, put_item, swap_without_item, without_item};
+ghost use Rattle.std.specs.Prelude.{List, Some, false, if◌then◌else◌, is_some, length, not, remove, reverse, slice_get, swap, take, ℕ, ◌&&◌, ◌+◌, ◌<◌, ◌≡◌, ◌≤◌, ◌||◌};
+ghost use Rattle.vecmap_base.specs.Items.{add, adds, item_index, put_item, swap_without_item, without_item};
 ghost use Rattle.vecmap_laws.specs.Removals.{below, shifted};
 
 /// Which elements are present after an addition, by `insert`, and how many.
@@ -16,10 +16,21 @@ pub fn add<T: Eq>()
 {}
 
 /// Which elements are present after an addition that stores the new element, by `replace`.
-#[tactic(auto, using(crate::proofs::ItemsAfter::is_member_put_item))]
+#[tactic(auto, using(crate::proofs::ItemsAfter::is_member_put_item, crate::proofs::ItemsAfter::length_put_item))]
 pub fn put_item<T: Eq>()
     ensures is_member { (s : List T) (x y : T)
         → is_member T.eq (put_item T.eq s x) y ≡ (is_member T.eq s y || T.eq x y) }
+    ensures length { (s : List T) (x : T)
+        → length (put_item T.eq s x) ≡ length (add T.eq s x) }
+{}
+
+/// Which elements are present after many additions, by `append` and `extend`, and how many.
+#[tactic(auto, using(crate::proofs::ItemMembers::is_member_adds, crate::proofs::ItemsAfter::length_adds_least, crate::proofs::ItemsAfter::length_adds_most))]
+pub fn adds<T: Eq>()
+    ensures is_member { (s xs : List T) (y : T)
+        → is_member T.eq (adds T.eq s xs) y ≡ (is_member T.eq s y || is_member T.eq xs y) }
+    ensures length { (s xs : List T) → (length s ≤ length (adds T.eq s xs))
+        × (length (adds T.eq s xs) ≤ length s + length xs) }
 {}
 
 /// Which elements are present after the removal of an element, by `remove` and `swap_remove`, if all are distinct.

@@ -1,6 +1,8 @@
 -- The call stops at the insertion that runs out of memory.
-use Rattle.std.proofs.Common.{arith, inr, rules}
+use Rattle.std.proofs.Common.{◌≡◌, ◌∙◌, ap, arith, inr, rules}
 use Rattle.std.proofs.lemmas.{Grind.common_steps, Result.err_from_is_err_and}
+use Rattle.vecmap_base.specs.Pairs.{lookup, puts}
+use Rattle.vecmap_base.proofs.PairsLemmas.Parts.{found_in_either}
 use Rattle.vecmap_base.proofs.PairsLemmas.Puts.{length_put_at_most}
 use Rattle.vecmap_map.proofs.VecMap.extend.Goals as goal
 
@@ -34,3 +36,9 @@ returns-in_err-insert-clause-extended g c =
       err = rw failed.1 (inr (it, c.loop-key.yielded, (c.in-Some.key, c.in-Some.value), c.next.new.self, search rules, search rules, search rules));
       late_err = λ some room. rw failed.1 (it, c.loop-key.yielded, (c.in-Some.key, c.in-Some.value), c.next.new.self, search rules, search rules, search rules);
     }
+
+pub returns-clause-lookups : goal.returns-clause-lookups
+returns-clause-lookups g c pairs all d q =
+    let same : c.loop-key.yielded ≡ pairs = all c.into_iter-key-iterator.result c.loop-key.yielded (search rules) (search rules) in
+    let entries : c.loop-key.self.entries ≡ puts g.K.PartialEq.eq c.args.self.now.entries pairs = grind (arith, common_steps, same) in
+    ap (λ l. lookup g.K.PartialEq.eq l q) entries ∙ found_in_either g.K.PartialEq.eq g.met.K.Eq.laws c.args.self.now.entries pairs d q

@@ -1,3 +1,4 @@
+use Rattle.std.proofs.Common.{rules}
 use Rattle.vecmap_base.specs.Asked.{CallsAtItem}
 use Rattle.vecmap_base.proofs.DistinctLemmas.Removals.{distinct_kept}
 use Rattle.vecmap_set.proofs.VecSet.retain.Goals as goal
@@ -9,3 +10,6 @@ invariant_of-self g c =
 
 pub returns-clause-distinct : goal.returns-clause-distinct
 returns-clause-distinct g c = invariant_of-self g c
+
+pub returns-clause-matches : goal.returns-clause-matches
+returns-clause-matches g c query kept told = let matches = c.retain_items.ensures.matches query kept told in search (rules, matches)

@@ -1,0 +1,69 @@
+-- What lookups find in the pairs that a closure has kept.
+use Rattle.std.specs.{List.AllByRecursion, List.IsDistinct, Map.IsKeyTest, Map.keys_of, Option.option_and_then}
+use Rattle.std.proofs.Common.{◌≡◌, ◌∙◌, Bool, true, false, List, [], ◌∷◌, None, Option, Some, ap, cond, if◌then◌else◌, inl, inr, subst, sym}
+use Rattle.std.proofs.lemmas.Bool.{cases_Bool}
+use Rattle.std.proofs.lemmas.Map.Keys.{IsDistinct-head, IsDistinct-tail}
+use Rattle.vecmap_base.specs.{Kept.FiltersValues, Kept.Kept, Pairs.HasDistinctKeys, Pairs.lookup_by}
+
+module _ {F K V : Type 0} (R : F → K × V → Bool → K × V → F → Type 0) (same : (f : F) (p : K × V) (b : Bool) (q : K × V) (g : F) → R f p b q g → q.0 ≡ p.0) where
+  -- What holds of all keys holds of the keys that are kept.
+  all_keys_kept : (P : K → Type 0) (f g : F) (l m : List (K × V)) → Kept R f l m g → AllByRecursion P (keys_of l) → AllByRecursion P (keys_of m)
+  all_keys_kept P f g [] m k h = subst (λ t. AllByRecursion P (keys_of t)) (sym k.0) tt
+  all_keys_kept P f g (p ∷ ps) m k h =
+      subst (λ t. AllByRecursion P (keys_of t)) (sym k.6) (by k.0 (all_keys_kept P k.2 g ps k.3 k.5 h.1))
+    where
+      by : (b : Bool) → AllByRecursion P (keys_of k.3) → AllByRecursion P (keys_of (if b then k.1 ∷ k.3 else k.3))
+      by true r = (subst P (sym (same f p k.0 k.1 k.2 k.4)) h.0, r)
+      by false r = r
+
+  -- Keys stay distinct among those that are kept.
+  pub distinct_keys_kept : (eq : K → K → Bool) (f g : F) (l m : List (K × V)) → Kept R f l m g → HasDistinctKeys eq l → HasDistinctKeys eq m
+  unfolding IsDistinct
+  distinct_keys_kept eq f g [] m k d = subst (HasDistinctKeys eq) (sym k.0) tt
+  distinct_keys_kept eq f g (p ∷ ps) m k d =
+      let apart : AllByRecursion (λ z. eq k.1.0 z ≡ false) (keys_of k.3) =
+      subst (λ y. AllByRecursion (λ z. eq y z ≡ false) (keys_of k.3)) (sym (same f p k.0 k.1 k.2 k.4)) (all_keys_kept (λ z. eq p.0 z ≡ false) k.2 g ps k.3 k.5 d.0) in
+      subst (HasDistinctKeys eq) (sym k.6) (by k.0 apart (distinct_keys_kept eq k.2 g ps k.3 k.5 d.1))
+    where
+      by : (b : Bool) → AllByRecursion (λ z. eq k.1.0 z ≡ false) (keys_of k.3) → HasDistinctKeys eq k.3 → HasDistinctKeys eq (if b then k.1 ∷ k.3 else k.3)
+      by true a r = (a, r)
+      by false a r = r
+
+  module _ (test : K → Bool) where
+    none_found : (l : List (K × V)) → AllByRecursion (λ y. test y ≡ false) (keys_of l) → lookup_by test l ≡ None
+    none_found [] h = λ _. None
+    none_found (p ∷ ps) h = ap (λ b. cond b (Some p.1) (lookup_by test ps)) h.0 ∙ none_found ps h.1
+
+    module _ (eq : K → K → Bool) (respects : IsKeyTest eq test) (h : V → Option V) where
+      -- A query finds what `h` makes of the value that it found.
+      pub lookup_by_filtered : (f g : F) (l m : List (K × V)) → HasDistinctKeys eq l → FiltersValues R f h → Kept R f l m g → lookup_by test m ≡ option_and_then h (lookup_by test l)
+      lookup_by_filtered f g [] m d told k = ap (lookup_by test) k.0
+      lookup_by_filtered f g (p ∷ ps) m d told k =
+          ap (lookup_by test) k.6 ∙ elim (cases_Bool (test p.0)) [
+            | inl e ↦
+                let apart = all_keys_kept (λ y. test y ≡ false) k.2 g ps k.3 k.5 (gone e (keys_of ps) (IsDistinct-head eq p.0 (keys_of ps) d)) in
+                first k.0 k.1 (ap test key ∙ e) (none_found k.3 apart) ∙ sym call.0
+                ∙ ap (λ b. option_and_then h (cond b (Some p.1) (lookup_by test ps))) (sym e)
+            | inr n ↦
+                other k.0 k.1 (ap test key ∙ n)
+                ∙ lookup_by_filtered k.2 g ps k.3 (IsDistinct-tail eq p.0 (keys_of ps) d) (subst (λ z. FiltersValues R z h) (sym call.1) told) k.5
+                ∙ ap (λ b. option_and_then h (cond b (Some p.1) (lookup_by test ps))) (sym n)
+          ]
+        where
+          key : k.1.0 ≡ p.0
+          key = same f p k.0 k.1 k.2 k.4
+
+          call : (h p.1 ≡ (if k.0 then Some k.1.1 else None)) × (k.2 ≡ f)
+          call = told p k.0 k.1 k.2 k.4
+
+          gone : test p.0 ≡ true → (ks : List K) → AllByRecursion (λ y. eq p.0 y ≡ false) ks → AllByRecursion (λ y. test y ≡ false) ks
+          gone e [] a = tt
+          gone e (y ∷ ys) a = (respects p.0 y e ∙ a.0, gone e ys a.1)
+
+          first : (b : Bool) (y : K × V) → test y.0 ≡ true → lookup_by test k.3 ≡ None → lookup_by test (if b then y ∷ k.3 else k.3) ≡ (if b then Some y.1 else None)
+          first true y e n = ap (λ b. cond b (Some y.1) (lookup_by test k.3)) e
+          first false y e n = n
+
+          other : (b : Bool) (y : K × V) → test y.0 ≡ false → lookup_by test (if b then y ∷ k.3 else k.3) ≡ lookup_by test k.3
+          other true y n = ap (λ b. cond b (Some y.1) (lookup_by test k.3)) n
+          other false y n = λ _. lookup_by test k.3
