@@ -25,7 +25,6 @@ KINDS = "fn|impl|struct|enum|trait|type|macro_rules!"
 ITEM = re.compile(rf"( *)(pub(?:\(\w+\))? )?(?:const |unsafe )*({KINDS})(?=[ <]) ?(\w*)")
 CLAUSE = re.compile(r"(requires|ensures)\*? (?:(\w+) )?\{")
 MEMBER = re.compile(r"^    ghost (\w+) = \{", re.MULTILINE)
-USE = re.compile(r"^(?:pub )?use ([^;]+);", re.MULTILINE)
 DEFINITION = re.compile(r"^ *(?:abbrev pub|unfoldable pub|pub record|pub data) (\S+)", re.MULTILINE)
 NAME = re.compile(r"[A-Za-z_][\w']*")
 # A clause of a contract. A ghost member of an impl is one, too.
@@ -42,21 +41,15 @@ def end(check):
     sys.exit(1 if faults else 0)
 
 
-def compared(path, made, shown=2):
-    """Says in some lines where a file differs from what the sources make of it, or writes it."""
+def compared(path, made):
+    """Says in two lines where a file differs from what the sources make of it, or writes it."""
     if WRITES:
         write(path, made)
     if WRITES or read(path) == made:
         return []
     changes = list(difflib.unified_diff(read(path).splitlines(), made.splitlines(), lineterm="", n=0))
     lines = [f"{path}: {line}" for line in changes[2:] if not line.startswith("@@")]
-    return [*lines[:shown], f"{path}: differs from the sources (.ci/{os.path.basename(sys.argv[0])} --write)"]
-
-
-def kept(name, head, lines):
-    """Compares a list in `.ci/owed` with the lines that the sources make of it."""
-    head = f"# {head} `.ci/{os.path.basename(sys.argv[0])} --write` makes this list."
-    return compared(f".ci/owed/{name}.txt", "".join(f"{line}\n" for line in [head, *lines]), shown=None)
+    return [*lines[:2], f"{path}: differs from the sources (.ci/{os.path.basename(sys.argv[0])} --write)"]
 
 
 def owed(name):
@@ -192,27 +185,6 @@ def laws():
         if crate_of(path) == LAWS or "laws" in module.split("::"):
             found = ((it, public_paths(f"{module}::{it.name}")) for it in functions(path) if not it.impl)
             yield from ((it, paths) for it, paths in found if it.is_public and paths)
-
-
-def imports(text):
-    """Returns what each imported name stands for, as a path."""
-    names = {}
-    for item in USE.findall(text):
-        prefix, brace, group = item.partition("{")
-        for part in group.rstrip().removesuffix("}").split(",") if brace else [""]:
-            path, _, alias = (prefix + part.strip()).strip().partition(" as ")
-            if path and not path.endswith("::"):
-                names[alias or path.rsplit("::", 1)[-1]] = path
-    return names
-
-
-def calls(text, names):
-    """Yields the paths of the functions that a text calls by an imported name: `NAME(..)` or `MODULE::NAME(..)`."""
-    for module, name in re.findall(r"(?:\b(\w+)::)?\b(\w+)(?:::<[^;]*?>)?\(", USE.sub("", re.sub(r"//.*", "", text))):
-        if module in names:
-            yield f"{names[module]}::{name}"
-        elif not module and name in names:
-            yield names[name]
 
 
 def is_set_up(line):
