@@ -29,8 +29,14 @@ DEFINITION = re.compile(r"^ *(?:abbrev pub|unfoldable pub|pub record|pub data) (
 NAME = re.compile(r"[A-Za-z_][\w']*")
 # A clause of a contract. A ghost member of an impl is one, too.
 Clause = collections.namedtuple("Clause", "kind label formula")
-# A heading of a script: its part, its text, and below it the mutants that the rows reject, and the rows.
-Heading = collections.namedtuple("Heading", "part text bodies rows")
+# The script of the test cases.
+SCRIPT = "crates/vecmap_script/stdin"
+# A heading of a script: its part, its text, the texts of the lines `# body:` and `# shows:` below it, and its rows.
+Heading = collections.namedtuple("Heading", "part text notes rows")
+# A row of a script, and the lines above it that set the collections up.
+Row = collections.namedtuple("Row", "text begun")
+# The page of mutants: each row has one, and what rejects it.
+MUTANTS = "docs/WRONG_BODIES.md"
 
 
 def end(check):
@@ -52,14 +58,11 @@ def compared(path, made):
     return [*lines[:2], f"{path}: differs from the sources (.ci/{os.path.basename(sys.argv[0])} --write)"]
 
 
-def owed(name):
-    """Yields the lines of a list in `.ci/owed`, without its comments: for each the heading above it, and the line."""
-    section = ""
-    for line in read(f".ci/owed/{name}.txt").splitlines():
-        if line.startswith("## "):
-            section = line.removeprefix("## ")
-        elif line and not line.startswith("# "):
-            yield section, line
+def mutants():
+    """Yields the mutants of their page: for each the heading above it, and the text."""
+    for section in read(MUTANTS).split("\n## ")[1:]:
+        title, _, table = section.partition("\n|---|---|\n")
+        yield from ((title.splitlines()[0], it) for it in re.findall(r"^\| (.*?) \|", table, re.MULTILINE))
 
 
 def read(path):
@@ -192,20 +195,30 @@ def is_set_up(line):
     return line.split(" ")[0] in ("map", "repeats", "set", "spare", "other", "swap", "again", "clones_fail")
 
 
+def begun_by(line, begun):
+    """Returns the lines that set the collections up, after one more of them."""
+    if line == "again":
+        return [it for it in begun if it != "swap"]
+    return [line] if line.split(" ")[0] in ("map", "repeats", "set") else [*begun, line]
+
+
 def headings(path):
-    """Returns the headings of a script, in order. A line `# body:` without a heading makes one without rows."""
-    part, heading, found = "", None, []
+    """Returns the headings of a script, in order. A note without a heading makes one without rows."""
+    part, heading, found, begun = "", None, [], []
     for line in read(path).splitlines():
-        is_body = line.startswith("# body: ")
+        note = re.match(r"# (body|shows): (.*)", line)
         if section := re.match(r"# =+ (\w+)", line):
             part = section[1]
-        elif line.startswith("# ") and not (heading and is_body):
-            heading = Heading(part, f'no heading above "{line}"' if is_body else line[2:], [], [])
+        elif line.startswith("# ") and not (heading and note):
+            text = f'no heading above "{line}"' if note else line[2:]
+            heading, begun = Heading(part, text, {"body": [], "shows": []}, []), []
             found.append(heading)
-        elif is_body:
-            heading.bodies.append(line.removeprefix("# body: "))
-        elif not line:
+        elif note:
+            heading.notes[note[1]].append(note[2])
+        elif is_set_up(line):
+            begun = begun_by(line, begun)
+        elif line and heading:
+            heading.rows.append(Row(line, begun))
+        else:
             heading = None
-        elif heading and not is_set_up(line):
-            heading.rows.append(line)
     return found

@@ -8,7 +8,7 @@ import collections
 import os
 import re
 
-from rattle import DEFINITION, crate_of, files, functions, is_set_up, items, owed, read, sources
+from rattle import DEFINITION, SCRIPT, crate_of, files, functions, headings, items, mutants, read, sources
 
 # A statement: its thing, the label of a clause or what else it is, and its text.
 Statement = collections.namedtuple("Statement", "kind name label text")
@@ -154,27 +154,17 @@ def exports():
 
 def rows():
     """Yields the calls of the rows below each heading of the script, with the lines that set them up, and their notes."""
-    path, part = "crates/vecmap_script/stdin", ""
-    lines, heading, begun = read(path).splitlines(), "", []
-    for line in lines:
-        if section := re.match(r"# =+ (\w+)", line):
-            part = section[1]
-        elif line.startswith("# body: "):
-            yield Statement("rows", f"{part}: {heading}", "body", line)
-        elif line.startswith("# "):
-            heading, begun = line[2:], []
-        elif line == "again":
-            begun = [it for it in begun if it != "swap"]
-        elif is_set_up(line):
-            begun = [line] if line.split(" ")[0] in ("map", "repeats", "set") else [*begun, line]
-        elif line:
-            call, *notes = (" ".join(part.split()) for part in line.split("|"))
+    for heading in headings(SCRIPT):
+        thing = "rows", f"{heading.part}: {heading.text}"
+        yield from (Statement(*thing, "body", f"# body: {body}") for body in heading.notes["body"])
+        for row in heading.rows:
+            call, *notes = (" ".join(part.split()) for part in row.text.split("|"))
             names, _, rest = call.partition(" ")
             listed = " ".join(f"| {it}" for it in notes if it[:1].isdigit() or it == "empty")
+            begun = "; ".join(row.begun)
             for name in [names] if names == "entry" else names.split("/"):
-                thing = "rows", f"{part}: {heading}", "; ".join(begun)
-                yield Statement(*thing, f"{name} {rest} {listed}".rstrip())
-                yield from (Statement(*thing, f"{name} {rest} | {it}") for it in notes if f"| {it}" not in listed)
+                yield Statement(*thing, begun, f"{name} {rest} {listed}".rstrip())
+                yield from (Statement(*thing, begun, f"{name} {rest} | {it}") for it in notes if f"| {it}" not in listed)
 
 
 def statements(text):
@@ -233,7 +223,7 @@ def edits():
 
 def lists():
     """Yields the mutants that something must reject, and the steps of the gate."""
-    yield from (Statement("list", "mutants", title, body) for title, body in owed("bodies"))
+    yield from (Statement("list", "mutants", title, body) for title, body in mutants())
     steps = re.findall(r"^ *(?:for name in ([\w -]+);|step (\w[\w-]*))", read(".ci/run"), re.MULTILINE)
     yield from (Statement("list", "steps of .ci/run", "", name) for step in steps for it in step for name in it.split())
 
