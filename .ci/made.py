@@ -1,4 +1,4 @@
-"""Makes the list of calls from the sources, and reads comments. The texts at the heads of pages are in `.ci/heads`."""
+"""Makes the list of calls from the sources, and reads comments."""
 
 import re
 
@@ -8,11 +8,6 @@ from rattle import LAWS, LIBRARIES, depths, files, items, read, sources
 DEFINED = [*LIBRARIES, LAWS]
 # The first sentence of a text. A `..` ends none, nor does a stop within backticks.
 SENTENCE = re.compile(r"(?:`[^`]*`|[^`])*?(?<!\.)\.(?=\s|$)|.*", re.DOTALL)
-
-
-def page_of(name, sections):
-    """Returns a made page: its head, and its sections."""
-    return "\n".join([read(f".ci/heads/{name}.txt"), *filter(None, sections)])
 
 
 def opening(path):
@@ -67,6 +62,13 @@ def listed(path):
     ]
 
 
+def uncommented():
+    """Says which public calls, macros and laws have no comment."""
+    for item in (it for crate in DEFINED for path in sources(crate) for it in listed(path)):
+        if item.kind in ("fn", "macro_rules!") and not item.doc():
+            yield f"{item.path}:{item.line}: `{item.name}` has no comment"
+
+
 def call_entry(item, of):
     """Returns the entry of a call or a type: its name, and the first sentence of its comment."""
     owner = owner_of(item) if item.kind == "fn" else ""
@@ -96,9 +98,12 @@ def section(title, paths, of=""):
     return "\n".join([f"### {title}\n", f"{homes}\n", *made, ""]) if made else ""
 
 
-def call_page():
-    """Makes the list of calls: maps and sets by topic, and the other files in the order of their names."""
-    made, seen = [], set()
+def call_page(page):
+    """Makes the list of calls: maps and sets by topic, and the other files in the order of their names.
+
+    What the page says before its first section is by hand.
+    """
+    made, seen = [read(page).split("\n## ")[0]], set()
     for kind, of in (("map", "VecMap"), ("set", "VecSet")):
         made.append(f"## {kind.title()}s\n")
         for title, paths in topics(f"crates/vecmap/src/{kind}.rt", f"crates/vecmap_{kind}/src"):
@@ -108,4 +113,4 @@ def call_page():
     for crate in ("vecmap", "vecmap_map", "vecmap_set", "vecmap_base"):
         paths = [path for path in sources(crate) if path not in seen and "/laws" not in path]
         made.append(section(f"`{crate}`", paths))
-    return page_of("CALLS", made)
+    return "\n".join(filter(None, made))

@@ -29,6 +29,8 @@ DEFINITION = re.compile(r"^ *(?:abbrev pub|unfoldable pub|pub record|pub data) (
 NAME = re.compile(r"[A-Za-z_][\w']*")
 # A clause of a contract. A ghost member of an impl is one, too.
 Clause = collections.namedtuple("Clause", "kind label formula")
+# A block of code: the line that opens it, the words there, its lines, and whether it is in a comment `//!` of a file.
+Block = collections.namedtuple("Block", "line mark lines is_of_file")
 # The script of the test cases.
 SCRIPT = "crates/vecmap_script/stdin"
 # A heading of a script: its part, its text, the texts of the lines `# body:` and `# shows:` below it, and its rows.
@@ -171,6 +173,19 @@ def items(path):
 def functions(path):
     """Returns the functions of a source."""
     return [it for it in items(path) if it.kind == "fn"]
+
+
+def blocks(path):
+    """Yields the blocks of code of a page, or of the doc comments of a source."""
+    block = None
+    for number, line in enumerate(read(path).splitlines(), 1):
+        comment = re.match(r" *//([/!]) ?(.*)", line) if path.endswith(".rt") else None
+        line = comment[2] if comment else line
+        if line.startswith("```"):
+            yield from [block] if block else []
+            block = None if block else Block(number, line[3:], [], bool(comment) and comment[1] == "!")
+        elif block:
+            block.lines.append(line)
 
 
 def tests():

@@ -8,7 +8,7 @@ import collections
 import os
 import re
 
-from rattle import DEFINITION, SCRIPT, crate_of, files, functions, headings, items, mutants, read, sources
+from rattle import DEFINITION, SCRIPT, blocks, crate_of, files, functions, headings, items, mutants, read, sources
 
 # A statement: its thing, the label of a clause or what else it is, and its text.
 Statement = collections.namedtuple("Statement", "kind name label text")
@@ -192,17 +192,14 @@ def tests():
 
 
 def examples():
-    """Yields the lines of the examples in the doc comments, by the item above which they are."""
+    """Yields the lines of the examples in the doc comments, by the item above which they are, or by their file."""
     for path in sources():
-        above = [("", re.match(r"(?://!.*\n)*", read(path))[0])]
-        above += [(title_of(it) if it.kind == "fn" else it.name or it.text, it.comment) for it in items(path)]
-        for name, comment in above:
-            lines, is_open = [it.strip()[4:] for it in comment.splitlines() if re.match(r" *//[/!]", it)], False
-            for line in lines:
-                if line.startswith("```"):
-                    is_open = not is_open
-                elif is_open and line and not line.startswith("//"):
-                    yield Statement("example", f"{crate_of(path)}: {name or os.path.basename(path)}", "", line)
+        names = [(it.line, title_of(it) if it.kind == "fn" else it.name or it.text) for it in items(path)]
+        for block in blocks(path):
+            below = (name for line, name in names if line > block.line)
+            name = os.path.basename(path) if block.is_of_file else next(below, os.path.basename(path))
+            lines = (it for it in block.lines if it and not it.startswith("//"))
+            yield from (Statement("example", f"{crate_of(path)}: {name}", "", it) for it in lines)
 
 
 def runs():

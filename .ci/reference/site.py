@@ -10,7 +10,7 @@ import subprocess
 import tempfile
 import urllib.parse
 
-from made import SENTENCE, listed, opening
+from made import SENTENCE, listed, opening, uncommented
 from rattle import LAWS, LIBRARIES, NAME, functions, laws, read, sources, write
 from reference.forms import (
     FILES, KNOWN, PASSED_ON, STD, crates, definition_form, definitions, imported, module_of, module_tree, passed_on,
@@ -60,13 +60,6 @@ def name_faults():
                 formula = re.sub("⟦.*?⟧", "", clause.formula)
                 rest = [it for it in WORD.findall(formula) if it not in here | bound(formula)]
                 yield from (f"{path}:{item.line}: a clause names {it}, which no definition has" for it in rest)
-
-
-def comment_faults():
-    """Says which public functions have no comment. rustdoc takes a contract for one."""
-    for path in sources(*crates()):
-        bare = (it for it in functions(path) if it.is_public and not it.doc())
-        yield from (f"{path}:{it.line}: {it.name} has no comment" for it in bare)
 
 
 def build(crate, root, needs, work, out):
@@ -215,7 +208,7 @@ def make(work, out):
             KNOWN.update((f"{module_of(path)}::{it[1]}", "".join(it[2][-1:])) for it in definitions(path))
         KNOWN.update((f"{public}::{name.split('::')[-1]}", KNOWN[name])
                      for public, own in passed_on(crate) for name in list(KNOWN) if name.startswith(f"{own}::"))
-    if faults := [*name_faults(), *comment_faults()]:
+    if faults := [*name_faults(), *uncommented()]:
         return faults, {}
     write(f"{work}/{STD}/lib.rs", read(f"{HERE}/std.rs") + f"pub mod specs {{\n{module_tree(words)}}}\n")
     build(STD, f"{STD}/lib.rs", [], work, out)
