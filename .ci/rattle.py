@@ -117,6 +117,10 @@ class Item(collections.namedtuple("Item", "path line kind name is_public impl me
         lines = map(str.strip, self.comment.splitlines())
         return [line.removeprefix("///").removeprefix(" ") for line in lines if line.startswith("///")]
 
+    def is_call(self):
+        """Returns whether others can call the function: it is public, or a method of a trait."""
+        return self.is_public or " for " in self.impl or self.impl.startswith("pub trait")
+
     def is_test(self):
         """Returns whether the item is a test."""
         return "#[test]" in self.comment

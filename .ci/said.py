@@ -87,8 +87,7 @@ def calls():
     for path in visible():
         names = private_names(crate_of(path))
         for it in functions(path):
-            public = it.is_public or " for " in it.impl or it.impl.startswith("pub trait")
-            if public and not it.is_test() and not is_private(it.impl, names):
+            if it.is_call() and not it.is_test() and not is_private(it.impl, names):
                 thing = "call", f"{crate_of(path)}: {title_of(it)}"
                 signature = re.split(r"\b(?:requires|ensures)\b", re.sub(r"//.*", "", it.head()))[0].rstrip("; \n")
                 yield Statement(*thing, "signature", flat(f"{it.impl} {signature}").removesuffix(" where").strip(" ,"))
