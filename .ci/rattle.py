@@ -27,6 +27,8 @@ CLAUSE = re.compile(r"(requires|ensures)\*? (?:(\w+) )?\{")
 MEMBER = re.compile(r"^    ghost (\w+) = \{", re.MULTILINE)
 DEFINITION = re.compile(r"^ *(?:abbrev pub|unfoldable pub|pub record|pub data) (\S+)", re.MULTILINE)
 NAME = re.compile(r"[A-Za-z_][\w']*")
+# A brace, or what may have one that counts for nothing.
+BRACE = re.compile(r"//.*|\"(?:[^\"\\]|\\.)*\"|'(?:[^'\\]|\\.)'|[{}]")
 # A clause of a contract. A ghost member of an impl is one, too.
 Clause = collections.namedtuple("Clause", "kind label formula")
 # A block of code: the line that opens it, the words there, its lines, and whether it is in a comment `//!` of a file.
@@ -108,9 +110,9 @@ class Item(collections.namedtuple("Item", "path line kind name is_public impl me
         """Returns the signature with its clauses."""
         return re.split(r"\n *\{\n|\n\{\}|\{\n", self.text, maxsplit=1)[0]
 
-    def body(self):
-        """Returns what stands between the braces."""
-        return self.text[len(self.head()) :]
+    def signature(self):
+        """Returns the signature without clauses."""
+        return re.split(r"\b(?:requires|ensures)\b", re.sub(r"//.*", "", self.head()))[0]
 
     def doc(self):
         """Returns the lines of the doc comment."""
@@ -138,10 +140,19 @@ def depths(text, opening, closing):
     return itertools.accumulate((letter in opening) - (letter in closing) for letter in text)
 
 
+def closing(text, at=0):
+    """Returns the place behind the brace that closes the one before a place."""
+    depth = 1
+    for found in BRACE.finditer(text, at):
+        depth += {"{": 1, "}": -1}.get(found[0], 0)
+        if depth == 0:
+            return found.end()
+    raise ValueError(f"a brace is open: {text[at : at + 80]}")
+
+
 def braced(text):
-    """Returns a text up to the brace that closes the one before it."""
-    length = next((at for at, depth in enumerate(depths(text, "{", "}")) if depth < 0), None)
-    return " ".join(text[:length].split())
+    """Returns a text up to the brace that closes the one before it, on one line."""
+    return " ".join(text[: closing(text) - 1].split())
 
 
 def end_of(lines, at, indent):

@@ -89,8 +89,8 @@ def calls():
         for it in functions(path):
             if it.is_call() and not it.is_test() and not is_private(it.impl, names):
                 thing = "call", f"{crate_of(path)}: {title_of(it)}"
-                signature = re.split(r"\b(?:requires|ensures)\b", re.sub(r"//.*", "", it.head()))[0].rstrip("; \n")
-                yield Statement(*thing, "signature", flat(f"{it.impl} {signature}").removesuffix(" where").strip(" ,"))
+                signature = flat(f"{it.impl} {it.signature()}").rstrip("; ")
+                yield Statement(*thing, "signature", signature.removesuffix(" where").strip(" ,"))
                 clauses = (clause for clause in it.clauses() if clause.kind != "ghost")
                 yield from (Statement(*thing, f"{clause.kind} {clause.label}", clause.formula) for clause in clauses)
 

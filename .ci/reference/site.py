@@ -55,7 +55,7 @@ def name_faults():
         # Modules and members that the file names, and what its ghost members and headers bind.
         known = LOGIC.union(*(NAME.findall(it) for it in re.findall(r"ghost (?:use [^;]*|\w+)", text)))
         for item in functions(path):
-            here = known.union(NAME.findall(re.split("ensures|requires", item.head())[0] + item.impl))
+            here = known.union(NAME.findall(item.signature() + item.impl))
             for clause in item.clauses():
                 formula = re.sub("⟦.*?⟧", "", clause.formula)
                 rest = [it for it in WORD.findall(formula) if it not in here | bound(formula)]
