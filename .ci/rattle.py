@@ -62,11 +62,16 @@ def compared(path, made):
     return [*lines[:2], f"{path}: differs from the sources (.ci/{os.path.basename(sys.argv[0])} --write)"]
 
 
+def table_rows(text):
+    """Returns the cells of each row of the tables of a text. The first two rows of a table are its head and a line."""
+    rows = (re.split(r"(?<!\\)\|", line)[1:-1] for line in text.splitlines() if line.startswith("|"))
+    return [[cell.strip() for cell in row] for row in rows]
+
+
 def mutants():
     """Yields the mutants of their page: for each the heading above it, and the text."""
     for section in read(MUTANTS).split("\n## ")[1:]:
-        title, _, table = section.partition("\n|---|---|\n")
-        yield from ((title.splitlines()[0], it) for it in re.findall(r"^\| (.*?) \|", table, re.MULTILINE))
+        yield from ((section.splitlines()[0], row[0]) for row in table_rows(section)[2:])
 
 
 def read(path):
@@ -103,7 +108,8 @@ def crate_of(path):
 class Item(collections.namedtuple("Item", "path line kind name is_public impl members comment text")):
     """A function, an impl, a type or a macro of a source.
 
-    Its `impl` is the head of the impl or trait that it is in, and its `members` are the lines from there to the item.
+    Its `impl` is the head of the impl or trait that it is in, and its `members` are the lines from there to the item. The
+    `text` of an impl or a trait is its head, and its `members` are the whole.
     """
 
     def head(self):
@@ -175,10 +181,10 @@ def items(path):
             indent, scope, kind, name = found.groups()
             end_line = end_of(lines, at, indent)
             text = "\n".join(lines[at : end_line + 1])
-            if kind in ("impl", "trait"):
-                text = impl = " ".join(lines[at : at + 3]).split("{")[0].strip()
-                start = at
             owner, members = (impl, "\n".join(lines[start:at])) if indent else ("", "")
+            if kind in ("impl", "trait"):
+                start, members = at, text
+                text = impl = " ".join(text.split("{")[0].split())
             yield Item(path, at + 1, kind, name, scope == "pub ", owner, members, "\n".join(lines[above:at]), text)
             last = end_line if kind == "fn" else last
         if not re.match(r" *(//|#\[)", line):

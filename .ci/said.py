@@ -18,9 +18,7 @@ CONTRACTS = ("call", "type", "impl", "definition", "lemma", "export")
 HIDDEN = ("vecmap_bench", "vecmap_script", "vecmap_tests")
 # The ghost members that are proofs: what they prove is said by their trait.
 PROOFS = ("laws", "respects_eq", "clones")
-BLOCK = re.compile(r"^(?:unsafe )?((?:impl|pub trait)\b[^{]*?)\s*\{(?:\}$|\n(.*?)^\}$)", re.MULTILINE | re.DOTALL)
 GHOST = re.compile(r"^    ghost (?!use\b)(\w+)\b(.*?);$", re.MULTILINE | re.DOTALL)
-NAMED = re.compile(r"^(pub(?:\(\w+\))? )?(?:struct|enum|trait|type) (\w+)", re.MULTILINE)
 PUBLIC_USE = re.compile(r"^pub (?:use ([^;{\n]+?)(?:\{([^}]*)\})?|mod (\w+));?$", re.MULTILINE)
 LEVEL = re.compile(r"( *)module \S+")
 DECLARATION = re.compile(r"( *)(?:pub )?(?:abbrev |record |data |ruleset )?(?:pub )?([\w'-]+) *(?::|=|\()")
@@ -65,8 +63,8 @@ def is_private(head, names):
 
 def private_names(crate):
     """Returns the names of the types of a crate that are not public."""
-    found = [found for path in sources(crate) for found in NAMED.findall(read(path))]
-    return {name for public, name in found if public != "pub "} - {name for public, name in found if public == "pub "}
+    found = [it for path in sources(crate) for it in items(path) if it.kind in ("struct", "enum", "trait", "type")]
+    return {it.name for it in found if not it.is_public} - {it.name for it in found if it.is_public}
 
 
 def visible():
@@ -112,12 +110,13 @@ def impls():
     """Yields the head of each `impl` of a public type and of each public trait, and their ghost members."""
     for path in visible():
         names = private_names(crate_of(path))
-        for head, body in BLOCK.findall(read(path)):
-            if not is_private(flat(head), names) and (" for " in head or head.startswith("pub trait")):
-                thing = "impl", f"{crate_of(path)}: {flat(head)}"
+        for it in items(path):
+            is_shown = it.kind == "impl" and " for " in it.text or it.text.startswith("pub trait")
+            if it.kind in ("impl", "trait") and is_shown and not is_private(it.text, names):
+                thing = "impl", f"{crate_of(path)}: {flat(it.text)}"
                 yield Statement(*thing, "head", "")
-                for name, text in GHOST.findall(body):
-                    is_proof = name in PROOFS and " for " in head
+                for name, text in GHOST.findall(it.members):
+                    is_proof = name in PROOFS and it.kind == "impl"
                     yield Statement(*thing, f"ghost {name}", "" if is_proof else flat(text))
 
 
