@@ -22,10 +22,9 @@ def without_links(text):
     return re.sub(r"`(?:VecMap|VecSet|Self|crate|vecmap_base)::(\w+)`", r"`\1`", text)
 
 
-def said(comment):
+def first_sentence(text):
     """Returns the first sentence of a comment."""
-    first = SENTENCE.match("\n".join(comment).split("\n\n")[0])[0]
-    return without_links(" ".join(first.split()))
+    return without_links(" ".join(SENTENCE.match(text.split("\n\n")[0])[0].split()))
 
 
 def plain_type(text):
@@ -73,7 +72,9 @@ def call_entry(item, of):
     """Returns the entry of a call or a type: its name, and the first sentence of its comment."""
     owner = owner_of(item) if item.kind == "fn" else ""
     name = f"{item.name}!" if item.kind == "macro_rules!" else item.name
-    return f"- `{f'{owner}::' * (owner not in ('', of))}{name}`: {said(item.doc())}"
+    if owner not in ("", of):
+        name = f"{owner}::{name}"
+    return f"- `{name}`: {first_sentence(item.doc())}"
 
 
 def topics(page, home):

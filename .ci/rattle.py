@@ -100,6 +100,12 @@ def sources(*crates):
     return files(*(f"crates/{crate}/src/**/*.rt" for crate in crates or ["*"]))
 
 
+def dependencies():
+    """Returns the crates that this repository has, in order, each with those that it depends on."""
+    lines = (line.replace(" staticlib", "").split(":") for line in read("crates.txt").splitlines() if ":" in line)
+    return {name: needs.split() for name, needs in lines}
+
+
 def crate_of(path):
     """Returns the crate of a file."""
     return path.split("/")[1]
@@ -121,9 +127,9 @@ class Item(collections.namedtuple("Item", "path line kind name is_public impl me
         return re.split(r"\b(?:requires|ensures)\b", re.sub(r"//.*", "", self.head()))[0]
 
     def doc(self):
-        """Returns the lines of the doc comment."""
+        """Returns the doc comment."""
         lines = map(str.strip, self.comment.splitlines())
-        return [line.removeprefix("///").removeprefix(" ") for line in lines if line.startswith("///")]
+        return "\n".join(line.removeprefix("///").removeprefix(" ") for line in lines if line.startswith("///"))
 
     def is_call(self):
         """Returns whether others can call the function: it is public, or a method of a trait."""

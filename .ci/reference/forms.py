@@ -14,7 +14,7 @@ import shutil
 import subprocess
 
 from made import DEFINED
-from rattle import LAWS, closing, files, read, sources
+from rattle import LAWS, closing, dependencies, files, read, sources
 from laws_for import modules, public_paths  # on the path by `rattle`
 
 # The crate that stands for std.
@@ -44,8 +44,7 @@ KNOWN, FILES, ALIASES = {}, {}, {}
 @functools.cache
 def crates():
     """Returns the libraries and the laws, each after those that it depends on, with these."""
-    lines = (line.split(":") for line in read("crates.txt").splitlines() if ":" in line)
-    return {name: needs.split() for name, needs in lines if name in DEFINED}
+    return {name: needs for name, needs in dependencies().items() if name in DEFINED}
 
 
 def blank(text):

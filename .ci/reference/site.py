@@ -10,7 +10,7 @@ import subprocess
 import tempfile
 import urllib.parse
 
-from made import SENTENCE, listed, opening, uncommented
+from made import first_sentence, listed, opening, uncommented
 from rattle import LAWS, LIBRARIES, NAME, functions, laws, read, sources, write
 from reference.forms import (
     FILES, KNOWN, PASSED_ON, STD, crates, definition_form, definitions, imported, module_of, module_tree, passed_on,
@@ -139,7 +139,7 @@ def named_in(out):
 
 def write_front(out):
     """Writes what the site has, and how to search it, to the front page, and what each crate is."""
-    about = {it: SENTENCE.match(opening(f"crates/{it}/src/lib.rt"))[0] for it in [*reversed(LIBRARIES), LAWS]}
+    about = {it: first_sentence(opening(f"crates/{it}/src/lib.rt")) for it in [*reversed(LIBRARIES), LAWS]}
     about[STD] = "What Rattle's std has in another form than Rust's, and the definitions of std that contracts name."
     rows = "".join(f'<li><a href="{it}/index.html">{it}</a>: {html.escape(text)}</li>' for it, text in about.items())
     front = re.sub(r"`([^`]+)`", r"<code>\1</code>", f'{read(f"{HERE}/front.html")}<ul>{rows}</ul>')
