@@ -36,8 +36,8 @@ def plain_type(text):
 
 def trait_and_type(head):
     """Returns the trait, if there is one, and the type of the head of an `impl` or of a trait."""
-    if head.startswith("pub trait "):
-        return "", re.match(r"pub trait (\w+)", head)[1]
+    if trait := re.match(r"(?:pub )?trait (\w+)", head):
+        return "", trait[1]
     text = head.removeprefix("impl").split(" where")[0]
     closed = [at for at, depth in enumerate(depths(text.replace("->", "  "), "<", ">")) if depth == 0]
     trait, _, of = text[closed[0] + 1 :].rpartition(" for ")

@@ -8,7 +8,8 @@ import collections
 import os
 import re
 
-from rattle import DEFINITION, SCRIPT, blocks, crate_of, files, functions, headings, items, mutants, read, sources
+from made import owner_of, trait_and_type
+from rattle import DEFINITION, LAWS, SCRIPT, blocks, crate_of, files, functions, headings, items, mutants, read, sources
 
 # A statement: its thing, the label of a clause or what else it is, and its text.
 Statement = collections.namedtuple("Statement", "kind name label text")
@@ -57,8 +58,7 @@ def module_of(path):
 
 def is_private(head, names):
     """Whether an `impl` is of a type that users cannot name."""
-    words = re.findall(r"\w+", re.split(r" where\b", head)[0].rpartition(" for ")[2])
-    return any(it in names for it in words) and not head.startswith("pub")
+    return head[:4] == "impl" and any(it in names for it in re.findall(r"\w+", trait_and_type(head)[1]))
 
 
 def private_names(crate):
@@ -74,10 +74,10 @@ def visible():
 
 def title_of(item):
     """Returns the name of a function with its type or trait, and that of a law with its module."""
-    if item.path.startswith("crates/vecmap_laws/"):
-        return f"{item.path.split('/')[3].removesuffix('.rt')}::{item.name}"
-    head = re.sub(r"<.*?>(?= |$)", "", re.split(r" where\b", item.impl)[0].rpartition(" for ")[2])
-    return "::".join([*re.findall(r"([A-Z]\w*)(?=<|$| |:)", head)[:1], item.name])
+    owner = owner_of(item).removeprefix("&").removeprefix("mut ")
+    if crate_of(item.path) == LAWS:
+        owner = item.path.split("/")[3].removesuffix(".rt")
+    return f"{owner}::{item.name}" if owner else item.name
 
 
 def calls():
