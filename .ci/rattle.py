@@ -114,8 +114,8 @@ def crate_of(path):
 class Item(collections.namedtuple("Item", "path line kind name is_public impl members comment text")):
     """A function, an impl, a type or a macro of a source.
 
-    Its `impl` is the head of the impl or trait that it is in, and its `members` are the lines from there to the item. The
-    `text` of an impl or a trait is its head, and its `members` are the whole.
+    Its `impl` is the head of the impl or trait that it is in, and its `members` are the lines from there to the item.
+    The `text` of an impl or a trait is its head, and its `members` are the whole.
     """
 
     def head(self):

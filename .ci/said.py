@@ -151,7 +151,7 @@ def exports():
 
 
 def rows():
-    """Yields the calls of the rows below each heading of the script, with the lines that set them up, and their notes."""
+    """Yields the calls of the rows below each heading of the script, with the lines that set them up, and the notes."""
     for heading in headings(SCRIPT):
         thing = "rows", f"{heading.part}: {heading.text}"
         yield from (Statement(*thing, "body", f"# body: {body}") for body in heading.notes["body"])
@@ -159,10 +159,11 @@ def rows():
             call, *notes = (" ".join(part.split()) for part in row.text.split("|"))
             names, _, rest = call.partition(" ")
             listed = " ".join(f"| {it}" for it in notes if it[:1].isdigit() or it == "empty")
+            rest_of_notes = [it for it in notes if f"| {it}" not in listed]
             begun = "; ".join(row.begun)
             for name in [names] if names == "entry" else names.split("/"):
                 yield Statement(*thing, begun, f"{name} {rest} {listed}".rstrip())
-                yield from (Statement(*thing, begun, f"{name} {rest} | {it}") for it in notes if f"| {it}" not in listed)
+                yield from (Statement(*thing, begun, f"{name} {rest} | {it}") for it in rest_of_notes)
 
 
 def statements(text):
@@ -177,7 +178,7 @@ def statements(text):
 
 
 def tests():
-    """Yields the statements of each test, of the functions, macros and constants beside it, and the modules of tests."""
+    """Yields the statements of tests, of the functions, macros and constants beside them, and the modules of tests."""
     for path in sources():
         text, crate = read(path), crate_of(path)
         lines = re.findall(r"^#\[cfg\(test\)\]\nmod (\w+);", text, re.MULTILINE)
