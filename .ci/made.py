@@ -1,4 +1,4 @@
-"""Makes the list of calls from the sources, and reads comments. The texts at the heads of pages are in `.ci/heads`."""
+"""Makes the list of calls from the sources, and reads comments."""
 
 import re
 
@@ -8,11 +8,6 @@ from rattle import LAWS, LIBRARIES, depths, files, items, read, sources
 DEFINED = [*LIBRARIES, LAWS]
 # The first sentence of a text. A `..` ends none, nor does a stop within backticks.
 SENTENCE = re.compile(r"(?:`[^`]*`|[^`])*?(?<!\.)\.(?=\s|$)|.*", re.DOTALL)
-
-
-def page_of(name, sections):
-    """Returns a made page: its head, and its sections."""
-    return "\n".join([read(f".ci/heads/{name}.txt"), *filter(None, sections)])
 
 
 def opening(path):
@@ -27,10 +22,9 @@ def without_links(text):
     return re.sub(r"`(?:VecMap|VecSet|Self|crate|vecmap_base)::(\w+)`", r"`\1`", text)
 
 
-def said(comment):
+def first_sentence(text):
     """Returns the first sentence of a comment."""
-    first = SENTENCE.match("\n".join(comment).split("\n\n")[0])[0]
-    return without_links(" ".join(first.split()))
+    return without_links(" ".join(SENTENCE.match(text.split("\n\n")[0])[0].split()))
 
 
 def plain_type(text):
@@ -42,8 +36,8 @@ def plain_type(text):
 
 def trait_and_type(head):
     """Returns the trait, if there is one, and the type of the head of an `impl` or of a trait."""
-    if head.startswith("pub trait "):
-        return "", re.match(r"pub trait (\w+)", head)[1]
+    if trait := re.match(r"(?:pub )?trait (\w+)", head):
+        return "", trait[1]
     text = head.removeprefix("impl").split(" where")[0]
     closed = [at for at, depth in enumerate(depths(text.replace("->", "  "), "<", ">")) if depth == 0]
     trait, _, of = text[closed[0] + 1 :].rpartition(" for ")
@@ -67,11 +61,20 @@ def listed(path):
     ]
 
 
+def uncommented():
+    """Says which public calls, macros and laws have no comment."""
+    for item in (it for crate in DEFINED for path in sources(crate) for it in listed(path)):
+        if item.kind in ("fn", "macro_rules!") and not item.doc():
+            yield f"{item.path}:{item.line}: `{item.name}` has no comment"
+
+
 def call_entry(item, of):
     """Returns the entry of a call or a type: its name, and the first sentence of its comment."""
     owner = owner_of(item) if item.kind == "fn" else ""
     name = f"{item.name}!" if item.kind == "macro_rules!" else item.name
-    return f"- `{f'{owner}::' * (owner not in ('', of))}{name}`: {said(item.doc())}"
+    if owner not in ("", of):
+        name = f"{owner}::{name}"
+    return f"- `{name}`: {first_sentence(item.doc())}"
 
 
 def topics(page, home):
@@ -96,9 +99,12 @@ def section(title, paths, of=""):
     return "\n".join([f"### {title}\n", f"{homes}\n", *made, ""]) if made else ""
 
 
-def call_page():
-    """Makes the list of calls: maps and sets by topic, and the other files in the order of their names."""
-    made, seen = [], set()
+def call_page(page):
+    """Makes the list of calls: maps and sets by topic, and the other files in the order of their names.
+
+    What the page says before its first section is by hand.
+    """
+    made, seen = [read(page).split("\n## ")[0]], set()
     for kind, of in (("map", "VecMap"), ("set", "VecSet")):
         made.append(f"## {kind.title()}s\n")
         for title, paths in topics(f"crates/vecmap/src/{kind}.rt", f"crates/vecmap_{kind}/src"):
@@ -108,4 +114,4 @@ def call_page():
     for crate in ("vecmap", "vecmap_map", "vecmap_set", "vecmap_base"):
         paths = [path for path in sources(crate) if path not in seen and "/laws" not in path]
         made.append(section(f"`{crate}`", paths))
-    return page_of("CALLS", made)
+    return "\n".join(filter(None, made))

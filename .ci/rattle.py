@@ -25,13 +25,22 @@ KINDS = "fn|impl|struct|enum|trait|type|macro_rules!"
 ITEM = re.compile(rf"( *)(pub(?:\(\w+\))? )?(?:const |unsafe )*({KINDS})(?=[ <]) ?(\w*)")
 CLAUSE = re.compile(r"(requires|ensures)\*? (?:(\w+) )?\{")
 MEMBER = re.compile(r"^    ghost (\w+) = \{", re.MULTILINE)
-USE = re.compile(r"^(?:pub )?use ([^;]+);", re.MULTILINE)
 DEFINITION = re.compile(r"^ *(?:abbrev pub|unfoldable pub|pub record|pub data) (\S+)", re.MULTILINE)
 NAME = re.compile(r"[A-Za-z_][\w']*")
+# A brace, or what may have one that counts for nothing.
+BRACE = re.compile(r"//.*|\"(?:[^\"\\]|\\.)*\"|'(?:[^'\\]|\\.)'|[{}]")
 # A clause of a contract. A ghost member of an impl is one, too.
 Clause = collections.namedtuple("Clause", "kind label formula")
-# A heading of a script: its part, its text, and below it the mutants that the rows reject, and the rows.
-Heading = collections.namedtuple("Heading", "part text bodies rows")
+# A block of code: the line that opens it, the words there, its lines, and whether it is in a comment `//!` of a file.
+Block = collections.namedtuple("Block", "line mark lines is_of_file")
+# The script of the test cases.
+SCRIPT = "crates/vecmap_script/stdin"
+# A heading of a script: its part, its text, the texts of the lines `# body:` and `# shows:` below it, and its rows.
+Heading = collections.namedtuple("Heading", "part text notes rows")
+# A row of a script, and the lines above it that set the collections up.
+Row = collections.namedtuple("Row", "text begun")
+# The page of mutants: each row has one, and what rejects it.
+MUTANTS = "docs/WRONG_BODIES.md"
 
 
 def end(check):
@@ -42,31 +51,27 @@ def end(check):
     sys.exit(1 if faults else 0)
 
 
-def compared(path, made, shown=2):
-    """Says in some lines where a file differs from what the sources make of it, or writes it."""
+def compared(path, made):
+    """Says in two lines where a file differs from what the sources make of it, or writes it."""
     if WRITES:
         write(path, made)
     if WRITES or read(path) == made:
         return []
     changes = list(difflib.unified_diff(read(path).splitlines(), made.splitlines(), lineterm="", n=0))
     lines = [f"{path}: {line}" for line in changes[2:] if not line.startswith("@@")]
-    return [*lines[:shown], f"{path}: differs from the sources (.ci/{os.path.basename(sys.argv[0])} --write)"]
+    return [*lines[:2], f"{path}: differs from the sources (.ci/{os.path.basename(sys.argv[0])} --write)"]
 
 
-def kept(name, head, lines):
-    """Compares a list in `.ci/owed` with the lines that the sources make of it."""
-    head = f"# {head} `.ci/{os.path.basename(sys.argv[0])} --write` makes this list."
-    return compared(f".ci/owed/{name}.txt", "".join(f"{line}\n" for line in [head, *lines]), shown=None)
+def table_rows(text):
+    """Returns the cells of each row of the tables of a text. The first two rows of a table are its head and a line."""
+    rows = (re.split(r"(?<!\\)\|", line)[1:-1] for line in text.splitlines() if line.startswith("|"))
+    return [[cell.strip() for cell in row] for row in rows]
 
 
-def owed(name):
-    """Yields the lines of a list in `.ci/owed`, without its comments: for each the heading above it, and the line."""
-    section = ""
-    for line in read(f".ci/owed/{name}.txt").splitlines():
-        if line.startswith("## "):
-            section = line.removeprefix("## ")
-        elif line and not line.startswith("# "):
-            yield section, line
+def mutants():
+    """Yields the mutants of their page: for each the heading above it, and the text."""
+    for section in read(MUTANTS).split("\n## ")[1:]:
+        yield from ((section.splitlines()[0], row[0]) for row in table_rows(section)[2:])
 
 
 def read(path):
@@ -95,6 +100,12 @@ def sources(*crates):
     return files(*(f"crates/{crate}/src/**/*.rt" for crate in crates or ["*"]))
 
 
+def dependencies():
+    """Returns the crates that this repository has, in order, each with those that it depends on."""
+    lines = (line.replace(" staticlib", "").split(":") for line in read("crates.txt").splitlines() if ":" in line)
+    return {name: needs.split() for name, needs in lines}
+
+
 def crate_of(path):
     """Returns the crate of a file."""
     return path.split("/")[1]
@@ -104,20 +115,25 @@ class Item(collections.namedtuple("Item", "path line kind name is_public impl me
     """A function, an impl, a type or a macro of a source.
 
     Its `impl` is the head of the impl or trait that it is in, and its `members` are the lines from there to the item.
+    The `text` of an impl or a trait is its head, and its `members` are the whole.
     """
 
     def head(self):
         """Returns the signature with its clauses."""
         return re.split(r"\n *\{\n|\n\{\}|\{\n", self.text, maxsplit=1)[0]
 
-    def body(self):
-        """Returns what stands between the braces."""
-        return self.text[len(self.head()) :]
+    def signature(self):
+        """Returns the signature without clauses."""
+        return re.split(r"\b(?:requires|ensures)\b", re.sub(r"//.*", "", self.head()))[0]
 
     def doc(self):
-        """Returns the lines of the doc comment."""
+        """Returns the doc comment."""
         lines = map(str.strip, self.comment.splitlines())
-        return [line.removeprefix("///").removeprefix(" ") for line in lines if line.startswith("///")]
+        return "\n".join(line.removeprefix("///").removeprefix(" ") for line in lines if line.startswith("///"))
+
+    def is_call(self):
+        """Returns whether others can call the function: it is public, or a method of a trait."""
+        return self.is_public or " for " in self.impl or self.impl.startswith("pub trait")
 
     def is_test(self):
         """Returns whether the item is a test."""
@@ -136,10 +152,19 @@ def depths(text, opening, closing):
     return itertools.accumulate((letter in opening) - (letter in closing) for letter in text)
 
 
+def closing(text, at=0):
+    """Returns the place behind the brace that closes the one before a place."""
+    depth = 1
+    for found in BRACE.finditer(text, at):
+        depth += {"{": 1, "}": -1}.get(found[0], 0)
+        if depth == 0:
+            return found.end()
+    raise ValueError(f"a brace is open: {text[at : at + 80]}")
+
+
 def braced(text):
-    """Returns a text up to the brace that closes the one before it."""
-    length = next((at for at, depth in enumerate(depths(text, "{", "}")) if depth < 0), None)
-    return " ".join(text[:length].split())
+    """Returns a text up to the brace that closes the one before it, on one line."""
+    return " ".join(text[: closing(text) - 1].split())
 
 
 def end_of(lines, at, indent):
@@ -162,10 +187,10 @@ def items(path):
             indent, scope, kind, name = found.groups()
             end_line = end_of(lines, at, indent)
             text = "\n".join(lines[at : end_line + 1])
-            if kind in ("impl", "trait"):
-                text = impl = " ".join(lines[at : at + 3]).split("{")[0].strip()
-                start = at
             owner, members = (impl, "\n".join(lines[start:at])) if indent else ("", "")
+            if kind in ("impl", "trait"):
+                start, members = at, text
+                text = impl = " ".join(text.split("{")[0].split())
             yield Item(path, at + 1, kind, name, scope == "pub ", owner, members, "\n".join(lines[above:at]), text)
             last = end_line if kind == "fn" else last
         if not re.match(r" *(//|#\[)", line):
@@ -175,6 +200,19 @@ def items(path):
 def functions(path):
     """Returns the functions of a source."""
     return [it for it in items(path) if it.kind == "fn"]
+
+
+def blocks(path):
+    """Yields the blocks of code of a page, or of the doc comments of a source."""
+    block = None
+    for number, line in enumerate(read(path).splitlines(), 1):
+        comment = re.match(r" *//([/!]) ?(.*)", line) if path.endswith(".rt") else None
+        line = comment[2] if comment else line
+        if line.startswith("```"):
+            yield from [block] if block else []
+            block = None if block else Block(number, line[3:], [], bool(comment) and comment[1] == "!")
+        elif block:
+            block.lines.append(line)
 
 
 def tests():
@@ -194,46 +232,35 @@ def laws():
             yield from ((it, paths) for it, paths in found if it.is_public and paths)
 
 
-def imports(text):
-    """Returns what each imported name stands for, as a path."""
-    names = {}
-    for item in USE.findall(text):
-        prefix, brace, group = item.partition("{")
-        for part in group.rstrip().removesuffix("}").split(",") if brace else [""]:
-            path, _, alias = (prefix + part.strip()).strip().partition(" as ")
-            if path and not path.endswith("::"):
-                names[alias or path.rsplit("::", 1)[-1]] = path
-    return names
-
-
-def calls(text, names):
-    """Yields the paths of the functions that a text calls by an imported name: `NAME(..)` or `MODULE::NAME(..)`."""
-    for module, name in re.findall(r"(?:\b(\w+)::)?\b(\w+)(?:::<[^;]*?>)?\(", USE.sub("", re.sub(r"//.*", "", text))):
-        if module in names:
-            yield f"{names[module]}::{name}"
-        elif not module and name in names:
-            yield names[name]
-
-
 def is_set_up(line):
     """Whether a line of a script is no row, but sets the collections up."""
     return line.split(" ")[0] in ("map", "repeats", "set", "spare", "other", "swap", "again", "clones_fail")
 
 
+def begun_by(line, begun):
+    """Returns the lines that set the collections up, after one more of them."""
+    if line == "again":
+        return [it for it in begun if it != "swap"]
+    return [line] if line.split(" ")[0] in ("map", "repeats", "set") else [*begun, line]
+
+
 def headings(path):
-    """Returns the headings of a script, in order. A line `# body:` without a heading makes one without rows."""
-    part, heading, found = "", None, []
+    """Returns the headings of a script, in order. A note without a heading makes one without rows."""
+    part, heading, found, begun = "", None, [], []
     for line in read(path).splitlines():
-        is_body = line.startswith("# body: ")
+        note = re.match(r"# (body|shows): (.*)", line)
         if section := re.match(r"# =+ (\w+)", line):
             part = section[1]
-        elif line.startswith("# ") and not (heading and is_body):
-            heading = Heading(part, f'no heading above "{line}"' if is_body else line[2:], [], [])
+        elif line.startswith("# ") and not (heading and note):
+            text = f'no heading above "{line}"' if note else line[2:]
+            heading, begun = Heading(part, text, {"body": [], "shows": []}, []), []
             found.append(heading)
-        elif is_body:
-            heading.bodies.append(line.removeprefix("# body: "))
-        elif not line:
+        elif note:
+            heading.notes[note[1]].append(note[2])
+        elif is_set_up(line):
+            begun = begun_by(line, begun)
+        elif line and heading:
+            heading.rows.append(Row(line, begun))
+        else:
             heading = None
-        elif heading and not is_set_up(line):
-            heading.rows.append(line)
     return found

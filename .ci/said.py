@@ -8,7 +8,8 @@ import collections
 import os
 import re
 
-from rattle import DEFINITION, crate_of, files, functions, is_set_up, items, owed, read, sources
+from made import owner_of, trait_and_type
+from rattle import DEFINITION, LAWS, SCRIPT, blocks, crate_of, files, functions, headings, items, mutants, read, sources
 
 # A statement: its thing, the label of a clause or what else it is, and its text.
 Statement = collections.namedtuple("Statement", "kind name label text")
@@ -18,9 +19,7 @@ CONTRACTS = ("call", "type", "impl", "definition", "lemma", "export")
 HIDDEN = ("vecmap_bench", "vecmap_script", "vecmap_tests")
 # The ghost members that are proofs: what they prove is said by their trait.
 PROOFS = ("laws", "respects_eq", "clones")
-BLOCK = re.compile(r"^(?:unsafe )?((?:impl|pub trait)\b[^{]*?)\s*\{(?:\}$|\n(.*?)^\}$)", re.MULTILINE | re.DOTALL)
 GHOST = re.compile(r"^    ghost (?!use\b)(\w+)\b(.*?);$", re.MULTILINE | re.DOTALL)
-NAMED = re.compile(r"^(pub(?:\(\w+\))? )?(?:struct|enum|trait|type) (\w+)", re.MULTILINE)
 PUBLIC_USE = re.compile(r"^pub (?:use ([^;{\n]+?)(?:\{([^}]*)\})?|mod (\w+));?$", re.MULTILINE)
 LEVEL = re.compile(r"( *)module \S+")
 DECLARATION = re.compile(r"( *)(?:pub )?(?:abbrev |record |data |ruleset )?(?:pub )?([\w'-]+) *(?::|=|\()")
@@ -59,14 +58,13 @@ def module_of(path):
 
 def is_private(head, names):
     """Whether an `impl` is of a type that users cannot name."""
-    words = re.findall(r"\w+", re.split(r" where\b", head)[0].rpartition(" for ")[2])
-    return any(it in names for it in words) and not head.startswith("pub")
+    return head[:4] == "impl" and any(it in names for it in re.findall(r"\w+", trait_and_type(head)[1]))
 
 
 def private_names(crate):
     """Returns the names of the types of a crate that are not public."""
-    found = [found for path in sources(crate) for found in NAMED.findall(read(path))]
-    return {name for public, name in found if public != "pub "} - {name for public, name in found if public == "pub "}
+    found = [it for path in sources(crate) for it in items(path) if it.kind in ("struct", "enum", "trait", "type")]
+    return {it.name for it in found if not it.is_public} - {it.name for it in found if it.is_public}
 
 
 def visible():
@@ -76,10 +74,10 @@ def visible():
 
 def title_of(item):
     """Returns the name of a function with its type or trait, and that of a law with its module."""
-    if item.path.startswith("crates/vecmap_laws/"):
-        return f"{item.path.split('/')[3].removesuffix('.rt')}::{item.name}"
-    head = re.sub(r"<.*?>(?= |$)", "", re.split(r" where\b", item.impl)[0].rpartition(" for ")[2])
-    return "::".join([*re.findall(r"([A-Z]\w*)(?=<|$| |:)", head)[:1], item.name])
+    owner = owner_of(item).removeprefix("&").removeprefix("mut ")
+    if crate_of(item.path) == LAWS:
+        owner = item.path.split("/")[3].removesuffix(".rt")
+    return f"{owner}::{item.name}" if owner else item.name
 
 
 def calls():
@@ -87,11 +85,10 @@ def calls():
     for path in visible():
         names = private_names(crate_of(path))
         for it in functions(path):
-            public = it.is_public or " for " in it.impl or it.impl.startswith("pub trait")
-            if public and not it.is_test() and not is_private(it.impl, names):
+            if it.is_call() and not it.is_test() and not is_private(it.impl, names):
                 thing = "call", f"{crate_of(path)}: {title_of(it)}"
-                signature = re.split(r"\b(?:requires|ensures)\b", re.sub(r"//.*", "", it.head()))[0].rstrip("; \n")
-                yield Statement(*thing, "signature", flat(f"{it.impl} {signature}").removesuffix(" where").strip(" ,"))
+                signature = flat(f"{it.impl} {it.signature()}").rstrip("; ")
+                yield Statement(*thing, "signature", signature.removesuffix(" where").strip(" ,"))
                 clauses = (clause for clause in it.clauses() if clause.kind != "ghost")
                 yield from (Statement(*thing, f"{clause.kind} {clause.label}", clause.formula) for clause in clauses)
 
@@ -113,12 +110,13 @@ def impls():
     """Yields the head of each `impl` of a public type and of each public trait, and their ghost members."""
     for path in visible():
         names = private_names(crate_of(path))
-        for head, body in BLOCK.findall(read(path)):
-            if not is_private(flat(head), names) and (" for " in head or head.startswith("pub trait")):
-                thing = "impl", f"{crate_of(path)}: {flat(head)}"
+        for it in items(path):
+            is_shown = it.kind == "impl" and " for " in it.text or it.text.startswith("pub trait")
+            if it.kind in ("impl", "trait") and is_shown and not is_private(it.text, names):
+                thing = "impl", f"{crate_of(path)}: {flat(it.text)}"
                 yield Statement(*thing, "head", "")
-                for name, text in GHOST.findall(body):
-                    is_proof = name in PROOFS and " for " in head
+                for name, text in GHOST.findall(it.members):
+                    is_proof = name in PROOFS and it.kind == "impl"
                     yield Statement(*thing, f"ghost {name}", "" if is_proof else flat(text))
 
 
@@ -153,28 +151,19 @@ def exports():
 
 
 def rows():
-    """Yields the calls of the rows below each heading of the script, with the lines that set them up, and their notes."""
-    path, part = "crates/vecmap_script/stdin", ""
-    lines, heading, begun = read(path).splitlines(), "", []
-    for line in lines:
-        if section := re.match(r"# =+ (\w+)", line):
-            part = section[1]
-        elif line.startswith("# body: "):
-            yield Statement("rows", f"{part}: {heading}", "body", line)
-        elif line.startswith("# "):
-            heading, begun = line[2:], []
-        elif line == "again":
-            begun = [it for it in begun if it != "swap"]
-        elif is_set_up(line):
-            begun = [line] if line.split(" ")[0] in ("map", "repeats", "set") else [*begun, line]
-        elif line:
-            call, *notes = (" ".join(part.split()) for part in line.split("|"))
+    """Yields the calls of the rows below each heading of the script, with the lines that set them up, and the notes."""
+    for heading in headings(SCRIPT):
+        thing = "rows", f"{heading.part}: {heading.text}"
+        yield from (Statement(*thing, "body", f"# body: {body}") for body in heading.notes["body"])
+        for row in heading.rows:
+            call, *notes = (" ".join(part.split()) for part in row.text.split("|"))
             names, _, rest = call.partition(" ")
             listed = " ".join(f"| {it}" for it in notes if it[:1].isdigit() or it == "empty")
+            rest_of_notes = [it for it in notes if f"| {it}" not in listed]
+            begun = "; ".join(row.begun)
             for name in [names] if names == "entry" else names.split("/"):
-                thing = "rows", f"{part}: {heading}", "; ".join(begun)
-                yield Statement(*thing, f"{name} {rest} {listed}".rstrip())
-                yield from (Statement(*thing, f"{name} {rest} | {it}") for it in notes if f"| {it}" not in listed)
+                yield Statement(*thing, begun, f"{name} {rest} {listed}".rstrip())
+                yield from (Statement(*thing, begun, f"{name} {rest} | {it}") for it in rest_of_notes)
 
 
 def statements(text):
@@ -189,7 +178,7 @@ def statements(text):
 
 
 def tests():
-    """Yields the statements of each test, of the functions, macros and constants beside it, and the modules of tests."""
+    """Yields the statements of tests, of the functions, macros and constants beside them, and the modules of tests."""
     for path in sources():
         text, crate = read(path), crate_of(path)
         lines = re.findall(r"^#\[cfg\(test\)\]\nmod (\w+);", text, re.MULTILINE)
@@ -202,17 +191,14 @@ def tests():
 
 
 def examples():
-    """Yields the lines of the examples in the doc comments, by the item above which they are."""
+    """Yields the lines of the examples in the doc comments, by the item above which they are, or by their file."""
     for path in sources():
-        above = [("", re.match(r"(?://!.*\n)*", read(path))[0])]
-        above += [(title_of(it) if it.kind == "fn" else it.name or it.text, it.comment) for it in items(path)]
-        for name, comment in above:
-            lines, is_open = [it.strip()[4:] for it in comment.splitlines() if re.match(r" *//[/!]", it)], False
-            for line in lines:
-                if line.startswith("```"):
-                    is_open = not is_open
-                elif is_open and line and not line.startswith("//"):
-                    yield Statement("example", f"{crate_of(path)}: {name or os.path.basename(path)}", "", line)
+        names = [(it.line, title_of(it) if it.kind == "fn" else it.name or it.text) for it in items(path)]
+        for block in blocks(path):
+            below = (name for line, name in names if line > block.line)
+            name = os.path.basename(path) if block.is_of_file else next(below, os.path.basename(path))
+            lines = (it for it in block.lines if it and not it.startswith("//"))
+            yield from (Statement("example", f"{crate_of(path)}: {name}", "", it) for it in lines)
 
 
 def stated():
@@ -240,7 +226,7 @@ def edits():
 
 def lists():
     """Yields the mutants that something must reject, and the steps of the gate."""
-    yield from (Statement("list", "mutants", title, body) for title, body in owed("bodies"))
+    yield from (Statement("list", "mutants", title, body) for title, body in mutants())
     steps = re.findall(r"^ *(?:for name in ([\w -]+);|step (\w[\w-]*))", read(".ci/run"), re.MULTILINE)
     yield from (Statement("list", "steps of .ci/run", "", name) for step in steps for it in step for name in it.split())
 

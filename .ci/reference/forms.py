@@ -14,14 +14,13 @@ import shutil
 import subprocess
 
 from made import DEFINED
-from rattle import LAWS, files, read, sources
+from rattle import LAWS, closing, dependencies, files, read, sources
 from laws_for import modules, public_paths  # on the path by `rattle`
 
 # The crate that stands for std.
 STD = "rattle_std"
 # A comment, an attribute, the opening of a clause, or the brace or semicolon at which the head of a function ends.
 SCAN = re.compile(r"//.*|\[[^\[\]]*\]|(^ +(?:requires|ensures)\*? (?:\w+ )?\{)|[{;]", re.MULTILINE)
-BRACE = re.compile(r"//.*|\"(?:[^\"\\]|\\.)*\"|'(?:[^'\\]|\\.)'|[{}]")
 GHOST = re.compile(r"(?:^ +//(?!/).*\n)*^ +ghost (?!use)\w+(?: = |: )\{", re.MULTILINE)
 GHOST_USE = re.compile(r"^ *ghost use [^;]*;", re.MULTILINE)
 IMPORT = re.compile(r"^(?: *ghost)? *(?:pub )?use ([\w.]+)\.\{([^}]*)\}", re.MULTILINE)
@@ -45,23 +44,12 @@ KNOWN, FILES, ALIASES = {}, {}, {}
 @functools.cache
 def crates():
     """Returns the libraries and the laws, each after those that it depends on, with these."""
-    lines = (line.split(":") for line in read("crates.txt").splitlines() if ":" in line)
-    return {name: needs.split() for name, needs in lines if name in DEFINED}
+    return {name: needs for name, needs in dependencies().items() if name in DEFINED}
 
 
 def blank(text):
     """Returns as many empty lines as a text has."""
     return "\n" * text.count("\n")
-
-
-def closing(text, at):
-    """Returns the place behind the brace that closes the one before a place."""
-    depth = 1
-    for found in BRACE.finditer(text, at):
-        depth += {"{": 1, "}": -1}.get(found[0], 0)
-        if depth == 0:
-            return found.end()
-    raise ValueError(f"a brace is open: {text[at : at + 80]}")
 
 
 def imported(text):

@@ -10,7 +10,7 @@ import subprocess
 import tempfile
 import urllib.parse
 
-from made import SENTENCE, listed, opening
+from made import first_sentence, listed, opening, uncommented
 from rattle import LAWS, LIBRARIES, NAME, functions, laws, read, sources, write
 from reference.forms import (
     FILES, KNOWN, PASSED_ON, STD, crates, definition_form, definitions, imported, module_of, module_tree, passed_on,
@@ -55,18 +55,11 @@ def name_faults():
         # Modules and members that the file names, and what its ghost members and headers bind.
         known = LOGIC.union(*(NAME.findall(it) for it in re.findall(r"ghost (?:use [^;]*|\w+)", text)))
         for item in functions(path):
-            here = known.union(NAME.findall(re.split("ensures|requires", item.head())[0] + item.impl))
+            here = known.union(NAME.findall(item.signature() + item.impl))
             for clause in item.clauses():
                 formula = re.sub("⟦.*?⟧", "", clause.formula)
                 rest = [it for it in WORD.findall(formula) if it not in here | bound(formula)]
                 yield from (f"{path}:{item.line}: a clause names {it}, which no definition has" for it in rest)
-
-
-def comment_faults():
-    """Says which public functions have no comment. rustdoc takes a contract for one."""
-    for path in sources(*crates()):
-        bare = (it for it in functions(path) if it.is_public and not it.doc())
-        yield from (f"{path}:{it.line}: {it.name} has no comment" for it in bare)
 
 
 def build(crate, root, needs, work, out):
@@ -146,7 +139,7 @@ def named_in(out):
 
 def write_front(out):
     """Writes what the site has, and how to search it, to the front page, and what each crate is."""
-    about = {it: SENTENCE.match(opening(f"crates/{it}/src/lib.rt"))[0] for it in [*reversed(LIBRARIES), LAWS]}
+    about = {it: first_sentence(opening(f"crates/{it}/src/lib.rt")) for it in [*reversed(LIBRARIES), LAWS]}
     about[STD] = "What Rattle's std has in another form than Rust's, and the definitions of std that contracts name."
     rows = "".join(f'<li><a href="{it}/index.html">{it}</a>: {html.escape(text)}</li>' for it, text in about.items())
     front = re.sub(r"`([^`]+)`", r"<code>\1</code>", f'{read(f"{HERE}/front.html")}<ul>{rows}</ul>')
@@ -215,7 +208,7 @@ def make(work, out):
             KNOWN.update((f"{module_of(path)}::{it[1]}", "".join(it[2][-1:])) for it in definitions(path))
         KNOWN.update((f"{public}::{name.split('::')[-1]}", KNOWN[name])
                      for public, own in passed_on(crate) for name in list(KNOWN) if name.startswith(f"{own}::"))
-    if faults := [*name_faults(), *comment_faults()]:
+    if faults := [*name_faults(), *uncommented()]:
         return faults, {}
     write(f"{work}/{STD}/lib.rs", read(f"{HERE}/std.rs") + f"pub mod specs {{\n{module_tree(words)}}}\n")
     build(STD, f"{STD}/lib.rs", [], work, out)

@@ -210,6 +210,20 @@ fn many_pairs_are_equal_if_their_values_are(rt: HostRuntime) {
     }
 }
 
+// Whether more than 16,384 pairs, of which the first occurs twice, are equal to others, in which it occurs once.
+fn equals_without_its_duplicate(alloc: Global) -> Result<bool, AllocError> {
+    let mut pairs = pairs_of(alloc, 16389, false, 0.5)?;
+    pairs.push((0, 0.5))?;
+    let others = pairs_of(alloc, 16390, true, 0.5)?;
+    Ok(pairs_equal(&pairs, &others))
+}
+
+// body: `==` of maps looks from one side if there are duplicate keys, by counts
+#[test]
+fn many_pairs_are_equal_if_each_occurs_equally_often(rt: HostRuntime) {
+    assert_gives(&rt, equals_without_its_duplicate(rt.alloc()), false);
+}
+
 #[test]
 fn a_default_collection_has_no_capacity(rt: HostRuntime) {
     let map: VecMap<u32, u32> = VecMap::made_with(rt.alloc());
