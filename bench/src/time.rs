@@ -108,7 +108,7 @@ fn time<T>(settings: &Settings, row: &Row<T>, n: usize) {
     for i in 1..count {
         let ratios = samples[i].iter().zip(&samples[0]).map(|(a, b)| a / b);
         println!(
-            "{}\t{n}\t{}\t{:.3}\t{:.3}\t{:.3}",
+            "{}\t{n}\t{}\t{:.5}\t{:.5}\t{:.5}",
             row.name,
             row.loops[i].0,
             nanoseconds(0),

@@ -67,6 +67,12 @@ pub fn append(keys: &[u64], probes: &[u64], rounds: u64) -> u64 {
     sum
 }
 
+// Reads the map in a call, so that the compiler cannot drop pairs that nothing reads.
+#[inline(never)]
+fn read(map: &VecMap<u64, u64>) -> u64 {
+    mark(map)
+}
+
 // The original has no call for a key that is known to be new.
 #[inline(never)]
 pub fn insert_unique(keys: &[u64], _: &[u64], rounds: u64) -> u64 {
@@ -76,7 +82,7 @@ pub fn insert_unique(keys: &[u64], _: &[u64], rounds: u64) -> u64 {
         for key in 0..keys.len() as u64 {
             map.insert(key, key ^ round);
         }
-        sum = sum.wrapping_add(mark(&map));
+        sum = sum.wrapping_add(read(&map));
     }
     sum
 }
@@ -89,7 +95,7 @@ pub fn insert_unique_reserved(keys: &[u64], _: &[u64], rounds: u64) -> u64 {
         for key in 0..keys.len() as u64 {
             map.insert(key, key ^ round);
         }
-        sum = sum.wrapping_add(mark(&map));
+        sum = sum.wrapping_add(read(&map));
     }
     sum
 }
