@@ -12,7 +12,8 @@ fn counted_words(alloc: Global) -> Result<String, Fail> {
 
 fn first_values(alloc: Global) -> Result<String, Fail> {
     let first = new_keys::first_values(alloc, &[(2, 20), (1, 10), (2, 30)])?;
-    Ok(format!(in alloc; "{first:?}")?)
+    let squares = new_keys::squares(alloc, 4)?;
+    Ok(format!(in alloc; "{first:?} {squares:?}")?)
 }
 
 #[test]
@@ -20,5 +21,9 @@ fn new_keys_are_counted_from_one_and_keep_their_first_value(rt: HostRuntime) -> 
     let (rt, alloc) = (&rt, rt.alloc());
     let counts = r#"{"to": 2, "be": 2, "or": 1, "not": 1} {}"#;
     assert_prints(rt, counted_words(alloc), counts)?;
-    assert_prints(rt, first_values(alloc), "{2: 20, 1: 10}")
+    assert_prints(
+        rt,
+        first_values(alloc),
+        "{2: 20, 1: 10} {0: 0, 1: 1, 2: 4, 3: 9}",
+    )
 }
