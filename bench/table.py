@@ -23,13 +23,18 @@ OTHERS = {
     "the kit's indexmap": ("vecmap", "vecmap, other sizes"),
 }
 MOST = 1.05
+# The least number in a run.
+LEAST = 0.00001
 
 
 def read(name):
-    """Returns the lines of a run: for (contender, row, size), the original's time, the contender's, and the ratio."""
+    """Returns the lines of a run: for (contender, row, size), the original's time, the contender's, and the ratio.
+
+    A number that was rounded to zero becomes the least that is printed.
+    """
     with open(name, encoding="utf-8") as file:
         lines = [line.rstrip("\n").split("\t") for line in file]
-    return {(who, row, int(size)): [float(x) for x in rest] for row, size, who, *rest in lines}
+    return {(who, row, int(size)): [max(float(x), LEAST) for x in rest] for row, size, who, *rest in lines}
 
 
 def median(found):
