@@ -23,14 +23,14 @@ OTHERS = {
     "the kit's indexmap": ("vecmap", "vecmap, other sizes"),
 }
 MOST = 1.05
-# The least number in a run.
-LEAST = 0.00001
+# The least ratio that a table shows.
+LEAST = 0.0001
 
 
 def read(name):
     """Returns the lines of a run: for (contender, row, size), the original's time, the contender's, and the ratio.
 
-    A number that was rounded to zero becomes the least that is printed.
+    A number below LEAST becomes LEAST, so that no table has a zero.
     """
     with open(name, encoding="utf-8") as file:
         lines = [line.rstrip("\n").split("\t") for line in file]
