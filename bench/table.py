@@ -23,13 +23,18 @@ OTHERS = {
     "the kit's indexmap": ("vecmap", "vecmap, other sizes"),
 }
 MOST = 1.05
+# The least ratio that a table shows.
+LEAST = 0.0001
 
 
 def read(name):
-    """Returns the lines of a run: for (contender, row, size), the original's time, the contender's, and the ratio."""
+    """Returns the lines of a run: for (contender, row, size), the original's time, the contender's, and the ratio.
+
+    A number below LEAST becomes LEAST, so that no table has a zero.
+    """
     with open(name, encoding="utf-8") as file:
         lines = [line.rstrip("\n").split("\t") for line in file]
-    return {(who, row, int(size)): [float(x) for x in rest] for row, size, who, *rest in lines}
+    return {(who, row, int(size)): [max(float(x), LEAST) for x in rest] for row, size, who, *rest in lines}
 
 
 def median(found):
