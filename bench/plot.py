@@ -14,10 +14,11 @@ import sys
 CONTENDERS = {
     "this library": "#0072b2",
     "vecmap-rs 0.3.1": "#d55e00",
+    "the kit's indexmap": "#e69f00",
     "linear-map 1.2": "#009e73",
     "indexmap 1.9": "#cc79a7",
 }
-OURS, ORIGINAL = list(CONTENDERS)[:2]
+OURS, ORIGINAL, KIT = list(CONTENDERS)[:3]
 # The rows whose times are drawn, with their titles.
 ROWS = {
     "get hit": "get of a present u64 key",
@@ -28,18 +29,25 @@ WIDTH, HEIGHT = 900, 700
 CELL = re.compile(r"([\d.]+)(?: [\d.]+)? \[([\d.]+)\.\.([\d.]+)\] ([\d.]+):([\d.]+)")
 
 
+def ratios_of(table):
+    """Returns the numbers of the cells of a table of ratios."""
+    return {
+        row: {size: [float(x) for x in CELL.fullmatch(cell).groups()] for size, cell in cells.items()}
+        for row, cells in table.items()
+    }
+
+
 def read(name):
-    """Returns the rows of the ratios, and those of the nanoseconds of other crates."""
+    """Returns the rows of the ratios, and those of the nanoseconds of others."""
     tables = {}
     with open(name, encoding="utf-8") as file:
         for line in file:
             head, row, size, cell = line.rstrip("\n").split("\t")
             tables.setdefault(head, {}).setdefault(row, {})[int(size)] = cell
-    ratios = {
-        row: {size: [float(x) for x in CELL.fullmatch(cell).groups()] for size, cell in cells.items()}
-        for row, cells in tables["vecmap : vecmap-rs"].items()
-    }
-    return ratios, {row: {n: float(x) for n, x in cells.items()} for row, cells in tables["nanoseconds"].items()}
+    others = {row: {n: float(x) for n, x in cells.items()} for row, cells in tables["nanoseconds"].items()}
+    for row, cells in ratios_of(tables.get(f"{KIT} : vecmap-rs", {})).items():
+        others[f"{row}, {KIT}"] = {n: cell[3] for n, cell in cells.items()}
+    return ratios_of(tables["vecmap : vecmap-rs"]), others
 
 
 def times(ratios, others, row):
@@ -140,7 +148,7 @@ def draw_means(box, ratios):
 
 def legend(y):
     """Returns the names of the contenders in one line."""
-    made, x = [], 140
+    made, x = [], 40
     for who, colour in CONTENDERS.items():
         made += [line([(x, y - 4), (x + 24, y - 4)], colour), *dots([(x + 12, y - 4)], colour)]
         made.append(text(x + 30, y, who, "start", 13))
@@ -155,7 +163,7 @@ def main():
     for left, (row, title) in zip((60, 510), ROWS.items()):
         made += draw_times((left, 75, left + 375, 345), times(ratios, others, row), title)
     made += draw_means((60, 430, 885, 620), ratios)
-    words = "Intel Xeon 2.50GHz, family 6, model 85. Nanoseconds: the least of the samples, median over the orders."
+    words = "Intel Xeon, family 6, model 167, 2.7 GHz. Nanoseconds: the least of the samples, median over the orders."
     made.append(text(60, HEIGHT - 14, words, "start"))
     head = f'<svg xmlns="http://www.w3.org/2000/svg" viewBox="0 0 {WIDTH} {HEIGHT}" font-family="sans-serif">'
     ground = f'<rect width="{WIDTH}" height="{HEIGHT}" fill="white"/>'
