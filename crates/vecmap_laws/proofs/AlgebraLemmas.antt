@@ -1,12 +1,13 @@
 -- What `intersection` and `union` yield, whichever of two lists is longer. The idea: a fact about two lists in either
 -- order is one about the shorter and the other.
 use Rattle.std.specs.Set.{is_member}
-use Rattle.std.proofs.Common.{◌≡◌, ◌+◌, ◌∙◌, Bool, true, false, ◌&&◌, ◌||◌, List, arith, if◌then◌else◌, length, nat_lt, not}
+use Rattle.std.proofs.Common.{◌≡◌, ◌+◌, ◌∙◌, Bool, true, false, ◌&&◌, ◌||◌, List, [], ap, arith, if◌then◌else◌, length, nat_lt, not}
 use Rattle.std.proofs.lemmas.List.Folds.{list_any-append}
 use Rattle.std.specs.{Cmp.IsEquivalence, List.IsDistinct}
-use Rattle.vecmap_base.specs.{Equality.has_same_items, Items.both, Items.only}
+use Rattle.vecmap_base.specs.{Equality.has_same_items, Items.adds, Items.both, Items.only}
 use Rattle.vecmap_base.proofs.EqualityLemmas.{Sets.set_equality_laws, Relations.is_member_only}
 use Rattle.vecmap_set.specs.{Lazy.longer, Lazy.not_longer, Lazy.not_shorter, Lazy.shorter, Operators.symmetric_difference_of, Operators.union_of}
+use Rattle.vecmap_laws.proofs.ItemMembers.{is_member_adds}
 use Rattle.vecmap_laws.proofs.SetRelations.{both_turned, length_both_turned, length_union, union_turned}
 use Rattle.vecmap_laws.specs.Algebra.{lazy_intersection, lazy_union}
 
@@ -68,3 +69,13 @@ module _ {T : Type 0} (eq : T → T → Bool) (o : IsEquivalence eq) (a b : List
 
   pub lazy_lengths_add : length (lazy_intersection eq a b) + length (lazy_union eq a b) ≡ length a + length b
   lazy_lengths_add = omega (arith, length_lazy_intersection, length_lazy_union, lengths_add)
+
+module _ {T : Type 0} (eq : T → T → Bool) (o : IsEquivalence eq) where
+  -- An element is in the symmetric difference of two collected sets if it is in exactly one of the lists. The equation is
+  -- a premise, since the search opens a member of a symmetric difference.
+  pub is_member_of_collected : (xs ys s : List T) → s ≡ symmetric_difference_of eq (adds eq [] xs) (adds eq [] ys) → (z : T) → is_member eq s z ≡ ((is_member eq xs z && not (is_member eq ys z)) || (is_member eq ys z && not (is_member eq xs z)))
+  is_member_of_collected xs ys s e z =
+      ap (λ m. is_member eq m z) e
+      ∙ is_member_symmetric_difference eq o (adds eq [] xs) (adds eq [] ys) z
+      ∙ ap (λ b. (b && not (is_member eq (adds eq [] ys) z)) || (is_member eq (adds eq [] ys) z && not b)) (is_member_adds eq o [] xs z)
+      ∙ ap (λ b. (is_member eq xs z && not b) || (b && not (is_member eq xs z))) (is_member_adds eq o [] ys z)

@@ -9,6 +9,7 @@ use Rattle.vecmap_base.proofs.LoopLemmas.{key_stays, keys_written}
 use Rattle.vecmap_base.proofs.PairsLemmas.Keys.{keys_of_put, keys_of_puts}
 use Rattle.vecmap_base.proofs.WalkLemmas.{drained_all}
 use Rattle.std.specs.{Cmp.nat_eq_equiv, String.string_eq_equiv}
+use Rattle.vecmap_laws.proofs.AlgebraLemmas.{is_member_of_collected}
 use Rattle.vecmap_laws.proofs.AfterPuts.{index_of_congr, index_of_put, lookup_put_any, lookup_puts_distinct, lookup_without_any}
 pub use Rattle.vecmap_laws.proofs.AtNumbers.{lookups_at_numbers, members_at_numbers}
 pub use Rattle.vecmap_laws.proofs.AtTexts.{lookups_at_texts, members_at_texts, texts}
@@ -95,6 +96,9 @@ pub ruleset sorted_at_numbers = (search_finds_at_numbers, sorted_after_at_number
 pub ruleset clones = (clones_equal, same_clones, equal_to_itself)
 
 pub ruleset clones_at_numbers = (same_clones, equal_to_itself_at_numbers)
+
+-- Which elements `^` makes of two sets that were collected.
+pub ruleset collected = (is_member_of_collected)
 
 -- What `extend` by another map, passed by value, leaves.
 pub ruleset extended = (drained_all)
