@@ -25,12 +25,3 @@ pub fn first_values(alloc: Global, pairs: &[(u32, u32)]) -> Result<VecMap<u32, u
     }
     Ok(map)
 }
-
-/// The squares of the numbers below `end`. Its invariant says that no number that is still to come is a key.
-pub fn squares(alloc: Global, end: u32) -> Result<VecMap<u32, u64>, AllocError> {
-    let mut squares = VecMap::with_capacity(alloc, end as usize)?;
-    for number in 0..end {
-        squares.insert_unique(number, number as u64 * number as u64)?;
-    }
-    Ok(squares)
-}
