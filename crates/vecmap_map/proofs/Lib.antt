@@ -1,3 +1,4 @@
 mod EntryLemmas
 mod LentLemmas
 pub mod ContentsLemmas
+pub mod MadeLemmas

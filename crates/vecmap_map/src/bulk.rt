@@ -46,9 +46,10 @@ impl<K, V> VecMap<K, V> {
         V: Drop,
         requires ends { IsFiniteIterable I.into_iter_gives I.IntoIter.can_next I.IntoIter.remaining
             iter }
-        ensures { IfOk result (λ map. (it : I.IntoIter) × (pairs : List (K × V))
+        ensures entries { IfOk result (λ map. (it : I.IntoIter) × (pairs : List (K × V))
             × I.into_iter_gives iter it × Drains I.IntoIter.next_gives it pairs
             × (map.entries ≡ puts K.eq [] pairs)) }
+        ensures distinct { IfOk result (λ map. HasDistinctKeys K.eq map.entries) }
     {
         let mut map = VecMap::new(alloc);
         map.extend(iter)?;
@@ -81,6 +82,7 @@ impl<K, V> VecMap<K, V> {
         ensures entries { IfOk result (λ map. (clones : List (K × V))
             × ArePairClones K.is_clone V.is_clone pairs.now clones
             × (map.entries ≡ puts K.eq [] clones)) }
+        ensures distinct { IfOk result (λ map. HasDistinctKeys K.eq map.entries) }
         ensures at_least { IfOk result (λ map. length pairs.now ≤ map.capacity) }
     {
         let mut map = VecMap::with_capacity(alloc, pairs.len())?;
@@ -183,6 +185,8 @@ impl<K, V> VecMap<K, V> {
             ≡ option_or (lookup K.eq pairs q) (lookup K.eq self.old.entries q)) }
         ensures ran { ExtendsWithItems I.into_iter_gives I.IntoIter.next_gives
             (Puts K.eq) iter self.old self.new result }
+        ensures distinct { HasDistinctKeys K.eq self.old.entries
+            → HasDistinctKeys K.eq self.new.entries }
         ensures succeeds { HasRoomForAll I.into_iter_gives I.IntoIter.remaining iter
             (HasRoom self.old) → IsOk result }
         ensures extended { Extends I.into_iter_gives I.IntoIter.next_gives I.IntoIter.remaining
@@ -228,6 +232,8 @@ impl<K, V> VecMap<K, V> {
             iter }
         ensures ran { ExtendsWithItems I.into_iter_gives I.IntoIter.next_gives
             (PutsClones K.eq K.is_clone V.is_clone deref_pair) iter self.old self.new result }
+        ensures distinct { HasDistinctKeys K.eq self.old.entries
+            → HasDistinctKeys K.eq self.new.entries }
         ensures succeeds { HasRoomForAll I.into_iter_gives I.IntoIter.remaining iter
             (HasRoom self.old) → HoldsOfEach I.into_iter_gives I.IntoIter.next_gives iter
             (ClonesSucceed K.Clone V.Clone deref_pair) → IsOk result }
@@ -272,6 +278,8 @@ impl<K, V> VecMap<K, V> {
             iter }
         ensures ran { ExtendsWithItems I.into_iter_gives I.IntoIter.next_gives
             (PutsClones K.eq K.is_clone V.is_clone deref) iter self.old self.new result }
+        ensures distinct { HasDistinctKeys K.eq self.old.entries
+            → HasDistinctKeys K.eq self.new.entries }
         ensures succeeds { HasRoomForAll I.into_iter_gives I.IntoIter.remaining iter
             (HasRoom self.old) → HoldsOfEach I.into_iter_gives I.IntoIter.next_gives iter
             (ClonesSucceed K.Clone V.Clone deref) → IsOk result }

@@ -2,7 +2,7 @@
 ghost use Rattle.std.specs.Prelude.{◌≡◌, ◌≤◌, IfOk, [], vec_capacity};
 ghost use Rattle.std.specs.Map.{keys_of};
 ghost use Rattle.vecmap_base.specs.Clones.{ArePairClones};
-ghost use Rattle.vecmap_base.specs.Pairs.{HasDistinctKeys, puts};
+ghost use Rattle.vecmap_base.specs.Pairs.{HasDistinctKeys, lookup, puts};
 ghost use Rattle.vecmap_base.specs.Repeats.{comparisons};
 
 use crate::VecMap;
@@ -25,7 +25,9 @@ use vecmap_base::{Steps, dedup_keep_last_value};
 /// ```
 impl<K: Eq + Drop, V: Drop> From<Vec<(K, V)>> for VecMap<K, V> {
     ghost from_gives = { λ pairs map. (map.entries ≡ puts K.eq [] pairs.items)
-        × (map.capacity ≡ vec_capacity pairs) };
+        × (map.capacity ≡ vec_capacity pairs) × HasDistinctKeys K.eq map.entries
+        × (HasDistinctKeys K.eq pairs.items → (q : K) → lookup K.eq map.entries q
+        ≡ lookup K.eq pairs.items q) };
 
     fn from(pairs: Vec<(K, V)>) -> VecMap<K, V> {
         let (map, _count) = VecMap::from_vec_counted(pairs);
@@ -54,6 +56,9 @@ impl<K, V> VecMap<K, V> {
         K: Eq + Drop,
         V: Drop,
         ensures entries { result.0.entries ≡ puts K.eq [] pairs.items }
+        ensures distinct { HasDistinctKeys K.eq result.0.entries }
+        ensures lookups { HasDistinctKeys K.eq pairs.items → (q : K)
+            → lookup K.eq result.0.entries q ≡ lookup K.eq pairs.items q }
         ensures capacity { result.0.capacity ≡ vec_capacity pairs }
         ensures counted { result.1 ≡ comparisons K.eq (keys_of pairs.items) }
     {
@@ -88,6 +93,9 @@ impl<K, V> VecMap<K, V> {
         K: Eq + Drop,
         V: Drop,
         ensures entries { IfOk result (λ map. map.entries ≡ puts K.eq [] pairs) }
+        ensures distinct { IfOk result (λ map. HasDistinctKeys K.eq map.entries) }
+        ensures lookups { HasDistinctKeys K.eq pairs → IfOk result (λ map. (q : K)
+            → lookup K.eq map.entries q ≡ lookup K.eq pairs q) }
         ensures at_least { IfOk result (λ map. N ≤ map.capacity) }
     {
         Ok(VecMap::from(Vec::from_array(alloc, pairs)?))

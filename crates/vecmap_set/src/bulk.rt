@@ -1,9 +1,10 @@
 //! Creation of a set from many elements, and addition of many elements.
-ghost use Rattle.std.specs.Prelude.{◌≡◌, ◌<◌, ◌≤◌, IfOk, IsOk, List, OnErr, OnOk, [], length};
+ghost use Rattle.std.specs.Prelude.{◌≡◌, ◌<◌, ◌≤◌, ◌||◌, IfOk, IsOk, List, OnErr, OnOk, [], length};
 ghost use Rattle.std.specs.Iterator.{Drains, ExtendsWithItems, IsFiniteIterable};
 ghost use Rattle.std.specs.List.{IsDistinct};
 ghost use Rattle.std.specs.Map.Iter.{deref};
-ghost use Rattle.vecmap_base.specs.Bulk.{HasRoomForAll};
+ghost use Rattle.std.specs.Set.{is_member};
+ghost use Rattle.vecmap_base.specs.Bulk.{HasRoomForAll, YieldsAll};
 ghost use Rattle.vecmap_base.specs.Clones.{AreClones};
 ghost use Rattle.vecmap_base.specs.Items.{adds};
 ghost use Rattle.vecmap_set.specs.Contents.{HasRoom, with_elements};
@@ -116,6 +117,8 @@ impl<T: Eq> VecSet<T> {
         T: Drop,
         ensures elements { OnOk result (self.new.elements
             ≡ adds T.eq self.old.elements other.old.elements) }
+        ensures members { OnOk result ((q : T) → is_member T.eq self.new.elements q
+            ≡ (is_member T.eq self.old.elements q || is_member T.eq other.old.elements q)) }
         ensures distinct { IsDistinct T.eq self.new.elements }
         ensures emptied { OnOk result (other.new ≡ with_elements other.old []) }
         ensures other_distinct { IsDistinct T.eq other.new.elements }
@@ -165,6 +168,10 @@ impl<T: Eq> VecSet<T> {
         T: Drop,
         requires ends { IsFiniteIterable I.into_iter_gives I.IntoIter.can_next I.IntoIter.remaining
             iter }
+        ensures members { (items : List T)
+            → YieldsAll I.into_iter_gives I.IntoIter.next_gives iter items
+            → OnOk result ((q : T) → is_member T.eq self.new.elements q
+            ≡ (is_member T.eq self.old.elements q || is_member T.eq items q)) }
         ensures ran { ExtendsWithItems I.into_iter_gives I.IntoIter.next_gives
             (Adds T.eq) iter self.old self.new result }
         ensures distinct { IsDistinct T.eq self.new.elements }

@@ -2,7 +2,7 @@
 use Rattle.std.proofs.Common.{◌≡◌, ◌∙◌, ap, arith, inr, rules}
 use Rattle.std.proofs.lemmas.{Grind.common_steps, Result.err_from_is_err_and}
 use Rattle.vecmap_base.specs.Pairs.{lookup, puts}
-use Rattle.vecmap_base.proofs.PairsLemmas.Parts.{found_in_either}
+use Rattle.vecmap_base.proofs.PairsLemmas.Parts.{found_in_either, joins_of_puts}
 use Rattle.vecmap_base.proofs.PairsLemmas.Puts.{length_put_at_most}
 use Rattle.vecmap_map.proofs.VecMap.extend.Goals as goal
 
@@ -42,3 +42,11 @@ returns-clause-lookups g c pairs all d q =
     let same : c.loop-key.yielded ≡ pairs = all c.into_iter-key-iterator.result c.loop-key.yielded (search rules) (search rules) in
     let entries : c.loop-key.self.entries ≡ puts g.K.PartialEq.eq c.args.self.now.entries pairs = grind (arith, common_steps, same) in
     ap (λ l. lookup g.K.PartialEq.eq l q) entries ∙ found_in_either g.K.PartialEq.eq g.met.K.Eq.laws c.args.self.now.entries pairs d q
+
+pub returns-clause-distinct : goal.returns-clause-distinct
+returns-clause-distinct g c = (joins_of_puts g.K.PartialEq.eq g.met.K.Eq.laws c.args.self.now.entries c.loop-key.yielded _ c.loop-key.invariant.entries).distinct
+
+pub returns-in_err-insert-clause-distinct : goal.returns-in_err-insert-clause-distinct
+returns-in_err-insert-clause-distinct g c =
+    let entries : c.insert.new.self.entries ≡ puts g.K.PartialEq.eq c.args.self.now.entries c.loop-key.yielded = grind (arith, common_steps) in
+    (joins_of_puts g.K.PartialEq.eq g.met.K.Eq.laws c.args.self.now.entries c.loop-key.yielded _ entries).distinct

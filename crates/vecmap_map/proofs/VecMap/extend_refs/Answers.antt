@@ -6,6 +6,7 @@ use Rattle.std.specs.Map.Iter.{deref_pair}
 use Rattle.vecmap_base.specs.{Clones.IsPairClone, Pairs.put}
 use Rattle.vecmap_base.proofs.CloneLemmas.{lent_clone_taken}
 use Rattle.vecmap_base.proofs.PairsLemmas.Puts.{length_put_at_most}
+use Rattle.vecmap_base.proofs.PairsLemmas.Parts.{joins_of_puts}
 use Rattle.vecmap_map.proofs.VecMap.extend_refs.Goals as goal
 
 pub loop-key-preserved : goal.loop-key-preserved
@@ -32,3 +33,9 @@ returns-in_err-put_clones-clause-succeeds g c = λ room clones.
     let can = clones c.into_iter-key-iterator.result c.loop-key.yielded (c.in-Some.key, c.in-Some.value) c.next.new.self (search rules) (search rules) in
     let all = room c.into_iter-key-iterator.result (search rules) in
     absurd (true≢false (sym (c.in_err-put_clones.ensures.succeeds (grind (arith, common_steps)) can.0 can.1)))
+
+pub returns-clause-distinct : goal.returns-clause-distinct
+returns-clause-distinct g c = (joins_of_puts g.K.PartialEq.eq g.met.K.Eq.laws c.args.self.now.entries c.loop-key.invariant.puts.0 _ c.loop-key.invariant.puts.2).distinct
+
+pub returns-in_err-put_clones-clause-distinct : goal.returns-in_err-put_clones-clause-distinct
+returns-in_err-put_clones-clause-distinct g c = rw c.in_err-put_clones.ensures.err (joins_of_puts g.K.PartialEq.eq g.met.K.Eq.laws c.args.self.now.entries c.loop-key.invariant.puts.0 _ c.loop-key.invariant.puts.2).distinct

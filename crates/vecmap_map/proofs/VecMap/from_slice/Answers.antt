@@ -2,6 +2,7 @@ use Rattle.std.proofs.Common.{◌+◌, ◌∷◌, [], ◌++◌, ap, arith, sym, 
 use Rattle.std.proofs.lemmas.List.{take_more}
 use Rattle.vecmap_base.specs.{Clones.IsPairClone, Pairs.put}
 use Rattle.vecmap_base.proofs.CloneLemmas.{TakesClones, clone_taken}
+use Rattle.vecmap_map.proofs.MadeLemmas.{distinct_of_puts}
 use Rattle.vecmap_map.proofs.VecMap.from_slice.Goals as goal
 
 pub loop-pair-preserved : goal.loop-pair-preserved
@@ -17,3 +18,6 @@ loop-pair-preserved g c =
           (clone_taken is_clone (λ done r. put g.K.PartialEq.eq done r.0 r.1) [] (take i pairs) c.loop-pair.map.entries c.put_clones.new.self.entries p (one.0, one.1) c.loop-pair.invariant.puts (one.2, one.3) one.4);
       room = omega (arith, c.put_clones.ensures.capacity.capacity, c.loop-pair.invariant.room);
     }
+
+pub returns-clause-distinct : goal.returns-clause-distinct
+returns-clause-distinct g c = distinct_of_puts g.K.PartialEq.eq g.met.K.Eq.laws c.loop-pair.invariant.puts.0 _ c.loop-pair.invariant.puts.2

@@ -1,0 +1,8 @@
+use Rattle.vecmap_map.proofs.MadeLemmas.{distinct_of_puts, found_in_puts}
+use Rattle.vecmap_map.proofs.VecMap.from_vec_counted.Goals as goal
+
+pub returns-clause-distinct : goal.returns-clause-distinct
+returns-clause-distinct g c = distinct_of_puts g.K.PartialEq.eq g.met.K.Eq.laws c.args.pairs.items _ c.dedup_keep_last_value.ensures.pairs
+
+pub returns-clause-lookups : goal.returns-clause-lookups
+returns-clause-lookups g c = found_in_puts g.K.PartialEq.eq g.met.K.Eq.laws c.args.pairs.items _ c.dedup_keep_last_value.ensures.pairs

@@ -1,0 +1,7 @@
+use Rattle.std.proofs.lemmas.Grind.{common_steps}
+use Rattle.std.proofs.Common.{arith}
+use Rattle.vecmap_set.proofs.MemberLemmas.{members_of_adds}
+use Rattle.vecmap_set.proofs.VecSet.append.Goals as goal
+
+pub returns-clause-members : goal.returns-clause-members
+returns-clause-members g c = members_of_adds g.T.PartialEq.eq g.met.T.Eq.laws c.args.self.now.elements c.args.other.now.elements _ (grind (arith, common_steps))
