@@ -1,6 +1,8 @@
 //! `map[index]` and `map[&key]`: the value at an index, and the value of a key.
 ghost use Rattle.std.specs.Prelude.{◌≡◌, ◌<◌, IsSome, Some, bytes_eq, length};
 ghost use Rattle.std.specs.Borrow.{sem};
+ghost use Rattle.std.specs.Map.{set_value};
+ghost use Rattle.vecmap_base.specs.Lookups.{Updates};
 ghost use Rattle.vecmap_base.specs.Pairs.{has_text, index_by, index_of, lookup, lookup_by, value_at};
 
 use crate::VecMap;
@@ -127,6 +129,8 @@ impl<'q, K: Eq, V> IndexMut<&'q K> for VecMap<K, V> {
         requires present { IsSome (index_of K.eq self.old.entries key.now) }
         ensures* writes_back { sem 𝓛 (lends_value_of K.row V.row self.entry K.eq key.now result) }
         ensures value { lookup K.eq self.old.entries key.now ≡ Some result.now }
+        ensures updates { (v : V) → Updates K.eq self.old.entries key.now
+            (set_value (K.eq key.now) self.old.entries v) (Some v) }
     {
         let index = self.present_index(key);
         self.value_mut(index)

@@ -1,7 +1,7 @@
 //! Insertion of one pair.
 ghost use Rattle.std.specs.Prelude.{◌≡◌, ◌++◌, ◌∷◌, ◌<◌, ◌≤◌, ◌⊎◌, Err, IfErr, IfOk, IfSome, IsTrue, None, Ok, OnErr, OnOk, Some, [], length};
 ghost use Rattle.vecmap_base.specs.Lookups.{Updates, UpdatesBy};
-ghost use Rattle.vecmap_base.specs.Pairs.{index_by, index_or_length, lookup, lookup_by, lookup_full, lookup_pair, put, put_at, put_key, with_value};
+ghost use Rattle.vecmap_base.specs.Pairs.{HasDistinctKeys, index_by, index_or_length, lookup, lookup_by, lookup_full, lookup_pair, put, put_at, put_key, with_value};
 ghost use Rattle.vecmap_map.specs.Contents.{Appends, FailsToAppend, HasRoom, KeepsRoom, KeepsRoomAt, Refuses, RefusesAt};
 
 use crate::VecMap;
@@ -167,6 +167,8 @@ impl<K, V> VecMap<K, V> {
         ensures entries { OnOk result (self.new.entries
             ≡ put_at K.eq self.old.entries index key value) }
         ensures old { IfOk result (λ old. old ≡ lookup_full K.eq self.old.entries key) }
+        ensures updates { OnOk result (HasDistinctKeys K.eq self.old.entries
+            → Updates K.eq self.old.entries key self.new.entries (Some value)) }
         ensures capacity { KeepsRoom K.eq self.old key self.new }
 
         // On `Err` the pair is returned, its key is new, and the map is full.

@@ -5,7 +5,8 @@ ghost use Rattle.vecmap_base.specs.Asked.{CallableOnEach, CallsAtPair, TakesPair
 ghost use Rattle.vecmap_base.specs.Kept.{FiltersValues, Kept};
 ghost use Rattle.std.specs.Map.{IsKeyTest};
 ghost use Rattle.std.specs.Option.{option_and_then};
-ghost use Rattle.std.specs.Prelude.{Bool, None, Option, string_eq};
+ghost use Rattle.std.specs.Cmp.{IsEquivalence};
+ghost use Rattle.std.specs.Prelude.{Bool, None, Option, cond, string_eq};
 ghost use Rattle.vecmap_base.specs.Lookups.{KeepsFront, UpdatesBy};
 ghost use Rattle.vecmap_base.specs.Pairs.{HasDistinctKeys, has_text, lookup_by, lookup_pair_by, swap_without_by, without_by};
 
@@ -247,6 +248,11 @@ impl<K, V> VecMap<K, V> {
         requires within { index < length self.old.entries }
         ensures pair { slice_get self.old.entries index ≡ Some result }
         ensures entries { self.new.entries ≡ remove self.old.entries index }
+        ensures lookups { (test : K → Bool) (eq : K → K → Bool) → HasDistinctKeys eq self.old.entries
+            → IsKeyTest eq test → IsEquivalence eq → lookup_by test self.new.entries
+            ≡ cond (test result.0) None (lookup_by test self.old.entries) }
+        ensures distinct { (eq : K → K → Bool) → HasDistinctKeys eq self.old.entries
+            → HasDistinctKeys eq self.new.entries }
         ensures capacity { self.new.capacity ≡ self.old.capacity }
     {
         remove_item(&mut self.pairs, index)
@@ -326,6 +332,11 @@ impl<K, V> VecMap<K, V> {
         requires within { index < length self.old.entries }
         ensures pair { slice_get self.old.entries index ≡ Some result }
         ensures entries { self.new.entries ≡ swap_without self.old.entries index }
+        ensures lookups { (test : K → Bool) (eq : K → K → Bool) → HasDistinctKeys eq self.old.entries
+            → IsKeyTest eq test → IsEquivalence eq → lookup_by test self.new.entries
+            ≡ cond (test result.0) None (lookup_by test self.old.entries) }
+        ensures distinct { (eq : K → K → Bool) → IsEquivalence eq → HasDistinctKeys eq self.old.entries
+            → HasDistinctKeys eq self.new.entries }
         ensures capacity { self.new.capacity ≡ self.old.capacity }
     {
         self.pairs.swap_remove(index)

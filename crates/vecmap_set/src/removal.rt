@@ -229,6 +229,8 @@ impl<T: Eq> VecSet<T> {
         ensures element { slice_get self.old.elements index ≡ Some result }
         ensures elements { self.new.elements ≡ remove self.old.elements index }
         ensures distinct { IsDistinct T.eq self.new.elements }
+        ensures updates { UpdatesMember T.eq (T.eq result) self.old.elements
+            self.new.elements false }
         ensures capacity { self.new.capacity ≡ self.old.capacity }
     {
         remove_item(&mut self.items, index)
@@ -289,6 +291,8 @@ impl<T: Eq> VecSet<T> {
         ensures element { slice_get self.old.elements index ≡ Some result }
         ensures elements { self.new.elements ≡ swap_without self.old.elements index }
         ensures distinct { IsDistinct T.eq self.new.elements }
+        ensures updates { UpdatesMember T.eq (T.eq result) self.old.elements
+            self.new.elements false }
         ensures capacity { self.new.capacity ≡ self.old.capacity }
     {
         self.items.swap_remove(index)

@@ -91,6 +91,18 @@ module _ {T : Type 0} (eq : T → T → Bool) (o : IsEquivalence eq) where
     pub absent_by : (s : List T) (x : T) → position test s ≡ None → test x ≡ true → is_member eq s x ≡ false
     absent_by s x miss hit = ap (λ f. list_any f s) (sym (compares_with eq o test respects x hit)) ∙ list_any_position test s ∙ ap is_some miss
 
+  -- After the removal of the element at an index, nothing is equal to it, and each other element is present exactly if it was.
+  pub members_removed : (s r : List T) (i : ℕ) (x : T) → r ≡ remove s i → slice_get s i ≡ Some x → IsDistinct eq s → UpdatesMember eq (eq x) s r false
+  members_removed s r i x e at d =
+      subst (λ l. UpdatesMember eq (eq x) s l false) (sym e)
+      (members_taken (eq x) (o.congr x) s (remove s i) x d (o.refl x) (IsPermutation-remove s i x (slice_get_within s i x at) (sym (get_or_from_slice_get s i x x at))))
+
+  -- The same, if the last element moves to the index.
+  pub members_swapped : (s r : List T) (i : ℕ) (x : T) → r ≡ swap_without s i → slice_get s i ≡ Some x → IsDistinct eq s → UpdatesMember eq (eq x) s r false
+  members_swapped s r i x e at d =
+      subst (λ l. UpdatesMember eq (eq x) s l false) (sym (e ∙ ap (λ f. option_map_or (λ y. swap_remove s i y) f s) at))
+      (members_taken (eq x) (o.congr x) s (swap_remove s i x) x d (o.refl x) (IsPermutation-swap_remove s i x (slice_get_within s i x at) (sym (get_or_from_slice_get s i x x at))))
+
   -- After an addition, the element is present, and each other element exactly if it was.
   pub members_of_add : (s r : List T) (x : T) → r ≡ add eq s x → UpdatesMember eq (eq x) s r true
   members_of_add s r x e = subst (λ l. UpdatesMember eq (eq x) s l true) (sym e) (members_from (eq x) (o.congr x) s (add eq s x) true here away)

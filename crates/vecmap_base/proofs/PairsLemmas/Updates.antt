@@ -1,16 +1,16 @@
 -- What lookups find after a removal and after a write of a value, in the words of contracts.
-use Rattle.std.specs.{Cmp.IsEquivalence, List.IsDistinct, List.Sorted.IsPermutation, List.swap_remove, Map.AreApart, Map.IsKeyTest, Map.KeepsOthers, Map.keys_of, Map.set_value, Option.option_and_then, Option.option_map_or}
-use Rattle.std.proofs.Common.{◌≡◌, ◌∙◌, ◌++◌, ℕ, Bool, true, false, List, [], ◌∷◌, None, Option, Some, IsSome, ap, cond, get_or, inl, inr, is_some, refl, remove, slice_get, subst, sym, true≢false}
+use Rattle.std.specs.{Cmp.IsEquivalence, List.AllByRecursion, List.IsDistinct, List.Sorted.IsPermutation, List.swap_remove, Map.AreApart, Map.IsKeyTest, Map.KeepsOthers, Map.keys_of, Map.set_value, Option.option_and_then, Option.option_map_or}
+use Rattle.std.proofs.Common.{◌≡◌, ◌∙◌, ◌-◌, ◌++◌, ℕ, Bool, true, false, List, [], ◌∷◌, None, Option, Some, IsSome, ap, cond, get_or, inl, inr, insert, is_some, length, min, refl, remove, slice_get, subst, sym, true≢false}
 use Rattle.std.proofs.lemmas.Bool.{cases_Bool}
 use Rattle.std.proofs.lemmas.List.{map-set}
 use Rattle.std.proofs.lemmas.List.Quantifiers.{position-Some}
-use Rattle.std.proofs.lemmas.List.Sorted.{IsPermutation-remove, IsPermutation-swap_remove}
-use Rattle.std.proofs.lemmas.Map.{lookup-none, lookup-set_value}
+use Rattle.std.proofs.lemmas.List.Sorted.{IsPermutation-insert, IsPermutation-remove, IsPermutation-swap_remove}
+use Rattle.std.proofs.lemmas.Map.{NonePasses, lookup-none, lookup-set_value, none_passes_from_lookup}
 use Rattle.std.proofs.lemmas.Map.Entries.{none_past_head}
-use Rattle.std.proofs.lemmas.Map.Keys.{IsDistinct-tail}
+use Rattle.std.proofs.lemmas.Map.Keys.{IsDistinct-cons, IsDistinct-tail}
 use Rattle.std.proofs.lemmas.Option.{get_or_from_slice_get, none-some, slice_get-get_or, slice_get_within}
 use Rattle.vecmap_base.specs.{Items.swap_without, Lookups.KeepsLookups, Lookups.UpdatesBy}
-use Rattle.vecmap_base.specs.Pairs.{HasDistinctKeys, index_by, index_of, lookup, lookup_by, put, put_key, swap_without_by, value_at, with_pair, with_value, without_by}
+use Rattle.vecmap_base.specs.Pairs.{HasDistinctKeys, index_by, index_of, lookup, lookup_by, put, put_at, put_key, swap_without_by, value_at, with_pair, with_value, without_by}
 use Rattle.vecmap_base.proofs.PairsLemmas.ByIndex.{index_by_is, is_some_lookup_by, lookup_by_index, put_key_by_index, set_value_by_index, without_by_index}
 use Rattle.vecmap_base.proofs.PairsLemmas.Distinct.{distinct_keys_rearranged, distinct_keys_set_value, distinct_put}
 use Rattle.vecmap_base.proofs.PairsLemmas.Keys.{index_of_is}
@@ -46,6 +46,27 @@ module _ {K V : Type 0} (eq : K → K → Bool) (o : IsEquivalence eq) (test : K
       (ap (λ f. lookup_by f s) (compares_with eq o test respects p.0 h) ∙ lookup-none (eq p.0) s (none_past_head o p.0 p s all (o.refl p.0)))
       (λ other tells apart. sym (ap (λ b. cond b (Some p.1) (lookup_by other s)) (apart p.0 h)) ∙ lookup_by_rearranged eq o other tells l (p ∷ s) moved d)
       (λ e. IsDistinct-tail eq p.0 _ all)
+
+  -- Whichever pair is removed, and wherever the other pairs go, a query that matches its key finds nothing.
+  lookup_by_taken : (l s : List (K × V)) (p : K × V) → HasDistinctKeys eq l → IsPermutation l (p ∷ s) → lookup_by test s ≡ cond (test p.0) None (lookup_by test l)
+  lookup_by_taken l s p d moved =
+      elim (cases_Bool (test p.0)) [
+        | inl h ↦ (updates_taken l s p d h moved).own ∙ sym (ap (λ b. cond b None (lookup_by test l)) h)
+        | inr n ↦
+            sym (ap (λ b. cond b (Some p.1) (lookup_by test s)) n)
+            ∙ lookup_by_rearranged eq o test respects l (p ∷ s) moved d ∙ sym (ap (λ b. cond b None (lookup_by test l)) n)
+      ]
+
+  -- The same of the removal of the pair at an index.
+  pub lookup_by_removed : (l m : List (K × V)) (i : ℕ) (p : K × V) → m ≡ remove l i → slice_get l i ≡ Some p → HasDistinctKeys eq l → lookup_by test m ≡ cond (test p.0) None (lookup_by test l)
+  lookup_by_removed l m i p e at d =
+      ap (lookup_by test) e ∙ lookup_by_taken l (remove l i) p d (IsPermutation-remove l i p (slice_get_within l i p at) (sym (get_or_from_slice_get l i p p at)))
+
+  -- The same, if the last pair moves to the index.
+  pub lookup_by_swapped : (l m : List (K × V)) (i : ℕ) (p : K × V) → m ≡ swap_without l i → slice_get l i ≡ Some p → HasDistinctKeys eq l → lookup_by test m ≡ cond (test p.0) None (lookup_by test l)
+  lookup_by_swapped l m i p e at d =
+      ap (lookup_by test) (e ∙ ap (λ f. option_map_or (λ q. swap_remove l i q) f l) at)
+      ∙ lookup_by_taken l (swap_remove l i p) p d (IsPermutation-swap_remove l i p (slice_get_within l i p at) (sym (get_or_from_slice_get l i p p at)))
 
   -- If nothing passes, nothing is removed.
   updates_nothing : (l : List (K × V)) → index_by test l ≡ None → UpdatesBy eq test l l None
@@ -174,6 +195,10 @@ module _ {K V : Type 0} (eq : K → K → Bool) (o : IsEquivalence eq) where
           let at = position-Some (eq k) (keys_of l) i k (sym (index_of_is eq l k) ∙ e) in
           subst (IsDistinct eq) (sym (map-set (λ p. p.0) l i (k, v))) (distinct_replace eq o (keys_of l) i k at.0 at.1 d)
 
+  none_of_keys : (k : K) (l : List (K × V)) → NonePasses (eq k) l → AllByRecursion (λ y. eq k y ≡ false) (keys_of l)
+  none_of_keys k [] h = tt
+  none_of_keys k (p ∷ ps) h = (h.0, none_of_keys k ps h.1)
+
   pub updates_put_key : (l m : List (K × V)) (k : K) (v : V) → m ≡ put_key eq l k v → UpdatesBy eq (eq k) l m (Some v)
   unfolding KeepsOthers
   updates_put_key l m k v e =
@@ -181,3 +206,29 @@ module _ {K V : Type 0} (eq : K → K → Bool) (o : IsEquivalence eq) where
       subst (λ n. UpdatesBy eq (eq k) l n (Some v)) (sym e)
       (updates_from eq o (eq k) (o.congr k) l (put_key eq l k v) (Some v) (lookup_by_put_key (eq k) (o.congr k) l k v ∙ u.own)
       (λ other tells apart. lookup_by_put_key other tells l k v ∙ u.queries other tells apart) (distinct_put_key l k v))
+
+  -- After an insertion at an index into a list of distinct keys, the key has the value, and each other key has what it had.
+  pub updates_put_at : (l m : List (K × V)) (i : ℕ) (k : K) (v : V) → m ≡ put_at eq l i k v → HasDistinctKeys eq l → UpdatesBy eq (eq k) l m (Some v)
+  unfolding KeepsOthers
+  updates_put_at l m i k v e d = subst (λ n. UpdatesBy eq (eq k) l n (Some v)) (sym e) (by (index_of eq l k) refl)
+    where
+      inserted : (s : List (K × V)) (j : ℕ) → UpdatesBy eq (eq k) l s None → UpdatesBy eq (eq k) l (insert s j (k, v)) (Some v)
+      inserted s j u =
+          let all : HasDistinctKeys eq ((k, v) ∷ s) = IsDistinct-cons eq k (keys_of s) (none_of_keys k s (none_passes_from_lookup (eq k) s u.own)) (u.distinct d) in
+          let moved = IsPermutation-insert s j (k, v) in
+          updates_from eq o (eq k) (o.congr k) l (insert s j (k, v)) (Some v)
+          (lookup_by_rearranged eq o (eq k) (o.congr k) ((k, v) ∷ s) (insert s j (k, v)) moved all ∙ ap (λ b. cond b (Some v) (lookup eq s k)) (o.refl k))
+          (λ other tells apart. lookup_by_rearranged eq o other tells ((k, v) ∷ s) (insert s j (k, v)) moved all
+           ∙ ap (λ b. cond b (Some v) (lookup_by other s)) (apart k (o.refl k)) ∙ u.queries other tells apart)
+          (λ h. distinct_keys_rearranged eq o ((k, v) ∷ s) (insert s j (k, v)) moved all)
+
+      left : UpdatesBy eq (eq k) l (option_map_or (λ j. remove l j) (index_of eq l k) l) None
+      left = subst (λ n. UpdatesBy eq (eq k) l n None) (without_by_index (eq k) l) (updates_without eq o (eq k) (o.congr k) l d)
+
+      by : (found : Option ℕ) → index_of eq l k ≡ found → UpdatesBy eq (eq k) l (put_at eq l i k v) (Some v)
+      by None f =
+          subst (λ r. UpdatesBy eq (eq k) l (option_map_or (λ j. insert (remove l j) (min i (length l - 1)) (k, v)) r (insert l i (k, v))) (Some v)) (sym f)
+          (inserted l i (subst (λ r. UpdatesBy eq (eq k) l (option_map_or (λ j. remove l j) r l) None) f left))
+      by (Some j) f =
+          subst (λ r. UpdatesBy eq (eq k) l (option_map_or (λ j. insert (remove l j) (min i (length l - 1)) (k, v)) r (insert l i (k, v))) (Some v)) (sym f)
+          (inserted (remove l j) (min i (length l - 1)) (subst (λ r. UpdatesBy eq (eq k) l (option_map_or (λ j. remove l j) r l) None) f left))

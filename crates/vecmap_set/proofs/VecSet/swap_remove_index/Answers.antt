@@ -1,7 +1,8 @@
-use Rattle.std.proofs.Common.{◌≡◌, arith}
+use Rattle.std.proofs.Common.{◌≡◌, arith, rules}
 use Rattle.std.proofs.lemmas.Option.{gets}
 use Rattle.vecmap_base.specs.Items.{swap_without}
 use Rattle.vecmap_base.proofs.DistinctLemmas.Order.{distinct_swap_without}
+use Rattle.vecmap_base.proofs.ItemsLemmas.Members.{members_swapped}
 use Rattle.vecmap_set.proofs.VecSet.swap_remove_index.Goals as goal
 
 pub invariant_of-self : goal.invariant_of-self
@@ -11,3 +12,6 @@ invariant_of-self g c =
 
 pub returns-clause-distinct : goal.returns-clause-distinct
 returns-clause-distinct g c = invariant_of-self g c
+
+pub returns-clause-updates : goal.returns-clause-updates
+returns-clause-updates g c = members_swapped _ g.met.T.Eq.laws c.args.self.now.elements _ c.args.index _ (grind (arith, gets)) (grind (arith, gets)) (search rules)

@@ -1,0 +1,12 @@
+use Rattle.std.proofs.Common.{arith}
+use Rattle.vecmap_base.proofs.PairsLemmas.Updates.{updates_put_at}
+use Rattle.vecmap_map.proofs.VecMap.insert_at.Goals as goal
+
+pub returns-in-Some-clause-entries : goal.returns-in-Some-clause-entries
+returns-in-Some-clause-entries g c = grind arith
+
+pub returns-in-Some-clause-updates : goal.returns-in-Some-clause-updates
+returns-in-Some-clause-updates g c = λ d. updates_put_at g.K.PartialEq.eq g.met.K.Eq.laws c.args.self.now.entries _ c.args.index c.args.key c.args.value (returns-in-Some-clause-entries g c) d
+
+pub returns-clause-updates : goal.returns-clause-updates
+returns-clause-updates g c = λ d. updates_put_at g.K.PartialEq.eq g.met.K.Eq.laws c.args.self.now.entries _ c.args.index c.args.key c.args.value (grind arith) d

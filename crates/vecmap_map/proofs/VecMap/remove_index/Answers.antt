@@ -1,0 +1,14 @@
+use Rattle.std.proofs.Common.{arith, subst, sym}
+use Rattle.std.proofs.lemmas.Option.{gets}
+use Rattle.vecmap_base.specs.Pairs.{HasDistinctKeys}
+use Rattle.vecmap_base.proofs.PairsLemmas.Distinct.{distinct_keys_remove}
+use Rattle.vecmap_base.proofs.PairsLemmas.Updates.{lookup_by_removed}
+use Rattle.vecmap_map.proofs.VecMap.remove_index.Goals as goal
+
+pub returns-clause-lookups : goal.returns-clause-lookups
+returns-clause-lookups g c = λ test eq d respects o. lookup_by_removed eq o test respects c.args.self.now.entries _ c.args.index c.remove_item.result (grind (arith, gets)) (grind (arith, gets)) d
+
+pub returns-clause-distinct : goal.returns-clause-distinct
+returns-clause-distinct g c = λ eq d.
+    let l = c.args.self.now.entries in
+    subst (HasDistinctKeys eq) (sym (grind (arith, gets))) (distinct_keys_remove eq l c.args.index d)
