@@ -219,7 +219,7 @@ module _ {K V : Type 0} (eq : K → K → Bool) (o : IsEquivalence eq) where
           updates_from eq o (eq k) (o.congr k) l (insert s j (k, v)) (Some v)
           (lookup_by_rearranged eq o (eq k) (o.congr k) ((k, v) ∷ s) (insert s j (k, v)) moved all ∙ ap (λ b. cond b (Some v) (lookup eq s k)) (o.refl k))
           (λ other tells apart. lookup_by_rearranged eq o other tells ((k, v) ∷ s) (insert s j (k, v)) moved all
-           ∙ ap (λ b. cond b (Some v) (lookup_by other s)) (apart k (o.refl k)) ∙ u.queries other tells apart)
+          ∙ ap (λ b. cond b (Some v) (lookup_by other s)) (apart k (o.refl k)) ∙ u.queries other tells apart)
           (λ h. distinct_keys_rearranged eq o ((k, v) ∷ s) (insert s j (k, v)) moved all)
 
       left : UpdatesBy eq (eq k) l (option_map_or (λ j. remove l j) (index_of eq l k) l) None

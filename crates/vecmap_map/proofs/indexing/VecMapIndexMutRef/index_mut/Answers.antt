@@ -10,8 +10,8 @@ returns g c = (
     writes_back = tt;
     value = grind (arith, by_index);
     updates = λ v.
-      let eq = g.K.PartialEq.eq in
-      let l = c.args.self.now.entries in
-      updates_write eq g.met.K.Eq.laws (eq c.args.key.now) (g.met.K.Eq.laws.congr c.args.key.now) l v (is_some_lookup_by (eq c.args.key.now) l ∙ c.requires.present);
+        let eq = g.K.PartialEq.eq in
+        let l = c.args.self.now.entries in
+        updates_write eq g.met.K.Eq.laws (eq c.args.key.now) (g.met.K.Eq.laws.congr c.args.key.now) l v (is_some_lookup_by (eq c.args.key.now) l ∙ c.requires.present);
   },
 )
