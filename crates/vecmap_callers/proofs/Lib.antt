@@ -1,4 +1,5 @@
 pub mod InternerLemmas
 pub mod OptionLemmas
+pub mod PartitionLemmas
 pub mod ScopeLemmas
 pub mod StoppedLemmas

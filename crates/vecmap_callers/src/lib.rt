@@ -21,6 +21,7 @@ pub mod lending;
 pub mod operators;
 pub mod options;
 pub mod order;
+pub mod partition;
 pub mod removal;
 pub mod scopes;
 pub mod search;
