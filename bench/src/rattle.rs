@@ -48,6 +48,8 @@ macro_rules! library {
             insert_reserved = vecmap_bench_insert_reserved,
             insert_unique = vecmap_bench_insert_unique,
             insert_unique_reserved = vecmap_bench_insert_unique_reserved,
+            index_or_insert = vecmap_bench_index_or_insert,
+            move_index = vecmap_bench_move_index,
             insert_full = vecmap_bench_insert_full,
             insert_present = vecmap_bench_insert_present,
             insert_full_present = vecmap_bench_insert_full_present,

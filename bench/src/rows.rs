@@ -5,9 +5,11 @@
 //! - Insertions: `insert new` starts with `new()`, `reserved` with `with_capacity`. `insert_at present` moves a key
 //!   to a random index, `insert_at absent` inserts each new key in the middle. `count words` and `count lines` count
 //!   by `entry`.
-//! - New keys: `insert_unique` requires that the key is absent, and compares nothing. The keys are the numbers from 0
-//!   on, as many as in the other rows, so each is known to be new. The original has no such call, so its side has
-//!   `insert` of the same keys, and the rows have a table of their own.
+//! - Added calls, which the original lacks, in a table of their own. `insert_unique` requires that the key is absent, and
+//!   compares nothing. The keys are the numbers from 0 on, as many as in the other rows, so each is known to be new. The
+//!   original's side has `insert` of the same keys. `index_or_try_insert_with` finds each key, and `get_value_at_mut`
+//!   writes its value; the original's side has `entry`. `move_index` moves the first pair to the back; the original's
+//!   side has `remove_index` and `insert_at`.
 //! - Removals: `remove_index` removes all pairs of a clone. `retain`, `drain` and `split_off` remove half of a clone.
 //!   `retain all` removes nothing of it, and `drain all` removes all of it from the back. The times include the
 //!   clone.
@@ -68,8 +70,8 @@ const BEFORE: &str = "before";
 /// The name of this library in rows of many entries.
 const LONG: &str = "vecmap, many entries";
 
-/// The name of this library in rows of keys that are known to be new.
-const UNIQUE: &str = "vecmap, new keys";
+/// The name of this library in rows of calls that the original lacks.
+const ADDED: &str = "vecmap, added calls";
 
 /// The name of the kit's indexmap.
 #[cfg(kit)]
@@ -144,7 +146,7 @@ pub fn numbers(it: &Numbers) -> Vec<Row<'_, u64>> {
     }
     let mut rows = lookups(it);
     rows.extend(insertions(it));
-    rows.extend(unique(it));
+    rows.extend(added(it));
     rows.extend(removals(it));
     rows.extend(bulk(it));
     rows.extend(iteration(it));
@@ -186,15 +188,17 @@ fn insertions(it: &Numbers) -> Vec<Row<'_, u64>> {
     ]
 }
 
-// Insertions of keys that are known to be new, in a table of their own.
-fn unique(it: &Numbers) -> Vec<Row<'_, u64>> {
+// Calls that the original lacks, in a table of their own.
+fn added(it: &Numbers) -> Vec<Row<'_, u64>> {
     let n = it.keys.len();
     let mut rows = vec![
         new_row!("insert_unique new", n, &it.keys, &[], insert_unique),
         new_row!("insert_unique reserved", n, &it.keys, &[], insert_unique_reserved),
+        new_row!("index_or_try_insert_with", n, &it.keys, &it.hits, index_or_insert),
+        new_row!("move_index to the back", n, &it.keys, &it.hits, move_index),
     ];
     for row in &mut rows {
-        row.loops[1].0 = UNIQUE;
+        row.loops[1].0 = ADDED;
     }
     rows
 }

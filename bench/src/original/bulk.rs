@@ -1,5 +1,5 @@
-//! Calls that the peers do not have: insertions at an index, insertions of keys that are known to be new, a map that is
-//! appended to another, and counted comparisons.
+//! Calls that the peers do not have: insertions at an index, insertions of keys that are known to be new, insertions by a
+//! query, moves to an index, a map that is appended to another, and counted comparisons.
 use super::{filled, mark, pairs};
 use vecmap::VecMap;
 
@@ -49,6 +49,40 @@ pub fn insert_at_absent(keys: &[u64], _: &[u64], rounds: u64) -> u64 {
             map.insert_at(middle, *key, *key ^ round);
         }
         sum = sum.wrapping_add(mark(&map));
+    }
+    sum
+}
+
+// The original has no insertion by a query. Of numbers, `entry` is the same.
+#[inline(never)]
+pub fn index_or_insert(keys: &[u64], probes: &[u64], rounds: u64) -> u64 {
+    let mut map = filled(keys);
+    let mut sum = 0u64;
+    for round in 0..rounds {
+        for probe in probes {
+            let value = map.entry(*probe).or_insert(round);
+            sum = sum.wrapping_add(*value);
+            *value ^= round;
+        }
+    }
+    sum
+}
+
+// The original has no call that moves a pair. Its user removes it, and inserts it again.
+#[inline(never)]
+pub fn move_index(keys: &[u64], probes: &[u64], rounds: u64) -> u64 {
+    let mut map = filled(keys);
+    let mut sum = 0u64;
+    for round in 0..rounds {
+        for probe in probes {
+            if !map.is_empty() {
+                let (key, value) = map.remove_index(0);
+                map.insert_at(map.len(), key, value);
+            }
+            if let Some((key, _)) = map.first() {
+                sum = sum.wrapping_add(*key ^ *probe ^ round);
+            }
+        }
     }
     sum
 }

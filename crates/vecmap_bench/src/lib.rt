@@ -5,6 +5,7 @@
 //! vecmap-rs and other crates. The checksums must agree.
 #![tactic(auto)]
 
+mod added;
 mod bulk;
 mod changes;
 mod documents;
