@@ -40,10 +40,7 @@ pub use refused::Refused;
 pub use relations::{are_disjoint, is_subset_of};
 pub use repeats::{dedup_keep_first, dedup_keep_last_value, gather_items, gather_pairs};
 pub use retain::{retain_items, retain_pairs, retain_pairs_mut};
-pub use search::{
-    partition_point, partition_point_of_pairs, search_by_index, search_items_by_key,
-    search_pairs_by_index, search_pairs_by_key,
-};
+pub use search::{partition_point, search_by_index};
 pub use steps::Steps;
 pub use try_update::try_update_pairs;
 pub use update::update_pairs;

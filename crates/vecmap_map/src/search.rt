@@ -1,5 +1,5 @@
 //! Binary searches in sorted pairs. None allocates.
-ghost use Rattle.std.specs.Prelude.{◌≡◌, ◌<◌, ◌≤◌, Bool, false, length, true};
+ghost use Rattle.std.specs.Prelude.{◌≡◌, ◌<◌, ◌≤◌, Bool, Contains, List, false, length, true};
 ghost use Rattle.std.specs.List.{All, HoldsAt};
 ghost use Rattle.std.specs.List.Sorted.{IsBinarySearchResult, IsPartitionPoint, IsPartitionedBy, IsSearchInRange};
 ghost use Rattle.std.specs.declared.cmp.Ordering.{Ordering};
@@ -7,7 +7,7 @@ ghost use Rattle.vecmap_base.specs.Orders.{AnswersOnPairs, CallableOnPair};
 
 use crate::VecMap;
 use std::cmp::Ordering;
-use vecmap_base::{partition_point_of_pairs, search_pairs_by_index, search_pairs_by_key};
+use vecmap_base::{partition_point, search_by_index};
 
 impl<K, V> VecMap<K, V> {
     /// Searches for a key by binary search, in a map whose keys are in ascending order.
@@ -34,7 +34,7 @@ impl<K, V> VecMap<K, V> {
         ensures index { IsBinarySearchResult (λ p. K.cmp p.0 key.now) self.now.entries result }
     {
         let pairs = self.pairs.as_slice();
-        search_pairs_by_index(
+        search_by_index::<K, _, _>(
             pairs,
             |index: usize| -> Ordering
                 requires { index < length pairs.now }
@@ -74,7 +74,7 @@ impl<K, V> VecMap<K, V> {
             → IsBinarySearchResult ord self.now.entries result }
     {
         let pairs = self.pairs.as_slice();
-        search_pairs_by_index(
+        search_by_index::<K, _, _>(
             pairs,
             |index: usize| -> Ordering
                 requires callable { All (CallableOnPair F.Fn f) pairs.now }
@@ -117,7 +117,18 @@ impl<K, V> VecMap<K, V> {
             → IsBinarySearchResult (λ p. B.cmp (key_of p) key.now) self.now.entries result }
     {
         let pairs = self.pairs.as_slice();
-        search_pairs_by_key(pairs, key, f)
+        search_by_index::<K, _, _>(
+            pairs,
+            |index: usize| -> Ordering
+                requires callable { All (CallableOnPair F.Fn f) pairs.now }
+                requires within { index < length pairs.now }
+                ensures { (key_of : K × V → B) → AnswersOnPairs F.Fn key_of f pairs.entry.now
+                    → HoldsAt (λ p. result ≡ B.cmp (key_of p) key.entry.now) pairs.entry.now index }
+            {
+                let pair = &pairs[index];
+                f(&pair.0, &pair.1).cmp(key)
+            },
+        )
     }
 
     /// Returns the number of pairs for which `pred` returns `true`, if these pairs come first.
@@ -145,6 +156,13 @@ impl<K, V> VecMap<K, V> {
             → IsPartitionedBy p self.now.entries
             → IsPartitionPoint (λ x. p x ≡ true) (λ x. p x ≡ false) self.now.entries result }
     {
-        partition_point_of_pairs(&self.pairs, pred)
+        partition_point::<K, _, _>(
+            &self.pairs,
+            |pair: &(K, V)| -> bool
+                requires { CallableOnPair P.Fn pred pair.now }
+                ensures { (p : K × V → Bool) (l : List (K × V)) → AnswersOnPairs P.Fn p pred l
+                    → Contains l pair.now → result ≡ p pair.now }
+            { pred(&pair.0, &pair.1) },
+        )
     }
 }

@@ -7,7 +7,7 @@ ghost use Rattle.vecmap_base.specs.Orders.{AnswersOnItems, CallableOnItem};
 
 use crate::VecSet;
 use std::cmp::Ordering;
-use vecmap_base::{partition_point, search_by_index, search_items_by_key};
+use vecmap_base::{partition_point, search_by_index};
 
 impl<T: Eq> VecSet<T> {
     /// Searches for an element by binary search, in a set whose elements are in ascending order.
@@ -34,7 +34,7 @@ impl<T: Eq> VecSet<T> {
         ensures index { IsBinarySearchResult (λ x. T.cmp x item.now) self.now.elements result }
     {
         let items = self.items.as_slice();
-        search_by_index(
+        search_by_index::<T, _, _>(
             items,
             |index: usize| -> Ordering
                 requires { index < length items.now }
@@ -72,7 +72,7 @@ impl<T: Eq> VecSet<T> {
             → IsBinarySearchResult ord self.now.elements result }
     {
         let items = self.items.as_slice();
-        search_by_index(
+        search_by_index::<T, _, _>(
             items,
             |index: usize| -> Ordering
                 requires callable { All (CallableOnItem F.Fn f) items.now }
@@ -112,7 +112,15 @@ impl<T: Eq> VecSet<T> {
             → IsBinarySearchResult (λ x. B.cmp (key_of x) key.now) self.now.elements result }
     {
         let items = self.items.as_slice();
-        search_items_by_key(items, key, f)
+        search_by_index::<T, _, _>(
+            items,
+            |index: usize| -> Ordering
+                requires callable { All (CallableOnItem F.Fn f) items.now }
+                requires within { index < length items.now }
+                ensures { (key_of : T → B) → AnswersOnItems F.Fn key_of f items.entry.now
+                    → HoldsAt (λ x. result ≡ B.cmp (key_of x) key.entry.now) items.entry.now index }
+            { f(&items[index]).cmp(key) },
+        )
     }
 
     /// Returns the number of elements for which `pred` returns `true`, if these elements come first.
@@ -141,6 +149,6 @@ impl<T: Eq> VecSet<T> {
             → IsPartitionPoint (λ x. p x ≡ true) (λ x. p x ≡ false)
             self.now.elements result }
     {
-        partition_point(&self.items, pred)
+        partition_point::<T, _, _>(&self.items, pred)
     }
 }

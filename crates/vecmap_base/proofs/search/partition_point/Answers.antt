@@ -1,6 +1,6 @@
 use Rattle.vecmap_base.specs.Orders.{side}
 use Rattle.vecmap_base.proofs.SearchLemmas.{parted_err, parted_ok}
-use Rattle.vecmap_base.proofs.search.partition_in_parts.Goals as goal
+use Rattle.vecmap_base.proofs.search.partition_point.Goals as goal
 
 pub returns-in-Ok-clause-index : goal.returns-in-Ok-clause-index
 returns-in-Ok-clause-index g c = λ p by first. parted_ok p c.args.items.now _ (c.in-Ok.ensures.index (λ x. side (p x)) (λ i r within said. said p by))

@@ -2,8 +2,8 @@
 use Rattle.std.specs.Ordering.{is_le}
 use Rattle.std.proofs.Common.{◌≡◌, ◌+◌, ◌-◌, ◌*◌, ◌/◌, ◌<◌, Ordering, ap, arith, if◌then◌else◌, length, subst, sym, ◌∙◌}
 use Rattle.vecmap_base.proofs.SearchLemmas.{Narrowed, halved, narrowed_first, narrowed_greater, narrowed_less, narrowed_none, narrowed_on, narrowed_quarter, no_step_past, no_three_past, quartered}
-use Rattle.vecmap_base.proofs.search.search_in_parts.Goals as goal
-use Rattle.vecmap_base.proofs.search.search_in_parts.Goals.{else-start-gt0, then-start-gt0}
+use Rattle.vecmap_base.proofs.search.search_by_index.Goals as goal
+use Rattle.vecmap_base.proofs.search.search_by_index.Goals.{else-start-gt0, then-start-gt0}
 
 pub loop-size-init : goal.loop-size-init
 loop-size-init g c =

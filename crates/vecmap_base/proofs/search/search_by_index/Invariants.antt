@@ -1,7 +1,7 @@
 use Rattle.std.proofs.Common.{◌≡◌, ℕ, ◌+◌, ◌^◌, ◌<◌, ◌≤◌, Ordering, length}
 use Rattle.vecmap_base.specs.Orders.{AnswersAtIndex}
 use Rattle.vecmap_base.proofs.SearchLemmas.{Narrowed}
-use Rattle.vecmap_base.proofs.search.search_in_parts.Given as goal
+use Rattle.vecmap_base.proofs.search.search_by_index.Given as goal
 
 abbrev pub invariant-loop-size : goal.invariant-loop-size
 invariant-loop-size g l = record {
