@@ -1,4 +1,5 @@
 //! Runs of commands, as in `run Insert 1a:1; Get 1 -> Value(None); Value(Some(1))`.
+use crate::listed::Pair;
 use crate::{Item, Map, Out, Outcome, Set, again, first_word};
 use std::alloc::AllocError;
 use std::fmt::{Debug, Write};
@@ -6,7 +7,7 @@ use vecmap::{MapCommand, SetCommand, VecMap, VecSet, run, run_set};
 
 /// Runs the commands on a map.
 pub fn on_map(map: &mut Map, out: &mut Out, words: &str) -> Option<Outcome> {
-    let commands = map_commands(out, words)?;
+    let commands = read_commands(out, words)?;
     out.begin();
     let replies = run(out.alloc, map, commands);
     Some(show_replies(out, replies))
@@ -14,28 +15,10 @@ pub fn on_map(map: &mut Map, out: &mut Out, words: &str) -> Option<Outcome> {
 
 /// Runs the commands on a set.
 pub fn on_set(set: &mut Set, out: &mut Out, words: &str) -> Option<Outcome> {
-    let commands = set_commands(out, words)?;
+    let commands = read_commands(out, words)?;
     out.begin();
     let replies = run_set(out.alloc, set, commands);
     Some(show_replies(out, replies))
-}
-
-fn map_commands(out: &mut Out, words: &str) -> Option<Vec<MapCommand<Item, Item>>> {
-    let mut commands = again!(Vec::with_capacity(out.alloc, words.split(';').count()));
-    for words in words.split(';') {
-        let command = map_command(out, words)?;
-        commands.push(command).ok()?;
-    }
-    Some(commands)
-}
-
-fn set_commands(out: &mut Out, words: &str) -> Option<Vec<SetCommand<Item>>> {
-    let mut commands = again!(Vec::with_capacity(out.alloc, words.split(';').count()));
-    for words in words.split(';') {
-        let command = set_command(out, words)?;
-        commands.push(command).ok()?;
-    }
-    Some(commands)
 }
 
 fn show_replies<R: Debug + Drop>(out: &mut Out, replies: Result<Vec<R>, AllocError>) -> Outcome {
@@ -54,95 +37,128 @@ fn show_replies<R: Debug + Drop>(out: &mut Out, replies: Result<Vec<R>, AllocErr
     }
 }
 
-// Returns the command that has the name of one of these variants, if there is one.
-macro_rules! command {
-    ($name:ident, $Command:ident: $($Variant:ident)+) => {
-        match $name {
-            $(name if name == stringify!($Variant) => Some($Command::$Variant),)+
-            _ => None,
-        }
-    };
-    ($name:ident, $Command:ident: $($Variant:ident)+; $args:tt) => {
-        match $name {
-            $(name if name == stringify!($Variant) => Some($Command::$Variant $args),)+
-            _ => None,
-        }
-    };
+/// A command of a map or of a set.
+trait Command: Drop {
+    /// Reads a command, as `Insert 1a:1`, `GetIndex 0` or `Append 1a:1 2b:2`.
+    fn read(out: &Out, name: &str, args: &str) -> Option<Self>;
 }
 
-// Reads a command, as `Insert 1a:1`, `GetIndex 0` or `Append 1a:1 2b:2`.
-fn map_command(out: &mut Out, words: &str) -> Option<MapCommand<Item, Item>> {
-    let (name, args) = first_word(words);
+fn read_commands<C: Command>(out: &Out, words: &str) -> Option<Vec<C>> {
+    let mut commands = again!(Vec::with_capacity(out.alloc, words.split(';').count()));
+    for words in words.split(';') {
+        let (name, args) = first_word(words);
+        commands.push(C::read(out, name, args)?).ok()?;
+    }
+    Some(commands)
+}
+
+impl Command for MapCommand<Item, Item> {
+    fn read(out: &Out, name: &str, args: &str) -> Option<MapCommand<Item, Item>> {
+        Some(match name {
+            "First" => MapCommand::First,
+            "Last" => MapCommand::Last,
+            "Len" => MapCommand::Len,
+            "Pop" => MapCommand::Pop,
+            "Clear" => MapCommand::Clear,
+            "Reverse" => MapCommand::Reverse,
+            "ToVec" => MapCommand::ToVec,
+            "Append" => MapCommand::Append(VecMap::from(out.read_list(args)?)),
+            "Equals" => MapCommand::Equals(VecMap::from(out.read_list(args)?)),
+            _ => return map_command_of_index(out, name, args),
+        })
+    }
+}
+
+fn map_command_of_index(out: &Out, name: &str, args: &str) -> Option<MapCommand<Item, Item>> {
+    let (first, rest) = first_word(args);
+    Some(match name {
+        "GetIndex" => MapCommand::GetIndex(args.parse().ok()?),
+        "RemoveIndex" => MapCommand::RemoveIndex(args.parse().ok()?),
+        "SwapRemoveIndex" => MapCommand::SwapRemoveIndex(args.parse().ok()?),
+        "Truncate" => MapCommand::Truncate(args.parse().ok()?),
+        "SplitOff" => MapCommand::SplitOff(args.parse().ok()?),
+        "SwapIndices" => MapCommand::SwapIndices(first.parse().ok()?, rest.parse().ok()?),
+        "InsertAt" => {
+            let (index, (key, value)) = (first.parse().ok()?, out.read(rest)?);
+            MapCommand::InsertAt(index, key, value)
+        }
+        "Insert" | "InsertFull" | "InsertKey" | "OrInsert" => {
+            map_command_of_pair(name, out.read(args)?)
+        }
+        _ => return map_command_of_key(name, out.read(args)?),
+    })
+}
+
+fn map_command_of_pair(name: &str, (key, value): Pair) -> MapCommand<Item, Item> {
     match name {
-        "Append" => Some(MapCommand::Append(VecMap::from(out.pairs(args)?))),
-        "Equals" => Some(MapCommand::Equals(VecMap::from(out.pairs(args)?))),
-        "InsertAt" | "SwapIndices" => map_command_of_two(out, name, args),
-        _ if args.is_empty() => {
-            command!(name, MapCommand: First Last Len Pop Clear Reverse ToVec)
-        }
-        _ if args.contains(':') => map_command_of_pair(name, out.pair(args)?),
-        _ => match map_command_of_index(name, args.parse().ok()) {
-            None => map_command_of_key(name, Item::read(out.log, args)?),
-            command => command,
-        },
+        "Insert" => MapCommand::Insert(key, value),
+        "InsertFull" => MapCommand::InsertFull(key, value),
+        "InsertKey" => MapCommand::InsertKey(key, value),
+        _ => MapCommand::OrInsert(key, value),
     }
-}
-
-fn map_command_of_index(name: &str, index: Option<usize>) -> Option<MapCommand<Item, Item>> {
-    let index = index?;
-    command!(name, MapCommand: GetIndex RemoveIndex SwapRemoveIndex Truncate SplitOff; (index))
-}
-
-// An index, and another one or a pair.
-fn map_command_of_two(out: &Out, name: &str, args: &str) -> Option<MapCommand<Item, Item>> {
-    let (index, rest) = first_word(args);
-    let index = index.parse().ok()?;
-    if name == "SwapIndices" {
-        return Some(MapCommand::SwapIndices(index, rest.parse().ok()?));
-    }
-    let (key, value) = out.pair(rest)?;
-    Some(MapCommand::InsertAt(index, key, value))
 }
 
 fn map_command_of_key(name: &str, key: Item) -> Option<MapCommand<Item, Item>> {
-    command!(name, MapCommand: Get IndexOf ContainsKey Remove RemoveEntry SwapRemove SwapRemoveEntry; (key))
+    Some(match name {
+        "Get" => MapCommand::Get(key),
+        "IndexOf" => MapCommand::IndexOf(key),
+        "ContainsKey" => MapCommand::ContainsKey(key),
+        "Remove" => MapCommand::Remove(key),
+        "RemoveEntry" => MapCommand::RemoveEntry(key),
+        "SwapRemove" => MapCommand::SwapRemove(key),
+        "SwapRemoveEntry" => MapCommand::SwapRemoveEntry(key),
+        _ => return None,
+    })
 }
 
-fn map_command_of_pair(name: &str, (key, value): (Item, Item)) -> Option<MapCommand<Item, Item>> {
-    command!(name, MapCommand: Insert InsertFull InsertKey OrInsert; (key, value))
-}
-
-// Reads a command, as `Insert 1a`, `GetIndex 0` or `Append 1a 2b`.
-fn set_command(out: &mut Out, words: &str) -> Option<SetCommand<Item>> {
-    let (name, args) = first_word(words);
-    match name {
-        "Append" | "Equals" | "Intersect" | "Unite" | "Exclusive" | "Subtract" => {
-            set_command_of_set(name, VecSet::from(out.items(args)?))
-        }
-        _ if name.starts_with("Is") => set_command_of_set(name, VecSet::from(out.items(args)?)),
-        "SwapIndices" => {
-            let (a, b) = first_word(args);
-            Some(SetCommand::SwapIndices(a.parse().ok()?, b.parse().ok()?))
-        }
-        _ if args.is_empty() => {
-            command!(name, SetCommand: First Last Len Pop Clear Reverse ToVec)
-        }
-        _ => match set_command_of_index(name, args.parse().ok()) {
-            None => set_command_of_element(name, Item::read(out.log, args)?),
-            command => command,
-        },
+impl Command for SetCommand<Item> {
+    fn read(out: &Out, name: &str, args: &str) -> Option<SetCommand<Item>> {
+        let (first, rest) = first_word(args);
+        Some(match name {
+            "First" => SetCommand::First,
+            "Last" => SetCommand::Last,
+            "Len" => SetCommand::Len,
+            "Pop" => SetCommand::Pop,
+            "Clear" => SetCommand::Clear,
+            "Reverse" => SetCommand::Reverse,
+            "ToVec" => SetCommand::ToVec,
+            "GetIndex" => SetCommand::GetIndex(args.parse().ok()?),
+            "RemoveIndex" => SetCommand::RemoveIndex(args.parse().ok()?),
+            "SwapRemoveIndex" => SetCommand::SwapRemoveIndex(args.parse().ok()?),
+            "Truncate" => SetCommand::Truncate(args.parse().ok()?),
+            "SplitOff" => SetCommand::SplitOff(args.parse().ok()?),
+            "SwapIndices" => SetCommand::SwapIndices(first.parse().ok()?, rest.parse().ok()?),
+            _ => return set_command_of_element(out, name, args),
+        })
     }
 }
 
-fn set_command_of_index(name: &str, index: Option<usize>) -> Option<SetCommand<Item>> {
-    let index = index?;
-    command!(name, SetCommand: GetIndex RemoveIndex SwapRemoveIndex Truncate SplitOff; (index))
-}
-
-fn set_command_of_element(name: &str, item: Item) -> Option<SetCommand<Item>> {
-    command!(name, SetCommand: Insert Replace Get IndexOf Contains Remove Take SwapRemove SwapTake; (item))
+fn set_command_of_element(out: &Out, name: &str, args: &str) -> Option<SetCommand<Item>> {
+    Some(match name {
+        "Insert" => SetCommand::Insert(out.read(args)?),
+        "Replace" => SetCommand::Replace(out.read(args)?),
+        "Get" => SetCommand::Get(out.read(args)?),
+        "IndexOf" => SetCommand::IndexOf(out.read(args)?),
+        "Contains" => SetCommand::Contains(out.read(args)?),
+        "Remove" => SetCommand::Remove(out.read(args)?),
+        "Take" => SetCommand::Take(out.read(args)?),
+        "SwapRemove" => SetCommand::SwapRemove(out.read(args)?),
+        "SwapTake" => SetCommand::SwapTake(out.read(args)?),
+        _ => return set_command_of_set(name, VecSet::from(out.read_list(args)?)),
+    })
 }
 
 fn set_command_of_set(name: &str, other: Set) -> Option<SetCommand<Item>> {
-    command!(name, SetCommand: Append Equals IsSubset IsSuperset IsDisjoint Intersect Unite Exclusive Subtract; (other))
+    Some(match name {
+        "Append" => SetCommand::Append(other),
+        "Equals" => SetCommand::Equals(other),
+        "IsSubset" => SetCommand::IsSubset(other),
+        "IsSuperset" => SetCommand::IsSuperset(other),
+        "IsDisjoint" => SetCommand::IsDisjoint(other),
+        "Intersect" => SetCommand::Intersect(other),
+        "Unite" => SetCommand::Unite(other),
+        "Exclusive" => SetCommand::Exclusive(other),
+        "Subtract" => SetCommand::Subtract(other),
+        _ => return None,
+    })
 }
