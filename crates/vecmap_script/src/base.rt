@@ -1,4 +1,5 @@
 //! Functions over slices and vectors, of the items that the row has: `find 2x 1a:10 2b:20`.
+use crate::given::references;
 use crate::listed::Pair;
 use crate::{Call, Item, Out, Outcome, again};
 use std::alloc::{AllocError, Global};
@@ -55,16 +56,7 @@ fn search(out: &mut Out, call: Call) -> Option<Outcome> {
         _ => Outcome::Unknown,
     })
 }
-// Returns references to the items, without spare capacity.
-fn references(alloc: Global, items: &[Item]) -> Result<Vec<&Item>, AllocError> {
-    let mut references = Vec::with_capacity(alloc, items.len())?;
-    for item in items {
-        references.push(item)?;
-    }
-    Ok(references)
-}
-
-// Returns pairs of these references.
+// Returns pairs of references to the items.
 fn pairs_of(alloc: Global, items: &[Item]) -> Result<Vec<(&Item, ())>, AllocError> {
     let mut pairs = Vec::with_capacity(alloc, items.len())?;
     for item in items {

@@ -2,7 +2,8 @@
 ghost use Rattle.std.specs.Prelude.{◌+◌, length};
 ghost use Rattle.std.specs.Iterator.{at_most};
 
-use crate::Log;
+use crate::{Log, Out, again};
+use std::alloc::{AllocError, Global};
 use std::rc::Rc;
 
 /// An iterator over the items of a vector, in order.
@@ -38,35 +39,18 @@ impl<'l, T: Drop> Iterator for Hinted<'l, T> {
     }
 }
 
-/// An iterator over references to the items of a slice, in order.
-#[derive(Drop)]
-pub struct Lent<'a, T> {
-    items: &'a [T],
-    hint: usize,
-    log: &'a Rc<Log>,
-}
-
-impl<'a, T> Lent<'a, T> {
-    /// Creates the iterator. Without a hint, it has the number of items.
-    pub fn new(log: &'a Rc<Log>, items: &'a [T], hint: Option<usize>) -> Lent<'a, T> {
-        let hint = hint.unwrap_or(items.len());
-        Lent { items, hint, log }
+impl<'l, 'a, T> Hinted<'l, &'a T> {
+    /// Creates an iterator over references to the items of a list.
+    pub fn lent(out: &Out<'l>, items: &'a [T], hint: Option<usize>) -> Option<Hinted<'l, &'a T>> {
+        Some(Hinted::new(out.log, again!(references(out.alloc, items)), hint))
     }
 }
 
-impl<'a, T> Iterator for Lent<'a, T> {
-    type Item = &'a T;
-
-    ghost remaining = { λ s. at_most (s.hint + length s.items.now) };
-
-    fn next(&mut self) -> Option<&'a T> {
-        self.log.note_pulled();
-        let (first, rest) = self.items.split_first()?;
-        self.items = rest;
-        Some(first)
+/// Returns references to the items of a list, without spare capacity.
+pub fn references<T>(alloc: Global, items: &[T]) -> Result<Vec<&T>, AllocError> {
+    let mut references = Vec::with_capacity(alloc, items.len())?;
+    for item in items {
+        references.push(item)?;
     }
-
-    fn size_hint(&self) -> (usize, Option<usize>) {
-        (self.hint, None)
-    }
+    Ok(references)
 }

@@ -52,113 +52,83 @@ fn read_commands<C: Command>(out: &Out, words: &str) -> Option<Vec<C>> {
     Some(commands)
 }
 
+// Returns the command that has the name of one of these variants, and otherwise what follows `else`.
+macro_rules! command {
+    ($name:ident, $Command:ident: $($Variant:ident)+, else $rest:expr) => {
+        match $name {
+            $(name if name == stringify!($Variant) => Some($Command::$Variant),)+
+            _ => $rest,
+        }
+    };
+    ($name:ident, $Command:ident: $($Variant:ident)+; $args:tt, else $rest:expr) => {
+        match $name {
+            $(name if name == stringify!($Variant) => Some($Command::$Variant $args),)+
+            _ => $rest,
+        }
+    };
+}
+
 impl Command for MapCommand<Item, Item> {
     fn read(out: &Out, name: &str, args: &str) -> Option<MapCommand<Item, Item>> {
-        Some(match name {
-            "First" => MapCommand::First,
-            "Last" => MapCommand::Last,
-            "Len" => MapCommand::Len,
-            "Pop" => MapCommand::Pop,
-            "Clear" => MapCommand::Clear,
-            "Reverse" => MapCommand::Reverse,
-            "ToVec" => MapCommand::ToVec,
-            "Append" => MapCommand::Append(VecMap::from(out.read_list(args)?)),
-            "Equals" => MapCommand::Equals(VecMap::from(out.read_list(args)?)),
-            _ => return map_command_of_index(out, name, args),
-        })
+        command!(name, MapCommand: First Last Len Pop Clear Reverse ToVec,
+            else map_command_of_index(out, name, args))
     }
 }
 
 fn map_command_of_index(out: &Out, name: &str, args: &str) -> Option<MapCommand<Item, Item>> {
+    command!(name, MapCommand: GetIndex RemoveIndex SwapRemoveIndex Truncate SplitOff;
+        (args.parse().ok()?), else map_command_of_two(out, name, args))
+}
+
+// The commands of two arguments, or of a list.
+fn map_command_of_two(out: &Out, name: &str, args: &str) -> Option<MapCommand<Item, Item>> {
     let (first, rest) = first_word(args);
     Some(match name {
-        "GetIndex" => MapCommand::GetIndex(args.parse().ok()?),
-        "RemoveIndex" => MapCommand::RemoveIndex(args.parse().ok()?),
-        "SwapRemoveIndex" => MapCommand::SwapRemoveIndex(args.parse().ok()?),
-        "Truncate" => MapCommand::Truncate(args.parse().ok()?),
-        "SplitOff" => MapCommand::SplitOff(args.parse().ok()?),
         "SwapIndices" => MapCommand::SwapIndices(first.parse().ok()?, rest.parse().ok()?),
         "InsertAt" => {
             let (index, (key, value)) = (first.parse().ok()?, out.read(rest)?);
             MapCommand::InsertAt(index, key, value)
         }
         "Insert" | "InsertFull" | "InsertKey" | "OrInsert" => {
-            map_command_of_pair(name, out.read(args)?)
+            return map_command_of_pair(name, out.read(args)?);
         }
+        "Append" => MapCommand::Append(VecMap::from(out.read_list(args)?)),
+        "Equals" => MapCommand::Equals(VecMap::from(out.read_list(args)?)),
         _ => return map_command_of_key(name, out.read(args)?),
     })
 }
 
-fn map_command_of_pair(name: &str, (key, value): Pair) -> MapCommand<Item, Item> {
-    match name {
-        "Insert" => MapCommand::Insert(key, value),
-        "InsertFull" => MapCommand::InsertFull(key, value),
-        "InsertKey" => MapCommand::InsertKey(key, value),
-        _ => MapCommand::OrInsert(key, value),
-    }
+fn map_command_of_pair(name: &str, (key, value): Pair) -> Option<MapCommand<Item, Item>> {
+    command!(name, MapCommand: Insert InsertFull InsertKey OrInsert; (key, value), else None)
 }
 
 fn map_command_of_key(name: &str, key: Item) -> Option<MapCommand<Item, Item>> {
-    Some(match name {
-        "Get" => MapCommand::Get(key),
-        "IndexOf" => MapCommand::IndexOf(key),
-        "ContainsKey" => MapCommand::ContainsKey(key),
-        "Remove" => MapCommand::Remove(key),
-        "RemoveEntry" => MapCommand::RemoveEntry(key),
-        "SwapRemove" => MapCommand::SwapRemove(key),
-        "SwapRemoveEntry" => MapCommand::SwapRemoveEntry(key),
-        _ => return None,
-    })
+    command!(name, MapCommand: Get IndexOf ContainsKey Remove RemoveEntry SwapRemove SwapRemoveEntry;
+        (key), else None)
 }
 
 impl Command for SetCommand<Item> {
     fn read(out: &Out, name: &str, args: &str) -> Option<SetCommand<Item>> {
-        let (first, rest) = first_word(args);
-        Some(match name {
-            "First" => SetCommand::First,
-            "Last" => SetCommand::Last,
-            "Len" => SetCommand::Len,
-            "Pop" => SetCommand::Pop,
-            "Clear" => SetCommand::Clear,
-            "Reverse" => SetCommand::Reverse,
-            "ToVec" => SetCommand::ToVec,
-            "GetIndex" => SetCommand::GetIndex(args.parse().ok()?),
-            "RemoveIndex" => SetCommand::RemoveIndex(args.parse().ok()?),
-            "SwapRemoveIndex" => SetCommand::SwapRemoveIndex(args.parse().ok()?),
-            "Truncate" => SetCommand::Truncate(args.parse().ok()?),
-            "SplitOff" => SetCommand::SplitOff(args.parse().ok()?),
-            "SwapIndices" => SetCommand::SwapIndices(first.parse().ok()?, rest.parse().ok()?),
-            _ => return set_command_of_element(out, name, args),
-        })
+        command!(name, SetCommand: First Last Len Pop Clear Reverse ToVec,
+            else set_command_of_index(out, name, args))
     }
 }
 
+fn set_command_of_index(out: &Out, name: &str, args: &str) -> Option<SetCommand<Item>> {
+    if name == "SwapIndices" {
+        let (first, rest) = first_word(args);
+        return Some(SetCommand::SwapIndices(first.parse().ok()?, rest.parse().ok()?));
+    }
+    command!(name, SetCommand: GetIndex RemoveIndex SwapRemoveIndex Truncate SplitOff;
+        (args.parse().ok()?), else set_command_of_element(out, name, args))
+}
+
 fn set_command_of_element(out: &Out, name: &str, args: &str) -> Option<SetCommand<Item>> {
-    Some(match name {
-        "Insert" => SetCommand::Insert(out.read(args)?),
-        "Replace" => SetCommand::Replace(out.read(args)?),
-        "Get" => SetCommand::Get(out.read(args)?),
-        "IndexOf" => SetCommand::IndexOf(out.read(args)?),
-        "Contains" => SetCommand::Contains(out.read(args)?),
-        "Remove" => SetCommand::Remove(out.read(args)?),
-        "Take" => SetCommand::Take(out.read(args)?),
-        "SwapRemove" => SetCommand::SwapRemove(out.read(args)?),
-        "SwapTake" => SetCommand::SwapTake(out.read(args)?),
-        _ => return set_command_of_set(name, VecSet::from(out.read_list(args)?)),
-    })
+    command!(name, SetCommand: Insert Replace Get IndexOf Contains Remove Take SwapRemove SwapTake;
+        (out.read(args)?), else set_command_of_set(name, VecSet::from(out.read_list(args)?)))
 }
 
 fn set_command_of_set(name: &str, other: Set) -> Option<SetCommand<Item>> {
-    Some(match name {
-        "Append" => SetCommand::Append(other),
-        "Equals" => SetCommand::Equals(other),
-        "IsSubset" => SetCommand::IsSubset(other),
-        "IsSuperset" => SetCommand::IsSuperset(other),
-        "IsDisjoint" => SetCommand::IsDisjoint(other),
-        "Intersect" => SetCommand::Intersect(other),
-        "Unite" => SetCommand::Unite(other),
-        "Exclusive" => SetCommand::Exclusive(other),
-        "Subtract" => SetCommand::Subtract(other),
-        _ => return None,
-    })
+    command!(name, SetCommand: Append Equals IsSubset IsSuperset IsDisjoint Intersect Unite
+        Exclusive Subtract; (other), else None)
 }

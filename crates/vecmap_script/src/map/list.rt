@@ -1,7 +1,7 @@
 //! Calls that take many pairs: `extend 1a:10 2b:20`.
 use super::of_index;
 use crate::both::{array_of, calls_of_list, hinted};
-use crate::given::Lent;
+use crate::given::Hinted;
 use crate::listed::Pair;
 use crate::words::number_after;
 use crate::{Call, Map, Out, Outcome};
@@ -14,24 +14,24 @@ pub fn make(map: &mut Map, other: &mut Map, out: &mut Out, call: Call) -> Option
 
 // Those of a map alone. The iterators of some yield references to the pairs, or to the key and the value of each.
 fn of_pairs(map: &mut Map, other: &mut Map, out: &mut Out, call: Call) -> Option<Outcome> {
-    let log = out.log;
     let (hint, words) = number_after("hint ", call.args);
     Some(match call.name {
         "extend_pairs" => {
-            out.settle(map.extend_pairs(Lent::new(log, &out.read_list(words)?, hint)))
+            let pairs: Vec<Pair> = out.read_list(words)?;
+            out.settle(map.extend_pairs(Hinted::lent(out, &pairs, hint)?))
         }
         "Extend_pairs" => {
             let pairs: Vec<Pair> = out.read_list(words)?;
-            out.settle(Extend::extend(map, Lent::new(log, &pairs, hint)))
+            out.settle(Extend::extend(map, Hinted::lent(out, &pairs, hint)?))
         }
         "extend_refs" => {
-            let pairs = out.read_list(words)?;
-            let lent = Lent::new(log, &pairs, hint).map(|pair: &Pair| (&pair.0, &pair.1));
+            let pairs: Vec<Pair> = out.read_list(words)?;
+            let lent = Hinted::lent(out, &pairs, hint)?.map(|pair| (&pair.0, &pair.1));
             out.settle(map.extend_refs(lent))
         }
         "Extend_refs" => {
-            let pairs = out.read_list(words)?;
-            let lent = Lent::new(log, &pairs, hint).map(|pair: &Pair| (&pair.0, &pair.1));
+            let pairs: Vec<Pair> = out.read_list(words)?;
+            let lent = Hinted::lent(out, &pairs, hint)?.map(|pair| (&pair.0, &pair.1));
             out.settle(Extend::extend(map, lent))
         }
         "from_vec_unchecked" => {

@@ -3,7 +3,7 @@
 ghost use Rattle.std.specs.Prelude.{nat_eq};
 ghost use Rattle.std.specs.Cmp.{nat_eq_equiv, partial_equiv_from_equiv};
 
-use crate::given::Lent;
+use crate::given::Hinted;
 use crate::words::number_after;
 use crate::{Call, Item, Out, Outcome, Set, again};
 use std::alloc::AllocError;
@@ -38,7 +38,7 @@ pub fn extend(set: &mut Set, out: &mut Out, call: Call) -> Option<Outcome> {
     let items = again!(plain_items(out, &items));
     let mut plain = VecSet::from(again!(plain_items(out, set.as_slice())));
     again!(plain.reserve_exact(set.capacity().saturating_sub(set.len())));
-    let lent = Lent::new(out.log, &items, hint);
+    let lent = Hinted::lent(out, &items, hint)?;
     let extended = match call.name {
         "extend_copied" => plain.extend_copied(lent),
         _ => Extend::extend(&mut plain, lent),
