@@ -12,27 +12,11 @@ pub fn make(map: &mut Map, other: &mut Map, out: &mut Out, call: Call) -> Option
     calls_of_list!(VecMap<Pair>, map, other, out, call, of_pairs)
 }
 
-// Those of a map alone. The iterators of some yield references to the pairs, or to the key and the value of each.
+// Those of a map alone.
 fn of_pairs(map: &mut Map, other: &mut Map, out: &mut Out, call: Call) -> Option<Outcome> {
-    let (hint, words) = number_after("hint ", call.args);
     Some(match call.name {
-        "extend_pairs" => {
-            let pairs: Vec<Pair> = out.read_list(words)?;
-            out.settle(map.extend_pairs(Hinted::lent(out, &pairs, hint)?))
-        }
-        "Extend_pairs" => {
-            let pairs: Vec<Pair> = out.read_list(words)?;
-            out.settle(Extend::extend(map, Hinted::lent(out, &pairs, hint)?))
-        }
-        "extend_refs" => {
-            let pairs: Vec<Pair> = out.read_list(words)?;
-            let lent = Hinted::lent(out, &pairs, hint)?.map(|pair| (&pair.0, &pair.1));
-            out.settle(map.extend_refs(lent))
-        }
-        "Extend_refs" => {
-            let pairs: Vec<Pair> = out.read_list(words)?;
-            let lent = Hinted::lent(out, &pairs, hint)?.map(|pair| (&pair.0, &pair.1));
-            out.settle(Extend::extend(map, lent))
+        "extend_pairs" | "Extend_pairs" | "extend_refs" | "Extend_refs" => {
+            extend_lent(map, out, call)?
         }
         "from_vec_unchecked" => {
             let pairs = out.read_list(call.args)?;
@@ -41,9 +25,22 @@ fn of_pairs(map: &mut Map, other: &mut Map, out: &mut Out, call: Call) -> Option
             }
             out.store(map, Ok(VecMap::from_vec_unchecked(pairs)))
         }
-        "vecmap!" => out.store(map, map_of(out.alloc, array_of(out, call.args)?)),
+        "vecmap!" => out.store(map, map_of(out.alloc, array_of(out, call)?)),
         _ => return of_index(map, other, out, call),
     })
+}
+
+// Those whose iterator yields references to the pairs, or to the key and the value of each.
+fn extend_lent(map: &mut Map, out: &mut Out, call: Call) -> Option<Outcome> {
+    let (hint, words) = number_after("hint ", call.args);
+    let pairs: Vec<Pair> = out.read_list(words)?;
+    let lent = Hinted::lent(out, &pairs, hint)?;
+    Some(out.settle(match call.name {
+        "extend_pairs" => map.extend_pairs(lent),
+        "Extend_pairs" => Extend::extend(map, lent),
+        "extend_refs" => map.extend_refs(lent.map(|pair| (&pair.0, &pair.1))),
+        _ => Extend::extend(map, lent.map(|pair| (&pair.0, &pair.1))),
+    }))
 }
 
 fn map_of(alloc: Global, [a, b, c]: [Pair; 3]) -> Result<Map, AllocError> {

@@ -20,7 +20,7 @@ fn of_elements(set: &mut Set, other: &mut Set, out: &mut Out, call: Call) -> Opt
             }
             out.store(set, Ok(VecSet::from_vec_unchecked(items)))
         }
-        "vecset!" => out.store(set, set_of(out.alloc, array_of(out, call.args)?)),
+        "vecset!" => out.store(set, set_of(out.alloc, array_of(out, call)?)),
         _ => return of_index(set, other, out, call),
     })
 }
