@@ -38,24 +38,26 @@ fn search(out: &mut Out, call: Call) -> Option<Outcome> {
             let items: Vec<Item> = out.read_list(words)?;
             out.show(find_item(&items, &Item::query(first)?))
         }
-        "find_by_reference" => {
+        "find_by_reference" | "find_item_by_reference" | "contains_by_reference" => {
             let items: Vec<Item> = out.read_list(words)?;
-            let pairs = again!(pairs_of(out.alloc, &items));
-            out.show(find(&pairs, &&Item::query(first)?))
-        }
-        "find_item_by_reference" => {
-            let items: Vec<Item> = out.read_list(words)?;
-            let references = again!(references(out.alloc, &items));
-            out.show(find_item(&references, &&Item::query(first)?))
-        }
-        "contains_by_reference" => {
-            let items: Vec<Item> = out.read_list(words)?;
-            let references = again!(references(out.alloc, &items));
-            out.show(contains_item(&references, &&Item::query(first)?))
+            by_reference(out, call.name, &items, &Item::query(first)?)?
         }
         _ => Outcome::Unknown,
     })
 }
+
+fn by_reference(out: &mut Out, name: &str, items: &[Item], query: &Item) -> Option<Outcome> {
+    let references = again!(references(out.alloc, items));
+    Some(match name {
+        "find_item_by_reference" => out.show(find_item(&references, &query)),
+        "contains_by_reference" => out.show(contains_item(&references, &query)),
+        _ => {
+            let pairs = again!(pairs_of(out.alloc, items));
+            out.show(find(&pairs, &query))
+        }
+    })
+}
+
 // Returns pairs of references to the items.
 fn pairs_of(alloc: Global, items: &[Item]) -> Result<Vec<(&Item, ())>, AllocError> {
     let mut pairs = Vec::with_capacity(alloc, items.len())?;

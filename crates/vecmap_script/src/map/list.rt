@@ -25,7 +25,11 @@ fn of_pairs(map: &mut Map, other: &mut Map, out: &mut Out, call: Call) -> Option
             }
             out.store(map, Ok(VecMap::from_vec_unchecked(pairs)))
         }
-        "vecmap!" => out.store(map, map_of(out.alloc, array_of(out, call)?)),
+        "vecmap!" => {
+            let mut pairs = out.read_list(call.args)?.into_iter();
+            let made = map_of(out.alloc, pairs.next()?, pairs.next()?, pairs.next()?);
+            out.store(map, made)
+        }
         _ => return of_index(map, other, out, call),
     })
 }
@@ -43,6 +47,6 @@ fn extend_lent(map: &mut Map, out: &mut Out, call: Call) -> Option<Outcome> {
     }))
 }
 
-fn map_of(alloc: Global, [a, b, c]: [Pair; 3]) -> Result<Map, AllocError> {
+fn map_of(alloc: Global, a: Pair, b: Pair, c: Pair) -> Result<Map, AllocError> {
     Ok(vecmap!(alloc; a.0 => a.1, b.0 => b.1, c.0 => c.1))
 }

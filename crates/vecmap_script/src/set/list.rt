@@ -20,11 +20,15 @@ fn of_elements(set: &mut Set, other: &mut Set, out: &mut Out, call: Call) -> Opt
             }
             out.store(set, Ok(VecSet::from_vec_unchecked(items)))
         }
-        "vecset!" => out.store(set, set_of(out.alloc, array_of(out, call)?)),
+        "vecset!" => {
+            let mut items = out.read_list(call.args)?.into_iter();
+            let made = set_of(out.alloc, items.next()?, items.next()?, items.next()?);
+            out.store(set, made)
+        }
         _ => return of_index(set, other, out, call),
     })
 }
 
-fn set_of(alloc: Global, [a, b, c]: [Item; 3]) -> Result<Set, AllocError> {
+fn set_of(alloc: Global, a: Item, b: Item, c: Item) -> Result<Set, AllocError> {
     Ok(vecset!(alloc; a, b, c))
 }
