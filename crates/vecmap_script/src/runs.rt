@@ -1,4 +1,5 @@
 //! Runs of commands, as in `run Insert 1a:1; Get 1 -> Value(None); Value(Some(1))`.
+use crate::listed::Pair;
 use crate::{Item, Map, Out, Outcome, Set, again, first_word};
 use std::alloc::AllocError;
 use std::fmt::{Debug, Write};
@@ -6,7 +7,7 @@ use vecmap::{MapCommand, SetCommand, VecMap, VecSet, run, run_set};
 
 /// Runs the commands on a map.
 pub fn on_map(map: &mut Map, out: &mut Out, words: &str) -> Option<Outcome> {
-    let commands = map_commands(out, words)?;
+    let commands = read_commands(out, words)?;
     out.begin();
     let replies = run(out.alloc, map, commands);
     Some(show_replies(out, replies))
@@ -14,28 +15,10 @@ pub fn on_map(map: &mut Map, out: &mut Out, words: &str) -> Option<Outcome> {
 
 /// Runs the commands on a set.
 pub fn on_set(set: &mut Set, out: &mut Out, words: &str) -> Option<Outcome> {
-    let commands = set_commands(out, words)?;
+    let commands = read_commands(out, words)?;
     out.begin();
     let replies = run_set(out.alloc, set, commands);
     Some(show_replies(out, replies))
-}
-
-fn map_commands(out: &mut Out, words: &str) -> Option<Vec<MapCommand<Item, Item>>> {
-    let mut commands = again!(Vec::with_capacity(out.alloc, words.split(';').count()));
-    for words in words.split(';') {
-        let command = map_command(out, words)?;
-        commands.push(command).ok()?;
-    }
-    Some(commands)
-}
-
-fn set_commands(out: &mut Out, words: &str) -> Option<Vec<SetCommand<Item>>> {
-    let mut commands = again!(Vec::with_capacity(out.alloc, words.split(';').count()));
-    for words in words.split(';') {
-        let command = set_command(out, words)?;
-        commands.push(command).ok()?;
-    }
-    Some(commands)
 }
 
 fn show_replies<R: Debug + Drop>(out: &mut Out, replies: Result<Vec<R>, AllocError>) -> Outcome {
@@ -54,95 +37,98 @@ fn show_replies<R: Debug + Drop>(out: &mut Out, replies: Result<Vec<R>, AllocErr
     }
 }
 
-// Returns the command that has the name of one of these variants, if there is one.
+/// A command of a map or of a set.
+trait Command: Drop {
+    /// Reads a command, as `Insert 1a:1`, `GetIndex 0` or `Append 1a:1 2b:2`.
+    fn read(out: &Out, name: &str, args: &str) -> Option<Self>;
+}
+
+fn read_commands<C: Command>(out: &Out, words: &str) -> Option<Vec<C>> {
+    let mut commands = again!(Vec::with_capacity(out.alloc, words.split(';').count()));
+    for words in words.split(';') {
+        let (name, args) = first_word(words);
+        commands.push(C::read(out, name, args)?).ok()?;
+    }
+    Some(commands)
+}
+
+// Returns the command that has the name of one of these variants, and otherwise what follows `else`.
 macro_rules! command {
-    ($name:ident, $Command:ident: $($Variant:ident)+) => {
+    ($name:ident, $Command:ident: $($Variant:ident)+, else $rest:expr) => {
         match $name {
             $(name if name == stringify!($Variant) => Some($Command::$Variant),)+
-            _ => None,
+            _ => $rest,
         }
     };
-    ($name:ident, $Command:ident: $($Variant:ident)+; $args:tt) => {
+    ($name:ident, $Command:ident: $($Variant:ident)+; $args:tt, else $rest:expr) => {
         match $name {
             $(name if name == stringify!($Variant) => Some($Command::$Variant $args),)+
-            _ => None,
+            _ => $rest,
         }
     };
 }
 
-// Reads a command, as `Insert 1a:1`, `GetIndex 0` or `Append 1a:1 2b:2`.
-fn map_command(out: &mut Out, words: &str) -> Option<MapCommand<Item, Item>> {
-    let (name, args) = first_word(words);
-    match name {
-        "Append" => Some(MapCommand::Append(VecMap::from(out.pairs(args)?))),
-        "Equals" => Some(MapCommand::Equals(VecMap::from(out.pairs(args)?))),
-        "InsertAt" | "SwapIndices" => map_command_of_two(out, name, args),
-        _ if args.is_empty() => {
-            command!(name, MapCommand: First Last Len Pop Clear Reverse ToVec)
-        }
-        _ if args.contains(':') => map_command_of_pair(name, out.pair(args)?),
-        _ => match map_command_of_index(name, args.parse().ok()) {
-            None => map_command_of_key(name, Item::read(out.log, args)?),
-            command => command,
-        },
+impl Command for MapCommand<Item, Item> {
+    fn read(out: &Out, name: &str, args: &str) -> Option<MapCommand<Item, Item>> {
+        command!(name, MapCommand: First Last Len Pop Clear Reverse ToVec,
+            else map_command_of_index(out, name, args))
     }
 }
 
-fn map_command_of_index(name: &str, index: Option<usize>) -> Option<MapCommand<Item, Item>> {
-    let index = index?;
-    command!(name, MapCommand: GetIndex RemoveIndex SwapRemoveIndex Truncate SplitOff; (index))
+fn map_command_of_index(out: &Out, name: &str, args: &str) -> Option<MapCommand<Item, Item>> {
+    command!(name, MapCommand: GetIndex RemoveIndex SwapRemoveIndex Truncate SplitOff;
+        (args.parse().ok()?), else map_command_of_two(out, name, args))
 }
 
-// An index, and another one or a pair.
+// The commands of two arguments, or of a list.
 fn map_command_of_two(out: &Out, name: &str, args: &str) -> Option<MapCommand<Item, Item>> {
-    let (index, rest) = first_word(args);
-    let index = index.parse().ok()?;
-    if name == "SwapIndices" {
-        return Some(MapCommand::SwapIndices(index, rest.parse().ok()?));
-    }
-    let (key, value) = out.pair(rest)?;
-    Some(MapCommand::InsertAt(index, key, value))
+    let (first, rest) = first_word(args);
+    Some(match name {
+        "SwapIndices" => MapCommand::SwapIndices(first.parse().ok()?, rest.parse().ok()?),
+        "InsertAt" => {
+            let (index, (key, value)) = (first.parse().ok()?, out.read(rest)?);
+            MapCommand::InsertAt(index, key, value)
+        }
+        "Insert" | "InsertFull" | "InsertKey" | "OrInsert" => {
+            return map_command_of_pair(name, out.read(args)?);
+        }
+        "Append" => MapCommand::Append(VecMap::from(out.read_list(args)?)),
+        "Equals" => MapCommand::Equals(VecMap::from(out.read_list(args)?)),
+        _ => return map_command_of_key(name, out.read(args)?),
+    })
+}
+
+fn map_command_of_pair(name: &str, (key, value): Pair) -> Option<MapCommand<Item, Item>> {
+    command!(name, MapCommand: Insert InsertFull InsertKey OrInsert; (key, value), else None)
 }
 
 fn map_command_of_key(name: &str, key: Item) -> Option<MapCommand<Item, Item>> {
-    command!(name, MapCommand: Get IndexOf ContainsKey Remove RemoveEntry SwapRemove SwapRemoveEntry; (key))
+    command!(name, MapCommand: Get IndexOf ContainsKey Remove RemoveEntry SwapRemove SwapRemoveEntry;
+        (key), else None)
 }
 
-fn map_command_of_pair(name: &str, (key, value): (Item, Item)) -> Option<MapCommand<Item, Item>> {
-    command!(name, MapCommand: Insert InsertFull InsertKey OrInsert; (key, value))
-}
-
-// Reads a command, as `Insert 1a`, `GetIndex 0` or `Append 1a 2b`.
-fn set_command(out: &mut Out, words: &str) -> Option<SetCommand<Item>> {
-    let (name, args) = first_word(words);
-    match name {
-        "Append" | "Equals" | "Intersect" | "Unite" | "Exclusive" | "Subtract" => {
-            set_command_of_set(name, VecSet::from(out.items(args)?))
-        }
-        _ if name.starts_with("Is") => set_command_of_set(name, VecSet::from(out.items(args)?)),
-        "SwapIndices" => {
-            let (a, b) = first_word(args);
-            Some(SetCommand::SwapIndices(a.parse().ok()?, b.parse().ok()?))
-        }
-        _ if args.is_empty() => {
-            command!(name, SetCommand: First Last Len Pop Clear Reverse ToVec)
-        }
-        _ => match set_command_of_index(name, args.parse().ok()) {
-            None => set_command_of_element(name, Item::read(out.log, args)?),
-            command => command,
-        },
+impl Command for SetCommand<Item> {
+    fn read(out: &Out, name: &str, args: &str) -> Option<SetCommand<Item>> {
+        command!(name, SetCommand: First Last Len Pop Clear Reverse ToVec,
+            else set_command_of_index(out, name, args))
     }
 }
 
-fn set_command_of_index(name: &str, index: Option<usize>) -> Option<SetCommand<Item>> {
-    let index = index?;
-    command!(name, SetCommand: GetIndex RemoveIndex SwapRemoveIndex Truncate SplitOff; (index))
+fn set_command_of_index(out: &Out, name: &str, args: &str) -> Option<SetCommand<Item>> {
+    if name == "SwapIndices" {
+        let (first, rest) = first_word(args);
+        return Some(SetCommand::SwapIndices(first.parse().ok()?, rest.parse().ok()?));
+    }
+    command!(name, SetCommand: GetIndex RemoveIndex SwapRemoveIndex Truncate SplitOff;
+        (args.parse().ok()?), else set_command_of_element(out, name, args))
 }
 
-fn set_command_of_element(name: &str, item: Item) -> Option<SetCommand<Item>> {
-    command!(name, SetCommand: Insert Replace Get IndexOf Contains Remove Take SwapRemove SwapTake; (item))
+fn set_command_of_element(out: &Out, name: &str, args: &str) -> Option<SetCommand<Item>> {
+    command!(name, SetCommand: Insert Replace Get IndexOf Contains Remove Take SwapRemove SwapTake;
+        (out.read(args)?), else set_command_of_set(name, VecSet::from(out.read_list(args)?)))
 }
 
 fn set_command_of_set(name: &str, other: Set) -> Option<SetCommand<Item>> {
-    command!(name, SetCommand: Append Equals IsSubset IsSuperset IsDisjoint Intersect Unite Exclusive Subtract; (other))
+    command!(name, SetCommand: Append Equals IsSubset IsSuperset IsDisjoint Intersect Unite
+        Exclusive Subtract; (other), else None)
 }

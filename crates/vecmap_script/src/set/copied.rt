@@ -3,8 +3,9 @@
 ghost use Rattle.std.specs.Prelude.{nat_eq};
 ghost use Rattle.std.specs.Cmp.{nat_eq_equiv, partial_equiv_from_equiv};
 
-use crate::pulls::Lent;
-use crate::{Item, Out, Outcome, Set, again};
+use crate::given::Hinted;
+use crate::words::number_after;
+use crate::{Call, Item, Out, Outcome, Set, again};
 use std::alloc::AllocError;
 use vecmap::VecSet;
 
@@ -31,18 +32,14 @@ impl Eq for Plain {
 
 /// `extend_copied`, also by the trait: `Extend_copied`. Their iterator has this lower size hint, or else the number of
 /// items.
-pub fn extend(
-    set: &mut Set,
-    out: &mut Out,
-    name: &str,
-    items: &[Item],
-    hint: Option<usize>,
-) -> Option<Outcome> {
-    let items = again!(plain_items(out, items));
+pub fn extend(set: &mut Set, out: &mut Out, call: Call) -> Option<Outcome> {
+    let (hint, words) = number_after("hint ", call.args);
+    let items: Vec<Item> = out.read_list(words)?;
+    let items = again!(plain_items(out, &items));
     let mut plain = VecSet::from(again!(plain_items(out, set.as_slice())));
     again!(plain.reserve_exact(set.capacity().saturating_sub(set.len())));
-    let lent = Lent::new(out.log, &items, hint);
-    let extended = match name {
+    let lent = Hinted::lent(out, &items, hint)?;
+    let extended = match call.name {
         "extend_copied" => plain.extend_copied(lent),
         _ => Extend::extend(&mut plain, lent),
     };

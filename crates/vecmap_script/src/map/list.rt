@@ -1,0 +1,52 @@
+//! Calls that take many pairs: `extend 1a:10 2b:20`.
+use super::of_index;
+use crate::both::{array_of, calls_of_list, hinted};
+use crate::given::Hinted;
+use crate::listed::Pair;
+use crate::words::number_after;
+use crate::{Call, Map, Out, Outcome};
+use std::alloc::{AllocError, Global};
+use vecmap::{VecMap, keys_distinct, vecmap};
+
+pub fn make(map: &mut Map, other: &mut Map, out: &mut Out, call: Call) -> Option<Outcome> {
+    calls_of_list!(VecMap<Pair>, map, other, out, call, of_pairs)
+}
+
+// Those of a map alone.
+fn of_pairs(map: &mut Map, other: &mut Map, out: &mut Out, call: Call) -> Option<Outcome> {
+    Some(match call.name {
+        "extend_pairs" | "Extend_pairs" | "extend_refs" | "Extend_refs" => {
+            extend_lent(map, out, call)?
+        }
+        "from_vec_unchecked" => {
+            let pairs = out.read_list(call.args)?;
+            if !keys_distinct(&pairs) {
+                return None;
+            }
+            out.store(map, Ok(VecMap::from_vec_unchecked(pairs)))
+        }
+        "vecmap!" => {
+            let mut pairs = out.read_list(call.args)?.into_iter();
+            let made = map_of(out.alloc, pairs.next()?, pairs.next()?, pairs.next()?);
+            out.store(map, made)
+        }
+        _ => return of_index(map, other, out, call),
+    })
+}
+
+// Those whose iterator yields references to the pairs, or to the key and the value of each.
+fn extend_lent(map: &mut Map, out: &mut Out, call: Call) -> Option<Outcome> {
+    let (hint, words) = number_after("hint ", call.args);
+    let pairs: Vec<Pair> = out.read_list(words)?;
+    let lent = Hinted::lent(out, &pairs, hint)?;
+    Some(out.settle(match call.name {
+        "extend_pairs" => map.extend_pairs(lent),
+        "Extend_pairs" => Extend::extend(map, lent),
+        "extend_refs" => map.extend_refs(lent.map(|pair| (&pair.0, &pair.1))),
+        _ => Extend::extend(map, lent.map(|pair| (&pair.0, &pair.1))),
+    }))
+}
+
+fn map_of(alloc: Global, a: Pair, b: Pair, c: Pair) -> Result<Map, AllocError> {
+    Ok(vecmap!(alloc; a.0 => a.1, b.0 => b.1, c.0 => c.1))
+}
