@@ -73,6 +73,12 @@ def table_rows(text):
     return [[cell.strip() for cell in row] for row in rows]
 
 
+def table(rows):
+    """Returns a table of some rows, the first of which is its head."""
+    first, *rest = ("| " + " | ".join(map(str, row)) + " |\n" for row in rows)
+    return first.replace("|  |", "| |") + "|---" * len(rows[0]) + "|\n" + "".join(rest)
+
+
 def mutants():
     """Yields the mutants of their page: for each the heading above it, and the text."""
     for section in read(MUTANTS).split("\n## ")[1:]:
