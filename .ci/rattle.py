@@ -117,6 +117,11 @@ def dependencies():
     return {name: needs.split() for name, needs in lines}
 
 
+def defined(path):
+    """Returns the names of the public definitions of a file."""
+    return DEFINITION.findall(read(path))
+
+
 def crate_of(path):
     """Returns the crate of a file."""
     return path.split("/")[1]
@@ -189,9 +194,9 @@ def items(path):
         yield Item(path, line, kind, name, scope == "pub ", owner if indent else "", members, comment, whole)
 
 
-def functions(path):
-    """Returns the functions of a source."""
-    return [it for it in items(path) if it.kind == "fn"]
+def functions(*paths):
+    """Returns the functions of some sources."""
+    return [it for path in paths for it in items(path) if it.kind == "fn"]
 
 
 def blocks(path):
@@ -208,7 +213,7 @@ def blocks(path):
 
 def tests():
     """Returns all tests."""
-    return [it for path in sources() for it in functions(path) if it.is_test()]
+    return [it for it in functions(*sources()) if it.is_test()]
 
 
 def laws():

@@ -9,7 +9,7 @@ import os
 import re
 
 from made import opening, owner_of, trait_and_type
-from rattle import DEFINITION, LAWS, SCRIPT, crate_of, files, headings, items, mutants, read, sources
+from rattle import LAWS, SCRIPT, crate_of, defined, files, headings, items, mutants, read, sources
 
 # A statement: its thing, the label of a clause or what else it is, and its text.
 Statement = collections.namedtuple("Statement", "kind name label text")
@@ -112,9 +112,8 @@ def contracts():
 def definitions():
     """Yields the lines of each public definition, each below the one before it: their order matters."""
     for path in files("crates/*/specs/**/*.antt"):
-        public = DEFINITION.findall(read(path)) if not path.endswith("/Lib.antt") else ()
         texts = declarations(path)
-        for name in public:
+        for name in defined(path) if not path.endswith("/Lib.antt") else ():
             lines = [" ".join(line.split()) for line in texts.get(name, "").splitlines()]
             thing = "definition", f"{crate_of(path)}: {module_of(path)}.{name}"
             yield from (Statement(*thing, "", f"{above}\n      {line}") for above, line in zip(["", *lines], lines))
