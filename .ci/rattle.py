@@ -32,12 +32,19 @@ ITEM = re.compile(
 )
 CLAUSE = re.compile(r"(requires|ensures)\*? (?:(\w+) )?\{")
 MEMBER = re.compile(r"^    ghost (\w+) = \{", re.MULTILINE)
-DEFINITION = re.compile(r"^ *(?:abbrev pub|unfoldable pub|pub record|pub data) (\S+)", re.MULTILINE)
+# The comment of a public definition, its indentation, its name, and the rest: lines up to an empty one.
+DEFINITION = re.compile(
+    r"((?:^ *-- .*\n)*)^( *)(?:abbrev pub|(?:unfoldable )?pub(?: record| data)?) (?!mod |use )([\w']+) "
+    r".*\n(?:.*\S.*(?:\n|\Z))*",
+    re.MULTILINE,
+)
 NAME = re.compile(r"[A-Za-z_][\w']*")
 # A brace, or what may have one that counts for nothing.
 BRACE = re.compile(r"//.*|\"(?:[^\"\\]|\\.)*\"|'(?:[^'\\]|\\.)'|[{}]")
 # A clause of a contract. A ghost member of an impl is one, too.
 Clause = collections.namedtuple("Clause", "kind label formula")
+# A definition: its line, its name, the lines of its comment, and its text, which begins with its module if it has one.
+Definition = collections.namedtuple("Definition", "line name comment text")
 # A block of code: the line that opens it, the words there, and its lines.
 Block = collections.namedtuple("Block", "line mark lines")
 # The script of the test cases.
@@ -117,9 +124,17 @@ def dependencies():
     return {name: needs.split() for name, needs in lines}
 
 
-def defined(path):
-    """Returns the names of the public definitions of a file."""
-    return DEFINITION.findall(read(path))
+def definitions(path):
+    """Returns the public definitions of a file."""
+    text, made = read(path), []
+    for found in DEFINITION.finditer(text):
+        comment, indent, name = found.groups()
+        start = found.start(2)
+        lines = [line.strip()[3:] for line in comment.splitlines()]
+        module = re.findall("^module .*", text[:start], re.MULTILINE)[-1:] if indent else []
+        whole = [*module, text[start : found.end()].rstrip("\n")]
+        made.append(Definition(text.count("\n", 0, start), name, lines, "\n".join(whole)))
+    return made
 
 
 def crate_of(path):

@@ -9,7 +9,7 @@ import os
 import re
 
 from made import opening, owner_of, trait_and_type
-from rattle import LAWS, SCRIPT, crate_of, defined, files, headings, items, mutants, read, sources
+from rattle import LAWS, SCRIPT, crate_of, definitions, files, headings, items, mutants, read, sources
 
 # A statement: its thing, the label of a clause or what else it is, and its text.
 Statement = collections.namedtuple("Statement", "kind name label text")
@@ -109,13 +109,12 @@ def contracts():
                 yield from members_of(it)
 
 
-def definitions():
+def definition_lines():
     """Yields the lines of each public definition, each below the one before it: their order matters."""
     for path in files("crates/*/specs/**/*.antt"):
-        texts = declarations(path)
-        for name in defined(path) if not path.endswith("/Lib.antt") else ():
-            lines = [" ".join(line.split()) for line in texts.get(name, "").splitlines()]
-            thing = "definition", f"{crate_of(path)}: {module_of(path)}.{name}"
+        for it in definitions(path):
+            lines = [" ".join(re.sub("--.*", "", line).split()) for line in it.text.splitlines()]
+            thing = "definition", f"{crate_of(path)}: {module_of(path)}.{it.name}"
             yield from (Statement(*thing, "", f"{above}\n      {line}") for above, line in zip(["", *lines], lines))
 
 
@@ -193,7 +192,7 @@ def lists():
     yield from (Statement("list", "steps of .ci/run", "", name) for step in steps for name in step.split())
 
 
-READERS = (contracts, definitions, lemmas, exports, rows, tests, examples, lines, lists)
+READERS = (contracts, definition_lines, lemmas, exports, rows, tests, examples, lines, lists)
 
 
 def state():

@@ -13,6 +13,7 @@ import re
 import shutil
 import subprocess
 
+import rattle
 from made import DEFINED
 from rattle import LAWS, closing, dependencies, files, read, sources
 from laws_for import modules, public_paths  # on the path by `rattle`
@@ -31,7 +32,6 @@ MODULES = re.compile(r"(?:^(?:pub )?mod \w+;\n)+", re.MULTILINE)
 MACRO = re.compile(r"^macro_rules!.*?^\}", re.MULTILINE | re.DOTALL)
 PASSED_ON = re.compile(r"^pub use ([\w:]+)::\{([^}]*)\};", re.MULTILINE)
 PASSED_DEFINITIONS = re.compile(r"^pub use Rattle\.(\w+)\.specs\.(\w+)(?: as (\w+))?$", re.MULTILINE)
-DEFINITION = re.compile(r"( *)(?:abbrev pub|(?:unfoldable )?pub(?: record| data)?) (?!mod |use )([\w']+)(?= )")
 # What stands before the formula of a line, in which no name is a link.
 LABEL = re.compile(r" *(?:(?:requires|ensures)\*?(?: \w+)?(?= \{)|ghost \w+|//.*|--.*)?")
 # A name, or the member of a type parameter, as in `K.eq`.
@@ -220,16 +220,8 @@ def rust_of(path, crate, module):
 
 @functools.cache
 def definitions(path):
-    """Returns the definitions of a file: for each its line, its name, its comment, and its text."""
-    lines, module, end, made = read(path).splitlines(), "", 0, []
-    for number, line in enumerate(lines):
-        module = line if line.startswith("module ") else module
-        if (found := DEFINITION.match(line)) and number >= end:
-            end = next((it for it in range(number, len(lines)) if not lines[it].strip()), len(lines))
-            start = next(it for it in range(number, -1, -1) if not it or not lines[it - 1].lstrip().startswith("-- "))
-            comment = [it.strip()[3:] for it in lines[start:number]]
-            made.append((number, found[2], comment, "\n".join([module] * bool(found[1]) + lines[number:end])))
-    return made
+    """Returns the public definitions of a file, of which the kit's have many."""
+    return rattle.definitions(path)
 
 
 def constant(name, comment, text, path, names, crate):
