@@ -1,18 +1,16 @@
 """What a state of the repository says, as statements that `.ci/compat` looks for in a later state.
 
-A thing is a call, a type, a definition, the rows below a heading, a test and so on. It has a kind, a name and some
-statements. Each function here yields statements of one kind, in the state at the current folder.
+A thing is a call, a type, a definition, the rows below a heading, a test and so on: its kind and its name. A statement
+is a thing, the label of a clause or what else it is, and its text. Each function here yields statements of one kind, in
+the state at the current folder.
 """
 
-import collections
 import os
 import re
 
 from made import opening, owner_of, trait_and_type
 from rattle import LAWS, SCRIPT, crate_of, definitions, files, headings, items, mutants, read, sources
 
-# A statement: its thing, the label of a clause or what else it is, and its text.
-Statement = collections.namedtuple("Statement", "kind name label text")
 # The kinds that users read: a change of one is named in CHANGELOG.
 CONTRACTS = ("call", "type", "impl", "definition", "lemma", "export")
 # The crates of which a user sees nothing.
@@ -67,28 +65,28 @@ def contract_of(item):
     """Yields the signature and the clauses of a public call, or of a method of a trait."""
     thing = "call", f"{crate_of(item.path)}: {title_of(item)}"
     signature = flat(f"{item.impl} {item.signature()}")
-    yield Statement(*thing, "signature", re.sub(r"( where|[ ,;])+$", "", signature))
+    yield thing, "signature", re.sub(r"( where|[ ,;])+$", "", signature)
     for it in item.clauses():
-        yield from [] if it.kind == "ghost" else [Statement(*thing, f"{it.kind} {it.label}", it.formula)]
+        yield from [] if it.kind == "ghost" else [(thing, f"{it.kind} {it.label}", it.formula)]
 
 
 def form_of(item):
     """Yields what a public type or trait is: its head, its public fields or variants, and what it derives."""
     thing = "type", f"{crate_of(item.path)}: {item.name}"
-    yield Statement(*thing, "form", flat(item.text if item.kind in ("enum", "type") else re.split("[{(;]", item.text)[0]))
+    yield thing, "form", flat(item.text if item.kind in ("enum", "type") else re.split("[{(;]", item.text)[0])
     fields = re.findall(r"^ *pub (\w+: .*),$", item.text, re.MULTILINE) if item.kind == "struct" else []
-    yield from (Statement(*thing, "field", field) for field in fields)
+    yield from ((thing, "field", field) for field in fields)
     derived = " ".join(re.findall(r"#\[derive\w*\((.*?)\)\]", item.comment))
-    yield from (Statement(*thing, "derives", word) for word in re.findall(r"\w+", derived))
+    yield from ((thing, "derives", word) for word in re.findall(r"\w+", derived))
 
 
 def members_of(item):
     """Yields the head of an `impl` or a public trait, and its ghost members."""
     thing = "impl", f"{crate_of(item.path)}: {flat(item.text)}"
-    yield Statement(*thing, "head", "")
+    yield thing, "head", ""
     for name, text in GHOST.findall(item.members):
         is_proof = name in PROOFS and item.kind == "impl"
-        yield Statement(*thing, f"ghost {name}", "" if is_proof else flat(text))
+        yield thing, f"ghost {name}", "" if is_proof else flat(text)
 
 
 def contracts():
@@ -115,7 +113,7 @@ def definition_lines():
         for it in definitions(path):
             lines = [" ".join(re.sub("--.*", "", line).split()) for line in it.text.splitlines()]
             thing = "definition", f"{crate_of(path)}: {module_of(path)}.{it.name}"
-            yield from (Statement(*thing, "", f"{above}\n      {line}") for above, line in zip(["", *lines], lines))
+            yield from ((thing, "", f"{above}\n      {line}") for above, line in zip(["", *lines], lines))
 
 
 def lemmas():
@@ -124,7 +122,7 @@ def lemmas():
         for name, text in declarations(path).items():
             if re.search(rf"^ *pub (?:ruleset )?{re.escape(name)}\b", text, re.MULTILINE):
                 statement = " ".join(re.split(rf"\n *{re.escape(name)}(?= .*=| *=)", text)[0].split())
-                yield Statement("lemma", f"{LAWS}: {module_of(path)}.{name}", "statement", statement)
+                yield ("lemma", f"{LAWS}: {module_of(path)}.{name}"), "statement", statement
 
 
 def exports():
@@ -132,20 +130,20 @@ def exports():
     for path in files("crates/*/src/lib.rt", "crates/vecmap/src/*.rt", "crates/*/*/Lib.antt"):
         for module, whole, group in PUBLIC_USE.findall(read(path)) if crate_of(path) not in HIDDEN else []:
             for name in re.findall(r"[^\s,:.]+(?=\s*(?:,|$))", group or module or whole):
-                yield Statement("export", f"{crate_of(path)}: {name}", path.split("/", 2)[2], "")
+                yield ("export", f"{crate_of(path)}: {name}"), path.split("/", 2)[2], ""
 
 
 def rows():
     """Yields the calls of the rows below each heading of the script, with the lines that set them up, and the notes."""
     for heading in headings(SCRIPT):
         thing = "rows", f"{heading.part}: {heading.text}"
-        yield from (Statement(*thing, "body", f"# body: {body}") for body in heading.notes["body"])
+        yield from ((thing, "body", f"# body: {body}") for body in heading.notes["body"])
         for row in heading.rows:
             call, *notes = (" ".join(part.split()) for part in row.text.split("|"))
             names, _, rest = call.partition(" ")
             parts = ["", *(f" | {it}" for it in notes)]
             for name in [names] if names == "entry" else names.split("/"):
-                yield from (Statement(*thing, "; ".join(row.begun), f"{name} {rest}{part}") for part in parts)
+                yield from ((thing, "; ".join(row.begun), f"{name} {rest}{part}") for part in parts)
 
 
 def tests():
@@ -160,7 +158,7 @@ def tests():
         for it in filter(lambda it: it.strip("}"), map(flat, re.split(r"(?<=[;{}])\n", text))):
             declared = DECLARED.search(it)
             name = (declared[1] or declared[2]) if declared else name
-            yield Statement("test", f"{crate_of(path)}: {name}", "", it)
+            yield ("test", f"{crate_of(path)}: {name}"), "", it
 
 
 def examples():
@@ -170,10 +168,10 @@ def examples():
         for name, text in [(os.path.basename(path), opening(path, "\n")), *docs]:
             lines = (line for block in text.split("```")[1::2] for line in block.splitlines()[1:])
             shown = (line for line in lines if line and not line.startswith("//"))
-            yield from (Statement("example", f"{crate_of(path)}: {name}", "", line) for line in shown)
+            yield from ((("example", f"{crate_of(path)}: {name}"), "", line) for line in shown)
     for path in files("crates/vecmap_examples/proofs/Definitions/*.antt"):
         for name, text in declarations(path).items():
-            yield Statement("example", f"vecmap_examples: {module_of(path)}.{name}", "", " ".join(text.split()))
+            yield ("example", f"vecmap_examples: {module_of(path)}.{name}"), "", " ".join(text.split())
 
 
 def lines():
@@ -182,14 +180,14 @@ def lines():
         for path in files(f"crates/*/{pattern}"):
             name = f"{crate_of(path)}: {os.path.basename(path).removesuffix('.edit')}"
             found = (line for line in read(path).splitlines() if re.match(form, line))
-            yield from (Statement(kind, name, "", line) for line in found if "vecmap_script: std" not in name)
+            yield from (((kind, name), "", line) for line in found if "vecmap_script: std" not in name)
 
 
 def lists():
     """Yields the mutants that something must reject, and the steps of the gate."""
-    yield from (Statement("list", "mutants", title, body) for title, body in mutants())
+    yield from ((("list", "mutants"), title, body) for title, body in mutants())
     steps = re.findall(r"^ *(?:for name in|step) ([\w -]+)", read(".ci/run"), re.MULTILINE)
-    yield from (Statement("list", "steps of .ci/run", "", name) for step in steps for name in step.split())
+    yield from ((("list", "steps of .ci/run"), "", name) for step in steps for name in step.split())
 
 
 READERS = (contracts, definition_lines, lemmas, exports, rows, tests, examples, lines, lists)
@@ -199,6 +197,6 @@ def state():
     """Returns all statements of the state at the current folder, by the kind and the name of their thing."""
     things = {}
     for reader in READERS:
-        for it in reader():
-            things.setdefault((it.kind, it.name), []).append((it.label, it.text))
+        for thing, label, text in reader():
+            things.setdefault(thing, []).append((label, text))
     return things
