@@ -11,11 +11,12 @@ import itertools
 import os
 import re
 import shutil
+import string
 import subprocess
 
 import rattle
 from made import DEFINED
-from rattle import LAWS, closing, dependencies, files, read, sources
+from rattle import LAWS, closing, dependencies, files, items, read, sources
 from laws_for import modules, public_paths  # on the path by `rattle`
 
 # The crate that stands for std.
@@ -68,12 +69,11 @@ def named(text, own=()):
 def members_of_traits():
     """Returns the trait of each member of a public trait, by each name for it in a clause, such as `Q.equivalent`."""
     found = {"eq": "std::cmp::PartialEq::eq"}
-    for module, text in ((it, text) for it, text in modules().items() if it.split("::")[0] in crates()):
-        for trait in re.finditer(r"^pub trait (\w+)", text, re.MULTILINE):
-            body = text[trait.end() : text.index("\n}", trait.start())]
-            path = next(iter(public_paths(f"{module}::{trait[1]}")), "")
-            found |= {it: path for it in MEMBER.findall(body) if path}
-    return {f"{chr(letter)}.{it}": path for letter in range(ord("A"), ord("Z") + 1) for it, path in found.items()}
+    for path in sources(*crates()):
+        module = re.sub(r"^crates/|src/|(/lib)?\.rt$", "", path).replace("/", "::")
+        for it in (it for it in items(path) if it.kind == "trait" and it.is_public):
+            found |= dict.fromkeys(MEMBER.findall(it.members), "".join(public_paths(f"{module}::{it.name}")[:1]))
+    return {f"{letter}.{it}": path for letter in string.ascii_uppercase for it, path in found.items() if path}
 
 
 def escaped(text):
