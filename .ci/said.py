@@ -9,7 +9,7 @@ import os
 import re
 
 from made import opening, owner_of, trait_and_type
-from rattle import LAWS, SCRIPT, crate_of, definitions, files, headings, items, mutants, read, sources
+from rattle import LAWS, SCRIPT, crate_of, definitions, dependencies, files, headings, items, mutants, read, sources
 
 # The kinds that users read: a change of one is named in CHANGELOG.
 CONTRACTS = ("call", "type", "impl", "definition", "lemma", "export")
@@ -54,7 +54,9 @@ def module_of(path):
 
 
 def title_of(item):
-    """Returns the name of a function with its type or trait, and that of a law with its module."""
+    """Returns the name of an item, of a function with its type or trait, and of a law with its module."""
+    if item.kind != "fn":
+        return item.name or item.text
     owner = owner_of(item).removeprefix("&").removeprefix("mut ")
     if crate_of(item.path) == LAWS:
         owner = item.path.split("/")[3].removesuffix(".rt")
@@ -91,7 +93,7 @@ def members_of(item):
 
 def contracts():
     """Yields what users see of the items of a crate. A type that is not public, and what it implements, they cannot name."""
-    for crate in {crate_of(path): path for path in sources()}.keys() - {*HIDDEN}:
+    for crate in dependencies().keys() - {*HIDDEN}:
         found = [it for path in sources(crate) for it in items(path)]
         types = [it for it in found if it.kind in ("struct", "enum", "trait", "type")]
         hidden = {it.name for it in types} - {it.name for it in types if it.is_public}
@@ -164,8 +166,7 @@ def tests():
 def examples():
     """Yields the lines of the examples in doc comments, by their item or file, and the lemmas on those of definitions."""
     for path in sources():
-        docs = [(title_of(it) if it.kind == "fn" else it.name or it.text, it.doc()) for it in items(path)]
-        for name, text in [(os.path.basename(path), opening(path, "\n")), *docs]:
+        for name, text in [(os.path.basename(path), opening(path, "\n")), *((title_of(it), it.doc()) for it in items(path))]:
             lines = (line for block in text.split("```")[1::2] for line in block.splitlines()[1:])
             shown = (line for line in lines if line and not line.startswith("//"))
             yield from ((("example", f"{crate_of(path)}: {name}"), "", line) for line in shown)
