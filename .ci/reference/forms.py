@@ -188,14 +188,14 @@ def block_form(text, start, names, crate):
 
 def topic_links(text, kind):
     """Returns the page of the topics of a map or set in which the name of each call and type is a link."""
-    home = "".join(map(read, sources(f"vecmap_{kind}")))
-    calls = set(re.findall(r"^    pub fn (\w+)", home, re.MULTILINE))
-    traits = re.findall(r"^pub trait (\w+)(.*?)^\}", home, re.MULTILINE | re.DOTALL)
-    types = set(re.findall(r"\w+", "".join(group for _, group in PASSED_ON.findall(text))))
-    made = {it: f"[`{it}`]" for it in types} | {it: f"[`{it}`](Vec{kind.title()}::{it})" for it in calls}
-    methods = ((trait, it) for trait, body in traits for it in re.findall(r"^    fn (\w+)", body, re.MULTILINE))
-    made |= {it: f"[`{it}`]({trait}::{it})" for trait, it in methods}
-    return re.sub(r"`(\w+)`", lambda it: made.get(it[1], it[0]), text)
+    made = {it: f"[`{it}`]" for _, group in PASSED_ON.findall(text) for it in re.findall(r"\w+", group)}
+    methods = {}
+    for it in (it for path in sources(f"vecmap_{kind}") for it in items(path) if it.kind == "fn"):
+        if it.is_public and it.impl:
+            made[it.name] = f"[`{it.name}`](Vec{kind.title()}::{it.name})"
+        elif trait := re.match(r"pub trait (\w+)", it.impl):
+            methods[it.name] = f"[`{it.name}`]({trait[1]}::{it.name})"
+    return re.sub(r"`(\w+)`", lambda it: (made | methods).get(it[1], it[0]), text)
 
 
 def rust_of(path, crate, module):
