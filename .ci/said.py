@@ -113,7 +113,8 @@ def definition_lines():
     """Yields the lines of each public definition, each below the one before it: their order matters."""
     for path in files("crates/*/specs/**/*.antt"):
         for it in definitions(path):
-            lines = [" ".join(re.sub("--.*", "", line).split()) for line in it.text.splitlines()]
+            lines = filter(str.strip, re.sub("--.*", "", it.text).splitlines())
+            lines = [" ".join(line.split()) for line in lines]
             thing = "definition", f"{crate_of(path)}: {module_of(path)}.{it.name}"
             yield from ((thing, "", f"{above}\n      {line}") for above, line in zip(["", *lines], lines))
 
