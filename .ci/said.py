@@ -92,7 +92,7 @@ def members_of(item):
 
 
 def contracts():
-    """Yields what users see of the items of a crate. A type that is not public, and what it implements, they cannot name."""
+    """Yields what users see of the items of crates. They see no type that is not public, and nothing of its impls."""
     for crate in dependencies().keys() - {*HIDDEN}:
         found = [it for path in sources(crate) for it in items(path)]
         types = [it for it in found if it.kind in ("struct", "enum", "trait", "type")]
@@ -150,7 +150,7 @@ def rows():
 
 
 def tests():
-    """Yields the statements of tests and of what is beside them, each by the name of the function or type that it is in."""
+    """Yields the statements of tests and of what is beside them, by the name of the function or type."""
     for path in sources():
         text, name = read(path), os.path.basename(path)
         if "#[test]" in text:
@@ -165,9 +165,10 @@ def tests():
 
 
 def examples():
-    """Yields the lines of the examples in doc comments, by their item or file, and the lemmas on those of definitions."""
+    """Yields the lines of the examples in doc comments, by item or file, and the lemmas on those of definitions."""
     for path in sources():
-        for name, text in [(os.path.basename(path), opening(path, "\n")), *((title_of(it), it.doc()) for it in items(path))]:
+        docs = [(title_of(it), it.doc()) for it in items(path)]
+        for name, text in [(os.path.basename(path), opening(path, "\n")), *docs]:
             lines = (line for block in text.split("```")[1::2] for line in block.splitlines()[1:])
             shown = (line for line in lines if line and not line.startswith("//"))
             yield from ((("example", f"{crate_of(path)}: {name}"), "", line) for line in shown)

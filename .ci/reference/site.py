@@ -86,7 +86,7 @@ def true_sources(out):
 def uses_in(out, own):
     """Returns the calls and the laws that name each definition: by its page, the page and place of each by its name."""
     users = collections.defaultdict(dict)
-    for page in (page for it in ("vecmap", "vecmap_base", "vecmap_laws") for page in pages_of(f"{out}/{it}/**/*.*.html")):
+    for page in (page for it in ("vecmap", "vecmap_base", LAWS) for page in pages_of(f"{out}/{it}/**/*.*.html")):
         name = item = os.path.basename(page).split(".")[1]
         place = ""
         for found in USE_OR_PLACE.finditer(read(page)):
