@@ -2,34 +2,32 @@
 
 import re
 
-from rattle import LAWS, LIBRARIES, depths, files, items, read, sources
+from rattle import LAWS, LIBRARIES, files, items, read, sources
 
 # The crates whose definitions users can meet, in the order of the page.
 DEFINED = [*LIBRARIES, LAWS]
 # The first sentence of a text. A `..` ends none, nor does a stop within backticks.
 SENTENCE = re.compile(r"(?:`[^`]*`|[^`])*?(?<!\.)\.(?=\s|$)|.*", re.DOTALL)
+# The head of an `impl`: its parameters, which may have bounds with parameters, the trait if there is one, and the type.
+IMPL = re.compile(r"impl(?:<(?:->|[^<>]|<(?:->|[^<>]|<[^<>]*>)*>)*>)? (?:(.*) for )?(.*?)(?: where.*)?")
 
 
-def opening(path):
-    """Returns the comment at the head of a file."""
-    found = re.match(r"((?:(?://!|--)[^\n]*\n)+)", read(path))
-    return " ".join(re.sub(r"^(?://!|--) ?", "", line) for line in found[1].splitlines())
+def opening(path, between=" "):
+    """Returns the comment at the head of a file, with something between its lines."""
+    found = re.match(r"(?:(?://!|--).*\n)*", read(path))
+    return between.join(re.sub(r"^(?://!|--) ?", "", line) for line in found[0].splitlines())
 
 
-def without_links(text):
-    """Returns a comment without the brackets and paths of its links."""
+def first_sentence(text):
+    """Returns the first sentence of a comment, without the brackets and paths of its links."""
+    text = " ".join(SENTENCE.match(text.split("\n\n")[0])[0].split())
     text = re.sub(r"\[(`[^`\]]+`)\](?:\([^)]*\))?", r"\1", text)
     return re.sub(r"`(?:VecMap|VecSet|Self|crate|vecmap_base)::(\w+)`", r"`\1`", text)
 
 
-def first_sentence(text):
-    """Returns the first sentence of a comment."""
-    return without_links(" ".join(SENTENCE.match(text.split("\n\n")[0])[0].split()))
-
-
 def plain_type(text):
     """Returns a type or a trait without lifetimes and paths."""
-    text = re.sub(r"'\w+ ?", "", text).replace("<, ", "<")
+    text = re.sub(r"'\w+ ?", "", text or "").replace("<, ", "<")
     text = re.sub(r"\b(?:fmt|sealed)::", "", " ".join(text.split()))
     return re.sub(r"<(?:_|, )*>", "", text).strip()
 
@@ -38,16 +36,13 @@ def trait_and_type(head):
     """Returns the trait, if there is one, and the type of the head of an `impl` or of a trait."""
     if trait := re.match(r"(?:pub )?trait (\w+)", head):
         return "", trait[1]
-    text = head.removeprefix("impl").split(" where")[0]
-    closed = [at for at, depth in enumerate(depths(text.replace("->", "  "), "<", ">")) if depth == 0]
-    trait, _, of = text[closed[0] + 1 :].rpartition(" for ")
-    return plain_type(trait), plain_type(of)
+    return tuple(map(plain_type, IMPL.fullmatch(head).groups()))
 
 
 def owner_of(item):
     """Returns the name of the type or trait of an item, or nothing."""
     head = item.text if item.kind == "impl" else item.impl
-    return re.sub(r"<.*", "", trait_and_type(head)[1]) if head else ""
+    return trait_and_type(head)[1].split("<")[0] if head else ""
 
 
 def listed(path):
@@ -71,16 +66,14 @@ def uncommented():
 def call_entry(item, of):
     """Returns the entry of a call or a type: its name, and the first sentence of its comment."""
     owner = owner_of(item) if item.kind == "fn" else ""
-    name = f"{item.name}!" if item.kind == "macro_rules!" else item.name
-    if owner not in ("", of):
-        name = f"{owner}::{name}"
-    return f"- `{name}`: {first_sentence(item.doc())}"
+    name = f"{owner}::{item.name}" if owner not in ("", of) else item.name
+    return f"- `{name}{'!' * (item.kind == 'macro_rules!')}`: {first_sentence(item.doc())}"
 
 
 def topics(page, home):
     """Yields the topics of `map.rt` or `set.rt`, each with its files."""
     for topic in opening(page).split(" - ")[1:]:
-        title = re.split(r"(?<!:):(?!:)", topic)[0].replace("`", "") if re.match(r"[\w ]+:", topic) else "the rest"
+        title = re.match(r"([\w ]+):|", topic)[1] or "the rest"
         paths = []
         for name in re.findall(r"`(?:crates/vecmap_base/src/)?([\w/]+\.rt|lazy/)`", topic):
             pattern = f"{name}*.rt" if name.endswith("/") else name
@@ -90,12 +83,12 @@ def topics(page, home):
 
 def section(title, paths, of=""):
     """Returns a heading, and below it the calls and types of some files, and which traits the types implement."""
-    found, traits = [it for path in paths for it in listed(path)], {}
-    for item in (it for it in found if it.kind == "impl"):
+    found, traits = {path: listed(path) for path in paths}, {}
+    made = [call_entry(it, of) for path in paths for it in found[path] if it.kind != "impl"]
+    for item in (it for path in paths for it in found[path] if it.kind == "impl"):
         traits.setdefault(owner_of(item), {})[f"`{trait_and_type(item.text)[0]}`"] = None
-    made = [call_entry(it, of) for it in found if it.kind != "impl"]
     made += [f"- Traits of `{it}`: {', '.join(names)}" for it, names in traits.items()]
-    homes = ", ".join(f"[`{path.split('/src/')[1]}`](../{path})" for path in paths if listed(path))
+    homes = ", ".join(f"[`{path.split('/src/')[1]}`](../{path})" for path in paths if found[path])
     return "\n".join([f"### {title}\n", f"{homes}\n", *made, ""]) if made else ""
 
 
@@ -105,10 +98,10 @@ def call_page(page):
     What the page says before its first section is by hand.
     """
     made, seen = [read(page).split("\n## ")[0]], set()
-    for kind, of in (("map", "VecMap"), ("set", "VecSet")):
-        made.append(f"## {kind.title()}s\n")
-        for title, paths in topics(f"crates/vecmap/src/{kind}.rt", f"crates/vecmap_{kind}/src"):
-            made.append(section(title, [path for path in paths if path not in seen], of))
+    for kind in ("Map", "Set"):
+        made.append(f"## {kind}s\n")
+        for title, paths in topics(f"crates/vecmap/src/{kind.lower()}.rt", f"crates/vecmap_{kind.lower()}/src"):
+            made.append(section(title, [path for path in paths if path not in seen], f"Vec{kind}"))
             seen |= set(paths)
     made.append("## Runs, macros, and functions over slices and vectors\n")
     for crate in ("vecmap", "vecmap_map", "vecmap_set", "vecmap_base"):

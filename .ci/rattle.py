@@ -7,7 +7,6 @@ first line.
 import collections
 import difflib
 import glob
-import itertools
 import os
 import re
 import sys
@@ -21,18 +20,33 @@ TEXTS = ("crates/**/*.rt", "crates/**/*.antt")
 LIBRARIES = ["vecmap_base", "vecmap_map", "vecmap_set", "vecmap"]
 LAWS = "vecmap_laws"
 WRITES = sys.argv[1:2] == ["--write"]
-KINDS = "fn|impl|struct|enum|trait|type|macro_rules!"
-ITEM = re.compile(rf"( *)(pub(?:\(\w+\))? )?(?:const |unsafe )*({KINDS})(?=[ <]) ?(\w*)")
+# The comments and attributes of an item, its first words, and the rest: lines up to one that ends a statement or has
+# an empty body, or that opens a block, which ends at a brace with the indentation of the item.
+ITEM = re.compile(
+    r"(?P<comment>(?:^ *(?://|#\[).*\n)*)"
+    r"^(?P<indent> *)(?P<scope>pub(?:\(\w+\))? )?(?:const |unsafe )*"
+    r"(?P<kind>fn|impl|struct|enum|trait|type|macro_rules!)(?=[ <]) ?(?P<name>\w*)"
+    r"(?:.*(?<![{;])(?<!\{\})\n)*?"
+    r"(?:.*(?:;|\{\})|.*\{\n(?:.*\n)*?(?P=indent)\})$",
+    re.MULTILINE,
+)
 CLAUSE = re.compile(r"(requires|ensures)\*? (?:(\w+) )?\{")
 MEMBER = re.compile(r"^    ghost (\w+) = \{", re.MULTILINE)
-DEFINITION = re.compile(r"^ *(?:abbrev pub|unfoldable pub|pub record|pub data) (\S+)", re.MULTILINE)
+# The comment of a public definition, its indentation, its name, and the rest: lines up to an empty one.
+DEFINITION = re.compile(
+    r"((?:^ *-- .*\n)*)^( *)(?:abbrev pub|(?:unfoldable )?pub(?: record| data)?) (?!mod |use )([\w']+) "
+    r".*\n(?:.*\S.*(?:\n|\Z))*",
+    re.MULTILINE,
+)
 NAME = re.compile(r"[A-Za-z_][\w']*")
 # A brace, or what may have one that counts for nothing.
 BRACE = re.compile(r"//.*|\"(?:[^\"\\]|\\.)*\"|'(?:[^'\\]|\\.)'|[{}]")
 # A clause of a contract. A ghost member of an impl is one, too.
 Clause = collections.namedtuple("Clause", "kind label formula")
-# A block of code: the line that opens it, the words there, its lines, and whether it is in a comment `//!` of a file.
-Block = collections.namedtuple("Block", "line mark lines is_of_file")
+# A definition: its line, its name, the lines of its comment, and its text, which begins with its module if it has one.
+Definition = collections.namedtuple("Definition", "line name comment text")
+# A block of code: the line that opens it, the words there, and its lines.
+Block = collections.namedtuple("Block", "line mark lines")
 # The script of the test cases.
 SCRIPT = "crates/vecmap_script/stdin"
 # A heading of a script: its part, its text, the texts of the lines `# body:` and `# shows:` below it, and its rows.
@@ -55,17 +69,21 @@ def compared(path, made):
     """Says in two lines where a file differs from what the sources make of it, or writes it."""
     if WRITES:
         write(path, made)
-    if WRITES or read(path) == made:
-        return []
-    changes = list(difflib.unified_diff(read(path).splitlines(), made.splitlines(), lineterm="", n=0))
-    lines = [f"{path}: {line}" for line in changes[2:] if not line.startswith("@@")]
-    return [*lines[:2], f"{path}: differs from the sources (.ci/{os.path.basename(sys.argv[0])} --write)"]
+    changes = list(difflib.unified_diff(read(path).splitlines(), made.splitlines(), path, "made", "", "", 0, ""))
+    by = f"{path}: differs from the sources (.ci/{os.path.basename(sys.argv[0])} --write)"
+    return [*changes[3:5], by] if changes else []
 
 
 def table_rows(text):
     """Returns the cells of each row of the tables of a text. The first two rows of a table are its head and a line."""
     rows = (re.split(r"(?<!\\)\|", line)[1:-1] for line in text.splitlines() if line.startswith("|"))
     return [[cell.strip() for cell in row] for row in rows]
+
+
+def table(rows):
+    """Returns a table of some rows, the first of which is its head."""
+    first, *rest = ("| " + " | ".join(map(str, row)) + " |\n" for row in rows)
+    return first.replace("|  |", "| |") + "|---" * len(rows[0]) + "|\n" + "".join(rest)
 
 
 def mutants():
@@ -106,6 +124,19 @@ def dependencies():
     return {name: needs.split() for name, needs in lines}
 
 
+def definitions(path):
+    """Returns the public definitions of a file."""
+    text, made = read(path), []
+    for found in DEFINITION.finditer(text):
+        comment, indent, name = found.groups()
+        start = found.start(2)
+        lines = [line.strip()[3:] for line in comment.splitlines()]
+        module = re.findall("^module .*", text[:start], re.MULTILINE)[-1:] if indent else []
+        whole = [*module, text[start : found.end()].rstrip("\n")]
+        made.append(Definition(text.count("\n", 0, start), name, lines, "\n".join(whole)))
+    return made
+
+
 def crate_of(path):
     """Returns the crate of a file."""
     return path.split("/")[1]
@@ -128,8 +159,7 @@ class Item(collections.namedtuple("Item", "path line kind name is_public impl me
 
     def doc(self):
         """Returns the doc comment."""
-        lines = map(str.strip, self.comment.splitlines())
-        return "\n".join(line.removeprefix("///").removeprefix(" ") for line in lines if line.startswith("///"))
+        return "\n".join(re.findall(r"^ */// ?(.*)", self.comment, re.MULTILINE))
 
     def is_call(self):
         """Returns whether others can call the function: it is public, or a method of a trait."""
@@ -142,14 +172,9 @@ class Item(collections.namedtuple("Item", "path line kind name is_public impl me
     def clauses(self):
         """Returns the clauses of a function's contract, and the ghost members of its impl that stand before it."""
         head = re.sub(r"//.*", "", self.head())
-        made = [Clause(found[1], found[2] or "", braced(head[found.end() :])) for found in CLAUSE.finditer(head)]
+        made = [Clause(found[1], found[2] or "", braced(head, found.end())) for found in CLAUSE.finditer(head)]
         ghosts = MEMBER.finditer(self.members)
-        return made + [Clause("ghost", found[1], braced(self.members[found.end() :])) for found in ghosts]
-
-
-def depths(text, opening, closing):
-    """Returns for each letter of a text how many brackets are open after it."""
-    return itertools.accumulate((letter in opening) - (letter in closing) for letter in text)
+        return made + [Clause("ghost", found[1], braced(self.members, found.end())) for found in ghosts]
 
 
 def closing(text, at=0):
@@ -162,62 +187,48 @@ def closing(text, at=0):
     raise ValueError(f"a brace is open: {text[at : at + 80]}")
 
 
-def braced(text):
-    """Returns a text up to the brace that closes the one before it, on one line."""
-    return " ".join(text[: closing(text) - 1].split())
-
-
-def end_of(lines, at, indent):
-    """Returns the last line of the item that begins at a line."""
-    is_open = False
-    for number, line in enumerate(lines[at:], at):
-        if line in (f"{indent}}}", f"{indent}{{}}") or (not is_open and line.endswith(("{}", ";"))):
-            return number
-        is_open = is_open or line.endswith("{")
-    return at
+def braced(text, at):
+    """Returns a text from a place behind a brace to the brace that closes it, on one line."""
+    return " ".join(text[at : closing(text, at) - 1].split())
 
 
 def items(path):
     """Yields the items of a source, in order, and those of impls and of traits."""
-    lines, impl, start, above, last = read(path).splitlines(), "", 0, 0, -1
-    for at, line in enumerate(lines):
-        if at <= last:
+    text, owner, start, at = read(path), "", 0, 0
+    while found := ITEM.search(text, at):
+        comment, indent, scope, kind, name = found.groups()
+        first = found.start("indent")
+        whole, members = text[first : found.end()], text[start:first] if indent else ""
+        at = found.end() if kind == "fn" else text.index("\n", first)
+        if indent and kind != "fn":
             continue
-        if (found := ITEM.match(line)) and (found[3] == "fn" or not found[1]):
-            indent, scope, kind, name = found.groups()
-            end_line = end_of(lines, at, indent)
-            text = "\n".join(lines[at : end_line + 1])
-            owner, members = (impl, "\n".join(lines[start:at])) if indent else ("", "")
-            if kind in ("impl", "trait"):
-                start, members = at, text
-                text = impl = " ".join(text.split("{")[0].split())
-            yield Item(path, at + 1, kind, name, scope == "pub ", owner, members, "\n".join(lines[above:at]), text)
-            last = end_line if kind == "fn" else last
-        if not re.match(r" *(//|#\[)", line):
-            above = max(at, last) + 1
+        if kind in ("impl", "trait"):
+            start, members = first, whole
+            whole = owner = " ".join(whole.split("{")[0].split())
+        line = text.count("\n", 0, first) + 1
+        yield Item(path, line, kind, name, scope == "pub ", owner if indent else "", members, comment, whole)
 
 
-def functions(path):
-    """Returns the functions of a source."""
-    return [it for it in items(path) if it.kind == "fn"]
+def functions(*paths):
+    """Returns the functions of some sources."""
+    return [it for path in paths for it in items(path) if it.kind == "fn"]
 
 
 def blocks(path):
     """Yields the blocks of code of a page, or of the doc comments of a source."""
     block = None
     for number, line in enumerate(read(path).splitlines(), 1):
-        comment = re.match(r" *//([/!]) ?(.*)", line) if path.endswith(".rt") else None
-        line = comment[2] if comment else line
+        line = re.sub(r"^ *//[/!] ?", "", line) if path.endswith(".rt") else line
         if line.startswith("```"):
             yield from [block] if block else []
-            block = None if block else Block(number, line[3:], [], bool(comment) and comment[1] == "!")
+            block = None if block else Block(number, line[3:], [])
         elif block:
             block.lines.append(line)
 
 
 def tests():
     """Returns all tests."""
-    return [it for path in sources() for it in functions(path) if it.is_test()]
+    return [it for it in functions(*sources()) if it.is_test()]
 
 
 def laws():
@@ -237,13 +248,6 @@ def is_set_up(line):
     return line.split(" ")[0] in ("map", "repeats", "set", "spare", "other", "swap", "again", "clones_fail")
 
 
-def begun_by(line, begun):
-    """Returns the lines that set the collections up, after one more of them."""
-    if line == "again":
-        return [it for it in begun if it != "swap"]
-    return [line] if line.split(" ")[0] in ("map", "repeats", "set") else [*begun, line]
-
-
 def headings(path):
     """Returns the headings of a script, in order. A note without a heading makes one without rows."""
     part, heading, found, begun = "", None, [], []
@@ -253,12 +257,12 @@ def headings(path):
             part = section[1]
         elif line.startswith("# ") and not (heading and note):
             text = f'no heading above "{line}"' if note else line[2:]
-            heading, begun = Heading(part, text, {"body": [], "shows": []}, []), []
+            heading = Heading(part, text, {"body": [], "shows": []}, [])
             found.append(heading)
         elif note:
             heading.notes[note[1]].append(note[2])
         elif is_set_up(line):
-            begun = begun_by(line, begun)
+            begun = [line] if line.split(" ")[0] in ("map", "repeats", "set") else [*begun, line]
         elif line and heading:
             heading.rows.append(Row(line, begun))
         else:

@@ -11,10 +11,12 @@ import itertools
 import os
 import re
 import shutil
+import string
 import subprocess
 
+import rattle
 from made import DEFINED
-from rattle import LAWS, closing, dependencies, files, read, sources
+from rattle import LAWS, closing, dependencies, files, items, read, sources
 from laws_for import modules, public_paths  # on the path by `rattle`
 
 # The crate that stands for std.
@@ -31,7 +33,6 @@ MODULES = re.compile(r"(?:^(?:pub )?mod \w+;\n)+", re.MULTILINE)
 MACRO = re.compile(r"^macro_rules!.*?^\}", re.MULTILINE | re.DOTALL)
 PASSED_ON = re.compile(r"^pub use ([\w:]+)::\{([^}]*)\};", re.MULTILINE)
 PASSED_DEFINITIONS = re.compile(r"^pub use Rattle\.(\w+)\.specs\.(\w+)(?: as (\w+))?$", re.MULTILINE)
-DEFINITION = re.compile(r"( *)(?:abbrev pub|(?:unfoldable )?pub(?: record| data)?) (?!mod |use )([\w']+)(?= )")
 # What stands before the formula of a line, in which no name is a link.
 LABEL = re.compile(r" *(?:(?:requires|ensures)\*?(?: \w+)?(?= \{)|ghost \w+|//.*|--.*)?")
 # A name, or the member of a type parameter, as in `K.eq`.
@@ -68,12 +69,11 @@ def named(text, own=()):
 def members_of_traits():
     """Returns the trait of each member of a public trait, by each name for it in a clause, such as `Q.equivalent`."""
     found = {"eq": "std::cmp::PartialEq::eq"}
-    for module, text in ((it, text) for it, text in modules().items() if it.split("::")[0] in crates()):
-        for trait in re.finditer(r"^pub trait (\w+)", text, re.MULTILINE):
-            body = text[trait.end() : text.index("\n}", trait.start())]
-            path = next(iter(public_paths(f"{module}::{trait[1]}")), "")
-            found |= {it: path for it in MEMBER.findall(body) if path}
-    return {f"{chr(letter)}.{it}": path for letter in range(ord("A"), ord("Z") + 1) for it, path in found.items()}
+    for path in sources(*crates()):
+        module = re.sub(r"^crates/|src/|(/lib)?\.rt$", "", path).replace("/", "::")
+        for it in (it for it in items(path) if it.kind == "trait" and it.is_public):
+            found |= dict.fromkeys(MEMBER.findall(it.members), "".join(public_paths(f"{module}::{it.name}")[:1]))
+    return {f"{letter}.{it}": path for letter in string.ascii_uppercase for it, path in found.items() if path}
 
 
 def escaped(text):
@@ -188,14 +188,14 @@ def block_form(text, start, names, crate):
 
 def topic_links(text, kind):
     """Returns the page of the topics of a map or set in which the name of each call and type is a link."""
-    home = "".join(map(read, sources(f"vecmap_{kind}")))
-    calls = set(re.findall(r"^    pub fn (\w+)", home, re.MULTILINE))
-    traits = re.findall(r"^pub trait (\w+)(.*?)^\}", home, re.MULTILINE | re.DOTALL)
-    types = set(re.findall(r"\w+", "".join(group for _, group in PASSED_ON.findall(text))))
-    made = {it: f"[`{it}`]" for it in types} | {it: f"[`{it}`](Vec{kind.title()}::{it})" for it in calls}
-    methods = ((trait, it) for trait, body in traits for it in re.findall(r"^    fn (\w+)", body, re.MULTILINE))
-    made |= {it: f"[`{it}`]({trait}::{it})" for trait, it in methods}
-    return re.sub(r"`(\w+)`", lambda it: made.get(it[1], it[0]), text)
+    made = {it: f"[`{it}`]" for _, group in PASSED_ON.findall(text) for it in re.findall(r"\w+", group)}
+    methods = {}
+    for it in (it for path in sources(f"vecmap_{kind}") for it in items(path) if it.kind == "fn"):
+        if it.is_public and it.impl:
+            made[it.name] = f"[`{it.name}`](Vec{kind.title()}::{it.name})"
+        elif trait := re.match(r"pub trait (\w+)", it.impl):
+            methods[it.name] = f"[`{it.name}`]({trait[1]}::{it.name})"
+    return re.sub(r"`(\w+)`", lambda it: (made | methods).get(it[1], it[0]), text)
 
 
 def rust_of(path, crate, module):
@@ -220,16 +220,8 @@ def rust_of(path, crate, module):
 
 @functools.cache
 def definitions(path):
-    """Returns the definitions of a file: for each its line, its name, its comment, and its text."""
-    lines, module, end, made = read(path).splitlines(), "", 0, []
-    for number, line in enumerate(lines):
-        module = line if line.startswith("module ") else module
-        if (found := DEFINITION.match(line)) and number >= end:
-            end = next((it for it in range(number, len(lines)) if not lines[it].strip()), len(lines))
-            start = next(it for it in range(number, -1, -1) if not it or not lines[it - 1].lstrip().startswith("-- "))
-            comment = [it.strip()[3:] for it in lines[start:number]]
-            made.append((number, found[2], comment, "\n".join([module] * bool(found[1]) + lines[number:end])))
-    return made
+    """Returns the public definitions of a file, of which the kit's have many."""
+    return rattle.definitions(path)
 
 
 def constant(name, comment, text, path, names, crate):

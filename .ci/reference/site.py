@@ -10,10 +10,10 @@ import subprocess
 import tempfile
 import urllib.parse
 
-from made import first_sentence, listed, opening, uncommented
-from rattle import LAWS, LIBRARIES, NAME, functions, laws, read, sources, write
+from made import first_sentence, listed, opening
+from rattle import LAWS, LIBRARIES, read, sources, write
 from reference.forms import (
-    FILES, KNOWN, PASSED_ON, STD, crates, definition_form, definitions, imported, module_of, module_tree, passed_on,
+    FILES, KNOWN, PASSED_ON, STD, crates, definition_form, definitions, module_of, module_tree, passed_on,
     passing_on, rust_of, specs, words_of_std,
 )  # fmt: skip
 
@@ -21,45 +21,18 @@ HERE = os.path.dirname(os.path.abspath(__file__))
 OLDEST = 1, 95
 # The lints of rustdoc that must find nothing.
 DENIED = ["missing_docs", *(f"rustdoc::{it}" for it in ("broken_intra_doc_links", "invalid_html_tags", "bare_urls"))]
+# The place of a call or an impl on a page, or a link to a definition.
+USE_OR_PLACE = re.compile(r' id="((?:ty)?method\.|impl-)([^"]+)"|href="([^"#]*constant\.[^"#]*)"')
 UNSTABLE = ["-Zunstable-options", "-Zcrate-attr=feature(allocator_api, lazy_type_alias)", "-Aincomplete_features"]
-# Names of the logic that no file imports.
-LOGIC = set("case else if in let of record result self Self then tt None Some Ok Err usize isize".split())
-LOGIC |= {f"{sign}{bits}" for sign in "ui" for bits in (8, 16, 32, 64, 128)}
-# A name in a clause, and those that the clause binds.
-WORD = re.compile(r"(?<![\w.'◌])[A-Za-z][\w']*")
-BOUND = re.compile(r"λ ([^.]*)\.|[({]([^(){}:]*) : |[{;] (\w+) = |\{(\w+) = ")
 
 
 def missing_tool():
     """Says why rustdoc cannot make the site here, or nothing."""
-    for tool in filter(shutil.which, ("rustdoc", "rustc")):
-        ran = subprocess.run([tool, "--version"], capture_output=True, text=True, check=False)
-        found = re.match(r"\w+ (\d+)\.(\d+)", ran.stdout)
-        if not found or tuple(map(int, found.groups())) < OLDEST:
-            return f"rustdoc of Rust 1.95 or later is needed, and `{tool} --version` prints {ran.stdout.strip()}"
+    for tool in ("rustdoc", "rustc") if shutil.which("rustdoc") else ():
+        printed = subprocess.run([tool, "--version"], capture_output=True, text=True, check=False).stdout
+        if tuple(map(int, re.findall(r"\d+", printed)[:2])) < OLDEST:
+            return f"rustdoc of Rust 1.95 or later is needed, and `{tool} --version` prints {printed.strip()}"
     return "" if shutil.which("rustdoc") else "rustdoc of Rust 1.95 or later is needed, and is not on the path"
-
-
-def bound(clause):
-    """Returns the names that a clause binds."""
-    return {it for groups in BOUND.findall(clause) for group in groups for it in NAME.findall(group)}
-
-
-def name_faults():
-    """Says which names of clauses no definition has, and which definitions are imported that are nowhere."""
-    for path in sources(*crates()):
-        text = read(path)
-        for name, it in imported(text):
-            if re.match(rf"(?:{'|'.join(crates())})::specs::(?!declared)", it) and it not in KNOWN:
-                yield f"{path}: imports {name}, which no definition has"
-        # Modules and members that the file names, and what its ghost members and headers bind.
-        known = LOGIC.union(*(NAME.findall(it) for it in re.findall(r"ghost (?:use [^;]*|\w+)", text)))
-        for item in functions(path):
-            here = known.union(NAME.findall(item.signature() + item.impl))
-            for clause in item.clauses():
-                formula = re.sub("⟦.*?⟧", "", clause.formula)
-                rest = [it for it in WORD.findall(formula) if it not in here | bound(formula)]
-                yield from (f"{path}:{item.line}: a clause names {it}, which no definition has" for it in rest)
 
 
 def build(crate, root, needs, work, out):
@@ -110,26 +83,31 @@ def true_sources(out):
         replaced(f"{out}/src/{made}.html", start, end, start + "".join(lines) + end)
 
 
-def named_in(out):
-    """Writes to the page of each definition the calls and the laws that name it, and calls it a definition."""
+def uses_in(out, own):
+    """Returns the calls and the laws that name each definition: by its page, the page and place of each by its name."""
     users = collections.defaultdict(dict)
-    at = re.compile(r' id="((?:ty)?method\.|impl-)([^"]+)"|href="([^"#]*constant\.[^"#]*)"')
-    own = {public.replace("::", "/"): it.replace("::", "/") for crate in crates() for public, it in passed_on(crate)}
-    key = lambda path: re.sub(r"^\w+/specs/\w+", lambda it: own.get(it[0], it[0]), os.path.relpath(path, out))
-    homes = [f"{out}/{it}/**/*.*.html" for it in ("vecmap", "vecmap_base", "vecmap_laws")]
-    for page in (page for home in homes for page in pages_of(home)):
+    for page in (page for it in ("vecmap", "vecmap_base", LAWS) for page in pages_of(f"{out}/{it}/**/*.*.html")):
         name = item = os.path.basename(page).split(".")[1]
         place = ""
-        for found in at.finditer(read(page)):
-            target = key(os.path.join(os.path.dirname(page), found[3] or ""))
-            if found[3] and target != key(page):
-                users[target].setdefault(name, page + place)
-            elif found[1]:
-                words, place = urllib.parse.unquote(found[2]), f"#{found[1]}{found[2]}"
-                name = words.replace("-for-", " for ") if found[1] == "impl-" else f"{item}::{words}"
-                name = re.sub(r"-\d+$", "", name).replace("+", " ")
+        for found in USE_OR_PLACE.finditer(read(page)):
+            if found[3]:
+                target = own(os.path.join(os.path.dirname(page), found[3]))
+                if target != own(page):
+                    users[target].setdefault(name, page + place)
+                continue
+            words, place = urllib.parse.unquote(found[2]), f"#{found[1]}{found[2]}"
+            name = words.replace("-for-", " for ") if found[1] == "impl-" else f"{item}::{words}"
+            name = re.sub(r"-\d+$", "", name).replace("+", " ")
+    return users
+
+
+def named_in(out):
+    """Writes to the page of each definition the calls and the laws that name it, and calls it a definition."""
+    homes = {public.replace("::", "/"): it.replace("::", "/") for crate in crates() for public, it in passed_on(crate)}
+    own = lambda path: re.sub(r"^\w+/specs/\w+", lambda it: homes.get(it[0], it[0]), os.path.relpath(path, out))
+    users = uses_in(out, own)
     for path in [*pages_of(f"{out}/*/specs/**/*.html"), *pages_of(f"{out}/static.files/[ms]*.js")]:
-        links = [(name, os.path.relpath(it, os.path.dirname(path))) for name, it in users[key(path)].items()]
+        links = [(name, os.path.relpath(it, os.path.dirname(path))) for name, it in users[own(path)].items()]
         links = "".join(f'<li><a href="{it}"><code>{html.escape(name)}</code></a></li>' for name, it in links)
         section = f'<h2 class="section-header">Named in</h2><ul class="named-in">{links}</ul>' if links else ""
         text = re.sub(r'(?:(?<=<h1>)|(?<=[>"]))Constant(?=[ s])', "Definition", read(path))
@@ -154,21 +132,18 @@ def plain(text):
 
 def link_faults(out):
     """Says which links within the site lead nowhere."""
-    places, links = {}, []
-    for page in pages_of(f"{out}/**/*.html"):
-        text = read(page)
-        places[page] = {html.unescape(it) for it in re.findall(r' id="?([^" >]+)', text)}
-        links += [(page, it) for it in dict.fromkeys(re.findall(r' href="?(?!\w+:)([^" >]+)', text))]
-    for page, target in links:
-        path, _, anchor = html.unescape(target).partition("#")
-        file = os.path.normpath(os.path.join(os.path.dirname(page), path.split("?")[0])) if path else page
-        there = places.get(file, set() if os.path.exists(file) else None)
-        lost = anchor and file in places and not {anchor, urllib.parse.unquote(anchor), anchor.split("-")[0]} & there
-        if there is None or lost:
-            yield f"reference: {os.path.relpath(page, out)} has the link {target}, which leads nowhere"
+    texts = {page: read(page) for page in pages_of(f"{out}/**/*.html")}
+    places = {page: {html.unescape(it) for it in re.findall(r' id="?([^" >]+)', text)} for page, text in texts.items()}
+    for page, text in texts.items():
+        for target in dict.fromkeys(re.findall(r' href="?(?!\w+:)([^" >]+)', text)):
+            path, _, anchor = html.unescape(target).partition("#")
+            file = os.path.normpath(os.path.join(os.path.dirname(page), path.split("?")[0])) if path else page
+            names = {anchor, urllib.parse.unquote(anchor), anchor.split("-")[0]}
+            if not os.path.exists(file) or anchor and file in places and not names & places[file]:
+                yield f"reference: {os.path.relpath(page, out)} has the link {target}, which leads nowhere"
 
 
-def lost_faults(out, found):
+def lost_faults(out):
     """Says which calls, clauses and definitions of the sources are not on the site."""
     for crate in crates():
         pages = {page: read(page) for page in pages_of(f"{out}/{crate}/**/*.html")}
@@ -177,20 +152,14 @@ def lost_faults(out, found):
         names = set(re.findall(r' id="(?:ty)?method\.(\w+)', "".join(pages.values())))
         names.update(re.findall(r"/(?:fn|macro)\.(\w+)\.html", "\n".join(pages)))
         for item in (it for path in sources(crate) for it in listed(path) if it.kind in ("fn", "macro_rules!")):
-            found["calls"] += 1
-            if item.name not in names:
-                yield f"{item.path}:{item.line}: {item.name} is not on the site"
+            yield from [] if item.name in names else [f"{item.path}:{item.line}: {item.name} is not on the site"]
             clauses = item.clauses() if item.kind == "fn" else []
             wanted.update(f"{it.label}{'=' * (it.kind == 'ghost')}{{{it.formula}}}" for it in clauses)
-        found["clauses"] += wanted.total()
-        for clause, times in wanted.items():
-            if shown.count("".join(clause.split())) < times:
-                yield f"{crate}: a clause `{clause}` is not on the site"
-        for path in specs(crate):
-            for _, name, *_ in definitions(path):
-                found["definitions"] += 1
-                if f"{out}/{module_of(path).replace('::', '/')}/constant.{name}.html" not in pages:
-                    yield f"{path}: {name} is not on the site"
+        lost = (it for it, times in wanted.items() if shown.count("".join(it.split())) < times)
+        yield from (f"{crate}: a clause `{it}` is not on the site" for it in lost)
+        for path, name in ((path, it[1]) for path in specs(crate) for it in definitions(path)):
+            if f"{out}/{module_of(path).replace('::', '/')}/constant.{name}.html" not in pages:
+                yield f"{path}: {name} is not on the site"
 
 
 def pages_of(pattern):
@@ -198,18 +167,22 @@ def pages_of(pattern):
     return sorted(glob.glob(pattern, recursive=True))
 
 
-def make(work, out):
-    """Makes the forms in one folder and the site in another. Returns the faults, and the numbers of what is on it."""
-    words = words_of_std()
+def learn(words):
+    """Keeps what each definition says, by its path: those of std, of each crate, and those that a crate passes on."""
     for module, found in words.items():
         KNOWN.update((f"std::specs::{module}::{name}", "".join(it[0][-1:])) for name, it in found.items())
     for crate in crates():
         for path in specs(crate):
             KNOWN.update((f"{module_of(path)}::{it[1]}", "".join(it[2][-1:])) for it in definitions(path))
-        KNOWN.update((f"{public}::{name.split('::')[-1]}", KNOWN[name])
-                     for public, own in passed_on(crate) for name in list(KNOWN) if name.startswith(f"{own}::"))
-    if faults := [*name_faults(), *uncommented()]:
-        return faults, {}
+        for public, own in passed_on(crate):
+            found = {name.removeprefix(own): KNOWN[name] for name in KNOWN if name.startswith(f"{own}::")}
+            KNOWN.update((public + name, it) for name, it in found.items())
+
+
+def make(work, out):
+    """Makes the forms in one folder and the site in another. Returns the faults."""
+    words = words_of_std()
+    learn(words)
     write(f"{work}/{STD}/lib.rs", read(f"{HERE}/std.rs") + f"pub mod specs {{\n{module_tree(words)}}}\n")
     build(STD, f"{STD}/lib.rs", [], work, out)
     for crate, needs in crates().items():
@@ -218,26 +191,19 @@ def make(work, out):
     true_sources(out)
     named_in(out)
     write_front(out)
-    found = collections.Counter(laws=len(list(laws())))
-    return [*lost_faults(out, found), *link_faults(out)], found
+    return [*lost_faults(out), *link_faults(out)]
 
 
 def main(folder):
-    """Makes the site in a folder that is empty, or has an older one. Returns the status."""
-    why, made = missing_tool(), f"{folder}.made"
+    """Makes the site in a folder that is empty, or has an older one. Returns why it cannot, or nothing."""
     if os.path.isdir(folder) and os.listdir(folder) and not os.path.isdir(f"{folder}/static.files"):
-        why = f"{folder} has something else than a reference"
-    if why:
-        print(f"reference: {why}")
-        return 1
-    try:
-        with tempfile.TemporaryDirectory() as work:
-            faults, found = make(work, made)
+        return f"reference: {folder} has something else than a reference"
+    if why := missing_tool():
+        return f"reference: {why}"
+    with tempfile.TemporaryDirectory() as work:
+        faults = make(f"{work}/forms", f"{work}/site")
         if not faults:
             shutil.rmtree(folder, ignore_errors=True)
-            os.rename(made, folder)
-    finally:
-        shutil.rmtree(made, ignore_errors=True)
-    numbers = ", ".join(f"{number} {it}" for it, number in found.items())
-    print(*faults or [f"reference: {numbers}", f"Open {folder}/index.html"], sep="\n")
-    return 1 if faults else 0
+            shutil.move(f"{work}/site", folder)
+            print(f"Open {folder}/index.html")
+    return "\n".join(faults) or None
