@@ -103,8 +103,8 @@ fn map_command_of_pair(name: &str, (key, value): Pair) -> Option<MapCommand<Item
 }
 
 fn map_command_of_key(name: &str, key: Item) -> Option<MapCommand<Item, Item>> {
-    command!(name, MapCommand: Get IndexOf ContainsKey Remove RemoveEntry SwapRemove SwapRemoveEntry;
-        (key), else None)
+    command!(name, MapCommand: Get IndexOf ContainsKey Remove RemoveEntry SwapRemove
+        SwapRemoveEntry; (key), else None)
 }
 
 impl Command for SetCommand<Item> {
