@@ -11,3 +11,5 @@ pub mod Order
 pub mod Updates
 pub mod Parts
 pub mod Filtered
+pub mod Clones
+pub mod UpdatedAt

@@ -1,5 +1,5 @@
 -- What it means that a list, a pair or an option is a clone of another, and that a clone cannot fail.
-use Rattle.std.specs.Prelude.{List, None, Option, Some, ⊤}
+use Rattle.std.specs.Prelude.{◌≡◌, List, None, Option, Some, ⊤}
 use Rattle.std.specs.List.{AllZip}
 use Rattle.std.specs.declared.clone.Clone as clone
 
@@ -7,6 +7,11 @@ use Rattle.std.specs.declared.clone.Clone as clone
 -- The second pair has a clone of the key and a clone of the value of the first.
 abbrev pub IsPairClone : {K V : Type 0} → (K → K → Type 0) → (V → V → Type 0) → K × V → K × V → Type 0
 IsPairClone key_clone value_clone p q = key_clone p.0 q.0 × value_clone p.1 q.1
+
+-- Example: true of the clones of numbers.
+-- Each clone is the same as its original.
+abbrev pub ClonesAreSame : {T : Type 0} → (T → T → Type 0) → Type 0
+ClonesAreSame is_clone = (x y : _) → is_clone x y → y ≡ x
 
 -- Example: `AreClones copy [a, b] [a, b]`; `¬ (AreClones copy [a] [])`.
 -- At each index, the second list holds a clone of what the first list holds.

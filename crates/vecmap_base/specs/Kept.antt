@@ -16,6 +16,16 @@ module _ {F K V : Type 0} (R : F → K × V → Bool → K × V → F → Type 0
   abbrev pub FiltersValues : F → (V → Option V) → Type 0
   FiltersValues f h = (p : K × V) (b : Bool) (q : K × V) (g : F) → R f p b q g → (h p.1 ≡ (if b then Some q.1 else None)) × (g ≡ f)
 
+  -- Example: true of each closure that takes a `&` to the key.
+  -- No call of the closure writes the key.
+  abbrev pub KeepsKeys : Type 0
+  KeepsKeys = (f : F) (p : K × V) (b : Bool) (q : K × V) (g : F) → R f p b q g → q.0 ≡ p.0
+
+  -- Example: of a closure that keeps the keys below 5, at keys that are equal to 7: `false`.
+  -- Each call of the closure in the state `f` leaves that state. At a key that passes the test it returns `kept` and leaves the value.
+  abbrev pub ReturnsAtKey : F → (K → Bool) → Bool → Type 0
+  ReturnsAtKey f test kept = (p : K × V) (b : Bool) (q : K × V) (g : F) → R f p b q g → (test p.0 ≡ true → (b ≡ kept) × (q.1 ≡ p.1)) × (g ≡ f)
+
 module _ {F X : Type 0} (R : F → X → Bool → X → F → Type 0) where
   -- Example: of a closure that sets each value to 0: `h` of `(1,5)` is `(1,0)`.
   -- Each call of the closure in the state `f` returns `true`, writes `h` of the item and leaves that state.

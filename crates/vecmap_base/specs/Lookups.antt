@@ -4,7 +4,8 @@ use Rattle.std.specs.Prelude.{◌≡◌, ◌<◌, ◌≤◌, ℕ, Bool, List, No
 use Rattle.std.specs.List.{list_any}
 use Rattle.std.specs.Option.{option_or}
 use Rattle.std.specs.Set.{is_member, KeepsOthers as KeepsOtherItems}
-use Rattle.std.specs.Map.{IsKeyTest, KeepsOthers}
+use Rattle.std.specs.Cmp.{IsEquivalence}
+use Rattle.std.specs.Map.{IsKeyTest, KeepsOthers, keys_of}
 use Rattle.vecmap_base.specs.Pairs.{HasDistinctKeys, index_by, lookup, lookup_by}
 
 module _ {K V : Type 0} (eq : K → K → Bool) where
@@ -35,6 +36,14 @@ module _ {K V : Type 0} where
     pub found : (test : K → Bool) (i : ℕ) → index_by test l ≡ Some i → i < n → lookup_by test m ≡ lookup_by test l
     pub gone : (test : K → Bool) (i : ℕ) → index_by test l ≡ Some i → n ≤ i → lookup_by test m ≡ None
     pub absent : (test : K → Bool) → lookup_by test l ≡ None → lookup_by test m ≡ None
+    pub distinct : (eq : K → K → Bool) → HasDistinctKeys eq l → HasDistinctKeys eq m
+
+  -- Example: from `[(1,a), (2,b)]` to `[(1,a), (2,c)]` for the index 1.
+  -- The list `m` has the keys of `l`. A query whose match is at the index `i` finds `v` in `m`, and any other what it found.
+  pub record UpdatesAt (i : ℕ) (l m : List (K × V)) (v : V) : Type 0 where
+    pub own : (test : K → Bool) → index_by test l ≡ Some i → lookup_by test m ≡ Some v
+    pub updates : (eq : K → K → Bool) (test : K → Bool) → IsEquivalence eq → IsKeyTest eq test → index_by test l ≡ Some i → UpdatesBy eq test l m (Some v)
+    pub keys : keys_of m ≡ keys_of l
     pub distinct : (eq : K → K → Bool) → HasDistinctKeys eq l → HasDistinctKeys eq m
 
   -- Example: from `[(1,a)]`, with `[(1,b), (2,c)]`, to `[(1,b), (2,c)]`.

@@ -1,12 +1,12 @@
 //! Functions that retain the items for which a closure returns `true`. Nothing is shifted, and one truncation at the
 //! end removes the others.
-ghost use Rattle.std.specs.Prelude.{◌≡◌, ◌+◌, ◌≤◌, ◌&&◌, Bool, Option, length, vec_capacity};
+ghost use Rattle.std.specs.Prelude.{◌≡◌, ◌+◌, ◌≤◌, ◌&&◌, Bool, None, Option, if◌then◌else◌, length, vec_capacity};
 ghost use Rattle.std.specs.Fn.{TakesAt};
 ghost use Rattle.std.specs.List.{list_any};
 ghost use Rattle.std.specs.Map.{IsKeyTest};
 ghost use Rattle.std.specs.Option.{option_and_then};
 ghost use Rattle.vecmap_base.specs.Asked.{CallableOnEach, CallsAtItem, CallsAtPair, CallsAtPairMut, TakesPairAt, TakesPairMut};
-ghost use Rattle.vecmap_base.specs.Kept.{FiltersValues, Kept, KeptSoFar, ReturnsAt};
+ghost use Rattle.vecmap_base.specs.Kept.{FiltersValues, KeepsKeys, Kept, KeptSoFar, ReturnsAt, ReturnsAtKey};
 ghost use Rattle.vecmap_base.specs.Pairs.{HasDistinctKeys, lookup_by};
 
 /// Retains only the pairs for which `f` returns `true`, each with the value as `f` left it.
@@ -39,6 +39,9 @@ pub fn retain_pairs<K: Drop, V: Drop, F: FnMut(&K, &mut V) -> bool + Drop>(
         → (test : K → Bool) (eq : K → K → Bool) → HasDistinctKeys eq pairs.old.items
         → IsKeyTest eq test
         → lookup_by test pairs.new.items ≡ option_and_then h (lookup_by test pairs.old.items) }
+    ensures selected { (test : K → Bool) (kept : Bool)
+        → ReturnsAtKey (CallsAtPair F.FnMut) f test kept → lookup_by test pairs.new.items
+        ≡ (if kept then lookup_by test pairs.old.items else None) }
     ensures distinct { (eq : K → K → Bool) → HasDistinctKeys eq pairs.old.items
         → HasDistinctKeys eq pairs.new.items }
     ensures retained { (g : F) × Kept (CallsAtPair F.FnMut) f pairs.old.items pairs.new.items g }
@@ -66,6 +69,12 @@ pub fn retain_pairs_mut<K: Drop, V: Drop, F: FnMut(&mut K, &mut V) -> bool + Dro
 )
     requires callable { CallableOnEach (CallsAtPairMut F.FnMut)
         (TakesPairMut F.FnMut) f pairs.old.items }
+    ensures lookups { (h : V → Option V) → KeepsKeys (CallsAtPairMut F.FnMut)
+        → FiltersValues (CallsAtPairMut F.FnMut) f h → (test : K → Bool) (eq : K → K → Bool)
+        → HasDistinctKeys eq pairs.old.items → IsKeyTest eq test
+        → lookup_by test pairs.new.items ≡ option_and_then h (lookup_by test pairs.old.items) }
+    ensures distinct { KeepsKeys (CallsAtPairMut F.FnMut) → (eq : K → K → Bool)
+        → HasDistinctKeys eq pairs.old.items → HasDistinctKeys eq pairs.new.items }
     ensures retained { (g : F) × Kept (CallsAtPairMut F.FnMut) f pairs.old.items pairs.new.items g }
     ensures capacity { vec_capacity pairs.new ≡ vec_capacity pairs.old }
 {

@@ -34,6 +34,7 @@ pub fn write_if_there<K: Eq>(map: &mut VecMap<K, u32>, key: &K, value: u32) -> b
 /// # Preconditions
 ///
 /// The key is present.
+#[tactic(auto, using(vecmap_base::proofs::PairsLemmas::ByIndex::is_some_lookup_by))]
 pub fn write_there<K: Eq>(map: &mut VecMap<K, u32>, key: &K, value: u32)
     requires { IsSome (index_of K.eq map.old.entries key.now) }
     ensures { map.new ≡ with_value_of K.eq map.old key.now value }

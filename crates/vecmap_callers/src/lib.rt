@@ -7,6 +7,7 @@ pub mod by_value;
 pub mod entry;
 pub mod equivalent;
 pub mod filling;
+pub mod first_changes;
 pub mod first_lookups;
 pub mod first_maps;
 pub mod first_orders;

@@ -1,26 +1,13 @@
 -- What lookups find in a list of two parts, and the value and the index of a key after many insertions.
 use Rattle.std.specs.{Cmp.IsEquivalence, Option.option_or, Map.keys_of}
-use Rattle.std.specs.Map as maps
 use Rattle.std.proofs.Common.{◌≡◌, ℕ, Bool, true, false, List, [], ◌∷◌, ◌++◌, Some, if◌then◌else◌, position, refl, reverse, sym, ap, ◌∙◌}
 use Rattle.std.proofs.lemmas.{List.reverse-append}
-use Rattle.vecmap_base.specs.{Items.adds, Items.item_index, Pairs.index_of, Pairs.lookup, Pairs.lookup_by, Pairs.put, Pairs.puts}
+use Rattle.vecmap_base.specs.{Items.adds, Items.item_index, Pairs.index_of, Pairs.lookup, Pairs.put, Pairs.puts}
 use Rattle.vecmap_base.proofs.PairsLemmas.Keys.{index_of_is, keys_of_puts}
+pub use Rattle.vecmap_base.proofs.PairsLemmas.Parts.{lookup_by_append}
 use Rattle.vecmap_laws.proofs.AfterPuts.{lookup_put_any, option_or_assoc, option_or_none}
 use Rattle.vecmap_laws.proofs.ItemMembers.{item_index_adds_kept}
 use Rattle.vecmap_laws.proofs.Lookups.{look}
-
-module _ {K V : Type 0} (test : K → Bool) where
-  found_in_parts : (a b : List (K × V)) → maps.lookup test (a ++ b) ≡ option_or (maps.lookup test a) (maps.lookup test b)
-  found_in_parts [] b = refl
-  found_in_parts (p ∷ ps) b = by (test p.0) (found_in_parts ps b)
-    where
-      by : (passes : Bool) → maps.lookup test (ps ++ b) ≡ option_or (maps.lookup test ps) (maps.lookup test b) → (if passes then Some p.1 else maps.lookup test (ps ++ b)) ≡ option_or (if passes then Some p.1 else maps.lookup test ps) (maps.lookup test b)
-      by true rest = refl
-      by false rest = rest
-
-  -- A lookup in a list of two parts finds what the first part has, or else what the second has.
-  pub lookup_by_append : (a b : List (K × V)) → lookup_by test (a ++ b) ≡ option_or (lookup_by test a) (lookup_by test b)
-  lookup_by_append a b = found_in_parts a b
 
 module _ {K V : Type 0} (eq : K → K → Bool) where
   pub lookup_append : (a b : List (K × V)) (q : K) → lookup eq (a ++ b) q ≡ option_or (lookup eq a q) (lookup eq b q)

@@ -4,7 +4,7 @@ ghost use Rattle.std.specs.Iterator.{Drains, ExtendsWithItems, IsFiniteIterable}
 ghost use Rattle.std.specs.Option.{option_or};
 ghost use Rattle.std.specs.Map.Iter.{deref, deref_pair};
 ghost use Rattle.vecmap_base.specs.Bulk.{HasRoomForAll, HoldsOfEach, YieldsAll};
-ghost use Rattle.vecmap_base.specs.Clones.{ArePairClones, ClonesSucceed};
+ghost use Rattle.vecmap_base.specs.Clones.{ArePairClones, ClonesAreSame, ClonesSucceed};
 ghost use Rattle.vecmap_base.specs.Lookups.{Joins};
 ghost use Rattle.vecmap_base.specs.Pairs.{HasDistinctKeys, lookup, put, puts};
 ghost use Rattle.vecmap_map.specs.Contents.{HasRoom, KeepsRoomAt, Refuses, with_entries};
@@ -82,6 +82,9 @@ impl<K, V> VecMap<K, V> {
         ensures entries { IfOk result (λ map. (clones : List (K × V))
             × ArePairClones K.is_clone V.is_clone pairs.now clones
             × (map.entries ≡ puts K.eq [] clones)) }
+        ensures lookups { ClonesAreSame K.is_clone → ClonesAreSame V.is_clone
+            → HasDistinctKeys K.eq pairs.now → IfOk result (λ map. (q : K)
+            → lookup K.eq map.entries q ≡ lookup K.eq pairs.now q) }
         ensures distinct { IfOk result (λ map. HasDistinctKeys K.eq map.entries) }
         ensures at_least { IfOk result (λ map. length pairs.now ≤ map.capacity) }
     {

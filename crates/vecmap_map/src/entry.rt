@@ -8,7 +8,7 @@ ghost use Rattle.std.specs.Fn.{FnOnceReturnsAt};
 ghost use Rattle.std.specs.Map.Calls.{ModifiesValue};
 ghost use Rattle.std.specs.Option.{UnwrapsOrElse, option_map_or};
 ghost use Rattle.vecmap_base.specs.Lookups.{Updates};
-ghost use Rattle.vecmap_base.specs.Pairs.{index_of, lookup, put};
+ghost use Rattle.vecmap_base.specs.Pairs.{HasDistinctKeys, index_of, lookup, put};
 ghost use Rattle.vecmap_map.specs.Contents.{IsFull};
 
 mod occupied;
@@ -39,7 +39,7 @@ pub enum Entry<'a, K, V> {
 }
 
 impl<K, V> VecMap<K, V> {
-    ghost use Rattle.vecmap_map.specs.Entry.{entries_with, entry_key, entry_map, entry_index_of, entry_ref, entry_value};
+    ghost use Rattle.vecmap_map.specs.Entry.{entries_swap_without, entries_with, entries_without, entry_key, entry_map, entry_index_of, entry_ref, entry_value};
 
     /// Returns the entry of `key`: occupied if an equal key is present, and vacant otherwise.
     ///
@@ -65,7 +65,12 @@ impl<K, V> VecMap<K, V> {
         ensures index { entry_index_of result ≡ index_of K.eq self.old.entries key }
         ensures value { entry_value result ≡ lookup K.eq self.old.entries key }
         ensures put { (v : V) → entries_with result v ≡ put K.eq self.old.entries key v }
-        ensures updates { (v : V) → Updates K.eq self.old.entries key (entries_with result v) (Some v) }
+        ensures updates { (v : V) → Updates K.eq self.old.entries key
+            (entries_with result v) (Some v) }
+        ensures removal { HasDistinctKeys K.eq self.old.entries
+            → Updates K.eq self.old.entries key (entries_without result) None }
+        ensures swap_removal { HasDistinctKeys K.eq self.old.entries
+            → Updates K.eq self.old.entries key (entries_swap_without result) None }
     {
         Entry::over(self, key)
     }

@@ -1,9 +1,9 @@
 //! `map[index]` and `map[&key]`: the value at an index, and the value of a key.
-ghost use Rattle.std.specs.Prelude.{◌≡◌, ◌<◌, IsSome, Some, bytes_eq, length};
+ghost use Rattle.std.specs.Prelude.{◌≡◌, ◌<◌, IsSome, Some, bytes_eq, length, string_eq};
 ghost use Rattle.std.specs.Borrow.{sem};
 ghost use Rattle.std.specs.Map.{set_value};
-ghost use Rattle.vecmap_base.specs.Lookups.{Updates};
-ghost use Rattle.vecmap_base.specs.Pairs.{has_text, index_by, index_of, lookup, lookup_by, value_at};
+ghost use Rattle.vecmap_base.specs.Lookups.{Updates, UpdatesAt, UpdatesBy};
+ghost use Rattle.vecmap_base.specs.Pairs.{has_text, index_by, lookup, lookup_by, value_at, with_value};
 
 use crate::VecMap;
 use std::ops::{Index, IndexMut};
@@ -11,12 +11,15 @@ use vecmap_base::Equivalent;
 
 impl<K, V> VecMap<K, V> {
     // Returns the index of the first pair whose key matches `query`. Such a pair must be present.
+    #[tactic(auto, using(vecmap_base::proofs::PairsLemmas::ByIndex::is_some_lookup_by))]
     fn present_index<Q: Equivalent<K>>(&self, query: Q) -> usize
     where
         K: Eq,
-        requires present { IsSome (index_by (Q.equivalent query) self.now.entries) }
+        requires present { IsSome (lookup_by (Q.equivalent query) self.now.entries) }
         ensures index { index_by (Q.equivalent query) self.now.entries ≡ Some result }
         ensures within { result < length self.now.entries }
+        ensures written { (v : V) → UpdatesBy K.eq (Q.equivalent query) self.now.entries
+            (with_value self.now.entries result v) (Some v) }
     {
         self.get_index_of(query).unwrap()
     }
@@ -68,6 +71,8 @@ impl<K, V> IndexMut<usize> for VecMap<K, V> {
         requires within { index < length self.old.entries }
         ensures* writes_back { sem 𝓛 (lends_value_at K.row V.row self.entry index result) }
         ensures value { value_at self.old.entries index ≡ Some result.now }
+        ensures updates { (v : V) → UpdatesAt index self.old.entries
+            (with_value self.old.entries index v) v }
     {
         self.value_mut(index)
     }
@@ -93,7 +98,7 @@ impl<K, V> IndexMut<usize> for VecMap<K, V> {
 impl<'q, K: Eq, V> Index<&'q K> for VecMap<K, V> {
     type Output = V;
 
-    ghost can_index = { λ m k. IsSome (index_of K.eq m.entries k.now) };
+    ghost can_index = { λ m k. IsSome (lookup K.eq m.entries k.now) };
 
     ghost index_gives = { λ m k v. lookup K.eq m.entries k.now ≡ Some v };
 
@@ -126,7 +131,7 @@ impl<'q, K: Eq, V> IndexMut<&'q K> for VecMap<K, V> {
 
     #[tactic(auto, using(vecmap_base::proofs::PairsLemmas::ByIndex::by_index))]
     fn index_mut(&mut self, key: &'q K) -> &mut V
-        requires present { IsSome (index_of K.eq self.old.entries key.now) }
+        requires present { IsSome (lookup K.eq self.old.entries key.now) }
         ensures* writes_back { sem 𝓛 (lends_value_of K.row V.row self.entry K.eq key.now result) }
         ensures value { lookup K.eq self.old.entries key.now ≡ Some result.now }
         ensures updates { (v : V) → Updates K.eq self.old.entries key.now
@@ -157,7 +162,7 @@ impl<'q, K: Eq, V> IndexMut<&'q K> for VecMap<K, V> {
 impl<'q, V> Index<&'q str> for VecMap<String, V> {
     type Output = V;
 
-    ghost can_index = { λ m text. IsSome (index_by (has_text text.now) m.entries) };
+    ghost can_index = { λ m text. IsSome (lookup_by (has_text text.now) m.entries) };
 
     ghost index_gives = { λ m text v. lookup_by (has_text text.now) m.entries ≡ Some v };
 
@@ -191,10 +196,12 @@ impl<'q, V> IndexMut<&'q str> for VecMap<String, V> {
 
     #[tactic(auto, using(vecmap_base::proofs::PairsLemmas::ByIndex::by_index))]
     fn index_mut(&mut self, text: &'q str) -> &mut V
-        requires present { IsSome (index_by (has_text text.now) self.old.entries) }
+        requires present { IsSome (lookup_by (has_text text.now) self.old.entries) }
         ensures* writes_back { sem 𝓛 (lends_value_by text_row V.row self.entry
             (has_text text.now) result) }
         ensures value { lookup_by (has_text text.now) self.old.entries ≡ Some result.now }
+        ensures updates { (v : V) → UpdatesBy string_eq (has_text text.now) self.old.entries
+            (set_value (has_text text.now) self.old.entries v) (Some v) }
     {
         let index = self.present_index(text);
         self.value_mut(index)
@@ -221,7 +228,7 @@ impl<'q, V> IndexMut<&'q str> for VecMap<String, V> {
 impl<'q, 'k, V> Index<&'q str> for VecMap<&'k str, V> {
     type Output = V;
 
-    ghost can_index = { λ m query. IsSome (index_by (λ k. bytes_eq query.now k.now) m.entries) };
+    ghost can_index = { λ m query. IsSome (lookup_by (λ k. bytes_eq query.now k.now) m.entries) };
 
     ghost index_gives = { λ m query v. lookup_by (λ k. bytes_eq query.now k.now) m.entries ≡ Some v };
 

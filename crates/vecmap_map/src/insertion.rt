@@ -40,6 +40,8 @@ impl<K, V> VecMap<K, V> {
         ensures old { IfOk result (λ old. old ≡ lookup K.eq self.old.entries key) }
         ensures updates { OnOk result (Updates K.eq self.old.entries key self.new.entries
             (Some value)) }
+        ensures distinct { HasDistinctKeys K.eq self.old.entries
+            → HasDistinctKeys K.eq self.new.entries }
         ensures capacity { KeepsRoom K.eq self.old key self.new }
 
         // On `Err` the pair is returned, its key is new, and the map is full.
@@ -72,6 +74,8 @@ impl<K, V> VecMap<K, V> {
         ensures old { IfOk result (λ done. done.1 ≡ lookup K.eq self.old.entries key) }
         ensures updates { OnOk result (Updates K.eq self.old.entries key self.new.entries
             (Some value)) }
+        ensures distinct { HasDistinctKeys K.eq self.old.entries
+            → HasDistinctKeys K.eq self.new.entries }
         ensures capacity { KeepsRoom K.eq self.old key self.new }
 
         // On `Err` the pair is returned, its key is new, and the map is full.

@@ -4,8 +4,8 @@ ghost use Rattle.std.specs.Borrow.{sem};
 ghost use Rattle.std.specs.Map.Iter.{deref_pair_mut};
 ghost use Rattle.std.specs.Option.{option_and_then, option_copied_mut};
 ghost use Rattle.std.specs.Map.{set_value};
-ghost use Rattle.vecmap_base.specs.Lookups.{UpdatesBy};
-ghost use Rattle.vecmap_base.specs.Pairs.{index_by, lookup_by, lookup_pair_by, value_at};
+ghost use Rattle.vecmap_base.specs.Lookups.{UpdatesAt, UpdatesBy};
+ghost use Rattle.vecmap_base.specs.Pairs.{index_by, lookup_by, lookup_pair_by, value_at, with_value};
 ghost use Rattle.vecmap_map.specs.Lends.{lends_value};
 
 use crate::VecMap;
@@ -176,8 +176,7 @@ impl<K, V> VecMap<K, V> {
 
     /// Returns a mutable reference to the value at `index`, or `None` if `index` is out of range.
     ///
-    /// Unlike [`VecMap::get_index_mut`], it says what the map holds after a write through the reference to a caller
-    /// without a proof file.
+    /// Unlike [`VecMap::get_index_mut`], it returns the value alone, so a proof knows what the map holds after a write.
     ///
     /// # Complexity
     ///
@@ -195,6 +194,8 @@ impl<K, V> VecMap<K, V> {
     pub fn get_value_at_mut(&mut self, index: usize) -> Option<&mut V>
         ensures* writes_back { sem 𝓛 (lends_value_if_at K.row V.row self.entry index result) }
         ensures value { option_copied_mut result ≡ value_at self.old.entries index }
+        ensures updates { (v : V) → UpdatesAt index self.old.entries
+            (with_value self.old.entries index v) v }
         ensures found { IsSome result ↔ (index < length self.old.entries) }
     {
         if self.len() <= index {
@@ -205,8 +206,7 @@ impl<K, V> VecMap<K, V> {
 
     /// Returns a mutable reference to the value of the first pair, or `None` if the map is empty.
     ///
-    /// Unlike [`VecMap::first_mut`], it says what the map holds after a write through the reference to a caller
-    /// without a proof file.
+    /// Unlike [`VecMap::first_mut`], it returns the value alone, so a proof knows what the map holds after a write.
     ///
     /// # Complexity
     ///
@@ -224,6 +224,8 @@ impl<K, V> VecMap<K, V> {
     pub fn first_value_mut(&mut self) -> Option<&mut V>
         ensures* writes_back { sem 𝓛 (lends_value_if_at K.row V.row self.entry 0 result) }
         ensures value { option_copied_mut result ≡ value_at self.old.entries 0 }
+        ensures updates { (v : V) → UpdatesAt 0 self.old.entries
+            (with_value self.old.entries 0 v) v }
         ensures found { IsSome result ↔ (0 < length self.old.entries) }
     {
         self.get_value_at_mut(0)
@@ -231,8 +233,7 @@ impl<K, V> VecMap<K, V> {
 
     /// Returns a mutable reference to the value of the last pair, or `None` if the map is empty.
     ///
-    /// Unlike [`VecMap::last_mut`], it says what the map holds after a write through the reference to a caller
-    /// without a proof file.
+    /// Unlike [`VecMap::last_mut`], it returns the value alone, so a proof knows what the map holds after a write.
     ///
     /// # Complexity
     ///
@@ -252,6 +253,8 @@ impl<K, V> VecMap<K, V> {
             (length self.old.entries - 1) result) }
         ensures value { option_copied_mut result
             ≡ value_at self.old.entries (length self.old.entries - 1) }
+        ensures updates { (v : V) → UpdatesAt (length self.old.entries - 1) self.old.entries
+            (with_value self.old.entries (length self.old.entries - 1) v) v }
         ensures found { IsSome result ↔ (0 < length self.old.entries) }
     {
         let last = self.len().saturating_sub(1);

@@ -1,8 +1,9 @@
 //! Lookups by query and by index.
-ghost use Rattle.std.specs.Prelude.{◌≡◌, ◌-◌, ◌<◌, ◌↔◌, IfSome, IsTrue, is_some, length, option_copied, option_map, slice_get};
+ghost use Rattle.std.specs.Prelude.{◌≡◌, ◌-◌, ◌<◌, ◌↔◌, IfSome, IsTrue, Some, is_some, length, option_copied, option_map, slice_get};
 ghost use Rattle.std.specs.Map.Iter.{deref_pair};
 ghost use Rattle.std.specs.Option.{option_and_then};
-ghost use Rattle.vecmap_base.specs.Pairs.{HasDistinctKeys, has_text, index_by, lookup_by, lookup_pair_by, value_at};
+ghost use Rattle.vecmap_base.specs.Lookups.{UpdatesBy};
+ghost use Rattle.vecmap_base.specs.Pairs.{HasDistinctKeys, has_text, index_by, lookup_by, lookup_pair_by, value_at, with_value};
 
 use crate::VecMap;
 use vecmap_base::{Equivalent, find_equivalent, keys_distinct};
@@ -185,6 +186,12 @@ impl<K, V> VecMap<K, V> {
         K: Eq,
         ensures index { result ≡ index_by (Q.equivalent query) self.now.entries }
         ensures within { IfSome result (λ i. i < length self.now.entries) }
+        ensures stored { option_and_then (value_at self.now.entries) result
+            ≡ lookup_by (Q.equivalent query) self.now.entries }
+
+        // What lookups find once a value is written at the index.
+        ensures written { IfSome result (λ i. (value : V) → UpdatesBy K.eq (Q.equivalent query)
+            self.now.entries (with_value self.now.entries i value) (Some value)) }
     {
         find_equivalent(&self.pairs, query)
     }

@@ -1,5 +1,6 @@
 //! Calls that create a map, and calls that return its slice, its vector or its allocator.
-ghost use Rattle.std.specs.Prelude.{◌≡◌, ◌≤◌, IfOk, IsOk, [], vec_capacity};
+ghost use Rattle.std.specs.Prelude.{◌≡◌, ◌≤◌, Bool, IfOk, IsOk, [], vec_capacity};
+ghost use Rattle.vecmap_base.specs.Pairs.{HasDistinctKeys};
 
 use crate::VecMap;
 use std::alloc::{AllocError, Global};
@@ -14,8 +15,10 @@ impl<K, V> VecMap<K, V> {
     /// let map: VecMap<char, u32> = VecMap::new(alloc);
     /// (map.len(), map.capacity()) // (0, 0)
     /// ```
+    #[tactic(auto, using(vecmap_base::proofs::DistinctLemmas::Absent::distinct_none))]
     pub fn new(alloc: Global) -> VecMap<K, V>
         ensures entries { result.entries ≡ [] }
+        ensures distinct { (eq : K → K → Bool) → HasDistinctKeys eq result.entries }
         ensures capacity { result.capacity ≡ 0 }
     {
         VecMap {
@@ -42,8 +45,11 @@ impl<K, V> VecMap<K, V> {
     /// map.is_empty() // true
     /// 4 <= map.capacity() // true
     /// ```
+    #[tactic(auto, using(vecmap_base::proofs::DistinctLemmas::Absent::distinct_none))]
     pub fn with_capacity(alloc: Global, capacity: usize) -> Result<VecMap<K, V>, AllocError>
         ensures entries { IfOk result (λ map. map.entries ≡ []) }
+        ensures distinct { IfOk result (λ map. (eq : K → K → Bool)
+            → HasDistinctKeys eq map.entries) }
         ensures at_least { IfOk result (λ map. capacity ≤ map.capacity) }
         ensures capacity { capacity ≡ 0 → IfOk result (λ map. map.capacity ≡ 0) }
         ensures succeeds { capacity ≡ 0 → IsOk result }

@@ -1,11 +1,12 @@
 //! Calls that return mutable references to keys.
-ghost use Rattle.std.specs.Prelude.{◌≡◌, ◌<◌, ◌↔◌, IfSome, IsSome, List, length, option_map, slice_get};
+ghost use Rattle.std.specs.Prelude.{◌≡◌, ◌<◌, ◌↔◌, Bool, IfSome, IsSome, List, Option, length, option_map, slice_get};
 ghost use Rattle.std.specs.Borrow.{sem};
-ghost use Rattle.std.specs.Map.{keys_of};
+ghost use Rattle.std.specs.Map.{IsKeyTest, keys_of};
+ghost use Rattle.std.specs.Option.{option_and_then};
 ghost use Rattle.vecmap_base.specs.Asked.{CallableOnEach, CallsAtPairMut, TakesPairMut};
 ghost use Rattle.vecmap_base.specs.Iterators.{ShowsAllOf, deref_both_mut, deref_mut, iter_mut2_name, iter_mut2_rest, keys_mut_name, keys_mut_rest};
-ghost use Rattle.vecmap_base.specs.Kept.{Kept};
-ghost use Rattle.vecmap_base.specs.Pairs.{index_by, lookup_pair_by};
+ghost use Rattle.vecmap_base.specs.Kept.{FiltersValues, KeepsKeys, Kept};
+ghost use Rattle.vecmap_base.specs.Pairs.{HasDistinctKeys, index_by, lookup_by, lookup_pair_by};
 ghost use Rattle.vecmap_map.specs.Lends.{lends_pairs, lends_parts, lends_slice};
 
 use crate::VecMap;
@@ -219,6 +220,13 @@ impl<K, V> MutableKeys for VecMap<K, V> {
         F: Drop,
         requires callable { CallableOnEach (CallsAtPairMut F.FnMut)
             (TakesPairMut F.FnMut) f self.old.entries }
+        ensures lookups { (h : V → Option V) → KeepsKeys (CallsAtPairMut F.FnMut)
+            → FiltersValues (CallsAtPairMut F.FnMut) f h → (test : K → Bool) (eq : K → K → Bool)
+            → HasDistinctKeys eq self.old.entries → IsKeyTest eq test
+            → lookup_by test self.new.entries
+            ≡ option_and_then h (lookup_by test self.old.entries) }
+        ensures distinct { KeepsKeys (CallsAtPairMut F.FnMut) → (eq : K → K → Bool)
+            → HasDistinctKeys eq self.old.entries → HasDistinctKeys eq self.new.entries }
         ensures retained { (g : F) × Kept
             (CallsAtPairMut F.FnMut) f self.old.entries self.new.entries g }
         ensures capacity { self.new.capacity ≡ self.old.capacity }

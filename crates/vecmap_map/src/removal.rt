@@ -2,11 +2,11 @@
 ghost use Rattle.std.specs.Prelude.{◌≡◌, ◌-◌, ◌<◌, ◌≤◌, IfOk, IsOk, OnErr, OnOk, Some, String, [], drop, length, remove, slice_get, take};
 ghost use Rattle.vecmap_base.specs.Items.{swap_without};
 ghost use Rattle.vecmap_base.specs.Asked.{CallableOnEach, CallsAtPair, TakesPairAt};
-ghost use Rattle.vecmap_base.specs.Kept.{FiltersValues, Kept};
+ghost use Rattle.vecmap_base.specs.Kept.{FiltersValues, Kept, ReturnsAtKey};
 ghost use Rattle.std.specs.Map.{IsKeyTest};
-ghost use Rattle.std.specs.Option.{option_and_then};
+ghost use Rattle.std.specs.Option.{option_and_then, option_or};
 ghost use Rattle.std.specs.Cmp.{IsEquivalence};
-ghost use Rattle.std.specs.Prelude.{Bool, None, Option, cond, string_eq};
+ghost use Rattle.std.specs.Prelude.{Bool, None, Option, cond, false, if◌then◌else◌, string_eq, true};
 ghost use Rattle.vecmap_base.specs.Lookups.{KeepsFront, UpdatesBy};
 ghost use Rattle.vecmap_base.specs.Pairs.{HasDistinctKeys, has_text, lookup_by, lookup_pair_by, swap_without_by, without_by};
 
@@ -28,11 +28,13 @@ impl<K, V> VecMap<K, V> {
     /// map.clear();
     /// map.is_empty() // true
     /// ```
+    #[tactic(auto, using(vecmap_base::proofs::DistinctLemmas::Absent::distinct_none))]
     pub fn clear(&mut self)
     where
         K: Drop,
         V: Drop,
         ensures entries { self.new.entries ≡ [] }
+        ensures distinct { (eq : K → K → Bool) → HasDistinctKeys eq self.new.entries }
         ensures capacity { self.new.capacity ≡ self.old.capacity }
     {
         self.pairs.clear();
@@ -95,6 +97,8 @@ impl<K, V> VecMap<K, V> {
         ensures entries { OnOk result (self.new.entries ≡ take at self.old.entries) }
         ensures part { IfOk result (λ part. part.entries ≡ drop at self.old.entries) }
         ensures lookups { OnOk result (KeepsFront at self.old.entries self.new.entries) }
+        ensures halves { IfOk result (λ part. (test : K → Bool) → lookup_by test self.old.entries
+            ≡ option_or (lookup_by test self.new.entries) (lookup_by test part.entries)) }
         ensures capacity { self.new.capacity ≡ self.old.capacity }
         ensures succeeds { at ≡ length self.old.entries → IsOk result }
         ensures err { OnErr result (self.new ≡ self.old) }
@@ -139,6 +143,13 @@ impl<K, V> VecMap<K, V> {
             → (test : K → Bool) (eq : K → K → Bool) → HasDistinctKeys eq self.old.entries
             → IsKeyTest eq test → lookup_by test self.new.entries
             ≡ option_and_then h (lookup_by test self.old.entries) }
+        ensures selected { (test : K → Bool) (kept : Bool)
+            → ReturnsAtKey (CallsAtPair F.FnMut) f test kept → lookup_by test self.new.entries
+            ≡ (if kept then lookup_by test self.old.entries else None) }
+        ensures stays { (test : K → Bool) → ReturnsAtKey (CallsAtPair F.FnMut) f test true
+            → lookup_by test self.new.entries ≡ lookup_by test self.old.entries }
+        ensures gone { (test : K → Bool) → ReturnsAtKey (CallsAtPair F.FnMut) f test false
+            → lookup_by test self.new.entries ≡ None }
         ensures distinct { (eq : K → K → Bool) → HasDistinctKeys eq self.old.entries
             → HasDistinctKeys eq self.new.entries }
         ensures retained { (g : F) × Kept
@@ -195,6 +206,8 @@ impl<K, V> VecMap<K, V> {
         ensures entries { self.new.entries ≡ without_by (Q.equivalent query) self.old.entries }
         ensures updates { HasDistinctKeys K.eq self.old.entries → UpdatesBy K.eq
             (Q.equivalent query) self.old.entries self.new.entries None }
+        ensures distinct { HasDistinctKeys K.eq self.old.entries
+            → HasDistinctKeys K.eq self.new.entries }
         ensures capacity { self.new.capacity ≡ self.old.capacity }
     {
         let (_key, value) = self.remove_entry(query)?;
@@ -218,6 +231,8 @@ impl<K, V> VecMap<K, V> {
         ensures entries { self.new.entries ≡ without_by (Q.equivalent query) self.old.entries }
         ensures updates { HasDistinctKeys K.eq self.old.entries → UpdatesBy K.eq
             (Q.equivalent query) self.old.entries self.new.entries None }
+        ensures distinct { HasDistinctKeys K.eq self.old.entries
+            → HasDistinctKeys K.eq self.new.entries }
         ensures capacity { self.new.capacity ≡ self.old.capacity }
     {
         let index = find_equivalent(&self.pairs, query)?;
@@ -281,6 +296,8 @@ impl<K, V> VecMap<K, V> {
         ensures entries { self.new.entries ≡ swap_without_by (Q.equivalent query) self.old.entries }
         ensures updates { HasDistinctKeys K.eq self.old.entries → UpdatesBy K.eq
             (Q.equivalent query) self.old.entries self.new.entries None }
+        ensures distinct { HasDistinctKeys K.eq self.old.entries
+            → HasDistinctKeys K.eq self.new.entries }
         ensures capacity { self.new.capacity ≡ self.old.capacity }
     {
         let (_key, value) = self.swap_remove_entry(query)?;
@@ -304,6 +321,8 @@ impl<K, V> VecMap<K, V> {
         ensures entries { self.new.entries ≡ swap_without_by (Q.equivalent query) self.old.entries }
         ensures updates { HasDistinctKeys K.eq self.old.entries → UpdatesBy K.eq
             (Q.equivalent query) self.old.entries self.new.entries None }
+        ensures distinct { HasDistinctKeys K.eq self.old.entries
+            → HasDistinctKeys K.eq self.new.entries }
         ensures capacity { self.new.capacity ≡ self.old.capacity }
     {
         let index = find_equivalent(&self.pairs, query)?;
@@ -357,6 +376,8 @@ impl<V> VecMap<String, V> {
         ensures entries { self.new.entries ≡ without_by (has_text text.now) self.old.entries }
         ensures updates { HasDistinctKeys string_eq self.old.entries → UpdatesBy string_eq
             (has_text text.now) self.old.entries self.new.entries None }
+        ensures distinct { HasDistinctKeys string_eq self.old.entries
+            → HasDistinctKeys string_eq self.new.entries }
         ensures capacity { self.new.capacity ≡ self.old.capacity }
     {
         self.remove(text)

@@ -1,6 +1,6 @@
 -- What lookups find in the front of a list, after the insertions of many pairs, and whether anything matches in another order.
 use Rattle.std.specs.{Cmp.IsEquivalence, List.IsDistinct, List.Sorted.IsPermutation, List.list_any, Map.keys_of, Option.option_map, Option.option_or}
-use Rattle.std.proofs.Common.{◌≡◌, ◌∙◌, ◌<◌, ◌≤◌, ℕ, zero, suc, Bool, true, false, List, [], ◌∷◌, None, Option, Some, ap, arith, cond, if◌then◌else◌, inl, inr, is_some, refl, subst, sym, take}
+use Rattle.std.proofs.Common.{◌≡◌, ◌∙◌, ◌<◌, ◌≤◌, ℕ, zero, suc, Bool, true, false, List, [], ◌∷◌, ◌++◌, None, Option, Some, ap, arith, cond, if◌then◌else◌, inl, inr, is_some, refl, subst, sym, take}
 use Rattle.std.proofs.lemmas.Bool.{cases_Bool}
 use Rattle.std.proofs.lemmas.List.{take-map}
 use Rattle.std.proofs.lemmas.List.Sorted.{list_any-IsPermutation}
@@ -15,6 +15,15 @@ use Rattle.vecmap_base.proofs.IndexLemmas.{is_some_position}
 use Rattle.vecmap_base.proofs.PairsLemmas.{ByIndex.index_by_is, Distinct.distinct_put, Lookups.updates_put}
 
 module _ {K V : Type 0} (test : K → Bool) where
+  -- A lookup in a list of two parts finds what the first part has, or else what the second has.
+  pub lookup_by_append : (a b : List (K × V)) → lookup_by test (a ++ b) ≡ option_or (lookup_by test a) (lookup_by test b)
+  lookup_by_append [] b = refl
+  lookup_by_append (p ∷ ps) b = by (test p.0) (lookup_by_append ps b)
+    where
+      by : (passes : Bool) → lookup_by test (ps ++ b) ≡ option_or (lookup_by test ps) (lookup_by test b) → (if passes then Some p.1 else lookup_by test (ps ++ b)) ≡ option_or (if passes then Some p.1 else lookup_by test ps) (lookup_by test b)
+      by true rest = refl
+      by false rest = rest
+
   found_in_front : (n : ℕ) (l : List (K × V)) (i : ℕ) → index_by test l ≡ Some i → i < n → lookup_by test (take n l) ≡ lookup_by test l
   found_in_front n [] i e h = absurd (none-some i e)
   found_in_front zero (p ∷ ps) i e h = absurd (omega arith)

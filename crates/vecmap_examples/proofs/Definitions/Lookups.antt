@@ -3,7 +3,7 @@
 use Rattle.std.specs.Prelude.{◌≡◌, ℕ, Bool, List, None, Option, Some, [], ◌∷◌, nat_eq, refl, reverse, true}
 use Rattle.std.specs.Cmp.{nat_eq_equiv}
 use Rattle.std.specs.List.{IsDistinct, list_any}
-use Rattle.std.specs.Map.{AreApart, IsKeyTest, KeepsOthers}
+use Rattle.std.specs.Map.{AreApart, IsKeyTest, KeepsOthers, keys_of}
 use Rattle.std.specs.Option.{option_or}
 use Rattle.std.specs.Set as set
 use Rattle.std.specs.Set.{is_member}
@@ -13,7 +13,8 @@ use Rattle.vecmap_base.proofs.ItemsLemmas.Members.{members_of_add}
 use Rattle.vecmap_base.proofs.PairsLemmas.Lookups.{updates_put}
 use Rattle.vecmap_base.proofs.PairsLemmas.Parts.{joins_puts, keeps_front as front}
 use Rattle.vecmap_base.proofs.PairsLemmas.Updates.{lookups_rearranged}
-use Rattle.vecmap_base.specs.Lookups.{Joins, KeepsFront, KeepsLookups, UpdatesBy, UpdatesMember}
+use Rattle.vecmap_base.proofs.PairsLemmas.UpdatedAt.{updates_at}
+use Rattle.vecmap_base.specs.Lookups.{Joins, KeepsFront, KeepsLookups, UpdatesAt, UpdatesBy, UpdatesMember}
 use Rattle.vecmap_base.specs.Pairs.{HasDistinctKeys, index_by, lookup, lookup_by}
 
 -- After an insertion of the key 2.
@@ -77,6 +78,26 @@ module _ {V : Type 0} (a b : V) (l m : List (ℕ × V)) (test : ℕ → Bool) wh
 
   keeps_front-distinct : KeepsFront 2 l m → HasDistinctKeys nat_eq l → HasDistinctKeys nat_eq m
   keeps_front-distinct k = k.distinct nat_eq
+
+-- After a write at the index 1.
+module _ {V : Type 0} (a b c : V) (l m : List (ℕ × V)) where
+  updates_at_one : UpdatesAt {K = ℕ} 1 ((1, a) ∷ (2, b) ∷ []) ((1, a) ∷ (2, c) ∷ []) c
+  updates_at_one = updates_at ((1, a) ∷ (2, b) ∷ []) 1 c
+
+  updates_at-not : ¬ (UpdatesAt {K = ℕ} 1 ((1, a) ∷ (2, b) ∷ []) ((1, a) ∷ (3, c) ∷ []) c)
+  updates_at-not u = search (rules, u.own (nat_eq 2) refl)
+
+  updates_at-own : UpdatesAt 1 l m c → index_by (nat_eq 2) l ≡ Some 1 → lookup_by (nat_eq 2) m ≡ Some c
+  updates_at-own u = u.own (nat_eq 2)
+
+  updates_at-updates : UpdatesAt 1 l m c → index_by (nat_eq 2) l ≡ Some 1 → UpdatesBy nat_eq (nat_eq 2) l m (Some c)
+  updates_at-updates u = u.updates nat_eq (nat_eq 2) nat_eq_equiv (nat_eq_equiv.congr 2)
+
+  updates_at-keys : UpdatesAt 1 l m c → keys_of m ≡ keys_of l
+  updates_at-keys u = u.keys
+
+  updates_at-distinct : UpdatesAt 1 l m c → HasDistinctKeys nat_eq l → HasDistinctKeys nat_eq m
+  updates_at-distinct u = u.distinct nat_eq
 
 -- After an insertion of the keys 1 and 2.
 module _ {V : Type 0} (a b c : V) (l pairs m : List (ℕ × V)) where

@@ -1,5 +1,6 @@
-use Rattle.vecmap_map.proofs.EntryLemmas.Puts.{entries_with_put, entry_value_is}
+use Rattle.vecmap_map.proofs.EntryLemmas.Puts.{entries_swap_without_by, entries_with_put, entries_without_by, entry_value_is}
 use Rattle.vecmap_base.proofs.PairsLemmas.Lookups.{updates_of_put}
+use Rattle.vecmap_base.proofs.PairsLemmas.Updates.{updates_of_swap_without, updates_of_without}
 use Rattle.vecmap_map.proofs.VecMap.entry.Goals as goal
 
 pub returns-clause-put : goal.returns-clause-put
@@ -10,3 +11,15 @@ returns-clause-updates g c = λ v. updates_of_put g.K.PartialEq.eq g.met.K.Eq.la
 
 pub returns-clause-value : goal.returns-clause-value
 returns-clause-value g c = entry_value_is g.K.PartialEq.eq _ _ _ c.over.ensures.unchanged c.over.ensures.index
+
+pub returns-clause-removal : goal.returns-clause-removal
+returns-clause-removal g c = λ d.
+    let eq = g.K.PartialEq.eq in
+    let o = g.met.K.Eq.laws in
+    updates_of_without eq o (eq c.args.key) (o.congr c.args.key) _ _ (entries_without_by eq _ _ _ c.over.ensures.unchanged c.over.ensures.index) d
+
+pub returns-clause-swap_removal : goal.returns-clause-swap_removal
+returns-clause-swap_removal g c = λ d.
+    let eq = g.K.PartialEq.eq in
+    let o = g.met.K.Eq.laws in
+    updates_of_swap_without eq o (eq c.args.key) (o.congr c.args.key) _ _ (entries_swap_without_by eq _ _ _ c.over.ensures.unchanged c.over.ensures.index) d

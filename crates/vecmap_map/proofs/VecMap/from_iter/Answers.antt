@@ -1,4 +1,4 @@
-use Rattle.std.proofs.Common.{[], subst, sym}
+use Rattle.std.proofs.Common.{subst, sym}
 use Rattle.vecmap_base.specs.Pairs.{HasDistinctKeys}
 use Rattle.vecmap_base.proofs.DistinctLemmas.Absent.{distinct_none}
 use Rattle.vecmap_map.proofs.VecMap.from_iter.Goals as goal

@@ -17,3 +17,9 @@ returns-clause-entries g c = grind (arith, put_by_index)
 
 pub returns-clause-updates : goal.returns-clause-updates
 returns-clause-updates g c = updates_of_put g.K.PartialEq.eq g.met.K.Eq.laws _ _ _ _ (returns-clause-entries g c)
+
+pub returns-in-Some-clause-distinct : goal.returns-in-Some-clause-distinct
+returns-in-Some-clause-distinct g c = λ d. (returns-in-Some-clause-updates g c).distinct d
+
+pub returns-clause-distinct : goal.returns-clause-distinct
+returns-clause-distinct g c = λ d. (returns-clause-updates g c).distinct d

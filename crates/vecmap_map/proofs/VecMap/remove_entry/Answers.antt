@@ -8,3 +8,9 @@ returns-in_err-index-clause-updates g c = λ d. updates_of_without g.K.PartialEq
 
 pub returns-clause-updates : goal.returns-clause-updates
 returns-clause-updates g c = λ d. updates_of_without g.K.PartialEq.eq g.met.K.Eq.laws (g.Q.Equivalent.equivalent c.args.query) (g.met.Q.Equivalent.respects_eq c.args.query) _ _ (grind (arith, by_index)) d
+
+pub returns-in_err-index-clause-distinct : goal.returns-in_err-index-clause-distinct
+returns-in_err-index-clause-distinct g c = λ d. (returns-in_err-index-clause-updates g c d).distinct d
+
+pub returns-clause-distinct : goal.returns-clause-distinct
+returns-clause-distinct g c = λ d. (returns-clause-updates g c d).distinct d

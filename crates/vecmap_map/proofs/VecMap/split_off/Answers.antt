@@ -1,6 +1,12 @@
-use Rattle.std.proofs.Common.{rules}
-use Rattle.vecmap_base.proofs.PairsLemmas.Parts.{keeps_front_of}
+use Rattle.std.proofs.Common.{arith, drop, rules, take}
+use Rattle.std.proofs.lemmas.List.{take-append-drop}
+use Rattle.vecmap_base.proofs.PairsLemmas.Parts.{keeps_front_of, lookup_by_append}
 use Rattle.vecmap_map.proofs.VecMap.split_off.Goals as goal
 
 pub returns-clause-lookups : goal.returns-clause-lookups
 returns-clause-lookups g c = keeps_front_of c.args.at c.args.self.now.entries _ (search rules)
+
+pub returns-clause-halves : goal.returns-clause-halves
+returns-clause-halves g c = λ test.
+    let l = c.args.self.now.entries in
+    grind (arith, lookup_by_append test (take c.args.at l) (drop c.args.at l), take-append-drop c.args.at l)

@@ -1,5 +1,5 @@
-use Rattle.std.proofs.Common.{◌∙◌, arith}
-use Rattle.vecmap_base.proofs.PairsLemmas.ByIndex.{by_index, is_some_lookup_by}
+use Rattle.std.proofs.Common.{arith}
+use Rattle.vecmap_base.proofs.PairsLemmas.ByIndex.{by_index}
 use Rattle.vecmap_base.proofs.PairsLemmas.Updates.{updates_write}
 use Rattle.vecmap_map.proofs.indexing.VecMapIndexMutRef.index_mut.Goals as goal
 
@@ -12,6 +12,6 @@ returns g c = (
     updates = λ v.
         let eq = g.K.PartialEq.eq in
         let l = c.args.self.now.entries in
-        updates_write eq g.met.K.Eq.laws (eq c.args.key.now) (g.met.K.Eq.laws.congr c.args.key.now) l v (is_some_lookup_by (eq c.args.key.now) l ∙ c.requires.present);
+        updates_write eq g.met.K.Eq.laws (eq c.args.key.now) (g.met.K.Eq.laws.congr c.args.key.now) l v c.requires.present;
   },
 )
