@@ -2,11 +2,11 @@
 -- clones, as contracts say it.
 use Rattle.std.specs.{Cmp.IsEquivalence, List.IsDistinct, List.list_any, Map.AreApart, Map.IsKeyTest, Set.is_member}
 use Rattle.std.specs.Prelude.{IfSome, nat_lt}
-use Rattle.std.proofs.Common.{◌≡◌, ◌∙◌, ◌+◌, ◌-◌, ◌&&◌, ◌||◌, ℕ, suc, zero, Bool, true, false, Contains, IsTrue, List, [], ◌∷◌, ◌++◌, None, Option, Some, ap, arith, cond, drop, is_some, length, option_map, position, refl, remove, slice_get, subst, sym, take, unwrap_or}
+use Rattle.std.specs.Option.{option_to_list}
+use Rattle.std.proofs.Common.{◌≡◌, ◌∙◌, ◌&&◌, ◌||◌, ℕ, suc, zero, Bool, true, false, Contains, IsTrue, List, [], ◌∷◌, ◌++◌, None, Option, Some, ap, arith, cond, drop, is_some, length, option_map, position, refl, remove, slice_get, subst, sym, take, unwrap_or}
 use Rattle.std.proofs.lemmas.Bool.Decides.{nat_tests}
 use Rattle.std.proofs.lemmas.List.{take-append-drop}
 use Rattle.std.proofs.lemmas.List.Folds.{list_any-append}
-use Rattle.std.proofs.lemmas.Option.{slice_get_within}
 use Rattle.vecmap_base.specs.{Clones.AreClones, Items.put_item, Lookups.UpdatesMember}
 use Rattle.vecmap_base.proofs.IndexLemmas.{list_any_position, position_cons}
 use Rattle.vecmap_base.proofs.ItemsLemmas.{Members.members_from, Members.members_removed, Recursion.put_item_cons}
@@ -38,20 +38,22 @@ module _ {T : Type 0} (test : T → Bool) where
   matches_of_parts n s front part e f =
       sym (ap (list_any test) (take-append-drop n s)) ∙ list_any-append test (take n s) (drop n s) ∙ (λ i. list_any test (sym e i) || list_any test (sym f i))
 
--- The last item of a list is removed by its index.
-remove_last : {T : Type 0} (n : ℕ) (s : List T) → length s ≡ suc n → remove s n ≡ take n s
-remove_last n [] e = absurd (omega arith)
-remove_last zero (x ∷ []) e = refl
-remove_last zero (x ∷ y ∷ ys) e = absurd (omega arith)
-remove_last (suc n) (x ∷ xs) e = ap (λ l. x ∷ l) (remove_last n xs (omega arith))
+-- The last item of a list, and the list without it.
+module _ {T : Type 0} (x : T) where
+  at_end : (r : List T) → slice_get (r ++ x ∷ []) (length r) ≡ Some x
+  at_end [] = refl
+  at_end (y ∷ ys) = at_end ys
+
+  without_end : (r : List T) → remove (r ++ x ∷ []) (length r) ≡ r
+  without_end [] = refl
+  without_end (y ∷ ys) = ap (λ l. y ∷ l) (without_end ys)
 
 module _ {T : Type 0} (eq : T → T → Bool) (o : IsEquivalence eq) where
   -- After the removal of the last element, nothing is equal to it, and each other element is present exactly if it was.
-  pub members_popped : (s r : List T) (last : Option T) → r ≡ take (length s - 1) s → last ≡ slice_get s (length s - 1) → IsDistinct eq s → IfSome last (λ x. UpdatesMember eq (eq x) s r false)
-  members_popped s r None e at d = tt
-  members_popped s r (Some x) e at d =
-      let within = slice_get_within s (length s - 1) x (sym at) in
-      members_removed eq o s r (length s - 1) x (e ∙ sym (remove_last (length s - 1) s (omega (arith, within)))) (sym at) d
+  pub members_popped : (s r : List T) (last : Option T) → s ≡ r ++ option_to_list last → IsDistinct eq s → IfSome last (λ x. UpdatesMember eq (eq x) s r false)
+  members_popped s r None e d = tt
+  members_popped s r (Some x) e d =
+      members_removed eq o s r (length r) x (sym (ap (λ l. remove l (length r)) e ∙ without_end x r)) (ap (λ l. slice_get l (length r)) e ∙ at_end x r) d
 
   stored : (s : List T) (x : T) → list_any (eq x) (put_item eq s x) ≡ true
   stored [] x = ap (λ b. b || false) (o.refl x)
