@@ -5,3 +5,4 @@ pub mod Recursion
 pub mod Members
 pub mod Filtered
 pub mod Changes
+pub mod Stored
