@@ -2,10 +2,9 @@
 -- the new elements that are not present.
 use Rattle.std.specs.Set.{is_member}
 use Rattle.std.specs.{Cmp.IsEquivalence, Option.option_or}
-use Rattle.std.proofs.Common.{◌≡◌, ◌<◌, ◌+◌, ℕ, Bool, true, false, ◌||◌, not, Contains, IsTrue, List, [], ◌∷◌, ◌++◌, None, Option, Some, if◌then◌else◌, length, option_map, slice_get, suc, zero, refl, sym, ap, ◌∙◌, arith, inl, inr}
-use Rattle.std.proofs.Math.Bool.{or_assoc}
+use Rattle.std.proofs.Common.{◌≡◌, ◌<◌, ◌+◌, ℕ, Bool, true, false, ◌||◌, not, List, [], ◌∷◌, ◌++◌, None, Option, Some, if◌then◌else◌, length, option_map, slice_get, suc, zero, refl, sym, ap, ◌∙◌, arith, inl, inr}
 use Rattle.std.proofs.lemmas.{Bool.cases_Bool, List.append-nil, List.append_assoc, List.Folds.list_any-append, Map.Steps.list_any_congr}
-use Rattle.vecmap_base.specs.{Clones.AreClones, Items.add, Items.adds, Items.item_index, Items.only}
+use Rattle.vecmap_base.specs.{Items.add, Items.adds, Items.item_index, Items.only}
 use Rattle.vecmap_base.proofs.ItemsLemmas.{Additions.add_absent, Additions.add_present, Recursion.item_index_cons}
 pub use Rattle.vecmap_base.proofs.ItemsLemmas.Members.{is_member_adds}
 pub use Rattle.vecmap_base.proofs.ItemsLemmas.Changes.{is_member_clones}

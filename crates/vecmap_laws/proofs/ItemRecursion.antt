@@ -1,6 +1,6 @@
 -- The definitions on elements, for a list with one element more.
 use Rattle.std.specs.Option.{option_map, option_map_or}
-use Rattle.std.proofs.Common.{◌≡◌, ℕ, suc, Bool, true, false, List, [], ◌∷◌, Option, None, Some, if◌then◌else◌, position, remove, refl, ap, ◌∙◌}
+use Rattle.std.proofs.Common.{◌≡◌, ℕ, suc, Bool, true, false, List, ◌∷◌, Option, None, Some, if◌then◌else◌, position, remove, refl, ap, ◌∙◌}
 use Rattle.vecmap_base.specs.Items.{without_first, without_item}
 use Rattle.vecmap_base.proofs.IndexLemmas.{position_cons}
 pub use Rattle.vecmap_base.proofs.ItemsLemmas.Recursion.{item_index_cons, add_cons, put_item_cons}

@@ -1,6 +1,6 @@
 -- Which elements are present after a replacement, after the removal of the last element, in the front of a list and in
 -- clones, as contracts say it.
-use Rattle.std.specs.{Cmp.IsEquivalence, List.IsDistinct, List.list_any, Map.AreApart, Map.IsKeyTest, Set.is_member}
+use Rattle.std.specs.{Cmp.IsEquivalence, List.IsDistinct, List.list_any, Map.AreApart, Set.is_member}
 use Rattle.std.specs.Prelude.{IfSome, nat_lt}
 use Rattle.std.specs.Option.{option_to_list}
 use Rattle.std.proofs.Common.{◌≡◌, ◌∙◌, ◌&&◌, ◌||◌, ℕ, suc, zero, Bool, true, false, Contains, IsTrue, List, [], ◌∷◌, ◌++◌, None, Option, Some, ap, arith, cond, drop, is_some, length, option_map, position, refl, remove, slice_get, subst, sym, take, unwrap_or}
