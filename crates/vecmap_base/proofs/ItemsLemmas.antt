@@ -4,3 +4,5 @@ pub mod Indices
 pub mod Recursion
 pub mod Members
 pub mod Filtered
+pub mod Changes
+pub mod Stored

@@ -3,6 +3,7 @@
 //! ```
 //! squares(alloc, 3)?.as_slice() // [(0, 0), (1, 1), (2, 4)]
 //! ```
+#![tactic(auto, using(vecmap_laws::proofs::Rules::common))]
 ghost use Rattle.std.specs.Prelude.{◌*◌, ◌<◌, ◌≡◌, ◌≤◌, ℕ, IfOk, None, Some, length, nat_eq};
 ghost use Rattle.vecmap.specs.Pairs.{HasDistinctKeys, lookup};
 
@@ -10,7 +11,6 @@ use std::alloc::{AllocError, Global};
 use vecmap::VecMap;
 
 /// Creates a map of the numbers below `end`, each with its square.
-#[tactic(auto, using(vecmap_laws::proofs::Rules::distinct_keys))]
 pub fn squares(alloc: Global, end: u32) -> Result<VecMap<u32, u64>, AllocError>
     ensures len { IfOk result (λ map. length map.entries ≡ end) }
     ensures distinct { IfOk result (λ map. HasDistinctKeys nat_eq map.entries) }

@@ -9,6 +9,7 @@
 //! split_off_then_append(&mut map, 1, &2)? // true
 //! truncate_then_get(&mut map, 1, &2) // false
 //! ```
+#![tactic(auto, using(vecmap_laws::proofs::Rules::common))]
 ghost use Rattle.std.specs.Option.{option_or};
 ghost use Rattle.std.specs.Prelude.{◌≡◌, ◌≤◌, ◌||◌, ◌&&◌, IfOk, None, OnOk, Some, false, if◌then◌else◌, is_some, length, nat_lt, not};
 ghost use Rattle.std.specs.Set.{is_member};
@@ -19,7 +20,6 @@ use vecmap::{Refused, VecMap, VecSet};
 use vecmap_laws::{maps, sets};
 
 /// Inserts a pair and returns whether a key is present.
-#[tactic(auto, using(vecmap_laws::proofs::Rules::lookups))]
 pub fn insert_then_get<K: Eq + Drop, V: Drop>(
     map: &mut VecMap<K, V>,
     key: K,
@@ -37,7 +37,6 @@ pub fn insert_then_get<K: Eq + Drop, V: Drop>(
 }
 
 /// Removes a key and returns whether another is present, which finds what it found before.
-#[tactic(auto, using(vecmap_laws::proofs::Rules::lookups))]
 pub fn remove_then_get<K: Eq + Drop, V: Drop>(map: &mut VecMap<K, V>, key: &K, other: &K) -> bool
     requires apart { K.eq key.now other.now ≡ false }
     ensures lookup { lookup K.eq map.new.entries other.now ≡ lookup K.eq map.old.entries other.now }
@@ -49,7 +48,6 @@ pub fn remove_then_get<K: Eq + Drop, V: Drop>(map: &mut VecMap<K, V>, key: &K, o
 }
 
 /// Inserts two pairs and returns whether a key is present. The later pair wins.
-#[tactic(auto, using(vecmap_laws::proofs::Rules::lookups))]
 pub fn two_inserts_then_get<K: Eq + Drop, V: Drop>(
     map: &mut VecMap<K, V>,
     first: K,
@@ -69,7 +67,6 @@ pub fn two_inserts_then_get<K: Eq + Drop, V: Drop>(
 }
 
 /// Inserts a pair, sorts by the keys, and returns whether a key is present.
-#[tactic(auto, using(vecmap_laws::proofs::Rules::lookups))]
 pub fn insert_sort_then_get<K: Ord + Drop, V: Drop>(
     map: &mut VecMap<K, V>,
     key: K,
@@ -87,7 +84,6 @@ pub fn insert_sort_then_get<K: Ord + Drop, V: Drop>(
 }
 
 /// Keeps the first `n` pairs and returns whether a key is present.
-#[tactic(auto, using(vecmap_laws::proofs::Rules::lookups))]
 pub fn truncate_then_get<K: Eq + Drop, V: Drop>(map: &mut VecMap<K, V>, n: usize, query: &K) -> bool
     ensures lookup { lookup K.eq map.new.entries query.now
         ≡ (if nat_lt (index_or_length K.eq map.old.entries query.now) n
@@ -99,7 +95,6 @@ pub fn truncate_then_get<K: Eq + Drop, V: Drop>(map: &mut VecMap<K, V>, n: usize
 }
 
 /// Inserts two pairs, removes a key, and returns whether that key is present.
-#[tactic(auto, using(vecmap_laws::proofs::Rules::lookups))]
 pub fn inserts_then_remove<K: Eq + Drop, V: Drop>(
     map: &mut VecMap<K, V>,
     first: K,
@@ -121,7 +116,6 @@ pub fn inserts_then_remove<K: Eq + Drop, V: Drop>(
 }
 
 /// Removes a key, to whose index the last pair moves, and returns whether another key is present.
-#[tactic(auto, using(vecmap_laws::proofs::Rules::lookups))]
 pub fn swap_remove_then_contains<K: Eq + Drop, V: Drop>(
     map: &mut VecMap<K, V>,
     key: &K,
@@ -139,7 +133,6 @@ pub fn swap_remove_then_contains<K: Eq + Drop, V: Drop>(
 }
 
 /// Appends a map and returns whether a key is present. It finds its value of the other map, or else its old one.
-#[tactic(auto, using(vecmap_laws::proofs::Rules::lookups))]
 pub fn append_then_get<K: Eq + Drop, V: Drop>(
     map: &mut VecMap<K, V>,
     other: &mut VecMap<K, V>,
@@ -155,7 +148,6 @@ pub fn append_then_get<K: Eq + Drop, V: Drop>(
 }
 
 /// Splits a map and appends its second part, and returns whether a key is present. It finds what it found.
-#[tactic(auto, using(vecmap_laws::proofs::Rules::lookups))]
 pub fn split_off_then_append<K: Eq + Drop, V: Drop>(
     map: &mut VecMap<K, V>,
     at: usize,
@@ -173,7 +165,6 @@ pub fn split_off_then_append<K: Eq + Drop, V: Drop>(
 }
 
 /// Inserts an element, removes another, and returns whether a third is present.
-#[tactic(auto, using(vecmap_laws::proofs::Rules::members))]
 pub fn set_insert_remove_then_contains<T: Eq + Drop>(
     set: &mut VecSet<T>,
     item: T,
@@ -192,7 +183,6 @@ pub fn set_insert_remove_then_contains<T: Eq + Drop>(
 }
 
 /// Makes five changes and returns whether a key is present.
-#[tactic(auto, using(vecmap_laws::proofs::Rules::lookups))]
 pub fn five_changes_then_contains<K: Eq + Drop, V: Drop>(
     map: &mut VecMap<K, V>,
     a: K,
@@ -221,7 +211,6 @@ pub fn five_changes_then_contains<K: Eq + Drop, V: Drop>(
 }
 
 /// Appends a map, reverses the list twice, removes a key, and returns whether another key is present.
-#[tactic(auto, using(vecmap_laws::proofs::Rules::lookups))]
 pub fn append_remove_then_contains<K: Eq + Drop, V: Drop>(
     map: &mut VecMap<K, V>,
     other: &mut VecMap<K, V>,
@@ -243,7 +232,6 @@ pub fn append_remove_then_contains<K: Eq + Drop, V: Drop>(
 }
 
 /// Inserts a pair at an index and returns whether a key is present.
-#[tactic(auto, using(vecmap_laws::proofs::Rules::lookups))]
 pub fn insert_at_then_contains<K: Eq + Drop, V: Drop>(
     map: &mut VecMap<K, V>,
     key: K,

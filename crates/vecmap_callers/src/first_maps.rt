@@ -21,6 +21,7 @@
 //! retain_then_contains(&mut set, &9) // false
 //! set.as_slice() // [8]
 //! ```
+#![tactic(auto, using(vecmap_laws::proofs::Rules::common))]
 ghost use Rattle.std.specs.Option.{option_and_then, option_map, option_or};
 ghost use Rattle.std.specs.Prelude.{◌≡◌, ◌&&◌, ◌<◌, ◌+◌, ◌%◌, ℕ, IfOk, IsTrue, None, OnErr, OnOk, Some, false, if◌then◌else◌, nat_eq, nat_lt, unwrap_or};
 ghost use Rattle.std.specs.Set.{is_member};
@@ -93,7 +94,6 @@ pub fn defaults(alloc: Global) -> Result<VecMap<u32, u32>, AllocError>
 }
 
 /// Inserts two values of one key. The second wins, and nothing else is left of the first.
-#[tactic(auto, using(vecmap_laws::proofs::Rules::puts_at_numbers))]
 pub fn insert_twice(map: &mut VecMap<u32, u32>, key: u32) -> Result<(), Refused<(u32, u32)>>
     ensures { OnOk result (map.new.entries ≡ put nat_eq map.old.entries key 2) }
 {
@@ -147,7 +147,6 @@ pub fn retain_and_write<K: Eq + Drop>(map: &mut VecMap<K, u32>, key: &K) -> bool
 }
 
 /// Inserts the pairs of another map, whose values win.
-#[tactic(auto, using(vecmap_laws::proofs::Rules::extended))]
 pub fn overlay(base: &mut VecMap<u32, u32>, over: VecMap<u32, u32>) -> Result<(), AllocError>
     requires { HasDistinctKeys nat_eq over.entries }
     ensures { OnOk result ((q : ℕ) → lookup nat_eq base.new.entries q

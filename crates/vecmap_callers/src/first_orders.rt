@@ -9,6 +9,7 @@
 //! map.as_slice() // [(1, 2), (2, 0), (3, 1)]
 //! clone_is_equal(&map)? // true
 //! ```
+#![tactic(auto, using(vecmap_laws::proofs::Rules::common))]
 ghost use Rattle.std.specs.List.Sorted.{IsSortedByKey};
 ghost use Rattle.std.specs.Ordering.{nat_cmp};
 ghost use Rattle.std.specs.Prelude.{◌≡◌, IfOk, IsTrue, OnOk, is_some, nat_eq};
@@ -36,7 +37,6 @@ pub fn reverse_and_get(map: &mut VecMap<u32, u32>, key: u32) -> Option<u32>
 }
 
 /// Writes 0 at a key, which is inserted where its search ends if it is absent. The keys stay sorted.
-#[tactic(auto, using(vecmap_laws::proofs::Rules::sorted_at_numbers))]
 pub fn insert_sorted(map: &mut VecMap<u32, u32>, key: u32) -> Result<(), Refused<(u32, u32)>>
     requires { IsSortedByKey (λ p. p.0) nat_cmp map.old.entries }
     ensures { OnOk result (IsSortedByKey (λ p. p.0) nat_cmp map.new.entries) }
@@ -51,7 +51,6 @@ pub fn insert_sorted(map: &mut VecMap<u32, u32>, key: u32) -> Result<(), Refused
 }
 
 /// Sorts by the keys, and returns whether a binary search finds a key. It finds each key that is present.
-#[tactic(auto, using(vecmap_laws::proofs::Rules::sorted_at_numbers))]
 pub fn search(map: &mut VecMap<u32, u32>, key: u32) -> Result<bool, AllocError>
     ensures { IfOk result (λ found. found ≡ is_some (index_of nat_eq map.old.entries key)) }
 {
@@ -60,7 +59,6 @@ pub fn search(map: &mut VecMap<u32, u32>, key: u32) -> Result<bool, AllocError>
 }
 
 /// Returns whether a clone is equal, which is always `true`.
-#[tactic(auto, using(vecmap_laws::proofs::Rules::clones_at_numbers))]
 pub fn clone_is_equal(map: &VecMap<u32, u32>) -> Result<bool, AllocError>
     ensures { IfOk result (λ same. IsTrue same) }
 {

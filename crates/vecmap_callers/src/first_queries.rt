@@ -6,6 +6,7 @@
 //! two_inserts_then_query(&mut map, 3, 4, 5, 6, &7)? // false
 //! map.len() // 3
 //! ```
+#![tactic(auto, using(vecmap_laws::proofs::Rules::common))]
 ghost use Rattle.std.specs.Map.{IsKeyTest};
 ghost use Rattle.std.specs.Prelude.{◌≡◌, OnOk, Some, if◌then◌else◌};
 ghost use Rattle.vecmap.specs.Pairs.{has_text, lookup_by};
@@ -19,7 +20,6 @@ pub fn queries_respect<K: Eq, Q: Equivalent<K>>()
 {}
 
 /// Inserts a pair and looks up by a query.
-#[tactic(auto, using(vecmap_laws::proofs::Queries::lookup_put_any_query))]
 pub fn insert_then_query<K: Eq + Drop, V: Drop, Q: Equivalent<K>>(
     map: &mut VecMap<K, V>,
     key: K,
@@ -35,7 +35,6 @@ pub fn insert_then_query<K: Eq + Drop, V: Drop, Q: Equivalent<K>>(
 }
 
 /// Inserts two pairs and looks up by a query.
-#[tactic(auto, using(vecmap_laws::proofs::Queries::lookup_put_any_query))]
 pub fn two_inserts_then_query<K: Eq + Drop, V: Drop, Q: Equivalent<K>>(
     map: &mut VecMap<K, V>,
     first: K,

@@ -12,6 +12,7 @@ pub mod first_lookups;
 pub mod first_maps;
 pub mod first_orders;
 pub mod first_queries;
+pub mod first_sets;
 pub mod first_texts;
 pub mod header_lists;
 pub mod interner;

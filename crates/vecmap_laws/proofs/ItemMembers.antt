@@ -2,11 +2,12 @@
 -- the new elements that are not present.
 use Rattle.std.specs.Set.{is_member}
 use Rattle.std.specs.{Cmp.IsEquivalence, Option.option_or}
-use Rattle.std.proofs.Common.{◌≡◌, ◌<◌, ◌+◌, ℕ, Bool, true, false, ◌||◌, not, Contains, IsTrue, List, [], ◌∷◌, ◌++◌, None, Option, Some, if◌then◌else◌, length, option_map, slice_get, suc, zero, refl, sym, ap, ◌∙◌, arith, inl, inr}
-use Rattle.std.proofs.Math.Bool.{or_assoc}
+use Rattle.std.proofs.Common.{◌≡◌, ◌<◌, ◌+◌, ℕ, Bool, true, false, ◌||◌, not, List, [], ◌∷◌, ◌++◌, None, Option, Some, if◌then◌else◌, length, option_map, slice_get, suc, zero, refl, sym, ap, ◌∙◌, arith, inl, inr}
 use Rattle.std.proofs.lemmas.{Bool.cases_Bool, List.append-nil, List.append_assoc, List.Folds.list_any-append, Map.Steps.list_any_congr}
-use Rattle.vecmap_base.specs.{Clones.AreClones, Items.add, Items.adds, Items.item_index, Items.only}
+use Rattle.vecmap_base.specs.{Items.add, Items.adds, Items.item_index, Items.only}
 use Rattle.vecmap_base.proofs.ItemsLemmas.{Additions.add_absent, Additions.add_present, Recursion.item_index_cons}
+pub use Rattle.vecmap_base.proofs.ItemsLemmas.Members.{is_member_adds}
+pub use Rattle.vecmap_base.proofs.ItemsLemmas.Changes.{is_member_clones}
 
 -- An item of the front of a list is at its index in the whole list.
 slice_get_append : {T : Type 0} (s t : List T) (i : ℕ) → i < length s → slice_get (s ++ t) i ≡ slice_get s i
@@ -102,25 +103,3 @@ module _ {T : Type 0} (eq : T → T → Bool) where
         by : (b : Bool) → (b || true) ≡ true
         by true = refl
         by false = refl
-
-    -- After many additions, an element is present if it was, or if one of the added elements is equal to it.
-    pub is_member_adds : (s xs : List T) (y : T) → is_member eq (adds eq s xs) y ≡ (is_member eq s y || is_member eq xs y)
-    is_member_adds s [] y = by (is_member eq s y)
-      where
-        by : (b : Bool) → b ≡ (b || false)
-        by true = refl
-        by false = refl
-    is_member_adds s (x ∷ xs) y =
-        is_member_adds (add eq s x) xs y
-        ∙ ap (λ b. b || is_member eq xs y) (is_member_add s x y ∙ ap (λ b. is_member eq s y || b) (o.symm x y))
-        ∙ or_assoc (is_member eq s y) (eq y x) (is_member eq xs y)
-
-    -- If each clone of an element is equal to it, the same elements are present in clones of a list.
-    pub is_member_clones : (C : T → T → Type 0) (l m : List T) → ((x y : T) → Contains l x → C x y → IsTrue (eq x y)) → AreClones C l m → (z : T) → is_member eq m z ≡ is_member eq l z
-    is_member_clones C [] [] same c z = refl
-    is_member_clones C [] (y ∷ ys) same c z = absurd c
-    is_member_clones C (x ∷ xs) [] same c z = absurd c
-    is_member_clones C (x ∷ xs) (y ∷ ys) same c z =
-        let first : eq z y ≡ eq z x = o.symm z y ∙ sym (o.congr x y z (same x y (0, omega arith, refl) c.0)) ∙ o.symm x z in
-        let rest = is_member_clones C xs ys (λ v w in_rest. same v w (suc in_rest.0, omega (arith, in_rest.1), in_rest.2)) c.1 z in
-        λ i. first i || rest i

@@ -1,9 +1,9 @@
 -- The definitions on elements, for a list with one element more.
 use Rattle.std.specs.Option.{option_map, option_map_or}
-use Rattle.std.proofs.Common.{◌≡◌, ℕ, suc, Bool, true, false, List, [], ◌∷◌, ◌++◌, Option, None, Some, if◌then◌else◌, position, remove, slice_set, refl, ap, ◌∙◌}
-use Rattle.vecmap_base.specs.Items.{put_item, item_index, without_first, without_item}
+use Rattle.std.proofs.Common.{◌≡◌, ℕ, suc, Bool, true, false, List, ◌∷◌, Option, None, Some, if◌then◌else◌, position, remove, refl, ap, ◌∙◌}
+use Rattle.vecmap_base.specs.Items.{without_first, without_item}
 use Rattle.vecmap_base.proofs.IndexLemmas.{position_cons}
-pub use Rattle.vecmap_base.proofs.ItemsLemmas.Recursion.{item_index_cons, add_cons}
+pub use Rattle.vecmap_base.proofs.ItemsLemmas.Recursion.{item_index_cons, add_cons, put_item_cons}
 
 module _ {T : Type 0} (test : T → Bool) where
   pub without_first_cons : (x : T) (xs : List T) → without_first test (x ∷ xs) ≡ (if test x then xs else x ∷ without_first test xs)
@@ -15,13 +15,5 @@ module _ {T : Type 0} (test : T → Bool) where
       by false (Some i) = refl
 
 module _ {T : Type 0} (eq : T → T → Bool) where
-  pub put_item_cons : (y : T) (ys : List T) (x : T) → put_item eq (y ∷ ys) x ≡ (if eq x y then x ∷ ys else y ∷ put_item eq ys x)
-  put_item_cons y ys x = ap (λ o. option_map_or (λ i. slice_set (y ∷ ys) i x) o (y ∷ ys ++ x ∷ [])) (item_index_cons eq y ys x) ∙ by (eq x y) (item_index eq ys x)
-    where
-      by : (b : Bool) (o : Option ℕ) → option_map_or (λ i. slice_set (y ∷ ys) i x) (if b then Some 0 else option_map suc o) (y ∷ ys ++ x ∷ []) ≡ (if b then x ∷ ys else y ∷ option_map_or (λ i. slice_set ys i x) o (ys ++ x ∷ []))
-      by true o = refl
-      by false None = refl
-      by false (Some i) = refl
-
   pub without_item_cons : (y : T) (ys : List T) (x : T) → without_item eq (y ∷ ys) x ≡ (if eq x y then ys else y ∷ without_item eq ys x)
   without_item_cons y ys x = without_first_cons (eq x) y ys

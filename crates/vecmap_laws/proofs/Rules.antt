@@ -8,9 +8,10 @@ use Rattle.vecmap_base.proofs.DistinctLemmas.Additions.{distinct_add, distinct_a
 use Rattle.vecmap_base.proofs.LoopLemmas.{key_stays, keys_written}
 use Rattle.vecmap_base.proofs.PairsLemmas.Keys.{keys_of_put, keys_of_puts}
 use Rattle.vecmap_base.proofs.WalkLemmas.{drained_all}
-use Rattle.std.specs.{Cmp.nat_eq_equiv, String.string_eq_equiv}
 use Rattle.vecmap_laws.proofs.AlgebraLemmas.{is_member_of_collected}
 use Rattle.vecmap_laws.proofs.AfterPuts.{index_of_congr, index_of_put, lookup_put_any, lookup_puts_distinct, lookup_without_any}
+use Rattle.vecmap_laws.proofs.AtNumbers.{put_put_of_numbers}
+use Rattle.vecmap_laws.proofs.AtTexts.{put_put_of_texts}
 pub use Rattle.vecmap_laws.proofs.AtNumbers.{lookups_at_numbers, members_at_numbers}
 pub use Rattle.vecmap_laws.proofs.AtTexts.{lookups_at_texts, members_at_texts, texts}
 use Rattle.vecmap_laws.proofs.CloneEquality.{clones_equal, equal_to_itself, equal_to_itself_at_numbers, same_clones}
@@ -22,6 +23,7 @@ use Rattle.vecmap_laws.proofs.Finds.{distinct_keys_reverse, distinct_swapped, di
 use Rattle.vecmap_laws.proofs.ItemMembers.{is_member_add, is_member_adds}
 use Rattle.vecmap_laws.proofs.Lookups.{lookup_without_key_other}
 use Rattle.vecmap_laws.proofs.Puts.{puts_restore}
+use Rattle.vecmap_laws.proofs.Queries.{lookup_put_any_query}
 use Rattle.vecmap_laws.proofs.IndicesAfter.{index_by_take}
 use Rattle.vecmap_laws.proofs.ItemIndices.{item_index_add, slice_get_add}
 
@@ -77,9 +79,9 @@ pub ruleset members = (is_member_add, is_member_adds, is_member_without, is_memb
 -- Insertions of one key, one after the other.
 pub ruleset puts = (put_put)
 
-pub ruleset puts_at_numbers = (puts, nat_eq_equiv)
+pub ruleset puts_at_numbers = (put_put_of_numbers)
 
-pub ruleset puts_at_texts = (puts, string_eq_equiv)
+pub ruleset puts_at_texts = (put_put_of_texts)
 
 -- At which indices keys are found after an insertion and in the front of the list.
 pub ruleset indices = (index_of_put, index_by_take, index_of_congr)
@@ -102,3 +104,6 @@ pub ruleset collected = (is_member_of_collected)
 
 -- What `extend` by another map, passed by value, leaves.
 pub ruleset extended = (drained_all)
+
+-- For the root file of a crate: the lists above, at numbers and at texts where a list at any type does not fit them.
+pub ruleset common = (sorted_at_numbers, puts_at_numbers, puts_at_texts, clones_at_numbers, extended, lookups, members, lookup_put_any_query, collected, distinct, distinct_elements, elements, indices, keys, keys_in_loops, texts)

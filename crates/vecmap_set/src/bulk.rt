@@ -1,5 +1,6 @@
 //! Creation of a set from many elements, and addition of many elements.
-ghost use Rattle.std.specs.Prelude.{◌≡◌, ◌<◌, ◌≤◌, ◌||◌, IfOk, IsOk, List, OnErr, OnOk, [], length};
+ghost use Rattle.std.specs.Prelude.{◌≡◌, ◌<◌, ◌≤◌, ◌||◌, IfOk, IsOk, List, OnErr, OnOk, [], length, map};
+ghost use Rattle.std.specs.Borrow.{Bor};
 ghost use Rattle.std.specs.Iterator.{Drains, ExtendsWithItems, IsFiniteIterable};
 ghost use Rattle.std.specs.List.{IsDistinct};
 ghost use Rattle.std.specs.Map.Iter.{deref};
@@ -48,6 +49,10 @@ impl<T: Eq> VecSet<T> {
         ensures elements { IfOk result (λ set. (it : I.IntoIter) × (items : List T)
             × I.into_iter_gives iter it × Drains I.IntoIter.next_gives it items
             × (set.elements ≡ adds T.eq [] items)) }
+        ensures members { (items : List T)
+            → YieldsAll I.into_iter_gives I.IntoIter.next_gives iter items
+            → IfOk result (λ set. (q : T) → is_member T.eq set.elements q
+            ≡ is_member T.eq items q) }
         ensures distinct { IfOk result (λ set. IsDistinct T.eq set.elements) }
     {
         let mut set = VecSet::new(alloc);
@@ -216,6 +221,11 @@ impl<T: Eq> VecSet<T> {
         T: Copy + 'a,
         requires ends { IsFiniteIterable I.into_iter_gives I.IntoIter.can_next I.IntoIter.remaining
             iter }
+        ensures members { (items : List T) → ((it : I.IntoIter) (yielded : List (Bor T))
+            → I.into_iter_gives iter it → Drains I.IntoIter.next_gives it yielded
+            → map deref yielded ≡ items) → OnOk result ((q : T)
+            → is_member T.eq self.new.elements q
+            ≡ (is_member T.eq self.old.elements q || is_member T.eq items q)) }
         ensures ran { ExtendsWithItems I.into_iter_gives I.IntoIter.next_gives
             (AddsCopies T.eq deref) iter self.old self.new result }
         ensures distinct { IsDistinct T.eq self.new.elements }

@@ -1,6 +1,7 @@
 //! Clones of a set, by a call and by the trait `Clone`, for generic code, derives and sets in maps.
-ghost use Rattle.std.specs.Prelude.{◌↔◌, Contains, IfOk, IsTrue};
+ghost use Rattle.std.specs.Prelude.{◌≡◌, ◌↔◌, Contains, IfOk, IsTrue};
 ghost use Rattle.std.specs.List.{IsDistinct};
+ghost use Rattle.std.specs.Set.{is_member};
 ghost use Rattle.vecmap_base.specs.Clones.{AreClones};
 
 use crate::VecSet;
@@ -38,6 +39,8 @@ impl<T: Eq> VecSet<T> {
         ensures elements { IfOk result
             (λ set. AreClones T.is_clone self.now.elements set.elements) }
         ensures distinct { IfOk result (λ set. IsDistinct T.eq set.elements) }
+        ensures members { IfOk result (λ set. (q : T) → is_member T.eq set.elements q
+            ≡ is_member T.eq self.now.elements q) }
     {
         Ok(VecSet {
             items: self.items.clone()?,

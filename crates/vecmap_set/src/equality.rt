@@ -1,5 +1,6 @@
 //! Equality of sets, disjoint sets, subsets and supersets.
-ghost use Rattle.std.specs.Prelude.{◌≡◌, ◌↔◌, IsTrue, []};
+ghost use Rattle.std.specs.Prelude.{◌≡◌, ◌↔◌, IsTrue, [], false};
+ghost use Rattle.std.specs.Set.{is_member};
 ghost use Rattle.vecmap_base.specs.Equality.{is_within};
 ghost use Rattle.vecmap_base.specs.Items.{both};
 
@@ -20,8 +21,11 @@ impl<T: Eq> VecSet<T> {
     /// let set = vecset!(alloc; 1, 2);
     /// set.is_disjoint(&vecset!(alloc; 3, 4)) // true
     /// ```
+    #[tactic(auto, using(vecmap_base::proofs::EqualityLemmas::Relations::apart_if_none_shared))]
     pub fn is_disjoint(&self, other: &VecSet<T>) -> bool
-        ensures { IsTrue result ↔ (both T.eq self.now.elements other.now.elements ≡ []) }
+        ensures found { IsTrue result ↔ (both T.eq self.now.elements other.now.elements ≡ []) }
+        ensures members { IsTrue result → (q : T) → IsTrue (is_member T.eq self.now.elements q)
+            → is_member T.eq other.now.elements q ≡ false }
     {
         if self.len() <= other.len() {
             are_disjoint(&self.items, &other.items)
@@ -43,9 +47,11 @@ impl<T: Eq> VecSet<T> {
     /// let set = vecset!(alloc; 1, 2);
     /// set.is_subset(&vecset!(alloc; 2, 3, 1)) // true
     /// ```
-    #[tactic(auto, using(vecmap_base::proofs::EqualityLemmas::Sets::longer_not_within))]
+    #[tactic(auto, using(vecmap_base::proofs::EqualityLemmas::Sets::longer_not_within, vecmap_base::proofs::EqualityLemmas::Sets::within_from_test))]
     pub fn is_subset(&self, other: &VecSet<T>) -> bool
-        ensures { result ≡ is_within T.eq self.now.elements other.now.elements }
+        ensures found { result ≡ is_within T.eq self.now.elements other.now.elements }
+        ensures members { IsTrue result → (q : T) → IsTrue (is_member T.eq self.now.elements q)
+            → IsTrue (is_member T.eq other.now.elements q) }
     {
         let (items, others) = (self.as_slice(), other.as_slice());
         if items.len() > others.len() {
@@ -67,7 +73,9 @@ impl<T: Eq> VecSet<T> {
     /// set.is_superset(&vecset!(alloc; 2)) // true
     /// ```
     pub fn is_superset(&self, other: &VecSet<T>) -> bool
-        ensures { result ≡ is_within T.eq other.now.elements self.now.elements }
+        ensures found { result ≡ is_within T.eq other.now.elements self.now.elements }
+        ensures members { IsTrue result → (q : T) → IsTrue (is_member T.eq other.now.elements q)
+            → IsTrue (is_member T.eq self.now.elements q) }
     {
         other.is_subset(self)
     }

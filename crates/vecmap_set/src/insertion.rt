@@ -87,6 +87,8 @@ impl<T: Eq> VecSet<T> {
             (self.new.elements ≡ put_item T.eq self.old.elements item) }
         ensures old { IfOk result (λ old. old ≡ stored_item T.eq self.old.elements item) }
         ensures distinct { IsDistinct T.eq self.new.elements }
+        ensures updates { OnOk result (UpdatesMember T.eq (T.eq item) self.old.elements
+            self.new.elements true) }
         ensures capacity { KeepsRoom T.eq self.old item self.new }
 
         // On `Err` the element is returned, it is new, and the set is full.

@@ -2,8 +2,9 @@
 //!
 //! A lookup by a query compares it with the elements in order, up to the first that matches, and of small elements with
 //! at most seven more: at most `len` comparisons in all. A lookup by index makes none.
-ghost use Rattle.std.specs.Prelude.{◌≡◌, ◌-◌, ◌<◌, IfSome, length, option_copied, option_map, position, slice_get};
+ghost use Rattle.std.specs.Prelude.{◌≡◌, ◌-◌, ◌<◌, IfSome, IsTrue, is_some, length, option_copied, option_map, position, slice_get};
 ghost use Rattle.std.specs.List.{list_any};
+ghost use Rattle.std.specs.Set.{is_member};
 ghost use Rattle.vecmap_base.specs.Items.{stored_first};
 ghost use Rattle.vecmap_base.specs.Pairs.{has_text};
 
@@ -42,8 +43,11 @@ impl<T: Eq> VecSet<T> {
     /// let set = vecset!(alloc; 2, 1);
     /// set.first() // Some(&2)
     /// ```
+    #[tactic(auto, using(vecmap_base::proofs::ItemsLemmas::Stored::present_by_reference))]
     pub fn first(&self) -> Option<&T>
-        ensures { option_copied result ≡ slice_get self.now.elements 0 }
+        ensures element { option_copied result ≡ slice_get self.now.elements 0 }
+        ensures present { IfSome result (λ element. IsTrue (is_member T.eq self.now.elements
+            element.now)) }
     {
         self.items.first()
     }
@@ -60,9 +64,12 @@ impl<T: Eq> VecSet<T> {
     /// let set = vecset!(alloc; 2, 1);
     /// set.last() // Some(&1)
     /// ```
+    #[tactic(auto, using(vecmap_base::proofs::ItemsLemmas::Stored::present_by_reference))]
     pub fn last(&self) -> Option<&T>
-        ensures { option_copied result
+        ensures element { option_copied result
             ≡ slice_get self.now.elements (length self.now.elements - 1) }
+        ensures present { IfSome result (λ element. IsTrue (is_member T.eq self.now.elements
+            element.now)) }
     {
         self.items.last()
     }
@@ -80,8 +87,11 @@ impl<T: Eq> VecSet<T> {
     /// set.get(&2) // Some(&2)
     /// set.get(&3) // None
     /// ```
+    #[tactic(auto, using(vecmap_base::proofs::IndexLemmas::list_any_position))]
     pub fn get<Q: Equivalent<T>>(&self, query: Q) -> Option<&T>
-        ensures { option_copied result ≡ stored_first (Q.equivalent query) self.now.elements }
+        ensures element { option_copied result
+            ≡ stored_first (Q.equivalent query) self.now.elements }
+        ensures found { is_some result ≡ list_any (Q.equivalent query) self.now.elements }
     {
         let index = find_item_equivalent(&self.items, query)?;
         Some(&self.items[index])
@@ -100,8 +110,11 @@ impl<T: Eq> VecSet<T> {
     /// set.get_index(0) // Some(&2)
     /// set.get_index(2) // None
     /// ```
+    #[tactic(auto, using(vecmap_base::proofs::ItemsLemmas::Stored::present_by_reference))]
     pub fn get_index(&self, index: usize) -> Option<&T>
-        ensures { option_copied result ≡ slice_get self.now.elements index }
+        ensures element { option_copied result ≡ slice_get self.now.elements index }
+        ensures present { IfSome result (λ element. IsTrue (is_member T.eq self.now.elements
+            element.now)) }
     {
         self.items.get(index)
     }
@@ -142,9 +155,11 @@ impl<T: Eq> VecSet<T> {
     /// set.get_index_of(&1) // Some(1)
     /// set.get_index_of(&3) // None
     /// ```
+    #[tactic(auto, using(vecmap_base::proofs::IndexLemmas::list_any_position))]
     pub fn get_index_of<Q: Equivalent<T>>(&self, query: Q) -> Option<usize>
         ensures index { result ≡ position (Q.equivalent query) self.now.elements }
         ensures within { IfSome result (λ i. i < length self.now.elements) }
+        ensures found { is_some result ≡ list_any (Q.equivalent query) self.now.elements }
     {
         find_item_equivalent(&self.items, query)
     }

@@ -1,5 +1,5 @@
 //! Removal of elements.
-ghost use Rattle.std.specs.Prelude.{◌≡◌, ◌-◌, ◌<◌, ◌≤◌, ◌&&◌, Bool, IfOk, IsOk, OnErr, OnOk, Some, [], drop, false, length, remove, slice_get, take};
+ghost use Rattle.std.specs.Prelude.{◌≡◌, ◌-◌, ◌<◌, ◌≤◌, ◌&&◌, ◌||◌, Bool, IfOk, IfSome, IsOk, OnErr, OnOk, Some, [], drop, false, is_some, length, nat_lt, position, remove, slice_get, take, unwrap_or};
 ghost use Rattle.std.specs.Fn.{TakesAt};
 ghost use Rattle.std.specs.List.{IsDistinct, list_any};
 ghost use Rattle.vecmap_base.specs.Items.{stored_first, swap_without, swap_without_first, without_first};
@@ -52,12 +52,15 @@ impl<T: Eq> VecSet<T> {
     /// set.truncate(1);
     /// set.as_slice() // [1]
     /// ```
-    #[tactic(auto, using(vecmap_base::proofs::DistinctLemmas::Removals::distinct_take))]
+    #[tactic(auto, using(vecmap_base::proofs::DistinctLemmas::Removals::distinct_take, vecmap_base::proofs::ItemsLemmas::Changes::matches_of_front))]
     pub fn truncate(&mut self, len: usize)
     where
         T: Drop,
         ensures elements { self.new.elements ≡ take len self.old.elements }
         ensures distinct { IsDistinct T.eq self.new.elements }
+        ensures matches { (test : T → Bool) → list_any test self.new.elements
+            ≡ (list_any test self.old.elements
+            && nat_lt (unwrap_or (position test self.old.elements) 0) len) }
         ensures capacity { self.new.capacity ≡ self.old.capacity }
     {
         self.items.truncate(len);
@@ -89,13 +92,19 @@ impl<T: Eq> VecSet<T> {
     /// set.as_slice() // [1]
     /// part.as_slice() // [2, 3]
     /// ```
-    #[tactic(auto, using(crate::proofs::SetLemmas::distinct_changes))]
+    #[tactic(auto, using(crate::proofs::SetLemmas::distinct_changes, vecmap_base::proofs::ItemsLemmas::Changes::matches_of_front, vecmap_base::proofs::ItemsLemmas::Changes::matches_of_parts))]
     pub fn split_off(&mut self, at: usize) -> Result<VecSet<T>, AllocError>
         requires within { at ≤ length self.old.elements }
         ensures elements { OnOk result (self.new.elements ≡ take at self.old.elements) }
         ensures distinct { IsDistinct T.eq self.new.elements }
         ensures part { IfOk result (λ part. part.elements ≡ drop at self.old.elements) }
         ensures part_distinct { IfOk result (λ part. IsDistinct T.eq part.elements) }
+        ensures matches { OnOk result ((test : T → Bool) → list_any test self.new.elements
+            ≡ (list_any test self.old.elements
+            && nat_lt (unwrap_or (position test self.old.elements) 0) at)) }
+        ensures part_matches { IfOk result (λ part. (test : T → Bool)
+            → list_any test self.old.elements
+            ≡ (list_any test self.new.elements || list_any test part.elements)) }
         ensures capacity { self.new.capacity ≡ self.old.capacity }
         ensures succeeds { at ≡ length self.old.elements → IsOk result }
         ensures err { OnErr result (self.new ≡ self.old) }
@@ -159,12 +168,17 @@ impl<T: Eq> VecSet<T> {
     /// set.pop() // Some(2)
     /// set.as_slice() // [1]
     /// ```
-    #[tactic(auto, using(vecmap_base::proofs::DistinctLemmas::Removals::distinct_take))]
+    #[tactic(auto, using(vecmap_base::proofs::DistinctLemmas::Removals::distinct_take, vecmap_base::proofs::ItemsLemmas::Changes::matches_of_front))]
     pub fn pop(&mut self) -> Option<T>
         ensures element { result ≡ slice_get self.old.elements (length self.old.elements - 1) }
         ensures elements { self.new.elements
             ≡ take (length self.old.elements - 1) self.old.elements }
         ensures distinct { IsDistinct T.eq self.new.elements }
+        ensures updates { IfSome result (λ element. UpdatesMember T.eq (T.eq element)
+            self.old.elements self.new.elements false) }
+        ensures matches { (test : T → Bool) → list_any test self.new.elements
+            ≡ (list_any test self.old.elements && nat_lt
+            (unwrap_or (position test self.old.elements) 0) (length self.old.elements - 1)) }
         ensures capacity { self.new.capacity ≡ self.old.capacity }
     {
         self.items.pop()
@@ -307,8 +321,10 @@ impl<T: Eq> VecSet<T> {
     /// set.take(&1) // Some(1)
     /// set.as_slice() // [2, 3]
     /// ```
+    #[tactic(auto, using(vecmap_base::proofs::IndexLemmas::list_any_stored))]
     pub fn take<Q: Equivalent<T>>(&mut self, query: Q) -> Option<T>
         ensures element { result ≡ stored_first (Q.equivalent query) self.old.elements }
+        ensures found { is_some result ≡ list_any (Q.equivalent query) self.old.elements }
         ensures elements { self.new.elements
             ≡ without_first (Q.equivalent query) self.old.elements }
         ensures distinct { IsDistinct T.eq self.new.elements }
@@ -329,8 +345,10 @@ impl<T: Eq> VecSet<T> {
     /// set.swap_take(&1) // Some(1)
     /// set.as_slice() // [3, 2]
     /// ```
+    #[tactic(auto, using(vecmap_base::proofs::IndexLemmas::list_any_stored))]
     pub fn swap_take<Q: Equivalent<T>>(&mut self, query: Q) -> Option<T>
         ensures element { result ≡ stored_first (Q.equivalent query) self.old.elements }
+        ensures found { is_some result ≡ list_any (Q.equivalent query) self.old.elements }
         ensures elements { self.new.elements
             ≡ swap_without_first (Q.equivalent query) self.old.elements }
         ensures distinct { IsDistinct T.eq self.new.elements }
@@ -357,8 +375,8 @@ impl VecSet<String> {
         ensures elements { self.new.elements
             ≡ without_first (has_text text.now) self.old.elements }
         ensures distinct { IsDistinct ⟦<String as PartialEq>⟧.eq self.new.elements }
-        ensures updates { UpdatesMember ⟦<String as PartialEq>⟧.eq (has_text text.now) self.old.elements
-            self.new.elements false }
+        ensures updates { UpdatesMember ⟦<String as PartialEq>⟧.eq (has_text text.now)
+            self.old.elements self.new.elements false }
         ensures capacity { self.new.capacity ≡ self.old.capacity }
     {
         self.remove(text)

@@ -33,6 +33,10 @@ module _ {T : Type 0} (eq : T → T → Bool) (o : IsEquivalence eq) where
   nothing_in [] h = refl
   nothing_in (x ∷ xs) h = absurd (true≢false (sym (or_left (eq x x) (is_member eq xs x) (o.refl x)) ∙ h x))
 
+  -- If the lists have nothing in common, what is in `a` is not in `b`.
+  pub apart_if_none_shared : (a b : List T) → both eq a b ≡ [] → (x : T) → is_member eq a x ≡ true → is_member eq b x ≡ false
+  apart_if_none_shared a b e x h = ap (λ c. c && is_member eq b x) (sym h) ∙ sym (is_member_both a b x) ∙ ap (λ l. is_member eq l x) e
+
   -- If no element of `a` is in `b`, no element of `b` is in `a`.
   pub both_empty_turned : (a b : List T) → both eq a b ≡ [] → both eq b a ≡ []
   both_empty_turned a b e =

@@ -8,7 +8,7 @@ use Rattle.std.proofs.lemmas.List.Quantifiers.{position-Some}
 use Rattle.std.proofs.lemmas.List.Sorted.{IsPermutation-remove, IsPermutation-swap_remove, list_any-IsPermutation}
 use Rattle.std.proofs.lemmas.Map.Keys.{IsDistinct-head}
 use Rattle.std.proofs.lemmas.Option.{get_or_from_slice_get, none-some, slice_get-get_or, slice_get_within}
-use Rattle.vecmap_base.specs.Items.{add, swap_without, swap_without_first, without_first}
+use Rattle.vecmap_base.specs.Items.{add, adds, swap_without, swap_without_first, without_first}
 use Rattle.vecmap_base.specs.Lookups.{UpdatesMember}
 use Rattle.vecmap_base.proofs.DistinctLemmas.{Absent.none_equal, Order.distinct_rearranged}
 use Rattle.vecmap_base.proofs.IndexLemmas.{list_any_position}
@@ -26,7 +26,7 @@ or_true false = refl
 module _ {T : Type 0} (eq : T → T → Bool) (o : IsEquivalence eq) where
   module _ (test : T → Bool) (respects : IsKeyTest eq test) where
     -- The four facts on members from two: whether anything matches, and that other queries match the same.
-    members_from : (s r : List T) (b : Bool) → list_any test r ≡ b → ((other : T → Bool) → IsKeyTest eq other → AreApart test other → list_any other r ≡ list_any other s) → UpdatesMember eq test s r b
+    pub members_from : (s r : List T) (b : Bool) → list_any test r ≡ b → ((other : T → Bool) → IsKeyTest eq other → AreApart test other → list_any other r ≡ list_any other s) → UpdatesMember eq test s r b
     unfolding KeepsOthers
     members_from s r b here apart =
         let away : (q : T) → test q ≡ false → is_member eq r q ≡ is_member eq s q =
@@ -131,3 +131,18 @@ module _ {T : Type 0} (eq : T → T → Bool) (o : IsEquivalence eq) where
   pub members_appended_by : (test : T → Bool) → IsKeyTest eq test → (s r : List T) (x : T) → r ≡ s ++ x ∷ [] → position test s ≡ None → test x ≡ true → UpdatesMember eq test s r true
   members_appended_by test respects s r x e miss hit =
       subst (λ f. UpdatesMember eq f s r true) (sym (compares_with eq o test respects x hit)) (members_appended s r x e (absent_by test respects s x miss hit))
+
+  -- After many additions, an element is present if it was, or if one of the added elements is equal to it.
+  pub is_member_adds : (s xs : List T) (q : T) → is_member eq (adds eq s xs) q ≡ (is_member eq s q || is_member eq xs q)
+  is_member_adds s [] q = sym (or_false (is_member eq s q))
+  is_member_adds s (x ∷ xs) q =
+      is_member_adds (add eq s x) xs q
+      ∙ ap (λ b. b || is_member eq xs q) ((members_of_add s (add eq s x) x refl).members q)
+      ∙ either (eq x q) (is_member eq s q) (is_member eq xs q)
+      ∙ ap (λ b. is_member eq s q || (b || is_member eq xs q)) (sym (o.symm q x))
+    where
+      either : (b m r : Bool) → (cond b true m || r) ≡ (m || (b || r))
+      either true true r = refl
+      either true false r = refl
+      either false true r = refl
+      either false false r = refl

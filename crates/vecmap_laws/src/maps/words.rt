@@ -1,4 +1,4 @@
-//! Laws that are named by the word of a contract, with a clause for each question that is asked of the list.
+//! Laws that are named by a definition that contracts use, with a clause for each question that is asked of the list.
 ghost use Rattle.std.specs.List.{count_by, remove_range};
 ghost use Rattle.std.specs.Map.{IsKeyTest, keys_of, values_of};
 ghost use Rattle.std.specs.Option.{option_map_or, option_or};

@@ -1,3 +1,4 @@
+use Rattle.vecmap_base.proofs.ItemsLemmas.Changes.{is_member_clones}
 use Rattle.vecmap_set.proofs.SetLemmas.{distinct_clones_of}
 use Rattle.vecmap_set.proofs.VecSet.clone.Goals as goal
 
@@ -8,3 +9,8 @@ invariant_of-result g c =
 
 pub returns-clause-distinct : goal.returns-clause-distinct
 returns-clause-distinct g c = invariant_of-result g c
+
+pub returns-clause-members : goal.returns-clause-members
+returns-clause-members g c q =
+    let same = rw (← c.self.view_is) at c.requires.clones_equal in
+    rw (← c.self.view_is) (is_member_clones g.T.PartialEq.eq g.met.T.Eq.laws g.T.Clone.is_clone _ _ same c.in_ok-clone.ensures.cases.0 q)

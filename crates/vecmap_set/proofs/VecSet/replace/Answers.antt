@@ -1,9 +1,11 @@
 -- The idea: the index that was found has an equal element, and a replacement by an equal element keeps the set
 -- distinct.
-use Rattle.std.proofs.Common.{◌≡◌, ◌∙◌, sym, ap, Some}
-use Rattle.std.proofs.lemmas.List.Quantifiers.{position-Some}
+use Rattle.std.proofs.Common.{◌≡◌, ◌∙◌, rules, sym, ap, Some}
+use Rattle.std.proofs.lemmas.{List.Quantifiers.position-Some, Option.gets}
 use Rattle.vecmap_base.specs.Items.{item_index}
 use Rattle.vecmap_base.proofs.DistinctLemmas.Additions.{distinct_replace}
+use Rattle.vecmap_base.proofs.IndexLemmas.{list_any_position}
+use Rattle.vecmap_base.proofs.ItemsLemmas.Changes.{members_of_put}
 use Rattle.vecmap_set.proofs.VecSet.replace.Goals as goal
 
 pub invariant_of-self : goal.invariant_of-self
@@ -14,3 +16,9 @@ invariant_of-self g c =
 
 pub returns-in-Some-clause-distinct : goal.returns-in-Some-clause-distinct
 returns-in-Some-clause-distinct g c = invariant_of-self g c
+
+pub returns-in-Some-clause-updates : goal.returns-in-Some-clause-updates
+returns-in-Some-clause-updates g c = members_of_put g.T.PartialEq.eq g.met.T.Eq.laws c.args.self.now.elements _ c.args.item (search (rules, list_any_position, gets))
+
+pub returns-clause-updates : goal.returns-clause-updates
+returns-clause-updates g c = members_of_put g.T.PartialEq.eq g.met.T.Eq.laws c.args.self.now.elements _ c.args.item (search (rules, list_any_position, gets))

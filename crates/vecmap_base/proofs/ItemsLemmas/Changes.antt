@@ -1,0 +1,88 @@
+-- Which elements are present after a replacement, after the removal of the last element, in the front of a list and in
+-- clones, as contracts say it.
+use Rattle.std.specs.{Cmp.IsEquivalence, List.IsDistinct, List.list_any, Map.AreApart, Set.is_member}
+use Rattle.std.specs.Prelude.{IfSome, nat_lt}
+use Rattle.std.specs.Option.{option_to_list}
+use Rattle.std.proofs.Common.{◌≡◌, ◌∙◌, ◌&&◌, ◌||◌, ℕ, suc, zero, Bool, true, false, Contains, IsTrue, List, [], ◌∷◌, ◌++◌, None, Option, Some, ap, arith, cond, drop, is_some, length, option_map, position, refl, remove, slice_get, subst, sym, take, unwrap_or}
+use Rattle.std.proofs.lemmas.Bool.Decides.{nat_tests}
+use Rattle.std.proofs.lemmas.List.{take-append-drop}
+use Rattle.std.proofs.lemmas.List.Folds.{list_any-append}
+use Rattle.vecmap_base.specs.{Clones.AreClones, Items.put_item, Lookups.UpdatesMember}
+use Rattle.vecmap_base.proofs.IndexLemmas.{list_any_position, position_cons}
+use Rattle.vecmap_base.proofs.ItemsLemmas.{Members.members_from, Members.members_removed, Recursion.put_item_cons}
+
+module _ {T : Type 0} (test : T → Bool) where
+  -- Among the first `n` elements, one passes exactly if the first that passes is among them.
+  pub list_any_take : (n : ℕ) (s : List T) → list_any test (take n s) ≡ (list_any test s && nat_lt (unwrap_or (position test s) 0) n)
+  list_any_take zero s = none (list_any test s) (unwrap_or (position test s) 0)
+    where
+      none : (b : Bool) (i : ℕ) → false ≡ (b && nat_lt i 0)
+      none b i = grind (arith, nat_tests)
+  list_any_take (suc n) [] = refl
+  list_any_take (suc n) (x ∷ xs) =
+      ap (λ b. test x || b) (list_any_take n xs)
+      ∙ by (test x) (list_any test xs) (position test xs) (list_any_position test xs)
+      ∙ ap (λ found. (test x || list_any test xs) && nat_lt (unwrap_or found 0) (suc n)) (sym (position_cons test x xs))
+    where
+      by : (b rest : Bool) (found : Option ℕ) → rest ≡ is_some found → (b || (rest && nat_lt (unwrap_or found 0) n)) ≡ ((b || rest) && nat_lt (unwrap_or (cond b (Some 0) (option_map suc found)) 0) (suc n))
+      by true rest found e = grind (arith, nat_tests)
+      by false rest None e = grind arith
+      by false rest (Some i) e = grind (arith, nat_tests)
+
+  -- The same of a list that is known to be the front.
+  pub matches_of_front : (n : ℕ) (s r : List T) → r ≡ take n s → list_any test r ≡ (list_any test s && nat_lt (unwrap_or (position test s) 0) n)
+  matches_of_front n s r e = ap (list_any test) e ∙ list_any_take n s
+
+  -- An element of a list that passes is in the front or behind it.
+  pub matches_of_parts : (n : ℕ) (s front part : List T) → front ≡ take n s → part ≡ drop n s → list_any test s ≡ (list_any test front || list_any test part)
+  matches_of_parts n s front part e f =
+      sym (ap (list_any test) (take-append-drop n s)) ∙ list_any-append test (take n s) (drop n s) ∙ (λ i. list_any test (sym e i) || list_any test (sym f i))
+
+-- The last item of a list, and the list without it.
+module _ {T : Type 0} (x : T) where
+  at_end : (r : List T) → slice_get (r ++ x ∷ []) (length r) ≡ Some x
+  at_end [] = refl
+  at_end (y ∷ ys) = at_end ys
+
+  without_end : (r : List T) → remove (r ++ x ∷ []) (length r) ≡ r
+  without_end [] = refl
+  without_end (y ∷ ys) = ap (λ l. y ∷ l) (without_end ys)
+
+module _ {T : Type 0} (eq : T → T → Bool) (o : IsEquivalence eq) where
+  -- After the removal of the last element, nothing is equal to it, and each other element is present exactly if it was.
+  pub members_popped : (s r : List T) (last : Option T) → s ≡ r ++ option_to_list last → IsDistinct eq s → IfSome last (λ x. UpdatesMember eq (eq x) s r false)
+  members_popped s r None e d = tt
+  members_popped s r (Some x) e d =
+      members_removed eq o s r (length r) x (sym (ap (λ l. remove l (length r)) e ∙ without_end x r)) (ap (λ l. slice_get l (length r)) e ∙ at_end x r) d
+
+  stored : (s : List T) (x : T) → list_any (eq x) (put_item eq s x) ≡ true
+  stored [] x = ap (λ b. b || false) (o.refl x)
+  stored (z ∷ zs) x = ap (list_any (eq x)) (put_item_cons eq z zs x) ∙ by (eq x z) refl (stored zs x)
+    where
+      by : (b : Bool) → eq x z ≡ b → list_any (eq x) (put_item eq zs x) ≡ true → list_any (eq x) (cond b (x ∷ zs) (z ∷ put_item eq zs x)) ≡ true
+      by true e rest = ap (λ b. b || list_any (eq x) zs) (o.refl x)
+      by false e rest = ap (λ b. b || list_any (eq x) (put_item eq zs x)) e ∙ rest
+
+  others_stay : (x : T) (other : T → Bool) → AreApart (eq x) other → (s : List T) → list_any other (put_item eq s x) ≡ list_any other s
+  others_stay x other apart [] = ap (λ b. b || false) (apart x (o.refl x))
+  others_stay x other apart (z ∷ zs) = ap (list_any other) (put_item_cons eq z zs x) ∙ by (eq x z) refl (others_stay x other apart zs)
+    where
+      by : (b : Bool) → eq x z ≡ b → list_any other (put_item eq zs x) ≡ list_any other zs → list_any other (cond b (x ∷ zs) (z ∷ put_item eq zs x)) ≡ list_any other (z ∷ zs)
+      by true e rest = ap (λ b. b || list_any other zs) (apart x (o.refl x) ∙ sym (apart z e))
+      by false e rest = ap (λ b. other z || b) rest
+
+  -- After an addition that stores the new element, it is present, and each other element exactly if it was.
+  pub members_of_put : (s r : List T) (x : T) → r ≡ put_item eq s x → UpdatesMember eq (eq x) s r true
+  members_of_put s r x e =
+      subst (λ l. UpdatesMember eq (eq x) s l true) (sym e)
+      (members_from eq o (eq x) (o.congr x) s (put_item eq s x) true (stored s x) (λ other tells apart. others_stay x other apart s))
+
+  -- If each clone of an element is equal to it, the same elements are present in clones of a list.
+  pub is_member_clones : (C : T → T → Type 0) (l m : List T) → ((x y : T) → Contains l x → C x y → IsTrue (eq x y)) → AreClones C l m → (z : T) → is_member eq m z ≡ is_member eq l z
+  is_member_clones C [] [] same c z = refl
+  is_member_clones C [] (y ∷ ys) same c z = absurd c
+  is_member_clones C (x ∷ xs) [] same c z = absurd c
+  is_member_clones C (x ∷ xs) (y ∷ ys) same c z =
+      let first : eq z y ≡ eq z x = o.symm z y ∙ sym (o.congr x y z (same x y (0, omega arith, refl) c.0)) ∙ o.symm x z in
+      let rest = is_member_clones C xs ys (λ v w in_rest. same v w (suc in_rest.0, omega (arith, in_rest.1), in_rest.2)) c.1 z in
+      λ i. first i || rest i
