@@ -1,5 +1,5 @@
-//! Functions that users of a map write first: removals through an entry, selections by key, and copies. None has a proof
-//! file.
+//! Functions that users of a map write first: removals through an entry, selections by key,
+//! copies and drains. None has a proof file.
 //!
 //! ```
 //! let mut map = vecmap!(alloc; 1 => 5, 2 => 0, 3 => 7);
@@ -10,9 +10,11 @@
 //! copy_with(&map, 2)?.as_slice() // [(1, 7), (3, 5), (2, 1)]
 //! retain_even_keys(&mut map);
 //! map.is_empty() // true
+//! let mut map = vecmap!(alloc; 1 => 5, 2 => 0);
+//! drain_all(&mut map) // true
 //! ```
 ghost use Rattle.std.specs.Option.{option_and_then};
-ghost use Rattle.std.specs.Prelude.{◌≡◌, ◌%◌, ℕ, IfOk, IsSome, None, Some, false, if◌then◌else◌, nat_eq};
+ghost use Rattle.std.specs.Prelude.{[], ◌≡◌, ◌%◌, ℕ, IfOk, IsSome, IsTrue, None, Some, false, if◌then◌else◌, nat_eq};
 ghost use Rattle.vecmap.specs.Pairs.{HasDistinctKeys, lookup};
 
 use std::alloc::AllocError;
@@ -63,4 +65,13 @@ pub fn copy_with(map: &VecMap<u32, u32>, key: u32) -> Result<VecMap<u32, u32>, A
     let mut copy = map.clone()?;
     copy.insert(key, 1)?;
     Ok(copy)
+}
+
+/// Takes each pair in a loop, and returns whether the map is empty then, which is always `true`.
+pub fn drain_all(map: &mut VecMap<u32, u32>) -> bool
+    ensures empty { map.new.entries ≡ [] }
+    ensures always { IsTrue result }
+{
+    for (_key, _value) in map.drain(..) {}
+    map.is_empty()
 }
