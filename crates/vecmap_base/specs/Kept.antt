@@ -22,7 +22,7 @@ module _ {F K V : Type 0} (R : F → K × V → Bool → K × V → F → Type 0
   KeepsKeys = (f : F) (p : K × V) (b : Bool) (q : K × V) (g : F) → R f p b q g → q.0 ≡ p.0
 
   -- Example: of a closure that keeps the keys below 5, at keys that are equal to 7: `false`.
-  -- Each call of the closure in the state `f` leaves that state. At a key that passes the test it returns `kept` and leaves the value.
+  -- Each call in the state `f` leaves that state. At a key that passes the test it returns `kept` and leaves the value.
   abbrev pub ReturnsAtKey : F → (K → Bool) → Bool → Type 0
   ReturnsAtKey f test kept = (p : K × V) (b : Bool) (q : K × V) (g : F) → R f p b q g → (test p.0 ≡ true → (b ≡ kept) × (q.1 ≡ p.1)) × (g ≡ f)
 

@@ -39,7 +39,7 @@ module _ {K V : Type 0} where
     pub distinct : (eq : K → K → Bool) → HasDistinctKeys eq l → HasDistinctKeys eq m
 
   -- Example: from `[(1,a), (2,b)]` to `[(1,a), (2,c)]` for the index 1.
-  -- The list `m` has the keys of `l`. A query whose match is at the index `i` finds `v` in `m`, and any other what it found.
+  -- The list `m` has the keys of `l`. A query whose match is at the index `i` finds `v`; all others find what they found.
   pub record UpdatesAt (i : ℕ) (l m : List (K × V)) (v : V) : Type 0 where
     pub own : (test : K → Bool) → index_by test l ≡ Some i → lookup_by test m ≡ Some v
     pub updates : (eq : K → K → Bool) (test : K → Bool) → IsEquivalence eq → IsKeyTest eq test → index_by test l ≡ Some i → UpdatesBy eq test l m (Some v)

@@ -52,6 +52,9 @@ pub fn retain_pairs<K: Drop, V: Drop, F: FnMut(&K, &mut V) -> bool + Drop>(
 
 /// Like [`retain_pairs`], but `f` can also write the key.
 ///
+/// If no call of `f` writes a key, distinct keys stay distinct. If what `f` does then also depends on the value alone, and
+/// `f` only reads what it captures, a proof knows what lookups find afterwards (`lookups`).
+///
 /// # Preconditions
 ///
 /// `f` can be called for each pair, in the state that the calls before have left.

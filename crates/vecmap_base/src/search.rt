@@ -19,7 +19,7 @@ use std::cmp::Ordering;
 /// of them. If there is none, `Err` holds the number of items that are less. If the items are in another order, `Ok` is
 /// still the index of an equal item, but `Err` says nothing.
 ///
-/// `C` is the type of what `f` compares: the item, or the key of a pair.
+/// `C` decides only how often `f` is called: it is the type of the items or, for pairs, of the keys.
 ///
 /// # Preconditions
 ///
@@ -73,8 +73,8 @@ pub fn search_by_index<C, T, F: Fn(usize) -> Ordering>(items: &[T], f: F) -> Res
 
 /// Returns the number of items for which `pred` returns `true`.
 ///
-/// If these items do not come before all others, the result is only known to be at most `items.len()`. `C` is the type
-/// of what `pred` compares, as in [`search_by_index`].
+/// If these items do not come before all others, the result is only known to be at most `items.len()`. As in
+/// [`search_by_index`], `C` decides only how often `pred` is called.
 ///
 /// # Preconditions
 ///

@@ -10,8 +10,8 @@
 //! set.as_slice() // [3]
 //! pop_then_contains(&mut set, &3) // false
 //! let mut names = VecSet::new(alloc);
-//! is_repeated(&mut names, "to")? // false
-//! is_repeated(&mut names, "to")? // true
+//! insert_text(&mut names, "to")? // false
+//! insert_text(&mut names, "to")? // true
 //! ```
 ghost use Rattle.std.specs.List.{list_any};
 ghost use Rattle.std.specs.Prelude.{◌≡◌, ◌≤◌, IfOk, IsTrue, OnOk, false, is_some, length, not, true};
@@ -44,7 +44,7 @@ pub fn take_if_present<T: Eq>(set: &mut VecSet<T>, item: &T) -> Option<T>
     None
 }
 
-/// Removes the last element, and returns whether an element is left. It was present before.
+/// Removes the last element, and returns whether `query` is still present. If it is, it was present before.
 pub fn pop_then_contains<T: Eq + Drop>(set: &mut VecSet<T>, query: &T) -> bool
     ensures { IsTrue result → IsTrue (is_member T.eq set.old.elements query.now) }
 {
@@ -52,7 +52,7 @@ pub fn pop_then_contains<T: Eq + Drop>(set: &mut VecSet<T>, query: &T) -> bool
     set.contains(query)
 }
 
-/// Splits a set, and returns whether an element is in one of the parts. It is if it was in the set.
+/// Splits a set, and returns whether one of the two parts has an element. One has it exactly if the set had it.
 pub fn split_then_contains<T: Eq + Drop>(
     set: &mut VecSet<T>,
     at: usize,
@@ -65,8 +65,8 @@ pub fn split_then_contains<T: Eq + Drop>(
     Ok(set.contains(query) || part.contains(query))
 }
 
-/// Remembers a text, and returns whether it was remembered before.
-pub fn is_repeated(texts: &mut VecSet<String>, text: &str) -> Result<bool, AllocError>
+/// Inserts a text, and returns whether it was present before.
+pub fn insert_text(texts: &mut VecSet<String>, text: &str) -> Result<bool, AllocError>
     ensures seen { IfOk result (λ seen. seen ≡ list_any (has_text text.now) texts.old.elements) }
     ensures found { OnOk result (list_any (has_text text.now) texts.new.elements ≡ true) }
 {

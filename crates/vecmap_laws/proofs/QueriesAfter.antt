@@ -3,6 +3,7 @@
 use Rattle.std.proofs.Common.{◌≡◌, ◌<◌, ◌∙◌, ℕ, Bool, true, List, Some, if◌then◌else◌, length, reverse, swap, sym, [], ◌∷◌, ap, false, refl}
 use Rattle.std.proofs.lemmas.List.Sorted.{IsPermutation-reverse}
 use Rattle.std.specs.{Cmp.IsEquivalence, List.Sorted.IsPermutation, Map.IsKeyTest, Option.option_or}
+use Rattle.vecmap_base.proofs.PairsLemmas.Clones.{lookup_by_cloned}
 use Rattle.vecmap_base.specs.Clones.{ArePairClones}
 use Rattle.vecmap_base.specs.Pairs.{HasDistinctKeys, lookup, lookup_by, put, put_at, put_key, puts}
 use Rattle.vecmap_laws.proofs.AfterPuts.{lookup_put_any, lookup_put_key}
@@ -10,7 +11,6 @@ use Rattle.vecmap_laws.proofs.Finds.{lookup_put_at_any, lookup_swap}
 use Rattle.vecmap_laws.proofs.HeadLemmas.{head_has_no_value, rest_is_distinct}
 use Rattle.vecmap_laws.proofs.Order.{lookup_rearranged}
 use Rattle.vecmap_laws.proofs.Queries.{lookup_by_query, lookup_put_any_query}
-use Rattle.vecmap_laws.proofs.Rearranged.{lookup_clones}
 use Rattle.vecmap_laws.proofs.RemovalLemmas.{query_finds_same}
 
 module _ {K V : Type 0} (eq : K → K → Bool) (o : IsEquivalence eq) (test : K → Bool) (respects : IsKeyTest eq test) where
@@ -28,7 +28,7 @@ module _ {K V : Type 0} (eq : K → K → Bool) (o : IsEquivalence eq) (test : K
   lookup_by_swapped l d i j h k = query_agrees l (swap l i j) (λ q. lookup_swap eq o l i j q h k d)
 
   pub lookup_by_clones : (R : K → K → Type 0) (S : V → V → Type 0) → ((x y : K) → R x y → eq x y ≡ true) → ((v w : V) → S v w → w ≡ v) → (l m : List (K × V)) → ArePairClones R S l m → lookup_by test m ≡ lookup_by test l
-  lookup_by_clones R S same still l m c = query_agrees l m (lookup_clones eq o R S same still l m c)
+  lookup_by_clones R S same still l m c = lookup_by_cloned R S still eq o same test respects l m c
 
   pub lookup_by_put_key : (l : List (K × V)) (k : K) (v : V) → lookup_by test (put_key eq l k v) ≡ (if test k then Some v else lookup_by test l)
   lookup_by_put_key l k v = query_agrees (put eq l k v) (put_key eq l k v) (lookup_put_key eq o l k v) ∙ lookup_put_any_query eq o test respects l k v

@@ -2,6 +2,7 @@
 use Rattle.std.specs.{Cmp.IsEquivalence, List.AllZip, List.remove_range, List.Sorted.IsPermutation, Option.option_eq, Option.option_or}
 use Rattle.std.proofs.Common.{◌≡◌, ◌≤◌, ◌&&◌, ℕ, Bool, true, false, true≢false, IsTrue, List, [], ◌∷◌, Option, None, Some, if◌then◌else◌, drop, inl, inr, nat_lt, refl, remove, sym, take, ap, ◌∙◌, arith}
 use Rattle.std.proofs.lemmas.{Bool.cases_Bool, Bool.Decides.nat_tests, List.Sorted.IsPermutation-cons, List.Sorted.IsPermutation-refl, List.Sorted.IsPermutation-trans}
+use Rattle.vecmap_base.proofs.PairsLemmas.Clones.{lookup_by_cloned}
 use Rattle.vecmap_base.specs.{Clones.ArePairClones, Equality.has_same_counts, Equality.same_pair}
 use Rattle.vecmap_base.specs.Pairs.{HasDistinctKeys, index_or_length, lookup}
 use Rattle.vecmap_laws.proofs.DistinctKeys.{distinct_keys_remove}
@@ -10,7 +11,6 @@ use Rattle.vecmap_laws.proofs.HeadLemmas.{head_has_no_value, rest_is_distinct}
 use Rattle.vecmap_laws.proofs.Lookups.{look, lookup_congr}
 use Rattle.vecmap_laws.proofs.MapEquality.{equal_where_lookups_agree}
 use Rattle.vecmap_laws.proofs.Parts.{lookup_append}
-use Rattle.vecmap_laws.proofs.Recursion.{lookup_cons}
 use Rattle.vecmap_laws.proofs.RemovalLemmas.{lookup_by_index, remove_leaves}
 use Rattle.vecmap_laws.proofs.Finds.{lookup_drop, lookup_take}
 
@@ -25,13 +25,7 @@ module _ {K V : Type 0} (eq : K → K → Bool) (o : IsEquivalence eq) where
 
   -- Clones whose keys are equal and whose values are the same find the same.
   pub lookup_clones : (R : K → K → Type 0) (S : V → V → Type 0) → ((x y : K) → R x y → eq x y ≡ true) → ((v w : V) → S v w → w ≡ v) → (l m : List (K × V)) → ArePairClones R S l m → (q : K) → lookup eq m q ≡ lookup eq l q
-  lookup_clones R S same still [] [] c q = refl
-  lookup_clones R S same still [] (r ∷ rs) c q = absurd c
-  lookup_clones R S same still (p ∷ ps) [] c q = absurd c
-  lookup_clones R S same still (p ∷ ps) (r ∷ rs) c q =
-      let rest = lookup_clones R S same still ps rs c.1 q in
-      let keys : eq q r.0 ≡ eq q p.0 = o.symm q r.0 ∙ sym (o.congr p.0 r.0 q (same p.0 r.0 c.0.0)) ∙ o.symm p.0 q in
-      lookup_cons eq r rs q ∙ (λ t. if keys t then Some (still p.1 r.1 c.0.1 t) else rest t) ∙ sym (lookup_cons eq p ps q)
+  lookup_clones R S same still l m c q = lookup_by_cloned R S still eq o same (eq q) (o.congr q) l m c
 
 module _ {K V : Type 0} (eq : K → K → Bool) (value : V → V → Bool) (o : IsEquivalence eq) (e : IsEquivalence value) where
   -- Two pairs of equal keys and equal values.

@@ -105,5 +105,6 @@ pub ruleset collected = (is_member_of_collected)
 -- What `extend` by another map, passed by value, leaves.
 pub ruleset extended = (drained_all)
 
--- For the root file of a crate: the lists above, at numbers and at texts where a list at any type does not fit them.
+-- The lists above in one, for a whole crate. Of `sorted` and `clones` it has only the lists at numbers, and of `puts` only
+-- those at numbers and at texts.
 pub ruleset common = (sorted_at_numbers, puts_at_numbers, puts_at_texts, clones_at_numbers, extended, lookups, members, lookup_put_any_query, collected, distinct, distinct_elements, elements, indices, keys, keys_in_loops, texts)

@@ -61,6 +61,8 @@ impl<K, V> VecMap<K, V> {
     /// This is Rust's `From<&[(K, V)]>`. Among duplicate keys the clone of the first is kept, at its index, with a
     /// clone of the last of their values. The call first reserves capacity for as many pairs as the slice has.
     ///
+    /// If the keys are distinct and each clone is the same as its original, a lookup finds what it finds in `pairs`.
+    ///
     /// # Errors
     ///
     /// [`AllocError`] if an allocation fails, or if the clone of a key or a value fails; no map is created.

@@ -11,6 +11,8 @@ use std::alloc::AllocError;
 impl<K, V> VecMap<K, V> {
     /// Returns a map of clones of the pairs, in order.
     ///
+    /// If each clone is the same as its original, as of numbers, the map has the same list (`same`).
+    ///
     /// # Errors
     ///
     /// [`AllocError`] if allocation fails, or if the clone of a key or a value fails; no map is created.

@@ -82,6 +82,9 @@ pub trait MutableKeys: sealed::Sealed {
     /// `f` is called once for each pair, in order, in the state that the calls before have left. The other pairs are
     /// dropped at the end. The capacity stays.
     ///
+    /// If no call of `f` writes a key, distinct keys stay distinct. If what `f` does then also depends on the value
+    /// alone, and `f` only reads what it captures, a proof knows what lookups find afterwards (`lookups`).
+    ///
     /// # Preconditions
     ///
     /// `f` can be called with each pair of the map, in the state that the calls before have left.

@@ -97,7 +97,7 @@ impl<K, V> VecMap<K, V> {
         ensures entries { OnOk result (self.new.entries ≡ take at self.old.entries) }
         ensures part { IfOk result (λ part. part.entries ≡ drop at self.old.entries) }
         ensures lookups { OnOk result (KeepsFront at self.old.entries self.new.entries) }
-        ensures halves { IfOk result (λ part. (test : K → Bool) → lookup_by test self.old.entries
+        ensures part_lookups { IfOk result (λ part. (test : K → Bool) → lookup_by test self.old.entries
             ≡ option_or (lookup_by test self.new.entries) (lookup_by test part.entries)) }
         ensures capacity { self.new.capacity ≡ self.old.capacity }
         ensures succeeds { at ≡ length self.old.entries → IsOk result }
@@ -113,8 +113,9 @@ impl<K, V> VecMap<K, V> {
     /// `f` is called once for each pair, in order, in the state that the calls before have left. The other pairs are
     /// dropped at the end. The capacity stays.
     ///
-    /// If what `f` does depends on the value alone, and `f` only reads what it captures, a proof knows what lookups find
-    /// afterwards (`lookups`). Distinct keys stay distinct.
+    /// If `f` only reads what it captures, a proof knows what lookups find afterwards in two cases: what `f` does depends
+    /// on the value alone (`lookups`), or `f` returns the same for each key that a query matches and leaves their values
+    /// (`selected`). Distinct keys stay distinct.
     ///
     /// # Preconditions
     ///
@@ -146,6 +147,7 @@ impl<K, V> VecMap<K, V> {
         ensures selected { (test : K → Bool) (kept : Bool)
             → ReturnsAtKey (CallsAtPair F.FnMut) f test kept → lookup_by test self.new.entries
             ≡ (if kept then lookup_by test self.old.entries else None) }
+        // The two cases of `selected`: a search uses only the clause that has the form of its goal.
         ensures stays { (test : K → Bool) → ReturnsAtKey (CallsAtPair F.FnMut) f test true
             → lookup_by test self.new.entries ≡ lookup_by test self.old.entries }
         ensures gone { (test : K → Bool) → ReturnsAtKey (CallsAtPair F.FnMut) f test false

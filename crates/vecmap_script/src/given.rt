@@ -16,7 +16,7 @@ pub struct Hinted<'l, T> {
 }
 
 impl<'l, T: Drop> Hinted<'l, T> {
-    /// Creates the iterator. Without a hint, it has the number of items.
+    /// Creates the iterator. Without a hint, the lower size hint is the number of items.
     pub fn new(log: &'l Rc<Log>, mut items: Vec<T>, hint: Option<usize>) -> Hinted<'l, T> {
         items.reverse();
         let hint = hint.unwrap_or(items.len());

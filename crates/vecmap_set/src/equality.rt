@@ -23,7 +23,7 @@ impl<T: Eq> VecSet<T> {
     /// ```
     #[tactic(auto, using(vecmap_base::proofs::EqualityLemmas::Relations::apart_if_none_shared))]
     pub fn is_disjoint(&self, other: &VecSet<T>) -> bool
-        ensures found { IsTrue result ↔ (both T.eq self.now.elements other.now.elements ≡ []) }
+        ensures value { IsTrue result ↔ (both T.eq self.now.elements other.now.elements ≡ []) }
         ensures members { IsTrue result → (q : T) → IsTrue (is_member T.eq self.now.elements q)
             → is_member T.eq other.now.elements q ≡ false }
     {
@@ -49,7 +49,7 @@ impl<T: Eq> VecSet<T> {
     /// ```
     #[tactic(auto, using(vecmap_base::proofs::EqualityLemmas::Sets::longer_not_within, vecmap_base::proofs::EqualityLemmas::Sets::within_from_test))]
     pub fn is_subset(&self, other: &VecSet<T>) -> bool
-        ensures found { result ≡ is_within T.eq self.now.elements other.now.elements }
+        ensures value { result ≡ is_within T.eq self.now.elements other.now.elements }
         ensures members { IsTrue result → (q : T) → IsTrue (is_member T.eq self.now.elements q)
             → IsTrue (is_member T.eq other.now.elements q) }
     {
@@ -73,7 +73,7 @@ impl<T: Eq> VecSet<T> {
     /// set.is_superset(&vecset!(alloc; 2)) // true
     /// ```
     pub fn is_superset(&self, other: &VecSet<T>) -> bool
-        ensures found { result ≡ is_within T.eq other.now.elements self.now.elements }
+        ensures value { result ≡ is_within T.eq other.now.elements self.now.elements }
         ensures members { IsTrue result → (q : T) → IsTrue (is_member T.eq other.now.elements q)
             → IsTrue (is_member T.eq self.now.elements q) }
     {

@@ -1,10 +1,10 @@
 -- What lookups find in a list of clones.
 use Rattle.std.specs.{Cmp.IsEquivalence, Map.IsKeyTest}
 use Rattle.std.proofs.Common.{◌≡◌, Bool, true, List, [], ◌∷◌, Some, cond, refl, sym}
-use Rattle.vecmap_base.specs.{Clones.ArePairClones, Pairs.lookup_by}
+use Rattle.vecmap_base.specs.{Clones.ArePairClones, Clones.ClonesAreSame, Pairs.lookup_by}
 use Rattle.vecmap_base.proofs.PairsLemmas.Lookups.{same_answer}
 
-module _ {K V : Type 0} (C : K → K → Type 0) (D : V → V → Type 0) (same_values : (v w : V) → D v w → w ≡ v) where
+module _ {K V : Type 0} (C : K → K → Type 0) (D : V → V → Type 0) (same_values : ClonesAreSame D) where
   module _ (eq : K → K → Bool) (o : IsEquivalence eq) (equal_keys : (x y : K) → C x y → eq x y ≡ true) (test : K → Bool) (respects : IsKeyTest eq test) where
     -- If clones of keys are equal and clones of values are the same, a query finds the same.
     pub lookup_by_cloned : (l m : List (K × V)) → ArePairClones C D l m → lookup_by test m ≡ lookup_by test l

@@ -3,9 +3,9 @@ use Rattle.std.specs.{List.AllByRecursion, List.IsDistinct, Map.IsKeyTest, Map.k
 use Rattle.std.proofs.Common.{◌≡◌, ◌∙◌, Bool, true, false, List, [], ◌∷◌, None, Option, Some, ap, cond, if◌then◌else◌, inl, inr, refl, subst, sym}
 use Rattle.std.proofs.lemmas.Bool.{cases_Bool}
 use Rattle.std.proofs.lemmas.Map.Keys.{IsDistinct-head, IsDistinct-tail}
-use Rattle.vecmap_base.specs.{Kept.FiltersValues, Kept.Kept, Kept.ReturnsAtKey, Pairs.HasDistinctKeys, Pairs.lookup_by}
+use Rattle.vecmap_base.specs.{Kept.FiltersValues, Kept.KeepsKeys, Kept.Kept, Kept.ReturnsAtKey, Pairs.HasDistinctKeys, Pairs.lookup_by}
 
-module _ {F K V : Type 0} (R : F → K × V → Bool → K × V → F → Type 0) (same : (f : F) (p : K × V) (b : Bool) (q : K × V) (g : F) → R f p b q g → q.0 ≡ p.0) where
+module _ {F K V : Type 0} (R : F → K × V → Bool → K × V → F → Type 0) (same : KeepsKeys R) where
   -- What holds of all keys holds of the keys that are kept.
   all_keys_kept : (P : K → Type 0) (f g : F) (l m : List (K × V)) → Kept R f l m g → AllByRecursion P (keys_of l) → AllByRecursion P (keys_of m)
   all_keys_kept P f g [] m k h = subst (λ t. AllByRecursion P (keys_of t)) (sym k.0) tt

@@ -1,8 +1,8 @@
-//! Laws that are named by a definition that contracts use, with a clause for each question that is asked of the list.
+//! Laws that are named after definitions of contracts. Each has a clause for each question about the list.
 ghost use Rattle.std.specs.List.{count_by, remove_range};
 ghost use Rattle.std.specs.Map.{IsKeyTest, keys_of, values_of};
 ghost use Rattle.std.specs.Option.{option_map_or, option_or};
-ghost use Rattle.std.specs.Prelude.{Bool, List, None, Some, [], if◌then◌else◌, insert, is_some, length, slice_get, slice_range, ℕ, ◌++◌, ◌+◌, ◌-◌, ◌<◌, ◌≡◌, ◌≤◌, true};
+ghost use Rattle.std.specs.Prelude.{Bool, List, None, Some, [], if◌then◌else◌, insert, is_some, length, slice_get, slice_range, ℕ, ◌++◌, ◌+◌, ◌-◌, ◌<◌, ◌≡◌, ◌≤◌};
 ghost use Rattle.vecmap_base.specs.Items.{add, adds, item_index, put_item, without_item};
 ghost use Rattle.vecmap_base.specs.Pairs.{HasDistinctKeys, index_of, index_or_length, lookup, lookup_by, put, put_at, put_key, puts, swap_without_key, without_key};
 ghost use Rattle.vecmap_laws.specs.Counting.{count_of, counted, counted_all};

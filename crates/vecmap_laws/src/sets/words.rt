@@ -1,4 +1,4 @@
-//! Laws that are named by a definition that contracts use, with a clause for each question that is asked of the list.
+//! Laws that are named after definitions of contracts. Each has a clause for each question about the list.
 ghost use Rattle.std.specs.List.{IsDistinct};
 ghost use Rattle.std.specs.List.Sorted.{IsPermutation};
 ghost use Rattle.std.specs.Set.{is_member};

@@ -12,7 +12,7 @@ pub fn make(map: &mut Map, other: &mut Map, out: &mut Out, call: Call) -> Option
     calls_of_list!(VecMap<Pair>, map, other, out, call, of_pairs)
 }
 
-// Those of a map alone.
+// Calls that only maps have.
 fn of_pairs(map: &mut Map, other: &mut Map, out: &mut Out, call: Call) -> Option<Outcome> {
     Some(match call.name {
         "extend_pairs" | "Extend_pairs" | "extend_refs" | "Extend_refs" => {
@@ -34,7 +34,7 @@ fn of_pairs(map: &mut Map, other: &mut Map, out: &mut Out, call: Call) -> Option
     })
 }
 
-// Those whose iterator yields references to the pairs, or to the key and the value of each.
+// Calls whose iterator yields references to the pairs, or to the key and the value of each.
 fn extend_lent(map: &mut Map, out: &mut Out, call: Call) -> Option<Outcome> {
     let (hint, words) = number_after("hint ", call.args);
     let pairs: Vec<Pair> = out.read_list(words)?;

@@ -9,7 +9,7 @@ pub fn make(set: &mut Set, other: &mut Set, out: &mut Out, call: Call) -> Option
     calls_of_list!(VecSet<Item>, set, other, out, call, of_elements)
 }
 
-// Those of a set alone.
+// Calls that only sets have.
 fn of_elements(set: &mut Set, other: &mut Set, out: &mut Out, call: Call) -> Option<Outcome> {
     Some(match call.name {
         "extend_copied" | "Extend_copied" => copied::extend(set, out, call)?,

@@ -6,7 +6,7 @@ use Rattle.vecmap_map.proofs.VecMap.split_off.Goals as goal
 pub returns-clause-lookups : goal.returns-clause-lookups
 returns-clause-lookups g c = keeps_front_of c.args.at c.args.self.now.entries _ (search rules)
 
-pub returns-clause-halves : goal.returns-clause-halves
-returns-clause-halves g c = λ test.
+pub returns-clause-part_lookups : goal.returns-clause-part_lookups
+returns-clause-part_lookups g c = λ test.
     let l = c.args.self.now.entries in
     grind (arith, lookup_by_append test (take c.args.at l) (drop c.args.at l), take-append-drop c.args.at l)
