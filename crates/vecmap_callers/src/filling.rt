@@ -4,6 +4,7 @@
 //! squares(alloc, 3)?.as_slice() // [(0, 0), (1, 1), (2, 4)]
 //! ```
 #![tactic(auto, using(vecmap_laws::proofs::Rules::common))]
+
 ghost use Rattle.std.specs.Prelude.{◌*◌, ◌<◌, ◌≡◌, ◌≤◌, ℕ, IfOk, None, Some, length, nat_eq};
 ghost use Rattle.vecmap.specs.Pairs.{HasDistinctKeys, lookup};
 

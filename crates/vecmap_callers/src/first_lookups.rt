@@ -10,6 +10,7 @@
 //! truncate_then_get(&mut map, 1, &2) // false
 //! ```
 #![tactic(auto, using(vecmap_laws::proofs::Rules::common))]
+
 ghost use Rattle.std.specs.Option.{option_or};
 ghost use Rattle.std.specs.Prelude.{◌≡◌, ◌≤◌, ◌||◌, ◌&&◌, IfOk, None, OnOk, Some, false, if◌then◌else◌, is_some, length, nat_lt, not};
 ghost use Rattle.std.specs.Set.{is_member};

@@ -22,6 +22,7 @@
 //! set.as_slice() // [8]
 //! ```
 #![tactic(auto, using(vecmap_laws::proofs::Rules::common))]
+
 ghost use Rattle.std.specs.Option.{option_and_then, option_map, option_or};
 ghost use Rattle.std.specs.Prelude.{◌≡◌, ◌&&◌, ◌<◌, ◌+◌, ◌%◌, ℕ, IfOk, IsTrue, None, OnErr, OnOk, Some, false, if◌then◌else◌, nat_eq, nat_lt, unwrap_or};
 ghost use Rattle.std.specs.Set.{is_member};

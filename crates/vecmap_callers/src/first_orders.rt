@@ -10,6 +10,7 @@
 //! clone_is_equal(&map)? // true
 //! ```
 #![tactic(auto, using(vecmap_laws::proofs::Rules::common))]
+
 ghost use Rattle.std.specs.List.Sorted.{IsSortedByKey};
 ghost use Rattle.std.specs.Ordering.{nat_cmp};
 ghost use Rattle.std.specs.Prelude.{◌≡◌, IfOk, IsTrue, OnOk, is_some, nat_eq};

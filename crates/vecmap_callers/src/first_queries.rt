@@ -7,6 +7,7 @@
 //! map.len() // 3
 //! ```
 #![tactic(auto, using(vecmap_laws::proofs::Rules::common))]
+
 ghost use Rattle.std.specs.Map.{IsKeyTest};
 ghost use Rattle.std.specs.Prelude.{◌≡◌, OnOk, Some, if◌then◌else◌};
 ghost use Rattle.vecmap.specs.Pairs.{has_text, lookup_by};
