@@ -13,7 +13,7 @@
 ghost use Rattle.std.specs.Prelude.{◌≡◌, ℕ, IsSome, List, None, OnErr, OnOk, Some, bytes_eq, codes, false, nat_eq, string_eq};
 ghost use Rattle.std.specs.Cmp.Lexicographic.{nat_list_eq_equiv, pointwise};
 ghost use Rattle.std.specs.Str.{str_eq_ignore_ascii_case, str_to_ascii_lowercase};
-ghost use Rattle.vecmap.specs.Pairs.{HasDistinctKeys, has_text, index_by, lookup, lookup_by, without_by};
+ghost use Rattle.vecmap.specs.Pairs.{HasDistinctKeys, has_text, lookup, lookup_by, without_by};
 
 pub use attr_doc::Name;
 use std::alloc::{AllocError, Global};
@@ -71,7 +71,7 @@ pub fn forget_text(map: &mut VecMap<String, u32>, text: &str)
 ///
 /// The text `port` is present.
 pub fn port(map: &VecMap<String, u32>) -> u32
-    requires { IsSome (index_by (has_text (codes "port")) map.now.entries) }
+    requires { IsSome (lookup_by (has_text (codes "port")) map.now.entries) }
     ensures { lookup_by (has_text (codes "port")) map.now.entries ≡ Some result }
 {
     map["port"]
