@@ -5,9 +5,11 @@ pub use Rattle.vecmap_base.specs.Bulk
 pub use Rattle.vecmap_base.specs.Clones
 pub use Rattle.vecmap_base.specs.Drain as Drains
 pub use Rattle.vecmap_base.specs.Equality
+pub use Rattle.vecmap_base.specs.Indices
 pub use Rattle.vecmap_base.specs.Items
 pub use Rattle.vecmap_base.specs.Iterators
 pub use Rattle.vecmap_base.specs.Kept
+pub use Rattle.vecmap_base.specs.Lookups
 pub use Rattle.vecmap_base.specs.Orders
 pub use Rattle.vecmap_base.specs.Pairs
 pub use Rattle.vecmap_base.specs.Ranges

@@ -1,9 +1,10 @@
 //! The macros `vecmap!` and `vecset!`, and the functions that they call.
-ghost use Rattle.std.specs.Prelude.{◌≡◌, IsTrue, OnErr, OnOk};
+ghost use Rattle.std.specs.Prelude.{◌≡◌, IsTrue, OnErr, OnOk, Some};
 ghost use Rattle.std.specs.List.{IsDistinct};
 ghost use Rattle.std.specs.Set.{is_member};
 ghost use Rattle.vecmap_base.specs.Items.{add};
-ghost use Rattle.vecmap_base.specs.Pairs.{put};
+ghost use Rattle.vecmap_base.specs.Lookups.{Updates};
+ghost use Rattle.vecmap_base.specs.Pairs.{HasDistinctKeys, put};
 ghost use Rattle.vecmap_map.specs.Contents.{KeepsRoom, Refuses};
 ghost use Rattle.vecmap_set.specs.Contents.{KeepsRoom as SetKeepsRoom, Refuses as SetRefuses};
 
@@ -89,6 +90,8 @@ pub fn put_pair<K: Eq + Drop, V: Drop>(
     value: V,
 ) -> Result<(), AllocError>
     ensures entries { OnOk result (map.new.entries ≡ put K.eq map.old.entries key value) }
+    ensures updates { OnOk result (Updates K.eq map.old.entries key map.new.entries (Some value)) }
+    ensures distinct { HasDistinctKeys K.eq map.old.entries → HasDistinctKeys K.eq map.new.entries }
     ensures capacity { KeepsRoom K.eq map.old key map.new }
     ensures err { OnErr result (Refuses K.eq map.old key map.new) }
 {

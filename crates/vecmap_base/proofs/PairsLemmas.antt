@@ -13,3 +13,5 @@ pub mod Parts
 pub mod Filtered
 pub mod Clones
 pub mod UpdatedAt
+pub mod AtIndices
+pub mod Reordered

@@ -3,6 +3,7 @@ pub mod Bulk
 pub mod Clones
 pub mod Drain
 pub mod Equality
+pub mod Indices
 pub mod Items
 pub mod Iterators
 pub mod Kept

@@ -1,6 +1,6 @@
 -- What lookups find after a change of a list of pairs. `eq` is the `==` of keys. `proofs/Definitions/Lookups.antt` of
 -- `vecmap_examples` has examples of what each field says.
-use Rattle.std.specs.Prelude.{◌≡◌, ◌<◌, ◌≤◌, ℕ, Bool, List, None, Option, Some, cond, false}
+use Rattle.std.specs.Prelude.{◌≡◌, ◌<◌, ◌≤◌, ℕ, Bool, List, None, Option, Some, cond, false, is_some, length, min}
 use Rattle.std.specs.List.{list_any}
 use Rattle.std.specs.Option.{option_or}
 use Rattle.std.specs.Set.{is_member, KeepsOthers as KeepsOtherItems}
@@ -37,13 +37,26 @@ module _ {K V : Type 0} where
     pub gone : (test : K → Bool) (i : ℕ) → index_by test l ≡ Some i → n ≤ i → lookup_by test m ≡ None
     pub absent : (test : K → Bool) → lookup_by test l ≡ None → lookup_by test m ≡ None
     pub distinct : (eq : K → K → Bool) → HasDistinctKeys eq l → HasDistinctKeys eq m
+    pub indices : (test : K → Bool) (i : ℕ) → index_by test l ≡ Some i → i < n → index_by test m ≡ Some i
+    pub len : length m ≡ min n (length l)
+
+  -- Example: from `[(1,a), (2,b)]` to `[(2,b), (1,a)]`.
+  -- Each query matches a key of the list `m` exactly if it matches one of `l`, and finds what it found if all keys of
+  -- `l` are distinct. The lists have the same length.
+  pub record IsReordered (l m : List (K × V)) : Type 0 where
+    pub matches : (test : K → Bool) → is_some (index_by test m) ≡ is_some (index_by test l)
+    pub lookups : (eq : K → K → Bool) → IsEquivalence eq → HasDistinctKeys eq l → KeepsLookups eq l m
+    pub len : length m ≡ length l
 
   -- Example: from `[(1,a), (2,b)]` to `[(1,a), (2,c)]` for the index 1.
-  -- The list `m` has the keys of `l`. A query whose match is at the index `i` finds `v`; all others find what they found.
+  -- The list `m` has the keys of `l`, at their indices. A query whose match is at the index `i` finds `v`, and a query
+  -- that matches no equal key finds what it found.
   pub record UpdatesAt (i : ℕ) (l m : List (K × V)) (v : V) : Type 0 where
     pub own : (test : K → Bool) → index_by test l ≡ Some i → lookup_by test m ≡ Some v
     pub updates : (eq : K → K → Bool) (test : K → Bool) → IsEquivalence eq → IsKeyTest eq test → index_by test l ≡ Some i → UpdatesBy eq test l m (Some v)
     pub keys : keys_of m ≡ keys_of l
+    pub indices : (test : K → Bool) → index_by test m ≡ index_by test l
+    pub len : length m ≡ length l
     pub distinct : (eq : K → K → Bool) → HasDistinctKeys eq l → HasDistinctKeys eq m
 
   -- Example: from `[(1,a)]`, with `[(1,b), (2,c)]`, to `[(1,b), (2,c)]`.

@@ -1,5 +1,5 @@
 //! Insertion of one pair.
-ghost use Rattle.std.specs.Prelude.{◌≡◌, ◌++◌, ◌∷◌, ◌<◌, ◌≤◌, ◌⊎◌, Err, IfErr, IfOk, IfSome, IsTrue, None, Ok, OnErr, OnOk, Some, [], length};
+ghost use Rattle.std.specs.Prelude.{◌≡◌, ◌++◌, ◌∷◌, ◌<◌, ◌≤◌, ◌⊎◌, Err, IfErr, IfOk, IfSome, IsTrue, None, Ok, OnErr, OnOk, Some, [], length, ◌+◌, if◌then◌else◌, is_some};
 ghost use Rattle.vecmap_base.specs.Lookups.{Updates, UpdatesBy};
 ghost use Rattle.vecmap_base.specs.Pairs.{HasDistinctKeys, index_by, index_or_length, lookup, lookup_by, lookup_full, lookup_pair, put, put_at, put_key, with_value};
 ghost use Rattle.vecmap_map.specs.Contents.{Appends, FailsToAppend, HasRoom, KeepsRoom, KeepsRoomAt, Refuses, RefusesAt};
@@ -42,6 +42,8 @@ impl<K, V> VecMap<K, V> {
             (Some value)) }
         ensures distinct { HasDistinctKeys K.eq self.old.entries
             → HasDistinctKeys K.eq self.new.entries }
+        ensures len { IfOk result (λ old. length self.new.entries
+            ≡ length self.old.entries + (if is_some old then 0 else 1)) }
         ensures capacity { KeepsRoom K.eq self.old key self.new }
 
         // On `Err` the pair is returned, its key is new, and the map is full.
@@ -76,6 +78,8 @@ impl<K, V> VecMap<K, V> {
             (Some value)) }
         ensures distinct { HasDistinctKeys K.eq self.old.entries
             → HasDistinctKeys K.eq self.new.entries }
+        ensures len { IfOk result (λ done. length self.new.entries
+            ≡ length self.old.entries + (if is_some done.1 then 0 else 1)) }
         ensures capacity { KeepsRoom K.eq self.old key self.new }
 
         // On `Err` the pair is returned, its key is new, and the map is full.
@@ -118,6 +122,8 @@ impl<K, V> VecMap<K, V> {
         ensures old { IfOk result (λ old. old ≡ lookup_pair K.eq self.old.entries key) }
         ensures updates { OnOk result (Updates K.eq self.old.entries key self.new.entries
             (Some value)) }
+        ensures len { IfOk result (λ old. length self.new.entries
+            ≡ length self.old.entries + (if is_some old then 0 else 1)) }
         ensures capacity { KeepsRoom K.eq self.old key self.new }
 
         // On `Err` the pair is returned, its key is new, and the map is full.
@@ -173,6 +179,8 @@ impl<K, V> VecMap<K, V> {
         ensures old { IfOk result (λ old. old ≡ lookup_full K.eq self.old.entries key) }
         ensures updates { OnOk result (HasDistinctKeys K.eq self.old.entries
             → Updates K.eq self.old.entries key self.new.entries (Some value)) }
+        ensures len { IfOk result (λ old. length self.new.entries
+            ≡ length self.old.entries + (if is_some old then 0 else 1)) }
         ensures capacity { KeepsRoom K.eq self.old key self.new }
 
         // On `Err` the pair is returned, its key is new, and the map is full.

@@ -1,5 +1,5 @@
 //! Lookups by query and by index.
-ghost use Rattle.std.specs.Prelude.{◌≡◌, ◌-◌, ◌<◌, ◌↔◌, IfSome, IsTrue, Some, is_some, length, option_copied, option_map, slice_get};
+ghost use Rattle.std.specs.Prelude.{◌≡◌, ◌-◌, ◌<◌, ◌↔◌, IfSome, IsTrue, Some, is_some, length, option_copied, option_map, slice_get, string_eq};
 ghost use Rattle.std.specs.Map.Iter.{deref_pair};
 ghost use Rattle.std.specs.Option.{option_and_then};
 ghost use Rattle.vecmap_base.specs.Lookups.{UpdatesBy};
@@ -243,6 +243,8 @@ impl<V> VecMap<String, V> {
     /// ```
     pub fn get_str(&self, text: &str) -> Option<&V>
         ensures value { option_copied result ≡ lookup_by (has_text text.now) self.now.entries }
+        ensures stored { option_copied result ≡ option_and_then (value_at self.now.entries)
+            (index_by (has_text text.now) self.now.entries) }
     {
         self.get(text)
     }
@@ -258,6 +260,12 @@ impl<V> VecMap<String, V> {
     pub fn get_index_of_str(&self, text: &str) -> Option<usize>
         ensures index { result ≡ index_by (has_text text.now) self.now.entries }
         ensures within { IfSome result (λ i. i < length self.now.entries) }
+        ensures stored { option_and_then (value_at self.now.entries) result
+            ≡ lookup_by (has_text text.now) self.now.entries }
+
+        // What lookups find once a value is written at the index.
+        ensures written { IfSome result (λ i. (value : V) → UpdatesBy string_eq (has_text text.now)
+            self.now.entries (with_value self.now.entries i value) (Some value)) }
     {
         self.get_index_of(text)
     }

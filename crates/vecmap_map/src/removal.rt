@@ -6,7 +6,7 @@ ghost use Rattle.vecmap_base.specs.Kept.{FiltersValues, Kept, ReturnsAtKey};
 ghost use Rattle.std.specs.Map.{IsKeyTest};
 ghost use Rattle.std.specs.Option.{option_and_then, option_or};
 ghost use Rattle.std.specs.Cmp.{IsEquivalence};
-ghost use Rattle.std.specs.Prelude.{Bool, None, Option, cond, false, if◌then◌else◌, string_eq, true};
+ghost use Rattle.std.specs.Prelude.{◌+◌, is_some, Bool, None, Option, cond, false, if◌then◌else◌, string_eq, true};
 ghost use Rattle.vecmap_base.specs.Lookups.{KeepsFront, UpdatesBy};
 ghost use Rattle.vecmap_base.specs.Pairs.{HasDistinctKeys, has_text, lookup_by, lookup_pair_by, swap_without_by, without_by};
 
@@ -179,6 +179,8 @@ impl<K, V> VecMap<K, V> {
         ensures entries { self.new.entries ≡ take (length self.old.entries - 1) self.old.entries }
         ensures lookups { KeepsFront (length self.old.entries - 1) self.old.entries
             self.new.entries }
+        ensures len { length self.new.entries + (if is_some result then 1 else 0)
+            ≡ length self.old.entries }
         ensures capacity { self.new.capacity ≡ self.old.capacity }
     {
         self.pairs.pop()
@@ -210,6 +212,8 @@ impl<K, V> VecMap<K, V> {
             (Q.equivalent query) self.old.entries self.new.entries None }
         ensures distinct { HasDistinctKeys K.eq self.old.entries
             → HasDistinctKeys K.eq self.new.entries }
+        ensures len { length self.new.entries + (if is_some result then 1 else 0)
+            ≡ length self.old.entries }
         ensures capacity { self.new.capacity ≡ self.old.capacity }
     {
         let (_key, value) = self.remove_entry(query)?;
@@ -235,6 +239,8 @@ impl<K, V> VecMap<K, V> {
             (Q.equivalent query) self.old.entries self.new.entries None }
         ensures distinct { HasDistinctKeys K.eq self.old.entries
             → HasDistinctKeys K.eq self.new.entries }
+        ensures len { length self.new.entries + (if is_some result then 1 else 0)
+            ≡ length self.old.entries }
         ensures capacity { self.new.capacity ≡ self.old.capacity }
     {
         let index = find_equivalent(&self.pairs, query)?;
@@ -270,6 +276,7 @@ impl<K, V> VecMap<K, V> {
             ≡ cond (test result.0) None (lookup_by test self.old.entries) }
         ensures distinct { (eq : K → K → Bool) → HasDistinctKeys eq self.old.entries
             → HasDistinctKeys eq self.new.entries }
+        ensures len { length self.new.entries + 1 ≡ length self.old.entries }
         ensures capacity { self.new.capacity ≡ self.old.capacity }
     {
         remove_item(&mut self.pairs, index)
@@ -300,6 +307,8 @@ impl<K, V> VecMap<K, V> {
             (Q.equivalent query) self.old.entries self.new.entries None }
         ensures distinct { HasDistinctKeys K.eq self.old.entries
             → HasDistinctKeys K.eq self.new.entries }
+        ensures len { length self.new.entries + (if is_some result then 1 else 0)
+            ≡ length self.old.entries }
         ensures capacity { self.new.capacity ≡ self.old.capacity }
     {
         let (_key, value) = self.swap_remove_entry(query)?;
@@ -325,6 +334,8 @@ impl<K, V> VecMap<K, V> {
             (Q.equivalent query) self.old.entries self.new.entries None }
         ensures distinct { HasDistinctKeys K.eq self.old.entries
             → HasDistinctKeys K.eq self.new.entries }
+        ensures len { length self.new.entries + (if is_some result then 1 else 0)
+            ≡ length self.old.entries }
         ensures capacity { self.new.capacity ≡ self.old.capacity }
     {
         let index = find_equivalent(&self.pairs, query)?;
@@ -358,6 +369,7 @@ impl<K, V> VecMap<K, V> {
             ≡ cond (test result.0) None (lookup_by test self.old.entries) }
         ensures distinct { (eq : K → K → Bool) → IsEquivalence eq → HasDistinctKeys eq self.old.entries
             → HasDistinctKeys eq self.new.entries }
+        ensures len { length self.new.entries + 1 ≡ length self.old.entries }
         ensures capacity { self.new.capacity ≡ self.old.capacity }
     {
         self.pairs.swap_remove(index)
@@ -380,6 +392,8 @@ impl<V> VecMap<String, V> {
             (has_text text.now) self.old.entries self.new.entries None }
         ensures distinct { HasDistinctKeys string_eq self.old.entries
             → HasDistinctKeys string_eq self.new.entries }
+        ensures len { length self.new.entries + (if is_some result then 1 else 0)
+            ≡ length self.old.entries }
         ensures capacity { self.new.capacity ≡ self.old.capacity }
     {
         self.remove(text)

@@ -2,7 +2,7 @@
 use Rattle.std.specs.{Cmp.IsEquivalence, List.IsDistinct, List.Sorted.IsPermutation, List.list_any, Map.keys_of, Option.option_map, Option.option_or}
 use Rattle.std.proofs.Common.{◌≡◌, ◌∙◌, ◌<◌, ◌≤◌, ℕ, zero, suc, Bool, true, false, List, [], ◌∷◌, ◌++◌, None, Option, Some, ap, arith, cond, if◌then◌else◌, inl, inr, is_some, refl, subst, sym, take}
 use Rattle.std.proofs.lemmas.Bool.{cases_Bool}
-use Rattle.std.proofs.lemmas.List.{take-map}
+use Rattle.std.proofs.lemmas.List.{length-take, take-map}
 use Rattle.std.proofs.lemmas.List.Sorted.{list_any-IsPermutation}
 use Rattle.std.proofs.lemmas.Map.{lookup-none}
 use Rattle.std.proofs.lemmas.Map.Entries.{none_past_head}
@@ -12,7 +12,7 @@ use Rattle.vecmap_base.specs.{Lookups.Joins, Lookups.KeepsFront}
 use Rattle.vecmap_base.specs.Pairs.{HasDistinctKeys, index_by, lookup, lookup_by, put, puts}
 use Rattle.vecmap_base.proofs.DistinctLemmas.Removals.{distinct_take}
 use Rattle.vecmap_base.proofs.IndexLemmas.{is_some_position}
-use Rattle.vecmap_base.proofs.PairsLemmas.{ByIndex.index_by_is, Distinct.distinct_put, Lookups.updates_put}
+use Rattle.vecmap_base.proofs.PairsLemmas.{AtIndices.index_in_front, ByIndex.index_by_is, Distinct.distinct_put, Lookups.updates_put}
 
 module _ {K V : Type 0} (test : K → Bool) where
   -- A lookup in a list of two parts finds what the first part has, or else what the second has.
@@ -75,6 +75,8 @@ module _ {K V : Type 0} where
     gone = λ test. gone_from_front test n l;
     absent = λ test. absent_in_front test n l;
     distinct = λ eq d. subst (IsDistinct eq) (take-map (λ p. p.0) n l) (distinct_take eq n (keys_of l) d);
+    indices = λ test. index_in_front test n l;
+    len = length-take n l;
   }
 
   -- The same of a list that is known to be the front.

@@ -1,0 +1,151 @@
+-- At which indices keys are after a change, in the words of contracts.
+use Rattle.std.specs.{Cmp.IsEquivalence, List.AllByRecursion, List.Sorted.IsPermutation, Map.IsKeyTest, Map.keys_of}
+use Rattle.std.proofs.Common.{◌≡◌, ◌∙◌, ◌-◌, ◌<◌, ◌≤◌, ◌++◌, ℕ, zero, suc, Bool, true, false, List, [], ◌∷◌, None, Option, Some, IfSome, IsSome, ap, arith, if◌then◌else◌, is_some, length, option_map, refl, remove, slice_get, subst, sym, take, unwrap_or}
+use Rattle.std.proofs.lemmas.List.{length-map}
+use Rattle.std.proofs.lemmas.Map.Keys.{IsDistinct-head, IsDistinct-tail}
+use Rattle.std.proofs.lemmas.Option.{none-some, same_Some}
+use Rattle.vecmap_base.specs.{Indices.AddsKey, Indices.HasMatchAt, Indices.KeepsIndices, Indices.MovesIndex, Indices.ShiftsIndices}
+use Rattle.vecmap_base.specs.Pairs.{HasDistinctKeys, index_by, index_of, index_or_length, lookup, lookup_by, put}
+use Rattle.vecmap_base.proofs.PairsLemmas.ByIndex.{index_by_none, is_some_lookup_by}
+use Rattle.vecmap_base.proofs.PairsLemmas.Distinct.{distinct_keys_rearranged}
+use Rattle.vecmap_base.proofs.PairsLemmas.Indices.{is_some_index_of}
+use Rattle.vecmap_base.proofs.PairsLemmas.Keys.{keys_of_put}
+use Rattle.vecmap_base.proofs.PairsLemmas.Puts.{put_absent}
+
+-- An index that stays in the rest of a list stays in the list.
+stays : (b : Bool) (r s : Option ℕ) (i : ℕ) → ((j : ℕ) → r ≡ Some j → suc j ≡ i → s ≡ Some j) → (if b then Some 0 else option_map suc r) ≡ Some i → (if b then Some 0 else option_map suc s) ≡ Some i
+stays true r s i rest e = e
+stays false None s i rest e = absurd (none-some i e)
+stays false (Some j) s i rest e = ap (option_map suc) (rest j refl (same_Some (suc j) i e)) ∙ e
+
+-- The index of a match after the head, in the rest.
+past_head : (b : Bool) (r : Option ℕ) (j : ℕ) → 0 < j → (if b then Some 0 else option_map suc r) ≡ Some j → (b ≡ false) × (r ≡ Some (j - 1))
+past_head true r j h e = absurd (let f : 0 ≡ j = same_Some 0 j e in omega arith)
+past_head false None j h e = absurd (none-some j e)
+past_head false (Some k) j h e = (refl, let f : suc k ≡ j = same_Some (suc k) j e in ap Some (omega arith))
+
+suc_unwrapped : (found : Option ℕ) (n : ℕ) → suc (unwrap_or found n) ≡ unwrap_or (option_map suc found) (suc n)
+suc_unwrapped None n = refl
+suc_unwrapped (Some i) n = refl
+
+module _ {K V : Type 0} (test : K → Bool) where
+  -- The pair at the index of a match is the one that a lookup finds.
+  pub match_at : (l : List (K × V)) (i : ℕ) → index_by test l ≡ Some i → HasMatchAt test l i
+  match_at [] i e = absurd (none-some i e)
+  match_at (p ∷ ps) i e = by (test p.0) refl (index_by test ps) refl e (match_at ps)
+    where
+      by : (b : Bool) → test p.0 ≡ b → (r : Option ℕ) → index_by test ps ≡ r → (if b then Some 0 else option_map suc r) ≡ Some i → ((j : ℕ) → index_by test ps ≡ Some j → HasMatchAt test ps j)
+          → (k : K) × (v : V) × (slice_get (p ∷ ps) i ≡ Some (k, v)) × (test k ≡ true) × ((if b then Some p.1 else lookup_by test ps) ≡ Some v)
+      by true t r a f rest = (p.0, p.1, ap (slice_get (p ∷ ps)) (sym (same_Some 0 i f)), t, refl)
+      by false t None a f rest = absurd (none-some i f)
+      by false t (Some j) a f rest = let m = rest j a in (m.0, m.1, ap (slice_get (p ∷ ps)) (sym (same_Some (suc j) i f)) ∙ m.2, m.3, m.4)
+
+  -- The same of a search that may have found nothing.
+  pub match_if_found : (l : List (K × V)) (found : Option ℕ) → found ≡ index_by test l → IfSome found (HasMatchAt test l)
+  match_if_found l None e = tt
+  match_if_found l (Some i) e = match_at l i (sym e)
+
+  same_indices : (l m : List (K × V)) → keys_of m ≡ keys_of l → index_by test m ≡ index_by test l
+  same_indices [] [] e = refl
+  same_indices [] (q ∷ qs) e = absurd (let f : q.0 ∷ keys_of qs ≡ [] = e in cc)
+  same_indices (p ∷ ps) [] e = absurd (let f : [] ≡ p.0 ∷ keys_of ps = e in cc)
+  same_indices (p ∷ ps) (q ∷ qs) e =
+      let key : q.0 ≡ p.0 = cc in
+      λ t. if test (key t) then Some 0 else option_map suc (same_indices ps qs (cc) t)
+
+  pub index_in_front : (n : ℕ) (l : List (K × V)) (i : ℕ) → index_by test l ≡ Some i → i < n → index_by test (take n l) ≡ Some i
+  index_in_front n [] i e h = absurd (none-some i e)
+  index_in_front zero (p ∷ ps) i e h = absurd (omega arith)
+  index_in_front (suc n) (p ∷ ps) i e h = stays (test p.0) (index_by test ps) (index_by test (take n ps)) i (λ j f g. index_in_front n ps j f (omega arith)) e
+
+  before_removed : (i : ℕ) (l : List (K × V)) (j : ℕ) → index_by test l ≡ Some j → j < i → index_by test (remove l i) ≡ Some j
+  before_removed i [] j e h = absurd (none-some j e)
+  before_removed zero (p ∷ ps) j e h = absurd (omega arith)
+  before_removed (suc i) (p ∷ ps) j e h = stays (test p.0) (index_by test ps) (index_by test (remove ps i)) j (λ k f g. before_removed i ps k f (omega arith)) e
+
+  after_removed : (i : ℕ) (l : List (K × V)) (j : ℕ) → index_by test l ≡ Some j → i < j → index_by test (remove l i) ≡ Some (j - 1)
+  after_removed i [] j e h = absurd (none-some j e)
+  after_removed zero (p ∷ ps) j e h = (past_head (test p.0) (index_by test ps) j h e).1
+  after_removed (suc i) (p ∷ ps) j e h =
+      let rest = past_head (test p.0) (index_by test ps) j (omega arith) e in
+      let next : suc (j - 1 - 1) ≡ j - 1 = omega arith in
+      ap (λ b. if b then Some 0 else option_map suc (index_by test (remove ps i))) rest.0
+      ∙ ap (option_map suc) (after_removed i ps (j - 1) rest.1 (omega arith)) ∙ ap Some next
+
+  -- If all keys are distinct, a pair that a query matches is found at its own index.
+  module _ (eq : K → K → Bool) (o : IsEquivalence eq) (respects : IsKeyTest eq test) where
+    key_held : (P : K → Type 0) (l : List (K × V)) → AllByRecursion P (keys_of l) → (i : ℕ) (p : K × V) → slice_get l i ≡ Some p → P p.0
+    key_held P [] h i p e = absurd (none-some p e)
+    key_held P (q ∷ qs) h zero p e = subst (λ r. P r.0) (same_Some q p e) h.0
+    key_held P (q ∷ qs) h (suc i) p e = key_held P qs h.1 i p e
+
+    pub index_by_own : (l : List (K × V)) → HasDistinctKeys eq l → (i : ℕ) (p : K × V) → slice_get l i ≡ Some p → test p.0 ≡ true → index_by test l ≡ Some i
+    index_by_own [] d i p e t = absurd (none-some p e)
+    index_by_own (q ∷ qs) d zero p e t = ap (λ b. if b then Some 0 else option_map suc (index_by test qs)) (ap (λ r. test r.0) (same_Some q p e) ∙ t)
+    index_by_own (q ∷ qs) d (suc i) p e t =
+        let apart : test q.0 ≡ false = respects p.0 q.0 t ∙ o.symm p.0 q.0 ∙ key_held (λ y. eq q.0 y ≡ false) qs (IsDistinct-head eq q.0 (keys_of qs) d) i p e in
+        ap (λ b. if b then Some 0 else option_map suc (index_by test qs)) apart ∙ ap (option_map suc) (index_by_own qs (IsDistinct-tail eq q.0 (keys_of qs) d) i p e t)
+
+module _ {K V : Type 0} where
+  -- Lists with the same keys have them at the same indices.
+  pub keeps_indices : (l m : List (K × V)) → keys_of m ≡ keys_of l → KeepsIndices l m
+  keeps_indices l m e = record {
+    keys = e;
+    indices = λ test. same_indices test l m e;
+    len = sym (length-map m (λ p. p.0)) ∙ ap length e ∙ length-map l (λ p. p.0);
+  }
+
+  -- After the removal of the pair at an index.
+  pub shifts_indices : (l m : List (K × V)) (i : ℕ) → m ≡ remove l i → ShiftsIndices i l m
+  shifts_indices l m i e = subst (ShiftsIndices i l) (sym e) (record { before = λ test. before_removed test i l; after = λ test. after_removed test i l })
+
+  -- In another order, a pair that is known to be at another index is found there.
+  pub moves_index : (l m : List (K × V)) (i j : ℕ) → IsPermutation l m → slice_get m j ≡ slice_get l i → MovesIndex i j l m
+  moves_index l m i j moved at = record {
+    pair = at;
+    key = λ eq o d k. found eq (eq k) o (o.congr k) d;
+    query = found;
+  }
+    where
+      found : (eq : K → K → Bool) (test : K → Bool) → IsEquivalence eq → IsKeyTest eq test → HasDistinctKeys eq l → index_by test l ≡ Some i → index_by test m ≡ Some j
+      found eq test o respects d e =
+          let here = match_at test l i e in
+          index_by_own test eq o respects m (distinct_keys_rearranged eq o l m moved d) j (here.0, here.1) (at ∙ here.2) here.3
+
+module _ {K V : Type 0} (eq : K → K → Bool) where
+  indices_put : (test : K → Bool) (l : List (K × V)) (k : K) (v : V) (i : ℕ) → index_by test l ≡ Some i → index_by test (put eq l k v) ≡ Some i
+  indices_put test [] k v i e = absurd (none-some i e)
+  indices_put test (p ∷ ps) k v i e = by (eq k p.0) (indices_put test ps k v)
+    where
+      by : (b : Bool) → ((j : ℕ) → index_by test ps ≡ Some j → index_by test (put eq ps k v) ≡ Some j) → index_by test (if b then (p.0, v) ∷ ps else p ∷ put eq ps k v) ≡ Some i
+      by true rest = e
+      by false rest = stays (test p.0) (index_by test ps) (index_by test (put eq ps k v)) i (λ j f g. rest j f) e
+
+  keys_put : (l : List (K × V)) (k : K) (v : V) → keys_of (put eq l k v) ≡ (if is_some (lookup eq l k) then keys_of l else keys_of l ++ k ∷ [])
+  keys_put l k v = keys_of_put eq l k v ∙ ap (λ b. if b then keys_of l else keys_of l ++ k ∷ []) (sym (is_some_lookup_by (eq k) l ∙ is_some_index_of eq l k))
+
+  module _ (o : IsEquivalence eq) where
+    index_put : (l : List (K × V)) (k : K) (v : V) → index_of eq (put eq l k v) k ≡ Some (index_or_length eq l k)
+    index_put [] k v = ap (λ b. if b then Some 0 else None) (o.refl k)
+    index_put (p ∷ ps) k v = by (eq k p.0) refl (index_put ps k v)
+      where
+        by : (b : Bool) → eq k p.0 ≡ b → index_of eq (put eq ps k v) k ≡ Some (index_or_length eq ps k)
+            → index_of eq (if b then (p.0, v) ∷ ps else p ∷ put eq ps k v) k ≡ Some (unwrap_or (if b then Some 0 else option_map suc (index_of eq ps k)) (suc (length ps)))
+        by true e rest = ap (λ b. if b then Some 0 else option_map suc (index_of eq ps k)) e
+        by false e rest =
+            ap (λ b. if b then Some 0 else option_map suc (index_of eq (put eq ps k v) k)) e
+            ∙ ap (option_map suc) rest ∙ ap Some (suc_unwrapped (index_of eq ps k) (length ps))
+
+    -- After an insertion.
+    pub adds_key : (l m : List (K × V)) (k : K) (v : V) → m ≡ put eq l k v → AddsKey eq l k v m
+    adds_key l m k v e = subst (AddsKey eq l k v) (sym e) (record {
+      index = index_put l k v;
+      indices = λ test. indices_put test l k v;
+      keys = keys_put l k v;
+      kept = λ some. keys_put l k v ∙ ap (λ b. if b then keys_of l else keys_of l ++ k ∷ []) some;
+      appended = λ absent. put_absent eq l k v (index_by_none (eq k) l absent);
+    })
+
+    -- After a pair is appended whose key is absent.
+    pub adds_new_key : (l m : List (K × V)) (k : K) (v : V) → m ≡ l ++ (k, v) ∷ [] → lookup eq l k ≡ None → AddsKey eq l k v m
+    adds_new_key l m k v e absent = adds_key l m k v (e ∙ sym (put_absent eq l k v (index_by_none (eq k) l absent)))
