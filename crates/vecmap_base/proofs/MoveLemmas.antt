@@ -1,11 +1,12 @@
 -- A rotation by one of the part between two indices moves one item from one index to the other. Replacing each item of
 -- the part by the one next to it does the same.
 use Rattle.std.specs.{List.Sorted.IsPermutation, Option.option_map_or}
-use Rattle.std.proofs.Common.{◌≡◌, ℕ, zero, suc, ◌+◌, ◌<◌, ◌≤◌, List, [], ◌∷◌, ◌++◌, ap, arith, append_assoc, drop, drop_at, get_or, insert, length, length-take-le, refl, remove, set, slice_get, Some, subst, sym, take, take_at, ◌∙◌}
-use Rattle.std.proofs.lemmas.List.{drop-set-lt, get_or-set_same, take-set-le, take_more}
-use Rattle.std.proofs.lemmas.List.Edits.{length-remove}
+use Rattle.std.proofs.Common.{◌≡◌, ℕ, zero, suc, ◌+◌, ◌-◌, ◌<◌, ◌≤◌, List, [], ◌∷◌, ◌++◌, ap, arith, append_assoc, drop, drop_at, get_or, insert, length, length-take-le, refl, remove, set, slice_get, swap, Some, subst, sym, take, take_at, ◌∙◌}
+use Rattle.std.proofs.lemmas.List.{drop-set-lt, get_or-set_other, get_or-set_same, length-set, take-set-le, take_more}
+use Rattle.std.proofs.lemmas.List.Edits.{insert_end, length-remove, swap_is}
 use Rattle.std.proofs.lemmas.List.Sorted.{IsPermutation-insert, IsPermutation-remove, IsPermutation-trans}
-use Rattle.std.proofs.lemmas.Option.{get_or_from_slice_get, slice_get-get_or}
+use Rattle.std.proofs.lemmas.Option.{get_or_from_slice_get, slice_get-get_or, slice_get_within}
+use Rattle.std.proofs.lemmas.Grind.{get_or-set_at}
 use Rattle.std.proofs.Math.Seq.{take-length}
 use Rattle.vecmap_base.specs.Items.{moved}
 
@@ -156,3 +157,39 @@ module _ {X : Type 0} where
         sym (inserted_removed ys (suc from) x long) ∙ ap (λ l. remove l (suc from)) moved ∙ remove_after xs from to item order within,
         sym (found_after xs from to item order within) ∙ ap (λ l. slice_get l (suc from)) (sym moved) ∙ inserted_found ys (suc from) x long,
       )
+
+  -- Where a moved item is, in the word of contracts.
+  pub moved_item : (xs ys : List X) (from to : ℕ) → ys ≡ moved xs from to → from < length xs → to < length xs → slice_get ys to ≡ slice_get xs from
+  moved_item [] ys from to e within below = absurd (omega arith)
+  moved_item (x ∷ xs) ys from to e within below =
+      let at = slice_get-get_or (x ∷ xs) from x within in
+      moved_found (x ∷ xs) ys from to x within below (e ∙ ap (λ o. option_map_or (λ y. insert (remove (x ∷ xs) from) to y) o (x ∷ xs)) at)
+
+  -- Where two swapped items are.
+  pub swapped_item : (xs ys : List X) (i j : ℕ) → ys ≡ swap xs i j → i < length xs → j < length xs → slice_get ys j ≡ slice_get xs i
+  swapped_item [] ys i j e within below = absurd (omega arith)
+  swapped_item (x ∷ xs) ys i j e within below =
+      let once = set (x ∷ xs) i (get_or (x ∷ xs) j x) in
+      let long : j < length once = subst (λ n. j < n) (sym (length-set (x ∷ xs) i (get_or (x ∷ xs) j x))) below in
+      let twice = set once j (get_or (x ∷ xs) i x) in
+      let longer : j < length twice = subst (λ n. j < n) (sym (length-set once j (get_or (x ∷ xs) i x))) long in
+      ap (λ l. slice_get l j) (e ∙ sym (swap_is (x ∷ xs) i j x within below))
+      ∙ slice_get-get_or twice j x longer ∙ ap Some (get_or-set_same once j (get_or (x ∷ xs) i x) x long) ∙ sym (slice_get-get_or (x ∷ xs) i x within)
+
+  pub swapped_item_back : (xs ys : List X) (i j : ℕ) → ys ≡ swap xs i j → i < length xs → j < length xs → slice_get ys i ≡ slice_get xs j
+  swapped_item_back [] ys i j e within below = absurd (omega arith)
+  swapped_item_back (x ∷ xs) ys i j e within below =
+      let once = set (x ∷ xs) i (get_or (x ∷ xs) j x) in
+      let inside : i < length once = subst (λ n. i < n) (sym (length-set (x ∷ xs) i (get_or (x ∷ xs) j x))) within in
+      let twice = set once j (get_or (x ∷ xs) i x) in
+      let longer : i < length twice = subst (λ n. i < n) (sym (length-set once j (get_or (x ∷ xs) i x))) inside in
+      let there : get_or twice i x ≡ get_or (x ∷ xs) j x = grind (arith, get_or-set_at, get_or-set_other) in
+      ap (λ l. slice_get l i) (e ∙ sym (swap_is (x ∷ xs) i j x within below))
+      ∙ slice_get-get_or twice i x longer ∙ ap Some there ∙ sym (slice_get-get_or (x ∷ xs) j x below)
+
+  -- An item that is moved to the end.
+  pub moved_last : (xs ys : List X) (from to : ℕ) (x : X) → ys ≡ moved xs from to → slice_get xs from ≡ Some x → to ≡ length xs - 1 → ys ≡ remove xs from ++ x ∷ []
+  moved_last xs ys from to x e at last =
+      let shorter = length-remove xs from (slice_get_within xs from x at) in
+      let end : to ≡ length (remove xs from) = omega (arith, last) in
+      e ∙ ap (λ o. option_map_or (λ y. insert (remove xs from) to y) o xs) at ∙ ap (λ i. insert (remove xs from) i x) end ∙ insert_end (remove xs from) x

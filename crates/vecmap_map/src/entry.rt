@@ -7,6 +7,7 @@ ghost use Rattle.std.specs.Borrow.{Bor, MutBor, sem};
 ghost use Rattle.std.specs.Fn.{FnOnceReturnsAt};
 ghost use Rattle.std.specs.Map.Calls.{ModifiesValue};
 ghost use Rattle.std.specs.Option.{UnwrapsOrElse, option_map_or};
+ghost use Rattle.vecmap_base.specs.Indices.{AddsKey};
 ghost use Rattle.vecmap_base.specs.Lookups.{Updates};
 ghost use Rattle.vecmap_base.specs.Pairs.{HasDistinctKeys, index_of, lookup, put};
 ghost use Rattle.vecmap_map.specs.Contents.{IsFull};
@@ -64,9 +65,12 @@ impl<K, V> VecMap<K, V> {
         ensures key { entry_key result ≡ key }
         ensures index { entry_index_of result ≡ index_of K.eq self.old.entries key }
         ensures value { entry_value result ≡ lookup K.eq self.old.entries key }
+
+        // What follows for lookups, lengths and indices.
         ensures put { (v : V) → entries_with result v ≡ put K.eq self.old.entries key v }
         ensures updates { (v : V) → Updates K.eq self.old.entries key
             (entries_with result v) (Some v) }
+        ensures keys { (v : V) → AddsKey K.eq self.old.entries key v (entries_with result v) }
         ensures removal { HasDistinctKeys K.eq self.old.entries
             → Updates K.eq self.old.entries key (entries_without result) None }
         ensures swap_removal { HasDistinctKeys K.eq self.old.entries

@@ -2,6 +2,7 @@
 ghost use Rattle.std.specs.Prelude.{◌≡◌, ◌<◌, IsSome, Some, bytes_eq, length, string_eq};
 ghost use Rattle.std.specs.Borrow.{sem};
 ghost use Rattle.std.specs.Map.{set_value};
+ghost use Rattle.vecmap_base.specs.Indices.{KeepsIndices};
 ghost use Rattle.vecmap_base.specs.Lookups.{Updates, UpdatesAt, UpdatesBy};
 ghost use Rattle.vecmap_base.specs.Pairs.{has_text, index_by, lookup, lookup_by, value_at, with_value};
 
@@ -71,6 +72,8 @@ impl<K, V> IndexMut<usize> for VecMap<K, V> {
         requires within { index < length self.old.entries }
         ensures* writes_back { sem 𝓛 (lends_value_at K.row V.row self.entry index result) }
         ensures value { value_at self.old.entries index ≡ Some result.now }
+
+        // What follows for lookups, lengths and indices.
         ensures updates { (v : V) → UpdatesAt index self.old.entries
             (with_value self.old.entries index v) v }
     {
@@ -134,8 +137,12 @@ impl<'q, K: Eq, V> IndexMut<&'q K> for VecMap<K, V> {
         requires present { IsSome (lookup K.eq self.old.entries key.now) }
         ensures* writes_back { sem 𝓛 (lends_value_of K.row V.row self.entry K.eq key.now result) }
         ensures value { lookup K.eq self.old.entries key.now ≡ Some result.now }
+
+        // What follows for lookups, lengths and indices.
         ensures updates { (v : V) → Updates K.eq self.old.entries key.now
             (set_value (K.eq key.now) self.old.entries v) (Some v) }
+        ensures keys { (v : V) → KeepsIndices self.old.entries
+            (set_value (K.eq key.now) self.old.entries v) }
     {
         let index = self.present_index(key);
         self.value_mut(index)
@@ -200,8 +207,12 @@ impl<'q, V> IndexMut<&'q str> for VecMap<String, V> {
         ensures* writes_back { sem 𝓛 (lends_value_by text_row V.row self.entry
             (has_text text.now) result) }
         ensures value { lookup_by (has_text text.now) self.old.entries ≡ Some result.now }
+
+        // What follows for lookups, lengths and indices.
         ensures updates { (v : V) → UpdatesBy string_eq (has_text text.now) self.old.entries
             (set_value (has_text text.now) self.old.entries v) (Some v) }
+        ensures keys { (v : V) → KeepsIndices self.old.entries
+            (set_value (has_text text.now) self.old.entries v) }
     {
         let index = self.present_index(text);
         self.value_mut(index)

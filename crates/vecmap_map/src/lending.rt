@@ -4,6 +4,7 @@ ghost use Rattle.std.specs.Borrow.{sem};
 ghost use Rattle.std.specs.Map.Iter.{deref_pair_mut};
 ghost use Rattle.std.specs.Option.{option_and_then, option_copied_mut};
 ghost use Rattle.std.specs.Map.{set_value};
+ghost use Rattle.vecmap_base.specs.Indices.{KeepsIndices};
 ghost use Rattle.vecmap_base.specs.Lookups.{UpdatesAt, UpdatesBy};
 ghost use Rattle.vecmap_base.specs.Pairs.{index_by, lookup_by, lookup_pair_by, value_at, with_value};
 ghost use Rattle.vecmap_map.specs.Lends.{lends_value};
@@ -40,12 +41,16 @@ impl<K, V> VecMap<K, V> {
         ensures* writes_back { sem 𝓛 (lends_value_if_by K.row V.row self.entry
             (Q.equivalent query) result) }
         ensures value { option_copied_mut result ≡ lookup_by (Q.equivalent query) self.old.entries }
-        ensures stored { option_copied_mut result ≡ option_and_then (value_at self.old.entries)
-            (index_by (Q.equivalent query) self.old.entries) }
+        ensures found { IsSome result ↔ IsSome (index_by (Q.equivalent query) self.old.entries) }
+
+        // What follows for lookups, lengths and indices.
         ensures updates { (v : V) → IsSome (lookup_by (Q.equivalent query) self.old.entries)
             → UpdatesBy K.eq (Q.equivalent query) self.old.entries
             (set_value (Q.equivalent query) self.old.entries v) (Some v) }
-        ensures found { IsSome result ↔ IsSome (index_by (Q.equivalent query) self.old.entries) }
+        ensures keys { (v : V) → KeepsIndices self.old.entries
+            (set_value (Q.equivalent query) self.old.entries v) }
+        ensures stored { option_copied_mut result ≡ option_and_then (value_at self.old.entries)
+            (index_by (Q.equivalent query) self.old.entries) }
     {
         match self.get_index_of(query) {
             Some(index) => Some(self.value_mut(index)),
@@ -194,9 +199,11 @@ impl<K, V> VecMap<K, V> {
     pub fn get_value_at_mut(&mut self, index: usize) -> Option<&mut V>
         ensures* writes_back { sem 𝓛 (lends_value_if_at K.row V.row self.entry index result) }
         ensures value { option_copied_mut result ≡ value_at self.old.entries index }
+        ensures found { IsSome result ↔ (index < length self.old.entries) }
+
+        // What follows for lookups, lengths and indices.
         ensures updates { (v : V) → UpdatesAt index self.old.entries
             (with_value self.old.entries index v) v }
-        ensures found { IsSome result ↔ (index < length self.old.entries) }
     {
         if self.len() <= index {
             return None;
@@ -224,9 +231,11 @@ impl<K, V> VecMap<K, V> {
     pub fn first_value_mut(&mut self) -> Option<&mut V>
         ensures* writes_back { sem 𝓛 (lends_value_if_at K.row V.row self.entry 0 result) }
         ensures value { option_copied_mut result ≡ value_at self.old.entries 0 }
+        ensures found { IsSome result ↔ (0 < length self.old.entries) }
+
+        // What follows for lookups, lengths and indices.
         ensures updates { (v : V) → UpdatesAt 0 self.old.entries
             (with_value self.old.entries 0 v) v }
-        ensures found { IsSome result ↔ (0 < length self.old.entries) }
     {
         self.get_value_at_mut(0)
     }
@@ -253,9 +262,11 @@ impl<K, V> VecMap<K, V> {
             (length self.old.entries - 1) result) }
         ensures value { option_copied_mut result
             ≡ value_at self.old.entries (length self.old.entries - 1) }
+        ensures found { IsSome result ↔ (0 < length self.old.entries) }
+
+        // What follows for lookups, lengths and indices.
         ensures updates { (v : V) → UpdatesAt (length self.old.entries - 1) self.old.entries
             (with_value self.old.entries (length self.old.entries - 1) v) v }
-        ensures found { IsSome result ↔ (0 < length self.old.entries) }
     {
         let last = self.len().saturating_sub(1);
         self.get_value_at_mut(last)

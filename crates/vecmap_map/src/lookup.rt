@@ -2,6 +2,7 @@
 ghost use Rattle.std.specs.Prelude.{◌≡◌, ◌-◌, ◌<◌, ◌↔◌, IfSome, IsTrue, Some, is_some, length, option_copied, option_map, slice_get, string_eq};
 ghost use Rattle.std.specs.Map.Iter.{deref_pair};
 ghost use Rattle.std.specs.Option.{option_and_then};
+ghost use Rattle.vecmap_base.specs.Indices.{HasMatchAt};
 ghost use Rattle.vecmap_base.specs.Lookups.{UpdatesBy};
 ghost use Rattle.vecmap_base.specs.Pairs.{HasDistinctKeys, has_text, index_by, lookup_by, lookup_pair_by, value_at, with_value};
 
@@ -91,6 +92,8 @@ impl<K, V> VecMap<K, V> {
     where
         K: Eq,
         ensures value { option_copied result ≡ lookup_by (Q.equivalent query) self.now.entries }
+
+        // What follows for lookups, lengths and indices.
         ensures stored { option_copied result ≡ option_and_then (value_at self.now.entries)
             (index_by (Q.equivalent query) self.now.entries) }
     {
@@ -140,6 +143,13 @@ impl<K, V> VecMap<K, V> {
         ensures within { IfSome result (λ found. found.0 < length self.now.entries) }
         ensures pair { option_map (λ found. (found.1.now, found.2.now)) result
             ≡ lookup_pair_by (Q.equivalent query) self.now.entries }
+
+        // What follows for lookups, lengths and indices.
+        ensures found { is_some result ≡ is_some (lookup_by (Q.equivalent query) self.now.entries) }
+        ensures at { IfSome result (λ found. (slice_get self.now.entries found.0
+            ≡ Some (found.1.now, found.2.now))
+            × IsTrue (Q.equivalent query found.1.now)
+            × (lookup_by (Q.equivalent query) self.now.entries ≡ Some found.2.now)) }
     {
         let index = self.get_index_of(query)?;
         let pair = &self.pairs[index];
@@ -186,10 +196,12 @@ impl<K, V> VecMap<K, V> {
         K: Eq,
         ensures index { result ≡ index_by (Q.equivalent query) self.now.entries }
         ensures within { IfSome result (λ i. i < length self.now.entries) }
+
+        // What follows for lookups, lengths and indices.
+        ensures found { is_some result ≡ is_some (lookup_by (Q.equivalent query) self.now.entries) }
+        ensures at { IfSome result (HasMatchAt (Q.equivalent query) self.now.entries) }
         ensures stored { option_and_then (value_at self.now.entries) result
             ≡ lookup_by (Q.equivalent query) self.now.entries }
-
-        // What lookups find once a value is written at the index.
         ensures written { IfSome result (λ i. (value : V) → UpdatesBy K.eq (Q.equivalent query)
             self.now.entries (with_value self.now.entries i value) (Some value)) }
     {
@@ -243,6 +255,8 @@ impl<V> VecMap<String, V> {
     /// ```
     pub fn get_str(&self, text: &str) -> Option<&V>
         ensures value { option_copied result ≡ lookup_by (has_text text.now) self.now.entries }
+
+        // What follows for lookups, lengths and indices.
         ensures stored { option_copied result ≡ option_and_then (value_at self.now.entries)
             (index_by (has_text text.now) self.now.entries) }
     {
@@ -260,10 +274,12 @@ impl<V> VecMap<String, V> {
     pub fn get_index_of_str(&self, text: &str) -> Option<usize>
         ensures index { result ≡ index_by (has_text text.now) self.now.entries }
         ensures within { IfSome result (λ i. i < length self.now.entries) }
+
+        // What follows for lookups, lengths and indices.
+        ensures found { is_some result ≡ is_some (lookup_by (has_text text.now) self.now.entries) }
+        ensures at { IfSome result (HasMatchAt (has_text text.now) self.now.entries) }
         ensures stored { option_and_then (value_at self.now.entries) result
             ≡ lookup_by (has_text text.now) self.now.entries }
-
-        // What lookups find once a value is written at the index.
         ensures written { IfSome result (λ i. (value : V) → UpdatesBy string_eq (has_text text.now)
             self.now.entries (with_value self.now.entries i value) (Some value)) }
     {

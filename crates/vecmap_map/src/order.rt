@@ -1,11 +1,10 @@
 //! Reversing, moving, swapping and sorting the pairs.
-ghost use Rattle.std.specs.Prelude.{◌≡◌, ◌<◌, ◌≤◌, Bool, IsOk, OnErr, OnOk, is_some, length, reverse, swap};
+ghost use Rattle.std.specs.Prelude.{◌≡◌, ◌++◌, ◌∷◌, ◌-◌, ◌<◌, ◌≤◌, Bool, IsOk, OnErr, OnOk, Some, [], length, remove, reverse, slice_get, swap};
 ghost use Rattle.std.specs.List.Sorted.{IsPermutation, IsSortedByKey, IsStableByKey};
-ghost use Rattle.std.specs.Cmp.{IsEquivalence};
 ghost use Rattle.std.specs.Ordering.{is_lt};
 ghost use Rattle.vecmap_base.specs.Items.{moved};
-ghost use Rattle.vecmap_base.specs.Lookups.{KeepsLookups};
-ghost use Rattle.vecmap_base.specs.Pairs.{HasDistinctKeys, index_by};
+ghost use Rattle.vecmap_base.specs.Indices.{MovesIndex};
+ghost use Rattle.vecmap_base.specs.Lookups.{IsReordered};
 ghost use Rattle.vecmap_base.specs.Orders.{AnswersOnPair, ComparesPairsAs, IsSortedByPairClosure, IsSortedByPairKey, IsStableByPairClosure, IsStableByPairKey};
 
 use crate::VecMap;
@@ -27,13 +26,13 @@ impl<K, V> VecMap<K, V> {
     /// map.reverse();
     /// map.as_slice() // [('c', 3), ('b', 2), ('a', 1)]
     /// ```
+    #[tactic(auto, using(vecmap_base::proofs::PairsLemmas::Reordered::reorders))]
     pub fn reverse(&mut self)
         ensures entries { self.new.entries ≡ reverse self.old.entries }
-        ensures matches { (test : K → Bool) → is_some (index_by test self.new.entries)
-            ≡ is_some (index_by test self.old.entries) }
-        ensures lookups { (eq : K → K → Bool) → IsEquivalence eq → HasDistinctKeys eq self.old.entries
-            → KeepsLookups eq self.old.entries self.new.entries }
         ensures capacity { self.new.capacity ≡ self.old.capacity }
+
+        // What follows for lookups, lengths and indices.
+        ensures reordered { IsReordered self.old.entries self.new.entries }
     {
         self.pairs.reverse();
     }
@@ -56,15 +55,17 @@ impl<K, V> VecMap<K, V> {
     /// map.swap_indices(0, 2);
     /// map.as_slice() // [('c', 3), ('b', 2), ('a', 1)]
     /// ```
+    #[tactic(auto, using(vecmap_base::proofs::PairsLemmas::Reordered::reorders))]
     pub fn swap_indices(&mut self, a: usize, b: usize)
         requires a_within { a < length self.old.entries }
         requires b_within { b < length self.old.entries }
         ensures entries { self.new.entries ≡ swap self.old.entries a b }
-        ensures matches { (test : K → Bool) → is_some (index_by test self.new.entries)
-            ≡ is_some (index_by test self.old.entries) }
-        ensures lookups { (eq : K → K → Bool) → IsEquivalence eq → HasDistinctKeys eq self.old.entries
-            → KeepsLookups eq self.old.entries self.new.entries }
         ensures capacity { self.new.capacity ≡ self.old.capacity }
+
+        // What follows for lookups, lengths and indices.
+        ensures reordered { IsReordered self.old.entries self.new.entries }
+        ensures moves { MovesIndex a b self.old.entries self.new.entries }
+        ensures moves_back { MovesIndex b a self.old.entries self.new.entries }
     {
         self.pairs.swap(a, b);
     }
@@ -87,15 +88,19 @@ impl<K, V> VecMap<K, V> {
     /// map.move_index(0, 2);
     /// map.as_slice() // [('b', 2), ('c', 3), ('a', 1)]
     /// ```
+    #[tactic(auto, using(vecmap_base::proofs::PairsLemmas::Reordered::reorders))]
     pub fn move_index(&mut self, from: usize, to: usize)
         requires from_within { from < length self.old.entries }
         requires to_within { to < length self.old.entries }
         ensures entries { self.new.entries ≡ moved self.old.entries from to }
-        ensures matches { (test : K → Bool) → is_some (index_by test self.new.entries)
-            ≡ is_some (index_by test self.old.entries) }
-        ensures lookups { (eq : K → K → Bool) → IsEquivalence eq → HasDistinctKeys eq self.old.entries
-            → KeepsLookups eq self.old.entries self.new.entries }
         ensures capacity { self.new.capacity ≡ self.old.capacity }
+
+        // What follows for lookups, lengths and indices.
+        ensures reordered { IsReordered self.old.entries self.new.entries }
+        ensures moves { MovesIndex from to self.old.entries self.new.entries }
+        ensures last { (pair : K × V) → slice_get self.old.entries from ≡ Some pair
+            → to ≡ length self.old.entries - 1
+            → self.new.entries ≡ remove self.old.entries from ++ pair ∷ [] }
     {
         move_to(&mut self.pairs, from, to);
     }
@@ -117,6 +122,7 @@ impl<K, V> VecMap<K, V> {
     /// map.sort_keys()?;
     /// map.as_slice() // [('a', 2), ('b', 1)]
     /// ```
+    #[tactic(auto, using(vecmap_base::proofs::PairsLemmas::Reordered::reorders))]
     pub fn sort_keys(&mut self) -> Result<(), AllocError>
     where
         K: Ord,
@@ -125,11 +131,10 @@ impl<K, V> VecMap<K, V> {
         ensures rearranged { IsPermutation self.old.entries self.new.entries }
         ensures err { OnErr result (self.new ≡ self.old) }
         ensures succeeds { length self.old.entries ≤ 20 → IsOk result }
-        ensures matches { (test : K → Bool) → is_some (index_by test self.new.entries)
-            ≡ is_some (index_by test self.old.entries) }
-        ensures lookups { HasDistinctKeys K.eq self.old.entries
-            → KeepsLookups K.eq self.old.entries self.new.entries }
         ensures capacity { self.new.capacity ≡ self.old.capacity }
+
+        // What follows for lookups, lengths and indices.
+        ensures reordered { IsReordered self.old.entries self.new.entries }
     {
         self.sort_by(|a, b| a.0.cmp(b.0))
     }
@@ -157,6 +162,7 @@ impl<K, V> VecMap<K, V> {
     /// map.sort_by(|a, b| b.1.cmp(a.1))?;
     /// map.as_slice() // [('b', 2), ('a', 1)]
     /// ```
+    #[tactic(auto, using(vecmap_base::proofs::PairsLemmas::Reordered::reorders))]
     pub fn sort_by<F: Fn((&K, &V), (&K, &V)) -> Ordering>(&mut self, f: F) -> Result<(), AllocError>
         requires { F.IsAlwaysCallable f }
         ensures sorted { OnOk result (IsSortedByPairClosure F.Fn f self.new.entries) }
@@ -164,11 +170,10 @@ impl<K, V> VecMap<K, V> {
         ensures rearranged { IsPermutation self.old.entries self.new.entries }
         ensures err { OnErr result (self.new ≡ self.old) }
         ensures succeeds { length self.old.entries ≤ 20 → IsOk result }
-        ensures matches { (test : K → Bool) → is_some (index_by test self.new.entries)
-            ≡ is_some (index_by test self.old.entries) }
-        ensures lookups { (eq : K → K → Bool) → IsEquivalence eq → HasDistinctKeys eq self.old.entries
-            → KeepsLookups eq self.old.entries self.new.entries }
         ensures capacity { self.new.capacity ≡ self.old.capacity }
+
+        // What follows for lookups, lengths and indices.
+        ensures reordered { IsReordered self.old.entries self.new.entries }
     {
         self.pairs.sort_by(
             |a: &(K, V), b: &(K, V)| -> Ordering
@@ -202,6 +207,7 @@ impl<K, V> VecMap<K, V> {
     /// map.sort_by_cached_key(|key, _value| *key)?;
     /// map.as_slice() // [('a', 2), ('b', 1)]
     /// ```
+    #[tactic(auto, using(vecmap_base::proofs::PairsLemmas::Reordered::reorders))]
     pub fn sort_by_cached_key<T: Ord + Drop, F: Fn(&K, &V) -> T>(
         &mut self,
         f: F,
@@ -212,11 +218,10 @@ impl<K, V> VecMap<K, V> {
         ensures rearranged { IsPermutation self.old.entries self.new.entries }
         ensures err { OnErr result (self.new ≡ self.old) }
         ensures succeeds { length self.old.entries ≤ 1 → IsOk result }
-        ensures matches { (test : K → Bool) → is_some (index_by test self.new.entries)
-            ≡ is_some (index_by test self.old.entries) }
-        ensures lookups { (eq : K → K → Bool) → IsEquivalence eq → HasDistinctKeys eq self.old.entries
-            → KeepsLookups eq self.old.entries self.new.entries }
         ensures capacity { self.new.capacity ≡ self.old.capacity }
+
+        // What follows for lookups, lengths and indices.
+        ensures reordered { IsReordered self.old.entries self.new.entries }
     {
         self.pairs.sort_by_cached_key(
             |a: &(K, V)| -> T
@@ -239,16 +244,16 @@ impl<K, V> VecMap<K, V> {
     /// map.sort_unstable_keys();
     /// map.as_slice() // [('a', 2), ('b', 1)]
     /// ```
+    #[tactic(auto, using(vecmap_base::proofs::PairsLemmas::Reordered::reorders))]
     pub fn sort_unstable_keys(&mut self)
     where
         K: Ord,
         ensures sorted { IsSortedByKey (λ p. p.0) K.cmp self.new.entries }
         ensures rearranged { IsPermutation self.old.entries self.new.entries }
-        ensures matches { (test : K → Bool) → is_some (index_by test self.new.entries)
-            ≡ is_some (index_by test self.old.entries) }
-        ensures lookups { HasDistinctKeys K.eq self.old.entries
-            → KeepsLookups K.eq self.old.entries self.new.entries }
         ensures capacity { self.new.capacity ≡ self.old.capacity }
+
+        // What follows for lookups, lengths and indices.
+        ensures reordered { IsReordered self.old.entries self.new.entries }
     {
         self.sort_unstable_by(|a, b| a.0.cmp(b.0));
     }
@@ -272,15 +277,15 @@ impl<K, V> VecMap<K, V> {
     /// map.sort_unstable_by(|a, b| b.1.cmp(a.1));
     /// map.as_slice() // [('b', 2), ('a', 1)]
     /// ```
+    #[tactic(auto, using(vecmap_base::proofs::PairsLemmas::Reordered::reorders))]
     pub fn sort_unstable_by<F: Fn((&K, &V), (&K, &V)) -> Ordering>(&mut self, f: F)
         requires { F.IsAlwaysCallable f }
         ensures sorted { IsSortedByPairClosure F.Fn f self.new.entries }
         ensures rearranged { IsPermutation self.old.entries self.new.entries }
-        ensures matches { (test : K → Bool) → is_some (index_by test self.new.entries)
-            ≡ is_some (index_by test self.old.entries) }
-        ensures lookups { (eq : K → K → Bool) → IsEquivalence eq → HasDistinctKeys eq self.old.entries
-            → KeepsLookups eq self.old.entries self.new.entries }
         ensures capacity { self.new.capacity ≡ self.old.capacity }
+
+        // What follows for lookups, lengths and indices.
+        ensures reordered { IsReordered self.old.entries self.new.entries }
     {
         self.pairs.sort_unstable_by(
             |a: &(K, V), b: &(K, V)| -> Ordering

@@ -1,5 +1,5 @@
 //! Removal of pairs.
-ghost use Rattle.std.specs.Prelude.{◌≡◌, ◌-◌, ◌<◌, ◌≤◌, IfOk, IsOk, OnErr, OnOk, Some, String, [], drop, length, remove, slice_get, take};
+ghost use Rattle.std.specs.Prelude.{◌≡◌, IfNone, IfSome, ◌-◌, ◌<◌, ◌≤◌, IfOk, IsOk, OnErr, OnOk, Some, String, [], drop, length, remove, slice_get, take};
 ghost use Rattle.vecmap_base.specs.Items.{swap_without};
 ghost use Rattle.vecmap_base.specs.Asked.{CallableOnEach, CallsAtPair, TakesPairAt};
 ghost use Rattle.vecmap_base.specs.Kept.{FiltersValues, Kept, ReturnsAtKey};
@@ -7,8 +7,9 @@ ghost use Rattle.std.specs.Map.{IsKeyTest};
 ghost use Rattle.std.specs.Option.{option_and_then, option_or};
 ghost use Rattle.std.specs.Cmp.{IsEquivalence};
 ghost use Rattle.std.specs.Prelude.{◌+◌, is_some, Bool, None, Option, cond, false, if◌then◌else◌, string_eq, true};
+ghost use Rattle.vecmap_base.specs.Indices.{ShiftsIndices};
 ghost use Rattle.vecmap_base.specs.Lookups.{KeepsFront, UpdatesBy};
-ghost use Rattle.vecmap_base.specs.Pairs.{HasDistinctKeys, has_text, lookup_by, lookup_pair_by, swap_without_by, without_by};
+ghost use Rattle.vecmap_base.specs.Pairs.{HasDistinctKeys, has_text, index_by, lookup_by, lookup_pair_by, swap_without_by, without_by};
 
 use crate::VecMap;
 use std::alloc::AllocError;
@@ -34,8 +35,10 @@ impl<K, V> VecMap<K, V> {
         K: Drop,
         V: Drop,
         ensures entries { self.new.entries ≡ [] }
-        ensures distinct { (eq : K → K → Bool) → HasDistinctKeys eq self.new.entries }
         ensures capacity { self.new.capacity ≡ self.old.capacity }
+
+        // What follows for lookups, lengths and indices.
+        ensures distinct { (eq : K → K → Bool) → HasDistinctKeys eq self.new.entries }
     {
         self.pairs.clear();
     }
@@ -60,8 +63,10 @@ impl<K, V> VecMap<K, V> {
         K: Drop,
         V: Drop,
         ensures entries { self.new.entries ≡ take len self.old.entries }
-        ensures lookups { KeepsFront len self.old.entries self.new.entries }
         ensures capacity { self.new.capacity ≡ self.old.capacity }
+
+        // What follows for lookups, lengths and indices.
+        ensures lookups { KeepsFront len self.old.entries self.new.entries }
     {
         self.pairs.truncate(len);
     }
@@ -96,12 +101,14 @@ impl<K, V> VecMap<K, V> {
         requires within { at ≤ length self.old.entries }
         ensures entries { OnOk result (self.new.entries ≡ take at self.old.entries) }
         ensures part { IfOk result (λ part. part.entries ≡ drop at self.old.entries) }
-        ensures lookups { OnOk result (KeepsFront at self.old.entries self.new.entries) }
-        ensures part_lookups { IfOk result (λ part. (test : K → Bool) → lookup_by test self.old.entries
-            ≡ option_or (lookup_by test self.new.entries) (lookup_by test part.entries)) }
         ensures capacity { self.new.capacity ≡ self.old.capacity }
         ensures succeeds { at ≡ length self.old.entries → IsOk result }
         ensures err { OnErr result (self.new ≡ self.old) }
+
+        // What follows for lookups, lengths and indices.
+        ensures lookups { OnOk result (KeepsFront at self.old.entries self.new.entries) }
+        ensures part_lookups { IfOk result (λ part. (test : K → Bool) → lookup_by test self.old.entries
+            ≡ option_or (lookup_by test self.new.entries) (lookup_by test part.entries)) }
     {
         Ok(VecMap {
             pairs: self.pairs.split_off(at)?,
@@ -140,6 +147,11 @@ impl<K, V> VecMap<K, V> {
         F: Drop,
         requires callable { CallableOnEach (CallsAtPair F.FnMut)
             (TakesPairAt F.FnMut) f self.old.entries }
+        ensures retained { (g : F) × Kept
+            (CallsAtPair F.FnMut) f self.old.entries self.new.entries g }
+        ensures capacity { self.new.capacity ≡ self.old.capacity }
+
+        // What follows for lookups, lengths and indices.
         ensures lookups { (h : V → Option V) → FiltersValues (CallsAtPair F.FnMut) f h
             → (test : K → Bool) (eq : K → K → Bool) → HasDistinctKeys eq self.old.entries
             → IsKeyTest eq test → lookup_by test self.new.entries
@@ -147,16 +159,12 @@ impl<K, V> VecMap<K, V> {
         ensures selected { (test : K → Bool) (kept : Bool)
             → ReturnsAtKey (CallsAtPair F.FnMut) f test kept → lookup_by test self.new.entries
             ≡ (if kept then lookup_by test self.old.entries else None) }
-        // The two cases of `selected`: a search uses only the clause that has the form of its goal.
         ensures stays { (test : K → Bool) → ReturnsAtKey (CallsAtPair F.FnMut) f test true
             → lookup_by test self.new.entries ≡ lookup_by test self.old.entries }
         ensures gone { (test : K → Bool) → ReturnsAtKey (CallsAtPair F.FnMut) f test false
             → lookup_by test self.new.entries ≡ None }
         ensures distinct { (eq : K → K → Bool) → HasDistinctKeys eq self.old.entries
             → HasDistinctKeys eq self.new.entries }
-        ensures retained { (g : F) × Kept
-            (CallsAtPair F.FnMut) f self.old.entries self.new.entries g }
-        ensures capacity { self.new.capacity ≡ self.old.capacity }
     {
         retain_pairs(&mut self.pairs, f);
     }
@@ -177,11 +185,17 @@ impl<K, V> VecMap<K, V> {
     pub fn pop(&mut self) -> Option<(K, V)>
         ensures pair { result ≡ slice_get self.old.entries (length self.old.entries - 1) }
         ensures entries { self.new.entries ≡ take (length self.old.entries - 1) self.old.entries }
+        ensures capacity { self.new.capacity ≡ self.old.capacity }
+
+        // What follows for lookups, lengths and indices.
         ensures lookups { KeepsFront (length self.old.entries - 1) self.old.entries
             self.new.entries }
+        ensures removal { IfSome result (λ pair. (test : K → Bool) (eq : K → K → Bool)
+            → HasDistinctKeys eq self.old.entries → IsKeyTest eq test → IsEquivalence eq
+            → lookup_by test self.new.entries
+            ≡ cond (test pair.0) None (lookup_by test self.old.entries)) }
         ensures len { length self.new.entries + (if is_some result then 1 else 0)
             ≡ length self.old.entries }
-        ensures capacity { self.new.capacity ≡ self.old.capacity }
     {
         self.pairs.pop()
     }
@@ -208,13 +222,18 @@ impl<K, V> VecMap<K, V> {
         K: Eq + Drop,
         ensures value { result ≡ lookup_by (Q.equivalent query) self.old.entries }
         ensures entries { self.new.entries ≡ without_by (Q.equivalent query) self.old.entries }
+        ensures capacity { self.new.capacity ≡ self.old.capacity }
+
+        // What follows for lookups, lengths and indices.
         ensures updates { HasDistinctKeys K.eq self.old.entries → UpdatesBy K.eq
             (Q.equivalent query) self.old.entries self.new.entries None }
         ensures distinct { HasDistinctKeys K.eq self.old.entries
             → HasDistinctKeys K.eq self.new.entries }
         ensures len { length self.new.entries + (if is_some result then 1 else 0)
             ≡ length self.old.entries }
-        ensures capacity { self.new.capacity ≡ self.old.capacity }
+        ensures indices { IfSome (index_by (Q.equivalent query) self.old.entries)
+            (λ i. ShiftsIndices i self.old.entries self.new.entries) }
+        ensures unchanged { IfNone result (self.new ≡ self.old) }
     {
         let (_key, value) = self.remove_entry(query)?;
         Some(value)
@@ -235,13 +254,18 @@ impl<K, V> VecMap<K, V> {
         K: Eq,
         ensures pair { result ≡ lookup_pair_by (Q.equivalent query) self.old.entries }
         ensures entries { self.new.entries ≡ without_by (Q.equivalent query) self.old.entries }
+        ensures capacity { self.new.capacity ≡ self.old.capacity }
+
+        // What follows for lookups, lengths and indices.
         ensures updates { HasDistinctKeys K.eq self.old.entries → UpdatesBy K.eq
             (Q.equivalent query) self.old.entries self.new.entries None }
         ensures distinct { HasDistinctKeys K.eq self.old.entries
             → HasDistinctKeys K.eq self.new.entries }
         ensures len { length self.new.entries + (if is_some result then 1 else 0)
             ≡ length self.old.entries }
-        ensures capacity { self.new.capacity ≡ self.old.capacity }
+        ensures indices { IfSome (index_by (Q.equivalent query) self.old.entries)
+            (λ i. ShiftsIndices i self.old.entries self.new.entries) }
+        ensures unchanged { IfNone result (self.new ≡ self.old) }
     {
         let index = find_equivalent(&self.pairs, query)?;
         Some(remove_item(&mut self.pairs, index))
@@ -271,13 +295,16 @@ impl<K, V> VecMap<K, V> {
         requires within { index < length self.old.entries }
         ensures pair { slice_get self.old.entries index ≡ Some result }
         ensures entries { self.new.entries ≡ remove self.old.entries index }
+        ensures capacity { self.new.capacity ≡ self.old.capacity }
+
+        // What follows for lookups, lengths and indices.
         ensures lookups { (test : K → Bool) (eq : K → K → Bool) → HasDistinctKeys eq self.old.entries
             → IsKeyTest eq test → IsEquivalence eq → lookup_by test self.new.entries
             ≡ cond (test result.0) None (lookup_by test self.old.entries) }
         ensures distinct { (eq : K → K → Bool) → HasDistinctKeys eq self.old.entries
             → HasDistinctKeys eq self.new.entries }
         ensures len { length self.new.entries + 1 ≡ length self.old.entries }
-        ensures capacity { self.new.capacity ≡ self.old.capacity }
+        ensures indices { ShiftsIndices index self.old.entries self.new.entries }
     {
         remove_item(&mut self.pairs, index)
     }
@@ -303,13 +330,16 @@ impl<K, V> VecMap<K, V> {
         K: Eq + Drop,
         ensures value { result ≡ lookup_by (Q.equivalent query) self.old.entries }
         ensures entries { self.new.entries ≡ swap_without_by (Q.equivalent query) self.old.entries }
+        ensures capacity { self.new.capacity ≡ self.old.capacity }
+
+        // What follows for lookups, lengths and indices.
         ensures updates { HasDistinctKeys K.eq self.old.entries → UpdatesBy K.eq
             (Q.equivalent query) self.old.entries self.new.entries None }
         ensures distinct { HasDistinctKeys K.eq self.old.entries
             → HasDistinctKeys K.eq self.new.entries }
         ensures len { length self.new.entries + (if is_some result then 1 else 0)
             ≡ length self.old.entries }
-        ensures capacity { self.new.capacity ≡ self.old.capacity }
+        ensures unchanged { IfNone result (self.new ≡ self.old) }
     {
         let (_key, value) = self.swap_remove_entry(query)?;
         Some(value)
@@ -330,13 +360,16 @@ impl<K, V> VecMap<K, V> {
         K: Eq,
         ensures pair { result ≡ lookup_pair_by (Q.equivalent query) self.old.entries }
         ensures entries { self.new.entries ≡ swap_without_by (Q.equivalent query) self.old.entries }
+        ensures capacity { self.new.capacity ≡ self.old.capacity }
+
+        // What follows for lookups, lengths and indices.
         ensures updates { HasDistinctKeys K.eq self.old.entries → UpdatesBy K.eq
             (Q.equivalent query) self.old.entries self.new.entries None }
         ensures distinct { HasDistinctKeys K.eq self.old.entries
             → HasDistinctKeys K.eq self.new.entries }
         ensures len { length self.new.entries + (if is_some result then 1 else 0)
             ≡ length self.old.entries }
-        ensures capacity { self.new.capacity ≡ self.old.capacity }
+        ensures unchanged { IfNone result (self.new ≡ self.old) }
     {
         let index = find_equivalent(&self.pairs, query)?;
         Some(self.pairs.swap_remove(index))
@@ -364,13 +397,15 @@ impl<K, V> VecMap<K, V> {
         requires within { index < length self.old.entries }
         ensures pair { slice_get self.old.entries index ≡ Some result }
         ensures entries { self.new.entries ≡ swap_without self.old.entries index }
+        ensures capacity { self.new.capacity ≡ self.old.capacity }
+
+        // What follows for lookups, lengths and indices.
         ensures lookups { (test : K → Bool) (eq : K → K → Bool) → HasDistinctKeys eq self.old.entries
             → IsKeyTest eq test → IsEquivalence eq → lookup_by test self.new.entries
             ≡ cond (test result.0) None (lookup_by test self.old.entries) }
         ensures distinct { (eq : K → K → Bool) → IsEquivalence eq → HasDistinctKeys eq self.old.entries
             → HasDistinctKeys eq self.new.entries }
         ensures len { length self.new.entries + 1 ≡ length self.old.entries }
-        ensures capacity { self.new.capacity ≡ self.old.capacity }
     {
         self.pairs.swap_remove(index)
     }
@@ -388,13 +423,18 @@ impl<V> VecMap<String, V> {
     pub fn remove_str(&mut self, text: &str) -> Option<V>
         ensures value { result ≡ lookup_by (has_text text.now) self.old.entries }
         ensures entries { self.new.entries ≡ without_by (has_text text.now) self.old.entries }
+        ensures capacity { self.new.capacity ≡ self.old.capacity }
+
+        // What follows for lookups, lengths and indices.
         ensures updates { HasDistinctKeys string_eq self.old.entries → UpdatesBy string_eq
             (has_text text.now) self.old.entries self.new.entries None }
         ensures distinct { HasDistinctKeys string_eq self.old.entries
             → HasDistinctKeys string_eq self.new.entries }
         ensures len { length self.new.entries + (if is_some result then 1 else 0)
             ≡ length self.old.entries }
-        ensures capacity { self.new.capacity ≡ self.old.capacity }
+        ensures indices { IfSome (index_by (has_text text.now) self.old.entries)
+            (λ i. ShiftsIndices i self.old.entries self.new.entries) }
+        ensures unchanged { IfNone result (self.new ≡ self.old) }
     {
         self.remove(text)
     }

@@ -1,12 +1,14 @@
 -- At which indices keys are after a change, in the words of contracts.
-use Rattle.std.specs.{Cmp.IsEquivalence, List.AllByRecursion, List.Sorted.IsPermutation, Map.IsKeyTest, Map.keys_of}
-use Rattle.std.proofs.Common.{◌≡◌, ◌∙◌, ◌-◌, ◌<◌, ◌≤◌, ◌++◌, ℕ, zero, suc, Bool, true, false, List, [], ◌∷◌, None, Option, Some, IfSome, IsSome, ap, arith, if◌then◌else◌, is_some, length, option_map, refl, remove, slice_get, subst, sym, take, unwrap_or}
+use Rattle.std.specs.{Cmp.IsEquivalence, List.AllByRecursion, List.Sorted.IsPermutation, Map.IsKeyTest, Map.keys_of, Option.option_map_or}
+use Rattle.std.proofs.Common.{◌≡◌, ◌∙◌, ◌+◌, ◌-◌, ◌<◌, ◌≤◌, ◌++◌, ℕ, zero, suc, Bool, true, false, List, [], ◌∷◌, None, Option, Some, IfSome, IsSome, ap, arith, if◌then◌else◌, insert, is_some, length, min, option_map, refl, remove, slice_get, subst, sym, take, unwrap_or}
 use Rattle.std.proofs.lemmas.List.{length-map}
 use Rattle.std.proofs.lemmas.Map.Keys.{IsDistinct-head, IsDistinct-tail}
-use Rattle.std.proofs.lemmas.Option.{none-some, same_Some}
+use Rattle.std.proofs.lemmas.List.Edits.{length-insert, length-remove}
+use Rattle.std.proofs.lemmas.Option.{none-some, same_Some, slice_get_within}
 use Rattle.vecmap_base.specs.{Indices.AddsKey, Indices.HasMatchAt, Indices.KeepsIndices, Indices.MovesIndex, Indices.ShiftsIndices}
-use Rattle.vecmap_base.specs.Pairs.{HasDistinctKeys, index_by, index_of, index_or_length, lookup, lookup_by, put}
-use Rattle.vecmap_base.proofs.PairsLemmas.ByIndex.{index_by_none, is_some_lookup_by}
+use Rattle.vecmap_base.specs.Pairs.{HasDistinctKeys, index_by, index_of, index_or_length, lookup, lookup_by, put, put_at, without_by}
+use Rattle.vecmap_base.proofs.MoveLemmas.{inserted_found}
+use Rattle.vecmap_base.proofs.PairsLemmas.ByIndex.{index_by_none, is_some_lookup_by, without_by_index}
 use Rattle.vecmap_base.proofs.PairsLemmas.Distinct.{distinct_keys_rearranged}
 use Rattle.vecmap_base.proofs.PairsLemmas.Indices.{is_some_index_of}
 use Rattle.vecmap_base.proofs.PairsLemmas.Keys.{keys_of_put}
@@ -99,6 +101,14 @@ module _ {K V : Type 0} where
   pub shifts_indices : (l m : List (K × V)) (i : ℕ) → m ≡ remove l i → ShiftsIndices i l m
   shifts_indices l m i e = subst (ShiftsIndices i l) (sym e) (record { before = λ test. before_removed test i l; after = λ test. after_removed test i l })
 
+  -- The same after a removal by a query.
+  pub shifts_without : (test : K → Bool) (l m : List (K × V)) → m ≡ without_by test l → IfSome (index_by test l) (λ i. ShiftsIndices i l m)
+  shifts_without test l m e = by (index_by test l) (e ∙ without_by_index test l)
+    where
+      by : (found : Option ℕ) → m ≡ option_map_or (λ i. remove l i) found l → IfSome found (λ i. ShiftsIndices i l m)
+      by None f = tt
+      by (Some i) f = shifts_indices l m i f
+
   -- In another order, a pair that is known to be at another index is found there.
   pub moves_index : (l m : List (K × V)) (i j : ℕ) → IsPermutation l m → slice_get m j ≡ slice_get l i → MovesIndex i j l m
   moves_index l m i j moved at = record {
@@ -149,3 +159,21 @@ module _ {K V : Type 0} (eq : K → K → Bool) where
     -- After a pair is appended whose key is absent.
     pub adds_new_key : (l m : List (K × V)) (k : K) (v : V) → m ≡ l ++ (k, v) ∷ [] → lookup eq l k ≡ None → AddsKey eq l k v m
     adds_new_key l m k v e absent = adds_key l m k v (e ∙ sym (put_absent eq l k v (index_by_none (eq k) l absent)))
+
+  -- After an insertion at an index, the pair is there, or last if the index is past the end of the list that it makes.
+  pub put_at_found : (l m : List (K × V)) (i : ℕ) (k : K) (v : V) → m ≡ put_at eq l i k v → i ≤ length l → slice_get m (min i (length m - 1)) ≡ Some (k, v)
+  put_at_found l m i k v e h = by (index_of eq l k) refl e
+    where
+      by : (found : Option ℕ) → index_of eq l k ≡ found → m ≡ option_map_or (λ j. insert (remove l j) (min i (length l - 1)) (k, v)) found (insert l i (k, v)) → slice_get m (min i (length m - 1)) ≡ Some (k, v)
+      by None a f =
+          let long : length m ≡ length l + 1 = ap length f ∙ length-insert l i (k, v) h in
+          let here : min i (length m - 1) ≡ i = grind arith in
+          ap (slice_get m) here ∙ ap (λ n. slice_get n i) f ∙ inserted_found l i (k, v) h
+      by (Some j) a f =
+          let at = match_at (eq k) l j a in
+          let within = slice_get_within l j (at.0, at.1) at.2 in
+          let shorter = length-remove l j within in
+          let low : min i (length l - 1) ≤ length (remove l j) = grind arith in
+          let long : length m ≡ length (remove l j) + 1 = ap length f ∙ length-insert (remove l j) (min i (length l - 1)) (k, v) low in
+          let here : min i (length m - 1) ≡ min i (length l - 1) = grind arith in
+          ap (slice_get m) here ∙ ap (λ n. slice_get n (min i (length l - 1))) f ∙ inserted_found (remove l j) (min i (length l - 1)) (k, v) low

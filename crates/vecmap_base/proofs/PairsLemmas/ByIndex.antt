@@ -103,22 +103,22 @@ module _ {K V : Type 0} (eq : K → K → Bool) where
 
 -- The same for a function that has found the index `i` and has read the pair `p` there.
 module _ {K V : Type 0} (test : K → Bool) (l : List (K × V)) (i : ℕ) (p : K × V) (found : Some i ≡ index_by test l) (within : i < length l) (is : p ≡ get_or l i p) where
-  read : slice_get l i ≡ Some p
-  read = slice_get-get_or l i p within ∙ ap Some (sym is)
+  pub pair_read : slice_get l i ≡ Some p
+  pair_read = slice_get-get_or l i p within ∙ ap Some (sym is)
 
   pub pair_found : Some p ≡ lookup_pair_by test l
-  pair_found = sym (lookup_pair_by_index test l ∙ ap (option_and_then (slice_get l)) (sym found) ∙ read)
+  pair_found = sym (lookup_pair_by_index test l ∙ ap (option_and_then (slice_get l)) (sym found) ∙ pair_read)
 
   pub value_found : Some p.1 ≡ lookup_by test l
-  value_found = sym (lookup_by_index test l ∙ ap (option_and_then (value_at l)) (sym found) ∙ ap (option_map (λ q. q.1)) read)
+  value_found = sym (lookup_by_index test l ∙ ap (option_and_then (value_at l)) (sym found) ∙ ap (option_map (λ q. q.1)) pair_read)
 
   pub swapped_out : swap_remove l i p ≡ swap_without_by test l
-  swapped_out = sym (ap (λ o. option_map_or (λ j. swap_without l j) o l) (sym found) ∙ ap (λ o. option_map_or (λ q. swap_remove l i q) o l) read)
+  swapped_out = sym (ap (λ o. option_map_or (λ j. swap_without l j) o l) (sym found) ∙ ap (λ o. option_map_or (λ q. swap_remove l i q) o l) pair_read)
 
 module _ {K V : Type 0} (eq : K → K → Bool) (l : List (K × V)) (k : K) (v : V) (i : ℕ) (p : K × V) (found : Some i ≡ index_of eq l k) (within : i < length l) (is : p ≡ get_or l i p) where
   pub value_written : set l i (p.0, v) ≡ put eq l k v
   value_written =
-      sym (put_by_index eq l k v ∙ ap (λ o. option_map_or (λ j. with_value l j v) o (l ++ (k, v) ∷ [])) (sym found) ∙ ap (λ o. option_map_or (λ q. slice_set l i (q.0, v)) o l) (read (eq k) l i p found within is))
+      sym (put_by_index eq l k v ∙ ap (λ o. option_map_or (λ j. with_value l j v) o (l ++ (k, v) ∷ [])) (sym found) ∙ ap (λ o. option_map_or (λ q. slice_set l i (q.0, v)) o l) (pair_read (eq k) l i p found within is))
 
 -- The definitions by the index, for proofs of functions that find the index first.
 pub ruleset by_index = (lookup_by_index, lookup_pair_by_index, without_by_index, set_value_by_index, put_by_index, put_key_by_index)

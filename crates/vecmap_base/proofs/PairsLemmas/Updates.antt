@@ -1,10 +1,10 @@
 -- What lookups find after a removal and after a write of a value, in the words of contracts.
-use Rattle.std.specs.{Cmp.IsEquivalence, List.AllByRecursion, List.IsDistinct, List.Sorted.IsPermutation, List.swap_remove, Map.AreApart, Map.IsKeyTest, Map.KeepsOthers, Map.keys_of, Map.set_value, Option.option_and_then, Option.option_map_or}
-use Rattle.std.proofs.Common.{◌≡◌, ◌∙◌, ◌-◌, ◌++◌, ℕ, Bool, true, false, List, [], ◌∷◌, None, Option, Some, IsSome, ap, cond, get_or, inl, inr, insert, is_some, length, min, refl, remove, slice_get, subst, sym, true≢false}
+use Rattle.std.specs.{Cmp.IsEquivalence, List.AllByRecursion, List.IsDistinct, List.Sorted.IsPermutation, List.swap_remove, Map.AreApart, Map.IsKeyTest, Map.KeepsOthers, Map.keys_of, Map.set_value, Option.option_and_then, Option.option_map_or, Option.option_to_list}
+use Rattle.std.proofs.Common.{◌≡◌, ◌∙◌, ◌-◌, ◌++◌, ℕ, suc, Bool, true, false, List, [], ◌∷◌, None, Option, Some, IfSome, IsSome, ap, cond, get_or, inl, inr, insert, is_some, length, min, refl, remove, slice_get, subst, sym, true≢false}
 use Rattle.std.proofs.lemmas.Bool.{cases_Bool}
 use Rattle.std.proofs.lemmas.List.{map-set}
 use Rattle.std.proofs.lemmas.List.Quantifiers.{position-Some}
-use Rattle.std.proofs.lemmas.List.Sorted.{IsPermutation-insert, IsPermutation-remove, IsPermutation-swap_remove}
+use Rattle.std.proofs.lemmas.List.Sorted.{IsPermutation-append_comm, IsPermutation-insert, IsPermutation-remove, IsPermutation-swap_remove}
 use Rattle.std.proofs.lemmas.Map.{NonePasses, lookup-none, lookup-set_value, none_passes_from_lookup}
 use Rattle.std.proofs.lemmas.Map.Entries.{none_past_head}
 use Rattle.std.proofs.lemmas.Map.Keys.{IsDistinct-cons, IsDistinct-tail}
@@ -232,3 +232,9 @@ module _ {K V : Type 0} (eq : K → K → Bool) (o : IsEquivalence eq) where
       by (Some j) f =
           subst (λ r. UpdatesBy eq (eq k) l (option_map_or (λ j. insert (remove l j) (min i (length l - 1)) (k, v)) r (insert l i (k, v))) (Some v)) (sym f)
           (inserted (remove l j) (min i (length l - 1)) (subst (λ r. UpdatesBy eq (eq k) l (option_map_or (λ j. remove l j) r l) None) f left))
+
+-- After the last pair was taken, if there was one, a query that matches its key finds nothing.
+pub found_after_pop : {K V : Type 0} (l m : List (K × V)) (last : Option (K × V)) → l ≡ m ++ option_to_list last
+    → IfSome last (λ p. (test : K → Bool) (eq : K → K → Bool) → HasDistinctKeys eq l → IsKeyTest eq test → IsEquivalence eq → lookup_by test m ≡ cond (test p.0) None (lookup_by test l))
+found_after_pop l m None e = tt
+found_after_pop l m (Some p) e = λ test eq d respects o. lookup_by_taken eq o test respects l m p d (subst (λ n. IsPermutation n (p ∷ m)) (sym e) (IsPermutation-append_comm m (p ∷ [])))

@@ -1,7 +1,8 @@
-use Rattle.std.proofs.Common.{◌≡◌, ◌∙◌, arith, None, Option, Some, IfSome, ap, sym}
+use Rattle.std.proofs.Common.{◌≡◌, ◌∙◌, is_some, arith, None, Option, Some, IfSome, ap, sym}
 use Rattle.std.specs.Option.{option_and_then}
 use Rattle.vecmap_base.specs.{Lookups.UpdatesBy, Pairs.index_by, Pairs.value_at, Pairs.with_value}
-use Rattle.vecmap_base.proofs.PairsLemmas.ByIndex.{lookup_by_index}
+use Rattle.vecmap_base.proofs.PairsLemmas.AtIndices.{match_if_found}
+use Rattle.vecmap_base.proofs.PairsLemmas.ByIndex.{is_some_lookup_by, lookup_by_index}
 use Rattle.vecmap_base.proofs.PairsLemmas.UpdatedAt.{updates_at}
 use Rattle.vecmap_map.proofs.VecMap.get_index_of.Goals as goal
 
@@ -19,3 +20,13 @@ returns-clause-written g c = by c.find_equivalent.result (grind arith)
         → IfSome found (λ i. (value : _) → UpdatesBy g.K.PartialEq.eq (g.Q.Equivalent.equivalent c.args.query) c.args.self.now.entries (with_value c.args.self.now.entries i value) (Some value))
     by None e = tt
     by (Some i) e = λ v. (updates_at c.args.self.now.entries i v).updates g.K.PartialEq.eq (g.Q.Equivalent.equivalent c.args.query) g.met.K.Eq.laws (g.met.Q.Equivalent.respects_eq c.args.query) (sym e)
+
+pub returns-clause-found : goal.returns-clause-found
+returns-clause-found g c =
+    let l = c.args.self.now.entries in
+    let test = g.Q.Equivalent.equivalent c.args.query in
+    let at : c.find_equivalent.result ≡ index_by test l = grind arith in
+    ap is_some at ∙ sym (is_some_lookup_by test l)
+
+pub returns-clause-at : goal.returns-clause-at
+returns-clause-at g c = match_if_found (g.Q.Equivalent.equivalent c.args.query) c.args.self.now.entries c.find_equivalent.result (grind arith)

@@ -1,4 +1,6 @@
 use Rattle.std.proofs.Common.{arith}
+use Rattle.std.proofs.lemmas.Map.{keys-set_value}
+use Rattle.vecmap_base.proofs.PairsLemmas.AtIndices.{keeps_indices}
 use Rattle.vecmap_base.proofs.PairsLemmas.ByIndex.{by_index}
 use Rattle.vecmap_base.proofs.PairsLemmas.Updates.{updates_write}
 use Rattle.vecmap_map.proofs.VecMap.get_mut.Goals as goal
@@ -11,6 +13,7 @@ returns-in-Some g c = (
     value = grind (arith, by_index);
     stored = grind (arith, by_index);
     updates = λ v some. updates_write g.K.PartialEq.eq g.met.K.Eq.laws (g.Q.Equivalent.equivalent c.args.query) (g.met.Q.Equivalent.respects_eq c.args.query) c.args.self.now.entries v some;
+    keys = λ v. keeps_indices c.args.self.now.entries _ (keys-set_value (g.Q.Equivalent.equivalent c.args.query) c.args.self.now.entries v);
     found = grind (arith, by_index);
   },
 )

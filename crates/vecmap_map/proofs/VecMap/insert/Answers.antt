@@ -1,4 +1,5 @@
 use Rattle.std.proofs.Common.{arith}
+use Rattle.vecmap_base.proofs.PairsLemmas.AtIndices.{adds_key}
 use Rattle.vecmap_base.proofs.PairsLemmas.Lookups.{updates_of_put}
 use Rattle.vecmap_base.proofs.PairsLemmas.ByIndex.{put_by_index, value_found, value_written}
 use Rattle.vecmap_map.proofs.VecMap.insert.Goals as goal
@@ -23,3 +24,9 @@ returns-in-Some-clause-distinct g c = λ d. (returns-in-Some-clause-updates g c)
 
 pub returns-clause-distinct : goal.returns-clause-distinct
 returns-clause-distinct g c = λ d. (returns-clause-updates g c).distinct d
+
+pub returns-in-Some-clause-keys : goal.returns-in-Some-clause-keys
+returns-in-Some-clause-keys g c = adds_key g.K.PartialEq.eq g.met.K.Eq.laws _ _ _ _ (returns-in-Some-clause-entries g c)
+
+pub returns-clause-keys : goal.returns-clause-keys
+returns-clause-keys g c = adds_key g.K.PartialEq.eq g.met.K.Eq.laws _ _ _ _ (returns-clause-entries g c)

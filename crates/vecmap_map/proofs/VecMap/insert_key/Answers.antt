@@ -11,3 +11,9 @@ returns-in-Some-clause-updates g c = updates_put_key g.K.PartialEq.eq g.met.K.Eq
 
 pub returns-clause-updates : goal.returns-clause-updates
 returns-clause-updates g c = updates_put_key g.K.PartialEq.eq g.met.K.Eq.laws c.args.self.now.entries _ c.args.key c.args.value (grind (arith, put_key_by_index))
+
+pub returns-in-Some-clause-distinct : goal.returns-in-Some-clause-distinct
+returns-in-Some-clause-distinct g c = λ d. (returns-in-Some-clause-updates g c).distinct d
+
+pub returns-clause-distinct : goal.returns-clause-distinct
+returns-clause-distinct g c = λ d. (returns-clause-updates g c).distinct d

@@ -1,13 +1,20 @@
 use Rattle.std.specs.List.Sorted.{IsPermutation}
-use Rattle.std.proofs.Common.{subst}
-use Rattle.vecmap_base.proofs.PairsLemmas.Updates.{lookups_rearranged}
-use Rattle.vecmap_base.proofs.PairsLemmas.Parts.{matches_rearranged}
+use Rattle.std.proofs.Common.{rules, subst}
+use Rattle.vecmap_base.proofs.MoveLemmas.{moved_last}
+use Rattle.vecmap_base.proofs.PairsLemmas.Reordered.{moves_by_move, reordered}
 use Rattle.vecmap_map.proofs.VecMap.move_index.Goals as goal
 
-pub returns-clause-lookups : goal.returns-clause-lookups
-returns-clause-lookups g c = λ eq o d.
-    lookups_rearranged eq o c.args.self.now.entries _ (subst (λ m. IsPermutation m.entries c.move_to.new.items.items) c.self.view_is c.move_to.ensures.rearranged) d
+pub returns-clause-entries : goal.returns-clause-entries
+returns-clause-entries g c = search rules
 
-pub returns-clause-matches : goal.returns-clause-matches
-returns-clause-matches g c = λ test.
-    matches_rearranged test c.args.self.now.entries _ (subst (λ m. IsPermutation m.entries c.move_to.new.items.items) c.self.view_is c.move_to.ensures.rearranged)
+pub returns-clause-reordered : goal.returns-clause-reordered
+returns-clause-reordered g c =
+    reordered c.args.self.now.entries _ (subst (λ m. IsPermutation m.entries c.move_to.new.items.items) c.self.view_is c.move_to.ensures.rearranged)
+
+pub returns-clause-moves : goal.returns-clause-moves
+returns-clause-moves g c =
+    moves_by_move c.args.self.now.entries _ c.args.from c.args.to (subst (λ m. IsPermutation m.entries c.move_to.new.items.items) c.self.view_is c.move_to.ensures.rearranged)
+    (returns-clause-entries g c) c.requires.from_within c.requires.to_within
+
+pub returns-clause-last : goal.returns-clause-last
+returns-clause-last g c = λ pair at end. moved_last c.args.self.now.entries _ c.args.from c.args.to pair (returns-clause-entries g c) at end

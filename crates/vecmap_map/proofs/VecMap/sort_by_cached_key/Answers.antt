@@ -1,8 +1,6 @@
 use Rattle.std.proofs.Common.{ap, refl, rules, subst, sym, ◌∙◌, ◌≡◌}
 use Rattle.std.proofs.lemmas.{Fn.answers_by, Result.on_ok_weaker}
 use Rattle.vecmap_base.specs.Orders.{AnswersOnPair}
-use Rattle.vecmap_base.proofs.PairsLemmas.Updates.{lookups_rearranged}
-use Rattle.vecmap_base.proofs.PairsLemmas.Parts.{matches_rearranged}
 use Rattle.vecmap_map.proofs.VecMap.sort_by_cached_key.Goals as goal
 
 pub returns-clause-sorted : goal.returns-clause-sorted
@@ -15,9 +13,3 @@ pub returns-clause-stable : goal.returns-clause-stable
 returns-clause-stable g c = λ key by.
     rw (← c.self.view_is)
     (c.sort_by_cached_key.ensures.stable key (answers_by _ _ (λ q. q.0.now ≡ c.args.f) (λ q a r q' k i. (k.met.1 key (subst (AnswersOnPair g.F.Fn key) (sym i) by), ap (λ b. b.now) k.met.0 ∙ i)) _ refl))
-
-pub returns-clause-lookups : goal.returns-clause-lookups
-returns-clause-lookups g c = λ eq o d. lookups_rearranged eq o _ _ (search rules) d
-
-pub returns-clause-matches : goal.returns-clause-matches
-returns-clause-matches g c = λ test. matches_rearranged test _ _ (search rules)

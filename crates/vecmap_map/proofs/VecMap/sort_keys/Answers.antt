@@ -1,7 +1,5 @@
 use Rattle.std.proofs.Common.{rules}
 use Rattle.std.proofs.lemmas.{List.Sorted.ranks_by, Result.on_ok_weaker}
-use Rattle.vecmap_base.proofs.PairsLemmas.Updates.{lookups_rearranged}
-use Rattle.vecmap_base.proofs.PairsLemmas.Parts.{matches_rearranged}
 use Rattle.vecmap_map.proofs.VecMap.sort_keys.Goals as goal
 
 pub returns-clause-sorted : goal.returns-clause-sorted
@@ -9,9 +7,3 @@ returns-clause-sorted g c = on_ok_weaker c.sort_by.result (λ h. h _ (ranks_by g
 
 pub returns-clause-stable : goal.returns-clause-stable
 returns-clause-stable g c = c.sort_by.ensures.stable _ (ranks_by g.met.K.Ord.total (λ p. p.0)) (λ a b r k. search rules)
-
-pub returns-clause-lookups : goal.returns-clause-lookups
-returns-clause-lookups g c = λ d. lookups_rearranged g.K.PartialEq.eq g.met.K.Eq.laws _ _ (search rules) d
-
-pub returns-clause-matches : goal.returns-clause-matches
-returns-clause-matches g c = λ test. matches_rearranged test _ _ (search rules)

@@ -1,14 +1,6 @@
 use Rattle.std.proofs.Common.{rules}
 use Rattle.std.proofs.lemmas.List.Sorted.{ranks_by}
-use Rattle.vecmap_base.proofs.PairsLemmas.Updates.{lookups_rearranged}
-use Rattle.vecmap_base.proofs.PairsLemmas.Parts.{matches_rearranged}
 use Rattle.vecmap_map.proofs.VecMap.sort_unstable_keys.Goals as goal
 
 pub returns-clause-sorted : goal.returns-clause-sorted
 returns-clause-sorted g c = c.sort_unstable_by.ensures.sorted _ (ranks_by g.met.K.Ord.total (λ p. p.0)) (λ a b r k. search rules)
-
-pub returns-clause-lookups : goal.returns-clause-lookups
-returns-clause-lookups g c = λ d. lookups_rearranged g.K.PartialEq.eq g.met.K.Eq.laws _ _ (search rules) d
-
-pub returns-clause-matches : goal.returns-clause-matches
-returns-clause-matches g c = λ test. matches_rearranged test _ _ (search rules)

@@ -1,12 +1,12 @@
 use Rattle.std.proofs.Common.{rules}
-use Rattle.std.proofs.lemmas.List.Sorted.{IsPermutation-swap}
-use Rattle.vecmap_base.proofs.PairsLemmas.Updates.{lookups_rearranged}
-use Rattle.vecmap_base.proofs.PairsLemmas.Parts.{matches_rearranged}
+use Rattle.vecmap_base.proofs.PairsLemmas.Reordered.{moves_back_by_swap, moves_by_swap}
 use Rattle.vecmap_map.proofs.VecMap.swap_indices.Goals as goal
 
-pub returns-clause-lookups : goal.returns-clause-lookups
-returns-clause-lookups g c = λ eq o d.
-    lookups_rearranged eq o _ _ (IsPermutation-swap c.args.self.now.entries _ c.args.a c.args.b c.requires.a_within c.requires.b_within (search rules)) d
+pub returns-clause-entries : goal.returns-clause-entries
+returns-clause-entries g c = search rules
 
-pub returns-clause-matches : goal.returns-clause-matches
-returns-clause-matches g c = λ test. matches_rearranged test c.args.self.now.entries _ (IsPermutation-swap c.args.self.now.entries _ c.args.a c.args.b c.requires.a_within c.requires.b_within (search rules))
+pub returns-clause-moves : goal.returns-clause-moves
+returns-clause-moves g c = moves_by_swap c.args.self.now.entries _ c.args.a c.args.b c.requires.a_within c.requires.b_within (returns-clause-entries g c)
+
+pub returns-clause-moves_back : goal.returns-clause-moves_back
+returns-clause-moves_back g c = moves_back_by_swap c.args.self.now.entries _ c.args.a c.args.b c.requires.a_within c.requires.b_within (returns-clause-entries g c)

@@ -1,5 +1,5 @@
 use Rattle.std.proofs.Common.{arith}
-use Rattle.vecmap_base.proofs.PairsLemmas.ByIndex.{pair_found, swapped_out}
+use Rattle.vecmap_base.proofs.PairsLemmas.ByIndex.{by_index, pair_found, swapped_out}
 use Rattle.vecmap_base.proofs.PairsLemmas.Updates.{updates_of_swap_without}
 use Rattle.vecmap_map.proofs.VecMap.swap_remove_entry.Goals as goal
 
@@ -8,6 +8,9 @@ returns-clause-pair g c = grind (arith, pair_found (g.Q.Equivalent.equivalent c.
 
 pub returns-clause-entries : goal.returns-clause-entries
 returns-clause-entries g c = grind (arith, swapped_out (g.Q.Equivalent.equivalent c.args.query) c.args.self.now.entries c.in_ok-index.index c.swap_remove.result)
+
+pub returns-in_err-index-clause-entries : goal.returns-in_err-index-clause-entries
+returns-in_err-index-clause-entries g c = grind (arith, by_index)
 
 pub returns-in_err-index-clause-updates : goal.returns-in_err-index-clause-updates
 returns-in_err-index-clause-updates g c = λ d. updates_of_swap_without g.K.PartialEq.eq g.met.K.Eq.laws (g.Q.Equivalent.equivalent c.args.query) (g.met.Q.Equivalent.respects_eq c.args.query) _ _ (grind arith) d

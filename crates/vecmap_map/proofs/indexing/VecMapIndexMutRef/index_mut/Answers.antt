@@ -1,4 +1,6 @@
 use Rattle.std.proofs.Common.{arith}
+use Rattle.std.proofs.lemmas.Map.{keys-set_value}
+use Rattle.vecmap_base.proofs.PairsLemmas.AtIndices.{keeps_indices}
 use Rattle.vecmap_base.proofs.PairsLemmas.ByIndex.{by_index}
 use Rattle.vecmap_base.proofs.PairsLemmas.Updates.{updates_write}
 use Rattle.vecmap_map.proofs.indexing.VecMapIndexMutRef.index_mut.Goals as goal
@@ -13,5 +15,6 @@ returns g c = (
         let eq = g.K.PartialEq.eq in
         let l = c.args.self.now.entries in
         updates_write eq g.met.K.Eq.laws (eq c.args.key.now) (g.met.K.Eq.laws.congr c.args.key.now) l v c.requires.present;
+    keys = λ v. keeps_indices c.args.self.now.entries _ (keys-set_value (g.K.PartialEq.eq c.args.key.now) c.args.self.now.entries v);
   },
 )
