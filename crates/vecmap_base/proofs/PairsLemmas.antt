@@ -15,3 +15,4 @@ pub mod Clones
 pub mod UpdatedAt
 pub mod AtIndices
 pub mod Reordered
+pub mod SetValues

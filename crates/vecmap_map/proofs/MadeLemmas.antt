@@ -5,6 +5,10 @@ use Rattle.vecmap_base.specs.Pairs.{HasDistinctKeys, lookup, puts}
 use Rattle.vecmap_base.proofs.DistinctLemmas.Absent.{distinct_none}
 use Rattle.vecmap_base.proofs.PairsLemmas.Parts.{joins_of_puts}
 
+pub or_none : {V : Type 0} (found : Option V) → option_or found None ≡ found
+or_none None = refl
+or_none (Some v) = refl
+
 module _ {K V : Type 0} (eq : K → K → Bool) (o : IsEquivalence eq) where
   -- No two keys are equal.
   pub distinct_of_puts : (pairs m : List (K × V)) → m ≡ puts eq [] pairs → HasDistinctKeys eq m
@@ -12,8 +16,4 @@ module _ {K V : Type 0} (eq : K → K → Bool) (o : IsEquivalence eq) where
 
   -- If the pairs have distinct keys, a key has its value in them.
   pub found_in_puts : (pairs m : List (K × V)) → m ≡ puts eq [] pairs → HasDistinctKeys eq pairs → (q : K) → lookup eq m q ≡ lookup eq pairs q
-  found_in_puts pairs m e d q = (joins_of_puts eq o [] pairs m e).lookups d q ∙ here (lookup eq pairs q)
-    where
-      here : (w : Option V) → option_or w None ≡ w
-      here None = refl
-      here (Some v) = refl
+  found_in_puts pairs m e d q = (joins_of_puts eq o [] pairs m e).lookups d q ∙ or_none (lookup eq pairs q)

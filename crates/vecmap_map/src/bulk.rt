@@ -49,6 +49,12 @@ impl<K, V> VecMap<K, V> {
         ensures entries { IfOk result (λ map. (it : I.IntoIter) × (pairs : List (K × V))
             × I.into_iter_gives iter it × Drains I.IntoIter.next_gives it pairs
             × (map.entries ≡ puts K.eq [] pairs)) }
+
+        // What follows for lookups, lengths and indices.
+        ensures lookups { (pairs : List (K × V))
+            → YieldsAll I.into_iter_gives I.IntoIter.next_gives iter pairs
+            → HasDistinctKeys K.eq pairs → IfOk result (λ map. (q : K)
+            → lookup K.eq map.entries q ≡ lookup K.eq pairs q) }
         ensures distinct { IfOk result (λ map. HasDistinctKeys K.eq map.entries) }
     {
         let mut map = VecMap::new(alloc);
@@ -84,11 +90,13 @@ impl<K, V> VecMap<K, V> {
         ensures entries { IfOk result (λ map. (clones : List (K × V))
             × ArePairClones K.is_clone V.is_clone pairs.now clones
             × (map.entries ≡ puts K.eq [] clones)) }
+        ensures at_least { IfOk result (λ map. length pairs.now ≤ map.capacity) }
+
+        // What follows for lookups, lengths and indices.
         ensures lookups { ClonesAreSame K.is_clone → ClonesAreSame V.is_clone
             → HasDistinctKeys K.eq pairs.now → IfOk result (λ map. (q : K)
             → lookup K.eq map.entries q ≡ lookup K.eq pairs.now q) }
         ensures distinct { IfOk result (λ map. HasDistinctKeys K.eq map.entries) }
-        ensures at_least { IfOk result (λ map. length pairs.now ≤ map.capacity) }
     {
         let mut map = VecMap::with_capacity(alloc, pairs.len())?;
         for pair in pairs {
@@ -127,8 +135,6 @@ impl<K, V> VecMap<K, V> {
         V: Drop,
         ensures entries { OnOk result (self.new.entries
             ≡ puts K.eq self.old.entries other.old.entries) }
-        ensures lookups { OnOk result (Joins K.eq self.old.entries other.old.entries
-            self.new.entries) }
         ensures emptied { OnOk result (other.new ≡ with_entries other.old []) }
         ensures capacity { self.old.capacity ≤ self.new.capacity }
         ensures succeeds { HasRoom self.old (length other.old.entries) → IsOk result }
@@ -137,6 +143,12 @@ impl<K, V> VecMap<K, V> {
         ensures not_empty { OnErr result (0 < length other.old.entries) }
         ensures err { OnErr result (self.new ≡ self.old) }
         ensures other_err { OnErr result (other.new ≡ other.old) }
+
+        // What follows for lookups, lengths and indices.
+        ensures lookups { OnOk result (Joins K.eq self.old.entries other.old.entries
+            self.new.entries) }
+        ensures len { OnOk result (length self.new.entries
+            ≤ length self.old.entries + length other.old.entries) }
     {
         self.reserve(other.len())?;
         for (key, value) in other.pairs.drain(..) {
@@ -184,18 +196,20 @@ impl<K, V> VecMap<K, V> {
         V: Drop,
         requires ends { IsFiniteIterable I.into_iter_gives I.IntoIter.can_next I.IntoIter.remaining
             iter }
-        ensures lookups { (pairs : List (K × V))
-            → YieldsAll I.into_iter_gives I.IntoIter.next_gives iter pairs
-            → HasDistinctKeys K.eq pairs → OnOk result ((q : K) → lookup K.eq self.new.entries q
-            ≡ option_or (lookup K.eq pairs q) (lookup K.eq self.old.entries q)) }
         ensures ran { ExtendsWithItems I.into_iter_gives I.IntoIter.next_gives
             (Puts K.eq) iter self.old self.new result }
-        ensures distinct { HasDistinctKeys K.eq self.old.entries
-            → HasDistinctKeys K.eq self.new.entries }
         ensures succeeds { HasRoomForAll I.into_iter_gives I.IntoIter.remaining iter
             (HasRoom self.old) → IsOk result }
         ensures extended { Extends I.into_iter_gives I.IntoIter.next_gives I.IntoIter.remaining
             (RefusesAfter K.eq) iter self.old result self.new }
+
+        // What follows for lookups, lengths and indices.
+        ensures lookups { (pairs : List (K × V))
+            → YieldsAll I.into_iter_gives I.IntoIter.next_gives iter pairs
+            → HasDistinctKeys K.eq pairs → OnOk result ((q : K) → lookup K.eq self.new.entries q
+            ≡ option_or (lookup K.eq pairs q) (lookup K.eq self.old.entries q)) }
+        ensures distinct { HasDistinctKeys K.eq self.old.entries
+            → HasDistinctKeys K.eq self.new.entries }
     {
         let items = iter.into_iter();
         self.reserve(capacity_to_reserve(self.is_empty(), items.size_hint().0))?;
@@ -237,13 +251,15 @@ impl<K, V> VecMap<K, V> {
             iter }
         ensures ran { ExtendsWithItems I.into_iter_gives I.IntoIter.next_gives
             (PutsClones K.eq K.is_clone V.is_clone deref_pair) iter self.old self.new result }
-        ensures distinct { HasDistinctKeys K.eq self.old.entries
-            → HasDistinctKeys K.eq self.new.entries }
         ensures succeeds { HasRoomForAll I.into_iter_gives I.IntoIter.remaining iter
             (HasRoom self.old) → HoldsOfEach I.into_iter_gives I.IntoIter.next_gives iter
             (ClonesSucceed K.Clone V.Clone deref_pair) → IsOk result }
         ensures extended { Extends I.into_iter_gives I.IntoIter.next_gives I.IntoIter.remaining
             (RefusesClonesAfter K.eq K.Clone V.Clone deref_pair) iter self.old result self.new }
+
+        // What follows for lookups, lengths and indices.
+        ensures distinct { HasDistinctKeys K.eq self.old.entries
+            → HasDistinctKeys K.eq self.new.entries }
     {
         let items = iter.into_iter();
         self.reserve(capacity_to_reserve(self.is_empty(), items.size_hint().0))?;
@@ -283,13 +299,15 @@ impl<K, V> VecMap<K, V> {
             iter }
         ensures ran { ExtendsWithItems I.into_iter_gives I.IntoIter.next_gives
             (PutsClones K.eq K.is_clone V.is_clone deref) iter self.old self.new result }
-        ensures distinct { HasDistinctKeys K.eq self.old.entries
-            → HasDistinctKeys K.eq self.new.entries }
         ensures succeeds { HasRoomForAll I.into_iter_gives I.IntoIter.remaining iter
             (HasRoom self.old) → HoldsOfEach I.into_iter_gives I.IntoIter.next_gives iter
             (ClonesSucceed K.Clone V.Clone deref) → IsOk result }
         ensures extended { Extends I.into_iter_gives I.IntoIter.next_gives I.IntoIter.remaining
             (RefusesClonesAfter K.eq K.Clone V.Clone deref) iter self.old result self.new }
+
+        // What follows for lookups, lengths and indices.
+        ensures distinct { HasDistinctKeys K.eq self.old.entries
+            → HasDistinctKeys K.eq self.new.entries }
     {
         let items = iter.into_iter();
         self.reserve(capacity_to_reserve(self.is_empty(), items.size_hint().0))?;

@@ -1,5 +1,5 @@
 //! Conversions of a vector into a map, which keep the vector, and of an array; clones of the pairs in a new vector.
-ghost use Rattle.std.specs.Prelude.{◌≡◌, ◌≤◌, IfOk, [], vec_capacity};
+ghost use Rattle.std.specs.Prelude.{◌≡◌, ◌≤◌, IfOk, [], length, vec_capacity};
 ghost use Rattle.std.specs.Map.{keys_of};
 ghost use Rattle.vecmap_base.specs.Clones.{ArePairClones};
 ghost use Rattle.vecmap_base.specs.Pairs.{HasDistinctKeys, lookup, puts};
@@ -27,7 +27,7 @@ impl<K: Eq + Drop, V: Drop> From<Vec<(K, V)>> for VecMap<K, V> {
     ghost from_gives = { λ pairs map. (map.entries ≡ puts K.eq [] pairs.items)
         × (map.capacity ≡ vec_capacity pairs) × HasDistinctKeys K.eq map.entries
         × (HasDistinctKeys K.eq pairs.items → (q : K) → lookup K.eq map.entries q
-        ≡ lookup K.eq pairs.items q) };
+        ≡ lookup K.eq pairs.items q) × (length map.entries ≤ length pairs.items) };
 
     fn from(pairs: Vec<(K, V)>) -> VecMap<K, V> {
         let (map, _count) = VecMap::from_vec_counted(pairs);
@@ -56,11 +56,14 @@ impl<K, V> VecMap<K, V> {
         K: Eq + Drop,
         V: Drop,
         ensures entries { result.0.entries ≡ puts K.eq [] pairs.items }
+        ensures capacity { result.0.capacity ≡ vec_capacity pairs }
+        ensures counted { result.1 ≡ comparisons K.eq (keys_of pairs.items) }
+
+        // What follows for lookups, lengths and indices.
         ensures distinct { HasDistinctKeys K.eq result.0.entries }
         ensures lookups { HasDistinctKeys K.eq pairs.items → (q : K)
             → lookup K.eq result.0.entries q ≡ lookup K.eq pairs.items q }
-        ensures capacity { result.0.capacity ≡ vec_capacity pairs }
-        ensures counted { result.1 ≡ comparisons K.eq (keys_of pairs.items) }
+        ensures len { length result.0.entries ≤ length pairs.items }
     {
         let mut steps = Steps::new();
         dedup_keep_last_value(&mut pairs, &mut steps);
@@ -93,10 +96,13 @@ impl<K, V> VecMap<K, V> {
         K: Eq + Drop,
         V: Drop,
         ensures entries { IfOk result (λ map. map.entries ≡ puts K.eq [] pairs) }
+        ensures at_least { IfOk result (λ map. N ≤ map.capacity) }
+
+        // What follows for lookups, lengths and indices.
         ensures distinct { IfOk result (λ map. HasDistinctKeys K.eq map.entries) }
         ensures lookups { HasDistinctKeys K.eq pairs → IfOk result (λ map. (q : K)
             → lookup K.eq map.entries q ≡ lookup K.eq pairs q) }
-        ensures at_least { IfOk result (λ map. N ≤ map.capacity) }
+        ensures len { IfOk result (λ map. length map.entries ≤ N) }
     {
         Ok(VecMap::from(Vec::from_array(alloc, pairs)?))
     }

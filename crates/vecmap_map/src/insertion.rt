@@ -1,5 +1,5 @@
 //! Insertion of one pair.
-ghost use Rattle.std.specs.Prelude.{◌≡◌, ◌++◌, ◌∷◌, ◌<◌, ◌≤◌, ◌⊎◌, Err, IfErr, IfOk, IfSome, IsTrue, None, Ok, OnErr, OnOk, Some, [], length, ◌+◌, if◌then◌else◌, is_some, min, slice_get, ◌-◌};
+ghost use Rattle.std.specs.Prelude.{◌≡◌, ◌++◌, ◌∷◌, ◌<◌, ◌≤◌, ◌⊎◌, Err, IfErr, IfOk, IfSome, IsSome, IsTrue, None, Ok, OnErr, OnOk, Some, [], length, ◌+◌, if◌then◌else◌, is_some, min, slice_get, ◌-◌};
 ghost use Rattle.vecmap_base.specs.Indices.{AddsKey, HasMatchAt};
 ghost use Rattle.vecmap_base.specs.Lookups.{Updates, UpdatesBy};
 ghost use Rattle.vecmap_base.specs.Pairs.{HasDistinctKeys, index_by, index_or_length, lookup, lookup_by, lookup_full, lookup_pair, put, put_at, put_key, with_value};
@@ -316,12 +316,7 @@ impl<K, V> VecMap<K, V> {
             (λ i. (result ≡ Ok i) × (self.new ≡ self.old)) }
         ensures appended { OnOk result (index_by (Q.equivalent query) self.old.entries ≡ None
             → Appends (λ pair. F.post make (Ok pair)) self.old self.new) }
-        ensures updates { OnOk result (UpdatesBy K.eq (Q.equivalent query) self.old.entries
-            self.new.entries (lookup_by (Q.equivalent query) self.new.entries)) }
 
-        // What lookups find once a value is written at the index.
-        ensures written { IfOk result (λ i. (value : V) → UpdatesBy K.eq (Q.equivalent query)
-            self.old.entries (with_value self.new.entries i value) (Some value)) }
         ensures capacity { KeepsRoomAt (index_by (Q.equivalent query) self.old.entries)
             self.old self.new }
 
@@ -330,6 +325,16 @@ impl<K, V> VecMap<K, V> {
         ensures unchanged { OnErr result (self.new ≡ self.old) }
         ensures err { IfErr result (λ error. F.post make (Err error) ⊎ FailsToAppend
             E.from_gives (λ pair. F.post make (Ok pair)) self.old error) }
+
+        // What follows for lookups, lengths and indices.
+        ensures updates { OnOk result (UpdatesBy K.eq (Q.equivalent query) self.old.entries
+            self.new.entries (lookup_by (Q.equivalent query) self.new.entries)) }
+        ensures written { IfOk result (λ i. (value : V) → UpdatesBy K.eq (Q.equivalent query)
+            self.old.entries (with_value self.new.entries i value) (Some value)) }
+        ensures at { IfOk result (HasMatchAt (Q.equivalent query) self.new.entries) }
+        ensures kept { IsSome (lookup_by (Q.equivalent query) self.old.entries)
+            → lookup_by (Q.equivalent query) self.new.entries
+            ≡ lookup_by (Q.equivalent query) self.old.entries }
     {
         if let Some(index) = self.get_index_of(query) {
             return Ok(index);

@@ -211,6 +211,39 @@ impl<K, V> VecMap<K, V> {
         Some(self.value_mut(index))
     }
 
+    /// Returns the key at `index`, and a mutable reference to its value.
+    ///
+    /// Unlike [`VecMap::get_index_mut`], it returns no `Option`, so a proof knows what the map holds after a write.
+    ///
+    /// # Preconditions
+    ///
+    /// `index` is less than [`VecMap::len`].
+    ///
+    /// # Complexity
+    ///
+    /// No comparisons.
+    ///
+    /// # Examples
+    ///
+    /// ```
+    /// let mut map = vecmap!(alloc; 'a' => 1, 'b' => 2);
+    /// # assert!(*rt; 1 < map.len());
+    /// let (_key, value) = map.pair_mut(1);
+    /// *value = 3;
+    /// map.get(&'b') // Some(&3)
+    /// ```
+    pub fn pair_mut(&mut self, index: usize) -> (&K, &mut V)
+        requires within { index < length self.old.entries }
+        ensures* writes_back { sem 𝓛 (lends_value_at K.row V.row self.entry index result.1) }
+        ensures pair { slice_get self.old.entries index ≡ Some (result.0.now, result.1.now) }
+
+        // What follows for lookups, lengths and indices.
+        ensures updates { (v : V) → UpdatesAt index self.old.entries
+            (with_value self.old.entries index v) v }
+    {
+        self.parts_at(index)
+    }
+
     /// Returns a mutable reference to the value of the first pair, or `None` if the map is empty.
     ///
     /// Unlike [`VecMap::first_mut`], it returns the value alone, so a proof knows what the map holds after a write.
@@ -272,6 +305,16 @@ impl<K, V> VecMap<K, V> {
         self.get_value_at_mut(last)
     }
 
+    // Returns the key at `index`, and a mutable reference to its value.
+    fn parts_at(&mut self, index: usize) -> (&K, &mut V)
+        requires { index < length self.old.entries }
+        ensures* writes_back { sem 𝓛 (lends_value_at K.row V.row self.entry index result.1) }
+        ensures pair { slice_get self.old.entries index ≡ Some (result.0.now, result.1.now) }
+    {
+        let pair = &mut self.pairs[index];
+        (&pair.0, &mut pair.1)
+    }
+
     // Returns a mutable reference to the value at `index`.
     pub(crate) fn value_mut(&mut self, index: usize) -> &mut V
         requires { index < length self.old.entries }
@@ -288,14 +331,14 @@ impl<K, V> VecMap<K, V> {
         ensures found { IsSome result ↔ (index < length self.old.entries) }
     {
         if index < self.len() {
-            Some(self.pair_mut(index))
+            Some(self.whole_pair_mut(index))
         } else {
             None
         }
     }
 
     // Returns a mutable reference to the pair at `index`.
-    pub(crate) fn pair_mut(&mut self, index: usize) -> &mut (K, V)
+    pub(crate) fn whole_pair_mut(&mut self, index: usize) -> &mut (K, V)
         requires { index < length self.old.entries }
         ensures* writes_back { sem 𝓛 (lends_pair_at K.row V.row self.entry index result) }
         ensures pair { slice_get self.old.entries index ≡ Some result.now }

@@ -197,7 +197,7 @@ impl<K, V> MutableKeys for VecMap<K, V> {
         let (place, map) = self.with_index_by(query);
         match place {
             Some(index) => {
-                let (key, value) = parts_mut(map.pair_mut(index));
+                let (key, value) = parts_mut(map.whole_pair_mut(index));
                 Some((index, key, value))
             }
             None => None,

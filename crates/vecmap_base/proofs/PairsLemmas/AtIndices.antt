@@ -47,7 +47,8 @@ module _ {K V : Type 0} (test : K → Bool) where
   match_if_found l None e = tt
   match_if_found l (Some i) e = match_at l i (sym e)
 
-  same_indices : (l m : List (K × V)) → keys_of m ≡ keys_of l → index_by test m ≡ index_by test l
+  -- Lists with the same keys have them at the same indices.
+  pub same_indices : (l m : List (K × V)) → keys_of m ≡ keys_of l → index_by test m ≡ index_by test l
   same_indices [] [] e = refl
   same_indices [] (q ∷ qs) e = absurd (let f : q.0 ∷ keys_of qs ≡ [] = e in cc)
   same_indices (p ∷ ps) [] e = absurd (let f : [] ≡ p.0 ∷ keys_of ps = e in cc)
@@ -89,7 +90,7 @@ module _ {K V : Type 0} (test : K → Bool) where
         ap (λ b. if b then Some 0 else option_map suc (index_by test qs)) apart ∙ ap (option_map suc) (index_by_own qs (IsDistinct-tail eq q.0 (keys_of qs) d) i p e t)
 
 module _ {K V : Type 0} where
-  -- Lists with the same keys have them at the same indices.
+  -- The same, in the word of contracts.
   pub keeps_indices : (l m : List (K × V)) → keys_of m ≡ keys_of l → KeepsIndices l m
   keeps_indices l m e = record {
     keys = e;

@@ -22,6 +22,11 @@ module _ {K V : Type 0} (eq : K → K → Bool) where
       by true h = omega arith
       by false h = omega (arith, h)
 
+  -- Insertions add at most as many pairs.
+  pub length_puts_at_most : (l ps : List (K × V)) → length (puts eq l ps) ≤ length l + length ps
+  length_puts_at_most l [] = omega arith
+  length_puts_at_most l (p ∷ ps) = omega (arith, length_puts_at_most (put eq l p.0 p.1) ps, length_put_at_most l p.0 p.1)
+
   -- The insertion of the stored value, or of `v` if there is none, leaves the list or appends the pair.
   pub put_stored : (l : List (K × V)) (k : K) (v : V) → put eq l k (unwrap_or (lookup eq l k) v) ≡ option_map_or (λ i. l) (index_of eq l k) (l ++ (k, v) ∷ [])
   put_stored l k v =

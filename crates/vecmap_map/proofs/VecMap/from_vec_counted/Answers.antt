@@ -1,3 +1,5 @@
+use Rattle.std.proofs.Common.{[], arith}
+use Rattle.vecmap_base.proofs.PairsLemmas.Puts.{length_puts_at_most}
 use Rattle.vecmap_map.proofs.MadeLemmas.{distinct_of_puts, found_in_puts}
 use Rattle.vecmap_map.proofs.VecMap.from_vec_counted.Goals as goal
 
@@ -6,3 +8,6 @@ returns-clause-distinct g c = distinct_of_puts g.K.PartialEq.eq g.met.K.Eq.laws 
 
 pub returns-clause-lookups : goal.returns-clause-lookups
 returns-clause-lookups g c = found_in_puts g.K.PartialEq.eq g.met.K.Eq.laws c.args.pairs.items _ c.dedup_keep_last_value.ensures.pairs
+
+pub returns-clause-len : goal.returns-clause-len
+returns-clause-len g c = rw c.dedup_keep_last_value.ensures.pairs (omega (arith, length_puts_at_most g.K.PartialEq.eq [] c.args.pairs.items))

@@ -1,9 +1,16 @@
 -- The idea: the made pair is at the index after the others, as no key before it matches the query.
-use Rattle.std.proofs.Common.{◌≡◌, ◌∙◌, None, Some, ap, inr, subst, sym}
+use Rattle.std.proofs.Common.{◌≡◌, ◌∙◌, None, Some, ap, inr, is_some, subst, sym, true≢false}
 use Rattle.vecmap_base.specs.Pairs.{index_by, lookup_by}
+use Rattle.vecmap_base.proofs.PairsLemmas.AtIndices.{match_at}
 use Rattle.vecmap_base.proofs.PairsLemmas.ByIndex.{index_by_appended}
 use Rattle.vecmap_base.proofs.PairsLemmas.Updates.{updates_appended_found, updates_matched, updates_written_at}
 use Rattle.vecmap_map.proofs.VecMap.index_or_try_insert_with.Goals as goal
+
+pub returns-in-Some-clause-index : goal.returns-in-Some-clause-index
+returns-in-Some-clause-index g c = sym c.get_index_of.ensures.index ∙ c.in-Some.is
+
+pub returns-in-Some-clause-at : goal.returns-in-Some-clause-at
+returns-in-Some-clause-at g c = match_at (g.Q.Equivalent.equivalent c.args.query) c.args.self.now.entries c.in-Some.index (returns-in-Some-clause-index g c)
 
 pub returns-in-Some-clause-updates : goal.returns-in-Some-clause-updates
 returns-in-Some-clause-updates g c =
@@ -39,3 +46,11 @@ returns-in-Ok-clause-written g c = λ value.
 pub returns-in-Err-clause-err : goal.returns-in-Err-clause-err
 returns-in-Err-clause-err g c =
     inr ((c.in_ok-key.key, c.in_ok-key.value), c.in_ok-key.ensures, c.in-Err.ensures.err.full, subst (λ pair. g.E.From.from_gives (record { given = pair }) c.from.result) c.in-Err.ensures.given c.from.ensures)
+
+pub returns-in-Ok-clause-at : goal.returns-in-Ok-clause-at
+returns-in-Ok-clause-at g c = match_at (g.Q.Equivalent.equivalent c.args.query) c.push.new.self.entries c.len-index.result (returns-in-Ok-clause-index g c)
+
+pub returns-in-Ok-clause-kept : goal.returns-in-Ok-clause-kept
+returns-in-Ok-clause-kept g c = λ some.
+    let none : c.get_index_of.result ≡ None = c.in_default.is in
+    absurd (true≢false (sym some ∙ sym c.get_index_of.ensures.found ∙ ap is_some none))

@@ -1,4 +1,4 @@
--- The idea: `with_index_by` returns the map with the index of the key, `pair_mut` a reference to the pair at that
+-- The idea: `with_index_by` returns the map with the index of the key, `whole_pair_mut` a reference to the pair at that
 -- index, and `parts_mut` splits it.
 -- The clause `writes_back` is worth a proof by hand: the others say nothing of the map after the borrow, so a body that
 -- changes another pair meets them.
@@ -21,8 +21,8 @@ use Rattle.vecmap_map.specs.Lends.{lends_both_beside_index, lends_parts, lends_p
 use Rattle.vecmap_map.specs.contracts.VecMap.{the_row}
 use Rattle.vecmap_map.specs.contracts.VecMap.with_index_by as A
 use Rattle.vecmap_map.proofs.VecMap.with_index_by.Met as A-thm
-use Rattle.vecmap_map.specs.contracts.VecMap.pair_mut as B
-use Rattle.vecmap_map.proofs.VecMap.pair_mut.Met as B-thm
+use Rattle.vecmap_map.specs.contracts.VecMap.whole_pair_mut as B
+use Rattle.vecmap_map.proofs.VecMap.whole_pair_mut.Met as B-thm
 use Rattle.vecmap_map.specs.contracts.mutable_keys.parts_mut as D
 use Rattle.vecmap_map.proofs.mutable_keys.parts_mut.Met as D-thm
 use Rattle.vecmap_map.specs.contracts.mutable_keys.VecMapMutableKeys.get_full_mut2.{ended, clauses}
@@ -82,7 +82,7 @@ get_full_mut2_spec 𝓤 𝓛 𝓜 𝓡 wired KT VT QT KL VL QL CQ E E-dict C C-d
     use1 𝓛 (‵ (flft κs.0 qs.0) ⊛ ‵ (flft κs.1.0 qs.1.0) ⊛ ‵ (flft κs.1.1.0 qs.1.1.0) ⊛ raw rest) (id⊢ 𝓤 toks) $ split3 ! $ move ! (2 ∷ []) $ split ! $
     nothing ! $ move ! (1 ∷ 0 ∷ []) $ join ! $ move ! (3 ∷ 0 ∷ []) $ join ! $ move ! (2 ∷ 0 ∷ []) $ join ! $ move ! (0 ∷ 2 ∷ []) $ join ! $
     use1 𝓛 (raw (kB.pre yB)) (beside 𝓤 𝓛 (on_entry 𝓛 (B.signature KT VT) κs' qs' (map, (i, tt)) (mut_vals map, (uint_vals w64 i, tt))) _ F G inK inV (fact_i 𝓤 (i < length m.now.entries) (emp 𝓤) here)) $
-    calls_at ! (framed 𝓤 H 𝓜 𝓣) kB (B-thm.met 𝓤 𝓛 𝓜 𝓡 (code.calls-vecmap_map::VecMap::pair_mut 𝓡.env wired) KT VT KL VL) yB (and_then ! (get ! refl) (and_then ! (get ! refl) (no_more !))) (λ u.
+    calls_at ! (framed 𝓤 H 𝓜 𝓣) kB (B-thm.met 𝓤 𝓛 𝓜 𝓡 (code.calls-vecmap_map::VecMap::whole_pair_mut 𝓡.env wired) KT VT KL VL) yB (and_then ! (get ! refl) (and_then ! (get ! refl) (no_more !))) (λ u.
     use1 𝓛 (later (some (λ (pair : Whole.Denot). ((‵ (flft κs.0 qs.0) ⊛ ‵ (flft κs.1.0 qs.1.0) ⊛ ‵ (flft κs.1.1.0 qs.1.1.0) ⊛ ‵ ftrue) ⊛ ‵ (Whole.own_val pair (u ∷ [])))
     ⊛ some (λ (ls : Lasts (B.ended KT VT) κs' (map, (i, tt))). ‵ (lasts (B.ended KT VT) κs' (map, (i, tt)) ls)
     ⊛ (‵ (lends_pair_at K V m i pair) ⊛ raw (fact 𝓤 (slice_get m.now.entries i ≡ Some pair.now)))))))

@@ -1,0 +1,31 @@
+-- What is found once each value was set to the same one.
+use Rattle.std.specs.{Map.keys_of, Map.values_of, Option.option_map}
+use Rattle.std.proofs.Common.{◌≡◌, ◌∙◌, All, Bool, List, [], ◌∷◌, None, Option, Some, IsSome, ap, refl, subst, sym, true≢false}
+use Rattle.std.proofs.lemmas.List.Elements.{All-cons, All-nil}
+use Rattle.vecmap_base.specs.{Indices.KeepsIndices, Pairs.lookup_by, Pairs.map_values}
+use Rattle.vecmap_base.proofs.PairsLemmas.AtIndices.{keeps_indices}
+use Rattle.vecmap_base.proofs.PairsLemmas.Indices.{lookup_by_map_values}
+
+found_there : {V W : Type 0} (w : W) (found : Option V) → IsSome found → option_map (λ _. w) found ≡ Some w
+found_there w None some = absurd (true≢false (sym some))
+found_there w (Some v) some = refl
+
+module _ {K V W : Type 0} (w : W) where
+  keys_stay : (l : List (K × V)) → keys_of (map_values (λ _. w) l) ≡ keys_of l
+  keys_stay [] = refl
+  keys_stay (p ∷ ps) = ap (λ ks. p.0 ∷ ks) (keys_stay ps)
+
+  all_set : (l : List (K × V)) → All (λ x. x ≡ w) (values_of (map_values (λ _. w) l))
+  all_set [] = All-nil (λ x. x ≡ w)
+  all_set (p ∷ ps) = All-cons (λ x. x ≡ w) w (values_of (map_values (λ _. w) ps)) refl (all_set ps)
+
+  module _ (l : List (K × V)) (m : List (K × W)) (e : m ≡ map_values (λ _. w) l) where
+    pub set_found : (test : K → Bool) → IsSome (lookup_by test l) → lookup_by test m ≡ Some w
+    set_found test some = ap (lookup_by test) e ∙ lookup_by_map_values (λ _. w) test l ∙ found_there w (lookup_by test l) some
+
+    pub values_set : All (λ x. x ≡ w) (values_of m)
+    values_set = subst (λ n. All (λ x. x ≡ w) (values_of n)) (sym e) (all_set l)
+
+-- The keys stay.
+pub keys_set : {K V : Type 0} (w : V) (l m : List (K × V)) → m ≡ map_values (λ _. w) l → KeepsIndices l m
+keys_set w l m e = keeps_indices l m (ap keys_of e ∙ keys_stay w l)
