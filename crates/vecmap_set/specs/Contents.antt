@@ -1,6 +1,6 @@
 -- What a contract sees of a `VecSet`, and what calls say of its capacity. In the examples, `set_of l n` is the set
 -- with the elements `l` and the capacity `n`, and `done` and `failed` are results of calls.
-use Rattle.std.specs.Prelude.{◌≡◌, ◌++◌, ◌∷◌, [], ◌+◌, ◌<◌, ◌≤◌, ℕ, Bool, IsOk, IsTrue, List, OnErr, OnOk, Result, false, length}
+use Rattle.std.specs.Prelude.{◌≡◌, ◌++◌, ◌∷◌, [], ◌+◌, ◌<◌, ◌≤◌, ℕ, Bool, IsOk, IsSome, IsTrue, List, OnErr, OnOk, Option, Result, false, length}
 use Rattle.std.specs.Set.{is_member}
 use Rattle.vecmap_base.specs.declared.refused.Refused.{Refused}
 
@@ -40,6 +40,16 @@ module _ {T : Type 0} where
     pub succeeds : HasRoom old additional → IsOk result
     pub unchanged : HasRoom old additional → new ≡ old
     pub err : OnErr result (new ≡ old)
+
+  -- Example: `KeepsRoomAt None (set_of [a] 1) (set_of [a, b] 4)`.
+  -- Example: `¬ (KeepsRoomAt None (set_of [a] 2) (set_of [a, b] 4))`.
+  -- Example: `¬ (KeepsRoomAt (Some 0) (set_of [a] 1) (set_of [a] 2))`.
+  -- Example: `¬ (KeepsRoomAt None (set_of [a] 1) (set_of [a] 0))`.
+  -- The capacity does not shrink, and stays if the element has an index or if one more element fits.
+  pub record KeepsRoomAt (index : Option ℕ) (old new : Contents T) : Type 0 where
+    pub capacity : old.capacity ≤ new.capacity
+    pub present : IsSome index → new.capacity ≡ old.capacity
+    pub spare : HasRoom old 1 → new.capacity ≡ old.capacity
 
   -- An element that was made was appended.
   abbrev pub Appends : (T → Type 0) → Contents T → Contents T → Type 0

@@ -1,10 +1,11 @@
 //! Insertion of one element.
-ghost use Rattle.std.specs.Prelude.{◌≡◌, ◌++◌, ◌∷◌, ◌<◌, ◌≤◌, ◌⊎◌, Err, IfErr, IfOk, IfSome, IsTrue, None, Ok, OnErr, OnOk, Some, [], false, length, not, position, true};
-ghost use Rattle.std.specs.List.{IsDistinct};
+ghost use Rattle.std.specs.Prelude.{◌≡◌, ◌+◌, ◌++◌, ◌∷◌, ◌<◌, ◌≤◌, ◌||◌, ◌⊎◌, Bool, Err, IfErr, IfOk, IfSome, IsTrue, None, Ok, OnErr, OnOk, Some, [], false, if◌then◌else◌, is_some, length, not, position, slice_get, true, unwrap_or};
+ghost use Rattle.std.specs.List.{IsDistinct, list_any};
 ghost use Rattle.std.specs.Set.{is_member};
-ghost use Rattle.vecmap_base.specs.Items.{add, put_item, stored_item};
+ghost use Rattle.vecmap_base.specs.Items.{add, item_index, put_item, stored_item};
 ghost use Rattle.vecmap_base.specs.Lookups.{UpdatesMember};
-ghost use Rattle.vecmap_set.specs.Contents.{Appends, FailsToAppend, HasRoom, IsFull, KeepsRoom, Refuses};
+ghost use Rattle.vecmap_set.specs.Contents.{Appends, FailsToAppend, HasRoom, IsFull, KeepsRoom, KeepsRoomAt, Refuses};
+ghost use Rattle.vecmap_set.specs.Indices.{KeepsIndices, KeepsItemIndices};
 
 use crate::VecSet;
 use std::alloc::AllocError;
@@ -42,21 +43,84 @@ impl<T: Eq> VecSet<T> {
         ensures added { IfOk result
             (λ added. added ≡ not (is_member T.eq self.old.elements item)) }
         ensures distinct { IsDistinct T.eq self.new.elements }
-        ensures unchanged { IsTrue (is_member T.eq self.old.elements item)
-            → self.new ≡ self.old }
-        ensures updates { OnOk result (UpdatesMember T.eq (T.eq item) self.old.elements
-            self.new.elements true) }
         ensures capacity { KeepsRoom T.eq self.old item self.new }
 
         // On `Err` the element is returned, it is new, and the set is full.
         ensures given { IfErr result (λ refused. refused.given ≡ item) }
         ensures err { OnErr result (Refuses T.eq self.old item self.new) }
+
+        // What follows for lookups, lengths and indices.
+        ensures updates { OnOk result (UpdatesMember T.eq (T.eq item) self.old.elements
+            self.new.elements true) }
+        ensures any { OnOk result ((f : T → Bool)
+            → ((x y : T) → IsTrue (T.eq x y) → f y ≡ f x) → list_any f self.new.elements
+            ≡ (f item || list_any f self.old.elements)) }
+        ensures unchanged { IsTrue (is_member T.eq self.old.elements item)
+            → self.new ≡ self.old }
+        ensures appended { IfOk result (λ added. IsTrue added
+            → self.new.elements ≡ self.old.elements ++ item ∷ []) }
+        ensures len { IfOk result (λ added. length self.new.elements
+            ≡ length self.old.elements + (if added then 1 else 0)) }
+        ensures indices { OnOk result (KeepsIndices self.old.elements self.new.elements) }
     {
         if contains_item_inline(&self.items, &item) {
             return Ok(false);
         }
         self.insert_unique(item)?;
         Ok(true)
+    }
+
+    /// Like [`VecSet::insert`], but also returns the index of the element.
+    ///
+    /// # Examples
+    ///
+    /// ```
+    /// let mut set = vecset!(alloc; 1, 2);
+    /// set.insert_full(3)? // (2, true)
+    /// set.insert_full(1)? // (0, false)
+    /// ```
+    #[tactic(auto, using(vecmap_base::proofs::IndexLemmas::list_any_position, crate::proofs::IndexLemmas::at_end))]
+    #[inline]
+    pub fn insert_full(&mut self, item: T) -> Result<(usize, bool), Refused<T>>
+    where
+        T: Drop,
+        ensures elements { OnOk result (self.new.elements ≡ add T.eq self.old.elements item) }
+        ensures index { IfOk result (λ done. done.0
+            ≡ unwrap_or (item_index T.eq self.old.elements item) (length self.old.elements)) }
+        ensures added { IfOk result
+            (λ done. done.1 ≡ not (is_member T.eq self.old.elements item)) }
+        ensures distinct { IsDistinct T.eq self.new.elements }
+        ensures capacity { KeepsRoom T.eq self.old item self.new }
+
+        // On `Err` the element is returned, it is new, and the set is full.
+        ensures given { IfErr result (λ refused. refused.given ≡ item) }
+        ensures err { OnErr result (Refuses T.eq self.old item self.new) }
+
+        // What follows for lookups, lengths and indices.
+        ensures within { IfOk result (λ done. done.0 < length self.new.elements) }
+        ensures found { IfOk result
+            (λ done. item_index T.eq self.new.elements item ≡ Some done.0) }
+        ensures stored { IfOk result (λ done. (x : T)
+            × (slice_get self.new.elements done.0 ≡ Some x) × IsTrue (T.eq item x)) }
+        ensures updates { OnOk result (UpdatesMember T.eq (T.eq item) self.old.elements
+            self.new.elements true) }
+        ensures any { OnOk result ((f : T → Bool)
+            → ((x y : T) → IsTrue (T.eq x y) → f y ≡ f x) → list_any f self.new.elements
+            ≡ (f item || list_any f self.old.elements)) }
+        ensures unchanged { IsTrue (is_member T.eq self.old.elements item)
+            → self.new ≡ self.old }
+        ensures appended { IfOk result (λ done. IsTrue done.1
+            → self.new.elements ≡ self.old.elements ++ item ∷ []) }
+        ensures len { IfOk result (λ done. length self.new.elements
+            ≡ length self.old.elements + (if done.1 then 1 else 0)) }
+        ensures indices { OnOk result (KeepsIndices self.old.elements self.new.elements) }
+    {
+        if let Some(index) = find_item(&self.items, &item) {
+            return Ok((index, false));
+        }
+        let index = self.len();
+        self.insert_unique(item)?;
+        Ok((index, true))
     }
 
     /// Inserts an element, replacing an equal one, and returns the element that it replaces, if there is one.
@@ -87,13 +151,24 @@ impl<T: Eq> VecSet<T> {
             (self.new.elements ≡ put_item T.eq self.old.elements item) }
         ensures old { IfOk result (λ old. old ≡ stored_item T.eq self.old.elements item) }
         ensures distinct { IsDistinct T.eq self.new.elements }
-        ensures updates { OnOk result (UpdatesMember T.eq (T.eq item) self.old.elements
-            self.new.elements true) }
         ensures capacity { KeepsRoom T.eq self.old item self.new }
 
         // On `Err` the element is returned, it is new, and the set is full.
         ensures given { IfErr result (λ refused. refused.given ≡ item) }
         ensures err { OnErr result (Refuses T.eq self.old item self.new) }
+
+        // What follows for lookups, lengths and indices.
+        ensures updates { OnOk result (UpdatesMember T.eq (T.eq item) self.old.elements
+            self.new.elements true) }
+        ensures any { OnOk result ((f : T → Bool)
+            → ((x y : T) → IsTrue (T.eq x y) → f y ≡ f x) → list_any f self.new.elements
+            ≡ (f item || list_any f self.old.elements)) }
+        ensures appended { IfOk result (λ old. old ≡ None
+            → self.new.elements ≡ self.old.elements ++ item ∷ []) }
+        ensures len { IfOk result (λ old. length self.new.elements
+            ≡ length self.old.elements + (if is_some old then 0 else 1)) }
+        ensures indices { OnOk result (KeepsItemIndices T.eq self.old.elements
+            self.new.elements) }
     {
         if let Some(index) = find_item(&self.items, &item) {
             return Ok(Some(mem::replace(&mut self.items[index], item)));
@@ -130,13 +205,19 @@ impl<T: Eq> VecSet<T> {
         requires absent { is_member T.eq self.old.elements item ≡ false }
         ensures elements { OnOk result (self.new.elements ≡ self.old.elements ++ item ∷ []) }
         ensures distinct { IsDistinct T.eq self.new.elements }
-        ensures updates { OnOk result (UpdatesMember T.eq (T.eq item) self.old.elements
-            self.new.elements true) }
         ensures capacity { KeepsRoom T.eq self.old item self.new }
 
         // On `Err` the element is returned, and the set is full.
         ensures given { IfErr result (λ refused. refused.given ≡ item) }
         ensures err { OnErr result (Refuses T.eq self.old item self.new) }
+
+        // What follows for lookups, lengths and indices.
+        ensures updates { OnOk result (UpdatesMember T.eq (T.eq item) self.old.elements
+            self.new.elements true) }
+        ensures any { OnOk result ((f : T → Bool) → list_any f self.new.elements
+            ≡ (f item || list_any f self.old.elements)) }
+        ensures len { OnOk result (length self.new.elements ≡ length self.old.elements + 1) }
+        ensures indices { OnOk result (KeepsIndices self.old.elements self.new.elements) }
     {
         if self.reserve_one().is_err() {
             return Err(Refused { given: item });
@@ -190,16 +271,23 @@ impl<T: Eq> VecSet<T> {
         ensures appended { OnOk result (position (Q.equivalent query) self.old.elements ≡ None
             → Appends (λ item. F.post make (Ok item)) self.old self.new) }
         ensures distinct { IsDistinct T.eq self.new.elements }
-        ensures updates { OnOk result (UpdatesMember T.eq (Q.equivalent query) self.old.elements
-            self.new.elements true) }
-        ensures capacity { self.old.capacity ≤ self.new.capacity }
-        ensures capacity_stays { HasRoom self.old 1 → self.new.capacity ≡ self.old.capacity }
+        ensures capacity { KeepsRoomAt (position (Q.equivalent query) self.old.elements)
+            self.old self.new }
 
         // On `Err` no element matches. Either `make` failed, or the set is full and memory ran out.
         ensures absent { OnErr result (position (Q.equivalent query) self.old.elements ≡ None) }
         ensures unchanged { OnErr result (self.new ≡ self.old) }
         ensures err { IfErr result (λ error. F.post make (Err error) ⊎ FailsToAppend
             E.from_gives (λ item. F.post make (Ok item)) self.old error) }
+
+        // What follows for lookups, lengths and indices.
+        ensures stored { IfOk result (λ i. (x : T)
+            × (slice_get self.new.elements i ≡ Some x) × IsTrue (Q.equivalent query x)) }
+        ensures updates { OnOk result (UpdatesMember T.eq (Q.equivalent query) self.old.elements
+            self.new.elements true) }
+        ensures len { OnOk result (length self.new.elements ≡ length self.old.elements
+            + (if list_any (Q.equivalent query) self.old.elements then 0 else 1)) }
+        ensures indices { OnOk result (KeepsIndices self.old.elements self.new.elements) }
     {
         if let Some(index) = find_item_equivalent(&self.items, query) {
             return Ok(index);

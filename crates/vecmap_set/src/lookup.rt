@@ -2,7 +2,7 @@
 //!
 //! A lookup by a query compares it with the elements in order, up to the first that matches, and of small elements with
 //! at most seven more: at most `len` comparisons in all. A lookup by index makes none.
-ghost use Rattle.std.specs.Prelude.{◌≡◌, ◌-◌, ◌<◌, IfSome, IsTrue, is_some, length, option_copied, option_map, position, slice_get};
+ghost use Rattle.std.specs.Prelude.{◌≡◌, ◌-◌, ◌<◌, IfSome, IsTrue, Some, is_some, length, option_copied, option_map, position, slice_get};
 ghost use Rattle.std.specs.List.{list_any};
 ghost use Rattle.std.specs.Set.{is_member};
 ghost use Rattle.vecmap_base.specs.Items.{stored_first};
@@ -87,11 +87,12 @@ impl<T: Eq> VecSet<T> {
     /// set.get(&2) // Some(&2)
     /// set.get(&3) // None
     /// ```
-    #[tactic(auto, using(vecmap_base::proofs::IndexLemmas::list_any_position))]
+    #[tactic(auto, using(vecmap_base::proofs::IndexLemmas::list_any_position, crate::proofs::QueryLemmas::reference_matches))]
     pub fn get<Q: Equivalent<T>>(&self, query: Q) -> Option<&T>
         ensures element { option_copied result
             ≡ stored_first (Q.equivalent query) self.now.elements }
         ensures found { is_some result ≡ list_any (Q.equivalent query) self.now.elements }
+        ensures stored { IfSome result (λ x. IsTrue (Q.equivalent query x.now)) }
     {
         let index = find_item_equivalent(&self.items, query)?;
         Some(&self.items[index])
@@ -131,12 +132,17 @@ impl<T: Eq> VecSet<T> {
     /// let set = vecset!(alloc; 2, 1);
     /// set.get_full(&1) // Some((1, &1))
     /// ```
+    #[tactic(auto, using(vecmap_base::proofs::IndexLemmas::list_any_position, std::proofs::lemmas::Option::gets))]
     pub fn get_full<Q: Equivalent<T>>(&self, query: Q) -> Option<(usize, &T)>
         ensures index { option_map (λ found. found.0) result
             ≡ position (Q.equivalent query) self.now.elements }
         ensures within { IfSome result (λ found. found.0 < length self.now.elements) }
         ensures element { option_map (λ found. found.1.now) result
             ≡ stored_first (Q.equivalent query) self.now.elements }
+        ensures found { is_some result ≡ list_any (Q.equivalent query) self.now.elements }
+        ensures stored { IfSome result (λ found.
+            (slice_get self.now.elements found.0 ≡ Some found.1.now)
+            × IsTrue (Q.equivalent query found.1.now)) }
     {
         let index = find_item_equivalent(&self.items, query)?;
         Some((index, &self.items[index]))
@@ -155,11 +161,13 @@ impl<T: Eq> VecSet<T> {
     /// set.get_index_of(&1) // Some(1)
     /// set.get_index_of(&3) // None
     /// ```
-    #[tactic(auto, using(vecmap_base::proofs::IndexLemmas::list_any_position))]
+    #[tactic(auto, using(vecmap_base::proofs::IndexLemmas::list_any_position, crate::proofs::IndexLemmas::stored_at))]
     pub fn get_index_of<Q: Equivalent<T>>(&self, query: Q) -> Option<usize>
         ensures index { result ≡ position (Q.equivalent query) self.now.elements }
         ensures within { IfSome result (λ i. i < length self.now.elements) }
         ensures found { is_some result ≡ list_any (Q.equivalent query) self.now.elements }
+        ensures stored { IfSome result (λ i. (x : T)
+            × (slice_get self.now.elements i ≡ Some x) × IsTrue (Q.equivalent query x)) }
     {
         find_item_equivalent(&self.items, query)
     }

@@ -1,8 +1,9 @@
 //! Reversing, moving, swapping and sorting the elements.
-ghost use Rattle.std.specs.Prelude.{◌≡◌, ◌<◌, ◌≤◌, Bool, IsOk, OnErr, OnOk, length, reverse, swap};
-ghost use Rattle.std.specs.List.{IsDistinct, list_any};
+ghost use Rattle.std.specs.Prelude.{◌≡◌, ◌<◌, ◌≤◌, IsOk, OnErr, OnOk, length, reverse, swap};
+ghost use Rattle.std.specs.List.{IsDistinct};
 ghost use Rattle.std.specs.List.Sorted.{IsPermutation, IsSorted, IsSortedByClosure, IsSortedByKeyClosure, IsStable, IsStableByClosure, IsStableByKeyClosure};
-ghost use Rattle.vecmap_base.specs.Items.{moved};
+ghost use Rattle.vecmap_base.specs.Items.{IsReorderedItems, moved};
+ghost use Rattle.vecmap_set.specs.Indices.{MovesIndex};
 
 use crate::VecSet;
 use std::alloc::AllocError;
@@ -23,13 +24,14 @@ impl<T: Eq> VecSet<T> {
     /// set.reverse();
     /// set.as_slice() // [3, 2, 1]
     /// ```
-    #[tactic(auto, using(vecmap_base::proofs::DistinctLemmas::Order::distinct_reverse))]
+    #[tactic(auto, using(vecmap_base::proofs::DistinctLemmas::Order::distinct_reverse, crate::proofs::QueryLemmas::reorders))]
     pub fn reverse(&mut self)
         ensures elements { self.new.elements ≡ reverse self.old.elements }
         ensures distinct { IsDistinct T.eq self.new.elements }
-        ensures matches { (test : T → Bool) → list_any test self.new.elements
-            ≡ list_any test self.old.elements }
         ensures capacity { self.new.capacity ≡ self.old.capacity }
+
+        // What follows for lookups, lengths and indices.
+        ensures reordered { IsReorderedItems self.old.elements self.new.elements }
     {
         self.items.reverse();
     }
@@ -52,14 +54,18 @@ impl<T: Eq> VecSet<T> {
     /// set.swap_indices(0, 2);
     /// set.as_slice() // [3, 2, 1]
     /// ```
+    #[tactic(auto, using(crate::proofs::QueryLemmas::reorders))]
     pub fn swap_indices(&mut self, a: usize, b: usize)
         requires a_within { a < length self.old.elements }
         requires b_within { b < length self.old.elements }
         ensures elements { self.new.elements ≡ swap self.old.elements a b }
         ensures distinct { IsDistinct T.eq self.new.elements }
-        ensures matches { (test : T → Bool) → list_any test self.new.elements
-            ≡ list_any test self.old.elements }
         ensures capacity { self.new.capacity ≡ self.old.capacity }
+
+        // What follows for lookups, lengths and indices.
+        ensures reordered { IsReorderedItems self.old.elements self.new.elements }
+        ensures a_index { MovesIndex T.eq a b self.old.elements self.new.elements }
+        ensures b_index { MovesIndex T.eq b a self.old.elements self.new.elements }
     {
         self.items.swap(a, b);
     }
@@ -82,14 +88,17 @@ impl<T: Eq> VecSet<T> {
     /// set.move_index(0, 2);
     /// set.as_slice() // [2, 3, 1]
     /// ```
+    #[tactic(auto, using(crate::proofs::QueryLemmas::reorders))]
     pub fn move_index(&mut self, from: usize, to: usize)
         requires from_within { from < length self.old.elements }
         requires to_within { to < length self.old.elements }
         ensures elements { self.new.elements ≡ moved self.old.elements from to }
         ensures distinct { IsDistinct T.eq self.new.elements }
-        ensures matches { (test : T → Bool) → list_any test self.new.elements
-            ≡ list_any test self.old.elements }
         ensures capacity { self.new.capacity ≡ self.old.capacity }
+
+        // What follows for lookups, lengths and indices.
+        ensures reordered { IsReorderedItems self.old.elements self.new.elements }
+        ensures index { MovesIndex T.eq from to self.old.elements self.new.elements }
     {
         move_to(&mut self.items, from, to);
     }
@@ -111,6 +120,7 @@ impl<T: Eq> VecSet<T> {
     /// set.sort()?;
     /// set.as_slice() // [1, 2]
     /// ```
+    #[tactic(auto, using(crate::proofs::QueryLemmas::reorders))]
     pub fn sort(&mut self) -> Result<(), AllocError>
     where
         T: Ord,
@@ -120,9 +130,10 @@ impl<T: Eq> VecSet<T> {
         ensures err { OnErr result (self.new ≡ self.old) }
         ensures succeeds { length self.old.elements ≤ 20 → IsOk result }
         ensures distinct { IsDistinct T.eq self.new.elements }
-        ensures matches { (test : T → Bool) → list_any test self.new.elements
-            ≡ list_any test self.old.elements }
         ensures capacity { self.new.capacity ≡ self.old.capacity }
+
+        // What follows for lookups, lengths and indices.
+        ensures reordered { IsReorderedItems self.old.elements self.new.elements }
     {
         self.items.sort()
     }
@@ -150,6 +161,7 @@ impl<T: Eq> VecSet<T> {
     /// set.sort_by(|a, b| b.cmp(a))?;
     /// set.as_slice() // [2, 1]
     /// ```
+    #[tactic(auto, using(crate::proofs::QueryLemmas::reorders))]
     pub fn sort_by<F: Fn(&T, &T) -> Ordering>(&mut self, f: F) -> Result<(), AllocError>
         requires { F.IsAlwaysCallable f }
         ensures sorted { OnOk result (IsSortedByClosure F.FnMut f self.new.elements) }
@@ -158,9 +170,10 @@ impl<T: Eq> VecSet<T> {
         ensures err { OnErr result (self.new ≡ self.old) }
         ensures succeeds { length self.old.elements ≤ 20 → IsOk result }
         ensures distinct { IsDistinct T.eq self.new.elements }
-        ensures matches { (test : T → Bool) → list_any test self.new.elements
-            ≡ list_any test self.old.elements }
         ensures capacity { self.new.capacity ≡ self.old.capacity }
+
+        // What follows for lookups, lengths and indices.
+        ensures reordered { IsReorderedItems self.old.elements self.new.elements }
     {
         self.items.sort_by(f)
     }
@@ -188,6 +201,7 @@ impl<T: Eq> VecSet<T> {
     /// set.sort_by_cached_key(|item| *item)?;
     /// set.as_slice() // [1, 2]
     /// ```
+    #[tactic(auto, using(crate::proofs::QueryLemmas::reorders))]
     pub fn sort_by_cached_key<K: Ord + Drop, F: Fn(&T) -> K>(
         &mut self,
         f: F,
@@ -199,9 +213,10 @@ impl<T: Eq> VecSet<T> {
         ensures err { OnErr result (self.new ≡ self.old) }
         ensures succeeds { length self.old.elements ≤ 1 → IsOk result }
         ensures distinct { IsDistinct T.eq self.new.elements }
-        ensures matches { (test : T → Bool) → list_any test self.new.elements
-            ≡ list_any test self.old.elements }
         ensures capacity { self.new.capacity ≡ self.old.capacity }
+
+        // What follows for lookups, lengths and indices.
+        ensures reordered { IsReorderedItems self.old.elements self.new.elements }
     {
         self.items.sort_by_cached_key(f)
     }
@@ -219,15 +234,17 @@ impl<T: Eq> VecSet<T> {
     /// set.sort_unstable();
     /// set.as_slice() // [1, 2]
     /// ```
+    #[tactic(auto, using(crate::proofs::QueryLemmas::reorders))]
     pub fn sort_unstable(&mut self)
     where
         T: Ord,
         ensures sorted { IsSorted T.cmp self.new.elements }
         ensures rearranged { IsPermutation self.old.elements self.new.elements }
         ensures distinct { IsDistinct T.eq self.new.elements }
-        ensures matches { (test : T → Bool) → list_any test self.new.elements
-            ≡ list_any test self.old.elements }
         ensures capacity { self.new.capacity ≡ self.old.capacity }
+
+        // What follows for lookups, lengths and indices.
+        ensures reordered { IsReorderedItems self.old.elements self.new.elements }
     {
         self.items.sort_unstable();
     }
@@ -251,14 +268,16 @@ impl<T: Eq> VecSet<T> {
     /// set.sort_unstable_by(|a, b| b.cmp(a));
     /// set.as_slice() // [2, 1]
     /// ```
+    #[tactic(auto, using(crate::proofs::QueryLemmas::reorders))]
     pub fn sort_unstable_by<F: Fn(&T, &T) -> Ordering>(&mut self, f: F)
         requires { F.IsAlwaysCallable f }
         ensures sorted { IsSortedByClosure F.FnMut f self.new.elements }
         ensures rearranged { IsPermutation self.old.elements self.new.elements }
         ensures distinct { IsDistinct T.eq self.new.elements }
-        ensures matches { (test : T → Bool) → list_any test self.new.elements
-            ≡ list_any test self.old.elements }
         ensures capacity { self.new.capacity ≡ self.old.capacity }
+
+        // What follows for lookups, lengths and indices.
+        ensures reordered { IsReorderedItems self.old.elements self.new.elements }
     {
         self.items.sort_unstable_by(f);
     }

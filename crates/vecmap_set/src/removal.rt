@@ -1,12 +1,14 @@
 //! Removal of elements.
-ghost use Rattle.std.specs.Prelude.{◌≡◌, ◌-◌, ◌<◌, ◌≤◌, ◌&&◌, ◌||◌, Bool, IfOk, IfSome, IsOk, OnErr, OnOk, Some, [], drop, false, is_some, length, nat_lt, position, remove, slice_get, take, unwrap_or};
+ghost use Rattle.std.specs.Prelude.{◌≡◌, ◌+◌, ◌-◌, ◌<◌, ◌≤◌, ◌&&◌, ◌||◌, Bool, IfNone, IfOk, IfSome, IsOk, IsTrue, OnErr, OnOk, Some, [], drop, false, if◌then◌else◌, is_some, length, min, nat_lt, position, remove, slice_get, string_eq, take, unwrap_or, String};
 ghost use Rattle.std.specs.Fn.{TakesAt};
 ghost use Rattle.std.specs.List.{IsDistinct, list_any};
+ghost use Rattle.std.specs.declared.alloc.Global.{Global};
 ghost use Rattle.vecmap_base.specs.Items.{stored_first, swap_without, swap_without_first, without_first};
 ghost use Rattle.vecmap_base.specs.Asked.{CallableOnEach, CallsAtItem};
 ghost use Rattle.vecmap_base.specs.Kept.{Kept, ReturnsAt};
 ghost use Rattle.vecmap_base.specs.Lookups.{UpdatesMember};
 ghost use Rattle.vecmap_base.specs.Pairs.{has_text};
+ghost use Rattle.vecmap_set.specs.Indices.{KeepsIndicesBelow};
 
 use crate::VecSet;
 use std::alloc::AllocError;
@@ -52,16 +54,20 @@ impl<T: Eq> VecSet<T> {
     /// set.truncate(1);
     /// set.as_slice() // [1]
     /// ```
-    #[tactic(auto, using(vecmap_base::proofs::DistinctLemmas::Removals::distinct_take, vecmap_base::proofs::ItemsLemmas::Changes::matches_of_front))]
+    #[tactic(auto, using(vecmap_base::proofs::DistinctLemmas::Removals::distinct_take, vecmap_base::proofs::ItemsLemmas::Changes::matches_of_front, crate::proofs::IndexLemmas::at_end))]
     pub fn truncate(&mut self, len: usize)
     where
         T: Drop,
         ensures elements { self.new.elements ≡ take len self.old.elements }
         ensures distinct { IsDistinct T.eq self.new.elements }
+        ensures capacity { self.new.capacity ≡ self.old.capacity }
+
+        // What follows for lookups, lengths and indices.
         ensures matches { (test : T → Bool) → list_any test self.new.elements
             ≡ (list_any test self.old.elements
             && nat_lt (unwrap_or (position test self.old.elements) 0) len) }
-        ensures capacity { self.new.capacity ≡ self.old.capacity }
+        ensures len { length self.new.elements ≡ min len (length self.old.elements) }
+        ensures indices { KeepsIndicesBelow len self.old.elements self.new.elements }
     {
         self.items.truncate(len);
     }
@@ -92,22 +98,28 @@ impl<T: Eq> VecSet<T> {
     /// set.as_slice() // [1]
     /// part.as_slice() // [2, 3]
     /// ```
-    #[tactic(auto, using(crate::proofs::SetLemmas::distinct_changes, vecmap_base::proofs::ItemsLemmas::Changes::matches_of_front, vecmap_base::proofs::ItemsLemmas::Changes::matches_of_parts))]
+    #[tactic(auto, using(crate::proofs::SetLemmas::distinct_changes, vecmap_base::proofs::ItemsLemmas::Changes::matches_of_front, vecmap_base::proofs::ItemsLemmas::Changes::matches_of_parts, crate::proofs::IndexLemmas::at_end))]
     pub fn split_off(&mut self, at: usize) -> Result<VecSet<T>, AllocError>
         requires within { at ≤ length self.old.elements }
         ensures elements { OnOk result (self.new.elements ≡ take at self.old.elements) }
         ensures distinct { IsDistinct T.eq self.new.elements }
         ensures part { IfOk result (λ part. part.elements ≡ drop at self.old.elements) }
         ensures part_distinct { IfOk result (λ part. IsDistinct T.eq part.elements) }
+        ensures capacity { self.new.capacity ≡ self.old.capacity }
+        ensures succeeds { at ≡ length self.old.elements → IsOk result }
+        ensures err { OnErr result (self.new ≡ self.old) }
+
+        // What follows for lookups, lengths and indices.
         ensures matches { OnOk result ((test : T → Bool) → list_any test self.new.elements
             ≡ (list_any test self.old.elements
             && nat_lt (unwrap_or (position test self.old.elements) 0) at)) }
         ensures part_matches { IfOk result (λ part. (test : T → Bool)
             → list_any test self.old.elements
             ≡ (list_any test self.new.elements || list_any test part.elements)) }
-        ensures capacity { self.new.capacity ≡ self.old.capacity }
-        ensures succeeds { at ≡ length self.old.elements → IsOk result }
-        ensures err { OnErr result (self.new ≡ self.old) }
+        ensures len { IfOk result (λ part. (length self.new.elements ≡ at)
+            × (length self.new.elements + length part.elements ≡ length self.old.elements)) }
+        ensures indices { OnOk result (KeepsIndicesBelow at self.old.elements
+            self.new.elements) }
     {
         Ok(VecSet {
             items: self.items.split_off(at)?,
@@ -144,13 +156,16 @@ impl<T: Eq> VecSet<T> {
         F: Drop,
         requires callable { CallableOnEach (CallsAtItem F.FnMut)
             (TakesAt F.FnMut) f self.old.elements }
-        ensures matches { (query : T → Bool) (kept : Bool)
-            → ReturnsAt (CallsAtItem F.FnMut) f query kept → list_any query self.new.elements
-            ≡ (list_any query self.old.elements && kept) }
         ensures retained { (g : F) × Kept
             (CallsAtItem F.FnMut) f self.old.elements self.new.elements g }
         ensures distinct { IsDistinct T.eq self.new.elements }
         ensures capacity { self.new.capacity ≡ self.old.capacity }
+
+        // What follows for lookups, lengths and indices.
+        ensures matches { (query : T → Bool) (kept : Bool)
+            → ReturnsAt (CallsAtItem F.FnMut) f query kept → list_any query self.new.elements
+            ≡ (list_any query self.old.elements && kept) }
+        ensures len { length self.new.elements ≤ length self.old.elements }
     {
         retain_items(&mut self.items, f);
     }
@@ -168,18 +183,27 @@ impl<T: Eq> VecSet<T> {
     /// set.pop() // Some(2)
     /// set.as_slice() // [1]
     /// ```
-    #[tactic(auto, using(vecmap_base::proofs::DistinctLemmas::Removals::distinct_take, vecmap_base::proofs::ItemsLemmas::Changes::matches_of_front))]
+    #[tactic(auto, using(vecmap_base::proofs::DistinctLemmas::Removals::distinct_take, vecmap_base::proofs::ItemsLemmas::Changes::matches_of_front, crate::proofs::IndexLemmas::at_end))]
     pub fn pop(&mut self) -> Option<T>
         ensures element { result ≡ slice_get self.old.elements (length self.old.elements - 1) }
         ensures elements { self.new.elements
             ≡ take (length self.old.elements - 1) self.old.elements }
         ensures distinct { IsDistinct T.eq self.new.elements }
+        ensures capacity { self.new.capacity ≡ self.old.capacity }
+
+        // What follows for lookups, lengths and indices.
         ensures updates { IfSome result (λ element. UpdatesMember T.eq (T.eq element)
             self.old.elements self.new.elements false) }
         ensures matches { (test : T → Bool) → list_any test self.new.elements
             ≡ (list_any test self.old.elements && nat_lt
             (unwrap_or (position test self.old.elements) 0) (length self.old.elements - 1)) }
-        ensures capacity { self.new.capacity ≡ self.old.capacity }
+        ensures any { IfSome result (λ x. (f : T → Bool) → list_any f self.old.elements
+            ≡ (f x || list_any f self.new.elements)) }
+        ensures unchanged { IfNone result (self.new ≡ self.old) }
+        ensures len { length self.new.elements + (if is_some result then 1 else 0)
+            ≡ length self.old.elements }
+        ensures indices { KeepsIndicesBelow (length self.old.elements - 1) self.old.elements
+            self.new.elements }
     {
         self.items.pop()
     }
@@ -210,9 +234,17 @@ impl<T: Eq> VecSet<T> {
         ensures elements { self.new.elements
             ≡ without_first (Q.equivalent query) self.old.elements }
         ensures distinct { IsDistinct T.eq self.new.elements }
+        ensures capacity { self.new.capacity ≡ self.old.capacity }
+
+        // What follows for lookups, lengths and indices.
         ensures updates { UpdatesMember T.eq (Q.equivalent query) self.old.elements
             self.new.elements false }
-        ensures capacity { self.new.capacity ≡ self.old.capacity }
+        ensures any { (f : T → Bool) → ((x y : T) → IsTrue (T.eq x y) → f y ≡ f x)
+            → (x : T) → IsTrue (Q.equivalent query x) → list_any f self.old.elements
+            ≡ ((result && f x) || list_any f self.new.elements) }
+        ensures unchanged { result ≡ false → self.new ≡ self.old }
+        ensures len { length self.new.elements + (if result then 1 else 0)
+            ≡ length self.old.elements }
     {
         self.take(query).is_some()
     }
@@ -243,9 +275,14 @@ impl<T: Eq> VecSet<T> {
         ensures element { slice_get self.old.elements index ≡ Some result }
         ensures elements { self.new.elements ≡ remove self.old.elements index }
         ensures distinct { IsDistinct T.eq self.new.elements }
+        ensures capacity { self.new.capacity ≡ self.old.capacity }
+
+        // What follows for lookups, lengths and indices.
         ensures updates { UpdatesMember T.eq (T.eq result) self.old.elements
             self.new.elements false }
-        ensures capacity { self.new.capacity ≡ self.old.capacity }
+        ensures any { (f : T → Bool) → list_any f self.old.elements
+            ≡ (f result || list_any f self.new.elements) }
+        ensures len { length self.new.elements + 1 ≡ length self.old.elements }
     {
         remove_item(&mut self.items, index)
     }
@@ -274,9 +311,17 @@ impl<T: Eq> VecSet<T> {
         ensures elements { self.new.elements
             ≡ swap_without_first (Q.equivalent query) self.old.elements }
         ensures distinct { IsDistinct T.eq self.new.elements }
+        ensures capacity { self.new.capacity ≡ self.old.capacity }
+
+        // What follows for lookups, lengths and indices.
         ensures updates { UpdatesMember T.eq (Q.equivalent query) self.old.elements
             self.new.elements false }
-        ensures capacity { self.new.capacity ≡ self.old.capacity }
+        ensures any { (f : T → Bool) → ((x y : T) → IsTrue (T.eq x y) → f y ≡ f x)
+            → (x : T) → IsTrue (Q.equivalent query x) → list_any f self.old.elements
+            ≡ ((result && f x) || list_any f self.new.elements) }
+        ensures unchanged { result ≡ false → self.new ≡ self.old }
+        ensures len { length self.new.elements + (if result then 1 else 0)
+            ≡ length self.old.elements }
     {
         self.swap_take(query).is_some()
     }
@@ -305,9 +350,14 @@ impl<T: Eq> VecSet<T> {
         ensures element { slice_get self.old.elements index ≡ Some result }
         ensures elements { self.new.elements ≡ swap_without self.old.elements index }
         ensures distinct { IsDistinct T.eq self.new.elements }
+        ensures capacity { self.new.capacity ≡ self.old.capacity }
+
+        // What follows for lookups, lengths and indices.
         ensures updates { UpdatesMember T.eq (T.eq result) self.old.elements
             self.new.elements false }
-        ensures capacity { self.new.capacity ≡ self.old.capacity }
+        ensures any { (f : T → Bool) → list_any f self.old.elements
+            ≡ (f result || list_any f self.new.elements) }
+        ensures len { length self.new.elements + 1 ≡ length self.old.elements }
     {
         self.items.swap_remove(index)
     }
@@ -321,16 +371,24 @@ impl<T: Eq> VecSet<T> {
     /// set.take(&1) // Some(1)
     /// set.as_slice() // [2, 3]
     /// ```
-    #[tactic(auto, using(vecmap_base::proofs::IndexLemmas::list_any_stored))]
+    #[tactic(auto, using(vecmap_base::proofs::IndexLemmas::list_any_stored, crate::proofs::QueryLemmas::stored_matches))]
     pub fn take<Q: Equivalent<T>>(&mut self, query: Q) -> Option<T>
         ensures element { result ≡ stored_first (Q.equivalent query) self.old.elements }
         ensures found { is_some result ≡ list_any (Q.equivalent query) self.old.elements }
         ensures elements { self.new.elements
             ≡ without_first (Q.equivalent query) self.old.elements }
         ensures distinct { IsDistinct T.eq self.new.elements }
+        ensures capacity { self.new.capacity ≡ self.old.capacity }
+
+        // What follows for lookups, lengths and indices.
+        ensures stored { IfSome result (λ x. IsTrue (Q.equivalent query x)) }
         ensures updates { UpdatesMember T.eq (Q.equivalent query) self.old.elements
             self.new.elements false }
-        ensures capacity { self.new.capacity ≡ self.old.capacity }
+        ensures any { IfSome result (λ x. (f : T → Bool) → list_any f self.old.elements
+            ≡ (f x || list_any f self.new.elements)) }
+        ensures unchanged { IfNone result (self.new ≡ self.old) }
+        ensures len { length self.new.elements + (if is_some result then 1 else 0)
+            ≡ length self.old.elements }
     {
         let index = find_item_equivalent(&self.items, query)?;
         Some(self.remove_index(index))
@@ -345,16 +403,24 @@ impl<T: Eq> VecSet<T> {
     /// set.swap_take(&1) // Some(1)
     /// set.as_slice() // [3, 2]
     /// ```
-    #[tactic(auto, using(vecmap_base::proofs::IndexLemmas::list_any_stored))]
+    #[tactic(auto, using(vecmap_base::proofs::IndexLemmas::list_any_stored, crate::proofs::QueryLemmas::stored_matches))]
     pub fn swap_take<Q: Equivalent<T>>(&mut self, query: Q) -> Option<T>
         ensures element { result ≡ stored_first (Q.equivalent query) self.old.elements }
         ensures found { is_some result ≡ list_any (Q.equivalent query) self.old.elements }
         ensures elements { self.new.elements
             ≡ swap_without_first (Q.equivalent query) self.old.elements }
         ensures distinct { IsDistinct T.eq self.new.elements }
+        ensures capacity { self.new.capacity ≡ self.old.capacity }
+
+        // What follows for lookups, lengths and indices.
+        ensures stored { IfSome result (λ x. IsTrue (Q.equivalent query x)) }
         ensures updates { UpdatesMember T.eq (Q.equivalent query) self.old.elements
             self.new.elements false }
-        ensures capacity { self.new.capacity ≡ self.old.capacity }
+        ensures any { IfSome result (λ x. (f : T → Bool) → list_any f self.old.elements
+            ≡ (f x || list_any f self.new.elements)) }
+        ensures unchanged { IfNone result (self.new ≡ self.old) }
+        ensures len { length self.new.elements + (if is_some result then 1 else 0)
+            ≡ length self.old.elements }
     {
         let index = find_item_equivalent(&self.items, query)?;
         Some(self.swap_remove_index(index))
@@ -374,10 +440,18 @@ impl VecSet<String> {
         ensures found { result ≡ list_any (has_text text.now) self.old.elements }
         ensures elements { self.new.elements
             ≡ without_first (has_text text.now) self.old.elements }
-        ensures distinct { IsDistinct ⟦<String as PartialEq>⟧.eq self.new.elements }
-        ensures updates { UpdatesMember ⟦<String as PartialEq>⟧.eq (has_text text.now)
-            self.old.elements self.new.elements false }
+        ensures distinct { IsDistinct string_eq self.new.elements }
         ensures capacity { self.new.capacity ≡ self.old.capacity }
+
+        // What follows for lookups, lengths and indices.
+        ensures updates { UpdatesMember string_eq (has_text text.now) self.old.elements
+            self.new.elements false }
+        ensures any { (f : String Global → Bool) → ((x y : String Global) → IsTrue (string_eq x y) → f y ≡ f x)
+            → (x : String Global) → IsTrue (has_text text.now x) → list_any f self.old.elements
+            ≡ ((result && f x) || list_any f self.new.elements) }
+        ensures unchanged { result ≡ false → self.new ≡ self.old }
+        ensures len { length self.new.elements + (if result then 1 else 0)
+            ≡ length self.old.elements }
     {
         self.remove(text)
     }

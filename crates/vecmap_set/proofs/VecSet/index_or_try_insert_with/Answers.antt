@@ -1,7 +1,8 @@
 use Rattle.std.specs.List.{list_any}
-use Rattle.std.proofs.Common.{◌≡◌, ◌∙◌, None, Some, ap, is_some, position, sym, true}
+use Rattle.std.proofs.Common.{◌≡◌, ◌∙◌, None, Some, ap, arith, false, is_some, position, sym, true}
 use Rattle.vecmap_base.proofs.IndexLemmas.{list_any_position, position_appended}
 use Rattle.vecmap_base.proofs.ItemsLemmas.Members.{absent_by, members_appended_by, members_matched}
+use Rattle.vecmap_set.proofs.IndexLemmas.{stored_at}
 use Rattle.vecmap_set.proofs.VecSet.index_or_try_insert_with.Goals as goal
 
 pub returns-in-Some-clause-updates : goal.returns-in-Some-clause-updates
@@ -35,3 +36,30 @@ returns-in-Ok-clause-updates g c =
     let s = c.args.self.now.elements in
     let none : position test s ≡ None = ap (λ v. position test v.elements) (sym c.self.view_is) ∙ ap (position test) (sym c.deref.ensures.value) ∙ sym c.find_item_equivalent.ensures.index ∙ c.in_default.is in
     members_appended_by g.T.PartialEq.eq g.met.T.Eq.laws test (g.met.Q.Equivalent.respects_eq c.args.query) s c.insert_unique.new.self.elements c.in_ok-item.item c.in-Ok.ensures.elements none (c.requires.made _ c.in_ok-item.ensures)
+
+pub returns-in-Some-clause-stored : goal.returns-in-Some-clause-stored
+returns-in-Some-clause-stored g c =
+    let test = g.Q.Equivalent.equivalent c.args.query in
+    let s = c.args.self.now.elements in
+    let found : position test s ≡ Some c.in-Some.index = ap (λ v. position test v.elements) (sym c.self.view_is) ∙ ap (position test) (sym c.deref.ensures.value) ∙ sym c.find_item_equivalent.ensures.index ∙ c.in-Some.is in
+    stored_at test s (Some c.in-Some.index) (sym found)
+
+pub returns-in-Some-clause-len : goal.returns-in-Some-clause-len
+returns-in-Some-clause-len g c =
+    let test = g.Q.Equivalent.equivalent c.args.query in
+    let s = c.args.self.now.elements in
+    let found : position test s ≡ Some c.in-Some.index = ap (λ v. position test v.elements) (sym c.self.view_is) ∙ ap (position test) (sym c.deref.ensures.value) ∙ sym c.find_item_equivalent.ensures.index ∙ c.in-Some.is in
+    let some : list_any test s ≡ true = list_any_position test s ∙ ap is_some found in
+    rw some (omega arith)
+
+pub returns-in-Ok-clause-stored : goal.returns-in-Ok-clause-stored
+returns-in-Ok-clause-stored g c =
+    stored_at (g.Q.Equivalent.equivalent c.args.query) c.insert_unique.new.self.elements (Some c.len-index.result) (sym (returns-in-Ok-clause-index g c))
+
+pub returns-in-Ok-clause-len : goal.returns-in-Ok-clause-len
+returns-in-Ok-clause-len g c =
+    let test = g.Q.Equivalent.equivalent c.args.query in
+    let s = c.args.self.now.elements in
+    let none : position test s ≡ None = ap (λ v. position test v.elements) (sym c.self.view_is) ∙ ap (position test) (sym c.deref.ensures.value) ∙ sym c.find_item_equivalent.ensures.index ∙ c.in_default.is in
+    let absent : list_any test s ≡ false = list_any_position test s ∙ ap is_some none in
+    rw absent c.in-Ok.ensures.len

@@ -1,7 +1,7 @@
-use Rattle.std.specs.List.{list_any}
-use Rattle.std.proofs.Common.{◌∙◌, ap, sym}
-use Rattle.std.proofs.lemmas.List.Sorted.{list_any-IsPermutation}
 use Rattle.vecmap_base.proofs.DistinctLemmas.Order.{distinct_rearranged}
+use Rattle.vecmap_set.proofs.QueryLemmas.{reordered}
+use Rattle.vecmap_set.proofs.IndexLemmas.{at_moved, index_moved}
+use Rattle.std.proofs.Common.{rules}
 use Rattle.vecmap_set.proofs.VecSet.move_index.Goals as goal
 
 pub invariant_of-self : goal.invariant_of-self
@@ -10,5 +10,11 @@ invariant_of-self g c = distinct_rearranged g.T.PartialEq.eq g.met.T.Eq.laws _ _
 pub returns-clause-distinct : goal.returns-clause-distinct
 returns-clause-distinct g c = invariant_of-self g c
 
-pub returns-clause-matches : goal.returns-clause-matches
-returns-clause-matches g c = λ test. sym (list_any-IsPermutation test _ _ c.move_to.ensures.rearranged) ∙ ap (λ s. list_any test s.elements) c.self.view_is
+pub returns-clause-reordered : goal.returns-clause-reordered
+returns-clause-reordered g c = rw (← c.self.view_is) (reordered _ _ c.move_to.ensures.rearranged)
+
+pub returns-clause-index : goal.returns-clause-index
+returns-clause-index g c =
+    let s = c.args.self.now.elements in
+    let at = at_moved s c.move_to.new.items.items c.args.from c.args.to c.requires.from_within c.requires.to_within (search rules) in
+    index_moved g.T.PartialEq.eq g.met.T.Eq.laws s c.move_to.new.items.items c.args.from c.args.to at (invariant_of-self g c)

@@ -1,7 +1,11 @@
 use Rattle.std.proofs.Common.{arith, rules}
 use Rattle.std.proofs.lemmas.Option.{gets}
 use Rattle.vecmap_base.proofs.ItemsLemmas.Members.{members_removed}
+use Rattle.vecmap_set.proofs.QueryLemmas.{any_removed}
 use Rattle.vecmap_set.proofs.VecSet.remove_index.Goals as goal
 
 pub returns-clause-updates : goal.returns-clause-updates
 returns-clause-updates g c = members_removed _ g.met.T.Eq.laws c.args.self.now.elements _ c.args.index _ (grind (arith, gets)) (grind (arith, gets)) (search rules)
+
+pub returns-clause-any : goal.returns-clause-any
+returns-clause-any g c = any_removed c.args.self.now.elements _ c.args.index _ (grind (arith, gets)) (grind (arith, gets))

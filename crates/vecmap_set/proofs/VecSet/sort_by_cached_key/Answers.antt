@@ -1,6 +1,5 @@
-use Rattle.std.proofs.Common.{rules, sym}
+use Rattle.std.proofs.Common.{rules}
 use Rattle.vecmap_base.proofs.DistinctLemmas.Order.{distinct_rearranged}
-use Rattle.std.proofs.lemmas.List.Sorted.{list_any-IsPermutation}
 use Rattle.vecmap_set.proofs.VecSet.sort_by_cached_key.Goals as goal
 
 pub invariant_of-self : goal.invariant_of-self
@@ -8,6 +7,3 @@ invariant_of-self g c = distinct_rearranged _ g.met.T.Eq.laws c.self.inside.item
 
 pub returns-clause-distinct : goal.returns-clause-distinct
 returns-clause-distinct g c = invariant_of-self g c
-
-pub returns-clause-matches : goal.returns-clause-matches
-returns-clause-matches g c = λ test. sym (list_any-IsPermutation test c.args.self.now.elements _ (search rules))

@@ -1,6 +1,6 @@
-use Rattle.std.proofs.Common.{ap, arith, length, rules, sym}
+use Rattle.std.proofs.Common.{ap, arith, length, rules}
 use Rattle.vecmap_base.proofs.DistinctLemmas.Order.{distinct_swap}
-use Rattle.std.proofs.lemmas.List.Sorted.{IsPermutation-swap, list_any-IsPermutation}
+use Rattle.vecmap_set.proofs.IndexLemmas.{at_swapped, at_swapped_back, index_moved}
 use Rattle.vecmap_set.proofs.VecSet.swap_indices.Goals as goal
 
 pub invariant_of-self : goal.invariant_of-self
@@ -11,5 +11,12 @@ invariant_of-self g c =
 pub returns-clause-distinct : goal.returns-clause-distinct
 returns-clause-distinct g c = invariant_of-self g c
 
-pub returns-clause-matches : goal.returns-clause-matches
-returns-clause-matches g c = λ test. sym (list_any-IsPermutation test c.args.self.now.elements _ (IsPermutation-swap c.args.self.now.elements _ c.args.a c.args.b c.requires.a_within c.requires.b_within (search rules)))
+pub returns-clause-a_index : goal.returns-clause-a_index
+returns-clause-a_index g c =
+    let s = c.args.self.now.elements in
+    index_moved g.T.PartialEq.eq g.met.T.Eq.laws s _ c.args.a c.args.b (at_swapped s _ c.args.a c.args.b c.requires.a_within c.requires.b_within (search rules)) (invariant_of-self g c)
+
+pub returns-clause-b_index : goal.returns-clause-b_index
+returns-clause-b_index g c =
+    let s = c.args.self.now.elements in
+    index_moved g.T.PartialEq.eq g.met.T.Eq.laws s _ c.args.b c.args.a (at_swapped_back s _ c.args.a c.args.b c.requires.a_within c.requires.b_within (search rules)) (invariant_of-self g c)

@@ -1,0 +1,156 @@
+-- At which indices elements and queries find their match after a change, in the words of contracts.
+use Rattle.std.specs.{Cmp.IsEquivalence, List.AllByRecursion, List.IsDistinct, Map.IsKeyTest}
+use Rattle.std.specs.Prelude.{IfSome, insert}
+use Rattle.std.proofs.Common.{◌≡◌, ◌∙◌, ◌++◌, ◌<◌, ◌≤◌, ℕ, suc, zero, Bool, true, false, List, [], ◌∷◌, None, Option, Some, ap, arith, cond, get_or, get_or-set_other, inl, inr, length, length-set, option_map, position, refl, remove, set, slice_get, swap, sym, take, true≢false}
+use Rattle.std.proofs.lemmas.Bool.{cases_Bool}
+use Rattle.std.proofs.lemmas.Grind.{get_or-set_at}
+use Rattle.std.proofs.lemmas.List.Edits.{get_or-insert_at, length-insert, length-remove}
+use Rattle.std.proofs.lemmas.List.Quantifiers.{position-Some}
+use Rattle.std.proofs.lemmas.Map.Keys.{IsDistinct-head, IsDistinct-tail}
+use Rattle.std.proofs.lemmas.Option.{none-some, slice_get-get_or}
+use Rattle.vecmap_base.specs.Items.{moved, put_item}
+use Rattle.vecmap_base.proofs.IndexLemmas.{position_cons}
+use Rattle.vecmap_base.proofs.ItemsLemmas.Recursion.{put_item_cons}
+use Rattle.vecmap_set.specs.Indices.{KeepsIndices, KeepsIndicesBelow, KeepsItemIndices, MovesIndex}
+
+module _ {T : Type 0} (test : T → Bool) where
+  -- The element at the index that a query finds matches the query.
+  pub stored_at : (s : List T) (found : Option ℕ) → found ≡ position test s → IfSome found (λ i. (x : T) × (slice_get s i ≡ Some x) × (test x ≡ true))
+  stored_at s None e = tt
+  stored_at [] (Some i) e = absurd (none-some i (sym e))
+  stored_at (x ∷ xs) (Some i) e =
+      let at = position-Some test (x ∷ xs) i x (sym e) in
+      (get_or (x ∷ xs) i x, slice_get-get_or (x ∷ xs) i x at.0, at.1)
+
+  -- The index in a longer list, from that in its rest.
+  later : (b : Bool) (found after : Option ℕ) (i : ℕ) → ((j : ℕ) → found ≡ Some j → suc j ≡ i → after ≡ Some j) → cond b (Some 0) (option_map suc found) ≡ Some i → cond b (Some 0) (option_map suc after) ≡ Some i
+  later true found after i rest h = h
+  later false None after i rest h = absurd (none-some i h)
+  later false (Some j) after i rest h = ap (option_map suc) (rest j refl (let next : suc j ≡ i = cc in next)) ∙ h
+
+  -- The first match stays where it is if other items follow.
+  position_front : (ys s : List T) (i : ℕ) → position test s ≡ Some i → position test (s ++ ys) ≡ Some i
+  position_front ys [] i e = absurd (none-some i e)
+  position_front ys (x ∷ xs) i e =
+      position_cons test x (xs ++ ys) ∙ later (test x) (position test xs) (position test (xs ++ ys)) i (λ j h n. position_front ys xs j h) (sym (position_cons test x xs) ∙ e)
+
+  -- So does one among the items that are left.
+  position_take : (n : ℕ) (s : List T) (i : ℕ) → position test s ≡ Some i → i < n → position test (take n s) ≡ Some i
+  position_take n [] i e l = absurd (none-some i e)
+  position_take zero (x ∷ xs) i e l = absurd (omega (arith, l))
+  position_take (suc n) (x ∷ xs) i e l =
+      position_cons test x (take n xs)
+      ∙ later (test x) (position test xs) (position test (take n xs)) i (λ j h next. position_take n xs j h (omega (arith, next, l))) (sym (position_cons test x xs) ∙ e)
+
+  module _ (eq : T → T → Bool) (o : IsEquivalence eq) (respects : IsKeyTest eq test) where
+    -- Equal elements match the same.
+    same_test : (x y : T) → eq x y ≡ true → test y ≡ test x
+    same_test x y e =
+        elim (cases_Bool (test x)) [
+          | inl h ↦ respects x y h ∙ e ∙ sym h
+          | inr n ↦
+              elim (cases_Bool (test y)) [
+                | inl h ↦ absurd (true≢false (sym (respects y x h ∙ o.symm y x ∙ e) ∙ n))
+                | inr m ↦ m ∙ sym n
+              ]
+        ]
+
+    -- An element that replaces an equal one does not change the index of a match.
+    position_put : (s : List T) (x : T) (i : ℕ) → position test s ≡ Some i → position test (put_item eq s x) ≡ Some i
+    position_put [] x i e = absurd (none-some i e)
+    position_put (y ∷ ys) x i e = ap (position test) (put_item_cons eq y ys x) ∙ by (eq x y) refl (λ j h n. position_put ys x j h)
+      where
+        by : (b : Bool) → eq x y ≡ b → ((j : ℕ) → position test ys ≡ Some j → suc j ≡ i → position test (put_item eq ys x) ≡ Some j) → position test (cond b (x ∷ ys) (y ∷ put_item eq ys x)) ≡ Some i
+        by true h rest = position_cons test x ys ∙ ap (λ b. cond b (Some 0) (option_map suc (position test ys))) (sym (same_test x y h)) ∙ sym (position_cons test y ys) ∙ e
+        by false h rest = position_cons test y (put_item eq ys x) ∙ later (test y) (position test ys) (position test (put_item eq ys x)) i rest (sym (position_cons test y ys) ∙ e)
+
+    -- No later element of a distinct list matches what its first element matches.
+    misses : (y : T) (ys : List T) → test y ≡ true → AllByRecursion (λ z. eq y z ≡ false) ys → (i : ℕ) (x : T) → slice_get ys i ≡ Some x → test x ≡ true → ⊥
+    misses y [] h apart i x at hit = none-some x at
+    misses y (z ∷ zs) h apart zero x at hit =
+        let f : Some z ≡ Some x = at in
+        let same : z ≡ x = cc in
+        true≢false (sym hit ∙ sym (ap test same) ∙ respects y z h ∙ apart.0)
+    misses y (z ∷ zs) h apart (suc i) x at hit = misses y zs h apart.1 i x at hit
+
+    -- In a distinct list, an element that matches a query is the first that does.
+    pub position_own : (s : List T) → IsDistinct eq s → (i : ℕ) (x : T) → slice_get s i ≡ Some x → test x ≡ true → position test s ≡ Some i
+    position_own [] d i x at hit = absurd (none-some x at)
+    position_own (y ∷ ys) d zero x at hit =
+        let f : Some y ≡ Some x = at in
+        let same : y ≡ x = cc in
+        position_cons test y ys ∙ ap (λ b. cond b (Some 0) (option_map suc (position test ys))) (ap test same ∙ hit)
+    position_own (y ∷ ys) d (suc i) x at hit =
+        elim (cases_Bool (test y)) [
+          | inl h ↦ absurd (misses y ys h (IsDistinct-head eq y ys d) i x at hit)
+          | inr n ↦
+              position_cons test y ys
+              ∙ ap (λ b. cond b (Some 0) (option_map suc (position test ys))) n
+              ∙ ap (option_map suc) (position_own ys (IsDistinct-tail eq y ys d) i x at hit)
+        ]
+
+    -- What is found at the index `i` of a list is found where a distinct list has that element.
+    position_moved : (s r : List T) (i j : ℕ) → slice_get r j ≡ slice_get s i → IsDistinct eq r → position test s ≡ Some i → position test r ≡ Some j
+    position_moved s r i j at d e =
+        let found = stored_at s (Some i) (sym e) in
+        position_own r d j found.0 (at ∙ found.1) found.2
+
+-- Where an item is after a move and after a swap.
+module _ {T : Type 0} where
+  pub at_moved : (s r : List T) (i j : ℕ) → i < length s → j < length s → r ≡ moved s i j → slice_get r j ≡ slice_get s i
+  at_moved [] r i j h k e = absurd (omega (arith, h))
+  at_moved (y ∷ ys) r i j h k e =
+      let x = get_or (y ∷ ys) i y in
+      let here : slice_get (y ∷ ys) i ≡ Some x = slice_get-get_or (y ∷ ys) i y h in
+      let rest = remove (y ∷ ys) i in
+      let fits : j ≤ length rest = omega (arith, length-remove (y ∷ ys) i h, k) in
+      let there : slice_get (insert rest j x) j ≡ Some x = slice_get-get_or (insert rest j x) j x (omega (arith, length-insert rest j x fits, fits)) ∙ ap Some (get_or-insert_at rest j x x fits) in
+      ap (λ l. slice_get l j) e ∙ rw here there
+
+  -- A write at an index is found there.
+  at_set : (s : List T) (i : ℕ) (x : T) → i < length s → slice_get (set s i x) i ≡ Some x
+  at_set s i x h = slice_get-get_or (set s i x) i x (omega (arith, length-set s i x, h)) ∙ ap Some (get_or-set_at s i i x x refl h)
+
+  pub at_swapped : (s r : List T) (i j : ℕ) → i < length s → j < length s → r ≡ swap s i j → slice_get r j ≡ slice_get s i
+  at_swapped [] r i j h k e = absurd (omega (arith, h))
+  at_swapped (y ∷ ys) r i j h k e =
+      let s = y ∷ ys in
+      ap (λ l. slice_get l j) e ∙ at_set (set s i (get_or s j y)) j (get_or s i y) (omega (arith, length-set s i (get_or s j y), k)) ∙ sym (slice_get-get_or s i y h)
+
+  pub at_swapped_back : (s r : List T) (i j : ℕ) → i < length s → j < length s → r ≡ swap s i j → slice_get r i ≡ slice_get s j
+  at_swapped_back [] r i j h k e = absurd (omega (arith, h))
+  at_swapped_back (y ∷ ys) r i j h k e =
+      let s = y ∷ ys in
+      let one = set s i (get_or s j y) in
+      let both = set one j (get_or s i y) in
+      let read : get_or both i y ≡ get_or s j y = grind (arith, get_or-set_at, get_or-set_other, length-set, h, k) in
+      let within : i < length both = omega (arith, length-set s i (get_or s j y), length-set one j (get_or s i y), h) in
+      ap (λ l. slice_get l i) e ∙ slice_get-get_or both i y within ∙ ap Some read ∙ sym (slice_get-get_or s j y k)
+
+-- The clauses `indices`, from the list afterwards.
+module _ {T : Type 0} (s r : List T) where
+  pub indices_stay : r ≡ s → KeepsIndices s r
+  indices_stay e test i h = ap (position test) e ∙ h
+
+  pub indices_appended : (xs : List T) → r ≡ s ++ xs → KeepsIndices s r
+  indices_appended xs e test i h = ap (position test) e ∙ position_front test xs s i h
+
+  pub indices_of_front : (n : ℕ) → r ≡ take n s → KeepsIndicesBelow n s r
+  indices_of_front n e test i h l = ap (position test) e ∙ position_take test n s i h l
+
+module _ {T : Type 0} (eq : T → T → Bool) (o : IsEquivalence eq) (s r : List T) where
+  pub indices_of_put : (x : T) → r ≡ put_item eq s x → KeepsItemIndices eq s r
+  indices_of_put x e = record {
+    items = λ q i h. ap (position (eq q)) e ∙ position_put (eq q) eq o (o.congr q) s x i h;
+    queries = λ test respects i h. ap (position test) e ∙ position_put test eq o respects s x i h;
+  }
+
+  pub index_moved : (i j : ℕ) → slice_get r j ≡ slice_get s i → IsDistinct eq r → MovesIndex eq i j s r
+  index_moved i j at d = record {
+    at = at;
+    items = λ q h. position_moved (eq q) eq o (o.congr q) s r i j at d h;
+    queries = λ test respects h. position_moved test eq o respects s r i j at d h;
+  }
+
+-- The lemmas for the clauses `indices` of calls that append and remove at the end.
+pub ruleset at_end = (indices_stay, indices_appended, indices_of_front)

@@ -1,0 +1,125 @@
+-- What queries find after a change of a list, in the words of contracts.
+use Rattle.std.specs.{Borrow.Bor, Cmp.IsEquivalence, List.list_any, List.Sorted.IsPermutation}
+use Rattle.std.specs.Prelude.{IfSome, option_copied}
+use Rattle.std.proofs.Common.{◌≡◌, ◌∙◌, ◌++◌, ◌<◌, ◌≤◌, ◌||◌, ◌&&◌, ℕ, suc, Bool, true, false, IsTrue, List, [], ◌∷◌, None, Option, Some, ap, arith, cond, if◌then◌else◌, is_some, length, position, refl, remove, reverse, slice_get, subst, swap, sym}
+use Rattle.std.proofs.lemmas.List.Folds.{list_any-append}
+use Rattle.std.proofs.lemmas.List.Sorted.{IsPermutation-remove, IsPermutation-reverse, IsPermutation-swap, IsPermutation-swap_remove, length_permutation, list_any-IsPermutation}
+use Rattle.std.proofs.lemmas.Option.{get_or_from_slice_get, none-some, slice_get_within}
+use Rattle.std.specs.List.{swap_remove}
+use Rattle.std.specs.Option.{option_and_then, option_map_or}
+use Rattle.std.specs.Set.{is_member}
+use Rattle.vecmap_base.specs.Items.{IsReorderedItems, add, put_item, stored_first, swap_without, swap_without_first, without_first}
+use Rattle.vecmap_base.specs.Kept.{Kept}
+use Rattle.vecmap_base.proofs.IndexLemmas.{list_any_position}
+use Rattle.vecmap_base.proofs.ItemsLemmas.Recursion.{put_item_cons}
+use Rattle.vecmap_set.proofs.IndexLemmas.{stored_at}
+
+module _ {T : Type 0} (test : T → Bool) where
+  -- The element that a query finds matches it.
+  pub stored_matches : (s : List T) (found : Option T) → found ≡ stored_first test s → IfSome found (λ x. test x ≡ true)
+  stored_matches s found e = by (position test s) refl found e
+    where
+      at : (i : ℕ) (x y : T) → slice_get s i ≡ Some y → test y ≡ true → Some x ≡ slice_get s i → test x ≡ true
+      at i x y here hit f = let same : x ≡ y = (let g : Some x ≡ Some y = f ∙ here in cc) in ap test same ∙ hit
+      by : (place : Option ℕ) → position test s ≡ place → (r : Option T) → r ≡ option_and_then (slice_get s) place → IfSome r (λ x. test x ≡ true)
+      by place p None f = tt
+      by None p (Some x) f = absurd (none-some x (sym f))
+      by (Some i) p (Some x) f = let hit = stored_at test s (Some i) (sym p) in at i x hit.0 hit.1 hit.2 f
+
+  -- The same of a reference to it.
+  pub reference_matches : (s : List T) (found : Option (Bor T)) → option_copied found ≡ stored_first test s → IfSome found (λ x. IsTrue (test x.now))
+  reference_matches s None e = tt
+  reference_matches s (Some x) e = stored_matches s (Some x.now) e
+
+-- Whether a test passes for some element, after the removal of one.
+module _ {T : Type 0} (s r : List T) where
+  pub any_taken : (x : T) → IsPermutation s (x ∷ r) → (f : T → Bool) → list_any f s ≡ (f x || list_any f r)
+  any_taken x moved f = list_any-IsPermutation f s (x ∷ r) moved
+
+  pub any_removed : (i : ℕ) (x : T) → r ≡ remove s i → slice_get s i ≡ Some x → (f : T → Bool) → list_any f s ≡ (f x || list_any f r)
+  any_removed i x e at =
+      any_taken x (subst (λ l. IsPermutation s (x ∷ l)) (sym e) (IsPermutation-remove s i x (slice_get_within s i x at) (sym (get_or_from_slice_get s i x x at))))
+
+  pub any_swap_removed : (i : ℕ) (x : T) → r ≡ swap_without s i → slice_get s i ≡ Some x → (f : T → Bool) → list_any f s ≡ (f x || list_any f r)
+  any_swap_removed i x e at =
+      any_taken x (subst (λ l. IsPermutation s (x ∷ l)) (sym (e ∙ ap (λ found. option_map_or (λ y. swap_remove s i y) found s) at)) (IsPermutation-swap_remove s i x (slice_get_within s i x at) (sym (get_or_from_slice_get s i x x at))))
+
+-- Whether a test that does not tell equal elements apart passes for some element, after an addition.
+module _ {T : Type 0} (eq : T → T → Bool) (f : T → Bool) (same : (x y : T) → eq x y ≡ true → f y ≡ f x) where
+  or_true : (a : Bool) → (a || true) ≡ true
+  or_true true = refl
+  or_true false = refl
+
+  or_turned : (a b : Bool) → (a || (b || false)) ≡ (b || a)
+  or_turned true true = refl
+  or_turned true false = refl
+  or_turned false true = refl
+  or_turned false false = refl
+
+  -- An element that is present and passes.
+  any_there : (s : List T) (x : T) → is_member eq s x ≡ true → f x ≡ true → list_any f s ≡ true
+  any_there [] x h e = absurd (cc)
+  any_there (y ∷ ys) x h e = by (eq x y) refl h (λ there. any_there ys x there e)
+    where
+      by : (b : Bool) → eq x y ≡ b → (b || is_member eq ys x) ≡ true → (is_member eq ys x ≡ true → list_any f ys ≡ true) → (f y || list_any f ys) ≡ true
+      by true s g more = ap (λ b. b || list_any f ys) (same x y s ∙ e)
+      by false s g more = ap (λ b. f y || b) (more g) ∙ or_true (f y)
+
+  any_added : (s : List T) (x : T) → list_any f (add eq s x) ≡ (f x || list_any f s)
+  any_added s x = by (is_member eq s x) refl
+    where
+      there : (b : Bool) → f x ≡ b → is_member eq s x ≡ true → list_any f s ≡ (b || list_any f s)
+      there true e h = any_there s x h e
+      there false e h = refl
+      by : (b : Bool) → is_member eq s x ≡ b → list_any f (if b then s else s ++ x ∷ []) ≡ (f x || list_any f s)
+      by true h = there (f x) refl h
+      by false h = list_any-append f s (x ∷ []) ∙ or_turned (list_any f s) (f x)
+
+  any_put : (s : List T) (x : T) → list_any f (put_item eq s x) ≡ (f x || list_any f s)
+  any_put [] x = refl
+  any_put (y ∷ ys) x = ap (list_any f) (put_item_cons eq y ys x) ∙ by (eq x y) refl (any_put ys x)
+    where
+      twice : (a b : Bool) → (a || b) ≡ (a || (a || b))
+      twice true b = refl
+      twice false b = refl
+      exchanged : (a b c : Bool) → (a || (b || c)) ≡ (b || (a || c))
+      exchanged true true c = refl
+      exchanged true false c = refl
+      exchanged false true c = refl
+      exchanged false false c = refl
+      by : (b : Bool) → eq x y ≡ b → list_any f (put_item eq ys x) ≡ (f x || list_any f ys) → list_any f (cond b (x ∷ ys) (y ∷ put_item eq ys x)) ≡ (f x || (f y || list_any f ys))
+      by true e more = twice (f x) (list_any f ys) ∙ ap (λ b. f x || (b || list_any f ys)) (sym (same x y e))
+      by false e more = ap (λ b. f y || b) more ∙ exchanged (f y) (f x) (list_any f ys)
+
+module _ {T : Type 0} (eq : T → T → Bool) (s r : List T) (x : T) where
+  pub any_of_add : r ≡ add eq s x → (f : T → Bool) → ((x y : T) → eq x y ≡ true → f y ≡ f x) → list_any f r ≡ (f x || list_any f s)
+  any_of_add e f same = ap (list_any f) e ∙ any_added eq f same s x
+
+  pub any_of_put : r ≡ put_item eq s x → (f : T → Bool) → ((x y : T) → eq x y ≡ true → f y ≡ f x) → list_any f r ≡ (f x || list_any f s)
+  any_of_put e f same = ap (list_any f) e ∙ any_put eq f same s x
+
+-- A closure that decides keeps no more items than there are.
+pub length_kept : {F X : Type 0} (R : F → X → Bool → X → F → Type 0) (f g : F) (l m : List X) → Kept R f l m g → length m ≤ length l
+length_kept R f g [] m k = omega (arith, ap length k.0)
+length_kept R f g (x ∷ xs) m k = by k.0 k.6 (length_kept R k.2 g xs k.3 k.5)
+  where
+    by : (b : Bool) → m ≡ (if b then k.1 ∷ k.3 else k.3) → length k.3 ≤ length xs → length m ≤ suc (length xs)
+    by true e l = omega (arith, ap length e, l)
+    by false e l = omega (arith, ap length e, l)
+
+-- The clause `reordered`.
+module _ {T : Type 0} (s r : List T) where
+  pub reordered : IsPermutation s r → IsReorderedItems s r
+  reordered p = record {
+    matches = λ test. sym (list_any-IsPermutation test s r p);
+    len = length_permutation s r p;
+  }
+
+  pub reordered_by_reverse : r ≡ reverse s → IsReorderedItems s r
+  reordered_by_reverse e = reordered (subst (IsPermutation s) (sym e) (IsPermutation-reverse s))
+
+  pub reordered_by_swap : (i j : ℕ) → i < length s → j < length s → r ≡ swap s i j → IsReorderedItems s r
+  reordered_by_swap i j h k e = reordered (IsPermutation-swap s r i j h k e)
+
+-- The lemmas for the clause `reordered`.
+pub ruleset reorders = (reordered, reordered_by_reverse, reordered_by_swap)

@@ -1,0 +1,32 @@
+-- The idea: a new element is at the index after the others, as none before it is equal to it.
+use Rattle.std.proofs.Common.{◌≡◌, ◌∙◌, None, Some, ap, rules, sym}
+use Rattle.vecmap_base.specs.Items.{item_index}
+use Rattle.vecmap_base.proofs.IndexLemmas.{list_any_position, position_appended}
+use Rattle.vecmap_base.proofs.ItemsLemmas.Members.{members_of_add}
+use Rattle.vecmap_set.proofs.IndexLemmas.{stored_at}
+use Rattle.vecmap_set.proofs.QueryLemmas.{any_of_add}
+use Rattle.vecmap_set.proofs.VecSet.insert_full.Goals as goal
+
+pub returns-in-Some-clause-stored : goal.returns-in-Some-clause-stored
+returns-in-Some-clause-stored g c =
+    let eq = g.T.PartialEq.eq in
+    let s = c.args.self.now.elements in
+    let place : item_index eq s c.args.item ≡ Some c.in-Some.index = ap (λ v. item_index eq v.elements c.args.item) (sym c.self.view_is) ∙ ap (λ l. item_index eq l c.args.item) (sym c.deref.ensures.value) ∙ sym c.find_item.ensures.index ∙ c.in-Some.is in
+    stored_at (eq c.args.item) s (Some c.in-Some.index) (sym place)
+
+pub returns-in-Some-clause-updates : goal.returns-in-Some-clause-updates
+returns-in-Some-clause-updates g c = members_of_add g.T.PartialEq.eq g.met.T.Eq.laws c.args.self.now.elements _ c.args.item (search (rules, list_any_position))
+
+pub returns-in-Some-clause-any : goal.returns-in-Some-clause-any
+returns-in-Some-clause-any g c = any_of_add g.T.PartialEq.eq c.args.self.now.elements _ c.args.item (search (rules, list_any_position))
+
+pub returns-clause-found : goal.returns-clause-found
+returns-clause-found g c =
+    let eq = g.T.PartialEq.eq in
+    let s = c.args.self.now.elements in
+    let none : item_index eq s c.args.item ≡ None = ap (λ v. item_index eq v.elements c.args.item) (sym c.self.view_is) ∙ ap (λ l. item_index eq l c.args.item) (sym c.deref.ensures.value) ∙ sym c.find_item.ensures.index ∙ c.in_default.is in
+    ap (λ l. item_index eq l c.args.item) c.in_ok-insert_unique.ensures.elements
+    ∙ position_appended (eq c.args.item) s c.args.item none (g.met.T.Eq.laws.refl c.args.item) ∙ ap (λ n. Some n) (sym c.len-index.ensures.count)
+
+pub returns-clause-stored : goal.returns-clause-stored
+returns-clause-stored g c = stored_at (g.T.PartialEq.eq c.args.item) c.insert_unique.new.self.elements (Some c.len-index.result) (sym (returns-clause-found g c))
