@@ -1,9 +1,12 @@
 -- What is taken from an iterator until nothing is left is the list that it had. By induction on the taken items.
-use Rattle.std.proofs.Common.{◌≡◌, Bool, Contains, IsTrue, List, [], ◌∷◌, ◌++◌, Option, None, Some, ap, sym, subst, ◌∙◌, map}
-use Rattle.std.proofs.lemmas.{List.append-nil, List.map_push, List.Elements.AllZip-push}
-use Rattle.std.specs.{Borrow.Bor, Cmp.IsEquivalence, Iterator.Yields, Iterator.YieldsFirstRef, List.IsDistinct, Map.Iter.deref}
-use Rattle.vecmap_base.specs.Clones.{AreClones}
-use Rattle.vecmap_set.specs.Operators.{DrainsIntoClones}
+use Rattle.std.proofs.Common.{◌≡◌, ◌&&◌, ◌||◌, ◌⊎◌, Bool, Contains, IsTrue, List, [], ◌∷◌, ◌++◌, Option, None, Some, ap, false, inl, inr, not, refl, sym, subst, true, ◌∙◌, map}
+use Rattle.std.proofs.lemmas.{Bool.cases_Bool, List.append-nil, List.map_push, List.Elements.AllZip-push, List.Folds.list_any-append}
+use Rattle.std.specs.{Borrow.Bor, Cmp.IsEquivalence, Iterator.Yields, Iterator.YieldsFirstRef, List.IsDistinct, List.list_any, Map.IsKeyTest, Map.Iter.deref, Set.is_member}
+use Rattle.vecmap_base.specs.{Clones.AreClones, Items.only}
+use Rattle.vecmap_base.proofs.EqualityLemmas.Relations.{is_member_only}
+use Rattle.vecmap_base.proofs.ItemsLemmas.Changes.{is_member_clones}
+use Rattle.vecmap_base.proofs.PairsLemmas.Lookups.{compares_with}
+use Rattle.vecmap_set.specs.Operators.{CombinesMembers, DrainsIntoClones, symmetric_difference_of, union_of}
 use Rattle.vecmap_set.proofs.SetLemmas.{distinct_clones_of}
 
 module _ {S T : Type 0} (steps : S → Option (Bor T) → S → Type 0) (rest : S → List T) where
@@ -22,6 +25,60 @@ module _ {S T : Type 0} (steps : S → Option (Bor T) → S → Type 0) (rest : 
       let all = sym (taken gives _ d.1.1.0 d.0 d.1.1.1 ∙ ap (λ l. map deref d.0 ++ l) (gives _ None d.1.0 d.1.1.2).0 ∙ append-nil _) ∙ e ∙ (λ j. list (left j) (right j)) in
       let clones = subst (λ m. AreClones C m made) all d.2 in
       (clones, distinct_clones_of _ o C _ made same clones (subst (IsDistinct _) (λ j. list (left j) (right j)) (apart _ _ left_apart right_apart)))
+
+module _ {T : Type 0} (eq : T → T → Bool) (o : IsEquivalence eq) where
+  pub is_member_union : (a b : List T) (x : T) → is_member eq (union_of eq a b) x ≡ (is_member eq a x || is_member eq b x)
+  is_member_union a b x = list_any-append (eq x) a (only eq b a) ∙ ap (λ c. is_member eq a x || c) (is_member_only eq o b a x) ∙ by (is_member eq a x) (is_member eq b x)
+    where
+      by : (c d : Bool) → (c || (d && not c)) ≡ (c || d)
+      by true d = refl
+      by false true = refl
+      by false false = refl
+
+  -- An element is in the symmetric difference if it is in exactly one of the two lists.
+  pub is_member_symmetric_difference : (a b : List T) (x : T) → is_member eq (symmetric_difference_of eq a b) x ≡ ((is_member eq a x && not (is_member eq b x)) || (is_member eq b x && not (is_member eq a x)))
+  is_member_symmetric_difference a b x = list_any-append (eq x) (only eq a b) (only eq b a) ∙ (λ i. is_member_only eq o a b x i || is_member_only eq o b a x i)
+
+  -- A query matches an element of a list, or none.
+  match_or_none : (test : T → Bool) (l : List T) → ((x : T) × (test x ≡ true)) ⊎ (list_any test l ≡ false)
+  match_or_none test [] = inr refl
+  match_or_none test (x ∷ xs) =
+      elim (cases_Bool (test x)) [
+        | inl h ↦ inl (x, h)
+        | inr n ↦
+            elim (match_or_none test xs) [
+              | inl found ↦ inl found
+              | inr none ↦ inr ((λ i. n i || none i))
+            ]
+      ]
+
+  -- What is said of elements is said of queries: a query that matches something matches the equals of one element.
+  pub combined : (combine : Bool → Bool → Bool) → combine false false ≡ false → (a b r : List T) → ((q : T) → is_member eq r q ≡ combine (is_member eq a q) (is_member eq b q)) → CombinesMembers eq combine a b r
+  combined combine nothing a b r members = record { members = members; queries = queries }
+    where
+      queries : (test : T → Bool) → IsKeyTest eq test → list_any test r ≡ combine (list_any test a) (list_any test b)
+      queries test respects =
+          let by : (found : (x : T) × (test x ≡ true)) → list_any test r ≡ combine (list_any test a) (list_any test b) = λ found.
+          subst (λ f. list_any f r ≡ combine (list_any f a) (list_any f b)) (sym (compares_with eq o test respects found.0 found.1)) (members found.0) in
+          elim (match_or_none test r) [
+            | inl found ↦ by found
+            | inr none ↦
+                elim (match_or_none test a) [
+                  | inl found ↦ by found
+                  | inr left ↦
+                      elim (match_or_none test b) [
+                        | inl found ↦ by found
+                        | inr right ↦ none ∙ sym nothing ∙ sym (λ i. combine (left i) (right i))
+                      ]
+                ]
+          ]
+
+  -- What an operator creates, with the members of the set.
+  pub with_members : {C : T → T → Type 0} (combine : Bool → Bool → Bool) (list : List T → List T → List T) → combine false false ≡ false → ((a b : List T) (q : T) → is_member eq (list a b) q ≡ combine (is_member eq a q) (is_member eq b q))
+      → {made u v : List T} → ((x y : T) → Contains (list u v) x → C x y → IsTrue (eq x y))
+      → AreClones C (list u v) made × IsDistinct eq made → (AreClones C (list u v) made × IsDistinct eq made) × CombinesMembers eq combine u v made
+  with_members {C} combine list nothing members {made = made} {u = u} {v = v} same clones =
+      (clones, combined combine nothing u v made (λ q. is_member_clones eq o C (list u v) made same clones.0 q ∙ members u v q))
 
 -- The lemmas for the loop that makes clones.
 pub ruleset pushes = (map_push, AllZip-push)

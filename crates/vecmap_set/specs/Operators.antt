@@ -1,9 +1,11 @@
 -- What the operators on two sets create. `eq` is the `==` of the elements.
-use Rattle.std.specs.Prelude.{Bool, Contains, IfOk, IsTrue, List, ◌++◌, Option, Result, map}
+use Rattle.std.specs.Prelude.{◌≡◌, Bool, Contains, IfOk, IsTrue, List, ◌++◌, Option, Result, map}
 use Rattle.std.specs.Borrow.{Bor}
 use Rattle.std.specs.Iterator.{Drains}
-use Rattle.std.specs.List.{IsDistinct}
+use Rattle.std.specs.List.{IsDistinct, list_any}
+use Rattle.std.specs.Map.{IsKeyTest}
 use Rattle.std.specs.Map.Iter.{deref}
+use Rattle.std.specs.Set.{is_member}
 use Rattle.vecmap_base.specs.Clones.{AreClones}
 use Rattle.vecmap_base.specs.Items.{only}
 use Rattle.vecmap_set.specs.Contents.{Contents}
@@ -30,6 +32,12 @@ module _ {T : Type 0} (eq : T → T → Bool) (is_clone : T → T → Type 0) (l
   -- On `Ok`, the set has clones of that list, in its order, and no two of them are equal.
   abbrev pub MakesClones : {E : Type 0} → Contents T → Contents T → Result (Contents T) E → Type 0
   MakesClones a b r = IfOk r (λ set. AreClones is_clone (list eq a.elements b.elements) set.elements × IsDistinct eq set.elements)
+
+-- Example: of `||` and `[1] | [2]`: it has 1 and 2.
+-- The list `r` has an element, or a match of a query, exactly if `combine` says so of its presence in `a` and in `b`.
+pub record CombinesMembers {T : Type 0} (eq : T → T → Bool) (combine : Bool → Bool → Bool) (a b r : List T) : Type 0 where
+  pub members : (q : T) → is_member eq r q ≡ combine (is_member eq a q) (is_member eq b q)
+  pub queries : (test : T → Bool) → IsKeyTest eq test → list_any test r ≡ combine (list_any test a) (list_any test b)
 
 -- The list made has clones of all the items that an iterator in the state s returns.
 abbrev pub DrainsIntoClones : {S T : Type 0} → (S → Option (Bor T) → S → Type 0) → (T → T → Type 0) → S → List T → Type 0

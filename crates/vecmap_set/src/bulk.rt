@@ -1,5 +1,5 @@
 //! Creation of a set from many elements, and addition of many elements.
-ghost use Rattle.std.specs.Prelude.{◌≡◌, ◌<◌, ◌≤◌, ◌||◌, IfOk, IsOk, List, OnErr, OnOk, [], length, map};
+ghost use Rattle.std.specs.Prelude.{◌≡◌, ◌+◌, ◌<◌, ◌≤◌, ◌||◌, Contains, IfOk, IsOk, IsTrue, List, OnErr, OnOk, [], length, map};
 ghost use Rattle.std.specs.Borrow.{Bor};
 ghost use Rattle.std.specs.Iterator.{Drains, ExtendsWithItems, IsFiniteIterable};
 ghost use Rattle.std.specs.List.{IsDistinct};
@@ -9,6 +9,7 @@ ghost use Rattle.vecmap_base.specs.Bulk.{HasRoomForAll, YieldsAll};
 ghost use Rattle.vecmap_base.specs.Clones.{AreClones};
 ghost use Rattle.vecmap_base.specs.Items.{adds};
 ghost use Rattle.vecmap_set.specs.Contents.{HasRoom, with_elements};
+ghost use Rattle.vecmap_set.specs.Indices.{KeepsIndices};
 ghost use Rattle.vecmap_set.specs.SetBulk.{Adds, AddsCopies, Extends, RefusesAfter, RefusesCopiesAfter};
 
 use crate::VecSet;
@@ -49,11 +50,16 @@ impl<T: Eq> VecSet<T> {
         ensures elements { IfOk result (λ set. (it : I.IntoIter) × (items : List T)
             × I.into_iter_gives iter it × Drains I.IntoIter.next_gives it items
             × (set.elements ≡ adds T.eq [] items)) }
+        ensures distinct { IfOk result (λ set. IsDistinct T.eq set.elements) }
+
+        // What follows for lookups, lengths and indices.
         ensures members { (items : List T)
             → YieldsAll I.into_iter_gives I.IntoIter.next_gives iter items
             → IfOk result (λ set. (q : T) → is_member T.eq set.elements q
             ≡ is_member T.eq items q) }
-        ensures distinct { IfOk result (λ set. IsDistinct T.eq set.elements) }
+        ensures len { (items : List T)
+            → YieldsAll I.into_iter_gives I.IntoIter.next_gives iter items
+            → IfOk result (λ set. length set.elements ≤ length items) }
     {
         let mut set = VecSet::new(alloc);
         set.extend(iter)?;
@@ -85,6 +91,12 @@ impl<T: Eq> VecSet<T> {
         ensures elements { IfOk result (λ set. (clones : List T)
             × AreClones T.is_clone items.now clones × (set.elements ≡ adds T.eq [] clones)) }
         ensures distinct { IfOk result (λ set. IsDistinct T.eq set.elements) }
+
+        // What follows for lookups, lengths and indices.
+        ensures members { ((x y : T) → Contains items.now x → T.is_clone x y → IsTrue (T.eq x y))
+            → IfOk result (λ set. (q : T) → is_member T.eq set.elements q
+            ≡ is_member T.eq items.now q) }
+        ensures len { IfOk result (λ set. length set.elements ≤ length items.now) }
     {
         let mut set = VecSet::new(alloc);
         for item in items {
@@ -122,8 +134,6 @@ impl<T: Eq> VecSet<T> {
         T: Drop,
         ensures elements { OnOk result (self.new.elements
             ≡ adds T.eq self.old.elements other.old.elements) }
-        ensures members { OnOk result ((q : T) → is_member T.eq self.new.elements q
-            ≡ (is_member T.eq self.old.elements q || is_member T.eq other.old.elements q)) }
         ensures distinct { IsDistinct T.eq self.new.elements }
         ensures emptied { OnOk result (other.new ≡ with_elements other.old []) }
         ensures other_distinct { IsDistinct T.eq other.new.elements }
@@ -134,6 +144,14 @@ impl<T: Eq> VecSet<T> {
         ensures not_empty { OnErr result (0 < length other.old.elements) }
         ensures err { OnErr result (self.new ≡ self.old) }
         ensures other_err { OnErr result (other.new ≡ other.old) }
+
+        // What follows for lookups, lengths and indices.
+        ensures members { OnOk result ((q : T) → is_member T.eq self.new.elements q
+            ≡ (is_member T.eq self.old.elements q || is_member T.eq other.old.elements q)) }
+        ensures len { OnOk result ((length self.old.elements ≤ length self.new.elements)
+            × (length self.new.elements
+            ≤ length self.old.elements + length other.old.elements)) }
+        ensures indices { OnOk result (KeepsIndices self.old.elements self.new.elements) }
     {
         self.reserve(other.len())?;
         for item in other.items.drain(..) {
@@ -173,10 +191,6 @@ impl<T: Eq> VecSet<T> {
         T: Drop,
         requires ends { IsFiniteIterable I.into_iter_gives I.IntoIter.can_next I.IntoIter.remaining
             iter }
-        ensures members { (items : List T)
-            → YieldsAll I.into_iter_gives I.IntoIter.next_gives iter items
-            → OnOk result ((q : T) → is_member T.eq self.new.elements q
-            ≡ (is_member T.eq self.old.elements q || is_member T.eq items q)) }
         ensures ran { ExtendsWithItems I.into_iter_gives I.IntoIter.next_gives
             (Adds T.eq) iter self.old self.new result }
         ensures distinct { IsDistinct T.eq self.new.elements }
@@ -184,6 +198,17 @@ impl<T: Eq> VecSet<T> {
             (HasRoom self.old) → IsOk result }
         ensures extended { Extends I.into_iter_gives I.IntoIter.next_gives I.IntoIter.remaining
             (RefusesAfter T.eq) iter self.old result self.new }
+
+        // What follows for lookups, lengths and indices.
+        ensures members { (items : List T)
+            → YieldsAll I.into_iter_gives I.IntoIter.next_gives iter items
+            → OnOk result ((q : T) → is_member T.eq self.new.elements q
+            ≡ (is_member T.eq self.old.elements q || is_member T.eq items q)) }
+        ensures len { (items : List T)
+            → YieldsAll I.into_iter_gives I.IntoIter.next_gives iter items
+            → OnOk result ((length self.old.elements ≤ length self.new.elements)
+            × (length self.new.elements ≤ length self.old.elements + length items)) }
+        ensures indices { OnOk result (KeepsIndices self.old.elements self.new.elements) }
     {
         // A proof knows the invariant only once a field is used, and the loop needs it at its start.
         let _ = &self.items;
@@ -221,11 +246,6 @@ impl<T: Eq> VecSet<T> {
         T: Copy + 'a,
         requires ends { IsFiniteIterable I.into_iter_gives I.IntoIter.can_next I.IntoIter.remaining
             iter }
-        ensures members { (items : List T) → ((it : I.IntoIter) (yielded : List (Bor T))
-            → I.into_iter_gives iter it → Drains I.IntoIter.next_gives it yielded
-            → map deref yielded ≡ items) → OnOk result ((q : T)
-            → is_member T.eq self.new.elements q
-            ≡ (is_member T.eq self.old.elements q || is_member T.eq items q)) }
         ensures ran { ExtendsWithItems I.into_iter_gives I.IntoIter.next_gives
             (AddsCopies T.eq deref) iter self.old self.new result }
         ensures distinct { IsDistinct T.eq self.new.elements }
@@ -233,6 +253,14 @@ impl<T: Eq> VecSet<T> {
             (HasRoom self.old) → IsOk result }
         ensures extended { Extends I.into_iter_gives I.IntoIter.next_gives I.IntoIter.remaining
             (RefusesCopiesAfter T.eq deref) iter self.old result self.new }
+
+        // What follows for lookups, lengths and indices.
+        ensures members { (items : List T) → ((it : I.IntoIter) (yielded : List (Bor T))
+            → I.into_iter_gives iter it → Drains I.IntoIter.next_gives it yielded
+            → map deref yielded ≡ items) → OnOk result ((q : T)
+            → is_member T.eq self.new.elements q
+            ≡ (is_member T.eq self.old.elements q || is_member T.eq items q)) }
+        ensures indices { OnOk result (KeepsIndices self.old.elements self.new.elements) }
     {
         // As in `extend`.
         let _ = &self.items;
@@ -254,8 +282,12 @@ impl<T: Eq> VecSet<T> {
 impl<T: Eq + Drop> FromIterator<T> for VecSet<T> {
     type Alloc = Global;
 
-    ghost from_iter_gives = { λ items set. (set.elements ≡ adds T.eq [] items) × IsDistinct T.eq set.elements };
+    ghost from_iter_gives = { λ items set. (set.elements ≡ adds T.eq [] items)
+        × IsDistinct T.eq set.elements
+        × ((q : T) → is_member T.eq set.elements q ≡ is_member T.eq items q)
+        × (length set.elements ≤ length items) };
 
+    #[tactic(auto, using(crate::proofs::MemberLemmas::members_of_all, crate::proofs::MemberLemmas::length_of_all))]
     fn from_iter<I: IntoIterator<Item = T>>(
         alloc: Global,
         iter: I,

@@ -1,5 +1,5 @@
 //! Clones of a set, by a call and by the trait `Clone`, for generic code, derives and sets in maps.
-ghost use Rattle.std.specs.Prelude.{◌≡◌, ◌↔◌, Contains, IfOk, IsTrue};
+ghost use Rattle.std.specs.Prelude.{◌≡◌, ◌↔◌, Contains, IfOk, IsTrue, length};
 ghost use Rattle.std.specs.List.{IsDistinct};
 ghost use Rattle.std.specs.Set.{is_member};
 ghost use Rattle.vecmap_base.specs.Clones.{AreClones};
@@ -39,8 +39,11 @@ impl<T: Eq> VecSet<T> {
         ensures elements { IfOk result
             (λ set. AreClones T.is_clone self.now.elements set.elements) }
         ensures distinct { IfOk result (λ set. IsDistinct T.eq set.elements) }
+
+        // What follows for lookups, lengths and indices.
         ensures members { IfOk result (λ set. (q : T) → is_member T.eq set.elements q
             ≡ is_member T.eq self.now.elements q) }
+        ensures len { IfOk result (λ set. length set.elements ≡ length self.now.elements) }
     {
         Ok(VecSet {
             items: self.items.clone()?,

@@ -1,5 +1,5 @@
 //! Conversions of a vector into a set, which keep the vector, and of an array; clones of the elements in a new vector.
-ghost use Rattle.std.specs.Prelude.{◌≡◌, ◌≤◌, IfOk, [], vec_capacity};
+ghost use Rattle.std.specs.Prelude.{◌≡◌, ◌≤◌, IfOk, [], length, vec_capacity};
 ghost use Rattle.std.specs.List.{IsDistinct};
 ghost use Rattle.std.specs.Set.{is_member};
 ghost use Rattle.vecmap_base.specs.Clones.{AreClones};
@@ -27,7 +27,8 @@ use vecmap_base::{Steps, dedup_keep_first};
 impl<T: Eq + Drop> From<Vec<T>> for VecSet<T> {
     ghost from_gives = { λ items set. (set.elements ≡ adds T.eq [] items.items)
         × IsDistinct T.eq set.elements × (set.capacity ≡ vec_capacity items)
-        × ((q : T) → is_member T.eq set.elements q ≡ is_member T.eq items.items q) };
+        × ((q : T) → is_member T.eq set.elements q ≡ is_member T.eq items.items q)
+        × (length set.elements ≤ length items.items) };
 
     fn from(items: Vec<T>) -> VecSet<T> {
         let (set, _count) = VecSet::from_vec_counted(items);
@@ -56,11 +57,14 @@ impl<T: Eq> VecSet<T> {
     where
         T: Drop,
         ensures elements { result.0.elements ≡ adds T.eq [] items.items }
-        ensures members { (q : T) → is_member T.eq result.0.elements q
-            ≡ is_member T.eq items.items q }
         ensures distinct { IsDistinct T.eq result.0.elements }
         ensures capacity { result.0.capacity ≡ vec_capacity items }
         ensures counted { result.1 ≡ comparisons T.eq items.items }
+
+        // What follows for lookups, lengths and indices.
+        ensures members { (q : T) → is_member T.eq result.0.elements q
+            ≡ is_member T.eq items.items q }
+        ensures len { length result.0.elements ≤ length items.items }
     {
         let mut steps = Steps::new();
         dedup_keep_first(&mut items, &mut steps);
@@ -89,10 +93,13 @@ impl<T: Eq> VecSet<T> {
     where
         T: Drop,
         ensures elements { IfOk result (λ set. set.elements ≡ adds T.eq [] items) }
-        ensures members { IfOk result (λ set. (q : T) → is_member T.eq set.elements q
-            ≡ is_member T.eq items q) }
         ensures distinct { IfOk result (λ set. IsDistinct T.eq set.elements) }
         ensures at_least { IfOk result (λ set. N ≤ set.capacity) }
+
+        // What follows for lookups, lengths and indices.
+        ensures members { IfOk result (λ set. (q : T) → is_member T.eq set.elements q
+            ≡ is_member T.eq items q) }
+        ensures len { IfOk result (λ set. length set.elements ≤ N) }
     {
         Ok(VecSet::from(Vec::from_array(alloc, items)?))
     }

@@ -1,8 +1,8 @@
 //! The operators `&`, `|`, `^` and `-` on sets.
-ghost use Rattle.std.specs.Prelude.{◌≤◌, IfOk};
+ghost use Rattle.std.specs.Prelude.{◌≤◌, ◌&&◌, ◌||◌, IfOk, not};
 ghost use Rattle.std.specs.Iterator.{IsFinite};
 ghost use Rattle.vecmap_base.specs.Items.{both, only};
-ghost use Rattle.vecmap_set.specs.Operators.{ClonesStaySame, DrainsIntoClones, MakesClones, symmetric_difference_of, union_of};
+ghost use Rattle.vecmap_set.specs.Operators.{ClonesStaySame, CombinesMembers, DrainsIntoClones, MakesClones, symmetric_difference_of, union_of};
 
 use crate::{Difference, Intersection, SymmetricDifference, Union, VecSet};
 use std::alloc::{AllocError, Global};
@@ -40,7 +40,9 @@ impl<'a, 'b, T: Eq + Clone> BitAnd<&'b VecSet<T>> for &'a VecSet<T> {
 
     ghost can_bitand = { λ a b. ClonesStaySame T.eq T.is_clone both a.now b.now };
 
-    ghost bitand_gives = { λ a b r. MakesClones T.eq T.is_clone both a.now b.now r };
+    ghost bitand_gives = { λ a b r. MakesClones T.eq T.is_clone both a.now b.now r
+        × IfOk r (λ set. CombinesMembers T.eq (λ x y. x && y) a.now.elements
+        b.now.elements set.elements) };
 
     fn bitand(self, other: &'b VecSet<T>) -> Result<VecSet<T>, AllocError> {
         let shared = Intersection::over(self.as_slice(), other.as_slice());
@@ -79,7 +81,9 @@ impl<'a, 'b, T: Eq + Clone> BitOr<&'b VecSet<T>> for &'a VecSet<T> {
 
     ghost can_bitor = { λ a b. ClonesStaySame T.eq T.is_clone union_of a.now b.now };
 
-    ghost bitor_gives = { λ a b r. MakesClones T.eq T.is_clone union_of a.now b.now r };
+    ghost bitor_gives = { λ a b r. MakesClones T.eq T.is_clone union_of a.now b.now r
+        × IfOk r (λ set. CombinesMembers T.eq (λ x y. x || y) a.now.elements
+        b.now.elements set.elements) };
 
     fn bitor(self, other: &'b VecSet<T>) -> Result<VecSet<T>, AllocError> {
         let all = Union::over(self.as_slice(), other.as_slice());
@@ -120,7 +124,9 @@ impl<'a, 'b, T: Eq + Clone> BitXor<&'b VecSet<T>> for &'a VecSet<T> {
         symmetric_difference_of a.now b.now };
 
     ghost bitxor_gives = { λ a b r. MakesClones T.eq T.is_clone
-        symmetric_difference_of a.now b.now r };
+        symmetric_difference_of a.now b.now r
+        × IfOk r (λ set. CombinesMembers T.eq (λ x y. (x && not y) || (y && not x))
+        a.now.elements b.now.elements set.elements) };
 
     fn bitxor(self, other: &'b VecSet<T>) -> Result<VecSet<T>, AllocError> {
         let apart = SymmetricDifference::over(self.as_slice(), other.as_slice());
@@ -157,7 +163,9 @@ impl<'a, 'b, T: Eq + Clone> Sub<&'b VecSet<T>> for &'a VecSet<T> {
 
     ghost can_sub = { λ a b. ClonesStaySame T.eq T.is_clone only a.now b.now };
 
-    ghost sub_gives = { λ a b r. MakesClones T.eq T.is_clone only a.now b.now r };
+    ghost sub_gives = { λ a b r. MakesClones T.eq T.is_clone only a.now b.now r
+        × IfOk r (λ set. CombinesMembers T.eq (λ x y. x && not y) a.now.elements
+        b.now.elements set.elements) };
 
     fn sub(self, other: &'b VecSet<T>) -> Result<VecSet<T>, AllocError> {
         let left = Difference::over(self.as_slice(), other.as_slice());

@@ -2,7 +2,7 @@ use Rattle.std.proofs.Common.{◌≡◌, arith, map, rules}
 use Rattle.std.proofs.lemmas.{Grind.common_steps, Result.err_from_is_err_and}
 use Rattle.std.specs.Map.Iter.{deref}
 use Rattle.vecmap_base.specs.Items.{adds}
-use Rattle.vecmap_set.proofs.MemberLemmas.{members_of_adds}
+use Rattle.vecmap_set.proofs.MemberLemmas.{indices_of_adds, members_of_adds}
 use Rattle.vecmap_set.proofs.VecSet.extend_copied.Goals as goal
 
 pub returns-in_err-insert-clause-extended : goal.returns-in_err-insert-clause-extended
@@ -19,3 +19,6 @@ returns-clause-members g c items all =
     let same : map deref c.loop-item.yielded ≡ items = all c.into_iter-item-iterator.result c.loop-item.yielded (search rules) (search rules) in
     let elements : c.loop-item.self.elements ≡ adds g.T.PartialEq.eq c.args.self.now.elements items = grind (arith, common_steps, same) in
     members_of_adds g.T.PartialEq.eq g.met.T.Eq.laws c.args.self.now.elements items _ elements
+
+pub returns-clause-indices : goal.returns-clause-indices
+returns-clause-indices g c = indices_of_adds g.T.PartialEq.eq c.args.self.now.elements (map deref c.loop-item.yielded) c.loop-item.self.elements c.loop-item.invariant.elements
