@@ -13,8 +13,8 @@ pub trait Listed: Debug + Drop {
     /// Writes it as it is read.
     fn write(&self, text: &mut String);
 
-    /// Writes what a number is in a list: a pair of the number with itself, or an element.
-    fn write_number(text: &mut String, number: u32);
+    /// Writes what a word without a value means: a pair of the item with its number, or an element.
+    fn write_alone(text: &mut String, item: &Item);
 
     /// Returns the key and the value. An element is both.
     fn parts(&self) -> (&Item, &Item);
@@ -33,8 +33,8 @@ impl Listed for Item {
         let _ = write!(text, "{self:?}");
     }
 
-    fn write_number(text: &mut String, number: u32) {
-        let _ = write!(text, "{number} ");
+    fn write_alone(text: &mut String, item: &Item) {
+        let _ = write!(text, "{item:?} ");
     }
 
     fn parts(&self) -> (&Item, &Item) {
@@ -56,8 +56,8 @@ impl Listed for Pair {
         let _ = write!(text, "{:?}:{:?}", self.0, self.1);
     }
 
-    fn write_number(text: &mut String, number: u32) {
-        let _ = write!(text, "{number}:{number} ");
+    fn write_alone(text: &mut String, item: &Item) {
+        let _ = write!(text, "{item:?}:{} ", item.number);
     }
 
     fn parts(&self) -> (&Item, &Item) {
@@ -82,16 +82,18 @@ pub fn write_list<T: Listed>(text: &mut String, list: &[T]) {
     }
 }
 
-/// Writes a list in place of a text: each word, and for a range as `1..24` or `24..1` each number. `empty` is no word.
+/// Writes a list in place of a text: each word, and for a range as `1..24` or `24..1x` each number, with its mark.
+/// `empty` is no word.
 pub fn expand<T: Listed>(text: &mut String, words: &str) {
     text.clear();
     for word in words.split_whitespace() {
-        let number: Option<u32> = word.parse().ok();
-        match range_of(word).or(number.map(|number| (number, number))) {
-            Some((first, last)) => {
+        match range_of(word) {
+            Some((first, mut item)) => {
+                let last = item.number;
                 for step in 0..=first.abs_diff(last) {
                     let (up, down) = (first.saturating_add(step), first.saturating_sub(step));
-                    T::write_number(text, if first < last { up } else { down });
+                    item.number = if first < last { up } else { down };
+                    T::write_alone(text, &item);
                 }
             }
             None if word == "empty" => {}
@@ -102,9 +104,10 @@ pub fn expand<T: Listed>(text: &mut String, words: &str) {
     }
 }
 
-fn range_of(word: &str) -> Option<(u32, u32)> {
-    let (first, last) = word.split_once("..")?;
-    Some((first.parse().ok()?, last.parse().ok()?))
+// Returns the first number and the last item of a range. A number alone is a range of one.
+fn range_of(word: &str) -> Option<(u32, Item)> {
+    let (first, last) = word.split_once("..").unwrap_or((word, word));
+    Some((first.parse().ok()?, Item::query(last)?))
 }
 
 /// Returns the number of items in two lists that the log has recorded.
