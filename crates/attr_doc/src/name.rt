@@ -4,6 +4,9 @@ ghost use Rattle.std.specs.Cmp.{partial_equiv_from_equiv};
 ghost use Rattle.std.specs.Prelude.{◌≡◌, string_bytes};
 ghost use Rattle.std.specs.Str.{str_eq_ignore_ascii_case};
 
+#[cfg(test)]
+mod tests;
+
 use crate::ignoring_case::are_equal;
 use std::fmt;
 use std::marker::Model;

@@ -1,36 +1,10 @@
 //! Equality of maps whose values are maps, or may differ from themselves.
 use crate::checks::{assert_is, granted};
+use crate::counted::Counted;
 use std::alloc::{AllocError, Global};
 use std::cell::Cell;
 use std::process::Abort;
 use vecmap::VecMap;
-
-// A number that counts its comparisons.
-#[derive(Drop)]
-struct Counted<'a> {
-    number: u32,
-    comparisons: &'a Cell<u32>,
-}
-
-impl PartialEq for Counted<'_> {
-    ghost use Rattle.std.specs.Prelude.{nat_eq};
-    ghost use Rattle.std.specs.Cmp.{nat_eq_equiv, partial_equiv_from_equiv};
-
-    ghost eq = { λ a b. nat_eq a.number b.number };
-
-    ghost laws = { partial_equiv_from_equiv (record { refl = λ a. nat_eq_equiv.refl a.number; symm = λ a b. nat_eq_equiv.symm a.number b.number; congr = λ a b c. nat_eq_equiv.congr a.number b.number c.number }) };
-
-    fn eq(&self, other: &Counted<'_>) -> bool {
-        self.comparisons.set(self.comparisons.get().wrapping_add(1));
-        self.number == other.number
-    }
-}
-
-impl Eq for Counted<'_> {
-    ghost use Rattle.std.specs.Cmp.{nat_eq_equiv};
-
-    ghost laws = { record { refl = λ a. nat_eq_equiv.refl a.number; symm = λ a b. nat_eq_equiv.symm a.number b.number; congr = λ a b c. nat_eq_equiv.congr a.number b.number c.number } };
-}
 
 // Creates a map of one pair, whose value is a map of these two numbers.
 fn nested<'a>(

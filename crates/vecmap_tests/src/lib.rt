@@ -9,6 +9,8 @@ mod checks;
 mod clones;
 pub mod conditions;
 #[cfg(test)]
+mod counted;
+#[cfg(test)]
 mod equality;
 #[cfg(test)]
 mod equivalent;

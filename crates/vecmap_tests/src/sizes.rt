@@ -2,11 +2,12 @@
 //! larger than a word: relations of small elements, moves of small pairs, and equality of more than 16,384 pairs, whose
 //! values may differ from themselves.
 use crate::checks::{assert_gives, assert_is, granted};
+use crate::counted::Counted;
 use std::alloc::{AllocError, Global};
 use std::cell::Cell;
 use std::default::{Emptied, MadeWith};
 use vecmap::{VecMap, VecSet};
-use vecmap_base::pairs_equal;
+use vecmap_base::{pairs_equal, partition_point, search_by_index};
 
 /// Returns the numbers from a first to before a last, and one more.
 fn numbers(alloc: Global, first: u32, end: u32, last: u32) -> Result<Vec<u32>, AllocError> {
@@ -173,6 +174,75 @@ fn calls_of_searches(alloc: Global, count: u64) -> Result<[u32; 4], AllocError> 
 #[test]
 fn searches_of_small_keys_call_their_closures_by_quarters(rt: HostRuntime) {
     assert_gives(&rt, calls_of_searches(rt.alloc(), 100), [11; 4]);
+}
+
+/// Returns how often two searches of these numbers call their closures, if they are searched like keys of this type.
+fn calls_by_size_of<C>(numbers: &[u32]) -> [u32; 2] {
+    let calls = Cell::new(0u32);
+    let _found = search_by_index::<C, _, _>(numbers, |index| {
+        calls.set(calls.get().wrapping_add(1));
+        numbers.get(index).cmp(&Some(&50))
+    });
+    let first = calls.replace(0);
+    let _at = partition_point::<C, _, _>(numbers, |number| {
+        calls.set(calls.get().wrapping_add(1));
+        *number < 50
+    });
+    [first, calls.get()]
+}
+
+// A `&str` has 16 bytes.
+// body: items of 9 to 16 bytes are searched like small ones
+#[test]
+fn only_keys_of_at_most_eight_bytes_are_searched_by_quarters(rt: HostRuntime) {
+    let numbers = granted(&rt, numbers(rt.alloc(), 0, 99, 99));
+    assert_is(&rt, calls_by_size_of::<()>(&numbers), [11; 2]);
+    assert_is(&rt, calls_by_size_of::<char>(&numbers), [11; 2]);
+    assert_is(&rt, calls_by_size_of::<u64>(&numbers), [11; 2]);
+    assert_is(&rt, calls_by_size_of::<[u8; 8]>(&numbers), [11; 2]);
+    assert_is(&rt, calls_by_size_of::<&u128>(&numbers), [11; 2]);
+    assert_is(&rt, calls_by_size_of::<[u8; 9]>(&numbers), [8; 2]);
+    assert_is(&rt, calls_by_size_of::<(u64, u8)>(&numbers), [8; 2]);
+    assert_is(&rt, calls_by_size_of::<[u64; 2]>(&numbers), [8; 2]);
+    assert_is(&rt, calls_by_size_of::<&str>(&numbers), [8; 2]);
+    assert_is(&rt, calls_by_size_of::<String>(&numbers), [8; 2]);
+}
+
+/// Looks a number up in a set of 40 numbers by three calls. Returns whether each found it, and after how many
+/// comparisons.
+fn lookups_of(alloc: Global, number: u32) -> Result<[(bool, u32); 3], AllocError> {
+    let comparisons = &Cell::new(0);
+    let mut set = VecSet::new(alloc);
+    for number in 0..40 {
+        set.insert(Counted {
+            number,
+            comparisons,
+        })?;
+    }
+    let query = Counted {
+        number,
+        comparisons,
+    };
+    comparisons.set(0);
+    let is_present = set.contains(&query);
+    let first = comparisons.replace(0);
+    let index = set.get_index_of(&query);
+    let second = comparisons.replace(0);
+    let is_new = set.insert(query)?;
+    Ok([
+        (is_present, first),
+        (index.is_some(), second),
+        (!is_new, comparisons.get()),
+    ])
+}
+
+// No comparison comes after the match, as up to seven do among small elements.
+#[test]
+fn elements_of_sixteen_bytes_are_compared_one_by_one(rt: HostRuntime) {
+    assert_gives(&rt, lookups_of(rt.alloc(), 0), [(true, 1); 3]);
+    assert_gives(&rt, lookups_of(rt.alloc(), 5), [(true, 6); 3]);
+    assert_gives(&rt, lookups_of(rt.alloc(), 33), [(true, 34); 3]);
+    assert_gives(&rt, lookups_of(rt.alloc(), 40), [(false, 40); 3]);
 }
 
 /// Creates pairs of the first numbers, in ascending or descending order, with one value.
