@@ -16,9 +16,9 @@
 //! - lookups: `contains_key`, `first`, `last`, `get`, `get_index`, `get_full`, `get_key_value`, `get_index_of`,
 //!   `has_distinct_keys`, and lookups by a text, whose names end in `_str` (`lookup.rt`)
 //! - lookups that return a mutable reference to a value: `get_mut`, `first_mut`, `last_mut`, `get_full_mut`,
-//!   `get_index_mut`, `get_value_at_mut`, `first_value_mut`, `last_value_mut` (`lending.rt`); `map[index]`,
-//!   `map[&key]`, `map["text"]` (`indexing.rt`)
-//! - calls that write each value: `update_values`, `try_update_values` (`updating.rt`)
+//!   `get_index_mut`, `pair_mut`, `get_value_at_mut`, `first_value_mut`, `last_value_mut` (`lending.rt`);
+//!   `map[index]`, `map[&key]`, `map["text"]` (`indexing.rt`)
+//! - calls that write each value: `set_values`, `update_values`, `try_update_values` (`updating.rt`)
 //! - insertion: `insert`, `insert_full`, `insert_key`, `insert_at`, `insert_unique`, `index_or_try_insert_with`
 //!   (`insertion.rt`)
 //! - many pairs at once: `from_iter`, `from_slice`, `append`, `extend`, `extend_refs`, `extend_pairs`, `collect`

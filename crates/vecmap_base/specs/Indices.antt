@@ -39,3 +39,11 @@ pub record AddsKey {K V : Type 0} (eq : K → K → Bool) (l : List (K × V)) (k
   pub keys : keys_of m ≡ (if is_some (lookup eq l k) then keys_of l else keys_of l ++ k ∷ [])
   pub kept : IsSome (lookup eq l k) → keys_of m ≡ keys_of l
   pub appended : lookup eq l k ≡ None → m ≡ l ++ (k, v) ∷ []
+
+-- Example: from `[(1x,a)]` to `[(1y,b)]` for the pair `(1y,b)`.
+-- An insertion that replaces an equal key leaves each key at its index, has `(k, v)` at that of `k`, and appends a new pair.
+pub record PutsKey {K V : Type 0} (eq : K → K → Bool) (l : List (K × V)) (k : K) (v : V) (m : List (K × V)) : Type 0 where
+  pub index : index_of eq m k ≡ Some (index_or_length eq l k)
+  pub indices : (q : K) (i : ℕ) → index_of eq l q ≡ Some i → index_of eq m q ≡ Some i
+  pub pair : slice_get m (index_or_length eq l k) ≡ Some (k, v)
+  pub appended : lookup eq l k ≡ None → m ≡ l ++ (k, v) ∷ []

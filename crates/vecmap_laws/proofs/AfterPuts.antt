@@ -1,4 +1,5 @@
 -- What is found, and at which index, after one insertion and after many.
+pub use Rattle.vecmap_base.proofs.PairsLemmas.AtIndices.{index_of_put_key}
 use Rattle.std.specs.{Cmp.IsEquivalence, List.list_any, Map.keys_of, Map.values_of, Option.option_and_then, Option.option_map, Option.option_map_or, Option.option_or}
 use Rattle.std.proofs.Common.{◌≡◌, ◌<◌, ◌+◌, ℕ, zero, Bool, position, true, false, List, [], ◌∷◌, ◌++◌, Option, None, Some, if◌then◌else◌, is_some, length, slice_get, suc, unwrap_or, refl, sym, ap, ◌∙◌, arith, length-append, inl, inr}
 use Rattle.std.proofs.lemmas.{Bool.cases_Bool, List.length-map, Map.Made.is_some-lookup, Option.slice_get-map}
@@ -129,15 +130,6 @@ module _ {K V : Type 0} (eq : K → K → Bool) where
           | inl e ↦ (λ t. lookup eq (if e t then (k, v) ∷ ps else p ∷ put_key eq ps k v) q) ∙ lookup_cons eq (k, v) ps q ∙ ap (λ b. if b then Some v else lookup eq ps q) (o.symm q k ∙ o.congr k p.0 q e ∙ o.symm p.0 q) ∙ sym (lookup_cons eq (p.0, v) ps q) ∙ sym (λ t. lookup eq (if e t then (p.0, v) ∷ ps else p ∷ put eq ps k v) q)
           | inr e ↦ (λ t. lookup eq (if e t then (k, v) ∷ ps else p ∷ put_key eq ps k v) q) ∙ lookup_cons eq p (put_key eq ps k v) q ∙ ap (λ found. if eq q p.0 then Some p.1 else found) (lookup_put_key ps k v q) ∙ sym (lookup_cons eq p (put eq ps k v) q) ∙ sym (λ t. lookup eq (if e t then (p.0, v) ∷ ps else p ∷ put eq ps k v) q)
         ]
-
-    -- Each key has the same index after either insertion.
-    pub index_of_put_key : (l : List (K × V)) (k : K) (v : V) (q : K) → index_of eq (put_key eq l k v) q ≡ index_of eq (put eq l k v) q
-    index_of_put_key [] k v q = refl
-    index_of_put_key (p ∷ ps) k v q = by (eq k p.0) refl (index_of_put_key ps k v q)
-      where
-        by : (b : Bool) → eq k p.0 ≡ b → index_of eq (put_key eq ps k v) q ≡ index_of eq (put eq ps k v) q → index_of eq (if b then (k, v) ∷ ps else p ∷ put_key eq ps k v) q ≡ index_of eq (if b then (p.0, v) ∷ ps else p ∷ put eq ps k v) q
-        by true e rest = ap (λ b. if b then Some 0 else option_map suc (index_of eq ps q)) (o.symm q k ∙ o.congr k p.0 q e ∙ o.symm p.0 q)
-        by false e rest = ap (λ found. if eq q p.0 then Some 0 else option_map suc found) rest
 
     -- The lookup of any key after a removal from a list of distinct keys.
     pub lookup_without_any : (l : List (K × V)) (k q : K) → HasDistinctKeys eq l → lookup eq (without_key eq l k) q ≡ (if eq k q then None else lookup eq l q)

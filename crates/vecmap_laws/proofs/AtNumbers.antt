@@ -1,7 +1,7 @@
 -- The lemmas of the rulesets of lookups and of members, at numbers: `grind` sees the `==` of numbers as it computes, so it
 -- matches a lemma that is stated of it, and not one of any `==`.
 use Rattle.std.specs.{Cmp.nat_eq_equiv, List.IsDistinct, List.Sorted.SwapsInRange, List.Sorted.apply_swaps, Option.option_or, Set.is_member}
-use Rattle.std.proofs.Common.{◌≡◌, ◌<◌, ◌&&◌, ◌||◌, not, ℕ, false, List, None, Some, if◌then◌else◌, is_some, take, drop, length, nat_eq, reverse, swap}
+use Rattle.std.proofs.Common.{◌≡◌, ◌<◌, ◌&&◌, ◌||◌, not, ℕ, false, List, None, Some, IsTrue, eqb-true, if◌then◌else◌, is_some, take, drop, length, nat_eq, reverse, swap}
 use Rattle.std.specs.Prelude.{nat_lt}
 use Rattle.vecmap_base.specs.Items.{add, adds, swap_without_item, without_item}
 use Rattle.vecmap_base.specs.Pairs.{HasDistinctKeys, index_of, index_or_length, lookup, put, put_at, put_key, puts, swap_without_key, without_key}
@@ -11,6 +11,8 @@ use Rattle.vecmap_laws.proofs.DistinctParts.{distinct_keys_drop}
 use Rattle.vecmap_laws.proofs.Equations.{put_put}
 use Rattle.vecmap_laws.proofs.Finds.{distinct_keys_reverse, distinct_swapped, distinct_without_key, is_member_swap_without, is_member_without, lookup_drop, lookup_put_at_any, lookup_put_key_any, lookup_reverse, lookup_swap, lookup_swap_without_key, lookup_swapped, lookup_take, present}
 use Rattle.vecmap_laws.proofs.ItemMembers.{is_member_add, is_member_adds}
+use Rattle.vecmap_laws.proofs.MapEquality.{lookups_of_equal}
+use Rattle.vecmap_base.specs.Equality.{has_same_counts}
 use Rattle.vecmap_laws.proofs.Lookups.{lookup_without_key, lookup_without_key_other}
 use Rattle.vecmap_laws.proofs.Puts.{puts_restore}
 
@@ -92,6 +94,10 @@ module _ {V : Type 0} where
 
   pub distinct_drop_of_numbers : (l : List (ℕ × V)) (n : ℕ) → HasDistinctKeys nat_eq l → HasDistinctKeys nat_eq (drop n l)
   distinct_drop_of_numbers = distinct_keys_drop nat_eq
+
+-- In equal maps from numbers to numbers, each key has the same value.
+pub lookups_of_equal_numbers : (a b : List (ℕ × ℕ)) → IsTrue (has_same_counts nat_eq nat_eq a b) → HasDistinctKeys nat_eq a → HasDistinctKeys nat_eq b → (q : ℕ) → lookup nat_eq a q ≡ lookup nat_eq b q
+lookups_of_equal_numbers = lookups_of_equal nat_eq nat_eq nat_eq_equiv nat_eq_equiv eqb-true
 
 pub member_add_of_numbers : (s : List ℕ) (x y : ℕ) → is_member nat_eq (add nat_eq s x) y ≡ (is_member nat_eq s y || nat_eq x y)
 member_add_of_numbers = is_member_add nat_eq nat_eq_equiv

@@ -1,7 +1,7 @@
 -- The lemmas of the rulesets of lookups and of members, at texts: `grind` sees the `==` of texts as it computes, so it
 -- matches a lemma that is stated of it, and not one of any `==`.
 use Rattle.std.specs.{String.string_eq_equiv, List.IsDistinct, List.Sorted.SwapsInRange, List.Sorted.apply_swaps, Option.option_or, Set.is_member}
-use Rattle.std.proofs.Common.{◌≡◌, ◌<◌, ◌&&◌, ◌||◌, not, ℕ, String, false, List, None, Some, ap, bytes_eq, if◌then◌else◌, is_some, take, drop, length, refl, string_eq, sym, reverse, swap, ◌∙◌, Bool, true}
+use Rattle.std.proofs.Common.{◌≡◌, ◌<◌, ◌&&◌, ◌||◌, not, ℕ, String, false, List, None, Some, IsTrue, ap, bytes_eq, eqb-true, if◌then◌else◌, is_some, take, drop, length, nat_eq, refl, string_eq, sym, reverse, swap, ◌∙◌, Bool, true}
 use Rattle.std.specs.Prelude.{nat_lt}
 use Rattle.vecmap_base.specs.Items.{add, adds, swap_without_item, without_item}
 use Rattle.vecmap_base.specs.Pairs.{HasDistinctKeys, has_text, index_of, index_or_length, lookup, lookup_by, put, put_at, put_key, puts, swap_without_key, without_by, without_key}
@@ -11,6 +11,9 @@ use Rattle.vecmap_laws.proofs.DistinctParts.{distinct_keys_drop}
 use Rattle.vecmap_laws.proofs.Equations.{put_put}
 use Rattle.vecmap_laws.proofs.Finds.{distinct_keys_reverse, distinct_swapped, distinct_without_key, is_member_swap_without, is_member_without, lookup_drop, lookup_put_at_any, lookup_put_key_any, lookup_reverse, lookup_swap, lookup_swap_without_key, lookup_swapped, lookup_take, present}
 use Rattle.vecmap_laws.proofs.ItemMembers.{is_member_add, is_member_adds}
+use Rattle.vecmap_laws.proofs.MapEquality.{lookups_of_equal}
+use Rattle.vecmap_base.specs.Equality.{has_same_counts}
+use Rattle.std.specs.Cmp.{nat_eq_equiv}
 use Rattle.vecmap_laws.proofs.Lookups.{lookup_without_apart, lookup_without_key, lookup_without_key_other}
 use Rattle.vecmap_laws.proofs.Queries.{lookup_put_any_query, lookup_without_query, string_equality, text_respects}
 use Rattle.vecmap_laws.proofs.TextQueries.{same_texts}
@@ -96,6 +99,10 @@ module _ {A V : Type 0} where
 
   pub distinct_drop_of_texts : (l : List (String A × V)) (n : ℕ) → HasDistinctKeys string_eq l → HasDistinctKeys string_eq (drop n l)
   distinct_drop_of_texts = distinct_keys_drop string_eq
+
+-- In equal maps from texts to numbers, each key has the same value.
+pub lookups_of_equal_texts : {A : Type 0} (a b : List (String A × ℕ)) → IsTrue (has_same_counts string_eq nat_eq a b) → HasDistinctKeys string_eq a → HasDistinctKeys string_eq b → (q : String A) → lookup string_eq a q ≡ lookup string_eq b q
+lookups_of_equal_texts = lookups_of_equal string_eq nat_eq string_eq_equiv nat_eq_equiv eqb-true
 
 pub member_add_of_texts : {A : Type 0} (s : List (String A)) (x y : String A) → is_member string_eq (add string_eq s x) y ≡ (is_member string_eq s y || string_eq x y)
 member_add_of_texts = is_member_add string_eq string_eq_equiv

@@ -58,3 +58,14 @@ module _ {K V : Type 0} (eq : K → K → Bool) (P : V → Type 0) where
       by : (b : Bool) → All (λ q. P q.1) ps → All (λ q. P q.1) (put eq ps k v) → All (λ q. P q.1) (if b then (p.0, v) ∷ ps else p ∷ put eq ps k v)
       by true r t = All-cons (λ q. P q.1) (p.0, v) ps h r
       by false r t = All-cons (λ q. P q.1) p (put eq ps k v) (All-head (λ q. P q.1) p ps a) t
+
+module _ {K V W : Type 0} (eq : K → K → Bool) (g : K → V → W) (same : (x y : K) → eq x y ≡ true → (v : V) → g y v ≡ g x v) where
+  -- In the list with `g` of each key and its value, a lookup finds `g` of the key and of what it found before.
+  pub lookup_map_pairs : (l : List (K × V)) (q : K) → lookup eq (map (λ p. (p.0, g p.0 p.1)) l) q ≡ option_map (g q) (lookup eq l q)
+  lookup_map_pairs [] q = refl
+  lookup_map_pairs (p ∷ ps) q = by (eq q p.0) refl (lookup_map_pairs ps q)
+    where
+      by : (b : Bool) → eq q p.0 ≡ b → lookup eq (map (λ r. (r.0, g r.0 r.1)) ps) q ≡ option_map (g q) (lookup eq ps q)
+          → (if b then Some (g p.0 p.1) else lookup eq (map (λ r. (r.0, g r.0 r.1)) ps) q) ≡ option_map (g q) (if b then Some p.1 else lookup eq ps q)
+      by true e rest = ap Some (same q p.0 e p.1)
+      by false e rest = rest

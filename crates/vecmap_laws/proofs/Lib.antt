@@ -15,6 +15,7 @@ pub mod DistinctKeys
 pub use Rattle.vecmap_base.proofs.DistinctLemmas.Order as DistinctOrder
 pub mod DistinctParts
 pub use Rattle.vecmap_base.proofs.DistinctLemmas.Removals as DistinctRemovals
+pub mod EachPair
 pub mod EachValue
 pub mod EntryLemmas
 mod EntryPuts
@@ -46,6 +47,7 @@ pub mod MapEquality
 pub mod NestedLemmas
 pub use Rattle.vecmap_set.proofs.OperatorLemmas
 pub mod Order
+pub mod NewKeys
 pub mod OtherPairs
 pub use Rattle.vecmap_base.proofs.EqualityLemmas.Partial as PartialMapEquality
 pub mod Parts

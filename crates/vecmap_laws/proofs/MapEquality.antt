@@ -129,3 +129,13 @@ module _ {K V : Type 0} (key : K → K → Bool) (value : V → V → Bool) (k :
   equal_where_lookups_agree a b d e =
       let agreement = equality_is_agreement a b d e in
       (λ h. lookups_from_test a b (sym agreement ∙ h), λ h. agreement ∙ test_from_lookups a b h)
+
+  same_options : ((x y : V) → value x y ≡ true → x ≡ y) → (a b : Option V) → option_eq value a b ≡ true → a ≡ b
+  same_options same None None e = refl
+  same_options same None (Some y) e = absurd (true≢false (sym e))
+  same_options same (Some x) None e = absurd (true≢false (sym e))
+  same_options same (Some x) (Some y) e = ap Some (same x y e)
+
+  -- If `==` of values tells all values apart, each key has the same value, or none, in equal maps.
+  pub lookups_of_equal : ((x y : V) → value x y ≡ true → x ≡ y) → (a b : List (K × V)) → IsTrue (has_same_counts key value a b) → HasDistinctKeys key a → HasDistinctKeys key b → (q : K) → lookup key a q ≡ lookup key b q
+  lookups_of_equal same a b h d e q = same_options same (lookup key a q) (lookup key b q) ((equal_where_lookups_agree a b d e).0 h q)

@@ -10,14 +10,17 @@ use Rattle.vecmap_base.proofs.PairsLemmas.Keys.{keys_of_put, keys_of_puts}
 use Rattle.vecmap_base.proofs.WalkLemmas.{drained_all}
 use Rattle.vecmap_laws.proofs.AlgebraLemmas.{is_member_of_collected}
 use Rattle.vecmap_laws.proofs.AfterPuts.{index_of_congr, index_of_put, lookup_put_any, lookup_puts_distinct, lookup_without_any}
-use Rattle.vecmap_laws.proofs.AtNumbers.{put_put_of_numbers}
-use Rattle.vecmap_laws.proofs.AtTexts.{put_put_of_texts}
+use Rattle.vecmap_laws.proofs.AtNumbers.{lookups_of_equal_numbers, put_put_of_numbers}
+use Rattle.vecmap_laws.proofs.AtTexts.{lookups_of_equal_texts, put_put_of_texts}
 pub use Rattle.vecmap_laws.proofs.AtNumbers.{lookups_at_numbers, members_at_numbers}
 pub use Rattle.vecmap_laws.proofs.AtTexts.{lookups_at_texts, members_at_texts, texts}
 use Rattle.vecmap_laws.proofs.CloneEquality.{clones_equal, equal_to_itself, equal_to_itself_at_numbers, same_clones}
 use Rattle.vecmap_laws.proofs.SearchedMaps.{inserted_new, search_finds, search_finds_at_numbers, sorted_after, sorted_after_at_numbers}
 use Rattle.vecmap_laws.proofs.DistinctKeys.{distinct_keys_remove, distinct_keys_swap_without_key, distinct_keys_take, distinct_put, distinct_put_at, distinct_put_key, distinct_puts}
 use Rattle.vecmap_laws.proofs.DistinctParts.{distinct_keys_drop, distinct_keys_filter}
+use Rattle.vecmap_laws.proofs.EachPair.{all_without, filter_without, nothing_written}
+use Rattle.vecmap_laws.proofs.EachValue.{holds_after_put}
+use Rattle.vecmap_laws.proofs.NewKeys.{absent_before, new_above}
 use Rattle.vecmap_laws.proofs.Equations.{put_put}
 use Rattle.vecmap_laws.proofs.Finds.{distinct_keys_reverse, distinct_swapped, distinct_without_key, is_member_swap_without, is_member_without, lookup_drop, lookup_put_at_any, lookup_put_key_any, lookup_reverse, lookup_swap, lookup_swap_without_key, lookup_swapped, lookup_take, present}
 use Rattle.vecmap_laws.proofs.ItemMembers.{is_member_add, is_member_adds}
@@ -105,6 +108,17 @@ pub ruleset collected = (is_member_of_collected)
 -- What `extend` by another map, passed by value, leaves.
 pub ruleset extended = (drained_all)
 
+-- A new key: a number above all keys, and a key that comes later in a list of distinct keys.
+pub ruleset new_keys = (new_above, absent_before)
+
+-- What holds of each pair, and which pairs a test selects, after a change of one pair.
+pub ruleset each = (all_without, filter_without, holds_after_put, nothing_written)
+
+-- What lookups find in equal maps.
+pub ruleset equal_at_numbers = (lookups_of_equal_numbers)
+
+pub ruleset equal_at_texts = (lookups_of_equal_texts)
+
 -- The lists above in one, for a whole crate. Of `sorted` and `clones` it has only the lists at numbers, and of `puts` only
 -- those at numbers and at texts.
-pub ruleset common = (sorted_at_numbers, puts_at_numbers, puts_at_texts, clones_at_numbers, extended, lookups, members, lookup_put_any_query, collected, distinct, distinct_elements, elements, indices, keys, keys_in_loops, texts)
+pub ruleset common = (new_keys, each, equal_at_numbers, equal_at_texts, sorted_at_numbers, puts_at_numbers, puts_at_texts, clones_at_numbers, extended, lookups, members, lookup_put_any_query, collected, distinct, distinct_elements, elements, indices, keys, keys_in_loops, texts)

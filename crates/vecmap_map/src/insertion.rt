@@ -1,6 +1,6 @@
 //! Insertion of one pair.
 ghost use Rattle.std.specs.Prelude.{◌≡◌, ◌++◌, ◌∷◌, ◌<◌, ◌≤◌, ◌⊎◌, Err, IfErr, IfOk, IfSome, IsSome, IsTrue, None, Ok, OnErr, OnOk, Some, [], length, ◌+◌, if◌then◌else◌, is_some, min, slice_get, ◌-◌};
-ghost use Rattle.vecmap_base.specs.Indices.{AddsKey, HasMatchAt};
+ghost use Rattle.vecmap_base.specs.Indices.{AddsKey, HasMatchAt, PutsKey};
 ghost use Rattle.vecmap_base.specs.Lookups.{Updates, UpdatesBy};
 ghost use Rattle.vecmap_base.specs.Pairs.{HasDistinctKeys, index_by, index_or_length, lookup, lookup_by, lookup_full, lookup_pair, put, put_at, put_key, with_value};
 ghost use Rattle.vecmap_map.specs.Contents.{Appends, FailsToAppend, HasRoom, KeepsRoom, KeepsRoomAt, Refuses, RefusesAt};
@@ -141,6 +141,7 @@ impl<K, V> VecMap<K, V> {
             → HasDistinctKeys K.eq self.new.entries }
         ensures len { IfOk result (λ old. length self.new.entries
             ≡ length self.old.entries + (if is_some old then 0 else 1)) }
+        ensures keys { OnOk result (PutsKey K.eq self.old.entries key value self.new.entries) }
     {
         if let Some(index) = find(&self.pairs, &key) {
             return Ok(Some(replace(&mut self.pairs[index], (key, value))));
@@ -332,7 +333,7 @@ impl<K, V> VecMap<K, V> {
         ensures written { IfOk result (λ i. (value : V) → UpdatesBy K.eq (Q.equivalent query)
             self.old.entries (with_value self.new.entries i value) (Some value)) }
         ensures at { IfOk result (HasMatchAt (Q.equivalent query) self.new.entries) }
-        ensures kept { IsSome (lookup_by (Q.equivalent query) self.old.entries)
+        ensures stays { IsSome (lookup_by (Q.equivalent query) self.old.entries)
             → lookup_by (Q.equivalent query) self.new.entries
             ≡ lookup_by (Q.equivalent query) self.old.entries }
     {

@@ -60,8 +60,8 @@ impl<K, V> VecMap<K, V> {
 
     /// Returns the first pair, with a mutable reference to its value, or `None` if the map is empty.
     ///
-    /// A caller without a proof file knows which pair the reference points to, but not what the map holds after a
-    /// write through it. [`VecMap::get_mut`] and `map[index] = value` say both.
+    /// If it returns `None`, the map is unchanged. A caller without a proof file knows which pair the reference points to,
+    /// but not what the map holds afterwards. [`VecMap::first_value_mut`] and, below a test of the length, [`VecMap::pair_mut`] say both.
     ///
     /// # Complexity
     ///
@@ -86,8 +86,8 @@ impl<K, V> VecMap<K, V> {
 
     /// Returns the last pair, with a mutable reference to its value, or `None` if the map is empty.
     ///
-    /// A caller without a proof file knows which pair the reference points to, but not what the map holds after a
-    /// write through it. [`VecMap::get_mut`] and `map[index] = value` say both.
+    /// If it returns `None`, the map is unchanged. A caller without a proof file knows which pair the reference points to,
+    /// but not what the map holds afterwards. [`VecMap::last_value_mut`] and, below a test of the length, [`VecMap::pair_mut`] say both.
     ///
     /// # Complexity
     ///
@@ -116,8 +116,8 @@ impl<K, V> VecMap<K, V> {
     /// Returns the index and the stored key of the first pair whose key matches `query`, with a mutable reference to
     /// its value, or `None` if no key matches.
     ///
-    /// A caller without a proof file knows which pair the reference points to, but not what the map holds after a
-    /// write through it. [`VecMap::get_mut`] and `map[index] = value` say both.
+    /// If it returns `None`, the map is unchanged. A caller without a proof file knows which pair the reference points to,
+    /// but not what the map holds afterwards. [`VecMap::get_mut`] and, with the index of the key, [`VecMap::pair_mut`] say both.
     ///
     /// # Complexity
     ///
@@ -152,8 +152,8 @@ impl<K, V> VecMap<K, V> {
 
     /// Returns the pair at `index`, with a mutable reference to its value, or `None` if `index` is out of range.
     ///
-    /// A caller without a proof file knows which pair the reference points to, but not what the map holds after a
-    /// write through it. [`VecMap::get_mut`] and `map[index] = value` say both.
+    /// If it returns `None`, the map is unchanged. A caller without a proof file knows which pair the reference points to,
+    /// but not what the map holds afterwards. [`VecMap::get_value_at_mut`] and, below a test of the index, [`VecMap::pair_mut`] say both.
     ///
     /// # Complexity
     ///

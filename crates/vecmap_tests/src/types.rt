@@ -29,6 +29,18 @@ fn from_slice_keeps_distinct_pairs_of_every_kind(rt: HostRuntime) {
     assert_kept(&rt, alloc, &[(1i64, true), (2, false)]);
 }
 
+#[test]
+fn set_values_writes_each_value_and_keeps_the_rest(rt: HostRuntime) {
+    let mut map = granted(&rt, VecMap::from_slice(rt.alloc(), &[('b', 1), ('a', 2)]));
+    let capacity = map.capacity();
+    map.set_values(7);
+    assert_list(&rt, map.as_slice(), &[('b', 7), ('a', 7)]);
+    assert_is(&rt, map.capacity(), capacity);
+    map.clear();
+    map.set_values(8);
+    assert_list(&rt, map.as_slice(), &[]);
+}
+
 // A value that does not print.
 #[derive(Drop)]
 struct Silent {

@@ -5,10 +5,10 @@ use Rattle.std.proofs.lemmas.List.{length-map}
 use Rattle.std.proofs.lemmas.Map.Keys.{IsDistinct-head, IsDistinct-tail}
 use Rattle.std.proofs.lemmas.List.Edits.{length-insert, length-remove}
 use Rattle.std.proofs.lemmas.Option.{none-some, same_Some, slice_get_within}
-use Rattle.vecmap_base.specs.{Indices.AddsKey, Indices.HasMatchAt, Indices.KeepsIndices, Indices.MovesIndex, Indices.ShiftsIndices}
-use Rattle.vecmap_base.specs.Pairs.{HasDistinctKeys, index_by, index_of, index_or_length, lookup, lookup_by, put, put_at, without_by}
+use Rattle.vecmap_base.specs.{Indices.AddsKey, Indices.HasMatchAt, Indices.KeepsIndices, Indices.MovesIndex, Indices.PutsKey, Indices.ShiftsIndices}
+use Rattle.vecmap_base.specs.Pairs.{HasDistinctKeys, index_by, index_of, index_or_length, lookup, lookup_by, put, put_at, put_key, with_pair, without_by}
 use Rattle.vecmap_base.proofs.MoveLemmas.{inserted_found}
-use Rattle.vecmap_base.proofs.PairsLemmas.ByIndex.{index_by_none, is_some_lookup_by, without_by_index}
+use Rattle.vecmap_base.proofs.PairsLemmas.ByIndex.{index_by_none, is_some_lookup_by, put_key_by_index, without_by_index}
 use Rattle.vecmap_base.proofs.PairsLemmas.Distinct.{distinct_keys_rearranged}
 use Rattle.vecmap_base.proofs.PairsLemmas.Indices.{is_some_index_of}
 use Rattle.vecmap_base.proofs.PairsLemmas.Keys.{keys_of_put}
@@ -155,6 +155,33 @@ module _ {K V : Type 0} (eq : K → K → Bool) where
       keys = keys_put l k v;
       kept = λ some. keys_put l k v ∙ ap (λ b. if b then keys_of l else keys_of l ++ k ∷ []) some;
       appended = λ absent. put_absent eq l k v (index_by_none (eq k) l absent);
+    })
+
+    -- Each key has the same index after an insertion that keeps an equal key and after one that replaces it.
+    pub index_of_put_key : (l : List (K × V)) (k : K) (v : V) (q : K) → index_of eq (put_key eq l k v) q ≡ index_of eq (put eq l k v) q
+    index_of_put_key [] k v q = refl
+    index_of_put_key (p ∷ ps) k v q = by (eq k p.0) refl (index_of_put_key ps k v q)
+      where
+        by : (b : Bool) → eq k p.0 ≡ b → index_of eq (put_key eq ps k v) q ≡ index_of eq (put eq ps k v) q → index_of eq (if b then (k, v) ∷ ps else p ∷ put_key eq ps k v) q ≡ index_of eq (if b then (p.0, v) ∷ ps else p ∷ put eq ps k v) q
+        by true e rest = ap (λ b. if b then Some 0 else option_map suc (index_of eq ps q)) (o.symm q k ∙ o.congr k p.0 q e ∙ o.symm p.0 q)
+        by false e rest = ap (λ found. if eq q p.0 then Some 0 else option_map suc found) rest
+
+    pair_put_key : (l : List (K × V)) (k : K) (v : V) → slice_get (put_key eq l k v) (index_or_length eq l k) ≡ Some (k, v)
+    pair_put_key [] k v = refl
+    pair_put_key (p ∷ ps) k v = by (eq k p.0) (pair_put_key ps k v)
+      where
+        by : (b : Bool) → slice_get (put_key eq ps k v) (index_or_length eq ps k) ≡ Some (k, v)
+            → slice_get (if b then (k, v) ∷ ps else p ∷ put_key eq ps k v) (unwrap_or (if b then Some 0 else option_map suc (index_of eq ps k)) (suc (length ps))) ≡ Some (k, v)
+        by true rest = refl
+        by false rest = ap (slice_get (p ∷ put_key eq ps k v)) (sym (suc_unwrapped (index_of eq ps k) (length ps))) ∙ rest
+
+    -- After an insertion that replaces an equal key.
+    pub puts_key : (l m : List (K × V)) (k : K) (v : V) → m ≡ put_key eq l k v → PutsKey eq l k v m
+    puts_key l m k v e = subst (PutsKey eq l k v) (sym e) (record {
+      index = index_of_put_key l k v k ∙ index_put l k v;
+      indices = λ q i at. index_of_put_key l k v q ∙ indices_put (eq q) l k v i at;
+      pair = pair_put_key l k v;
+      appended = λ absent. put_key_by_index eq l k v ∙ ap (λ found. option_map_or (λ i. with_pair l i k v) found (l ++ (k, v) ∷ [])) (index_by_none (eq k) l absent);
     })
 
     -- After a pair is appended whose key is absent.

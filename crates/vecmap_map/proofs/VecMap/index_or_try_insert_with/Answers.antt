@@ -50,7 +50,7 @@ returns-in-Err-clause-err g c =
 pub returns-in-Ok-clause-at : goal.returns-in-Ok-clause-at
 returns-in-Ok-clause-at g c = match_at (g.Q.Equivalent.equivalent c.args.query) c.push.new.self.entries c.len-index.result (returns-in-Ok-clause-index g c)
 
-pub returns-in-Ok-clause-kept : goal.returns-in-Ok-clause-kept
-returns-in-Ok-clause-kept g c = λ some.
+pub returns-in-Ok-clause-stays : goal.returns-in-Ok-clause-stays
+returns-in-Ok-clause-stays g c = λ some.
     let none : c.get_index_of.result ≡ None = c.in_default.is in
     absurd (true≢false (sym some ∙ sym c.get_index_of.ensures.found ∙ ap is_some none))

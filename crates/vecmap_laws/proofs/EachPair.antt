@@ -1,0 +1,42 @@
+-- What holds of each pair, and which pairs a test selects, after a change of one pair.
+use Rattle.std.proofs.Common.{◌≡◌, All, Bool, true, false, List, [], ◌∷◌, IfSome, Some, ap, filter, if◌then◌else◌, refl}
+use Rattle.std.proofs.lemmas.List.Elements.{All-cons, All-head, All-tail}
+use Rattle.std.proofs.lemmas.Map.Steps.{set_value_same}
+use Rattle.vecmap_base.specs.Pairs.{lookup_by, without_by}
+use Rattle.vecmap_map.specs.Contents.{Contents, with_entries, with_value_by}
+
+module _ {K V : Type 0} (test : K → Bool) where
+  -- What holds of each pair holds of each that a removal leaves.
+  pub all_without : (P : K × V → Type 0) (l : List (K × V)) → All P l → All P (without_by test l)
+  all_without P [] all = all
+  all_without P (p ∷ ps) all = by (test p.0) (all_without P ps (All-tail P p ps all))
+    where
+      by : (b : Bool) → All P (without_by test ps) → All P (if b then ps else p ∷ without_by test ps)
+      by true rest = All-tail P p ps all
+      by false rest = All-cons P p (without_by test ps) (All-head P p ps all) rest
+
+  -- The removal of a pair that is not selected leaves what is selected.
+  pub filter_without : (pick : V → Bool) (l : List (K × V)) → IfSome (lookup_by test l) (λ v. pick v ≡ false) → filter (λ p. pick p.1) (without_by test l) ≡ filter (λ p. pick p.1) l
+  filter_without pick [] h = refl
+  filter_without pick (p ∷ ps) h = by (test p.0) h (filter_without pick ps)
+    where
+      left : List (K × V)
+      left = filter (λ q. pick q.1) ps
+
+      skip : (b : Bool) → b ≡ false → left ≡ (if b then p ∷ left else left)
+      skip true e = absurd (cc)
+      skip false e = refl
+
+      keep : (b : Bool) → filter (λ q. pick q.1) (without_by test ps) ≡ left → (if b then p ∷ filter (λ q. pick q.1) (without_by test ps) else filter (λ q. pick q.1) (without_by test ps)) ≡ (if b then p ∷ left else left)
+      keep true e = ap (λ m. p ∷ m) e
+      keep false e = e
+
+      by : (b : Bool) → IfSome (if b then Some p.1 else lookup_by test ps) (λ v. pick v ≡ false)
+          → (IfSome (lookup_by test ps) (λ v. pick v ≡ false) → filter (λ q. pick q.1) (without_by test ps) ≡ left)
+          → filter (λ q. pick q.1) (if b then ps else p ∷ without_by test ps) ≡ (if pick p.1 then p ∷ left else left)
+      by true f rest = skip (pick p.1) f
+      by false f rest = keep (pick p.1) (rest f)
+
+  -- A value that is written over itself, as by a `get_mut` whose reference wrote nothing, leaves the map.
+  pub nothing_written : (m : Contents K V) (v : V) → lookup_by test m.entries ≡ Some v → with_value_by test m v ≡ m
+  nothing_written m v found = ap (with_entries m) (set_value_same test m.entries v found)
