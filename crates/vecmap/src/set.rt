@@ -15,7 +15,7 @@
 //! - binary searches: `binary_search`, `binary_search_by`, `binary_search_by_key`, `partition_point` (`search.rt`)
 //! - lookups: `contains`, `first`, `last`, `get`, `get_index`, `get_full`, `get_index_of`, `contains_str`
 //!   (`lookup.rt`); `set[index]` (`indexing.rt`)
-//! - insertion: `insert`, `replace`, `insert_unique`, `index_or_try_insert_with` (`insertion.rt`)
+//! - insertion: `insert`, `insert_full`, `replace`, `insert_unique`, `index_or_try_insert_with` (`insertion.rt`)
 //! - many elements at once: `from_iter`, `from_slice`, `append`, `extend`, `extend_copied`, `collect` (`bulk.rt`); the
 //!   trait `Extend` (`extending.rt`); `From<Vec>`, `from_vec_counted`, `from_array`, `from_vec_unchecked`, `to_vec`
 //!   (`conversion.rt`)

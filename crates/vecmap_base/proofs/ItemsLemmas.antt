@@ -5,4 +5,5 @@ pub mod Recursion
 pub mod Members
 pub mod Filtered
 pub mod Changes
+pub mod Sorted
 pub mod Stored

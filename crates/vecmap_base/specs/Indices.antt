@@ -1,6 +1,6 @@
 -- Which keys a list of pairs has after a change, and at which indices. `eq` is the `==` of keys, and a test is what a
 -- query does with a key.
-use Rattle.std.specs.Prelude.{◌≡◌, ◌++◌, ◌∷◌, ◌-◌, ◌<◌, ℕ, Bool, List, [], IsSome, None, Some, if◌then◌else◌, is_some, length, slice_get, true}
+use Rattle.std.specs.Prelude.{◌≡◌, ◌++◌, ◌∷◌, ◌+◌, ◌-◌, ◌<◌, ℕ, Bool, List, [], IsSome, None, Some, if◌then◌else◌, is_some, length, slice_get, true}
 use Rattle.std.specs.Cmp.{IsEquivalence}
 use Rattle.std.specs.Map.{IsKeyTest, keys_of}
 use Rattle.vecmap_base.specs.Pairs.{HasDistinctKeys, index_by, index_of, index_or_length, lookup, lookup_by}
@@ -37,6 +37,7 @@ pub record AddsKey {K V : Type 0} (eq : K → K → Bool) (l : List (K × V)) (k
   pub index : index_of eq m k ≡ Some (index_or_length eq l k)
   pub indices : (test : K → Bool) (i : ℕ) → index_by test l ≡ Some i → index_by test m ≡ Some i
   pub keys : keys_of m ≡ (if is_some (lookup eq l k) then keys_of l else keys_of l ++ k ∷ [])
+  pub len : length m ≡ (if is_some (lookup eq l k) then length l else length l + 1)
   pub kept : IsSome (lookup eq l k) → keys_of m ≡ keys_of l
   pub appended : lookup eq l k ≡ None → m ≡ l ++ (k, v) ∷ []
 

@@ -1,4 +1,5 @@
-//! Callers of documents and of names. Each needs a clause of [`Document`] or [`Name`] that the others do not have.
+//! Callers of documents and names. Each needs something that a clause of [`Document`] or [`Name`] says, so that none of it
+//! can be lost unseen.
 //!
 //! ```
 //! let name = |text: &str| -> Result<Name, AllocError> { Ok(Name::new(text.to_string(alloc)?)) };
@@ -17,11 +18,9 @@
 //! are_alike(&name("Font")?, &name("FONT")?) // true
 //! length_of_name(&name("Font")?) // 4
 //! ```
-ghost use Rattle.std.specs.Prelude.{◌≡◌, ◌∷◌, ◌↔◌, ◌<◌, ℕ, IfErr, IfOk, IfSome, IsOk, IsSome, IsTrue, List, None, OnErr, OnOk, Some, String, [], length, option_map, string_bytes};
-ghost use Rattle.std.specs.declared.alloc.Global.{Global};
-ghost use Rattle.std.specs.Map.{keys_of};
+ghost use Rattle.std.specs.Prelude.{◌≡◌, ◌∷◌, ◌↔◌, ℕ, IfOk, IfSome, IsSome, IsTrue, List, None, OnErr, OnOk, [], length, option_map, string_bytes};
 ghost use Rattle.std.specs.Str.{str_eq_ignore_ascii_case};
-ghost use Rattle.attr_doc.specs.Documents.{AreSame, IsDocument, merge_of, text_of, with_text};
+ghost use Rattle.attr_doc.specs.Documents.{IsDocument, merge_of, text_of, with_text};
 
 pub use attr_doc::{Document, Name};
 use std::alloc::{AllocError, Global};
@@ -41,7 +40,7 @@ pub fn single(
     Ok(page)
 }
 
-/// Creates a document without sections. It is a document, and finds nothing.
+/// Creates a document without sections, in which no text is found.
 pub fn blank(alloc: Global) -> Document
     ensures document { IsDocument result }
     ensures none { (section name : List ℕ) → text_of result section name ≡ None }
@@ -151,7 +150,7 @@ pub fn merge_twice(page: &mut Document, other: &mut Document) -> Result<(), Allo
     Ok(())
 }
 
-/// Returns whether two documents have the same texts. If they have, they find the same under each name.
+/// Returns whether two documents are the same. If they are, the same text is found in both under each name.
 pub fn finds_the_same(page: &Document, other: &Document) -> bool
     ensures { IsTrue result → (section name : List ℕ)
         → text_of page.now section name ≡ text_of other.now section name }

@@ -95,8 +95,15 @@ module _ {T : Type 0} (test : T → Bool) where
         let found = stored_at s (Some i) (sym e) in
         position_own r d j found.0 (at ∙ found.1) found.2
 
--- Where an item is after a move and after a swap.
+-- Where an item is after an addition at the end, after a move and after a swap.
 module _ {T : Type 0} where
+  pub stored_last : (s r : List T) (x : T) → r ≡ s ++ x ∷ [] → slice_get r (length s) ≡ Some x
+  stored_last s r x e = ap (λ l. slice_get l (length s)) e ∙ at_end s
+    where
+      at_end : (ys : List T) → slice_get (ys ++ x ∷ []) (length ys) ≡ Some x
+      at_end [] = refl
+      at_end (y ∷ ys) = at_end ys
+
   pub at_moved : (s r : List T) (i j : ℕ) → i < length s → j < length s → r ≡ moved s i j → slice_get r j ≡ slice_get s i
   at_moved [] r i j h k e = absurd (omega (arith, h))
   at_moved (y ∷ ys) r i j h k e =

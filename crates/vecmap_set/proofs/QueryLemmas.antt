@@ -21,6 +21,7 @@ module _ {T : Type 0} (test : T → Bool) where
     where
       at : (i : ℕ) (x y : T) → slice_get s i ≡ Some y → test y ≡ true → Some x ≡ slice_get s i → test x ≡ true
       at i x y here hit f = let same : x ≡ y = (let g : Some x ≡ Some y = f ∙ here in cc) in ap test same ∙ hit
+
       by : (place : Option ℕ) → position test s ≡ place → (r : Option T) → r ≡ option_and_then (slice_get s) place → IfSome r (λ x. test x ≡ true)
       by place p None f = tt
       by None p (Some x) f = absurd (none-some x (sym f))
@@ -71,6 +72,7 @@ module _ {T : Type 0} (eq : T → T → Bool) (f : T → Bool) (same : (x y : T)
       there : (b : Bool) → f x ≡ b → is_member eq s x ≡ true → list_any f s ≡ (b || list_any f s)
       there true e h = any_there s x h e
       there false e h = refl
+
       by : (b : Bool) → is_member eq s x ≡ b → list_any f (if b then s else s ++ x ∷ []) ≡ (f x || list_any f s)
       by true h = there (f x) refl h
       by false h = list_any-append f s (x ∷ []) ∙ or_turned (list_any f s) (f x)
@@ -82,11 +84,13 @@ module _ {T : Type 0} (eq : T → T → Bool) (f : T → Bool) (same : (x y : T)
       twice : (a b : Bool) → (a || b) ≡ (a || (a || b))
       twice true b = refl
       twice false b = refl
+
       exchanged : (a b c : Bool) → (a || (b || c)) ≡ (b || (a || c))
       exchanged true true c = refl
       exchanged true false c = refl
       exchanged false true c = refl
       exchanged false false c = refl
+
       by : (b : Bool) → eq x y ≡ b → list_any f (put_item eq ys x) ≡ (f x || list_any f ys) → list_any f (cond b (x ∷ ys) (y ∷ put_item eq ys x)) ≡ (f x || (f y || list_any f ys))
       by true e more = twice (f x) (list_any f ys) ∙ ap (λ b. f x || (b || list_any f ys)) (sym (same x y e))
       by false e more = ap (λ b. f y || b) more ∙ exchanged (f y) (f x) (list_any f ys)

@@ -1,11 +1,11 @@
 -- What calls leave in a set is distinct. Of clones the idea is: each is equal to its original, and the originals are
 -- distinct.
-use Rattle.std.proofs.Common.{ℕ, Bool, Contains, IsTrue, List, [], ◌∷◌, ◌++◌, drop, reverse, take}
-use Rattle.std.specs.{Cmp.IsEquivalence, List.IsDistinct}
+use Rattle.std.proofs.Common.{◌≡◌, ℕ, Bool, Contains, IsTrue, List, [], ◌∷◌, ◌++◌, drop, length, reverse, take, true}
+use Rattle.std.specs.{Cmp.IsEquivalence, Cmp.both_ways, List.IsDistinct, Set.is_member}
 use Rattle.std.proofs.lemmas.List.Elements.{Contains-append_left, Contains-append_right, Contains-push}
 use Rattle.std.proofs.lemmas.{List.Sorted.IsPermutation-reverse, Map.Keys.IsDistinct-push}
-use Rattle.vecmap_base.specs.Clones.{AreClones}
-use Rattle.vecmap_base.proofs.EqualityLemmas.Sets.{set_equal_by_half, set_lengths_differ}
+use Rattle.vecmap_base.specs.{Clones.AreClones, Equality.is_within}
+use Rattle.vecmap_base.proofs.EqualityLemmas.Sets.{set_equal_by_half, set_lengths_differ, within_back, within_from_test}
 use Rattle.vecmap_base.proofs.DistinctLemmas.{Absent.distinct_none, Additions.distinct_adds, Clones.distinct_clones, Order.distinct_tail, Removals.distinct_drop, Removals.distinct_front, Removals.distinct_take}
 
 module _ {T : Type 0} (eq : T → T → Bool) where
@@ -29,6 +29,13 @@ module _ {T : Type 0} (eq : T → T → Bool) where
   -- The last element is removed. The premise is repeated in the result, for `grind`, which finds the lemma by it.
   pub distinct_first : (xs ys : List T) → IsDistinct eq (xs ++ ys) → IsDistinct eq (xs ++ ys) × IsDistinct eq xs
   distinct_first xs ys d = (d, distinct_front eq xs ys d)
+
+module _ {T : Type 0} (eq : T → T → Bool) (o : IsEquivalence eq) where
+  -- Of two distinct lists of one length, one within the other, both have the same elements.
+  pub members_of_equal : (a b : List T) → IsDistinct eq a → length a ≡ length b → is_within eq a b ≡ true → (q : T) → is_member eq a q ≡ is_member eq b q
+  members_of_equal a b d n e q =
+      let there = within_from_test eq o a b e in
+      both_ways _ _ (there q) (within_back eq o a b d n there q)
 
 -- The lemmas for the goals of calls that change a set.
 pub ruleset distinct_changes = (distinct_adds, distinct_drop, distinct_first, distinct_none, IsDistinct-push, distinct_take, distinct_turned)

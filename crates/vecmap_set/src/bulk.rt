@@ -282,12 +282,8 @@ impl<T: Eq> VecSet<T> {
 impl<T: Eq + Drop> FromIterator<T> for VecSet<T> {
     type Alloc = Global;
 
-    ghost from_iter_gives = { λ items set. (set.elements ≡ adds T.eq [] items)
-        × IsDistinct T.eq set.elements
-        × ((q : T) → is_member T.eq set.elements q ≡ is_member T.eq items q)
-        × (length set.elements ≤ length items) };
+    ghost from_iter_gives = { λ items set. (set.elements ≡ adds T.eq [] items) × IsDistinct T.eq set.elements };
 
-    #[tactic(auto, using(crate::proofs::MemberLemmas::members_of_all, crate::proofs::MemberLemmas::length_of_all))]
     fn from_iter<I: IntoIterator<Item = T>>(
         alloc: Global,
         iter: I,

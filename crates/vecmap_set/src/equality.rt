@@ -1,7 +1,7 @@
 //! Equality of sets, disjoint sets, subsets and supersets.
 ghost use Rattle.std.specs.Prelude.{◌≡◌, ◌↔◌, IsTrue, [], false};
 ghost use Rattle.std.specs.Set.{is_member};
-ghost use Rattle.vecmap_base.specs.Equality.{is_within};
+ghost use Rattle.vecmap_base.specs.Equality.{has_same_items, is_within};
 ghost use Rattle.vecmap_base.specs.Items.{both};
 
 use crate::VecSet;
@@ -105,8 +105,12 @@ impl<T: Eq> PartialEq for VecSet<T> {
     ghost laws = { partial_equiv_from_equiv
         (on_equiv (λ set. set.elements) (set_equality_laws T.eq T.Eq.laws)) };
 
-    #[tactic(auto, using(crate::proofs::SetLemmas::set_equality))]
-    fn eq(&self, other: &VecSet<T>) -> bool {
+    #[tactic(auto, using(crate::proofs::SetLemmas::set_equality, crate::proofs::SetLemmas::members_of_equal))]
+    fn eq(&self, other: &VecSet<T>) -> bool
+        ensures value { result ≡ has_same_items T.eq self.now.elements other.now.elements }
+        ensures members { IsTrue result → (q : T) → is_member T.eq self.now.elements q
+            ≡ is_member T.eq other.now.elements q }
+    {
         let (items, others) = (self.as_slice(), other.as_slice());
         if items.len() != others.len() {
             return false;

@@ -59,6 +59,8 @@ impl<T: Eq> VecSet<T> {
             → self.new ≡ self.old }
         ensures appended { IfOk result (λ added. IsTrue added
             → self.new.elements ≡ self.old.elements ++ item ∷ []) }
+        ensures at { IfOk result (λ added. IsTrue added
+            → slice_get self.new.elements (length self.old.elements) ≡ Some item) }
         ensures len { IfOk result (λ added. length self.new.elements
             ≡ length self.old.elements + (if added then 1 else 0)) }
         ensures indices { OnOk result (KeepsIndices self.old.elements self.new.elements) }
@@ -100,7 +102,7 @@ impl<T: Eq> VecSet<T> {
         ensures within { IfOk result (λ done. done.0 < length self.new.elements) }
         ensures found { IfOk result
             (λ done. item_index T.eq self.new.elements item ≡ Some done.0) }
-        ensures stored { IfOk result (λ done. (x : T)
+        ensures at { IfOk result (λ done. (x : T)
             × (slice_get self.new.elements done.0 ≡ Some x) × IsTrue (T.eq item x)) }
         ensures updates { OnOk result (UpdatesMember T.eq (T.eq item) self.old.elements
             self.new.elements true) }
@@ -200,7 +202,7 @@ impl<T: Eq> VecSet<T> {
     /// set.insert_unique(2)?;
     /// set.as_slice() // [1, 2]
     /// ```
-    #[tactic(auto, using(crate::proofs::SetLemmas::distinct_changes))]
+    #[tactic(auto, using(crate::proofs::SetLemmas::distinct_changes, crate::proofs::IndexLemmas::stored_last))]
     pub fn insert_unique(&mut self, item: T) -> Result<(), Refused<T>>
         requires absent { is_member T.eq self.old.elements item ≡ false }
         ensures elements { OnOk result (self.new.elements ≡ self.old.elements ++ item ∷ []) }
@@ -216,6 +218,8 @@ impl<T: Eq> VecSet<T> {
             self.new.elements true) }
         ensures any { OnOk result ((f : T → Bool) → list_any f self.new.elements
             ≡ (f item || list_any f self.old.elements)) }
+        ensures at { OnOk result (slice_get self.new.elements (length self.old.elements)
+            ≡ Some item) }
         ensures len { OnOk result (length self.new.elements ≡ length self.old.elements + 1) }
         ensures indices { OnOk result (KeepsIndices self.old.elements self.new.elements) }
     {
@@ -281,7 +285,7 @@ impl<T: Eq> VecSet<T> {
             E.from_gives (λ item. F.post make (Ok item)) self.old error) }
 
         // What follows for lookups, lengths and indices.
-        ensures stored { IfOk result (λ i. (x : T)
+        ensures at { IfOk result (λ i. (x : T)
             × (slice_get self.new.elements i ≡ Some x) × IsTrue (Q.equivalent query x)) }
         ensures updates { OnOk result (UpdatesMember T.eq (Q.equivalent query) self.old.elements
             self.new.elements true) }

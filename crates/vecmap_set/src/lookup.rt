@@ -92,7 +92,7 @@ impl<T: Eq> VecSet<T> {
         ensures element { option_copied result
             ≡ stored_first (Q.equivalent query) self.now.elements }
         ensures found { is_some result ≡ list_any (Q.equivalent query) self.now.elements }
-        ensures stored { IfSome result (λ x. IsTrue (Q.equivalent query x.now)) }
+        ensures matched { IfSome result (λ x. IsTrue (Q.equivalent query x.now)) }
     {
         let index = find_item_equivalent(&self.items, query)?;
         Some(&self.items[index])
@@ -140,7 +140,7 @@ impl<T: Eq> VecSet<T> {
         ensures element { option_map (λ found. found.1.now) result
             ≡ stored_first (Q.equivalent query) self.now.elements }
         ensures found { is_some result ≡ list_any (Q.equivalent query) self.now.elements }
-        ensures stored { IfSome result (λ found.
+        ensures at { IfSome result (λ found.
             (slice_get self.now.elements found.0 ≡ Some found.1.now)
             × IsTrue (Q.equivalent query found.1.now)) }
     {
@@ -166,7 +166,7 @@ impl<T: Eq> VecSet<T> {
         ensures index { result ≡ position (Q.equivalent query) self.now.elements }
         ensures within { IfSome result (λ i. i < length self.now.elements) }
         ensures found { is_some result ≡ list_any (Q.equivalent query) self.now.elements }
-        ensures stored { IfSome result (λ i. (x : T)
+        ensures at { IfSome result (λ i. (x : T)
             × (slice_get self.now.elements i ≡ Some x) × IsTrue (Q.equivalent query x)) }
     {
         find_item_equivalent(&self.items, query)

@@ -64,8 +64,8 @@ impl<T: Eq> VecSet<T> {
 
         // What follows for lookups, lengths and indices.
         ensures reordered { IsReorderedItems self.old.elements self.new.elements }
-        ensures a_index { MovesIndex T.eq a b self.old.elements self.new.elements }
-        ensures b_index { MovesIndex T.eq b a self.old.elements self.new.elements }
+        ensures moves { MovesIndex T.eq a b self.old.elements self.new.elements }
+        ensures moves_back { MovesIndex T.eq b a self.old.elements self.new.elements }
     {
         self.items.swap(a, b);
     }
@@ -98,7 +98,7 @@ impl<T: Eq> VecSet<T> {
 
         // What follows for lookups, lengths and indices.
         ensures reordered { IsReorderedItems self.old.elements self.new.elements }
-        ensures index { MovesIndex T.eq from to self.old.elements self.new.elements }
+        ensures moves { MovesIndex T.eq from to self.old.elements self.new.elements }
     {
         move_to(&mut self.items, from, to);
     }

@@ -381,7 +381,7 @@ impl<T: Eq> VecSet<T> {
         ensures capacity { self.new.capacity ≡ self.old.capacity }
 
         // What follows for lookups, lengths and indices.
-        ensures stored { IfSome result (λ x. IsTrue (Q.equivalent query x)) }
+        ensures matched { IfSome result (λ x. IsTrue (Q.equivalent query x)) }
         ensures updates { UpdatesMember T.eq (Q.equivalent query) self.old.elements
             self.new.elements false }
         ensures any { IfSome result (λ x. (f : T → Bool) → list_any f self.old.elements
@@ -413,7 +413,7 @@ impl<T: Eq> VecSet<T> {
         ensures capacity { self.new.capacity ≡ self.old.capacity }
 
         // What follows for lookups, lengths and indices.
-        ensures stored { IfSome result (λ x. IsTrue (Q.equivalent query x)) }
+        ensures matched { IfSome result (λ x. IsTrue (Q.equivalent query x)) }
         ensures updates { UpdatesMember T.eq (Q.equivalent query) self.old.elements
             self.new.elements false }
         ensures any { IfSome result (λ x. (f : T → Bool) → list_any f self.old.elements

@@ -1,7 +1,8 @@
 //! Binary searches in sorted elements. None allocates.
-ghost use Rattle.std.specs.Prelude.{◌≡◌, ◌<◌, ◌≤◌, Bool, false, length, true};
+ghost use Rattle.std.specs.Prelude.{◌≡◌, ◌<◌, ◌≤◌, Bool, false, is_ok, length, true};
 ghost use Rattle.std.specs.List.{All, HoldsAt};
-ghost use Rattle.std.specs.List.Sorted.{IsBinarySearchResult, IsPartitionPoint, IsPartitionedBy, IsSearchInRange};
+ghost use Rattle.std.specs.List.Sorted.{IsBinarySearchResult, IsPartitionPoint, IsPartitionedBy, IsSearchInRange, IsSorted};
+ghost use Rattle.std.specs.Set.{is_member};
 ghost use Rattle.std.specs.declared.cmp.Ordering.{Ordering};
 ghost use Rattle.vecmap_base.specs.Orders.{AnswersOnItems, CallableOnItem};
 
@@ -32,6 +33,10 @@ impl<T: Eq> VecSet<T> {
         T: Ord,
         ensures within { IsSearchInRange result (length self.now.elements) }
         ensures index { IsBinarySearchResult (λ x. T.cmp x item.now) self.now.elements result }
+
+        // What follows for lookups, lengths and indices.
+        ensures found { IsSorted T.cmp self.now.elements
+            → is_ok result ≡ is_member T.eq self.now.elements item.now }
     {
         let items = self.items.as_slice();
         search_by_index::<T, _, _>(

@@ -1,6 +1,6 @@
-//! Branches by size and length that the test cases of `vecmap_script` do not take, since their keys and elements are
-//! larger than a word: relations of small elements, moves of small pairs, and equality of more than 16,384 pairs, whose
-//! values may differ from themselves.
+//! Branches by size and length that the test cases of `vecmap_script` do not take, since their keys and elements have
+//! more than 16 bytes: searches and relations of small elements, moves of small pairs, lookups of elements of 16 bytes,
+//! and equality of more than 16,384 pairs, whose values may differ from themselves.
 use crate::checks::{assert_gives, assert_is, granted};
 use crate::counted::Counted;
 use std::alloc::{AllocError, Global};

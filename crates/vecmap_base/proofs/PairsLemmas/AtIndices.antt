@@ -1,7 +1,7 @@
 -- At which indices keys are after a change, in the words of contracts.
 use Rattle.std.specs.{Cmp.IsEquivalence, List.AllByRecursion, List.Sorted.IsPermutation, Map.IsKeyTest, Map.keys_of, Option.option_map_or}
 use Rattle.std.proofs.Common.{◌≡◌, ◌∙◌, ◌+◌, ◌-◌, ◌<◌, ◌≤◌, ◌++◌, ℕ, zero, suc, Bool, true, false, List, [], ◌∷◌, None, Option, Some, IfSome, IsSome, ap, arith, if◌then◌else◌, insert, is_some, length, min, option_map, refl, remove, slice_get, subst, sym, take, unwrap_or}
-use Rattle.std.proofs.lemmas.List.{length-map}
+use Rattle.std.proofs.lemmas.List.{length-append, length-map}
 use Rattle.std.proofs.lemmas.Map.Keys.{IsDistinct-head, IsDistinct-tail}
 use Rattle.std.proofs.lemmas.List.Edits.{length-insert, length-remove}
 use Rattle.std.proofs.lemmas.Option.{none-some, same_Some, slice_get_within}
@@ -135,6 +135,13 @@ module _ {K V : Type 0} (eq : K → K → Bool) where
   keys_put : (l : List (K × V)) (k : K) (v : V) → keys_of (put eq l k v) ≡ (if is_some (lookup eq l k) then keys_of l else keys_of l ++ k ∷ [])
   keys_put l k v = keys_of_put eq l k v ∙ ap (λ b. if b then keys_of l else keys_of l ++ k ∷ []) (sym (is_some_lookup_by (eq k) l ∙ is_some_index_of eq l k))
 
+  length_put : (l : List (K × V)) (k : K) (v : V) → length (put eq l k v) ≡ (if is_some (lookup eq l k) then length l else length l + 1)
+  length_put l k v = sym (length-map (put eq l k v) (λ p. p.0)) ∙ ap length (keys_put l k v) ∙ by (is_some (lookup eq l k))
+    where
+      by : (b : Bool) → length (if b then keys_of l else keys_of l ++ k ∷ []) ≡ (if b then length l else length l + 1)
+      by true = length-map l (λ p. p.0)
+      by false = length-append (keys_of l) (k ∷ []) ∙ ap (λ n. n + 1) (length-map l (λ p. p.0))
+
   module _ (o : IsEquivalence eq) where
     index_put : (l : List (K × V)) (k : K) (v : V) → index_of eq (put eq l k v) k ≡ Some (index_or_length eq l k)
     index_put [] k v = ap (λ b. if b then Some 0 else None) (o.refl k)
@@ -153,6 +160,7 @@ module _ {K V : Type 0} (eq : K → K → Bool) where
       index = index_put l k v;
       indices = λ test. indices_put test l k v;
       keys = keys_put l k v;
+      len = length_put l k v;
       kept = λ some. keys_put l k v ∙ ap (λ b. if b then keys_of l else keys_of l ++ k ∷ []) some;
       appended = λ absent. put_absent eq l k v (index_by_none (eq k) l absent);
     })

@@ -3,7 +3,7 @@ use Rattle.std.proofs.Common.{rules}
 use Rattle.std.specs.List.{IsDistinct}
 use Rattle.std.specs.Prelude.{None, Some, [], false, nat_eq, refl, suc, true, ◌∷◌, ◌≡◌}
 use Rattle.vecmap_examples.proofs.Definitions.Notation.{MapRef, done, failed, set_of}
-use Rattle.vecmap_set.specs.Contents.{HasRoom, IsFull, KeepsRoom, Refuses, Reserves, with_elements}
+use Rattle.vecmap_set.specs.Contents.{HasRoom, IsFull, KeepsRoom, KeepsRoomAt, Refuses, Reserves, with_elements}
 use Rattle.vecmap_set.specs.Lazy.{IsBound, lacks_item, longer, longer_first, not_longer, not_shorter, presence, shorter, sift_of, sift_of_shorter, sift_rest, symmetric_parts, symmetric_rest, union_parts, union_rest}
 use Rattle.vecmap_set.specs.Operators.{symmetric_difference_of, union_of}
 use Rattle.vecmap_set.specs.SetBulk.{Adds, AddsCopies, GrowsDistinct, RefusesAfter, RefusesCopiesAfter}
@@ -44,6 +44,18 @@ module _ {A K T : Type 0} (x y : T) (j k : K) (a b c d : A) (r : MapRef T A) whe
 
   Reserves-7 : ¬ (Reserves 1 (set_of (a ∷ []) 1) failed (set_of (a ∷ []) 2))
   Reserves-7 = search rules
+
+  KeepsRoomAt-1 : KeepsRoomAt None (set_of (a ∷ []) 1) (set_of (a ∷ b ∷ []) 4)
+  KeepsRoomAt-1 = search rules
+
+  KeepsRoomAt-2 : ¬ (KeepsRoomAt None (set_of (a ∷ []) 2) (set_of (a ∷ b ∷ []) 4))
+  KeepsRoomAt-2 = search rules
+
+  KeepsRoomAt-3 : ¬ (KeepsRoomAt (Some 0) (set_of (a ∷ []) 1) (set_of (a ∷ []) 2))
+  KeepsRoomAt-3 = search rules
+
+  KeepsRoomAt-4 : ¬ (KeepsRoomAt None (set_of (a ∷ []) 1) (set_of (a ∷ []) 0))
+  KeepsRoomAt-4 = search rules
 
   KeepsRoom-1 : KeepsRoom nat_eq (set_of (1 ∷ []) 2) 2 (set_of (1 ∷ 2 ∷ []) 2)
   KeepsRoom-1 = search rules

@@ -2,8 +2,8 @@ use Rattle.std.proofs.Common.{◌≡◌, ◌∙◌, Some, ap, position, sym}
 use Rattle.std.proofs.lemmas.List.Quantifiers.{position-Some}
 use Rattle.vecmap_set.proofs.VecSet.get.Goals as goal
 
-pub returns-clause-stored : goal.returns-clause-stored
-returns-clause-stored g c =
+pub returns-clause-matched : goal.returns-clause-matched
+returns-clause-matched g c =
     let test = g.Q.Equivalent.equivalent c.args.query in
     let s = c.self.inside.items.items in
     let place : position test s ≡ Some c.in_ok-index.index = ap (position test) (sym c.deref.ensures.value) ∙ sym c.find_item_equivalent.ensures.index ∙ c.in_ok-index.was in

@@ -37,8 +37,8 @@ returns-in-Ok-clause-updates g c =
     let none : position test s ≡ None = ap (λ v. position test v.elements) (sym c.self.view_is) ∙ ap (position test) (sym c.deref.ensures.value) ∙ sym c.find_item_equivalent.ensures.index ∙ c.in_default.is in
     members_appended_by g.T.PartialEq.eq g.met.T.Eq.laws test (g.met.Q.Equivalent.respects_eq c.args.query) s c.insert_unique.new.self.elements c.in_ok-item.item c.in-Ok.ensures.elements none (c.requires.made _ c.in_ok-item.ensures)
 
-pub returns-in-Some-clause-stored : goal.returns-in-Some-clause-stored
-returns-in-Some-clause-stored g c =
+pub returns-in-Some-clause-at : goal.returns-in-Some-clause-at
+returns-in-Some-clause-at g c =
     let test = g.Q.Equivalent.equivalent c.args.query in
     let s = c.args.self.now.elements in
     let found : position test s ≡ Some c.in-Some.index = ap (λ v. position test v.elements) (sym c.self.view_is) ∙ ap (position test) (sym c.deref.ensures.value) ∙ sym c.find_item_equivalent.ensures.index ∙ c.in-Some.is in
@@ -52,8 +52,8 @@ returns-in-Some-clause-len g c =
     let some : list_any test s ≡ true = list_any_position test s ∙ ap is_some found in
     rw some (omega arith)
 
-pub returns-in-Ok-clause-stored : goal.returns-in-Ok-clause-stored
-returns-in-Ok-clause-stored g c =
+pub returns-in-Ok-clause-at : goal.returns-in-Ok-clause-at
+returns-in-Ok-clause-at g c =
     stored_at (g.Q.Equivalent.equivalent c.args.query) c.insert_unique.new.self.elements (Some c.len-index.result) (sym (returns-in-Ok-clause-index g c))
 
 pub returns-in-Ok-clause-len : goal.returns-in-Ok-clause-len

@@ -7,8 +7,8 @@ use Rattle.vecmap_set.proofs.IndexLemmas.{stored_at}
 use Rattle.vecmap_set.proofs.QueryLemmas.{any_of_add}
 use Rattle.vecmap_set.proofs.VecSet.insert_full.Goals as goal
 
-pub returns-in-Some-clause-stored : goal.returns-in-Some-clause-stored
-returns-in-Some-clause-stored g c =
+pub returns-in-Some-clause-at : goal.returns-in-Some-clause-at
+returns-in-Some-clause-at g c =
     let eq = g.T.PartialEq.eq in
     let s = c.args.self.now.elements in
     let place : item_index eq s c.args.item ≡ Some c.in-Some.index = ap (λ v. item_index eq v.elements c.args.item) (sym c.self.view_is) ∙ ap (λ l. item_index eq l c.args.item) (sym c.deref.ensures.value) ∙ sym c.find_item.ensures.index ∙ c.in-Some.is in
@@ -28,5 +28,5 @@ returns-clause-found g c =
     ap (λ l. item_index eq l c.args.item) c.in_ok-insert_unique.ensures.elements
     ∙ position_appended (eq c.args.item) s c.args.item none (g.met.T.Eq.laws.refl c.args.item) ∙ ap (λ n. Some n) (sym c.len-index.ensures.count)
 
-pub returns-clause-stored : goal.returns-clause-stored
-returns-clause-stored g c = stored_at (g.T.PartialEq.eq c.args.item) c.insert_unique.new.self.elements (Some c.len-index.result) (sym (returns-clause-found g c))
+pub returns-clause-at : goal.returns-clause-at
+returns-clause-at g c = stored_at (g.T.PartialEq.eq c.args.item) c.insert_unique.new.self.elements (Some c.len-index.result) (sym (returns-clause-found g c))

@@ -13,8 +13,8 @@ returns-clause-distinct g c = invariant_of-self g c
 pub returns-clause-reordered : goal.returns-clause-reordered
 returns-clause-reordered g c = rw (← c.self.view_is) (reordered _ _ c.move_to.ensures.rearranged)
 
-pub returns-clause-index : goal.returns-clause-index
-returns-clause-index g c =
+pub returns-clause-moves : goal.returns-clause-moves
+returns-clause-moves g c =
     let s = c.args.self.now.elements in
     let at = at_moved s c.move_to.new.items.items c.args.from c.args.to c.requires.from_within c.requires.to_within (search rules) in
     index_moved g.T.PartialEq.eq g.met.T.Eq.laws s c.move_to.new.items.items c.args.from c.args.to at (invariant_of-self g c)

@@ -11,12 +11,12 @@ invariant_of-self g c =
 pub returns-clause-distinct : goal.returns-clause-distinct
 returns-clause-distinct g c = invariant_of-self g c
 
-pub returns-clause-a_index : goal.returns-clause-a_index
-returns-clause-a_index g c =
+pub returns-clause-moves : goal.returns-clause-moves
+returns-clause-moves g c =
     let s = c.args.self.now.elements in
     index_moved g.T.PartialEq.eq g.met.T.Eq.laws s _ c.args.a c.args.b (at_swapped s _ c.args.a c.args.b c.requires.a_within c.requires.b_within (search rules)) (invariant_of-self g c)
 
-pub returns-clause-b_index : goal.returns-clause-b_index
-returns-clause-b_index g c =
+pub returns-clause-moves_back : goal.returns-clause-moves_back
+returns-clause-moves_back g c =
     let s = c.args.self.now.elements in
     index_moved g.T.PartialEq.eq g.met.T.Eq.laws s _ c.args.b c.args.a (at_swapped_back s _ c.args.a c.args.b c.requires.a_within c.requires.b_within (search rules)) (invariant_of-self g c)

@@ -9,5 +9,5 @@ returns-clause-updates g c = members_of_swap_without g.T.PartialEq.eq g.met.T.Eq
 pub returns-in_err-index-clause-updates : goal.returns-in_err-index-clause-updates
 returns-in_err-index-clause-updates g c = members_of_swap_without g.T.PartialEq.eq g.met.T.Eq.laws (g.Q.Equivalent.equivalent c.args.query) (g.met.Q.Equivalent.respects_eq c.args.query) c.args.self.now.elements _ (search rules) (search rules)
 
-pub returns-clause-stored : goal.returns-clause-stored
-returns-clause-stored g c = stored_matches (g.Q.Equivalent.equivalent c.args.query) c.args.self.now.elements (Some c.swap_remove_index.result) (search rules)
+pub returns-clause-matched : goal.returns-clause-matched
+returns-clause-matched g c = stored_matches (g.Q.Equivalent.equivalent c.args.query) c.args.self.now.elements (Some c.swap_remove_index.result) (search rules)
