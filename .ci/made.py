@@ -39,6 +39,11 @@ def trait_and_type(head):
     return tuple(map(plain_type, IMPL.fullmatch(head).groups()))
 
 
+def bare(text):
+    """Returns the name of a type or a trait, without its parameters."""
+    return re.sub(r"^&(?:mut )?|<.*", "", text)
+
+
 def owner_of(item):
     """Returns the name of the type or trait of an item, or nothing."""
     head = item.text if item.kind == "impl" else item.impl

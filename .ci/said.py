@@ -8,7 +8,7 @@ the state at the current folder.
 import os
 import re
 
-from made import opening, owner_of, trait_and_type
+from made import bare, opening, owner_of, trait_and_type
 from rattle import LAWS, SCRIPT, crate_of, definitions, dependencies, files, headings, items, mutants, read, sources
 
 # The kinds that users read: a change of one is named in CHANGELOG.
@@ -17,6 +17,10 @@ CONTRACTS = ("call", "type", "impl", "definition", "lemma", "export")
 HIDDEN = ("vecmap_bench", "vecmap_script", "vecmap_tests")
 # The ghost members that are proofs: what they prove is said by their trait.
 PROOFS = ("laws", "respects_eq", "clones")
+# What the script of the test cases prints.
+PRINTED = SCRIPT.replace("stdin", "stdout")
+# The files with the proof of a function, which nothing names.
+FUNCTION_PROOFS = ("Answers.antt", "Proof.antt", "Invariants.antt")
 GHOST = re.compile(r"^    ghost (?!use\b)(\w+)\b(.*?);$", re.MULTILINE | re.DOTALL)
 PUBLIC_USE = re.compile(r"^pub (?:mod (\w+)|use ([^;{\n]*)(?:\{([^}]*)\})?)", re.MULTILINE)
 DECLARATION = re.compile(r"( *)(?:pub )?(?:abbrev |record |data |ruleset )?(?:pub )?([\w'-]+) *(?::|=|\()")
@@ -57,9 +61,7 @@ def title_of(item):
     """Returns the name of an item, of a function with its type or trait, and of a law with its module."""
     if item.kind != "fn":
         return item.name or item.text
-    owner = owner_of(item).removeprefix("&").removeprefix("mut ")
-    if crate_of(item.path) == LAWS:
-        owner = item.path.split("/")[3].removesuffix(".rt")
+    owner = item.path.split("/")[3].removesuffix(".rt") if crate_of(item.path) == LAWS else bare(owner_of(item))
     return f"{owner}::{item.name}" if owner else item.name
 
 
@@ -109,10 +111,19 @@ def contracts():
                 yield from members_of(it)
 
 
+def passed_on(path):
+    """Yields what a file of definitions or lemmas passes on of another one: the path of that, and the name there."""
+    for _, place, group in PUBLIC_USE.findall(read(path)):
+        for name in (group or place).split(","):
+            home, _, name = f"{place * bool(group)}{name.strip()}".removeprefix("Rattle.").rpartition(".")
+            yield f"crates/{home.replace('.', '/')}.antt", name
+
+
 def definition_lines():
     """Yields the lines of each public definition, each below the one before it: their order matters."""
     for path in files("crates/*/specs/**/*.antt"):
-        for it in definitions(path):
+        passed = (it for home, name in passed_on(path) for it in definitions(home) if it.name == name)
+        for it in [*definitions(path), *passed]:
             lines = filter(str.strip, re.sub("--.*", "", it.text).splitlines())
             lines = [" ".join(line.split()) for line in lines]
             thing = "definition", f"{crate_of(path)}: {module_of(path)}.{it.name}"
@@ -120,11 +131,14 @@ def definition_lines():
 
 
 def lemmas():
-    """Yields the statements of the public lemmas of `vecmap_laws`."""
-    for path in files("crates/vecmap_laws/proofs/*.antt"):
-        for name, text in declarations(path).items():
-            if re.search(rf"^ *pub (?:ruleset )?{re.escape(name)}\b", text, re.MULTILINE):
+    """Yields the statements of the public lemmas of `vecmap_laws`, and of those that it passes on by name."""
+    for path in (it for it in files("crates/vecmap_laws/proofs/**/*.antt") if not it.endswith(FUNCTION_PROOFS)):
+        passed = ((name, declarations(home).get(name, "")) for home, name in passed_on(path))
+        for name, text in [*declarations(path).items(), *passed]:
+            if re.search(rf"^ *pub (?:ruleset )?{re.escape(name)}(?![\w'-])", text, re.MULTILINE):
                 statement = " ".join(re.split(rf"\n *{re.escape(name)}(?= .*=| *=)", text)[0].split())
+                # Of modules within each other, the parameters of both are those of the lemma.
+                statement = statement.replace(" where module _", "")
                 yield ("lemma", f"{LAWS}: {module_of(path)}.{name}"), "statement", statement
 
 
@@ -179,11 +193,12 @@ def examples():
 
 def lines():
     """Yields the lines that programs read and print, and what each must-fail edit makes, and why it is there."""
-    for kind, pattern, form in (("run", "std*", ""), ("edit", "must-fail/*.edit", r"# (body|fn|breaks|message):|new:")):
-        for path in files(f"crates/*/{pattern}"):
-            name = f"{crate_of(path)}: {os.path.basename(path).removesuffix('.edit')}"
+    for kind, pattern, form in (("run", "std*", ""), ("edit", "*.edit", r"# (body|fn|message):|new:")):
+        for path in files(f"crates/**/{pattern}"):
+            crate, _, name = path.removeprefix("crates/").removesuffix(".edit").partition("/")
+            name = f"{crate}: {name.removeprefix('must-fail/')}"
             found = (line for line in read(path).splitlines() if re.match(form, line))
-            yield from (((kind, name), "", line) for line in found if "vecmap_script: std" not in name)
+            yield from (((kind, name), "", line) for line in found if path not in (SCRIPT, PRINTED))
 
 
 def lists():
