@@ -1,10 +1,10 @@
-"""Makes the list of calls from the sources, and reads comments."""
+"""Reads comments, and the names of types and traits."""
 
 import re
 
-from rattle import LAWS, LIBRARIES, files, items, read, sources
+from rattle import LAWS, LIBRARIES, items, read, sources
 
-# The crates whose definitions users can meet, in the order of the page.
+# The crates whose definitions users can meet.
 DEFINED = [*LIBRARIES, LAWS]
 # The first sentence of a text. A `..` ends none, nor does a stop within backticks.
 SENTENCE = re.compile(r"(?:`[^`]*`|[^`])*?(?<!\.)\.(?=\s|$)|.*", re.DOTALL)
@@ -51,7 +51,7 @@ def owner_of(item):
 
 
 def listed(path):
-    """Returns the items that the page lists: calls, methods of traits, macros, types, and what a type implements."""
+    """Returns what users see of a source: calls, methods of traits, macros, types, and what a type implements."""
     found = list(items(path))
     hidden = {"", "Model", "Sealed", *(it.name for it in found if it.kind == "trait" and not it.is_public)}
     return [
@@ -66,50 +66,3 @@ def uncommented():
     for item in (it for crate in DEFINED for path in sources(crate) for it in listed(path)):
         if item.kind in ("fn", "macro_rules!") and not item.doc():
             yield f"{item.path}:{item.line}: `{item.name}` has no comment"
-
-
-def call_entry(item, of):
-    """Returns the entry of a call or a type: its name, and the first sentence of its comment."""
-    owner = owner_of(item) if item.kind == "fn" else ""
-    name = f"{owner}::{item.name}" if owner not in ("", of) else item.name
-    return f"- `{name}{'!' * (item.kind == 'macro_rules!')}`: {first_sentence(item.doc())}"
-
-
-def topics(page, home):
-    """Yields the topics of `map.rt` or `set.rt`, each with its files."""
-    for topic in opening(page).split(" - ")[1:]:
-        title = re.match(r"([\w ]+):|", topic)[1] or "the rest"
-        paths = []
-        for name in re.findall(r"`(?:crates/vecmap_base/src/)?([\w/]+\.rt|lazy/)`", topic):
-            pattern = f"{name}*.rt" if name.endswith("/") else name
-            paths += files(f"{home}/{pattern}") or files(f"crates/vecmap_base/src/{pattern}")
-        yield title[0].upper() + title[1:], [path for path in paths if not path.endswith("/laws.rt")]
-
-
-def section(title, paths, of=""):
-    """Returns a heading, and below it the calls and types of some files, and which traits the types implement."""
-    found, traits = {path: listed(path) for path in paths}, {}
-    made = [call_entry(it, of) for path in paths for it in found[path] if it.kind != "impl"]
-    for item in (it for path in paths for it in found[path] if it.kind == "impl"):
-        traits.setdefault(owner_of(item), {})[f"`{trait_and_type(item.text)[0]}`"] = None
-    made += [f"- Traits of `{it}`: {', '.join(names)}" for it, names in traits.items()]
-    homes = ", ".join(f"[`{path.split('/src/')[1]}`](../{path})" for path in paths if found[path])
-    return "\n".join([f"### {title}\n", f"{homes}\n", *made, ""]) if made else ""
-
-
-def call_page(page):
-    """Makes the list of calls: maps and sets by topic, and the other files in the order of their names.
-
-    What the page says before its first section is by hand.
-    """
-    made, seen = [read(page).split("\n## ")[0]], set()
-    for kind in ("Map", "Set"):
-        made.append(f"## {kind}s\n")
-        for title, paths in topics(f"crates/vecmap/src/{kind.lower()}.rt", f"crates/vecmap_{kind.lower()}/src"):
-            made.append(section(title, [path for path in paths if path not in seen], f"Vec{kind}"))
-            seen |= set(paths)
-    made.append("## Runs, macros, and functions over slices and vectors\n")
-    for crate in ("vecmap", "vecmap_map", "vecmap_set", "vecmap_base"):
-        paths = [path for path in sources(crate) if path not in seen and "/laws" not in path]
-        made.append(section(f"`{crate}`", paths))
-    return "\n".join(filter(None, made))
