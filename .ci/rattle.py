@@ -49,7 +49,7 @@ Definition = collections.namedtuple("Definition", "line name comment text")
 Block = collections.namedtuple("Block", "line mark lines")
 # The script of the test cases.
 SCRIPT = "crates/vecmap_script/stdin"
-# A heading of a script: its part, its text, the texts of the lines `# body:` and `# shows:` below it, and its rows.
+# A heading of a script: its part, its text, the texts of the lines `# WORD:` below it, by the word, and its rows.
 Heading = collections.namedtuple("Heading", "part text notes rows")
 # A row of a script, and the lines above it that set the collections up.
 Row = collections.namedtuple("Row", "text begun")
@@ -252,12 +252,12 @@ def headings(path):
     """Returns the headings of a script, in order. A note without a heading makes one without rows."""
     part, heading, found, begun = "", None, [], []
     for line in read(path).splitlines():
-        note = re.match(r"# (body|shows): (.*)", line)
+        note = re.match(r"# (\w+): (.*)", line)
         if section := re.match(r"# =+ (\w+)", line):
             part = section[1]
         elif line.startswith("# ") and not (heading and note):
             text = f'no heading above "{line}"' if note else line[2:]
-            heading = Heading(part, text, {"body": [], "shows": []}, [])
+            heading = Heading(part, text, collections.defaultdict(list), [])
             found.append(heading)
         elif note:
             heading.notes[note[1]].append(note[2])
