@@ -1,7 +1,6 @@
-"""What the scripts of this folder share: the frame, files, the items of a source, laws and calls, and headings of rows.
+"""What the scripts of this folder share: the frame, files, definitions, tables, and headings of rows.
 
-A source is read by the form that `rt fmt` gives to it: an item ends at the first brace with the indentation of its
-first line.
+The items of a source are read by `laws_for.py`, which users of the library get without this folder.
 """
 
 import collections
@@ -13,25 +12,13 @@ import sys
 
 sys.path.append(os.path.join(os.path.dirname(os.path.abspath(__file__)), "../crates/vecmap"))
 
-from laws_for import public_paths  # noqa: E402
+from laws_for import closing, items, laws  # noqa: E402, F401
 
 # The sources, and the files of definitions and of proofs.
 TEXTS = ("crates/**/*.rt", "crates/**/*.antt")
 LIBRARIES = ["vecmap_base", "vecmap_map", "vecmap_set", "vecmap"]
 LAWS = "vecmap_laws"
 WRITES = sys.argv[1:2] == ["--write"]
-# The comments and attributes of an item, its first words, and the rest: lines up to one that ends a statement or has
-# an empty body, or that opens a block, which ends at a brace with the indentation of the item.
-ITEM = re.compile(
-    r"(?P<comment>(?:^ *(?://|#\[).*\n)*)"
-    r"^(?P<indent> *)(?P<scope>pub(?:\(\w+\))? )?(?:const |unsafe )*"
-    r"(?P<kind>fn|impl|struct|enum|trait|type|macro_rules!)(?=[ <]) ?(?P<name>\w*)"
-    r"(?:.*(?<![{;])(?<!\{\})\n)*?"
-    r"(?:.*(?:;|\{\})|.*\{\n(?:.*\n)*?(?P=indent)\})$",
-    re.MULTILINE,
-)
-CLAUSE = re.compile(r"(requires|ensures)\*? (?:(\w+) )?\{")
-MEMBER = re.compile(r"^    ghost (\w+) = \{", re.MULTILINE)
 # The comment of a public definition, its indentation, its name, and the rest: lines up to an empty one.
 DEFINITION = re.compile(
     r"((?:^ *-- .*\n)*)^( *)(?:abbrev pub|(?:unfoldable )?pub(?: record| data)?) (?!mod |use )([\w']+) "
@@ -39,10 +26,6 @@ DEFINITION = re.compile(
     re.MULTILINE,
 )
 NAME = re.compile(r"[A-Za-z_][\w']*")
-# A brace, or what may have one that counts for nothing.
-BRACE = re.compile(r"//.*|\"(?:[^\"\\]|\\.)*\"|'(?:[^'\\]|\\.)'|[{}]")
-# A clause of a contract. A ghost member of an impl is one, too.
-Clause = collections.namedtuple("Clause", "kind label formula")
 # A definition: its line, its name, the lines of its comment, and its text, which begins with its module if it has one.
 Definition = collections.namedtuple("Definition", "line name comment text")
 # A block of code: the line that opens it, the words there, and its lines.
@@ -142,73 +125,6 @@ def crate_of(path):
     return path.split("/")[1]
 
 
-class Item(collections.namedtuple("Item", "path line kind name is_public impl members comment text")):
-    """A function, an impl, a type or a macro of a source.
-
-    Its `impl` is the head of the impl or trait that it is in, and its `members` are the lines from there to the item.
-    The `text` of an impl or a trait is its head, and its `members` are the whole.
-    """
-
-    def head(self):
-        """Returns the signature with its clauses."""
-        return re.split(r"\n *\{\n|\n\{\}|\{\n", self.text, maxsplit=1)[0]
-
-    def signature(self):
-        """Returns the signature without clauses."""
-        return re.split(r"\b(?:requires|ensures)\b", re.sub(r"//.*", "", self.head()))[0]
-
-    def doc(self):
-        """Returns the doc comment."""
-        return "\n".join(re.findall(r"^ */// ?(.*)", self.comment, re.MULTILINE))
-
-    def is_call(self):
-        """Returns whether others can call the function: it is public, or a method of a trait."""
-        return self.is_public or " for " in self.impl or self.impl.startswith("pub trait")
-
-    def is_test(self):
-        """Returns whether the item is a test."""
-        return "#[test]" in self.comment
-
-    def clauses(self):
-        """Returns the clauses of a function's contract, and the ghost members of its impl that stand before it."""
-        head = re.sub(r"//.*", "", self.head())
-        made = [Clause(found[1], found[2] or "", braced(head, found.end())) for found in CLAUSE.finditer(head)]
-        ghosts = MEMBER.finditer(self.members)
-        return made + [Clause("ghost", found[1], braced(self.members, found.end())) for found in ghosts]
-
-
-def closing(text, at=0):
-    """Returns the place behind the brace that closes the one before a place."""
-    depth = 1
-    for found in BRACE.finditer(text, at):
-        depth += {"{": 1, "}": -1}.get(found[0], 0)
-        if depth == 0:
-            return found.end()
-    raise ValueError(f"a brace is open: {text[at : at + 80]}")
-
-
-def braced(text, at):
-    """Returns a text from a place behind a brace to the brace that closes it, on one line."""
-    return " ".join(text[at : closing(text, at) - 1].split())
-
-
-def items(path):
-    """Yields the items of a source, in order, and those of impls and of traits."""
-    text, owner, start, at = read(path), "", 0, 0
-    while found := ITEM.search(text, at):
-        comment, indent, scope, kind, name = found.groups()
-        first = found.start("indent")
-        whole, members = text[first : found.end()], text[start:first] if indent else ""
-        at = found.end() if kind == "fn" else text.index("\n", first)
-        if indent and kind != "fn":
-            continue
-        if kind in ("impl", "trait"):
-            start, members = first, whole
-            whole = owner = " ".join(whole.split("{")[0].split())
-        line = text.count("\n", 0, first) + 1
-        yield Item(path, line, kind, name, scope == "pub ", owner if indent else "", members, comment, whole)
-
-
 def functions(*paths):
     """Returns the functions of some sources."""
     return [it for path in paths for it in items(path) if it.kind == "fn"]
@@ -229,18 +145,6 @@ def blocks(path):
 def tests():
     """Returns all tests."""
     return [it for it in functions(*sources()) if it.is_test()]
-
-
-def laws():
-    """Yields the laws of `vecmap_laws`, of maps and of sets, each with the paths by which callers may name it.
-
-    A law is a public function of `vecmap_laws`, or of a module `laws` of a library.
-    """
-    for path in sources(*LIBRARIES, LAWS):
-        module = re.sub(r"^crates/|src/|\.rt$", "", path).replace("/", "::")
-        if crate_of(path) == LAWS or "laws" in module.split("::"):
-            found = ((it, public_paths(f"{module}::{it.name}")) for it in functions(path) if not it.impl)
-            yield from ((it, paths) for it, paths in found if it.is_public and paths)
 
 
 def is_set_up(line):
