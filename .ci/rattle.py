@@ -42,7 +42,9 @@ MUTANTS = "docs/WRONG_BODIES.md"
 
 def end(check):
     """Ends a script: runs its check at the top of the repository, and prints the faults and the last line of it."""
-    os.chdir(os.path.join(os.path.dirname(os.path.abspath(__file__)), ".."))
+    top = os.path.join(os.path.dirname(os.path.abspath(__file__)), "..")
+    sys.argv[0] = os.path.relpath(sys.argv[0], top)
+    os.chdir(top)
     faults, last = check()
     print(*faults, last, sep="\n")
     sys.exit(1 if faults else 0)
@@ -53,7 +55,7 @@ def compared(path, made):
     if WRITES:
         write(path, made)
     changes = list(difflib.unified_diff(read(path).splitlines(), made.splitlines(), path, "made", "", "", 0, ""))
-    by = f"{path}: differs from the sources (.ci/{os.path.basename(sys.argv[0])} --write)"
+    by = f"{path}: differs from the sources ({sys.argv[0]} --write)"
     return [*changes[3:5], by] if changes else []
 
 
