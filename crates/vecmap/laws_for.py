@@ -13,6 +13,7 @@ import collections
 import functools
 import pathlib
 import re
+import signal
 import sys
 
 CRATES = pathlib.Path(__file__).resolve().parent.parent
@@ -122,7 +123,7 @@ def passed_on():
     for home, text in modules().items():
         for path, group in PUBLIC_USE.findall(text):
             for item in (f"{path}::{it.strip()}" for it in group.split(",") if it.strip()) if group else [path]:
-                whole, _, alias = item.partition(" as ")
+                whole, _, alias = item.removeprefix("self::").partition(" as ")
                 first, _, rest = whole.partition("::")
                 whole = f"{home.split('::')[0]}::{rest}" if first == "crate" else whole
                 whole = whole if first in modules() or first == "crate" else f"{home}::{whole}"
@@ -138,7 +139,7 @@ def public_paths(item):
         return [item]
     is_private = item in modules() and not re.search(rf"^pub mod {name};", modules()[module], re.MULTILINE)
     found = [] if is_private else [f"{path}::{name}" for path in public_paths(module)]
-    found += [f"{path}::{alias}" for home, alias in passed_on().get(item, []) for path in public_paths(home)]
+    found += [path for home, alias in passed_on().get(item, []) for path in public_paths(f"{home}::{alias}")]
     return sorted(set(found))
 
 
@@ -165,7 +166,7 @@ def main(words):
     found = []
     for law, paths in laws():
         for _, label, text in (it for it in law.clauses() if it.kind == "ensures"):
-            names = set(re.findall(r"[\w']+|[^\w\s]", text))
+            names = set(re.findall(r"[\w']+|[^\w\s(){}\[\].,;]+", text))
             if all(any(map(test.fullmatch, names)) for test in tests):
                 found.append((len(text), f"{paths[0]}  {label}\n    {text}"))
     print(*(text for _, text in sorted(found)), f"{len(found)} clauses", sep="\n")
@@ -174,4 +175,5 @@ def main(words):
 
 
 if __name__ == "__main__":
+    signal.signal(signal.SIGPIPE, signal.SIG_DFL)  # So that `head` may close the pipe.
     main(sys.argv[1:])
