@@ -25,7 +25,7 @@ GHOST = re.compile(r"^    ghost (?!use\b)(\w+)\b(.*?);$", re.MULTILINE | re.DOTA
 PUBLIC_USE = re.compile(r"^pub (?:mod (\w+)|use ([^;{\n]*)(?:\{([^}]*)\})?)", re.MULTILINE)
 DECLARATION = re.compile(r"( *)(?:pub )?(?:abbrev |record |data |ruleset )?(?:pub )?([\w'-]+) *(?::|=|\()")
 # What a statement of a test declares, for the statements that follow it.
-DECLARED = re.compile(r"\b(?:fn|const|static|mod|macro_rules!|struct|enum) (\w+)|\b(impl\b.*) \{$")
+DECLARED = re.compile(r"\b(fn|const|static|mod|macro_rules!|struct|enum) (\w+)|\b(impl\b.*) \{$")
 
 
 def flat(text):
@@ -173,8 +173,10 @@ def tests():
             text = "\n".join(re.findall(r"^#\[cfg\(test\)\]\nmod \w+;", text, re.MULTILINE))
         text = re.sub(r"^ *(?:ghost )?use [^;]*;\n", "", re.sub(r"\bpub(\(\w+\))? ", "", text), flags=re.MULTILINE)
         for it in filter(lambda it: it.strip("}"), map(flat, re.split(r"(?<=[;{}])\n", text))):
-            declared = DECLARED.search(it)
-            name = (declared[1] or declared[2]) if declared else name
+            if declared := DECLARED.search(it):
+                # A module is declared in a file: two files may each have a module `tests`.
+                home = f"{os.path.basename(path)}::" if declared[1] == "mod" else ""
+                name = home + (declared[2] or declared[3])
             yield ("test", f"{crate_of(path)}: {name}"), "", it
 
 
