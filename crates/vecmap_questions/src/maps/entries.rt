@@ -1,0 +1,1 @@
+//! Insertions through an entry.

@@ -1,0 +1,1 @@
+//! Lookups by a key or a text.

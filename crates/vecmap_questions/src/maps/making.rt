@@ -1,0 +1,1 @@
+//! New maps, copies and equality.

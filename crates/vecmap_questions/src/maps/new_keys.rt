@@ -1,0 +1,393 @@
+//! Insertions at an index, of a new key, and of what a closure makes.
+ghost use Rattle.std.specs.Prelude.{◌≡◌, ◌+◌, ◌-◌, ◌++◌, ◌∷◌, ◌<◌, ◌≤◌, ℕ, [], None, Ok, OnErr, OnOk, Some, false, if◌then◌else◌, is_some, length, nat_eq, slice_get, take, true};
+ghost use Rattle.std.specs.Map.{keys_of, values_of};
+ghost use Rattle.vecmap.specs.Pairs.{HasDistinctKeys, index_of, lookup};
+
+use std::alloc::AllocError;
+use vecmap::{Refused, VecMap};
+
+pub fn insert_at_then_empty(
+    map: &mut VecMap<u32, u32>,
+    index: usize,
+    key: u32,
+    value: u32,
+) -> Result<(), AllocError>
+    requires within { index ≤ length map.old.entries }
+    ensures { OnOk result (0 < length map.new.entries) }
+{
+    map.insert_at(index, key, value)?;
+    Ok(())
+}
+
+pub fn insert_at_then_unchanged(
+    map: &mut VecMap<u32, u32>,
+    index: usize,
+    key: u32,
+    value: u32,
+) -> Result<(), AllocError>
+    requires within { index ≤ length map.old.entries }
+    ensures { OnErr result (map.new ≡ map.old) }
+{
+    map.insert_at(index, key, value)?;
+    Ok(())
+}
+
+pub fn insert_at_then_distinct(
+    map: &mut VecMap<u32, u32>,
+    index: usize,
+    key: u32,
+    value: u32,
+) -> Result<(), AllocError>
+    requires distinct { HasDistinctKeys nat_eq map.old.entries }
+    requires within { index ≤ length map.old.entries }
+    ensures { OnOk result (HasDistinctKeys nat_eq map.new.entries) }
+{
+    map.insert_at(index, key, value)?;
+    Ok(())
+}
+
+pub fn insert_at_then_key(
+    map: &mut VecMap<u32, u32>,
+    index: usize,
+    key: u32,
+    value: u32,
+) -> Result<(), AllocError>
+    requires distinct { HasDistinctKeys nat_eq map.old.entries }
+    requires within { index ≤ length map.old.entries }
+    ensures { OnOk result (lookup nat_eq map.new.entries key ≡ Some value) }
+{
+    map.insert_at(index, key, value)?;
+    Ok(())
+}
+
+pub fn insert_at_then_lookup(
+    map: &mut VecMap<u32, u32>,
+    index: usize,
+    key: u32,
+    value: u32,
+) -> Result<(), AllocError>
+    requires distinct { HasDistinctKeys nat_eq map.old.entries }
+    requires within { index ≤ length map.old.entries }
+    ensures { OnOk result ((q : ℕ) → lookup nat_eq map.new.entries q ≡ (if nat_eq key q then Some
+        value else lookup nat_eq map.old.entries q)) }
+{
+    map.insert_at(index, key, value)?;
+    Ok(())
+}
+
+pub fn insert_at_then_distinct_generic<K: Eq + Drop>(
+    map: &mut VecMap<K, u32>,
+    index: usize,
+    key: K,
+    value: u32,
+) -> Result<(), AllocError>
+    requires distinct { HasDistinctKeys K.eq map.old.entries }
+    requires within { index ≤ length map.old.entries }
+    ensures { OnOk result (HasDistinctKeys K.eq map.new.entries) }
+{
+    map.insert_at(index, key, value)?;
+    Ok(())
+}
+
+pub fn insert_at_then_key_generic<K: Eq + Drop>(
+    map: &mut VecMap<K, u32>,
+    index: usize,
+    key: K,
+    value: u32,
+) -> Result<(), AllocError>
+    requires distinct { HasDistinctKeys K.eq map.old.entries }
+    requires within { index ≤ length map.old.entries }
+    ensures { OnOk result (lookup K.eq map.new.entries key ≡ Some value) }
+{
+    map.insert_at(index, key, value)?;
+    Ok(())
+}
+
+pub fn insert_at_then_lookup_generic<K: Eq + Drop>(
+    map: &mut VecMap<K, u32>,
+    index: usize,
+    key: K,
+    value: u32,
+) -> Result<(), AllocError>
+    requires distinct { HasDistinctKeys K.eq map.old.entries }
+    requires within { index ≤ length map.old.entries }
+    ensures { OnOk result ((q : K) → lookup K.eq map.new.entries q ≡ (if K.eq key q then Some value
+        else lookup K.eq map.old.entries q)) }
+{
+    map.insert_at(index, key, value)?;
+    Ok(())
+}
+
+pub fn insert_unique_then_key(
+    map: &mut VecMap<u32, u32>,
+    key: u32,
+    value: u32,
+) -> Result<(), AllocError>
+    requires absent { lookup nat_eq map.old.entries key ≡ None }
+    ensures { OnOk result (lookup nat_eq map.new.entries key ≡ Some value) }
+{
+    map.insert_unique(key, value)?;
+    Ok(())
+}
+
+pub fn insert_unique_then_lookup(
+    map: &mut VecMap<u32, u32>,
+    key: u32,
+    value: u32,
+) -> Result<(), AllocError>
+    requires absent { lookup nat_eq map.old.entries key ≡ None }
+    ensures { OnOk result ((q : ℕ) → lookup nat_eq map.new.entries q ≡ (if nat_eq key q then Some
+        value else lookup nat_eq map.old.entries q)) }
+{
+    map.insert_unique(key, value)?;
+    Ok(())
+}
+
+pub fn insert_unique_then_distinct(
+    map: &mut VecMap<u32, u32>,
+    key: u32,
+    value: u32,
+) -> Result<(), AllocError>
+    requires distinct { HasDistinctKeys nat_eq map.old.entries }
+    requires absent { lookup nat_eq map.old.entries key ≡ None }
+    ensures { OnOk result (HasDistinctKeys nat_eq map.new.entries) }
+{
+    map.insert_unique(key, value)?;
+    Ok(())
+}
+
+pub fn insert_unique_then_empty(
+    map: &mut VecMap<u32, u32>,
+    key: u32,
+    value: u32,
+) -> Result<(), AllocError>
+    requires absent { lookup nat_eq map.old.entries key ≡ None }
+    ensures { OnOk result (0 < length map.new.entries) }
+{
+    map.insert_unique(key, value)?;
+    Ok(())
+}
+
+pub fn insert_unique_then_order(
+    map: &mut VecMap<u32, u32>,
+    key: u32,
+    value: u32,
+) -> Result<(), AllocError>
+    requires absent { lookup nat_eq map.old.entries key ≡ None }
+    ensures { OnOk result (take (length map.old.entries) (keys_of map.new.entries) ≡ keys_of
+        map.old.entries) }
+{
+    map.insert_unique(key, value)?;
+    Ok(())
+}
+
+pub fn insert_unique_then_unchanged(
+    map: &mut VecMap<u32, u32>,
+    key: u32,
+    value: u32,
+) -> Result<(), AllocError>
+    requires absent { lookup nat_eq map.old.entries key ≡ None }
+    ensures { OnErr result (map.new ≡ map.old) }
+{
+    map.insert_unique(key, value)?;
+    Ok(())
+}
+
+pub fn insert_unique_then_pair(
+    map: &mut VecMap<u32, u32>,
+    key: u32,
+    value: u32,
+) -> Result<(), AllocError>
+    requires absent { lookup nat_eq map.old.entries key ≡ None }
+    ensures { OnOk result (slice_get map.new.entries (length map.old.entries) ≡ Some (key, value)) }
+{
+    map.insert_unique(key, value)?;
+    Ok(())
+}
+
+pub fn insert_unique_then_length(
+    map: &mut VecMap<u32, u32>,
+    key: u32,
+    value: u32,
+) -> Result<(), AllocError>
+    requires absent { lookup nat_eq map.old.entries key ≡ None }
+    ensures { OnOk result (length map.new.entries ≡ length map.old.entries + 1) }
+{
+    map.insert_unique(key, value)?;
+    Ok(())
+}
+
+pub fn insert_unique_then_keys(
+    map: &mut VecMap<u32, u32>,
+    key: u32,
+    value: u32,
+) -> Result<(), AllocError>
+    requires absent { lookup nat_eq map.old.entries key ≡ None }
+    ensures { OnOk result (keys_of map.new.entries ≡ keys_of map.old.entries ++ key ∷ []) }
+{
+    map.insert_unique(key, value)?;
+    Ok(())
+}
+
+pub fn insert_unique_then_values(
+    map: &mut VecMap<u32, u32>,
+    key: u32,
+    value: u32,
+) -> Result<(), AllocError>
+    requires absent { lookup nat_eq map.old.entries key ≡ None }
+    ensures { OnOk result (values_of map.new.entries ≡ values_of map.old.entries ++ value ∷ []) }
+{
+    map.insert_unique(key, value)?;
+    Ok(())
+}
+
+pub fn insert_unique_then_ends(
+    map: &mut VecMap<u32, u32>,
+    key: u32,
+    value: u32,
+) -> Result<(), AllocError>
+    requires absent { lookup nat_eq map.old.entries key ≡ None }
+    ensures { OnOk result (slice_get map.new.entries (length map.new.entries - 1) ≡ Some
+        (key, value)) }
+{
+    map.insert_unique(key, value)?;
+    Ok(())
+}
+
+pub fn insert_unique_then_key_generic<K: Eq + Drop>(
+    map: &mut VecMap<K, u32>,
+    key: K,
+    value: u32,
+) -> Result<(), AllocError>
+    requires absent { lookup K.eq map.old.entries key ≡ None }
+    ensures { OnOk result (lookup K.eq map.new.entries key ≡ Some value) }
+{
+    map.insert_unique(key, value)?;
+    Ok(())
+}
+
+pub fn insert_unique_then_lookup_generic<K: Eq + Drop>(
+    map: &mut VecMap<K, u32>,
+    key: K,
+    value: u32,
+) -> Result<(), AllocError>
+    requires absent { lookup K.eq map.old.entries key ≡ None }
+    ensures { OnOk result ((q : K) → lookup K.eq map.new.entries q ≡ (if K.eq key q then Some value
+        else lookup K.eq map.old.entries q)) }
+{
+    map.insert_unique(key, value)?;
+    Ok(())
+}
+
+pub fn insert_unique_then_distinct_generic<K: Eq + Drop>(
+    map: &mut VecMap<K, u32>,
+    key: K,
+    value: u32,
+) -> Result<(), AllocError>
+    requires distinct { HasDistinctKeys K.eq map.old.entries }
+    requires absent { lookup K.eq map.old.entries key ≡ None }
+    ensures { OnOk result (HasDistinctKeys K.eq map.new.entries) }
+{
+    map.insert_unique(key, value)?;
+    Ok(())
+}
+
+pub fn insert_unique_then_length_generic<K: Eq + Drop>(
+    map: &mut VecMap<K, u32>,
+    key: K,
+    value: u32,
+) -> Result<(), AllocError>
+    requires absent { lookup K.eq map.old.entries key ≡ None }
+    ensures { OnOk result (length map.new.entries ≡ length map.old.entries + 1) }
+{
+    map.insert_unique(key, value)?;
+    Ok(())
+}
+
+pub fn index_or_try_insert_with_then_lookup(
+    map: &mut VecMap<u32, u32>,
+    key: u32,
+    value: u32,
+) -> Result<(), AllocError>
+    ensures { OnOk result ((q : ℕ) → nat_eq key q ≡ false → lookup nat_eq map.new.entries q ≡ lookup
+        nat_eq map.old.entries q) }
+{
+    let pair = (key, value);
+    map.index_or_try_insert_with(
+        &key,
+        || -> Result<(u32, u32), Refused<(u32, u32)>>
+            ensures { result ≡ Ok pair }
+        { Ok(pair) },
+    )?;
+    Ok(())
+}
+
+pub fn index_or_try_insert_with_then_present(
+    map: &mut VecMap<u32, u32>,
+    key: u32,
+    value: u32,
+) -> Result<(), AllocError>
+    ensures { OnOk result (is_some (index_of nat_eq map.new.entries key) ≡ true) }
+{
+    let pair = (key, value);
+    map.index_or_try_insert_with(
+        &key,
+        || -> Result<(u32, u32), Refused<(u32, u32)>>
+            ensures { result ≡ Ok pair }
+        { Ok(pair) },
+    )?;
+    Ok(())
+}
+
+pub fn index_or_try_insert_with_then_order(
+    map: &mut VecMap<u32, u32>,
+    key: u32,
+    value: u32,
+) -> Result<(), AllocError>
+    ensures { OnOk result (take (length map.old.entries) (keys_of map.new.entries) ≡ keys_of
+        map.old.entries) }
+{
+    let pair = (key, value);
+    map.index_or_try_insert_with(
+        &key,
+        || -> Result<(u32, u32), Refused<(u32, u32)>>
+            ensures { result ≡ Ok pair }
+        { Ok(pair) },
+    )?;
+    Ok(())
+}
+
+pub fn index_or_try_insert_with_then_distinct(
+    map: &mut VecMap<u32, u32>,
+    key: u32,
+    value: u32,
+) -> Result<(), AllocError>
+    requires distinct { HasDistinctKeys nat_eq map.old.entries }
+    ensures { OnOk result (HasDistinctKeys nat_eq map.new.entries) }
+{
+    let pair = (key, value);
+    map.index_or_try_insert_with(
+        &key,
+        || -> Result<(u32, u32), Refused<(u32, u32)>>
+            ensures { result ≡ Ok pair }
+        { Ok(pair) },
+    )?;
+    Ok(())
+}
+
+pub fn index_or_try_insert_with_then_empty(
+    map: &mut VecMap<u32, u32>,
+    key: u32,
+    value: u32,
+) -> Result<(), AllocError>
+    ensures { OnOk result (0 < length map.new.entries) }
+{
+    let pair = (key, value);
+    map.index_or_try_insert_with(
+        &key,
+        || -> Result<(u32, u32), Refused<(u32, u32)>>
+            ensures { result ≡ Ok pair }
+        { Ok(pair) },
+    )?;
+    Ok(())
+}

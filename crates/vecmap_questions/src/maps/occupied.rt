@@ -1,0 +1,1 @@
+//! Writes and removals through an occupied entry.

@@ -1,0 +1,1 @@
+//! Lookups by an index, sizes and binary searches.

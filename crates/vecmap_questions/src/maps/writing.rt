@@ -1,0 +1,1 @@
+//! Writes of the value of a key.

@@ -1,0 +1,1 @@
+//! Writes at an index, and of all values.

@@ -1,0 +1,1 @@
+//! Many elements at once.

@@ -1,0 +1,199 @@
+//! Lookups, sizes and binary searches.
+ghost use Rattle.std.specs.Prelude.{◌≡◌, ◌-◌, ◌<◌, ◌≤◌, ℕ, String, [], IfErr, IfOk, IfSome, IsTrue, None, Some, false, is_some, length, nat_eq, nat_lt, option_map, slice_get, string_eq, take, true};
+ghost use Rattle.std.specs.List.{All, list_any};
+ghost use Rattle.std.specs.List.Sorted.{IsPartitionedBy, IsSorted};
+ghost use Rattle.std.specs.Ordering.{nat_cmp};
+ghost use Rattle.std.specs.Set.{is_member};
+ghost use Rattle.std.specs.declared.alloc.Global.{Global};
+ghost use Rattle.vecmap.specs.Items.{item_index};
+ghost use Rattle.vecmap.specs.Pairs.{has_text};
+
+use std::alloc::Global;
+use vecmap::VecSet;
+
+pub fn contains_then_present(set: &VecSet<u32>, item: u32) -> bool
+    ensures { result ≡ is_member nat_eq set.now.elements item }
+{
+    set.contains(&item)
+}
+
+pub fn contains_then_empty(set: &VecSet<u32>, item: u32) -> bool
+    ensures { IsTrue result → 0 < length set.now.elements }
+{
+    set.contains(&item)
+}
+
+pub fn contains_then_present_generic<T: Eq + Drop>(set: &VecSet<T>, item: &T) -> bool
+    ensures { result ≡ is_member T.eq set.now.elements item.now }
+{
+    set.contains(item)
+}
+
+pub fn contains_then_query_by_text(set: &VecSet<String>, text: &str) -> bool
+    ensures { result ≡ list_any (has_text text.now) set.now.elements }
+{
+    set.contains(text)
+}
+
+pub fn contains_then_present_by_text(set: &VecSet<String>, text: &str) -> bool
+    ensures { (q : String Global) → IsTrue (has_text text.now q) → result ≡ is_member string_eq
+        set.now.elements q }
+{
+    set.contains(text)
+}
+
+pub fn contains_str_then_query_by_text(set: &VecSet<String>, text: &str) -> bool
+    ensures { result ≡ list_any (has_text text.now) set.now.elements }
+{
+    set.contains_str(text)
+}
+
+pub fn get_then_present(set: &VecSet<u32>, item: u32) -> Option<u32>
+    ensures { is_some result ≡ is_member nat_eq set.now.elements item }
+{
+    set.get(&item).copied()
+}
+
+pub fn get_index_of_then_present(set: &VecSet<u32>, item: u32) -> Option<usize>
+    ensures { is_some result ≡ is_member nat_eq set.now.elements item }
+{
+    set.get_index_of(&item)
+}
+
+pub fn get_index_of_then_index(set: &VecSet<u32>, item: u32) -> Option<usize>
+    ensures { result ≡ item_index nat_eq set.now.elements item }
+{
+    set.get_index_of(&item)
+}
+
+pub fn get_index_of_then_length(set: &VecSet<u32>, item: u32) -> Option<usize>
+    ensures { IfSome result (λ i. i < length set.now.elements) }
+{
+    set.get_index_of(&item)
+}
+
+pub fn get_index_of_then_present_generic<T: Eq + Drop>(set: &VecSet<T>, item: &T) -> Option<usize>
+    ensures { is_some result ≡ is_member T.eq set.now.elements item.now }
+{
+    set.get_index_of(item)
+}
+
+pub fn get_full_then_index(set: &VecSet<u32>, item: u32) -> Option<(usize, u32)>
+    ensures { option_map (λ found. found.0) result ≡ item_index nat_eq set.now.elements item }
+{
+    let (index, stored) = set.get_full(&item)?;
+    Some((index, *stored))
+}
+
+pub fn get_full_then_element(set: &VecSet<u32>, item: u32) -> Option<(usize, u32)>
+    ensures { IfSome result (λ found. slice_get set.now.elements found.0 ≡ Some found.1) }
+{
+    let (index, stored) = set.get_full(&item)?;
+    Some((index, *stored))
+}
+
+pub fn get_index_then_element(set: &VecSet<u32>, index: usize) -> Option<u32>
+    ensures { result ≡ slice_get set.now.elements index }
+{
+    set.get_index(index).copied()
+}
+
+pub fn get_index_then_present(set: &VecSet<u32>, index: usize) -> Option<u32>
+    ensures { IfSome result (λ x. is_member nat_eq set.now.elements x ≡ true) }
+{
+    set.get_index(index).copied()
+}
+
+pub fn get_index_then_length(set: &VecSet<u32>, index: usize) -> Option<u32>
+    ensures { is_some result ≡ nat_lt index (length set.now.elements) }
+{
+    set.get_index(index).copied()
+}
+
+pub fn index_at_then_element(set: &VecSet<u32>, index: usize) -> u32
+    requires within { index < length set.now.elements }
+    ensures { slice_get set.now.elements index ≡ Some result }
+{
+    set[index]
+}
+
+pub fn first_then_ends(set: &VecSet<u32>) -> Option<u32>
+    ensures { result ≡ slice_get set.now.elements 0 }
+{
+    set.first().copied()
+}
+
+pub fn first_then_present(set: &VecSet<u32>) -> Option<u32>
+    ensures { IfSome result (λ x. is_member nat_eq set.now.elements x ≡ true) }
+{
+    set.first().copied()
+}
+
+pub fn first_then_empty(set: &VecSet<u32>) -> Option<u32>
+    ensures { result ≡ None → length set.now.elements ≡ 0 }
+{
+    set.first().copied()
+}
+
+pub fn last_then_ends(set: &VecSet<u32>) -> Option<u32>
+    ensures { result ≡ slice_get set.now.elements (length set.now.elements - 1) }
+{
+    set.last().copied()
+}
+
+pub fn last_then_present(set: &VecSet<u32>) -> Option<u32>
+    ensures { IfSome result (λ x. is_member nat_eq set.now.elements x ≡ true) }
+{
+    set.last().copied()
+}
+
+pub fn last_then_empty(set: &VecSet<u32>) -> Option<u32>
+    ensures { result ≡ None → length set.now.elements ≡ 0 }
+{
+    set.last().copied()
+}
+
+pub fn len_then_length(set: &VecSet<u32>) -> usize
+    ensures { result ≡ length set.now.elements }
+{
+    set.len()
+}
+
+pub fn is_empty_then_members(set: &VecSet<u32>) -> bool
+    ensures { IsTrue result → (q : ℕ) → is_member nat_eq set.now.elements q ≡ false }
+{
+    set.is_empty()
+}
+
+pub fn is_empty_then_empty(set: &VecSet<u32>) -> bool
+    ensures { IsTrue result → set.now.elements ≡ [] }
+{
+    set.is_empty()
+}
+
+pub fn binary_search_then_element(set: &VecSet<u32>, item: u32) -> Result<usize, usize>
+    requires sorted { IsSorted nat_cmp set.now.elements }
+    ensures { IfOk result (λ i. slice_get set.now.elements i ≡ Some item) }
+{
+    set.binary_search(&item)
+}
+
+pub fn binary_search_then_length(set: &VecSet<u32>, item: u32) -> Result<usize, usize>
+    requires sorted { IsSorted nat_cmp set.now.elements }
+    ensures { IfErr result (λ i. i ≤ length set.now.elements) }
+{
+    set.binary_search(&item)
+}
+
+pub fn partition_point_then_length(set: &VecSet<u32>, item: u32) -> usize
+    ensures { result ≤ length set.now.elements }
+{
+    set.partition_point(|x| *x < item)
+}
+
+pub fn partition_point_then_element(set: &VecSet<u32>, item: u32) -> usize
+    ensures { IsPartitionedBy (λ x. nat_lt x item) set.now.elements → All (λ x. x < item) (take
+        result set.now.elements) }
+{
+    set.partition_point(|x| *x < item)
+}

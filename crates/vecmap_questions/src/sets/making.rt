@@ -1,0 +1,1 @@
+//! New sets, copies and equality.

@@ -1,0 +1,1 @@
+//! Operators, lazy iterators and relations of two sets.

@@ -1,0 +1,1 @@
+//! Removals of many elements, and of the last.

@@ -1,0 +1,1 @@
+//! Removals that move the last element, and removals by an index.
