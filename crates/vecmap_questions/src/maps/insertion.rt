@@ -18,8 +18,8 @@ pub fn insert_then_lookup(
     key: u32,
     value: u32,
 ) -> Result<(), AllocError>
-    ensures { OnOk result ((q : ℕ) → lookup nat_eq map.new.entries q ≡ (if nat_eq key q then Some
-        value else lookup nat_eq map.old.entries q)) }
+    ensures { OnOk result ((q : ℕ) → lookup nat_eq map.new.entries q ≡ (if nat_eq key q
+        then Some value else lookup nat_eq map.old.entries q)) }
 {
     map.insert(key, value)?;
     Ok(())
@@ -127,8 +127,8 @@ pub fn insert_full_then_lookup(
     key: u32,
     value: u32,
 ) -> Result<(), AllocError>
-    ensures { OnOk result ((q : ℕ) → lookup nat_eq map.new.entries q ≡ (if nat_eq key q then Some
-        value else lookup nat_eq map.old.entries q)) }
+    ensures { OnOk result ((q : ℕ) → lookup nat_eq map.new.entries q ≡ (if nat_eq key q
+        then Some value else lookup nat_eq map.old.entries q)) }
 {
     map.insert_full(key, value)?;
     Ok(())
@@ -184,8 +184,8 @@ pub fn insert_key_then_lookup(
     key: u32,
     value: u32,
 ) -> Result<(), AllocError>
-    ensures { OnOk result ((q : ℕ) → lookup nat_eq map.new.entries q ≡ (if nat_eq key q then Some
-        value else lookup nat_eq map.old.entries q)) }
+    ensures { OnOk result ((q : ℕ) → lookup nat_eq map.new.entries q ≡ (if nat_eq key q
+        then Some value else lookup nat_eq map.old.entries q)) }
 {
     map.insert_key(key, value)?;
     Ok(())

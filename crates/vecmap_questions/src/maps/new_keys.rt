@@ -68,8 +68,8 @@ pub fn insert_at_then_lookup(
 ) -> Result<(), AllocError>
     requires distinct { HasDistinctKeys nat_eq map.old.entries }
     requires within { index ≤ length map.old.entries }
-    ensures { OnOk result ((q : ℕ) → lookup nat_eq map.new.entries q ≡ (if nat_eq key q then Some
-        value else lookup nat_eq map.old.entries q)) }
+    ensures { OnOk result ((q : ℕ) → lookup nat_eq map.new.entries q ≡ (if nat_eq key q
+        then Some value else lookup nat_eq map.old.entries q)) }
 {
     map.insert_at(index, key, value)?;
     Ok(())
@@ -136,8 +136,8 @@ pub fn insert_unique_then_lookup(
     value: u32,
 ) -> Result<(), AllocError>
     requires absent { lookup nat_eq map.old.entries key ≡ None }
-    ensures { OnOk result ((q : ℕ) → lookup nat_eq map.new.entries q ≡ (if nat_eq key q then Some
-        value else lookup nat_eq map.old.entries q)) }
+    ensures { OnOk result ((q : ℕ) → lookup nat_eq map.new.entries q ≡ (if nat_eq key q
+        then Some value else lookup nat_eq map.old.entries q)) }
 {
     map.insert_unique(key, value)?;
     Ok(())
@@ -247,8 +247,8 @@ pub fn insert_unique_then_ends(
     value: u32,
 ) -> Result<(), AllocError>
     requires absent { lookup nat_eq map.old.entries key ≡ None }
-    ensures { OnOk result (slice_get map.new.entries (length map.new.entries - 1) ≡ Some
-        (key, value)) }
+    ensures { OnOk result (slice_get map.new.entries (length map.new.entries - 1)
+        ≡ Some (key, value)) }
 {
     map.insert_unique(key, value)?;
     Ok(())
