@@ -1,1 +1,224 @@
 //! Writes at an index, and of all values.
+ghost use Rattle.std.specs.Prelude.{◌≡◌, ◌-◌, ◌/◌, ◌<◌, ℕ, Some, if◌then◌else◌, length, nat_eq, option_map};
+ghost use Rattle.std.specs.Map.{keys_of};
+ghost use Rattle.vecmap.specs.Pairs.{HasDistinctKeys, index_of, lookup, value_at};
+
+use vecmap::VecMap;
+
+pub fn index_mut_at_then_key(map: &mut VecMap<u32, u32>, index: usize, value: u32)
+    requires distinct { HasDistinctKeys nat_eq map.old.entries }
+    requires within { index < length map.old.entries }
+    ensures { (k : ℕ) → index_of nat_eq map.old.entries k ≡ Some index → lookup nat_eq
+        map.new.entries k ≡ Some value }
+{
+    map[index] = value;
+}
+
+pub fn index_mut_at_then_pair(map: &mut VecMap<u32, u32>, index: usize, value: u32)
+    requires within { index < length map.old.entries }
+    ensures { (i : ℕ) → value_at map.new.entries i ≡ (if nat_eq i index then Some value
+        else value_at map.old.entries i) }
+{
+    map[index] = value;
+}
+
+pub fn index_mut_at_then_length(map: &mut VecMap<u32, u32>, index: usize, value: u32)
+    requires within { index < length map.old.entries }
+    ensures { length map.new.entries ≡ length map.old.entries }
+{
+    map[index] = value;
+}
+
+pub fn index_mut_at_then_keys(map: &mut VecMap<u32, u32>, index: usize, value: u32)
+    requires within { index < length map.old.entries }
+    ensures { keys_of map.new.entries ≡ keys_of map.old.entries }
+{
+    map[index] = value;
+}
+
+pub fn index_mut_at_then_distinct(map: &mut VecMap<u32, u32>, index: usize, value: u32)
+    requires distinct { HasDistinctKeys nat_eq map.old.entries }
+    requires within { index < length map.old.entries }
+    ensures { HasDistinctKeys nat_eq map.new.entries }
+{
+    map[index] = value;
+}
+
+pub fn index_mut_at_then_empty(map: &mut VecMap<u32, u32>, index: usize, value: u32)
+    requires within { index < length map.old.entries }
+    ensures { 0 < length map.new.entries }
+{
+    map[index] = value;
+}
+
+pub fn get_value_at_mut_then_key(map: &mut VecMap<u32, u32>, index: usize, value: u32)
+    requires distinct { HasDistinctKeys nat_eq map.old.entries }
+    requires within { index < length map.old.entries }
+    ensures { (k : ℕ) → index_of nat_eq map.old.entries k ≡ Some index → lookup nat_eq
+        map.new.entries k ≡ Some value }
+{
+    if let Some(stored) = map.get_value_at_mut(index) {
+        *stored = value;
+    }
+}
+
+pub fn get_value_at_mut_then_pair(map: &mut VecMap<u32, u32>, index: usize, value: u32)
+    requires within { index < length map.old.entries }
+    ensures { (i : ℕ) → value_at map.new.entries i ≡ (if nat_eq i index then Some value
+        else value_at map.old.entries i) }
+{
+    if let Some(stored) = map.get_value_at_mut(index) {
+        *stored = value;
+    }
+}
+
+pub fn get_value_at_mut_then_length(map: &mut VecMap<u32, u32>, index: usize, value: u32)
+    requires within { index < length map.old.entries }
+    ensures { length map.new.entries ≡ length map.old.entries }
+{
+    if let Some(stored) = map.get_value_at_mut(index) {
+        *stored = value;
+    }
+}
+
+pub fn get_value_at_mut_then_keys(map: &mut VecMap<u32, u32>, index: usize, value: u32)
+    requires within { index < length map.old.entries }
+    ensures { keys_of map.new.entries ≡ keys_of map.old.entries }
+{
+    if let Some(stored) = map.get_value_at_mut(index) {
+        *stored = value;
+    }
+}
+
+pub fn get_value_at_mut_then_distinct(map: &mut VecMap<u32, u32>, index: usize, value: u32)
+    requires distinct { HasDistinctKeys nat_eq map.old.entries }
+    requires within { index < length map.old.entries }
+    ensures { HasDistinctKeys nat_eq map.new.entries }
+{
+    if let Some(stored) = map.get_value_at_mut(index) {
+        *stored = value;
+    }
+}
+
+pub fn get_value_at_mut_then_empty(map: &mut VecMap<u32, u32>, index: usize, value: u32)
+    requires within { index < length map.old.entries }
+    ensures { 0 < length map.new.entries }
+{
+    if let Some(stored) = map.get_value_at_mut(index) {
+        *stored = value;
+    }
+}
+
+pub fn first_value_mut_then_pair(map: &mut VecMap<u32, u32>, value: u32)
+    requires not_empty { 0 < length map.old.entries }
+    ensures { value_at map.new.entries 0 ≡ Some value }
+{
+    if let Some(stored) = map.first_value_mut() {
+        *stored = value;
+    }
+}
+
+pub fn first_value_mut_then_length(map: &mut VecMap<u32, u32>, value: u32)
+    requires not_empty { 0 < length map.old.entries }
+    ensures { length map.new.entries ≡ length map.old.entries }
+{
+    if let Some(stored) = map.first_value_mut() {
+        *stored = value;
+    }
+}
+
+pub fn first_value_mut_then_keys(map: &mut VecMap<u32, u32>, value: u32)
+    requires not_empty { 0 < length map.old.entries }
+    ensures { keys_of map.new.entries ≡ keys_of map.old.entries }
+{
+    if let Some(stored) = map.first_value_mut() {
+        *stored = value;
+    }
+}
+
+pub fn first_value_mut_then_distinct(map: &mut VecMap<u32, u32>, value: u32)
+    requires distinct { HasDistinctKeys nat_eq map.old.entries }
+    requires not_empty { 0 < length map.old.entries }
+    ensures { HasDistinctKeys nat_eq map.new.entries }
+{
+    if let Some(stored) = map.first_value_mut() {
+        *stored = value;
+    }
+}
+
+pub fn last_value_mut_then_pair(map: &mut VecMap<u32, u32>, value: u32)
+    requires not_empty { 0 < length map.old.entries }
+    ensures { value_at map.new.entries (length map.new.entries - 1) ≡ Some value }
+{
+    if let Some(stored) = map.last_value_mut() {
+        *stored = value;
+    }
+}
+
+pub fn last_value_mut_then_length(map: &mut VecMap<u32, u32>, value: u32)
+    requires not_empty { 0 < length map.old.entries }
+    ensures { length map.new.entries ≡ length map.old.entries }
+{
+    if let Some(stored) = map.last_value_mut() {
+        *stored = value;
+    }
+}
+
+pub fn last_value_mut_then_keys(map: &mut VecMap<u32, u32>, value: u32)
+    requires not_empty { 0 < length map.old.entries }
+    ensures { keys_of map.new.entries ≡ keys_of map.old.entries }
+{
+    if let Some(stored) = map.last_value_mut() {
+        *stored = value;
+    }
+}
+
+pub fn last_value_mut_then_distinct(map: &mut VecMap<u32, u32>, value: u32)
+    requires distinct { HasDistinctKeys nat_eq map.old.entries }
+    requires not_empty { 0 < length map.old.entries }
+    ensures { HasDistinctKeys nat_eq map.new.entries }
+{
+    if let Some(stored) = map.last_value_mut() {
+        *stored = value;
+    }
+}
+
+pub fn update_values_then_lookup(map: &mut VecMap<u32, u32>, value: u32)
+    ensures { (q : ℕ) → lookup nat_eq map.new.entries q ≡ option_map (λ _. value) (lookup nat_eq
+        map.old.entries q) }
+{
+    map.update_values(|_key, stored| *stored = value);
+}
+
+pub fn update_values_then_length(map: &mut VecMap<u32, u32>, value: u32)
+    ensures { length map.new.entries ≡ length map.old.entries }
+{
+    map.update_values(|_key, stored| *stored = value);
+}
+
+pub fn update_values_then_keys(map: &mut VecMap<u32, u32>, value: u32)
+    ensures { keys_of map.new.entries ≡ keys_of map.old.entries }
+{
+    map.update_values(|_key, stored| *stored = value);
+}
+
+pub fn update_values_then_distinct(map: &mut VecMap<u32, u32>, value: u32)
+    requires distinct { HasDistinctKeys nat_eq map.old.entries }
+    ensures { HasDistinctKeys nat_eq map.new.entries }
+{
+    map.update_values(|_key, stored| *stored = value);
+}
+
+pub fn update_values_then_lookup_generic<K: Eq + Drop>(map: &mut VecMap<K, u32>)
+    ensures { (q : K) → lookup K.eq map.new.entries q ≡ option_map (λ v. v / 2) (lookup K.eq
+        map.old.entries q) }
+{
+    map.update_values(|_key, stored| *stored /= 2);
+}
+
+pub fn update_values_then_distinct_generic<K: Eq + Drop>(map: &mut VecMap<K, u32>)
+    requires distinct { HasDistinctKeys K.eq map.old.entries }
+    ensures { HasDistinctKeys K.eq map.new.entries }
+{
+    map.update_values(|_key, stored| *stored /= 2);
+}
