@@ -1,1 +1,451 @@
 //! Insertions through an entry.
+ghost use Rattle.std.specs.Prelude.{◌≡◌, ◌+◌, ◌-◌, ◌++◌, ◌∷◌, ◌<◌, ℕ, [], None, OnOk, Some, if◌then◌else◌, is_some, length, nat_eq, slice_get, unwrap_or};
+ghost use Rattle.std.specs.Map.{values_of};
+ghost use Rattle.vecmap.specs.Pairs.{HasDistinctKeys, lookup};
+
+use std::alloc::AllocError;
+use vecmap::VecMap;
+
+pub fn or_insert_then_key(
+    map: &mut VecMap<u32, u32>,
+    key: u32,
+    value: u32,
+) -> Result<(), AllocError>
+    ensures { OnOk result (lookup nat_eq map.new.entries key ≡ Some (unwrap_or (lookup nat_eq
+        map.old.entries key) value)) }
+{
+    map.entry(key).or_insert(value)?;
+    Ok(())
+}
+
+pub fn or_insert_then_lookup(
+    map: &mut VecMap<u32, u32>,
+    key: u32,
+    value: u32,
+) -> Result<(), AllocError>
+    ensures { OnOk result ((q : ℕ) → lookup nat_eq map.new.entries q ≡ (if nat_eq key q
+        then Some (unwrap_or (lookup nat_eq map.old.entries key) value) else lookup nat_eq
+        map.old.entries q)) }
+{
+    map.entry(key).or_insert(value)?;
+    Ok(())
+}
+
+pub fn or_insert_then_pair(
+    map: &mut VecMap<u32, u32>,
+    key: u32,
+    value: u32,
+) -> Result<(), AllocError>
+    ensures { OnOk result (lookup nat_eq map.old.entries key ≡ None → slice_get map.new.entries
+        (length map.old.entries) ≡ Some (key, value)) }
+{
+    map.entry(key).or_insert(value)?;
+    Ok(())
+}
+
+pub fn or_insert_then_length(
+    map: &mut VecMap<u32, u32>,
+    key: u32,
+    value: u32,
+) -> Result<(), AllocError>
+    ensures { OnOk result (length map.new.entries ≡ (if is_some (lookup nat_eq map.old.entries key)
+        then length map.old.entries else length map.old.entries + 1)) }
+{
+    map.entry(key).or_insert(value)?;
+    Ok(())
+}
+
+pub fn or_insert_then_values(
+    map: &mut VecMap<u32, u32>,
+    key: u32,
+    value: u32,
+) -> Result<(), AllocError>
+    ensures { OnOk result (lookup nat_eq map.old.entries key ≡ None → values_of map.new.entries
+        ≡ values_of map.old.entries ++ value ∷ []) }
+{
+    map.entry(key).or_insert(value)?;
+    Ok(())
+}
+
+pub fn or_insert_then_distinct(
+    map: &mut VecMap<u32, u32>,
+    key: u32,
+    value: u32,
+) -> Result<(), AllocError>
+    requires distinct { HasDistinctKeys nat_eq map.old.entries }
+    ensures { OnOk result (HasDistinctKeys nat_eq map.new.entries) }
+{
+    map.entry(key).or_insert(value)?;
+    Ok(())
+}
+
+pub fn or_insert_then_empty(
+    map: &mut VecMap<u32, u32>,
+    key: u32,
+    value: u32,
+) -> Result<(), AllocError>
+    ensures { OnOk result (0 < length map.new.entries) }
+{
+    map.entry(key).or_insert(value)?;
+    Ok(())
+}
+
+pub fn or_insert_then_ends(
+    map: &mut VecMap<u32, u32>,
+    key: u32,
+    value: u32,
+) -> Result<(), AllocError>
+    ensures { OnOk result (lookup nat_eq map.old.entries key ≡ None → slice_get map.new.entries
+        (length map.new.entries - 1) ≡ Some (key, value)) }
+{
+    map.entry(key).or_insert(value)?;
+    Ok(())
+}
+
+pub fn or_insert_then_key_generic<K: Eq + Drop>(
+    map: &mut VecMap<K, u32>,
+    key: K,
+    value: u32,
+) -> Result<(), AllocError>
+    ensures { OnOk result (lookup K.eq map.new.entries key ≡ Some (unwrap_or (lookup K.eq
+        map.old.entries key) value)) }
+{
+    map.entry(key).or_insert(value)?;
+    Ok(())
+}
+
+pub fn or_insert_then_lookup_generic<K: Eq + Drop>(
+    map: &mut VecMap<K, u32>,
+    key: K,
+    value: u32,
+) -> Result<(), AllocError>
+    ensures { OnOk result ((q : K) → lookup K.eq map.new.entries q ≡ (if K.eq key q
+        then Some (unwrap_or (lookup K.eq map.old.entries key) value) else lookup K.eq
+        map.old.entries q)) }
+{
+    map.entry(key).or_insert(value)?;
+    Ok(())
+}
+
+pub fn or_insert_then_length_generic<K: Eq + Drop>(
+    map: &mut VecMap<K, u32>,
+    key: K,
+    value: u32,
+) -> Result<(), AllocError>
+    ensures { OnOk result (length map.new.entries ≡ (if is_some (lookup K.eq map.old.entries key)
+        then length map.old.entries else length map.old.entries + 1)) }
+{
+    map.entry(key).or_insert(value)?;
+    Ok(())
+}
+
+pub fn or_insert_then_distinct_generic<K: Eq + Drop>(
+    map: &mut VecMap<K, u32>,
+    key: K,
+    value: u32,
+) -> Result<(), AllocError>
+    requires distinct { HasDistinctKeys K.eq map.old.entries }
+    ensures { OnOk result (HasDistinctKeys K.eq map.new.entries) }
+{
+    map.entry(key).or_insert(value)?;
+    Ok(())
+}
+
+pub fn or_insert_and_write_then_key(
+    map: &mut VecMap<u32, u32>,
+    key: u32,
+    value: u32,
+) -> Result<(), AllocError>
+    ensures { OnOk result (lookup nat_eq map.new.entries key ≡ Some value) }
+{
+    *map.entry(key).or_insert(0)? = value;
+    Ok(())
+}
+
+pub fn or_insert_and_write_then_lookup(
+    map: &mut VecMap<u32, u32>,
+    key: u32,
+    value: u32,
+) -> Result<(), AllocError>
+    ensures { OnOk result ((q : ℕ) → lookup nat_eq map.new.entries q ≡ (if nat_eq key q
+        then Some value else lookup nat_eq map.old.entries q)) }
+{
+    *map.entry(key).or_insert(0)? = value;
+    Ok(())
+}
+
+pub fn or_insert_and_write_then_length(
+    map: &mut VecMap<u32, u32>,
+    key: u32,
+    value: u32,
+) -> Result<(), AllocError>
+    ensures { OnOk result (length map.new.entries ≡ (if is_some (lookup nat_eq map.old.entries key)
+        then length map.old.entries else length map.old.entries + 1)) }
+{
+    *map.entry(key).or_insert(0)? = value;
+    Ok(())
+}
+
+pub fn or_insert_and_write_then_distinct(
+    map: &mut VecMap<u32, u32>,
+    key: u32,
+    value: u32,
+) -> Result<(), AllocError>
+    requires distinct { HasDistinctKeys nat_eq map.old.entries }
+    ensures { OnOk result (HasDistinctKeys nat_eq map.new.entries) }
+{
+    *map.entry(key).or_insert(0)? = value;
+    Ok(())
+}
+
+pub fn or_insert_and_write_then_empty(
+    map: &mut VecMap<u32, u32>,
+    key: u32,
+    value: u32,
+) -> Result<(), AllocError>
+    ensures { OnOk result (0 < length map.new.entries) }
+{
+    *map.entry(key).or_insert(0)? = value;
+    Ok(())
+}
+
+pub fn or_insert_and_write_then_ends(
+    map: &mut VecMap<u32, u32>,
+    key: u32,
+    value: u32,
+) -> Result<(), AllocError>
+    ensures { OnOk result (lookup nat_eq map.old.entries key ≡ None → slice_get map.new.entries
+        (length map.new.entries - 1) ≡ Some (key, value)) }
+{
+    *map.entry(key).or_insert(0)? = value;
+    Ok(())
+}
+
+pub fn or_insert_with_then_key(
+    map: &mut VecMap<u32, u32>,
+    key: u32,
+    value: u32,
+) -> Result<(), AllocError>
+    ensures { OnOk result (lookup nat_eq map.new.entries key ≡ Some (unwrap_or (lookup nat_eq
+        map.old.entries key) value)) }
+{
+    map.entry(key).or_insert_with(|| value)?;
+    Ok(())
+}
+
+pub fn or_insert_with_then_lookup(
+    map: &mut VecMap<u32, u32>,
+    key: u32,
+    value: u32,
+) -> Result<(), AllocError>
+    ensures { OnOk result ((q : ℕ) → lookup nat_eq map.new.entries q ≡ (if nat_eq key q
+        then Some (unwrap_or (lookup nat_eq map.old.entries key) value) else lookup nat_eq
+        map.old.entries q)) }
+{
+    map.entry(key).or_insert_with(|| value)?;
+    Ok(())
+}
+
+pub fn or_insert_with_then_length(
+    map: &mut VecMap<u32, u32>,
+    key: u32,
+    value: u32,
+) -> Result<(), AllocError>
+    ensures { OnOk result (length map.new.entries ≡ (if is_some (lookup nat_eq map.old.entries key)
+        then length map.old.entries else length map.old.entries + 1)) }
+{
+    map.entry(key).or_insert_with(|| value)?;
+    Ok(())
+}
+
+pub fn or_insert_with_then_distinct(
+    map: &mut VecMap<u32, u32>,
+    key: u32,
+    value: u32,
+) -> Result<(), AllocError>
+    requires distinct { HasDistinctKeys nat_eq map.old.entries }
+    ensures { OnOk result (HasDistinctKeys nat_eq map.new.entries) }
+{
+    map.entry(key).or_insert_with(|| value)?;
+    Ok(())
+}
+
+pub fn or_insert_with_key_then_key(map: &mut VecMap<u32, u32>, key: u32) -> Result<(), AllocError>
+    ensures { OnOk result (lookup nat_eq map.new.entries key ≡ Some (unwrap_or (lookup nat_eq
+        map.old.entries key) key)) }
+{
+    map.entry(key).or_insert_with_key(|k| *k)?;
+    Ok(())
+}
+
+pub fn or_insert_with_key_then_length(
+    map: &mut VecMap<u32, u32>,
+    key: u32,
+) -> Result<(), AllocError>
+    ensures { OnOk result (length map.new.entries ≡ (if is_some (lookup nat_eq map.old.entries key)
+        then length map.old.entries else length map.old.entries + 1)) }
+{
+    map.entry(key).or_insert_with_key(|k| *k)?;
+    Ok(())
+}
+
+pub fn or_insert_with_key_then_distinct(
+    map: &mut VecMap<u32, u32>,
+    key: u32,
+) -> Result<(), AllocError>
+    requires distinct { HasDistinctKeys nat_eq map.old.entries }
+    ensures { OnOk result (HasDistinctKeys nat_eq map.new.entries) }
+{
+    map.entry(key).or_insert_with_key(|k| *k)?;
+    Ok(())
+}
+
+pub fn or_default_then_key(map: &mut VecMap<u32, u32>, key: u32) -> Result<(), AllocError>
+    ensures { OnOk result (lookup nat_eq map.new.entries key ≡ Some (unwrap_or (lookup nat_eq
+        map.old.entries key) 0)) }
+{
+    map.entry(key).or_default()?;
+    Ok(())
+}
+
+pub fn or_default_then_lookup(map: &mut VecMap<u32, u32>, key: u32) -> Result<(), AllocError>
+    ensures { OnOk result ((q : ℕ) → lookup nat_eq map.new.entries q ≡ (if nat_eq key q
+        then Some (unwrap_or (lookup nat_eq map.old.entries key) 0) else lookup nat_eq
+        map.old.entries q)) }
+{
+    map.entry(key).or_default()?;
+    Ok(())
+}
+
+pub fn or_default_then_length(map: &mut VecMap<u32, u32>, key: u32) -> Result<(), AllocError>
+    ensures { OnOk result (length map.new.entries ≡ (if is_some (lookup nat_eq map.old.entries key)
+        then length map.old.entries else length map.old.entries + 1)) }
+{
+    map.entry(key).or_default()?;
+    Ok(())
+}
+
+pub fn or_default_then_distinct(map: &mut VecMap<u32, u32>, key: u32) -> Result<(), AllocError>
+    requires distinct { HasDistinctKeys nat_eq map.old.entries }
+    ensures { OnOk result (HasDistinctKeys nat_eq map.new.entries) }
+{
+    map.entry(key).or_default()?;
+    Ok(())
+}
+
+pub fn and_modify_or_insert_then_key(
+    map: &mut VecMap<u32, u32>,
+    key: u32,
+    value: u32,
+) -> Result<(), AllocError>
+    ensures { OnOk result (lookup nat_eq map.new.entries key ≡ Some value) }
+{
+    map.entry(key)
+        .and_modify(|stored| *stored = value)
+        .or_insert(value)?;
+    Ok(())
+}
+
+pub fn and_modify_or_insert_then_lookup(
+    map: &mut VecMap<u32, u32>,
+    key: u32,
+    value: u32,
+) -> Result<(), AllocError>
+    ensures { OnOk result ((q : ℕ) → lookup nat_eq map.new.entries q ≡ (if nat_eq key q
+        then Some value else lookup nat_eq map.old.entries q)) }
+{
+    map.entry(key)
+        .and_modify(|stored| *stored = value)
+        .or_insert(value)?;
+    Ok(())
+}
+
+pub fn and_modify_or_insert_then_length(
+    map: &mut VecMap<u32, u32>,
+    key: u32,
+    value: u32,
+) -> Result<(), AllocError>
+    ensures { OnOk result (length map.new.entries ≡ (if is_some (lookup nat_eq map.old.entries key)
+        then length map.old.entries else length map.old.entries + 1)) }
+{
+    map.entry(key)
+        .and_modify(|stored| *stored = value)
+        .or_insert(value)?;
+    Ok(())
+}
+
+pub fn and_modify_or_insert_then_distinct(
+    map: &mut VecMap<u32, u32>,
+    key: u32,
+    value: u32,
+) -> Result<(), AllocError>
+    requires distinct { HasDistinctKeys nat_eq map.old.entries }
+    ensures { OnOk result (HasDistinctKeys nat_eq map.new.entries) }
+{
+    map.entry(key)
+        .and_modify(|stored| *stored = value)
+        .or_insert(value)?;
+    Ok(())
+}
+
+pub fn and_modify_or_insert_then_empty(
+    map: &mut VecMap<u32, u32>,
+    key: u32,
+    value: u32,
+) -> Result<(), AllocError>
+    ensures { OnOk result (0 < length map.new.entries) }
+{
+    map.entry(key)
+        .and_modify(|stored| *stored = value)
+        .or_insert(value)?;
+    Ok(())
+}
+
+pub fn and_modify_or_insert_then_ends(
+    map: &mut VecMap<u32, u32>,
+    key: u32,
+    value: u32,
+) -> Result<(), AllocError>
+    ensures { OnOk result (lookup nat_eq map.old.entries key ≡ None → slice_get map.new.entries
+        (length map.new.entries - 1) ≡ Some (key, value)) }
+{
+    map.entry(key)
+        .and_modify(|stored| *stored = value)
+        .or_insert(value)?;
+    Ok(())
+}
+
+pub fn insert_entry_then_length(
+    map: &mut VecMap<u32, u32>,
+    key: u32,
+    value: u32,
+) -> Result<(), AllocError>
+    ensures { OnOk result (length map.new.entries ≡ (if is_some (lookup nat_eq map.old.entries key)
+        then length map.old.entries else length map.old.entries + 1)) }
+{
+    map.entry(key).insert_entry(value)?;
+    Ok(())
+}
+
+pub fn insert_entry_then_empty(
+    map: &mut VecMap<u32, u32>,
+    key: u32,
+    value: u32,
+) -> Result<(), AllocError>
+    ensures { OnOk result (0 < length map.new.entries) }
+{
+    map.entry(key).insert_entry(value)?;
+    Ok(())
+}
+
+pub fn insert_entry_then_ends(
+    map: &mut VecMap<u32, u32>,
+    key: u32,
+    value: u32,
+) -> Result<(), AllocError>
+    ensures { OnOk result (lookup nat_eq map.old.entries key ≡ None → slice_get map.new.entries
+        (length map.new.entries - 1) ≡ Some (key, value)) }
+{
+    map.entry(key).insert_entry(value)?;
+    Ok(())
+}

@@ -1,1 +1,227 @@
 //! Writes and removals through an occupied entry.
+ghost use Rattle.std.specs.Prelude.{◌≡◌, ◌+◌, ◌-◌, ◌<◌, ℕ, IsSome, None, Some, if◌then◌else◌, is_some, length, nat_eq, remove, slice_get};
+ghost use Rattle.vecmap.specs.Pairs.{HasDistinctKeys, index_of, lookup};
+
+use vecmap::VecMap;
+use vecmap::map::Entry;
+
+pub fn occupied_insert_then_key(map: &mut VecMap<u32, u32>, key: u32, value: u32)
+    requires present { IsSome (lookup nat_eq map.old.entries key) }
+    ensures { lookup nat_eq map.new.entries key ≡ Some value }
+{
+    if let Entry::Occupied(mut entry) = map.entry(key) {
+        entry.insert(value);
+    }
+}
+
+pub fn occupied_insert_then_lookup(map: &mut VecMap<u32, u32>, key: u32, value: u32)
+    requires present { IsSome (lookup nat_eq map.old.entries key) }
+    ensures { (q : ℕ) → lookup nat_eq map.new.entries q ≡ (if nat_eq key q then Some value
+        else lookup nat_eq map.old.entries q) }
+{
+    if let Entry::Occupied(mut entry) = map.entry(key) {
+        entry.insert(value);
+    }
+}
+
+pub fn occupied_insert_then_length(map: &mut VecMap<u32, u32>, key: u32, value: u32)
+    requires present { IsSome (lookup nat_eq map.old.entries key) }
+    ensures { length map.new.entries ≡ length map.old.entries }
+{
+    if let Entry::Occupied(mut entry) = map.entry(key) {
+        entry.insert(value);
+    }
+}
+
+pub fn occupied_insert_then_distinct(map: &mut VecMap<u32, u32>, key: u32, value: u32)
+    requires distinct { HasDistinctKeys nat_eq map.old.entries }
+    requires present { IsSome (lookup nat_eq map.old.entries key) }
+    ensures { HasDistinctKeys nat_eq map.new.entries }
+{
+    if let Entry::Occupied(mut entry) = map.entry(key) {
+        entry.insert(value);
+    }
+}
+
+pub fn occupied_get_mut_then_key(map: &mut VecMap<u32, u32>, key: u32, value: u32)
+    requires present { IsSome (lookup nat_eq map.old.entries key) }
+    ensures { lookup nat_eq map.new.entries key ≡ Some value }
+{
+    if let Entry::Occupied(mut entry) = map.entry(key) {
+        *entry.get_mut() = value;
+    }
+}
+
+pub fn occupied_get_mut_then_lookup(map: &mut VecMap<u32, u32>, key: u32, value: u32)
+    requires present { IsSome (lookup nat_eq map.old.entries key) }
+    ensures { (q : ℕ) → lookup nat_eq map.new.entries q ≡ (if nat_eq key q then Some value
+        else lookup nat_eq map.old.entries q) }
+{
+    if let Entry::Occupied(mut entry) = map.entry(key) {
+        *entry.get_mut() = value;
+    }
+}
+
+pub fn occupied_get_mut_then_length(map: &mut VecMap<u32, u32>, key: u32, value: u32)
+    requires present { IsSome (lookup nat_eq map.old.entries key) }
+    ensures { length map.new.entries ≡ length map.old.entries }
+{
+    if let Entry::Occupied(mut entry) = map.entry(key) {
+        *entry.get_mut() = value;
+    }
+}
+
+pub fn occupied_get_mut_then_distinct(map: &mut VecMap<u32, u32>, key: u32, value: u32)
+    requires distinct { HasDistinctKeys nat_eq map.old.entries }
+    requires present { IsSome (lookup nat_eq map.old.entries key) }
+    ensures { HasDistinctKeys nat_eq map.new.entries }
+{
+    if let Entry::Occupied(mut entry) = map.entry(key) {
+        *entry.get_mut() = value;
+    }
+}
+
+pub fn occupied_remove_then_key(map: &mut VecMap<u32, u32>, key: u32)
+    requires distinct { HasDistinctKeys nat_eq map.old.entries }
+    ensures { lookup nat_eq map.new.entries key ≡ None }
+{
+    if let Entry::Occupied(entry) = map.entry(key) {
+        entry.remove();
+    }
+}
+
+pub fn occupied_remove_then_lookup(map: &mut VecMap<u32, u32>, key: u32)
+    requires distinct { HasDistinctKeys nat_eq map.old.entries }
+    ensures { (q : ℕ) → lookup nat_eq map.new.entries q ≡ (if nat_eq key q then None else lookup
+        nat_eq map.old.entries q) }
+{
+    if let Entry::Occupied(entry) = map.entry(key) {
+        entry.remove();
+    }
+}
+
+pub fn occupied_remove_then_pair(map: &mut VecMap<u32, u32>, key: u32)
+    ensures { (i j : ℕ) → index_of nat_eq map.old.entries key ≡ Some j → i < j → slice_get
+        map.new.entries i ≡ slice_get map.old.entries i }
+{
+    if let Entry::Occupied(entry) = map.entry(key) {
+        entry.remove();
+    }
+}
+
+pub fn occupied_remove_then_length(map: &mut VecMap<u32, u32>, key: u32)
+    ensures { length map.new.entries ≡ (if is_some (lookup nat_eq map.old.entries key) then length
+        map.old.entries - 1 else length map.old.entries) }
+{
+    if let Entry::Occupied(entry) = map.entry(key) {
+        entry.remove();
+    }
+}
+
+pub fn occupied_remove_then_order(map: &mut VecMap<u32, u32>, key: u32)
+    ensures { (i : ℕ) → index_of nat_eq map.old.entries key ≡ Some i → map.new.entries ≡ remove
+        map.old.entries i }
+{
+    if let Entry::Occupied(entry) = map.entry(key) {
+        entry.remove();
+    }
+}
+
+pub fn occupied_remove_then_distinct(map: &mut VecMap<u32, u32>, key: u32)
+    requires distinct { HasDistinctKeys nat_eq map.old.entries }
+    ensures { HasDistinctKeys nat_eq map.new.entries }
+{
+    if let Entry::Occupied(entry) = map.entry(key) {
+        entry.remove();
+    }
+}
+
+pub fn occupied_remove_then_ends(map: &mut VecMap<u32, u32>, key: u32)
+    ensures { index_of nat_eq map.old.entries key ≡ Some 0 → slice_get map.new.entries 0 ≡ slice_get
+        map.old.entries 1 }
+{
+    if let Entry::Occupied(entry) = map.entry(key) {
+        entry.remove();
+    }
+}
+
+pub fn occupied_remove_then_unchanged(map: &mut VecMap<u32, u32>, key: u32)
+    ensures { lookup nat_eq map.old.entries key ≡ None → map.new ≡ map.old }
+{
+    if let Entry::Occupied(entry) = map.entry(key) {
+        entry.remove();
+    }
+}
+
+pub fn occupied_swap_remove_then_key(map: &mut VecMap<u32, u32>, key: u32)
+    requires distinct { HasDistinctKeys nat_eq map.old.entries }
+    ensures { lookup nat_eq map.new.entries key ≡ None }
+{
+    if let Entry::Occupied(entry) = map.entry(key) {
+        entry.swap_remove();
+    }
+}
+
+pub fn occupied_swap_remove_then_lookup(map: &mut VecMap<u32, u32>, key: u32)
+    requires distinct { HasDistinctKeys nat_eq map.old.entries }
+    ensures { (q : ℕ) → lookup nat_eq map.new.entries q ≡ (if nat_eq key q then None else lookup
+        nat_eq map.old.entries q) }
+{
+    if let Entry::Occupied(entry) = map.entry(key) {
+        entry.swap_remove();
+    }
+}
+
+pub fn occupied_swap_remove_then_length(map: &mut VecMap<u32, u32>, key: u32)
+    ensures { length map.new.entries ≡ (if is_some (lookup nat_eq map.old.entries key) then length
+        map.old.entries - 1 else length map.old.entries) }
+{
+    if let Entry::Occupied(entry) = map.entry(key) {
+        entry.swap_remove();
+    }
+}
+
+pub fn occupied_swap_remove_then_distinct(map: &mut VecMap<u32, u32>, key: u32)
+    requires distinct { HasDistinctKeys nat_eq map.old.entries }
+    ensures { HasDistinctKeys nat_eq map.new.entries }
+{
+    if let Entry::Occupied(entry) = map.entry(key) {
+        entry.swap_remove();
+    }
+}
+
+pub fn occupied_swap_remove_then_unchanged(map: &mut VecMap<u32, u32>, key: u32)
+    ensures { lookup nat_eq map.old.entries key ≡ None → map.new ≡ map.old }
+{
+    if let Entry::Occupied(entry) = map.entry(key) {
+        entry.swap_remove();
+    }
+}
+
+pub fn occupied_swap_remove_then_pair(map: &mut VecMap<u32, u32>, key: u32)
+    ensures { (i j : ℕ) → index_of nat_eq map.old.entries key ≡ Some j → i < j → slice_get
+        map.new.entries i ≡ slice_get map.old.entries i }
+{
+    if let Entry::Occupied(entry) = map.entry(key) {
+        entry.swap_remove();
+    }
+}
+
+pub fn occupied_swap_remove_then_order(map: &mut VecMap<u32, u32>, key: u32)
+    ensures { (j : ℕ) → index_of nat_eq map.old.entries key ≡ Some j → j + 1 < length
+        map.old.entries → slice_get map.new.entries j ≡ slice_get map.old.entries (length
+        map.old.entries - 1) }
+{
+    if let Entry::Occupied(entry) = map.entry(key) {
+        entry.swap_remove();
+    }
+}
+
+pub fn occupied_swap_remove_then_ends(map: &mut VecMap<u32, u32>, key: u32)
+    ensures { index_of nat_eq map.old.entries key ≡ Some 0 → 1 < length map.old.entries → slice_get
+        map.new.entries 0 ≡ slice_get map.old.entries (length map.old.entries - 1) }
+{
+    if let Entry::Occupied(entry) = map.entry(key) {
+        entry.swap_remove();
+    }
+}
