@@ -30,6 +30,8 @@ NAME = re.compile(r"[A-Za-z_][\w']*")
 Definition = collections.namedtuple("Definition", "line name comment text")
 # A block of code: the line that opens it, the words there, and its lines.
 Block = collections.namedtuple("Block", "line mark lines")
+# The first line of a block that is a file of a user's repository: a comment with its path. `.ci/user` proves these.
+USERS_FILE = re.compile(r"(?://|--|#) (crates(?:/\S+)?\.\w+)")
 # The script of the test cases.
 SCRIPT = "crates/vecmap_script/stdin"
 # A heading of a script: its part, its text, the texts of the lines `# WORD:` below it, by the word, and its rows.
@@ -142,6 +144,12 @@ def blocks(path):
             block = None if block else Block(number, line[3:], [])
         elif block:
             block.lines.append(line)
+
+
+def users_file(block):
+    """Returns the path of a block that is a file of a user's repository, or nothing."""
+    found = USERS_FILE.fullmatch(block.lines[0]) if block.lines else None
+    return found[1] if found else ""
 
 
 def tests():
