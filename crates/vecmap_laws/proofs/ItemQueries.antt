@@ -11,14 +11,6 @@ module _ {T : Type 0} (eq : T → T → Bool) (o : IsEquivalence eq) (test : T �
   pub tells_as : (x : T) → IsTrue (test x) → test ≡ eq x
   tells_as x h = λ t y. respects x y h t
 
-  -- A query that does not match `x` matches no element that is equal to `x`.
-  pub stands_apart : (x y : T) → test x ≡ false → eq x y ≡ true → test y ≡ false
-  stands_apart x y n e =
-      elim (cases_Bool (test y)) [
-        | inl h ↦ absurd (true≢false (sym (respects y x h ∙ o.symm y x ∙ e) ∙ n))
-        | inr h ↦ h
-      ]
-
   -- After the removal of its match from a distinct list, a query matches nothing.
   pub without_query_absent : (s : List T) → IsDistinct eq s → list_any test (without_first test s) ≡ false
   without_query_absent [] d = refl

@@ -17,9 +17,6 @@ module _ {K V : Type 0} (eq : K → K → Bool) where
   without_key_cons p ps k = refl
 
 module _ {K V : Type 0} (test : K → Bool) where
-  pub lookup_by_cons : (p : K × V) (ps : List (K × V)) → lookup_by test (p ∷ ps) ≡ (if test p.0 then Some p.1 else lookup_by test ps)
-  lookup_by_cons p ps = refl
-
   -- A removal of a pair is that of the first item whose key passes the test.
   pub without_by_is : (l : List (K × V)) → without_by test l ≡ without_first (λ p. test p.0) l
   without_by_is l = without_by_index test l ∙ ap (λ found. option_map_or (λ i. remove l i) found l) (index_by_is test l)
