@@ -10,11 +10,12 @@ import subprocess
 import tempfile
 import urllib.parse
 
-from made import first_sentence, listed, opening
+from made import first_sentence, listed, opening, uncommented
 from rattle import LAWS, LIBRARIES, read, sources, write
+from reference.calls import call_table
 from reference.forms import (
-    FILES, KNOWN, PASSED_ON, STD, crates, definition_form, definitions, module_of, module_tree, passed_on,
-    passing_on, rust_of, specs, words_of_std,
+    FILES, KNOWN, LOST, PASSED_ON, STD, crates, definition_form, definitions, doc, found_by, imported, kit, meanings,
+    module_of, module_tree, passed_on, passing_on, rust_of, section, specs, words_of_std,
 )  # fmt: skip
 
 HERE = os.path.dirname(os.path.abspath(__file__))
@@ -23,16 +24,24 @@ OLDEST = 1, 95
 DENIED = ["missing_docs", *(f"rustdoc::{it}" for it in ("broken_intra_doc_links", "invalid_html_tags", "bare_urls"))]
 # The place of a call or an impl on a page, or a link to a definition.
 USE_OR_PLACE = re.compile(r' id="((?:ty)?method\.|impl-)([^"]+)"|href="([^"#]*constant\.[^"#]*)"')
+# The types that `vecmap` has twice.
+COPY = re.compile(r"/vecmap/(?:map|set)/struct\.Vec(?:Map|Set)\.")
+# The place of an item on a page, or the label of a clause or the name of a field below it.
+PLACED = re.compile(r' id="((?:ty)?method\.[^"]+|impl-[^"]+)"|<abbr title="([^"]*)">(\w+)</abbr>')
+# The list of what the script has made in a folder.
+FILES_MADE = "files-made.txt"
 UNSTABLE = ["-Zunstable-options", "-Zcrate-attr=feature(allocator_api, lazy_type_alias)", "-Aincomplete_features"]
 
 
 def missing_tool():
     """Says why rustdoc cannot make the site here, or nothing."""
-    for tool in ("rustdoc", "rustc") if shutil.which("rustdoc") else ():
+    for tool in ("rustdoc", "rustc"):
+        if not shutil.which(tool):
+            return f"{tool} of Rust 1.95 or later is needed, and is not on the path"
         printed = subprocess.run([tool, "--version"], capture_output=True, text=True, check=False).stdout
         if tuple(map(int, re.findall(r"\d+", printed)[:2])) < OLDEST:
-            return f"rustdoc of Rust 1.95 or later is needed, and `{tool} --version` prints {printed.strip()}"
-    return "" if shutil.which("rustdoc") else "rustdoc of Rust 1.95 or later is needed, and is not on the path"
+            return f"{tool} of Rust 1.95 or later is needed, and `{tool} --version` prints {printed.strip()}"
+    return ""
 
 
 def build(crate, root, needs, work, out):
@@ -41,20 +50,44 @@ def build(crate, root, needs, work, out):
     shared = ["-Ldependency=.", "--edition=2021", f"--crate-name={crate}", f"-Cmetadata={crate}", *externs, root]
     denied = [f"-D{it}" for it in DENIED] if crate != STD else ["-Arustdoc::all"]
     pages = [f"--extend-css={HERE}/reference.css", "--enable-index-page", f"-o{out}", *denied]
+    state = ["git", "rev-parse", "--short=8", "HEAD"]
+    version = subprocess.run(state, capture_output=True, text=True, check=False).stdout.strip()
+    pages += [f"--crate-version={version}"] if version else []
     env = {**os.environ, "RUSTC_BOOTSTRAP": "1"}
     for words in (["rustc", "--crate-type=lib", "--emit=metadata", "-Awarnings"], ["rustdoc", *pages]):
         if subprocess.run([*words, *UNSTABLE, *shared], cwd=work, env=env, check=False).returncode:
             raise SystemExit(f"reference: {words[0]} found the faults above, in lines of crates/{crate}/src")
 
 
+def contracts_page():
+    """Returns the module whose page says how to read a contract, from `contracts.md` and from pages of the repository."""
+    places = lambda it: re.sub(r"`(\w+)`", r'<span id="\1"></span>\g<0>', it[0])
+    text = re.sub(r"^\| `.*?`(?= \|)", places, read(f"{HERE}/contracts.md"), flags=re.MULTILINE)
+    calls, labels = section("docs/PROVED.md", "How to read a contract"), section("docs/ARCHITECTURE.md", "Labels")
+    pages = f"\n# Of calls\n{calls}\n# Labels\n{labels}".replace("```rust", "```text")
+    text += re.sub(r"\[([^\]]*)\]\([^)]*\)", r"\1", pages)
+    places = {it.rsplit("::", 1)[1]: it for it in reversed(KNOWN) if "::specs::" in it}
+
+    def to_page(found):
+        if found[1] not in places:
+            return found[0]
+        *path, name = re.sub("^std::", f"{STD}::", places[found[1]]).split("::")
+        return f"[{found[0]}](../../{'/'.join(path)}/constant.{name}.html)"
+
+    text = re.sub(r"(?<!>)`([A-Z]\w+)`", to_page, text)
+    signs = [*meanings()["Signs"], *meanings()["Parts"], *meanings()["Labels"]]
+    return f"{found_by(signs)}{doc(text)}pub mod contracts {{}}\n"
+
+
 def write_forms(crate, work):
     """Writes the Rust forms of the sources and the definitions of a crate."""
     forms = {f"{crate}/{path.split('/src/')[1]}": path for path in sources(crate)}
     FILES.update(forms)
-    named_so = {made: re.sub(r"(/lib)?\.rt$", "", made).replace("/", "::") for made in forms}
-    texts = {made: rust_of(path, crate, named_so[made]) for made, path in forms.items()}
+    texts = {made: rust_of(path) for made, path in forms.items()}
+    if crate == "vecmap":  # On its last line, so that the link to its source leads somewhere.
+        texts["vecmap/lib.rt"] = f'{texts["vecmap/lib.rt"].rstrip()} {doc(call_table())}pub mod calls {{}}\n'
     for made, text in texts.items():
-        write(f"{work}/{made}", PASSED_ON.sub(passing_on(crate, named_so[made]), text))
+        write(f"{work}/{made}", PASSED_ON.sub(passing_on(crate, module_of(forms[made])), text))
     for path in specs(crate):
         FILES[path.removeprefix("crates/")] = path
         write(f"{work}/{path.removeprefix('crates/')}", definition_form(path, crate))
@@ -83,17 +116,26 @@ def true_sources(out):
         replaced(f"{out}/src/{made}.html", start, end, start + "".join(lines) + end)
 
 
+def kind_of(page):
+    """Returns under which heading a page stands that names a definition."""
+    return "Definitions" if "/specs/" in page else "Laws" if re.search("[/_]laws/", page) else "Calls"
+
+
 def uses_in(out, own):
-    """Returns the calls and the laws that name each definition: by its page, the page and place of each by its name."""
+    """Returns what names each definition: by its page, by kind and place, the name of the user."""
     users = collections.defaultdict(dict)
-    for page in (page for it in ("vecmap", "vecmap_base", LAWS) for page in pages_of(f"{out}/{it}/**/*.*.html")):
-        name = item = os.path.basename(page).split(".")[1]
+    pages = [page for it in ("vecmap", LAWS) for page in pages_of(f"{out}/{it}/**/*.*.html") if not COPY.search(page)]
+    seen = {os.path.basename(it) for it in pages}
+    base = pages_of(f"{out}/vecmap_base/**/*.*.html")
+    for page in [*pages, *(it for it in base if "/specs/" in it or os.path.basename(it) not in seen)]:
+        folder, item = os.path.basename(os.path.dirname(page)), os.path.basename(page).split(".")[1]
+        name = item = f"{folder}::{item}" if folder in ("map", "set", "maps", "sets") else item
         place = ""
         for found in USE_OR_PLACE.finditer(read(page)):
             if found[3]:
                 target = own(os.path.join(os.path.dirname(page), found[3]))
                 if target != own(page):
-                    users[target].setdefault(name, page + place)
+                    users[target].setdefault((kind_of(page), own(page) + place), (name, page + place))
                 continue
             words, place = urllib.parse.unquote(found[2]), f"#{found[1]}{found[2]}"
             name = words.replace("-for-", " for ") if found[1] == "impl-" else f"{item}::{words}"
@@ -102,15 +144,19 @@ def uses_in(out, own):
 
 
 def named_in(out):
-    """Writes to the page of each definition the calls and the laws that name it, and calls it a definition."""
+    """Writes to the page of each definition the calls, the laws and the definitions that name it."""
     homes = {public.replace("::", "/"): it.replace("::", "/") for crate in crates() for public, it in passed_on(crate)}
     own = lambda path: re.sub(r"^\w+/specs/\w+", lambda it: homes.get(it[0], it[0]), os.path.relpath(path, out))
     users = uses_in(out, own)
     for path in [*pages_of(f"{out}/*/specs/**/*.html"), *pages_of(f"{out}/static.files/[ms]*.js")]:
-        links = [(name, os.path.relpath(it, os.path.dirname(path))) for name, it in users[own(path)].items()]
-        links = "".join(f'<li><a href="{it}"><code>{html.escape(name)}</code></a></li>' for name, it in links)
-        section = f'<h2 class="section-header">Named in</h2><ul class="named-in">{links}</ul>' if links else ""
-        text = re.sub(r'(?:(?<=<h1>)|(?<=[>"]))Constant(?=[ s])', "Definition", read(path))
+        section = ""
+        for kind in ("Calls", "Laws", "Definitions"):
+            found = [it for (its, _), it in users[own(path)].items() if its == kind]
+            links = ((name, os.path.relpath(it, os.path.dirname(path))) for name, it in found)
+            rows = "".join(f'<li><a href="{it}"><code>{html.escape(name)}</code></a></li>' for name, it in links)
+            section += f'<h3>{kind}</h3><ul class="named-in">{rows}</ul>' if rows else ""
+        section = section and f'<h2 class="section-header">Named in</h2>{section}'
+        text = re.sub(r'(?:(?<=<h1>)|(?<=[>"]))Constants?(?=[ s<])', "Definition", read(path))
         text = text.replace('"assoc type","constant"', '"assoc type","definition"')
         write(path, text.replace("</section></div></main>", f"{section}</section></div></main>"))
 
@@ -123,6 +169,30 @@ def write_front(out):
     front = re.sub(r"`([^`]+)`", r"<code>\1</code>", f'{read(f"{HERE}/front.html")}<ul>{rows}</ul>')
     replaced(f"{out}/index.html", "<h1>", "</h1>", "<h1>Reference of vecmap</h1>")
     replaced(f"{out}/index.html", '<ul class="all-items">', "</ul>", front)
+    # So that a search shows the calls of the collections first.
+    replaced(f"{out}/index.html", 'data-current-crate="', '"', 'data-current-crate="vecmap"')
+
+
+def clause_places(out):
+    """Gives each clause and field a place, such as `method.insert.updates`, and each contract a link to its words."""
+    for page in pages_of(f"{out}/*/**/*.html"):
+        place, taken = "", collections.Counter()
+
+        def placed(found):
+            nonlocal place
+            if found[1]:
+                place = f"{found[1]}."
+            if not found[3]:
+                return found[0]
+            name = f"{place}{found[3]}"
+            taken[name] += 1
+            name += f"-{taken[name]}" * (taken[name] > 1)
+            return f'<a class="label" id="{name}" href="#{name}" title="{found[2]}">{found[3]}</a>'
+
+        text = PLACED.sub(placed, read(page))
+        words = os.path.relpath(f"{out}/{STD}/contracts/index.html", os.path.dirname(page))
+        how = f'<a class="how" href="{words}">how to read it</a>'
+        write(page, re.sub(r'(<h\d id="contract(?:-\d+)?">.*?)(?=</h\d>)', rf"\1 {how}", text))
 
 
 def plain(text):
@@ -162,6 +232,15 @@ def lost_faults(out):
                 yield f"{path}: {name} is not on the site"
 
 
+def import_faults():
+    """Says which definitions of these crates a source imports that are nowhere."""
+    for path in [*sources(*crates()), *(it for crate in crates() for it in specs(crate))]:
+        for name, it in imported(read(path)):
+            if re.match(rf"(?:{'|'.join(crates())})::specs::(?!declared|contracts)", it) and it not in KNOWN:
+                line = re.search(rf"^.*\b{name}\b", read(path), re.MULTILINE)
+                yield f"{path}:{read(path).count(chr(10), 0, line.start()) + 1}: imports `{name}`, which nothing defines"
+
+
 def pages_of(pattern):
     """Returns the files of the site that a pattern names, in order."""
     return sorted(glob.glob(pattern, recursive=True))
@@ -183,27 +262,51 @@ def make(work, out):
     """Makes the forms in one folder and the site in another. Returns the faults."""
     words = words_of_std()
     learn(words)
-    write(f"{work}/{STD}/lib.rs", read(f"{HERE}/std.rs") + f"pub mod specs {{\n{module_tree(words)}}}\n")
+    definitions_of_std = f"pub mod specs {{\n{module_tree(words)}}}\n"
+    write(f"{work}/{STD}/lib.rs", read(f"{HERE}/std.rs") + definitions_of_std + contracts_page())
+    for crate in crates():
+        write_forms(crate, work)
+    if faults := [*uncommented(), *import_faults(), *dict.fromkeys(LOST)]:
+        return faults
     build(STD, f"{STD}/lib.rs", [], work, out)
     for crate, needs in crates().items():
-        write_forms(crate, work)
+        # A search finds what `vecmap` passes on there alone.
+        index = shutil.copytree(f"{out}/search.index", f"{work}/{crate}.index")
         build(crate, f"{crate}/lib.rt", [STD, *needs], work, out)
+        if crate in ("vecmap_map", "vecmap_set"):
+            shutil.rmtree(f"{out}/search.index")
+            shutil.move(index, f"{out}/search.index")
     true_sources(out)
     named_in(out)
+    clause_places(out)
     write_front(out)
     return [*lost_faults(out), *link_faults(out)]
 
 
+def put(site, folder):
+    """Puts the site into a folder in place of an older one. Returns why it cannot, or nothing."""
+    paths = [os.path.relpath(it, site) for it in pages_of(f"{site}/**/*") if os.path.isfile(it)]
+    old = read(f"{folder}/{FILES_MADE}").splitlines()
+    for path in paths:
+        if path not in old and os.path.lexists(f"{folder}/{path}"):
+            return f"reference: {folder} has {path}, which is of no reference that {FILES_MADE} lists"
+    for path in (it for it in old if os.path.isfile(f"{folder}/{it}")):
+        os.remove(f"{folder}/{path}")
+    shutil.copytree(site, folder, ignore=shutil.ignore_patterns(".lock"), dirs_exist_ok=True)
+    write(f"{folder}/{FILES_MADE}", "\n".join(paths))
+    return ""
+
+
 def main(folder):
-    """Makes the site in a folder that is empty, or has an older one. Returns why it cannot, or nothing."""
-    if os.path.isdir(folder) and os.listdir(folder) and not os.path.isdir(f"{folder}/static.files"):
-        return f"reference: {folder} has something else than a reference"
+    """Makes the site in a folder. Returns why it cannot, or nothing."""
+    if os.path.exists(folder) and not os.path.isdir(folder):
+        return f"reference: {folder} is no folder"
     if why := missing_tool():
         return f"reference: {why}"
+    if not kit():
+        print("reference: `rt` is not on the path, so the definitions of std have no pages")
     with tempfile.TemporaryDirectory() as work:
-        faults = make(f"{work}/forms", f"{work}/site")
-        if not faults:
-            shutil.rmtree(folder, ignore_errors=True)
-            shutil.move(f"{work}/site", folder)
-            print(f"Open {folder}/index.html")
+        faults = make(f"{work}/forms", f"{work}/site") or [*filter(None, [put(f"{work}/site", folder)])]
+    if not faults:
+        print(f"Open {folder}/index.html")
     return "\n".join(faults) or None
