@@ -17,6 +17,7 @@ import subprocess
 import rattle
 from made import DEFINED, first_sentence, opening, trait_and_type
 from rattle import LAWS, LIBRARIES, closing, crate_of, dependencies, files, items, read, sources
+from reference.words import in_words
 from laws_for import modules, public_paths  # on the path by `rattle`
 
 # The crate that stands for std.
@@ -53,6 +54,8 @@ GIVEN = re.compile(
 FOLLOWS = re.compile(r"^ *// ((?:What follows|Follows).*)\n((?:(?! *//).*\n?)*)", re.MULTILINE)
 # What each definition says, by its path; the true source of each form; and how a search finds each law.
 KNOWN, FILES, ALIASES = {}, {}, {}
+# The sentence and the text of each definition of these crates, by its path.
+TEXTS = {}
 # The names and signs that lead nowhere.
 LOST = []
 # Names that stand for themselves in a formula.
@@ -141,6 +144,13 @@ def meanings():
     return made
 
 
+def row_of(path):
+    """Returns what `contracts.md` says of a word or a member that leads to it, or nothing."""
+    home, _, name = path.partition("#")
+    told = meanings()["Words of the logic"] | meanings()["Members of traits"]
+    return told.get(name, "") if home == "std::contracts" else ""
+
+
 def escaped(text):
     """Returns a text that Markdown leaves as it is."""
     return re.sub(r"([!-/:-@\[-`{-~])", r"\\\1", text)
@@ -210,7 +220,7 @@ def linked(text, names, crate, at, given=frozenset()):
         for found in TOKEN.finditer(line, last):
             word, path = leads(found[0], names, bound)
             words += escaped(line[last : found.start()])
-            target = f'{re.sub(rf"^{crate}::", "crate::", path)} "{escaped(KNOWN.get(path) or path)}"'
+            target = f'{re.sub(rf"^{crate}::", "crate::", path)} "{escaped(KNOWN.get(path) or row_of(path) or path)}"'
             words += f"[{escaped(word)}]({target})" if path else escaped(word)
             last = found.start() + len(word)
             if not path and word not in known and not re.fullmatch(r"[A-Za-z][\d'₀-₉]*", word):
@@ -322,7 +332,11 @@ def function_form(text, start, names, path):
         ALIASES[whole] = searched((text[low:high] for low, high in spans), names)
         aliases = ALIASES[whole] if whole in public_paths(whole) else set()
     at = f"{path}:{text.count(chr(10), 0, spans[0][0]) + 1}: {name}"
-    head = found_by(aliases) + contract(clauses, names, crate_of(path), at, given)
+    words = ""
+    if is_call and crate_of(path) in ("vecmap_map", "vecmap_set"):
+        parts = (re.match(r" +\w+\*? (\w*) ?\{ (.*) \}", text[low:high], re.DOTALL) for low, high in spans)
+        words = in_words((it.groups() for it in parts), lambda it: TEXTS.get(names.get(it), ("", "")))
+    head = found_by(aliases) + contract(clauses, names, crate_of(path), at, given) + doc(words)
     head += text[start:first] + blank(clauses) + text[spans[-1][1] : body]
     return text[:start] + head + new + text[end:]
 

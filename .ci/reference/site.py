@@ -14,8 +14,8 @@ from made import first_sentence, listed, opening, uncommented
 from rattle import LAWS, LIBRARIES, read, sources, write
 from reference.calls import call_table
 from reference.forms import (
-    FILES, KNOWN, LOST, PASSED_ON, STD, crates, definition_form, definitions, doc, found_by, imported, kit, meanings,
-    module_of, module_tree, passed_on, passing_on, rust_of, section, specs, words_of_std,
+    FILES, KNOWN, LOST, PASSED_ON, STD, TEXTS, crates, definition_form, definitions, doc, found_by, imported, kit,
+    meanings, module_of, module_tree, passed_on, passing_on, rust_of, section, specs, words_of_std,
 )  # fmt: skip
 
 HERE = os.path.dirname(os.path.abspath(__file__))
@@ -60,7 +60,7 @@ def build(crate, root, needs, work, out):
 
 
 def contracts_page():
-    """Returns the module whose page says how to read a contract, from `contracts.md` and from pages of the repository."""
+    """Returns the module whose page says how to read a contract, from `contracts.md` and pages of the repository."""
     places = lambda it: re.sub(r"`(\w+)`", r'<span id="\1"></span>\g<0>', it[0])
     text = re.sub(r"^\| `.*?`(?= \|)", places, read(f"{HERE}/contracts.md"), flags=re.MULTILINE)
     calls, labels = section("docs/PROVED.md", "How to read a contract"), section("docs/ARCHITECTURE.md", "Labels")
@@ -235,10 +235,11 @@ def lost_faults(out):
 def import_faults():
     """Says which definitions of these crates a source imports that are nowhere."""
     for path in [*sources(*crates()), *(it for crate in crates() for it in specs(crate))]:
-        for name, it in imported(read(path)):
+        text = read(path)
+        for name, it in imported(text):
             if re.match(rf"(?:{'|'.join(crates())})::specs::(?!declared|contracts)", it) and it not in KNOWN:
-                line = re.search(rf"^.*\b{name}\b", read(path), re.MULTILINE)
-                yield f"{path}:{read(path).count(chr(10), 0, line.start()) + 1}: imports `{name}`, which nothing defines"
+                line = text.count("\n", 0, re.search(rf"\b{name}\b", text).start()) + 1
+                yield f"{path}:{line}: imports `{name}`, which nothing defines"
 
 
 def pages_of(pattern):
@@ -252,10 +253,11 @@ def learn(words):
         KNOWN.update((f"std::specs::{module}::{name}", "".join(it[0][-1:])) for name, it in found.items())
     for crate in crates():
         for path in specs(crate):
-            KNOWN.update((f"{module_of(path)}::{it[1]}", "".join(it[2][-1:])) for it in definitions(path))
+            found = {f"{module_of(path)}::{it.name}": it for it in definitions(path)}
+            TEXTS.update((name, ("".join(it.comment[-1:]), it.text)) for name, it in found.items())
         for public, own in passed_on(crate):
-            found = {name.removeprefix(own): KNOWN[name] for name in KNOWN if name.startswith(f"{own}::")}
-            KNOWN.update((public + name, it) for name, it in found.items())
+            TEXTS.update([(public + it.removeprefix(own), TEXTS[it]) for it in TEXTS if it.startswith(f"{own}::")])
+    KNOWN.update((path, told) for path, (told, _) in TEXTS.items())
 
 
 def make(work, out):
