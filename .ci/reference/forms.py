@@ -187,7 +187,7 @@ def field_examples():
 def fields(name, text, at):
     """Yields the words of each field of a record, with an example if there is one."""
     for field in re.findall(r"^ *pub (\w+) :", text, re.MULTILINE) if "pub record " in text else ():
-        told, example = meanings()["Fields of records"], field_examples().get((name, field))
+        told, example = meanings()["Labels"] | meanings()["Fields of records"], field_examples().get((name, field))
         meaning = told.get(f"{name}.{field}") or told.get(field)
         if not meaning:
             LOST.append(f"{at}: contracts.md has no field `{field}`")
