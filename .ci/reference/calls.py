@@ -32,28 +32,14 @@ def parts(item):
     return dict(zip(["", *found[1::2]], map(str.strip, found[::2])))
 
 
-def closed(text, at=0):
-    """Returns the place behind the bracket that closes the one at a place."""
-    depth = 0
-    for at in range(at, len(text)):
-        depth += (text[at] in "<([{") - (text[at] in ">)]}" and text[at - 1] != "-")
-        if depth == 0:
-            return at + 1
-    return at + 1
-
-
 def result_of(item):
     """Returns the type that a call returns if it succeeds, and that of its error. The `Err` of a search is no error."""
-    text = re.sub(r"^.*?\bfn \w+", "", " ".join(item.signature().split()))
-    text = text[closed(text) :] if text[0] == "<" else text
-    whole = re.match(r"(?: -> (.*?))?(?: where\b.*|;| \{.*)?,?$", text[closed(text) :])[1] or "()"
-    inside = whole.removeprefix("Result<").rstrip(",")
-    if inside == whole or whole == "Result<usize, usize>":
-        return whole, ""
-    at = 0
-    while inside[at] != ",":
-        at = closed(inside, at) if inside[at] in "<([" else at + 1
-    return inside[:at], inside[at + 2 : -1]
+    head = re.split(r"[ ,]*(?: where\b| \{|;?$)", " ".join(item.signature().split()), maxsplit=1)[0]
+    whole = head.rpartition(") -> ")[2]
+    if whole == head or whole.replace("->", "").count("<") != whole.replace("->", "").count(">"):
+        return "()", ""  # The arrow is that of a bound.
+    parts = re.fullmatch(r"Result<(.*), (\w+(?:<.*>)?)>", whole)
+    return parts.groups() if parts and whole != "Result<usize, usize>" else (whole, "")
 
 
 def row(item, known, link):

@@ -81,11 +81,15 @@ def imported(text):
 
 
 def declared(path):
-    """Returns the path that Rust has for a type of a program, or for a variant of it, by its path in the logic."""
+    """Returns the path that Rust has for a type of a program, or for a variant of it, by its path in the logic.
+
+    Of std it is that of the type, which Rust has in the outer module.
+    """
     home, _, variant = path.replace("::specs::declared", "").partition("::TheVariants::")
     home = home if variant else home.rpartition("::")[0]
-    place = home if home.startswith("std::") else lowest(home)
-    return "::".join(filter(None, [place, variant])) if place else ""
+    if home.startswith("std::"):
+        return re.sub(r"^(std::\w+)::.*(::\w+)$", r"\1\2", home)
+    return "::".join(filter(None, [lowest(home), variant])) if lowest(home) else ""
 
 
 def lowest(item):
@@ -142,13 +146,6 @@ def meanings():
         each = re.split(r"; (?![^(]*\))", row[1])
         made[title] |= dict(zip(names, each if len(each) == len(names) else [row[1]] * len(names)))
     return made
-
-
-def row_of(path):
-    """Returns what `contracts.md` says of a word or a member that leads to it, or nothing."""
-    home, _, name = path.partition("#")
-    told = meanings()["Words of the logic"] | meanings()["Members of traits"]
-    return told.get(name, "") if home == "std::contracts" else ""
 
 
 def escaped(text):
@@ -220,7 +217,7 @@ def linked(text, names, crate, at, given=frozenset()):
         for found in TOKEN.finditer(line, last):
             word, path = leads(found[0], names, bound)
             words += escaped(line[last : found.start()])
-            target = f'{re.sub(rf"^{crate}::", "crate::", path)} "{escaped(KNOWN.get(path) or row_of(path) or path)}"'
+            target = f'{re.sub(rf"^{crate}::", "crate::", path)} "{escaped(KNOWN.get(path) or path)}"'
             words += f"[{escaped(word)}]({target})" if path else escaped(word)
             last = found.start() + len(word)
             if not path and word not in known and not re.fullmatch(r"[A-Za-z][\d'₀-₉]*", word):
@@ -285,7 +282,7 @@ def searched(clauses, names):
     """Returns the pairs of definitions that a clause of a law has, by which a search finds the law."""
     pairs = set()
     for clause in clauses:
-        words = list(dict.fromkeys(it for it in TOKEN.findall(clause) if names.get(it) in KNOWN))
+        words = [it for it in dict.fromkeys(TOKEN.findall(clause)) if "::specs::" in names.get(it, "")]
         pairs |= {f"{a} {b}" for a in words for b in words if a != b and {a, b}.isdisjoint(("Bool", "List"))}
     return pairs
 

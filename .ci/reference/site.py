@@ -148,7 +148,8 @@ def named_in(out):
     homes = {public.replace("::", "/"): it.replace("::", "/") for crate in crates() for public, it in passed_on(crate)}
     own = lambda path: re.sub(r"^\w+/specs/\w+", lambda it: homes.get(it[0], it[0]), os.path.relpath(path, out))
     users = uses_in(out, own)
-    for path in [*pages_of(f"{out}/*/specs/**/*.html"), *pages_of(f"{out}/static.files/[ms]*.js")]:
+    pages = ("*/specs/**/*.html", "*/all.html", "static.files/[ms]*.js")
+    for path in (path for form in pages for path in pages_of(f"{out}/{form}")):
         section = ""
         for kind in ("Calls", "Laws", "Definitions"):
             found = [it for (its, _), it in users[own(path)].items() if its == kind]
@@ -156,7 +157,7 @@ def named_in(out):
             rows = "".join(f'<li><a href="{it}"><code>{html.escape(name)}</code></a></li>' for name, it in links)
             section += f'<h3>{kind}</h3><ul class="named-in">{rows}</ul>' if rows else ""
         section = section and f'<h2 class="section-header">Named in</h2>{section}'
-        text = re.sub(r'(?:(?<=<h1>)|(?<=[>"]))Constants?(?=[ s<])', "Definition", read(path))
+        text = re.sub(r'(?:(?<=<h1>)|(?<=[>"]))Constant(?=s?[ <"])', "Definition", read(path))
         text = text.replace('"assoc type","constant"', '"assoc type","definition"')
         write(path, text.replace("</section></div></main>", f"{section}</section></div></main>"))
 
@@ -205,10 +206,10 @@ def link_faults(out):
     texts = {page: read(page) for page in pages_of(f"{out}/**/*.html")}
     places = {page: {html.unescape(it) for it in re.findall(r' id="?([^" >]+)', text)} for page, text in texts.items()}
     for page, text in texts.items():
-        for target in dict.fromkeys(re.findall(r' href="?(?!\w+:)([^" >]+)', text)):
+        for target in dict.fromkeys(re.findall(r' href="?(?!\w+:(?!:))([^" >]+)', text)):
             path, _, anchor = html.unescape(target).partition("#")
             file = os.path.normpath(os.path.join(os.path.dirname(page), path.split("?")[0])) if path else page
-            names = {anchor, urllib.parse.unquote(anchor), anchor.split("-")[0]}
+            names = {anchor, urllib.parse.unquote(anchor), *re.findall(r"^\d+(?=-\d+$)", anchor)}
             if not os.path.exists(file) or anchor and file in places and not names & places[file]:
                 yield f"reference: {os.path.relpath(page, out)} has the link {target}, which leads nowhere"
 
@@ -248,7 +249,7 @@ def pages_of(pattern):
 
 
 def learn(words):
-    """Keeps what each definition says, by its path: those of std, of each crate, and those that a crate passes on."""
+    """Keeps what each definition says, by its path, also by one that a crate passes on, and each row of `contracts.md`."""
     for module, found in words.items():
         KNOWN.update((f"std::specs::{module}::{name}", "".join(it[0][-1:])) for name, it in found.items())
     for crate in crates():
@@ -258,6 +259,8 @@ def learn(words):
         for public, own in passed_on(crate):
             TEXTS.update([(public + it.removeprefix(own), TEXTS[it]) for it in TEXTS if it.startswith(f"{own}::")])
     KNOWN.update((path, told) for path, (told, _) in TEXTS.items())
+    for part in ("Words of the logic", "Members of traits"):
+        KNOWN.update((f"std::contracts#{it}", told) for it, told in meanings()[part].items())
 
 
 def make(work, out):
