@@ -23,7 +23,7 @@ pub use Rattle.vecmap_map.specs.Lends
 pub use Rattle.vecmap_map.specs.MapBulk
 pub use Rattle.vecmap_set.specs.Contents as SetContents
 pub use Rattle.vecmap_set.specs.Drain as SetDrain
-pub use Rattle.vecmap_set.specs.Indices
+pub use Rattle.vecmap_set.specs.Indices as SetIndices
 pub use Rattle.vecmap_set.specs.Lazy
 pub use Rattle.vecmap_set.specs.Operators
 pub use Rattle.vecmap_set.specs.SetBulk

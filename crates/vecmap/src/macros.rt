@@ -8,7 +8,7 @@ ghost use Rattle.vecmap_base.specs.Lookups.{Updates, UpdatesMember};
 ghost use Rattle.vecmap_base.specs.Pairs.{HasDistinctKeys, put};
 ghost use Rattle.vecmap_map.specs.Contents.{KeepsRoom, Refuses};
 ghost use Rattle.vecmap_set.specs.Contents.{KeepsRoom as SetKeepsRoom, Refuses as SetRefuses};
-ghost use Rattle.vecmap_set.specs.Indices.{KeepsIndices};
+ghost use Rattle.vecmap_set.specs.Indices.{KeepsMatchIndices};
 
 use crate::{VecMap, VecSet};
 use std::alloc::AllocError;
@@ -132,7 +132,7 @@ pub fn add_item<T: Eq + Drop>(set: &mut VecSet<T>, item: T) -> Result<(), AllocE
     ensures unchanged { IsTrue (is_member T.eq set.old.elements item) → set.new ≡ set.old }
     ensures len { OnOk result (length set.new.elements ≡ length set.old.elements
         + (if is_member T.eq set.old.elements item then 0 else 1)) }
-    ensures indices { OnOk result (KeepsIndices set.old.elements set.new.elements) }
+    ensures indices { OnOk result (KeepsMatchIndices set.old.elements set.new.elements) }
 {
     set.insert(item)?;
     Ok(())

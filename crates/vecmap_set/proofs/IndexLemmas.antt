@@ -11,7 +11,7 @@ use Rattle.std.proofs.lemmas.Option.{none-some, slice_get-get_or}
 use Rattle.vecmap_base.specs.Items.{moved, put_item}
 use Rattle.vecmap_base.proofs.IndexLemmas.{position_cons}
 use Rattle.vecmap_base.proofs.ItemsLemmas.Recursion.{put_item_cons}
-use Rattle.vecmap_set.specs.Indices.{KeepsIndices, KeepsIndicesBelow, KeepsItemIndices, MovesIndex}
+use Rattle.vecmap_set.specs.Indices.{KeepsMatchIndices, KeepsMatchIndicesBelow, KeepsItemIndices, MovesItemIndex}
 
 module _ {T : Type 0} (test : T → Bool) where
   -- The element at the index that a query finds matches the query.
@@ -136,13 +136,13 @@ module _ {T : Type 0} where
 
 -- The clauses `indices`, from the list afterwards.
 module _ {T : Type 0} (s r : List T) where
-  pub indices_stay : r ≡ s → KeepsIndices s r
+  pub indices_stay : r ≡ s → KeepsMatchIndices s r
   indices_stay e test i h = ap (position test) e ∙ h
 
-  pub indices_appended : (xs : List T) → r ≡ s ++ xs → KeepsIndices s r
+  pub indices_appended : (xs : List T) → r ≡ s ++ xs → KeepsMatchIndices s r
   indices_appended xs e test i h = ap (position test) e ∙ position_front test xs s i h
 
-  pub indices_of_front : (n : ℕ) → r ≡ take n s → KeepsIndicesBelow n s r
+  pub indices_of_front : (n : ℕ) → r ≡ take n s → KeepsMatchIndicesBelow n s r
   indices_of_front n e test i h l = ap (position test) e ∙ position_take test n s i h l
 
 module _ {T : Type 0} (eq : T → T → Bool) (o : IsEquivalence eq) (s r : List T) where
@@ -152,7 +152,7 @@ module _ {T : Type 0} (eq : T → T → Bool) (o : IsEquivalence eq) (s r : List
     queries = λ test respects i h. ap (position test) e ∙ position_put test eq o respects s x i h;
   }
 
-  pub index_moved : (i j : ℕ) → slice_get r j ≡ slice_get s i → IsDistinct eq r → MovesIndex eq i j s r
+  pub index_moved : (i j : ℕ) → slice_get r j ≡ slice_get s i → IsDistinct eq r → MovesItemIndex eq i j s r
   index_moved i j at d = record {
     at = at;
     items = λ q h. position_moved (eq q) eq o (o.congr q) s r i j at d h;

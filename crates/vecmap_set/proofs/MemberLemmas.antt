@@ -6,7 +6,7 @@ use Rattle.std.proofs.lemmas.List.{append-nil, append_assoc}
 use Rattle.vecmap_base.specs.{Clones.AreClones, Items.add, Items.adds}
 use Rattle.vecmap_base.proofs.ItemsLemmas.Changes.{is_member_clones}
 use Rattle.vecmap_base.proofs.ItemsLemmas.Members.{is_member_adds}
-use Rattle.vecmap_set.specs.Indices.{KeepsIndices}
+use Rattle.vecmap_set.specs.Indices.{KeepsMatchIndices}
 use Rattle.vecmap_set.proofs.IndexLemmas.{indices_appended}
 
 module _ {T : Type 0} (eq : T → T → Bool) (o : IsEquivalence eq) where
@@ -40,7 +40,7 @@ module _ {T : Type 0} (eq : T → T → Bool) where
   pub length_of_all : (xs r : List T) → r ≡ adds eq [] xs → length r ≤ length xs
   length_of_all xs r e = omega (arith, (length_of_adds [] xs r e).1)
 
-  pub indices_of_adds : (s xs r : List T) → r ≡ adds eq s xs → KeepsIndices s r
+  pub indices_of_adds : (s xs r : List T) → r ≡ adds eq s xs → KeepsMatchIndices s r
   indices_of_adds s xs r e =
       let more = appended s xs in
       indices_appended s r more.0 (e ∙ more.1)

@@ -6,13 +6,13 @@ use Rattle.vecmap_base.specs.Items.{item_index}
 module _ {T : Type 0} where
   -- Example: from `[1, 2]` to `[1, 2, 3]`.
   -- The first match of each query in the list `s` has the same index in `r`.
-  abbrev pub KeepsIndices : List T → List T → Type 0
-  KeepsIndices s r = (test : T → Bool) (i : ℕ) → position test s ≡ Some i → position test r ≡ Some i
+  abbrev pub KeepsMatchIndices : List T → List T → Type 0
+  KeepsMatchIndices s r = (test : T → Bool) (i : ℕ) → position test s ≡ Some i → position test r ≡ Some i
 
   -- Example: from `[1, 2, 3]` to `[1, 2]`, for the bound 2.
   -- The same of each match whose index is below `n`.
-  abbrev pub KeepsIndicesBelow : ℕ → List T → List T → Type 0
-  KeepsIndicesBelow n s r = (test : T → Bool) (i : ℕ) → position test s ≡ Some i → i < n → position test r ≡ Some i
+  abbrev pub KeepsMatchIndicesBelow : ℕ → List T → List T → Type 0
+  KeepsMatchIndicesBelow n s r = (test : T → Bool) (i : ℕ) → position test s ≡ Some i → i < n → position test r ≡ Some i
 
 module _ {T : Type 0} (eq : T → T → Bool) where
   -- Example: from `[1x, 2x]` to `[1y, 2x]`.
@@ -23,7 +23,7 @@ module _ {T : Type 0} (eq : T → T → Bool) where
 
   -- Example: from `[1, 2, 3]` to `[2, 3, 1]`, for the indices 0 and 2.
   -- The element at the index `i` of the list `s` is at the index `j` of `r`, and is found there.
-  pub record MovesIndex (i j : ℕ) (s r : List T) : Type 0 where
+  pub record MovesItemIndex (i j : ℕ) (s r : List T) : Type 0 where
     pub at : slice_get r j ≡ slice_get s i
     pub items : (q : T) → item_index eq s q ≡ Some i → item_index eq r q ≡ Some j
     pub queries : (test : T → Bool) → IsKeyTest eq test → position test s ≡ Some i → position test r ≡ Some j

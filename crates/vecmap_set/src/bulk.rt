@@ -9,7 +9,7 @@ ghost use Rattle.vecmap_base.specs.Bulk.{HasRoomForAll, YieldsAll};
 ghost use Rattle.vecmap_base.specs.Clones.{AreClones};
 ghost use Rattle.vecmap_base.specs.Items.{adds};
 ghost use Rattle.vecmap_set.specs.Contents.{HasRoom, with_elements};
-ghost use Rattle.vecmap_set.specs.Indices.{KeepsIndices};
+ghost use Rattle.vecmap_set.specs.Indices.{KeepsMatchIndices};
 ghost use Rattle.vecmap_set.specs.SetBulk.{Adds, AddsCopies, Extends, RefusesAfter, RefusesCopiesAfter};
 
 use crate::VecSet;
@@ -151,7 +151,7 @@ impl<T: Eq> VecSet<T> {
         ensures len { OnOk result ((length self.old.elements ≤ length self.new.elements)
             × (length self.new.elements
             ≤ length self.old.elements + length other.old.elements)) }
-        ensures indices { OnOk result (KeepsIndices self.old.elements self.new.elements) }
+        ensures indices { OnOk result (KeepsMatchIndices self.old.elements self.new.elements) }
     {
         self.reserve(other.len())?;
         for item in other.items.drain(..) {
@@ -208,7 +208,7 @@ impl<T: Eq> VecSet<T> {
             → YieldsAll I.into_iter_gives I.IntoIter.next_gives iter items
             → OnOk result ((length self.old.elements ≤ length self.new.elements)
             × (length self.new.elements ≤ length self.old.elements + length items)) }
-        ensures indices { OnOk result (KeepsIndices self.old.elements self.new.elements) }
+        ensures indices { OnOk result (KeepsMatchIndices self.old.elements self.new.elements) }
     {
         // A proof knows the invariant only once a field is used, and the loop needs it at its start.
         let _ = &self.items;
@@ -260,7 +260,7 @@ impl<T: Eq> VecSet<T> {
             → map deref yielded ≡ items) → OnOk result ((q : T)
             → is_member T.eq self.new.elements q
             ≡ (is_member T.eq self.old.elements q || is_member T.eq items q)) }
-        ensures indices { OnOk result (KeepsIndices self.old.elements self.new.elements) }
+        ensures indices { OnOk result (KeepsMatchIndices self.old.elements self.new.elements) }
     {
         // As in `extend`.
         let _ = &self.items;

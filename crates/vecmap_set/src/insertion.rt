@@ -5,7 +5,7 @@ ghost use Rattle.std.specs.Set.{is_member};
 ghost use Rattle.vecmap_base.specs.Items.{add, item_index, put_item, stored_item};
 ghost use Rattle.vecmap_base.specs.Lookups.{UpdatesMember};
 ghost use Rattle.vecmap_set.specs.Contents.{Appends, FailsToAppend, HasRoom, IsFull, KeepsRoom, KeepsRoomAt, Refuses};
-ghost use Rattle.vecmap_set.specs.Indices.{KeepsIndices, KeepsItemIndices};
+ghost use Rattle.vecmap_set.specs.Indices.{KeepsMatchIndices, KeepsItemIndices};
 
 use crate::VecSet;
 use std::alloc::AllocError;
@@ -63,7 +63,7 @@ impl<T: Eq> VecSet<T> {
             → slice_get self.new.elements (length self.old.elements) ≡ Some item) }
         ensures len { IfOk result (λ added. length self.new.elements
             ≡ length self.old.elements + (if added then 1 else 0)) }
-        ensures indices { OnOk result (KeepsIndices self.old.elements self.new.elements) }
+        ensures indices { OnOk result (KeepsMatchIndices self.old.elements self.new.elements) }
     {
         if contains_item_inline(&self.items, &item) {
             return Ok(false);
@@ -115,7 +115,7 @@ impl<T: Eq> VecSet<T> {
             → self.new.elements ≡ self.old.elements ++ item ∷ []) }
         ensures len { IfOk result (λ done. length self.new.elements
             ≡ length self.old.elements + (if done.1 then 1 else 0)) }
-        ensures indices { OnOk result (KeepsIndices self.old.elements self.new.elements) }
+        ensures indices { OnOk result (KeepsMatchIndices self.old.elements self.new.elements) }
     {
         if let Some(index) = find_item(&self.items, &item) {
             return Ok((index, false));
@@ -221,7 +221,7 @@ impl<T: Eq> VecSet<T> {
         ensures at { OnOk result (slice_get self.new.elements (length self.old.elements)
             ≡ Some item) }
         ensures len { OnOk result (length self.new.elements ≡ length self.old.elements + 1) }
-        ensures indices { OnOk result (KeepsIndices self.old.elements self.new.elements) }
+        ensures indices { OnOk result (KeepsMatchIndices self.old.elements self.new.elements) }
     {
         if self.reserve_one().is_err() {
             return Err(Refused { given: item });
@@ -291,7 +291,7 @@ impl<T: Eq> VecSet<T> {
             self.new.elements true) }
         ensures len { OnOk result (length self.new.elements ≡ length self.old.elements
             + (if list_any (Q.equivalent query) self.old.elements then 0 else 1)) }
-        ensures indices { OnOk result (KeepsIndices self.old.elements self.new.elements) }
+        ensures indices { OnOk result (KeepsMatchIndices self.old.elements self.new.elements) }
     {
         if let Some(index) = find_item_equivalent(&self.items, query) {
             return Ok(index);

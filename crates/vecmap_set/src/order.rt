@@ -3,7 +3,7 @@ ghost use Rattle.std.specs.Prelude.{◌≡◌, ◌<◌, ◌≤◌, IsOk, OnErr, 
 ghost use Rattle.std.specs.List.{IsDistinct};
 ghost use Rattle.std.specs.List.Sorted.{IsPermutation, IsSorted, IsSortedByClosure, IsSortedByKeyClosure, IsStable, IsStableByClosure, IsStableByKeyClosure};
 ghost use Rattle.vecmap_base.specs.Items.{IsReorderedItems, moved};
-ghost use Rattle.vecmap_set.specs.Indices.{MovesIndex};
+ghost use Rattle.vecmap_set.specs.Indices.{MovesItemIndex};
 
 use crate::VecSet;
 use std::alloc::AllocError;
@@ -64,8 +64,8 @@ impl<T: Eq> VecSet<T> {
 
         // What follows for lookups, lengths and indices.
         ensures reordered { IsReorderedItems self.old.elements self.new.elements }
-        ensures moves { MovesIndex T.eq a b self.old.elements self.new.elements }
-        ensures moves_back { MovesIndex T.eq b a self.old.elements self.new.elements }
+        ensures moves { MovesItemIndex T.eq a b self.old.elements self.new.elements }
+        ensures moves_back { MovesItemIndex T.eq b a self.old.elements self.new.elements }
     {
         self.items.swap(a, b);
     }
@@ -98,7 +98,7 @@ impl<T: Eq> VecSet<T> {
 
         // What follows for lookups, lengths and indices.
         ensures reordered { IsReorderedItems self.old.elements self.new.elements }
-        ensures moves { MovesIndex T.eq from to self.old.elements self.new.elements }
+        ensures moves { MovesItemIndex T.eq from to self.old.elements self.new.elements }
     {
         move_to(&mut self.items, from, to);
     }

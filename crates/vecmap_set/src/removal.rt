@@ -8,7 +8,7 @@ ghost use Rattle.vecmap_base.specs.Asked.{CallableOnEach, CallsAtItem};
 ghost use Rattle.vecmap_base.specs.Kept.{Kept, ReturnsAt};
 ghost use Rattle.vecmap_base.specs.Lookups.{UpdatesMember};
 ghost use Rattle.vecmap_base.specs.Pairs.{has_text};
-ghost use Rattle.vecmap_set.specs.Indices.{KeepsIndicesBelow};
+ghost use Rattle.vecmap_set.specs.Indices.{KeepsMatchIndicesBelow};
 
 use crate::VecSet;
 use std::alloc::AllocError;
@@ -67,7 +67,7 @@ impl<T: Eq> VecSet<T> {
             ≡ (list_any test self.old.elements
             && nat_lt (unwrap_or (position test self.old.elements) 0) len) }
         ensures len { length self.new.elements ≡ min len (length self.old.elements) }
-        ensures indices { KeepsIndicesBelow len self.old.elements self.new.elements }
+        ensures indices { KeepsMatchIndicesBelow len self.old.elements self.new.elements }
     {
         self.items.truncate(len);
     }
@@ -118,7 +118,7 @@ impl<T: Eq> VecSet<T> {
             ≡ (list_any test self.new.elements || list_any test part.elements)) }
         ensures len { IfOk result (λ part. (length self.new.elements ≡ at)
             × (length self.new.elements + length part.elements ≡ length self.old.elements)) }
-        ensures indices { OnOk result (KeepsIndicesBelow at self.old.elements
+        ensures indices { OnOk result (KeepsMatchIndicesBelow at self.old.elements
             self.new.elements) }
     {
         Ok(VecSet {
@@ -202,7 +202,7 @@ impl<T: Eq> VecSet<T> {
         ensures unchanged { IfNone result (self.new ≡ self.old) }
         ensures len { length self.new.elements + (if is_some result then 1 else 0)
             ≡ length self.old.elements }
-        ensures indices { KeepsIndicesBelow (length self.old.elements - 1) self.old.elements
+        ensures indices { KeepsMatchIndicesBelow (length self.old.elements - 1) self.old.elements
             self.new.elements }
     {
         self.items.pop()
