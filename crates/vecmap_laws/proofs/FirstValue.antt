@@ -24,6 +24,9 @@ module _ {K V : Type 0} (eq : K → K → Bool) where
   pub put_new_absent : (l : List (K × V)) (k : K) (v : V) → index_of eq l k ≡ None → put_new eq l k v ≡ l ++ (k, v) ∷ []
   put_new_absent l k v e = ap (λ found. put eq l k (unwrap_or found v)) (lookup_by_index (eq k) l ∙ ap (option_and_then (value_at l)) e) ∙ put_absent eq l k v e
 
+  pub put_new_not_found : (l : List (K × V)) (k : K) (v : V) → lookup eq l k ≡ None → put_new eq l k v ≡ put eq l k v
+  put_new_not_found l k v e = ap (λ found. put eq l k (unwrap_or found v)) e
+
   pub keys_of_puts_new : (l ps : List (K × V)) → keys_of (puts_new eq l ps) ≡ adds eq (keys_of l) (keys_of ps)
   keys_of_puts_new l [] = refl
   keys_of_puts_new l (p ∷ ps) = keys_of_puts_new (put_new eq l p.0 p.1) ps ∙ ap (λ ks. adds eq ks (keys_of ps)) (keys_of_put eq l p.0 (unwrap_or (lookup eq l p.0) p.1))
