@@ -1,4 +1,5 @@
 -- What definitions say, at examples.
+mod Indices
 mod Lookups
 mod MapRun
 mod Notation
