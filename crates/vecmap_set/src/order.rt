@@ -1,5 +1,5 @@
 //! Reversing, moving, swapping and sorting the elements.
-ghost use Rattle.std.specs.Prelude.{◌≡◌, ◌<◌, ◌≤◌, IsOk, OnErr, OnOk, length, reverse, swap};
+ghost use Rattle.std.specs.Prelude.{◌≡◌, ◌-◌, ◌<◌, ◌≤◌, ℕ, IsOk, OnErr, OnOk, length, reverse, swap};
 ghost use Rattle.std.specs.List.{IsDistinct};
 ghost use Rattle.std.specs.List.Sorted.{IsPermutation, IsSorted, IsSortedByClosure, IsSortedByKeyClosure, IsStable, IsStableByClosure, IsStableByKeyClosure};
 ghost use Rattle.vecmap_base.specs.Items.{IsReorderedItems, moved};
@@ -32,6 +32,8 @@ impl<T: Eq> VecSet<T> {
 
         // What follows for lookups, lengths and indices.
         ensures reordered { IsReorderedItems self.old.elements self.new.elements }
+        ensures moves { (i : ℕ) → i < length self.old.elements → MovesItemIndex T.eq i
+            (length self.old.elements - 1 - i) self.old.elements self.new.elements }
     {
         self.items.reverse();
     }

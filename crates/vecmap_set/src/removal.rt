@@ -8,7 +8,7 @@ ghost use Rattle.vecmap_base.specs.Asked.{CallableOnEach, CallsAtItem};
 ghost use Rattle.vecmap_base.specs.Kept.{Kept, ReturnsAt};
 ghost use Rattle.vecmap_base.specs.Lookups.{UpdatesMember};
 ghost use Rattle.vecmap_base.specs.Pairs.{has_text};
-ghost use Rattle.vecmap_set.specs.Indices.{KeepsMatchIndicesBelow};
+ghost use Rattle.vecmap_set.specs.Indices.{KeepsMatchIndicesBelow, MovesItemIndex};
 
 use crate::VecSet;
 use std::alloc::AllocError;
@@ -278,6 +278,7 @@ impl<T: Eq> VecSet<T> {
         ensures capacity { self.new.capacity ≡ self.old.capacity }
 
         // What follows for lookups, lengths and indices.
+        ensures indices { KeepsMatchIndicesBelow index self.old.elements self.new.elements }
         ensures updates { UpdatesMember T.eq (T.eq result) self.old.elements
             self.new.elements false }
         ensures any { (f : T → Bool) → list_any f self.old.elements
@@ -353,6 +354,8 @@ impl<T: Eq> VecSet<T> {
         ensures capacity { self.new.capacity ≡ self.old.capacity }
 
         // What follows for lookups, lengths and indices.
+        ensures moves { index < length self.old.elements - 1 → MovesItemIndex T.eq
+            (length self.old.elements - 1) index self.old.elements self.new.elements }
         ensures updates { UpdatesMember T.eq (T.eq result) self.old.elements
             self.new.elements false }
         ensures any { (f : T → Bool) → list_any f self.old.elements

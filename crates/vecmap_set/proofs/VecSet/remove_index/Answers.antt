@@ -1,6 +1,7 @@
 use Rattle.std.proofs.Common.{arith, rules}
 use Rattle.std.proofs.lemmas.Option.{gets}
 use Rattle.vecmap_base.proofs.ItemsLemmas.Members.{members_removed}
+use Rattle.vecmap_set.proofs.IndexLemmas.{indices_of_removed}
 use Rattle.vecmap_set.proofs.QueryLemmas.{any_removed}
 use Rattle.vecmap_set.proofs.VecSet.remove_index.Goals as goal
 
@@ -9,3 +10,6 @@ returns-clause-updates g c = members_removed _ g.met.T.Eq.laws c.args.self.now.e
 
 pub returns-clause-any : goal.returns-clause-any
 returns-clause-any g c = any_removed c.args.self.now.elements _ c.args.index _ (grind (arith, gets)) (grind (arith, gets))
+
+pub returns-clause-indices : goal.returns-clause-indices
+returns-clause-indices g c = indices_of_removed c.args.self.now.elements _ c.args.index (grind (arith, gets))
