@@ -1,22 +1,23 @@
 #!/usr/bin/env python3
 """Makes the tables of the benchmark: `table.py RUN..` prints those of some runs, one for each order of the functions.
 
-A run has the times of this library and of others. A cell has the median of the ratios to the original over the runs. It is
-bold if it is above 1.05, and the ratio of the least times is, too: the least time of the contender in all runs, divided by
-the least of the original. Above a table stands how many of its cells are at most 1.05 by either ratio, and how many medians
-are at most 0.9. Its last line has the geometric mean of each size. A row of tight loops is marked with a star: at some size,
-one run's ratio is at least twice another's. If the runs have an earlier state of the library, or the kit's indexmap, a last
-table compares this library with it, in the rows that both have: a cell has the median ratio of this library divided by that
-of the other, and the same of the least times.
+A run has the times of this library and of others. A cell has the median of the ratios to the original over the runs.
+It is bold if it is above 1.05, and the ratio of the least times is, too: the least time of the contender in all runs,
+divided by the least of the original. Above a table stands how many of its cells are at most 1.05 by either ratio, and
+how many medians are at most 0.9. Its last line has the geometric mean of each size. A row of tight loops is marked
+with a star: at some size, one run's ratio is at least twice another's. If the runs have an earlier state of the
+library, or the kit's indexmap, a last table compares this library with it, in the rows that both have: a cell has the
+median ratio of this library divided by that of the other, and the same of the least times.
 
-`table.py --full RUN..` prints the figures: a cell has the median, the ratio of the least times, the least and the greatest
-ratio of a run, and the medians of the least nanoseconds of an operation, of the contender and of the original. `table.py
---write FILE` writes such figures to `bench/figures.tsv`, of two other crates the nanoseconds alone, and then the page.
+`table.py --full RUN..` prints the figures: a cell has the median, the ratio of the least times, the least and the
+greatest ratio of a run, and the medians of the least nanoseconds of an operation, of the contender and of the
+original. `table.py --write FILE` writes such figures to `bench/figures.tsv`, of two other crates the nanoseconds
+alone, and then the page.
 
 `table.py` compares docs/SPEED.md with `bench/figures.tsv`, and `table.py --write` writes its tables:
 
-- The tables of ratios and of two other crates are those of the figures. In the table that compares this library with the
-  kit's indexmap, the last column has the size from which on all cells are above 1.05.
+- The tables of ratios and of two other crates are those of the figures. In the table that compares this library with
+  the kit's indexmap, the last column has the size from which on all cells are above 1.05.
 - The sentences on the number of rows, on the cells and on their spread have the right numbers.
 - Each row with a cell above 1.05 is named, in backticks, in the table of reasons, and each row that is named there has
   one. Next to the rows is the range of these cells.
@@ -155,8 +156,8 @@ def tables_of(runs):
 def comparison(tables, other):
     """Returns what compares this library with another contender, in the rows that both have."""
     made, disjoint = {}, 0
-    found = [(row, n, cell) for who in BESIDES[other] for row, it in tables.get(who, {}).items() for n, cell in it.items()]
-    for row, n, cell in found:
+    own = (it for who in BESIDES[other] for it in tables.get(who, {}).items())
+    for row, n, cell in ((row, n, cell) for row, cells in own for n, cell in cells.items()):
         if beside := tables[other].get(row, {}).get(n):
             made.setdefault(row, {})[n] = Cell(cell.median / beside.median, cell.leasts / beside.leasts)
             disjoint += cell.least > beside.greatest
