@@ -526,8 +526,8 @@ def words_of_std():
                 place, own = scope(path)[it]
                 if ".specs.declared." in place:
                     names[it] = declared(f"{place.removeprefix('Rattle.').replace('.', '::')}::{own}")
-                else:
-                    names[it] = pages.get(((of_kit(place, own) or "   ")[2], own), "")
+                elif page := pages.get(((of_kit(place, own) or "   ")[2], own)):
+                    names[it] = page
             module[name] = comment, text, names
     return {module: made for module, made in found.items() if made}
 
