@@ -25,7 +25,7 @@ def split(text, sign):
 def bare(text):
     """Returns a formula without parentheses around the whole. Those of a pair stay."""
     text = text.strip()
-    while len(split(text, " ")) == 1 and text[:1] == "(" and len(split(text[1:-1], ",")) == 1:
+    while len(split(text, " ")) == 1 and text[:1] + text[-1:] == "()" and len(split(text[1:-1], ",")) == 1:
         text = text[1:-1].strip()
     return text
 
@@ -44,7 +44,7 @@ def sentence(formula, about):
     name, *arguments = [it for it in split(bare(formula), " ") if it]
     told, text = about(name)
     names = parameters(name, text)
-    if not told or told[0] == "`" or len(arguments) != len(names):
+    if re.match("(?:`|What |The same |$)", told) or len(arguments) != len(names):
         return ""
     letters = (it for it in re.findall(r"`([b-hj-z])`", told) if it not in names)
     names = [next(letters, "?") if it == "?" else it for it in names]
@@ -55,10 +55,11 @@ def sentence(formula, about):
     put = lambda it: within(it) if it[0][0] == "`" else f"`{given[it[0]]}`" if it[0] in given else it[0]
     said = re.sub(r"`[^`]*`|(?<![\w'])[b-hj-z](?![\w'])", put, told).rstrip(".")
     lists = [it for it in arguments if re.fullmatch(r"[\w.]+\.(?:entries|elements)", it)]
+    said += f" in `{lists[0]}`" if len(lists) == 1 and not {lists[0], ","} & {*re.split("(,)|`", said)} else ""
     unsaid = any(not re.match(r"\w|\(\w+\.\w+", it) and bare(it) not in said for it in arguments)
-    if unsaid or re.search("`(?:true|false)` is true", said):
+    if unsaid or lists and not any(it in said for it in lists) or re.search("`(?:true|false)` is true|λ", said):
         return ""  # The sentence does not speak of an argument, or reads badly.
-    return f"{said} in `{lists[0]}`" if len(lists) == 1 and not {lists[0], ","} & {*re.split("(,)|`", said)} else said
+    return said
 
 
 def lower(text):
@@ -77,13 +78,14 @@ def said(formula, about):
     if premises:
         parts = [said(it, about) for it in [*(it for it in premises if not FOR_EACH.fullmatch(it)), last]]
         conditions = " and ".join(map(lower, parts[:-1]))
-        if not all(parts) or ". " in conditions:
+        if not all(parts) or ". " in conditions or len({*parts}) < len(parts):
             return ""
         return f"If {conditions}, then {lower(parts[-1])}" if conditions else parts[-1]
     sides = split(formula, "≡")
     if len(sides) == 2:
         value = sentence(sides[1], about) if len(split(bare(sides[1]), " ")) > 1 else ""
-        return value and f"{'The result' if sides[0] == 'result' else f'`{bare(sides[0])}`'} is {lower(value)}"
+        name = "The result" if sides[0] == "result" else f"`{bare(sides[0])}`"
+        return f"{name} is {lower(value)}" if value.startswith("The ") and "λ" not in name else ""
     return "The call returns `Ok`" if formula == "IsOk result" else sentence(formula, about)
 
 
