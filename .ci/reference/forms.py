@@ -329,10 +329,9 @@ def function_form(text, start, names, path):
         ALIASES[whole] = searched((text[low:high] for low, high in spans), names)
         aliases = ALIASES[whole] if whole in public_paths(whole) else set()
     at = f"{path}:{text.count(chr(10), 0, spans[0][0]) + 1}: {name}"
-    words = ""
-    if is_call and crate_of(path) in ("vecmap_map", "vecmap_set"):
-        parts = (re.match(r" +\w+\*? (\w*) ?\{ (.*) \}", text[low:high], re.DOTALL) for low, high in spans)
-        words = in_words((it.groups() for it in parts), lambda it: TEXTS.get(names.get(it), ("", "")))
+    in_collection = is_call and crate_of(path) in ("vecmap_map", "vecmap_set")
+    parts = re.findall(r"^ +\w+\*? (\w*) ?\{ ((?:.*\n)*?.*) \}$", clauses, re.MULTILINE) if in_collection else []
+    words = in_words(parts, lambda it: TEXTS.get(names.get(it), ("", "")))
     head = found_by(aliases) + contract(clauses, names, crate_of(path), at, given) + doc(words)
     head += text[start:first] + blank(clauses) + text[spans[-1][1] : body]
     return text[:start] + head + new + text[end:]

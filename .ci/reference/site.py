@@ -62,7 +62,8 @@ def build(crate, root, needs, work, out):
 def contracts_page():
     """Returns the module whose page says how to read a contract, from `contracts.md` and pages of the repository."""
     places = lambda it: re.sub(r"`(\w+)`", r'<span id="\1"></span>\g<0>', it[0])
-    text = re.sub(r"^\| `.*?`(?= \|)", places, read(f"{HERE}/contracts.md"), flags=re.MULTILINE)
+    words, *fields = re.split("(?=\n# Fields)", read(f"{HERE}/contracts.md"))
+    text = re.sub(r"^\| `.*?`(?= \|)", places, words, flags=re.MULTILINE) + "".join(fields)
     calls, labels = section("docs/PROVED.md", "How to read a contract"), section("docs/ARCHITECTURE.md", "Labels")
     pages = f"\n# Of calls\n{calls}\n# Labels\n{labels}".replace("```rust", "```text")
     text += re.sub(r"\[([^\]]*)\]\([^)]*\)", r"\1", pages)

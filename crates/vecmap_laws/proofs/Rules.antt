@@ -5,6 +5,7 @@ use Rattle.std.specs.List.{IsDistinct}
 use Rattle.vecmap_base.specs.Pairs.{HasDistinctKeys}
 use Rattle.vecmap_base.proofs.DistinctLemmas.Absent.{distinct_none}
 use Rattle.vecmap_base.proofs.DistinctLemmas.Additions.{distinct_add, distinct_adds}
+use Rattle.vecmap_base.proofs.MoveLemmas.{moved_last}
 use Rattle.vecmap_base.proofs.LoopLemmas.{key_stays, keys_written}
 use Rattle.vecmap_base.proofs.PairsLemmas.Keys.{keys_of_put, keys_of_puts}
 use Rattle.vecmap_base.proofs.WalkLemmas.{drained_all}
@@ -113,6 +114,9 @@ pub ruleset new_keys = (new_above, absent_before)
 
 -- What holds of each pair, and which pairs a test selects, after a change of one pair.
 pub ruleset each = (all_without, filter_without, holds_after_put, nothing_written)
+
+-- A list of which one item was moved to the end.
+pub ruleset moves_to_the_end = (moved_last)
 
 -- What lookups find in equal maps.
 pub ruleset equal_at_numbers = (lookups_of_equal_numbers)

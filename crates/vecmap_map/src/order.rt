@@ -1,5 +1,5 @@
 //! Reversing, moving, swapping and sorting the pairs.
-ghost use Rattle.std.specs.Prelude.{◌≡◌, ◌++◌, ◌∷◌, ◌-◌, ◌<◌, ◌≤◌, Bool, IsOk, OnErr, OnOk, Some, [], length, remove, reverse, slice_get, swap};
+ghost use Rattle.std.specs.Prelude.{◌≡◌, ◌<◌, ◌≤◌, Bool, IsOk, OnErr, OnOk, length, reverse, swap};
 ghost use Rattle.std.specs.List.Sorted.{IsPermutation, IsSortedByKey, IsStableByKey};
 ghost use Rattle.std.specs.Ordering.{is_lt};
 ghost use Rattle.vecmap_base.specs.Items.{moved};
@@ -98,9 +98,6 @@ impl<K, V> VecMap<K, V> {
         // What follows for lookups, lengths and indices.
         ensures reordered { IsReordered self.old.entries self.new.entries }
         ensures moves { MovesIndex from to self.old.entries self.new.entries }
-        ensures last { (pair : K × V) → slice_get self.old.entries from ≡ Some pair
-            → to ≡ length self.old.entries - 1
-            → self.new.entries ≡ remove self.old.entries from ++ pair ∷ [] }
     {
         move_to(&mut self.pairs, from, to);
     }

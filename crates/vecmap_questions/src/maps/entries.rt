@@ -1,7 +1,7 @@
 //! Insertions through an entry.
-ghost use Rattle.std.specs.Prelude.{◌≡◌, ◌+◌, ◌-◌, ◌++◌, ◌∷◌, ◌<◌, ℕ, [], None, OnOk, Some, if◌then◌else◌, is_some, length, nat_eq, slice_get, unwrap_or};
-ghost use Rattle.std.specs.Map.{values_of};
-ghost use Rattle.vecmap.specs.Pairs.{HasDistinctKeys, lookup};
+ghost use Rattle.std.specs.Prelude.{◌≡◌, ◌+◌, ◌-◌, ◌++◌, ◌∷◌, ◌<◌, ℕ, [], IsSome, None, OnOk, Some, if◌then◌else◌, is_some, length, nat_eq, slice_get, true, unwrap_or};
+ghost use Rattle.std.specs.Map.{keys_of};
+ghost use Rattle.vecmap.specs.Pairs.{HasDistinctKeys, index_of, index_or_length, lookup};
 
 use std::alloc::AllocError;
 use vecmap::VecMap;
@@ -31,6 +31,18 @@ pub fn or_insert_then_lookup(
     Ok(())
 }
 
+pub fn or_insert_then_unchanged(
+    map: &mut VecMap<u32, u32>,
+    key: u32,
+    value: u32,
+) -> Result<(), AllocError>
+    ensures { OnOk result (IsSome (lookup nat_eq map.old.entries key) → map.new.entries
+        ≡ map.old.entries) }
+{
+    map.entry(key).or_insert(value)?;
+    Ok(())
+}
+
 pub fn or_insert_then_pair(
     map: &mut VecMap<u32, u32>,
     key: u32,
@@ -50,18 +62,6 @@ pub fn or_insert_then_length(
 ) -> Result<(), AllocError>
     ensures { OnOk result (length map.new.entries ≡ (if is_some (lookup nat_eq map.old.entries key)
         then length map.old.entries else length map.old.entries + 1)) }
-{
-    map.entry(key).or_insert(value)?;
-    Ok(())
-}
-
-pub fn or_insert_then_values(
-    map: &mut VecMap<u32, u32>,
-    key: u32,
-    value: u32,
-) -> Result<(), AllocError>
-    ensures { OnOk result (lookup nat_eq map.old.entries key ≡ None → values_of map.new.entries
-        ≡ values_of map.old.entries ++ value ∷ []) }
 {
     map.entry(key).or_insert(value)?;
     Ok(())
@@ -97,6 +97,53 @@ pub fn or_insert_then_ends(
 ) -> Result<(), AllocError>
     ensures { OnOk result (lookup nat_eq map.old.entries key ≡ None → slice_get map.new.entries
         (length map.new.entries - 1) ≡ Some (key, value)) }
+{
+    map.entry(key).or_insert(value)?;
+    Ok(())
+}
+
+pub fn or_insert_then_present(
+    map: &mut VecMap<u32, u32>,
+    key: u32,
+    value: u32,
+) -> Result<(), AllocError>
+    ensures { OnOk result (is_some (lookup nat_eq map.new.entries key) ≡ true) }
+{
+    map.entry(key).or_insert(value)?;
+    Ok(())
+}
+
+pub fn or_insert_then_index(
+    map: &mut VecMap<u32, u32>,
+    key: u32,
+    value: u32,
+) -> Result<(), AllocError>
+    ensures { OnOk result (index_of nat_eq map.new.entries key ≡ Some (index_or_length nat_eq
+        map.old.entries key)) }
+{
+    map.entry(key).or_insert(value)?;
+    Ok(())
+}
+
+pub fn or_insert_then_indices(
+    map: &mut VecMap<u32, u32>,
+    key: u32,
+    value: u32,
+) -> Result<(), AllocError>
+    ensures { OnOk result ((q : ℕ) (i : ℕ) → index_of nat_eq map.old.entries q ≡ Some i → index_of
+        nat_eq map.new.entries q ≡ Some i) }
+{
+    map.entry(key).or_insert(value)?;
+    Ok(())
+}
+
+pub fn or_insert_then_keys(
+    map: &mut VecMap<u32, u32>,
+    key: u32,
+    value: u32,
+) -> Result<(), AllocError>
+    ensures { OnOk result (keys_of map.new.entries ≡ (if is_some (lookup nat_eq map.old.entries key)
+        then keys_of map.old.entries else keys_of map.old.entries ++ key ∷ [])) }
 {
     map.entry(key).or_insert(value)?;
     Ok(())
@@ -146,6 +193,41 @@ pub fn or_insert_then_distinct_generic<K: Eq + Drop>(
 ) -> Result<(), AllocError>
     requires distinct { HasDistinctKeys K.eq map.old.entries }
     ensures { OnOk result (HasDistinctKeys K.eq map.new.entries) }
+{
+    map.entry(key).or_insert(value)?;
+    Ok(())
+}
+
+pub fn or_insert_then_present_generic<K: Eq + Drop>(
+    map: &mut VecMap<K, u32>,
+    key: K,
+    value: u32,
+) -> Result<(), AllocError>
+    ensures { OnOk result (is_some (lookup K.eq map.new.entries key) ≡ true) }
+{
+    map.entry(key).or_insert(value)?;
+    Ok(())
+}
+
+pub fn or_insert_then_index_generic<K: Eq + Drop>(
+    map: &mut VecMap<K, u32>,
+    key: K,
+    value: u32,
+) -> Result<(), AllocError>
+    ensures { OnOk result (index_of K.eq map.new.entries key ≡ Some (index_or_length K.eq
+        map.old.entries key)) }
+{
+    map.entry(key).or_insert(value)?;
+    Ok(())
+}
+
+pub fn or_insert_then_indices_generic<K: Eq + Drop>(
+    map: &mut VecMap<K, u32>,
+    key: K,
+    value: u32,
+) -> Result<(), AllocError>
+    ensures { OnOk result ((q : K) (i : ℕ) → index_of K.eq map.old.entries q ≡ Some i → index_of
+        K.eq map.new.entries q ≡ Some i) }
 {
     map.entry(key).or_insert(value)?;
     Ok(())
@@ -221,6 +303,53 @@ pub fn or_insert_and_write_then_ends(
     Ok(())
 }
 
+pub fn or_insert_and_write_then_present(
+    map: &mut VecMap<u32, u32>,
+    key: u32,
+    value: u32,
+) -> Result<(), AllocError>
+    ensures { OnOk result (is_some (lookup nat_eq map.new.entries key) ≡ true) }
+{
+    *map.entry(key).or_insert(0)? = value;
+    Ok(())
+}
+
+pub fn or_insert_and_write_then_index(
+    map: &mut VecMap<u32, u32>,
+    key: u32,
+    value: u32,
+) -> Result<(), AllocError>
+    ensures { OnOk result (index_of nat_eq map.new.entries key ≡ Some (index_or_length nat_eq
+        map.old.entries key)) }
+{
+    *map.entry(key).or_insert(0)? = value;
+    Ok(())
+}
+
+pub fn or_insert_and_write_then_indices(
+    map: &mut VecMap<u32, u32>,
+    key: u32,
+    value: u32,
+) -> Result<(), AllocError>
+    ensures { OnOk result ((q : ℕ) (i : ℕ) → index_of nat_eq map.old.entries q ≡ Some i → index_of
+        nat_eq map.new.entries q ≡ Some i) }
+{
+    *map.entry(key).or_insert(0)? = value;
+    Ok(())
+}
+
+pub fn or_insert_and_write_then_keys(
+    map: &mut VecMap<u32, u32>,
+    key: u32,
+    value: u32,
+) -> Result<(), AllocError>
+    ensures { OnOk result (keys_of map.new.entries ≡ (if is_some (lookup nat_eq map.old.entries key)
+        then keys_of map.old.entries else keys_of map.old.entries ++ key ∷ [])) }
+{
+    *map.entry(key).or_insert(0)? = value;
+    Ok(())
+}
+
 pub fn or_insert_with_then_key(
     map: &mut VecMap<u32, u32>,
     key: u32,
@@ -270,6 +399,29 @@ pub fn or_insert_with_then_distinct(
     Ok(())
 }
 
+pub fn or_insert_with_then_present(
+    map: &mut VecMap<u32, u32>,
+    key: u32,
+    value: u32,
+) -> Result<(), AllocError>
+    ensures { OnOk result (is_some (lookup nat_eq map.new.entries key) ≡ true) }
+{
+    map.entry(key).or_insert_with(|| value)?;
+    Ok(())
+}
+
+pub fn or_insert_with_then_keys(
+    map: &mut VecMap<u32, u32>,
+    key: u32,
+    value: u32,
+) -> Result<(), AllocError>
+    ensures { OnOk result (keys_of map.new.entries ≡ (if is_some (lookup nat_eq map.old.entries key)
+        then keys_of map.old.entries else keys_of map.old.entries ++ key ∷ [])) }
+{
+    map.entry(key).or_insert_with(|| value)?;
+    Ok(())
+}
+
 pub fn or_insert_with_key_then_key(map: &mut VecMap<u32, u32>, key: u32) -> Result<(), AllocError>
     ensures { OnOk result (lookup nat_eq map.new.entries key ≡ Some (unwrap_or (lookup nat_eq
         map.old.entries key) key)) }
@@ -295,6 +447,24 @@ pub fn or_insert_with_key_then_distinct(
 ) -> Result<(), AllocError>
     requires distinct { HasDistinctKeys nat_eq map.old.entries }
     ensures { OnOk result (HasDistinctKeys nat_eq map.new.entries) }
+{
+    map.entry(key).or_insert_with_key(|k| *k)?;
+    Ok(())
+}
+
+pub fn or_insert_with_key_then_present(
+    map: &mut VecMap<u32, u32>,
+    key: u32,
+) -> Result<(), AllocError>
+    ensures { OnOk result (is_some (lookup nat_eq map.new.entries key) ≡ true) }
+{
+    map.entry(key).or_insert_with_key(|k| *k)?;
+    Ok(())
+}
+
+pub fn or_insert_with_key_then_keys(map: &mut VecMap<u32, u32>, key: u32) -> Result<(), AllocError>
+    ensures { OnOk result (keys_of map.new.entries ≡ (if is_some (lookup nat_eq map.old.entries key)
+        then keys_of map.old.entries else keys_of map.old.entries ++ key ∷ [])) }
 {
     map.entry(key).or_insert_with_key(|k| *k)?;
     Ok(())
@@ -328,6 +498,21 @@ pub fn or_default_then_length(map: &mut VecMap<u32, u32>, key: u32) -> Result<()
 pub fn or_default_then_distinct(map: &mut VecMap<u32, u32>, key: u32) -> Result<(), AllocError>
     requires distinct { HasDistinctKeys nat_eq map.old.entries }
     ensures { OnOk result (HasDistinctKeys nat_eq map.new.entries) }
+{
+    map.entry(key).or_default()?;
+    Ok(())
+}
+
+pub fn or_default_then_present(map: &mut VecMap<u32, u32>, key: u32) -> Result<(), AllocError>
+    ensures { OnOk result (is_some (lookup nat_eq map.new.entries key) ≡ true) }
+{
+    map.entry(key).or_default()?;
+    Ok(())
+}
+
+pub fn or_default_then_keys(map: &mut VecMap<u32, u32>, key: u32) -> Result<(), AllocError>
+    ensures { OnOk result (keys_of map.new.entries ≡ (if is_some (lookup nat_eq map.old.entries key)
+        then keys_of map.old.entries else keys_of map.old.entries ++ key ∷ [])) }
 {
     map.entry(key).or_default()?;
     Ok(())
@@ -415,6 +600,61 @@ pub fn and_modify_or_insert_then_ends(
     Ok(())
 }
 
+pub fn and_modify_or_insert_then_present(
+    map: &mut VecMap<u32, u32>,
+    key: u32,
+    value: u32,
+) -> Result<(), AllocError>
+    ensures { OnOk result (is_some (lookup nat_eq map.new.entries key) ≡ true) }
+{
+    map.entry(key)
+        .and_modify(|stored| *stored = value)
+        .or_insert(value)?;
+    Ok(())
+}
+
+pub fn and_modify_or_insert_then_index(
+    map: &mut VecMap<u32, u32>,
+    key: u32,
+    value: u32,
+) -> Result<(), AllocError>
+    ensures { OnOk result (index_of nat_eq map.new.entries key ≡ Some (index_or_length nat_eq
+        map.old.entries key)) }
+{
+    map.entry(key)
+        .and_modify(|stored| *stored = value)
+        .or_insert(value)?;
+    Ok(())
+}
+
+pub fn and_modify_or_insert_then_indices(
+    map: &mut VecMap<u32, u32>,
+    key: u32,
+    value: u32,
+) -> Result<(), AllocError>
+    ensures { OnOk result ((q : ℕ) (i : ℕ) → index_of nat_eq map.old.entries q ≡ Some i → index_of
+        nat_eq map.new.entries q ≡ Some i) }
+{
+    map.entry(key)
+        .and_modify(|stored| *stored = value)
+        .or_insert(value)?;
+    Ok(())
+}
+
+pub fn and_modify_or_insert_then_keys(
+    map: &mut VecMap<u32, u32>,
+    key: u32,
+    value: u32,
+) -> Result<(), AllocError>
+    ensures { OnOk result (keys_of map.new.entries ≡ (if is_some (lookup nat_eq map.old.entries key)
+        then keys_of map.old.entries else keys_of map.old.entries ++ key ∷ [])) }
+{
+    map.entry(key)
+        .and_modify(|stored| *stored = value)
+        .or_insert(value)?;
+    Ok(())
+}
+
 pub fn insert_entry_then_length(
     map: &mut VecMap<u32, u32>,
     key: u32,
@@ -445,6 +685,88 @@ pub fn insert_entry_then_ends(
 ) -> Result<(), AllocError>
     ensures { OnOk result (lookup nat_eq map.old.entries key ≡ None → slice_get map.new.entries
         (length map.new.entries - 1) ≡ Some (key, value)) }
+{
+    map.entry(key).insert_entry(value)?;
+    Ok(())
+}
+
+pub fn insert_entry_then_key(
+    map: &mut VecMap<u32, u32>,
+    key: u32,
+    value: u32,
+) -> Result<(), AllocError>
+    ensures { OnOk result (lookup nat_eq map.new.entries key ≡ Some value) }
+{
+    map.entry(key).insert_entry(value)?;
+    Ok(())
+}
+
+pub fn insert_entry_then_lookup(
+    map: &mut VecMap<u32, u32>,
+    key: u32,
+    value: u32,
+) -> Result<(), AllocError>
+    ensures { OnOk result ((q : ℕ) → lookup nat_eq map.new.entries q ≡ (if nat_eq key q
+        then Some value else lookup nat_eq map.old.entries q)) }
+{
+    map.entry(key).insert_entry(value)?;
+    Ok(())
+}
+
+pub fn insert_entry_then_present(
+    map: &mut VecMap<u32, u32>,
+    key: u32,
+    value: u32,
+) -> Result<(), AllocError>
+    ensures { OnOk result (is_some (lookup nat_eq map.new.entries key) ≡ true) }
+{
+    map.entry(key).insert_entry(value)?;
+    Ok(())
+}
+
+pub fn insert_entry_then_index(
+    map: &mut VecMap<u32, u32>,
+    key: u32,
+    value: u32,
+) -> Result<(), AllocError>
+    ensures { OnOk result (index_of nat_eq map.new.entries key ≡ Some (index_or_length nat_eq
+        map.old.entries key)) }
+{
+    map.entry(key).insert_entry(value)?;
+    Ok(())
+}
+
+pub fn insert_entry_then_indices(
+    map: &mut VecMap<u32, u32>,
+    key: u32,
+    value: u32,
+) -> Result<(), AllocError>
+    ensures { OnOk result ((q : ℕ) (i : ℕ) → index_of nat_eq map.old.entries q ≡ Some i → index_of
+        nat_eq map.new.entries q ≡ Some i) }
+{
+    map.entry(key).insert_entry(value)?;
+    Ok(())
+}
+
+pub fn insert_entry_then_keys(
+    map: &mut VecMap<u32, u32>,
+    key: u32,
+    value: u32,
+) -> Result<(), AllocError>
+    ensures { OnOk result (keys_of map.new.entries ≡ (if is_some (lookup nat_eq map.old.entries key)
+        then keys_of map.old.entries else keys_of map.old.entries ++ key ∷ [])) }
+{
+    map.entry(key).insert_entry(value)?;
+    Ok(())
+}
+
+pub fn insert_entry_then_distinct(
+    map: &mut VecMap<u32, u32>,
+    key: u32,
+    value: u32,
+) -> Result<(), AllocError>
+    requires distinct { HasDistinctKeys nat_eq map.old.entries }
+    ensures { OnOk result (HasDistinctKeys nat_eq map.new.entries) }
 {
     map.entry(key).insert_entry(value)?;
     Ok(())

@@ -1,7 +1,7 @@
 //! Insertions at an index, of a new key, and of what a closure makes.
-ghost use Rattle.std.specs.Prelude.{◌≡◌, ◌+◌, ◌-◌, ◌++◌, ◌∷◌, ◌<◌, ◌≤◌, ℕ, [], None, Ok, OnErr, OnOk, Some, false, if◌then◌else◌, is_some, length, nat_eq, slice_get, take, true};
+ghost use Rattle.std.specs.Prelude.{◌≡◌, ◌+◌, ◌-◌, ◌++◌, ◌∷◌, ◌<◌, ◌≤◌, ℕ, [], IsSome, None, Ok, OnErr, OnOk, Some, false, if◌then◌else◌, insert, is_some, length, nat_eq, slice_get, true};
 ghost use Rattle.std.specs.Map.{keys_of, values_of};
-ghost use Rattle.vecmap.specs.Pairs.{HasDistinctKeys, index_of, lookup};
+ghost use Rattle.vecmap.specs.Pairs.{HasDistinctKeys, index_of, index_or_length, lookup};
 
 use std::alloc::AllocError;
 use vecmap::{Refused, VecMap};
@@ -46,6 +46,20 @@ pub fn insert_at_then_distinct(
     Ok(())
 }
 
+pub fn insert_at_then_length(
+    map: &mut VecMap<u32, u32>,
+    index: usize,
+    key: u32,
+    value: u32,
+) -> Result<(), AllocError>
+    requires within { index ≤ length map.old.entries }
+    ensures { OnOk result (length map.new.entries ≡ (if is_some (lookup nat_eq map.old.entries key)
+        then length map.old.entries else length map.old.entries + 1)) }
+{
+    map.insert_at(index, key, value)?;
+    Ok(())
+}
+
 pub fn insert_at_then_key(
     map: &mut VecMap<u32, u32>,
     index: usize,
@@ -70,6 +84,77 @@ pub fn insert_at_then_lookup(
     requires within { index ≤ length map.old.entries }
     ensures { OnOk result ((q : ℕ) → lookup nat_eq map.new.entries q ≡ (if nat_eq key q
         then Some value else lookup nat_eq map.old.entries q)) }
+{
+    map.insert_at(index, key, value)?;
+    Ok(())
+}
+
+pub fn insert_at_then_present(
+    map: &mut VecMap<u32, u32>,
+    index: usize,
+    key: u32,
+    value: u32,
+) -> Result<(), AllocError>
+    requires distinct { HasDistinctKeys nat_eq map.old.entries }
+    requires within { index ≤ length map.old.entries }
+    ensures { OnOk result (is_some (index_of nat_eq map.new.entries key) ≡ true) }
+{
+    map.insert_at(index, key, value)?;
+    Ok(())
+}
+
+pub fn insert_at_then_index(
+    map: &mut VecMap<u32, u32>,
+    index: usize,
+    key: u32,
+    value: u32,
+) -> Result<(), AllocError>
+    requires distinct { HasDistinctKeys nat_eq map.old.entries }
+    requires within { index ≤ length map.old.entries }
+    ensures { OnOk result (lookup nat_eq map.old.entries key ≡ None → index_of nat_eq
+        map.new.entries key ≡ Some index) }
+{
+    map.insert_at(index, key, value)?;
+    Ok(())
+}
+
+pub fn insert_at_then_pair(
+    map: &mut VecMap<u32, u32>,
+    index: usize,
+    key: u32,
+    value: u32,
+) -> Result<(), AllocError>
+    requires within { index ≤ length map.old.entries }
+    ensures { OnOk result (lookup nat_eq map.old.entries key ≡ None → slice_get map.new.entries
+        index ≡ Some (key, value)) }
+{
+    map.insert_at(index, key, value)?;
+    Ok(())
+}
+
+pub fn insert_at_then_keys(
+    map: &mut VecMap<u32, u32>,
+    index: usize,
+    key: u32,
+    value: u32,
+) -> Result<(), AllocError>
+    requires within { index ≤ length map.old.entries }
+    ensures { OnOk result (lookup nat_eq map.old.entries key ≡ None → keys_of map.new.entries
+        ≡ insert (keys_of map.old.entries) index key) }
+{
+    map.insert_at(index, key, value)?;
+    Ok(())
+}
+
+pub fn insert_at_then_order(
+    map: &mut VecMap<u32, u32>,
+    index: usize,
+    key: u32,
+    value: u32,
+) -> Result<(), AllocError>
+    requires within { index ≤ length map.old.entries }
+    ensures { OnOk result ((i : ℕ) → lookup nat_eq map.old.entries key ≡ None → i < index
+        → slice_get map.new.entries i ≡ slice_get map.old.entries i) }
 {
     map.insert_at(index, key, value)?;
     Ok(())
@@ -113,6 +198,20 @@ pub fn insert_at_then_lookup_generic<K: Eq + Drop>(
     requires within { index ≤ length map.old.entries }
     ensures { OnOk result ((q : K) → lookup K.eq map.new.entries q ≡ (if K.eq key q then Some value
         else lookup K.eq map.old.entries q)) }
+{
+    map.insert_at(index, key, value)?;
+    Ok(())
+}
+
+pub fn insert_at_then_pair_generic<K: Eq + Drop>(
+    map: &mut VecMap<K, u32>,
+    index: usize,
+    key: K,
+    value: u32,
+) -> Result<(), AllocError>
+    requires within { index ≤ length map.old.entries }
+    ensures { OnOk result (lookup K.eq map.old.entries key ≡ None → slice_get map.new.entries index
+        ≡ Some (key, value)) }
 {
     map.insert_at(index, key, value)?;
     Ok(())
@@ -168,19 +267,6 @@ pub fn insert_unique_then_empty(
     Ok(())
 }
 
-pub fn insert_unique_then_order(
-    map: &mut VecMap<u32, u32>,
-    key: u32,
-    value: u32,
-) -> Result<(), AllocError>
-    requires absent { lookup nat_eq map.old.entries key ≡ None }
-    ensures { OnOk result (take (length map.old.entries) (keys_of map.new.entries) ≡ keys_of
-        map.old.entries) }
-{
-    map.insert_unique(key, value)?;
-    Ok(())
-}
-
 pub fn insert_unique_then_unchanged(
     map: &mut VecMap<u32, u32>,
     key: u32,
@@ -188,6 +274,43 @@ pub fn insert_unique_then_unchanged(
 ) -> Result<(), AllocError>
     requires absent { lookup nat_eq map.old.entries key ≡ None }
     ensures { OnErr result (map.new ≡ map.old) }
+{
+    map.insert_unique(key, value)?;
+    Ok(())
+}
+
+pub fn insert_unique_then_present(
+    map: &mut VecMap<u32, u32>,
+    key: u32,
+    value: u32,
+) -> Result<(), AllocError>
+    requires absent { lookup nat_eq map.old.entries key ≡ None }
+    ensures { OnOk result (is_some (lookup nat_eq map.new.entries key) ≡ true) }
+{
+    map.insert_unique(key, value)?;
+    Ok(())
+}
+
+pub fn insert_unique_then_indices(
+    map: &mut VecMap<u32, u32>,
+    key: u32,
+    value: u32,
+) -> Result<(), AllocError>
+    requires absent { lookup nat_eq map.old.entries key ≡ None }
+    ensures { OnOk result ((q : ℕ) (i : ℕ) → index_of nat_eq map.old.entries q ≡ Some i → index_of
+        nat_eq map.new.entries q ≡ Some i) }
+{
+    map.insert_unique(key, value)?;
+    Ok(())
+}
+
+pub fn insert_unique_then_index(
+    map: &mut VecMap<u32, u32>,
+    key: u32,
+    value: u32,
+) -> Result<(), AllocError>
+    requires absent { lookup nat_eq map.old.entries key ≡ None }
+    ensures { OnOk result (index_of nat_eq map.new.entries key ≡ Some (length map.old.entries)) }
 {
     map.insert_unique(key, value)?;
     Ok(())
@@ -292,6 +415,30 @@ pub fn insert_unique_then_distinct_generic<K: Eq + Drop>(
     Ok(())
 }
 
+pub fn insert_unique_then_present_generic<K: Eq + Drop>(
+    map: &mut VecMap<K, u32>,
+    key: K,
+    value: u32,
+) -> Result<(), AllocError>
+    requires absent { lookup K.eq map.old.entries key ≡ None }
+    ensures { OnOk result (is_some (lookup K.eq map.new.entries key) ≡ true) }
+{
+    map.insert_unique(key, value)?;
+    Ok(())
+}
+
+pub fn insert_unique_then_index_generic<K: Eq + Drop>(
+    map: &mut VecMap<K, u32>,
+    key: K,
+    value: u32,
+) -> Result<(), AllocError>
+    requires absent { lookup K.eq map.old.entries key ≡ None }
+    ensures { OnOk result (index_of K.eq map.new.entries key ≡ Some (length map.old.entries)) }
+{
+    map.insert_unique(key, value)?;
+    Ok(())
+}
+
 pub fn insert_unique_then_length_generic<K: Eq + Drop>(
     map: &mut VecMap<K, u32>,
     key: K,
@@ -301,6 +448,24 @@ pub fn insert_unique_then_length_generic<K: Eq + Drop>(
     ensures { OnOk result (length map.new.entries ≡ length map.old.entries + 1) }
 {
     map.insert_unique(key, value)?;
+    Ok(())
+}
+
+pub fn index_or_try_insert_with_then_key(
+    map: &mut VecMap<u32, u32>,
+    key: u32,
+    value: u32,
+) -> Result<(), AllocError>
+    ensures { OnOk result (lookup nat_eq map.old.entries key ≡ None → lookup nat_eq map.new.entries
+        key ≡ Some value) }
+{
+    let pair = (key, value);
+    map.index_or_try_insert_with(
+        &key,
+        || -> Result<(u32, u32), Refused<(u32, u32)>>
+            ensures { result ≡ Ok pair }
+        { Ok(pair) },
+    )?;
     Ok(())
 }
 
@@ -339,24 +504,6 @@ pub fn index_or_try_insert_with_then_present(
     Ok(())
 }
 
-pub fn index_or_try_insert_with_then_order(
-    map: &mut VecMap<u32, u32>,
-    key: u32,
-    value: u32,
-) -> Result<(), AllocError>
-    ensures { OnOk result (take (length map.old.entries) (keys_of map.new.entries) ≡ keys_of
-        map.old.entries) }
-{
-    let pair = (key, value);
-    map.index_or_try_insert_with(
-        &key,
-        || -> Result<(u32, u32), Refused<(u32, u32)>>
-            ensures { result ≡ Ok pair }
-        { Ok(pair) },
-    )?;
-    Ok(())
-}
-
 pub fn index_or_try_insert_with_then_distinct(
     map: &mut VecMap<u32, u32>,
     key: u32,
@@ -381,6 +528,95 @@ pub fn index_or_try_insert_with_then_empty(
     value: u32,
 ) -> Result<(), AllocError>
     ensures { OnOk result (0 < length map.new.entries) }
+{
+    let pair = (key, value);
+    map.index_or_try_insert_with(
+        &key,
+        || -> Result<(u32, u32), Refused<(u32, u32)>>
+            ensures { result ≡ Ok pair }
+        { Ok(pair) },
+    )?;
+    Ok(())
+}
+
+pub fn index_or_try_insert_with_then_index(
+    map: &mut VecMap<u32, u32>,
+    key: u32,
+    value: u32,
+) -> Result<(), AllocError>
+    ensures { OnOk result (index_of nat_eq map.new.entries key ≡ Some (index_or_length nat_eq
+        map.old.entries key)) }
+{
+    let pair = (key, value);
+    map.index_or_try_insert_with(
+        &key,
+        || -> Result<(u32, u32), Refused<(u32, u32)>>
+            ensures { result ≡ Ok pair }
+        { Ok(pair) },
+    )?;
+    Ok(())
+}
+
+pub fn index_or_try_insert_with_then_indices(
+    map: &mut VecMap<u32, u32>,
+    key: u32,
+    value: u32,
+) -> Result<(), AllocError>
+    ensures { OnOk result ((q : ℕ) (i : ℕ) → index_of nat_eq map.old.entries q ≡ Some i → index_of
+        nat_eq map.new.entries q ≡ Some i) }
+{
+    let pair = (key, value);
+    map.index_or_try_insert_with(
+        &key,
+        || -> Result<(u32, u32), Refused<(u32, u32)>>
+            ensures { result ≡ Ok pair }
+        { Ok(pair) },
+    )?;
+    Ok(())
+}
+
+pub fn index_or_try_insert_with_then_length(
+    map: &mut VecMap<u32, u32>,
+    key: u32,
+    value: u32,
+) -> Result<(), AllocError>
+    ensures { OnOk result (length map.new.entries ≡ (if is_some (lookup nat_eq map.old.entries key)
+        then length map.old.entries else length map.old.entries + 1)) }
+{
+    let pair = (key, value);
+    map.index_or_try_insert_with(
+        &key,
+        || -> Result<(u32, u32), Refused<(u32, u32)>>
+            ensures { result ≡ Ok pair }
+        { Ok(pair) },
+    )?;
+    Ok(())
+}
+
+pub fn index_or_try_insert_with_then_ends(
+    map: &mut VecMap<u32, u32>,
+    key: u32,
+    value: u32,
+) -> Result<(), AllocError>
+    ensures { OnOk result (lookup nat_eq map.old.entries key ≡ None → slice_get map.new.entries
+        (length map.new.entries - 1) ≡ Some (key, value)) }
+{
+    let pair = (key, value);
+    map.index_or_try_insert_with(
+        &key,
+        || -> Result<(u32, u32), Refused<(u32, u32)>>
+            ensures { result ≡ Ok pair }
+        { Ok(pair) },
+    )?;
+    Ok(())
+}
+
+pub fn index_or_try_insert_with_then_unchanged(
+    map: &mut VecMap<u32, u32>,
+    key: u32,
+    value: u32,
+) -> Result<(), AllocError>
+    ensures { OnOk result (IsSome (lookup nat_eq map.old.entries key) → map.new ≡ map.old) }
 {
     let pair = (key, value);
     map.index_or_try_insert_with(

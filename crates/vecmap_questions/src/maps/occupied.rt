@@ -1,5 +1,6 @@
 //! Writes and removals through an occupied entry.
-ghost use Rattle.std.specs.Prelude.{◌≡◌, ◌+◌, ◌-◌, ◌<◌, ℕ, IsSome, None, Some, if◌then◌else◌, is_some, length, nat_eq, remove, slice_get};
+ghost use Rattle.std.specs.Prelude.{◌≡◌, ◌+◌, ◌<◌, ℕ, IsSome, None, Some, false, if◌then◌else◌, is_some, length, nat_eq, true};
+ghost use Rattle.std.specs.Map.{keys_of};
 ghost use Rattle.vecmap.specs.Pairs.{HasDistinctKeys, index_of, lookup};
 
 use vecmap::VecMap;
@@ -37,6 +38,33 @@ pub fn occupied_insert_then_distinct(map: &mut VecMap<u32, u32>, key: u32, value
     requires distinct { HasDistinctKeys nat_eq map.old.entries }
     requires present { IsSome (lookup nat_eq map.old.entries key) }
     ensures { HasDistinctKeys nat_eq map.new.entries }
+{
+    if let Entry::Occupied(mut entry) = map.entry(key) {
+        entry.insert(value);
+    }
+}
+
+pub fn occupied_insert_then_present(map: &mut VecMap<u32, u32>, key: u32, value: u32)
+    requires present { IsSome (lookup nat_eq map.old.entries key) }
+    ensures { is_some (lookup nat_eq map.new.entries key) ≡ true }
+{
+    if let Entry::Occupied(mut entry) = map.entry(key) {
+        entry.insert(value);
+    }
+}
+
+pub fn occupied_insert_then_indices(map: &mut VecMap<u32, u32>, key: u32, value: u32)
+    requires present { IsSome (lookup nat_eq map.old.entries key) }
+    ensures { (q : ℕ) → index_of nat_eq map.new.entries q ≡ index_of nat_eq map.old.entries q }
+{
+    if let Entry::Occupied(mut entry) = map.entry(key) {
+        entry.insert(value);
+    }
+}
+
+pub fn occupied_insert_then_keys(map: &mut VecMap<u32, u32>, key: u32, value: u32)
+    requires present { IsSome (lookup nat_eq map.old.entries key) }
+    ensures { keys_of map.new.entries ≡ keys_of map.old.entries }
 {
     if let Entry::Occupied(mut entry) = map.entry(key) {
         entry.insert(value);
@@ -81,6 +109,33 @@ pub fn occupied_get_mut_then_distinct(map: &mut VecMap<u32, u32>, key: u32, valu
     }
 }
 
+pub fn occupied_get_mut_then_present(map: &mut VecMap<u32, u32>, key: u32, value: u32)
+    requires present { IsSome (lookup nat_eq map.old.entries key) }
+    ensures { is_some (lookup nat_eq map.new.entries key) ≡ true }
+{
+    if let Entry::Occupied(mut entry) = map.entry(key) {
+        *entry.get_mut() = value;
+    }
+}
+
+pub fn occupied_get_mut_then_indices(map: &mut VecMap<u32, u32>, key: u32, value: u32)
+    requires present { IsSome (lookup nat_eq map.old.entries key) }
+    ensures { (q : ℕ) → index_of nat_eq map.new.entries q ≡ index_of nat_eq map.old.entries q }
+{
+    if let Entry::Occupied(mut entry) = map.entry(key) {
+        *entry.get_mut() = value;
+    }
+}
+
+pub fn occupied_get_mut_then_keys(map: &mut VecMap<u32, u32>, key: u32, value: u32)
+    requires present { IsSome (lookup nat_eq map.old.entries key) }
+    ensures { keys_of map.new.entries ≡ keys_of map.old.entries }
+{
+    if let Entry::Occupied(mut entry) = map.entry(key) {
+        *entry.get_mut() = value;
+    }
+}
+
 pub fn occupied_remove_then_key(map: &mut VecMap<u32, u32>, key: u32)
     requires distinct { HasDistinctKeys nat_eq map.old.entries }
     ensures { lookup nat_eq map.new.entries key ≡ None }
@@ -100,27 +155,9 @@ pub fn occupied_remove_then_lookup(map: &mut VecMap<u32, u32>, key: u32)
     }
 }
 
-pub fn occupied_remove_then_pair(map: &mut VecMap<u32, u32>, key: u32)
-    ensures { (i j : ℕ) → index_of nat_eq map.old.entries key ≡ Some j → i < j → slice_get
-        map.new.entries i ≡ slice_get map.old.entries i }
-{
-    if let Entry::Occupied(entry) = map.entry(key) {
-        entry.remove();
-    }
-}
-
 pub fn occupied_remove_then_length(map: &mut VecMap<u32, u32>, key: u32)
-    ensures { length map.new.entries ≡ (if is_some (lookup nat_eq map.old.entries key) then length
-        map.old.entries - 1 else length map.old.entries) }
-{
-    if let Entry::Occupied(entry) = map.entry(key) {
-        entry.remove();
-    }
-}
-
-pub fn occupied_remove_then_order(map: &mut VecMap<u32, u32>, key: u32)
-    ensures { (i : ℕ) → index_of nat_eq map.old.entries key ≡ Some i → map.new.entries ≡ remove
-        map.old.entries i }
+    ensures { length map.new.entries + (if is_some (lookup nat_eq map.old.entries key) then 1
+        else 0) ≡ length map.old.entries }
 {
     if let Entry::Occupied(entry) = map.entry(key) {
         entry.remove();
@@ -136,17 +173,36 @@ pub fn occupied_remove_then_distinct(map: &mut VecMap<u32, u32>, key: u32)
     }
 }
 
-pub fn occupied_remove_then_ends(map: &mut VecMap<u32, u32>, key: u32)
-    ensures { index_of nat_eq map.old.entries key ≡ Some 0 → slice_get map.new.entries 0 ≡ slice_get
-        map.old.entries 1 }
+pub fn occupied_remove_then_unchanged(map: &mut VecMap<u32, u32>, key: u32)
+    ensures { lookup nat_eq map.old.entries key ≡ None → map.new ≡ map.old }
 {
     if let Entry::Occupied(entry) = map.entry(key) {
         entry.remove();
     }
 }
 
-pub fn occupied_remove_then_unchanged(map: &mut VecMap<u32, u32>, key: u32)
-    ensures { lookup nat_eq map.old.entries key ≡ None → map.new ≡ map.old }
+pub fn occupied_remove_then_present(map: &mut VecMap<u32, u32>, key: u32)
+    requires distinct { HasDistinctKeys nat_eq map.old.entries }
+    ensures { is_some (lookup nat_eq map.new.entries key) ≡ false }
+{
+    if let Entry::Occupied(entry) = map.entry(key) {
+        entry.remove();
+    }
+}
+
+pub fn occupied_remove_then_index(map: &mut VecMap<u32, u32>, key: u32)
+    requires distinct { HasDistinctKeys nat_eq map.old.entries }
+    ensures { index_of nat_eq map.new.entries key ≡ None }
+{
+    if let Entry::Occupied(entry) = map.entry(key) {
+        entry.remove();
+    }
+}
+
+pub fn occupied_remove_then_indices(map: &mut VecMap<u32, u32>, key: u32)
+    requires distinct { HasDistinctKeys nat_eq map.old.entries }
+    ensures { (q : ℕ) (i j : ℕ) → index_of nat_eq map.old.entries key ≡ Some j → index_of nat_eq
+        map.old.entries q ≡ Some i → i < j → index_of nat_eq map.new.entries q ≡ Some i }
 {
     if let Entry::Occupied(entry) = map.entry(key) {
         entry.remove();
@@ -173,8 +229,8 @@ pub fn occupied_swap_remove_then_lookup(map: &mut VecMap<u32, u32>, key: u32)
 }
 
 pub fn occupied_swap_remove_then_length(map: &mut VecMap<u32, u32>, key: u32)
-    ensures { length map.new.entries ≡ (if is_some (lookup nat_eq map.old.entries key) then length
-        map.old.entries - 1 else length map.old.entries) }
+    ensures { length map.new.entries + (if is_some (lookup nat_eq map.old.entries key) then 1
+        else 0) ≡ length map.old.entries }
 {
     if let Entry::Occupied(entry) = map.entry(key) {
         entry.swap_remove();
@@ -198,28 +254,9 @@ pub fn occupied_swap_remove_then_unchanged(map: &mut VecMap<u32, u32>, key: u32)
     }
 }
 
-pub fn occupied_swap_remove_then_pair(map: &mut VecMap<u32, u32>, key: u32)
-    ensures { (i j : ℕ) → index_of nat_eq map.old.entries key ≡ Some j → i < j → slice_get
-        map.new.entries i ≡ slice_get map.old.entries i }
-{
-    if let Entry::Occupied(entry) = map.entry(key) {
-        entry.swap_remove();
-    }
-}
-
-pub fn occupied_swap_remove_then_order(map: &mut VecMap<u32, u32>, key: u32)
-    ensures { (j : ℕ) → index_of nat_eq map.old.entries key ≡ Some j → j + 1 < length
-        map.old.entries → slice_get map.new.entries j ≡ slice_get map.old.entries (length
-        map.old.entries - 1) }
-{
-    if let Entry::Occupied(entry) = map.entry(key) {
-        entry.swap_remove();
-    }
-}
-
-pub fn occupied_swap_remove_then_ends(map: &mut VecMap<u32, u32>, key: u32)
-    ensures { index_of nat_eq map.old.entries key ≡ Some 0 → 1 < length map.old.entries → slice_get
-        map.new.entries 0 ≡ slice_get map.old.entries (length map.old.entries - 1) }
+pub fn occupied_swap_remove_then_present(map: &mut VecMap<u32, u32>, key: u32)
+    requires distinct { HasDistinctKeys nat_eq map.old.entries }
+    ensures { is_some (lookup nat_eq map.new.entries key) ≡ false }
 {
     if let Entry::Occupied(entry) = map.entry(key) {
         entry.swap_remove();

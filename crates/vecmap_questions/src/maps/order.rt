@@ -1,5 +1,7 @@
 //! Changes of the order.
-ghost use Rattle.std.specs.Prelude.{◌≡◌, ◌-◌, ◌<◌, ℕ, false, is_some, length, nat_eq, slice_get};
+ghost use Rattle.std.specs.Prelude.{◌≡◌, ◌-◌, ◌<◌, ℕ, IsTrue, Some, false, is_some, length, nat_eq, reverse, slice_get};
+ghost use Rattle.std.specs.Map.{keys_of};
+ghost use Rattle.vecmap.specs.Equality.{has_same_counts};
 ghost use Rattle.vecmap.specs.Pairs.{HasDistinctKeys, index_of, lookup};
 
 use vecmap::VecMap;
@@ -37,9 +39,29 @@ pub fn reverse_then_empty(map: &mut VecMap<u32, u32>)
     map.reverse();
 }
 
+pub fn reverse_then_equal(map: &mut VecMap<u32, u32>)
+    ensures { IsTrue (has_same_counts nat_eq nat_eq map.new.entries map.old.entries) }
+{
+    map.reverse();
+}
+
+pub fn reverse_then_index(map: &mut VecMap<u32, u32>)
+    requires distinct { HasDistinctKeys nat_eq map.old.entries }
+    ensures { (q : ℕ) (i : ℕ) → index_of nat_eq map.old.entries q ≡ Some i → index_of nat_eq
+        map.new.entries q ≡ Some (length map.old.entries - 1 - i) }
+{
+    map.reverse();
+}
+
 pub fn reverse_then_pair(map: &mut VecMap<u32, u32>)
     ensures { (i : ℕ) → i < length map.old.entries → slice_get map.new.entries i ≡ slice_get
         map.old.entries (length map.old.entries - 1 - i) }
+{
+    map.reverse();
+}
+
+pub fn reverse_then_order(map: &mut VecMap<u32, u32>)
+    ensures { keys_of map.new.entries ≡ reverse (keys_of map.old.entries) }
 {
     map.reverse();
 }
@@ -120,6 +142,34 @@ pub fn swap_indices_then_empty(map: &mut VecMap<u32, u32>, a: usize, b: usize)
     map.swap_indices(a, b);
 }
 
+pub fn swap_indices_then_equal(map: &mut VecMap<u32, u32>, a: usize, b: usize)
+    requires a_within { a < length map.old.entries }
+    requires b_within { b < length map.old.entries }
+    ensures { IsTrue (has_same_counts nat_eq nat_eq map.new.entries map.old.entries) }
+{
+    map.swap_indices(a, b);
+}
+
+pub fn swap_indices_then_index(map: &mut VecMap<u32, u32>, a: usize, b: usize)
+    requires distinct { HasDistinctKeys nat_eq map.old.entries }
+    requires a_within { a < length map.old.entries }
+    requires b_within { b < length map.old.entries }
+    ensures { (k : ℕ) → index_of nat_eq map.old.entries k ≡ Some a → index_of nat_eq map.new.entries
+        k ≡ Some b }
+{
+    map.swap_indices(a, b);
+}
+
+pub fn swap_indices_then_indices(map: &mut VecMap<u32, u32>, a: usize, b: usize)
+    requires distinct { HasDistinctKeys nat_eq map.old.entries }
+    requires a_within { a < length map.old.entries }
+    requires b_within { b < length map.old.entries }
+    ensures { (q : ℕ) (i : ℕ) → index_of nat_eq map.old.entries q ≡ Some i → nat_eq i a ≡ false
+        → nat_eq i b ≡ false → index_of nat_eq map.new.entries q ≡ Some i }
+{
+    map.swap_indices(a, b);
+}
+
 pub fn swap_indices_then_pair(map: &mut VecMap<u32, u32>, a: usize, b: usize)
     requires a_within { a < length map.old.entries }
     requires b_within { b < length map.old.entries }
@@ -176,6 +226,34 @@ pub fn move_index_then_empty(map: &mut VecMap<u32, u32>, a: usize, b: usize)
     requires a_within { a < length map.old.entries }
     requires b_within { b < length map.old.entries }
     ensures { 0 < length map.old.entries → 0 < length map.new.entries }
+{
+    map.move_index(a, b);
+}
+
+pub fn move_index_then_equal(map: &mut VecMap<u32, u32>, a: usize, b: usize)
+    requires a_within { a < length map.old.entries }
+    requires b_within { b < length map.old.entries }
+    ensures { IsTrue (has_same_counts nat_eq nat_eq map.new.entries map.old.entries) }
+{
+    map.move_index(a, b);
+}
+
+pub fn move_index_then_index(map: &mut VecMap<u32, u32>, a: usize, b: usize)
+    requires distinct { HasDistinctKeys nat_eq map.old.entries }
+    requires a_within { a < length map.old.entries }
+    requires b_within { b < length map.old.entries }
+    ensures { (k : ℕ) → index_of nat_eq map.old.entries k ≡ Some a → index_of nat_eq map.new.entries
+        k ≡ Some b }
+{
+    map.move_index(a, b);
+}
+
+pub fn move_index_then_indices(map: &mut VecMap<u32, u32>, a: usize, b: usize)
+    requires distinct { HasDistinctKeys nat_eq map.old.entries }
+    requires a_within { a < length map.old.entries }
+    requires b_within { b < length map.old.entries }
+    ensures { (q : ℕ) (i : ℕ) → index_of nat_eq map.old.entries q ≡ Some i → i < a → i < b
+        → index_of nat_eq map.new.entries q ≡ Some i }
 {
     map.move_index(a, b);
 }

@@ -1,5 +1,6 @@
 //! Removals by an index, and of the last pair.
-ghost use Rattle.std.specs.Prelude.{◌≡◌, ◌+◌, ◌-◌, ◌<◌, ◌≤◌, ℕ, [], None, Some, if◌then◌else◌, length, nat_eq, slice_get};
+ghost use Rattle.std.specs.Prelude.{◌≡◌, ◌+◌, ◌-◌, ◌<◌, ◌≤◌, ℕ, [], None, Some, false, if◌then◌else◌, is_some, length, nat_eq, remove, slice_get, take};
+ghost use Rattle.std.specs.Map.{keys_of, values_of};
 ghost use Rattle.vecmap.specs.Pairs.{HasDistinctKeys, index_of, lookup};
 
 use vecmap::VecMap;
@@ -28,6 +29,23 @@ pub fn remove_index_then_lookup(map: &mut VecMap<u32, u32>, index: usize) -> (u3
     map.remove_index(index)
 }
 
+pub fn remove_index_then_present(map: &mut VecMap<u32, u32>, index: usize) -> (u32, u32)
+    requires distinct { HasDistinctKeys nat_eq map.old.entries }
+    requires within { index < length map.old.entries }
+    ensures { (k : ℕ) → index_of nat_eq map.old.entries k ≡ Some index → is_some (index_of nat_eq
+        map.new.entries k) ≡ false }
+{
+    map.remove_index(index)
+}
+
+pub fn remove_index_then_indices(map: &mut VecMap<u32, u32>, index: usize) -> (u32, u32)
+    requires within { index < length map.old.entries }
+    ensures { (q : ℕ) (i : ℕ) → index_of nat_eq map.old.entries q ≡ Some i → i < index → index_of
+        nat_eq map.new.entries q ≡ Some i }
+{
+    map.remove_index(index)
+}
+
 pub fn remove_index_then_pair(map: &mut VecMap<u32, u32>, index: usize) -> (u32, u32)
     requires within { index < length map.old.entries }
     ensures { (i : ℕ) → index ≤ i → slice_get map.new.entries i ≡ slice_get map.old.entries (i + 1) }
@@ -38,6 +56,20 @@ pub fn remove_index_then_pair(map: &mut VecMap<u32, u32>, index: usize) -> (u32,
 pub fn remove_index_then_length(map: &mut VecMap<u32, u32>, index: usize) -> (u32, u32)
     requires within { index < length map.old.entries }
     ensures { length map.new.entries + 1 ≡ length map.old.entries }
+{
+    map.remove_index(index)
+}
+
+pub fn remove_index_then_keys(map: &mut VecMap<u32, u32>, index: usize) -> (u32, u32)
+    requires within { index < length map.old.entries }
+    ensures { keys_of map.new.entries ≡ remove (keys_of map.old.entries) index }
+{
+    map.remove_index(index)
+}
+
+pub fn remove_index_then_values(map: &mut VecMap<u32, u32>, index: usize) -> (u32, u32)
+    requires within { index < length map.old.entries }
+    ensures { values_of map.new.entries ≡ remove (values_of map.old.entries) index }
 {
     map.remove_index(index)
 }
@@ -139,6 +171,15 @@ pub fn swap_remove_index_then_lookup(map: &mut VecMap<u32, u32>, index: usize) -
     map.swap_remove_index(index)
 }
 
+pub fn swap_remove_index_then_present(map: &mut VecMap<u32, u32>, index: usize) -> (u32, u32)
+    requires distinct { HasDistinctKeys nat_eq map.old.entries }
+    requires within { index < length map.old.entries }
+    ensures { (k : ℕ) → index_of nat_eq map.old.entries k ≡ Some index → is_some (index_of nat_eq
+        map.new.entries k) ≡ false }
+{
+    map.swap_remove_index(index)
+}
+
 pub fn swap_remove_index_then_pair(map: &mut VecMap<u32, u32>, index: usize) -> (u32, u32)
     requires within { index < length map.old.entries }
     ensures { index + 1 < length map.old.entries → slice_get map.new.entries index ≡ slice_get
@@ -208,6 +249,42 @@ pub fn pop_then_distinct(map: &mut VecMap<u32, u32>)
 pub fn pop_then_ends(map: &mut VecMap<u32, u32>)
     ensures { 0 < (length map.old.entries - 1) → slice_get map.new.entries 0 ≡ slice_get
         map.old.entries 0 }
+{
+    map.pop();
+}
+
+pub fn pop_then_lookup(map: &mut VecMap<u32, u32>)
+    requires distinct { HasDistinctKeys nat_eq map.old.entries }
+    ensures { (q : ℕ) (v : ℕ) → lookup nat_eq map.new.entries q ≡ Some v → lookup nat_eq
+        map.old.entries q ≡ Some v }
+{
+    map.pop();
+}
+
+pub fn pop_then_present(map: &mut VecMap<u32, u32>)
+    requires distinct { HasDistinctKeys nat_eq map.old.entries }
+    ensures { (q : ℕ) (i : ℕ) → index_of nat_eq map.old.entries q ≡ Some i → (length map.old.entries
+        - 1) ≤ i → lookup nat_eq map.new.entries q ≡ None }
+{
+    map.pop();
+}
+
+pub fn pop_then_indices(map: &mut VecMap<u32, u32>)
+    ensures { (q : ℕ) (i : ℕ) → index_of nat_eq map.old.entries q ≡ Some i → i < (length
+        map.old.entries - 1) → index_of nat_eq map.new.entries q ≡ Some i }
+{
+    map.pop();
+}
+
+pub fn pop_then_keys(map: &mut VecMap<u32, u32>)
+    ensures { keys_of map.new.entries ≡ take (length map.old.entries - 1) (keys_of map.old.entries) }
+{
+    map.pop();
+}
+
+pub fn pop_then_values(map: &mut VecMap<u32, u32>)
+    ensures { values_of map.new.entries ≡ take (length map.old.entries - 1) (values_of
+        map.old.entries) }
 {
     map.pop();
 }

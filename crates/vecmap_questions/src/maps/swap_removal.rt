@@ -1,5 +1,5 @@
 //! Removals that move the last pair, by a key.
-ghost use Rattle.std.specs.Prelude.{◌≡◌, ◌+◌, ◌-◌, ◌<◌, ℕ, None, Some, if◌then◌else◌, length, nat_eq, slice_get};
+ghost use Rattle.std.specs.Prelude.{◌≡◌, ◌+◌, ℕ, None, false, if◌then◌else◌, is_some, length, nat_eq};
 ghost use Rattle.vecmap.specs.Pairs.{HasDistinctKeys, index_of, lookup};
 
 use vecmap::VecMap;
@@ -26,24 +26,29 @@ pub fn swap_remove_then_distinct(map: &mut VecMap<u32, u32>, key: u32)
     map.swap_remove(&key);
 }
 
-pub fn swap_remove_then_pair(map: &mut VecMap<u32, u32>, key: u32)
-    ensures { (i j : ℕ) → index_of nat_eq map.old.entries key ≡ Some j → i < j → slice_get
-        map.new.entries i ≡ slice_get map.old.entries i }
+pub fn swap_remove_then_present(map: &mut VecMap<u32, u32>, key: u32)
+    requires distinct { HasDistinctKeys nat_eq map.old.entries }
+    ensures { is_some (lookup nat_eq map.new.entries key) ≡ false }
 {
     map.swap_remove(&key);
 }
 
-pub fn swap_remove_then_order(map: &mut VecMap<u32, u32>, key: u32)
-    ensures { (j : ℕ) → index_of nat_eq map.old.entries key ≡ Some j → j + 1 < length
-        map.old.entries → slice_get map.new.entries j ≡ slice_get map.old.entries (length
-        map.old.entries - 1) }
+pub fn swap_remove_then_index(map: &mut VecMap<u32, u32>, key: u32)
+    requires distinct { HasDistinctKeys nat_eq map.old.entries }
+    ensures { index_of nat_eq map.new.entries key ≡ None }
 {
     map.swap_remove(&key);
 }
 
-pub fn swap_remove_then_ends(map: &mut VecMap<u32, u32>, key: u32)
-    ensures { index_of nat_eq map.old.entries key ≡ Some 0 → 1 < length map.old.entries → slice_get
-        map.new.entries 0 ≡ slice_get map.old.entries (length map.old.entries - 1) }
+pub fn swap_remove_then_length(map: &mut VecMap<u32, u32>, key: u32)
+    ensures { length map.new.entries + (if is_some (lookup nat_eq map.old.entries key) then 1
+        else 0) ≡ length map.old.entries }
+{
+    map.swap_remove(&key);
+}
+
+pub fn swap_remove_then_unchanged(map: &mut VecMap<u32, u32>, key: u32)
+    ensures { lookup nat_eq map.old.entries key ≡ None → map.new ≡ map.old }
 {
     map.swap_remove(&key);
 }
@@ -76,6 +81,26 @@ pub fn swap_remove_then_distinct_generic<K: Eq + Drop>(map: &mut VecMap<K, u32>,
     map.swap_remove(key);
 }
 
+pub fn swap_remove_then_present_generic<K: Eq + Drop>(map: &mut VecMap<K, u32>, key: &K)
+    requires distinct { HasDistinctKeys K.eq map.old.entries }
+    ensures { is_some (lookup K.eq map.new.entries key.now) ≡ false }
+{
+    map.swap_remove(key);
+}
+
+pub fn swap_remove_then_length_generic<K: Eq + Drop>(map: &mut VecMap<K, u32>, key: &K)
+    ensures { length map.new.entries + (if is_some (lookup K.eq map.old.entries key.now) then 1
+        else 0) ≡ length map.old.entries }
+{
+    map.swap_remove(key);
+}
+
+pub fn swap_remove_then_unchanged_generic<K: Eq + Drop>(map: &mut VecMap<K, u32>, key: &K)
+    ensures { lookup K.eq map.old.entries key.now ≡ None → map.new ≡ map.old }
+{
+    map.swap_remove(key);
+}
+
 pub fn swap_remove_entry_then_key(map: &mut VecMap<u32, u32>, key: u32)
     requires distinct { HasDistinctKeys nat_eq map.old.entries }
     ensures { lookup nat_eq map.new.entries key ≡ None }
@@ -98,24 +123,22 @@ pub fn swap_remove_entry_then_distinct(map: &mut VecMap<u32, u32>, key: u32)
     map.swap_remove_entry(&key);
 }
 
-pub fn swap_remove_entry_then_pair(map: &mut VecMap<u32, u32>, key: u32)
-    ensures { (i j : ℕ) → index_of nat_eq map.old.entries key ≡ Some j → i < j → slice_get
-        map.new.entries i ≡ slice_get map.old.entries i }
+pub fn swap_remove_entry_then_present(map: &mut VecMap<u32, u32>, key: u32)
+    requires distinct { HasDistinctKeys nat_eq map.old.entries }
+    ensures { is_some (lookup nat_eq map.new.entries key) ≡ false }
 {
     map.swap_remove_entry(&key);
 }
 
-pub fn swap_remove_entry_then_order(map: &mut VecMap<u32, u32>, key: u32)
-    ensures { (j : ℕ) → index_of nat_eq map.old.entries key ≡ Some j → j + 1 < length
-        map.old.entries → slice_get map.new.entries j ≡ slice_get map.old.entries (length
-        map.old.entries - 1) }
+pub fn swap_remove_entry_then_length(map: &mut VecMap<u32, u32>, key: u32)
+    ensures { length map.new.entries + (if is_some (lookup nat_eq map.old.entries key) then 1
+        else 0) ≡ length map.old.entries }
 {
     map.swap_remove_entry(&key);
 }
 
-pub fn swap_remove_entry_then_ends(map: &mut VecMap<u32, u32>, key: u32)
-    ensures { index_of nat_eq map.old.entries key ≡ Some 0 → 1 < length map.old.entries → slice_get
-        map.new.entries 0 ≡ slice_get map.old.entries (length map.old.entries - 1) }
+pub fn swap_remove_entry_then_unchanged(map: &mut VecMap<u32, u32>, key: u32)
+    ensures { lookup nat_eq map.old.entries key ≡ None → map.new ≡ map.old }
 {
     map.swap_remove_entry(&key);
 }

@@ -1,6 +1,7 @@
 //! Writes at an index, and of all values.
-ghost use Rattle.std.specs.Prelude.{◌≡◌, ◌-◌, ◌/◌, ◌<◌, ℕ, Some, if◌then◌else◌, length, nat_eq, option_map};
-ghost use Rattle.std.specs.Map.{keys_of};
+ghost use Rattle.std.specs.Prelude.{◌≡◌, ◌-◌, ◌/◌, ◌<◌, ℕ, IsSome, Some, if◌then◌else◌, is_some, length, nat_eq, option_map, slice_set};
+ghost use Rattle.std.specs.List.{All};
+ghost use Rattle.std.specs.Map.{keys_of, values_of};
 ghost use Rattle.vecmap.specs.Pairs.{HasDistinctKeys, index_of, lookup, value_at};
 
 use vecmap::VecMap;
@@ -47,6 +48,37 @@ pub fn index_mut_at_then_distinct(map: &mut VecMap<u32, u32>, index: usize, valu
 pub fn index_mut_at_then_empty(map: &mut VecMap<u32, u32>, index: usize, value: u32)
     requires within { index < length map.old.entries }
     ensures { 0 < length map.new.entries }
+{
+    map[index] = value;
+}
+
+pub fn index_mut_at_then_lookup(map: &mut VecMap<u32, u32>, index: usize, value: u32)
+    requires distinct { HasDistinctKeys nat_eq map.old.entries }
+    requires within { index < length map.old.entries }
+    ensures { (k q : ℕ) → index_of nat_eq map.old.entries k ≡ Some index → lookup nat_eq
+        map.new.entries q ≡ (if nat_eq k q then Some value else lookup nat_eq map.old.entries q) }
+{
+    map[index] = value;
+}
+
+pub fn index_mut_at_then_present(map: &mut VecMap<u32, u32>, index: usize, value: u32)
+    requires within { index < length map.old.entries }
+    ensures { (q : ℕ) → is_some (index_of nat_eq map.new.entries q) ≡ is_some (index_of nat_eq
+        map.old.entries q) }
+{
+    map[index] = value;
+}
+
+pub fn index_mut_at_then_indices(map: &mut VecMap<u32, u32>, index: usize, value: u32)
+    requires within { index < length map.old.entries }
+    ensures { (q : ℕ) → index_of nat_eq map.new.entries q ≡ index_of nat_eq map.old.entries q }
+{
+    map[index] = value;
+}
+
+pub fn index_mut_at_then_values(map: &mut VecMap<u32, u32>, index: usize, value: u32)
+    requires within { index < length map.old.entries }
+    ensures { values_of map.new.entries ≡ slice_set (values_of map.old.entries) index value }
 {
     map[index] = value;
 }
@@ -109,6 +141,142 @@ pub fn get_value_at_mut_then_empty(map: &mut VecMap<u32, u32>, index: usize, val
     }
 }
 
+pub fn get_value_at_mut_then_lookup(map: &mut VecMap<u32, u32>, index: usize, value: u32)
+    requires distinct { HasDistinctKeys nat_eq map.old.entries }
+    requires within { index < length map.old.entries }
+    ensures { (k q : ℕ) → index_of nat_eq map.old.entries k ≡ Some index → lookup nat_eq
+        map.new.entries q ≡ (if nat_eq k q then Some value else lookup nat_eq map.old.entries q) }
+{
+    if let Some(stored) = map.get_value_at_mut(index) {
+        *stored = value;
+    }
+}
+
+pub fn get_value_at_mut_then_present(map: &mut VecMap<u32, u32>, index: usize, value: u32)
+    requires within { index < length map.old.entries }
+    ensures { (q : ℕ) → is_some (index_of nat_eq map.new.entries q) ≡ is_some (index_of nat_eq
+        map.old.entries q) }
+{
+    if let Some(stored) = map.get_value_at_mut(index) {
+        *stored = value;
+    }
+}
+
+pub fn get_value_at_mut_then_indices(map: &mut VecMap<u32, u32>, index: usize, value: u32)
+    requires within { index < length map.old.entries }
+    ensures { (q : ℕ) → index_of nat_eq map.new.entries q ≡ index_of nat_eq map.old.entries q }
+{
+    if let Some(stored) = map.get_value_at_mut(index) {
+        *stored = value;
+    }
+}
+
+pub fn get_value_at_mut_then_values(map: &mut VecMap<u32, u32>, index: usize, value: u32)
+    requires within { index < length map.old.entries }
+    ensures { values_of map.new.entries ≡ slice_set (values_of map.old.entries) index value }
+{
+    if let Some(stored) = map.get_value_at_mut(index) {
+        *stored = value;
+    }
+}
+
+pub fn get_index_mut_then_key(map: &mut VecMap<u32, u32>, index: usize, value: u32)
+    requires distinct { HasDistinctKeys nat_eq map.old.entries }
+    requires within { index < length map.old.entries }
+    ensures { (k : ℕ) → index_of nat_eq map.old.entries k ≡ Some index → lookup nat_eq
+        map.new.entries k ≡ Some value }
+{
+    if let Some((_key, stored)) = map.get_index_mut(index) {
+        *stored = value;
+    }
+}
+
+pub fn get_index_mut_then_lookup(map: &mut VecMap<u32, u32>, index: usize, value: u32)
+    requires distinct { HasDistinctKeys nat_eq map.old.entries }
+    requires within { index < length map.old.entries }
+    ensures { (k q : ℕ) → index_of nat_eq map.old.entries k ≡ Some index → lookup nat_eq
+        map.new.entries q ≡ (if nat_eq k q then Some value else lookup nat_eq map.old.entries q) }
+{
+    if let Some((_key, stored)) = map.get_index_mut(index) {
+        *stored = value;
+    }
+}
+
+pub fn get_index_mut_then_present(map: &mut VecMap<u32, u32>, index: usize, value: u32)
+    requires within { index < length map.old.entries }
+    ensures { (q : ℕ) → is_some (index_of nat_eq map.new.entries q) ≡ is_some (index_of nat_eq
+        map.old.entries q) }
+{
+    if let Some((_key, stored)) = map.get_index_mut(index) {
+        *stored = value;
+    }
+}
+
+pub fn get_index_mut_then_indices(map: &mut VecMap<u32, u32>, index: usize, value: u32)
+    requires within { index < length map.old.entries }
+    ensures { (q : ℕ) → index_of nat_eq map.new.entries q ≡ index_of nat_eq map.old.entries q }
+{
+    if let Some((_key, stored)) = map.get_index_mut(index) {
+        *stored = value;
+    }
+}
+
+pub fn get_index_mut_then_pair(map: &mut VecMap<u32, u32>, index: usize, value: u32)
+    requires within { index < length map.old.entries }
+    ensures { (i : ℕ) → value_at map.new.entries i ≡ (if nat_eq i index then Some value
+        else value_at map.old.entries i) }
+{
+    if let Some((_key, stored)) = map.get_index_mut(index) {
+        *stored = value;
+    }
+}
+
+pub fn get_index_mut_then_length(map: &mut VecMap<u32, u32>, index: usize, value: u32)
+    requires within { index < length map.old.entries }
+    ensures { length map.new.entries ≡ length map.old.entries }
+{
+    if let Some((_key, stored)) = map.get_index_mut(index) {
+        *stored = value;
+    }
+}
+
+pub fn get_index_mut_then_keys(map: &mut VecMap<u32, u32>, index: usize, value: u32)
+    requires within { index < length map.old.entries }
+    ensures { keys_of map.new.entries ≡ keys_of map.old.entries }
+{
+    if let Some((_key, stored)) = map.get_index_mut(index) {
+        *stored = value;
+    }
+}
+
+pub fn get_index_mut_then_values(map: &mut VecMap<u32, u32>, index: usize, value: u32)
+    requires within { index < length map.old.entries }
+    ensures { values_of map.new.entries ≡ slice_set (values_of map.old.entries) index value }
+{
+    if let Some((_key, stored)) = map.get_index_mut(index) {
+        *stored = value;
+    }
+}
+
+pub fn get_index_mut_then_distinct(map: &mut VecMap<u32, u32>, index: usize, value: u32)
+    requires distinct { HasDistinctKeys nat_eq map.old.entries }
+    requires within { index < length map.old.entries }
+    ensures { HasDistinctKeys nat_eq map.new.entries }
+{
+    if let Some((_key, stored)) = map.get_index_mut(index) {
+        *stored = value;
+    }
+}
+
+pub fn get_index_mut_then_empty(map: &mut VecMap<u32, u32>, index: usize, value: u32)
+    requires within { index < length map.old.entries }
+    ensures { 0 < length map.new.entries }
+{
+    if let Some((_key, stored)) = map.get_index_mut(index) {
+        *stored = value;
+    }
+}
+
 pub fn first_value_mut_then_pair(map: &mut VecMap<u32, u32>, value: u32)
     requires not_empty { 0 < length map.old.entries }
     ensures { value_at map.new.entries 0 ≡ Some value }
@@ -142,6 +310,33 @@ pub fn first_value_mut_then_distinct(map: &mut VecMap<u32, u32>, value: u32)
     ensures { HasDistinctKeys nat_eq map.new.entries }
 {
     if let Some(stored) = map.first_value_mut() {
+        *stored = value;
+    }
+}
+
+pub fn first_mut_then_pair(map: &mut VecMap<u32, u32>, value: u32)
+    requires not_empty { 0 < length map.old.entries }
+    ensures { value_at map.new.entries 0 ≡ Some value }
+{
+    if let Some((_key, stored)) = map.first_mut() {
+        *stored = value;
+    }
+}
+
+pub fn first_mut_then_length(map: &mut VecMap<u32, u32>, value: u32)
+    requires not_empty { 0 < length map.old.entries }
+    ensures { length map.new.entries ≡ length map.old.entries }
+{
+    if let Some((_key, stored)) = map.first_mut() {
+        *stored = value;
+    }
+}
+
+pub fn first_mut_then_keys(map: &mut VecMap<u32, u32>, value: u32)
+    requires not_empty { 0 < length map.old.entries }
+    ensures { keys_of map.new.entries ≡ keys_of map.old.entries }
+{
+    if let Some((_key, stored)) = map.first_mut() {
         *stored = value;
     }
 }
@@ -183,9 +378,35 @@ pub fn last_value_mut_then_distinct(map: &mut VecMap<u32, u32>, value: u32)
     }
 }
 
+pub fn update_values_then_key(map: &mut VecMap<u32, u32>, value: u32)
+    ensures { (q : ℕ) → IsSome (lookup nat_eq map.old.entries q) → lookup nat_eq map.new.entries q
+        ≡ Some value }
+{
+    map.update_values(|_key, stored| *stored = value);
+}
+
 pub fn update_values_then_lookup(map: &mut VecMap<u32, u32>, value: u32)
     ensures { (q : ℕ) → lookup nat_eq map.new.entries q ≡ option_map (λ _. value) (lookup nat_eq
         map.old.entries q) }
+{
+    map.update_values(|_key, stored| *stored = value);
+}
+
+pub fn update_values_then_present(map: &mut VecMap<u32, u32>, value: u32)
+    ensures { (q : ℕ) → is_some (index_of nat_eq map.new.entries q) ≡ is_some (index_of nat_eq
+        map.old.entries q) }
+{
+    map.update_values(|_key, stored| *stored = value);
+}
+
+pub fn update_values_then_indices(map: &mut VecMap<u32, u32>, value: u32)
+    ensures { (q : ℕ) → index_of nat_eq map.new.entries q ≡ index_of nat_eq map.old.entries q }
+{
+    map.update_values(|_key, stored| *stored = value);
+}
+
+pub fn update_values_then_pair(map: &mut VecMap<u32, u32>, value: u32)
+    ensures { (i : ℕ) → i < length map.old.entries → value_at map.new.entries i ≡ Some value }
 {
     map.update_values(|_key, stored| *stored = value);
 }
@@ -202,6 +423,12 @@ pub fn update_values_then_keys(map: &mut VecMap<u32, u32>, value: u32)
     map.update_values(|_key, stored| *stored = value);
 }
 
+pub fn update_values_then_values(map: &mut VecMap<u32, u32>, value: u32)
+    ensures { All (λ v. v ≡ value) (values_of map.new.entries) }
+{
+    map.update_values(|_key, stored| *stored = value);
+}
+
 pub fn update_values_then_distinct(map: &mut VecMap<u32, u32>, value: u32)
     requires distinct { HasDistinctKeys nat_eq map.old.entries }
     ensures { HasDistinctKeys nat_eq map.new.entries }
@@ -212,6 +439,12 @@ pub fn update_values_then_distinct(map: &mut VecMap<u32, u32>, value: u32)
 pub fn update_values_then_lookup_generic<K: Eq + Drop>(map: &mut VecMap<K, u32>)
     ensures { (q : K) → lookup K.eq map.new.entries q ≡ option_map (λ v. v / 2) (lookup K.eq
         map.old.entries q) }
+{
+    map.update_values(|_key, stored| *stored /= 2);
+}
+
+pub fn update_values_then_indices_generic<K: Eq + Drop>(map: &mut VecMap<K, u32>)
+    ensures { (q : K) → index_of K.eq map.new.entries q ≡ index_of K.eq map.old.entries q }
 {
     map.update_values(|_key, stored| *stored /= 2);
 }

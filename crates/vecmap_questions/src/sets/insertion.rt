@@ -1,8 +1,9 @@
 //! Insertions.
-ghost use Rattle.std.specs.Prelude.{◌≡◌, ◌+◌, ◌-◌, ◌<◌, ◌||◌, ℕ, IfOk, Ok, OnErr, OnOk, Some, false, if◌then◌else◌, length, nat_eq, not, slice_get, take, true};
-ghost use Rattle.std.specs.List.{IsDistinct};
+ghost use Rattle.std.specs.Prelude.{◌≡◌, ◌+◌, ◌-◌, ◌<◌, ◌||◌, ℕ, IfOk, Ok, OnErr, OnOk, Some, false, if◌then◌else◌, length, nat_eq, not, slice_get, true};
+ghost use Rattle.std.specs.List.{IsDistinct, list_any};
 ghost use Rattle.std.specs.Set.{is_member};
 ghost use Rattle.vecmap.specs.Items.{item_index};
+ghost use Rattle.vecmap.specs.Pairs.{has_text};
 
 use std::alloc::AllocError;
 use vecmap::macros::add_item;
@@ -47,13 +48,6 @@ pub fn insert_then_length(set: &mut VecSet<u32>, item: u32) -> Result<(), AllocE
     Ok(())
 }
 
-pub fn insert_then_order(set: &mut VecSet<u32>, item: u32) -> Result<(), AllocError>
-    ensures { OnOk result (take (length set.old.elements) set.new.elements ≡ set.old.elements) }
-{
-    set.insert(item)?;
-    Ok(())
-}
-
 pub fn insert_then_distinct(set: &mut VecSet<u32>, item: u32) -> Result<(), AllocError>
     ensures { OnOk result (IsDistinct nat_eq set.new.elements) }
 {
@@ -78,6 +72,14 @@ pub fn insert_then_ends(set: &mut VecSet<u32>, item: u32) -> Result<(), AllocErr
 
 pub fn insert_then_unchanged(set: &mut VecSet<u32>, item: u32) -> Result<(), AllocError>
     ensures { OnErr result (set.new ≡ set.old) }
+{
+    set.insert(item)?;
+    Ok(())
+}
+
+pub fn insert_then_index(set: &mut VecSet<u32>, item: u32) -> Result<(), AllocError>
+    ensures { OnOk result (is_member nat_eq set.old.elements item ≡ false → item_index nat_eq
+        set.new.elements item ≡ Some (length set.old.elements)) }
 {
     set.insert(item)?;
     Ok(())
@@ -132,16 +134,6 @@ pub fn insert_then_length_generic<T: Eq + Drop>(
     Ok(())
 }
 
-pub fn insert_then_order_generic<T: Eq + Drop>(
-    set: &mut VecSet<T>,
-    item: T,
-) -> Result<(), AllocError>
-    ensures { OnOk result (take (length set.old.elements) set.new.elements ≡ set.old.elements) }
-{
-    set.insert(item)?;
-    Ok(())
-}
-
 pub fn insert_then_distinct_generic<T: Eq + Drop>(
     set: &mut VecSet<T>,
     item: T,
@@ -157,6 +149,29 @@ pub fn insert_then_empty_generic<T: Eq + Drop>(
     item: T,
 ) -> Result<(), AllocError>
     ensures { OnOk result (0 < length set.new.elements) }
+{
+    set.insert(item)?;
+    Ok(())
+}
+
+pub fn insert_then_index_generic<T: Eq + Drop>(
+    set: &mut VecSet<T>,
+    item: T,
+) -> Result<(), AllocError>
+    ensures { OnOk result (is_member T.eq set.old.elements item ≡ false → item_index T.eq
+        set.new.elements item ≡ Some (length set.old.elements)) }
+{
+    set.insert(item)?;
+    Ok(())
+}
+
+pub fn insert_then_query_by_text(
+    set: &mut VecSet<String>,
+    item: String,
+    text: &str,
+) -> Result<(), AllocError>
+    ensures { OnOk result (list_any (has_text text.now) set.new.elements ≡ (has_text text.now item
+        || list_any (has_text text.now) set.old.elements)) }
 {
     set.insert(item)?;
     Ok(())
@@ -198,6 +213,46 @@ pub fn replace_then_unchanged(set: &mut VecSet<u32>, item: u32) -> Result<(), Al
     Ok(())
 }
 
+pub fn replace_then_index(set: &mut VecSet<u32>, item: u32) -> Result<(), AllocError>
+    ensures { OnOk result (is_member nat_eq set.old.elements item ≡ false → item_index nat_eq
+        set.new.elements item ≡ Some (length set.old.elements)) }
+{
+    set.replace(item)?;
+    Ok(())
+}
+
+pub fn replace_then_indices(set: &mut VecSet<u32>, item: u32) -> Result<(), AllocError>
+    ensures { OnOk result ((q : ℕ) (i : ℕ) → item_index nat_eq set.old.elements q ≡ Some i
+        → item_index nat_eq set.new.elements q ≡ Some i) }
+{
+    set.replace(item)?;
+    Ok(())
+}
+
+pub fn replace_then_element(set: &mut VecSet<u32>, item: u32) -> Result<(), AllocError>
+    ensures { OnOk result (is_member nat_eq set.old.elements item ≡ false → slice_get
+        set.new.elements (length set.old.elements) ≡ Some item) }
+{
+    set.replace(item)?;
+    Ok(())
+}
+
+pub fn replace_then_length(set: &mut VecSet<u32>, item: u32) -> Result<(), AllocError>
+    ensures { OnOk result (length set.new.elements ≡ (if is_member nat_eq set.old.elements item
+        then length set.old.elements else length set.old.elements + 1)) }
+{
+    set.replace(item)?;
+    Ok(())
+}
+
+pub fn replace_then_ends(set: &mut VecSet<u32>, item: u32) -> Result<(), AllocError>
+    ensures { OnOk result (is_member nat_eq set.old.elements item ≡ false → slice_get
+        set.new.elements (length set.new.elements - 1) ≡ Some item) }
+{
+    set.replace(item)?;
+    Ok(())
+}
+
 pub fn insert_unique_then_present(set: &mut VecSet<u32>, item: u32) -> Result<(), AllocError>
     requires absent { is_member nat_eq set.old.elements item ≡ false }
     ensures { OnOk result (is_member nat_eq set.new.elements item ≡ true) }
@@ -224,14 +279,6 @@ pub fn insert_unique_then_indices(set: &mut VecSet<u32>, item: u32) -> Result<()
     Ok(())
 }
 
-pub fn insert_unique_then_order(set: &mut VecSet<u32>, item: u32) -> Result<(), AllocError>
-    requires absent { is_member nat_eq set.old.elements item ≡ false }
-    ensures { OnOk result (take (length set.old.elements) set.new.elements ≡ set.old.elements) }
-{
-    set.insert_unique(item)?;
-    Ok(())
-}
-
 pub fn insert_unique_then_distinct(set: &mut VecSet<u32>, item: u32) -> Result<(), AllocError>
     requires absent { is_member nat_eq set.old.elements item ≡ false }
     ensures { OnOk result (IsDistinct nat_eq set.new.elements) }
@@ -251,6 +298,14 @@ pub fn insert_unique_then_empty(set: &mut VecSet<u32>, item: u32) -> Result<(), 
 pub fn insert_unique_then_unchanged(set: &mut VecSet<u32>, item: u32) -> Result<(), AllocError>
     requires absent { is_member nat_eq set.old.elements item ≡ false }
     ensures { OnErr result (set.new ≡ set.old) }
+{
+    set.insert_unique(item)?;
+    Ok(())
+}
+
+pub fn insert_unique_then_index(set: &mut VecSet<u32>, item: u32) -> Result<(), AllocError>
+    requires absent { is_member nat_eq set.old.elements item ≡ false }
+    ensures { OnOk result (item_index nat_eq set.new.elements item ≡ Some (length set.old.elements)) }
 {
     set.insert_unique(item)?;
     Ok(())
@@ -319,13 +374,6 @@ pub fn add_item_then_length(set: &mut VecSet<u32>, item: u32) -> Result<(), Allo
     Ok(())
 }
 
-pub fn add_item_then_order(set: &mut VecSet<u32>, item: u32) -> Result<(), AllocError>
-    ensures { OnOk result (take (length set.old.elements) set.new.elements ≡ set.old.elements) }
-{
-    add_item(set, item)?;
-    Ok(())
-}
-
 pub fn add_item_then_distinct(set: &mut VecSet<u32>, item: u32) -> Result<(), AllocError>
     ensures { OnOk result (IsDistinct nat_eq set.new.elements) }
 {
@@ -350,6 +398,14 @@ pub fn add_item_then_ends(set: &mut VecSet<u32>, item: u32) -> Result<(), AllocE
 
 pub fn add_item_then_unchanged(set: &mut VecSet<u32>, item: u32) -> Result<(), AllocError>
     ensures { OnErr result (set.new ≡ set.old) }
+{
+    add_item(set, item)?;
+    Ok(())
+}
+
+pub fn add_item_then_index(set: &mut VecSet<u32>, item: u32) -> Result<(), AllocError>
+    ensures { OnOk result (is_member nat_eq set.old.elements item ≡ false → item_index nat_eq
+        set.new.elements item ≡ Some (length set.old.elements)) }
 {
     add_item(set, item)?;
     Ok(())
@@ -402,21 +458,6 @@ pub fn index_or_try_insert_with_then_indices(
     Ok(())
 }
 
-pub fn index_or_try_insert_with_then_order(
-    set: &mut VecSet<u32>,
-    item: u32,
-) -> Result<(), AllocError>
-    ensures { OnOk result (take (length set.old.elements) set.new.elements ≡ set.old.elements) }
-{
-    set.index_or_try_insert_with(
-        &item,
-        || -> Result<u32, Refused<u32>>
-            ensures { result ≡ Ok item }
-        { Ok(item) },
-    )?;
-    Ok(())
-}
-
 pub fn index_or_try_insert_with_then_distinct(
     set: &mut VecSet<u32>,
     item: u32,
@@ -437,6 +478,22 @@ pub fn index_or_try_insert_with_then_empty(
     item: u32,
 ) -> Result<(), AllocError>
     ensures { OnOk result (0 < length set.new.elements) }
+{
+    set.index_or_try_insert_with(
+        &item,
+        || -> Result<u32, Refused<u32>>
+            ensures { result ≡ Ok item }
+        { Ok(item) },
+    )?;
+    Ok(())
+}
+
+pub fn index_or_try_insert_with_then_length(
+    set: &mut VecSet<u32>,
+    item: u32,
+) -> Result<(), AllocError>
+    ensures { OnOk result (length set.new.elements ≡ (if is_member nat_eq set.old.elements item
+        then length set.old.elements else length set.old.elements + 1)) }
 {
     set.index_or_try_insert_with(
         &item,

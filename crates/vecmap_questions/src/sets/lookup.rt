@@ -17,6 +17,12 @@ pub fn contains_then_present(set: &VecSet<u32>, item: u32) -> bool
     set.contains(&item)
 }
 
+pub fn contains_then_index(set: &VecSet<u32>, item: u32) -> bool
+    ensures { result ≡ is_some (item_index nat_eq set.now.elements item) }
+{
+    set.contains(&item)
+}
+
 pub fn contains_then_empty(set: &VecSet<u32>, item: u32) -> bool
     ensures { IsTrue result → 0 < length set.now.elements }
 {
@@ -25,6 +31,12 @@ pub fn contains_then_empty(set: &VecSet<u32>, item: u32) -> bool
 
 pub fn contains_then_present_generic<T: Eq + Drop>(set: &VecSet<T>, item: &T) -> bool
     ensures { result ≡ is_member T.eq set.now.elements item.now }
+{
+    set.contains(item)
+}
+
+pub fn contains_then_index_generic<T: Eq + Drop>(set: &VecSet<T>, item: &T) -> bool
+    ensures { result ≡ is_some (item_index T.eq set.now.elements item.now) }
 {
     set.contains(item)
 }
@@ -54,6 +66,12 @@ pub fn get_then_present(set: &VecSet<u32>, item: u32) -> Option<u32>
     set.get(&item).copied()
 }
 
+pub fn get_then_element(set: &VecSet<u32>, item: u32) -> Option<u32>
+    ensures { IfSome result (λ x. x ≡ item) }
+{
+    set.get(&item).copied()
+}
+
 pub fn get_index_of_then_present(set: &VecSet<u32>, item: u32) -> Option<usize>
     ensures { is_some result ≡ is_member nat_eq set.now.elements item }
 {
@@ -62,6 +80,12 @@ pub fn get_index_of_then_present(set: &VecSet<u32>, item: u32) -> Option<usize>
 
 pub fn get_index_of_then_index(set: &VecSet<u32>, item: u32) -> Option<usize>
     ensures { result ≡ item_index nat_eq set.now.elements item }
+{
+    set.get_index_of(&item)
+}
+
+pub fn get_index_of_then_element(set: &VecSet<u32>, item: u32) -> Option<usize>
+    ensures { IfSome result (λ i. slice_get set.now.elements i ≡ Some item) }
 {
     set.get_index_of(&item)
 }
@@ -78,6 +102,20 @@ pub fn get_index_of_then_present_generic<T: Eq + Drop>(set: &VecSet<T>, item: &T
     set.get_index_of(item)
 }
 
+pub fn get_index_of_then_element_generic<T: Eq + Drop>(set: &VecSet<T>, item: &T) -> Option<usize>
+    ensures { IfSome result (λ i. option_map (T.eq item.now) (slice_get set.now.elements i)
+        ≡ Some true) }
+{
+    set.get_index_of(item)
+}
+
+pub fn get_full_then_present(set: &VecSet<u32>, item: u32) -> Option<(usize, u32)>
+    ensures { is_some result ≡ is_member nat_eq set.now.elements item }
+{
+    let (index, stored) = set.get_full(&item)?;
+    Some((index, *stored))
+}
+
 pub fn get_full_then_index(set: &VecSet<u32>, item: u32) -> Option<(usize, u32)>
     ensures { option_map (λ found. found.0) result ≡ item_index nat_eq set.now.elements item }
 {
@@ -87,6 +125,13 @@ pub fn get_full_then_index(set: &VecSet<u32>, item: u32) -> Option<(usize, u32)>
 
 pub fn get_full_then_element(set: &VecSet<u32>, item: u32) -> Option<(usize, u32)>
     ensures { IfSome result (λ found. slice_get set.now.elements found.0 ≡ Some found.1) }
+{
+    let (index, stored) = set.get_full(&item)?;
+    Some((index, *stored))
+}
+
+pub fn get_full_then_result(set: &VecSet<u32>, item: u32) -> Option<(usize, u32)>
+    ensures { IfSome result (λ found. found.1 ≡ item) }
 {
     let (index, stored) = set.get_full(&item)?;
     Some((index, *stored))
@@ -104,6 +149,12 @@ pub fn get_index_then_present(set: &VecSet<u32>, index: usize) -> Option<u32>
     set.get_index(index).copied()
 }
 
+pub fn get_index_then_index(set: &VecSet<u32>, index: usize) -> Option<u32>
+    ensures { IfSome result (λ x. item_index nat_eq set.now.elements x ≡ Some index) }
+{
+    set.get_index(index).copied()
+}
+
 pub fn get_index_then_length(set: &VecSet<u32>, index: usize) -> Option<u32>
     ensures { is_some result ≡ nat_lt index (length set.now.elements) }
 {
@@ -117,6 +168,29 @@ pub fn index_at_then_element(set: &VecSet<u32>, index: usize) -> u32
     set[index]
 }
 
+pub fn index_at_then_present(set: &VecSet<u32>, index: usize) -> u32
+    requires within { index < length set.now.elements }
+    ensures { is_member nat_eq set.now.elements result ≡ true }
+{
+    set[index]
+}
+
+pub fn index_at_then_index(set: &VecSet<u32>, index: usize) -> u32
+    requires within { index < length set.now.elements }
+    ensures { item_index nat_eq set.now.elements result ≡ Some index }
+{
+    set[index]
+}
+
+pub fn index_of_then_index_then_result(set: &VecSet<u32>, item: u32) -> bool
+    ensures { IsTrue result }
+{
+    match set.get_index_of(&item) {
+        Some(index) => set[index] == item,
+        None => !set.contains(&item),
+    }
+}
+
 pub fn first_then_ends(set: &VecSet<u32>) -> Option<u32>
     ensures { result ≡ slice_get set.now.elements 0 }
 {
@@ -125,6 +199,12 @@ pub fn first_then_ends(set: &VecSet<u32>) -> Option<u32>
 
 pub fn first_then_present(set: &VecSet<u32>) -> Option<u32>
     ensures { IfSome result (λ x. is_member nat_eq set.now.elements x ≡ true) }
+{
+    set.first().copied()
+}
+
+pub fn first_then_index(set: &VecSet<u32>) -> Option<u32>
+    ensures { IfSome result (λ x. item_index nat_eq set.now.elements x ≡ Some 0) }
 {
     set.first().copied()
 }
@@ -171,9 +251,30 @@ pub fn is_empty_then_empty(set: &VecSet<u32>) -> bool
     set.is_empty()
 }
 
+pub fn binary_search_then_present(set: &VecSet<u32>, item: u32) -> Result<usize, usize>
+    requires sorted { IsSorted nat_cmp set.now.elements }
+    ensures { IfOk result (λ _. is_member nat_eq set.now.elements item ≡ true) }
+{
+    set.binary_search(&item)
+}
+
+pub fn binary_search_then_index(set: &VecSet<u32>, item: u32) -> Result<usize, usize>
+    requires sorted { IsSorted nat_cmp set.now.elements }
+    ensures { IfOk result (λ i. item_index nat_eq set.now.elements item ≡ Some i) }
+{
+    set.binary_search(&item)
+}
+
 pub fn binary_search_then_element(set: &VecSet<u32>, item: u32) -> Result<usize, usize>
     requires sorted { IsSorted nat_cmp set.now.elements }
     ensures { IfOk result (λ i. slice_get set.now.elements i ≡ Some item) }
+{
+    set.binary_search(&item)
+}
+
+pub fn binary_search_then_result(set: &VecSet<u32>, item: u32) -> Result<usize, usize>
+    requires sorted { IsSorted nat_cmp set.now.elements }
+    ensures { IfErr result (λ _. is_member nat_eq set.now.elements item ≡ false) }
 {
     set.binary_search(&item)
 }
@@ -183,6 +284,12 @@ pub fn binary_search_then_length(set: &VecSet<u32>, item: u32) -> Result<usize, 
     ensures { IfErr result (λ i. i ≤ length set.now.elements) }
 {
     set.binary_search(&item)
+}
+
+pub fn binary_search_by_then_element(set: &VecSet<u32>, item: u32) -> Result<usize, usize>
+    ensures { IfOk result (λ i. slice_get set.now.elements i ≡ Some item) }
+{
+    set.binary_search_by(|x| x.cmp(&item))
 }
 
 pub fn partition_point_then_length(set: &VecSet<u32>, item: u32) -> usize

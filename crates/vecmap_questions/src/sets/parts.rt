@@ -1,5 +1,5 @@
 //! Removals of many elements, and of the last.
-ghost use Rattle.std.specs.Prelude.{◌≡◌, ◌+◌, ◌-◌, ◌<◌, ◌≤◌, ◌&&◌, ◌||◌, ℕ, [], IfOk, IfSome, None, OnErr, Some, drop, false, length, nat_eq, not, slice_get};
+ghost use Rattle.std.specs.Prelude.{◌≡◌, ◌+◌, ◌-◌, ◌<◌, ◌≤◌, ◌&&◌, ◌||◌, ℕ, [], IfOk, IfSome, None, OnErr, Some, drop, false, filter, length, nat_eq, nat_lt, not, slice_get, true};
 ghost use Rattle.std.specs.List.{IsDistinct};
 ghost use Rattle.std.specs.Set.{is_member};
 ghost use Rattle.vecmap.specs.Items.{item_index};
@@ -30,6 +30,20 @@ pub fn pop_then_distinct(set: &mut VecSet<u32>)
 pub fn pop_then_ends(set: &mut VecSet<u32>)
     ensures { 0 < (length set.old.elements - 1) → slice_get set.new.elements 0 ≡ slice_get
         set.old.elements 0 }
+{
+    set.pop();
+}
+
+pub fn pop_then_present(set: &mut VecSet<u32>)
+    ensures { (q : ℕ) (i : ℕ) → item_index nat_eq set.old.elements q ≡ Some i → i < (length
+        set.old.elements - 1) → is_member nat_eq set.new.elements q ≡ true }
+{
+    set.pop();
+}
+
+pub fn pop_then_indices(set: &mut VecSet<u32>)
+    ensures { (q : ℕ) (i : ℕ) → item_index nat_eq set.old.elements q ≡ Some i → i < (length
+        set.old.elements - 1) → item_index nat_eq set.new.elements q ≡ Some i }
 {
     set.pop();
 }
@@ -84,6 +98,20 @@ pub fn truncate_then_ends(set: &mut VecSet<u32>, index: usize)
     set.truncate(index);
 }
 
+pub fn truncate_then_present(set: &mut VecSet<u32>, index: usize)
+    ensures { (q : ℕ) (i : ℕ) → item_index nat_eq set.old.elements q ≡ Some i → i < index
+        → is_member nat_eq set.new.elements q ≡ true }
+{
+    set.truncate(index);
+}
+
+pub fn truncate_then_indices(set: &mut VecSet<u32>, index: usize)
+    ensures { (q : ℕ) (i : ℕ) → item_index nat_eq set.old.elements q ≡ Some i → i < index
+        → item_index nat_eq set.new.elements q ≡ Some i }
+{
+    set.truncate(index);
+}
+
 pub fn truncate_then_unchanged(set: &mut VecSet<u32>, index: usize)
     ensures { length set.old.elements ≤ index → set.new.elements ≡ set.old.elements }
 {
@@ -99,6 +127,17 @@ pub fn truncate_then_empty(set: &mut VecSet<u32>, index: usize)
 pub fn split_off_then_result(set: &mut VecSet<u32>, index: usize) -> Result<VecSet<u32>, AllocError>
     requires within { index ≤ length set.old.elements }
     ensures { IfOk result (λ made. made.elements ≡ drop index set.old.elements) }
+{
+    set.split_off(index)
+}
+
+pub fn split_off_then_present(
+    set: &mut VecSet<u32>,
+    index: usize,
+) -> Result<VecSet<u32>, AllocError>
+    requires within { index ≤ length set.old.elements }
+    ensures { IfOk result (λ made. (q : ℕ) (i : ℕ) → item_index nat_eq set.old.elements q ≡ Some i
+        → index ≤ i → is_member nat_eq made.elements q ≡ true) }
 {
     set.split_off(index)
 }
@@ -167,6 +206,31 @@ pub fn clear_then_empty(set: &mut VecSet<u32>)
     set.clear();
 }
 
+pub fn retain_then_present(set: &mut VecSet<u32>, item: u32)
+    ensures { is_member nat_eq set.new.elements item ≡ false }
+{
+    set.retain(|x| *x < item);
+}
+
+pub fn retain_then_members(set: &mut VecSet<u32>, item: u32)
+    ensures { (q : ℕ) → is_member nat_eq set.new.elements q ≡ (is_member nat_eq set.old.elements q
+        && nat_lt q item) }
+{
+    set.retain(|x| *x < item);
+}
+
+pub fn retain_then_length(set: &mut VecSet<u32>, item: u32)
+    ensures { length set.new.elements ≤ length set.old.elements }
+{
+    set.retain(|x| *x < item);
+}
+
+pub fn retain_then_order(set: &mut VecSet<u32>, item: u32)
+    ensures { set.new.elements ≡ filter (λ x. nat_lt x item) set.old.elements }
+{
+    set.retain(|x| *x < item);
+}
+
 pub fn retain_then_distinct(set: &mut VecSet<u32>, item: u32)
     ensures { IsDistinct nat_eq set.new.elements }
 {
@@ -197,6 +261,30 @@ pub fn drain_then_distinct(set: &mut VecSet<u32>, index: usize)
 pub fn drain_then_ends(set: &mut VecSet<u32>, index: usize)
     requires within { index ≤ length set.old.elements }
     ensures { 0 < index → slice_get set.new.elements 0 ≡ slice_get set.old.elements 0 }
+{
+    for _item in set.drain(index..) {}
+}
+
+pub fn drain_then_present(set: &mut VecSet<u32>, index: usize)
+    requires within { index ≤ length set.old.elements }
+    ensures { (q : ℕ) (i : ℕ) → item_index nat_eq set.old.elements q ≡ Some i → i < index
+        → is_member nat_eq set.new.elements q ≡ true }
+{
+    for _item in set.drain(index..) {}
+}
+
+pub fn drain_then_members(set: &mut VecSet<u32>, index: usize)
+    requires within { index ≤ length set.old.elements }
+    ensures { (q : ℕ) (i : ℕ) → item_index nat_eq set.old.elements q ≡ Some i → index ≤ i
+        → is_member nat_eq set.new.elements q ≡ false }
+{
+    for _item in set.drain(index..) {}
+}
+
+pub fn drain_then_indices(set: &mut VecSet<u32>, index: usize)
+    requires within { index ≤ length set.old.elements }
+    ensures { (q : ℕ) (i : ℕ) → item_index nat_eq set.old.elements q ≡ Some i → i < index
+        → item_index nat_eq set.new.elements q ≡ Some i }
 {
     for _item in set.drain(index..) {}
 }

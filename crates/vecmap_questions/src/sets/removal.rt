@@ -1,5 +1,5 @@
 //! Removals of an element.
-ghost use Rattle.std.specs.Prelude.{◌≡◌, ◌-◌, ◌<◌, ◌&&◌, ℕ, String, [], IsTrue, Some, false, if◌then◌else◌, length, nat_eq, not, slice_get, string_eq};
+ghost use Rattle.std.specs.Prelude.{◌≡◌, ◌+◌, ◌<◌, ◌&&◌, ℕ, String, None, Some, false, if◌then◌else◌, length, nat_eq, not, string_eq};
 ghost use Rattle.std.specs.List.{IsDistinct, list_any};
 ghost use Rattle.std.specs.Set.{is_member};
 ghost use Rattle.std.specs.declared.alloc.Global.{Global};
@@ -22,29 +22,34 @@ pub fn remove_then_members(set: &mut VecSet<u32>, item: u32)
     set.remove(&item);
 }
 
-pub fn remove_then_element(set: &mut VecSet<u32>, item: u32)
-    ensures { (i j : ℕ) → item_index nat_eq set.old.elements item ≡ Some j → i < j → slice_get
-        set.new.elements i ≡ slice_get set.old.elements i }
-{
-    set.remove(&item);
-}
-
 pub fn remove_then_distinct(set: &mut VecSet<u32>, item: u32)
     ensures { IsDistinct nat_eq set.new.elements }
 {
     set.remove(&item);
 }
 
-pub fn remove_then_empty(set: &mut VecSet<u32>, item: u32)
-    ensures { length set.old.elements ≡ 1 → IsTrue (is_member nat_eq set.old.elements item)
-        → set.new.elements ≡ [] }
+pub fn remove_then_index(set: &mut VecSet<u32>, item: u32)
+    ensures { item_index nat_eq set.new.elements item ≡ None }
 {
     set.remove(&item);
 }
 
-pub fn remove_then_ends(set: &mut VecSet<u32>, item: u32)
-    ensures { item_index nat_eq set.old.elements item ≡ Some 0 → slice_get set.new.elements 0
-        ≡ slice_get set.old.elements 1 }
+pub fn remove_then_indices(set: &mut VecSet<u32>, item: u32)
+    ensures { (q : ℕ) (i j : ℕ) → item_index nat_eq set.old.elements item ≡ Some j → item_index
+        nat_eq set.old.elements q ≡ Some i → i < j → item_index nat_eq set.new.elements q ≡ Some i }
+{
+    set.remove(&item);
+}
+
+pub fn remove_then_length(set: &mut VecSet<u32>, item: u32)
+    ensures { length set.new.elements + (if is_member nat_eq set.old.elements item then 1 else 0)
+        ≡ length set.old.elements }
+{
+    set.remove(&item);
+}
+
+pub fn remove_then_unchanged(set: &mut VecSet<u32>, item: u32)
+    ensures { is_member nat_eq set.old.elements item ≡ false → set.new ≡ set.old }
 {
     set.remove(&item);
 }
@@ -74,6 +79,26 @@ pub fn remove_then_distinct_generic<T: Eq + Drop>(set: &mut VecSet<T>, item: &T)
     set.remove(item);
 }
 
+pub fn remove_then_indices_generic<T: Eq + Drop>(set: &mut VecSet<T>, item: &T)
+    ensures { (q : T) (i j : ℕ) → item_index T.eq set.old.elements item.now ≡ Some j → item_index
+        T.eq set.old.elements q ≡ Some i → i < j → item_index T.eq set.new.elements q ≡ Some i }
+{
+    set.remove(item);
+}
+
+pub fn remove_then_length_generic<T: Eq + Drop>(set: &mut VecSet<T>, item: &T)
+    ensures { length set.new.elements + (if is_member T.eq set.old.elements item.now then 1 else 0)
+        ≡ length set.old.elements }
+{
+    set.remove(item);
+}
+
+pub fn remove_then_unchanged_generic<T: Eq + Drop>(set: &mut VecSet<T>, item: &T)
+    ensures { is_member T.eq set.old.elements item.now ≡ false → set.new ≡ set.old }
+{
+    set.remove(item);
+}
+
 pub fn remove_then_present_by_text(set: &mut VecSet<String>, text: &str)
     ensures { list_any (has_text text.now) set.new.elements ≡ false }
 {
@@ -89,6 +114,19 @@ pub fn remove_then_members_by_text(set: &mut VecSet<String>, text: &str)
 
 pub fn remove_then_distinct_by_text(set: &mut VecSet<String>, text: &str)
     ensures { IsDistinct string_eq set.new.elements }
+{
+    set.remove(text);
+}
+
+pub fn remove_then_length_by_text(set: &mut VecSet<String>, text: &str)
+    ensures { length set.new.elements + (if list_any (has_text text.now) set.old.elements then 1
+        else 0) ≡ length set.old.elements }
+{
+    set.remove(text);
+}
+
+pub fn remove_then_unchanged_by_text(set: &mut VecSet<String>, text: &str)
+    ensures { list_any (has_text text.now) set.old.elements ≡ false → set.new ≡ set.old }
 {
     set.remove(text);
 }
@@ -112,6 +150,19 @@ pub fn remove_str_then_distinct_by_text(set: &mut VecSet<String>, text: &str)
     set.remove_str(text);
 }
 
+pub fn remove_str_then_length_by_text(set: &mut VecSet<String>, text: &str)
+    ensures { length set.new.elements + (if list_any (has_text text.now) set.old.elements then 1
+        else 0) ≡ length set.old.elements }
+{
+    set.remove_str(text);
+}
+
+pub fn remove_str_then_unchanged_by_text(set: &mut VecSet<String>, text: &str)
+    ensures { list_any (has_text text.now) set.old.elements ≡ false → set.new ≡ set.old }
+{
+    set.remove_str(text);
+}
+
 pub fn take_then_present(set: &mut VecSet<u32>, item: u32)
     ensures { is_member nat_eq set.new.elements item ≡ false }
 {
@@ -125,16 +176,9 @@ pub fn take_then_members(set: &mut VecSet<u32>, item: u32)
     set.take(&item);
 }
 
-pub fn take_then_element(set: &mut VecSet<u32>, item: u32)
-    ensures { (i j : ℕ) → item_index nat_eq set.old.elements item ≡ Some j → i < j → slice_get
-        set.new.elements i ≡ slice_get set.old.elements i }
-{
-    set.take(&item);
-}
-
 pub fn take_then_length(set: &mut VecSet<u32>, item: u32)
-    ensures { length set.new.elements ≡ (if is_member nat_eq set.old.elements item then length
-        set.old.elements - 1 else length set.old.elements) }
+    ensures { length set.new.elements + (if is_member nat_eq set.old.elements item then 1 else 0)
+        ≡ length set.old.elements }
 {
     set.take(&item);
 }
@@ -145,9 +189,27 @@ pub fn take_then_distinct(set: &mut VecSet<u32>, item: u32)
     set.take(&item);
 }
 
-pub fn take_then_ends(set: &mut VecSet<u32>, item: u32)
-    ensures { item_index nat_eq set.old.elements item ≡ Some 0 → slice_get set.new.elements 0
-        ≡ slice_get set.old.elements 1 }
+pub fn take_then_index(set: &mut VecSet<u32>, item: u32)
+    ensures { item_index nat_eq set.new.elements item ≡ None }
 {
     set.take(&item);
+}
+
+pub fn take_then_indices(set: &mut VecSet<u32>, item: u32)
+    ensures { (q : ℕ) (i j : ℕ) → item_index nat_eq set.old.elements item ≡ Some j → item_index
+        nat_eq set.old.elements q ≡ Some i → i < j → item_index nat_eq set.new.elements q ≡ Some i }
+{
+    set.take(&item);
+}
+
+pub fn take_then_unchanged(set: &mut VecSet<u32>, item: u32)
+    ensures { is_member nat_eq set.old.elements item ≡ false → set.new ≡ set.old }
+{
+    set.take(&item);
+}
+
+pub fn take_then_result(set: &mut VecSet<u32>, item: u32) -> Option<u32>
+    ensures { result ≡ (if is_member nat_eq set.old.elements item then Some item else None) }
+{
+    set.take(&item)
 }

@@ -1,5 +1,5 @@
 //! Removals that move the last element, and removals by an index.
-ghost use Rattle.std.specs.Prelude.{◌≡◌, ◌+◌, ◌-◌, ◌<◌, ◌≤◌, ◌&&◌, ℕ, [], IsTrue, Some, false, if◌then◌else◌, length, nat_eq, not, slice_get};
+ghost use Rattle.std.specs.Prelude.{◌≡◌, ◌+◌, ◌-◌, ◌<◌, ◌≤◌, ◌&&◌, ℕ, [], None, Some, false, if◌then◌else◌, length, nat_eq, not, slice_get};
 ghost use Rattle.std.specs.List.{IsDistinct};
 ghost use Rattle.std.specs.Set.{is_member};
 ghost use Rattle.vecmap.specs.Items.{item_index};
@@ -25,31 +25,21 @@ pub fn swap_remove_then_distinct(set: &mut VecSet<u32>, item: u32)
     set.swap_remove(&item);
 }
 
-pub fn swap_remove_then_empty(set: &mut VecSet<u32>, item: u32)
-    ensures { length set.old.elements ≡ 1 → IsTrue (is_member nat_eq set.old.elements item)
-        → set.new.elements ≡ [] }
+pub fn swap_remove_then_index(set: &mut VecSet<u32>, item: u32)
+    ensures { item_index nat_eq set.new.elements item ≡ None }
 {
     set.swap_remove(&item);
 }
 
-pub fn swap_remove_then_element(set: &mut VecSet<u32>, item: u32)
-    ensures { (i j : ℕ) → item_index nat_eq set.old.elements item ≡ Some j → i < j → slice_get
-        set.new.elements i ≡ slice_get set.old.elements i }
+pub fn swap_remove_then_length(set: &mut VecSet<u32>, item: u32)
+    ensures { length set.new.elements + (if is_member nat_eq set.old.elements item then 1 else 0)
+        ≡ length set.old.elements }
 {
     set.swap_remove(&item);
 }
 
-pub fn swap_remove_then_order(set: &mut VecSet<u32>, item: u32)
-    ensures { (j : ℕ) → item_index nat_eq set.old.elements item ≡ Some j → j + 1 < length
-        set.old.elements → slice_get set.new.elements j ≡ slice_get set.old.elements (length
-        set.old.elements - 1) }
-{
-    set.swap_remove(&item);
-}
-
-pub fn swap_remove_then_ends(set: &mut VecSet<u32>, item: u32)
-    ensures { item_index nat_eq set.old.elements item ≡ Some 0 → 1 < length set.old.elements
-        → slice_get set.new.elements 0 ≡ slice_get set.old.elements (length set.old.elements - 1) }
+pub fn swap_remove_then_unchanged(set: &mut VecSet<u32>, item: u32)
+    ensures { is_member nat_eq set.old.elements item ≡ false → set.new ≡ set.old }
 {
     set.swap_remove(&item);
 }
@@ -68,8 +58,8 @@ pub fn swap_take_then_members(set: &mut VecSet<u32>, item: u32)
 }
 
 pub fn swap_take_then_length(set: &mut VecSet<u32>, item: u32)
-    ensures { length set.new.elements ≡ (if is_member nat_eq set.old.elements item then length
-        set.old.elements - 1 else length set.old.elements) }
+    ensures { length set.new.elements + (if is_member nat_eq set.old.elements item then 1 else 0)
+        ≡ length set.old.elements }
 {
     set.swap_take(&item);
 }
@@ -82,28 +72,6 @@ pub fn swap_take_then_distinct(set: &mut VecSet<u32>, item: u32)
 
 pub fn swap_take_then_unchanged(set: &mut VecSet<u32>, item: u32)
     ensures { is_member nat_eq set.old.elements item ≡ false → set.new ≡ set.old }
-{
-    set.swap_take(&item);
-}
-
-pub fn swap_take_then_element(set: &mut VecSet<u32>, item: u32)
-    ensures { (i j : ℕ) → item_index nat_eq set.old.elements item ≡ Some j → i < j → slice_get
-        set.new.elements i ≡ slice_get set.old.elements i }
-{
-    set.swap_take(&item);
-}
-
-pub fn swap_take_then_order(set: &mut VecSet<u32>, item: u32)
-    ensures { (j : ℕ) → item_index nat_eq set.old.elements item ≡ Some j → j + 1 < length
-        set.old.elements → slice_get set.new.elements j ≡ slice_get set.old.elements (length
-        set.old.elements - 1) }
-{
-    set.swap_take(&item);
-}
-
-pub fn swap_take_then_ends(set: &mut VecSet<u32>, item: u32)
-    ensures { item_index nat_eq set.old.elements item ≡ Some 0 → 1 < length set.old.elements
-        → slice_get set.new.elements 0 ≡ slice_get set.old.elements (length set.old.elements - 1) }
 {
     set.swap_take(&item);
 }
@@ -126,6 +94,14 @@ pub fn remove_index_then_members(set: &mut VecSet<u32>, index: usize) -> u32
     requires within { index < length set.old.elements }
     ensures { (q : ℕ) → is_member nat_eq set.new.elements q ≡ (not (nat_eq result q) && is_member
         nat_eq set.old.elements q) }
+{
+    set.remove_index(index)
+}
+
+pub fn remove_index_then_indices(set: &mut VecSet<u32>, index: usize) -> u32
+    requires within { index < length set.old.elements }
+    ensures { (q : ℕ) (i : ℕ) → item_index nat_eq set.old.elements q ≡ Some i → i < index
+        → item_index nat_eq set.new.elements q ≡ Some i }
 {
     set.remove_index(index)
 }

@@ -1,6 +1,5 @@
 use Rattle.std.specs.List.Sorted.{IsPermutation}
 use Rattle.std.proofs.Common.{rules, subst}
-use Rattle.vecmap_base.proofs.MoveLemmas.{moved_last}
 use Rattle.vecmap_base.proofs.PairsLemmas.Reordered.{moves_by_move, reordered}
 use Rattle.vecmap_map.proofs.VecMap.move_index.Goals as goal
 
@@ -15,6 +14,3 @@ pub returns-clause-moves : goal.returns-clause-moves
 returns-clause-moves g c =
     moves_by_move c.args.self.now.entries _ c.args.from c.args.to (subst (λ m. IsPermutation m.entries c.move_to.new.items.items) c.self.view_is c.move_to.ensures.rearranged)
     (returns-clause-entries g c) c.requires.from_within c.requires.to_within
-
-pub returns-clause-last : goal.returns-clause-last
-returns-clause-last g c = λ pair at end. moved_last c.args.self.now.entries _ c.args.from c.args.to pair (returns-clause-entries g c) at end
