@@ -1,4 +1,4 @@
-//! What callers can prove after each call: a function for each call and question, made from `questions.txt`.
+//! What callers can prove after each call: functions for each call, with a clause for each question, made from `questions.txt`.
 #![tactic(auto)]
 
 pub mod maps;

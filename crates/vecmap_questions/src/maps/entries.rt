@@ -6,538 +6,216 @@ ghost use Rattle.vecmap.specs.Pairs.{HasDistinctKeys, index_of, index_or_length,
 use std::alloc::AllocError;
 use vecmap::VecMap;
 
-pub fn or_insert_then_key(
-    map: &mut VecMap<u32, u32>,
-    key: u32,
-    value: u32,
-) -> Result<(), AllocError>
-    ensures { OnOk result (lookup nat_eq map.new.entries key ≡ Some (unwrap_or (lookup nat_eq
+pub fn or_insert_then(map: &mut VecMap<u32, u32>, key: u32, value: u32) -> Result<(), AllocError>
+    ensures key { OnOk result (lookup nat_eq map.new.entries key ≡ Some (unwrap_or (lookup nat_eq
         map.old.entries key) value)) }
-{
-    map.entry(key).or_insert(value)?;
-    Ok(())
-}
-
-pub fn or_insert_then_lookup(
-    map: &mut VecMap<u32, u32>,
-    key: u32,
-    value: u32,
-) -> Result<(), AllocError>
-    ensures { OnOk result ((q : ℕ) → lookup nat_eq map.new.entries q ≡ (if nat_eq key q
+    ensures lookup { OnOk result ((q : ℕ) → lookup nat_eq map.new.entries q ≡ (if nat_eq key q
         then Some (unwrap_or (lookup nat_eq map.old.entries key) value) else lookup nat_eq
         map.old.entries q)) }
-{
-    map.entry(key).or_insert(value)?;
-    Ok(())
-}
-
-pub fn or_insert_then_unchanged(
-    map: &mut VecMap<u32, u32>,
-    key: u32,
-    value: u32,
-) -> Result<(), AllocError>
-    ensures { OnOk result (IsSome (lookup nat_eq map.old.entries key) → map.new.entries
+    ensures unchanged { OnOk result (IsSome (lookup nat_eq map.old.entries key) → map.new.entries
         ≡ map.old.entries) }
-{
-    map.entry(key).or_insert(value)?;
-    Ok(())
-}
-
-pub fn or_insert_then_pair(
-    map: &mut VecMap<u32, u32>,
-    key: u32,
-    value: u32,
-) -> Result<(), AllocError>
-    ensures { OnOk result (lookup nat_eq map.old.entries key ≡ None → slice_get map.new.entries
+    ensures pair { OnOk result (lookup nat_eq map.old.entries key ≡ None → slice_get map.new.entries
         (length map.old.entries) ≡ Some (key, value)) }
+    ensures length { OnOk result (length map.new.entries ≡ (if is_some (lookup nat_eq
+        map.old.entries key) then length map.old.entries else length map.old.entries + 1)) }
+    ensures empty { OnOk result (0 < length map.new.entries) }
+    ensures ends { OnOk result (lookup nat_eq map.old.entries key ≡ None → slice_get map.new.entries
+        (length map.new.entries - 1) ≡ Some (key, value)) }
+    ensures present { OnOk result (is_some (lookup nat_eq map.new.entries key) ≡ true) }
+    ensures index { OnOk result (index_of nat_eq map.new.entries key ≡ Some (index_or_length nat_eq
+        map.old.entries key)) }
+    ensures indices { OnOk result ((q : ℕ) (i : ℕ) → index_of nat_eq map.old.entries q ≡ Some i
+        → index_of nat_eq map.new.entries q ≡ Some i) }
+    ensures keys { OnOk result (keys_of map.new.entries ≡ (if is_some (lookup nat_eq map.old.entries
+        key) then keys_of map.old.entries else keys_of map.old.entries ++ key ∷ [])) }
 {
     map.entry(key).or_insert(value)?;
     Ok(())
 }
 
-pub fn or_insert_then_length(
-    map: &mut VecMap<u32, u32>,
-    key: u32,
-    value: u32,
-) -> Result<(), AllocError>
-    ensures { OnOk result (length map.new.entries ≡ (if is_some (lookup nat_eq map.old.entries key)
-        then length map.old.entries else length map.old.entries + 1)) }
-{
-    map.entry(key).or_insert(value)?;
-    Ok(())
-}
-
-pub fn or_insert_then_distinct(
+pub fn or_insert_then_if_distinct(
     map: &mut VecMap<u32, u32>,
     key: u32,
     value: u32,
 ) -> Result<(), AllocError>
     requires distinct { HasDistinctKeys nat_eq map.old.entries }
-    ensures { OnOk result (HasDistinctKeys nat_eq map.new.entries) }
+    ensures distinct { OnOk result (HasDistinctKeys nat_eq map.new.entries) }
 {
     map.entry(key).or_insert(value)?;
     Ok(())
 }
 
-pub fn or_insert_then_empty(
-    map: &mut VecMap<u32, u32>,
-    key: u32,
-    value: u32,
-) -> Result<(), AllocError>
-    ensures { OnOk result (0 < length map.new.entries) }
-{
-    map.entry(key).or_insert(value)?;
-    Ok(())
-}
-
-pub fn or_insert_then_ends(
-    map: &mut VecMap<u32, u32>,
-    key: u32,
-    value: u32,
-) -> Result<(), AllocError>
-    ensures { OnOk result (lookup nat_eq map.old.entries key ≡ None → slice_get map.new.entries
-        (length map.new.entries - 1) ≡ Some (key, value)) }
-{
-    map.entry(key).or_insert(value)?;
-    Ok(())
-}
-
-pub fn or_insert_then_present(
-    map: &mut VecMap<u32, u32>,
-    key: u32,
-    value: u32,
-) -> Result<(), AllocError>
-    ensures { OnOk result (is_some (lookup nat_eq map.new.entries key) ≡ true) }
-{
-    map.entry(key).or_insert(value)?;
-    Ok(())
-}
-
-pub fn or_insert_then_index(
-    map: &mut VecMap<u32, u32>,
-    key: u32,
-    value: u32,
-) -> Result<(), AllocError>
-    ensures { OnOk result (index_of nat_eq map.new.entries key ≡ Some (index_or_length nat_eq
-        map.old.entries key)) }
-{
-    map.entry(key).or_insert(value)?;
-    Ok(())
-}
-
-pub fn or_insert_then_indices(
-    map: &mut VecMap<u32, u32>,
-    key: u32,
-    value: u32,
-) -> Result<(), AllocError>
-    ensures { OnOk result ((q : ℕ) (i : ℕ) → index_of nat_eq map.old.entries q ≡ Some i → index_of
-        nat_eq map.new.entries q ≡ Some i) }
-{
-    map.entry(key).or_insert(value)?;
-    Ok(())
-}
-
-pub fn or_insert_then_keys(
-    map: &mut VecMap<u32, u32>,
-    key: u32,
-    value: u32,
-) -> Result<(), AllocError>
-    ensures { OnOk result (keys_of map.new.entries ≡ (if is_some (lookup nat_eq map.old.entries key)
-        then keys_of map.old.entries else keys_of map.old.entries ++ key ∷ [])) }
-{
-    map.entry(key).or_insert(value)?;
-    Ok(())
-}
-
-pub fn or_insert_then_key_generic<K: Eq + Drop>(
+pub fn or_insert_then_generic<K: Eq + Drop>(
     map: &mut VecMap<K, u32>,
     key: K,
     value: u32,
 ) -> Result<(), AllocError>
-    ensures { OnOk result (lookup K.eq map.new.entries key ≡ Some (unwrap_or (lookup K.eq
+    ensures key { OnOk result (lookup K.eq map.new.entries key ≡ Some (unwrap_or (lookup K.eq
         map.old.entries key) value)) }
-{
-    map.entry(key).or_insert(value)?;
-    Ok(())
-}
-
-pub fn or_insert_then_lookup_generic<K: Eq + Drop>(
-    map: &mut VecMap<K, u32>,
-    key: K,
-    value: u32,
-) -> Result<(), AllocError>
-    ensures { OnOk result ((q : K) → lookup K.eq map.new.entries q ≡ (if K.eq key q
+    ensures lookup { OnOk result ((q : K) → lookup K.eq map.new.entries q ≡ (if K.eq key q
         then Some (unwrap_or (lookup K.eq map.old.entries key) value) else lookup K.eq
         map.old.entries q)) }
+    ensures length { OnOk result (length map.new.entries ≡ (if is_some (lookup K.eq map.old.entries
+        key) then length map.old.entries else length map.old.entries + 1)) }
+    ensures present { OnOk result (is_some (lookup K.eq map.new.entries key) ≡ true) }
+    ensures index { OnOk result (index_of K.eq map.new.entries key ≡ Some (index_or_length K.eq
+        map.old.entries key)) }
+    ensures indices { OnOk result ((q : K) (i : ℕ) → index_of K.eq map.old.entries q ≡ Some i
+        → index_of K.eq map.new.entries q ≡ Some i) }
 {
     map.entry(key).or_insert(value)?;
     Ok(())
 }
 
-pub fn or_insert_then_length_generic<K: Eq + Drop>(
-    map: &mut VecMap<K, u32>,
-    key: K,
-    value: u32,
-) -> Result<(), AllocError>
-    ensures { OnOk result (length map.new.entries ≡ (if is_some (lookup K.eq map.old.entries key)
-        then length map.old.entries else length map.old.entries + 1)) }
-{
-    map.entry(key).or_insert(value)?;
-    Ok(())
-}
-
-pub fn or_insert_then_distinct_generic<K: Eq + Drop>(
+pub fn or_insert_then_if_distinct_generic<K: Eq + Drop>(
     map: &mut VecMap<K, u32>,
     key: K,
     value: u32,
 ) -> Result<(), AllocError>
     requires distinct { HasDistinctKeys K.eq map.old.entries }
-    ensures { OnOk result (HasDistinctKeys K.eq map.new.entries) }
+    ensures distinct { OnOk result (HasDistinctKeys K.eq map.new.entries) }
 {
     map.entry(key).or_insert(value)?;
     Ok(())
 }
 
-pub fn or_insert_then_present_generic<K: Eq + Drop>(
-    map: &mut VecMap<K, u32>,
-    key: K,
-    value: u32,
-) -> Result<(), AllocError>
-    ensures { OnOk result (is_some (lookup K.eq map.new.entries key) ≡ true) }
-{
-    map.entry(key).or_insert(value)?;
-    Ok(())
-}
-
-pub fn or_insert_then_index_generic<K: Eq + Drop>(
-    map: &mut VecMap<K, u32>,
-    key: K,
-    value: u32,
-) -> Result<(), AllocError>
-    ensures { OnOk result (index_of K.eq map.new.entries key ≡ Some (index_or_length K.eq
-        map.old.entries key)) }
-{
-    map.entry(key).or_insert(value)?;
-    Ok(())
-}
-
-pub fn or_insert_then_indices_generic<K: Eq + Drop>(
-    map: &mut VecMap<K, u32>,
-    key: K,
-    value: u32,
-) -> Result<(), AllocError>
-    ensures { OnOk result ((q : K) (i : ℕ) → index_of K.eq map.old.entries q ≡ Some i → index_of
-        K.eq map.new.entries q ≡ Some i) }
-{
-    map.entry(key).or_insert(value)?;
-    Ok(())
-}
-
-pub fn or_insert_and_write_then_key(
+pub fn or_insert_and_write_then(
     map: &mut VecMap<u32, u32>,
     key: u32,
     value: u32,
 ) -> Result<(), AllocError>
-    ensures { OnOk result (lookup nat_eq map.new.entries key ≡ Some value) }
-{
-    *map.entry(key).or_insert(0)? = value;
-    Ok(())
-}
-
-pub fn or_insert_and_write_then_lookup(
-    map: &mut VecMap<u32, u32>,
-    key: u32,
-    value: u32,
-) -> Result<(), AllocError>
-    ensures { OnOk result ((q : ℕ) → lookup nat_eq map.new.entries q ≡ (if nat_eq key q
+    ensures key { OnOk result (lookup nat_eq map.new.entries key ≡ Some value) }
+    ensures lookup { OnOk result ((q : ℕ) → lookup nat_eq map.new.entries q ≡ (if nat_eq key q
         then Some value else lookup nat_eq map.old.entries q)) }
+    ensures length { OnOk result (length map.new.entries ≡ (if is_some (lookup nat_eq
+        map.old.entries key) then length map.old.entries else length map.old.entries + 1)) }
+    ensures empty { OnOk result (0 < length map.new.entries) }
+    ensures ends { OnOk result (lookup nat_eq map.old.entries key ≡ None → slice_get map.new.entries
+        (length map.new.entries - 1) ≡ Some (key, value)) }
+    ensures present { OnOk result (is_some (lookup nat_eq map.new.entries key) ≡ true) }
+    ensures index { OnOk result (index_of nat_eq map.new.entries key ≡ Some (index_or_length nat_eq
+        map.old.entries key)) }
+    ensures indices { OnOk result ((q : ℕ) (i : ℕ) → index_of nat_eq map.old.entries q ≡ Some i
+        → index_of nat_eq map.new.entries q ≡ Some i) }
+    ensures keys { OnOk result (keys_of map.new.entries ≡ (if is_some (lookup nat_eq map.old.entries
+        key) then keys_of map.old.entries else keys_of map.old.entries ++ key ∷ [])) }
 {
     *map.entry(key).or_insert(0)? = value;
     Ok(())
 }
 
-pub fn or_insert_and_write_then_length(
-    map: &mut VecMap<u32, u32>,
-    key: u32,
-    value: u32,
-) -> Result<(), AllocError>
-    ensures { OnOk result (length map.new.entries ≡ (if is_some (lookup nat_eq map.old.entries key)
-        then length map.old.entries else length map.old.entries + 1)) }
-{
-    *map.entry(key).or_insert(0)? = value;
-    Ok(())
-}
-
-pub fn or_insert_and_write_then_distinct(
+pub fn or_insert_and_write_then_if_distinct(
     map: &mut VecMap<u32, u32>,
     key: u32,
     value: u32,
 ) -> Result<(), AllocError>
     requires distinct { HasDistinctKeys nat_eq map.old.entries }
-    ensures { OnOk result (HasDistinctKeys nat_eq map.new.entries) }
+    ensures distinct { OnOk result (HasDistinctKeys nat_eq map.new.entries) }
 {
     *map.entry(key).or_insert(0)? = value;
     Ok(())
 }
 
-pub fn or_insert_and_write_then_empty(
+pub fn or_insert_with_then(
     map: &mut VecMap<u32, u32>,
     key: u32,
     value: u32,
 ) -> Result<(), AllocError>
-    ensures { OnOk result (0 < length map.new.entries) }
-{
-    *map.entry(key).or_insert(0)? = value;
-    Ok(())
-}
-
-pub fn or_insert_and_write_then_ends(
-    map: &mut VecMap<u32, u32>,
-    key: u32,
-    value: u32,
-) -> Result<(), AllocError>
-    ensures { OnOk result (lookup nat_eq map.old.entries key ≡ None → slice_get map.new.entries
-        (length map.new.entries - 1) ≡ Some (key, value)) }
-{
-    *map.entry(key).or_insert(0)? = value;
-    Ok(())
-}
-
-pub fn or_insert_and_write_then_present(
-    map: &mut VecMap<u32, u32>,
-    key: u32,
-    value: u32,
-) -> Result<(), AllocError>
-    ensures { OnOk result (is_some (lookup nat_eq map.new.entries key) ≡ true) }
-{
-    *map.entry(key).or_insert(0)? = value;
-    Ok(())
-}
-
-pub fn or_insert_and_write_then_index(
-    map: &mut VecMap<u32, u32>,
-    key: u32,
-    value: u32,
-) -> Result<(), AllocError>
-    ensures { OnOk result (index_of nat_eq map.new.entries key ≡ Some (index_or_length nat_eq
-        map.old.entries key)) }
-{
-    *map.entry(key).or_insert(0)? = value;
-    Ok(())
-}
-
-pub fn or_insert_and_write_then_indices(
-    map: &mut VecMap<u32, u32>,
-    key: u32,
-    value: u32,
-) -> Result<(), AllocError>
-    ensures { OnOk result ((q : ℕ) (i : ℕ) → index_of nat_eq map.old.entries q ≡ Some i → index_of
-        nat_eq map.new.entries q ≡ Some i) }
-{
-    *map.entry(key).or_insert(0)? = value;
-    Ok(())
-}
-
-pub fn or_insert_and_write_then_keys(
-    map: &mut VecMap<u32, u32>,
-    key: u32,
-    value: u32,
-) -> Result<(), AllocError>
-    ensures { OnOk result (keys_of map.new.entries ≡ (if is_some (lookup nat_eq map.old.entries key)
-        then keys_of map.old.entries else keys_of map.old.entries ++ key ∷ [])) }
-{
-    *map.entry(key).or_insert(0)? = value;
-    Ok(())
-}
-
-pub fn or_insert_with_then_key(
-    map: &mut VecMap<u32, u32>,
-    key: u32,
-    value: u32,
-) -> Result<(), AllocError>
-    ensures { OnOk result (lookup nat_eq map.new.entries key ≡ Some (unwrap_or (lookup nat_eq
+    ensures key { OnOk result (lookup nat_eq map.new.entries key ≡ Some (unwrap_or (lookup nat_eq
         map.old.entries key) value)) }
-{
-    map.entry(key).or_insert_with(|| value)?;
-    Ok(())
-}
-
-pub fn or_insert_with_then_lookup(
-    map: &mut VecMap<u32, u32>,
-    key: u32,
-    value: u32,
-) -> Result<(), AllocError>
-    ensures { OnOk result ((q : ℕ) → lookup nat_eq map.new.entries q ≡ (if nat_eq key q
+    ensures lookup { OnOk result ((q : ℕ) → lookup nat_eq map.new.entries q ≡ (if nat_eq key q
         then Some (unwrap_or (lookup nat_eq map.old.entries key) value) else lookup nat_eq
         map.old.entries q)) }
+    ensures length { OnOk result (length map.new.entries ≡ (if is_some (lookup nat_eq
+        map.old.entries key) then length map.old.entries else length map.old.entries + 1)) }
+    ensures present { OnOk result (is_some (lookup nat_eq map.new.entries key) ≡ true) }
+    ensures keys { OnOk result (keys_of map.new.entries ≡ (if is_some (lookup nat_eq map.old.entries
+        key) then keys_of map.old.entries else keys_of map.old.entries ++ key ∷ [])) }
 {
     map.entry(key).or_insert_with(|| value)?;
     Ok(())
 }
 
-pub fn or_insert_with_then_length(
-    map: &mut VecMap<u32, u32>,
-    key: u32,
-    value: u32,
-) -> Result<(), AllocError>
-    ensures { OnOk result (length map.new.entries ≡ (if is_some (lookup nat_eq map.old.entries key)
-        then length map.old.entries else length map.old.entries + 1)) }
-{
-    map.entry(key).or_insert_with(|| value)?;
-    Ok(())
-}
-
-pub fn or_insert_with_then_distinct(
+pub fn or_insert_with_then_if_distinct(
     map: &mut VecMap<u32, u32>,
     key: u32,
     value: u32,
 ) -> Result<(), AllocError>
     requires distinct { HasDistinctKeys nat_eq map.old.entries }
-    ensures { OnOk result (HasDistinctKeys nat_eq map.new.entries) }
+    ensures distinct { OnOk result (HasDistinctKeys nat_eq map.new.entries) }
 {
     map.entry(key).or_insert_with(|| value)?;
     Ok(())
 }
 
-pub fn or_insert_with_then_present(
-    map: &mut VecMap<u32, u32>,
-    key: u32,
-    value: u32,
-) -> Result<(), AllocError>
-    ensures { OnOk result (is_some (lookup nat_eq map.new.entries key) ≡ true) }
-{
-    map.entry(key).or_insert_with(|| value)?;
-    Ok(())
-}
-
-pub fn or_insert_with_then_keys(
-    map: &mut VecMap<u32, u32>,
-    key: u32,
-    value: u32,
-) -> Result<(), AllocError>
-    ensures { OnOk result (keys_of map.new.entries ≡ (if is_some (lookup nat_eq map.old.entries key)
-        then keys_of map.old.entries else keys_of map.old.entries ++ key ∷ [])) }
-{
-    map.entry(key).or_insert_with(|| value)?;
-    Ok(())
-}
-
-pub fn or_insert_with_key_then_key(map: &mut VecMap<u32, u32>, key: u32) -> Result<(), AllocError>
-    ensures { OnOk result (lookup nat_eq map.new.entries key ≡ Some (unwrap_or (lookup nat_eq
+pub fn or_insert_with_key_then(map: &mut VecMap<u32, u32>, key: u32) -> Result<(), AllocError>
+    ensures key { OnOk result (lookup nat_eq map.new.entries key ≡ Some (unwrap_or (lookup nat_eq
         map.old.entries key) key)) }
+    ensures length { OnOk result (length map.new.entries ≡ (if is_some (lookup nat_eq
+        map.old.entries key) then length map.old.entries else length map.old.entries + 1)) }
+    ensures present { OnOk result (is_some (lookup nat_eq map.new.entries key) ≡ true) }
+    ensures keys { OnOk result (keys_of map.new.entries ≡ (if is_some (lookup nat_eq map.old.entries
+        key) then keys_of map.old.entries else keys_of map.old.entries ++ key ∷ [])) }
 {
     map.entry(key).or_insert_with_key(|k| *k)?;
     Ok(())
 }
 
-pub fn or_insert_with_key_then_length(
-    map: &mut VecMap<u32, u32>,
-    key: u32,
-) -> Result<(), AllocError>
-    ensures { OnOk result (length map.new.entries ≡ (if is_some (lookup nat_eq map.old.entries key)
-        then length map.old.entries else length map.old.entries + 1)) }
-{
-    map.entry(key).or_insert_with_key(|k| *k)?;
-    Ok(())
-}
-
-pub fn or_insert_with_key_then_distinct(
+pub fn or_insert_with_key_then_if_distinct(
     map: &mut VecMap<u32, u32>,
     key: u32,
 ) -> Result<(), AllocError>
     requires distinct { HasDistinctKeys nat_eq map.old.entries }
-    ensures { OnOk result (HasDistinctKeys nat_eq map.new.entries) }
+    ensures distinct { OnOk result (HasDistinctKeys nat_eq map.new.entries) }
 {
     map.entry(key).or_insert_with_key(|k| *k)?;
     Ok(())
 }
 
-pub fn or_insert_with_key_then_present(
-    map: &mut VecMap<u32, u32>,
-    key: u32,
-) -> Result<(), AllocError>
-    ensures { OnOk result (is_some (lookup nat_eq map.new.entries key) ≡ true) }
-{
-    map.entry(key).or_insert_with_key(|k| *k)?;
-    Ok(())
-}
-
-pub fn or_insert_with_key_then_keys(map: &mut VecMap<u32, u32>, key: u32) -> Result<(), AllocError>
-    ensures { OnOk result (keys_of map.new.entries ≡ (if is_some (lookup nat_eq map.old.entries key)
-        then keys_of map.old.entries else keys_of map.old.entries ++ key ∷ [])) }
-{
-    map.entry(key).or_insert_with_key(|k| *k)?;
-    Ok(())
-}
-
-pub fn or_default_then_key(map: &mut VecMap<u32, u32>, key: u32) -> Result<(), AllocError>
-    ensures { OnOk result (lookup nat_eq map.new.entries key ≡ Some (unwrap_or (lookup nat_eq
+pub fn or_default_then(map: &mut VecMap<u32, u32>, key: u32) -> Result<(), AllocError>
+    ensures key { OnOk result (lookup nat_eq map.new.entries key ≡ Some (unwrap_or (lookup nat_eq
         map.old.entries key) 0)) }
-{
-    map.entry(key).or_default()?;
-    Ok(())
-}
-
-pub fn or_default_then_lookup(map: &mut VecMap<u32, u32>, key: u32) -> Result<(), AllocError>
-    ensures { OnOk result ((q : ℕ) → lookup nat_eq map.new.entries q ≡ (if nat_eq key q
+    ensures lookup { OnOk result ((q : ℕ) → lookup nat_eq map.new.entries q ≡ (if nat_eq key q
         then Some (unwrap_or (lookup nat_eq map.old.entries key) 0) else lookup nat_eq
         map.old.entries q)) }
+    ensures length { OnOk result (length map.new.entries ≡ (if is_some (lookup nat_eq
+        map.old.entries key) then length map.old.entries else length map.old.entries + 1)) }
+    ensures present { OnOk result (is_some (lookup nat_eq map.new.entries key) ≡ true) }
+    ensures keys { OnOk result (keys_of map.new.entries ≡ (if is_some (lookup nat_eq map.old.entries
+        key) then keys_of map.old.entries else keys_of map.old.entries ++ key ∷ [])) }
 {
     map.entry(key).or_default()?;
     Ok(())
 }
 
-pub fn or_default_then_length(map: &mut VecMap<u32, u32>, key: u32) -> Result<(), AllocError>
-    ensures { OnOk result (length map.new.entries ≡ (if is_some (lookup nat_eq map.old.entries key)
-        then length map.old.entries else length map.old.entries + 1)) }
-{
-    map.entry(key).or_default()?;
-    Ok(())
-}
-
-pub fn or_default_then_distinct(map: &mut VecMap<u32, u32>, key: u32) -> Result<(), AllocError>
+pub fn or_default_then_if_distinct(map: &mut VecMap<u32, u32>, key: u32) -> Result<(), AllocError>
     requires distinct { HasDistinctKeys nat_eq map.old.entries }
-    ensures { OnOk result (HasDistinctKeys nat_eq map.new.entries) }
+    ensures distinct { OnOk result (HasDistinctKeys nat_eq map.new.entries) }
 {
     map.entry(key).or_default()?;
     Ok(())
 }
 
-pub fn or_default_then_present(map: &mut VecMap<u32, u32>, key: u32) -> Result<(), AllocError>
-    ensures { OnOk result (is_some (lookup nat_eq map.new.entries key) ≡ true) }
-{
-    map.entry(key).or_default()?;
-    Ok(())
-}
-
-pub fn or_default_then_keys(map: &mut VecMap<u32, u32>, key: u32) -> Result<(), AllocError>
-    ensures { OnOk result (keys_of map.new.entries ≡ (if is_some (lookup nat_eq map.old.entries key)
-        then keys_of map.old.entries else keys_of map.old.entries ++ key ∷ [])) }
-{
-    map.entry(key).or_default()?;
-    Ok(())
-}
-
-pub fn and_modify_or_insert_then_key(
+pub fn and_modify_or_insert_then(
     map: &mut VecMap<u32, u32>,
     key: u32,
     value: u32,
 ) -> Result<(), AllocError>
-    ensures { OnOk result (lookup nat_eq map.new.entries key ≡ Some value) }
-{
-    map.entry(key)
-        .and_modify(|stored| *stored = value)
-        .or_insert(value)?;
-    Ok(())
-}
-
-pub fn and_modify_or_insert_then_lookup(
-    map: &mut VecMap<u32, u32>,
-    key: u32,
-    value: u32,
-) -> Result<(), AllocError>
-    ensures { OnOk result ((q : ℕ) → lookup nat_eq map.new.entries q ≡ (if nat_eq key q
+    ensures key { OnOk result (lookup nat_eq map.new.entries key ≡ Some value) }
+    ensures lookup { OnOk result ((q : ℕ) → lookup nat_eq map.new.entries q ≡ (if nat_eq key q
         then Some value else lookup nat_eq map.old.entries q)) }
+    ensures length { OnOk result (length map.new.entries ≡ (if is_some (lookup nat_eq
+        map.old.entries key) then length map.old.entries else length map.old.entries + 1)) }
+    ensures empty { OnOk result (0 < length map.new.entries) }
+    ensures ends { OnOk result (lookup nat_eq map.old.entries key ≡ None → slice_get map.new.entries
+        (length map.new.entries - 1) ≡ Some (key, value)) }
+    ensures present { OnOk result (is_some (lookup nat_eq map.new.entries key) ≡ true) }
+    ensures index { OnOk result (index_of nat_eq map.new.entries key ≡ Some (index_or_length nat_eq
+        map.old.entries key)) }
+    ensures indices { OnOk result ((q : ℕ) (i : ℕ) → index_of nat_eq map.old.entries q ≡ Some i
+        → index_of nat_eq map.new.entries q ≡ Some i) }
+    ensures keys { OnOk result (keys_of map.new.entries ≡ (if is_some (lookup nat_eq map.old.entries
+        key) then keys_of map.old.entries else keys_of map.old.entries ++ key ∷ [])) }
 {
     map.entry(key)
         .and_modify(|stored| *stored = value)
@@ -545,27 +223,13 @@ pub fn and_modify_or_insert_then_lookup(
     Ok(())
 }
 
-pub fn and_modify_or_insert_then_length(
-    map: &mut VecMap<u32, u32>,
-    key: u32,
-    value: u32,
-) -> Result<(), AllocError>
-    ensures { OnOk result (length map.new.entries ≡ (if is_some (lookup nat_eq map.old.entries key)
-        then length map.old.entries else length map.old.entries + 1)) }
-{
-    map.entry(key)
-        .and_modify(|stored| *stored = value)
-        .or_insert(value)?;
-    Ok(())
-}
-
-pub fn and_modify_or_insert_then_distinct(
+pub fn and_modify_or_insert_then_if_distinct(
     map: &mut VecMap<u32, u32>,
     key: u32,
     value: u32,
 ) -> Result<(), AllocError>
     requires distinct { HasDistinctKeys nat_eq map.old.entries }
-    ensures { OnOk result (HasDistinctKeys nat_eq map.new.entries) }
+    ensures distinct { OnOk result (HasDistinctKeys nat_eq map.new.entries) }
 {
     map.entry(key)
         .and_modify(|stored| *stored = value)
@@ -573,200 +237,34 @@ pub fn and_modify_or_insert_then_distinct(
     Ok(())
 }
 
-pub fn and_modify_or_insert_then_empty(
-    map: &mut VecMap<u32, u32>,
-    key: u32,
-    value: u32,
-) -> Result<(), AllocError>
-    ensures { OnOk result (0 < length map.new.entries) }
-{
-    map.entry(key)
-        .and_modify(|stored| *stored = value)
-        .or_insert(value)?;
-    Ok(())
-}
-
-pub fn and_modify_or_insert_then_ends(
-    map: &mut VecMap<u32, u32>,
-    key: u32,
-    value: u32,
-) -> Result<(), AllocError>
-    ensures { OnOk result (lookup nat_eq map.old.entries key ≡ None → slice_get map.new.entries
+pub fn insert_entry_then(map: &mut VecMap<u32, u32>, key: u32, value: u32) -> Result<(), AllocError>
+    ensures length { OnOk result (length map.new.entries ≡ (if is_some (lookup nat_eq
+        map.old.entries key) then length map.old.entries else length map.old.entries + 1)) }
+    ensures empty { OnOk result (0 < length map.new.entries) }
+    ensures ends { OnOk result (lookup nat_eq map.old.entries key ≡ None → slice_get map.new.entries
         (length map.new.entries - 1) ≡ Some (key, value)) }
-{
-    map.entry(key)
-        .and_modify(|stored| *stored = value)
-        .or_insert(value)?;
-    Ok(())
-}
-
-pub fn and_modify_or_insert_then_present(
-    map: &mut VecMap<u32, u32>,
-    key: u32,
-    value: u32,
-) -> Result<(), AllocError>
-    ensures { OnOk result (is_some (lookup nat_eq map.new.entries key) ≡ true) }
-{
-    map.entry(key)
-        .and_modify(|stored| *stored = value)
-        .or_insert(value)?;
-    Ok(())
-}
-
-pub fn and_modify_or_insert_then_index(
-    map: &mut VecMap<u32, u32>,
-    key: u32,
-    value: u32,
-) -> Result<(), AllocError>
-    ensures { OnOk result (index_of nat_eq map.new.entries key ≡ Some (index_or_length nat_eq
-        map.old.entries key)) }
-{
-    map.entry(key)
-        .and_modify(|stored| *stored = value)
-        .or_insert(value)?;
-    Ok(())
-}
-
-pub fn and_modify_or_insert_then_indices(
-    map: &mut VecMap<u32, u32>,
-    key: u32,
-    value: u32,
-) -> Result<(), AllocError>
-    ensures { OnOk result ((q : ℕ) (i : ℕ) → index_of nat_eq map.old.entries q ≡ Some i → index_of
-        nat_eq map.new.entries q ≡ Some i) }
-{
-    map.entry(key)
-        .and_modify(|stored| *stored = value)
-        .or_insert(value)?;
-    Ok(())
-}
-
-pub fn and_modify_or_insert_then_keys(
-    map: &mut VecMap<u32, u32>,
-    key: u32,
-    value: u32,
-) -> Result<(), AllocError>
-    ensures { OnOk result (keys_of map.new.entries ≡ (if is_some (lookup nat_eq map.old.entries key)
-        then keys_of map.old.entries else keys_of map.old.entries ++ key ∷ [])) }
-{
-    map.entry(key)
-        .and_modify(|stored| *stored = value)
-        .or_insert(value)?;
-    Ok(())
-}
-
-pub fn insert_entry_then_length(
-    map: &mut VecMap<u32, u32>,
-    key: u32,
-    value: u32,
-) -> Result<(), AllocError>
-    ensures { OnOk result (length map.new.entries ≡ (if is_some (lookup nat_eq map.old.entries key)
-        then length map.old.entries else length map.old.entries + 1)) }
-{
-    map.entry(key).insert_entry(value)?;
-    Ok(())
-}
-
-pub fn insert_entry_then_empty(
-    map: &mut VecMap<u32, u32>,
-    key: u32,
-    value: u32,
-) -> Result<(), AllocError>
-    ensures { OnOk result (0 < length map.new.entries) }
-{
-    map.entry(key).insert_entry(value)?;
-    Ok(())
-}
-
-pub fn insert_entry_then_ends(
-    map: &mut VecMap<u32, u32>,
-    key: u32,
-    value: u32,
-) -> Result<(), AllocError>
-    ensures { OnOk result (lookup nat_eq map.old.entries key ≡ None → slice_get map.new.entries
-        (length map.new.entries - 1) ≡ Some (key, value)) }
-{
-    map.entry(key).insert_entry(value)?;
-    Ok(())
-}
-
-pub fn insert_entry_then_key(
-    map: &mut VecMap<u32, u32>,
-    key: u32,
-    value: u32,
-) -> Result<(), AllocError>
-    ensures { OnOk result (lookup nat_eq map.new.entries key ≡ Some value) }
-{
-    map.entry(key).insert_entry(value)?;
-    Ok(())
-}
-
-pub fn insert_entry_then_lookup(
-    map: &mut VecMap<u32, u32>,
-    key: u32,
-    value: u32,
-) -> Result<(), AllocError>
-    ensures { OnOk result ((q : ℕ) → lookup nat_eq map.new.entries q ≡ (if nat_eq key q
+    ensures key { OnOk result (lookup nat_eq map.new.entries key ≡ Some value) }
+    ensures lookup { OnOk result ((q : ℕ) → lookup nat_eq map.new.entries q ≡ (if nat_eq key q
         then Some value else lookup nat_eq map.old.entries q)) }
-{
-    map.entry(key).insert_entry(value)?;
-    Ok(())
-}
-
-pub fn insert_entry_then_present(
-    map: &mut VecMap<u32, u32>,
-    key: u32,
-    value: u32,
-) -> Result<(), AllocError>
-    ensures { OnOk result (is_some (lookup nat_eq map.new.entries key) ≡ true) }
-{
-    map.entry(key).insert_entry(value)?;
-    Ok(())
-}
-
-pub fn insert_entry_then_index(
-    map: &mut VecMap<u32, u32>,
-    key: u32,
-    value: u32,
-) -> Result<(), AllocError>
-    ensures { OnOk result (index_of nat_eq map.new.entries key ≡ Some (index_or_length nat_eq
+    ensures present { OnOk result (is_some (lookup nat_eq map.new.entries key) ≡ true) }
+    ensures index { OnOk result (index_of nat_eq map.new.entries key ≡ Some (index_or_length nat_eq
         map.old.entries key)) }
+    ensures indices { OnOk result ((q : ℕ) (i : ℕ) → index_of nat_eq map.old.entries q ≡ Some i
+        → index_of nat_eq map.new.entries q ≡ Some i) }
+    ensures keys { OnOk result (keys_of map.new.entries ≡ (if is_some (lookup nat_eq map.old.entries
+        key) then keys_of map.old.entries else keys_of map.old.entries ++ key ∷ [])) }
 {
     map.entry(key).insert_entry(value)?;
     Ok(())
 }
 
-pub fn insert_entry_then_indices(
-    map: &mut VecMap<u32, u32>,
-    key: u32,
-    value: u32,
-) -> Result<(), AllocError>
-    ensures { OnOk result ((q : ℕ) (i : ℕ) → index_of nat_eq map.old.entries q ≡ Some i → index_of
-        nat_eq map.new.entries q ≡ Some i) }
-{
-    map.entry(key).insert_entry(value)?;
-    Ok(())
-}
-
-pub fn insert_entry_then_keys(
-    map: &mut VecMap<u32, u32>,
-    key: u32,
-    value: u32,
-) -> Result<(), AllocError>
-    ensures { OnOk result (keys_of map.new.entries ≡ (if is_some (lookup nat_eq map.old.entries key)
-        then keys_of map.old.entries else keys_of map.old.entries ++ key ∷ [])) }
-{
-    map.entry(key).insert_entry(value)?;
-    Ok(())
-}
-
-pub fn insert_entry_then_distinct(
+pub fn insert_entry_then_if_distinct(
     map: &mut VecMap<u32, u32>,
     key: u32,
     value: u32,
 ) -> Result<(), AllocError>
     requires distinct { HasDistinctKeys nat_eq map.old.entries }
-    ensures { OnOk result (HasDistinctKeys nat_eq map.new.entries) }
+    ensures distinct { OnOk result (HasDistinctKeys nat_eq map.new.entries) }
 {
     map.entry(key).insert_entry(value)?;
     Ok(())

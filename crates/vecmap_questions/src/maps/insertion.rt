@@ -7,117 +7,37 @@ use std::alloc::AllocError;
 use vecmap::macros::put_pair;
 use vecmap::{Refused, VecMap};
 
-pub fn insert_then_key(map: &mut VecMap<u32, u32>, key: u32, value: u32) -> Result<(), AllocError>
-    ensures { OnOk result (lookup nat_eq map.new.entries key ≡ Some value) }
-{
-    map.insert(key, value)?;
-    Ok(())
-}
-
-pub fn insert_then_lookup(
-    map: &mut VecMap<u32, u32>,
-    key: u32,
-    value: u32,
-) -> Result<(), AllocError>
-    ensures { OnOk result ((q : ℕ) → lookup nat_eq map.new.entries q ≡ (if nat_eq key q
+pub fn insert_then(map: &mut VecMap<u32, u32>, key: u32, value: u32) -> Result<(), AllocError>
+    ensures key { OnOk result (lookup nat_eq map.new.entries key ≡ Some value) }
+    ensures lookup { OnOk result ((q : ℕ) → lookup nat_eq map.new.entries q ≡ (if nat_eq key q
         then Some value else lookup nat_eq map.old.entries q)) }
+    ensures empty { OnOk result (0 < length map.new.entries) }
+    ensures unchanged { OnErr result (map.new ≡ map.old) }
+    ensures present { OnOk result (is_some (lookup nat_eq map.new.entries key) ≡ true) }
+    ensures index { OnOk result (index_of nat_eq map.new.entries key ≡ Some (index_or_length nat_eq
+        map.old.entries key)) }
+    ensures indices { OnOk result ((q : ℕ) (i : ℕ) → index_of nat_eq map.old.entries q ≡ Some i
+        → index_of nat_eq map.new.entries q ≡ Some i) }
+    ensures pair { OnOk result (lookup nat_eq map.old.entries key ≡ None → slice_get map.new.entries
+        (length map.old.entries) ≡ Some (key, value)) }
+    ensures length { OnOk result (length map.new.entries ≡ (if is_some (lookup nat_eq
+        map.old.entries key) then length map.old.entries else length map.old.entries + 1)) }
+    ensures keys { OnOk result (keys_of map.new.entries ≡ (if is_some (lookup nat_eq map.old.entries
+        key) then keys_of map.old.entries else keys_of map.old.entries ++ key ∷ [])) }
+    ensures ends { OnOk result (lookup nat_eq map.old.entries key ≡ None → slice_get map.new.entries
+        (length map.new.entries - 1) ≡ Some (key, value)) }
 {
     map.insert(key, value)?;
     Ok(())
 }
 
-pub fn insert_then_distinct(
+pub fn insert_then_if_distinct(
     map: &mut VecMap<u32, u32>,
     key: u32,
     value: u32,
 ) -> Result<(), AllocError>
     requires distinct { HasDistinctKeys nat_eq map.old.entries }
-    ensures { OnOk result (HasDistinctKeys nat_eq map.new.entries) }
-{
-    map.insert(key, value)?;
-    Ok(())
-}
-
-pub fn insert_then_empty(map: &mut VecMap<u32, u32>, key: u32, value: u32) -> Result<(), AllocError>
-    ensures { OnOk result (0 < length map.new.entries) }
-{
-    map.insert(key, value)?;
-    Ok(())
-}
-
-pub fn insert_then_unchanged(
-    map: &mut VecMap<u32, u32>,
-    key: u32,
-    value: u32,
-) -> Result<(), AllocError>
-    ensures { OnErr result (map.new ≡ map.old) }
-{
-    map.insert(key, value)?;
-    Ok(())
-}
-
-pub fn insert_then_present(
-    map: &mut VecMap<u32, u32>,
-    key: u32,
-    value: u32,
-) -> Result<(), AllocError>
-    ensures { OnOk result (is_some (lookup nat_eq map.new.entries key) ≡ true) }
-{
-    map.insert(key, value)?;
-    Ok(())
-}
-
-pub fn insert_then_index(map: &mut VecMap<u32, u32>, key: u32, value: u32) -> Result<(), AllocError>
-    ensures { OnOk result (index_of nat_eq map.new.entries key ≡ Some (index_or_length nat_eq
-        map.old.entries key)) }
-{
-    map.insert(key, value)?;
-    Ok(())
-}
-
-pub fn insert_then_indices(
-    map: &mut VecMap<u32, u32>,
-    key: u32,
-    value: u32,
-) -> Result<(), AllocError>
-    ensures { OnOk result ((q : ℕ) (i : ℕ) → index_of nat_eq map.old.entries q ≡ Some i → index_of
-        nat_eq map.new.entries q ≡ Some i) }
-{
-    map.insert(key, value)?;
-    Ok(())
-}
-
-pub fn insert_then_pair(map: &mut VecMap<u32, u32>, key: u32, value: u32) -> Result<(), AllocError>
-    ensures { OnOk result (lookup nat_eq map.old.entries key ≡ None → slice_get map.new.entries
-        (length map.old.entries) ≡ Some (key, value)) }
-{
-    map.insert(key, value)?;
-    Ok(())
-}
-
-pub fn insert_then_length(
-    map: &mut VecMap<u32, u32>,
-    key: u32,
-    value: u32,
-) -> Result<(), AllocError>
-    ensures { OnOk result (length map.new.entries ≡ (if is_some (lookup nat_eq map.old.entries key)
-        then length map.old.entries else length map.old.entries + 1)) }
-{
-    map.insert(key, value)?;
-    Ok(())
-}
-
-pub fn insert_then_keys(map: &mut VecMap<u32, u32>, key: u32, value: u32) -> Result<(), AllocError>
-    ensures { OnOk result (keys_of map.new.entries ≡ (if is_some (lookup nat_eq map.old.entries key)
-        then keys_of map.old.entries else keys_of map.old.entries ++ key ∷ [])) }
-{
-    map.insert(key, value)?;
-    Ok(())
-}
-
-pub fn insert_then_ends(map: &mut VecMap<u32, u32>, key: u32, value: u32) -> Result<(), AllocError>
-    ensures { OnOk result (lookup nat_eq map.old.entries key ≡ None → slice_get map.new.entries
-        (length map.new.entries - 1) ≡ Some (key, value)) }
+    ensures distinct { OnOk result (HasDistinctKeys nat_eq map.new.entries) }
 {
     map.insert(key, value)?;
     Ok(())
@@ -128,252 +48,88 @@ pub fn insert_then_result(
     key: u32,
     value: u32,
 ) -> Result<Option<u32>, Refused<(u32, u32)>>
-    ensures { IfOk result (λ old. old ≡ lookup nat_eq map.old.entries key) }
+    ensures result { IfOk result (λ old. old ≡ lookup nat_eq map.old.entries key) }
 {
     map.insert(key, value)
 }
 
-pub fn insert_then_key_generic<K: Eq + Drop>(
+pub fn insert_then_generic<K: Eq + Drop>(
     map: &mut VecMap<K, u32>,
     key: K,
     value: u32,
 ) -> Result<(), AllocError>
-    ensures { OnOk result (lookup K.eq map.new.entries key ≡ Some value) }
+    ensures key { OnOk result (lookup K.eq map.new.entries key ≡ Some value) }
+    ensures lookup { OnOk result ((q : K) → lookup K.eq map.new.entries q ≡ (if K.eq key q
+        then Some value else lookup K.eq map.old.entries q)) }
+    ensures empty { OnOk result (0 < length map.new.entries) }
+    ensures present { OnOk result (is_some (lookup K.eq map.new.entries key) ≡ true) }
+    ensures index { OnOk result (index_of K.eq map.new.entries key ≡ Some (index_or_length K.eq
+        map.old.entries key)) }
+    ensures indices { OnOk result ((q : K) (i : ℕ) → index_of K.eq map.old.entries q ≡ Some i
+        → index_of K.eq map.new.entries q ≡ Some i) }
+    ensures length { OnOk result (length map.new.entries ≡ (if is_some (lookup K.eq map.old.entries
+        key) then length map.old.entries else length map.old.entries + 1)) }
+    ensures keys { OnOk result (keys_of map.new.entries ≡ (if is_some (lookup K.eq map.old.entries
+        key) then keys_of map.old.entries else keys_of map.old.entries ++ key ∷ [])) }
 {
     map.insert(key, value)?;
     Ok(())
 }
 
-pub fn insert_then_lookup_generic<K: Eq + Drop>(
-    map: &mut VecMap<K, u32>,
-    key: K,
-    value: u32,
-) -> Result<(), AllocError>
-    ensures { OnOk result ((q : K) → lookup K.eq map.new.entries q ≡ (if K.eq key q then Some value
-        else lookup K.eq map.old.entries q)) }
-{
-    map.insert(key, value)?;
-    Ok(())
-}
-
-pub fn insert_then_distinct_generic<K: Eq + Drop>(
+pub fn insert_then_if_distinct_generic<K: Eq + Drop>(
     map: &mut VecMap<K, u32>,
     key: K,
     value: u32,
 ) -> Result<(), AllocError>
     requires distinct { HasDistinctKeys K.eq map.old.entries }
-    ensures { OnOk result (HasDistinctKeys K.eq map.new.entries) }
+    ensures distinct { OnOk result (HasDistinctKeys K.eq map.new.entries) }
 {
     map.insert(key, value)?;
     Ok(())
 }
 
-pub fn insert_then_empty_generic<K: Eq + Drop>(
-    map: &mut VecMap<K, u32>,
-    key: K,
-    value: u32,
-) -> Result<(), AllocError>
-    ensures { OnOk result (0 < length map.new.entries) }
-{
-    map.insert(key, value)?;
-    Ok(())
-}
-
-pub fn insert_then_present_generic<K: Eq + Drop>(
-    map: &mut VecMap<K, u32>,
-    key: K,
-    value: u32,
-) -> Result<(), AllocError>
-    ensures { OnOk result (is_some (lookup K.eq map.new.entries key) ≡ true) }
-{
-    map.insert(key, value)?;
-    Ok(())
-}
-
-pub fn insert_then_index_generic<K: Eq + Drop>(
-    map: &mut VecMap<K, u32>,
-    key: K,
-    value: u32,
-) -> Result<(), AllocError>
-    ensures { OnOk result (index_of K.eq map.new.entries key ≡ Some (index_or_length K.eq
-        map.old.entries key)) }
-{
-    map.insert(key, value)?;
-    Ok(())
-}
-
-pub fn insert_then_indices_generic<K: Eq + Drop>(
-    map: &mut VecMap<K, u32>,
-    key: K,
-    value: u32,
-) -> Result<(), AllocError>
-    ensures { OnOk result ((q : K) (i : ℕ) → index_of K.eq map.old.entries q ≡ Some i → index_of
-        K.eq map.new.entries q ≡ Some i) }
-{
-    map.insert(key, value)?;
-    Ok(())
-}
-
-pub fn insert_then_length_generic<K: Eq + Drop>(
-    map: &mut VecMap<K, u32>,
-    key: K,
-    value: u32,
-) -> Result<(), AllocError>
-    ensures { OnOk result (length map.new.entries ≡ (if is_some (lookup K.eq map.old.entries key)
-        then length map.old.entries else length map.old.entries + 1)) }
-{
-    map.insert(key, value)?;
-    Ok(())
-}
-
-pub fn insert_then_keys_generic<K: Eq + Drop>(
-    map: &mut VecMap<K, u32>,
-    key: K,
-    value: u32,
-) -> Result<(), AllocError>
-    ensures { OnOk result (keys_of map.new.entries ≡ (if is_some (lookup K.eq map.old.entries key)
-        then keys_of map.old.entries else keys_of map.old.entries ++ key ∷ [])) }
-{
-    map.insert(key, value)?;
-    Ok(())
-}
-
-pub fn insert_then_query_by_text(
+pub fn insert_then_by_text(
     map: &mut VecMap<String, u32>,
     key: String,
     value: u32,
     text: &str,
 ) -> Result<(), AllocError>
-    ensures { OnOk result (lookup_by (has_text text.now) map.new.entries ≡ (if has_text text.now key
-        then Some value else lookup_by (has_text text.now) map.old.entries)) }
+    ensures query { OnOk result (lookup_by (has_text text.now) map.new.entries ≡ (if has_text
+        text.now key then Some value else lookup_by (has_text text.now) map.old.entries)) }
 {
     map.insert(key, value)?;
     Ok(())
 }
 
-pub fn insert_full_then_key(
-    map: &mut VecMap<u32, u32>,
-    key: u32,
-    value: u32,
-) -> Result<(), AllocError>
-    ensures { OnOk result (lookup nat_eq map.new.entries key ≡ Some value) }
-{
-    map.insert_full(key, value)?;
-    Ok(())
-}
-
-pub fn insert_full_then_lookup(
-    map: &mut VecMap<u32, u32>,
-    key: u32,
-    value: u32,
-) -> Result<(), AllocError>
-    ensures { OnOk result ((q : ℕ) → lookup nat_eq map.new.entries q ≡ (if nat_eq key q
+pub fn insert_full_then(map: &mut VecMap<u32, u32>, key: u32, value: u32) -> Result<(), AllocError>
+    ensures key { OnOk result (lookup nat_eq map.new.entries key ≡ Some value) }
+    ensures lookup { OnOk result ((q : ℕ) → lookup nat_eq map.new.entries q ≡ (if nat_eq key q
         then Some value else lookup nat_eq map.old.entries q)) }
+    ensures empty { OnOk result (0 < length map.new.entries) }
+    ensures unchanged { OnErr result (map.new ≡ map.old) }
+    ensures present { OnOk result (is_some (lookup nat_eq map.new.entries key) ≡ true) }
+    ensures indices { OnOk result ((q : ℕ) (i : ℕ) → index_of nat_eq map.old.entries q ≡ Some i
+        → index_of nat_eq map.new.entries q ≡ Some i) }
+    ensures pair { OnOk result (lookup nat_eq map.old.entries key ≡ None → slice_get map.new.entries
+        (length map.old.entries) ≡ Some (key, value)) }
+    ensures length { OnOk result (length map.new.entries ≡ (if is_some (lookup nat_eq
+        map.old.entries key) then length map.old.entries else length map.old.entries + 1)) }
+    ensures keys { OnOk result (keys_of map.new.entries ≡ (if is_some (lookup nat_eq map.old.entries
+        key) then keys_of map.old.entries else keys_of map.old.entries ++ key ∷ [])) }
+    ensures ends { OnOk result (lookup nat_eq map.old.entries key ≡ None → slice_get map.new.entries
+        (length map.new.entries - 1) ≡ Some (key, value)) }
 {
     map.insert_full(key, value)?;
     Ok(())
 }
 
-pub fn insert_full_then_distinct(
+pub fn insert_full_then_if_distinct(
     map: &mut VecMap<u32, u32>,
     key: u32,
     value: u32,
 ) -> Result<(), AllocError>
     requires distinct { HasDistinctKeys nat_eq map.old.entries }
-    ensures { OnOk result (HasDistinctKeys nat_eq map.new.entries) }
-{
-    map.insert_full(key, value)?;
-    Ok(())
-}
-
-pub fn insert_full_then_empty(
-    map: &mut VecMap<u32, u32>,
-    key: u32,
-    value: u32,
-) -> Result<(), AllocError>
-    ensures { OnOk result (0 < length map.new.entries) }
-{
-    map.insert_full(key, value)?;
-    Ok(())
-}
-
-pub fn insert_full_then_unchanged(
-    map: &mut VecMap<u32, u32>,
-    key: u32,
-    value: u32,
-) -> Result<(), AllocError>
-    ensures { OnErr result (map.new ≡ map.old) }
-{
-    map.insert_full(key, value)?;
-    Ok(())
-}
-
-pub fn insert_full_then_present(
-    map: &mut VecMap<u32, u32>,
-    key: u32,
-    value: u32,
-) -> Result<(), AllocError>
-    ensures { OnOk result (is_some (lookup nat_eq map.new.entries key) ≡ true) }
-{
-    map.insert_full(key, value)?;
-    Ok(())
-}
-
-pub fn insert_full_then_indices(
-    map: &mut VecMap<u32, u32>,
-    key: u32,
-    value: u32,
-) -> Result<(), AllocError>
-    ensures { OnOk result ((q : ℕ) (i : ℕ) → index_of nat_eq map.old.entries q ≡ Some i → index_of
-        nat_eq map.new.entries q ≡ Some i) }
-{
-    map.insert_full(key, value)?;
-    Ok(())
-}
-
-pub fn insert_full_then_pair(
-    map: &mut VecMap<u32, u32>,
-    key: u32,
-    value: u32,
-) -> Result<(), AllocError>
-    ensures { OnOk result (lookup nat_eq map.old.entries key ≡ None → slice_get map.new.entries
-        (length map.old.entries) ≡ Some (key, value)) }
-{
-    map.insert_full(key, value)?;
-    Ok(())
-}
-
-pub fn insert_full_then_length(
-    map: &mut VecMap<u32, u32>,
-    key: u32,
-    value: u32,
-) -> Result<(), AllocError>
-    ensures { OnOk result (length map.new.entries ≡ (if is_some (lookup nat_eq map.old.entries key)
-        then length map.old.entries else length map.old.entries + 1)) }
-{
-    map.insert_full(key, value)?;
-    Ok(())
-}
-
-pub fn insert_full_then_keys(
-    map: &mut VecMap<u32, u32>,
-    key: u32,
-    value: u32,
-) -> Result<(), AllocError>
-    ensures { OnOk result (keys_of map.new.entries ≡ (if is_some (lookup nat_eq map.old.entries key)
-        then keys_of map.old.entries else keys_of map.old.entries ++ key ∷ [])) }
-{
-    map.insert_full(key, value)?;
-    Ok(())
-}
-
-pub fn insert_full_then_ends(
-    map: &mut VecMap<u32, u32>,
-    key: u32,
-    value: u32,
-) -> Result<(), AllocError>
-    ensures { OnOk result (lookup nat_eq map.old.entries key ≡ None → slice_get map.new.entries
-        (length map.new.entries - 1) ≡ Some (key, value)) }
+    ensures distinct { OnOk result (HasDistinctKeys nat_eq map.new.entries) }
 {
     map.insert_full(key, value)?;
     Ok(())
@@ -384,169 +140,45 @@ pub fn insert_full_then_index(
     key: u32,
     value: u32,
 ) -> Result<usize, Refused<(u32, u32)>>
-    ensures { IfOk result (λ i. index_of nat_eq map.new.entries key ≡ Some i) }
+    ensures index { IfOk result (λ i. index_of nat_eq map.new.entries key ≡ Some i) }
+    ensures result { IfOk result (λ i. i < length map.new.entries) }
+    ensures values { IfOk result (λ i. value_at map.new.entries i ≡ Some value) }
 {
     let (index, _old) = map.insert_full(key, value)?;
     Ok(index)
 }
 
-pub fn insert_full_then_result(
-    map: &mut VecMap<u32, u32>,
-    key: u32,
-    value: u32,
-) -> Result<usize, Refused<(u32, u32)>>
-    ensures { IfOk result (λ i. i < length map.new.entries) }
-{
-    let (index, _old) = map.insert_full(key, value)?;
-    Ok(index)
-}
-
-pub fn insert_full_then_values(
-    map: &mut VecMap<u32, u32>,
-    key: u32,
-    value: u32,
-) -> Result<usize, Refused<(u32, u32)>>
-    ensures { IfOk result (λ i. value_at map.new.entries i ≡ Some value) }
-{
-    let (index, _old) = map.insert_full(key, value)?;
-    Ok(index)
-}
-
-pub fn insert_key_then_key(
-    map: &mut VecMap<u32, u32>,
-    key: u32,
-    value: u32,
-) -> Result<(), AllocError>
-    ensures { OnOk result (lookup nat_eq map.new.entries key ≡ Some value) }
-{
-    map.insert_key(key, value)?;
-    Ok(())
-}
-
-pub fn insert_key_then_lookup(
-    map: &mut VecMap<u32, u32>,
-    key: u32,
-    value: u32,
-) -> Result<(), AllocError>
-    ensures { OnOk result ((q : ℕ) → lookup nat_eq map.new.entries q ≡ (if nat_eq key q
+pub fn insert_key_then(map: &mut VecMap<u32, u32>, key: u32, value: u32) -> Result<(), AllocError>
+    ensures key { OnOk result (lookup nat_eq map.new.entries key ≡ Some value) }
+    ensures lookup { OnOk result ((q : ℕ) → lookup nat_eq map.new.entries q ≡ (if nat_eq key q
         then Some value else lookup nat_eq map.old.entries q)) }
+    ensures empty { OnOk result (0 < length map.new.entries) }
+    ensures unchanged { OnErr result (map.new ≡ map.old) }
+    ensures present { OnOk result (is_some (lookup nat_eq map.new.entries key) ≡ true) }
+    ensures index { OnOk result (index_of nat_eq map.new.entries key ≡ Some (index_or_length nat_eq
+        map.old.entries key)) }
+    ensures indices { OnOk result ((q : ℕ) (i : ℕ) → index_of nat_eq map.old.entries q ≡ Some i
+        → index_of nat_eq map.new.entries q ≡ Some i) }
+    ensures pair { OnOk result (lookup nat_eq map.old.entries key ≡ None → slice_get map.new.entries
+        (length map.old.entries) ≡ Some (key, value)) }
+    ensures length { OnOk result (length map.new.entries ≡ (if is_some (lookup nat_eq
+        map.old.entries key) then length map.old.entries else length map.old.entries + 1)) }
+    ensures keys { OnOk result (keys_of map.new.entries ≡ (if is_some (lookup nat_eq map.old.entries
+        key) then keys_of map.old.entries else keys_of map.old.entries ++ key ∷ [])) }
+    ensures ends { OnOk result (lookup nat_eq map.old.entries key ≡ None → slice_get map.new.entries
+        (length map.new.entries - 1) ≡ Some (key, value)) }
 {
     map.insert_key(key, value)?;
     Ok(())
 }
 
-pub fn insert_key_then_distinct(
+pub fn insert_key_then_if_distinct(
     map: &mut VecMap<u32, u32>,
     key: u32,
     value: u32,
 ) -> Result<(), AllocError>
     requires distinct { HasDistinctKeys nat_eq map.old.entries }
-    ensures { OnOk result (HasDistinctKeys nat_eq map.new.entries) }
-{
-    map.insert_key(key, value)?;
-    Ok(())
-}
-
-pub fn insert_key_then_empty(
-    map: &mut VecMap<u32, u32>,
-    key: u32,
-    value: u32,
-) -> Result<(), AllocError>
-    ensures { OnOk result (0 < length map.new.entries) }
-{
-    map.insert_key(key, value)?;
-    Ok(())
-}
-
-pub fn insert_key_then_unchanged(
-    map: &mut VecMap<u32, u32>,
-    key: u32,
-    value: u32,
-) -> Result<(), AllocError>
-    ensures { OnErr result (map.new ≡ map.old) }
-{
-    map.insert_key(key, value)?;
-    Ok(())
-}
-
-pub fn insert_key_then_present(
-    map: &mut VecMap<u32, u32>,
-    key: u32,
-    value: u32,
-) -> Result<(), AllocError>
-    ensures { OnOk result (is_some (lookup nat_eq map.new.entries key) ≡ true) }
-{
-    map.insert_key(key, value)?;
-    Ok(())
-}
-
-pub fn insert_key_then_index(
-    map: &mut VecMap<u32, u32>,
-    key: u32,
-    value: u32,
-) -> Result<(), AllocError>
-    ensures { OnOk result (index_of nat_eq map.new.entries key ≡ Some (index_or_length nat_eq
-        map.old.entries key)) }
-{
-    map.insert_key(key, value)?;
-    Ok(())
-}
-
-pub fn insert_key_then_indices(
-    map: &mut VecMap<u32, u32>,
-    key: u32,
-    value: u32,
-) -> Result<(), AllocError>
-    ensures { OnOk result ((q : ℕ) (i : ℕ) → index_of nat_eq map.old.entries q ≡ Some i → index_of
-        nat_eq map.new.entries q ≡ Some i) }
-{
-    map.insert_key(key, value)?;
-    Ok(())
-}
-
-pub fn insert_key_then_pair(
-    map: &mut VecMap<u32, u32>,
-    key: u32,
-    value: u32,
-) -> Result<(), AllocError>
-    ensures { OnOk result (lookup nat_eq map.old.entries key ≡ None → slice_get map.new.entries
-        (length map.old.entries) ≡ Some (key, value)) }
-{
-    map.insert_key(key, value)?;
-    Ok(())
-}
-
-pub fn insert_key_then_length(
-    map: &mut VecMap<u32, u32>,
-    key: u32,
-    value: u32,
-) -> Result<(), AllocError>
-    ensures { OnOk result (length map.new.entries ≡ (if is_some (lookup nat_eq map.old.entries key)
-        then length map.old.entries else length map.old.entries + 1)) }
-{
-    map.insert_key(key, value)?;
-    Ok(())
-}
-
-pub fn insert_key_then_keys(
-    map: &mut VecMap<u32, u32>,
-    key: u32,
-    value: u32,
-) -> Result<(), AllocError>
-    ensures { OnOk result (keys_of map.new.entries ≡ (if is_some (lookup nat_eq map.old.entries key)
-        then keys_of map.old.entries else keys_of map.old.entries ++ key ∷ [])) }
-{
-    map.insert_key(key, value)?;
-    Ok(())
-}
-
-pub fn insert_key_then_ends(
-    map: &mut VecMap<u32, u32>,
-    key: u32,
-    value: u32,
-) -> Result<(), AllocError>
-    ensures { OnOk result (lookup nat_eq map.old.entries key ≡ None → slice_get map.new.entries
-        (length map.new.entries - 1) ≡ Some (key, value)) }
+    ensures distinct { OnOk result (HasDistinctKeys nat_eq map.new.entries) }
 {
     map.insert_key(key, value)?;
     Ok(())
@@ -557,142 +189,43 @@ pub fn insert_key_then_result(
     key: u32,
     value: u32,
 ) -> Result<Option<(u32, u32)>, Refused<(u32, u32)>>
-    ensures { IfOk result (λ old. option_map (λ p. p.1) old ≡ lookup nat_eq map.old.entries key) }
+    ensures result { IfOk result (λ old. option_map (λ p. p.1) old ≡ lookup nat_eq map.old.entries
+        key) }
 {
     map.insert_key(key, value)
 }
 
-pub fn put_pair_then_unchanged(
-    map: &mut VecMap<u32, u32>,
-    key: u32,
-    value: u32,
-) -> Result<(), AllocError>
-    ensures { OnErr result (map.new ≡ map.old) }
-{
-    put_pair(map, key, value)?;
-    Ok(())
-}
-
-pub fn put_pair_then_key(map: &mut VecMap<u32, u32>, key: u32, value: u32) -> Result<(), AllocError>
-    ensures { OnOk result (lookup nat_eq map.new.entries key ≡ Some value) }
-{
-    put_pair(map, key, value)?;
-    Ok(())
-}
-
-pub fn put_pair_then_lookup(
-    map: &mut VecMap<u32, u32>,
-    key: u32,
-    value: u32,
-) -> Result<(), AllocError>
-    ensures { OnOk result ((q : ℕ) → lookup nat_eq map.new.entries q ≡ (if nat_eq key q
+pub fn put_pair_then(map: &mut VecMap<u32, u32>, key: u32, value: u32) -> Result<(), AllocError>
+    ensures unchanged { OnErr result (map.new ≡ map.old) }
+    ensures key { OnOk result (lookup nat_eq map.new.entries key ≡ Some value) }
+    ensures lookup { OnOk result ((q : ℕ) → lookup nat_eq map.new.entries q ≡ (if nat_eq key q
         then Some value else lookup nat_eq map.old.entries q)) }
-{
-    put_pair(map, key, value)?;
-    Ok(())
-}
-
-pub fn put_pair_then_present(
-    map: &mut VecMap<u32, u32>,
-    key: u32,
-    value: u32,
-) -> Result<(), AllocError>
-    ensures { OnOk result (is_some (lookup nat_eq map.new.entries key) ≡ true) }
-{
-    put_pair(map, key, value)?;
-    Ok(())
-}
-
-pub fn put_pair_then_index(
-    map: &mut VecMap<u32, u32>,
-    key: u32,
-    value: u32,
-) -> Result<(), AllocError>
-    ensures { OnOk result (index_of nat_eq map.new.entries key ≡ Some (index_or_length nat_eq
+    ensures present { OnOk result (is_some (lookup nat_eq map.new.entries key) ≡ true) }
+    ensures index { OnOk result (index_of nat_eq map.new.entries key ≡ Some (index_or_length nat_eq
         map.old.entries key)) }
-{
-    put_pair(map, key, value)?;
-    Ok(())
-}
-
-pub fn put_pair_then_indices(
-    map: &mut VecMap<u32, u32>,
-    key: u32,
-    value: u32,
-) -> Result<(), AllocError>
-    ensures { OnOk result ((q : ℕ) (i : ℕ) → index_of nat_eq map.old.entries q ≡ Some i → index_of
-        nat_eq map.new.entries q ≡ Some i) }
-{
-    put_pair(map, key, value)?;
-    Ok(())
-}
-
-pub fn put_pair_then_pair(
-    map: &mut VecMap<u32, u32>,
-    key: u32,
-    value: u32,
-) -> Result<(), AllocError>
-    ensures { OnOk result (lookup nat_eq map.old.entries key ≡ None → slice_get map.new.entries
+    ensures indices { OnOk result ((q : ℕ) (i : ℕ) → index_of nat_eq map.old.entries q ≡ Some i
+        → index_of nat_eq map.new.entries q ≡ Some i) }
+    ensures pair { OnOk result (lookup nat_eq map.old.entries key ≡ None → slice_get map.new.entries
         (length map.old.entries) ≡ Some (key, value)) }
+    ensures length { OnOk result (length map.new.entries ≡ (if is_some (lookup nat_eq
+        map.old.entries key) then length map.old.entries else length map.old.entries + 1)) }
+    ensures keys { OnOk result (keys_of map.new.entries ≡ (if is_some (lookup nat_eq map.old.entries
+        key) then keys_of map.old.entries else keys_of map.old.entries ++ key ∷ [])) }
+    ensures empty { OnOk result (0 < length map.new.entries) }
+    ensures ends { OnOk result (lookup nat_eq map.old.entries key ≡ None → slice_get map.new.entries
+        (length map.new.entries - 1) ≡ Some (key, value)) }
 {
     put_pair(map, key, value)?;
     Ok(())
 }
 
-pub fn put_pair_then_length(
-    map: &mut VecMap<u32, u32>,
-    key: u32,
-    value: u32,
-) -> Result<(), AllocError>
-    ensures { OnOk result (length map.new.entries ≡ (if is_some (lookup nat_eq map.old.entries key)
-        then length map.old.entries else length map.old.entries + 1)) }
-{
-    put_pair(map, key, value)?;
-    Ok(())
-}
-
-pub fn put_pair_then_keys(
-    map: &mut VecMap<u32, u32>,
-    key: u32,
-    value: u32,
-) -> Result<(), AllocError>
-    ensures { OnOk result (keys_of map.new.entries ≡ (if is_some (lookup nat_eq map.old.entries key)
-        then keys_of map.old.entries else keys_of map.old.entries ++ key ∷ [])) }
-{
-    put_pair(map, key, value)?;
-    Ok(())
-}
-
-pub fn put_pair_then_distinct(
+pub fn put_pair_then_if_distinct(
     map: &mut VecMap<u32, u32>,
     key: u32,
     value: u32,
 ) -> Result<(), AllocError>
     requires distinct { HasDistinctKeys nat_eq map.old.entries }
-    ensures { OnOk result (HasDistinctKeys nat_eq map.new.entries) }
-{
-    put_pair(map, key, value)?;
-    Ok(())
-}
-
-pub fn put_pair_then_empty(
-    map: &mut VecMap<u32, u32>,
-    key: u32,
-    value: u32,
-) -> Result<(), AllocError>
-    ensures { OnOk result (0 < length map.new.entries) }
-{
-    put_pair(map, key, value)?;
-    Ok(())
-}
-
-pub fn put_pair_then_ends(
-    map: &mut VecMap<u32, u32>,
-    key: u32,
-    value: u32,
-) -> Result<(), AllocError>
-    ensures { OnOk result (lookup nat_eq map.old.entries key ≡ None → slice_get map.new.entries
-        (length map.new.entries - 1) ≡ Some (key, value)) }
+    ensures distinct { OnOk result (HasDistinctKeys nat_eq map.new.entries) }
 {
     put_pair(map, key, value)?;
     Ok(())

@@ -6,430 +6,181 @@ ghost use Rattle.vecmap.specs.Pairs.{HasDistinctKeys, index_of, lookup};
 use std::alloc::AllocError;
 use vecmap::VecMap;
 
-pub fn append_then_key(
+pub fn append_then_if_distinct(
     map: &mut VecMap<u32, u32>,
     other: &mut VecMap<u32, u32>,
 ) -> Result<(), AllocError>
     requires distinct { HasDistinctKeys nat_eq map.old.entries }
     requires other_distinct { HasDistinctKeys nat_eq other.old.entries }
-    ensures { OnOk result ((k : ℕ) (v : ℕ) → lookup nat_eq other.old.entries k ≡ Some v → lookup
+    ensures key { OnOk result ((k : ℕ) (v : ℕ) → lookup nat_eq other.old.entries k ≡ Some v → lookup
         nat_eq map.new.entries k ≡ Some v) }
-{
-    map.append(other)?;
-    Ok(())
-}
-
-pub fn append_then_lookup(
-    map: &mut VecMap<u32, u32>,
-    other: &mut VecMap<u32, u32>,
-) -> Result<(), AllocError>
-    requires distinct { HasDistinctKeys nat_eq map.old.entries }
-    requires other_distinct { HasDistinctKeys nat_eq other.old.entries }
-    ensures { OnOk result ((q : ℕ) → lookup nat_eq map.new.entries q ≡ option_or (lookup nat_eq
-        other.old.entries q) (lookup nat_eq map.old.entries q)) }
-{
-    map.append(other)?;
-    Ok(())
-}
-
-pub fn append_then_present(
-    map: &mut VecMap<u32, u32>,
-    other: &mut VecMap<u32, u32>,
-) -> Result<(), AllocError>
-    requires distinct { HasDistinctKeys nat_eq map.old.entries }
-    requires other_distinct { HasDistinctKeys nat_eq other.old.entries }
-    ensures { OnOk result ((q : ℕ) → is_some (index_of nat_eq map.new.entries q) ≡ (is_some
+    ensures lookup { OnOk result ((q : ℕ) → lookup nat_eq map.new.entries q ≡ option_or (lookup
+        nat_eq other.old.entries q) (lookup nat_eq map.old.entries q)) }
+    ensures present { OnOk result ((q : ℕ) → is_some (index_of nat_eq map.new.entries q) ≡ (is_some
         (index_of nat_eq other.old.entries q) || is_some (index_of nat_eq map.old.entries q))) }
+    ensures distinct { OnOk result (HasDistinctKeys nat_eq map.new.entries) }
 {
     map.append(other)?;
     Ok(())
 }
 
-pub fn append_then_indices(
+pub fn append_then(
     map: &mut VecMap<u32, u32>,
     other: &mut VecMap<u32, u32>,
 ) -> Result<(), AllocError>
     requires other_distinct { HasDistinctKeys nat_eq other.old.entries }
-    ensures { OnOk result ((q : ℕ) (i : ℕ) → index_of nat_eq map.old.entries q ≡ Some i → index_of
-        nat_eq map.new.entries q ≡ Some i) }
-{
-    map.append(other)?;
-    Ok(())
-}
-
-pub fn append_then_length(
-    map: &mut VecMap<u32, u32>,
-    other: &mut VecMap<u32, u32>,
-) -> Result<(), AllocError>
-    requires other_distinct { HasDistinctKeys nat_eq other.old.entries }
-    ensures { OnOk result (length map.new.entries ≤ length map.old.entries + length
+    ensures indices { OnOk result ((q : ℕ) (i : ℕ) → index_of nat_eq map.old.entries q ≡ Some i
+        → index_of nat_eq map.new.entries q ≡ Some i) }
+    ensures length { OnOk result (length map.new.entries ≤ length map.old.entries + length
         other.old.entries) }
+    ensures empty { OnOk result (0 < length other.old.entries → 0 < length map.new.entries) }
+    ensures unchanged { OnErr result (map.new ≡ map.old) }
+    ensures ends { OnOk result (length other.new.entries ≡ 0) }
 {
     map.append(other)?;
     Ok(())
 }
 
-pub fn append_then_distinct(
-    map: &mut VecMap<u32, u32>,
-    other: &mut VecMap<u32, u32>,
-) -> Result<(), AllocError>
-    requires distinct { HasDistinctKeys nat_eq map.old.entries }
-    requires other_distinct { HasDistinctKeys nat_eq other.old.entries }
-    ensures { OnOk result (HasDistinctKeys nat_eq map.new.entries) }
-{
-    map.append(other)?;
-    Ok(())
-}
-
-pub fn append_then_empty(
-    map: &mut VecMap<u32, u32>,
-    other: &mut VecMap<u32, u32>,
-) -> Result<(), AllocError>
-    requires other_distinct { HasDistinctKeys nat_eq other.old.entries }
-    ensures { OnOk result (0 < length other.old.entries → 0 < length map.new.entries) }
-{
-    map.append(other)?;
-    Ok(())
-}
-
-pub fn append_then_unchanged(
-    map: &mut VecMap<u32, u32>,
-    other: &mut VecMap<u32, u32>,
-) -> Result<(), AllocError>
-    requires other_distinct { HasDistinctKeys nat_eq other.old.entries }
-    ensures { OnErr result (map.new ≡ map.old) }
-{
-    map.append(other)?;
-    Ok(())
-}
-
-pub fn append_then_ends(
-    map: &mut VecMap<u32, u32>,
-    other: &mut VecMap<u32, u32>,
-) -> Result<(), AllocError>
-    requires other_distinct { HasDistinctKeys nat_eq other.old.entries }
-    ensures { OnOk result (length other.new.entries ≡ 0) }
-{
-    map.append(other)?;
-    Ok(())
-}
-
-pub fn append_then_lookup_generic<K: Eq + Drop>(
+pub fn append_then_if_distinct_generic<K: Eq + Drop>(
     map: &mut VecMap<K, u32>,
     other: &mut VecMap<K, u32>,
 ) -> Result<(), AllocError>
     requires distinct { HasDistinctKeys K.eq map.old.entries }
     requires other_distinct { HasDistinctKeys K.eq other.old.entries }
-    ensures { OnOk result ((q : K) → lookup K.eq map.new.entries q ≡ option_or (lookup K.eq
+    ensures lookup { OnOk result ((q : K) → lookup K.eq map.new.entries q ≡ option_or (lookup K.eq
         other.old.entries q) (lookup K.eq map.old.entries q)) }
+    ensures distinct { OnOk result (HasDistinctKeys K.eq map.new.entries) }
 {
     map.append(other)?;
     Ok(())
 }
 
-pub fn append_then_length_generic<K: Eq + Drop>(
+pub fn append_then_generic<K: Eq + Drop>(
     map: &mut VecMap<K, u32>,
     other: &mut VecMap<K, u32>,
 ) -> Result<(), AllocError>
     requires other_distinct { HasDistinctKeys K.eq other.old.entries }
-    ensures { OnOk result (length map.new.entries ≤ length map.old.entries + length
+    ensures length { OnOk result (length map.new.entries ≤ length map.old.entries + length
         other.old.entries) }
 {
     map.append(other)?;
     Ok(())
 }
 
-pub fn append_then_distinct_generic<K: Eq + Drop>(
-    map: &mut VecMap<K, u32>,
-    other: &mut VecMap<K, u32>,
-) -> Result<(), AllocError>
-    requires distinct { HasDistinctKeys K.eq map.old.entries }
-    requires other_distinct { HasDistinctKeys K.eq other.old.entries }
-    ensures { OnOk result (HasDistinctKeys K.eq map.new.entries) }
-{
-    map.append(other)?;
-    Ok(())
-}
-
-pub fn extend_then_key(
+pub fn extend_then_if_distinct(
     map: &mut VecMap<u32, u32>,
     other: VecMap<u32, u32>,
 ) -> Result<(), AllocError>
     requires distinct { HasDistinctKeys nat_eq map.old.entries }
     requires other_distinct { HasDistinctKeys nat_eq other.entries }
-    ensures { OnOk result ((k : ℕ) (v : ℕ) → lookup nat_eq other.entries k ≡ Some v → lookup nat_eq
-        map.new.entries k ≡ Some v) }
-{
-    map.extend(other)?;
-    Ok(())
-}
-
-pub fn extend_then_lookup(
-    map: &mut VecMap<u32, u32>,
-    other: VecMap<u32, u32>,
-) -> Result<(), AllocError>
-    requires distinct { HasDistinctKeys nat_eq map.old.entries }
-    requires other_distinct { HasDistinctKeys nat_eq other.entries }
-    ensures { OnOk result ((q : ℕ) → lookup nat_eq map.new.entries q ≡ option_or (lookup nat_eq
-        other.entries q) (lookup nat_eq map.old.entries q)) }
-{
-    map.extend(other)?;
-    Ok(())
-}
-
-pub fn extend_then_present(
-    map: &mut VecMap<u32, u32>,
-    other: VecMap<u32, u32>,
-) -> Result<(), AllocError>
-    requires distinct { HasDistinctKeys nat_eq map.old.entries }
-    requires other_distinct { HasDistinctKeys nat_eq other.entries }
-    ensures { OnOk result ((q : ℕ) → is_some (index_of nat_eq map.new.entries q) ≡ (is_some
-        (index_of nat_eq other.entries q) || is_some (index_of nat_eq map.old.entries q))) }
-{
-    map.extend(other)?;
-    Ok(())
-}
-
-pub fn extend_then_indices(
-    map: &mut VecMap<u32, u32>,
-    other: VecMap<u32, u32>,
-) -> Result<(), AllocError>
-    requires other_distinct { HasDistinctKeys nat_eq other.entries }
-    ensures { OnOk result ((q : ℕ) (i : ℕ) → index_of nat_eq map.old.entries q ≡ Some i → index_of
-        nat_eq map.new.entries q ≡ Some i) }
-{
-    map.extend(other)?;
-    Ok(())
-}
-
-pub fn extend_then_length(
-    map: &mut VecMap<u32, u32>,
-    other: VecMap<u32, u32>,
-) -> Result<(), AllocError>
-    requires other_distinct { HasDistinctKeys nat_eq other.entries }
-    ensures { OnOk result (length map.new.entries ≤ length map.old.entries + length other.entries) }
-{
-    map.extend(other)?;
-    Ok(())
-}
-
-pub fn extend_then_distinct(
-    map: &mut VecMap<u32, u32>,
-    other: VecMap<u32, u32>,
-) -> Result<(), AllocError>
-    requires distinct { HasDistinctKeys nat_eq map.old.entries }
-    requires other_distinct { HasDistinctKeys nat_eq other.entries }
-    ensures { OnOk result (HasDistinctKeys nat_eq map.new.entries) }
-{
-    map.extend(other)?;
-    Ok(())
-}
-
-pub fn extend_then_empty(
-    map: &mut VecMap<u32, u32>,
-    other: VecMap<u32, u32>,
-) -> Result<(), AllocError>
-    requires other_distinct { HasDistinctKeys nat_eq other.entries }
-    ensures { OnOk result (0 < length other.entries → 0 < length map.new.entries) }
-{
-    map.extend(other)?;
-    Ok(())
-}
-
-pub fn extend_by_vec_then_key(
-    map: &mut VecMap<u32, u32>,
-    pairs: Vec<(u32, u32)>,
-) -> Result<(), AllocError>
-    requires distinct { HasDistinctKeys nat_eq map.old.entries }
-    requires other_distinct { HasDistinctKeys nat_eq pairs.items }
-    ensures { OnOk result ((k : ℕ) (v : ℕ) → lookup nat_eq pairs.items k ≡ Some v → lookup nat_eq
-        map.new.entries k ≡ Some v) }
-{
-    map.extend(pairs)?;
-    Ok(())
-}
-
-pub fn extend_by_vec_then_lookup(
-    map: &mut VecMap<u32, u32>,
-    pairs: Vec<(u32, u32)>,
-) -> Result<(), AllocError>
-    requires distinct { HasDistinctKeys nat_eq map.old.entries }
-    requires other_distinct { HasDistinctKeys nat_eq pairs.items }
-    ensures { OnOk result ((q : ℕ) → lookup nat_eq map.new.entries q ≡ option_or (lookup nat_eq
-        pairs.items q) (lookup nat_eq map.old.entries q)) }
-{
-    map.extend(pairs)?;
-    Ok(())
-}
-
-pub fn extend_by_vec_then_present(
-    map: &mut VecMap<u32, u32>,
-    pairs: Vec<(u32, u32)>,
-) -> Result<(), AllocError>
-    requires distinct { HasDistinctKeys nat_eq map.old.entries }
-    requires other_distinct { HasDistinctKeys nat_eq pairs.items }
-    ensures { OnOk result ((q : ℕ) → is_some (index_of nat_eq map.new.entries q) ≡ (is_some
-        (index_of nat_eq pairs.items q) || is_some (index_of nat_eq map.old.entries q))) }
-{
-    map.extend(pairs)?;
-    Ok(())
-}
-
-pub fn extend_by_vec_then_indices(
-    map: &mut VecMap<u32, u32>,
-    pairs: Vec<(u32, u32)>,
-) -> Result<(), AllocError>
-    requires other_distinct { HasDistinctKeys nat_eq pairs.items }
-    ensures { OnOk result ((q : ℕ) (i : ℕ) → index_of nat_eq map.old.entries q ≡ Some i → index_of
-        nat_eq map.new.entries q ≡ Some i) }
-{
-    map.extend(pairs)?;
-    Ok(())
-}
-
-pub fn extend_by_vec_then_length(
-    map: &mut VecMap<u32, u32>,
-    pairs: Vec<(u32, u32)>,
-) -> Result<(), AllocError>
-    requires other_distinct { HasDistinctKeys nat_eq pairs.items }
-    ensures { OnOk result (length map.new.entries ≤ length map.old.entries + length pairs.items) }
-{
-    map.extend(pairs)?;
-    Ok(())
-}
-
-pub fn extend_by_vec_then_distinct(
-    map: &mut VecMap<u32, u32>,
-    pairs: Vec<(u32, u32)>,
-) -> Result<(), AllocError>
-    requires distinct { HasDistinctKeys nat_eq map.old.entries }
-    requires other_distinct { HasDistinctKeys nat_eq pairs.items }
-    ensures { OnOk result (HasDistinctKeys nat_eq map.new.entries) }
-{
-    map.extend(pairs)?;
-    Ok(())
-}
-
-pub fn extend_refs_then_key(
-    map: &mut VecMap<u32, u32>,
-    other: &VecMap<u32, u32>,
-) -> Result<(), AllocError>
-    requires distinct { HasDistinctKeys nat_eq map.old.entries }
-    requires other_distinct { HasDistinctKeys nat_eq other.now.entries }
-    ensures { OnOk result ((k : ℕ) (v : ℕ) → lookup nat_eq other.now.entries k ≡ Some v → lookup
+    ensures key { OnOk result ((k : ℕ) (v : ℕ) → lookup nat_eq other.entries k ≡ Some v → lookup
         nat_eq map.new.entries k ≡ Some v) }
+    ensures lookup { OnOk result ((q : ℕ) → lookup nat_eq map.new.entries q ≡ option_or (lookup
+        nat_eq other.entries q) (lookup nat_eq map.old.entries q)) }
+    ensures present { OnOk result ((q : ℕ) → is_some (index_of nat_eq map.new.entries q) ≡ (is_some
+        (index_of nat_eq other.entries q) || is_some (index_of nat_eq map.old.entries q))) }
+    ensures distinct { OnOk result (HasDistinctKeys nat_eq map.new.entries) }
 {
-    map.extend_refs(other)?;
+    map.extend(other)?;
     Ok(())
 }
 
-pub fn extend_refs_then_lookup(
+pub fn extend_then(map: &mut VecMap<u32, u32>, other: VecMap<u32, u32>) -> Result<(), AllocError>
+    requires other_distinct { HasDistinctKeys nat_eq other.entries }
+    ensures indices { OnOk result ((q : ℕ) (i : ℕ) → index_of nat_eq map.old.entries q ≡ Some i
+        → index_of nat_eq map.new.entries q ≡ Some i) }
+    ensures length { OnOk result (length map.new.entries ≤ length map.old.entries + length
+        other.entries) }
+    ensures empty { OnOk result (0 < length other.entries → 0 < length map.new.entries) }
+{
+    map.extend(other)?;
+    Ok(())
+}
+
+pub fn extend_by_vec_then_if_distinct(
+    map: &mut VecMap<u32, u32>,
+    pairs: Vec<(u32, u32)>,
+) -> Result<(), AllocError>
+    requires distinct { HasDistinctKeys nat_eq map.old.entries }
+    requires other_distinct { HasDistinctKeys nat_eq pairs.items }
+    ensures key { OnOk result ((k : ℕ) (v : ℕ) → lookup nat_eq pairs.items k ≡ Some v → lookup
+        nat_eq map.new.entries k ≡ Some v) }
+    ensures lookup { OnOk result ((q : ℕ) → lookup nat_eq map.new.entries q ≡ option_or (lookup
+        nat_eq pairs.items q) (lookup nat_eq map.old.entries q)) }
+    ensures present { OnOk result ((q : ℕ) → is_some (index_of nat_eq map.new.entries q) ≡ (is_some
+        (index_of nat_eq pairs.items q) || is_some (index_of nat_eq map.old.entries q))) }
+    ensures distinct { OnOk result (HasDistinctKeys nat_eq map.new.entries) }
+{
+    map.extend(pairs)?;
+    Ok(())
+}
+
+pub fn extend_by_vec_then(
+    map: &mut VecMap<u32, u32>,
+    pairs: Vec<(u32, u32)>,
+) -> Result<(), AllocError>
+    requires other_distinct { HasDistinctKeys nat_eq pairs.items }
+    ensures indices { OnOk result ((q : ℕ) (i : ℕ) → index_of nat_eq map.old.entries q ≡ Some i
+        → index_of nat_eq map.new.entries q ≡ Some i) }
+    ensures length { OnOk result (length map.new.entries ≤ length map.old.entries + length
+        pairs.items) }
+{
+    map.extend(pairs)?;
+    Ok(())
+}
+
+pub fn extend_refs_then_if_distinct(
     map: &mut VecMap<u32, u32>,
     other: &VecMap<u32, u32>,
 ) -> Result<(), AllocError>
     requires distinct { HasDistinctKeys nat_eq map.old.entries }
     requires other_distinct { HasDistinctKeys nat_eq other.now.entries }
-    ensures { OnOk result ((q : ℕ) → lookup nat_eq map.new.entries q ≡ option_or (lookup nat_eq
-        other.now.entries q) (lookup nat_eq map.old.entries q)) }
-{
-    map.extend_refs(other)?;
-    Ok(())
-}
-
-pub fn extend_refs_then_present(
-    map: &mut VecMap<u32, u32>,
-    other: &VecMap<u32, u32>,
-) -> Result<(), AllocError>
-    requires distinct { HasDistinctKeys nat_eq map.old.entries }
-    requires other_distinct { HasDistinctKeys nat_eq other.now.entries }
-    ensures { OnOk result ((q : ℕ) → is_some (index_of nat_eq map.new.entries q) ≡ (is_some
+    ensures key { OnOk result ((k : ℕ) (v : ℕ) → lookup nat_eq other.now.entries k ≡ Some v → lookup
+        nat_eq map.new.entries k ≡ Some v) }
+    ensures lookup { OnOk result ((q : ℕ) → lookup nat_eq map.new.entries q ≡ option_or (lookup
+        nat_eq other.now.entries q) (lookup nat_eq map.old.entries q)) }
+    ensures present { OnOk result ((q : ℕ) → is_some (index_of nat_eq map.new.entries q) ≡ (is_some
         (index_of nat_eq other.now.entries q) || is_some (index_of nat_eq map.old.entries q))) }
+    ensures distinct { OnOk result (HasDistinctKeys nat_eq map.new.entries) }
 {
     map.extend_refs(other)?;
     Ok(())
 }
 
-pub fn extend_refs_then_length(
+pub fn extend_refs_then(
     map: &mut VecMap<u32, u32>,
     other: &VecMap<u32, u32>,
 ) -> Result<(), AllocError>
     requires other_distinct { HasDistinctKeys nat_eq other.now.entries }
-    ensures { OnOk result (length map.new.entries ≤ length map.old.entries + length
+    ensures length { OnOk result (length map.new.entries ≤ length map.old.entries + length
         other.now.entries) }
 {
     map.extend_refs(other)?;
     Ok(())
 }
 
-pub fn extend_refs_then_distinct(
-    map: &mut VecMap<u32, u32>,
-    other: &VecMap<u32, u32>,
-) -> Result<(), AllocError>
-    requires distinct { HasDistinctKeys nat_eq map.old.entries }
-    requires other_distinct { HasDistinctKeys nat_eq other.now.entries }
-    ensures { OnOk result (HasDistinctKeys nat_eq map.new.entries) }
-{
-    map.extend_refs(other)?;
-    Ok(())
-}
-
-pub fn extend_pairs_then_key(
+pub fn extend_pairs_then_if_distinct(
     map: &mut VecMap<u32, u32>,
     pairs: &[(u32, u32)],
 ) -> Result<(), AllocError>
     requires distinct { HasDistinctKeys nat_eq map.old.entries }
     requires other_distinct { HasDistinctKeys nat_eq pairs.now }
-    ensures { OnOk result ((k : ℕ) (v : ℕ) → lookup nat_eq pairs.now k ≡ Some v → lookup nat_eq
+    ensures key { OnOk result ((k : ℕ) (v : ℕ) → lookup nat_eq pairs.now k ≡ Some v → lookup nat_eq
         map.new.entries k ≡ Some v) }
-{
-    map.extend_pairs(pairs)?;
-    Ok(())
-}
-
-pub fn extend_pairs_then_lookup(
-    map: &mut VecMap<u32, u32>,
-    pairs: &[(u32, u32)],
-) -> Result<(), AllocError>
-    requires distinct { HasDistinctKeys nat_eq map.old.entries }
-    requires other_distinct { HasDistinctKeys nat_eq pairs.now }
-    ensures { OnOk result ((q : ℕ) → lookup nat_eq map.new.entries q ≡ option_or (lookup nat_eq
-        pairs.now q) (lookup nat_eq map.old.entries q)) }
-{
-    map.extend_pairs(pairs)?;
-    Ok(())
-}
-
-pub fn extend_pairs_then_present(
-    map: &mut VecMap<u32, u32>,
-    pairs: &[(u32, u32)],
-) -> Result<(), AllocError>
-    requires distinct { HasDistinctKeys nat_eq map.old.entries }
-    requires other_distinct { HasDistinctKeys nat_eq pairs.now }
-    ensures { OnOk result ((q : ℕ) → is_some (index_of nat_eq map.new.entries q) ≡ (is_some
+    ensures lookup { OnOk result ((q : ℕ) → lookup nat_eq map.new.entries q ≡ option_or (lookup
+        nat_eq pairs.now q) (lookup nat_eq map.old.entries q)) }
+    ensures present { OnOk result ((q : ℕ) → is_some (index_of nat_eq map.new.entries q) ≡ (is_some
         (index_of nat_eq pairs.now q) || is_some (index_of nat_eq map.old.entries q))) }
+    ensures distinct { OnOk result (HasDistinctKeys nat_eq map.new.entries) }
 {
     map.extend_pairs(pairs)?;
     Ok(())
 }
 
-pub fn extend_pairs_then_length(
-    map: &mut VecMap<u32, u32>,
-    pairs: &[(u32, u32)],
-) -> Result<(), AllocError>
+pub fn extend_pairs_then(map: &mut VecMap<u32, u32>, pairs: &[(u32, u32)]) -> Result<(), AllocError>
     requires other_distinct { HasDistinctKeys nat_eq pairs.now }
-    ensures { OnOk result (length map.new.entries ≤ length map.old.entries + length pairs.now) }
-{
-    map.extend_pairs(pairs)?;
-    Ok(())
-}
-
-pub fn extend_pairs_then_distinct(
-    map: &mut VecMap<u32, u32>,
-    pairs: &[(u32, u32)],
-) -> Result<(), AllocError>
-    requires distinct { HasDistinctKeys nat_eq map.old.entries }
-    requires other_distinct { HasDistinctKeys nat_eq pairs.now }
-    ensures { OnOk result (HasDistinctKeys nat_eq map.new.entries) }
+    ensures length { OnOk result (length map.new.entries ≤ length map.old.entries + length
+        pairs.now) }
 {
     map.extend_pairs(pairs)?;
     Ok(())

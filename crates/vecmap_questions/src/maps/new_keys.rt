@@ -6,458 +6,171 @@ ghost use Rattle.vecmap.specs.Pairs.{HasDistinctKeys, index_of, index_or_length,
 use std::alloc::AllocError;
 use vecmap::{Refused, VecMap};
 
-pub fn insert_at_then_empty(
+pub fn insert_at_then(
     map: &mut VecMap<u32, u32>,
     index: usize,
     key: u32,
     value: u32,
 ) -> Result<(), AllocError>
     requires within { index ≤ length map.old.entries }
-    ensures { OnOk result (0 < length map.new.entries) }
-{
-    map.insert_at(index, key, value)?;
-    Ok(())
-}
-
-pub fn insert_at_then_unchanged(
-    map: &mut VecMap<u32, u32>,
-    index: usize,
-    key: u32,
-    value: u32,
-) -> Result<(), AllocError>
-    requires within { index ≤ length map.old.entries }
-    ensures { OnErr result (map.new ≡ map.old) }
-{
-    map.insert_at(index, key, value)?;
-    Ok(())
-}
-
-pub fn insert_at_then_distinct(
-    map: &mut VecMap<u32, u32>,
-    index: usize,
-    key: u32,
-    value: u32,
-) -> Result<(), AllocError>
-    requires distinct { HasDistinctKeys nat_eq map.old.entries }
-    requires within { index ≤ length map.old.entries }
-    ensures { OnOk result (HasDistinctKeys nat_eq map.new.entries) }
-{
-    map.insert_at(index, key, value)?;
-    Ok(())
-}
-
-pub fn insert_at_then_length(
-    map: &mut VecMap<u32, u32>,
-    index: usize,
-    key: u32,
-    value: u32,
-) -> Result<(), AllocError>
-    requires within { index ≤ length map.old.entries }
-    ensures { OnOk result (length map.new.entries ≡ (if is_some (lookup nat_eq map.old.entries key)
-        then length map.old.entries else length map.old.entries + 1)) }
-{
-    map.insert_at(index, key, value)?;
-    Ok(())
-}
-
-pub fn insert_at_then_key(
-    map: &mut VecMap<u32, u32>,
-    index: usize,
-    key: u32,
-    value: u32,
-) -> Result<(), AllocError>
-    requires distinct { HasDistinctKeys nat_eq map.old.entries }
-    requires within { index ≤ length map.old.entries }
-    ensures { OnOk result (lookup nat_eq map.new.entries key ≡ Some value) }
-{
-    map.insert_at(index, key, value)?;
-    Ok(())
-}
-
-pub fn insert_at_then_lookup(
-    map: &mut VecMap<u32, u32>,
-    index: usize,
-    key: u32,
-    value: u32,
-) -> Result<(), AllocError>
-    requires distinct { HasDistinctKeys nat_eq map.old.entries }
-    requires within { index ≤ length map.old.entries }
-    ensures { OnOk result ((q : ℕ) → lookup nat_eq map.new.entries q ≡ (if nat_eq key q
-        then Some value else lookup nat_eq map.old.entries q)) }
-{
-    map.insert_at(index, key, value)?;
-    Ok(())
-}
-
-pub fn insert_at_then_present(
-    map: &mut VecMap<u32, u32>,
-    index: usize,
-    key: u32,
-    value: u32,
-) -> Result<(), AllocError>
-    requires distinct { HasDistinctKeys nat_eq map.old.entries }
-    requires within { index ≤ length map.old.entries }
-    ensures { OnOk result (is_some (index_of nat_eq map.new.entries key) ≡ true) }
-{
-    map.insert_at(index, key, value)?;
-    Ok(())
-}
-
-pub fn insert_at_then_index(
-    map: &mut VecMap<u32, u32>,
-    index: usize,
-    key: u32,
-    value: u32,
-) -> Result<(), AllocError>
-    requires distinct { HasDistinctKeys nat_eq map.old.entries }
-    requires within { index ≤ length map.old.entries }
-    ensures { OnOk result (lookup nat_eq map.old.entries key ≡ None → index_of nat_eq
-        map.new.entries key ≡ Some index) }
-{
-    map.insert_at(index, key, value)?;
-    Ok(())
-}
-
-pub fn insert_at_then_pair(
-    map: &mut VecMap<u32, u32>,
-    index: usize,
-    key: u32,
-    value: u32,
-) -> Result<(), AllocError>
-    requires within { index ≤ length map.old.entries }
-    ensures { OnOk result (lookup nat_eq map.old.entries key ≡ None → slice_get map.new.entries
+    ensures empty { OnOk result (0 < length map.new.entries) }
+    ensures unchanged { OnErr result (map.new ≡ map.old) }
+    ensures length { OnOk result (length map.new.entries ≡ (if is_some (lookup nat_eq
+        map.old.entries key) then length map.old.entries else length map.old.entries + 1)) }
+    ensures pair { OnOk result (lookup nat_eq map.old.entries key ≡ None → slice_get map.new.entries
         index ≡ Some (key, value)) }
-{
-    map.insert_at(index, key, value)?;
-    Ok(())
-}
-
-pub fn insert_at_then_keys(
-    map: &mut VecMap<u32, u32>,
-    index: usize,
-    key: u32,
-    value: u32,
-) -> Result<(), AllocError>
-    requires within { index ≤ length map.old.entries }
-    ensures { OnOk result (lookup nat_eq map.old.entries key ≡ None → keys_of map.new.entries
+    ensures keys { OnOk result (lookup nat_eq map.old.entries key ≡ None → keys_of map.new.entries
         ≡ insert (keys_of map.old.entries) index key) }
-{
-    map.insert_at(index, key, value)?;
-    Ok(())
-}
-
-pub fn insert_at_then_order(
-    map: &mut VecMap<u32, u32>,
-    index: usize,
-    key: u32,
-    value: u32,
-) -> Result<(), AllocError>
-    requires within { index ≤ length map.old.entries }
-    ensures { OnOk result ((i : ℕ) → lookup nat_eq map.old.entries key ≡ None → i < index
+    ensures order { OnOk result ((i : ℕ) → lookup nat_eq map.old.entries key ≡ None → i < index
         → slice_get map.new.entries i ≡ slice_get map.old.entries i) }
 {
     map.insert_at(index, key, value)?;
     Ok(())
 }
 
-pub fn insert_at_then_distinct_generic<K: Eq + Drop>(
-    map: &mut VecMap<K, u32>,
-    index: usize,
-    key: K,
-    value: u32,
-) -> Result<(), AllocError>
-    requires distinct { HasDistinctKeys K.eq map.old.entries }
-    requires within { index ≤ length map.old.entries }
-    ensures { OnOk result (HasDistinctKeys K.eq map.new.entries) }
-{
-    map.insert_at(index, key, value)?;
-    Ok(())
-}
-
-pub fn insert_at_then_key_generic<K: Eq + Drop>(
-    map: &mut VecMap<K, u32>,
-    index: usize,
-    key: K,
-    value: u32,
-) -> Result<(), AllocError>
-    requires distinct { HasDistinctKeys K.eq map.old.entries }
-    requires within { index ≤ length map.old.entries }
-    ensures { OnOk result (lookup K.eq map.new.entries key ≡ Some value) }
-{
-    map.insert_at(index, key, value)?;
-    Ok(())
-}
-
-pub fn insert_at_then_lookup_generic<K: Eq + Drop>(
-    map: &mut VecMap<K, u32>,
-    index: usize,
-    key: K,
-    value: u32,
-) -> Result<(), AllocError>
-    requires distinct { HasDistinctKeys K.eq map.old.entries }
-    requires within { index ≤ length map.old.entries }
-    ensures { OnOk result ((q : K) → lookup K.eq map.new.entries q ≡ (if K.eq key q then Some value
-        else lookup K.eq map.old.entries q)) }
-{
-    map.insert_at(index, key, value)?;
-    Ok(())
-}
-
-pub fn insert_at_then_pair_generic<K: Eq + Drop>(
-    map: &mut VecMap<K, u32>,
-    index: usize,
-    key: K,
-    value: u32,
-) -> Result<(), AllocError>
-    requires within { index ≤ length map.old.entries }
-    ensures { OnOk result (lookup K.eq map.old.entries key ≡ None → slice_get map.new.entries index
-        ≡ Some (key, value)) }
-{
-    map.insert_at(index, key, value)?;
-    Ok(())
-}
-
-pub fn insert_unique_then_key(
+pub fn insert_at_then_if_distinct(
     map: &mut VecMap<u32, u32>,
+    index: usize,
     key: u32,
     value: u32,
 ) -> Result<(), AllocError>
-    requires absent { lookup nat_eq map.old.entries key ≡ None }
-    ensures { OnOk result (lookup nat_eq map.new.entries key ≡ Some value) }
-{
-    map.insert_unique(key, value)?;
-    Ok(())
-}
-
-pub fn insert_unique_then_lookup(
-    map: &mut VecMap<u32, u32>,
-    key: u32,
-    value: u32,
-) -> Result<(), AllocError>
-    requires absent { lookup nat_eq map.old.entries key ≡ None }
-    ensures { OnOk result ((q : ℕ) → lookup nat_eq map.new.entries q ≡ (if nat_eq key q
+    requires distinct { HasDistinctKeys nat_eq map.old.entries }
+    requires within { index ≤ length map.old.entries }
+    ensures distinct { OnOk result (HasDistinctKeys nat_eq map.new.entries) }
+    ensures key { OnOk result (lookup nat_eq map.new.entries key ≡ Some value) }
+    ensures lookup { OnOk result ((q : ℕ) → lookup nat_eq map.new.entries q ≡ (if nat_eq key q
         then Some value else lookup nat_eq map.old.entries q)) }
+    ensures present { OnOk result (is_some (index_of nat_eq map.new.entries key) ≡ true) }
+    ensures index { OnOk result (lookup nat_eq map.old.entries key ≡ None → index_of nat_eq
+        map.new.entries key ≡ Some index) }
 {
-    map.insert_unique(key, value)?;
+    map.insert_at(index, key, value)?;
     Ok(())
 }
 
-pub fn insert_unique_then_distinct(
-    map: &mut VecMap<u32, u32>,
-    key: u32,
+pub fn insert_at_then_if_distinct_generic<K: Eq + Drop>(
+    map: &mut VecMap<K, u32>,
+    index: usize,
+    key: K,
     value: u32,
 ) -> Result<(), AllocError>
-    requires distinct { HasDistinctKeys nat_eq map.old.entries }
-    requires absent { lookup nat_eq map.old.entries key ≡ None }
-    ensures { OnOk result (HasDistinctKeys nat_eq map.new.entries) }
+    requires distinct { HasDistinctKeys K.eq map.old.entries }
+    requires within { index ≤ length map.old.entries }
+    ensures distinct { OnOk result (HasDistinctKeys K.eq map.new.entries) }
+    ensures key { OnOk result (lookup K.eq map.new.entries key ≡ Some value) }
+    ensures lookup { OnOk result ((q : K) → lookup K.eq map.new.entries q ≡ (if K.eq key q
+        then Some value else lookup K.eq map.old.entries q)) }
 {
-    map.insert_unique(key, value)?;
+    map.insert_at(index, key, value)?;
     Ok(())
 }
 
-pub fn insert_unique_then_empty(
-    map: &mut VecMap<u32, u32>,
-    key: u32,
+pub fn insert_at_then_generic<K: Eq + Drop>(
+    map: &mut VecMap<K, u32>,
+    index: usize,
+    key: K,
     value: u32,
 ) -> Result<(), AllocError>
-    requires absent { lookup nat_eq map.old.entries key ≡ None }
-    ensures { OnOk result (0 < length map.new.entries) }
+    requires within { index ≤ length map.old.entries }
+    ensures pair { OnOk result (lookup K.eq map.old.entries key ≡ None → slice_get map.new.entries
+        index ≡ Some (key, value)) }
 {
-    map.insert_unique(key, value)?;
+    map.insert_at(index, key, value)?;
     Ok(())
 }
 
-pub fn insert_unique_then_unchanged(
-    map: &mut VecMap<u32, u32>,
-    key: u32,
-    value: u32,
-) -> Result<(), AllocError>
-    requires absent { lookup nat_eq map.old.entries key ≡ None }
-    ensures { OnErr result (map.new ≡ map.old) }
-{
-    map.insert_unique(key, value)?;
-    Ok(())
-}
-
-pub fn insert_unique_then_present(
-    map: &mut VecMap<u32, u32>,
-    key: u32,
-    value: u32,
-) -> Result<(), AllocError>
-    requires absent { lookup nat_eq map.old.entries key ≡ None }
-    ensures { OnOk result (is_some (lookup nat_eq map.new.entries key) ≡ true) }
-{
-    map.insert_unique(key, value)?;
-    Ok(())
-}
-
-pub fn insert_unique_then_indices(
+pub fn insert_unique_then(
     map: &mut VecMap<u32, u32>,
     key: u32,
     value: u32,
 ) -> Result<(), AllocError>
     requires absent { lookup nat_eq map.old.entries key ≡ None }
-    ensures { OnOk result ((q : ℕ) (i : ℕ) → index_of nat_eq map.old.entries q ≡ Some i → index_of
-        nat_eq map.new.entries q ≡ Some i) }
-{
-    map.insert_unique(key, value)?;
-    Ok(())
-}
-
-pub fn insert_unique_then_index(
-    map: &mut VecMap<u32, u32>,
-    key: u32,
-    value: u32,
-) -> Result<(), AllocError>
-    requires absent { lookup nat_eq map.old.entries key ≡ None }
-    ensures { OnOk result (index_of nat_eq map.new.entries key ≡ Some (length map.old.entries)) }
-{
-    map.insert_unique(key, value)?;
-    Ok(())
-}
-
-pub fn insert_unique_then_pair(
-    map: &mut VecMap<u32, u32>,
-    key: u32,
-    value: u32,
-) -> Result<(), AllocError>
-    requires absent { lookup nat_eq map.old.entries key ≡ None }
-    ensures { OnOk result (slice_get map.new.entries (length map.old.entries) ≡ Some (key, value)) }
-{
-    map.insert_unique(key, value)?;
-    Ok(())
-}
-
-pub fn insert_unique_then_length(
-    map: &mut VecMap<u32, u32>,
-    key: u32,
-    value: u32,
-) -> Result<(), AllocError>
-    requires absent { lookup nat_eq map.old.entries key ≡ None }
-    ensures { OnOk result (length map.new.entries ≡ length map.old.entries + 1) }
-{
-    map.insert_unique(key, value)?;
-    Ok(())
-}
-
-pub fn insert_unique_then_keys(
-    map: &mut VecMap<u32, u32>,
-    key: u32,
-    value: u32,
-) -> Result<(), AllocError>
-    requires absent { lookup nat_eq map.old.entries key ≡ None }
-    ensures { OnOk result (keys_of map.new.entries ≡ keys_of map.old.entries ++ key ∷ []) }
-{
-    map.insert_unique(key, value)?;
-    Ok(())
-}
-
-pub fn insert_unique_then_values(
-    map: &mut VecMap<u32, u32>,
-    key: u32,
-    value: u32,
-) -> Result<(), AllocError>
-    requires absent { lookup nat_eq map.old.entries key ≡ None }
-    ensures { OnOk result (values_of map.new.entries ≡ values_of map.old.entries ++ value ∷ []) }
-{
-    map.insert_unique(key, value)?;
-    Ok(())
-}
-
-pub fn insert_unique_then_ends(
-    map: &mut VecMap<u32, u32>,
-    key: u32,
-    value: u32,
-) -> Result<(), AllocError>
-    requires absent { lookup nat_eq map.old.entries key ≡ None }
-    ensures { OnOk result (slice_get map.new.entries (length map.new.entries - 1)
+    ensures key { OnOk result (lookup nat_eq map.new.entries key ≡ Some value) }
+    ensures lookup { OnOk result ((q : ℕ) → lookup nat_eq map.new.entries q ≡ (if nat_eq key q
+        then Some value else lookup nat_eq map.old.entries q)) }
+    ensures empty { OnOk result (0 < length map.new.entries) }
+    ensures unchanged { OnErr result (map.new ≡ map.old) }
+    ensures present { OnOk result (is_some (lookup nat_eq map.new.entries key) ≡ true) }
+    ensures indices { OnOk result ((q : ℕ) (i : ℕ) → index_of nat_eq map.old.entries q ≡ Some i
+        → index_of nat_eq map.new.entries q ≡ Some i) }
+    ensures index { OnOk result (index_of nat_eq map.new.entries key ≡ Some (length
+        map.old.entries)) }
+    ensures pair { OnOk result (slice_get map.new.entries (length map.old.entries)
+        ≡ Some (key, value)) }
+    ensures length { OnOk result (length map.new.entries ≡ length map.old.entries + 1) }
+    ensures keys { OnOk result (keys_of map.new.entries ≡ keys_of map.old.entries ++ key ∷ []) }
+    ensures values { OnOk result (values_of map.new.entries ≡ values_of map.old.entries ++ value
+        ∷ []) }
+    ensures ends { OnOk result (slice_get map.new.entries (length map.new.entries - 1)
         ≡ Some (key, value)) }
 {
     map.insert_unique(key, value)?;
     Ok(())
 }
 
-pub fn insert_unique_then_key_generic<K: Eq + Drop>(
-    map: &mut VecMap<K, u32>,
-    key: K,
+pub fn insert_unique_then_if_distinct(
+    map: &mut VecMap<u32, u32>,
+    key: u32,
     value: u32,
 ) -> Result<(), AllocError>
-    requires absent { lookup K.eq map.old.entries key ≡ None }
-    ensures { OnOk result (lookup K.eq map.new.entries key ≡ Some value) }
+    requires distinct { HasDistinctKeys nat_eq map.old.entries }
+    requires absent { lookup nat_eq map.old.entries key ≡ None }
+    ensures distinct { OnOk result (HasDistinctKeys nat_eq map.new.entries) }
 {
     map.insert_unique(key, value)?;
     Ok(())
 }
 
-pub fn insert_unique_then_lookup_generic<K: Eq + Drop>(
+pub fn insert_unique_then_generic<K: Eq + Drop>(
     map: &mut VecMap<K, u32>,
     key: K,
     value: u32,
 ) -> Result<(), AllocError>
     requires absent { lookup K.eq map.old.entries key ≡ None }
-    ensures { OnOk result ((q : K) → lookup K.eq map.new.entries q ≡ (if K.eq key q then Some value
-        else lookup K.eq map.old.entries q)) }
+    ensures key { OnOk result (lookup K.eq map.new.entries key ≡ Some value) }
+    ensures lookup { OnOk result ((q : K) → lookup K.eq map.new.entries q ≡ (if K.eq key q
+        then Some value else lookup K.eq map.old.entries q)) }
+    ensures present { OnOk result (is_some (lookup K.eq map.new.entries key) ≡ true) }
+    ensures index { OnOk result (index_of K.eq map.new.entries key ≡ Some (length map.old.entries)) }
+    ensures length { OnOk result (length map.new.entries ≡ length map.old.entries + 1) }
 {
     map.insert_unique(key, value)?;
     Ok(())
 }
 
-pub fn insert_unique_then_distinct_generic<K: Eq + Drop>(
+pub fn insert_unique_then_if_distinct_generic<K: Eq + Drop>(
     map: &mut VecMap<K, u32>,
     key: K,
     value: u32,
 ) -> Result<(), AllocError>
     requires distinct { HasDistinctKeys K.eq map.old.entries }
     requires absent { lookup K.eq map.old.entries key ≡ None }
-    ensures { OnOk result (HasDistinctKeys K.eq map.new.entries) }
+    ensures distinct { OnOk result (HasDistinctKeys K.eq map.new.entries) }
 {
     map.insert_unique(key, value)?;
     Ok(())
 }
 
-pub fn insert_unique_then_present_generic<K: Eq + Drop>(
-    map: &mut VecMap<K, u32>,
-    key: K,
-    value: u32,
-) -> Result<(), AllocError>
-    requires absent { lookup K.eq map.old.entries key ≡ None }
-    ensures { OnOk result (is_some (lookup K.eq map.new.entries key) ≡ true) }
-{
-    map.insert_unique(key, value)?;
-    Ok(())
-}
-
-pub fn insert_unique_then_index_generic<K: Eq + Drop>(
-    map: &mut VecMap<K, u32>,
-    key: K,
-    value: u32,
-) -> Result<(), AllocError>
-    requires absent { lookup K.eq map.old.entries key ≡ None }
-    ensures { OnOk result (index_of K.eq map.new.entries key ≡ Some (length map.old.entries)) }
-{
-    map.insert_unique(key, value)?;
-    Ok(())
-}
-
-pub fn insert_unique_then_length_generic<K: Eq + Drop>(
-    map: &mut VecMap<K, u32>,
-    key: K,
-    value: u32,
-) -> Result<(), AllocError>
-    requires absent { lookup K.eq map.old.entries key ≡ None }
-    ensures { OnOk result (length map.new.entries ≡ length map.old.entries + 1) }
-{
-    map.insert_unique(key, value)?;
-    Ok(())
-}
-
-pub fn index_or_try_insert_with_then_key(
+pub fn index_or_try_insert_with_then(
     map: &mut VecMap<u32, u32>,
     key: u32,
     value: u32,
 ) -> Result<(), AllocError>
-    ensures { OnOk result (lookup nat_eq map.old.entries key ≡ None → lookup nat_eq map.new.entries
-        key ≡ Some value) }
+    ensures key { OnOk result (lookup nat_eq map.old.entries key ≡ None → lookup nat_eq
+        map.new.entries key ≡ Some value) }
+    ensures lookup { OnOk result ((q : ℕ) → nat_eq key q ≡ false → lookup nat_eq map.new.entries q
+        ≡ lookup nat_eq map.old.entries q) }
+    ensures present { OnOk result (is_some (index_of nat_eq map.new.entries key) ≡ true) }
+    ensures empty { OnOk result (0 < length map.new.entries) }
+    ensures index { OnOk result (index_of nat_eq map.new.entries key ≡ Some (index_or_length nat_eq
+        map.old.entries key)) }
+    ensures indices { OnOk result ((q : ℕ) (i : ℕ) → index_of nat_eq map.old.entries q ≡ Some i
+        → index_of nat_eq map.new.entries q ≡ Some i) }
+    ensures length { OnOk result (length map.new.entries ≡ (if is_some (lookup nat_eq
+        map.old.entries key) then length map.old.entries else length map.old.entries + 1)) }
+    ensures ends { OnOk result (lookup nat_eq map.old.entries key ≡ None → slice_get map.new.entries
+        (length map.new.entries - 1) ≡ Some (key, value)) }
+    ensures unchanged { OnOk result (IsSome (lookup nat_eq map.old.entries key) → map.new ≡ map.old) }
 {
     let pair = (key, value);
     map.index_or_try_insert_with(
@@ -469,154 +182,13 @@ pub fn index_or_try_insert_with_then_key(
     Ok(())
 }
 
-pub fn index_or_try_insert_with_then_lookup(
-    map: &mut VecMap<u32, u32>,
-    key: u32,
-    value: u32,
-) -> Result<(), AllocError>
-    ensures { OnOk result ((q : ℕ) → nat_eq key q ≡ false → lookup nat_eq map.new.entries q ≡ lookup
-        nat_eq map.old.entries q) }
-{
-    let pair = (key, value);
-    map.index_or_try_insert_with(
-        &key,
-        || -> Result<(u32, u32), Refused<(u32, u32)>>
-            ensures { result ≡ Ok pair }
-        { Ok(pair) },
-    )?;
-    Ok(())
-}
-
-pub fn index_or_try_insert_with_then_present(
-    map: &mut VecMap<u32, u32>,
-    key: u32,
-    value: u32,
-) -> Result<(), AllocError>
-    ensures { OnOk result (is_some (index_of nat_eq map.new.entries key) ≡ true) }
-{
-    let pair = (key, value);
-    map.index_or_try_insert_with(
-        &key,
-        || -> Result<(u32, u32), Refused<(u32, u32)>>
-            ensures { result ≡ Ok pair }
-        { Ok(pair) },
-    )?;
-    Ok(())
-}
-
-pub fn index_or_try_insert_with_then_distinct(
+pub fn index_or_try_insert_with_then_if_distinct(
     map: &mut VecMap<u32, u32>,
     key: u32,
     value: u32,
 ) -> Result<(), AllocError>
     requires distinct { HasDistinctKeys nat_eq map.old.entries }
-    ensures { OnOk result (HasDistinctKeys nat_eq map.new.entries) }
-{
-    let pair = (key, value);
-    map.index_or_try_insert_with(
-        &key,
-        || -> Result<(u32, u32), Refused<(u32, u32)>>
-            ensures { result ≡ Ok pair }
-        { Ok(pair) },
-    )?;
-    Ok(())
-}
-
-pub fn index_or_try_insert_with_then_empty(
-    map: &mut VecMap<u32, u32>,
-    key: u32,
-    value: u32,
-) -> Result<(), AllocError>
-    ensures { OnOk result (0 < length map.new.entries) }
-{
-    let pair = (key, value);
-    map.index_or_try_insert_with(
-        &key,
-        || -> Result<(u32, u32), Refused<(u32, u32)>>
-            ensures { result ≡ Ok pair }
-        { Ok(pair) },
-    )?;
-    Ok(())
-}
-
-pub fn index_or_try_insert_with_then_index(
-    map: &mut VecMap<u32, u32>,
-    key: u32,
-    value: u32,
-) -> Result<(), AllocError>
-    ensures { OnOk result (index_of nat_eq map.new.entries key ≡ Some (index_or_length nat_eq
-        map.old.entries key)) }
-{
-    let pair = (key, value);
-    map.index_or_try_insert_with(
-        &key,
-        || -> Result<(u32, u32), Refused<(u32, u32)>>
-            ensures { result ≡ Ok pair }
-        { Ok(pair) },
-    )?;
-    Ok(())
-}
-
-pub fn index_or_try_insert_with_then_indices(
-    map: &mut VecMap<u32, u32>,
-    key: u32,
-    value: u32,
-) -> Result<(), AllocError>
-    ensures { OnOk result ((q : ℕ) (i : ℕ) → index_of nat_eq map.old.entries q ≡ Some i → index_of
-        nat_eq map.new.entries q ≡ Some i) }
-{
-    let pair = (key, value);
-    map.index_or_try_insert_with(
-        &key,
-        || -> Result<(u32, u32), Refused<(u32, u32)>>
-            ensures { result ≡ Ok pair }
-        { Ok(pair) },
-    )?;
-    Ok(())
-}
-
-pub fn index_or_try_insert_with_then_length(
-    map: &mut VecMap<u32, u32>,
-    key: u32,
-    value: u32,
-) -> Result<(), AllocError>
-    ensures { OnOk result (length map.new.entries ≡ (if is_some (lookup nat_eq map.old.entries key)
-        then length map.old.entries else length map.old.entries + 1)) }
-{
-    let pair = (key, value);
-    map.index_or_try_insert_with(
-        &key,
-        || -> Result<(u32, u32), Refused<(u32, u32)>>
-            ensures { result ≡ Ok pair }
-        { Ok(pair) },
-    )?;
-    Ok(())
-}
-
-pub fn index_or_try_insert_with_then_ends(
-    map: &mut VecMap<u32, u32>,
-    key: u32,
-    value: u32,
-) -> Result<(), AllocError>
-    ensures { OnOk result (lookup nat_eq map.old.entries key ≡ None → slice_get map.new.entries
-        (length map.new.entries - 1) ≡ Some (key, value)) }
-{
-    let pair = (key, value);
-    map.index_or_try_insert_with(
-        &key,
-        || -> Result<(u32, u32), Refused<(u32, u32)>>
-            ensures { result ≡ Ok pair }
-        { Ok(pair) },
-    )?;
-    Ok(())
-}
-
-pub fn index_or_try_insert_with_then_unchanged(
-    map: &mut VecMap<u32, u32>,
-    key: u32,
-    value: u32,
-) -> Result<(), AllocError>
-    ensures { OnOk result (IsSome (lookup nat_eq map.old.entries key) → map.new ≡ map.old) }
+    ensures distinct { OnOk result (HasDistinctKeys nat_eq map.new.entries) }
 {
     let pair = (key, value);
     map.index_or_try_insert_with(

@@ -6,145 +6,41 @@ ghost use Rattle.vecmap.specs.Pairs.{HasDistinctKeys, index_of, lookup, value_at
 
 use vecmap::VecMap;
 
-pub fn index_mut_at_then_key(map: &mut VecMap<u32, u32>, index: usize, value: u32)
+pub fn index_mut_at_then_if_distinct(map: &mut VecMap<u32, u32>, index: usize, value: u32)
     requires distinct { HasDistinctKeys nat_eq map.old.entries }
     requires within { index < length map.old.entries }
-    ensures { (k : ℕ) → index_of nat_eq map.old.entries k ≡ Some index → lookup nat_eq
+    ensures key { (k : ℕ) → index_of nat_eq map.old.entries k ≡ Some index → lookup nat_eq
         map.new.entries k ≡ Some value }
-{
-    map[index] = value;
-}
-
-pub fn index_mut_at_then_pair(map: &mut VecMap<u32, u32>, index: usize, value: u32)
-    requires within { index < length map.old.entries }
-    ensures { (i : ℕ) → value_at map.new.entries i ≡ (if nat_eq i index then Some value
-        else value_at map.old.entries i) }
-{
-    map[index] = value;
-}
-
-pub fn index_mut_at_then_length(map: &mut VecMap<u32, u32>, index: usize, value: u32)
-    requires within { index < length map.old.entries }
-    ensures { length map.new.entries ≡ length map.old.entries }
-{
-    map[index] = value;
-}
-
-pub fn index_mut_at_then_keys(map: &mut VecMap<u32, u32>, index: usize, value: u32)
-    requires within { index < length map.old.entries }
-    ensures { keys_of map.new.entries ≡ keys_of map.old.entries }
-{
-    map[index] = value;
-}
-
-pub fn index_mut_at_then_distinct(map: &mut VecMap<u32, u32>, index: usize, value: u32)
-    requires distinct { HasDistinctKeys nat_eq map.old.entries }
-    requires within { index < length map.old.entries }
-    ensures { HasDistinctKeys nat_eq map.new.entries }
-{
-    map[index] = value;
-}
-
-pub fn index_mut_at_then_empty(map: &mut VecMap<u32, u32>, index: usize, value: u32)
-    requires within { index < length map.old.entries }
-    ensures { 0 < length map.new.entries }
-{
-    map[index] = value;
-}
-
-pub fn index_mut_at_then_lookup(map: &mut VecMap<u32, u32>, index: usize, value: u32)
-    requires distinct { HasDistinctKeys nat_eq map.old.entries }
-    requires within { index < length map.old.entries }
-    ensures { (k q : ℕ) → index_of nat_eq map.old.entries k ≡ Some index → lookup nat_eq
+    ensures distinct { HasDistinctKeys nat_eq map.new.entries }
+    ensures lookup { (k q : ℕ) → index_of nat_eq map.old.entries k ≡ Some index → lookup nat_eq
         map.new.entries q ≡ (if nat_eq k q then Some value else lookup nat_eq map.old.entries q) }
 {
     map[index] = value;
 }
 
-pub fn index_mut_at_then_present(map: &mut VecMap<u32, u32>, index: usize, value: u32)
+pub fn index_mut_at_then(map: &mut VecMap<u32, u32>, index: usize, value: u32)
     requires within { index < length map.old.entries }
-    ensures { (q : ℕ) → is_some (index_of nat_eq map.new.entries q) ≡ is_some (index_of nat_eq
-        map.old.entries q) }
-{
-    map[index] = value;
-}
-
-pub fn index_mut_at_then_indices(map: &mut VecMap<u32, u32>, index: usize, value: u32)
-    requires within { index < length map.old.entries }
-    ensures { (q : ℕ) → index_of nat_eq map.new.entries q ≡ index_of nat_eq map.old.entries q }
-{
-    map[index] = value;
-}
-
-pub fn index_mut_at_then_values(map: &mut VecMap<u32, u32>, index: usize, value: u32)
-    requires within { index < length map.old.entries }
-    ensures { values_of map.new.entries ≡ slice_set (values_of map.old.entries) index value }
-{
-    map[index] = value;
-}
-
-pub fn get_value_at_mut_then_key(map: &mut VecMap<u32, u32>, index: usize, value: u32)
-    requires distinct { HasDistinctKeys nat_eq map.old.entries }
-    requires within { index < length map.old.entries }
-    ensures { (k : ℕ) → index_of nat_eq map.old.entries k ≡ Some index → lookup nat_eq
-        map.new.entries k ≡ Some value }
-{
-    if let Some(stored) = map.get_value_at_mut(index) {
-        *stored = value;
-    }
-}
-
-pub fn get_value_at_mut_then_pair(map: &mut VecMap<u32, u32>, index: usize, value: u32)
-    requires within { index < length map.old.entries }
-    ensures { (i : ℕ) → value_at map.new.entries i ≡ (if nat_eq i index then Some value
+    ensures pair { (i : ℕ) → value_at map.new.entries i ≡ (if nat_eq i index then Some value
         else value_at map.old.entries i) }
+    ensures length { length map.new.entries ≡ length map.old.entries }
+    ensures keys { keys_of map.new.entries ≡ keys_of map.old.entries }
+    ensures empty { 0 < length map.new.entries }
+    ensures present { (q : ℕ) → is_some (index_of nat_eq map.new.entries q) ≡ is_some (index_of
+        nat_eq map.old.entries q) }
+    ensures indices { (q : ℕ) → index_of nat_eq map.new.entries q ≡ index_of nat_eq map.old.entries
+        q }
+    ensures values { values_of map.new.entries ≡ slice_set (values_of map.old.entries) index value }
 {
-    if let Some(stored) = map.get_value_at_mut(index) {
-        *stored = value;
-    }
+    map[index] = value;
 }
 
-pub fn get_value_at_mut_then_length(map: &mut VecMap<u32, u32>, index: usize, value: u32)
-    requires within { index < length map.old.entries }
-    ensures { length map.new.entries ≡ length map.old.entries }
-{
-    if let Some(stored) = map.get_value_at_mut(index) {
-        *stored = value;
-    }
-}
-
-pub fn get_value_at_mut_then_keys(map: &mut VecMap<u32, u32>, index: usize, value: u32)
-    requires within { index < length map.old.entries }
-    ensures { keys_of map.new.entries ≡ keys_of map.old.entries }
-{
-    if let Some(stored) = map.get_value_at_mut(index) {
-        *stored = value;
-    }
-}
-
-pub fn get_value_at_mut_then_distinct(map: &mut VecMap<u32, u32>, index: usize, value: u32)
+pub fn get_value_at_mut_then_if_distinct(map: &mut VecMap<u32, u32>, index: usize, value: u32)
     requires distinct { HasDistinctKeys nat_eq map.old.entries }
     requires within { index < length map.old.entries }
-    ensures { HasDistinctKeys nat_eq map.new.entries }
-{
-    if let Some(stored) = map.get_value_at_mut(index) {
-        *stored = value;
-    }
-}
-
-pub fn get_value_at_mut_then_empty(map: &mut VecMap<u32, u32>, index: usize, value: u32)
-    requires within { index < length map.old.entries }
-    ensures { 0 < length map.new.entries }
-{
-    if let Some(stored) = map.get_value_at_mut(index) {
-        *stored = value;
-    }
-}
-
-pub fn get_value_at_mut_then_lookup(map: &mut VecMap<u32, u32>, index: usize, value: u32)
-    requires distinct { HasDistinctKeys nat_eq map.old.entries }
-    requires within { index < length map.old.entries }
-    ensures { (k q : ℕ) → index_of nat_eq map.old.entries k ≡ Some index → lookup nat_eq
+    ensures key { (k : ℕ) → index_of nat_eq map.old.entries k ≡ Some index → lookup nat_eq
+        map.new.entries k ≡ Some value }
+    ensures distinct { HasDistinctKeys nat_eq map.new.entries }
+    ensures lookup { (k q : ℕ) → index_of nat_eq map.old.entries k ≡ Some index → lookup nat_eq
         map.new.entries q ≡ (if nat_eq k q then Some value else lookup nat_eq map.old.entries q) }
 {
     if let Some(stored) = map.get_value_at_mut(index) {
@@ -152,306 +48,144 @@ pub fn get_value_at_mut_then_lookup(map: &mut VecMap<u32, u32>, index: usize, va
     }
 }
 
-pub fn get_value_at_mut_then_present(map: &mut VecMap<u32, u32>, index: usize, value: u32)
+pub fn get_value_at_mut_then(map: &mut VecMap<u32, u32>, index: usize, value: u32)
     requires within { index < length map.old.entries }
-    ensures { (q : ℕ) → is_some (index_of nat_eq map.new.entries q) ≡ is_some (index_of nat_eq
-        map.old.entries q) }
-{
-    if let Some(stored) = map.get_value_at_mut(index) {
-        *stored = value;
-    }
-}
-
-pub fn get_value_at_mut_then_indices(map: &mut VecMap<u32, u32>, index: usize, value: u32)
-    requires within { index < length map.old.entries }
-    ensures { (q : ℕ) → index_of nat_eq map.new.entries q ≡ index_of nat_eq map.old.entries q }
-{
-    if let Some(stored) = map.get_value_at_mut(index) {
-        *stored = value;
-    }
-}
-
-pub fn get_value_at_mut_then_values(map: &mut VecMap<u32, u32>, index: usize, value: u32)
-    requires within { index < length map.old.entries }
-    ensures { values_of map.new.entries ≡ slice_set (values_of map.old.entries) index value }
-{
-    if let Some(stored) = map.get_value_at_mut(index) {
-        *stored = value;
-    }
-}
-
-pub fn get_index_mut_then_key(map: &mut VecMap<u32, u32>, index: usize, value: u32)
-    requires distinct { HasDistinctKeys nat_eq map.old.entries }
-    requires within { index < length map.old.entries }
-    ensures { (k : ℕ) → index_of nat_eq map.old.entries k ≡ Some index → lookup nat_eq
-        map.new.entries k ≡ Some value }
-{
-    if let Some((_key, stored)) = map.get_index_mut(index) {
-        *stored = value;
-    }
-}
-
-pub fn get_index_mut_then_lookup(map: &mut VecMap<u32, u32>, index: usize, value: u32)
-    requires distinct { HasDistinctKeys nat_eq map.old.entries }
-    requires within { index < length map.old.entries }
-    ensures { (k q : ℕ) → index_of nat_eq map.old.entries k ≡ Some index → lookup nat_eq
-        map.new.entries q ≡ (if nat_eq k q then Some value else lookup nat_eq map.old.entries q) }
-{
-    if let Some((_key, stored)) = map.get_index_mut(index) {
-        *stored = value;
-    }
-}
-
-pub fn get_index_mut_then_present(map: &mut VecMap<u32, u32>, index: usize, value: u32)
-    requires within { index < length map.old.entries }
-    ensures { (q : ℕ) → is_some (index_of nat_eq map.new.entries q) ≡ is_some (index_of nat_eq
-        map.old.entries q) }
-{
-    if let Some((_key, stored)) = map.get_index_mut(index) {
-        *stored = value;
-    }
-}
-
-pub fn get_index_mut_then_indices(map: &mut VecMap<u32, u32>, index: usize, value: u32)
-    requires within { index < length map.old.entries }
-    ensures { (q : ℕ) → index_of nat_eq map.new.entries q ≡ index_of nat_eq map.old.entries q }
-{
-    if let Some((_key, stored)) = map.get_index_mut(index) {
-        *stored = value;
-    }
-}
-
-pub fn get_index_mut_then_pair(map: &mut VecMap<u32, u32>, index: usize, value: u32)
-    requires within { index < length map.old.entries }
-    ensures { (i : ℕ) → value_at map.new.entries i ≡ (if nat_eq i index then Some value
+    ensures pair { (i : ℕ) → value_at map.new.entries i ≡ (if nat_eq i index then Some value
         else value_at map.old.entries i) }
+    ensures length { length map.new.entries ≡ length map.old.entries }
+    ensures keys { keys_of map.new.entries ≡ keys_of map.old.entries }
+    ensures empty { 0 < length map.new.entries }
+    ensures present { (q : ℕ) → is_some (index_of nat_eq map.new.entries q) ≡ is_some (index_of
+        nat_eq map.old.entries q) }
+    ensures indices { (q : ℕ) → index_of nat_eq map.new.entries q ≡ index_of nat_eq map.old.entries
+        q }
+    ensures values { values_of map.new.entries ≡ slice_set (values_of map.old.entries) index value }
 {
-    if let Some((_key, stored)) = map.get_index_mut(index) {
+    if let Some(stored) = map.get_value_at_mut(index) {
         *stored = value;
     }
 }
 
-pub fn get_index_mut_then_length(map: &mut VecMap<u32, u32>, index: usize, value: u32)
-    requires within { index < length map.old.entries }
-    ensures { length map.new.entries ≡ length map.old.entries }
-{
-    if let Some((_key, stored)) = map.get_index_mut(index) {
-        *stored = value;
-    }
-}
-
-pub fn get_index_mut_then_keys(map: &mut VecMap<u32, u32>, index: usize, value: u32)
-    requires within { index < length map.old.entries }
-    ensures { keys_of map.new.entries ≡ keys_of map.old.entries }
-{
-    if let Some((_key, stored)) = map.get_index_mut(index) {
-        *stored = value;
-    }
-}
-
-pub fn get_index_mut_then_values(map: &mut VecMap<u32, u32>, index: usize, value: u32)
-    requires within { index < length map.old.entries }
-    ensures { values_of map.new.entries ≡ slice_set (values_of map.old.entries) index value }
-{
-    if let Some((_key, stored)) = map.get_index_mut(index) {
-        *stored = value;
-    }
-}
-
-pub fn get_index_mut_then_distinct(map: &mut VecMap<u32, u32>, index: usize, value: u32)
+pub fn get_index_mut_then_if_distinct(map: &mut VecMap<u32, u32>, index: usize, value: u32)
     requires distinct { HasDistinctKeys nat_eq map.old.entries }
     requires within { index < length map.old.entries }
-    ensures { HasDistinctKeys nat_eq map.new.entries }
+    ensures key { (k : ℕ) → index_of nat_eq map.old.entries k ≡ Some index → lookup nat_eq
+        map.new.entries k ≡ Some value }
+    ensures lookup { (k q : ℕ) → index_of nat_eq map.old.entries k ≡ Some index → lookup nat_eq
+        map.new.entries q ≡ (if nat_eq k q then Some value else lookup nat_eq map.old.entries q) }
+    ensures distinct { HasDistinctKeys nat_eq map.new.entries }
 {
     if let Some((_key, stored)) = map.get_index_mut(index) {
         *stored = value;
     }
 }
 
-pub fn get_index_mut_then_empty(map: &mut VecMap<u32, u32>, index: usize, value: u32)
+pub fn get_index_mut_then(map: &mut VecMap<u32, u32>, index: usize, value: u32)
     requires within { index < length map.old.entries }
-    ensures { 0 < length map.new.entries }
+    ensures present { (q : ℕ) → is_some (index_of nat_eq map.new.entries q) ≡ is_some (index_of
+        nat_eq map.old.entries q) }
+    ensures indices { (q : ℕ) → index_of nat_eq map.new.entries q ≡ index_of nat_eq map.old.entries
+        q }
+    ensures pair { (i : ℕ) → value_at map.new.entries i ≡ (if nat_eq i index then Some value
+        else value_at map.old.entries i) }
+    ensures length { length map.new.entries ≡ length map.old.entries }
+    ensures keys { keys_of map.new.entries ≡ keys_of map.old.entries }
+    ensures values { values_of map.new.entries ≡ slice_set (values_of map.old.entries) index value }
+    ensures empty { 0 < length map.new.entries }
 {
     if let Some((_key, stored)) = map.get_index_mut(index) {
         *stored = value;
     }
 }
 
-pub fn first_value_mut_then_pair(map: &mut VecMap<u32, u32>, value: u32)
+pub fn first_value_mut_then(map: &mut VecMap<u32, u32>, value: u32)
     requires not_empty { 0 < length map.old.entries }
-    ensures { value_at map.new.entries 0 ≡ Some value }
+    ensures pair { value_at map.new.entries 0 ≡ Some value }
+    ensures length { length map.new.entries ≡ length map.old.entries }
+    ensures keys { keys_of map.new.entries ≡ keys_of map.old.entries }
 {
     if let Some(stored) = map.first_value_mut() {
         *stored = value;
     }
 }
 
-pub fn first_value_mut_then_length(map: &mut VecMap<u32, u32>, value: u32)
-    requires not_empty { 0 < length map.old.entries }
-    ensures { length map.new.entries ≡ length map.old.entries }
-{
-    if let Some(stored) = map.first_value_mut() {
-        *stored = value;
-    }
-}
-
-pub fn first_value_mut_then_keys(map: &mut VecMap<u32, u32>, value: u32)
-    requires not_empty { 0 < length map.old.entries }
-    ensures { keys_of map.new.entries ≡ keys_of map.old.entries }
-{
-    if let Some(stored) = map.first_value_mut() {
-        *stored = value;
-    }
-}
-
-pub fn first_value_mut_then_distinct(map: &mut VecMap<u32, u32>, value: u32)
+pub fn first_value_mut_then_if_distinct(map: &mut VecMap<u32, u32>, value: u32)
     requires distinct { HasDistinctKeys nat_eq map.old.entries }
     requires not_empty { 0 < length map.old.entries }
-    ensures { HasDistinctKeys nat_eq map.new.entries }
+    ensures distinct { HasDistinctKeys nat_eq map.new.entries }
 {
     if let Some(stored) = map.first_value_mut() {
         *stored = value;
     }
 }
 
-pub fn first_mut_then_pair(map: &mut VecMap<u32, u32>, value: u32)
+pub fn first_mut_then(map: &mut VecMap<u32, u32>, value: u32)
     requires not_empty { 0 < length map.old.entries }
-    ensures { value_at map.new.entries 0 ≡ Some value }
+    ensures pair { value_at map.new.entries 0 ≡ Some value }
+    ensures length { length map.new.entries ≡ length map.old.entries }
+    ensures keys { keys_of map.new.entries ≡ keys_of map.old.entries }
 {
     if let Some((_key, stored)) = map.first_mut() {
         *stored = value;
     }
 }
 
-pub fn first_mut_then_length(map: &mut VecMap<u32, u32>, value: u32)
+pub fn last_value_mut_then(map: &mut VecMap<u32, u32>, value: u32)
     requires not_empty { 0 < length map.old.entries }
-    ensures { length map.new.entries ≡ length map.old.entries }
-{
-    if let Some((_key, stored)) = map.first_mut() {
-        *stored = value;
-    }
-}
-
-pub fn first_mut_then_keys(map: &mut VecMap<u32, u32>, value: u32)
-    requires not_empty { 0 < length map.old.entries }
-    ensures { keys_of map.new.entries ≡ keys_of map.old.entries }
-{
-    if let Some((_key, stored)) = map.first_mut() {
-        *stored = value;
-    }
-}
-
-pub fn last_value_mut_then_pair(map: &mut VecMap<u32, u32>, value: u32)
-    requires not_empty { 0 < length map.old.entries }
-    ensures { value_at map.new.entries (length map.new.entries - 1) ≡ Some value }
+    ensures pair { value_at map.new.entries (length map.new.entries - 1) ≡ Some value }
+    ensures length { length map.new.entries ≡ length map.old.entries }
+    ensures keys { keys_of map.new.entries ≡ keys_of map.old.entries }
 {
     if let Some(stored) = map.last_value_mut() {
         *stored = value;
     }
 }
 
-pub fn last_value_mut_then_length(map: &mut VecMap<u32, u32>, value: u32)
-    requires not_empty { 0 < length map.old.entries }
-    ensures { length map.new.entries ≡ length map.old.entries }
-{
-    if let Some(stored) = map.last_value_mut() {
-        *stored = value;
-    }
-}
-
-pub fn last_value_mut_then_keys(map: &mut VecMap<u32, u32>, value: u32)
-    requires not_empty { 0 < length map.old.entries }
-    ensures { keys_of map.new.entries ≡ keys_of map.old.entries }
-{
-    if let Some(stored) = map.last_value_mut() {
-        *stored = value;
-    }
-}
-
-pub fn last_value_mut_then_distinct(map: &mut VecMap<u32, u32>, value: u32)
+pub fn last_value_mut_then_if_distinct(map: &mut VecMap<u32, u32>, value: u32)
     requires distinct { HasDistinctKeys nat_eq map.old.entries }
     requires not_empty { 0 < length map.old.entries }
-    ensures { HasDistinctKeys nat_eq map.new.entries }
+    ensures distinct { HasDistinctKeys nat_eq map.new.entries }
 {
     if let Some(stored) = map.last_value_mut() {
         *stored = value;
     }
 }
 
-pub fn update_values_then_key(map: &mut VecMap<u32, u32>, value: u32)
-    ensures { (q : ℕ) → IsSome (lookup nat_eq map.old.entries q) → lookup nat_eq map.new.entries q
-        ≡ Some value }
+pub fn update_values_then(map: &mut VecMap<u32, u32>, value: u32)
+    ensures key { (q : ℕ) → IsSome (lookup nat_eq map.old.entries q) → lookup nat_eq map.new.entries
+        q ≡ Some value }
+    ensures lookup { (q : ℕ) → lookup nat_eq map.new.entries q ≡ option_map (λ _. value) (lookup
+        nat_eq map.old.entries q) }
+    ensures present { (q : ℕ) → is_some (index_of nat_eq map.new.entries q) ≡ is_some (index_of
+        nat_eq map.old.entries q) }
+    ensures indices { (q : ℕ) → index_of nat_eq map.new.entries q ≡ index_of nat_eq map.old.entries
+        q }
+    ensures pair { (i : ℕ) → i < length map.old.entries → value_at map.new.entries i ≡ Some value }
+    ensures length { length map.new.entries ≡ length map.old.entries }
+    ensures keys { keys_of map.new.entries ≡ keys_of map.old.entries }
+    ensures values { All (λ v. v ≡ value) (values_of map.new.entries) }
 {
     map.update_values(|_key, stored| *stored = value);
 }
 
-pub fn update_values_then_lookup(map: &mut VecMap<u32, u32>, value: u32)
-    ensures { (q : ℕ) → lookup nat_eq map.new.entries q ≡ option_map (λ _. value) (lookup nat_eq
-        map.old.entries q) }
-{
-    map.update_values(|_key, stored| *stored = value);
-}
-
-pub fn update_values_then_present(map: &mut VecMap<u32, u32>, value: u32)
-    ensures { (q : ℕ) → is_some (index_of nat_eq map.new.entries q) ≡ is_some (index_of nat_eq
-        map.old.entries q) }
-{
-    map.update_values(|_key, stored| *stored = value);
-}
-
-pub fn update_values_then_indices(map: &mut VecMap<u32, u32>, value: u32)
-    ensures { (q : ℕ) → index_of nat_eq map.new.entries q ≡ index_of nat_eq map.old.entries q }
-{
-    map.update_values(|_key, stored| *stored = value);
-}
-
-pub fn update_values_then_pair(map: &mut VecMap<u32, u32>, value: u32)
-    ensures { (i : ℕ) → i < length map.old.entries → value_at map.new.entries i ≡ Some value }
-{
-    map.update_values(|_key, stored| *stored = value);
-}
-
-pub fn update_values_then_length(map: &mut VecMap<u32, u32>, value: u32)
-    ensures { length map.new.entries ≡ length map.old.entries }
-{
-    map.update_values(|_key, stored| *stored = value);
-}
-
-pub fn update_values_then_keys(map: &mut VecMap<u32, u32>, value: u32)
-    ensures { keys_of map.new.entries ≡ keys_of map.old.entries }
-{
-    map.update_values(|_key, stored| *stored = value);
-}
-
-pub fn update_values_then_values(map: &mut VecMap<u32, u32>, value: u32)
-    ensures { All (λ v. v ≡ value) (values_of map.new.entries) }
-{
-    map.update_values(|_key, stored| *stored = value);
-}
-
-pub fn update_values_then_distinct(map: &mut VecMap<u32, u32>, value: u32)
+pub fn update_values_then_if_distinct(map: &mut VecMap<u32, u32>, value: u32)
     requires distinct { HasDistinctKeys nat_eq map.old.entries }
-    ensures { HasDistinctKeys nat_eq map.new.entries }
+    ensures distinct { HasDistinctKeys nat_eq map.new.entries }
 {
     map.update_values(|_key, stored| *stored = value);
 }
 
-pub fn update_values_then_lookup_generic<K: Eq + Drop>(map: &mut VecMap<K, u32>)
-    ensures { (q : K) → lookup K.eq map.new.entries q ≡ option_map (λ v. v / 2) (lookup K.eq
+pub fn update_values_then_generic<K: Eq + Drop>(map: &mut VecMap<K, u32>)
+    ensures lookup { (q : K) → lookup K.eq map.new.entries q ≡ option_map (λ v. v / 2) (lookup K.eq
         map.old.entries q) }
+    ensures indices { (q : K) → index_of K.eq map.new.entries q ≡ index_of K.eq map.old.entries q }
 {
     map.update_values(|_key, stored| *stored /= 2);
 }
 
-pub fn update_values_then_indices_generic<K: Eq + Drop>(map: &mut VecMap<K, u32>)
-    ensures { (q : K) → index_of K.eq map.new.entries q ≡ index_of K.eq map.old.entries q }
-{
-    map.update_values(|_key, stored| *stored /= 2);
-}
-
-pub fn update_values_then_distinct_generic<K: Eq + Drop>(map: &mut VecMap<K, u32>)
+pub fn update_values_then_if_distinct_generic<K: Eq + Drop>(map: &mut VecMap<K, u32>)
     requires distinct { HasDistinctKeys K.eq map.old.entries }
-    ensures { HasDistinctKeys K.eq map.new.entries }
+    ensures distinct { HasDistinctKeys K.eq map.new.entries }
 {
     map.update_values(|_key, stored| *stored /= 2);
 }
