@@ -1,5 +1,6 @@
 //! Callers of maps, by topic.
 pub mod entries;
+pub mod finding;
 pub mod insertion;
 pub mod joining;
 pub mod lookup;
