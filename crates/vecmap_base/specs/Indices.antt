@@ -40,6 +40,8 @@ pub record AddsKey {K V : Type 0} (eq : K → K → Bool) (l : List (K × V)) (k
   pub len : length m ≡ (if is_some (lookup eq l k) then length l else length l + 1)
   pub kept : IsSome (lookup eq l k) → keys_of m ≡ keys_of l
   pub appended : lookup eq l k ≡ None → m ≡ l ++ (k, v) ∷ []
+  pub last : lookup eq l k ≡ None → index_of eq m k ≡ Some (length l)
+  pub pair : lookup eq l k ≡ None → slice_get m (length l) ≡ Some (k, v)
 
 -- Example: from `[(1x,a)]` to `[(1y,b)]` for the pair `(1y,b)`.
 -- An insertion that replaces an equal key leaves each key at its index, has `(k, v)` at that of `k`, and appends a new pair.
@@ -47,4 +49,5 @@ pub record PutsKey {K V : Type 0} (eq : K → K → Bool) (l : List (K × V)) (k
   pub index : index_of eq m k ≡ Some (index_or_length eq l k)
   pub indices : (q : K) (i : ℕ) → index_of eq l q ≡ Some i → index_of eq m q ≡ Some i
   pub pair : slice_get m (index_or_length eq l k) ≡ Some (k, v)
+  pub len : length m ≡ (if is_some (lookup eq l k) then length l else length l + 1)
   pub appended : lookup eq l k ≡ None → m ≡ l ++ (k, v) ∷ []

@@ -1,6 +1,6 @@
 -- What lookups find after a change of a list of pairs. `eq` is the `==` of keys. `proofs/Definitions/Lookups.antt` of
 -- `vecmap_examples` has examples of what each field says.
-use Rattle.std.specs.Prelude.{◌≡◌, ◌<◌, ◌≤◌, ℕ, Bool, List, None, Option, Some, cond, false, is_some, length, min}
+use Rattle.std.specs.Prelude.{◌≡◌, ◌<◌, ◌≤◌, ℕ, Bool, List, None, Option, Some, cond, false, is_some, length, min, take}
 use Rattle.std.specs.List.{list_any}
 use Rattle.std.specs.Option.{option_or}
 use Rattle.std.specs.Set.{is_member, KeepsOthers as KeepsOtherItems}
@@ -38,6 +38,7 @@ module _ {K V : Type 0} where
     pub absent : (test : K → Bool) → lookup_by test l ≡ None → lookup_by test m ≡ None
     pub distinct : (eq : K → K → Bool) → HasDistinctKeys eq l → HasDistinctKeys eq m
     pub indices : (test : K → Bool) (i : ℕ) → index_by test l ≡ Some i → i < n → index_by test m ≡ Some i
+    pub keys : keys_of m ≡ take n (keys_of l)
     pub len : length m ≡ min n (length l)
 
   -- Example: from `[(1,a), (2,b)]` to `[(2,b), (1,a)]`.
@@ -64,6 +65,7 @@ module _ {K V : Type 0} where
   pub record Joins (eq : K → K → Bool) (l pairs m : List (K × V)) : Type 0 where
     pub lookups : HasDistinctKeys eq pairs → (q : K) → lookup eq m q ≡ option_or (lookup eq pairs q) (lookup eq l q)
     pub distinct : HasDistinctKeys eq l → HasDistinctKeys eq m
+    pub indices : (test : K → Bool) (i : ℕ) → index_by test l ≡ Some i → index_by test m ≡ Some i
 
 -- Example: from `[1]` to `[1, 2]` for 2: true.
 -- The list `r` has elements that pass the test exactly if `b` is true, and each other element exactly if `s` has it.

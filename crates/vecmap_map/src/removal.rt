@@ -261,6 +261,8 @@ impl<K, V> VecMap<K, V> {
             (Q.equivalent query) self.old.entries self.new.entries None }
         ensures distinct { HasDistinctKeys K.eq self.old.entries
             → HasDistinctKeys K.eq self.new.entries }
+        ensures found { is_some result
+            ≡ is_some (lookup_by (Q.equivalent query) self.old.entries) }
         ensures len { length self.new.entries + (if is_some result then 1 else 0)
             ≡ length self.old.entries }
         ensures indices { IfSome (index_by (Q.equivalent query) self.old.entries)
@@ -367,6 +369,8 @@ impl<K, V> VecMap<K, V> {
             (Q.equivalent query) self.old.entries self.new.entries None }
         ensures distinct { HasDistinctKeys K.eq self.old.entries
             → HasDistinctKeys K.eq self.new.entries }
+        ensures found { is_some result
+            ≡ is_some (lookup_by (Q.equivalent query) self.old.entries) }
         ensures len { length self.new.entries + (if is_some result then 1 else 0)
             ≡ length self.old.entries }
         ensures unchanged { IfNone result (self.new ≡ self.old) }

@@ -14,6 +14,11 @@ use Rattle.vecmap_base.proofs.PairsLemmas.Indices.{is_some_index_of}
 use Rattle.vecmap_base.proofs.PairsLemmas.Keys.{keys_of_put}
 use Rattle.vecmap_base.proofs.PairsLemmas.Puts.{put_absent}
 
+-- The item that was appended.
+appended_pair : {X : Type 0} (l : List X) (x : X) → slice_get (l ++ x ∷ []) (length l) ≡ Some x
+appended_pair [] x = refl
+appended_pair (y ∷ ys) x = appended_pair ys x
+
 -- An index that stays in the rest of a list stays in the list.
 stays : (b : Bool) (r s : Option ℕ) (i : ℕ) → ((j : ℕ) → r ≡ Some j → suc j ≡ i → s ≡ Some j) → (if b then Some 0 else option_map suc r) ≡ Some i → (if b then Some 0 else option_map suc s) ≡ Some i
 stays true r s i rest e = e
@@ -124,7 +129,8 @@ module _ {K V : Type 0} where
           index_by_own test eq o respects m (distinct_keys_rearranged eq o l m moved d) j (here.0, here.1) (at ∙ here.2) here.3
 
 module _ {K V : Type 0} (eq : K → K → Bool) where
-  indices_put : (test : K → Bool) (l : List (K × V)) (k : K) (v : V) (i : ℕ) → index_by test l ≡ Some i → index_by test (put eq l k v) ≡ Some i
+  -- An insertion moves no key.
+  pub indices_put : (test : K → Bool) (l : List (K × V)) (k : K) (v : V) (i : ℕ) → index_by test l ≡ Some i → index_by test (put eq l k v) ≡ Some i
   indices_put test [] k v i e = absurd (none-some i e)
   indices_put test (p ∷ ps) k v i e = by (eq k p.0) (indices_put test ps k v)
     where
@@ -163,6 +169,8 @@ module _ {K V : Type 0} (eq : K → K → Bool) where
       len = length_put l k v;
       kept = λ some. keys_put l k v ∙ ap (λ b. if b then keys_of l else keys_of l ++ k ∷ []) some;
       appended = λ absent. put_absent eq l k v (index_by_none (eq k) l absent);
+      last = λ absent. index_put l k v ∙ ap (λ found. Some (unwrap_or found (length l))) (index_by_none (eq k) l absent);
+      pair = λ absent. ap (λ n. slice_get n (length l)) (put_absent eq l k v (index_by_none (eq k) l absent)) ∙ appended_pair l (k, v);
     })
 
     -- Each key has the same index after an insertion that keeps an equal key and after one that replaces it.
@@ -183,12 +191,21 @@ module _ {K V : Type 0} (eq : K → K → Bool) where
         by true rest = refl
         by false rest = ap (slice_get (p ∷ put_key eq ps k v)) (sym (suc_unwrapped (index_of eq ps k) (length ps))) ∙ rest
 
+    length_put_key : (l : List (K × V)) (k : K) (v : V) → length (put_key eq l k v) ≡ length (put eq l k v)
+    length_put_key [] k v = refl
+    length_put_key (p ∷ ps) k v = by (eq k p.0) (length_put_key ps k v)
+      where
+        by : (b : Bool) → length (put_key eq ps k v) ≡ length (put eq ps k v) → length (if b then (k, v) ∷ ps else p ∷ put_key eq ps k v) ≡ length (if b then (p.0, v) ∷ ps else p ∷ put eq ps k v)
+        by true rest = refl
+        by false rest = ap suc rest
+
     -- After an insertion that replaces an equal key.
     pub puts_key : (l m : List (K × V)) (k : K) (v : V) → m ≡ put_key eq l k v → PutsKey eq l k v m
     puts_key l m k v e = subst (PutsKey eq l k v) (sym e) (record {
       index = index_of_put_key l k v k ∙ index_put l k v;
       indices = λ q i at. index_of_put_key l k v q ∙ indices_put (eq q) l k v i at;
       pair = pair_put_key l k v;
+      len = length_put_key l k v ∙ length_put l k v;
       appended = λ absent. put_key_by_index eq l k v ∙ ap (λ found. option_map_or (λ i. with_pair l i k v) found (l ++ (k, v) ∷ [])) (index_by_none (eq k) l absent);
     })
 

@@ -57,6 +57,15 @@ module _ {K V : Type 0} (test : K → Bool) where
       by false None = refl
       by false (Some i) = refl
 
+  -- A lookup of a pair finds one exactly if a lookup finds a value.
+  pub is_some_lookup_pair_by : (l : List (K × V)) → is_some (lookup_pair_by test l) ≡ is_some (lookup_by test l)
+  is_some_lookup_pair_by [] = refl
+  is_some_lookup_pair_by (p ∷ ps) = by (test p.0) (is_some_lookup_pair_by ps)
+    where
+      by : (b : Bool) → is_some (lookup_pair_by test ps) ≡ is_some (lookup_by test ps) → is_some (if b then Some p else lookup_pair_by test ps) ≡ is_some (if b then Some p.1 else lookup_by test ps)
+      by true rest = refl
+      by false rest = rest
+
   -- A removal is one at the index.
   pub without_by_index : (l : List (K × V)) → without_by test l ≡ option_map_or (λ i. remove l i) (index_by test l) l
   without_by_index [] = refl

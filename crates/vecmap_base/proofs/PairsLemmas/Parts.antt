@@ -12,7 +12,7 @@ use Rattle.vecmap_base.specs.{Lookups.Joins, Lookups.KeepsFront}
 use Rattle.vecmap_base.specs.Pairs.{HasDistinctKeys, index_by, lookup, lookup_by, put, puts}
 use Rattle.vecmap_base.proofs.DistinctLemmas.Removals.{distinct_take}
 use Rattle.vecmap_base.proofs.IndexLemmas.{is_some_position}
-use Rattle.vecmap_base.proofs.PairsLemmas.{AtIndices.index_in_front, ByIndex.index_by_is, Distinct.distinct_put, Lookups.updates_put}
+use Rattle.vecmap_base.proofs.PairsLemmas.{AtIndices.index_in_front, AtIndices.indices_put, ByIndex.index_by_is, Distinct.distinct_put, Lookups.updates_put}
 
 module _ {K V : Type 0} (test : K → Bool) where
   -- A lookup in a list of two parts finds what the first part has, or else what the second has.
@@ -76,6 +76,7 @@ module _ {K V : Type 0} where
     absent = λ test. absent_in_front test n l;
     distinct = λ eq d. subst (IsDistinct eq) (take-map (λ p. p.0) n l) (distinct_take eq n (keys_of l) d);
     indices = λ test. index_in_front test n l;
+    keys = sym (take-map (λ p. p.0) n l);
     len = length-take n l;
   }
 
@@ -100,8 +101,12 @@ module _ {K V : Type 0} (eq : K → K → Bool) (o : IsEquivalence eq) where
   distinct_after l [] d = d
   distinct_after l (p ∷ ps) d = distinct_after (put eq l p.0 p.1) ps (distinct_put eq o l p.0 p.1 d)
 
+  indices_after : (test : K → Bool) (l pairs : List (K × V)) (i : ℕ) → index_by test l ≡ Some i → index_by test (puts eq l pairs) ≡ Some i
+  indices_after test l [] i e = e
+  indices_after test l (p ∷ ps) i e = indices_after test (put eq l p.0 p.1) ps i (indices_put eq test l p.0 p.1 i e)
+
   pub joins_puts : (l pairs : List (K × V)) → Joins eq l pairs (puts eq l pairs)
-  joins_puts l pairs = record { lookups = found_in_either l pairs; distinct = distinct_after l pairs }
+  joins_puts l pairs = record { lookups = found_in_either l pairs; distinct = distinct_after l pairs; indices = λ test. indices_after test l pairs }
 
   -- The same of a list that is known to be the one after the insertions.
   pub joins_of_puts : (l pairs m : List (K × V)) → m ≡ puts eq l pairs → Joins eq l pairs m

@@ -1,6 +1,6 @@
 -- The definitions that say at which indices keys are after a change, at numbers: an example of each, what each of its fields
 -- says of it, and a list that it does not allow.
-use Rattle.std.specs.Prelude.{◌≡◌, ◌++◌, ◌∷◌, ◌<◌, ℕ, Bool, List, [], IsSome, None, Some, if◌then◌else◌, is_some, length, min, nat_eq, refl, reverse, slice_get, true}
+use Rattle.std.specs.Prelude.{◌≡◌, ◌++◌, ◌∷◌, ◌<◌, ℕ, Bool, List, [], IsSome, None, Some, if◌then◌else◌, is_some, length, min, nat_eq, refl, reverse, slice_get, take, true}
 use Rattle.std.specs.Cmp.{IsEquivalence, nat_eq_equiv}
 use Rattle.std.specs.List.{list_any}
 use Rattle.std.specs.Map.{IsKeyTest, keys_of}
@@ -39,6 +39,12 @@ module _ {V : Type 0} (a b : V) (l m : List (ℕ × V)) (test : ℕ → Bool) (i
   adds_key-appended : AddsKey nat_eq l 2 b m → lookup nat_eq l 2 ≡ None → m ≡ l ++ (2, b) ∷ []
   adds_key-appended k = k.appended
 
+  adds_key-last : AddsKey nat_eq l 2 b m → lookup nat_eq l 2 ≡ None → index_of nat_eq m 2 ≡ Some (length l)
+  adds_key-last k = k.last
+
+  adds_key-pair : AddsKey nat_eq l 2 b m → lookup nat_eq l 2 ≡ None → slice_get m (length l) ≡ Some (2, b)
+  adds_key-pair k = k.pair
+
   puts_key_one : PutsKey nat_eq ((1, a) ∷ []) 1 b ((1, b) ∷ [])
   puts_key_one = puts_key nat_eq nat_eq_equiv ((1, a) ∷ []) ((1, b) ∷ []) 1 b refl
 
@@ -53,6 +59,9 @@ module _ {V : Type 0} (a b : V) (l m : List (ℕ × V)) (test : ℕ → Bool) (i
 
   puts_key-pair : PutsKey nat_eq l 2 b m → slice_get m (index_or_length nat_eq l 2) ≡ Some (2, b)
   puts_key-pair k = k.pair
+
+  puts_key-len : PutsKey nat_eq l 2 b m → length m ≡ (if is_some (lookup nat_eq l 2) then length l else length l + 1)
+  puts_key-len k = k.len
 
   puts_key-appended : PutsKey nat_eq l 2 b m → lookup nat_eq l 2 ≡ None → m ≡ l ++ (2, b) ∷ []
   puts_key-appended k = k.appended
@@ -126,6 +135,9 @@ module _ {V : Type 0} (a b : V) (l m : List (ℕ × V)) (test : ℕ → Bool) wh
 
   keeps_front-indices : KeepsFront 2 l m → index_by test l ≡ Some 1 → index_by test m ≡ Some 1
   keeps_front-indices k at = k.indices test 1 at (search rules)
+
+  keeps_front-keys : KeepsFront 2 l m → keys_of m ≡ take 2 (keys_of l)
+  keeps_front-keys k = k.keys
 
   keeps_front-len : KeepsFront 2 l m → length m ≡ min 2 (length l)
   keeps_front-len k = k.len

@@ -114,6 +114,9 @@ module _ {V : Type 0} (a b c : V) (l pairs m : List (ℕ × V)) where
   joins-distinct : Joins nat_eq l pairs m → HasDistinctKeys nat_eq l → HasDistinctKeys nat_eq m
   joins-distinct j = j.distinct
 
+  joins-indices : (test : ℕ → Bool) (i : ℕ) → Joins nat_eq l pairs m → index_by test l ≡ Some i → index_by test m ≡ Some i
+  joins-indices test i j = j.indices test i
+
 -- After an addition of the element 2.
 module _ (s r : List ℕ) (there : Bool) where
   updates_member : UpdatesMember nat_eq (nat_eq 2) (1 ∷ []) (1 ∷ 2 ∷ []) true

@@ -1,5 +1,5 @@
-use Rattle.std.proofs.Common.{arith}
-use Rattle.vecmap_base.proofs.PairsLemmas.ByIndex.{by_index, pair_found, swapped_out}
+use Rattle.std.proofs.Common.{ap, arith, is_some, ◌∙◌}
+use Rattle.vecmap_base.proofs.PairsLemmas.ByIndex.{by_index, is_some_lookup_pair_by, pair_found, swapped_out}
 use Rattle.vecmap_base.proofs.PairsLemmas.Updates.{updates_of_swap_without}
 use Rattle.vecmap_map.proofs.VecMap.swap_remove_entry.Goals as goal
 
@@ -23,3 +23,12 @@ returns-in_err-index-clause-distinct g c = λ d. (returns-in_err-index-clause-up
 
 pub returns-clause-distinct : goal.returns-clause-distinct
 returns-clause-distinct g c = λ d. (returns-clause-updates g c d).distinct d
+
+pub returns-clause-found : goal.returns-clause-found
+returns-clause-found g c = ap is_some (returns-clause-pair g c) ∙ is_some_lookup_pair_by (g.Q.Equivalent.equivalent c.args.query) c.args.self.now.entries
+
+pub returns-in_err-index-clause-pair : goal.returns-in_err-index-clause-pair
+returns-in_err-index-clause-pair g c = grind (arith, by_index)
+
+pub returns-in_err-index-clause-found : goal.returns-in_err-index-clause-found
+returns-in_err-index-clause-found g c = ap is_some (returns-in_err-index-clause-pair g c) ∙ is_some_lookup_pair_by (g.Q.Equivalent.equivalent c.args.query) c.args.self.now.entries
