@@ -3,8 +3,8 @@
 
 A run has the times of this library and of others. A cell has the median of the ratios to the original over the runs.
 It is bold if it is above 1.05, and the ratio of the least times is, too: the least time of the contender in all runs,
-divided by the least of the original. Above a table stands how many of its cells are at most 1.05 by either ratio, and
-how many medians are at most 0.9. Its last line has the geometric mean of each size. A row of tight loops is marked
+divided by the least of the original. Above a table stands how many medians of its cells are at most 1.05, and how many at
+most 0.9. Its last line has the geometric mean of each size. A row of tight loops is marked
 with a star: at some size, one run's ratio is at least twice another's. If the runs have an earlier state of the
 library, or the kit's indexmap, a last table compares this library with it, in the rows that both have: a cell has the
 median ratio of this library divided by that of the other, and the same of the least times.
@@ -120,8 +120,8 @@ def ratio_table(head, rows, has_mean=True):
 def counts(rows):
     """Returns the sentence on the cells of a table."""
     cells = cells_of(rows)
-    few, fewer = sum(not is_above(cell) for cell in cells), sum(cell.median <= FEWER for cell in cells)
-    return f"Of {len(cells)} cells, {few} are at most {MOST}, and {fewer} at most {FEWER}."
+    few, fewer = (sum(cell.median <= most for cell in cells) for most in (MOST, FEWER))
+    return f"Of {len(cells)} cells, {few} have a median of at most {MOST}, and {fewer} of at most {FEWER}."
 
 
 # The tables of runs.
