@@ -1,4 +1,5 @@
-//! Functions at a type parameter that change a map or a set and look up afterwards. Each needs a ruleset and one law.
+//! Functions at a type parameter that change a map or a set and look up afterwards. The line below proves all but two,
+//! which call a law.
 //!
 //! ```
 //! let mut map = vecmap!(alloc; 1 => 5, 2 => 6);
@@ -18,7 +19,7 @@ ghost use Rattle.vecmap.specs.Pairs.{HasDistinctKeys, index_or_length, lookup};
 
 use std::alloc::AllocError;
 use vecmap::{Refused, VecMap, VecSet};
-use vecmap_laws::{maps, sets};
+use vecmap_laws::maps;
 
 /// Inserts a pair and returns whether a key is present.
 pub fn insert_then_get<K: Eq + Drop, V: Drop>(
@@ -32,7 +33,6 @@ pub fn insert_then_get<K: Eq + Drop, V: Drop>(
     ensures found { IfOk result (λ r. r ≡ is_some (if K.eq key query.now then Some value
         else lookup K.eq map.old.entries query.now)) }
 {
-    maps::eq_is_an_equivalence::<K>();
     map.insert(key, value)?;
     Ok(map.get(query).is_some())
 }
@@ -61,7 +61,6 @@ pub fn two_inserts_then_get<K: Eq + Drop, V: Drop>(
         ≡ (if K.eq second query.now then Some two else if K.eq first query.now then Some one
         else lookup K.eq map.old.entries query.now)) }
 {
-    maps::eq_is_an_equivalence::<K>();
     map.insert(first, one)?;
     map.insert(second, two)?;
     Ok(map.get(query).is_some())
@@ -78,7 +77,6 @@ pub fn insert_sort_then_get<K: Ord + Drop, V: Drop>(
     ensures lookup { OnOk result (lookup K.eq map.new.entries query.now
         ≡ (if K.eq key query.now then Some value else lookup K.eq map.old.entries query.now)) }
 {
-    maps::eq_is_an_equivalence::<K>();
     map.insert(key, value)?;
     map.sort_unstable_keys();
     Ok(map.get(query).is_some())
@@ -90,7 +88,6 @@ pub fn truncate_then_get<K: Eq + Drop, V: Drop>(map: &mut VecMap<K, V>, n: usize
         ≡ (if nat_lt (index_or_length K.eq map.old.entries query.now) n
         then lookup K.eq map.old.entries query.now else None) }
 {
-    maps::eq_is_an_equivalence::<K>();
     map.truncate(n);
     map.get(query).is_some()
 }
@@ -109,7 +106,6 @@ pub fn inserts_then_remove<K: Eq + Drop, V: Drop>(
         ≡ (if K.eq query.now second then None else Some two)) }
     ensures absent { OnOk result (lookup K.eq map.new.entries query.now ≡ None) }
 {
-    maps::eq_is_an_equivalence::<K>();
     map.insert(first, one)?;
     map.insert(second, two)?;
     map.remove(query);
@@ -128,7 +124,6 @@ pub fn swap_remove_then_contains<K: Eq + Drop, V: Drop>(
     ensures found { result ≡ is_some (if K.eq key.now query.now then None
         else lookup K.eq map.old.entries query.now) }
 {
-    maps::eq_is_an_equivalence::<K>();
     map.swap_remove(key);
     map.contains_key(query)
 }
@@ -143,7 +138,6 @@ pub fn append_then_get<K: Eq + Drop, V: Drop>(
     ensures lookup { OnOk result (lookup K.eq map.new.entries query.now
         ≡ option_or (lookup K.eq other.old.entries query.now) (lookup K.eq map.old.entries query.now)) }
 {
-    maps::eq_is_an_equivalence::<K>();
     map.append(other)?;
     Ok(map.get(query).is_some())
 }
@@ -177,7 +171,6 @@ pub fn set_insert_remove_then_contains<T: Eq + Drop>(
         && not (T.eq gone.now query.now))) }
     ensures found { IfOk result (λ r. r ≡ is_member T.eq set.new.elements query.now) }
 {
-    sets::eq_is_an_equivalence::<T>();
     set.insert(item)?;
     set.remove(gone);
     Ok(set.contains(query))
@@ -202,7 +195,6 @@ pub fn five_changes_then_contains<K: Eq + Drop, V: Drop>(
         else if K.eq c.now query.now then None else if K.eq b query.now then Some y
         else if K.eq a query.now then Some x else lookup K.eq map.old.entries query.now)) }
 {
-    maps::eq_is_an_equivalence::<K>();
     map.insert(a, x)?;
     map.insert(b, y)?;
     map.remove(c);
@@ -224,7 +216,6 @@ pub fn append_remove_then_contains<K: Eq + Drop, V: Drop>(
         ≡ (if K.eq c.now query.now then None
         else option_or (lookup K.eq other.old.entries query.now) (lookup K.eq map.old.entries query.now))) }
 {
-    maps::eq_is_an_equivalence::<K>();
     map.append(other)?;
     map.reverse();
     map.reverse();
@@ -245,7 +236,6 @@ pub fn insert_at_then_contains<K: Eq + Drop, V: Drop>(
     ensures lookup { OnOk result (lookup K.eq map.new.entries query.now
         ≡ (if K.eq key query.now then Some value else lookup K.eq map.old.entries query.now)) }
 {
-    maps::eq_is_an_equivalence::<K>();
     map.insert_at(at, key, value)?;
     Ok(map.contains_key(query))
 }

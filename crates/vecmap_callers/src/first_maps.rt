@@ -30,7 +30,6 @@ ghost use Rattle.vecmap.specs.Pairs.{HasDistinctKeys, index_of, lookup, put};
 
 use std::alloc::{AllocError, Global};
 use vecmap::{Refused, VecMap, VecSet};
-use vecmap_laws::maps;
 
 /// Inserts a pair. Its key finds the value, and each other key finds what it found.
 pub fn set<K: Eq + Drop, V: Drop>(
@@ -43,7 +42,6 @@ pub fn set<K: Eq + Drop, V: Drop>(
         → lookup K.eq map.new.entries q ≡ lookup K.eq map.old.entries q) }
     ensures err { OnErr result (map.new ≡ map.old) }
 {
-    maps::insertions_are_found::<K, V>();
     map.insert(key, value)?;
     Ok(())
 }
@@ -57,8 +55,6 @@ pub fn unset<K: Eq + Drop, V: Drop>(map: &mut VecMap<K, V>, key: &K) -> Option<V
         → lookup K.eq map.new.entries q ≡ lookup K.eq map.old.entries q }
     ensures distinct { HasDistinctKeys K.eq map.new.entries }
 {
-    maps::removals_are_forgotten::<K, V>();
-    maps::removal_keeps_keys_distinct::<K, V>();
     map.remove(key)
 }
 
@@ -75,7 +71,6 @@ pub fn count(counts: &mut VecMap<u32, u32>, word: u32) -> Result<(), Refused<(u3
         → lookup nat_eq counts.new.entries word
         ≡ Some (unwrap_or (lookup nat_eq counts.old.entries word) 0 + 1)) }
 {
-    maps::insertions_are_found::<u32, u32>();
     let n = counts.entry(word).or_insert(0)?;
     if *n < u32::MAX {
         *n += 1;
@@ -87,7 +82,6 @@ pub fn count(counts: &mut VecMap<u32, u32>, word: u32) -> Result<(), Refused<(u3
 pub fn defaults(alloc: Global) -> Result<VecMap<u32, u32>, AllocError>
     ensures { IfOk result (λ map. lookup nat_eq map.entries 1 ≡ Some 10) }
 {
-    maps::insertions_are_found::<u32, u32>();
     let mut map = VecMap::with_capacity(alloc, 2)?;
     map.insert(1, 10).unwrap();
     map.insert(2, 20).unwrap();
