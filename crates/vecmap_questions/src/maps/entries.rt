@@ -1,5 +1,5 @@
 //! Insertions through an entry.
-ghost use Rattle.std.specs.Prelude.{◌≡◌, ◌+◌, ◌-◌, ◌++◌, ◌∷◌, ◌<◌, ℕ, [], IsSome, None, OnOk, Some, if◌then◌else◌, is_some, length, nat_eq, slice_get, true, unwrap_or};
+ghost use Rattle.std.specs.Prelude.{◌≡◌, ◌+◌, ◌-◌, ◌++◌, ◌∷◌, ◌<◌, ℕ, [], None, OnOk, Some, if◌then◌else◌, is_some, length, nat_eq, slice_get, true, unwrap_or};
 ghost use Rattle.std.specs.Map.{keys_of};
 ghost use Rattle.vecmap.specs.Pairs.{HasDistinctKeys, index_of, index_or_length, lookup};
 
@@ -12,8 +12,6 @@ pub fn or_insert_then(map: &mut VecMap<u32, u32>, key: u32, value: u32) -> Resul
     ensures lookup { OnOk result ((q : ℕ) → lookup nat_eq map.new.entries q ≡ (if nat_eq key q
         then Some (unwrap_or (lookup nat_eq map.old.entries key) value) else lookup nat_eq
         map.old.entries q)) }
-    ensures unchanged { OnOk result (IsSome (lookup nat_eq map.old.entries key) → map.new.entries
-        ≡ map.old.entries) }
     ensures pair { OnOk result (lookup nat_eq map.old.entries key ≡ None → slice_get map.new.entries
         (length map.old.entries) ≡ Some (key, value)) }
     ensures length { OnOk result (length map.new.entries ≡ (if is_some (lookup nat_eq
@@ -243,28 +241,6 @@ pub fn insert_entry_then(map: &mut VecMap<u32, u32>, key: u32, value: u32) -> Re
     ensures empty { OnOk result (0 < length map.new.entries) }
     ensures ends { OnOk result (lookup nat_eq map.old.entries key ≡ None → slice_get map.new.entries
         (length map.new.entries - 1) ≡ Some (key, value)) }
-    ensures key { OnOk result (lookup nat_eq map.new.entries key ≡ Some value) }
-    ensures lookup { OnOk result ((q : ℕ) → lookup nat_eq map.new.entries q ≡ (if nat_eq key q
-        then Some value else lookup nat_eq map.old.entries q)) }
-    ensures present { OnOk result (is_some (lookup nat_eq map.new.entries key) ≡ true) }
-    ensures index { OnOk result (index_of nat_eq map.new.entries key ≡ Some (index_or_length nat_eq
-        map.old.entries key)) }
-    ensures indices { OnOk result ((q : ℕ) (i : ℕ) → index_of nat_eq map.old.entries q ≡ Some i
-        → index_of nat_eq map.new.entries q ≡ Some i) }
-    ensures keys { OnOk result (keys_of map.new.entries ≡ (if is_some (lookup nat_eq map.old.entries
-        key) then keys_of map.old.entries else keys_of map.old.entries ++ key ∷ [])) }
-{
-    map.entry(key).insert_entry(value)?;
-    Ok(())
-}
-
-pub fn insert_entry_then_if_distinct(
-    map: &mut VecMap<u32, u32>,
-    key: u32,
-    value: u32,
-) -> Result<(), AllocError>
-    requires distinct { HasDistinctKeys nat_eq map.old.entries }
-    ensures distinct { OnOk result (HasDistinctKeys nat_eq map.new.entries) }
 {
     map.entry(key).insert_entry(value)?;
     Ok(())

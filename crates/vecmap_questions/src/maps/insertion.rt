@@ -1,7 +1,7 @@
 //! Insertions of a key and a value.
-ghost use Rattle.std.specs.Prelude.{◌≡◌, ◌+◌, ◌-◌, ◌++◌, ◌∷◌, ◌<◌, ℕ, [], IfOk, None, OnErr, OnOk, Some, if◌then◌else◌, is_some, length, nat_eq, option_map, slice_get, true};
+ghost use Rattle.std.specs.Prelude.{◌≡◌, ◌+◌, ◌-◌, ◌++◌, ◌∷◌, ◌<◌, ℕ, [], IfOk, None, OnErr, OnOk, Some, if◌then◌else◌, is_some, length, nat_eq, slice_get, true};
 ghost use Rattle.std.specs.Map.{keys_of};
-ghost use Rattle.vecmap.specs.Pairs.{HasDistinctKeys, has_text, index_of, index_or_length, lookup, lookup_by, value_at};
+ghost use Rattle.vecmap.specs.Pairs.{HasDistinctKeys, index_of, index_or_length, lookup, value_at};
 
 use std::alloc::AllocError;
 use vecmap::macros::put_pair;
@@ -88,19 +88,6 @@ pub fn insert_then_if_distinct_generic<K: Eq + Drop>(
     Ok(())
 }
 
-pub fn insert_then_by_text(
-    map: &mut VecMap<String, u32>,
-    key: String,
-    value: u32,
-    text: &str,
-) -> Result<(), AllocError>
-    ensures query { OnOk result (lookup_by (has_text text.now) map.new.entries ≡ (if has_text
-        text.now key then Some value else lookup_by (has_text text.now) map.old.entries)) }
-{
-    map.insert(key, value)?;
-    Ok(())
-}
-
 pub fn insert_full_then(map: &mut VecMap<u32, u32>, key: u32, value: u32) -> Result<(), AllocError>
     ensures key { OnOk result (lookup nat_eq map.new.entries key ≡ Some value) }
     ensures lookup { OnOk result ((q : ℕ) → lookup nat_eq map.new.entries q ≡ (if nat_eq key q
@@ -163,10 +150,6 @@ pub fn insert_key_then(map: &mut VecMap<u32, u32>, key: u32, value: u32) -> Resu
         (length map.old.entries) ≡ Some (key, value)) }
     ensures length { OnOk result (length map.new.entries ≡ (if is_some (lookup nat_eq
         map.old.entries key) then length map.old.entries else length map.old.entries + 1)) }
-    ensures keys { OnOk result (keys_of map.new.entries ≡ (if is_some (lookup nat_eq map.old.entries
-        key) then keys_of map.old.entries else keys_of map.old.entries ++ key ∷ [])) }
-    ensures ends { OnOk result (lookup nat_eq map.old.entries key ≡ None → slice_get map.new.entries
-        (length map.new.entries - 1) ≡ Some (key, value)) }
 {
     map.insert_key(key, value)?;
     Ok(())
@@ -182,17 +165,6 @@ pub fn insert_key_then_if_distinct(
 {
     map.insert_key(key, value)?;
     Ok(())
-}
-
-pub fn insert_key_then_result(
-    map: &mut VecMap<u32, u32>,
-    key: u32,
-    value: u32,
-) -> Result<Option<(u32, u32)>, Refused<(u32, u32)>>
-    ensures result { IfOk result (λ old. option_map (λ p. p.1) old ≡ lookup nat_eq map.old.entries
-        key) }
-{
-    map.insert_key(key, value)
 }
 
 pub fn put_pair_then(map: &mut VecMap<u32, u32>, key: u32, value: u32) -> Result<(), AllocError>

@@ -1,5 +1,5 @@
 //! Many pairs at once.
-ghost use Rattle.std.specs.Prelude.{◌≡◌, ◌+◌, ◌<◌, ◌≤◌, ◌||◌, ℕ, OnErr, OnOk, Some, is_some, length, nat_eq};
+ghost use Rattle.std.specs.Prelude.{◌≡◌, ◌+◌, ◌≤◌, ◌||◌, ℕ, OnErr, OnOk, Some, is_some, length, nat_eq};
 ghost use Rattle.std.specs.Option.{option_or};
 ghost use Rattle.vecmap.specs.Pairs.{HasDistinctKeys, index_of, lookup};
 
@@ -16,8 +16,8 @@ pub fn append_then_if_distinct(
         nat_eq map.new.entries k ≡ Some v) }
     ensures lookup { OnOk result ((q : ℕ) → lookup nat_eq map.new.entries q ≡ option_or (lookup
         nat_eq other.old.entries q) (lookup nat_eq map.old.entries q)) }
-    ensures present { OnOk result ((q : ℕ) → is_some (index_of nat_eq map.new.entries q) ≡ (is_some
-        (index_of nat_eq other.old.entries q) || is_some (index_of nat_eq map.old.entries q))) }
+    ensures present { OnOk result ((q : ℕ) → is_some (lookup nat_eq map.new.entries q) ≡ (is_some
+        (lookup nat_eq other.old.entries q) || is_some (lookup nat_eq map.old.entries q))) }
     ensures distinct { OnOk result (HasDistinctKeys nat_eq map.new.entries) }
 {
     map.append(other)?;
@@ -33,7 +33,6 @@ pub fn append_then(
         → index_of nat_eq map.new.entries q ≡ Some i) }
     ensures length { OnOk result (length map.new.entries ≤ length map.old.entries + length
         other.old.entries) }
-    ensures empty { OnOk result (0 < length other.old.entries → 0 < length map.new.entries) }
     ensures unchanged { OnErr result (map.new ≡ map.old) }
     ensures ends { OnOk result (length other.new.entries ≡ 0) }
 {
@@ -73,25 +72,25 @@ pub fn extend_then_if_distinct(
 ) -> Result<(), AllocError>
     requires distinct { HasDistinctKeys nat_eq map.old.entries }
     requires other_distinct { HasDistinctKeys nat_eq other.entries }
-    ensures key { OnOk result ((k : ℕ) (v : ℕ) → lookup nat_eq other.entries k ≡ Some v → lookup
-        nat_eq map.new.entries k ≡ Some v) }
-    ensures lookup { OnOk result ((q : ℕ) → lookup nat_eq map.new.entries q ≡ option_or (lookup
-        nat_eq other.entries q) (lookup nat_eq map.old.entries q)) }
-    ensures present { OnOk result ((q : ℕ) → is_some (index_of nat_eq map.new.entries q) ≡ (is_some
-        (index_of nat_eq other.entries q) || is_some (index_of nat_eq map.old.entries q))) }
     ensures distinct { OnOk result (HasDistinctKeys nat_eq map.new.entries) }
 {
     map.extend(other)?;
     Ok(())
 }
 
-pub fn extend_then(map: &mut VecMap<u32, u32>, other: VecMap<u32, u32>) -> Result<(), AllocError>
+#[tactic(auto, using(vecmap_laws::proofs::Rules::extended))]
+pub fn extend_then_extended_if_distinct(
+    map: &mut VecMap<u32, u32>,
+    other: VecMap<u32, u32>,
+) -> Result<(), AllocError>
+    requires distinct { HasDistinctKeys nat_eq map.old.entries }
     requires other_distinct { HasDistinctKeys nat_eq other.entries }
-    ensures indices { OnOk result ((q : ℕ) (i : ℕ) → index_of nat_eq map.old.entries q ≡ Some i
-        → index_of nat_eq map.new.entries q ≡ Some i) }
-    ensures length { OnOk result (length map.new.entries ≤ length map.old.entries + length
-        other.entries) }
-    ensures empty { OnOk result (0 < length other.entries → 0 < length map.new.entries) }
+    ensures key { OnOk result ((k : ℕ) (v : ℕ) → lookup nat_eq other.entries k ≡ Some v → lookup
+        nat_eq map.new.entries k ≡ Some v) }
+    ensures lookup { OnOk result ((q : ℕ) → lookup nat_eq map.new.entries q ≡ option_or (lookup
+        nat_eq other.entries q) (lookup nat_eq map.old.entries q)) }
+    ensures present { OnOk result ((q : ℕ) → is_some (lookup nat_eq map.new.entries q) ≡ (is_some
+        (lookup nat_eq other.entries q) || is_some (lookup nat_eq map.old.entries q))) }
 {
     map.extend(other)?;
     Ok(())
@@ -103,27 +102,7 @@ pub fn extend_by_vec_then_if_distinct(
 ) -> Result<(), AllocError>
     requires distinct { HasDistinctKeys nat_eq map.old.entries }
     requires other_distinct { HasDistinctKeys nat_eq pairs.items }
-    ensures key { OnOk result ((k : ℕ) (v : ℕ) → lookup nat_eq pairs.items k ≡ Some v → lookup
-        nat_eq map.new.entries k ≡ Some v) }
-    ensures lookup { OnOk result ((q : ℕ) → lookup nat_eq map.new.entries q ≡ option_or (lookup
-        nat_eq pairs.items q) (lookup nat_eq map.old.entries q)) }
-    ensures present { OnOk result ((q : ℕ) → is_some (index_of nat_eq map.new.entries q) ≡ (is_some
-        (index_of nat_eq pairs.items q) || is_some (index_of nat_eq map.old.entries q))) }
     ensures distinct { OnOk result (HasDistinctKeys nat_eq map.new.entries) }
-{
-    map.extend(pairs)?;
-    Ok(())
-}
-
-pub fn extend_by_vec_then(
-    map: &mut VecMap<u32, u32>,
-    pairs: Vec<(u32, u32)>,
-) -> Result<(), AllocError>
-    requires other_distinct { HasDistinctKeys nat_eq pairs.items }
-    ensures indices { OnOk result ((q : ℕ) (i : ℕ) → index_of nat_eq map.old.entries q ≡ Some i
-        → index_of nat_eq map.new.entries q ≡ Some i) }
-    ensures length { OnOk result (length map.new.entries ≤ length map.old.entries + length
-        pairs.items) }
 {
     map.extend(pairs)?;
     Ok(())
@@ -135,25 +114,7 @@ pub fn extend_refs_then_if_distinct(
 ) -> Result<(), AllocError>
     requires distinct { HasDistinctKeys nat_eq map.old.entries }
     requires other_distinct { HasDistinctKeys nat_eq other.now.entries }
-    ensures key { OnOk result ((k : ℕ) (v : ℕ) → lookup nat_eq other.now.entries k ≡ Some v → lookup
-        nat_eq map.new.entries k ≡ Some v) }
-    ensures lookup { OnOk result ((q : ℕ) → lookup nat_eq map.new.entries q ≡ option_or (lookup
-        nat_eq other.now.entries q) (lookup nat_eq map.old.entries q)) }
-    ensures present { OnOk result ((q : ℕ) → is_some (index_of nat_eq map.new.entries q) ≡ (is_some
-        (index_of nat_eq other.now.entries q) || is_some (index_of nat_eq map.old.entries q))) }
     ensures distinct { OnOk result (HasDistinctKeys nat_eq map.new.entries) }
-{
-    map.extend_refs(other)?;
-    Ok(())
-}
-
-pub fn extend_refs_then(
-    map: &mut VecMap<u32, u32>,
-    other: &VecMap<u32, u32>,
-) -> Result<(), AllocError>
-    requires other_distinct { HasDistinctKeys nat_eq other.now.entries }
-    ensures length { OnOk result (length map.new.entries ≤ length map.old.entries + length
-        other.now.entries) }
 {
     map.extend_refs(other)?;
     Ok(())
@@ -165,22 +126,7 @@ pub fn extend_pairs_then_if_distinct(
 ) -> Result<(), AllocError>
     requires distinct { HasDistinctKeys nat_eq map.old.entries }
     requires other_distinct { HasDistinctKeys nat_eq pairs.now }
-    ensures key { OnOk result ((k : ℕ) (v : ℕ) → lookup nat_eq pairs.now k ≡ Some v → lookup nat_eq
-        map.new.entries k ≡ Some v) }
-    ensures lookup { OnOk result ((q : ℕ) → lookup nat_eq map.new.entries q ≡ option_or (lookup
-        nat_eq pairs.now q) (lookup nat_eq map.old.entries q)) }
-    ensures present { OnOk result ((q : ℕ) → is_some (index_of nat_eq map.new.entries q) ≡ (is_some
-        (index_of nat_eq pairs.now q) || is_some (index_of nat_eq map.old.entries q))) }
     ensures distinct { OnOk result (HasDistinctKeys nat_eq map.new.entries) }
-{
-    map.extend_pairs(pairs)?;
-    Ok(())
-}
-
-pub fn extend_pairs_then(map: &mut VecMap<u32, u32>, pairs: &[(u32, u32)]) -> Result<(), AllocError>
-    requires other_distinct { HasDistinctKeys nat_eq pairs.now }
-    ensures length { OnOk result (length map.new.entries ≤ length map.old.entries + length
-        pairs.now) }
 {
     map.extend_pairs(pairs)?;
     Ok(())

@@ -9,7 +9,7 @@ use vecmap::VecMap;
 
 pub fn get_then(map: &VecMap<u32, u32>, key: u32) -> Option<u32>
     ensures key { result ≡ lookup nat_eq map.now.entries key }
-    ensures present { is_some result ≡ is_some (index_of nat_eq map.now.entries key) }
+    ensures present { is_some result ≡ is_some (lookup nat_eq map.now.entries key) }
     ensures index { (i : ℕ) → index_of nat_eq map.now.entries key ≡ Some i → result ≡ value_at
         map.now.entries i }
 {
@@ -18,7 +18,7 @@ pub fn get_then(map: &VecMap<u32, u32>, key: u32) -> Option<u32>
 
 pub fn get_then_generic<K: Eq + Drop>(map: &VecMap<K, u32>, key: &K) -> Option<u32>
     ensures key { result ≡ lookup K.eq map.now.entries key.now }
-    ensures present { is_some result ≡ is_some (index_of K.eq map.now.entries key.now) }
+    ensures present { is_some result ≡ is_some (lookup K.eq map.now.entries key.now) }
     ensures index { (i : ℕ) → index_of K.eq map.now.entries key.now ≡ Some i → result ≡ value_at
         map.now.entries i }
 {
@@ -29,14 +29,14 @@ pub fn get_then_by_text(map: &VecMap<String, u32>, text: &str) -> Option<u32>
     ensures key { result ≡ lookup_by (has_text text.now) map.now.entries }
     ensures query { (q : String Global) → IsTrue (has_text text.now q) → result ≡ lookup string_eq
         map.now.entries q }
-    ensures present { is_some result ≡ is_some (index_by (has_text text.now) map.now.entries) }
+    ensures present { is_some result ≡ is_some (lookup_by (has_text text.now) map.now.entries) }
 {
     map.get(text).copied()
 }
 
 pub fn get_str_then_by_text(map: &VecMap<String, u32>, text: &str) -> Option<u32>
     ensures key { result ≡ lookup_by (has_text text.now) map.now.entries }
-    ensures present { is_some result ≡ is_some (index_by (has_text text.now) map.now.entries) }
+    ensures present { is_some result ≡ is_some (lookup_by (has_text text.now) map.now.entries) }
     ensures index { (i : ℕ) → index_by (has_text text.now) map.now.entries ≡ Some i → result
         ≡ value_at map.now.entries i }
 {
@@ -110,20 +110,9 @@ pub fn get_full_then(map: &VecMap<u32, u32>, key: u32) -> Option<(usize, u32, u3
     Some((index, *stored, *value))
 }
 
-pub fn get_key_value_then(map: &VecMap<u32, u32>, key: u32) -> Option<(u32, u32)>
-    ensures key { option_map (λ found. found.1) result ≡ lookup nat_eq map.now.entries key }
-    ensures present { is_some result ≡ is_some (lookup nat_eq map.now.entries key) }
-    ensures result { IfSome result (λ found. found.0 ≡ key) }
-{
-    let (stored, value) = map.get_key_value(&key)?;
-    Some((*stored, *value))
-}
-
 pub fn index_then(map: &VecMap<u32, u32>, key: u32) -> u32
     requires present { IsSome (lookup nat_eq map.now.entries key) }
     ensures key { lookup nat_eq map.now.entries key ≡ Some result }
-    ensures index { (i : ℕ) → index_of nat_eq map.now.entries key ≡ Some i → value_at
-        map.now.entries i ≡ Some result }
 {
     map[&key]
 }

@@ -1,5 +1,5 @@
 //! New maps, copies and equality.
-ghost use Rattle.std.specs.Prelude.{◌≡◌, ◌<◌, ◌≤◌, ℕ, IfOk, IsTrue, None, Some, false, is_some, length, nat_eq, option_map, slice_get};
+ghost use Rattle.std.specs.Prelude.{◌≡◌, ◌≤◌, ℕ, IfOk, IsTrue, None, Some, false, is_some, length, nat_eq, option_map, slice_get};
 ghost use Rattle.std.specs.Map.{keys_of};
 ghost use Rattle.vecmap.specs.Equality.{has_same_counts};
 ghost use Rattle.vecmap.specs.Pairs.{HasDistinctKeys, index_of, lookup};
@@ -18,12 +18,10 @@ pub fn new_then(alloc: Global) -> VecMap<u32, u32>
 pub fn from_then(pairs: Vec<(u32, u32)>) -> VecMap<u32, u32>
     ensures lookup { HasDistinctKeys nat_eq pairs.items → (q : ℕ) → lookup nat_eq result.entries q
         ≡ lookup nat_eq pairs.items q }
-    ensures present { (q : ℕ) → is_some (index_of nat_eq result.entries q) ≡ is_some (index_of
-        nat_eq pairs.items q) }
+    ensures present { HasDistinctKeys nat_eq pairs.items → (q : ℕ) → is_some (lookup nat_eq
+        result.entries q) ≡ is_some (lookup nat_eq pairs.items q) }
     ensures length { length result.entries ≤ length pairs.items }
-    ensures keys { HasDistinctKeys nat_eq pairs.items → keys_of result.entries ≡ keys_of pairs.items }
     ensures distinct { HasDistinctKeys nat_eq result.entries }
-    ensures empty { 0 < length pairs.items → 0 < length result.entries }
 {
     VecMap::from(pairs)
 }
@@ -31,12 +29,10 @@ pub fn from_then(pairs: Vec<(u32, u32)>) -> VecMap<u32, u32>
 pub fn from_vec_counted_then(pairs: Vec<(u32, u32)>) -> VecMap<u32, u32>
     ensures lookup { HasDistinctKeys nat_eq pairs.items → (q : ℕ) → lookup nat_eq result.entries q
         ≡ lookup nat_eq pairs.items q }
-    ensures present { (q : ℕ) → is_some (index_of nat_eq result.entries q) ≡ is_some (index_of
-        nat_eq pairs.items q) }
+    ensures present { HasDistinctKeys nat_eq pairs.items → (q : ℕ) → is_some (lookup nat_eq
+        result.entries q) ≡ is_some (lookup nat_eq pairs.items q) }
     ensures length { length result.entries ≤ length pairs.items }
-    ensures keys { HasDistinctKeys nat_eq pairs.items → keys_of result.entries ≡ keys_of pairs.items }
     ensures distinct { HasDistinctKeys nat_eq result.entries }
-    ensures empty { 0 < length pairs.items → 0 < length result.entries }
 {
     let (map, _count) = VecMap::from_vec_counted(pairs);
     map
@@ -46,8 +42,8 @@ pub fn from_vec_unchecked_then(pairs: Vec<(u32, u32)>) -> VecMap<u32, u32>
     requires distinct { HasDistinctKeys nat_eq pairs.items }
     ensures lookup { HasDistinctKeys nat_eq pairs.items → (q : ℕ) → lookup nat_eq result.entries q
         ≡ lookup nat_eq pairs.items q }
-    ensures present { (q : ℕ) → is_some (index_of nat_eq result.entries q) ≡ is_some (index_of
-        nat_eq pairs.items q) }
+    ensures present { HasDistinctKeys nat_eq pairs.items → (q : ℕ) → is_some (lookup nat_eq
+        result.entries q) ≡ is_some (lookup nat_eq pairs.items q) }
     ensures length { length result.entries ≤ length pairs.items }
     ensures keys { HasDistinctKeys nat_eq pairs.items → keys_of result.entries ≡ keys_of pairs.items }
     ensures distinct { HasDistinctKeys nat_eq result.entries }
@@ -56,37 +52,14 @@ pub fn from_vec_unchecked_then(pairs: Vec<(u32, u32)>) -> VecMap<u32, u32>
 }
 
 pub fn from_iter_then(alloc: Global, pairs: Vec<(u32, u32)>) -> Result<VecMap<u32, u32>, AllocError>
-    ensures lookup { IfOk result (λ made. HasDistinctKeys nat_eq pairs.items → (q : ℕ) → lookup
-        nat_eq made.entries q ≡ lookup nat_eq pairs.items q) }
-    ensures present { IfOk result (λ made. (q : ℕ) → is_some (index_of nat_eq made.entries q)
-        ≡ is_some (index_of nat_eq pairs.items q)) }
-    ensures length { IfOk result (λ made. length made.entries ≤ length pairs.items) }
-    ensures keys { IfOk result (λ made. HasDistinctKeys nat_eq pairs.items → keys_of made.entries
-        ≡ keys_of pairs.items) }
     ensures distinct { IfOk result (λ made. HasDistinctKeys nat_eq made.entries) }
-    ensures empty { IfOk result (λ made. 0 < length pairs.items → 0 < length made.entries) }
 {
     VecMap::from_iter(alloc, pairs)
-}
-
-pub fn collect_then(alloc: Global, pairs: Vec<(u32, u32)>) -> Result<VecMap<u32, u32>, AllocError>
-    ensures lookup { IfOk result (λ made. HasDistinctKeys nat_eq pairs.items → (q : ℕ) → lookup
-        nat_eq made.entries q ≡ lookup nat_eq pairs.items q) }
-    ensures present { IfOk result (λ made. (q : ℕ) → is_some (index_of nat_eq made.entries q)
-        ≡ is_some (index_of nat_eq pairs.items q)) }
-    ensures length { IfOk result (λ made. length made.entries ≤ length pairs.items) }
-    ensures keys { IfOk result (λ made. HasDistinctKeys nat_eq pairs.items → keys_of made.entries
-        ≡ keys_of pairs.items) }
-    ensures distinct { IfOk result (λ made. HasDistinctKeys nat_eq made.entries) }
-    ensures empty { IfOk result (λ made. 0 < length pairs.items → 0 < length made.entries) }
-{
-    pairs.into_iter().collect(alloc)
 }
 
 pub fn from_slice_then(alloc: Global, pairs: &[(u32, u32)]) -> Result<VecMap<u32, u32>, AllocError>
     ensures lookup { IfOk result (λ made. HasDistinctKeys nat_eq pairs.now → (q : ℕ) → lookup nat_eq
         made.entries q ≡ lookup nat_eq pairs.now q) }
-    ensures length { IfOk result (λ made. length made.entries ≤ length pairs.now) }
     ensures distinct { IfOk result (λ made. HasDistinctKeys nat_eq made.entries) }
 {
     VecMap::from_slice(alloc, pairs)
@@ -131,8 +104,6 @@ pub fn clone_then(map: &VecMap<u32, u32>) -> Result<VecMap<u32, u32>, AllocError
         nat_eq map.now.entries q) }
     ensures length { IfOk result (λ made. length made.entries ≡ length map.now.entries) }
     ensures keys { IfOk result (λ made. keys_of made.entries ≡ keys_of map.now.entries) }
-    ensures equal { IfOk result (λ made. IsTrue (has_same_counts nat_eq nat_eq made.entries
-        map.now.entries)) }
 {
     map.clone()
 }
@@ -144,26 +115,38 @@ pub fn clone_then_if_distinct(map: &VecMap<u32, u32>) -> Result<VecMap<u32, u32>
     map.clone()
 }
 
-pub fn eq_then_if_distinct(map: &VecMap<u32, u32>, other: &VecMap<u32, u32>) -> bool
+#[tactic(auto, using(vecmap_laws::proofs::Rules::clones_at_numbers))]
+pub fn clone_then_clones_at_numbers(map: &VecMap<u32, u32>) -> Result<VecMap<u32, u32>, AllocError>
+    ensures equal { IfOk result (λ made. IsTrue (has_same_counts nat_eq nat_eq made.entries
+        map.now.entries)) }
+{
+    map.clone()
+}
+
+#[tactic(auto, using(vecmap_laws::proofs::Rules::equal_at_numbers))]
+pub fn eq_then_equal_at_numbers_if_distinct(
+    map: &VecMap<u32, u32>,
+    other: &VecMap<u32, u32>,
+) -> bool
     requires distinct { HasDistinctKeys nat_eq map.now.entries }
     requires other_distinct { HasDistinctKeys nat_eq other.now.entries }
     ensures lookup { IsTrue result → (q : ℕ) → lookup nat_eq map.now.entries q ≡ lookup nat_eq
         other.now.entries q }
-    ensures present { IsTrue result → (q : ℕ) → is_some (index_of nat_eq map.now.entries q)
-        ≡ is_some (index_of nat_eq other.now.entries q) }
+    ensures present { IsTrue result → (q : ℕ) → is_some (lookup nat_eq map.now.entries q) ≡ is_some
+        (lookup nat_eq other.now.entries q) }
 {
     *map == *other
 }
 
 pub fn eq_then(map: &VecMap<u32, u32>, other: &VecMap<u32, u32>) -> bool
     requires other_distinct { HasDistinctKeys nat_eq other.now.entries }
-    ensures length { IsTrue result → length map.now.entries ≡ length other.now.entries }
     ensures equal { result ≡ has_same_counts nat_eq nat_eq map.now.entries other.now.entries }
 {
     *map == *other
 }
 
-pub fn clone_then_eq_then(map: &VecMap<u32, u32>) -> Result<bool, AllocError>
+#[tactic(auto, using(vecmap_laws::proofs::Rules::clones_at_numbers))]
+pub fn clone_then_eq_then_clones_at_numbers(map: &VecMap<u32, u32>) -> Result<bool, AllocError>
     ensures equal { IfOk result (λ same. IsTrue same) }
 {
     let copy = map.clone()?;

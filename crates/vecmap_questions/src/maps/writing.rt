@@ -1,8 +1,8 @@
 //! Writes of the value of a key.
-ghost use Rattle.std.specs.Prelude.{◌≡◌, ◌<◌, ℕ, String, IsSome, None, Some, bytes_eq, if◌then◌else◌, is_some, length, nat_eq, string_eq, true};
+ghost use Rattle.std.specs.Prelude.{◌≡◌, ◌<◌, ℕ, String, IsSome, None, Some, if◌then◌else◌, is_some, length, nat_eq, string_eq, true};
 ghost use Rattle.std.specs.Map.{keys_of};
 ghost use Rattle.std.specs.declared.alloc.Global.{Global};
-ghost use Rattle.vecmap.specs.Pairs.{HasDistinctKeys, has_text, index_by, index_of, lookup, lookup_by, value_at};
+ghost use Rattle.vecmap.specs.Pairs.{HasDistinctKeys, has_text, index_by, index_of, lookup, lookup_by};
 
 use std::alloc::Global;
 use vecmap::VecMap;
@@ -17,8 +17,6 @@ pub fn get_mut_then(map: &mut VecMap<u32, u32>, key: u32, value: u32)
     ensures index { index_of nat_eq map.new.entries key ≡ index_of nat_eq map.old.entries key }
     ensures indices { (q : ℕ) → index_of nat_eq map.new.entries q ≡ index_of nat_eq map.old.entries
         q }
-    ensures pair { (i : ℕ) → index_of nat_eq map.old.entries key ≡ Some i → value_at map.new.entries
-        i ≡ Some value }
     ensures length { length map.new.entries ≡ length map.old.entries }
     ensures keys { keys_of map.new.entries ≡ keys_of map.old.entries }
 {
@@ -88,21 +86,6 @@ pub fn get_mut_then_if_distinct_by_text(map: &mut VecMap<String, u32>, text: &st
     }
 }
 
-pub fn get_mut_then_by_text_query(
-    map: &mut VecMap<String, u32>,
-    text: &str,
-    value: u32,
-    other: &str,
-)
-    requires present { IsSome (lookup_by (has_text text.now) map.old.entries) }
-    ensures query { lookup_by (has_text other.now) map.new.entries ≡ (if bytes_eq text.now other.now
-        then Some value else lookup_by (has_text other.now) map.old.entries) }
-{
-    if let Some(stored) = map.get_mut(text) {
-        *stored = value;
-    }
-}
-
 pub fn get_mut_of_absent_then(map: &mut VecMap<u32, u32>, key: u32, value: u32)
     ensures unchanged { lookup nat_eq map.old.entries key ≡ None → map.new ≡ map.old }
 {
@@ -121,8 +104,6 @@ pub fn index_mut_then(map: &mut VecMap<u32, u32>, key: u32, value: u32)
     ensures index { index_of nat_eq map.new.entries key ≡ index_of nat_eq map.old.entries key }
     ensures indices { (q : ℕ) → index_of nat_eq map.new.entries q ≡ index_of nat_eq map.old.entries
         q }
-    ensures pair { (i : ℕ) → index_of nat_eq map.old.entries key ≡ Some i → value_at map.new.entries
-        i ≡ Some value }
     ensures length { length map.new.entries ≡ length map.old.entries }
     ensures keys { keys_of map.new.entries ≡ keys_of map.old.entries }
 {
@@ -239,31 +220,5 @@ pub fn get_index_of_str_and_write_then_if_distinct_by_text(
 {
     if let Some(index) = map.get_index_of_str(text) {
         map[index] = value;
-    }
-}
-
-pub fn get_full_mut_then(map: &mut VecMap<u32, u32>, key: u32, value: u32)
-    requires present { IsSome (lookup nat_eq map.old.entries key) }
-    ensures key { lookup nat_eq map.new.entries key ≡ Some value }
-    ensures lookup { (q : ℕ) → lookup nat_eq map.new.entries q ≡ (if nat_eq key q then Some value
-        else lookup nat_eq map.old.entries q) }
-    ensures present { is_some (lookup nat_eq map.new.entries key) ≡ true }
-    ensures indices { (q : ℕ) → index_of nat_eq map.new.entries q ≡ index_of nat_eq map.old.entries
-        q }
-    ensures length { length map.new.entries ≡ length map.old.entries }
-    ensures keys { keys_of map.new.entries ≡ keys_of map.old.entries }
-{
-    if let Some((_index, _key, stored)) = map.get_full_mut(&key) {
-        *stored = value;
-    }
-}
-
-pub fn get_full_mut_then_if_distinct(map: &mut VecMap<u32, u32>, key: u32, value: u32)
-    requires distinct { HasDistinctKeys nat_eq map.old.entries }
-    requires present { IsSome (lookup nat_eq map.old.entries key) }
-    ensures distinct { HasDistinctKeys nat_eq map.new.entries }
-{
-    if let Some((_index, _key, stored)) = map.get_full_mut(&key) {
-        *stored = value;
     }
 }

@@ -1,5 +1,5 @@
 //! Writes at an index, and of all values.
-ghost use Rattle.std.specs.Prelude.{◌≡◌, ◌-◌, ◌/◌, ◌<◌, ℕ, IsSome, Some, if◌then◌else◌, is_some, length, nat_eq, option_map, slice_set};
+ghost use Rattle.std.specs.Prelude.{◌≡◌, ◌-◌, ◌/◌, ◌<◌, ℕ, IsSome, Some, if◌then◌else◌, is_some, length, nat_eq, option_map};
 ghost use Rattle.std.specs.List.{All};
 ghost use Rattle.std.specs.Map.{keys_of, values_of};
 ghost use Rattle.vecmap.specs.Pairs.{HasDistinctKeys, index_of, lookup, value_at};
@@ -12,8 +12,6 @@ pub fn index_mut_at_then_if_distinct(map: &mut VecMap<u32, u32>, index: usize, v
     ensures key { (k : ℕ) → index_of nat_eq map.old.entries k ≡ Some index → lookup nat_eq
         map.new.entries k ≡ Some value }
     ensures distinct { HasDistinctKeys nat_eq map.new.entries }
-    ensures lookup { (k q : ℕ) → index_of nat_eq map.old.entries k ≡ Some index → lookup nat_eq
-        map.new.entries q ≡ (if nat_eq k q then Some value else lookup nat_eq map.old.entries q) }
 {
     map[index] = value;
 }
@@ -29,7 +27,6 @@ pub fn index_mut_at_then(map: &mut VecMap<u32, u32>, index: usize, value: u32)
         nat_eq map.old.entries q) }
     ensures indices { (q : ℕ) → index_of nat_eq map.new.entries q ≡ index_of nat_eq map.old.entries
         q }
-    ensures values { values_of map.new.entries ≡ slice_set (values_of map.old.entries) index value }
 {
     map[index] = value;
 }
@@ -40,8 +37,6 @@ pub fn get_value_at_mut_then_if_distinct(map: &mut VecMap<u32, u32>, index: usiz
     ensures key { (k : ℕ) → index_of nat_eq map.old.entries k ≡ Some index → lookup nat_eq
         map.new.entries k ≡ Some value }
     ensures distinct { HasDistinctKeys nat_eq map.new.entries }
-    ensures lookup { (k q : ℕ) → index_of nat_eq map.old.entries k ≡ Some index → lookup nat_eq
-        map.new.entries q ≡ (if nat_eq k q then Some value else lookup nat_eq map.old.entries q) }
 {
     if let Some(stored) = map.get_value_at_mut(index) {
         *stored = value;
@@ -59,41 +54,8 @@ pub fn get_value_at_mut_then(map: &mut VecMap<u32, u32>, index: usize, value: u3
         nat_eq map.old.entries q) }
     ensures indices { (q : ℕ) → index_of nat_eq map.new.entries q ≡ index_of nat_eq map.old.entries
         q }
-    ensures values { values_of map.new.entries ≡ slice_set (values_of map.old.entries) index value }
 {
     if let Some(stored) = map.get_value_at_mut(index) {
-        *stored = value;
-    }
-}
-
-pub fn get_index_mut_then_if_distinct(map: &mut VecMap<u32, u32>, index: usize, value: u32)
-    requires distinct { HasDistinctKeys nat_eq map.old.entries }
-    requires within { index < length map.old.entries }
-    ensures key { (k : ℕ) → index_of nat_eq map.old.entries k ≡ Some index → lookup nat_eq
-        map.new.entries k ≡ Some value }
-    ensures lookup { (k q : ℕ) → index_of nat_eq map.old.entries k ≡ Some index → lookup nat_eq
-        map.new.entries q ≡ (if nat_eq k q then Some value else lookup nat_eq map.old.entries q) }
-    ensures distinct { HasDistinctKeys nat_eq map.new.entries }
-{
-    if let Some((_key, stored)) = map.get_index_mut(index) {
-        *stored = value;
-    }
-}
-
-pub fn get_index_mut_then(map: &mut VecMap<u32, u32>, index: usize, value: u32)
-    requires within { index < length map.old.entries }
-    ensures present { (q : ℕ) → is_some (index_of nat_eq map.new.entries q) ≡ is_some (index_of
-        nat_eq map.old.entries q) }
-    ensures indices { (q : ℕ) → index_of nat_eq map.new.entries q ≡ index_of nat_eq map.old.entries
-        q }
-    ensures pair { (i : ℕ) → value_at map.new.entries i ≡ (if nat_eq i index then Some value
-        else value_at map.old.entries i) }
-    ensures length { length map.new.entries ≡ length map.old.entries }
-    ensures keys { keys_of map.new.entries ≡ keys_of map.old.entries }
-    ensures values { values_of map.new.entries ≡ slice_set (values_of map.old.entries) index value }
-    ensures empty { 0 < length map.new.entries }
-{
-    if let Some((_key, stored)) = map.get_index_mut(index) {
         *stored = value;
     }
 }
@@ -119,17 +81,6 @@ pub fn first_value_mut_then_if_distinct(map: &mut VecMap<u32, u32>, value: u32)
     }
 }
 
-pub fn first_mut_then(map: &mut VecMap<u32, u32>, value: u32)
-    requires not_empty { 0 < length map.old.entries }
-    ensures pair { value_at map.new.entries 0 ≡ Some value }
-    ensures length { length map.new.entries ≡ length map.old.entries }
-    ensures keys { keys_of map.new.entries ≡ keys_of map.old.entries }
-{
-    if let Some((_key, stored)) = map.first_mut() {
-        *stored = value;
-    }
-}
-
 pub fn last_value_mut_then(map: &mut VecMap<u32, u32>, value: u32)
     requires not_empty { 0 < length map.old.entries }
     ensures pair { value_at map.new.entries (length map.new.entries - 1) ≡ Some value }
@@ -151,19 +102,63 @@ pub fn last_value_mut_then_if_distinct(map: &mut VecMap<u32, u32>, value: u32)
     }
 }
 
-pub fn update_values_then(map: &mut VecMap<u32, u32>, value: u32)
+pub fn pair_mut_then_if_distinct(map: &mut VecMap<u32, u32>, index: usize, value: u32)
+    requires distinct { HasDistinctKeys nat_eq map.old.entries }
+    requires within { index < length map.old.entries }
+    ensures key { (k : ℕ) → index_of nat_eq map.old.entries k ≡ Some index → lookup nat_eq
+        map.new.entries k ≡ Some value }
+    ensures distinct { HasDistinctKeys nat_eq map.new.entries }
+{
+    let (_key, stored) = map.pair_mut(index);
+    *stored = value;
+}
+
+pub fn pair_mut_then(map: &mut VecMap<u32, u32>, index: usize, value: u32)
+    requires within { index < length map.old.entries }
+    ensures present { (q : ℕ) → is_some (index_of nat_eq map.new.entries q) ≡ is_some (index_of
+        nat_eq map.old.entries q) }
+    ensures indices { (q : ℕ) → index_of nat_eq map.new.entries q ≡ index_of nat_eq map.old.entries
+        q }
+    ensures pair { (i : ℕ) → value_at map.new.entries i ≡ (if nat_eq i index then Some value
+        else value_at map.old.entries i) }
+    ensures length { length map.new.entries ≡ length map.old.entries }
+    ensures keys { keys_of map.new.entries ≡ keys_of map.old.entries }
+    ensures empty { 0 < length map.new.entries }
+{
+    let (_key, stored) = map.pair_mut(index);
+    *stored = value;
+}
+
+pub fn set_values_then(map: &mut VecMap<u32, u32>, value: u32)
     ensures key { (q : ℕ) → IsSome (lookup nat_eq map.old.entries q) → lookup nat_eq map.new.entries
         q ≡ Some value }
+    ensures present { (q : ℕ) → is_some (index_of nat_eq map.new.entries q) ≡ is_some (index_of
+        nat_eq map.old.entries q) }
+    ensures indices { (q : ℕ) → index_of nat_eq map.new.entries q ≡ index_of nat_eq map.old.entries
+        q }
+    ensures length { length map.new.entries ≡ length map.old.entries }
+    ensures keys { keys_of map.new.entries ≡ keys_of map.old.entries }
+    ensures values { All (λ v. v ≡ value) (values_of map.new.entries) }
+{
+    map.set_values(value);
+}
+
+pub fn set_values_then_if_distinct(map: &mut VecMap<u32, u32>, value: u32)
+    requires distinct { HasDistinctKeys nat_eq map.old.entries }
+    ensures distinct { HasDistinctKeys nat_eq map.new.entries }
+{
+    map.set_values(value);
+}
+
+pub fn update_values_then(map: &mut VecMap<u32, u32>, value: u32)
     ensures lookup { (q : ℕ) → lookup nat_eq map.new.entries q ≡ option_map (λ _. value) (lookup
         nat_eq map.old.entries q) }
     ensures present { (q : ℕ) → is_some (index_of nat_eq map.new.entries q) ≡ is_some (index_of
         nat_eq map.old.entries q) }
     ensures indices { (q : ℕ) → index_of nat_eq map.new.entries q ≡ index_of nat_eq map.old.entries
         q }
-    ensures pair { (i : ℕ) → i < length map.old.entries → value_at map.new.entries i ≡ Some value }
     ensures length { length map.new.entries ≡ length map.old.entries }
     ensures keys { keys_of map.new.entries ≡ keys_of map.old.entries }
-    ensures values { All (λ v. v ≡ value) (values_of map.new.entries) }
 {
     map.update_values(|_key, stored| *stored = value);
 }

@@ -24,8 +24,6 @@ pub fn insert_then(set: &mut VecSet<u32>, item: u32) -> Result<(), AllocError>
     ensures ends { OnOk result (is_member nat_eq set.old.elements item ≡ false → slice_get
         set.new.elements (length set.new.elements - 1) ≡ Some item) }
     ensures unchanged { OnErr result (set.new ≡ set.old) }
-    ensures index { OnOk result (is_member nat_eq set.old.elements item ≡ false → item_index nat_eq
-        set.new.elements item ≡ Some (length set.old.elements)) }
 {
     set.insert(item)?;
     Ok(())
@@ -47,8 +45,6 @@ pub fn insert_then_generic<T: Eq + Drop>(set: &mut VecSet<T>, item: T) -> Result
         then length set.old.elements else length set.old.elements + 1)) }
     ensures distinct { OnOk result (IsDistinct T.eq set.new.elements) }
     ensures empty { OnOk result (0 < length set.new.elements) }
-    ensures index { OnOk result (is_member T.eq set.old.elements item ≡ false → item_index T.eq
-        set.new.elements item ≡ Some (length set.old.elements)) }
 {
     set.insert(item)?;
     Ok(())
@@ -66,6 +62,32 @@ pub fn insert_then_by_text(
     Ok(())
 }
 
+pub fn insert_full_then(set: &mut VecSet<u32>, item: u32) -> Result<(), AllocError>
+    ensures present { OnOk result (is_member nat_eq set.new.elements item ≡ true) }
+    ensures members { OnOk result ((q : ℕ) → is_member nat_eq set.new.elements q ≡ (nat_eq item q
+        || is_member nat_eq set.old.elements q)) }
+    ensures indices { OnOk result ((q : ℕ) (i : ℕ) → item_index nat_eq set.old.elements q ≡ Some i
+        → item_index nat_eq set.new.elements q ≡ Some i) }
+    ensures length { OnOk result (length set.new.elements ≡ (if is_member nat_eq set.old.elements
+        item then length set.old.elements else length set.old.elements + 1)) }
+    ensures distinct { OnOk result (IsDistinct nat_eq set.new.elements) }
+    ensures empty { OnOk result (0 < length set.new.elements) }
+    ensures unchanged { OnErr result (set.new ≡ set.old) }
+{
+    set.insert_full(item)?;
+    Ok(())
+}
+
+pub fn insert_full_then_result(
+    set: &mut VecSet<u32>,
+    item: u32,
+) -> Result<(usize, bool), Refused<u32>>
+    ensures result { IfOk result (λ done. slice_get set.new.elements done.0 ≡ Some item) }
+    ensures present { IfOk result (λ done. done.1 ≡ not (is_member nat_eq set.old.elements item)) }
+{
+    set.insert_full(item)
+}
+
 pub fn replace_then(set: &mut VecSet<u32>, item: u32) -> Result<(), AllocError>
     ensures present { OnOk result (is_member nat_eq set.new.elements item ≡ true) }
     ensures members { OnOk result ((q : ℕ) → is_member nat_eq set.new.elements q ≡ (nat_eq item q
@@ -73,16 +95,8 @@ pub fn replace_then(set: &mut VecSet<u32>, item: u32) -> Result<(), AllocError>
     ensures distinct { OnOk result (IsDistinct nat_eq set.new.elements) }
     ensures empty { OnOk result (0 < length set.new.elements) }
     ensures unchanged { OnErr result (set.new ≡ set.old) }
-    ensures index { OnOk result (is_member nat_eq set.old.elements item ≡ false → item_index nat_eq
-        set.new.elements item ≡ Some (length set.old.elements)) }
     ensures indices { OnOk result ((q : ℕ) (i : ℕ) → item_index nat_eq set.old.elements q ≡ Some i
         → item_index nat_eq set.new.elements q ≡ Some i) }
-    ensures element { OnOk result (is_member nat_eq set.old.elements item ≡ false → slice_get
-        set.new.elements (length set.old.elements) ≡ Some item) }
-    ensures length { OnOk result (length set.new.elements ≡ (if is_member nat_eq set.old.elements
-        item then length set.old.elements else length set.old.elements + 1)) }
-    ensures ends { OnOk result (is_member nat_eq set.old.elements item ≡ false → slice_get
-        set.new.elements (length set.new.elements - 1) ≡ Some item) }
 {
     set.replace(item)?;
     Ok(())
@@ -98,8 +112,6 @@ pub fn insert_unique_then(set: &mut VecSet<u32>, item: u32) -> Result<(), AllocE
     ensures distinct { OnOk result (IsDistinct nat_eq set.new.elements) }
     ensures empty { OnOk result (0 < length set.new.elements) }
     ensures unchanged { OnErr result (set.new ≡ set.old) }
-    ensures index { OnOk result (item_index nat_eq set.new.elements item ≡ Some (length
-        set.old.elements)) }
     ensures element { OnOk result (slice_get set.new.elements (length set.old.elements) ≡ Some item) }
     ensures length { OnOk result (length set.new.elements ≡ length set.old.elements + 1) }
     ensures ends { OnOk result (slice_get set.new.elements (length set.new.elements - 1)
@@ -124,8 +136,6 @@ pub fn add_item_then(set: &mut VecSet<u32>, item: u32) -> Result<(), AllocError>
     ensures ends { OnOk result (is_member nat_eq set.old.elements item ≡ false → slice_get
         set.new.elements (length set.new.elements - 1) ≡ Some item) }
     ensures unchanged { OnErr result (set.new ≡ set.old) }
-    ensures index { OnOk result (is_member nat_eq set.old.elements item ≡ false → item_index nat_eq
-        set.new.elements item ≡ Some (length set.old.elements)) }
 {
     add_item(set, item)?;
     Ok(())

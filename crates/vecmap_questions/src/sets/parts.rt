@@ -1,5 +1,5 @@
 //! Removals of many elements, and of the last.
-ghost use Rattle.std.specs.Prelude.{◌≡◌, ◌+◌, ◌-◌, ◌<◌, ◌≤◌, ◌&&◌, ◌||◌, ℕ, [], IfOk, IfSome, None, OnErr, Some, drop, false, filter, length, nat_eq, nat_lt, not, slice_get, true};
+ghost use Rattle.std.specs.Prelude.{◌≡◌, ◌+◌, ◌-◌, ◌<◌, ◌≤◌, ◌&&◌, ◌||◌, ℕ, [], IfOk, IfSome, None, OnErr, Some, drop, false, length, nat_eq, nat_lt, not, slice_get};
 ghost use Rattle.std.specs.List.{IsDistinct};
 ghost use Rattle.std.specs.Set.{is_member};
 ghost use Rattle.vecmap.specs.Items.{item_index};
@@ -15,8 +15,6 @@ pub fn pop_then(set: &mut VecSet<u32>)
     ensures distinct { IsDistinct nat_eq set.new.elements }
     ensures ends { 0 < (length set.old.elements - 1) → slice_get set.new.elements 0 ≡ slice_get
         set.old.elements 0 }
-    ensures present { (q : ℕ) (i : ℕ) → item_index nat_eq set.old.elements q ≡ Some i → i < (length
-        set.old.elements - 1) → is_member nat_eq set.new.elements q ≡ true }
     ensures indices { (q : ℕ) (i : ℕ) → item_index nat_eq set.old.elements q ≡ Some i → i < (length
         set.old.elements - 1) → item_index nat_eq set.new.elements q ≡ Some i }
 {
@@ -40,8 +38,6 @@ pub fn truncate_then(set: &mut VecSet<u32>, index: usize)
     ensures length { index ≤ length set.old.elements → length set.new.elements ≡ index }
     ensures distinct { IsDistinct nat_eq set.new.elements }
     ensures ends { 0 < index → slice_get set.new.elements 0 ≡ slice_get set.old.elements 0 }
-    ensures present { (q : ℕ) (i : ℕ) → item_index nat_eq set.old.elements q ≡ Some i → i < index
-        → is_member nat_eq set.new.elements q ≡ true }
     ensures indices { (q : ℕ) (i : ℕ) → item_index nat_eq set.old.elements q ≡ Some i → i < index
         → item_index nat_eq set.new.elements q ≡ Some i }
     ensures unchanged { length set.old.elements ≤ index → set.new.elements ≡ set.old.elements }
@@ -53,8 +49,6 @@ pub fn truncate_then(set: &mut VecSet<u32>, index: usize)
 pub fn split_off_then(set: &mut VecSet<u32>, index: usize) -> Result<VecSet<u32>, AllocError>
     requires within { index ≤ length set.old.elements }
     ensures result { IfOk result (λ made. made.elements ≡ drop index set.old.elements) }
-    ensures present { IfOk result (λ made. (q : ℕ) (i : ℕ) → item_index nat_eq set.old.elements q
-        ≡ Some i → index ≤ i → is_member nat_eq made.elements q ≡ true) }
     ensures members { IfOk result (λ made. (q : ℕ) → is_member nat_eq set.old.elements q
         ≡ (is_member nat_eq set.new.elements q || is_member nat_eq made.elements q)) }
     ensures length { IfOk result (λ made. length set.new.elements + length made.elements ≡ length
@@ -76,11 +70,9 @@ pub fn clear_then(set: &mut VecSet<u32>)
 }
 
 pub fn retain_then(set: &mut VecSet<u32>, item: u32)
-    ensures present { is_member nat_eq set.new.elements item ≡ false }
     ensures members { (q : ℕ) → is_member nat_eq set.new.elements q ≡ (is_member nat_eq
         set.old.elements q && nat_lt q item) }
     ensures length { length set.new.elements ≤ length set.old.elements }
-    ensures order { set.new.elements ≡ filter (λ x. nat_lt x item) set.old.elements }
     ensures distinct { IsDistinct nat_eq set.new.elements }
 {
     set.retain(|x| *x < item);
@@ -93,12 +85,6 @@ pub fn drain_then(set: &mut VecSet<u32>, index: usize)
     ensures length { index ≤ length set.old.elements → length set.new.elements ≡ index }
     ensures distinct { IsDistinct nat_eq set.new.elements }
     ensures ends { 0 < index → slice_get set.new.elements 0 ≡ slice_get set.old.elements 0 }
-    ensures present { (q : ℕ) (i : ℕ) → item_index nat_eq set.old.elements q ≡ Some i → i < index
-        → is_member nat_eq set.new.elements q ≡ true }
-    ensures members { (q : ℕ) (i : ℕ) → item_index nat_eq set.old.elements q ≡ Some i → index ≤ i
-        → is_member nat_eq set.new.elements q ≡ false }
-    ensures indices { (q : ℕ) (i : ℕ) → item_index nat_eq set.old.elements q ≡ Some i → i < index
-        → item_index nat_eq set.new.elements q ≡ Some i }
 {
     for _item in set.drain(index..) {}
 }
