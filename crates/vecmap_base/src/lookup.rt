@@ -167,6 +167,7 @@ pub(crate) fn are_small<T>(items: &[T], length: usize) -> bool {
 /// ```
 /// find_equivalent(&[("a", 1), ("b", 2)], "b") // Some(1)
 /// ```
+#[inline]
 #[tactic(auto, using(crate::proofs::PairsLemmas::ByIndex::index_by_is))]
 pub fn find_equivalent<K: Eq, V, Q: Equivalent<K>>(pairs: &[(K, V)], query: Q) -> Option<usize>
     ensures index { result ≡ index_by (Q.equivalent query) pairs.now }
