@@ -14,7 +14,8 @@ from rattle import LAWS, SCRIPT, crate_of, definitions, dependencies, files, hea
 # The kinds that users read: a change of one is named in CHANGELOG.
 CONTRACTS = ("call", "type", "impl", "definition", "lemma", "export")
 # The crates of which a user sees nothing.
-HIDDEN = ("vecmap_bench", "vecmap_script", "vecmap_tests")
+SCRIPTS = ("vecmap_script", "vecmap_script_base", "vecmap_script_map", "vecmap_script_set")
+HIDDEN = ("vecmap_bench", *SCRIPTS, "vecmap_tests")
 # The ghost members that are proofs: what they prove is said by their trait.
 PROOFS = ("laws", "respects_eq", "clones")
 # What the script of the test cases prints.

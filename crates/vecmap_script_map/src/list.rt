@@ -1,12 +1,13 @@
 //! Calls that take many pairs: `extend 1a:10 2b:20`.
-use super::of_index;
-use crate::both::{array_of, calls_of_list, hinted};
-use crate::given::Hinted;
-use crate::listed::Pair;
-use crate::words::number_after;
-use crate::{Call, Map, Out, Outcome};
-use std::alloc::{AllocError, Global};
-use vecmap::{VecMap, keys_distinct, vecmap};
+use crate::{Map, of_index};
+use std::alloc::AllocError;
+use vecmap_base::keys_distinct;
+use vecmap_map::VecMap;
+use vecmap_script_base::both::{array_of, hinted};
+use vecmap_script_base::given::Hinted;
+use vecmap_script_base::listed::Pair;
+use vecmap_script_base::words::number_after;
+use vecmap_script_base::{Call, Out, Outcome, calls_of_list};
 
 pub fn make(map: &mut Map, other: &mut Map, out: &mut Out, call: Call) -> Option<Outcome> {
     calls_of_list!(VecMap<Pair>, map, other, out, call, of_pairs)
@@ -25,11 +26,6 @@ fn of_pairs(map: &mut Map, other: &mut Map, out: &mut Out, call: Call) -> Option
             }
             out.store(map, Ok(VecMap::from_vec_unchecked(pairs)))
         }
-        "vecmap!" => {
-            let mut pairs = out.read_list(call.args)?.into_iter();
-            let made = map_of(out.alloc, pairs.next()?, pairs.next()?, pairs.next()?);
-            out.store(map, made)
-        }
         _ => return of_index(map, other, out, call),
     })
 }
@@ -45,8 +41,4 @@ fn extend_lent(map: &mut Map, out: &mut Out, call: Call) -> Option<Outcome> {
         "extend_refs" => map.extend_refs(lent.map(|pair| (&pair.0, &pair.1))),
         _ => Extend::extend(map, lent.map(|pair| (&pair.0, &pair.1))),
     }))
-}
-
-fn map_of(alloc: Global, a: Pair, b: Pair, c: Pair) -> Result<Map, AllocError> {
-    Ok(vecmap!(alloc; a.0 => a.1, b.0 => b.1, c.0 => c.1))
 }

@@ -3,8 +3,10 @@ use crate::given::references;
 use crate::listed::Pair;
 use crate::{Call, Item, Out, Outcome, again};
 use std::alloc::{AllocError, Global};
-use vecmap::{items_distinct, keys_distinct};
-use vecmap_base::{Steps, contains_item, find, find_item, gather_items, gather_pairs};
+use vecmap_base::{
+    Steps, contains_item, find, find_item, gather_items, gather_pairs, items_distinct,
+    keys_distinct,
+};
 
 pub fn make(out: &mut Out, call: Call) -> Option<Outcome> {
     Some(match call.name {

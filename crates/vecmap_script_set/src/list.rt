@@ -1,9 +1,10 @@
 //! Calls that take many elements: `extend 1a 2b`.
-use super::{copied, of_index};
-use crate::both::{array_of, calls_of_list, hinted};
-use crate::{Call, Item, Out, Outcome, Set};
-use std::alloc::{AllocError, Global};
-use vecmap::{VecSet, items_distinct, vecset};
+use crate::{Set, copied, of_index};
+use std::alloc::AllocError;
+use vecmap_base::items_distinct;
+use vecmap_script_base::both::{array_of, hinted};
+use vecmap_script_base::{Call, Item, Out, Outcome, calls_of_list};
+use vecmap_set::VecSet;
 
 pub fn make(set: &mut Set, other: &mut Set, out: &mut Out, call: Call) -> Option<Outcome> {
     calls_of_list!(VecSet<Item>, set, other, out, call, of_elements)
@@ -20,15 +21,6 @@ fn of_elements(set: &mut Set, other: &mut Set, out: &mut Out, call: Call) -> Opt
             }
             out.store(set, Ok(VecSet::from_vec_unchecked(items)))
         }
-        "vecset!" => {
-            let mut items = out.read_list(call.args)?.into_iter();
-            let made = set_of(out.alloc, items.next()?, items.next()?, items.next()?);
-            out.store(set, made)
-        }
         _ => return of_index(set, other, out, call),
     })
-}
-
-fn set_of(alloc: Global, a: Item, b: Item, c: Item) -> Result<Set, AllocError> {
-    Ok(vecset!(alloc; a, b, c))
 }

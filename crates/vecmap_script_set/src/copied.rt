@@ -3,11 +3,12 @@
 ghost use Rattle.std.specs.Prelude.{nat_eq};
 ghost use Rattle.std.specs.Cmp.{nat_eq_equiv, partial_equiv_from_equiv};
 
-use crate::given::Hinted;
-use crate::words::number_after;
-use crate::{Call, Item, Out, Outcome, Set, again};
+use crate::Set;
 use std::alloc::AllocError;
-use vecmap::VecSet;
+use vecmap_script_base::given::Hinted;
+use vecmap_script_base::words::number_after;
+use vecmap_script_base::{Call, Item, Out, Outcome, again};
+use vecmap_set::VecSet;
 
 /// An element without a log.
 #[derive(Clone, Copy)]
