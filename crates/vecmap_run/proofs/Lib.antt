@@ -1,3 +1,4 @@
 pub mod BufferLemmas
 pub mod CommandLemmas
 pub mod ServiceLemmas
+pub mod TextLemmas

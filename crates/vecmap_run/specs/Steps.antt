@@ -1,5 +1,5 @@
 -- Which answers are allowed for a command, and how it changes the map.
-use Rattle.std.specs.Prelude.{◌≡◌, ℕ, ◌<◌, ◌≤◌, List, Some, String, length, unwrap_or, string_bytes, string_eq, ℤ}
+use Rattle.std.specs.Prelude.{◌≡◌, ℕ, ◌<◌, ◌≤◌, List, None, Some, String, length, unwrap_or, string_bytes, string_eq, ℤ}
 use Rattle.std.specs.declared.alloc.Global.{Global}
 use Rattle.vecmap.specs.Pairs.{has_text, index_by, lookup, lookup_by, lookup_full, put, put_at, swap_without_by, without_by}
 use Rattle.vecmap_run.specs.declared.answer.Answer.{Answer}
@@ -11,11 +11,17 @@ use Rattle.vecmap_run.specs.declared.command.Command.TheVariants as command
 abbrev pub Entries : Type 0
 Entries = List (String Global × ℤ)
 
--- Example: `insert a 3` on `a=1`: `some 1`, and `a=3`; or `memory`, if memory runs out for the key's text, and `a=1`.
+-- Example: of `b` with 2, `a=1` becomes `a=1 b=2`.
+-- No key has this text; a key that has it is appended with the value, and it changes `old` to `new`.
+abbrev pub Adds : Entries → List ℕ → ℤ → Entries → Type 0
+Adds old text value new = (key : String Global) × (string_bytes key ≡ text) × (lookup string_eq old key ≡ None) × (new ≡ put string_eq old key value)
+
+-- Memory may run out only for a new key: for its text, or for its pair.
+-- Example: `insert a 3` on `a=1`: `some 1`, and `a=3`. `insert b 2`: `none`, and `a=1 b=2`; or `memory`, and `a=1`.
 -- This answer is allowed for the insertion of this text and value, and it changes `old` to `new`.
 abbrev pub Inserts : Entries → List ℕ → ℤ → Answer → Entries → Type 0
 Inserts old text value (Value was) new = (key : String Global) × (string_bytes key ≡ text) × (was ≡ lookup string_eq old key) × (new ≡ put string_eq old key value)
-Inserts old text value NoMemory new = new ≡ old
+Inserts old text value NoMemory new = (lookup_by (has_text text) old ≡ None) × (new ≡ old)
 Inserts old text value _ new = ⊥
 
 -- This answer is allowed for the insertion of this text and value at an index, and it changes `old` to `new`.
@@ -25,10 +31,11 @@ InsertsAt old index text value NoMemory new = (index ≤ length old) × (new ≡
 InsertsAt old index text value OutOfRange new = (length old < index) × (new ≡ old)
 InsertsAt old index text value _ new = ⊥
 
+-- Memory may run out only for a new key.
 -- This answer is allowed for an insertion that keeps an existing value, and it changes `old` to `new`.
 abbrev pub OrInserts : Entries → List ℕ → ℤ → Answer → Entries → Type 0
 OrInserts old text value (Value found) new = (key : String Global) × (string_bytes key ≡ text) × (found ≡ Some (unwrap_or (lookup string_eq old key) value)) × (new ≡ put string_eq old key (unwrap_or (lookup string_eq old key) value))
-OrInserts old text value NoMemory new = new ≡ old
+OrInserts old text value NoMemory new = (lookup_by (has_text text) old ≡ None) × (new ≡ old)
 OrInserts old text value _ new = ⊥
 
 -- Only an insertion has more than one allowed answer, as memory may run out.

@@ -1,12 +1,13 @@
 //! The answer to each command.
-ghost use Rattle.std.specs.Prelude.{◌≡◌, IfOk, List, OnErr, OnOk, option_copied, string_eq, unwrap_or, ℕ};
-ghost use Rattle.vecmap.specs.Pairs.{lookup, put};
+ghost use Rattle.std.specs.Prelude.{◌≡◌, List, None, OnErr, OnOk, option_copied, ℕ};
+ghost use Rattle.vecmap.specs.Pairs.{has_text, lookup_by};
 ghost use Rattle.vecmap_run.specs.Lines.{within_limit};
 ghost use Rattle.vecmap_run.specs.Service.{MayAnswer};
-ghost use Rattle.vecmap_run.specs.Steps.{Inserts, InsertsAt, OrInserts, Step};
+ghost use Rattle.vecmap_run.specs.Steps.{Adds, Inserts, InsertsAt, OrInserts, Step};
 
 use crate::command::{Command, parse};
 use std::alloc::{AllocError, Global};
+use std::mem;
 use vecmap::VecMap;
 
 /// The answer to a line.
@@ -64,12 +65,12 @@ fn execute(alloc: Global, map: &mut VecMap<String, i64>, command: Command<'_>) -
 fn insert(alloc: Global, map: &mut VecMap<String, i64>, key: &str, value: i64) -> Answer
     ensures { Inserts map.old.entries key.now value result map.new.entries }
 {
-    let Ok(key) = key.to_string(alloc) else {
-        return Answer::NoMemory;
-    };
-    match map.insert(key, value) {
-        Ok(old) => Answer::Value(old),
-        Err(_refused) => Answer::NoMemory,
+    if let Some(stored) = map.get_mut(key) {
+        return Answer::Value(Some(mem::replace(stored, value)));
+    }
+    match insert_absent(alloc, map, key, value) {
+        Ok(()) => Answer::Value(None),
+        Err(AllocError) => Answer::NoMemory,
     }
 }
 
@@ -97,30 +98,29 @@ fn insert_at(
 fn or_insert(alloc: Global, map: &mut VecMap<String, i64>, key: &str, value: i64) -> Answer
     ensures { OrInserts map.old.entries key.now value result map.new.entries }
 {
-    let Ok(key) = key.to_string(alloc) else {
-        return Answer::NoMemory;
-    };
-    match value_or_insert(map, key, value) {
-        Ok(found) => Answer::Value(Some(found)),
+    if let Some(found) = map.get(key) {
+        return Answer::Value(Some(*found));
+    }
+    match insert_absent(alloc, map, key, value) {
+        Ok(()) => Answer::Value(Some(value)),
         Err(AllocError) => Answer::NoMemory,
     }
 }
 
-// Returns the value of the key. A key that is absent is first inserted with `value`.
-fn value_or_insert(
+// Appends a key that is absent. Only this needs memory: for the text of the key, and for the pair.
+fn insert_absent(
+    alloc: Global,
     map: &mut VecMap<String, i64>,
-    key: String,
+    key: &str,
     value: i64,
-) -> Result<i64, AllocError>
-    ensures value { IfOk result (λ found. found
-        ≡ unwrap_or (lookup string_eq map.old.entries key) value) }
-    ensures entries { OnOk result (map.new.entries
-        ≡ put string_eq map.old.entries key
-        (unwrap_or (lookup string_eq map.old.entries key) value)) }
+) -> Result<(), AllocError>
+    requires absent { lookup_by (has_text key.now) map.old.entries ≡ None }
+    ensures ok { OnOk result (Adds map.old.entries key.now value map.new.entries) }
     ensures err { OnErr result (map.new ≡ map.old) }
 {
-    match map.entry(key).or_insert(value) {
-        Ok(found) => Ok(*found),
+    let key = key.to_string(alloc)?;
+    match map.insert_unique(key, value) {
+        Ok(()) => Ok(()),
         Err(_refused) => Err(AllocError),
     }
 }

@@ -2,21 +2,20 @@
 use super::serve;
 use std::test::Fail;
 
-// `rt try --test --fail-alloc N` lets one allocation of this test fail: for the text of a key, or for the capacity for
-// the first or the fifth pair. The test then prints `refused`. No second allocation fails, so the next run has all
-// answers.
+// `rt try --test --fail-alloc N` lets one allocation of this test fail: for the text of a new key, or for the capacity
+// for the first or the fifth pair. The test then prints `refused`. The lines of the key `a` that is present need no
+// memory, so their answer is never `memory`. No second allocation fails, so the next run has all answers.
 #[test]
 fn answers_each_line_or_memory_where_one_is_refused(rt: HostRuntime) -> Result<(), Fail> {
     let input =
-        "insert a 1\nlen\ninsert_at 1 b 2\nor_insert c 3\ninsert a 4\ninsert d 5\ninsert e 6\nlist";
+        "insert a 1\nlen\ninsert_at 1 b 2\nor_insert c 3\ninsert a 4\nor_insert a 9\ninsert d 5\ninsert e 6\nlist";
     let outputs = [
-        "none\n1\nnone\nsome 3\nsome 1\nnone\nnone\na=4 b=2 c=3 d=5 e=6\n",
-        "memory\n0\nrange\nsome 3\nnone\nnone\nnone\nc=3 a=4 d=5 e=6\n",
-        "none\n1\nmemory\nsome 3\nsome 1\nnone\nnone\na=4 c=3 d=5 e=6\n",
-        "none\n1\nnone\nmemory\nsome 1\nnone\nnone\na=4 b=2 d=5 e=6\n",
-        "none\n1\nnone\nsome 3\nmemory\nnone\nnone\na=1 b=2 c=3 d=5 e=6\n",
-        "none\n1\nnone\nsome 3\nsome 1\nmemory\nnone\na=4 b=2 c=3 e=6\n",
-        "none\n1\nnone\nsome 3\nsome 1\nnone\nmemory\na=4 b=2 c=3 d=5\n",
+        "none\n1\nnone\nsome 3\nsome 1\nsome 4\nnone\nnone\na=4 b=2 c=3 d=5 e=6\n",
+        "memory\n0\nrange\nsome 3\nnone\nsome 4\nnone\nnone\nc=3 a=4 d=5 e=6\n",
+        "none\n1\nmemory\nsome 3\nsome 1\nsome 4\nnone\nnone\na=4 c=3 d=5 e=6\n",
+        "none\n1\nnone\nmemory\nsome 1\nsome 4\nnone\nnone\na=4 b=2 d=5 e=6\n",
+        "none\n1\nnone\nsome 3\nsome 1\nsome 4\nmemory\nnone\na=4 b=2 c=3 e=6\n",
+        "none\n1\nnone\nsome 3\nsome 1\nsome 4\nnone\nmemory\na=4 b=2 c=3 d=5\n",
         "",
     ];
     for is_first in [true, false] {

@@ -1,10 +1,16 @@
-use Rattle.std.proofs.Common.{FitsSigned, Some, ap, rules, w64}
+use Rattle.std.proofs.Common.{FitsSigned, Some, ap, rules, sym, unwrap_or, w64}
 use Rattle.std.proofs.lemmas.Int.{to_z-of_z}
+use Rattle.vecmap_run.proofs.TextLemmas.{keep_found}
 use Rattle.vecmap_run.proofs.answer.or_insert.Goals as goal
 
-pub returns-in-Ok-value_or_insert : goal.returns-in-Ok-value_or_insert
-returns-in-Ok-value_or_insert c =
+pub returns-in-Some : goal.returns-in-Some
+returns-in-Some c =
+    let stored : FitsSigned w64 c.in-Some.found.now = search rules in
+    let found = keep_found c.args.key.now c.args.map.now.entries c.in-Some.found.now c.args.value (sym c.in-Some.ensures.value) in
+    (found.0, found.1, simp to_z-of_z found.2, found.3)
+
+pub returns-in-Ok : goal.returns-in-Ok
+returns-in-Ok c =
     let given : FitsSigned w64 c.args.value = c.ranges.value in
-    let found : FitsSigned w64 c.in-Ok-value_or_insert.found = search rules in
-    let ok = c.in-Ok-value_or_insert.ensures in
-    (c.in-Ok.key, c.in-Ok.ensures.ok, simp to_z-of_z (ap Some (simp to_z-of_z at ok.value)), simp to_z-of_z at ok.entries)
+    let added = c.in-Ok.ensures.ok in
+    (added.0, added.1, simp to_z-of_z (ap (λ found. Some (unwrap_or found c.args.value)) (sym added.2)), rw added.2 (simp to_z-of_z at added.3))
