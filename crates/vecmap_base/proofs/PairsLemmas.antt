@@ -16,3 +16,4 @@ pub mod UpdatedAt
 pub mod AtIndices
 pub mod Reordered
 pub mod SetValues
+pub mod Retained

@@ -1,8 +1,7 @@
 -- What a closure leaves of a list if each call returns the result of a test, or writes the item in the same way.
 use Rattle.std.specs.Prelude.{◌≡◌, Bool, List, [], ◌∷◌, filter, if◌then◌else◌, refl}
 use Rattle.std.proofs.Common.{subst, ◌∙◌}
-use Rattle.vecmap_base.specs.Kept.{Kept}
-use Rattle.vecmap_laws.specs.Retaining.{TestsItems}
+use Rattle.vecmap_base.specs.Kept.{Kept, TestsItems}
 pub use Rattle.vecmap_base.proofs.KeptLemmas.{callable_here, kept_one, kept_not, kept_here, kept_all, written_while, written_in_state}
 
 module _ {F X : Type 0} (R : F → X → Bool → X → F → Type 0) where

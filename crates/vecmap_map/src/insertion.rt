@@ -1,9 +1,9 @@
 //! Insertion of one pair.
-ghost use Rattle.std.specs.Prelude.{◌≡◌, ◌++◌, ◌∷◌, ◌<◌, ◌≤◌, ◌⊎◌, Err, IfErr, IfOk, IfSome, IsSome, IsTrue, None, Ok, OnErr, OnOk, Some, [], length, ◌+◌, if◌then◌else◌, is_some, min, slice_get, ◌-◌};
-ghost use Rattle.vecmap_base.specs.Indices.{AddsKey, HasMatchAt, PutsKey};
+ghost use Rattle.std.specs.Prelude.{◌≡◌, ◌++◌, ◌∷◌, ◌<◌, ◌≤◌, ◌⊎◌, Err, IfErr, IfOk, IfSome, IsSome, IsTrue, None, Ok, OnErr, OnOk, Some, [], length, ◌+◌, if◌then◌else◌, is_some, min, option_map, slice_get, ◌-◌};
+ghost use Rattle.vecmap_base.specs.Indices.{AddsKey, HasMatchAt, InsertsAt, PutsKey};
 ghost use Rattle.vecmap_base.specs.Lookups.{Updates, UpdatesBy};
 ghost use Rattle.vecmap_base.specs.Pairs.{HasDistinctKeys, index_by, index_or_length, lookup, lookup_by, lookup_full, lookup_pair, put, put_at, put_key, with_value};
-ghost use Rattle.vecmap_map.specs.Contents.{Appends, FailsToAppend, HasRoom, KeepsRoom, KeepsRoomAt, Refuses, RefusesAt};
+ghost use Rattle.vecmap_map.specs.Contents.{Appends, FailsToAppend, FindsOrAppends, HasRoom, KeepsRoom, KeepsRoomAt, Refuses, RefusesAt};
 
 use crate::VecMap;
 use std::alloc::AllocError;
@@ -141,6 +141,8 @@ impl<K, V> VecMap<K, V> {
             → HasDistinctKeys K.eq self.new.entries }
         ensures len { IfOk result (λ old. length self.new.entries
             ≡ length self.old.entries + (if is_some old then 0 else 1)) }
+        ensures value { IfOk result (λ old. option_map (λ p. p.1) old
+            ≡ lookup K.eq self.old.entries key) }
         ensures keys { OnOk result (PutsKey K.eq self.old.entries key value self.new.entries) }
     {
         if let Some(index) = find(&self.pairs, &key) {
@@ -201,6 +203,8 @@ impl<K, V> VecMap<K, V> {
             → Updates K.eq self.old.entries key self.new.entries (Some value)) }
         ensures len { IfOk result (λ old. length self.new.entries
             ≡ length self.old.entries + (if is_some old then 0 else 1)) }
+        ensures keys { OnOk result (InsertsAt K.eq index self.old.entries key value
+            self.new.entries) }
         ensures at { OnOk result (slice_get self.new.entries (min index (length self.new.entries - 1))
             ≡ Some (key, value)) }
     {
@@ -336,6 +340,8 @@ impl<K, V> VecMap<K, V> {
         ensures stays { IsSome (lookup_by (Q.equivalent query) self.old.entries)
             → lookup_by (Q.equivalent query) self.new.entries
             ≡ lookup_by (Q.equivalent query) self.old.entries }
+        ensures found { OnOk result (FindsOrAppends (Q.equivalent query)
+            (λ pair. F.post make (Ok pair)) self.old self.new) }
     {
         if let Some(index) = self.get_index_of(query) {
             return Ok(index);

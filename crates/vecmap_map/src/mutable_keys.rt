@@ -5,7 +5,7 @@ ghost use Rattle.std.specs.Map.{IsKeyTest, keys_of};
 ghost use Rattle.std.specs.Option.{option_and_then};
 ghost use Rattle.vecmap_base.specs.Asked.{CallableOnEach, CallsAtPairMut, TakesPairMut};
 ghost use Rattle.vecmap_base.specs.Iterators.{ShowsAllOf, deref_both_mut, deref_mut, iter_mut2_name, iter_mut2_rest, keys_mut_name, keys_mut_rest};
-ghost use Rattle.vecmap_base.specs.Kept.{FiltersValues, KeepsKeys, Kept};
+ghost use Rattle.vecmap_base.specs.Kept.{FiltersValues, KeepsKeys, Kept, Retains};
 ghost use Rattle.vecmap_base.specs.Pairs.{HasDistinctKeys, index_by, lookup_by, lookup_pair_by};
 ghost use Rattle.vecmap_map.specs.Lends.{lends_pairs, lends_parts, lends_slice};
 
@@ -233,6 +233,8 @@ impl<K, V> MutableKeys for VecMap<K, V> {
         ensures retained { (g : F) × Kept
             (CallsAtPairMut F.FnMut) f self.old.entries self.new.entries g }
         ensures capacity { self.new.capacity ≡ self.old.capacity }
+        ensures left { Retains
+            (CallsAtPairMut F.FnMut) f self.old.entries self.new.entries }
     {
         retain_pairs_mut(&mut self.pairs, f);
     }

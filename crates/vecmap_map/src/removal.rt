@@ -2,14 +2,14 @@
 ghost use Rattle.std.specs.Prelude.{◌≡◌, IfNone, IfSome, ◌-◌, ◌<◌, ◌≤◌, IfOk, IsOk, OnErr, OnOk, Some, String, [], drop, length, remove, slice_get, take};
 ghost use Rattle.vecmap_base.specs.Items.{swap_without};
 ghost use Rattle.vecmap_base.specs.Asked.{CallableOnEach, CallsAtPair, TakesPairAt};
-ghost use Rattle.vecmap_base.specs.Kept.{FiltersValues, Kept, ReturnsAtKey};
-ghost use Rattle.std.specs.Map.{IsKeyTest};
+ghost use Rattle.vecmap_base.specs.Kept.{FiltersValues, Kept, Retains, ReturnsAtKey};
+ghost use Rattle.std.specs.Map.{IsKeyTest, keys_of};
 ghost use Rattle.std.specs.Option.{option_and_then, option_or};
 ghost use Rattle.std.specs.Cmp.{IsEquivalence};
-ghost use Rattle.std.specs.Prelude.{◌+◌, is_some, Bool, None, Option, cond, false, if◌then◌else◌, string_eq, true};
+ghost use Rattle.std.specs.Prelude.{◌+◌, ◌++◌, is_some, option_map, Bool, None, Option, cond, false, if◌then◌else◌, string_eq, true};
 ghost use Rattle.vecmap_base.specs.Indices.{ShiftsIndices};
 ghost use Rattle.vecmap_base.specs.Lookups.{KeepsFront, UpdatesBy};
-ghost use Rattle.vecmap_base.specs.Pairs.{HasDistinctKeys, has_text, index_by, lookup_by, lookup_pair_by, swap_without_by, without_by};
+ghost use Rattle.vecmap_base.specs.Pairs.{HasDistinctKeys, has_text, index_by, index_of, lookup, lookup_by, lookup_pair_by, swap_without_by, without_by};
 
 use crate::VecMap;
 use std::alloc::AllocError;
@@ -109,6 +109,8 @@ impl<K, V> VecMap<K, V> {
         ensures lookups { OnOk result (KeepsFront at self.old.entries self.new.entries) }
         ensures part_lookups { IfOk result (λ part. (test : K → Bool) → lookup_by test self.old.entries
             ≡ option_or (lookup_by test self.new.entries) (lookup_by test part.entries)) }
+        ensures part_keys { IfOk result (λ part. keys_of self.new.entries ++ keys_of part.entries
+            ≡ keys_of self.old.entries) }
     {
         Ok(VecMap {
             pairs: self.pairs.split_off(at)?,
@@ -165,6 +167,8 @@ impl<K, V> VecMap<K, V> {
             → lookup_by test self.new.entries ≡ None }
         ensures distinct { (eq : K → K → Bool) → HasDistinctKeys eq self.old.entries
             → HasDistinctKeys eq self.new.entries }
+        ensures left { Retains
+            (CallsAtPair F.FnMut) f self.old.entries self.new.entries }
     {
         retain_pairs(&mut self.pairs, f);
     }
@@ -263,6 +267,8 @@ impl<K, V> VecMap<K, V> {
             → HasDistinctKeys K.eq self.new.entries }
         ensures found { is_some result
             ≡ is_some (lookup_by (Q.equivalent query) self.old.entries) }
+        ensures value { option_map (λ p. p.1) result
+            ≡ lookup_by (Q.equivalent query) self.old.entries }
         ensures len { length self.new.entries + (if is_some result then 1 else 0)
             ≡ length self.old.entries }
         ensures indices { IfSome (index_by (Q.equivalent query) self.old.entries)
@@ -305,6 +311,9 @@ impl<K, V> VecMap<K, V> {
             ≡ cond (test result.0) None (lookup_by test self.old.entries) }
         ensures distinct { (eq : K → K → Bool) → HasDistinctKeys eq self.old.entries
             → HasDistinctKeys eq self.new.entries }
+        ensures gone { (eq : K → K → Bool) → IsEquivalence eq → HasDistinctKeys eq self.old.entries
+            → (k : K) → index_of eq self.old.entries k ≡ Some index
+            → lookup eq self.new.entries k ≡ None }
         ensures len { length self.new.entries + 1 ≡ length self.old.entries }
         ensures indices { ShiftsIndices index self.old.entries self.new.entries }
     {
@@ -371,6 +380,8 @@ impl<K, V> VecMap<K, V> {
             → HasDistinctKeys K.eq self.new.entries }
         ensures found { is_some result
             ≡ is_some (lookup_by (Q.equivalent query) self.old.entries) }
+        ensures value { option_map (λ p. p.1) result
+            ≡ lookup_by (Q.equivalent query) self.old.entries }
         ensures len { length self.new.entries + (if is_some result then 1 else 0)
             ≡ length self.old.entries }
         ensures unchanged { IfNone result (self.new ≡ self.old) }
@@ -409,6 +420,9 @@ impl<K, V> VecMap<K, V> {
             ≡ cond (test result.0) None (lookup_by test self.old.entries) }
         ensures distinct { (eq : K → K → Bool) → IsEquivalence eq → HasDistinctKeys eq self.old.entries
             → HasDistinctKeys eq self.new.entries }
+        ensures gone { (eq : K → K → Bool) → IsEquivalence eq → HasDistinctKeys eq self.old.entries
+            → (k : K) → index_of eq self.old.entries k ≡ Some index
+            → lookup eq self.new.entries k ≡ None }
         ensures len { length self.new.entries + 1 ≡ length self.old.entries }
     {
         self.pairs.swap_remove(index)

@@ -4,6 +4,7 @@ ghost use Rattle.std.specs.List.{All};
 ghost use Rattle.std.specs.Map.{keys_of, values_of};
 ghost use Rattle.std.specs.Option.{option_map};
 ghost use Rattle.vecmap_base.specs.Indices.{KeepsIndices};
+ghost use Rattle.vecmap_base.specs.Lookups.{SetsValues};
 ghost use Rattle.vecmap_base.specs.Pairs.{index_by, lookup_by, map_values};
 ghost use Rattle.vecmap_base.specs.Updated.{AlwaysComputes, CallableOnValues, Computes, StoppedAt, Updated, WritesValueAt};
 
@@ -35,6 +36,7 @@ impl<K, V> VecMap<K, V> {
             → lookup_by test self.new.entries ≡ Some value }
         ensures values { All (λ v. v ≡ value) (values_of self.new.entries) }
         ensures keys { KeepsIndices self.old.entries self.new.entries }
+        ensures set { SetsValues value self.old.entries self.new.entries }
     {
         self.update_values(|_key, old| *old = value);
     }
@@ -88,6 +90,8 @@ impl<K, V> VecMap<K, V> {
             → lookup_by test self.new.entries ≡ option_map h (lookup_by test self.old.entries) }
         ensures indices { (test : K → Bool) → index_by test self.new.entries
             ≡ index_by test self.old.entries }
+        ensures set { (w : V) → Computes (WritesValueAt F.FnMut tt) f (λ pair. (pair.0, w))
+            → SetsValues w self.old.entries self.new.entries }
     {
         update_pairs(&mut self.pairs, f);
     }

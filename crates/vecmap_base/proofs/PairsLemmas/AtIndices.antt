@@ -1,23 +1,41 @@
 -- At which indices keys are after a change, in the words of contracts.
-use Rattle.std.specs.{Cmp.IsEquivalence, List.AllByRecursion, List.Sorted.IsPermutation, Map.IsKeyTest, Map.keys_of, Option.option_map_or}
-use Rattle.std.proofs.Common.{◌≡◌, ◌∙◌, ◌+◌, ◌-◌, ◌<◌, ◌≤◌, ◌++◌, ℕ, zero, suc, Bool, true, false, List, [], ◌∷◌, None, Option, Some, IfSome, IsSome, ap, arith, if◌then◌else◌, insert, is_some, length, min, option_map, refl, remove, slice_get, subst, sym, take, unwrap_or}
-use Rattle.std.proofs.lemmas.List.{length-append, length-map}
+use Rattle.std.specs.{Cmp.IsEquivalence, List.AllByRecursion, List.Sorted.IsPermutation, Map.IsKeyTest, Map.keys_of, Map.values_of, Option.option_and_then, Option.option_map_or}
+use Rattle.std.proofs.Common.{◌≡◌, ◌∙◌, ◌+◌, ◌-◌, ◌<◌, ◌≤◌, ◌++◌, ℕ, zero, suc, Bool, true, false, List, [], ◌∷◌, None, Option, Some, IfSome, IsSome, ap, arith, drop, if◌then◌else◌, insert, is_some, length, map, min, option_map, refl, remove, slice_get, subst, sym, take, true≢false, unwrap_or}
+use Rattle.std.proofs.lemmas.List.{drop-map, length-append, length-map, map-append, take-map}
 use Rattle.std.proofs.lemmas.Map.Keys.{IsDistinct-head, IsDistinct-tail}
 use Rattle.std.proofs.lemmas.List.Edits.{length-insert, length-remove}
 use Rattle.std.proofs.lemmas.Option.{none-some, same_Some, slice_get_within}
-use Rattle.vecmap_base.specs.{Indices.AddsKey, Indices.HasMatchAt, Indices.KeepsIndices, Indices.MovesIndex, Indices.PutsKey, Indices.ShiftsIndices}
-use Rattle.vecmap_base.specs.Pairs.{HasDistinctKeys, index_by, index_of, index_or_length, lookup, lookup_by, put, put_at, put_key, with_pair, without_by}
+use Rattle.vecmap_base.specs.{Indices.AddsKey, Indices.HasMatchAt, Indices.InsertsAt, Indices.KeepsIndices, Indices.MovesIndex, Indices.PutsKey, Indices.ShiftsIndices}
+use Rattle.vecmap_base.specs.Pairs.{HasDistinctKeys, index_by, index_of, index_or_length, lookup, lookup_by, put, put_at, put_key, value_at, with_pair, without_by}
 use Rattle.vecmap_base.proofs.MoveLemmas.{inserted_found}
-use Rattle.vecmap_base.proofs.PairsLemmas.ByIndex.{index_by_none, is_some_lookup_by, put_key_by_index, without_by_index}
+use Rattle.vecmap_base.proofs.PairsLemmas.ByIndex.{index_by_none, is_some_lookup_by, lookup_by_index, put_key_by_index, without_by_index}
 use Rattle.vecmap_base.proofs.PairsLemmas.Distinct.{distinct_keys_rearranged}
 use Rattle.vecmap_base.proofs.PairsLemmas.Indices.{is_some_index_of}
 use Rattle.vecmap_base.proofs.PairsLemmas.Keys.{keys_of_put}
-use Rattle.vecmap_base.proofs.PairsLemmas.Puts.{put_absent}
+use Rattle.vecmap_base.proofs.PairsLemmas.Puts.{put_absent, put_stored}
 
 -- The item that was appended.
-appended_pair : {X : Type 0} (l : List X) (x : X) → slice_get (l ++ x ∷ []) (length l) ≡ Some x
+pub appended_pair : {X : Type 0} (l : List X) (x : X) → slice_get (l ++ x ∷ []) (length l) ≡ Some x
 appended_pair [] x = refl
 appended_pair (y ∷ ys) x = appended_pair ys x
+
+-- Without the item at an index: the items before it stay, and so do the results of a function of each other item.
+front_removed : {X : Type 0} (l : List X) (i j : ℕ) → j < i → slice_get (remove l i) j ≡ slice_get l j
+front_removed [] zero j h = refl
+front_removed [] (suc i) j h = refl
+front_removed (x ∷ xs) zero j h = absurd (omega arith)
+front_removed (x ∷ xs) (suc i) zero h = refl
+front_removed (x ∷ xs) (suc i) (suc j) h = front_removed xs i j (omega arith)
+
+removed_each : {X Y : Type 0} (f : X → Y) (l : List X) (i : ℕ) → map f (remove l i) ≡ remove (map f l) i
+removed_each f l i = map-append f (take i l) (drop (suc i) l) ∙ (λ t. sym (take-map f i l) t ++ sym (drop-map f (suc i) l) t)
+
+-- The items before an item that was inserted stay.
+front_inserted : {X : Type 0} (l : List X) (i j : ℕ) (x : X) → i ≤ length l → j < i → slice_get (insert l i x) j ≡ slice_get l j
+front_inserted l zero j x h less = absurd (omega arith)
+front_inserted [] (suc i) j x h less = absurd (omega arith)
+front_inserted (y ∷ ys) (suc i) zero x h less = refl
+front_inserted (y ∷ ys) (suc i) (suc j) x h less = front_inserted ys i j x (omega arith) (omega arith)
 
 -- An index that stays in the rest of a list stays in the list.
 stays : (b : Bool) (r s : Option ℕ) (i : ℕ) → ((j : ℕ) → r ≡ Some j → suc j ≡ i → s ≡ Some j) → (if b then Some 0 else option_map suc r) ≡ Some i → (if b then Some 0 else option_map suc s) ≡ Some i
@@ -51,6 +69,11 @@ module _ {K V : Type 0} (test : K → Bool) where
   pub match_if_found : (l : List (K × V)) (found : Option ℕ) → found ≡ index_by test l → IfSome found (HasMatchAt test l)
   match_if_found l None e = tt
   match_if_found l (Some i) e = match_at l i (sym e)
+
+  -- A pair that is appended moves no key.
+  pub index_stays : (l : List (K × V)) (p : K × V) (i : ℕ) → index_by test l ≡ Some i → index_by test (l ++ p ∷ []) ≡ Some i
+  index_stays [] p i e = absurd (none-some i e)
+  index_stays (q ∷ qs) p i e = stays (test q.0) (index_by test qs) (index_by test (qs ++ p ∷ [])) i (λ j f g. index_stays qs p j f) e
 
   -- Lists with the same keys have them at the same indices.
   pub same_indices : (l m : List (K × V)) → keys_of m ≡ keys_of l → index_by test m ≡ index_by test l
@@ -101,11 +124,18 @@ module _ {K V : Type 0} where
     keys = e;
     indices = λ test. same_indices test l m e;
     len = sym (length-map m (λ p. p.0)) ∙ ap length e ∙ length-map l (λ p. p.0);
+    value = λ test i at. sym (lookup_by_index test m ∙ ap (option_and_then (value_at m)) (same_indices test l m e ∙ at));
   }
 
   -- After the removal of the pair at an index.
   pub shifts_indices : (l m : List (K × V)) (i : ℕ) → m ≡ remove l i → ShiftsIndices i l m
-  shifts_indices l m i e = subst (ShiftsIndices i l) (sym e) (record { before = λ test. before_removed test i l; after = λ test. after_removed test i l })
+  shifts_indices l m i e = subst (ShiftsIndices i l) (sym e) (record {
+    before = λ test. before_removed test i l;
+    after = λ test. after_removed test i l;
+    front = front_removed l i;
+    keys = removed_each (λ p. p.0) l i;
+    values = removed_each (λ p. p.1) l i;
+  })
 
   -- The same after a removal by a query.
   pub shifts_without : (test : K → Bool) (l m : List (K × V)) → m ≡ without_by test l → IfSome (index_by test l) (λ i. ShiftsIndices i l m)
@@ -160,6 +190,17 @@ module _ {K V : Type 0} (eq : K → K → Bool) where
             ap (λ b. if b then Some 0 else option_map suc (index_of eq (put eq ps k v) k)) e
             ∙ ap (option_map suc) rest ∙ ap Some (suc_unwrapped (index_of eq ps k) (length ps))
 
+    kept_keys : (l : List (K × V)) (k : K) (v : V) → IsSome (lookup eq l k) → keys_of (put eq l k v) ≡ keys_of l
+    kept_keys l k v some = keys_put l k v ∙ ap (λ b. if b then keys_of l else keys_of l ++ k ∷ []) some
+
+    -- If the value is the one that is stored, nothing changes.
+    put_same : (l : List (K × V)) (k : K) (v w : V) → IsSome (lookup eq l k) → v ≡ unwrap_or (lookup eq l k) w → put eq l k v ≡ l
+    put_same l k v w some e = ap (put eq l k) e ∙ put_stored eq l k w ∙ present (index_of eq l k) (sym (is_some_lookup_by (eq k) l) ∙ some)
+      where
+        present : (found : Option ℕ) → IsSome found → option_map_or (λ i. l) found (l ++ (k, w) ∷ []) ≡ l
+        present None h = absurd (true≢false (sym h))
+        present (Some i) h = refl
+
     -- After an insertion.
     pub adds_key : (l m : List (K × V)) (k : K) (v : V) → m ≡ put eq l k v → AddsKey eq l k v m
     adds_key l m k v e = subst (AddsKey eq l k v) (sym e) (record {
@@ -167,10 +208,12 @@ module _ {K V : Type 0} (eq : K → K → Bool) where
       indices = λ test. indices_put test l k v;
       keys = keys_put l k v;
       len = length_put l k v;
-      kept = λ some. keys_put l k v ∙ ap (λ b. if b then keys_of l else keys_of l ++ k ∷ []) some;
+      kept = kept_keys l k v;
       appended = λ absent. put_absent eq l k v (index_by_none (eq k) l absent);
       last = λ absent. index_put l k v ∙ ap (λ found. Some (unwrap_or found (length l))) (index_by_none (eq k) l absent);
       pair = λ absent. ap (λ n. slice_get n (length l)) (put_absent eq l k v (index_by_none (eq k) l absent)) ∙ appended_pair l (k, v);
+      stay = λ some test. same_indices test l (put eq l k v) (kept_keys l k v some);
+      same = λ w. put_same l k v w;
     })
 
     -- Each key has the same index after an insertion that keeps an equal key and after one that replaces it.
@@ -199,6 +242,18 @@ module _ {K V : Type 0} (eq : K → K → Bool) where
         by true rest = refl
         by false rest = ap suc rest
 
+    -- If only `k` itself is equal to it, the keys are those of an insertion that keeps it.
+    keys_put_key : (l : List (K × V)) (k : K) (v : V) → ((q : K) → eq k q ≡ true → q ≡ k) → keys_of (put_key eq l k v) ≡ keys_of (put eq l k v)
+    keys_put_key [] k v own = refl
+    keys_put_key (p ∷ ps) k v own = by (eq k p.0) refl (keys_put_key ps k v own)
+      where
+        by : (b : Bool) → eq k p.0 ≡ b → keys_of (put_key eq ps k v) ≡ keys_of (put eq ps k v) → keys_of (if b then (k, v) ∷ ps else p ∷ put_key eq ps k v) ≡ keys_of (if b then (p.0, v) ∷ ps else p ∷ put eq ps k v)
+        by true e rest = ap (λ q. q ∷ keys_of ps) (sym (own p.0 e))
+        by false e rest = ap (λ ks. p.0 ∷ ks) rest
+
+    appended_key : (l : List (K × V)) (k : K) (v : V) → lookup eq l k ≡ None → put_key eq l k v ≡ l ++ (k, v) ∷ []
+    appended_key l k v absent = put_key_by_index eq l k v ∙ ap (λ found. option_map_or (λ i. with_pair l i k v) found (l ++ (k, v) ∷ [])) (index_by_none (eq k) l absent)
+
     -- After an insertion that replaces an equal key.
     pub puts_key : (l m : List (K × V)) (k : K) (v : V) → m ≡ put_key eq l k v → PutsKey eq l k v m
     puts_key l m k v e = subst (PutsKey eq l k v) (sym e) (record {
@@ -206,7 +261,9 @@ module _ {K V : Type 0} (eq : K → K → Bool) where
       indices = λ q i at. index_of_put_key l k v q ∙ indices_put (eq q) l k v i at;
       pair = pair_put_key l k v;
       len = length_put_key l k v ∙ length_put l k v;
-      appended = λ absent. put_key_by_index eq l k v ∙ ap (λ found. option_map_or (λ i. with_pair l i k v) found (l ++ (k, v) ∷ [])) (index_by_none (eq k) l absent);
+      appended = appended_key l k v;
+      last = λ absent. ap (λ n. slice_get n (length l)) (appended_key l k v absent) ∙ appended_pair l (k, v);
+      keys = λ own. keys_put_key l k v own ∙ keys_put l k v;
     })
 
     -- After a pair is appended whose key is absent.
@@ -230,3 +287,48 @@ module _ {K V : Type 0} (eq : K → K → Bool) where
           let long : length m ≡ length (remove l j) + 1 = ap length f ∙ length-insert (remove l j) (min i (length l - 1)) (k, v) low in
           let here : min i (length m - 1) ≡ min i (length l - 1) = grind arith in
           ap (slice_get m) here ∙ ap (λ n. slice_get n (min i (length l - 1))) f ∙ inserted_found (remove l j) (min i (length l - 1)) (k, v) low
+
+  module _ (l : List (K × V)) (k : K) (v : V) where
+    length_put_at : (i : ℕ) → i ≤ length l → length (put_at eq l i k v) ≡ (if is_some (lookup eq l k) then length l else length l + 1)
+    length_put_at i h = by (index_of eq l k) refl ∙ ap (λ b. if b then length l else length l + 1) (sym (is_some_lookup_by (eq k) l))
+      where
+        by : (found : Option ℕ) → index_of eq l k ≡ found → length (option_map_or (λ j. insert (remove l j) (min i (length l - 1)) (k, v)) found (insert l i (k, v))) ≡ (if is_some found then length l else length l + 1)
+        by None a = length-insert l i (k, v) h
+        by (Some j) a =
+            let at = match_at (eq k) l j a in
+            let within = slice_get_within l j (at.0, at.1) at.2 in
+            let shorter = length-remove l j within in
+            let low : min i (length l - 1) ≤ length (remove l j) = grind arith in
+            length-insert (remove l j) (min i (length l - 1)) (k, v) low ∙ omega (arith, shorter, within)
+
+    put_at_new : (i : ℕ) → lookup eq l k ≡ None → put_at eq l i k v ≡ insert l i (k, v)
+    put_at_new i absent = ap (λ found. option_map_or (λ j. insert (remove l j) (min i (length l - 1)) (k, v)) found (insert l i (k, v))) (index_by_none (eq k) l absent)
+
+  keys_inserted : (l : List (K × V)) (i : ℕ) (k : K) (v : V) → keys_of (insert l i (k, v)) ≡ insert (keys_of l) i k
+  keys_inserted l i k v = map-append (λ p. p.0) (take i l) ((k, v) ∷ drop i l) ∙ (λ t. sym (take-map (λ p. p.0) i l) t ++ k ∷ sym (drop-map (λ p. p.0) i l) t)
+
+  module _ (o : IsEquivalence eq) where
+    index_inserted : (l : List (K × V)) (i : ℕ) (k : K) (v : V) → i ≤ length l → index_of eq l k ≡ None → index_of eq (insert l i (k, v)) k ≡ Some i
+    index_inserted [] zero k v h absent = ap (λ b. if b then Some 0 else None) (o.refl k)
+    index_inserted (p ∷ ps) zero k v h absent = ap (λ b. if b then Some 0 else option_map suc (index_of eq (p ∷ ps) k)) (o.refl k)
+    index_inserted [] (suc i) k v h absent = absurd (omega arith)
+    index_inserted (p ∷ ps) (suc i) k v h absent = by (eq k p.0) (index_of eq ps k) refl absent (index_inserted ps i k v (omega arith))
+      where
+        by : (b : Bool) (found : Option ℕ) → index_of eq ps k ≡ found → (if b then Some 0 else option_map suc found) ≡ None → (index_of eq ps k ≡ None → index_of eq (insert ps i (k, v)) k ≡ Some i)
+            → (if b then Some 0 else option_map suc (index_of eq (insert ps i (k, v)) k)) ≡ Some (suc i)
+        by true found e none rest = absurd (none-some 0 (sym none))
+        by false None e none rest = ap (option_map suc) (rest e)
+        by false (Some j) e none rest = absurd (none-some (suc j) (sym none))
+
+    -- After an insertion at an index.
+    pub inserts_at : (l m : List (K × V)) (i : ℕ) (k : K) (v : V) → m ≡ put_at eq l i k v → i ≤ length l → InsertsAt eq i l k v m
+    inserts_at l m i k v e h = record {
+      index = λ absent. ap (λ n. index_of eq n k) (new absent) ∙ index_inserted l i k v h (index_by_none (eq k) l absent);
+      pair = λ absent. ap (λ n. slice_get n i) (new absent) ∙ inserted_found l i (k, v) h;
+      front = λ j absent less. ap (λ n. slice_get n j) (new absent) ∙ front_inserted l i j (k, v) h less;
+      keys = λ absent. ap keys_of (new absent) ∙ keys_inserted l i k v;
+      len = ap length e ∙ length_put_at l k v i h;
+    }
+      where
+        new : lookup eq l k ≡ None → m ≡ insert l i (k, v)
+        new absent = e ∙ put_at_new l k v i absent

@@ -66,6 +66,15 @@ module _ {K V : Type 0} (test : K → Bool) where
       by true rest = refl
       by false rest = rest
 
+  -- The value of the pair that is found.
+  pub value_of_pair_by : (l : List (K × V)) → option_map (λ p. p.1) (lookup_pair_by test l) ≡ lookup_by test l
+  value_of_pair_by [] = refl
+  value_of_pair_by (p ∷ ps) = by (test p.0) (value_of_pair_by ps)
+    where
+      by : (b : Bool) → option_map (λ q. q.1) (lookup_pair_by test ps) ≡ lookup_by test ps → option_map (λ q. q.1) (if b then Some p else lookup_pair_by test ps) ≡ (if b then Some p.1 else lookup_by test ps)
+      by true rest = refl
+      by false rest = rest
+
   -- A removal is one at the index.
   pub without_by_index : (l : List (K × V)) → without_by test l ≡ option_map_or (λ i. remove l i) (index_by test l) l
   without_by_index [] = refl

@@ -5,6 +5,7 @@ use Rattle.std.proofs.lemmas.Bool.{cases_Bool}
 use Rattle.std.proofs.lemmas.Map.{lookup-none}
 use Rattle.std.proofs.lemmas.Map.Entries.{none_past_head}
 use Rattle.std.proofs.lemmas.Map.Keys.{IsDistinct-tail}
+use Rattle.std.proofs.lemmas.Option.{none-some}
 use Rattle.vecmap_base.specs.Lookups.{UpdatesBy}
 use Rattle.vecmap_base.specs.Pairs.{HasDistinctKeys, lookup, lookup_by, put, without_by}
 use Rattle.vecmap_base.proofs.PairsLemmas.Distinct.{distinct_put}
@@ -70,6 +71,7 @@ module _ {K V : Type 0} (eq : K → K → Bool) (o : IsEquivalence eq) where
         others = λ q n. each q ∙ ap (λ b. cond b (Some v) (lookup eq l q)) n;
         queries = λ other respects apart. lookup_by_put other respects l k v ∙ ap (λ b. cond b (Some v) (lookup_by other l)) (apart k (o.refl k));
         distinct = distinct_put eq o l k v;
+        gone = λ e. absurd (none-some v (sym e));
       }
 
   -- The same of a list that is known to be the one after the insertion.

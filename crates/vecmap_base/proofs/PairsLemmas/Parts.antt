@@ -1,8 +1,8 @@
 -- What lookups find in the front of a list, after the insertions of many pairs, and whether anything matches in another order.
 use Rattle.std.specs.{Cmp.IsEquivalence, List.IsDistinct, List.Sorted.IsPermutation, List.list_any, Map.keys_of, Option.option_map, Option.option_or}
-use Rattle.std.proofs.Common.{◌≡◌, ◌∙◌, ◌<◌, ◌≤◌, ℕ, zero, suc, Bool, true, false, List, [], ◌∷◌, ◌++◌, None, Option, Some, ap, arith, cond, if◌then◌else◌, inl, inr, is_some, refl, subst, sym, take}
+use Rattle.std.proofs.Common.{◌≡◌, ◌∙◌, ◌<◌, ◌≤◌, ℕ, zero, suc, Bool, true, false, List, [], ◌∷◌, ◌++◌, None, Option, Some, ap, arith, cond, if◌then◌else◌, inl, inr, drop, is_some, refl, subst, sym, take}
 use Rattle.std.proofs.lemmas.Bool.{cases_Bool}
-use Rattle.std.proofs.lemmas.List.{length-take, take-map}
+use Rattle.std.proofs.lemmas.List.{length-take, map-append, take-append-drop, take-map}
 use Rattle.std.proofs.lemmas.List.Sorted.{list_any-IsPermutation}
 use Rattle.std.proofs.lemmas.Map.{lookup-none}
 use Rattle.std.proofs.lemmas.Map.Entries.{none_past_head}
@@ -77,8 +77,13 @@ module _ {K V : Type 0} where
     distinct = λ eq d. subst (IsDistinct eq) (take-map (λ p. p.0) n l) (distinct_take eq n (keys_of l) d);
     indices = λ test. index_in_front test n l;
     keys = sym (take-map (λ p. p.0) n l);
+    values = sym (take-map (λ p. p.1) n l);
     len = length-take n l;
   }
+
+  -- The keys of both parts are all keys.
+  pub keys_of_parts : (n : ℕ) (l a b : List (K × V)) → a ≡ take n l → b ≡ drop n l → keys_of a ++ keys_of b ≡ keys_of l
+  keys_of_parts n l a b e f = (λ t. keys_of (e t) ++ keys_of (f t)) ∙ sym (map-append (λ p. p.0) (take n l) (drop n l)) ∙ ap keys_of (take-append-drop n l)
 
   -- The same of a list that is known to be the front.
   pub keeps_front_of : (n : ℕ) (l m : List (K × V)) → m ≡ take n l → KeepsFront n l m

@@ -6,7 +6,7 @@ use Rattle.vecmap_base.specs.{Indices.KeepsIndices, Lookups.UpdatesAt, Pairs.ind
 use Rattle.vecmap_base.proofs.PairsLemmas.AtIndices.{keeps_indices}
 use Rattle.vecmap_base.proofs.PairsLemmas.ByIndex.{is_some_lookup_by, set_value_by_index}
 use Rattle.vecmap_base.proofs.PairsLemmas.Updates.{updates_matched, updates_written_at}
-use Rattle.vecmap_base.proofs.PairsLemmas.Values.{keys_of_with_value}
+use Rattle.vecmap_base.proofs.PairsLemmas.Values.{keys_of_with_value, values_of_with_value}
 
 module _ {K V : Type 0} where
   own_value : (test : K → Bool) (l : List (K × V)) (i : ℕ) (v : V) → index_by test l ≡ Some i → lookup_by test (with_value l i v) ≡ Some v
@@ -35,7 +35,9 @@ module _ {K V : Type 0} where
   updates_at l i v = record {
     own = λ test at. own_value test l i v at;
     updates = λ eq test o respects at. updates_written_at eq o test respects l l (lookup_by test l) i v (updates_matched eq o test respects l) at;
+    lookups = λ eq o k q at. (updates_written_at eq o (eq k) (o.congr k) l l (lookup_by (eq k) l) i v (updates_matched eq o (eq k) (o.congr k) l) at).lookups q;
     keys = keys_of_with_value l i v;
+    values = values_of_with_value l i v;
     indices = (kept l i v).indices;
     len = (kept l i v).len;
     distinct = λ eq d. subst (IsDistinct eq) (sym (keys_of_with_value l i v)) d;

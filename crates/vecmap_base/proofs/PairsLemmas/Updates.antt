@@ -11,7 +11,7 @@ use Rattle.std.proofs.lemmas.Map.Keys.{IsDistinct-cons, IsDistinct-tail}
 use Rattle.std.proofs.lemmas.Option.{get_or_from_slice_get, none-some, slice_get-get_or, slice_get_within}
 use Rattle.vecmap_base.specs.{Items.swap_without, Lookups.KeepsLookups, Lookups.UpdatesBy}
 use Rattle.vecmap_base.specs.Pairs.{HasDistinctKeys, index_by, index_of, lookup, lookup_by, put, put_at, put_key, swap_without_by, value_at, with_pair, with_value, without_by}
-use Rattle.vecmap_base.proofs.PairsLemmas.ByIndex.{index_by_is, is_some_lookup_by, lookup_by_index, put_key_by_index, set_value_by_index, without_by_index}
+use Rattle.vecmap_base.proofs.PairsLemmas.ByIndex.{index_by_is, index_by_none, is_some_lookup_by, lookup_by_index, put_key_by_index, set_value_by_index, without_by_index}
 use Rattle.vecmap_base.proofs.PairsLemmas.Distinct.{distinct_keys_rearranged, distinct_keys_set_value, distinct_put}
 use Rattle.vecmap_base.proofs.PairsLemmas.Keys.{index_of_is}
 use Rattle.vecmap_base.proofs.PairsLemmas.Lookups.{compares_with, same_answer, updates_of_put, updates_put}
@@ -36,6 +36,7 @@ module _ {K V : Type 0} (eq : K → K → Bool) (o : IsEquivalence eq) (test : K
         others = away;
         queries = apart;
         distinct = distinct;
+        gone = λ e. index_by_none test m (here ∙ e);
       }
 
   -- The removal of a pair whose key passes, wherever the other pairs go.
@@ -68,6 +69,17 @@ module _ {K V : Type 0} (eq : K → K → Bool) (o : IsEquivalence eq) (test : K
       ap (lookup_by test) (e ∙ ap (λ f. option_map_or (λ q. swap_remove l i q) f l) at)
       ∙ lookup_by_taken l (swap_remove l i p) p d (IsPermutation-swap_remove l i p (slice_get_within l i p at) (sym (get_or_from_slice_get l i p p at)))
 
+  passes : (l : List (K × V)) (i : ℕ) (p : K × V) → index_by test l ≡ Some i → slice_get l i ≡ Some p → test p.0 ≡ true
+  passes l i p e at = ap (λ q. test q.0) (sym (get_or_from_slice_get l i p p at)) ∙ (position-Some (λ q. test q.0) l i p (sym (index_by_is test l) ∙ e)).1
+
+  -- A query whose match is at the index of the removed pair finds nothing.
+  pub lookup_by_gone : (l m : List (K × V)) (i : ℕ) (p : K × V) → m ≡ remove l i → slice_get l i ≡ Some p → HasDistinctKeys eq l → index_by test l ≡ Some i → lookup_by test m ≡ None
+  lookup_by_gone l m i p e at d found = lookup_by_removed l m i p e at d ∙ ap (λ b. cond b None (lookup_by test l)) (passes l i p found at)
+
+  -- The same, if the last pair moves to the index.
+  pub lookup_by_swapped_out : (l m : List (K × V)) (i : ℕ) (p : K × V) → m ≡ swap_without l i → slice_get l i ≡ Some p → HasDistinctKeys eq l → index_by test l ≡ Some i → lookup_by test m ≡ None
+  lookup_by_swapped_out l m i p e at d found = lookup_by_swapped l m i p e at d ∙ ap (λ b. cond b None (lookup_by test l)) (passes l i p found at)
+
   -- If nothing passes, nothing is removed.
   updates_nothing : (l : List (K × V)) → index_by test l ≡ None → UpdatesBy eq test l l None
   updates_nothing l e = updates_from l l None (lookup_by_index test l ∙ ap (option_and_then (value_at l)) e) (λ other tells apart. refl) (λ d. d)
@@ -78,9 +90,6 @@ module _ {K V : Type 0} (eq : K → K → Bool) (o : IsEquivalence eq) (test : K
   none_within (p ∷ ps) i e f =
       let within = (position-Some (λ q. test q.0) (p ∷ ps) i p (sym (index_by_is test (p ∷ ps)) ∙ e)).0 in
       none-some (get_or (p ∷ ps) i p) (sym f ∙ slice_get-get_or (p ∷ ps) i p within)
-
-  passes : (l : List (K × V)) (i : ℕ) (p : K × V) → index_by test l ≡ Some i → slice_get l i ≡ Some p → test p.0 ≡ true
-  passes l i p e at = ap (λ q. test q.0) (sym (get_or_from_slice_get l i p p at)) ∙ (position-Some (λ q. test q.0) l i p (sym (index_by_is test l) ∙ e)).1
 
   -- After the removal of its match from a list of distinct keys, a query matches nothing, and each other key has what it had.
   pub updates_without : (l : List (K × V)) → HasDistinctKeys eq l → UpdatesBy eq test l (without_by test l) None

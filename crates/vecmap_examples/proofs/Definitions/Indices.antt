@@ -1,17 +1,17 @@
 -- The definitions that say at which indices keys are after a change, at numbers: an example of each, what each of its fields
 -- says of it, and a list that it does not allow.
-use Rattle.std.specs.Prelude.{◌≡◌, ◌++◌, ◌∷◌, ◌<◌, ℕ, Bool, List, [], IsSome, None, Some, if◌then◌else◌, is_some, length, min, nat_eq, refl, reverse, slice_get, take, true}
+use Rattle.std.specs.Prelude.{◌≡◌, ◌++◌, ◌∷◌, ◌<◌, ℕ, Bool, List, [], IsSome, None, Some, if◌then◌else◌, insert, is_some, length, min, nat_eq, refl, remove, reverse, slice_get, take, true, unwrap_or}
 use Rattle.std.specs.Cmp.{IsEquivalence, nat_eq_equiv}
 use Rattle.std.specs.List.{list_any}
-use Rattle.std.specs.Map.{IsKeyTest, keys_of}
+use Rattle.std.specs.Map.{IsKeyTest, keys_of, values_of}
 use Rattle.std.proofs.Common.{◌+◌, rules}
 use Rattle.std.proofs.lemmas.List.Sorted.{IsPermutation-reverse}
-use Rattle.vecmap_base.proofs.PairsLemmas.AtIndices.{adds_key, keeps_indices as same_keys, match_at, moves_index as moved_at, puts_key, shifts_indices as removed_at}
+use Rattle.vecmap_base.proofs.PairsLemmas.AtIndices.{adds_key, inserts_at as inserted_at, keeps_indices as same_keys, match_at, moves_index as moved_at, puts_key, shifts_indices as removed_at}
 use Rattle.vecmap_base.proofs.PairsLemmas.Reordered.{reordered_by_reverse}
-use Rattle.vecmap_base.specs.Indices.{AddsKey, HasMatchAt, KeepsIndices, MovesIndex, PutsKey, ShiftsIndices}
+use Rattle.vecmap_base.specs.Indices.{AddsKey, HasMatchAt, InsertsAt, KeepsIndices, MovesIndex, PutsKey, ShiftsIndices}
 use Rattle.vecmap_base.specs.Items.{IsReorderedItems}
 use Rattle.vecmap_base.specs.Lookups.{IsReordered, KeepsFront, KeepsLookups, UpdatesAt}
-use Rattle.vecmap_base.specs.Pairs.{HasDistinctKeys, index_by, index_of, index_or_length, lookup}
+use Rattle.vecmap_base.specs.Pairs.{HasDistinctKeys, index_by, index_of, index_or_length, lookup, lookup_by, value_at}
 
 -- After an insertion of the key 2.
 module _ {V : Type 0} (a b : V) (l m : List (ℕ × V)) (test : ℕ → Bool) (i : ℕ) where
@@ -45,6 +45,12 @@ module _ {V : Type 0} (a b : V) (l m : List (ℕ × V)) (test : ℕ → Bool) (i
   adds_key-pair : AddsKey nat_eq l 2 b m → lookup nat_eq l 2 ≡ None → slice_get m (length l) ≡ Some (2, b)
   adds_key-pair k = k.pair
 
+  adds_key-stay : AddsKey nat_eq l 2 b m → IsSome (lookup nat_eq l 2) → index_by test m ≡ index_by test l
+  adds_key-stay k some = k.stay some test
+
+  adds_key-same : AddsKey nat_eq l 2 b m → IsSome (lookup nat_eq l 2) → b ≡ unwrap_or (lookup nat_eq l 2) a → m ≡ l
+  adds_key-same k = k.same a
+
   puts_key_one : PutsKey nat_eq ((1, a) ∷ []) 1 b ((1, b) ∷ [])
   puts_key_one = puts_key nat_eq nat_eq_equiv ((1, a) ∷ []) ((1, b) ∷ []) 1 b refl
 
@@ -66,6 +72,33 @@ module _ {V : Type 0} (a b : V) (l m : List (ℕ × V)) (test : ℕ → Bool) (i
   puts_key-appended : PutsKey nat_eq l 2 b m → lookup nat_eq l 2 ≡ None → m ≡ l ++ (2, b) ∷ []
   puts_key-appended k = k.appended
 
+  puts_key-last : PutsKey nat_eq l 2 b m → lookup nat_eq l 2 ≡ None → slice_get m (length l) ≡ Some (2, b)
+  puts_key-last k = k.last
+
+  puts_key-keys : PutsKey nat_eq l 2 b m → ((q : ℕ) → nat_eq 2 q ≡ true → q ≡ 2) → keys_of m ≡ (if is_some (lookup nat_eq l 2) then keys_of l else keys_of l ++ 2 ∷ [])
+  puts_key-keys k = k.keys
+
+  inserts_at_start : InsertsAt nat_eq 0 ((1, a) ∷ []) 2 b ((2, b) ∷ (1, a) ∷ [])
+  inserts_at_start = inserted_at nat_eq nat_eq_equiv ((1, a) ∷ []) ((2, b) ∷ (1, a) ∷ []) 0 2 b refl (search rules)
+
+  inserts_at-not : ¬ (InsertsAt nat_eq 0 ((1, a) ∷ []) 2 b ((1, a) ∷ (2, b) ∷ []))
+  inserts_at-not k = search (rules, k.index refl)
+
+  inserts_at-index : InsertsAt nat_eq i l 2 b m → lookup nat_eq l 2 ≡ None → index_of nat_eq m 2 ≡ Some i
+  inserts_at-index k = k.index
+
+  inserts_at-pair : InsertsAt nat_eq i l 2 b m → lookup nat_eq l 2 ≡ None → slice_get m i ≡ Some (2, b)
+  inserts_at-pair k = k.pair
+
+  inserts_at-front : InsertsAt nat_eq 1 l 2 b m → lookup nat_eq l 2 ≡ None → slice_get m 0 ≡ slice_get l 0
+  inserts_at-front k absent = k.front 0 absent (search rules)
+
+  inserts_at-keys : InsertsAt nat_eq i l 2 b m → lookup nat_eq l 2 ≡ None → keys_of m ≡ insert (keys_of l) i 2
+  inserts_at-keys k = k.keys
+
+  inserts_at-len : InsertsAt nat_eq i l 2 b m → length m ≡ (if is_some (lookup nat_eq l 2) then length l else length l + 1)
+  inserts_at-len k = k.len
+
 -- After a write, and after the removal of the pair at the index 1.
 module _ {V : Type 0} (a b c : V) (l m : List (ℕ × V)) (test : ℕ → Bool) where
   keeps_indices : KeepsIndices {K = ℕ} ((1, a) ∷ []) ((1, b) ∷ [])
@@ -83,6 +116,9 @@ module _ {V : Type 0} (a b c : V) (l m : List (ℕ × V)) (test : ℕ → Bool) 
   keeps_indices-len : KeepsIndices l m → length m ≡ length l
   keeps_indices-len k = k.len
 
+  keeps_indices-value : KeepsIndices l m → index_by test l ≡ Some 1 → value_at m 1 ≡ lookup_by test m
+  keeps_indices-value k = k.value test 1
+
   shifts_indices : ShiftsIndices {K = ℕ} 1 ((1, a) ∷ (2, b) ∷ (3, c) ∷ []) ((1, a) ∷ (3, c) ∷ [])
   shifts_indices = removed_at ((1, a) ∷ (2, b) ∷ (3, c) ∷ []) ((1, a) ∷ (3, c) ∷ []) 1 refl
 
@@ -94,6 +130,15 @@ module _ {V : Type 0} (a b c : V) (l m : List (ℕ × V)) (test : ℕ → Bool) 
 
   shifts_indices-after : ShiftsIndices 2 l m → index_by test l ≡ Some 3 → index_by test m ≡ Some 2
   shifts_indices-after k at = k.after test 3 at (search rules)
+
+  shifts_indices-front : ShiftsIndices 2 l m → slice_get m 1 ≡ slice_get l 1
+  shifts_indices-front k = k.front 1 (search rules)
+
+  shifts_indices-keys : ShiftsIndices 2 l m → keys_of m ≡ remove (keys_of l) 2
+  shifts_indices-keys k = k.keys
+
+  shifts_indices-values : ShiftsIndices 2 l m → values_of m ≡ remove (values_of l) 2
+  shifts_indices-values k = k.values
 
   has_match_at : HasMatchAt (nat_eq 2) ((1, a) ∷ (2, b) ∷ []) 1
   has_match_at = match_at (nat_eq 2) ((1, a) ∷ (2, b) ∷ []) 1 refl
@@ -138,6 +183,9 @@ module _ {V : Type 0} (a b : V) (l m : List (ℕ × V)) (test : ℕ → Bool) wh
 
   keeps_front-keys : KeepsFront 2 l m → keys_of m ≡ take 2 (keys_of l)
   keeps_front-keys k = k.keys
+
+  keeps_front-values : KeepsFront 2 l m → values_of m ≡ take 2 (values_of l)
+  keeps_front-values k = k.values
 
   keeps_front-len : KeepsFront 2 l m → length m ≡ min 2 (length l)
   keeps_front-len k = k.len

@@ -4,8 +4,7 @@ ghost use Rattle.std.specs.Prelude.{Bool, List, None, Some, drop, false, filter,
 ghost use Rattle.std.specs.Set.{is_member};
 ghost use Rattle.vecmap_base.specs.Asked.{CallsAtItem};
 ghost use Rattle.vecmap_base.specs.Items.{adds, item_index, swap_without, swap_without_item, without_item};
-ghost use Rattle.vecmap_base.specs.Kept.{Kept};
-ghost use Rattle.vecmap_laws.specs.Retaining.{TestsItems};
+ghost use Rattle.vecmap_base.specs.Kept.{Kept, TestsItems};
 
 /// After a removal, an element is present if it was, and if it is not equal to the removed one.
 ///

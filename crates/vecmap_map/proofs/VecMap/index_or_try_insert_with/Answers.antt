@@ -4,6 +4,7 @@ use Rattle.vecmap_base.specs.Pairs.{index_by, lookup_by}
 use Rattle.vecmap_base.proofs.PairsLemmas.AtIndices.{match_at}
 use Rattle.vecmap_base.proofs.PairsLemmas.ByIndex.{index_by_appended}
 use Rattle.vecmap_base.proofs.PairsLemmas.Updates.{updates_appended_found, updates_matched, updates_written_at}
+use Rattle.vecmap_map.proofs.ContentsLemmas.{appends_made, finds_match}
 use Rattle.vecmap_map.proofs.VecMap.index_or_try_insert_with.Goals as goal
 
 pub returns-in-Some-clause-index : goal.returns-in-Some-clause-index
@@ -54,3 +55,13 @@ pub returns-in-Ok-clause-stays : goal.returns-in-Ok-clause-stays
 returns-in-Ok-clause-stays g c = λ some.
     let none : c.get_index_of.result ≡ None = c.in_default.is in
     absurd (true≢false (sym some ∙ sym c.get_index_of.ensures.found ∙ ap is_some none))
+
+pub returns-in-Some-clause-found : goal.returns-in-Some-clause-found
+returns-in-Some-clause-found g c = finds_match (g.Q.Equivalent.equivalent c.args.query) _ c.args.self.now c.in-Some.index (returns-in-Some-clause-index g c)
+
+pub returns-in-Ok-clause-found : goal.returns-in-Ok-clause-found
+returns-in-Ok-clause-found g c =
+    let test = g.Q.Equivalent.equivalent c.args.query in
+    let l = c.args.self.now.entries in
+    let none : index_by test l ≡ None = sym c.get_index_of.ensures.index ∙ c.in_default.is in
+    appends_made test _ c.args.self.now c.push.new.self (c.in_ok-key.key, c.in_ok-key.value) none (c.requires.made _ c.in_ok-key.ensures) c.in_ok-key.ensures c.in-Ok.ensures.entries

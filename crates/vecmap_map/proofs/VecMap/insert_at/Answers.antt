@@ -1,5 +1,5 @@
 use Rattle.std.proofs.Common.{arith}
-use Rattle.vecmap_base.proofs.PairsLemmas.AtIndices.{put_at_found}
+use Rattle.vecmap_base.proofs.PairsLemmas.AtIndices.{inserts_at, put_at_found}
 use Rattle.vecmap_base.proofs.PairsLemmas.Updates.{updates_put_at}
 use Rattle.vecmap_map.proofs.VecMap.insert_at.Goals as goal
 
@@ -20,3 +20,9 @@ returns-in-Some-clause-at g c = put_at_found g.K.PartialEq.eq c.args.self.now.en
 
 pub returns-clause-at : goal.returns-clause-at
 returns-clause-at g c = put_at_found g.K.PartialEq.eq c.args.self.now.entries _ c.args.index c.args.key c.args.value (returns-clause-entries g c) c.requires.within
+
+pub returns-in-Some-clause-keys : goal.returns-in-Some-clause-keys
+returns-in-Some-clause-keys g c = inserts_at g.K.PartialEq.eq g.met.K.Eq.laws c.args.self.now.entries _ c.args.index c.args.key c.args.value (returns-in-Some-clause-entries g c) c.requires.within
+
+pub returns-clause-keys : goal.returns-clause-keys
+returns-clause-keys g c = inserts_at g.K.PartialEq.eq g.met.K.Eq.laws c.args.self.now.entries _ c.args.index c.args.key c.args.value (returns-clause-entries g c) c.requires.within

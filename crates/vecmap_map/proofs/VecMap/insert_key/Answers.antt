@@ -1,6 +1,6 @@
-use Rattle.std.proofs.Common.{arith}
+use Rattle.std.proofs.Common.{ap, arith, option_map, ◌∙◌}
 use Rattle.vecmap_base.proofs.PairsLemmas.AtIndices.{puts_key}
-use Rattle.vecmap_base.proofs.PairsLemmas.ByIndex.{pair_found, put_key_by_index}
+use Rattle.vecmap_base.proofs.PairsLemmas.ByIndex.{by_index, pair_found, put_key_by_index, value_of_pair_by}
 use Rattle.vecmap_base.proofs.PairsLemmas.Updates.{updates_put_key}
 use Rattle.vecmap_map.proofs.VecMap.insert_key.Goals as goal
 
@@ -30,3 +30,12 @@ returns-in-Some-clause-keys g c = puts_key g.K.PartialEq.eq g.met.K.Eq.laws c.ar
 
 pub returns-clause-keys : goal.returns-clause-keys
 returns-clause-keys g c = puts_key g.K.PartialEq.eq g.met.K.Eq.laws c.args.self.now.entries _ c.args.key c.args.value (returns-clause-entries g c)
+
+pub returns-in-Some-clause-value : goal.returns-in-Some-clause-value
+returns-in-Some-clause-value g c = ap (option_map (λ p. p.1)) (returns-in-Some-clause-old g c) ∙ value_of_pair_by (g.K.PartialEq.eq c.args.key) c.args.self.now.entries
+
+pub returns-clause-old : goal.returns-clause-old
+returns-clause-old g c = grind (arith, by_index)
+
+pub returns-clause-value : goal.returns-clause-value
+returns-clause-value g c = ap (option_map (λ p. p.1)) (returns-clause-old g c) ∙ value_of_pair_by (g.K.PartialEq.eq c.args.key) c.args.self.now.entries

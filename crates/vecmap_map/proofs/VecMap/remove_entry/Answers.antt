@@ -1,6 +1,6 @@
-use Rattle.std.proofs.Common.{ap, arith, is_some, ◌∙◌}
+use Rattle.std.proofs.Common.{ap, arith, is_some, option_map, ◌∙◌}
 use Rattle.vecmap_base.proofs.PairsLemmas.AtIndices.{shifts_without}
-use Rattle.vecmap_base.proofs.PairsLemmas.ByIndex.{by_index, is_some_lookup_pair_by}
+use Rattle.vecmap_base.proofs.PairsLemmas.ByIndex.{by_index, is_some_lookup_pair_by, value_of_pair_by}
 use Rattle.vecmap_base.proofs.PairsLemmas.Updates.{updates_of_without}
 use Rattle.vecmap_map.proofs.VecMap.remove_entry.Goals as goal
 
@@ -39,3 +39,9 @@ returns-in_err-index-clause-pair g c = grind (arith, by_index)
 
 pub returns-in_err-index-clause-found : goal.returns-in_err-index-clause-found
 returns-in_err-index-clause-found g c = ap is_some (returns-in_err-index-clause-pair g c) ∙ is_some_lookup_pair_by (g.Q.Equivalent.equivalent c.args.query) c.args.self.now.entries
+
+pub returns-clause-value : goal.returns-clause-value
+returns-clause-value g c = ap (option_map (λ p. p.1)) (returns-clause-pair g c) ∙ value_of_pair_by (g.Q.Equivalent.equivalent c.args.query) c.args.self.now.entries
+
+pub returns-in_err-index-clause-value : goal.returns-in_err-index-clause-value
+returns-in_err-index-clause-value g c = ap (option_map (λ p. p.1)) (returns-in_err-index-clause-pair g c) ∙ value_of_pair_by (g.Q.Equivalent.equivalent c.args.query) c.args.self.now.entries

@@ -3,7 +3,7 @@ use Rattle.std.proofs.lemmas.Option.{gets}
 use Rattle.vecmap_base.specs.Pairs.{HasDistinctKeys}
 use Rattle.vecmap_base.proofs.PairsLemmas.AtIndices.{shifts_indices}
 use Rattle.vecmap_base.proofs.PairsLemmas.Distinct.{distinct_keys_remove}
-use Rattle.vecmap_base.proofs.PairsLemmas.Updates.{lookup_by_removed}
+use Rattle.vecmap_base.proofs.PairsLemmas.Updates.{lookup_by_gone, lookup_by_removed}
 use Rattle.vecmap_map.proofs.VecMap.remove_index.Goals as goal
 
 pub returns-clause-entries : goal.returns-clause-entries
@@ -19,3 +19,6 @@ returns-clause-distinct g c = λ eq d.
 
 pub returns-clause-indices : goal.returns-clause-indices
 returns-clause-indices g c = shifts_indices c.args.self.now.entries _ c.args.index (returns-clause-entries g c)
+
+pub returns-clause-gone : goal.returns-clause-gone
+returns-clause-gone g c = λ eq o d k at. lookup_by_gone eq o (eq k) (o.congr k) c.args.self.now.entries _ c.args.index c.remove_item.result (returns-clause-entries g c) (grind (arith, gets)) d at

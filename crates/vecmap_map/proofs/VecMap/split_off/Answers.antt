@@ -1,6 +1,6 @@
 use Rattle.std.proofs.Common.{arith, drop, rules, take}
 use Rattle.std.proofs.lemmas.List.{take-append-drop}
-use Rattle.vecmap_base.proofs.PairsLemmas.Parts.{keeps_front_of, lookup_by_append}
+use Rattle.vecmap_base.proofs.PairsLemmas.Parts.{keeps_front_of, keys_of_parts, lookup_by_append}
 use Rattle.vecmap_map.proofs.VecMap.split_off.Goals as goal
 
 pub returns-clause-lookups : goal.returns-clause-lookups
@@ -10,3 +10,6 @@ pub returns-clause-part_lookups : goal.returns-clause-part_lookups
 returns-clause-part_lookups g c = λ test.
     let l = c.args.self.now.entries in
     grind (arith, lookup_by_append test (take c.args.at l) (drop c.args.at l), take-append-drop c.args.at l)
+
+pub returns-clause-part_keys : goal.returns-clause-part_keys
+returns-clause-part_keys g c = keys_of_parts c.args.at c.args.self.now.entries _ _ (search rules) (search rules)

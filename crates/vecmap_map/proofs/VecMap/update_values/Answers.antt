@@ -3,6 +3,7 @@ use Rattle.std.proofs.Common.{arith}
 use Rattle.std.proofs.lemmas.List.{take_at}
 use Rattle.std.specs.Prelude.{◌≡◌, drop, length}
 use Rattle.vecmap_base.proofs.PairsLemmas.AtIndices.{same_indices}
+use Rattle.vecmap_base.proofs.PairsLemmas.SetValues.{sets_values}
 use Rattle.vecmap_map.proofs.VecMap.update_values.Goals as goal
 
 pub returns-clause-keys : goal.returns-clause-keys
@@ -13,3 +14,12 @@ returns-clause-keys g c =
 
 pub returns-clause-indices : goal.returns-clause-indices
 returns-clause-indices g c = λ test. same_indices test c.args.self.now.entries _ (returns-clause-keys g c)
+
+pub returns-clause-written : goal.returns-clause-written
+returns-clause-written g c =
+    let new = c.update_pairs.new.pairs in
+    let long : length new ≡ c.self.inside.pairs.len = omega (arith, c.update_pairs.ensures.len, c.deref_mut.ensures.len) in
+    rw (take_at new (drop (length new) c.self.inside.pairs.items) c.self.inside.pairs.len long, ← c.self.view_is, ← c.deref_mut.ensures.value) c.update_pairs.ensures.written
+
+pub returns-clause-set : goal.returns-clause-set
+returns-clause-set g c = λ w told. sets_values w c.args.self.now.entries _ (returns-clause-written g c (λ pair. (pair.0, w)) told)
