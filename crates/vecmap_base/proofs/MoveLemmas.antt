@@ -1,14 +1,26 @@
 -- A rotation by one of the part between two indices moves one item from one index to the other. Replacing each item of
 -- the part by the one next to it does the same.
 use Rattle.std.specs.{List.Sorted.IsPermutation, Option.option_map_or}
-use Rattle.std.proofs.Common.{◌≡◌, ℕ, zero, suc, ◌+◌, ◌-◌, ◌<◌, ◌≤◌, List, [], ◌∷◌, ◌++◌, ap, arith, append_assoc, drop, drop_at, get_or, insert, length, length-take-le, refl, remove, set, slice_get, swap, Some, subst, sym, take, take_at, ◌∙◌}
-use Rattle.std.proofs.lemmas.List.{drop-set-lt, get_or-set_other, get_or-set_same, length-set, take-set-le, take_more}
+use Rattle.std.proofs.Common.{◌≡◌, ℕ, zero, suc, ◌+◌, ◌-◌, ◌<◌, ◌≤◌, List, [], ◌∷◌, ◌++◌, ap, arith, append_assoc, drop, drop_at, get_or, insert, length, length-take-le, nat_eq, false, refl, remove, reverse, set, slice_get, swap, Some, subst, sym, take, take_at, true≢false, ◌∙◌}
+use Rattle.std.proofs.lemmas.Bool.{eq-eqb}
+use Rattle.std.proofs.lemmas.List.{drop-set-lt, get_or-reverse, get_or-set_other, get_or-set_same, length-reverse, length-set, take-set-le, take_more}
 use Rattle.std.proofs.lemmas.List.Edits.{insert_end, length-remove, swap_is}
 use Rattle.std.proofs.lemmas.List.Sorted.{IsPermutation-insert, IsPermutation-remove, IsPermutation-trans}
 use Rattle.std.proofs.lemmas.Option.{get_or_from_slice_get, slice_get-get_or, slice_get_within}
 use Rattle.std.proofs.lemmas.Grind.{get_or-set_at}
 use Rattle.std.proofs.Math.Seq.{take-length}
 use Rattle.vecmap_base.specs.Items.{moved}
+
+-- A write at an index leaves the items at other indices.
+read_after_set : {X : Type 0} (xs : List X) (i n : ℕ) (y : X) → (n ≡ i → ⊥) → slice_get (set xs i y) n ≡ slice_get xs n
+read_after_set [] i n y h = refl
+read_after_set (x ∷ xs) zero zero y h = absurd (h refl)
+read_after_set (x ∷ xs) zero (suc n) y h = refl
+read_after_set (x ∷ xs) (suc i) zero y h = refl
+read_after_set (x ∷ xs) (suc i) (suc n) y h = read_after_set xs i n y (λ e. h (ap suc e))
+
+differ : (n i : ℕ) → nat_eq n i ≡ false → n ≡ i → ⊥
+differ n i h e = true≢false (sym (eq-eqb n i e) ∙ h)
 
 module _ {X : Type 0} where
   -- The list `xs` with its part of length `k` from the index `a` on rotated by `n` to the left.
@@ -186,6 +198,39 @@ module _ {X : Type 0} where
       let there : get_or twice i x ≡ get_or (x ∷ xs) j x = grind (arith, get_or-set_at, get_or-set_other) in
       ap (λ l. slice_get l i) (e ∙ sym (swap_is (x ∷ xs) i j x within below))
       ∙ slice_get-get_or twice i x longer ∙ ap Some there ∙ sym (slice_get-get_or (x ∷ xs) j x below)
+
+  -- Two swapped items leave the others at their indices.
+  pub swapped_other : (xs ys : List X) (i j n : ℕ) → ys ≡ swap xs i j → i < length xs → j < length xs → nat_eq n i ≡ false → nat_eq n j ≡ false → slice_get ys n ≡ slice_get xs n
+  swapped_other [] ys i j n e within below h k = absurd (omega arith)
+  swapped_other (x ∷ xs) ys i j n e within below h k =
+      ap (λ l. slice_get l n) (e ∙ sym (swap_is (x ∷ xs) i j x within below))
+      ∙ read_after_set (set (x ∷ xs) i (get_or (x ∷ xs) j x)) j n (get_or (x ∷ xs) i x) (differ n j k)
+      ∙ read_after_set (x ∷ xs) i n (get_or (x ∷ xs) j x) (differ n i h)
+
+  -- A moved item leaves those before both indices at theirs.
+  kept_before : (xs : List X) (from to n : ℕ) (y : X) → from < length xs → n < from → n < to → slice_get (insert (remove xs from) to y) n ≡ slice_get xs n
+  kept_before [] from to n y within h k = absurd (omega (arith, within))
+  kept_before (x ∷ xs) zero to n y within h k = absurd (omega (arith, h))
+  kept_before (x ∷ xs) (suc from) zero n y within h k = absurd (omega (arith, k))
+  kept_before (x ∷ xs) (suc from) (suc to) zero y within h k = refl
+  kept_before (x ∷ xs) (suc from) (suc to) (suc n) y within h k = kept_before xs from to n y (omega (arith, within)) (omega (arith, h)) (omega (arith, k))
+
+  pub moved_other : (xs ys : List X) (from to n : ℕ) → ys ≡ moved xs from to → from < length xs → n < from → n < to → slice_get ys n ≡ slice_get xs n
+  moved_other [] ys from to n e within h k = absurd (omega arith)
+  moved_other (x ∷ xs) ys from to n e within h k =
+      let at = slice_get-get_or (x ∷ xs) from x within in
+      ap (λ l. slice_get l n) (e ∙ ap (λ o. option_map_or (λ y. insert (remove (x ∷ xs) from) to y) o (x ∷ xs)) at)
+      ∙ kept_before (x ∷ xs) from to n (get_or (x ∷ xs) from x) within h k
+
+  -- In the reversed list, an item is as far from the end as it was from the start.
+  pub at_reversed : (xs ys : List X) (i : ℕ) → ys ≡ reverse xs → i < length xs → slice_get ys (length xs - 1 - i) ≡ slice_get xs i
+  at_reversed [] ys i e h = absurd (omega (arith, h))
+  at_reversed (x ∷ xs) ys i e h =
+      let s = x ∷ xs in
+      let j = length s - 1 - i in
+      let back : length s - 1 - j ≡ i = omega (arith, h) in
+      let read : get_or (reverse s) j x ≡ get_or s i x = get_or-reverse s j x (omega (arith, h)) ∙ ap (λ n. get_or s n x) back in
+      ap (λ l. slice_get l j) e ∙ slice_get-get_or (reverse s) j x (omega (arith, length-reverse s, h)) ∙ ap Some read ∙ sym (slice_get-get_or s i x h)
 
   -- An item that is moved to the end.
   pub moved_last : (xs ys : List X) (from to : ℕ) (x : X) → ys ≡ moved xs from to → slice_get xs from ≡ Some x → to ≡ length xs - 1 → ys ≡ remove xs from ++ x ∷ []

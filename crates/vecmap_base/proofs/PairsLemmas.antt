@@ -17,3 +17,4 @@ pub mod AtIndices
 pub mod Reordered
 pub mod SetValues
 pub mod Retained
+pub mod Searched

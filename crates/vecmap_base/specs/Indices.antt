@@ -11,6 +11,13 @@ module _ {K V : Type 0} where
   abbrev pub HasMatchAt : (K → Bool) → List (K × V) → ℕ → Type 0
   HasMatchAt test l i = (k : K) × (v : V) × (slice_get l i ≡ Some (k, v)) × (test k ≡ true) × (lookup_by test l ≡ Some v)
 
+  -- Example: the pair `(2,b)` at the index 1 of `[(1,a), (2,b)]`.
+  -- The pair `(k, v)` at the index `i` of the list `l` has a key that is present, and is found if all keys are distinct.
+  pub record IsFoundAt (i : ℕ) (l : List (K × V)) (k : K) (v : V) : Type 0 where
+    pub present : (test : K → Bool) → test k ≡ true → is_some (lookup_by test l) ≡ true
+    pub value : (eq : K → K → Bool) → IsEquivalence eq → HasDistinctKeys eq l → lookup eq l k ≡ Some v
+    pub index : (eq : K → K → Bool) → IsEquivalence eq → HasDistinctKeys eq l → index_of eq l k ≡ Some i
+
   -- Example: from `[(1,a)]` to `[(1,b)]`.
   -- The list `m` has the keys of `l`, each at its index.
   pub record KeepsIndices (l m : List (K × V)) : Type 0 where

@@ -1,12 +1,13 @@
 -- What lookups find after a change of a list of pairs. `eq` is the `==` of keys. `proofs/Definitions/Lookups.antt` of
 -- `vecmap_examples` has examples of what each field says.
-use Rattle.std.specs.Prelude.{◌≡◌, ◌<◌, ◌≤◌, ℕ, Bool, IsSome, List, None, Option, Some, cond, false, is_some, length, min, slice_set, take}
+use Rattle.std.specs.Prelude.{◌≡◌, ◌<◌, ◌≤◌, ℕ, Bool, IsSome, List, None, Option, Some, cond, false, is_some, length, min, slice_set, take, ◌+◌, IsTrue}
 use Rattle.std.specs.List.{All, list_any}
 use Rattle.std.specs.Option.{option_or}
 use Rattle.std.specs.Set.{is_member, KeepsOthers as KeepsOtherItems}
 use Rattle.std.specs.Cmp.{IsEquivalence}
 use Rattle.std.specs.Map.{IsKeyTest, KeepsOthers, keys_of, values_of}
 use Rattle.vecmap_base.specs.Pairs.{HasDistinctKeys, index_by, index_of, lookup, lookup_by, value_at}
+use Rattle.vecmap_base.specs.Equality.{has_same_counts}
 
 module _ {K V : Type 0} (eq : K → K → Bool) where
   -- Example: from `[(1,a)]` to `[(1,a), (2,b)]` for the key 2: b.
@@ -45,11 +46,12 @@ module _ {K V : Type 0} where
 
   -- Example: from `[(1,a), (2,b)]` to `[(2,b), (1,a)]`.
   -- Each query matches a key of the list `m` exactly if it matches one of `l`, and finds what it found if all keys of
-  -- `l` are distinct. The lists have the same length.
+  -- `l` are distinct. The lists have the same length, and are equal as maps.
   pub record IsReordered (l m : List (K × V)) : Type 0 where
     pub matches : (test : K → Bool) → is_some (index_by test m) ≡ is_some (index_by test l)
     pub lookups : (eq : K → K → Bool) → IsEquivalence eq → HasDistinctKeys eq l → KeepsLookups eq l m
     pub len : length m ≡ length l
+    pub equal : (key : K → K → Bool) (value : V → V → Bool) → IsEquivalence key → IsEquivalence value → IsTrue (has_same_counts key value m l)
 
   -- Example: from `[(1,a), (2,b)]` to `[(1,a), (2,c)]` for the index 1.
   -- The list `m` has the keys of `l`, at their indices. A query whose match is at the index `i` finds `v`, and a query
@@ -72,11 +74,13 @@ module _ {K V : Type 0} where
     pub values : All (λ v. v ≡ w) (values_of m)
 
   -- Example: from `[(1,a)]`, with `[(1,b), (2,c)]`, to `[(1,b), (2,c)]`.
-  -- Each key has in the list `m` its value in `pairs`, or else its value in `l`.
+  -- If the keys of `pairs` are distinct, each key has in the list `m` its value in `pairs`, or else its value in `l`.
   pub record Joins (eq : K → K → Bool) (l pairs m : List (K × V)) : Type 0 where
     pub lookups : HasDistinctKeys eq pairs → (q : K) → lookup eq m q ≡ option_or (lookup eq pairs q) (lookup eq l q)
     pub distinct : HasDistinctKeys eq l → HasDistinctKeys eq m
     pub indices : (test : K → Bool) (i : ℕ) → index_by test l ≡ Some i → index_by test m ≡ Some i
+    pub len : length m ≤ length l + length pairs
+    pub not_empty : 0 < length pairs → 0 < length m
 
 -- Example: from `[1]` to `[1, 2]` for 2: true.
 -- The list `r` has elements that pass the test exactly if `b` is true, and each other element exactly if `s` has it.

@@ -7,6 +7,7 @@ use Rattle.vecmap_base.proofs.DistinctLemmas.Order.{distinct_rearranged}
 use Rattle.vecmap_base.specs.Pairs.{HasDistinctKeys, index_of, put, put_at, puts}
 use Rattle.vecmap_laws.proofs.DistinctAbsent.{none_before}
 use Rattle.vecmap_laws.proofs.Indices.{index_of_none}
+pub use Rattle.vecmap_base.proofs.PairsLemmas.Parts.{puts_apart, puts_distinct}
 pub use Rattle.vecmap_base.proofs.PairsLemmas.Puts.{put_absent, put_present, put_stored, puts_more}
 
 module _ {K V : Type 0} (eq : K → K → Bool) where
@@ -23,22 +24,11 @@ module _ {K V : Type 0} (eq : K → K → Bool) where
   puts_append l a b = fold-append (λ done p. put eq done p.0 p.1) l a b
 
   module _ (o : IsEquivalence eq) where
-    pub puts_apart : (l m : List (K × V)) → HasDistinctKeys eq (l ++ m) → puts eq l m ≡ l ++ m
-    puts_apart l [] d = sym (append-nil l)
-    puts_apart l (p ∷ ps) d =
-        let moved : (l ++ p ∷ []) ++ ps ≡ l ++ p ∷ ps = append_assoc l (p ∷ []) ps in
-        let none = none_before eq o (keys_of l) p.0 (keys_of ps) (subst (IsDistinct eq) (map-append (λ q. q.0) l (p ∷ ps)) d) in
-        ap (λ m. puts eq m ps) (put_absent eq l p.0 p.1 (index_of_none eq l p.0 none)) ∙ puts_apart (l ++ p ∷ []) ps (subst (HasDistinctKeys eq) (sym moved) d) ∙ moved
-
-    -- A list of distinct keys has no duplicates, so its insertions into the empty list make the list itself.
-    pub puts_distinct : (l : List (K × V)) → HasDistinctKeys eq l → puts eq [] l ≡ l
-    puts_distinct l d = puts_apart [] l d
-
     -- If a list of distinct keys is split, the insertion of the second part into the first restores it.
     pub puts_restore : (l : List (K × V)) (at : ℕ) → HasDistinctKeys eq l → puts eq (take at l) (drop at l) ≡ l
     puts_restore l at d =
         let whole : take at l ++ drop at l ≡ l = take-append-drop at l in
-        puts_apart (take at l) (drop at l) (subst (HasDistinctKeys eq) (sym whole) d) ∙ whole
+        puts_apart eq o (take at l) (drop at l) (subst (HasDistinctKeys eq) (sym whole) d) ∙ whole
 
     -- If a block of pairs is removed and inserted again, it is moved to the end.
     pub puts_moved : (l : List (K × V)) (i j : ℕ) → i ≤ j → HasDistinctKeys eq l → puts eq (remove_range l i j) (slice_range l i j) ≡ remove_range l i j ++ slice_range l i j
@@ -49,4 +39,4 @@ module _ {K V : Type 0} (eq : K → K → Bool) where
         let whole : HasDistinctKeys eq (front ++ (block ++ rest)) = subst (HasDistinctKeys eq) (split_between l i j h) d in
         let keys = IsPermutation-map (λ p. p.0) (front ++ (block ++ rest)) (front ++ (rest ++ block)) (IsPermutation-append_right front (block ++ rest) (rest ++ block) (IsPermutation-append_comm block rest)) in
         let moved : HasDistinctKeys eq (front ++ (rest ++ block)) = distinct_rearranged eq o (keys_of (front ++ (block ++ rest))) (keys_of (front ++ (rest ++ block))) keys whole in
-        puts_apart (remove_range l i j) block (subst (HasDistinctKeys eq) (sym (append_assoc front rest block)) moved)
+        puts_apart eq o (remove_range l i j) block (subst (HasDistinctKeys eq) (sym (append_assoc front rest block)) moved)

@@ -97,6 +97,7 @@ impl<K, V> VecMap<K, V> {
             → HasDistinctKeys K.eq pairs.now → IfOk result (λ map. (q : K)
             → lookup K.eq map.entries q ≡ lookup K.eq pairs.now q) }
         ensures distinct { IfOk result (λ map. HasDistinctKeys K.eq map.entries) }
+        ensures len { IfOk result (λ map. length map.entries ≤ length pairs.now) }
     {
         let mut map = VecMap::with_capacity(alloc, pairs.len())?;
         for pair in pairs {

@@ -1,5 +1,5 @@
 //! Conversions of a vector into a map, which keep the vector, and of an array; clones of the pairs in a new vector.
-ghost use Rattle.std.specs.Prelude.{◌≡◌, ◌≤◌, IfOk, [], length, vec_capacity};
+ghost use Rattle.std.specs.Prelude.{◌≡◌, ◌<◌, ◌≤◌, IfOk, [], length, vec_capacity};
 ghost use Rattle.std.specs.Map.{keys_of};
 ghost use Rattle.vecmap_base.specs.Clones.{ArePairClones};
 ghost use Rattle.vecmap_base.specs.Pairs.{HasDistinctKeys, lookup, puts};
@@ -27,7 +27,9 @@ impl<K: Eq + Drop, V: Drop> From<Vec<(K, V)>> for VecMap<K, V> {
     ghost from_gives = { λ pairs map. (map.entries ≡ puts K.eq [] pairs.items)
         × (map.capacity ≡ vec_capacity pairs) × HasDistinctKeys K.eq map.entries
         × (HasDistinctKeys K.eq pairs.items → (q : K) → lookup K.eq map.entries q
-        ≡ lookup K.eq pairs.items q) × (length map.entries ≤ length pairs.items) };
+        ≡ lookup K.eq pairs.items q) × (length map.entries ≤ length pairs.items)
+        × (HasDistinctKeys K.eq pairs.items → map.entries ≡ pairs.items)
+        × (0 < length pairs.items → 0 < length map.entries) };
 
     fn from(pairs: Vec<(K, V)>) -> VecMap<K, V> {
         let (map, _count) = VecMap::from_vec_counted(pairs);
@@ -64,6 +66,8 @@ impl<K, V> VecMap<K, V> {
         ensures lookups { HasDistinctKeys K.eq pairs.items → (q : K)
             → lookup K.eq result.0.entries q ≡ lookup K.eq pairs.items q }
         ensures len { length result.0.entries ≤ length pairs.items }
+        ensures unchanged { HasDistinctKeys K.eq pairs.items → result.0.entries ≡ pairs.items }
+        ensures not_empty { 0 < length pairs.items → 0 < length result.0.entries }
     {
         let mut steps = Steps::new();
         dedup_keep_last_value(&mut pairs, &mut steps);

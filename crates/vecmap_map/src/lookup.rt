@@ -1,8 +1,8 @@
 //! Lookups by query and by index.
-ghost use Rattle.std.specs.Prelude.{◌≡◌, ◌-◌, ◌<◌, ◌↔◌, IfSome, IsTrue, Some, is_some, length, option_copied, option_map, slice_get, string_eq};
+ghost use Rattle.std.specs.Prelude.{◌≡◌, ◌-◌, ◌<◌, ◌↔◌, IfSome, IsTrue, Some, is_some, length, nat_lt, option_copied, option_map, slice_get, string_eq};
 ghost use Rattle.std.specs.Map.Iter.{deref_pair};
 ghost use Rattle.std.specs.Option.{option_and_then};
-ghost use Rattle.vecmap_base.specs.Indices.{HasMatchAt};
+ghost use Rattle.vecmap_base.specs.Indices.{HasMatchAt, IsFoundAt};
 ghost use Rattle.vecmap_base.specs.Lookups.{UpdatesBy};
 ghost use Rattle.vecmap_base.specs.Pairs.{HasDistinctKeys, has_text, index_by, lookup_by, lookup_pair_by, value_at, with_value};
 
@@ -46,7 +46,10 @@ impl<K, V> VecMap<K, V> {
     /// map.first() // Some((&'a', &1))
     /// ```
     pub fn first(&self) -> Option<(&K, &V)>
-        ensures { option_map deref_pair result ≡ slice_get self.now.entries 0 }
+        ensures pair { option_map deref_pair result ≡ slice_get self.now.entries 0 }
+
+        // What follows for lookups, lengths and indices.
+        ensures at { IfSome result (λ pair. IsFoundAt 0 self.now.entries pair.0.now pair.1.now) }
     {
         self.get_index(0)
     }
@@ -64,8 +67,12 @@ impl<K, V> VecMap<K, V> {
     /// map.last() // Some((&'b', &2))
     /// ```
     pub fn last(&self) -> Option<(&K, &V)>
-        ensures { option_map deref_pair result
+        ensures pair { option_map deref_pair result
             ≡ slice_get self.now.entries (length self.now.entries - 1) }
+
+        // What follows for lookups, lengths and indices.
+        ensures at { IfSome result (λ pair. IsFoundAt (length self.now.entries - 1)
+            self.now.entries pair.0.now pair.1.now) }
     {
         let len = self.pairs.len();
         if len == 0 {
@@ -115,7 +122,12 @@ impl<K, V> VecMap<K, V> {
     /// map.get_index(2) // None
     /// ```
     pub fn get_index(&self, index: usize) -> Option<(&K, &V)>
-        ensures { option_map deref_pair result ≡ slice_get self.now.entries index }
+        ensures pair { option_map deref_pair result ≡ slice_get self.now.entries index }
+
+        // What follows for lookups, lengths and indices.
+        ensures found { is_some result ≡ nat_lt index (length self.now.entries) }
+        ensures at { IfSome result (λ pair. IsFoundAt index self.now.entries pair.0.now
+            pair.1.now) }
     {
         let pair = self.pairs.get(index)?;
         Some((&pair.0, &pair.1))
@@ -171,8 +183,13 @@ impl<K, V> VecMap<K, V> {
     pub fn get_key_value<Q: Equivalent<K>>(&self, query: Q) -> Option<(&K, &V)>
     where
         K: Eq,
-        ensures { option_map deref_pair result
+        ensures pair { option_map deref_pair result
             ≡ lookup_pair_by (Q.equivalent query) self.now.entries }
+
+        // What follows for lookups, lengths and indices.
+        ensures found { is_some result ≡ is_some (lookup_by (Q.equivalent query) self.now.entries) }
+        ensures at { IfSome result (λ pair. IsTrue (Q.equivalent query pair.0.now)
+            × (lookup_by (Q.equivalent query) self.now.entries ≡ Some pair.1.now)) }
     {
         let (_index, stored, value) = self.get_full(query)?;
         Some((stored, value))

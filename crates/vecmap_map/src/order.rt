@@ -1,11 +1,14 @@
 //! Reversing, moving, swapping and sorting the pairs.
-ghost use Rattle.std.specs.Prelude.{◌≡◌, ◌<◌, ◌≤◌, Bool, IsOk, OnErr, OnOk, length, reverse, swap};
+ghost use Rattle.std.specs.Prelude.{◌≡◌, ◌-◌, ◌<◌, ◌≤◌, ℕ, Bool, IsOk, OnErr, OnOk, Some, false, length, nat_eq, reverse, slice_get, swap};
+ghost use Rattle.std.specs.Cmp.{IsEquivalence};
 ghost use Rattle.std.specs.List.Sorted.{IsPermutation, IsSortedByKey, IsStableByKey};
+ghost use Rattle.std.specs.Map.{keys_of};
 ghost use Rattle.std.specs.Ordering.{is_lt};
 ghost use Rattle.vecmap_base.specs.Items.{moved};
 ghost use Rattle.vecmap_base.specs.Indices.{MovesIndex};
 ghost use Rattle.vecmap_base.specs.Lookups.{IsReordered};
 ghost use Rattle.vecmap_base.specs.Orders.{AnswersOnPair, ComparesPairsAs, IsSortedByPairClosure, IsSortedByPairKey, IsStableByPairClosure, IsStableByPairKey};
+ghost use Rattle.vecmap_base.specs.Pairs.{HasDistinctKeys, index_by, index_of};
 
 use crate::VecMap;
 use std::alloc::AllocError;
@@ -33,6 +36,13 @@ impl<K, V> VecMap<K, V> {
 
         // What follows for lookups, lengths and indices.
         ensures reordered { IsReordered self.old.entries self.new.entries }
+        ensures moves { (i : ℕ) → i < length self.old.entries → MovesIndex i
+            (length self.old.entries - 1 - i) self.old.entries self.new.entries }
+        ensures indices { (eq : K → K → Bool) → IsEquivalence eq
+            → HasDistinctKeys eq self.old.entries → (key : K) (i : ℕ)
+            → index_of eq self.old.entries key ≡ Some i → index_of eq self.new.entries key
+            ≡ Some (length self.old.entries - 1 - i) }
+        ensures keys { keys_of self.new.entries ≡ reverse (keys_of self.old.entries) }
     {
         self.pairs.reverse();
     }
@@ -66,6 +76,8 @@ impl<K, V> VecMap<K, V> {
         ensures reordered { IsReordered self.old.entries self.new.entries }
         ensures moves { MovesIndex a b self.old.entries self.new.entries }
         ensures moves_back { MovesIndex b a self.old.entries self.new.entries }
+        ensures others { (i : ℕ) → nat_eq i a ≡ false → nat_eq i b ≡ false
+            → MovesIndex i i self.old.entries self.new.entries }
     {
         self.pairs.swap(a, b);
     }
@@ -98,6 +110,10 @@ impl<K, V> VecMap<K, V> {
         // What follows for lookups, lengths and indices.
         ensures reordered { IsReordered self.old.entries self.new.entries }
         ensures moves { MovesIndex from to self.old.entries self.new.entries }
+        ensures others { (i : ℕ) → i < from → i < to
+            → slice_get self.new.entries i ≡ slice_get self.old.entries i }
+        ensures indices { (test : K → Bool) (i : ℕ) → index_by test self.old.entries ≡ Some i
+            → i < from → i < to → index_by test self.new.entries ≡ Some i }
     {
         move_to(&mut self.pairs, from, to);
     }

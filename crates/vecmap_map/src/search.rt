@@ -1,9 +1,10 @@
 //! Binary searches in sorted pairs. None allocates.
-ghost use Rattle.std.specs.Prelude.{◌≡◌, ◌<◌, ◌≤◌, Bool, Contains, List, false, length, true};
+ghost use Rattle.std.specs.Prelude.{◌≡◌, ◌<◌, ◌≤◌, Bool, Contains, IfOk, List, Some, false, is_ok, is_some, length, true};
 ghost use Rattle.std.specs.List.{All, HoldsAt};
-ghost use Rattle.std.specs.List.Sorted.{IsBinarySearchResult, IsPartitionPoint, IsPartitionedBy, IsSearchInRange};
+ghost use Rattle.std.specs.List.Sorted.{IsBinarySearchResult, IsPartitionPoint, IsPartitionedBy, IsSearchInRange, IsSortedByKey};
 ghost use Rattle.std.specs.declared.cmp.Ordering.{Ordering};
 ghost use Rattle.vecmap_base.specs.Orders.{AnswersOnPairs, CallableOnPair};
+ghost use Rattle.vecmap_base.specs.Pairs.{HasDistinctKeys, index_of, lookup, value_at};
 
 use crate::VecMap;
 use std::cmp::Ordering;
@@ -32,6 +33,13 @@ impl<K, V> VecMap<K, V> {
         K: Ord,
         ensures within { IsSearchInRange result (length self.now.entries) }
         ensures index { IsBinarySearchResult (λ p. K.cmp p.0 key.now) self.now.entries result }
+
+        // What follows for lookups, lengths and indices.
+        ensures found { IsSortedByKey (λ p. p.0) K.cmp self.now.entries
+            → is_ok result ≡ is_some (lookup K.eq self.now.entries key.now) }
+        ensures at { HasDistinctKeys K.eq self.now.entries → IfOk result (λ i.
+            (index_of K.eq self.now.entries key.now ≡ Some i)
+            × (value_at self.now.entries i ≡ lookup K.eq self.now.entries key.now)) }
     {
         let pairs = self.pairs.as_slice();
         search_by_index::<K, _, _>(

@@ -1,10 +1,10 @@
 -- At which indices elements and queries find their match after a change, in the words of contracts.
 use Rattle.std.specs.{Cmp.IsEquivalence, List.AllByRecursion, List.IsDistinct, Map.IsKeyTest}
 use Rattle.std.specs.Prelude.{IfSome, insert}
-use Rattle.std.proofs.Common.{◌≡◌, ◌∙◌, ◌++◌, ◌<◌, ◌-◌, ◌≤◌, ℕ, suc, zero, Bool, true, false, List, [], ◌∷◌, None, Option, Some, ap, arith, cond, drop, get_or, get_or-set_other, get_or-take, inl, inr, length, length-set, option_map, position, refl, remove, reverse, set, slice_get, swap, sym, take, true≢false}
+use Rattle.std.proofs.Common.{◌≡◌, ◌∙◌, ◌++◌, ◌<◌, ◌-◌, ◌≤◌, ℕ, suc, zero, Bool, true, false, List, [], ◌∷◌, None, Option, Some, ap, arith, cond, drop, get_or, get_or-set_other, get_or-take, inl, inr, length, length-set, option_map, position, refl, remove, set, slice_get, swap, sym, take, true≢false}
 use Rattle.std.proofs.lemmas.Bool.{cases_Bool}
 use Rattle.std.proofs.lemmas.Grind.{get_or-set_at}
-use Rattle.std.proofs.lemmas.List.{get_or-reverse, length-reverse, length-take-le}
+use Rattle.std.proofs.lemmas.List.{length-take-le}
 use Rattle.std.proofs.lemmas.List.Edits.{get_or-insert_at, length-insert, length-remove}
 use Rattle.std.proofs.lemmas.List.Quantifiers.{position-Some}
 use Rattle.std.proofs.lemmas.Map.Keys.{IsDistinct-head, IsDistinct-tail}
@@ -12,6 +12,7 @@ use Rattle.std.proofs.lemmas.Option.{none-some, slice_get-get_or}
 use Rattle.std.specs.{List.swap_remove, Option.option_map_or}
 use Rattle.vecmap_base.specs.Items.{moved, put_item, swap_without}
 use Rattle.vecmap_base.proofs.IndexLemmas.{position_cons}
+pub use Rattle.vecmap_base.proofs.MoveLemmas.{at_reversed}
 use Rattle.vecmap_base.proofs.ItemsLemmas.Recursion.{put_item_cons}
 use Rattle.vecmap_set.specs.Indices.{KeepsMatchIndices, KeepsMatchIndicesBelow, KeepsItemIndices, MovesItemIndex}
 
@@ -135,15 +136,6 @@ module _ {T : Type 0} where
       let read : get_or both i y ≡ get_or s j y = grind (arith, get_or-set_at, get_or-set_other, length-set, h, k) in
       let within : i < length both = omega (arith, length-set s i (get_or s j y), length-set one j (get_or s i y), h) in
       ap (λ l. slice_get l i) e ∙ slice_get-get_or both i y within ∙ ap Some read ∙ sym (slice_get-get_or s j y k)
-
-  pub at_reversed : (s r : List T) (i : ℕ) → r ≡ reverse s → i < length s → slice_get r (length s - 1 - i) ≡ slice_get s i
-  at_reversed [] r i e h = absurd (omega (arith, h))
-  at_reversed (y ∷ ys) r i e h =
-      let s = y ∷ ys in
-      let j = length s - 1 - i in
-      let back : length s - 1 - j ≡ i = omega (arith, h) in
-      let read : get_or (reverse s) j y ≡ get_or s i y = get_or-reverse s j y (omega (arith, h)) ∙ ap (λ n. get_or s n y) back in
-      ap (λ l. slice_get l j) e ∙ slice_get-get_or (reverse s) j y (omega (arith, length-reverse s, h)) ∙ ap Some read ∙ sym (slice_get-get_or s i y h)
 
   -- After a removal by swap the last item is at the index.
   pub at_swap_removed : (s r : List T) (i : ℕ) (x : T) → r ≡ swap_without s i → slice_get s i ≡ Some x → i < length s - 1 → slice_get r i ≡ slice_get s (length s - 1)

@@ -1,10 +1,12 @@
 -- The laws of the equality of maps. They hold of all lists of pairs, also with duplicate keys.
-use Rattle.std.specs.Prelude.{◌≡◌, Bool, ◌&&◌, List}
+use Rattle.std.specs.Prelude.{◌≡◌, Bool, ◌&&◌, IsTrue, List}
 use Rattle.std.specs.Cmp.{IsEquivalence, equiv, partial_equiv_from_equiv}
-use Rattle.std.proofs.Common.{◌∙◌}
+use Rattle.std.specs.List.Sorted.{IsPermutation}
+use Rattle.std.proofs.Common.{◌∙◌, cond}
 use Rattle.std.proofs.lemmas.Bool.{and_from, and_parts}
+use Rattle.std.proofs.lemmas.List.Sorted.{sum_by-IsPermutation}
 use Rattle.vecmap_base.specs.Equality.{has_same_counts, same_pair}
-use Rattle.vecmap_base.proofs.EqualityLemmas.Counts.{as_often, as_often_laws}
+use Rattle.vecmap_base.proofs.EqualityLemmas.Counts.{as_often, as_often_laws, test_from_counts}
 use Rattle.vecmap_base.proofs.EqualityLemmas.Partial.{equally_often_is, partial_map_equality_laws}
 
 module _ {K V : Type 0} (key : K → K → Bool) (value : V → V → Bool) (k : IsEquivalence key) (v : IsEquivalence value) where
@@ -20,6 +22,12 @@ module _ {K V : Type 0} (key : K → K → Bool) (value : V → V → Bool) (k :
   -- Equality of maps counts pairs by `same_pair`.
   pub counts_as_often : (a b : List (K × V)) → has_same_counts key value a b ≡ as_often (same_pair key value) same_pair_laws a b
   counts_as_often = equally_often_is (same_pair key value) same_pair_laws
+
+  -- Lists of the same pairs in another order are equal.
+  pub equal_rearranged : (a b : List (K × V)) → IsPermutation a b → IsTrue (has_same_counts key value b a)
+  equal_rearranged a b moved =
+      counts_as_often b a
+      ∙ test_from_counts (same_pair key value) same_pair_laws b a (λ p. sum_by-IsPermutation (λ q. cond (same_pair key value p q) 1 0) a b moved)
 
   pub map_equality_laws : IsEquivalence (has_same_counts key value)
   map_equality_laws = equiv (partial_map_equality_laws key value k (partial_equiv_from_equiv v)) (λ a. counts_as_often a a ∙ (as_often_laws (same_pair key value) same_pair_laws).refl a)

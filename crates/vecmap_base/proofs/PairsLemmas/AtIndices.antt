@@ -1,12 +1,13 @@
 -- At which indices keys are after a change, in the words of contracts.
 use Rattle.std.specs.{Cmp.IsEquivalence, List.AllByRecursion, List.Sorted.IsPermutation, Map.IsKeyTest, Map.keys_of, Map.values_of, Option.option_and_then, Option.option_map_or}
-use Rattle.std.proofs.Common.{◌≡◌, ◌∙◌, ◌+◌, ◌-◌, ◌<◌, ◌≤◌, ◌++◌, ℕ, zero, suc, Bool, true, false, List, [], ◌∷◌, None, Option, Some, IfSome, IsSome, ap, arith, drop, if◌then◌else◌, insert, is_some, length, map, min, option_map, refl, remove, slice_get, subst, sym, take, true≢false, unwrap_or}
+use Rattle.std.proofs.Common.{◌≡◌, ◌∙◌, ◌+◌, ◌-◌, ◌<◌, ◌≤◌, ◌++◌, ℕ, zero, suc, Bool, true, false, List, [], ◌∷◌, None, Option, Some, IfSome, IsSome, ap, arith, drop, if◌then◌else◌, insert, is_some, length, map, min, option_map, refl, remove, slice_get, subst, sym, take, true≢false, cond, unwrap_or}
 use Rattle.std.proofs.lemmas.List.{drop-map, length-append, length-map, map-append, take-map}
 use Rattle.std.proofs.lemmas.Map.Keys.{IsDistinct-head, IsDistinct-tail}
 use Rattle.std.proofs.lemmas.List.Edits.{length-insert, length-remove}
 use Rattle.std.proofs.lemmas.Option.{none-some, same_Some, slice_get_within}
-use Rattle.vecmap_base.specs.{Indices.AddsKey, Indices.HasMatchAt, Indices.InsertsAt, Indices.KeepsIndices, Indices.MovesIndex, Indices.PutsKey, Indices.ShiftsIndices}
+use Rattle.vecmap_base.specs.{Indices.AddsKey, Indices.HasMatchAt, Indices.InsertsAt, Indices.IsFoundAt, Indices.KeepsIndices, Indices.MovesIndex, Indices.PutsKey, Indices.ShiftsIndices}
 use Rattle.vecmap_base.specs.Pairs.{HasDistinctKeys, index_by, index_of, index_or_length, lookup, lookup_by, put, put_at, put_key, value_at, with_pair, without_by}
+use Rattle.std.proofs.lemmas.Map.Entries.{lookup_from_place}
 use Rattle.vecmap_base.proofs.MoveLemmas.{inserted_found}
 use Rattle.vecmap_base.proofs.PairsLemmas.ByIndex.{index_by_none, is_some_lookup_by, lookup_by_index, put_key_by_index, without_by_index}
 use Rattle.vecmap_base.proofs.PairsLemmas.Distinct.{distinct_keys_rearranged}
@@ -117,8 +118,36 @@ module _ {K V : Type 0} (test : K → Bool) where
         let apart : test q.0 ≡ false = respects p.0 q.0 t ∙ o.symm p.0 q.0 ∙ key_held (λ y. eq q.0 y ≡ false) qs (IsDistinct-head eq q.0 (keys_of qs) d) i p e in
         ap (λ b. if b then Some 0 else option_map suc (index_by test qs)) apart ∙ ap (option_map suc) (index_by_own qs (IsDistinct-tail eq q.0 (keys_of qs) d) i p e t)
 
+  -- A query that matches the key of a pair finds something.
+  present_at : (l : List (K × V)) (i : ℕ) (p : K × V) → slice_get l i ≡ Some p → test p.0 ≡ true → is_some (lookup_by test l) ≡ true
+  present_at [] i p e t = absurd (none-some p e)
+  present_at (q ∷ qs) zero p e t = ap (λ b. is_some (cond b (Some q.1) (lookup_by test qs))) (ap (λ r. test r.0) (same_Some q p e) ∙ t)
+  present_at (q ∷ qs) (suc i) p e t = by (test q.0) (present_at qs i p e t)
+    where
+      by : (b : Bool) → is_some (lookup_by test qs) ≡ true → is_some (cond b (Some q.1) (lookup_by test qs)) ≡ true
+      by true h = refl
+      by false h = h
+
+  -- A match before the index `n` keeps its index, if all pairs before `n` do.
+  pub stays_in_front : (l m : List (K × V)) (n i : ℕ) → ((j : ℕ) → j < n → slice_get m j ≡ slice_get l j) → index_by test l ≡ Some i → i < n → index_by test m ≡ Some i
+  stays_in_front [] m n i same e h = absurd (none-some i e)
+  stays_in_front (p ∷ ps) m zero i same e h = absurd (omega (arith, h))
+  stays_in_front (p ∷ ps) [] (suc n) i same e h = absurd (none-some p (same 0 (omega arith)))
+  stays_in_front (p ∷ ps) (q ∷ qs) (suc n) i same e h =
+      let head : q ≡ p = same_Some q p (same 0 (omega arith)) in
+      ap (λ r. if test r.0 then Some 0 else option_map suc (index_by test qs)) head
+      ∙ stays (test p.0) (index_by test ps) (index_by test qs) i (λ j at next. stays_in_front ps qs n j (λ d below. same (suc d) (omega (arith, below))) at (omega (arith, next, h))) e
+
 module _ {K V : Type 0} where
-  -- The same, in the word of contracts.
+  -- A pair at an index, in the word of contracts.
+  pub found_at : (l : List (K × V)) (i : ℕ) (k : K) (v : V) → slice_get l i ≡ Some (k, v) → IsFoundAt i l k v
+  found_at l i k v e = record {
+    present = λ test t. present_at test l i (k, v) e t;
+    value = λ eq o d. lookup_from_place o l i k v d e;
+    index = λ eq o d. index_by_own (eq k) eq o (o.congr k) l d i (k, v) e (o.refl k);
+  }
+
+  -- The keys stay, each at its index.
   pub keeps_indices : (l m : List (K × V)) → keys_of m ≡ keys_of l → KeepsIndices l m
   keeps_indices l m e = record {
     keys = e;

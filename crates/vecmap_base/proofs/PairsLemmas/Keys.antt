@@ -1,9 +1,17 @@
 -- The keys of a list of pairs, as a list of elements. What changes the pairs changes the keys in the same way.
 use Rattle.std.specs.{Map.keys_of, Option.option_map}
-use Rattle.std.proofs.Common.{◌≡◌, suc, Bool, true, false, List, [], ◌∷◌, Some, if◌then◌else◌, refl, sym, ap, ◌∙◌}
+use Rattle.std.proofs.Common.{◌≡◌, suc, Bool, true, false, List, [], ◌∷◌, ◌++◌, Some, if◌then◌else◌, refl, reverse, sym, ap, ◌∙◌}
+use Rattle.std.proofs.lemmas.List.{map-append, reverse-append}
 use Rattle.vecmap_base.specs.{Items.add, Items.adds, Items.item_index, Pairs.index_of, Pairs.put, Pairs.puts}
 use Rattle.vecmap_base.proofs.ItemsLemmas.Recursion.{add_cons, item_index_cons}
 use Rattle.vecmap_base.proofs.PairsLemmas.Recursion.{index_of_cons, put_cons}
+
+module _ {K V : Type 0} where
+  pub keys_of_reverse : (l : List (K × V)) → keys_of (reverse l) ≡ reverse (keys_of l)
+  keys_of_reverse [] = refl
+  keys_of_reverse (p ∷ ps) =
+      ap keys_of (reverse-append (p ∷ []) ps) ∙ map-append (λ q. q.0) (reverse ps) (p ∷ []) ∙ ap (λ ks. ks ++ p.0 ∷ []) (keys_of_reverse ps)
+      ∙ sym (reverse-append (p.0 ∷ []) (keys_of ps))
 
 module _ {K V : Type 0} (eq : K → K → Bool) where
   pub index_of_is : (l : List (K × V)) (k : K) → index_of eq l k ≡ item_index eq (keys_of l) k

@@ -2,17 +2,17 @@
 use Rattle.std.specs.{Cmp.IsEquivalence, List.IsDistinct, List.Sorted.IsPermutation, List.list_any, Map.keys_of, Option.option_map, Option.option_or}
 use Rattle.std.proofs.Common.{◌≡◌, ◌∙◌, ◌<◌, ◌≤◌, ℕ, zero, suc, Bool, true, false, List, [], ◌∷◌, ◌++◌, None, Option, Some, ap, arith, cond, if◌then◌else◌, inl, inr, drop, is_some, refl, subst, sym, take}
 use Rattle.std.proofs.lemmas.Bool.{cases_Bool}
-use Rattle.std.proofs.lemmas.List.{length-take, map-append, take-append-drop, take-map}
-use Rattle.std.proofs.lemmas.List.Sorted.{list_any-IsPermutation}
+use Rattle.std.proofs.lemmas.List.{length-take, map-append, take-append-drop, take-map, append-nil, append_assoc}
+use Rattle.std.proofs.lemmas.List.Sorted.{list_any-IsPermutation, IsPermutation-append_comm}
 use Rattle.std.proofs.lemmas.Map.{lookup-none}
 use Rattle.std.proofs.lemmas.Map.Entries.{none_past_head}
 use Rattle.std.proofs.lemmas.Map.Keys.{IsDistinct-tail}
 use Rattle.std.proofs.lemmas.Option.{none-some, same_Some}
 use Rattle.vecmap_base.specs.{Lookups.Joins, Lookups.KeepsFront}
 use Rattle.vecmap_base.specs.Pairs.{HasDistinctKeys, index_by, lookup, lookup_by, put, puts}
-use Rattle.vecmap_base.proofs.DistinctLemmas.Removals.{distinct_take}
+use Rattle.vecmap_base.proofs.DistinctLemmas.Removals.{distinct_front, distinct_take}
 use Rattle.vecmap_base.proofs.IndexLemmas.{is_some_position}
-use Rattle.vecmap_base.proofs.PairsLemmas.{AtIndices.index_in_front, AtIndices.indices_put, ByIndex.index_by_is, Distinct.distinct_put, Lookups.updates_put}
+use Rattle.vecmap_base.proofs.PairsLemmas.{AtIndices.index_in_front, AtIndices.indices_put, ByIndex.index_by_is, ByIndex.index_by_none, Distinct.distinct_keys_rearranged, Distinct.distinct_put, Lookups.updates_put, Puts.length_puts_at_most, Puts.put_absent, Puts.puts_not_empty}
 
 module _ {K V : Type 0} (test : K → Bool) where
   -- A lookup in a list of two parts finds what the first part has, or else what the second has.
@@ -111,8 +111,29 @@ module _ {K V : Type 0} (eq : K → K → Bool) (o : IsEquivalence eq) where
   indices_after test l (p ∷ ps) i e = indices_after test (put eq l p.0 p.1) ps i (indices_put eq test l p.0 p.1 i e)
 
   pub joins_puts : (l pairs : List (K × V)) → Joins eq l pairs (puts eq l pairs)
-  joins_puts l pairs = record { lookups = found_in_either l pairs; distinct = distinct_after l pairs; indices = λ test. indices_after test l pairs }
+  joins_puts l pairs = record {
+    lookups = found_in_either l pairs;
+    distinct = distinct_after l pairs;
+    indices = λ test. indices_after test l pairs;
+    len = length_puts_at_most eq l pairs;
+    not_empty = puts_not_empty eq l pairs;
+  }
 
   -- The same of a list that is known to be the one after the insertions.
   pub joins_of_puts : (l pairs m : List (K × V)) → m ≡ puts eq l pairs → Joins eq l pairs m
   joins_of_puts l pairs m e = subst (Joins eq l pairs) (sym e) (joins_puts l pairs)
+
+  -- Pairs whose keys are new and distinct are appended.
+  pub puts_apart : (l m : List (K × V)) → HasDistinctKeys eq (l ++ m) → puts eq l m ≡ l ++ m
+  puts_apart l [] d = sym (append-nil l)
+  puts_apart l (p ∷ ps) d =
+      let moved : (l ++ p ∷ []) ++ ps ≡ l ++ p ∷ ps = append_assoc l (p ∷ []) ps in
+      let whole : HasDistinctKeys eq ((l ++ p ∷ []) ++ ps) = subst (HasDistinctKeys eq) (sym moved) d in
+      let front : HasDistinctKeys eq (l ++ p ∷ []) = distinct_front eq (keys_of (l ++ p ∷ [])) (keys_of ps) (subst (IsDistinct eq) (map-append (λ r. r.0) (l ++ p ∷ []) ps) whole) in
+      let first : HasDistinctKeys eq (p ∷ l) = distinct_keys_rearranged eq o (l ++ p ∷ []) (p ∷ l) (IsPermutation-append_comm l (p ∷ [])) front in
+      let absent = index_by_none (eq p.0) l (lookup-none (eq p.0) l (none_past_head o p.0 p l first (o.refl p.0))) in
+      ap (λ r. puts eq r ps) (put_absent eq l p.0 p.1 absent) ∙ puts_apart (l ++ p ∷ []) ps whole ∙ moved
+
+  -- A list of distinct keys has no duplicates, so its insertions into the empty list make the list itself.
+  pub puts_distinct : (l : List (K × V)) → HasDistinctKeys eq l → puts eq [] l ≡ l
+  puts_distinct l d = puts_apart [] l d

@@ -1,8 +1,10 @@
 use Rattle.std.proofs.Common.{◌+◌, ◌∷◌, [], ◌++◌, ap, arith, sym, subst, take, ◌∙◌, ◌≡◌}
 use Rattle.std.proofs.lemmas.List.{take_all, take_more}
 use Rattle.std.proofs.lemmas.Map.Entries.{entries_from_clone}
+use Rattle.std.proofs.lemmas.Slice.Zip.{AllZip-long}
 use Rattle.vecmap_base.specs.{Clones.AreClones, Clones.IsPairClone, Pairs.put, Pairs.puts}
 use Rattle.vecmap_base.proofs.CloneLemmas.{TakesClones, clone_taken}
+use Rattle.vecmap_base.proofs.PairsLemmas.Puts.{length_puts_at_most}
 use Rattle.vecmap_map.proofs.MadeLemmas.{distinct_of_puts, found_in_puts}
 use Rattle.vecmap_map.proofs.VecMap.from_slice.Goals as goal
 
@@ -30,3 +32,11 @@ returns-clause-lookups g c = λ keys values d.
     let whole = take_all c.loop-pair.pair-index c.args.pairs.now c.loop-pair-test.false in
     let same = entries_from_clone g.K.Clone.is_clone g.V.Clone.is_clone keys values c.args.pairs.now clones.0 (subst (λ l. AreClones is_clone l clones.0) whole clones.1) in
     found_in_puts g.K.PartialEq.eq g.met.K.Eq.laws _ _ (clones.2 ∙ ap (puts g.K.PartialEq.eq []) same) d
+
+pub returns-clause-len : goal.returns-clause-len
+returns-clause-len g c =
+    let clones = c.loop-pair.invariant.puts in
+    let is_clone = IsPairClone g.K.Clone.is_clone g.V.Clone.is_clone in
+    let whole = take_all c.loop-pair.pair-index c.args.pairs.now c.loop-pair-test.false in
+    let long = AllZip-long is_clone c.args.pairs.now clones.0 (subst (λ l. AreClones is_clone l clones.0) whole clones.1) in
+    rw clones.2 (omega (arith, length_puts_at_most g.K.PartialEq.eq [] clones.0, long))

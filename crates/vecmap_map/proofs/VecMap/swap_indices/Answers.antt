@@ -1,5 +1,5 @@
 use Rattle.std.proofs.Common.{rules}
-use Rattle.vecmap_base.proofs.PairsLemmas.Reordered.{moves_back_by_swap, moves_by_swap}
+use Rattle.vecmap_base.proofs.PairsLemmas.Reordered.{moves_back_by_swap, moves_by_swap, others_by_swap}
 use Rattle.vecmap_map.proofs.VecMap.swap_indices.Goals as goal
 
 pub returns-clause-entries : goal.returns-clause-entries
@@ -10,3 +10,6 @@ returns-clause-moves g c = moves_by_swap c.args.self.now.entries _ c.args.a c.ar
 
 pub returns-clause-moves_back : goal.returns-clause-moves_back
 returns-clause-moves_back g c = moves_back_by_swap c.args.self.now.entries _ c.args.a c.args.b c.requires.a_within c.requires.b_within (returns-clause-entries g c)
+
+pub returns-clause-others : goal.returns-clause-others
+returns-clause-others g c = others_by_swap c.args.self.now.entries _ c.args.a c.args.b c.requires.a_within c.requires.b_within (returns-clause-entries g c)
