@@ -2,13 +2,13 @@
 ghost use Rattle.std.specs.Prelude.{◌≡◌, ◌-◌, ◌<◌, ◌≤◌, ℕ, Bool, IsOk, OnErr, OnOk, Some, false, length, nat_eq, reverse, slice_get, swap};
 ghost use Rattle.std.specs.Cmp.{IsEquivalence};
 ghost use Rattle.std.specs.List.Sorted.{IsPermutation, IsSortedByKey, IsStableByKey};
-ghost use Rattle.std.specs.Map.{keys_of};
+ghost use Rattle.std.specs.Map.{IsKeyTest, keys_of};
 ghost use Rattle.std.specs.Ordering.{is_lt};
 ghost use Rattle.vecmap_base.specs.Items.{moved};
 ghost use Rattle.vecmap_base.specs.Indices.{MovesIndex};
 ghost use Rattle.vecmap_base.specs.Lookups.{IsReordered};
 ghost use Rattle.vecmap_base.specs.Orders.{AnswersOnPair, ComparesPairsAs, IsSortedByPairClosure, IsSortedByPairKey, IsStableByPairClosure, IsStableByPairKey};
-ghost use Rattle.vecmap_base.specs.Pairs.{HasDistinctKeys, index_by, index_of};
+ghost use Rattle.vecmap_base.specs.Pairs.{HasDistinctKeys, index_by};
 
 use crate::VecMap;
 use std::alloc::AllocError;
@@ -38,9 +38,9 @@ impl<K, V> VecMap<K, V> {
         ensures reordered { IsReordered self.old.entries self.new.entries }
         ensures moves { (i : ℕ) → i < length self.old.entries → MovesIndex i
             (length self.old.entries - 1 - i) self.old.entries self.new.entries }
-        ensures indices { (eq : K → K → Bool) → IsEquivalence eq
-            → HasDistinctKeys eq self.old.entries → (key : K) (i : ℕ)
-            → index_of eq self.old.entries key ≡ Some i → index_of eq self.new.entries key
+        ensures indices { (eq : K → K → Bool) (test : K → Bool) (i : ℕ)
+            → index_by test self.old.entries ≡ Some i → IsEquivalence eq → IsKeyTest eq test
+            → HasDistinctKeys eq self.old.entries → index_by test self.new.entries
             ≡ Some (length self.old.entries - 1 - i) }
         ensures keys { keys_of self.new.entries ≡ reverse (keys_of self.old.entries) }
     {

@@ -1,11 +1,11 @@
 -- A list of pairs in another order, in the words of contracts.
 use Rattle.std.specs.Prelude.{◌≡◌, ◌-◌, ◌<◌, ℕ, Bool, List, Some, false, length, nat_eq, reverse, suc, swap}
-use Rattle.std.specs.{Cmp.IsEquivalence, List.Sorted.IsPermutation}
+use Rattle.std.specs.{Cmp.IsEquivalence, List.Sorted.IsPermutation, Map.IsKeyTest}
 use Rattle.std.proofs.Common.{arith, subst, sym}
 use Rattle.std.proofs.lemmas.Option.{slice_get_within}
 use Rattle.std.proofs.lemmas.List.Sorted.{IsPermutation-reverse, IsPermutation-swap, length_permutation}
 use Rattle.vecmap_base.specs.{Indices.MovesIndex, Items.moved, Lookups.IsReordered}
-use Rattle.vecmap_base.specs.Pairs.{HasDistinctKeys, index_by, index_of}
+use Rattle.vecmap_base.specs.Pairs.{HasDistinctKeys, index_by}
 use Rattle.vecmap_base.proofs.EqualityLemmas.Maps.{equal_rearranged}
 use Rattle.vecmap_base.proofs.MoveLemmas.{at_reversed, moved_item, moved_other, swapped_item, swapped_item_back, swapped_other}
 use Rattle.vecmap_base.proofs.PairsLemmas.AtIndices.{match_at, moves_index, stays_in_front}
@@ -42,11 +42,11 @@ module _ {K V : Type 0} (l m : List (K × V)) where
   pub moves_by_reverse : m ≡ reverse l → (i : ℕ) → i < length l → MovesIndex i (length l - 1 - i) l m
   moves_by_reverse e i h = moves_index l m i (length l - 1 - i) (subst (IsPermutation l) (sym e) (IsPermutation-reverse l)) (at_reversed l m i e h)
 
-  -- In the reversed list, each key is as far from the end as it was from the start.
-  pub indices_by_reverse : m ≡ reverse l → (eq : K → K → Bool) → IsEquivalence eq → HasDistinctKeys eq l → (k : K) (i : ℕ) → index_of eq l k ≡ Some i → index_of eq m k ≡ Some (length l - 1 - i)
-  indices_by_reverse e eq o d k i at =
-      let found = match_at (eq k) l i at in
-      (moves_by_reverse e i (slice_get_within l i (found.0, found.1) found.2)).key eq o d k at
+  -- In the reversed list, each match is as far from the end as it was from the start.
+  pub indices_by_reverse : m ≡ reverse l → (eq : K → K → Bool) (test : K → Bool) (i : ℕ) → index_by test l ≡ Some i → IsEquivalence eq → IsKeyTest eq test → HasDistinctKeys eq l → index_by test m ≡ Some (length l - 1 - i)
+  indices_by_reverse e eq test i at o respects d =
+      let found = match_at test l i at in
+      (moves_by_reverse e i (slice_get_within l i (found.0, found.1) found.2)).query eq test o respects d at
 
   -- A moved pair leaves the matches before both indices at theirs.
   pub indices_by_move : (i j : ℕ) → m ≡ moved l i j → i < length l → (test : K → Bool) (n : ℕ) → index_by test l ≡ Some n → n < i → n < j → index_by test m ≡ Some n
