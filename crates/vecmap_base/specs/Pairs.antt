@@ -1,6 +1,7 @@
--- Lists of pairs of a key and a value, as an ordered map sees them. `eq` is the `==` of keys. Lookups and removals go
--- by the index of a key, so that an index, its pair and its value come from one definition. The words of std for them
--- are by recursion. In the examples, `1x` and `1y` are keys that `eq` calls equal, and are not the same.
+-- Lists of pairs of a key and a value, as an ordered map sees them. `eq` is the `==` of keys. Lookups, insertions and
+-- removals are by recursion, with the definitions of std where std has them. Only `lookup_full`, `put_at` and
+-- `swap_without_by` go by the index of a key. In the examples, `1x` and `1y` are keys that `eq` calls equal, and are not
+-- the same.
 use Rattle.std.specs.Prelude.{ℕ, suc, ◌-◌, Bool, List, [], ◌∷◌, None, Option, Some, String, bytes_eq, if◌then◌else◌, fold, insert, length, map, min, remove, slice_get, slice_set, string_bytes, unwrap_or}
 use Rattle.std.specs.List.{IsDistinct}
 use Rattle.std.specs.Map as entries

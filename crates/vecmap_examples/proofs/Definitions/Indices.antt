@@ -1,17 +1,18 @@
 -- The definitions that say at which indices keys are after a change, at numbers: an example of each, what each of its fields
 -- says of it, and a list that it does not allow.
-use Rattle.std.specs.Prelude.{◌≡◌, ◌++◌, ◌∷◌, ◌<◌, ℕ, Bool, List, [], IsSome, None, Some, if◌then◌else◌, insert, is_some, length, min, nat_eq, refl, remove, reverse, slice_get, take, true, unwrap_or}
+use Rattle.std.specs.Prelude.{◌≡◌, ◌++◌, ◌∷◌, ◌<◌, ℕ, Bool, List, [], IsSome, None, Some, if◌then◌else◌, IsTrue, insert, is_some, length, min, nat_eq, refl, remove, reverse, slice_get, take, true, unwrap_or}
 use Rattle.std.specs.Cmp.{IsEquivalence, nat_eq_equiv}
 use Rattle.std.specs.List.{list_any}
 use Rattle.std.specs.Map.{IsKeyTest, keys_of, values_of}
 use Rattle.std.proofs.Common.{◌+◌, rules}
 use Rattle.std.proofs.lemmas.List.Sorted.{IsPermutation-reverse}
-use Rattle.vecmap_base.proofs.PairsLemmas.AtIndices.{adds_key, inserts_at as inserted_at, keeps_indices as same_keys, match_at, moves_index as moved_at, puts_key, shifts_indices as removed_at}
+use Rattle.vecmap_base.proofs.PairsLemmas.AtIndices.{adds_key, inserts_at as inserted_at, keeps_indices as same_keys, match_at, moves_index as moved_at, puts_key, shifts_indices as removed_at, found_at}
 use Rattle.vecmap_base.proofs.PairsLemmas.Reordered.{reordered_by_reverse}
-use Rattle.vecmap_base.specs.Indices.{AddsKey, HasMatchAt, InsertsAt, KeepsIndices, MovesIndex, PutsKey, ShiftsIndices}
+use Rattle.vecmap_base.specs.Indices.{AddsKey, HasMatchAt, InsertsAt, IsFoundAt, KeepsIndices, MovesIndex, PutsKey, ShiftsIndices}
 use Rattle.vecmap_base.specs.Items.{IsReorderedItems}
 use Rattle.vecmap_base.specs.Lookups.{IsReordered, KeepsFront, KeepsLookups, UpdatesAt}
 use Rattle.vecmap_base.specs.Pairs.{HasDistinctKeys, index_by, index_of, index_or_length, lookup, lookup_by, value_at}
+use Rattle.vecmap_base.specs.Equality.{has_same_counts}
 
 -- After an insertion of the key 2.
 module _ {V : Type 0} (a b : V) (l m : List (ℕ × V)) (test : ℕ → Bool) (i : ℕ) where
@@ -146,6 +147,21 @@ module _ {V : Type 0} (a b c : V) (l m : List (ℕ × V)) (test : ℕ → Bool) 
   has_match_at-not : ¬ (HasMatchAt (nat_eq 2) ((1, a) ∷ (2, b) ∷ []) 0)
   has_match_at-not k = search (rules, k.2, k.3)
 
+  is_found_at : IsFoundAt 1 ((1, a) ∷ (2, b) ∷ []) 2 b
+  is_found_at = found_at ((1, a) ∷ (2, b) ∷ []) 1 2 b refl
+
+  is_found_at-not : ¬ (IsFoundAt 0 ((1, a) ∷ []) 2 a)
+  is_found_at-not k = search (rules, k.present (nat_eq 2) refl)
+
+  is_found_at-present : IsFoundAt 1 l 2 b → test 2 ≡ true → is_some (lookup_by test l) ≡ true
+  is_found_at-present k = k.present test
+
+  is_found_at-value : IsFoundAt 1 l 2 b → HasDistinctKeys nat_eq l → lookup nat_eq l 2 ≡ Some b
+  is_found_at-value k = k.value nat_eq nat_eq_equiv
+
+  is_found_at-index : IsFoundAt 1 l 2 b → HasDistinctKeys nat_eq l → index_of nat_eq l 2 ≡ Some 1
+  is_found_at-index k = k.index nat_eq nat_eq_equiv
+
 -- In reverse order.
 module _ {V : Type 0} (a b : V) (l m : List (ℕ × V)) (test : ℕ → Bool) where
   moves_index : MovesIndex {K = ℕ} 0 1 ((1, a) ∷ (2, b) ∷ []) ((2, b) ∷ (1, a) ∷ [])
@@ -177,6 +193,9 @@ module _ {V : Type 0} (a b : V) (l m : List (ℕ × V)) (test : ℕ → Bool) wh
 
   is_reordered-len : IsReordered l m → length m ≡ length l
   is_reordered-len k = k.len
+
+  is_reordered-equal : (value : V → V → Bool) → IsEquivalence value → IsReordered l m → IsTrue (has_same_counts nat_eq value m l)
+  is_reordered-equal value o k = k.equal nat_eq value nat_eq_equiv o
 
   keeps_front-indices : KeepsFront 2 l m → index_by test l ≡ Some 1 → index_by test m ≡ Some 1
   keeps_front-indices k at = k.indices test 1 at (search rules)

@@ -1,6 +1,6 @@
 -- The definitions that say what lookups find after a change, at numbers: an example of each, what each of its fields says of
 -- it, and a list that it does not allow.
-use Rattle.std.specs.Prelude.{◌≡◌, ◌<◌, ℕ, Bool, IsSome, List, None, Option, Some, [], ◌∷◌, length, nat_eq, refl, reverse, slice_set, true}
+use Rattle.std.specs.Prelude.{◌≡◌, ◌<◌, ℕ, Bool, IsSome, List, None, Option, Some, [], ◌∷◌, length, nat_eq, refl, reverse, slice_set, true, ◌+◌, ◌≤◌}
 use Rattle.std.specs.Cmp.{nat_eq_equiv}
 use Rattle.std.specs.List.{All, IsDistinct, list_any}
 use Rattle.std.specs.Map.{AreApart, IsKeyTest, KeepsOthers, keys_of, values_of}
@@ -143,6 +143,12 @@ module _ {V : Type 0} (a b c : V) (l pairs m : List (ℕ × V)) where
 
   joins-indices : (test : ℕ → Bool) (i : ℕ) → Joins nat_eq l pairs m → index_by test l ≡ Some i → index_by test m ≡ Some i
   joins-indices test i j = j.indices test i
+
+  joins-len : Joins nat_eq l pairs m → length m ≤ length l + length pairs
+  joins-len j = j.len
+
+  joins-not_empty : Joins nat_eq l pairs m → 0 < length pairs → 0 < length m
+  joins-not_empty j = j.not_empty
 
 -- After an addition of the element 2.
 module _ (s r : List ℕ) (there : Bool) where

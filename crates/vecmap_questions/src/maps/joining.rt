@@ -1,5 +1,5 @@
 //! Many pairs at once.
-ghost use Rattle.std.specs.Prelude.{◌≡◌, ◌+◌, ◌≤◌, ◌||◌, ℕ, OnErr, OnOk, Some, is_some, length, nat_eq};
+ghost use Rattle.std.specs.Prelude.{◌≡◌, ◌+◌, ◌<◌, ◌≤◌, ◌||◌, ℕ, OnErr, OnOk, Some, is_some, length, nat_eq};
 ghost use Rattle.std.specs.Option.{option_or};
 ghost use Rattle.vecmap.specs.Pairs.{HasDistinctKeys, index_of, lookup};
 
@@ -33,6 +33,7 @@ pub fn append_then(
         → index_of nat_eq map.new.entries q ≡ Some i) }
     ensures length { OnOk result (length map.new.entries ≤ length map.old.entries + length
         other.old.entries) }
+    ensures empty { OnOk result (0 < length other.old.entries → 0 < length map.new.entries) }
     ensures unchanged { OnErr result (map.new ≡ map.old) }
     ensures ends { OnOk result (length other.new.entries ≡ 0) }
 {

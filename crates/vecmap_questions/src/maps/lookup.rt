@@ -110,6 +110,15 @@ pub fn get_full_then(map: &VecMap<u32, u32>, key: u32) -> Option<(usize, u32, u3
     Some((index, *stored, *value))
 }
 
+pub fn get_key_value_then(map: &VecMap<u32, u32>, key: u32) -> Option<(u32, u32)>
+    ensures key { option_map (λ found. found.1) result ≡ lookup nat_eq map.now.entries key }
+    ensures present { is_some result ≡ is_some (lookup nat_eq map.now.entries key) }
+    ensures result { IfSome result (λ found. found.0 ≡ key) }
+{
+    let (stored, value) = map.get_key_value(&key)?;
+    Some((*stored, *value))
+}
+
 pub fn index_then(map: &VecMap<u32, u32>, key: u32) -> u32
     requires present { IsSome (lookup nat_eq map.now.entries key) }
     ensures key { lookup nat_eq map.now.entries key ≡ Some result }

@@ -1,5 +1,5 @@
 //! New maps, copies and equality.
-ghost use Rattle.std.specs.Prelude.{◌≡◌, ◌≤◌, ℕ, IfOk, IsTrue, None, Some, false, is_some, length, nat_eq, option_map, slice_get};
+ghost use Rattle.std.specs.Prelude.{◌≡◌, ◌<◌, ◌≤◌, ℕ, IfOk, IsTrue, None, Some, false, is_some, length, nat_eq, option_map, slice_get};
 ghost use Rattle.std.specs.Map.{keys_of};
 ghost use Rattle.vecmap.specs.Equality.{has_same_counts};
 ghost use Rattle.vecmap.specs.Pairs.{HasDistinctKeys, index_of, lookup};
@@ -22,6 +22,8 @@ pub fn from_then(pairs: Vec<(u32, u32)>) -> VecMap<u32, u32>
         result.entries q) ≡ is_some (lookup nat_eq pairs.items q) }
     ensures length { length result.entries ≤ length pairs.items }
     ensures distinct { HasDistinctKeys nat_eq result.entries }
+    ensures keys { HasDistinctKeys nat_eq pairs.items → keys_of result.entries ≡ keys_of pairs.items }
+    ensures empty { 0 < length pairs.items → 0 < length result.entries }
 {
     VecMap::from(pairs)
 }
@@ -33,6 +35,8 @@ pub fn from_vec_counted_then(pairs: Vec<(u32, u32)>) -> VecMap<u32, u32>
         result.entries q) ≡ is_some (lookup nat_eq pairs.items q) }
     ensures length { length result.entries ≤ length pairs.items }
     ensures distinct { HasDistinctKeys nat_eq result.entries }
+    ensures keys { HasDistinctKeys nat_eq pairs.items → keys_of result.entries ≡ keys_of pairs.items }
+    ensures empty { 0 < length pairs.items → 0 < length result.entries }
 {
     let (map, _count) = VecMap::from_vec_counted(pairs);
     map
@@ -60,6 +64,7 @@ pub fn from_iter_then(alloc: Global, pairs: Vec<(u32, u32)>) -> Result<VecMap<u3
 pub fn from_slice_then(alloc: Global, pairs: &[(u32, u32)]) -> Result<VecMap<u32, u32>, AllocError>
     ensures lookup { IfOk result (λ made. HasDistinctKeys nat_eq pairs.now → (q : ℕ) → lookup nat_eq
         made.entries q ≡ lookup nat_eq pairs.now q) }
+    ensures length { IfOk result (λ made. length made.entries ≤ length pairs.now) }
     ensures distinct { IfOk result (λ made. HasDistinctKeys nat_eq made.entries) }
 {
     VecMap::from_slice(alloc, pairs)

@@ -1,5 +1,7 @@
 //! Changes of the order.
-ghost use Rattle.std.specs.Prelude.{◌≡◌, ◌<◌, ℕ, Some, is_some, length, nat_eq, slice_get};
+ghost use Rattle.std.specs.Prelude.{◌≡◌, ◌-◌, ◌<◌, ℕ, IsTrue, Some, false, is_some, length, nat_eq, reverse, slice_get};
+ghost use Rattle.std.specs.Map.{keys_of};
+ghost use Rattle.vecmap.specs.Equality.{has_same_counts};
 ghost use Rattle.vecmap.specs.Pairs.{HasDistinctKeys, index_of, lookup};
 
 use vecmap::VecMap;
@@ -8,6 +10,8 @@ pub fn reverse_then_if_distinct(map: &mut VecMap<u32, u32>)
     requires distinct { HasDistinctKeys nat_eq map.old.entries }
     ensures lookup { (q : ℕ) → lookup nat_eq map.new.entries q ≡ lookup nat_eq map.old.entries q }
     ensures distinct { HasDistinctKeys nat_eq map.new.entries }
+    ensures index { (q : ℕ) (i : ℕ) → index_of nat_eq map.old.entries q ≡ Some i → index_of nat_eq
+        map.new.entries q ≡ Some (length map.old.entries - 1 - i) }
 {
     map.reverse();
 }
@@ -17,6 +21,12 @@ pub fn reverse_then(map: &mut VecMap<u32, u32>)
         nat_eq map.old.entries q) }
     ensures length { length map.new.entries ≡ length map.old.entries }
     ensures empty { 0 < length map.old.entries → 0 < length map.new.entries }
+    ensures equal { IsTrue (has_same_counts nat_eq nat_eq map.new.entries map.old.entries) }
+    ensures pair { (i : ℕ) → i < length map.old.entries → slice_get map.new.entries i ≡ slice_get
+        map.old.entries (length map.old.entries - 1 - i) }
+    ensures order { keys_of map.new.entries ≡ reverse (keys_of map.old.entries) }
+    ensures ends { slice_get map.new.entries 0 ≡ slice_get map.old.entries (length map.old.entries
+        - 1) }
 {
     map.reverse();
 }
@@ -45,6 +55,8 @@ pub fn swap_indices_then_if_distinct(map: &mut VecMap<u32, u32>, a: usize, b: us
     ensures distinct { HasDistinctKeys nat_eq map.new.entries }
     ensures index { (k : ℕ) → index_of nat_eq map.old.entries k ≡ Some a → index_of nat_eq
         map.new.entries k ≡ Some b }
+    ensures indices { (q : ℕ) (i : ℕ) → index_of nat_eq map.old.entries q ≡ Some i → nat_eq i a
+        ≡ false → nat_eq i b ≡ false → index_of nat_eq map.new.entries q ≡ Some i }
 {
     map.swap_indices(a, b);
 }
@@ -56,7 +68,10 @@ pub fn swap_indices_then(map: &mut VecMap<u32, u32>, a: usize, b: usize)
         nat_eq map.old.entries q) }
     ensures length { length map.new.entries ≡ length map.old.entries }
     ensures empty { 0 < length map.old.entries → 0 < length map.new.entries }
+    ensures equal { IsTrue (has_same_counts nat_eq nat_eq map.new.entries map.old.entries) }
     ensures pair { slice_get map.new.entries b ≡ slice_get map.old.entries a }
+    ensures order { (i : ℕ) → nat_eq i a ≡ false → nat_eq i b ≡ false → slice_get map.new.entries i
+        ≡ slice_get map.old.entries i }
 {
     map.swap_indices(a, b);
 }
@@ -69,6 +84,8 @@ pub fn move_index_then_if_distinct(map: &mut VecMap<u32, u32>, a: usize, b: usiz
     ensures distinct { HasDistinctKeys nat_eq map.new.entries }
     ensures index { (k : ℕ) → index_of nat_eq map.old.entries k ≡ Some a → index_of nat_eq
         map.new.entries k ≡ Some b }
+    ensures indices { (q : ℕ) (i : ℕ) → index_of nat_eq map.old.entries q ≡ Some i → i < a → i < b
+        → index_of nat_eq map.new.entries q ≡ Some i }
 {
     map.move_index(a, b);
 }
@@ -80,7 +97,10 @@ pub fn move_index_then(map: &mut VecMap<u32, u32>, a: usize, b: usize)
         nat_eq map.old.entries q) }
     ensures length { length map.new.entries ≡ length map.old.entries }
     ensures empty { 0 < length map.old.entries → 0 < length map.new.entries }
+    ensures equal { IsTrue (has_same_counts nat_eq nat_eq map.new.entries map.old.entries) }
     ensures pair { slice_get map.new.entries b ≡ slice_get map.old.entries a }
+    ensures order { (i : ℕ) → i < a → i < b → slice_get map.new.entries i ≡ slice_get
+        map.old.entries i }
 {
     map.move_index(a, b);
 }
