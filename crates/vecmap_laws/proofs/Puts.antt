@@ -1,12 +1,10 @@
 -- What insertions make of a list, one at a time and many in order.
-use Rattle.std.specs.{Cmp.IsEquivalence, List.IsDistinct, List.remove_range, Map.keys_of, Option.option_map_or}
-use Rattle.std.proofs.Common.{◌≡◌, ◌≤◌, ℕ, ◌-◌, Bool, List, [], ◌∷◌, ◌++◌, None, Some, insert, length, min, remove, drop, slice_range, take, ap, ◌∙◌, sym, subst}
-use Rattle.std.proofs.lemmas.{List.append-nil, List.append_assoc, List.map-append, List.take-append-drop, List.Edits.split_between, List.Sums.fold-append}
+use Rattle.std.specs.{Cmp.IsEquivalence, List.remove_range, Map.keys_of, Option.option_map_or}
+use Rattle.std.proofs.Common.{◌≡◌, ◌≤◌, ℕ, ◌-◌, Bool, List, ◌++◌, None, Some, insert, length, min, remove, drop, slice_range, take, ap, ◌∙◌, sym, subst}
+use Rattle.std.proofs.lemmas.{List.append_assoc, List.take-append-drop, List.Edits.split_between, List.Sums.fold-append}
 use Rattle.std.proofs.lemmas.List.Sorted.{IsPermutation-append_comm, IsPermutation-append_right, IsPermutation-map}
 use Rattle.vecmap_base.proofs.DistinctLemmas.Order.{distinct_rearranged}
 use Rattle.vecmap_base.specs.Pairs.{HasDistinctKeys, index_of, put, put_at, puts}
-use Rattle.vecmap_laws.proofs.DistinctAbsent.{none_before}
-use Rattle.vecmap_laws.proofs.Indices.{index_of_none}
 pub use Rattle.vecmap_base.proofs.PairsLemmas.Parts.{puts_apart, puts_distinct}
 pub use Rattle.vecmap_base.proofs.PairsLemmas.Puts.{put_absent, put_present, put_stored, puts_more}
 

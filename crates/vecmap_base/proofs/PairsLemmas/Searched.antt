@@ -1,6 +1,6 @@
 -- What a binary search of a list of pairs says of its key: whether it is present, if the keys ascend, and where it is.
 use Rattle.std.specs.{Cmp.IsEquivalence, Cmp.IsTotalOrder, Option.option_and_then}
-use Rattle.std.specs.Prelude.{◌≡◌, ◌<◌, ℕ, Bool, Err, IfOk, List, [], ◌∷◌, Ok, Result, Some, is_ok, is_some, length, true}
+use Rattle.std.specs.Prelude.{◌≡◌, ℕ, Bool, Err, IfOk, List, [], ◌∷◌, Ok, Result, Some, is_ok, is_some, length, true}
 use Rattle.std.specs.List.Sorted.{IsBinarySearchResult, IsSearchInRange, IsSortedByKey}
 use Rattle.std.specs.Ordering.{is_eq}
 use Rattle.std.specs.declared.cmp.Ordering.{Ordering}

@@ -147,10 +147,10 @@ module _ {V : Type 0} (a b c : V) (l m : List (ℕ × V)) (test : ℕ → Bool) 
   has_match_at-not : ¬ (HasMatchAt (nat_eq 2) ((1, a) ∷ (2, b) ∷ []) 0)
   has_match_at-not k = search (rules, k.2, k.3)
 
-  is_found_at : IsFoundAt 1 ((1, a) ∷ (2, b) ∷ []) 2 b
+  is_found_at : IsFoundAt {K = ℕ} 1 ((1, a) ∷ (2, b) ∷ []) 2 b
   is_found_at = found_at ((1, a) ∷ (2, b) ∷ []) 1 2 b refl
 
-  is_found_at-not : ¬ (IsFoundAt 0 ((1, a) ∷ []) 2 a)
+  is_found_at-not : ¬ (IsFoundAt {K = ℕ} 0 ((1, a) ∷ []) 2 a)
   is_found_at-not k = search (rules, k.present (nat_eq 2) refl)
 
   is_found_at-present : IsFoundAt 1 l 2 b → test 2 ≡ true → is_some (lookup_by test l) ≡ true
