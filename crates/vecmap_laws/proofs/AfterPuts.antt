@@ -13,9 +13,9 @@ use Rattle.vecmap_laws.proofs.ItemIndices.{item_index_add, item_index_congr, ite
 use Rattle.vecmap_laws.proofs.ItemRemovals.{without_item_absent}
 use Rattle.vecmap_laws.proofs.Keys.{keys_of_without_key}
 use Rattle.vecmap_laws.proofs.Lookups.{look}
-use Rattle.vecmap_laws.proofs.Puts.{puts_distinct}
 use Rattle.vecmap_laws.proofs.Recursion.{lookup_cons}
 use Rattle.vecmap_laws.proofs.Values.{length_with_value}
+use Rattle.vecmap_base.proofs.PairsLemmas.Parts.{joins_puts}
 
 pub option_or_none : {X : Type 0} (a : Option X) → option_or a None ≡ a
 option_or_none None = refl
@@ -154,4 +154,4 @@ module _ {K V : Type 0} (eq : K → K → Bool) where
 
     -- If the keys of the inserted pairs are distinct, each inserted pair takes precedence over the pairs of `l`.
     pub lookup_puts_distinct : (l ps : List (K × V)) → HasDistinctKeys eq ps → (q : K) → lookup eq (puts eq l ps) q ≡ option_or (lookup eq ps q) (lookup eq l q)
-    lookup_puts_distinct l ps d q = lookup_puts l ps q ∙ ap (λ m. option_or (lookup eq m q) (lookup eq l q)) (puts_distinct eq o ps d)
+    lookup_puts_distinct l ps = (joins_puts eq o l ps).lookups

@@ -2,14 +2,14 @@
 -- order is one about the shorter and the other.
 use Rattle.std.specs.Set.{is_member}
 use Rattle.std.proofs.Common.{◌≡◌, ◌+◌, ◌∙◌, Bool, true, false, ◌&&◌, ◌||◌, List, [], ap, arith, if◌then◌else◌, length, nat_lt, not}
-use Rattle.std.proofs.lemmas.List.Folds.{list_any-append}
 use Rattle.std.specs.{Cmp.IsEquivalence, List.IsDistinct}
-use Rattle.vecmap_base.specs.{Equality.has_same_items, Items.adds, Items.both, Items.only}
-use Rattle.vecmap_base.proofs.EqualityLemmas.{Sets.set_equality_laws, Relations.is_member_only}
+use Rattle.vecmap_base.specs.{Equality.has_same_items, Items.adds, Items.both}
+use Rattle.vecmap_base.proofs.EqualityLemmas.{Sets.set_equality_laws}
 use Rattle.vecmap_set.specs.{Lazy.longer, Lazy.not_longer, Lazy.not_shorter, Lazy.shorter, Operators.symmetric_difference_of, Operators.union_of}
 use Rattle.vecmap_laws.proofs.ItemMembers.{is_member_adds}
 use Rattle.vecmap_laws.proofs.SetRelations.{both_turned, length_both_turned, length_union, union_turned}
 use Rattle.vecmap_laws.specs.Algebra.{lazy_intersection, lazy_union}
+pub use Rattle.vecmap_set.proofs.OperatorLemmas.{is_member_symmetric_difference}
 
 module _ {T : Type 0} (a b : List T) (P : List T → List T → Type 0) where
   -- What holds of two lists in either order holds of the shorter and the other.
@@ -29,10 +29,6 @@ module _ {T : Type 0} (a b : List T) (P : List T → List T → Type 0) where
       by false = y
 
 module _ {T : Type 0} (eq : T → T → Bool) (o : IsEquivalence eq) (a b : List T) where
-  -- An element is in the symmetric difference if it is in exactly one of the two lists.
-  pub is_member_symmetric_difference : (x : T) → is_member eq (symmetric_difference_of eq a b) x ≡ ((is_member eq a x && not (is_member eq b x)) || (is_member eq b x && not (is_member eq a x)))
-  is_member_symmetric_difference x = list_any-append (eq x) (only eq a b) (only eq b a) ∙ (λ i. is_member_only eq o a b x i || is_member_only eq o b a x i)
-
   -- The lazy lists are equal, as sets, to those of the operators.
   pub lazy_intersection_is_both : has_same_items eq (lazy_intersection eq a b) (both eq a b) ≡ true
   lazy_intersection_is_both = on_shorter a b (λ s t. has_same_items eq (both eq s t) (both eq a b) ≡ true) (both_turned eq o b a) ((set_equality_laws eq o).refl (both eq a b))

@@ -1,20 +1,20 @@
 -- Keys that are distinct stay distinct in the lists that calls leave.
 use Rattle.std.specs.Set.{is_member}
-use Rattle.std.specs.{Cmp.IsEquivalence, List.IsDistinct, List.swap_remove, List.Sorted.IsPermutation, Map.keys_of, Option.option_map_or}
-use Rattle.std.proofs.Common.{◌≡◌, ℕ, ◌-◌, Bool, false, List, ◌∷◌, Option, None, Some, insert, is_some, length, min, remove, slice_get, take, refl, sym, ap, subst, get_or, ◌∙◌}
-use Rattle.std.proofs.lemmas.{List.take-map, List.Sorted.IsPermutation-map, List.Sorted.IsPermutation-swap_remove}
-use Rattle.std.proofs.lemmas.{Map.Keys.IsDistinct-tail, Option.get_or_from_slice_get, Option.slice_get_within}
-use Rattle.vecmap_base.specs.{Items.swap_without, Items.without_item}
-use Rattle.vecmap_base.specs.Pairs.{HasDistinctKeys, index_by, index_of, put, put_at, put_key, puts, swap_without_by, swap_without_key, with_value, without_by}
-use Rattle.vecmap_base.proofs.PairsLemmas.Keys.{index_of_is, keys_of_put, keys_of_puts}
-use Rattle.vecmap_base.proofs.PairsLemmas.{ByIndex.without_by_index, Values.keys_of_with_value}
+use Rattle.std.specs.{Cmp.IsEquivalence, List.IsDistinct, Map.keys_of, Option.option_map_or}
+use Rattle.std.proofs.Common.{◌≡◌, ℕ, ◌-◌, Bool, false, List, Option, None, Some, insert, is_some, length, min, remove, take, refl, sym, ap, subst, ◌∙◌}
+use Rattle.std.proofs.lemmas.{List.take-map}
+use Rattle.vecmap_base.specs.{Items.without_item}
+use Rattle.vecmap_base.specs.Pairs.{HasDistinctKeys, index_of, put_at, put_key, puts, swap_without_key, with_value}
+use Rattle.vecmap_base.proofs.PairsLemmas.Keys.{index_of_is}
+use Rattle.vecmap_base.proofs.PairsLemmas.{Values.keys_of_with_value}
 use Rattle.vecmap_base.proofs.IndexLemmas.{is_some_position}
-use Rattle.vecmap_base.proofs.DistinctLemmas.{Additions.distinct_add, Additions.distinct_adds, Order.distinct_rearranged}
 use Rattle.vecmap_base.proofs.DistinctLemmas.Removals.{distinct_remove, distinct_take}
 use Rattle.vecmap_laws.proofs.DistinctAdditions.{distinct_insert, distinct_put_item}
 use Rattle.vecmap_laws.proofs.ItemRemovals.{without_item_absent}
 use Rattle.vecmap_laws.proofs.Keys.{keys_of_insert, keys_of_put_key, keys_of_remove}
 use Rattle.vecmap_laws.proofs.Puts.{put_at_absent, put_at_present}
+pub use Rattle.vecmap_base.proofs.PairsLemmas.Distinct.{distinct_keys_rearranged, distinct_keys_remove, distinct_keys_swap_without, distinct_keys_swap_without_by, distinct_keys_without, distinct_put}
+use Rattle.vecmap_base.proofs.PairsLemmas.Parts.{joins_puts}
 
 module _ {K V : Type 0} (eq : K → K → Bool) where
   pub distinct_keys_with_value : (l : List (K × V)) (i : ℕ) (v : V) → HasDistinctKeys eq l → HasDistinctKeys eq (with_value l i v)
@@ -23,45 +23,12 @@ module _ {K V : Type 0} (eq : K → K → Bool) where
   pub distinct_keys_take : (l : List (K × V)) (n : ℕ) → HasDistinctKeys eq l → HasDistinctKeys eq (take n l)
   distinct_keys_take l n d = subst (IsDistinct eq) (take-map (λ p. p.0) n l) (distinct_take eq n (keys_of l) d)
 
-  pub distinct_keys_remove : (l : List (K × V)) (i : ℕ) → HasDistinctKeys eq l → HasDistinctKeys eq (remove l i)
-  distinct_keys_remove l i d = subst (IsDistinct eq) (sym (keys_of_remove l i)) (distinct_remove eq (keys_of l) i d)
-
-  pub distinct_keys_without : (test : K → Bool) (l : List (K × V)) → HasDistinctKeys eq l → HasDistinctKeys eq (without_by test l)
-  distinct_keys_without test l d = subst (HasDistinctKeys eq) (sym (without_by_index test l)) (by (index_by test l))
-    where
-      by : (found : Option ℕ) → HasDistinctKeys eq (option_map_or (λ i. remove l i) found l)
-      by None = d
-      by (Some i) = distinct_keys_remove l i d
-
   module _ (o : IsEquivalence eq) where
-    pub distinct_keys_rearranged : (l m : List (K × V)) → IsPermutation l m → HasDistinctKeys eq l → HasDistinctKeys eq m
-    distinct_keys_rearranged l m p = distinct_rearranged eq o (keys_of l) (keys_of m) (IsPermutation-map (λ q. q.0) l m p)
-
-    pub distinct_keys_swap_without : (l : List (K × V)) (i : ℕ) → HasDistinctKeys eq l → HasDistinctKeys eq (swap_without l i)
-    distinct_keys_swap_without l i d = by (slice_get l i) refl
-      where
-        by : (found : Option (K × V)) → slice_get l i ≡ found → HasDistinctKeys eq (option_map_or (λ p. swap_remove l i p) found l)
-        by None e = d
-        by (Some p) e =
-            let within = slice_get_within l i p e in
-            let at : p ≡ get_or l i p = sym (get_or_from_slice_get l i p p e) in
-            IsDistinct-tail eq p.0 (keys_of (swap_remove l i p)) (distinct_keys_rearranged l (p ∷ swap_remove l i p) (IsPermutation-swap_remove l i p within at) d)
-
-    pub distinct_keys_swap_without_by : (test : K → Bool) (l : List (K × V)) → HasDistinctKeys eq l → HasDistinctKeys eq (swap_without_by test l)
-    distinct_keys_swap_without_by test l d = by (index_by test l)
-      where
-        by : (found : Option ℕ) → HasDistinctKeys eq (option_map_or (λ i. swap_without l i) found l)
-        by None = d
-        by (Some i) = distinct_keys_swap_without l i d
-
     pub distinct_keys_swap_without_key : (l : List (K × V)) (k : K) → HasDistinctKeys eq l → HasDistinctKeys eq (swap_without_key eq l k)
-    distinct_keys_swap_without_key l k = distinct_keys_swap_without_by (eq k) l
-
-    pub distinct_put : (l : List (K × V)) (k : K) (v : V) → HasDistinctKeys eq l → HasDistinctKeys eq (put eq l k v)
-    distinct_put l k v d = subst (IsDistinct eq) (sym (keys_of_put eq l k v)) (distinct_add eq o (keys_of l) k d)
+    distinct_keys_swap_without_key l k = distinct_keys_swap_without_by eq o (eq k) l
 
     pub distinct_puts : (l ps : List (K × V)) → HasDistinctKeys eq l → HasDistinctKeys eq (puts eq l ps)
-    distinct_puts l ps d = subst (IsDistinct eq) (sym (keys_of_puts eq l ps)) (distinct_adds eq o (keys_of l) (keys_of ps) d)
+    distinct_puts l ps = (joins_puts eq o l ps).distinct
 
     pub distinct_put_key : (l : List (K × V)) (k : K) (v : V) → HasDistinctKeys eq l → HasDistinctKeys eq (put_key eq l k v)
     distinct_put_key l k v d = subst (IsDistinct eq) (sym (keys_of_put_key eq l k v)) (distinct_put_item eq o (keys_of l) k d)

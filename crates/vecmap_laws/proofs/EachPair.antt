@@ -1,9 +1,9 @@
 -- What holds of each pair, and which pairs a test selects, after a change of one pair.
 use Rattle.std.proofs.Common.{◌≡◌, All, Bool, true, false, List, [], ◌∷◌, IfSome, Some, ap, filter, if◌then◌else◌, refl}
 use Rattle.std.proofs.lemmas.List.Elements.{All-cons, All-head, All-tail}
-use Rattle.std.proofs.lemmas.Map.Steps.{set_value_same}
 use Rattle.vecmap_base.specs.Pairs.{lookup_by, without_by}
-use Rattle.vecmap_map.specs.Contents.{Contents, with_entries, with_value_by}
+use Rattle.vecmap_map.specs.Contents.{Contents, with_value_by}
+use Rattle.vecmap_laws.proofs.WriteLemmas.{written_back}
 
 module _ {K V : Type 0} (test : K → Bool) where
   -- What holds of each pair holds of each that a removal leaves.
@@ -39,4 +39,4 @@ module _ {K V : Type 0} (test : K → Bool) where
 
   -- A value that is written over itself, as by a `get_mut` whose reference wrote nothing, leaves the map.
   pub nothing_written : (m : Contents K V) (v : V) → lookup_by test m.entries ≡ Some v → with_value_by test m v ≡ m
-  nothing_written m v found = ap (with_entries m) (set_value_same test m.entries v found)
+  nothing_written = written_back test

@@ -1,10 +1,11 @@
 -- A function of each key and each value of a list of pairs, and a fact about each value.
-use Rattle.std.proofs.Common.{◌≡◌, Bool, true, false, List, [], ◌∷◌, None, Some, All, if◌then◌else◌, map, option_map, refl, suc, sym, ap, ◌∙◌, subst, inl, inr}
-use Rattle.std.proofs.lemmas.{Bool.cases_Bool, List.Elements.All-cons, List.Elements.All-head, List.Elements.All-tail}
+use Rattle.std.proofs.Common.{◌≡◌, Bool, true, false, List, [], ◌∷◌, Some, All, if◌then◌else◌, map, option_map, refl, suc, sym, ap, ◌∙◌, subst}
+use Rattle.std.proofs.lemmas.{List.Elements.All-cons, List.Elements.All-head, List.Elements.All-tail}
 use Rattle.vecmap_base.specs.Pairs.{index_of, lookup, map_values, put}
 use Rattle.vecmap_base.proofs.PairsLemmas.Indices.{lookup_by_map_values}
 use Rattle.vecmap_base.proofs.PairsLemmas.Recursion.{index_of_cons}
-use Rattle.vecmap_laws.proofs.Lookups.{look}
+use Rattle.std.proofs.lemmas.List.Elements.{All-contains}
+use Rattle.vecmap_base.proofs.PairsLemmas.Order.{pair_of_value}
 
 -- `f` of a key has the `==` of the key, as the bytes of a text have.
 module _ {K L V W : Type 0} (eq : K → K → Bool) (eq_image : L → L → Bool) (f : K → L) (same : (x y : K) → eq_image (f x) (f y) ≡ eq x y) (g : V → W) where
@@ -41,12 +42,7 @@ module _ {K V W : Type 0} (eq : K → K → Bool) (g : V → W) where
 module _ {K V : Type 0} (eq : K → K → Bool) (P : V → Type 0) where
   -- What holds of each value holds of a value that is found.
   pub holds_of_found : (l : List (K × V)) → All (λ p. P p.1) l → (k : K) (v : V) → lookup eq l k ≡ Some v → P v
-  holds_of_found [] a k v e = absurd (let n : None ≡ Some v = e in cc)
-  holds_of_found (p ∷ ps) a k v e =
-      elim (cases_Bool (eq k p.0)) [
-        | inl h ↦ let f : Some p.1 ≡ Some v = sym (look eq p ps k true h) ∙ e in let w : p.1 ≡ v = cc in subst P w (All-head (λ q. P q.1) p ps a)
-        | inr h ↦ holds_of_found ps (All-tail (λ q. P q.1) p ps a) k v (sym (look eq p ps k false h) ∙ e)
-      ]
+  holds_of_found l a k v e = let r = pair_of_value (eq k) l v e in subst P r.3 (All-contains (λ p. P p.1) l r.0 a r.1)
 
   -- What holds of each value still holds of each, if it holds of the value that is inserted.
   pub holds_after_put : (l : List (K × V)) → All (λ p. P p.1) l → (k : K) (v : V) → P v → All (λ p. P p.1) (put eq l k v)

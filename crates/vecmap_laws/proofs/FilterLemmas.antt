@@ -48,9 +48,9 @@ list_any_false : {X : Type 0} (xs : List X) → list_any (λ x. false) xs ≡ fa
 list_any_false [] = refl
 list_any_false (x ∷ xs) = list_any_false xs
 
-neither : (b c : Bool) → (not b && not c) ≡ not (b || c)
-neither true c = refl
-neither false c = refl
+not_or : (b c : Bool) → (not b && not c) ≡ not (b || c)
+not_or true c = refl
+not_or false c = refl
 
 module _ {K V : Type 0} (eq : K → K → Bool) (o : IsEquivalence eq) where
   -- A removal by a query leaves the pairs of the keys that it does not match.
@@ -67,4 +67,4 @@ module _ {K V : Type 0} (eq : K → K → Bool) (o : IsEquivalence eq) where
       without_keys_is_filter (without_key eq l k) (distinct_keys_without eq (eq k) l d) ks
       ∙ ap (filter (λ p. not (is_member eq ks p.0))) (without_key_is_filter l d k ∙ (λ t. filter (λ p. not (o.symm k p.0 t)) l))
       ∙ filter_twice (λ p. not (eq p.0 k)) (λ p. not (is_member eq ks p.0)) l
-      ∙ (λ t. filter (λ p. neither (eq p.0 k) (is_member eq ks p.0) t) l)
+      ∙ (λ t. filter (λ p. not_or (eq p.0 k) (is_member eq ks p.0) t) l)

@@ -5,6 +5,7 @@ use Rattle.std.specs.Prelude.{nat_lt}
 use Rattle.std.proofs.lemmas.{Bool.Decides.nat_tests, List.Sorted.IsPermutation-reverse}
 use Rattle.vecmap_base.specs.Items.{swap_without, swap_without_item, without_item}
 use Rattle.vecmap_base.specs.Pairs.{HasDistinctKeys, index_by, index_of, index_or_length, lookup, lookup_by, put_at, put_key, swap_without_key, without_key}
+use Rattle.vecmap_base.proofs.PairsLemmas.Updates.{updates_swap_without}
 use Rattle.vecmap_laws.proofs.AfterPuts.{is_some_lookup, lookup_put_any, lookup_put_key}
 use Rattle.vecmap_laws.proofs.DistinctKeys.{distinct_keys_rearranged, distinct_keys_without}
 use Rattle.vecmap_laws.proofs.HeadLemmas.{head_has_no_value, rest_is_distinct}
@@ -13,11 +14,11 @@ use Rattle.vecmap_laws.proofs.Inserted.{lookup_put_at}
 use Rattle.vecmap_laws.proofs.Lookups.{lookup_congr}
 use Rattle.vecmap_laws.proofs.Order.{lookup_rearranged}
 use Rattle.vecmap_laws.proofs.Recursion.{lookup_cons}
-use Rattle.vecmap_laws.proofs.RemovalLemmas.{is_member_by_test, lookup_by_test, remove_leaves, swap_leaves}
+use Rattle.vecmap_laws.proofs.RemovalLemmas.{is_member_by_test, remove_leaves, swap_leaves}
 
 module _ {K V : Type 0} (eq : K → K → Bool) (o : IsEquivalence eq) where
   pub lookup_swap_without_key : (l : List (K × V)) (k q : K) → HasDistinctKeys eq l → lookup eq (swap_without_key eq l k) q ≡ (if eq k q then None else lookup eq l q)
-  lookup_swap_without_key l k q d = lookup_by_test swap_without swap_leaves eq o (eq k) (λ x y e. o.congr k x y e) l d q
+  lookup_swap_without_key l k q d = (updates_swap_without eq o (eq k) (o.congr k) l d).lookups q
 
   -- A permutation is a list of swaps, so these two are for sorts.
   pub lookup_swapped : (l : List (K × V)) (moves : List (ℕ × ℕ)) (q : K) → SwapsInRange (length l) moves → HasDistinctKeys eq l → lookup eq (apply_swaps l moves) q ≡ lookup eq l q
@@ -47,9 +48,9 @@ module _ {K V : Type 0} (eq : K → K → Bool) (o : IsEquivalence eq) where
   pub distinct_without_key : (l : List (K × V)) (k : K) → HasDistinctKeys eq l → HasDistinctKeys eq (without_key eq l k)
   distinct_without_key l k d = distinct_keys_without eq (eq k) l d
 
-within : {V : Type 0} (b : Bool) (x : Option V) (i n : ℕ) (f t : Option V) → t ≡ (if nat_lt i n then f else None) → (if b then x else t) ≡ (if nat_lt (if b then 0 else suc i) (suc n) then (if b then x else f) else None)
-within true x i n f t e = grind (arith, nat_tests)
-within false x i n f t e = grind (arith, nat_tests)
+found_below : {V : Type 0} (b : Bool) (x : Option V) (i n : ℕ) (f t : Option V) → t ≡ (if nat_lt i n then f else None) → (if b then x else t) ≡ (if nat_lt (if b then 0 else suc i) (suc n) then (if b then x else f) else None)
+found_below true x i n f t e = grind (arith, nat_tests)
+found_below false x i n f t e = grind (arith, nat_tests)
 
 same : {X : Type 0} (b : Bool) (x : X) → x ≡ (if b then x else x)
 same true x = refl
@@ -66,7 +67,7 @@ pub lookup_by_take : {K V : Type 0} (test : K → Bool) (l : List (K × V)) (n :
 lookup_by_take test l zero = none_below (unwrap_or (index_by test l) (length l)) (lookup_by test l)
 lookup_by_take test [] (suc n) = same (nat_lt 0 (suc n)) None
 lookup_by_take test (p ∷ ps) (suc n) =
-    within (test p.0) (Some p.1) (unwrap_or (index_by test ps) (length ps)) n (lookup_by test ps) (lookup_by test (take n ps)) (lookup_by_take test ps n)
+    found_below (test p.0) (Some p.1) (unwrap_or (index_by test ps) (length ps)) n (lookup_by test ps) (lookup_by test (take n ps)) (lookup_by_take test ps n)
     ∙ ap (λ i. if nat_lt i (suc n) then (if test p.0 then Some p.1 else lookup_by test ps) else None) (sym (index_or_length_cons p ps (λ k q. test q) p.0))
 
 pub lookup_take : {K V : Type 0} (eq : K → K → Bool) (l : List (K × V)) (n : ℕ) (q : K) → lookup eq (take n l) q ≡ (if nat_lt (index_or_length eq l q) n then lookup eq l q else None)

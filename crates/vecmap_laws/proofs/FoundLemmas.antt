@@ -1,16 +1,13 @@
 -- What lookups find is stored.
 use Rattle.std.proofs.Common.{◌≡◌, ℕ, Bool, true, List, None, Option, Some, ap, refl, slice_get, sym, ◌∙◌}
 use Rattle.std.proofs.lemmas.{Option.none-some, Option.same_Some}
-use Rattle.std.specs.{Option.option_and_then, Option.option_map}
-use Rattle.vecmap_base.proofs.PairsLemmas.ByIndex.{index_by_is, lookup_by_index}
+use Rattle.std.specs.{Option.option_and_then}
+use Rattle.vecmap_base.proofs.PairsLemmas.{AtIndices.match_at, ByIndex.lookup_by_index}
 use Rattle.vecmap_base.specs.Pairs.{index_of, lookup, value_at}
-use Rattle.vecmap_laws.proofs.RemovalLemmas.{passing_at}
 
 module _ {K V : Type 0} (eq : K → K → Bool) where
   pub stored_at : (l : List (K × V)) (q : K) (i : ℕ) → index_of eq l q ≡ Some i → (k : K) × (v : V) × (slice_get l i ≡ Some (k, v)) × (eq q k ≡ true) × (lookup eq l q ≡ Some v)
-  stored_at l q i e =
-      let p = passing_at (λ r. eq q r.0) l i (sym (index_by_is (eq q) l) ∙ e) in
-      (p.0.0, p.0.1, p.1, p.2, lookup_by_index (eq q) l ∙ ap (option_and_then (value_at l)) e ∙ ap (option_map (λ r. r.1)) p.1)
+  stored_at l q = match_at (eq q) l
 
   pub stored_if_found : (l : List (K × V)) (q : K) (v : V) → lookup eq l q ≡ Some v → (i : ℕ) × (k : K) × (index_of eq l q ≡ Some i) × (slice_get l i ≡ Some (k, v)) × (eq q k ≡ true)
   stored_if_found l q v e = by (index_of eq l q) refl

@@ -1,42 +1,20 @@
 -- At which index a key is found after a removal, and in the front of the list.
-use Rattle.std.proofs.Common.{arith, ◌≡◌, ℕ, suc, zero, Bool, true, false, List, [], ◌∷◌, None, Option, Some, ap, if◌then◌else◌, option_map, refl, remove, slice_get, sym, take, ◌∙◌}
-use Rattle.std.proofs.lemmas.Option.{none-some, same_Some}
+use Rattle.std.proofs.Common.{◌≡◌, ℕ, Bool, false, List, Some, ap, remove, slice_get, sym, take, ◌∙◌}
 use Rattle.std.specs.{Cmp.IsEquivalence, Map.IsKeyTest, Option.option_map_or}
 use Rattle.vecmap_base.proofs.PairsLemmas.ByIndex.{index_by_is, without_by_index}
 use Rattle.vecmap_base.specs.Pairs.{index_by, index_of, without_by}
 use Rattle.vecmap_laws.proofs.RemovalLemmas.{passing_at}
 use Rattle.vecmap_laws.specs.Removals.{below, shifted}
+use Rattle.vecmap_laws.proofs.ItemsAfter.{position_remove, position_take}
 
 module _ {K V : Type 0} (test : K → Bool) where
   -- In the first `n` pairs, the index stays if it is below `n`.
   pub index_by_take : (n : ℕ) (l : List (K × V)) → index_by test (take n l) ≡ below n (index_by test l)
-  index_by_take zero l = by (index_by test l)
-    where
-      by : (found : Option ℕ) → None ≡ below 0 found
-      by None = refl
-      by (Some i) = grind arith
-  index_by_take (suc n) [] = refl
-  index_by_take (suc n) (p ∷ ps) = ap (λ found. if test p.0 then Some 0 else option_map suc found) (index_by_take n ps) ∙ by (test p.0) (index_by test ps)
-    where
-      by : (b : Bool) (found : Option ℕ) → (if b then Some 0 else option_map suc (below n found)) ≡ below (suc n) (if b then Some 0 else option_map suc found)
-      by true found = grind arith
-      by false None = refl
-      by false (Some i) = grind arith
+  index_by_take n l = index_by_is test (take n l) ∙ position_take (λ p. test p.0) n l ∙ ap (below n) (sym (index_by_is test l))
 
   -- The index after the removal of a pair whose key does not pass.
   pub index_by_remove : (l : List (K × V)) (i : ℕ) (p : K × V) → slice_get l i ≡ Some p → test p.0 ≡ false → index_by test (remove l i) ≡ shifted i (index_by test l)
-  index_by_remove [] i p at fails = absurd (none-some p at)
-  index_by_remove (r ∷ rs) zero p at fails = by (index_by test rs) ∙ ap (λ b. shifted 0 (if b then Some 0 else option_map suc (index_by test rs))) (sym (ap (λ x. test x.0) (same_Some r p at) ∙ fails))
-    where
-      by : (found : Option ℕ) → found ≡ shifted 0 (option_map suc found)
-      by None = refl
-      by (Some j) = grind arith
-  index_by_remove (r ∷ rs) (suc i) p at fails = ap (λ found. if test r.0 then Some 0 else option_map suc found) (index_by_remove rs i p at fails) ∙ by (test r.0) (index_by test rs)
-    where
-      by : (b : Bool) (found : Option ℕ) → (if b then Some 0 else option_map suc (shifted i found)) ≡ shifted (suc i) (if b then Some 0 else option_map suc found)
-      by true found = grind arith
-      by false None = refl
-      by false (Some j) = grind arith
+  index_by_remove l i p at fails = index_by_is test (remove l i) ∙ position_remove (λ q. test q.0) l i p at fails ∙ ap (shifted i) (sym (index_by_is test l))
 
 module _ {K V : Type 0} (eq : K → K → Bool) (o : IsEquivalence eq) where
   -- After the removal of the pair at an index, the index of each other key.

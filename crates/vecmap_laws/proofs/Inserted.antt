@@ -1,12 +1,12 @@
 -- Insertions at an index, removals by index, and a pair that is removed and then inserted again.
-use Rattle.std.proofs.Common.{◌-◌, insert, min, remove, slice_get, slice_set, ◌≡◌, ◌<◌, ℕ, Bool, true, false, List, [], ◌∷◌, None, Option, Some, ap, arith, if◌then◌else◌, is_some, length, refl, suc, sym, true≢false, zero, ◌∙◌}
+use Rattle.std.proofs.Common.{◌-◌, insert, remove, slice_get, slice_set, ◌≡◌, ◌<◌, ℕ, Bool, true, false, List, [], ◌∷◌, None, Option, Some, ap, arith, if◌then◌else◌, is_some, length, refl, suc, sym, true≢false, zero, ◌∙◌}
 use Rattle.std.proofs.lemmas.Option.{none-some}
 use Rattle.std.specs.{Cmp.IsEquivalence, Option.option_and_then, Option.option_map_or}
-use Rattle.vecmap_base.proofs.PairsLemmas.ByIndex.{lookup_by_index, without_by_index}
+use Rattle.vecmap_base.proofs.PairsLemmas.{ByIndex.index_by_none, ByIndex.lookup_by_index, ByIndex.without_by_index, Updates.updates_put_at}
 use Rattle.vecmap_base.specs.Pairs.{HasDistinctKeys, index_of, lookup, put_at, value_at, with_pair, without_key}
-use Rattle.vecmap_laws.proofs.AfterPuts.{index_of_own, index_of_without_key, is_some_lookup, lookup_own, lookup_without_any}
+use Rattle.vecmap_laws.proofs.AfterPuts.{index_of_own, index_of_without_key, lookup_own, lookup_without_any}
 use Rattle.vecmap_laws.proofs.Lookups.{look, lookup_congr}
-use Rattle.vecmap_laws.proofs.Puts.{put_at_absent, put_at_present}
+use Rattle.vecmap_laws.proofs.Puts.{put_at_absent}
 
 pub none_if_not_some : {A : Type 0} (found : Option A) → is_some found ≡ false → found ≡ None
 none_if_not_some None e = refl
@@ -27,7 +27,7 @@ module _ {K V : Type 0} (eq : K → K → Bool) where
   lookup_none l k none = lookup_by_index (eq k) l ∙ ap (option_and_then (value_at l)) none
 
   pub index_none : (l : List (K × V)) (k : K) → lookup eq l k ≡ None → index_of eq l k ≡ None
-  index_none l k none = none_if_not_some (index_of eq l k) (sym (is_some_lookup eq l k) ∙ ap is_some none)
+  index_none l k = index_by_none (eq k) l
 
   passed : (b : Bool) (found : Option V) (v : V) → (if b then Some v else found) ≡ None → b ≡ false
   passed true found v e = absurd (none-some v (sym e))
@@ -83,22 +83,7 @@ module _ {K V : Type 0} (eq : K → K → Bool) where
 
     -- The same of any key, if all keys are distinct.
     pub lookup_put_at : (l : List (K × V)) (i : ℕ) (k : K) (v : V) → HasDistinctKeys eq l → (q : K) → lookup eq (put_at eq l i k v) q ≡ (if eq k q then Some v else lookup eq l q)
-    lookup_put_at l i k v d q = by (index_of eq l k) refl
-      where
-        twice : (b : Bool) → (if b then Some v else (if b then None else lookup eq l q)) ≡ (if b then Some v else lookup eq l q)
-        twice true = refl
-        twice false = refl
-
-        by : (found : Option ℕ) → index_of eq l k ≡ found → lookup eq (put_at eq l i k v) q ≡ (if eq k q then Some v else lookup eq l q)
-        by None e = lookup_put_at_absent l i k v e q
-        by (Some j) e =
-            let gone = without_key_at l k j e in
-            let n = min i (length l - 1) in
-            ap (λ m. lookup eq m q) (put_at_present eq l i k v j e)
-            ∙ lookup_insert (remove l j) n k v (ap (λ m. index_of eq m k) (sym gone) ∙ index_of_without_key eq o l k d) q
-            ∙ ap (λ m. if eq k q then Some v else lookup eq m q) (sym gone)
-            ∙ ap (λ found. if eq k q then Some v else found) (lookup_without_any eq o l k q d)
-            ∙ twice (eq k q)
+    lookup_put_at l i k v d = (updates_put_at eq o l (put_at eq l i k v) i k v refl d).lookups
 
     module _ (l : List (K × V)) (d : HasDistinctKeys eq l) (i : ℕ) (k : K) (v : V) (stored : slice_get l i ≡ Some (k, v)) where
       -- If all keys are distinct, the key of a pair is absent once the pair is removed.

@@ -1,35 +1,26 @@
 -- The indices of elements, before and after an addition.
-use Rattle.std.specs.{Cmp.IsEquivalence, List.AllByRecursion, List.IsDistinct}
-use Rattle.std.proofs.Common.{◌≡◌, ◌<◌, ℕ, zero, suc, Bool, true, false, List, [], ◌∷◌, None, Option, Some, if◌then◌else◌, length, option_map, slice_get, unwrap_or, refl, sym, ap, ◌∙◌, arith, inl, inr, subst}
-use Rattle.std.proofs.lemmas.{Bool.cases_Bool, Map.Keys.IsDistinct-head, Map.Keys.IsDistinct-tail}
+use Rattle.std.specs.{Cmp.IsEquivalence, List.IsDistinct}
+use Rattle.std.proofs.Common.{◌≡◌, ◌<◌, ◌++◌, ℕ, suc, Bool, true, false, List, [], ◌∷◌, None, Option, Some, if◌then◌else◌, length, option_map, slice_get, unwrap_or, refl, sym, ap, ◌∙◌, inl, inr}
+use Rattle.std.proofs.lemmas.{Bool.cases_Bool}
 use Rattle.vecmap_base.specs.Items.{add, item_index}
 use Rattle.vecmap_base.proofs.ItemsLemmas.Recursion.{add_cons, item_index_cons}
 pub use Rattle.vecmap_base.proofs.ItemsLemmas.Indices.{is_some_item_index_rest}
+use Rattle.vecmap_set.proofs.IndexLemmas.{position_own}
+use Rattle.vecmap_laws.proofs.ItemMembers.{slice_get_append}
+use Rattle.std.specs.Set.{is_member}
 
 unwrap_or_suc : (found : Option ℕ) (n : ℕ) → unwrap_or (option_map suc found) (suc n) ≡ suc (unwrap_or found n)
 unwrap_or_suc None n = refl
 unwrap_or_suc (Some i) n = refl
 
--- What holds of all elements holds of the one at an index.
-held_at : {T : Type 0} (P : T → Type 0) (s : List T) → AllByRecursion P s → (i : ℕ) (x : T) → slice_get s i ≡ Some x → P x
-held_at P [] h i x e = absurd (let f : None ≡ Some x = e in cc)
-held_at P (y ∷ ys) h zero x e = let f : Some y ≡ Some x = e in let g : y ≡ x = cc in subst P g h.0
-held_at P (y ∷ ys) h (suc i) x e = held_at P ys h.1 i x e
-
 module _ {T : Type 0} (eq : T → T → Bool) where
   -- An addition moves no element.
   pub slice_get_add : (s : List T) (x : T) (i : ℕ) → i < length s → slice_get (add eq s x) i ≡ slice_get s i
-  slice_get_add [] x i h = absurd (omega (arith, h))
-  slice_get_add (y ∷ ys) x zero h = ap (λ l. slice_get l 0) (add_cons eq y ys x) ∙ by (eq x y)
+  slice_get_add s x i h = by (is_member eq s x)
     where
-      by : (b : Bool) → slice_get (if b then y ∷ ys else y ∷ add eq ys x) 0 ≡ Some y
+      by : (b : Bool) → slice_get (if b then s else s ++ x ∷ []) i ≡ slice_get s i
       by true = refl
-      by false = refl
-  slice_get_add (y ∷ ys) x (suc i) h = ap (λ l. slice_get l (suc i)) (add_cons eq y ys x) ∙ by (eq x y) (slice_get_add ys x i (omega (arith, h)))
-    where
-      by : (b : Bool) → slice_get (add eq ys x) i ≡ slice_get ys i → slice_get (if b then y ∷ ys else y ∷ add eq ys x) (suc i) ≡ slice_get ys i
-      by true e = refl
-      by false e = e
+      by false = slice_get_append s (x ∷ []) i h
 
   module _ (o : IsEquivalence eq) where
     -- Equal elements have the same index.
@@ -71,13 +62,4 @@ module _ {T : Type 0} (eq : T → T → Bool) where
 
     -- If no two elements are equal, each is found at its own index.
     pub item_index_own : (s : List T) → IsDistinct eq s → (i : ℕ) (x : T) → slice_get s i ≡ Some x → item_index eq s x ≡ Some i
-    item_index_own [] d i x e = absurd (let f : None ≡ Some x = e in cc)
-    item_index_own (y ∷ ys) d zero x e =
-        let f : Some y ≡ Some x = e in
-        let g : y ≡ x = cc in
-        item_index_cons eq y ys x ∙ ap (λ b. if b then Some 0 else option_map suc (item_index eq ys x)) (ap (eq x) g ∙ o.refl x)
-    item_index_own (y ∷ ys) d (suc i) x e =
-        let apart : eq x y ≡ false = o.symm x y ∙ held_at (λ z. eq y z ≡ false) ys (IsDistinct-head eq y ys d) i x e in
-        item_index_cons eq y ys x
-        ∙ ap (λ b. if b then Some 0 else option_map suc (item_index eq ys x)) apart
-        ∙ ap (option_map suc) (item_index_own ys (IsDistinct-tail eq y ys d) i x e)
+    item_index_own s d i x e = position_own (eq x) eq o (o.congr x) s d i x e (o.refl x)

@@ -2,15 +2,17 @@
 -- the new elements that are not present.
 use Rattle.std.specs.Set.{is_member}
 use Rattle.std.specs.{Cmp.IsEquivalence, Option.option_or}
-use Rattle.std.proofs.Common.{◌≡◌, ◌<◌, ◌+◌, ℕ, Bool, true, false, ◌||◌, not, List, [], ◌∷◌, ◌++◌, None, Option, Some, if◌then◌else◌, length, option_map, slice_get, suc, zero, refl, sym, ap, ◌∙◌, arith, inl, inr}
-use Rattle.std.proofs.lemmas.{Bool.cases_Bool, List.append-nil, List.append_assoc, List.Folds.list_any-append, Map.Steps.list_any_congr}
+use Rattle.std.proofs.Common.{◌≡◌, ◌<◌, ◌+◌, ℕ, Bool, true, false, ◌||◌, not, List, [], ◌∷◌, ◌++◌, Some, if◌then◌else◌, length, option_map, slice_get, suc, zero, refl, sym, ap, ◌∙◌, arith, inl, inr}
+use Rattle.std.proofs.lemmas.{Bool.cases_Bool, List.append-nil, List.append_assoc, List.Folds.list_any-append}
 use Rattle.vecmap_base.specs.{Items.add, Items.adds, Items.item_index, Items.only}
-use Rattle.vecmap_base.proofs.ItemsLemmas.{Additions.add_absent, Additions.add_present, Recursion.item_index_cons}
+use Rattle.vecmap_base.proofs.ItemsLemmas.{Additions.add_absent, Additions.add_present}
 pub use Rattle.vecmap_base.proofs.ItemsLemmas.Members.{is_member_adds}
+use Rattle.vecmap_base.proofs.ItemsLemmas.Members.{members_of_add}
 pub use Rattle.vecmap_base.proofs.ItemsLemmas.Changes.{is_member_clones}
+use Rattle.vecmap_laws.proofs.PositionLemmas.{position_append}
 
 -- An item of the front of a list is at its index in the whole list.
-slice_get_append : {T : Type 0} (s t : List T) (i : ℕ) → i < length s → slice_get (s ++ t) i ≡ slice_get s i
+pub slice_get_append : {T : Type 0} (s t : List T) (i : ℕ) → i < length s → slice_get (s ++ t) i ≡ slice_get s i
 slice_get_append [] t i h = absurd (omega arith)
 slice_get_append (x ∷ xs) t zero h = refl
 slice_get_append (x ∷ xs) t (suc i) h = slice_get_append xs t i (omega arith)
@@ -18,22 +20,7 @@ slice_get_append (x ∷ xs) t (suc i) h = slice_get_append xs t i (omega arith)
 module _ {T : Type 0} (eq : T → T → Bool) where
   -- The index of an element in a list of two parts.
   pub item_index_append : (s t : List T) (x : T) → item_index eq (s ++ t) x ≡ option_or (item_index eq s x) (option_map (λ i. length s + i) (item_index eq t x))
-  item_index_append [] t x = by (item_index eq t x)
-    where
-      by : (found : Option ℕ) → found ≡ option_map (λ i. 0 + i) found
-      by None = refl
-      by (Some i) = ap Some (let e : i ≡ 0 + i = omega arith in e)
-  item_index_append (y ∷ ys) t x =
-      item_index_cons eq y (ys ++ t) x
-      ∙ ap (λ found. if eq x y then Some 0 else option_map suc found) (item_index_append ys t x)
-      ∙ by (eq x y) (item_index eq ys x) (item_index eq t x)
-      ∙ ap (λ found. option_or found (option_map (λ i. length (y ∷ ys) + i) (item_index eq t x))) (sym (item_index_cons eq y ys x))
-    where
-      by : (b : Bool) (here there : Option ℕ) → (if b then Some 0 else option_map suc (option_or here (option_map (λ i. length ys + i) there))) ≡ option_or (if b then Some 0 else option_map suc here) (option_map (λ i. length (y ∷ ys) + i) there)
-      by true here there = refl
-      by false (Some i) there = refl
-      by false None None = refl
-      by false None (Some i) = ap Some (let e : suc (length ys + i) ≡ suc (length ys) + i = omega arith in e)
+  item_index_append s t x = position_append (eq x) s t
 
   -- An addition behind a front, in which the element is absent.
   add_behind : (s t : List T) (x : T) → is_member eq s x ≡ false → add eq (s ++ t) x ≡ s ++ add eq t x
@@ -76,22 +63,13 @@ module _ {T : Type 0} (eq : T → T → Bool) where
   module _ (o : IsEquivalence eq) where
     -- After an addition, an element is present if it was, or if it is equal to the added one.
     pub is_member_add : (s : List T) (x y : T) → is_member eq (add eq s x) y ≡ (is_member eq s y || eq x y)
-    is_member_add s x y =
-        elim (cases_Bool (is_member eq s x)) [
-          | inl e ↦ ap (λ m. is_member eq m y) (add_present eq s x e) ∙ there (eq x y) refl e
-          | inr e ↦ ap (λ m. is_member eq m y) (add_absent eq s x e) ∙ list_any-append (eq y) s (x ∷ []) ∙ ap (λ b. is_member eq s y || b) (last (eq y x) ∙ o.symm y x)
-        ]
+    is_member_add s x y = (members_of_add eq o s (add eq s x) x refl).members y ∙ by (eq x y) (is_member eq s y)
       where
-        last : (b : Bool) → (b || false) ≡ b
-        last true = refl
-        last false = refl
-
-        more : (b : Bool) → b ≡ (b || false)
-        more b = sym (last b)
-
-        there : (b : Bool) → eq x y ≡ b → is_member eq s x ≡ true → is_member eq s y ≡ (is_member eq s y || b)
-        there true same e = let h : is_member eq s y ≡ true = sym (list_any_congr o x y s same) ∙ e in h ∙ sym (ap (λ b. b || true) h)
-        there false same e = more (is_member eq s y)
+        by : (b c : Bool) → (if b then true else c) ≡ (c || b)
+        by true true = refl
+        by true false = refl
+        by false true = refl
+        by false false = refl
 
     -- What was present stays present, and what was added is present.
     pub is_member_kept : (s : List T) (x y : T) → is_member eq s y ≡ true → is_member eq (add eq s x) y ≡ true

@@ -7,6 +7,8 @@ use Rattle.vecmap_base.proofs.IndexLemmas.{list_any_position, position_cons}
 use Rattle.vecmap_base.specs.Items.{add, adds, item_index, put_item}
 use Rattle.vecmap_laws.proofs.ItemRecursion.{put_item_cons}
 use Rattle.vecmap_laws.specs.Removals.{below, shifted}
+use Rattle.vecmap_base.proofs.{ItemsLemmas.Changes.members_of_put, ItemsLemmas.Members.members_of_add}
+use Rattle.vecmap_laws.proofs.ItemMembers.{is_member_add}
 
 module _ {X : Type 0} (p : X → Bool) where
   -- In the first `n` items, the index stays if it is below `n`.
@@ -84,27 +86,7 @@ module _ {T : Type 0} (eq : T → T → Bool) where
   module _ (o : IsEquivalence eq) where
     -- After an addition that stores the new element, its equals are present.
     pub is_member_put_item : (s : List T) (x y : T) → is_member eq (put_item eq s x) y ≡ (is_member eq s y || eq x y)
-    is_member_put_item [] x y = or_none (eq y x) ∙ o.symm y x
-      where
-        or_none : (b : Bool) → (b || false) ≡ b
-        or_none true = refl
-        or_none false = refl
-    is_member_put_item (z ∷ zs) x y = ap (λ l. is_member eq l y) (put_item_cons eq z zs x) ∙ by (eq x z) refl (is_member_put_item zs x y)
-      where
-        here : (a b : Bool) → (a || b) ≡ ((a || b) || a)
-        here true b = refl
-        here false true = refl
-        here false false = refl
-
-        further : (a b c : Bool) → (a || (b || c)) ≡ ((a || b) || c)
-        further true b c = refl
-        further false b c = refl
-
-        by : (b : Bool) → eq x z ≡ b → is_member eq (put_item eq zs x) y ≡ (is_member eq zs y || eq x y) → is_member eq (if b then x ∷ zs else z ∷ put_item eq zs x) y ≡ ((eq y z || is_member eq zs y) || eq x y)
-        by true e more =
-            let same : eq y x ≡ eq y z = o.symm y x ∙ o.congr x z y e ∙ o.symm z y in
-            ap (λ b. b || is_member eq zs y) same ∙ here (eq y z) (is_member eq zs y) ∙ ap (λ b. (eq y z || is_member eq zs y) || b) (sym same ∙ o.symm y x)
-        by false e more = ap (λ b. eq y z || b) more ∙ further (eq y z) (is_member eq zs y) (eq x y)
+    is_member_put_item s x y = (members_of_put eq o s (put_item eq s x) x refl).members y ∙ sym ((members_of_add eq o s (add eq s x) x refl).members y) ∙ is_member_add eq o s x y
 
     -- After the removal of the element at an index, the index of each other element.
     pub item_index_removed : (s : List T) (i : ℕ) (x : T) → slice_get s i ≡ Some x → (y : T) → eq x y ≡ false → item_index eq (remove s i) y ≡ shifted i (item_index eq s y)

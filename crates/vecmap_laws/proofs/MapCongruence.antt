@@ -7,18 +7,17 @@ use Rattle.vecmap_laws.proofs.DistinctParts.{distinct_keys_filter}
 use Rattle.vecmap_laws.proofs.MapEquality.{equal_where_lookups_agree}
 use Rattle.vecmap_laws.proofs.AfterPuts.{lookup_put_any, lookup_puts_distinct, lookup_without_any}
 use Rattle.vecmap_base.specs.Equality.{has_same_counts}
-use Rattle.vecmap_base.specs.Items.{swap_without}
 use Rattle.vecmap_base.specs.Pairs.{HasDistinctKeys, lookup, lookup_pair, put, puts, swap_without_key, without_key}
 use Rattle.vecmap_laws.proofs.Filters.{lookup_filter}
-use Rattle.vecmap_laws.proofs.RemovalLemmas.{lookup_by_test, swap_leaves}
+use Rattle.vecmap_laws.proofs.Finds.{lookup_swap_without_key}
 
 module _ {K V : Type 0} (eq : K → K → Bool) (same : V → V → Bool) (o : IsEquivalence eq) (p : IsEquivalence same) where
   -- Two maps whose lookups agree.
   abbrev Alike : List (K × V) → List (K × V) → Type 0
   Alike a b = (q : K) → IsTrue (option_eq same (lookup eq a q) (lookup eq b q))
 
-  alike : (a b : List (K × V)) → HasDistinctKeys eq a → HasDistinctKeys eq b → IsTrue (has_same_counts eq same a b) → Alike a b
-  alike a b d e h = (equal_where_lookups_agree eq same o p a b d e).0 h
+  lookups_alike : (a b : List (K × V)) → HasDistinctKeys eq a → HasDistinctKeys eq b → IsTrue (has_same_counts eq same a b) → Alike a b
+  lookups_alike a b d e h = (equal_where_lookups_agree eq same o p a b d e).0 h
 
   equal : (a b : List (K × V)) → HasDistinctKeys eq a → HasDistinctKeys eq b → Alike a b → IsTrue (has_same_counts eq same a b)
   equal a b d e h = (equal_where_lookups_agree eq same o p a b d e).1 h
@@ -31,7 +30,7 @@ module _ {K V : Type 0} (eq : K → K → Bool) (same : V → V → Bool) (o : I
   by_lookups : (a b a' b' : List (K × V)) → HasDistinctKeys eq a → HasDistinctKeys eq b → HasDistinctKeys eq a' → HasDistinctKeys eq b' → IsTrue (has_same_counts eq same a b)
       → (f : K → Option V → Option V) → ((q : K) → lookup eq a' q ≡ f q (lookup eq a q)) → ((q : K) → lookup eq b' q ≡ f q (lookup eq b q))
       → ((q : K) (x y : Option V) → IsTrue (option_eq same x y) → IsTrue (option_eq same (f q x) (f q y))) → IsTrue (has_same_counts eq same a' b')
-  by_lookups a b a' b' d e d' e' h f g g' k = equal a' b' d' e' (λ q. (λ t. option_eq same (g q t) (g' q t)) ∙ k q (lookup eq a q) (lookup eq b q) (alike a b d e h q))
+  by_lookups a b a' b' d e d' e' h f g g' k = equal a' b' d' e' (λ q. (λ t. option_eq same (g q t) (g' q t)) ∙ k q (lookup eq a q) (lookup eq b q) (lookups_alike a b d e h q))
 
   pub equal_after_put : (a b : List (K × V)) → HasDistinctKeys eq a → HasDistinctKeys eq b → IsTrue (has_same_counts eq same a b) → (k : K) (v : V) → IsTrue (has_same_counts eq same (put eq a k v) (put eq b k v))
   equal_after_put a b d e h k v =
@@ -49,22 +48,19 @@ module _ {K V : Type 0} (eq : K → K → Bool) (same : V → V → Bool) (o : I
   equal_after_removal a b d e h k =
       by_lookups a b (without_key eq a k) (without_key eq b k) d e (distinct_keys_without eq (eq k) a d) (distinct_keys_without eq (eq k) b e) h (λ q found. if eq k q then None else found) (λ q. lookup_without_any eq o a k q d) (λ q. lookup_without_any eq o b k q e) (λ q. removed (eq k q))
 
-  lookup_swapped : (a : List (K × V)) → HasDistinctKeys eq a → (k q : K) → lookup eq (swap_without_key eq a k) q ≡ (if eq k q then None else lookup eq a q)
-  lookup_swapped a d k q = lookup_by_test swap_without swap_leaves eq o (eq k) (λ x y e. o.congr k x y e) a d q
-
   pub equal_after_swap_removal : (a b : List (K × V)) → HasDistinctKeys eq a → HasDistinctKeys eq b → IsTrue (has_same_counts eq same a b) → (k : K) → IsTrue (has_same_counts eq same (swap_without_key eq a k) (swap_without_key eq b k))
   equal_after_swap_removal a b d e h k =
-      by_lookups a b (swap_without_key eq a k) (swap_without_key eq b k) d e (distinct_keys_swap_without_key eq o a k d) (distinct_keys_swap_without_key eq o b k e) h (λ q found. if eq k q then None else found) (lookup_swapped a d k) (lookup_swapped b e k) (λ q. removed (eq k q))
+      by_lookups a b (swap_without_key eq a k) (swap_without_key eq b k) d e (distinct_keys_swap_without_key eq o a k d) (distinct_keys_swap_without_key eq o b k e) h (λ q found. if eq k q then None else found) (λ q. lookup_swap_without_key eq o a k q d) (λ q. lookup_swap_without_key eq o b k q e) (λ q. removed (eq k q))
 
   -- The order in which a removal leaves the pairs makes no difference.
   pub removals_equal : (a : List (K × V)) → HasDistinctKeys eq a → (k : K) → IsTrue (has_same_counts eq same (without_key eq a k) (swap_without_key eq a k))
   removals_equal a d k =
-      equal (without_key eq a k) (swap_without_key eq a k) (distinct_keys_without eq (eq k) a d) (distinct_keys_swap_without_key eq o a k d) (λ q. (λ t. option_eq same (lookup_without_any eq o a k q d t) (lookup_swapped a d k q t)) ∙ self (if eq k q then None else lookup eq a q))
+      equal (without_key eq a k) (swap_without_key eq a k) (distinct_keys_without eq (eq k) a d) (distinct_keys_swap_without_key eq o a k d) (λ q. (λ t. option_eq same (lookup_without_any eq o a k q d t) (lookup_swap_without_key eq o a k q d t)) ∙ self (if eq k q then None else lookup eq a q))
 
   pub equal_after_puts : (a b c e : List (K × V)) → HasDistinctKeys eq a → HasDistinctKeys eq b → HasDistinctKeys eq c → HasDistinctKeys eq e → IsTrue (has_same_counts eq same a b) → IsTrue (has_same_counts eq same c e) → IsTrue (has_same_counts eq same (puts eq a c) (puts eq b e))
   equal_after_puts a b c e da db dc de h g =
       equal (puts eq a c) (puts eq b e) (distinct_puts eq o a c da) (distinct_puts eq o b e db) (λ q.
-      (λ t. option_eq same (lookup_puts_distinct eq o a c dc q t) (lookup_puts_distinct eq o b e de q t)) ∙ by (lookup eq c q) (lookup eq e q) (lookup eq a q) (lookup eq b q) (alike c e dc de g q) (alike a b da db h q))
+      (λ t. option_eq same (lookup_puts_distinct eq o a c dc q t) (lookup_puts_distinct eq o b e de q t)) ∙ by (lookup eq c q) (lookup eq e q) (lookup eq a q) (lookup eq b q) (lookups_alike c e dc de g q) (lookups_alike a b da db h q))
     where
       by : (x y v w : Option V) → IsTrue (option_eq same x y) → IsTrue (option_eq same v w) → IsTrue (option_eq same (option_or x v) (option_or y w))
       by None None v w i j = j

@@ -44,11 +44,11 @@ module _ {K V : Type 0} (key : K → K → Bool) (value : V → V → Bool) (k :
   pair_more : (p : K × V) (ps : List (K × V)) (x : K) (w : V) (b : Bool) → key x p.0 ≡ b → count key value (p ∷ ps) (x, w) ≡ cond (b && value w p.1) 1 0 + count key value ps (x, w)
   pair_more p ps x w b e = many_cons (same_pair key value) (same_pair_laws key value k v) p ps (x, w) ∙ ap (λ c. cond (c && value w p.1) 1 0 + count key value ps (x, w)) e
 
-  none_counted : (l : List (K × V)) (x : K) (w : V) → list_any (key x) (keys_of l) ≡ false → count key value l (x, w) ≡ 0
-  none_counted [] x w e = refl
-  none_counted (p ∷ ps) x w e =
+  absent_not_counted : (l : List (K × V)) (x : K) (w : V) → list_any (key x) (keys_of l) ≡ false → count key value l (x, w) ≡ 0
+  absent_not_counted [] x w e = refl
+  absent_not_counted (p ∷ ps) x w e =
       let apart = or_parts (key x p.0) (list_any (key x) (keys_of ps)) e in
-      let rest = none_counted ps x w apart.1 in
+      let rest = absent_not_counted ps x w apart.1 in
       omega (arith, pair_more p ps x w false apart.0, rest)
 
   count_is_hits : (l : List (K × V)) (x : K) (w : V) → HasDistinctKeys key l → count key value l (x, w) ≡ hits (lookup key l x) w
@@ -59,7 +59,7 @@ module _ {K V : Type 0} (key : K → K → Bool) (value : V → V → Bool) (k :
       elim (cases_Bool (key x p.0)) [
         | inl e ↦
             let apart = none_equal key p.0 (keys_of ps) (IsDistinct-head key p.0 (keys_of ps) d) in
-            let none = none_counted ps x w (list_any_congr k x p.0 (keys_of ps) e ∙ apart) in
+            let none = absent_not_counted ps x w (list_any_congr k x p.0 (keys_of ps) e ∙ apart) in
             let here : count key value (p ∷ ps) (x, w) ≡ cond (value w p.1) 1 0 = omega (arith, pair_more p ps x w true e, none) in
             here ∙ ap (λ o. hits o w) (sym (look key p ps x true e))
         | inr e ↦

@@ -2,14 +2,14 @@
 -- a query finds what the keys that it matches find.
 use Rattle.std.proofs.Common.{◌≡◌, ◌<◌, ◌∙◌, ℕ, Bool, true, List, Some, if◌then◌else◌, length, reverse, swap, sym, [], ◌∷◌, ap, false, refl}
 use Rattle.std.proofs.lemmas.List.Sorted.{IsPermutation-reverse}
-use Rattle.std.specs.{Cmp.IsEquivalence, List.Sorted.IsPermutation, Map.IsKeyTest, Option.option_or}
+use Rattle.std.specs.{Cmp.IsEquivalence, Map.IsKeyTest, Option.option_or}
+pub use Rattle.vecmap_base.proofs.PairsLemmas.Order.{lookup_by_rearranged}
 use Rattle.vecmap_base.proofs.PairsLemmas.Clones.{lookup_by_cloned}
 use Rattle.vecmap_base.specs.Clones.{ArePairClones}
 use Rattle.vecmap_base.specs.Pairs.{HasDistinctKeys, lookup, lookup_by, put, put_at, put_key, puts}
 use Rattle.vecmap_laws.proofs.AfterPuts.{lookup_put_any, lookup_put_key}
 use Rattle.vecmap_laws.proofs.Finds.{lookup_put_at_any, lookup_swap}
 use Rattle.vecmap_laws.proofs.HeadLemmas.{head_has_no_value, rest_is_distinct}
-use Rattle.vecmap_laws.proofs.Order.{lookup_rearranged}
 use Rattle.vecmap_laws.proofs.Queries.{lookup_by_query, lookup_put_any_query}
 use Rattle.vecmap_laws.proofs.RemovalLemmas.{query_finds_same}
 
@@ -18,11 +18,8 @@ module _ {K V : Type 0} (eq : K → K → Bool) (o : IsEquivalence eq) (test : K
   pub query_agrees : (l m : List (K × V)) → ((q : K) → lookup eq m q ≡ lookup eq l q) → lookup_by test m ≡ lookup_by test l
   query_agrees l m alike = query_finds_same eq o (λ found. found) test respects l m (λ q e. alike q)
 
-  pub lookup_by_rearranged : (l m : List (K × V)) → HasDistinctKeys eq l → IsPermutation l m → lookup_by test m ≡ lookup_by test l
-  lookup_by_rearranged l m d moved = query_agrees l m (lookup_rearranged eq o l m moved d)
-
   pub lookup_by_reversed : (l : List (K × V)) → HasDistinctKeys eq l → lookup_by test (reverse l) ≡ lookup_by test l
-  lookup_by_reversed l d = lookup_by_rearranged l (reverse l) d (IsPermutation-reverse l)
+  lookup_by_reversed l d = lookup_by_rearranged eq o test respects l (reverse l) (IsPermutation-reverse l) d
 
   pub lookup_by_swapped : (l : List (K × V)) → HasDistinctKeys eq l → (i j : ℕ) → i < length l → j < length l → lookup_by test (swap l i j) ≡ lookup_by test l
   lookup_by_swapped l d i j h k = query_agrees l (swap l i j) (λ q. lookup_swap eq o l i j q h k d)

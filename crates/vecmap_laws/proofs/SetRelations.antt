@@ -1,9 +1,9 @@
 -- The elements that are in both of two lists, and those that are in only one of them.
-use Rattle.std.specs.Prelude.{◌≡◌, ◌+◌, Bool, true, false, ◌&&◌, ◌||◌, not, List, ◌++◌, length, refl}
+use Rattle.std.specs.Prelude.{◌≡◌, ◌+◌, Bool, true, ◌||◌, not, List, ◌++◌, length, refl}
 use Rattle.std.specs.Cmp.{IsEquivalence}
 use Rattle.std.specs.List.{IsDistinct}
 use Rattle.std.specs.Set.{is_member}
-use Rattle.std.proofs.Common.{sym, ap, ◌∙◌, arith, length-append}
+use Rattle.std.proofs.Common.{sym, ◌∙◌, arith, length-append}
 use Rattle.std.proofs.Math.Bool.{and_comm, or_comm}
 use Rattle.std.proofs.lemmas.Bool.{and_from}
 use Rattle.std.proofs.lemmas.List.Filters.{length-filter_both}
@@ -13,6 +13,7 @@ use Rattle.vecmap_base.specs.Equality.{has_same_items}
 use Rattle.vecmap_base.specs.Items.{both, only}
 use Rattle.vecmap_base.proofs.EqualityLemmas.Sets.{test_from_within}
 pub use Rattle.vecmap_base.proofs.EqualityLemmas.Relations.{is_member_both, is_member_only, both_empty_turned, apart_by_walk, apart_by_walk_turned, distinct_both, distinct_only, distinct_union, distinct_symmetric_difference}
+use Rattle.vecmap_set.proofs.OperatorLemmas.{is_member_union as member_of_union}
 
 module _ {T : Type 0} (eq : T → T → Bool) (o : IsEquivalence eq) where
   -- Two lists with the same elements, in any order and number, are equal as sets.
@@ -24,12 +25,7 @@ module _ {T : Type 0} (eq : T → T → Bool) (o : IsEquivalence eq) where
   both_turned a b = same_items (both eq a b) (both eq b a) (λ x. is_member_both eq o a b x ∙ and_comm (is_member eq a x) (is_member eq b x) ∙ sym (is_member_both eq o b a x))
 
   pub is_member_union : (a b : List T) (x : T) → is_member eq (a ++ only eq b a) x ≡ (is_member eq a x || is_member eq b x)
-  is_member_union a b x = list_any-append (eq x) a (only eq b a) ∙ ap (λ c. is_member eq a x || c) (is_member_only eq o b a x) ∙ by (is_member eq a x) (is_member eq b x)
-    where
-      by : (c d : Bool) → (c || (d && not c)) ≡ (c || d)
-      by true d = refl
-      by false true = refl
-      by false false = refl
+  is_member_union = member_of_union eq o
 
   pub union_turned : (a b : List T) → has_same_items eq (a ++ only eq b a) (b ++ only eq a b) ≡ true
   union_turned a b = same_items (a ++ only eq b a) (b ++ only eq a b) (λ x. is_member_union a b x ∙ or_comm (is_member eq a x) (is_member eq b x) ∙ sym (is_member_union b a x))

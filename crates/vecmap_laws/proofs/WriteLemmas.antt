@@ -5,10 +5,11 @@ use Rattle.std.proofs.Common.{◌≡◌, ℕ, Bool, List, [], ◌∷◌, ◌++�
 use Rattle.vecmap_base.specs.Pairs.{index_of, put, with_value, has_text, index_by, lookup, lookup_by}
 use Rattle.vecmap_map.specs.Contents.{Contents, with_entries, with_value_of, with_value_by}
 use Rattle.std.specs.{Cmp.IsEquivalence, Cmp.Lexicographic.nat_list_eq_equiv, declared.alloc.Global.Global, Map.IsKeyTest, Map.keys_of, Map.set_value, Option.option_map, Option.option_map_or}
-use Rattle.std.proofs.lemmas.{Bool.cases_Bool, Map.keys-set_value, Option.same_Some}
+use Rattle.std.proofs.lemmas.{Bool.cases_Bool, Map.keys-set_value}
 use Rattle.vecmap_base.proofs.PairsLemmas.ByIndex.{put_by_index, set_value_by_index}
 use Rattle.vecmap_laws.proofs.ItemQueries.{tells_as}
 use Rattle.vecmap_laws.proofs.Queries.{lookup_put_query, string_equality, text_respects}
+use Rattle.std.proofs.lemmas.Map.Steps.{set_value_same}
 
 module _ {K V : Type 0} (eq : K → K → Bool) where
   -- A write of the value of a key that is present is `put`.
@@ -51,15 +52,7 @@ written_absent test m v none = ap (with_entries m) (set_value_by_index test m.en
 
 -- A write of the value that a test finds changes nothing.
 pub written_back : {K V : Type 0} (test : K → Bool) (m : Contents K V) (v : V) → lookup_by test m.entries ≡ Some v → with_value_by test m v ≡ m
-written_back {K} {V} test m v e = ap (with_entries m) (same m.entries e)
-  where
-    same : (l : List (K × V)) → lookup_by test l ≡ Some v → set_value test l v ≡ l
-    same [] e = refl
-    same (p ∷ ps) e = by (test p.0) e (same ps)
-      where
-        by : (b : Bool) → (if b then Some p.1 else lookup_by test ps) ≡ Some v → (lookup_by test ps ≡ Some v → set_value test ps v ≡ ps) → (if b then (p.0, v) ∷ ps else p ∷ set_value test ps v) ≡ p ∷ ps
-        by true e more = ap (λ x. (p.0, x) ∷ ps) (sym (same_Some p.1 v e))
-        by false e more = ap (λ t. p ∷ t) (more e)
+written_back test m v e = ap (with_entries m) (set_value_same test m.entries v e)
 
 module _ {K V : Type 0} (eq : K → K → Bool) (o : IsEquivalence eq) (test : K → Bool) (respects : IsKeyTest eq test) where
   -- A write of the value that a query finds is `put` of each key that the query matches.

@@ -1,8 +1,7 @@
-use Rattle.vecmap_base.specs.Items.{swap_without}
 use Rattle.vecmap_laws.proofs.AfterPuts.{lookup_without_any}
 use Rattle.vecmap_laws.proofs.Lookups.{lookup_without_key, lookup_without_key_other}
-use Rattle.vecmap_laws.proofs.RemovalLemmas.{lookup_by_test, swap_leaves}
 use Rattle.vecmap_laws.proofs.maps.removals.removals_are_forgotten.Goals as goal
+use Rattle.vecmap_laws.proofs.Finds.{lookup_swap_without_key}
 
 pub returns-clause-value : goal.returns-clause-value
 returns-clause-value g c = λ l d k. lookup_without_key g.K.PartialEq.eq g.met.K.Eq.laws l k d
@@ -14,4 +13,4 @@ pub returns-clause-lookups : goal.returns-clause-lookups
 returns-clause-lookups g c = λ l d k q. lookup_without_any g.K.PartialEq.eq g.met.K.Eq.laws l k q d
 
 pub returns-clause-swap : goal.returns-clause-swap
-returns-clause-swap g c = λ l d k. lookup_by_test swap_without swap_leaves g.K.PartialEq.eq g.met.K.Eq.laws (g.K.PartialEq.eq k) (λ x y e. g.met.K.Eq.laws.congr k x y e) l d
+returns-clause-swap g c = λ l d k q. lookup_swap_without_key g.K.PartialEq.eq g.met.K.Eq.laws l k q d
