@@ -113,17 +113,18 @@ def contracts():
 
 
 def passed_on(path):
-    """Yields what a file of definitions or lemmas passes on of another one: the path of that, and the name there."""
+    """Yields what a file of definitions or lemmas passes on of another one: its path, the name there, and the one here."""
     for _, place, group in PUBLIC_USE.findall(read(path)):
         for name in (group or place).split(","):
             home, _, name = f"{place * bool(group)}{name.strip()}".removeprefix("Rattle.").rpartition(".")
-            yield f"crates/{home.replace('.', '/')}.antt", name
+            there, _, here = name.partition(" as ")
+            yield f"crates/{home.replace('.', '/')}.antt", there, here or there
 
 
 def definition_lines():
     """Yields the lines of each public definition, each below the one before it: their order matters."""
     for path in files("crates/*/specs/**/*.antt"):
-        passed = (it for home, name in passed_on(path) for it in definitions(home) if it.name == name)
+        passed = (it for home, name, _ in passed_on(path) for it in definitions(home) if it.name == name)
         for it in [*definitions(path), *passed]:
             lines = filter(str.strip, re.sub("--.*", "", it.text).splitlines())
             lines = [" ".join(line.split()) for line in lines]
@@ -134,13 +135,14 @@ def definition_lines():
 def lemmas():
     """Yields the statements of the public lemmas of `vecmap_laws`, and of those that it passes on by name."""
     for path in (it for it in files("crates/vecmap_laws/proofs/**/*.antt") if not it.endswith(FUNCTION_PROOFS)):
-        passed = ((name, declarations(home).get(name, "")) for home, name in passed_on(path))
-        for name, text in [*declarations(path).items(), *passed]:
+        found = [(name, name, text) for name, text in declarations(path).items()]
+        found += [(here, name, declarations(home).get(name, "")) for home, name, here in passed_on(path)]
+        for here, name, text in found:
             if re.search(rf"^ *pub (?:ruleset )?{re.escape(name)}(?![\w'-])", text, re.MULTILINE):
                 statement = " ".join(re.split(rf"\n *{re.escape(name)}(?= .*=| *=)", text)[0].split())
-                # Of modules within each other, the parameters of both are those of the lemma.
-                statement = statement.replace(" where module _", "")
-                yield ("lemma", f"{LAWS}: {module_of(path)}.{name}"), "statement", statement
+                # The parameters of the modules that it is in are those of the lemma.
+                statement = re.sub(rf" where (module _|pub {re.escape(name)} :)", "", statement)
+                yield ("lemma", f"{LAWS}: {module_of(path)}.{here}"), "statement", statement
 
 
 def exports():
