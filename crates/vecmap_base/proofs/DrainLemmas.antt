@@ -46,8 +46,8 @@ module _ {X : Type 0} where
       second ∙ (λ t. (kept t ++ reverse (middle t)) ++ end t) ∙ ap (λ l. (front ++ l) ++ reverse go) (reverse-reverse back)
 
   -- This move loses nothing.
-  pub moved_rearranged : (xs : List X) (i j : ℕ) → i ≤ j → IsPermutation xs (remove_range xs i j ++ reverse (slice_range xs i j))
-  moved_rearranged xs i j order =
+  pub drained_rearranged : (xs : List X) (i j : ℕ) → i ≤ j → IsPermutation xs (remove_range xs i j ++ reverse (slice_range xs i j))
+  drained_rearranged xs i j order =
       let front = take i xs in
       let go = slice_range xs i j in
       let back = drop j xs in

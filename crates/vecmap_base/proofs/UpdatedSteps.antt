@@ -4,6 +4,7 @@ use Rattle.std.specs.Prelude.{◌≡◌, ℕ, ◌+◌, ◌<◌, ◌≤◌, List,
 use Rattle.std.proofs.Common.{ap, arith, get_or, set, subst, sym, ◌∙◌}
 use Rattle.std.proofs.lemmas.List.{drop-set-lt, drop_more, length-set, take-append-drop, take_all, take_more, take_more_set}
 use Rattle.vecmap_base.specs.Asked.{CallableOnEach, SomeCall}
+use Rattle.vecmap_base.proofs.RepeatsLemmas.Gather.{rest_more}
 use Rattle.vecmap_base.specs.Updated.{Keeping, Updated, UpdatedSoFar}
 
 module _ {F X : Type 0} (R : F → X → X → F → Type 0) where
@@ -21,17 +22,15 @@ module _ {F X : Type 0} (R : F → X → X → F → Type 0) where
   folds_updated f (x ∷ xs) ys g k = (k.2, (k.0, k.1, k.4), folds_updated k.2 xs k.3 g k.5)
 
   module _ (f0 f : F) (xs ys : List X) (i : ℕ) (d : X) (so_far : UpdatedSoFar R f0 f xs ys i) (l : i < length xs) where
-    within : i < length ys
-    within = omega (arith, l, so_far.len)
+    still_within : i < length ys
+    still_within = omega (arith, l, so_far.len)
 
-    rest_more : (get_or ys i d ≡ get_or xs i d) × (drop (i + 1) ys ≡ drop (i + 1) xs)
-    rest_more =
-        let f : get_or ys i d ∷ drop (i + 1) ys ≡ get_or xs i d ∷ drop (i + 1) xs = sym (drop_more ys i d within) ∙ so_far.rest ∙ drop_more xs i d l in
-        (cc, cc)
+    next_and_rest : (get_or ys i d ≡ get_or xs i d) × (drop (i + 1) ys ≡ drop (i + 1) xs)
+    next_and_rest = rest_more xs ys i d l still_within so_far.rest
 
     -- The list around the next item.
     pub split : xs ≡ take i xs ++ get_or ys i d ∷ drop (i + 1) xs
-    split = sym (take-append-drop i xs) ∙ ap (λ t. take i xs ++ t) (drop_more xs i d l) ∙ ap (λ x. take i xs ++ x ∷ drop (i + 1) xs) (sym rest_more.0)
+    split = sym (take-append-drop i xs) ∙ ap (λ t. take i xs ++ t) (drop_more xs i d l) ∙ ap (λ x. take i xs ++ x ∷ drop (i + 1) xs) (sym next_and_rest.0)
 
     -- The closure may be called at the next item.
     pub callable_next : (Q : F → X → Type 0) → CallableOnEach (Keeping R) Q f0 xs → Q f (get_or ys i d)
@@ -40,19 +39,19 @@ module _ {F X : Type 0} (R : F → X → X → F → Type 0) where
     -- This call writes the item where it is.
     pub one_updated : (y : X) (h : F) → R f (get_or ys i d) y h → UpdatedSoFar R f0 h xs (set ys i y) (i + 1)
     one_updated y h call =
-        let run = updated_push f0 (take i xs) (take i ys) f (get_or xs i d) y h so_far.run (subst (λ x. R f x y h) rest_more.0 call) in
+        let run = updated_push f0 (take i xs) (take i ys) f (get_or xs i d) y h so_far.run (subst (λ x. R f x y h) next_and_rest.0 call) in
         record {
           len = length-set ys i y ∙ so_far.len;
-          rest = drop-set-lt (i + 1) ys i y (omega arith) ∙ rest_more.1;
-          run = subst (λ t. Updated R f0 t (take (i + 1) (set ys i y)) h) (sym (take_more xs i d l)) (subst (λ t. Updated R f0 (take i xs ++ get_or xs i d ∷ []) t h) (sym (take_more_set ys i y within)) run);
+          rest = drop-set-lt (i + 1) ys i y (omega arith) ∙ next_and_rest.1;
+          run = subst (λ t. Updated R f0 t (take (i + 1) (set ys i y)) h) (sym (take_more xs i d l)) (subst (λ t. Updated R f0 (take i xs ++ get_or xs i d ∷ []) t h) (sym (take_more_set ys i y still_within)) run);
         }
 
     -- The list with one item written.
     pub written_split : (y : X) → set ys i y ≡ take i ys ++ y ∷ drop (i + 1) xs
     written_split y =
         let zs = set ys i y in
-        let m : i < length zs = let e = length-set ys i y in omega (arith, within, e) in
-        sym (take-append-drop (i + 1) zs) ∙ (λ j. take_more_set ys i y within j ++ (drop-set-lt (i + 1) ys i y (omega arith) ∙ rest_more.1) j) ∙ append_one (take i ys) y (drop (i + 1) xs)
+        let m : i < length zs = let e = length-set ys i y in omega (arith, still_within, e) in
+        sym (take-append-drop (i + 1) zs) ∙ (λ j. take_more_set ys i y still_within j ++ (drop-set-lt (i + 1) ys i y (omega arith) ∙ next_and_rest.1) j) ∙ append_one (take i ys) y (drop (i + 1) xs)
       where
         append_one : (xs : List X) (b : X) (bs : List X) → (xs ++ b ∷ []) ++ bs ≡ xs ++ b ∷ bs
         append_one [] b bs = refl

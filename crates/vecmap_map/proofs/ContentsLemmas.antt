@@ -3,7 +3,8 @@ use Rattle.std.specs.{List.refill, Option.option_or}
 use Rattle.std.proofs.Common.{◌≡◌, ◌∙◌, ◌++◌, ◌+◌, ℕ, Bool, true, false, List, [], ◌∷◌, None, Option, Some, ap, cond, if◌then◌else◌, is_some, length, refl, slice_get, sym, true≢false, unwrap_or}
 use Rattle.std.proofs.lemmas.List.{length-append}
 use Rattle.vecmap_base.specs.Pairs.{index_by, lookup_by}
-use Rattle.vecmap_base.proofs.PairsLemmas.{AtIndices.appended_pair, AtIndices.index_stays, ByIndex.index_by_appended, ByIndex.is_some_lookup_by, Parts.lookup_by_append}
+use Rattle.vecmap_base.proofs.IndexLemmas.{slice_get_last}
+use Rattle.vecmap_base.proofs.PairsLemmas.{AtIndices.index_stays, ByIndex.index_by_appended, ByIndex.is_some_lookup_by, Parts.lookup_by_append}
 use Rattle.vecmap_map.specs.Contents.{Contents, FindsOrAppends, with_entries, with_written}
 
 -- A map whose vector of n pairs was borrowed is `m` with what was last written.
@@ -33,7 +34,7 @@ module _ {K V : Type 0} (test : K → Bool) (made : K × V → Type 0) where
         value = λ v absent only.
             ap (lookup_by test) e ∙ lookup_by_append test old.entries (p ∷ [])
             ∙ (λ t. option_or (absent t) (cond (hit t) (Some (only p did t)) None));
-        pair = λ q absent only. ap (λ l. slice_get l (length old.entries)) e ∙ appended_pair old.entries p ∙ ap (λ x. Some x) (only p did);
+        pair = λ q absent only. ap (λ l. slice_get l (length old.entries)) e ∙ slice_get_last old.entries p ∙ ap (λ x. Some x) (only p did);
         index = index_by_appended test old.entries new.entries p e miss hit ∙ ap (λ found. Some (unwrap_or found (length old.entries))) (sym miss);
         indices = λ other i at. ap (index_by other) e ∙ index_stays other old.entries p i at;
         len = ap length e ∙ length-append old.entries (p ∷ []) ∙ ap (λ b. if b then length old.entries else length old.entries + 1) (sym none);

@@ -1,10 +1,10 @@
 -- At which indices elements and queries find their match after a change, in the words of contracts.
 use Rattle.std.specs.{Cmp.IsEquivalence, List.AllByRecursion, List.IsDistinct, Map.IsKeyTest}
 use Rattle.std.specs.Prelude.{IfSome, insert}
-use Rattle.std.proofs.Common.{◌≡◌, ◌∙◌, ◌++◌, ◌<◌, ◌-◌, ◌≤◌, ℕ, suc, zero, Bool, true, false, List, [], ◌∷◌, None, Option, Some, ap, arith, cond, drop, get_or, get_or-set_other, get_or-take, inl, inr, length, length-set, option_map, position, refl, remove, set, slice_get, swap, sym, take, true≢false}
+use Rattle.std.proofs.Common.{◌≡◌, ◌∙◌, ◌++◌, ◌<◌, ◌-◌, ◌≤◌, ℕ, suc, zero, Bool, true, false, List, [], ◌∷◌, None, Option, Some, ap, arith, cond, drop, get_or, get_or-set_other, get_or-take, inl, inr, length, length-set, option_map, position, refl, remove, set, slice_get, swap, sym, take, true≢false, reverse}
 use Rattle.std.proofs.lemmas.Bool.{cases_Bool}
 use Rattle.std.proofs.lemmas.Grind.{get_or-set_at}
-use Rattle.std.proofs.lemmas.List.{length-take-le}
+use Rattle.std.proofs.lemmas.List.{length-take-le, get_or-reverse, length-reverse}
 use Rattle.std.proofs.lemmas.List.Edits.{get_or-insert_at, length-insert, length-remove}
 use Rattle.std.proofs.lemmas.List.Quantifiers.{position-Some}
 use Rattle.std.proofs.lemmas.Map.Keys.{IsDistinct-head, IsDistinct-tail}
@@ -15,6 +15,7 @@ use Rattle.vecmap_base.proofs.IndexLemmas.{position_cons}
 pub use Rattle.vecmap_base.proofs.MoveLemmas.{at_reversed}
 use Rattle.vecmap_base.proofs.ItemsLemmas.Recursion.{put_item_cons}
 use Rattle.vecmap_set.specs.Indices.{KeepsMatchIndices, KeepsMatchIndicesBelow, KeepsItemIndices, MovesItemIndex}
+use Rattle.vecmap_base.proofs.{IndexLemmas.slice_get_last, MoveLemmas.moved_item, MoveLemmas.swapped_item, MoveLemmas.swapped_item_back}
 
 module _ {T : Type 0} (test : T → Bool) where
   -- The element at the index that a query finds matches the query.
@@ -38,12 +39,12 @@ module _ {T : Type 0} (test : T → Bool) where
       position_cons test x (xs ++ ys) ∙ later (test x) (position test xs) (position test (xs ++ ys)) i (λ j h n. position_front ys xs j h) (sym (position_cons test x xs) ∙ e)
 
   -- So does one among the items that are left.
-  position_take : (n : ℕ) (s : List T) (i : ℕ) → position test s ≡ Some i → i < n → position test (take n s) ≡ Some i
-  position_take n [] i e l = absurd (none-some i e)
-  position_take zero (x ∷ xs) i e l = absurd (omega (arith, l))
-  position_take (suc n) (x ∷ xs) i e l =
+  position_stays : (n : ℕ) (s : List T) (i : ℕ) → position test s ≡ Some i → i < n → position test (take n s) ≡ Some i
+  position_stays n [] i e l = absurd (none-some i e)
+  position_stays zero (x ∷ xs) i e l = absurd (omega (arith, l))
+  position_stays (suc n) (x ∷ xs) i e l =
       position_cons test x (take n xs)
-      ∙ later (test x) (position test xs) (position test (take n xs)) i (λ j h next. position_take n xs j h (omega (arith, next, l))) (sym (position_cons test x xs) ∙ e)
+      ∙ later (test x) (position test xs) (position test (take n xs)) i (λ j h next. position_stays n xs j h (omega (arith, next, l))) (sym (position_cons test x xs) ∙ e)
 
   module _ (eq : T → T → Bool) (o : IsEquivalence eq) (respects : IsKeyTest eq test) where
     -- Equal elements match the same.
@@ -101,41 +102,16 @@ module _ {T : Type 0} (test : T → Bool) where
 -- Where an item is after an addition at the end, after a move and after a swap.
 module _ {T : Type 0} where
   pub stored_last : (s r : List T) (x : T) → r ≡ s ++ x ∷ [] → slice_get r (length s) ≡ Some x
-  stored_last s r x e = ap (λ l. slice_get l (length s)) e ∙ at_end s
-    where
-      at_end : (ys : List T) → slice_get (ys ++ x ∷ []) (length ys) ≡ Some x
-      at_end [] = refl
-      at_end (y ∷ ys) = at_end ys
+  stored_last s r x e = ap (λ l. slice_get l (length s)) e ∙ slice_get_last s x
 
   pub at_moved : (s r : List T) (i j : ℕ) → i < length s → j < length s → r ≡ moved s i j → slice_get r j ≡ slice_get s i
-  at_moved [] r i j h k e = absurd (omega (arith, h))
-  at_moved (y ∷ ys) r i j h k e =
-      let x = get_or (y ∷ ys) i y in
-      let here : slice_get (y ∷ ys) i ≡ Some x = slice_get-get_or (y ∷ ys) i y h in
-      let rest = remove (y ∷ ys) i in
-      let fits : j ≤ length rest = omega (arith, length-remove (y ∷ ys) i h, k) in
-      let there : slice_get (insert rest j x) j ≡ Some x = slice_get-get_or (insert rest j x) j x (omega (arith, length-insert rest j x fits, fits)) ∙ ap Some (get_or-insert_at rest j x x fits) in
-      ap (λ l. slice_get l j) e ∙ rw here there
-
-  -- A write at an index is found there.
-  at_set : (s : List T) (i : ℕ) (x : T) → i < length s → slice_get (set s i x) i ≡ Some x
-  at_set s i x h = slice_get-get_or (set s i x) i x (omega (arith, length-set s i x, h)) ∙ ap Some (get_or-set_at s i i x x refl h)
+  at_moved s r i j h k e = moved_item s r i j e h k
 
   pub at_swapped : (s r : List T) (i j : ℕ) → i < length s → j < length s → r ≡ swap s i j → slice_get r j ≡ slice_get s i
-  at_swapped [] r i j h k e = absurd (omega (arith, h))
-  at_swapped (y ∷ ys) r i j h k e =
-      let s = y ∷ ys in
-      ap (λ l. slice_get l j) e ∙ at_set (set s i (get_or s j y)) j (get_or s i y) (omega (arith, length-set s i (get_or s j y), k)) ∙ sym (slice_get-get_or s i y h)
+  at_swapped s r i j h k e = swapped_item s r i j e h k
 
   pub at_swapped_back : (s r : List T) (i j : ℕ) → i < length s → j < length s → r ≡ swap s i j → slice_get r i ≡ slice_get s j
-  at_swapped_back [] r i j h k e = absurd (omega (arith, h))
-  at_swapped_back (y ∷ ys) r i j h k e =
-      let s = y ∷ ys in
-      let one = set s i (get_or s j y) in
-      let both = set one j (get_or s i y) in
-      let read : get_or both i y ≡ get_or s j y = grind (arith, get_or-set_at, get_or-set_other, length-set, h, k) in
-      let within : i < length both = omega (arith, length-set s i (get_or s j y), length-set one j (get_or s i y), h) in
-      ap (λ l. slice_get l i) e ∙ slice_get-get_or both i y within ∙ ap Some read ∙ sym (slice_get-get_or s j y k)
+  at_swapped_back s r i j h k e = swapped_item_back s r i j e h k
 
   -- After a removal by swap the last item is at the index.
   pub at_swap_removed : (s r : List T) (i : ℕ) (x : T) → r ≡ swap_without s i → slice_get s i ≡ Some x → i < length s - 1 → slice_get r i ≡ slice_get s (length s - 1)
@@ -159,10 +135,10 @@ module _ {T : Type 0} (s r : List T) where
   indices_appended xs e test i h = ap (position test) e ∙ position_front test xs s i h
 
   pub indices_of_removed : (i : ℕ) → r ≡ remove s i → KeepsMatchIndicesBelow i s r
-  indices_of_removed i e test j h l = ap (position test) e ∙ position_front test (drop (suc i) s) (take i s) j (position_take test i s j h l)
+  indices_of_removed i e test j h l = ap (position test) e ∙ position_front test (drop (suc i) s) (take i s) j (position_stays test i s j h l)
 
   pub indices_of_front : (n : ℕ) → r ≡ take n s → KeepsMatchIndicesBelow n s r
-  indices_of_front n e test i h l = ap (position test) e ∙ position_take test n s i h l
+  indices_of_front n e test i h l = ap (position test) e ∙ position_stays test n s i h l
 
 module _ {T : Type 0} (eq : T → T → Bool) (o : IsEquivalence eq) (s r : List T) where
   pub indices_of_put : (x : T) → r ≡ put_item eq s x → KeepsItemIndices eq s r

@@ -10,6 +10,7 @@ use Rattle.std.proofs.lemmas.List.Folds.{list_any-append}
 use Rattle.vecmap_base.specs.{Clones.AreClones, Items.put_item, Lookups.UpdatesMember}
 use Rattle.vecmap_base.proofs.IndexLemmas.{list_any_position, position_cons}
 use Rattle.vecmap_base.proofs.ItemsLemmas.{Members.members_from, Members.members_removed, Recursion.put_item_cons}
+use Rattle.vecmap_base.proofs.IndexLemmas.{remove_last, slice_get_last}
 
 module _ {T : Type 0} (test : T → Bool) where
   -- Among the first `n` elements, one passes exactly if the first that passes is among them.
@@ -38,22 +39,12 @@ module _ {T : Type 0} (test : T → Bool) where
   matches_of_parts n s front part e f =
       sym (ap (list_any test) (take-append-drop n s)) ∙ list_any-append test (take n s) (drop n s) ∙ (λ i. list_any test (sym e i) || list_any test (sym f i))
 
--- The last item of a list, and the list without it.
-module _ {T : Type 0} (x : T) where
-  at_end : (r : List T) → slice_get (r ++ x ∷ []) (length r) ≡ Some x
-  at_end [] = refl
-  at_end (y ∷ ys) = at_end ys
-
-  without_end : (r : List T) → remove (r ++ x ∷ []) (length r) ≡ r
-  without_end [] = refl
-  without_end (y ∷ ys) = ap (λ l. y ∷ l) (without_end ys)
-
 module _ {T : Type 0} (eq : T → T → Bool) (o : IsEquivalence eq) where
   -- After the removal of the last element, nothing is equal to it, and each other element is present exactly if it was.
   pub members_popped : (s r : List T) (last : Option T) → s ≡ r ++ option_to_list last → IsDistinct eq s → IfSome last (λ x. UpdatesMember eq (eq x) s r false)
   members_popped s r None e d = tt
   members_popped s r (Some x) e d =
-      members_removed eq o s r (length r) x (sym (ap (λ l. remove l (length r)) e ∙ without_end x r)) (ap (λ l. slice_get l (length r)) e ∙ at_end x r) d
+      members_removed eq o s r (length r) x (sym (ap (λ l. remove l (length r)) e ∙ remove_last r x)) (ap (λ l. slice_get l (length r)) e ∙ slice_get_last r x) d
 
   stored : (s : List T) (x : T) → list_any (eq x) (put_item eq s x) ≡ true
   stored [] x = ap (λ b. b || false) (o.refl x)

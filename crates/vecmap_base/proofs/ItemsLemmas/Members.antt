@@ -42,7 +42,7 @@ module _ {T : Type 0} (eq : T → T → Bool) (o : IsEquivalence eq) where
         }
 
     -- The removal of an element that passes, wherever the other elements go.
-    members_taken : (s r : List T) (x : T) → IsDistinct eq s → test x ≡ true → IsPermutation s (x ∷ r) → UpdatesMember eq test s r false
+    pub members_taken : (s r : List T) (x : T) → IsDistinct eq s → test x ≡ true → IsPermutation s (x ∷ r) → UpdatesMember eq test s r false
     members_taken s r x d h moved =
         members_from s r false
         (ap (λ f. list_any f r) (compares_with eq o test respects x h) ∙ none_equal eq x r (IsDistinct-head eq x r (distinct_rearranged eq o s (x ∷ r) moved d)))
@@ -98,8 +98,8 @@ module _ {T : Type 0} (eq : T → T → Bool) (o : IsEquivalence eq) where
       (members_taken (eq x) (o.congr x) s (remove s i) x d (o.refl x) (IsPermutation-remove s i x (slice_get_within s i x at) (sym (get_or_from_slice_get s i x x at))))
 
   -- The same, if the last element moves to the index.
-  pub members_swapped : (s r : List T) (i : ℕ) (x : T) → r ≡ swap_without s i → slice_get s i ≡ Some x → IsDistinct eq s → UpdatesMember eq (eq x) s r false
-  members_swapped s r i x e at d =
+  pub members_swap_removed : (s r : List T) (i : ℕ) (x : T) → r ≡ swap_without s i → slice_get s i ≡ Some x → IsDistinct eq s → UpdatesMember eq (eq x) s r false
+  members_swap_removed s r i x e at d =
       subst (λ l. UpdatesMember eq (eq x) s l false) (sym (e ∙ ap (λ f. option_map_or (λ y. swap_remove s i y) f s) at))
       (members_taken (eq x) (o.congr x) s (swap_remove s i x) x d (o.refl x) (IsPermutation-swap_remove s i x (slice_get_within s i x at) (sym (get_or_from_slice_get s i x x at))))
 

@@ -13,12 +13,8 @@ use Rattle.vecmap_base.proofs.PairsLemmas.ByIndex.{index_by_none, is_some_lookup
 use Rattle.vecmap_base.proofs.PairsLemmas.Distinct.{distinct_keys_rearranged}
 use Rattle.vecmap_base.proofs.PairsLemmas.Indices.{is_some_index_of}
 use Rattle.vecmap_base.proofs.PairsLemmas.Keys.{keys_of_put}
+use Rattle.vecmap_base.proofs.IndexLemmas.{slice_get_last}
 use Rattle.vecmap_base.proofs.PairsLemmas.Puts.{put_absent, put_stored}
-
--- The item that was appended.
-pub appended_pair : {X : Type 0} (l : List X) (x : X) → slice_get (l ++ x ∷ []) (length l) ≡ Some x
-appended_pair [] x = refl
-appended_pair (y ∷ ys) x = appended_pair ys x
 
 -- Without the item at an index: the items before it stay, and so do the results of a function of each other item.
 front_removed : {X : Type 0} (l : List X) (i j : ℕ) → j < i → slice_get (remove l i) j ≡ slice_get l j
@@ -207,6 +203,15 @@ module _ {K V : Type 0} (eq : K → K → Bool) where
       by true = length-map l (λ p. p.0)
       by false = length-append (keys_of l) (k ∷ []) ∙ ap (λ n. n + 1) (length-map l (λ p. p.0))
 
+  -- An insertion that replaces an equal key leaves as many pairs as one that keeps it.
+  pub length_put_key : (l : List (K × V)) (k : K) (v : V) → length (put_key eq l k v) ≡ length (put eq l k v)
+  length_put_key [] k v = refl
+  length_put_key (p ∷ ps) k v = by (eq k p.0) (length_put_key ps k v)
+    where
+      by : (b : Bool) → length (put_key eq ps k v) ≡ length (put eq ps k v) → length (if b then (k, v) ∷ ps else p ∷ put_key eq ps k v) ≡ length (if b then (p.0, v) ∷ ps else p ∷ put eq ps k v)
+      by true rest = refl
+      by false rest = ap suc rest
+
   module _ (o : IsEquivalence eq) where
     index_put : (l : List (K × V)) (k : K) (v : V) → index_of eq (put eq l k v) k ≡ Some (index_or_length eq l k)
     index_put [] k v = ap (λ b. if b then Some 0 else None) (o.refl k)
@@ -240,7 +245,7 @@ module _ {K V : Type 0} (eq : K → K → Bool) where
       kept = kept_keys l k v;
       appended = λ absent. put_absent eq l k v (index_by_none (eq k) l absent);
       last = λ absent. index_put l k v ∙ ap (λ found. Some (unwrap_or found (length l))) (index_by_none (eq k) l absent);
-      pair = λ absent. ap (λ n. slice_get n (length l)) (put_absent eq l k v (index_by_none (eq k) l absent)) ∙ appended_pair l (k, v);
+      pair = λ absent. ap (λ n. slice_get n (length l)) (put_absent eq l k v (index_by_none (eq k) l absent)) ∙ slice_get_last l (k, v);
       stay = λ some test. same_indices test l (put eq l k v) (kept_keys l k v some);
       same = λ w. put_same l k v w;
     })
@@ -263,14 +268,6 @@ module _ {K V : Type 0} (eq : K → K → Bool) where
         by true rest = refl
         by false rest = ap (slice_get (p ∷ put_key eq ps k v)) (sym (suc_unwrapped (index_of eq ps k) (length ps))) ∙ rest
 
-    length_put_key : (l : List (K × V)) (k : K) (v : V) → length (put_key eq l k v) ≡ length (put eq l k v)
-    length_put_key [] k v = refl
-    length_put_key (p ∷ ps) k v = by (eq k p.0) (length_put_key ps k v)
-      where
-        by : (b : Bool) → length (put_key eq ps k v) ≡ length (put eq ps k v) → length (if b then (k, v) ∷ ps else p ∷ put_key eq ps k v) ≡ length (if b then (p.0, v) ∷ ps else p ∷ put eq ps k v)
-        by true rest = refl
-        by false rest = ap suc rest
-
     -- If only `k` itself is equal to it, the keys are those of an insertion that keeps it.
     keys_put_key : (l : List (K × V)) (k : K) (v : V) → ((q : K) → eq k q ≡ true → q ≡ k) → keys_of (put_key eq l k v) ≡ keys_of (put eq l k v)
     keys_put_key [] k v own = refl
@@ -291,7 +288,7 @@ module _ {K V : Type 0} (eq : K → K → Bool) where
       pair = pair_put_key l k v;
       len = length_put_key l k v ∙ length_put l k v;
       appended = appended_key l k v;
-      last = λ absent. ap (λ n. slice_get n (length l)) (appended_key l k v absent) ∙ appended_pair l (k, v);
+      last = λ absent. ap (λ n. slice_get n (length l)) (appended_key l k v absent) ∙ slice_get_last l (k, v);
       keys = λ own. keys_put_key l k v own ∙ keys_put l k v;
     })
 

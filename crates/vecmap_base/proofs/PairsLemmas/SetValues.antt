@@ -6,9 +6,9 @@ use Rattle.vecmap_base.specs.{Indices.KeepsIndices, Lookups.SetsValues, Pairs.lo
 use Rattle.vecmap_base.proofs.PairsLemmas.AtIndices.{keeps_indices}
 use Rattle.vecmap_base.proofs.PairsLemmas.Indices.{lookup_by_map_values}
 
-found_there : {V W : Type 0} (w : W) (found : Option V) → IsSome found → option_map (λ _. w) found ≡ Some w
-found_there w None some = absurd (true≢false (sym some))
-found_there w (Some v) some = refl
+set_if_found : {V W : Type 0} (w : W) (found : Option V) → IsSome found → option_map (λ _. w) found ≡ Some w
+set_if_found w None some = absurd (true≢false (sym some))
+set_if_found w (Some v) some = refl
 
 module _ {K V W : Type 0} (w : W) where
   keys_stay : (l : List (K × V)) → keys_of (map_values (λ _. w) l) ≡ keys_of l
@@ -21,7 +21,7 @@ module _ {K V W : Type 0} (w : W) where
 
   module _ (l : List (K × V)) (m : List (K × W)) (e : m ≡ map_values (λ _. w) l) where
     pub set_found : (test : K → Bool) → IsSome (lookup_by test l) → lookup_by test m ≡ Some w
-    set_found test some = ap (lookup_by test) e ∙ lookup_by_map_values (λ _. w) test l ∙ found_there w (lookup_by test l) some
+    set_found test some = ap (lookup_by test) e ∙ lookup_by_map_values (λ _. w) test l ∙ set_if_found w (lookup_by test l) some
 
     pub values_set : All (λ x. x ≡ w) (values_of m)
     values_set = subst (λ n. All (λ x. x ≡ w) (values_of n)) (sym e) (all_set l)

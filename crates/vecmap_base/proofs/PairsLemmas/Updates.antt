@@ -20,7 +20,7 @@ use Rattle.vecmap_base.proofs.PairsLemmas.Puts.{put_absent}
 use Rattle.vecmap_base.proofs.PairsLemmas.Order.{lookup_by_rearranged, pair_of_value}
 
 module _ {K V : Type 0} (eq : K → K → Bool) (o : IsEquivalence eq) (test : K → Bool) (respects : IsKeyTest eq test) where
-  -- The four facts on lookups from two: what the query finds, and that other queries find the same.
+  -- The record from three of its facts: what the query finds, that other queries find the same, and distinct keys.
   updates_from : (l m : List (K × V)) (w : Option V) → lookup_by test m ≡ w → ((other : K → Bool) → IsKeyTest eq other → AreApart test other → lookup_by other m ≡ lookup_by other l)
       → (HasDistinctKeys eq l → HasDistinctKeys eq m) → UpdatesBy eq test l m w
   unfolding KeepsOthers
@@ -49,7 +49,7 @@ module _ {K V : Type 0} (eq : K → K → Bool) (o : IsEquivalence eq) (test : K
       (λ e. IsDistinct-tail eq p.0 _ all)
 
   -- Whichever pair is removed, and wherever the other pairs go, a query that matches its key finds nothing.
-  lookup_by_taken : (l s : List (K × V)) (p : K × V) → HasDistinctKeys eq l → IsPermutation l (p ∷ s) → lookup_by test s ≡ cond (test p.0) None (lookup_by test l)
+  pub lookup_by_taken : (l s : List (K × V)) (p : K × V) → HasDistinctKeys eq l → IsPermutation l (p ∷ s) → lookup_by test s ≡ cond (test p.0) None (lookup_by test l)
   lookup_by_taken l s p d moved =
       elim (cases_Bool (test p.0)) [
         | inl h ↦ (updates_taken l s p d h moved).own ∙ sym (ap (λ b. cond b None (lookup_by test l)) h)
@@ -64,8 +64,8 @@ module _ {K V : Type 0} (eq : K → K → Bool) (o : IsEquivalence eq) (test : K
       ap (lookup_by test) e ∙ lookup_by_taken l (remove l i) p d (IsPermutation-remove l i p (slice_get_within l i p at) (sym (get_or_from_slice_get l i p p at)))
 
   -- The same, if the last pair moves to the index.
-  pub lookup_by_swapped : (l m : List (K × V)) (i : ℕ) (p : K × V) → m ≡ swap_without l i → slice_get l i ≡ Some p → HasDistinctKeys eq l → lookup_by test m ≡ cond (test p.0) None (lookup_by test l)
-  lookup_by_swapped l m i p e at d =
+  pub lookup_by_swap_removed : (l m : List (K × V)) (i : ℕ) (p : K × V) → m ≡ swap_without l i → slice_get l i ≡ Some p → HasDistinctKeys eq l → lookup_by test m ≡ cond (test p.0) None (lookup_by test l)
+  lookup_by_swap_removed l m i p e at d =
       ap (lookup_by test) (e ∙ ap (λ f. option_map_or (λ q. swap_remove l i q) f l) at)
       ∙ lookup_by_taken l (swap_remove l i p) p d (IsPermutation-swap_remove l i p (slice_get_within l i p at) (sym (get_or_from_slice_get l i p p at)))
 
@@ -77,8 +77,8 @@ module _ {K V : Type 0} (eq : K → K → Bool) (o : IsEquivalence eq) (test : K
   lookup_by_gone l m i p e at d found = lookup_by_removed l m i p e at d ∙ ap (λ b. cond b None (lookup_by test l)) (passes l i p found at)
 
   -- The same, if the last pair moves to the index.
-  pub lookup_by_swapped_out : (l m : List (K × V)) (i : ℕ) (p : K × V) → m ≡ swap_without l i → slice_get l i ≡ Some p → HasDistinctKeys eq l → index_by test l ≡ Some i → lookup_by test m ≡ None
-  lookup_by_swapped_out l m i p e at d found = lookup_by_swapped l m i p e at d ∙ ap (λ b. cond b None (lookup_by test l)) (passes l i p found at)
+  pub lookup_by_swap_removed_out : (l m : List (K × V)) (i : ℕ) (p : K × V) → m ≡ swap_without l i → slice_get l i ≡ Some p → HasDistinctKeys eq l → index_by test l ≡ Some i → lookup_by test m ≡ None
+  lookup_by_swap_removed_out l m i p e at d found = lookup_by_swap_removed l m i p e at d ∙ ap (λ b. cond b None (lookup_by test l)) (passes l i p found at)
 
   -- If nothing passes, nothing is removed.
   updates_nothing : (l : List (K × V)) → index_by test l ≡ None → UpdatesBy eq test l l None
@@ -181,9 +181,9 @@ module _ {K V : Type 0} (eq : K → K → Bool) (o : IsEquivalence eq) where
   }
 
   -- An insertion that takes the new key finds the same as one that keeps the old key.
-  lookup_by_put_key : (test : K → Bool) → IsKeyTest eq test → (l : List (K × V)) (k : K) (v : V) → lookup_by test (put_key eq l k v) ≡ lookup_by test (put eq l k v)
-  lookup_by_put_key test respects [] k v = refl
-  lookup_by_put_key test respects (p ∷ ps) k v =
+  pub put_key_finds_as_put : (test : K → Bool) → IsKeyTest eq test → (l : List (K × V)) (k : K) (v : V) → lookup_by test (put_key eq l k v) ≡ lookup_by test (put eq l k v)
+  put_key_finds_as_put test respects [] k v = refl
+  put_key_finds_as_put test respects (p ∷ ps) k v =
       elim (cases_Bool (eq k p.0)) [
         | inl e ↦
             ap (λ b. lookup_by test (cond b ((k, v) ∷ ps) (p ∷ put_key eq ps k v))) e
@@ -191,11 +191,12 @@ module _ {K V : Type 0} (eq : K → K → Bool) (o : IsEquivalence eq) where
             ∙ sym (ap (λ b. lookup_by test (cond b ((p.0, v) ∷ ps) (p ∷ put eq ps k v))) e)
         | inr e ↦
             ap (λ b. lookup_by test (cond b ((k, v) ∷ ps) (p ∷ put_key eq ps k v))) e
-            ∙ ap (λ r. cond (test p.0) (Some p.1) r) (lookup_by_put_key test respects ps k v)
+            ∙ ap (λ r. cond (test p.0) (Some p.1) r) (put_key_finds_as_put test respects ps k v)
             ∙ sym (ap (λ b. lookup_by test (cond b ((p.0, v) ∷ ps) (p ∷ put eq ps k v))) e)
       ]
 
-  distinct_put_key : (l : List (K × V)) (k : K) (v : V) → HasDistinctKeys eq l → HasDistinctKeys eq (put_key eq l k v)
+  -- The keys stay distinct after such an insertion.
+  pub distinct_put_key : (l : List (K × V)) (k : K) (v : V) → HasDistinctKeys eq l → HasDistinctKeys eq (put_key eq l k v)
   distinct_put_key l k v d = subst (HasDistinctKeys eq) (sym (put_key_by_index eq l k v)) (by (index_of eq l k) refl)
     where
       by : (found : Option ℕ) → index_of eq l k ≡ found → HasDistinctKeys eq (option_map_or (λ i. with_pair l i k v) found (l ++ (k, v) ∷ []))
@@ -213,8 +214,8 @@ module _ {K V : Type 0} (eq : K → K → Bool) (o : IsEquivalence eq) where
   updates_put_key l m k v e =
       let u = updates_put eq o l k v in
       subst (λ n. UpdatesBy eq (eq k) l n (Some v)) (sym e)
-      (updates_from eq o (eq k) (o.congr k) l (put_key eq l k v) (Some v) (lookup_by_put_key (eq k) (o.congr k) l k v ∙ u.own)
-      (λ other tells apart. lookup_by_put_key other tells l k v ∙ u.queries other tells apart) (distinct_put_key l k v))
+      (updates_from eq o (eq k) (o.congr k) l (put_key eq l k v) (Some v) (put_key_finds_as_put (eq k) (o.congr k) l k v ∙ u.own)
+      (λ other tells apart. put_key_finds_as_put other tells l k v ∙ u.queries other tells apart) (distinct_put_key l k v))
 
   -- After an insertion at an index into a list of distinct keys, the key has the value, and each other key has what it had.
   pub updates_put_at : (l m : List (K × V)) (i : ℕ) (k : K) (v : V) → m ≡ put_at eq l i k v → HasDistinctKeys eq l → UpdatesBy eq (eq k) l m (Some v)

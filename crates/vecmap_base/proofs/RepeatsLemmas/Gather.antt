@@ -1,10 +1,11 @@
 -- The steps of a gathering: two elements, or the values of two pairs, are swapped.
 use Rattle.std.specs.{List.SwappedAt, Map.keys_of, Map.values_of}
-use Rattle.std.proofs.Common.{◌≡◌, ℕ, ◌+◌, ◌-◌, ◌<◌, ◌≤◌, zero, suc, Bool, Some, List, [], ◌∷◌, ◌++◌, drop, length, swap, take, refl, set, get_or, sym, ap, ◌∙◌, arith}
+use Rattle.std.proofs.Common.{◌≡◌, ℕ, ◌+◌, ◌-◌, ◌<◌, ◌≤◌, Bool, Some, List, [], ◌∷◌, ◌++◌, drop, length, swap, take, set, get_or, sym, ap, ◌∙◌, arith}
 use Rattle.std.proofs.Math.Seq.{take-set-lt}
 use Rattle.std.proofs.lemmas.List.{drop-map, get_or-map, map-append, map-set, take-map, length-append, take_more, take-set-le, drop-set-lt, drop_more, length-set, set-append_left, set-append_right, get_or_append_left, get_or-append_right}
 use Rattle.std.proofs.lemmas.{List.Edits.swap_is, Map.Entries.length-values_of}
 use Rattle.vecmap_base.specs.Pairs.{index_of, put, with_value}
+use Rattle.vecmap_base.proofs.LoopLemmas.{key_stays}
 use Rattle.vecmap_base.proofs.PairsLemmas.{Puts.put_present, Values.keys_of_with_value, Values.same_pairs, Values.values_of_with_value}
 
 module _ {X : Type 0} where
@@ -47,11 +48,6 @@ module _ {X : Type 0} where
       (cc, cc)
 
 module _ {K V : Type 0} where
-  key_stays : (l : List (K × V)) (i : ℕ) (p : K × V) (v : V) → keys_of (set l i ((get_or l i p).0, v)) ≡ keys_of l
-  key_stays [] i p v = refl
-  key_stays (q ∷ qs) zero p v = refl
-  key_stays (q ∷ qs) (suc i) p v = ap (λ ks. q.0 ∷ ks) (key_stays qs i p v)
-
   -- The value at `i` in the front and the value at 0 in the back are swapped.
   module _ (front back : List (K × V)) (i : ℕ) (p q : K × V) (v w : V) where
     pub keys_of_swapped : keys_of (set front i ((get_or front i p).0, v) ++ set back 0 ((get_or back 0 q).0, w)) ≡ keys_of (front ++ back)

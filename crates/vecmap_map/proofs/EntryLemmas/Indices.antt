@@ -5,6 +5,7 @@ use Rattle.std.proofs.lemmas.List.{get_or-set_other, get_or_default, length-appe
 use Rattle.std.specs.List.{swap_remove}
 use Rattle.std.specs.Option.{option_map_or}
 use Rattle.vecmap_base.specs.Items.{swap_without}
+pub use Rattle.vecmap_base.proofs.IndexLemmas.{remove_last, slice_get_last}
 
 module _ {X : Type 0} where
   pub item_there : (l : List X) (i : ℕ) → i < length l → (x : X) × (slice_get l i ≡ Some x)
@@ -39,17 +40,9 @@ module _ {X : Type 0} where
       ap (λ o. option_map_or (λ z. swap_remove (set l i x) i z) o (set l i x)) (slice_get_set l i x h) ∙ swap_remove-set l i x there.0 h
       ∙ sym (ap (λ o. option_map_or (λ z. swap_remove l i z) o l) there.1)
 
-  pub slice_get_last : (l : List X) (x : X) → slice_get (l ++ x ∷ []) (length l) ≡ Some x
-  slice_get_last [] x = refl
-  slice_get_last (y ∷ l) x = slice_get_last l x
-
   pub set_last : (l : List X) (x y : X) → set (l ++ x ∷ []) (length l) y ≡ l ++ y ∷ []
   set_last [] x y = refl
   set_last (z ∷ l) x y = ap (λ m. z ∷ m) (set_last l x y)
-
-  pub remove_last : (l : List X) (x : X) → remove (l ++ x ∷ []) (length l) ≡ l
-  remove_last [] x = refl
-  remove_last (y ∷ l) x = ap (λ m. y ∷ m) (remove_last l x)
 
   pub swap_without_last : (l : List X) (x : X) → swap_without (l ++ x ∷ []) (length l) ≡ l
   swap_without_last l x =

@@ -11,7 +11,7 @@ use Rattle.vecmap_map.specs.declared.entry.Entry.TheVariants.{Occupied, Vacant}
 use Rattle.vecmap_map.specs.declared.entry.occupied.OccupiedEntry.{OccupiedEntry}
 use Rattle.vecmap_map.specs.declared.entry.vacant.VacantEntry.{VacantEntry}
 use Rattle.vecmap_map.proofs.EntryLemmas.Indices.{remove_last, swap_without_last}
-use Rattle.vecmap_map.proofs.EntryLemmas.Written.{remove_written, swap_without_written, value_last, value_written, with_value_last, with_value_twice}
+use Rattle.vecmap_map.proofs.EntryLemmas.Written.{remove_written, swap_without_written, value_last, value_at_written, with_value_last, with_value_twice}
 
 module _ {K V : Type 0} (o : OccupiedEntry K V) (v : V) where
   -- Two entries are equal if their maps are.
@@ -33,7 +33,7 @@ module _ {K V : Type 0} (is_clone : K → K → Type 0) where
     same_map = refl;
     key = refl;
     index = refl;
-    value = value_written o.map.now.entries o.index o.within v;
+    value = value_at_written o.map.now.entries o.index o.within v;
     entries = refl;
     capacity = record { capacity = le_refl _; present = λ _. refl; spare = λ _. refl };
     write = with_value_twice o.map.now.entries o.index o.within v;

@@ -26,8 +26,8 @@ module _ {K V : Type 0} (l : List (K × V)) (i : ℕ) (h : i < length l) where
   slice_get_written : (v : V) → slice_get (with_value l i v) i ≡ Some (there.0.0, v)
   slice_get_written v = ap (λ m. slice_get m i) (written v) ∙ slice_get_set l i (there.0.0, v) h
 
-  pub value_written : (v : V) → value_at (with_value l i v) i ≡ Some v
-  value_written v = ap (option_map (λ q. q.1)) (slice_get_written v)
+  pub value_at_written : (v : V) → value_at (with_value l i v) i ≡ Some v
+  value_at_written v = ap (option_map (λ q. q.1)) (slice_get_written v)
 
   pub with_value_twice : (v w : V) → with_value (with_value l i v) i w ≡ with_value l i w
   with_value_twice v w =

@@ -2,7 +2,7 @@ use Rattle.std.proofs.Common.{◌≡◌, ◌-◌, arith, length, rules}
 use Rattle.std.proofs.lemmas.Option.{gets}
 use Rattle.vecmap_base.specs.Items.{swap_without}
 use Rattle.vecmap_base.proofs.DistinctLemmas.Order.{distinct_swap_without}
-use Rattle.vecmap_base.proofs.ItemsLemmas.Members.{members_swapped}
+use Rattle.vecmap_base.proofs.ItemsLemmas.Members.{members_swap_removed}
 use Rattle.vecmap_set.proofs.IndexLemmas.{at_swap_removed, index_moved}
 use Rattle.vecmap_set.proofs.QueryLemmas.{any_swap_removed}
 use Rattle.vecmap_set.proofs.VecSet.swap_remove_index.Goals as goal
@@ -16,7 +16,7 @@ pub returns-clause-distinct : goal.returns-clause-distinct
 returns-clause-distinct g c = invariant_of-self g c
 
 pub returns-clause-updates : goal.returns-clause-updates
-returns-clause-updates g c = members_swapped _ g.met.T.Eq.laws c.args.self.now.elements _ c.args.index _ (grind (arith, gets)) (grind (arith, gets)) (search rules)
+returns-clause-updates g c = members_swap_removed _ g.met.T.Eq.laws c.args.self.now.elements _ c.args.index _ (grind (arith, gets)) (grind (arith, gets)) (search rules)
 
 pub returns-clause-any : goal.returns-clause-any
 returns-clause-any g c = any_swap_removed c.args.self.now.elements _ c.args.index _ (grind (arith, gets)) (grind (arith, gets))

@@ -1,4 +1,4 @@
-use Rattle.vecmap_base.proofs.{DistinctLemmas.Order.distinct_rearranged, DrainLemmas.moved_rearranged}
+use Rattle.vecmap_base.proofs.{DistinctLemmas.Order.distinct_rearranged, DrainLemmas.drained_rearranged}
 use Rattle.vecmap_base.proofs.DrainRuns.{drains_in_order, drains_in_reverse}
 use Rattle.vecmap_set.specs.Drain.{DrainKeeps, drain_rest}
 use Rattle.vecmap_set.proofs.drain.Drain.over.Goals as goal
@@ -17,5 +17,5 @@ returns-clause-runs_back g c = drains_in_reverse drain_rest DrainKeeps
 
 pub invariant_of-set : goal.invariant_of-set
 invariant_of-set g c =
-    let moved = moved_rearranged c.set.inside.items.items c.args.start c.args.end c.requires.within.0 in
+    let moved = drained_rearranged c.set.inside.items.items c.args.start c.args.end c.requires.within.0 in
     rw c.move_range_last-keep.ensures.items (distinct_rearranged _ g.met.T.Eq.laws _ _ moved c.set.invariant)
