@@ -1,5 +1,5 @@
 -- What is found, and at which index, after one insertion and after many.
-pub use Rattle.vecmap_base.proofs.PairsLemmas.AtIndices.{index_of_put_key}
+pub use Rattle.vecmap_base.proofs.PairsLemmas.AtIndices.{index_of_put_key, length_put_key}
 use Rattle.std.specs.{Cmp.IsEquivalence, List.list_any, Map.keys_of, Map.values_of, Option.option_and_then, Option.option_map, Option.option_map_or, Option.option_or}
 use Rattle.std.proofs.Common.{◌≡◌, ◌<◌, ◌+◌, ℕ, zero, Bool, position, true, false, List, [], ◌∷◌, ◌++◌, Option, None, Some, if◌then◌else◌, is_some, length, slice_get, suc, unwrap_or, refl, sym, ap, ◌∙◌, arith, length-append, inl, inr}
 use Rattle.std.proofs.lemmas.{Bool.cases_Bool, List.length-map, Map.Made.is_some-lookup, Option.slice_get-map}
@@ -13,9 +13,9 @@ use Rattle.vecmap_laws.proofs.ItemIndices.{item_index_add, item_index_congr, ite
 use Rattle.vecmap_laws.proofs.ItemRemovals.{without_item_absent}
 use Rattle.vecmap_laws.proofs.Keys.{keys_of_without_key}
 use Rattle.vecmap_laws.proofs.Lookups.{look}
-use Rattle.vecmap_laws.proofs.Recursion.{lookup_cons}
 use Rattle.vecmap_laws.proofs.Values.{length_with_value}
 use Rattle.vecmap_base.proofs.PairsLemmas.Parts.{joins_puts}
+use Rattle.vecmap_base.proofs.PairsLemmas.Updates.{put_key_finds_as_put}
 
 pub option_or_none : {X : Type 0} (a : Option X) → option_or a None ≡ a
 option_or_none None = refl
@@ -51,14 +51,6 @@ module _ {K V : Type 0} (eq : K → K → Bool) where
       by : (found : Option ℕ) → length (option_map_or (λ i. with_value l i v) found (l ++ (k, v) ∷ [])) ≡ (if is_some found then length l else length l + 1)
       by None = length-append l ((k, v) ∷ [])
       by (Some i) = length_with_value l i v
-
-  pub length_put_key : (l : List (K × V)) (k : K) (v : V) → length (put_key eq l k v) ≡ length (put eq l k v)
-  length_put_key [] k v = refl
-  length_put_key (p ∷ ps) k v = by (eq k p.0) (length_put_key ps k v)
-    where
-      by : (b : Bool) → length (put_key eq ps k v) ≡ length (put eq ps k v) → length (if b then (k, v) ∷ ps else p ∷ put_key eq ps k v) ≡ length (if b then (p.0, v) ∷ ps else p ∷ put eq ps k v)
-      by true e = refl
-      by false e = ap suc e
 
   -- An insertion that stores the new key leaves the values that one leaves that keeps the old key.
   pub values_of_put_key : (l : List (K × V)) (k : K) (v : V) → values_of (put_key eq l k v) ≡ values_of (put eq l k v)
@@ -124,12 +116,7 @@ module _ {K V : Type 0} (eq : K → K → Bool) where
 
     -- A lookup after an insertion that stores the new key too finds the same value as after one that does not.
     pub lookup_put_key : (l : List (K × V)) (k : K) (v : V) (q : K) → lookup eq (put_key eq l k v) q ≡ lookup eq (put eq l k v) q
-    lookup_put_key [] k v q = refl
-    lookup_put_key (p ∷ ps) k v q =
-        elim (cases_Bool (eq k p.0)) [
-          | inl e ↦ (λ t. lookup eq (if e t then (k, v) ∷ ps else p ∷ put_key eq ps k v) q) ∙ lookup_cons eq (k, v) ps q ∙ ap (λ b. if b then Some v else lookup eq ps q) (o.symm q k ∙ o.congr k p.0 q e ∙ o.symm p.0 q) ∙ sym (lookup_cons eq (p.0, v) ps q) ∙ sym (λ t. lookup eq (if e t then (p.0, v) ∷ ps else p ∷ put eq ps k v) q)
-          | inr e ↦ (λ t. lookup eq (if e t then (k, v) ∷ ps else p ∷ put_key eq ps k v) q) ∙ lookup_cons eq p (put_key eq ps k v) q ∙ ap (λ found. if eq q p.0 then Some p.1 else found) (lookup_put_key ps k v q) ∙ sym (lookup_cons eq p (put eq ps k v) q) ∙ sym (λ t. lookup eq (if e t then (p.0, v) ∷ ps else p ∷ put eq ps k v) q)
-        ]
+    lookup_put_key l k v q = put_key_finds_as_put eq o (eq q) (o.congr q) l k v
 
     -- The lookup of any key after a removal from a list of distinct keys.
     pub lookup_without_any : (l : List (K × V)) (k q : K) → HasDistinctKeys eq l → lookup eq (without_key eq l k) q ≡ (if eq k q then None else lookup eq l q)

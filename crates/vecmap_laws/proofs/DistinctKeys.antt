@@ -4,17 +4,18 @@ use Rattle.std.specs.{Cmp.IsEquivalence, List.IsDistinct, Map.keys_of, Option.op
 use Rattle.std.proofs.Common.{◌≡◌, ℕ, ◌-◌, Bool, false, List, Option, None, Some, insert, is_some, length, min, remove, take, refl, sym, ap, subst, ◌∙◌}
 use Rattle.std.proofs.lemmas.{List.take-map}
 use Rattle.vecmap_base.specs.{Items.without_item}
-use Rattle.vecmap_base.specs.Pairs.{HasDistinctKeys, index_of, put_at, put_key, puts, swap_without_key, with_value}
+use Rattle.vecmap_base.specs.Pairs.{HasDistinctKeys, index_of, put_at, puts, swap_without_key, with_value}
 use Rattle.vecmap_base.proofs.PairsLemmas.Keys.{index_of_is}
 use Rattle.vecmap_base.proofs.PairsLemmas.{Values.keys_of_with_value}
 use Rattle.vecmap_base.proofs.IndexLemmas.{is_some_position}
 use Rattle.vecmap_base.proofs.DistinctLemmas.Removals.{distinct_remove, distinct_take}
-use Rattle.vecmap_laws.proofs.DistinctAdditions.{distinct_insert, distinct_put_item}
+use Rattle.vecmap_laws.proofs.DistinctAdditions.{distinct_insert}
 use Rattle.vecmap_laws.proofs.ItemRemovals.{without_item_absent}
-use Rattle.vecmap_laws.proofs.Keys.{keys_of_insert, keys_of_put_key, keys_of_remove}
+use Rattle.vecmap_laws.proofs.Keys.{keys_of_insert, keys_of_remove}
 use Rattle.vecmap_laws.proofs.Puts.{put_at_absent, put_at_present}
 pub use Rattle.vecmap_base.proofs.PairsLemmas.Distinct.{distinct_keys_rearranged, distinct_keys_remove, distinct_keys_swap_without, distinct_keys_swap_without_by, distinct_keys_without, distinct_put}
 use Rattle.vecmap_base.proofs.PairsLemmas.Parts.{joins_puts}
+pub use Rattle.vecmap_base.proofs.PairsLemmas.Updates.{distinct_put_key}
 
 module _ {K V : Type 0} (eq : K → K → Bool) where
   pub distinct_keys_with_value : (l : List (K × V)) (i : ℕ) (v : V) → HasDistinctKeys eq l → HasDistinctKeys eq (with_value l i v)
@@ -29,9 +30,6 @@ module _ {K V : Type 0} (eq : K → K → Bool) where
 
     pub distinct_puts : (l ps : List (K × V)) → HasDistinctKeys eq l → HasDistinctKeys eq (puts eq l ps)
     distinct_puts l ps = (joins_puts eq o l ps).distinct
-
-    pub distinct_put_key : (l : List (K × V)) (k : K) (v : V) → HasDistinctKeys eq l → HasDistinctKeys eq (put_key eq l k v)
-    distinct_put_key l k v d = subst (IsDistinct eq) (sym (keys_of_put_key eq l k v)) (distinct_put_item eq o (keys_of l) k d)
 
     pub distinct_put_at : (l : List (K × V)) (i : ℕ) (k : K) (v : V) → HasDistinctKeys eq l → HasDistinctKeys eq (put_at eq l i k v)
     distinct_put_at l i k v d = by (index_of eq l k) refl

@@ -9,6 +9,7 @@ use Rattle.vecmap_laws.proofs.DistinctKeys.{distinct_put, distinct_puts}
 use Rattle.vecmap_laws.proofs.MapEquality.{equal_where_lookups_agree}
 use Rattle.vecmap_base.specs.Equality.{has_same_counts}
 use Rattle.vecmap_laws.proofs.Recursion.{lookup_cons, put_cons, without_key_cons}
+pub use Rattle.vecmap_base.proofs.PairsLemmas.Puts.{length_puts_at_most as length_puts_most}
 
 module _ {K V : Type 0} (eq : K → K → Bool) where
   module _ (o : IsEquivalence eq) where
@@ -39,10 +40,6 @@ module _ {K V : Type 0} (eq : K → K → Bool) where
   pub length_puts_least : (l ps : List (K × V)) → length l ≤ length (puts eq l ps)
   length_puts_least l [] = omega arith
   length_puts_least l (p ∷ ps) = grind (arith, length_puts_least (put eq l p.0 p.1) ps, length_put eq l p.0 p.1)
-
-  pub length_puts_most : (l ps : List (K × V)) → length (puts eq l ps) ≤ length l + length ps
-  length_puts_most l [] = omega arith
-  length_puts_most l (p ∷ ps) = grind (arith, length_puts_most (put eq l p.0 p.1) ps, length_put eq l p.0 p.1)
 
 module _ {K V : Type 0} (eq : K → K → Bool) (g : V → ℕ) where
   -- The sum of `g` of the values after an insertion, in which the old value of the key is replaced.

@@ -1,5 +1,5 @@
 -- Insertions at an index, removals by index, and a pair that is removed and then inserted again.
-use Rattle.std.proofs.Common.{◌-◌, insert, remove, slice_get, slice_set, ◌≡◌, ◌<◌, ℕ, Bool, true, false, List, [], ◌∷◌, None, Option, Some, ap, arith, if◌then◌else◌, is_some, length, refl, suc, sym, true≢false, zero, ◌∙◌}
+use Rattle.std.proofs.Common.{◌-◌, insert, remove, slice_get, slice_set, ◌≡◌, ◌<◌, ℕ, Bool, true, false, List, [], ◌∷◌, None, Option, Some, ap, arith, if◌then◌else◌, length, refl, suc, sym, true≢false, zero, ◌∙◌}
 use Rattle.std.proofs.lemmas.Option.{none-some}
 use Rattle.std.specs.{Cmp.IsEquivalence, Option.option_and_then, Option.option_map_or}
 use Rattle.vecmap_base.proofs.PairsLemmas.{ByIndex.index_by_none, ByIndex.lookup_by_index, ByIndex.without_by_index, Updates.updates_put_at}
@@ -7,10 +7,6 @@ use Rattle.vecmap_base.specs.Pairs.{HasDistinctKeys, index_of, lookup, put_at, v
 use Rattle.vecmap_laws.proofs.AfterPuts.{index_of_own, index_of_without_key, lookup_own, lookup_without_any}
 use Rattle.vecmap_laws.proofs.Lookups.{look, lookup_congr}
 use Rattle.vecmap_laws.proofs.Puts.{put_at_absent}
-
-pub none_if_not_some : {A : Type 0} (found : Option A) → is_some found ≡ false → found ≡ None
-none_if_not_some None e = refl
-none_if_not_some (Some x) e = absurd (true≢false e)
 
 -- What is inserted where an item was removed replaces it.
 pub insert_where_removed : {X : Type 0} (xs : List X) (i : ℕ) (y : X) → i < length xs → insert (remove xs i) i y ≡ slice_set xs i y

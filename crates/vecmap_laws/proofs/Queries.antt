@@ -1,9 +1,10 @@
 -- What a query finds that matches exactly the keys that are equal to one of its matches.
 use Rattle.std.specs.declared.alloc.Global.{Global}
 use Rattle.std.specs.{Cmp.IsEquivalence, Cmp.on_equiv, Cmp.Lexicographic.nat_list_eq_equiv, Map.IsKeyTest}
-use Rattle.std.proofs.Common.{◌≡◌, ℕ, Bool, false, List, None, Some, String, IsTrue, bytes_eq, if◌then◌else◌, string_bytes, string_eq, ap, ◌∙◌}
-use Rattle.vecmap_base.specs.Pairs.{HasDistinctKeys, has_text, lookup, lookup_by, put, without_by}
-use Rattle.vecmap_base.proofs.PairsLemmas.Lookups.{lookup_by_put, lookup_by_without}
+use Rattle.std.proofs.Common.{◌≡◌, ℕ, Bool, false, List, Some, String, IsTrue, bytes_eq, if◌then◌else◌, string_bytes, string_eq, ap, ◌∙◌}
+use Rattle.vecmap_base.specs.Pairs.{has_text, lookup, lookup_by, put}
+use Rattle.vecmap_base.proofs.PairsLemmas.Lookups.{lookup_by_put}
+pub use Rattle.vecmap_base.proofs.PairsLemmas.Lookups.{lookup_by_without as lookup_without_query}
 use Rattle.vecmap_laws.proofs.ItemQueries.{tells_as}
 
 module _ {K V : Type 0} (eq : K → K → Bool) (o : IsEquivalence eq) (test : K → Bool) (respects : IsKeyTest eq test) where
@@ -21,10 +22,6 @@ module _ {K V : Type 0} (eq : K → K → Bool) (o : IsEquivalence eq) (test : K
   -- After the insertion of any other key, the query finds what it found before.
   pub lookup_put_other_query : (l : List (K × V)) (k : K) (v : V) → test k ≡ false → lookup_by test (put eq l k v) ≡ lookup_by test l
   lookup_put_other_query l k v n = lookup_put_any_query l k v ∙ ap (λ b. if b then Some v else lookup_by test l) n
-
-  -- After the removal of its match from a list of distinct keys, a query matches nothing.
-  pub lookup_without_query : (l : List (K × V)) → HasDistinctKeys eq l → lookup_by test (without_by test l) ≡ None
-  lookup_without_query l d = lookup_by_without eq o test respects l d
 
 -- A text matches the strings with the same bytes.
 pub text_respects : (text : List ℕ) → IsKeyTest {K = String Global} string_eq (has_text text)

@@ -35,10 +35,10 @@ module _ {K V : Type 0} (eq : K → K → Bool) (value : V → V → Bool) (o : 
   abbrev SameLookups : List (K × V) → List (K × V) → Type 0
   SameLookups a b = (q : K) → option_eq value (lookup eq a q) (lookup eq b q) ≡ true
 
-  same_pairs : (a b : List (K × V)) → HasDistinctKeys eq a → HasDistinctKeys eq b → SameLookups a b → (c : List (K × V)) × IsPermutation b c × AllZip AreSame a c
-  same_pairs [] [] d f h = ([], IsPermutation-refl [], tt)
-  same_pairs [] (r ∷ rs) d f h = absurd (true≢false (sym (h r.0) ∙ ap (option_eq value None) (look eq r rs r.0 true (o.refl r.0))))
-  same_pairs (p ∷ ps) b d f h = by (λ m. same_pairs ps m (rest_is_distinct eq p ps d)) (lookup eq b p.0) refl
+  pairs_rearranged : (a b : List (K × V)) → HasDistinctKeys eq a → HasDistinctKeys eq b → SameLookups a b → (c : List (K × V)) × IsPermutation b c × AllZip AreSame a c
+  pairs_rearranged [] [] d f h = ([], IsPermutation-refl [], tt)
+  pairs_rearranged [] (r ∷ rs) d f h = absurd (true≢false (sym (h r.0) ∙ ap (option_eq value None) (look eq r rs r.0 true (o.refl r.0))))
+  pairs_rearranged (p ∷ ps) b d f h = by (λ m. pairs_rearranged ps m (rest_is_distinct eq p ps d)) (lookup eq b p.0) refl
     where
       there : ((m : List (K × V)) → HasDistinctKeys eq m → SameLookups ps m → (c : List (K × V)) × IsPermutation m c × AllZip AreSame ps c) → (w : V) → lookup eq b p.0 ≡ Some w → value p.1 w ≡ true → (c : List (K × V)) × IsPermutation b c × AllZip AreSame (p ∷ ps) c
       there again w g same =
@@ -63,4 +63,4 @@ module _ {K V : Type 0} (eq : K → K → Bool) (value : V → V → Bool) (o : 
 
   -- Equal maps of distinct keys have the same pairs in some order, up to `==` of keys and values.
   pub equal_is_permutation : (a b : List (K × V)) → HasDistinctKeys eq a → HasDistinctKeys eq b → IsTrue (has_same_counts eq value a b) → (c : List (K × V)) × IsPermutation b c × AllZip AreSame a c
-  equal_is_permutation a b d f h = same_pairs a b d f ((equal_where_lookups_agree eq value o e a b d f).0 h)
+  equal_is_permutation a b d f h = pairs_rearranged a b d f ((equal_where_lookups_agree eq value o e a b d f).0 h)

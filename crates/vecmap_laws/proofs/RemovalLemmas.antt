@@ -1,20 +1,16 @@
 -- What is found after the item at an index has been taken out of a list, whatever the order of the others. A removal
 -- that shifts the later items and one that moves the last item are both of this kind.
-use Rattle.std.proofs.Common.{◌≡◌, ◌-◌, ℕ, Bool, true, false, ◌||◌, ◌&&◌, IsTrue, List, [], ◌∷◌, None, Option, Some, ap, arith, get_or, if◌then◌else◌, is_some, length, not, position, refl, remove, slice_get, subst, sym, ◌∙◌}
-use Rattle.std.proofs.lemmas.{List.Quantifiers.position-Some, Map.Steps.list_any_congr, Option.get_or_from_slice_get, Option.none-some, Option.slice_get-get_or, Option.slice_get_within}
-use Rattle.std.proofs.lemmas.List.Sorted.{IsPermutation-remove, IsPermutation-swap_remove, length_permutation, list_any-IsPermutation}
+use Rattle.std.proofs.Common.{◌≡◌, ◌-◌, ℕ, Bool, true, false, ◌&&◌, IsTrue, List, [], ◌∷◌, None, Option, Some, ap, arith, get_or, if◌then◌else◌, is_some, length, not, position, refl, remove, slice_get, subst, sym, ◌∙◌}
+use Rattle.std.proofs.lemmas.{List.Quantifiers.position-Some, Option.get_or_from_slice_get, Option.none-some, Option.slice_get-get_or, Option.slice_get_within}
+use Rattle.std.proofs.lemmas.List.Sorted.{IsPermutation-remove, IsPermutation-swap_remove, length_permutation}
 use Rattle.std.specs.{Cmp.IsEquivalence, List.IsDistinct, List.list_any, List.swap_remove, List.Sorted.IsPermutation, Map.IsKeyTest, Option.option_and_then, Option.option_map_or, Set.is_member}
-use Rattle.vecmap_base.proofs.DistinctLemmas.Order.{distinct_rearranged}
-use Rattle.vecmap_laws.proofs.DistinctKeys.{distinct_keys_rearranged}
 use Rattle.vecmap_base.proofs.IndexLemmas.{list_any_position}
 use Rattle.vecmap_base.proofs.PairsLemmas.ByIndex.{index_by_is, lookup_by_index as value_by_index}
 use Rattle.vecmap_laws.proofs.ItemQueries.{tells_as}
-use Rattle.vecmap_laws.proofs.Lookups.{look, lookup_congr}
-use Rattle.vecmap_laws.proofs.Order.{lookup_rearranged}
 use Rattle.vecmap_laws.proofs.Queries.{lookup_by_query}
 use Rattle.vecmap_base.specs.Items.{swap_without}
 use Rattle.vecmap_base.specs.Pairs.{HasDistinctKeys, index_by, lookup, lookup_by, value_at}
-use Rattle.vecmap_laws.proofs.HeadLemmas.{head_has_no_value, head_not_in_rest}
+use Rattle.vecmap_base.proofs.{ItemsLemmas.Members.members_taken, PairsLemmas.Updates.lookup_by_taken}
 
 -- The item at the first index that passes.
 pub passing_at : {X : Type 0} (p : X → Bool) (xs : List X) (i : ℕ) → position p xs ≡ Some i → (x : X) × (slice_get xs i ≡ Some x) × IsTrue (p x)
@@ -31,28 +27,18 @@ module _ {X : Type 0} where
 module _ {T : Type 0} (eq : T → T → Bool) (o : IsEquivalence eq) where
   -- One of distinct elements is taken out: all others stay.
   pub is_member_taken : (s rest : List T) (x : T) → IsPermutation s (x ∷ rest) → IsDistinct eq s → (y : T) → is_member eq rest y ≡ (is_member eq s y && not (eq x y))
-  is_member_taken s rest x moved d y = by (eq x y) refl (list_any-IsPermutation (eq y) s (x ∷ rest) moved)
+  is_member_taken s rest x moved d y = (members_taken eq o (eq x) (o.congr x) s rest x d (o.refl x) moved).members y ∙ by (eq x y) (is_member eq s y)
     where
-      last : (b : Bool) → b ≡ (b && true)
-      last true = refl
-      last false = refl
-
-      none : (b : Bool) → false ≡ (b && false)
-      none true = refl
-      none false = refl
-
-      by : (b : Bool) → eq x y ≡ b → list_any (eq y) s ≡ (eq y x || list_any (eq y) rest) → is_member eq rest y ≡ (is_member eq s y && not b)
-      by true e all = sym (list_any_congr o x y rest e) ∙ head_not_in_rest eq x rest (distinct_rearranged eq o s (x ∷ rest) moved d) ∙ none (is_member eq s y)
-      by false e all = sym (ap (λ b. b || list_any (eq y) rest) (o.symm y x ∙ e)) ∙ sym all ∙ last (is_member eq s y)
+      by : (b c : Bool) → (if b then false else c) ≡ (c && not b)
+      by true true = refl
+      by true false = refl
+      by false true = refl
+      by false false = refl
 
 module _ {K V : Type 0} (eq : K → K → Bool) (o : IsEquivalence eq) where
   -- One of the pairs is taken out: its key is absent, and all other keys find what they found before.
   pub lookup_taken : (l rest : List (K × V)) (p : K × V) → IsPermutation l (p ∷ rest) → HasDistinctKeys eq l → (q : K) → lookup eq rest q ≡ (if eq p.0 q then None else lookup eq l q)
-  lookup_taken l rest p moved d q = by (eq p.0 q) refl
-    where
-      by : (b : Bool) → eq p.0 q ≡ b → lookup eq rest q ≡ (if b then None else lookup eq l q)
-      by true e = sym (lookup_congr eq o rest p.0 q e) ∙ head_has_no_value eq p rest (distinct_keys_rearranged eq o l (p ∷ rest) moved d)
-      by false e = sym (look eq p rest q false (o.symm q p.0 ∙ e)) ∙ lookup_rearranged eq o l (p ∷ rest) moved d q
+  lookup_taken l rest p moved d q = lookup_by_taken eq o (eq q) (o.congr q) l rest p d moved ∙ ap (λ b. if b then None else lookup eq l q) (o.symm q p.0)
 
   -- What a query finds has the same `f` in two lists, if what each key that it matches finds has.
   pub query_finds_same : {X : Type 0} (f : Option V → X) (test : K → Bool) → IsKeyTest eq test → (l m : List (K × V)) → ((q : K) → IsTrue (test q) → f (lookup eq m q) ≡ f (lookup eq l q)) → f (lookup_by test m) ≡ f (lookup_by test l)
@@ -105,17 +91,3 @@ module _ {K V : Type 0} (takes : List (K × V) → ℕ → List (K × V)) (leave
   module _ (eq : K → K → Bool) (o : IsEquivalence eq) where
     pub lookup_by_index : (l : List (K × V)) → HasDistinctKeys eq l → (i : ℕ) (k : K) (v : V) → slice_get l i ≡ Some (k, v) → (q : K) → lookup eq (takes l i) q ≡ (if eq k q then None else lookup eq l q)
     lookup_by_index l d i k v at = lookup_taken eq o l (takes l i) (k, v) (leaves l i (k, v) at) d
-
-    pub lookup_by_test : (test : K → Bool) → IsKeyTest eq test → (l : List (K × V)) → HasDistinctKeys eq l → (q : K) → lookup eq (option_map_or (takes l) (index_by test l) l) q ≡ (if test q then None else lookup eq l q)
-    lookup_by_test test respects l d q = by (index_by test l) refl
-      where
-        none : (b : Bool) (found : Option V) → (b ≡ true → found ≡ None) → found ≡ (if b then None else found)
-        none true found h = h refl
-        none false found h = refl
-
-        absent : index_by test l ≡ None → test q ≡ true → lookup eq l q ≡ None
-        absent e h = sym (lookup_by_query eq o test respects l q h) ∙ value_by_index test l ∙ ap (option_and_then (value_at l)) e
-
-        by : (found : Option ℕ) → index_by test l ≡ found → lookup eq (option_map_or (takes l) found l) q ≡ (if test q then None else lookup eq l q)
-        by None e = none (test q) (lookup eq l q) (absent e)
-        by (Some i) e = let at = passing_at (λ p. test p.0) l i (sym (index_by_is test l) ∙ e) in lookup_by_index l d i at.0.0 at.0.1 at.1 q ∙ ap (λ b. if b then None else lookup eq l q) (sym (respects at.0.0 q at.2))

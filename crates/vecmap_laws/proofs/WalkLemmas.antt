@@ -4,7 +4,7 @@ use Rattle.std.specs.{Iterator.YieldsFirstBy, Iterator.YieldsLastBy, List.slice_
 use Rattle.std.specs.Option.{option_map}
 use Rattle.vecmap_laws.specs.Pulls.{End, Pulls, PullsBy, back, front}
 pub use Rattle.vecmap_base.proofs.WalkLemmas.{shows_in_order, shows_in_reverse, shows_rest_in_order, shows_rest_in_reverse, shows_values_in_order, shows_values_in_reverse, gives_in_order, gives_in_reverse, all_zip_mapped}
-use Rattle.vecmap_set.proofs.IndexLemmas.{stored_last}
+pub use Rattle.vecmap_base.proofs.IndexLemmas.{remove_last, slice_get_last}
 
 -- The first and the last item of a list, and what each leaves if it is removed.
 module _ {T : Type 0} where
@@ -18,7 +18,7 @@ module _ {T : Type 0} where
   last_of : (l t : List T) (x : T) → l ≡ t ++ x ∷ [] → (slice_get l (length l - 1) ≡ Some x) × (take (length l - 1) l ≡ t)
   last_of l t x e =
       let n : length l - 1 ≡ length t = omega (arith, ap length e, length-append t (x ∷ [])) in
-      rw (n, e) (stored_last t (t ++ x ∷ []) x refl, take-last t x)
+      rw (n, e) (slice_get_last t x, take-last t x)
 
 -- An iterator that has `rest s` left in the state `s`. Its `next` gives the first item of that list, and its
 -- `next_back` the last.
