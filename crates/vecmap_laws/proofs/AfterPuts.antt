@@ -1,8 +1,8 @@
 -- What is found, and at which index, after one insertion and after many.
 pub use Rattle.vecmap_base.proofs.PairsLemmas.AtIndices.{index_of_put_key, length_put_key}
 use Rattle.std.specs.{Cmp.IsEquivalence, List.list_any, Map.keys_of, Map.values_of, Option.option_and_then, Option.option_map, Option.option_map_or, Option.option_or}
-use Rattle.std.proofs.Common.{◌≡◌, ◌<◌, ◌+◌, ℕ, zero, Bool, position, true, false, List, [], ◌∷◌, ◌++◌, Option, None, Some, if◌then◌else◌, is_some, length, slice_get, suc, unwrap_or, refl, sym, ap, ◌∙◌, arith, length-append, inl, inr}
-use Rattle.std.proofs.lemmas.{Bool.cases_Bool, List.length-map, Map.Made.is_some-lookup, Option.slice_get-map}
+use Rattle.std.proofs.Common.{◌≡◌, ◌<◌, ◌+◌, ℕ, zero, Bool, position, true, false, List, [], ◌∷◌, ◌++◌, Option, None, Some, if◌then◌else◌, is_some, length, slice_get, suc, unwrap_or, refl, sym, ap, ◌∙◌, arith, length-append, true≢false}
+use Rattle.std.proofs.lemmas.{List.length-map, Map.Made.is_some-lookup, Option.slice_get-map}
 use Rattle.vecmap_base.specs.Pairs.{HasDistinctKeys, index_of, index_or_length, lookup, put, put_key, puts, value_at, with_value, without_key}
 use Rattle.vecmap_base.proofs.PairsLemmas.Keys.{index_of_is, keys_of_put}
 use Rattle.vecmap_base.proofs.PairsLemmas.{ByIndex.lookup_by_index, ByIndex.put_by_index, Indices.is_some_index_of, Recursion.put_cons}
@@ -12,10 +12,10 @@ use Rattle.vecmap_laws.proofs.Indices.{index_of_none}
 use Rattle.vecmap_laws.proofs.ItemIndices.{item_index_add, item_index_congr, item_index_own}
 use Rattle.vecmap_laws.proofs.ItemRemovals.{without_item_absent}
 use Rattle.vecmap_laws.proofs.Keys.{keys_of_without_key}
-use Rattle.vecmap_laws.proofs.Lookups.{look}
 use Rattle.vecmap_laws.proofs.Values.{length_with_value}
 use Rattle.vecmap_base.proofs.PairsLemmas.Parts.{joins_puts}
 use Rattle.vecmap_base.proofs.PairsLemmas.Updates.{put_key_finds_as_put}
+use Rattle.vecmap_laws.proofs.Puts.{put_stored}
 
 pub option_or_none : {X : Type 0} (a : Option X) → option_or a None ≡ a
 option_or_none None = refl
@@ -36,13 +36,11 @@ module _ {K V : Type 0} (eq : K → K → Bool) where
 
   -- The insertion of the value that is stored changes nothing.
   pub put_same : (l : List (K × V)) (k : K) (v : V) → lookup eq l k ≡ Some v → put eq l k v ≡ l
-  put_same [] k v e = absurd (let n : None ≡ Some v = e in cc)
-  put_same (p ∷ ps) k v e =
-      put_cons eq p ps k v
-      ∙ elim (cases_Bool (eq k p.0)) [
-        | inl h ↦ let f : Some p.1 ≡ Some v = sym (look eq p ps k true h) ∙ e in let w : v ≡ p.1 = cc in ap (λ b. if b then (p.0, v) ∷ ps else p ∷ put eq ps k v) h ∙ ap (λ x. (p.0, x) ∷ ps) w
-        | inr h ↦ ap (λ b. if b then (p.0, v) ∷ ps else p ∷ put eq ps k v) h ∙ ap (λ t. p ∷ t) (put_same ps k v (sym (look eq p ps k false h) ∙ e))
-      ]
+  put_same l k v e = ap (λ found. put eq l k (unwrap_or found v)) (sym e) ∙ put_stored eq l k v ∙ by (index_of eq l k) (sym (is_some_lookup l k) ∙ ap is_some e)
+    where
+      by : (found : Option ℕ) → is_some found ≡ true → option_map_or (λ i. l) found (l ++ (k, v) ∷ []) ≡ l
+      by None h = absurd (true≢false (sym h))
+      by (Some i) h = refl
 
   -- The insertion of a new key makes the list longer by one. Any other insertion leaves its length.
   pub length_put : (l : List (K × V)) (k : K) (v : V) → length (put eq l k v) ≡ (if is_some (index_of eq l k) then length l else length l + 1)

@@ -1,11 +1,13 @@
 -- A function of each key and each value of a list of pairs, and a fact about each value.
-use Rattle.std.proofs.Common.{◌≡◌, Bool, true, false, List, [], ◌∷◌, Some, All, if◌then◌else◌, map, option_map, refl, suc, sym, ap, ◌∙◌, subst}
+use Rattle.std.proofs.Common.{◌≡◌, Bool, true, false, List, [], ◌∷◌, Some, All, if◌then◌else◌, map, option_map, refl, sym, ap, ◌∙◌, subst}
 use Rattle.std.proofs.lemmas.{List.Elements.All-cons, List.Elements.All-head, List.Elements.All-tail}
 use Rattle.vecmap_base.specs.Pairs.{index_of, lookup, map_values, put}
 use Rattle.vecmap_base.proofs.PairsLemmas.Indices.{lookup_by_map_values}
-use Rattle.vecmap_base.proofs.PairsLemmas.Recursion.{index_of_cons}
 use Rattle.std.proofs.lemmas.List.Elements.{All-contains}
 use Rattle.vecmap_base.proofs.PairsLemmas.Order.{pair_of_value}
+use Rattle.std.proofs.lemmas.Map.Made.{keys_of-map_values}
+use Rattle.vecmap_base.proofs.PairsLemmas.Keys.{index_of_is}
+use Rattle.vecmap_base.specs.Items.{item_index}
 
 -- `f` of a key has the `==` of the key, as the bytes of a text have.
 module _ {K L V W : Type 0} (eq : K → K → Bool) (eq_image : L → L → Bool) (f : K → L) (same : (x y : K) → eq_image (f x) (f y) ≡ eq x y) (g : V → W) where
@@ -29,11 +31,7 @@ module _ {K V W : Type 0} (eq : K → K → Bool) (g : V → W) where
 
   -- The keys stay at their indices.
   pub index_of_map_values : (l : List (K × V)) (k : K) → index_of eq (map_values g l) k ≡ index_of eq l k
-  index_of_map_values [] k = refl
-  index_of_map_values (p ∷ ps) k =
-      index_of_cons eq (p.0, g p.1) (map_values g ps) k
-      ∙ ap (λ found. if eq k p.0 then Some 0 else option_map suc found) (index_of_map_values ps k)
-      ∙ sym (index_of_cons eq p ps k)
+  index_of_map_values l k = index_of_is eq (map_values g l) k ∙ ap (λ ks. item_index eq ks k) (keys_of-map_values g l) ∙ sym (index_of_is eq l k)
 
   -- An insertion, seen in the list with `g` of each value, inserts `g` of the value.
   pub map_values_put : (l : List (K × V)) (k : K) (v : V) → map_values g (put eq l k v) ≡ put eq (map_values g l) k (g v)

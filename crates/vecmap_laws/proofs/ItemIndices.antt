@@ -1,17 +1,15 @@
 -- The indices of elements, before and after an addition.
 use Rattle.std.specs.{Cmp.IsEquivalence, List.IsDistinct}
-use Rattle.std.proofs.Common.{◌≡◌, ◌<◌, ◌++◌, ℕ, suc, Bool, true, false, List, [], ◌∷◌, None, Option, Some, if◌then◌else◌, length, option_map, slice_get, unwrap_or, refl, sym, ap, ◌∙◌, inl, inr}
-use Rattle.std.proofs.lemmas.{Bool.cases_Bool}
+use Rattle.std.proofs.Common.{◌≡◌, ◌<◌, ◌++◌, ℕ, Bool, true, false, List, [], ◌∷◌, None, Option, Some, if◌then◌else◌, length, option_map, slice_get, unwrap_or, refl, sym, ap, ◌∙◌, ◌+◌, arith, is_some, true≢false}
 use Rattle.vecmap_base.specs.Items.{add, item_index}
-use Rattle.vecmap_base.proofs.ItemsLemmas.Recursion.{add_cons, item_index_cons}
+use Rattle.vecmap_base.proofs.ItemsLemmas.Recursion.{item_index_cons}
 pub use Rattle.vecmap_base.proofs.ItemsLemmas.Indices.{is_some_item_index_rest}
 use Rattle.vecmap_set.proofs.IndexLemmas.{position_own}
-use Rattle.vecmap_laws.proofs.ItemMembers.{slice_get_append}
+use Rattle.vecmap_laws.proofs.ItemMembers.{slice_get_append, item_index_append}
 use Rattle.std.specs.Set.{is_member}
-
-unwrap_or_suc : (found : Option ℕ) (n : ℕ) → unwrap_or (option_map suc found) (suc n) ≡ suc (unwrap_or found n)
-unwrap_or_suc None n = refl
-unwrap_or_suc (Some i) n = refl
+use Rattle.std.specs.Option.{option_or}
+use Rattle.vecmap_base.proofs.IndexLemmas.{is_some_position, position_none}
+use Rattle.vecmap_map.proofs.MadeLemmas.{or_none}
 
 module _ {T : Type 0} (eq : T → T → Bool) where
   -- An addition moves no element.
@@ -29,36 +27,31 @@ module _ {T : Type 0} (eq : T → T → Bool) where
 
     -- After an addition, `x` has the index of its equal, or is last. Every other element keeps its index.
     pub item_index_add : (s : List T) (x y : T) → item_index eq (add eq s x) y ≡ (if eq x y then Some (unwrap_or (item_index eq s x) (length s)) else item_index eq s y)
-    item_index_add [] x y = item_index_cons eq x [] y ∙ ap (λ b. if b then Some 0 else None) (o.symm y x)
-    item_index_add (z ∷ zs) x y =
-        ap (λ l. item_index eq l y) (add_cons eq z zs x)
-        ∙ elim (cases_Bool (eq x z)) [
-          | inl e ↦ ap (λ b. item_index eq (if b then z ∷ zs else z ∷ add eq zs x) y) e ∙ there e
-          | inr e ↦ ap (λ b. item_index eq (if b then z ∷ zs else z ∷ add eq zs x) y) e ∙ item_index_cons eq z (add eq zs x) y ∙ ap (λ found. if eq y z then Some 0 else option_map suc found) (item_index_add zs x y) ∙ further e
-        ]
+    item_index_add s x y = by (is_member eq s x) refl
       where
-        there : eq x z ≡ true → item_index eq (z ∷ zs) y ≡ (if eq x y then Some (unwrap_or (item_index eq (z ∷ zs) x) (length (z ∷ zs))) else item_index eq (z ∷ zs) y)
-        there e =
-            let first : item_index eq (z ∷ zs) x ≡ Some 0 = item_index_cons eq z zs x ∙ ap (λ b. if b then Some 0 else option_map suc (item_index eq zs x)) e in
-            elim (cases_Bool (eq x y)) [
-              | inl f ↦ sym (item_index_congr (z ∷ zs) x y f) ∙ first ∙ sym (λ t. if f t then Some (unwrap_or (first t) (length (z ∷ zs))) else item_index eq (z ∷ zs) y)
-              | inr f ↦ sym (ap (λ b. if b then Some (unwrap_or (item_index eq (z ∷ zs) x) (length (z ∷ zs))) else item_index eq (z ∷ zs) y) f)
-            ]
+        old : Bool → Option ℕ
+        old c = if c then Some (unwrap_or (item_index eq s x) (length s)) else item_index eq s y
 
-        further : eq x z ≡ false → (if eq y z then Some 0 else option_map suc (if eq x y then Some (unwrap_or (item_index eq zs x) (length zs)) else item_index eq zs y)) ≡ (if eq x y then Some (unwrap_or (item_index eq (z ∷ zs) x) (length (z ∷ zs))) else item_index eq (z ∷ zs) y)
-        further e =
-            let past : item_index eq (z ∷ zs) x ≡ option_map suc (item_index eq zs x) = item_index_cons eq z zs x ∙ ap (λ b. if b then Some 0 else option_map suc (item_index eq zs x)) e in
-            elim (cases_Bool (eq x y)) [
-              | inl f ↦
-                  let apart : eq y z ≡ false = sym (o.congr x y z f) ∙ e in
-                  (λ t. if apart t then Some 0 else option_map suc (if f t then Some (unwrap_or (item_index eq zs x) (length zs)) else item_index eq zs y))
-                  ∙ ap Some (sym (unwrap_or_suc (item_index eq zs x) (length zs)))
-                  ∙ sym (λ t. if f t then Some (unwrap_or (past t) (length (z ∷ zs))) else item_index eq (z ∷ zs) y)
-              | inr f ↦
-                  ap (λ b. if eq y z then Some 0 else option_map suc (if b then Some (unwrap_or (item_index eq zs x) (length zs)) else item_index eq zs y)) f
-                  ∙ sym (item_index_cons eq z zs y)
-                  ∙ sym (ap (λ b. if b then Some (unwrap_or (item_index eq (z ∷ zs) x) (length (z ∷ zs))) else item_index eq (z ∷ zs) y) f)
-            ]
+        found : (o : Option ℕ) → is_some o ≡ true → o ≡ Some (unwrap_or o (length s))
+        found None e = absurd (true≢false (sym e))
+        found (Some i) e = refl
+
+        present : (c : Bool) → eq x y ≡ c → is_member eq s x ≡ true → item_index eq s y ≡ old c
+        present true f e = sym (item_index_congr s x y f) ∙ found (item_index eq s x) (is_some_position (eq x) s ∙ e)
+        present false f e = refl
+
+        absent : (c : Bool) → eq x y ≡ c → item_index eq s x ≡ None → option_or (item_index eq s y) (option_map (λ i. length s + i) (if c then Some 0 else None)) ≡ old c
+        absent true f e =
+            (λ t. option_or ((sym (item_index_congr s x y f) ∙ e) t) (Some (length s + 0)))
+            ∙ ap Some (let z : length s + 0 ≡ length s = omega arith in z) ∙ sym (ap (λ o. Some (unwrap_or o (length s))) e)
+        absent false f e = or_none (item_index eq s y)
+
+        by : (b : Bool) → is_member eq s x ≡ b → item_index eq (if b then s else s ++ x ∷ []) y ≡ old (eq x y)
+        by true e = present (eq x y) refl e
+        by false e =
+            item_index_append eq s (x ∷ []) y
+            ∙ ap (λ o. option_or (item_index eq s y) (option_map (λ i. length s + i) o)) (item_index_cons eq x [] y ∙ ap (λ c. if c then Some 0 else None) (o.symm y x))
+            ∙ absent (eq x y) refl (position_none (eq x) s e)
 
     -- If no two elements are equal, each is found at its own index.
     pub item_index_own : (s : List T) → IsDistinct eq s → (i : ℕ) (x : T) → slice_get s i ≡ Some x → item_index eq s x ≡ Some i

@@ -1,9 +1,9 @@
 -- What a lookup finds after an insertion and after a removal.
 use Rattle.std.specs.{Cmp.IsEquivalence, List.list_any, Map.keys_of}
-use Rattle.std.proofs.Common.{◌≡◌, Bool, true, false, ◌||◌, List, [], ◌∷◌, None, Some, if◌then◌else◌, refl, sym, ap, ◌∙◌, true≢false, inl, inr}
-use Rattle.std.proofs.lemmas.Bool.{cases_Bool}
+use Rattle.std.proofs.Common.{◌≡◌, Bool, true, false, List, [], ◌∷◌, None, Option, Some, is_some, if◌then◌else◌, refl, sym, ap, ◌∙◌, true≢false}
 use Rattle.vecmap_base.specs.{Pairs.HasDistinctKeys, Pairs.lookup, Pairs.lookup_by, Pairs.put, Pairs.without_by, Pairs.without_key}
 use Rattle.vecmap_base.proofs.PairsLemmas.Lookups.{lookup_by_without, updates_put}
+use Rattle.vecmap_base.proofs.PairsLemmas.{ByIndex.is_some_lookup_by, Indices.is_some_index_of}
 
 module _ {K V : Type 0} (test other : K → Bool) (apart : (k : K) → test k ≡ true → other k ≡ false) where
   -- A query that matches no key of a removal's finds what it found before.
@@ -21,12 +21,11 @@ module _ {K V : Type 0} (eq : K → K → Bool) where
   look p ps k b e = ap (λ c. if c then Some p.1 else lookup eq ps k) e
 
   pub lookup_absent : (l : List (K × V)) (k : K) → list_any (eq k) (keys_of l) ≡ false → lookup eq l k ≡ None
-  lookup_absent [] k e = refl
-  lookup_absent (p ∷ ps) k e =
-      elim (cases_Bool (eq k p.0)) [
-        | inl h ↦ absurd (true≢false (sym (ap (λ b. b || list_any (eq k) (keys_of ps)) h) ∙ e))
-        | inr h ↦ look p ps k false h ∙ lookup_absent ps k (sym (ap (λ b. b || list_any (eq k) (keys_of ps)) h) ∙ e)
-      ]
+  lookup_absent l k e = by (lookup eq l k) (is_some_lookup_by (eq k) l ∙ is_some_index_of eq l k ∙ e)
+    where
+      by : (found : Option V) → is_some found ≡ false → found ≡ None
+      by None h = refl
+      by (Some v) h = absurd (true≢false h)
 
   module _ (o : IsEquivalence eq) where
     -- Equal keys have the same value.

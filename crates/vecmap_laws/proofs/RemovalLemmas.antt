@@ -1,21 +1,21 @@
 -- What is found after the item at an index has been taken out of a list, whatever the order of the others. A removal
 -- that shifts the later items and one that moves the last item are both of this kind.
-use Rattle.std.proofs.Common.{◌≡◌, ◌-◌, ℕ, Bool, true, false, ◌&&◌, IsTrue, List, [], ◌∷◌, None, Option, Some, ap, arith, get_or, if◌then◌else◌, is_some, length, not, position, refl, remove, slice_get, subst, sym, ◌∙◌}
-use Rattle.std.proofs.lemmas.{List.Quantifiers.position-Some, Option.get_or_from_slice_get, Option.none-some, Option.slice_get-get_or, Option.slice_get_within}
+use Rattle.std.proofs.Common.{◌≡◌, ◌-◌, ℕ, Bool, true, false, ◌&&◌, IsTrue, List, ◌∷◌, None, Option, Some, ap, arith, if◌then◌else◌, is_some, length, not, position, refl, remove, slice_get, subst, sym, ◌∙◌}
+use Rattle.std.proofs.lemmas.{Option.get_or_from_slice_get, Option.slice_get_within}
 use Rattle.std.proofs.lemmas.List.Sorted.{IsPermutation-remove, IsPermutation-swap_remove, length_permutation}
-use Rattle.std.specs.{Cmp.IsEquivalence, List.IsDistinct, List.list_any, List.swap_remove, List.Sorted.IsPermutation, Map.IsKeyTest, Option.option_and_then, Option.option_map_or, Set.is_member}
+use Rattle.std.specs.{Cmp.IsEquivalence, List.IsDistinct, List.list_any, List.swap_remove, List.Sorted.IsPermutation, Map.IsKeyTest, Option.option_map_or, Set.is_member}
 use Rattle.vecmap_base.proofs.IndexLemmas.{list_any_position}
-use Rattle.vecmap_base.proofs.PairsLemmas.ByIndex.{index_by_is, lookup_by_index as value_by_index}
 use Rattle.vecmap_laws.proofs.ItemQueries.{tells_as}
 use Rattle.vecmap_laws.proofs.Queries.{lookup_by_query}
 use Rattle.vecmap_base.specs.Items.{swap_without}
-use Rattle.vecmap_base.specs.Pairs.{HasDistinctKeys, index_by, lookup, lookup_by, value_at}
+use Rattle.vecmap_base.specs.Pairs.{HasDistinctKeys, lookup, lookup_by}
 use Rattle.vecmap_base.proofs.{ItemsLemmas.Members.members_taken, PairsLemmas.Updates.lookup_by_taken}
+use Rattle.vecmap_base.proofs.PairsLemmas.Order.{pair_of_value}
+use Rattle.vecmap_set.proofs.IndexLemmas.{stored_at}
 
 -- The item at the first index that passes.
 pub passing_at : {X : Type 0} (p : X → Bool) (xs : List X) (i : ℕ) → position p xs ≡ Some i → (x : X) × (slice_get xs i ≡ Some x) × IsTrue (p x)
-passing_at p [] i e = absurd (none-some i e)
-passing_at p (x ∷ xs) i e = let at = position-Some p (x ∷ xs) i x e in (get_or (x ∷ xs) i x, slice_get-get_or (x ∷ xs) i x at.0, at.1)
+passing_at p xs i e = stored_at p xs (Some i) (sym e)
 
 module _ {X : Type 0} where
   pub remove_leaves : (xs : List X) (i : ℕ) (x : X) → slice_get xs i ≡ Some x → IsPermutation xs (x ∷ remove xs i)
@@ -42,18 +42,15 @@ module _ {K V : Type 0} (eq : K → K → Bool) (o : IsEquivalence eq) where
 
   -- What a query finds has the same `f` in two lists, if what each key that it matches finds has.
   pub query_finds_same : {X : Type 0} (f : Option V → X) (test : K → Bool) → IsKeyTest eq test → (l m : List (K × V)) → ((q : K) → IsTrue (test q) → f (lookup eq m q) ≡ f (lookup eq l q)) → f (lookup_by test m) ≡ f (lookup_by test l)
-  query_finds_same {X} f test respects l m alike = by (index_by test m) (index_by test l) refl refl
+  query_finds_same f test respects l m alike = by (lookup_by test m) (lookup_by test l) refl refl
     where
-      matched : (n : List (K × V)) (i : ℕ) → index_by test n ≡ Some i → (k : K) × IsTrue (test k) × (lookup_by test n ≡ lookup eq n k)
-      matched n i e = let p = passing_at (λ r. test r.0) n i (sym (index_by_is test n) ∙ e) in (p.0.0, p.2, lookup_by_query eq o test respects n p.0.0 p.2)
+      matched : (k : K) → IsTrue (test k) → f (lookup_by test m) ≡ f (lookup_by test l)
+      matched k h = ap f (lookup_by_query eq o test respects m k h) ∙ alike k h ∙ sym (ap f (lookup_by_query eq o test respects l k h))
 
-      not_found : (n : List (K × V)) → index_by test n ≡ None → lookup_by test n ≡ None
-      not_found n e = value_by_index test n ∙ ap (option_and_then (value_at n)) e
-
-      by : (x y : Option ℕ) → index_by test m ≡ x → index_by test l ≡ y → f (lookup_by test m) ≡ f (lookup_by test l)
-      by (Some i) y e g = let r = matched m i e in ap f r.2 ∙ alike r.0 r.1 ∙ sym (ap f (lookup_by_query eq o test respects l r.0 r.1))
-      by None (Some j) e g = let r = matched l j g in ap f (lookup_by_query eq o test respects m r.0 r.1) ∙ alike r.0 r.1 ∙ sym (ap f r.2)
-      by None None e g = ap f (not_found m e ∙ sym (not_found l g))
+      by : (x y : Option V) → lookup_by test m ≡ x → lookup_by test l ≡ y → f (lookup_by test m) ≡ f (lookup_by test l)
+      by (Some v) y e g = let p = pair_of_value test m v e in matched p.0.0 p.2
+      by None (Some w) e g = let p = pair_of_value test l w g in matched p.0.0 p.2
+      by None None e g = ap f (e ∙ sym g)
 
 -- A removal by index, which leaves all other items.
 module _ {X : Type 0} (takes : List X → ℕ → List X) (leaves : (xs : List X) (i : ℕ) (x : X) → slice_get xs i ≡ Some x → IsPermutation xs (x ∷ takes xs i)) where

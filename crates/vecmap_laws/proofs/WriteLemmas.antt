@@ -1,15 +1,16 @@
 -- A write of the value that a key or a query finds, and what lookups find after it. The idea: the write is `put` of any
 -- key that the query matches, so the lemmas on `put` hold.
 use Rattle.std.specs.Option.{option_map_or}
-use Rattle.std.proofs.Common.{◌≡◌, ℕ, Bool, List, [], ◌∷◌, ◌++◌, None, Option, Some, IsSome, true, ap, refl, sym, true≢false, ◌∙◌, false, IsTrue, bytes_eq, string_bytes, string_eq, String, subst, if◌then◌else◌, inl, inr, is_some, suc}
+use Rattle.std.proofs.Common.{◌≡◌, ℕ, Bool, List, [], ◌∷◌, ◌++◌, None, Option, Some, IsSome, true, ap, refl, sym, true≢false, ◌∙◌, false, IsTrue, bytes_eq, string_bytes, string_eq, String, subst, if◌then◌else◌}
 use Rattle.vecmap_base.specs.Pairs.{index_of, put, with_value, has_text, index_by, lookup, lookup_by}
 use Rattle.vecmap_map.specs.Contents.{Contents, with_entries, with_value_of, with_value_by}
-use Rattle.std.specs.{Cmp.IsEquivalence, Cmp.Lexicographic.nat_list_eq_equiv, declared.alloc.Global.Global, Map.IsKeyTest, Map.keys_of, Map.set_value, Option.option_map, Option.option_map_or}
-use Rattle.std.proofs.lemmas.{Bool.cases_Bool, Map.keys-set_value}
+use Rattle.std.specs.{Cmp.IsEquivalence, Cmp.Lexicographic.nat_list_eq_equiv, declared.alloc.Global.Global, Map.IsKeyTest, Map.keys_of, Map.set_value, Option.option_map_or}
+use Rattle.std.proofs.lemmas.{Map.keys-set_value}
 use Rattle.vecmap_base.proofs.PairsLemmas.ByIndex.{put_by_index, set_value_by_index}
 use Rattle.vecmap_laws.proofs.ItemQueries.{tells_as}
-use Rattle.vecmap_laws.proofs.Queries.{lookup_put_query, string_equality, text_respects}
+use Rattle.vecmap_laws.proofs.Queries.{string_equality, text_respects}
 use Rattle.std.proofs.lemmas.Map.Steps.{set_value_same}
+use Rattle.vecmap_base.proofs.PairsLemmas.{ByIndex.is_some_lookup_by, Updates.updates_write}
 
 module _ {K V : Type 0} (eq : K → K → Bool) where
   -- A write of the value of a key that is present is `put`.
@@ -19,19 +20,6 @@ module _ {K V : Type 0} (eq : K → K → Bool) where
       by : (found : Option ℕ) → IsSome found → option_map_or (λ i. with_value m.entries i v) found m.entries ≡ option_map_or (λ i. with_value m.entries i v) found (m.entries ++ (k, v) ∷ [])
       by None h = absurd (true≢false (sym h))
       by (Some i) h = refl
-
--- A key that passes the test, if there is an index of one.
-found_key : {K V : Type 0} (test : K → Bool) (l : List (K × V)) → IsSome (index_by test l) → (k : K) × IsTrue (test k)
-found_key test [] h = absurd (true≢false (sym h))
-found_key {K} test (p ∷ ps) h =
-    elim (cases_Bool (test p.0)) [
-      | inl e ↦ (p.0, e)
-      | inr n ↦ found_key test ps (sym (is_some_suc (index_by test ps)) ∙ sym (ap (λ b. is_some (if b then Some 0 else option_map suc (index_by test ps))) n) ∙ h)
-    ]
-  where
-    is_some_suc : (found : Option ℕ) → is_some (option_map suc found) ≡ is_some found
-    is_some_suc None = refl
-    is_some_suc (Some i) = refl
 
 -- A write does not change the keys.
 pub keys_of_with_value_by : {K V : Type 0} (test : K → Bool) (m : Contents K V) (v : V) → keys_of (with_value_by test m v).entries ≡ keys_of m.entries
@@ -63,9 +51,7 @@ module _ {K V : Type 0} (eq : K → K → Bool) (o : IsEquivalence eq) (test : K
 
   -- The query finds the written value.
   pub lookup_written : (m : Contents K V) (v : V) → IsSome (index_by test m.entries) → lookup_by test (with_value_by test m v).entries ≡ Some v
-  lookup_written m v there =
-      let w = found_key test m.entries there in
-      ap (lookup_by test) (with_value_by_is_put m w.0 v w.1 there) ∙ lookup_put_query eq o test respects m.entries w.0 v w.1
+  lookup_written m v there = (updates_write eq o test respects m.entries v (is_some_lookup_by test m.entries ∙ there)).own
 
   -- A query that matches no such key finds what it found before.
   pub lookup_written_other_query : (other : K → Bool) → IsKeyTest eq other → ((k : K) → IsTrue (test k) → other k ≡ false) → (m : Contents K V) (v : V) → lookup_by other (with_value_by test m v).entries ≡ lookup_by other m.entries
