@@ -9,6 +9,7 @@ use Rattle.vecmap_laws.proofs.ItemRecursion.{put_item_cons}
 use Rattle.vecmap_laws.specs.Removals.{below, shifted}
 use Rattle.vecmap_base.proofs.{ItemsLemmas.Changes.members_of_put, ItemsLemmas.Members.members_of_add}
 use Rattle.vecmap_laws.proofs.ItemMembers.{is_member_add}
+use Rattle.vecmap_set.proofs.MemberLemmas.{length_of_adds}
 
 module _ {X : Type 0} (p : X → Bool) where
   -- In the first `n` items, the index stays if it is below `n`.
@@ -62,12 +63,10 @@ module _ {T : Type 0} (eq : T → T → Bool) where
 
   -- Many additions leave no fewer elements, and no more than the two lists have.
   pub length_adds_least : (s xs : List T) → length s ≤ length (adds eq s xs)
-  length_adds_least s [] = omega arith
-  length_adds_least s (x ∷ xs) = grind (arith, length_adds_least (add eq s x) xs, length_add s x)
+  length_adds_least s xs = (length_of_adds eq s xs (adds eq s xs) refl).0
 
   pub length_adds_most : (s xs : List T) → length (adds eq s xs) ≤ length s + length xs
-  length_adds_most s [] = omega arith
-  length_adds_most s (x ∷ xs) = grind (arith, length_adds_most (add eq s x) xs, length_add s x)
+  length_adds_most s xs = (length_of_adds eq s xs (adds eq s xs) refl).1
 
   -- In the first `n` elements, one is present if its index is below `n`.
   pub is_member_take : (s : List T) (n : ℕ) (x : T) → is_member eq (take n s) x ≡ is_some (below n (item_index eq s x))

@@ -1,24 +1,15 @@
 -- The lists of the collections that are the values of a map, after a write of one of them. `inside` is the list of a
 -- collection, and IsMade holds of a collection that was created empty. The idea: a lookup after `put` finds the written
 -- collection at its key, and at other keys what it found before.
-use Rattle.std.specs.{Cmp.IsEquivalence, Option.UnwrapsOrElse, Option.option_and_then, Option.option_map_or}
-use Rattle.std.proofs.Common.{◌≡◌, Bool, true, false, List, [], ◌∷◌, ◌++◌, None, Option, Some, sym, ap, if◌then◌else◌, refl, subst, ◌∙◌, inl, inr}
+use Rattle.std.specs.{Cmp.IsEquivalence, Option.UnwrapsOrElse, Option.option_map_or}
+use Rattle.std.proofs.Common.{◌≡◌, Bool, true, false, List, [], None, Option, Some, sym, ap, if◌then◌else◌, refl, subst, ◌∙◌, inl, inr}
 use Rattle.std.proofs.lemmas.Bool.{cases_Bool}
-use Rattle.vecmap_base.proofs.PairsLemmas.ByIndex.{lookup_by_index, put_by_index}
-use Rattle.vecmap_base.specs.Pairs.{index_of, lookup, put, value_at, with_value}
+use Rattle.vecmap_base.specs.Pairs.{index_of, lookup, put}
 use Rattle.vecmap_map.specs.{Contents.Contents, Entry.entries_with, Entry.entry_key, Entry.entry_map, Entry.entry_index_of, Entry.entry_value}
 use Rattle.vecmap_map.specs.declared.entry.Entry.{Entry}
 use Rattle.vecmap_laws.proofs.AfterPuts.{lookup_put_any}
 use Rattle.vecmap_laws.proofs.Lookups.{lookup_congr, lookup_put, lookup_put_other}
-
-module _ {K W : Type 0} (eq : K → K → Bool) where
-  -- An entry with a new value leaves the same list as `put`.
-  entry_puts : (m : Contents K W) (k : K) (e : Entry K W) (w : W) → entry_map e ≡ m → entry_key e ≡ k → entry_index_of e ≡ index_of eq m.entries k → entries_with e w ≡ put eq m.entries k w
-  entry_puts m k e w same key place = (λ t. option_map_or (λ i. with_value (same t).entries i w) (place t) ((same t).entries ++ (key t, w) ∷ [])) ∙ sym (put_by_index eq m.entries k w)
-
-  -- The value of an entry is what a lookup finds.
-  entry_finds : (m : Contents K W) (k : K) (e : Entry K W) → entry_map e ≡ m → entry_index_of e ≡ index_of eq m.entries k → entry_value e ≡ lookup eq m.entries k
-  entry_finds m k e same place = (λ t. option_and_then (value_at (same t).entries) (place t)) ∙ sym (lookup_by_index (eq k) m.entries)
+use Rattle.vecmap_map.proofs.EntryLemmas.Puts.{entries_with_put, entry_value_is}
 
 module _ {K W A : Type 0} (eq : K → K → Bool) (inside : W → List A) where
   -- The list of the collection of a key, or the empty list.
@@ -71,17 +62,17 @@ module _ {K W A : Type 0} (eq : K → K → Bool) (inside : W → List A) where
 
     -- The same through the entry e of the key k: l is the list that it leaves.
     pub inner_entered_other : (l : List (K × W)) (m : Contents K W) (k : K) (e : Entry K W) (w : W) → l ≡ entries_with e w → entry_map e ≡ m → entry_key e ≡ k → entry_index_of e ≡ index_of eq m.entries k → (q : K) → eq k q ≡ false → inner l q ≡ inner m.entries q
-    inner_entered_other l m k e w leaves same key place q apart = ap (λ pairs. inner pairs q) (leaves ∙ entry_puts eq m k e w same key place) ∙ inner_put_other m.entries k w q apart
+    inner_entered_other l m k e w leaves same key place q apart = ap (λ pairs. inner pairs q) (leaves ∙ entries_with_put eq e m k w same key place) ∙ inner_put_other m.entries k w q apart
 
     module _ (IsMade : W → Type 0) (empty : (w : W) → IsMade w → inside w ≡ []) where
       pub inner_entered : (change : List A → List A) (l : List (K × W)) (m : Contents K W) (k : K) (e : Entry K W) (before after : W) → l ≡ entries_with e after → inside after ≡ change (inside before) → UnwrapsOrElse (entry_value e) IsMade before
           → entry_map e ≡ m → entry_key e ≡ k → entry_index_of e ≡ index_of eq m.entries k → inner l k ≡ change (inner m.entries k)
       inner_entered change l m k e before after leaves changed found same key place =
-          ap (λ pairs. inner pairs k) (leaves ∙ entry_puts eq m k e after same key place)
-          ∙ inner_written IsMade empty change m.entries k before after (subst (λ f. UnwrapsOrElse f IsMade before) (entry_finds eq m k e same place) found) changed
+          ap (λ pairs. inner pairs k) (leaves ∙ entries_with_put eq e m k after same key place)
+          ∙ inner_written IsMade empty change m.entries k before after (subst (λ f. UnwrapsOrElse f IsMade before) (entry_value_is eq e m k same place) found) changed
 
       pub inner_entered_unchanged : (l : List (K × W)) (m : Contents K W) (k : K) (e : Entry K W) (before after : W) → l ≡ entries_with e after → after ≡ before → UnwrapsOrElse (entry_value e) IsMade before
           → entry_map e ≡ m → entry_key e ≡ k → entry_index_of e ≡ index_of eq m.entries k → (q : K) → inner l q ≡ inner m.entries q
       inner_entered_unchanged l m k e before after leaves kept found same key place q =
-          ap (λ pairs. inner pairs q) (leaves ∙ ap (entries_with e) kept ∙ entry_puts eq m k e before same key place)
-          ∙ inner_unchanged IsMade empty m.entries k before (subst (λ f. UnwrapsOrElse f IsMade before) (entry_finds eq m k e same place) found) q
+          ap (λ pairs. inner pairs q) (leaves ∙ ap (entries_with e) kept ∙ entries_with_put eq e m k before same key place)
+          ∙ inner_unchanged IsMade empty m.entries k before (subst (λ f. UnwrapsOrElse f IsMade before) (entry_value_is eq e m k same place) found) q

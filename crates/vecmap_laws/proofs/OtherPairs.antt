@@ -65,14 +65,17 @@ module _ {K V : Type 0} (eq : K → K → Bool) where
   pub put_at_past : (l : List (K × V)) (i : ℕ) (k : K) (v : V) → put_at eq l (min i (length l)) k v ≡ put_at eq l i k v
   put_at_past l i k v = put_at_is_insert l (min i (length l)) k v ∙ insert_past (without_key eq l k) i (length l) (k, v) (shorter_without l k) ∙ sym (put_at_is_insert l i k v)
 
+  -- The stored pair, inserted at its index among the pairs of the other keys, restores the list. Its key is equal to `k`.
+  pub put_stored_back : (l m : List (K × V)) (i : ℕ) (k stored : K) (v : V) → index_of eq l k ≡ Some i → slice_get l i ≡ Some (stored, v) → without_key eq m k ≡ without_key eq l k → insert (without_key eq m k) i (stored, v) ≡ l
+  put_stored_back l m i k stored v at there same =
+      ap (λ n. insert n i (stored, v)) (same ∙ without_key_at eq l k i at)
+      ∙ insert_where_removed l i (stored, v) (slice_get_within l i (stored, v) there)
+      ∙ ap (λ p. set l i p) (sym (get_or_from_slice_get l i (stored, v) (stored, v) there))
+      ∙ set-get_or l i (stored, v)
+
   -- A pair that is placed at its index among the pairs of the other keys restores the list.
   pub put_back : (l m : List (K × V)) (i : ℕ) (k : K) (v : V) → index_of eq l k ≡ Some i → slice_get l i ≡ Some (k, v) → without_key eq m k ≡ without_key eq l k → put_at eq m i k v ≡ l
-  put_back l m i k v at stored same =
-      put_at_is_insert m i k v
-      ∙ ap (λ n. insert n i (k, v)) (same ∙ without_key_at eq l k i at)
-      ∙ insert_where_removed l i (k, v) (slice_get_within l i (k, v) stored)
-      ∙ ap (λ p. set l i p) (sym (get_or_from_slice_get l i (k, v) (k, v) stored))
-      ∙ set-get_or l i (k, v)
+  put_back l m i k v at stored same = put_at_is_insert m i k v ∙ put_stored_back l m i k k v at stored same
 
   module _ (o : IsEquivalence eq) where
     own_first : (l : List (K × V)) (k : K) (v : V) → without_key eq ((k, v) ∷ l) k ≡ l

@@ -1,6 +1,6 @@
 -- Equal sets stay equal. The idea: they are equal exactly if they have the same elements, and whether an element is
 -- present after a change is a function of whether it was before.
-use Rattle.std.proofs.Common.{◌≡◌, Bool, true, ◌&&◌, ◌||◌, IsTrue, List, ap, filter, not, remove, sym, ◌∙◌}
+use Rattle.std.proofs.Common.{◌≡◌, Bool, true, ◌&&◌, ◌||◌, IsTrue, List, ap, filter, not, sym, ◌∙◌}
 use Rattle.std.proofs.lemmas.Bool.{and_parts}
 use Rattle.std.specs.{Cmp.IsEquivalence, Cmp.both_ways, List.IsDistinct, Set.is_member}
 use Rattle.vecmap_base.proofs.EqualityLemmas.Relations.{is_member_both, is_member_only}
@@ -8,9 +8,9 @@ use Rattle.vecmap_base.proofs.EqualityLemmas.Sets.{within_from_test}
 use Rattle.vecmap_laws.proofs.SetRelations.{is_member_union, same_items}
 use Rattle.vecmap_laws.proofs.ItemMembers.{is_member_add, is_member_adds}
 use Rattle.vecmap_base.specs.Equality.{has_same_items, is_within}
-use Rattle.vecmap_base.specs.Items.{add, adds, both, only, swap_without, swap_without_item, without_item}
+use Rattle.vecmap_base.specs.Items.{add, adds, both, only, swap_without_item, without_item}
 use Rattle.std.proofs.lemmas.Map.Views.{any-filter_same}
-use Rattle.vecmap_laws.proofs.RemovalLemmas.{is_member_by_test, remove_leaves, swap_leaves}
+use Rattle.vecmap_laws.proofs.Finds.{is_member_swap_without, is_member_without}
 use Rattle.vecmap_laws.proofs.AlgebraLemmas.{is_member_symmetric_difference}
 use Rattle.vecmap_set.specs.Operators.{symmetric_difference_of, union_of}
 
@@ -47,11 +47,11 @@ module _ {T : Type 0} (eq : T → T → Bool) (o : IsEquivalence eq) where
   module _ (a b : List T) (h : IsTrue (has_same_items eq a b)) (d : IsDistinct eq a) (e : IsDistinct eq b) (x : T) where
     pub equal_after_removal : IsTrue (has_same_items eq (without_item eq a x) (without_item eq b x))
     equal_after_removal = same_items eq o (without_item eq a x) (without_item eq b x) (λ y.
-        is_member_by_test remove remove_leaves eq o (eq x) (λ z w i. o.congr x z w i) a d y ∙ ap (λ c. c && not (eq x y)) (same_members a b h y) ∙ sym (is_member_by_test remove remove_leaves eq o (eq x) (λ z w i. o.congr x z w i) b e y))
+        is_member_without eq o a x y d ∙ ap (λ c. c && not (eq x y)) (same_members a b h y) ∙ sym (is_member_without eq o b x y e))
 
     pub equal_after_swap_removal : IsTrue (has_same_items eq (swap_without_item eq a x) (swap_without_item eq b x))
     equal_after_swap_removal = same_items eq o (swap_without_item eq a x) (swap_without_item eq b x) (λ y.
-        is_member_by_test swap_without swap_leaves eq o (eq x) (λ z w i. o.congr x z w i) a d y ∙ ap (λ c. c && not (eq x y)) (same_members a b h y) ∙ sym (is_member_by_test swap_without swap_leaves eq o (eq x) (λ z w i. o.congr x z w i) b e y))
+        is_member_swap_without eq o a x y d ∙ ap (λ c. c && not (eq x y)) (same_members a b h y) ∙ sym (is_member_swap_without eq o b x y e))
 
   -- A test that tells no equal elements apart.
   pub is_member_filter_test : (test : T → Bool) → ((x y : T) → eq x y ≡ true → test x ≡ test y) → (s : List T) (y : T) → is_member eq (filter test s) y ≡ (test y && is_member eq s y)

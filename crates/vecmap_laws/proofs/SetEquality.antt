@@ -2,19 +2,16 @@
 use Rattle.std.specs.Prelude.{◌≡◌, ◌↔◌, Bool, true, List}
 use Rattle.std.specs.Cmp.{IsEquivalence}
 use Rattle.std.specs.List.Sorted.{IsPermutation}
-use Rattle.std.proofs.Common.{sym, ◌∙◌}
 use Rattle.std.proofs.lemmas.Bool.{and_from, and_parts}
 use Rattle.std.proofs.lemmas.List.Sorted.{list_any-IsPermutation}
 use Rattle.vecmap_base.specs.Equality.{has_same_items, is_within}
 pub use Rattle.vecmap_base.proofs.EqualityLemmas.Sets.{Within, within_from_test, test_from_within, set_equality_laws, length_within, longer_not_within, within_back, set_lengths_differ, set_equal_by_half}
+use Rattle.vecmap_laws.proofs.SetRelations.{same_items}
 
 module _ {T : Type 0} (eq : T → T → Bool) (o : IsEquivalence eq) where
   -- The order of the elements makes no difference.
   pub rearranged_sets_equal : (a b : List T) → IsPermutation a b → has_same_items eq a b ≡ true
-  rearranged_sets_equal a b p =
-      and_from _ _
-      (test_from_within eq o a b (λ x e. sym (list_any-IsPermutation (eq x) a b p) ∙ e))
-      (test_from_within eq o b a (λ x e. list_any-IsPermutation (eq x) a b p ∙ e))
+  rearranged_sets_equal a b p = same_items eq o a b (λ x. list_any-IsPermutation (eq x) a b p)
 
   -- Two lists are equal as sets exactly if each is within the other.
   pub equal_if_within_each_other : (a b : List T) → has_same_items eq a b ≡ true ↔ ((is_within eq a b ≡ true) × (is_within eq b a ≡ true))

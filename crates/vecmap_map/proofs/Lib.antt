@@ -1,4 +1,4 @@
-mod EntryLemmas
+pub mod EntryLemmas
 mod LentLemmas
 pub mod ContentsLemmas
 pub mod MadeLemmas
