@@ -113,7 +113,7 @@ def contracts():
 
 
 def passed_on(path):
-    """Yields what a file of definitions or lemmas passes on of another one: its path, the name there, and the one here."""
+    """Yields what a file of definitions or lemmas passes on: the path of its file, the name there, and the name here."""
     for _, place, group in PUBLIC_USE.findall(read(path)):
         for name in (group or place).split(","):
             home, _, name = f"{place * bool(group)}{name.strip()}".removeprefix("Rattle.").rpartition(".")
@@ -141,7 +141,7 @@ def lemmas():
             if re.search(rf"^ *pub (?:ruleset )?{re.escape(name)}(?![\w'-])", text, re.MULTILINE):
                 statement = " ".join(re.split(rf"\n *{re.escape(name)}(?= .*=| *=)", text)[0].split())
                 # The parameters of the modules that it is in are those of the lemma.
-                statement = re.sub(rf" where (module _|pub {re.escape(name)} :)", "", statement)
+                statement = re.sub(rf"(^| where )(module _|pub {re.escape(name)} :)", "", statement)
                 yield ("lemma", f"{LAWS}: {module_of(path)}.{here}"), "statement", statement
 
 
