@@ -16,10 +16,7 @@ use Rattle.vecmap_laws.proofs.Values.{length_with_value}
 use Rattle.vecmap_base.proofs.PairsLemmas.Parts.{joins_puts}
 use Rattle.vecmap_base.proofs.PairsLemmas.Updates.{put_key_finds_as_put}
 use Rattle.vecmap_laws.proofs.Puts.{put_stored}
-
-pub option_or_none : {X : Type 0} (a : Option X) → option_or a None ≡ a
-option_or_none None = refl
-option_or_none (Some x) = refl
+pub use Rattle.vecmap_map.proofs.MadeLemmas.{or_none as option_or_none}
 
 pub option_or_assoc : {X : Type 0} (a b c : Option X) → option_or (option_or a b) c ≡ option_or a (option_or b c)
 option_or_assoc None b c = refl

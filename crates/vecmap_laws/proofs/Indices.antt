@@ -1,7 +1,7 @@
 -- What the definitions say that are about an index.
-use Rattle.std.specs.{Option.option_and_then, Option.option_map, List.list_any, Map.keys_of}
+use Rattle.std.specs.{Option.option_map, List.list_any, Map.keys_of}
 use Rattle.std.proofs.Common.{◌≡◌, ℕ, suc, Bool, true, false, List, ◌∷◌, Option, None, Some, if◌then◌else◌, length, unwrap_or, refl, ap, ◌∙◌, sym}
-use Rattle.vecmap_base.specs.Pairs.{index_of, index_or_length, lookup_full, lookup_pair, value_at, with_pair}
+use Rattle.vecmap_base.specs.Pairs.{index_of, index_or_length}
 use Rattle.vecmap_base.proofs.PairsLemmas.Recursion.{index_of_cons}
 use Rattle.vecmap_base.proofs.PairsLemmas.ByIndex.{index_by_is}
 use Rattle.vecmap_base.proofs.IndexLemmas.{list_any_map, position_none}

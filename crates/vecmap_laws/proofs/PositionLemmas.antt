@@ -3,6 +3,7 @@ use Rattle.std.proofs.Common.{arith, ◌≡◌, ◌<◌, ◌+◌, ℕ, suc, Bool
 use Rattle.std.proofs.lemmas.{List.length-take-le, List.take_more}
 use Rattle.std.specs.Option.{option_or}
 use Rattle.vecmap_base.proofs.IndexLemmas.{position_cons}
+pub use Rattle.vecmap_base.proofs.IndexLemmas.{is_some-map}
 
 module _ {X : Type 0} (p : X → Bool) where
   -- In a list of two parts, an item passes in the first part, or else in the second.

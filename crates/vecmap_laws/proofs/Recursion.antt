@@ -2,7 +2,7 @@
 use Rattle.std.specs.Option.{option_map_or}
 use Rattle.std.proofs.Common.{◌≡◌, ◌∙◌, ap, Bool, List, ◌∷◌, Some, if◌then◌else◌, refl, remove}
 use Rattle.vecmap_base.specs.Items.{swap_without, swap_without_first, without_first}
-use Rattle.vecmap_base.specs.Pairs.{lookup, lookup_by, put_key, swap_without_by, without_by, without_key}
+use Rattle.vecmap_base.specs.Pairs.{lookup, put_key, swap_without_by, without_by, without_key}
 use Rattle.vecmap_base.proofs.PairsLemmas.ByIndex.{index_by_is, without_by_index}
 pub use Rattle.vecmap_base.proofs.PairsLemmas.Recursion.{index_of_cons, put_cons}
 

@@ -1,15 +1,14 @@
 -- Lists that ascend by a key: a binary search agrees with a search in order, an insertion where it ends keeps the
 -- order, and a stable sort of such a list changes nothing.
-use Rattle.std.proofs.Common.{arith, ◌≡◌, ◌+◌, ◌-◌, ◌<◌, ◌≤◌, ℕ, suc, Bool, true, false, ◌&&◌, List, [], ◌∷◌, Some, ap, filter, get_or, if◌then◌else◌, inl, inr, insert, length, nat_lt, not, refl, slice_get, subst, sym, true≢false, ◌∙◌}
-use Rattle.std.proofs.lemmas.{Bool.cases_Bool, Bool.ltb-false, Bool.ltb-true, List.Folds.list_any_none, Option.get_or_from_slice_get, Option.slice_get_within}
+use Rattle.std.proofs.Common.{arith, ◌≡◌, ◌+◌, ◌-◌, ◌<◌, ◌≤◌, ℕ, suc, Bool, true, false, ◌&&◌, List, [], ◌∷◌, Some, ap, filter, get_or, if◌then◌else◌, inl, inr, insert, length, nat_lt, not, refl, slice_get, sym, true≢false, ◌∙◌}
+use Rattle.std.proofs.lemmas.{Bool.cases_Bool, Bool.ltb-false, Bool.ltb-true, Option.get_or_from_slice_get, Option.slice_get_within}
 use Rattle.std.proofs.lemmas.List.Edits.{get_or-insert_above, get_or-insert_at, get_or-insert_below, length-insert}
 use Rattle.std.proofs.lemmas.List.Sorted.{sorted_far}
-use Rattle.std.specs.{Cmp.IsStrictWeakOrder, Cmp.IsTotalOrder, List.list_any}
-use Rattle.std.specs.Cmp.{alike_right, upto}
-use Rattle.std.specs.List.Sorted.{IsNonDecreasingBy, IsPartitionPoint, IsSortedBy, IsSortedByKey, IsStableBy, ties}
-use Rattle.std.specs.Ordering.{is_eq, is_gt, is_lt, ordering_index, ordering_reverse}
+use Rattle.std.specs.{Cmp.IsStrictWeakOrder, Cmp.IsTotalOrder}
+use Rattle.std.specs.List.Sorted.{IsPartitionPoint, IsSortedBy, IsSortedByKey, IsStableBy, ties}
+use Rattle.std.specs.Ordering.{is_gt, is_lt}
 use Rattle.std.specs.declared.cmp.Ordering.{Ordering}
-use Rattle.std.specs.declared.cmp.Ordering.TheVariants.{Equal, Greater, Less}
+use Rattle.std.specs.declared.cmp.Ordering.TheVariants.{Greater, Less}
 use Rattle.vecmap_base.proofs.ItemsLemmas.Sorted.{less, less_turned}
 pub use Rattle.vecmap_base.proofs.ItemsLemmas.Sorted.{comparisons_rise, none_at_partition, weak}
 

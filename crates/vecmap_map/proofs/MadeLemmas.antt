@@ -5,9 +5,9 @@ use Rattle.vecmap_base.specs.Pairs.{HasDistinctKeys, lookup, puts}
 use Rattle.vecmap_base.proofs.DistinctLemmas.Absent.{distinct_none}
 use Rattle.vecmap_base.proofs.PairsLemmas.Parts.{joins_of_puts}
 
-pub or_none : {V : Type 0} (found : Option V) → option_or found None ≡ found
+pub or_none : {X : Type 0} (a : Option X) → option_or a None ≡ a
 or_none None = refl
-or_none (Some v) = refl
+or_none (Some x) = refl
 
 module _ {K V : Type 0} (eq : K → K → Bool) (o : IsEquivalence eq) where
   -- No two keys are equal.
