@@ -100,7 +100,7 @@ def replaced(page, start, end, text):
     """Writes a text to a page in place of what is between two others, with these."""
     head, found, rest = read(page).partition(start)
     if not found or end not in rest:
-        raise SystemExit(f"reference: this rustdoc writes other HTML than 1.95 to 1.97 do: no {start} in {page}")
+        raise SystemExit(f"reference: this rustdoc writes other pages than 1.95 to 1.97 do: no {start} in {page}")
     write(page, head + text + rest.partition(end)[2])
 
 
@@ -173,6 +173,14 @@ def write_front(out):
     replaced(f"{out}/index.html", '<ul class="all-items">', "</ul>", front)
     # So that a search shows the calls of the collections first.
     replaced(f"{out}/index.html", 'data-current-crate="', '"', 'data-current-crate="vecmap"')
+
+
+def order_search(out):
+    """Makes a search show names in its own case first, as `drain` before `Drain`, and of equal names those of maps."""
+    for page in pages_of(f"{out}/static.files/search-*.js"):
+        replaced(page, "if(isMixedCase){", "a=", "{a=")
+        sides = ";".join(f'{it}=Number({it}{it}i.parent?.name!=="VecMap")' for it in "ab")
+        replaced(page, "a=Number(aai.ty)", ";", f"{sides};if(a!==b){{return a-b;}}a=Number(aai.ty);")
 
 
 def clause_places(out):
@@ -286,6 +294,7 @@ def make(work, out):
     named_in(out)
     clause_places(out)
     write_front(out)
+    order_search(out)
     return [*lost_faults(out), *link_faults(out)]
 
 
