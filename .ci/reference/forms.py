@@ -50,6 +50,8 @@ BOUND = re.compile(r"λ ([\w' ]+)\.(?= |$)|[({] ?([\w' ]+) :")
 GIVEN = re.compile(
     r"^([^=:→]*?) =(?= |$)|[{;] ?([\w']+) =(?= )|^ *(?:pub )?([\w' -]+) :|\blet ([\w' ]+) |⟦<([^>]*)>⟧", re.MULTILINE
 )
+# A definition of itself, as in `put eq (put eq l a v) b w`.
+TWICE = re.compile(r"\b([A-Za-z]\w*)(?: [\w.]+)* \(\1\b")
 # The clauses of a contract that follow from others: from this comment up to the next one.
 FOLLOWS = re.compile(r"^ *// ((?:What follows|Follows).*)\n((?:(?! *//).*\n?)*)", re.MULTILINE)
 # What each definition says, by its path; the true source of each form; and how a search finds each law.
@@ -284,6 +286,7 @@ def searched(clauses, names):
     for clause in clauses:
         words = [it for it in dict.fromkeys(TOKEN.findall(clause)) if "::specs::" in names.get(it, "")]
         pairs |= {f"{a} {b}" for a in words for b in words if a != b and {a, b}.isdisjoint(("Bool", "List"))}
+        pairs |= {f"{it} {it}" for it in TWICE.findall(clause)}
     return pairs
 
 

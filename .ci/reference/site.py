@@ -28,6 +28,8 @@ USE_OR_PLACE = re.compile(r' id="((?:ty)?method\.|impl-)([^"]+)"|href="([^"#]*co
 COPY = re.compile(r"/vecmap/(?:map|set)/struct\.Vec(?:Map|Set)\.")
 # The place of an item on a page, or the label of a clause or the name of a field below it.
 PLACED = re.compile(r' id="((?:ty)?method\.[^"]+|impl-[^"]+)"|<abbr title="([^"]*)">(\w+)</abbr>')
+# The sections of PROVED that the page on contracts has.
+PROVED = ["Premises", "Exceptions", "Trusted"]
 # The list of what the script has made in a folder.
 FILES_MADE = "files-made.txt"
 UNSTABLE = ["-Zunstable-options", "-Zcrate-attr=feature(allocator_api, lazy_type_alias)", "-Aincomplete_features"]
@@ -44,15 +46,19 @@ def missing_tool():
     return ""
 
 
+def version():
+    """Returns the commit of the repository, or nothing."""
+    state = ["git", "rev-parse", "--short=8", "HEAD"]
+    return subprocess.run(state, capture_output=True, text=True, check=False).stdout.strip()
+
+
 def build(crate, root, needs, work, out):
     """Makes the metadata of a crate, and its pages."""
     externs = [f"--extern={'std' if it == STD else it}={work}/lib{it}.rmeta" for it in needs]
     shared = ["-Ldependency=.", "--edition=2021", f"--crate-name={crate}", f"-Cmetadata={crate}", *externs, root]
     denied = [f"-D{it}" for it in DENIED] if crate != STD else ["-Arustdoc::all"]
     pages = [f"--extend-css={HERE}/reference.css", "--enable-index-page", f"-o{out}", *denied]
-    state = ["git", "rev-parse", "--short=8", "HEAD"]
-    version = subprocess.run(state, capture_output=True, text=True, check=False).stdout.strip()
-    pages += [f"--crate-version={version}"] if version else []
+    pages += [f"--crate-version={version()}"] if version() else []
     env = {**os.environ, "RUSTC_BOOTSTRAP": "1"}
     for words in (["rustc", "--crate-type=lib", "--emit=metadata", "-Awarnings"], ["rustdoc", *pages]):
         if subprocess.run([*words, *UNSTABLE, *shared], cwd=work, env=env, check=False).returncode:
@@ -64,8 +70,10 @@ def contracts_page():
     places = lambda it: re.sub(r"`(\w+)`", r'<span id="\1"></span>\g<0>', it[0])
     words, *fields = re.split("(?=\n# Fields)", read(f"{HERE}/contracts.md"))
     text = re.sub(r"^\| `.*?`(?= \|)", places, words, flags=re.MULTILINE) + "".join(fields)
-    calls, labels = section("docs/PROVED.md", "How to read a contract"), section("docs/ARCHITECTURE.md", "Labels")
-    pages = f"\n# Of calls\n{calls}\n# Labels\n{labels}".replace("```rust", "```text")
+    pages = f'\n# Labels\n{section("docs/ARCHITECTURE.md", "Labels")}'
+    for title in ("How to read a contract", *PROVED):
+        pages += f'\n# {title.replace("How to read a contract", "Of calls")}\n{section("docs/PROVED.md", title)}'
+    pages = pages.replace("```rust", "```text")
     text += re.sub(r"\[([^\]]*)\]\([^)]*\)", r"\1", pages)
     places = {it.rsplit("::", 1)[1]: it for it in reversed(KNOWN) if "::specs::" in it}
 
@@ -76,8 +84,8 @@ def contracts_page():
         return f"[{found[0]}](../../{'/'.join(path)}/constant.{name}.html)"
 
     text = re.sub(r"(?<!>)`([A-Z]\w+)`", to_page, text)
-    signs = [*meanings()["Signs"], *meanings()["Parts"], *meanings()["Labels"]]
-    return f"{found_by(signs)}{doc(text)}pub mod contracts {{}}\n"
+    rows = {"proof", *map(str.lower, PROVED), *(it for part in meanings().values() for it in part)}
+    return f"{found_by(rows)}{doc(text)}pub mod contracts {{}}\n"
 
 
 def write_forms(crate, work):
@@ -170,6 +178,8 @@ def write_front(out):
     rows = "".join(f'<li><a href="{it}/index.html">{it}</a>: {html.escape(text)}</li>' for it, text in about.items())
     front = re.sub(r"`([^`]+)`", r"<code>\1</code>", f'{read(f"{HERE}/front.html")}<ul>{rows}</ul>')
     replaced(f"{out}/index.html", "<h1>", "</h1>", "<h1>Reference of vecmap</h1>")
+    name = f'<h2><a href="index.html">vecmap</a><span class="version">{version()}</span></h2>'
+    replaced(f"{out}/index.html", '<div class="sidebar-crate">', "</nav>", f'<div class="sidebar-crate">{name}</div></nav>')
     replaced(f"{out}/index.html", '<ul class="all-items">', "</ul>", front)
     # So that a search shows the calls of the collections first.
     replaced(f"{out}/index.html", 'data-current-crate="', '"', 'data-current-crate="vecmap"')

@@ -34,7 +34,8 @@ use std::marker::Model;
 /// A contract sees a map as the list of its pairs and its capacity.
 ///
 /// One allocation holds all pairs and nothing else: a pair needs `size_of::<(K, V)>()` bytes. A map is `Eq` if its
-/// values are, so it can itself be a key. It is neither `Hash` nor `Ord`.
+/// values are, so it can itself be a key, and `Send` and `Sync` if its keys and values are. It is neither `Hash` nor
+/// `Ord` nor `Default`.
 ///
 /// All keys are distinct, unless a caller makes duplicates: by writing a key, or by keys whose clones differ from them.
 /// A lookup then finds the first pair with an equal key.

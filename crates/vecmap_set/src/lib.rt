@@ -34,7 +34,8 @@ use std::marker::Model;
 /// list of its elements and its capacity.
 ///
 /// One allocation holds all elements and nothing else: an element needs `size_of::<T>()` bytes. A set is `Eq`, so it
-/// can itself be a key or an element. It is neither `Hash` nor `Ord`.
+/// can itself be a key or an element, and `Send` and `Sync` if its elements are. It is neither `Hash` nor `Ord` nor
+/// `Default`.
 ///
 /// # Examples
 ///
