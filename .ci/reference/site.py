@@ -179,7 +179,8 @@ def write_front(out):
     front = re.sub(r"`([^`]+)`", r"<code>\1</code>", f'{read(f"{HERE}/front.html")}<ul>{rows}</ul>')
     replaced(f"{out}/index.html", "<h1>", "</h1>", "<h1>Reference of vecmap</h1>")
     name = f'<h2><a href="index.html">vecmap</a><span class="version">{version()}</span></h2>'
-    replaced(f"{out}/index.html", '<div class="sidebar-crate">', "</nav>", f'<div class="sidebar-crate">{name}</div></nav>')
+    corner = '<div class="sidebar-crate">'
+    replaced(f"{out}/index.html", corner, "</nav>", f"{corner}{name}</div></nav>")
     replaced(f"{out}/index.html", '<ul class="all-items">', "</ul>", front)
     # So that a search shows the calls of the collections first.
     replaced(f"{out}/index.html", 'data-current-crate="', '"', 'data-current-crate="vecmap"')
