@@ -3,7 +3,7 @@
 //! A [`VecMap`] and a [`VecSet`] find their entries by `==`, so keys need neither `Hash` nor `Ord`. They are meant for
 //! short lists whose order matters, such as headers, options and symbol tables. [`map`] and [`set`] list their calls.
 //!
-//! Each call is proved to do what its contract says. A call that can run out of memory returns a `Result`, and nothing
+//! Each call is proved to do what its contract says. A call that can run out of memory returns a `Result`; no call
 //! panics or aborts. What must hold before a call is written under `# Preconditions`, and is a `requires` of the
 //! contract. The proof of each caller shows that it holds, so nothing is checked at run time.
 //!

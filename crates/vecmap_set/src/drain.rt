@@ -31,8 +31,8 @@ impl<T: Eq> VecSet<T> {
     ///
     /// # Complexity
     ///
-    /// A number of moves that is linear in the number of elements from the start of the range on. No moves if the range
-    /// ends at `len`. Does not allocate.
+    /// A number of moves that is linear in the number of elements from the start of the range on. If the range ends at
+    /// `len`, they are made by the first call of `next`. Does not allocate.
     ///
     /// # Examples
     ///
