@@ -47,9 +47,10 @@ def missing_tool():
 
 
 def version():
-    """Returns the commit of the repository, or nothing."""
+    """Returns the version that CHANGELOG describes first, and the commit of the repository, if there is one."""
     state = ["git", "rev-parse", "--short=8", "HEAD"]
-    return subprocess.run(state, capture_output=True, text=True, check=False).stdout.strip()
+    commit = subprocess.run(state, capture_output=True, text=True, check=False).stdout.strip()
+    return " ".join([re.search(r"Version (\d+)", read("CHANGELOG.md"))[1], *commit.split()])
 
 
 def build(crate, root, needs, work, out):
@@ -57,8 +58,8 @@ def build(crate, root, needs, work, out):
     externs = [f"--extern={'std' if it == STD else it}={work}/lib{it}.rmeta" for it in needs]
     shared = ["-Ldependency=.", "--edition=2021", f"--crate-name={crate}", f"-Cmetadata={crate}", *externs, root]
     denied = [f"-D{it}" for it in DENIED] if crate != STD else ["-Arustdoc::all"]
-    pages = [f"--extend-css={HERE}/reference.css", "--enable-index-page", f"-o{out}", *denied]
-    pages += [f"--crate-version={version()}"] if version() else []
+    pages = [f"--extend-css={HERE}/reference.css", "--enable-index-page", f"--crate-version={version()}", f"-o{out}"]
+    pages += denied
     env = {**os.environ, "RUSTC_BOOTSTRAP": "1"}
     for words in (["rustc", "--crate-type=lib", "--emit=metadata", "-Awarnings"], ["rustdoc", *pages]):
         if subprocess.run([*words, *UNSTABLE, *shared], cwd=work, env=env, check=False).returncode:
