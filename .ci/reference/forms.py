@@ -54,7 +54,7 @@ GIVEN = re.compile(
 TWICE = re.compile(r"\b([A-Za-z]\w*)(?: [\w.]+)* \(\1\b")
 # The clauses of a contract that follow from others: from this comment up to the next one.
 FOLLOWS = re.compile(r"^ *// ((?:What follows|Follows).*)\n((?:(?! *//).*\n?)*)", re.MULTILINE)
-# What each definition says, by its path; the true source of each form; and how a search finds each law.
+# What each definition says, by its path; the true source of each form; and how a search finds each function of no type.
 KNOWN, FILES, ALIASES = {}, {}, {}
 # The sentence and the text of each definition of these crates, by its path.
 TEXTS = {}
@@ -327,10 +327,12 @@ def function_form(text, start, names, path):
     goals = re.findall(r"^ +requires (?:(\w+) )?\{", clauses, re.MULTILINE)
     goals = {it for label in goals for it in ("", f"-clause-{label}" * bool(label))} if is_call else set()
     aliases |= {f"{name}-requires{it}" for it in goals}
+    whole = f"{module}::{name}"
     if crate_of(path) == LAWS or "laws" in module.split("::"):
-        whole = f"{module}::{name}"
-        ALIASES[whole] = searched((text[low:high] for low, high in spans), names)
-        aliases = ALIASES[whole] if whole in public_paths(whole) else set()
+        aliases = searched((text[low:high] for low, high in spans), names)
+    if text[:start].endswith("\n"):  # Of a function of no type, the search has the words of its `pub use`.
+        ALIASES[whole] = aliases
+        aliases = aliases if whole in public_paths(whole) else set()
     at = f"{path}:{text.count(chr(10), 0, spans[0][0]) + 1}: {name}"
     in_collection = is_call and crate_of(path) in ("vecmap_map", "vecmap_set")
     parts = re.findall(r"^ +\w+\*? (\w*) ?\{ ((?:.*\n)*?.*) \}$", clauses, re.MULTILINE) if in_collection else []
