@@ -274,8 +274,8 @@ impl<K, V> VecMap<K, V> {
         Ok(())
     }
 
-    /// Returns the index of the first key that matches `query`. If no key matches, appends the pair that `make`
-    /// returns, and returns its index.
+    /// Returns the index of the first key that matches `query`, or appends the pair that `make` returns, and returns its
+    /// index.
     ///
     /// # Errors
     ///

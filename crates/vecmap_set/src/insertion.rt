@@ -230,8 +230,8 @@ impl<T: Eq> VecSet<T> {
         Ok(())
     }
 
-    /// Returns the index of the element that matches `query`. If no element matches, appends the element that `make`
-    /// returns, and returns its index.
+    /// Returns the index of the element that matches `query`, or appends the element that `make` returns, and returns its
+    /// index.
     ///
     /// # Errors
     ///
