@@ -1,5 +1,5 @@
 //! Insertions through an entry.
-ghost use Rattle.std.specs.Prelude.{◌≡◌, ◌+◌, ◌-◌, ◌++◌, ◌∷◌, ◌<◌, ℕ, [], None, OnOk, Some, if◌then◌else◌, is_some, length, nat_eq, slice_get, true, unwrap_or};
+ghost use Rattle.std.specs.Prelude.{◌≡◌, ◌+◌, ◌-◌, ◌++◌, ◌∷◌, ◌<◌, ℕ, [], IsSome, None, OnOk, Some, if◌then◌else◌, is_some, length, nat_eq, slice_get, true, unwrap_or};
 ghost use Rattle.std.specs.Map.{keys_of};
 ghost use Rattle.vecmap.specs.Pairs.{HasDistinctKeys, index_of, index_or_length, lookup};
 
@@ -12,6 +12,8 @@ pub fn or_insert_then(map: &mut VecMap<u32, u32>, key: u32, value: u32) -> Resul
     ensures lookup { OnOk result ((q : ℕ) → lookup nat_eq map.new.entries q ≡ (if nat_eq key q
         then Some (unwrap_or (lookup nat_eq map.old.entries key) value) else lookup nat_eq
         map.old.entries q)) }
+    ensures unchanged { OnOk result (IsSome (lookup nat_eq map.old.entries key) → map.new.entries
+        ≡ map.old.entries) }
     ensures pair { OnOk result (lookup nat_eq map.old.entries key ≡ None → slice_get map.new.entries
         (length map.old.entries) ≡ Some (key, value)) }
     ensures length { OnOk result (length map.new.entries ≡ (if is_some (lookup nat_eq

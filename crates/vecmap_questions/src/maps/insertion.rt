@@ -1,5 +1,5 @@
 //! Insertions of a key and a value.
-ghost use Rattle.std.specs.Prelude.{◌≡◌, ◌+◌, ◌-◌, ◌++◌, ◌∷◌, ◌<◌, ℕ, [], IfOk, None, OnErr, OnOk, Some, if◌then◌else◌, is_some, length, nat_eq, slice_get, true};
+ghost use Rattle.std.specs.Prelude.{◌≡◌, ◌+◌, ◌-◌, ◌++◌, ◌∷◌, ◌<◌, ℕ, [], IfOk, None, OnErr, OnOk, Some, if◌then◌else◌, is_some, length, nat_eq, option_map, slice_get, true};
 ghost use Rattle.std.specs.Map.{keys_of};
 ghost use Rattle.vecmap.specs.Pairs.{HasDistinctKeys, index_of, index_or_length, lookup, value_at};
 
@@ -150,6 +150,10 @@ pub fn insert_key_then(map: &mut VecMap<u32, u32>, key: u32, value: u32) -> Resu
         (length map.old.entries) ≡ Some (key, value)) }
     ensures length { OnOk result (length map.new.entries ≡ (if is_some (lookup nat_eq
         map.old.entries key) then length map.old.entries else length map.old.entries + 1)) }
+    ensures keys { OnOk result (keys_of map.new.entries ≡ (if is_some (lookup nat_eq map.old.entries
+        key) then keys_of map.old.entries else keys_of map.old.entries ++ key ∷ [])) }
+    ensures ends { OnOk result (lookup nat_eq map.old.entries key ≡ None → slice_get map.new.entries
+        (length map.new.entries - 1) ≡ Some (key, value)) }
 {
     map.insert_key(key, value)?;
     Ok(())
@@ -165,6 +169,17 @@ pub fn insert_key_then_if_distinct(
 {
     map.insert_key(key, value)?;
     Ok(())
+}
+
+pub fn insert_key_then_result(
+    map: &mut VecMap<u32, u32>,
+    key: u32,
+    value: u32,
+) -> Result<Option<(u32, u32)>, Refused<(u32, u32)>>
+    ensures result { IfOk result (λ old. option_map (λ p. p.1) old ≡ lookup nat_eq map.old.entries
+        key) }
+{
+    map.insert_key(key, value)
 }
 
 pub fn put_pair_then(map: &mut VecMap<u32, u32>, key: u32, value: u32) -> Result<(), AllocError>

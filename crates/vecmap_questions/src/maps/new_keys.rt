@@ -1,7 +1,7 @@
 //! Insertions at an index, of a new key, and of what a closure makes.
-ghost use Rattle.std.specs.Prelude.{◌≡◌, ◌+◌, ◌-◌, ◌++◌, ◌∷◌, ◌<◌, ◌≤◌, ℕ, [], None, Ok, OnErr, OnOk, Some, false, if◌then◌else◌, is_some, length, nat_eq, slice_get, true};
+ghost use Rattle.std.specs.Prelude.{◌≡◌, ◌+◌, ◌-◌, ◌++◌, ◌∷◌, ◌<◌, ◌≤◌, ℕ, [], IsSome, None, Ok, OnErr, OnOk, Some, false, if◌then◌else◌, insert, is_some, length, nat_eq, slice_get, true};
 ghost use Rattle.std.specs.Map.{keys_of, values_of};
-ghost use Rattle.vecmap.specs.Pairs.{HasDistinctKeys, index_of, lookup};
+ghost use Rattle.vecmap.specs.Pairs.{HasDistinctKeys, index_of, index_or_length, lookup};
 
 use std::alloc::AllocError;
 use vecmap::{Refused, VecMap};
@@ -15,6 +15,14 @@ pub fn insert_at_then(
     requires within { index ≤ length map.old.entries }
     ensures empty { OnOk result (0 < length map.new.entries) }
     ensures unchanged { OnErr result (map.new ≡ map.old) }
+    ensures length { OnOk result (length map.new.entries ≡ (if is_some (lookup nat_eq
+        map.old.entries key) then length map.old.entries else length map.old.entries + 1)) }
+    ensures pair { OnOk result (lookup nat_eq map.old.entries key ≡ None → slice_get map.new.entries
+        index ≡ Some (key, value)) }
+    ensures keys { OnOk result (lookup nat_eq map.old.entries key ≡ None → keys_of map.new.entries
+        ≡ insert (keys_of map.old.entries) index key) }
+    ensures order { OnOk result ((i : ℕ) → lookup nat_eq map.old.entries key ≡ None → i < index
+        → slice_get map.new.entries i ≡ slice_get map.old.entries i) }
 {
     map.insert_at(index, key, value)?;
     Ok(())
@@ -33,6 +41,8 @@ pub fn insert_at_then_if_distinct(
     ensures lookup { OnOk result ((q : ℕ) → lookup nat_eq map.new.entries q ≡ (if nat_eq key q
         then Some value else lookup nat_eq map.old.entries q)) }
     ensures present { OnOk result (is_some (lookup nat_eq map.new.entries key) ≡ true) }
+    ensures index { OnOk result (lookup nat_eq map.old.entries key ≡ None → index_of nat_eq
+        map.new.entries key ≡ Some index) }
 {
     map.insert_at(index, key, value)?;
     Ok(())
@@ -50,6 +60,20 @@ pub fn insert_at_then_if_distinct_generic<K: Eq + Drop>(
     ensures key { OnOk result (lookup K.eq map.new.entries key ≡ Some value) }
     ensures lookup { OnOk result ((q : K) → lookup K.eq map.new.entries q ≡ (if K.eq key q
         then Some value else lookup K.eq map.old.entries q)) }
+{
+    map.insert_at(index, key, value)?;
+    Ok(())
+}
+
+pub fn insert_at_then_generic<K: Eq + Drop>(
+    map: &mut VecMap<K, u32>,
+    index: usize,
+    key: K,
+    value: u32,
+) -> Result<(), AllocError>
+    requires within { index ≤ length map.old.entries }
+    ensures pair { OnOk result (lookup K.eq map.old.entries key ≡ None → slice_get map.new.entries
+        index ≡ Some (key, value)) }
 {
     map.insert_at(index, key, value)?;
     Ok(())
@@ -132,10 +156,21 @@ pub fn index_or_try_insert_with_then(
     key: u32,
     value: u32,
 ) -> Result<(), AllocError>
+    ensures key { OnOk result (lookup nat_eq map.old.entries key ≡ None → lookup nat_eq
+        map.new.entries key ≡ Some value) }
     ensures lookup { OnOk result ((q : ℕ) → nat_eq key q ≡ false → lookup nat_eq map.new.entries q
         ≡ lookup nat_eq map.old.entries q) }
     ensures present { OnOk result (is_some (index_of nat_eq map.new.entries key) ≡ true) }
     ensures empty { OnOk result (0 < length map.new.entries) }
+    ensures index { OnOk result (index_of nat_eq map.new.entries key ≡ Some (index_or_length nat_eq
+        map.old.entries key)) }
+    ensures indices { OnOk result ((q : ℕ) (i : ℕ) → index_of nat_eq map.old.entries q ≡ Some i
+        → index_of nat_eq map.new.entries q ≡ Some i) }
+    ensures length { OnOk result (length map.new.entries ≡ (if is_some (lookup nat_eq
+        map.old.entries key) then length map.old.entries else length map.old.entries + 1)) }
+    ensures ends { OnOk result (lookup nat_eq map.old.entries key ≡ None → slice_get map.new.entries
+        (length map.new.entries - 1) ≡ Some (key, value)) }
+    ensures unchanged { OnOk result (IsSome (lookup nat_eq map.old.entries key) → map.new ≡ map.old) }
 {
     let pair = (key, value);
     map.index_or_try_insert_with(

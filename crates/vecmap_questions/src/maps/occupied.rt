@@ -1,7 +1,7 @@
 //! Writes and removals through an occupied entry.
-ghost use Rattle.std.specs.Prelude.{◌≡◌, ◌+◌, ℕ, IsSome, None, Some, false, if◌then◌else◌, is_some, length, nat_eq, true};
+ghost use Rattle.std.specs.Prelude.{◌≡◌, ◌+◌, ◌<◌, ℕ, IsSome, None, Some, false, if◌then◌else◌, is_some, length, nat_eq, true};
 ghost use Rattle.std.specs.Map.{keys_of};
-ghost use Rattle.vecmap.specs.Pairs.{HasDistinctKeys, lookup};
+ghost use Rattle.vecmap.specs.Pairs.{HasDistinctKeys, index_of, lookup};
 
 use vecmap::VecMap;
 use vecmap::map::Entry;
@@ -14,6 +14,8 @@ pub fn occupied_insert_then(map: &mut VecMap<u32, u32>, key: u32, value: u32)
     ensures length { length map.new.entries ≡ length map.old.entries }
     ensures present { is_some (lookup nat_eq map.new.entries key) ≡ true }
     ensures keys { keys_of map.new.entries ≡ keys_of map.old.entries }
+    ensures indices { (q : ℕ) → index_of nat_eq map.new.entries q ≡ index_of nat_eq map.old.entries
+        q }
 {
     if let Entry::Occupied(mut entry) = map.entry(key) {
         entry.insert(value);
@@ -38,6 +40,8 @@ pub fn occupied_get_mut_then(map: &mut VecMap<u32, u32>, key: u32, value: u32)
     ensures length { length map.new.entries ≡ length map.old.entries }
     ensures present { is_some (lookup nat_eq map.new.entries key) ≡ true }
     ensures keys { keys_of map.new.entries ≡ keys_of map.old.entries }
+    ensures indices { (q : ℕ) → index_of nat_eq map.new.entries q ≡ index_of nat_eq map.old.entries
+        q }
 {
     if let Entry::Occupied(mut entry) = map.entry(key) {
         *entry.get_mut() = value;
@@ -61,6 +65,9 @@ pub fn occupied_remove_then_if_distinct(map: &mut VecMap<u32, u32>, key: u32)
         else lookup nat_eq map.old.entries q) }
     ensures distinct { HasDistinctKeys nat_eq map.new.entries }
     ensures present { is_some (lookup nat_eq map.new.entries key) ≡ false }
+    ensures index { index_of nat_eq map.new.entries key ≡ None }
+    ensures indices { (q : ℕ) (i j : ℕ) → index_of nat_eq map.old.entries key ≡ Some j → index_of
+        nat_eq map.old.entries q ≡ Some i → i < j → index_of nat_eq map.new.entries q ≡ Some i }
 {
     if let Entry::Occupied(entry) = map.entry(key) {
         entry.remove();

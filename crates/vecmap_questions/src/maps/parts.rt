@@ -1,6 +1,6 @@
 //! Removals of many pairs.
-ghost use Rattle.std.specs.Prelude.{◌≡◌, ◌+◌, ◌<◌, ◌≤◌, ℕ, [], IfOk, None, OnErr, OnOk, Some, drop, false, if◌then◌else◌, is_some, length, nat_eq, nat_lt, slice_get, take};
-ghost use Rattle.std.specs.Map.{keys_of};
+ghost use Rattle.std.specs.Prelude.{◌≡◌, ◌+◌, ◌++◌, ◌<◌, ◌≤◌, ℕ, [], IfOk, None, OnErr, OnOk, Some, drop, false, filter, if◌then◌else◌, is_some, length, nat_eq, nat_lt, slice_get, take};
+ghost use Rattle.std.specs.Map.{keys_of, values_of};
 ghost use Rattle.std.specs.Option.{option_and_then, option_or};
 ghost use Rattle.vecmap.specs.Pairs.{HasDistinctKeys, index_of, lookup};
 
@@ -24,6 +24,7 @@ pub fn truncate_then(map: &mut VecMap<u32, u32>, index: usize)
     ensures indices { (q : ℕ) (i : ℕ) → index_of nat_eq map.old.entries q ≡ Some i → i < index
         → index_of nat_eq map.new.entries q ≡ Some i }
     ensures keys { keys_of map.new.entries ≡ take index (keys_of map.old.entries) }
+    ensures values { values_of map.new.entries ≡ take index (values_of map.old.entries) }
     ensures unchanged { length map.old.entries ≤ index → map.new.entries ≡ map.old.entries }
     ensures empty { index ≡ 0 → length map.new.entries ≡ 0 }
 {
@@ -52,6 +53,8 @@ pub fn split_off_then(
     ensures pair { IfOk result (λ made. (i : ℕ) → slice_get made.entries i ≡ slice_get
         map.old.entries (index + i)) }
     ensures length { IfOk result (λ made. length map.new.entries + length made.entries ≡ length
+        map.old.entries) }
+    ensures keys { IfOk result (λ made. keys_of map.new.entries ++ keys_of made.entries ≡ keys_of
         map.old.entries) }
     ensures unchanged { OnErr result (map.new ≡ map.old) }
 {
@@ -117,6 +120,13 @@ pub fn retain_then_if_distinct(map: &mut VecMap<u32, u32>, value: u32)
     map.retain(|_key, stored| *stored < value);
 }
 
+pub fn retain_then(map: &mut VecMap<u32, u32>, value: u32)
+    ensures length { length map.new.entries ≤ length map.old.entries }
+    ensures order { map.new.entries ≡ filter (λ p. nat_lt p.1 value) map.old.entries }
+{
+    map.retain(|_key, stored| *stored < value);
+}
+
 pub fn retain_by_key_then_if_distinct(map: &mut VecMap<u32, u32>, key: u32)
     requires distinct { HasDistinctKeys nat_eq map.old.entries }
     ensures key { lookup nat_eq map.new.entries key ≡ None }
@@ -124,6 +134,12 @@ pub fn retain_by_key_then_if_distinct(map: &mut VecMap<u32, u32>, key: u32)
         else lookup nat_eq map.old.entries q) }
     ensures distinct { HasDistinctKeys nat_eq map.new.entries }
     ensures present { is_some (lookup nat_eq map.new.entries key) ≡ false }
+{
+    map.retain(|k, _value| *k != key);
+}
+
+pub fn retain_by_key_then(map: &mut VecMap<u32, u32>, key: u32)
+    ensures unchanged { lookup nat_eq map.old.entries key ≡ None → map.new ≡ map.old }
 {
     map.retain(|k, _value| *k != key);
 }
@@ -142,6 +158,12 @@ pub fn retain2_then_if_distinct(map: &mut VecMap<u32, u32>, value: u32)
     ensures lookup { (q : ℕ) → lookup nat_eq map.new.entries q ≡ option_and_then (λ v. if nat_lt v
         value then Some v else None) (lookup nat_eq map.old.entries q) }
     ensures distinct { HasDistinctKeys nat_eq map.new.entries }
+{
+    map.retain2(|_key, stored| *stored < value);
+}
+
+pub fn retain2_then(map: &mut VecMap<u32, u32>, value: u32)
+    ensures length { length map.new.entries ≤ length map.old.entries }
 {
     map.retain2(|_key, stored| *stored < value);
 }

@@ -1,5 +1,5 @@
 //! Removals by a key.
-ghost use Rattle.std.specs.Prelude.{◌≡◌, ◌+◌, ◌<◌, ℕ, String, None, Some, false, if◌then◌else◌, is_some, length, nat_eq, string_eq};
+ghost use Rattle.std.specs.Prelude.{◌≡◌, ◌+◌, ◌<◌, ℕ, String, None, Some, false, if◌then◌else◌, is_some, length, nat_eq, option_map, string_eq};
 ghost use Rattle.std.specs.declared.alloc.Global.{Global};
 ghost use Rattle.vecmap.specs.Pairs.{HasDistinctKeys, has_text, index_of, lookup, lookup_by};
 
@@ -15,6 +15,7 @@ pub fn remove_then_if_distinct(map: &mut VecMap<u32, u32>, key: u32)
     ensures present { is_some (lookup nat_eq map.new.entries key) ≡ false }
     ensures indices { (q : ℕ) (i j : ℕ) → index_of nat_eq map.old.entries key ≡ Some j → index_of
         nat_eq map.old.entries q ≡ Some i → i < j → index_of nat_eq map.new.entries q ≡ Some i }
+    ensures index { index_of nat_eq map.new.entries key ≡ None }
 {
     map.remove(&key);
 }
@@ -111,4 +112,10 @@ pub fn remove_entry_then(map: &mut VecMap<u32, u32>, key: u32)
     ensures unchanged { lookup nat_eq map.old.entries key ≡ None → map.new ≡ map.old }
 {
     map.remove_entry(&key);
+}
+
+pub fn remove_entry_then_result(map: &mut VecMap<u32, u32>, key: u32) -> Option<(u32, u32)>
+    ensures result { option_map (λ p. p.1) result ≡ lookup nat_eq map.old.entries key }
+{
+    map.remove_entry(&key)
 }

@@ -1,6 +1,6 @@
 //! Removals by an index, and of the last pair.
-ghost use Rattle.std.specs.Prelude.{◌≡◌, ◌+◌, ◌-◌, ◌<◌, ◌≤◌, ℕ, [], None, Some, if◌then◌else◌, length, nat_eq, slice_get, take};
-ghost use Rattle.std.specs.Map.{keys_of};
+ghost use Rattle.std.specs.Prelude.{◌≡◌, ◌+◌, ◌-◌, ◌<◌, ◌≤◌, ℕ, [], None, Some, if◌then◌else◌, length, nat_eq, remove, slice_get, take};
+ghost use Rattle.std.specs.Map.{keys_of, values_of};
 ghost use Rattle.vecmap.specs.Pairs.{HasDistinctKeys, index_of, lookup};
 
 use vecmap::VecMap;
@@ -13,6 +13,9 @@ pub fn remove_index_then(map: &mut VecMap<u32, u32>, index: usize) -> (u32, u32)
     ensures pair { (i : ℕ) → index ≤ i → slice_get map.new.entries i ≡ slice_get map.old.entries (i
         + 1) }
     ensures length { length map.new.entries + 1 ≡ length map.old.entries }
+    ensures keys { keys_of map.new.entries ≡ remove (keys_of map.old.entries) index }
+    ensures values { values_of map.new.entries ≡ remove (values_of map.old.entries) index }
+    ensures order { (i : ℕ) → i < index → slice_get map.new.entries i ≡ slice_get map.old.entries i }
     ensures empty { length map.old.entries ≡ 1 → map.new.entries ≡ [] }
     ensures ends { index ≡ 0 → slice_get map.new.entries 0 ≡ slice_get map.old.entries 1 }
 {
@@ -95,6 +98,8 @@ pub fn pop_then(map: &mut VecMap<u32, u32>)
     ensures indices { (q : ℕ) (i : ℕ) → index_of nat_eq map.old.entries q ≡ Some i → i < (length
         map.old.entries - 1) → index_of nat_eq map.new.entries q ≡ Some i }
     ensures keys { keys_of map.new.entries ≡ take (length map.old.entries - 1) (keys_of
+        map.old.entries) }
+    ensures values { values_of map.new.entries ≡ take (length map.old.entries - 1) (values_of
         map.old.entries) }
 {
     map.pop();

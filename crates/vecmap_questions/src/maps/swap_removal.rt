@@ -1,6 +1,6 @@
 //! Removals that move the last pair, by a key.
 ghost use Rattle.std.specs.Prelude.{◌≡◌, ◌+◌, ℕ, None, false, if◌then◌else◌, is_some, length, nat_eq};
-ghost use Rattle.vecmap.specs.Pairs.{HasDistinctKeys, lookup};
+ghost use Rattle.vecmap.specs.Pairs.{HasDistinctKeys, index_of, lookup};
 
 use vecmap::VecMap;
 
@@ -11,6 +11,7 @@ pub fn swap_remove_then_if_distinct(map: &mut VecMap<u32, u32>, key: u32)
         else lookup nat_eq map.old.entries q) }
     ensures distinct { HasDistinctKeys nat_eq map.new.entries }
     ensures present { is_some (lookup nat_eq map.new.entries key) ≡ false }
+    ensures index { index_of nat_eq map.new.entries key ≡ None }
 {
     map.swap_remove(&key);
 }

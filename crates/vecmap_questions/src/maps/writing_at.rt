@@ -1,5 +1,5 @@
 //! Writes at an index, and of all values.
-ghost use Rattle.std.specs.Prelude.{◌≡◌, ◌-◌, ◌/◌, ◌<◌, ℕ, IsSome, Some, if◌then◌else◌, is_some, length, nat_eq, option_map};
+ghost use Rattle.std.specs.Prelude.{◌≡◌, ◌-◌, ◌/◌, ◌<◌, ℕ, IsSome, Some, if◌then◌else◌, is_some, length, nat_eq, option_map, slice_set};
 ghost use Rattle.std.specs.List.{All};
 ghost use Rattle.std.specs.Map.{keys_of, values_of};
 ghost use Rattle.vecmap.specs.Pairs.{HasDistinctKeys, index_of, lookup, value_at};
@@ -27,6 +27,7 @@ pub fn index_mut_at_then(map: &mut VecMap<u32, u32>, index: usize, value: u32)
         nat_eq map.old.entries q) }
     ensures indices { (q : ℕ) → index_of nat_eq map.new.entries q ≡ index_of nat_eq map.old.entries
         q }
+    ensures values { values_of map.new.entries ≡ slice_set (values_of map.old.entries) index value }
 {
     map[index] = value;
 }
@@ -54,6 +55,7 @@ pub fn get_value_at_mut_then(map: &mut VecMap<u32, u32>, index: usize, value: u3
         nat_eq map.old.entries q) }
     ensures indices { (q : ℕ) → index_of nat_eq map.new.entries q ≡ index_of nat_eq map.old.entries
         q }
+    ensures values { values_of map.new.entries ≡ slice_set (values_of map.old.entries) index value }
 {
     if let Some(stored) = map.get_value_at_mut(index) {
         *stored = value;
@@ -124,6 +126,7 @@ pub fn pair_mut_then(map: &mut VecMap<u32, u32>, index: usize, value: u32)
     ensures length { length map.new.entries ≡ length map.old.entries }
     ensures keys { keys_of map.new.entries ≡ keys_of map.old.entries }
     ensures empty { 0 < length map.new.entries }
+    ensures values { values_of map.new.entries ≡ slice_set (values_of map.old.entries) index value }
 {
     let (_key, stored) = map.pair_mut(index);
     *stored = value;
@@ -136,6 +139,7 @@ pub fn set_values_then(map: &mut VecMap<u32, u32>, value: u32)
         nat_eq map.old.entries q) }
     ensures indices { (q : ℕ) → index_of nat_eq map.new.entries q ≡ index_of nat_eq map.old.entries
         q }
+    ensures pair { (i : ℕ) → i < length map.old.entries → value_at map.new.entries i ≡ Some value }
     ensures length { length map.new.entries ≡ length map.old.entries }
     ensures keys { keys_of map.new.entries ≡ keys_of map.old.entries }
     ensures values { All (λ v. v ≡ value) (values_of map.new.entries) }
