@@ -1,9 +1,8 @@
 -- What is left of a list if a closure is called for each item, in order, and decides which items stay.
-use Rattle.std.specs.Prelude.{◌≡◌, ℕ, ◌≤◌, Bool, true, false, List, [], ◌∷◌, ◌++◌, None, Option, Some, drop, filter, if◌then◌else◌, length, not, take}
+use Rattle.std.specs.Prelude.{◌≡◌, ℕ, ◌≤◌, Bool, true, List, [], ◌∷◌, ◌++◌, None, Option, Some, drop, filter, if◌then◌else◌, length, not, take}
 use Rattle.std.specs.List.{FoldsTo}
-use Rattle.std.specs.Map.{IsKeyTest}
 use Rattle.vecmap_base.specs.Asked.{SomeCall}
-use Rattle.vecmap_base.specs.Pairs.{HasDistinctKeys, lookup_by}
+use Rattle.vecmap_base.specs.Pairs.{lookup_by}
 
 -- An item stays if the call at it returns `true`, as the call leaves it.
 -- Example: every second of `[1,2,3,4]`: `[2,4]`.
@@ -34,19 +33,12 @@ module _ {F K V : Type 0} (R : F → K × V → Bool → K × V → F → Type 0
   abbrev pub ReturnsAtKey : F → (K → Bool) → Bool → Type 0
   ReturnsAtKey f test kept = (p : K × V) (b : Bool) (q : K × V) (g : F) → R f p b q g → (test p.0 ≡ true → (b ≡ kept) × (q.1 ≡ p.1)) × (g ≡ f)
 
-  -- Example: of a closure that keeps the values above 5, at the value 7: `true`.
-  -- Each call in the state `f` leaves that state. At the value `v` it returns `kept` and leaves the value.
-  abbrev pub ReturnsAtValue : F → V → Bool → Type 0
-  ReturnsAtValue f v kept = (p : K × V) (b : Bool) (q : K × V) (g : F) → R f p b q g → (p.1 ≡ v → (b ≡ kept) × (q.1 ≡ p.1)) × (g ≡ f)
-
   -- Example: of a closure that keeps the values above 5: from `[(1,7), (2,4)]` to `[(1,7)]`.
   -- The closure in the state `f` leaves the list `m` of `l`.
   pub record Retains (f : F) (l m : List (K × V)) : Type 0 where
     pub len : length m ≤ length l
     pub filters : (keep : K × V → Bool) → TestsItems R f keep → m ≡ filter keep l
     pub same : (test : K → Bool) → lookup_by test l ≡ None → ReturnsAtKey f (λ k. not (test k)) true → KeepsKeys → m ≡ l
-    pub stays : (test : K → Bool) (v : V) → lookup_by test l ≡ Some v → ReturnsAtValue f v true → KeepsKeys → lookup_by test m ≡ Some v
-    pub gone : (test : K → Bool) (eq : K → K → Bool) (v : V) → lookup_by test l ≡ Some v → HasDistinctKeys eq l → IsKeyTest eq test → ReturnsAtValue f v false → KeepsKeys → lookup_by test m ≡ None
 
 module _ {F X : Type 0} (R : F → X → Bool → X → F → Type 0) where
   -- Example: of a closure that sets each value to 0: `h` of `(1,5)` is `(1,0)`.

@@ -1,13 +1,13 @@
 -- What lookups find after a change of a list of pairs. `eq` is the `==` of keys. `proofs/Definitions/Lookups.antt` of
 -- `vecmap_examples` has examples of what each field says.
-use Rattle.std.specs.Prelude.{◌≡◌, ◌<◌, ◌≤◌, ℕ, Bool, IsSome, List, None, Option, Some, cond, false, is_some, length, min, slice_set, take, ◌+◌, IsTrue}
-use Rattle.std.specs.List.{All, list_any}
+use Rattle.std.specs.Prelude.{◌≡◌, ◌+◌, ◌<◌, ◌≤◌, ℕ, Bool, IsTrue, List, None, Option, Some, cond, false, is_some, length, min, slice_set, take}
+use Rattle.std.specs.List.{list_any}
 use Rattle.std.specs.Option.{option_or}
 use Rattle.std.specs.Set.{is_member, KeepsOthers as KeepsOtherItems}
 use Rattle.std.specs.Cmp.{IsEquivalence}
 use Rattle.std.specs.Map.{IsKeyTest, KeepsOthers, keys_of, values_of}
-use Rattle.vecmap_base.specs.Pairs.{HasDistinctKeys, index_by, index_of, lookup, lookup_by, value_at}
 use Rattle.vecmap_base.specs.Equality.{has_same_counts}
+use Rattle.vecmap_base.specs.Pairs.{HasDistinctKeys, index_by, lookup, lookup_by}
 
 module _ {K V : Type 0} (eq : K → K → Bool) where
   -- Example: from `[(1,a)]` to `[(1,a), (2,b)]` for the key 2: b.
@@ -59,19 +59,11 @@ module _ {K V : Type 0} where
   pub record UpdatesAt (i : ℕ) (l m : List (K × V)) (v : V) : Type 0 where
     pub own : (test : K → Bool) → index_by test l ≡ Some i → lookup_by test m ≡ Some v
     pub updates : (eq : K → K → Bool) (test : K → Bool) → IsEquivalence eq → IsKeyTest eq test → index_by test l ≡ Some i → UpdatesBy eq test l m (Some v)
-    pub lookups : (eq : K → K → Bool) → IsEquivalence eq → (k q : K) → index_of eq l k ≡ Some i → lookup eq m q ≡ cond (eq k q) (Some v) (lookup eq l q)
     pub keys : keys_of m ≡ keys_of l
     pub values : values_of m ≡ slice_set (values_of l) i v
     pub indices : (test : K → Bool) → index_by test m ≡ index_by test l
     pub len : length m ≡ length l
     pub distinct : (eq : K → K → Bool) → HasDistinctKeys eq l → HasDistinctKeys eq m
-
-  -- Example: from `[(1,a), (2,b)]` to `[(1,c), (2,c)]`.
-  -- Each query that finds a value in `l` finds `w` in the list `m`, and each value of `m` is `w`.
-  pub record SetsValues (w : V) (l m : List (K × V)) : Type 0 where
-    pub found : (test : K → Bool) → IsSome (lookup_by test l) → lookup_by test m ≡ Some w
-    pub at : (i : ℕ) → i < length l → value_at m i ≡ Some w
-    pub values : All (λ v. v ≡ w) (values_of m)
 
   -- Example: from `[(1,a)]`, with `[(1,b), (2,c)]`, to `[(1,b), (2,c)]`.
   -- If the keys of `pairs` are distinct, each key has in the list `m` its value in `pairs`, or else its value in `l`.

@@ -9,7 +9,7 @@ ghost use Rattle.std.specs.Cmp.{IsEquivalence};
 ghost use Rattle.std.specs.Prelude.{◌+◌, ◌++◌, is_some, option_map, Bool, None, Option, cond, false, if◌then◌else◌, string_eq, true};
 ghost use Rattle.vecmap_base.specs.Indices.{ShiftsIndices};
 ghost use Rattle.vecmap_base.specs.Lookups.{KeepsFront, UpdatesBy};
-ghost use Rattle.vecmap_base.specs.Pairs.{HasDistinctKeys, has_text, index_by, index_of, lookup, lookup_by, lookup_pair_by, swap_without_by, without_by};
+ghost use Rattle.vecmap_base.specs.Pairs.{HasDistinctKeys, has_text, index_by, lookup_by, lookup_pair_by, swap_without_by, without_by};
 
 use crate::VecMap;
 use std::alloc::AllocError;
@@ -124,7 +124,7 @@ impl<K, V> VecMap<K, V> {
     ///
     /// If `f` only reads what it captures, a proof knows what lookups find afterwards in two cases: what `f` does depends
     /// on the value alone (`lookups`), or `f` returns the same for each key that a query matches and leaves their values
-    /// (`selected`). Distinct keys stay distinct.
+    /// (`selected`). If `f` only tests the pairs, those that are left are a filter (`left`). Distinct keys stay distinct.
     ///
     /// # Preconditions
     ///
@@ -311,9 +311,9 @@ impl<K, V> VecMap<K, V> {
             ≡ cond (test result.0) None (lookup_by test self.old.entries) }
         ensures distinct { (eq : K → K → Bool) → HasDistinctKeys eq self.old.entries
             → HasDistinctKeys eq self.new.entries }
-        ensures gone { (eq : K → K → Bool) → IsEquivalence eq → HasDistinctKeys eq self.old.entries
-            → (k : K) → index_of eq self.old.entries k ≡ Some index
-            → lookup eq self.new.entries k ≡ None }
+        ensures gone { (test : K → Bool) (eq : K → K → Bool) → HasDistinctKeys eq self.old.entries
+            → IsKeyTest eq test → IsEquivalence eq → index_by test self.old.entries ≡ Some index
+            → lookup_by test self.new.entries ≡ None }
         ensures len { length self.new.entries + 1 ≡ length self.old.entries }
         ensures indices { ShiftsIndices index self.old.entries self.new.entries }
     {
@@ -420,9 +420,9 @@ impl<K, V> VecMap<K, V> {
             ≡ cond (test result.0) None (lookup_by test self.old.entries) }
         ensures distinct { (eq : K → K → Bool) → IsEquivalence eq → HasDistinctKeys eq self.old.entries
             → HasDistinctKeys eq self.new.entries }
-        ensures gone { (eq : K → K → Bool) → IsEquivalence eq → HasDistinctKeys eq self.old.entries
-            → (k : K) → index_of eq self.old.entries k ≡ Some index
-            → lookup eq self.new.entries k ≡ None }
+        ensures gone { (test : K → Bool) (eq : K → K → Bool) → HasDistinctKeys eq self.old.entries
+            → IsKeyTest eq test → IsEquivalence eq → index_by test self.old.entries ≡ Some index
+            → lookup_by test self.new.entries ≡ None }
         ensures len { length self.new.entries + 1 ≡ length self.old.entries }
     {
         self.pairs.swap_remove(index)

@@ -1,11 +1,10 @@
 //! Calls that write each value by a closure.
-ghost use Rattle.std.specs.Prelude.{◌≡◌, Bool, IfErr, IsSome, Ok, OnOk, Some, length, map};
+ghost use Rattle.std.specs.Prelude.{◌≡◌, ◌<◌, ℕ, Bool, IfErr, IsSome, Ok, OnOk, Some, length, map};
 ghost use Rattle.std.specs.List.{All};
 ghost use Rattle.std.specs.Map.{keys_of, values_of};
 ghost use Rattle.std.specs.Option.{option_map};
 ghost use Rattle.vecmap_base.specs.Indices.{KeepsIndices};
-ghost use Rattle.vecmap_base.specs.Lookups.{SetsValues};
-ghost use Rattle.vecmap_base.specs.Pairs.{index_by, lookup_by, map_values};
+ghost use Rattle.vecmap_base.specs.Pairs.{index_by, lookup_by, map_values, value_at};
 ghost use Rattle.vecmap_base.specs.Updated.{AlwaysComputes, CallableOnValues, Computes, StoppedAt, Updated, WritesValueAt};
 
 use crate::VecMap;
@@ -36,7 +35,8 @@ impl<K, V> VecMap<K, V> {
             → lookup_by test self.new.entries ≡ Some value }
         ensures values { All (λ v. v ≡ value) (values_of self.new.entries) }
         ensures keys { KeepsIndices self.old.entries self.new.entries }
-        ensures set { SetsValues value self.old.entries self.new.entries }
+        ensures at { (i : ℕ) → i < length self.old.entries
+            → value_at self.new.entries i ≡ Some value }
     {
         self.update_values(|_key, old| *old = value);
     }
@@ -90,8 +90,13 @@ impl<K, V> VecMap<K, V> {
             → lookup_by test self.new.entries ≡ option_map h (lookup_by test self.old.entries) }
         ensures indices { (test : K → Bool) → index_by test self.new.entries
             ≡ index_by test self.old.entries }
-        ensures set { (w : V) → Computes (WritesValueAt F.FnMut tt) f (λ pair. (pair.0, w))
-            → SetsValues w self.old.entries self.new.entries }
+        ensures found { (w : V) → Computes (WritesValueAt F.FnMut tt) f (λ pair. (pair.0, w))
+            → (test : K → Bool) → IsSome (lookup_by test self.old.entries)
+            → lookup_by test self.new.entries ≡ Some w }
+        ensures at { (w : V) → Computes (WritesValueAt F.FnMut tt) f (λ pair. (pair.0, w))
+            → (i : ℕ) → i < length self.old.entries → value_at self.new.entries i ≡ Some w }
+        ensures values { (w : V) → Computes (WritesValueAt F.FnMut tt) f (λ pair. (pair.0, w))
+            → All (λ v. v ≡ w) (values_of self.new.entries) }
     {
         update_pairs(&mut self.pairs, f);
     }

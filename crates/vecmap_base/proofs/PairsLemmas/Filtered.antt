@@ -7,7 +7,7 @@ use Rattle.vecmap_base.specs.{Kept.FiltersValues, Kept.KeepsKeys, Kept.Kept, Kep
 
 module _ {F K V : Type 0} (R : F → K × V → Bool → K × V → F → Type 0) (same : KeepsKeys R) where
   -- What holds of all keys holds of the keys that are kept.
-  pub all_keys_kept : (P : K → Type 0) (f g : F) (l m : List (K × V)) → Kept R f l m g → AllByRecursion P (keys_of l) → AllByRecursion P (keys_of m)
+  all_keys_kept : (P : K → Type 0) (f g : F) (l m : List (K × V)) → Kept R f l m g → AllByRecursion P (keys_of l) → AllByRecursion P (keys_of m)
   all_keys_kept P f g [] m k h = subst (λ t. AllByRecursion P (keys_of t)) (sym k.0) tt
   all_keys_kept P f g (p ∷ ps) m k h =
       subst (λ t. AllByRecursion P (keys_of t)) (sym k.6) (by k.0 (all_keys_kept P k.2 g ps k.3 k.5 h.1))
@@ -30,7 +30,7 @@ module _ {F K V : Type 0} (R : F → K × V → Bool → K × V → F → Type 0
       by false a r = r
 
   module _ (test : K → Bool) where
-    pub none_found : (l : List (K × V)) → AllByRecursion (λ y. test y ≡ false) (keys_of l) → lookup_by test l ≡ None
+    none_found : (l : List (K × V)) → AllByRecursion (λ y. test y ≡ false) (keys_of l) → lookup_by test l ≡ None
     none_found [] h = λ _. None
     none_found (p ∷ ps) h = ap (λ b. cond b (Some p.1) (lookup_by test ps)) h.0 ∙ none_found ps h.1
 

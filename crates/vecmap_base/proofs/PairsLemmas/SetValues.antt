@@ -2,7 +2,7 @@
 use Rattle.std.specs.{Map.keys_of, Map.values_of, Option.option_map}
 use Rattle.std.proofs.Common.{◌≡◌, ◌∙◌, ◌<◌, ℕ, zero, suc, All, Bool, List, [], ◌∷◌, None, Option, Some, IsSome, ap, arith, length, refl, subst, sym, true≢false}
 use Rattle.std.proofs.lemmas.List.Elements.{All-cons, All-nil}
-use Rattle.vecmap_base.specs.{Indices.KeepsIndices, Lookups.SetsValues, Pairs.lookup_by, Pairs.map_values, Pairs.value_at}
+use Rattle.vecmap_base.specs.{Indices.KeepsIndices, Pairs.lookup_by, Pairs.map_values, Pairs.value_at}
 use Rattle.vecmap_base.proofs.PairsLemmas.AtIndices.{keeps_indices}
 use Rattle.vecmap_base.proofs.PairsLemmas.Indices.{lookup_by_map_values}
 
@@ -32,9 +32,9 @@ module _ {K V : Type 0} (w : V) where
   set_at (p ∷ ps) zero h = refl
   set_at (p ∷ ps) (suc i) h = set_at ps i (omega arith)
 
-  -- The same in the word of contracts.
-  pub sets_values : (l m : List (K × V)) → m ≡ map_values (λ _. w) l → SetsValues w l m
-  sets_values l m e = record { found = set_found w l m e; at = λ i h. ap (λ n. value_at n i) e ∙ set_at l i h; values = values_set w l m e }
+  -- The value is at each index.
+  pub value_set_at : (l m : List (K × V)) → m ≡ map_values (λ _. w) l → (i : ℕ) → i < length l → value_at m i ≡ Some w
+  value_set_at l m e i h = ap (λ n. value_at n i) e ∙ set_at l i h
 
 -- The keys stay.
 pub keys_set : {K V : Type 0} (w : V) (l m : List (K × V)) → m ≡ map_values (λ _. w) l → KeepsIndices l m

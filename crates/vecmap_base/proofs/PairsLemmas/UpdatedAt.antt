@@ -35,7 +35,6 @@ module _ {K V : Type 0} where
   updates_at l i v = record {
     own = λ test at. own_value test l i v at;
     updates = λ eq test o respects at. updates_written_at eq o test respects l l (lookup_by test l) i v (updates_matched eq o test respects l) at;
-    lookups = λ eq o k q at. (updates_written_at eq o (eq k) (o.congr k) l l (lookup_by (eq k) l) i v (updates_matched eq o (eq k) (o.congr k) l) at).lookups q;
     keys = keys_of_with_value l i v;
     values = values_of_with_value l i v;
     indices = (kept l i v).indices;

@@ -1,8 +1,8 @@
 -- The definitions that say what lookups find after a change, at numbers: an example of each, what each of its fields says of
 -- it, and a list that it does not allow.
-use Rattle.std.specs.Prelude.{◌≡◌, ◌<◌, ℕ, Bool, IsSome, List, None, Option, Some, [], ◌∷◌, length, nat_eq, refl, reverse, slice_set, true, ◌+◌, ◌≤◌}
+use Rattle.std.specs.Prelude.{◌≡◌, ◌+◌, ◌<◌, ◌≤◌, ℕ, Bool, List, None, Option, Some, [], ◌∷◌, length, nat_eq, refl, reverse, slice_set, true}
 use Rattle.std.specs.Cmp.{nat_eq_equiv}
-use Rattle.std.specs.List.{All, IsDistinct, list_any}
+use Rattle.std.specs.List.{IsDistinct, list_any}
 use Rattle.std.specs.Map.{AreApart, IsKeyTest, KeepsOthers, keys_of, values_of}
 use Rattle.std.specs.Option.{option_or}
 use Rattle.std.specs.Set as set
@@ -12,11 +12,10 @@ use Rattle.std.proofs.lemmas.List.Sorted.{IsPermutation-reverse}
 use Rattle.vecmap_base.proofs.ItemsLemmas.Members.{members_of_add}
 use Rattle.vecmap_base.proofs.PairsLemmas.Lookups.{updates_put}
 use Rattle.vecmap_base.proofs.PairsLemmas.Parts.{joins_puts, keeps_front as front}
-use Rattle.vecmap_base.proofs.PairsLemmas.SetValues.{sets_values as all_set}
 use Rattle.vecmap_base.proofs.PairsLemmas.Updates.{lookups_rearranged}
 use Rattle.vecmap_base.proofs.PairsLemmas.UpdatedAt.{updates_at}
-use Rattle.vecmap_base.specs.Lookups.{Joins, KeepsFront, KeepsLookups, SetsValues, UpdatesAt, UpdatesBy, UpdatesMember}
-use Rattle.vecmap_base.specs.Pairs.{HasDistinctKeys, index_by, index_of, lookup, lookup_by, value_at}
+use Rattle.vecmap_base.specs.Lookups.{Joins, KeepsFront, KeepsLookups, UpdatesAt, UpdatesBy, UpdatesMember}
+use Rattle.vecmap_base.specs.Pairs.{HasDistinctKeys, index_by, lookup, lookup_by}
 
 -- After an insertion of the key 2.
 module _ {V : Type 0} (a b : V) (l m : List (ℕ × V)) (w : Option V) where
@@ -103,28 +102,8 @@ module _ {V : Type 0} (a b c : V) (l m : List (ℕ × V)) where
   updates_at-distinct : UpdatesAt 1 l m c → HasDistinctKeys nat_eq l → HasDistinctKeys nat_eq m
   updates_at-distinct u = u.distinct nat_eq
 
-  updates_at-lookups : UpdatesAt 1 l m c → index_of nat_eq l 2 ≡ Some 1 → (lookup nat_eq m 2 ≡ Some c) × (lookup nat_eq m 3 ≡ lookup nat_eq l 3)
-  updates_at-lookups u at = (u.lookups nat_eq nat_eq_equiv 2 2 at, u.lookups nat_eq nat_eq_equiv 2 3 at)
-
   updates_at-values : UpdatesAt 1 l m c → values_of m ≡ slice_set (values_of l) 1 c
   updates_at-values u = u.values
-
--- After a write of each value.
-module _ {V : Type 0} (a b c : V) (l m : List (ℕ × V)) where
-  sets_values : SetsValues {K = ℕ} c ((1, a) ∷ (2, b) ∷ []) ((1, c) ∷ (2, c) ∷ [])
-  sets_values = all_set c ((1, a) ∷ (2, b) ∷ []) ((1, c) ∷ (2, c) ∷ []) refl
-
-  sets_values-not : ¬ (SetsValues {K = ℕ} c ((1, a) ∷ []) [])
-  sets_values-not s = search (rules, s.found (nat_eq 1) refl)
-
-  sets_values-found : SetsValues c l m → IsSome (lookup_by (nat_eq 1) l) → lookup_by (nat_eq 1) m ≡ Some c
-  sets_values-found s = s.found (nat_eq 1)
-
-  sets_values-at : SetsValues c l m → 1 < length l → value_at m 1 ≡ Some c
-  sets_values-at s = s.at 1
-
-  sets_values-values : SetsValues c l m → All (λ v. v ≡ c) (values_of m)
-  sets_values-values s = s.values
 
 -- After an insertion of the keys 1 and 2.
 module _ {V : Type 0} (a b c : V) (l pairs m : List (ℕ × V)) where

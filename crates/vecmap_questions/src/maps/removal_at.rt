@@ -1,5 +1,5 @@
 //! Removals by an index, and of the last pair.
-ghost use Rattle.std.specs.Prelude.{◌≡◌, ◌+◌, ◌-◌, ◌<◌, ◌≤◌, ℕ, [], None, Some, if◌then◌else◌, length, nat_eq, remove, slice_get, take};
+ghost use Rattle.std.specs.Prelude.{◌≡◌, ◌+◌, ◌-◌, ◌<◌, ◌≤◌, ℕ, [], None, Some, false, if◌then◌else◌, is_some, length, nat_eq, remove, slice_get, take};
 ghost use Rattle.std.specs.Map.{keys_of, values_of};
 ghost use Rattle.vecmap.specs.Pairs.{HasDistinctKeys, index_of, lookup};
 
@@ -28,6 +28,8 @@ pub fn remove_index_then_if_distinct(map: &mut VecMap<u32, u32>, index: usize) -
     ensures key { lookup nat_eq map.new.entries result.0 ≡ None }
     ensures lookup { (q : ℕ) → lookup nat_eq map.new.entries q ≡ (if nat_eq result.0 q then None
         else lookup nat_eq map.old.entries q) }
+    ensures present { (k : ℕ) → index_of nat_eq map.old.entries k ≡ Some index → is_some (lookup
+        nat_eq map.new.entries k) ≡ false }
     ensures distinct { HasDistinctKeys nat_eq map.new.entries }
 {
     map.remove_index(index)
@@ -72,6 +74,8 @@ pub fn swap_remove_index_then_if_distinct(map: &mut VecMap<u32, u32>, index: usi
     ensures key { lookup nat_eq map.new.entries result.0 ≡ None }
     ensures lookup { (q : ℕ) → lookup nat_eq map.new.entries q ≡ (if nat_eq result.0 q then None
         else lookup nat_eq map.old.entries q) }
+    ensures present { (k : ℕ) → index_of nat_eq map.old.entries k ≡ Some index → is_some (lookup
+        nat_eq map.new.entries k) ≡ false }
     ensures distinct { HasDistinctKeys nat_eq map.new.entries }
 {
     map.swap_remove_index(index)

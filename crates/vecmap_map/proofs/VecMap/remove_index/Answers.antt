@@ -21,4 +21,4 @@ pub returns-clause-indices : goal.returns-clause-indices
 returns-clause-indices g c = shifts_indices c.args.self.now.entries _ c.args.index (returns-clause-entries g c)
 
 pub returns-clause-gone : goal.returns-clause-gone
-returns-clause-gone g c = λ eq o d k at. lookup_by_gone eq o (eq k) (o.congr k) c.args.self.now.entries _ c.args.index c.remove_item.result (returns-clause-entries g c) (grind (arith, gets)) d at
+returns-clause-gone g c = λ test eq d respects o at. lookup_by_gone eq o test respects c.args.self.now.entries _ c.args.index c.remove_item.result (returns-clause-entries g c) (grind (arith, gets)) d at

@@ -1,5 +1,5 @@
 use Rattle.std.proofs.Common.{rules}
-use Rattle.vecmap_base.proofs.PairsLemmas.SetValues.{keys_set, set_found, sets_values, values_set}
+use Rattle.vecmap_base.proofs.PairsLemmas.SetValues.{keys_set, set_found, value_set_at, values_set}
 use Rattle.vecmap_map.proofs.VecMap.set_values.Goals as goal
 
 pub returns-clause-entries : goal.returns-clause-entries
@@ -14,5 +14,5 @@ returns-clause-values g c = values_set c.args.value c.args.self.now.entries _ (r
 pub returns-clause-keys : goal.returns-clause-keys
 returns-clause-keys g c = keys_set c.args.value c.args.self.now.entries _ (returns-clause-entries g c)
 
-pub returns-clause-set : goal.returns-clause-set
-returns-clause-set g c = sets_values c.args.value c.args.self.now.entries _ (returns-clause-entries g c)
+pub returns-clause-at : goal.returns-clause-at
+returns-clause-at g c = value_set_at c.args.value c.args.self.now.entries _ (returns-clause-entries g c)

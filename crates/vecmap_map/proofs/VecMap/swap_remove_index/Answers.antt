@@ -14,4 +14,4 @@ returns-clause-distinct g c = λ eq o d.
     subst (HasDistinctKeys eq) (sym (grind (arith, gets))) (distinct_keys_swap_without eq o l c.args.index d)
 
 pub returns-clause-gone : goal.returns-clause-gone
-returns-clause-gone g c = λ eq o d k at. lookup_by_swap_removed_out eq o (eq k) (o.congr k) c.args.self.now.entries _ c.args.index c.swap_remove.result (grind (arith, gets)) (grind (arith, gets)) d at
+returns-clause-gone g c = λ test eq d respects o at. lookup_by_swap_removed_out eq o test respects c.args.self.now.entries _ c.args.index c.swap_remove.result (grind (arith, gets)) (grind (arith, gets)) d at
