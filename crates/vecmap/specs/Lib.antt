@@ -27,3 +27,4 @@ pub use Rattle.vecmap_set.specs.Indices as SetIndices
 pub use Rattle.vecmap_set.specs.Lazy
 pub use Rattle.vecmap_set.specs.Operators
 pub use Rattle.vecmap_set.specs.SetBulk
+pub use Rattle.vecmap_set.specs.Tests as SetTests

@@ -9,6 +9,7 @@ ghost use Rattle.vecmap_base.specs.Pairs.{HasDistinctKeys, put};
 ghost use Rattle.vecmap_map.specs.Contents.{KeepsRoom, Refuses};
 ghost use Rattle.vecmap_set.specs.Contents.{KeepsRoom as SetKeepsRoom, Refuses as SetRefuses};
 ghost use Rattle.vecmap_set.specs.Indices.{KeepsMatchIndices};
+ghost use Rattle.vecmap_set.specs.Tests.{AgreesOnEquals};
 
 use crate::{VecMap, VecSet};
 use std::alloc::AllocError;
@@ -126,9 +127,8 @@ pub fn add_item<T: Eq + Drop>(set: &mut VecSet<T>, item: T) -> Result<(), AllocE
     // What follows for lookups, lengths and indices.
     ensures updates { OnOk result (UpdatesMember T.eq (T.eq item) set.old.elements
         set.new.elements true) }
-    ensures any { OnOk result ((f : T → Bool)
-        → ((x y : T) → IsTrue (T.eq x y) → f y ≡ f x) → list_any f set.new.elements
-        ≡ (f item || list_any f set.old.elements)) }
+    ensures any { OnOk result ((f : T → Bool) → AgreesOnEquals T.eq f
+        → list_any f set.new.elements ≡ (f item || list_any f set.old.elements)) }
     ensures unchanged { IsTrue (is_member T.eq set.old.elements item) → set.new ≡ set.old }
     ensures len { OnOk result (length set.new.elements ≡ length set.old.elements
         + (if is_member T.eq set.old.elements item then 0 else 1)) }

@@ -1,12 +1,13 @@
 -- The index of the first element of a list that passes a test.
-use Rattle.std.specs.Prelude.{◌≡◌, ℕ, zero, suc, ◌+◌, ◌<◌, Bool, true, false, ◌||◌, not, nat_lt, List, [], ◌∷◌, ◌++◌, Option, None, Some, is_some, length, map, position, remove, slice_get, take, refl}
+use Rattle.std.specs.Prelude.{◌≡◌, ℕ, zero, suc, ◌+◌, ◌<◌, Bool, true, false, ◌||◌, not, nat_lt, List, [], ◌∷◌, ◌++◌, Option, None, Some, drop, is_some, length, map, position, remove, slice_get, take, refl}
 use Rattle.std.specs.List.{list_any, position_or_len}
 use Rattle.std.specs.Cmp.{both_ways}
 use Rattle.std.specs.Option.{option_and_then, option_map}
+use Rattle.std.proofs.lemmas.Option.{none-some}
 use Rattle.std.proofs.Common.{cond, sym, ap, ◌∙◌, arith, get_or, take_at, true≢false, inl, inr}
 use Rattle.std.proofs.Math.Seq.{get_or-append_seam}
 use Rattle.std.proofs.lemmas.Bool.{cases_Bool, false_from_ne_true, lt-ltb, ltb-true}
-use Rattle.std.proofs.lemmas.List.{length-append}
+use Rattle.std.proofs.lemmas.List.{length-append, take-append-drop}
 use Rattle.std.proofs.lemmas.List.Folds.{list_any_at, list_any_more}
 
 pub is_some-map : {X Y : Type 0} (f : X → Y) (o : Option X) → is_some (option_map f o) ≡ is_some o
@@ -96,6 +97,31 @@ module _ {X : Type 0} (p : X → Bool) where
       position_at (xs ++ x ∷ []) (length xs) x (omega (arith, length-append xs (x ∷ []))) (sym (get_or-append_seam xs x [] x)) hit
       (ap (position p) (take_at xs (x ∷ []) (length xs) refl) ∙ miss)
 
+  -- The index in a longer list, from that in its rest.
+  pub later : (b : Bool) (found after : Option ℕ) (i : ℕ) → ((j : ℕ) → found ≡ Some j → suc j ≡ i → after ≡ Some j) → cond b (Some 0) (option_map suc found) ≡ Some i → cond b (Some 0) (option_map suc after) ≡ Some i
+  later true found after i rest h = h
+  later false None after i rest h = absurd (none-some i h)
+  later false (Some j) after i rest h = ap (option_map suc) (rest j refl (let next : suc j ≡ i = cc in next)) ∙ h
+
+  -- The first match stays where it is if other items follow.
+  pub position_front : (ys s : List X) (i : ℕ) → position p s ≡ Some i → position p (s ++ ys) ≡ Some i
+  position_front ys [] i e = absurd (none-some i e)
+  position_front ys (x ∷ xs) i e =
+      position_cons x (xs ++ ys) ∙ later (p x) (position p xs) (position p (xs ++ ys)) i (λ j h n. position_front ys xs j h) (sym (position_cons x xs) ∙ e)
+
+  -- So does one among the items that are left.
+  pub position_stays : (n : ℕ) (s : List X) (i : ℕ) → position p s ≡ Some i → i < n → position p (take n s) ≡ Some i
+  position_stays n [] i e l = absurd (none-some i e)
+  position_stays zero (x ∷ xs) i e l = absurd (omega (arith, l))
+  position_stays (suc n) (x ∷ xs) i e l =
+      position_cons x (take n xs)
+      ∙ later (p x) (position p xs) (position p (take n xs)) i (λ j h next. position_stays n xs j h (omega (arith, next, l))) (sym (position_cons x xs) ∙ e)
+
+  -- So does one before an index up to which two lists are the same.
+  pub position_before : (xs ys : List X) (n i : ℕ) → take n ys ≡ take n xs → i < n → position p xs ≡ Some i → position p ys ≡ Some i
+  position_before xs ys n i same l e =
+      ap (position p) (sym (take-append-drop n ys)) ∙ position_front (drop n ys) (take n ys) i (ap (position p) same ∙ position_stays n xs i e l)
+
   pub fails_everywhere : (xs : List X) (d : X) → position p xs ≡ None → (k : ℕ) → k < length xs → p (get_or xs k d) ≡ false
   fails_everywhere xs d e k lt = false_from_ne_true (p (get_or xs k d)) (λ h. true≢false (sym (list_any_at p xs k d lt h) ∙ list_any_position xs ∙ ap is_some e))
 
@@ -121,6 +147,14 @@ module _ {X : Type 0} (p : X → Bool) where
         | inl h ↦ ap (λ b. b || list_any p xs) h
         | inr h ↦ ap (λ b. b || list_any p xs) h ∙ list_any_front xs k (sym (ap (λ b. b || list_any p (take k xs)) h) ∙ e)
       ]
+
+-- An item that was appended is at the last index.
+pub stored_last : {X : Type 0} (s r : List X) (x : X) → r ≡ s ++ x ∷ [] → slice_get r (length s) ≡ Some x
+stored_last {X} s r x e = ap (λ l. slice_get l (length s)) e ∙ at_end s
+  where
+    at_end : (ys : List X) → slice_get (ys ++ x ∷ []) (length ys) ≡ Some x
+    at_end [] = refl
+    at_end (y ∷ ys) = at_end ys
 
 module _ {X Y : Type 0} (p : Y → Bool) (f : X → Y) where
   pub list_any_map : (xs : List X) → list_any p (map f xs) ≡ list_any (λ x. p (f x)) xs

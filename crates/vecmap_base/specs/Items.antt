@@ -1,9 +1,11 @@
 -- Lists of elements, as an ordered set sees them. `eq` is the `==` of elements. In the examples, `1x` and `1y` are
 -- elements that `eq` calls equal, and are not the same.
-use Rattle.std.specs.Prelude.{◌≡◌, ℕ, Bool, List, [], ◌∷◌, ◌++◌, Option, if◌then◌else◌, filter, fold, insert, length, not, position, remove, slice_get, slice_set}
+use Rattle.std.specs.Prelude.{◌≡◌, ℕ, Bool, IsTrue, List, [], ◌∷◌, ◌++◌, Option, if◌then◌else◌, filter, fold, insert, length, not, position, remove, slice_get, slice_set}
+use Rattle.std.specs.Cmp.{IsEquivalence}
 use Rattle.std.specs.List.{list_any, swap_remove}
 use Rattle.std.specs.Option.{option_and_then, option_map_or}
 use Rattle.std.specs.Set.{is_member}
+use Rattle.vecmap_base.specs.Equality.{has_same_items}
 
 -- Example: `swap_without [a, b, c] 0 ≡ [c, b]`.
 -- The list `s` without the element at the index `i`; the last element moves to its index.
@@ -16,10 +18,11 @@ abbrev pub moved : {T : Type 0} → List T → ℕ → ℕ → List T
 moved s from to = option_map_or (λ x. insert (remove s from) to x) (slice_get s from) s
 
 -- Example: from `[a, b]` to `[b, a]`.
--- The list `r` has the elements of `s`, as far as tests and lengths can tell.
+-- The list `r` has the elements of `s`, as far as tests, lengths and an equivalence can tell.
 pub record IsReorderedItems {T : Type 0} (s r : List T) : Type 0 where
   pub matches : (test : T → Bool) → list_any test r ≡ list_any test s
   pub len : length r ≡ length s
+  pub equal : (eq : T → T → Bool) → IsEquivalence eq → IsTrue (has_same_items eq r s)
 
 module _ {T : Type 0} (test : T → Bool) where
   -- Example: `stored_first (nat_lt 1) [1, 2, 4] ≡ Some 2`.

@@ -1,6 +1,6 @@
 -- What lookups find after a change of a list of pairs. `eq` is the `==` of keys. `proofs/Definitions/Lookups.antt` of
 -- `vecmap_examples` has examples of what each field says.
-use Rattle.std.specs.Prelude.{◌≡◌, ◌+◌, ◌<◌, ◌≤◌, ℕ, Bool, IsTrue, List, None, Option, Some, cond, false, is_some, length, min, slice_set, take}
+use Rattle.std.specs.Prelude.{◌≡◌, ◌+◌, ◌<◌, ◌≤◌, ℕ, Bool, IsTrue, List, None, Option, Some, cond, false, is_some, length, min, position, slice_get, slice_set, take, true}
 use Rattle.std.specs.List.{list_any}
 use Rattle.std.specs.Option.{option_or}
 use Rattle.std.specs.Set.{is_member, KeepsOthers as KeepsOtherItems}
@@ -81,3 +81,9 @@ pub record UpdatesMember {T : Type 0} (eq : T → T → Bool) (test : T → Bool
   pub own : list_any test r ≡ b
   pub others : (q : T) → test q ≡ false → is_member eq r q ≡ is_member eq s q
   pub queries : KeepsOtherItems eq test s r
+  pub gone : b ≡ false → position test r ≡ None
+  pub before : (other : T → Bool) (i j : ℕ) → position test s ≡ Some j → position other s ≡ Some i → i < j → position other r ≡ Some i
+  pub last : b ≡ true → list_any test s ≡ false → position test r ≡ Some (length s)
+  pub at : b ≡ true → list_any test s ≡ false → (x : T) × (slice_get r (length s) ≡ Some x) × (test x ≡ true)
+  pub len : b ≡ true → list_any test s ≡ false → length r ≡ length s + 1
+  pub kept : b ≡ true → list_any test s ≡ true → length r ≡ length s

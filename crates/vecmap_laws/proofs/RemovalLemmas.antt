@@ -1,15 +1,16 @@
 -- What is found after the item at an index has been taken out of a list, whatever the order of the others. A removal
 -- that shifts the later items and one that moves the last item are both of this kind.
-use Rattle.std.proofs.Common.{◌≡◌, ◌-◌, ℕ, Bool, true, false, ◌&&◌, IsTrue, List, ◌∷◌, None, Option, Some, ap, arith, if◌then◌else◌, is_some, length, not, position, refl, remove, slice_get, subst, sym, ◌∙◌}
-use Rattle.std.proofs.lemmas.{Option.get_or_from_slice_get, Option.slice_get_within}
-use Rattle.std.proofs.lemmas.List.Sorted.{IsPermutation-remove, IsPermutation-swap_remove, length_permutation}
+use Rattle.std.proofs.Common.{◌≡◌, ◌-◌, ℕ, Bool, true, false, ◌||◌, ◌&&◌, IsTrue, List, ◌∷◌, None, Option, Some, ap, arith, if◌then◌else◌, is_some, length, not, position, refl, remove, slice_get, subst, sym, ◌∙◌}
+use Rattle.std.proofs.lemmas.{Map.Steps.list_any_congr, Option.get_or_from_slice_get, Option.slice_get_within}
+use Rattle.std.proofs.lemmas.List.Sorted.{IsPermutation-remove, IsPermutation-swap_remove, length_permutation, list_any-IsPermutation}
 use Rattle.std.specs.{Cmp.IsEquivalence, List.IsDistinct, List.list_any, List.swap_remove, List.Sorted.IsPermutation, Map.IsKeyTest, Option.option_map_or, Set.is_member}
 use Rattle.vecmap_base.proofs.IndexLemmas.{list_any_position}
 use Rattle.vecmap_laws.proofs.ItemQueries.{tells_as}
 use Rattle.vecmap_laws.proofs.Queries.{lookup_by_query}
 use Rattle.vecmap_base.specs.Items.{swap_without}
 use Rattle.vecmap_base.specs.Pairs.{HasDistinctKeys, lookup, lookup_by}
-use Rattle.vecmap_base.proofs.{ItemsLemmas.Members.members_taken, PairsLemmas.Updates.lookup_by_taken}
+use Rattle.vecmap_base.proofs.{DistinctLemmas.Order.distinct_rearranged, PairsLemmas.Updates.lookup_by_taken}
+use Rattle.vecmap_laws.proofs.HeadLemmas.{head_not_in_rest}
 use Rattle.vecmap_base.proofs.PairsLemmas.Order.{pair_of_value}
 use Rattle.vecmap_set.proofs.IndexLemmas.{stored_at}
 
@@ -27,13 +28,19 @@ module _ {X : Type 0} where
 module _ {T : Type 0} (eq : T → T → Bool) (o : IsEquivalence eq) where
   -- One of distinct elements is taken out: all others stay.
   pub is_member_taken : (s rest : List T) (x : T) → IsPermutation s (x ∷ rest) → IsDistinct eq s → (y : T) → is_member eq rest y ≡ (is_member eq s y && not (eq x y))
-  is_member_taken s rest x moved d y = (members_taken eq o (eq x) (o.congr x) s rest x d (o.refl x) moved).members y ∙ by (eq x y) (is_member eq s y)
+  is_member_taken s rest x moved d y = by (eq x y) refl (list_any-IsPermutation (eq y) s (x ∷ rest) moved)
     where
-      by : (b c : Bool) → (if b then false else c) ≡ (c && not b)
-      by true true = refl
-      by true false = refl
-      by false true = refl
-      by false false = refl
+      last : (b : Bool) → b ≡ (b && true)
+      last true = refl
+      last false = refl
+
+      none : (b : Bool) → false ≡ (b && false)
+      none true = refl
+      none false = refl
+
+      by : (b : Bool) → eq x y ≡ b → list_any (eq y) s ≡ (eq y x || list_any (eq y) rest) → is_member eq rest y ≡ (is_member eq s y && not b)
+      by true e all = sym (list_any_congr o x y rest e) ∙ head_not_in_rest eq x rest (distinct_rearranged eq o s (x ∷ rest) moved d) ∙ none (is_member eq s y)
+      by false e all = sym (ap (λ b. b || list_any (eq y) rest) (o.symm y x ∙ e)) ∙ sym all ∙ last (is_member eq s y)
 
 module _ {K V : Type 0} (eq : K → K → Bool) (o : IsEquivalence eq) where
   -- One of the pairs is taken out: its key is absent, and all other keys find what they found before.

@@ -5,34 +5,29 @@ use Rattle.std.specs.List.{IsDistinct}
 use Rattle.std.specs.Set.{is_member}
 use Rattle.std.proofs.Common.{sym, ◌∙◌, arith, length-append}
 use Rattle.std.proofs.Math.Bool.{and_comm, or_comm}
-use Rattle.std.proofs.lemmas.Bool.{and_from}
 use Rattle.std.proofs.lemmas.List.Filters.{length-filter_both}
 use Rattle.std.proofs.lemmas.List.Folds.{list_any-append}
 use Rattle.std.proofs.lemmas.Map.Made.{length-from_same_keys}
 use Rattle.vecmap_base.specs.Equality.{has_same_items}
 use Rattle.vecmap_base.specs.Items.{both, only}
-use Rattle.vecmap_base.proofs.EqualityLemmas.Sets.{test_from_within}
+pub use Rattle.vecmap_base.proofs.EqualityLemmas.Sets.{same_items}
 pub use Rattle.vecmap_base.proofs.EqualityLemmas.Relations.{is_member_both, is_member_only, both_empty_turned, apart_by_walk, apart_by_walk_turned, distinct_both, distinct_only, distinct_union, distinct_symmetric_difference}
 use Rattle.vecmap_set.proofs.OperatorLemmas.{is_member_union as member_of_union}
 
 module _ {T : Type 0} (eq : T → T → Bool) (o : IsEquivalence eq) where
-  -- Two lists with the same elements, in any order and number, are equal as sets.
-  pub same_items : (a b : List T) → ((x : T) → is_member eq a x ≡ is_member eq b x) → has_same_items eq a b ≡ true
-  same_items a b h = and_from _ _ (test_from_within eq o a b (λ x e. sym (h x) ∙ e)) (test_from_within eq o b a (λ x e. h x ∙ e))
-
   -- The elements in both lists do not depend on the order of the two lists, and neither do those in one or the other.
   pub both_turned : (a b : List T) → has_same_items eq (both eq a b) (both eq b a) ≡ true
-  both_turned a b = same_items (both eq a b) (both eq b a) (λ x. is_member_both eq o a b x ∙ and_comm (is_member eq a x) (is_member eq b x) ∙ sym (is_member_both eq o b a x))
+  both_turned a b = same_items eq o (both eq a b) (both eq b a) (λ x. is_member_both eq o a b x ∙ and_comm (is_member eq a x) (is_member eq b x) ∙ sym (is_member_both eq o b a x))
 
   pub is_member_union : (a b : List T) (x : T) → is_member eq (a ++ only eq b a) x ≡ (is_member eq a x || is_member eq b x)
   is_member_union = member_of_union eq o
 
   pub union_turned : (a b : List T) → has_same_items eq (a ++ only eq b a) (b ++ only eq a b) ≡ true
-  union_turned a b = same_items (a ++ only eq b a) (b ++ only eq a b) (λ x. is_member_union a b x ∙ or_comm (is_member eq a x) (is_member eq b x) ∙ sym (is_member_union b a x))
+  union_turned a b = same_items eq o (a ++ only eq b a) (b ++ only eq a b) (λ x. is_member_union a b x ∙ or_comm (is_member eq a x) (is_member eq b x) ∙ sym (is_member_union b a x))
 
   pub symmetric_difference_turned : (a b : List T) → has_same_items eq (only eq a b ++ only eq b a) (only eq b a ++ only eq a b) ≡ true
   symmetric_difference_turned a b =
-      same_items (only eq a b ++ only eq b a) (only eq b a ++ only eq a b) (λ x.
+      same_items eq o (only eq a b ++ only eq b a) (only eq b a ++ only eq a b) (λ x.
       list_any-append (eq x) (only eq a b) (only eq b a) ∙ or_comm (is_member eq (only eq a b) x) (is_member eq (only eq b a) x) ∙ sym (list_any-append (eq x) (only eq b a) (only eq a b)))
 
   pub length_both_turned : (a b : List T) → IsDistinct eq a → IsDistinct eq b → length (both eq a b) ≡ length (both eq b a)

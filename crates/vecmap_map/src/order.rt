@@ -76,7 +76,7 @@ impl<K, V> VecMap<K, V> {
         ensures reordered { IsReordered self.old.entries self.new.entries }
         ensures moves { MovesIndex a b self.old.entries self.new.entries }
         ensures moves_back { MovesIndex b a self.old.entries self.new.entries }
-        ensures others { (i : ℕ) → nat_eq i a ≡ false → nat_eq i b ≡ false
+        ensures elsewhere { (i : ℕ) → nat_eq i a ≡ false → nat_eq i b ≡ false
             → MovesIndex i i self.old.entries self.new.entries }
     {
         self.pairs.swap(a, b);
@@ -110,7 +110,7 @@ impl<K, V> VecMap<K, V> {
         // What follows for lookups, lengths and indices.
         ensures reordered { IsReordered self.old.entries self.new.entries }
         ensures moves { MovesIndex from to self.old.entries self.new.entries }
-        ensures others { (i : ℕ) → i < from → i < to
+        ensures elsewhere { (i : ℕ) → i < from → i < to
             → slice_get self.new.entries i ≡ slice_get self.old.entries i }
         ensures indices { (test : K → Bool) (i : ℕ) → index_by test self.old.entries ≡ Some i
             → i < from → i < to → index_by test self.new.entries ≡ Some i }

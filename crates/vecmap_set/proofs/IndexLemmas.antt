@@ -1,21 +1,22 @@
 -- At which indices elements and queries find their match after a change, in the words of contracts.
-use Rattle.std.specs.{Cmp.IsEquivalence, List.AllByRecursion, List.IsDistinct, Map.IsKeyTest}
-use Rattle.std.specs.Prelude.{IfSome, insert}
-use Rattle.std.proofs.Common.{◌≡◌, ◌∙◌, ◌++◌, ◌<◌, ◌-◌, ◌≤◌, ℕ, suc, zero, Bool, true, false, List, [], ◌∷◌, None, Option, Some, ap, arith, cond, drop, get_or, get_or-set_other, get_or-take, inl, inr, length, length-set, option_map, position, refl, remove, set, slice_get, swap, sym, take, true≢false, reverse}
-use Rattle.std.proofs.lemmas.Bool.{cases_Bool}
+use Rattle.std.specs.{Cmp.IsEquivalence, List.AllByRecursion, List.IsDistinct, Map.IsKeyTest, Borrow.Bor, Cmp.nat_eq_equiv, List.list_any}
+use Rattle.std.specs.Prelude.{IfSome, insert, IfOk, Err, Ok, Result, nat_eq, nat_lt, option_copied}
+use Rattle.std.proofs.Common.{◌≡◌, ◌∙◌, ◌++◌, ◌<◌, ◌-◌, ◌≤◌, ℕ, suc, zero, Bool, true, false, List, [], ◌∷◌, None, Option, Some, ap, arith, cond, drop, get_or, get_or-set_other, get_or-take, inl, inr, length, length-set, option_map, position, refl, remove, set, slice_get, swap, sym, take, true≢false, reverse, ◌≢◌, is_some}
+use Rattle.std.proofs.lemmas.Bool.{cases_Bool, cases_lt, le-ltb, lt-ltb, ltb-true}
 use Rattle.std.proofs.lemmas.Grind.{get_or-set_at}
 use Rattle.std.proofs.lemmas.List.{length-take-le, get_or-reverse, length-reverse}
-use Rattle.std.proofs.lemmas.List.Edits.{get_or-insert_at, length-insert, length-remove}
+use Rattle.std.proofs.lemmas.List.Edits.{get_or-insert_at, get_or-insert_below, get_or-remove_below, length-insert, length-remove}
 use Rattle.std.proofs.lemmas.List.Quantifiers.{position-Some}
 use Rattle.std.proofs.lemmas.Map.Keys.{IsDistinct-head, IsDistinct-tail}
-use Rattle.std.proofs.lemmas.Option.{none-some, slice_get-get_or}
+use Rattle.std.proofs.lemmas.Option.{none-some, slice_get-get_or, slice_get_past}
 use Rattle.std.specs.{List.swap_remove, Option.option_map_or}
-use Rattle.vecmap_base.specs.Items.{moved, put_item, swap_without}
-use Rattle.vecmap_base.proofs.IndexLemmas.{position_cons}
+use Rattle.vecmap_base.specs.Items.{moved, put_item, swap_without, item_index}
+use Rattle.vecmap_base.proofs.IndexLemmas.{position_cons, later, list_any_position, position_front, position_stays}
 pub use Rattle.vecmap_base.proofs.MoveLemmas.{at_reversed}
 use Rattle.vecmap_base.proofs.ItemsLemmas.Recursion.{put_item_cons}
-use Rattle.vecmap_set.specs.Indices.{KeepsMatchIndices, KeepsMatchIndicesBelow, KeepsItemIndices, MovesItemIndex}
-use Rattle.vecmap_base.proofs.{IndexLemmas.slice_get_last, MoveLemmas.moved_item, MoveLemmas.swapped_item, MoveLemmas.swapped_item_back}
+use Rattle.vecmap_set.specs.Indices.{KeepsMatchIndices, KeepsMatchIndicesBelow, KeepsItemIndices, MovesItemIndex, ShiftsItems}
+use Rattle.vecmap_base.proofs.{IndexLemmas.slice_get_last, MoveLemmas.moved_item, MoveLemmas.moved_other, MoveLemmas.swapped_item, MoveLemmas.swapped_item_back, MoveLemmas.swapped_other}
+pub use Rattle.vecmap_base.proofs.IndexLemmas.{stored_last}
 
 module _ {T : Type 0} (test : T → Bool) where
   -- The element at the index that a query finds matches the query.
@@ -25,26 +26,6 @@ module _ {T : Type 0} (test : T → Bool) where
   stored_at (x ∷ xs) (Some i) e =
       let at = position-Some test (x ∷ xs) i x (sym e) in
       (get_or (x ∷ xs) i x, slice_get-get_or (x ∷ xs) i x at.0, at.1)
-
-  -- The index in a longer list, from that in its rest.
-  later : (b : Bool) (found after : Option ℕ) (i : ℕ) → ((j : ℕ) → found ≡ Some j → suc j ≡ i → after ≡ Some j) → cond b (Some 0) (option_map suc found) ≡ Some i → cond b (Some 0) (option_map suc after) ≡ Some i
-  later true found after i rest h = h
-  later false None after i rest h = absurd (none-some i h)
-  later false (Some j) after i rest h = ap (option_map suc) (rest j refl (let next : suc j ≡ i = cc in next)) ∙ h
-
-  -- The first match stays where it is if other items follow.
-  position_front : (ys s : List T) (i : ℕ) → position test s ≡ Some i → position test (s ++ ys) ≡ Some i
-  position_front ys [] i e = absurd (none-some i e)
-  position_front ys (x ∷ xs) i e =
-      position_cons test x (xs ++ ys) ∙ later (test x) (position test xs) (position test (xs ++ ys)) i (λ j h n. position_front ys xs j h) (sym (position_cons test x xs) ∙ e)
-
-  -- So does one among the items that are left.
-  position_stays : (n : ℕ) (s : List T) (i : ℕ) → position test s ≡ Some i → i < n → position test (take n s) ≡ Some i
-  position_stays n [] i e l = absurd (none-some i e)
-  position_stays zero (x ∷ xs) i e l = absurd (omega (arith, l))
-  position_stays (suc n) (x ∷ xs) i e l =
-      position_cons test x (take n xs)
-      ∙ later (test x) (position test xs) (position test (take n xs)) i (λ j h next. position_stays n xs j h (omega (arith, next, l))) (sym (position_cons test x xs) ∙ e)
 
   module _ (eq : T → T → Bool) (o : IsEquivalence eq) (respects : IsKeyTest eq test) where
     -- Equal elements match the same.
@@ -66,7 +47,7 @@ module _ {T : Type 0} (test : T → Bool) where
       where
         by : (b : Bool) → eq x y ≡ b → ((j : ℕ) → position test ys ≡ Some j → suc j ≡ i → position test (put_item eq ys x) ≡ Some j) → position test (cond b (x ∷ ys) (y ∷ put_item eq ys x)) ≡ Some i
         by true h rest = position_cons test x ys ∙ ap (λ b. cond b (Some 0) (option_map suc (position test ys))) (sym (same_test x y h)) ∙ sym (position_cons test y ys) ∙ e
-        by false h rest = position_cons test y (put_item eq ys x) ∙ later (test y) (position test ys) (position test (put_item eq ys x)) i rest (sym (position_cons test y ys) ∙ e)
+        by false h rest = position_cons test y (put_item eq ys x) ∙ later test (test y) (position test ys) (position test (put_item eq ys x)) i rest (sym (position_cons test y ys) ∙ e)
 
     -- No later element of a distinct list matches what its first element matches.
     misses : (y : T) (ys : List T) → test y ≡ true → AllByRecursion (λ z. eq y z ≡ false) ys → (i : ℕ) (x : T) → slice_get ys i ≡ Some x → test x ≡ true → ⊥
@@ -99,13 +80,18 @@ module _ {T : Type 0} (test : T → Bool) where
         let found = stored_at s (Some i) (sym e) in
         position_own r d j found.0 (at ∙ found.1) found.2
 
--- Where an item is after an addition at the end, after a move and after a swap.
+-- Where an item is after a move and after a swap.
 module _ {T : Type 0} where
-  pub stored_last : (s r : List T) (x : T) → r ≡ s ++ x ∷ [] → slice_get r (length s) ≡ Some x
-  stored_last s r x e = ap (λ l. slice_get l (length s)) e ∙ slice_get_last s x
-
   pub at_moved : (s r : List T) (i j : ℕ) → i < length s → j < length s → r ≡ moved s i j → slice_get r j ≡ slice_get s i
   at_moved s r i j h k e = moved_item s r i j e h k
+
+  -- The items before both indices of a move stay.
+  pub before_moved : (s r : List T) (i j k : ℕ) → i < length s → j < length s → r ≡ moved s i j → k < i → k < j → slice_get r k ≡ slice_get s k
+  before_moved s r i j k h m e l n = moved_other s r i j k e h l n
+
+  -- The items at other indices than those of a swap stay.
+  pub elsewhere_swapped : (s r : List T) (i j k : ℕ) → i < length s → j < length s → r ≡ swap s i j → nat_eq k i ≡ false → nat_eq k j ≡ false → slice_get r k ≡ slice_get s k
+  elsewhere_swapped s r i j k h m e n o = swapped_other s r i j k e h m n o
 
   pub at_swapped : (s r : List T) (i j : ℕ) → i < length s → j < length s → r ≡ swap s i j → slice_get r j ≡ slice_get s i
   at_swapped s r i j h k e = swapped_item s r i j e h k
@@ -126,7 +112,54 @@ module _ {T : Type 0} where
       ∙ ap Some (get_or-take n written i x h ∙ get_or-set_at s i i last x refl (omega (arith, h)))
       ∙ sym (slice_get-get_or s n x (omega (arith, h)))
 
--- The clauses `indices`, from the list afterwards.
+-- Where the items are after the removal of one.
+module _ {T : Type 0} where
+  before_removed : (s : List T) (i j : ℕ) → j < i → slice_get (remove s i) j ≡ slice_get s j
+  before_removed [] zero j l = refl
+  before_removed [] (suc i) j l = refl
+  before_removed (x ∷ xs) zero j l = absurd (omega (arith, l))
+  before_removed (x ∷ xs) (suc i) zero l = refl
+  before_removed (x ∷ xs) (suc i) (suc j) l = before_removed xs i j (omega (arith, l))
+
+  after_removed : (s : List T) (i j : ℕ) → i ≤ j → slice_get (remove s i) j ≡ slice_get s (suc j)
+  after_removed [] zero j l = refl
+  after_removed [] (suc i) j l = refl
+  after_removed (x ∷ xs) zero j l = refl
+  after_removed (x ∷ xs) (suc i) zero l = absurd (omega (arith, l))
+  after_removed (x ∷ xs) (suc i) (suc j) l = after_removed xs i j (omega (arith, l))
+
+  -- An item is read exactly below the length.
+  is_some_slice_get : (s : List T) (i : ℕ) → is_some (slice_get s i) ≡ nat_lt i (length s)
+  is_some_slice_get [] i = sym (le-ltb i 0 (omega arith))
+  is_some_slice_get (x ∷ xs) zero = sym (lt-ltb 0 (suc (length xs)) (omega arith))
+  is_some_slice_get (x ∷ xs) (suc i) = is_some_slice_get xs i ∙ elim (cases_lt i (length xs)) [
+    | inl l ↦ lt-ltb i (length xs) l ∙ sym (lt-ltb (suc i) (suc (length xs)) (omega (arith, l)))
+    | inr m ↦ le-ltb i (length xs) m ∙ sym (le-ltb (suc i) (suc (length xs)) (omega (arith, m)))
+  ]
+
+  pub found_by_reference : (s : List T) (i : ℕ) (found : Option (Bor T)) → option_copied found ≡ slice_get s i → is_some found ≡ nat_lt i (length s)
+  found_by_reference s i None e = ap is_some e ∙ is_some_slice_get s i
+  found_by_reference s i (Some x) e = ap is_some e ∙ is_some_slice_get s i
+
+-- The clauses `index` of what is read at an index, and of a binary search: the elements are distinct.
+module _ {T : Type 0} (eq : T → T → Bool) (o : IsEquivalence eq) (s : List T) (d : IsDistinct eq s) where
+  pub index_at : (i : ℕ) (x : T) → slice_get s i ≡ Some x → item_index eq s x ≡ Some i
+  index_at i x at = position_own (eq x) eq o (o.congr x) s d i x at (o.refl x)
+
+  pub index_by_reference : (i : ℕ) (found : Option (Bor T)) → option_copied found ≡ slice_get s i → IfSome found (λ x. item_index eq s x.now ≡ Some i)
+  index_by_reference i None e = tt
+  index_by_reference i (Some x) e = index_at i x.now (sym e)
+
+  -- The same, as a slice says what is read.
+  pub index_of_read : (i : ℕ) (found : Option (Bor T)) → is_some found ≡ nat_lt i (length s) → IfSome found (λ x. x.now ≡ get_or s i x.now) → IfSome found (λ x. item_index eq s x.now ≡ Some i)
+  index_of_read i None within e = tt
+  index_of_read i (Some x) within e = index_at i x.now (slice_get-get_or s i x.now (ltb-true i (length s) (sym within)) ∙ ap Some (sym e))
+
+  pub index_searched : (k : T) (r : Result ℕ ℕ) → IfOk r (λ i. (x : T) × (slice_get s i ≡ Some x) × (eq k x ≡ true)) → IfOk r (λ i. item_index eq s k ≡ Some i)
+  index_searched k (Ok i) found = position_own (eq k) eq o (o.congr k) s d i found.0 found.1 found.2
+  index_searched k (Err i) found = tt
+
+-- The clauses `indices` and `present`, from the list afterwards.
 module _ {T : Type 0} (s r : List T) where
   pub indices_stay : r ≡ s → KeepsMatchIndices s r
   indices_stay e test i h = ap (position test) e ∙ h
@@ -139,6 +172,15 @@ module _ {T : Type 0} (s r : List T) where
 
   pub indices_of_front : (n : ℕ) → r ≡ take n s → KeepsMatchIndicesBelow n s r
   indices_of_front n e test i h l = ap (position test) e ∙ position_stays test n s i h l
+
+  pub present_in_front : (n : ℕ) → r ≡ take n s → (test : T → Bool) (i : ℕ) → position test s ≡ Some i → i < n → list_any test r ≡ true
+  present_in_front n e test i h l = list_any_position test r ∙ ap is_some (indices_of_front n e test i h l)
+
+  pub items_shift : (i : ℕ) → r ≡ remove s i → ShiftsItems i s r
+  items_shift i e = record {
+    before = λ j l. ap (λ l. slice_get l j) e ∙ before_removed s i j l;
+    after = λ j l. ap (λ l. slice_get l j) e ∙ after_removed s i j l ∙ ap (slice_get s) (omega arith);
+  }
 
 module _ {T : Type 0} (eq : T → T → Bool) (o : IsEquivalence eq) (s r : List T) where
   pub indices_of_put : (x : T) → r ≡ put_item eq s x → KeepsItemIndices eq s r
@@ -155,4 +197,4 @@ module _ {T : Type 0} (eq : T → T → Bool) (o : IsEquivalence eq) (s r : List
   }
 
 -- The lemmas for the clauses `indices` of calls that append and remove at the end.
-pub ruleset at_end = (indices_stay, indices_appended, indices_of_front)
+pub ruleset at_end = (indices_stay, indices_appended, indices_of_front, present_in_front)

@@ -1,9 +1,10 @@
 -- Which elements are present after many additions, at which indices, and how many, in a list that is known to be the one
 -- after them.
-use Rattle.std.specs.{Cmp.IsEquivalence, Set.is_member}
+use Rattle.std.specs.{Cmp.IsEquivalence, List.IsDistinct, Set.is_member}
 use Rattle.std.proofs.Common.{◌≡◌, ◌∙◌, ◌+◌, ◌++◌, ◌≤◌, ◌||◌, Bool, Contains, IsTrue, List, [], ◌∷◌, ap, arith, false, if◌then◌else◌, length, length-append, refl, sym, true}
-use Rattle.std.proofs.lemmas.List.{append-nil, append_assoc}
-use Rattle.vecmap_base.specs.{Clones.AreClones, Items.add, Items.adds}
+use Rattle.std.proofs.lemmas.{Bool.or_right, List.append-nil, List.append_assoc, Map.Made.length-le_from_is_member}
+use Rattle.vecmap_base.specs.{Clones.AreClones, Items.adds}
+use Rattle.vecmap_base.proofs.ItemsLemmas.Additions.{adds_distinct}
 use Rattle.vecmap_base.proofs.ItemsLemmas.Changes.{is_member_clones}
 use Rattle.vecmap_base.proofs.ItemsLemmas.Members.{is_member_adds}
 use Rattle.vecmap_set.specs.Indices.{KeepsMatchIndices}
@@ -16,6 +17,14 @@ module _ {T : Type 0} (eq : T → T → Bool) (o : IsEquivalence eq) where
   -- The same, if nothing was there before.
   pub members_of_all : (xs r : List T) → r ≡ adds eq [] xs → (q : T) → is_member eq r q ≡ is_member eq xs q
   members_of_all xs r e q = members_of_adds [] xs r e q
+
+  -- Distinct elements that are added are no more than those afterwards.
+  pub length_of_added : (s xs r : List T) → r ≡ adds eq s xs → IsDistinct eq xs → length xs ≤ length r
+  length_of_added s xs r e d = length-le_from_is_member o xs r d (λ q h. members_of_adds s xs r e q ∙ or_right (is_member eq s q) (is_member eq xs q) h)
+
+  -- If nothing was there before and they are distinct, they are the list.
+  pub order_of_all : (xs r : List T) → r ≡ adds eq [] xs → IsDistinct eq xs → r ≡ xs
+  order_of_all xs r e d = e ∙ adds_distinct eq o xs d
 
   -- And of clones, if each is equal to its original.
   pub members_of_clones : (C : T → T → Type 0) (xs ys r : List T) → ((x y : T) → Contains xs x → C x y → IsTrue (eq x y)) → AreClones C xs ys → r ≡ adds eq [] ys → (q : T) → is_member eq r q ≡ is_member eq xs q

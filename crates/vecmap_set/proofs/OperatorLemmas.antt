@@ -1,12 +1,13 @@
 -- What is taken from an iterator until nothing is left is the list that it had. By induction on the taken items.
-use Rattle.std.proofs.Common.{◌≡◌, ◌&&◌, ◌||◌, ◌⊎◌, Bool, Contains, IsTrue, List, [], ◌∷◌, ◌++◌, Option, None, Some, ap, false, inl, inr, not, refl, sym, subst, true, ◌∙◌, map}
+use Rattle.std.proofs.Common.{◌≡◌, ◌+◌, ◌≤◌, ◌&&◌, ◌||◌, ◌⊎◌, suc, Bool, Contains, IsTrue, List, [], ◌∷◌, ◌++◌, Option, None, Some, ap, arith, false, filter, if◌then◌else◌, inl, inr, length, length-append, not, refl, sym, subst, true, true≢false, ◌∙◌, map}
 use Rattle.std.proofs.lemmas.{Bool.cases_Bool, List.append-nil, List.map_push, List.Elements.AllZip-push, List.Folds.list_any-append}
 use Rattle.std.specs.{Borrow.Bor, Cmp.IsEquivalence, Iterator.Yields, Iterator.YieldsFirstRef, List.IsDistinct, List.list_any, Map.IsKeyTest, Map.Iter.deref, Set.is_member}
-use Rattle.vecmap_base.specs.{Clones.AreClones, Items.only}
+use Rattle.vecmap_base.specs.{Clones.AreClones, Items.both, Items.only}
 use Rattle.vecmap_base.proofs.EqualityLemmas.Relations.{is_member_only}
 use Rattle.vecmap_base.proofs.ItemsLemmas.Changes.{is_member_clones}
 use Rattle.vecmap_base.proofs.PairsLemmas.Lookups.{compares_with}
 use Rattle.vecmap_set.specs.Operators.{CombinesMembers, DrainsIntoClones, symmetric_difference_of, union_of}
+use Rattle.vecmap_set.proofs.MemberLemmas.{length_of_clones}
 use Rattle.vecmap_set.proofs.SetLemmas.{distinct_clones_of}
 
 module _ {S T : Type 0} (steps : S → Option (Bor T) → S → Type 0) (rest : S → List T) where
@@ -52,9 +53,38 @@ module _ {T : Type 0} (eq : T → T → Bool) (o : IsEquivalence eq) where
             ]
       ]
 
+  filter_short : (p : T → Bool) (xs : List T) → length (filter p xs) ≤ length xs
+  filter_short p [] = omega arith
+  filter_short p (x ∷ xs) = by (p x) (filter_short p xs)
+    where
+      by : (b : Bool) → length (filter p xs) ≤ length xs → length (if b then x ∷ filter p xs else filter p xs) ≤ suc (length xs)
+      by true l = omega (arith, l)
+      by false l = omega (arith, l)
+
+  -- The list `r` has no more elements than both lists, and no more than `a` if it takes none from `b` alone.
+  abbrev pub Fits : (Bool → Bool → Bool) → List T → List T → List T → Type 0
+  Fits combine a b r = (length r ≤ length a + length b) × (combine false true ≡ false → length r ≤ length a)
+
+  pub fits_both : (combine : Bool → Bool → Bool) (a b : List T) → Fits combine a b (both eq a b)
+  fits_both combine a b = let short = filter_short (λ x. is_member eq b x) a in (omega (arith, short), λ e. short)
+
+  pub fits_only : (combine : Bool → Bool → Bool) (a b : List T) → Fits combine a b (only eq a b)
+  fits_only combine a b = let short = filter_short (λ x. not (is_member eq b x)) a in (omega (arith, short), λ e. short)
+
+  pub fits_union : (combine : Bool → Bool → Bool) → combine false true ≡ true → (a b : List T) → Fits combine a b (union_of eq a b)
+  fits_union combine takes a b =
+      let short = filter_short (λ x. not (is_member eq a x)) b in
+      (omega (arith, length-append a (only eq b a), short), λ e. absurd (true≢false (sym takes ∙ e)))
+
+  pub fits_symmetric_difference : (combine : Bool → Bool → Bool) → combine false true ≡ true → (a b : List T) → Fits combine a b (symmetric_difference_of eq a b)
+  fits_symmetric_difference combine takes a b =
+      let left = filter_short (λ x. not (is_member eq b x)) a in
+      let right = filter_short (λ x. not (is_member eq a x)) b in
+      (omega (arith, length-append (only eq a b) (only eq b a), left, right), λ e. absurd (true≢false (sym takes ∙ e)))
+
   -- What is said of elements is said of queries: a query that matches something matches the equals of one element.
-  pub combined : (combine : Bool → Bool → Bool) → combine false false ≡ false → (a b r : List T) → ((q : T) → is_member eq r q ≡ combine (is_member eq a q) (is_member eq b q)) → CombinesMembers eq combine a b r
-  combined combine nothing a b r members = record { members = members; queries = queries }
+  pub combined : (combine : Bool → Bool → Bool) → combine false false ≡ false → (a b r : List T) → ((q : T) → is_member eq r q ≡ combine (is_member eq a q) (is_member eq b q)) → Fits combine a b r → CombinesMembers eq combine a b r
+  combined combine nothing a b r members fits = record { members = members; queries = queries; len = fits.0; part = fits.1 }
     where
       queries : (test : T → Bool) → IsKeyTest eq test → list_any test r ≡ combine (list_any test a) (list_any test b)
       queries test respects =
@@ -75,10 +105,16 @@ module _ {T : Type 0} (eq : T → T → Bool) (o : IsEquivalence eq) where
 
   -- What an operator creates, with the members of the set.
   pub with_members : {C : T → T → Type 0} (combine : Bool → Bool → Bool) (list : List T → List T → List T) → combine false false ≡ false → ((a b : List T) (q : T) → is_member eq (list a b) q ≡ combine (is_member eq a q) (is_member eq b q))
+      → ((a b : List T) → Fits combine a b (list a b))
       → {made u v : List T} → ((x y : T) → Contains (list u v) x → C x y → IsTrue (eq x y))
       → AreClones C (list u v) made × IsDistinct eq made → (AreClones C (list u v) made × IsDistinct eq made) × CombinesMembers eq combine u v made
-  with_members {C} combine list nothing members {made = made} {u = u} {v = v} same clones =
-      (clones, combined combine nothing u v made (λ q. is_member_clones eq o C (list u v) made same clones.0 q ∙ members u v q))
+  with_members {C} combine list nothing members fits {made = made} {u = u} {v = v} same clones =
+      let long = length_of_clones C (list u v) made clones.0 in
+      let short = fits u v in (
+        clones,
+        combined combine nothing u v made (λ q. is_member_clones eq o C (list u v) made same clones.0 q ∙ members u v q)
+            (omega (arith, long, short.0), λ e. omega (arith, long, short.1 e)),
+      )
 
 -- The lemmas for the loop that makes clones.
 pub ruleset pushes = (map_push, AllZip-push)

@@ -1,16 +1,16 @@
 -- What queries find after a change of a list, in the words of contracts.
-use Rattle.std.specs.{Borrow.Bor, Cmp.IsEquivalence, List.list_any, List.Sorted.IsPermutation}
+use Rattle.std.specs.{Borrow.Bor, List.list_any, List.Sorted.IsPermutation}
 use Rattle.std.specs.Prelude.{IfSome, option_copied}
-use Rattle.std.proofs.Common.{◌≡◌, ◌∙◌, ◌++◌, ◌<◌, ◌≤◌, ◌||◌, ◌&&◌, ℕ, suc, Bool, true, false, IsTrue, List, [], ◌∷◌, None, Option, Some, ap, arith, cond, if◌then◌else◌, is_some, length, position, refl, remove, reverse, slice_get, subst, swap, sym}
+use Rattle.std.proofs.Common.{◌≡◌, ◌∙◌, ◌++◌, ◌<◌, ◌≤◌, ◌||◌, ℕ, suc, Bool, true, false, IsTrue, List, [], ◌∷◌, None, Option, Some, ap, arith, cond, if◌then◌else◌, length, position, refl, remove, reverse, slice_get, subst, swap, sym}
 use Rattle.std.proofs.lemmas.List.Folds.{list_any-append}
 use Rattle.std.proofs.lemmas.List.Sorted.{IsPermutation-remove, IsPermutation-reverse, IsPermutation-swap, IsPermutation-swap_remove, length_permutation, list_any-IsPermutation}
 use Rattle.std.proofs.lemmas.Option.{get_or_from_slice_get, none-some, slice_get_within}
 use Rattle.std.specs.List.{swap_remove}
 use Rattle.std.specs.Option.{option_and_then, option_map_or}
 use Rattle.std.specs.Set.{is_member}
-use Rattle.vecmap_base.specs.Items.{IsReorderedItems, add, put_item, stored_first, swap_without, swap_without_first, without_first}
+use Rattle.vecmap_base.specs.Items.{IsReorderedItems, add, put_item, stored_first, swap_without}
 use Rattle.vecmap_base.specs.Kept.{Kept}
-use Rattle.vecmap_base.proofs.IndexLemmas.{list_any_position}
+use Rattle.vecmap_base.proofs.EqualityLemmas.Sets.{same_items}
 use Rattle.vecmap_base.proofs.ItemsLemmas.Recursion.{put_item_cons}
 use Rattle.vecmap_set.proofs.IndexLemmas.{stored_at}
 
@@ -117,6 +117,7 @@ module _ {T : Type 0} (s r : List T) where
   reordered p = record {
     matches = λ test. sym (list_any-IsPermutation test s r p);
     len = length_permutation s r p;
+    equal = λ eq o. same_items eq o r s (λ x. sym (list_any-IsPermutation (eq x) s r p));
   }
 
   pub reordered_by_reverse : r ≡ reverse s → IsReorderedItems s r

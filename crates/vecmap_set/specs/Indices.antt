@@ -1,5 +1,5 @@
 -- At which indices a set has its elements after a change. `eq` is the `==` of the elements.
-use Rattle.std.specs.Prelude.{◌≡◌, ℕ, ◌<◌, Bool, List, Some, position, slice_get}
+use Rattle.std.specs.Prelude.{◌≡◌, ◌+◌, ◌<◌, ◌≤◌, ℕ, Bool, List, Some, position, slice_get}
 use Rattle.std.specs.Map.{IsKeyTest}
 use Rattle.vecmap_base.specs.Items.{item_index}
 
@@ -13,6 +13,12 @@ module _ {T : Type 0} where
   -- The same of each match whose index is below `n`.
   abbrev pub KeepsMatchIndicesBelow : ℕ → List T → List T → Type 0
   KeepsMatchIndicesBelow n s r = (test : T → Bool) (i : ℕ) → position test s ≡ Some i → i < n → position test r ≡ Some i
+
+  -- Example: from `[1, 2, 3]` to `[1, 3]`, for the index 1.
+  -- The elements of the list `s` before the index `i` are at their indices in `r`, and those after it one index before.
+  pub record ShiftsItems (i : ℕ) (s r : List T) : Type 0 where
+    pub before : (j : ℕ) → j < i → slice_get r j ≡ slice_get s j
+    pub after : (j : ℕ) → i ≤ j → slice_get r j ≡ slice_get s (j + 1)
 
 module _ {T : Type 0} (eq : T → T → Bool) where
   -- Example: from `[1x, 2x]` to `[1y, 2x]`.

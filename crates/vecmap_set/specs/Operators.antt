@@ -1,5 +1,5 @@
 -- What the operators on two sets create. `eq` is the `==` of the elements.
-use Rattle.std.specs.Prelude.{◌≡◌, Bool, Contains, IfOk, IsTrue, List, ◌++◌, Option, Result, map}
+use Rattle.std.specs.Prelude.{◌≡◌, ◌+◌, ◌≤◌, Bool, Contains, IfOk, IsTrue, List, ◌++◌, Option, Result, false, length, map, true}
 use Rattle.std.specs.Borrow.{Bor}
 use Rattle.std.specs.Iterator.{Drains}
 use Rattle.std.specs.List.{IsDistinct, list_any}
@@ -38,6 +38,8 @@ module _ {T : Type 0} (eq : T → T → Bool) (is_clone : T → T → Type 0) (l
 pub record CombinesMembers {T : Type 0} (eq : T → T → Bool) (combine : Bool → Bool → Bool) (a b r : List T) : Type 0 where
   pub members : (q : T) → is_member eq r q ≡ combine (is_member eq a q) (is_member eq b q)
   pub queries : (test : T → Bool) → IsKeyTest eq test → list_any test r ≡ combine (list_any test a) (list_any test b)
+  pub len : length r ≤ length a + length b
+  pub part : combine false true ≡ false → length r ≤ length a
 
 -- The list made has clones of all the items that an iterator in the state s returns.
 abbrev pub DrainsIntoClones : {S T : Type 0} → (S → Option (Bor T) → S → Type 0) → (T → T → Type 0) → S → List T → Type 0

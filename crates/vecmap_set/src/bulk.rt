@@ -151,6 +151,7 @@ impl<T: Eq> VecSet<T> {
         ensures len { OnOk result ((length self.old.elements ≤ length self.new.elements)
             × (length self.new.elements
             ≤ length self.old.elements + length other.old.elements)) }
+        ensures enough { OnOk result (length other.old.elements ≤ length self.new.elements) }
         ensures indices { OnOk result (KeepsMatchIndices self.old.elements self.new.elements) }
     {
         self.reserve(other.len())?;

@@ -3,6 +3,7 @@ ghost use Rattle.std.specs.Prelude.{◌≡◌, ◌↔◌, Contains, IfOk, IsTrue
 ghost use Rattle.std.specs.List.{IsDistinct};
 ghost use Rattle.std.specs.Set.{is_member};
 ghost use Rattle.vecmap_base.specs.Clones.{AreClones};
+ghost use Rattle.vecmap_base.specs.Equality.{has_same_items};
 
 use crate::VecSet;
 use std::alloc::AllocError;
@@ -44,6 +45,8 @@ impl<T: Eq> VecSet<T> {
         ensures members { IfOk result (λ set. (q : T) → is_member T.eq set.elements q
             ≡ is_member T.eq self.now.elements q) }
         ensures len { IfOk result (λ set. length set.elements ≡ length self.now.elements) }
+        ensures equal { IfOk result (λ set. IsTrue (has_same_items T.eq set.elements
+            self.now.elements)) }
     {
         Ok(VecSet {
             items: self.items.clone()?,

@@ -28,7 +28,8 @@ impl<T: Eq + Drop> From<Vec<T>> for VecSet<T> {
     ghost from_gives = { λ items set. (set.elements ≡ adds T.eq [] items.items)
         × IsDistinct T.eq set.elements × (set.capacity ≡ vec_capacity items)
         × ((q : T) → is_member T.eq set.elements q ≡ is_member T.eq items.items q)
-        × (length set.elements ≤ length items.items) };
+        × (length set.elements ≤ length items.items)
+        × (IsDistinct T.eq items.items → set.elements ≡ items.items) };
 
     fn from(items: Vec<T>) -> VecSet<T> {
         let (set, _count) = VecSet::from_vec_counted(items);
@@ -65,6 +66,7 @@ impl<T: Eq> VecSet<T> {
         ensures members { (q : T) → is_member T.eq result.0.elements q
             ≡ is_member T.eq items.items q }
         ensures len { length result.0.elements ≤ length items.items }
+        ensures as_given { IsDistinct T.eq items.items → result.0.elements ≡ items.items }
     {
         let mut steps = Steps::new();
         dedup_keep_first(&mut items, &mut steps);

@@ -1,5 +1,5 @@
 //! Equality of sets, disjoint sets, subsets and supersets.
-ghost use Rattle.std.specs.Prelude.{◌≡◌, ◌↔◌, IsTrue, [], false};
+ghost use Rattle.std.specs.Prelude.{◌≡◌, ◌↔◌, ◌≤◌, IsTrue, [], false, length};
 ghost use Rattle.std.specs.Set.{is_member};
 ghost use Rattle.vecmap_base.specs.Equality.{has_same_items, is_within};
 ghost use Rattle.vecmap_base.specs.Items.{both};
@@ -21,11 +21,13 @@ impl<T: Eq> VecSet<T> {
     /// let set = vecset!(alloc; 1, 2);
     /// set.is_disjoint(&vecset!(alloc; 3, 4)) // true
     /// ```
-    #[tactic(auto, using(vecmap_base::proofs::EqualityLemmas::Relations::apart_if_none_shared))]
+    #[tactic(auto, using(vecmap_base::proofs::EqualityLemmas::Relations::apart_if_none_shared, vecmap_base::proofs::EqualityLemmas::Relations::none_shared_if_apart))]
     pub fn is_disjoint(&self, other: &VecSet<T>) -> bool
         ensures value { IsTrue result ↔ (both T.eq self.now.elements other.now.elements ≡ []) }
         ensures members { IsTrue result → (q : T) → IsTrue (is_member T.eq self.now.elements q)
             → is_member T.eq other.now.elements q ≡ false }
+        ensures holds { ((q : T) → IsTrue (is_member T.eq self.now.elements q)
+            → is_member T.eq other.now.elements q ≡ false) → IsTrue result }
     {
         if self.len() <= other.len() {
             are_disjoint(&self.items, &other.items)
@@ -47,11 +49,14 @@ impl<T: Eq> VecSet<T> {
     /// let set = vecset!(alloc; 1, 2);
     /// set.is_subset(&vecset!(alloc; 2, 3, 1)) // true
     /// ```
-    #[tactic(auto, using(vecmap_base::proofs::EqualityLemmas::Sets::longer_not_within, vecmap_base::proofs::EqualityLemmas::Sets::within_from_test))]
+    #[tactic(auto, using(vecmap_base::proofs::EqualityLemmas::Sets::longer_not_within, vecmap_base::proofs::EqualityLemmas::Sets::test_from_within, vecmap_base::proofs::EqualityLemmas::Sets::within_from_test))]
     pub fn is_subset(&self, other: &VecSet<T>) -> bool
         ensures value { result ≡ is_within T.eq self.now.elements other.now.elements }
         ensures members { IsTrue result → (q : T) → IsTrue (is_member T.eq self.now.elements q)
             → IsTrue (is_member T.eq other.now.elements q) }
+        ensures holds { ((q : T) → IsTrue (is_member T.eq self.now.elements q)
+            → IsTrue (is_member T.eq other.now.elements q)) → IsTrue result }
+        ensures len { IsTrue result → length self.now.elements ≤ length other.now.elements }
     {
         let (items, others) = (self.as_slice(), other.as_slice());
         if items.len() > others.len() {
@@ -76,6 +81,9 @@ impl<T: Eq> VecSet<T> {
         ensures value { result ≡ is_within T.eq other.now.elements self.now.elements }
         ensures members { IsTrue result → (q : T) → IsTrue (is_member T.eq other.now.elements q)
             → IsTrue (is_member T.eq self.now.elements q) }
+        ensures holds { ((q : T) → IsTrue (is_member T.eq other.now.elements q)
+            → IsTrue (is_member T.eq self.now.elements q)) → IsTrue result }
+        ensures len { IsTrue result → length other.now.elements ≤ length self.now.elements }
     {
         other.is_subset(self)
     }
@@ -110,6 +118,7 @@ impl<T: Eq> PartialEq for VecSet<T> {
         ensures value { result ≡ has_same_items T.eq self.now.elements other.now.elements }
         ensures members { IsTrue result → (q : T) → is_member T.eq self.now.elements q
             ≡ is_member T.eq other.now.elements q }
+        ensures len { IsTrue result → length self.now.elements ≡ length other.now.elements }
     {
         let (items, others) = (self.as_slice(), other.as_slice());
         if items.len() != others.len() {

@@ -6,6 +6,7 @@ ghost use Rattle.vecmap_base.specs.Items.{add, item_index, put_item, stored_item
 ghost use Rattle.vecmap_base.specs.Lookups.{UpdatesMember};
 ghost use Rattle.vecmap_set.specs.Contents.{Appends, FailsToAppend, HasRoom, IsFull, KeepsRoom, KeepsRoomAt, Refuses};
 ghost use Rattle.vecmap_set.specs.Indices.{KeepsMatchIndices, KeepsItemIndices};
+ghost use Rattle.vecmap_set.specs.Tests.{AgreesOnEquals};
 
 use crate::VecSet;
 use std::alloc::AllocError;
@@ -52,9 +53,8 @@ impl<T: Eq> VecSet<T> {
         // What follows for lookups, lengths and indices.
         ensures updates { OnOk result (UpdatesMember T.eq (T.eq item) self.old.elements
             self.new.elements true) }
-        ensures any { OnOk result ((f : T → Bool)
-            → ((x y : T) → IsTrue (T.eq x y) → f y ≡ f x) → list_any f self.new.elements
-            ≡ (f item || list_any f self.old.elements)) }
+        ensures any { OnOk result ((f : T → Bool) → AgreesOnEquals T.eq f
+            → list_any f self.new.elements ≡ (f item || list_any f self.old.elements)) }
         ensures unchanged { IsTrue (is_member T.eq self.old.elements item)
             → self.new ≡ self.old }
         ensures appended { IfOk result (λ added. IsTrue added
@@ -106,9 +106,8 @@ impl<T: Eq> VecSet<T> {
             × (slice_get self.new.elements done.0 ≡ Some x) × IsTrue (T.eq item x)) }
         ensures updates { OnOk result (UpdatesMember T.eq (T.eq item) self.old.elements
             self.new.elements true) }
-        ensures any { OnOk result ((f : T → Bool)
-            → ((x y : T) → IsTrue (T.eq x y) → f y ≡ f x) → list_any f self.new.elements
-            ≡ (f item || list_any f self.old.elements)) }
+        ensures any { OnOk result ((f : T → Bool) → AgreesOnEquals T.eq f
+            → list_any f self.new.elements ≡ (f item || list_any f self.old.elements)) }
         ensures unchanged { IsTrue (is_member T.eq self.old.elements item)
             → self.new ≡ self.old }
         ensures appended { IfOk result (λ done. IsTrue done.1
@@ -162,9 +161,8 @@ impl<T: Eq> VecSet<T> {
         // What follows for lookups, lengths and indices.
         ensures updates { OnOk result (UpdatesMember T.eq (T.eq item) self.old.elements
             self.new.elements true) }
-        ensures any { OnOk result ((f : T → Bool)
-            → ((x y : T) → IsTrue (T.eq x y) → f y ≡ f x) → list_any f self.new.elements
-            ≡ (f item || list_any f self.old.elements)) }
+        ensures any { OnOk result ((f : T → Bool) → AgreesOnEquals T.eq f
+            → list_any f self.new.elements ≡ (f item || list_any f self.old.elements)) }
         ensures appended { IfOk result (λ old. old ≡ None
             → self.new.elements ≡ self.old.elements ++ item ∷ []) }
         ensures len { IfOk result (λ old. length self.new.elements

@@ -2,10 +2,10 @@
 //!
 //! A lookup by a query compares it with the elements in order, up to the first that matches, and of small elements with
 //! at most seven more: at most `len` comparisons in all. A lookup by index makes none.
-ghost use Rattle.std.specs.Prelude.{◌≡◌, ◌-◌, ◌<◌, IfSome, IsTrue, Some, is_some, length, option_copied, option_map, position, slice_get};
+ghost use Rattle.std.specs.Prelude.{◌≡◌, ◌-◌, ◌<◌, IfSome, IsTrue, Some, is_some, length, nat_lt, option_copied, option_map, position, slice_get};
 ghost use Rattle.std.specs.List.{list_any};
 ghost use Rattle.std.specs.Set.{is_member};
-ghost use Rattle.vecmap_base.specs.Items.{stored_first};
+ghost use Rattle.vecmap_base.specs.Items.{item_index, stored_first};
 ghost use Rattle.vecmap_base.specs.Pairs.{has_text};
 
 use crate::VecSet;
@@ -43,11 +43,14 @@ impl<T: Eq> VecSet<T> {
     /// let set = vecset!(alloc; 2, 1);
     /// set.first() // Some(&2)
     /// ```
-    #[tactic(auto, using(vecmap_base::proofs::ItemsLemmas::Stored::present_by_reference))]
+    #[tactic(auto, using(vecmap_base::proofs::ItemsLemmas::Stored::present_by_reference, crate::proofs::IndexLemmas::index_by_reference, crate::proofs::IndexLemmas::found_by_reference))]
     pub fn first(&self) -> Option<&T>
         ensures element { option_copied result ≡ slice_get self.now.elements 0 }
         ensures present { IfSome result (λ element. IsTrue (is_member T.eq self.now.elements
             element.now)) }
+        ensures indexed { IfSome result (λ element. item_index T.eq self.now.elements
+            element.now ≡ Some 0) }
+        ensures found { is_some result ≡ nat_lt 0 (length self.now.elements) }
     {
         self.items.first()
     }
@@ -111,11 +114,14 @@ impl<T: Eq> VecSet<T> {
     /// set.get_index(0) // Some(&2)
     /// set.get_index(2) // None
     /// ```
-    #[tactic(auto, using(vecmap_base::proofs::ItemsLemmas::Stored::present_by_reference))]
+    #[tactic(auto, using(vecmap_base::proofs::ItemsLemmas::Stored::present_by_reference, crate::proofs::IndexLemmas::index_by_reference, crate::proofs::IndexLemmas::found_by_reference))]
     pub fn get_index(&self, index: usize) -> Option<&T>
         ensures element { option_copied result ≡ slice_get self.now.elements index }
         ensures present { IfSome result (λ element. IsTrue (is_member T.eq self.now.elements
             element.now)) }
+        ensures indexed { IfSome result (λ element. item_index T.eq self.now.elements
+            element.now ≡ Some index) }
+        ensures found { is_some result ≡ nat_lt index (length self.now.elements) }
     {
         self.items.get(index)
     }

@@ -1,5 +1,5 @@
 //! Reversing, moving, swapping and sorting the elements.
-ghost use Rattle.std.specs.Prelude.{◌≡◌, ◌-◌, ◌<◌, ◌≤◌, ℕ, IsOk, OnErr, OnOk, length, reverse, swap};
+ghost use Rattle.std.specs.Prelude.{◌≡◌, ◌-◌, ◌<◌, ◌≤◌, ℕ, IsOk, OnErr, OnOk, false, length, nat_eq, reverse, swap};
 ghost use Rattle.std.specs.List.{IsDistinct};
 ghost use Rattle.std.specs.List.Sorted.{IsPermutation, IsSorted, IsSortedByClosure, IsSortedByKeyClosure, IsStable, IsStableByClosure, IsStableByKeyClosure};
 ghost use Rattle.vecmap_base.specs.Items.{IsReorderedItems, moved};
@@ -68,6 +68,8 @@ impl<T: Eq> VecSet<T> {
         ensures reordered { IsReorderedItems self.old.elements self.new.elements }
         ensures moves { MovesItemIndex T.eq a b self.old.elements self.new.elements }
         ensures moves_back { MovesItemIndex T.eq b a self.old.elements self.new.elements }
+        ensures elsewhere { (i : ℕ) → nat_eq i a ≡ false → nat_eq i b ≡ false
+            → MovesItemIndex T.eq i i self.old.elements self.new.elements }
     {
         self.items.swap(a, b);
     }
@@ -101,6 +103,8 @@ impl<T: Eq> VecSet<T> {
         // What follows for lookups, lengths and indices.
         ensures reordered { IsReorderedItems self.old.elements self.new.elements }
         ensures moves { MovesItemIndex T.eq from to self.old.elements self.new.elements }
+        ensures elsewhere { (i : ℕ) → i < from → i < to
+            → MovesItemIndex T.eq i i self.old.elements self.new.elements }
     {
         move_to(&mut self.items, from, to);
     }

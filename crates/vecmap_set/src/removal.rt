@@ -1,5 +1,5 @@
 //! Removal of elements.
-ghost use Rattle.std.specs.Prelude.{◌≡◌, ◌+◌, ◌-◌, ◌<◌, ◌≤◌, ◌&&◌, ◌||◌, Bool, IfNone, IfOk, IfSome, IsOk, IsTrue, OnErr, OnOk, Some, [], drop, false, if◌then◌else◌, is_some, length, min, nat_lt, position, remove, slice_get, string_eq, take, unwrap_or, String};
+ghost use Rattle.std.specs.Prelude.{◌≡◌, ◌+◌, ◌-◌, ◌<◌, ◌≤◌, ◌&&◌, ◌||◌, ℕ, Bool, IfNone, IfOk, IfSome, IsOk, IsTrue, OnErr, OnOk, Some, [], drop, false, if◌then◌else◌, is_some, length, min, nat_lt, position, remove, slice_get, string_eq, take, true, unwrap_or, String};
 ghost use Rattle.std.specs.Fn.{TakesAt};
 ghost use Rattle.std.specs.List.{IsDistinct, list_any};
 ghost use Rattle.std.specs.declared.alloc.Global.{Global};
@@ -8,7 +8,8 @@ ghost use Rattle.vecmap_base.specs.Asked.{CallableOnEach, CallsAtItem};
 ghost use Rattle.vecmap_base.specs.Kept.{Kept, ReturnsAt};
 ghost use Rattle.vecmap_base.specs.Lookups.{UpdatesMember};
 ghost use Rattle.vecmap_base.specs.Pairs.{has_text};
-ghost use Rattle.vecmap_set.specs.Indices.{KeepsMatchIndicesBelow, MovesItemIndex};
+ghost use Rattle.vecmap_set.specs.Indices.{KeepsMatchIndicesBelow, MovesItemIndex, ShiftsItems};
+ghost use Rattle.vecmap_set.specs.Tests.{AgreesOnEquals};
 
 use crate::VecSet;
 use std::alloc::AllocError;
@@ -66,6 +67,9 @@ impl<T: Eq> VecSet<T> {
         ensures matches { (test : T → Bool) → list_any test self.new.elements
             ≡ (list_any test self.old.elements
             && nat_lt (unwrap_or (position test self.old.elements) 0) len) }
+        ensures present { (test : T → Bool) (i : ℕ)
+            → position test self.old.elements ≡ Some i → i < len
+            → list_any test self.new.elements ≡ true }
         ensures len { length self.new.elements ≡ min len (length self.old.elements) }
         ensures indices { KeepsMatchIndicesBelow len self.old.elements self.new.elements }
     {
@@ -197,6 +201,9 @@ impl<T: Eq> VecSet<T> {
         ensures matches { (test : T → Bool) → list_any test self.new.elements
             ≡ (list_any test self.old.elements && nat_lt
             (unwrap_or (position test self.old.elements) 0) (length self.old.elements - 1)) }
+        ensures present { (test : T → Bool) (i : ℕ)
+            → position test self.old.elements ≡ Some i → i < length self.old.elements - 1
+            → list_any test self.new.elements ≡ true }
         ensures any { IfSome result (λ x. (f : T → Bool) → list_any f self.old.elements
             ≡ (f x || list_any f self.new.elements)) }
         ensures unchanged { IfNone result (self.new ≡ self.old) }
@@ -239,7 +246,7 @@ impl<T: Eq> VecSet<T> {
         // What follows for lookups, lengths and indices.
         ensures updates { UpdatesMember T.eq (Q.equivalent query) self.old.elements
             self.new.elements false }
-        ensures any { (f : T → Bool) → ((x y : T) → IsTrue (T.eq x y) → f y ≡ f x)
+        ensures any { (f : T → Bool) → AgreesOnEquals T.eq f
             → (x : T) → IsTrue (Q.equivalent query x) → list_any f self.old.elements
             ≡ ((result && f x) || list_any f self.new.elements) }
         ensures unchanged { result ≡ false → self.new ≡ self.old }
@@ -279,6 +286,7 @@ impl<T: Eq> VecSet<T> {
 
         // What follows for lookups, lengths and indices.
         ensures indices { KeepsMatchIndicesBelow index self.old.elements self.new.elements }
+        ensures shifts { ShiftsItems index self.old.elements self.new.elements }
         ensures updates { UpdatesMember T.eq (T.eq result) self.old.elements
             self.new.elements false }
         ensures any { (f : T → Bool) → list_any f self.old.elements
@@ -317,7 +325,7 @@ impl<T: Eq> VecSet<T> {
         // What follows for lookups, lengths and indices.
         ensures updates { UpdatesMember T.eq (Q.equivalent query) self.old.elements
             self.new.elements false }
-        ensures any { (f : T → Bool) → ((x y : T) → IsTrue (T.eq x y) → f y ≡ f x)
+        ensures any { (f : T → Bool) → AgreesOnEquals T.eq f
             → (x : T) → IsTrue (Q.equivalent query x) → list_any f self.old.elements
             ≡ ((result && f x) || list_any f self.new.elements) }
         ensures unchanged { result ≡ false → self.new ≡ self.old }
@@ -449,7 +457,7 @@ impl VecSet<String> {
         // What follows for lookups, lengths and indices.
         ensures updates { UpdatesMember string_eq (has_text text.now) self.old.elements
             self.new.elements false }
-        ensures any { (f : String Global → Bool) → ((x y : String Global) → IsTrue (string_eq x y) → f y ≡ f x)
+        ensures any { (f : String Global → Bool) → AgreesOnEquals string_eq f
             → (x : String Global) → IsTrue (has_text text.now x) → list_any f self.old.elements
             ≡ ((result && f x) || list_any f self.new.elements) }
         ensures unchanged { result ≡ false → self.new ≡ self.old }

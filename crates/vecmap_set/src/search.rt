@@ -1,9 +1,10 @@
 //! Binary searches in sorted elements. None allocates.
-ghost use Rattle.std.specs.Prelude.{◌≡◌, ◌<◌, ◌≤◌, Bool, false, is_ok, length, true};
+ghost use Rattle.std.specs.Prelude.{◌≡◌, ◌<◌, ◌≤◌, Bool, IfOk, IsTrue, Some, false, is_ok, length, slice_get, true};
 ghost use Rattle.std.specs.List.{All, HoldsAt};
 ghost use Rattle.std.specs.List.Sorted.{IsBinarySearchResult, IsPartitionPoint, IsPartitionedBy, IsSearchInRange, IsSorted};
 ghost use Rattle.std.specs.Set.{is_member};
 ghost use Rattle.std.specs.declared.cmp.Ordering.{Ordering};
+ghost use Rattle.vecmap_base.specs.Items.{item_index};
 ghost use Rattle.vecmap_base.specs.Orders.{AnswersOnItems, CallableOnItem};
 
 use crate::VecSet;
@@ -37,6 +38,9 @@ impl<T: Eq> VecSet<T> {
         // What follows for lookups, lengths and indices.
         ensures found { IsSorted T.cmp self.now.elements
             → is_ok result ≡ is_member T.eq self.now.elements item.now }
+        ensures at { IfOk result (λ i. (x : T) × (slice_get self.now.elements i ≡ Some x)
+            × IsTrue (T.eq item.now x)) }
+        ensures indexed { IfOk result (λ i. item_index T.eq self.now.elements item.now ≡ Some i) }
     {
         let items = self.items.as_slice();
         search_by_index::<T, _, _>(

@@ -3,9 +3,9 @@ use Rattle.std.specs.Prelude.{◌≡◌, IsTrue, ◌↔◌, Bool, true, false, �
 use Rattle.std.specs.Cmp.{IsEquivalence}
 use Rattle.std.specs.List.{IsDistinct, list_any}
 use Rattle.std.specs.Set.{is_member}
-use Rattle.std.proofs.Common.{sym, ap, ◌∙◌, true≢false}
+use Rattle.std.proofs.Common.{sym, ap, ◌∙◌, inl, inr, true≢false}
 use Rattle.std.proofs.Math.Bool.{and_comm}
-use Rattle.std.proofs.lemmas.Bool.{or_left}
+use Rattle.std.proofs.lemmas.Bool.{cases_Bool, or_left}
 use Rattle.std.proofs.lemmas.Map.Made.{is_member-filter}
 use Rattle.std.proofs.lemmas.Map.Steps.{list_any_congr}
 use Rattle.vecmap_base.specs.Items.{both, only}
@@ -36,6 +36,13 @@ module _ {T : Type 0} (eq : T → T → Bool) (o : IsEquivalence eq) where
   -- If the lists have nothing in common, what is in `a` is not in `b`.
   pub apart_if_none_shared : (a b : List T) → both eq a b ≡ [] → (x : T) → is_member eq a x ≡ true → is_member eq b x ≡ false
   apart_if_none_shared a b e x h = ap (λ c. c && is_member eq b x) (sym h) ∙ sym (is_member_both a b x) ∙ ap (λ l. is_member eq l x) e
+
+  pub none_shared_if_apart : (a b : List T) → ((x : T) → is_member eq a x ≡ true → is_member eq b x ≡ false) → both eq a b ≡ []
+  none_shared_if_apart a b apart =
+      nothing_in (both eq a b) (λ x. is_member_both a b x ∙ elim (cases_Bool (is_member eq a x)) [
+        | inl h ↦ (λ i. h i && apart x h i)
+        | inr n ↦ ap (λ c. c && is_member eq b x) n
+      ])
 
   -- If no element of `a` is in `b`, no element of `b` is in `a`.
   pub both_empty_turned : (a b : List T) → both eq a b ≡ [] → both eq b a ≡ []

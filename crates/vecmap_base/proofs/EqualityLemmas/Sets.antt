@@ -30,6 +30,10 @@ module _ {T : Type 0} (eq : T → T → Bool) (o : IsEquivalence eq) where
   test_from_within (y ∷ ys) b h =
       and_from _ _ (h y (or_left (eq y y) (is_member eq ys y) (o.refl y))) (test_from_within ys b (λ x e. h x (or_right (eq x y) (is_member eq ys x) e)))
 
+  -- Two lists with the same elements, in any order and number, are equal as sets.
+  pub same_items : (a b : List T) → ((x : T) → is_member eq a x ≡ is_member eq b x) → has_same_items eq a b ≡ true
+  same_items a b same = and_from _ _ (test_from_within a b (λ x e. sym (same x) ∙ e)) (test_from_within b a (λ x e. same x ∙ e))
+
   pub set_equality_laws : IsEquivalence (has_same_items eq)
   set_equality_laws = record {
     refl = λ a. and_from _ _ (test_from_within a a (λ x e. e)) (test_from_within a a (λ x e. e));

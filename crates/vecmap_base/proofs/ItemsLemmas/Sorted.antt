@@ -1,5 +1,5 @@
 -- What a binary search says of a list: whether an item compares as equal, if comparisons rise with the items.
-use Rattle.std.specs.Prelude.{◌≡◌, ◌<◌, ◌≤◌, ℕ, Bool, Err, List, [], ◌∷◌, Ok, Result, false, is_ok, length, true}
+use Rattle.std.specs.Prelude.{◌≡◌, ◌≤◌, ℕ, Bool, Err, List, [], ◌∷◌, IfOk, Ok, Result, Some, false, is_ok, length, slice_get, true}
 use Rattle.std.specs.{Cmp.IsTotalOrder, List.list_any}
 use Rattle.std.specs.Cmp.{alike_right, upto, IsStrictWeakOrder}
 use Rattle.std.specs.List.Sorted.{IsBinarySearchResult, IsNonDecreasingBy, IsPartitionPoint, IsSearchInRange, IsSortedByKey}
@@ -9,6 +9,7 @@ use Rattle.std.specs.declared.cmp.Ordering.TheVariants.{Equal, Greater, Less}
 use Rattle.std.proofs.Common.{◌∙◌, ap, arith, get_or, inl, inr, nat_lt, refl, subst, sym, true≢false}
 use Rattle.std.proofs.lemmas.Bool.{cases_Bool, ltb-false, ltb-true}
 use Rattle.std.proofs.lemmas.List.Folds.{list_any_at, list_any_none}
+use Rattle.std.proofs.lemmas.Option.{slice_get-get_or}
 use Rattle.std.proofs.lemmas.List.Sorted.{sorted_far}
 
 module _ {X K : Type 0} (key : X → K) (cmp : K → K → Ordering) (o : IsTotalOrder cmp) where
@@ -59,6 +60,14 @@ module _ {X K : Type 0} (key : X → K) (cmp : K → K → Ordering) (o : IsTota
         | inl e ↦ matches k (key (get_or xs j d)) ∙ ap is_eq (o.antisymm k (key (get_or xs j d)) ∙ ap ordering_reverse (split.0 j d (omega arith) (ltb-true j i e)))
         | inr e ↦ matches k (key (get_or xs j d)) ∙ ap is_eq (o.antisymm k (key (get_or xs j d)) ∙ ap ordering_reverse (split.1 j d (ltb-false j i e) within))
       ])
+
+  -- A binary search that succeeds finds the index of an item that is equal to `k`.
+  pub search_at : (eq : K → K → Bool) → ((x y : K) → eq x y ≡ is_eq (cmp x y)) → (k : K) (xs : List X) (r : Result ℕ ℕ) → IsSearchInRange r (length xs) → IsBinarySearchResult (λ y. cmp (key y) k) xs r → IfOk r (λ i. (x : X) × (slice_get xs i ≡ Some x) × (eq k (key x) ≡ true))
+  search_at eq matches k [] (Ok i) within at = absurd (omega (arith, within))
+  search_at eq matches k (x ∷ xs) (Ok i) within at =
+      let y = get_or (x ∷ xs) i x in
+      (y, slice_get-get_or (x ∷ xs) i x within, matches k (key y) ∙ ap is_eq (o.antisymm k (key y) ∙ ap ordering_reverse (at x)))
+  search_at eq matches k xs (Err i) within at = tt
 
   -- A binary search succeeds exactly if an item is equal to `k`.
   pub search_finds_equal : (eq : K → K → Bool) → ((x y : K) → eq x y ≡ is_eq (cmp x y)) → (k : K) (xs : List X) (r : Result ℕ ℕ) → IsSearchInRange r (length xs) → IsBinarySearchResult (λ y. cmp (key y) k) xs r → IsSortedByKey key cmp xs → is_ok r ≡ list_any (λ y. eq k (key y)) xs

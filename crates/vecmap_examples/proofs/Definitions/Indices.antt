@@ -9,6 +9,7 @@ use Rattle.std.proofs.lemmas.List.Sorted.{IsPermutation-reverse}
 use Rattle.vecmap_base.proofs.PairsLemmas.AtIndices.{adds_key, inserts_at as inserted_at, keeps_indices as same_keys, match_at, moves_index as moved_at, puts_key, shifts_indices as removed_at, found_at}
 use Rattle.vecmap_base.proofs.PairsLemmas.Reordered.{reordered_by_reverse}
 use Rattle.vecmap_base.specs.Indices.{AddsKey, HasMatchAt, InsertsAt, IsFoundAt, KeepsIndices, MovesIndex, PutsKey, ShiftsIndices}
+use Rattle.vecmap_base.specs.Equality.{has_same_items}
 use Rattle.vecmap_base.specs.Items.{IsReorderedItems}
 use Rattle.vecmap_base.specs.Lookups.{IsReordered, KeepsFront, KeepsLookups, UpdatesAt}
 use Rattle.vecmap_base.specs.Pairs.{HasDistinctKeys, index_by, index_of, index_or_length, lookup, lookup_by, value_at}
@@ -221,3 +222,6 @@ module _ {T : Type 0} (a b : T) (s r : List T) (test : T → Bool) where
 
   is_reordered_items-len : IsReorderedItems s r → length r ≡ length s
   is_reordered_items-len k = k.len
+
+is_reordered_items-equal : (s r : List ℕ) → IsReorderedItems s r → IsTrue (has_same_items nat_eq r s)
+is_reordered_items-equal s r k = k.equal nat_eq nat_eq_equiv

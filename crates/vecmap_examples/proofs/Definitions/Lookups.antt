@@ -1,6 +1,6 @@
 -- The definitions that say what lookups find after a change, at numbers: an example of each, what each of its fields says of
 -- it, and a list that it does not allow.
-use Rattle.std.specs.Prelude.{◌≡◌, ◌+◌, ◌<◌, ◌≤◌, ℕ, Bool, List, None, Option, Some, [], ◌∷◌, length, nat_eq, refl, reverse, slice_set, true}
+use Rattle.std.specs.Prelude.{◌≡◌, ◌+◌, ◌<◌, ◌≤◌, ℕ, Bool, List, None, Option, Some, [], ◌∷◌, false, length, nat_eq, position, refl, reverse, slice_get, slice_set, true}
 use Rattle.std.specs.Cmp.{nat_eq_equiv}
 use Rattle.std.specs.List.{IsDistinct, list_any}
 use Rattle.std.specs.Map.{AreApart, IsKeyTest, KeepsOthers, keys_of, values_of}
@@ -149,3 +149,21 @@ module _ (s r : List ℕ) (there : Bool) where
   updates_member-queries : UpdatesMember nat_eq (nat_eq 2) s r there → (test : ℕ → Bool) → IsKeyTest nat_eq test → AreApart (nat_eq 2) test → list_any test r ≡ list_any test s
   unfolding set.KeepsOthers
   updates_member-queries u = u.queries
+
+  updates_member-gone : UpdatesMember nat_eq (nat_eq 2) s r false → position (nat_eq 2) r ≡ None
+  updates_member-gone u = u.gone refl
+
+  updates_member-before : UpdatesMember nat_eq (nat_eq 2) s r there → position (nat_eq 2) s ≡ Some 1 → position (nat_eq 1) s ≡ Some 0 → position (nat_eq 1) r ≡ Some 0
+  updates_member-before u own other = u.before (nat_eq 1) 0 1 own other (search rules)
+
+  updates_member-last : UpdatesMember nat_eq (nat_eq 2) s r true → list_any (nat_eq 2) s ≡ false → position (nat_eq 2) r ≡ Some (length s)
+  updates_member-last u = u.last refl
+
+  updates_member-at : UpdatesMember nat_eq (nat_eq 2) s r true → list_any (nat_eq 2) s ≡ false → (x : ℕ) × (slice_get r (length s) ≡ Some x) × (nat_eq 2 x ≡ true)
+  updates_member-at u = u.at refl
+
+  updates_member-len : UpdatesMember nat_eq (nat_eq 2) s r true → list_any (nat_eq 2) s ≡ false → length r ≡ length s + 1
+  updates_member-len u = u.len refl
+
+  updates_member-kept : UpdatesMember nat_eq (nat_eq 2) s r true → list_any (nat_eq 2) s ≡ true → length r ≡ length s
+  updates_member-kept u = u.kept refl

@@ -13,6 +13,8 @@ pub fn insert_then(set: &mut VecSet<u32>, item: u32) -> Result<(), AllocError>
     ensures present { OnOk result (is_member nat_eq set.new.elements item ≡ true) }
     ensures members { OnOk result ((q : ℕ) → is_member nat_eq set.new.elements q ≡ (nat_eq item q
         || is_member nat_eq set.old.elements q)) }
+    ensures index { OnOk result (is_member nat_eq set.old.elements item ≡ false → item_index nat_eq
+        set.new.elements item ≡ Some (length set.old.elements)) }
     ensures indices { OnOk result ((q : ℕ) (i : ℕ) → item_index nat_eq set.old.elements q ≡ Some i
         → item_index nat_eq set.new.elements q ≡ Some i) }
     ensures element { OnOk result (is_member nat_eq set.old.elements item ≡ false → slice_get
@@ -39,6 +41,8 @@ pub fn insert_then_generic<T: Eq + Drop>(set: &mut VecSet<T>, item: T) -> Result
     ensures present { OnOk result (is_member T.eq set.new.elements item ≡ true) }
     ensures members { OnOk result ((q : T) → is_member T.eq set.new.elements q ≡ (T.eq item q
         || is_member T.eq set.old.elements q)) }
+    ensures index { OnOk result (is_member T.eq set.old.elements item ≡ false → item_index T.eq
+        set.new.elements item ≡ Some (length set.old.elements)) }
     ensures indices { OnOk result ((q : T) (i : ℕ) → item_index T.eq set.old.elements q ≡ Some i
         → item_index T.eq set.new.elements q ≡ Some i) }
     ensures length { OnOk result (length set.new.elements ≡ (if is_member T.eq set.old.elements item
@@ -66,12 +70,18 @@ pub fn insert_full_then(set: &mut VecSet<u32>, item: u32) -> Result<(), AllocErr
     ensures present { OnOk result (is_member nat_eq set.new.elements item ≡ true) }
     ensures members { OnOk result ((q : ℕ) → is_member nat_eq set.new.elements q ≡ (nat_eq item q
         || is_member nat_eq set.old.elements q)) }
+    ensures index { OnOk result (is_member nat_eq set.old.elements item ≡ false → item_index nat_eq
+        set.new.elements item ≡ Some (length set.old.elements)) }
     ensures indices { OnOk result ((q : ℕ) (i : ℕ) → item_index nat_eq set.old.elements q ≡ Some i
         → item_index nat_eq set.new.elements q ≡ Some i) }
+    ensures element { OnOk result (is_member nat_eq set.old.elements item ≡ false → slice_get
+        set.new.elements (length set.old.elements) ≡ Some item) }
     ensures length { OnOk result (length set.new.elements ≡ (if is_member nat_eq set.old.elements
         item then length set.old.elements else length set.old.elements + 1)) }
     ensures distinct { OnOk result (IsDistinct nat_eq set.new.elements) }
     ensures empty { OnOk result (0 < length set.new.elements) }
+    ensures ends { OnOk result (is_member nat_eq set.old.elements item ≡ false → slice_get
+        set.new.elements (length set.new.elements - 1) ≡ Some item) }
     ensures unchanged { OnErr result (set.new ≡ set.old) }
 {
     set.insert_full(item)?;
@@ -92,11 +102,19 @@ pub fn replace_then(set: &mut VecSet<u32>, item: u32) -> Result<(), AllocError>
     ensures present { OnOk result (is_member nat_eq set.new.elements item ≡ true) }
     ensures members { OnOk result ((q : ℕ) → is_member nat_eq set.new.elements q ≡ (nat_eq item q
         || is_member nat_eq set.old.elements q)) }
-    ensures distinct { OnOk result (IsDistinct nat_eq set.new.elements) }
-    ensures empty { OnOk result (0 < length set.new.elements) }
-    ensures unchanged { OnErr result (set.new ≡ set.old) }
+    ensures index { OnOk result (is_member nat_eq set.old.elements item ≡ false → item_index nat_eq
+        set.new.elements item ≡ Some (length set.old.elements)) }
     ensures indices { OnOk result ((q : ℕ) (i : ℕ) → item_index nat_eq set.old.elements q ≡ Some i
         → item_index nat_eq set.new.elements q ≡ Some i) }
+    ensures element { OnOk result (is_member nat_eq set.old.elements item ≡ false → slice_get
+        set.new.elements (length set.old.elements) ≡ Some item) }
+    ensures length { OnOk result (length set.new.elements ≡ (if is_member nat_eq set.old.elements
+        item then length set.old.elements else length set.old.elements + 1)) }
+    ensures distinct { OnOk result (IsDistinct nat_eq set.new.elements) }
+    ensures empty { OnOk result (0 < length set.new.elements) }
+    ensures ends { OnOk result (is_member nat_eq set.old.elements item ≡ false → slice_get
+        set.new.elements (length set.new.elements - 1) ≡ Some item) }
+    ensures unchanged { OnErr result (set.new ≡ set.old) }
 {
     set.replace(item)?;
     Ok(())
@@ -112,6 +130,8 @@ pub fn insert_unique_then(set: &mut VecSet<u32>, item: u32) -> Result<(), AllocE
     ensures distinct { OnOk result (IsDistinct nat_eq set.new.elements) }
     ensures empty { OnOk result (0 < length set.new.elements) }
     ensures unchanged { OnErr result (set.new ≡ set.old) }
+    ensures index { OnOk result (item_index nat_eq set.new.elements item ≡ Some (length
+        set.old.elements)) }
     ensures element { OnOk result (slice_get set.new.elements (length set.old.elements) ≡ Some item) }
     ensures length { OnOk result (length set.new.elements ≡ length set.old.elements + 1) }
     ensures ends { OnOk result (slice_get set.new.elements (length set.new.elements - 1)
@@ -125,6 +145,8 @@ pub fn add_item_then(set: &mut VecSet<u32>, item: u32) -> Result<(), AllocError>
     ensures present { OnOk result (is_member nat_eq set.new.elements item ≡ true) }
     ensures members { OnOk result ((q : ℕ) → is_member nat_eq set.new.elements q ≡ (nat_eq item q
         || is_member nat_eq set.old.elements q)) }
+    ensures index { OnOk result (is_member nat_eq set.old.elements item ≡ false → item_index nat_eq
+        set.new.elements item ≡ Some (length set.old.elements)) }
     ensures indices { OnOk result ((q : ℕ) (i : ℕ) → item_index nat_eq set.old.elements q ≡ Some i
         → item_index nat_eq set.new.elements q ≡ Some i) }
     ensures element { OnOk result (is_member nat_eq set.old.elements item ≡ false → slice_get

@@ -1,5 +1,5 @@
 //! Many elements at once.
-ghost use Rattle.std.specs.Prelude.{◌≡◌, ◌+◌, ◌≤◌, ◌||◌, ℕ, IsTrue, OnErr, OnOk, Some, length, nat_eq};
+ghost use Rattle.std.specs.Prelude.{◌≡◌, ◌+◌, ◌<◌, ◌≤◌, ◌||◌, ℕ, IsTrue, OnErr, OnOk, Some, length, nat_eq};
 ghost use Rattle.std.specs.List.{IsDistinct};
 ghost use Rattle.std.specs.Set.{is_member};
 ghost use Rattle.vecmap.specs.Items.{item_index};
@@ -17,6 +17,7 @@ pub fn append_then(set: &mut VecSet<u32>, other: &mut VecSet<u32>) -> Result<(),
     ensures length { OnOk result (length set.new.elements ≤ length set.old.elements + length
         other.old.elements) }
     ensures distinct { OnOk result (IsDistinct nat_eq set.new.elements) }
+    ensures empty { OnOk result (0 < length other.old.elements → 0 < length set.new.elements) }
     ensures unchanged { OnErr result (set.new ≡ set.old) }
     ensures ends { OnOk result (length other.new.elements ≡ 0) }
 {

@@ -75,6 +75,8 @@ pub fn get_full_then(set: &VecSet<u32>, item: u32) -> Option<(usize, u32)>
 pub fn get_index_then(set: &VecSet<u32>, index: usize) -> Option<u32>
     ensures element { result ≡ slice_get set.now.elements index }
     ensures present { IfSome result (λ x. is_member nat_eq set.now.elements x ≡ true) }
+    ensures index { IfSome result (λ x. item_index nat_eq set.now.elements x ≡ Some index) }
+    ensures length { is_some result ≡ nat_lt index (length set.now.elements) }
 {
     set.get_index(index).copied()
 }
@@ -98,6 +100,8 @@ pub fn index_of_then_index_then(set: &VecSet<u32>, item: u32) -> bool
 pub fn first_then(set: &VecSet<u32>) -> Option<u32>
     ensures ends { result ≡ slice_get set.now.elements 0 }
     ensures present { IfSome result (λ x. is_member nat_eq set.now.elements x ≡ true) }
+    ensures index { IfSome result (λ x. item_index nat_eq set.now.elements x ≡ Some 0) }
+    ensures empty { result ≡ None → length set.now.elements ≡ 0 }
 {
     set.first().copied()
 }
@@ -126,6 +130,8 @@ pub fn is_empty_then(set: &VecSet<u32>) -> bool
 pub fn binary_search_then(set: &VecSet<u32>, item: u32) -> Result<usize, usize>
     requires sorted { IsSorted nat_cmp set.now.elements }
     ensures present { IfOk result (λ _. is_member nat_eq set.now.elements item ≡ true) }
+    ensures index { IfOk result (λ i. item_index nat_eq set.now.elements item ≡ Some i) }
+    ensures element { IfOk result (λ i. slice_get set.now.elements i ≡ Some item) }
     ensures result { IfErr result (λ _. is_member nat_eq set.now.elements item ≡ false) }
     ensures length { IfErr result (λ i. i ≤ length set.now.elements) }
 {

@@ -18,6 +18,7 @@ pub fn new_then(alloc: Global) -> VecSet<u32>
 pub fn from_then(items: Vec<u32>) -> VecSet<u32>
     ensures members { (q : ℕ) → is_member nat_eq result.elements q ≡ is_member nat_eq items.items q }
     ensures length { length result.elements ≤ length items.items }
+    ensures order { IsDistinct nat_eq items.items → result.elements ≡ items.items }
     ensures distinct { IsDistinct nat_eq result.elements }
     ensures empty { 0 < length items.items → 0 < length result.elements }
 {
@@ -27,6 +28,7 @@ pub fn from_then(items: Vec<u32>) -> VecSet<u32>
 pub fn from_vec_counted_then(items: Vec<u32>) -> VecSet<u32>
     ensures members { (q : ℕ) → is_member nat_eq result.elements q ≡ is_member nat_eq items.items q }
     ensures length { length result.elements ≤ length items.items }
+    ensures order { IsDistinct nat_eq items.items → result.elements ≡ items.items }
     ensures distinct { IsDistinct nat_eq result.elements }
     ensures empty { 0 < length items.items → 0 < length result.elements }
 {
@@ -114,13 +116,23 @@ pub fn clone_then(set: &VecSet<u32>) -> Result<VecSet<u32>, AllocError>
         nat_eq set.now.elements q) }
     ensures length { IfOk result (λ made. length made.elements ≡ length set.now.elements) }
     ensures distinct { IfOk result (λ made. IsDistinct nat_eq made.elements) }
+    ensures equal { IfOk result (λ made. IsTrue (has_same_items nat_eq made.elements
+        set.now.elements)) }
 {
     set.clone()
+}
+
+pub fn clone_then_eq_then(set: &VecSet<u32>) -> Result<bool, AllocError>
+    ensures equal { IfOk result (λ same. IsTrue same) }
+{
+    let copy = set.clone()?;
+    Ok(copy == *set)
 }
 
 pub fn eq_then(set: &VecSet<u32>, other: &VecSet<u32>) -> bool
     ensures members { IsTrue result → (q : ℕ) → is_member nat_eq set.now.elements q ≡ is_member
         nat_eq other.now.elements q }
+    ensures length { IsTrue result → length set.now.elements ≡ length other.now.elements }
     ensures equal { result ≡ has_same_items nat_eq set.now.elements other.now.elements }
 {
     *set == *other

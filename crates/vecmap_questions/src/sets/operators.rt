@@ -1,5 +1,5 @@
 //! Operators, lazy iterators and relations of two sets.
-ghost use Rattle.std.specs.Prelude.{◌≡◌, ◌&&◌, ◌||◌, ℕ, IfOk, IsTrue, false, nat_eq, not};
+ghost use Rattle.std.specs.Prelude.{◌≡◌, ◌+◌, ◌≤◌, ◌&&◌, ◌||◌, ℕ, IfOk, IsTrue, false, filter, length, nat_eq, not, take};
 ghost use Rattle.std.specs.List.{IsDistinct, list_any};
 ghost use Rattle.std.specs.Set.{is_member};
 ghost use Rattle.vecmap.specs.Pairs.{has_text};
@@ -12,6 +12,10 @@ pub fn bitor_then(set: &VecSet<u32>, other: &VecSet<u32>) -> Result<VecSet<u32>,
         → IsTrue (is_member nat_eq made.elements q)) }
     ensures members { IfOk result (λ made. (q : ℕ) → is_member nat_eq made.elements q ≡ (is_member
         nat_eq set.now.elements q || is_member nat_eq other.now.elements q)) }
+    ensures length { IfOk result (λ made. length made.elements ≤ length set.now.elements + length
+        other.now.elements) }
+    ensures order { IfOk result (λ made. take (length set.now.elements) made.elements
+        ≡ set.now.elements) }
     ensures distinct { IfOk result (λ made. IsDistinct nat_eq made.elements) }
 {
     set | other
@@ -34,6 +38,9 @@ pub fn bitand_then(set: &VecSet<u32>, other: &VecSet<u32>) -> Result<VecSet<u32>
         → IsTrue (is_member nat_eq set.now.elements q)) }
     ensures members { IfOk result (λ made. (q : ℕ) → is_member nat_eq made.elements q ≡ (is_member
         nat_eq set.now.elements q && is_member nat_eq other.now.elements q)) }
+    ensures length { IfOk result (λ made. length made.elements ≤ length set.now.elements) }
+    ensures order { IfOk result (λ made. made.elements ≡ filter (λ x. is_member nat_eq
+        other.now.elements x) set.now.elements) }
     ensures distinct { IfOk result (λ made. IsDistinct nat_eq made.elements) }
 {
     set & other
@@ -44,6 +51,9 @@ pub fn sub_then(set: &VecSet<u32>, other: &VecSet<u32>) -> Result<VecSet<u32>, A
         → is_member nat_eq made.elements q ≡ false) }
     ensures members { IfOk result (λ made. (q : ℕ) → is_member nat_eq made.elements q ≡ (is_member
         nat_eq set.now.elements q && not (is_member nat_eq other.now.elements q))) }
+    ensures length { IfOk result (λ made. length made.elements ≤ length set.now.elements) }
+    ensures order { IfOk result (λ made. made.elements ≡ filter (λ x. not (is_member nat_eq
+        other.now.elements x)) set.now.elements) }
     ensures distinct { IfOk result (λ made. IsDistinct nat_eq made.elements) }
 {
     set - other
@@ -53,6 +63,8 @@ pub fn bitxor_then(set: &VecSet<u32>, other: &VecSet<u32>) -> Result<VecSet<u32>
     ensures members { IfOk result (λ made. (q : ℕ) → is_member nat_eq made.elements q ≡ (is_member
         nat_eq set.now.elements q && not (is_member nat_eq other.now.elements q) || is_member nat_eq
         other.now.elements q && not (is_member nat_eq set.now.elements q))) }
+    ensures length { IfOk result (λ made. length made.elements ≤ length set.now.elements + length
+        other.now.elements) }
     ensures distinct { IfOk result (λ made. IsDistinct nat_eq made.elements) }
 {
     set ^ other
@@ -61,6 +73,9 @@ pub fn bitxor_then(set: &VecSet<u32>, other: &VecSet<u32>) -> Result<VecSet<u32>
 pub fn is_subset_then(set: &VecSet<u32>, other: &VecSet<u32>) -> bool
     ensures members { IsTrue result → (q : ℕ) → IsTrue (is_member nat_eq set.now.elements q)
         → IsTrue (is_member nat_eq other.now.elements q) }
+    ensures length { IsTrue result → length set.now.elements ≤ length other.now.elements }
+    ensures result { ((q : ℕ) → IsTrue (is_member nat_eq set.now.elements q) → IsTrue (is_member
+        nat_eq other.now.elements q)) → IsTrue result }
 {
     set.is_subset(other)
 }
@@ -68,6 +83,7 @@ pub fn is_subset_then(set: &VecSet<u32>, other: &VecSet<u32>) -> bool
 pub fn is_superset_then(set: &VecSet<u32>, other: &VecSet<u32>) -> bool
     ensures members { IsTrue result → (q : ℕ) → IsTrue (is_member nat_eq other.now.elements q)
         → IsTrue (is_member nat_eq set.now.elements q) }
+    ensures length { IsTrue result → length other.now.elements ≤ length set.now.elements }
 {
     set.is_superset(other)
 }
@@ -75,6 +91,8 @@ pub fn is_superset_then(set: &VecSet<u32>, other: &VecSet<u32>) -> bool
 pub fn is_disjoint_then(set: &VecSet<u32>, other: &VecSet<u32>) -> bool
     ensures members { IsTrue result → (q : ℕ) → IsTrue (is_member nat_eq set.now.elements q)
         → is_member nat_eq other.now.elements q ≡ false }
+    ensures result { ((q : ℕ) → IsTrue (is_member nat_eq set.now.elements q) → is_member nat_eq
+        other.now.elements q ≡ false) → IsTrue result }
 {
     set.is_disjoint(other)
 }

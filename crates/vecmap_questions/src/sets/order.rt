@@ -1,7 +1,8 @@
 //! Changes of the order.
-ghost use Rattle.std.specs.Prelude.{◌≡◌, ◌-◌, ◌<◌, ℕ, IsTrue, Some, length, nat_eq, slice_get};
+ghost use Rattle.std.specs.Prelude.{◌≡◌, ◌-◌, ◌<◌, ℕ, IsTrue, Some, false, length, nat_eq, slice_get};
 ghost use Rattle.std.specs.List.{IsDistinct};
 ghost use Rattle.std.specs.Set.{is_member};
+ghost use Rattle.vecmap.specs.Equality.{has_same_items};
 ghost use Rattle.vecmap.specs.Items.{item_index};
 
 use vecmap::VecSet;
@@ -13,6 +14,7 @@ pub fn reverse_then(set: &mut VecSet<u32>)
         set.old.elements q }
     ensures length { length set.new.elements ≡ length set.old.elements }
     ensures distinct { IsDistinct nat_eq set.new.elements }
+    ensures equal { IsTrue (has_same_items nat_eq set.new.elements set.old.elements) }
     ensures empty { 0 < length set.old.elements → 0 < length set.new.elements }
     ensures index { (q : ℕ) (i : ℕ) → item_index nat_eq set.old.elements q ≡ Some i → item_index
         nat_eq set.new.elements q ≡ Some (length set.old.elements - 1 - i) }
@@ -42,10 +44,15 @@ pub fn swap_indices_then(set: &mut VecSet<u32>, a: usize, b: usize)
         set.old.elements q }
     ensures length { length set.new.elements ≡ length set.old.elements }
     ensures distinct { IsDistinct nat_eq set.new.elements }
+    ensures equal { IsTrue (has_same_items nat_eq set.new.elements set.old.elements) }
     ensures empty { 0 < length set.old.elements → 0 < length set.new.elements }
     ensures index { (x : ℕ) → item_index nat_eq set.old.elements x ≡ Some a → item_index nat_eq
         set.new.elements x ≡ Some b }
+    ensures indices { (q : ℕ) (i : ℕ) → item_index nat_eq set.old.elements q ≡ Some i → nat_eq i a
+        ≡ false → nat_eq i b ≡ false → item_index nat_eq set.new.elements q ≡ Some i }
     ensures element { slice_get set.new.elements b ≡ slice_get set.old.elements a }
+    ensures order { (i : ℕ) → nat_eq i a ≡ false → nat_eq i b ≡ false → slice_get set.new.elements i
+        ≡ slice_get set.old.elements i }
 {
     set.swap_indices(a, b);
 }
@@ -59,10 +66,13 @@ pub fn move_index_then(set: &mut VecSet<u32>, a: usize, b: usize)
         set.old.elements q }
     ensures length { length set.new.elements ≡ length set.old.elements }
     ensures distinct { IsDistinct nat_eq set.new.elements }
+    ensures equal { IsTrue (has_same_items nat_eq set.new.elements set.old.elements) }
     ensures empty { 0 < length set.old.elements → 0 < length set.new.elements }
     ensures index { (x : ℕ) → item_index nat_eq set.old.elements x ≡ Some a → item_index nat_eq
         set.new.elements x ≡ Some b }
     ensures element { slice_get set.new.elements b ≡ slice_get set.old.elements a }
+    ensures order { (i : ℕ) → i < a → i < b → slice_get set.new.elements i ≡ slice_get
+        set.old.elements i }
 {
     set.move_index(a, b);
 }

@@ -1,5 +1,5 @@
 //! Removals of many elements, and of the last.
-ghost use Rattle.std.specs.Prelude.{◌≡◌, ◌+◌, ◌-◌, ◌<◌, ◌≤◌, ◌&&◌, ◌||◌, ℕ, [], IfOk, IfSome, None, OnErr, Some, drop, false, length, nat_eq, nat_lt, not, slice_get};
+ghost use Rattle.std.specs.Prelude.{◌≡◌, ◌+◌, ◌-◌, ◌<◌, ◌≤◌, ◌&&◌, ◌||◌, ℕ, [], IfOk, IfSome, None, OnErr, Some, drop, false, length, nat_eq, nat_lt, not, slice_get, true};
 ghost use Rattle.std.specs.List.{IsDistinct};
 ghost use Rattle.std.specs.Set.{is_member};
 ghost use Rattle.vecmap.specs.Items.{item_index};
@@ -8,6 +8,10 @@ use std::alloc::AllocError;
 use vecmap::VecSet;
 
 pub fn pop_then(set: &mut VecSet<u32>)
+    ensures present { (q : ℕ) (i : ℕ) → item_index nat_eq set.old.elements q ≡ Some i → i < (length
+        set.old.elements - 1) → is_member nat_eq set.new.elements q ≡ true }
+    ensures indices { (q : ℕ) (i : ℕ) → item_index nat_eq set.old.elements q ≡ Some i → i < (length
+        set.old.elements - 1) → item_index nat_eq set.new.elements q ≡ Some i }
     ensures element { (i : ℕ) → i < (length set.old.elements - 1) → slice_get set.new.elements i
         ≡ slice_get set.old.elements i }
     ensures length { (length set.old.elements - 1) ≤ length set.old.elements → length
@@ -15,8 +19,6 @@ pub fn pop_then(set: &mut VecSet<u32>)
     ensures distinct { IsDistinct nat_eq set.new.elements }
     ensures ends { 0 < (length set.old.elements - 1) → slice_get set.new.elements 0 ≡ slice_get
         set.old.elements 0 }
-    ensures indices { (q : ℕ) (i : ℕ) → item_index nat_eq set.old.elements q ≡ Some i → i < (length
-        set.old.elements - 1) → item_index nat_eq set.new.elements q ≡ Some i }
 {
     set.pop();
 }
@@ -31,15 +33,17 @@ pub fn pop_then_result(set: &mut VecSet<u32>) -> Option<u32>
 }
 
 pub fn truncate_then(set: &mut VecSet<u32>, index: usize)
+    ensures present { (q : ℕ) (i : ℕ) → item_index nat_eq set.old.elements q ≡ Some i → i < index
+        → is_member nat_eq set.new.elements q ≡ true }
     ensures members { (q : ℕ) (i : ℕ) → item_index nat_eq set.old.elements q ≡ Some i → index ≤ i
         → is_member nat_eq set.new.elements q ≡ false }
+    ensures indices { (q : ℕ) (i : ℕ) → item_index nat_eq set.old.elements q ≡ Some i → i < index
+        → item_index nat_eq set.new.elements q ≡ Some i }
     ensures element { (i : ℕ) → i < index → slice_get set.new.elements i ≡ slice_get
         set.old.elements i }
     ensures length { index ≤ length set.old.elements → length set.new.elements ≡ index }
     ensures distinct { IsDistinct nat_eq set.new.elements }
     ensures ends { 0 < index → slice_get set.new.elements 0 ≡ slice_get set.old.elements 0 }
-    ensures indices { (q : ℕ) (i : ℕ) → item_index nat_eq set.old.elements q ≡ Some i → i < index
-        → item_index nat_eq set.new.elements q ≡ Some i }
     ensures unchanged { length set.old.elements ≤ index → set.new.elements ≡ set.old.elements }
     ensures empty { index ≡ 0 → length set.new.elements ≡ 0 }
 {

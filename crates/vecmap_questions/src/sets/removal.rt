@@ -1,8 +1,9 @@
 //! Removals of an element.
-ghost use Rattle.std.specs.Prelude.{◌≡◌, ◌+◌, ◌&&◌, ℕ, String, None, Some, false, if◌then◌else◌, length, nat_eq, not, string_eq};
+ghost use Rattle.std.specs.Prelude.{◌≡◌, ◌+◌, ◌<◌, ◌&&◌, ℕ, String, None, Some, false, if◌then◌else◌, length, nat_eq, not, string_eq};
 ghost use Rattle.std.specs.List.{IsDistinct, list_any};
 ghost use Rattle.std.specs.Set.{is_member};
 ghost use Rattle.std.specs.declared.alloc.Global.{Global};
+ghost use Rattle.vecmap.specs.Items.{item_index};
 ghost use Rattle.vecmap.specs.Pairs.{has_text};
 
 use std::alloc::Global;
@@ -12,9 +13,13 @@ pub fn remove_then(set: &mut VecSet<u32>, item: u32)
     ensures present { is_member nat_eq set.new.elements item ≡ false }
     ensures members { (q : ℕ) → is_member nat_eq set.new.elements q ≡ (not (nat_eq item q)
         && is_member nat_eq set.old.elements q) }
-    ensures distinct { IsDistinct nat_eq set.new.elements }
+    ensures index { item_index nat_eq set.new.elements item ≡ None }
+    ensures indices { (q : ℕ) (i j : ℕ) → item_index nat_eq set.old.elements item ≡ Some j
+        → item_index nat_eq set.old.elements q ≡ Some i → i < j → item_index nat_eq set.new.elements
+        q ≡ Some i }
     ensures length { length set.new.elements + (if is_member nat_eq set.old.elements item then 1
         else 0) ≡ length set.old.elements }
+    ensures distinct { IsDistinct nat_eq set.new.elements }
     ensures unchanged { is_member nat_eq set.old.elements item ≡ false → set.new ≡ set.old }
 {
     set.remove(&item);
@@ -30,9 +35,12 @@ pub fn remove_then_generic<T: Eq + Drop>(set: &mut VecSet<T>, item: &T)
     ensures present { is_member T.eq set.new.elements item.now ≡ false }
     ensures members { (q : T) → is_member T.eq set.new.elements q ≡ (not (T.eq item.now q)
         && is_member T.eq set.old.elements q) }
-    ensures distinct { IsDistinct T.eq set.new.elements }
+    ensures indices { (q : T) (i j : ℕ) → item_index T.eq set.old.elements item.now ≡ Some j
+        → item_index T.eq set.old.elements q ≡ Some i → i < j → item_index T.eq set.new.elements q
+        ≡ Some i }
     ensures length { length set.new.elements + (if is_member T.eq set.old.elements item.now then 1
         else 0) ≡ length set.old.elements }
+    ensures distinct { IsDistinct T.eq set.new.elements }
     ensures unchanged { is_member T.eq set.old.elements item.now ≡ false → set.new ≡ set.old }
 {
     set.remove(item);
@@ -66,6 +74,7 @@ pub fn take_then(set: &mut VecSet<u32>, item: u32)
     ensures present { is_member nat_eq set.new.elements item ≡ false }
     ensures members { (q : ℕ) → is_member nat_eq set.new.elements q ≡ (not (nat_eq item q)
         && is_member nat_eq set.old.elements q) }
+    ensures index { item_index nat_eq set.new.elements item ≡ None }
     ensures length { length set.new.elements + (if is_member nat_eq set.old.elements item then 1
         else 0) ≡ length set.old.elements }
     ensures distinct { IsDistinct nat_eq set.new.elements }

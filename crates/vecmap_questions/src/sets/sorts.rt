@@ -4,6 +4,7 @@ ghost use Rattle.std.specs.List.{IsDistinct};
 ghost use Rattle.std.specs.List.Sorted.{IsSorted};
 ghost use Rattle.std.specs.Ordering.{nat_cmp};
 ghost use Rattle.std.specs.Set.{is_member};
+ghost use Rattle.vecmap.specs.Equality.{has_same_items};
 
 use std::alloc::AllocError;
 use vecmap::VecSet;
@@ -15,6 +16,7 @@ pub fn sort_then(set: &mut VecSet<u32>) -> Result<(), AllocError>
         set.old.elements q) }
     ensures length { OnOk result (length set.new.elements ≡ length set.old.elements) }
     ensures distinct { OnOk result (IsDistinct nat_eq set.new.elements) }
+    ensures equal { OnOk result (IsTrue (has_same_items nat_eq set.new.elements set.old.elements)) }
     ensures empty { OnOk result (0 < length set.old.elements → 0 < length set.new.elements) }
     ensures unchanged { OnErr result (set.new ≡ set.old) }
     ensures order { OnOk result (IsSorted nat_cmp set.new.elements) }
@@ -30,6 +32,7 @@ pub fn sort_by_then(set: &mut VecSet<u32>) -> Result<(), AllocError>
         set.old.elements q) }
     ensures length { OnOk result (length set.new.elements ≡ length set.old.elements) }
     ensures distinct { OnOk result (IsDistinct nat_eq set.new.elements) }
+    ensures equal { OnOk result (IsTrue (has_same_items nat_eq set.new.elements set.old.elements)) }
     ensures unchanged { OnErr result (set.new ≡ set.old) }
 {
     set.sort_by(|x, y| y.cmp(x))?;
@@ -43,6 +46,7 @@ pub fn sort_by_cached_key_then(set: &mut VecSet<u32>) -> Result<(), AllocError>
         set.old.elements q) }
     ensures length { OnOk result (length set.new.elements ≡ length set.old.elements) }
     ensures distinct { OnOk result (IsDistinct nat_eq set.new.elements) }
+    ensures equal { OnOk result (IsTrue (has_same_items nat_eq set.new.elements set.old.elements)) }
     ensures unchanged { OnErr result (set.new ≡ set.old) }
 {
     set.sort_by_cached_key(|x| *x)?;
@@ -56,6 +60,7 @@ pub fn sort_unstable_then(set: &mut VecSet<u32>)
         set.old.elements q }
     ensures length { length set.new.elements ≡ length set.old.elements }
     ensures distinct { IsDistinct nat_eq set.new.elements }
+    ensures equal { IsTrue (has_same_items nat_eq set.new.elements set.old.elements) }
     ensures empty { 0 < length set.old.elements → 0 < length set.new.elements }
     ensures order { IsSorted nat_cmp set.new.elements }
 {
@@ -69,6 +74,7 @@ pub fn sort_unstable_by_then(set: &mut VecSet<u32>)
         set.old.elements q }
     ensures length { length set.new.elements ≡ length set.old.elements }
     ensures distinct { IsDistinct nat_eq set.new.elements }
+    ensures equal { IsTrue (has_same_items nat_eq set.new.elements set.old.elements) }
 {
     set.sort_unstable_by(|x, y| y.cmp(x));
 }

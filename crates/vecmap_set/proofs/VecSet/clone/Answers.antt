@@ -1,3 +1,4 @@
+use Rattle.vecmap_base.proofs.EqualityLemmas.Sets.{same_items}
 use Rattle.vecmap_base.proofs.ItemsLemmas.Changes.{is_member_clones}
 use Rattle.vecmap_set.proofs.SetLemmas.{distinct_clones_of}
 use Rattle.vecmap_set.proofs.VecSet.clone.Goals as goal
@@ -14,3 +15,6 @@ pub returns-clause-members : goal.returns-clause-members
 returns-clause-members g c q =
     let same = rw (← c.self.view_is) at c.requires.clones_equal in
     rw (← c.self.view_is) (is_member_clones g.T.PartialEq.eq g.met.T.Eq.laws g.T.Clone.is_clone _ _ same c.in_ok-clone.ensures.cases.0 q)
+
+pub returns-clause-equal : goal.returns-clause-equal
+returns-clause-equal g c = same_items g.T.PartialEq.eq g.met.T.Eq.laws _ _ (returns-clause-members g c)
