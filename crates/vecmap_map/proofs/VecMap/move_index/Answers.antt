@@ -16,7 +16,7 @@ returns-clause-moves g c =
     moves_by_move c.args.self.now.entries _ c.args.from c.args.to (subst (λ m. IsPermutation m.entries c.move_to.new.items.items) c.self.view_is c.move_to.ensures.rearranged)
     (returns-clause-entries g c) c.requires.from_within c.requires.to_within
 
-pub returns-clause-elsewhere : goal.returns-clause-others
+pub returns-clause-elsewhere : goal.returns-clause-elsewhere
 returns-clause-elsewhere g c i before_from before_to =
     moved_other c.args.self.now.entries _ c.args.from c.args.to i (returns-clause-entries g c) c.requires.from_within before_from before_to
 

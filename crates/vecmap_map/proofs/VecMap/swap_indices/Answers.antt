@@ -11,5 +11,5 @@ returns-clause-moves g c = moves_by_swap c.args.self.now.entries _ c.args.a c.ar
 pub returns-clause-moves_back : goal.returns-clause-moves_back
 returns-clause-moves_back g c = moves_back_by_swap c.args.self.now.entries _ c.args.a c.args.b c.requires.a_within c.requires.b_within (returns-clause-entries g c)
 
-pub returns-clause-elsewhere : goal.returns-clause-others
+pub returns-clause-elsewhere : goal.returns-clause-elsewhere
 returns-clause-elsewhere g c = others_by_swap c.args.self.now.entries _ c.args.a c.args.b c.requires.a_within c.requires.b_within (returns-clause-entries g c)
