@@ -209,6 +209,9 @@ impl<K, V> VecMap<K, V> {
             → YieldsAll I.into_iter_gives I.IntoIter.next_gives iter pairs
             → HasDistinctKeys K.eq pairs → OnOk result ((q : K) → lookup K.eq self.new.entries q
             ≡ option_or (lookup K.eq pairs q) (lookup K.eq self.old.entries q)) }
+        ensures joins { (pairs : List (K × V))
+            → YieldsAll I.into_iter_gives I.IntoIter.next_gives iter pairs
+            → OnOk result (Joins K.eq self.old.entries pairs self.new.entries) }
         ensures distinct { HasDistinctKeys K.eq self.old.entries
             → HasDistinctKeys K.eq self.new.entries }
     {

@@ -97,6 +97,22 @@ pub fn extend_then_extended_if_distinct(
     Ok(())
 }
 
+#[tactic(auto, using(vecmap_laws::proofs::Rules::extended))]
+pub fn extend_then_extended(
+    map: &mut VecMap<u32, u32>,
+    other: VecMap<u32, u32>,
+) -> Result<(), AllocError>
+    requires other_distinct { HasDistinctKeys nat_eq other.entries }
+    ensures length { OnOk result (length map.new.entries ≤ length map.old.entries + length
+        other.entries) }
+    ensures empty { OnOk result (0 < length other.entries → 0 < length map.new.entries) }
+    ensures indices { OnOk result ((q : ℕ) (i : ℕ) → index_of nat_eq map.old.entries q ≡ Some i
+        → index_of nat_eq map.new.entries q ≡ Some i) }
+{
+    map.extend(other)?;
+    Ok(())
+}
+
 pub fn extend_by_vec_then_if_distinct(
     map: &mut VecMap<u32, u32>,
     pairs: Vec<(u32, u32)>,

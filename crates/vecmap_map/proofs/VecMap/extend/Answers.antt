@@ -1,9 +1,8 @@
 -- The call stops at the insertion that runs out of memory.
-use Rattle.std.proofs.Common.{◌≡◌, ◌∙◌, ap, arith, inr, rules}
+use Rattle.std.proofs.Common.{ap, arith, inr, rules, ◌∙◌}
 use Rattle.std.proofs.lemmas.{Grind.common_steps, Result.err_from_is_err_and}
-use Rattle.vecmap_base.specs.Pairs.{lookup, puts}
-use Rattle.vecmap_base.proofs.PairsLemmas.Parts.{found_in_either, joins_of_puts}
-use Rattle.vecmap_base.proofs.PairsLemmas.Puts.{length_put_at_most}
+use Rattle.vecmap_base.specs.Pairs.{puts}
+use Rattle.vecmap_base.proofs.PairsLemmas.{Parts.joins_of_puts, Puts.length_put_at_most}
 use Rattle.vecmap_map.proofs.VecMap.extend.Goals as goal
 
 pub loop-key-preserved-in_ok-insert : goal.loop-key-preserved-in_ok-insert
@@ -37,16 +36,27 @@ returns-in_err-insert-clause-extended g c =
       late_err = λ some room. rw failed.1 (it, c.loop-key.yielded, (c.in-Some.key, c.in-Some.value), c.next.new.self, search rules, search rules, search rules);
     }
 
+pub returns-clause-ran : goal.returns-clause-ran
+returns-clause-ran g c = search rules
+
+pub returns-in_err-insert-clause-ran : goal.returns-in_err-insert-clause-ran
+returns-in_err-insert-clause-ran g c = search rules
+
+pub returns-clause-joins : goal.returns-clause-joins
+returns-clause-joins g c pairs yields =
+    let ran = returns-clause-ran g c in
+    let old = c.args.self.now.entries in
+    joins_of_puts g.K.PartialEq.eq g.met.K.Eq.laws old pairs _ (ran.3 ∙ ap (puts g.K.PartialEq.eq old) (yields ran.0 ran.1 ran.2 ran.4))
+
 pub returns-clause-lookups : goal.returns-clause-lookups
-returns-clause-lookups g c pairs all d q =
-    let same : c.loop-key.yielded ≡ pairs = all c.into_iter-key-iterator.result c.loop-key.yielded (search rules) (search rules) in
-    let entries : c.loop-key.self.entries ≡ puts g.K.PartialEq.eq c.args.self.now.entries pairs = grind (arith, common_steps, same) in
-    ap (λ l. lookup g.K.PartialEq.eq l q) entries ∙ found_in_either g.K.PartialEq.eq g.met.K.Eq.laws c.args.self.now.entries pairs d q
+returns-clause-lookups g c pairs yields d = (returns-clause-joins g c pairs yields).lookups d
 
 pub returns-clause-distinct : goal.returns-clause-distinct
-returns-clause-distinct g c = (joins_of_puts g.K.PartialEq.eq g.met.K.Eq.laws c.args.self.now.entries c.loop-key.yielded _ c.loop-key.invariant.entries).distinct
+returns-clause-distinct g c =
+    let ran = returns-clause-ran g c in
+    (joins_of_puts g.K.PartialEq.eq g.met.K.Eq.laws c.args.self.now.entries ran.1 _ ran.3).distinct
 
 pub returns-in_err-insert-clause-distinct : goal.returns-in_err-insert-clause-distinct
 returns-in_err-insert-clause-distinct g c =
-    let entries : c.insert.new.self.entries ≡ puts g.K.PartialEq.eq c.args.self.now.entries c.loop-key.yielded = grind (arith, common_steps) in
-    (joins_of_puts g.K.PartialEq.eq g.met.K.Eq.laws c.args.self.now.entries c.loop-key.yielded _ entries).distinct
+    let ran = returns-in_err-insert-clause-ran g c in
+    (joins_of_puts g.K.PartialEq.eq g.met.K.Eq.laws c.args.self.now.entries ran.1 _ ran.3).distinct
