@@ -90,13 +90,6 @@ impl<K, V> VecMap<K, V> {
             → lookup_by test self.new.entries ≡ option_map h (lookup_by test self.old.entries) }
         ensures indices { (test : K → Bool) → index_by test self.new.entries
             ≡ index_by test self.old.entries }
-        ensures found { (w : V) → Computes (WritesValueAt F.FnMut tt) f (λ pair. (pair.0, w))
-            → (test : K → Bool) → IsSome (lookup_by test self.old.entries)
-            → lookup_by test self.new.entries ≡ Some w }
-        ensures at { (w : V) → Computes (WritesValueAt F.FnMut tt) f (λ pair. (pair.0, w))
-            → (i : ℕ) → i < length self.old.entries → value_at self.new.entries i ≡ Some w }
-        ensures values { (w : V) → Computes (WritesValueAt F.FnMut tt) f (λ pair. (pair.0, w))
-            → All (λ v. v ≡ w) (values_of self.new.entries) }
     {
         update_pairs(&mut self.pairs, f);
     }

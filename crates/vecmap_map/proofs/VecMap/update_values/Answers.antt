@@ -3,7 +3,6 @@ use Rattle.std.proofs.Common.{arith}
 use Rattle.std.proofs.lemmas.List.{take_at}
 use Rattle.std.specs.Prelude.{◌≡◌, drop, length}
 use Rattle.vecmap_base.proofs.PairsLemmas.AtIndices.{same_indices}
-use Rattle.vecmap_base.proofs.PairsLemmas.SetValues.{set_found, value_set_at, values_set}
 use Rattle.vecmap_map.proofs.VecMap.update_values.Goals as goal
 
 pub returns-clause-keys : goal.returns-clause-keys
@@ -14,18 +13,3 @@ returns-clause-keys g c =
 
 pub returns-clause-indices : goal.returns-clause-indices
 returns-clause-indices g c = λ test. same_indices test c.args.self.now.entries _ (returns-clause-keys g c)
-
-pub returns-clause-written : goal.returns-clause-written
-returns-clause-written g c =
-    let new = c.update_pairs.new.pairs in
-    let long : length new ≡ c.self.inside.pairs.len = omega (arith, c.update_pairs.ensures.len, c.deref_mut.ensures.len) in
-    rw (take_at new (drop (length new) c.self.inside.pairs.items) c.self.inside.pairs.len long, ← c.self.view_is, ← c.deref_mut.ensures.value) c.update_pairs.ensures.written
-
-pub returns-clause-found : goal.returns-clause-found
-returns-clause-found g c = λ w told. set_found w c.args.self.now.entries _ (returns-clause-written g c (λ pair. (pair.0, w)) told)
-
-pub returns-clause-at : goal.returns-clause-at
-returns-clause-at g c = λ w told. value_set_at w c.args.self.now.entries _ (returns-clause-written g c (λ pair. (pair.0, w)) told)
-
-pub returns-clause-values : goal.returns-clause-values
-returns-clause-values g c = λ w told. values_set w c.args.self.now.entries _ (returns-clause-written g c (λ pair. (pair.0, w)) told)
