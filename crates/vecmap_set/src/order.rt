@@ -24,7 +24,7 @@ impl<T: Eq> VecSet<T> {
     /// set.reverse();
     /// set.as_slice() // [3, 2, 1]
     /// ```
-    #[tactic(auto, using(vecmap_base::proofs::DistinctLemmas::Order::distinct_reverse, crate::proofs::QueryLemmas::reorders))]
+    #[tactic(auto, using(vecmap_base::proofs::DistinctLemmas::Order::distinct_reverse))]
     pub fn reverse(&mut self)
         ensures elements { self.new.elements ≡ reverse self.old.elements }
         ensures distinct { IsDistinct T.eq self.new.elements }

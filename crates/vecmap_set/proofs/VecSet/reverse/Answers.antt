@@ -4,12 +4,6 @@ use Rattle.vecmap_set.proofs.IndexLemmas.{at_reversed, index_moved}
 use Rattle.vecmap_set.proofs.QueryLemmas.{reordered_by_reverse}
 use Rattle.vecmap_set.proofs.VecSet.reverse.Goals as goal
 
-pub invariant_of-self : goal.invariant_of-self
-invariant_of-self g c = search (rules, distinct_reverse)
-
-pub returns-clause-distinct : goal.returns-clause-distinct
-returns-clause-distinct g c = invariant_of-self g c
-
 pub returns-clause-elements : goal.returns-clause-elements
 returns-clause-elements g c = search rules
 
@@ -19,4 +13,4 @@ returns-clause-reordered g c = reordered_by_reverse c.args.self.now.elements _ (
 pub returns-clause-moves : goal.returns-clause-moves
 returns-clause-moves g c i within =
     let s = c.args.self.now.elements in
-    index_moved g.T.PartialEq.eq g.met.T.Eq.laws s _ i (length s - 1 - i) (at_reversed s _ i (returns-clause-elements g c) within) (returns-clause-distinct g c)
+    index_moved g.T.PartialEq.eq g.met.T.Eq.laws s _ i (length s - 1 - i) (at_reversed s _ i (returns-clause-elements g c) within) (search (rules, distinct_reverse))
