@@ -66,7 +66,7 @@ impl<K, V> VecMap<K, V> {
         ensures lookups { HasDistinctKeys K.eq pairs.items → (q : K)
             → lookup K.eq result.0.entries q ≡ lookup K.eq pairs.items q }
         ensures len { length result.0.entries ≤ length pairs.items }
-        ensures unchanged { HasDistinctKeys K.eq pairs.items → result.0.entries ≡ pairs.items }
+        ensures as_given { HasDistinctKeys K.eq pairs.items → result.0.entries ≡ pairs.items }
         ensures not_empty { 0 < length pairs.items → 0 < length result.0.entries }
     {
         let mut steps = Steps::new();

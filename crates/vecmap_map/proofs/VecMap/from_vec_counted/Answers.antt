@@ -12,8 +12,8 @@ returns-clause-lookups g c = found_in_puts g.K.PartialEq.eq g.met.K.Eq.laws c.ar
 pub returns-clause-len : goal.returns-clause-len
 returns-clause-len g c = rw c.dedup_keep_last_value.ensures.pairs (omega (arith, length_puts_at_most g.K.PartialEq.eq [] c.args.pairs.items))
 
-pub returns-clause-unchanged : goal.returns-clause-unchanged
-returns-clause-unchanged g c d = c.dedup_keep_last_value.ensures.pairs ∙ puts_distinct g.K.PartialEq.eq g.met.K.Eq.laws c.args.pairs.items d
+pub returns-clause-as_given : goal.returns-clause-unchanged
+returns-clause-as_given g c d = c.dedup_keep_last_value.ensures.pairs ∙ puts_distinct g.K.PartialEq.eq g.met.K.Eq.laws c.args.pairs.items d
 
 pub returns-clause-not_empty : goal.returns-clause-not_empty
 returns-clause-not_empty g c = (joins_of_puts g.K.PartialEq.eq g.met.K.Eq.laws [] c.args.pairs.items _ c.dedup_keep_last_value.ensures.pairs).not_empty
