@@ -1,6 +1,6 @@
 -- What a borrow of the pairs leaves, and what a call leaves that appends a pair if a query matches nothing.
 use Rattle.std.specs.{List.refill, Option.option_or}
-use Rattle.std.proofs.Common.{◌≡◌, ◌∙◌, ◌++◌, ◌+◌, ℕ, Bool, true, false, List, [], ◌∷◌, None, Option, Some, ap, cond, if◌then◌else◌, is_some, length, refl, slice_get, sym, true≢false, unwrap_or}
+use Rattle.std.proofs.Common.{◌≡◌, ◌∙◌, ◌++◌, ◌+◌, ℕ, Bool, true, false, List, [], ◌∷◌, None, Some, ap, cond, if◌then◌else◌, is_some, length, refl, slice_get, sym, true≢false, unwrap_or}
 use Rattle.std.proofs.lemmas.List.{length-append}
 use Rattle.vecmap_base.specs.Pairs.{index_by, lookup_by}
 use Rattle.vecmap_base.proofs.IndexLemmas.{slice_get_last}

@@ -1,21 +1,20 @@
 -- At which indices elements and queries find their match after a change, in the words of contracts.
-use Rattle.std.specs.{Cmp.IsEquivalence, List.AllByRecursion, List.IsDistinct, Map.IsKeyTest, Borrow.Bor, Cmp.nat_eq_equiv, List.list_any}
-use Rattle.std.specs.Prelude.{IfSome, insert, IfOk, Err, Ok, Result, nat_eq, nat_lt, option_copied}
-use Rattle.std.proofs.Common.{◌≡◌, ◌∙◌, ◌++◌, ◌<◌, ◌-◌, ◌≤◌, ℕ, suc, zero, Bool, true, false, List, [], ◌∷◌, None, Option, Some, ap, arith, cond, drop, get_or, get_or-set_other, get_or-take, inl, inr, length, length-set, option_map, position, refl, remove, set, slice_get, swap, sym, take, true≢false, reverse, ◌≢◌, is_some}
+use Rattle.std.specs.{Cmp.IsEquivalence, List.AllByRecursion, List.IsDistinct, Map.IsKeyTest, Borrow.Bor, List.list_any}
+use Rattle.std.specs.Prelude.{IfSome, IfOk, Err, Ok, Result, nat_eq, nat_lt, option_copied}
+use Rattle.std.proofs.Common.{◌≡◌, ◌∙◌, ◌++◌, ◌<◌, ◌-◌, ◌≤◌, ℕ, suc, zero, Bool, true, false, List, [], ◌∷◌, None, Option, Some, ap, arith, cond, drop, get_or, get_or-take, inl, inr, length, length-set, option_map, position, refl, remove, set, slice_get, swap, sym, take, true≢false, is_some}
 use Rattle.std.proofs.lemmas.Bool.{cases_Bool, cases_lt, le-ltb, lt-ltb, ltb-true}
 use Rattle.std.proofs.lemmas.Grind.{get_or-set_at}
-use Rattle.std.proofs.lemmas.List.{length-take-le, get_or-reverse, length-reverse}
-use Rattle.std.proofs.lemmas.List.Edits.{get_or-insert_at, get_or-insert_below, get_or-remove_below, length-insert, length-remove}
+use Rattle.std.proofs.lemmas.List.{length-take-le}
 use Rattle.std.proofs.lemmas.List.Quantifiers.{position-Some}
 use Rattle.std.proofs.lemmas.Map.Keys.{IsDistinct-head, IsDistinct-tail}
-use Rattle.std.proofs.lemmas.Option.{none-some, slice_get-get_or, slice_get_past}
+use Rattle.std.proofs.lemmas.Option.{none-some, slice_get-get_or}
 use Rattle.std.specs.{List.swap_remove, Option.option_map_or}
 use Rattle.vecmap_base.specs.Items.{moved, put_item, swap_without, item_index}
 use Rattle.vecmap_base.proofs.IndexLemmas.{position_cons, later, list_any_position, position_front, position_stays}
 pub use Rattle.vecmap_base.proofs.MoveLemmas.{at_reversed}
 use Rattle.vecmap_base.proofs.ItemsLemmas.Recursion.{put_item_cons}
 use Rattle.vecmap_set.specs.Indices.{KeepsMatchIndices, KeepsMatchIndicesBelow, KeepsItemIndices, MovesItemIndex, ShiftsItems}
-use Rattle.vecmap_base.proofs.{IndexLemmas.slice_get_last, MoveLemmas.moved_item, MoveLemmas.moved_other, MoveLemmas.swapped_item, MoveLemmas.swapped_item_back, MoveLemmas.swapped_other}
+use Rattle.vecmap_base.proofs.{MoveLemmas.moved_item, MoveLemmas.moved_other, MoveLemmas.swapped_item, MoveLemmas.swapped_item_back, MoveLemmas.swapped_other}
 pub use Rattle.vecmap_base.proofs.IndexLemmas.{stored_last}
 
 module _ {T : Type 0} (test : T → Bool) where

@@ -1,6 +1,6 @@
 -- What lookups find after a write of the value at an index.
 use Rattle.std.specs.{List.IsDistinct, Map.set_value, Option.option_map_or}
-use Rattle.std.proofs.Common.{◌≡◌, ◌∙◌, ℕ, Bool, true, false, List, [], ◌∷◌, Some, IsSome, ap, cond, inl, inr, is_some, subst, sym, true≢false}
+use Rattle.std.proofs.Common.{◌≡◌, ◌∙◌, ℕ, Bool, List, [], ◌∷◌, Some, IsSome, ap, cond, inl, inr, is_some, subst, sym, true≢false}
 use Rattle.std.proofs.lemmas.Bool.{cases_Bool}
 use Rattle.vecmap_base.specs.{Indices.KeepsIndices, Lookups.UpdatesAt, Pairs.index_by, Pairs.lookup_by, Pairs.with_value}
 use Rattle.vecmap_base.proofs.PairsLemmas.AtIndices.{keeps_indices}

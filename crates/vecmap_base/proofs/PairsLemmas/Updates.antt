@@ -1,6 +1,6 @@
 -- What lookups find after a removal and after a write of a value, in the words of contracts.
 use Rattle.std.specs.{Cmp.IsEquivalence, List.AllByRecursion, List.IsDistinct, List.Sorted.IsPermutation, List.swap_remove, Map.AreApart, Map.IsKeyTest, Map.KeepsOthers, Map.keys_of, Map.set_value, Option.option_and_then, Option.option_map_or, Option.option_to_list}
-use Rattle.std.proofs.Common.{◌≡◌, ◌∙◌, ◌-◌, ◌++◌, ℕ, suc, Bool, true, false, List, [], ◌∷◌, None, Option, Some, IfSome, IsSome, ap, cond, get_or, inl, inr, insert, is_some, length, min, refl, remove, slice_get, subst, sym, true≢false}
+use Rattle.std.proofs.Common.{◌≡◌, ◌∙◌, ◌-◌, ◌++◌, ℕ, Bool, true, false, List, [], ◌∷◌, None, Option, Some, IfSome, IsSome, ap, cond, get_or, inl, inr, insert, is_some, length, min, refl, remove, slice_get, subst, sym, true≢false}
 use Rattle.std.proofs.lemmas.Bool.{cases_Bool}
 use Rattle.std.proofs.lemmas.List.{map-set}
 use Rattle.std.proofs.lemmas.List.Quantifiers.{position-Some}

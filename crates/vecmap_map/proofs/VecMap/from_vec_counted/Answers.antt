@@ -12,7 +12,7 @@ returns-clause-lookups g c = found_in_puts g.K.PartialEq.eq g.met.K.Eq.laws c.ar
 pub returns-clause-len : goal.returns-clause-len
 returns-clause-len g c = rw c.dedup_keep_last_value.ensures.pairs (omega (arith, length_puts_at_most g.K.PartialEq.eq [] c.args.pairs.items))
 
-pub returns-clause-as_given : goal.returns-clause-unchanged
+pub returns-clause-as_given : goal.returns-clause-as_given
 returns-clause-as_given g c d = c.dedup_keep_last_value.ensures.pairs ∙ puts_distinct g.K.PartialEq.eq g.met.K.Eq.laws c.args.pairs.items d
 
 pub returns-clause-not_empty : goal.returns-clause-not_empty

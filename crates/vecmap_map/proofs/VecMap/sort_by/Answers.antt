@@ -1,5 +1,4 @@
 use Rattle.std.proofs.lemmas.{Fn.always_returns_same, Result.on_ok_weaker}
-use Rattle.std.proofs.Common.{rules}
 use Rattle.vecmap_map.proofs.VecMap.sort_by.Goals as goal
 
 pub returns-clause-sorted : goal.returns-clause-sorted

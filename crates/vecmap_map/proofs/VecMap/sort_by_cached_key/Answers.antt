@@ -1,4 +1,4 @@
-use Rattle.std.proofs.Common.{ap, refl, rules, subst, sym, ◌∙◌, ◌≡◌}
+use Rattle.std.proofs.Common.{ap, refl, subst, sym, ◌∙◌, ◌≡◌}
 use Rattle.std.proofs.lemmas.{Fn.answers_by, Result.on_ok_weaker}
 use Rattle.vecmap_base.specs.Orders.{AnswersOnPair}
 use Rattle.vecmap_map.proofs.VecMap.sort_by_cached_key.Goals as goal

@@ -1,5 +1,4 @@
 use Rattle.std.proofs.lemmas.Fn.{always_returns_same}
-use Rattle.std.proofs.Common.{rules}
 use Rattle.vecmap_map.proofs.VecMap.sort_unstable_by.Goals as goal
 
 pub returns-clause-sorted : goal.returns-clause-sorted
