@@ -1,5 +1,5 @@
 //! Insertions through an entry.
-ghost use Rattle.std.specs.Prelude.{◌≡◌, ◌+◌, ◌-◌, ◌++◌, ◌∷◌, ◌<◌, ℕ, [], IsSome, None, OnOk, Some, if◌then◌else◌, is_some, length, nat_eq, slice_get, true, unwrap_or};
+ghost use Rattle.std.specs.Prelude.{◌≡◌, ◌+◌, ◌-◌, ◌++◌, ◌∷◌, ◌<◌, ◌≤◌, ℕ, [], IsSome, None, OnOk, Some, if◌then◌else◌, is_some, length, nat_eq, slice_get, true, unwrap_or};
 ghost use Rattle.std.specs.Map.{keys_of};
 ghost use Rattle.vecmap.specs.Pairs.{HasDistinctKeys, index_of, index_or_length, lookup};
 
@@ -28,6 +28,8 @@ pub fn or_insert_then(map: &mut VecMap<u32, u32>, key: u32, value: u32) -> Resul
         → index_of nat_eq map.new.entries q ≡ Some i) }
     ensures keys { OnOk result (keys_of map.new.entries ≡ (if is_some (lookup nat_eq map.old.entries
         key) then keys_of map.old.entries else keys_of map.old.entries ++ key ∷ [])) }
+    ensures capacity { OnOk result (length map.old.entries + 1 ≤ map.old.capacity → map.new.capacity
+        ≡ map.old.capacity) }
 {
     map.entry(key).or_insert(value)?;
     Ok(())

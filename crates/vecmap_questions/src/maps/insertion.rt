@@ -1,7 +1,7 @@
 //! Insertions of a key and a value.
-ghost use Rattle.std.specs.Prelude.{◌≡◌, ◌+◌, ◌-◌, ◌++◌, ◌∷◌, ◌<◌, ℕ, [], IfOk, None, OnErr, OnOk, Some, if◌then◌else◌, is_some, length, nat_eq, option_map, slice_get, true};
+ghost use Rattle.std.specs.Prelude.{◌≡◌, ◌+◌, ◌-◌, ◌++◌, ◌∷◌, ◌<◌, ◌≤◌, ℕ, [], IfOk, None, OnErr, OnOk, Some, if◌then◌else◌, is_some, length, nat_eq, option_map, slice_get, true};
 ghost use Rattle.std.specs.Map.{keys_of};
-ghost use Rattle.vecmap.specs.Pairs.{HasDistinctKeys, index_of, index_or_length, lookup, value_at};
+ghost use Rattle.vecmap.specs.Pairs.{HasDistinctKeys, index_of, index_or_length, lookup, put, put_key, value_at};
 
 use std::alloc::AllocError;
 use vecmap::macros::put_pair;
@@ -26,6 +26,9 @@ pub fn insert_then(map: &mut VecMap<u32, u32>, key: u32, value: u32) -> Result<(
         key) then keys_of map.old.entries else keys_of map.old.entries ++ key ∷ [])) }
     ensures ends { OnOk result (lookup nat_eq map.old.entries key ≡ None → slice_get map.new.entries
         (length map.new.entries - 1) ≡ Some (key, value)) }
+    ensures list { OnOk result (map.new.entries ≡ put nat_eq map.old.entries key value) }
+    ensures capacity { OnOk result (length map.old.entries + 1 ≤ map.old.capacity → map.new.capacity
+        ≡ map.old.capacity) }
 {
     map.insert(key, value)?;
     Ok(())
@@ -105,6 +108,9 @@ pub fn insert_full_then(map: &mut VecMap<u32, u32>, key: u32, value: u32) -> Res
         key) then keys_of map.old.entries else keys_of map.old.entries ++ key ∷ [])) }
     ensures ends { OnOk result (lookup nat_eq map.old.entries key ≡ None → slice_get map.new.entries
         (length map.new.entries - 1) ≡ Some (key, value)) }
+    ensures list { OnOk result (map.new.entries ≡ put nat_eq map.old.entries key value) }
+    ensures capacity { OnOk result (length map.old.entries + 1 ≤ map.old.capacity → map.new.capacity
+        ≡ map.old.capacity) }
 {
     map.insert_full(key, value)?;
     Ok(())
@@ -154,6 +160,9 @@ pub fn insert_key_then(map: &mut VecMap<u32, u32>, key: u32, value: u32) -> Resu
         key) then keys_of map.old.entries else keys_of map.old.entries ++ key ∷ [])) }
     ensures ends { OnOk result (lookup nat_eq map.old.entries key ≡ None → slice_get map.new.entries
         (length map.new.entries - 1) ≡ Some (key, value)) }
+    ensures list { OnOk result (map.new.entries ≡ put_key nat_eq map.old.entries key value) }
+    ensures capacity { OnOk result (length map.old.entries + 1 ≤ map.old.capacity → map.new.capacity
+        ≡ map.old.capacity) }
 {
     map.insert_key(key, value)?;
     Ok(())
@@ -201,6 +210,9 @@ pub fn put_pair_then(map: &mut VecMap<u32, u32>, key: u32, value: u32) -> Result
     ensures empty { OnOk result (0 < length map.new.entries) }
     ensures ends { OnOk result (lookup nat_eq map.old.entries key ≡ None → slice_get map.new.entries
         (length map.new.entries - 1) ≡ Some (key, value)) }
+    ensures list { OnOk result (map.new.entries ≡ put nat_eq map.old.entries key value) }
+    ensures capacity { OnOk result (length map.old.entries + 1 ≤ map.old.capacity → map.new.capacity
+        ≡ map.old.capacity) }
 {
     put_pair(map, key, value)?;
     Ok(())

@@ -1,7 +1,7 @@
 //! Many pairs at once.
 ghost use Rattle.std.specs.Prelude.{◌≡◌, ◌+◌, ◌<◌, ◌≤◌, ◌||◌, ℕ, OnErr, OnOk, Some, is_some, length, nat_eq};
 ghost use Rattle.std.specs.Option.{option_or};
-ghost use Rattle.vecmap.specs.Pairs.{HasDistinctKeys, index_of, lookup};
+ghost use Rattle.vecmap.specs.Pairs.{HasDistinctKeys, index_of, lookup, puts};
 
 use std::alloc::AllocError;
 use vecmap::VecMap;
@@ -36,6 +36,7 @@ pub fn append_then(
     ensures empty { OnOk result (0 < length other.old.entries → 0 < length map.new.entries) }
     ensures unchanged { OnErr result (map.new ≡ map.old) }
     ensures ends { OnOk result (length other.new.entries ≡ 0) }
+    ensures list { OnOk result (map.new.entries ≡ puts nat_eq map.old.entries other.old.entries) }
 {
     map.append(other)?;
     Ok(())

@@ -1,8 +1,8 @@
 //! New maps, copies and equality.
-ghost use Rattle.std.specs.Prelude.{◌≡◌, ◌<◌, ◌≤◌, ℕ, IfOk, IsTrue, None, Some, false, is_some, length, nat_eq, option_map, slice_get};
+ghost use Rattle.std.specs.Prelude.{◌≡◌, ◌∷◌, ◌<◌, ◌≤◌, ℕ, [], IfOk, IsTrue, None, Some, false, is_some, length, nat_eq, option_map, slice_get};
 ghost use Rattle.std.specs.Map.{keys_of};
 ghost use Rattle.vecmap.specs.Equality.{has_same_counts};
-ghost use Rattle.vecmap.specs.Pairs.{HasDistinctKeys, index_of, lookup};
+ghost use Rattle.vecmap.specs.Pairs.{HasDistinctKeys, index_of, lookup, puts};
 
 use std::alloc::{AllocError, Global};
 use vecmap::{VecMap, vecmap};
@@ -24,6 +24,7 @@ pub fn from_then(pairs: Vec<(u32, u32)>) -> VecMap<u32, u32>
     ensures distinct { HasDistinctKeys nat_eq result.entries }
     ensures keys { HasDistinctKeys nat_eq pairs.items → keys_of result.entries ≡ keys_of pairs.items }
     ensures empty { 0 < length pairs.items → 0 < length result.entries }
+    ensures list { result.entries ≡ puts nat_eq [] pairs.items }
 {
     VecMap::from(pairs)
 }
@@ -37,6 +38,7 @@ pub fn from_vec_counted_then(pairs: Vec<(u32, u32)>) -> VecMap<u32, u32>
     ensures distinct { HasDistinctKeys nat_eq result.entries }
     ensures keys { HasDistinctKeys nat_eq pairs.items → keys_of result.entries ≡ keys_of pairs.items }
     ensures empty { 0 < length pairs.items → 0 < length result.entries }
+    ensures list { result.entries ≡ puts nat_eq [] pairs.items }
 {
     let (map, _count) = VecMap::from_vec_counted(pairs);
     map
@@ -51,6 +53,7 @@ pub fn from_vec_unchecked_then(pairs: Vec<(u32, u32)>) -> VecMap<u32, u32>
     ensures length { length result.entries ≤ length pairs.items }
     ensures keys { HasDistinctKeys nat_eq pairs.items → keys_of result.entries ≡ keys_of pairs.items }
     ensures distinct { HasDistinctKeys nat_eq result.entries }
+    ensures list { result.entries ≡ pairs.items }
 {
     VecMap::from_vec_unchecked(pairs)
 }
@@ -74,6 +77,7 @@ pub fn from_array_then(alloc: Global, key: u32, value: u32) -> Result<VecMap<u32
     ensures key { IfOk result (λ made. lookup nat_eq made.entries key ≡ Some value) }
     ensures length { IfOk result (λ made. length made.entries ≡ 1) }
     ensures distinct { IfOk result (λ made. HasDistinctKeys nat_eq made.entries) }
+    ensures list { IfOk result (λ made. made.entries ≡ (key, value) ∷ []) }
 {
     VecMap::from_array(alloc, [(key, value)])
 }

@@ -1,7 +1,7 @@
 //! Insertions at an index, of a new key, and of what a closure makes.
 ghost use Rattle.std.specs.Prelude.{◌≡◌, ◌+◌, ◌-◌, ◌++◌, ◌∷◌, ◌<◌, ◌≤◌, ℕ, [], IsSome, None, Ok, OnErr, OnOk, Some, false, if◌then◌else◌, insert, is_some, length, nat_eq, slice_get, true};
 ghost use Rattle.std.specs.Map.{keys_of, values_of};
-ghost use Rattle.vecmap.specs.Pairs.{HasDistinctKeys, index_of, index_or_length, lookup};
+ghost use Rattle.vecmap.specs.Pairs.{HasDistinctKeys, index_of, index_or_length, lookup, put_at};
 
 use std::alloc::AllocError;
 use vecmap::{Refused, VecMap};
@@ -23,6 +23,9 @@ pub fn insert_at_then(
         ≡ insert (keys_of map.old.entries) index key) }
     ensures order { OnOk result ((i : ℕ) → lookup nat_eq map.old.entries key ≡ None → i < index
         → slice_get map.new.entries i ≡ slice_get map.old.entries i) }
+    ensures list { OnOk result (map.new.entries ≡ put_at nat_eq map.old.entries index key value) }
+    ensures capacity { OnOk result (length map.old.entries + 1 ≤ map.old.capacity → map.new.capacity
+        ≡ map.old.capacity) }
 {
     map.insert_at(index, key, value)?;
     Ok(())
@@ -103,6 +106,9 @@ pub fn insert_unique_then(
         ∷ []) }
     ensures ends { OnOk result (slice_get map.new.entries (length map.new.entries - 1)
         ≡ Some (key, value)) }
+    ensures list { OnOk result (map.new.entries ≡ map.old.entries ++ (key, value) ∷ []) }
+    ensures capacity { OnOk result (length map.old.entries + 1 ≤ map.old.capacity → map.new.capacity
+        ≡ map.old.capacity) }
 {
     map.insert_unique(key, value)?;
     Ok(())
@@ -171,6 +177,8 @@ pub fn index_or_try_insert_with_then(
     ensures ends { OnOk result (lookup nat_eq map.old.entries key ≡ None → slice_get map.new.entries
         (length map.new.entries - 1) ≡ Some (key, value)) }
     ensures unchanged { OnOk result (IsSome (lookup nat_eq map.old.entries key) → map.new ≡ map.old) }
+    ensures capacity { OnOk result (length map.old.entries + 1 ≤ map.old.capacity → map.new.capacity
+        ≡ map.old.capacity) }
 {
     let pair = (key, value);
     map.index_or_try_insert_with(

@@ -78,6 +78,7 @@ pub fn occupied_remove_then(map: &mut VecMap<u32, u32>, key: u32)
     ensures length { length map.new.entries + (if is_some (lookup nat_eq map.old.entries key) then 1
         else 0) ≡ length map.old.entries }
     ensures unchanged { lookup nat_eq map.old.entries key ≡ None → map.new ≡ map.old }
+    ensures capacity { map.new.capacity ≡ map.old.capacity }
 {
     if let Entry::Occupied(entry) = map.entry(key) {
         entry.remove();
@@ -101,6 +102,7 @@ pub fn occupied_swap_remove_then(map: &mut VecMap<u32, u32>, key: u32)
     ensures length { length map.new.entries + (if is_some (lookup nat_eq map.old.entries key) then 1
         else 0) ≡ length map.old.entries }
     ensures unchanged { lookup nat_eq map.old.entries key ≡ None → map.new ≡ map.old }
+    ensures capacity { map.new.capacity ≡ map.old.capacity }
 {
     if let Entry::Occupied(entry) = map.entry(key) {
         entry.swap_remove();

@@ -1,7 +1,8 @@
 //! Changes of the order.
-ghost use Rattle.std.specs.Prelude.{◌≡◌, ◌-◌, ◌<◌, ℕ, IsTrue, Some, false, is_some, length, nat_eq, reverse, slice_get};
+ghost use Rattle.std.specs.Prelude.{◌≡◌, ◌-◌, ◌<◌, ℕ, IsTrue, Some, false, is_some, length, nat_eq, reverse, slice_get, swap};
 ghost use Rattle.std.specs.Map.{keys_of};
 ghost use Rattle.vecmap.specs.Equality.{has_same_counts};
+ghost use Rattle.vecmap.specs.Items.{moved};
 ghost use Rattle.vecmap.specs.Pairs.{HasDistinctKeys, index_of, lookup};
 
 use vecmap::VecMap;
@@ -27,6 +28,8 @@ pub fn reverse_then(map: &mut VecMap<u32, u32>)
     ensures order { keys_of map.new.entries ≡ reverse (keys_of map.old.entries) }
     ensures ends { slice_get map.new.entries 0 ≡ slice_get map.old.entries (length map.old.entries
         - 1) }
+    ensures list { map.new.entries ≡ reverse map.old.entries }
+    ensures capacity { map.new.capacity ≡ map.old.capacity }
 {
     map.reverse();
 }
@@ -72,6 +75,8 @@ pub fn swap_indices_then(map: &mut VecMap<u32, u32>, a: usize, b: usize)
     ensures pair { slice_get map.new.entries b ≡ slice_get map.old.entries a }
     ensures order { (i : ℕ) → nat_eq i a ≡ false → nat_eq i b ≡ false → slice_get map.new.entries i
         ≡ slice_get map.old.entries i }
+    ensures list { map.new.entries ≡ swap map.old.entries a b }
+    ensures capacity { map.new.capacity ≡ map.old.capacity }
 {
     map.swap_indices(a, b);
 }
@@ -101,6 +106,8 @@ pub fn move_index_then(map: &mut VecMap<u32, u32>, a: usize, b: usize)
     ensures pair { slice_get map.new.entries b ≡ slice_get map.old.entries a }
     ensures order { (i : ℕ) → i < a → i < b → slice_get map.new.entries i ≡ slice_get
         map.old.entries i }
+    ensures list { map.new.entries ≡ moved map.old.entries a b }
+    ensures capacity { map.new.capacity ≡ map.old.capacity }
 {
     map.move_index(a, b);
 }

@@ -27,6 +27,8 @@ pub fn truncate_then(map: &mut VecMap<u32, u32>, index: usize)
     ensures values { values_of map.new.entries ≡ take index (values_of map.old.entries) }
     ensures unchanged { length map.old.entries ≤ index → map.new.entries ≡ map.old.entries }
     ensures empty { index ≡ 0 → length map.new.entries ≡ 0 }
+    ensures list { map.new.entries ≡ take index map.old.entries }
+    ensures capacity { map.new.capacity ≡ map.old.capacity }
 {
     map.truncate(index);
 }
@@ -57,6 +59,8 @@ pub fn split_off_then(
     ensures keys { IfOk result (λ made. keys_of map.new.entries ++ keys_of made.entries ≡ keys_of
         map.old.entries) }
     ensures unchanged { OnErr result (map.new ≡ map.old) }
+    ensures list { OnOk result (map.new.entries ≡ take index map.old.entries) }
+    ensures capacity { map.new.capacity ≡ map.old.capacity }
 {
     map.split_off(index)
 }
@@ -107,6 +111,7 @@ pub fn clear_then(map: &mut VecMap<u32, u32>)
     ensures length { length map.new.entries ≡ 0 }
     ensures distinct { HasDistinctKeys nat_eq map.new.entries }
     ensures empty { map.new.entries ≡ [] }
+    ensures capacity { map.new.capacity ≡ map.old.capacity }
 {
     map.clear();
 }
@@ -123,6 +128,7 @@ pub fn retain_then_if_distinct(map: &mut VecMap<u32, u32>, value: u32)
 pub fn retain_then(map: &mut VecMap<u32, u32>, value: u32)
     ensures length { length map.new.entries ≤ length map.old.entries }
     ensures order { map.new.entries ≡ filter (λ p. nat_lt p.1 value) map.old.entries }
+    ensures capacity { map.new.capacity ≡ map.old.capacity }
 {
     map.retain(|_key, stored| *stored < value);
 }
@@ -164,6 +170,7 @@ pub fn retain2_then_if_distinct(map: &mut VecMap<u32, u32>, value: u32)
 
 pub fn retain2_then(map: &mut VecMap<u32, u32>, value: u32)
     ensures length { length map.new.entries ≤ length map.old.entries }
+    ensures capacity { map.new.capacity ≡ map.old.capacity }
 {
     map.retain2(|_key, stored| *stored < value);
 }
@@ -173,6 +180,7 @@ pub fn drain_then(map: &mut VecMap<u32, u32>, index: usize)
     ensures pair { (i : ℕ) → i < index → slice_get map.new.entries i ≡ slice_get map.old.entries i }
     ensures length { index ≤ length map.old.entries → length map.new.entries ≡ index }
     ensures ends { 0 < index → slice_get map.new.entries 0 ≡ slice_get map.old.entries 0 }
+    ensures capacity { map.new.capacity ≡ map.old.capacity }
 {
     for (_key, _value) in map.drain(index..) {}
 }

@@ -1,7 +1,7 @@
 //! Removals by a key.
 ghost use Rattle.std.specs.Prelude.{◌≡◌, ◌+◌, ◌<◌, ℕ, String, None, Some, false, if◌then◌else◌, is_some, length, nat_eq, option_map, string_eq};
 ghost use Rattle.std.specs.declared.alloc.Global.{Global};
-ghost use Rattle.vecmap.specs.Pairs.{HasDistinctKeys, has_text, index_of, lookup, lookup_by};
+ghost use Rattle.vecmap.specs.Pairs.{has_text, HasDistinctKeys, index_of, lookup, lookup_by, without_key};
 
 use std::alloc::Global;
 use vecmap::VecMap;
@@ -24,6 +24,8 @@ pub fn remove_then(map: &mut VecMap<u32, u32>, key: u32)
     ensures length { length map.new.entries + (if is_some (lookup nat_eq map.old.entries key) then 1
         else 0) ≡ length map.old.entries }
     ensures unchanged { lookup nat_eq map.old.entries key ≡ None → map.new ≡ map.old }
+    ensures list { map.new.entries ≡ without_key nat_eq map.old.entries key }
+    ensures capacity { map.new.capacity ≡ map.old.capacity }
 {
     map.remove(&key);
 }
@@ -89,6 +91,7 @@ pub fn remove_str_then_by_text(map: &mut VecMap<String, u32>, text: &str)
     ensures length { length map.new.entries + (if is_some (lookup_by (has_text text.now)
         map.old.entries) then 1 else 0) ≡ length map.old.entries }
     ensures unchanged { lookup_by (has_text text.now) map.old.entries ≡ None → map.new ≡ map.old }
+    ensures capacity { map.new.capacity ≡ map.old.capacity }
 {
     map.remove_str(text);
 }
@@ -110,6 +113,8 @@ pub fn remove_entry_then(map: &mut VecMap<u32, u32>, key: u32)
     ensures length { length map.new.entries + (if is_some (lookup nat_eq map.old.entries key) then 1
         else 0) ≡ length map.old.entries }
     ensures unchanged { lookup nat_eq map.old.entries key ≡ None → map.new ≡ map.old }
+    ensures list { map.new.entries ≡ without_key nat_eq map.old.entries key }
+    ensures capacity { map.new.capacity ≡ map.old.capacity }
 {
     map.remove_entry(&key);
 }

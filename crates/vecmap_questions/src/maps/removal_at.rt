@@ -1,6 +1,7 @@
 //! Removals by an index, and of the last pair.
 ghost use Rattle.std.specs.Prelude.{◌≡◌, ◌+◌, ◌-◌, ◌<◌, ◌≤◌, ℕ, [], None, Some, false, if◌then◌else◌, is_some, length, nat_eq, remove, slice_get, take};
 ghost use Rattle.std.specs.Map.{keys_of, values_of};
+ghost use Rattle.vecmap.specs.Items.{swap_without};
 ghost use Rattle.vecmap.specs.Pairs.{HasDistinctKeys, index_of, lookup};
 
 use vecmap::VecMap;
@@ -18,6 +19,8 @@ pub fn remove_index_then(map: &mut VecMap<u32, u32>, index: usize) -> (u32, u32)
     ensures order { (i : ℕ) → i < index → slice_get map.new.entries i ≡ slice_get map.old.entries i }
     ensures empty { length map.old.entries ≡ 1 → map.new.entries ≡ [] }
     ensures ends { index ≡ 0 → slice_get map.new.entries 0 ≡ slice_get map.old.entries 1 }
+    ensures list { map.new.entries ≡ remove map.old.entries index }
+    ensures capacity { map.new.capacity ≡ map.old.capacity }
 {
     map.remove_index(index)
 }
@@ -64,6 +67,8 @@ pub fn swap_remove_index_then(map: &mut VecMap<u32, u32>, index: usize) -> (u32,
     ensures length { length map.new.entries + 1 ≡ length map.old.entries }
     ensures order { (i : ℕ) → i < index → slice_get map.new.entries i ≡ slice_get map.old.entries i }
     ensures empty { length map.old.entries ≡ 1 → map.new.entries ≡ [] }
+    ensures list { map.new.entries ≡ swap_without map.old.entries index }
+    ensures capacity { map.new.capacity ≡ map.old.capacity }
 {
     map.swap_remove_index(index)
 }
@@ -105,6 +110,8 @@ pub fn pop_then(map: &mut VecMap<u32, u32>)
         map.old.entries) }
     ensures values { values_of map.new.entries ≡ take (length map.old.entries - 1) (values_of
         map.old.entries) }
+    ensures list { map.new.entries ≡ take (length map.old.entries - 1) map.old.entries }
+    ensures capacity { map.new.capacity ≡ map.old.capacity }
 {
     map.pop();
 }

@@ -1,6 +1,6 @@
 //! Sorts.
 ghost use Rattle.std.specs.Prelude.{◌≡◌, ◌<◌, ℕ, IfErr, IfOk, IsSome, IsTrue, None, OnErr, OnOk, is_some, length, nat_eq};
-ghost use Rattle.std.specs.List.Sorted.{IsSortedByKey};
+ghost use Rattle.std.specs.List.Sorted.{IsPermutation, IsSortedByKey};
 ghost use Rattle.std.specs.Ordering.{nat_cmp};
 ghost use Rattle.vecmap.specs.Equality.{has_same_counts};
 ghost use Rattle.vecmap.specs.Pairs.{HasDistinctKeys, index_of, lookup, value_at};
@@ -27,6 +27,8 @@ pub fn sort_keys_then(map: &mut VecMap<u32, u32>) -> Result<(), AllocError>
     ensures equal { OnOk result (IsTrue (has_same_counts nat_eq nat_eq map.new.entries
         map.old.entries)) }
     ensures order { OnOk result (IsSortedByKey (λ p. p.0) nat_cmp map.new.entries) }
+    ensures list { OnOk result (IsPermutation map.old.entries map.new.entries) }
+    ensures capacity { OnOk result (map.new.capacity ≡ map.old.capacity) }
 {
     map.sort_keys()?;
     Ok(())
@@ -49,6 +51,8 @@ pub fn sort_by_then(map: &mut VecMap<u32, u32>) -> Result<(), AllocError>
     ensures length { OnOk result (length map.new.entries ≡ length map.old.entries) }
     ensures equal { OnOk result (IsTrue (has_same_counts nat_eq nat_eq map.new.entries
         map.old.entries)) }
+    ensures list { OnOk result (IsPermutation map.old.entries map.new.entries) }
+    ensures capacity { OnOk result (map.new.capacity ≡ map.old.capacity) }
 {
     map.sort_by(|x, y| x.1.cmp(y.1))?;
     Ok(())
@@ -71,6 +75,8 @@ pub fn sort_by_cached_key_then(map: &mut VecMap<u32, u32>) -> Result<(), AllocEr
     ensures length { OnOk result (length map.new.entries ≡ length map.old.entries) }
     ensures equal { OnOk result (IsTrue (has_same_counts nat_eq nat_eq map.new.entries
         map.old.entries)) }
+    ensures list { OnOk result (IsPermutation map.old.entries map.new.entries) }
+    ensures capacity { OnOk result (map.new.capacity ≡ map.old.capacity) }
 {
     map.sort_by_cached_key(|_key, value| *value)?;
     Ok(())
@@ -91,6 +97,8 @@ pub fn sort_unstable_keys_then(map: &mut VecMap<u32, u32>)
     ensures empty { 0 < length map.old.entries → 0 < length map.new.entries }
     ensures equal { IsTrue (has_same_counts nat_eq nat_eq map.new.entries map.old.entries) }
     ensures order { IsSortedByKey (λ p. p.0) nat_cmp map.new.entries }
+    ensures list { IsPermutation map.old.entries map.new.entries }
+    ensures capacity { map.new.capacity ≡ map.old.capacity }
 {
     map.sort_unstable_keys();
 }
@@ -108,6 +116,8 @@ pub fn sort_unstable_by_then(map: &mut VecMap<u32, u32>)
         nat_eq map.old.entries q) }
     ensures length { length map.new.entries ≡ length map.old.entries }
     ensures equal { IsTrue (has_same_counts nat_eq nat_eq map.new.entries map.old.entries) }
+    ensures list { IsPermutation map.old.entries map.new.entries }
+    ensures capacity { map.new.capacity ≡ map.old.capacity }
 {
     map.sort_unstable_by(|x, y| x.1.cmp(y.1));
 }

@@ -1,6 +1,6 @@
 //! Removals that move the last pair, by a key.
 ghost use Rattle.std.specs.Prelude.{◌≡◌, ◌+◌, ℕ, None, false, if◌then◌else◌, is_some, length, nat_eq};
-ghost use Rattle.vecmap.specs.Pairs.{HasDistinctKeys, index_of, lookup};
+ghost use Rattle.vecmap.specs.Pairs.{HasDistinctKeys, index_of, lookup, swap_without_key};
 
 use vecmap::VecMap;
 
@@ -20,6 +20,8 @@ pub fn swap_remove_then(map: &mut VecMap<u32, u32>, key: u32)
     ensures length { length map.new.entries + (if is_some (lookup nat_eq map.old.entries key) then 1
         else 0) ≡ length map.old.entries }
     ensures unchanged { lookup nat_eq map.old.entries key ≡ None → map.new ≡ map.old }
+    ensures list { map.new.entries ≡ swap_without_key nat_eq map.old.entries key }
+    ensures capacity { map.new.capacity ≡ map.old.capacity }
 {
     map.swap_remove(&key);
 }
@@ -64,6 +66,8 @@ pub fn swap_remove_entry_then(map: &mut VecMap<u32, u32>, key: u32)
     ensures length { length map.new.entries + (if is_some (lookup nat_eq map.old.entries key) then 1
         else 0) ≡ length map.old.entries }
     ensures unchanged { lookup nat_eq map.old.entries key ≡ None → map.new ≡ map.old }
+    ensures list { map.new.entries ≡ swap_without_key nat_eq map.old.entries key }
+    ensures capacity { map.new.capacity ≡ map.old.capacity }
 {
     map.swap_remove_entry(&key);
 }

@@ -2,7 +2,7 @@
 ghost use Rattle.std.specs.Prelude.{◌≡◌, ◌<◌, ℕ, String, IsSome, None, Some, if◌then◌else◌, is_some, length, nat_eq, string_eq, true};
 ghost use Rattle.std.specs.Map.{keys_of};
 ghost use Rattle.std.specs.declared.alloc.Global.{Global};
-ghost use Rattle.vecmap.specs.Pairs.{HasDistinctKeys, has_text, index_by, index_of, lookup, lookup_by, value_at};
+ghost use Rattle.vecmap.specs.Pairs.{has_text, HasDistinctKeys, index_by, index_of, lookup, lookup_by, value_at};
 
 use std::alloc::Global;
 use vecmap::VecMap;
@@ -21,6 +21,7 @@ pub fn get_mut_then(map: &mut VecMap<u32, u32>, key: u32, value: u32)
     ensures keys { keys_of map.new.entries ≡ keys_of map.old.entries }
     ensures pair { (i : ℕ) → index_of nat_eq map.old.entries key ≡ Some i → value_at map.new.entries
         i ≡ Some value }
+    ensures capacity { map.new.capacity ≡ map.old.capacity }
 {
     if let Some(stored) = map.get_mut(&key) {
         *stored = value;
@@ -110,6 +111,7 @@ pub fn index_mut_then(map: &mut VecMap<u32, u32>, key: u32, value: u32)
     ensures keys { keys_of map.new.entries ≡ keys_of map.old.entries }
     ensures pair { (i : ℕ) → index_of nat_eq map.old.entries key ≡ Some i → value_at map.new.entries
         i ≡ Some value }
+    ensures capacity { map.new.capacity ≡ map.old.capacity }
 {
     map[&key] = value;
 }

@@ -2,7 +2,7 @@
 ghost use Rattle.std.specs.Prelude.{◌≡◌, ◌-◌, ◌/◌, ◌<◌, ℕ, IsSome, Some, if◌then◌else◌, is_some, length, nat_eq, option_map, slice_set};
 ghost use Rattle.std.specs.List.{All};
 ghost use Rattle.std.specs.Map.{keys_of, values_of};
-ghost use Rattle.vecmap.specs.Pairs.{HasDistinctKeys, index_of, lookup, value_at};
+ghost use Rattle.vecmap.specs.Pairs.{HasDistinctKeys, index_of, lookup, map_values, value_at};
 
 use vecmap::VecMap;
 
@@ -28,6 +28,7 @@ pub fn index_mut_at_then(map: &mut VecMap<u32, u32>, index: usize, value: u32)
     ensures indices { (q : ℕ) → index_of nat_eq map.new.entries q ≡ index_of nat_eq map.old.entries
         q }
     ensures values { values_of map.new.entries ≡ slice_set (values_of map.old.entries) index value }
+    ensures capacity { map.new.capacity ≡ map.old.capacity }
 {
     map[index] = value;
 }
@@ -56,6 +57,7 @@ pub fn get_value_at_mut_then(map: &mut VecMap<u32, u32>, index: usize, value: u3
     ensures indices { (q : ℕ) → index_of nat_eq map.new.entries q ≡ index_of nat_eq map.old.entries
         q }
     ensures values { values_of map.new.entries ≡ slice_set (values_of map.old.entries) index value }
+    ensures capacity { map.new.capacity ≡ map.old.capacity }
 {
     if let Some(stored) = map.get_value_at_mut(index) {
         *stored = value;
@@ -127,6 +129,7 @@ pub fn pair_mut_then(map: &mut VecMap<u32, u32>, index: usize, value: u32)
     ensures keys { keys_of map.new.entries ≡ keys_of map.old.entries }
     ensures empty { 0 < length map.new.entries }
     ensures values { values_of map.new.entries ≡ slice_set (values_of map.old.entries) index value }
+    ensures capacity { map.new.capacity ≡ map.old.capacity }
 {
     let (_key, stored) = map.pair_mut(index);
     *stored = value;
@@ -143,6 +146,8 @@ pub fn set_values_then(map: &mut VecMap<u32, u32>, value: u32)
     ensures length { length map.new.entries ≡ length map.old.entries }
     ensures keys { keys_of map.new.entries ≡ keys_of map.old.entries }
     ensures values { All (λ v. v ≡ value) (values_of map.new.entries) }
+    ensures list { map.new.entries ≡ map_values (λ _. value) map.old.entries }
+    ensures capacity { map.new.capacity ≡ map.old.capacity }
 {
     map.set_values(value);
 }
@@ -163,6 +168,7 @@ pub fn update_values_then(map: &mut VecMap<u32, u32>, value: u32)
         q }
     ensures length { length map.new.entries ≡ length map.old.entries }
     ensures keys { keys_of map.new.entries ≡ keys_of map.old.entries }
+    ensures capacity { map.new.capacity ≡ map.old.capacity }
 {
     map.update_values(|_key, stored| *stored = value);
 }

@@ -1,8 +1,8 @@
 //! Insertions.
-ghost use Rattle.std.specs.Prelude.{◌≡◌, ◌+◌, ◌-◌, ◌<◌, ◌||◌, ℕ, IfOk, Ok, OnErr, OnOk, Some, false, if◌then◌else◌, length, nat_eq, not, slice_get, true};
+ghost use Rattle.std.specs.Prelude.{◌≡◌, ◌+◌, ◌-◌, ◌++◌, ◌∷◌, ◌<◌, ◌≤◌, ◌||◌, ℕ, [], IfOk, Ok, OnErr, OnOk, Some, false, if◌then◌else◌, length, nat_eq, not, slice_get, true};
 ghost use Rattle.std.specs.List.{IsDistinct, list_any};
 ghost use Rattle.std.specs.Set.{is_member};
-ghost use Rattle.vecmap.specs.Items.{item_index};
+ghost use Rattle.vecmap.specs.Items.{add, item_index, put_item};
 ghost use Rattle.vecmap.specs.Pairs.{has_text};
 
 use std::alloc::AllocError;
@@ -26,6 +26,9 @@ pub fn insert_then(set: &mut VecSet<u32>, item: u32) -> Result<(), AllocError>
     ensures ends { OnOk result (is_member nat_eq set.old.elements item ≡ false → slice_get
         set.new.elements (length set.new.elements - 1) ≡ Some item) }
     ensures unchanged { OnErr result (set.new ≡ set.old) }
+    ensures list { OnOk result (set.new.elements ≡ add nat_eq set.old.elements item) }
+    ensures capacity { OnOk result (length set.old.elements + 1 ≤ set.old.capacity
+        → set.new.capacity ≡ set.old.capacity) }
 {
     set.insert(item)?;
     Ok(())
@@ -83,6 +86,9 @@ pub fn insert_full_then(set: &mut VecSet<u32>, item: u32) -> Result<(), AllocErr
     ensures ends { OnOk result (is_member nat_eq set.old.elements item ≡ false → slice_get
         set.new.elements (length set.new.elements - 1) ≡ Some item) }
     ensures unchanged { OnErr result (set.new ≡ set.old) }
+    ensures list { OnOk result (set.new.elements ≡ add nat_eq set.old.elements item) }
+    ensures capacity { OnOk result (length set.old.elements + 1 ≤ set.old.capacity
+        → set.new.capacity ≡ set.old.capacity) }
 {
     set.insert_full(item)?;
     Ok(())
@@ -115,6 +121,9 @@ pub fn replace_then(set: &mut VecSet<u32>, item: u32) -> Result<(), AllocError>
     ensures ends { OnOk result (is_member nat_eq set.old.elements item ≡ false → slice_get
         set.new.elements (length set.new.elements - 1) ≡ Some item) }
     ensures unchanged { OnErr result (set.new ≡ set.old) }
+    ensures list { OnOk result (set.new.elements ≡ put_item nat_eq set.old.elements item) }
+    ensures capacity { OnOk result (length set.old.elements + 1 ≤ set.old.capacity
+        → set.new.capacity ≡ set.old.capacity) }
 {
     set.replace(item)?;
     Ok(())
@@ -136,6 +145,9 @@ pub fn insert_unique_then(set: &mut VecSet<u32>, item: u32) -> Result<(), AllocE
     ensures length { OnOk result (length set.new.elements ≡ length set.old.elements + 1) }
     ensures ends { OnOk result (slice_get set.new.elements (length set.new.elements - 1)
         ≡ Some item) }
+    ensures list { OnOk result (set.new.elements ≡ set.old.elements ++ item ∷ []) }
+    ensures capacity { OnOk result (length set.old.elements + 1 ≤ set.old.capacity
+        → set.new.capacity ≡ set.old.capacity) }
 {
     set.insert_unique(item)?;
     Ok(())
@@ -158,6 +170,9 @@ pub fn add_item_then(set: &mut VecSet<u32>, item: u32) -> Result<(), AllocError>
     ensures ends { OnOk result (is_member nat_eq set.old.elements item ≡ false → slice_get
         set.new.elements (length set.new.elements - 1) ≡ Some item) }
     ensures unchanged { OnErr result (set.new ≡ set.old) }
+    ensures list { OnOk result (set.new.elements ≡ add nat_eq set.old.elements item) }
+    ensures capacity { OnOk result (length set.old.elements + 1 ≤ set.old.capacity
+        → set.new.capacity ≡ set.old.capacity) }
 {
     add_item(set, item)?;
     Ok(())
@@ -173,6 +188,8 @@ pub fn index_or_try_insert_with_then(set: &mut VecSet<u32>, item: u32) -> Result
     ensures empty { OnOk result (0 < length set.new.elements) }
     ensures length { OnOk result (length set.new.elements ≡ (if is_member nat_eq set.old.elements
         item then length set.old.elements else length set.old.elements + 1)) }
+    ensures capacity { OnOk result (length set.old.elements + 1 ≤ set.old.capacity
+        → set.new.capacity ≡ set.old.capacity) }
 {
     set.index_or_try_insert_with(
         &item,

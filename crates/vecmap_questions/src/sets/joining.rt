@@ -2,7 +2,7 @@
 ghost use Rattle.std.specs.Prelude.{◌≡◌, ◌+◌, ◌<◌, ◌≤◌, ◌||◌, ℕ, IsTrue, OnErr, OnOk, Some, length, nat_eq};
 ghost use Rattle.std.specs.List.{IsDistinct};
 ghost use Rattle.std.specs.Set.{is_member};
-ghost use Rattle.vecmap.specs.Items.{item_index};
+ghost use Rattle.vecmap.specs.Items.{adds, item_index};
 
 use std::alloc::AllocError;
 use vecmap::VecSet;
@@ -20,6 +20,7 @@ pub fn append_then(set: &mut VecSet<u32>, other: &mut VecSet<u32>) -> Result<(),
     ensures empty { OnOk result (0 < length other.old.elements → 0 < length set.new.elements) }
     ensures unchanged { OnErr result (set.new ≡ set.old) }
     ensures ends { OnOk result (length other.new.elements ≡ 0) }
+    ensures list { OnOk result (set.new.elements ≡ adds nat_eq set.old.elements other.old.elements) }
 {
     set.append(other)?;
     Ok(())

@@ -1,9 +1,9 @@
 //! New sets, copies and equality.
-ghost use Rattle.std.specs.Prelude.{◌≡◌, ◌<◌, ◌≤◌, ◌||◌, ℕ, IfOk, IsTrue, Some, false, length, nat_eq, slice_get, true};
+ghost use Rattle.std.specs.Prelude.{◌≡◌, ◌<◌, ◌≤◌, ◌||◌, ℕ, [], IfOk, IsTrue, Some, false, length, nat_eq, slice_get, true};
 ghost use Rattle.std.specs.List.{IsDistinct};
 ghost use Rattle.std.specs.Set.{is_member};
 ghost use Rattle.vecmap.specs.Equality.{has_same_items};
-ghost use Rattle.vecmap.specs.Items.{item_index};
+ghost use Rattle.vecmap.specs.Items.{adds, item_index};
 
 use std::alloc::{AllocError, Global};
 use vecmap::{VecSet, vecset};
@@ -21,6 +21,7 @@ pub fn from_then(items: Vec<u32>) -> VecSet<u32>
     ensures order { IsDistinct nat_eq items.items → result.elements ≡ items.items }
     ensures distinct { IsDistinct nat_eq result.elements }
     ensures empty { 0 < length items.items → 0 < length result.elements }
+    ensures list { result.elements ≡ adds nat_eq [] items.items }
 {
     VecSet::from(items)
 }
@@ -31,6 +32,7 @@ pub fn from_vec_counted_then(items: Vec<u32>) -> VecSet<u32>
     ensures order { IsDistinct nat_eq items.items → result.elements ≡ items.items }
     ensures distinct { IsDistinct nat_eq result.elements }
     ensures empty { 0 < length items.items → 0 < length result.elements }
+    ensures list { result.elements ≡ adds nat_eq [] items.items }
 {
     let (set, _count) = VecSet::from_vec_counted(items);
     set
@@ -42,6 +44,7 @@ pub fn from_vec_unchecked_then(items: Vec<u32>) -> VecSet<u32>
     ensures length { length result.elements ≤ length items.items }
     ensures order { IsDistinct nat_eq items.items → result.elements ≡ items.items }
     ensures distinct { IsDistinct nat_eq result.elements }
+    ensures list { result.elements ≡ items.items }
 {
     VecSet::from_vec_unchecked(items)
 }

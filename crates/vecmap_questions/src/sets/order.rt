@@ -1,9 +1,9 @@
 //! Changes of the order.
-ghost use Rattle.std.specs.Prelude.{◌≡◌, ◌-◌, ◌<◌, ℕ, IsTrue, Some, false, length, nat_eq, slice_get};
+ghost use Rattle.std.specs.Prelude.{◌≡◌, ◌-◌, ◌<◌, ℕ, IsTrue, Some, false, length, nat_eq, reverse, slice_get, swap};
 ghost use Rattle.std.specs.List.{IsDistinct};
 ghost use Rattle.std.specs.Set.{is_member};
 ghost use Rattle.vecmap.specs.Equality.{has_same_items};
-ghost use Rattle.vecmap.specs.Items.{item_index};
+ghost use Rattle.vecmap.specs.Items.{item_index, moved};
 
 use vecmap::VecSet;
 
@@ -22,6 +22,8 @@ pub fn reverse_then(set: &mut VecSet<u32>)
         ≡ slice_get set.old.elements (length set.old.elements - 1 - i) }
     ensures ends { slice_get set.new.elements 0 ≡ slice_get set.old.elements (length
         set.old.elements - 1) }
+    ensures list { set.new.elements ≡ reverse set.old.elements }
+    ensures capacity { set.new.capacity ≡ set.old.capacity }
 {
     set.reverse();
 }
@@ -53,6 +55,8 @@ pub fn swap_indices_then(set: &mut VecSet<u32>, a: usize, b: usize)
     ensures element { slice_get set.new.elements b ≡ slice_get set.old.elements a }
     ensures order { (i : ℕ) → nat_eq i a ≡ false → nat_eq i b ≡ false → slice_get set.new.elements i
         ≡ slice_get set.old.elements i }
+    ensures list { set.new.elements ≡ swap set.old.elements a b }
+    ensures capacity { set.new.capacity ≡ set.old.capacity }
 {
     set.swap_indices(a, b);
 }
@@ -73,6 +77,8 @@ pub fn move_index_then(set: &mut VecSet<u32>, a: usize, b: usize)
     ensures element { slice_get set.new.elements b ≡ slice_get set.old.elements a }
     ensures order { (i : ℕ) → i < a → i < b → slice_get set.new.elements i ≡ slice_get
         set.old.elements i }
+    ensures list { set.new.elements ≡ moved set.old.elements a b }
+    ensures capacity { set.new.capacity ≡ set.old.capacity }
 {
     set.move_index(a, b);
 }

@@ -1,5 +1,5 @@
 //! Removals of many elements, and of the last.
-ghost use Rattle.std.specs.Prelude.{◌≡◌, ◌+◌, ◌-◌, ◌<◌, ◌≤◌, ◌&&◌, ◌||◌, ℕ, [], IfOk, IfSome, None, OnErr, Some, drop, false, length, nat_eq, nat_lt, not, slice_get, true};
+ghost use Rattle.std.specs.Prelude.{◌≡◌, ◌+◌, ◌-◌, ◌<◌, ◌≤◌, ◌&&◌, ◌||◌, ℕ, [], IfOk, IfSome, None, OnErr, OnOk, Some, drop, false, length, nat_eq, nat_lt, not, slice_get, take, true};
 ghost use Rattle.std.specs.List.{IsDistinct};
 ghost use Rattle.std.specs.Set.{is_member};
 ghost use Rattle.vecmap.specs.Items.{item_index};
@@ -19,6 +19,8 @@ pub fn pop_then(set: &mut VecSet<u32>)
     ensures distinct { IsDistinct nat_eq set.new.elements }
     ensures ends { 0 < (length set.old.elements - 1) → slice_get set.new.elements 0 ≡ slice_get
         set.old.elements 0 }
+    ensures list { set.new.elements ≡ take (length set.old.elements - 1) set.old.elements }
+    ensures capacity { set.new.capacity ≡ set.old.capacity }
 {
     set.pop();
 }
@@ -46,6 +48,8 @@ pub fn truncate_then(set: &mut VecSet<u32>, index: usize)
     ensures ends { 0 < index → slice_get set.new.elements 0 ≡ slice_get set.old.elements 0 }
     ensures unchanged { length set.old.elements ≤ index → set.new.elements ≡ set.old.elements }
     ensures empty { index ≡ 0 → length set.new.elements ≡ 0 }
+    ensures list { set.new.elements ≡ take index set.old.elements }
+    ensures capacity { set.new.capacity ≡ set.old.capacity }
 {
     set.truncate(index);
 }
@@ -60,6 +64,8 @@ pub fn split_off_then(set: &mut VecSet<u32>, index: usize) -> Result<VecSet<u32>
     ensures distinct { IfOk result (λ made. IsDistinct nat_eq set.new.elements × IsDistinct nat_eq
         made.elements) }
     ensures unchanged { OnErr result (set.new ≡ set.old) }
+    ensures list { OnOk result (set.new.elements ≡ take index set.old.elements) }
+    ensures capacity { set.new.capacity ≡ set.old.capacity }
 {
     set.split_off(index)
 }
@@ -69,6 +75,7 @@ pub fn clear_then(set: &mut VecSet<u32>)
     ensures length { length set.new.elements ≡ 0 }
     ensures distinct { IsDistinct nat_eq set.new.elements }
     ensures empty { set.new.elements ≡ [] }
+    ensures capacity { set.new.capacity ≡ set.old.capacity }
 {
     set.clear();
 }
@@ -78,6 +85,7 @@ pub fn retain_then(set: &mut VecSet<u32>, item: u32)
         set.old.elements q && nat_lt q item) }
     ensures length { length set.new.elements ≤ length set.old.elements }
     ensures distinct { IsDistinct nat_eq set.new.elements }
+    ensures capacity { set.new.capacity ≡ set.old.capacity }
 {
     set.retain(|x| *x < item);
 }
@@ -89,6 +97,7 @@ pub fn drain_then(set: &mut VecSet<u32>, index: usize)
     ensures length { index ≤ length set.old.elements → length set.new.elements ≡ index }
     ensures distinct { IsDistinct nat_eq set.new.elements }
     ensures ends { 0 < index → slice_get set.new.elements 0 ≡ slice_get set.old.elements 0 }
+    ensures capacity { set.new.capacity ≡ set.old.capacity }
 {
     for _item in set.drain(index..) {}
 }

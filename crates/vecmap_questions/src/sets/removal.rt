@@ -3,7 +3,7 @@ ghost use Rattle.std.specs.Prelude.{◌≡◌, ◌+◌, ◌<◌, ◌&&◌, ℕ, 
 ghost use Rattle.std.specs.List.{IsDistinct, list_any};
 ghost use Rattle.std.specs.Set.{is_member};
 ghost use Rattle.std.specs.declared.alloc.Global.{Global};
-ghost use Rattle.vecmap.specs.Items.{item_index};
+ghost use Rattle.vecmap.specs.Items.{item_index, without_item};
 ghost use Rattle.vecmap.specs.Pairs.{has_text};
 
 use std::alloc::Global;
@@ -21,6 +21,8 @@ pub fn remove_then(set: &mut VecSet<u32>, item: u32)
         else 0) ≡ length set.old.elements }
     ensures distinct { IsDistinct nat_eq set.new.elements }
     ensures unchanged { is_member nat_eq set.old.elements item ≡ false → set.new ≡ set.old }
+    ensures list { set.new.elements ≡ without_item nat_eq set.old.elements item }
+    ensures capacity { set.new.capacity ≡ set.old.capacity }
 {
     set.remove(&item);
 }
@@ -66,6 +68,7 @@ pub fn remove_str_then_by_text(set: &mut VecSet<String>, text: &str)
     ensures length { length set.new.elements + (if list_any (has_text text.now) set.old.elements
         then 1 else 0) ≡ length set.old.elements }
     ensures unchanged { list_any (has_text text.now) set.old.elements ≡ false → set.new ≡ set.old }
+    ensures capacity { set.new.capacity ≡ set.old.capacity }
 {
     set.remove_str(text);
 }
@@ -79,6 +82,8 @@ pub fn take_then(set: &mut VecSet<u32>, item: u32)
         else 0) ≡ length set.old.elements }
     ensures distinct { IsDistinct nat_eq set.new.elements }
     ensures unchanged { is_member nat_eq set.old.elements item ≡ false → set.new ≡ set.old }
+    ensures list { set.new.elements ≡ without_item nat_eq set.old.elements item }
+    ensures capacity { set.new.capacity ≡ set.old.capacity }
 {
     set.take(&item);
 }

@@ -1,7 +1,7 @@
 //! Sorts.
 ghost use Rattle.std.specs.Prelude.{◌≡◌, ◌<◌, ℕ, IfErr, IfOk, IsTrue, OnErr, OnOk, false, length, nat_eq, true};
 ghost use Rattle.std.specs.List.{IsDistinct};
-ghost use Rattle.std.specs.List.Sorted.{IsSorted};
+ghost use Rattle.std.specs.List.Sorted.{IsPermutation, IsSorted};
 ghost use Rattle.std.specs.Ordering.{nat_cmp};
 ghost use Rattle.std.specs.Set.{is_member};
 ghost use Rattle.vecmap.specs.Equality.{has_same_items};
@@ -20,6 +20,8 @@ pub fn sort_then(set: &mut VecSet<u32>) -> Result<(), AllocError>
     ensures empty { OnOk result (0 < length set.old.elements → 0 < length set.new.elements) }
     ensures unchanged { OnErr result (set.new ≡ set.old) }
     ensures order { OnOk result (IsSorted nat_cmp set.new.elements) }
+    ensures list { OnOk result (IsPermutation set.old.elements set.new.elements) }
+    ensures capacity { OnOk result (set.new.capacity ≡ set.old.capacity) }
 {
     set.sort()?;
     Ok(())
@@ -34,6 +36,8 @@ pub fn sort_by_then(set: &mut VecSet<u32>) -> Result<(), AllocError>
     ensures distinct { OnOk result (IsDistinct nat_eq set.new.elements) }
     ensures equal { OnOk result (IsTrue (has_same_items nat_eq set.new.elements set.old.elements)) }
     ensures unchanged { OnErr result (set.new ≡ set.old) }
+    ensures list { OnOk result (IsPermutation set.old.elements set.new.elements) }
+    ensures capacity { OnOk result (set.new.capacity ≡ set.old.capacity) }
 {
     set.sort_by(|x, y| y.cmp(x))?;
     Ok(())
@@ -48,6 +52,8 @@ pub fn sort_by_cached_key_then(set: &mut VecSet<u32>) -> Result<(), AllocError>
     ensures distinct { OnOk result (IsDistinct nat_eq set.new.elements) }
     ensures equal { OnOk result (IsTrue (has_same_items nat_eq set.new.elements set.old.elements)) }
     ensures unchanged { OnErr result (set.new ≡ set.old) }
+    ensures list { OnOk result (IsPermutation set.old.elements set.new.elements) }
+    ensures capacity { OnOk result (set.new.capacity ≡ set.old.capacity) }
 {
     set.sort_by_cached_key(|x| *x)?;
     Ok(())
@@ -63,6 +69,8 @@ pub fn sort_unstable_then(set: &mut VecSet<u32>)
     ensures equal { IsTrue (has_same_items nat_eq set.new.elements set.old.elements) }
     ensures empty { 0 < length set.old.elements → 0 < length set.new.elements }
     ensures order { IsSorted nat_cmp set.new.elements }
+    ensures list { IsPermutation set.old.elements set.new.elements }
+    ensures capacity { set.new.capacity ≡ set.old.capacity }
 {
     set.sort_unstable();
 }
@@ -75,6 +83,8 @@ pub fn sort_unstable_by_then(set: &mut VecSet<u32>)
     ensures length { length set.new.elements ≡ length set.old.elements }
     ensures distinct { IsDistinct nat_eq set.new.elements }
     ensures equal { IsTrue (has_same_items nat_eq set.new.elements set.old.elements) }
+    ensures list { IsPermutation set.old.elements set.new.elements }
+    ensures capacity { set.new.capacity ≡ set.old.capacity }
 {
     set.sort_unstable_by(|x, y| y.cmp(x));
 }

@@ -1,8 +1,8 @@
 //! Removals that move the last element, and removals by an index.
-ghost use Rattle.std.specs.Prelude.{◌≡◌, ◌+◌, ◌-◌, ◌<◌, ◌≤◌, ◌&&◌, ℕ, [], None, Some, false, if◌then◌else◌, length, nat_eq, not, slice_get};
+ghost use Rattle.std.specs.Prelude.{◌≡◌, ◌+◌, ◌-◌, ◌<◌, ◌≤◌, ◌&&◌, ℕ, [], None, Some, false, if◌then◌else◌, length, nat_eq, not, remove, slice_get};
 ghost use Rattle.std.specs.List.{IsDistinct};
 ghost use Rattle.std.specs.Set.{is_member};
-ghost use Rattle.vecmap.specs.Items.{item_index};
+ghost use Rattle.vecmap.specs.Items.{item_index, swap_without, swap_without_item};
 
 use vecmap::VecSet;
 
@@ -15,6 +15,8 @@ pub fn swap_remove_then(set: &mut VecSet<u32>, item: u32)
         else 0) ≡ length set.old.elements }
     ensures distinct { IsDistinct nat_eq set.new.elements }
     ensures unchanged { is_member nat_eq set.old.elements item ≡ false → set.new ≡ set.old }
+    ensures list { set.new.elements ≡ swap_without_item nat_eq set.old.elements item }
+    ensures capacity { set.new.capacity ≡ set.old.capacity }
 {
     set.swap_remove(&item);
 }
@@ -27,6 +29,8 @@ pub fn swap_take_then(set: &mut VecSet<u32>, item: u32)
         else 0) ≡ length set.old.elements }
     ensures distinct { IsDistinct nat_eq set.new.elements }
     ensures unchanged { is_member nat_eq set.old.elements item ≡ false → set.new ≡ set.old }
+    ensures list { set.new.elements ≡ swap_without_item nat_eq set.old.elements item }
+    ensures capacity { set.new.capacity ≡ set.old.capacity }
 {
     set.swap_take(&item);
 }
@@ -44,6 +48,8 @@ pub fn remove_index_then(set: &mut VecSet<u32>, index: usize) -> u32
         i }
     ensures distinct { IsDistinct nat_eq set.new.elements }
     ensures empty { length set.old.elements ≡ 1 → set.new.elements ≡ [] }
+    ensures list { set.new.elements ≡ remove set.old.elements index }
+    ensures capacity { set.new.capacity ≡ set.old.capacity }
 {
     set.remove_index(index)
 }
@@ -60,6 +66,8 @@ pub fn swap_remove_index_then(set: &mut VecSet<u32>, index: usize) -> u32
     ensures order { (i : ℕ) → i < index → slice_get set.new.elements i ≡ slice_get set.old.elements
         i }
     ensures distinct { IsDistinct nat_eq set.new.elements }
+    ensures list { set.new.elements ≡ swap_without set.old.elements index }
+    ensures capacity { set.new.capacity ≡ set.old.capacity }
 {
     set.swap_remove_index(index)
 }
