@@ -2,12 +2,12 @@
 //!
 //! An entry holds the map, the key that was passed to `entry`, and the index of that key. A clause `writes_back` says
 //! what the map is once the returned reference has ended.
-ghost use Rattle.std.specs.Prelude.{◌≡◌, ◌⊎◌, Err, IfErr, IfOk, IfSome, None, Ok, OnErr, Some, unwrap_or};
+ghost use Rattle.std.specs.Prelude.{◌≡◌, ◌⊎◌, Err, IfErr, IfOk, None, Ok, OnErr, Some, unwrap_or};
 ghost use Rattle.std.specs.Borrow.{Bor, MutBor, sem};
 ghost use Rattle.std.specs.Fn.{FnOnceReturnsAt};
 ghost use Rattle.std.specs.Map.Calls.{ModifiesValue};
 ghost use Rattle.std.specs.Option.{UnwrapsOrElse, option_map_or};
-ghost use Rattle.vecmap_base.specs.Indices.{AddsKey, ShiftsIndices};
+ghost use Rattle.vecmap_base.specs.Indices.{AddsKey};
 ghost use Rattle.vecmap_base.specs.Lookups.{Updates};
 ghost use Rattle.vecmap_base.specs.Pairs.{HasDistinctKeys, index_of, lookup, put};
 ghost use Rattle.vecmap_map.specs.Contents.{IsFull};
@@ -71,8 +71,6 @@ impl<K, V> VecMap<K, V> {
         ensures updates { (v : V) → Updates K.eq self.old.entries key
             (entries_with result v) (Some v) }
         ensures keys { (v : V) → AddsKey K.eq self.old.entries key v (entries_with result v) }
-        ensures indices { IfSome (index_of K.eq self.old.entries key)
-            (λ i. ShiftsIndices i self.old.entries (entries_without result)) }
         ensures removal { HasDistinctKeys K.eq self.old.entries
             → Updates K.eq self.old.entries key (entries_without result) None }
         ensures swap_removal { HasDistinctKeys K.eq self.old.entries

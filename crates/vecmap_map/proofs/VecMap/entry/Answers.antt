@@ -1,5 +1,5 @@
 use Rattle.vecmap_map.proofs.EntryLemmas.Puts.{entries_swap_without_by, entries_with_put, entries_without_by, entry_value_is}
-use Rattle.vecmap_base.proofs.PairsLemmas.AtIndices.{adds_key, shifts_without}
+use Rattle.vecmap_base.proofs.PairsLemmas.AtIndices.{adds_key}
 use Rattle.vecmap_base.proofs.PairsLemmas.Lookups.{updates_of_put}
 use Rattle.vecmap_base.proofs.PairsLemmas.Updates.{updates_of_swap_without, updates_of_without}
 use Rattle.vecmap_map.proofs.VecMap.entry.Goals as goal
@@ -27,6 +27,3 @@ returns-clause-swap_removal g c = λ d.
 
 pub returns-clause-keys : goal.returns-clause-keys
 returns-clause-keys g c = λ v. adds_key g.K.PartialEq.eq g.met.K.Eq.laws _ _ _ _ (returns-clause-put g c v)
-
-pub returns-clause-indices : goal.returns-clause-indices
-returns-clause-indices g c = shifts_without (g.K.PartialEq.eq c.args.key) _ _ (entries_without_by g.K.PartialEq.eq _ _ _ c.over.ensures.unchanged c.over.ensures.index)
