@@ -191,9 +191,11 @@ def examples():
             lines = (line for block in text.split("```")[1::2] for line in block.splitlines()[1:])
             shown = (line for line in lines if line and not line.startswith("//"))
             yield from ((("example", f"{crate_of(path)}: {name}"), "", line) for line in shown)
-    for path in files("crates/vecmap_examples/proofs/Definitions/*.antt"):
+    # An earlier state has them in a folder of `vecmap_examples`.
+    for path in files("crates/vecmap_definitions/proofs/*.antt", "crates/vecmap_examples/proofs/Definitions/*.antt"):
         for name, text in declarations(path).items():
-            yield ("example", f"vecmap_examples: {module_of(path)}.{name}"), "", " ".join(text.split())
+            module = os.path.basename(path).removesuffix(".antt")
+            yield ("example", f"vecmap_definitions: {module}.{name}"), "", " ".join(text.split())
 
 
 def lines():

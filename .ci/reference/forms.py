@@ -179,7 +179,7 @@ def labelled(text):
 def field_examples():
     """Returns what an example says of a field of a record, by both names."""
     lemma = re.compile(r"^ *\w+-(\w+) : (\w+) [^→]*→ (.*)$", re.MULTILINE)
-    found = (lemma.findall(read(it)) for it in files("crates/vecmap_examples/proofs/Definitions/*.antt"))
+    found = (lemma.findall(read(it)) for it in files("crates/vecmap_definitions/proofs/*.antt"))
     return {(record, field): text for lemmas in found for field, record, text in lemmas}
 
 

@@ -26,18 +26,18 @@ same_stored_laws : IsEquivalence same_stored
 same_stored_laws = on_equiv (λ m. m.entries) (map_equality_laws str_eq_ignore_ascii_case string_eq ignoring_case_equiv string_equality)
 
 -- Equal strings have equal bytes.
-same_texts : (o p : Option (String Global)) → IsTrue (option_eq string_eq o p) ↔ (option_map string_bytes o ≡ option_map string_bytes p)
-same_texts None None = (λ _. refl, λ _. refl)
-same_texts None (Some w) = (λ h. absurd (true≢false (sym h)), λ h. absurd (cc))
-same_texts (Some v) None = (λ h. absurd (true≢false (sym h)), λ h. absurd (cc))
-same_texts (Some v) (Some w) =
+same_text_options : (o p : Option (String Global)) → IsTrue (option_eq string_eq o p) ↔ (option_map string_bytes o ≡ option_map string_bytes p)
+same_text_options None None = (λ _. refl, λ _. refl)
+same_text_options None (Some w) = (λ h. absurd (true≢false (sym h)), λ h. absurd (cc))
+same_text_options (Some v) None = (λ h. absurd (true≢false (sym h)), λ h. absurd (cc))
+same_text_options (Some v) (Some w) =
     let d = bytes_eq-Decides (string_bytes v) (string_bytes w) in
     (λ h. ap (λ b. Some b) (d.0 h), λ h. d.1 (cc))
 
 sections_agree : (a b : Section) → IsSection a → IsSection b → IsTrue (same_section a b) ↔ ((n : List ℕ) → text_in a n ≡ text_in b n)
 sections_agree a b s t =
     let e = equal_where_lookups_agree str_eq_ignore_ascii_case string_eq ignoring_case_equiv string_equality a b s.distinct t.distinct in
-    let texts = λ (n : List ℕ). same_texts (lookup str_eq_ignore_ascii_case a n) (lookup str_eq_ignore_ascii_case b n) in
+    let texts = λ (n : List ℕ). same_text_options (lookup str_eq_ignore_ascii_case a n) (lookup str_eq_ignore_ascii_case b n) in
     (λ h n. (texts n).0 (e.0 h n), λ h. e.1 (λ n. (texts n).1 (h n)))
 
 -- A section has some text.

@@ -21,8 +21,8 @@ others_after l new s m g q n = ap (λ k. lookup str_eq_ignore_ascii_case k q) g 
 
 -- The existing section `s` becomes `new`.
 module _ (c : Contents (List ℕ) Stored) (s : List ℕ) (new : Stored) (there : IsSome (index_of str_eq_ignore_ascii_case c.entries s)) where
-  pub others_stay : (q : List ℕ) → str_eq_ignore_ascii_case s q ≡ false → lookup str_eq_ignore_ascii_case (with_value_of str_eq_ignore_ascii_case c s new).entries q ≡ lookup str_eq_ignore_ascii_case c.entries q
-  others_stay = others_after c.entries (with_value_of str_eq_ignore_ascii_case c s new).entries s new (with_value_of_is_put str_eq_ignore_ascii_case c s new there)
+  pub other_values_stay : (q : List ℕ) → str_eq_ignore_ascii_case s q ≡ false → lookup str_eq_ignore_ascii_case (with_value_of str_eq_ignore_ascii_case c s new).entries q ≡ lookup str_eq_ignore_ascii_case c.entries q
+  other_values_stay = others_after c.entries (with_value_of str_eq_ignore_ascii_case c s new).entries s new (with_value_of_is_put str_eq_ignore_ascii_case c s new there)
 
   -- The lookup of its name finds `new`.
   found_new : (q : List ℕ) → str_eq_ignore_ascii_case s q ≡ true → (o : Stored) → lookup str_eq_ignore_ascii_case (with_value_of str_eq_ignore_ascii_case c s new).entries q ≡ Some o → new ≡ o
@@ -47,7 +47,7 @@ module _ (c : Contents (List ℕ) Stored) (s : List ℕ) (new : Stored) (there :
             let same = ap length f in
             let after : HasRoom new n = omega (arith, before, same, g) in
             subst (λ (x : Stored). HasRoom x n) (found_new q y o w) after
-        | inr y ↦ room o (sym (others_stay q y) ∙ w)
+        | inr y ↦ room o (sym (other_values_stay q y) ∙ w)
       ]
 
 -- If a section of another name is inserted, the others keep their spare capacity.

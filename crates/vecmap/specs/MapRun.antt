@@ -1,5 +1,5 @@
--- What the commands of `run` do to a map, in order. `proofs/Definitions/MapRun.antt` of `vecmap_examples` has an
--- example of each line of `ListStep` and of `CapacityStep`.
+-- What the commands of `run` do to a map, in order. `proofs/MapRun.antt` of `vecmap_definitions` has an example of each line
+-- of `ListStep` and of `CapacityStep`.
 use Rattle.std.specs.Prelude.{◌≡◌, ◌-◌, ◌<◌, ◌≤◌, ◌++◌, None, Bool, IsSomeAnd, List, Option, [], ◌∷◌, drop, is_some, length, not, remove, reverse, slice_get, swap, take, ⊤}
 use Rattle.std.specs.Option.{option_map_or}
 use Rattle.std.specs.declared.clone.Clone as clone
@@ -10,7 +10,7 @@ use Rattle.vecmap.specs.declared.map_run.reply.MapReply.TheVariants.{Done, Full,
 use Rattle.vecmap_base.specs.Clones.{ArePairClones, IsCloneOf, IsPairClone}
 use Rattle.vecmap_base.specs.Equality.{has_same_counts}
 use Rattle.vecmap_base.specs.Items.{swap_without}
-use Rattle.vecmap_base.specs.Pairs.{index_of, index_or_length, lookup, lookup_full, lookup_pair, put, put_at, put_key, puts, swap_without_key, without_key}
+use Rattle.vecmap_base.specs.Pairs.{index_of, index_or_length, lookup, lookup_indexed, lookup_pair, put, put_at, put_key, puts, swap_without_key, without_key}
 use Rattle.vecmap_map.specs.Contents.{Contents, HasRoom, IsFull, KeepsRoom}
 
 module _ {K V : Type 0} (values : clone.Ghosts V) where
@@ -41,18 +41,18 @@ module _ {K V : Type 0} (eq : K → K → Bool) (eq_value : V → V → Bool) (k
   abbrev pub ListStep : List (K × V) → MapCommand K V → MapReply K V → List (K × V) → Type 0
   ListStep l (Insert k v) (Value old) m = (old ≡ lookup eq l k) × (m ≡ put eq l k v)
   ListStep l (Insert k v) NoMemory m = (index_of eq l k ≡ None) × (m ≡ l)
-  ListStep l (InsertFull k v) (Full place old) m = (place ≡ index_or_length eq l k) × (old ≡ lookup eq l k) × (m ≡ put eq l k v)
+  ListStep l (InsertFull k v) (Full index old) m = (index ≡ index_or_length eq l k) × (old ≡ lookup eq l k) × (m ≡ put eq l k v)
   ListStep l (InsertFull k v) NoMemory m = (index_of eq l k ≡ None) × (m ≡ l)
-  ListStep l (InsertAt i k v) (Moved old) m = (i ≤ length l) × (old ≡ lookup_full eq l k) × (m ≡ put_at eq l i k v)
+  ListStep l (InsertAt i k v) (Moved old) m = (i ≤ length l) × (old ≡ lookup_indexed eq l k) × (m ≡ put_at eq l i k v)
   ListStep l (InsertAt i k v) OutOfRange m = (length l < i) × (m ≡ l)
   ListStep l (InsertAt i k v) NoMemory m = (i ≤ length l) × (index_of eq l k ≡ None) × (m ≡ l)
   ListStep l (InsertKey k v) (Pair old) m = (old ≡ lookup_pair eq l k) × (m ≡ put_key eq l k v)
   ListStep l (InsertKey k v) NoMemory m = (index_of eq l k ≡ None) × (m ≡ l)
-  ListStep l (OrInsert k v) (Kept place added) m = (place ≡ index_or_length eq l k) × (added ≡ not (is_some (index_of eq l k))) × (m ≡ option_map_or (λ i. l) (index_of eq l k) (l ++ (k, v) ∷ []))
+  ListStep l (OrInsert k v) (Kept index added) m = (index ≡ index_or_length eq l k) × (added ≡ not (is_some (index_of eq l k))) × (m ≡ option_map_or (λ i. l) (index_of eq l k) (l ++ (k, v) ∷ []))
   ListStep l (OrInsert k v) NoMemory m = (index_of eq l k ≡ None) × (m ≡ l)
   ListStep l (Get k) reply m = RepliesValue values (lookup eq l k) reply × (m ≡ l)
   ListStep l (GetIndex i) reply m = RepliesPair keys values (slice_get l i) reply × (m ≡ l)
-  ListStep l (IndexOf k) (Place place) m = (place ≡ index_of eq l k) × (m ≡ l)
+  ListStep l (IndexOf k) (Place index) m = (index ≡ index_of eq l k) × (m ≡ l)
   ListStep l (ContainsKey k) (Truth there) m = (there ≡ is_some (index_of eq l k)) × (m ≡ l)
   ListStep l First reply m = RepliesPair keys values (slice_get l 0) reply × (m ≡ l)
   ListStep l Last reply m = RepliesPair keys values (slice_get l (length l - 1)) reply × (m ≡ l)

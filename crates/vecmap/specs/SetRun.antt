@@ -1,5 +1,5 @@
--- What the commands of `run_set` do to a set, in order. `proofs/Definitions/SetRun.antt` of `vecmap_examples` has an
--- example of each line of `ListStep` and of `CapacityStep`.
+-- What the commands of `run_set` do to a set, in order. `proofs/SetRun.antt` of `vecmap_definitions` has an example of each line
+-- of `ListStep` and of `CapacityStep`.
 use Rattle.std.specs.Prelude.{◌≡◌, ◌-◌, ◌<◌, ◌≤◌, ◌↔◌, Bool, Err, IsSomeAnd, IsTrue, List, Ok, Option, Result, [], ◌∷◌, drop, false, length, not, remove, reverse, slice_get, swap, take, ⊤}
 use Rattle.std.specs.List.{IsDistinct}
 use Rattle.std.specs.Set.{is_member}
@@ -52,7 +52,7 @@ module _ {T : Type 0} (eq : T → T → Bool) (clones : clone.Ghosts T) where
   ListStep l (Replace x) NoMemory m = (is_member eq l x ≡ false) × (m ≡ l)
   ListStep l (Get x) reply m = RepliesItem clones (stored_item eq l x) reply × (m ≡ l)
   ListStep l (GetIndex i) reply m = RepliesItem clones (slice_get l i) reply × (m ≡ l)
-  ListStep l (IndexOf x) (Place place) m = (place ≡ item_index eq l x) × (m ≡ l)
+  ListStep l (IndexOf x) (Place index) m = (index ≡ item_index eq l x) × (m ≡ l)
   ListStep l (Contains x) (Truth there) m = (there ≡ is_member eq l x) × (m ≡ l)
   ListStep l First reply m = RepliesItem clones (slice_get l 0) reply × (m ≡ l)
   ListStep l Last reply m = RepliesItem clones (slice_get l (length l - 1)) reply × (m ≡ l)

@@ -38,11 +38,11 @@ module _ {X : Type 0} where
       let long : length front ≡ i = omega (arith, length-take i xs) in
       let behind : length (reverse back) ≡ k - i = omega (arith, length-reverse back, length-drop j xs) in
       let both : length (front ++ reverse back) ≡ k = omega (arith, length-append front (reverse back), long, behind) in
-      let turned : ys ≡ front ++ (reverse back ++ reverse go) = first ∙ ap (λ l. front ++ reverse l) (drop_split xs i j order) ∙ ap (λ l. front ++ l) (reverse-append go back) in
+      let reversed : ys ≡ front ++ (reverse back ++ reverse go) = first ∙ ap (λ l. front ++ reverse l) (drop_split xs i j order) ∙ ap (λ l. front ++ l) (reverse-append go back) in
       let middle : slice_range ys i k ≡ reverse back =
-      ap (λ l. take (k - i) (drop i l)) turned ∙ ap (take (k - i)) (drop_at front (reverse back ++ reverse go) i long) ∙ take_at (reverse back) (reverse go) (k - i) behind in
-      let end : drop k ys ≡ reverse go = ap (drop k) (turned ∙ sym (append_assoc front (reverse back) (reverse go))) ∙ drop_at (front ++ reverse back) (reverse go) k both in
-      let kept : take i ys ≡ front = ap (take i) turned ∙ take_at front (reverse back ++ reverse go) i long in
+      ap (λ l. take (k - i) (drop i l)) reversed ∙ ap (take (k - i)) (drop_at front (reverse back ++ reverse go) i long) ∙ take_at (reverse back) (reverse go) (k - i) behind in
+      let end : drop k ys ≡ reverse go = ap (drop k) (reversed ∙ sym (append_assoc front (reverse back) (reverse go))) ∙ drop_at (front ++ reverse back) (reverse go) k both in
+      let kept : take i ys ≡ front = ap (take i) reversed ∙ take_at front (reverse back ++ reverse go) i long in
       second ∙ (λ t. (kept t ++ reverse (middle t)) ++ end t) ∙ ap (λ l. (front ++ l) ++ reverse go) (reverse-reverse back)
 
   -- This move loses nothing.
@@ -51,8 +51,8 @@ module _ {X : Type 0} where
       let front = take i xs in
       let go = slice_range xs i j in
       let back = drop j xs in
-      let turned = IsPermutation-append_right back go (reverse go) (IsPermutation-reverse go) in
-      let moved = IsPermutation-trans (go ++ back) (back ++ go) (back ++ reverse go) (IsPermutation-append_comm go back) turned in
+      let reversed = IsPermutation-append_right back go (reverse go) (IsPermutation-reverse go) in
+      let moved = IsPermutation-trans (go ++ back) (back ++ go) (back ++ reverse go) (IsPermutation-append_comm go back) reversed in
       let whole = IsPermutation-append_right front (go ++ back) (back ++ reverse go) moved in
       subst (λ l. IsPermutation l (remove_range xs i j ++ reverse go)) (sym (split_between xs i j order)) (subst (IsPermutation (front ++ (go ++ back))) (sym (append_assoc front back (reverse go))) whole)
 
@@ -90,13 +90,13 @@ module _ {X : Type 0} where
   none_left false xs k le = drop_all k xs le
 
   -- If the end is reversed and the flag is negated, the rest of the drain stays the same.
-  pub end_turned : (a b : Bool) (xs ys : List X) (k : ℕ) → not (beq a b) ≡ true → k ≤ length xs → ys ≡ take k xs ++ reverse (drop k xs)
+  pub end_reversed : (a b : Bool) (xs ys : List X) (k : ℕ) → not (beq a b) ≡ true → k ≤ length xs → ys ≡ take k xs ++ reverse (drop k xs)
       → (reverse_if b (drop k ys) ≡ reverse_if a (drop k xs)) × (take k ys ≡ take k xs)
   unfolding reverse_if
-  end_turned a b xs ys k apart le turned =
+  end_reversed a b xs ys k apart le reversed =
       let long : length (take k xs) ≡ k = omega (arith, length-take k xs) in
-      let back = ap (drop k) turned ∙ drop_at (take k xs) (reverse (drop k xs)) k long in
-      (by a b apart back, ap (take k) turned ∙ take_at (take k xs) (reverse (drop k xs)) k long)
+      let back = ap (drop k) reversed ∙ drop_at (take k xs) (reverse (drop k xs)) k long in
+      (by a b apart back, ap (take k) reversed ∙ take_at (take k xs) (reverse (drop k xs)) k long)
     where
       by : (a b : Bool) → not (beq a b) ≡ true → drop k ys ≡ reverse (drop k xs) → reverse_if b (drop k ys) ≡ reverse_if a (drop k xs)
       by true true apart back = absurd (true≢false (sym apart))

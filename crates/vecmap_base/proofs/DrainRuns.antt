@@ -5,7 +5,7 @@ use Rattle.std.proofs.Common.{ap, subst}
 use Rattle.std.proofs.iter.runs.Sources.{as_is, as_is_back, from_back, from_front}
 use Rattle.std.proofs.lemmas.List.{length_push}
 use Rattle.vecmap_base.specs.Drain.{DrainsFirst, DrainsLast, KeepsAlong}
-use Rattle.vecmap_base.proofs.DrainLemmas.{end_turned, first_pulled, last_pulled, length_rest, none_left, part_at_end, parts_of_moved}
+use Rattle.vecmap_base.proofs.DrainLemmas.{end_reversed, first_pulled, last_pulled, length_rest, none_left, part_at_end, parts_of_moved}
 
 module _ {D A : Type 0} (rest : D → List A) (Keeps : D → D → Type 0) where
   -- Calls of `next` return the rest in order.
@@ -28,4 +28,4 @@ module _ {D A : Type 0} (rest : D → List A) (Keeps : D → D → Type 0) where
     keeps_along_back s (x ∷ xs) t y = on s y.0 t y.1.1 (keeps_along_back y.0 xs t y.2)
 
 -- The lemmas for the goals of the calls of a drain.
-pub ruleset drains = (length_rest, none_left, part_at_end, parts_of_moved, end_turned, first_pulled, last_pulled, keeps_along, keeps_along_back, length_push)
+pub ruleset drains = (length_rest, none_left, part_at_end, parts_of_moved, end_reversed, first_pulled, last_pulled, keeps_along, keeps_along_back, length_push)

@@ -24,11 +24,11 @@ differ n i h e = true≢false (sym (eq-eqb n i e) ∙ h)
 
 module _ {X : Type 0} where
   -- The list `xs` with its part of length `k` from the index `a` on rotated by `n` to the left.
-  abbrev turned : List X → ℕ → ℕ → ℕ → List X
-  turned xs a k n = take a xs ++ ((drop n (take k (drop a xs)) ++ take n (take k (drop a xs))) ++ drop k (drop a xs))
+  abbrev rotated : List X → ℕ → ℕ → ℕ → List X
+  rotated xs a k n = take a xs ++ ((drop n (take k (drop a xs)) ++ take n (take k (drop a xs))) ++ drop k (drop a xs))
 
   -- The item at `from` moves to a later index.
-  pub moved_up : (xs : List X) (from to k : ℕ) (d : X) → k + from ≡ to + 1 → from < to → to < length xs → turned xs from k 1 ≡ insert (remove xs from) to (get_or xs from d)
+  pub moved_up : (xs : List X) (from to k : ℕ) (d : X) → k + from ≡ to + 1 → from < to → to < length xs → rotated xs from k 1 ≡ insert (remove xs from) to (get_or xs from d)
   moved_up [] from to k d e above within = absurd (omega arith)
   moved_up (x ∷ xs) zero to k d e above within =
       let long : k ≡ suc to = omega arith in
@@ -38,7 +38,7 @@ module _ {X : Type 0} where
       ap (λ l. x ∷ l) (moved_up xs from to k d (omega arith) (omega arith) (omega arith))
 
   -- The item at `from` moves to an earlier index.
-  pub moved_down : (xs : List X) (from to k n : ℕ) (d : X) → k + to ≡ from + 1 → n + 1 ≡ k → to ≤ from → from < length xs → turned xs to k n ≡ insert (remove xs from) to (get_or xs from d)
+  pub moved_down : (xs : List X) (from to k n : ℕ) (d : X) → k + to ≡ from + 1 → n + 1 ≡ k → to ≤ from → from < length xs → rotated xs to k n ≡ insert (remove xs from) to (get_or xs from d)
   moved_down [] from to k n d e f below within = absurd (omega arith)
   moved_down (x ∷ xs) from zero k n d e f below within =
       let long : k ≡ from + 1 = omega arith in

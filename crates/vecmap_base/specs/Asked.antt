@@ -24,12 +24,12 @@ CallsAtItem c f x b y g = CalledAt c f x b g × (y ≡ x)
 
 module _ {F K V : Type 0} where
   -- The closure may be called at the pair `p`, with its value to write.
-  abbrev pub TakesPairAt : Mut F (Bor K × (MutBor V × Unit {0})) (Bool × (MutBor V × Unit {0})) → F → K × V → Type 0
-  TakesPairAt c f p = TakesPair c f p.0 p.1
+  abbrev pub CallableAtPair : Mut F (Bor K × (MutBor V × Unit {0})) (Bool × (MutBor V × Unit {0})) → F → K × V → Type 0
+  CallableAtPair c f p = TakesPair c f p.0 p.1
 
   -- The closure may be called at the pair `p`, with its key and its value to write.
-  abbrev pub TakesPairMut : Mut F (MutBor K × (MutBor V × Unit {0})) (Bool × (MutBor K × (MutBor V × Unit {0}))) → F → K × V → Type 0
-  TakesPairMut c f p = (k : MutBor K) (v : MutBor V) → k.now ≡ p.0 → v.now ≡ p.1 → Takes c f (k, (v, tt))
+  abbrev pub CallableAtPairMut : Mut F (MutBor K × (MutBor V × Unit {0})) (Bool × (MutBor K × (MutBor V × Unit {0}))) → F → K × V → Type 0
+  CallableAtPairMut c f p = (k : MutBor K) (v : MutBor V) → k.now ≡ p.0 → v.now ≡ p.1 → Takes c f (k, (v, tt))
 
   -- Example: a closure that adds 1 to the value: from `(1,5)` to `(1,6)`.
   -- A call over `&K` and `&mut V` at the pair `p` may return `b`, and leave the pair `q` and the closure `g`.

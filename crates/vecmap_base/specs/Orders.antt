@@ -26,21 +26,21 @@ CallableBelow g f n = (i : ℕ) → i < n → g.pre f (i, tt)
 
 -- Example: a closure that returns the value.
 -- Each call of `f`, at an item, returns `h` of it.
-abbrev pub AnswersOnItem : {F T R : Type 0} → Shared F (Bor T × Unit {0}) R → (T → R) → F → Type 0
-AnswersOnItem {F} {T} {R} g h f = (x : Bor T) (r : R) → g.post f (x, tt) r → r ≡ h x.now
+abbrev pub ReturnsOnItem : {F T R : Type 0} → Shared F (Bor T × Unit {0}) R → (T → R) → F → Type 0
+ReturnsOnItem {F} {T} {R} g h f = (x : Bor T) (r : R) → g.post f (x, tt) r → r ≡ h x.now
 
 -- Example: a closure that indexes a table by each item, of items in its range.
 -- Each call of `f`, at an item of `xs`, returns `h` of it.
-abbrev pub AnswersOnItems : {F T R : Type 0} → Shared F (Bor T × Unit {0}) R → (T → R) → F → List T → Type 0
-AnswersOnItems {F} {T} {R} g h f xs = (x : Bor T) (r : R) → Contains xs x.now → g.post f (x, tt) r → r ≡ h x.now
+abbrev pub ReturnsOnItems : {F T R : Type 0} → Shared F (Bor T × Unit {0}) R → (T → R) → F → List T → Type 0
+ReturnsOnItems {F} {T} {R} g h f xs = (x : Bor T) (r : R) → Contains xs x.now → g.post f (x, tt) r → r ≡ h x.now
 
 -- Each call of `f`, at a key and its value, returns `h` of the pair.
-abbrev pub AnswersOnPair : {F K V R : Type 0} → Shared F (Bor K × (Bor V × Unit {0})) R → (K × V → R) → F → Type 0
-AnswersOnPair {F} {K} {V} {R} g h f = (k : Bor K) (v : Bor V) (r : R) → g.post f (k, (v, tt)) r → r ≡ h (k.now, v.now)
+abbrev pub ReturnsOnPair : {F K V R : Type 0} → Shared F (Bor K × (Bor V × Unit {0})) R → (K × V → R) → F → Type 0
+ReturnsOnPair {F} {K} {V} {R} g h f = (k : Bor K) (v : Bor V) (r : R) → g.post f (k, (v, tt)) r → r ≡ h (k.now, v.now)
 
 -- Each call of `f`, at the key and the value of a pair of `l`, returns `h` of it.
-abbrev pub AnswersOnPairs : {F K V R : Type 0} → Shared F (Bor K × (Bor V × Unit {0})) R → (K × V → R) → F → List (K × V) → Type 0
-AnswersOnPairs {F} {K} {V} {R} g h f l = (k : Bor K) (v : Bor V) (r : R) → Contains l (k.now, v.now) → g.post f (k, (v, tt)) r → r ≡ h (k.now, v.now)
+abbrev pub ReturnsOnPairs : {F K V R : Type 0} → Shared F (Bor K × (Bor V × Unit {0})) R → (K × V → R) → F → List (K × V) → Type 0
+ReturnsOnPairs {F} {K} {V} {R} g h f l = (k : Bor K) (v : Bor V) (r : R) → Contains l (k.now, v.now) → g.post f (k, (v, tt)) r → r ≡ h (k.now, v.now)
 
 -- Example: `side true ≡ Less`.
 -- How an item compares with a partition point: an item that passes is less, and an item that fails is greater.
@@ -49,8 +49,8 @@ side passes = cond passes Less Greater
 
 -- Example: a closure that compares the item at its index with 3.
 -- Each call of `f`, at the index of an item of `xs`, returns `h` of the item.
-abbrev pub AnswersAtIndex : {F T R : Type 0} → Shared F (ℕ × Unit {0}) R → (T → R) → F → List T → Type 0
-AnswersAtIndex {F} {T} {R} g h f xs = (i : ℕ) (r : R) → i < length xs → g.post f (i, tt) r → HoldsAt (λ x. r ≡ h x) xs i
+abbrev pub ReturnsAtIndex : {F T R : Type 0} → Shared F (ℕ × Unit {0}) R → (T → R) → F → List T → Type 0
+ReturnsAtIndex {F} {T} {R} g h f xs = (i : ℕ) (r : R) → i < length xs → g.post f (i, tt) r → HoldsAt (λ x. r ≡ h x) xs i
 
 module _ {F K V : Type 0} (g : Shared F ((Bor K × Bor V) × ((Bor K × Bor V) × Unit {0})) Ordering) where
   -- Example: a closure that compares the values.
@@ -71,8 +71,8 @@ module _ {F K V T : Type 0} (g : Shared F (Bor K × (Bor V × Unit {0})) T) (cmp
   -- Example: by the key `value`: `[(b,1), (c,1), (a,2)]` of `[(b,1), (a,2), (c,1)]`.
   -- The pairs ascend by the sort keys that `f` returns, if these are the values of a function.
   abbrev pub IsSortedByPairKey : F → List (K × V) → Type 0
-  IsSortedByPairKey f l = (key : K × V → T) → AnswersOnPair g key f → IsSortedByKey key cmp l
+  IsSortedByPairKey f l = (key : K × V → T) → ReturnsOnPair g key f → IsSortedByKey key cmp l
 
   -- Pairs whose sort keys tie are in the same order in `m` as in `l`.
   abbrev pub IsStableByPairKey : F → List (K × V) → List (K × V) → Type 0
-  IsStableByPairKey f l m = (key : K × V → T) → AnswersOnPair g key f → IsStableByKey key cmp l m
+  IsStableByPairKey f l m = (key : K × V → T) → ReturnsOnPair g key f → IsStableByKey key cmp l m

@@ -1,5 +1,5 @@
 -- Lists of pairs of a key and a value, as an ordered map sees them. `eq` is the `==` of keys. Lookups, insertions and
--- removals are by recursion, with the definitions of std where std has them. Only `lookup_full`, `put_at` and
+-- removals are by recursion, with the definitions of std where std has them. Only `lookup_indexed`, `put_at` and
 -- `swap_without_by` go by the index of a key. In the examples, `1x` and `1y` are keys that `eq` calls equal, and are not
 -- the same.
 use Rattle.std.specs.Prelude.{ℕ, suc, ◌-◌, Bool, List, [], ◌∷◌, None, Option, Some, String, bytes_eq, if◌then◌else◌, fold, insert, length, map, min, remove, slice_get, slice_set, string_bytes, unwrap_or}
@@ -78,10 +78,10 @@ module _ {K V : Type 0} (eq : K → K → Bool) where
   abbrev pub lookup_pair : List (K × V) → K → Option (K × V)
   lookup_pair l k = lookup_pair_by (eq k) l
 
-  -- Example: `lookup_full eq [(1x, a)] 1y ≡ Some (0, a)`.
+  -- Example: `lookup_indexed eq [(1x, a)] 1y ≡ Some (0, a)`.
   -- The index and the value of the first pair whose key is equal to `k`.
-  abbrev pub lookup_full : List (K × V) → K → Option (ℕ × V)
-  lookup_full l k = option_and_then (λ i. option_map (λ v. (i, v)) (value_at l i)) (index_of l k)
+  abbrev pub lookup_indexed : List (K × V) → K → Option (ℕ × V)
+  lookup_indexed l k = option_and_then (λ i. option_map (λ v. (i, v)) (value_at l i)) (index_of l k)
 
   -- Example: `put eq [(1x, a)] 1y b ≡ [(1x, b)]`; `put eq [(1x, a)] 2y b ≡ [(1x, a), (2y, b)]`.
   -- The list `l` after an insertion: an existing key keeps its index and gets the value, and a new pair is appended.

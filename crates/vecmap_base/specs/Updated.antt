@@ -33,8 +33,8 @@ module _ {F X : Type 0} (R : F → X → X → F → Type 0) where
 
 module _ {F K V R : Type 0} (c : Mut F (Bor K × (MutBor V × Unit {0})) (R × (MutBor V × Unit {0}))) where
   -- The closure may be called at the pair `p`, with its value to write.
-  abbrev pub TakesValueAt : F → K × V → Type 0
-  TakesValueAt f p = (k : Bor K) (v : MutBor V) → k.now ≡ p.0 → v.now ≡ p.1 → Takes c f (k, (v, tt))
+  abbrev pub CallableAtValue : F → K × V → Type 0
+  CallableAtValue f p = (k : Bor K) (v : MutBor V) → k.now ≡ p.0 → v.now ≡ p.1 → Takes c f (k, (v, tt))
 
   -- A call at a `&` to `k` and a `&mut` to `v` may return `r`, and leave `w` there and the closure `g`.
   pub record WritesValue (r : R) (f : F) (k : K) (v w : V) (g : F) : Type 0 where
@@ -53,7 +53,7 @@ module _ {F K V R : Type 0} (c : Mut F (Bor K × (MutBor V × Unit {0})) (R × (
   -- Example: a closure that adds 1 may be called at pairs whose values are below the greatest.
   -- The closure may be called at each pair of `l`, in the state that the calls before have left, which returned `r`.
   abbrev pub CallableOnValues : R → F → List (K × V) → Type 0
-  CallableOnValues r f l = CallableOnEach (Keeping (WritesValueAt r)) TakesValueAt f l
+  CallableOnValues r f l = CallableOnEach (Keeping (WritesValueAt r)) CallableAtValue f l
 
 module _ {F K V E : Type 0} (c : Mut F (Bor K × (MutBor V × Unit {0})) (Result (Unit {0}) E × (MutBor V × Unit {0}))) where
   -- The list `m` has the pairs that were passed as the calls left them, and the others as they were.

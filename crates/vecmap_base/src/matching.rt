@@ -38,7 +38,7 @@ fn pairs_match<K: Eq, V: PartialEq>(a: &[(K, V)], b: &[(K, V)], taken: &mut [boo
     taken[1 + first] = true;
     for i in 1..a.len() {
         match find_free(b, taken, &a[i]) {
-            Some(place) => taken[place] = true,
+            Some(index) => taken[index] = true,
             None => return false,
         }
     }

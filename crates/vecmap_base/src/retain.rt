@@ -5,7 +5,7 @@ ghost use Rattle.std.specs.Fn.{TakesAt};
 ghost use Rattle.std.specs.List.{list_any};
 ghost use Rattle.std.specs.Map.{IsKeyTest};
 ghost use Rattle.std.specs.Option.{option_and_then};
-ghost use Rattle.vecmap_base.specs.Asked.{CallableOnEach, CallsAtItem, CallsAtPair, CallsAtPairMut, TakesPairAt, TakesPairMut};
+ghost use Rattle.vecmap_base.specs.Asked.{CallableAtPair, CallableAtPairMut, CallableOnEach, CallsAtItem, CallsAtPair, CallsAtPairMut};
 ghost use Rattle.vecmap_base.specs.Kept.{FiltersValues, KeepsKeys, Kept, KeptSoFar, ReturnsAt, ReturnsAtKey};
 ghost use Rattle.vecmap_base.specs.Pairs.{HasDistinctKeys, lookup_by};
 
@@ -34,7 +34,7 @@ pub fn retain_pairs<K: Drop, V: Drop, F: FnMut(&K, &mut V) -> bool + Drop>(
     f: F,
 )
     requires callable { CallableOnEach (CallsAtPair F.FnMut)
-        (TakesPairAt F.FnMut) f pairs.old.items }
+        (CallableAtPair F.FnMut) f pairs.old.items }
     ensures lookups { (h : V → Option V) → FiltersValues (CallsAtPair F.FnMut) f h
         → (test : K → Bool) (eq : K → K → Bool) → HasDistinctKeys eq pairs.old.items
         → IsKeyTest eq test
@@ -71,7 +71,7 @@ pub fn retain_pairs_mut<K: Drop, V: Drop, F: FnMut(&mut K, &mut V) -> bool + Dro
     f: F,
 )
     requires callable { CallableOnEach (CallsAtPairMut F.FnMut)
-        (TakesPairMut F.FnMut) f pairs.old.items }
+        (CallableAtPairMut F.FnMut) f pairs.old.items }
     ensures lookups { (h : V → Option V) → KeepsKeys (CallsAtPairMut F.FnMut)
         → FiltersValues (CallsAtPairMut F.FnMut) f h → (test : K → Bool) (eq : K → K → Bool)
         → HasDistinctKeys eq pairs.old.items → IsKeyTest eq test
@@ -137,7 +137,7 @@ struct PairMutForm;
 struct ItemForm;
 
 impl<K, V, F: FnMut(&K, &mut V) -> bool + Drop> Predicate<(K, V), PairForm> for F {
-    ghost accepts = { TakesPairAt F.FnMut };
+    ghost accepts = { CallableAtPair F.FnMut };
 
     ghost step = { CallsAtPair F.FnMut };
 
@@ -148,7 +148,7 @@ impl<K, V, F: FnMut(&K, &mut V) -> bool + Drop> Predicate<(K, V), PairForm> for 
 }
 
 impl<K, V, F: FnMut(&mut K, &mut V) -> bool + Drop> Predicate<(K, V), PairMutForm> for F {
-    ghost accepts = { TakesPairMut F.FnMut };
+    ghost accepts = { CallableAtPairMut F.FnMut };
 
     ghost step = { CallsAtPairMut F.FnMut };
 

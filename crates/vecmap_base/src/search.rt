@@ -8,7 +8,7 @@ ghost use Rattle.std.specs.Prelude.{◌≡◌, ℕ, ◌+◌, ◌^◌, ◌<◌, �
 ghost use Rattle.std.specs.List.{All, HoldsAt};
 ghost use Rattle.std.specs.List.Sorted.{IsBinarySearchResult, IsPartitionPoint, IsPartitionedBy, IsSearchInRange};
 ghost use Rattle.std.specs.declared.cmp.Ordering.{Ordering};
-ghost use Rattle.vecmap_base.specs.Orders.{AnswersAtIndex, AnswersOnItems, CallableBelow, CallableOnItem, side};
+ghost use Rattle.vecmap_base.specs.Orders.{CallableBelow, CallableOnItem, ReturnsAtIndex, ReturnsOnItems, side};
 
 use crate::unrolled::is_small;
 use std::cmp::Ordering;
@@ -40,7 +40,7 @@ use std::cmp::Ordering;
 pub fn search_by_index<C, T, F: Fn(usize) -> Ordering>(items: &[T], f: F) -> Result<usize, usize>
     requires callable { CallableBelow F.Fn f (length items.now) }
     ensures within { IsSearchInRange result (length items.now) }
-    ensures index { (ord : T → Ordering) → AnswersAtIndex F.Fn ord f items.now
+    ensures index { (ord : T → Ordering) → ReturnsAtIndex F.Fn ord f items.now
         → IsBinarySearchResult ord items.now result }
 {
     let len = items.len();
@@ -93,7 +93,7 @@ pub fn search_by_index<C, T, F: Fn(usize) -> Ordering>(items: &[T], f: F) -> Res
 pub fn partition_point<C, T, P: Fn(&T) -> bool>(items: &[T], pred: P) -> usize
     requires callable { All (CallableOnItem P.Fn pred) items.now }
     ensures within { result ≤ length items.now }
-    ensures index { (p : T → Bool) → AnswersOnItems P.Fn p pred items.now
+    ensures index { (p : T → Bool) → ReturnsOnItems P.Fn p pred items.now
         → IsPartitionedBy p items.now
         → IsPartitionPoint (λ x. p x ≡ true) (λ x. p x ≡ false) items.now result }
 {
@@ -102,7 +102,7 @@ pub fn partition_point<C, T, P: Fn(&T) -> bool>(items: &[T], pred: P) -> usize
         |index: usize| -> Ordering
             requires callable { All (CallableOnItem P.Fn pred) items.now }
             requires within { index < length items.now }
-            ensures { (p : T → Bool) → AnswersOnItems P.Fn p pred items.entry.now
+            ensures { (p : T → Bool) → ReturnsOnItems P.Fn p pred items.entry.now
                 → HoldsAt (λ x. result ≡ side (p x)) items.entry.now index }
         {
             if pred(&items[index]) {

@@ -3,7 +3,7 @@ ghost use Rattle.std.specs.Prelude.{◌≡◌, Bool, IfErr, Ok, OnOk, length, ma
 ghost use Rattle.std.specs.Map.{keys_of};
 ghost use Rattle.std.specs.Option.{option_map};
 ghost use Rattle.vecmap_base.specs.Pairs.{lookup_by};
-ghost use Rattle.vecmap_base.specs.Updated.{AlwaysComputes, CallableOnValues, Computes, StoppedAt, TakesValueAt, Updated, WritesValueAt};
+ghost use Rattle.vecmap_base.specs.Updated.{AlwaysComputes, CallableAtValue, CallableOnValues, Computes, StoppedAt, Updated, WritesValueAt};
 
 /// Like [`update_pairs`](crate::update_pairs), but stops at the first `Err` that `f` returns, and leaves the values
 /// written so far.
@@ -69,7 +69,7 @@ fn try_value<K, V, E, F: FnMut(&K, &mut V) -> Result<(), E>>(
     f: &mut F,
     pair: &mut (K, V),
 ) -> Result<(), E>
-    requires callable { TakesValueAt F.FnMut f.old pair.old }
+    requires callable { CallableAtValue F.FnMut f.old pair.old }
     ensures called { WritesValueAt F.FnMut result f.old pair.old pair.new f.new }
 {
     f(&pair.0, &mut pair.1)

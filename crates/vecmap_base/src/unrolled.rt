@@ -6,7 +6,7 @@
 //! the first that passes.
 ghost use Rattle.std.specs.Prelude.{◌≡◌, ◌+◌, ◌<◌, ◌≤◌, ◌||◌, Bool, IfSome, None, false, length, position, take};
 ghost use Rattle.std.specs.List.{list_any};
-ghost use Rattle.vecmap_base.specs.Orders.{AnswersOnItem};
+ghost use Rattle.vecmap_base.specs.Orders.{ReturnsOnItem};
 
 use std::mem::{ManuallyDrop, align_of_val, size_of_val};
 
@@ -28,7 +28,7 @@ pub(crate) fn find_pair_unrolled<'a, K, V, F: Fn(&'a K) -> bool>(
     asks: F,
 ) -> Option<usize>
     requires { F.IsAlwaysCallable asks }
-    ensures index { (p : K → Bool) → AnswersOnItem F.Fn p asks
+    ensures index { (p : K → Bool) → ReturnsOnItem F.Fn p asks
         → result ≡ position (λ pair. p pair.0) pairs.now }
     ensures within { IfSome result (λ i. i < length pairs.now) }
 {
@@ -55,7 +55,7 @@ pub(crate) fn find_item_unrolled<'a, T, F: Fn(&'a T) -> bool>(
     asks: F,
 ) -> Option<usize>
     requires { F.IsAlwaysCallable asks }
-    ensures index { (p : T → Bool) → AnswersOnItem F.Fn p asks → result ≡ position p items.now }
+    ensures index { (p : T → Bool) → ReturnsOnItem F.Fn p asks → result ≡ position p items.now }
     ensures within { IfSome result (λ i. i < length items.now) }
 {
     let fours = items.len() / 4;
@@ -80,7 +80,7 @@ pub(crate) fn find_item_unrolled<'a, T, F: Fn(&'a T) -> bool>(
 // Returns the index of the first item for which `asks` returns `true`. It asks about eight items before it branches.
 pub(crate) fn find_by_eights<'a, T, F: Fn(&'a T) -> bool>(items: &'a [T], asks: F) -> Option<usize>
     requires { F.IsAlwaysCallable asks }
-    ensures index { (p : T → Bool) → AnswersOnItem F.Fn p asks → result ≡ position p items.now }
+    ensures index { (p : T → Bool) → ReturnsOnItem F.Fn p asks → result ≡ position p items.now }
     ensures within { IfSome result (λ i. i < length items.now) }
 {
     let eights = items.len() / 8;
@@ -98,12 +98,12 @@ pub(crate) fn find_by_eights<'a, T, F: Fn(&'a T) -> bool>(items: &'a [T], asks: 
 fn find_of_eight<'a, T, F: Fn(&'a T) -> bool>(items: &'a [T], at: usize, asks: &F) -> Option<usize>
     requires callable { F.IsAlwaysCallable asks.now }
     requires within { at + 8 ≤ length items.now }
-    requires none_before { (p : T → Bool) → AnswersOnItem F.Fn p asks.now
+    requires none_before { (p : T → Bool) → ReturnsOnItem F.Fn p asks.now
         → position p (take at items.now) ≡ None }
-    ensures index { (p : T → Bool) → AnswersOnItem F.Fn p asks.now
+    ensures index { (p : T → Bool) → ReturnsOnItem F.Fn p asks.now
         → IfSome result (λ i. position p items.now ≡ Some i) }
     ensures within { IfSome result (λ i. i < length items.now) }
-    ensures none { result ≡ None → (p : T → Bool) → AnswersOnItem F.Fn p asks.now
+    ensures none { result ≡ None → (p : T → Bool) → ReturnsOnItem F.Fn p asks.now
         → position p (take (at + 8) items.now) ≡ None }
 {
     let a = asks(&items[at]);
@@ -145,9 +145,9 @@ fn find_of_eight<'a, T, F: Fn(&'a T) -> bool>(items: &'a [T], at: usize, asks: &
 // returns `false`.
 fn find_from<'a, T, F: Fn(&'a T) -> bool>(items: &'a [T], from: usize, asks: F) -> Option<usize>
     requires callable { F.IsAlwaysCallable asks }
-    requires none_before { (p : T → Bool) → AnswersOnItem F.Fn p asks
+    requires none_before { (p : T → Bool) → ReturnsOnItem F.Fn p asks
         → position p (take from items.now) ≡ None }
-    ensures index { (p : T → Bool) → AnswersOnItem F.Fn p asks → result ≡ position p items.now }
+    ensures index { (p : T → Bool) → ReturnsOnItem F.Fn p asks → result ≡ position p items.now }
     ensures within { IfSome result (λ i. i < length items.now) }
 {
     for index in from..items.len() {
@@ -162,7 +162,7 @@ fn find_from<'a, T, F: Fn(&'a T) -> bool>(items: &'a [T], from: usize, asks: F) 
 // about the others one by one.
 pub(crate) fn is_any_in_blocks<'a, T, F: Fn(&'a T) -> bool>(items: &'a [T], asks: F) -> bool
     requires { F.IsAlwaysCallable asks }
-    ensures { (p : T → Bool) → AnswersOnItem F.Fn p asks → result ≡ list_any p items.now }
+    ensures { (p : T → Bool) → ReturnsOnItem F.Fn p asks → result ≡ list_any p items.now }
 {
     let eights = items.len() / 8;
     for eight in 0..eights {
@@ -184,7 +184,7 @@ pub(crate) fn is_any_in_blocks<'a, T, F: Fn(&'a T) -> bool>(items: &'a [T], asks
 fn is_any_of_eight<'a, T, F: Fn(&'a T) -> bool>(items: &'a [T], at: usize, asks: &F) -> bool
     requires callable { F.IsAlwaysCallable asks.now }
     requires within { at + 8 ≤ length items.now }
-    ensures { (p : T → Bool) → AnswersOnItem F.Fn p asks.now
+    ensures { (p : T → Bool) → ReturnsOnItem F.Fn p asks.now
         → list_any p (take (at + 8) items.now) ≡ (list_any p (take at items.now) || result) }
 {
     is_any_of_four(items, at, asks) | is_any_of_four(items, at + 4, asks)
@@ -194,7 +194,7 @@ fn is_any_of_eight<'a, T, F: Fn(&'a T) -> bool>(items: &'a [T], at: usize, asks:
 fn is_any_of_four<'a, T, F: Fn(&'a T) -> bool>(items: &'a [T], at: usize, asks: &F) -> bool
     requires callable { F.IsAlwaysCallable asks.now }
     requires within { at + 4 ≤ length items.now }
-    ensures { (p : T → Bool) → AnswersOnItem F.Fn p asks.now
+    ensures { (p : T → Bool) → ReturnsOnItem F.Fn p asks.now
         → list_any p (take (at + 4) items.now) ≡ (list_any p (take at items.now) || result) }
 {
     let a = asks(&items[at]);
@@ -207,9 +207,9 @@ fn is_any_of_four<'a, T, F: Fn(&'a T) -> bool>(items: &'a [T], at: usize, asks: 
 // Returns `true` if `asks` does for one of the items from `from` on. For each item before `from` it returns `false`.
 fn is_any_from<'a, T, F: Fn(&'a T) -> bool>(items: &'a [T], from: usize, asks: F) -> bool
     requires callable { F.IsAlwaysCallable asks }
-    requires none_before { (p : T → Bool) → AnswersOnItem F.Fn p asks
+    requires none_before { (p : T → Bool) → ReturnsOnItem F.Fn p asks
         → list_any p (take from items.now) ≡ false }
-    ensures { (p : T → Bool) → AnswersOnItem F.Fn p asks → result ≡ list_any p items.now }
+    ensures { (p : T → Bool) → ReturnsOnItem F.Fn p asks → result ≡ list_any p items.now }
 {
     for index in from..items.len() {
         if asks(&items[index]) {

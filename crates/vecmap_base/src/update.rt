@@ -3,7 +3,7 @@ ghost use Rattle.std.specs.Prelude.{◌≡◌, Bool, length, map};
 ghost use Rattle.std.specs.Map.{keys_of};
 ghost use Rattle.std.specs.Option.{option_map};
 ghost use Rattle.vecmap_base.specs.Pairs.{lookup_by};
-ghost use Rattle.vecmap_base.specs.Updated.{AlwaysComputes, CallableOnValues, Computes, TakesValueAt, Updated, WritesValueAt};
+ghost use Rattle.vecmap_base.specs.Updated.{AlwaysComputes, CallableAtValue, CallableOnValues, Computes, Updated, WritesValueAt};
 
 /// Calls `f` with each key and a mutable reference to its value, in order.
 ///
@@ -44,7 +44,7 @@ pub fn update_pairs<K, V, F: FnMut(&K, &mut V) + Drop>(pairs: &mut [(K, V)], mut
 
 // Calls `f` for a pair. `f` may write the value.
 fn write_value<K, V, F: FnMut(&K, &mut V)>(f: &mut F, pair: &mut (K, V))
-    requires callable { TakesValueAt F.FnMut f.old pair.old }
+    requires callable { CallableAtValue F.FnMut f.old pair.old }
     ensures called { WritesValueAt F.FnMut tt f.old pair.old pair.new f.new }
 {
     f(&pair.0, &mut pair.1);

@@ -7,7 +7,7 @@
 //! ```
 ghost use Rattle.std.specs.Borrow.{Bor};
 ghost use Rattle.std.specs.Prelude.{◌≡◌, Bool, IfOk, filter, not};
-ghost use Rattle.vecmap.specs.Orders.{AnswersOnPair};
+ghost use Rattle.vecmap.specs.Orders.{ReturnsOnPair};
 ghost use Rattle.vecmap.specs.Pairs.{HasDistinctKeys};
 
 use std::alloc::{AllocError, Global};
@@ -22,9 +22,9 @@ pub fn partition_by<K: Eq + Drop, V: Drop, F: Fn(&K, &V) -> bool>(
 ) -> Result<(VecMap<K, V>, VecMap<K, V>), AllocError>
     requires callable { F.IsAlwaysCallable pred.now }
     requires distinct { HasDistinctKeys K.eq map.entries }
-    ensures passing { (test : K × V → Bool) → AnswersOnPair F.Fn test pred.now
+    ensures passing { (test : K × V → Bool) → ReturnsOnPair F.Fn test pred.now
         → IfOk result (λ parts. parts.0.entries ≡ filter test map.entries) }
-    ensures failing { (test : K × V → Bool) → AnswersOnPair F.Fn test pred.now
+    ensures failing { (test : K × V → Bool) → ReturnsOnPair F.Fn test pred.now
         → IfOk result (λ parts. parts.1.entries
         ≡ filter (λ pair. not (test pair)) map.entries) }
 {

@@ -11,7 +11,7 @@ use Rattle.vecmap_laws.proofs.HeadLemmas.{head_has_no_value, rest_is_distinct}
 use Rattle.vecmap_laws.proofs.Lookups.{look, lookup_congr}
 use Rattle.vecmap_laws.proofs.MapEquality.{equal_where_lookups_agree}
 use Rattle.vecmap_laws.proofs.Parts.{lookup_append}
-use Rattle.vecmap_laws.proofs.RemovalLemmas.{lookup_by_index, remove_leaves}
+use Rattle.vecmap_laws.proofs.RemovalLemmas.{remove_leaves, value_by_index}
 use Rattle.vecmap_laws.proofs.Finds.{lookup_drop, lookup_take}
 
 module _ {K V : Type 0} (eq : K → K → Bool) (o : IsEquivalence eq) where
@@ -47,7 +47,7 @@ module _ {K V : Type 0} (eq : K → K → Bool) (value : V → V → Bool) (o : 
           let rest = remove b at.0 in
           let moved = remove_leaves b at.0 (k, w) at.3 in
           let others : SameLookups ps rest = (λ q.
-          let taken = lookup_by_index remove remove_leaves eq o b f at.0 k w at.3 q in
+          let taken = value_by_index remove remove_leaves eq o b f at.0 k w at.3 q in
           elim (cases_Bool (eq p.0 q)) [
             | inl i ↦
                 (λ t. option_eq value ((lookup_congr eq o ps q p.0 (o.symm q p.0 ∙ i) ∙ head_has_no_value eq p ps d) t) ((taken ∙ ap (λ c. if c then None else lookup eq b q) (sym (o.congr p.0 k q at.4) ∙ i)) t))

@@ -12,11 +12,11 @@ use Rattle.vecmap_base.specs.Pairs.{HasDistinctKeys, lookup, lookup_by}
 use Rattle.vecmap_base.proofs.{DistinctLemmas.Order.distinct_rearranged, PairsLemmas.Updates.lookup_by_taken}
 use Rattle.vecmap_laws.proofs.HeadLemmas.{head_not_in_rest}
 use Rattle.vecmap_base.proofs.PairsLemmas.Order.{pair_of_value}
-use Rattle.vecmap_set.proofs.IndexLemmas.{stored_at}
+use Rattle.vecmap_set.proofs.IndexLemmas.{found_item_at}
 
 -- The item at the first index that passes.
 pub passing_at : {X : Type 0} (p : X → Bool) (xs : List X) (i : ℕ) → position p xs ≡ Some i → (x : X) × (slice_get xs i ≡ Some x) × IsTrue (p x)
-passing_at p xs i e = stored_at p xs (Some i) (sym e)
+passing_at p xs i e = found_item_at p xs (Some i) (sym e)
 
 module _ {X : Type 0} where
   pub remove_leaves : (xs : List X) (i : ℕ) (x : X) → slice_get xs i ≡ Some x → IsPermutation xs (x ∷ remove xs i)
@@ -93,5 +93,5 @@ module _ {X : Type 0} (takes : List X → ℕ → List X) (leaves : (xs : List X
 -- The same of pairs.
 module _ {K V : Type 0} (takes : List (K × V) → ℕ → List (K × V)) (leaves : (l : List (K × V)) (i : ℕ) (p : K × V) → slice_get l i ≡ Some p → IsPermutation l (p ∷ takes l i)) where
   module _ (eq : K → K → Bool) (o : IsEquivalence eq) where
-    pub lookup_by_index : (l : List (K × V)) → HasDistinctKeys eq l → (i : ℕ) (k : K) (v : V) → slice_get l i ≡ Some (k, v) → (q : K) → lookup eq (takes l i) q ≡ (if eq k q then None else lookup eq l q)
-    lookup_by_index l d i k v at = lookup_taken eq o l (takes l i) (k, v) (leaves l i (k, v) at) d
+    pub value_by_index : (l : List (K × V)) → HasDistinctKeys eq l → (i : ℕ) (k : K) (v : V) → slice_get l i ≡ Some (k, v) → (q : K) → lookup eq (takes l i) q ≡ (if eq k q then None else lookup eq l q)
+    value_by_index l d i k v at = lookup_taken eq o l (takes l i) (k, v) (leaves l i (k, v) at) d

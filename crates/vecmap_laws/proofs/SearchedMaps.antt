@@ -39,13 +39,13 @@ module _ {K V : Type 0} (eq : K → K → Bool) (cmp : K → K → Ordering) (o 
       let here : eq k q.0 ≡ true = symmetric q.0 k ∙ matches q.0 k ∙ ap is_eq (at p) in
       sym (ap is_some (index_by_is (eq k) (p ∷ ps)) ∙ is_some_position (λ r. eq k r.0) (p ∷ ps) ∙ list_any_at (λ r. eq k r.0) (p ∷ ps) i p within here)
     where
-      turned : (r : Ordering) → is_eq (ordering_reverse r) ≡ is_eq r
-      turned Less = refl
-      turned Equal = refl
-      turned Greater = refl
+      eq_reversed : (r : Ordering) → is_eq (ordering_reverse r) ≡ is_eq r
+      eq_reversed Less = refl
+      eq_reversed Equal = refl
+      eq_reversed Greater = refl
 
       symmetric : (x y : K) → eq y x ≡ eq x y
-      symmetric x y = matches y x ∙ ap is_eq (o.antisymm y x) ∙ turned (cmp x y) ∙ sym (matches x y)
+      symmetric x y = matches y x ∙ ap is_eq (o.antisymm y x) ∙ eq_reversed (cmp x y) ∙ sym (matches x y)
   search_finds l sorted k (Err i) within ends = sym (ap is_some (absent_index l sorted k i ends))
 
 -- The same at numbers.

@@ -4,13 +4,13 @@ use Rattle.std.specs.Prelude.{◌≡◌, ◌+◌, Bool, IsTrue, List, length}
 use Rattle.std.specs.List.{IsDistinct}
 use Rattle.vecmap_base.specs.Equality.{has_same_items}
 use Rattle.std.specs.Set.{is_member}
-use Rattle.vecmap_set.specs.Lazy.{longer_first, sift_of_shorter, sift_rest, union_rest}
+use Rattle.vecmap_set.specs.Lazy.{filtered_of_shorter, filtered_rest, longer_first, union_rest}
 
 module _ {T : Type 0} (eq : T → T → Bool) where
   -- Example: `lazy_intersection nat_eq [1, 2, 3] [3, 1] ≡ [3, 1]`.
   -- What the call `intersection` yields: the elements of the shorter list that are in the other.
   abbrev pub lazy_intersection : List T → List T → List T
-  lazy_intersection a b = sift_rest (is_member eq) (sift_of_shorter a b)
+  lazy_intersection a b = filtered_rest (is_member eq) (filtered_of_shorter a b)
 
   -- Example: `lazy_union nat_eq [1] [2, 1] ≡ [2, 1]`.
   -- What the call `union` yields: all of the longer list, and then the elements of the other that are not in it.

@@ -8,8 +8,8 @@ use Rattle.vecmap_base.proofs.PairsLemmas.{AtIndices.index_stays, ByIndex.index_
 use Rattle.vecmap_map.specs.Contents.{Contents, FindsOrAppends, with_entries, with_written}
 
 -- A map whose vector of n pairs was borrowed is `m` with what was last written.
-pub written_back : {K V : Type 0} (v m : Contents K V) → v ≡ m → (n : ℕ) → n ≡ length v.entries → (w : List (K × V)) → with_entries v (refill n v.entries w) ≡ with_written m w
-written_back v m e n long w = ap (λ k. with_entries v (refill k v.entries w)) long ∙ ap (λ c. with_written c w) e
+pub refilled_back : {K V : Type 0} (v m : Contents K V) → v ≡ m → (n : ℕ) → n ≡ length v.entries → (w : List (K × V)) → with_entries v (refill n v.entries w) ≡ with_written m w
+refilled_back v m e n long w = ap (λ k. with_entries v (refill k v.entries w)) long ∙ ap (λ c. with_written c w) e
 
 module _ {K V : Type 0} (test : K → Bool) (made : K × V → Type 0) where
   -- If a key matches, nothing changes.

@@ -155,7 +155,7 @@ impl<'a, K: Drop, V: Drop> Drain<'a, K, V> {
 impl<'a, K, V> Drain<'a, K, V> {
     // Reverses the remaining pairs unless they are in the wanted order.
     #[tactic(auto, using(vecmap_base::proofs::DrainRuns::drains))]
-    fn put_in_order(&mut self, reversed: bool)
+    fn set_reversed(&mut self, reversed: bool)
         requires { self.old.keep ≤ length self.old.map.now.entries }
         ensures ordered { self.new.reversed ≡ reversed }
         ensures keep { self.new.keep ≡ self.old.keep }
@@ -198,7 +198,7 @@ impl<'a, K: Drop, V: Drop> Iterator for Drain<'a, K, V> {
         if self.map.len() <= self.keep {
             return None;
         }
-        self.put_in_order(true);
+        self.set_reversed(true);
         let map = &mut *self.map;
         Some(map.pairs.take_last())
     }
@@ -220,7 +220,7 @@ impl<'a, K: Drop, V: Drop> DoubleEndedIterator for Drain<'a, K, V> {
         if self.map.len() <= self.keep {
             return None;
         }
-        self.put_in_order(false);
+        self.set_reversed(false);
         let map = &mut *self.map;
         Some(map.pairs.take_last())
     }

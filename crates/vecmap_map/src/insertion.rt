@@ -2,7 +2,7 @@
 ghost use Rattle.std.specs.Prelude.{◌≡◌, ◌++◌, ◌∷◌, ◌<◌, ◌≤◌, ◌⊎◌, Err, IfErr, IfOk, IfSome, IsSome, IsTrue, None, Ok, OnErr, OnOk, Some, [], length, ◌+◌, if◌then◌else◌, is_some, min, option_map, slice_get, ◌-◌};
 ghost use Rattle.vecmap_base.specs.Indices.{AddsKey, HasMatchAt, InsertsAt, PutsKey};
 ghost use Rattle.vecmap_base.specs.Lookups.{Updates, UpdatesBy};
-ghost use Rattle.vecmap_base.specs.Pairs.{HasDistinctKeys, index_by, index_or_length, lookup, lookup_by, lookup_full, lookup_pair, put, put_at, put_key, with_value};
+ghost use Rattle.vecmap_base.specs.Pairs.{HasDistinctKeys, index_by, index_or_length, lookup, lookup_by, lookup_indexed, lookup_pair, put, put_at, put_key, with_value};
 ghost use Rattle.vecmap_map.specs.Contents.{Appends, FailsToAppend, FindsOrAppends, HasRoom, KeepsRoom, KeepsRoomAt, Refuses, RefusesAt};
 
 use crate::VecMap;
@@ -191,7 +191,7 @@ impl<K, V> VecMap<K, V> {
         requires within { index ≤ length self.old.entries }
         ensures entries { OnOk result (self.new.entries
             ≡ put_at K.eq self.old.entries index key value) }
-        ensures old { IfOk result (λ old. old ≡ lookup_full K.eq self.old.entries key) }
+        ensures old { IfOk result (λ old. old ≡ lookup_indexed K.eq self.old.entries key) }
         ensures capacity { KeepsRoom K.eq self.old key self.new }
 
         // On `Err` the pair is returned, its key is new, and the map is full.

@@ -109,7 +109,7 @@ impl<K, V> VecMap<K, V> {
             ≡ slice_get self.old.entries (length self.old.entries - 1) }
         ensures found { IsSome result ↔ (0 < length self.old.entries) }
     {
-        let (index, map) = self.with_last_index();
+        let (index, map) = self.last_index_and_map();
         map.get_index_mut(index)
     }
 
@@ -143,7 +143,7 @@ impl<K, V> VecMap<K, V> {
         ensures pair { option_map (λ found. (found.1.now, found.2.now)) result
             ≡ lookup_pair_by (Q.equivalent query) self.old.entries }
     {
-        let (place, map) = self.with_index_by(query);
+        let (place, map) = self.index_and_map(query);
         match place {
             Some(index) => Some(map.full_mut(index)),
             None => None,
@@ -358,7 +358,7 @@ impl<K, V> VecMap<K, V> {
     }
 
     // Returns the index of the first pair whose key matches `query`, and the map itself.
-    pub(crate) fn with_index_by<Q: Equivalent<K>>(
+    pub(crate) fn index_and_map<Q: Equivalent<K>>(
         &mut self,
         query: Q,
     ) -> (Option<usize>, &mut VecMap<K, V>)
@@ -373,7 +373,7 @@ impl<K, V> VecMap<K, V> {
     }
 
     // Returns the last index, or 0 if the map is empty, and the map itself.
-    fn with_last_index(&mut self) -> (usize, &mut VecMap<K, V>)
+    fn last_index_and_map(&mut self) -> (usize, &mut VecMap<K, V>)
         ensures index { result.0 ≡ length self.old.entries - 1 }
         ensures same_map { result.1.ghost_name ≡ self.entry.ghost_name }
         ensures unchanged { result.1.now ≡ self.old }

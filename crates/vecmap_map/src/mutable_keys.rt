@@ -3,7 +3,7 @@ ghost use Rattle.std.specs.Prelude.{◌≡◌, ◌<◌, ◌↔◌, Bool, IfSome,
 ghost use Rattle.std.specs.Borrow.{sem};
 ghost use Rattle.std.specs.Map.{IsKeyTest, keys_of};
 ghost use Rattle.std.specs.Option.{option_and_then};
-ghost use Rattle.vecmap_base.specs.Asked.{CallableOnEach, CallsAtPairMut, TakesPairMut};
+ghost use Rattle.vecmap_base.specs.Asked.{CallableAtPairMut, CallableOnEach, CallsAtPairMut};
 ghost use Rattle.vecmap_base.specs.Iterators.{ShowsAllOf, deref_both_mut, deref_mut, iter_mut2_name, iter_mut2_rest, keys_mut_name, keys_mut_rest};
 ghost use Rattle.vecmap_base.specs.Kept.{FiltersValues, KeepsKeys, Kept, Retains};
 ghost use Rattle.vecmap_base.specs.Pairs.{HasDistinctKeys, index_by, lookup_by, lookup_pair_by};
@@ -106,7 +106,7 @@ pub trait MutableKeys: sealed::Sealed {
         Self::Key: Drop,
         Self::Value: Drop,
         F: Drop,
-        requires callable { CallableOnEach (CallsAtPairMut F.FnMut) (TakesPairMut F.FnMut) f
+        requires callable { CallableOnEach (CallsAtPairMut F.FnMut) (CallableAtPairMut F.FnMut) f
             (pairs self.old) };
 
     /// Returns an iterator over the pairs in order, each as `(&mut K, &mut V)`; a write may create duplicate keys.
@@ -194,7 +194,7 @@ impl<K, V> MutableKeys for VecMap<K, V> {
         ensures pair { option_map (λ found. (found.1.now, found.2.now)) result
             ≡ lookup_pair_by (Q.equivalent query) self.old.entries }
     {
-        let (place, map) = self.with_index_by(query);
+        let (place, map) = self.index_and_map(query);
         match place {
             Some(index) => {
                 let (key, value) = parts_mut(map.whole_pair_mut(index));
@@ -222,7 +222,12 @@ impl<K, V> MutableKeys for VecMap<K, V> {
         V: Drop,
         F: Drop,
         requires callable { CallableOnEach (CallsAtPairMut F.FnMut)
-            (TakesPairMut F.FnMut) f self.old.entries }
+            (CallableAtPairMut F.FnMut) f self.old.entries }
+        ensures retained { (g : F) × Kept
+            (CallsAtPairMut F.FnMut) f self.old.entries self.new.entries g }
+        ensures capacity { self.new.capacity ≡ self.old.capacity }
+
+        // What follows for lookups, lengths and indices.
         ensures lookups { (h : V → Option V) → KeepsKeys (CallsAtPairMut F.FnMut)
             → FiltersValues (CallsAtPairMut F.FnMut) f h → (test : K → Bool) (eq : K → K → Bool)
             → HasDistinctKeys eq self.old.entries → IsKeyTest eq test
@@ -230,9 +235,6 @@ impl<K, V> MutableKeys for VecMap<K, V> {
             ≡ option_and_then h (lookup_by test self.old.entries) }
         ensures distinct { KeepsKeys (CallsAtPairMut F.FnMut) → (eq : K → K → Bool)
             → HasDistinctKeys eq self.old.entries → HasDistinctKeys eq self.new.entries }
-        ensures retained { (g : F) × Kept
-            (CallsAtPairMut F.FnMut) f self.old.entries self.new.entries g }
-        ensures capacity { self.new.capacity ≡ self.old.capacity }
         ensures left { Retains
             (CallsAtPairMut F.FnMut) f self.old.entries self.new.entries }
     {

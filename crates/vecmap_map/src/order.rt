@@ -7,7 +7,7 @@ ghost use Rattle.std.specs.Ordering.{is_lt};
 ghost use Rattle.vecmap_base.specs.Items.{moved};
 ghost use Rattle.vecmap_base.specs.Indices.{MovesIndex};
 ghost use Rattle.vecmap_base.specs.Lookups.{IsReordered};
-ghost use Rattle.vecmap_base.specs.Orders.{AnswersOnPair, ComparesPairsAs, IsSortedByPairClosure, IsSortedByPairKey, IsStableByPairClosure, IsStableByPairKey};
+ghost use Rattle.vecmap_base.specs.Orders.{ComparesPairsAs, IsSortedByPairClosure, IsSortedByPairKey, IsStableByPairClosure, IsStableByPairKey, ReturnsOnPair};
 ghost use Rattle.vecmap_base.specs.Pairs.{HasDistinctKeys, index_by};
 
 use crate::VecMap;
@@ -239,7 +239,7 @@ impl<K, V> VecMap<K, V> {
         self.pairs.sort_by_cached_key(
             |a: &(K, V)| -> T
                 requires { F.IsAlwaysCallable f }
-                ensures { (key : K × V → T) → AnswersOnPair F.Fn key f → result ≡ key a.now }
+                ensures { (key : K × V → T) → ReturnsOnPair F.Fn key f → result ≡ key a.now }
             { f(&a.0, &a.1) },
         )
     }

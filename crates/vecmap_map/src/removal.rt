@@ -1,7 +1,7 @@
 //! Removal of pairs.
 ghost use Rattle.std.specs.Prelude.{◌≡◌, IfNone, IfSome, ◌-◌, ◌<◌, ◌≤◌, IfOk, IsOk, OnErr, OnOk, Some, String, [], drop, length, remove, slice_get, take};
 ghost use Rattle.vecmap_base.specs.Items.{swap_without};
-ghost use Rattle.vecmap_base.specs.Asked.{CallableOnEach, CallsAtPair, TakesPairAt};
+ghost use Rattle.vecmap_base.specs.Asked.{CallableAtPair, CallableOnEach, CallsAtPair};
 ghost use Rattle.vecmap_base.specs.Kept.{FiltersValues, Kept, Retains, ReturnsAtKey};
 ghost use Rattle.std.specs.Map.{IsKeyTest, keys_of};
 ghost use Rattle.std.specs.Option.{option_and_then, option_or};
@@ -148,7 +148,7 @@ impl<K, V> VecMap<K, V> {
         V: Drop,
         F: Drop,
         requires callable { CallableOnEach (CallsAtPair F.FnMut)
-            (TakesPairAt F.FnMut) f self.old.entries }
+            (CallableAtPair F.FnMut) f self.old.entries }
         ensures retained { (g : F) × Kept
             (CallsAtPair F.FnMut) f self.old.entries self.new.entries g }
         ensures capacity { self.new.capacity ≡ self.old.capacity }

@@ -3,7 +3,7 @@ ghost use Rattle.std.specs.Prelude.{◌≡◌, ◌<◌, ◌≤◌, Bool, Contain
 ghost use Rattle.std.specs.List.{All, HoldsAt};
 ghost use Rattle.std.specs.List.Sorted.{IsBinarySearchResult, IsPartitionPoint, IsPartitionedBy, IsSearchInRange, IsSortedByKey};
 ghost use Rattle.std.specs.declared.cmp.Ordering.{Ordering};
-ghost use Rattle.vecmap_base.specs.Orders.{AnswersOnPairs, CallableOnPair};
+ghost use Rattle.vecmap_base.specs.Orders.{CallableOnPair, ReturnsOnPairs};
 ghost use Rattle.vecmap_base.specs.Pairs.{HasDistinctKeys, index_of, lookup, value_at};
 
 use crate::VecMap;
@@ -78,7 +78,7 @@ impl<K, V> VecMap<K, V> {
     ) -> Result<usize, usize>
         requires callable { All (CallableOnPair F.Fn f) self.now.entries }
         ensures within { IsSearchInRange result (length self.now.entries) }
-        ensures index { (ord : K × V → Ordering) → AnswersOnPairs F.Fn ord f self.now.entries
+        ensures index { (ord : K × V → Ordering) → ReturnsOnPairs F.Fn ord f self.now.entries
             → IsBinarySearchResult ord self.now.entries result }
     {
         let pairs = self.pairs.as_slice();
@@ -87,7 +87,7 @@ impl<K, V> VecMap<K, V> {
             |index: usize| -> Ordering
                 requires callable { All (CallableOnPair F.Fn f) pairs.now }
                 requires within { index < length pairs.now }
-                ensures { (ord : K × V → Ordering) → AnswersOnPairs F.Fn ord f pairs.entry.now
+                ensures { (ord : K × V → Ordering) → ReturnsOnPairs F.Fn ord f pairs.entry.now
                     → HoldsAt (λ p. result ≡ ord p) pairs.entry.now index }
             {
                 let pair = &pairs[index];
@@ -121,7 +121,7 @@ impl<K, V> VecMap<K, V> {
     ) -> Result<usize, usize>
         requires callable { All (CallableOnPair F.Fn f) self.now.entries }
         ensures within { IsSearchInRange result (length self.now.entries) }
-        ensures index { (key_of : K × V → B) → AnswersOnPairs F.Fn key_of f self.now.entries
+        ensures index { (key_of : K × V → B) → ReturnsOnPairs F.Fn key_of f self.now.entries
             → IsBinarySearchResult (λ p. B.cmp (key_of p) key.now) self.now.entries result }
     {
         let pairs = self.pairs.as_slice();
@@ -130,7 +130,7 @@ impl<K, V> VecMap<K, V> {
             |index: usize| -> Ordering
                 requires callable { All (CallableOnPair F.Fn f) pairs.now }
                 requires within { index < length pairs.now }
-                ensures { (key_of : K × V → B) → AnswersOnPairs F.Fn key_of f pairs.entry.now
+                ensures { (key_of : K × V → B) → ReturnsOnPairs F.Fn key_of f pairs.entry.now
                     → HoldsAt (λ p. result ≡ B.cmp (key_of p) key.entry.now) pairs.entry.now index }
             {
                 let pair = &pairs[index];
@@ -160,7 +160,7 @@ impl<K, V> VecMap<K, V> {
     pub fn partition_point<P: Fn(&K, &V) -> bool>(&self, pred: P) -> usize
         requires callable { All (CallableOnPair P.Fn pred) self.now.entries }
         ensures within { result ≤ length self.now.entries }
-        ensures index { (p : K × V → Bool) → AnswersOnPairs P.Fn p pred self.now.entries
+        ensures index { (p : K × V → Bool) → ReturnsOnPairs P.Fn p pred self.now.entries
             → IsPartitionedBy p self.now.entries
             → IsPartitionPoint (λ x. p x ≡ true) (λ x. p x ≡ false) self.now.entries result }
     {
@@ -168,7 +168,7 @@ impl<K, V> VecMap<K, V> {
             &self.pairs,
             |pair: &(K, V)| -> bool
                 requires { CallableOnPair P.Fn pred pair.now }
-                ensures { (p : K × V → Bool) (l : List (K × V)) → AnswersOnPairs P.Fn p pred l
+                ensures { (p : K × V → Bool) (l : List (K × V)) → ReturnsOnPairs P.Fn p pred l
                     → Contains l pair.now → result ≡ p pair.now }
             { pred(&pair.0, &pair.1) },
         )

@@ -1,7 +1,7 @@
 -- Which answers are allowed for a command, and how it changes the map.
 use Rattle.std.specs.Prelude.{◌≡◌, ℕ, ◌<◌, ◌≤◌, List, None, Some, String, length, unwrap_or, string_bytes, string_eq, ℤ}
 use Rattle.std.specs.declared.alloc.Global.{Global}
-use Rattle.vecmap.specs.Pairs.{has_text, index_by, lookup, lookup_by, lookup_full, put, put_at, swap_without_by, without_by}
+use Rattle.vecmap.specs.Pairs.{has_text, index_by, lookup, lookup_by, lookup_indexed, put, put_at, swap_without_by, without_by}
 use Rattle.vecmap_run.specs.declared.answer.Answer.{Answer}
 use Rattle.vecmap_run.specs.declared.answer.Answer.TheVariants.{Moved, NoMemory, Number, OutOfRange, Pairs, Place, Value}
 use Rattle.vecmap_run.specs.declared.command.Command.{Command}
@@ -25,11 +25,11 @@ Inserts old text value NoMemory new = (lookup_by (has_text text) old ≡ None) �
 Inserts old text value _ new = ⊥
 
 -- This answer is allowed for the insertion of this text and value at an index, and it changes `old` to `new`.
-abbrev pub InsertsAt : Entries → ℕ → List ℕ → ℤ → Answer → Entries → Type 0
-InsertsAt old index text value (Moved was) new = (index ≤ length old) × (key : String Global) × (string_bytes key ≡ text) × (was ≡ lookup_full string_eq old key) × (new ≡ put_at string_eq old index key value)
-InsertsAt old index text value NoMemory new = (index ≤ length old) × (new ≡ old)
-InsertsAt old index text value OutOfRange new = (length old < index) × (new ≡ old)
-InsertsAt old index text value _ new = ⊥
+abbrev pub InsertsPairAt : Entries → ℕ → List ℕ → ℤ → Answer → Entries → Type 0
+InsertsPairAt old index text value (Moved was) new = (index ≤ length old) × (key : String Global) × (string_bytes key ≡ text) × (was ≡ lookup_indexed string_eq old key) × (new ≡ put_at string_eq old index key value)
+InsertsPairAt old index text value NoMemory new = (index ≤ length old) × (new ≡ old)
+InsertsPairAt old index text value OutOfRange new = (length old < index) × (new ≡ old)
+InsertsPairAt old index text value _ new = ⊥
 
 -- Memory may run out only for a new key.
 -- This answer is allowed for an insertion that keeps an existing value, and it changes `old` to `new`.
@@ -42,7 +42,7 @@ OrInserts old text value _ new = ⊥
 -- This answer is allowed for the command, and it changes `old` to `new`.
 abbrev pub Step : Entries → Command → Answer → Entries → Type 0
 Step old (command.Insert text value) answer new = Inserts old text.now value answer new
-Step old (command.InsertAt index text value) answer new = InsertsAt old index text.now value answer new
+Step old (command.InsertAt index text value) answer new = InsertsPairAt old index text.now value answer new
 Step old (command.OrInsert text value) answer new = OrInserts old text.now value answer new
 Step old (command.Get text) answer new = (answer ≡ Value (lookup_by (has_text text.now) old)) × (new ≡ old)
 Step old (command.IndexOf text) answer new = (answer ≡ Place (index_by (has_text text.now) old)) × (new ≡ old)

@@ -3,7 +3,7 @@ ghost use Rattle.std.specs.Prelude.{◌≡◌, List, None, OnErr, OnOk, option_c
 ghost use Rattle.vecmap.specs.Pairs.{has_text, lookup_by};
 ghost use Rattle.vecmap_run.specs.Lines.{within_limit};
 ghost use Rattle.vecmap_run.specs.Service.{MayAnswer};
-ghost use Rattle.vecmap_run.specs.Steps.{Adds, Inserts, InsertsAt, OrInserts, Step};
+ghost use Rattle.vecmap_run.specs.Steps.{Adds, Inserts, InsertsPairAt, OrInserts, Step};
 
 use crate::command::{Command, parse};
 use std::alloc::{AllocError, Global};
@@ -81,7 +81,7 @@ fn insert_at(
     key: &str,
     value: i64,
 ) -> Answer
-    ensures { InsertsAt map.old.entries index key.now value result map.new.entries }
+    ensures { InsertsPairAt map.old.entries index key.now value result map.new.entries }
 {
     if map.len() < index {
         return Answer::OutOfRange;

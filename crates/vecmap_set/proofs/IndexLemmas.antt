@@ -19,10 +19,10 @@ pub use Rattle.vecmap_base.proofs.IndexLemmas.{stored_last}
 
 module _ {T : Type 0} (test : T → Bool) where
   -- The element at the index that a query finds matches the query.
-  pub stored_at : (s : List T) (found : Option ℕ) → found ≡ position test s → IfSome found (λ i. (x : T) × (slice_get s i ≡ Some x) × (test x ≡ true))
-  stored_at s None e = tt
-  stored_at [] (Some i) e = absurd (none-some i (sym e))
-  stored_at (x ∷ xs) (Some i) e =
+  pub found_item_at : (s : List T) (found : Option ℕ) → found ≡ position test s → IfSome found (λ i. (x : T) × (slice_get s i ≡ Some x) × (test x ≡ true))
+  found_item_at s None e = tt
+  found_item_at [] (Some i) e = absurd (none-some i (sym e))
+  found_item_at (x ∷ xs) (Some i) e =
       let at = position-Some test (x ∷ xs) i x (sym e) in
       (get_or (x ∷ xs) i x, slice_get-get_or (x ∷ xs) i x at.0, at.1)
 
@@ -76,7 +76,7 @@ module _ {T : Type 0} (test : T → Bool) where
     -- What is found at the index `i` of a list is found where a distinct list has that element.
     position_moved : (s r : List T) (i j : ℕ) → slice_get r j ≡ slice_get s i → IsDistinct eq r → position test s ≡ Some i → position test r ≡ Some j
     position_moved s r i j at d e =
-        let found = stored_at s (Some i) (sym e) in
+        let found = found_item_at s (Some i) (sym e) in
         position_own r d j found.0 (at ∙ found.1) found.2
 
 -- Where an item is after a move and after a swap.
@@ -113,19 +113,19 @@ module _ {T : Type 0} where
 
 -- Where the items are after the removal of one.
 module _ {T : Type 0} where
-  before_removed : (s : List T) (i j : ℕ) → j < i → slice_get (remove s i) j ≡ slice_get s j
-  before_removed [] zero j l = refl
-  before_removed [] (suc i) j l = refl
-  before_removed (x ∷ xs) zero j l = absurd (omega (arith, l))
-  before_removed (x ∷ xs) (suc i) zero l = refl
-  before_removed (x ∷ xs) (suc i) (suc j) l = before_removed xs i j (omega (arith, l))
+  items_before_removal : (s : List T) (i j : ℕ) → j < i → slice_get (remove s i) j ≡ slice_get s j
+  items_before_removal [] zero j l = refl
+  items_before_removal [] (suc i) j l = refl
+  items_before_removal (x ∷ xs) zero j l = absurd (omega (arith, l))
+  items_before_removal (x ∷ xs) (suc i) zero l = refl
+  items_before_removal (x ∷ xs) (suc i) (suc j) l = items_before_removal xs i j (omega (arith, l))
 
-  after_removed : (s : List T) (i j : ℕ) → i ≤ j → slice_get (remove s i) j ≡ slice_get s (suc j)
-  after_removed [] zero j l = refl
-  after_removed [] (suc i) j l = refl
-  after_removed (x ∷ xs) zero j l = refl
-  after_removed (x ∷ xs) (suc i) zero l = absurd (omega (arith, l))
-  after_removed (x ∷ xs) (suc i) (suc j) l = after_removed xs i j (omega (arith, l))
+  items_after_removal : (s : List T) (i j : ℕ) → i ≤ j → slice_get (remove s i) j ≡ slice_get s (suc j)
+  items_after_removal [] zero j l = refl
+  items_after_removal [] (suc i) j l = refl
+  items_after_removal (x ∷ xs) zero j l = refl
+  items_after_removal (x ∷ xs) (suc i) zero l = absurd (omega (arith, l))
+  items_after_removal (x ∷ xs) (suc i) (suc j) l = items_after_removal xs i j (omega (arith, l))
 
   -- An item is read exactly below the length.
   is_some_slice_get : (s : List T) (i : ℕ) → is_some (slice_get s i) ≡ nat_lt i (length s)
@@ -177,8 +177,8 @@ module _ {T : Type 0} (s r : List T) where
 
   pub items_shift : (i : ℕ) → r ≡ remove s i → ShiftsItems i s r
   items_shift i e = record {
-    before = λ j l. ap (λ l. slice_get l j) e ∙ before_removed s i j l;
-    after = λ j l. ap (λ l. slice_get l j) e ∙ after_removed s i j l ∙ ap (slice_get s) (omega arith);
+    before = λ j l. ap (λ l. slice_get l j) e ∙ items_before_removal s i j l;
+    after = λ j l. ap (λ l. slice_get l j) e ∙ items_after_removal s i j l ∙ ap (slice_get s) (omega arith);
   }
 
 module _ {T : Type 0} (eq : T → T → Bool) (o : IsEquivalence eq) (s r : List T) where

@@ -7,7 +7,7 @@ use Rattle.std.specs.Iterator.{UpTo, YieldsFirstRef, YieldsLastRef, at_most}
 use Rattle.std.specs.Iterator.Runs.{YieldsRefsInOrder, YieldsRefsInReverse}
 use Rattle.std.specs.List.{filter}
 use Rattle.std.specs.Option.{IfSome, SomeIff}
-use Rattle.vecmap_set.specs.Lazy.{ExcludesAll, ExcludesFirst, ExcludesLast, JoinsAll, JoinsFirst, JoinsLast, Parts, Sift, lacks_item, symmetric_parts, symmetric_rest, union_parts, union_rest}
+use Rattle.vecmap_set.specs.Lazy.{ExcludesAll, ExcludesFirst, ExcludesLast, Filtered, JoinsAll, JoinsFirst, JoinsLast, Parts, lacks_item, symmetric_parts, symmetric_rest, union_parts, union_rest}
 
 module _ {S T : Type 0} (next next_back : S → Option (Bor T) → S → Type 0) (rest : S → List T) where
   -- Repeated calls return what is left, in order or in reverse, if each call takes the first or the last of it.
@@ -21,28 +21,28 @@ pub length_filter : {T : Type 0} (p : T → Bool) (xs : List T) → length (filt
 length_filter p xs = omega (arith, length-filter_both p (λ x. not (p x)) (λ x. refl) xs)
 
 -- The same for two parts.
-pub length_union_rest : {T : Type 0} (eq : T → T → Bool) (s : Parts (List T) (Sift T)) → length (union_rest eq s) ≤ length s.first + length s.second.unwalked
+pub length_union_rest : {T : Type 0} (eq : T → T → Bool) (s : Parts (List T) (Filtered T)) → length (union_rest eq s) ≤ length s.first + length s.second.ahead
 length_union_rest eq s =
     let kept = lacks_item eq s.second.other in
-    omega (arith, length-append s.first (filter kept s.second.unwalked), length_filter kept s.second.unwalked)
+    omega (arith, length-append s.first (filter kept s.second.ahead), length_filter kept s.second.ahead)
 
-pub length_symmetric_rest : {T : Type 0} (eq : T → T → Bool) (s : Parts (Sift T) (Sift T)) → length (symmetric_rest eq s) ≤ length s.first.unwalked + length s.second.unwalked
+pub length_symmetric_rest : {T : Type 0} (eq : T → T → Bool) (s : Parts (Filtered T) (Filtered T)) → length (symmetric_rest eq s) ≤ length s.first.ahead + length s.second.ahead
 length_symmetric_rest eq s =
     let one = lacks_item eq s.first.other in
     let two = lacks_item eq s.second.other in
-    omega (arith, length-append (filter one s.first.unwalked) (filter two s.second.unwalked), length_filter one s.first.unwalked, length_filter two s.second.unwalked)
+    omega (arith, length-append (filter one s.first.ahead) (filter two s.second.ahead), length_filter one s.first.ahead, length_filter two s.second.ahead)
 
 -- What `union` and `symmetric_difference` borrow. Both parts fit a `usize` together if each has fewer items than half
 -- of its values.
-pub joins_all : {T : Type 0} (eq : T → T → Bool) (s : Parts (List T) (Sift T)) (a b : List T) → s ≡ union_parts a b → length a < 2 ^ 63 → length b < 2 ^ 63 → JoinsAll eq (union_parts a b) s
+pub joins_all : {T : Type 0} (eq : T → T → Bool) (s : Parts (List T) (Filtered T)) (a b : List T) → s ≡ union_parts a b → length a < 2 ^ 63 → length b < 2 ^ 63 → JoinsAll eq (union_parts a b) s
 joins_all eq s a b made small others =
     let runs = refs_run (JoinsFirst eq) (JoinsLast eq) (union_rest eq) (λ s r t h. h.0) (λ s r t h. h.0) in
-    (made, omega (arith, length_union_rest eq s, ap (λ p. length p.first) made, ap (λ p. length p.second.unwalked) made), runs.0, runs.1)
+    (made, omega (arith, length_union_rest eq s, ap (λ p. length p.first) made, ap (λ p. length p.second.ahead) made), runs.0, runs.1)
 
-pub excludes_all : {T : Type 0} (eq : T → T → Bool) (s : Parts (Sift T) (Sift T)) (a b : List T) → s ≡ symmetric_parts a b → length a < 2 ^ 63 → length b < 2 ^ 63 → ExcludesAll eq (symmetric_parts a b) s
+pub excludes_all : {T : Type 0} (eq : T → T → Bool) (s : Parts (Filtered T) (Filtered T)) (a b : List T) → s ≡ symmetric_parts a b → length a < 2 ^ 63 → length b < 2 ^ 63 → ExcludesAll eq (symmetric_parts a b) s
 excludes_all eq s a b made small others =
     let runs = refs_run (ExcludesFirst eq) (ExcludesLast eq) (symmetric_rest eq) (λ s r t h. h.0) (λ s r t h. h.0) in
-    (made, omega (arith, length_symmetric_rest eq s, ap (λ p. length p.first.unwalked) made, ap (λ p. length p.second.unwalked) made), runs.0, runs.1)
+    (made, omega (arith, length_symmetric_rest eq s, ap (λ p. length p.first.ahead) made, ap (λ p. length p.second.ahead) made), runs.0, runs.1)
 
 -- A number that is at most the sum of two bounds is within that sum, if the sum fits a `usize`.
 pub within_sum : (r : Option ℕ) (P : Type 0) (sum n : ℕ) → SomeIff r P sum → n ≤ sum → IfSome r (UpTo (at_most n))

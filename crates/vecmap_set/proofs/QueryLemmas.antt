@@ -9,10 +9,9 @@ use Rattle.std.specs.List.{swap_remove}
 use Rattle.std.specs.Option.{option_and_then, option_map_or}
 use Rattle.std.specs.Set.{is_member}
 use Rattle.vecmap_base.specs.Items.{IsReorderedItems, add, put_item, stored_first, swap_without}
-use Rattle.vecmap_base.specs.Kept.{Kept}
 use Rattle.vecmap_base.proofs.EqualityLemmas.Sets.{same_items}
-use Rattle.vecmap_base.proofs.ItemsLemmas.Recursion.{put_item_cons}
-use Rattle.vecmap_set.proofs.IndexLemmas.{stored_at}
+use Rattle.vecmap_base.proofs.ItemsLemmas.{Members.or_true, Recursion.put_item_cons}
+use Rattle.vecmap_set.proofs.IndexLemmas.{found_item_at}
 
 module _ {T : Type 0} (test : T → Bool) where
   -- The element that a query finds matches it.
@@ -25,7 +24,7 @@ module _ {T : Type 0} (test : T → Bool) where
       by : (place : Option ℕ) → position test s ≡ place → (r : Option T) → r ≡ option_and_then (slice_get s) place → IfSome r (λ x. test x ≡ true)
       by place p None f = tt
       by None p (Some x) f = absurd (none-some x (sym f))
-      by (Some i) p (Some x) f = let hit = stored_at test s (Some i) (sym p) in at i x hit.0 hit.1 hit.2 f
+      by (Some i) p (Some x) f = let hit = found_item_at test s (Some i) (sym p) in at i x hit.0 hit.1 hit.2 f
 
   -- The same of a reference to it.
   pub reference_matches : (s : List T) (found : Option (Bor T)) → option_copied found ≡ stored_first test s → IfSome found (λ x. IsTrue (test x.now))
@@ -47,15 +46,11 @@ module _ {T : Type 0} (s r : List T) where
 
 -- Whether a test that does not tell equal elements apart passes for some element, after an addition.
 module _ {T : Type 0} (eq : T → T → Bool) (f : T → Bool) (same : (x y : T) → eq x y ≡ true → f y ≡ f x) where
-  or_true : (a : Bool) → (a || true) ≡ true
-  or_true true = refl
-  or_true false = refl
-
-  or_turned : (a b : Bool) → (a || (b || false)) ≡ (b || a)
-  or_turned true true = refl
-  or_turned true false = refl
-  or_turned false true = refl
-  or_turned false false = refl
+  or_swapped : (a b : Bool) → (a || (b || false)) ≡ (b || a)
+  or_swapped true true = refl
+  or_swapped true false = refl
+  or_swapped false true = refl
+  or_swapped false false = refl
 
   -- An element that is present and passes.
   any_there : (s : List T) (x : T) → is_member eq s x ≡ true → f x ≡ true → list_any f s ≡ true
@@ -75,7 +70,7 @@ module _ {T : Type 0} (eq : T → T → Bool) (f : T → Bool) (same : (x y : T)
 
       by : (b : Bool) → is_member eq s x ≡ b → list_any f (if b then s else s ++ x ∷ []) ≡ (f x || list_any f s)
       by true h = there (f x) refl h
-      by false h = list_any-append f s (x ∷ []) ∙ or_turned (list_any f s) (f x)
+      by false h = list_any-append f s (x ∷ []) ∙ or_swapped (list_any f s) (f x)
 
   any_put : (s : List T) (x : T) → list_any f (put_item eq s x) ≡ (f x || list_any f s)
   any_put [] x = refl
@@ -102,29 +97,20 @@ module _ {T : Type 0} (eq : T → T → Bool) (s r : List T) (x : T) where
   pub any_of_put : r ≡ put_item eq s x → (f : T → Bool) → ((x y : T) → eq x y ≡ true → f y ≡ f x) → list_any f r ≡ (f x || list_any f s)
   any_of_put e f same = ap (list_any f) e ∙ any_put eq f same s x
 
--- A closure that decides keeps no more items than there are.
-pub length_kept : {F X : Type 0} (R : F → X → Bool → X → F → Type 0) (f g : F) (l m : List X) → Kept R f l m g → length m ≤ length l
-length_kept R f g [] m k = omega (arith, ap length k.0)
-length_kept R f g (x ∷ xs) m k = by k.0 k.6 (length_kept R k.2 g xs k.3 k.5)
-  where
-    by : (b : Bool) → m ≡ (if b then k.1 ∷ k.3 else k.3) → length k.3 ≤ length xs → length m ≤ suc (length xs)
-    by true e l = omega (arith, ap length e, l)
-    by false e l = omega (arith, ap length e, l)
-
 -- The clause `reordered`.
 module _ {T : Type 0} (s r : List T) where
-  pub reordered : IsPermutation s r → IsReorderedItems s r
-  reordered p = record {
+  pub items_reordered : IsPermutation s r → IsReorderedItems s r
+  items_reordered p = record {
     matches = λ test. sym (list_any-IsPermutation test s r p);
     len = length_permutation s r p;
     equal = λ eq o. same_items eq o r s (λ x. sym (list_any-IsPermutation (eq x) s r p));
   }
 
-  pub reordered_by_reverse : r ≡ reverse s → IsReorderedItems s r
-  reordered_by_reverse e = reordered (subst (IsPermutation s) (sym e) (IsPermutation-reverse s))
+  pub items_reordered_by_reverse : r ≡ reverse s → IsReorderedItems s r
+  items_reordered_by_reverse e = items_reordered (subst (IsPermutation s) (sym e) (IsPermutation-reverse s))
 
-  pub reordered_by_swap : (i j : ℕ) → i < length s → j < length s → r ≡ swap s i j → IsReorderedItems s r
-  reordered_by_swap i j h k e = reordered (IsPermutation-swap s r i j h k e)
+  pub items_reordered_by_swap : (i j : ℕ) → i < length s → j < length s → r ≡ swap s i j → IsReorderedItems s r
+  items_reordered_by_swap i j h k e = items_reordered (IsPermutation-swap s r i j h k e)
 
 -- The lemmas for the clause `reordered`.
-pub ruleset reorders = (reordered, reordered_by_reverse, reordered_by_swap)
+pub ruleset reorders = (items_reordered, items_reordered_by_reverse, items_reordered_by_swap)

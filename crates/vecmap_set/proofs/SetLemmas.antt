@@ -23,8 +23,8 @@ module _ {T : Type 0} (eq : T → T → Bool) where
       distinct_clones eq o (λ x y. Contains xs x × C x y) (λ x y w. same x y w.0 w.1) xs ys (clones_within C xs xs ys (λ x c. c) k) d
 
   -- The elements from an index on are reversed.
-  pub distinct_turned : (o : IsEquivalence eq) (xs : List T) (n : ℕ) → IsDistinct eq xs → IsDistinct eq (take n xs ++ reverse (drop n xs))
-  distinct_turned o xs n = distinct_tail eq o n xs (reverse (drop n xs)) (IsPermutation-reverse (drop n xs))
+  pub distinct_reversed : (o : IsEquivalence eq) (xs : List T) (n : ℕ) → IsDistinct eq xs → IsDistinct eq (take n xs ++ reverse (drop n xs))
+  distinct_reversed o xs n = distinct_tail eq o n xs (reverse (drop n xs)) (IsPermutation-reverse (drop n xs))
 
   -- The last element is removed. The premise is repeated in the result, for `grind`, which finds the lemma by it.
   pub distinct_first : (xs ys : List T) → IsDistinct eq (xs ++ ys) → IsDistinct eq (xs ++ ys) × IsDistinct eq xs
@@ -38,7 +38,7 @@ module _ {T : Type 0} (eq : T → T → Bool) (o : IsEquivalence eq) where
       both_ways _ _ (there q) (within_back eq o a b d n there q)
 
 -- The lemmas for the goals of calls that change a set.
-pub ruleset distinct_changes = (distinct_adds, distinct_drop, distinct_first, distinct_none, IsDistinct-push, distinct_take, distinct_turned)
+pub ruleset distinct_changes = (distinct_adds, distinct_drop, distinct_first, distinct_none, IsDistinct-push, distinct_take, distinct_reversed)
 
 -- The lemmas for the goals of `==`.
 pub ruleset set_equality = (set_equal_by_half, set_lengths_differ)

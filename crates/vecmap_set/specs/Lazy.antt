@@ -10,8 +10,8 @@ use Rattle.std.specs.Set.{is_member}
 
 -- Example: `difference` of `[1,2]` and `[2]`: `[1,2]`, looked up in `[2]`.
 -- The elements that are not yet visited, and the list in which each of them is looked up.
-pub record Sift (T : Type 0) : Type 0 where
-  pub unwalked : List T
+pub record Filtered (T : Type 0) : Type 0 where
+  pub ahead : List T
   pub other : List T
 
 -- Example: `symmetric_difference` of `[1,2]` and `[2,3]`: the elements of each, looked up in the other.
@@ -42,26 +42,26 @@ module _ {T : Type 0} where
   not_longer a b = if nat_lt (length a) (length b) then a else b
 
   -- The elements of a, each to be looked up in b.
-  abbrev pub sift_of : List T → List T → Sift T
-  sift_of a b = record { unwalked = a; other = b }
+  abbrev pub filtered_of : List T → List T → Filtered T
+  filtered_of a b = record { ahead = a; other = b }
 
   -- All of a, and then the elements of b, each to be looked up in a.
-  abbrev pub union_parts : List T → List T → Parts (List T) (Sift T)
-  union_parts a b = record { first = a; second = sift_of b a }
+  abbrev pub union_parts : List T → List T → Parts (List T) (Filtered T)
+  union_parts a b = record { first = a; second = filtered_of b a }
 
-  -- Example: `sift_of_shorter [a, b, c] [c, d] ≡ sift_of [c, d] [a, b, c]`.
+  -- Example: `filtered_of_shorter [a, b, c] [c, d] ≡ filtered_of [c, d] [a, b, c]`.
   -- The elements of the shorter list, each to be looked up in the other.
-  abbrev pub sift_of_shorter : List T → List T → Sift T
-  sift_of_shorter a b = sift_of (shorter a b) (not_shorter a b)
+  abbrev pub filtered_of_shorter : List T → List T → Filtered T
+  filtered_of_shorter a b = filtered_of (shorter a b) (not_shorter a b)
 
   -- Example: `longer_first [a] [b, c] ≡ union_parts [b, c] [a]`.
   -- All of the longer list, and then the elements of the other, each to be looked up in the longer.
-  abbrev pub longer_first : List T → List T → Parts (List T) (Sift T)
+  abbrev pub longer_first : List T → List T → Parts (List T) (Filtered T)
   longer_first a b = union_parts (longer a b) (not_longer a b)
 
   -- The elements of a, each to be looked up in b, and then the elements of b, each to be looked up in a.
-  abbrev pub symmetric_parts : List T → List T → Parts (Sift T) (Sift T)
-  symmetric_parts a b = record { first = sift_of a b; second = sift_of b a }
+  abbrev pub symmetric_parts : List T → List T → Parts (Filtered T) (Filtered T)
+  symmetric_parts a b = record { first = filtered_of a b; second = filtered_of b a }
 
 -- Example: `IsBound (Some 5) 5`; `¬ (IsBound None 5)`.
 -- The bound r is n, or none if n is greater than `usize::MAX`.
@@ -81,24 +81,24 @@ module _ {S T : Type 0} (rest : S → List T) (next next_back : S → Option (Bo
   LendsAll s r = (r ≡ s) × (length (rest r) < 2 ^ 64) × YieldsRefsInOrder next rest × YieldsRefsInReverse next_back rest
 
 module _ {T : Type 0} (keeps : List T → T → Bool) where
-  -- Example: `sift_rest (lacks_item nat_eq) (sift_of [1, 2] [2]) ≡ [1]`.
+  -- Example: `filtered_rest (lacks_item nat_eq) (filtered_of [1, 2] [2]) ≡ [1]`.
   -- The elements that are not yet visited and are kept.
-  abbrev pub sift_rest : Sift T → List T
-  sift_rest s = filter (keeps s.other) s.unwalked
+  abbrev pub filtered_rest : Filtered T → List T
+  filtered_rest s = filter (keeps s.other) s.ahead
 
   -- Example: from `[2,3,4]` by what `[2,4]` lacks: 3, and `[4]` is left.
   -- `next` at s returned r, the first element that is kept. It left t, without r and the elements before r.
-  abbrev pub SiftsFirst : Sift T → Option (Bor T) → Sift T → Type 0
-  SiftsFirst s r t = YieldsFirstRef sift_rest s r t × (t ≡ record s { unwalked = after_first (keeps s.other) s.unwalked })
+  abbrev pub FiltersFirst : Filtered T → Option (Bor T) → Filtered T → Type 0
+  FiltersFirst s r t = YieldsFirstRef filtered_rest s r t × (t ≡ record s { ahead = after_first (keeps s.other) s.ahead })
 
   -- Example: from `[1,3,4]` by what `[2,4]` lacks: 3, and `[1]` is left.
   -- `next_back` at s returned r, the last element that is kept. It left t, without r and the elements after r.
-  abbrev pub SiftsLast : Sift T → Option (Bor T) → Sift T → Type 0
-  SiftsLast s r t = YieldsLastRef sift_rest s r t × (t ≡ record s { unwalked = before_last (keeps s.other) s.unwalked })
+  abbrev pub FiltersLast : Filtered T → Option (Bor T) → Filtered T → Type 0
+  FiltersLast s r t = YieldsLastRef filtered_rest s r t × (t ≡ record s { ahead = before_last (keeps s.other) s.ahead })
 
   -- The iterator `r` is in the state `s`, and returns the elements that are left there and kept.
-  abbrev pub SiftsAll : Sift T → Sift T → Type 0
-  SiftsAll = LendsAll sift_rest SiftsFirst SiftsLast
+  abbrev pub FiltersAll : Filtered T → Filtered T → Type 0
+  FiltersAll = LendsAll filtered_rest FiltersFirst FiltersLast
 
 module _ {T : Type 0} (eq : T → T → Bool) where
   -- Example: `lacks_item nat_eq [1, 2] 3 ≡ true`.
@@ -108,36 +108,36 @@ module _ {T : Type 0} (eq : T → T → Bool) where
 
   -- Example: `union_rest nat_eq (union_parts [1, 2] [2, 3]) ≡ [1, 2, 3]`.
   -- The elements of one list, and then the elements of another that are not among them, as far as they are left.
-  abbrev pub union_rest : Parts (List T) (Sift T) → List T
-  union_rest s = s.first ++ sift_rest lacks_item s.second
+  abbrev pub union_rest : Parts (List T) (Filtered T) → List T
+  union_rest s = s.first ++ filtered_rest lacks_item s.second
 
   -- `next` at s returned r, and left t. It calls the first part, and then the second.
-  abbrev pub JoinsFirst : Parts (List T) (Sift T) → Option (Bor T) → Parts (List T) (Sift T) → Type 0
-  JoinsFirst s r t = YieldsFirstRef union_rest s r t × TakesFromParts (TakesFirst deref) (SiftsFirst lacks_item) s.first s.second r t.first t.second
+  abbrev pub JoinsFirst : Parts (List T) (Filtered T) → Option (Bor T) → Parts (List T) (Filtered T) → Type 0
+  JoinsFirst s r t = YieldsFirstRef union_rest s r t × TakesFromParts (TakesFirst deref) (FiltersFirst lacks_item) s.first s.second r t.first t.second
 
   -- `next_back` at s returned r, and left t. It calls the second part, and then the first.
-  abbrev pub JoinsLast : Parts (List T) (Sift T) → Option (Bor T) → Parts (List T) (Sift T) → Type 0
-  JoinsLast s r t = YieldsLastRef union_rest s r t × TakesFromParts (SiftsLast lacks_item) (TakesLast deref) s.second s.first r t.second t.first
+  abbrev pub JoinsLast : Parts (List T) (Filtered T) → Option (Bor T) → Parts (List T) (Filtered T) → Type 0
+  JoinsLast s r t = YieldsLastRef union_rest s r t × TakesFromParts (FiltersLast lacks_item) (TakesLast deref) s.second s.first r t.second t.first
 
   -- The iterator `r` is in the state `s`, and returns the union that is left there.
-  abbrev pub JoinsAll : Parts (List T) (Sift T) → Parts (List T) (Sift T) → Type 0
+  abbrev pub JoinsAll : Parts (List T) (Filtered T) → Parts (List T) (Filtered T) → Type 0
   JoinsAll = LendsAll union_rest JoinsFirst JoinsLast
 
   -- Example: `symmetric_rest nat_eq (symmetric_parts [1, 2] [2, 3]) ≡ [1, 3]`.
   -- The elements of either list that are not in the other, as far as they are left.
-  abbrev pub symmetric_rest : Parts (Sift T) (Sift T) → List T
-  symmetric_rest s = sift_rest lacks_item s.first ++ sift_rest lacks_item s.second
+  abbrev pub symmetric_rest : Parts (Filtered T) (Filtered T) → List T
+  symmetric_rest s = filtered_rest lacks_item s.first ++ filtered_rest lacks_item s.second
 
   -- `next` at s returned r, and left t. It calls the first part, and then the second.
-  abbrev pub ExcludesFirst : Parts (Sift T) (Sift T) → Option (Bor T) → Parts (Sift T) (Sift T) → Type 0
-  ExcludesFirst s r t = YieldsFirstRef symmetric_rest s r t × TakesFromParts (SiftsFirst lacks_item) (SiftsFirst lacks_item) s.first s.second r t.first t.second
+  abbrev pub ExcludesFirst : Parts (Filtered T) (Filtered T) → Option (Bor T) → Parts (Filtered T) (Filtered T) → Type 0
+  ExcludesFirst s r t = YieldsFirstRef symmetric_rest s r t × TakesFromParts (FiltersFirst lacks_item) (FiltersFirst lacks_item) s.first s.second r t.first t.second
 
   -- `next_back` at s returned r, and left t. It calls the second part, and then the first.
-  abbrev pub ExcludesLast : Parts (Sift T) (Sift T) → Option (Bor T) → Parts (Sift T) (Sift T) → Type 0
-  ExcludesLast s r t = YieldsLastRef symmetric_rest s r t × TakesFromParts (SiftsLast lacks_item) (SiftsLast lacks_item) s.second s.first r t.second t.first
+  abbrev pub ExcludesLast : Parts (Filtered T) (Filtered T) → Option (Bor T) → Parts (Filtered T) (Filtered T) → Type 0
+  ExcludesLast s r t = YieldsLastRef symmetric_rest s r t × TakesFromParts (FiltersLast lacks_item) (FiltersLast lacks_item) s.second s.first r t.second t.first
 
   -- The iterator `r` is in the state `s`, and returns the elements that are left there and in one list only.
-  abbrev pub ExcludesAll : Parts (Sift T) (Sift T) → Parts (Sift T) (Sift T) → Type 0
+  abbrev pub ExcludesAll : Parts (Filtered T) (Filtered T) → Parts (Filtered T) (Filtered T) → Type 0
   ExcludesAll = LendsAll symmetric_rest ExcludesFirst ExcludesLast
 
   -- Example: `presence nat_eq true [1, 2] 2 ≡ true`; `presence nat_eq false [1, 2] 2 ≡ false`.

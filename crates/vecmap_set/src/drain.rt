@@ -154,7 +154,7 @@ impl<'a, T: Eq + Drop> Drain<'a, T> {
 impl<'a, T: Eq> Drain<'a, T> {
     // Reverses the remaining elements unless they are in the wanted order.
     #[tactic(auto, using(vecmap_base::proofs::DrainRuns::drains, crate::proofs::SetLemmas::distinct_changes))]
-    fn put_in_order(&mut self, reversed: bool)
+    fn set_reversed(&mut self, reversed: bool)
         requires { self.old.keep ≤ length self.old.set.now.elements }
         ensures ordered { self.new.reversed ≡ reversed }
         ensures keep { self.new.keep ≡ self.old.keep }
@@ -198,7 +198,7 @@ impl<'a, T: Eq + Drop> Iterator for Drain<'a, T> {
         if self.set.len() <= self.keep {
             return None;
         }
-        self.put_in_order(true);
+        self.set_reversed(true);
         let set = &mut *self.set;
         Some(set.items.take_last())
     }
@@ -220,7 +220,7 @@ impl<'a, T: Eq + Drop> DoubleEndedIterator for Drain<'a, T> {
         if self.set.len() <= self.keep {
             return None;
         }
-        self.put_in_order(false);
+        self.set_reversed(false);
         let set = &mut *self.set;
         Some(set.items.take_last())
     }

@@ -4,7 +4,7 @@
 ghost use Rattle.std.specs.Prelude.{◌≡◌, ℕ, ◌+◌};
 ghost use Rattle.std.specs.Set.{is_member};
 ghost use Rattle.std.specs.Slice.Iter.{iter_rest};
-ghost use Rattle.vecmap_set.specs.Lazy.{ExcludesAll, IsBound, JoinsAll, SiftsAll, SiftsFirst, SiftsLast, lacks_item, longer_first, presence, sift_of, sift_of_shorter, symmetric_parts};
+ghost use Rattle.vecmap_set.specs.Lazy.{ExcludesAll, FiltersAll, FiltersFirst, FiltersLast, IsBound, JoinsAll, filtered_of, filtered_of_shorter, lacks_item, longer_first, presence, symmetric_parts};
 
 use crate::VecSet;
 use std::slice;
@@ -37,7 +37,7 @@ impl<T: Eq> VecSet<T> {
     /// items.next() // None
     /// ```
     pub fn difference<'a>(&'a self, other: &'a VecSet<T>) -> Difference<'a, T>
-        ensures { SiftsAll (lacks_item T.eq) (sift_of self.now.elements other.now.elements) result }
+        ensures { FiltersAll (lacks_item T.eq) (filtered_of self.now.elements other.now.elements) result }
     {
         Difference::over(&self.items, &other.items)
     }
@@ -63,8 +63,8 @@ impl<T: Eq> VecSet<T> {
     /// items.next() // None
     /// ```
     pub fn intersection<'a>(&'a self, other: &'a VecSet<T>) -> Intersection<'a, T>
-        ensures { SiftsAll (is_member T.eq)
-            (sift_of_shorter self.now.elements other.now.elements) result }
+        ensures { FiltersAll (is_member T.eq)
+            (filtered_of_shorter self.now.elements other.now.elements) result }
     {
         if other.len() < self.len() {
             Intersection::over(&other.items, &self.items)
@@ -129,9 +129,13 @@ impl<T: Eq> VecSet<T> {
 }
 
 // Returns the first of `items` whose presence in `other` is `within`, and removes it and the items before it.
-fn sift_front<'a, T: Eq>(items: &mut slice::Iter<'a, T>, other: &[T], within: bool) -> Option<&'a T>
-    ensures { SiftsFirst (presence T.eq within) (sift_of (iter_rest items.old) other.now) result
-        (sift_of (iter_rest items.new) other.now) }
+fn filtered_front<'a, T: Eq>(
+    items: &mut slice::Iter<'a, T>,
+    other: &[T],
+    within: bool,
+) -> Option<&'a T>
+    ensures { FiltersFirst (presence T.eq within) (filtered_of (iter_rest items.old) other.now) result
+        (filtered_of (iter_rest items.new) other.now) }
 {
     while let Some(item) = items.next() {
         if contains_item(other, item) == within {
@@ -142,9 +146,13 @@ fn sift_front<'a, T: Eq>(items: &mut slice::Iter<'a, T>, other: &[T], within: bo
 }
 
 // Returns the last of `items` whose presence in `other` is `within`, and removes it and the items after it.
-fn sift_back<'a, T: Eq>(items: &mut slice::Iter<'a, T>, other: &[T], within: bool) -> Option<&'a T>
-    ensures { SiftsLast (presence T.eq within) (sift_of (iter_rest items.old) other.now) result
-        (sift_of (iter_rest items.new) other.now) }
+fn filtered_back<'a, T: Eq>(
+    items: &mut slice::Iter<'a, T>,
+    other: &[T],
+    within: bool,
+) -> Option<&'a T>
+    ensures { FiltersLast (presence T.eq within) (filtered_of (iter_rest items.old) other.now) result
+        (filtered_of (iter_rest items.new) other.now) }
 {
     while let Some(item) = items.next_back() {
         if contains_item(other, item) == within {

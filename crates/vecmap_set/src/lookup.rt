@@ -167,7 +167,7 @@ impl<T: Eq> VecSet<T> {
     /// set.get_index_of(&1) // Some(1)
     /// set.get_index_of(&3) // None
     /// ```
-    #[tactic(auto, using(vecmap_base::proofs::IndexLemmas::list_any_position, crate::proofs::IndexLemmas::stored_at))]
+    #[tactic(auto, using(vecmap_base::proofs::IndexLemmas::list_any_position, crate::proofs::IndexLemmas::found_item_at))]
     pub fn get_index_of<Q: Equivalent<T>>(&self, query: Q) -> Option<usize>
         ensures index { result ≡ position (Q.equivalent query) self.now.elements }
         ensures within { IfSome result (λ i. i < length self.now.elements) }

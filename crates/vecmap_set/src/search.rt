@@ -5,7 +5,7 @@ ghost use Rattle.std.specs.List.Sorted.{IsBinarySearchResult, IsPartitionPoint, 
 ghost use Rattle.std.specs.Set.{is_member};
 ghost use Rattle.std.specs.declared.cmp.Ordering.{Ordering};
 ghost use Rattle.vecmap_base.specs.Items.{item_index};
-ghost use Rattle.vecmap_base.specs.Orders.{AnswersOnItems, CallableOnItem};
+ghost use Rattle.vecmap_base.specs.Orders.{CallableOnItem, ReturnsOnItems};
 
 use crate::VecSet;
 use std::cmp::Ordering;
@@ -77,7 +77,7 @@ impl<T: Eq> VecSet<T> {
     pub fn binary_search_by<'a, F: Fn(&'a T) -> Ordering>(&'a self, f: F) -> Result<usize, usize>
         requires callable { All (CallableOnItem F.Fn f) self.now.elements }
         ensures within { IsSearchInRange result (length self.now.elements) }
-        ensures index { (ord : T → Ordering) → AnswersOnItems F.Fn ord f self.now.elements
+        ensures index { (ord : T → Ordering) → ReturnsOnItems F.Fn ord f self.now.elements
             → IsBinarySearchResult ord self.now.elements result }
     {
         let items = self.items.as_slice();
@@ -86,7 +86,7 @@ impl<T: Eq> VecSet<T> {
             |index: usize| -> Ordering
                 requires callable { All (CallableOnItem F.Fn f) items.now }
                 requires within { index < length items.now }
-                ensures { (ord : T → Ordering) → AnswersOnItems F.Fn ord f items.entry.now
+                ensures { (ord : T → Ordering) → ReturnsOnItems F.Fn ord f items.entry.now
                     → HoldsAt (λ x. result ≡ ord x) items.entry.now index }
             { f(&items[index]) },
         )
@@ -117,7 +117,7 @@ impl<T: Eq> VecSet<T> {
     ) -> Result<usize, usize>
         requires callable { All (CallableOnItem F.Fn f) self.now.elements }
         ensures within { IsSearchInRange result (length self.now.elements) }
-        ensures index { (key_of : T → B) → AnswersOnItems F.Fn key_of f self.now.elements
+        ensures index { (key_of : T → B) → ReturnsOnItems F.Fn key_of f self.now.elements
             → IsBinarySearchResult (λ x. B.cmp (key_of x) key.now) self.now.elements result }
     {
         let items = self.items.as_slice();
@@ -126,7 +126,7 @@ impl<T: Eq> VecSet<T> {
             |index: usize| -> Ordering
                 requires callable { All (CallableOnItem F.Fn f) items.now }
                 requires within { index < length items.now }
-                ensures { (key_of : T → B) → AnswersOnItems F.Fn key_of f items.entry.now
+                ensures { (key_of : T → B) → ReturnsOnItems F.Fn key_of f items.entry.now
                     → HoldsAt (λ x. result ≡ B.cmp (key_of x) key.entry.now) items.entry.now index }
             { f(&items[index]).cmp(key) },
         )
@@ -153,7 +153,7 @@ impl<T: Eq> VecSet<T> {
     pub fn partition_point<P: Fn(&T) -> bool>(&self, pred: P) -> usize
         requires callable { All (CallableOnItem P.Fn pred) self.now.elements }
         ensures within { result ≤ length self.now.elements }
-        ensures index { (p : T → Bool) → AnswersOnItems P.Fn p pred self.now.elements
+        ensures index { (p : T → Bool) → ReturnsOnItems P.Fn p pred self.now.elements
             → IsPartitionedBy p self.now.elements
             → IsPartitionPoint (λ x. p x ≡ true) (λ x. p x ≡ false)
             self.now.elements result }

@@ -2,7 +2,7 @@
 ghost use Rattle.std.specs.Prelude.{◌++◌, ◌≡◌, ◌≤◌, IfErr, IfOk, OnErr, OnOk, drop, length, slice_get, take};
 ghost use Rattle.std.specs.List.{IsDistinct};
 ghost use Rattle.vecmap.specs.Contents.{Refuses};
-ghost use Rattle.vecmap.specs.Pairs.{lookup, lookup_full, put_at};
+ghost use Rattle.vecmap.specs.Pairs.{lookup, lookup_indexed, put_at};
 
 use vecmap::{Refused, VecMap, VecSet};
 
@@ -23,7 +23,7 @@ pub fn put_last<K: Eq + Drop>(
 ) -> Result<Option<(usize, u32)>, Refused<(K, u32)>>
     ensures entries { OnOk result (map.new.entries
         ≡ put_at K.eq map.old.entries (length map.old.entries) key value) }
-    ensures old { IfOk result (λ old. old ≡ lookup_full K.eq map.old.entries key) }
+    ensures old { IfOk result (λ old. old ≡ lookup_indexed K.eq map.old.entries key) }
     ensures given { IfErr result (λ refused. refused.given ≡ (key, value)) }
     ensures err { OnErr result (Refuses K.eq map.old key map.new) }
 {

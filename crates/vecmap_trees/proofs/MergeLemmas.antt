@@ -33,8 +33,8 @@ module _ (k : String Global) (v : Json) (rest : Pairs) (d : AreDistinctMembers (
       lookup_by_query string_eq string_equality (has_text (string_bytes k)) (text_respects (string_bytes k)) rest k (same_text (string_bytes k) k refl)
       ∙ lookup_absent string_eq rest k (none_equal string_eq k (keys_of rest) (IsDistinct-head string_eq k (keys_of rest) d.0))
 
-  pub distinct_first : HasDistinctNames v
-  distinct_first = d.1 (string_bytes k) v (look_text (string_bytes k) k v rest true (same_text (string_bytes k) k refl))
+  pub first_has_distinct_names : HasDistinctNames v
+  first_has_distinct_names = d.1 (string_bytes k) v (look_text (string_bytes k) k v rest true (same_text (string_bytes k) k refl))
 
   pub distinct_rest : AreDistinctMembers rest
   distinct_rest = (IsDistinct-tail string_eq k (keys_of rest) d.0, below)

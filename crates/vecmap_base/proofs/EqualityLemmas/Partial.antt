@@ -15,14 +15,14 @@ module _ {X : Type 0} (same : X → X → Bool) (o : IsPartialEquivalence same) 
   abbrev pub lumped : X → X → Bool
   lumped x y = cond (same x x) (same x y) (not (same y y))
 
-  turned : (x y : X) → same x y ≡ true → same y x ≡ true
-  turned x y e = sym (o.symm x y) ∙ e
+  same_swapped : (x y : X) → same x y ≡ true → same y x ≡ true
+  same_swapped x y e = sym (o.symm x y) ∙ e
 
   pub self_left : (x y : X) → same x y ≡ true → same x x ≡ true
-  self_left x y e = o.trans x y x e (turned x y e)
+  self_left x y e = o.trans x y x e (same_swapped x y e)
 
   pub self_right : (x y : X) → same x y ≡ true → same y y ≡ true
-  self_right x y e = self_left y x (turned x y e)
+  self_right x y e = self_left y x (same_swapped x y e)
 
   pub at_self : (x y : X) → same x x ≡ true → lumped x y ≡ same x y
   at_self x y e = ap (λ b. cond b (same x y) (not (same y y))) e
@@ -43,7 +43,7 @@ module _ {X : Type 0} (same : X → X → Bool) (o : IsPartialEquivalence same) 
   lumped_turned : (x y : X) → lumped x y ≡ true → lumped y x ≡ true
   lumped_turned x y h =
       elim (cases_Bool (same x x)) [
-        | inl e ↦ let f : same x y ≡ true = sym (at_self x y e) ∙ h in lumped_if_same y x (turned x y f)
+        | inl e ↦ let f : same x y ≡ true = sym (at_self x y e) ∙ h in lumped_if_same y x (same_swapped x y f)
         | inr e ↦ at_other y x (not_true (same y y) (sym (at_other x y e) ∙ h)) ∙ ap not e
       ]
 

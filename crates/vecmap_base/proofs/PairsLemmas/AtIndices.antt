@@ -115,10 +115,10 @@ module _ {K V : Type 0} (test : K → Bool) where
         ap (λ b. if b then Some 0 else option_map suc (index_by test qs)) apart ∙ ap (option_map suc) (index_by_own qs (IsDistinct-tail eq q.0 (keys_of qs) d) i p e t)
 
   -- A query that matches the key of a pair finds something.
-  present_at : (l : List (K × V)) (i : ℕ) (p : K × V) → slice_get l i ≡ Some p → test p.0 ≡ true → is_some (lookup_by test l) ≡ true
-  present_at [] i p e t = absurd (none-some p e)
-  present_at (q ∷ qs) zero p e t = ap (λ b. is_some (cond b (Some q.1) (lookup_by test qs))) (ap (λ r. test r.0) (same_Some q p e) ∙ t)
-  present_at (q ∷ qs) (suc i) p e t = by (test q.0) (present_at qs i p e t)
+  pair_present_at : (l : List (K × V)) (i : ℕ) (p : K × V) → slice_get l i ≡ Some p → test p.0 ≡ true → is_some (lookup_by test l) ≡ true
+  pair_present_at [] i p e t = absurd (none-some p e)
+  pair_present_at (q ∷ qs) zero p e t = ap (λ b. is_some (cond b (Some q.1) (lookup_by test qs))) (ap (λ r. test r.0) (same_Some q p e) ∙ t)
+  pair_present_at (q ∷ qs) (suc i) p e t = by (test q.0) (pair_present_at qs i p e t)
     where
       by : (b : Bool) → is_some (lookup_by test qs) ≡ true → is_some (cond b (Some q.1) (lookup_by test qs)) ≡ true
       by true h = refl
@@ -138,7 +138,7 @@ module _ {K V : Type 0} where
   -- A pair at an index, in the word of contracts.
   pub found_at : (l : List (K × V)) (i : ℕ) (k : K) (v : V) → slice_get l i ≡ Some (k, v) → IsFoundAt i l k v
   found_at l i k v e = record {
-    present = λ test t. present_at test l i (k, v) e t;
+    present = λ test t. pair_present_at test l i (k, v) e t;
     value = λ eq o d. lookup_from_place o l i k v d e;
     index = λ eq o d. index_by_own (eq k) eq o (o.congr k) l d i (k, v) e (o.refl k);
   }
@@ -196,8 +196,8 @@ module _ {K V : Type 0} (eq : K → K → Bool) where
   keys_put : (l : List (K × V)) (k : K) (v : V) → keys_of (put eq l k v) ≡ (if is_some (lookup eq l k) then keys_of l else keys_of l ++ k ∷ [])
   keys_put l k v = keys_of_put eq l k v ∙ ap (λ b. if b then keys_of l else keys_of l ++ k ∷ []) (sym (is_some_lookup_by (eq k) l ∙ is_some_index_of eq l k))
 
-  length_put : (l : List (K × V)) (k : K) (v : V) → length (put eq l k v) ≡ (if is_some (lookup eq l k) then length l else length l + 1)
-  length_put l k v = sym (length-map (put eq l k v) (λ p. p.0)) ∙ ap length (keys_put l k v) ∙ by (is_some (lookup eq l k))
+  length_put_by_lookup : (l : List (K × V)) (k : K) (v : V) → length (put eq l k v) ≡ (if is_some (lookup eq l k) then length l else length l + 1)
+  length_put_by_lookup l k v = sym (length-map (put eq l k v) (λ p. p.0)) ∙ ap length (keys_put l k v) ∙ by (is_some (lookup eq l k))
     where
       by : (b : Bool) → length (if b then keys_of l else keys_of l ++ k ∷ []) ≡ (if b then length l else length l + 1)
       by true = length-map l (λ p. p.0)
@@ -228,8 +228,8 @@ module _ {K V : Type 0} (eq : K → K → Bool) where
     kept_keys l k v some = keys_put l k v ∙ ap (λ b. if b then keys_of l else keys_of l ++ k ∷ []) some
 
     -- If the value is the one that is stored, nothing changes.
-    put_same : (l : List (K × V)) (k : K) (v w : V) → IsSome (lookup eq l k) → v ≡ unwrap_or (lookup eq l k) w → put eq l k v ≡ l
-    put_same l k v w some e = ap (put eq l k) e ∙ put_stored eq l k w ∙ present (index_of eq l k) (sym (is_some_lookup_by (eq k) l) ∙ some)
+    put_found : (l : List (K × V)) (k : K) (v w : V) → IsSome (lookup eq l k) → v ≡ unwrap_or (lookup eq l k) w → put eq l k v ≡ l
+    put_found l k v w some e = ap (put eq l k) e ∙ put_stored eq l k w ∙ present (index_of eq l k) (sym (is_some_lookup_by (eq k) l) ∙ some)
       where
         present : (found : Option ℕ) → IsSome found → option_map_or (λ i. l) found (l ++ (k, w) ∷ []) ≡ l
         present None h = absurd (true≢false (sym h))
@@ -241,13 +241,13 @@ module _ {K V : Type 0} (eq : K → K → Bool) where
       index = index_put l k v;
       indices = λ test. indices_put test l k v;
       keys = keys_put l k v;
-      len = length_put l k v;
+      len = length_put_by_lookup l k v;
       kept = kept_keys l k v;
       appended = λ absent. put_absent eq l k v (index_by_none (eq k) l absent);
       last = λ absent. index_put l k v ∙ ap (λ found. Some (unwrap_or found (length l))) (index_by_none (eq k) l absent);
       pair = λ absent. ap (λ n. slice_get n (length l)) (put_absent eq l k v (index_by_none (eq k) l absent)) ∙ slice_get_last l (k, v);
       stay = λ some test. same_indices test l (put eq l k v) (kept_keys l k v some);
-      same = λ w. put_same l k v w;
+      same = λ w. put_found l k v w;
     })
 
     -- Each key has the same index after an insertion that keeps an equal key and after one that replaces it.
@@ -286,7 +286,7 @@ module _ {K V : Type 0} (eq : K → K → Bool) where
       index = index_of_put_key l k v k ∙ index_put l k v;
       indices = λ q i at. index_of_put_key l k v q ∙ indices_put (eq q) l k v i at;
       pair = pair_put_key l k v;
-      len = length_put_key l k v ∙ length_put l k v;
+      len = length_put_key l k v ∙ length_put_by_lookup l k v;
       appended = appended_key l k v;
       last = λ absent. ap (λ n. slice_get n (length l)) (appended_key l k v absent) ∙ slice_get_last l (k, v);
       keys = λ own. keys_put_key l k v own ∙ keys_put l k v;

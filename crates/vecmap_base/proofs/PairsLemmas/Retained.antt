@@ -5,7 +5,7 @@ use Rattle.std.proofs.lemmas.Option.{none-some}
 use Rattle.vecmap_base.specs.{Kept.KeepsKeys, Kept.Kept, Kept.Retains, Kept.ReturnsAtKey, Kept.TestsItems, Pairs.lookup_by}
 
 module _ {F X : Type 0} (R : F → X → Bool → X → F → Type 0) where
-  length_kept : (f g : F) (l m : List X) → Kept R f l m g → length m ≤ length l
+  pub length_kept : (f g : F) (l m : List X) → Kept R f l m g → length m ≤ length l
   length_kept f g [] m k = subst (λ t. length t ≤ 0) (sym k.0) (omega arith)
   length_kept f g (x ∷ xs) m k = subst (λ t. length t ≤ length (x ∷ xs)) (sym k.6) (by k.0 (length_kept k.2 g xs k.3 k.5))
     where
@@ -22,16 +22,16 @@ module _ {F X : Type 0} (R : F → X → Bool → X → F → Type 0) where
 
 module _ {F K V : Type 0} (R : F → K × V → Bool → K × V → F → Type 0) (same : KeepsKeys R) where
   -- If all pairs are kept whose keys fail a test, and none passes it, nothing changes.
-  all_kept : (test : K → Bool) (f g : F) (l m : List (K × V)) → ReturnsAtKey R f (λ k. not (test k)) true → Kept R f l m g → lookup_by test l ≡ None → m ≡ l
-  all_kept test f g [] m told k none = k.0
-  all_kept test f g (p ∷ ps) m told k none =
+  all_pairs_kept : (test : K → Bool) (f g : F) (l m : List (K × V)) → ReturnsAtKey R f (λ k. not (test k)) true → Kept R f l m g → lookup_by test l ≡ None → m ≡ l
+  all_pairs_kept test f g [] m told k none = k.0
+  all_pairs_kept test f g (p ∷ ps) m told k none =
       elim (cases_Bool (test p.0)) [
         | inl e ↦ absurd (none-some p.1 (sym none ∙ ap (λ b. cond b (Some p.1) (lookup_by test ps)) e))
         | inr n ↦
             let call = told p k.0 k.1 k.2 k.4 in
             let here = call.0 (ap not n) in
             let key = same f p k.0 k.1 k.2 k.4 in
-            let rest = all_kept test k.2 g ps k.3 (subst (λ z. ReturnsAtKey R z (λ y. not (test y)) true) (sym call.1) told) k.5
+            let rest = all_pairs_kept test k.2 g ps k.3 (subst (λ z. ReturnsAtKey R z (λ y. not (test y)) true) (sym call.1) told) k.5
             (sym (ap (λ b. cond b (Some p.1) (lookup_by test ps)) n) ∙ none) in
             k.6 ∙ (λ i. if here.0 i then (key i, here.1 i) ∷ rest i else rest i)
       ]
@@ -41,5 +41,5 @@ pub retains : {F K V : Type 0} (R : F → K × V → Bool → K × V → F → T
 retains R f l m kept = record {
   len = length_kept R f kept.0 l m kept.1;
   filters = λ keep told. filter_kept R keep f kept.0 l m told kept.1;
-  same = λ test none told same. all_kept R same test f kept.0 l m told kept.1 none;
+  same = λ test none told same. all_pairs_kept R same test f kept.0 l m told kept.1 none;
 }

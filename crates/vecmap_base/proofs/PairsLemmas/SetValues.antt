@@ -15,16 +15,16 @@ module _ {K V W : Type 0} (w : W) where
   keys_stay [] = refl
   keys_stay (p ∷ ps) = ap (λ ks. p.0 ∷ ks) (keys_stay ps)
 
-  all_set : (l : List (K × V)) → All (λ x. x ≡ w) (values_of (map_values (λ _. w) l))
-  all_set [] = All-nil (λ x. x ≡ w)
-  all_set (p ∷ ps) = All-cons (λ x. x ≡ w) w (values_of (map_values (λ _. w) ps)) refl (all_set ps)
+  all_values_set : (l : List (K × V)) → All (λ x. x ≡ w) (values_of (map_values (λ _. w) l))
+  all_values_set [] = All-nil (λ x. x ≡ w)
+  all_values_set (p ∷ ps) = All-cons (λ x. x ≡ w) w (values_of (map_values (λ _. w) ps)) refl (all_values_set ps)
 
   module _ (l : List (K × V)) (m : List (K × W)) (e : m ≡ map_values (λ _. w) l) where
     pub set_found : (test : K → Bool) → IsSome (lookup_by test l) → lookup_by test m ≡ Some w
     set_found test some = ap (lookup_by test) e ∙ lookup_by_map_values (λ _. w) test l ∙ set_if_found w (lookup_by test l) some
 
     pub values_set : All (λ x. x ≡ w) (values_of m)
-    values_set = subst (λ n. All (λ x. x ≡ w) (values_of n)) (sym e) (all_set l)
+    values_set = subst (λ n. All (λ x. x ≡ w) (values_of n)) (sym e) (all_values_set l)
 
 module _ {K V : Type 0} (w : V) where
   set_at : (l : List (K × V)) (i : ℕ) → i < length l → value_at (map_values (λ _. w) l) i ≡ Some w

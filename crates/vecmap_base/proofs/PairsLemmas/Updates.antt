@@ -69,25 +69,25 @@ module _ {K V : Type 0} (eq : K → K → Bool) (o : IsEquivalence eq) (test : K
       ap (lookup_by test) (e ∙ ap (λ f. option_map_or (λ q. swap_remove l i q) f l) at)
       ∙ lookup_by_taken l (swap_remove l i p) p d (IsPermutation-swap_remove l i p (slice_get_within l i p at) (sym (get_or_from_slice_get l i p p at)))
 
-  passes : (l : List (K × V)) (i : ℕ) (p : K × V) → index_by test l ≡ Some i → slice_get l i ≡ Some p → test p.0 ≡ true
-  passes l i p e at = ap (λ q. test q.0) (sym (get_or_from_slice_get l i p p at)) ∙ (position-Some (λ q. test q.0) l i p (sym (index_by_is test l) ∙ e)).1
+  key_passes : (l : List (K × V)) (i : ℕ) (p : K × V) → index_by test l ≡ Some i → slice_get l i ≡ Some p → test p.0 ≡ true
+  key_passes l i p e at = ap (λ q. test q.0) (sym (get_or_from_slice_get l i p p at)) ∙ (position-Some (λ q. test q.0) l i p (sym (index_by_is test l) ∙ e)).1
 
   -- A query whose match is at the index of the removed pair finds nothing.
   pub lookup_by_gone : (l m : List (K × V)) (i : ℕ) (p : K × V) → m ≡ remove l i → slice_get l i ≡ Some p → HasDistinctKeys eq l → index_by test l ≡ Some i → lookup_by test m ≡ None
-  lookup_by_gone l m i p e at d found = lookup_by_removed l m i p e at d ∙ ap (λ b. cond b None (lookup_by test l)) (passes l i p found at)
+  lookup_by_gone l m i p e at d found = lookup_by_removed l m i p e at d ∙ ap (λ b. cond b None (lookup_by test l)) (key_passes l i p found at)
 
   -- The same, if the last pair moves to the index.
   pub lookup_by_swap_removed_out : (l m : List (K × V)) (i : ℕ) (p : K × V) → m ≡ swap_without l i → slice_get l i ≡ Some p → HasDistinctKeys eq l → index_by test l ≡ Some i → lookup_by test m ≡ None
-  lookup_by_swap_removed_out l m i p e at d found = lookup_by_swap_removed l m i p e at d ∙ ap (λ b. cond b None (lookup_by test l)) (passes l i p found at)
+  lookup_by_swap_removed_out l m i p e at d found = lookup_by_swap_removed l m i p e at d ∙ ap (λ b. cond b None (lookup_by test l)) (key_passes l i p found at)
 
   -- If nothing passes, nothing is removed.
   updates_nothing : (l : List (K × V)) → index_by test l ≡ None → UpdatesBy eq test l l None
   updates_nothing l e = updates_from l l None (lookup_by_index test l ∙ ap (option_and_then (value_at l)) e) (λ other tells apart. refl) (λ d. d)
 
   -- The index of a match is in range.
-  none_within : (l : List (K × V)) (i : ℕ) → index_by test l ≡ Some i → slice_get l i ≡ None → ⊥
-  none_within [] i e f = none-some i e
-  none_within (p ∷ ps) i e f =
+  no_pair_within : (l : List (K × V)) (i : ℕ) → index_by test l ≡ Some i → slice_get l i ≡ None → ⊥
+  no_pair_within [] i e f = none-some i e
+  no_pair_within (p ∷ ps) i e f =
       let within = (position-Some (λ q. test q.0) (p ∷ ps) i p (sym (index_by_is test (p ∷ ps)) ∙ e)).0 in
       none-some (get_or (p ∷ ps) i p) (sym f ∙ slice_get-get_or (p ∷ ps) i p within)
 
@@ -96,8 +96,8 @@ module _ {K V : Type 0} (eq : K → K → Bool) (o : IsEquivalence eq) (test : K
   updates_without l d = subst (λ m. UpdatesBy eq test l m None) (sym (without_by_index test l)) (by (index_by test l) refl)
     where
       at : (i : ℕ) (found : Option (K × V)) → index_by test l ≡ Some i → slice_get l i ≡ found → UpdatesBy eq test l (remove l i) None
-      at i None e f = absurd (none_within l i e f)
-      at i (Some p) e f = updates_taken l (remove l i) p d (passes l i p e f) (IsPermutation-remove l i p (slice_get_within l i p f) (sym (get_or_from_slice_get l i p p f)))
+      at i None e f = absurd (no_pair_within l i e f)
+      at i (Some p) e f = updates_taken l (remove l i) p d (key_passes l i p e f) (IsPermutation-remove l i p (slice_get_within l i p f) (sym (get_or_from_slice_get l i p p f)))
 
       by : (found : Option ℕ) → index_by test l ≡ found → UpdatesBy eq test l (option_map_or (λ i. remove l i) found l) None
       by None e = updates_nothing l e
@@ -108,8 +108,8 @@ module _ {K V : Type 0} (eq : K → K → Bool) (o : IsEquivalence eq) (test : K
   updates_swap_without l d = by (index_by test l) refl
     where
       at : (i : ℕ) (found : Option (K × V)) → index_by test l ≡ Some i → slice_get l i ≡ found → UpdatesBy eq test l (option_map_or (λ p. swap_remove l i p) found l) None
-      at i None e f = absurd (none_within l i e f)
-      at i (Some p) e f = updates_taken l (swap_remove l i p) p d (passes l i p e f) (IsPermutation-swap_remove l i p (slice_get_within l i p f) (sym (get_or_from_slice_get l i p p f)))
+      at i None e f = absurd (no_pair_within l i e f)
+      at i (Some p) e f = updates_taken l (swap_remove l i p) p d (key_passes l i p e f) (IsPermutation-swap_remove l i p (slice_get_within l i p f) (sym (get_or_from_slice_get l i p p f)))
 
       by : (found : Option ℕ) → index_by test l ≡ found → UpdatesBy eq test l (option_map_or (λ i. swap_without l i) found l) None
       by None e = updates_nothing l e

@@ -2,9 +2,9 @@
 ghost use Rattle.std.specs.Prelude.{◌≡◌, ⊤, Bool, false, length, true};
 ghost use Rattle.std.specs.Iterator.{at_most};
 ghost use Rattle.vecmap_base.specs.Iterators.{IsHintFor};
-ghost use Rattle.vecmap_set.specs.Lazy.{SiftsAll, SiftsFirst, SiftsLast, presence, sift_of, sift_rest};
+ghost use Rattle.vecmap_set.specs.Lazy.{FiltersAll, FiltersFirst, FiltersLast, filtered_of, filtered_rest, presence};
 
-use super::{sift_back, sift_front};
+use super::{filtered_back, filtered_front};
 use std::alloc::AllocError;
 use std::iter::FusedIterator;
 use std::marker::{Model, PhantomData};
@@ -86,17 +86,17 @@ pub type Intersection<'a, T: Eq> = FilteredOf<'a, T, Present>;
 
 impl<'a, T: Eq, P: Presence> Model for FilteredOf<'a, T, P> {
     ghost use Rattle.std.specs.Slice.Iter.{iter_rest};
-    ghost use Rattle.vecmap_set.specs.Lazy.{Sift};
+    ghost use Rattle.vecmap_set.specs.Lazy.{Filtered};
 
-    ghost Value = { Sift T };
+    ghost Value = { Filtered T };
 
-    ghost view = { λ a. record { unwalked = iter_rest a.items; other = a.other.now } };
+    ghost view = { λ a. record { ahead = iter_rest a.items; other = a.other.now } };
 }
 
 impl<'a, T: Eq, P: Presence> FilteredOf<'a, T, P> {
     // Creates an iterator over the elements of `items` whose presence in `other` is `P`.
     pub(crate) fn over(items: &'a [T], other: &'a [T]) -> FilteredOf<'a, T, P>
-        ensures { SiftsAll (presence T.eq P.IS_WITHIN) (sift_of items.now other.now) result }
+        ensures { FiltersAll (presence T.eq P.IS_WITHIN) (filtered_of items.now other.now) result }
     {
         FilteredOf {
             items: items.iter(),
@@ -131,29 +131,29 @@ impl<'a, T: Eq, P: Presence> FilteredOf<'a, T, P> {
 impl<'a, T: Eq, P: Presence> Iterator for FilteredOf<'a, T, P> {
     type Item = &'a T;
 
-    ghost next_gives = { SiftsFirst (presence T.eq P.IS_WITHIN) };
+    ghost next_gives = { FiltersFirst (presence T.eq P.IS_WITHIN) };
 
-    ghost remaining = { λ s. at_most (length (sift_rest (presence T.eq P.IS_WITHIN) s)) };
+    ghost remaining = { λ s. at_most (length (filtered_rest (presence T.eq P.IS_WITHIN) s)) };
 
     fn next(&mut self) -> Option<&'a T> {
-        sift_front(&mut self.items, self.other, P::IS_WITHIN)
+        filtered_front(&mut self.items, self.other, P::IS_WITHIN)
     }
 
     /// Returns 0 and the number of elements that are not yet visited.
     #[tactic(auto, using(crate::proofs::LazyLemmas::length_filter))]
     fn size_hint(&self) -> (usize, Option<usize>)
-        ensures bounds { IsHintFor (length (sift_rest (presence T.eq P.IS_WITHIN) self.now)) result }
-        ensures hint { result ≡ (0, Some (length self.now.unwalked)) }
+        ensures bounds { IsHintFor (length (filtered_rest (presence T.eq P.IS_WITHIN) self.now)) result }
+        ensures hint { result ≡ (0, Some (length self.now.ahead)) }
     {
         (0, Some(self.items.len()))
     }
 }
 
 impl<'a, T: Eq, P: Presence> DoubleEndedIterator for FilteredOf<'a, T, P> {
-    ghost next_back_gives = { SiftsLast (presence T.eq P.IS_WITHIN) };
+    ghost next_back_gives = { FiltersLast (presence T.eq P.IS_WITHIN) };
 
     fn next_back(&mut self) -> Option<&'a T> {
-        sift_back(&mut self.items, self.other, P::IS_WITHIN)
+        filtered_back(&mut self.items, self.other, P::IS_WITHIN)
     }
 }
 

@@ -36,9 +36,9 @@ pub struct SymmetricDifference<'a, T: Eq> {
 }
 
 impl<'a, T: Eq> Model for SymmetricDifference<'a, T> {
-    ghost use Rattle.vecmap_set.specs.Lazy.{Parts, Sift};
+    ghost use Rattle.vecmap_set.specs.Lazy.{Filtered, Parts};
 
-    ghost Value = { Parts (Sift T) (Sift T) };
+    ghost Value = { Parts (Filtered T) (Filtered T) };
 
     ghost view = { λ a. record { first = a.first; second = a.second } };
 }
@@ -98,7 +98,7 @@ impl<'a, T: Eq> Iterator for SymmetricDifference<'a, T> {
         ensures bounds { IsHintFor (length (symmetric_rest T.eq self.now)) result }
         ensures lower_hint { result.0 ≡ 0 }
         ensures upper_hint { IsBound result.1
-            (length self.now.first.unwalked + length self.now.second.unwalked) }
+            (length self.now.first.ahead + length self.now.second.ahead) }
     {
         let (_, first) = self.first.size_hint();
         let (_, second) = self.second.size_hint();

@@ -37,9 +37,9 @@ pub struct Union<'a, T: Eq> {
 impl<'a, T: Eq> Model for Union<'a, T> {
     ghost use Rattle.std.specs.Prelude.{List};
     ghost use Rattle.std.specs.Slice.Iter.{iter_rest};
-    ghost use Rattle.vecmap_set.specs.Lazy.{Parts, Sift};
+    ghost use Rattle.vecmap_set.specs.Lazy.{Filtered, Parts};
 
-    ghost Value = { Parts (List T) (Sift T) };
+    ghost Value = { Parts (List T) (Filtered T) };
 
     ghost view = { λ a. record { first = iter_rest a.first; second = a.second } };
 }
@@ -99,7 +99,7 @@ impl<'a, T: Eq> Iterator for Union<'a, T> {
         ensures bounds { IsHintFor (length (union_rest T.eq self.now)) result }
         ensures lower_hint { result.0 ≡ length self.now.first }
         ensures upper_hint { IsBound result.1
-            (length self.now.first + length self.now.second.unwalked) }
+            (length self.now.first + length self.now.second.ahead) }
     {
         let first = self.first.len();
         let (_, second) = self.second.size_hint();

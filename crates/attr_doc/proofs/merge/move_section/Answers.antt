@@ -3,7 +3,7 @@ use Rattle.std.proofs.lemmas.Map.{length-set_value}
 use Rattle.std.specs.Str.{str_eq_ignore_ascii_case}
 use Rattle.vecmap_laws.proofs.AfterPuts.{length_put}
 use Rattle.attr_doc.proofs.ChangeLemmas.{at_ok, section_added, section_joined}
-use Rattle.attr_doc.proofs.RoomLemmas.{others_after, others_stay}
+use Rattle.attr_doc.proofs.RoomLemmas.{other_values_stay, others_after}
 use Rattle.attr_doc.proofs.merge.move_section.Goals as goal
 
 pub unwrap-requires : goal.unwrap-requires
@@ -18,7 +18,7 @@ returns-in-Some-clause-len c =
     omega (arith, same)
 
 pub returns-in-Some-clause-others : goal.returns-in-Some-clause-others
-returns-in-Some-clause-others c = others_stay c.args.sections.now c.args.name c.append.new.self (c.in-Some.ensures.found.0 refl)
+returns-in-Some-clause-others c = other_values_stay c.args.sections.now c.args.name c.append.new.self (c.in-Some.ensures.found.0 refl)
 
 pub returns-in-None-clause-sections : goal.returns-in-None-clause-sections
 returns-in-None-clause-sections c = section_added c.args.sections.now.entries c.insert.new.self.entries c.args.name c.args.texts c.in-None.ensures.value (at_ok c.insert.result c.unwrap-in-None.result c.unwrap-in-None.ensures c.insert.ensures.entries)

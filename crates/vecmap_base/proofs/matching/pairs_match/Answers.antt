@@ -42,10 +42,10 @@ pub loop-i-preserved : goal.loop-i-preserved
 loop-i-preserved g c =
     let same = same_pair g.K.PartialEq.eq g.V.PartialEq.eq in
     let laws = same_pair_partial g.K.PartialEq.eq g.V.PartialEq.eq g.met.K.Eq.laws g.met.V.PartialEq.laws in
-    let place = c.in-Some-find_free.place in
+    let index = c.in-Some-find_free.index in
     let found = c.in-Some-find_free.ensures in (
-      one_matched_partial same laws c.args.a.now c.args.b.now c.loop-i.i place c.index-a-i.result c.loop-i.taken c.loop-i-test.true c.index-a-i.is found.within found.unmarked found.equal c.loop-i.invariant.0,
-      omega (arith, c.loop-i.invariant.1, length-set c.loop-i.taken place true),
+      one_matched_partial same laws c.args.a.now c.args.b.now c.loop-i.i index c.index-a-i.result c.loop-i.taken c.loop-i-test.true c.index-a-i.is found.within found.unmarked found.equal c.loop-i.invariant.0,
+      omega (arith, c.loop-i.invariant.1, length-set c.loop-i.taken index true),
     )
 
 pub returns : goal.returns

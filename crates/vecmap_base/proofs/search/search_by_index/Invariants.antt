@@ -1,5 +1,5 @@
 use Rattle.std.proofs.Common.{◌≡◌, ℕ, ◌+◌, ◌^◌, ◌<◌, ◌≤◌, Ordering, length}
-use Rattle.vecmap_base.specs.Orders.{AnswersAtIndex}
+use Rattle.vecmap_base.specs.Orders.{ReturnsAtIndex}
 use Rattle.vecmap_base.proofs.SearchLemmas.{Narrowed}
 use Rattle.vecmap_base.proofs.search.search_by_index.Given as goal
 
@@ -8,7 +8,7 @@ invariant-loop-size g l = record {
   power : (k : ℕ) × (l.size ≡ 2 ^ k);
   positive : 0 < l.size;
   within : l.base + l.size ≤ length l.items;
-  narrowed : (ord : g.row.T.Denot → Ordering) → AnswersAtIndex g.F.Fn ord l.f l.items → Narrowed ord l.items l.base l.size;
+  narrowed : (ord : g.row.T.Denot → Ordering) → ReturnsAtIndex g.F.Fn ord l.f l.items → Narrowed ord l.items l.base l.size;
 }
 
 abbrev pub decreases-loop-size : goal.decreases-loop-size
@@ -19,7 +19,7 @@ invariant-loop-size-2 g l = record {
   power : (k : ℕ) × (l.size ≡ 2 ^ k);
   positive : 0 < l.size;
   within : l.base + l.size ≤ length l.items;
-  narrowed : (ord : g.row.T.Denot → Ordering) → AnswersAtIndex g.F.Fn ord l.f l.items → Narrowed ord l.items l.base l.size;
+  narrowed : (ord : g.row.T.Denot → Ordering) → ReturnsAtIndex g.F.Fn ord l.f l.items → Narrowed ord l.items l.base l.size;
 }
 
 abbrev pub decreases-loop-size-2 : goal.decreases-loop-size-2

@@ -2,7 +2,7 @@
 -- `true`, each returns `false`.
 use Rattle.std.proofs.Common.{◌≡◌, ◌+◌, ◌||◌, Bool, None, arith, false, position, refl, sym, take, true, true≢false, ◌∙◌}
 use Rattle.std.proofs.lemmas.Bool.{or_from, or_parts}
-use Rattle.vecmap_base.specs.Orders.{AnswersOnItem}
+use Rattle.vecmap_base.specs.Orders.{ReturnsOnItem}
 use Rattle.vecmap_base.proofs.IndexLemmas.{none_before_next, position_at}
 use Rattle.vecmap_base.proofs.unrolled.find_of_eight.Given.{Over}
 use Rattle.vecmap_base.proofs.unrolled.find_of_eight.Goals as goal
@@ -35,25 +35,25 @@ returns-then-not-a-b-clause-none g c = λ r p by.
     none_before_next p xs (at + 7) (at + 8) c.index-items-at-8.result (omega (arith, w)) (omega arith) c.index-items-at-8.is (sym (by _ _ c.asks-h.ensures) ∙ to_h.1) seven
 
 -- Where the call for an item returned `false`, and those before it too, no item up to it passes.
-none-a : (g : Over) (c : Else-a g) (p : g.row.T.Denot → Bool) → AnswersOnItem g.F.Fn p c.args.asks.now → position p (take (c.args.at + 1) c.args.items.now) ≡ None
+none-a : (g : Over) (c : Else-a g) (p : g.row.T.Denot → Bool) → ReturnsOnItem g.F.Fn p c.args.asks.now → position p (take (c.args.at + 1) c.args.items.now) ≡ None
 none-a g c p by = none_before_next p c.args.items.now c.args.at (c.args.at + 1) c.index-items-at.result (omega (arith, c.requires.within)) refl c.index-items-at.is (sym (by _ _ c.asks-a.ensures) ∙ c.if-a.false) (c.requires.none_before p by)
 
-none-b : (g : Over) (c : Else-b g) (p : g.row.T.Denot → Bool) → AnswersOnItem g.F.Fn p c.args.asks.now → position p (take (c.args.at + 2) c.args.items.now) ≡ None
+none-b : (g : Over) (c : Else-b g) (p : g.row.T.Denot → Bool) → ReturnsOnItem g.F.Fn p c.args.asks.now → position p (take (c.args.at + 2) c.args.items.now) ≡ None
 none-b g c p by = none_before_next p c.args.items.now (c.args.at + 1) (c.args.at + 2) c.index-items-at-2.result (omega (arith, c.requires.within)) (omega arith) c.index-items-at-2.is (sym (by _ _ c.asks-b.ensures) ∙ c.if-b.false) (none-a g c.before p by)
 
-none-c : (g : Over) (c : Else-c g) (p : g.row.T.Denot → Bool) → AnswersOnItem g.F.Fn p c.args.asks.now → position p (take (c.args.at + 3) c.args.items.now) ≡ None
+none-c : (g : Over) (c : Else-c g) (p : g.row.T.Denot → Bool) → ReturnsOnItem g.F.Fn p c.args.asks.now → position p (take (c.args.at + 3) c.args.items.now) ≡ None
 none-c g c p by = none_before_next p c.args.items.now (c.args.at + 2) (c.args.at + 3) c.index-items-at-3.result (omega (arith, c.requires.within)) (omega arith) c.index-items-at-3.is (sym (by _ _ c.asks-c.ensures) ∙ c.if-c.false) (none-b g c.before p by)
 
-none-d : (g : Over) (c : Else-d g) (p : g.row.T.Denot → Bool) → AnswersOnItem g.F.Fn p c.args.asks.now → position p (take (c.args.at + 4) c.args.items.now) ≡ None
+none-d : (g : Over) (c : Else-d g) (p : g.row.T.Denot → Bool) → ReturnsOnItem g.F.Fn p c.args.asks.now → position p (take (c.args.at + 4) c.args.items.now) ≡ None
 none-d g c p by = none_before_next p c.args.items.now (c.args.at + 3) (c.args.at + 4) c.index-items-at-4.result (omega (arith, c.requires.within)) (omega arith) c.index-items-at-4.is (sym (by _ _ c.asks-d.ensures) ∙ c.if-d.false) (none-c g c.before p by)
 
-none-e : (g : Over) (c : Else-e g) (p : g.row.T.Denot → Bool) → AnswersOnItem g.F.Fn p c.args.asks.now → position p (take (c.args.at + 5) c.args.items.now) ≡ None
+none-e : (g : Over) (c : Else-e g) (p : g.row.T.Denot → Bool) → ReturnsOnItem g.F.Fn p c.args.asks.now → position p (take (c.args.at + 5) c.args.items.now) ≡ None
 none-e g c p by = none_before_next p c.args.items.now (c.args.at + 4) (c.args.at + 5) c.index-items-at-5.result (omega (arith, c.requires.within)) (omega arith) c.index-items-at-5.is (sym (by _ _ c.asks-e.ensures) ∙ c.if-e.false) (none-d g c.before p by)
 
-none-f : (g : Over) (c : Else-f g) (p : g.row.T.Denot → Bool) → AnswersOnItem g.F.Fn p c.args.asks.now → position p (take (c.args.at + 6) c.args.items.now) ≡ None
+none-f : (g : Over) (c : Else-f g) (p : g.row.T.Denot → Bool) → ReturnsOnItem g.F.Fn p c.args.asks.now → position p (take (c.args.at + 6) c.args.items.now) ≡ None
 none-f g c p by = none_before_next p c.args.items.now (c.args.at + 5) (c.args.at + 6) c.index-items-at-6.result (omega (arith, c.requires.within)) (omega arith) c.index-items-at-6.is (sym (by _ _ c.asks-f.ensures) ∙ c.if-f.false) (none-e g c.before p by)
 
-none-g : (g : Over) (c : Else-g g) (p : g.row.T.Denot → Bool) → AnswersOnItem g.F.Fn p c.args.asks.now → position p (take (c.args.at + 7) c.args.items.now) ≡ None
+none-g : (g : Over) (c : Else-g g) (p : g.row.T.Denot → Bool) → ReturnsOnItem g.F.Fn p c.args.asks.now → position p (take (c.args.at + 7) c.args.items.now) ≡ None
 none-g g c p by = none_before_next p c.args.items.now (c.args.at + 6) (c.args.at + 7) c.index-items-at-7.result (omega (arith, c.requires.within)) (omega arith) c.index-items-at-7.is (sym (by _ _ c.asks-g.ensures) ∙ c.if-g.false) (none-f g c.before p by)
 
 pub returns-then-a-clause-index : goal.returns-then-a-clause-index

@@ -6,12 +6,12 @@ use Rattle.vecmap_base.proofs.UpdatedLemmas.{computed, computed_always, keys_upd
 use Rattle.vecmap_base.proofs.UpdatedSteps.{all_updated, callable_next, one_updated}
 use Rattle.vecmap_base.proofs.update.update_pairs.Goals as goal
 use Rattle.vecmap_base.specs.Pairs.{lookup_by}
-use Rattle.vecmap_base.specs.Updated.{TakesValueAt, WritesValueAt}
+use Rattle.vecmap_base.specs.Updated.{CallableAtValue, WritesValueAt}
 
 pub write_value-requires : goal.write_value-requires
 write_value-requires g c =
     let l = c.loop-pair in
-    record { callable = callable_next (WritesValueAt g.F.FnMut tt) c.args.f l.f c.args.pairs.now l.pairs l.pair-index c.pair-item.result l.invariant c.loop-pair-test.true (TakesValueAt g.F.FnMut) c.requires.callable }
+    record { callable = callable_next (WritesValueAt g.F.FnMut tt) c.args.f l.f c.args.pairs.now l.pairs l.pair-index c.pair-item.result l.invariant c.loop-pair-test.true (CallableAtValue g.F.FnMut) c.requires.callable }
 
 pub loop-pair-preserved : goal.loop-pair-preserved
 loop-pair-preserved g c =

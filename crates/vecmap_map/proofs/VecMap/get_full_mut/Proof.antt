@@ -1,4 +1,4 @@
--- The idea: `with_index_by` returns the map with the index of the key, and `full_mut` the references at that index.
+-- The idea: `index_and_map` returns the map with the index of the key, and `full_mut` the references at that index.
 -- The clause `writes_back` is worth a proof by hand: the others say nothing of the map after the borrow, so a body that
 -- changes another pair meets them.
 use Rattle.vecmap_map.proofs.LentLemmas.Steps
@@ -15,8 +15,8 @@ use Rattle.std.specs.contracts.option.Option as OP
 use Rattle.vecmap_map.proofs.LentLemmas.Parts.{then_runs, beside, by_parts, by_index, some_of, none_of, index_then, stays_at_none}
 use Rattle.vecmap_map.specs.Lends.{lends_value_at, lends_beside_index}
 use Rattle.vecmap_map.specs.contracts.VecMap.{the_row}
-use Rattle.vecmap_map.specs.contracts.VecMap.with_index_by as A
-use Rattle.vecmap_map.proofs.VecMap.with_index_by.Met as A-thm
+use Rattle.vecmap_map.specs.contracts.VecMap.index_and_map as A
+use Rattle.vecmap_map.proofs.VecMap.index_and_map.Met as A-thm
 use Rattle.vecmap_map.specs.contracts.VecMap.full_mut as B
 use Rattle.vecmap_map.proofs.VecMap.full_mut.Met as B-thm
 use Rattle.vecmap_map.specs.contracts.VecMap.get_full_mut.{ended, clauses}
@@ -51,7 +51,7 @@ get_full_mut_spec 𝓤 𝓛 𝓜 𝓡 wired KT VT QT KL VL QL CQ E E-dict C C-di
     let Ev = env fn.locals l in
     sets ! (addr ! (through ! refl (stop !))) refl (tt, tt) $
     use1 𝓛 (raw (kA.pre yA)) (beside 𝓤 𝓛 (on_entry 𝓛 S κs qs a vs) _ F G inK inV (qed 𝓛 (raw (emp 𝓤) ∷ []) ∵ use0 𝓛 (raw (fact 𝓤 J)) (fact_i 𝓤 J (emp 𝓤) inQ) $ join ! $ done !)) $
-    calls_at ! (framed 𝓤 H 𝓜 𝓣) kA (A-thm.met 𝓤 𝓛 𝓜 𝓡 (code.calls-vecmap_map::VecMap::with_index_by 𝓡.env wired) KT VT QT KL VL QL CQ E E-dict C C-dict O O-dict P P-dict E-met C-met O-met P-met) yA (and_then ! (get ! refl) (and_then ! (get ! refl) (no_more !))) (λ v.
+    calls_at ! (framed 𝓤 H 𝓜 𝓣) kA (A-thm.met 𝓤 𝓛 𝓜 𝓡 (code.calls-vecmap_map::VecMap::index_and_map 𝓡.env wired) KT VT QT KL VL QL CQ E E-dict C C-dict O O-dict P P-dict E-met C-met O-met P-met) yA (and_then ! (get ! refl) (and_then ! (get ! refl) (no_more !))) (λ v.
     use1 𝓛 (later (some (λ (x : Both.Denot). (raw toks ⊛ ‵ (Both.own_val x (v ∷ [])))
     ⊛ some (λ (ls : Lasts (A.ended KT VT QT E E-dict C C-dict O O-dict P P-dict) κs a). ‵ (lasts (A.ended KT VT QT E E-dict C C-dict O O-dict P P-dict) κs a ls)
     ⊛ (raw (fact 𝓤 (x.0 ≡ found)) ⊛ (raw (fact 𝓤 (IfSome x.0 (λ i. i < length m.now.entries))) ⊛ (raw (fact 𝓤 (x.1.ghost_name ≡ m.ghost_name)) ⊛ raw (fact 𝓤 (x.1.now ≡ m.now)))))))))

@@ -10,8 +10,8 @@ use Rattle.vecmap_map.specs.Lends.{lends_beside_key}
 use Rattle.vecmap_map.specs.contracts.VecMap.{the_row}
 use Rattle.vecmap_map.specs.contracts.VecMap.get_index_mut as A
 use Rattle.vecmap_map.proofs.VecMap.get_index_mut.Met as A-thm
-use Rattle.vecmap_map.specs.contracts.VecMap.with_last_index as W
-use Rattle.vecmap_map.proofs.VecMap.with_last_index.Met as W-thm
+use Rattle.vecmap_map.specs.contracts.VecMap.last_index_and_map as W
+use Rattle.vecmap_map.proofs.VecMap.last_index_and_map.Met as W-thm
 use Rattle.vecmap_map.specs.contracts.VecMap.last_mut.{ended, clauses}
 use Rattle.vecmap_map.specs.contracts.VecMap.last_mut.Key.{name as #self}
 use Rattle.vecmap_map.proofs.VecMap.last_mut.Statement.{statement}
@@ -43,7 +43,7 @@ last_mut_spec 𝓤 𝓛 𝓜 𝓡 wired KT VT KL VL =
     enter ! 𝓣.C 𝓣.Λ fn (vptr m.ref_ptr.0 m.ref_ptr.1 ∷ []) Post $ alloc_all ! (λ l. pass_all ! refl ((tt, tt), tt) $
     sets ! (addr ! (through ! refl (stop !))) refl (tt, tt) $
     use1 𝓛 (raw (kW.pre yW)) (beside_facts 𝓤 𝓛 (on_entry 𝓛 S κs qs a vs) F G inK inV) $
-    calls_at ! (framed 𝓤 H 𝓜 𝓣) kW (W-thm.met 𝓤 𝓛 𝓜 𝓡 (code.calls-vecmap_map::VecMap::with_last_index 𝓡.env wired) KT VT KL VL) yW (and_then ! (get ! refl) (no_more !)) (λ v.
+    calls_at ! (framed 𝓤 H 𝓜 𝓣) kW (W-thm.met 𝓤 𝓛 𝓜 𝓡 (code.calls-vecmap_map::VecMap::last_index_and_map 𝓡.env wired) KT VT KL VL) yW (and_then ! (get ! refl) (no_more !)) (λ v.
     use1 𝓛 (later (some (λ (x : Both.Denot). (raw toks ⊛ ‵ (Both.own_val x (v ∷ []))) ⊛ some (λ (ls : Lasts (W.ended KT VT) κs a). ‵ (lasts (W.ended KT VT) κs a ls) ⊛ (raw (fact 𝓤 (x.0 ≡ i)) ⊛ (raw (fact 𝓤 (x.1.ghost_name ≡ m.ghost_name)) ⊛ raw (fact 𝓤 (x.1.now ≡ m.now))))))))
     (id⊢ 𝓤 (kW.post yW v)) $
     await ! tt $ pick ! (λ x. split ! $ move ! (1 ∷ []) $ pick ! (λ _. split ! $ drop ! $ split ! $ heard ! _ (λ place. split ! $ heard ! _ (λ name. heard ! _ (λ same. split ! $ move ! (1 ∷ []) $

@@ -2,7 +2,7 @@ use Rattle.std.specs.List.{list_any}
 use Rattle.std.proofs.Common.{◌≡◌, ◌∙◌, None, Some, ap, arith, false, is_some, position, sym, true}
 use Rattle.vecmap_base.proofs.IndexLemmas.{list_any_position, position_appended}
 use Rattle.vecmap_base.proofs.ItemsLemmas.Members.{absent_by, members_appended_by, members_matched}
-use Rattle.vecmap_set.proofs.IndexLemmas.{stored_at}
+use Rattle.vecmap_set.proofs.IndexLemmas.{found_item_at}
 use Rattle.vecmap_set.proofs.VecSet.index_or_try_insert_with.Goals as goal
 
 pub returns-in-Some-clause-updates : goal.returns-in-Some-clause-updates
@@ -42,7 +42,7 @@ returns-in-Some-clause-at g c =
     let test = g.Q.Equivalent.equivalent c.args.query in
     let s = c.args.self.now.elements in
     let found : position test s ≡ Some c.in-Some.index = ap (λ v. position test v.elements) (sym c.self.view_is) ∙ ap (position test) (sym c.deref.ensures.value) ∙ sym c.find_item_equivalent.ensures.index ∙ c.in-Some.is in
-    stored_at test s (Some c.in-Some.index) (sym found)
+    found_item_at test s (Some c.in-Some.index) (sym found)
 
 pub returns-in-Some-clause-len : goal.returns-in-Some-clause-len
 returns-in-Some-clause-len g c =
@@ -54,7 +54,7 @@ returns-in-Some-clause-len g c =
 
 pub returns-in-Ok-clause-at : goal.returns-in-Ok-clause-at
 returns-in-Ok-clause-at g c =
-    stored_at (g.Q.Equivalent.equivalent c.args.query) c.insert_unique.new.self.elements (Some c.len-index.result) (sym (returns-in-Ok-clause-index g c))
+    found_item_at (g.Q.Equivalent.equivalent c.args.query) c.insert_unique.new.self.elements (Some c.len-index.result) (sym (returns-in-Ok-clause-index g c))
 
 pub returns-in-Ok-clause-len : goal.returns-in-Ok-clause-len
 returns-in-Ok-clause-len g c =

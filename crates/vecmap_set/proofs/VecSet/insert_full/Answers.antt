@@ -3,7 +3,7 @@ use Rattle.std.proofs.Common.{◌≡◌, ◌∙◌, None, Some, ap, rules, sym}
 use Rattle.vecmap_base.specs.Items.{item_index}
 use Rattle.vecmap_base.proofs.IndexLemmas.{list_any_position, position_appended}
 use Rattle.vecmap_base.proofs.ItemsLemmas.Members.{members_of_add}
-use Rattle.vecmap_set.proofs.IndexLemmas.{stored_at}
+use Rattle.vecmap_set.proofs.IndexLemmas.{found_item_at}
 use Rattle.vecmap_set.proofs.QueryLemmas.{any_of_add}
 use Rattle.vecmap_set.proofs.VecSet.insert_full.Goals as goal
 
@@ -12,7 +12,7 @@ returns-in-Some-clause-at g c =
     let eq = g.T.PartialEq.eq in
     let s = c.args.self.now.elements in
     let place : item_index eq s c.args.item ≡ Some c.in-Some.index = ap (λ v. item_index eq v.elements c.args.item) (sym c.self.view_is) ∙ ap (λ l. item_index eq l c.args.item) (sym c.deref.ensures.value) ∙ sym c.find_item.ensures.index ∙ c.in-Some.is in
-    stored_at (eq c.args.item) s (Some c.in-Some.index) (sym place)
+    found_item_at (eq c.args.item) s (Some c.in-Some.index) (sym place)
 
 pub returns-in-Some-clause-updates : goal.returns-in-Some-clause-updates
 returns-in-Some-clause-updates g c = members_of_add g.T.PartialEq.eq g.met.T.Eq.laws c.args.self.now.elements _ c.args.item (search (rules, list_any_position))
@@ -29,4 +29,4 @@ returns-clause-found g c =
     ∙ position_appended (eq c.args.item) s c.args.item none (g.met.T.Eq.laws.refl c.args.item) ∙ ap (λ n. Some n) (sym c.len-index.ensures.count)
 
 pub returns-clause-at : goal.returns-clause-at
-returns-clause-at g c = stored_at (g.T.PartialEq.eq c.args.item) c.insert_unique.new.self.elements (Some c.len-index.result) (sym (returns-clause-found g c))
+returns-clause-at g c = found_item_at (g.T.PartialEq.eq c.args.item) c.insert_unique.new.self.elements (Some c.len-index.result) (sym (returns-clause-found g c))

@@ -1,5 +1,5 @@
 use Rattle.vecmap_base.proofs.DistinctLemmas.Order.{distinct_rearranged}
-use Rattle.vecmap_set.proofs.QueryLemmas.{reordered}
+use Rattle.vecmap_set.proofs.QueryLemmas.{items_reordered}
 use Rattle.vecmap_set.proofs.IndexLemmas.{at_moved, before_moved, index_moved}
 use Rattle.std.proofs.Common.{rules}
 use Rattle.vecmap_set.proofs.VecSet.move_index.Goals as goal
@@ -14,7 +14,7 @@ pub returns-clause-elements : goal.returns-clause-elements
 returns-clause-elements g c = search rules
 
 pub returns-clause-reordered : goal.returns-clause-reordered
-returns-clause-reordered g c = rw (← c.self.view_is) (reordered _ _ c.move_to.ensures.rearranged)
+returns-clause-reordered g c = rw (← c.self.view_is) (items_reordered _ _ c.move_to.ensures.rearranged)
 
 pub returns-clause-moves : goal.returns-clause-moves
 returns-clause-moves g c =

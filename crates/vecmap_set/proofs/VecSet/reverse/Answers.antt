@@ -1,14 +1,14 @@
 use Rattle.std.proofs.Common.{◌-◌, length, rules}
 use Rattle.vecmap_base.proofs.DistinctLemmas.Order.{distinct_reverse}
 use Rattle.vecmap_set.proofs.IndexLemmas.{at_reversed, index_moved}
-use Rattle.vecmap_set.proofs.QueryLemmas.{reordered_by_reverse}
+use Rattle.vecmap_set.proofs.QueryLemmas.{items_reordered_by_reverse}
 use Rattle.vecmap_set.proofs.VecSet.reverse.Goals as goal
 
 pub returns-clause-elements : goal.returns-clause-elements
 returns-clause-elements g c = search rules
 
 pub returns-clause-reordered : goal.returns-clause-reordered
-returns-clause-reordered g c = reordered_by_reverse c.args.self.now.elements _ (returns-clause-elements g c)
+returns-clause-reordered g c = items_reordered_by_reverse c.args.self.now.elements _ (returns-clause-elements g c)
 
 pub returns-clause-moves : goal.returns-clause-moves
 returns-clause-moves g c i within =

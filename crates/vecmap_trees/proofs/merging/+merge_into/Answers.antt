@@ -8,7 +8,7 @@ use Rattle.vecmap_laws.proofs.Rules.{on_err}
 use Rattle.vecmap_trees.specs.Trees.{AreDistinctMembers, IsObject, leaf_at, leaf_below, members, merged_below, merged_leaf, merged_member}
 use Rattle.vecmap_trees.specs.declared.Json.TheViews.{size-Json, the_lemmas}
 use denote.Param.Weighed.{most}
-use Rattle.vecmap_trees.proofs.MergeLemmas.{absent_below, distinct_first, distinct_members, distinct_rest, failed_at, kept_at, member_failed, member_merged, merged_at, one_failed, one_merged, other_member_kept, replaced_at, still_untouched}
+use Rattle.vecmap_trees.proofs.MergeLemmas.{absent_below, distinct_members, distinct_rest, failed_at, first_has_distinct_names, kept_at, member_failed, member_merged, merged_at, one_failed, one_merged, other_member_kept, replaced_at, still_untouched}
 use Rattle.vecmap_trees.proofs.merging.+merge_into.Goals as goal
 
 pub merge_into-returns-in-Object-tree-clause-merged :
@@ -103,7 +103,7 @@ merge_members-loop-name-preserved t c =
       distinct = λ d. distinct_rest name value rest (subst AreDistinctMembers steps (inv.distinct d));
       merged = λ d n names.
           let e = subst AreDistinctMembers steps (inv.distinct d) in
-          one_merged name value rest e mine new (c.in_ok-merge_member.ensures.merged (distinct_first name value rest e)) c.merge_member.ensures.other_names n names
+          one_merged name value rest e mine new (c.in_ok-merge_member.ensures.merged (first_has_distinct_names name value rest e)) c.merge_member.ensures.other_names n names
           ∙ ap (λ l. merged_member n names l mine) (sym steps) ∙ inv.merged d n names;
       kept = λ n none.
           let before = inv.kept n none in
@@ -136,7 +136,7 @@ merge_members-returns-in_err-merge_member-clause-err t c =
     on_err c.from_residual.result
     (λ d n names.
     let e = subst AreDistinctMembers steps (inv.distinct d) in
-    one_failed name value rest c.args.theirs.entries mine c.merge_member.new.mine.entries old (c.in_err-merge_member.ensures.err (distinct_first name value rest e)) c.merge_member.ensures.other_names n names
+    one_failed name value rest c.args.theirs.entries mine c.merge_member.new.mine.entries old (c.in_err-merge_member.ensures.err (first_has_distinct_names name value rest e)) c.merge_member.ensures.other_names n names
     (ap (λ l. merged_member n names l mine) (sym steps) ∙ inv.merged d n names)
     (subst (λ l. (lookup_by (has_text n) l ≡ None) ⊎ (lookup_by (has_text n) mine ≡ lookup_by (has_text n) old)) steps (inv.untouched d n)))
 

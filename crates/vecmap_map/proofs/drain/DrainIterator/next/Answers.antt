@@ -5,8 +5,8 @@ use Rattle.vecmap_map.proofs.drain.DrainIterator.next.Goals as goal
 
 pub returns-clause-steps : goal.returns-clause-steps
 returns-clause-steps g c =
-    let d = c.put_in_order.new.self in
-    let ordered = c.put_in_order.ensures in
+    let d = c.set_reversed.new.self in
+    let ordered = c.set_reversed.ensures in
     let seen = c.map.view_is in
     let took = c.take_last.ensures in
     let pulled = first_pulled d.reversed d.map.now.entries c.take_last.new.self.items c.take_last.result d.keep

@@ -1,7 +1,7 @@
 use Rattle.std.proofs.Common.{◌&&◌, ap, refl}
 use Rattle.std.specs.Set.{is_member}
 use Rattle.vecmap_base.proofs.EqualityLemmas.Relations.{distinct_both, is_member_both}
-use Rattle.vecmap_set.specs.Lazy.{SiftsFirst, sift_rest}
+use Rattle.vecmap_set.specs.Lazy.{FiltersFirst, filtered_rest}
 use Rattle.vecmap_base.specs.Items.{both}
 use Rattle.vecmap_set.proofs.OperatorLemmas.{fits_both, operator_clones, with_members}
 use Rattle.vecmap_set.proofs.operators.RefVecSetBitAnd.bitand.Goals as goal
@@ -11,7 +11,7 @@ returns g c =
     let eq = g.T.PartialEq.eq in
     let laws = g.met.T.Eq.laws in
     with_members g.T.PartialEq.eq laws (λ x y. x && y) (both g.T.PartialEq.eq) refl (is_member_both g.T.PartialEq.eq laws) (fits_both g.T.PartialEq.eq laws (λ x y. x && y)) c.requires
-    (operator_clones (SiftsFirst _) (sift_rest (is_member eq)) laws _ (λ a b apart _. distinct_both _ laws a b apart) (ap (sift_rest (is_member eq)) c.over-shared.ensures.0)
+    (operator_clones (FiltersFirst _) (filtered_rest (is_member eq)) laws _ (λ a b apart _. distinct_both _ laws a b apart) (ap (filtered_rest (is_member eq)) c.over-shared.ensures.0)
     c.as_slice.ensures.elements c.as_slice-2.ensures.elements c.as_slice.ensures.distinct c.as_slice-2.ensures.distinct c.requires c.in_ok-items.ensures (λ s r t h. h.0))
 
 pub invariant_of-result : goal.invariant_of-result

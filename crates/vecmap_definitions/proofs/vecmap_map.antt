@@ -1,7 +1,7 @@
 -- The examples in the comments of the definitions: `.ci/definitions` makes this file.
 use Rattle.std.proofs.Common.{rules}
 use Rattle.std.specs.Prelude.{None, Some, [], nat_eq, refl, ◌∷◌, ◌≡◌}
-use Rattle.vecmap_examples.proofs.Definitions.Notation.{MapRef, copy, done, eq, failed, map_of, occupied, vacant}
+use Rattle.vecmap_definitions.proofs.Notation.{MapRef, copy, done, eq, failed, map_of, occupied, vacant}
 use Rattle.vecmap_map.specs.Contents.{HasRoom, IsFull, KeepsRoom, KeepsRoomAt, Refuses, RefusesAt, Reserves, with_entries, with_pair_at, with_pair_by, with_value_at, with_value_by, with_value_of, with_written}
 use Rattle.vecmap_map.specs.Entry.{AreEntriesWith, entries_swap_without, entries_with, entries_without, entry_index, entry_index_of, entry_key, entry_map, entry_pair, entry_value}
 use Rattle.vecmap_map.specs.MapBulk.{Grows, Puts, RefusesAfter}

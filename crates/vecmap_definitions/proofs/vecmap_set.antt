@@ -2,9 +2,9 @@
 use Rattle.std.proofs.Common.{rules}
 use Rattle.std.specs.List.{IsDistinct}
 use Rattle.std.specs.Prelude.{None, Some, [], false, nat_eq, refl, suc, true, ◌∷◌, ◌≡◌}
-use Rattle.vecmap_examples.proofs.Definitions.Notation.{MapRef, done, failed, set_of}
+use Rattle.vecmap_definitions.proofs.Notation.{MapRef, done, failed, set_of}
 use Rattle.vecmap_set.specs.Contents.{HasRoom, IsFull, KeepsRoom, KeepsRoomAt, Refuses, Reserves, with_elements}
-use Rattle.vecmap_set.specs.Lazy.{IsBound, lacks_item, longer, longer_first, not_longer, not_shorter, presence, shorter, sift_of, sift_of_shorter, sift_rest, symmetric_parts, symmetric_rest, union_parts, union_rest}
+use Rattle.vecmap_set.specs.Lazy.{IsBound, filtered_of, filtered_of_shorter, filtered_rest, lacks_item, longer, longer_first, not_longer, not_shorter, presence, shorter, symmetric_parts, symmetric_rest, union_parts, union_rest}
 use Rattle.vecmap_set.specs.Operators.{symmetric_difference_of, union_of}
 use Rattle.vecmap_set.specs.SetBulk.{Adds, AddsCopies, GrowsDistinct, RefusesAfter, RefusesCopiesAfter}
 
@@ -99,8 +99,8 @@ module _ {A K T : Type 0} (x y : T) (j k : K) (a b c d : A) (r : MapRef T A) whe
   not_longer-1 : not_longer (a ∷ []) (b ∷ c ∷ []) ≡ (a ∷ [])
   not_longer-1 = refl
 
-  sift_of_shorter-1 : sift_of_shorter (a ∷ b ∷ c ∷ []) (c ∷ d ∷ []) ≡ sift_of (c ∷ d ∷ []) (a ∷ b ∷ c ∷ [])
-  sift_of_shorter-1 = refl
+  filtered_of_shorter-1 : filtered_of_shorter (a ∷ b ∷ c ∷ []) (c ∷ d ∷ []) ≡ filtered_of (c ∷ d ∷ []) (a ∷ b ∷ c ∷ [])
+  filtered_of_shorter-1 = refl
 
   longer_first-1 : longer_first (a ∷ []) (b ∷ c ∷ []) ≡ union_parts (b ∷ c ∷ []) (a ∷ [])
   longer_first-1 = refl
@@ -111,8 +111,8 @@ module _ {A K T : Type 0} (x y : T) (j k : K) (a b c d : A) (r : MapRef T A) whe
   IsBound-2 : ¬ (IsBound None 5)
   IsBound-2 = search rules
 
-  sift_rest-1 : sift_rest (lacks_item nat_eq) (sift_of (1 ∷ 2 ∷ []) (2 ∷ [])) ≡ (1 ∷ [])
-  sift_rest-1 = refl
+  filtered_rest-1 : filtered_rest (lacks_item nat_eq) (filtered_of (1 ∷ 2 ∷ []) (2 ∷ [])) ≡ (1 ∷ [])
+  filtered_rest-1 = refl
 
   lacks_item-1 : lacks_item nat_eq (1 ∷ 2 ∷ []) 3 ≡ true
   lacks_item-1 = refl

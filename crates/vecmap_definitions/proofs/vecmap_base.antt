@@ -9,10 +9,10 @@ use Rattle.vecmap_base.specs.Equality.{FirstDiffer, count, counts_agree, free, h
 use Rattle.vecmap_base.specs.Items.{add, adds, both, item_index, moved, only, put_item, stored_first, stored_item, swap_without, swap_without_first, swap_without_item, without_first, without_item}
 use Rattle.vecmap_base.specs.Iterators.{HintsExactly, IsHintFor}
 use Rattle.vecmap_base.specs.Orders.{side}
-use Rattle.vecmap_base.specs.Pairs.{HasDistinctKeys, index_by, index_of, index_or_length, lookup, lookup_by, lookup_full, lookup_pair, lookup_pair_by, map_values, put, put_at, put_key, puts, swap_without_by, swap_without_key, value_at, with_pair, with_value, without_by, without_key}
+use Rattle.vecmap_base.specs.Pairs.{HasDistinctKeys, index_by, index_of, index_or_length, lookup, lookup_by, lookup_indexed, lookup_pair, lookup_pair_by, map_values, put, put_at, put_key, puts, swap_without_by, swap_without_key, value_at, with_pair, with_value, without_by, without_key}
 use Rattle.vecmap_base.specs.Ranges.{AreEndsWithin, IsRangeWithin, items_between, without_between}
 use Rattle.vecmap_base.specs.Repeats.{adds_cost, comparisons, cost, search_cost}
-use Rattle.vecmap_examples.proofs.Definitions.Notation.{MapRef, copy, eq}
+use Rattle.vecmap_definitions.proofs.Notation.{MapRef, copy, eq}
 
 module _ {A K T : Type 0} (x y : T) (j k : K) (a b c d : A) (r : MapRef T A) where
   IsPairClone-1 : IsPairClone copy copy (j, a) (j, a)
@@ -166,8 +166,8 @@ module _ {A K T : Type 0} (x y : T) (j k : K) (a b c d : A) (r : MapRef T A) whe
   lookup_pair-1 : lookup_pair eq (((1, x), a) ∷ []) (1, y) ≡ Some ((1, x), a)
   lookup_pair-1 = refl
 
-  lookup_full-1 : lookup_full eq (((1, x), a) ∷ []) (1, y) ≡ Some (0, a)
-  lookup_full-1 = refl
+  lookup_indexed-1 : lookup_indexed eq (((1, x), a) ∷ []) (1, y) ≡ Some (0, a)
+  lookup_indexed-1 = refl
 
   put-1 : put eq (((1, x), a) ∷ []) (1, y) b ≡ (((1, x), b) ∷ [])
   put-1 = refl

@@ -1,6 +1,6 @@
 -- The examples in the comments of the definitions: `.ci/definitions` makes this file.
 use Rattle.std.specs.Prelude.{None, Some, [], false, min, nat_eq, refl, true, ◌∷◌, ◌≡◌}
-use Rattle.vecmap_examples.proofs.Definitions.Notation.{MapRef, map_of}
+use Rattle.vecmap_definitions.proofs.Notation.{MapRef, map_of}
 use Rattle.vecmap_laws.specs.Agreement.{agrees, lookups_agree}
 use Rattle.vecmap_laws.specs.Algebra.{lazy_intersection, lazy_union}
 use Rattle.vecmap_laws.specs.Combining.{combine, put_with, puts_with}

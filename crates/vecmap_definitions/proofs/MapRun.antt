@@ -9,7 +9,7 @@ use Rattle.vecmap.specs.declared.map_run.reply.MapReply.{MapReply}
 use Rattle.vecmap.specs.declared.map_run.reply.MapReply.TheVariants.{Done, Full, Kept, Moved, NoMemory, Number, OutOfRange, Pair, Pairs, Place, Rest, Truth, Value}
 use Rattle.vecmap_base.specs.Clones.{ArePairClones}
 use Rattle.vecmap_map.specs.Contents.{Contents, KeepsRoomAt}
-use Rattle.vecmap_examples.proofs.Definitions.Notation.{at, eq, nowhere}
+use Rattle.vecmap_definitions.proofs.Notation.{at, eq, nowhere}
 
 module _ {T : Type 0} (x y : T) (keys : clone.Ghosts (ℕ × T)) (values : clone.Ghosts ℕ) (reply : MapReply (ℕ × T) ℕ) (m : List ((ℕ × T) × ℕ)) (new : Contents (ℕ × T) ℕ) (i j place : ℕ) (found : Option ℕ) (added truth : Bool) (old : Option ℕ) (pair : Option ((ℕ × T) × ℕ)) (moved : Option (ℕ × ℕ)) (rest : Contents (ℕ × T) ℕ) where
   abbrev l : List ((ℕ × T) × ℕ)

@@ -2,7 +2,7 @@ use Rattle.std.proofs.Common.{◌≡◌, length}
 use Rattle.std.specs.List.{after_first, filter}
 use Rattle.std.specs.Slice.Iter.{iter_rest}
 use Rattle.vecmap_set.specs.Lazy.{presence}
-use Rattle.vecmap_set.proofs.lazy.sift_front.Given as goal
+use Rattle.vecmap_set.proofs.lazy.filtered_front.Given as goal
 
 abbrev pub invariant-loop-item : goal.invariant-loop-item
 invariant-loop-item g l =

@@ -10,7 +10,7 @@ use Rattle.vecmap.specs.declared.set_run.reply.SetReply.{SetReply}
 use Rattle.vecmap.specs.declared.set_run.reply.SetReply.TheVariants.{Done, Item, Items, Made, NoMemory, Number, OutOfRange, Place, Truth}
 use Rattle.vecmap_base.specs.Clones.{AreClones}
 use Rattle.vecmap_set.specs.Contents.{Contents, KeepsRoom}
-use Rattle.vecmap_examples.proofs.Definitions.Notation.{eq}
+use Rattle.vecmap_definitions.proofs.Notation.{eq}
 
 module _ {T : Type 0} (x y : T) (clones : clone.Ghosts (ℕ × T)) (reply : SetReply (ℕ × T)) (m : List (ℕ × T)) (new : Contents (ℕ × T)) (i j count : ℕ) (found : Option ℕ) (truth : Bool) (item : Option (ℕ × T)) (made : Contents (ℕ × T)) where
   abbrev l : List (ℕ × T)

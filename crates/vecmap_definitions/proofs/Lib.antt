@@ -1,4 +1,3 @@
--- What definitions say, at examples.
 mod Indices
 mod Lookups
 mod MapRun

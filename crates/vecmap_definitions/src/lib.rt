@@ -1,0 +1,2 @@
+//! What definitions say, at examples: lemmas in `proofs/`, and no functions.
+#![tactic(auto)]
