@@ -131,12 +131,6 @@ module _ {X : Type 0} (p : X → Bool) where
       let before : list_any p (take j xs) ≡ false = list_any_position (take j xs) ∙ ap is_some none in
       ap (λ m. position p (take m xs)) next ∙ position_none (take (j + 1) xs) (list_any_more p xs j x within ∙ (λ t. before t || (sym (ap p e) ∙ miss) t))
 
-  -- The results for the first `j` elements and for the element at `j` give the result for the first `k = j + 1`
-  -- elements.
-  pub list_any_next : (xs : List X) (j k : ℕ) (x : X) (before here : Bool) → j < length xs → k ≡ j + 1 → x ≡ get_or xs j x → here ≡ p x → list_any p (take j xs) ≡ before → list_any p (take k xs) ≡ (before || here)
-  list_any_next xs j k x before here within next e answer front =
-      ap (λ m. list_any p (take m xs)) next ∙ list_any_more p xs j x within ∙ (λ t. front t || (sym (ap p e) ∙ sym answer) t)
-
   -- If one of the first `k` elements passes, one of all passes.
   pub list_any_front : (xs : List X) (k : ℕ) → list_any p (take k xs) ≡ true → list_any p xs ≡ true
   list_any_front [] zero e = e

@@ -1,4 +1,5 @@
--- Lemmas about the removal of duplicates in place, and about the number of its comparisons.
+-- Lemmas about the removal of duplicates in place, and about the number of comparisons that it and a search make.
 pub mod Comparisons
 pub mod Cost
 pub mod Gather
+pub mod SearchCost

@@ -24,11 +24,6 @@ CallableOnPair {F} {K} {V} g f p = (k : Bor K) (v : Bor V) → k.now ≡ p.0 →
 abbrev pub CallableBelow : {F R : Type 0} → Shared F (ℕ × Unit {0}) R → F → ℕ → Type 0
 CallableBelow g f n = (i : ℕ) → i < n → g.pre f (i, tt)
 
--- Example: a closure that returns the value.
--- Each call of `f`, at an item, returns `h` of it.
-abbrev pub ReturnsOnItem : {F T R : Type 0} → Shared F (Bor T × Unit {0}) R → (T → R) → F → Type 0
-ReturnsOnItem {F} {T} {R} g h f = (x : Bor T) (r : R) → g.post f (x, tt) r → r ≡ h x.now
-
 -- Example: a closure that indexes a table by each item, of items in its range.
 -- Each call of `f`, at an item of `xs`, returns `h` of it.
 abbrev pub ReturnsOnItems : {F T R : Type 0} → Shared F (Bor T × Unit {0}) R → (T → R) → F → List T → Type 0

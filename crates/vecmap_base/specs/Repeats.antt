@@ -1,18 +1,23 @@
 -- The number of comparisons that searches, additions and removals of duplicates make.
-use Rattle.std.specs.Prelude.{ℕ, ◌+◌, ◌-◌, ◌*◌, ◌/◌, Bool, List, [], ◌∷◌, length}
+use Rattle.std.specs.Prelude.{ℕ, ◌+◌, ◌-◌, ◌*◌, ◌/◌, Bool, List, [], ◌∷◌, length, position}
 use Rattle.std.specs.Option.{option_map_or}
-use Rattle.vecmap_base.specs.Items.{add, item_index}
+use Rattle.vecmap_base.specs.Items.{add}
 
 -- Example: `cost 5 ≡ 10`.
 -- The most comparisons that `n` items may need: one for each two of them.
 abbrev pub cost : ℕ → ℕ
 cost n = n * (n - 1) / 2
 
+-- Example: `search_cost_by (nat_eq 2) [1, 2, 3] ≡ 2`; `search_cost_by (nat_eq 4) [1, 2, 3] ≡ 3`.
+-- The comparisons of a search by a test: of each element of `s` up to the first that passes, or of all of `s`.
+abbrev pub search_cost_by : {T : Type 0} → (T → Bool) → List T → ℕ
+search_cost_by test s = option_map_or (λ i. i + 1) (position test s) (length s)
+
 module _ {T : Type 0} (eq : T → T → Bool) where
   -- Example: `search_cost nat_eq [1, 2, 3] 2 ≡ 2`; `search_cost nat_eq [1, 2, 3] 4 ≡ 3`.
   -- The comparisons of a search for `x`: with each element of `s` up to the first equal one, or with all of `s`.
   abbrev pub search_cost : List T → T → ℕ
-  search_cost s x = option_map_or (λ i. i + 1) (item_index eq s x) (length s)
+  search_cost s x = search_cost_by (eq x) s
 
   -- Example: `adds_cost nat_eq [1] [2, 1] ≡ 2`.
   -- The comparisons of additions in order: each of `xs` is searched for in what `s` has become by then.

@@ -4,6 +4,7 @@
 //! the contracts of every crate use are in `specs/`.
 #![tactic(auto)]
 
+mod compare;
 mod distinct;
 mod drain;
 mod equality;
@@ -23,6 +24,7 @@ mod try_update;
 mod unrolled;
 mod update;
 
+pub use compare::{Compare, Counter};
 pub use distinct::{items_distinct, keys_distinct};
 pub use drain::{move_range_last, reverse_from};
 pub use equality::pairs_equal;
@@ -32,8 +34,9 @@ pub use iter::{
     KeysMut, Values, ValuesMut,
 };
 pub use lookup::{
-    contains_equivalent, contains_item, contains_item_inline, find, find_equivalent, find_item,
-    find_item_equivalent, find_item_str, find_str,
+    contains_equivalent, contains_equivalent_counted, contains_item, contains_item_inline, find,
+    find_equivalent, find_equivalent_counted, find_item, find_item_equivalent,
+    find_item_equivalent_counted, find_item_str, find_str,
 };
 pub use moving::{insert_reserved, move_to, remove_item, replace_and_move};
 pub use refused::Refused;

@@ -7,16 +7,25 @@
 //! - `contains_item` calls it with the item as the query.
 //! - `contains_item_inline` inlines a plain loop over few items, and calls `contains_item` for more.
 //! - `contains_by_loop` is that plain loop.
-ghost use Rattle.std.specs.Prelude.{◌≡◌, ◌<◌, IfSome, length, position};
+//!
+//! Each search by a query has a second form, which counts its comparisons in a [`Counter`]. The first form calls it with
+//! a counter that nobody reads.
+ghost use Rattle.std.specs.Prelude.{◌≡◌, ◌+◌, ◌<◌, ◌≤◌, IfSome, IsTrue, None, false, length, position};
 ghost use Rattle.std.specs.List.{list_any};
+ghost use Rattle.std.specs.Map.{keys_of};
+ghost use Rattle.std.specs.Option.{option_map_or};
 ghost use Rattle.std.specs.Set.{is_member};
 ghost use Rattle.vecmap_base.specs.Items.{item_index};
 ghost use Rattle.vecmap_base.specs.Pairs.{has_text, index_by, index_of};
+ghost use Rattle.vecmap_base.specs.Repeats.{search_cost_by};
 
+use crate::compare::{Compare, Counter};
 use crate::equivalent::Equivalent;
 use crate::unrolled::{
     find_by_eights, find_item_unrolled, find_pair_unrolled, is_any_in_blocks, is_small,
 };
+use std::marker::Brand;
+use std::sync::ledger::{Blank, Ledger};
 
 // The least length of a list of small items for which `is_any_in_blocks` is faster than a plain loop.
 pub(crate) const MIN_LENGTH_FOR_BLOCKS: usize = 4;
@@ -147,126 +156,333 @@ pub fn contains_item_inline<T: Eq>(items: &[T], item: &T) -> bool
 pub(crate) fn contains_by_loop<T: Eq>(items: &[T], item: &T) -> bool
     ensures { result ≡ is_member T.eq items.now item.now }
 {
-    items.iter().any(|other| *item == *other)
+    contains_by_loop_with::<Brand, T>(items, item, Blank::new(1))
 }
 
-// Returns `true` if `items` has at least `length` items, and these are small.
 #[inline(always)]
-pub(crate) fn are_small<T>(items: &[T], length: usize) -> bool {
-    is_small::<T>() && items.len() >= length
+fn contains_by_loop_with<L: Ledger, T: Eq>(items: &[T], item: &T, blank: Blank) -> bool
+    requires same_name { blank.name ≡ L.name }
+    requires same_parts { blank.parts ≡ L.parts }
+    requires one_part { blank.parts ≡ 1 }
+    ensures { result ≡ is_member T.eq items.now item.now }
+{
+    let mut counter: Counter<L> = Counter::open(blank);
+    is_any_by_loop(items, &item, &mut counter)
+}
+
+// Returns `true` if one of `items` matches `query`, by a plain loop.
+#[inline(always)]
+fn is_any_by_loop<T, Q, C: Compare<Q, T>>(items: &[T], query: &Q, compare: &mut C) -> bool
+    ensures found { result ≡ list_any (C.equal query.now) items.now }
+    ensures counted { C.made compare.new
+        ≡ C.made compare.old + search_cost_by (C.equal query.now) items.now }
+{
+    for item in items {
+        if compare.same(query, item) {
+            return true;
+        }
+    }
+    false
+}
+
+// Returns `true` if `items` has at least `least` items, and these are small.
+#[inline(always)]
+pub(crate) fn are_small<T>(items: &[T], least: usize) -> bool
+    ensures { IsTrue result → least ≤ length items.now }
+{
+    is_small::<T>() && items.len() >= least
 }
 
 /// Returns the index of the first pair whose key matches `query`.
 ///
 /// # Complexity
 ///
-/// At most `pairs.len()` comparisons.
+/// As many comparisons as [`find_equivalent_counted`] makes: at most `pairs.len()`.
 ///
 /// # Examples
 ///
 /// ```
 /// find_equivalent(&[("a", 1), ("b", 2)], "b") // Some(1)
 /// ```
-#[inline]
-#[tactic(auto, using(crate::proofs::PairsLemmas::ByIndex::index_by_is))]
+#[inline(always)]
 pub fn find_equivalent<K: Eq, V, Q: Equivalent<K>>(pairs: &[(K, V)], query: Q) -> Option<usize>
     ensures index { result ≡ index_by (Q.equivalent query) pairs.now }
     ensures within { IfSome result (λ i. i < length pairs.now) }
 {
-    if is_small::<K>() {
-        return find_pair_unrolled(
-            pairs,
-            |key: &K| -> bool
-                ensures { result ≡ Q.equivalent query key.now }
-            { query.equivalent(key) },
-        );
-    }
-    find_by_loop(pairs, query)
+    find_equivalent_with::<Brand, K, V, Q>(pairs, query, Blank::new(1))
 }
 
-// Like `find_equivalent`, by a plain loop.
 #[inline(always)]
-fn find_by_loop<K: Eq, V, Q: Equivalent<K>>(pairs: &[(K, V)], query: Q) -> Option<usize>
-    ensures index { result ≡ position (λ pair. Q.equivalent query pair.0) pairs.now }
+fn find_equivalent_with<L: Ledger, K: Eq, V, Q: Equivalent<K>>(
+    pairs: &[(K, V)],
+    query: Q,
+    blank: Blank,
+) -> Option<usize>
+    requires same_name { blank.name ≡ L.name }
+    requires same_parts { blank.parts ≡ L.parts }
+    requires one_part { blank.parts ≡ 1 }
+    ensures index { result ≡ index_by (Q.equivalent query) pairs.now }
     ensures within { IfSome result (λ i. i < length pairs.now) }
 {
-    pairs.iter().position(|pair| query.equivalent(&pair.0))
+    let mut counter: Counter<L> = Counter::open(blank);
+    find_equivalent_counted(pairs, query, &mut counter)
+}
+
+/// Like [`find_equivalent`], but counts its comparisons.
+///
+/// # Complexity
+///
+/// Compares the keys up to the first that matches, in order: index + 1 comparisons if one does, and `pairs.len()` if
+/// none does.
+///
+/// # Examples
+///
+/// ```
+/// let mut counter: Counter<Brand> = Counter::open(Blank::new(1));
+/// find_equivalent_counted(&[("a", 1), ("b", 2), ("c", 3)], "b", &mut counter) // Some(1)
+/// // Now the counter is 2.
+/// ```
+#[inline]
+#[tactic(auto, using(crate::proofs::PairsLemmas::ByIndex::index_by_is, crate::proofs::RepeatsLemmas::SearchCost::key_search_cost))]
+pub fn find_equivalent_counted<K: Eq, V, Q: Equivalent<K>, L: Ledger>(
+    pairs: &[(K, V)],
+    query: Q,
+    counter: &mut Counter<L>,
+) -> Option<usize>
+    ensures index { result ≡ index_by (Q.equivalent query) pairs.now }
+    ensures within { IfSome result (λ i. i < length pairs.now) }
+    ensures counted { counter.new
+        ≡ counter.old + search_cost_by (Q.equivalent query) (keys_of pairs.now) }
+    ensures hit { IfSome result (λ i. counter.new ≡ counter.old + (i + 1)) }
+    ensures miss { result ≡ None → counter.new ≡ counter.old + length pairs.now }
+    ensures at_most { counter.new ≤ counter.old + length pairs.now }
+{
+    if is_small::<K>() {
+        return find_pair_unrolled(pairs, &query, counter);
+    }
+    find_by_loop(pairs, &query, counter)
+}
+
+// Like `find_pair_unrolled`, by a plain loop.
+#[inline(always)]
+fn find_by_loop<K, V, Q, C: Compare<Q, K>>(
+    pairs: &[(K, V)],
+    query: &Q,
+    compare: &mut C,
+) -> Option<usize>
+    ensures index { result ≡ position (λ pair. C.equal query.now pair.0) pairs.now }
+    ensures within { IfSome result (λ i. i < length pairs.now) }
+    ensures counted { C.made compare.new
+        ≡ C.made compare.old + option_map_or (λ i. i + 1) result (length pairs.now) }
+{
+    for (index, pair) in pairs.iter().enumerate() {
+        if compare.same(query, &pair.0) {
+            return Some(index);
+        }
+    }
+    None
 }
 
 /// Returns the index of the first item that matches `query`.
 ///
 /// # Complexity
 ///
-/// At most `items.len()` comparisons. Among 32 items or more, of at most 8 bytes each, up to seven comparisons
-/// come after the match.
+/// As many comparisons as [`find_item_equivalent_counted`] makes: at most `items.len()`. Among 32 items or more, of at
+/// most 8 bytes each, up to seven comparisons come after the match.
 ///
 /// # Examples
 ///
 /// ```
 /// find_item_equivalent(&["a", "b"], "b") // Some(1)
 /// ```
-#[inline]
+#[inline(always)]
 pub fn find_item_equivalent<T: Eq, Q: Equivalent<T>>(items: &[T], query: Q) -> Option<usize>
     ensures index { result ≡ position (Q.equivalent query) items.now }
     ensures within { IfSome result (λ i. i < length items.now) }
 {
+    find_item_equivalent_with::<Brand, T, Q>(items, query, Blank::new(1))
+}
+
+#[inline(always)]
+fn find_item_equivalent_with<L: Ledger, T: Eq, Q: Equivalent<T>>(
+    items: &[T],
+    query: Q,
+    blank: Blank,
+) -> Option<usize>
+    requires same_name { blank.name ≡ L.name }
+    requires same_parts { blank.parts ≡ L.parts }
+    requires one_part { blank.parts ≡ 1 }
+    ensures index { result ≡ position (Q.equivalent query) items.now }
+    ensures within { IfSome result (λ i. i < length items.now) }
+{
+    let mut counter: Counter<L> = Counter::open(blank);
+    find_item_equivalent_counted(items, query, &mut counter)
+}
+
+/// Like [`find_item_equivalent`], but counts its comparisons.
+///
+/// # Complexity
+///
+/// Compares the items up to the first that matches, in order, or all of them if none does. Among 32 items or more, of at
+/// most 8 bytes each, up to seven comparisons come after the match. So it makes at most `items.len()` comparisons.
+///
+/// # Examples
+///
+/// ```
+/// let mut counter: Counter<Brand> = Counter::open(Blank::new(1));
+/// find_item_equivalent_counted(&["a", "b", "c"], "b", &mut counter) // Some(1)
+/// // Now the counter is 2.
+/// ```
+#[inline]
+pub fn find_item_equivalent_counted<T: Eq, Q: Equivalent<T>, L: Ledger>(
+    items: &[T],
+    query: Q,
+    counter: &mut Counter<L>,
+) -> Option<usize>
+    ensures index { result ≡ position (Q.equivalent query) items.now }
+    ensures within { IfSome result (λ i. i < length items.now) }
+    ensures few { length items.now < 32
+        → counter.new ≡ counter.old + search_cost_by (Q.equivalent query) items.now }
+    ensures miss { result ≡ None → counter.new ≡ counter.old + length items.now }
+    ensures at_most { counter.new ≤ counter.old + length items.now }
+    ensures near { counter.new
+        ≤ counter.old + (search_cost_by (Q.equivalent query) items.now + 7) }
+{
     if !are_small(items, MIN_LENGTH_FOR_FOURS) {
-        return items.iter().position(|item| query.equivalent(item));
+        return find_item_by_loop(items, &query, counter);
     }
 
     // The `?` takes each result apart, and `Some` makes a new one. If the result of either call were returned as it is,
     // LLVM would keep it as one value, and each caller would test again whether an item was found.
     let index = if items.len() >= MIN_LENGTH_FOR_EIGHTS {
-        find_item_of_many(items, query)?
+        find_item_of_many(items, query, counter)?
     } else {
-        find_item_unrolled(
-            items,
-            |item: &T| -> bool
-                ensures { result ≡ Q.equivalent query item.now }
-            { query.equivalent(item) },
-        )?
+        find_item_unrolled(items, &query, counter)?
     };
     Some(index)
 }
 
-// Returns the index of the first of many small items that matches `query`. It is not inlined, so that the search of a
-// short list is.
+// Like `find_item_unrolled`, by a plain loop.
+#[inline(always)]
+fn find_item_by_loop<T, Q, C: Compare<Q, T>>(
+    items: &[T],
+    query: &Q,
+    compare: &mut C,
+) -> Option<usize>
+    ensures index { result ≡ position (C.equal query.now) items.now }
+    ensures within { IfSome result (λ i. i < length items.now) }
+    ensures counted { C.made compare.new
+        ≡ C.made compare.old + option_map_or (λ i. i + 1) result (length items.now) }
+{
+    for (index, item) in items.iter().enumerate() {
+        if compare.same(query, item) {
+            return Some(index);
+        }
+    }
+    None
+}
+
+// Like `find_item_equivalent_counted`, for many small items. It is not inlined, so that the search of a short list is.
 #[inline(never)]
-fn find_item_of_many<T: Eq, Q: Equivalent<T>>(items: &[T], query: Q) -> Option<usize>
+fn find_item_of_many<T: Eq, Q: Equivalent<T>, L: Ledger>(
+    items: &[T],
+    query: Q,
+    counter: &mut Counter<L>,
+) -> Option<usize>
     ensures index { result ≡ position (Q.equivalent query) items.now }
     ensures within { IfSome result (λ i. i < length items.now) }
+    ensures miss { result ≡ None → counter.new ≡ counter.old + length items.now }
+    ensures hit { IfSome result (λ i. counter.new ≤ counter.old + (i + 8)) }
+    ensures at_most { counter.new ≤ counter.old + length items.now }
 {
-    find_by_eights(
-        items,
-        |item: &T| -> bool
-            ensures { result ≡ Q.equivalent query item.now }
-        { query.equivalent(item) },
-    )
+    find_by_eights(items, &query, counter)
 }
 
 /// Returns `true` if one of `items` matches `query`.
 ///
 /// # Complexity
 ///
-/// At most `items.len()` comparisons. Among four items or more, of at most 8 bytes each, up to seven of them come after
-/// the first that matches.
+/// As many comparisons as [`contains_equivalent_counted`] makes: at most `items.len()`. Among four items or more, of at
+/// most 8 bytes each, up to seven of them come after the first that matches.
 ///
 /// # Examples
 ///
 /// ```
 /// contains_equivalent(&["a", "b"], "c") // false
 /// ```
-#[inline]
+#[inline(always)]
 pub fn contains_equivalent<T: Eq, Q: Equivalent<T>>(items: &[T], query: Q) -> bool
     ensures { result ≡ list_any (Q.equivalent query) items.now }
 {
+    contains_equivalent_with::<Brand, T, Q>(items, query, Blank::new(1))
+}
+
+#[inline(always)]
+fn contains_equivalent_with<L: Ledger, T: Eq, Q: Equivalent<T>>(
+    items: &[T],
+    query: Q,
+    blank: Blank,
+) -> bool
+    requires same_name { blank.name ≡ L.name }
+    requires same_parts { blank.parts ≡ L.parts }
+    requires one_part { blank.parts ≡ 1 }
+    ensures { result ≡ list_any (Q.equivalent query) items.now }
+{
+    let mut counter: Counter<L> = Counter::open(blank);
+    contains_equivalent_counted(items, query, &mut counter)
+}
+
+/// Like [`contains_equivalent`], but counts its comparisons.
+///
+/// # Complexity
+///
+/// Compares the items up to the first that matches, in order, or all of them if none does. Among four items or more, of
+/// at most 8 bytes each, up to seven comparisons come after the first match. So it makes at most `items.len()`
+/// comparisons.
+///
+/// # Examples
+///
+/// ```
+/// let mut counter: Counter<Brand> = Counter::open(Blank::new(1));
+/// contains_equivalent_counted(&["a", "b"], "c", &mut counter) // false
+/// // Now the counter is 2.
+/// ```
+#[inline]
+#[tactic(auto, using(crate::proofs::RepeatsLemmas::SearchCost::search_cost_none))]
+pub fn contains_equivalent_counted<T: Eq, Q: Equivalent<T>, L: Ledger>(
+    items: &[T],
+    query: Q,
+    counter: &mut Counter<L>,
+) -> bool
+    ensures found { result ≡ list_any (Q.equivalent query) items.now }
+    ensures few { length items.now < 4
+        → counter.new ≡ counter.old + search_cost_by (Q.equivalent query) items.now }
+    ensures miss { result ≡ false → counter.new ≡ counter.old + length items.now }
+    ensures at_most { counter.new ≤ counter.old + length items.now }
+    ensures near { counter.new
+        ≤ counter.old + (search_cost_by (Q.equivalent query) items.now + 7) }
+{
     if are_small(items, MIN_LENGTH_FOR_BLOCKS) {
-        return is_any_in_blocks(
-            items,
-            |item: &T| -> bool
-                ensures { result ≡ Q.equivalent query item.now }
-            { query.equivalent(item) },
-        );
+        return is_any_in_blocks(items, &query, counter);
     }
-    items.iter().any(|item| query.equivalent(item))
+    is_any_by_loop(items, &query, counter)
+}
+
+// Like [`contains_item`], by `is_any_in_blocks`.
+#[inline(always)]
+pub(crate) fn contains_in_blocks<T: Eq>(items: &[T], item: &T) -> bool
+    ensures { result ≡ is_member T.eq items.now item.now }
+{
+    contains_in_blocks_with::<Brand, T>(items, item, Blank::new(1))
+}
+
+#[inline(always)]
+fn contains_in_blocks_with<L: Ledger, T: Eq>(items: &[T], item: &T, blank: Blank) -> bool
+    requires same_name { blank.name ≡ L.name }
+    requires same_parts { blank.parts ≡ L.parts }
+    requires one_part { blank.parts ≡ 1 }
+    ensures { result ≡ is_member T.eq items.now item.now }
+{
+    let mut counter: Counter<L> = Counter::open(blank);
+    is_any_in_blocks(items, &item, &mut counter)
 }

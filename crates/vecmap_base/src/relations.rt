@@ -5,8 +5,9 @@ ghost use Rattle.std.specs.Set.{is_member};
 ghost use Rattle.vecmap_base.specs.Equality.{is_within};
 ghost use Rattle.vecmap_base.specs.Items.{both};
 
-use crate::lookup::{MIN_LENGTH_FOR_BLOCKS, MIN_LENGTH_FOR_CALL, are_small, contains_by_loop};
-use crate::unrolled::is_any_in_blocks;
+use crate::lookup::{
+    MIN_LENGTH_FOR_BLOCKS, MIN_LENGTH_FOR_CALL, are_small, contains_by_loop, contains_in_blocks,
+};
 
 /// Returns `true` if each of `items` is equal to one of `others`.
 ///
@@ -63,19 +64,12 @@ fn overlap<T: Eq>(items: &[T], others: &[T]) -> bool
 }
 
 // The same as `is_subset_of`, for small others. It is not inlined, so that its loop does not depend on the code around
-// it. The inner loop is, as no other function has this closure.
+// it. The inner loop is.
 #[inline(never)]
 fn is_subset_in_blocks<T: Eq>(items: &[T], others: &[T]) -> bool
     ensures { result ≡ is_within T.eq items.now others.now }
 {
-    items.iter().all(|item| {
-        is_any_in_blocks(
-            others,
-            |other: &T| -> bool
-                ensures { result ≡ T.eq item.entry.now other.now }
-            { *item == *other },
-        )
-    })
+    items.iter().all(|item| contains_in_blocks(others, item))
 }
 
 // The same as `overlap`, for small others. It is not inlined, either.
@@ -83,12 +77,5 @@ fn is_subset_in_blocks<T: Eq>(items: &[T], others: &[T]) -> bool
 fn overlap_blocks<T: Eq>(items: &[T], others: &[T]) -> bool
     ensures { result ≡ list_any (is_member T.eq others.now) items.now }
 {
-    items.iter().any(|item| {
-        is_any_in_blocks(
-            others,
-            |other: &T| -> bool
-                ensures { result ≡ T.eq item.entry.now other.now }
-            { *item == *other },
-        )
-    })
+    items.iter().any(|item| contains_in_blocks(others, item))
 }

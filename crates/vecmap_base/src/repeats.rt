@@ -36,9 +36,9 @@ fn find_counted<K: Eq, V>(front: &[(K, V)], key: &K, steps: &mut Steps) -> Optio
     ensures within { IfSome result (λ i. i < length front.now) }
     ensures counted { steps.new ≡ steps.old + search_cost K.eq (keys_of front.now) key.now }
 {
-    for (place, pair) in front.iter().enumerate() {
+    for (index, pair) in front.iter().enumerate() {
         if steps.same(key, &pair.0) {
-            return Some(place);
+            return Some(index);
         }
     }
     None
@@ -88,7 +88,7 @@ pub fn gather_pairs<K: Eq, V>(pairs: &mut [(K, V)], steps: &mut Steps) -> usize
     for i in 0..pairs.len() {
         let shared = &pairs[..];
         match find_counted(&shared[..kept], &shared[i].0, steps) {
-            Some(place) => swap_values(pairs, place, i),
+            Some(index) => swap_values(pairs, index, i),
             None => {
                 pairs.swap(kept, i);
                 kept += 1;

@@ -4,10 +4,14 @@
 //! an index stops at the first item that passes. With eight, and in a test for an item, it tests a whole block of eight
 //! or four items and then branches once, so that the compiler compares vectors. So it tests at most seven items after
 //! the first that passes.
-ghost use Rattle.std.specs.Prelude.{◌≡◌, ◌+◌, ◌<◌, ◌≤◌, ◌||◌, Bool, IfSome, None, false, length, position, take};
+//!
+//! No type of theirs has a bound, so they compare a query with an item by `Compare::same` alone, which counts.
+ghost use Rattle.std.specs.Prelude.{◌≡◌, ◌+◌, ◌<◌, ◌≤◌, ◌||◌, IfSome, None, Some, false, length, position, take};
 ghost use Rattle.std.specs.List.{list_any};
-ghost use Rattle.vecmap_base.specs.Orders.{ReturnsOnItem};
+ghost use Rattle.std.specs.Option.{option_map_or};
+ghost use Rattle.vecmap_base.specs.Repeats.{search_cost_by};
 
+use crate::compare::Compare;
 use std::mem::{ManuallyDrop, align_of_val, size_of_val};
 
 // The size of a word in bytes.
@@ -22,98 +26,111 @@ pub(crate) fn is_small<T>() -> bool {
     size_of_val(&absent) <= align_of_val(&absent).saturating_add(WORD)
 }
 
-// Returns the index of the first pair for whose key `asks` returns `true`.
-pub(crate) fn find_pair_unrolled<'a, K, V, F: Fn(&'a K) -> bool>(
-    pairs: &'a [(K, V)],
-    asks: F,
+// Returns the index of the first pair whose key matches `query`. It compares the keys up to this one, in order.
+pub(crate) fn find_pair_unrolled<K, V, Q, C: Compare<Q, K>>(
+    pairs: &[(K, V)],
+    query: &Q,
+    compare: &mut C,
 ) -> Option<usize>
-    requires { F.IsAlwaysCallable asks }
-    ensures index { (p : K → Bool) → ReturnsOnItem F.Fn p asks
-        → result ≡ position (λ pair. p pair.0) pairs.now }
+    ensures index { result ≡ position (λ pair. C.equal query.now pair.0) pairs.now }
     ensures within { IfSome result (λ i. i < length pairs.now) }
+    ensures counted { C.made compare.new
+        ≡ C.made compare.old + option_map_or (λ i. i + 1) result (length pairs.now) }
 {
     let twos = pairs.len() / 2;
     for two in 0..twos {
         let at = 2 * two;
-        if asks(&pairs[at].0) {
+        if compare.same(query, &pairs[at].0) {
             return Some(at);
         }
-        if asks(&pairs[at + 1].0) {
+        if compare.same(query, &pairs[at + 1].0) {
             return Some(at + 1);
         }
     }
     let last = 2 * twos;
-    if last < pairs.len() && asks(&pairs[last].0) {
+    if last < pairs.len() && compare.same(query, &pairs[last].0) {
         return Some(last);
     }
     None
 }
 
-// Returns the index of the first item for which `asks` returns `true`.
-pub(crate) fn find_item_unrolled<'a, T, F: Fn(&'a T) -> bool>(
-    items: &'a [T],
-    asks: F,
+// Returns the index of the first item that matches `query`. It compares the items up to this one, in order.
+pub(crate) fn find_item_unrolled<T, Q, C: Compare<Q, T>>(
+    items: &[T],
+    query: &Q,
+    compare: &mut C,
 ) -> Option<usize>
-    requires { F.IsAlwaysCallable asks }
-    ensures index { (p : T → Bool) → ReturnsOnItem F.Fn p asks → result ≡ position p items.now }
+    ensures index { result ≡ position (C.equal query.now) items.now }
     ensures within { IfSome result (λ i. i < length items.now) }
+    ensures counted { C.made compare.new
+        ≡ C.made compare.old + option_map_or (λ i. i + 1) result (length items.now) }
 {
     let fours = items.len() / 4;
     for four in 0..fours {
         let at = 4 * four;
-        if asks(&items[at]) {
+        if compare.same(query, &items[at]) {
             return Some(at);
         }
-        if asks(&items[at + 1]) {
+        if compare.same(query, &items[at + 1]) {
             return Some(at + 1);
         }
-        if asks(&items[at + 2]) {
+        if compare.same(query, &items[at + 2]) {
             return Some(at + 2);
         }
-        if asks(&items[at + 3]) {
+        if compare.same(query, &items[at + 3]) {
             return Some(at + 3);
         }
     }
-    find_from(items, 4 * fours, asks)
+    find_from(items, 4 * fours, query, compare)
 }
 
-// Returns the index of the first item for which `asks` returns `true`. It asks about eight items before it branches.
-pub(crate) fn find_by_eights<'a, T, F: Fn(&'a T) -> bool>(items: &'a [T], asks: F) -> Option<usize>
-    requires { F.IsAlwaysCallable asks }
-    ensures index { (p : T → Bool) → ReturnsOnItem F.Fn p asks → result ≡ position p items.now }
+// Returns the index of the first item that matches `query`. It compares eight items before it branches.
+pub(crate) fn find_by_eights<T, Q, C: Compare<Q, T>>(
+    items: &[T],
+    query: &Q,
+    compare: &mut C,
+) -> Option<usize>
+    ensures index { result ≡ position (C.equal query.now) items.now }
     ensures within { IfSome result (λ i. i < length items.now) }
+    ensures miss { result ≡ None → C.made compare.new ≡ C.made compare.old + length items.now }
+    ensures hit { IfSome result (λ i. C.made compare.new ≤ C.made compare.old + (i + 8)) }
+    ensures at_most { C.made compare.new ≤ C.made compare.old + length items.now }
 {
     let eights = items.len() / 8;
     for eight in 0..eights {
-        let found = find_of_eight(items, 8 * eight, &asks);
+        let found = find_of_eight(items, 8 * eight, query, compare);
         if found.is_some() {
             return found;
         }
     }
-    find_from(items, 8 * eights, asks)
+    find_from(items, 8 * eights, query, compare)
 }
 
-// Returns the index of the first of the eight items from `at` on for which `asks` returns `true`. It asks about each of
-// them once. For each item before `at`, `asks` returns `false`.
-fn find_of_eight<'a, T, F: Fn(&'a T) -> bool>(items: &'a [T], at: usize, asks: &F) -> Option<usize>
-    requires callable { F.IsAlwaysCallable asks.now }
+// Returns the index of the first of the eight items from `at` on that matches `query`. It compares each of them once.
+// No item before `at` matches.
+fn find_of_eight<T, Q, C: Compare<Q, T>>(
+    items: &[T],
+    at: usize,
+    query: &Q,
+    compare: &mut C,
+) -> Option<usize>
     requires within { at + 8 ≤ length items.now }
-    requires none_before { (p : T → Bool) → ReturnsOnItem F.Fn p asks.now
-        → position p (take at items.now) ≡ None }
-    ensures index { (p : T → Bool) → ReturnsOnItem F.Fn p asks.now
-        → IfSome result (λ i. position p items.now ≡ Some i) }
+    requires none_before { position (C.equal query.now) (take at items.now) ≡ None }
+    ensures index { IfSome result (λ i. position (C.equal query.now) items.now ≡ Some i) }
     ensures within { IfSome result (λ i. i < length items.now) }
-    ensures none { result ≡ None → (p : T → Bool) → ReturnsOnItem F.Fn p asks.now
-        → position p (take (at + 8) items.now) ≡ None }
+    ensures from { IfSome result (λ i. at ≤ i) }
+    ensures none { result ≡ None
+        → position (C.equal query.now) (take (at + 8) items.now) ≡ None }
+    ensures counted { C.made compare.new ≡ C.made compare.old + 8 }
 {
-    let a = asks(&items[at]);
-    let b = asks(&items[at + 1]);
-    let c = asks(&items[at + 2]);
-    let d = asks(&items[at + 3]);
-    let e = asks(&items[at + 4]);
-    let f = asks(&items[at + 5]);
-    let g = asks(&items[at + 6]);
-    let h = asks(&items[at + 7]);
+    let a = compare.same(query, &items[at]);
+    let b = compare.same(query, &items[at + 1]);
+    let c = compare.same(query, &items[at + 2]);
+    let d = compare.same(query, &items[at + 3]);
+    let e = compare.same(query, &items[at + 4]);
+    let f = compare.same(query, &items[at + 5]);
+    let g = compare.same(query, &items[at + 6]);
+    let h = compare.same(query, &items[at + 7]);
     if !(a | b | c | d | e | f | g | h) {
         return None;
     }
@@ -141,78 +158,104 @@ fn find_of_eight<'a, T, F: Fn(&'a T) -> bool>(items: &'a [T], at: usize, asks: &
     Some(at + 7)
 }
 
-// Returns the index of the first item from `from` on for which `asks` returns `true`. For each item before `from` it
-// returns `false`.
-fn find_from<'a, T, F: Fn(&'a T) -> bool>(items: &'a [T], from: usize, asks: F) -> Option<usize>
-    requires callable { F.IsAlwaysCallable asks }
-    requires none_before { (p : T → Bool) → ReturnsOnItem F.Fn p asks
-        → position p (take from items.now) ≡ None }
-    ensures index { (p : T → Bool) → ReturnsOnItem F.Fn p asks → result ≡ position p items.now }
+// Returns the index of the first item from `from` on that matches `query`, after as many comparisons as it takes one by
+// one. No item before `from` matches, and `from` items were compared.
+fn find_from<T, Q, C: Compare<Q, T>>(
+    items: &[T],
+    from: usize,
+    query: &Q,
+    compare: &mut C,
+) -> Option<usize>
+    requires within { from ≤ length items.now }
+    requires none_before { position (C.equal query.now) (take from items.now) ≡ None }
+    ensures index { result ≡ position (C.equal query.now) items.now }
     ensures within { IfSome result (λ i. i < length items.now) }
+    ensures counted { C.made compare.new + from
+        ≡ C.made compare.old + option_map_or (λ i. i + 1) result (length items.now) }
 {
     for index in from..items.len() {
-        if asks(&items[index]) {
+        if compare.same(query, &items[index]) {
             return Some(index);
         }
     }
     None
 }
 
-// Returns `true` if `asks` does for an item. It asks about eight items before it branches, then about four, and
-// about the others one by one.
-pub(crate) fn is_any_in_blocks<'a, T, F: Fn(&'a T) -> bool>(items: &'a [T], asks: F) -> bool
-    requires { F.IsAlwaysCallable asks }
-    ensures { (p : T → Bool) → ReturnsOnItem F.Fn p asks → result ≡ list_any p items.now }
+// Returns `true` if an item matches `query`. It compares eight items before it branches, then four, and the others one
+// by one.
+#[inline(always)]
+pub(crate) fn is_any_in_blocks<T, Q, C: Compare<Q, T>>(
+    items: &[T],
+    query: &Q,
+    compare: &mut C,
+) -> bool
+    ensures found { result ≡ list_any (C.equal query.now) items.now }
+    ensures miss { result ≡ false → C.made compare.new ≡ C.made compare.old + length items.now }
+    ensures at_most { C.made compare.new ≤ C.made compare.old + length items.now }
+    ensures near { C.made compare.new
+        ≤ C.made compare.old + (search_cost_by (C.equal query.now) items.now + 7) }
 {
     let eights = items.len() / 8;
     for eight in 0..eights {
-        if is_any_of_eight(items, 8 * eight, &asks) {
+        if is_any_of_eight(items, 8 * eight, query, compare) {
             return true;
         }
     }
     let mut from = 8 * eights;
     if 4 <= items.len() - from {
-        if is_any_of_four(items, from, &asks) {
+        if is_any_of_four(items, from, query, compare) {
             return true;
         }
         from += 4;
     }
-    is_any_from(items, from, asks)
+    is_any_from(items, from, query, compare)
 }
 
-// Returns `true` if `asks` does for one of the eight items from `at` on. It asks about each of them once.
-fn is_any_of_eight<'a, T, F: Fn(&'a T) -> bool>(items: &'a [T], at: usize, asks: &F) -> bool
-    requires callable { F.IsAlwaysCallable asks.now }
-    requires within { at + 8 ≤ length items.now }
-    ensures { (p : T → Bool) → ReturnsOnItem F.Fn p asks.now
-        → list_any p (take (at + 8) items.now) ≡ (list_any p (take at items.now) || result) }
+// Returns `true` if one of the eight items from `at` on matches `query`. It compares each of them once.
+fn is_any_of_eight<T, Q, C: Compare<Q, T>>(
+    items: &[T],
+    at: usize,
+    query: &Q,
+    compare: &mut C,
+) -> bool
+    requires { at + 8 ≤ length items.now }
+    ensures found { list_any (C.equal query.now) (take (at + 8) items.now)
+        ≡ (list_any (C.equal query.now) (take at items.now) || result) }
+    ensures counted { C.made compare.new ≡ C.made compare.old + 8 }
 {
-    is_any_of_four(items, at, asks) | is_any_of_four(items, at + 4, asks)
+    is_any_of_four(items, at, query, compare) | is_any_of_four(items, at + 4, query, compare)
 }
 
 // The same of the four items from `at` on.
-fn is_any_of_four<'a, T, F: Fn(&'a T) -> bool>(items: &'a [T], at: usize, asks: &F) -> bool
-    requires callable { F.IsAlwaysCallable asks.now }
-    requires within { at + 4 ≤ length items.now }
-    ensures { (p : T → Bool) → ReturnsOnItem F.Fn p asks.now
-        → list_any p (take (at + 4) items.now) ≡ (list_any p (take at items.now) || result) }
+fn is_any_of_four<T, Q, C: Compare<Q, T>>(
+    items: &[T],
+    at: usize,
+    query: &Q,
+    compare: &mut C,
+) -> bool
+    requires { at + 4 ≤ length items.now }
+    ensures found { list_any (C.equal query.now) (take (at + 4) items.now)
+        ≡ (list_any (C.equal query.now) (take at items.now) || result) }
+    ensures counted { C.made compare.new ≡ C.made compare.old + 4 }
 {
-    let a = asks(&items[at]);
-    let b = asks(&items[at + 1]);
-    let c = asks(&items[at + 2]);
-    let d = asks(&items[at + 3]);
+    let a = compare.same(query, &items[at]);
+    let b = compare.same(query, &items[at + 1]);
+    let c = compare.same(query, &items[at + 2]);
+    let d = compare.same(query, &items[at + 3]);
     a | b | c | d
 }
 
-// Returns `true` if `asks` does for one of the items from `from` on. For each item before `from` it returns `false`.
-fn is_any_from<'a, T, F: Fn(&'a T) -> bool>(items: &'a [T], from: usize, asks: F) -> bool
-    requires callable { F.IsAlwaysCallable asks }
-    requires none_before { (p : T → Bool) → ReturnsOnItem F.Fn p asks
-        → list_any p (take from items.now) ≡ false }
-    ensures { (p : T → Bool) → ReturnsOnItem F.Fn p asks → result ≡ list_any p items.now }
+// Returns `true` if one of the items from `from` on matches `query`. No item before `from` matches, and `from` items
+// were compared.
+fn is_any_from<T, Q, C: Compare<Q, T>>(items: &[T], from: usize, query: &Q, compare: &mut C) -> bool
+    requires within { from ≤ length items.now }
+    requires none_before { list_any (C.equal query.now) (take from items.now) ≡ false }
+    ensures found { result ≡ list_any (C.equal query.now) items.now }
+    ensures counted { C.made compare.new + from
+        ≡ C.made compare.old + search_cost_by (C.equal query.now) items.now }
 {
     for index in from..items.len() {
-        if asks(&items[index]) {
+        if compare.same(query, &items[index]) {
             return true;
         }
     }

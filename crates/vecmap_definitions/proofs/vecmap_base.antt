@@ -11,7 +11,7 @@ use Rattle.vecmap_base.specs.Iterators.{HintsExactly, IsHintFor}
 use Rattle.vecmap_base.specs.Orders.{side}
 use Rattle.vecmap_base.specs.Pairs.{HasDistinctKeys, index_by, index_of, index_or_length, lookup, lookup_by, lookup_indexed, lookup_pair, lookup_pair_by, map_values, put, put_at, put_key, puts, swap_without_by, swap_without_key, value_at, with_pair, with_value, without_by, without_key}
 use Rattle.vecmap_base.specs.Ranges.{AreEndsWithin, IsRangeWithin, items_between, without_between}
-use Rattle.vecmap_base.specs.Repeats.{adds_cost, comparisons, cost, search_cost}
+use Rattle.vecmap_base.specs.Repeats.{adds_cost, comparisons, cost, search_cost, search_cost_by}
 use Rattle.vecmap_definitions.proofs.Notation.{MapRef, copy, eq}
 
 module _ {A K T : Type 0} (x y : T) (j k : K) (a b c d : A) (r : MapRef T A) where
@@ -214,6 +214,12 @@ module _ {A K T : Type 0} (x y : T) (j k : K) (a b c d : A) (r : MapRef T A) whe
 
   cost-1 : cost 5 ≡ 10
   cost-1 = refl
+
+  search_cost_by-1 : search_cost_by (nat_eq 2) (1 ∷ 2 ∷ 3 ∷ []) ≡ 2
+  search_cost_by-1 = refl
+
+  search_cost_by-2 : search_cost_by (nat_eq 4) (1 ∷ 2 ∷ 3 ∷ []) ≡ 3
+  search_cost_by-2 = refl
 
   search_cost-1 : search_cost nat_eq (1 ∷ 2 ∷ 3 ∷ []) 2 ≡ 2
   search_cost-1 = refl

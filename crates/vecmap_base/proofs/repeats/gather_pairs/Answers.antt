@@ -36,7 +36,7 @@ loop-i-preserved g c =
       | in-Some w ↦
           rw (w.pairs-is, w.kept-is) (
           let zs = w.swap_values.new.pairs in
-          let j = w.in-Some.place in
+          let j = w.in-Some.index in
           let long : length zs ≡ length ys = w.swap_values.auto.pairs in
           let before : j < n = omega (arith, length-take n ys, w.in-Some.ensures.within) in
           let moved = front_put eq ys zs n j i (get_or ys i p).0 p before was.bound m w.swap_values.ensures.keys w.swap_values.ensures.values (sym w.in-Some.ensures.index) in

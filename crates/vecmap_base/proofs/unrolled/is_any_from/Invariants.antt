@@ -1,7 +1,6 @@
-use Rattle.std.proofs.Common.{◌≡◌, Bool, false, take}
+use Rattle.std.proofs.Common.{◌≡◌, ◌+◌, false, take}
 use Rattle.std.specs.List.{list_any}
-use Rattle.vecmap_base.specs.Orders.{ReturnsOnItem}
 use Rattle.vecmap_base.proofs.unrolled.is_any_from.Given as goal
 
 abbrev pub invariant-loop-index : goal.invariant-loop-index
-invariant-loop-index g l = (p : g.row.T.Denot → Bool) → ReturnsOnItem g.F.Fn p l.asks → list_any p (take l.index l.items) ≡ false
+invariant-loop-index g l = (g.C.Compare.made l.compare + l.fn.from ≡ g.C.Compare.made l.initial.compare + l.index) × (list_any (g.C.Compare.equal l.query) (take (l.index) l.items) ≡ false)

@@ -1,15 +1,20 @@
-use Rattle.std.proofs.Common.{◌≡◌, ◌*◌, ◌/◌, ◌||◌, Bool, ap, arith, false, length, sym, take, ◌∙◌}
-use Rattle.std.specs.List.{list_any}
+use Rattle.std.proofs.Common.{arith, ◌+◌, ◌*◌, ◌/◌, length}
+use Rattle.std.proofs.lemmas.Grind.{common_steps}
 use Rattle.vecmap_base.proofs.IndexLemmas.{list_any_front}
+use Rattle.vecmap_base.proofs.RepeatsLemmas.SearchCost.{search_cost_none, search_cost_past}
 use Rattle.vecmap_base.proofs.unrolled.is_any_in_blocks.Goals as goal
 
-pub returns-then-is_any_of_eight : goal.returns-then-is_any_of_eight
-returns-then-is_any_of_eight g c = λ p by.
-    sym (list_any_front p c.args.items.now _ (c.is_any_of_eight.ensures p by ∙ ap (λ (front : Bool). front || c.is_any_of_eight.result) (c.loop-eight.invariant p by) ∙ c.if-is_any_of_eight.true))
+pub returns-then-is_any_of_eight-clause-found : goal.returns-then-is_any_of_eight-clause-found
+returns-then-is_any_of_eight-clause-found g c = grind (arith, common_steps, list_any_front (g.C.Compare.equal c.args.query.now) c.args.items.now (8 * c.loop-eight.eight + 8))
 
-pub returns-then-is_any_of_four : goal.returns-then-is_any_of_four
-returns-then-is_any_of_four g c = λ p by.
-    let xs = c.args.items.now in
-    let end : 8 * (length xs / 8) ≡ 8 * c.loop-eight.eight = omega (arith, c.loop-eight-test.false, c.loop-eight.auto.eight-end) in
-    let before : list_any p (take (8 * (length xs / 8)) xs) ≡ false = ap (λ n. list_any p (take n xs)) end ∙ c.loop-eight.invariant p by in
-    sym (list_any_front p xs _ (c.is_any_of_four.ensures p by ∙ ap (λ (front : Bool). front || c.is_any_of_four.result) before ∙ c.if-is_any_of_four.true))
+pub returns-then-is_any_of_eight-clause-near : goal.returns-then-is_any_of_eight-clause-near
+returns-then-is_any_of_eight-clause-near g c = grind (arith, common_steps, list_any_front (g.C.Compare.equal c.args.query.now) c.args.items.now (8 * c.loop-eight.eight + 8), search_cost_past (g.C.Compare.equal c.args.query.now) c.args.items.now (8 * c.loop-eight.eight))
+
+pub returns-then-is_any_of_four-clause-found : goal.returns-then-is_any_of_four-clause-found
+returns-then-is_any_of_four-clause-found g c = grind (arith, common_steps, list_any_front (g.C.Compare.equal c.args.query.now) c.args.items.now (8 * (length c.args.items.now / 8) + 4))
+
+pub returns-then-is_any_of_four-clause-near : goal.returns-then-is_any_of_four-clause-near
+returns-then-is_any_of_four-clause-near g c = grind (arith, common_steps, list_any_front (g.C.Compare.equal c.args.query.now) c.args.items.now (8 * (length c.args.items.now / 8) + 4), search_cost_past (g.C.Compare.equal c.args.query.now) c.args.items.now (8 * (length c.args.items.now / 8)))
+
+pub returns-clause-miss : goal.returns-clause-miss
+returns-clause-miss g c = grind (arith, common_steps, search_cost_none (g.C.Compare.equal c.args.query.now) c.args.items.now)
