@@ -3,6 +3,7 @@ pub mod SetRun
 pub use Rattle.vecmap_base.specs.Asked
 pub use Rattle.vecmap_base.specs.Bulk
 pub use Rattle.vecmap_base.specs.Clones
+pub use Rattle.vecmap_base.specs.Comparisons
 pub use Rattle.vecmap_base.specs.Drain as Drains
 pub use Rattle.vecmap_base.specs.Equality
 pub use Rattle.vecmap_base.specs.Indices
@@ -13,7 +14,6 @@ pub use Rattle.vecmap_base.specs.Lookups
 pub use Rattle.vecmap_base.specs.Orders
 pub use Rattle.vecmap_base.specs.Pairs
 pub use Rattle.vecmap_base.specs.Ranges
-pub use Rattle.vecmap_base.specs.Repeats
 pub use Rattle.vecmap_base.specs.Updated
 pub use Rattle.vecmap_map.specs.Contents
 pub use Rattle.vecmap_map.specs.Drain

@@ -5,7 +5,7 @@ use Rattle.std.proofs.Common.{ap, append_assoc, arith, get_or, set, subst, sym, 
 use Rattle.std.proofs.lemmas.List.{append-nil, drop-set-lt, drop_all, drop_more, get_or-set_same, length-set, take-append-drop, take-set-le, take_more, take_more_set}
 use Rattle.vecmap_base.specs.Asked.{CallableOnEach, SomeCall}
 use Rattle.vecmap_base.specs.Kept.{Kept, KeptSoFar, WritesItems}
-use Rattle.vecmap_base.proofs.RepeatsLemmas.Gather.{front_swapped, rest_more}
+use Rattle.vecmap_base.proofs.DuplicatesLemmas.Gather.{front_swapped, rest_more}
 
 module _ {X : Type 0} where
   -- A write at `i`, behind the front of `k` items, changes neither the front nor the rest after `i`.

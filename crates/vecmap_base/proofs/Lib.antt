@@ -2,6 +2,7 @@ pub mod CloneLemmas
 pub mod DistinctLemmas
 pub mod DrainLemmas
 pub mod DrainRuns
+pub mod DuplicatesLemmas
 pub mod EqualityLemmas
 pub mod ItemsLemmas
 pub mod KeptLemmas
@@ -10,7 +11,6 @@ pub mod MatchingLemmas
 pub mod MoveLemmas
 pub mod PairsLemmas
 pub mod IndexLemmas
-pub mod RepeatsLemmas
 pub mod SearchLemmas
 pub mod UpdatedLemmas
 mod UpdatedSteps

@@ -1,6 +1,7 @@
 pub mod Asked
 pub mod Bulk
 pub mod Clones
+pub mod Comparisons
 pub mod Drain
 pub mod Equality
 pub mod Indices
@@ -11,5 +12,4 @@ pub mod Lookups
 pub mod Orders
 pub mod Pairs
 pub mod Ranges
-pub mod Repeats
 pub mod Updated

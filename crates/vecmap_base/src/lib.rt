@@ -7,6 +7,7 @@
 mod compare;
 mod distinct;
 mod drain;
+mod duplicates;
 mod equality;
 mod equivalent;
 mod iter;
@@ -16,7 +17,6 @@ mod moving;
 pub mod projection;
 mod refused;
 mod relations;
-mod repeats;
 mod retain;
 mod search;
 mod steps;
@@ -27,6 +27,7 @@ mod update;
 pub use compare::{Compare, Counter};
 pub use distinct::{items_distinct, keys_distinct};
 pub use drain::{move_range_last, reverse_from};
+pub use duplicates::{dedup_keep_first, dedup_keep_last_value, gather_items, gather_pairs};
 pub use equality::pairs_equal;
 pub use equivalent::Equivalent;
 pub use iter::{
@@ -41,7 +42,6 @@ pub use lookup::{
 pub use moving::{insert_reserved, move_to, remove_item, replace_and_move};
 pub use refused::Refused;
 pub use relations::{are_disjoint, is_subset_of};
-pub use repeats::{dedup_keep_first, dedup_keep_last_value, gather_items, gather_pairs};
 pub use retain::{retain_items, retain_pairs, retain_pairs_mut};
 pub use search::{partition_point, search_by_index};
 pub use steps::Steps;

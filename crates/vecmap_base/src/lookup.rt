@@ -17,7 +17,7 @@ ghost use Rattle.std.specs.Option.{option_map_or};
 ghost use Rattle.std.specs.Set.{is_member};
 ghost use Rattle.vecmap_base.specs.Items.{item_index};
 ghost use Rattle.vecmap_base.specs.Pairs.{has_text, index_by, index_of};
-ghost use Rattle.vecmap_base.specs.Repeats.{search_cost_by};
+ghost use Rattle.vecmap_base.specs.Comparisons.{search_cost_by};
 
 use crate::compare::{Compare, Counter};
 use crate::equivalent::Equivalent;
@@ -243,7 +243,7 @@ fn find_equivalent_with<L: Ledger, K: Eq, V, Q: Equivalent<K>>(
 /// // Now the counter is 2.
 /// ```
 #[inline]
-#[tactic(auto, using(crate::proofs::PairsLemmas::ByIndex::index_by_is, crate::proofs::RepeatsLemmas::SearchCost::key_search_cost))]
+#[tactic(auto, using(crate::proofs::PairsLemmas::ByIndex::index_by_is, crate::proofs::DuplicatesLemmas::SearchCost::key_search_cost))]
 pub fn find_equivalent_counted<K: Eq, V, Q: Equivalent<K>, L: Ledger>(
     pairs: &[(K, V)],
     query: Q,
@@ -448,7 +448,7 @@ fn contains_equivalent_with<L: Ledger, T: Eq, Q: Equivalent<T>>(
 /// // Now the counter is 2.
 /// ```
 #[inline]
-#[tactic(auto, using(crate::proofs::RepeatsLemmas::SearchCost::search_cost_none))]
+#[tactic(auto, using(crate::proofs::DuplicatesLemmas::SearchCost::search_cost_none))]
 pub fn contains_equivalent_counted<T: Eq, Q: Equivalent<T>, L: Ledger>(
     items: &[T],
     query: Q,

@@ -9,7 +9,7 @@
 ghost use Rattle.std.specs.Prelude.{◌≡◌, ◌+◌, ◌<◌, ◌≤◌, ◌||◌, IfSome, None, Some, false, length, position, take};
 ghost use Rattle.std.specs.List.{list_any};
 ghost use Rattle.std.specs.Option.{option_map_or};
-ghost use Rattle.vecmap_base.specs.Repeats.{search_cost_by};
+ghost use Rattle.vecmap_base.specs.Comparisons.{search_cost_by};
 
 use crate::compare::Compare;
 use std::mem::{ManuallyDrop, align_of_val, size_of_val};

@@ -4,6 +4,7 @@
 
 pub mod bulk;
 pub mod by_value;
+pub mod costs;
 pub mod documents;
 pub mod entry;
 pub mod equivalent;

@@ -5,13 +5,13 @@ use Rattle.std.specs.Prelude.{None, Some, [], false, nat_eq, nat_lt, refl, suc, 
 use Rattle.std.specs.declared.cmp.Ordering.TheVariants.{Less}
 use Rattle.std.specs.declared.ops.Bound.TheVariants.{Excluded, Included}
 use Rattle.vecmap_base.specs.Clones.{AreClones, ArePairClones, IsCloneOf, IsPairClone}
+use Rattle.vecmap_base.specs.Comparisons.{adds_cost, comparisons, cost, search_cost, search_cost_by}
 use Rattle.vecmap_base.specs.Equality.{FirstDiffer, count, counts_agree, free, has_same_counts, has_same_items, is_within, same_pair}
 use Rattle.vecmap_base.specs.Items.{add, adds, both, item_index, moved, only, put_item, stored_first, stored_item, swap_without, swap_without_first, swap_without_item, without_first, without_item}
 use Rattle.vecmap_base.specs.Iterators.{HintsExactly, IsHintFor}
 use Rattle.vecmap_base.specs.Orders.{side}
 use Rattle.vecmap_base.specs.Pairs.{HasDistinctKeys, index_by, index_of, index_or_length, lookup, lookup_by, lookup_indexed, lookup_pair, lookup_pair_by, map_values, put, put_at, put_key, puts, swap_without_by, swap_without_key, value_at, with_pair, with_value, without_by, without_key}
 use Rattle.vecmap_base.specs.Ranges.{AreEndsWithin, IsRangeWithin, items_between, without_between}
-use Rattle.vecmap_base.specs.Repeats.{adds_cost, comparisons, cost, search_cost, search_cost_by}
 use Rattle.vecmap_definitions.proofs.Notation.{MapRef, copy, eq}
 
 module _ {A K T : Type 0} (x y : T) (j k : K) (a b c d : A) (r : MapRef T A) where
@@ -35,6 +35,27 @@ module _ {A K T : Type 0} (x y : T) (j k : K) (a b c d : A) (r : MapRef T A) whe
 
   IsCloneOf-2 : ¬ (IsCloneOf copy (Some a) None)
   IsCloneOf-2 = search rules
+
+  cost-1 : cost 5 ≡ 10
+  cost-1 = refl
+
+  search_cost_by-1 : search_cost_by (nat_eq 2) (1 ∷ 2 ∷ 3 ∷ []) ≡ 2
+  search_cost_by-1 = refl
+
+  search_cost_by-2 : search_cost_by (nat_eq 4) (1 ∷ 2 ∷ 3 ∷ []) ≡ 3
+  search_cost_by-2 = refl
+
+  search_cost-1 : search_cost nat_eq (1 ∷ 2 ∷ 3 ∷ []) 2 ≡ 2
+  search_cost-1 = refl
+
+  search_cost-2 : search_cost nat_eq (1 ∷ 2 ∷ 3 ∷ []) 4 ≡ 3
+  search_cost-2 = refl
+
+  adds_cost-1 : adds_cost nat_eq (1 ∷ []) (2 ∷ 1 ∷ []) ≡ 2
+  adds_cost-1 = refl
+
+  comparisons-1 : comparisons nat_eq (1 ∷ 2 ∷ 1 ∷ []) ≡ 2
+  comparisons-1 = refl
 
   same_pair-1 : same_pair eq nat_eq ((1, x), 5) ((1, y), 5) ≡ true
   same_pair-1 = refl
@@ -211,24 +232,3 @@ module _ {A K T : Type 0} (x y : T) (j k : K) (a b c d : A) (r : MapRef T A) whe
 
   without_between-1 : without_between (a ∷ b ∷ c ∷ d ∷ []) (Included 1) (Excluded 3) ≡ (a ∷ d ∷ [])
   without_between-1 = refl
-
-  cost-1 : cost 5 ≡ 10
-  cost-1 = refl
-
-  search_cost_by-1 : search_cost_by (nat_eq 2) (1 ∷ 2 ∷ 3 ∷ []) ≡ 2
-  search_cost_by-1 = refl
-
-  search_cost_by-2 : search_cost_by (nat_eq 4) (1 ∷ 2 ∷ 3 ∷ []) ≡ 3
-  search_cost_by-2 = refl
-
-  search_cost-1 : search_cost nat_eq (1 ∷ 2 ∷ 3 ∷ []) 2 ≡ 2
-  search_cost-1 = refl
-
-  search_cost-2 : search_cost nat_eq (1 ∷ 2 ∷ 3 ∷ []) 4 ≡ 3
-  search_cost-2 = refl
-
-  adds_cost-1 : adds_cost nat_eq (1 ∷ []) (2 ∷ 1 ∷ []) ≡ 2
-  adds_cost-1 = refl
-
-  comparisons-1 : comparisons nat_eq (1 ∷ 2 ∷ 1 ∷ []) ≡ 2
-  comparisons-1 = refl

@@ -5,13 +5,13 @@ ghost use Rattle.std.specs.Prelude.{◌≡◌, ◌≤◌, ℕ, List, String, byt
 ghost use Rattle.std.specs.List.{IsDistinct};
 ghost use Rattle.std.specs.Map.{IsKeyTest, keys_of};
 ghost use Rattle.vecmap_base.specs.Pairs.{HasDistinctKeys, has_text};
-ghost use Rattle.vecmap_base.specs.Repeats.{comparisons, cost};
+ghost use Rattle.vecmap_base.specs.Comparisons.{comparisons, cost};
 ghost use Rattle.std.specs.declared.alloc.Global.{Global};
 
 /// Bounds the number of comparisons that a removal of duplicates makes.
 ///
 /// It is at most one comparison for each two elements, and exactly as many if all elements are distinct.
-#[tactic(auto, using(vecmap_base::proofs::RepeatsLemmas::Comparisons::comparisons_at_most, crate::proofs::ComparisonLemmas::comparisons_distinct))]
+#[tactic(auto, using(vecmap_base::proofs::DuplicatesLemmas::Comparisons::comparisons_at_most, crate::proofs::ComparisonLemmas::comparisons_distinct))]
 pub fn comparisons_are_bounded<T: Eq>()
     ensures at_most { (xs : List T) → comparisons T.eq xs ≤ cost (length xs) }
     ensures exact_if_distinct { (xs : List T) → IsDistinct T.eq xs
@@ -19,7 +19,7 @@ pub fn comparisons_are_bounded<T: Eq>()
 {}
 
 /// Like [`comparisons_are_bounded`], for pairs, whose keys are compared.
-#[tactic(auto, using(vecmap_base::proofs::RepeatsLemmas::Comparisons::key_comparisons_at_most, crate::proofs::ComparisonLemmas::key_comparisons_distinct))]
+#[tactic(auto, using(vecmap_base::proofs::DuplicatesLemmas::Comparisons::key_comparisons_at_most, crate::proofs::ComparisonLemmas::key_comparisons_distinct))]
 pub fn key_comparisons_are_bounded<K: Eq, V>()
     ensures at_most { (l : List (K × V)) → comparisons K.eq (keys_of l) ≤ cost (length l) }
     ensures exact_if_distinct { (l : List (K × V)) → HasDistinctKeys K.eq l

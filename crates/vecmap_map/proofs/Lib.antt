@@ -1,4 +1,5 @@
 pub mod EntryLemmas
 mod LentLemmas
 pub mod ContentsLemmas
+mod CountingLemmas
 pub mod MadeLemmas

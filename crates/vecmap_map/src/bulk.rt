@@ -363,7 +363,7 @@ impl<K: Eq + Drop, V: Drop> FromIterator<(K, V)> for VecMap<K, V> {
 
 // Returns for how many new keys to reserve capacity if `hint` pairs are to come. A map that is not empty may have some
 // of the keys.
-fn capacity_to_reserve(is_empty: bool, hint: usize) -> usize
+pub(crate) fn capacity_to_reserve(is_empty: bool, hint: usize) -> usize
     ensures amount { result ≡ (if is_empty then hint else (hint + 1) / 2) }
     ensures at_most { result ≤ hint }
 {

@@ -3,7 +3,7 @@ ghost use Rattle.std.specs.Prelude.{◌≡◌, ◌<◌, ◌≤◌, IfOk, [], len
 ghost use Rattle.std.specs.Map.{keys_of};
 ghost use Rattle.vecmap_base.specs.Clones.{ArePairClones};
 ghost use Rattle.vecmap_base.specs.Pairs.{HasDistinctKeys, lookup, puts};
-ghost use Rattle.vecmap_base.specs.Repeats.{comparisons};
+ghost use Rattle.vecmap_base.specs.Comparisons.{comparisons};
 
 use crate::VecMap;
 use std::alloc::{AllocError, Global};

@@ -2,7 +2,7 @@
 //!
 //! An entry holds the map, the key that was passed to `entry`, and the index of that key. A clause `writes_back` says
 //! what the map is once the returned reference has ended.
-ghost use Rattle.std.specs.Prelude.{◌≡◌, ◌⊎◌, Err, IfErr, IfOk, None, Ok, OnErr, Some, unwrap_or};
+ghost use Rattle.std.specs.Prelude.{◌≡◌, ◌<◌, ◌⊎◌, Err, IfErr, IfOk, IfSome, None, Ok, OnErr, Some, length, unwrap_or};
 ghost use Rattle.std.specs.Borrow.{Bor, MutBor, sem};
 ghost use Rattle.std.specs.Fn.{FnOnceReturnsAt};
 ghost use Rattle.std.specs.Map.Calls.{ModifiesValue};
@@ -410,7 +410,20 @@ impl<'a, K, V> Entry<'a, K, V> {
         ensures key { entry_key result ≡ key }
         ensures index { entry_index_of result ≡ index_of K.eq map.old.entries key }
     {
-        match map.get_index_of(&key) {
+        let found = map.get_index_of(&key);
+        Entry::at(map, key, found)
+    }
+
+    // Creates the entry of `key`, which is at the index `found`, if at any.
+    #[inline]
+    pub(crate) fn at(map: &'a mut VecMap<K, V>, key: K, found: Option<usize>) -> Entry<'a, K, V>
+        requires within { IfSome found (λ i. i < length map.old.entries) }
+        ensures same_map { (entry_ref result).ghost_name ≡ map.entry.ghost_name }
+        ensures unchanged { entry_map result ≡ map.old }
+        ensures key { entry_key result ≡ key }
+        ensures index { entry_index_of result ≡ found }
+    {
+        match found {
             Some(index) => Entry::Occupied(OccupiedEntry { map, key, index }),
             None => Entry::Vacant(VacantEntry { map, key }),
         }

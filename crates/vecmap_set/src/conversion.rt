@@ -4,7 +4,7 @@ ghost use Rattle.std.specs.List.{IsDistinct};
 ghost use Rattle.std.specs.Set.{is_member};
 ghost use Rattle.vecmap_base.specs.Clones.{AreClones};
 ghost use Rattle.vecmap_base.specs.Items.{adds};
-ghost use Rattle.vecmap_base.specs.Repeats.{comparisons};
+ghost use Rattle.vecmap_base.specs.Comparisons.{comparisons};
 
 use crate::VecSet;
 use std::alloc::{AllocError, Global};

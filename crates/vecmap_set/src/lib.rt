@@ -4,6 +4,7 @@
 mod bulk;
 mod cloning;
 mod conversion;
+mod counting;
 mod drain;
 mod equality;
 mod extending;

@@ -11,6 +11,8 @@ pub mod conditions;
 #[cfg(test)]
 mod counted;
 #[cfg(test)]
+mod counting;
+#[cfg(test)]
 mod equality;
 #[cfg(test)]
 mod equivalent;

@@ -1,9 +1,13 @@
 //! Calls whose allocations fail. `.ci/refuse` lets the first allocation of each test fail, then the second, and so on,
 //! as long as a test prints `refused`.
+ghost use Rattle.std.specs.Prelude.{◌≡◌};
+
 use std::alloc::{AllocError, Global};
+use std::marker::Brand;
 use std::process::Abort;
+use std::sync::ledger::{Blank, Ledger};
 use std::test::Fail;
-use vecmap::VecMap;
+use vecmap::{Counter, VecMap};
 use vecmap_trees::Json;
 
 /// Runs what prints a text. It prints `expected`, or, if an allocation fails, `left` or nothing. Then it is run again.
@@ -89,4 +93,33 @@ fn a_refused_entry_returns_the_key_and_not_its_clone(rt: HostRuntime) -> Result<
     let expected = "7 70 {CloneCounted(1): 10, CloneCounted(8): 70}";
     let left = "refused (CloneCounted(7), 70) {CloneCounted(1): 10}";
     assert_printed(&rt, print_inserted, expected, left)
+}
+
+/// Prints what a counted insertion of a new key into a full map returns, and the map.
+fn print_insertion<L: Ledger>(alloc: Global, blank: Blank) -> Result<String, AllocError>
+    requires same_name { blank.name ≡ L.name }
+    requires same_parts { blank.parts ≡ L.parts }
+    requires one_part { blank.parts ≡ 1 }
+{
+    let mut counter: Counter<L> = Counter::open(blank);
+    let mut map = VecMap::with_capacity(alloc, 1)?;
+    map.insert('a', 1)?;
+    match map.insert_counted('b', 2, &mut counter) {
+        Ok(old) => format!(in alloc; "{old:?} {map:?}"),
+        Err(refused) => {
+            let given = refused.given;
+            format!(in alloc; "refused {given:?} {map:?}")
+        }
+    }
+}
+
+fn print_counted_insertion(alloc: Global) -> Result<String, AllocError> {
+    print_insertion::<Brand>(alloc, Blank::new(1))
+}
+
+#[test]
+fn a_refused_counted_insertion_leaves_the_map(rt: HostRuntime) -> Result<(), Fail> {
+    let expected = "None {'a': 1, 'b': 2}";
+    let left = "refused ('b', 2) {'a': 1}";
+    assert_printed(&rt, print_counted_insertion, expected, left)
 }

@@ -1,4 +1,5 @@
 //! The examples of `crates/vecmap/PROVING.md`. Their contracts say what they do.
+pub mod bound;
 pub mod collecting;
 pub mod fill;
 pub mod filter;

@@ -3,8 +3,8 @@ ghost use Rattle.std.specs.List.Sorted.{IsBinarySearchResult, IsSearchInRange, I
 ghost use Rattle.std.specs.Prelude.{◌≡◌, ◌<◌, ◌≤◌, ℕ, Err, List, None, Ok, Result, Some, insert, is_ok, is_some, length};
 ghost use Rattle.vecmap_base.specs.Pairs.{HasDistinctKeys, index_of, put_at};
 
-/// If no keys repeat, a binary search that succeeds returns the index of the key. If the keys ascend, one that fails
-/// says that the key is absent, so a search succeeds exactly if the key has an index.
+/// If all keys are distinct, a binary search that succeeds returns the index of the key. If the keys ascend, one that
+/// fails says that the key is absent, so a search succeeds exactly if the key has an index.
 pub fn binary_searches_find_indices<K: Ord, V>()
     ensures ok { (l : List (K × V)) → HasDistinctKeys K.eq l → (k : K) (i : ℕ) → i < length l
         → IsBinarySearchResult (λ p. K.cmp p.0 k) l (Ok i) → index_of K.eq l k ≡ Some i }

@@ -1,6 +1,6 @@
 use Rattle.std.proofs.Common.{arith}
 use Rattle.std.proofs.lemmas.Grind.{common_steps}
-use Rattle.vecmap_base.proofs.RepeatsLemmas.SearchCost.{search_cost_first, search_cost_none}
+use Rattle.vecmap_base.proofs.DuplicatesLemmas.SearchCost.{search_cost_first, search_cost_none}
 use Rattle.vecmap_base.proofs.unrolled.is_any_from.Goals as goal
 
 pub returns-then-same-clause-counted : goal.returns-then-same-clause-counted

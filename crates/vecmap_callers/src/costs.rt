@@ -1,0 +1,58 @@
+//! Callers that bound how many comparisons they make. The counter takes no bytes: it is for their contracts alone.
+ghost use Rattle.std.specs.Prelude.{◌≡◌, ◌+◌, ◌*◌, ◌≤◌, [], IfOk, OnOk, is_some, length, nat_eq, take};
+ghost use Rattle.std.specs.List.{count_by};
+ghost use Rattle.std.specs.Map.{keys_of};
+ghost use Rattle.vecmap.specs.Pairs.{index_of, puts};
+ghost use Rattle.vecmap.specs.Comparisons.{comparisons, cost};
+
+use std::alloc::{AllocError, Global};
+use std::sync::ledger::Ledger;
+use vecmap::{Counter, VecMap};
+
+/// Returns how many of the keys the map has. For n keys and m pairs it makes at most n m comparisons.
+pub fn count_present<L: Ledger>(
+    map: &VecMap<u32, u32>,
+    keys: &[u32],
+    counter: &mut Counter<L>,
+) -> usize
+    ensures count { result ≡ count_by (λ key. is_some (index_of nat_eq map.now.entries key))
+        keys.now }
+    ensures at_most { counter.new ≤ counter.old + length keys.now * length map.now.entries }
+{
+    let mut found = 0;
+    for key in keys {
+        if map.contains_key_counted(key, counter) {
+            found += 1;
+        }
+    }
+    found
+}
+
+/// Creates a map of n pairs, by one insertion for each. It makes at most n(n-1)/2 comparisons.
+pub fn filled<L: Ledger>(
+    alloc: Global,
+    pairs: &[(u32, u32)],
+    counter: &mut Counter<L>,
+) -> Result<VecMap<u32, u32>, AllocError>
+    ensures entries { IfOk result (λ map. map.entries ≡ puts nat_eq [] pairs.now) }
+    ensures counted { OnOk result (counter.new
+        ≡ counter.old + comparisons nat_eq (keys_of pairs.now)) }
+    ensures at_most { OnOk result (counter.new ≤ counter.old + cost (length pairs.now)) }
+{
+    let mut map = VecMap::new(alloc);
+    for pair in pairs {
+        map.insert_counted(pair.0, pair.1, counter)?;
+    }
+    Ok(map)
+}
+
+/// Creates a map of n pairs, by one call. It makes at most n(n-1)/2 comparisons, also if memory runs out.
+pub fn collected<L: Ledger>(
+    alloc: Global,
+    pairs: Vec<(u32, u32)>,
+    counter: &mut Counter<L>,
+) -> Result<VecMap<u32, u32>, AllocError>
+    ensures at_most { counter.new ≤ counter.old + cost (length pairs.items) }
+{
+    VecMap::from_iter_counted(alloc, pairs, counter)
+}
