@@ -9,7 +9,7 @@ use Rattle.std.specs.List.Sorted.{IsPartitionPoint, IsSortedBy, IsSortedByKey, I
 use Rattle.std.specs.Ordering.{is_gt, is_lt}
 use Rattle.std.specs.declared.cmp.Ordering.{Ordering}
 use Rattle.std.specs.declared.cmp.Ordering.TheVariants.{Greater, Less}
-use Rattle.vecmap_base.proofs.ItemsLemmas.Sorted.{less, less_turned}
+use Rattle.vecmap_base.proofs.ItemsLemmas.Sorted.{less, less_is_greater}
 pub use Rattle.vecmap_base.proofs.ItemsLemmas.Sorted.{comparisons_rise, none_at_partition, weak}
 
 module _ {X K : Type 0} (key : X → K) (cmp : K → K → Ordering) (o : IsTotalOrder cmp) where
@@ -29,7 +29,7 @@ module _ {X K : Type 0} (key : X → K) (cmp : K → K → Ordering) (o : IsTota
                   let z : k + 1 ≡ i = omega (arith, l, m) in
                   ap (λ n. less key cmp o (get_or (insert xs i x) n d) (get_or (insert xs i x) k d)) z
                   ∙ (λ t. less key cmp o (get_or-insert_at xs i x d fits t) (get_or-insert_below xs i x d k m fits t))
-                  ∙ less_turned key cmp o x (get_or xs k d)
+                  ∙ less_is_greater key cmp o x (get_or xs k d)
                   ∙ ap is_gt (split.0 k d (omega arith) m)
               | inr f ↦
                   let m : i ≤ k = ltb-false k i f in

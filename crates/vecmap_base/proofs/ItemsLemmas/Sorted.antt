@@ -16,13 +16,13 @@ module _ {X K : Type 0} (key : X → K) (cmp : K → K → Ordering) (o : IsTota
   abbrev pub less : X → X → Bool
   less x y = is_lt (cmp (key x) (key y))
 
-  less_reversed : (r : Ordering) → is_lt (ordering_reverse r) ≡ is_gt r
-  less_reversed Less = refl
-  less_reversed Equal = refl
-  less_reversed Greater = refl
+  lt_reversed : (r : Ordering) → is_lt (ordering_reverse r) ≡ is_gt r
+  lt_reversed Less = refl
+  lt_reversed Equal = refl
+  lt_reversed Greater = refl
 
-  pub is_reversed : (x y : X) → less x y ≡ is_gt (cmp (key y) (key x))
-  is_reversed x y = ap is_lt (o.antisymm (key x) (key y)) ∙ less_reversed (cmp (key y) (key x))
+  pub less_is_greater : (x y : X) → less x y ≡ is_gt (cmp (key y) (key x))
+  less_is_greater x y = ap is_lt (o.antisymm (key x) (key y)) ∙ lt_reversed (cmp (key y) (key x))
 
   one_way : (r : Ordering) → is_lt r ≡ true → is_gt r ≡ false
   one_way Less e = refl
@@ -31,8 +31,8 @@ module _ {X K : Type 0} (key : X → K) (cmp : K → K → Ordering) (o : IsTota
 
   pub weak : IsStrictWeakOrder less
   weak = record {
-    one_way = λ x y e. is_reversed y x ∙ one_way (cmp (key x) (key y)) e;
-    chain = λ x y z e f. is_reversed x z ∙ upto o (key z) (key y) (key x) (sym (is_reversed y z) ∙ f) (sym (is_reversed x y) ∙ e);
+    one_way = λ x y e. less_is_greater y x ∙ one_way (cmp (key x) (key y)) e;
+    chain = λ x y z e f. less_is_greater x z ∙ upto o (key z) (key y) (key x) (sym (less_is_greater y z) ∙ f) (sym (less_is_greater x y) ∙ e);
   }
 
   -- How an item compares with `k` rises with the items.

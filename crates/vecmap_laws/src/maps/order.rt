@@ -69,7 +69,7 @@ pub fn reverse<K: Eq, V>()
 {}
 
 /// What is found after two pairs have exchanged their indices, by `swap_indices`, if all keys are distinct.
-#[tactic(auto, using(crate::proofs::Finds::lookup_swap, crate::proofs::QueriesAfter::lookup_by_swapped, crate::proofs::Finds::distinct_swap))]
+#[tactic(auto, using(crate::proofs::Finds::lookup_swap, crate::proofs::QueriesAfter::lookup_by_swapped, crate::proofs::Finds::distinct_keys_swap))]
 pub fn swap<K: Eq, V>()
     ensures lookup { (l : List (K × V)) (i j : ℕ) (q : K) → i < length l → j < length l
         → HasDistinctKeys K.eq l → lookup K.eq (swap l i j) q ≡ lookup K.eq l q }
